@@ -1,7 +1,6 @@
-# Builds the proved program, tests it, counts its instructions, and puts it, its manual page and its completion for shells under
-# PREFIX, by the name NAME.
-# Also builds the library for C, puts it and its header there, and packs it into a wheel for Python. STRIP=1 leaves the names
-# of functions out of what is installed, and STATIC=1 installs the program that holds its C library.
+# Builds the proved program and the library for C, tests them, counts their instructions, installs them under PREFIX, the program by
+# the name NAME, and makes packages of them. STRIP=1 leaves the names of functions out of what is installed, and STATIC=1 installs
+# the program that holds its C library.
 VERSION := $(shell cat VERSION)
 PREFIX = /usr/local
 BINDIR = $(PREFIX)/bin
@@ -13,7 +12,7 @@ ZSHDIR = $(PREFIX)/share/zsh/site-functions
 STRIP =
 STATIC =
 
-# The machine that is built for, and the processors of its kind. The first is each of them: x86-64, or generic for aarch64.
+# The machine that is built for, and its processors: here all of its kind.
 TARGET = x86_64-unknown-linux-gnu
 ifeq ($(TARGET),x86_64-unknown-linux-gnu)
 CPU = x86-64
@@ -59,7 +58,7 @@ HWCAPS_FOLDER = $(LIBRARIES)/glibc-hwcaps/$(HWCAPS)
 KIT_C = $(shell dirname "$$(rt doc)")/c
 GLUE = $(if $(CROSS),$(wildcard ports/*.c),$(KIT_C)/libos_c.a $(KIT_C)/liblibc_c.a)
 
-# Something if a file is missing or a source is newer. Proofs are no sources: another proof makes no other code.
+# Not empty if a file is missing or a source is newer. Proofs are no sources: another proof makes no other code.
 SOURCES = crates.txt $(wildcard crates/*/src crates/*/specs) $(if $(CROSS),ports)
 is_old = $(shell test -e '$(1)' && find $(SOURCES) \( -type d -o -name '*.rt' -o -name '*.antt' -o -name '*.c' -o -name '*.txt' \) \
     -newer '$(1)' | head -n 1 || echo missing)
@@ -96,15 +95,15 @@ static: all
 check:
 	@tests/all
 
-# All tests, without the gate's proofs of tests and without wrong bodies.
+# The tests of the gate; tries no wrong bodies, and proves only what the tests are built of.
 test:
 	@tests/all --test
 
-# Each wrong body by itself.
+# Each wrong body by itself, those of must-fail/ too.
 check-each:
 	@tests/wrong_bodies --each
 
-# The page calls the program by its name in its head and its examples; the lines of faults begin with qrencode under each name.
+# The manual page has NAME in its head and its examples; the lines of faults begin with qrencode under each name.
 install: $(if $(STATIC),static,all)
 	install -D -m 755 $(PROGRAM)$(if $(STATIC),-static) "$(BINARY)"
 	$(if $(STRIP),$(OBJCOPY) --strip-all "$(BINARY)")
@@ -120,7 +119,7 @@ install: $(if $(STATIC),static,all)
 uninstall:
 	rm -f "$(BINARY)" "$(MANUAL)" "$(DESTDIR)$(BASHDIR)/$(NAME)" "$(DESTDIR)$(ZSHDIR)/_$(NAME)"
 
-# What runs without the kit, with the commit and the kit that it was made with. The tree has to be that of a commit.
+# What runs without the kit, with the commit and the kit that it is of. The tree has to have no changes since its commit.
 dist:
 	tools/dist "$(DIST)"
 

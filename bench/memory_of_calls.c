@@ -1,7 +1,8 @@
 /* Measures what a call of the library takes of the stack and of the heap, for bench/memory: memory_of_calls CALL NUMBER LEVEL
  *
  * CALL is encode, encode_series, read, mend or draw; standard input is the input, or the modules; NUMBER is a version or a side;
- * for draw LEVEL is the type of drawing. Prints the bytes of stack, the most bytes of the heap at a time, and how often malloc and realloc were called. */
+ * for draw LEVEL is the type of drawing. Prints the bytes of stack, the most bytes of the heap at a time, and the number of
+ * calls of malloc and realloc. */
 #define _GNU_SOURCE
 #include "qrproved.h"
 #include <malloc.h>

@@ -1,12 +1,12 @@
 /* QR Code symbols (ISO/IEC 18004:2015, QR Code Model 2). The library encodes an input as a symbol or as a series of
- * symbols, draws symbols as text or as SVG, and reads symbols. It also mends damaged symbols: it corrects their errors, and
- * measures the damage. The calls are proved to meet their contracts, which are in crates/qrproved. docs/LIBRARY.md says what
- * the contracts mean for a caller. tests/library compares this file with the exports of the library.
+ * symbols, draws symbols as text or as SVG, and reads them. It also mends damaged symbols, and measures the damage. The
+ * calls are proved to meet their contracts, which are in crates/qrproved; docs/LIBRARY.md says what these mean for a caller.
+ * tests/library compares this file with the exports of the library.
  *
- * A module is a byte in a buffer of the caller. The modules are in the buffer row by row, from the top left. The buffer does
- * not contain the quiet zone, which is the four light modules that a drawing needs on each side; qrproved_draw adds a
- * margin of the width that it is passed. After a call the library keeps no state, no file and no lock. A call allocates memory by malloc and realloc,
- * and frees all of this memory before it returns.
+ * A module is a byte in a buffer of the caller, in which the modules are row by row, from the top left. The buffer does not
+ * contain the quiet zone, which is the four light modules that a drawing needs on each side; qrproved_draw adds a margin of
+ * the width that it is passed. After a call the library keeps no state, no file and no lock. A call allocates memory by
+ * malloc and realloc, and frees all of it before it returns.
  *
  * At each call the caller has to meet these conditions:
  * - each pointer points to as many bytes as the length beside it says, or to a struct; a pointer with the length 0 is not
@@ -57,8 +57,8 @@ extern "C" {
 #define QRPROVED_UTF8 2   /* text: a character shows two modules, one above the other; its filled half is light */
 #define QRPROVED_SVG 3    /* a whole SVG document, in which a module is one unit wide */
 
-/* The statuses that calls return; each call below lists the exact causes. On every status but 0 the caller's buffer and
- * struct are unchanged. */
+/* What each call but qrproved_version returns; the exact causes are beside each call. On every status but 0 the caller's
+ * buffer and struct are unchanged. Later versions may add statuses, and do not change the meaning of these. */
 #define QRPROVED_DONE 0     /* the buffer and the struct are written */
 #define QRPROVED_EMPTY 1    /* the input has no byte */
 #define QRPROVED_TOO_LONG 2 /* the input fits no version from the smallest allowed version on */
@@ -150,7 +150,7 @@ QRPROVED_HOLDS(offsetof(struct qrproved_mended, changed_allowed) == 21);
 #undef QRPROVED_HOLDS
 
 /* The caller has to check the result of a call, and may not pass NULL as the pointer to a struct or to a number. Compilers
- * that know these attributes warn about a caller that does so, or that does not check the result. */
+ * that know these attributes warn otherwise. */
 #if defined(__GNUC__)
 #define QRPROVED_CALL(pointer) __attribute__((warn_unused_result, nonnull(pointer)))
 #else
@@ -161,8 +161,8 @@ QRPROVED_HOLDS(offsetof(struct qrproved_mended, changed_allowed) == 21);
  * QRPROVED_VERSION_NUMBER is the version of this header, in the same form. */
 uint32_t qrproved_version(void);
 
-/* Encodes the input as a symbol and writes the modules of the symbol: modules[row * side + column] is 1 if the module in this
- * row and column is dark, and 0 if it is light. Bytes of the buffer after the last module are unchanged.
+/* Encodes the input as a symbol and writes its modules: modules[row * side + column] is 1 if the module in this row and
+ * column is dark, and 0 if it is light. Bytes of the buffer after the last module are unchanged.
  *
  * version  the smallest allowed version, from 1 to 40; the symbol has the least allowed version that the input fits
  * level    QRPROVED_LEVEL_L to QRPROVED_LEVEL_H
@@ -175,15 +175,15 @@ uint32_t qrproved_version(void);
  *   TOO_LONG  the input fits no version from the smallest allowed version on; more than 7,089 bytes are always TOO_LONG
  *   ROOM      modules_len is less than the number of modules of the symbol
  *   DONE      the call succeeded
- * If memory is refused, the call returns MEMORY in place of any of these statuses. The exceptions are SETTINGS, EMPTY, and
- * TOO_LONG for an input of more than 7,089 bytes, which do not depend on memory.
+ * If memory is refused, the call returns MEMORY in place of any of these statuses but SETTINGS, EMPTY, and TOO_LONG for an
+ * input of more than 7,089 bytes.
  */
 QRPROVED_CALL(8)
 uint8_t qrproved_encode(const uint8_t *input, size_t input_len, uint32_t version, uint32_t level, uint32_t rule,
                         uint8_t *modules, size_t modules_len, struct qrproved_symbol *symbol);
 
-/* Encodes the input as a series of symbols (structured append), all of one version, and writes the modules of the symbols:
- * modules[(k * side + row) * side + column] is the module of symbol k in this row and column, where k begins at 0. An input
+/* Encodes the input as a series of symbols (structured append), all of one version, and writes their modules:
+ * modules[(k * side + row) * side + column] is the module of symbol k, from 0, in this row and column. An input
  * that fits one symbol is encoded as one plain symbol. Bytes of the buffer after the last module are unchanged.
  *
  * version  the version of all symbols, from 1 to 40
@@ -195,8 +195,8 @@ uint8_t qrproved_encode(const uint8_t *input, size_t input_len, uint32_t version
  *   TOO_MANY  the input takes more than 16 symbols of the version; more than 113,425 bytes are always TOO_MANY
  *   ROOM      modules_len is less than the number of modules of the series
  *   DONE      the call succeeded
- * If memory is refused, the call returns MEMORY in place of any of these statuses. The exceptions are SETTINGS, EMPTY, and
- * TOO_MANY for an input of more than 113,425 bytes, which do not depend on memory.
+ * If memory is refused, the call returns MEMORY in place of any of these statuses but SETTINGS, EMPTY, and TOO_MANY for an
+ * input of more than 113,425 bytes.
  */
 QRPROVED_CALL(8)
 uint8_t qrproved_encode_series(const uint8_t *input, size_t input_len, uint32_t version, uint32_t level, uint32_t rule,
@@ -204,8 +204,7 @@ uint8_t qrproved_encode_series(const uint8_t *input, size_t input_len, uint32_t 
 
 /* Reads a symbol. The first buffer contains the modules of the symbol, in the order in which qrproved_encode writes them. Any
  * byte but 0 is a dark module, and bytes after the last module are ignored. The call writes the content of the symbol to the
- * start of the second buffer, and leaves the rest of this buffer unchanged. The call corrects no errors: each codeword has
- * to be as it was drawn.
+ * start of the second buffer, and leaves the rest unchanged. It corrects no errors: each codeword has to be as it was drawn.
  *
  * side   number of modules on a side: 21, 25, and so on to 177
  * bytes  the buffer for the content; QRPROVED_BYTES_MAX bytes suffice for any symbol
@@ -230,11 +229,11 @@ QRPROVED_CALL(6)
 uint8_t qrproved_read(const uint8_t *modules, size_t modules_len, uint32_t side, uint8_t *bytes, size_t bytes_len,
                       struct qrproved_content *content);
 
-/* Reads a damaged symbol, mends its damage, and measures the damage. The first buffer contains the modules of the symbol, in
+/* Reads a damaged symbol, mends its damage, and measures it. The first buffer contains the modules of the symbol, in
  * the order in which qrproved_encode writes them: 0 is a light module, 1 is a dark module, and 2 is a module that is not
- * known. A module may be unknown because of a smudge or a fold, or because the camera did not see it. Bytes after the last
- * module are ignored. The call writes the content of the symbol to the start of the second buffer, and leaves the rest of
- * this buffer unchanged. If all modules are 0 or 1 and qrproved_read reads them, this call reads the same content.
+ * known, as under a smudge or a fold, or out of the camera's view. Bytes after the last module are ignored. The call writes
+ * the content of the symbol to the start of the second buffer, and leaves the rest unchanged. If all modules are 0 or 1
+ * and qrproved_read reads them, this call reads the same content.
  *
  * side   number of modules on a side: 21, 25, and so on to 177
  * bytes  the buffer for the content; QRPROVED_BYTES_MAX bytes suffice for any symbol

@@ -7,18 +7,22 @@ import sys
 TOP = pathlib.Path(__file__).resolve().parent.parent
 CRATES = TOP / "crates"
 SECTIONS = re.compile(r" ?\(ISO/IEC 18004:2015, (.*?)\)")
-DEFINITION = re.compile(r"^(?:(?:abbrev|unfoldable) )?pub (?:record |data )?(\w+)\b", re.M)
+DEFINITION = re.compile(r"^(?:(?:abbrev|unfoldable) )?pub (?:record |data )?(\w+|◌\S+◌)(?!\w)", re.M)
+NAME = re.compile(r"\w+|◌[^\s,◌]+◌")
 ITEM = re.compile(r"^( *)(pub(?:\(crate\))? )?(?:const )?(?:extern \"C\" )?(fn|static|const) (\w+)")
-OWNER = re.compile(r"^(?:pub(?:\(crate\))? )?(?:impl(?:<[^>]*>)?(?: \S+ for)?|trait|struct) (\w+)")
+OWNER = re.compile(r"^(?:pub(?:\(crate\))? )?(?:impl(?:<[^>]*>)?(?: \S+ for)?|trait|struct|enum) (\w+)")
+OF_TRAIT = re.compile(r"^(?:pub trait|impl(?:<[^>]*>)? \S+ for) ")
 IMPORT = re.compile(r"use Rattle\.(\w+)\.specs\.([\w.]+)\.\{([^}]*)\}")
 
 
 def imported(text):
-    return {word: (crate, file, word) for crate, file, words in IMPORT.findall(text) for word in re.findall(r"\w+", words)}
+    return {word: (crate, file, word) for crate, file, words in IMPORT.findall(text) for word in NAME.findall(words)}
 
 
 def cited(text, names):
-    return {names[word] for word in re.findall(r"\w+", text) if word in names}
+    """Returns what a text names; an operator `◌+◌` is named by a `+` between spaces."""
+    words = {*NAME.findall(text), *(f"◌{word}◌" for word in text.split())}
+    return {names[word] for word in words if word in names}
 
 
 def read_definitions(crate, path, definitions):
@@ -28,7 +32,7 @@ def read_definitions(crate, path, definitions):
     for paragraph in re.split(r"\n\s*\n", text):
         comment = " ".join(line[2:].strip() for line in paragraph.split("\n") if line.startswith("--"))
         body = "\n".join(line for line in paragraph.split("\n") if not line.startswith("--"))
-        found = DEFINITION.match(body)
+        found = DEFINITION.match(re.sub(r"\Ainfix.*\n", "", body))
         if found:
             sections, key = SECTIONS.search(comment), (crate, file, found.group(1))
             own = "" if re.search(r"\[own\]\.?$", comment) else None
@@ -50,17 +54,18 @@ def doc_above(lines, i):
 def read_functions(crate, path, functions):
     """Adds a file's functions, and its types with ghost members: what they cite, and what they promise by it."""
     text = path.read_text("utf-8").split("#[cfg(test)]")[0]
-    names, lines, owner, ghost = imported(text), text.split("\n"), None, {}
+    names, lines, owner, of_trait, ghost = imported(text), text.split("\n"), None, False, {}
 
     def add(name, public, contract, body, doc):
         kept = re.sub(r"\brequires\b.*?(?=\bensures\b|$)", "", contract, flags=re.S)
         hidden = 0 if public == "pub " else 1 if public else 2
-        functions.append({"crate": crate, "path": path, "name": name, "hidden": hidden, "law": path.stem == "laws",
+        functions.append({"crate": crate, "path": path, "name": name, "hidden": hidden, "law": path.stem == "laws", "of_trait": of_trait,
                           "cites": cited(contract, names), "keeps": cited(kept, names), "body": body,
                           "doc": doc, "ensures": bool(re.search(r"\b(ensures|ghost)\b", contract))})
 
     for i, line in enumerate(lines):
         owner = OWNER.match(line).group(1) if OWNER.match(line) else None if line == "}" else owner
+        of_trait = owner is not None and (bool(OF_TRAIT.match(line)) if OWNER.match(line) else of_trait)
         if owner and re.match(r"    ghost (?!use)\w+(?: =|:)", line):
             end = next(j for j in range(i, len(lines)) if lines[j].endswith((";", ",")))
             ghost[owner] = ghost.get(owner, "") + "\n".join(lines[i:end + 1])
@@ -72,7 +77,7 @@ def read_functions(crate, path, functions):
             contract, body = "\n".join(lines[i:opens]), "\n".join(lines[opens:closes])
             add(f"{owner}::{name}" if owner else name, public, contract, body, doc_above(lines, i))
     for name, members in ghost.items():
-        at = [i for i, line in enumerate(lines) if re.match(rf"pub (struct|trait) {name}\b", line)]
+        at, of_trait = [i for i, line in enumerate(lines) if re.match(rf"pub (struct|trait|enum) {name}\b", line)], False
         public = "pub " if at else ""
         add(name, public, members, "", doc_above(lines, at[0]) if at else [])
 
@@ -137,8 +142,8 @@ def needed(cites, definitions):
 
 
 def public_contracts(functions):
-    """The public functions whose contracts promise something of the code. Laws say what the definitions imply."""
-    return [f for f in functions if f["hidden"] == 0 and not f["law"]]
+    """The public functions, and those of traits, whose contracts promise something of the code. Laws say what the definitions imply."""
+    return [f for f in functions if (f["hidden"] == 0 or f["of_trait"]) and not f["law"]]
 
 
 def outside_steps(definitions):

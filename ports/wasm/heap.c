@@ -1,6 +1,6 @@
-/* What the library takes of the heap as WebAssembly. Each block begins where the last one ended: a call of the library frees
- * all that it takes before it returns, so nothing is freed one by one, and the caller gives back everything by heap_reset
- * before it takes the buffers of its next call by heap_take. ports/heap.c says what the kit's contracts ask of blocks. */
+/* What the library takes of the heap as WebAssembly. Each block begins where the last one ended, and none is freed by itself: a
+ * call of the library frees all that it takes before it returns, and the caller gives back everything by heap_reset before it
+ * takes the buffers of its next call by heap_take. ports/heap.c says what the kit's contracts ask of blocks. */
 typedef __SIZE_TYPE__ size_t; /* the kit's clang has no headers */
 typedef __UINT64_TYPE__ uint64_t;
 

@@ -88,8 +88,8 @@ class Edit:
 
 
 def clash(one, other):
-    """Returns whether two wrong bodies touch one function. A caller need not be kept apart from what it calls: it is proved over what that
-    promises, and of a callee that is not proved the prover says so."""
+    """Returns whether two wrong bodies touch one function. A caller may go with what it calls: it is proved over that contract, and the
+    prover says of a callee that it is not proved."""
     return not set(one.touched).isdisjoint(other.touched)
 
 
@@ -100,7 +100,8 @@ def clash_or_call(one, other):
 
 
 def groups_of(edits, apart=clash):
-    """Puts wrong bodies in few groups, in each of which no two are to be apart: first those that clash with most. Returns also those that go alone."""
+    """Puts wrong bodies in few groups without two that are to be apart, first those that clash with most. Returns also those that go
+    alone."""
     alone = [it for it in edits if it.is_wide or not it.touched]
     left = [it for it in edits if it not in alone]
     clashes = {it: sum(apart(it, other) for other in left if other is not it) for it in left}

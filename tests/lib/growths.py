@@ -11,8 +11,8 @@ TRIALS = os.path.realpath(os.environ.get("TRIALS", f"{TOP}/crates/alloc_trials/o
 
 
 def build_trials():
-    """Builds the program of crates/alloc_trials and its object file, if one is missing or older than a source. Returns why that fails, or
-    None. (`rt ci` leaves no object file if an earlier run on the same machine proved the same files.)"""
+    """Builds the program of crates/alloc_trials and its object file, if one is missing or older than a source. Returns why that
+    fails, or None. (`rt ci` leaves no object file if an earlier run on the same machine proved the same files.)"""
     if "TRIALS" in os.environ:
         return None if os.access(TRIALS, os.X_OK) else f"{TRIALS} is no program"
     repository, made = Repository(TOP), [TRIALS, f"{TRIALS}.o"]

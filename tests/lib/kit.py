@@ -1,5 +1,5 @@
-"""What the scripts need to call the kit's compiler by themselves: where it is, the crates of the repository, and the
-words that it is told of a crate, as `rt` tells it."""
+"""The kit's compiler as the scripts call it themselves: where it is, the crates of the repository, and the arguments that `rt`
+passes it for a crate."""
 import functools
 import glob
 import os
@@ -50,7 +50,7 @@ class Repository:
 
     @functools.cache
     def words(self, name):
-        """Returns what the compiler is told of a crate, in its folder."""
+        """Returns the compiler's arguments for a crate, in its folder."""
         root = "src/main.rt" if os.path.exists(f"{self.folder(name)}/src/main.rt") else "src/lib.rt"
         words = ["--crate-name", name, root, *(["--crate-type", "staticlib"] if name in self.static else [])]
         for used in ["std", *self.uses[name]]:

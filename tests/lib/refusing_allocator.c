@@ -1,6 +1,6 @@
-/* An allocator that refuses one growth of memory. The variable REFUSED_GROWTH has the number of this growth, counted
-   from 1. tests/refused_growths loads the allocator before a program (LD_PRELOAD); it is linked into nothing. When it
-   refuses, it writes one byte to the descriptor whose number the variable REFUSAL_TOLD_TO has. */
+/* An allocator that refuses one growth of memory, whose number from 1 the variable REFUSED_GROWTH has, and then writes one
+   byte to the descriptor whose number REFUSAL_TOLD_TO has. tests/lib/growths.py has it loaded before a program (LD_PRELOAD);
+   it is linked into nothing. */
 #define _GNU_SOURCE
 #include <dlfcn.h>
 #include <errno.h>

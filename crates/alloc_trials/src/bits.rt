@@ -1,5 +1,4 @@
-//! Trials (test calls) of the functions of `qr_bits` that allocate memory. Most trials use the input `HELLO WORLD`,
-//! which is one segment, and its data codewords in version 1-M.
+//! Trials of `qr_bits`, most with `HELLO WORLD`, which is one segment, in version 1 and level M (1-M).
 
 use crate::answer::Answer;
 use qr_bits::{
@@ -16,12 +15,12 @@ pub static SEGMENT: Segment = Segment {
     len: 11,
 };
 
-/// The data codewords of `HELLO WORLD` in version 1-M.
+/// The data codewords of `HELLO WORLD` at 1-M.
 pub static DATA: [u8; 16] = [
     0x20, 0x5B, 0x0B, 0x78, 0xD1, 0x72, 0xDC, 0x4D, 0x43, 0x40, 0xEC, 0x11, 0xEC, 0x11, 0xEC, 0x11,
 ];
 
-// An input of three bytes: a kanji pair (two bytes that are one character of kanji mode), and a small letter.
+// A kanji pair and a small letter.
 static PAIR_AND_LETTER: [u8; 3] = [0x93, 0x61, 0x61];
 
 const BITS_OUT: Answer = Answer::Memory("BitFault::Memory, arguments unchanged");

@@ -1,14 +1,29 @@
-//! Trials (test calls) of the functions of `qrencode_cli` that allocate memory. In the trials of this file, the command
-//! reads its input from memory and writes its output to memory.
+//! Trials of `qrencode_cli`, whose devices are in memory.
 
 use crate::answer::Answer;
 use qrencode_cli::{Faults, Trial, UsageFault, options, run};
 use std::alloc::{AllocError, Global};
 
-// The line that the command writes to standard error if memory is refused.
+// The line on standard error if memory is refused.
 static OUT_OF_MEMORY: &str = "qrencode: out of memory\n";
 
-// Returns a command line: the name of the program, and then the arguments `words`.
+pub fn reader(alloc: Global) -> Result<Answer, AllocError> {
+    let bytes = Vec::from_slice(alloc, b"ABC")?;
+    let answer = match Trial::reader(alloc, &bytes, Faults::NONE) {
+        Ok(device) => Answer::of(device.bytes() == b"ABC".as_slice()),
+        Err(_) => Answer::Memory("AllocError, arguments unchanged"),
+    };
+    Ok(answer.given(bytes.as_slice() == b"ABC".as_slice()))
+}
+
+pub fn writer(alloc: Global) -> Answer {
+    match Trial::writer(alloc, 100, Faults::NONE) {
+        Ok(device) => Answer::of(device.bytes().is_empty()),
+        Err(_) => Answer::Memory("AllocError, arguments unchanged"),
+    }
+}
+
+// The program's name, then `words`.
 fn line(alloc: Global, words: &[&str]) -> Result<Vec<String>, AllocError> {
     let mut list = Vec::new(alloc);
     list.push(String::from_str(alloc, "qrencode")?)?;
@@ -18,7 +33,7 @@ fn line(alloc: Global, words: &[&str]) -> Result<Vec<String>, AllocError> {
     Ok(list)
 }
 
-// Returns whether `list` contains the arguments `words` after the name of the program.
+// Whether `list` is still what `line` made.
 fn are(list: &[String], words: &[&str]) -> bool {
     list.iter()
         .skip(1)
@@ -37,9 +52,8 @@ pub fn settings(alloc: Global) -> Result<Answer, AllocError> {
     Ok(answer.given(are(&list, &words)))
 }
 
-// Runs the command, and returns whether the run gave the expected results, or reported lack of memory. If no memory is
-// refused, the expected exit status is `status`. If no memory is refused, standard output is expected to begin with
-// `prefix`, and standard error is expected to contain `part`.
+// Runs the command. If no memory is refused, it should return `status`, write a drawing that begins with `prefix`, and
+// write a line to standard error that contains `part`.
 fn ran(
     alloc: Global,
     words: &[&str],

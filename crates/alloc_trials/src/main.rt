@@ -1,11 +1,8 @@
-//! A test program for the public functions that allocate memory. The program takes the name of a trial as its argument.
-//! A trial is one call of a public function that allocates memory. The program runs the trial that its argument names,
-//! and prints a line with the result. Without an argument, the program runs all trials. The script
-//! `tests/refused_growths` runs each trial many times. In each run of a trial, the script refuses a different request
-//! for memory.
+//! A program that calls the public functions that allocate memory, each in a trial of its own, and prints a line with
+//! the result. The argument is the name of a trial; without it, all are run. `tests/refused_growths` runs each trial
+//! many times, and refuses another request for memory each time.
 //!
-//! In a trial, the program makes the arguments of the call before the call. After the call, the program checks that the
-//! arguments of the call are unchanged.
+//! A trial makes the arguments of its call before it, and checks afterwards that they are unchanged.
 #![tactic(auto)]
 
 mod answer;
@@ -18,8 +15,8 @@ use std::alloc::{AllocError, Global};
 use std::env;
 use std::process::ExitCode;
 
-// The names of all trials. The trials of a crate come after the trials of the crates that it uses.
-static NAMES: [&str; 22] = [
+// The trials, those of a crate after those of the crates that it uses.
+static NAMES: [&str; 30] = [
     "Matrix::new",
     "segments",
     "longest_fit",
@@ -28,15 +25,23 @@ static NAMES: [&str; 22] = [
     "parse",
     "interleave",
     "deinterleave",
+    "BlockSizes::gather",
     "build_masked",
+    "draw_symbol",
     "build",
     "encode",
     "encode_series",
+    "read_codewords",
+    "read_unmasked",
     "read_symbol",
+    "join",
     "read_series",
     "mend_symbol",
     "mend_symbol_without",
     "mend_series",
+    "label",
+    "Trial::reader",
+    "Trial::writer",
     "options",
     "run_series",
     "run_empty",
@@ -44,8 +49,7 @@ static NAMES: [&str; 22] = [
     "run_kanji",
 ];
 
-// Runs the trial `name`, and returns its result. Returns an error if memory is refused while the arguments of the call
-// are made.
+// Runs a trial. Fails if memory for the arguments of its call is refused.
 fn trial(alloc: Global, name: &str) -> Result<Answer, AllocError> {
     match name {
         "Matrix::new" => Ok(symbols::matrix(alloc)),
@@ -56,15 +60,23 @@ fn trial(alloc: Global, name: &str) -> Result<Answer, AllocError> {
         "parse" => bits::parsed(alloc),
         "interleave" => symbols::interleaved(alloc),
         "deinterleave" => symbols::deinterleaved(alloc),
+        "BlockSizes::gather" => symbols::gathered(alloc),
         "build_masked" => symbols::built_masked(alloc),
+        "draw_symbol" => symbols::drawn(alloc),
         "build" => symbols::built(alloc),
         "encode" => symbols::encoded(alloc),
         "encode_series" => symbols::encoded_series(alloc),
+        "read_codewords" => symbols::codewords_read(alloc),
+        "read_unmasked" => symbols::masked_codewords_read(alloc),
         "read_symbol" => symbols::read(alloc),
+        "join" => symbols::joined(alloc),
         "read_series" => symbols::read_whole_series(alloc),
         "mend_symbol" => symbols::mended(alloc),
         "mend_symbol_without" => symbols::mended_without(alloc),
         "mend_series" => symbols::mended_series(alloc),
+        "label" => symbols::labelled(alloc),
+        "Trial::reader" => command::reader(alloc),
+        "Trial::writer" => Ok(command::writer(alloc)),
         "options" => command::settings(alloc),
         "run_series" => command::run_of_a_series(alloc),
         "run_empty" => command::run_of_no_byte(alloc),
@@ -74,7 +86,7 @@ fn trial(alloc: Global, name: &str) -> Result<Answer, AllocError> {
     }
 }
 
-// Runs the trial `name`, and prints its result. Returns whether the result could be printed.
+// Runs a trial, and returns whether the line with its result could be printed.
 fn tell(rt: &HostRuntime, name: &str) -> bool {
     let text = match trial(rt.alloc(), name) {
         Ok(answer) => answer.text(),

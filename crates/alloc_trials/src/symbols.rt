@@ -1,18 +1,20 @@
-//! Trials (test calls) of the functions that make, read or mend symbols and allocate memory. The trials use the symbol
-//! of `HELLO WORLD` in version 1-M, and the series of `ABCDEFGH` in byte mode in version 1-H.
+//! Trials of `qr_symbol` and `qr_mending`, and of `Matrix::new`, with `HELLO WORLD` at 1-M and the series of `ABCDEFGH`
+//! at 1-H in byte mode.
 
 use crate::answer::Answer;
 use crate::bits::{DATA, HELLO_WORLD};
+use example_label::label;
 use qr_bits::Rule;
 use qr_layout::{Level, Version};
 use qr_mending::{mend_series, mend_symbol, mend_symbol_without};
 use qr_symbol::{
-    EncodeFault, Matrix, ReadFault, Symbol, build, build_masked, deinterleave, encode,
-    encode_series, interleave, read_series, read_symbol,
+    BlockSizes, EncodeFault, Matrix, ReadFault, Symbol, build, build_masked, deinterleave,
+    draw_symbol, encode, encode_series, interleave, join, read_codewords, read_series, read_symbol,
+    read_unmasked,
 };
 use std::alloc::{AllocError, Global};
 
-// The codewords of `HELLO WORLD` in version 1-M: the data codewords, and then the error correction codewords.
+// The data codewords of `HELLO WORLD` at 1-M, then its error correction codewords.
 static SENT: [u8; 26] = [
     0x20, 0x5B, 0x0B, 0x78, 0xD1, 0x72, 0xDC, 0x4D, 0x43, 0x40, 0xEC, 0x11, 0xEC, 0x11, 0xEC, 0x11,
     0xC4, 0x23, 0x27, 0x77, 0xEB, 0xD7, 0xE7, 0xE2, 0x5D, 0x17,
@@ -26,7 +28,6 @@ const READ_OUT: Answer = Answer::Memory("ReadFault::Memory, arguments unchanged"
 
 const ALLOC_OUT: Answer = Answer::Memory("AllocError, arguments unchanged");
 
-// Returns whether the squares of modules `a` and `b` have the same modules.
 fn are_equal(a: &Matrix, b: &Matrix) -> bool {
     let side = a.side();
     if b.side() != side {
@@ -42,8 +43,7 @@ fn are_equal(a: &Matrix, b: &Matrix) -> bool {
     true
 }
 
-// Returns whether the series `a` and `b` have the same number of symbols, and whether their symbols with the same index
-// have the same modules.
+// Whether the symbols of two series have the same modules.
 fn are_equal_series(a: &[Symbol], b: &[Symbol]) -> bool {
     a.len() == b.len()
         && a.iter()
@@ -51,7 +51,7 @@ fn are_equal_series(a: &[Symbol], b: &[Symbol]) -> bool {
             .all(|(x, y)| are_equal(&x.matrix, &y.matrix))
 }
 
-// Returns the symbol of `HELLO WORLD` in version 1-M. Returns an error if memory is refused.
+// The symbol of `HELLO WORLD` at 1-M.
 fn hello(alloc: Global) -> Result<Symbol, AllocError> {
     encode(alloc, &HELLO_WORLD, Level::M, Version::FIRST, Rule::Auto).map_err(|_| AllocError)
 }
@@ -90,6 +90,29 @@ pub fn deinterleaved(alloc: Global) -> Result<Answer, AllocError> {
     Ok(answer.given(sent.as_slice() == SENT.as_slice()))
 }
 
+// Three blocks of 8, 8 and 9 codewords, whose interleaving is the first 25 codewords of `SENT`.
+static GATHERED: [u8; 25] = [
+    0x20, 0x78, 0xDC, 0x40, 0xEC, 0x11, 0x27, 0xD7, 0x5B, 0xD1, 0x4D, 0xEC, 0x11, 0xC4, 0x77, 0xE7,
+    0x0B, 0x72, 0x43, 0x11, 0xEC, 0x23, 0xEB, 0xE2, 0x5D,
+];
+
+pub fn gathered(alloc: Global) -> Result<Answer, AllocError> {
+    let sent = Vec::from_slice(alloc, &SENT)?;
+    if sent.len() != 26 {
+        return Ok(Answer::Other);
+    }
+    let sizes = BlockSizes {
+        short: 2,
+        short_len: 8,
+        long: 1,
+    };
+    let answer = match sizes.gather(alloc, &sent) {
+        Ok(codewords) => Answer::of(codewords.as_slice() == GATHERED.as_slice()),
+        Err(_) => ALLOC_OUT,
+    };
+    Ok(answer.given(sent.as_slice() == SENT.as_slice()))
+}
+
 pub fn built_masked(alloc: Global) -> Result<Answer, AllocError> {
     let sent = Vec::from_slice(alloc, &SENT)?;
     let version = Version::FIRST;
@@ -100,6 +123,19 @@ pub fn built_masked(alloc: Global) -> Result<Answer, AllocError> {
         Ok(symbol) => Answer::of(symbol.matrix.side() == 21 && symbol.mask == 0),
         Err(EncodeFault::Memory) => ENCODE_OUT,
         Err(_) => Answer::Other,
+    };
+    Ok(answer.given(sent.as_slice() == SENT.as_slice()))
+}
+
+pub fn drawn(alloc: Global) -> Result<Answer, AllocError> {
+    let sent = Vec::from_slice(alloc, &SENT)?;
+    let version = Version::FIRST;
+    if sent.len() != usize::from(version.total_codewords()) {
+        return Ok(Answer::Other);
+    }
+    let answer = match draw_symbol(alloc, version, Level::M, &sent, 0) {
+        Ok(matrix) => Answer::of(matrix.side() == 21),
+        Err(_) => ALLOC_OUT,
     };
     Ok(answer.given(sent.as_slice() == SENT.as_slice()))
 }
@@ -148,6 +184,32 @@ pub fn read(alloc: Global) -> Result<Answer, AllocError> {
     Ok(answer.given(are_equal(&symbol.matrix, &same.matrix)))
 }
 
+pub fn codewords_read(alloc: Global) -> Result<Answer, AllocError> {
+    let (symbol, same) = (hello(alloc)?, hello(alloc)?);
+    let version = Version::FIRST;
+    if symbol.matrix.side() != version.side() {
+        return Ok(Answer::Other);
+    }
+    let answer = match read_codewords(alloc, version, symbol.mask, &symbol.matrix) {
+        Ok(codewords) => Answer::of(codewords.as_slice() == SENT.as_slice()),
+        Err(_) => ALLOC_OUT,
+    };
+    Ok(answer.given(are_equal(&symbol.matrix, &same.matrix)))
+}
+
+pub fn masked_codewords_read(alloc: Global) -> Result<Answer, AllocError> {
+    let (symbol, same) = (hello(alloc)?, hello(alloc)?);
+    let version = Version::FIRST;
+    if symbol.matrix.side() != version.side() {
+        return Ok(Answer::Other);
+    }
+    let answer = match read_unmasked(alloc, version, &symbol.matrix) {
+        Ok(codewords) => Answer::of(codewords.len() == 26),
+        Err(_) => ALLOC_OUT,
+    };
+    Ok(answer.given(are_equal(&symbol.matrix, &same.matrix)))
+}
+
 pub fn mended(alloc: Global) -> Result<Answer, AllocError> {
     let (symbol, same) = (hello(alloc)?, hello(alloc)?);
     let answer = match mend_symbol(alloc, &symbol.matrix) {
@@ -185,8 +247,7 @@ pub fn mended_series(alloc: Global) -> Result<Answer, AllocError> {
     Ok(answer.given(are_equal(&squares[0], &same.matrix)))
 }
 
-// Returns the series of `ABCDEFGH` in byte mode in version 1-H. The series has two symbols: the first contains five
-// letters, and the second contains three letters. Returns an error if memory is refused.
+// The series of `ABCDEFGH` at 1-H, with five letters in the first symbol and three in the second.
 fn series(alloc: Global) -> Result<Vec<Symbol>, AllocError> {
     encode_series(alloc, &LETTERS, Version::FIRST, Level::H, Rule::BytesOnly).map_err(
         |_| AllocError,
@@ -201,4 +262,30 @@ pub fn read_whole_series(alloc: Global) -> Result<Answer, AllocError> {
         Err(_) => Answer::Other,
     };
     Ok(answer.given(are_equal_series(&symbols, &same)))
+}
+
+pub fn joined(alloc: Global) -> Result<Answer, AllocError> {
+    let mut contents = Vec::new(alloc);
+    for symbol in series(alloc)?.iter() {
+        contents.push(read_symbol(alloc, &symbol.matrix).map_err(|_| AllocError)?)?;
+    }
+    let answer = match join(alloc, &contents) {
+        Ok(bytes) => Answer::of(bytes.as_slice() == LETTERS.as_slice()),
+        Err(ReadFault::Memory) => READ_OUT,
+        Err(_) => Answer::Other,
+    };
+    let is_same = contents.len() == 2
+        && contents[0].bytes.as_slice() == b"ABCDE".as_slice()
+        && contents[1].bytes.as_slice() == b"FGH".as_slice();
+    Ok(answer.given(is_same))
+}
+
+pub fn labelled(alloc: Global) -> Result<Answer, AllocError> {
+    let words = Vec::from_slice(alloc, &LETTERS)?;
+    let answer = match label(alloc, &words, Level::L, Version::FIRST) {
+        Ok(text) => Answer::of(text.starts_with(b"#######") && text.ends_with(b"ABCDEFGH\n")),
+        Err(EncodeFault::Memory) => ENCODE_OUT,
+        Err(_) => Answer::Other,
+    };
+    Ok(answer.given(words.as_slice() == LETTERS.as_slice()))
 }

@@ -1,4 +1,4 @@
--- Defines a label: a symbol that is drawn with characters, followed by the text that the symbol contains.
+-- A label: a symbol that is drawn with characters, and below it the text that the symbol contains.
 use Rattle.std.specs.Prelude.{◌≡◌, ℕ, Bool, if◌then◌else◌, List, [], ◌∷◌, ◌++◌, map}
 use Rattle.std.specs.List.{flat_map, range_with_len}
 use Rattle.qr_layout.specs.declared.level.Level.{Level}
@@ -6,18 +6,16 @@ use Rattle.qr_bits.specs.declared.modes.Rule.TheVariants.{Auto}
 use Rattle.qr_matrix.specs.Grid.{Grid, colour}
 use Rattle.qr_symbol.specs.Encoding.{IsSymbol}
 
--- `character_of dark` is the character for a module: `#` if the module is dark, and a space if it is light [own].
+-- `#` for a dark module, a space for a light one [own]
 abbrev pub character_of : Bool → ℕ
 character_of dark = if dark then 35 else 32
 
--- `line_of_row g row` is the line of text for row `row` of the square of modules `g`. The line consists of a character
--- for each module, and then a line feed [own].
+-- The line of a row: a character for each module, and a line feed [own]
 abbrev pub line_of_row : Grid → ℕ → List ℕ
 line_of_row g row = map (λ col. character_of (colour g row col)) (range_with_len 0 g.side) ++ 10 ∷ []
 
--- `IsLabel words level smallest text` holds if `text` is the label of `words`: a line for each row of modules of a
--- symbol, and then a line with `words`. The symbol contains `words`. The symbol has the level `level` and the least
--- version, from `smallest` on, that `words` fits [own].
+-- `text` has a line for each row of the symbol of `words`, and then a line with `words`; the symbol has this level and
+-- the least version, from `smallest` on, that `words` fits [own]
 pub record IsLabel (words : List ℕ) (level : Level) (smallest : ℕ) (text : List ℕ) : Type 0 where
   pub version : ℕ
   pub mask : ℕ

@@ -1,6 +1,5 @@
-//! An example of a crate that uses `qr_symbol`. The crate makes labels. A label is a symbol that is drawn with
-//! characters, followed by the text that the symbol contains. The contract of the function `label` determines every
-//! character of a label.
+//! An example of a crate of your own that uses `qr_symbol`. It makes labels: a symbol of characters, and below it the
+//! text that the symbol contains. The contract of `label` determines every character.
 #![tactic(auto)]
 
 ghost use Rattle.std.specs.Prelude.{◌≡◌, ◌≢◌, ◌<◌, ◌≤◌, ◌↔◌, ◌⊎◌, ◌++◌, [], length, Err, IfErr, IfOk, IsOk};
@@ -12,15 +11,13 @@ ghost use Rattle.example_label.specs.Label.{IsLabel, character_of, line_of_row};
 use qr_symbol::{EncodeFault, INPUT_MAX, Level, Matrix, Rule, Version, encode};
 use std::alloc::{AllocError, Global};
 
-/// Returns a label, which consists of the symbol of `words` and, below the symbol, a line with `words`. The label
-/// contains a line of text for each row of modules, with `#` for a dark module and a space for a light module. The
-/// symbol has the level `level`. The symbol has the least version that `words` fits and that is not less than
-/// `smallest`. The label has no quiet zone, so the paper around the label has to be light.
+/// Returns the label of `words`: a line of text for each row of modules, with `#` for a dark and a space for a light
+/// one, and then a line with `words`. The symbol has this level and the least version, from `smallest` on, that `words`
+/// fits. There is no quiet zone, so the paper around the label has to be light.
 ///
 /// # Errors
 ///
-/// Returns `Empty` if `words` is empty, and `TooLong` if `words` fits no version that is at least `smallest`. Returns
-/// `Memory` if memory is refused.
+/// `Empty` if `words` is empty, `TooLong` if it fits no version from `smallest` on, and `Memory` if memory is refused.
 pub fn label(
     alloc: Global,
     words: &[u8],
@@ -46,7 +43,7 @@ pub fn label(
     Ok(text)
 }
 
-// Adds the line of text for the row `row` of `matrix` to `text`.
+// Adds the line of a row.
 fn push_line(text: &mut Vec<u8>, matrix: &Matrix, row: u8) -> Result<(), AllocError>
     requires { row < matrix.now.side }
     ensures { IsOk result → text.new.items ≡ text.old.items ++ line_of_row matrix.now row }
@@ -58,7 +55,6 @@ fn push_line(text: &mut Vec<u8>, matrix: &Matrix, row: u8) -> Result<(), AllocEr
     Ok(())
 }
 
-// Returns `#` for a dark module, and a space for a light module.
 fn character_of(dark: bool) -> u8
     ensures { result ≡ character_of dark }
 {

@@ -6,7 +6,7 @@ pub mod stream
 pub mod padding
 pub mod parsing
 pub mod run_state
-pub mod table
+pub mod best_modes
 pub mod segmentation
 pub mod longest_prefix
 pub mod lower_bound

@@ -1,5 +1,5 @@
--- Defines the steps by which the code of this crate computes its results. Only contracts of private code use these
--- definitions, so a reader of the public contracts can skip the folder `Steps`.
+-- How the code computes its results, for private contracts alone.
 pub mod RunState
-pub mod Table
+pub mod BestModes
 pub mod Segmentation
+pub mod Parsing

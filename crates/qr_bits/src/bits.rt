@@ -1,5 +1,4 @@
-//! Writes numbers as bits of codewords, and reads numbers from bits of codewords. The highest bit of each codeword
-//! comes first (ISO/IEC 18004:2015, 7.4.10).
+//! Bits of codewords, written and read, the highest of each codeword first (ISO/IEC 18004:2015, 7.4.10).
 
 ghost use Rattle.std.specs.Prelude.{Bool, IfOk, List, OnOk, [], drop, length, take, ◌%◌, ◌*◌, ◌++◌, ◌+◌, ◌<◌, ◌^◌, ◌∷◌, ◌≡◌, ◌≤◌};
 ghost use Rattle.qr_bits.specs.Padding.{filled};
@@ -9,12 +8,11 @@ use crate::modes::{STRUCTURED_APPEND, TERMINATOR};
 use std::alloc::{AllocError, Global};
 use std::marker::Model;
 
-/// Collects bits into codewords. In contracts, the value of a `BitWriter` is the list of the bits written so far.
+/// Collects bits into codewords. Contracts see it as the bits written so far.
 #[derive(Drop)]
 pub(crate) struct BitWriter {
     whole: Vec<u8>,
-    // `width` bits come after the last whole codeword, and `rest` contains these bits as a number. `width` is less than
-    // eight.
+    // The fewer than eight bits after the last whole codeword, as a number.
     rest: u8,
     width: u8,
 }
@@ -39,7 +37,7 @@ impl BitWriter {
         }
     }
 
-    /// Writes the lowest `width` bits of `number`, the most significant bit first.
+    /// Writes the lowest `width` bits of `number`, the most significant first.
     pub(crate) fn put(&mut self, width: u8, number: u16) -> Result<(), AllocError>
         requires { width ≤ 16 }
         ensures { OnOk result (self.new ≡ self.old ++ field width number) }
@@ -52,7 +50,7 @@ impl BitWriter {
         Ok(())
     }
 
-    /// Writes the bits of `bytes`, eight bits for each byte.
+    /// Writes bytes.
     pub(crate) fn put_bytes(&mut self, bytes: &[u8]) -> Result<(), AllocError>
         ensures { OnOk result (self.new ≡ self.old ++ bits_of bytes.now) }
     {
@@ -60,7 +58,7 @@ impl BitWriter {
         Ok(())
     }
 
-    /// Writes zero bits until the number of written bits is a multiple of eight.
+    /// Fills the last codeword with zeros.
     pub(crate) fn fill(&mut self) -> Result<(), AllocError>
         ensures { OnOk result (self.new ≡ filled self.old) }
     {
@@ -71,7 +69,7 @@ impl BitWriter {
         Ok(())
     }
 
-    /// Returns the written codewords. The number of written bits must be a multiple of eight.
+    /// Returns the codewords, of which the last must be whole.
     pub(crate) fn into_codewords(self) -> Vec<u8>
         requires { length self % 8 ≡ 0 }
         ensures { bits_of result.items ≡ self }
@@ -81,8 +79,7 @@ impl BitWriter {
     }
 }
 
-// Cuts the `width` bits of the number `bits` into bytes, from the highest bit to the lowest. Appends the whole bytes to
-// `whole`. Returns the number of bits that remain after the last whole byte; this number is less than eight.
+// Appends the whole bytes of the `width` bits `bits` to `whole`, and returns how many bits are left.
 fn push_whole(whole: &mut Vec<u8>, bits: u32, width: u8) -> Result<u8, AllocError>
     requires { width ≤ 23 }
     ensures few { IfOk result (λ left. left < 8) }
@@ -96,9 +93,7 @@ fn push_whole(whole: &mut Vec<u8>, bits: u32, width: u8) -> Result<u8, AllocErro
     Ok(left)
 }
 
-// Puts the `width` bits of the number `rest` in front of the bits of `bytes`. Cuts the joined bits into bytes, and
-// appends the whole bytes to `whole`. The last `width` of the joined bits do not fill a byte, and the function returns
-// these bits as a number.
+// Appends the whole bytes of the `width` bits `rest` and then `bytes`, and returns the bits that are left.
 fn push_bytes(whole: &mut Vec<u8>, width: u8, mut rest: u8, bytes: &[u8]) -> Result<u8, AllocError>
     requires few { width < 8 }
     requires rest { rest < 2 ^ width }
@@ -115,7 +110,7 @@ fn push_bytes(whole: &mut Vec<u8>, width: u8, mut rest: u8, bytes: &[u8]) -> Res
     Ok(rest)
 }
 
-/// Reads the bits of codewords. In contracts, the value of a `BitReader` is the list of the bits that are not read yet.
+/// Reads the bits of codewords. Contracts see it as the bits that are not read yet.
 #[derive(Drop)]
 pub(crate) struct BitReader<'a> {
     bytes: &'a [u8],
@@ -140,14 +135,13 @@ impl<'a> BitReader<'a> {
         BitReader { bytes, at: 0 }
     }
 
-    /// Returns the number of bits that are not read yet.
+    /// Returns how many bits are not read yet.
     pub(crate) fn len(&self) -> usize
         ensures { result ≡ length self.now }
     {
         8 * self.bytes.len() - self.at
     }
 
-    /// Reads the next bit.
     fn bit(&mut self) -> bool
         requires { 0 < length self.old }
         ensures { self.old ≡ result ∷ self.new }
@@ -157,7 +151,7 @@ impl<'a> BitReader<'a> {
         bit
     }
 
-    /// Reads the next `width` bits as a number, the most significant bit first.
+    /// Reads `width` bits as a number, the most significant first.
     pub(crate) fn take(&mut self, width: usize) -> u16
         requires there { width ≤ length self.old }
         requires fits { width ≤ 16 }
@@ -171,8 +165,7 @@ impl<'a> BitReader<'a> {
         number
     }
 
-    /// Returns whether no further segment follows: either fewer than four bits are left, or the next four bits are the
-    /// terminator.
+    /// Returns whether no segment follows: fewer than four bits, or the terminator.
     #[tactic(auto, unfolding(crate::specs::Parsing::ends))]
     pub(crate) fn ends(&self) -> bool
         ensures { result ≡ ends self.now }
@@ -180,8 +173,7 @@ impl<'a> BitReader<'a> {
         self.len() < 4 || self.indicator() == TERMINATOR
     }
 
-    /// Returns whether the next four bits are the mode indicator of structured append, with which a structured append
-    /// header begins.
+    /// Returns whether a structured append header follows.
     #[tactic(auto, unfolding(crate::specs::Parsing::begins_header))]
     pub(crate) fn begins_header(&self) -> bool
         ensures { result ≡ begins_header self.now }
@@ -189,7 +181,7 @@ impl<'a> BitReader<'a> {
         self.len() >= 4 && self.indicator() == STRUCTURED_APPEND
     }
 
-    /// Returns the next four bits as a number, and leaves them unread.
+    /// Returns the next four bits without reading them.
     fn indicator(&self) -> u16
         requires { 4 ≤ length self.now }
         ensures { result ≡ value (take 4 self.now) }

@@ -1,18 +1,18 @@
-//! Folds an input: turns its small letters into capitals, because alphanumeric mode can write capitals, but no small
-//! letters.
+//! Folding: small letters become capitals, which alphanumeric mode can write.
 
 ghost use Rattle.std.specs.Prelude.{◌≡◌, length, map, vec_len, IfOk};
 ghost use Rattle.qr_bits.specs.Folding.{capital, folded, folded_around_pairs};
 
+use crate::best_modes::begins_with_pair;
 use crate::modes::Rule;
-use crate::table::begins_with_pair;
 use std::alloc::{AllocError, Global};
 
-/// Returns `input` with its letters `a` to `z` turned into capitals. The result has as many bytes as `input`.
+/// Returns `input` with the letters `a` to `z` as capitals; as many bytes as it has. Under `Rule::WithKanji` kanji
+/// pairs, found from the left, stay as they are, and under `Rule::BytesOnly` all bytes.
 ///
-/// Under `Rule::WithKanji`, the function `fold` finds the kanji pairs from the left, and leaves both bytes of each pair
-/// unchanged. A kanji pair is two bytes that kanji mode writes as one character. Under `Rule::BytesOnly`, the function
-/// `fold` leaves all bytes unchanged.
+/// # Errors
+///
+/// Returns an error if memory is refused.
 pub fn fold(alloc: Global, input: &[u8], rule: Rule) -> Result<Vec<u8>, AllocError>
     ensures bytes { IfOk result (λ v. v.items ≡ folded rule input.now) }
     ensures len { IfOk result (λ v. vec_len v ≡ length input.now) }

@@ -1,9 +1,8 @@
-//! This crate splits an input into segments, writes segments as the data codewords of a symbol, and parses data
-//! codewords.
+//! Segments of an input, the data codewords that contain them, and the way back.
 #![tactic(auto)]
 
+mod best_modes;
 mod bits;
-mod derives;
 mod fault;
 mod folding;
 mod header;
@@ -17,7 +16,6 @@ mod run_state;
 mod segment;
 mod segmentation;
 mod stream;
-mod table;
 
 pub use fault::{BitFault, ParseFault};
 pub use folding::fold;

@@ -1,4 +1,4 @@
-//! Finds the longest prefix (first bytes) of an input that fits in one symbol of a series.
+//! The longest prefix of an input that fits one symbol of a series.
 
 ghost use Rattle.std.specs.Prelude.{IsOkAnd, length, reverse, ℕ, ◌+◌, ◌*◌, ◌<◌, ◌≡◌, ◌≤◌};
 ghost use Rattle.qr_bits.specs.declared.modes.Mode.{Mode};
@@ -7,16 +7,16 @@ ghost use Rattle.qr_bits.specs.Segmentation.{IsLongestFit};
 ghost use Rattle.qr_bits.specs.Steps.RunState.{begins_with_pair, swapped};
 ghost use Rattle.qr_bits.specs.Padding.{room_of};
 
+use crate::best_modes::best_choices;
 use crate::fault::BitFault;
 use crate::header::HEADER_BITS;
 use crate::modes::{INPUT_MAX, Mode, Rule, count_width, is_kanji_pair, may_use};
 use crate::padding::capacity;
 use crate::run_state::{FirstChoices, NO_BITS};
-use crate::table::best_choices;
 use qr_layout::{Level, Version};
 use std::alloc::Global;
 
-// Returns whether `rule` allows kanji mode and the last two bytes of `bytes` are a kanji pair.
+// The rule allows kanji mode, and the last two bytes are a kanji pair.
 fn ends_with_pair(rule: Rule, bytes: &[u8]) -> bool
     ensures { result ≡ begins_with_pair rule (swapped is_kanji_pair) (reverse bytes.now) }
 {
@@ -27,8 +27,7 @@ fn ends_with_pair(rule: Rule, bytes: &[u8]) -> bool
     may_use(rule, Mode::Kanji) && is_kanji_pair(bytes[len - 2], bytes[len - 1])
 }
 
-// Returns how many bytes one segment in byte mode can contain at most, if the segment takes at most `room` bits in a
-// symbol of this version (7.4.5).
+// Returns how many bytes a segment in byte mode contains that takes at most `room` bits (7.4.5).
 fn bytes_in(room: u64, version: Version) -> usize
     requires { 20 ≤ room }
     ensures fits { 4 + count_width version Mode.Byte + 8 * result ≤ room }
@@ -38,13 +37,11 @@ fn bytes_in(room: u64, version: Version) -> usize
     ((room - head) / 8) as usize
 }
 
-// Returns the length of the longest prefix of `input` that can be written in at most `room` bits.
+// Returns the length of the longest prefix that takes at most `room` bits.
 //
-// The function considers each prefix with its bytes reversed, so the second byte of a kanji pair comes first. A prefix
-// whose bytes are reversed takes as many bits as the prefix itself. The bytes are reversed because the function
-// `best_choices` can add a byte only in front of the bytes that are already counted. Each turn of the loop adds the
-// byte `input[i]`. After each turn of the loop, `rest.start / 4`, rounded down, is the least number of bits of the
-// prefix that ends with `input[i]`.
+// The rows of `best_choices` add a byte in front of those that are counted, so prefixes are counted backwards, which
+// takes as many bits; the second byte of a kanji pair then comes first. After the turn of `input[i]`, `rest.start / 4`
+// is the least number of bits of the prefix that ends with it.
 fn longest_by_rows(input: &[u8], version: Version, rule: Rule, room: u64) -> usize
     requires { length input.now ≤ INPUT_MAX }
     ensures { IsLongestFit version rule input.now room result }
@@ -63,17 +60,16 @@ fn longest_by_rows(input: &[u8], version: Version, rule: Rule, room: u64) -> usi
     longest
 }
 
-/// Returns the length, in bytes, of the longest prefix of `input` that fits in a symbol of this version and level,
-/// together with a structured append header. The segments of the prefix may have only the modes that `rule` allows.
+/// Returns the length in bytes of the longest prefix of `input` that fits a symbol of this version and level together
+/// with a structured append header, in modes that `rule` allows.
 ///
-/// Under `Rule::WithKanji`, a prefix may fit although a shorter prefix does not fit. A prefix that ends within a kanji
-/// pair may take more bits than a longer prefix, because the first byte of the kanji pair may need a segment in byte
-/// mode. The function `longest_fit` never returns an error.
+/// With kanji mode a prefix may fit though a shorter one does not, since half a kanji pair may take more bits than the
+/// pair.
 ///
 /// # Notes
 ///
-/// The function `longest_fit` never allocates memory. The function `longest_fit` has the parameter `_alloc` and returns
-/// a `Result` only so that it can be called like the functions `segments` and `codewords`.
+/// The allocator and the `Result` are there so that it is called like its neighbours: it never allocates, and never
+/// fails.
 pub fn longest_fit(
     _alloc: Global,
     input: &[u8],

@@ -1,6 +1,5 @@
-//! Describes the four modes of segments (ISO/IEC 18004:2015, 7.3 and 7.4.1 to 7.4.6). Each mode has a mode indicator
-//! and a character count indicator of a certain width. Each mode can write certain bytes, and writes them in a certain
-//! number of bits.
+//! The four modes: their indicators, the bytes that each can write, and the bits that these take (ISO/IEC 18004:2015,
+//! 7.3, 7.4.1 to 7.4.6).
 
 ghost use Rattle.std.specs.Prelude.{IsTrue, ◌<◌, ◌==◌, ◌^◌, ◌≡◌, ◌≤◌};
 ghost use Rattle.qr_bits.specs.Modes.{character_value, characters, character_count, count_width, in_twos, indicator, is_alphanumeric, is_digit, is_kanji_pair, kanji_value, byte_count, may_use, payload_bits, suits};
@@ -10,35 +9,33 @@ ghost use Rattle.qr_bits.specs.Parsing.{character, mode_of};
 use crate::fault::ParseFault;
 use qr_layout::Version;
 
-/// The greatest length of an input, in bytes: 16 times 7,089, plus 1. A symbol contains at most 7,089 bytes, and a
-/// series has at most 16 symbols. Therefore, no series of symbols has room for an input of `INPUT_MAX` bytes.
+/// The greatest length of an input, one more than 16 symbols of at most 7,089 bytes can contain, so that no series has
+/// room for it.
 pub const INPUT_MAX: usize = 113_425;
 
-/// The mode of a segment, which determines how the bytes of the segment are written as bits (7.3.3 to 7.3.6).
+/// How the bytes of a segment are written (7.3.3 to 7.3.6).
 #[derive(Clone, Copy, Debug, PartialEq, Eq)]
 pub enum Mode {
-    /// Writes digits; three digits take ten bits.
+    /// Digits, three in ten bits.
     Numeric,
-    /// Writes digits, capital letters, space and `$%*+-./:`; two of these characters take eleven bits.
+    /// Digits, capital letters, space and `$%*+-./:`, two in eleven bits.
     Alphanumeric,
-    /// Writes any bytes; each byte takes eight bits.
+    /// Any bytes, each in eight bits.
     Byte,
-    /// Writes Shift JIS pairs of bytes from 8140 to 9FFC and from E040 to EBBF (hexadecimal); each pair takes thirteen
-    /// bits.
+    /// Shift JIS pairs of bytes from 8140 to 9FFC and from E040 to EBBF (hexadecimal), each in thirteen bits.
     Kanji,
 }
 
-/// Determines which modes the segments of an input may have.
+/// Which modes the segments of an input may have.
 #[derive(Clone, Copy, Debug, PartialEq, Eq)]
 pub enum Rule {
-    /// Allows all modes except kanji mode.
+    /// All modes but kanji mode.
     Auto,
     BytesOnly,
     WithKanji,
 }
 
-// The six constants below are the mode indicators of the four modes, the mode indicator of structured append, and the
-// terminator (7.4.1, Table 2).
+// Mode indicators, with that of structured append, and the terminator (7.4.1, Table 2).
 pub(crate) const TERMINATOR: u16 = 0b0000;
 
 const NUMERIC: u16 = 0b0001;
@@ -51,7 +48,6 @@ const BYTE: u16 = 0b0100;
 
 const KANJI: u16 = 0b1000;
 
-// Returns the mode indicator of `mode` (7.4.1, Table 2).
 pub(crate) fn indicator(mode: Mode) -> u16
     ensures { result ≡ indicator mode }
 {
@@ -63,7 +59,6 @@ pub(crate) fn indicator(mode: Mode) -> u16
     }
 }
 
-// Returns the mode that has the mode indicator `indicator`, or `BadMode` if none of the four modes has this indicator.
 #[tactic(auto, unfolding(crate::specs::Parsing::mode_of))]
 pub(crate) fn mode_of(indicator: u16) -> Result<Mode, ParseFault>
     ensures { result ≡ mode_of indicator }
@@ -77,7 +72,7 @@ pub(crate) fn mode_of(indicator: u16) -> Result<Mode, ParseFault>
     }
 }
 
-// Returns the width, in bits, of the character count indicator of `mode` in symbols of this version (7.4.1, Table 3).
+// (7.4.1, Table 3)
 pub(crate) fn count_width(version: Version, mode: Mode) -> u8
     ensures value { result ≡ count_width version mode }
     ensures most { result ≤ 16 }
@@ -95,8 +90,7 @@ pub(crate) fn count_width(version: Version, mode: Mode) -> u8
     }
 }
 
-// Returns the character count of a segment of `len` bytes in `mode`. In kanji mode, each character has two bytes
-// (7.4.1).
+// How many characters `len` bytes are: in kanji mode one for two bytes (7.4.1).
 pub(crate) fn character_count(mode: Mode, len: usize) -> usize
     ensures { result ≡ character_count mode len }
 {
@@ -106,7 +100,7 @@ pub(crate) fn character_count(mode: Mode, len: usize) -> usize
     }
 }
 
-// Returns the number of bytes of a segment in `mode` that has the character count `count` (7.4.1).
+// How many bytes `count` characters are (7.4.1).
 pub(crate) fn byte_count(mode: Mode, count: usize) -> usize
     requires { count < 2 ^ 16 }
     ensures { result ≡ byte_count mode count }
@@ -117,8 +111,7 @@ pub(crate) fn byte_count(mode: Mode, count: usize) -> usize
     }
 }
 
-// Returns the number of data bits of a segment that has `len` bytes in `mode`. The mode indicator and the character
-// count indicator are not data bits (7.4.3 to 7.4.6).
+// How many data bits `len` bytes take, half a kanji pair as many as a pair (7.4.3 to 7.4.6).
 pub(crate) fn payload_bits(mode: Mode, len: usize) -> usize
     requires { len < 2 ^ 20 }
     ensures { result ≡ payload_bits mode len }
@@ -138,8 +131,7 @@ pub(crate) fn payload_bits(mode: Mode, len: usize) -> usize
     }
 }
 
-// The 45 characters of alphanumeric mode. The index of a character in this array is its value in alphanumeric mode
-// (7.4.4, Table 5).
+// The index of a character is its value (7.4.4, Table 5).
 pub(crate) const CHARACTERS: [u8; 45] = *b"0123456789ABCDEFGHIJKLMNOPQRSTUVWXYZ $%*+-./:";
 
 pub(crate) fn is_digit(byte: u8) -> bool
@@ -168,7 +160,6 @@ pub(crate) fn is_kanji_pair(high: u8, low: u8) -> bool
         && (0x40 <= low && low <= 0xFC)
 }
 
-// Returns the value of `character` in alphanumeric mode: its index in the array `CHARACTERS` (7.4.4, Table 5).
 pub(crate) fn character_value(character: u8) -> u16
     requires { IsTrue (is_alphanumeric character) }
     ensures value { result ≡ character_value character }
@@ -184,8 +175,7 @@ fn place_of(character: u8) -> Option<usize>
     CHARACTERS.iter().position(|other| *other == character)
 }
 
-// Returns the value of the kanji pair with the bytes `high` and `low`: the number that kanji mode writes in 13 bits
-// (7.4.6).
+// The 13 bits of a kanji pair (7.4.6).
 #[tactic(auto, unfolding(crate::specs::Modes::kanji_value))]
 pub(crate) fn kanji_value(high: u8, low: u8) -> u16
     requires { IsTrue (is_kanji_pair high low) }

@@ -1,5 +1,4 @@
-//! Turns segments into the data codewords of a symbol: the bit stream, a terminator and pad codewords (ISO/IEC
-//! 18004:2015, 7.4.9 and 7.4.10).
+//! Data codewords: the bit stream of segments, a terminator and padding (ISO/IEC 18004:2015, 7.4.9, 7.4.10).
 
 ghost use Rattle.std.specs.Prelude.{All, Err, IfOk, OnOk, length, vec_len, ◌++◌, ◌+◌, ◌-◌, ◌<◌, ◌↔◌, ◌≡◌, ◌≤◌};
 ghost use Rattle.qr_bits.specs.Segmentation.{Covers, bits};
@@ -16,29 +15,28 @@ use crate::stream::{put_header, put_segments};
 use qr_layout::{Level, Version};
 use std::alloc::{AllocError, Global};
 
-// The number of bits of a terminator, if the symbol has room for a whole terminator (7.4.9).
+// A whole terminator (7.4.9).
 const TERMINATOR_BITS: u64 = 4;
 
-/// Returns the capacity of a symbol of this version and level: the number of bits of its data codewords.
+/// Returns the bits of all data codewords of this version and level.
 pub(crate) fn capacity(version: Version, level: Level) -> u64
     ensures value { result ≡ capacity_of version level }
     ensures first { 1 ≤ version }
     ensures last { version ≤ 40 }
     ensures least { 72 ≤ result }
 {
-    // The function `number` is called here only for the proof: its contract states that the version is from 1 to 40.
+    // (the contract of `number` says that the version is from 1 to 40)
     let _ = version.number();
     8 * u64::from(version.data_codewords(level))
 }
 
-/// Returns the data codewords of a symbol of this version and level that contains the bytes `input` in the segments
-/// `segs`. The data codewords begin with the bits of the structured append header, if there is one, and the bits of the
-/// segments. After the bits of the segments come a terminator, zero bits up to the end of a codeword, and pad
-/// codewords, as far as the symbol has room (7.4.9, 7.4.10).
+/// Returns the data codewords of this version and level that contain `input` in the segments `segs`, after the header
+/// if there is one: the bit stream, a terminator, zeros up to the end of a codeword, and pad codewords, as far as there
+/// is room (7.4.9, 7.4.10).
 ///
-/// Returns `TooLong` if the header and the segments together have more bits than the data codewords of the symbol.
-/// Apart from `TooLong`, the only error of the function `codewords` is `Memory`, which is returned if memory is
-/// refused.
+/// # Errors
+///
+/// Returns `TooLong` if header and segments have more bits than the data codewords, and `Memory` if memory is refused.
 pub fn codewords(
     alloc: Global,
     input: &[u8],
@@ -69,7 +67,7 @@ pub fn codewords(
     Ok(codewords)
 }
 
-// Appends the pad codewords EC and 11 (hexadecimal) in turn, until `codewords` has `len` codewords (7.4.10).
+// Appends EC and 11 (hexadecimal) in turn up to `len` codewords (7.4.10).
 fn pad(codewords: &mut Vec<u8>, len: usize) -> Result<(), AllocError>
     ensures written { OnOk result (codewords.new.items
         ≡ codewords.old.items ++ pads (len - vec_len codewords.old)) }

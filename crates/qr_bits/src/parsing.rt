@@ -1,10 +1,11 @@
-//! Parses data codewords: reads an optional structured append header, the segments and their bytes (ISO/IEC 18004:2015,
-//! 7.4.1 to 7.4.6, 8 and 12).
+//! Data codewords, parsed: an optional structured append header, segments and their bytes (ISO/IEC 18004:2015, 7.4.1 to
+//! 7.4.6, 8, 12).
 
 ghost use Rattle.std.specs.Prelude.{Err, IfErr, IfOk, List, OnOk, drop, length, take, ℕ, ◌%◌, ◌*◌, ◌++◌, ◌+◌, ◌<◌, ◌≡◌, ◌≤◌};
 ghost use Rattle.qr_bits.specs.Modes.{count_width, byte_count, payload_bits};
 ghost use Rattle.qr_bits.specs.Bits.{bits_of, value};
-ghost use Rattle.qr_bits.specs.Parsing.{IsFaultOf, IsResultOf, bytes_of, character, characters_of, digits_of, first_header, header_at, kanji_pair, mode_of, leading_number, pairs_of, parse, segment_at, segments_of, values_of};
+ghost use Rattle.qr_bits.specs.Parsing.{IsResultOf, bytes_of, character, characters_of, digits_of, first_header, header_at, kanji_pair, mode_of, leading_number, pairs_of, parse, segment_at, segments_of, values_of};
+ghost use Rattle.qr_bits.specs.Steps.Parsing.{IsFaultOf};
 
 use crate::bits::BitReader;
 use crate::fault::ParseFault;
@@ -15,9 +16,7 @@ use qr_layout::Version;
 use std::alloc::Global;
 use std::marker::Model;
 
-// A group of digits or characters is written as one number. The five constants below are the limits of these numbers:
-// for example, the number for three digits is less than `THREE_DIGITS`. The number for two characters is less than
-// `PAIRS`, and the number for one character is less than `SINGLES` (7.4.3, 7.4.4).
+// The number of a group of digits or characters is below these (7.4.3, 7.4.4).
 const THREE_DIGITS: u16 = 1000;
 
 const TWO_DIGITS: u16 = 100;
@@ -28,11 +27,10 @@ const PAIRS: u16 = 2025;
 
 const SINGLES: u16 = 45;
 
-// The greatest value of `value % 0xC0`, where `value` is the value of a kanji pair (7.4.6).
+// The most that the value of a kanji pair leaves after division by C0 (7.4.6).
 const LOW_MAX: u16 = 0xBC;
 
-/// The content of parsed data codewords: an optional structured append header, the segments in their order, and the
-/// bytes of all segments.
+/// What data codewords contain.
 #[derive(Debug, Drop)]
 pub struct Parsed {
     pub header: Option<Header>,
@@ -52,16 +50,14 @@ impl Model for Parsed {
     } };
 }
 
-/// Parses data codewords up to the end of the bit stream: a terminator, or the place where fewer than four bits are
-/// left. The bits after the end of the bit stream may be any bits. Unless memory is refused, the function `parse`
-/// succeeds exactly if the bits before the end of the bit stream are an optional structured append header, followed by
-/// segments. The segments that `parse` accepts may be empty, and need not take the fewest bits.
+/// Parses data codewords up to a terminator, or to where fewer than four bits are left; what follows may be anything.
+/// Segments may be empty, and need not take the fewest bits.
 ///
-/// If the parse fails, the function `parse` returns the fault that occurs first. The fault is `Memory` if memory is
-/// refused. The fault is `BadMode` if a mode indicator belongs to none of the four modes, or if a structured append
-/// header is not at the beginning of the codewords. The fault is `Cut` if the codewords end within a structured append
-/// header, a character count indicator, or the data of a segment. The fault is `BadValue` if the number for a group of
-/// digits or characters is too large, or if a value in kanji mode belongs to no kanji pair.
+/// # Errors
+///
+/// Returns the fault that comes first: `BadMode` for an indicator of none of the four modes, or of a header after the
+/// beginning; `Cut` for an end within a header, a count or data; `BadValue` for a number that is too large, or the
+/// value of no kanji pair; `Memory` if memory is refused.
 #[tactic(auto, unfolding(crate::specs::Parsing::parse))]
 pub fn parse(alloc: Global, codewords: &[u8], version: Version) -> Result<Parsed, ParseFault>
     requires { length codewords.now ≤ 3706 }
@@ -77,8 +73,7 @@ pub fn parse(alloc: Global, codewords: &[u8], version: Version) -> Result<Parsed
     })
 }
 
-// Reads a structured append header if the unread bits begin with its mode indicator; otherwise reads nothing (8.1). The
-// function does not allocate, so its fault is never `Memory`.
+// Reads a header if its mode indicator comes next (8.1).
 #[tactic(auto, unfolding(crate::specs::Parsing::first_header))]
 fn first_header(reader: &mut BitReader) -> Result<Option<Header>, ParseFault>
     ensures ok { IfOk result (λ h. first_header reader.old ≡ Ok (h, reader.new)) }
@@ -92,8 +87,7 @@ fn first_header(reader: &mut BitReader) -> Result<Option<Header>, ParseFault>
     Ok(Some(header))
 }
 
-// Reads the fields of a structured append header; the mode indicator of the header is already read (8.1). The function
-// does not allocate, so its fault is never `Memory`.
+// Reads a header after its mode indicator (8.1).
 #[tactic(auto, unfolding(crate::specs::Parsing::header_at))]
 fn header(reader: &mut BitReader) -> Result<Header, ParseFault>
     ensures ok { IfOk result (λ h. header_at reader.old ≡ Ok (h, reader.new)) }
@@ -109,8 +103,7 @@ fn header(reader: &mut BitReader) -> Result<Header, ParseFault>
     })
 }
 
-// Reads segments until the terminator comes or fewer than four bits are left. Returns the segments, and the bytes of
-// all segments.
+// Reads all segments.
 fn segments(
     alloc: Global,
     mut reader: BitReader,
@@ -128,7 +121,7 @@ fn segments(
     Ok((segments, bytes))
 }
 
-// Reads one segment, and appends its bytes to `out`.
+// Reads a segment, and appends its bytes to `out`.
 #[tactic(auto, unfolding(crate::specs::Parsing::segment_at, crate::specs::Parsing::payload_at))]
 fn segment(
     reader: &mut BitReader,
@@ -148,8 +141,7 @@ fn segment(
     Ok(Segment { mode, len })
 }
 
-// Reads the mode indicator and the character count indicator of a segment. After that, checks that the codewords
-// contain all bits of the segment's data. The function does not allocate, so its fault is never `Memory`.
+// Reads the indicators of a segment, and checks that its data are complete.
 #[tactic(auto, unfolding(crate::specs::Parsing::segment_at, crate::specs::Parsing::leading_number, crate::specs::Parsing::payload_at))]
 fn segment_head(reader: &mut BitReader, version: Version) -> Result<(Mode, u16), ParseFault>
     requires { 4 ≤ length reader.old }
@@ -171,8 +163,7 @@ fn segment_head(reader: &mut BitReader, version: Version) -> Result<(Mode, u16),
     Ok((mode, count))
 }
 
-// Reads the data of a segment in `mode`, and appends its bytes to `out`. The bits that are not read yet must contain
-// all bits of the data. `count` is the number of digits, characters, bytes or kanji pairs of the segment.
+// Reads the data of a segment of `count` characters, which are complete, and appends its bytes to `out`.
 #[tactic(auto, unfolding(crate::specs::Parsing::values_of))]
 fn values(
     reader: &mut BitReader,
@@ -226,7 +217,6 @@ fn digits(reader: &mut BitReader, count: usize, out: &mut Vec<u8>) -> Result<(),
     Ok(())
 }
 
-// Returns the last decimal digit of `number` as an ASCII byte.
 fn digit(number: u16) -> u8
     ensures { result ≡ 48 + number % 10 }
 {
@@ -259,7 +249,6 @@ fn characters(reader: &mut BitReader, count: usize, out: &mut Vec<u8>) -> Result
     Ok(())
 }
 
-// Returns the character that has the value `value` in alphanumeric mode (7.4.4, Table 5).
 #[tactic(auto, unfolding(crate::specs::Modes::characters, crate::specs::Parsing::character))]
 fn character(value: u16) -> u8
     requires { value < 45 }
@@ -300,8 +289,7 @@ fn kanji(reader: &mut BitReader, count: usize, out: &mut Vec<u8>) -> Result<(), 
     Ok(())
 }
 
-// Returns the kanji pair that has the value `value` in kanji mode. The high byte of the result is the first byte of the
-// pair (7.4.6).
+// The pair of a value, its first byte high (7.4.6).
 #[tactic(auto, unfolding(crate::specs::Parsing::kanji_pair))]
 fn kanji_pair(value: u16) -> u16
     requires { value < 8192 }

@@ -1,5 +1,4 @@
-//! Defines segments, tests whether segments cover an input, and computes the number of bits of segments (ISO/IEC
-//! 18004:2015, 7.4.1).
+//! Segments, whether they cover an input, and their bits (ISO/IEC 18004:2015, 7.4.1).
 
 ghost use Rattle.std.specs.Prelude.{All, IsTrue, sum_by, ◌+◌, ◌<◌, ◌↔◌, ◌≡◌, ◌≤◌};
 ghost use Rattle.qr_bits.specs.Segmentation.{Covers, bits, segment_bits};
@@ -7,17 +6,16 @@ ghost use Rattle.qr_bits.specs.Segmentation.{Covers, bits, segment_bits};
 use crate::modes::{INPUT_MAX, Mode, count_width, payload_bits, suits};
 use qr_layout::Version;
 
-/// A segment: `len` bytes of the input that are written in the mode `mode`. In a list of segments, the bytes of each
-/// segment directly follow the bytes of the segment before it.
+/// The next `len` bytes of the input, written in `mode`.
 #[derive(Clone, Copy, Debug, PartialEq, Eq)]
 pub struct Segment {
     pub mode: Mode,
-    /// The number of bytes of the segment. In kanji mode, each character has two bytes.
+    /// In bytes; a character of kanji mode has two.
     pub len: usize,
 }
 
-/// Returns whether the segments `segs` cover the whole `input`. The result is true if no segment is empty, the lengths
-/// of the segments add up to the length of the input, and the mode of each segment can write its bytes.
+/// Returns whether `segs`, one after the other, contain exactly `input`, where no segment is empty and each mode can
+/// write its bytes.
 pub fn covers(input: &[u8], segs: &[Segment]) -> bool
     ensures { IsTrue result ↔ Covers input.now segs.now }
 {
@@ -36,8 +34,7 @@ pub fn covers(input: &[u8], segs: &[Segment]) -> bool
     rest.is_empty()
 }
 
-/// Returns the number of bits of the segments `segs` in a symbol of this version. The returned number includes mode
-/// indicators, character count indicators and data, but no structured append header.
+/// Returns the bits of `segs` in this version, with their indicators and without a structured append header.
 pub fn bit_len(segs: &[Segment], version: Version) -> u64
     requires nonempty { All (λ s. 0 < s.len) segs.now }
     requires short { sum_by (λ s. s.len) segs.now ≤ INPUT_MAX }

@@ -1,5 +1,4 @@
-//! Writes the bit stream of a symbol: an optional structured append header, and then the segments (ISO/IEC 18004:2015,
-//! 7.4.1 to 7.4.6 and 8.1).
+//! The bit stream: an optional structured append header, then segments (ISO/IEC 18004:2015, 7.4.1 to 7.4.6, 8.1).
 
 ghost use Rattle.std.specs.Prelude.{IsTrue, OnOk, length, ◌++◌, ◌+◌, ◌-◌, ◌<◌, ◌^◌, ◌≡◌, ◌≤◌};
 ghost use Rattle.qr_bits.specs.Modes.{characters, in_twos, is_alphanumeric, is_digit, is_kanji_pair, suits};
@@ -53,7 +52,7 @@ pub(crate) fn put_segments(
     Ok(())
 }
 
-// Writes one segment: its mode indicator, its character count indicator, and its data (7.4.1).
+// (7.4.1)
 #[tactic(auto, unfolding(crate::specs::Stream::segment_stream))]
 fn put_segment(
     writer: &mut BitWriter,
@@ -86,8 +85,7 @@ fn put_payload(writer: &mut BitWriter, mode: Mode, bytes: &[u8]) -> Result<(), A
     }
 }
 
-// Writes `digits` in numeric mode. Three digits are written in ten bits. Two digits that remain at the end are written
-// in seven bits, and one digit that remains is written in four bits (7.4.3).
+// Three digits in ten bits, two or one at the end in seven or four (7.4.3).
 #[tactic(auto, unfolding(crate::specs::Stream::digit_bits), using(crate::proofs::lemmas::stream::WritingLemmas::all_rest, std::proofs::lemmas::List::append_assoc))]
 fn put_digits(writer: &mut BitWriter, digits: &[u8]) -> Result<(), AllocError>
     requires { IsTrue (list_all is_digit digits.now) }
@@ -114,8 +112,7 @@ fn digit_value(digit: u8) -> u16
     u16::from(digit - b'0')
 }
 
-// Writes `characters` in alphanumeric mode. Two characters are written in eleven bits, and one character that remains
-// at the end is written in six bits (7.4.4).
+// Two characters in eleven bits, one at the end in six (7.4.4).
 #[tactic(auto, unfolding(crate::specs::Stream::character_bits))]
 fn put_characters(writer: &mut BitWriter, characters: &[u8]) -> Result<(), AllocError>
     requires { IsTrue (list_all is_alphanumeric characters.now) }
@@ -132,7 +129,7 @@ fn put_characters(writer: &mut BitWriter, characters: &[u8]) -> Result<(), Alloc
     }
 }
 
-// Writes the kanji pairs `bytes` in kanji mode, each pair of two bytes in thirteen bits (7.4.6).
+// (7.4.6)
 #[tactic(auto, unfolding(crate::specs::Stream::kanji_bits))]
 fn put_kanji(writer: &mut BitWriter, bytes: &[u8]) -> Result<(), AllocError>
     requires { IsTrue (in_twos is_kanji_pair bytes.now) }

@@ -1,4 +1,4 @@
-//! Makes a device from a reader or a writer of the standard library. The device counts its reads, writes and flushes.
+//! Devices over what implements the standard library's `Read` or `Write`.
 
 ghost use Rattle.std.specs.Prelude.{◌≡◌, ◌↔◌};
 ghost use Rattle.std.specs.IoError.{error_kind};
@@ -8,7 +8,6 @@ ghost use Rattle.qr_devices.specs.Device.{no_reads, no_writes};
 use crate::device::{ReadCounts, Sink, Source, Trouble, WriteCounts};
 use std::io::{self, ErrorKind, Read, Write};
 
-// Returns `Interrupted` if the I/O error is an interruption, and `Failed` for every other error.
 fn trouble_of(error: io::Error) -> Trouble
     ensures { result ≡ Trouble.Interrupted ↔ error_kind error ≡ ErrorKind.Interrupted }
 {
@@ -19,9 +18,8 @@ fn trouble_of(error: io::Error) -> Trouble
     }
 }
 
-/// A device that passes its calls on to `inner`, a reader or a writer of the standard library, and counts these calls.
-/// A contract states the bytes of the device if it can know the bytes of `inner`. A contract can know the bytes of a
-/// reader or writer in memory. A contract cannot know the bytes of a file, a pipe or a terminal.
+/// Passes its calls on to `inner`, a reader or a writer, and counts them. Contracts know its bytes if they know those
+/// of `inner`, as in memory; they do not know those of a file, a pipe or a terminal.
 #[derive(Drop)]
 pub struct Counted<T> {
     inner: T,
@@ -30,7 +28,7 @@ pub struct Counted<T> {
 }
 
 impl<T> Counted<T> {
-    /// Returns a device that reads from `inner` or writes to `inner`. All counts of the device are 0.
+    /// Returns a device over `inner`, with all counts 0.
     pub fn new(inner: T) -> Self
         ensures inner { result.inner ≡ inner }
         ensures reads { result.reads ≡ no_reads }
@@ -43,7 +41,7 @@ impl<T> Counted<T> {
         }
     }
 
-    /// Returns `inner`, the reader or writer that the device was made from.
+    /// Returns the reader or writer that the device was made from.
     pub fn into_inner(self) -> T
         ensures { result ≡ self.inner }
     {

@@ -1,8 +1,7 @@
-//! Defines the traits `Source` and `Sink` for devices. The command reads its input from a `Source`, and writes its
-//! output to a `Sink`. Each device has counts, for example the number of its calls, of failed calls, and of bytes.
+//! What the command reads its input from (`Source`) and writes its output to (`Sink`).
 //!
-//! Contracts state which bytes a device reads or writes, if these bytes are known. The counts of a device are always
-//! known, so a contract can state exactly when a device caused a fault.
+//! Contracts state the bytes of a device where they are known, as in memory. Its counts are always known, so a contract
+//! can state exactly when a device caused a fault.
 
 ghost use Rattle.std.specs.Prelude.{◌≡◌, ◌≤◌, IfOk, length};
 ghost use Rattle.std.specs.Io.KnownBytes.{Keeps, ReadConsumes, WriteAppends};
@@ -10,43 +9,38 @@ ghost use Rattle.qr_devices.specs.Device.{flush_counted, read_counted, write_cou
 ghost use Rattle.qr_devices.specs.declared.device.ReadCounts.{ReadCounts};
 ghost use Rattle.qr_devices.specs.declared.device.WriteCounts.{WriteCounts};
 
-/// The greatest number of interrupted calls (EINTR) that are tried again while one input is read or one text is
-/// written. Two functions use the limit `INTERRUPTIONS_MAX`: `read_input` in `input.rt` of `qrencode_cli`, and `send`
-/// in `pen.rt` of `qr_drawing`. If 999 calls were interrupted and a further call is interrupted, the function ends with
-/// a fault.
+/// How many interrupted calls (EINTR) are tried again, counted apart for each input that is read and each text that is
+/// written. One more is a fault.
 pub const INTERRUPTIONS_MAX: u16 = 999;
 
-/// The two ways in which a read, a write or a flush of a device can fail.
+/// How a read, a write or a flush fails.
 #[derive(Clone, Copy, Debug, PartialEq, Eq)]
 pub enum Trouble {
     /// The call was interrupted (EINTR), and may be tried again.
     Interrupted,
-    /// The call failed, and is not tried again.
+    /// The call is not tried again.
     Failed,
 }
 
-/// Counts of the reads of a device: how many there were, how many failed or were interrupted, and how many bytes they
-/// returned. A count that reaches `u64::MAX` stays at this value.
+/// The reads of a device. A count stays at `u64::MAX` once it is there.
 #[derive(Clone, Copy, Debug, PartialEq, Eq)]
 pub struct ReadCounts {
-    /// The number of all reads, including failed and interrupted reads.
+    /// All reads, failed and interrupted ones too.
     pub calls: u64,
-    /// The number of reads that failed. An interrupted read is not counted as a failed read.
+    /// Reads that failed, without those that were interrupted.
     pub failed: u64,
-    /// The number of reads that were interrupted (EINTR).
+    /// Reads that were interrupted (EINTR).
     pub interrupted: u64,
-    /// The number of bytes that all reads returned together.
+    /// The bytes that all reads returned.
     pub given: u64,
-    /// The number of reads that returned 0 bytes although their buffer was not empty. A read that returns 0 bytes into
-    /// a buffer that is not empty has reached the end of the input.
+    /// Reads that reached the end of the input: they returned 0 though their buffer was not empty.
     pub ends: u64,
-    /// The number of reads that were made after an earlier read had reached the end of the input. The count `past_end`
-    /// includes reads into an empty buffer.
+    /// Reads after one that reached the end, into an empty buffer too.
     pub past_end: u64,
 }
 
 impl ReadCounts {
-    /// The counts of a device before its first read.
+    /// The counts before the first read.
     pub const NONE: ReadCounts = ReadCounts {
         calls: 0,
         failed: 0,
@@ -56,7 +50,7 @@ impl ReadCounts {
         past_end: 0,
     };
 
-    /// Adds a read into a buffer of `room` bytes to the counts. `answer` is the result that the read returned.
+    /// Counts a read into a buffer of `room` bytes that returned `answer`.
     pub fn add(&mut self, room: usize, answer: Result<usize, Trouble>)
         ensures { self.new ≡ read_counted room answer self.old }
     {
@@ -77,30 +71,29 @@ impl ReadCounts {
     }
 }
 
-/// Counts of the writes and flushes of a device: how many there were, how many failed or were interrupted, and how many
-/// bytes were accepted. A count that reaches `u64::MAX` stays at this value.
+/// The writes and flushes of a device. A count stays at `u64::MAX` once it is there.
 #[derive(Clone, Copy, Debug, PartialEq, Eq)]
 pub struct WriteCounts {
-    /// The number of all writes and flushes, including failed and interrupted writes and flushes.
+    /// All writes and flushes, failed and interrupted ones too.
     pub calls: u64,
-    /// The number of writes that failed, plus the number of flushes that failed or were interrupted.
+    /// Writes that failed, and flushes that failed or were interrupted.
     pub failed: u64,
-    /// The number of writes that were interrupted (EINTR).
+    /// Writes that were interrupted (EINTR).
     pub interrupted: u64,
-    /// The number of writes that offered at least one byte, but of which the device accepted no byte.
+    /// Writes that offered a byte and of which none was accepted.
     pub zeros: u64,
-    /// The number of bytes that the device accepted in all writes together.
+    /// The bytes that the device accepted.
     pub taken: u64,
-    /// The greatest number of bytes that one write offered.
+    /// The most bytes that one write offered.
     pub offered: usize,
-    /// The number of all flushes.
+    /// All flushes.
     pub flushes: u64,
-    /// Whether the last call of the device was a flush that succeeded.
+    /// Whether the last call was a flush that succeeded.
     pub settled: bool,
 }
 
 impl WriteCounts {
-    /// The counts of a device before its first write or flush.
+    /// The counts before the first write or flush.
     pub const NONE: WriteCounts = WriteCounts {
         calls: 0,
         failed: 0,
@@ -112,7 +105,7 @@ impl WriteCounts {
         settled: false,
     };
 
-    /// Adds a write of `len` bytes to the counts. `answer` is the result that the write returned.
+    /// Counts a write that offered `len` bytes and returned `answer`.
     pub fn add(&mut self, len: usize, answer: Result<usize, Trouble>)
         ensures { self.new ≡ write_counted len answer self.old }
     {
@@ -131,8 +124,7 @@ impl WriteCounts {
         }
     }
 
-    /// Adds a flush to the counts. `answer` is the result that the flush returned. An interrupted flush counts as
-    /// failed.
+    /// Counts a flush that returned `answer`. An interrupted flush counts as failed, since it is not tried again.
     pub fn add_flush(&mut self, answer: Result<(), Trouble>)
         ensures { self.new ≡ flush_counted answer self.old }
     {
@@ -145,42 +137,35 @@ impl WriteCounts {
     }
 }
 
-/// A device from which bytes are read. A read returns at most as many bytes as the buffer has room for. If the
-/// remaining bytes of the device are known, a read removes from them the bytes that it returns. The device adds each
-/// read, with its result, to its counts.
+/// A device from which bytes are read. It counts each read with its result.
 pub trait Source {
     ghost use Rattle.qr_devices.specs.Device.{Reader};
 
-    // What contracts state about the device: the bytes that are still to be read, if they are known, and the counts of
-    // the reads so far.
+    // The bytes that are still to be read, if they are known, and the counts of the reads.
     ghost device: { Self → Reader };
 
-    /// Reads some bytes into the beginning of `buf`, and returns the number of bytes that were read. Returns 0 only at
-    /// the end of the input, or if `buf` is empty.
+    /// Reads at most as many bytes as `buf` has room for, to its beginning, and returns how many. Returns 0 only at the
+    /// end of the input, or if `buf` is empty.
     fn read(&mut self, buf: &mut [u8]) -> Result<usize, Trouble>
         ensures bound { IfOk result (λ n. n ≤ length buf.new) }
         ensures bytes { ReadConsumes (device self.old).remaining (device self.new).remaining result buf.new }
         ensures counted { (device self.new).counts ≡ read_counted (length buf.new) result (device self.old).counts };
 }
 
-/// A device to which bytes are written. In each write, the device accepts at most as many bytes as the write offers. If
-/// the bytes that the device has accepted are known, a write appends to them the bytes that the device accepts. The
-/// device adds each write and each flush, with its result, to its counts.
+/// A device to which bytes are written. It counts each write and each flush with its result.
 pub trait Sink {
     ghost use Rattle.qr_devices.specs.Device.{Writer};
 
-    // What contracts state about the device: the bytes that the device accepted so far, if they are known, and the
-    // counts of the writes and flushes so far.
+    // The bytes that were accepted, if they are known, and the counts of the writes and flushes.
     ghost device: { Self → Writer };
 
-    /// Offers the bytes of `buf` to the device, which accepts a prefix of `buf`. Returns the number of bytes that the
-    /// device accepted.
+    /// Offers the bytes of `buf`, of which the device accepts a prefix, and returns how many it accepted.
     fn write(&mut self, buf: &[u8]) -> Result<usize, Trouble>
         ensures bound { IfOk result (λ n. n ≤ length buf.now) }
         ensures bytes { WriteAppends (device self.old).taken (device self.new).taken result buf.now }
         ensures counted { (device self.new).counts ≡ write_counted (length buf.now) result (device self.old).counts };
 
-    /// Makes the device pass on the bytes that it accepted so far.
+    /// Makes the device pass on what it accepted.
     fn flush(&mut self) -> Result<(), Trouble>
         ensures bytes { Keeps (device self.old).taken (device self.new).taken }
         ensures counted { (device self.new).counts ≡ flush_counted result (device self.old).counts };

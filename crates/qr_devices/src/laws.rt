@@ -1,7 +1,6 @@
-//! States laws of devices, which are readers and writers. The laws state how many interrupted calls are tried again,
-//! and how values of the public types are compared and cloned.
+//! Laws of devices: how often an interrupted call is tried again, what counts are, and that `==` and clones are exact.
 
-ghost use Rattle.std.specs.Prelude.{◌≡◌, ◌-◌, ◌^◌, false, Ok, Err};
+ghost use Rattle.std.specs.Prelude.{◌≡◌, ◌-◌, ◌^◌, false, Ok, Err, ◌↔◌, IsTrue, IfOk};
 ghost use Rattle.qr_devices.specs.Device.{no_reads, no_writes, read_counted, write_counted, flush_counted};
 ghost use Rattle.qr_devices.specs.Trial.{free_of, moved};
 ghost use Rattle.qr_devices.specs.declared.device.Trouble.{Trouble};
@@ -9,16 +8,12 @@ ghost use Rattle.qr_devices.specs.declared.trial.Faults.{Faults};
 ghost use Rattle.qr_devices.specs.declared.trial.Trial.{Trial};
 ghost use Rattle.qr_devices.specs.declared.device.TheConstants.{INTERRUPTIONS_MAX};
 
-pub use crate::derives::{
-    device_faults_are_equal, device_faults_clone, read_counts_are_equal, read_counts_clones,
-    trouble_clones, troubles_are_equal, write_counts_are_equal, write_counts_clones,
-};
+use crate::device::{ReadCounts, Trouble, WriteCounts};
 use crate::trial::Faults;
+use std::alloc::AllocError;
 
-/// Returns the `Faults` of a device that is never interrupted and never fails. A read from a device without faults
-/// fills the buffer. If fewer bytes remain than the buffer has room for, the read returns all bytes that remain. A
-/// write to a device without faults accepts all bytes that are offered. If the device has room for fewer bytes, the
-/// write fills this room.
+/// Returns the `Faults` of a device without interruption or failure: a read or write moves all that buffer, bytes and
+/// room allow.
 pub fn no_faults() -> Faults
     ensures at_most { result.at_most ≡ 2 ^ 64 - 1 }
     ensures interruptions { result.interruptions ≡ 0 }
@@ -29,7 +24,7 @@ pub fn no_faults() -> Faults
     Faults::NONE
 }
 
-/// At most 999 interrupted calls are tried again while one input is read or one text is written.
+/// At most 999 interrupted calls are tried again for one input or one text.
 pub fn interruptions_are_limited()
     ensures { INTERRUPTIONS_MAX ≡ 999 }
 {}
@@ -45,3 +40,59 @@ pub fn counts_compute()
         → moved m 0 5 ≡ Err Trouble.Interrupted × moved m 1 5 ≡ Ok 1 × moved m 2 5 ≡ Err Trouble.Failed }
     ensures stops { (t : Trial) → t.faults.stops_from ≡ t.writes.calls → free_of t ≡ 0 }
 {}
+
+/// `==` says whether the two are the same `Trouble`.
+pub fn troubles_are_equal(a: Trouble, b: Trouble) -> bool
+    ensures { IsTrue result ↔ (a ≡ b) }
+{
+    a == b
+}
+
+/// `==` says whether the two are the same `ReadCounts`.
+pub fn read_counts_are_equal(a: ReadCounts, b: ReadCounts) -> bool
+    ensures { IsTrue result ↔ (a ≡ b) }
+{
+    a == b
+}
+
+/// `==` says whether the two are the same `WriteCounts`.
+pub fn write_counts_are_equal(a: WriteCounts, b: WriteCounts) -> bool
+    ensures { IsTrue result ↔ (a ≡ b) }
+{
+    a == b
+}
+
+/// `==` says whether the two are the same `Faults`.
+pub fn device_faults_are_equal(a: Faults, b: Faults) -> bool
+    ensures { IsTrue result ↔ (a ≡ b) }
+{
+    a == b
+}
+
+/// A clone of a `Trouble` is equal to it.
+pub fn trouble_clones(a: Trouble) -> Result<Trouble, AllocError>
+    ensures { IfOk result (λ b. b ≡ a) }
+{
+    a.clone()
+}
+
+/// A clone of a `ReadCounts` is equal to it.
+pub fn read_counts_clones(a: ReadCounts) -> Result<ReadCounts, AllocError>
+    ensures { IfOk result (λ b. b ≡ a) }
+{
+    a.clone()
+}
+
+/// A clone of a `WriteCounts` is equal to it.
+pub fn write_counts_clones(a: WriteCounts) -> Result<WriteCounts, AllocError>
+    ensures { IfOk result (λ b. b ≡ a) }
+{
+    a.clone()
+}
+
+/// A clone of a `Faults` is equal to it.
+pub fn device_faults_clone(a: Faults) -> Result<Faults, AllocError>
+    ensures { IfOk result (λ b. b ≡ a) }
+{
+    a.clone()
+}

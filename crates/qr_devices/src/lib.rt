@@ -1,9 +1,7 @@
-//! Defines devices, which are readers and writers that count their calls and the results of their calls. A device for
-//! tests reads or writes bytes in memory, and a test determines which of its calls are interrupted or fail.
+//! Devices: readers and writers that count their calls and what came of them, over streams or, for tests, over memory.
 #![tactic(auto)]
 
 mod counted;
-mod derives;
 mod device;
 pub mod laws;
 mod trial;

@@ -1,4 +1,4 @@
-//! Defines a device over bytes in memory, for tests. A test can make the device slow, interrupted, failing or full.
+//! A device over memory, for tests, which can be slow, interrupted, failing or full.
 
 ghost use Rattle.std.specs.Prelude.{◌≡◌, ◌+◌, ◌≤◌, ◌<◌, ◌++◌, [], take, length, Some, IfOk};
 ghost use Rattle.std.specs.Vec.{vec_len, vec_capacity};
@@ -6,26 +6,23 @@ ghost use Rattle.std.specs.Vec.{vec_len, vec_capacity};
 use crate::device::{ReadCounts, Sink, Source, Trouble, WriteCounts};
 use std::alloc::{AllocError, Global};
 
-/// The ways in which a device for tests misbehaves. The reads of a device are numbered, beginning with 0. The writes
-/// and flushes of a device are numbered together, in one sequence that begins with 0.
+/// How a trial device misbehaves. Its reads are numbered from 0, its writes and flushes together from 0 too.
 #[derive(Clone, Copy, Debug, PartialEq, Eq)]
 pub struct Faults {
-    /// The greatest number of bytes that one read or write moves. The value 0 has the same effect as the value 1.
+    /// The most bytes that one read or write moves; 0 counts as 1.
     pub at_most: usize,
-    /// Each read or write with a number below `interruptions` is interrupted.
+    /// Reads and writes with a number below this are interrupted.
     pub interruptions: u64,
-    /// Each read or write with the number `fails_from` or a greater number fails. A read or write that is interrupted
-    /// because of `interruptions` does not fail.
+    /// Reads and writes from this number on fail, unless they are interrupted.
     pub fails_from: u64,
-    /// Each write with the number `stops_from` or a greater number returns 0, if it is not interrupted and does not
-    /// fail.
+    /// Writes from this number on return 0, unless they are interrupted or fail.
     pub stops_from: u64,
-    /// Whether each flush fails.
+    /// Whether every flush fails.
     pub flush_fails: bool,
 }
 
 impl Faults {
-    /// The `Faults` of a device that is never interrupted and never fails.
+    /// No interruption and no failure.
     pub const NONE: Faults = Faults {
         at_most: usize::MAX,
         interruptions: 0,
@@ -35,9 +32,9 @@ impl Faults {
     };
 }
 
-/// A device for tests: bytes in memory that are read, or room in memory for bytes that are written. A read or write
-/// moves as many bytes as the device's `Faults`, the length of the buffer, and the remaining bytes or room allow. A
-/// call fails or is interrupted exactly if the `Faults` of the device require it. A write to a full device returns 0.
+/// Bytes in memory that are read, or room for bytes that are written. A read or write moves as many bytes as its
+/// `Faults`, the buffer, and the rest of the bytes or room allow, and goes wrong exactly where the `Faults` say so. A
+/// write to a full device returns 0.
 #[derive(Drop)]
 pub struct Trial {
     bytes: Vec<u8>,
@@ -54,7 +51,11 @@ impl Trial {
     ghost use Rattle.qr_devices.specs.Device.{no_reads, no_writes};
     ghost use Rattle.qr_devices.specs.Trial.{bytes_held, bytes_left, moved};
 
-    /// Returns a device from which `bytes` can be read. The device misbehaves as `faults` describes.
+    /// Returns a device from which `bytes` are read.
+    ///
+    /// # Errors
+    ///
+    /// Returns an error if memory for the bytes is refused.
     pub fn reader(alloc: Global, bytes: &[u8], faults: Faults) -> Result<Trial, AllocError>
         ensures left { IfOk result (λ t. bytes_left t ≡ bytes.now) }
         ensures unread { IfOk result (λ t. t.reads ≡ no_reads) }
@@ -71,11 +72,11 @@ impl Trial {
         })
     }
 
-    /// Returns a device that accepts up to `room` bytes. The device misbehaves as `faults` describes.
+    /// Returns a device that accepts up to `room` bytes.
     ///
-    /// # Notes
+    /// # Errors
     ///
-    /// This call allocates the memory for all `room` bytes.
+    /// Returns an error if memory for all of them is refused, which is taken at once.
     pub fn writer(alloc: Global, room: usize, faults: Faults) -> Result<Trial, AllocError>
         ensures held { IfOk result (λ t. bytes_held t ≡ []) }
         ensures unwritten { IfOk result (λ t. t.writes ≡ no_writes) }
@@ -93,28 +94,28 @@ impl Trial {
         })
     }
 
-    /// Returns the bytes that the device contains: all bytes of a reader, or the bytes that a writer accepted so far.
+    /// Returns all bytes of a reader, read or not, or those that a writer accepted.
     pub fn bytes(&self) -> &[u8]
         ensures { result.now ≡ bytes_held self.now }
     {
         self.bytes.as_slice()
     }
 
-    /// Returns the counts of the reads of this device so far.
+    /// Returns the counts of the reads.
     pub fn reads(&self) -> ReadCounts
         ensures { result ≡ self.now.reads }
     {
         self.reads
     }
 
-    /// Returns the counts of the writes and flushes of this device so far.
+    /// Returns the counts of the writes and flushes.
     pub fn writes(&self) -> WriteCounts
         ensures { result ≡ self.now.writes }
     {
         self.writes
     }
 
-    // Copies the next `n` bytes of the device to the first `n` bytes of `buf`.
+    // Copies the next `n` bytes to the beginning of `buf`.
     fn give(&mut self, buf: &mut [u8], n: usize)
         requires there { self.old.position + n ≤ vec_len self.old.bytes }
         requires fits { n ≤ length buf.old }
@@ -129,8 +130,7 @@ impl Trial {
         self.position = end;
     }
 
-    // Returns the result of the read or write with the number `call`: the number of bytes that are moved, or the error.
-    // `there` is the greatest number of bytes that can be moved.
+    // Returns what comes of read or write `call`, of which at most `there` bytes can be moved.
     fn moved(&self, call: u64, there: usize) -> Result<usize, Trouble>
         ensures value { result ≡ moved self.now.faults call there }
         ensures bound { IfOk result (λ n. n ≤ there) }

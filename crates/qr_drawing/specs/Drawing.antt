@@ -1,4 +1,4 @@
--- Defines which bytes are written to draw symbols, for each type of drawing.
+-- Which bytes are written to draw symbols, for each type of drawing.
 use Rattle.std.specs.Prelude.{◌≡◌, ℕ, List}
 use Rattle.std.specs.List.{All, flat_map}
 use Rattle.qr_matrix.specs.Grid.{Grid}
@@ -8,14 +8,12 @@ use Rattle.qr_drawing.specs.Svg.{square_at, svg_document}
 use Rattle.qr_drawing.specs.Text.{text_drawing}
 use Rattle.qr_drawing.specs.declared.text.TextStyle.TheVariants.{Plain, Inverse, HalfBlocks}
 
--- `HaveOneSide squares` holds if all squares of modules in the list have as many rows as the first square [own]
+-- All squares have as many rows as the first [own]
 abbrev pub HaveOneSide : List Grid → Type 0
 HaveOneSide squares = All (λ g. g.side ≡ (square_at squares 0).side) squares
 
--- `drawn type margin squares` is the drawing of symbols, where `squares` lists their squares of modules. The number
--- `margin` is the width of the light margin around each symbol, in modules. If the type is ASCII, ASCIIi or UTF8, the
--- drawing consists of the texts of the symbols, one after the other. If the type is SVG, the drawing is one SVG
--- document of all symbols [own]
+-- The texts of the symbols one after the other, or one SVG document, with a light margin of `margin` modules around
+-- each symbol [own]
 abbrev pub drawn : Drawing → ℕ → List Grid → List ℕ
 drawn Ascii margin squares = flat_map (text_drawing Plain margin) squares
 drawn AsciiInverse margin squares = flat_map (text_drawing Inverse margin) squares

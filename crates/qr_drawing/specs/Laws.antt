@@ -1,11 +1,10 @@
--- Defines what a law about the characters of drawings states. The characters were worked out by hand.
+-- The characters of drawings, as they were worked out by hand.
 use Rattle.std.specs.Prelude.{◌≡◌, [], ◌∷◌, codes, true, false}
 use Rattle.qr_drawing.specs.Text.{ascii_module, half_blocks, line_count}
 use Rattle.qr_drawing.specs.declared.text.TextStyle.TheVariants.{HalfBlocks}
 
--- `CharactersOfModules` holds if modules are drawn as follows. In the style `Plain` a dark module is `##`, and a light
--- module is two spaces. In the style `HalfBlocks` one character shows two modules, one above the other. This character
--- is the space, U+2584, U+2580 or U+2588 in UTF-8. In this style, 29 rows of modules make 15 lines of text [own].
+-- In the style `Plain` a dark module is `##` and a light one two spaces; in the style `HalfBlocks` the space, U+2584,
+-- U+2580 or U+2588 in UTF-8 shows two modules, one above the other, so that 29 rows make 15 lines [own]
 pub record CharactersOfModules : Type 0 where
   pub dark : ascii_module true ≡ codes "##"
   pub light : ascii_module false ≡ codes "  "

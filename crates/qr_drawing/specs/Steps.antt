@@ -1,6 +1,4 @@
--- The definitions in the folder `Steps` describe how the program computes its results. Only the contracts of private
--- functions use the definitions in this folder. To judge the promises of public functions, a reader need not read the
--- files in this folder.
+-- Steps of the code. Only private contracts use them.
 pub mod Pen
 pub mod Writing
 pub mod Text

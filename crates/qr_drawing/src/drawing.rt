@@ -1,5 +1,4 @@
-//! Draws symbols as text or as an SVG document. A drawing shows the raster of a symbol: its square of modules with a
-//! light margin on all sides (ISO/IEC 18004:2015, 6.3.8).
+//! Draws symbols as text or as an SVG document, with a light margin around each (ISO/IEC 18004:2015, 6.3.8).
 
 ghost use Rattle.std.specs.Prelude.{◌≡◌, ◌≤◌, ◌<◌, ◌+◌, max, is_err, length, map, OnOk, OnErr};
 ghost use Rattle.std.specs.Io.KnownBytes.{Appends};
@@ -14,14 +13,14 @@ use crate::text::{TextStyle, put_texts};
 use qr_devices::Sink;
 use qr_symbol::{Matrix, Symbol};
 
-/// The types of drawing: three types of text, and SVG documents.
+/// The types of drawing.
 #[derive(Clone, Copy, Debug, PartialEq, Eq)]
 pub enum Drawing {
-    /// A text with two `#` for a dark module, and two spaces for a light module.
+    /// Text with two `#` for a dark module, and two spaces for a light one.
     Ascii,
-    /// A text with two spaces for a dark module, and two `#` for a light module.
+    /// Text with two spaces for a dark module, and two `#` for a light one.
     AsciiInverse,
-    /// A text in UTF-8, in which one character (a space or a block character) shows two modules, one above the other.
+    /// Text in UTF-8, in which one character, a space or a block character, shows two modules, one above the other.
     Utf8,
     /// A Scalable Vector Graphics document.
     Svg,
@@ -31,10 +30,10 @@ pub enum Drawing {
 pub trait HasSquare {
     ghost use Rattle.qr_matrix.specs.Grid.{Grid};
 
-    // The colours of the modules of the square, as contracts describe them.
+    // The square, as contracts see it.
     ghost grid: { Self → Grid };
 
-    /// Returns the square of modules that belongs to `self`.
+    /// Returns the square of modules.
     fn square(&self) -> &Matrix
         ensures { result.now ≡ grid self.now };
 }
@@ -55,8 +54,7 @@ impl HasSquare for Symbol {
     }
 }
 
-// Returns the width of the raster of `matrix`, which is the square of modules with its margin. The width of a raster is
-// counted in modules, and is equal to the height.
+// The width of the raster in modules, which is also its height.
 pub(crate) fn raster_width(matrix: &Matrix, margin: u8) -> u16
     ensures value { result ≡ raster_width margin matrix.now }
     ensures most { result < 1000 }
@@ -64,8 +62,7 @@ pub(crate) fn raster_width(matrix: &Matrix, margin: u8) -> u16
     2 * u16::from(margin) + u16::from(matrix.side())
 }
 
-// Returns whether the module in row `y` and column `x` of the raster of `matrix` is dark. The raster is the square of
-// modules with its light margin.
+// Whether the module in row `y` and column `x` of the raster is dark.
 #[tactic(auto, unfolding(crate::specs::Raster::is_dark_at))]
 pub(crate) fn is_dark_at(matrix: &Matrix, margin: u8, y: u16, x: u16) -> bool
     ensures { result ≡ is_dark_at margin matrix.now y x }
@@ -81,7 +78,7 @@ pub(crate) fn is_dark_at(matrix: &Matrix, margin: u8, y: u16, x: u16) -> bool
     matrix.dark((y - first) as u8, (x - first) as u8)
 }
 
-// Writes the drawing of `symbols` to `out` through the buffer `pen`. The last bytes of the drawing may remain in `pen`.
+// Writes the drawing through `pen`, which may keep its last bytes.
 fn put_drawing<S: HasSquare, W: Sink>(
     pen: &mut Pen,
     out: &mut W,
@@ -103,17 +100,17 @@ fn put_drawing<S: HasSquare, W: Sink>(
     }
 }
 
-/// Draws 1 to 16 symbols or other squares of modules. All squares must have the same side (number of rows). A drawing
-/// as text consists of the texts of all symbols, one after the other. An SVG document shows the symbols one below the
-/// other. Each symbol has a light margin of `margin` modules on all sides (ISO/IEC 18004:2015, 6.3.8).
+/// Draws 1 to 16 symbols or other squares, all of the same side, each with a light margin of `margin` modules (ISO/IEC
+/// 18004:2015, 6.3.8): as texts one after the other, or in one SVG document, one below the other.
 ///
-/// The drawing depends only on the type of drawing and on the squares with their margins. The definitions in the
-/// contract describe a text line by line, and an SVG document run by run. A run is a group of dark modules side by side
-/// in a row.
+/// The drawing depends only on its type and on the squares with their margins.
 ///
-/// Allocates no memory, and offers the writer `out` at most 1,200 bytes at a time. Interrupted writes (EINTR) are tried
-/// again, at most 999 times in all. The call fails only if the writer fails. If the call fails, the writer has accepted
-/// a prefix of the drawing. The function does not flush the writer.
+/// Allocates no memory, and offers `out` at most 1,200 bytes at a time. Interrupted writes (EINTR) are tried again, at
+/// most 999 times in all. Does not flush `out`.
+///
+/// # Errors
+///
+/// `Write`, only if the writer fails; it has then accepted a prefix of the drawing.
 pub fn draw<S: HasSquare, W: Sink>(
     symbols: &[S],
     kind: Drawing,

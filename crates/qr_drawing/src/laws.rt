@@ -1,7 +1,7 @@
-//! Laws of drawings: which characters show modules, what drawings of a small square are, how many bytes one write
-//! offers, the number of a fault, and how values of the public types are compared and cloned.
+//! Laws of drawings: which characters show modules, what small squares look like, which texts make an SVG document, how
+//! many bytes one write offers, and the number of a fault.
 
-ghost use Rattle.std.specs.Prelude.{◌≡◌, ◌==◌, ◌+◌, ◌*◌, ◌++◌, ◌∷◌, [], ℕ, codes, decimal};
+ghost use Rattle.std.specs.Prelude.{◌≡◌, ◌==◌, ◌+◌, ◌*◌, ◌++◌, ◌∷◌, [], ℕ, codes, decimal, ◌↔◌, IsTrue, IfOk};
 ghost use Rattle.qr_matrix.specs.Grid.{Grid, square};
 ghost use Rattle.qr_drawing.specs.Svg.{background, box_path, closing, declaration, foreground, opening, stack_path, svg_document};
 ghost use Rattle.qr_drawing.specs.Drawing.{drawn};
@@ -9,14 +9,12 @@ ghost use Rattle.qr_drawing.specs.declared.drawing.Drawing.TheVariants.{Ascii, A
 ghost use Rattle.qr_drawing.specs.declared.pen.TheConstants.{WRITE_MAX};
 ghost use Rattle.qr_drawing.specs.Laws.{CharactersOfModules};
 
-pub use crate::derives::{
-    draw_fault_clones, draw_faults_are_equal, drawing_clones, drawings_are_equal,
-};
+use crate::drawing::Drawing;
 use crate::pen::DrawFault;
+use std::alloc::AllocError;
 
-/// Modules are drawn with the characters that the definition `CharactersOfModules` lists for two styles of text. In the
-/// style `Plain`, two characters show one module. In the style `HalfBlocks`, one character shows two modules, one above
-/// the other. In the style `HalfBlocks`, 29 rows of modules need 15 lines of text, so the last line shows only one row.
+/// The characters of modules are those of `CharactersOfModules`. In the style `Plain` two characters show one module;
+/// in the style `HalfBlocks` one shows two, one above the other, so that 29 rows of modules need 15 lines.
 pub fn characters_of_modules()
     ensures { CharactersOfModules }
 {}
@@ -26,7 +24,7 @@ pub fn pieces_are_limited()
     ensures { WRITE_MAX ≡ 1200 }
 {}
 
-/// Drawings of a square of two by two modules, in which only the first row is dark, with a margin of one module.
+/// Drawings of squares of two by two modules, of which only the first row is dark, with a margin of one module or none.
 #[tactic(auto, unfolding(crate::specs::Raster::texts_below, crate::specs::Raster::is_dark_at, crate::specs::Svg::begins_run, crate::specs::Svg::run_length, crate::specs::Svg::run_path, crate::specs::Svg::row_path, crate::specs::Svg::symbol_path, crate::specs::Svg::stack_path, crate::specs::Svg::declaration, crate::specs::Svg::foreground, crate::specs::Svg::closing, crate::specs::Svg::svg_document, qr_matrix::specs::Grid::rows_of, qr_matrix::specs::Grid::colour))]
 pub fn drawings_compute()
     ensures ascii { drawn Ascii 1 (square 2 (λ r c. r == 0) ∷ []) ≡ codes "        \n  ####  \n        \n        \n" }
@@ -54,4 +52,32 @@ pub fn draw_fault_numbers(fault: DrawFault) -> u8
     ensures { result ≡ 1 }
 {
     fault as u8
+}
+
+/// `==` says whether the two are the same `Drawing`.
+pub fn drawings_are_equal(a: Drawing, b: Drawing) -> bool
+    ensures { IsTrue result ↔ (a ≡ b) }
+{
+    a == b
+}
+
+/// `==` says whether the two are the same `DrawFault`.
+pub fn draw_faults_are_equal(a: DrawFault, b: DrawFault) -> bool
+    ensures { IsTrue result ↔ (a ≡ b) }
+{
+    a == b
+}
+
+/// A clone of a `Drawing` is equal to it.
+pub fn drawing_clones(a: Drawing) -> Result<Drawing, AllocError>
+    ensures { IfOk result (λ b. b ≡ a) }
+{
+    a.clone()
+}
+
+/// A clone of a `DrawFault` is equal to it.
+pub fn draw_fault_clones(a: DrawFault) -> Result<DrawFault, AllocError>
+    ensures { IfOk result (λ b. b ≡ a) }
+{
+    a.clone()
 }

@@ -2,7 +2,6 @@
 //! document.
 #![tactic(auto)]
 
-mod derives;
 mod drawing;
 pub mod laws;
 mod pen;

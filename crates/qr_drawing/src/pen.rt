@@ -10,10 +10,10 @@ use arrayvec::ArrayVec;
 use qr_devices::{INTERRUPTIONS_MAX, Sink, Trouble};
 use thiserror::Error;
 
-/// The greatest number of bytes that one write offers to the writer.
+/// The greatest number of bytes that one write offers.
 pub const WRITE_MAX: usize = 1200;
 
-/// The reason why a drawing was not written to its end.
+/// Why a drawing was not written to its end.
 #[derive(Clone, Copy, Debug, PartialEq, Eq, Error)]
 pub enum DrawFault {
     /// The writer failed, accepted no byte of a write, or was interrupted for the 1,000th time.
@@ -21,8 +21,7 @@ pub enum DrawFault {
     Write = 1,
 }
 
-/// A buffer through which a drawing is written. `piece` contains the bytes that are not written yet, and `interrupted`
-/// is the number of writes that were interrupted so far.
+/// The pen. The bytes of `piece` are not written yet, and `interrupted` writes were interrupted so far.
 #[derive(Drop)]
 pub(crate) struct Pen {
     pub(crate) piece: ArrayVec<u8, 1200>,
@@ -30,10 +29,8 @@ pub(crate) struct Pen {
     ghost few: { interrupted < 1000 },
 }
 
-// Offers `bytes` to the writer `out`, at most 1,200 bytes at a time, until the writer has accepted all of them.
-// Interrupted writes (EINTR) are tried again, at most 999 times in one drawing or one text. `interrupted` is the number
-// of writes that were interrupted before this call. Returns `interrupted` plus the number of writes that were
-// interrupted during this call.
+// Offers `bytes` to the writer until it has accepted all of them. `interrupted` is the number of interrupted writes
+// before this call, and the result is this number after it.
 fn send<W: Sink>(out: &mut W, bytes: &[u8], interrupted: u16) -> Result<u16, DrawFault>
     requires { interrupted < 1000 }
     ensures writes { MatchResult result
@@ -66,7 +63,6 @@ fn send<W: Sink>(out: &mut W, bytes: &[u8], interrupted: u16) -> Result<u16, Dra
     Ok(tries)
 }
 
-/// Appends `bytes` to `text`, which must have room for these bytes.
 #[inline(always)]
 pub(crate) fn push_all(text: &mut ArrayVec<u8, 1200>, bytes: &[u8])
     requires room { array_vec_len text.old + length bytes.now ≤ 1200 }
@@ -90,7 +86,7 @@ impl Pen {
         }
     }
 
-    /// Writes all bytes in the pen, which is the buffer of a drawing, to the writer `out`, and empties the pen.
+    /// Writes all bytes in the pen.
     #[inline(never)]
     pub(crate) fn empty<W: Sink>(&mut self, out: &mut W) -> Result<(), DrawFault>
         ensures writes { Reserves (W.device out.old) (W.device out.new)
@@ -102,8 +98,7 @@ impl Pen {
         Ok(())
     }
 
-    /// Makes room for `room` bytes in the pen, which is the buffer of a drawing. If the pen has room for fewer than
-    /// `room` bytes, writes the bytes in the pen to the writer `out`, and empties the pen.
+    /// Makes room for `room` bytes: if there is less, writes all bytes in the pen.
     #[inline(always)]
     pub(crate) fn reserve<W: Sink>(&mut self, out: &mut W, room: usize) -> Result<(), DrawFault>
         requires { room ≤ 1200 }
@@ -118,9 +113,12 @@ impl Pen {
     }
 }
 
-/// Writes `text` to the writer `out`, at most 1,200 bytes at a time. The writer accepts the whole text, or a prefix of
-/// the text if the writer fails. Interrupted writes (EINTR) are tried again, at most 999 times in one call. The
-/// function does not flush the writer.
+/// Writes `text`, at most 1,200 bytes at a time. Interrupted writes (EINTR) are tried again, at most 999 times in one
+/// call. Does not flush `out`.
+///
+/// # Errors
+///
+/// `Write`, only if the writer fails; it has then accepted a prefix of `text`.
 pub fn write_text<W: Sink>(text: &[u8], out: &mut W) -> Result<(), DrawFault>
     ensures ok { OnOk result (Appends (W.device out.old).taken (W.device out.new).taken text.now) }
     ensures err { OnErr result (AppendsBeginning (W.device out.old).taken (W.device out.new).taken text.now) }

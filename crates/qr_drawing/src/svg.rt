@@ -1,5 +1,5 @@
-//! Draws symbols as a Scalable Vector Graphics document. The document has one path, which consists of boxes: one box
-//! around each run of dark modules in a row.
+//! Draws symbols as a Scalable Vector Graphics document with one path, which has a box around each run of dark modules
+//! in a row. `top` is the number of rows of the document above a symbol and its margin.
 
 ghost use Rattle.std.specs.Prelude.{◌≡◌, ◌≤◌, ◌<◌, ◌+◌, ◌*◌, ◌++◌, ◌∷◌, [], decimal, length, map};
 ghost use Rattle.arrayvec.specs.ArrayVec.{array_vec_len};
@@ -15,18 +15,17 @@ use itoa::Buffer;
 use qr_devices::Sink;
 use qr_symbol::Matrix;
 
-// The greatest number of bytes of a box. A box is the part of the path that surrounds one run of dark modules (dark
-// modules side by side in a row).
+// The greatest number of bytes of a box.
 const BOX_MAX: usize = 32;
 
-// The greatest number of bytes of an SVG document before the first box of its path.
+// The greatest number of bytes before the first box.
 const HEAD_MAX: usize = 300;
 
-// The number of bytes of an SVG document after the last box of its path.
+// The number of bytes after the last box.
 const TAIL: usize = 11;
 
-// Appends `digit`, which is from 0 to 9, to `text`. The numbers of the path are appended digit by digit, since the
-// crate `itoa` would need 36 % more instructions to draw the largest symbol.
+// Appends a digit. The path's numbers are appended digit by digit, since the crate `itoa` would need 36 % more
+// instructions to draw the largest symbol.
 fn push_digit(text: &mut ArrayVec<u8, 1200>, digit: u16)
     requires digit { digit < 10 }
     requires room { array_vec_len text.old < 1200 }
@@ -36,7 +35,6 @@ fn push_digit(text: &mut ArrayVec<u8, 1200>, digit: u16)
     text.push(b'0' + digit as u8);
 }
 
-// Appends `number`, which has one or two decimal digits, to `text`.
 #[tactic(auto, using(crate::proofs::lemmas::svg::DigitLemmas::one_digit, crate::proofs::lemmas::svg::DigitLemmas::more_digits))]
 fn push_two(text: &mut ArrayVec<u8, 1200>, number: u16)
     requires number { number < 100 }
@@ -52,7 +50,6 @@ fn push_two(text: &mut ArrayVec<u8, 1200>, number: u16)
     }
 }
 
-// Appends `number`, which has one to three decimal digits, to `text`.
 #[tactic(auto, using(crate::proofs::lemmas::svg::DigitLemmas::more_digits))]
 fn push_three(text: &mut ArrayVec<u8, 1200>, number: u16)
     requires number { number < 1000 }
@@ -68,7 +65,6 @@ fn push_three(text: &mut ArrayVec<u8, 1200>, number: u16)
     }
 }
 
-// Appends `number` in decimal digits to `text`.
 #[tactic(auto, using(crate::proofs::lemmas::svg::DigitLemmas::more_digits))]
 fn push_number(text: &mut ArrayVec<u8, 1200>, number: u16)
     requires room { array_vec_len text.old + 5 ≤ 1200 }
@@ -84,8 +80,7 @@ fn push_number(text: &mut ArrayVec<u8, 1200>, number: u16)
     }
 }
 
-// Appends to `text` the box (part of the path) around a run of `modules` dark modules side by side. The run begins in
-// row `y` and column `x` of the document.
+// Appends the box around `modules` dark modules, of which the first is in row `y` and column `x` of the document.
 #[tactic(auto, unfolding(crate::specs::Svg::box_path, crate::specs::Svg::numbered))]
 fn push_box(text: &mut ArrayVec<u8, 1200>, x: u16, y: u16, modules: u16)
     requires room { array_vec_len text.old + 32 ≤ 1200 }
@@ -102,7 +97,6 @@ fn push_box(text: &mut ArrayVec<u8, 1200>, x: u16, y: u16, modules: u16)
     text.push(b'z');
 }
 
-// Appends `bytes` and then `number` in decimal digits to `text`.
 #[tactic(auto, unfolding(crate::specs::Svg::numbered))]
 fn push_numbered(text: &mut ArrayVec<u8, 1200>, bytes: &[u8], number: u16)
     requires room { array_vec_len text.old + length bytes.now + 5 ≤ 1200 }
@@ -114,7 +108,6 @@ fn push_numbered(text: &mut ArrayVec<u8, 1200>, bytes: &[u8], number: u16)
     push_all(text, digits.format(number).as_bytes());
 }
 
-// Appends to `text` the line that opens an SVG document of `width` by `height` modules.
 fn push_opening(text: &mut ArrayVec<u8, 1200>, width: u16, height: u16)
     requires room { array_vec_len text.old + 120 ≤ 1200 }
     ensures items { text.new.items ≡ text.old.items ++ opening width height }
@@ -126,7 +119,6 @@ fn push_opening(text: &mut ArrayVec<u8, 1200>, width: u16, height: u16)
     push_all(text, b"\" shape-rendering=\"crispEdges\">\n");
 }
 
-// Appends to `text` the line that draws the white background of an SVG document of `width` by `height` modules.
 #[tactic(auto, unfolding(crate::specs::Svg::background))]
 fn push_background(text: &mut ArrayVec<u8, 1200>, width: u16, height: u16)
     requires room { array_vec_len text.old + 80 ≤ 1200 }
@@ -138,8 +130,7 @@ fn push_background(text: &mut ArrayVec<u8, 1200>, width: u16, height: u16)
     push_all(text, b"\" fill=\"#ffffff\"/>\n");
 }
 
-// Appends to `text` all lines before the path of an SVG document, and the beginning of the line with the path. The SVG
-// document is `width` modules wide and `height` modules high.
+// Appends all that comes before the first box.
 fn push_head(text: &mut ArrayVec<u8, 1200>, width: u16, height: u16)
     requires room { array_vec_len text.old + 300 ≤ 1200 }
     ensures { text.new.items ≡ text.old.items ++ head width height }
@@ -150,9 +141,7 @@ fn push_head(text: &mut ArrayVec<u8, 1200>, width: u16, height: u16)
     push_all(text, b"<path fill=\"#000000\" d=\"");
 }
 
-// For each run of dark modules in row `row` of `matrix`, writes the path of the box around the run. The text goes to
-// the writer `out` through the buffer `pen`. `top` is the number of rows of modules that the document has above the
-// symbol `matrix` and its margin.
+// Writes the boxes of row `row` of `matrix`.
 fn put_row<W: Sink>(
     pen: &mut Pen,
     out: &mut W,
@@ -180,8 +169,7 @@ fn put_row<W: Sink>(
     Ok(())
 }
 
-// Writes the boxes around all runs of dark modules of `matrix` through the buffer `pen`. `top` is the number of rows of
-// modules that the document has above the symbol `matrix` and its margin.
+// Writes the boxes of a symbol.
 fn put_symbol<W: Sink>(
     pen: &mut Pen,
     out: &mut W,
@@ -199,8 +187,7 @@ fn put_symbol<W: Sink>(
     Ok(())
 }
 
-// Writes the boxes around the runs of dark modules of all symbols through the buffer `pen`. The symbols are drawn one
-// below the other.
+// Writes the boxes of all symbols, one symbol below the other.
 fn put_stack<S: HasSquare, W: Sink>(
     pen: &mut Pen,
     out: &mut W,
@@ -221,8 +208,7 @@ fn put_stack<S: HasSquare, W: Sink>(
     Ok(())
 }
 
-/// Writes the SVG document of `symbols` through the buffer `pen`. All symbols have the same side (number of rows), and
-/// are drawn one below the other.
+/// Writes the SVG document of `symbols`.
 pub(crate) fn put_document<S: HasSquare, W: Sink>(
     pen: &mut Pen,
     out: &mut W,

@@ -1,5 +1,6 @@
-//! Draws symbols as lines of text. A line of text consists of cells. A cell is two characters that show one module, or
-//! one character that shows two modules, one above the other.
+//! Draws symbols as lines of text, cell by cell. Of several modules in a number, the leftmost is bit 0, and a set bit
+//! is dark. In the style `HalfBlocks` a cell shows a module `upper` and the module `lower` below it, and in the others
+//! only `upper`.
 
 ghost use Rattle.std.specs.Prelude.{◌≡◌, ℕ, ◌≤◌, ◌<◌, ◌+◌, ◌-◌, ◌*◌, ◌/◌, ◌%◌, ◌++◌, ◌∷◌, [], false, map, IfSome};
 ghost use Rattle.std.specs.List.{flat_map};
@@ -16,19 +17,18 @@ use arrayvec::ArrayVec;
 use qr_devices::Sink;
 use qr_symbol::Matrix;
 
-/// The ways in which a text shows modules.
+/// How a text shows modules.
 #[derive(Clone, Copy)]
 pub(crate) enum TextStyle {
-    /// A cell is two characters that show one module: two `#` for a dark module, and two spaces for a light module.
+    /// Two `#` show a dark module, and two spaces a light one.
     Plain,
-    /// A cell is two characters that show one module: two spaces for a dark module, and two `#` for a light module.
+    /// Two spaces show a dark module, and two `#` a light one.
     Inverse,
-    /// A cell is one character that shows two modules, one above the other: a space or a block character.
+    /// One character, a space or a block character, shows two modules, one above the other.
     HalfBlocks,
 }
 
-// Returns the greatest number of bytes of a cell in the style `style`. A cell is the text that shows one module, or two
-// modules, one above the other.
+// The greatest number of bytes of a cell.
 fn cell_room(style: TextStyle) -> usize
     ensures value { result ≡ cell_room style }
     ensures most { result ≤ 3 }
@@ -39,8 +39,7 @@ fn cell_room(style: TextStyle) -> usize
     }
 }
 
-// Returns the first row of modules that line `y` of the text shows. In the style `HalfBlocks` a line of text shows two
-// rows of modules, and in the styles `Plain` and `Inverse` one row.
+// The first row of modules that line `y` shows.
 fn top_row(style: TextStyle, y: u16) -> u16
     requires { y < 1000 }
     ensures value { result ≡ top_row style y }
@@ -52,7 +51,7 @@ fn top_row(style: TextStyle, y: u16) -> u16
     }
 }
 
-// Returns the number of lines of text that show `rows` rows of modules in the style `style`.
+// The number of lines that show `rows` rows of modules.
 fn line_count(style: TextStyle, rows: u16) -> u16
     requires { rows < 1000 }
     ensures value { result ≡ line_count style rows }
@@ -64,7 +63,6 @@ fn line_count(style: TextStyle, rows: u16) -> u16
     }
 }
 
-// Appends two characters, which show one module, to `text`.
 fn push_module(text: &mut ArrayVec<u8, 1200>, dark: bool)
     requires room { array_vec_len text.old + 2 ≤ 1200 }
     ensures { text.new.items ≡ text.old.items ++ ascii_module dark }
@@ -73,8 +71,7 @@ fn push_module(text: &mut ArrayVec<u8, 1200>, dark: bool)
     push_all(text, &[character; 2]);
 }
 
-// Appends one character, which shows two modules, one above the other, to `text`. The filled parts of a block character
-// are light modules.
+// Appends one character, whose filled parts are light modules.
 fn push_half_block(text: &mut ArrayVec<u8, 1200>, upper: bool, lower: bool)
     requires room { array_vec_len text.old + 3 ≤ 1200 }
     ensures items { text.new.items ≡ text.old.items ++ half_blocks upper lower }
@@ -94,8 +91,6 @@ fn push_half_block(text: &mut ArrayVec<u8, 1200>, upper: bool, lower: bool)
     text.push(last);
 }
 
-// Appends a cell, which shows one or two modules, to `text`. In the style `HalfBlocks` the cell shows the module
-// `upper` and the module `lower` below it. In the styles `Plain` and `Inverse` the cell shows only the module `upper`.
 fn push_cell(text: &mut ArrayVec<u8, 1200>, style: TextStyle, upper: bool, lower: bool)
     requires room { array_vec_len text.old + cell_room style ≤ 1200 }
     ensures { text.new.items ≡ text.old.items ++ cell_text style upper lower }
@@ -107,8 +102,7 @@ fn push_cell(text: &mut ArrayVec<u8, 1200>, style: TextStyle, upper: bool, lower
     }
 }
 
-// Returns the row of `matrix` that row `row` of the raster shows. Returns `None` if `row` is a row of the margin or
-// below the raster. The raster is the square of modules with its margin.
+// The row of `matrix` that row `row` of the raster shows, or `None` in the margin and below the raster.
 #[tactic(auto, using(crate::proofs::lemmas::svg::PathLemmas::is_dark_at_above, crate::proofs::lemmas::svg::PathLemmas::is_dark_at_below))]
 fn square_row(matrix: &Matrix, margin: u8, row: u16) -> Option<u8>
     ensures { ShowsRow margin matrix.now row result }
@@ -123,9 +117,7 @@ fn square_row(matrix: &Matrix, margin: u8, row: u16) -> Option<u8>
     Some((row - first) as u8)
 }
 
-// Returns the colours of eight modules of row `row` of `matrix`, from column `col` on, as the bits of a number. `col`
-// must be a multiple of eight. Bit 0 is the module in column `col`, and a set bit is a dark module. Bits of columns
-// outside the square may have any value. If `row` is `None`, all eight bits are 0.
+// Eight modules of row `row` of `matrix`, from column `col` on; all are light if `row` is `None`.
 #[inline(always)]
 #[tactic(auto, using(crate::proofs::lemmas::text::CellLemmas::dark_none))]
 fn dark_bits(matrix: &Matrix, row: Option<u8>, col: u8) -> u8
@@ -140,8 +132,7 @@ fn dark_bits(matrix: &Matrix, row: Option<u8>, col: u8) -> u8
     }
 }
 
-// The 16 texts that show four modules side by side, with two characters for each module. The index of a text has one
-// bit for each module: bit 0 is the first module, and a set bit is a dark module.
+// The text of four modules, for each number of four bits.
 static ASCII_QUADS: [[u8; 8]; 16] = [
     *b"        ",
     *b"##      ",
@@ -161,8 +152,7 @@ static ASCII_QUADS: [[u8; 8]; 16] = [
     *b"########",
 ];
 
-// Returns the text that shows four modules side by side, with two characters for each module. Bit 0 of `bits` is the
-// first module, and a set bit is a dark module.
+// The text of four modules.
 fn ascii_quad(bits: u8) -> &'static [u8; 8]
     requires { bits < 16 }
     ensures { result.now ≡ bits_text 4 Plain bits 0 }
@@ -170,8 +160,8 @@ fn ascii_quad(bits: u8) -> &'static [u8; 8]
     &ASCII_QUADS[usize::from(bits)]
 }
 
-// Appends two characters, which show two modules and the two modules below them, to `text`. Bits 0 and 1 of `pair` are
-// the upper modules, and bits 2 and 3 are the lower modules. A set bit is a dark module.
+// Appends two characters, for two modules and the two below them: bits 0 and 1 of `pair` are the upper modules, and
+// bits 2 and 3 the lower.
 #[inline(always)]
 #[tactic(auto, unfolding(qr_matrix::specs::BitRow::has_bit, crate::specs::Raster::texts_below))]
 fn push_half_block_pair(text: &mut ArrayVec<u8, 1200>, pair: u8)
@@ -200,8 +190,7 @@ fn push_half_block_pair(text: &mut ArrayVec<u8, 1200>, pair: u8)
     }
 }
 
-// Appends four characters, which show four modules and the four modules below them, to `text`. Bit 0 of `upper` is the
-// first upper module, and bit 0 of `lower` is the module below the first upper module. A set bit is a dark module.
+// As `push_half_block_pair`, for four modules and the four below them.
 #[inline(always)]
 #[tactic(auto, using(crate::proofs::lemmas::text::CellLemmas::half_block_pairs))]
 fn push_half_block_quad(text: &mut ArrayVec<u8, 1200>, upper: u8, lower: u8)
@@ -213,8 +202,7 @@ fn push_half_block_quad(text: &mut ArrayVec<u8, 1200>, upper: u8, lower: u8)
     push_half_block_pair(text, upper / 4 % 4 + lower / 4 % 4 * 4);
 }
 
-// Appends four cells, each of which shows one or two modules, to `text`. Cell i (counted from 0) shows the module of
-// bit i of `upper`, and in the style `HalfBlocks` also the module of bit i of `lower`. A set bit is a dark module.
+// Appends the cells of bits 0 to 3.
 #[inline(always)]
 #[tactic(auto, using(crate::proofs::lemmas::text::CellLemmas::quad_plain, crate::proofs::lemmas::text::CellLemmas::quad_inverse))]
 fn push_quad(text: &mut ArrayVec<u8, 1200>, style: TextStyle, upper: u8, lower: u8)
@@ -229,8 +217,7 @@ fn push_quad(text: &mut ArrayVec<u8, 1200>, style: TextStyle, upper: u8, lower: 
     }
 }
 
-// Returns the text that shows eight modules side by side, with two characters for each module. Bit 0 of `bits` is the
-// first module, and a set bit is a dark module.
+// The text of eight modules.
 fn ascii_eight(bits: u8) -> [u8; 16]
     ensures { result ≡ bits_text 8 Plain bits 0 }
 {
@@ -240,8 +227,7 @@ fn ascii_eight(bits: u8) -> [u8; 16]
     text
 }
 
-// Appends eight cells, each of which shows one or two modules, to `text`. Cell i (counted from 0) shows the module of
-// bit i of `upper`, and in the style `HalfBlocks` also the module of bit i of `lower`. A set bit is a dark module.
+// Appends the cells of bits 0 to 7.
 #[inline(always)]
 #[tactic(auto, using(crate::proofs::lemmas::text::CellLemmas::eight_quads, crate::proofs::lemmas::text::CellLemmas::eight_plain, crate::proofs::lemmas::text::CellLemmas::eight_inverse))]
 fn push_eight(text: &mut ArrayVec<u8, 1200>, style: TextStyle, upper: u8, lower: u8)
@@ -258,8 +244,7 @@ fn push_eight(text: &mut ArrayVec<u8, 1200>, style: TextStyle, upper: u8, lower:
     }
 }
 
-// Appends `count` cells, in which all modules are light, to `text`. Each cell shows one light module, or two light
-// modules, one above the other.
+// Appends `count` cells of light modules.
 #[inline(always)]
 fn push_light(text: &mut ArrayVec<u8, 1200>, style: TextStyle, count: u16)
     requires room { array_vec_len text.old + count * cell_room style ≤ 1200 }
@@ -270,8 +255,7 @@ fn push_light(text: &mut ArrayVec<u8, 1200>, style: TextStyle, count: u16)
     }
 }
 
-// Appends `count` cells to `text`, which show row `row` of the raster from column `first` on. The raster is the square
-// of modules with its margin. In the style `HalfBlocks` each cell also shows the module in row `row + 1`.
+// Appends `count` cells of row `row` of the raster, from column `first` on.
 #[inline(always)]
 fn push_cells(
     text: &mut ArrayVec<u8, 1200>,
@@ -295,10 +279,8 @@ fn push_cells(
     }
 }
 
-// Appends cells to `text`, which show row `row` of the raster without the margin. The raster is the square of modules
-// with its margin. In the style `HalfBlocks` each cell also shows the module in row `row + 1`. Eight cells are appended
-// at a time, and then four cells if at least four columns remain. The last columns of the square, fewer than four, are
-// not appended.
+// Appends the cells of row `row` of the raster, without the margin: eight columns at a time, then four if as many are
+// left. The last columns, fewer than four, are left out.
 #[inline(always)]
 fn push_columns(
     text: &mut ArrayVec<u8, 1200>,
@@ -329,10 +311,8 @@ fn push_columns(
     }
 }
 
-// Writes line `y` of the text through the buffer `pen`, in three parts. The first part of the line is the left margin.
-// The second part of the line shows all columns of the symbol but the last ones, eight or four columns at a time. The
-// third part of the line shows the last columns of the symbol, fewer than four, and then the right margin and the
-// newline.
+// Writes line `y` in three parts: the left margin; all columns but the last, fewer than four; these columns with the
+// right margin and the newline.
 #[inline(always)]
 fn put_line<W: Sink>(
     pen: &mut Pen,
@@ -369,7 +349,7 @@ fn put_line<W: Sink>(
     Ok(())
 }
 
-// Draws the symbol `matrix` as lines of text, which are written through the buffer `pen`.
+// Writes a symbol as lines of text.
 #[inline(never)]
 fn put_lines<W: Sink>(
     pen: &mut Pen,
@@ -388,9 +368,7 @@ fn put_lines<W: Sink>(
     }
 }
 
-// Draws the symbol `matrix` as lines of text, as the function `put_lines` does. The function `put_lines` contains one
-// call of this function for each style. The compiler inlines this function at each call, together with the functions
-// that it calls. In each inlined copy the style is fixed, so no loop has to test the style.
+// As `put_lines`, but inlined once for each style, so that no loop has to test it.
 #[inline(always)]
 fn put_lines_of<W: Sink>(
     pen: &mut Pen,
@@ -408,7 +386,7 @@ fn put_lines_of<W: Sink>(
     Ok(())
 }
 
-/// Draws all symbols as lines of text, one symbol after the other. The lines are written through the buffer `pen`.
+/// Writes all symbols as lines of text, one symbol after the other.
 pub(crate) fn put_texts<S: HasSquare, W: Sink>(
     pen: &mut Pen,
     out: &mut W,

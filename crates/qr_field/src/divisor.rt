@@ -1,5 +1,5 @@
-//! Divides the data codewords of blocks by a generator polynomial (ISO/IEC 18004:2015, 7.5.2). The code computes
-//! multiples of the generator polynomial only once, before the first division.
+//! The division by a generator polynomial, a codeword at a time (ISO/IEC 18004:2015, 7.5.2). Its multiples are computed
+//! once: the one for a codeword is the sum of those for its low and its high four bits.
 
 ghost use Rattle.std.specs.Prelude.{◌≡◌, ◌≤◌, ℕ, List, length};
 ghost use Rattle.qr_field.specs.Steps.Register.{HasMultiples, divisor_of, packed, value_of};
@@ -10,15 +10,12 @@ use crate::register::Register;
 use arrayvec::ArrayVec;
 use std::marker::Model;
 
-/// A `Divisor` contains multiples of the generator polynomial for n error correction codewords. The multiples of the
-/// generator polynomial are computed once and can be used for many blocks. In contracts, the value of a `Divisor` is
-/// the number n of error correction codewords.
+/// The multiples of a generator polynomial, for any number of blocks. Contracts see a divisor as its number of error
+/// correction codewords.
 #[derive(Drop)]
 pub struct Divisor {
     count: usize,
-    // `low` and `high` contain multiples of the coefficients that follow the leading 1 of the generator polynomial. The
-    // factors of the multiples in `low` are the numbers 0 to 15. The factors of the multiples in `high` are the numbers
-    // 0 to 15, shifted left by four bits.
+    // The coefficients after the leading 1, times 0 to 15, and times 0 to 15 shifted left by four bits.
     low: [Register; 16],
     high: [Register; 16],
 }
@@ -35,8 +32,8 @@ impl Model for Divisor {
         × HasMultiples (divisor_of d.count) 4 16 d.high };
 }
 
-// Returns 16 multiples of the coefficients `terms`. Entry i of the result contains the coefficients `terms`, each
-// multiplied in the field of 256 elements by the number i shifted left by `shift` bits.
+// Entry i of the result is `terms` times i shifted left by `shift` bits: the sum of the entry of i's highest bit and
+// that of the rest of i.
 fn multiples(terms: &[u8], shift: u8) -> [Register; 16]
     requires long { length terms.now ≤ 30 }
     requires small { shift ≤ 4 }
@@ -54,7 +51,7 @@ fn multiples(terms: &[u8], shift: u8) -> [Register; 16]
 }
 
 impl Divisor {
-    /// Returns the divisor that computes `n` error correction codewords for a block, where `n` is from 1 to 30.
+    /// Returns the divisor for `n` error correction codewords a block, from 1 to 30.
     pub fn new(n: usize) -> Divisor
         requires least { 1 ≤ n }
         requires most { n ≤ 30 }
@@ -68,8 +65,7 @@ impl Divisor {
         }
     }
 
-    /// Returns the number of error correction codewords that this divisor computes for a block. The returned number is
-    /// from 1 to 30.
+    /// Returns the number of error correction codewords a block, from 1 to 30.
     pub fn count(&self) -> usize
         ensures is { result ≡ self.now }
         ensures least { 1 ≤ result }
@@ -78,8 +74,6 @@ impl Divisor {
         self.count
     }
 
-    // Returns the coefficients that follow the leading 1 of the generator polynomial, each multiplied by `factor` in
-    // the field of 256 elements.
     fn multiple(&self, factor: u8) -> Register
         ensures { value_of result ≡ packed (scaled factor (divisor_of self.now)) }
     {
@@ -87,10 +81,8 @@ impl Divisor {
         self.low[place & 0xF].plus(self.high[place >> 4])
     }
 
-    /// Returns the error correction codewords of a block with the data codewords `message` (ISO/IEC 18004:2015, 7.5.2).
-    /// The coefficients of the polynomial of a block are the data codewords, followed by the error correction
-    /// codewords. Among all lists that are as long as the returned list, only the returned list makes the polynomial of
-    /// the block a multiple of the generator polynomial.
+    /// Returns the error correction codewords of a block with the data codewords `message`: the one list of `count`
+    /// bytes that, after them, makes a multiple of the generator polynomial (ISO/IEC 18004:2015, 7.5.2).
     pub fn correction(&self, message: &[u8]) -> ArrayVec<u8, 30>
         ensures definition { IsCorrection message.now self.now result.items }
         ensures only { (e : List ℕ) → IsCorrection message.now self.now e → e ≡ result.items }

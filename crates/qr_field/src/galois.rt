@@ -1,16 +1,14 @@
-//! Computes products and quotients in the field of 256 elements, which is used to compute error correction codewords
-//! (ISO/IEC 18004:2015, 7.5.2). Each element of the field is a byte. For the definition of a product, a byte is read as
-//! a polynomial whose coefficients are the bits of the byte. The sum of two elements is their exclusive or.
+//! Products and quotients in the field of 256 elements (ISO/IEC 18004:2015, 7.5.2). An element is a byte, read as a
+//! polynomial whose coefficients are its bits; the sum of two is their exclusive or. Logarithms turn a product into a
+//! sum.
 
 ghost use Rattle.std.specs.Prelude.{◌≡◌, ◌≤◌, ℕ};
 ghost use Rattle.qr_field.specs.Galois.{IsProduct, product};
 
 use crate::logarithm::{logarithm, power_of};
 
-/// Returns the product of `a` and `b` in the field of 256 elements (ISO/IEC 18004:2015, 7.5.2). The carryless product
-/// of two bytes is the product of the two polynomials that have the bits of the bytes as their coefficients. The
-/// product of `a` and `b` in the field is the only byte that differs from the carryless product of `a` and `b` by a
-/// multiple of the field's modulus polynomial.
+/// Returns the product of two elements: their product as polynomials over bits, less a multiple of the prime modulus
+/// polynomial (ISO/IEC 18004:2015, 7.5.2).
 pub fn mul(a: u8, b: u8) -> u8
     ensures definition { IsProduct a b result }
     ensures only { (p : ℕ) → IsProduct a b p → p ≡ result }
@@ -24,8 +22,7 @@ pub fn mul(a: u8, b: u8) -> u8
     power_of(exponent as u8)
 }
 
-/// Returns the quotient of `a` divided by `b` in the field of 256 elements (ISO/IEC 18004:2015, 7.5.2). The quotient is
-/// the element whose product with `b` is `a`. The divisor `b` must not be 0.
+/// Returns the element whose product with `b`, which is not 0, is `a` (ISO/IEC 18004:2015, 7.5.2).
 pub fn div(a: u8, b: u8) -> u8
     requires { 1 ≤ b }
     ensures { product result b ≡ a }

@@ -1,4 +1,4 @@
--- Defines how the codewords of a symbol are divided into blocks, for each version and each error correction level.
+-- How the codewords of a symbol of version `v` at level `l` are divided into blocks.
 use Rattle.std.specs.Prelude.{◌≡◌, ℕ, ◌≤◌, ◌-◌, ◌+◌, ◌*◌, ◌/◌, ◌%◌, min, List, [], ◌∷◌}
 use Rattle.std.specs.List.{slice_index_or}
 use Rattle.qr_layout.specs.declared.blocks.Blocks.{Blocks}
@@ -6,39 +6,34 @@ use Rattle.qr_layout.specs.declared.level.Level.{Level}
 use Rattle.qr_layout.specs.declared.level.Level.TheVariants.{L, M, Q, H}
 use Rattle.qr_layout.specs.Version.{total_codewords_of}
 
--- `correction_table l` lists the number of error correction codewords of each block at level l, for each of the
--- versions 1 to 40 (ISO/IEC 18004:2015, 7.5.1, Table 9)
+-- The error correction codewords of each block, for each of the versions 1 to 40 (ISO/IEC 18004:2015, 7.5.1, Table 9)
 abbrev pub correction_table : Level → List ℕ
 correction_table L = 7 ∷ 10 ∷ 15 ∷ 20 ∷ 26 ∷ 18 ∷ 20 ∷ 24 ∷ 30 ∷ 18 ∷ 20 ∷ 24 ∷ 26 ∷ 30 ∷ 22 ∷ 24 ∷ 28 ∷ 30 ∷ 28 ∷ 28 ∷ 28 ∷ 28 ∷ 30 ∷ 30 ∷ 26 ∷ 28 ∷ 30 ∷ 30 ∷ 30 ∷ 30 ∷ 30 ∷ 30 ∷ 30 ∷ 30 ∷ 30 ∷ 30 ∷ 30 ∷ 30 ∷ 30 ∷ 30 ∷ []
 correction_table M = 10 ∷ 16 ∷ 26 ∷ 18 ∷ 24 ∷ 16 ∷ 18 ∷ 22 ∷ 22 ∷ 26 ∷ 30 ∷ 22 ∷ 22 ∷ 24 ∷ 24 ∷ 28 ∷ 28 ∷ 26 ∷ 26 ∷ 26 ∷ 26 ∷ 28 ∷ 28 ∷ 28 ∷ 28 ∷ 28 ∷ 28 ∷ 28 ∷ 28 ∷ 28 ∷ 28 ∷ 28 ∷ 28 ∷ 28 ∷ 28 ∷ 28 ∷ 28 ∷ 28 ∷ 28 ∷ 28 ∷ []
 correction_table Q = 13 ∷ 22 ∷ 18 ∷ 26 ∷ 18 ∷ 24 ∷ 18 ∷ 22 ∷ 20 ∷ 24 ∷ 28 ∷ 26 ∷ 24 ∷ 20 ∷ 30 ∷ 24 ∷ 28 ∷ 28 ∷ 26 ∷ 30 ∷ 28 ∷ 30 ∷ 30 ∷ 30 ∷ 30 ∷ 28 ∷ 30 ∷ 30 ∷ 30 ∷ 30 ∷ 30 ∷ 30 ∷ 30 ∷ 30 ∷ 30 ∷ 30 ∷ 30 ∷ 30 ∷ 30 ∷ 30 ∷ []
 correction_table H = 17 ∷ 28 ∷ 22 ∷ 16 ∷ 22 ∷ 28 ∷ 26 ∷ 26 ∷ 24 ∷ 28 ∷ 24 ∷ 28 ∷ 22 ∷ 24 ∷ 24 ∷ 30 ∷ 28 ∷ 28 ∷ 26 ∷ 28 ∷ 30 ∷ 24 ∷ 30 ∷ 30 ∷ 30 ∷ 30 ∷ 30 ∷ 30 ∷ 30 ∷ 30 ∷ 30 ∷ 30 ∷ 30 ∷ 30 ∷ 30 ∷ 30 ∷ 30 ∷ 30 ∷ 30 ∷ 30 ∷ []
 
--- `block_table l` lists the number of blocks of a symbol at level l, for each of the versions 1 to 40 (ISO/IEC
--- 18004:2015, 7.5.1, Table 9)
+-- The number of blocks, for each of the versions 1 to 40 (ISO/IEC 18004:2015, 7.5.1, Table 9)
 abbrev pub block_table : Level → List ℕ
 block_table L = 1 ∷ 1 ∷ 1 ∷ 1 ∷ 1 ∷ 2 ∷ 2 ∷ 2 ∷ 2 ∷ 4 ∷ 4 ∷ 4 ∷ 4 ∷ 4 ∷ 6 ∷ 6 ∷ 6 ∷ 6 ∷ 7 ∷ 8 ∷ 8 ∷ 9 ∷ 9 ∷ 10 ∷ 12 ∷ 12 ∷ 12 ∷ 13 ∷ 14 ∷ 15 ∷ 16 ∷ 17 ∷ 18 ∷ 19 ∷ 19 ∷ 20 ∷ 21 ∷ 22 ∷ 24 ∷ 25 ∷ []
 block_table M = 1 ∷ 1 ∷ 1 ∷ 2 ∷ 2 ∷ 4 ∷ 4 ∷ 4 ∷ 5 ∷ 5 ∷ 5 ∷ 8 ∷ 9 ∷ 9 ∷ 10 ∷ 10 ∷ 11 ∷ 13 ∷ 14 ∷ 16 ∷ 17 ∷ 17 ∷ 18 ∷ 20 ∷ 21 ∷ 23 ∷ 25 ∷ 26 ∷ 28 ∷ 29 ∷ 31 ∷ 33 ∷ 35 ∷ 37 ∷ 38 ∷ 40 ∷ 43 ∷ 45 ∷ 47 ∷ 49 ∷ []
 block_table Q = 1 ∷ 1 ∷ 2 ∷ 2 ∷ 4 ∷ 4 ∷ 6 ∷ 6 ∷ 8 ∷ 8 ∷ 8 ∷ 10 ∷ 12 ∷ 16 ∷ 12 ∷ 17 ∷ 16 ∷ 18 ∷ 21 ∷ 20 ∷ 23 ∷ 23 ∷ 25 ∷ 27 ∷ 29 ∷ 34 ∷ 34 ∷ 35 ∷ 38 ∷ 40 ∷ 43 ∷ 45 ∷ 48 ∷ 51 ∷ 53 ∷ 56 ∷ 59 ∷ 62 ∷ 65 ∷ 68 ∷ []
 block_table H = 1 ∷ 1 ∷ 2 ∷ 4 ∷ 4 ∷ 4 ∷ 5 ∷ 6 ∷ 8 ∷ 8 ∷ 11 ∷ 11 ∷ 16 ∷ 16 ∷ 18 ∷ 16 ∷ 19 ∷ 21 ∷ 25 ∷ 25 ∷ 25 ∷ 34 ∷ 30 ∷ 32 ∷ 35 ∷ 37 ∷ 40 ∷ 42 ∷ 45 ∷ 48 ∷ 51 ∷ 54 ∷ 57 ∷ 60 ∷ 63 ∷ 66 ∷ 70 ∷ 74 ∷ 77 ∷ 81 ∷ []
 
--- `correction_len_of v l` is the number of error correction codewords of each block of a symbol of version v at level l
--- (ISO/IEC 18004:2015, 7.5.1, Table 9)
+-- The number of error correction codewords of each block (ISO/IEC 18004:2015, 7.5.1, Table 9)
 unfoldable pub correction_len_of : ℕ → Level → ℕ
 correction_len_of v l = slice_index_or (correction_table l) (v - 1) 0
 
--- `block_count_of v l` is the number of blocks of a symbol of version v at level l (ISO/IEC 18004:2015, 7.5.1, Table 9)
+-- The number of blocks (ISO/IEC 18004:2015, 7.5.1, Table 9)
 unfoldable pub block_count_of : ℕ → Level → ℕ
 block_count_of v l = slice_index_or (block_table l) (v - 1) 0
 
--- `data_codewords_of v l` is the number of data codewords of a symbol of version v at level l. All codewords that are
--- not error correction codewords are data codewords (ISO/IEC 18004:2015, 7.4.10, Table 7)
+-- The number of data codewords: all that are not error correction codewords (ISO/IEC 18004:2015, 7.4.10, Table 7)
 unfoldable pub data_codewords_of : ℕ → Level → ℕ
 data_codewords_of v l = total_codewords_of v - block_count_of v l * correction_len_of v l
 
--- `blocks_of v l` contains the sizes of the blocks of a symbol of version v at level l. The data codewords are divided
--- evenly among the blocks. If the division leaves a remainder, the blocks at the end are long blocks, which have one
--- data codeword more than the blocks before them (ISO/IEC 18004:2015, 7.5.1, Table 9)
+-- The data codewords are divided evenly among the blocks, and if some remain, each of the last blocks, the long ones,
+-- has one more (ISO/IEC 18004:2015, 7.5.1, Table 9)
 abbrev pub blocks_of : ℕ → Level → Blocks
 blocks_of v l = record {
   short = block_count_of v l - data_codewords_of v l % block_count_of v l;
@@ -47,25 +42,20 @@ blocks_of v l = record {
   ec_len = correction_len_of v l;
 }
 
--- `longest_of b` is the number of codewords of the longest block, if the blocks have the sizes b. This number includes
--- the data codewords and the error correction codewords (ISO/IEC 18004:2015, 7.5.1, Table 9)
+-- The number of all codewords of the longest block (ISO/IEC 18004:2015, 7.5.1, Table 9)
 abbrev pub longest_of : Blocks → ℕ
 longest_of b = b.short_len + min b.long 1 + b.ec_len
 
--- `damage_of l` is a percentage of the codewords of a block at the error correction level l. Let t be half the number
--- of error correction codewords of the block, rounded down. In every version, `damage_of l` percent of the codewords
--- are no more than t codewords. If at most t codewords of a block are misread, the codewords that were read determine
--- the undamaged block [own]
+-- How many percent of a block's codewords may be misread, in every version, while what was read determines the block:
+-- no more than half its error correction codewords, rounded down [own]
 abbrev pub damage_of : Level → ℕ
 damage_of L = 9
 damage_of M = 17
 damage_of Q = 23
 damage_of H = 30
 
--- `AreWhole v l b` holds if blocks with the sizes b together have all codewords of a symbol of version v at level l.
--- These codewords are the data codewords and the error correction codewords. At least one block is a short block, which
--- has one data codeword less than a long block. Each block has at least one data codeword, and from 1 to 30 error
--- correction codewords (ISO/IEC 18004:2015, 7.5.1)
+-- Blocks of the sizes `b` have together all data and error correction codewords of the symbol (ISO/IEC 18004:2015,
+-- 7.5.1)
 pub record AreWhole (v : ℕ) (l : Level) (b : Blocks) : Type 0 where
   pub some : 1 ≤ b.short
   pub some_len : 1 ≤ b.short_len

@@ -1,34 +1,30 @@
--- Defines the number of modules on a side of a symbol, and how many codewords and remainder bits a symbol has. These
--- numbers have a meaning only for the versions 1 to 40.
+-- The side, the codewords and the remainder bits of a symbol of version `v`, which is from 1 to 40.
 use Rattle.std.specs.Prelude.{ℕ, ◌-◌, ◌+◌, ◌*◌, List, [], ◌∷◌}
 use Rattle.std.specs.List.{slice_index_or}
 
--- `side_of v` is the number of modules on a side of a symbol of version v (ISO/IEC 18004:2015, 6.3.2)
+-- The number of modules on a side (ISO/IEC 18004:2015, 6.3.2)
 abbrev pub side_of : ℕ → ℕ
 side_of v = 17 + 4 * v
 
--- `total_table` lists the number of codewords of a symbol for each of the versions 1 to 40 (ISO/IEC 18004:2015, 7.1,
--- Table 1)
+-- The number of codewords for each of the versions 1 to 40 (ISO/IEC 18004:2015, 7.1, Table 1)
 abbrev pub total_table : List ℕ
 total_table =
     26 ∷ 44 ∷ 70 ∷ 100 ∷ 134 ∷ 172 ∷ 196 ∷ 242 ∷ 292 ∷ 346 ∷ 404 ∷ 466 ∷ 532 ∷ 581 ∷ 655 ∷ 733 ∷ 815 ∷ 901 ∷ 991 ∷ 1085 ∷ 1156 ∷ 1258 ∷ 1364 ∷ 1474 ∷ 1588 ∷ 1706 ∷ 1828 ∷ 1921 ∷ 2051 ∷ 2185 ∷ 2323 ∷ 2465 ∷ 2611 ∷ 2761 ∷ 2876 ∷ 3034 ∷ 3196 ∷ 3362 ∷ 3532 ∷ 3706 ∷ []
 
--- `remainder_table` lists the number of remainder bits of a symbol for each of the versions 1 to 40 (ISO/IEC
--- 18004:2015, 7.1, Table 1)
+-- The number of remainder bits for each of the versions 1 to 40 (ISO/IEC 18004:2015, 7.1, Table 1)
 abbrev pub remainder_table : List ℕ
 remainder_table =
     0 ∷ 7 ∷ 7 ∷ 7 ∷ 7 ∷ 7 ∷ 0 ∷ 0 ∷ 0 ∷ 0 ∷ 0 ∷ 0 ∷ 0 ∷ 3 ∷ 3 ∷ 3 ∷ 3 ∷ 3 ∷ 3 ∷ 3 ∷ 4 ∷ 4 ∷ 4 ∷ 4 ∷ 4 ∷ 4 ∷ 4 ∷ 3 ∷ 3 ∷ 3 ∷ 3 ∷ 3 ∷ 3 ∷ 3 ∷ 0 ∷ 0 ∷ 0 ∷ 0 ∷ 0 ∷ 0 ∷ []
 
--- `total_codewords_of v` is the number of codewords of a symbol of version v (ISO/IEC 18004:2015, 7.1, Table 1)
+-- The number of codewords (ISO/IEC 18004:2015, 7.1, Table 1)
 unfoldable pub total_codewords_of : ℕ → ℕ
 total_codewords_of v = slice_index_or total_table (v - 1) 0
 
--- `remainder_bits_of v` is the number of remainder bits of a symbol of version v. Remainder bits fill the modules that
--- are left over after all codewords are placed (ISO/IEC 18004:2015, 7.1, Table 1)
+-- The number of remainder bits, which fill the modules that are left after all codewords (ISO/IEC 18004:2015, 7.1,
+-- Table 1)
 unfoldable pub remainder_bits_of : ℕ → ℕ
 remainder_bits_of v = slice_index_or remainder_table (v - 1) 0
 
--- `module_count_of v` is the number of modules that the codewords and the remainder bits of a symbol of version v fill
--- (ISO/IEC 18004:2015, 7.1, Table 1)
+-- The number of modules that codewords and remainder bits fill (ISO/IEC 18004:2015, 7.1, Table 1)
 abbrev pub module_count_of : ℕ → ℕ
 module_count_of v = 8 * total_codewords_of v + remainder_bits_of v

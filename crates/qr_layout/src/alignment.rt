@@ -1,4 +1,5 @@
-//! Computes the places of the alignment patterns in a symbol (ISO/IEC 18004:2015, 6.3.6 and Annex E).
+//! The centres of the alignment patterns (ISO/IEC 18004:2015, 6.3.6 and Annex E). The rows of centres have the same
+//! indices as the columns, which are `centres` below; `side` is the number of modules on a side.
 
 ghost use Rattle.std.specs.Prelude.{◌≡◌, ◌≤◌, ◌-◌, ◌+◌, ◌&&◌, ◌++◌, ◌∷◌, [], if◌then◌else◌, not, length, nat_le, nat_lt};
 ghost use Rattle.std.specs.List.{list_any, flat_map};
@@ -11,9 +12,7 @@ use crate::region::Module;
 use crate::version::Version;
 use arrayvec::ArrayVec;
 
-// Contains, for each of the versions 1 to 40, the rows in which alignment patterns have their centres (ISO/IEC
-// 18004:2015, Annex E, Table E.1). The columns of the centres have the same numbers as the rows. The list of each
-// version is filled up with zeros to seven numbers.
+// The rows of centres for each of the versions 1 to 40, filled up with zeros (ISO/IEC 18004:2015, Annex E, Table E.1).
 static CENTRES: [[u8; 7]; 40] = [
     [0, 0, 0, 0, 0, 0, 0],
     [6, 18, 0, 0, 0, 0, 0],
@@ -57,8 +56,7 @@ static CENTRES: [[u8; 7]; 40] = [
     [6, 30, 58, 86, 114, 142, 170],
 ];
 
-// Returns the rows in which the alignment patterns of version `v` have their centres. The columns of the centres have
-// the same numbers as the rows.
+// The rows of centres, in rising order.
 pub(crate) fn centre_list(v: Version) -> &'static [u8]
     ensures { result.now ≡ centres_of v }
 {
@@ -72,9 +70,8 @@ pub(crate) fn centre_list(v: Version) -> &'static [u8]
 }
 
 impl Version {
-    /// Returns the rows in which the alignment patterns of this version have their centres, in rising order. The
-    /// columns of the centres have the same numbers as the rows. For version 1 the returned list is empty, since
-    /// symbols of version 1 have no alignment pattern.
+    /// Returns the rows in which alignment patterns have their centres, in rising order; the columns have the same
+    /// numbers. Version 1 has none.
     pub fn centres(self) -> ArrayVec<u8, 7>
         ensures { result.items ≡ centres_of self }
     {
@@ -86,8 +83,7 @@ impl Version {
     }
 }
 
-// Returns whether the distance between `at` and `centre` is at most two. Both numbers are rows, or both numbers are
-// columns.
+// Whether two rows, or two columns, are at most two apart.
 fn is_near(centre: u8, at: u8) -> bool
     ensures { result ≡ (nat_le (centre - 2) at && nat_lt at (centre + 3)) }
 {
@@ -98,9 +94,7 @@ fn is_near(centre: u8, at: u8) -> bool
     }
 }
 
-// If row `a` and column `b` contain centres of alignment patterns, returns whether this row and this column meet in a
-// corner with a finder pattern. No alignment pattern has its centre in a corner with a finder pattern. `side` is the
-// number of modules on a side of the symbol.
+// Whether row `a` and column `b` of centres meet in a corner with a finder pattern, where no alignment pattern is.
 pub(crate) fn is_corner_pair(side: u8, a: u8, b: u8) -> bool
     requires { 21 ≤ side }
     ensures { result ≡ is_corner_pair side a b }
@@ -109,8 +103,7 @@ pub(crate) fn is_corner_pair(side: u8, a: u8, b: u8) -> bool
     a == 6 && b == 6 || a == 6 && b == last || a == last && b == 6
 }
 
-// Returns whether column `col` crosses an alignment pattern whose centre is in row `a`. `centres` contains the columns
-// of all centres, and `side` is the number of modules on a side of the symbol.
+// Whether column `col` crosses an alignment pattern whose centre is in row `a`.
 fn is_beside(centres: &[u8], side: u8, a: u8, col: u8) -> bool
     requires { 21 ≤ side }
     ensures { result ≡ list_any (λ b. nat_le (b - 2) col && nat_lt col (b + 3)
@@ -121,9 +114,7 @@ fn is_beside(centres: &[u8], side: u8, a: u8, col: u8) -> bool
         .any(|b| is_near(*b, col) && !is_corner_pair(side, a, *b))
 }
 
-// Returns whether the module in row `row` and column `col` is in an alignment pattern. `centres` contains the rows of
-// all centres; the columns of the centres have the same numbers as the rows. `side` is the number of modules on a side
-// of the symbol.
+// Whether the module is at most two rows and columns from a centre, and so in an alignment pattern.
 fn is_on_centre(centres: &[u8], side: u8, row: u8, col: u8) -> bool
     requires { 21 ≤ side }
     ensures { result ≡ list_any (λ a. nat_le (a - 2) row && nat_lt row (a + 3)
@@ -135,7 +126,7 @@ fn is_on_centre(centres: &[u8], side: u8, row: u8, col: u8) -> bool
         .any(|a| is_near(*a, row) && is_beside(centres, side, *a, col))
 }
 
-// Returns whether the module in row `row` and column `col` is in an alignment pattern of version `v`.
+// As `is_on_centre`, for version `v`.
 #[tactic(auto, using(crate::proofs::lemmas::alignment::AlignmentLemmas::alignment_parts))]
 pub(crate) fn is_in_alignment(v: Version, row: u8, col: u8) -> bool
     ensures { result ≡ is_alignment v row col }
@@ -145,8 +136,7 @@ pub(crate) fn is_in_alignment(v: Version, row: u8, col: u8) -> bool
     is_on_centre(centres, side, row, col)
 }
 
-// Appends the centres of the alignment patterns in row `row` to `places`, from left to right. `centres` contains the
-// columns of all centres, and `side` is the number of modules on a side of the symbol.
+// Appends the centres in row `row`, from left to right.
 fn push_centres(places: &mut ArrayVec<Module, 49>, centres: &[u8], side: u8, row: u8)
     requires side_in { 21 ≤ side }
     requires room { array_vec_len places.old + length centres.now ≤ 49 }
@@ -161,8 +151,8 @@ fn push_centres(places: &mut ArrayVec<Module, 49>, centres: &[u8], side: u8, row
     }
 }
 
-/// Returns the centres of the alignment patterns of version `v`, row by row from the top, and from left to right in
-/// each row.
+/// Returns the centres of the alignment patterns of version `v`, row by row from the top, and in each row from left to
+/// right.
 pub fn alignment_centres(v: Version) -> ArrayVec<Module, 49>
     ensures { result.items ≡ alignment_places (side_of v) (centres_of v) }
 {

@@ -1,4 +1,4 @@
-//! Divides the codewords of a symbol into blocks for error correction (ISO/IEC 18004:2015, 7.5.1, Table 9).
+//! Divides the codewords of a symbol into blocks (ISO/IEC 18004:2015, 7.5.1, Table 9).
 
 ghost use Rattle.std.specs.Prelude.{◌≡◌};
 ghost use Rattle.qr_layout.specs.Blocks.{correction_len_of, block_count_of, data_codewords_of, blocks_of};
@@ -6,8 +6,7 @@ ghost use Rattle.qr_layout.specs.Blocks.{correction_len_of, block_count_of, data
 use crate::level::Level;
 use crate::version::Version;
 
-// The number of error correction codewords of each block. The four lists belong to the levels L, M, Q and H, and each
-// list has a number for each of the versions 1 to 40.
+// The error correction codewords of each block, for the levels L, M, Q and H, and for the versions 1 to 40.
 static CORRECTION_LENS: [[u8; 40]; 4] = [
     [
         7, 10, 15, 20, 26, 18, 20, 24, 30, 18, 20, 24, 26, 30, 22, 24, 28, 30, 28, 28, 28, 28, 30,
@@ -27,8 +26,7 @@ static CORRECTION_LENS: [[u8; 40]; 4] = [
     ],
 ];
 
-// The number of blocks of a symbol. The four lists belong to the levels L, M, Q and H, and each list has a number for
-// each of the versions 1 to 40.
+// The number of blocks, in the order of `CORRECTION_LENS`.
 static BLOCK_COUNTS: [[u8; 40]; 4] = [
     [
         1, 1, 1, 1, 1, 2, 2, 2, 2, 4, 4, 4, 4, 4, 6, 6, 6, 6, 7, 8, 8, 9, 9, 10, 12, 12, 12, 13,
@@ -48,9 +46,8 @@ static BLOCK_COUNTS: [[u8; 40]; 4] = [
     ],
 ];
 
-/// The sizes of the blocks of a symbol. The symbol has `short` short blocks, followed by `long` long blocks. A short
-/// block has `short_len` data codewords, and a long block has `short_len + 1` data codewords. Every block has `ec_len`
-/// error correction codewords.
+/// The sizes of the blocks: `short` blocks of `short_len` data codewords, then `long` blocks of `short_len + 1`. Every
+/// block has `ec_len` error correction codewords.
 #[derive(Clone, Copy, Debug, PartialEq, Eq)]
 pub struct Blocks {
     pub short: u8,
@@ -84,9 +81,8 @@ impl Version {
         counts[usize::from(self.number() - 1)]
     }
 
-    /// Returns the number of data codewords of a symbol of this version at the error correction level `level` (ISO/IEC
-    /// 18004:2015, 7.4.10, Table 7). The least number of data codewords of a symbol is 9 (version 1 at level H), and
-    /// the greatest number is 2,956 (version 40 at level L).
+    /// Returns the number of data codewords at a level, from 9 in version 1 at level H to 2,956 in version 40 at level
+    /// L (ISO/IEC 18004:2015, 7.4.10, Table 7).
     pub fn data_codewords(self, level: Level) -> u16
         ensures { result ≡ data_codewords_of self level }
     {
@@ -94,7 +90,7 @@ impl Version {
             - u16::from(self.block_count(level)) * u16::from(self.correction_len(level))
     }
 
-    /// Returns the sizes of the blocks of a symbol of this version at the error correction level `level`.
+    /// Returns the sizes of the blocks at a level.
     pub fn blocks(self, level: Level) -> Blocks
         ensures { result ≡ blocks_of self level }
     {

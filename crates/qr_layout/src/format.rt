@@ -1,5 +1,4 @@
-//! Contains the bits of the format information and of the version information of a symbol (ISO/IEC 18004:2015, 7.9 and
-//! 7.10).
+//! The bits of the format information and of the version information (ISO/IEC 18004:2015, 7.9 and 7.10).
 
 ghost use Rattle.std.specs.Prelude.{◌≡◌, ◌≤◌, ◌<◌, SomeIff};
 ghost use Rattle.qr_layout.specs.Format.{format_word_of, version_word_of};
@@ -7,9 +6,8 @@ ghost use Rattle.qr_layout.specs.Format.{format_word_of, version_word_of};
 use crate::level::Level;
 use crate::version::Version;
 
-// The 15 bits of format information for each level and mask pattern (ISO/IEC 18004:2015, Annex C, Table C.1). The index
-// of an entry has five bits: the two bits of the level, followed by the three bits of the mask pattern. Each entry is
-// already combined with the bits 101010000010010 by exclusive or.
+// The 15 bits of format information, already combined with 101010000010010 by exclusive or (ISO/IEC 18004:2015, Annex
+// C, Table C.1). The index is the two bits of the level, then the three bits of the mask.
 static FORMAT_WORDS: [u16; 32] = [
     0x5412, 0x5125, 0x5E7C, 0x5B4B, 0x45F9, 0x40CE, 0x4F97, 0x4AA0, 0x77C4, 0x72F3, 0x7DAA, 0x789D,
     0x662F, 0x6318, 0x6C41, 0x6976, 0x1689, 0x13BE, 0x1CE7, 0x19D0, 0x0762, 0x0255, 0x0D0C, 0x083B,
@@ -24,8 +22,7 @@ static VERSION_WORDS: [u32; 34] = [
     0x2542E, 0x26A64, 0x27541, 0x28C69,
 ];
 
-/// Returns the 15 bits of format information for the error correction level `level` and the mask pattern with the
-/// number `mask` (0 to 7).
+/// Returns the 15 bits of format information for a level and a mask from 0 to 7.
 pub fn format_word(level: Level, mask: u8) -> u16
     requires { mask < 8 }
     ensures { result ≡ format_word_of level mask }
@@ -40,8 +37,7 @@ pub fn format_word(level: Level, mask: u8) -> u16
 }
 
 impl Version {
-    /// Returns the 18 bits of version information of this version. Returns `None` for the versions 1 to 6, whose
-    /// symbols have no version information.
+    /// Returns the 18 bits of version information, or `None` for the versions 1 to 6, which have none.
     pub fn version_word(self) -> Option<u32>
         ensures { SomeIff result (7 ≤ self) (version_word_of self) }
     {

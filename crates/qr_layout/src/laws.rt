@@ -1,8 +1,7 @@
-//! Laws about the layout of symbols, for every version, level and mask pattern. The contract of each function states a
-//! law. Only four functions of this file compute a value: `nth_place`, `first_version`, `default_module` and
-//! `default_rectangle`.
+//! Laws of the layout, for every version, level and mask. The contract of a function is its law; only `nth_place`,
+//! `first_version`, `default_module` and `default_rectangle` compute a value.
 
-ghost use Rattle.std.specs.Prelude.{◌≡◌, ◌<◌, ◌≤◌, ◌-◌, ◌*◌, ◌/◌, ◌⊎◌, ◌↔◌, ◌||◌, not, true, ℕ, List, ◌∷◌, ◌++◌, length, map, slice_get};
+ghost use Rattle.std.specs.Prelude.{◌≡◌, ◌<◌, ◌≤◌, ◌-◌, ◌*◌, ◌/◌, ◌⊎◌, ◌↔◌, ◌||◌, not, true, ℕ, List, ◌∷◌, ◌++◌, length, map, slice_get, IsTrue, IfOk};
 ghost use Rattle.std.specs.List.{list_any, range_with_len};
 ghost use Rattle.qr_layout.specs.declared.region.Module.{Module};
 ghost use Rattle.qr_layout.specs.declared.level.Level.TheVariants.{L, M, Q, H};
@@ -12,51 +11,47 @@ ghost use Rattle.qr_layout.specs.Blocks.{correction_len_of, data_codewords_of, b
 ghost use Rattle.qr_layout.specs.Format.{five_bits, format_word_of, version_word_of, IsFormatWord, IsVersionWord};
 ghost use Rattle.qr_layout.specs.Alignment.{centres_of};
 ghost use Rattle.qr_layout.specs.Region.{is_alignment, is_in_region, InRegion};
-ghost use Rattle.qr_layout.specs.Rectangles.{fixed_rectangles, is_in_rectangle};
+ghost use Rattle.qr_layout.specs.Rectangles.{AreFixed, is_in_rectangle};
+ghost use Rattle.qr_layout.specs.declared.rectangles.Rectangle.{Rectangle};
 ghost use Rattle.qr_layout.specs.Order.{IsOrder, number_of, places_passing};
-ghost use Rattle.qr_layout.specs.Role.{first_place, second_place, version_place, transposed, role_of};
+ghost use Rattle.qr_layout.specs.Role.{first_place, second_place, version_place, mirror_of, role_of};
 ghost use Rattle.qr_layout.specs.Laws.{all_versions, printed_correction, printed_data, spaced_centres, region_size, row_6, row_8, column_8, alignment_figure, finder_figure, version_figure};
 
-pub use crate::derives::{
-    blocks_are_equal, blocks_clones, level_clones, levels_are_equal, module_clones,
-    modules_are_equal, rectangle_clones, role_clones, roles_are_equal, strip_clones,
-    strips_are_equal, version_clones, versions_are_equal,
-};
+use crate::blocks::Blocks;
 use crate::level::Level;
 use crate::order::walk;
 use crate::rectangles::Rectangle;
 use crate::region::Module;
+use crate::role::Role;
+use crate::strips::Strip;
 use crate::version::Version;
+use std::alloc::AllocError;
 
-/// For each version, at most one list of modules satisfies the definition `IsOrder`. A list that satisfies `IsOrder`
-/// contains the modules of the encoding region in the order in which they are filled.
+/// A version has at most one order of its encoding region: at most one list satisfies `IsOrder`.
 pub fn order_is_one(v: Version)
     ensures { (ms ns : List Module) → IsOrder v ms → IsOrder v ns → ms ≡ ns }
 {}
 
-/// A list that satisfies `IsOrder` contains one module for each bit of the codewords and one module for each remainder
-/// bit. A list that satisfies `IsOrder` has at most 29,648 modules.
+/// The order has a module for each bit of the codewords and for each remainder bit, at most 29,648.
 pub fn order_is_full(v: Version)
     ensures count { (ms : List Module) → IsOrder v ms → length ms ≡ module_count_of v }
     ensures most { module_count_of v ≤ 29648 }
 {}
 
-/// The number of modules of the encoding region is the number of modules of the whole symbol, minus the number of
-/// modules of four parts outside the encoding region. The four parts outside the encoding region are the three corners
-/// (finder patterns, separators, format information and the dark module), the timing patterns, the alignment patterns
-/// and the version information. The codewords and remainder bits of a symbol together have exactly as many bits as its
-/// encoding region has modules.
+/// The encoding region has as many modules as the whole symbol, less those of the three corners (finder patterns,
+/// separators, format information and the dark module), the timing patterns, the alignment patterns and the version
+/// information. Codewords and remainder bits together have as many bits.
 pub fn region_is_counted(v: Version)
     ensures region { places_passing (side_of v) (is_in_region v) ≡ region_size v }
     ensures filled { module_count_of v ≡ region_size v }
 {}
 
-/// The encoding region consists of the modules of the symbol that are outside the rectangles of the definition
-/// `fixed_rectangles` and outside the alignment patterns.
+/// The encoding region is what such rectangles as `fixed_rectangles` returns and the alignment patterns leave of the
+/// symbol.
 #[tactic(auto, using(crate::proofs::lemmas::alignment::AlignmentLemmas::region_outside))]
 pub fn region_is_outside(v: Version)
-    ensures { (r c : ℕ) → r < side_of v → c < side_of v → is_in_region v r c
-        ≡ not (list_any (is_in_rectangle r c) (fixed_rectangles v) || is_alignment v r c) }
+    ensures { (bs : List Rectangle) → AreFixed v bs → (r c : ℕ) → r < side_of v → c < side_of v → is_in_region v r c
+        ≡ not (list_any (is_in_rectangle r c) bs || is_alignment v r c) }
 {}
 
 /// The encoding region remains the same if rows and columns are exchanged.
@@ -64,16 +59,14 @@ pub fn region_is_symmetric(v: Version)
     ensures { (r c : ℕ) → is_in_region v r c ≡ is_in_region v c r }
 {}
 
-/// For each module of the encoding region, the definition `number_of` yields how many modules are filled before this
-/// module.
+/// `number_of` counts the modules that come before a module in the order.
 pub fn number_counts(v: Version)
     ensures { (front back : List Module) (m : Module) → IsOrder v (front ++ m ∷ back)
         → number_of v m ≡ length front }
 {}
 
-/// The definition `number_of` assigns numbers to the modules of the encoding region, from 0 on and without gaps. Each
-/// module of the encoding region has a number that is less than the number of modules of this region. Conversely, each
-/// number that is less than the number of modules of the encoding region belongs to exactly one module.
+/// The modules of the encoding region are numbered from 0 without gaps: each number below their count belongs to
+/// exactly one of them.
 pub fn numbers_are_places(v: Version)
     ensures below { (m : Module) → InRegion v m → number_of v m < module_count_of v }
     ensures one_place { (m n : Module) → InRegion v m → InRegion v n
@@ -82,22 +75,20 @@ pub fn numbers_are_places(v: Version)
         → (m : Module) × InRegion v m × (number_of v m ≡ n) }
 {}
 
-/// Returns the module with the index `number`, counted from 0, in the order in which the encoding region of version `v`
-/// is filled. Returns `None` if no module has the index `number`.
+/// Returns the module with the index `number` in the order of version `v`, or `None` if the order is shorter.
 pub fn nth_place(v: Version, number: usize) -> Option<Module>
     ensures { (ms : List Module) → IsOrder v ms → result ≡ slice_get ms number }
 {
     walk(v).nth(number)
 }
 
-/// Annex E of the standard has a rule for the distances between the centres of alignment patterns. For the versions 2
-/// to 40, the definition `centres_of` lists the rows that the rule of Annex E yields.
+/// For the versions 2 to 40, the centres of alignment patterns have the distances that follow from the rule of Annex E.
 #[tactic(auto, unfolding(crate::specs::Alignment::centres_of))]
 pub fn centres_are_spaced()
     ensures { map centres_of (range_with_len 2 39) ≡ map spaced_centres (range_with_len 2 39) }
 {}
 
-/// For all versions and levels, the number of data codewords is the number that Table 7 of the standard prints.
+/// The numbers of data codewords are those that Table 7 of the standard prints.
 #[tactic(auto, unfolding(crate::specs::Blocks::data_codewords_of, crate::specs::Blocks::block_count_of, crate::specs::Blocks::correction_len_of, crate::specs::Version::total_codewords_of))]
 pub fn data_codewords_compute()
     ensures l { map (λ v. data_codewords_of v L) all_versions ≡ printed_data L }
@@ -106,9 +97,8 @@ pub fn data_codewords_compute()
     ensures h { map (λ v. data_codewords_of v H) all_versions ≡ printed_data H }
 {}
 
-/// For all versions and levels, the number of error correction codewords of a block is two for each misread codeword
-/// that can be corrected, plus the number of misdecode protection codewords. Table 9 of the standard prints how many
-/// misread codewords of a block can be corrected, and how many misdecode protection codewords a block has.
+/// A block has two error correction codewords for each misread codeword that can be corrected, and the misdecode
+/// protection codewords; Table 9 of the standard prints how many of both there are.
 #[tactic(auto, unfolding(crate::specs::Blocks::correction_len_of))]
 pub fn correction_lens_compute()
     ensures l { map (λ v. correction_len_of v L) all_versions ≡ map (printed_correction L) all_versions }
@@ -117,55 +107,50 @@ pub fn correction_lens_compute()
     ensures h { map (λ v. correction_len_of v H) all_versions ≡ map (printed_correction H) all_versions }
 {}
 
-/// Together, the blocks of a symbol contain all data codewords and all error correction codewords of the symbol. Each
-/// block has at least one data codeword and from 1 to 30 error correction codewords.
+/// The blocks together contain all data codewords and all error correction codewords of the symbol. Each block has at
+/// least one data codeword and from 1 to 30 error correction codewords.
 pub fn blocks_are_whole(v: Version, level: Level)
     ensures { AreWhole v level (blocks_of v level) }
 {}
 
-/// A block has at most 153 codewords: data codewords and error correction codewords together. The longest blocks of
-/// version 27 at level L have 153 codewords.
+/// A block has at most 153 codewords in all, as the longest blocks of version 27 at level L have.
 #[tactic(auto, unfolding(crate::specs::Blocks::data_codewords_of, crate::specs::Blocks::block_count_of, crate::specs::Blocks::correction_len_of, crate::specs::Version::total_codewords_of))]
 pub fn blocks_are_short(v: Version, level: Level)
     ensures most { longest_of (blocks_of v level) ≤ 153 }
     ensures reached { longest_of (blocks_of 27 L) ≡ 153 }
 {}
 
-/// By the laws of the crate `qr_field`, a block without unread codewords is determined by what was read if at most half
-/// as many codewords were misread as the block has error correction codewords. Half the number of error correction
-/// codewords of a block, rounded down, is at least 9 % of the codewords of the block at level L, 17 % at M, 23 % at Q
-/// and 30 % at H.
+/// Half of the error correction codewords of a block, rounded down, are at least 9 % of its codewords at level L, 17 %
+/// at M, 23 % at Q and 30 % at H. By the laws of `qr_field`, so many misread codewords leave the block determined if
+/// none is erased.
 pub fn blocks_stand_damage(v: Version, level: Level)
     ensures { damage_of level * longest_of (blocks_of v level)
         ≤ 100 * ((blocks_of v level).ec_len / 2) }
 {}
 
-/// A symbol has at most 232 data codewords up to version 9, at most 1,370 up to version 26, and at most 2,956 in all
-/// versions. The versions 9 and 26 are the limits because some character count indicators become longer after version
-/// 9, and some after version 26.
+/// A symbol has at most 232 data codewords up to version 9, 1,370 up to version 26, and 2,956 in all versions. After
+/// the versions 9 and 26 some character count indicators become longer.
 pub fn data_is_bounded(v: Version, level: Level)
     ensures small { v ≤ 9 → data_codewords_of v level ≤ 232 }
     ensures middle { v ≤ 26 → data_codewords_of v level ≤ 1370 }
     ensures most { data_codewords_of v level ≤ 2956 }
 {}
 
-/// The 15 bits of format information are five data bits and ten error correction bits, all combined with the bits
-/// 101010000010010 by exclusive or. The five data bits indicate the level and the mask pattern. The ten error
-/// correction bits are the remainder that Annex C of the standard defines.
+/// The 15 bits of format information are five data bits, for the level and the mask, and the ten bits of the remainder
+/// that Annex C of the standard defines, all combined with 101010000010010 by exclusive or.
 pub fn format_words_are_remainders(level: Level, mask: u8)
     ensures { mask < 8 → IsFormatWord (five_bits level mask) (format_word_of level mask) }
 {}
 
-/// The 18 bits of version information are six data bits and twelve error correction bits. The six data bits are the
-/// number of the version. The twelve error correction bits are the remainder that Annex D of the standard defines.
+/// The 18 bits of version information are six bits for the version, and the twelve bits of the remainder that Annex D
+/// of the standard defines.
 pub fn version_words_are_remainders(v: Version)
     ensures { IsVersionWord v (version_word_of v) }
 {}
 
-/// In six examples, the definitions `format_word_of` and `version_word_of` yield the bits that the standard prints.
-/// Annexes C and D of the standard work out two of the six examples step by step, and the tables of these annexes
-/// contain the other four examples.
-#[tactic(auto, unfolding(crate::specs::Format::format_word_of, crate::specs::Format::version_word_of, crate::specs::Format::remainder_of))]
+/// The definitions `format_word_of` and `version_word_of` give six words that Annexes C and D of the standard print;
+/// two of them are worked out there step by step.
+#[tactic(auto, unfolding(crate::specs::Format::format_word_of, crate::specs::Format::version_word_of, crate::specs::Format::word_remainder))]
 pub fn words_compute()
     ensures l { format_word_of L 0 ≡ 0x77C4 }
     ensures m { format_word_of M 5 ≡ 0x40CE }
@@ -175,8 +160,7 @@ pub fn words_compute()
     ensures version_40 { version_word_of 40 ≡ 0x28C69 }
 {}
 
-/// In a symbol of version 1, the modules of row 8, column 8 and row 6 contain what the figures of the standard show for
-/// these modules.
+/// In version 1, the modules of row 8, column 8 and row 6 have the roles that the figures of the standard show.
 #[tactic(auto, unfolding(crate::specs::Role::role_of, crate::specs::Role::pattern_colour, crate::specs::Role::is_alignment_light, crate::specs::Role::format_bit_at, crate::specs::Role::version_bit_at, crate::specs::Alignment::centres_of))]
 pub fn roles_compute()
     ensures across { map (role_of 1 8) (range_with_len 0 21) ≡ row_8 }
@@ -184,9 +168,8 @@ pub fn roles_compute()
     ensures timing { map (role_of 1 6) (range_with_len 0 21) ≡ row_6 }
 {}
 
-/// Three parts of symbols contain what the figures of the standard show (6.3.3 to 6.3.6 and 7.10). The three parts that
-/// the law compares with figures are a finder pattern of version 1, an alignment pattern of version 2 and the version
-/// information of version 7.
+/// A finder pattern of version 1, an alignment pattern of version 2 and both copies of the version information of
+/// version 7 have the roles that the figures of the standard show (6.3.3 to 6.3.6 and 7.10).
 #[tactic(auto, unfolding(crate::specs::Role::role_of, crate::specs::Role::pattern_colour, crate::specs::Role::is_alignment_light, crate::specs::Role::format_bit_at, crate::specs::Role::version_bit_at, crate::specs::Alignment::centres_of))]
 pub fn patterns_compute()
     ensures finder { map (λ r. map (role_of 1 r) (range_with_len 0 8)) (range_with_len 0 8) ≡ finder_figure }
@@ -195,8 +178,7 @@ pub fn patterns_compute()
     ensures version_below { map (λ c. map (λ r. role_of 7 r c) (range_with_len 34 3)) (range_with_len 0 6) ≡ version_figure }
 {}
 
-/// Each bit of the format information is at exactly two places, which the definitions `first_place` and `second_place`
-/// compute.
+/// Each bit of the format information is at exactly two places, `first_place` and `second_place`.
 pub fn format_bits_have_places(v: Version)
     ensures first { (i : ℕ) → i < 15
         → role_of v (first_place i).row (first_place i).col ≡ FormatBit i }
@@ -207,10 +189,8 @@ pub fn format_bits_have_places(v: Version)
         → (i < 15) × ((m ≡ first_place i) ⊎ (m ≡ second_place (side_of v) i)) }
 {}
 
-/// From version 7 on, each bit of the version information is at exactly two places. The definition `version_place`
-/// computes the first place of each bit of the version information. The second place of a bit has the column of the
-/// first place as its row, and the row of the first place as its column. In versions below 7, no module contains a bit
-/// of version information.
+/// From version 7 on, each bit of the version information is at exactly two places: `version_place`, and this with row
+/// and column exchanged. Below version 7 no module contains such a bit.
 pub fn version_bits_have_places(v: Version)
     ensures first { (i : ℕ) → 7 ≤ v → i < 18
         → role_of v (version_place (side_of v) i).row (version_place (side_of v) i).col
@@ -220,7 +200,7 @@ pub fn version_bits_have_places(v: Version)
         ≡ VersionBit i }
     ensures no_other { (m : Module) (i : ℕ) → role_of v m.row m.col ≡ VersionBit i
         → (7 ≤ v) × (i < 18)
-        × ((m ≡ version_place (side_of v) i) ⊎ (m ≡ transposed (version_place (side_of v) i))) }
+        × ((m ≡ version_place (side_of v) i) ⊎ (m ≡ mirror_of (version_place (side_of v) i))) }
 {}
 
 /// The dark module, in column 8 beside the bottom left finder pattern, is dark in every symbol.
@@ -228,21 +208,20 @@ pub fn dark_module_is_dark(v: Version)
     ensures { role_of v (side_of v - 8) 8 ≡ Fixed true }
 {}
 
-/// The encoding region consists of the modules of the symbol that have no fixed colour and contain no bit of the format
-/// information or version information.
+/// The encoding region is all modules that have no fixed colour and no bit of format or version information.
 pub fn region_is_the_rest(v: Version)
     ensures { (r c : ℕ) → r < side_of v → c < side_of v
         → (role_of v r c ≡ Region) ↔ (is_in_region v r c ≡ true) }
 {}
 
-/// Returns the first version: version 1.
+/// Returns version 1.
 pub fn first_version() -> Version
     ensures { result ≡ 1 }
 {
     Version::FIRST
 }
 
-/// Returns the default module: the module in row 0 and column 0.
+/// Returns the default module, in row 0 and column 0.
 pub fn default_module() -> Module
     ensures { result ≡ record { row = 0; col = 0 } }
 {
@@ -254,4 +233,95 @@ pub fn default_rectangle() -> Rectangle
     ensures { result ≡ record { top = 0; bottom = 0; left = 0; right = 0 } }
 {
     Rectangle::default()
+}
+
+/// `==` says whether the two are the same `Version`.
+pub fn versions_are_equal(a: Version, b: Version) -> bool
+    ensures { IsTrue result ↔ (a ≡ b) }
+{
+    a == b
+}
+
+/// `==` says whether the two are the same `Level`.
+pub fn levels_are_equal(a: Level, b: Level) -> bool
+    ensures { IsTrue result ↔ (a ≡ b) }
+{
+    a == b
+}
+
+/// `==` says whether the two are the same `Module`.
+pub fn modules_are_equal(a: Module, b: Module) -> bool
+    ensures { IsTrue result ↔ (a ≡ b) }
+{
+    a == b
+}
+
+/// `==` says whether the two are the same `Role`.
+pub fn roles_are_equal(a: Role, b: Role) -> bool
+    ensures { IsTrue result ↔ (a ≡ b) }
+{
+    a == b
+}
+
+/// `==` says whether the two are the same `Blocks`.
+pub fn blocks_are_equal(a: Blocks, b: Blocks) -> bool
+    ensures { IsTrue result ↔ (a ≡ b) }
+{
+    a == b
+}
+
+/// `==` says whether the two are the same `Strip`.
+pub fn strips_are_equal(a: Strip, b: Strip) -> bool
+    ensures { IsTrue result ↔ (a ≡ b) }
+{
+    a == b
+}
+
+/// A clone of a `Version` is equal to it.
+pub fn version_clones(a: Version) -> Result<Version, AllocError>
+    ensures { IfOk result (λ b. b ≡ a) }
+{
+    a.clone()
+}
+
+/// A clone of a `Level` is equal to it.
+pub fn level_clones(a: Level) -> Result<Level, AllocError>
+    ensures { IfOk result (λ b. b ≡ a) }
+{
+    a.clone()
+}
+
+/// A clone of a `Module` is equal to it.
+pub fn module_clones(a: Module) -> Result<Module, AllocError>
+    ensures { IfOk result (λ b. b ≡ a) }
+{
+    a.clone()
+}
+
+/// A clone of a `Role` is equal to it.
+pub fn role_clones(a: Role) -> Result<Role, AllocError>
+    ensures { IfOk result (λ b. b ≡ a) }
+{
+    a.clone()
+}
+
+/// A clone of a `Blocks` is equal to it.
+pub fn blocks_clones(a: Blocks) -> Result<Blocks, AllocError>
+    ensures { IfOk result (λ b. b ≡ a) }
+{
+    a.clone()
+}
+
+/// A clone of a `Strip` is equal to it.
+pub fn strip_clones(a: Strip) -> Result<Strip, AllocError>
+    ensures { IfOk result (λ b. b ≡ a) }
+{
+    a.clone()
+}
+
+/// A clone of a `Rectangle` is equal to it.
+pub fn rectangle_clones(a: Rectangle) -> Result<Rectangle, AllocError>
+    ensures { IfOk result (λ b. b ≡ a) }
+{
+    a.clone()
 }

@@ -1,7 +1,7 @@
 //! The four error correction levels (ISO/IEC 18004:2015, 7.5.1).
 
-/// An error correction level, which determines how much damage of a symbol can be corrected. According to the rounded
-/// figures of the standard, 7 % of the codewords can be corrected at L, 15 % at M, 25 % at Q and 30 % at H.
+/// An error correction level. By the standard's rounded figures, 7 % of the codewords can be corrected at L, 15 % at M,
+/// 25 % at Q and 30 % at H.
 #[derive(Clone, Copy, Debug, PartialEq, Eq)]
 pub enum Level {
     L,

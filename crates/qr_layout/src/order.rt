@@ -1,8 +1,6 @@
-//! Defines the order in which the bits of the codewords fill the modules of the encoding region (ISO/IEC 18004:2015,
-//! 7.7.3). The function `walk` returns an iterator that visits the modules in the order in which they are filled. The
-//! walk goes through strips (two neighbouring columns each), from right to left. The walk goes upward in the first
-//! strip, downward in the second strip, and so on in turn. In each row of a strip, the right module comes first. No
-//! strip contains column 6, which contains a timing pattern: the function `strip_at` in strips.rt skips this column.
+//! The order in which codewords fill the encoding region (ISO/IEC 18004:2015, 7.7.3), as a walk. It goes through the
+//! strips from right to left, upward in the first, downward in the second, and so on by turns; in each row the right
+//! module comes first. Column 6, a timing pattern, is in no strip (`strip_at`).
 
 ghost use Rattle.std.specs.Prelude.{◌≡◌, ◌<◌, ◌≤◌, ◌↔◌, IfSome, IsSome, List, length};
 ghost use Rattle.std.specs.Iterator.{YieldsFirst, item_count};
@@ -17,10 +15,8 @@ use crate::strips::{column_without_timing, strip_at};
 use crate::version::Version;
 use std::marker::Model;
 
-// A position of the walk, which visits the modules of a symbol in the order in which they are filled. `strips` is the
-// number of a strip (two neighbouring columns); the strips are numbered from left to right, beginning with 1. If
-// `strips` is 0, the walk is at its end. `row` is a row of the symbol, and `at_left` is true if the position is the
-// left module of the strip in this row.
+// A position of the walk. `strips` is the strip's number from the left, from 1 on, and so also how many strips are
+// left; at 0 the walk is at its end.
 #[derive(Clone, Copy)]
 struct Cursor {
     strips: u8,
@@ -29,7 +25,7 @@ struct Cursor {
 }
 
 impl Cursor {
-    // Returns the module at this position.
+    // The module at this position.
     fn place(self) -> Module
         requires strips_left { 0 < self.strips }
         requires strips_in { self.strips ≤ 88 }
@@ -40,8 +36,7 @@ impl Cursor {
         Module { row: self.row, col }
     }
 
-    // Returns the position that follows this position in a symbol of version `v`. If a strip ends at this position, the
-    // next position is in the next strip, in the same row.
+    // The next position. After the last row of a strip it is in the next strip, in the same row.
     #[tactic(auto, unfolding(crate::specs::Steps::Order::next_of))]
     fn next(self, v: Version) -> Cursor
         requires strips_left { 0 < self.strips }
@@ -70,8 +65,7 @@ impl Cursor {
         }
     }
 
-    // Returns the position at which the walk visits the module `m`, if `m` is not in column 6. The walk leaves out
-    // column 6, which contains a timing pattern.
+    // The position of the module `m`, if `m` is not in column 6.
     #[tactic(auto, unfolding(crate::specs::Steps::Order::cursor_at))]
     fn at(m: Module) -> Cursor
         ensures { result ≡ cursor_at m }
@@ -85,12 +79,12 @@ impl Cursor {
     }
 }
 
-/// An iterator over the modules of the encoding region, in the order in which the bits of the codewords fill this
-/// region. In contracts, the value of the iterator is the list of the modules that are still to come.
+/// An iterator over the encoding region, in the order in which codewords fill it. Contracts see it as the list of the
+/// modules that are still to come.
 ///
 /// # Notes
 ///
-/// The iterator `Steps` stores a version and a position, but no list of modules.
+/// It stores a version and a position, but no list of modules.
 #[derive(Drop)]
 pub struct Steps {
     version: Version,
@@ -129,8 +123,8 @@ impl Iterator for Steps {
     }
 }
 
-/// Returns an iterator over the modules of the encoding region of version `v`, each exactly once. The modules come in
-/// the order in which they are filled: first with the bits of the codewords, and then with the remainder bits.
+/// Returns an iterator over the modules of the encoding region, each once, in the order in which they are filled: first
+/// with the bits of the codewords, then with the remainder bits.
 pub fn walk(v: Version) -> Steps
     ensures order { IsOrder v result }
     ensures count { length result ≡ module_count_of v }
@@ -145,8 +139,8 @@ pub fn walk(v: Version) -> Steps
     }
 }
 
-/// Returns an iterator over exactly those modules that the iterator of `walk` yields after the module `m`. Returns
-/// `None` if `m` is not in the encoding region of version `v`, for example if `m` is outside the symbol.
+/// Returns an iterator over the modules that come after `m` in `walk`, or `None` if `m` is outside the encoding region
+/// or the symbol.
 pub fn walk_after(v: Version, m: Module) -> Option<Steps>
     ensures given { IsSome result ↔ InRegion v m }
     ensures rest { IfSome result (IsOrderAfter v m) }
@@ -162,9 +156,8 @@ pub fn walk_after(v: Version, m: Module) -> Option<Steps>
     })
 }
 
-/// Returns the number of modules of the encoding region of version `v`. The encoding region has 8 modules for each
-/// codeword, and one module for each remainder bit. The encoding region has 208 modules in version 1, and 29,648
-/// modules in version 40.
+/// Returns the number of modules of the encoding region, from 208 in version 1 to 29,648 in version 40: 8 for each
+/// codeword, and 1 for each remainder bit.
 pub fn region_len(v: Version) -> u32
     ensures count { result ≡ module_count_of v }
     ensures length { (ms : List Module) → IsOrder v ms → length ms ≡ result }

@@ -1,16 +1,14 @@
-//! Computes rectangles that cover the finder patterns, separators and timing patterns, the format information and the
-//! version information of a symbol. All modules outside the encoding region are in the computed rectangles or in the
-//! alignment patterns (ISO/IEC 18004:2015, 6.3).
+//! Rectangles that cover, with the alignment patterns, all modules outside the encoding region (ISO/IEC 18004:2015,
+//! 6.3).
 
 ghost use Rattle.std.specs.Prelude.{◌≡◌};
-ghost use Rattle.qr_layout.specs.Rectangles.{fixed_rectangles};
+ghost use Rattle.qr_layout.specs.Rectangles.{AreFixed};
 
 use crate::version::Version;
 use arrayvec::ArrayVec;
 use std::ops::Range;
 
-/// A rectangle of modules. The first row of the rectangle is `top`, and `bottom` is the row after its last row. The
-/// first column of the rectangle is `left`, and `right` is the column after its last column.
+/// A rectangle of modules: the rows `top..bottom` and the columns `left..right`.
 #[derive(Clone, Copy, Default)]
 pub struct Rectangle {
     pub top: u8,
@@ -20,7 +18,7 @@ pub struct Rectangle {
 }
 
 impl Rectangle {
-    /// Returns the rectangle with the rows `rows` and the columns `columns`.
+    /// Returns the rectangle with these rows and columns.
     pub fn new(rows: Range<u8>, columns: Range<u8>) -> Rectangle
         ensures { result ≡ record { top = rows.start; bottom = rows.end; left = columns.start; right = columns.end } }
     {
@@ -33,13 +31,12 @@ impl Rectangle {
     }
 }
 
-/// Returns rectangles that cover all parts of a symbol of version `v` outside the encoding region, except for the
-/// alignment patterns (ISO/IEC 18004:2015, 6.3.3 to 6.3.5, 7.9 and 7.10). Three of the rectangles are corners of the
-/// symbol, each with a finder pattern, its separator and format information. Two of the rectangles are row 6 and column
-/// 6, which contain the timing patterns. From version 7 on, the list has two more rectangles, which contain the version
-/// information. Some of the rectangles overlap.
+/// Returns rectangles that cover all modules outside the encoding region but the alignment patterns: three corners,
+/// each with a finder pattern, its separator and format information; row 6 and column 6, with the timing patterns; and
+/// from version 7 on two of version information (ISO/IEC 18004:2015, 6.3.3 to 6.3.5, 7.9 and 7.10). Some of them
+/// overlap.
 pub fn fixed_rectangles(v: Version) -> ArrayVec<Rectangle, 7>
-    ensures { result.items ≡ fixed_rectangles v }
+    ensures { AreFixed v result.items }
 {
     let side = v.side();
     let mut rectangles = ArrayVec::new();
@@ -48,7 +45,8 @@ pub fn fixed_rectangles(v: Version) -> ArrayVec<Rectangle, 7>
     rectangles.push(Rectangle::new(side - 8..side, 0..9));
     rectangles.push(Rectangle::new(6..7, 0..side));
     rectangles.push(Rectangle::new(0..side, 6..7));
-    if v.number() >= 7 {
+    let has_version_information = v.number() >= 7;
+    if has_version_information {
         rectangles.push(Rectangle::new(0..6, side - 11..side - 8));
         rectangles.push(Rectangle::new(side - 11..side - 8, 0..6));
     }

@@ -1,5 +1,6 @@
-//! Defines the role of each module of a symbol: a fixed colour, a bit of the format information or of the version
-//! information, a bit of a codeword, or a remainder bit (ISO/IEC 18004:2015, 6.3 and 7.7.2).
+//! The role of each module: a fixed colour, a bit of the format or version information, or a bit of a codeword or a
+//! remainder bit (ISO/IEC 18004:2015, 6.3 and 7.7.2). `centres` has the rows of centres of alignment patterns, which
+//! are also their columns, and `side` is the number of modules on a side.
 
 ghost use Rattle.std.specs.Prelude.{◌≡◌, ◌≢◌, ◌<◌, ◌≤◌, ◌==◌, ◌&&◌, not};
 ghost use Rattle.std.specs.List.{list_any};
@@ -12,16 +13,16 @@ use crate::alignment::{centre_list, is_corner_pair, is_in_alignment};
 use crate::region::{Module, is_in_version_block};
 use crate::version::Version;
 
-/// The role of a module: what the module contains.
+/// What a module contains.
 #[derive(Clone, Copy, Debug, PartialEq, Eq)]
 pub enum Role {
-    /// A colour that the module has in all symbols of the version; `true` is dark.
+    /// A colour, the same in all symbols of the version; `true` is dark.
     Fixed(bool),
-    /// A bit of the format information, where bit 0 is the lowest bit and bit 14 is the highest.
+    /// A bit of the format information, from bit 0, the lowest, to bit 14.
     FormatBit(u8),
-    /// A bit of the version information, where bit 0 is the lowest bit and bit 17 is the highest.
+    /// A bit of the version information, from bit 0, the lowest, to bit 17.
     VersionBit(u8),
-    /// A bit of a codeword or a remainder bit, in a module of the encoding region.
+    /// A bit of a codeword or a remainder bit: the module is in the encoding region.
     Region,
 }
 
@@ -45,9 +46,7 @@ fn is_first_ring(a: u8, b: u8, row: u8, col: u8) -> bool
     ring(a, b, row, col) == 1
 }
 
-// Returns whether the module in row `row` and column `col` is on the light ring of an alignment pattern whose centre is
-// in row `a`. `centres` contains the columns of all centres, and `side` is the number of modules on a side of the
-// symbol.
+// Whether the module is on the light ring of an alignment pattern whose centre is in row `a`.
 fn is_light_beside(centres: &[u8], side: u8, a: u8, row: u8, col: u8) -> bool
     requires { 21 ≤ side }
     ensures { result ≡ list_any (λ b. not (is_corner_pair side a b) && ring_of a b row col == 1)
@@ -56,9 +55,7 @@ fn is_light_beside(centres: &[u8], side: u8, a: u8, row: u8, col: u8) -> bool
     centres.iter().any(|b| !is_corner_pair(side, a, *b) && is_first_ring(a, *b, row, col))
 }
 
-// Returns whether the module in row `row` and column `col` is on the light ring of an alignment pattern. `centres`
-// contains the rows of all centres; the columns of the centres have the same numbers as the rows. `side` is the number
-// of modules on a side of the symbol.
+// As `is_light_beside`, for centres in any row.
 fn is_light_among(centres: &[u8], side: u8, row: u8, col: u8) -> bool
     requires { 21 ≤ side }
     ensures { result ≡ list_any (λ a. list_any (λ b. not (is_corner_pair side a b)
@@ -77,8 +74,7 @@ fn is_alignment_light(v: Version, row: u8, col: u8) -> bool
     is_light_among(centres, side, row, col)
 }
 
-// Returns the colour of the module in row `row` and column `col` (`true` is dark), if the module belongs to a finder
-// pattern, separator, timing pattern or alignment pattern. For any other module, returns `None`.
+// The colour of a module of a finder pattern, separator, timing pattern or alignment pattern; `true` is dark.
 #[tactic(auto, unfolding(crate::specs::Role::pattern_colour))]
 fn pattern_colour(v: Version, row: u8, col: u8) -> Option<bool>
     ensures { result ≡ pattern_colour v row col }
@@ -102,8 +98,8 @@ fn pattern_colour(v: Version, row: u8, col: u8) -> Option<bool>
     None
 }
 
-/// Returns the place of the bit `bit` of the format information in the first copy, which is beside the top left finder
-/// pattern (ISO/IEC 18004:2015, 7.9.1). The number `bit` is from 0 to 14.
+/// Returns the place of bit `bit` (0 to 14) of the format information in the first copy, beside the top left finder
+/// pattern (ISO/IEC 18004:2015, 7.9.1).
 pub fn format_place(bit: u8) -> Module
     requires { bit < 15 }
     ensures place { result ≡ first_place bit }
@@ -127,8 +123,8 @@ pub fn format_place(bit: u8) -> Module
     Module { row, col }
 }
 
-/// Returns the place of the bit `bit` of the format information in the second copy, which is beside the top right and
-/// the bottom left finder pattern of version `v` (ISO/IEC 18004:2015, 7.9.1). The number `bit` is from 0 to 14.
+/// Returns the place of bit `bit` (0 to 14) of the format information in the second copy, beside the top right and the
+/// bottom left finder pattern (ISO/IEC 18004:2015, 7.9.1).
 pub fn second_format_place(v: Version, bit: u8) -> Module
     requires { bit < 15 }
     ensures place { result ≡ second_place (side_of v) bit }
@@ -141,9 +137,7 @@ pub fn second_format_place(v: Version, bit: u8) -> Module
     Module { row, col }
 }
 
-// Returns the index of the bit of the format information that the module in row `row` of column 8 contains. Returns
-// `None` if this module contains no bit of the format information. `side` is the number of modules on a side of the
-// symbol.
+// The index of the bit of the format information in column 8.
 fn format_bit_down(side: u8, row: u8) -> Option<u8>
     requires least { 21 ≤ side }
     requires most { side ≤ 177 }
@@ -163,9 +157,7 @@ fn format_bit_down(side: u8, row: u8) -> Option<u8>
     }
 }
 
-// Returns the index of the bit of the format information that the module in row 8 and column `col` contains. `col` must
-// not be 8. Returns `None` if this module contains no bit of the format information. `side` is the number of modules on
-// a side of the symbol.
+// As `format_bit_down`, but in row 8, and not in column 8.
 fn format_bit_across(side: u8, col: u8) -> Option<u8>
     requires least { 21 ≤ side }
     requires col_in { col < side }
@@ -201,11 +193,8 @@ fn format_bit(side: u8, row: u8, col: u8) -> Option<u8>
     }
 }
 
-// Returns the index of the bit of the version information that the module in row `row` and column `col` of a symbol of
-// version `v` contains. Returns `None` if the module contains no bit of the version information. From version 7 on, a
-// symbol has two copies of the version information. The first copy is in the rows 0 to 5 and the columns side - 11 to
-// side - 9, where side is the number of modules on a side of the symbol. The second copy is the first copy with rows
-// and columns exchanged.
+// The index of the bit of the version information. The first copy is in the rows 0 to 5 and the columns `side - 11` to
+// `side - 9`; in the second, rows and columns are exchanged.
 fn version_bit(v: Version, row: u8, col: u8) -> Option<u8>
     requires row_in { row < side_of v }
     requires col_in { col < side_of v }
@@ -224,8 +213,7 @@ fn version_bit(v: Version, row: u8, col: u8) -> Option<u8>
     None
 }
 
-/// Returns what the module in row `row` and column `col` of a symbol of version `v` contains. `row` and `col` must be
-/// less than the number of modules on a side of the symbol.
+/// Returns the role of the module in row `row` and column `col` of version `v`.
 #[tactic(auto, unfolding(crate::specs::Role::role_of))]
 pub fn cell(v: Version, row: u8, col: u8) -> Role
     requires row_in { row < side_of v }

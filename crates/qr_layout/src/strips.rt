@@ -1,5 +1,5 @@
-//! Defines the strips of a symbol (ISO/IEC 18004:2015, 7.7.3). A strip is two neighbouring columns that are filled
-//! together. Only those modules of a strip that are in the encoding region contain bits of codewords.
+//! The strips of a symbol, numbered from 1 at the left (ISO/IEC 18004:2015, 7.7.3). Column 6, a timing pattern, is in
+//! none.
 
 ghost use Rattle.std.specs.Prelude.{◌≡◌, ◌<◌, ◌≤◌, List};
 ghost use Rattle.std.specs.Iterator.{YieldsFirst, item_count};
@@ -12,33 +12,30 @@ ghost use Rattle.qr_layout.specs.declared.strips.Strip.{Strip};
 use crate::version::Version;
 use std::marker::Model;
 
-/// A strip: two neighbouring columns that are filled together, row by row. In each row of a strip, the module in the
-/// right column comes first.
+/// Two neighbouring columns that are filled together, row by row; in each row the right module comes first.
 #[derive(Clone, Copy, Debug, PartialEq, Eq)]
 pub struct Strip {
-    /// The index of the right column of the strip.
+    /// The right column.
     pub right: u8,
-    /// Whether the strip is filled upward, from the last row of the symbol to the first row.
+    /// Whether it is filled from the last row of the symbol to the first.
     pub upward: bool,
 }
 
-// Returns the strip (two neighbouring columns) with the number `number`. Strips are numbered from left to right,
-// beginning with 1. This function skips column 6, which contains a timing pattern: no strip contains column 6.
+// The strip with this number. Here column 6 is skipped.
 #[inline(always)]
 pub(crate) fn strip_at(number: u8) -> Strip
     requires least { 0 < number }
     requires most { number ≤ 88 }
     ensures { result ≡ strip_at number }
 {
-    // `untimed` is the index of the right column if column 6 is not counted. If column 6 is counted, each index from 6
-    // on is greater by 1.
+    // The right column if column 6 is not counted; from column 6 on, the index is greater by 1.
     let untimed = 2 * number - 1;
     let right = if untimed < 6 { untimed } else { untimed + 1 };
     let upward = number % 2 == 0;
     Strip { right, upward }
 }
 
-// Returns the index of the column `col` if column 6, which contains a timing pattern, is not counted.
+// The index of a column if column 6 is not counted.
 #[inline(always)]
 pub(crate) fn column_without_timing(col: u8) -> u8
     ensures { result ≡ column_without_timing col }
@@ -46,12 +43,11 @@ pub(crate) fn column_without_timing(col: u8) -> u8
     if col < 6 { col } else { col - 1 }
 }
 
-/// An iterator over the strips of a symbol, from right to left. A strip is two neighbouring columns. In contracts, the
-/// value of the iterator is the list of the strips that are still to come.
+/// An iterator over the strips of a symbol, from right to left. Contracts see it as the list of the strips that are
+/// still to come.
 #[derive(Drop)]
 pub struct Strips {
-    // The number of strips that are still to come. If the strips are numbered from left to right, beginning with 1,
-    // `remaining` is also the number of the next strip.
+    // How many strips are still to come: also the number of the next one.
     remaining: u8,
 }
 
@@ -84,9 +80,8 @@ impl Iterator for Strips {
     }
 }
 
-/// Returns all strips of a symbol of version `v`, from right to left. A strip is two neighbouring columns. The bits of
-/// the codewords fill the symbol strip by strip, from right to left. In each strip, the bits of the codewords fill only
-/// the modules that are in the encoding region.
+/// Returns all strips of a symbol of version `v`, from right to left, in the order in which codewords fill them. Only
+/// their modules in the encoding region are filled.
 pub fn all_strips(v: Version) -> Strips
     ensures order { IsOrder v (in_region_of v (places_of (side_of v) result)) }
     ensures inside { All (λ x. (1 ≤ x.right) × (x.right < side_of v)) result }

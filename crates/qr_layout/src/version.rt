@@ -1,5 +1,5 @@
-//! Defines the forty versions of QR Code. A version determines the number of modules on a side of a symbol, the number
-//! of its codewords, and the number of its remainder bits (ISO/IEC 18004:2015, 6.3.2 and 7.1, Table 1).
+//! The forty versions, which determine a symbol's side, codewords and remainder bits (ISO/IEC 18004:2015, 6.3.2 and
+//! 7.1, Table 1).
 
 ghost use Rattle.std.specs.Prelude.{◌≡◌, ◌≤◌, SomeIff, ℕ, MatchOption};
 ghost use Rattle.qr_layout.specs.Version.{side_of};
@@ -7,20 +7,20 @@ ghost use Rattle.qr_layout.specs.Version.{total_codewords_of, remainder_bits_of}
 
 use std::marker::Model;
 
-// The number of codewords of a symbol, for each of the versions 1 to 40.
+// The number of codewords, for the versions 1 to 40.
 static TOTAL_CODEWORDS: [u16; 40] = [
     26, 44, 70, 100, 134, 172, 196, 242, 292, 346, 404, 466, 532, 581, 655, 733, 815, 901, 991,
     1085, 1156, 1258, 1364, 1474, 1588, 1706, 1828, 1921, 2051, 2185, 2323, 2465, 2611, 2761, 2876,
     3034, 3196, 3362, 3532, 3706,
 ];
 
-// The number of remainder bits of a symbol, for each of the versions 1 to 40.
+// The number of remainder bits, for the versions 1 to 40.
 static REMAINDER_BITS: [u8; 40] = [
     0, 7, 7, 7, 7, 7, 0, 0, 0, 0, 0, 0, 0, 3, 3, 3, 3, 3, 3, 3, 4, 4, 4, 4, 4, 4, 4, 3, 3, 3, 3, 3,
     3, 3, 0, 0, 0, 0, 0, 0,
 ];
 
-/// A version of QR Code, from 1 to 40. The version determines the size of a symbol.
+/// A version of QR Code, from 1 to 40, which determines the size of a symbol.
 #[derive(Clone, Copy, Debug, PartialEq, Eq)]
 pub struct Version {
     number: u8,
@@ -39,7 +39,7 @@ impl Model for Version {
 }
 
 impl Version {
-    /// The smallest version: version 1.
+    /// Version 1, the smallest.
     pub const FIRST: Version = Version { number: 1 };
 
     /// Returns the version with the number `n`, or `None` if `n` is not from 1 to 40.
@@ -53,8 +53,7 @@ impl Version {
         }
     }
 
-    /// Returns the version whose symbols have `side` modules on a side, or `None` if no version has such symbols. The
-    /// number of modules on a side of a symbol is 21, 25, 29 and so on, up to 177.
+    /// Returns the version with `side` modules on a side (21, 25, 29 and so on to 177), or `None` if there is none.
     pub fn of_side(side: u8) -> Option<Version>
         ensures { MatchOption result
             ((v : ℕ) → 1 ≤ v → v ≤ 40 → side ≡ side_of v → ⊥)
@@ -75,7 +74,7 @@ impl Version {
         self.number
     }
 
-    /// Returns the number of modules on a side of a symbol of this version, from 21 to 177.
+    /// Returns the number of modules on a side, from 21 to 177.
     pub fn side(self) -> u8
         ensures value { result ≡ side_of self }
         ensures least { 21 ≤ result }
@@ -84,8 +83,7 @@ impl Version {
         17 + 4 * self.number
     }
 
-    /// Returns the number of codewords of a symbol of this version, from 26 to 3,706. The returned number includes the
-    /// data codewords and the error correction codewords.
+    /// Returns the number of codewords, from 26 to 3,706: data and error correction codewords together.
     #[tactic(auto, unfolding(crate::specs::Version::total_codewords_of))]
     pub fn total_codewords(self) -> u16
         ensures { result ≡ total_codewords_of self }
@@ -93,8 +91,8 @@ impl Version {
         TOTAL_CODEWORDS[usize::from(self.number - 1)]
     }
 
-    /// Returns the number of remainder bits of a symbol of this version: 0, 3, 4 or 7. Remainder bits fill the modules
-    /// of the encoding region that are left over when all codewords are placed.
+    /// Returns the number of remainder bits: 0, 3, 4 or 7. They fill the modules of the encoding region that are left
+    /// after all codewords.
     #[tactic(auto, unfolding(crate::specs::Version::remainder_bits_of))]
     pub fn remainder_bits(self) -> u8
         ensures { result ≡ remainder_bits_of self }

@@ -5,3 +5,4 @@ pub use Rattle.qr_matrix.proofs.lemmas.bit_row.RepeatLemmas.{below-at, same-same
 pub use Rattle.qr_matrix.proofs.lemmas.difference.DifferenceLemmas.{no-difference}
 pub use Rattle.qr_matrix.proofs.lemmas.matrix.MatrixLemmas.{with_row-same}
 pub use Rattle.qr_matrix.proofs.lemmas.matrix.FourLemmas.{row-four}
+pub use Rattle.qr_matrix.proofs.lemmas.dark_runs.DarkRunLemmas.{AreRunsFrom, all-runs, other-runs, run-colours, run-in}

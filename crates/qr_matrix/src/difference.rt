@@ -1,12 +1,11 @@
-//! Counts the modules that have different colours in two squares of modules.
+//! Counts the modules in which two squares differ.
 
 ghost use Rattle.std.specs.Prelude.{◌≡◌};
 ghost use Rattle.qr_matrix.specs.Difference.{difference_count};
 
 use crate::matrix::Matrix;
 
-/// Counts the modules that have different colours in the squares `a` and `b`. Both squares must have the same number of
-/// modules on a side. The returned count is 0 exactly if each module has the same colour in `a` as in `b`.
+/// Returns the number of modules in which two squares differ; it is 0 exactly if they are equal.
 pub fn differences(a: &Matrix, b: &Matrix) -> u32
     requires { a.now.side ≡ b.now.side }
     ensures { result ≡ difference_count a.now b.now }

@@ -1,10 +1,8 @@
-//! This crate stores the modules of a symbol as a square, in which each row is a bit row: three words of 64 bits. The
-//! crate also computes the penalty of a square, and counts the modules in which two squares differ.
+//! The modules of a symbol as a square of bit rows, its penalty, and the number of modules in which two squares differ.
 #![tactic(auto)]
 
 mod bit_row;
 mod dark_runs;
-mod derives;
 mod difference;
 pub mod laws;
 mod matrix;

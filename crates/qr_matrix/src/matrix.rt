@@ -1,22 +1,22 @@
-//! Stores the modules of a symbol as a square, without the quiet zone (ISO/IEC 18004:2015, 6.3.2).
+//! Stores the modules of a symbol as a square, without the quiet zone (ISO/IEC 18004:2015, 6.3.2). In numbers and bit
+//! rows, the leftmost module is the lowest bit, and a set bit is dark.
 
 ghost use Rattle.std.specs.Prelude.{◌≡◌, ℕ, ◌+◌, ◌-◌, ◌*◌, ◌/◌, ◌%◌, ◌<◌, ◌≤◌, ◌&&◌, ◌==◌, not, nat_le, nat_lt, if◌then◌else◌, false, length, IfOk};
 ghost use Rattle.qr_matrix.specs.Grid.{square, colour, painted, with_row, with_rectangle, light, transposed};
 ghost use Rattle.qr_matrix.specs.BitRow.{dark_in, has, has_bit};
-ghost use Rattle.qr_matrix.specs.Runs.{IsRunEnd, is_change};
+ghost use Rattle.qr_matrix.specs.Runs.{IsRunEnd};
+ghost use Rattle.qr_matrix.specs.Steps.{NeedsWords, is_change};
 
 use crate::bit_row::BitRow;
 use crate::transposition::set_transposed_band;
 use std::alloc::{AllocError, Global};
 use std::marker::Model;
 
-/// A square of modules, each of which is dark or light. Rows and columns are numbered from 0, beginning at the top
-/// left. Contracts describe a `Matrix` by the number of modules on a side and by the colour of each module.
+/// A square of 1 to 177 modules on a side; row 0 and column 0 are at the top left. Contracts see it as a grid.
 #[derive(Drop)]
 pub struct Matrix {
     side: u8,
-    // Contains one bit row for each row of modules; a set bit is a dark module. The lowest bit of a bit row is the
-    // module in column 0. No bit of a column outside the square is set.
+    // A bit row for each row. No bit outside the square is set.
     rows: Vec<BitRow>,
 }
 
@@ -34,8 +34,11 @@ impl Model for Matrix {
 }
 
 impl Matrix {
-    /// Returns a square of light modules with `side` modules on a side. The number `side` is from 1 to 177. Returns an
-    /// error if memory is refused.
+    /// Returns a square of light modules.
+    ///
+    /// # Errors
+    ///
+    /// `AllocError` if memory is refused.
     #[tactic(auto, using(crate::proofs::Named::light_facts))]
     pub fn new(alloc: Global, side: u8) -> Result<Matrix, AllocError>
         requires least { 1 ≤ side }
@@ -46,7 +49,7 @@ impl Matrix {
         Ok(Matrix { side, rows })
     }
 
-    /// Returns the number of modules on a side of the square.
+    /// Returns the number of modules on a side.
     pub fn side(&self) -> u8
         ensures value { result ≡ self.now.side }
         ensures least { 1 ≤ result }
@@ -65,9 +68,8 @@ impl Matrix {
         self.rows[usize::from(row)].at(col)
     }
 
-    /// Returns the four modules of row `row` from column `col` on, as the bits of a number. The lowest bit of the
-    /// number is the module in column `col`, and a set bit is a dark module. `col` must be a multiple of four, and all
-    /// four modules must be in the square.
+    /// Returns the four modules of row `row` from column `col` on as a number: the leftmost is the lowest bit, and a
+    /// set bit is dark.
     #[tactic(auto, using(crate::proofs::Named::row_facts))]
     pub fn four(&self, row: u8, col: u8) -> u8
         requires row_in { row < self.now.side }
@@ -79,9 +81,7 @@ impl Matrix {
         self.rows[usize::from(row)].four(col)
     }
 
-    /// Returns the eight modules of row `row` from column `col` on, as the bits of a number. The lowest bit of the
-    /// number is the module in column `col`, and a set bit is a dark module. `col` must be a multiple of eight. The
-    /// bits of columns outside the square are 0.
+    /// Returns the eight modules of row `row` from column `col` on, as `four` does; those outside the square are light.
     #[tactic(auto, using(crate::proofs::Named::row_facts))]
     pub fn eight(&self, row: u8, col: u8) -> u8
         requires row_in { row < self.now.side }
@@ -92,8 +92,8 @@ impl Matrix {
         self.rows[usize::from(row)].eight(col)
     }
 
-    /// Returns the end of a run of modules of one colour: the first column after `col` in which row `row` has another
-    /// colour than in column `col`. If the run continues to the end of the row, the result is the number of columns.
+    /// Returns the end of the run that contains column `col`: the first column after `col` of another colour, or the
+    /// side if there is none.
     pub fn run_end(&self, row: u8, col: u8) -> u8
         requires row_in { row < self.now.side }
         requires col_in { col < self.now.side }
@@ -104,9 +104,8 @@ impl Matrix {
         later.first().min(side)
     }
 
-    // Returns a bit row (192 bits) with the changes of colour in row `row`. Bit `c` is set if the module in column `c`
-    // has another colour than the module in column `c - 1`. Modules outside the square count as light.
-    #[tactic(auto, unfolding(crate::specs::Runs::is_change))]
+    // The columns that have another colour than the one before them; light surrounds the square.
+    #[tactic(auto, unfolding(crate::specs::Steps::is_change))]
     pub(crate) fn changes(&self, row: u8) -> BitRow
         requires { row < self.now.side }
         ensures changes { (c : ℕ) → c < 192 → has result c ≡ is_change (colour self.now row) c }
@@ -117,8 +116,7 @@ impl Matrix {
         bits ^ bits.shifted_right()
     }
 
-    /// Returns row `row` as a bit row: a row of 192 bits, in which a set bit is a dark module. No bit of a column
-    /// outside the square is set.
+    /// Returns row `row` as a bit row, in which bit `c` is column `c`, and a set bit is dark.
     pub fn bit_row(&self, row: usize) -> BitRow
         requires { row < self.now.side }
         ensures colours { (c : ℕ) → has result c ≡ colour self.now row c }
@@ -128,8 +126,7 @@ impl Matrix {
         self.rows[row]
     }
 
-    // Returns up to 64 modules of row `row`, from column `64 * number` on, as the bits of a word. The lowest bit of the
-    // word is the module in column `64 * number`. The bits of columns outside the square are 0.
+    // As `four`, but for the 64 modules from column `64 * number` on.
     #[tactic(auto, using(crate::proofs::Named::row_facts))]
     pub(crate) fn word(&self, row: usize, number: usize) -> u64
         requires row_in { row < self.now.side }
@@ -139,24 +136,19 @@ impl Matrix {
         self.rows[row].word(number)
     }
 
-    // Returns how many words of 64 bits a row of modules needs. The modules of the row may fill only a part of the last
-    // word.
+    // How many words a row needs. The functions of the penalty take this number as `words`: they are inlined once for
+    // each value, without the empty words.
     pub(crate) fn words(&self) -> u8
-        ensures least { 64 * (result - 1) < self.now.side }
-        ensures most { self.now.side ≤ 64 * result }
-        ensures three { result ≤ 3 }
+        ensures { NeedsWords self.now.side result }
     {
         (self.side - 1) / 64 + 1
     }
 
-    // Returns row `row` as a bit row. A row of modules needs `words` words of 64 bits. If the caller passes a constant
-    // as `words`, the compiler can leave out all operations on words without modules.
+    // As `bit_row`, but the compiler sees that the words after the first `words` are 0.
     #[inline(always)]
     pub(crate) fn bit_row_in(&self, row: usize, words: u8) -> BitRow
         requires row_in { row < self.now.side }
-        requires least { 64 * (words - 1) < self.now.side }
-        requires most { self.now.side ≤ 64 * words }
-        requires three { words ≤ 3 }
+        requires width { NeedsWords self.now.side words }
         ensures colours { (c : ℕ) → has result c ≡ colour self.now row c }
         ensures past { (c : ℕ) → self.now.side ≤ c → has result c ≡ false }
         ensures few { self.now.side ≤ 177 }
@@ -164,8 +156,7 @@ impl Matrix {
         self.bit_row(row) & BitRow::below(64 * words)
     }
 
-    /// Sets the colour of the module in row `row` and column `col`, and of no other module. The module becomes dark if
-    /// `dark` is true, and light otherwise.
+    /// Makes the module in row `row` and column `col` dark if `dark` is true, and light otherwise.
     pub fn set(&mut self, row: u8, col: u8, dark: bool)
         requires row_in { row < self.old.side }
         requires col_in { col < self.old.side }
@@ -174,8 +165,7 @@ impl Matrix {
         self.rows[usize::from(row)].put(col, dark);
     }
 
-    /// Sets the colours of row `row` to the bits of `bits`: the module in column `c` becomes dark if bit `c` is set,
-    /// and light otherwise. No bit of a column outside the square may be set.
+    /// Sets row `row` to the bits of `bits`; a set bit is dark.
     pub fn set_bit_row(&mut self, row: u8, bits: BitRow)
         requires row_in { row < self.old.side }
         requires past { (c : ℕ) → self.old.side ≤ c → has bits c ≡ false }
@@ -184,8 +174,7 @@ impl Matrix {
         self.rows[usize::from(row)] = bits;
     }
 
-    // Sets the colours of up to 64 modules of row `row`, from column `64 * number` on, to the bits of `word`. The
-    // lowest bit of `word` is the colour of column `64 * number`. No bit of a column outside the square may be set.
+    // Sets the modules from column `64 * number` on.
     pub(crate) fn set_word(&mut self, row: usize, number: usize, word: u64)
         requires row_in { row < self.old.side }
         requires word_in { number < 3 }
@@ -196,10 +185,8 @@ impl Matrix {
         self.rows[row].put_word(number, word);
     }
 
-    /// Sets the modules of row `row` to the colours that they have in the square `plain`, but inverts some of these
-    /// colours. The colour of a module is inverted if the module is dark in the square `within` and the bit of
-    /// `pattern` for its column is 1. `pattern` has six bits, which are repeated every six columns; the lowest bit is
-    /// for column 0. The squares `self`, `plain` and `within` must have the same number of modules on a side.
+    /// Sets row `row` to that of `plain`, and inverts each module that is dark in `within` and whose bit of `pattern`
+    /// is 1. The six bits of `pattern` repeat every six columns, the lowest bit first.
     #[tactic(auto, using(crate::proofs::Named::replaced_facts))]
     pub fn set_row_masked(&mut self, row: u8, plain: &Matrix, within: &Matrix, pattern: u8)
         requires row_in { row < self.old.side }
@@ -215,8 +202,7 @@ impl Matrix {
         self.set_bit_row(row, plain.bit_row(index) ^ inverted);
     }
 
-    // Sets the modules of row `row` whose bits are set in `columns` to one colour: dark if `dark` is true, and light
-    // otherwise. No bit of a column outside the square may be set.
+    // Sets the modules of row `row` in `columns`.
     #[tactic(auto, using(crate::proofs::Named::replaced_facts))]
     fn fill_row(&mut self, row: u8, columns: BitRow, dark: bool)
         requires row_in { row < self.old.side }
@@ -231,9 +217,8 @@ impl Matrix {
         }
     }
 
-    /// Sets the modules of a rectangle to one colour: dark if `dark` is true, and light otherwise. The rectangle has
-    /// the rows from `top` up to, but not including, `bottom`, and the columns from `left` up to, but not including,
-    /// `right`. The rectangle must be inside the square.
+    /// Makes a rectangle dark if `dark` is true, and light otherwise: the rows `top..bottom` and the columns
+    /// `left..right`.
     pub fn fill(&mut self, top: u8, bottom: u8, left: u8, right: u8, dark: bool)
         requires rows_in_order { top ≤ bottom }
         requires bottom_in { bottom ≤ self.old.side }
@@ -241,8 +226,7 @@ impl Matrix {
         requires right_in { right ≤ self.old.side }
         ensures { self.new ≡ with_rectangle self.old top bottom left right dark }
     {
-        // The `prove!` line below only helps the prover: this line repeats that a `Matrix` has at most 177 modules on a
-        // side. The prover needs the bound 177 if the rectangle has no rows.
+        // Only for the prover, which needs this bound if the rectangle has no rows.
         prove!(self.side <= 177);
         let columns = BitRow::below(right).and_not(BitRow::below(left));
         for row in top..bottom {
@@ -250,8 +234,7 @@ impl Matrix {
         }
     }
 
-    /// Sets the square `self` to the transpose of the square `other`. Both squares must have the same number of rows.
-    /// The module in row `r` and column `c` gets the colour of the module in row `c` and column `r` of `other`.
+    /// Sets this square to `other` with rows and columns exchanged.
     pub fn set_transposed(&mut self, other: &Matrix)
         requires { other.now.side ≡ self.old.side }
         ensures { self.new ≡ transposed other.now }

@@ -1,10 +1,8 @@
-//! Transposes a square of modules: the module in row `r` and column `c` moves to row `c` and column `r`. The square is
-//! transposed in tiles of 64 by 64 modules. A tile is stored in 64 words of 64 bits, one word for each row of the tile.
+//! Transposes a square in tiles of 64 by 64 modules, each 64 words of 64 bits.
 //!
-//! A tile is transposed in six stages. The first stage divides the tile into two by two parts of 32 by 32 bits, and
-//! exchanges the upper right part with the lower left part. The second stage divides each of the four parts into two by
-//! two parts of 16 by 16 bits, and exchanges the upper right part with the lower left part. In the last stage, each
-//! part is a single bit.
+//! A tile is transposed in six stages. The first divides it into two by two parts of 32 by 32 bits, and exchanges the
+//! upper right part with the lower left. The second does the same in each of the four parts, and so on down to single
+//! bits. In a stage, `steps` is the side of a part, and `mask` has the columns of the left parts.
 
 ghost use Rattle.std.specs.Prelude.{◌≡◌, ℕ, ◌+◌, ◌-◌, ◌*◌, ◌/◌, ◌%◌, ◌<◌, ◌≤◌, ◌&&◌, ◌==◌, ◌⊎◌, nat_lt, if◌then◌else◌, false, slice_index};
 ghost use Rattle.qr_matrix.specs.Grid.{square, colour, IsSquare};
@@ -13,10 +11,8 @@ ghost use Rattle.qr_matrix.specs.Steps.{bit_in, exchanged};
 
 use crate::matrix::Matrix;
 
-// Exchanges the right parts of the word `upper` with the left parts of the word `lower`, and returns both words. Each
-// word is divided into parts of `steps` columns (one bit is one column). The first part, which begins at column 0, is a
-// left part, the second part is a right part, and so on in turn. The set bits of `mask` are the columns of the left
-// parts. To exchange two parts, the function inverts, in both words, the bits in which the parts differ.
+// Exchanges the right parts of `upper` with the left parts of `lower`: inverts, in both, the bits in which these parts
+// differ.
 #[inline(always)]
 #[tactic(auto, using(crate::proofs::Named::exchange_facts))]
 fn exchange_words(upper: u64, lower: u64, steps: usize, mask: u64) -> (u64, u64)
@@ -32,9 +28,7 @@ fn exchange_words(upper: u64, lower: u64, steps: usize, mask: u64) -> (u64, u64)
     (upper ^ difference << steps, lower ^ difference)
 }
 
-// Exchanges parts of the tile in the `2 * steps` rows from row `first` on. Each part has `steps` rows and columns. In
-// each group of two by two parts, the upper right part and the lower left part are exchanged. The set bits of `mask`
-// are the columns of the left parts.
+// One stage, in the `2 * steps` rows from `first` on.
 #[inline(always)]
 fn exchange_rows(tile: &mut [u64; 64], first: usize, steps: usize, mask: u64)
     requires some { 1 ≤ steps }
@@ -54,9 +48,7 @@ fn exchange_rows(tile: &mut [u64; 64], first: usize, steps: usize, mask: u64)
     }
 }
 
-// Does one of the six stages of a transposition: exchanges parts of the tile that have `steps` rows and columns. In
-// each group of two by two parts, the upper right part and the lower left part are exchanged. The set bits of `mask`
-// are the columns of the left parts.
+// One stage, on the whole tile.
 #[inline(always)]
 fn exchange(tile: &mut [u64; 64], steps: usize, mask: u64)
     requires some { 1 ≤ steps }
@@ -70,7 +62,6 @@ fn exchange(tile: &mut [u64; 64], steps: usize, mask: u64)
     }
 }
 
-// Transposes a tile of 64 by 64 bits: the bit in row `r` and column `c` moves to row `c` and column `r`.
 fn transpose(tile: &mut [u64; 64])
     ensures { (r c : ℕ) → r < 64 → c < 64 → bit_in tile.new r c ≡ bit_in tile.old c r }
 {
@@ -82,8 +73,7 @@ fn transpose(tile: &mut [u64; 64])
     exchange(tile, 1, 0x5555_5555_5555_5555);
 }
 
-// Returns a tile of `matrix` with 64 rows and columns. The tile begins at row `64 * band` and column `64 * word` of the
-// square. Modules outside the square are light in the tile.
+// The tile that begins at row `64 * band` and column `64 * word`; light outside the square.
 fn tile_of(matrix: &Matrix, band: usize, word: usize) -> [u64; 64]
     requires band_in { 64 * band ≤ matrix.now.side }
     requires word_in { word < 3 }
@@ -99,9 +89,7 @@ fn tile_of(matrix: &Matrix, band: usize, word: usize) -> [u64; 64]
     tile
 }
 
-// Sets the modules of one tile of `matrix` to the colours of `tile`. The tile has 64 rows and columns, and begins at
-// row `64 * band` and column `64 * word` of the square. The function leaves out rows of the tile that lie below the
-// square. Modules of the tile that lie to the right of the square must be light.
+// Sets the modules of the tile at `band` and `word`, but for its rows below the square.
 fn set_tile(matrix: &mut Matrix, band: usize, word: usize, tile: &[u64; 64])
     requires whole { IsSquare matrix.old.side matrix.old }
     requires band_in { 64 * band ≤ matrix.old.side }
@@ -118,9 +106,7 @@ fn set_tile(matrix: &mut Matrix, band: usize, word: usize, tile: &[u64; 64])
     }
 }
 
-// Sets the modules of one tile of `matrix`: the module in row `r` and column `c` gets the colour of the module in row
-// `c` and column `r` of `other`. The tile has 64 rows and columns, and begins at row `64 * band` and column `64 * word`
-// of the square.
+// Sets the tile at `band` and `word` to that part of `other` with rows and columns exchanged.
 fn set_transposed_tile(matrix: &mut Matrix, other: &Matrix, band: usize, word: usize)
     requires whole { IsSquare matrix.old.side matrix.old }
     requires sides { other.now.side ≡ matrix.old.side }
@@ -136,8 +122,7 @@ fn set_transposed_tile(matrix: &mut Matrix, other: &Matrix, band: usize, word: u
     set_tile(matrix, band, word, &tile);
 }
 
-/// Sets up to 64 rows of `matrix`, from row `64 * band` on. The module in row `r` and column `c` gets the colour of the
-/// module in row `c` and column `r` of `other`.
+/// Sets the rows from `64 * band` on, at most 64, to those of `other` with rows and columns exchanged.
 pub(crate) fn set_transposed_band(matrix: &mut Matrix, other: &Matrix, band: usize)
     requires whole { IsSquare matrix.old.side matrix.old }
     requires sides { other.now.side ≡ matrix.old.side }

@@ -7,9 +7,9 @@ use Rattle.qr_layout.specs.declared.level.Level.{Level}
 use Rattle.qr_layout.specs.Format.{format_word_of}
 use Rattle.qr_layout.specs.declared.region.Module.{Module}
 use Rattle.qr_layout.specs.Role.{first_place, second_place}
-use Rattle.qr_matrix.specs.Grid.{Grid, colour}
-use Rattle.qr_matrix.specs.Penalty.{count_below, is_same}
-use Rattle.qr_symbol.specs.Symbol.{word_bit}
+use Rattle.qr_matrix.specs.Grid.{Grid, colour, is_same}
+use Rattle.qr_matrix.specs.Sums.{count_below}
+use Rattle.qr_matrix.specs.BitRow.{has_bit}
 use Rattle.qr_mending.specs.declared.format.FormatCopy.{FormatCopy}
 use Rattle.qr_mending.specs.declared.format.FormatCopy.TheVariants.{First, Second}
 
@@ -29,7 +29,7 @@ unread_bits unknown copy = count_below 15 (copy_bit copy unknown)
 
 -- The number of misread modules of a copy (ISO/IEC 18004:2015, 7.9.1)
 abbrev pub misread_bits : Grid → FormatCopy → Grid → (word : ℕ) → ℕ
-misread_bits unknown copy g word = count_below 15 (λ i. not (copy_bit copy unknown i) && not (is_same (copy_bit copy g i) (word_bit word i)))
+misread_bits unknown copy g word = count_below 15 (λ i. not (copy_bit copy unknown i) && not (is_same (copy_bit copy g i) (has_bit word i)))
 
 -- The cost of a copy: 1 for each module that was not read, and 2 for each misread one [own]
 abbrev pub copy_cost : Grid → FormatCopy → Grid → Level → ℕ → ℕ

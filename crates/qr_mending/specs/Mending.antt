@@ -10,7 +10,7 @@ use Rattle.qr_bits.specs.declared.fault.ParseFault.{ParseFault}
 use Rattle.qr_bits.specs.declared.fault.ParseFault.TheVariants as unparsed
 use Rattle.qr_matrix.specs.Grid.{Grid, colour}
 use Rattle.qr_matrix.specs.Difference.{differs}
-use Rattle.qr_matrix.specs.Penalty.{count_below, sum_below}
+use Rattle.qr_matrix.specs.Sums.{places_passing}
 use Rattle.qr_symbol.specs.declared.fault.ReadFault.{ReadFault}
 use Rattle.qr_symbol.specs.declared.fault.ReadFault.TheVariants as unread
 use Rattle.qr_symbol.specs.Symbol.{grid_of}
@@ -73,7 +73,7 @@ wrong_format_modules unknown g l mask = wrong_bits unknown First g l mask + wron
 
 -- The wrong modules of `g`: not read, or of another colour than in `h` [own]
 unfoldable pub wrong_modules : Grid → Grid → Grid → ℕ
-wrong_modules unknown g h = sum_below g.side (λ r. count_below g.side (λ c. colour unknown r c || differs g h r c))
+wrong_modules unknown g h = places_passing g.side (λ r c. colour unknown r c || differs g h r c)
 
 -- `wrong` modules of the square are wrong beside the symbol of `message`: of the whole square, with function patterns, version
 -- information and remainder bits (ISO/IEC 18004:2015, 7.5.2, 7.6, 7.7, 7.8)

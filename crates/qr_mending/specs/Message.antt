@@ -1,10 +1,10 @@
 -- How the message of a damaged symbol, which is its data codewords, is mended block by block. `unknown` is a square that is
 -- dark where a module of the symbol was not read; a codeword with such a module is erased. `b` has the sizes of the blocks,
--- `d` and `e` list the data codewords and the error correction codewords as they were read, `u` and `w` their marks, all in
--- the order of the blocks. To correct a block takes one error correction codeword for each erased codeword, and two for each
--- misread one.
-use Rattle.std.specs.Prelude.{◌≡◌, ℕ, ◌+◌, ◌-◌, ◌*◌, ◌/◌, ◌<◌, ◌≤◌, ◌==◌, if◌then◌else◌, not, Bool, Option, List, ◌++◌, map, take, drop, length, slice_index}
-use Rattle.std.specs.List.{All}
+-- `cw` lists the interleaved codewords as they were read, and `places` the modules of the encoding region in the order
+-- in which codewords fill them. To correct a block takes one error correction codeword for each erased codeword, and two
+-- for each misread one.
+use Rattle.std.specs.Prelude.{◌≡◌, ℕ, ◌+◌, ◌-◌, ◌*◌, ◌/◌, ◌<◌, ◌≤◌, ◌==◌, if◌then◌else◌, Option, None, Some, List, ◌++◌, map, take, drop, length, slice_index}
+use Rattle.std.specs.List.{list_any, range_with_len}
 use Rattle.qr_field.specs.Polynomial.{IsCorrection}
 use Rattle.qr_field.specs.Distance.{erasures, errors}
 use Rattle.qr_layout.specs.declared.blocks.Blocks.{Blocks}
@@ -14,12 +14,11 @@ use Rattle.qr_layout.specs.declared.region.Module.{Module}
 use Rattle.qr_layout.specs.Blocks.{blocks_of}
 use Rattle.qr_layout.specs.Order.{IsOrder}
 use Rattle.qr_layout.specs.Version.{total_codewords_of}
-use Rattle.qr_bits.specs.Bits.{bits_of}
 use Rattle.qr_matrix.specs.Grid.{Grid, colour}
-use Rattle.qr_symbol.specs.Interleaving.{block_count, start_of, codeword_count, data_sizes, correction_sizes, part_of, IsGathered}
-use Rattle.qr_mending.specs.Erasures.{read_of}
+use Rattle.qr_symbol.specs.Interleaving.{block_count, codeword_count, data_sizes, correction_sizes, part_of, IsGathered}
 
--- Block `i` as it was read, or its marks: data codewords, then error correction codewords (ISO/IEC 18004:2015, 7.5.1)
+-- Block `i`: data codewords, then error correction codewords, each listed in the order of the blocks
+-- (ISO/IEC 18004:2015, 7.5.1)
 abbrev pub received : Blocks → List ℕ → List ℕ → ℕ → List ℕ
 received b d e i = part_of (data_sizes b) d i ++ part_of (correction_sizes b) e i
 
@@ -39,26 +38,11 @@ spare_of v l = (blocks_of v l).ec_len - protection_of v l
 abbrev pub tolerance_of : ℕ → Level → ℕ
 tolerance_of v l = spare_of v l / 2
 
--- The colour of a module; true is dark [own]
-abbrev pub colour_at : Grid → Module → Bool
-colour_at g m = colour g m.row m.col
-
--- The marks of the codewords of a symbol: bytes, with a bit for each module of the codeword that is 1 if the module was not
--- read. So a mark is 0 exactly if its codeword is not erased (ISO/IEC 18004:2015, 7.7.3)
-pub record AreMarks (v : ℕ) (unknown : Grid) (marks : List ℕ) : Type 0 where
-  pub bytes : All (λ x. x < 256) marks
-  pub places : List Module
-  pub order : IsOrder v places
-  pub bits : bits_of marks ≡ map (colour_at unknown) (take (8 * total_codewords_of v) places)
-
--- The interleaved codewords, or their marks, in the order of the blocks (ISO/IEC 18004:2015, 7.6)
-pub record AreInBlocks (b : Blocks) (interleaved d e : List ℕ) : Type 0 where
-  pub gathered : IsGathered (data_sizes b) interleaved d
-  pub rest : IsGathered (correction_sizes b) (drop (codeword_count (data_sizes b)) interleaved) e
-
--- What was read of a block: `None` for a codeword whose mark is not 0 [own]
-abbrev pub read_by : List ℕ → List ℕ → List (Option ℕ)
-read_by codewords marks = read_of codewords (map (λ mark. not (mark == 0)) marks)
+-- What was read of codeword `k`, counted from 0: nothing if one of its eight modules was not read
+-- (ISO/IEC 18004:2015, 7.7.3)
+abbrev pub read_at : Grid → List Module → List ℕ → ℕ → Option ℕ
+read_at unknown places cw k =
+    if list_any (λ m. colour unknown m.row m.col) (take 8 (drop (8 * k) places)) then None else Some (slice_index cw k)
 
 -- Block `i`, of which `read` was read, can be mended to block `i` of `message`: `misread` of its codewords are misread, and
 -- its correction takes at most `spare` error correction codewords (ISO/IEC 18004:2015, 7.5.1)
@@ -68,25 +52,18 @@ pub record IsMendedBlock (b : Blocks) (spare : ℕ) (read : List (Option ℕ)) (
   pub near : erasures read + 2 * misread ≤ spare
   pub count : misread ≡ errors read (part_of (data_sizes b) message i ++ correction)
 
--- `message` is the first `n` blocks, mended, and item i of `misread` the number of misread codewords of block i [own]
-pub record AreMended (b : Blocks) (spare : ℕ) (d e u w : List ℕ) (n : ℕ) (message misread : List ℕ) : Type 0 where
-  pub long : length message ≡ start_of (data_sizes b) n
-  pub many : length misread ≡ n
-  pub each : (i : ℕ) → i < n → IsMendedBlock b spare (read_by (received b d e i) (received b u w i)) message (slice_index misread i) i
-
--- The interleaved codewords `cw` with the marks `marks` can be mended to `message` (ISO/IEC 18004:2015, 7.5.1, 7.6)
-pub record IsMendedMessage (b : Blocks) (spare : ℕ) (cw marks message misread : List ℕ) : Type 0 where
-  pub codewords : List ℕ
-  pub checks : List ℕ
-  pub unread : List ℕ
-  pub unread_checks : List ℕ
-  pub in_blocks : AreInBlocks b cw codewords checks
-  pub marked : AreInBlocks b marks unread unread_checks
-  pub mended : AreMended b spare codewords checks unread unread_checks (block_count (data_sizes b)) message misread
-
--- The interleaved codewords `cw` of a symbol of version `v` and level `l` can be mended to `message`
--- (ISO/IEC 18004:2015, 7.5.1, 7.6, 7.7.3)
+-- The codewords of a symbol of version `v` and level `l` can be mended to `message`: `indices` lists, block by block,
+-- which of the interleaved codewords are data codewords of the block, and `checks` which are its error correction
+-- codewords (ISO/IEC 18004:2015, 7.5.1, 7.6, 7.7.3)
 pub record IsMendedIn (unknown : Grid) (v : ℕ) (l : Level) (cw message misread : List ℕ) : Type 0 where
-  pub marks : List ℕ
-  pub erased : AreMarks v unknown marks
-  pub mended : IsMendedMessage (blocks_of v l) (spare_of v l) cw marks message misread
+  pub places : List Module
+  pub order : IsOrder v places
+  pub indices : List ℕ
+  pub checks : List ℕ
+  pub gathered : IsGathered (data_sizes (blocks_of v l)) (range_with_len 0 (total_codewords_of v)) indices
+  pub rest : IsGathered (correction_sizes (blocks_of v l))
+      (drop (codeword_count (data_sizes (blocks_of v l))) (range_with_len 0 (total_codewords_of v))) checks
+  pub long : length message ≡ codeword_count (data_sizes (blocks_of v l))
+  pub many : length misread ≡ block_count (data_sizes (blocks_of v l))
+  pub each : (i : ℕ) → i < block_count (data_sizes (blocks_of v l)) → IsMendedBlock (blocks_of v l) (spare_of v l)
+      (map (read_at unknown places cw) (received (blocks_of v l) indices checks i)) message (slice_index misread i) i

@@ -1,7 +1,7 @@
--- The definitions in the folder `Steps` describe how the program computes its results. Only the contracts of private
--- functions use the definitions in this folder. To judge the promises of public functions, a reader need not read the
--- files in this folder.
+-- Steps of the program, for contracts of private functions only. Nobody needs them to judge the promises of public
+-- functions.
 pub mod Sums
 pub mod Polynomial
 pub mod Errors
 pub mod Roots
+pub mod Message

@@ -1,4 +1,4 @@
-//! Mends damaged blocks: corrects the wrong codewords of a block (ISO/IEC 18004:2015, 7.5.1 and Annex B).
+//! Mends damaged blocks (ISO/IEC 18004:2015, 7.5.1 and Annex B).
 
 ghost use Rattle.std.specs.Prelude.{◌≡◌, ℕ, ◌*◌, ◌≤◌, List, length, IfSome, IfNone};
 ghost use Rattle.std.specs.Bool.{Decides};
@@ -11,9 +11,7 @@ use crate::sums::syndromes;
 use arrayvec::ArrayVec;
 use qr_field::Divisor;
 
-// Returns the block with `n` error correction codewords that differs from `damaged` in at most `t` codewords, if there
-// is one. If every block differs from `damaged` in more than `t` codewords, returns some list that is as long as
-// `damaged`.
+// The block that differs from `damaged` in at most `t` codewords, or some list of the same length if there is none.
 fn candidate(n: usize, t: usize, damaged: &[u8]) -> ArrayVec<u8, 255>
     requires most { n ≤ 30 }
     requires half { 2 * t ≤ n }
@@ -27,8 +25,6 @@ fn candidate(n: usize, t: usize, damaged: &[u8]) -> ArrayVec<u8, 255>
     without_errors(coefficients, first.as_slice(), damaged)
 }
 
-// Returns the number of indices at which the lists `xs` and `ys` have different items. The lists `xs` and `ys` have the
-// same length.
 fn count_differences(xs: &[u8], ys: &[u8]) -> usize
     requires { length xs.now ≡ length ys.now }
     ensures { result ≡ differences xs.now ys.now }
@@ -42,8 +38,7 @@ fn count_differences(xs: &[u8], ys: &[u8]) -> usize
     count
 }
 
-// Returns whether `codewords` is a block: data codewords followed by their error correction codewords. `divisor`
-// determines the number of error correction codewords of the block.
+// Whether the codewords are a block with the error correction codewords of `divisor`.
 pub(crate) fn is_block(divisor: &Divisor, codewords: &[u8]) -> bool
     requires { divisor.now ≤ length codewords.now }
     ensures { Decides result (IsBlock divisor.now codewords.now) }
@@ -53,11 +48,9 @@ pub(crate) fn is_block(divisor: &Divisor, codewords: &[u8]) -> bool
     correction.as_slice() == &codewords[start..]
 }
 
-/// Mends a damaged block of at most 255 codewords: replaces `codewords` with the block that differs from `codewords` in
-/// at most `t` codewords. `divisor` determines the number of error correction codewords of the block, and twice `t`
-/// must be at most this number. Returns the number of codewords that were wrong. If every block differs from
-/// `codewords` in more than `t` codewords, returns `None` and leaves `codewords` unchanged (ISO/IEC 18004:2015, 7.5.1
-/// and Annex B).
+/// Mends a damaged block of at most 255 codewords: replaces `codewords` by the block that differs from it in at most
+/// `t`, and returns in how many. Returns `None` and changes nothing if there is none (ISO/IEC 18004:2015, 7.5.1 and
+/// Annex B). `divisor` determines the number of error correction codewords, which must be at least twice `t`.
 pub fn mend(divisor: &Divisor, t: usize, codewords: &mut [u8]) -> Option<usize>
     requires half { 2 * t ≤ divisor.now }
     requires least { divisor.now ≤ length codewords.old }

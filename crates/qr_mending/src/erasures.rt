@@ -1,6 +1,5 @@
-//! Mends damaged blocks in which some codewords are known to be unreadable. A codeword that is known to be unreadable
-//! is called erased. To correct an erased codeword, one error correction codeword is needed. To correct a misread
-//! codeword, two error correction codewords are needed (ISO/IEC 18004:2015, 7.5.1 and Annex B).
+//! Mends damaged blocks of which some codewords are erased. An erased codeword takes one error correction codeword, a
+//! misread one two (ISO/IEC 18004:2015, 7.5.1 and Annex B). `erased` is true at the index of each erased codeword.
 
 ghost use Rattle.std.specs.Prelude.{◌≡◌, ℕ, ◌+◌, ◌≤◌, List, length, IfSome, IfNone};
 ghost use Rattle.std.specs.List.{All, count_by};
@@ -19,12 +18,8 @@ use crate::sums::{dot, syndromes};
 use arrayvec::ArrayVec;
 use qr_field::Divisor;
 
-// Returns the modified syndromes of a damaged block. The error of a codeword is the difference between the codeword
-// that was read and the correct codeword. The coefficients of the error polynomial are the errors of all codewords.
-// `syndromes` contains the values of the error polynomial at the first powers of 2. A second polynomial is made from
-// the error polynomial: for each m, the coefficient of x^m is multiplied by the value of `polynomial` at 2^m. The
-// modified syndromes are the values of the second polynomial at the first powers of 2. The number of modified syndromes
-// is the number of syndromes, less the degree of `polynomial`.
+// The syndromes of a second error polynomial: its coefficient of x^m is that of the first, multiplied by the value of
+// `polynomial` at 2^m. If `polynomial` has a root for each erased codeword, their errors are gone.
 fn modified_syndromes(polynomial: &[u8], syndromes: &[u8]) -> ArrayVec<u8, 30>
     requires least { 1 ≤ length polynomial.now }
     requires long { length polynomial.now ≤ length syndromes.now + 1 }
@@ -40,10 +35,8 @@ fn modified_syndromes(polynomial: &[u8], syndromes: &[u8]) -> ArrayVec<u8, 30>
     modified
 }
 
-// Returns the block with `n` error correction codewords to which `damaged` can be mended, if there is one. If `damaged`
-// cannot be mended, returns some list that is as long as `damaged`. `erased` is true at the index of each erased
-// codeword, which is a codeword that is known to be unreadable. A block can be mended if the number of erased codewords
-// plus twice the number of misread codewords is at most `spare`.
+// The block to which `damaged` can be mended with `spare` error correction codewords, or some list of the same length
+// if there is none.
 fn candidate(n: usize, spare: usize, erased: &[bool], damaged: &[u8]) -> ArrayVec<u8, 255>
     requires most { n ≤ 30 }
     requires spare { spare ≤ n }
@@ -63,8 +56,6 @@ fn candidate(n: usize, spare: usize, erased: &[bool], damaged: &[u8]) -> ArrayVe
     without_errors(all.as_slice(), first.as_slice(), damaged)
 }
 
-// Returns the number of misread codewords in the block `codewords`. A codeword is misread if it is not erased and
-// differs from the codeword with the same index in `mended`.
 fn count_misread(codewords: &[u8], erased: &[bool], mended: &[u8]) -> usize
     requires marks { length erased.now ≡ length codewords.now }
     requires long { length mended.now ≡ length codewords.now }
@@ -80,15 +71,13 @@ fn count_misread(codewords: &[u8], erased: &[bool], mended: &[u8]) -> usize
     count
 }
 
-/// Mends a damaged block of at most 255 codewords. A codeword that could not be read is called erased, and `erased` is
-/// true at the index of each erased codeword. Codewords that are not erased may be misread. The values of erased
-/// codewords in `codewords` have no effect on the mended block. To correct an erased codeword, one error correction
-/// codeword is needed. To correct a misread codeword, two error correction codewords are needed. `divisor` determines
-/// the number of error correction codewords of the block. A block can be mended if at most `spare` error correction
-/// codewords are needed to correct its erased and misread codewords. When the blocks of a symbol are mended, `spare` is
-/// twice the number that the function `changed_max` returns. Returns the number of misread codewords; erased codewords
-/// are not counted. If `spare` error correction codewords are not enough to mend the block, returns `None` and leaves
-/// `codewords` unchanged (ISO/IEC 18004:2015, 7.5.1 and Annex B).
+/// Mends a damaged block of at most 255 codewords, of which those are erased at whose index `erased` is true. Returns
+/// how many of the others were misread (ISO/IEC 18004:2015, 7.5.1 and Annex B). The values of erased codewords have no
+/// effect.
+///
+/// An erased codeword takes one error correction codeword, a misread one two. If more than `spare` are needed, returns
+/// `None` and changes nothing. `divisor` determines how many the block has; in a symbol, `spare` is twice
+/// `changed_max`.
 pub fn mend_with_erasures(
     divisor: &Divisor,
     spare: usize,

@@ -1,8 +1,8 @@
-//! Removes the errors of a damaged block. An error is the difference between a codeword as it was read and the correct
-//! codeword. The errors of all codewords are the coefficients of the error polynomial. The locator is a polynomial with
-//! a root for each wrong codeword. The syndromes are the values of the error polynomial at the first powers of 2. From
-//! the locator and the syndromes, this module computes the values of the error polynomial at all 255 powers of 2. The
-//! values of the error polynomial at all powers of 2 determine the errors.
+//! Removes the errors of a damaged block. The error of a codeword is its difference from the right one, and the errors
+//! are the coefficients of the error polynomial. `syndromes` has its values at the first powers of 2, and `series` at
+//! as many as were computed, from 2 to the power 0 on. The locator is a polynomial with a root for each wrong codeword:
+//! each later value is the sum of the values before it, times the locator's coefficients. All 255 values determine the
+//! errors.
 
 ghost use Rattle.std.specs.Prelude.{◌≡◌, ℕ, ◌+◌, ◌<◌, ◌≤◌, List, length};
 ghost use Rattle.std.specs.List.{All};
@@ -16,11 +16,8 @@ use crate::sums::{dot, value};
 use arrayvec::ArrayVec;
 use qr_field::power_of;
 
-// Returns the value of the error polynomial at 2 to the power n, where n is the length of `series`. The coefficients of
-// the error polynomial are the errors of the codewords. `series` contains the values of the error polynomial at 2 to
-// the powers 0 to n - 1. `syndromes` contains the values of the error polynomial at the first powers of 2, from 2 to
-// the power 0 on. `locator` lists the coefficients of the locator polynomial, which has a root for each wrong codeword.
-// The last item of `locator` is the leading coefficient, which is 1.
+// The value after those in `series`: a syndrome while these are fewer than the locator's degree, then the last values
+// times the locator's coefficients. Its last coefficient, the leading one, is 1 and left out.
 fn next_value(locator: &[u8], syndromes: &[u8], series: &[u8]) -> u8
     requires least { 1 ≤ length locator.now }
     requires long { length locator.now ≤ length syndromes.now + 1 }
@@ -35,11 +32,7 @@ fn next_value(locator: &[u8], syndromes: &[u8], series: &[u8]) -> u8
     dot(&locator[..degree], &series[count - degree..])
 }
 
-// Returns the values of the error polynomial at all 255 powers of 2, from 2 to the power 0 on. The coefficients of the
-// error polynomial are the errors of the codewords. `syndromes` contains the values of the error polynomial at the
-// first powers of 2. `locator` lists the coefficients of the locator polynomial, which has a root for each wrong
-// codeword. The first values are taken from `syndromes`. By means of the locator polynomial, each later value is
-// computed from the values before it.
+// The values at all 255 powers of 2.
 fn values(locator: &[u8], syndromes: &[u8]) -> ArrayVec<u8, 255>
     requires least { 1 ≤ length locator.now }
     requires long { length locator.now ≤ length syndromes.now + 1 }
@@ -55,10 +48,9 @@ fn values(locator: &[u8], syndromes: &[u8]) -> ArrayVec<u8, 255>
     series
 }
 
-// Returns the error of one codeword of a damaged block. `place` is the index of this codeword, counted backwards: the
-// last codeword of the block has the index 0. `locator` lists the coefficients of the locator polynomial, which has a
-// root for each wrong codeword. `series` contains the values of the error polynomial at all 255 powers of 2; the
-// coefficients of this polynomial are the errors.
+// The error of the codeword with the index `place`, counted from the end. The transform from errors to values undoes
+// itself but for the sign of the exponent: as coefficients, the values have the error as their value at the inverse of 2
+// to the power `place`.
 fn error(locator: &[u8], series: &[u8], place: u8) -> u8
     requires count { length series.now ≡ 255 }
     requires place { place < 255 }
@@ -72,9 +64,7 @@ fn error(locator: &[u8], series: &[u8], place: u8) -> u8
     value(series, power_of(inverse))
 }
 
-// Removes the errors of the codewords of the damaged block `damaged`, and returns the corrected codewords. `locator`
-// lists the coefficients of the locator polynomial, which has a root for each wrong codeword. `syndromes` contains the
-// values of the error polynomial at the first powers of 2; the coefficients of this polynomial are the errors.
+// The block without its errors.
 pub(crate) fn without_errors(locator: &[u8], syndromes: &[u8], damaged: &[u8]) -> ArrayVec<u8, 255>
     requires least { 1 ≤ length locator.now }
     requires long { length locator.now ≤ length syndromes.now + 1 }

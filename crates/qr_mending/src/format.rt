@@ -5,8 +5,8 @@ ghost use Rattle.std.specs.Prelude.{◌≡◌, ℕ, ◌+◌, ◌*◌, ◌<◌, �
 ghost use Rattle.qr_layout.specs.declared.level.Level.{Level};
 ghost use Rattle.qr_layout.specs.Format.{format_word_of};
 ghost use Rattle.qr_layout.specs.Version.{side_of};
-ghost use Rattle.qr_matrix.specs.Penalty.{is_same};
-ghost use Rattle.qr_symbol.specs.Symbol.{word_bit};
+ghost use Rattle.qr_matrix.specs.Grid.{is_same};
+ghost use Rattle.qr_matrix.specs.BitRow.{has_bit};
 ghost use Rattle.qr_mending.specs.declared.format.FormatCopy.{FormatCopy};
 ghost use Rattle.qr_mending.specs.Format.{copy_place, format_cost, misread_bits, unread_bits, IsNearFormat};
 ghost use Rattle.qr_mending.specs.Mending.{wrong_format_modules};
@@ -45,9 +45,10 @@ impl FormatCopy {
 }
 
 // Whether bit `i` of `word` is 1; bit 0 is the lowest.
+#[tactic(auto, unfolding(qr_matrix::specs::BitRow::has_bit))]
 fn is_bit_set(word: u32, i: u8) -> bool
     requires { i < 32 }
-    ensures { result ≡ word_bit word i }
+    ensures { result ≡ has_bit word i }
 {
     word >> i & 1 == 1
 }

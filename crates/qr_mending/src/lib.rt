@@ -1,5 +1,5 @@
-//! Mends damaged QR Code symbols: reads them and corrects their damage (ISO/IEC 18004:2015, 7.5.1, 7.9.1 and 12, Annexes B and
-//! C). A block is mended if no more of its codewords are wrong than the standard allows. The level and the mask are found by
+//! Mends damaged symbols: reads them and corrects their damage (ISO/IEC 18004:2015, 7.5.1, 7.9.1 and 12, Annexes B and
+//! C). A block is mended if no more of its codewords are wrong than the standard allows. Level and mask are found by
 //! the two copies of the format information, and by the blocks, which they have to mend.
 #![tactic(auto)]
 

@@ -1,9 +1,10 @@
-//! Finds the error locator polynomial of a damaged block by Gaussian elimination. The error locator polynomial has a
-//! root for each wrong codeword of the block. A polynomial solves an equation if the sum of the products of its
-//! coefficients and certain syndromes is 0. The elimination begins with a list of powers of x. The number of powers in
-//! the list is one more than the number of equations. For each equation, at most one polynomial is removed from the
-//! list, and the polynomials after the removed one are changed. After the step for an equation, all polynomials in the
-//! list solve this equation.
+//! Finds the error locator polynomial of a damaged block, which has a root for each wrong codeword, by Gaussian
+//! elimination.
+//!
+//! A polynomial solves an equation if the sum of its coefficients, each multiplied by the item of `window` at its
+//! index, is 0; for equation `i` the window is the syndromes from index `i` on. The pool begins with one more power of
+//! x than there are equations. A step removes at most one polynomial, and changes those after it so that all in the
+//! pool solve one more equation.
 
 ghost use Rattle.std.specs.Prelude.{◌≡◌, ◌≢◌, ℕ, ◌+◌, ◌*◌, ◌<◌, ◌≤◌, List, length, drop};
 ghost use Rattle.qr_mending.specs.Steps.Polynomial.{at, all_of, miss_of, IsMonic, IsRelieved, HasDegrees, IsPool};
@@ -11,7 +12,7 @@ ghost use Rattle.qr_mending.specs.Steps.Polynomial.{at, all_of, miss_of, IsMonic
 use crate::polynomial::Polynomial;
 use arrayvec::ArrayVec;
 
-// Returns a list of `t` + 1 polynomials: x to the power 0, x to the power 1, and so on up to x to the power `t`.
+// The powers of x from 0 to `t`.
 fn monomials(t: usize) -> ArrayVec<Polynomial, 16>
     requires { t ≤ 15 }
     ensures { (syndromes : List ℕ) → IsPool t 0 syndromes result.items }
@@ -23,10 +24,7 @@ fn monomials(t: usize) -> ArrayVec<Polynomial, 16>
     pool
 }
 
-// Returns the index of the first polynomial in `pool` that does not solve the equation of `window`. To test a
-// polynomial, each of its coefficients is multiplied by the value in `window` with the same index. A polynomial solves
-// the equation of `window` if the sum of the products is 0. If every polynomial in `pool` solves the equation of
-// `window`, returns the number of polynomials in `pool`.
+// The index of the first polynomial that does not solve the equation, or the number of polynomials.
 fn first_miss(pool: &[Polynomial], window: &[u8], t: usize) -> usize
     requires degrees { HasDegrees t pool.now }
     requires small { t ≤ 15 }
@@ -43,9 +41,8 @@ fn first_miss(pool: &[Polynomial], window: &[u8], t: usize) -> usize
     pool.len()
 }
 
-// Changes the polynomials in `pool` from index `first` on so that they solve the equation of `window`. A polynomial
-// solves the equation of `window` if its method `miss` returns 0 for `window`. Each change adds a multiple of the
-// polynomial `pivot` to a polynomial of `pool`. The polynomial `pivot` does not solve the equation of `window`.
+// Adds multiples of `pivot`, which does not solve the equation, to the polynomials from index `first` on, so that they
+// do.
 fn relieve(pool: &mut [Polynomial], first: usize, pivot: &Polynomial, window: &[u8], t: usize)
     requires degrees { HasDegrees t pool.old }
     requires small { t ≤ 15 }
@@ -61,10 +58,7 @@ fn relieve(pool: &mut [Polynomial], first: usize, pivot: &Polynomial, window: &[
     }
 }
 
-// Changes the list `pool` so that its polynomials solve equation `i`. Before the call, the polynomials in `pool` solve
-// equations 0 to `i` - 1, and they still solve these equations after the call. A polynomial solves equation `i` if the
-// sum of the products of its coefficients and the syndromes from index `i` on is 0. At most one polynomial is removed
-// from `pool`.
+// The step for equation `i`.
 fn solve(pool: &mut ArrayVec<Polynomial, 16>, syndromes: &[u8], i: usize, t: usize)
     requires pool { IsPool t i syndromes.now pool.old.items }
     requires small { t ≤ 15 }
@@ -80,8 +74,7 @@ fn solve(pool: &mut ArrayVec<Polynomial, 16>, syndromes: &[u8], i: usize, t: usi
     }
 }
 
-// Returns a polynomial of degree at most `t`, with leading coefficient 1, that solves equations 0 to `t` - 1. A
-// polynomial solves equation i if the sum of the products of its coefficients and the syndromes from index i on is 0.
+// A polynomial of degree at most `t` that solves equations 0 to `t` - 1.
 pub(crate) fn locator(syndromes: &[u8], t: usize) -> Polynomial
     requires small { t ≤ 15 }
     requires long { 2 * t ≤ length syndromes.now }

@@ -1,16 +1,16 @@
-//! Mends and reads damaged symbols (ISO/IEC 18004:2015, 7.5.1, 7.9.1 and 12). The square `unknown` is dark where a module of
-//! `matrix` was not read. `marks` has a byte for each codeword of the symbol, which is 0 exactly if all its modules were read.
+//! Mends and reads damaged symbols (ISO/IEC 18004:2015, 7.5.1, 7.9.1 and 12). The square `unknown` is dark where a
+//! module of `matrix` was not read. `marks` has a byte for each codeword, which is 0 exactly if all its modules were
+//! read.
 
 ghost use Rattle.std.specs.Prelude.{◌≡◌, ◌<◌, ◌≤◌, length, IfErr, IfOk, Some, MatchOption, MatchResult};
 ghost use Rattle.qr_layout.specs.Blocks.{data_codewords_of};
 ghost use Rattle.qr_layout.specs.Version.{side_of, total_codewords_of};
 ghost use Rattle.qr_matrix.specs.Grid.{light};
 ghost use Rattle.qr_symbol.specs.declared.fault.ReadFault.{ReadFault};
-ghost use Rattle.qr_symbol.specs.Reading.{IsOfVersion};
+ghost use Rattle.qr_symbol.specs.Reading.{IsOfVersion, IsReadUnmasked};
 ghost use Rattle.qr_mending.specs.declared.format.FormatCopy.{FormatCopy};
 ghost use Rattle.qr_mending.specs.Format.{format_cost, IsNearFormat};
 ghost use Rattle.qr_mending.specs.Mending.{wrong_format_modules, wrong_modules, DiffersFromSymbol, HasFormat, HasWrongModules, HoldsDamaged, IsMendedReading, IsOfNoUse, IsUnmended};
-ghost use Rattle.qr_mending.specs.Message.{AreMarks};
 
 use crate::format::{
     FormatCopy, format_cost, near_format_of, near_format_of_either, wrong_format_modules,
@@ -22,10 +22,10 @@ use qr_matrix::{Matrix, differences};
 use qr_symbol::{ReadFault, draw_symbol, interleave, read_codewords};
 use std::alloc::{AllocError, Global};
 
-// Where both copies cost at most this, every other level and mask cost more.
+// If both copies together cost at most this, every other level and mask cost more.
 const COST_CERTAIN: u8 = 13;
 
-// A symbol whose blocks were mended, with the level and the mask of which this was done.
+// A symbol whose blocks were mended, with its level and mask.
 #[derive(Drop)]
 struct MendedSquare {
     level: Level,
@@ -34,7 +34,7 @@ struct MendedSquare {
     changed: Vec<usize>,
 }
 
-// Mends the symbol with the level and the mask that are near to the copy, or returns `None` if that cannot be done.
+// Mends the symbol with the level and mask near to the copy, or returns `None` if that cannot be done.
 fn mend_by(
     alloc: Global,
     version: Version,
@@ -46,7 +46,7 @@ fn mend_by(
     requires side { matrix.now.side ≡ side_of version }
     requires unknown_side { unknown.now.side ≡ side_of version }
     requires marks { length marks.now ≡ total_codewords_of version }
-    requires erased { AreMarks version unknown.now marks.now }
+    requires erased { IsReadUnmasked version unknown.now marks.now }
     ensures mended { IfOk result (λ o. MatchOption o (IsOfNoUse unknown.now copy version matrix.now)
         (λ m. IsNearFormat unknown.now copy matrix.now m.level m.mask
         × HoldsDamaged unknown.now version m.level m.mask matrix.now m.message.items m.changed.items
@@ -69,7 +69,7 @@ fn mend_by(
     }
 }
 
-// What the format information costs with the level and the mask of a mended symbol.
+// What both copies cost with the level and mask of a mended symbol.
 fn cost_of(matrix: &Matrix, unknown: &Matrix, version: Version, mended: &MendedSquare) -> u8
     requires side { matrix.now.side ≡ side_of version }
     requires unknown_side { unknown.now.side ≡ side_of version }
@@ -79,8 +79,8 @@ fn cost_of(matrix: &Matrix, unknown: &Matrix, version: Version, mended: &MendedS
     format_cost(matrix, unknown, version, mended.level, mended.mask)
 }
 
-// Mends the symbol with the level and the mask of the least rank, or returns `None` if no level and mask near to a copy mend
-// it. The second copy is not tried where the first gives a pair that is certain.
+// Mends the symbol with the level and mask of least cost, the first copy's among equals, or returns `None` if none near
+// to a copy mend it. The second copy is not tried if the first gives a pair that is certain.
 fn mend_by_either(
     alloc: Global,
     version: Version,
@@ -91,7 +91,7 @@ fn mend_by_either(
     requires side { matrix.now.side ≡ side_of version }
     requires unknown_side { unknown.now.side ≡ side_of version }
     requires marks { length marks.now ≡ total_codewords_of version }
-    requires erased { AreMarks version unknown.now marks.now }
+    requires erased { IsReadUnmasked version unknown.now marks.now }
     ensures mended { IfOk result (λ o. MatchOption o ((any : FormatCopy) → IsOfNoUse unknown.now any version matrix.now)
         (λ m. HasFormat unknown.now version matrix.now m.level m.mask
         × HoldsDamaged unknown.now version m.level m.mask matrix.now m.message.items m.changed.items
@@ -114,7 +114,6 @@ fn mend_by_either(
     Ok(Some(first))
 }
 
-// Reads the marks of the codewords, and mends the symbol.
 fn mend_square(
     alloc: Global,
     version: Version,
@@ -133,8 +132,8 @@ fn mend_square(
     mend_by_either(alloc, version, matrix, unknown, &marks)
 }
 
-// The number of wrong modules beside `symbol`. Where a module was not read, the symbol is given another colour than `matrix`
-// has, so that the two differ exactly where a module is wrong.
+// The number of wrong modules beside `symbol`. Where a module was not read, the symbol gets another colour than
+// `matrix` has, so that the two differ exactly where a module is wrong.
 fn count_wrong(unknown: &Matrix, matrix: &Matrix, mut symbol: Matrix) -> u32
     requires unknown_side { unknown.now.side ≡ matrix.now.side }
     requires side { symbol.side ≡ matrix.now.side }
@@ -173,7 +172,7 @@ fn count_wrong_modules(
     Ok(count_wrong(unknown, matrix, symbol))
 }
 
-// Why the symbol is refused that no level and mask mend.
+// Why a symbol is refused that no level and mask mend.
 fn refusal(version: Version, matrix: &Matrix, unknown: &Matrix) -> ReadFault
     requires sized { IsOfVersion matrix.now version }
     requires unknown_side { unknown.now.side ≡ side_of version }
@@ -186,46 +185,44 @@ fn refusal(version: Version, matrix: &Matrix, unknown: &Matrix) -> ReadFault
     }
 }
 
-/// The content of a damaged symbol after its damage was corrected, and numbers that describe the damage.
+/// The content of a mended symbol, and numbers that describe its damage.
 #[derive(Drop)]
 pub struct Mended {
-    /// The version of the symbol, which follows from the number of its rows.
+    /// The version, by the number of rows.
     pub version: Version,
-    /// The error correction level of the symbol.
+    /// The error correction level.
     pub level: Level,
-    /// The number of the mask pattern, from 0 to 7.
+    /// The mask, from 0 to 7.
     pub mask: u8,
-    /// The content of the symbol: an optional structured append header, the segments, and the bytes of all segments.
+    /// The content: an optional structured append header, the segments, and the bytes of all segments.
     pub parsed: Parsed,
-    /// The number of wrong modules among the 30 modules of the two copies of the format information.
+    /// The number of wrong modules among the 30 of both copies of the format information.
     pub wrong_format_modules: u8,
-    /// The number of wrong modules in the whole symbol. A module is wrong if it could not be read, or if it does not
-    /// have the colour that it has in the undamaged symbol. The number includes wrong modules of function patterns,
-    /// version information and remainder bits.
+    /// The number of wrong modules of the whole symbol, with function patterns, version information and remainder bits:
+    /// those that were not read or have another colour than in the undamaged symbol.
     pub wrong_modules: u32,
-    /// For each block, the number of codewords that were misread. Codewords that are known to be unreadable are not
-    /// counted.
+    /// For each block, the number of misread codewords, without those that are known to be unreadable.
     pub changed: Vec<usize>,
 }
 
-/// Reads a damaged symbol and corrects its damage (ISO/IEC 18004:2015, 7.5.1, 7.9.1 and 12). A module that was not read is
-/// dark in the square `unknown`, which has the side of `matrix`, and its codeword is called erased.
+/// Reads a damaged symbol and corrects its damage (ISO/IEC 18004:2015, 7.5.1, 7.9.1 and 12). A module that was not read
+/// is dark in the square `unknown`, which has the side of `matrix`, and its codeword is called erased.
 ///
-/// A block is mended if its erased codewords, and twice its misread ones, are at most twice `changed_max`. The level and the
-/// mask are found by the two copies of the format information, of 15 modules each. A copy admits a level and a mask if the
-/// modules of it that were not read, and twice those that are misread, are at most 6. Of the pairs that a copy admits and
-/// that mend every block, at most two, the one with the least such sum over both copies is taken, and of two with the same
-/// sum the one that the first copy admits.
+/// A block is mended if its erased codewords, and twice its misread ones, are at most twice `changed_max`. The level
+/// and the mask are found by the two copies of the format information, of 15 modules each. A copy admits a level and a
+/// mask if the modules of it that were not read, and twice those that are misread, are at most 6. Of the pairs that a
+/// copy admits and that mend every block, at most two, the one with the least such sum over both copies is taken, and
+/// of two with the same sum the one that the first copy admits.
 ///
-/// So a symbol is mended to exactly itself if its blocks can be mended and that sum is at most 13 over both copies, as with
-/// any six wrong modules. Function patterns, version information and remainder bits have no effect on the content; their
-/// wrong modules are counted in `Mended::wrong_modules`.
+/// So a symbol is mended to exactly itself if its blocks can be mended and that sum is at most 13 over both copies, as
+/// with any six wrong modules. Function patterns, version information and remainder bits have no effect on the content;
+/// their wrong modules are counted in `Mended::wrong_modules`.
 ///
 /// # Errors
 ///
-/// Returns `Side` if no version has the side of `matrix`, `Format` if no copy admits a level and a mask, `Check` if no pair
-/// that a copy admits mends every block, `Segments` if the mended data codewords cannot be parsed, and `Memory` if memory is
-/// refused.
+/// Returns `Side` if no version has the side of `matrix`, `Format` if no copy admits a level and a mask, `Check` if no
+/// pair that a copy admits mends every block, `Segments` if the mended data codewords cannot be parsed, and `Memory` if
+/// memory is refused.
 pub fn mend_symbol_without(
     alloc: Global,
     matrix: &Matrix,

@@ -8,46 +8,27 @@ ghost use Rattle.qr_layout.specs.Blocks.{blocks_of, data_codewords_of};
 ghost use Rattle.qr_layout.specs.Version.{side_of, total_codewords_of};
 ghost use Rattle.qr_symbol.specs.declared.fault.ReadFault.{ReadFault};
 ghost use Rattle.qr_symbol.specs.Interleaving.{block_count, block_len, codeword_count, data_sizes, correction_sizes};
+ghost use Rattle.qr_symbol.specs.Reading.{IsReadUnmasked};
 ghost use Rattle.qr_mending.specs.Erasures.{read_of};
-ghost use Rattle.qr_mending.specs.Message.{received, protection_of, spare_of, tolerance_of, AreInBlocks, AreMarks, AreMended, IsMendedMessage};
+ghost use Rattle.qr_mending.specs.Message.{received, protection_of, spare_of, tolerance_of};
+ghost use Rattle.qr_mending.specs.Steps.Message.{AreInBlocks, AreMended, IsMendedMessage};
 
 use crate::erasures::mend_with_erasures;
 use qr_field::Divisor;
-use qr_layout::{Blocks, Level, Version, walk};
+use qr_layout::{Blocks, Level, Version};
 use qr_matrix::{Matrix, differences};
-use qr_symbol::{BlockSizes, ReadFault};
+use qr_symbol::{BlockSizes, ReadFault, read_unmasked};
 use std::alloc::{AllocError, Global};
 
-// The marks of the codewords, along the walk.
-fn walk_marks(alloc: Global, version: Version, unknown: &Matrix) -> Result<Vec<u8>, AllocError>
-    requires { unknown.now.side ≡ side_of version }
-    ensures marks { IfOk result (λ marks. AreMarks version unknown.now marks.items) }
-    ensures many { IfOk result (λ marks. length marks.items ≡ total_codewords_of version) }
-{
-    let mut marks = Vec::with_capacity(alloc, usize::from(version.total_codewords()))?;
-    let mut begun = 0u8;
-    let mut width = 0u8;
-    for module in walk(version) {
-        begun = 2 * begun + u8::from(unknown.dark(module.row, module.col));
-        width += 1;
-        if width == 8 {
-            marks.push(begun)?;
-            begun = 0;
-            width = 0;
-        }
-    }
-    Ok(marks)
-}
-
 // A mark for each codeword of a symbol: a byte with a bit for each of its modules, which is 1 if the module is dark in
-// `unknown`. Where no module is, there is no need to walk.
+// `unknown`. Where no module is, there is no need to read them.
 pub(crate) fn read_marks(
     alloc: Global,
     version: Version,
     unknown: &Matrix,
 ) -> Result<Vec<u8>, AllocError>
     requires { unknown.now.side ≡ side_of version }
-    ensures marks { IfOk result (λ marks. AreMarks version unknown.now marks.items) }
+    ensures marks { IfOk result (λ marks. IsReadUnmasked version unknown.now marks.items) }
     ensures many { IfOk result (λ marks. length marks.items ≡ total_codewords_of version) }
 {
     let light = Matrix::new(alloc, unknown.side())?;
@@ -55,7 +36,7 @@ pub(crate) fn read_marks(
         let marks = vec![in alloc; 0u8; usize::from(version.total_codewords())]?;
         return Ok(marks);
     }
-    walk_marks(alloc, version, unknown)
+    read_unmasked(alloc, version, unknown)
 }
 
 // Codewords, or their marks, in the order of the blocks: those of data, and those of error correction.

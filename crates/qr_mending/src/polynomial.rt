@@ -1,5 +1,5 @@
-//! Computes with polynomials over the field of 256 elements. The leading coefficient of each polynomial, which is the
-//! coefficient of the highest power of x, is 1.
+//! Polynomials over the field of 256 elements with the leading coefficient 1. Coefficients begin with that of the
+//! lowest power.
 
 ghost use Rattle.std.specs.Prelude.{◌≡◌, ◌+◌, ◌<◌, ◌≤◌, ◌≢◌, length};
 ghost use Rattle.std.specs.List.{All};
@@ -9,9 +9,8 @@ ghost use Rattle.qr_mending.specs.Steps.Polynomial.{all_of, IsMonic, miss_of, Is
 use crate::sums::dot;
 use qr_field::{div, mul};
 
-// A polynomial over the field of 256 elements. The items of `terms` at the indices 0 to `degree`, both included, are
-// the coefficients; the coefficient of the lowest power of x comes first. The coefficient at index `degree` is 1,
-// except in the default value of this type, where it is 0. The items of `terms` after index `degree` are not used.
+// The coefficients are `terms` up to index `degree`; later items are not used. The default value, all 0, is none of
+// these polynomials.
 #[derive(Clone, Copy)]
 pub(crate) struct Polynomial {
     pub(crate) degree: usize,
@@ -28,7 +27,6 @@ impl Default for Polynomial {
 }
 
 impl Polynomial {
-    // Returns the polynomial x to the power `degree`.
     pub(crate) fn monomial(degree: usize) -> Polynomial
         requires { degree < 16 }
         ensures degree { result.degree ≡ degree }
@@ -39,7 +37,6 @@ impl Polynomial {
         Polynomial { degree, terms }
     }
 
-    // Returns all coefficients of the polynomial; the coefficient of the lowest power of x comes first.
     pub(crate) fn coefficients(&self) -> &[u8]
         requires { self.now.degree < 16 }
         ensures value { result.now ≡ all_of self.now }
@@ -49,8 +46,8 @@ impl Polynomial {
         &self.terms[..self.degree + 1]
     }
 
-    // Multiplies each coefficient by the value in `window` with the same index, and returns the sum of the products. If
-    // the returned sum is 0, the polynomial is said to solve the equation of `window`.
+    // The sum of the coefficients, each multiplied by the item of `window` at its index. The polynomial solves the
+    // equation of `window` if it is 0.
     pub(crate) fn miss(&self, window: &[u8]) -> u8
         requires fits { self.now.degree < 16 }
         requires long { self.now.degree < length window.now }
@@ -61,8 +58,7 @@ impl Polynomial {
         dot(self.coefficients(), window)
     }
 
-    // Returns the sum of this polynomial and `factor` times the polynomial `other`. The degree of `other` is lower than
-    // the degree of this polynomial.
+    // This polynomial and `factor` times `other`, which has a lower degree, added.
     fn plus(&self, factor: u8, other: &Polynomial) -> Polynomial
         requires lower { other.now.degree < self.now.degree }
         requires fits { self.now.degree < 16 }
@@ -80,9 +76,7 @@ impl Polynomial {
         }
     }
 
-    // Returns the sum of this polynomial and a multiple of the polynomial `pivot`, which has a lower degree. The
-    // multiple of `pivot` is chosen so that the returned polynomial solves the equation of `window`: `miss` returns 0
-    // for this polynomial and `window`.
+    // This polynomial and the multiple of `pivot` with which the sum solves the equation, added.
     pub(crate) fn relieved(&self, pivot: &Polynomial, window: &[u8]) -> Polynomial
         requires lower { pivot.now.degree < self.now.degree }
         requires fits { self.now.degree < 16 }

@@ -1,5 +1,4 @@
-//! Computes polynomials with a root for each erased codeword of a block. An erased codeword is a codeword that is known
-//! to be unreadable.
+//! Polynomials with a root for each erased codeword of a block. Coefficients begin with that of the lowest power.
 
 ghost use Rattle.std.specs.Prelude.{◌≡◌, ◌+◌, ◌<◌, ◌≤◌, length};
 ghost use Rattle.std.specs.List.{All, count_by};
@@ -10,15 +9,13 @@ ghost use Rattle.qr_mending.specs.Steps.Roots.{rooted, times_root};
 use arrayvec::ArrayVec;
 use qr_field::{mul, power_of};
 
-// Returns the number of erased codewords, which is the number of items of `erased` that are true.
 pub(crate) fn count_erased(erased: &[bool]) -> usize
     ensures { result ≡ count_by (λ e. e) erased.now }
 {
     erased.iter().filter(|place| **place).count()
 }
 
-// Returns the product of the polynomial `polynomial` and x + `root`. The lists of coefficients of the two polynomials
-// begin with the coefficient of the lowest power of x.
+// The product with x + `root`.
 fn with_root(polynomial: &[u8], root: u8) -> ArrayVec<u8, 31>
     requires { length polynomial.now < 31 }
     ensures { result.items ≡ times_root root 0 polynomial.now }
@@ -33,9 +30,7 @@ fn with_root(polynomial: &[u8], root: u8) -> ArrayVec<u8, 31>
     product
 }
 
-// Returns the product of the polynomial `polynomial` and one factor for each erased codeword of a block. `erased` is
-// true at the index of each erased codeword. The factor of an erased codeword is x + 2^m, where m is the number of
-// codewords after this codeword in the block.
+// The product with a factor x + 2^m for each erased codeword, which m codewords follow in the block.
 pub(crate) fn with_roots(erased: &[bool], polynomial: &[u8]) -> ArrayVec<u8, 31>
     requires small { length erased.now ≤ 255 }
     requires fits { length polynomial.now + count_by (λ e. e) erased.now ≤ 31 }

@@ -1,5 +1,4 @@
-//! Reads the damaged symbols of a series, corrects their wrong codewords, and joins their bytes in the order of the
-//! symbols (ISO/IEC 18004:2015, 8).
+//! Mends the symbols of a series, and joins their bytes in order (ISO/IEC 18004:2015, 8).
 
 ghost use Rattle.std.specs.Prelude.{MatchResult};
 ghost use Rattle.qr_symbol.specs.Joining.{AreReadBy};
@@ -11,7 +10,6 @@ use qr_matrix::Matrix;
 use qr_symbol::{ReadFault, join};
 use std::alloc::Global;
 
-// Corrects the wrong codewords of each damaged symbol, and returns the contents of the symbols.
 fn mend_all(alloc: Global, damaged: &[Matrix]) -> Result<Vec<Parsed>, ReadFault>
     ensures { MatchResult result (λ contents. AreReadBy IsMendedContent damaged.now contents.items)
         (IsUnmendedSeries damaged.now) }
@@ -23,23 +21,18 @@ fn mend_all(alloc: Global, damaged: &[Matrix]) -> Result<Vec<Parsed>, ReadFault>
     Ok(contents)
 }
 
-/// Reads damaged symbols, corrects their wrong codewords, and joins the bytes of the symbols in their order
-/// (ISO/IEC 18004:2015, 8 and 12). The bytes are joined only if `damaged` contains one symbol without a structured
-/// append header, or all symbols of a series in their order. In a series, the structured append header of each symbol
-/// contains three numbers. The first number in a structured append header is the position of its symbol, counted from
-/// 0. The second number in each structured append header is the number of symbols, less 1. The third number in each
-/// structured append header is the parity data of all bytes of the series.
+/// Mends damaged symbols, and joins their bytes in order, if they are one plain symbol or a whole series (ISO/IEC
+/// 18004:2015, 8 and 12). A series is whole if each structured append header has the position of its symbol, counted
+/// from 0, the number of symbols less 1, and the parity data of all bytes.
 ///
 /// # Errors
 ///
-/// If some symbols cannot be mended, returns the fault of the first of these symbols, whatever the headers of the
-/// symbols contain. Returns `Series` if all symbols are mended, but are neither one symbol without a structured append
-/// header nor a whole series. If `damaged` contains no symbol, returns `Series`. If memory is refused, returns
-/// `Memory`.
+/// Returns the fault of the first symbol that cannot be mended, whatever the headers are. If all can, returns `Series`
+/// if the symbols are neither of the two, also if there are none. Returns `Memory` if an allocation is refused.
 ///
 /// # Notes
 ///
-/// To find out how much damage a symbol has, call `mend_symbol`.
+/// `mend_symbol` returns how much damage a symbol has.
 pub fn mend_series(alloc: Global, damaged: &[Matrix]) -> Result<Vec<u8>, ReadFault>
     ensures { MatchResult result (λ bytes. IsMendedSeries damaged.now bytes.items) (IsUnmendedSeries damaged.now) }
 {

@@ -1,4 +1,4 @@
-//! Computes values of polynomials over the field of 256 elements, and sums of products in this field.
+//! Values of polynomials and sums of products over the field of 256 elements.
 
 ghost use Rattle.std.specs.Prelude.{◌≡◌, ◌<◌, ◌≤◌, ℕ, length, slice_index};
 ghost use Rattle.arrayvec.specs.ArrayVec.{array_vec_len};
@@ -10,8 +10,7 @@ ghost use Rattle.qr_mending.specs.Steps.Sums.{dot_of, eval, HasValues};
 use arrayvec::ArrayVec;
 use qr_field::{mul, power_of};
 
-// Returns the sum of the products of `terms[j]` and `window[j]` for all indices `j` of `terms`, in the field of 256
-// elements.
+// The sum of the products of items at equal indices, as far as `terms` goes.
 pub(crate) fn dot(terms: &[u8], window: &[u8]) -> u8
     requires { length terms.now ≤ length window.now }
     ensures value { result ≡ dot_of terms.now window.now }
@@ -24,8 +23,7 @@ pub(crate) fn dot(terms: &[u8], window: &[u8]) -> u8
     sum
 }
 
-// Returns the value of a polynomial at `x`. The coefficients of the polynomial are the items of `terms`; the
-// coefficient of the lowest power of x comes first.
+// The value at `x` of the polynomial with the coefficients `terms`, that of the lowest power first.
 pub(crate) fn value(terms: &[u8], x: u8) -> u8
     ensures { result ≡ eval x terms.now }
 {
@@ -36,8 +34,8 @@ pub(crate) fn value(terms: &[u8], x: u8) -> u8
     value
 }
 
-// Returns the value of a polynomial at 2 to the power `exponent`. The coefficients of the polynomial are the codewords
-// of `block`; the coefficient of the highest power of x comes first.
+// The value at 2 to the power `exponent` of the polynomial with the coefficients `block`, that of the highest power
+// first.
 fn syndrome(block: &[u8], exponent: u8) -> u8
     requires { exponent < 255 }
     ensures { result ≡ value_at exponent block.now }
@@ -50,9 +48,8 @@ fn syndrome(block: &[u8], exponent: u8) -> u8
     value
 }
 
-// Returns the syndromes of a block: the values of a polynomial at the first `n` powers of 2, from 2 to the power 0 on.
-// The codewords of `block` are the coefficients of this polynomial; the coefficient of the highest power of x comes
-// first. If the block has `n` error correction codewords and no codeword is wrong, all syndromes are 0.
+// The values at the first `n` powers of 2, from 2 to the power 0 on. All are 0 if `block` is one with `n` error
+// correction codewords.
 pub(crate) fn syndromes(block: &[u8], n: usize) -> ArrayVec<u8, 30>
     requires { n ≤ 30 }
     ensures count { array_vec_len result ≡ n }

@@ -1,4 +1,4 @@
--- The lemmas that other crates cite.
+-- The lemmas that other crates use.
 pub use Rattle.qr_symbol.proofs.lemmas.interleaving.CheckLemmas.{check-len, checks-push, map-each}
 pub use Rattle.qr_symbol.proofs.lemmas.laws.DistanceLemmas.{messages-apart, parts-same}
 pub use Rattle.qr_symbol.proofs.lemmas.reading.FormatLemmas.{format-read, level-one, level-small}

@@ -1,6 +1,6 @@
 -- Lemmas, in folders by the file of src that they serve, in the order in which they are read.
 pub mod interleaving
-pub mod drawing
+pub mod placement
 pub mod patterns
 pub mod mask
 pub mod canvas

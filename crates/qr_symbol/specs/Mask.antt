@@ -1,8 +1,7 @@
--- This file defines the eight mask patterns: which modules each mask pattern inverts.
+-- The eight masks, numbered from 0.
 use Rattle.std.specs.Prelude.{ℕ, ◌+◌, ◌*◌, ◌/◌, ◌%◌, ◌==◌, Bool, if◌then◌else◌, not}
 
--- `inverts mask r c` is true if the mask pattern `mask`, from 0 to 7, inverts the module in row r and column c. A mask
--- pattern is applied only to modules of the encoding region (ISO/IEC 18004:2015, 7.8.2, Table 10).
+-- The mask inverts the module in row `r` and column `c`, if it is in the region (ISO/IEC 18004:2015, 7.8.2, Table 10)
 unfoldable pub inverts : ℕ → ℕ → ℕ → Bool
 inverts mask r c =
     if mask == 0 then (r + c) % 2 == 0
@@ -14,7 +13,6 @@ inverts mask r c =
     else if mask == 6 then (r * c % 2 + r * c % 3) % 2 == 0
     else ((r + c) % 2 + r * c % 3) % 2 == 0
 
--- `inverted is_to_be bit` is the opposite of the colour `bit` if `is_to_be` is true. If `is_to_be` is false, the result
--- is `bit` (ISO/IEC 18004:2015, 7.8.2).
+-- The colour `bit`, or the other one if `is_to_be` is true (ISO/IEC 18004:2015, 7.8.2)
 abbrev pub inverted : Bool → Bool → Bool
 inverted is_to_be bit = if is_to_be then not bit else bit

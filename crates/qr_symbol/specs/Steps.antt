@@ -1,8 +1,7 @@
--- The definitions in the folder `Steps` describe how the program computes its results, step by step. Only the contracts
--- of private functions use the definitions in this folder. To judge the promises of public functions, a reader need not
--- read the files in this folder.
+-- Steps of the program, for contracts of private functions only. Nobody needs them to judge the promises of public
+-- functions.
 pub mod Patterns
-pub mod Drawing
+pub mod Placement
 pub mod Collecting
 pub mod Canvas
 pub mod Series

@@ -1,31 +1,27 @@
-//! Draws symbols on a canvas (ISO/IEC 18004:2015, 7.7 and 7.8). A canvas consists of two squares of modules that all
-//! symbols of a series share. The function patterns and the version information are drawn once for all symbols of the
-//! series. The codewords are drawn once for each symbol. The mask pattern and the format information are drawn for each
-//! mask pattern that is tried, and again for the best mask pattern.
+//! Draws symbols on a canvas, which all symbols of a series share (ISO/IEC 18004:2015, 7.7 and 7.8). Function patterns
+//! and version information are drawn once for a series, and codewords once for each symbol. The mask and the format
+//! information are drawn for each mask that is tried, and again for the best.
 
 ghost use Rattle.std.specs.Prelude.{◌≡◌, ◌<◌, IfOk};
 ghost use Rattle.qr_layout.specs.Version.{side_of};
 ghost use Rattle.qr_matrix.specs.Grid.{IsSquare};
 ghost use Rattle.qr_symbol.specs.Steps.Canvas.{HasPatterns};
-ghost use Rattle.qr_symbol.specs.Steps.Drawing.{masked_grid, plain_grid, region_grid};
+ghost use Rattle.qr_symbol.specs.Steps.Placement.{masked_grid, plain_grid, region_grid};
 
-use crate::drawing::draw_codewords;
 use crate::mask::set_masked;
 use crate::patterns::{draw_fixed, draw_format, region_of};
+use crate::placement::draw_codewords;
 use qr_layout::{Level, Version, format_word};
 use qr_matrix::Matrix;
 use std::alloc::{AllocError, Global};
 use std::mem;
 
-// The format information that is drawn in the square `plain` of a canvas: only bit 7 is dark. With this format
-// information, the modules outside the encoding region stay the same when rows and columns are exchanged. The exchange
-// of rows and columns swaps the dark module with a module of bit 7, so bit 7 has to be dark.
+// The format information in `plain`: only bit 7 is dark. So exchanging rows and columns changes nothing outside the
+// region: the dark module changes places with a module of bit 7.
 const SYMMETRIC_FORMAT: u32 = 1 << 7;
 
-/// Two squares of modules from which the symbols of a series are made. The square `plain` is a symbol without a mask
-/// pattern and without its format information. In the square `region`, only the modules of the encoding region are
-/// dark. All symbols of a series are drawn on one canvas, since they have the same function patterns and the same
-/// encoding region.
+/// The squares from which symbols are made: `plain` is a symbol without its mask and format information, and in
+/// `region` exactly the region is dark.
 #[derive(Drop)]
 pub(crate) struct Canvas {
     pub version: Version,
@@ -37,8 +33,7 @@ pub(crate) struct Canvas {
 }
 
 impl Canvas {
-    // Returns a canvas for symbols of this version and level. The square `plain` of the canvas contains the function
-    // patterns and the version information, but no codewords. Allocates twice, once for each square.
+    // Returns a canvas that has no codewords yet. Allocates once for each square.
     #[inline(never)]
     pub(crate) fn new(alloc: Global, version: Version, level: Level) -> Result<Canvas, AllocError>
         ensures version { IfOk result (λ c. c.version ≡ version) }
@@ -55,11 +50,9 @@ impl Canvas {
         })
     }
 
-    // Draws the codewords into the square `plain`, over the codewords of the previous symbol. First the squares `plain`
-    // and `across` are swapped. The codewords are drawn into `across` in transposed form, which means that rows and
-    // columns are exchanged. The modules outside the encoding region do not change when rows and columns are exchanged.
-    // At the end, the transposed form of `across` replaces all colours of `plain`. After the call, `across` contains
-    // the transposed form of `plain`.
+    // Draws the codewords over those of the symbol before. The old `plain` serves as the transposed square in which
+    // they are drawn, since outside the region both forms are the same; transposed, it is the new `plain`. `across` is
+    // left with the transposed form.
     #[inline(never)]
     pub(crate) fn draw_data(&mut self, across: &mut Matrix, codewords: &[u8])
         requires { IsSquare (side_of self.old.version) across.old }
@@ -68,16 +61,14 @@ impl Canvas {
         ensures plain { self.new.plain ≡ plain_grid self.old.version codewords.now }
         ensures square { IsSquare (side_of self.old.version) across.new }
     {
-        // Reminds the prover that the number of a version is at most 40.
+        // Reminds the prover that a version is at most 40.
         prove!(self.version.number() <= 40);
         mem::swap(&mut self.plain, across);
         draw_codewords(across, self.version, &self.region, codewords);
         self.plain.set_transposed(across);
     }
 
-    // Draws the symbol of this canvas into `matrix` under the mask pattern `mask`. First the modules of `plain` are
-    // copied, and the mask pattern `mask` is applied to the modules of the encoding region. Then the format information
-    // of the canvas's level and of the mask pattern `mask` is drawn over the copied modules.
+    // Draws the symbol under the mask: the region of `plain` masked, then the format information.
     pub(crate) fn draw_masked(&self, matrix: &mut Matrix, mask: u8)
         requires mask_in { mask < 8 }
         requires square { IsSquare (side_of self.now.version) matrix.old }

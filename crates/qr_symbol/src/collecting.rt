@@ -1,6 +1,6 @@
-//! Collects the codewords from the modules of the encoding region, strip by strip (ISO/IEC 18004:2015, 7.7.3 and 12). A
-//! strip is two neighbouring columns that are filled together. The function `collect_codewords` undoes what the function
-//! `draw_codewords` does.
+//! Collects the codewords from the region, strip by strip (ISO/IEC 18004:2015, 7.7.3 and 12), and so undoes
+//! `draw_codewords`. Squares are transposed: the two columns of a strip are rows. Exactly the region is dark in
+//! `region`, and transposing does not change it. `passed` counts the rows of a strip that come earlier in its order.
 
 ghost use Rattle.std.specs.Prelude.{◌≡◌, ℕ, List, [], ◌∷◌, ◌++◌, ◌*◌, ◌%◌, ◌+◌, ◌-◌, ◌<◌, ◌≤◌, ◌&&◌, if◌then◌else◌, map, length, IfOk, OnOk};
 ghost use Rattle.std.specs.List.{All};
@@ -12,20 +12,19 @@ ghost use Rattle.qr_matrix.specs.Grid.{transposed};
 ghost use Rattle.qr_matrix.specs.BitRow.{has};
 ghost use Rattle.qr_symbol.specs.Reading.{IsReadUnmasked};
 ghost use Rattle.qr_symbol.specs.Steps.Collecting.{bit_if, bits_in_rows, colour_across};
-ghost use Rattle.qr_symbol.specs.Steps.Drawing.{region_grid};
+ghost use Rattle.qr_symbol.specs.Steps.Placement.{region_grid};
 
-use crate::drawing::{Columns, columns_of};
+use crate::placement::{Columns, columns_of};
 use qr_layout::{Strip, Version, all_strips};
 use qr_matrix::{BitRow, Matrix};
 use std::alloc::{AllocError, Global};
 use std::marker::Model;
 
-// Collects bits into codewords. In contracts, the value of a `Collector` is the list of the bits collected so far.
+// Collects bits into codewords. To contracts it is the list of its bits.
 #[derive(Drop)]
 struct Collector {
     whole: Vec<u8>,
-    // `width` bits come after the last whole codeword, and `rest` contains these bits as a number. `width` is less than
-    // eight.
+    // The `width` bits after the last whole codeword, as a number.
     rest: u8,
     width: u8,
 }
@@ -43,7 +42,7 @@ impl Model for Collector {
 }
 
 impl Collector {
-    // Returns a collector without bits that has memory for `count` codewords.
+    // Returns a collector without bits, with memory for `count` codewords.
     fn with_capacity(alloc: Global, count: usize) -> Result<Collector, AllocError>
         ensures { IfOk result (λ b. b ≡ []) }
     {
@@ -54,7 +53,6 @@ impl Collector {
         })
     }
 
-    // Appends one bit, which is 1 if `dark` is true.
     fn push_bit(&mut self, dark: bool) -> Result<(), AllocError>
         ensures { OnOk result (self.new ≡ self.old ++ dark ∷ []) }
     {
@@ -70,7 +68,7 @@ impl Collector {
         Ok(())
     }
 
-    // Appends the eight bits of `byte`, from the highest bit to the lowest.
+    // Appends eight bits, the highest first.
     #[inline(always)]
     fn push_byte(&mut self, byte: u8) -> Result<(), AllocError>
         ensures { OnOk result (self.new ≡ self.old ++ field 8 byte) }
@@ -82,7 +80,7 @@ impl Collector {
         Ok(())
     }
 
-    // Returns the codewords of which every bit was collected.
+    // Returns the whole codewords; bits after them are lost.
     fn into_codewords(self) -> Vec<u8>
         ensures bytes { All (λ x. x < 256) result.items }
         ensures bits { (w : ℕ) × (rest : ℕ) × (w < 8) × (bits_of result.items ++ field w rest ≡ self) }
@@ -92,8 +90,7 @@ impl Collector {
     }
 }
 
-// Collects the bit of the module in row `row` of a column, if the module is in the encoding region. In `region`, the
-// bit of a row is 1 if the column's module in this row is in the encoding region.
+// Collects the module in row `row` of a column, if it is in the region.
 fn collect_module(
     bits: &mut Collector,
     column: &BitRow,
@@ -109,9 +106,7 @@ fn collect_module(
     Ok(())
 }
 
-// Collects the bits of `count` rows of a strip (two columns that are filled together), module by module. `passed` is
-// the number of rows of the strip that are filled before the `count` rows. In a large symbol, the bits of most rows are
-// collected by `collect_four` without a call of `collect_rows`.
+// Collects `count` rows of a strip, module by module. `collect_four` does without it for most rows of a large symbol.
 #[inline(never)]
 fn collect_rows(
     bits: &mut Collector,
@@ -134,10 +129,9 @@ fn collect_rows(
     Ok(())
 }
 
-// Two tables that spread the four modules of a column over a byte. The index of an entry has a bit for each of the four
-// modules, and its lowest bit belongs to the topmost module. In an entry, every second bit belongs to a module, from
-// the first module that is filled in bit 6 to the last one in bit 0. The first table is for strips that are filled
-// downward, and the second table for strips that are filled upward.
+// Spread the four modules of a column over every second bit of a byte: bit 6 for the module that is filled first, bit 0
+// for the last. The lowest bit of the index is the topmost module. The first table is for strips that are filled
+// downward, the second for upward ones.
 static SPREADS: [[u8; 16]; 2] = [
     [
         0x00, 0x40, 0x10, 0x50, 0x04, 0x44, 0x14, 0x54, 0x01, 0x41, 0x11, 0x51, 0x05, 0x45, 0x15,
@@ -149,10 +143,8 @@ static SPREADS: [[u8; 16]; 2] = [
     ],
 ];
 
-// Collects the bits of four rows of a strip (two columns that are filled together). `passed` is the number of rows of
-// the strip that are filled before the four rows. In `both`, the bit of a row is 1 if both modules of the strip in this
-// row are in the encoding region. If all eight modules of the four rows are in the encoding region, their bits are
-// collected at once.
+// Collects four rows of a strip, at once if all their eight modules are in the region. `both` has the rows in which
+// both modules of the strip are.
 #[inline(always)]
 fn collect_four(
     bits: &mut Collector,
@@ -182,9 +174,8 @@ fn collect_four(
     collect_rows(bits, columns, v, region, strip, passed, 4)
 }
 
-// Collects the bits of the columns of a strip (two columns that are filled together). Since the number of rows of a
-// symbol is one more than a multiple of four, the bottom row is read by itself. The rows above the bottom row are read
-// in groups of four.
+// Collects the columns of a strip. The number of rows is one more than a multiple of four, so the bottom row is read
+// alone and the others in fours.
 #[inline(always)]
 fn collect_columns(
     bits: &mut Collector,
@@ -207,8 +198,6 @@ fn collect_columns(
     collect_rows(bits, columns, v, region, strip, before + last, 1 - before)
 }
 
-// Collects the bits of a strip (two columns that are filled together). The square `across` is transposed: its rows are
-// the columns of the symbol. The encoding region does not change when rows and columns are exchanged.
 fn collect_strip(
     bits: &mut Collector,
     across: &Matrix,
@@ -228,9 +217,7 @@ fn collect_strip(
     collect_columns(bits, &columns, v, &within, strip)
 }
 
-// Collects the codewords from the modules of the encoding region, strip by strip; a strip is two neighbouring columns
-// that are filled together. The square `across` is transposed, which means that rows and columns are exchanged. In
-// `region`, the modules of the encoding region are dark. The remainder bits are ignored.
+// Collects the codewords, without the remainder bits.
 pub(crate) fn collect_codewords(
     alloc: Global,
     v: Version,

@@ -22,28 +22,25 @@ use qr_bits::{Header, INPUT_MAX, Rule, Segment, codewords};
 use qr_layout::{Level, Version};
 use std::alloc::Global;
 
-// The largest number of bytes that one symbol can contain: 7,089 digits in version 40 at level L (7.4.10, Table 7).
+// The most bytes that a symbol can contain: digits in version 40 at level L (7.4.10, Table 7).
 pub(crate) const SYMBOL_BYTES_MAX: usize = 7089;
 
-/// Encodes the input as one symbol (ISO/IEC 18004:2015, 7.1). The symbol has the least version, from `smallest` on,
-/// that the input fits. `rule` determines which modes the segments may have. The input is cut into the segments of
-/// allowed modes that need the fewest bits. The symbol contains the codewords that the standard requires for the
-/// segments of the input, and has the mask pattern with the least penalty. If several mask patterns have the least
-/// penalty, the one with the smallest number is chosen.
+/// Encodes the input as one symbol of the least version, from `smallest` on, that it fits (ISO/IEC 18004:2015, 7.1).
+/// The segments are those of fewest bits in the modes that `rule` allows, and the codewords those that the standard
+/// requires for them. The mask is the one with the least penalty, the smallest of equals.
 ///
-/// If the modules of the symbol are read in the standard's order, unmasked, deinterleaved and parsed, the result is
-/// exactly the input. Reading the symbol yields exactly the segments with which the symbol was made.
+/// Reading the symbol in the standard's order, unmasked, deinterleaved and parsed, yields exactly the input and these
+/// segments.
 ///
 /// # Errors
 ///
-/// Returns `Empty` exactly if the input has no byte. Returns `TooLong` if the input fits no version from `smallest` on.
-/// Returns `Memory` if an allocation is refused; in this case `TooLong` is not returned. An input of more than 7,089
-/// bytes fits no version; for such an input, `TooLong` is returned before any allocation.
+/// Returns `Empty` exactly if the input has no byte, `TooLong` if it fits no version from `smallest` on, and `Memory`
+/// if an allocation is refused, in which case `TooLong` is not returned. For more than 7,089 bytes `TooLong` is
+/// returned before any allocation.
 ///
 /// # Notes
 ///
-/// Among the parameters of `encode`, the level comes before the version. Among the parameters of `encode_series`, the
-/// version comes before the level.
+/// The level comes before the version here, and after it in `encode_series`.
 pub fn encode(
     alloc: Global,
     input: &[u8],
@@ -73,8 +70,7 @@ pub fn encode(
     symbol_at(alloc, input, &fit.segments, None, fit.version, level)
 }
 
-// Returns the symbol that contains the optional structured append header `header` and then the bytes `input`, cut into
-// the segments `segments` (7.1, 8.1).
+// The symbol of the optional header and of the input, cut into `segments` (7.1, 8.1).
 pub(crate) fn symbol_at(
     alloc: Global,
     input: &[u8],
@@ -96,9 +92,7 @@ pub(crate) fn symbol_at(
     symbol_on(alloc, &mut canvas, input, segments, header)
 }
 
-// Returns the symbol that contains the optional structured append header `header` and then the bytes `input`, cut into
-// the segments `segments`. The symbol is drawn on `canvas`, which contains the modules that are the same in all symbols
-// of its version. The symbol has the version and the level of the canvas.
+// As `symbol_at`, but on a canvas, with its version and level.
 pub(crate) fn symbol_on(
     alloc: Global,
     canvas: &mut Canvas,

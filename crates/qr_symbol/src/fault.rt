@@ -1,4 +1,4 @@
-//! Defines the faults that are returned if an input cannot be encoded or if symbols cannot be read.
+//! The faults of encoding and of reading.
 
 ghost use Rattle.std.specs.Prelude.{◌≡◌};
 
@@ -6,17 +6,17 @@ use qr_bits::{BitFault, ParseFault};
 use std::alloc::{AllocError, AllocFailed};
 use thiserror::Error;
 
-/// The reason why an input is not encoded. The causes of `Empty`, `TooLong` and `TooMany` are checked in this order.
-/// Memory may be refused at any step after the check for `Empty`.
+/// Why an input is not encoded. `encode` checks `Empty`, then `TooLong`; `encode_series` `Empty`, then `TooMany`.
+/// Memory may be refused at any step after `Empty`.
 #[derive(Clone, Copy, Debug, PartialEq, Eq, Error)]
 pub enum EncodeFault {
     /// The input has no byte.
     #[error("input is empty")]
     Empty = 1,
-    /// The input fits no version that the caller allows.
+    /// The input fits no allowed version.
     #[error("input does not fit")]
     TooLong = 2,
-    /// The series of symbols for the input would have more than 16 symbols.
+    /// The series would have more than 16 symbols.
     #[error("more than 16 symbols")]
     TooMany = 3,
     /// An allocation was refused.
@@ -60,28 +60,27 @@ impl From<BitFault> for EncodeFault {
     }
 }
 
-/// The reason why symbols are not read. The causes of the faults from `Side` to `Series` are checked in the order in
-/// which `ReadFault` lists these faults. The fault `Memory` has no fixed position in the order of the checks, since
-/// memory may be refused at several steps.
+/// Why symbols are not read or mended. For each symbol the faults from `Side` on are checked in this order, and
+/// `Series` after all symbols; memory may be refused at several steps.
 #[derive(Clone, Copy, Debug, PartialEq, Eq, Error)]
 pub enum ReadFault {
     /// An allocation was refused.
     #[error("out of memory")]
     Memory,
-    /// No version has as many rows as the square of modules that was read.
+    /// No version has as many rows as the square.
     #[error("no version has this side")]
     Side,
-    /// The format information beside the top left finder pattern belongs to no level and mask pattern.
+    /// The format information belongs to no level and mask: in reading, the copy beside the top left finder pattern, in
+    /// mending both.
     #[error("the format information is damaged")]
     Format,
-    /// The error correction codewords of a block do not belong to its data codewords.
+    /// The error correction codewords of a block do not belong to its data codewords, and in mending cannot be made to.
     #[error("a codeword is damaged")]
     Check,
-    /// The data codewords cannot be parsed. The fault of parsing that `Segments` contains is never
-    /// `ParseFault::Memory`.
+    /// The data codewords cannot be parsed, for a reason other than `ParseFault::Memory`.
     #[error("the data codewords cannot be parsed: {0}")]
     Segments(ParseFault),
-    /// The symbols are neither one symbol without a structured append header nor a whole series.
+    /// The symbols are neither one plain symbol nor a whole series.
     #[error("the symbols do not form a series")]
     Series,
 }
@@ -93,7 +92,7 @@ impl ReadFault {
     ///
     /// # Notes
     ///
-    /// The number of a fault stays the same in later versions of this crate.
+    /// Later versions of this crate keep the number.
     pub fn number(&self) -> u8
         ensures { result ≡ read_fault_number self.now }
     {

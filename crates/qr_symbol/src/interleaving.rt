@@ -1,6 +1,6 @@
-//! Computes the final sequence of codewords, which contains the interleaved data codewords and then the interleaved
-//! error correction codewords (ISO/IEC 18004:2015, 7.5.2 and 7.6). This file also undoes the interleaving, and so
-//! returns the data codewords of a final sequence.
+//! Makes the final sequence of codewords from the data codewords, and undoes it (ISO/IEC 18004:2015, 7.5.2 and 7.6).
+//! Interleaved codewords come as the first of each block, then the second of each block, and so on; elsewhere the
+//! blocks come one after the other.
 
 ghost use Rattle.std.specs.Prelude.{◌≡◌, ◌≢◌, ◌↔◌, ℕ, ◌+◌, ◌<◌, ◌≤◌, ◌⊎◌, List, length, Err, IfOk, IfErr};
 ghost use Rattle.qr_layout.specs.Blocks.{data_codewords_of};
@@ -14,9 +14,8 @@ use qr_field::Divisor;
 use qr_layout::{Blocks, Level, Version};
 use std::alloc::{AllocError, Global};
 
-/// The sizes of the blocks into which a list of codewords is divided. The first `short` blocks contain `short_len`
-/// codewords each. After the short blocks come `long` blocks, which contain `short_len` + 1 codewords each
-/// (ISO/IEC 18004:2015, 7.5.1).
+/// The sizes of the blocks into which codewords are divided: `short` blocks, then `long` blocks that have one codeword
+/// more (ISO/IEC 18004:2015, 7.5.1).
 #[derive(Clone, Copy)]
 pub struct BlockSizes {
     /// The number of short blocks.
@@ -28,7 +27,7 @@ pub struct BlockSizes {
 }
 
 impl BlockSizes {
-    /// Returns the sizes of the blocks; only the data codewords of each block are counted.
+    /// Returns the block sizes, counted in data codewords.
     pub fn of_data(blocks: Blocks) -> BlockSizes
         ensures { result ≡ data_sizes blocks }
     {
@@ -39,8 +38,7 @@ impl BlockSizes {
         }
     }
 
-    /// Returns the sizes of the blocks; only the error correction codewords of each block are counted. All blocks have
-    /// the same number of error correction codewords.
+    /// Returns the block sizes, counted in error correction codewords, of which all blocks have equally many.
     pub fn of_corrections(blocks: Blocks) -> BlockSizes
         ensures { result ≡ correction_sizes blocks }
     {
@@ -51,7 +49,7 @@ impl BlockSizes {
         }
     }
 
-    /// Returns the number of all blocks, short and long.
+    /// Returns the number of blocks, short and long.
     pub fn count(self) -> usize
         ensures { result ≡ block_count self }
     {
@@ -76,8 +74,7 @@ impl BlockSizes {
         usize::from(self.short_len) * block + block.saturating_sub(usize::from(self.short))
     }
 
-    /// Returns the codewords of the block with index `block`. The slice `codewords` contains the codewords of all
-    /// blocks, one block after the other.
+    /// Returns the codewords of the block with index `block`. In `codewords` the blocks come one after the other.
     pub fn part(self, codewords: &[u8], block: usize) -> &[u8]
         requires within { block < block_count self }
         requires whole { length codewords.now ≡ codeword_count self }
@@ -88,10 +85,13 @@ impl BlockSizes {
         &codewords[start..start + self.len(block)]
     }
 
-    /// Undoes the interleaving of `codewords`, and returns the codewords of all blocks, one block after the other.
-    /// Interleaved order begins with the first codeword of each block, continues with the second codeword of each
-    /// block, and so on (ISO/IEC 18004:2015, 7.6). If `codewords` contains more codewords than the blocks have, the
-    /// additional codewords at the end are ignored.
+    /// Undoes interleaving: returns the codewords of all blocks, one block after the other. In `codewords` the first of
+    /// each block come first, then the second, and so on; codewords beyond those of the blocks are ignored (ISO/IEC
+    /// 18004:2015, 7.6).
+    ///
+    /// # Errors
+    ///
+    /// Returns an error if an allocation is refused.
     pub fn gather(self, alloc: Global, codewords: &[u8]) -> Result<Vec<u8>, AllocError>
         requires { codeword_count self ≤ length codewords.now }
         ensures { IfOk result (λ d. IsGathered self codewords.now d.items) }
@@ -102,8 +102,6 @@ impl BlockSizes {
     }
 }
 
-// Appends the codewords of all blocks to `interleaved`: the first codeword of each block, then the second codeword of
-// each block, and so on. In `codewords`, the blocks come one after the other.
 fn interleave_into(
     interleaved: &mut Vec<u8>,
     sizes: BlockSizes,
@@ -126,8 +124,7 @@ fn interleave_into(
     Ok(())
 }
 
-// Returns the error correction codewords of all blocks, one block after the other. `message` contains the data
-// codewords of all blocks.
+// The error correction codewords of all blocks, one block after the other.
 fn corrections(alloc: Global, blocks: Blocks, message: &[u8]) -> Result<Vec<u8>, AllocError>
     requires whole { length message.now ≡ codeword_count (data_sizes blocks) }
     requires least { 1 ≤ blocks.ec_len }
@@ -163,10 +160,12 @@ fn interleave_blocks(alloc: Global, blocks: Blocks, message: &[u8]) -> Result<Ve
     Ok(interleaved)
 }
 
-/// Returns the final sequence of codewords for the data codewords `message` (ISO/IEC 18004:2015, 7.5.2 and 7.6). The
-/// final sequence begins with the data codewords: the first data codeword of each block, then the second data codeword
-/// of each block, and so on. After the data codewords come the error correction codewords: the first one of each block,
-/// then the second one of each block, and so on.
+/// Returns the final sequence of the data codewords `message`: the first data codeword of each block, then the second,
+/// and so on, and after them the error correction codewords in the same order (ISO/IEC 18004:2015, 7.5.2 and 7.6).
+///
+/// # Errors
+///
+/// Returns an error if an allocation is refused.
 pub fn interleave(
     alloc: Global,
     version: Version,
@@ -180,7 +179,6 @@ pub fn interleave(
     interleave_blocks(alloc, version.blocks(level), message)
 }
 
-// Undoes the interleaving of `codewords`: writes the codewords of all blocks to `message`, one block after the other.
 fn deinterleave_into(message: &mut Vec<u8>, sizes: BlockSizes, codewords: &[u8])
     requires room { length message.old.items ≡ codeword_count sizes }
     requires interleaved { codeword_count sizes ≤ length codewords.now }
@@ -198,8 +196,6 @@ fn deinterleave_into(message: &mut Vec<u8>, sizes: BlockSizes, codewords: &[u8])
     }
 }
 
-// Undoes the interleaving of `codewords`, and returns the data codewords. Returns the fault `Check` if the error
-// correction codewords in `codewords` do not belong to the data codewords in `codewords`.
 fn deinterleave_blocks(
     alloc: Global,
     blocks: Blocks,
@@ -226,9 +222,12 @@ fn deinterleave_blocks(
     }
 }
 
-/// Returns the data codewords of a final sequence of codewords (ISO/IEC 18004:2015, 7.6 and 12). Returns the fault
-/// `Check` if the error correction codewords of some block do not belong to its data codewords. Returns `Memory` if an
-/// allocation is refused; in this case `Check` is not returned.
+/// Returns the data codewords of a final sequence (ISO/IEC 18004:2015, 7.6 and 12).
+///
+/// # Errors
+///
+/// Returns `Check` if the error correction codewords of some block do not belong to its data codewords, and `Memory` if
+/// an allocation is refused, in which case `Check` is not returned.
 pub fn deinterleave(
     alloc: Global,
     version: Version,

@@ -1,9 +1,10 @@
-//! Reads the symbols of a series, and joins their bytes in the order of the symbols (ISO/IEC 18004:2015, 8).
+//! Reads the symbols of a series, and joins their bytes in order (ISO/IEC 18004:2015, 8).
 
 ghost use Rattle.std.specs.Prelude.{◌≡◌, ◌⊎◌, ◌-◌, ◌<◌, length, Some, IfOk, MatchResult};
 ghost use Rattle.std.specs.Bool.{Decides};
 ghost use Rattle.qr_symbol.specs.Series.{squares_of};
-ghost use Rattle.qr_symbol.specs.Joining.{bytes_of_all, AreReadings, BelongTogether, HaveHeaders, IsJoined, IsPlain, IsUnjoined};
+ghost use Rattle.qr_symbol.specs.Reading.{IsReading};
+ghost use Rattle.qr_symbol.specs.Joining.{bytes_of_all, AreReadBy, BelongTogether, HaveHeaders, IsJoined, IsPlain, IsUnjoined};
 
 use crate::fault::ReadFault;
 use crate::reading::read_symbol;
@@ -11,10 +12,9 @@ use crate::symbol::Symbol;
 use qr_bits::{Parsed, parity};
 use std::alloc::{AllocError, Global};
 
-// Reads each symbol, and returns the contents of the symbols in their order.
 fn read_all(alloc: Global, symbols: &[Symbol]) -> Result<Vec<Parsed>, ReadFault>
     ensures { MatchResult result
-        (λ contents. AreReadings (squares_of symbols.now) contents.items)
+        (λ contents. AreReadBy IsReading (squares_of symbols.now) contents.items)
         (IsUnjoined (squares_of symbols.now)) }
 {
     let mut contents = Vec::with_capacity(alloc, symbols.len())?;
@@ -24,7 +24,6 @@ fn read_all(alloc: Global, symbols: &[Symbol]) -> Result<Vec<Parsed>, ReadFault>
     Ok(contents)
 }
 
-// Returns the bytes of all contents, in the order of the contents. A content is the result of reading one symbol.
 fn joined_bytes(alloc: Global, contents: &[Parsed]) -> Result<Vec<u8>, AllocError>
     ensures { IfOk result (λ bytes. bytes.items ≡ bytes_of_all contents.now) }
 {
@@ -35,8 +34,6 @@ fn joined_bytes(alloc: Global, contents: &[Parsed]) -> Result<Vec<u8>, AllocErro
     Ok(bytes)
 }
 
-// Returns whether `contents` is one single content without a structured append header. A content is the result of
-// reading one symbol.
 fn is_plain(contents: &[Parsed]) -> bool
     ensures { Decides result (IsPlain contents.now) }
 {
@@ -46,8 +43,7 @@ fn is_plain(contents: &[Parsed]) -> bool
     }
 }
 
-// Returns whether the content has a structured append header that contains the numbers `position`, `last` and `parity`.
-// The number `last` is the number of symbols of the series, less 1.
+// Whether the content has a header with these numbers; `last` is the number of symbols less 1.
 fn has_header(content: &Parsed, position: usize, last: usize, parity: u8) -> bool
     ensures { Decides result (content.now.header
         ≡ Some (record { position = position; last = last; parity = parity })) }
@@ -62,9 +58,7 @@ fn has_header(content: &Parsed, position: usize, last: usize, parity: u8) -> boo
     }
 }
 
-// Returns whether `contents` contains the contents of a whole series of symbols, in the order of the series. A whole
-// series has at least one content, and each content has a structured append header. Each header contains three numbers:
-// the position of its content, the number of contents less 1, and the number `parity` (8.1 to 8.3).
+// Whether the contents are a whole series with this parity data, in order (8.1 to 8.3).
 fn are_in_series(contents: &[Parsed], parity: u8) -> bool
     ensures { Decides result ((0 < length contents.now)
         × HaveHeaders (length contents.now - 1) parity 0 contents.now) }
@@ -81,17 +75,13 @@ fn are_in_series(contents: &[Parsed], parity: u8) -> bool
     true
 }
 
-/// Joins the bytes of the contents of symbols, in the order of `contents` (ISO/IEC 18004:2015, 8). A content is the
-/// result of reading one symbol. The bytes are joined only if `contents` is one content without a structured append
-/// header, or the contents of a whole series. In a whole series, the structured append header of each content contains
-/// three numbers. The first number in a structured append header is the position of its content, counted from 0. The
-/// second number in each structured append header is the number of symbols, less 1. The third number in each structured
-/// append header is the parity data of the bytes of all contents.
+/// Joins the bytes of the contents, in order, if they are those of one plain symbol or of a whole series (ISO/IEC
+/// 18004:2015, 8). A series is whole if each header has the position of its content, counted from 0, the number of
+/// contents less 1, and the parity data of all bytes.
 ///
 /// # Errors
 ///
-/// Returns `Series` if the contents are neither one content without a structured append header nor the contents of a
-/// whole series. If there is no content, `Series` is returned. Returns `Memory` if an allocation is refused.
+/// Returns `Series` if the contents are neither, also if there are none, and `Memory` if an allocation is refused.
 pub fn join(alloc: Global, contents: &[Parsed]) -> Result<Vec<u8>, ReadFault>
     ensures { MatchResult result
         (λ bytes. BelongTogether contents.now × (bytes.items ≡ bytes_of_all contents.now))
@@ -106,19 +96,14 @@ pub fn join(alloc: Global, contents: &[Parsed]) -> Result<Vec<u8>, ReadFault>
     }
 }
 
-/// Reads the symbols and joins their bytes, in the order of `symbols` (ISO/IEC 18004:2015, 8). The bytes are joined
-/// only if `symbols` is one symbol without a structured append header, or the symbols of a whole series. In a whole
-/// series, the structured append header of each symbol contains three numbers. The first number in a structured append
-/// header is the position of its symbol, counted from 0. The second number in each structured append header is the
-/// number of symbols, less 1. The third number in each structured append header is the parity data of the bytes of all
-/// symbols. Only the field `matrix` of each symbol is used; the fields `version`, `level` and `mask` are ignored.
+/// Reads the symbols and joins their bytes, in order, if they are one plain symbol or a whole series (ISO/IEC
+/// 18004:2015, 8). A series is whole if each header has the position of its symbol, counted from 0, the number of
+/// symbols less 1, and the parity data of all bytes. Only the field `matrix` of a symbol is read.
 ///
 /// # Errors
 ///
-/// If some symbols cannot be read, returns the fault of the first of these symbols. The structured append headers are
-/// checked only if all symbols can be read. Returns `Series` if all symbols can be read, but are neither one symbol
-/// without a structured append header nor a whole series. If there is no symbol, `Series` is returned. Returns `Memory`
-/// if an allocation is refused.
+/// Returns the fault of the first symbol that cannot be read. If all can, returns `Series` if the symbols are neither
+/// of the two, also if there are none. Returns `Memory` if an allocation is refused.
 pub fn read_series(alloc: Global, symbols: &[Symbol]) -> Result<Vec<u8>, ReadFault>
     ensures { MatchResult result
         (λ bytes. IsJoined (squares_of symbols.now) bytes.items)

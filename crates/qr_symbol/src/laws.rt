@@ -1,8 +1,7 @@
-//! This file contains the laws of mask patterns, of interleaving, of reading and of series of symbols. Most functions
-//! of this file contain no code: their contract is the law. Some functions of this file contain code: they build, read,
-//! compare or clone values, and the contract of each is a law about its result.
+//! Laws of masks, interleaving, reading and series. The contract of each function is the law; where a function has
+//! code, it is about what the code returns.
 
-ghost use Rattle.std.specs.Prelude.{◌≡◌, ◌<◌, ◌≤◌, ◌+◌, ◌%◌, ◌⊎◌, ℕ, false, List, length, map, None, ◌∷◌, IfOk, IfErr, ◌≢◌, ◌↔◌, Err};
+ghost use Rattle.std.specs.Prelude.{◌≡◌, ◌<◌, ◌≤◌, ◌+◌, ◌%◌, ◌⊎◌, ℕ, false, List, length, map, None, ◌∷◌, IfOk, IfErr, ◌≢◌, ◌↔◌, Err, IsTrue};
 ghost use Rattle.std.specs.List.{All};
 ghost use Rattle.qr_layout.specs.declared.level.Level.{Level};
 ghost use Rattle.qr_layout.specs.declared.region.Module.{Module};
@@ -34,30 +33,29 @@ ghost use Rattle.qr_symbol.specs.Distance.{MessagesLieApart, DamagedMessagesAreO
 ghost use Rattle.qr_symbol.specs.Laws.{all_masks, bits_down, computed_rows, first_rows};
 
 use crate::choice::build;
-pub use crate::derives::{
-    block_sizes_clones, encode_fault_clones, encode_faults_are_equal, read_fault_clones,
-    read_faults_are_equal,
-};
 use crate::fault::{EncodeFault, ReadFault};
+use crate::interleaving::BlockSizes;
 use crate::joining::read_series;
 use crate::reading::read_symbol;
 use crate::symbol::{Symbol, build_masked};
 use qr_bits::{INPUT_MAX, Parsed};
 use qr_layout::{Level, Version};
 use qr_matrix::Matrix;
-use std::alloc::Global;
+use std::alloc::{AllocError, Global};
 
-/// Each mask pattern repeats every twelve rows and every six columns. The first twelve rows of each mask pattern, in
-/// the first six columns, were worked out by hand from Table 10. The definition of the mask patterns agrees with the
-/// rows that were worked out by hand.
+/// Each mask repeats every twelve rows and six columns, and its first twelve rows are those worked out by hand from
+/// Table 10.
 pub fn masks_compute()
     ensures repeated { (mask r c : ℕ) → mask < 8 → inverts mask r c ≡ inverts mask (r % 12) (c % 6) }
     ensures rows { map first_rows all_masks ≡ computed_rows }
 {}
 
-/// `build_masked` draws module by module, and `build` draws several modules at once, but the two functions make the
-/// same symbol. If `build_masked` is called with the mask pattern that `build` has chosen, all fields of the two
-/// symbols are equal.
+/// `build_masked` draws module by module and `build` several modules at once, but under the mask that `build` has
+/// chosen they make the same symbol.
+///
+/// # Errors
+///
+/// Returns `Memory` if an allocation is refused.
 pub fn plain_and_fast_symbols_are_one(
     alloc: Global,
     version: Version,
@@ -77,8 +75,8 @@ pub fn plain_and_fast_symbols_are_one(
     Ok((plain, fast))
 }
 
-/// The blocks of a symbol divide its data codewords without a gap. The first block begins at the first data codeword,
-/// each other block begins where the block before it ends, and the last block ends at the last data codeword.
+/// The blocks divide the data codewords without a gap: the first begins at the first data codeword, each other where
+/// the one before it ends, and the last ends at the last data codeword.
 pub fn blocks_are_cut_exactly(version: Version, level: Level)
     ensures first { start_of (data_sizes (blocks_of version level)) 0 ≡ 0 }
     ensures next { (i : ℕ) → i < block_count (data_sizes (blocks_of version level))
@@ -88,8 +86,8 @@ pub fn blocks_are_cut_exactly(version: Version, level: Level)
     ensures whole { codeword_count (data_sizes (blocks_of version level)) ≡ data_codewords_of version level }
 {}
 
-/// Data codewords have at most one final sequence of codewords. The final sequence has as many codewords as a symbol of
-/// the version. Different data codewords of the same version and level have different final sequences.
+/// Data codewords have at most one final sequence, which has as many codewords as a symbol of the version. Different
+/// data codewords of a version and level have different final sequences.
 pub fn interleaving_is_one(version: Version, level: Level)
     ensures interleaved { (d xs ys : List ℕ) → IsInterleaved version level d xs
         → IsInterleaved version level d ys → xs ≡ ys }
@@ -100,30 +98,28 @@ pub fn interleaving_is_one(version: Version, level: Level)
         → IsInterleaved version level d xs → IsInterleaved version level e xs → d ≡ e }
 {}
 
-/// If two squares of modules of the same version and level contain different data codewords, they differ in many
-/// codewords of some block. 'Many codewords' means more codewords than the block has error correction codewords.
+/// Two squares of one version and level that contain different data codewords differ, in some block, in more codewords
+/// than it has error correction codewords.
 pub fn messages_lie_apart(version: Version, level: Level)
     ensures { MessagesLieApart version level }
 {}
 
-/// The codewords that were read from a damaged symbol belong to at most one message, which is a list of data codewords.
-/// An erased codeword is known to be unreadable, and a misread codeword was read with a wrong value. The law holds if
-/// the damage to each block is limited. Limited damage means that the number of erased codewords, plus twice the number
-/// of misread codewords, is at most the number of the block's error correction codewords.
+/// At one version and level, the codewords of a damaged symbol belong to at most one message if the damage is limited:
+/// in each block, the number of erased codewords plus twice that of misread ones is at most that of error correction
+/// codewords.
 pub fn damaged_messages_are_one(version: Version, level: Level)
     ensures { DamagedMessagesAreOne version level }
 {}
 
-/// If codewords are drawn as a square of modules, reading the codeword bits of this square yields the bits of the
-/// codewords that were drawn.
+/// Reading the codeword bits of a square yields the bits of the codewords from which it was drawn.
 pub fn squares_give_their_bits(version: Version)
     ensures { (l : Level) (mask : ℕ) (cw : List ℕ) (ms : List Module) → IsOrder version ms
         → length cw ≡ total_codewords_of version
         → read_bits version mask (grid_of version l mask cw) ms ≡ bits_of cw }
 {}
 
-/// If the mask pattern is given, exactly one list of codewords can be read from a square of modules. The list of
-/// codewords in a square is the final sequence for at most one list of data codewords.
+/// Exactly one list of codewords can be read from a square under a given mask, and at one level it is the final
+/// sequence of at most one list of data codewords.
 pub fn reading_is_one(version: Version, level: Level)
     ensures some { (mask : ℕ) (g : Grid) → (cw : List ℕ) × IsRead version mask g cw }
     ensures codewords { (mask : ℕ) (g : Grid) (cw ds : List ℕ) → IsRead version mask g cw
@@ -132,19 +128,19 @@ pub fn reading_is_one(version: Version, level: Level)
         → IsMessage version level mask g e → d ≡ e }
 {}
 
-/// The format information of a square of modules belongs to at most one level and mask pattern.
+/// The format information of a square belongs to at most one level and mask.
 pub fn format_is_one()
     ensures { (g : Grid) (l k : Level) (m n : ℕ) → IsFormat g l m → IsFormat g k n
         → (l ≡ k) × (m ≡ n) }
 {}
 
-/// A square of modules is read as at most one content: an optional structured append header, segments and bytes.
+/// A square is read as at most one content: an optional structured append header, segments and bytes.
 pub fn contents_are_one()
     ensures { (g : Grid) (p q : Content) → IsReading g p → IsReading g q → p ≡ q }
 {}
 
-/// If a square of modules can be read, it is refused only for lack of memory. Apart from lack of memory, there is at
-/// most one fault for which a given square is refused.
+/// A square that can be read is refused only for lack of memory. Apart from it, there is at most one fault for which a
+/// square is refused.
 pub fn refusals_are_one()
     ensures read { (g : Grid) (p : Content) (e : ReadFault) → IsReading g p → IsUnread g e
         → e ≡ ReadFault.Memory }
@@ -152,9 +148,8 @@ pub fn refusals_are_one()
         → (e ≡ ReadFault.Memory) ⊎ (f ≡ ReadFault.Memory) ⊎ (e ≡ f) }
 {}
 
-/// The definition `IsUnread` lists the reasons for each fault of reading a symbol. If `read_symbol` returns a fault
-/// other than `Memory`, `IsUnread` holds for the square of modules and this fault. Conversely, if `IsUnread` holds for
-/// the square and a fault other than `Memory`, `read_symbol` returns this fault unless an allocation is refused.
+/// `IsUnread` lists the reasons for each fault: `read_symbol` returns one other than `Memory` exactly if they hold and
+/// no allocation is refused.
 pub fn readings_are_refused_exactly(alloc: Global, matrix: &Matrix) -> Result<Parsed, ReadFault>
     ensures { (e : ReadFault) → e ≢ ReadFault.Memory
         → (result ≡ Err e) ↔ ((result ≢ Err ReadFault.Memory) × IsUnread matrix.now e) }
@@ -162,13 +157,13 @@ pub fn readings_are_refused_exactly(alloc: Global, matrix: &Matrix) -> Result<Pa
     read_symbol(alloc, matrix)
 }
 
-/// If the squares of modules in a list are read and joined, at most one list of bytes is a possible result.
+/// Squares are joined to at most one list of bytes.
 pub fn joinings_are_one()
     ensures { (gs : List Grid) (x y : List ℕ) → IsJoined gs x → IsJoined gs y → x ≡ y }
 {}
 
-/// If the squares of modules in a list can be read and joined, they are refused only for lack of memory. Apart from
-/// lack of memory, there is at most one fault for which a given list of squares is refused.
+/// Squares that can be read and joined are refused only for lack of memory. Apart from it, there is at most one fault
+/// for which a list of squares is refused.
 pub fn joining_refusals_are_one()
     ensures joined { (gs : List Grid) (x : List ℕ) (e : ReadFault) → IsJoined gs x
         → IsUnjoined gs e → e ≡ ReadFault.Memory }
@@ -176,10 +171,8 @@ pub fn joining_refusals_are_one()
         → (e ≡ ReadFault.Memory) ⊎ (f ≡ ReadFault.Memory) ⊎ (e ≡ f) }
 {}
 
-/// The definition `IsUnjoined` lists the reasons for each fault of reading a series. If `read_series` returns a fault
-/// other than `Memory`, `IsUnjoined` holds for the squares of modules of the symbols and this fault. Conversely, if
-/// `IsUnjoined` holds for the squares and a fault other than `Memory`, `read_series` returns this fault unless an
-/// allocation is refused.
+/// `IsUnjoined` lists the reasons for each fault: `read_series` returns one other than `Memory` exactly if they hold
+/// and no allocation is refused.
 pub fn joinings_are_refused_exactly(alloc: Global, symbols: &[Symbol]) -> Result<Vec<u8>, ReadFault>
     ensures { (e : ReadFault) → e ≢ ReadFault.Memory
         → (result ≡ Err e) ↔ ((result ≢ Err ReadFault.Memory) × IsUnjoined (squares_of symbols.now) e) }
@@ -187,30 +180,27 @@ pub fn joinings_are_refused_exactly(alloc: Global, symbols: &[Symbol]) -> Result
     read_series(alloc, symbols)
 }
 
-/// For a given level, rule and smallest version, an input has at most one symbol. The rule determines which modes may
-/// be used.
+/// An input has at most one symbol for a level, a rule and a smallest version.
 pub fn symbols_are_one()
     ensures { SymbolsAreOne }
 {}
 
-/// Reading the symbol of an input returns the bytes of the input, the segments with the fewest bits, and no structured
-/// append header.
+/// Reading the symbol of an input yields its bytes, the segments of fewest bits, and no structured append header.
 pub fn symbols_are_read(smallest: Version)
     ensures { (x : List ℕ) (l : Level) (rule : Rule) (v mask : ℕ) (g : Grid)
         → (s : IsSymbol smallest l rule x v mask g)
         → IsReading g (record { header = None; segments = s.made.segments; bytes = x }) }
 {}
 
-/// For a given version, level and rule, an input has at most one series of symbols. The rule determines which modes may
-/// be used.
+/// An input has at most one series for a version, a level and a rule.
 pub fn series_are_one()
     ensures { (x : List ℕ) (l : Level) (rule : Rule) (v : ℕ) (ss ts : List Symbol)
         → IsSeries v l rule x ss → IsSeries v l rule x ts → ss ≡ ts }
 {}
 
-/// Each part into which an input is cut fits a symbol together with a structured append header. Without kanji mode, the
-/// input cannot be cut into fewer parts that all fit. Without kanji mode, the series of a nonempty input therefore has
-/// the least possible number of symbols.
+/// Each part into which an input is cut fits a symbol with a structured append header. Without kanji mode, no cut into
+/// parts that fit has fewer parts. So the series of a nonempty input has the least possible number of symbols, and an
+/// input that has no series cannot be cut into at most 16 parts that fit.
 pub fn series_are_shortest()
     ensures fit { (v : ℕ) (l : Level) (rule : Rule) (x : List ℕ) (parts : List (List ℕ))
         → AreParts v l rule x parts → FitParts v l rule x parts }
@@ -219,23 +209,22 @@ pub fn series_are_shortest()
     ensures series { (x : List ℕ) (l : Level) (rule : Rule) (v : ℕ) (ss : List Symbol)
         → may_use rule Mode.Kanji ≡ false → 0 < length x
         → IsSeries v l rule x ss → NeedsParts v l rule x (length ss) }
+    ensures none { (x : List ℕ) (l : Level) (rule : Rule) (v : ℕ) → 1 ≤ v → v ≤ 40
+        → may_use rule Mode.Kanji ≡ false → HasNoSeries v l rule x → NeedsParts v l rule x 17 }
 {}
 
-/// Every input can be cut into parts for a series of symbols, since every symbol can contain a structured append header
-/// and at least one byte.
+/// Every input can be cut into parts, since a symbol has room for a structured append header and a byte.
 pub fn parts_are_there(version: Version, level: Level)
     ensures { (rule : Rule) (x : List ℕ) → (parts : List (List ℕ)) × AreParts version level rule x parts }
 {}
 
-/// If an input is cut into parts, each part contains at least five bytes, or all bytes of the input that are not in an
-/// earlier part.
+/// Each part into which an input is cut has at least five bytes, or all that come after the earlier parts.
 pub fn parts_are_long(version: Version, level: Level)
     ensures { (rule : Rule) (x p : List ℕ) (ps : List (List ℕ))
         → AreParts version level rule x (p ∷ ps) → (5 ≤ length p) ⊎ (p ≡ x) }
 {}
 
-/// All symbols of a series have the number of rows that belongs to the version of the series. A series has at most 16
-/// symbols.
+/// All symbols of a series have the side of its version, and there are at most 16.
 pub fn series_have_one_side(version: Version)
     ensures side { (x : List ℕ) (l : Level) (rule : Rule) (ss : List Symbol)
         → IsSeries version l rule x ss → All (λ g. g.side ≡ side_of version) (squares_of ss) }
@@ -243,14 +232,14 @@ pub fn series_have_one_side(version: Version)
         → IsSeries version l rule x ss → length ss ≤ 16 }
 {}
 
-/// If the symbols of the series of an input are read and joined, the result is this input.
+/// The symbols of the series of an input are joined to this input.
 pub fn series_are_joined(version: Version)
     ensures { (x : List ℕ) (l : Level) (rule : Rule) (ss : List Symbol)
         → IsSeries version l rule x ss → IsJoined (squares_of ss) x }
 {}
 
-/// An input of `INPUT_MAX` bytes or more fits no version. An input of `INPUT_MAX` bytes or more has no series of
-/// symbols, since it would be cut into more than 16 parts.
+/// An input of `INPUT_MAX` bytes or more fits no version, and has no series, since it would be cut into more than 16
+/// parts.
 pub fn long_inputs_have_none(version: Version)
     ensures symbol { (x : List ℕ) (l : Level) (rule : Rule) → INPUT_MAX ≤ length x
         → HasNoVersion version l rule x }
@@ -260,10 +249,9 @@ pub fn long_inputs_have_none(version: Version)
         → HasNoSeries version l rule x }
 {}
 
-/// In two examples of the standard, the bits that are drawn are exactly the bits that the standard prints, from the
-/// highest bit to the lowest. The two examples are the format information of level M with the mask pattern 101
-/// (binary), and the version information of version 7.
-#[tactic(auto, unfolding(qr_layout::specs::Format::format_word_of, qr_layout::specs::Format::version_word_of, qr_layout::specs::Format::remainder_of))]
+/// The bits drawn for two examples of the standard are those that it prints, from the highest to the lowest: the format
+/// information of level M with mask 101 (binary), and the version information of version 7.
+#[tactic(auto, unfolding(qr_layout::specs::Format::format_word_of, qr_layout::specs::Format::version_word_of, qr_layout::specs::Format::word_remainder, qr_matrix::specs::BitRow::has_bit))]
 pub fn drawn_bits_compute()
     ensures format { (v r c : ℕ) (cw : List ℕ) → bits_down 15 (λ i. colour_by v Level.M 5 cw r c (FormatBit i))
         ≡ 0b100000011001110 }
@@ -271,26 +259,26 @@ pub fn drawn_bits_compute()
         → bits_down 18 (λ i. colour_by 7 l mask cw r c (VersionBit i)) ≡ 0b000111110010010100 }
 {}
 
-/// If several mask patterns have the least penalty, the one with the smallest number is chosen.
+/// Of several masks with the least penalty, the smallest is chosen.
 pub fn ties_go_to_the_smallest()
     ensures { (v : ℕ) (l : Level) (cw : List ℕ) (mask other : ℕ) → IsMask v l cw mask → other < 8
         → mask_penalty v l cw other ≡ mask_penalty v l cw mask → mask ≤ other }
 {}
 
-/// The version that is chosen for an input is at most 40. An input that fits version 40 is not refused as too long.
+/// The chosen version is at most 40, and an input that fits version 40 is not refused as too long.
 pub fn the_last_version_is_40(smallest: Version)
     ensures chosen { (l : Level) (rule : Rule) (x : List ℕ) (v : ℕ) → IsVersion smallest l rule x v → v ≤ 40 }
     ensures tried { (l : Level) (rule : Rule) (x : List ℕ) → HasNoVersion smallest l rule x
         → FitsVersion 40 l rule x → ⊥ }
 {}
 
-/// An input that is cut into at most 16 parts is not refused as too long for a series of symbols.
+/// An input that is cut into at most 16 parts is not refused as too long for a series.
 pub fn sixteen_parts_are_a_series()
     ensures { (v : ℕ) (l : Level) (rule : Rule) (x : List ℕ) (parts : List (List ℕ))
         → AreParts v l rule x parts → length parts ≤ 16 → HasNoSeries v l rule x → ⊥ }
 {}
 
-/// The faults of reading symbols are numbered from 1 to 6, in the order in which `ReadFault` lists them.
+/// The faults of reading are numbered from 1 to 6, in the order of `ReadFault`.
 pub fn read_faults_are_numbered()
     ensures memory { read_fault_number ReadFault.Memory ≡ 1 }
     ensures side { read_fault_number ReadFault.Side ≡ 2 }
@@ -300,11 +288,11 @@ pub fn read_faults_are_numbered()
     ensures series { read_fault_number ReadFault.Series ≡ 6 }
 {}
 
-/// Returns the discriminant of `fault`: 1 for `Empty`, 2 for `TooLong`, 3 for `TooMany`, and 4 for `Memory`.
+/// Returns the discriminant of `fault`: 1 for `Empty`, 2 for `TooLong`, 3 for `TooMany`, 4 for `Memory`.
 ///
 /// # Notes
 ///
-/// The discriminants of `EncodeFault` stay the same in later versions of this crate.
+/// Later versions of this crate keep the discriminants.
 pub fn encode_fault_numbers(fault: EncodeFault) -> u8
     ensures empty { fault ≡ EncodeFault.Empty → result ≡ 1 }
     ensures too_long { fault ≡ EncodeFault.TooLong → result ≡ 2 }
@@ -312,4 +300,39 @@ pub fn encode_fault_numbers(fault: EncodeFault) -> u8
     ensures memory { fault ≡ EncodeFault.Memory → result ≡ 4 }
 {
     fault as u8
+}
+
+/// `==` says whether the two are the same `EncodeFault`.
+pub fn encode_faults_are_equal(a: EncodeFault, b: EncodeFault) -> bool
+    ensures { IsTrue result ↔ (a ≡ b) }
+{
+    a == b
+}
+
+/// `==` says whether the two are the same `ReadFault`.
+pub fn read_faults_are_equal(a: ReadFault, b: ReadFault) -> bool
+    ensures { IsTrue result ↔ (a ≡ b) }
+{
+    a == b
+}
+
+/// A clone of a `EncodeFault` is equal to it.
+pub fn encode_fault_clones(a: EncodeFault) -> Result<EncodeFault, AllocError>
+    ensures { IfOk result (λ b. b ≡ a) }
+{
+    a.clone()
+}
+
+/// A clone of a `ReadFault` is equal to it.
+pub fn read_fault_clones(a: ReadFault) -> Result<ReadFault, AllocError>
+    ensures { IfOk result (λ b. b ≡ a) }
+{
+    a.clone()
+}
+
+/// A clone of a `BlockSizes` is equal to it.
+pub fn block_sizes_clones(a: BlockSizes) -> Result<BlockSizes, AllocError>
+    ensures { IfOk result (λ b. b ≡ a) }
+{
+    a.clone()
 }

@@ -1,7 +1,6 @@
 //! Encodes an input as one symbol or as a series of symbols, and reads symbols back.
 //!
-//! The function `encode` encodes an input as one symbol. The following code writes the modules of the symbol as text,
-//! row by row, with `#` for each dark module:
+//! This code writes the modules of a symbol as text, with `#` for each dark one:
 //!
 //! ```text
 //! let symbol = encode(alloc, words, Level::M, Version::FIRST, Rule::Auto)?;
@@ -13,15 +12,13 @@
 //! }
 //! ```
 //!
-//! The crate `example_label` contains a function that writes a symbol as text in this way, together with its contract.
-//! A symbol that is to be scanned needs a quiet zone, which is a light margin of four modules on each side.
+//! The crate `example_label` has such a function with its contract. To be scanned, a symbol needs a quiet zone: a light
+//! margin of four modules on each side.
 #![tactic(auto)]
 
 mod canvas;
 mod choice;
 mod collecting;
-mod derives;
-mod drawing;
 mod encoding;
 mod fault;
 mod interleaving;
@@ -29,6 +26,7 @@ mod joining;
 pub mod laws;
 mod mask;
 mod patterns;
+mod placement;
 mod reading;
 mod series;
 mod symbol;

@@ -1,20 +1,19 @@
-//! Draws the function patterns, the format information and the version information of a symbol. This file also draws a
-//! square in which only the encoding region (the modules that the codewords fill) is dark (ISO/IEC 18004:2015, 6.3, 7.9
-//! and 7.10).
+//! Draws the function patterns, the format information and the version information, and the square in which only the
+//! region is dark (ISO/IEC 18004:2015, 6.3, 7.9 and 7.10). `format` is the format information as a number.
 
 ghost use Rattle.std.specs.Prelude.{◌≡◌, ℕ, ◌%◌, ◌+◌, ◌<◌, ◌≤◌, ◌==◌, ◌&&◌, not, if◌then◌else◌, nat_le, nat_lt, false, IfOk};
 ghost use Rattle.std.specs.List.{list_any, All};
 ghost use Rattle.qr_layout.specs.Version.{side_of};
 ghost use Rattle.qr_layout.specs.Alignment.{alignment_places, centres_of};
-ghost use Rattle.qr_layout.specs.Region.{is_alignment, is_in_region, ring_of};
-ghost use Rattle.qr_layout.specs.Rectangles.{corner_rectangles, is_in_rectangle, timing_rectangles, version_rectangles};
+ghost use Rattle.qr_layout.specs.Region.{is_alignment, is_corner, is_in_region, is_timing, is_version_information, ring_of};
+ghost use Rattle.qr_layout.specs.Rectangles.{is_in_rectangle};
 ghost use Rattle.qr_layout.specs.Steps.Rectangles.{IsInside, IsWithin};
 ghost use Rattle.qr_layout.specs.Role.{finder_ring, is_alignment_light, role_of};
 ghost use Rattle.qr_layout.specs.Format.{version_word_of};
 ghost use Rattle.qr_matrix.specs.Grid.{square, colour, light, IsSquare};
-ghost use Rattle.qr_symbol.specs.Symbol.{word_bit};
+ghost use Rattle.qr_matrix.specs.BitRow.{has_bit};
 ghost use Rattle.qr_symbol.specs.Steps.Patterns.{fixed_colour, format_bits_or, format_or, is_dark_in_six, paint_of};
-ghost use Rattle.qr_symbol.specs.Steps.Drawing.{region_grid};
+ghost use Rattle.qr_symbol.specs.Steps.Placement.{region_grid};
 
 use qr_layout::{
     Module, Rectangle, Version, alignment_centres, fixed_rectangles, format_place,
@@ -23,14 +22,15 @@ use qr_layout::{
 use qr_matrix::Matrix;
 use std::alloc::{AllocError, Global};
 
-// Returns whether bit `i` of the number `word` is 1. Bit 0 is the lowest bit.
+// Whether bit `i` is 1; bit 0 is the lowest.
+#[tactic(auto, unfolding(qr_matrix::specs::BitRow::has_bit))]
 pub(crate) fn is_bit_set(word: u32, i: u8) -> bool
-    ensures { result ≡ word_bit word i }
+    ensures { result ≡ has_bit word i }
 {
     i < 32 && word >> i & 1 == 1
 }
 
-// Makes all modules in the rectangles of the list `rectangles` light.
+// Makes the rectangles light.
 fn clear_rectangles(matrix: &mut Matrix, v: Version, rectangles: &[Rectangle])
     requires square { IsSquare (side_of v) matrix.old }
     requires inside { All (IsWithin (side_of v)) rectangles.now }
@@ -48,8 +48,7 @@ fn clear_rectangles(matrix: &mut Matrix, v: Version, rectangles: &[Rectangle])
     }
 }
 
-// Draws a finder pattern with its centre in row `row` and column `col`. The centre is surrounded by three square rings
-// of modules, counted from the inside. The centre, ring 1 and ring 3 are dark, and ring 2 is light.
+// Draws a finder pattern around its centre: the centre is dark, and of the three rings around it the second is light.
 fn draw_finder(matrix: &mut Matrix, row: u8, col: u8)
     requires row_least { 3 ≤ row }
     requires row_most { row + 4 ≤ matrix.old.side }
@@ -64,8 +63,7 @@ fn draw_finder(matrix: &mut Matrix, row: u8, col: u8)
     matrix.fill(row - 1, row + 2, col - 1, col + 2, true);
 }
 
-// Draws a finder pattern with the centre `centre`, and its separator. The finder pattern and its separator together are
-// a square of eight by eight modules with the top left module `block`.
+// Draws a finder pattern and its separator, which fill the eight by eight modules from `block` on.
 fn paint_finder(matrix: &mut Matrix, v: Version, block: Module, centre: Module)
     requires square { IsSquare (side_of v) matrix.old }
     requires bottom_in { block.row + 8 ≤ side_of v }
@@ -85,8 +83,7 @@ fn paint_finder(matrix: &mut Matrix, v: Version, block: Module, centre: Module)
 // The number of bits of the format information.
 pub(crate) const FORMAT_BITS: u8 = 15;
 
-// Draws the bits from number `first` to number `end - 1` of the format information over a symbol, each bit in both
-// copies. The bits of the number `format` are the format information.
+// Draws the bits from `first` to `end - 1` of the format information in both copies.
 #[inline(always)]
 fn draw_format_bits(matrix: &mut Matrix, v: Version, format: u32, first: u8, end: u8)
     requires square { IsSquare (side_of v) matrix.old }
@@ -103,9 +100,8 @@ fn draw_format_bits(matrix: &mut Matrix, v: Version, format: u32, first: u8, end
     }
 }
 
-// Draws both copies of the format information over a symbol. The bits of the number `format` are the format
-// information. The bits are drawn in three parts. In the first part and in the last part, the bits of each copy are in
-// one row or in one column. So the compiled code finds the places of these bits without tests.
+// Draws both copies of the format information. Of the three parts, the first and the last have the bits of each copy in
+// one row or column, so that the compiled code finds their places without tests.
 pub(crate) fn draw_format(matrix: &mut Matrix, v: Version, format: u32)
     requires { IsSquare (side_of v) matrix.old }
     ensures { matrix.new ≡ square (side_of v) (λ r c. format_or format (role_of v r c) (colour matrix.old r c)) }
@@ -115,12 +111,11 @@ pub(crate) fn draw_format(matrix: &mut Matrix, v: Version, format: u32)
     draw_format_bits(matrix, v, format, 9, FORMAT_BITS);
 }
 
-// Draws the three corners of a symbol: the finder patterns, their separators, and the modules of row 8 and column 8
-// that are beside the finder patterns. Two of the drawn modules of row 8 and column 8 belong to the timing patterns,
-// and one is the dark module. All other drawn modules of row 8 and column 8 contain the format information.
+// Draws the three corners: the finder patterns, their separators, and beside them in row 8 and column 8 two modules of
+// the timing patterns, the dark module and the format information.
 fn paint_corners(matrix: &mut Matrix, v: Version, format: u32)
     requires { IsSquare (side_of v) matrix.old }
-    ensures { matrix.new ≡ square (side_of v) (λ r c. if list_any (is_in_rectangle r c) (corner_rectangles (side_of v))
+    ensures { matrix.new ≡ square (side_of v) (λ r c. if is_corner (side_of v) r c
         then paint_of v format r c else colour matrix.old r c) }
 {
     let side = v.side();
@@ -137,19 +132,18 @@ fn paint_corners(matrix: &mut Matrix, v: Version, format: u32)
     draw_format(matrix, v, format);
 }
 
-// Returns whether the module with the index `at` in row 6, or in column 6, is dark. The first seven and the last seven
-// modules of row 6, and of column 6, belong to finder patterns. In row 6 and in column 6, a timing pattern is between
-// the separators of the two finder patterns (ISO/IEC 18004:2015, 6.3.5).
+// Whether module `at` of row 6, or of column 6, is dark. Its first and last seven modules belong to finder patterns;
+// between their separators is a timing pattern (ISO/IEC 18004:2015, 6.3.5).
 fn is_dark_in_six(side: u8, at: u8) -> bool
     ensures { result ≡ is_dark_in_six side at }
 {
     at < 7 || at >= side.saturating_sub(7) || at % 2 == 0
 }
 
-// Draws row 6 and column 6 of a symbol, which contain the timing patterns.
+// Draws row 6 and column 6.
 fn paint_timing(matrix: &mut Matrix, v: Version)
     requires { IsSquare (side_of v) matrix.old }
-    ensures { (format : ℕ) → matrix.new ≡ square (side_of v) (λ r c. if list_any (is_in_rectangle r c) (timing_rectangles (side_of v))
+    ensures { (format : ℕ) → matrix.new ≡ square (side_of v) (λ r c. if is_timing r c
         then paint_of v format r c else colour matrix.old r c) }
 {
     let side = v.side();
@@ -163,13 +157,12 @@ fn paint_timing(matrix: &mut Matrix, v: Version)
 // The number of bits of the version information.
 const VERSION_BITS: u8 = 18;
 
-// Draws the version information, which symbols have from version 7 on. Each bit is drawn beside the top right finder
-// pattern, and a second time beside the bottom left finder pattern, with row and column exchanged (ISO/IEC 18004:2015,
-// 7.10).
+// Draws the version information, from version 7 on: beside the top right finder pattern, and with row and column
+// exchanged beside the bottom left one (ISO/IEC 18004:2015, 7.10).
 fn paint_version(matrix: &mut Matrix, v: Version)
     requires { IsSquare (side_of v) matrix.old }
-    ensures { (format : ℕ) → matrix.new ≡ square (side_of v) (λ r c. if list_any (is_in_rectangle r c)
-        (version_rectangles v (side_of v)) then paint_of v format r c else colour matrix.old r c) }
+    ensures { (format : ℕ) → matrix.new ≡ square (side_of v) (λ r c. if is_version_information v r c
+        then paint_of v format r c else colour matrix.old r c) }
 {
     if let Some(word) = v.version_word() {
         let left = v.side() - 11;
@@ -182,8 +175,7 @@ fn paint_version(matrix: &mut Matrix, v: Version)
     }
 }
 
-// Makes all modules of the alignment patterns dark if `dark` is true, and light otherwise. `centres` contains the
-// centres of the alignment patterns.
+// Fills the alignment patterns with one colour.
 fn fill_alignment(matrix: &mut Matrix, v: Version, centres: &[Module], dark: bool)
     requires square { IsSquare (side_of v) matrix.old }
     requires centres { centres.now ≡ alignment_places (side_of v) (centres_of v) }
@@ -196,7 +188,7 @@ fn fill_alignment(matrix: &mut Matrix, v: Version, centres: &[Module], dark: boo
     }
 }
 
-// Makes the eight modules light that surround the module in row `row` and column `col`.
+// Makes the eight modules around a module light.
 fn clear_ring(matrix: &mut Matrix, row: u8, col: u8)
     requires row_least { 1 ≤ row }
     requires row_most { row + 2 ≤ matrix.old.side }
@@ -212,7 +204,7 @@ fn clear_ring(matrix: &mut Matrix, row: u8, col: u8)
     matrix.fill(row, row + 1, col + 1, col + 2, false);
 }
 
-// Makes the eight modules light that surround the centre of each alignment pattern.
+// Makes the ring around the centre of each alignment pattern light.
 fn clear_rings(matrix: &mut Matrix, v: Version, centres: &[Module])
     requires square { IsSquare (side_of v) matrix.old }
     requires centres { centres.now ≡ alignment_places (side_of v) (centres_of v) }
@@ -225,8 +217,7 @@ fn clear_rings(matrix: &mut Matrix, v: Version, centres: &[Module])
     }
 }
 
-// Draws each module outside the encoding region in its colour, and leaves the encoding region unchanged. The bits of
-// the number `format` are the format information.
+// Draws all modules outside the region.
 pub(crate) fn draw_fixed(matrix: &mut Matrix, v: Version, format: u32)
     requires { IsSquare (side_of v) matrix.old }
     ensures { matrix.new ≡ square (side_of v) (λ r c. if is_in_region v r c then colour matrix.old r c
@@ -240,8 +231,6 @@ pub(crate) fn draw_fixed(matrix: &mut Matrix, v: Version, format: u32)
     paint_version(matrix, v);
 }
 
-// Makes each module of the encoding region dark and all other modules light. All modules of `matrix` must be light
-// before the call.
 fn draw_region(matrix: &mut Matrix, v: Version)
     requires { matrix.old ≡ light (side_of v) }
     ensures { matrix.new ≡ region_grid v }
@@ -252,7 +241,7 @@ fn draw_region(matrix: &mut Matrix, v: Version)
     fill_alignment(matrix, v, alignment_centres(v).as_slice(), false);
 }
 
-// Returns the square of modules in which exactly the modules of the encoding region are dark.
+// The square in which exactly the region is dark.
 pub(crate) fn region_of(alloc: Global, version: Version) -> Result<Matrix, AllocError>
     ensures { IfOk result (λ m. m ≡ region_grid version) }
 {

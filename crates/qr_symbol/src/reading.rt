@@ -1,7 +1,4 @@
-//! Reads one symbol (ISO/IEC 18004:2015, 12). The number of rows of the symbol determines its version. The format
-//! information contains the level and the mask pattern. After the version, the level and the mask pattern are known,
-//! the codewords are read and deinterleaved. At the end, the data codewords are parsed: the results are the segments
-//! and the bytes of the segments.
+//! Reads one symbol (ISO/IEC 18004:2015, 12).
 
 ghost use Rattle.std.specs.Prelude.{◌≡◌, ℕ, ◌<◌, ◌≤◌, Err, length, IfOk, MatchOption, MatchResult};
 ghost use Rattle.std.specs.Bool.{Decides};
@@ -9,7 +6,7 @@ ghost use Rattle.qr_symbol.specs.declared.fault.ReadFault.{ReadFault};
 ghost use Rattle.qr_layout.specs.declared.level.Level.{Level};
 ghost use Rattle.qr_layout.specs.Version.{side_of, total_codewords_of};
 ghost use Rattle.qr_symbol.specs.Reading.{IsFormat, IsRead, IsReading, IsReadUnmasked, IsUnread};
-ghost use Rattle.qr_symbol.specs.Steps.Drawing.{region_grid};
+ghost use Rattle.qr_symbol.specs.Steps.Placement.{region_grid};
 
 use crate::collecting::collect_codewords;
 use crate::fault::ReadFault;
@@ -21,8 +18,7 @@ use qr_layout::{Level, Version, format_place, format_word};
 use qr_matrix::Matrix;
 use std::alloc::{AllocError, Global};
 
-// Returns whether the format information beside the top left finder pattern belongs to the level `level` and the mask
-// pattern `mask`.
+// Whether the copy beside the top left finder pattern is the format information of the level and mask.
 fn has_format(matrix: &Matrix, level: Level, mask: u8) -> bool
     requires side { 21 ≤ matrix.now.side }
     requires mask_in { mask < 8 }
@@ -38,8 +34,7 @@ fn has_format(matrix: &Matrix, level: Level, mask: u8) -> bool
     true
 }
 
-// If the format information of `matrix` belongs to the level `level` and some mask pattern, returns this mask pattern.
-// If the format information belongs to another level, or to no level, returns `None`.
+// The mask of the format information, if its level is `level`.
 fn mask_of(matrix: &Matrix, level: Level) -> Option<u8>
     requires { 21 ≤ matrix.now.side }
     ensures { MatchOption result
@@ -54,8 +49,7 @@ fn mask_of(matrix: &Matrix, level: Level) -> Option<u8>
     None
 }
 
-// Returns the level and the mask pattern to which the format information of `matrix` belongs. Returns `None` if the
-// format information belongs to no level and mask pattern.
+// The level and mask of the format information, if it belongs to any.
 fn format_of(matrix: &Matrix) -> Option<(Level, u8)>
     requires { 21 ≤ matrix.now.side }
     ensures { MatchOption result
@@ -70,8 +64,8 @@ fn format_of(matrix: &Matrix) -> Option<(Level, u8)>
     None
 }
 
-// Reads the codewords from the modules of the encoding region, without undoing a mask pattern. In `region`, exactly the
-// modules of the encoding region are dark.
+// Reads the codewords without undoing a mask; exactly the region is dark in `region`. A strip's columns are rows of the
+// transposed square, of which a word holds 64 modules.
 fn read_plain(
     alloc: Global,
     version: Version,
@@ -88,8 +82,12 @@ fn read_plain(
     collect_codewords(alloc, version, &across, region)
 }
 
-/// Reads the codewords from the modules of the encoding region, in the order of the function `qr_layout::walk`, without
-/// undoing a mask pattern; a dark module is 1. The remainder bits are ignored (ISO/IEC 18004:2015, 7.7.3).
+/// Reads the codewords from the region in the order of `qr_layout::walk`, without undoing a mask. A dark module is 1,
+/// and the remainder bits are ignored (ISO/IEC 18004:2015, 7.7.3).
+///
+/// # Errors
+///
+/// Returns an error if an allocation is refused.
 pub fn read_unmasked(
     alloc: Global,
     version: Version,
@@ -103,8 +101,12 @@ pub fn read_unmasked(
     read_plain(alloc, version, matrix, &region)
 }
 
-/// Reads the codewords from the modules of the encoding region, in the order of the function `qr_layout::walk`, and
-/// undoes the mask pattern `mask`. The remainder bits are ignored (ISO/IEC 18004:2015, 7.7.3 and 12).
+/// Reads the codewords from the region in the order of `qr_layout::walk`, with the mask undone. The remainder bits are
+/// ignored (ISO/IEC 18004:2015, 7.7.3 and 12), and a mask above 7 is taken as 7.
+///
+/// # Errors
+///
+/// Returns an error if an allocation is refused.
 pub fn read_codewords(
     alloc: Global,
     version: Version,
@@ -122,24 +124,17 @@ pub fn read_codewords(
     read_plain(alloc, version, &plain, &region)
 }
 
-/// Reads a symbol, without any correction of errors (ISO/IEC 18004:2015, 12). The number of rows of `matrix` determines
-/// the version. The level and the mask pattern are read only from the format information beside the top left finder
-/// pattern. The function patterns, the dark module, the second copy of the format information, the version information
-/// and the remainder bits are ignored.
-///
-/// A square of modules is read exactly if four conditions are true and no allocation is refused. The first condition is
-/// that some version has as many rows as the square. The second condition is that the format information belongs to a
-/// level and a mask pattern. The third condition is that the error correction codewords of each block belong to the
-/// data codewords of the block. The fourth condition is that the data codewords can be parsed; the segments may have
-/// any of the four modes, including kanji mode.
+/// Reads a symbol, without correcting errors (ISO/IEC 18004:2015, 12). The number of rows gives the version; level and
+/// mask are read from the format information beside the top left finder pattern alone. Function patterns, the dark
+/// module, the second copy, the version information and the remainder bits are ignored. Segments may have any of the
+/// four modes.
 ///
 /// # Errors
 ///
-/// The causes of a refusal are checked in the following order: `Side`, `Format`, `Check`, `Segments`. Returns `Side` if
-/// no version has as many rows as the square. Returns `Format` if the format information belongs to no level and mask
-/// pattern. Returns `Check` if the error correction codewords of some block do not belong to its data codewords.
-/// Returns `Segments` if the data codewords cannot be parsed. Returns `Memory` if an allocation is refused; `Side` and
-/// `Format` are returned before any allocation.
+/// The symbol is refused only for these reasons, checked in this order: `Side` if no version has as many rows; `Format`
+/// if the format information belongs to no level and mask; `Check` if the error correction codewords of some block do
+/// not belong to its data codewords; `Segments` if the data codewords cannot be parsed. Returns `Memory` if an
+/// allocation is refused, which happens only after `Side` and `Format` are checked.
 pub fn read_symbol(alloc: Global, matrix: &Matrix) -> Result<Parsed, ReadFault>
     ensures read { MatchResult result (IsReading matrix.now) (IsUnread matrix.now) }
     ensures side { IsUnread matrix.now ReadFault.Side → result ≡ Err ReadFault.Side }

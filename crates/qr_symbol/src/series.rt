@@ -1,4 +1,4 @@
-//! Encodes an input as a series of symbols, which the standard calls Structured Append (ISO/IEC 18004:2015, 8).
+//! Encodes an input as a series of symbols, the standard's Structured Append (ISO/IEC 18004:2015, 8).
 
 ghost use Rattle.std.specs.Prelude.{◌≡◌, ◌≢◌, ◌-◌, ◌<◌, ◌≤◌, ◌↔◌, ◌⊎◌, ℕ, false, List, [], length, None, Some, Err, IfOk, IfErr, MatchOption};
 ghost use Rattle.qr_bits.specs.declared.modes.Rule.{Rule};
@@ -22,29 +22,19 @@ use qr_bits::{Header, INPUT_MAX, Rule, bit_len, longest_fit, parity, segments};
 use qr_layout::{Level, Version};
 use std::alloc::Global;
 
-/// Encodes the input as a series of symbols, all of the same version and level (ISO/IEC 18004:2015, 8). If the input
-/// fits one symbol without a structured append header, the series is this one symbol. If the input does not fit one
-/// symbol, it is cut into parts, and each part is encoded as a symbol with a structured append header. Each part is the
-/// longest prefix of the remaining input that fits a symbol together with a structured append header. The longest
-/// prefix is used even if some shorter prefix does not fit. `rule` determines which modes the segments may have.
-/// Without kanji mode, the series is the shortest possible: the input cannot be cut into fewer parts that each fit a
-/// symbol.
+/// Encodes the input as a series of at most 16 symbols of one version and level (ISO/IEC 18004:2015, 8). An input that
+/// fits one symbol without a structured append header is this one symbol. Any other is cut into parts, each the longest
+/// prefix of the rest that fits a symbol with a header, even if some shorter prefix does not.
 ///
-/// A series has at most 16 symbols. Each structured append header contains three numbers: the position of its symbol,
-/// the number of symbols less 1, and the parity data of the whole input. If the symbols of the series are read and
-/// their bytes are joined, the result is exactly the input.
+/// The parity data in each header are of the whole input.
+/// The symbols, read and joined, yield exactly the input. Without kanji mode the series is the shortest possible: no
+/// cut into parts that fit has fewer.
 ///
 /// # Errors
 ///
-/// Returns `Empty` exactly if the input has no byte. Returns `TooMany` if the input has no series, since it would be
-/// cut into more than 16 parts. Returns `Memory` if an allocation is refused; in this case `TooMany` is not returned.
-/// If kanji mode is not allowed, `TooMany` means that there is no way at all to cut the input into at most 16 parts
-/// that each fit a symbol.
-///
-/// # Notes
-///
-/// Among the parameters of `encode_series`, the version comes before the level. Among the parameters of `encode`, the
-/// level comes before the version.
+/// Returns `Empty` exactly if the input has no byte, `TooMany` if it would be cut into more than 16 parts, and `Memory`
+/// if an allocation is refused, in which case `TooMany` is not returned. Without kanji mode `TooMany` means that there
+/// is no cut at all into at most 16 parts that fit.
 pub fn encode_series(
     alloc: Global,
     input: &[u8],
@@ -60,6 +50,8 @@ pub fn encode_series(
     ensures empty { (result ≡ Err EncodeFault.Empty) ↔ (input.now ≡ []) }
     ensures too_many { (result ≡ Err EncodeFault.TooMany)
         ↔ ((result ≢ Err EncodeFault.Memory) × HasNoSeries version level rule input.now) }
+    ensures no_shorter { result ≡ Err EncodeFault.TooMany → may_use rule Mode.Kanji ≡ false
+        → NeedsParts version level rule input.now 17 }
     ensures fault { IfErr result (λ e. (e ≡ EncodeFault.Empty) ⊎ (e ≡ EncodeFault.TooMany)
         ⊎ (e ≡ EncodeFault.Memory)) }
 {
@@ -75,8 +67,7 @@ pub fn encode_series(
     part_symbols(alloc, input, lengths.as_slice(), version, level, rule)
 }
 
-// Returns the symbol that contains the input without a structured append header. Returns `None` if the input does not
-// fit a symbol without a structured append header.
+// (none if the input does not fit it)
 fn plain_symbol(
     alloc: Global,
     input: &[u8],
@@ -101,9 +92,6 @@ fn plain_symbol(
     Ok(Some(symbol))
 }
 
-// Returns the lengths of the parts into which the input is cut. Each part is the longest prefix of the remaining input
-// that fits a symbol together with a structured append header. Returns the fault `TooMany` if there are more than 16
-// parts.
 fn part_lengths(
     alloc: Global,
     input: &[u8],
@@ -115,8 +103,6 @@ fn part_lengths(
     ensures parts { IfOk result (λ ns. AreLengths version level rule input.now ns.items) }
     ensures too_many { result ≡ Err EncodeFault.TooMany
         → (ps : List (List ℕ)) → AreParts version level rule input.now ps → 16 < length ps }
-    ensures no_shorter { result ≡ Err EncodeFault.TooMany
-        → may_use rule Mode.Kanji ≡ false → NeedsParts version level rule input.now 17 }
     ensures fault { IfErr result (λ e. (e ≡ EncodeFault.TooMany) ⊎ (e ≡ EncodeFault.Memory)) }
 {
     let mut lengths = ArrayVec::new();
@@ -133,9 +119,8 @@ fn part_lengths(
     Ok(lengths)
 }
 
-// Returns the length of the longest prefix of `rest` that fits a symbol together with a structured append header.
-// `rest` is the part of the input that is not yet encoded. Only the first 7,089 bytes of `rest` are read, since no
-// symbol can contain more bytes.
+// The length of the longest prefix of `rest` that fits a symbol with a header. No symbol contains more than 7,089
+// bytes, so no more of them are read.
 fn prefix_len(
     alloc: Global,
     rest: &[u8],
@@ -154,9 +139,7 @@ fn prefix_len(
     Ok(longest_fit(alloc, prefix, version, level, rule)?)
 }
 
-// Cuts the input into parts that have the lengths `lengths`, and returns a symbol for each part. Each symbol contains a
-// structured append header and then its part (8.1 to 8.3). All symbols are drawn, one after the other, on one value of
-// the type `Canvas`. Therefore the function patterns and the encoding region are drawn only once for all symbols.
+// All are drawn on one canvas, so that the function patterns and the region are drawn once (8.1 to 8.3).
 fn part_symbols(
     alloc: Global,
     input: &[u8],
@@ -193,9 +176,6 @@ fn part_symbols(
     Ok(symbols)
 }
 
-// Returns the symbol that contains the structured append header `header` and then the part `part` of the input. The
-// symbol is drawn on `canvas`, which contains the modules that are the same in all symbols of its version. The symbol
-// has the version and the level of the canvas.
 fn part_symbol(
     alloc: Global,
     canvas: &mut Canvas,
@@ -215,7 +195,7 @@ fn part_symbol(
     ensures fault { IfErr result (λ e. e ≡ EncodeFault.Memory) }
 {
     let version = canvas.version;
-    // Reminds the prover that the number of a version is at most 40.
+    // Reminds the prover that a version is at most 40.
     prove!(version.number() <= 40);
     let segments = segments(alloc, part, version, rule)?;
     symbol_on(alloc, canvas, part, &segments, Some(header))

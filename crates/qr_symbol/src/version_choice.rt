@@ -1,10 +1,8 @@
-//! Finds the least version that an input fits. This file also cuts the input into segments for the version that was
-//! found (ISO/IEC 18004:2015, 7.1 and 7.4.1).
+//! Finds the least version that an input fits, and its segments there (ISO/IEC 18004:2015, 7.1 and 7.4.1).
 //!
-//! The length of a segment in bits depends on the version only because the character count indicator is wider in larger
-//! versions. The width of the character count indicator changes only after version 9 and after version 26. So there are
-//! three ranges of versions with equally wide indicators: 1 to 9, 10 to 26 and 27 to 40. An input is cut into segments
-//! at most once for each of the three ranges of versions.
+//! The bits of a segment depend on the version only by the width of the character count indicator, which changes only
+//! after versions 9 and 26. So an input is cut into segments at most once for each of the ranges 1 to 9, 10 to 26 and
+//! 27 to 40.
 
 ghost use Rattle.std.specs.Prelude.{◌≡◌, ◌≤◌, ◌<◌, ℕ, length, IfOk, MatchOption};
 ghost use Rattle.qr_bits.specs.declared.modes.Rule.{Rule};
@@ -20,24 +18,22 @@ use qr_bits::{BitFault, INPUT_MAX, Rule, Segment, bit_len, least_bits, segments}
 use qr_layout::{Level, Version};
 use std::alloc::Global;
 
-// The largest length, in bits, of the data codewords of a symbol of versions 1 to 9 (7.4.10, Table 7).
+// The most bits that the data codewords of versions 1 to 9 have (7.4.10, Table 7).
 const SMALL_BITS: u32 = 1856;
 
-// The largest length, in bits, of the data codewords of a symbol of versions 1 to 26 (7.4.10, Table 7).
+// As `SMALL_BITS`, for versions 1 to 26 (7.4.10, Table 7).
 const MEDIUM_BITS: u32 = 10960;
 
-// An upper bound on the number of bytes that a symbol of versions 1 to 26 can contain. Digits need fewer bits than
-// other bytes, and three digits need ten bits (7.4.3).
+// An upper bound on the bytes of a symbol of versions 1 to 26: three digits, the shortest, need ten bits (7.4.3).
 const MEDIUM_BYTES: usize = 3288;
 
-// A version that an input fits, and the segments of the input in this version.
 #[derive(Drop)]
 pub(crate) struct Fit {
     pub version: Version,
     pub segments: Vec<Segment>,
 }
 
-// Returns the last version in which character count indicators are as wide as in `version` (7.4.1, Table 3).
+// The last version of the range of `version` (7.4.1, Table 3).
 fn last_of_width(version: Version) -> u8
     ensures least { version ≤ result }
     ensures most { result ≤ 40 }
@@ -51,10 +47,8 @@ fn last_of_width(version: Version) -> u8
     }
 }
 
-// Returns 1, 10 or 27, which are the first versions of the three ranges in which character count indicators are equally
-// wide. The input fits no version that is less than the returned version. Two numbers may show that the input fits no
-// version of a range: the length of the input in bytes, and a lower bound on its length in bits. If only byte mode is
-// allowed, the lower bound on the length in bits is not computed, since it would save little time.
+// The first version of a range, 1, 10 or 27, before which the input fits none, as its length or a lower bound on its
+// bits shows. With byte mode alone this bound is not computed, since it would save little time.
 fn first_for(input: &[u8], rule: Rule) -> u8
     requires { length input.now ≤ INPUT_MAX }
     ensures first { 1 ≤ result }
@@ -78,9 +72,7 @@ fn first_for(input: &[u8], rule: Rule) -> u8
     }
 }
 
-// Looks at the versions from `first` to `last`, both included. Returns the least version from `first` to `last` in
-// which the data codewords at level `level` have at least `bits` bits. If the data codewords have fewer bits in all
-// versions from `first` to `last`, returns `None`.
+// The least version from `first` to `last` whose data codewords have at least `bits` bits.
 fn first_with_room(level: Level, first: Version, last: u8, bits: u64) -> Option<Version>
     requires { last ≤ 40 }
     ensures { MatchOption result
@@ -97,8 +89,7 @@ fn first_with_room(level: Level, first: Version, last: u8, bits: u64) -> Option<
     None
 }
 
-// Returns the least version, from `smallest` on, that the input fits. The result also contains the segments of the
-// input that need the fewest bits in the returned version.
+// The least version from `smallest` on that the input fits, and its segments of fewest bits there.
 pub(crate) fn least_fit(
     alloc: Global,
     input: &[u8],

@@ -1,5 +1,5 @@
-//! The program `qrencode` passes its arguments and its standard streams to the function `qrencode_cli::run`, and exits
-//! with its status.
+//! The program `qrencode` passes its arguments and its standard streams to `qrencode_cli::run`, and exits with its
+//! status.
 #![tactic(auto)]
 
 ghost use Rattle.std.specs.Prelude.{map};
@@ -12,7 +12,7 @@ use std::alloc::Global;
 use std::env;
 use std::process::ExitCode;
 
-// Runs the command, and returns the command's exit status as the exit status of the process.
+// As `run`, with the status as an exit code.
 fn command<R: Source, W: Sink, E: Sink>(
     alloc: Global,
     words: &[String],
@@ -28,8 +28,7 @@ fn command<R: Source, W: Sink, E: Sink>(
     ExitCode::from(run(alloc, words, input, out, err))
 }
 
-// Runs the command with the arguments and the standard streams of the process. If memory is refused while the arguments
-// are listed, or if an argument is not valid UTF-8, writes nothing and returns status 1.
+// Writes nothing and returns 1 if memory for the arguments is refused, or if one is not valid UTF-8.
 fn main(rt: HostRuntime) -> ExitCode {
     let words: Vec<String> = match env::args(&rt) {
         Ok(args) => match args.collect(rt.alloc()) {

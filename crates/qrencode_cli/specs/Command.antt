@@ -1,6 +1,8 @@
--- Defines what the command draws for a command line and an input. This file also defines what a run of the command does
--- to its devices: the reader of the input, standard output and standard error.
-use Rattle.std.specs.Prelude.{◌≡◌, ◌↔◌, ◌≤◌, ◌<◌, ◌+◌, ◌⊎◌, ℕ, List, [], length, take, max, MatchOption, None, IfErr, IsErrOf, IsTrue, MatchResult, Result, Ok, Err, is_ok, true, false, if◌then◌else◌}
+-- What a run of the command draws, and what it does to its reader, standard output and standard error. `words` are the
+-- arguments, of which the first is the program's name, `s` the settings, and `given` the bytes that the reader
+-- returned. A device is `old` (`in0`, `out0`, `err0`) before the run, and `new` (`in1`, `out1`, `err1`) after it; what
+-- is said of its counts holds if they were 0 before.
+use Rattle.std.specs.Prelude.{◌≡◌, ◌↔◌, ◌≤◌, ◌<◌, ◌+◌, ◌⊎◌, ℕ, List, [], length, take, max, MatchOption, None, IfErr, IsErrOf, IsTrue, MatchResult, Result, Ok, Err, is_ok, Bool, true, false, if◌then◌else◌}
 use Rattle.std.specs.Option.{option_map_or}
 use Rattle.std.specs.Io.KnownBytes.{Appends, Consumes}
 use Rattle.clap.specs.Walk.{Text}
@@ -20,21 +22,16 @@ use Rattle.qrencode_cli.specs.declared.fault.Fault.TheVariants as fault
 use Rattle.qrencode_cli.specs.declared.settings.UsageFault.TheVariants as usage
 use Rattle.qr_symbol.specs.declared.fault.EncodeFault.TheVariants as encode
 
--- `input_for s given` is the input that is encoded under the settings `s`. If the arguments contain a string, the input
--- is this string, cut after `INPUT_MAX` bytes. If the arguments contain no string, the input is `given`, the bytes that
--- the reader returned [own]
+-- The input: the string among the arguments, cut after `INPUT_MAX` bytes, or else what the reader returned [own]
 abbrev pub input_for : SettingsView → List ℕ → List ℕ
 input_for s given = option_map_or (λ text. take INPUT_MAX text) s.string given
 
--- `held s input` lists the bytes that the symbols contain for `input` under the settings `s`. Without -i these bytes
--- are `input` itself. With -i small letters become capitals, with two exceptions. With -8 all bytes are unchanged. With
--- -k the two bytes of each kanji character are unchanged [own]
+-- The bytes that the symbols contain: `input`, folded if -i is given [own]
 abbrev pub held : SettingsView → List ℕ → List ℕ
 held s input = if s.fold then folded (rule_for s) input else input
 
--- `IsDrawing s input drawing` holds if `drawing` is the drawing of the symbols that the settings `s` ask for. If these
--- symbols are read and joined, the result is `input`. The input has at least one byte. The input has fewer than
--- `INPUT_MAX` bytes, so no byte was cut off [own]
+-- The settings ask for this drawing of `input`, which is not empty and shorter than `INPUT_MAX`, so that nothing was
+-- cut off; the symbols are read and joined as `input` [own]
 pub record IsDrawing (s : SettingsView) (input drawing : List ℕ) : Type 0 where
   pub squares : List Grid
   pub symbols : AreSymbols s input squares
@@ -43,26 +40,21 @@ pub record IsDrawing (s : SettingsView) (input drawing : List ℕ) : Type 0 wher
   pub short : length input < INPUT_MAX
   pub is_drawn : drawing ≡ drawn s.kind s.margin squares
 
--- `HasSettingsWith words P` holds if the command line `words` is not refused, and its settings have the property `P`
--- [own]
+-- The arguments are accepted, and their settings have the property `P` [own]
 pub record HasSettingsWith (words : List Text) (P : SettingsView → Type 0) : Type 0 where
   pub settings : SettingsView
   pub taken : settings_for words ≡ Ok settings
   pub holds : P settings
 
--- `HasDrawing words given drawing` holds if `drawing` is the drawing that the command line `words` asks for. The list
--- `given` contains the bytes that the reader returned [own]
+-- The arguments ask for this drawing if the reader returned `given` [own]
 abbrev pub HasDrawing : List Text → List ℕ → List ℕ → Type 0
 HasDrawing words given drawing = HasSettingsWith words (λ s. IsDrawing s (held s (input_for s given)) drawing)
 
--- `HasRefusal words given why` holds if the command line `words` is valid, but its input cannot be drawn for the reason
--- `why`. The reason `why` is a statement about settings and an input. The list `given` contains the bytes that the
--- reader returned [own]
+-- The arguments are accepted, but their input cannot be drawn, for the reason `why` [own]
 abbrev pub HasRefusal : List Text → List ℕ → (SettingsView → List ℕ → Type 0) → Type 0
 HasRefusal words given why = HasSettingsWith words (λ s. why s (held s (input_for s given)))
 
--- `IsRefusal words given f` holds if the fault `f` is a correct reason to refuse the command line `words` or its input.
--- The list `given` contains the bytes that the reader returned. Faults of devices and lack of memory are not refusals
+-- `f` is a correct reason to refuse the arguments or the input; a fault of a device or lack of memory is no refusal
 -- [own]
 abbrev pub IsRefusal : List Text → List ℕ → Fault → Type 0
 IsRefusal words given (fault.Usage usage.Memory) = ⊥
@@ -72,68 +64,56 @@ IsRefusal words given (fault.Encode encode.TooLong) = HasRefusal words given IsT
 IsRefusal words given (fault.Encode encode.TooMany) = HasRefusal words given IsTooMany
 IsRefusal words given _ = ⊥
 
--- `IsFault words given f` holds if the fault `f` can occur for the command line `words` and for `given`, the bytes that
--- the reader returned. A refusal can occur if it is a correct reason to refuse the command line or the input. A read
--- fault can occur if the command line is not refused and contains no string. A write fault can occur if there is a
--- drawing. Lack of memory can always occur [own]
+-- `f` can occur: a read fault if the input is to be read, a write fault if there is a drawing, lack of memory always,
+-- and a refusal if it is correct [own]
 abbrev pub IsFault : List Text → List ℕ → Fault → Type 0
 IsFault words given fault.Read = HasSettingsWith words (λ s. s.string ≡ None)
 IsFault words given fault.Memory = Unit {0}
 IsFault words given fault.Write = (drawing : List ℕ) × HasDrawing words given drawing
 IsFault words given refusal = IsRefusal words given refusal
 
--- `DrawnWhole old new drawing` holds if a writer changed from `old` to `new` because it received the whole `drawing`
--- and was then flushed once. The flush succeeded, and was the last call of the writer [own]
-pub record DrawnWhole (old new : Writer) (drawing : List ℕ) : Type 0 where
+-- The writer received the whole drawing and then one flush, its last call, which succeeded if `settled` is true and
+-- otherwise failed [own]
+pub record DrawnWhole (settled : Bool) (old new : Writer) (drawing : List ℕ) : Type 0 where
   pub grows : Appends old.taken new.taken drawing
   pub many : old.counts ≡ no_writes → new.counts.taken ≡ counted (length drawing)
   pub flushed : new.counts.flushes ≡ counted (old.counts.flushes + 1)
-  pub settled : new.counts.settled ≡ true
+  pub ended : new.counts.settled ≡ settled
 
--- `DrawnInPart old new drawing` holds if a writer changed from `old` to `new` in one of two ways. Either the writer
--- received a prefix of `drawing` and was not flushed, or it received the whole `drawing` and its one flush failed. In
--- each of the two cases, the number of bytes that the writer received is at most the length of `drawing` [own]
+-- The writer received a prefix of the drawing, no byte more and no flush, or all of it and a flush that failed [own]
 abbrev pub DrawnInPart : Writer → Writer → List ℕ → Type 0
-DrawnInPart old new drawing = (old.counts ≡ no_writes → new.counts.taken ≤ counted (length drawing))
-    × ((AppendsBeginning old.taken new.taken drawing × (new.counts.flushes ≡ old.counts.flushes))
-    ⊎ (Appends old.taken new.taken drawing × (new.counts.flushes ≡ counted (old.counts.flushes + 1)) × (new.counts.settled ≡ false)))
+DrawnInPart old new drawing =
+    (AppendsBeginning old.taken new.taken drawing × (new.counts.flushes ≡ old.counts.flushes)
+    × (old.counts ≡ no_writes → new.counts.taken ≤ counted (length drawing)))
+    ⊎ DrawnWhole false old new drawing
 
--- `OutputHolds words given old new outcome` holds if standard output changed from `old` to `new` as the `outcome` of
--- the run requires. After success, standard output received the whole drawing. After a write fault, standard output
--- received a prefix of the drawing, or the whole drawing. After any other fault, standard output is unchanged [own]
+-- After success standard output received the whole drawing, after a write fault the drawing in part, and after any
+-- other fault it is unchanged [own]
 abbrev pub OutputHolds : List Text → List ℕ → Writer → Writer → {T : Type 0} → Result T Fault → Type 0
-OutputHolds words given old new (Ok t) = (drawing : List ℕ) × HasDrawing words given drawing × DrawnWhole old new drawing
+OutputHolds words given old new (Ok t) = (drawing : List ℕ) × HasDrawing words given drawing × DrawnWhole true old new drawing
 OutputHolds words given old new (Err fault.Write) = (drawing : List ℕ) × HasDrawing words given drawing × DrawnInPart old new drawing
 OutputHolds words given old new _ = new ≡ old
 
--- `AllRead old new given` holds if `given` is the list of all bytes that the reader returned while it changed from
--- `old` to `new`. If the counts of the reader were 0 in `old`, the reader was read to its end, or until it returned
--- `INPUT_MAX` bytes [own]
+-- The reader returned exactly `given`: all up to its end, or `INPUT_MAX` bytes [own]
 abbrev pub AllRead : Reader → Reader → List ℕ → Type 0
 AllRead old new given = Consumes old.remaining new.remaining given
     × (old.counts ≡ no_reads → new.counts.given ≡ length given)
     × (old.counts ≡ no_reads → (new.counts.ends ≡ 1) ⊎ (length given ≡ INPUT_MAX))
 
--- `InputConsumed old new given outcome` holds if a run read the whole input `given`, and so changed the reader from
--- `old` to `new`. The definition is for runs that have to read their input from the reader. If the `outcome` is a read
--- fault or lack of memory, `InputConsumed` always holds [own]
+-- In a run that has to read its input, all was read, unless a read fault or lack of memory ended the reading [own]
 abbrev pub InputConsumed : Reader → Reader → List ℕ → {T : Type 0} → Result T Fault → Type 0
 InputConsumed old new given (Err fault.Read) = Unit {0}
 InputConsumed old new given (Err fault.Memory) = Unit {0}
 InputConsumed old new given _ = AllRead old new given
 
--- `InputConsumedFor settings old new given outcome` holds if the reader changed from `old` to `new` as the `settings`
--- require. If the command line is refused, or if it contains the input as a string, the reader is unchanged. If the
--- command line is accepted and contains no string, `InputConsumed` holds, which means that the whole input was read
+-- The reader is unchanged if the arguments are refused or contain the input as a string; otherwise its input was read
 -- [own]
 abbrev pub InputConsumedFor : Result SettingsView Reason → Reader → Reader → List ℕ → {T : Type 0} → Result T Fault → Type 0
 InputConsumedFor (Err r) old new given outcome = new ≡ old
 InputConsumedFor (Ok s) old new given outcome = MatchOption s.string (InputConsumed old new given outcome) (λ _. new ≡ old)
 
--- `ErrorHolds old new line` holds if standard error changed from `old` to `new` as the `line` of a fault requires.
--- Standard error received a prefix of the line, and was not flushed. If the counts of standard error were 0 before and
--- show no write fault now, the prefix is the whole line. (A write fault is a failed write, a write that accepted no
--- byte, or 1,000 interrupted writes.) The number of bytes received is at most the length of the line [own]
+-- Standard error received the line, or a prefix of it if its own write failed, counted at most the line's bytes, and was
+-- not flushed [own]
 abbrev pub ErrorHolds : Writer → Writer → List ℕ → Type 0
 ErrorHolds old new line = AppendsBeginning old.taken new.taken line
     × (old.counts ≡ no_writes → new.counts.taken ≤ counted (length line))
@@ -141,15 +121,8 @@ ErrorHolds old new line = AppendsBeginning old.taken new.taken line
     × (old.counts ≡ no_writes → is_write_fault new.counts ≡ false → new.counts.taken ≡ counted (length line))
     × (new.counts.flushes ≡ old.counts.flushes)
 
--- `Runs words in0 in1 out0 out1 err0 err1 outcome status` holds if a run for the command line `words` can have this
--- `outcome` and this exit `status`. The outcome is success or a fault. The reader and the two writers are `in0`, `out0`
--- and `err0` before the run, and `in1`, `out1` and `err1` after the run. Apart from lack of memory and faults of
--- devices, the arguments and the input determine the outcome. If the counts of a device were 0 before the run, the
--- counts of this device stay within their limits. If the counts of the reader were 0 before the run, they show after
--- the run whether the outcome is a read fault. If the counts of standard output were 0 before the run, they show after
--- the run whether the outcome is a write fault. No write of the drawing offers more than 1,200 bytes. After success,
--- standard error receives nothing, and the status is 0. After a fault, standard error receives the fault's line, and
--- the status is 1 [own]
+-- A run with these arguments can end with this outcome, success or a fault, and this exit status. Only lack of memory
+-- and faults of devices, which their counts show, are left open [own]
 pub record Runs (words : List Text) (in0 in1 : Reader) (out0 out1 err0 err1 : Writer) (outcome : Result (Unit {0}) Fault) (status : ℕ) : Type 0 where
   pub given : List ℕ
   pub is_input : IsInputOf in0.remaining given
@@ -165,9 +138,7 @@ pub record Runs (words : List Text) (in0 in1 : Reader) (out0 out1 err0 err1 : Wr
   pub err_within : err0.counts ≡ no_writes → IsWrittenWithin err1.counts
   pub offered : out1.counts.offered ≤ max out0.counts.offered WRITE_MAX
 
--- `RunsTo words in0 in1 out0 out1 err0 err1 status` holds if `Runs` holds for some outcome, that is, for success or for
--- some fault. The other parameters are those of `Runs`: the command line, the devices before and after the run, and the
--- exit status [own]
+-- A run can have this exit status, with some outcome [own]
 abbrev pub RunsTo : List Text → Reader → Reader → Writer → Writer → Writer → Writer → ℕ → Type 0
 RunsTo words in0 in1 out0 out1 err0 err1 status =
     (outcome : Result (Unit {0}) Fault) × Runs words in0 in1 out0 out1 err0 err1 outcome status

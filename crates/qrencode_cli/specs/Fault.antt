@@ -1,4 +1,4 @@
--- Defines the line that reports each fault of the command on standard error.
+-- The line on standard error for each fault of a run.
 use Rattle.std.specs.Prelude.{ℕ, List, codes}
 use Rattle.std.specs.String.{string_bytes}
 use Rattle.qr_symbol.specs.declared.fault.EncodeFault.TheVariants as encode
@@ -6,8 +6,7 @@ use Rattle.qrencode_cli.specs.declared.fault.Fault.{Fault}
 use Rattle.qrencode_cli.specs.declared.fault.Fault.TheVariants as fault
 use Rattle.qrencode_cli.specs.declared.settings.UsageFault.TheVariants as usage
 
--- `fault_line f` is the line that reports the fault `f` on standard error. For arguments that `clap` refuses, the line
--- is the text of `clap` [own]
+-- The line that reports the fault; for arguments that `clap` refuses it is the text of `clap` [own]
 abbrev pub fault_line : Fault → List ℕ
 fault_line (fault.Usage (usage.Words text)) = string_bytes text
 fault_line (fault.Usage usage.Level) = codes "qrencode: unknown level\n"

@@ -1,5 +1,4 @@
--- Defines what the laws of the command state. The laws are about the settings of some command lines, and about
--- drawings, refusals, modes, folding, statuses and faults.
+-- What the laws of the command state.
 use Rattle.std.specs.Prelude.{◌≡◌, ℕ, List, [], ◌∷◌, codes, Some, None, Result, Ok, Err, MatchResult, String, true, false}
 use Rattle.std.specs.Global.{Global}
 use Rattle.clap.specs.Walk.{Text}
@@ -16,8 +15,7 @@ use Rattle.qrencode_cli.specs.declared.fault.Fault.TheVariants as fault
 use Rattle.qr_symbol.specs.declared.fault.EncodeFault.TheVariants as encode
 use Rattle.qrencode_cli.specs.declared.settings.UsageFault.TheVariants as usage
 
--- `by_default` contains the settings of the command line `-t ASCII`. Every setting except the type of drawing has its
--- default [own]
+-- The settings of `-t ASCII`, in which all but the type of drawing is default [own]
 abbrev pub by_default : SettingsView
 by_default = record {
   level = L;
@@ -31,18 +29,15 @@ by_default = record {
   string = None;
 }
 
--- `IsTaken words settings` holds if a command line has these `settings`. The command line consists of the program's
--- name and the arguments `words` [own]
+-- The arguments, after the program's name, have these settings [own]
 abbrev pub IsTaken : List Text → SettingsView → Type 0
 IsTaken words settings = settings_for (codes "qrencode" ∷ words) ≡ Ok settings
 
--- `IsRefused words why` holds if a command line is refused for the reason `why`. The command line consists of the
--- program's name and the arguments `words` [own]
+-- The arguments, after the program's name, are refused for this reason [own]
 abbrev pub IsRefused : List Text → Reason → Type 0
 IsRefused words why = settings_for (codes "qrencode" ∷ words) ≡ Err why
 
--- `CommandLines` holds if the list below is correct. For each command line, the list states its settings, or the reason
--- why the command line is refused [own]
+-- Lists of arguments, each with its settings or with the reason to refuse it [own]
 pub record CommandLines : Type 0 where
   pub plain : IsTaken (codes "-t" ∷ codes "ASCII" ∷ []) by_default
   pub in_bytes : IsTaken (codes "-8" ∷ codes "-v" ∷ codes "1" ∷ codes "-t" ∷ codes "ascii" ∷ [])
@@ -100,49 +95,44 @@ pub record CommandLines : Type 0 where
   pub type_without_a_value : IsRefused (codes "-t" ∷ []) refused_by_clap
   pub two_strings_after_dashes : IsRefused (codes "-t" ∷ codes "ASCII" ∷ codes "--" ∷ codes "A" ∷ codes "B" ∷ []) refused_by_clap
 
--- `AnswersAreOne` holds if a command line and an input have at most one drawing [own].
+-- Arguments and an input have at most one drawing [own]
 abbrev pub AnswersAreOne : Type 0
 AnswersAreOne = (words : List Text) (given d e : List ℕ) → HasDrawing words given d → HasDrawing words given e → d ≡ e
 
--- `RefusalsExcludeDrawings` holds if no refusal is correct for a command line and an input that have a drawing [own].
+-- If arguments and an input have a drawing, no refusal is correct [own]
 abbrev pub RefusalsExcludeDrawings : Type 0
 RefusalsExcludeDrawings = (words : List Text) (given d : List ℕ) (f : Fault) → HasDrawing words given d → IsRefusal words given f → ⊥
 
--- `AreAlike r q` holds if the faults `r` and `q` are equal, or if both are faults that `clap` finds. Two faults that
--- `clap` finds may have different texts [own]
+-- The faults are equal, or `clap` finds both, with whatever texts [own]
 abbrev pub AreAlike : Fault → Fault → Type 0
 AreAlike (fault.Usage (usage.Words text)) (fault.Usage (usage.Words other)) = Unit {0}
 AreAlike r q = r ≡ q
 
--- `RefusalsAreOne` holds if all refusals that are correct for a command line and an input are alike. Refusals are alike
--- if they are equal, or if both are faults that `clap` finds [own].
+-- All refusals that are correct for the same arguments and input are alike [own]
 abbrev pub RefusalsAreOne : Type 0
 RefusalsAreOne = (words : List Text) (given : List ℕ) (r q : Fault) → IsRefusal words given r → IsRefusal words given q → AreAlike r q
 
--- `RulesOfModes` holds if the options -8 and -k decide which modes are allowed. With -8 only byte mode is allowed, even
--- if -k is also given. With -k and without -8, all modes are allowed. With neither -8 nor -k, all modes except kanji
--- mode are allowed [own]
+-- Only byte mode is allowed with -8, whether or not -k is given; otherwise all modes are with -k, and all but kanji
+-- mode without it [own]
 pub record RulesOfModes : Type 0 where
   pub bytes : (s : SettingsView) → s.bytes_only ≡ true → rule_for s ≡ BytesOnly
   pub kanji : (s : SettingsView) → s.bytes_only ≡ false → s.kanji ≡ true → rule_for s ≡ WithKanji
   pub neither : (s : SettingsView) → s.bytes_only ≡ false → s.kanji ≡ false → rule_for s ≡ Auto
 
--- `FoldingFollowsTheRule` holds if the option -i folds the input as the allowed modes require. To fold an input is to
--- change its small letters to capitals. Without -i the input is unchanged. With -i and -k, the two bytes of a kanji
--- character are unchanged, even if the second byte is the code of a small letter [own].
+-- The input is folded exactly if -i is given; with -k a kanji pair stays unchanged even if its second byte is the code
+-- of a small letter [own]
 pub record FoldingFollowsTheRule : Type 0 where
   pub folds : (s : SettingsView) (input : List ℕ) → s.fold ≡ true → held s input ≡ folded (rule_for s) input
   pub keeps : (s : SettingsView) (input : List ℕ) → s.fold ≡ false → held s input ≡ input
   pub pairs : held (record by_default { kanji = true; fold = true }) (0x93 ∷ 0x61 ∷ 0x61 ∷ []) ≡ 0x93 ∷ 0x61 ∷ 0x41 ∷ []
   pub letters : held (record by_default { fold = true }) (0x93 ∷ 0x61 ∷ 0x61 ∷ []) ≡ 0x93 ∷ 0x41 ∷ 0x41 ∷ []
 
--- `StatusesAreTwo` holds if a run returns the status 0 after success, and the status 1 after any fault [own].
+-- A run returns 0 after success, and 1 after any fault [own]
 abbrev pub StatusesAreTwo : Type 0
 StatusesAreTwo = (words : List Text) (in0 in1 : Reader) (out0 out1 err0 err1 : Writer) (outcome : Result (Unit {0}) Fault) (status : ℕ)
     → Runs words in0 in1 out0 out1 err0 err1 outcome status → MatchResult outcome (λ _. status ≡ 0) (λ _. status ≡ 1)
 
--- `LinesOfFaults` holds if the line that reports each fault is the one in the list below. The fault for arguments that
--- `clap` refuses is not in the list, since its line is a text of `clap` [own].
+-- The line of each fault, but for arguments that `clap` refuses [own]
 pub record LinesOfFaults : Type 0 where
   pub level : fault_line (fault.Usage usage.Level) ≡ codes "qrencode: unknown level\n"
   pub type : fault_line (fault.Usage usage.Kind) ≡ codes "qrencode: unknown type\n"
@@ -154,7 +144,7 @@ pub record LinesOfFaults : Type 0 where
   pub memory : fault_line fault.Memory ≡ codes "qrencode: out of memory\n"
   pub write : fault_line fault.Write ≡ codes "qrencode: write error\n"
 
--- `NumbersOfUsageFaults` holds if each fault of the command line has the number in the list below [own].
+-- The number of each fault of the arguments [own]
 pub record NumbersOfUsageFaults : Type 0 where
   pub words : (text : String Global) → usage_fault_number (usage.Words text) ≡ 1
   pub level : usage_fault_number usage.Level ≡ 2

@@ -1,4 +1,6 @@
--- Defines the settings that follow from a command line, and the reasons to refuse a command line.
+-- The settings that follow from the arguments, and the reasons to refuse them. `rows` are the arguments that `clap`
+-- found, with their values. In the letter of a level and the name of a type of drawing, small letters and capitals are
+-- alike.
 use Rattle.std.specs.Prelude.{◌≡◌, ◌==◌, ◌&&◌, ℕ, Bool, false, nat_le, List, length, Option, Some, None, option_and_then, Result, Ok, Err, codes, if◌then◌else◌}
 use Rattle.std.specs.Option.{is_none, option_map_or}
 use Rattle.std.specs.Str.{bytes_eq, str_eq_ignore_ascii_case}
@@ -14,16 +16,15 @@ use Rattle.qr_drawing.specs.declared.drawing.Drawing.TheVariants as drawing
 use Rattle.qrencode_cli.specs.declared.settings.UsageFault.{UsageFault}
 use Rattle.qrencode_cli.specs.declared.settings.UsageFault.TheVariants as usage
 
--- A `Reason` is the reason why a command line is refused. The four reasons are: `clap` refuses the arguments, the level
--- is unknown, the type of drawing is unknown, or a series is asked for without a version [own]
+-- Why arguments are refused: by `clap`, for an unknown level or type of drawing, or for a series without a version
+-- [own]
 pub data Reason : Type 0 where
   refused_by_clap : Reason
   unknown_level : Reason
   unknown_type : Reason
   needs_version : Reason
 
--- A `SettingsView` contains the settings of a run, in the form that contracts use. The smallest version and the margin
--- are numbers, and the string is a list of bytes [own]
+-- What contracts see of `Settings`: numbers for the version and the margin, and bytes for the string [own]
 pub record SettingsView : Type 0 where
   pub level : Level
   pub smallest : Option ℕ
@@ -35,13 +36,11 @@ pub record SettingsView : Type 0 where
   pub structured : Bool
   pub string : Option Text
 
--- `rule_for s` is the rule that states which encoding modes the settings `s` allow. With -8 only byte mode is allowed.
--- With -k and without -8, all modes are allowed. With neither -8 nor -k, all modes except kanji mode are allowed [own]
+-- The modes that are allowed: byte mode alone with -8, all with -k, and otherwise all but kanji mode [own]
 abbrev pub rule_for : SettingsView → Rule
 rule_for s = if s.bytes_only then BytesOnly else (if s.kanji then WithKanji else Auto)
 
--- `level_named t` is the error correction level that has the letter `t`, where small and capital letters are alike. If
--- no level has this letter, the value is `None` [own]
+-- The error correction level with the letter `t` [own]
 abbrev pub level_named : Text → Option Level
 level_named t =
     if str_eq_ignore_ascii_case t (codes "l") then Some level.L else
@@ -49,8 +48,7 @@ level_named t =
     (if str_eq_ignore_ascii_case t (codes "q") then Some level.Q else
     (if str_eq_ignore_ascii_case t (codes "h") then Some level.H else None)))
 
--- `drawing_named t` is the type of drawing that has the name `t`, where small and capital ASCII letters are alike. If
--- no type has this name, the value is `None` [own]
+-- The type of drawing with the name `t` [own]
 abbrev pub drawing_named : Text → Option Drawing
 drawing_named t =
     if str_eq_ignore_ascii_case t (codes "ascii") then Some drawing.Ascii else
@@ -58,24 +56,21 @@ drawing_named t =
     (if str_eq_ignore_ascii_case t (codes "utf8") then Some drawing.Utf8 else
     (if str_eq_ignore_ascii_case t (codes "svg") then Some drawing.Svg else None)))
 
--- `number_or otherwise o` is the number of an option that has the text `o` as its value. If the option is not given,
--- the number is `otherwise`. If the text is not a number from 0 to 255, the result is 0 [own]
+-- The number that an option has as its value, or `otherwise` if it is not given; a text that is no number from 0 to 255
+-- counts as 0 [own]
 abbrev pub number_or : ℕ → Option Text → ℕ
 number_or otherwise o = option_map_or byte_or_zero o otherwise
 
--- `version_at o` is the version that an option asks for if the option has the text `o` as its value. If the option is
--- not given, or if its number is not from 1 to 40, the version is `None` [own]
+-- The version that an option has as its value, if it is given and from 1 to 40 [own]
 abbrev pub version_at : Option Text → Option ℕ
 version_at o = let n = number_or 0 o in if nat_le 1 n && nat_le n 40 then Some n else None
 
--- `flag_at o` is true if `o` is the text `true`. If an option that takes no value is given, `clap` finds the text
--- `true` for this option [own]
+-- The flag is given: `clap` then finds the text `true` as its value [own]
 abbrev pub flag_at : Option Text → Bool
 flag_at o = option_map_or (λ t. bytes_eq t (codes "true")) o false
 
--- `settings_with rows level kind` contains the settings with the error correction level `level` and the type of drawing
--- `kind`. All other settings follow from `rows`, the arguments and values that `clap` found. The default margin is 4
--- modules, the width of the quiet zone (ISO/IEC 18004:2015, 6.3.8)
+-- The settings with this level and this type of drawing; the default margin is 4 modules, the quiet zone
+-- (ISO/IEC 18004:2015, 6.3.8)
 abbrev pub settings_with : List Row → Level → Drawing → SettingsView
 settings_with rows level kind = record {
   level = level;
@@ -89,30 +84,24 @@ settings_with rows level kind = record {
   string = first_of (codes "string") rows;
 }
 
--- `checked_series s` is the settings `s`, or the reason `needs_version` if `s` asks for a series without a version
--- [own]
+-- The settings, unless they ask for a series without a version [own]
 abbrev pub checked_series : SettingsView → Result SettingsView Reason
 checked_series s = if s.structured && is_none s.smallest then Err needs_version else Ok s
 
--- `settings_of rows` is either the settings that follow from `rows`, or the reason to refuse `rows`. The list `rows`
--- contains the arguments and values that `clap` found. The first check is that the level is known; without -l, the
--- level L is used. The second check is that the type of drawing is known. The last check is that a version is given if
--- a series is asked for [own]
+-- The settings, or the first reason to refuse them: the level (L without -l), then the type, then the version of a
+-- series [own]
 abbrev pub settings_of : List Row → Result SettingsView Reason
 settings_of rows =
     option_map_or (λ l. option_map_or (λ kind. checked_series (settings_with rows l kind))
     (option_and_then drawing_named (first_of (codes "type") rows)) (Err unknown_type))
     (option_map_or level_named (first_of (codes "level") rows) (Some level.L)) (Err unknown_level)
 
--- `settings_for words` is the settings of the command line `words`, or the reason to refuse it. If `clap` finds a
--- fault, the command line is refused. If `clap` finds no fault, the result follows from the arguments and values that
--- `clap` found [own]
+-- The settings of the arguments `words`, or the reason to refuse them; a fault that `clap` finds comes before all others
+-- [own]
 abbrev pub settings_for : List Text → Result SettingsView Reason
 settings_for words = if length (faults_for words) == 0 then settings_of (rows_for words) else Err refused_by_clap
 
--- `IsUsageFault o f` holds if the fault `f` can be reported for a command line with the result `o`. The result is
--- settings, or a reason to refuse the command line. If `o` is a reason, `f` is the fault for this reason, or lack of
--- memory. If `o` is settings, `f` is lack of memory [own]
+-- The fault is that of the reason in `o`, or lack of memory, which can always occur [own]
 abbrev pub IsUsageFault : Result SettingsView Reason → UsageFault → Type 0
 IsUsageFault o (usage.Words text) = o ≡ Err refused_by_clap
 IsUsageFault o usage.Level = o ≡ Err unknown_level
@@ -120,8 +109,8 @@ IsUsageFault o usage.Kind = o ≡ Err unknown_type
 IsUsageFault o usage.NeedsVersion = o ≡ Err needs_version
 IsUsageFault o usage.Memory = Unit {0}
 
--- `usage_fault_number f` is the number of the fault `f`. The four reasons to refuse a command line have the numbers 1
--- to 4, in the order in which they are checked. Lack of memory has the number 5 [own]
+-- The number of the fault: the reasons are numbered in the order in which they are checked, and lack of memory is 5
+-- [own]
 abbrev pub usage_fault_number : UsageFault → ℕ
 usage_fault_number (usage.Words text) = 1
 usage_fault_number usage.Level = 2

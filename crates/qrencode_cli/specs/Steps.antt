@@ -1,5 +1,4 @@
--- The definitions in the folder `Steps` describe how the program computes its results. Only the contracts of private
--- functions use the definitions in this folder. To judge the promises of public functions, a reader need not read the
--- files in this folder.
+-- How the program computes its results. Only contracts of private functions use these definitions, so nobody needs them
+-- to judge the public ones.
 pub mod Command
 pub mod Fault

@@ -1,4 +1,4 @@
-//! Declares the command's arguments for the crate `clap`, and parses a command line with `clap`.
+//! The command's arguments, declared for the crate `clap`, which parses them.
 
 ghost use Rattle.std.specs.Prelude.{◌≡◌, [], IfErr, IfOk, map, false, codes};
 ghost use Rattle.std.specs.String.{string_bytes};
@@ -14,9 +14,7 @@ use clap::error::ErrorKind;
 use clap::{Arg, ArgAction, ArgMatches, Command};
 use std::alloc::{AllocError, Global};
 
-// The names and the help texts of an option of the command line. `id` is the option's name in the code, and `short` is
-// its letter on the command line. In the help text, `value` is the name of the option's value, and `help` is the line
-// that describes the option.
+// An option: its name in the code, its letter, and in the help text the name of its value and the line about it.
 #[derive(Clone, Copy)]
 struct OptionText<'a> {
     id: &'a str,
@@ -25,7 +23,7 @@ struct OptionText<'a> {
     help: &'a str,
 }
 
-// Returns the declaration, for the crate `clap`, of an option whose value is a text.
+// An option whose value is a text.
 fn text_option<'a>(alloc: Global, option: OptionText<'a>) -> Arg<'a>
     ensures rule { rule_of result ≡ text_rule option.entry.id.now option.entry.short }
     ensures local { result.global ≡ false }
@@ -36,8 +34,7 @@ fn text_option<'a>(alloc: Global, option: OptionText<'a>) -> Arg<'a>
         .help(option.help)
 }
 
-// Returns the declaration, for the crate `clap`, of an option whose value is a number. `clap` accepts only numbers that
-// are at least 0 and at most `most`.
+// An option whose value is a number from 0 to `most`.
 fn number_option<'a>(alloc: Global, option: OptionText<'a>, most: i64) -> Arg<'a>
     ensures rule { rule_of result ≡ number_rule option.entry.id.now option.entry.short most }
     ensures local { result.global ≡ false }
@@ -45,8 +42,7 @@ fn number_option<'a>(alloc: Global, option: OptionText<'a>, most: i64) -> Arg<'a
     text_option(alloc, option).value_parser(ValueParser::Signed(0, most))
 }
 
-// Returns the declaration, for the crate `clap`, of a required option whose value is a text. `clap` refuses a command
-// line that does not contain a required option.
+// As `text_option`, but `clap` refuses arguments without it.
 fn required_option<'a>(alloc: Global, option: OptionText<'a>) -> Arg<'a>
     ensures rule { rule_of result ≡ required_rule option.entry.id.now option.entry.short }
     ensures local { result.global ≡ false }
@@ -54,7 +50,7 @@ fn required_option<'a>(alloc: Global, option: OptionText<'a>) -> Arg<'a>
     text_option(alloc, option).required(true)
 }
 
-// Returns the declaration, for the crate `clap`, of an option that has no value.
+// An option without a value.
 fn flag_option<'a>(alloc: Global, option: OptionText<'a>) -> Arg<'a>
     ensures rule { rule_of result ≡ flag_rule option.entry.id.now option.entry.short }
     ensures local { result.global ≡ false }
@@ -65,9 +61,7 @@ fn flag_option<'a>(alloc: Global, option: OptionText<'a>) -> Arg<'a>
         .action(ArgAction::SetTrue)
 }
 
-// Returns the declaration, for the crate `clap`, of a positional argument (an argument that is not part of an option).
-// `id` is the name of the argument in the code. In the help text, `value` is the name of the argument, and `help`
-// describes the argument.
+// An argument that belongs to no option; `value` is its name in the help text.
 fn positional<'a>(alloc: Global, id: &'a str, value: &'a str, help: &'a str) -> Arg<'a>
     ensures rule { rule_of result ≡ positional_rule id.entry.now }
     ensures local { result.global ≡ false }
@@ -75,7 +69,7 @@ fn positional<'a>(alloc: Global, id: &'a str, value: &'a str, help: &'a str) -> 
     Arg::new(alloc, id).value_name(value).help(help)
 }
 
-// Returns the declaration, for the crate `clap`, of the command `qrencode` without its arguments.
+// The command without its arguments.
 fn empty_command<'a>(alloc: Global) -> Command<'a>
     ensures { app_of result ≡ new_app (codes "qrencode") }
 {
@@ -128,17 +122,17 @@ const FOLD: OptionText<'static> = OptionText {
     id: "fold",
     short: 'i',
     value: "",
-    help: "Encode the letters a to z as capitals; -8 switches it off, and with -k kanji stay as they are",
+    help: "Encode the letters a to z as capitals, but not in kanji if -k is given; -8 switches it off",
 };
 
 const STRUCTURED: OptionText<'static> = OptionText {
     id: "structured",
     short: 'S',
     value: "",
-    help: "Draw a series of up to 16 symbols where one does not hold the input; needs -v",
+    help: "Draw a series of up to 16 symbols if the input does not fit one; needs -v",
 };
 
-// Returns the declaration, for the crate `clap`, of the command `qrencode` with all its arguments.
+// The command with all its arguments.
 fn command_line<'a>(alloc: Global) -> Result<Command<'a>, AllocError>
     ensures { IfOk result (λ c. app_of c ≡ command) }
 {
@@ -158,10 +152,12 @@ fn command_line<'a>(alloc: Global) -> Result<Command<'a>, AllocError>
     ))
 }
 
-/// Parses the command line `words` with `clap`, and returns the matches: the arguments that `clap` found, with their
-/// values. The first text of `words` is the program's name. If `clap` refuses the command line, returns
-/// `UsageFault::Words` with the message of `clap`. If a command line asks for help, `clap` refuses the command line,
-/// and the message of `clap` is the help text. Returns `UsageFault::Memory` if memory is refused.
+/// Returns what `clap` found in the arguments `words`, of which the first is the program's name.
+///
+/// # Errors
+///
+/// `Words`, with the text of `clap`, if `clap` refuses the arguments; a request for help counts as refused, and its
+/// text is the help. `Memory` if memory is refused.
 pub(crate) fn matches<'a>(alloc: Global, words: &'a [String]) -> Result<ArgMatches<'a>, UsageFault>
     ensures taken { IfOk result (λ m. faults_for (map string_bytes words.entry.now) ≡ []) }
     ensures rows { IfOk result (λ m. rows_of (found_of m) ≡ rows_for (map string_bytes words.entry.now)) }

@@ -1,7 +1,6 @@
-//! Runs the command: parses the arguments, reads the input, encodes it, and draws the symbols. If a fault occurs,
-//! writes the line of this fault to standard error.
+//! A run of the command: its settings, its input, its symbols, and their drawing or the line of a fault.
 
-ghost use Rattle.std.specs.Prelude.{◌≡◌, ◌≤◌, ◌<◌, ◌↔◌, Err, OnOk, IfErr, IsErrOf, IsTrue, max, length, map};
+ghost use Rattle.std.specs.Prelude.{◌≡◌, ◌≤◌, ◌<◌, ◌↔◌, true, Err, OnOk, IfErr, IsErrOf, IsTrue, max, length, map};
 ghost use Rattle.std.specs.Prelude.{MatchResult, Result};
 ghost use Rattle.std.specs.String.{string_bytes};
 ghost use Rattle.qrencode_cli.specs.Input.{IsReadWithin};
@@ -21,8 +20,7 @@ use qr_layout::Version;
 use qr_symbol::{Symbol, encode, encode_series};
 use std::alloc::Global;
 
-// Encodes `input` with the level, the version and the modes of `settings`, and returns the symbols. Without the option
-// `-S` the result is one symbol. With `-S` the result is one symbol or a series of symbols.
+// The symbols of `input`: one without `-S`; with it, one or a series.
 fn symbols_for(alloc: Global, input: &[u8], settings: &Settings) -> Result<Vec<Symbol>, Fault>
     requires { length input.now ≤ INPUT_MAX }
     ensures { MatchResult result (λ symbols. AreDrawnFor settings.now input.now symbols.items)
@@ -39,8 +37,7 @@ fn symbols_for(alloc: Global, input: &[u8], settings: &Settings) -> Result<Vec<S
     Ok(symbols)
 }
 
-// Encodes `input` as it is, without changing small letters to capitals. Returns the drawing job: the symbols, and the
-// type and the margin of their drawing.
+// The drawing job for the bytes that the symbols contain.
 fn job_of(alloc: Global, input: &[u8], settings: &Settings) -> Result<DrawingJob, Fault>
     requires { length input.now ≤ INPUT_MAX }
     ensures { MatchResult result (λ p. IsDrawing settings.now input.now (drawing_of_job p))
@@ -53,8 +50,7 @@ fn job_of(alloc: Global, input: &[u8], settings: &Settings) -> Result<DrawingJob
     })
 }
 
-// Encodes `input`, and returns the drawing job: the symbols, and the type and the margin of their drawing. If the
-// option `-i` is given, the function `fold` first changes the small letters of `input` to capitals.
+// As `job_of`, but with `-i` the input is folded first.
 fn make_job(alloc: Global, input: &[u8], settings: &Settings) -> Result<DrawingJob, Fault>
     requires { length input.now ≤ INPUT_MAX }
     ensures { MatchResult result (λ p. IsDrawing settings.now (held settings.now input.now) (drawing_of_job p))
@@ -67,9 +63,7 @@ fn make_job(alloc: Global, input: &[u8], settings: &Settings) -> Result<DrawingJ
     job_of(alloc, input, settings)
 }
 
-// Parses the command line `words`, encodes the input, and returns the drawing job: the symbols, and the type and the
-// margin of their drawing. If the arguments contain a string, the string is the input. If the arguments contain no
-// string, the input is read from `input`. Only the first `INPUT_MAX` bytes of the input are used.
+// The drawing job of a run. A string is cut after `INPUT_MAX` bytes, which already fit no symbols.
 fn job_for<R: Source>(alloc: Global, words: &[String], input: &mut R) -> Result<DrawingJob, Fault>
     ensures prepares { Prepares (map string_bytes words.now) (R.device input.old)
         (R.device input.new) result }
@@ -89,9 +83,9 @@ fn job_for<R: Source>(alloc: Global, words: &[String], input: &mut R) -> Result<
     }
 }
 
-// Writes the drawing of `job` to `out`, and flushes `out` after the last byte.
+// Writes the whole drawing, and flushes `out` after its last byte.
 fn write_drawing<W: Sink>(job: &DrawingJob, out: &mut W) -> Result<(), Fault>
-    ensures ok { OnOk result (DrawnWhole (W.device out.old) (W.device out.new)
+    ensures ok { OnOk result (DrawnWhole true (W.device out.old) (W.device out.new)
         (drawing_of_job job.now)) }
     ensures err { IfErr result (λ f. (f ≡ Fault.Write)
         × DrawnInPart (W.device out.old) (W.device out.new)
@@ -104,8 +98,7 @@ fn write_drawing<W: Sink>(job: &DrawingJob, out: &mut W) -> Result<(), Fault>
     out.flush().map_err(|_| Fault::Write)
 }
 
-// Does the work of the function `run`, but does not write the line of a fault to standard error. If a fault occurs,
-// returns this fault.
+// As `run`, but returns a fault instead of writing its line.
 fn run_to_result<R: Source, W: Sink>(
     alloc: Global,
     words: &[String],
@@ -125,59 +118,34 @@ fn run_to_result<R: Source, W: Sink>(
     write_drawing(&job, out)
 }
 
-/// Runs the command: parses the arguments `words`, reads the input, and writes the drawing to `out`. The first text of
-/// `words` is the program's name. If the arguments contain a string, the string is the input. If the arguments contain
-/// no string, the input is read from `input`. If a fault occurs, writes the line that reports the fault to `err`.
-/// Returns the exit status, which is 0 after success and 1 after a fault.
+/// Runs the command: reads the input that the arguments `words` ask for, and writes its drawing to `out`, or the line
+/// of a fault to `err`. Returns the exit status, 0 or 1. The first of `words` is the program's name.
 ///
-/// While the input is read, interrupted reads are tried again, at most 999 times in all. While the drawing is written,
-/// interrupted writes are tried again, at most 999 times in all. While a fault's line is written, interrupted writes
-/// are tried again, at most 999 times in all.
+/// The input is the string among the arguments, or else all bytes of `input`; in both cases at most the first 113,425,
+/// more than any symbols hold. With `-i` small letters are folded to capitals, except that kanji pairs stay unchanged
+/// with `-k`, and all bytes with `-8`. `-8` encodes in byte mode alone; without it, `-k` allows kanji mode.
 ///
-/// After success, `out` has received the whole drawing of the input's symbol or series of symbols. After success, `out`
-/// was flushed once, after the last byte of the drawing. After success, `err` has received no byte, and the exit status
-/// is 0.
+/// A run that returns 0 has written the whole drawing to `out`, flushed it once after that, and written nothing to
+/// `err`. Reading the drawn symbols yields the whole input, folded if `-i` is given.
 ///
-/// Without `-i`, reading the drawn symbols and joining their bytes yields exactly the input. No byte of the input is
-/// missing from the drawn symbols. With `-i`, reading the drawn symbols yields the folded input, in which small letters
-/// are changed to capitals as far as the options `-k` and `-8` allow.
+/// A run that returns 1 has written the line of the fault to `err`, or a prefix if `err` took no more. After a write
+/// fault, `out` has received a prefix of the drawing, or all of it if only the flush failed; after any other fault
+/// nothing was written to `out`, and it was not flushed.
 ///
-/// With `-8` the whole input is encoded in byte mode. Kanji mode may be used only if `-k` is given and `-8` is not
-/// given.
+/// A read fault is reported exactly if a read failed or 1,000 were interrupted; a write fault exactly if a write of the
+/// drawing or the flush failed, a write took no byte, or 1,000 were interrupted. Until then interrupted reads and
+/// writes are tried again, counted apart for the input, the drawing and the line.
 ///
-/// With `-i`, and without `-k` and `-8`, the letters `a` to `z` are encoded as capitals. With `-i` and `-k`, kanji
-/// pairs (two bytes that are one character of kanji mode) are unchanged. With `-i` and `-8`, all bytes are unchanged.
-/// Without `-i` no letter is changed.
+/// An input is refused as too long only if its shortest encoding is, for every allowed version; with `-S`, for too many
+/// symbols only if it does not fit one and is cut into more than 16 parts.
 ///
-/// After a fault, the exit status is 1, and `err` has received the line that reports the fault. If the line of a fault
-/// could not be written completely, `err` has received a prefix of this line. After a write fault, `out` has received a
-/// prefix of the drawing, or the whole drawing if only the flush failed. After a fault that is not a write fault,
-/// nothing was written to `out`, and `out` was not flushed.
+/// A run that reads `input` reads to its end or 113,425 bytes, unless a read fault or lack of memory ends it, by at
+/// most 114,424 reads, none after one that reached the end. After a write fault `out` has taken at most as many bytes
+/// as the drawing has, just as many if only the flush failed, and after any fault `err` at most as many as the line
+/// has. No write of the drawing offers more than 1,200 bytes.
 ///
-/// A read fault is reported exactly if one of two events occurred: a failed read, or the 1,000th interrupted read. A
-/// write fault is reported exactly if one of four events occurred: a failed write of the drawing, a write that accepted
-/// no byte, the 1,000th interrupted write, or a failed flush.
-///
-/// If the input of the run is read from the reader `input`, it consists of all bytes of the reader. If the reader has
-/// more than 113,425 bytes, the input consists of the first 113,425 bytes. A run makes at most 114,424 reads from
-/// `input`. After a read has reached the end of `input`, the run makes no further read, not even a read into an empty
-/// buffer.
-///
-/// If a run has to read the input, it reads `input` to its end, or until it has 113,425 bytes. Only a read fault or
-/// lack of memory can end the reading of `input` before its end and before 113,425 bytes are read. After a write fault,
-/// the number of bytes that `out` received is at most the length of the drawing. After a fault, the number of bytes
-/// that `err` received is at most the length of the fault's line. The counts of a device show how many bytes were read
-/// or written, so the promises about numbers of bytes hold for files, pipes and terminals too.
-///
-/// No single write of the drawing offers more than 1,200 bytes to `out`.
-///
-/// An input is refused as too long only if its shortest encoding is too long for every allowed version. With `-S`, an
-/// input is refused for too many symbols only if it does not fit one symbol and is cut into more than 16 parts.
-///
-/// The promises about bytes hold for readers and writers whose bytes a contract can know, such as buffers in memory.
-/// The counts of a device show how many bytes were read and written, whether the end of the input was reached, and
-/// which faults occurred. The promises about the counts of a device hold if all counts of the device are 0 before the
-/// run. For the standard streams, whose bytes a contract cannot know, only the promises about counts hold.
+/// What is said of bytes holds where a contract can know them; what is said of calls, faults and numbers of bytes holds
+/// for files, pipes and terminals too, if the counts of the device are 0 before the run.
 ///
 /// # Notes
 ///

@@ -1,5 +1,4 @@
-//! Defines the drawing job of a run of the command: the symbols that are to be drawn, and the type and the margin of
-//! the drawing.
+//! What a run draws, and how.
 
 ghost use Rattle.std.specs.Prelude.{◌<◌, ◌≤◌, length};
 ghost use Rattle.qr_symbol.specs.Series.{squares_of};
@@ -8,8 +7,7 @@ ghost use Rattle.qr_drawing.specs.Drawing.{HaveOneSide};
 use qr_drawing::Drawing;
 use qr_symbol::Symbol;
 
-/// The symbols that are to be drawn, with the type and the margin of the drawing. The list `symbols` contains either
-/// one symbol or all symbols of a series.
+/// The symbols, one or a whole series, with the type and the margin of their drawing.
 #[derive(Drop)]
 pub(crate) struct DrawingJob {
     pub symbols: Vec<Symbol>,

@@ -1,4 +1,4 @@
-//! Defines the faults of the command, and the line that the command writes to standard error for each fault.
+//! The faults of a run, and the line that reports each.
 
 ghost use Rattle.std.specs.Prelude.{◌≡◌};
 ghost use Rattle.qrencode_cli.specs.Fault.{fault_line};
@@ -8,8 +8,7 @@ use qr_drawing::DrawFault;
 use qr_symbol::EncodeFault;
 use std::alloc::{AllocError, AllocFailed};
 
-/// The reason why a run of the command fails. Lack of memory is always reported as the fault `Memory`, never as the
-/// fault `Usage` or `Encode`.
+/// Why a run fails. Lack of memory is always `Memory`, never `Usage` or `Encode`.
 #[derive(Debug, Drop)]
 pub(crate) enum Fault {
     Usage(UsageFault),
@@ -20,8 +19,7 @@ pub(crate) enum Fault {
 }
 
 impl Fault {
-    /// Returns the line that reports this fault on standard error. If the crate `clap` refused the arguments, the line
-    /// is the text of `clap`.
+    /// Returns the line on standard error, which for arguments that `clap` refuses is the text of `clap`.
     pub(crate) fn line(&self) -> &[u8]
         ensures { result.now ≡ fault_line self.now }
     {

@@ -1,5 +1,4 @@
-//! Reads the whole input of the command, or only its first `INPUT_MAX` bytes if it is longer. No symbol and no series
-//! of symbols can contain `INPUT_MAX` bytes.
+//! Reads the input: at most `INPUT_MAX` bytes, more than any symbols hold.
 
 ghost use Rattle.std.specs.Prelude.{◌≡◌, ◌+◌, ◌≤◌, ◌↔◌, ◌⊎◌, IfErr, IfOk, IsTrue, IsErrOf, length};
 ghost use Rattle.std.specs.Io.KnownBytes.{Consumes};
@@ -14,26 +13,20 @@ use std::alloc::Global;
 
 const CHUNK: usize = 4096;
 
-/// Reads `input` until it ends, or until `INPUT_MAX` bytes were read, and returns the bytes that were read. Interrupted
-/// reads (EINTR) are tried again, at most `INTERRUPTIONS_MAX` times in all.
+/// Reads `input` to its end, or until `INPUT_MAX` bytes have come. Interrupted reads are tried again, at most
+/// `INTERRUPTIONS_MAX` times in all.
 pub(crate) fn read_input<R: Source>(alloc: Global, input: &mut R) -> Result<Vec<u8>, Fault>
     ensures bytes { IfOk result (λ bytes. IsInputOf (R.device input.old).remaining bytes.items) }
     ensures bounded { IfOk result (λ bytes. length bytes.items ≤ INPUT_MAX) }
     ensures consumed { IfOk result (λ bytes. Consumes (R.device input.old).remaining (R.device input.new).remaining bytes.items) }
-    // `Fault::Read` is returned exactly if the device's counts show one of its two causes: a read that failed, or the
-    // 1,000th interrupted read.
     ensures fault { (R.device input.old).counts ≡ no_reads
         → IsErrOf result Fault.Read ↔ IsTrue (is_read_fault (R.device input.new).counts) }
     ensures only { IfErr result (λ f. (f ≡ Fault.Read) ⊎ (f ≡ Fault.Memory)) }
-    // The length of the result is the number of bytes that all reads returned, which is one of the device's counts. The
-    // counts of a device are known even if its bytes are unknown.
+    // The counts are known even if the bytes are not.
     ensures given { (R.device input.old).counts ≡ no_reads
         → IfOk result (λ bytes. (R.device input.new).counts.given ≡ length bytes.items) }
-    // Either the device's counts show that the device was read to its end, or `INPUT_MAX` bytes were read.
     ensures ended { (R.device input.old).counts ≡ no_reads
         → IfOk result (λ bytes. ((R.device input.new).counts.ends ≡ 1) ⊎ (length bytes.items ≡ INPUT_MAX)) }
-    // The counts of the device stay within the limits that `IsReadWithin` states. One limit of `IsReadWithin` is that
-    // no read comes after a read that has reached the end of the input.
     ensures within { (R.device input.old).counts ≡ no_reads → IsReadWithin (R.device input.new).counts }
 {
     let mut bytes = Vec::new(alloc);

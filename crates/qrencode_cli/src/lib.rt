@@ -1,6 +1,5 @@
-//! This crate is the command `qrencode`: the function `run` parses the arguments, reads the input, and draws the
-//! symbols. The crate re-exports the devices of the crate `qr_devices`, and the types of drawing and the function
-//! `draw` of the crate `qr_drawing`.
+//! The command `qrencode`: `run` reads the arguments and the input, and draws the symbols. The devices of `qr_devices`
+//! and `draw` of `qr_drawing`, with its types, are public here too.
 #![tactic(auto)]
 
 mod arguments;

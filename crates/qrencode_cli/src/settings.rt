@@ -1,4 +1,4 @@
-//! Reads the settings of a run from its command line.
+//! The settings of a run, read from what `clap` found in the arguments.
 
 ghost use Rattle.std.specs.Prelude.{◌≡◌, ◌≢◌, ◌↔◌, String, Err, Ok, Some, IfOk, MatchResult, map, codes, option_and_then, option_map};
 ghost use Rattle.std.specs.Option.{option_map_or};
@@ -19,32 +19,30 @@ use std::alloc::{AllocError, Global};
 use std::marker::Model;
 use thiserror::Error;
 
-// The default margin, in modules, which is the width of the quiet zone (ISO/IEC 18004:2015, 6.3.8).
+// The default margin is the quiet zone (ISO/IEC 18004:2015, 6.3.8).
 const QUIET_ZONE: u8 = 4;
 
-/// The settings of one run of the command, which follow from its command line.
+/// What the arguments of a run mean.
 #[derive(Debug, Drop)]
 pub struct Settings {
     /// The error correction level.
     pub level: Level,
-    /// The smallest version that may be chosen for one symbol, or `None` if every version may be chosen. A series needs
-    /// a version, and all symbols of the series have exactly this version.
+    /// The smallest version of one symbol, or `None` if any may be chosen. A series needs a version, which all its
+    /// symbols have.
     pub smallest: Option<Version>,
     /// The type of the drawing.
     pub kind: Drawing,
-    /// The width of the light margin on each side of a symbol, in modules, from 0 to 100.
+    /// The number of light modules on each side of a symbol, 0 to 100.
     pub margin: u8,
-    /// Whether the whole input is encoded in byte mode.
+    /// Whether the whole input is encoded in byte mode. Then `kanji` and `fold` have no effect.
     pub bytes_only: bool,
-    /// Whether kanji mode may be used. If `bytes_only` is true, the value of `kanji` has no effect.
+    /// Whether kanji mode is allowed.
     pub kanji: bool,
-    /// Whether the letters `a` to `z` are encoded as capitals. If `bytes_only` is true, the value of `fold` has no
-    /// effect.
+    /// Whether small letters are folded to capitals.
     pub fold: bool,
-    /// Whether a series of symbols is drawn if the input does not fit one symbol.
+    /// Whether a series is drawn if the input does not fit one symbol.
     pub structured: bool,
-    /// The input, if the command line contains the input as an argument. If the input is read from standard input, the
-    /// value of `string` is `None`.
+    /// The input, or `None` if it is read from standard input.
     pub string: Option<String>,
 }
 
@@ -69,7 +67,7 @@ impl Model for Settings {
 }
 
 impl Settings {
-    // Returns the rule that states which encoding modes the segments may have.
+    // The modes that are allowed.
     pub(crate) fn rule(&self) -> Rule
         ensures { result ≡ rule_for self.now }
     {
@@ -83,22 +81,20 @@ impl Settings {
     }
 }
 
-/// The reason why a command line is refused. If several of the reasons `Words`, `Level`, `Kind` and `NeedsVersion`
-/// apply, the function `options` returns the first of them in this order. If memory is refused before `options` finds
-/// another reason, `options` returns `Memory`.
+/// Why arguments are refused. Of several reasons `options` returns the first, in the order `Words`, `Level`, `Kind`,
+/// `NeedsVersion`; it returns `Memory` if memory is refused before another is found.
 #[derive(Debug, Drop, Error)]
 pub enum UsageFault {
-    /// The crate `clap` refuses the arguments. The text of `Words` is the message of `clap`, or the help text if the
-    /// arguments ask for help.
+    /// `clap` refuses the arguments, or they ask for help: the text of `clap`.
     #[error("{0}")]
     Words(String),
-    /// The error correction level is not L, M, Q or H.
+    /// The level is not L, M, Q or H.
     #[error("unknown level")]
     Level,
     /// The type of drawing is unknown.
     #[error("unknown type")]
     Kind,
-    /// `-S` asks for a series of symbols, but the option `-v` is missing or its number is 0.
+    /// `-S` is given without `-v`, or with version 0.
     #[error("-S needs -v")]
     NeedsVersion,
     /// Memory was refused.
@@ -113,7 +109,7 @@ impl UsageFault {
     ///
     /// # Notes
     ///
-    /// The number of a fault stays the same in later versions of this crate.
+    /// Later versions keep these numbers.
     pub fn number(&self) -> u8
         ensures { result ≡ usage_fault_number self.now }
     {
@@ -138,15 +134,14 @@ impl From<AllocError> for UsageFault {
     }
 }
 
-// Returns the first value of the argument `id` among `matches`, or `None` if this argument is not given.
+// The first value of the argument `id`, if it is given.
 fn text_in<'a>(matches: &ArgMatches<'a>, id: &str) -> Option<&'a str>
     ensures { option_map (λ s. s.now) result ≡ first_of id.now (rows_of (found_of matches.now)) }
 {
     matches.get_str(id)
 }
 
-// Returns the type of drawing that has the name `name`, or `None` if no type has this name. In the name of a type,
-// small letters and capitals are treated alike.
+// The type with this name, in small letters or capitals.
 fn drawing_named(name: &str) -> Option<Drawing>
     ensures { result ≡ drawing_named name.now }
 {
@@ -163,16 +158,14 @@ fn drawing_named(name: &str) -> Option<Drawing>
     }
 }
 
-// Returns the error correction level that `-l` asks for, or level L if `-l` is not given. Returns `None` if `-l` asks
-// for an unknown level.
+// The level of `-l`, or L without it; `None` if it is unknown.
 fn level_in(matches: &ArgMatches<'_>) -> Option<Level>
     ensures { result ≡ option_map_or level_named (first_of (codes "level") (rows_of (found_of matches.now))) (Some Level.L) }
 {
     text_in(matches, "level").map_or(Some(Level::L), level_named)
 }
 
-// Returns the error correction level that has the letter `name`, or `None` if no level has this letter. A small letter
-// names the same level as the capital.
+// The level with this letter, small or capital.
 fn level_named(name: &str) -> Option<Level>
     ensures { result ≡ level_named name.now }
 {
@@ -189,42 +182,40 @@ fn level_named(name: &str) -> Option<Level>
     }
 }
 
-// Returns the type of drawing that `-t` asks for, or `None` if this type is unknown or missing.
+// The type of `-t`; `None` if it is unknown or missing.
 fn drawing_in(matches: &ArgMatches<'_>) -> Option<Drawing>
     ensures { result ≡ option_and_then drawing_named (first_of (codes "type") (rows_of (found_of matches.now))) }
 {
     text_in(matches, "type").and_then(drawing_named)
 }
 
-// Returns whether the option `id`, an option without a value, is given. The contracts of `clap` describe every value as
-// a text, so the value of an option that is given is the text `true`.
+// Whether the option `id` is given: the contracts of `clap` describe every value as a text, and this one is `true`.
 fn flag_in(matches: &ArgMatches<'_>, id: &str) -> bool
     ensures { result ≡ flag_at (first_of id.now (rows_of (found_of matches.now))) }
 {
     text_in(matches, id) == Some("true")
 }
 
-// Returns the number that is the value of the option `id`, or `otherwise` if the option is not given.
+// The number of the option `id`, or `otherwise` if it is not given.
 fn number_in(matches: &ArgMatches<'_>, id: &str, otherwise: u8) -> u8
     ensures { result ≡ number_or otherwise (one_of id.now (rows_of (found_of matches.now))) }
 {
     match matches.try_get_one::<u8>(id) {
         Ok(Some(number)) => number,
         Ok(None) => otherwise,
-        // The crate `clap` accepts the text `-0`, which means 0, as a number in the range. But the text `-0` does not
-        // parse as a `u8`, so the call of `clap` returns an error.
+        // `clap` accepts `-0` as a number in the range, but it does not parse as a `u8`.
         Err(_) => 0,
     }
 }
 
-// Returns the version that `-v` asks for, or `None` if `-v` is not given or its number is 0.
+// The version of `-v`; `None` without it and for 0.
 fn version_in(matches: &ArgMatches<'_>) -> Option<Version>
     ensures { result ≡ version_at (one_of (codes "version") (rows_of (found_of matches.now))) }
 {
     Version::new(number_in(matches, "version", 0))
 }
 
-// Returns a copy of the positional argument, or `None` if no positional argument is given.
+// A copy of the string among the arguments.
 fn string_in(alloc: Global, matches: &ArgMatches<'_>) -> Result<Option<String>, AllocError>
     ensures { IfOk result (λ s. option_map string_bytes s ≡ first_of (codes "string") (rows_of (found_of matches.now))) }
 {
@@ -234,7 +225,6 @@ fn string_in(alloc: Global, matches: &ArgMatches<'_>) -> Result<Option<String>, 
     }
 }
 
-// Reads the settings from `matches`, the arguments and values that `clap` found in the command line.
 fn settings_in(alloc: Global, matches: &ArgMatches<'_>) -> Result<Settings, UsageFault>
     ensures { MatchResult result (λ s. settings_of (rows_of (found_of matches.now)) ≡ Ok s)
         (IsUsageFault (settings_of (rows_of (found_of matches.now)))) }
@@ -263,14 +253,13 @@ fn settings_in(alloc: Global, matches: &ArgMatches<'_>) -> Result<Settings, Usag
     })
 }
 
-/// Parses the command line `words`, and returns its settings. The first text of `words` is the program's name. The
-/// crate `clap` decides which arguments are valid, and which values the options have. The command has no subcommands.
-/// For such commands, the contract of `clap` states these decisions.
+/// Returns the settings that the arguments `words` mean. The first of `words` is the program's name. `clap` decides
+/// which arguments and values are valid, as its contract states for commands without subcommands.
 ///
 /// # Errors
 ///
-/// Returns the first fault that applies, in the order `Words`, `Level`, `Kind`, `NeedsVersion`. Returns `Words` only if
-/// `clap` refuses the arguments. Returns `Memory` if memory is refused before another fault is found.
+/// The first that applies of `Words` (`clap` refuses the arguments), `Level`, `Kind` and `NeedsVersion`; or `Memory`,
+/// if memory is refused before one of them is found.
 pub fn options(alloc: Global, words: &[String]) -> Result<Settings, UsageFault>
     ensures settings { MatchResult result (λ s. settings_for (map string_bytes words.now) ≡ Ok s)
         (IsUsageFault (settings_for (map string_bytes words.now))) }

@@ -1,4 +1,4 @@
--- Defines what the function `qrproved_encode` for C writes, and when its buffer is too short.
+-- What `qrproved_encode` writes for the input `x`, and when its buffer is too short.
 use Rattle.std.specs.Prelude.{◌≡◌, ℕ, ◌*◌, ◌<◌, List, [], ◌∷◌, length}
 use Rattle.qr_layout.specs.Version.{side_of}
 use Rattle.qr_matrix.specs.Grid.{Grid}
@@ -9,10 +9,8 @@ use Rattle.qrproved.specs.declared.encoding.QrprovedSymbol.{QrprovedSymbol}
 use Rattle.qrproved.specs.Settings.{AreSettings, level_of, rule_of}
 use Rattle.qrproved.specs.Modules.{HoldsSquares}
 
--- `IsWritten x version level rule before after s` holds if writing the symbol of the input `x` to the first bytes of a
--- buffer changes the buffer from `before` to `after`. The numbers `version`, `level` and `rule` are in range. The
--- struct `s` contains the version, the number of rows and the mask pattern of the symbol. If the symbol is read, the
--- result is the input [own].
+-- The modules of the input's symbol were written to the buffer, its version, side and mask are in `s`, and it is read
+-- as the input; the numbers are in range [own]
 pub record IsWritten (x : List ℕ) (version level rule : ℕ) (before after : List ℕ) (s : QrprovedSymbol) : Type 0 where
   pub settings : AreSettings version level rule
   pub square : Grid
@@ -21,8 +19,8 @@ pub record IsWritten (x : List ℕ) (version level rule : ℕ) (before after : L
   pub side : s.side ≡ square.side
   pub holds : HoldsSquares s.side (square ∷ []) before after
 
--- `HasNoRoom x version level rule buffer` holds if the symbol of the input `x` has more modules than `buffer` has
--- bytes. The symbol has the least version, from `version` on, that the input fits [own].
+-- The symbol has the least version, from `version` on, that the input fits, and more modules than `buffer` has bytes
+-- [own]
 pub record HasNoRoom (x : List ℕ) (version level rule : ℕ) (buffer : List ℕ) : Type 0 where
   pub least : ℕ
   pub fits : IsVersion version (level_of level) (rule_of rule) x least

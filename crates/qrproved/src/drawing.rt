@@ -1,5 +1,4 @@
-//! Defines the function `qrproved_draw` for C, which draws squares of modules as text or as SVG (ISO/IEC 18004:2015,
-//! 6.3.8).
+//! The call that draws squares of modules (ISO/IEC 18004:2015, 6.3.8).
 
 ghost use Rattle.std.specs.Prelude.{◌≡◌, ◌≢◌, ◌*◌, ◌<◌, ◌≤◌, ◌↔◌, ◌⊎◌, length, IfOk, SomeIff};
 ghost use Rattle.qr_drawing.specs.Drawing.{drawn};
@@ -13,20 +12,17 @@ use qr_drawing::{Drawing, draw};
 use qr_symbol::Matrix;
 use std::alloc::{AllocError, Global};
 
-// The numbers that a caller passes to `qrproved_draw`, after they were checked.
+// The numbers of a caller, after they were checked.
 #[derive(Clone, Copy)]
 struct DrawingSettings {
-    // The number of rows and columns of each square.
+    // The rows and columns of each square.
     side: u8,
-    // The number of squares that are drawn.
     count: u8,
-    // The type of drawing.
     drawing: Drawing,
-    // The width of the light margin on each side of a square, in modules.
+    // The light modules on each side of a square.
     margin: u8,
 }
 
-// Returns the type of drawing with the number `number`. Returns `None` if the number is more than 3.
 fn drawing_of(number: u32) -> Option<Drawing>
     ensures { SomeIff result (number < 4) (drawing_of number) }
 {
@@ -39,8 +35,6 @@ fn drawing_of(number: u32) -> Option<Drawing>
     }
 }
 
-// Returns the settings of a drawing that have the four given numbers. Returns `None` if at least one of the four
-// numbers is out of range.
 fn drawing_settings_of(side: u32, count: u32, drawing: u32, margin: u32) -> Option<DrawingSettings>
     ensures { SomeIff result (AreDrawingSettings side count drawing margin)
         (record { side = side; count = count; drawing = drawing_of drawing; margin = margin }) }
@@ -53,8 +47,7 @@ fn drawing_settings_of(side: u32, count: u32, drawing: u32, margin: u32) -> Opti
     })
 }
 
-// Returns `count` squares of modules, each with `side` rows. The modules of the squares are the bytes of `modules`, one
-// square after the other.
+// The squares that `modules` begins with.
 fn squares_of(alloc: Global, modules: &[u8], side: u8, count: u8) -> Result<Vec<Matrix>, AllocError>
     requires least { 1 ≤ side }
     requires most { side ≤ 177 }
@@ -70,8 +63,7 @@ fn squares_of(alloc: Global, modules: &[u8], side: u8, count: u8) -> Result<Vec<
     Ok(squares)
 }
 
-// Returns the drawing of the squares whose modules are the bytes of `modules`, one square after the other. `asked`
-// contains the number of squares, the number of rows of each square, and the type and the margin of the drawing.
+// The drawing of these squares.
 fn drawn(alloc: Global, modules: &[u8], asked: DrawingSettings) -> Result<Vec<u8>, AllocError>
     requires least { 1 ≤ asked.side }
     requires most { asked.side ≤ 177 }
@@ -89,20 +81,18 @@ fn drawn(alloc: Global, modules: &[u8], asked: DrawingSettings) -> Result<Vec<u8
     }
 }
 
-/// Draws squares of modules as the command `qrencode` draws symbols, and writes the drawing to the buffer `text`. All
-/// squares have `side` rows, and need not be symbols. The buffer `modules` contains the modules of the squares, in the
-/// order in which `qrproved_encode_series` writes the modules of symbols. The byte 0 is a light module, and any other
-/// byte is a dark module. The values 0 to 3 of the parameter `drawing` are the types ASCII, ASCIIi, UTF8 and SVG in
-/// this order.
+/// Draws `count` squares of modules as the command draws symbols, and writes the drawing to `text`. All have `side`
+/// rows, and need not be symbols; `modules` has them one after the other, row by row, and each byte but 0 is dark.
+/// `drawing` is 0 to 3 for ASCII, ASCIIi, UTF8 and SVG, and `margin` is the number of light modules on each side.
 ///
-/// The causes of a refusal are checked in this order: a number out of range, too few modules in `modules`, and a buffer
-/// `text` that is shorter than the drawing. The numbers are in range if each square has 1 to 177 rows, there are 1 to
-/// 16 squares, `drawing` is at most 3, and the margin is at most 100 modules. If there are too few modules in
-/// `modules`, `written` becomes 0. If `text` is too short, `written` becomes the length of the drawing. A number out of
-/// range and too few modules are found before any allocation.
+/// On status 0 `text` begins with the drawing, and `written` is its length in bytes.
 ///
-/// On status 0 the first bytes of `text` are the drawing of the squares in `modules`. The drawing has the type
-/// `drawing` and a margin of `margin` modules. The number `written` is the length of the drawing in bytes.
+/// # Errors
+///
+/// The first that applies of `SETTINGS` (`side` is not 1 to 177, `count` not 1 to 16, `drawing` more than 3 or `margin`
+/// more than 100), `ROOM` with `written` 0 (`modules` is too short), and `ROOM` with the drawing's length in `written`
+/// (`text` is too short); or `MEMORY` if memory is refused. `SETTINGS` and the first `ROOM` are found before memory is
+/// requested.
 #[unsafe(no_mangle)]
 pub extern "C" fn qrproved_draw(
     alloc: Global,
@@ -151,7 +141,7 @@ mod tests {
     use super::*;
     use std::test::Fail;
 
-    // A square of two by two modules, and then the square with the opposite colours.
+    // A square of two rows, and the one of opposite colours.
     static SQUARES: [u8; 8] = [1, 0, 0, 200, 0, 1, 1, 0];
 
     #[test]

@@ -1,4 +1,4 @@
-//! Defines the function `qrproved_encode` for C, which encodes an input as one symbol (ISO/IEC 18004:2015, 7.1).
+//! The call that encodes an input as one symbol (ISO/IEC 18004:2015, 7.1).
 
 ghost use Rattle.std.specs.Prelude.{◌≡◌, ◌≢◌, ◌<◌, ◌↔◌, ◌⊎◌, [], length};
 ghost use Rattle.qr_symbol.specs.VersionChoice.{HasNoVersion};
@@ -13,31 +13,30 @@ use qr_symbol::encode;
 use qr_symbol::laws::long_inputs_have_none;
 use std::alloc::Global;
 
-/// The version, the number of rows and the mask pattern of a symbol that was encoded.
+/// The version, the size and the mask of a symbol that was encoded.
 #[repr(C)]
 #[derive(Clone, Copy)]
 pub struct QrprovedSymbol {
-    /// The version, from 1 to 40.
+    /// The version, 1 to 40.
     pub version: u8,
-    /// The number of rows and columns, from 21 to 177.
+    /// The number of rows and columns, 21 to 177.
     pub side: u8,
-    /// The number of the mask pattern, from 0 to 7.
+    /// The mask, 0 to 7.
     pub mask: u8,
 }
 
-/// Encodes `input` as one symbol, and writes the modules of the symbol to the buffer `modules`. The symbol has the
-/// least version, from `version` on, that the input fits. The byte of a module is at index `row * side + column` of the
-/// buffer, where `side` is the number of rows. The values 0 to 3 of the parameter `level` are the levels L, M, Q and H
-/// in this order. The value 0 of the parameter `rule` allows every mode except kanji mode. The value 1 of `rule` allows
-/// byte mode only, and the value 2 allows every mode.
+/// Encodes `input` as one symbol of the least version, from `version` on, that it fits, and writes the modules: that of
+/// a row and a column is at index `row * side + column` of `modules`. `level` is 0 to 3 for L, M, Q and H. `rule` is 0
+/// for all modes but kanji mode, 1 for byte mode alone, and 2 for all modes.
 ///
-/// The causes of a refusal are checked in this order: a number out of range, an empty input, an input that is too long,
-/// a buffer that is too short. Numbers out of range, an empty input and an input of more than 7,089 bytes are refused
-/// before any allocation.
+/// On status 0 the buffer begins with exactly the modules of the symbol, which is read as the input, and `symbol` has
+/// its version, side and mask.
 ///
-/// On status 0 the buffer begins with exactly the modules of the symbol of the input, row by row. If the symbol in the
-/// buffer is read, the result is the input. The struct `symbol` contains the version, the number of rows and the mask
-/// pattern of the symbol.
+/// # Errors
+///
+/// The first that applies of `SETTINGS` (a number is out of range), `EMPTY`, `TOO_LONG` (the input fits no allowed
+/// version) and `ROOM` (`modules` is too short); or `MEMORY` if memory is refused. `SETTINGS`, `EMPTY`, and `TOO_LONG`
+/// for more than 7,089 bytes, are found before memory is requested.
 #[unsafe(no_mangle)]
 pub extern "C" fn qrproved_encode(
     alloc: Global,
@@ -98,7 +97,7 @@ mod tests {
     use super::*;
     use std::test::Fail;
 
-    // The modules of the symbol for `A` in byte mode and version 1-L, as another encoder draws them.
+    // The symbol 1-L of `A` in byte mode, as another encoder draws it.
     static ROWS: [u32; 21] = [
         0b111111100101101111111,
         0b100000100111001000001,
@@ -157,8 +156,7 @@ mod tests {
         Ok(())
     }
 
-    // According to another encoder, the symbol for `g` in version 1-Q has mask pattern 0. The symbol for five letters
-    // in version 1-L has mask pattern 7.
+    // Another encoder chooses mask 0 for `g` at 1-Q, and mask 7 for five letters at 1-L.
     #[test]
     fn numbers_of_levels_and_rules(rt: HostRuntime) -> Result<(), Fail> {
         let digits = [b'7'; 42];
@@ -181,7 +179,7 @@ mod tests {
             assert_eq!(rt; status, DONE, "{name}");
             assert_eq!(rt; (symbol.version, symbol.mask), (least, mask), "{name}");
         }
-        // Each row contains an input and the least version that this input fits (Table 7).
+        // Each input with its level, its rule and the least version that it fits (Table 7).
         let rows = [
             ("41 digits at L", &digits[..41], 0u32, 0u32, 1u8),
             ("42 digits at L", &digits[..], 0, 0, 2),
@@ -212,7 +210,7 @@ mod tests {
         Ok(())
     }
 
-    // Ten kanji fit version 1-L only if kanji mode is allowed (Table 7).
+    // Ten kanji fit 1-L only if kanji mode is allowed (Table 7).
     #[test]
     fn kanji_at_1_l(rt: HostRuntime) -> Result<(), Fail> {
         let kanji = [0x93, 0x5F].repeat(rt.alloc(), 10)?;

@@ -1,5 +1,4 @@
-//! Contains laws about the functions of the library. Each function of this file exists only for its contract, which is
-//! the law.
+//! Laws of the calls. A function here exists for its contract, which is the law.
 
 ghost use Rattle.std.specs.Prelude.{◌≡◌, ◌≤◌, ℕ, [], ◌∷◌, map, true, false, IfOk};
 ghost use Rattle.qr_layout.specs.declared.level.Level.{Level};
@@ -21,12 +20,11 @@ use crate::status::{
 };
 use std::alloc::AllocError;
 
-/// The statuses of all calls have the numbers 0 to 10, as the header `include/qrproved.h` lists them. The number of a
-/// status has the same meaning in all calls.
+/// The statuses have the numbers 0 to 10, as `include/qrproved.h` lists them.
 ///
 /// # Notes
 ///
-/// The number of a status does not change between versions of the library.
+/// Later versions keep these numbers.
 pub fn statuses()
     ensures done { DONE ≡ 0 }
     ensures empty { EMPTY ≡ 1 }
@@ -41,10 +39,9 @@ pub fn statuses()
     ensures segments { SEGMENTS ≡ 10 }
 {}
 
-/// In calls of the library, the numbers 0 to 3 stand for the levels L, M, Q and H, the numbers 0 to 2 for the rules
-/// `Auto`, `BytesOnly` and `WithKanji`, and the numbers 0 to 3 for the drawings ASCII, ASCIIi, UTF8 and SVG, in this
-/// order. A dark module is the byte 1, a light module the byte 0, and an unknown module the byte 2. A drawing has 1 to
-/// 16 squares of 1 to 177 rows, and a margin of 0 to 100 modules.
+/// In calls, 0 to 3 are the levels L, M, Q and H, 0 to 2 the rules `Auto`, `BytesOnly` and `WithKanji`, and 0 to 3 the
+/// drawings ASCII, ASCIIi, UTF8 and SVG. A module is 1 if it is dark, 0 if it is light, and 2 if it is not known. A
+/// drawing has 1 to 16 squares of 1 to 177 rows, and a margin of 0 to 100 modules.
 #[tactic(auto, unfolding(qr_matrix::specs::Grid::rows_of, qr_matrix::specs::Grid::colour))]
 pub fn numbers()
     ensures levels { map level_of (0 ∷ 1 ∷ 2 ∷ 3 ∷ []) ≡ Level.L ∷ Level.M ∷ Level.Q ∷ Level.H ∷ [] }
@@ -59,33 +56,33 @@ pub fn numbers()
     ensures known { colour (square_of_unknown 2 (0 ∷ 2 ∷ 1 ∷ 3 ∷ [])) 1 1 ≡ false }
 {}
 
-/// If the modules of a square are written as bytes and then read as a square again, no module changes its colour.
+/// A square that is written as bytes is read as the same square.
 pub fn bytes_are_their_square()
     ensures { BytesAreTheirSquare }
 {}
 
-/// A clone of a `QrprovedSymbol` has the same fields as the original.
+/// A clone of a `QrprovedSymbol` is equal to it.
 pub fn symbol_clones(a: QrprovedSymbol) -> Result<QrprovedSymbol, AllocError>
     ensures { IfOk result (λ b. b ≡ a) }
 {
     a.clone()
 }
 
-/// A clone of a `QrprovedSeries` has the same fields as the original.
+/// A clone of a `QrprovedSeries` is equal to it.
 pub fn series_clones(a: QrprovedSeries) -> Result<QrprovedSeries, AllocError>
     ensures { IfOk result (λ b. b ≡ a) }
 {
     a.clone()
 }
 
-/// A clone of a `QrprovedContent` has the same fields as the original.
+/// A clone of a `QrprovedContent` is equal to it.
 pub fn content_clones(a: QrprovedContent) -> Result<QrprovedContent, AllocError>
     ensures { IfOk result (λ b. b ≡ a) }
 {
     a.clone()
 }
 
-/// A clone of a `QrprovedMended` has the same fields as the original.
+/// A clone of a `QrprovedMended` is equal to it.
 pub fn mended_clones(a: QrprovedMended) -> Result<QrprovedMended, AllocError>
     ensures { IfOk result (λ b. b ≡ a) }
 {

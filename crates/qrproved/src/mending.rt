@@ -1,5 +1,4 @@
-//! Defines the function `qrproved_mend` for C, which reads a damaged symbol and reports its damage (ISO/IEC 18004:2015,
-//! 7.5.1, 7.9.1 and 12).
+//! The call that reads a damaged symbol and measures its damage (ISO/IEC 18004:2015, 7.5.1, 7.9.1 and 12).
 
 ghost use Rattle.std.specs.Prelude.{true, ◌≡◌, ◌≢◌, ◌*◌, ◌<◌, ◌≤◌, ◌==◌, ◌↔◌, ◌⊎◌, length, IfOk, MatchBool, MatchResult};
 ghost use Rattle.std.specs.List.{All, Any};
@@ -24,45 +23,40 @@ use qr_mending::{Mended, changed_max, mend_symbol_without};
 use qr_symbol::{Matrix, ReadFault};
 use std::alloc::{AllocError, Global};
 
-/// What was read from a damaged symbol, without the bytes of its content, and numbers that describe the damage.
+/// What was read from a damaged symbol, besides its bytes, and its damage.
 #[repr(C)]
 #[derive(Clone, Copy)]
 pub struct QrprovedMended {
-    /// The number of bytes that the symbol contains.
+    /// How many bytes the symbol contains.
     pub len: usize,
-    /// The number of wrong modules in the whole square. A module is wrong if it is not known, or if it does not have
-    /// the colour that it has in the undamaged symbol. So `wrong_modules` is 0 if the square is the undamaged symbol
-    /// and all its modules are known, and only then.
+    /// The wrong modules of the whole square: those that are not known, and those without the colour that they have in
+    /// the undamaged symbol. 0 exactly if the square is that symbol and all its modules are known.
     pub wrong_modules: u32,
-    /// The version, from 1 to 40.
+    /// The version, 1 to 40.
     pub version: u8,
-    /// The number `has_header` is 1 if the symbol has a structured append header, and so is part of a series. Without a
-    /// structured append header, the four fields `has_header`, `position`, `last` and `parity` are 0.
+    /// 1 for a symbol of a series, which has a structured append header; otherwise 0, and so are the next three fields.
     pub has_header: u8,
-    /// The position of the symbol in its series, from 0 to 15.
+    /// The position in the series, 0 to 15.
     pub position: u8,
-    /// The number of symbols of the series, less 1, from 0 to 15.
+    /// The number of symbols of the series less 1, 0 to 15.
     pub last: u8,
     /// The parity data of the whole input of the series.
     pub parity: u8,
-    /// The number of the error correction level, from 0 to 3.
+    /// The level, 0 to 3 for L, M, Q and H.
     pub level: u8,
-    /// The number of the mask pattern, from 0 to 7.
+    /// The mask, 0 to 7.
     pub mask: u8,
-    /// The number of modules of the format information that are wrong or not known. The two copies of the format
-    /// information have 30 modules in total.
+    /// The wrong modules among the 30 of format information.
     pub wrong_format_modules: u8,
-    /// The greatest number of codewords that were corrected in one block. Codewords with a module that is not known are
-    /// not counted.
+    /// The most codewords that were corrected in one block, without those with a module that is not known.
     pub changed_most: u8,
-    /// The largest number of wrong codewords that can be corrected in a block, from 2 to 15.
+    /// The most wrong codewords that can be corrected in a block, 2 to 15.
     pub changed_allowed: u8,
 }
 
-// The byte for a module that is not known.
 const NOT_KNOWN: u8 = 2;
 
-// Whether no byte of `modules` is more than 1. The loop does not stop at the first one, so that it takes many bytes at once.
+// Whether no byte is more than 1. The loop does not end at the first that is, so that many bytes are compared at once.
 fn are_known(modules: &[u8]) -> bool
     ensures { result ≡ true → All (λ b. b < 2) modules.now }
 {
@@ -75,7 +69,6 @@ fn are_known(modules: &[u8]) -> bool
     known
 }
 
-// Whether each byte of `modules` is 0, 1 or 2.
 fn are_modules(modules: &[u8]) -> bool
     ensures { MatchBool result (All (λ b. b ≤ 2) modules.now) (Any (λ b. 2 < b) modules.now) }
 {
@@ -107,8 +100,7 @@ fn unknown_of(alloc: Global, modules: &[u8], side: u8) -> Result<Matrix, AllocEr
     Ok(unknown)
 }
 
-// Corrects the errors of the square in `modules`, which has `side` rows, and reads the square. A module is not known if
-// its byte is 2.
+// Mends and reads the square that `modules` begins with.
 fn mend_modules(alloc: Global, modules: &[u8], side: u8) -> Result<Mended, ReadFault>
     requires least { 1 ≤ side }
     requires most { side ≤ 177 }
@@ -127,7 +119,6 @@ fn mend_modules(alloc: Global, modules: &[u8], side: u8) -> Result<Mended, ReadF
     mend_symbol_without(alloc, &matrix, &unknown)
 }
 
-// Returns the greatest number in `numbers`.
 fn greatest(numbers: &[usize]) -> usize
     requires { 1 ≤ length numbers.now }
     ensures { IsGreatest numbers.now result }
@@ -135,7 +126,7 @@ fn greatest(numbers: &[usize]) -> usize
     numbers.iter().copied().max().unwrap_or(0)
 }
 
-// Returns the struct for the damaged symbol `mended`, whose damage was corrected. The symbol contains `len` bytes.
+// The struct of a mended symbol that contains `len` bytes.
 fn mended_of(len: usize, mended: &Mended) -> QrprovedMended
     requires some { 1 ≤ length mended.now.changed.items }
     requires few { All (λ n. n ≤ 15) mended.now.changed.items }
@@ -169,25 +160,21 @@ fn mended_of(len: usize, mended: &Mended) -> QrprovedMended
     }
 }
 
-/// Reads the symbol whose modules are in the buffer `modules`, in the order in which `qrproved_encode` writes them, and
-/// corrects its errors. The byte 0 is a light module, the byte 1 is a dark module, and the byte 2 is a module that is
-/// not known. A codeword with a module that is not known needs half as much error correction as a misread codeword.
-/// Writes the bytes that the symbol contains to the buffer `bytes`. Writes the structured append header and the damage
-/// of the symbol to the struct `mended`.
+/// Reads the damaged symbol that `modules` begins with, in the order in which `qrproved_encode` writes it, corrects its
+/// errors, and writes the bytes that it contains to `bytes`. A module is 0 if it is light, 1 if it is dark, and 2 if it
+/// is not known: its codeword then takes half as much error correction as a misread one.
 ///
-/// The causes of a refusal are checked in the order in which this paragraph lists them. Three causes of a refusal are
-/// found before any allocation: a number of rows that no version has, too few modules in `modules`, and a byte of more
-/// than 2. Four causes are found after an allocation: damaged format information, damaged codewords, data codewords
-/// that cannot be parsed, and a buffer `bytes` that is too short.
+/// On status 0 the square is a damaged form of a symbol. The bytes are those of this symbol, and `mended` has its
+/// version, level, mask and header, and four numbers of the damage: the wrong or unknown modules of the whole square,
+/// those of the format information, the most codewords that were corrected in one block (without those with an unknown
+/// module), and the most that can be corrected.
 ///
-/// On status 0 the modules in the buffer are a damaged form of a symbol. On status 0 the call wrote the bytes and the
-/// header of the undamaged symbol, and its version, level and mask pattern.
+/// # Errors
 ///
-/// The struct `mended` also contains four numbers that describe the damage of the symbol. `wrong_modules` is the number
-/// of wrong or unknown modules in the whole square. `wrong_format_modules` is the number of wrong or unknown modules
-/// among the 30 modules of the format information. `changed_most` is the greatest number of codewords that were
-/// corrected in one block. Codewords with a module that is not known are not counted in `changed_most`.
-/// `changed_allowed` is the largest number of wrong codewords that can be corrected in a block.
+/// The first that applies of `SIDE` (no version has this side), `ROOM` (`modules` is too short), `SETTINGS` (a module is
+/// more than 2), `FORMAT` (the format information is damaged too much), `CHECK` (the codewords are), `SEGMENTS` (the
+/// data codewords cannot be parsed) and `ROOM` (`bytes` is too short); or `MEMORY` if memory is refused. The first
+/// three are found before memory is requested.
 #[unsafe(no_mangle)]
 pub extern "C" fn qrproved_mend(
     alloc: Global,
@@ -264,7 +251,7 @@ mod tests {
         }
     }
 
-    // Returns the modules `drawn` of a square with 21 rows, after the modules at the places `places` were inverted.
+    // `drawn` with the modules at these places inverted.
     fn inverted(drawn: [u8; 441], places: &[(u8, u8)]) -> Result<[u8; 441], Fail> {
         let mut modules = drawn;
         for (row, col) in places {
@@ -277,12 +264,10 @@ mod tests {
         Ok(modules)
     }
 
-    // The places of five modules of the encoding region in version 1-M; the five modules belong to five different
-    // codewords.
+    // At 1-M, modules of five different codewords.
     static CODEWORDS: [(u8, u8); 5] = [(20, 20), (16, 20), (12, 20), (9, 18), (13, 18)];
 
-    // The places of four modules of the first copy of the format information, and then of four modules of the second
-    // copy.
+    // Four modules of the first copy of the format information, then four of the second.
     static FORMATS: [(u8, u8); 8] = [
         (0, 8),
         (1, 8),
@@ -294,7 +279,7 @@ mod tests {
         (8, 17),
     ];
 
-    // In version 1-M four of the 26 codewords may be wrong.
+    // At 1-M four of the 26 codewords may be wrong.
     #[test]
     fn eight_digits_are_mended(rt: HostRuntime) -> Result<(), Fail> {
         let drawn = eight_digits(&rt)?;
@@ -335,8 +320,8 @@ mod tests {
         Ok(())
     }
 
-    // In version 1-M eight of the ten error correction codewords may be used to correct errors. Five codewords that are
-    // not known need five error correction codewords, and one misread codeword needs two error correction codewords.
+    // At 1-M eight of the ten error correction codewords correct: a codeword that is not known takes one, a misread one
+    // two.
     #[test]
     fn modules_that_are_not_known(rt: HostRuntime) -> Result<(), Fail> {
         let drawn = eight_digits(&rt)?;
@@ -395,7 +380,7 @@ mod tests {
             &mut series,
         );
         assert_eq!(rt; status, DONE);
-        // Inverts the bottom right module of the second symbol, which contains a bit of the symbol's first codeword.
+        // This module is a bit of the second symbol's first codeword.
         modules[881] = 1 - modules[881].min(1);
         let mut bytes = [7u8; 3];
         let mut mended = nothing();

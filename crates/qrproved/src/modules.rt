@@ -1,6 +1,5 @@
-//! Writes squares of modules to a buffer of bytes, and reads squares from such a buffer. The buffer contains one square
-//! after the other, each square row by row and without a quiet zone. A dark module is written as the byte 1, and a
-//! light module as the byte 0. When a buffer is read, any byte except 0 is a dark module.
+//! Squares of modules as bytes of a buffer: one square after the other, each row by row, without a quiet zone. A dark
+//! module is written as 1 and a light one as 0; when they are read, every byte but 0 is dark.
 
 ghost use Rattle.std.specs.Prelude.{◌≡◌, ℕ, ◌+◌, ◌*◌, ◌<◌, ◌≤◌, ◌⊎◌, length, slice_index_or, IfOk};
 ghost use Rattle.std.specs.List.{All};
@@ -12,15 +11,14 @@ ghost use Rattle.qrproved.specs.Steps.Modules.{four_bytes};
 use qr_symbol::{Matrix, Symbol};
 use std::alloc::{AllocError, Global};
 
-/// Returns the number of modules in a square that has `side` rows.
+/// Returns the number of modules of a square.
 pub(crate) fn area(side: u8) -> usize
     ensures { result ≡ side * side }
 {
     usize::from(side) * usize::from(side)
 }
 
-// Returns the bytes of four modules, which are the four lowest bits of `bits`. The lowest bit is the first module. A
-// module is dark if its bit is 1.
+// The bytes of four modules, of which the lowest bit is the first.
 fn four_bytes(bits: u8) -> [u8; 4]
     requires { bits < 16 }
     ensures { result ≡ four_bytes bits }
@@ -45,8 +43,7 @@ fn four_bytes(bits: u8) -> [u8; 4]
     }
 }
 
-// Writes the modules of row `row` of `matrix` as bytes to `modules`, from index `start` on. Most bytes are written in
-// groups of four.
+// Writes a row from index `start` on, four modules at once where they are a whole group.
 fn write_row(matrix: &Matrix, row: u8, start: usize, modules: &mut [u8])
     requires row_in { row < matrix.now.side }
     requires room { start + matrix.now.side ≤ length modules.old }
@@ -69,7 +66,7 @@ fn write_row(matrix: &Matrix, row: u8, start: usize, modules: &mut [u8])
     }
 }
 
-/// Writes the modules of the square `matrix` as bytes to `modules`, row by row, from index `start` on.
+/// Writes a square from index `start` on.
 pub(crate) fn write_square(matrix: &Matrix, start: usize, modules: &mut [u8])
     requires { start + matrix.now.side * matrix.now.side ≤ length modules.old }
     ensures modules { (row col : ℕ) → row < matrix.now.side → col < matrix.now.side
@@ -86,7 +83,7 @@ pub(crate) fn write_square(matrix: &Matrix, start: usize, modules: &mut [u8])
     }
 }
 
-/// Writes the modules of `symbols` as bytes to `modules`, one symbol after the other. Each symbol has `side` rows.
+/// Writes the squares of `symbols`.
 pub(crate) fn write_squares(symbols: &[Symbol], side: u8, modules: &mut [u8])
     requires sides { All (λ g. g.side ≡ side) (squares_of symbols.now) }
     requires room { length symbols.now * (side * side) ≤ length modules.old }
@@ -100,7 +97,7 @@ pub(crate) fn write_squares(symbols: &[Symbol], side: u8, modules: &mut [u8])
     }
 }
 
-/// Returns the square with `side` rows whose modules are the first bytes of `modules`, row by row.
+/// Returns the square that `modules` begins with.
 pub(crate) fn matrix_of(alloc: Global, modules: &[u8], side: u8) -> Result<Matrix, AllocError>
     requires least { 1 ≤ side }
     requires most { side ≤ 177 }

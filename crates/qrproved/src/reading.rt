@@ -1,4 +1,4 @@
-//! Defines the function `qrproved_read` for C, which reads a symbol without error correction (ISO/IEC 18004:2015, 12).
+//! The call that reads a symbol without error correction (ISO/IEC 18004:2015, 12).
 
 ghost use Rattle.std.specs.Prelude.{◌≡◌, ◌≢◌, ◌*◌, ◌<◌, ◌≤◌, ◌↔◌, ◌⊎◌, length, MatchOption};
 ghost use Rattle.qr_layout.specs.Version.{side_of};
@@ -15,26 +15,25 @@ use qr_symbol::laws::{contents_are_one, refusals_are_one};
 use qr_symbol::read_symbol;
 use std::alloc::Global;
 
-/// What was read from a symbol, without the bytes of its content.
+/// What was read from a symbol, besides its bytes.
 #[repr(C)]
 #[derive(Clone, Copy)]
 pub struct QrprovedContent {
-    /// The number of bytes that the symbol contains.
+    /// How many bytes the symbol contains.
     pub len: usize,
-    /// The version, from 1 to 40.
+    /// The version, 1 to 40.
     pub version: u8,
-    /// The number `has_header` is 1 if the symbol has a structured append header, and so is part of a series. Without a
-    /// structured append header, the four fields `has_header`, `position`, `last` and `parity` are 0.
+    /// 1 for a symbol of a series, which has a structured append header; otherwise 0, and so are the fields below.
     pub has_header: u8,
-    /// The position of the symbol in its series, from 0 to 15.
+    /// The position in the series, 0 to 15.
     pub position: u8,
-    /// The number of symbols of the series, less 1, from 0 to 15.
+    /// The number of symbols of the series less 1, 0 to 15.
     pub last: u8,
     /// The parity data of the whole input of the series.
     pub parity: u8,
 }
 
-/// Returns the version whose symbols have `side` rows. Returns `None` if no version has symbols with `side` rows.
+/// Returns the version of this side, if one has it.
 pub(crate) fn version_of_side(side: u32) -> Option<Version>
     ensures { MatchOption result (IsSide side → ⊥)
         (λ v. (1 ≤ v) × (v ≤ 40) × (side ≡ side_of v)) }
@@ -43,8 +42,7 @@ pub(crate) fn version_of_side(side: u32) -> Option<Version>
     Version::of_side(side)
 }
 
-/// Returns the struct for a symbol of version `version` that contains `len` bytes and the optional structured append
-/// header `header`.
+/// Returns the struct of what was read.
 pub(crate) fn content_of(len: usize, version: Version, header: Option<Header>) -> QrprovedContent
     ensures len { result.len ≡ len }
     ensures version { result.version ≡ version }
@@ -65,20 +63,19 @@ pub(crate) fn content_of(len: usize, version: Version, header: Option<Header>) -
     }
 }
 
-/// Reads the symbol whose modules are in the buffer `modules`, in the order in which `qrproved_encode` writes them. The
-/// byte 0 is a light module, and any other byte is a dark module. Writes the bytes that the symbol contains to the
-/// buffer `bytes`. Writes the version and the structured append header of the symbol to the struct `content`. The
-/// function `qrproved_read` corrects no errors.
+/// Reads the symbol that `modules` begins with, in the order in which `qrproved_encode` writes it, and writes the bytes
+/// that it contains to `bytes`. Each byte of `modules` but 0 is a dark module. No error is corrected.
 ///
-/// The causes of a refusal are checked in the order in which this paragraph lists them. Two causes of a refusal are
-/// found before any allocation: a number of rows that no version has, and too few modules in `modules`. Four causes are
-/// found after an allocation: wrong format information, wrong codewords, data codewords that cannot be parsed, and a
-/// buffer `bytes` that is too short.
+/// On status 0 the bytes, and the version and header in `content`, are those of a symbol with the same codewords and
+/// the same first copy of the format information. Nothing is promised of the function patterns, the dark module, the
+/// second copy, the version information and the remainder bits.
 ///
-/// On status 0 some symbol has the same first copy of the format information and the same codewords as `modules`. On
-/// status 0 the call wrote the bytes and the header that the symbol contains. The contract promises nothing about the
-/// function patterns, the dark module, the second copy of the format information, the version information and the
-/// remainder bits in `modules`.
+/// # Errors
+///
+/// The first that applies of `SIDE` (no version has this side), `ROOM` (`modules` is too short), `FORMAT` (the format
+/// information is wrong), `CHECK` (the codewords are), `SEGMENTS` (the data codewords cannot be parsed) and `ROOM`
+/// (`bytes` is too short); or `MEMORY` if memory is refused. `SIDE` and the first `ROOM` are found before memory is
+/// requested.
 #[unsafe(no_mangle)]
 pub extern "C" fn qrproved_read(
     alloc: Global,
@@ -148,7 +145,7 @@ mod tests {
     #[test]
     fn eight_digits_are_read(rt: HostRuntime) -> Result<(), Fail> {
         let mut modules = eight_digits(&rt)?;
-        // Any byte except 0 is a dark module.
+        // Each byte but 0 is dark.
         for module in &mut modules {
             *module = if *module == 0 { 0 } else { 200 };
         }

@@ -1,4 +1,4 @@
-//! Makes symbols for the tests of several files. Each symbol is an array with a byte for each module.
+//! Symbols for the tests, as a byte for each module.
 
 use crate::encoding::{QrprovedSymbol, qrproved_encode};
 use crate::modules::write_square;
@@ -7,8 +7,7 @@ use qr_layout::{Level, Version};
 use qr_symbol::{build_masked, interleave};
 use std::test::Fail;
 
-/// Returns the modules of the symbol of version 1 and level M that contains the digits 01234567, a byte for each
-/// module.
+/// The symbol 1-M of the digits 01234567.
 pub(crate) fn eight_digits(rt: &HostRuntime) -> Result<[u8; 441], Fail> {
     let mut modules = [0u8; 441];
     let mut symbol = QrprovedSymbol {
@@ -23,8 +22,7 @@ pub(crate) fn eight_digits(rt: &HostRuntime) -> Result<[u8; 441], Fail> {
     Ok(modules)
 }
 
-/// Returns the modules of a symbol of version 1 and level M, a byte for each module. The data codewords of the symbol
-/// begin with the mode indicator 0111, which the parser does not know.
+/// A symbol 1-M whose data codewords begin with 0111, the mode indicator of no mode that is read.
 pub(crate) fn another_mode(rt: &HostRuntime) -> Result<[u8; 441], Fail> {
     let version = Version::FIRST;
     let message = [0x70u8; 16];

@@ -1,5 +1,4 @@
-//! Defines the function `qrproved_encode_series` for C, which encodes an input as a series of symbols
-//! (ISO/IEC 18004:2015, 8).
+//! The call that encodes an input as a series (ISO/IEC 18004:2015, 8).
 
 ghost use Rattle.std.specs.Prelude.{◌≡◌, ◌≢◌, ◌<◌, ◌↔◌, ◌⊎◌, [], length};
 ghost use Rattle.qr_symbol.specs.Series.{HasNoSeries};
@@ -14,30 +13,28 @@ use qr_symbol::encode_series;
 use qr_symbol::laws::{long_inputs_have_none, series_are_one, series_have_one_side};
 use std::alloc::Global;
 
-/// The number of symbols of a series, and the number of rows of each symbol.
+/// The number and the size of the symbols of a series.
 #[repr(C)]
 #[derive(Clone, Copy)]
 pub struct QrprovedSeries {
-    /// The number of symbols, from 1 to 16.
+    /// The number of symbols, 1 to 16.
     pub count: u8,
-    /// The number of rows and columns of each symbol, from 21 to 177.
+    /// The number of rows and columns of each symbol, 21 to 177.
     pub side: u8,
 }
 
-/// Encodes `input` as a series of symbols, and writes the modules of these symbols to the buffer `modules`. All symbols
-/// have the version `version`. The byte of a module is at index `number * side * side + row * side + column` of the
-/// buffer. In the index of a byte, `number` is the number of the module's symbol, counted from 0, and `side` is the
-/// number of rows of a symbol. If the input fits one symbol without a structured append header, the series is this one
-/// symbol. The parameters `level` and `rule` have the same meaning as in `qrproved_encode`.
+/// Encodes `input` as a series of symbols of the version `version`, or as one plain symbol if it fits one, and writes
+/// the modules: that of a row and a column of symbol `number`, from 0, is at index `(number * side + row) * side +
+/// column` of `modules`. `level` and `rule` are those of `qrproved_encode`.
 ///
-/// The causes of a refusal are checked in this order: a number out of range, an empty input, an input that needs more
-/// than 16 symbols, a buffer that is too short. Numbers out of range, an empty input and an input of more than 113,425
-/// bytes are refused before any allocation.
+/// On status 0 the buffer begins with exactly the modules of the symbols, which are read and joined as the input, and
+/// `series` has their number and side. Without kanji mode, no series of this version has fewer symbols.
 ///
-/// On status 0 the buffer begins with exactly the modules of the series of the input, one symbol after the other. If
-/// the symbols in the buffer are read and their bytes are joined, the result is the input. If kanji mode is not
-/// allowed, no series with fewer symbols exists for the input. The struct `series` contains the number of symbols and
-/// the number of rows of each symbol.
+/// # Errors
+///
+/// The first that applies of `SETTINGS` (a number is out of range), `EMPTY`, `TOO_MANY` (the input takes more than 16
+/// symbols) and `ROOM` (`modules` is too short); or `MEMORY` if memory is refused. `SETTINGS`, `EMPTY`, and `TOO_MANY`
+/// for more than 113,425 bytes, are found before memory is requested.
 #[unsafe(no_mangle)]
 pub extern "C" fn qrproved_encode_series(
     alloc: Global,
@@ -99,8 +96,7 @@ mod tests {
     use super::*;
     use std::test::Fail;
 
-    // In byte mode and version 1-H, the series for eight letters has two symbols: the first contains five letters, and
-    // the second contains three letters.
+    // In byte mode at 1-H, the first of two symbols has five of eight letters.
     #[test]
     fn eight_letters_at_1_h(rt: HostRuntime) -> Result<(), Fail> {
         let mut modules = [7u8; 884];

@@ -1,48 +1,44 @@
-//! Lists the statuses that the functions for C return. The number of a status has the same meaning for all functions.
+//! The statuses that calls return. Each number means the same in all calls.
 
 ghost use Rattle.std.specs.Prelude.{◌≡◌};
 ghost use Rattle.qrproved.specs.Steps.Status.{encode_status, read_status};
 
 use qr_symbol::{EncodeFault, ReadFault};
 
-/// The function succeeded, and wrote its whole result.
+/// The whole result is written.
 pub(crate) const DONE: u8 = 0;
 
 /// The input is empty.
 pub(crate) const EMPTY: u8 = 1;
 
-/// The input fits no version from the smallest allowed version on.
+/// The input fits no allowed version.
 pub(crate) const TOO_LONG: u8 = 2;
 
-/// The input needs more than 16 symbols of the given version.
+/// The input takes more than 16 symbols of the version.
 pub(crate) const TOO_MANY: u8 = 3;
 
-/// An allocation was refused.
+/// Memory was refused.
 pub(crate) const MEMORY: u8 = 4;
 
-/// The version, the level, the rule or a number of a drawing is out of range, or `qrproved_mend` read a byte of more
-/// than 2.
+/// A number is out of range, or `qrproved_mend` read a module of more than 2.
 pub(crate) const SETTINGS: u8 = 5;
 
-/// A buffer of the caller is too short.
+/// A buffer is too short.
 pub(crate) const ROOM: u8 = 6;
 
-/// No version has symbols with the given number of rows.
+/// No version has this side.
 pub(crate) const SIDE: u8 = 7;
 
-/// The format information belongs to no level and mask pattern. If a damaged symbol is mended, the status `FORMAT` has
-/// another meaning: the format information of every level and mask pattern differs from both copies in more than three
-/// modules.
+/// The format information belongs to no level and mask. In `qrproved_mend`: beside each level and mask, each copy has
+/// more than three wrong modules, where one that is not known counts half.
 pub(crate) const FORMAT: u8 = 8;
 
-/// The error correction codewords of a block do not belong to its data codewords. If a damaged symbol is mended, the
-/// status `CHECK` has another meaning: some block has more damage than can be corrected.
+/// A block does not match its error correction codewords. In `qrproved_mend`: a block is damaged too much.
 pub(crate) const CHECK: u8 = 9;
 
 /// The data codewords cannot be parsed.
 pub(crate) const SEGMENTS: u8 = 10;
 
-// Returns the status for an input that cannot be encoded because of `fault`.
 pub(crate) fn encode_status(fault: EncodeFault) -> u8
     ensures { result ≡ encode_status fault }
 {
@@ -54,8 +50,7 @@ pub(crate) fn encode_status(fault: EncodeFault) -> u8
     }
 }
 
-// Returns the status for a symbol that cannot be read because of `fault`. `ReadFault::Series` is a fault of several
-// symbols, and never of a single symbol.
+// `Series` is a fault of several symbols, which no call reads.
 pub(crate) fn read_status(fault: ReadFault) -> u8
     ensures { result ≡ read_status fault }
 {

@@ -1,13 +1,12 @@
-//! Defines the function `qrproved_version` for C, which returns the version number of the library.
+//! The call that returns the version of the library.
 
 ghost use Rattle.std.specs.Prelude.{◌≡◌};
 
-// The version number of the library: 10,000 times the major number, plus 100 times the minor number, plus the patch
-// number.
+// Version 0.1.0.
 const VERSION: u32 = 100;
 
-/// Returns the version number of the library: 10,000 times the major number, plus 100 times the minor number, plus the
-/// patch number.
+/// Returns the version of the library: 10,000 times the major number, plus 100 times the minor number, plus the patch
+/// number.
 #[unsafe(no_mangle)]
 pub extern "C" fn qrproved_version() -> u32
     ensures { result ≡ 100 }

@@ -1,6 +1,7 @@
--- The parts of a list of codewords, and what was read of them without marks.
+-- The parts of a list of codewords, that a sequence is gathered in at most one way, and the indices of its codewords.
 pub mod MessageLemmas
--- The marks that are read along the walk, and the codewords that are erased because of them.
+-- A mark is 0 exactly if its codeword is not erased. So to mend by marks is to mend without the modules that were not
+-- read.
 pub mod MarkLemmas
 -- A message is mended block by block, to at most one message.
 pub mod UnreadLemmas

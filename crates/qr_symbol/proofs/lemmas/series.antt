@@ -6,5 +6,5 @@ pub mod PartExistenceLemmas
 pub mod SeriesLemmas
 -- The number of symbols of a series, and their side.
 pub mod SizeLemmas
--- Inputs that are too long for 16 symbols have no series.
+-- Inputs that are too long for 16 symbols have no series, and inputs that have no series need more than 16 parts.
 pub mod LongLemmas

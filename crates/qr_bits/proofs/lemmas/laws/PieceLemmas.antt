@@ -12,7 +12,7 @@ use Rattle.qr_bits.specs.Modes.{may_use, is_kanji_pair}
 use Rattle.qr_bits.specs.Steps.RunState.{state_after, byte_cost, begins_with_pair, may_take, may_end, allowed, cost_of}
 use Rattle.qr_bits.proofs.lemmas.run_state.CostLemmas.{bits-runs_of}
 use Rattle.qr_bits.proofs.lemmas.run_state.AssignmentLemmas.{may_end-after, take_one, one_taken, can_take, is_assignment, covers_by, by_covers}
-use Rattle.qr_bits.proofs.lemmas.table.ChoiceLemmas.{take_begin}
+use Rattle.qr_bits.proofs.lemmas.best_modes.ChoiceLemmas.{take_begin}
 
 -- the state of a run after one more byte
 abbrev ahead : RunState → RunState

@@ -20,9 +20,9 @@ use Rattle.qr_bits.proofs.lemmas.segmentation.BackLemmas.{runs_of-push, append_m
 use Rattle.qr_bits.proofs.lemmas.run_state.CostLemmas.{bits-runs_of}
 use Rattle.qr_bits.proofs.lemmas.segment.CoverLemmas.{CoversInTurn, from_turn}
 use Rattle.qr_bits.proofs.lemmas.run_state.AssignmentLemmas.{suits_by, CoversBy, IsAssignmentBy, covers_by, by_covers, can_take, is_assignment}
-use Rattle.qr_bits.proofs.lemmas.table.TableLemmas.{bytes_rest, best_more}
+use Rattle.qr_bits.proofs.lemmas.best_modes.TableLemmas.{bytes_rest, best_more}
 use Rattle.qr_bits.specs.declared.run_state.PerState.{PerState}
-use Rattle.qr_bits.specs.Steps.Table.{bits_at, follow, IsRow}
+use Rattle.qr_bits.specs.Steps.BestModes.{bits_at, follow, IsRow}
 
 -- if all elements of a list pass a test, all elements of its reverse pass it
 list_all-reverse : {X : Type 0} (p : X → Bool) (xs : List X) → list_all p xs ≡ true → list_all p (reverse xs) ≡ true

@@ -8,7 +8,8 @@ use Rattle.qr_bits.specs.declared.fault.ParseFault.{ParseFault}
 use Rattle.qr_bits.specs.declared.fault.ParseFault.TheVariants.{Memory, Cut}
 use Rattle.qr_bits.specs.Bits.{value}
 use Rattle.qr_bits.specs.Modes.{payload_bits, count_width, byte_count}
-use Rattle.qr_bits.specs.Parsing.{◌>>=◌, IsFaultOf, IsResultOf, values_of, mode_of, ends, leading_number, payload_at, segment_at, segments_at, segments_of, begins_header, header_at}
+use Rattle.qr_bits.specs.Parsing.{◌>>=◌, IsResultOf, values_of, mode_of, ends, leading_number, payload_at, segment_at, segments_at, segments_of, begins_header, header_at}
+use Rattle.qr_bits.specs.Steps.Parsing.{IsFaultOf}
 use borrow.Author.Tests.{leb-true}
 
 -- if two parsers in turn succeed, the first one succeeds, and the second one succeeds on its result

@@ -8,7 +8,8 @@ use Rattle.qr_bits.specs.declared.fault.ParseFault.{ParseFault}
 use Rattle.qr_bits.specs.declared.fault.ParseFault.TheVariants.{BadValue}
 use Rattle.qr_bits.specs.Bits.{value}
 use Rattle.qr_bits.specs.Modes.{payload_bits}
-use Rattle.qr_bits.specs.Parsing.{◌>>=◌, IsFaultOf, digit, digits_of, character, characters_of, bytes_of}
+use Rattle.qr_bits.specs.Parsing.{◌>>=◌, digit, digits_of, character, characters_of, bytes_of}
+use Rattle.qr_bits.specs.Steps.Parsing.{IsFaultOf}
 use Rattle.qr_bits.proofs.lemmas.bits.BitLemmas.{value_below}
 use Rattle.qr_bits.proofs.lemmas.stream.WritingLemmas.{three_more, two_more}
 

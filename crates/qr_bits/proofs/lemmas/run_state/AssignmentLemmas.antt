@@ -13,7 +13,7 @@ use Rattle.qr_bits.specs.Segmentation.{Covers, rank, prepend_mode, runs_of}
 use Rattle.qr_bits.proofs.lemmas.segment.CoverLemmas.{CoversInTurn, in_turn, from_turn}
 use Rattle.qr_bits.specs.Steps.RunState.{state_after, begins_with_pair, may_begin, may_take, may_end, allowed}
 use Rattle.qr_bits.proofs.lemmas.run_state.BestLemmas.{same_rank}
-use Rattle.qr_bits.proofs.lemmas.table.ChoiceLemmas.{take_begin, state_after-whole}
+use Rattle.qr_bits.proofs.lemmas.best_modes.ChoiceLemmas.{take_begin, state_after-whole}
 
 -- the bytes can be written in the mode, where two bytes are a pair if they pass the test
 abbrev pub suits_by : (ℕ → ℕ → Bool) → Mode → List ℕ → Bool

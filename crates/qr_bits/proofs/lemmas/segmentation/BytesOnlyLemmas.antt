@@ -13,7 +13,7 @@ use Rattle.qr_bits.specs.Segmentation.{bits, prepend_mode, runs_of, IsAssignment
 use Rattle.qr_bits.specs.Modes.{is_kanji_pair, may_use, count_width}
 use Rattle.qr_bits.specs.Steps.RunState.{begins_with_pair, state_after, may_begin, may_end, may_take, allowed}
 use Rattle.qr_bits.specs.Steps.Segmentation.{one_segment}
-use Rattle.qr_bits.proofs.lemmas.table.ChoiceLemmas.{take_begin}
+use Rattle.qr_bits.proofs.lemmas.best_modes.ChoiceLemmas.{take_begin}
 use Rattle.qr_bits.proofs.lemmas.segment.SegmentLemmas.{least_fits}
 use Rattle.qr_bits.proofs.lemmas.run_state.AssignmentLemmas.{may_end-after, can_take, is_assignment, covers_by, by_covers}
 

@@ -3,8 +3,8 @@ use Rattle.std.proofs.lemmas.Bool.{cases_lt}
 use Rattle.qr_bits.specs.Segmentation.{HasFit}
 use Rattle.qr_bits.specs.Modes.{is_kanji_pair}
 use Rattle.qr_bits.specs.Steps.RunState.{swapped}
-use Rattle.qr_bits.specs.Steps.Table.{in_state, bits_at, IsRow}
-use Rattle.qr_bits.proofs.lemmas.table.TableLemmas.{best_none, small_more, small_row, zeros}
+use Rattle.qr_bits.specs.Steps.BestModes.{in_state, bits_at, IsRow}
+use Rattle.qr_bits.proofs.lemmas.best_modes.TableLemmas.{best_none, small_more, small_row, zeros}
 use Rattle.qr_bits.proofs.lemmas.longest_prefix.MirrorLemmas.{empty_fits, prefix_more, prefix_fits, prefix_least}
 use Rattle.qr_bits.proofs.longest_prefix.longest_by_rows.Goals as goal
 use Rattle.qr_bits.proofs.longest_prefix.longest_by_rows.Goals.{then-from-room, else-from-room}

@@ -3,7 +3,7 @@ use Rattle.qr_bits.specs.declared.run_state.RunState.{RunState}
 use Rattle.qr_bits.specs.Segmentation.{HasFit}
 use Rattle.qr_bits.specs.Modes.{is_kanji_pair}
 use Rattle.qr_bits.specs.Steps.RunState.{swapped}
-use Rattle.qr_bits.specs.Steps.Table.{bits_at, follow}
+use Rattle.qr_bits.specs.Steps.BestModes.{bits_at, follow}
 use Rattle.qr_bits.proofs.lemmas.run_state.BestLemmas.{BestBelow}
 use Rattle.qr_bits.proofs.longest_prefix.longest_by_rows.Given as goal
 

@@ -8,11 +8,11 @@ use Rattle.qr_bits.specs.declared.run_state.RunState.TheVariants.{Start}
 use Rattle.qr_bits.specs.Segmentation.{runs_of}
 use Rattle.qr_bits.specs.Steps.RunState.{state_after, state_on}
 use Rattle.qr_bits.specs.Steps.Segmentation.{one_segment, append_mode}
-use Rattle.qr_bits.specs.Steps.Table.{follow}
+use Rattle.qr_bits.specs.Steps.BestModes.{follow}
 use Rattle.qr_bits.proofs.lemmas.segmentation.BackLemmas.{run_same, run_other, runs_of-push, sameb_self}
-use Rattle.qr_bits.proofs.lemmas.table.ChoiceLemmas.{on_after}
+use Rattle.qr_bits.proofs.lemmas.best_modes.ChoiceLemmas.{on_after}
 use Rattle.std.proofs.lemmas.List.{append-nil, nil_from_length}
-use Rattle.qr_bits.proofs.lemmas.table.TableLemmas.{follow-nil, led_on, assignment_from_table}
+use Rattle.qr_bits.proofs.lemmas.best_modes.TableLemmas.{follow-nil, led_on, assignment_from_table}
 use Rattle.qr_bits.proofs.segmentation.least_segments.Goals as goal
 
 pub loop-modes-init : goal.loop-modes-init

@@ -1,20 +1,21 @@
 -- Which paths are in the rows of a raster, and how they join while they are written.
-use Rattle.std.proofs.Common.{◌≡◌, ◌≤◌, ◌<◌, ◌+◌, ◌-◌, ◌*◌, ◌++◌, ◌∙◌, ℕ, zero, suc, Bool, true, false, List, [], length, map, get_or, refl, sym, ap, arith, append_assoc, ⊎_elim, inl, inr}
+use Rattle.std.proofs.Common.{◌≡◌, ◌≤◌, ◌<◌, ◌+◌, ◌-◌, ◌*◌, ◌++◌, ◌∙◌, ◌&&◌, leb, ltb, ℕ, zero, suc, Bool, true, false, List, [], ◌∷◌, length, map, get_or, refl, sym, ap, arith, append_assoc, append-nil, inl, inr}
 use Rattle.std.specs.Prelude.{codes}
-use Rattle.std.proofs.Math.Nat.{eq-or-lt_of_le, suc-mul}
+use Rattle.std.proofs.Math.Nat.{suc-mul}
 use Rattle.std.proofs.lemmas.Bool.{cases_lt}
 use Rattle.std.specs.List.{flat_map, prefix_len, range_with_len}
 use Rattle.std.proofs.lemmas.Bool.Decides.{nat_tests}
 use Rattle.std.proofs.lemmas.List.{get_or-map, length-map}
 use Rattle.std.proofs.lemmas.List.Elements.{All-get_or}
 use Rattle.qr_matrix.specs.Grid.{Grid, colour, light}
-use Rattle.qr_matrix.specs.DarkRuns.{IsFirstRun}
+use Rattle.qr_matrix.specs.DarkRuns.{AreDarkRuns}
 use Rattle.qr_matrix.specs.declared.dark_runs.Run.{Run}
+use Rattle.qr_matrix.proofs.Facts.{AreRunsFrom, all-runs, other-runs, run-colours, run-in}
 use Rattle.qr_drawing.specs.Drawing.{HaveOneSide}
 use Rattle.qr_drawing.specs.Raster.{is_dark_at, raster_width, texts_below}
 use Rattle.qr_drawing.specs.Svg.{background, begins_run, box_path, closing, declaration, foreground, opening, row_path, run_length, run_path, square_at, stack_path, svg_document, symbol_path}
 use Rattle.qr_drawing.specs.Steps.Svg.{head, tail}
-use Rattle.qr_drawing.proofs.lemmas.text.LineLemmas.{texts_below-none, texts_below-same, texts-of-items}
+use Rattle.qr_drawing.proofs.lemmas.text.LineLemmas.{texts_below-more, texts_below-none, texts_below-same, texts-of-items}
 
 -- a place of the symbol has its colour
 pub is_dark_at_inside : (margin row col : ℕ) (g : Grid) → row < g.side → col < g.side
@@ -81,78 +82,84 @@ prefix_len-range p x (suc d) (suc n) le pass stop =
     prefix_len-range p (x + 1) d n (omega arith) (λ k a b. pass k (omega arith) (omega arith)) (λ lt. rw f (stop (omega arith))) in
     rw (e, r) (omega arith)
 
--- the first run of dark modules in row `row` of a symbol, from column `col` on
-module _ (top margin row col : ℕ) (g : Grid) (run : Run) (row_in : row < g.side) (first : IsFirstRun g row col run) where
-  -- a place of the row has its colour
-  here : (k : ℕ) → margin ≤ k → k < margin + g.side → is_dark_at margin g (margin + row) k ≡ colour g row (k - margin)
-  here k a b =
-      let e : margin + (k - margin) ≡ k = omega arith in
-      ap (is_dark_at margin g (margin + row)) (sym e) ∙ is_dark_at_inside margin row (k - margin) g row_in (omega arith)
+-- the box around a run of row `row` of a symbol
+abbrev pub box_of : ℕ → ℕ → ℕ → Run → List ℕ
+box_of top margin row run = box_path (margin + run.start) (top + (margin + row)) (run.end - run.start)
+
+-- the box by its numbers
+pub box-is : (top margin row x y modules : ℕ) (run : Run) → x ≡ margin + run.start → y ≡ top + (margin + row) → modules ≡ run.end - run.start
+    → box_path x y modules ≡ box_of top margin row run
+box-is top margin row x y modules run ex ey em = λ i. box_path (ex i) (ey i) (em i)
+
+-- in this module, `run` is the first of the runs of row `row` of a symbol from column `col` on
+module _ (top margin row col : ℕ) (g : Grid) (run : Run) (runs : List Run) (row_in : row < g.side) (are : AreRunsFrom g row col (run ∷ runs)) where
+  -- where the run is
+  at : (col ≤ run.start) × (run.start < run.end) × (run.end ≤ g.side)
+  at = run-in g row col run runs are
+
+  -- up to the end of the run, its places alone are dark
+  here : (k : ℕ) → margin + col ≤ k → k ≤ margin + run.end → is_dark_at margin g (margin + row) k ≡ (leb (margin + run.start) k && ltb k (margin + run.end))
+  here k a b = let w = at in elim (cases_lt k (margin + g.side)) [
+    | inl lt ↦
+        let e : margin + (k - margin) ≡ k = omega arith in
+        ap (is_dark_at margin g (margin + row)) (sym e) ∙ (is_dark_at_inside margin row (k - margin) g row_in (omega arith)
+        ∙ (run-colours g row col run runs are (k - margin) (omega arith) (omega arith) ∙ grind (arith, nat_tests)))
+    | inr ge ↦ is_dark_at_right margin (margin + row) k g ge ∙ grind (arith, nat_tests)
+  ]
 
   -- the places of the run are dark
   all-dark : (k : ℕ) → margin + run.start ≤ k → k < margin + run.end → is_dark_at margin g (margin + row) k ≡ true
-  all-dark k a b = let w = first.within in here k (omega arith) (omega arith) ∙ first.dark (k - margin) (omega arith) (omega arith)
+  all-dark k a b = let w = at in here k (omega arith) (omega arith) ∙ grind (arith, nat_tests)
 
   -- the places before the run have no paths
-  pub light_run : texts_below (margin + run.start) (run_path top margin g (margin + row)) ≡ texts_below (margin + col) (run_path top margin g (margin + row))
+  light_run : texts_below (margin + run.start) (run_path top margin g (margin + row)) ≡ texts_below (margin + col) (run_path top margin g (margin + row))
   light_run =
-      let v = first.after in
-      let u = first.some in
-      let w = first.within in
+      let w = at in
       texts_below-same (margin + col) (margin + run.start) (run_path top margin g (margin + row)) (omega arith)
-      (λ k a b. run_path-light top margin (margin + row) k g (here k (omega arith) (omega arith) ∙ first.light (k - margin) (omega arith) (omega arith)))
+      (λ k a b. run_path-light top margin (margin + row) k g (here k (omega arith) (omega arith) ∙ grind (arith, nat_tests)))
 
   -- the places after the run's first have no paths
-  pub dark_run : texts_below (margin + run.end) (run_path top margin g (margin + row)) ≡ texts_below (margin + run.start + 1) (run_path top margin g (margin + row))
+  dark_run : texts_below (margin + run.end) (run_path top margin g (margin + row)) ≡ texts_below (margin + run.start + 1) (run_path top margin g (margin + row))
   dark_run =
-      let u = first.some in
+      let w = at in
       texts_below-same (margin + run.start + 1) (margin + run.end) (run_path top margin g (margin + row)) (omega arith)
       (λ k a b. run_path-inner top margin (margin + row) k g (omega arith) (all-dark (k - 1) (omega arith) (omega arith)))
 
-  -- the place after the run is light
-  run-stops : is_dark_at margin g (margin + row) (margin + run.end) ≡ false
-  run-stops = ⊎_elim (λ (e : run.end ≡ g.side). is_dark_at_right margin (margin + row) (margin + run.end) g (omega arith))
-      (λ (lt : run.end < g.side). is_dark_at_inside margin row run.end g row_in lt ∙ first.stops) (eq-or-lt_of_le first.within)
-
   -- the place before the run is not dark
   before-dark : (0 < col → colour g row col ≡ false) → 0 < margin + run.start → is_dark_at margin g (margin + row) (margin + run.start - 1) ≡ false
-  before-dark light some =
-      let v = first.after in
-      let u = first.some in
-      let w = first.within in
-      ⊎_elim (λ (e : col ≡ run.start). ⊎_elim (λ (z : 0 ≡ col). is_dark_at_left margin (margin + row) (margin + run.start - 1) g (omega arith))
-      (λ (lt : 0 < col). absurd (dark-is-light (ap (colour g row) e ∙ first.dark run.start (omega arith) u) (light lt))) (eq-or-lt_of_le (omega arith)))
-      (λ (lt : col < run.start). here (margin + run.start - 1) (omega arith) (omega arith) ∙ first.light (margin + run.start - 1 - margin) (omega arith) (omega arith))
-      (eq-or-lt_of_le v)
-    where
-      dark-is-light : {b : Bool} → b ≡ true → b ≡ false → ⊥
-      dark-is-light p q = let h : true ≡ false = sym p ∙ q in cc
+  before-dark light some = let w = at in elim (cases_lt col run.start) [
+    | inl lt ↦ here (margin + run.start - 1) (omega arith) (omega arith) ∙ grind (arith, nat_tests)
+    | inr ge ↦ elim (cases_lt 0 col) [
+      | inl lt ↦ let h : true ≡ false = sym (run-colours g row col run runs are col (omega arith) (omega arith) ∙ grind (arith, nat_tests)) ∙ light lt in cc
+      | inr z ↦ is_dark_at_left margin (margin + row) (margin + run.start - 1) g (omega arith)
+    ]
+  ]
 
   -- the length of the run is that of the definition
   dark_length : run_length margin g (margin + row) (margin + run.start) ≡ run.end - run.start
   unfolding run_length
   dark_length =
-      let u = first.some in
-      let w = first.within in
+      let w = at in
       let e : margin + run.start + (run.end - run.start) ≡ margin + run.end = omega arith in
       prefix_len-range (is_dark_at margin g (margin + row)) (margin + run.start) (run.end - run.start) (raster_width margin g - (margin + run.start)) (omega arith)
-      (λ k a b. all-dark k a (omega arith)) (λ lt. rw e run-stops)
+      (λ k a b. all-dark k a (omega arith)) (λ lt. rw e (here (margin + run.end) (omega arith) (omega arith) ∙ grind (arith, nat_tests)))
 
-  -- the path of the run is at its first place
-  pub dark_path : (x y modules : ℕ) → x ≡ margin + run.start → y ≡ top + (margin + row) → modules ≡ run.end - run.start
-      → (0 < col → colour g row col ≡ false) → run_path top margin g (margin + row) (margin + run.start) ≡ box_path x y modules
-  dark_path x y modules ex ey em light =
-      let u = first.some in
-      rw (ex, ey, em) (run_path-first top margin (margin + row) (margin + run.start) g (all-dark (margin + run.start) (omega arith) (omega arith)) (before-dark light)
-      ∙ ap (box_path (margin + run.start) (top + (margin + row))) dark_length)
+  -- the paths up to the end of the run are those up to column `col` and its box
+  run_added : (0 < col → colour g row col ≡ false)
+      → texts_below (margin + run.end) (run_path top margin g (margin + row)) ≡ texts_below (margin + col) (run_path top margin g (margin + row)) ++ box_of top margin row run
+  run_added light =
+      let w = at in
+      let path = run_path-first top margin (margin + row) (margin + run.start) g (all-dark (margin + run.start) (omega arith) (omega arith)) (before-dark light)
+      ∙ ap (box_path (margin + run.start) (top + (margin + row))) dark_length in
+      dark_run ∙ (texts_below-more (margin + run.start) (run_path top margin g (margin + row)) ∙ (λ i. light_run i ++ path i))
 
 -- there are no paths to the left of the symbol
-pub row_begins : (top margin y : ℕ) (g : Grid) → texts_below (margin + 0) (run_path top margin g y) ≡ []
+row_begins : (top margin y : ℕ) (g : Grid) → texts_below (margin + 0) (run_path top margin g y) ≡ []
 row_begins top margin y g =
     texts_below-none (margin + 0) (run_path top margin g y) (λ k lt. run_path-light top margin y k g (is_dark_at_left margin y k g (omega arith)))
 
 -- there are no paths in the rest of a row if that rest is light
-pub row_ends : (top margin row col : ℕ) (g : Grid) → row < g.side → col ≤ g.side → ((c : ℕ) → col ≤ c → colour g row c ≡ false)
+row_ends : (top margin row col : ℕ) (g : Grid) → row < g.side → col ≤ g.side → ((c : ℕ) → col ≤ c → colour g row c ≡ false)
     → row_path top margin g (margin + row) ≡ texts_below (margin + col) (run_path top margin g (margin + row))
 unfolding row_path
 row_ends top margin row col g row_in le light =
@@ -163,6 +170,24 @@ row_ends top margin row col g row_in le light =
           ap (is_dark_at margin g (margin + row)) (sym e) ∙ (is_dark_at_inside margin row (k - margin) g row_in (omega arith) ∙ light (k - margin) (omega arith))
       | inr ge ↦ is_dark_at_right margin (margin + row) k g ge
     ]))
+
+-- the paths of a row are those up to column `col` and the boxes of the runs from there on
+boxes_from : (top margin row col : ℕ) (g : Grid) (runs : List Run) → row < g.side → col ≤ g.side → (0 < col → colour g row col ≡ false) → AreRunsFrom g row col runs
+    → row_path top margin g (margin + row) ≡ texts_below (margin + col) (run_path top margin g (margin + row)) ++ flat_map (box_of top margin row) runs
+boxes_from top margin row col g [] row_in le light are = row_ends top margin row col g row_in le (λ c l. are.dark c l) ∙ sym (append-nil _)
+boxes_from top margin row col g (run ∷ runs) row_in le light are =
+    let w = run-in g row col run runs are in
+    boxes_from top margin row run.end g runs row_in w.2 (λ _. run-colours g row col run runs are run.end (omega arith) (omega arith) ∙ grind (arith, nat_tests))
+    (other-runs g row col run runs are)
+    ∙ (ap (λ l. l ++ flat_map (box_of top margin row) runs) (run_added top margin row col g run runs row_in are light)
+    ∙ append_assoc _ (box_of top margin row run) (flat_map (box_of top margin row) runs))
+
+-- the paths of a row are the boxes of its runs
+pub row_boxes : (top margin row : ℕ) (g : Grid) (runs : List Run) → row < g.side → AreDarkRuns g row runs
+    → row_path top margin g (margin + row) ≡ flat_map (box_of top margin row) runs
+row_boxes top margin row g runs row_in are =
+    boxes_from top margin row 0 g runs row_in (omega arith) (λ some. absurd (omega arith)) (all-runs g row runs are)
+    ∙ ap (λ l. l ++ flat_map (box_of top margin row) runs) (row_begins top margin (margin + row) g)
 
 -- a light row has no paths
 row_path-light : (top margin y : ℕ) (g : Grid) → ((x : ℕ) → is_dark_at margin g y x ≡ false) → row_path top margin g y ≡ []

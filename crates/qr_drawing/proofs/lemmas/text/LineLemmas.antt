@@ -18,7 +18,7 @@ range-more a (suc n) =
     rw (e, f) (ap (λ l. a ∷ l) (range-more (a + 1) n))
 
 -- the texts of n + 1 places are those of n places and one more
-texts_below-more : (n : ℕ) (text : ℕ → List ℕ) → texts_below (n + 1) text ≡ texts_below n text ++ text n
+pub texts_below-more : (n : ℕ) (text : ℕ → List ℕ) → texts_below (n + 1) text ≡ texts_below n text ++ text n
 unfolding texts_below
 texts_below-more n text =
     let e : 0 + n ≡ n = omega arith in

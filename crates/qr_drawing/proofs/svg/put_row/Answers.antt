@@ -1,56 +1,48 @@
-use Rattle.std.proofs.Common.{◌+◌, refl, arith}
+use Rattle.std.proofs.Common.{◌<◌, ◌≤◌, ◌+◌, ◌++◌, [], ◌∷◌, ap, sym, ◌∙◌, append_assoc, append-nil, arith}
+use Rattle.std.specs.List.{flat_map}
+use Rattle.std.proofs.lemmas.Grind.{flat_map-append}
+use Rattle.std.proofs.lemmas.List.Elements.{All-head, All-rest}
 use Rattle.std.proofs.lemmas.Result.{err_from_is_err_and}
-use Rattle.qr_drawing.specs.Svg.{row_path}
-use Rattle.qr_drawing.proofs.lemmas.text.LineLemmas.{put_next, put_none, put_stops}
-use Rattle.qr_drawing.proofs.lemmas.svg.PathLemmas.{dark_path, dark_run, light_run, row_begins, row_ends}
-use Rattle.qr_drawing.proofs.lemmas.pen.WritingLemmas.{formed, stops_before}
+use Rattle.qr_drawing.proofs.lemmas.svg.PathLemmas.{box-is, box_of, row_boxes}
+use Rattle.qr_drawing.proofs.lemmas.pen.WritingLemmas.{formed, stops_between, writes_none, writes_on}
 use Rattle.qr_drawing.proofs.svg.put_row.Goals as goal
 
 pub loop-run-init : goal.loop-run-init
 loop-run-init g c = rw c.into_iter-run-iterator.ensures.into_iter_gives (record {
-  within = omega arith;
-  light = λ some. absurd (omega arith);
-  runs = c.dark_runs-run-items.ensures.runs;
-  writes = rw c.dark_runs-run-items.ensures.start (put_none _ _ _ _ _ (row_begins c.args.top c.args.margin (c.args.margin + c.args.row) c.args.matrix.now));
+  within = c.dark_runs-run-items.ensures.within;
+  path = row_boxes c.args.top c.args.margin c.args.row c.args.matrix.now _ c.requires.row_in c.dark_runs-run-items.ensures;
+  writes = writes_none _ _ _;
 })
 
 pub returns-in_err-reserve : goal.returns-in_err-reserve
-unfolding row_path
 returns-in_err-reserve g c =
     let p = err_from_is_err_and c.from_residual.result c.from_residual.ensures.1 in
-    let first = (c.in-Some.ensures.steps c.args.matrix.now c.args.row c.loop-run.invariant.runs).0 in
-    let w = first.within in
-    let u = first.some in
-    let before = rw (← light_run c.args.top c.args.margin c.args.row c.loop-run.run-iterator.col c.args.matrix.now c.in-Some.run' c.requires.row_in first)
-    at c.loop-run.invariant.writes in
-    rw p.1 (put_stops _ _ _ _ _ _ _ _ _ _ _ refl (omega arith) before (stops_before _ _ _ _ _ c.in_err-reserve.ensures.writes))
+    let box = box_of c.args.top c.args.margin c.args.row in
+    rw (p.1, c.loop-run.invariant.path, flat_map-append box c.loop-run.yielded c.loop-run.run-iterator)
+    (stops_between _ _ _ _ _ c.args.pen.now.piece.items c.loop-run.pen.piece.items (flat_map box c.loop-run.yielded) (flat_map box c.loop-run.run-iterator)
+    c.loop-run.invariant.writes c.in_err-reserve.ensures.writes)
 
 pub overflow_sub-run : goal.overflow_sub-run
 overflow_sub-run g c =
-    let first = (c.in-Some.ensures.steps c.args.matrix.now c.args.row c.loop-run.invariant.runs).0 in
-    let u = first.some in
-    omega arith
+    let within = All-head (λ run. (run.start < run.end) × (run.end ≤ c.args.matrix.now.side)) c.in-Some.run' c.next.new.self
+    (rw c.in-Some.ensures.steps at c.loop-run.invariant.within) in
+    omega (arith, within.0)
 
 pub loop-run-preserved : goal.loop-run-preserved
 loop-run-preserved g c =
-    let given = c.in-Some.ensures.steps c.args.matrix.now c.args.row c.loop-run.invariant.runs in
-    let first = given.0 in
-    let before = rw (← light_run c.args.top c.args.margin c.args.row c.loop-run.run-iterator.col c.args.matrix.now c.in-Some.run' c.requires.row_in first)
-    at c.loop-run.invariant.writes in
-    let here = dark_path c.args.top c.args.margin c.args.row c.loop-run.run-iterator.col c.args.matrix.now c.in-Some.run' c.requires.row_in first
-    (c.from-left.result + c.from-in-loop-run.result) (c.args.top + c.from-left.result + c.from.result) c.from-in-loop-run-2.result
-    (omega arith) (omega arith) (omega arith) c.loop-run.invariant.light in
+    let box = box_of c.args.top c.args.margin c.args.row in
+    let run = c.in-Some.run' in
+    let here = box-is c.args.top c.args.margin c.args.row (c.from-left.result + c.from-in-loop-run.result) (c.args.top + c.from-left.result + c.from.result)
+    c.from-in-loop-run-2.result run (omega arith) (omega arith) (omega arith) in
     record {
-      within = rw given.1 first.within;
-      light = rw given.1 (λ _. first.stops);
-      runs = given.2;
-      writes = rw given.1 (put_next _ _ _ _ _ _ _ _ _ _ _ _ _ here
-          (dark_run c.args.top c.args.margin c.args.row c.loop-run.run-iterator.col c.args.matrix.now c.in-Some.run' c.requires.row_in first)
-          before (formed _ _ _ _ _ _ _ _ c.in_ok-reserve.ensures.writes c.push_box.ensures));
+      within = All-rest (λ run. (run.start < run.end) × (run.end ≤ c.args.matrix.now.side)) run c.next.new.self _ c.in-Some.ensures.steps c.loop-run.invariant.within;
+      path = c.loop-run.invariant.path ∙ ap (λ runs. flat_map box (c.loop-run.yielded ++ runs)) c.in-Some.ensures.steps
+          ∙ ap (flat_map box) (sym (append_assoc c.loop-run.yielded (run ∷ []) c.next.new.self));
+      writes = rw (flat_map-append box c.loop-run.yielded (run ∷ []), append-nil (box run), ← here)
+          (writes_on _ _ _ _ _ _ c.args.pen.now.piece.items c.loop-run.pen.piece.items _ (flat_map box c.loop-run.yielded) _ c.loop-run.invariant.writes
+          (formed _ _ _ _ c.loop-run.pen.piece.items _ _ _ c.in_ok-reserve.ensures.writes c.push_box.ensures));
     }
 
 pub returns : goal.returns
 returns g c =
-    let none = c.in-None.ensures.steps c.args.matrix.now c.args.row c.loop-run.invariant.runs in
-    rw (row_ends c.args.top c.args.margin c.args.row c.loop-run.run-iterator.col c.args.matrix.now c.requires.row_in c.loop-run.invariant.within none)
-    c.loop-run.invariant.writes
+    rw (c.loop-run.invariant.path, c.in-None.ensures.steps.0, append-nil c.loop-run.yielded) c.loop-run.invariant.writes

@@ -1,6 +1,6 @@
 use Rattle.std.proofs.Common.{ℕ, List, [], ◌∷◌, refl}
 use Rattle.qr_field.specs.Galois.{product, remainder_of, carryless}
-use Rattle.qr_field.specs.Laws.{eight_digits_correction}
+use Rattle.qr_field.specs.Laws.{worked_correction}
 use Rattle.qr_field.proofs.lemmas.polynomial.ListLemmas.{bytes-computed}
 use Rattle.qr_field.proofs.laws.correction_computes.Goals as goal
 
@@ -15,6 +15,6 @@ unfolding product remainder_of carryless quotient
 returns c =
     record {
       count = refl;
-      bytes = bytes-computed eight_digits_correction refl;
+      bytes = bytes-computed worked_correction refl;
       multiple = record { quotient = quotient; bytes = bytes-computed quotient refl; whole = refl };
     }

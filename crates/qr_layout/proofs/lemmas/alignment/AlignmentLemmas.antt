@@ -1,15 +1,15 @@
 -- The alignment patterns and the encoding region, as tests of their parts.
 use Rattle.qr_layout.proofs.lemmas.alignment.TableLemmas.{below, below-at}
-use Rattle.std.proofs.Common.{subst, ◌≡◌, ℕ, ◌+◌, ◌-◌, ◌<◌, ◌≤◌, Bool, true, false, not, ◌&&◌, ◌||◌, cond, eqb, ltb, leb, List, [], ◌∷◌, ◌++◌, map, refl, sym, ap, ◌∙◌, inl, inr, ◌⊎◌, arith}
+use Rattle.std.proofs.Common.{subst, ◌≡◌, ℕ, ◌+◌, ◌-◌, ◌<◌, ◌≤◌, Bool, true, false, not, ◌&&◌, ◌||◌, cond, eqb, ltb, leb, List, [], ◌∷◌, map, refl, sym, ap, ◌∙◌, inl, inr, ◌⊎◌, arith}
 use Rattle.std.proofs.lemmas.Bool.Decides.{nat_tests}
 use Rattle.std.proofs.lemmas.Bool.{cases_lt, and_parts}
 use Rattle.std.proofs.lemmas.List.Folds.{list_any-append}
 use Rattle.std.specs.List.{All, list_all, list_any, flat_map}
-use Rattle.std.proofs.lemmas.List.Elements.{All-nil, All-cons}
+use Rattle.std.proofs.lemmas.List.Elements.{All-nil, All-cons, All-weaker}
 use Rattle.qr_layout.specs.Region.{is_corner, is_timing, is_version_information, is_alignment, ring_of, is_in_region}
 use Rattle.qr_layout.specs.declared.rectangles.Rectangle.{Rectangle}
-use Rattle.qr_layout.specs.Rectangles.{corner_rectangles, timing_rectangles, version_rectangles, fixed_rectangles, is_in_rectangle}
-use Rattle.qr_layout.specs.Steps.Rectangles.{IsInside, IsWithin, alignment_squares, square_round, taken_rectangles}
+use Rattle.qr_layout.specs.Rectangles.{AreFixed, is_in_rectangle}
+use Rattle.qr_layout.specs.Steps.Rectangles.{IsInside, IsWithin, alignment_squares, fixed_list, square_round, taken_rectangles}
 use Rattle.qr_layout.specs.Version.{side_of}
 use Rattle.qr_layout.specs.Role.{is_alignment_light}
 use Rattle.qr_layout.specs.declared.region.Module.{Module}
@@ -74,28 +74,21 @@ square-rings a b r c = grind (arith, nat_tests)
 pub alignment-squares : (r c : ℕ) (ms : List Module) → list_any (λ m. is_in_rectangle r c (square_round m)) ms ≡ list_any (λ m. leb (ring_of m.row m.col r c) 2) ms
 alignment-squares r c ms = list_any-same _ _ (λ m. square-rings m.row m.col r c) ms
 
--- ---- the parts of the region, as rectangles
-
--- inside the square, tests that agree there agree
-inside : (p q x y : Bool) → (p ≡ true → q ≡ true → x ≡ y) → (p && q && not x) ≡ (p && q && not y)
-inside true true x y f = ap not (f refl refl)
-inside true false x y f = refl
-inside false q x y f = refl
-
--- what a test of an order means
-less : (m n : ℕ) → ltb m n ≡ true → m < n
-less m n h = grind (arith, nat_tests)
+-- ---- the rectangles that cover all but the alignment patterns
 
 -- the corners
-pub corners-are : (s r c : ℕ) → r < s → c < s → is_corner s r c ≡ list_any (is_in_rectangle r c) (corner_rectangles s)
+corners-are : (s r c : ℕ) → r < s → c < s → is_corner s r c ≡ list_any (is_in_rectangle r c)
+    (record { top = 0; bottom = 9; left = 0; right = 9 } ∷ record { top = 0; bottom = 9; left = s - 8; right = s } ∷ record { top = s - 8; bottom = s; left = 0; right = 9 } ∷ [])
 corners-are s r c h k = grind (arith, nat_tests)
 
 -- the lines of the timing patterns
-pub timing-is : (s r c : ℕ) → r < s → c < s → is_timing r c ≡ list_any (is_in_rectangle r c) (timing_rectangles s)
+timing-is : (s r c : ℕ) → r < s → c < s → is_timing r c ≡ list_any (is_in_rectangle r c)
+    (record { top = 6; bottom = 7; left = 0; right = s } ∷ record { top = 0; bottom = s; left = 6; right = 7 } ∷ [])
 timing-is s r c h k = grind (arith, nat_tests)
 
 -- the blocks of version information
-pub version-is : (v r c : ℕ) → is_version_information v r c ≡ list_any (is_in_rectangle r c) (version_rectangles v (side_of v))
+version-is : (v r c : ℕ) → is_version_information v r c ≡ list_any (is_in_rectangle r c) (cond (ltb v 7) []
+    (record { top = 0; bottom = 6; left = side_of v - 11; right = side_of v - 8 } ∷ record { top = side_of v - 11; bottom = side_of v - 8; left = 0; right = 6 } ∷ []))
 version-is v r c = elim (cases_lt v 7) [
   | inl k ↦ let t : ltb v 7 ≡ true = grind (arith, nat_tests) in let u : leb 7 v ≡ false = grind (arith, nat_tests) in rw (t, u) refl
   | inr k ↦ let t : ltb v 7 ≡ false = grind (arith, nat_tests) in let u : leb 7 v ≡ true = grind (arith, nat_tests) in rw (t, u) (tests (side_of v))
@@ -104,41 +97,86 @@ version-is v r c = elim (cases_lt v 7) [
     tests : (s : ℕ) → ((ltb r 6 && (leb (s - 11) c && ltb c (s - 8))) || (ltb c 6 && (leb (s - 11) r && ltb r (s - 8)))) ≡ list_any (is_in_rectangle r c) (record { top = 0; bottom = 6; left = s - 11; right = s - 8 } ∷ record { top = s - 11; bottom = s - 8; left = 0; right = 6 } ∷ [])
     tests s = grind (arith, nat_tests)
 
--- the encoding region is what is inside the square and in none of the rectangles of three kinds nor in an alignment pattern
-pub region_parts : (v r c : ℕ) → is_in_region v r c ≡ (ltb r (side_of v) && ltb c (side_of v) && not (((list_any (is_in_rectangle r c) (corner_rectangles (side_of v)) || list_any (is_in_rectangle r c) (timing_rectangles (side_of v))) || list_any (is_in_rectangle r c) (version_rectangles v (side_of v))) || is_alignment v r c))
-unfolding is_in_region
-region_parts v r c =
-    let s = side_of v in
-    inside (ltb r s) (ltb c s) _ _ (λ h k.
-    ap (λ b. ((b || is_timing r c) || is_version_information v r c) || is_alignment v r c) (corners-are s r c (less r s h) (less c s k))
-    ∙ (ap (λ b. ((list_any (is_in_rectangle r c) (corner_rectangles s) || b) || is_version_information v r c) || is_alignment v r c) (timing-is s r c (less r s h) (less c s k))
-    ∙ ap (λ b. ((list_any (is_in_rectangle r c) (corner_rectangles s) || list_any (is_in_rectangle r c) (timing_rectangles s)) || b) || is_alignment v r c) (version-is v r c)))
+-- tests of the rectangles, by the parts that they cover
+by-parts : (a b d e f g x y z : Bool) → x ≡ (a || (b || (d || false))) → y ≡ (e || (f || false)) → z ≡ g
+    → (a || (b || (d || (e || (f || g))))) ≡ ((x || y) || z)
+by-parts a b d e f g x y z h k l = rw (h, k, l) (tests a b d e f g)
+  where
+    tests : (a b d e f g : Bool) → (a || (b || (d || (e || (f || g))))) ≡ (((a || (b || (d || false))) || (e || (f || false))) || g)
+    tests true b d e f g = refl
+    tests false true d e f g = refl
+    tests false false true e f g = refl
+    tests false false false true f g = refl
+    tests false false false false true g = refl
+    tests false false false false false g = refl
 
--- a place is in one of the fixed rectangles if it is in a corner, on a timing pattern or in the version information
-pub fixed_parts : (v r c : ℕ) → list_any (is_in_rectangle r c) (fixed_rectangles v) ≡ ((list_any (is_in_rectangle r c) (corner_rectangles (side_of v)) || list_any (is_in_rectangle r c) (timing_rectangles (side_of v))) || list_any (is_in_rectangle r c) (version_rectangles v (side_of v)))
-fixed_parts v r c =
+-- a place is in one of the rectangles if it is in a corner, on a timing pattern or in the version information
+fixed-places : (v r c : ℕ) → r < side_of v → c < side_of v
+    → list_any (is_in_rectangle r c) (fixed_list v) ≡ (is_corner (side_of v) r c || is_timing r c || is_version_information v r c)
+fixed-places v r c h k =
     let s = side_of v in
     let p = is_in_rectangle r c in
-    list_any-append p (corner_rectangles s ++ timing_rectangles s) (version_rectangles v s) ∙ ap (λ b. b || list_any p (version_rectangles v s)) (list_any-append p (corner_rectangles s) (timing_rectangles s))
+    by-parts (p (record { top = 0; bottom = 9; left = 0; right = 9 })) (p (record { top = 0; bottom = 9; left = s - 8; right = s })) (p (record { top = s - 8; bottom = s; left = 0; right = 9 }))
+    _ _ _ _ _ _ (corners-are s r c h k) (timing-is s r c h k) (version-is v r c)
 
--- a place inside the square is in the encoding region if it is in none of the fixed rectangles and in no alignment pattern
-pub region_outside : (v r c : ℕ) → r < side_of v → c < side_of v → is_in_region v r c ≡ not (list_any (is_in_rectangle r c) (fixed_rectangles v) || is_alignment v r c)
-region_outside v r c h k =
+-- a test of each item of a list, and what it means
+all-of : {X : Type 0} (p : X → Bool) (P : X → Type 0) → ((x : X) → p x ≡ true → P x) → (xs : List X) → list_all p xs ≡ true → All P xs
+all-of p P f [] h = All-nil P
+all-of p P f (x ∷ xs) h = All-cons P x xs (f x (and_parts (p x) _ h).0) (all-of p P f xs (and_parts (p x) _ h).1)
+
+-- a test that each version passes
+each-version : (p : ℕ → Bool) → below 40 (λ k. p (k + 1)) ≡ true → (v : ℕ) → 1 ≤ v → v ≤ 40 → p v ≡ true
+each-version p h v k l =
+    let e : v - 1 + 1 ≡ v = omega arith in
+    subst (λ (z : ℕ). p z ≡ true) e (below-at 40 (λ k. p (k + 1)) h (v - 1) (omega arith))
+
+-- ---- the rectangles are inside the symbol
+
+-- the rectangle is inside a symbol of side s
+abbrev is_within : ℕ → Rectangle → Bool
+is_within s b = leb b.top b.bottom && leb b.bottom s && leb b.left b.right && leb b.right s
+
+-- what the test of such a rectangle means
+within-is : (s : ℕ) (b : Rectangle) → is_within s b ≡ true → (b.top ≤ b.bottom) × (b.bottom ≤ s) × (b.left ≤ b.right) × (b.right ≤ s)
+within-is s b h = (grind (arith, nat_tests), grind (arith, nat_tests), grind (arith, nat_tests), grind (arith, nat_tests))
+
+-- the rectangles of each version are inside, computed
+all-within : below 40 (λ k. list_all (is_within (side_of (k + 1))) (fixed_list (k + 1))) ≡ true
+all-within = refl
+
+-- the rectangles of a version are such as cover all but the alignment patterns
+pub fixed-are : (v : ℕ) → 1 ≤ v → v ≤ 40 → AreFixed v (fixed_list v)
+fixed-are v h k = record {
+  within = all-of (is_within (side_of v)) _ (within-is (side_of v)) (fixed_list v) (each-version (λ v. list_all (is_within (side_of v)) (fixed_list v)) all-within v h k);
+  places = fixed-places v;
+}
+
+-- such rectangles are inside the symbol
+pub fixed-within : (v : ℕ) (bs : List Rectangle) → AreFixed v bs → All (IsWithin (side_of v)) bs
+fixed-within v bs a = All-weaker (λ b. (b.top ≤ b.bottom) × (b.bottom ≤ side_of v) × (b.left ≤ b.right) × (b.right ≤ side_of v)) (IsWithin (side_of v)) (λ b h. record { rows = h.0; bottom = h.1; columns = h.2; right = h.3 }) bs a.within
+
+-- the encoding region inside the square
+pub region-parts : (v r c : ℕ) → r < side_of v → c < side_of v
+    → is_in_region v r c ≡ not (is_corner (side_of v) r c || is_timing r c || is_version_information v r c || is_alignment v r c)
+unfolding is_in_region
+region-parts v r c h k =
     let p : ltb r (side_of v) ≡ true = grind (arith, nat_tests) in
     let q : ltb c (side_of v) ≡ true = grind (arith, nat_tests) in
-    region_parts v r c ∙ (both (ltb r (side_of v)) (ltb c (side_of v)) _ p q ∙ ap (λ b. not (b || is_alignment v r c)) (sym (fixed_parts v r c)))
-  where
-    both : (a b t : Bool) → a ≡ true → b ≡ true → (a && b && t) ≡ t
-    both a b t h k = rw (h, k) refl
+    rw (p, q) refl
 
--- the same, with the alignment patterns as rectangles too
-pub region_taken : (v r c : ℕ) → r < side_of v → c < side_of v → is_in_region v r c ≡ not (list_any (is_in_rectangle r c) (taken_rectangles v))
-region_taken v r c h k =
+-- a place inside the square is in the encoding region if it is in none of such rectangles and in no alignment pattern
+pub region_outside : (v : ℕ) (bs : List Rectangle) → AreFixed v bs → (r c : ℕ) → r < side_of v → c < side_of v
+    → is_in_region v r c ≡ not (list_any (is_in_rectangle r c) bs || is_alignment v r c)
+region_outside v bs a r c h k = region-parts v r c h k ∙ ap (λ b. not (b || is_alignment v r c)) (sym (a.places r c h k))
+
+-- the same for the rectangles of a version, with the alignment patterns as rectangles too
+pub region_taken : (v r c : ℕ) → 1 ≤ v → v ≤ 40 → r < side_of v → c < side_of v → is_in_region v r c ≡ not (list_any (is_in_rectangle r c) (taken_rectangles v))
+region_taken v r c l m h k =
     let s = side_of v in
     let p = is_in_rectangle r c in
     let ms = alignment_places s (centres_of v) in
-    region_outside v r c h k
-    ∙ ap not (ap (λ b. list_any p (fixed_rectangles v) || b) (sym (list_any-map p square_round ms ∙ alignment-squares r c ms)) ∙ sym (list_any-append p (fixed_rectangles v) (alignment_squares s (centres_of v))))
+    region_outside v (fixed_list v) (fixed-are v l m) r c h k
+    ∙ ap not (ap (λ b. list_any p (fixed_list v) || b) (sym (list_any-map p square_round ms ∙ alignment-squares r c ms)) ∙ sym (list_any-append p (fixed_list v) (alignment_squares s (centres_of v))))
 
 -- a conjunction with a false part is false
 and_false-false : (a b : Bool) → false ≡ ((a && false) && b)
@@ -147,24 +185,22 @@ and_false-false false b = refl
 
 -- no place below the last row is in the region
 pub region_row_out : (v r c : ℕ) → side_of v ≤ r → false ≡ is_in_region v r c
-region_row_out v r c h = let e : ltb r (side_of v) ≡ false = grind (arith, nat_tests) in rw (region_parts, e) refl
+unfolding is_in_region
+region_row_out v r c h = let e : ltb r (side_of v) ≡ false = grind (arith, nat_tests) in rw e refl
 
 -- no place right of the last column is in the region
 pub region_col_out : (v r c : ℕ) → side_of v ≤ c → false ≡ is_in_region v r c
-region_col_out v r c h = let e : ltb c (side_of v) ≡ false = grind (arith, nat_tests) in rw (region_parts, e) (and_false-false (ltb r (side_of v)) _)
+unfolding is_in_region
+region_col_out v r c h = let e : ltb c (side_of v) ≡ false = grind (arith, nat_tests) in rw e (and_false-false (ltb r (side_of v)) _)
 
 -- a place inside the square that is in no corner, on no timing pattern and not in the version information
-pub region_free : (v r c : ℕ) → r < side_of v → c < side_of v → list_any (is_in_rectangle r c) (corner_rectangles (side_of v)) ≡ false → list_any (is_in_rectangle r c) (timing_rectangles (side_of v)) ≡ false → list_any (is_in_rectangle r c) (version_rectangles v (side_of v)) ≡ false → is_in_region v r c ≡ not (is_alignment v r c)
-region_free v r c h k i j l = region_outside v r c h k ∙ ap (λ b. not (b || is_alignment v r c)) (fixed_parts v r c ∙ none _ _ _ i j l)
-  where
-    none : (a b d : Bool) → a ≡ false → b ≡ false → d ≡ false → ((a || b) || d) ≡ false
-    none a b d h k l = rw (h, k, l) refl
+pub region_free : (v r c : ℕ) → r < side_of v → c < side_of v → is_corner (side_of v) r c ≡ false → is_timing r c ≡ false → is_version_information v r c ≡ false → is_in_region v r c ≡ not (is_alignment v r c)
+region_free v r c h k i j l = rw (region-parts v r c h k, i, j, l) refl
 
 -- the same by the tests of these parts
 pub region_none : (v r c s : ℕ) (e : Bool) → s ≡ side_of v → r < s → c < s → false ≡ is_corner s r c → false ≡ is_timing r c → false ≡ is_version_information v r c → e ≡ is_alignment v r c → not e ≡ is_in_region v r c
 region_none v r c s e y h k i j l m =
-    let t = side_of v in
-    ap not m ∙ sym (region_free v r c (omega arith) (omega arith) (sym (i ∙ (ap (λ z. is_corner z r c) y ∙ corners-are t r c (omega arith) (omega arith)))) (sym (j ∙ timing-is t r c (omega arith) (omega arith))) (sym (l ∙ version-is v r c)))
+    ap not m ∙ sym (region_free v r c (omega arith) (omega arith) (sym (i ∙ ap (λ z. is_corner z r c) y)) (sym j) (sym l))
 
 -- if one part contains the place, some part contains it
 hidden : (a b d e : Bool) → ((a ≡ true) ⊎ ((b ≡ true) ⊎ (d ≡ true))) → (((a || b) || d) || e) ≡ true
@@ -206,17 +242,6 @@ is_inside s m = leb 2 m.row && leb (m.row + 3) s && leb 2 m.col && leb (m.col + 
 inside-is : (s : ℕ) (m : Module) → is_inside s m ≡ true → IsInside s m
 inside-is s m h = record { row_least = grind (arith, nat_tests); row_most = grind (arith, nat_tests); col_least = grind (arith, nat_tests); col_most = grind (arith, nat_tests) }
 
--- a test of each item of a list, and what it means
-all-of : {X : Type 0} (p : X → Bool) (P : X → Type 0) → ((x : X) → p x ≡ true → P x) → (xs : List X) → list_all p xs ≡ true → All P xs
-all-of p P f [] h = All-nil P
-all-of p P f (x ∷ xs) h = All-cons P x xs (f x (and_parts (p x) _ h).0) (all-of p P f xs (and_parts (p x) _ h).1)
-
--- a test that each version passes
-each-version : (p : ℕ → Bool) → below 40 (λ k. p (k + 1)) ≡ true → (v : ℕ) → 1 ≤ v → v ≤ 40 → p v ≡ true
-each-version p h v k l =
-    let e : v - 1 + 1 ≡ v = omega arith in
-    subst (λ (z : ℕ). p z ≡ true) e (below-at 40 (λ k. p (k + 1)) h (v - 1) (omega arith))
-
 -- the squares of the alignment patterns are inside, in each version, computed
 all-inside : below 40 (λ k. list_all (is_inside (side_of (k + 1))) (alignment_places (side_of (k + 1)) (centres_of (k + 1)))) ≡ true
 unfolding centres_of
@@ -225,19 +250,3 @@ all-inside = refl
 -- the squares of the alignment patterns are inside the symbol
 pub centres-inside : (v : ℕ) → 1 ≤ v → v ≤ 40 → All (IsInside (side_of v)) (alignment_places (side_of v) (centres_of v))
 centres-inside v h k = all-of (is_inside (side_of v)) (IsInside (side_of v)) (inside-is (side_of v)) _ (each-version (λ v. list_all (is_inside (side_of v)) (alignment_places (side_of v) (centres_of v))) all-inside v h k)
-
--- the rectangle is inside a symbol of side s
-abbrev is_within : ℕ → Rectangle → Bool
-is_within s b = leb b.top b.bottom && leb b.bottom s && leb b.left b.right && leb b.right s
-
--- what the test of such a rectangle means
-within-is : (s : ℕ) (b : Rectangle) → is_within s b ≡ true → IsWithin s b
-within-is s b h = record { rows = grind (arith, nat_tests); bottom = grind (arith, nat_tests); columns = grind (arith, nat_tests); right = grind (arith, nat_tests) }
-
--- the fixed rectangles are inside, in each version, computed
-all-within : below 40 (λ k. list_all (is_within (side_of (k + 1))) (fixed_rectangles (k + 1))) ≡ true
-all-within = refl
-
--- the fixed rectangles are inside the symbol
-pub fixed-within : (v : ℕ) → 1 ≤ v → v ≤ 40 → All (IsWithin (side_of v)) (fixed_rectangles v)
-fixed-within v h k = all-of (is_within (side_of v)) (IsWithin (side_of v)) (within-is (side_of v)) (fixed_rectangles v) (each-version (λ v. list_all (is_within (side_of v)) (fixed_rectangles v)) all-within v h k)

@@ -7,7 +7,7 @@ use borrow.Author.Tests.{ltb-true}
 use Rattle.qr_layout.specs.declared.level.Level.{Level}
 use Rattle.qr_layout.specs.declared.level.Level.TheVariants.{L, M, Q, H}
 use Rattle.qr_layout.specs.declared.format.TheConstants.{FORMAT_WORDS, VERSION_WORDS}
-use Rattle.qr_layout.specs.Format.{remainder_of, format_with, five_bits, format_word_of, version_word_of, level_bits, sum_of_shifts, IsWordRemainder, IsFormatWord, IsVersionWord}
+use Rattle.qr_layout.specs.Format.{format_generator, version_generator, word_remainder, format_with, five_bits, format_word_of, version_word_of, level_bits, sum_of_shifts, IsWordRemainder, IsFormatWord, IsVersionWord}
 use Rattle.qr_layout.proofs.lemmas.alignment.TableLemmas.{below, below-at}
 
 -- the two tables have the same format information at an index
@@ -16,7 +16,7 @@ formats i = eqb (get_or FORMAT_WORDS i 0) (format_with i)
 
 -- in each of 32 cases, computed
 all-formats : below 32 formats ≡ true
-unfolding formats remainder_of
+unfolding formats word_remainder
 all-formats = refl
 
 -- the two tables have the same version information at an index
@@ -25,7 +25,7 @@ versions i = eqb (get_or VERSION_WORDS i 0) (version_word_of (i + 7))
 
 -- in each of 34 versions, computed
 all-versions : below 34 versions ≡ true
-unfolding versions version_word_of remainder_of
+unfolding versions version_word_of word_remainder
 all-versions = refl
 
 -- the version information that the code takes from its table
@@ -50,26 +50,26 @@ shifts_of n divisor (suc k) x = cond (eqb (bit_at x (n + k)) 1) (k ∷ shifts_of
 
 -- the test of a remainder and its shifts
 is_remainder : ℕ → ℕ → ℕ → ℕ → Bool
-is_remainder n divisor k x = ltb (remainder_of n divisor k x) (2 ^ n) && eqb (bit_xor x (remainder_of n divisor k x)) (sum_of_shifts divisor (shifts_of n divisor k x))
+is_remainder n divisor k x = ltb (word_remainder n divisor k x) (2 ^ n) && eqb (bit_xor x (word_remainder n divisor k x)) (sum_of_shifts divisor (shifts_of n divisor k x))
 
 -- the remainders of the format information, computed
-format-remainders : below 32 (λ i. is_remainder 10 0x537 5 (i * 2 ^ 10)) ≡ true
-unfolding is_remainder remainder_of shifts_of
+format-remainders : below 32 (λ i. is_remainder 10 format_generator 5 (i * 2 ^ 10)) ≡ true
+unfolding is_remainder word_remainder shifts_of
 format-remainders = refl
 
 -- the remainders of the version information, computed
-version-remainders : below 41 (λ i. is_remainder 12 0x1F25 6 (i * 2 ^ 12)) ≡ true
-unfolding is_remainder remainder_of shifts_of
+version-remainders : below 41 (λ i. is_remainder 12 version_generator 6 (i * 2 ^ 12)) ≡ true
+unfolding is_remainder word_remainder shifts_of
 version-remainders = refl
 
 -- what the test of a remainder means
-passed : (n divisor k x : ℕ) → (2 ^ n ≤ divisor) × (divisor < 2 ^ (n + 1)) → is_remainder n divisor k x ≡ true → IsWordRemainder n divisor x (remainder_of n divisor k x)
+passed : (n divisor k x : ℕ) → (2 ^ n ≤ divisor) × (divisor < 2 ^ (n + 1)) → is_remainder n divisor k x ≡ true → IsWordRemainder n divisor x (word_remainder n divisor k x)
 unfolding is_remainder
 passed n divisor k x d h = record {
   monic = d;
-  small = ltb-true _ _ (and_parts (ltb (remainder_of n divisor k x) (2 ^ n)) _ h).0;
+  small = ltb-true _ _ (and_parts (ltb (word_remainder n divisor k x) (2 ^ n)) _ h).0;
   shifts = shifts_of n divisor k x;
-  multiple = eqb-true _ _ (and_parts (ltb (remainder_of n divisor k x) (2 ^ n)) _ h).1;
+  multiple = eqb-true _ _ (and_parts (ltb (word_remainder n divisor k x) (2 ^ n)) _ h).1;
 }
 
 -- two bits of the level and three of the mask are below 32
@@ -83,8 +83,8 @@ five-small H mask h = omega arith
 pub format-word-remainder : (l : Level) (mask : ℕ) → mask < 8 → IsFormatWord (five_bits l mask) (format_word_of l mask)
 unfolding format_word_of
 format-word-remainder l mask h = record {
-  rest = remainder_of 10 0x537 5 (five_bits l mask * 2 ^ 10);
-  remainder = passed 10 0x537 5 (five_bits l mask * 2 ^ 10) (omega arith, omega arith) (below-at 32 (λ i. is_remainder 10 0x537 5 (i * 2 ^ 10)) format-remainders (five_bits l mask) (five-small l mask h));
+  rest = word_remainder 10 format_generator 5 (five_bits l mask * 2 ^ 10);
+  remainder = passed 10 format_generator 5 (five_bits l mask * 2 ^ 10) (omega arith, omega arith) (below-at 32 (λ i. is_remainder 10 format_generator 5 (i * 2 ^ 10)) format-remainders (five_bits l mask) (five-small l mask h));
   word_is = refl;
 }
 
@@ -92,7 +92,7 @@ format-word-remainder l mask h = record {
 pub version-word-remainder : (v : ℕ) → v ≤ 40 → IsVersionWord v (version_word_of v)
 unfolding version_word_of
 version-word-remainder v h = record {
-  rest = remainder_of 12 0x1F25 6 (v * 2 ^ 12);
-  remainder = passed 12 0x1F25 6 (v * 2 ^ 12) (omega arith, omega arith) (below-at 41 (λ i. is_remainder 12 0x1F25 6 (i * 2 ^ 12)) version-remainders v (omega arith));
+  rest = word_remainder 12 version_generator 6 (v * 2 ^ 12);
+  remainder = passed 12 version_generator 6 (v * 2 ^ 12) (omega arith, omega arith) (below-at 41 (λ i. is_remainder 12 version_generator 6 (i * 2 ^ 12)) version-remainders v (omega arith));
   word_is = refl;
 }

@@ -1,5 +1,5 @@
 -- The number of modules of the encoding region, computed: for each row only the rectangles that meet the row are checked.
-use Rattle.std.proofs.Common.{◌≡◌, ℕ, ◌+◌, ◌<◌, Bool, true, false, not, ◌&&◌, ◌||◌, cond, eqb, ltb, leb, List, [], ◌∷◌, refl, ap, ◌∙◌}
+use Rattle.std.proofs.Common.{◌≡◌, ℕ, ◌+◌, ◌<◌, ◌≤◌, Bool, true, false, not, ◌&&◌, ◌||◌, cond, eqb, ltb, leb, List, [], ◌∷◌, refl, ap, ◌∙◌}
 use Rattle.std.specs.List.{list_any, filter}
 use Rattle.qr_layout.specs.Region.{is_in_region}
 use Rattle.qr_layout.specs.declared.rectangles.Rectangle.{Rectangle}
@@ -47,12 +47,12 @@ any-filter r c (b ∷ bs) = ap (λ z. z || list_any (is_in_rectangle r c) bs) (i
     one false = refl
 
 -- a place inside the square is in the region if no rectangle of its row contains it
-region-free : (v r c : ℕ) → r < side_of v → c < side_of v → is_in_region v r c ≡ not (list_any (is_in_columns c) (filter (is_in_rows r) (taken_rectangles v)))
-region-free v r c h k = region_taken v r c h k ∙ ap not (any-filter r c (taken_rectangles v))
+region-free : (v r c : ℕ) → 1 ≤ v → v ≤ 40 → r < side_of v → c < side_of v → is_in_region v r c ≡ not (list_any (is_in_columns c) (filter (is_in_rows r) (taken_rectangles v)))
+region-free v r c l m h k = region_taken v r c l m h k ∙ ap not (any-filter r c (taken_rectangles v))
 
 -- the places of the region, counted row by row
-pub region-count : (v : ℕ) → places_passing (side_of v) (is_in_region v) ≡ free_of (side_of v) (taken_rectangles v)
-region-count v = places-sum (side_of v) (is_in_region v) ∙ sum_below-same (side_of v) _ _ (λ r h. sum_below-same (side_of v) _ _ (λ c k. ap (λ z. cond z 1 0) (region-free v r c h k)))
+pub region-count : (v : ℕ) → 1 ≤ v → v ≤ 40 → places_passing (side_of v) (is_in_region v) ≡ free_of (side_of v) (taken_rectangles v)
+region-count v l m = places-sum (side_of v) (is_in_region v) ∙ sum_below-same (side_of v) _ _ (λ r h. sum_below-same (side_of v) _ _ (λ c k. ap (λ z. cond z 1 0) (region-free v r c l m h k)))
 
 -- the count of one version is what its codewords and remainder bits need
 abbrev pub agrees : ℕ → Bool

@@ -47,7 +47,7 @@ only_order v ms ns o p = search (arith, one_rising, asym, Rises-of-pairs, order-
 
 -- the region of each version has as many places as its codewords and remainder bits need
 count-at : (i : ℕ) → i < 40 → places_passing (side_of (i + 1)) (is_in_region (i + 1)) ≡ module_count_of (i + 1)
-count-at i l = region-count (i + 1) ∙ eqb-true _ _ (below-at 40 agrees agrees-40 i l)
+count-at i l = region-count (i + 1) (omega arith) (omega arith) ∙ eqb-true _ _ (below-at 40 agrees agrees-40 i l)
 
 -- the forty sizes, computed
 sizes-agree : below 40 (λ i. eqb (module_count_of (i + 1)) (region_size (i + 1))) ≡ true

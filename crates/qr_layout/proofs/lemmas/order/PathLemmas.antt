@@ -1,5 +1,5 @@
 -- The positions of the walk: each step leaves one position fewer, and a position with fewer positions left has a later
--- key.
+-- key. Here v is a version, and s the side of its square.
 use Rattle.std.proofs.Common.{◌≡◌, ℕ, zero, suc, ◌+◌, ◌-◌, ◌*◌, ◌/◌, ◌%◌, ◌<◌, ◌≤◌, Bool, true, false, cond, eqb, ◌⊎◌, arith}
 use Rattle.std.proofs.Math.Nat.{mul-le-mul_right}
 use Rattle.std.proofs.lemmas.Bool.Decides.{nat_tests}
@@ -21,12 +21,12 @@ mul-add_one q p w e = rw e (omega arith)
 mul-pred : (p w : ℕ) → 0 < p → (p - 1) * w + w ≡ p * w
 mul-pred p w h = mul-add_one (p - 1) p w (omega arith)
 
--- in a square of side s, the position after position a has one position fewer left than a
+-- the position after position a has one position fewer left than a
 pub next-left : (s : ℕ) (a : Cursor) → 0 < a.strips → a.row < s → left_of s (next_of s a) + 1 ≡ left_of s a
 unfolding left_of next_of
 next-left s a h k = search (arith, mul-le_one, mul-pred, nat_tests)
 
--- in version v, the position after position a of the walk is a position of the walk or the end of the walk
+-- the position after position a of the walk is a position of the walk or the end of the walk
 pub next-IsCursor : (v : ℕ) (a : Cursor) → IsCursor v a → 0 < a.strips → IsCursor v (next_of (side_of v) a)
 unfolding next_of
 next-IsCursor v a k h = search (arith, nat_tests)
@@ -40,8 +40,8 @@ half_of-bound false = omega arith
 column-back : (a : Cursor) → 0 < a.strips → column_without_timing (place_of a).col ≡ 2 * a.strips - 1 - half_of a.at_left
 column-back a k = grind (arith, nat_tests)
 
--- in version v, if c is the number that half h of strip p has when column 6 is left out, then c is in the strip with
--- number 8 + 2 * v - p from the right
+-- if c is the number that half h of strip p has when column 6 is left out, then c is in the strip with number
+-- 8 + 2 * v - p from the right
 strip-arith : (v p h c : ℕ) → c ≡ 2 * p - 1 - h → 0 < p → p ≤ 8 + 2 * v → h < 2 → (side_of v - 2 - c) / 2 ≡ 8 + 2 * v - p
 strip-arith v p h c e k m l = omega arith
 
@@ -54,11 +54,11 @@ side-arith : (p : ℕ) (b : Bool) → 0 < p → cond (eqb ((2 * p - 1 - half_of 
 side-arith p true k = grind (arith, nat_tests)
 side-arith p false k = grind (arith, nat_tests)
 
--- in version v, the module at position a is in the strip with number 8 + 2 * v - a.strips from the right
+-- the module at position a is in the strip with number 8 + 2 * v - a.strips from the right
 key-strip : (v : ℕ) (a : Cursor) → IsCursor v a → 0 < a.strips → strip_of v (place_of a).col ≡ 8 + 2 * v - a.strips
 key-strip v a i k = search (arith, half_of-bound, strip-arith, column-back)
 
--- in version v, the key of the module at position a has the strip, the rank and the half of a
+-- the key of the module at position a has the strip, the rank and the half of a
 key_of-place : (v : ℕ) (a : Cursor) → IsCursor v a → 0 < a.strips → key_of v (place_of a) ≡ record { strip = 8 + 2 * v - a.strips; rank = rank_of (side_of v) a; side = half_of a.at_left }
 unfolding key_of
 key_of-place v a i k = search (arith, key-strip, column-back, parity-arith, side-arith)
@@ -95,8 +95,7 @@ before-test : (a b : Key) → KeysRise a b → is_before a b ≡ true
 unfolding is_before
 before-test a b h = grind (arith, nat_tests)
 
--- in version v, if position b has fewer positions left than position a, then the module at b has a later key than the
--- module at a
+-- if position b has fewer positions left than position a, then the module at b has a later key than the module at a
 pub is_before-left : (v : ℕ) (a b : Cursor) → IsCursor v a → IsCursor v b → 0 < a.strips → 0 < b.strips → left_of (side_of v) b < left_of (side_of v) a → is_before (key_of v (place_of a)) (key_of v (place_of b)) ≡ true
 unfolding left_of
 is_before-left v a b i j k l m =

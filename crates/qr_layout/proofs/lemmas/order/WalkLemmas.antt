@@ -1,4 +1,4 @@
--- The modules that the walk visits are the order of the version.
+-- The modules that the walk visits are the order of the version. Here v is a version, and s the side of its square.
 use Rattle.std.proofs.Common.{◌≡◌, ℕ, zero, suc, ◌+◌, ◌-◌, ◌*◌, ◌<◌, ◌≤◌, Bool, true, false, cond, List, [], ◌∷◌, ◌++◌, length, get_or, refl, sym, ap, ◌∙◌, subst, inl, inr, arith}
 use Rattle.std.proofs.Math.Nat.{mul-le-mul_right}
 use Rattle.std.proofs.lemmas.Bool.{cases_lt}
@@ -65,17 +65,17 @@ half_of-same true false e = absurd (omega arith)
 half_of-same false true e = absurd (omega arith)
 half_of-same false false e = refl
 
--- two rows x and y of a square of side s that have the same rank in a strip are the same row
+-- two rows x and y that have the same rank in a strip are the same row
 rank-same : (s x y : ℕ) (u : Bool) → x < s → y < s → cond u (s - 1 - x) x ≡ cond u (s - 1 - y) y → x ≡ y
 rank-same s x y true k l e = omega arith
 rank-same s x y false k l e = e
 
--- in version v, a position a in a strip has at least one position left, because a itself is counted
+-- a position a in a strip has at least one position left, because a itself is counted
 left-positive : (v : ℕ) (a : Cursor) → IsCursor v a → 0 < a.strips → 0 < left_of (side_of v) a
 unfolding left_of
 left-positive v a i k = search (arith, mul-le_one, rank-bound, half_of-bound)
 
--- in version v, two positions a and b with equally many positions left are the same position
+-- two positions a and b with equally many positions left are the same position
 same-cursor : (v : ℕ) (a b : Cursor) → IsCursor v a → IsCursor v b → 0 < a.strips → 0 < b.strips → left_of (side_of v) a ≡ left_of (side_of v) b → a ≡ b
 unfolding left_of
 same-cursor v a b i j k l e =
@@ -149,7 +149,7 @@ finds v (suc n) a b i e j l h t =
 
 -- ---- the beginning, and the position of a place
 
--- in version v, the position at which the walk begins is a position of the walk
+-- the position at which the walk begins is a position of the walk
 pub start-IsCursor : (v : ℕ) → IsCursor v (first_cursor v)
 start-IsCursor v = record { strips_in = omega arith; row_in = omega arith }
 
@@ -158,7 +158,7 @@ pub at-strips : (m : Module) → 0 < (cursor_at m).strips
 unfolding cursor_at
 at-strips m = omega arith
 
--- the position of each module m of the square of version v is a position of the walk
+-- the position of each module m of the square is a position of the walk
 pub at-IsCursor : (v : ℕ) (m : Module) → m.row < side_of v → m.col < side_of v → IsCursor v (cursor_at m)
 unfolding cursor_at
 at-IsCursor v m h k = record { strips_in = grind (arith, nat_tests); row_in = h }
@@ -173,7 +173,7 @@ pub start-left : (v : ℕ) → left_of (side_of v) (first_cursor v) ≡ (8 + 2 *
 unfolding left_of
 start-left v = grind (arith, nat_tests)
 
--- in version v, no position b has more positions left than the beginning of the walk
+-- no position b has more positions left than the beginning of the walk
 start-most : (v : ℕ) (b : Cursor) → IsCursor v b → left_of (side_of v) b ≤ left_of (side_of v) (first_cursor v)
 unfolding left_of
 start-most v b j = search (arith, mul-le-mul_right, start-left)
@@ -232,8 +232,7 @@ pub to_come-end : (v : ℕ) (a : Cursor) → a.strips ≡ 0 → to_come v a ≡ 
 unfolding to_come left_of
 to_come-end v a e = search (arith, places-nil)
 
--- in version v, the modules that the walk yields after the position of module m are the modules that come after m in the
--- order
+-- the modules that the walk yields after the position of module m are the modules that come after m in the order
 pub after : (v : ℕ) (m : Module) → InRegion v m → IsOrderAfter v m (to_come v (next_of (side_of v) (cursor_at m)))
 unfolding to_come
 after v m h =

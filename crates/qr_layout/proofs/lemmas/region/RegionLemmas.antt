@@ -1,5 +1,4 @@
--- Each module of the encoding region is in a row and a column inside the square, and not in column 6. Besides, there are
--- small facts of tests.
+-- A module of the encoding region is inside the square, and not in column 6. There are small facts of tests, too.
 use Rattle.std.proofs.Common.{◌≡◌, ℕ, ◌<◌, Bool, true, false, not, ◌&&◌, ◌||◌, ltb, refl, arith}
 use Rattle.std.proofs.lemmas.Bool.{and_parts}
 use Rattle.std.proofs.lemmas.Bool.Decides.{nat_tests}

@@ -4,7 +4,7 @@ use Rattle.std.proofs.lemmas.Bool.Decides.{nat_tests}
 use Rattle.std.proofs.lemmas.Bool.{cases_lt, cases_Bool}
 use Rattle.std.specs.List.{find, range_with_len}
 use Rattle.qr_layout.specs.Version.{side_of}
-use Rattle.qr_layout.specs.Role.{first_place, second_place, version_place, transposed, is_at, format_bit_at, version_bit_at}
+use Rattle.qr_layout.specs.Role.{first_place, second_place, version_place, mirror_of, is_at, format_bit_at, version_bit_at}
 
 -- the only one of n numbers from a on that passes the test is the one that is found
 found-some : (n a : ℕ) (p : ℕ → Bool) (i : ℕ) → a ≤ i → i < a + n → p i ≡ true → ((j : ℕ) → a ≤ j → j < a + n → p j ≡ true → j ≡ i) → find p (range_with_len a n) ≡ Some i
@@ -129,7 +129,7 @@ format-off s r c l a d = format-none s r c (λ j b h. grind (arith, nat_tests))
 
 -- bit i of the version information is at (r, c)
 abbrev pub stands_for_version : ℕ → ℕ → ℕ → ℕ → Bool
-stands_for_version s r c i = is_at (version_place s i) r c || is_at (transposed (version_place s i)) r c
+stands_for_version s r c i = is_at (version_place s i) r c || is_at (mirror_of (version_place s i)) r c
 
 -- no two bits of the version information are at one place
 only-version : (s r c i j : ℕ) → 21 ≤ s → i < 18 → j < 18 → stands_for_version s r c i ≡ true → stands_for_version s r c j ≡ true → j ≡ i

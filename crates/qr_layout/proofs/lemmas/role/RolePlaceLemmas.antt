@@ -1,20 +1,19 @@
 -- Which places contain the bits of the format and version information. All places that contain no such bit and have no fixed
 -- colour are the encoding region.
-use Rattle.std.proofs.Common.{◌≡◌, ℕ, ◌+◌, ◌-◌, ◌%◌, ◌<◌, ◌≤◌, Bool, true, false, not, ◌&&◌, ◌||◌, cond, eqb, ltb, [], ◌∷◌, Option, None, Some, refl, sym, ap, ◌∙◌, subst, inl, inr, ◌⊎◌, arith}
+use Rattle.std.proofs.Common.{◌≡◌, ℕ, ◌+◌, ◌-◌, ◌%◌, ◌<◌, ◌≤◌, Bool, true, false, not, ◌||◌, cond, eqb, ltb, leb, Option, None, Some, refl, sym, ap, ◌∙◌, subst, inl, inr, ◌⊎◌, arith}
 use Rattle.std.proofs.lemmas.Bool.Decides.{nat_tests}
 use Rattle.std.proofs.lemmas.Bool.{cases_lt, and_parts, eqb-true, cases_Bool}
-use Rattle.std.specs.List.{find, list_any, range_with_len}
+use Rattle.std.specs.List.{find, range_with_len}
 use Rattle.std.specs.Option.{option_map_or}
 use Rattle.qr_layout.specs.declared.region.Module.{Module}
 use Rattle.qr_layout.specs.declared.role.Role.{Role}
 use Rattle.qr_layout.specs.declared.role.Role.TheVariants.{Fixed, FormatBit, VersionBit, Region}
 use Rattle.qr_layout.specs.Version.{side_of}
 use Rattle.qr_layout.specs.Alignment.{centres_of}
-use Rattle.qr_layout.specs.Region.{is_alignment, is_in_region}
-use Rattle.qr_layout.specs.Rectangles.{is_in_rectangle, corner_rectangles, timing_rectangles, version_rectangles}
-use Rattle.qr_layout.specs.Role.{finder_ring, is_alignment_light, pattern_colour, first_place, second_place, version_place, transposed, is_at, format_bit_at, version_bit_at, is_dark_module, role_of}
+use Rattle.qr_layout.specs.Region.{is_alignment, is_corner, is_in_region, is_timing, is_version_information}
+use Rattle.qr_layout.specs.Role.{finder_ring, is_alignment_light, pattern_colour, first_place, second_place, version_place, mirror_of, is_at, format_bit_at, version_bit_at, is_dark_module, role_of}
 use Rattle.qr_layout.proofs.lemmas.alignment.TableLemmas.{below, below-at}
-use Rattle.qr_layout.proofs.lemmas.alignment.AlignmentLemmas.{region_free, region_parts}
+use Rattle.qr_layout.proofs.lemmas.alignment.AlignmentLemmas.{region_free, region-parts}
 use Rattle.qr_layout.proofs.lemmas.role.RoleLemmas.{either, first-at, format-top, format-bend, format-foot, format-left, format-seven, format-right, format-no_row, format-no_column, format-off, in_block, version-small, version-right, version-below, version-neither}
 
 -- the choice of a role, over what its parts say
@@ -75,16 +74,16 @@ old-enough v i o h = elim (cases_lt v 7) [
 ]
 
 -- a bit of the version information that is found is at one of its two places
-found-version : (v : ℕ) (m : Module) (i : ℕ) → version_bit_at v m.row m.col ≡ Some i → (7 ≤ v) × (i < 18) × ((m ≡ version_place (side_of v) i) ⊎ (m ≡ transposed (version_place (side_of v) i)))
+found-version : (v : ℕ) (m : Module) (i : ℕ) → version_bit_at v m.row m.col ≡ Some i → (7 ≤ v) × (i < 18) × ((m ≡ version_place (side_of v) i) ⊎ (m ≡ mirror_of (version_place (side_of v) i)))
 unfolding version_bit_at
 found-version v m i h =
-    let p : ℕ → Bool = λ i. is_at (version_place (side_of v) i) m.row m.col || is_at (transposed (version_place (side_of v) i)) m.row m.col in
+    let p : ℕ → Bool = λ i. is_at (version_place (side_of v) i) m.row m.col || is_at (mirror_of (version_place (side_of v) i)) m.row m.col in
     let o = old-enough v i (find p (range_with_len 0 18)) h in
     let w = first-at 18 p i o.1 in
-    (o.0, w.0, either-place m (version_place (side_of v) i) (transposed (version_place (side_of v) i)) w.1)
+    (o.0, w.0, either-place m (version_place (side_of v) i) (mirror_of (version_place (side_of v) i)) w.1)
 
 -- a bit of the version information is only at its two places
-pub version-only : (v : ℕ) (m : Module) (i : ℕ) → role_of v m.row m.col ≡ VersionBit i → (7 ≤ v) × (i < 18) × ((m ≡ version_place (side_of v) i) ⊎ (m ≡ transposed (version_place (side_of v) i)))
+pub version-only : (v : ℕ) (m : Module) (i : ℕ) → role_of v m.row m.col ≡ VersionBit i → (7 ≤ v) × (i < 18) × ((m ≡ version_place (side_of v) i) ⊎ (m ≡ mirror_of (version_place (side_of v) i)))
 version-only v m i h = found-version v m i (with-version (pattern_colour v m.row m.col) _ (format_bit_at (side_of v) m.row m.col) _ i (sym (role-with v m.row m.col) ∙ h))
 
 -- the tests of a role, and what they mean
@@ -202,7 +201,7 @@ version-first v i h k l =
     let t = below-at 18 (λ i. is_version i (role_of (v - 7 + 7) (version_place (side_of (v - 7 + 7)) i).row (version_place (side_of (v - 7 + 7)) i).col)) (below-at 34 version_first all-version_first (v - 7) (omega arith)) i l in
     is_version-same i _ (subst (λ (u : ℕ). is_version i (role_of u (version_place (side_of u) i).row (version_place (side_of u) i).col) ≡ true) e t)
 
--- each bit of the version information is at the transposed place
+-- each bit of the version information is at the place with row and column exchanged
 pub version-second : (v i : ℕ) → 7 ≤ v → v ≤ 40 → i < 18 → role_of v (version_place (side_of v) i).col (version_place (side_of v) i).row ≡ VersionBit i
 unfolding version_second
 version-second v i h k l =
@@ -319,7 +318,7 @@ far-off : (s r c : ℕ) → 21 ≤ s → (7 < r) ⊎ (7 < c) → (7 < r) ⊎ (c 
 far-off s r c l h k m = grind (arith, nat_tests)
 
 -- a place of the corners: near a finder pattern, or in row 8 or column 8 beside it
-corner-cases : (s r c : ℕ) → 21 ≤ s → list_any (is_in_rectangle r c) (corner_rectangles s) ≡ true → ((r ≤ 8) × (c ≤ 8)) ⊎ (((r ≤ 8) × (s - 8 ≤ c)) ⊎ ((s - 8 ≤ r) × (c ≤ 8)))
+corner-cases : (s r c : ℕ) → 21 ≤ s → is_corner s r c ≡ true → ((r ≤ 8) × (c ≤ 8)) ⊎ (((r ≤ 8) × (s - 8 ≤ c)) ⊎ ((s - 8 ≤ r) × (c ≤ 8)))
 corner-cases s r c l h = grind (arith, nat_tests)
 
 -- the top left corner has only patterns and bits
@@ -367,7 +366,7 @@ truth true f = absurd (f refl)
 truth false f = refl
 
 -- a place that is in no pattern, contains no bit and is not the dark module is outside the corners
-corners-free : (s r c : ℕ) → 21 ≤ s → r < s → c < s → 5 ≤ finder_ring s r c → (r ≡ 6 → ⊥) → (c ≡ 6 → ⊥) → is_dark_module s r c ≡ false → format_bit_at s r c ≡ None → list_any (is_in_rectangle r c) (corner_rectangles s) ≡ false
+corners-free : (s r c : ℕ) → 21 ≤ s → r < s → c < s → 5 ≤ finder_ring s r c → (r ≡ 6 → ⊥) → (c ≡ 6 → ⊥) → is_dark_module s r c ≡ false → format_bit_at s r c ≡ None → is_corner s r c ≡ false
 corners-free s r c l i j k m n d f = truth _ (λ h. elim (corner-cases s r c l h) [
   | inl w ↦ corner-left s r c l k m n f w.0 w.1
   | inr u ↦ elim u [
@@ -383,7 +382,7 @@ record IsOffCorners (s r c : ℕ) : Type 0 where
   off_below : (r < s - 8) ⊎ (8 < c)
 
 -- what it means to be off the corners
-off-corners : (s r c : ℕ) → 21 ≤ s → r < s → c < s → list_any (is_in_rectangle r c) (corner_rectangles s) ≡ false → IsOffCorners s r c
+off-corners : (s r c : ℕ) → 21 ≤ s → r < s → c < s → is_corner s r c ≡ false → IsOffCorners s r c
 off-corners s r c l i j h = record { off_left = grind (arith, nat_tests); off_right = grind (arith, nat_tests); off_below = grind (arith, nat_tests) }
 
 -- a place off the corners is beyond ring 4 of the finder patterns
@@ -421,30 +420,27 @@ corner-no_format s r c l w = elim (cases_Bool (eqb c 8)) [
 -- ---- the timing patterns and the blocks of version information
 
 -- a place off row 6 and column 6 is on no timing pattern
-timing-free : (s r c : ℕ) → (r ≡ 6 → ⊥) → (c ≡ 6 → ⊥) → list_any (is_in_rectangle r c) (timing_rectangles s) ≡ false
-timing-free s r c h k = grind (arith, nat_tests)
+timing-free : (r c : ℕ) → (r ≡ 6 → ⊥) → (c ≡ 6 → ⊥) → is_timing r c ≡ false
+timing-free r c h k = grind (arith, nat_tests)
 
 -- a place on no timing pattern is not in row 6
-timing-row : (s r c : ℕ) → c < s → list_any (is_in_rectangle r c) (timing_rectangles s) ≡ false → r ≡ 6 → ⊥
-timing-row s r c l h e = grind (arith, nat_tests)
+timing-row : (r c : ℕ) → is_timing r c ≡ false → r ≡ 6 → ⊥
+timing-row r c h e = grind (arith, nat_tests)
 
 -- a place on no timing pattern is not in column 6
-timing-column : (s r c : ℕ) → r < s → list_any (is_in_rectangle r c) (timing_rectangles s) ≡ false → c ≡ 6 → ⊥
-timing-column s r c l h e = grind (arith, nat_tests)
+timing-column : (r c : ℕ) → is_timing r c ≡ false → c ≡ 6 → ⊥
+timing-column r c h e = grind (arith, nat_tests)
 
 -- the two blocks of version information, as tests
-blocks-tests : (v r c : ℕ) → 7 ≤ v → list_any (is_in_rectangle r c) (version_rectangles v (side_of v)) ≡ (in_block (side_of v) r c || in_block (side_of v) c r)
-blocks-tests v r c h = let t : ltb v 7 ≡ false = grind (arith, nat_tests) in rw t (tests (side_of v) r c)
-  where
-    tests : (s r c : ℕ) → list_any (is_in_rectangle r c) (record { top = 0; bottom = 6; left = s - 11; right = s - 8 } ∷ record { top = s - 11; bottom = s - 8; left = 0; right = 6 } ∷ []) ≡ (in_block s r c || in_block s c r)
-    tests s r c = grind (arith, nat_tests)
+blocks-tests : (v r c : ℕ) → 7 ≤ v → is_version_information v r c ≡ (in_block (side_of v) r c || in_block (side_of v) c r)
+blocks-tests v r c h = let t : leb 7 v ≡ true = grind (arith, nat_tests) in rw t refl
 
 -- versions below 7 have no block of version information
-blocks-none : (v r c : ℕ) → v < 7 → list_any (is_in_rectangle r c) (version_rectangles v (side_of v)) ≡ false
-blocks-none v r c h = let t : ltb v 7 ≡ true = grind (arith, nat_tests) in rw t refl
+blocks-none : (v r c : ℕ) → v < 7 → is_version_information v r c ≡ false
+blocks-none v r c h = let t : leb 7 v ≡ false = grind (arith, nat_tests) in rw t refl
 
 -- a place has no bit of the version information exactly if it is in no block of version information
-version-free : (v r c : ℕ) → version_bit_at v r c ≡ None → list_any (is_in_rectangle r c) (version_rectangles v (side_of v)) ≡ false
+version-free : (v r c : ℕ) → version_bit_at v r c ≡ None → is_version_information v r c ≡ false
 version-free v r c h = elim (cases_lt v 7) [
   | inl k ↦ blocks-none v r c k
   | inr k ↦ truth _ (λ t. elim (either (in_block (side_of v) r c) (in_block (side_of v) c r) (sym (blocks-tests v r c k) ∙ t)) [
@@ -454,7 +450,7 @@ version-free v r c h = elim (cases_lt v 7) [
 ]
 
 -- a place in no block has no bit of the version information
-free-version : (v r c : ℕ) → list_any (is_in_rectangle r c) (version_rectangles v (side_of v)) ≡ false → version_bit_at v r c ≡ None
+free-version : (v r c : ℕ) → is_version_information v r c ≡ false → version_bit_at v r c ≡ None
 free-version v r c h = elim (cases_lt v 7) [
   | inl k ↦ sym (version-small v r c k)
   | inr k ↦ let w = neither (in_block (side_of v) r c) (in_block (side_of v) c r) (sym (blocks-tests v r c k) ∙ h) in sym (version-neither v (side_of v) r c false false k refl (sym w.0) refl (sym w.1) refl)
@@ -474,22 +470,20 @@ record IsClear (a b d e : Bool) : Type 0 where
   no_alignment : e ≡ false
 
 -- a place of the region is in no part
-clear : (p q a b d e : Bool) → (p && q && not (((a || b) || d) || e)) ≡ true → IsClear a b d e
-clear true true false false false false h = record { no_corner = refl; no_timing = refl; no_version = refl; no_alignment = refl }
-clear true true false false false true h = cc
-clear true true false false true e h = cc
-clear true true false true d e h = cc
-clear true true true b d e h = cc
-clear true false a b d e h = cc
-clear false q a b d e h = cc
+clear : (a b d e : Bool) → not (((a || b) || d) || e) ≡ true → IsClear a b d e
+clear false false false false h = record { no_corner = refl; no_timing = refl; no_version = refl; no_alignment = refl }
+clear false false false true h = cc
+clear false false true e h = cc
+clear false true d e h = cc
+clear true b d e h = cc
 
 -- a module of the encoding region has the role Region
 pub region-role : (v r c : ℕ) → 1 ≤ v → r < side_of v → c < side_of v → is_in_region v r c ≡ true → role_of v r c ≡ Region
 region-role v r c l i j h =
     let s = side_of v in
-    let w = clear (ltb r s) (ltb c s) (list_any (is_in_rectangle r c) (corner_rectangles s)) (list_any (is_in_rectangle r c) (timing_rectangles s)) (list_any (is_in_rectangle r c) (version_rectangles v s)) (is_alignment v r c) (sym (region_parts v r c) ∙ h) in
+    let w = clear (is_corner s r c) (is_timing r c) (is_version_information v r c) (is_alignment v r c) (sym (region-parts v r c i j) ∙ h) in
     let o = off-corners s r c (omega arith) i j w.no_corner in
-    let p = none-pattern v r c (corner-far s r c (omega arith) o) (timing-row s r c j w.no_timing) (timing-column s r c i w.no_timing) w.no_alignment in
+    let p = none-pattern v r c (corner-far s r c (omega arith) o) (timing-row r c w.no_timing) (timing-column r c w.no_timing) w.no_alignment in
     role-with v r c ∙ free-region _ _ _ _ p (corner-not_dark s r c (omega arith) o) (corner-no_format s r c (omega arith) o) (free-version v r c w.no_version)
 
 -- beyond ring 4
@@ -509,17 +503,17 @@ role-region v r c l i j h =
     let m = not-six r p.off_row in
     let n = not-six c p.off_column in
     let a = corners-free s r c (omega arith) i j (ring-far (finder_ring s r c) p.off_finder p.off_separator) m n w.not_dark w.no_format in
-    region_free v r c i j a (timing-free s r c m n) (version-free v r c w.no_version) ∙ ap not p.off_alignment
+    region_free v r c i j a (timing-free r c m n) (version-free v r c w.no_version) ∙ ap not p.off_alignment
 
 -- a place off the corners, the timing patterns and the version information is in an alignment pattern or in the region
-pub off-role : (v r c : ℕ) → 1 ≤ v → r < side_of v → c < side_of v → list_any (is_in_rectangle r c) (corner_rectangles (side_of v)) ≡ false → list_any (is_in_rectangle r c) (timing_rectangles (side_of v)) ≡ false → list_any (is_in_rectangle r c) (version_rectangles v (side_of v)) ≡ false
+pub off-role : (v r c : ℕ) → 1 ≤ v → r < side_of v → c < side_of v → is_corner (side_of v) r c ≡ false → is_timing r c ≡ false → is_version_information v r c ≡ false
     → role_of v r c ≡ cond (is_alignment v r c) (Fixed (not (is_alignment_light v r c))) Region
 off-role v r c l i j ha ht hv =
     let s = side_of v in
     let o = off-corners s r c (omega arith) i j ha in
     let far = corner-far s r c (omega arith) o in
     role-with v r c
-    ∙ (ap (λ a. role_with a (is_dark_module s r c) (format_bit_at s r c) (version_bit_at v r c)) (off-pattern v r c far (timing-row s r c j ht) (timing-column s r c i ht))
+    ∙ (ap (λ a. role_with a (is_dark_module s r c) (format_bit_at s r c) (version_bit_at v r c)) (off-pattern v r c far (timing-row r c ht) (timing-column r c ht))
     ∙ by_alignment (is_alignment v r c) (not (is_alignment_light v r c)) (is_dark_module s r c) (format_bit_at s r c) (version_bit_at v r c) (corner-not_dark s r c (omega arith) o) (corner-no_format s r c (omega arith) o) (free-version v r c hv))
   where
     by_alignment : (e q t : Bool) (f g : Option ℕ) → t ≡ false → f ≡ None → g ≡ None → role_with (cond e (Some q) None) t f g ≡ cond e (Fixed q) Region

@@ -13,7 +13,7 @@ use Rattle.qr_layout.specs.declared.role.Role.TheVariants.{Fixed, FormatBit, Ver
 use Rattle.qr_layout.specs.Alignment.{centres_of, is_corner_pair}
 use Rattle.qr_layout.specs.Region.{is_alignment, ring_of}
 use Rattle.qr_layout.specs.Version.{side_of}
-use Rattle.qr_layout.specs.Role.{finder_ring, is_alignment_light, pattern_colour, first_place, second_place, version_place, transposed, is_at, format_bit_at, version_bit_at, is_dark_module, role_of}
+use Rattle.qr_layout.specs.Role.{finder_ring, is_alignment_light, pattern_colour, first_place, second_place, version_place, mirror_of, is_at, format_bit_at, version_bit_at, is_dark_module, role_of}
 use Rattle.qr_layout.proofs.lemmas.alignment.AlignmentLemmas.{any-places, list_any-same}
 use Rattle.qr_layout.proofs.lemmas.role.RoleLemmas.{first-at, format-top, format-bend, format-foot, format-left, format-seven, format-right, format-no_row, format-no_column, format-off}
 use Rattle.qr_layout.proofs.lemmas.region.SymmetryLemmas.{any-pairs, alignment-symmetric}
@@ -71,9 +71,9 @@ find-same p q e [] = refl
 find-same p q e (x ∷ xs) = ap (λ b. cond b (Some x) (find p xs)) (e x) ∙ ap (λ z. cond (q x) (Some x) z) (find-same p q e xs)
 
 -- a bit of the version information is at two places, which are each other's with row and column exchanged
-two-places : (m : Module) (r c : ℕ) → (is_at m r c || is_at (transposed m) r c) ≡ (is_at m c r || is_at (transposed m) c r)
+two-places : (m : Module) (r c : ℕ) → (is_at m r c || is_at (mirror_of m) r c) ≡ (is_at m c r || is_at (mirror_of m) c r)
 two-places m r c =
-    or_comm (is_at m r c) (is_at (transposed m) r c)
+    or_comm (is_at m r c) (is_at (mirror_of m) r c)
     ∙ (ap (λ b. b || is_at m r c) (and_comm (eqb m.col r) (eqb m.row c)) ∙ ap (λ b. is_at m c r || b) (and_comm (eqb m.row r) (eqb m.col c)))
 
 -- the bits of the version information

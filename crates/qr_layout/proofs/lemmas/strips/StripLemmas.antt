@@ -1,5 +1,5 @@
--- The places of the strips, one strip after the other, are the order of the version when the places outside the encoding
--- region are left out.
+-- The places of the strips, one strip after the other, are the order of the version when the places outside the
+-- encoding region are left out. Here v is a version, and s the side of its square.
 use Rattle.std.proofs.Common.{◌≡◌, ℕ, zero, suc, ◌+◌, ◌-◌, ◌*◌, ◌<◌, ◌≤◌, false, cond, List, [], ◌∷◌, ◌++◌, refl, sym, ap, ◌∙◌, arith}
 use Rattle.std.proofs.lemmas.List.Elements.{All-from_recursion}
 use Rattle.std.proofs.lemmas.Bool.Decides.{nat_tests}
@@ -64,18 +64,18 @@ kept v (suc n) a e =
 abbrev at_row : ℕ → ℕ → ℕ → Cursor
 at_row s p k = record { strips = p; row = cond (strip_at p).upward (s - 1 - k) k; at_left = false }
 
--- in a square of side s, two steps lead from row k of strip p to row k + 1 of this strip, if there is such a row
+-- two steps lead from row k of strip p to row k + 1 of this strip, if there is such a row
 next-row : (s p k : ℕ) → k + 1 < s → next_of s (next_of s (at_row s p k)) ≡ at_row s p (k + 1)
 unfolding next_of
 next-row s p k l = grind (arith, nat_tests)
 
--- in a square of side s, two steps lead from the last row of strip p + 1 to the first row of strip p
+-- two steps lead from the last row of strip p + 1 to the first row of strip p
 next-strip : (s p k : ℕ) → k + 1 ≡ s → next_of s (next_of s (at_row s (suc p) k)) ≡ at_row s p 0
 unfolding next_of
 next-strip s p k e = grind (arith, nat_tests)
 
--- in version v, the right places of n + 1 + m rows, from row k of strip p + 1 on, are the right places of the n + 1 rows
--- that are left in this strip, followed by the right places of m rows from strip p on
+-- the right places of n + 1 + m rows, from row k of strip p + 1 on, are the right places of the n + 1 rows that are
+-- left in this strip, followed by the right places of m rows from strip p on
 rows-then : (v p k n m : ℕ) → k + suc n ≡ side_of v → pairs_within v (suc n + m) (at_row (side_of v) (suc p) k) ≡ rows_from (side_of v) (strip_at (suc p)) k (suc n) ++ pairs_within v m (at_row (side_of v) p 0)
 rows-then v p k zero m e =
     let s = side_of v in
@@ -89,13 +89,13 @@ rows-then v p k (suc n) m e =
     ap (λ z. pairs_within v z a) q ∙ (pairs-suc v (suc n + m) a ∙ (ap (λ z. place_of a ∷ pairs_within v (suc n + m) z) (next-row s (suc p) k (omega arith))
     ∙ ap (λ (z : List Module). place_of a ∷ z) (rows-then v p (k + 1) n m (omega arith))))
 
--- the right places of all rows of the strips, in a square of side s
+-- the right places of all rows of the strips
 abbrev all_rows : ℕ → List Strip → List Module
 all_rows s [] = []
 all_rows s (x ∷ xs) = rows_from s x 0 s ++ all_rows s xs
 
--- in version v, the right places of all rows from the first row of strip p on are the right places of strip p and of the
--- strips to the left of it
+-- the right places of all rows from the first row of strip p on are the right places of strip p and of the strips to
+-- the left of it
 rows-all : (v p : ℕ) → pairs_within v (p * side_of v) (at_row (side_of v) p 0) ≡ all_rows (side_of v) (strips_to_come p)
 rows-all v zero = let e : zero * side_of v ≡ 0 = omega arith in ap (λ z. pairs_within v z (at_row (side_of v) 0 0)) e ∙ pairs-nil v (at_row (side_of v) 0 0)
 rows-all v (suc p) =
@@ -114,21 +114,21 @@ both-append : (xs ys : List Module) → both_of (xs ++ ys) ≡ both_of xs ++ bot
 both-append [] ys = refl
 both-append (x ∷ xs) ys = ap (λ (z : List Module). x ∷ record { row = x.row; col = x.col - 1 } ∷ z) (both-append xs ys)
 
--- in a square of side s, the right places of all rows of the strips xs, each followed by the place to the left of it, are
--- the places of the strips
+-- the right places of all rows of the strips xs, each followed by the place to the left of it, are the places of the
+-- strips
 places-both : (s : ℕ) (xs : List Strip) → both_of (all_rows s xs) ≡ places_of s xs
 places-both s [] = refl
 places-both s (x ∷ xs) = both-append (rows_from s x 0 s) (all_rows s xs) ∙ ap (λ (z : List Module). both_of (rows_from s x 0 s) ++ z) (places-both s xs)
 
--- in version v, the number of positions left at the beginning of the walk is twice the number of rows of all strips
+-- the number of positions left at the beginning of the walk is twice the number of rows of all strips
 left-start : (v : ℕ) → 2 * ((8 + 2 * v) * side_of v) ≡ left_of (side_of v) (first_cursor v)
 left-start v = omega (arith, start-left v)
 
--- in version v, the walk begins at the right place of the first row of the rightmost strip
+-- the walk begins at the right place of the first row of the rightmost strip
 start-row : (v : ℕ) → at_row (side_of v) (8 + 2 * v) 0 ≡ first_cursor v
 start-row v = grind (arith, nat_tests)
 
--- in version v, the places of all strips, when the places outside the encoding region are left out, are the order
+-- the places of all strips, when the places outside the encoding region are left out, are the order
 pub strips-order : (v n : ℕ) → n ≡ v → IsOrder v (in_region_of v (places_of (side_of v) (strips_to_come (8 + 2 * n))))
 unfolding to_come
 strips-order v n e =
@@ -136,7 +136,7 @@ strips-order v n e =
     let rows : pairs_within v ((8 + 2 * v) * side_of v) (first_cursor v) ≡ all_rows (side_of v) (strips_to_come (8 + 2 * v)) = ap (pairs_within v ((8 + 2 * v) * side_of v)) (sym (start-row v)) ∙ rows-all v (8 + 2 * v) in
     rw (h, ← places-both (side_of v) (strips_to_come (8 + 2 * v)), ← rows, kept v ((8 + 2 * v) * side_of v) (first_cursor v) refl, left-start v) (to_come-start v)
 
--- both columns of strip x are columns of the square of version v
+-- both columns of strip x are columns of the square
 abbrev pub Inside : ℕ → Strip → Type 0
 Inside v x = (1 ≤ x.right) × (x.right < side_of v)
 

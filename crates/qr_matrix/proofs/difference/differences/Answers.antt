@@ -1,6 +1,6 @@
 use Rattle.std.proofs.Common.{arith, ap, ◌∙◌, refl}
 use Rattle.qr_matrix.specs.Difference.{differs, difference_count}
-use Rattle.qr_matrix.specs.Penalty.{count_below, sum_below}
+use Rattle.qr_matrix.specs.Sums.{count_below, places_passing, sum_below}
 use Rattle.qr_matrix.proofs.lemmas.bit_row.SumLemmas.{sum_below-more}
 use Rattle.qr_matrix.proofs.lemmas.difference.DifferenceLemmas.{row-differs}
 use Rattle.qr_matrix.proofs.difference.differences.Goals as goal
@@ -17,7 +17,7 @@ loop-row-preserved c =
     }
 
 pub returns : goal.returns
-unfolding difference_count
+unfolding difference_count places_passing
 returns c =
     let g = c.args.a.now in
     let h = c.args.b.now in

@@ -1,5 +1,5 @@
 -- Conjunctions and negations of tests.
-use Rattle.std.proofs.Common.{◌≡◌, Bool, true, false, not, ◌&&◌, refl, sym, subst}
+use Rattle.std.proofs.Common.{◌≡◌, Bool, true, false, not, ◌&&◌, ◌||◌, refl, sym, subst}
 
 -- a conjunction with a second part that is false is false
 pub and-false : (a b : Bool) → b ≡ false → (a && b) ≡ false
@@ -19,3 +19,8 @@ not-not false = refl
 pub and-true : (a : Bool) → (a && true) ≡ a
 and-true true = refl
 and-true false = refl
+
+-- a disjunction with a part that is false is the other part
+pub or-false : (a : Bool) → (a || false) ≡ a
+or-false true = refl
+or-false false = refl

@@ -1,8 +1,11 @@
 -- The first bit of a bit row that is set.
-use Rattle.std.proofs.Common.{◌≡◌, ℕ, ◌+◌, ◌^◌, ◌<◌, Bool, true, false, w64, arith}
+use Rattle.std.proofs.Common.{◌≡◌, ℕ, zero, suc, ◌+◌, ◌^◌, ◌<◌, ◌≤◌, Bool, true, false, eqb, cond, [], ◌∷◌, refl, ap, ◌∙◌, inl, inr, w64, arith}
+use Rattle.std.proofs.lemmas.Bool.{cases_lt}
+use Rattle.std.proofs.lemmas.Bool.Decides.{nat_tests}
 use Rattle.std.specs.Int.{trailing_zeros}
 use Rattle.std.proofs.lemmas.Nat.Bits.{bit_at-trailing_zeros, bit_at-zero}
 use Rattle.qr_matrix.specs.BitRow.{has_bit}
+use Rattle.qr_matrix.specs.Steps.{columns_passing}
 use Rattle.qr_matrix.proofs.lemmas.bit_row.WordLemmas.{three}
 use Rattle.qr_matrix.proofs.lemmas.bit_row.PlaceLemmas.{has_bit-low, has_bit-middle, has_bit-high}
 
@@ -38,3 +41,37 @@ first-high a b d t z y p l e = search (arith, word-first, has_bit-low, none, has
 -- no bit is set
 pub first-none : (a b d c : ℕ) → a ≡ 0 → b ≡ 0 → d ≡ 0 → has_bit (three a b d) c ≡ false
 first-none a b d c z y x = none (three a b d) c (omega arith)
+
+-- ---- the columns that pass a test, one after the other
+
+-- tests that agree from column k to before k + n keep the same columns
+passing-same : (p q : ℕ → Bool) (k n : ℕ) → ((c : ℕ) → k ≤ c → p c ≡ q c) → columns_passing p k n ≡ columns_passing q k n
+unfolding columns_passing
+passing-same p q k zero e = refl
+passing-same p q k (suc n) e =
+    let s = passing-same p q (k + 1) n (λ c l. e c (omega arith)) in
+    λ i. cond (e k (omega arith) i) (k ∷ s i) (s i)
+
+-- a test that no column passes keeps none
+pub passing-none : (p : ℕ → Bool) (k n : ℕ) → ((c : ℕ) → c < k + n → p c ≡ false) → columns_passing p k n ≡ []
+unfolding columns_passing
+passing-none p k zero none = refl
+passing-none p k (suc n) none = rw (none k (omega arith)) (passing-none p (k + 1) n (λ c l. none c (omega arith)))
+
+-- if t is the first column that passes the test p, and the test q fails there alone of the columns that pass p, then the
+-- columns that pass p are t and those that pass q
+pub passing-first : (p q : ℕ → Bool) (t k n : ℕ) → k ≤ t → t < k + n → ((c : ℕ) → c < t → p c ≡ false) → p t ≡ true
+    → ((c : ℕ) → q c ≡ cond (eqb c t) false (p c)) → columns_passing p k n ≡ t ∷ columns_passing q k n
+unfolding columns_passing
+passing-first p q t k zero l m before here is = absurd (omega arith)
+passing-first p q t k (suc n) l m before here is = elim (cases_lt k t) [
+  | inl s ↦
+      let o = before k s in
+      let f : q k ≡ false = grind (arith, nat_tests, is k) in
+      rw (o, f) (passing-first p q t (k + 1) n (omega arith) (omega arith) before here is)
+  | inr s ↦
+      let e : k ≡ t = omega arith in
+      let o : p k ≡ true = ap p e ∙ here in
+      let f : q k ≡ false = grind (arith, nat_tests, is k) in
+      rw (o, f) (λ i. e i ∷ passing-same p q (k + 1) n (λ c h. grind (arith, nat_tests, is c)) i)
+]

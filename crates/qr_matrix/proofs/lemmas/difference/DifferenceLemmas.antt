@@ -2,10 +2,10 @@
 use Rattle.std.proofs.Common.{◌≡◌, ℕ, zero, suc, ◌<◌, ◌≤◌, Bool, true, false, not, cond, inl, inr, refl, sym, ap, ◌∙◌, arith}
 use Rattle.std.specs.Prelude.{List, ◌↔◌}
 use Rattle.std.proofs.lemmas.Bool.{cases_lt}
-use Rattle.qr_matrix.specs.Grid.{Grid, colour}
+use Rattle.qr_matrix.specs.Grid.{Grid, colour, is_same}
 use Rattle.qr_matrix.specs.BitRow.{has}
 use Rattle.qr_matrix.specs.Steps.{size_of}
-use Rattle.qr_matrix.specs.Penalty.{is_same, sum_below, count_below}
+use Rattle.qr_matrix.specs.Sums.{places_passing, sum_below, count_below}
 use Rattle.qr_matrix.specs.Difference.{differs, difference_count}
 use Rattle.qr_matrix.proofs.lemmas.runs.RowLemmas.{size-is}
 
@@ -54,7 +54,7 @@ sum-zero (suc n) f e = let here = e n (omega arith) in let rest = sum-zero n f (
 
 -- no place differs exactly if all places have one colour in both squares
 pub no-difference : (g h : Grid) → (difference_count g h ≡ 0) ↔ ((r c : ℕ) → r < g.side → c < g.side → colour g r c ≡ colour h r c)
-unfolding difference_count
+unfolding difference_count places_passing
 no-difference g h = (
   (λ e r c l m.
       same-is (colour g r c) (colour h r c)

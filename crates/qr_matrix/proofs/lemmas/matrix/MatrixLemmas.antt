@@ -3,9 +3,8 @@ use Rattle.std.proofs.Common.{◌≡◌, ℕ, ◌<◌, ◌≤◌, Bool, true, fa
 use Rattle.std.proofs.lemmas.Bool.Decides.{nat_tests}
 use Rattle.std.proofs.lemmas.List.{get_or_past, get_or_read, get_or-replicate, length-replicate, get_or-set_same, get_or-set_other}
 use Rattle.std.proofs.lemmas.Nat.Bits.{bit_at-zero}
-use Rattle.qr_matrix.specs.Grid.{Grid, square, colour, painted, with_row, with_rectangle}
+use Rattle.qr_matrix.specs.Grid.{Grid, square, colour, painted, with_row, with_rectangle, is_same}
 use Rattle.qr_matrix.specs.BitRow.{has, has_bit, bit_row_number, dark_in}
-use Rattle.qr_matrix.specs.Penalty.{is_same}
 use Rattle.qr_matrix.proofs.lemmas.bit_row.BoolLemmas.{and-false}
 use Rattle.qr_matrix.proofs.lemmas.runs.ColumnLemmas.{has-nothing}
 use Rattle.qr_matrix.proofs.lemmas.matrix.GridLemmas.{square-same, colour-square, colour-outside}

@@ -2,7 +2,7 @@
 use Rattle.std.proofs.Common.{◌≡◌, ℕ, zero, suc, ◌+◌, ◌-◌, ◌*◌, ◌<◌, ◌≤◌, List, ltb, Bool, true, false, not, ◌&&◌, ◌||◌, cond, refl, sym, ◌∙◌, true≢false, arith}
 use Rattle.std.proofs.lemmas.Bool.Decides.{nat_tests}
 use Rattle.qr_matrix.specs.BitRow.{has}
-use Rattle.qr_matrix.specs.Penalty.{count_below, sum_below}
+use Rattle.qr_matrix.specs.Sums.{count_below, sum_below}
 use Rattle.qr_matrix.specs.Runs.{joins, begins_five, begins_long_run, place_cost}
 use Rattle.qr_matrix.specs.Steps.{is_charged, size_of}
 use Rattle.qr_matrix.proofs.lemmas.bit_row.BoolLemmas.{and-false}
@@ -81,9 +81,9 @@ charged-past s line c h = search (arith, five-past, and-false)
     none : (a b d : Bool) → a ≡ false → b ≡ false → d ≡ false → ((a || b) || d) ≡ false
     none a b d e f g = λ i. (e i || f i) || g i
 
--- if bit c of the bit row j is set where module c is joined to the module after it, bit c of f where the bits c to c + 3
--- of j are set, and bit c of t where one of the bits c, c - 1 and c - 2 of f is set, then the number of set bits of t is
--- the cost of the runs
+-- the number of set bits of t is the cost of the runs, if bit c of the bit row j is set where module c is joined to the
+-- next, bit c of f where the bits c to c + 3 of j are set, and bit c of t where one of the bits c, c - 1 and c - 2 of f
+-- is set
 pub row_cost : (s : ℕ) (line : ℕ → Bool) (j f t : List ℕ) → s ≤ 192 → ((c : ℕ) → has j c ≡ joins s line c) → ((c : ℕ) → has f c ≡ ((has j c && has j (c + 1)) && (has j (c + 2) && has j (c + 3))))
     → ((c : ℕ) → c < 192 → has t c ≡ ((has f c || (ltb 0 c && has f (c - 1))) || (ltb 1 c && has f (c - 2)))) → size_of t ≡ place_cost s line
 unfolding is_charged

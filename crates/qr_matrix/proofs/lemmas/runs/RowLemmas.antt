@@ -1,30 +1,30 @@
--- Bit operations on a bit row compute the tests of a row.
+-- Bit operations on a bit row compute the tests of a row. A module is joined if the module after it has its colour.
 use Rattle.std.proofs.Common.{◌≡◌, ℕ, ◌+◌, ◌-◌, ◌<◌, ◌≤◌, List, ltb, Bool, false, not, ◌&&◌, arith}
 use Rattle.std.proofs.lemmas.Bool.Decides.{nat_tests}
 use Rattle.qr_matrix.specs.BitRow.{has}
 use Rattle.qr_matrix.specs.Steps.{size_of}
-use Rattle.qr_matrix.specs.Penalty.{count_below, is_same}
+use Rattle.qr_matrix.specs.Grid.{is_same}
+use Rattle.qr_matrix.specs.Sums.{count_below}
 use Rattle.qr_matrix.specs.Runs.{joins, begins_five}
 use Rattle.qr_matrix.proofs.lemmas.bit_row.SumLemmas.{count_below-cut}
 use Rattle.qr_matrix.proofs.lemmas.bit_row.BoolLemmas.{and-false, false-and, not-not}
 
 -- ---- the number of set bits
 
--- if the bit row `words` has bit c set just where c passes the test q, and no c from s on passes q, then the number of its
--- set bits is the number of c below s that pass q
+-- if bit c of a bit row is set just where c passes the test q, which no c from s on passes, then as many bits are set
+-- as c below s pass q
 pub size-is : (s : ℕ) (words : List ℕ) (q : ℕ → Bool) → s ≤ 192 → ((c : ℕ) → c < 192 → has words c ≡ q c) → ((c : ℕ) → s ≤ c → q c ≡ false) → size_of words ≡ count_below s q
 unfolding size_of
 size-is s words q l e f = count_below-cut 192 s (has words) q l e f
 
 -- ---- neighbours of one colour
 
--- if bit r is set just where module c is not the last module and does not differ from the module after it, then r is set
--- just where module c is joined to the module after it
+-- a bit that is set just where module c is not the last and does not differ from the next is set just where c is joined
 pub joins-bit : (s : ℕ) (line : ℕ → Bool) (c : ℕ) (r i d y : Bool) → 0 < s → r ≡ (i && not d) → i ≡ ltb c (s - 1) → d ≡ not (is_same (line c) y) → y ≡ line (c + 1) → r ≡ joins s line c
 unfolding joins
 joins-bit s line c r i d y h e f g k = search (arith, nat_tests, not-not)
 
--- neither the last module nor a module c past the side is joined to a module after it
+-- neither the last module nor a module c past the side is joined
 pub joins-past : (s : ℕ) (line : ℕ → Bool) (c : ℕ) → s ≤ c + 1 → joins s line c ≡ false
 unfolding joins
 joins-past s line c h = search (arith, false-and, nat_tests)
@@ -34,8 +34,8 @@ pub five-past : (s : ℕ) (line : ℕ → Bool) (c : ℕ) → s ≤ c + 4 → be
 unfolding begins_five
 five-past s line c h = search (arith, and-false, joins-past)
 
--- if bit f is set just where the four modules from module c on are each joined to the module after them, then f is set
--- just where five modules of one colour begin at module c
+-- a bit that is set just where the four modules from module c on are joined is set just where five modules of one
+-- colour begin at c
 pub five-bit : (s : ℕ) (line j : ℕ → Bool) (c : ℕ) (f : Bool) → ((c : ℕ) → j c ≡ joins s line c) → f ≡ ((j c && j (c + 1)) && (j (c + 2) && j (c + 3))) → f ≡ begins_five s line c
 unfolding begins_five
 five-bit s line j c f h e = search arith

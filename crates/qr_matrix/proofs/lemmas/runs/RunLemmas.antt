@@ -1,8 +1,11 @@
--- The cost of the maximal runs of a row or column is the cost that is counted module by module.
+-- The cost of the maximal runs of a row or column is the cost that is counted module by module. A module is joined if
+-- the module after it has its colour, and has ahead the modules after it that belong to its run.
 use Rattle.std.proofs.Common.{◌≡◌, ℕ, zero, suc, ◌+◌, ◌-◌, ◌*◌, ◌<◌, ◌≤◌, ◌⊎◌, inl, inr, eqb, ltb, leb, Bool, true, false, not, ◌&&◌, ◌||◌, cond, refl, sym, ap, ◌∙◌, arith}
 use Rattle.std.proofs.lemmas.Bool.{cases_lt}
 use Rattle.std.proofs.lemmas.Bool.Decides.{nat_tests}
-use Rattle.qr_matrix.specs.Penalty.{all_below, is_same, is_run, run_cost, sum_below}
+use Rattle.qr_matrix.specs.Grid.{is_same}
+use Rattle.qr_matrix.specs.Sums.{all_below, sum_below}
+use Rattle.qr_matrix.specs.Penalty.{is_run, run_cost}
 use Rattle.qr_matrix.specs.Runs.{joins, begins_five, begins_long_run, place_cost}
 use Rattle.qr_matrix.proofs.lemmas.bit_row.SumLemmas.{sum_below-same, sum_below-add, sum_below-scale, sum_below-one}
 use Rattle.qr_matrix.proofs.lemmas.bit_row.BoolLemmas.{and-false}
@@ -30,8 +33,7 @@ all_below-false (suc k) p i h e = elim (cases_lt i k) [
 
 -- ---- the number of modules after a module that belong to its run
 
--- the number of modules that module a has ahead, which are the modules after a that belong to its run; n modules are left
--- from a on, and j is the test of a module that is joined to the module after it
+-- the number of modules that module a has ahead, if n modules are left from a on; j is the test of a joined module
 unfoldable ahead : (ℕ → Bool) → ℕ → ℕ → ℕ
 ahead j zero a = 0
 ahead j (suc n) a = cond (j a) (suc (ahead j n (a + 1))) 0
@@ -41,29 +43,28 @@ same-self : (a b : Bool) → a ≡ b → is_same a b ≡ true
 same-self true b e = sym e
 same-self false b e = ap not (sym e)
 
--- if module a is joined to the module after it, then there is a module after it, which has the colour of module a
+-- if module a is joined, then there is a module after it, which has its colour
 joins-true : (s : ℕ) (line : ℕ → Bool) (a : ℕ) → joins s line a ≡ true → (a + 1 < s) × (line (a + 1) ≡ line a)
 unfolding joins
 joins-true s line a h = search arith
 
--- if module a is not joined to the module after it, then module a is the last module, or the module after it has another
--- colour
+-- if module a is not joined, then it is the last module, or the module after it has another colour
 joins-false : (s : ℕ) (line : ℕ → Bool) (a : ℕ) → joins s line a ≡ false → (s ≤ a + 1) ⊎ (is_same (line a) (line (a + 1)) ≡ false)
 unfolding joins
 joins-false s line a h = search (arith, nat_tests)
 
--- if module a is joined to the module after it, then it has one module more ahead than the module after it
+-- if module a is joined, then it has one module more ahead than the next
 ahead-true : (j : ℕ → Bool) (n a : ℕ) → j a ≡ true → ahead j (suc n) a ≡ suc (ahead j n (a + 1))
 unfolding ahead
 ahead-true j n a e = ap (λ z. cond z (suc (ahead j n (a + 1))) 0) e
 
--- if module a is not joined to the module after it, then it has 0 modules ahead
+-- if module a is not joined, then it has 0 modules ahead
 ahead-false : (j : ℕ → Bool) (n a : ℕ) → j a ≡ false → ahead j n a ≡ 0
 unfolding ahead
 ahead-false j zero a e = refl
 ahead-false j (suc n) a e = ap (λ z. cond z (suc (ahead j n (a + 1))) 0) e
 
--- if module a has at least k modules ahead, then module a + k is not past the side and has the colour of module a
+-- if module a has at least k modules ahead, then module a + k is not past the side and has the colour of a
 stretch : (s : ℕ) (line : ℕ → Bool) (n a k : ℕ) → a + n ≡ s → 0 < n → k ≤ ahead (joins s line) n a → (a + k < s) × (line (a + k) ≡ line a)
 stretch s line zero a k e p h = absurd (omega arith)
 stretch s line (suc n) a zero e p h = (omega arith, ap line (plain a))
@@ -78,7 +79,7 @@ stretch s line (suc n) a (suc k) e p h = elim (true_or_false (joins s line a)) [
   | inr t ↦ search (arith, ahead-false)
 ]
 
--- the module after the modules that module a has ahead is past the side or has another colour than module a
+-- the module after those that module a has ahead is past the side or has another colour
 stretch-end : (s : ℕ) (line : ℕ → Bool) (n a : ℕ) → a + n ≡ s → 0 < n → (a + suc (ahead (joins s line) n a) ≡ s) ⊎ (is_same (line (a + suc (ahead (joins s line) n a))) (line a) ≡ false)
 stretch-end s line zero a e p = absurd (omega arith)
 stretch-end s line (suc n) a e p = elim (true_or_false (joins s line a)) [
@@ -113,8 +114,8 @@ four p q h r a b c = search arith
     last true = refl
     last false = refl
 
--- a maximal run of k modules begins at module a just when no module before a belongs to the run of a and k is the number
--- of modules of this run from a on
+-- a maximal run of k modules begins at module a just when no module before a belongs to its run, and the run has k
+-- modules from a on
 is_run-is : (s : ℕ) (line : ℕ → Bool) (a k : ℕ) → a < s → is_run s line a k ≡ (heads line a && eqb k (run_len s line a))
 unfolding is_run
 is_run-is s line a k l =
@@ -145,8 +146,8 @@ is_run-is s line a k l =
 
 -- ---- the sum over the lengths
 
--- the sum of the costs of the maximal runs of k modules that begin at module a, over all lengths k, is the cost of the run
--- of module a, if this run begins at a and has at least 5 modules, else 0
+-- the costs of the maximal runs that begin at module a, summed over all lengths, are the cost of its run, if this
+-- begins at a and has at least 5 modules, else 0
 run_at : (s : ℕ) (line : ℕ → Bool) (a : ℕ) → a < s → sum_below (s + 1) (λ k. cond (leb 5 k && is_run s line a k) (k - 2) 0) ≡ cond (leb 5 (run_len s line a) && heads line a) (run_len s line a - 2) 0
 run_at s line a l =
     let m = run_len s line a in
@@ -169,8 +170,7 @@ run_at s line a l =
 abbrev left : ℕ → (ℕ → Bool) → ℕ → ℕ
 left s line a = ahead (joins s line) (s - a) a
 
--- if module a is joined to the module after it, then it has one module more ahead than the module after it, else it has 0
--- modules ahead
+-- a joined module has one module more ahead than the next, and any other has 0
 left-is : (s : ℕ) (line : ℕ → Bool) (a : ℕ) → left s line a ≡ cond (joins s line a) (suc (left s line (a + 1))) 0
 unfolding ahead
 left-is s line a = search (arith, joins-past, ahead-false)
@@ -178,9 +178,8 @@ left-is s line a = search (arith, joins-past, ahead-false)
     step : (j : ℕ → Bool) (n a : ℕ) → ahead j (suc n) a ≡ cond (j a) (suc (ahead j n (a + 1))) 0
     step j n a = refl
 
--- if a module and the four modules after it have `a`, b, c, d and e modules ahead, and i, j, k and l are the tests that
--- the first four of these modules are joined to the module after them, then i, j, k and l all pass just when `a` is at
--- least 4
+-- if a module and the four after it have `a`, b, c, d and e modules ahead, and i, j, k and l are the tests that the
+-- first four are joined, then these tests all pass just when `a` is at least 4
 five-from : (a b c d e : ℕ) (i j k l : Bool) → a ≡ cond i (suc b) 0 → b ≡ cond j (suc c) 0 → c ≡ cond k (suc d) 0 → d ≡ cond l (suc e) 0 → ((i && j) && (k && l)) ≡ leb 4 a
 five-from a b c d e true true true true p q r s = grind (arith, nat_tests)
 five-from a b c d e true true true false p q r s = grind (arith, nat_tests)
@@ -196,51 +195,51 @@ five-is s line a = search (arith, five-from, left-is)
     next : (i k : ℕ) → a + i + 1 ≡ a + k → left s line (a + i) ≡ cond (joins s line (a + i)) (suc (left s line (a + k))) 0
     next i k e = left-is s line (a + i) ∙ ap (λ z. cond (joins s line (a + i)) (suc (left s line z)) 0) e
 
--- no module before module a belongs to its run just when no module before a is joined to it
+-- no module before module a belongs to its run just when there is no joined module before it
 heads-is : (s : ℕ) (line : ℕ → Bool) (a : ℕ) → a < s → heads line a ≡ not (ltb 0 a && joins s line (a - 1))
 unfolding joins
 heads-is s line a h = search (arith, nat_tests)
 
--- the cost of the maximal run that begins at module a, or 0 if no run begins at a or the run is shorter than 5 modules
+-- the cost of the maximal run that begins at module a, or 0 if none begins there or it is shorter than 5 modules
 abbrev cost_at : ℕ → (ℕ → Bool) → ℕ → ℕ
 cost_at s line a = cond (leb 5 (run_len s line a) && heads line a) (run_len s line a - 2) 0
 
--- the cost that is counted at module a: 1 if five modules of one colour begin at a, and 2 more if a run of five modules or
--- more begins at a
+-- the cost that is counted at module a: 1 if five modules of one colour begin there, and 2 more if their run begins
+-- there
 abbrev place_at : ℕ → (ℕ → Bool) → ℕ → ℕ
 place_at s line a = cond (begins_five s line a) 1 0 + 2 * cond (begins_long_run s line a) 1 0
 
--- the open cost at module a: if the run of module a begins before a, the number of modules of this run from a on at which
--- five modules of one colour begin, else 0
+-- the open cost at module a: if its run begins before a, the number of modules of this run from a on at which five
+-- modules of one colour begin, else 0
 abbrev open_at : ℕ → (ℕ → Bool) → ℕ → ℕ
 open_at s line a = cond (ltb 0 a && joins s line (a - 1)) (left s line a - 3) 0
 
--- if a module has `a` modules ahead, the module after it has `b` modules ahead, j is the test that these two modules are
--- joined, and f the test that the module is joined to the module before it, then the cost counted at the module plus the
--- open cost at the module after it equals the cost of the run that begins at the module plus the open cost at the module
+-- if a module has `a` modules ahead and the next has `b`, j is the test that the module is joined, and f that the one
+-- before it is, then the cost counted at the module plus the open cost at the next is the cost of the run that begins
+-- at the module plus the open cost at the module
 balance : (a b : ℕ) (j f : Bool) → a ≡ cond j (suc b) 0 → cond (leb 4 a) 1 0 + 2 * cond (leb 4 a && not f) 1 0 + cond j (b - 3) 0 ≡ cond (leb 5 (suc a) && not f) (suc a - 2) 0 + cond f (a - 3) 0
 balance a b true true e = grind (arith, nat_tests)
 balance a b true false e = grind (arith, nat_tests)
 balance a b false true e = grind (arith, nat_tests)
 balance a b false false e = grind (arith, nat_tests)
 
--- the open cost at module a + 1 is the number of modules that it has ahead, less 3, if module a is joined to it, else 0
+-- the open cost at module a + 1 is the number of modules that it has ahead, less 3, if module a is joined, else 0
 open-next : (s : ℕ) (line : ℕ → Bool) (a : ℕ) → open_at s line (a + 1) ≡ cond (joins s line a) (left s line (a + 1) - 3) 0
 open-next s line a = search (arith, nat_tests)
 
--- a run of five modules or more begins at module a just when it has at least four modules ahead and the module before it
--- is not joined to it
+-- a run of five modules or more begins at module a just when it has at least four modules ahead and the module before
+-- it is not joined
 begins_long_run-is : (s : ℕ) (line : ℕ → Bool) (a : ℕ) → begins_long_run s line a ≡ (leb 4 (left s line a) && not (ltb 0 a && joins s line (a - 1)))
 unfolding begins_long_run
 begins_long_run-is s line a = cc (five-is s line a)
 
--- the cost counted at module a plus the open cost at module a + 1 equals the cost of the run that begins at a plus the
--- open cost at a
+-- the cost counted at module a plus the open cost at a + 1 is the cost of the run that begins at a plus the open cost
+-- at a
 place-step : (s : ℕ) (line : ℕ → Bool) (a : ℕ) → a < s → place_at s line a + open_at s line (a + 1) ≡ cost_at s line a + open_at s line a
 place-step s line a h = grind (arith, balance, left-is, five-is, begins_long_run-is, open-next, heads-is)
 
--- the cost counted at the first n modules plus the open cost at module n equals the cost of the runs that begin at the
--- first n modules
+-- the cost counted at the first n modules plus the open cost at module n is the cost of the runs that begin at these
+-- modules
 places-sum : (s : ℕ) (line : ℕ → Bool) (n : ℕ) → n ≤ s → sum_below n (place_at s line) + open_at s line n ≡ sum_below n (cost_at s line)
 places-sum s line zero h = refl
 places-sum s line (suc n) h = search (arith, place-step, places-sum s line n (omega arith))
@@ -249,8 +248,8 @@ places-sum s line (suc n) h = search (arith, place-step, places-sum s line n (om
 open-end : (s : ℕ) (line : ℕ → Bool) → open_at s line s ≡ 0
 open-end s line = search (arith, and-false, joins-past, nat_tests)
 
--- the cost of the maximal runs of s modules is 1 for each module at which five modules of one colour begin, and 2 more for
--- each such module before which there is no module or a module of another colour
+-- the cost of the maximal runs is 1 for each module at which five modules of one colour begin, and 2 more for each of
+-- these at which their run begins
 pub runs-by-places : (s : ℕ) (line : ℕ → Bool) → run_cost s line ≡ place_cost s line
 unfolding run_cost place_cost
 runs-by-places s line =

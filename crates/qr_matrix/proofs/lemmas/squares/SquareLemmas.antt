@@ -3,7 +3,9 @@ use Rattle.std.proofs.Common.{◌≡◌, ℕ, ◌+◌, ◌≤◌, List, ltb, Boo
 use Rattle.std.proofs.lemmas.Bool.Decides.{nat_tests}
 use Rattle.qr_matrix.specs.BitRow.{has}
 use Rattle.qr_matrix.specs.Steps.{size_of}
-use Rattle.qr_matrix.specs.Penalty.{count_below, is_same, is_square_of_two}
+use Rattle.qr_matrix.specs.Grid.{is_same}
+use Rattle.qr_matrix.specs.Sums.{count_below}
+use Rattle.qr_matrix.specs.Penalty.{is_square_of_two}
 use Rattle.qr_matrix.specs.Runs.{joins}
 use Rattle.qr_matrix.proofs.lemmas.runs.RowLemmas.{size-is}
 use Rattle.qr_matrix.proofs.lemmas.bit_row.BoolLemmas.{and-false}

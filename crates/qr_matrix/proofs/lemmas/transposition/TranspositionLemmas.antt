@@ -9,8 +9,8 @@ use Rattle.std.proofs.lemmas.List.{get_or_past, get_or-replicate, length-replica
 use Rattle.std.proofs.lemmas.Bool.{cases_lt, cases_eq}
 use Rattle.std.proofs.lemmas.Bool.Decides.{nat_tests}
 use Rattle.qr_matrix.specs.BitRow.{has, has_bit}
-use Rattle.qr_matrix.specs.Penalty.{is_same, all_below}
-use Rattle.qr_matrix.specs.Grid.{Grid, square, colour, with_row, IsSquare}
+use Rattle.qr_matrix.specs.Grid.{is_same, Grid, square, colour, with_row, IsSquare}
+use Rattle.qr_matrix.specs.Sums.{all_below}
 use Rattle.qr_matrix.specs.Steps.{bit_in, exchanged}
 use Rattle.qr_matrix.proofs.lemmas.bit_row.PlaceLemmas.{has-place, has_bit-and, has_bit-xor, has_bit-shr, word-step, has_bit-shl-low, has_bit-shl-high}
 use Rattle.qr_matrix.proofs.lemmas.matrix.GridLemmas.{square-same, colour-square}

@@ -1,28 +1,38 @@
 -- The windows of rows and columns, found and counted on bit rows.
-use Rattle.std.proofs.Common.{◌≡◌, ℕ, ◌+◌, ◌<◌, ◌≤◌, List, ltb, leb, Bool, true, false, ◌&&◌, ◌||◌, cond, refl, sym, ap, ◌∙◌, arith}
+use Rattle.std.proofs.Common.{◌≡◌, ℕ, ◌+◌, ◌<◌, ◌≤◌, List, ltb, leb, Bool, true, false, not, ◌&&◌, ◌||◌, cond, refl, sym, ap, ◌∙◌, arith}
 use Rattle.std.proofs.lemmas.Bool.Decides.{nat_tests}
 use Rattle.qr_matrix.specs.BitRow.{has}
 use Rattle.qr_matrix.specs.Steps.{size_of}
-use Rattle.qr_matrix.specs.Penalty.{count_below, reads, tail_window, head_window, is_window, window_count, sum_below}
+use Rattle.qr_matrix.specs.Sums.{count_below, sum_below}
+use Rattle.qr_matrix.specs.Penalty.{finder_ratio, four_light, reads, is_window, window_count}
 use Rattle.qr_matrix.proofs.lemmas.bit_row.SumLemmas.{sum_below-swap}
 use Rattle.qr_matrix.proofs.lemmas.runs.RowLemmas.{size-is}
 use Rattle.qr_matrix.proofs.lemmas.bit_row.BoolLemmas.{and-false, false-and}
 use Rattle.qr_matrix.proofs.lemmas.runs.ColumnLemmas.{guarded-size}
+use Rattle.qr_matrix.proofs.lemmas.windows.ReadingLemmas.{window-is}
 
--- if bit a is set just where a window before four light modules begins at module c, and bit b just where a window after
--- four light modules begins there, then the disjunction x of a and b is set just where a window begins at module c
-pub window-bit : (s : ℕ) (line : ℕ → Bool) (c : ℕ) (x a b : Bool) → x ≡ (a || b) → a ≡ (leb (c + 11) s && reads line c tail_window) → b ≡ (leb (c + 11) s && reads line c head_window) → x ≡ is_window s line c
-unfolding is_window
-window-bit s line c x a b ex ea eb = ex ∙ (ap (λ z. z || b) ea ∙ (ap (λ z. (leb (c + 11) s && reads line c tail_window) || z) eb ∙ common (leb (c + 11) s) (reads line c tail_window) (reads line c head_window)))
+-- in a row, the tests of the ratio before and after four light modules find the windows
+pub window-bit : (s : ℕ) (line core four : ℕ → Bool) (c : ℕ) → ((m : ℕ) → core m ≡ (leb (m + 7) s && reads line m finder_ratio))
+    → ((m : ℕ) → four m ≡ (leb (m + 4) s && reads line m four_light)) → ((core c && four (c + 7)) || (four c && core (c + 4))) ≡ is_window s line c
+window-bit s line core four c cores fours =
+    let seven : leb (c + 7 + 4) s ≡ leb (c + 11) s = grind (arith, nat_tests) in
+    let four_more : leb (c + 4 + 7) s ≡ leb (c + 11) s = grind (arith, nat_tests) in
+    let first : leb (c + 11) s ≡ true → leb (c + 7) s ≡ true = λ e. grind (arith, nat_tests) in
+    let second : leb (c + 11) s ≡ true → leb (c + 4) s ≡ true = λ e. grind (arith, nat_tests) in
+    (λ i. (cores c i && fours (c + 7) i) || (fours c i && cores (c + 4) i))
+    ∙ (λ i. ((leb (c + 7) s && reads line c finder_ratio) && (seven i && reads line (c + 7) four_light)) || ((leb (c + 4) s && reads line c four_light) && (four_more i && reads line (c + 4) finder_ratio)))
+    ∙ common (leb (c + 11) s) (leb (c + 7) s) (leb (c + 4) s) (reads line c finder_ratio) (reads line (c + 7) four_light) (reads line c four_light) (reads line (c + 4) finder_ratio) first second
+    ∙ sym (window-is s line c)
   where
-    common : (u a b : Bool) → ((u && a) || (u && b)) ≡ (u && (a || b))
-    common true a b = refl
-    common false a b = refl
+    common : (u v w a b d e : Bool) → (u ≡ true → v ≡ true) → (u ≡ true → w ≡ true)
+        → (((v && a) && (u && b)) || ((w && d) && (u && e))) ≡ (u && ((a && b) || (d && e)))
+    common true v w a b d e p q = rw (p refl, q refl) refl
+    common false v w a b d e p q = λ i. and-false (v && a) false refl i || and-false (w && d) false refl i
 
 -- no window begins at a module c from the side s on
 window-past : (s : ℕ) (line : ℕ → Bool) (c : ℕ) → s ≤ c → is_window s line c ≡ false
 unfolding is_window
-window-past s line c h = false-and (leb (c + 11) s) (reads line c tail_window || reads line c head_window) (grind (arith, nat_tests))
+window-past s line c h = false-and (leb (c + 11) s) _ (grind (arith, nat_tests))
 
 -- if the bit row `words` has bit c set just where a window begins at module c, then the number of its set bits is the
 -- number of windows
@@ -30,24 +40,33 @@ pub windows-row : (s : ℕ) (line : ℕ → Bool) (words : List ℕ) → s ≤ 1
 unfolding window_count
 windows-row s line words l h = size-is s words (is_window s line) l (λ c k. h c) (λ c k. window-past s line c k)
 
--- if at least eleven rows are left from row r on, bit a is set just where a window before four light modules begins in row
--- r of column c, and bit b just where a window after four light modules begins there, then the disjunction x of a and b is
--- set just where a window begins there, in a column of the square
-pub window-down-bit : (s : ℕ) (line : ℕ → Bool) (c r : ℕ) (x a b : Bool) → r + 11 ≤ s → x ≡ (a || b) → a ≡ (ltb c s && reads line r tail_window) → b ≡ (ltb c s && reads line r head_window) → x ≡ (ltb c s && is_window s line r)
-unfolding is_window
-window-down-bit s line c r x a b h ex ea eb =
+-- if at least eleven rows are left from row r on, the ratio before and after four light modules in a column that passes the
+-- test u is a window
+pub window-down-bit : (s : ℕ) (line : ℕ → Bool) (r : ℕ) (u : Bool) → r + 11 ≤ s
+    → (((u && reads line r finder_ratio) && not (not (reads line (r + 7) four_light))) || ((u && reads line (r + 4) finder_ratio) && not (not (reads line r four_light))))
+    ≡ (u && is_window s line r)
+window-down-bit s line r u h =
     let t : leb (r + 11) s ≡ true = grind (arith, nat_tests) in
-    ex ∙ (ap (λ z. z || b) ea ∙ (ap (λ z. (ltb c s && reads line r tail_window) || z) eb ∙ (common (ltb c s) (reads line r tail_window) (reads line r head_window) ∙ ap (λ z. ltb c s && (z && (reads line r tail_window || reads line r head_window))) (sym t))))
+    common u (reads line r finder_ratio) (reads line (r + 7) four_light) (reads line (r + 4) finder_ratio) (reads line r four_light)
+    ∙ ap (λ z. u && (z && ((reads line r finder_ratio && reads line (r + 7) four_light) || (reads line r four_light && reads line (r + 4) finder_ratio)))) (sym t)
+    ∙ ap (λ z. u && z) (sym (window-is s line r))
   where
-    common : (u a b : Bool) → ((u && a) || (u && b)) ≡ (u && (a || b))
-    common true a b = refl
-    common false a b = refl
+    common : (u a b d e : Bool) → (((u && a) && not (not b)) || ((u && d) && not (not e))) ≡ (u && ((a && b) || (e && d)))
+    common false a b d e = refl
+    common true a true true true = refl
+    common true a true true false = refl
+    common true a true false true = refl
+    common true a true false false = refl
+    common true a false true true = refl
+    common true a false true false = refl
+    common true a false false true = refl
+    common true a false false false = refl
 
 -- if at most ten rows are left from row r on, then no window of column c begins in row r, and a bit x that is not set
 -- agrees with this
 pub window-down-none : (s : ℕ) (line : ℕ → Bool) (c r : ℕ) (x : Bool) → s < r + 11 → x ≡ false → x ≡ (ltb c s && is_window s line r)
 unfolding is_window
-window-down-none s line c r x h e = e ∙ sym (and-false (ltb c s) _ (false-and (leb (r + 11) s) (reads line r tail_window || reads line r head_window) (grind (arith, nat_tests))))
+window-down-none s line c r x h e = e ∙ sym (and-false (ltb c s) _ (false-and (leb (r + 11) s) _ (grind (arith, nat_tests))))
 
 -- if the bit row `words` has bit c set just where a window of column c begins in row r, then the number of its set bits is
 -- the number of windows of columns that begin in row r

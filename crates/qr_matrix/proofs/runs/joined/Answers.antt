@@ -1,7 +1,6 @@
 use Rattle.std.proofs.Common.{◌+◌, ◌-◌, not, ltb, ap, ◌∙◌, arith}
-use Rattle.qr_matrix.specs.Grid.{colour}
+use Rattle.qr_matrix.specs.Grid.{colour, is_same}
 use Rattle.qr_matrix.specs.BitRow.{has}
-use Rattle.qr_matrix.specs.Penalty.{is_same}
 use Rattle.qr_matrix.proofs.lemmas.runs.RowLemmas.{joins-bit}
 use Rattle.qr_matrix.proofs.runs.joined.Goals as goal
 

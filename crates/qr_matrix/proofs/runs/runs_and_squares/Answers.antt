@@ -1,7 +1,8 @@
 use Rattle.std.proofs.Common.{◌≡◌, ℕ, ◌+◌, ◌-◌, ◌*◌, ◌≤◌, Bool, true, ◌&&◌, ◌||◌, ltb, arith, ap, sym, ◌∙◌, refl}
 use Rattle.qr_matrix.specs.Grid.{colour}
 use Rattle.qr_matrix.specs.BitRow.{has}
-use Rattle.qr_matrix.specs.Penalty.{count_below, is_square_of_two, over_lines, run_cost, square_count, sum_below}
+use Rattle.qr_matrix.specs.Sums.{count_below, places_passing, sum_below}
+use Rattle.qr_matrix.specs.Penalty.{is_square_of_two, over_lines, run_cost, square_count}
 use Rattle.qr_matrix.specs.Runs.{begins_five, joins, place_cost}
 use Rattle.qr_matrix.specs.Steps.{row_share}
 use Rattle.std.proofs.lemmas.Bool.Decides.{nat_tests}
@@ -38,7 +39,7 @@ small a b m r h k = let e = mul-suc m r in omega arith
 
 pub loop-row-preserved : goal.loop-row-preserved
 loop-row-preserved c =
-    let few = fits c.args.matrix.now.side c.args.words c.requires.most c.requires.three in
+    let few = fits c.args.matrix.now.side c.args.words c.requires.width.most c.requires.width.three in
     let rows_small = small c.loop-row.rows c.count-rows.result 192 c.loop-row.row c.loop-row.invariant.rows_small c.count-rows.ensures.bound in
     let columns_small = small c.loop-row.columns c.count-columns.result 192 c.loop-row.row c.loop-row.invariant.columns_small c.count-columns.ensures.bound in
     let squares_small = small c.loop-row.squares c.count-squares.result 192 c.loop-row.row c.loop-row.invariant.squares_small c.count-squares.ensures.bound in
@@ -51,7 +52,7 @@ loop-row-preserved c =
     let five : (k : ℕ) → has c.bitand-fives.result k ≡ (ltb k s && begins_five s (λ i. d i k) r) = λ k. five-down-bit s (λ i. d i k) k r (has c.bitand-fives.result k) (has c.bitand.result k) (has c.bitand-in-loop-row.result k) (has c.loop-row.first k) (has c.loop-row.second k) (has c.loop-row.third k) (has c.joined_in_column-fourth.result k) (c.bitand-fives.ensures k) (c.bitand.ensures k) (c.bitand-in-loop-row.ensures k) (i.first k) (i.second k) (i.third k) (c.joined_in_column-fourth.ensures k) in
     let three : (k : ℕ) → has c.bitor-in-loop-row.result k ≡ ((has c.bitand-fives.result k || has c.loop-row.above k) || has c.loop-row.second_above k) = λ k. let e = c.bitor-in-loop-row.ensures k in let f = c.bitor.ensures k in cc in
     record {
-      rows = sum_below-more r _ _ _ (λ r. place_cost s (d r)) i.rows (c.count-rows.ensures.value ∙ row_cost s (d r) c.joined-joins.result c.fours.result c.charged.result few c.joined-joins.ensures c.fours.ensures c.charged.ensures) refl;
+      rows = sum_below-more r _ _ _ (λ r. place_cost s (d r)) i.rows (c.count-rows.ensures.value ∙ row_cost s (d r) c.joined-joins.result c.fours.result c.costing.result few c.joined-joins.ensures c.fours.ensures c.costing.ensures) refl;
       rows_small = rows_small;
       columns = sum_below-more r _ _ _ (row_share s d) i.columns (c.count-columns.ensures.value ∙ share-of s d r c.bitor-in-loop-row.result c.bitand-fives.result c.loop-row.above c.loop-row.second_above few three five i.above i.second_above) refl;
       columns_small = columns_small;
@@ -85,7 +86,7 @@ returns-clause-runs c =
     omega arith
 
 pub returns-clause-squares : goal.returns-clause-squares
-unfolding square_count
+unfolding square_count places_passing
 returns-clause-squares c =
     let s = c.args.matrix.now.side in
     c.loop-row.invariant.squares ∙ ap (λ z. sum_below z (λ r. count_below s (is_square_of_two s (colour c.args.matrix.now) r))) (omega arith)

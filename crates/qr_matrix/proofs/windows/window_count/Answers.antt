@@ -1,6 +1,7 @@
 use Rattle.std.proofs.Common.{arith, ◌≡◌, ap, ◌∙◌, refl}
 use Rattle.qr_matrix.specs.Grid.{colour}
-use Rattle.qr_matrix.specs.Penalty.{count_below, over_lines, is_window, window_count, sum_below}
+use Rattle.qr_matrix.specs.Sums.{count_below, sum_below}
+use Rattle.qr_matrix.specs.Penalty.{over_lines, is_window, window_count}
 use Rattle.qr_matrix.proofs.lemmas.bit_row.SumLemmas.{sum_below-more}
 use Rattle.qr_matrix.proofs.lemmas.windows.WindowLemmas.{windows-down-row, windows-are-columns}
 use Rattle.qr_matrix.proofs.windows.window_count.Goals as goal
@@ -12,7 +13,7 @@ loop-row-preserved c =
     let e = windows-down-row s d c.loop-row.row c.windows_at.result (omega arith) c.windows_at.ensures in
     record {
       rows = sum_below-more c.loop-row.row _ _ _ (λ r. window_count s (d r)) c.loop-row.invariant.rows c.row_windows-across.ensures.value refl;
-      columns = sum_below-more c.loop-row.row _ _ _ (λ r. count_below s (λ c. is_window s (λ i. d i c) r)) c.loop-row.invariant.columns (c.count_few-upright.ensures.value ∙ e) refl;
+      columns = sum_below-more c.loop-row.row _ _ _ (λ r. count_below s (λ c. is_window s (λ i. d i c) r)) c.loop-row.invariant.columns (c.count_unless_empty-upright.ensures.value ∙ e) refl;
       small = omega arith;
       few = omega arith;
     }

@@ -1,6 +1,7 @@
 use Rattle.std.proofs.Common.{◌≡◌, ◌*◌, ◌≤◌}
 use Rattle.qr_matrix.specs.Grid.{colour}
-use Rattle.qr_matrix.specs.Penalty.{count_below, is_window, window_count, sum_below}
+use Rattle.qr_matrix.specs.Sums.{count_below, sum_below}
+use Rattle.qr_matrix.specs.Penalty.{is_window, window_count}
 use Rattle.qr_matrix.proofs.windows.window_count.Given as goal
 
 abbrev pub invariant-loop-row : goal.invariant-loop-row

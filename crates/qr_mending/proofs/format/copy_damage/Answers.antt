@@ -1,9 +1,8 @@
 use Rattle.std.proofs.Common.{◌≡◌, ℕ, Bool, ◌&&◌, not, cond, ap, ◌∙◌, sym, arith}
 use Rattle.qr_layout.specs.declared.region.Module.{Module}
-use Rattle.qr_matrix.specs.Grid.{colour}
-use Rattle.qr_matrix.specs.Penalty.{is_same}
+use Rattle.qr_matrix.specs.Grid.{colour, is_same}
 use Rattle.qr_bits.proofs.lemmas.bits.BitLemmas.{bool_byte-bit, bool_byte-cond}
-use Rattle.qr_symbol.specs.Symbol.{word_bit}
+use Rattle.qr_matrix.specs.BitRow.{has_bit}
 use Rattle.qr_mending.specs.Format.{copy_place, copy_bit}
 use Rattle.qr_mending.proofs.lemmas.format.FormatLemmas.{sum-more}
 use Rattle.qr_mending.proofs.format.copy_damage.Goals as goal
@@ -22,7 +21,7 @@ loop-i-preserved c =
     c.dark-is_unknown.ensures
     ∙ ap (λ (m : Module). colour u m.row m.col) (place ∙ ap (λ (s : ℕ). copy_place copy s i) (sym c.requires.unknown_side)) in
     let unread : c.from-unread.result ≡ cond (copy_bit copy u i) 1 0 = c.from-unread.ensures ∙ ((bool_byte-cond c.dark-is_unknown.result).0 ∙ ap (λ (z : Bool). cond {A = ℕ} z 1 0) unknown) in
-    let misread : c.misread_bit-misread.result ≡ cond (not (copy_bit copy u i) && not (is_same (copy_bit copy g i) (word_bit c.args.word i))) 1 0 =
+    let misread : c.misread_bit-misread.result ≡ cond (not (copy_bit copy u i) && not (is_same (copy_bit copy g i) (has_bit c.args.word i))) 1 0 =
     c.misread_bit-misread.ensures.value
     ∙ (ap (λ (z : Bool). cond {A = ℕ} (not z && not (is_same c.dark-dark.result c.is_bit_set.result)) 1 0) unknown
     ∙ (ap (λ (z : Bool). cond {A = ℕ} (not (copy_bit copy u i) && not (is_same z c.is_bit_set.result)) 1 0) dark
@@ -33,5 +32,5 @@ loop-i-preserved c =
       few = omega (arith, one, c.from-unread.ensures, few.few);
       few_misread = omega (arith, c.misread_bit-misread.ensures.most, few.few_misread);
       unread = sum-more i c.loop-i.unread c.from-unread.result _ (λ k. cond (copy_bit copy u k) 1 0) few.unread unread (omega arith);
-      misread = sum-more i c.loop-i.misread c.misread_bit-misread.result _ (λ k. cond (not (copy_bit copy u k) && not (is_same (copy_bit copy g k) (word_bit c.args.word k))) 1 0) few.misread misread (omega arith);
+      misread = sum-more i c.loop-i.misread c.misread_bit-misread.result _ (λ k. cond (not (copy_bit copy u k) && not (is_same (copy_bit copy g k) (has_bit c.args.word k))) 1 0) few.misread misread (omega arith);
     }

@@ -1,6 +1,7 @@
 use Rattle.std.proofs.Common.{◌≡◌, ◌≤◌, ◌&&◌, not}
-use Rattle.qr_matrix.specs.Penalty.{count_below, is_same}
-use Rattle.qr_symbol.specs.Symbol.{word_bit}
+use Rattle.qr_matrix.specs.Grid.{is_same}
+use Rattle.qr_matrix.specs.Sums.{count_below}
+use Rattle.qr_matrix.specs.BitRow.{has_bit}
 use Rattle.qr_mending.specs.Format.{copy_bit}
 use Rattle.qr_mending.proofs.format.copy_damage.Given as goal
 
@@ -9,5 +10,5 @@ invariant-loop-i l = record {
   few : l.unread ≤ l.i;
   few_misread : l.misread ≤ l.i;
   unread : l.unread ≡ count_below l.i (copy_bit l.copy l.unknown);
-  misread : l.misread ≡ count_below l.i (λ i. not (copy_bit l.copy l.unknown i) && not (is_same (copy_bit l.copy l.matrix i) (word_bit l.word i)));
+  misread : l.misread ≡ count_below l.i (λ i. not (copy_bit l.copy l.unknown i) && not (is_same (copy_bit l.copy l.matrix i) (has_bit l.word i)));
 }

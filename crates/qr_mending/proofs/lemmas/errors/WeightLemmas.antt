@@ -1,6 +1,6 @@
 -- The errors, each multiplied by the value of a polynomial at its position. At most as many of these products differ
--- from 0 as there are errors. If their first values are 0, all products are 0, so each error is at a root of the
--- polynomial. If each error is at a root, all products are 0, so all their values are 0.
+-- from 0 as there are errors, so all are 0 if their first values are. They are 0 exactly if each error is at a root of
+-- the polynomial.
 use Rattle.std.proofs.Common.{◌≡◌, ℕ, suc, ◌+◌, ◌*◌, ◌<◌, ◌≤◌, List, [], ◌∷◌, length, refl, sym, ap, ◌∙◌, subst, inl, inr, arith, lit<, bit_xor}
 use Rattle.std.specs.List.{All}
 use Rattle.std.specs.Int.Bits.{xor_zero_l}

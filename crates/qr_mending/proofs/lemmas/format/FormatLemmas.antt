@@ -4,11 +4,11 @@ use Rattle.std.proofs.Common.{◌≡◌, ℕ, zero, suc, ◌+◌, ◌*◌, ◌<�
 use Rattle.std.proofs.lemmas.Bool.{cases_eq, ne_eqb}
 use borrow.Author.Tests.{ltb-true}
 use Rattle.qr_layout.specs.declared.level.Level.{Level}
-use Rattle.qr_layout.specs.Format.{remainder_of, format_with, five_bits, format_word_of}
+use Rattle.qr_layout.specs.Format.{word_remainder, format_with, five_bits, format_word_of}
 use Rattle.qr_layout.proofs.Facts.{below, below-at}
-use Rattle.qr_matrix.specs.Grid.{Grid}
-use Rattle.qr_matrix.specs.Penalty.{count_below, is_same, sum_below}
-use Rattle.qr_symbol.specs.Symbol.{word_bit}
+use Rattle.qr_matrix.specs.Grid.{Grid, is_same}
+use Rattle.qr_matrix.specs.Sums.{count_below, sum_below}
+use Rattle.qr_matrix.specs.BitRow.{has_bit}
 use Rattle.qr_mending.specs.declared.format.FormatCopy.{FormatCopy}
 use Rattle.qr_mending.specs.declared.format.FormatCopy.TheVariants.{First, Second}
 use Rattle.qr_mending.specs.Format.{bit_difference, bit_differences, copy_bit, copy_cost, format_cost, IsNearFormat}
@@ -49,11 +49,11 @@ bits-between (suc n) u r p q =
 
 -- the test that two words are equal or differ in at least seven bits
 is-far : ℕ → ℕ → Bool
-is-far i j = eqb i j || ltb 6 (bit_differences 15 (word_bit (format_with i)) (word_bit (format_with j)))
+is-far i j = eqb i j || ltb 6 (bit_differences 15 (has_bit (format_with i)) (has_bit (format_with j)))
 
 -- all pairs of words pass the test, computed
 all-far : below 32 (λ i. below 32 (is-far i)) ≡ true
-unfolding is-far remainder_of
+unfolding is-far word_remainder has_bit
 all-far = refl
 
 -- if one of two tests passes and the first does not, the second passes
@@ -63,10 +63,10 @@ second false b h e = h
 
 -- different words differ in at least seven bits
 pub far : (i j : ℕ) → i < 32 → j < 32 → (i ≡ j → ⊥) →
-    6 < bit_differences 15 (word_bit (format_with i)) (word_bit (format_with j))
+    6 < bit_differences 15 (has_bit (format_with i)) (has_bit (format_with j))
 unfolding is-far
 far i j l m o =
-    let d = bit_differences 15 (word_bit (format_with i)) (word_bit (format_with j)) in
+    let d = bit_differences 15 (has_bit (format_with i)) (has_bit (format_with j)) in
     ltb-true 6 d (second (eqb i j) (ltb 6 d) (below-at 32 (is-far i) (below-at 32 (λ k. below 32 (is-far k)) all-far i l) j m) (ne_eqb i j o))
 
 -- beside two words a copy costs at least 14
@@ -77,7 +77,7 @@ copies-apart unknown copy g l k m n p q o =
     let s = level-small l in
     let t = level-small k in
     let apart = far (five_bits l m) (five_bits k n) (omega arith) (omega arith) o in
-    let between = bits-between 15 (copy_bit copy unknown) (copy_bit copy g) (word_bit (format_with (five_bits l m))) (word_bit (format_with (five_bits k n))) in
+    let between = bits-between 15 (copy_bit copy unknown) (copy_bit copy g) (has_bit (format_with (five_bits l m))) (has_bit (format_with (five_bits k n))) in
     omega (arith, apart, between)
 
 -- equal numbers of five bits are those of one level and mask
@@ -99,7 +99,7 @@ near-one unknown copy g l k m n h j = elim (cases_eq (five_bits l m) (five_bits 
 
 -- different words of format information differ in at least seven bits
 pub words-apart : (l k : Level) (m n : ℕ) → m < 8 → n < 8 → ((l ≡ k) × (m ≡ n) → ⊥) →
-    7 ≤ bit_differences 15 (word_bit (format_word_of l m)) (word_bit (format_word_of k n))
+    7 ≤ bit_differences 15 (has_bit (format_word_of l m)) (has_bit (format_word_of k n))
 unfolding format_word_of
 words-apart l k m n p q o =
     let s = level-small l in

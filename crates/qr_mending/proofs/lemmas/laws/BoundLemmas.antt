@@ -27,12 +27,12 @@ tolerance-bounds v l a b =
 pub changes-some : (unknown : Grid) (g : Grid) (v : ℕ) (l : Level) (m : ℕ) (p : Content) (x : List ℕ) → IsMendedReading unknown g v l m p x → 1 ≤ length x
 changes-some unknown g v l m p x h =
     let sized = h.form.sized in
-    let d = h.form.damaged.mended.mended.mended in
+    let d = h.form.damaged.mended in
     let w = blocks-sound l v sized.least sized.most in
     omega (arith, d.many, w.some)
 
 -- in each block at most as many codewords were changed as may be changed
 pub changes-few : (unknown : Grid) (g : Grid) (v : ℕ) (l : Level) (m : ℕ) (p : Content) (x : List ℕ) → IsMendedReading unknown g v l m p x → All (λ n. n ≤ tolerance_of v l) x
 changes-few unknown g v l m p x h =
-    let d = h.form.damaged.mended.mended.mended in
+    let d = h.form.damaged.mended in
     All-from_get_or (λ n. n ≤ tolerance_of v l) x 0 (λ i k. let b = d.each i (omega (arith, d.many)) in omega (arith, b.near))

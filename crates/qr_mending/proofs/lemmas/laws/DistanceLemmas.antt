@@ -9,7 +9,8 @@ use Rattle.qr_layout.specs.Role.{second_place}
 use Rattle.qr_layout.proofs.Facts.{format-second}
 use Rattle.qr_matrix.specs.Grid.{Grid}
 use Rattle.qr_matrix.proofs.Facts.{colour-square}
-use Rattle.qr_symbol.specs.Symbol.{word_bit, colour_by, colour_of, grid_of}
+use Rattle.qr_matrix.specs.BitRow.{has_bit}
+use Rattle.qr_symbol.specs.Symbol.{colour_by, colour_of, grid_of}
 use Rattle.qr_symbol.specs.Reading.{IsMessage}
 use Rattle.qr_symbol.proofs.Facts.{format-read, level-one, level-small, messages-apart}
 use Rattle.qr_mending.specs.declared.format.FormatCopy.{FormatCopy}
@@ -27,7 +28,7 @@ second-col s i m l = elim (cases_lt i 8) [ inl k ↦ grind (arith, nat_tests) | 
 
 -- the bits of each copy in a symbol are those of the word of its level and mask
 pub shown : (copy : FormatCopy) (v : ℕ) (l : Level) (mask : ℕ) (cw : List ℕ) (i : ℕ) → 1 ≤ v → v ≤ 40 → mask < 8 → i < 15 →
-    copy_bit copy (grid_of v l mask cw) i ≡ word_bit (format_word_of l mask) i
+    copy_bit copy (grid_of v l mask cw) i ≡ has_bit (format_word_of l mask) i
 unfolding colour_of
 shown First v l mask cw i p q h r = (format-read v l mask cw p q h).bits i r
 shown Second v l mask cw i p q h r =
@@ -55,7 +56,7 @@ formats-apart v l k m n cw ds p q h j o = λ copy.
     let s = level-small l in
     let t = level-small k in
     let apart = far (five_bits l m) (five_bits k n) (omega arith) (omega arith) o in
-    let same = bits-alike 15 (copy_bit copy (grid_of v l m cw)) (copy_bit copy (grid_of v k n ds)) (word_bit (format_word_of l m)) (word_bit (format_word_of k n)) (λ i r. shown copy v l m cw i p q h r) (λ i r. shown copy v k n ds i p q j r) in
+    let same = bits-alike 15 (copy_bit copy (grid_of v l m cw)) (copy_bit copy (grid_of v k n ds)) (has_bit (format_word_of l m)) (has_bit (format_word_of k n)) (λ i r. shown copy v l m cw i p q h r) (λ i r. shown copy v k n ds i p q j r) in
     omega (arith, apart, same)
 
 -- different messages of one level differ in some block in more than twice as many codewords as can be mended

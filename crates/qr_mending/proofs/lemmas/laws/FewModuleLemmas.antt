@@ -8,7 +8,8 @@ use Rattle.qr_layout.specs.declared.level.Level.{Level}
 use Rattle.qr_layout.specs.Blocks.{blocks_of}
 use Rattle.qr_layout.specs.Format.{format_word_of}
 use Rattle.qr_matrix.specs.Grid.{Grid, light}
-use Rattle.qr_symbol.specs.Symbol.{grid_of, word_bit}
+use Rattle.qr_matrix.specs.BitRow.{has_bit}
+use Rattle.qr_symbol.specs.Symbol.{grid_of}
 use Rattle.qr_symbol.specs.Interleaving.{block_count, block_len, codeword_count, data_sizes, correction_sizes, part_of}
 use Rattle.qr_symbol.specs.Reading.{IsFormat, IsMessage}
 use Rattle.qr_symbol.proofs.Facts.{check-len, sizes-whole, data-sizes-whole, gather-some, read-some}
@@ -19,22 +20,23 @@ use Rattle.qr_mending.specs.Mending.{HasFormat, HoldsDamaged}
 use Rattle.qr_mending.specs.Modules.{module_differences, modules_of, part_differences, DifferInFewModules}
 use Rattle.qr_mending.proofs.lemmas.laws.DistanceLemmas.{bits-alike, shown}
 use Rattle.qr_mending.proofs.lemmas.message.MessageLemmas.{part-len}
-use Rattle.qr_mending.proofs.lemmas.laws.ModuleLemmas.{differences-join, held-many, part-near, interleaved-near}
+use Rattle.qr_mending.proofs.lemmas.laws.ModuleLemmas.{differences-join, part-near, interleaved-near}
 use Rattle.qr_mending.proofs.lemmas.laws.UndamagedLemmas.{copy-light, final-parts}
 use Rattle.qr_mending.proofs.lemmas.message.LightLemmas.{light-mended, IsPlainBlock}
+use Rattle.qr_mending.proofs.lemmas.message.MarkLemmas.{held-many}
 use Rattle.qr_mending.proofs.lemmas.mending.MendingLemmas.{sure-format}
 
 -- the second copy shows the format information too
 second-shown : (v : ℕ) (l : Level) (mask : ℕ) (cw : List ℕ) (h : Grid) → 1 ≤ v → v ≤ 40 → mask < 8 → h ≡ grid_of v l mask cw →
-    (i : ℕ) → i < 15 → copy_bit Second h i ≡ word_bit (format_word_of l mask) i
+    (i : ℕ) → i < 15 → copy_bit Second h i ≡ has_bit (format_word_of l mask) i
 second-shown v l mask cw h p q m e i k = ap (λ (z : Grid). copy_bit Second z i) e ∙ shown Second v l mask cw i p q m k
 
 -- the format information of the square costs at most 12
 pub few-format : (v : ℕ) (l : Level) (mask : ℕ) (cw : List ℕ) (g h : Grid) → 1 ≤ v → v ≤ 40 → h ≡ grid_of v l mask cw → IsFormat h l mask →
     DifferInFewModules v l g h → HasFormat (light g.side) v g l mask
 few-format v l mask cw g h p q e f w =
-    let first = bits-alike 15 (copy_bit First g) (word_bit (format_word_of l mask)) (copy_bit First g) (copy_bit First h) (λ i k. refl) (λ i k. sym (f.bits i k)) in
-    let second = bits-alike 15 (copy_bit Second g) (word_bit (format_word_of l mask)) (copy_bit Second g) (copy_bit Second h) (λ i k. refl) (λ i k. sym (second-shown v l mask cw h p q f.in_range e i k)) in
+    let first = bits-alike 15 (copy_bit First g) (has_bit (format_word_of l mask)) (copy_bit First g) (copy_bit First h) (λ i k. refl) (λ i k. sym (f.bits i k)) in
+    let second = bits-alike 15 (copy_bit Second g) (has_bit (format_word_of l mask)) (copy_bit Second g) (copy_bit Second h) (λ i k. refl) (λ i k. sym (second-shown v l mask cw h p q f.in_range e i k)) in
     let few = w.format in
     let a = copy-light g.side First g l mask in
     let b = copy-light g.side Second g l mask in

@@ -1,24 +1,24 @@
 -- A wrong module damages at most one codeword.
-use Rattle.std.proofs.Common.{◌≡◌, ℕ, zero, suc, ◌+◌, ◌-◌, ◌*◌, ◌<◌, ◌≤◌, Bool, true, false, List, [], ◌∷◌, ◌++◌, map, take, drop, length, get_or, replicate, refl, sym, ◌∙◌, ap, subst, inl, inr, arith}
+use Rattle.std.proofs.Common.{◌≡◌, ℕ, zero, suc, ◌+◌, ◌<◌, ◌≤◌, Bool, true, false, List, [], ◌∷◌, ◌++◌, map, take, drop, length, get_or, refl, sym, ◌∙◌, ap, subst, inl, inr, arith}
 use Rattle.std.proofs.lemmas.Bool.{cases_eq, cases_lt}
 use Rattle.std.proofs.lemmas.Bool.Decides.{nat_tests}
-use Rattle.std.proofs.lemmas.List.{append-nil, take_more, take_at, take-map, drop_at, drop-drop, drop-map, drop-take, length-map, length-take, length-drop, get_or-drop, get_or-take, get_or-map}
+use Rattle.std.proofs.lemmas.List.{take_more, length-take, length-drop, get_or-drop, get_or-take, get_or-map}
 use Rattle.std.specs.List.{All}
 use Rattle.qr_field.specs.Distance.{difference, differences}
 use Rattle.qr_layout.specs.declared.region.Module.{Module}
 use Rattle.qr_layout.specs.Order.{IsOrder}
 use Rattle.qr_layout.specs.Version.{total_codewords_of}
-use Rattle.qr_layout.proofs.Facts.{Mem, only_order, order-length}
+use Rattle.qr_layout.proofs.Facts.{Mem}
 use Rattle.qr_bits.specs.Bits.{bits_of, field}
-use Rattle.qr_bits.proofs.Facts.{length-bits_of, length-field}
 use Rattle.qr_matrix.specs.Grid.{Grid, colour}
 use Rattle.qr_symbol.specs.declared.interleaving.BlockSizes.{BlockSizes}
 use Rattle.qr_symbol.specs.Interleaving.{block_count, block_len, start_of, codeword_count, codeword_at, IsGathered, IsPosition, IsPositionOrder, Position}
-use Rattle.qr_symbol.specs.Reading.{unmasked, read_bits, IsRead}
+use Rattle.qr_symbol.specs.Reading.{unmasked, IsRead}
 use Rattle.qr_symbol.specs.Mask.{inverted, inverts}
 use Rattle.qr_symbol.proofs.Facts.{Mem-of-Contains, bits-one, position, position-in, positions-many, positions-one}
 use Rattle.qr_mending.specs.Format.{bit_difference}
 use Rattle.qr_mending.specs.Modules.{index_of, module_differences, modules_of, part_differences}
+use Rattle.qr_mending.proofs.lemmas.message.MarkLemmas.{codeword-read, held-bits, held-many}
 
 -- ---- one codeword
 
@@ -60,62 +60,12 @@ codeword-near mask g h ms a b l m e f = elim (cases_eq a b) [
   ]
 ]
 
--- the bits of one codeword
-codeword-bits : (cs : List ℕ) (j : ℕ) → j < length cs → take 8 (drop (8 * j) (bits_of cs)) ≡ field 8 (get_or cs j 0)
-unfolding bits_of
-codeword-bits [] j l = absurd (omega (arith, l))
-codeword-bits (c ∷ cs) zero l = take_at (field 8 c) (bits_of cs) 8 (length-field 8 c)
-codeword-bits (c ∷ cs) (suc j) l =
-    let n : 8 * suc j ≡ 8 + 8 * j = omega arith in
-    ap (λ (k : ℕ). take 8 (drop k (field 8 c ++ bits_of cs))) n
-    ∙ (ap (take 8) (sym (drop-drop (8 * j) 8 (field 8 c ++ bits_of cs)))
-    ∙ (ap (λ (z : List Bool). take 8 (drop (8 * j) z)) (drop_at (field 8 c) (bits_of cs) 8 (length-field 8 c))
-    ∙ codeword-bits cs j (omega (arith, l))))
-
--- the first n items of the first m items, if n is at most m
-take-less : {X : Type 0} (n m : ℕ) (xs : List X) → n ≤ m → take n (take m xs) ≡ take n xs
-take-less zero m xs l = refl
-take-less (suc n) zero xs l = absurd (omega (arith, l))
-take-less (suc n) (suc m) [] l = refl
-take-less (suc n) (suc m) (x ∷ xs) l = ap (λ zs. x ∷ zs) (take-less n m xs (omega (arith, l)))
-
--- the bits of the codewords of a square are read from the modules in order
-held-bits : (v mask : ℕ) (g : Grid) (ms : List Module) (cw : List ℕ) → 1 ≤ v → v ≤ 40 → IsOrder v ms → IsRead v mask g cw →
-    bits_of cw ≡ map (unmasked mask g) (take (8 * total_codewords_of v) ms)
-held-bits v mask g ms cw p q o h =
-    let t = 8 * total_codewords_of v in
-    let many = order-length v ms p q o in
-    let none : t - length ms ≡ 0 = omega (arith, many) in
-    h.bits
-    ∙ (ap (read_bits v mask g) (only_order v h.places ms h.order o)
-    ∙ (ap (λ (z : ℕ). map (unmasked mask g) (take t ms) ++ replicate z false) none
-    ∙ append-nil (map (unmasked mask g) (take t ms))))
-
--- the number of codewords of a square
-pub held-many : (v mask : ℕ) (g : Grid) (cw : List ℕ) → 1 ≤ v → v ≤ 40 → IsRead v mask g cw → length cw ≡ total_codewords_of v
-held-many v mask g cw p q h =
-    let ms = h.places in
-    let t = 8 * total_codewords_of v in
-    let many = order-length v ms p q h.order in
-    let a = ap (length {A = Bool}) (held-bits v mask g ms cw p q h.order h) in
-    let b = length-map (take t ms) (unmasked mask g) in
-    let c = length-take t ms in
-    let d = length-bits_of cw in
-    omega (arith, a, b, c, d, many)
-
 -- the bits of codeword j of a square are read from its eight modules
 held-codeword : (v mask : ℕ) (g : Grid) (ms : List Module) (cw : List ℕ) (j : ℕ) → 1 ≤ v → v ≤ 40 → IsOrder v ms →
     IsRead v mask g cw → j < total_codewords_of v → field 8 (get_or cw j 0) ≡ map (unmasked mask g) (modules_of ms j)
 held-codeword v mask g ms cw j p q o h l =
-    let t = 8 * total_codewords_of v in
-    let n = 8 * j in
-    let rest = t - n in
-    let whole : t ≡ n + rest = omega (arith, l) in
-    sym (codeword-bits cw j (omega (arith, l, held-many v mask g cw p q h)))
-    ∙ (ap (λ (z : List Bool). take 8 (drop n z)) (held-bits v mask g ms cw p q o h)
-    ∙ (ap (take 8) (drop-map (unmasked mask g) n (take t ms))
-    ∙ (take-map (unmasked mask g) 8 (drop n (take t ms))
-    ∙ ap (map (unmasked mask g)) (ap (λ (k : ℕ). take 8 (drop n (take k ms))) whole ∙ (ap (take 8) (drop-take n rest ms) ∙ take-less 8 rest (drop n ms) (omega (arith, l)))))))
+    codeword-read (unmasked mask g) ms cw (total_codewords_of v) j (held-bits v mask g ms cw p q o h)
+    (held-many v mask g cw p q h) l
 
 -- codeword j of two squares differs only if one of its modules differs
 pub interleaved-near : (v mask : ℕ) (g h : Grid) (ms : List Module) (cs ds : List ℕ) (j : ℕ) → 1 ≤ v → v ≤ 40 → IsOrder v ms →

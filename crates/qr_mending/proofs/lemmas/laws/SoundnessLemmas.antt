@@ -8,6 +8,7 @@ use Rattle.qr_matrix.specs.Grid.{Grid, IsSquare, colour, light, square}
 use Rattle.qr_mending.proofs.lemmas.format.FormatLemmas.{sum-same}
 use Rattle.qr_mending.proofs.lemmas.message.LightLemmas.{colour-light}
 use Rattle.qr_matrix.specs.Difference.{difference_count, differs}
+use Rattle.qr_matrix.specs.Sums.{places_passing}
 use Rattle.qr_matrix.proofs.Facts.{colour-square, no-difference, square-same}
 use Rattle.qr_symbol.specs.Interleaving.{IsInterleaved}
 use Rattle.qr_symbol.specs.Symbol.{colour_of, grid_of}
@@ -52,7 +53,7 @@ same-square g v l mask cw whole side =
 
 -- with all modules read, the wrong modules are those that differ
 wrong-light : (g h : Grid) → wrong_modules (light g.side) g h ≡ difference_count g h
-unfolding wrong_modules difference_count
+unfolding wrong_modules difference_count places_passing
 wrong-light g h =
     sum-same g.side _ _ (λ r k. sum-same g.side _ _ (λ c l. ap (λ z. cond (z || differs g h r c) 1 0) (colour-light g.side r c)))
 

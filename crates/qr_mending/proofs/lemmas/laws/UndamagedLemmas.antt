@@ -10,15 +10,15 @@ use Rattle.qr_layout.specs.declared.level.Level.{Level}
 use Rattle.qr_layout.specs.Blocks.{blocks_of}
 use Rattle.qr_layout.specs.Format.{format_word_of}
 use Rattle.qr_bits.specs.Parsing.{Content}
-use Rattle.qr_matrix.specs.Grid.{Grid, light}
-use Rattle.qr_symbol.specs.Symbol.{word_bit}
+use Rattle.qr_matrix.specs.Grid.{Grid, light, is_same}
+use Rattle.qr_matrix.specs.BitRow.{has_bit}
 use Rattle.qr_symbol.specs.Interleaving.{block_count, block_len, start_of, codeword_count, IsPosition, codeword_at, data_sizes, correction_sizes, block_of, check_at, IsFinalMessage, IsGathered, part_of}
 use Rattle.qr_symbol.specs.Steps.Interleaving.{IsChecks}
 use Rattle.qr_symbol.specs.Distance.{blocks_in}
 use Rattle.qr_symbol.specs.Reading.{IsFormat, IsRead, IsReading}
 use Rattle.qr_mending.specs.declared.format.FormatCopy.{FormatCopy}
 use Rattle.qr_mending.specs.declared.format.FormatCopy.TheVariants.{First, Second}
-use Rattle.qr_matrix.specs.Penalty.{count_below, is_same}
+use Rattle.qr_matrix.specs.Sums.{count_below}
 use Rattle.qr_mending.specs.Format.{bit_difference, bit_differences, copy_bit, copy_cost, IsNearFormat}
 use Rattle.qr_mending.specs.Message.{IsMendedIn}
 use Rattle.qr_mending.specs.Mending.{HasFormat, IsMendedReading}
@@ -171,16 +171,16 @@ cost-light (suc n) u p q h =
     omega (arith, read, here, rest)
 
 pub copy-light : (s : ℕ) (copy : FormatCopy) (g : Grid) (l : Level) (mask : ℕ) →
-    copy_cost (light s) copy g l mask ≡ 2 * bit_differences 15 (copy_bit copy g) (word_bit (format_word_of l mask))
+    copy_cost (light s) copy g l mask ≡ 2 * bit_differences 15 (copy_bit copy g) (has_bit (format_word_of l mask))
 copy-light s copy g l mask =
-    cost-light 15 (copy_bit copy (light s)) (copy_bit copy g) (word_bit (format_word_of l mask)) (λ i. colour-light s _ _)
+    cost-light 15 (copy_bit copy (light s)) (copy_bit copy g) (has_bit (format_word_of l mask)) (λ i. colour-light s _ _)
 
 -- exact format information is near
 format-near : (s : ℕ) (g : Grid) (l : Level) (mask : ℕ) → IsFormat g l mask → IsNearFormat (light s) First g l mask
 format-near s g l mask h = record {
   in_range = h.in_range;
   near =
-      let none = bits-same 15 (copy_bit First g) (word_bit (format_word_of l mask)) h.bits in
+      let none = bits-same 15 (copy_bit First g) (has_bit (format_word_of l mask)) h.bits in
       let cost = copy-light s First g l mask in
       omega (arith, none, cost);
 }
@@ -213,8 +213,8 @@ bits-moved (suc n) p q r h =
 -- with an exact first copy no other level and mask cost less, whatever the second copy shows
 format-exact : (g : Grid) (v : ℕ) (l : Level) (mask : ℕ) → IsFormat g l mask → HasFormat (light g.side) v g l mask
 format-exact g v l mask h = first-best (light g.side) v g l mask (format-near g.side g l mask h) (λ k n f x y d.
-    let here = word_bit (format_word_of l mask) in
-    let there = word_bit (format_word_of k n) in
+    let here = has_bit (format_word_of l mask) in
+    let there = has_bit (format_word_of k n) in
     let none = bits-same 15 (copy_bit First g) here h.bits in
     let moved = bits-moved 15 (copy_bit First g) here there h.bits in
     let three = bits-triangle 15 (copy_bit Second g) here there in

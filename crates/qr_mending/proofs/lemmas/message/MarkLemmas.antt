@@ -1,63 +1,236 @@
--- The marks that are read along the walk, and the codewords that are erased because of them.
-use Rattle.std.proofs.Common.{◌≡◌, ℕ, ◌+◌, ◌-◌, ◌*◌, ◌<◌, ◌≤◌, Bool, true, List, [], ◌∷◌, ◌++◌, map, take, drop, length, length-append, refl, sym, ◌∙◌, ap, subst, ltb, arith}
-use Rattle.std.specs.List.{All}
-use Rattle.std.proofs.lemmas.List.{append-nil, length-map, length-take, map-append, take-append-drop}
-use borrow.Author.Tests.{ltb-true}
+-- A mark is 0 exactly if its codeword is not erased. So to mend by marks is to mend without the modules that were not
+-- read.
+use Rattle.std.proofs.Common.{◌≡◌, ◌==◌, ◌||◌, not, cond, Bool, true, false, ℕ, zero, suc, ◌+◌, ◌-◌, ◌*◌, ◌<◌, ◌≤◌, None, Some, List, [], ◌∷◌, ◌++◌, map, take, drop, length, get_or, replicate, refl, sym, ◌∙◌, ap, subst, arith}
+use Rattle.std.specs.List.{list_any, range_with_len, All}
+use Rattle.std.specs.Prelude.{Option}
+use Rattle.std.proofs.lemmas.List.{append-nil, length-map, length-take, take_at, take-map, take-take, drop_at, drop-drop, drop-map, drop-take}
+use Rattle.std.proofs.lemmas.List.Elements.{All-append, All-drop, All-from_get_or, All-tail, All-take}
+use Rattle.std.proofs.lemmas.List.FromFn.{get_or-range_with_len, length-range_with_len}
+use Rattle.qr_layout.specs.declared.level.Level.{Level}
 use Rattle.qr_layout.specs.declared.region.Module.{Module}
-use Rattle.qr_layout.specs.Version.{total_codewords_of, remainder_bits_of}
+use Rattle.qr_layout.specs.Blocks.{blocks_of}
 use Rattle.qr_layout.specs.Order.{IsOrder}
-use Rattle.qr_layout.proofs.Facts.{order-length, below, below-at}
-use Rattle.qr_bits.specs.Bits.{field, bits_of}
-use Rattle.qr_bits.proofs.Facts.{length-field, length-bits_of}
-use Rattle.qr_matrix.specs.Grid.{Grid, colour}
-use Rattle.qr_symbol.proofs.lemmas.interleaving.MessageLemmas.{append-front}
-use Rattle.qr_mending.specs.Message.{colour_at, AreMarks}
+use Rattle.qr_layout.specs.Version.{total_codewords_of}
+use Rattle.qr_layout.proofs.Facts.{below, below-at, only_order, order-length}
+use Rattle.qr_bits.specs.Bits.{bits_of, field}
+use Rattle.qr_bits.proofs.Facts.{length-bits_of, length-field}
+use Rattle.qr_matrix.specs.Grid.{Grid, colour, is_same}
+use Rattle.qr_symbol.specs.Interleaving.{block_len, codeword_count, start_of, data_sizes, correction_sizes, part_of}
+use Rattle.qr_symbol.specs.Reading.{unmasked, read_bits, IsRead, IsReadUnmasked}
+use Rattle.qr_mending.specs.Erasures.{read_of}
+use Rattle.qr_mending.specs.Message.{read_at, received, spare_of, IsMendedBlock, IsMendedIn}
+use Rattle.qr_mending.specs.Steps.Message.{read_by, AreInBlocks, IsMendedMessage}
+use Rattle.qr_mending.proofs.lemmas.message.MessageLemmas.{gathered-all, in-blocks-one, indices-some, item, items-in-blocks, received-map}
 
--- one more module is read
-pub mark-read : (g : Grid) (ms : List Module) (m : Module) (dark : Bool) (front : List Bool) → dark ≡ colour g m.row m.col →
-    front ≡ map (colour_at g) ms → front ++ dark ∷ [] ≡ map (colour_at g) (ms ++ m ∷ [])
-mark-read g ms m dark front d e =
-    ap (λ (bs : List Bool). bs ++ dark ∷ []) e
-    ∙ (ap (λ (z : Bool). map (colour_at g) ms ++ z ∷ []) d ∙ sym (map-append (colour_at g) ms (m ∷ [])))
+-- ---- the modules of a codeword
 
--- each of the forty versions has fewer than eight remainder bits, computed
-remainder-small : below 40 (λ i. ltb (remainder_bits_of (i + 1)) 8) ≡ true
-unfolding remainder_bits_of
-remainder-small = refl
+-- the bits of one codeword
+codeword-bits : (cs : List ℕ) (j : ℕ) → j < length cs → take 8 (drop (8 * j) (bits_of cs)) ≡ field 8 (get_or cs j 0)
+unfolding bits_of
+codeword-bits [] j l = absurd (omega (arith, l))
+codeword-bits (c ∷ cs) zero l = take_at (field 8 c) (bits_of cs) 8 (length-field 8 c)
+codeword-bits (c ∷ cs) (suc j) l =
+    let n : 8 * suc j ≡ 8 + 8 * j = omega arith in
+    ap (λ (k : ℕ). take 8 (drop k (field 8 c ++ bits_of cs))) n
+    ∙ (ap (take 8) (sym (drop-drop (8 * j) 8 (field 8 c ++ bits_of cs)))
+    ∙ (ap (λ (z : List Bool). take 8 (drop (8 * j) z)) (drop_at (field 8 c) (bits_of cs) 8 (length-field 8 c))
+    ∙ codeword-bits cs j (omega (arith, l))))
 
-few-left : (v : ℕ) → 1 ≤ v → v ≤ 40 → remainder_bits_of v < 8
-few-left v l h =
-    let e : v - 1 + 1 ≡ v = omega arith in
-    ltb-true _ _ (subst (λ (k : ℕ). ltb (remainder_bits_of k) 8 ≡ true) e (below-at 40 (λ i. ltb (remainder_bits_of (i + 1)) 8) remainder-small (v - 1) (omega arith)))
+-- codewords are as many as their modules allow
+many-read : (f : Module → Bool) (ms : List Module) (cw : List ℕ) (n : ℕ) → bits_of cw ≡ map f (take (8 * n) ms) →
+    8 * n ≤ length ms → length cw ≡ n
+many-read f ms cw n e l =
+    let a = ap (length {A = Bool}) e in
+    let b = length-map (take (8 * n) ms) f in
+    let c = length-take (8 * n) ms in
+    let d = length-bits_of cw in
+    omega (arith, a, b, c, d, l)
 
--- if fewer than eight bits are left at the end of the walk, there is a mark for each codeword
-pub marks-many : (v : ℕ) (g : Grid) (ms rest : List Module) (marks : List ℕ) (width begun : ℕ) → 1 ≤ v → v ≤ 40 → rest ≡ [] →
-    IsOrder v (ms ++ rest) → width < 8 → bits_of marks ++ field width begun ≡ map (colour_at g) ms →
-    length marks ≡ total_codewords_of v
-marks-many v g ms rest marks width begun p q e o w bits =
-    let whole : IsOrder v ms = subst (IsOrder v) (ap (λ (xs : List Module). ms ++ xs) e ∙ append-nil ms) o in
-    let many = order-length v ms p q whole in
-    let few = few-left v p q in
-    let long = ap length bits in
-    let a = length-append (bits_of marks) (field width begun) in
-    let b = length-map ms (colour_at g) in
-    let c = length-bits_of marks in
-    let d = length-field width begun in
-    omega arith
+-- the bits of codeword j are read from its eight modules
+pub codeword-read : (f : Module → Bool) (ms : List Module) (cw : List ℕ) (n j : ℕ) →
+    bits_of cw ≡ map f (take (8 * n) ms) → length cw ≡ n → j < n → field 8 (get_or cw j 0) ≡ map f (take 8 (drop (8 * j) ms))
+codeword-read f ms cw n j e many l =
+    let t = 8 * n in
+    let k = 8 * j in
+    let rest = t - k in
+    let whole : t ≡ k + rest = omega (arith, l) in
+    let eight = ap (take 8) (drop-take k rest ms) ∙ take-take 8 rest (drop k ms) (omega (arith, l)) in
+    sym (codeword-bits cw j (omega (arith, l, many)))
+    ∙ (ap (λ (z : List Bool). take 8 (drop k z)) e
+    ∙ (ap (take 8) (drop-map f k (take t ms))
+    ∙ (take-map f 8 (drop k (take t ms))
+    ∙ ap (map f) (ap (λ (i : ℕ). take 8 (drop k (take i ms))) whole ∙ eight))))
 
--- these marks are those of the square
-pub marks-whole : (v : ℕ) (g : Grid) (ms rest : List Module) (marks : List ℕ) (width begun : ℕ) → 1 ≤ v → v ≤ 40 → rest ≡ [] →
-    IsOrder v (ms ++ rest) → All (λ x. x < 256) marks → width < 8 → bits_of marks ++ field width begun ≡ map (colour_at g) ms →
-    AreMarks v g marks
-marks-whole v g ms rest marks width begun p q e o bytes w bits =
-    let whole : IsOrder v ms = subst (IsOrder v) (ap (λ (xs : List Module). ms ++ xs) e ∙ append-nil ms) o in
-    let many = order-length v ms p q whole in
-    let all = marks-many v g ms rest marks width begun p q e o w bits in
+-- the bits of the codewords of a square are read from the modules in order
+pub held-bits : (v mask : ℕ) (g : Grid) (ms : List Module) (cw : List ℕ) → 1 ≤ v → v ≤ 40 → IsOrder v ms →
+    IsRead v mask g cw → bits_of cw ≡ map (unmasked mask g) (take (8 * total_codewords_of v) ms)
+held-bits v mask g ms cw p q o h =
     let t = 8 * total_codewords_of v in
-    let f = colour_at g in
-    let cut : map f ms ≡ map f (take t ms) ++ map f (drop t ms) = ap (map f) (sym (take-append-drop t ms)) ∙ map-append f (take t ms) (drop t ms) in
-    let a = length-bits_of marks in
-    let b = length-map (take t ms) f in
-    let c = length-take t ms in
-    let front = append-front (bits_of marks) (map f (take t ms)) (field width begun) (map f (drop t ms)) (omega arith) (bits ∙ cut) in
-    record { bytes = bytes; places = ms; order = whole; bits = front.0 }
+    let many = order-length v ms p q o in
+    let none : t - length ms ≡ 0 = omega (arith, many) in
+    h.bits
+    ∙ (ap (read_bits v mask g) (only_order v h.places ms h.order o)
+    ∙ (ap (λ (z : ℕ). map (unmasked mask g) (take t ms) ++ replicate z false) none
+    ∙ append-nil (map (unmasked mask g) (take t ms))))
+
+-- the number of codewords of a square
+pub held-many : (v mask : ℕ) (g : Grid) (cw : List ℕ) → 1 ≤ v → v ≤ 40 → IsRead v mask g cw →
+    length cw ≡ total_codewords_of v
+held-many v mask g cw p q h =
+    let many = order-length v h.places p q h.order in
+    let bits = held-bits v mask g h.places cw p q h.order h in
+    many-read (unmasked mask g) h.places cw (total_codewords_of v) bits (omega (arith, many))
+
+-- ---- marks
+
+-- the number of marks of a square
+marks-many : (v : ℕ) (unknown : Grid) (marks : List ℕ) → 1 ≤ v → v ≤ 40 → IsReadUnmasked v unknown marks →
+    length marks ≡ total_codewords_of v
+marks-many v unknown marks p q h =
+    let many = order-length v h.places p q h.order in
+    many-read (λ m. colour unknown m.row m.col) h.places marks (total_codewords_of v) h.bits (omega (arith, many))
+
+-- colours that are the same
+same-is : (a b : Bool) → is_same a b ≡ true → a ≡ b
+same-is true true e = refl
+same-is true false e = sym e
+same-is false true e = e
+same-is false false e = refl
+
+-- each byte is 0 exactly if it has no bit that is 1, computed
+is_marked : ℕ → Bool
+is_marked x = is_same (list_any (λ b. b) (field 8 x)) (not (x == 0))
+
+bytes-marked : below 256 is_marked ≡ true
+unfolding field is_marked
+bytes-marked = refl
+
+any-read : (f : Module → Bool) (ms : List Module) → list_any f ms ≡ list_any (λ b. b) (map f ms)
+any-read f [] = refl
+any-read f (m ∷ ms) = ap (λ (b : Bool). f m || b) (any-read f ms)
+
+-- a codeword is erased exactly if its mark is not 0
+abbrev AgreesAt : Grid → List Module → List ℕ → ℕ → Type 0
+AgreesAt unknown places marks k =
+    list_any (λ m. colour unknown m.row m.col) (take 8 (drop (8 * k) places)) ≡ not (get_or marks k 0 == 0)
+
+mark-agrees : (v : ℕ) (unknown : Grid) (marks : List ℕ) (k : ℕ) → 1 ≤ v → v ≤ 40 →
+    (h : IsReadUnmasked v unknown marks) → k < total_codewords_of v → AgreesAt unknown h.places marks k
+unfolding is_marked
+mark-agrees v unknown marks k p q h l =
+    let f : Module → Bool = λ m. colour unknown m.row m.col in
+    let many = marks-many v unknown marks p q h in
+    let mark = get_or marks k 0 in
+    let byte : mark < 256 = h.bytes k 0 (omega (arith, l, many)) in
+    any-read f (take 8 (drop (8 * k) h.places))
+    ∙ (ap (list_any (λ (b : Bool). b)) (sym (codeword-read f h.places marks (total_codewords_of v) k h.bits many l))
+    ∙ same-is _ _ (below-at 256 is_marked bytes-marked mark byte))
+
+read-next : (x : ℕ) (xs : List ℕ) (b : Bool) (bs : List Bool) →
+    read_of (x ∷ xs) (b ∷ bs) ≡ cond b None (Some x) ∷ read_of xs bs
+read-next x xs true bs = refl
+read-next x xs false bs = refl
+
+-- what is read by marks
+read-marked : (unknown : Grid) (places : List Module) (cw marks ks : List ℕ) → All (AgreesAt unknown places marks) ks →
+    read_by (map (item cw) ks) (map (item marks) ks) ≡ map (read_at unknown places cw) ks
+read-marked unknown places cw marks [] h = refl
+read-marked unknown places cw marks (k ∷ ks) h =
+    let here = h 0 k (omega arith) in
+    let later = read-marked unknown places cw marks ks (All-tail (AgreesAt unknown places marks) k ks h) in
+    let rest = map (λ mark. not (mark == 0)) (map (item marks) ks) in
+    read-next (item cw k) (map (item cw) ks) (not (item marks k == 0)) rest
+    ∙ (λ i. cond (sym here i) None (Some (item cw k)) ∷ later i)
+
+-- what is read by marks of block i
+block-marked : (v : ℕ) (l : Level) (unknown : Grid) (cw marks ks js : List ℕ) (i : ℕ) → 1 ≤ v → v ≤ 40 →
+    (h : IsReadUnmasked v unknown marks) → AreInBlocks (blocks_of v l) (range_with_len 0 (total_codewords_of v)) ks js →
+    read_by (received (blocks_of v l) (map (item cw) ks) (map (item cw) js) i)
+    (received (blocks_of v l) (map (item marks) ks) (map (item marks) js) i)
+    ≡ map (read_at unknown h.places cw) (received (blocks_of v l) ks js i)
+block-marked v l unknown cw marks ks js i p q h inside =
+    let b = blocks_of v l in
+    let c = data_sizes b in
+    let sizes = correction_sizes b in
+    let n = total_codewords_of v in
+    let indices = range_with_len 0 n in
+    let len = length-range_with_len 0 n in
+    let agrees : ℕ → Type 0 = AgreesAt unknown h.places marks in
+    let all : All agrees indices = All-from_get_or agrees indices 0 (λ k r.
+    let here : k < n = omega (arith, r, len) in
+    let same : k ≡ get_or indices k 0 = omega (arith, get_or-range_with_len 0 n k 0 here) in
+    subst agrees same (mark-agrees v unknown marks k p q h here)) in
+    let first = gathered-all c agrees indices ks all inside.gathered in
+    let rest = All-drop agrees (codeword_count c) indices all in
+    let second = gathered-all sizes agrees (drop (codeword_count c) indices) js rest inside.rest in
+    let both : All agrees (received b ks js i) =
+    All-append agrees (part_of c ks i) (part_of sizes js i)
+    (All-take agrees (block_len c i) (drop (start_of c i) ks) (All-drop agrees (start_of c i) ks first))
+    (All-take agrees (block_len sizes i) (drop (start_of sizes i) js) (All-drop agrees (start_of sizes i) js second)) in
+    let x = received-map b (item cw) ks js i in
+    let y = received-map b (item marks) ks js i in
+    (λ k. read_by (x k) (y k)) ∙ read-marked unknown h.places cw marks (received b ks js i) both
+
+-- ---- mending by marks is mending with the modules that were not read
+
+pub by-marks : (v : ℕ) (l : Level) (unknown : Grid) (cw marks message misread : List ℕ) → 1 ≤ v → v ≤ 40 →
+    length cw ≡ total_codewords_of v → IsReadUnmasked v unknown marks → IsMendedIn unknown v l cw message misread →
+    IsMendedMessage (blocks_of v l) (spare_of v l) cw marks message misread
+by-marks v l unknown cw marks message misread p q long h m =
+    let b = blocks_of v l in
+    let n = total_codewords_of v in
+    let ks = m.indices in
+    let js = m.checks in
+    let same = only_order v m.places h.places m.order h.order in
+    let inside : AreInBlocks b (range_with_len 0 n) ks js = record { gathered = m.gathered; rest = m.rest } in
+    record {
+      codewords = map (item cw) ks;
+      checks = map (item cw) js;
+      unread = map (item marks) ks;
+      unread_checks = map (item marks) js;
+      in_blocks = items-in-blocks b n cw ks js long inside;
+      marked = items-in-blocks b n marks ks js (marks-many v unknown marks p q h) inside;
+      mended = record {
+        long = m.long;
+        many = m.many;
+        each = λ i r.
+            subst (λ (z : List (Option ℕ)). IsMendedBlock b (spare_of v l) z message (get_or misread i 0) i)
+            (ap (λ (ms : List Module). map (read_at unknown ms cw) (received b ks js i)) same
+            ∙ sym (block-marked v l unknown cw marks ks js i p q h inside))
+            (m.each i r);
+      };
+    }
+
+pub of-marks : (v : ℕ) (l : Level) (unknown : Grid) (cw marks message misread : List ℕ) → 1 ≤ v → v ≤ 40 →
+    length cw ≡ total_codewords_of v → IsReadUnmasked v unknown marks →
+    IsMendedMessage (blocks_of v l) (spare_of v l) cw marks message misread → IsMendedIn unknown v l cw message misread
+of-marks v l unknown cw marks message misread p q long h m =
+    let b = blocks_of v l in
+    let n = total_codewords_of v in
+    let some = indices-some v l p q in
+    let ks = some.0 in
+    let js = some.1 in
+    let inside = some.2 in
+    let codewords = items-in-blocks b n cw ks js long inside in
+    let unread = items-in-blocks b n marks ks js (marks-many v unknown marks p q h) inside in
+    let x = in-blocks-one b cw m.codewords m.checks (map (item cw) ks) (map (item cw) js) m.in_blocks codewords in
+    let y = in-blocks-one b marks m.unread m.unread_checks (map (item marks) ks) (map (item marks) js) m.marked unread in
+    let d = x.0 in
+    let e = x.1 in
+    let u = y.0 in
+    let w = y.1 in
+    record {
+      places = h.places;
+      order = h.order;
+      indices = ks;
+      checks = js;
+      gathered = inside.gathered;
+      rest = inside.rest;
+      long = m.mended.long;
+      many = m.mended.many;
+      each = λ i r.
+          subst (λ (z : List (Option ℕ)). IsMendedBlock b (spare_of v l) z message (get_or misread i 0) i)
+          ((λ k. read_by (received b (d k) (e k) i) (received b (u k) (w k) i))
+          ∙ block-marked v l unknown cw marks ks js i p q h inside)
+          (m.mended.each i r);
+    }

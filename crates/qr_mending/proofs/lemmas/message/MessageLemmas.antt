@@ -1,9 +1,19 @@
--- Blocks that are mended one after another; a final sequence is a damaged form of at most one message.
-use Rattle.std.proofs.Common.{◌≡◌, ℕ, ◌+◌, ◌<◌, ◌≤◌, List, ◌++◌, map, take, drop, length, length-drop, get_or, sym, ◌∙◌, ap, arith}
-use Rattle.std.proofs.lemmas.List.{length-take, take_all, drop_at, take-append-le, drop-append-le, ext_get_or}
+-- The parts of a list of codewords, that a sequence is gathered in at most one way, and the indices of its codewords.
+use Rattle.std.proofs.Common.{◌≡◌, ℕ, ◌+◌, ◌<◌, ◌≤◌, List, ◌++◌, map, take, drop, length, length-drop, get_or, refl, sym, ◌∙◌, ap, subst, arith}
+use Rattle.std.specs.List.{range_with_len, All}
+use Rattle.std.proofs.lemmas.List.{length-map, length-take, take_all, take-map, drop_at, drop-map, take-append-le, drop-append-le, map-append, ext_get_or, get_or-map}
+use Rattle.std.proofs.lemmas.List.Elements.{All-contains, All-from_get_or, All-take}
+use Rattle.std.proofs.lemmas.List.FromFn.{fill_by_all, length-range_with_len}
+use Rattle.std.proofs.lemmas.Simd.{map-map}
+use Rattle.qr_layout.specs.declared.blocks.Blocks.{Blocks}
+use Rattle.qr_layout.specs.declared.level.Level.{Level}
+use Rattle.qr_layout.specs.Blocks.{blocks_of}
+use Rattle.qr_layout.specs.Version.{total_codewords_of}
 use Rattle.qr_symbol.specs.declared.interleaving.BlockSizes.{BlockSizes}
-use Rattle.qr_symbol.specs.Interleaving.{Position, block_count, block_len, start_of, codeword_count, codeword_at, IsGathered, part_of}
-use Rattle.qr_symbol.proofs.Facts.{start-next, start-most, positions-one, position-of, map-at, Mem-of-Contains}
+use Rattle.qr_symbol.specs.Interleaving.{Position, IsPosition, block_count, block_len, start_of, codeword_count, codeword_at, data_sizes, correction_sizes, IsGathered, part_of}
+use Rattle.qr_symbol.proofs.Facts.{start-next, start-most, position-in, positions-one, position-of, map-at, map-each, gather-some, sizes-whole, Mem-of-Contains}
+use Rattle.qr_mending.specs.Message.{received}
+use Rattle.qr_mending.specs.Steps.Message.{AreInBlocks}
 
 -- ---- one list of received codewords
 
@@ -17,6 +27,89 @@ gathered-same c interleaved xs ys g h =
     let w = position-of c (block_count c) j (omega arith) (let z = g.long in omega arith) in
     let q = map-at (codeword_at c xs) (codeword_at c ys) g.positions w.0 first (Mem-of-Contains g.positions w.0 (g.order.complete w.0 w.1)) in
     ap (λ (k : ℕ). get_or xs k 0) (sym w.2) ∙ (q ∙ ap (λ (k : ℕ). get_or ys k 0) w.2))
+
+-- a sequence is put back into blocks in at most one way
+pub in-blocks-one : (b : Blocks) (interleaved d e x y : List ℕ) → AreInBlocks b interleaved d e →
+    AreInBlocks b interleaved x y → (d ≡ x) × (e ≡ y)
+in-blocks-one b interleaved d e x y g h =
+    let after = drop (codeword_count (data_sizes b)) interleaved in (
+      gathered-same (data_sizes b) interleaved d x g.gathered h.gathered,
+      gathered-same (correction_sizes b) after e y g.rest h.rest,
+    )
+
+-- ---- indices
+
+-- a function of each item can be taken before a sequence is gathered, or after
+gathered-map : (c : BlockSizes) (f : ℕ → ℕ) (xs ks : List ℕ) → IsGathered c xs ks → IsGathered c (map f xs) (map f ks)
+gathered-map c f xs ks g = let read : Position → ℕ = λ t. f (codeword_at c ks t) in record {
+  long = length-map ks f ∙ g.long;
+  positions = g.positions;
+  order = g.order;
+  many = g.many;
+  same =
+      map-each (IsPosition c) (codeword_at c (map f ks)) read g.positions g.order.in_blocks (λ t i.
+      let inside = position-in c t.place t.block i in
+      get_or-map f ks (start_of c t.block + t.place) 0 0 (omega (arith, inside, g.long)))
+      ∙ (sym (map-map f (codeword_at c ks) g.positions) ∙ (ap (map f) g.same ∙ sym (take-map f (codeword_count c) xs)));
+}
+
+-- what holds of each item of a sequence holds of each that is gathered
+pub gathered-all : (c : BlockSizes) (P : ℕ → Type 0) (xs ks : List ℕ) → All P xs → IsGathered c xs ks → All P ks
+gathered-all c P xs ks a g = All-from_get_or P ks 0 (λ j l.
+    let w = position-of c (block_count c) j (omega arith) (let q = g.long in omega arith) in
+    let read = codeword_at c ks in
+    let all : All P (map read g.positions) = subst (All P) (sym g.same) (All-take P (codeword_count c) xs a) in
+    let each : All (λ (t : Position). P (read t)) g.positions =
+    λ k t m. subst P (get_or-map read g.positions k t 0 m) (all k 0 (omega (arith, length-map g.positions read, m))) in
+    subst P (ap (λ (k : ℕ). get_or ks k 0) w.2)
+    (All-contains (λ (t : Position). P (read t)) g.positions w.0 each (g.order.complete w.0 w.1)))
+
+-- the item at an index
+abbrev pub item : List ℕ → ℕ → ℕ
+item xs k = get_or xs k 0
+
+-- the items at the indices that are put back into blocks
+pub items-in-blocks : (b : Blocks) (n : ℕ) (xs ks js : List ℕ) → length xs ≡ n →
+    AreInBlocks b (range_with_len 0 n) ks js → AreInBlocks b xs (map (item xs) ks) (map (item xs) js)
+items-in-blocks b n xs ks js e h =
+    let c = data_sizes b in
+    let sizes = correction_sizes b in
+    let own = codeword_count c in
+    let indices = range_with_len 0 n in
+    let all : map (item xs) indices ≡ xs = sym (fill_by_all (item xs) xs n 0 e (λ k l. refl)) in
+    let after = sym (drop-map (item xs) own indices) ∙ ap (drop own) all in
+    let first = gathered-map c (item xs) indices ks h.gathered in
+    let second = gathered-map sizes (item xs) (drop own indices) js h.rest in
+    record {
+      gathered = subst (λ (z : List ℕ). IsGathered c z (map (item xs) ks)) all first;
+      rest = subst (λ (z : List ℕ). IsGathered sizes z (map (item xs) js)) after second;
+    }
+
+-- the indices of the codewords of a symbol can be put back into blocks
+pub indices-some : (v : ℕ) (l : Level) → 1 ≤ v → v ≤ 40 →
+    (ks : List ℕ) × (js : List ℕ) × AreInBlocks (blocks_of v l) (range_with_len 0 (total_codewords_of v)) ks js
+indices-some v l p q =
+    let b = blocks_of v l in
+    let own = codeword_count (data_sizes b) in
+    let indices = range_with_len 0 (total_codewords_of v) in
+    let sum = sizes-whole v l p q in
+    let len = length-range_with_len 0 (total_codewords_of v) in
+    let left = length-drop own indices in
+    let first = gather-some (data_sizes b) indices (omega (arith, sum, len)) in
+    let second = gather-some (correction_sizes b) (drop own indices) (omega (arith, sum, len, left)) in
+    (first.0, second.0, record { gathered = first.1; rest = second.1 })
+
+part-map : (c : BlockSizes) (f : ℕ → ℕ) (ks : List ℕ) (i : ℕ) → part_of c (map f ks) i ≡ map f (part_of c ks i)
+part-map c f ks i =
+    ap (take (block_len c i)) (drop-map f (start_of c i) ks) ∙ take-map f (block_len c i) (drop (start_of c i) ks)
+
+-- the items of a block are those at its indices
+pub received-map : (b : Blocks) (f : ℕ → ℕ) (ks js : List ℕ) (i : ℕ) →
+    received b (map f ks) (map f js) i ≡ map f (received b ks js i)
+received-map b f ks js i =
+    let first = part-map (data_sizes b) f ks i in
+    let second = part-map (correction_sizes b) f js i in
+    (λ j. first j ++ second j) ∙ sym (map-append f (part_of (data_sizes b) ks i) (part_of (correction_sizes b) js i))
 
 -- ---- parts
 

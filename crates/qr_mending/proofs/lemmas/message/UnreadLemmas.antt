@@ -1,41 +1,27 @@
 -- A message of which some codewords were erased is mended block by block, to at most one message.
-use Rattle.std.proofs.Common.{◌≡◌, refl, ◌==◌, not, Bool, ℕ, ◌+◌, ◌-◌, ◌*◌, ◌/◌, ◌<◌, ◌≤◌, Option, List, [], ◌∷◌, ◌++◌, map, take, drop, length, length-append, get_or, sym, ◌∙◌, ap, subst, inl, inr, arith}
+use Rattle.std.proofs.Common.{◌≡◌, refl, ◌==◌, not, Bool, ℕ, ◌+◌, ◌-◌, ◌*◌, ◌/◌, ◌<◌, ◌≤◌, Option, List, [], ◌∷◌, ◌++◌, map, length, length-append, get_or, sym, ◌∙◌, ap, subst, inl, inr, arith}
+use Rattle.std.specs.List.{range_with_len}
 use Rattle.std.proofs.lemmas.Bool.{cases_lt}
 use Rattle.std.proofs.lemmas.List.{length_push, get_or_append_left, get_or_push, ext_get_or}
 use Rattle.qr_field.specs.Polynomial.{IsCorrection}
 use Rattle.qr_field.specs.Distance.{erasures, errors}
 use Rattle.qr_layout.specs.declared.blocks.Blocks.{Blocks}
 use Rattle.qr_layout.specs.declared.level.Level.{Level}
-use Rattle.qr_layout.specs.declared.region.Module.{Module}
 use Rattle.qr_layout.specs.Blocks.{blocks_of}
 use Rattle.qr_layout.specs.Version.{total_codewords_of}
 use Rattle.qr_layout.proofs.Facts.{only_order}
 use Rattle.qr_matrix.specs.Grid.{Grid}
-use Rattle.qr_symbol.specs.Interleaving.{block_count, block_len, codeword_count, data_sizes, correction_sizes, part_of}
-use Rattle.qr_symbol.proofs.Facts.{bits-one, len-most, parts-same, start-next}
+use Rattle.qr_symbol.specs.Interleaving.{block_count, block_len, codeword_count, data_sizes, part_of}
+use Rattle.qr_symbol.proofs.Facts.{len-most, parts-same, start-next}
 use Rattle.qr_field.proofs.lemmas.laws.DistanceLemmas.{unambiguous-known}
 use Rattle.qr_field.proofs.Facts.{correction-one}
 use Rattle.qr_mending.specs.Erasures.{read_of, IsMendedWithErasures}
-use Rattle.qr_mending.specs.Message.{colour_at, read_by, received, spare_of, AreInBlocks, AreMarks, AreMended, IsMendedIn, IsMendedBlock, IsMendedMessage}
+use Rattle.qr_mending.specs.Message.{read_at, received, spare_of, IsMendedIn, IsMendedBlock}
+use Rattle.qr_mending.specs.Steps.Message.{read_by, AreInBlocks, AreMended, IsMendedMessage}
 use Rattle.qr_mending.proofs.lemmas.erasures.ErasureLemmas.{length-read}
-use Rattle.qr_mending.proofs.lemmas.message.MessageLemmas.{gathered-same, part-grown, part-last, part-len}
-
--- ---- marks
-
--- a square has at most one list of marks
-pub marks-one : (v : ℕ) (unknown : Grid) (xs ys : List ℕ) → AreMarks v unknown xs → AreMarks v unknown ys → xs ≡ ys
-marks-one v unknown xs ys g h =
-    bits-one xs ys g.bytes h.bytes
-    (g.bits
-    ∙ (ap (λ (ms : List Module). map (colour_at unknown) (take (8 * total_codewords_of v) ms)) (only_order v g.places h.places g.order h.order)
-    ∙ sym h.bits))
+use Rattle.qr_mending.proofs.lemmas.message.MessageLemmas.{in-blocks-one, part-grown, part-last, part-len}
 
 -- ---- blocks
-
--- a sequence is put back into blocks in at most one way
-in-blocks-one : (b : Blocks) (interleaved d e x y : List ℕ) → AreInBlocks b interleaved d e → AreInBlocks b interleaved x y → (d ≡ x) × (e ≡ y)
-in-blocks-one b interleaved d e x y g h =
-    (gathered-same (data_sizes b) interleaved d x g.gathered h.gathered, gathered-same (correction_sizes b) (drop (codeword_count (data_sizes b)) interleaved) e y g.rest h.rest)
 
 -- if what was read is a damaged form of no block, no data codewords with their error correction codewords are near
 -- enough to it
@@ -90,37 +76,27 @@ unread-push b spare d e u w message misread es c n x l h len right count near =
 
 -- ---- at most one message
 
--- codewords with marks are a damaged form of at most one message
-unread-message-one : (b : Blocks) (spare : ℕ) (cw marks m n x y : List ℕ) → spare ≤ b.ec_len →
-    b.short_len + 1 + b.ec_len ≤ 255 → IsMendedMessage b spare cw marks m x → IsMendedMessage b spare cw marks n y →
-    (m ≡ n) × (x ≡ y)
-unread-message-one b spare cw marks m n x y enough few g h =
+-- blocks of which this was read are mended to at most one message
+blocks-one : (b : Blocks) (spare : ℕ) (read : ℕ → List (Option ℕ)) (m n x y : List ℕ) → spare ≤ b.ec_len →
+    b.short_len + 1 + b.ec_len ≤ 255 → length m ≡ codeword_count (data_sizes b) → length n ≡ codeword_count (data_sizes b) →
+    length x ≡ block_count (data_sizes b) → length y ≡ block_count (data_sizes b) →
+    ((i : ℕ) → i < block_count (data_sizes b) → IsMendedBlock b spare (read i) m (get_or x i 0) i) →
+    ((i : ℕ) → i < block_count (data_sizes b) → IsMendedBlock b spare (read i) n (get_or y i 0) i) → (m ≡ n) × (x ≡ y)
+blocks-one b spare read m n x y enough few mlong nlong xlong ylong g h =
     let c = data_sizes b in
-    let d = g.codewords in
-    let e = g.checks in
-    let u = g.unread in
-    let w = g.unread_checks in
-    let first = in-blocks-one b cw h.codewords h.checks d e h.in_blocks g.in_blocks in
-    let second = in-blocks-one b marks h.unread h.unread_checks u w h.marked g.marked in
-    let other : AreMended b spare d e u w (block_count c) n y =
-    subst (λ (z : List ℕ). AreMended b spare z e u w (block_count c) n y) first.0
-    (subst (λ (z : List ℕ). AreMended b spare h.codewords z u w (block_count c) n y) first.1
-    (subst (λ (z : List ℕ). AreMended b spare h.codewords h.checks z w (block_count c) n y) second.0
-    (subst (λ (z : List ℕ). AreMended b spare h.codewords h.checks h.unread z (block_count c) n y) second.1 h.mended))) in
-    let read : ℕ → List (Option ℕ) = λ i. read_by (received b d e i) (received b u w i) in
     let part : (i : ℕ) → i < block_count c → part_of c m i ≡ part_of c n i =
     λ i l.
-    let p = g.mended.each i l in
-    let q = other.each i l in
-    let lp = part-len c m i g.mended.long l in
-    let lq = part-len c n i other.long l in
+    let p = g i l in
+    let q = h i l in
+    let lp = part-len c m i mlong l in
+    let lq = part-len c n i nlong l in
     let t = (spare - erasures (read i)) / 2 in
     unambiguous-known b.ec_len t (part_of c m i) p.correction (part_of c n i) q.correction (read i) p.corrects q.corrects
     (lp ∙ sym lq) (omega (arith, lp, len-most c i, few)) (omega (arith, p.near, enough)) (omega (arith, p.near, p.count)) (omega (arith, q.near, q.count)) in
     let count : (i : ℕ) → i < block_count c → get_or x i 0 ≡ get_or y i 0 =
     λ i l.
-    let p = g.mended.each i l in
-    let q = other.each i l in
+    let p = g i l in
+    let q = h i l in
     let s = part i l in
     let r : p.correction ≡ q.correction =
     correction-one (part_of c n i) b.ec_len p.correction q.correction
@@ -128,8 +104,8 @@ unread-message-one b spare cw marks m n x y enough few g h =
     p.count
     ∙ (ap (λ z. errors (read i) (z ++ p.correction)) s
     ∙ (ap (λ z. errors (read i) (part_of c n i ++ z)) r ∙ sym q.count)) in (
-      parts-same c m n g.mended.long other.long part,
-      ext_get_or 0 x y (g.mended.many ∙ sym other.many) (λ i l. count i (omega (arith, l, g.mended.many))),
+      parts-same c m n mlong nlong part,
+      ext_get_or 0 x y (xlong ∙ sym ylong) (λ i l. count i (omega (arith, l, xlong))),
     )
 
 -- codewords of which some are erased are a damaged form of at most one message
@@ -137,9 +113,18 @@ pub beside-one : (unknown : Grid) (v : ℕ) (l : Level) (cw m n x y : List ℕ) 
     (blocks_of v l).short_len + 1 + (blocks_of v l).ec_len ≤ 255 → IsMendedIn unknown v l cw m x →
     IsMendedIn unknown v l cw n y → (m ≡ n) × (x ≡ y)
 beside-one unknown v l cw m n x y few g h =
-    let same = marks-one v unknown h.marks g.marks h.erased g.erased in
-    unread-message-one (blocks_of v l) (spare_of v l) cw g.marks m n x y (omega arith) few g.mended
-    (subst (λ (z : List ℕ). IsMendedMessage (blocks_of v l) (spare_of v l) cw z n y) same h.mended)
+    let b = blocks_of v l in
+    let indices = range_with_len 0 (total_codewords_of v) in
+    let ms = only_order v h.places g.places h.order g.order in
+    let same = in-blocks-one b indices h.indices h.checks g.indices g.checks
+    (record { gathered = h.gathered; rest = h.rest }) (record { gathered = g.gathered; rest = g.rest }) in
+    let ks = same.0 in
+    let js = same.1 in
+    let read : ℕ → List (Option ℕ) = λ i. map (read_at unknown g.places cw) (received b g.indices g.checks i) in
+    blocks-one b (spare_of v l) read m n x y (omega arith) few
+    g.long h.long g.many h.many g.each
+    (λ i r. subst (λ (z : List (Option ℕ)). IsMendedBlock b (spare_of v l) z n (get_or y i 0) i)
+    (λ k. map (read_at unknown (ms k) cw) (received b (ks k) (js k) i)) (h.each i r))
 
 -- ---- the steps of the code
 
@@ -195,11 +180,3 @@ none-in-blocks b spare cw marks d e u w g h none message misread m =
     (subst (λ (z : List ℕ). AreMended b spare m.codewords z u w (block_count c) message misread) first.1
     (subst (λ (z : List ℕ). AreMended b spare m.codewords m.checks z w (block_count c) message misread) second.0
     (subst (λ (z : List ℕ). AreMended b spare m.codewords m.checks m.unread z (block_count c) message misread) second.1 m.mended))))
-
--- mending by marks is mending with the modules that were not read
-pub beside-refused : (unknown : Grid) (v : ℕ) (l : Level) (cw marks : List ℕ) → AreMarks v unknown marks →
-    ((message misread : List ℕ) → IsMendedMessage (blocks_of v l) (spare_of v l) cw marks message misread → ⊥) →
-    (message misread : List ℕ) → IsMendedIn unknown v l cw message misread → ⊥
-beside-refused unknown v l cw marks a none message misread h =
-    none message misread
-    (subst (λ (z : List ℕ). IsMendedMessage (blocks_of v l) (spare_of v l) cw z message misread) (marks-one v unknown h.marks marks h.erased a) h.mended)

@@ -7,7 +7,7 @@ use Rattle.qr_matrix.specs.Grid.{Grid, light}
 use Rattle.qr_symbol.specs.declared.fault.ReadFault.{ReadFault}
 use Rattle.qr_symbol.specs.declared.fault.ReadFault.TheVariants as fault
 use Rattle.qr_symbol.specs.Reading.{IsReading}
-use Rattle.qr_symbol.specs.Joining.{AreReadBy, AreReadings, IsJoined}
+use Rattle.qr_symbol.specs.Joining.{AreReadBy, IsJoined}
 use Rattle.qr_symbol.proofs.Facts.{joined-refused, joining-one, message-one, moved}
 use Rattle.qr_mending.specs.Mending.{IsUnmended}
 use Rattle.qr_mending.specs.Series.{AreDamagedSquares, IsDamagedSquare, IsMendedContent, IsMendedSeries, IsUnmendedSeries}
@@ -39,7 +39,7 @@ damaged-content d w c s h =
     )
 
 -- damaged squares are mended to the contents that the whole squares are read as
-damaged-contents : (ds ws : List Grid) (cs : List Content) → AreDamagedSquares ds ws → AreReadings ws cs → AreReadBy IsMendedContent ds cs
+damaged-contents : (ds ws : List Grid) (cs : List Content) → AreDamagedSquares ds ws → AreReadBy IsReading ws cs → AreReadBy IsMendedContent ds cs
 unfolding AreDamagedSquares AreReadBy
 damaged-contents [] [] [] s h = tt
 damaged-contents [] [] (c ∷ cs) s h = absurd h

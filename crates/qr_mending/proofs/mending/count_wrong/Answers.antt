@@ -3,8 +3,8 @@ use Rattle.std.proofs.lemmas.Bool.{cases_lt, ne_eqb}
 use Rattle.std.proofs.lemmas.Bool.Decides.{nat_tests}
 use Rattle.qr_matrix.specs.BitRow.{has}
 use Rattle.qr_matrix.specs.Difference.{difference_count}
-use Rattle.qr_matrix.specs.Grid.{Grid, colour, with_row}
-use Rattle.qr_matrix.specs.Penalty.{is_same}
+use Rattle.qr_matrix.specs.Grid.{Grid, colour, with_row, is_same}
+use Rattle.qr_matrix.specs.Sums.{places_passing}
 use Rattle.qr_matrix.proofs.Facts.{colour-square}
 use Rattle.qr_mending.specs.Mending.{wrong_modules}
 use Rattle.qr_mending.proofs.lemmas.format.FormatLemmas.{sum-same}
@@ -75,7 +75,7 @@ loop-row-preserved c =
     }
 
 pub returns : goal.returns
-unfolding wrong_modules difference_count
+unfolding wrong_modules difference_count places_passing
 returns c =
     let g = c.args.matrix.now in
     c.differences.ensures

@@ -1,14 +1,38 @@
-use Rattle.std.proofs.Common.{Err, sym, ap, subst}
+use Rattle.std.proofs.Common.{Err, length, sym, ap, subst, ◌∙◌, arith}
 use Rattle.qr_symbol.specs.declared.fault.ReadFault.{ReadFault}
 use Rattle.qr_symbol.specs.Reading.{IsRead}
 use Rattle.qr_mending.proofs.lemmas.mending.MendingLemmas.{no-use}
-use Rattle.qr_mending.proofs.lemmas.message.UnreadLemmas.{beside-refused}
+use Rattle.qr_mending.proofs.lemmas.message.MarkLemmas.{by-marks, of-marks}
 use Rattle.qr_mending.proofs.mending.mend_by.Goals as goal
+
+pub returns-in-Ok-clause-mended : goal.returns-in-Ok-clause-mended
+returns-in-Ok-clause-mended c =
+    let v = c.args.version in
+    let u = c.args.unknown.now in
+    let cw = c.deref.result.now in
+    let value = c.deref.ensures.value in
+    let read = subst (IsRead v c.in-Some.mask c.args.matrix.now) (sym value) c.in_ok-codewords.ensures.read in
+    let many = ap length value ∙ c.in_ok-codewords.ensures.many in
+    let m = c.in-Ok.field-0 in
+    let mended = rw c.in-Ok.field-0-is at c.in-Ok.ensures.mended in (
+      c.in-Some.ensures,
+      record {
+        codewords = cw;
+        held = read;
+        mended = of-marks v c.in-Some.level u cw c.args.marks.now m.message.items m.changed.items (omega arith) (omega arith)
+            many c.requires.erased mended;
+      },
+      rw c.in-Ok.field-0-is at c.in-Ok.ensures.many,
+    )
 
 pub returns-in-Err-Check-clause-mended : goal.returns-in-Err-Check-clause-mended
 returns-in-Err-Check-clause-mended c =
     let u = c.args.unknown.now in
-    no-use u c.args.copy c.args.matrix.now c.args.version c.in-Some.level c.in-Some.mask c.deref.result.now c.in-Some.ensures
-    (subst (IsRead c.args.version c.in-Some.mask c.args.matrix.now) (sym c.deref.ensures.value) c.in_ok-codewords.ensures.read)
-    (beside-refused u c.args.version c.in-Some.level c.deref.result.now c.args.marks.now c.requires.erased
-    (c.in-Err-Check.ensures.refused (ap (λ (f : ReadFault). Err f) c.in-Err-Check.field-0-is)))
+    let v = c.args.version in
+    let value = c.deref.ensures.value in
+    let read = subst (IsRead v c.in-Some.mask c.args.matrix.now) (sym value) c.in_ok-codewords.ensures.read in
+    let many = ap length value ∙ c.in_ok-codewords.ensures.many in
+    no-use u c.args.copy c.args.matrix.now v c.in-Some.level c.in-Some.mask c.deref.result.now c.in-Some.ensures read (λ message misread h.
+    c.in-Err-Check.ensures.refused (ap (λ (f : ReadFault). Err f) c.in-Err-Check.field-0-is) message misread
+    (by-marks v c.in-Some.level u c.deref.result.now c.args.marks.now message misread (omega arith) (omega arith) many
+    c.requires.erased h))

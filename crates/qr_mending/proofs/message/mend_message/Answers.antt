@@ -3,7 +3,8 @@ use Rattle.qr_layout.specs.declared.blocks.Blocks.{Blocks}
 use Rattle.qr_layout.specs.Blocks.{blocks_of, data_codewords_of}
 use Rattle.qr_layout.proofs.Facts.{blocks-sound, laws-of}
 use Rattle.qr_symbol.specs.Interleaving.{codeword_count, data_sizes, correction_sizes}
-use Rattle.qr_mending.specs.Message.{spare_of, IsMendedMessage}
+use Rattle.qr_mending.specs.Message.{spare_of}
+use Rattle.qr_mending.specs.Steps.Message.{IsMendedMessage}
 use Rattle.qr_symbol.proofs.Facts.{data-sizes-whole, sizes-whole, ok-also}
 use Rattle.qr_mending.proofs.message.mend_message.Goals as goal
 

@@ -4,8 +4,8 @@ use Rattle.qr_layout.specs.Version.{total_codewords_of}
 use Rattle.qr_matrix.specs.Difference.{difference_count}
 use Rattle.qr_matrix.specs.Grid.{light}
 use Rattle.qr_matrix.proofs.Facts.{no-difference}
-use Rattle.qr_mending.specs.Message.{AreMarks}
-use Rattle.qr_mending.proofs.lemmas.message.LightLemmas.{no-marks, zeros-replicate}
+use Rattle.qr_symbol.specs.Reading.{IsReadUnmasked}
+use Rattle.qr_mending.proofs.lemmas.message.LightLemmas.{no-marks}
 use Rattle.qr_mending.proofs.message.read_marks.Goals as goal
 
 pub returns-then-differences-eq0-clause-marks : goal.returns-then-differences-eq0-clause-marks
@@ -16,5 +16,5 @@ returns-then-differences-eq0-clause-marks c =
     let none : difference_count u (light u.side) ≡ 0 = ap (difference_count u) (sym same) ∙ (sym c.differences.ensures ∙ c.if-differences-eq0.true) in
     let marks = no-marks v u (omega arith) (omega arith) c.requires ((no-difference u (light u.side)).0 none) in
     let many : c.from.result ≡ total_codewords_of v = c.from.ensures ∙ c.total_codewords.ensures in
-    let zero = c.in_ok-marks.ensures.items_if_clones_equal (λ y e. e) ∙ (ap (λ (n : ℕ). replicate n 0) many ∙ zeros-replicate (total_codewords_of v)) in
-    subst (AreMarks v u) (sym zero) marks
+    let zero = c.in_ok-marks.ensures.items_if_clones_equal (λ y e. e) ∙ ap (λ (n : ℕ). replicate n 0) many in
+    subst (IsReadUnmasked v u) (sym zero) marks

@@ -1,7 +1,7 @@
 use Rattle.std.proofs.Common.{false, ◌∙◌, ap, arith}
 use Rattle.qr_layout.specs.Version.{side_of}
 use Rattle.qr_matrix.specs.Grid.{light}
-use Rattle.qr_symbol.proofs.lemmas.drawing.DrawingLemmas.{square-is}
+use Rattle.qr_symbol.proofs.lemmas.placement.PlacementLemmas.{square-is}
 use Rattle.qr_symbol.proofs.lemmas.choice.ChoiceLemmas.{canvas-mask, canvas-drawn}
 use Rattle.qr_symbol.proofs.choice.build_on.Goals as goal
 

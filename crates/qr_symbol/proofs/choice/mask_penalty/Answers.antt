@@ -3,8 +3,8 @@ use Rattle.qr_layout.specs.Version.{side_of}
 use Rattle.qr_layout.specs.Format.{format_word_of}
 use Rattle.qr_matrix.specs.Grid.{Grid, colour}
 use Rattle.qr_matrix.specs.Penalty.{penalty_of}
-use Rattle.qr_symbol.specs.Steps.Drawing.{masked_colour}
-use Rattle.qr_symbol.proofs.lemmas.drawing.DrawingLemmas.{square-is}
+use Rattle.qr_symbol.specs.Steps.Placement.{masked_colour}
+use Rattle.qr_symbol.proofs.lemmas.placement.PlacementLemmas.{square-is}
 use Rattle.qr_symbol.proofs.choice.mask_penalty.Goals as goal
 
 pub returns : goal.returns

@@ -1,7 +1,7 @@
 use Rattle.std.proofs.Common.{◌≡◌, ◌-◌, ◌++◌, ◌∙◌, subst, arith}
 use Rattle.std.specs.Prelude.{OnOk}
 use Rattle.qr_layout.specs.Version.{side_of}
-use Rattle.qr_symbol.proofs.lemmas.drawing.AcrossLemmas.{region-across}
+use Rattle.qr_symbol.proofs.lemmas.placement.AcrossLemmas.{region-across}
 use Rattle.qr_symbol.proofs.lemmas.collecting.CollectingLemmas.{strip-bits}
 use Rattle.qr_symbol.proofs.collecting.collect_strip.Goals as goal
 

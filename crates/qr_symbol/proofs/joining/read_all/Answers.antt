@@ -1,12 +1,12 @@
 use Rattle.std.proofs.Common.{[], sym, subst}
 use Rattle.std.proofs.lemmas.Result.{err_from_is_err_and}
 use Rattle.qr_symbol.specs.Reading.{IsReading}
-use Rattle.qr_symbol.specs.Joining.{AreReadings}
+use Rattle.qr_symbol.specs.Joining.{AreReadBy}
 use Rattle.qr_symbol.proofs.lemmas.joining.JoiningLemmas.{readings-none, readings-more, unjoined-at}
 use Rattle.qr_symbol.proofs.joining.read_all.Goals as goal
 
 pub loop-symbol-init : goal.loop-symbol-init
-loop-symbol-init c = subst (AreReadings []) (sym c.in_ok-contents.ensures.items) (readings-none IsReading)
+loop-symbol-init c = subst (AreReadBy IsReading []) (sym c.in_ok-contents.ensures.items) (readings-none IsReading)
 
 pub returns-in_err-read_symbol : goal.returns-in_err-read_symbol
 returns-in_err-read_symbol c =

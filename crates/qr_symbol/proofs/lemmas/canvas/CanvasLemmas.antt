@@ -6,11 +6,11 @@ use Rattle.qr_layout.specs.Version.{side_of}
 use Rattle.qr_layout.proofs.Facts.{below, below-at, region-symmetric, role-symmetric}
 use Rattle.qr_matrix.specs.Grid.{Grid, square, colour, transposed}
 use Rattle.qr_matrix.proofs.Facts.{square-same, colour-square, colour-transposed}
-use Rattle.qr_symbol.specs.Symbol.{word_bit}
+use Rattle.qr_matrix.specs.BitRow.{has_bit}
 use Rattle.qr_symbol.specs.Steps.Canvas.{HasPatterns}
-use Rattle.qr_symbol.specs.Steps.Drawing.{placed_colour, plain_grid}
+use Rattle.qr_symbol.specs.Steps.Placement.{placed_colour, plain_grid}
 use Rattle.qr_symbol.specs.Steps.Patterns.{fixed_colour, paint_of, symmetric_format}
-use Rattle.qr_symbol.proofs.lemmas.drawing.DrawingLemmas.{by_test, inside, outside, square-is}
+use Rattle.qr_symbol.proofs.lemmas.placement.PlacementLemmas.{by_test, inside, outside, square-is}
 
 -- two truth values are equal
 alike : Bool → Bool → Bool
@@ -27,15 +27,15 @@ alike-same false true h = cc
 alike-same false false h = refl
 
 -- just bit 7 of the symmetric format information is 1, computed
-just-seven : below 15 (λ i. alike (word_bit symmetric_format i) (eqb i 7)) ≡ true
-unfolding alike
+just-seven : below 15 (λ i. alike (has_bit symmetric_format i) (eqb i 7)) ≡ true
+unfolding alike has_bit
 just-seven = refl
 
 -- the colours outside the encoding region are the same with row and column exchanged
 paint-symmetric : (v r c : ℕ) → 1 ≤ v → r < side_of v → c < side_of v → paint_of v symmetric_format r c ≡ paint_of v symmetric_format c r
 unfolding fixed_colour
 paint-symmetric v r c l h k =
-    role-symmetric (fixed_colour symmetric_format (version_word_of v)) v r c l h k (λ i m. alike-same _ _ (below-at 15 (λ i. alike (word_bit symmetric_format i) (eqb i 7)) just-seven i m))
+    role-symmetric (fixed_colour symmetric_format (version_word_of v)) v r c l h k (λ i m. alike-same _ _ (below-at 15 (λ i. alike (has_bit symmetric_format i) (eqb i 7)) just-seven i m))
 
 -- a square on which the function patterns are drawn has them
 pub patterns-start : (v : ℕ) (g h : Grid) → h ≡ square (side_of v) (λ r c. cond (is_in_region v r c) (colour g r c) (paint_of v symmetric_format r c)) → HasPatterns v h

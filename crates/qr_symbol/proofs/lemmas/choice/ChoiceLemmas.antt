@@ -8,8 +8,8 @@ use Rattle.qr_symbol.specs.Choice.{IsFirstLeast, IsMask, mask_penalty}
 use Rattle.qr_matrix.specs.Penalty.{penalty_of}
 use Rattle.qr_symbol.specs.declared.canvas.Canvas.{Canvas}
 use Rattle.qr_symbol.specs.Symbol.{grid_of}
-use Rattle.qr_symbol.specs.Steps.Drawing.{masked_grid, masked_penalty, region_grid, plain_grid}
-use Rattle.qr_symbol.proofs.lemmas.drawing.DrawingLemmas.{masked-all}
+use Rattle.qr_symbol.specs.Steps.Placement.{masked_grid, masked_penalty, region_grid, plain_grid}
+use Rattle.qr_symbol.proofs.lemmas.placement.PlacementLemmas.{masked-all}
 
 -- of the numbers below 1, the one with the least value is 0
 pub least-start : (f : ℕ → ℕ) → IsFirstLeast 1 f 0

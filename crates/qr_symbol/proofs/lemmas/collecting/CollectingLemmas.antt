@@ -8,11 +8,11 @@ use Rattle.qr_layout.specs.Region.{is_in_region}
 use Rattle.qr_layout.specs.Strips.{both_of, rows_from, places_of}
 use Rattle.qr_matrix.specs.BitRow.{has}
 use Rattle.qr_matrix.specs.Grid.{Grid, colour}
-use Rattle.qr_symbol.specs.declared.drawing.Columns.{Columns}
-use Rattle.qr_symbol.specs.Steps.Drawing.{row_of}
+use Rattle.qr_symbol.specs.declared.placement.Columns.{Columns}
+use Rattle.qr_symbol.specs.Steps.Placement.{row_of}
 use Rattle.qr_symbol.specs.Steps.Collecting.{bit_if, bits_in_row, bits_in_rows, colour_across}
-use Rattle.qr_symbol.proofs.lemmas.drawing.DrawingLemmas.{at}
-use Rattle.qr_symbol.proofs.lemmas.drawing.KeptPlaceLemmas.{kept-append, places-push}
+use Rattle.qr_symbol.proofs.lemmas.placement.PlacementLemmas.{at}
+use Rattle.qr_symbol.proofs.lemmas.placement.KeptPlaceLemmas.{kept-append, places-push}
 
 -- the bits of n + m rows are those of the first n rows, followed by those of m more
 rows-append : (s : ℕ) (x : Strip) (r y : Columns) (k n m : ℕ) → bits_in_rows s x r y k (n + m) ≡ bits_in_rows s x r y k n ++ bits_in_rows s x r y (k + n) m

@@ -4,13 +4,14 @@ use borrow.Author.Tests.{ltb-true}
 use Rattle.qr_layout.specs.declared.strips.Strip.{Strip}
 use Rattle.qr_bits.specs.Bits.{field}
 use Rattle.qr_matrix.specs.BitRow.{has, has_bit}
-use Rattle.qr_matrix.specs.Penalty.{is_same, all_below}
+use Rattle.qr_matrix.specs.Grid.{is_same}
+use Rattle.qr_matrix.specs.Sums.{all_below}
 use Rattle.qr_matrix.proofs.Facts.{below-at, same-same, &&-left, &&-right}
 use Rattle.qr_symbol.specs.declared.collecting.TheConstants.{SPREADS}
-use Rattle.qr_symbol.specs.declared.drawing.Columns.{Columns}
+use Rattle.qr_symbol.specs.declared.placement.Columns.{Columns}
 use Rattle.qr_symbol.specs.Steps.Collecting.{bits_in_rows}
-use Rattle.qr_symbol.specs.Steps.Drawing.{row_of}
-use Rattle.qr_symbol.proofs.lemmas.drawing.AcrossLemmas.{rank_of}
+use Rattle.qr_symbol.specs.Steps.Placement.{row_of}
+use Rattle.qr_symbol.proofs.lemmas.placement.AcrossLemmas.{rank_of}
 
 -- the table's entry for a direction and four modules
 abbrev pub spread : ℕ → ℕ → ℕ

@@ -9,7 +9,7 @@ use Rattle.qr_symbol.specs.declared.symbol.Symbol.{Symbol}
 use Rattle.qr_matrix.specs.Grid.{Grid}
 use Rattle.qr_symbol.specs.Reading.{IsReading, IsUnread}
 use Rattle.qr_symbol.specs.Series.{squares_of}
-use Rattle.qr_symbol.specs.Joining.{AreReadBy, AreReadings, bytes_of_all, HaveHeaders, BelongTogether, IsFirstRefused, IsJoinedBy, IsNoSeries, IsUnjoined, IsUnjoinedBy}
+use Rattle.qr_symbol.specs.Joining.{AreReadBy, bytes_of_all, HaveHeaders, BelongTogether, IsFirstRefused, IsJoinedBy, IsNoSeries, IsUnjoined, IsUnjoinedBy}
 
 -- ---- squares and contents, in turn
 
@@ -50,11 +50,11 @@ squares-taken : (ss : List Symbol) (i : ℕ) → squares_of (take i ss) ≡ take
 squares-taken ss i = sym (take-map (λ (x : Symbol). x.matrix) i ss)
 
 -- one more symbol is read
-pub readings-more : (ss : List Symbol) (i : ℕ) (s : Symbol) (cs : List Content) (c : Content) → i < length ss → s ≡ get_or ss i s → AreReadings (squares_of (take i ss)) cs → IsReading s.matrix c → AreReadings (squares_of (take (i + 1) ss)) (cs ++ c ∷ [])
+pub readings-more : (ss : List Symbol) (i : ℕ) (s : Symbol) (cs : List Content) (c : Content) → i < length ss → s ≡ get_or ss i s → AreReadBy IsReading (squares_of (take i ss)) cs → IsReading s.matrix c → AreReadBy IsReading (squares_of (take (i + 1) ss)) (cs ++ c ∷ [])
 readings-more ss i s cs c l e a h =
     let at = square-at ss i s l e in
-    subst (λ (gs : List Grid). AreReadings gs (cs ++ c ∷ [])) (sym (squares-taken ss (i + 1)))
-    (readings-next IsReading (squares_of ss) i s.matrix cs c at.0 at.1 (subst (λ (gs : List Grid). AreReadings gs cs) (squares-taken ss i) a) h)
+    subst (λ (gs : List Grid). AreReadBy IsReading gs (cs ++ c ∷ [])) (sym (squares-taken ss (i + 1)))
+    (readings-next IsReading (squares_of ss) i s.matrix cs c at.0 at.1 (subst (λ (gs : List Grid). AreReadBy IsReading gs cs) (squares-taken ss i) a) h)
 
 -- ---- the first fault
 
@@ -82,10 +82,10 @@ unjoined-next reads refuses n gs i g cs e l p a u =
     unread-unjoined reads refuses n gs e (subst (λ (fs : List Grid). IsFirstRefused reads refuses fs e) (sym around) (first-unread reads refuses (take i gs) (drop (i + 1) gs) cs g e a u))
 
 -- if all symbols before one are read and this one is refused for a fault, they are not joined because of this fault
-pub unjoined-at : (ss : List Symbol) (i : ℕ) (s : Symbol) (cs : List Content) (e : ReadFault) → i < length ss → s ≡ get_or ss i s → AreReadings (squares_of (take i ss)) cs → IsUnread s.matrix e → IsUnjoined (squares_of ss) e
+pub unjoined-at : (ss : List Symbol) (i : ℕ) (s : Symbol) (cs : List Content) (e : ReadFault) → i < length ss → s ≡ get_or ss i s → AreReadBy IsReading (squares_of (take i ss)) cs → IsUnread s.matrix e → IsUnjoined (squares_of ss) e
 unjoined-at ss i s cs e l p a u =
     let at = square-at ss i s l p in
-    unjoined-next IsReading IsUnread (λ g v. v) (squares_of ss) i s.matrix cs e at.0 at.1 (subst (λ (gs : List Grid). AreReadings gs cs) (squares-taken ss i) a) u
+    unjoined-next IsReading IsUnread (λ g v. v) (squares_of ss) i s.matrix cs e at.0 at.1 (subst (λ (gs : List Grid). AreReadBy IsReading gs cs) (squares-taken ss i) a) u
 
 -- ---- the headers of a series
 

@@ -2,17 +2,16 @@
 use Rattle.std.proofs.Common.{◌≡◌, ℕ, ◌+◌, ◌-◌, ◌<◌, ◌≤◌, Bool, true, false, cond, eqb, ltb, leb, ◌&&◌, ◌||◌, ◌⊎◌, refl, sym, ◌∙◌, ap, inl, inr, arith}
 use Rattle.std.proofs.lemmas.Bool.{cases_eq, cases_lt}
 use Rattle.std.proofs.lemmas.Bool.Decides.{nat_tests}
-use Rattle.std.specs.List.{list_any}
 use Rattle.qr_layout.specs.declared.region.Module.{Module}
 use Rattle.qr_layout.specs.declared.role.Role.{Role}
 use Rattle.qr_layout.specs.declared.role.Role.TheVariants.{Fixed, FormatBit, VersionBit, Region}
 use Rattle.qr_layout.specs.Version.{side_of}
 use Rattle.qr_layout.specs.Format.{version_word_of}
-use Rattle.qr_layout.specs.Rectangles.{corner_rectangles, is_in_rectangle}
+use Rattle.qr_layout.specs.Region.{is_corner}
 use Rattle.qr_layout.specs.Role.{role_of, first_place, second_place}
 use Rattle.qr_layout.proofs.Facts.{dark-module, format-first, format-only, format-second}
 use Rattle.qr_symbol.specs.Steps.Patterns.{fixed_colour, format_or, is_dark_in_six, paint_of}
-use Rattle.qr_symbol.proofs.lemmas.drawing.DrawingLemmas.{at, by_test}
+use Rattle.qr_symbol.proofs.lemmas.placement.PlacementLemmas.{at, by_test}
 use Rattle.qr_symbol.proofs.lemmas.patterns.TimingLemmas.{paint-column_six, paint-fixed, paint-row_six}
 
 -- the test that a place is in the eight by eight modules of a finder pattern and its separator
@@ -102,7 +101,7 @@ row-painted v c format w k1 k2 n l o = elim (cases_lt c 6) [
 ]
 
 -- the place (r, c) is beside a finder pattern, in column 8 or in row 8
-beside-cases : (s r c : ℕ) → 21 ≤ s → r < s → c < s → begun s r c ≡ false → list_any (is_in_rectangle r c) (corner_rectangles s) ≡ true
+beside-cases : (s r c : ℕ) → 21 ≤ s → r < s → c < s → begun s r c ≡ false → is_corner s r c ≡ true
     → ((c ≡ 8) × ((r < 9 ⊎ s - 8 < r) × (r ≡ 6 → ⊥))) ⊎ ((r ≡ 8) × ((c < 8 ⊎ s - 8 ≤ c) × (c ≡ 6 → ⊥)))
 beside-cases s r c h l m t u = elim (cases_eq c 8) [
   | inl e ↦ inl (e, (near_column e (cases_lt r 9), column-free e))
@@ -133,7 +132,7 @@ beside-cases s r c h l m t u = elim (cases_eq c 8) [
     row-free e a = grind (arith, nat_tests)
 
 -- drawing the format information does not change the modules outside the corners
-outside-kept : (v r c format : ℕ) (w : Bool) → 1 ≤ v → list_any (is_in_rectangle r c) (corner_rectangles (side_of v)) ≡ false → format_or format (role_of v r c) w ≡ w
+outside-kept : (v r c format : ℕ) (w : Bool) → 1 ≤ v → is_corner (side_of v) r c ≡ false → format_or format (role_of v r c) w ≡ w
 unfolding format_or
 outside-kept v r c format w k h = kept (role_of v r c) (λ i q. far i (format-only v (at r c) i q))
   where
@@ -157,11 +156,11 @@ outside-kept v r c format w k h = kept (role_of v r c) (λ i q. far i (format-on
 
 -- the format information completes the corners
 pub corners-done : (v r c format : ℕ) (w : Bool) → 1 ≤ v → v ≤ 40 → r < side_of v → c < side_of v
-    → format_or format (role_of v r c) (cond (begun (side_of v) r c) (paint_of v format r c) w) ≡ cond (list_any (is_in_rectangle r c) (corner_rectangles (side_of v))) (paint_of v format r c) w
+    → format_or format (role_of v r c) (cond (begun (side_of v) r c) (paint_of v format r c) w) ≡ cond (is_corner (side_of v) r c) (paint_of v format r c) w
 corners-done v r c format w k1 k2 l m =
     let q = role_of v r c in
     let p = paint_of v format r c in
-    let corner = list_any (is_in_rectangle r c) (corner_rectangles (side_of v)) in
+    let corner = is_corner (side_of v) r c in
     let b = begun (side_of v) r c in
     by_test b (format_or format q (cond b p w) ≡ cond corner p w)
     (λ t. ap (λ z. format_or format q (cond z p w)) t ∙ (stays-painted v r c format ∙ ap (λ z. cond z p w) (sym (begun-corner (side_of v) (omega arith) l m t))))
@@ -169,7 +168,7 @@ corners-done v r c format w k1 k2 l m =
     (λ u. drawn (cond b p w) (beside-cases (side_of v) r c (omega arith) l m t u) ∙ ap (λ z. cond z p w) (sym u))
     (λ u. outside-kept v r c format (cond b p w) k1 u ∙ (ap (λ z. cond z p w) t ∙ ap (λ z. cond z p w) (sym u))))
   where
-    begun-corner : (s : ℕ) → 21 ≤ s → r < s → c < s → begun s r c ≡ true → list_any (is_in_rectangle r c) (corner_rectangles s) ≡ true
+    begun-corner : (s : ℕ) → 21 ≤ s → r < s → c < s → begun s r c ≡ true → is_corner s r c ≡ true
     begun-corner s h l m t = grind (arith, nat_tests)
 
     drawn : (x : Bool) → ((c ≡ 8) × ((r < 9 ⊎ side_of v - 8 < r) × (r ≡ 6 → ⊥))) ⊎ ((r ≡ 8) × ((c < 8 ⊎ side_of v - 8 ≤ c) × (c ≡ 6 → ⊥))) → format_or format (role_of v r c) x ≡ paint_of v format r c

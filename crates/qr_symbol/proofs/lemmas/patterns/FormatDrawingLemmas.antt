@@ -10,9 +10,9 @@ use Rattle.qr_layout.specs.Role.{role_of, first_place, second_place}
 use Rattle.qr_layout.proofs.Facts.{format-only, format-first, format-second}
 use Rattle.qr_matrix.specs.Grid.{Grid, square, colour, painted, IsSquare}
 use Rattle.qr_matrix.proofs.Facts.{same-place, square-same, colour-painted-here, colour-painted-there}
-use Rattle.qr_symbol.specs.Symbol.{word_bit}
+use Rattle.qr_matrix.specs.BitRow.{has_bit}
 use Rattle.qr_symbol.specs.Steps.Patterns.{format_bits_or, format_or}
-use Rattle.qr_symbol.proofs.lemmas.drawing.DrawingLemmas.{at}
+use Rattle.qr_symbol.proofs.lemmas.placement.PlacementLemmas.{at}
 
 -- the bits from first to n - 1 are drawn, and no other module is changed
 abbrev pub FormatDone : ℕ → ℕ → ℕ → ℕ → Grid → Grid → Type 0
@@ -25,16 +25,16 @@ format-start v format first g r c l m = none (role_of v r c)
   where
     none : (q : Role) → colour g r c ≡ format_bits_or first first format q (colour g r c)
     none (Fixed dark) = refl
-    none (FormatBit i) = let e : (leb first i && ltb i first) ≡ false = grind (arith, nat_tests) in ap (λ z. cond z (word_bit format i) (colour g r c)) (sym e)
+    none (FormatBit i) = let e : (leb first i && ltb i first) ≡ false = grind (arith, nat_tests) in ap (λ z. cond z (has_bit format i) (colour g r c)) (sym e)
     none (VersionBit i) = refl
     none Region = refl
 
 -- once bit n is drawn, a module that holds it has its colour
-bit-drawn : (first n format : ℕ) (q : Role) (other d : Bool) → first ≤ n → q ≡ FormatBit n → d ≡ word_bit format n → d ≡ format_bits_or first (n + 1) format q other
+bit-drawn : (first n format : ℕ) (q : Role) (other d : Bool) → first ≤ n → q ≡ FormatBit n → d ≡ has_bit format n → d ≡ format_bits_or first (n + 1) format q other
 unfolding format_bits_or
 bit-drawn first n format q other d k e f =
     let t : (leb first n && ltb n (n + 1)) ≡ true = grind (arith, nat_tests) in
-    f ∙ (ap (λ z. cond z (word_bit format n) other) (sym t) ∙ ap (λ (z : Role). format_bits_or first (n + 1) format z other) (sym e))
+    f ∙ (ap (λ z. cond z (has_bit format n) other) (sym t) ∙ ap (λ (z : Role). format_bits_or first (n + 1) format z other) (sym e))
 
 -- drawing bit n does not change a module that does not hold it
 bit-kept : (first n format : ℕ) (q : Role) (other : Bool) → (q ≡ FormatBit n → ⊥) → format_bits_or first n format q other ≡ format_bits_or first (n + 1) format q other
@@ -42,14 +42,14 @@ unfolding format_bits_or
 bit-kept first n format (Fixed dark) other o = refl
 bit-kept first n format (FormatBit i) other o = elim (cases_eq i n) [
   | inl e ↦ absurd (o (ap FormatBit e))
-  | inr e ↦ let t : (leb first i && ltb i n) ≡ (leb first i && ltb i (n + 1)) = grind (arith, nat_tests) in ap (λ z. cond z (word_bit format i) other) t
+  | inr e ↦ let t : (leb first i && ltb i n) ≡ (leb first i && ltb i (n + 1)) = grind (arith, nat_tests) in ap (λ z. cond z (has_bit format i) other) t
 ]
 bit-kept first n format (VersionBit i) other o = refl
 bit-kept first n format Region other o = refl
 
 -- one bit is drawn at its two places
 pub format-step : (v format first i : ℕ) (g0 g : Grid) (a b : Module) (d : Bool) → 1 ≤ v → v ≤ 40 → first ≤ i → i < 15 → g.side ≡ side_of v
-    → a ≡ first_place i → a.row < side_of v → a.col < side_of v → b ≡ second_place (side_of v) i → b.row < side_of v → b.col < side_of v → d ≡ word_bit format i
+    → a ≡ first_place i → a.row < side_of v → a.col < side_of v → b ≡ second_place (side_of v) i → b.row < side_of v → b.col < side_of v → d ≡ has_bit format i
     → FormatDone v format first i g0 g → FormatDone v format first (i + 1) g0 (painted (painted g a.row a.col d) b.row b.col d)
 format-step v format first i g0 g a b d k1 k2 k l s ea ar ac eb br bc ed h r c m n = elim (same-place b.row b.col r c) [
   | inl w ↦
@@ -92,6 +92,6 @@ three-parts v format r c other = parts (role_of v r c) (λ i q. (format-only v (
     parts (FormatBit i) f =
         let l = f i refl in
         let t : (((leb 0 i && ltb i 6) || (leb 6 i && ltb i 9)) || (leb 9 i && ltb i 15)) ≡ true = grind (arith, nat_tests) in
-        one (leb 0 i && ltb i 6) (leb 6 i && ltb i 9) (leb 9 i && ltb i 15) (word_bit format i) other t
+        one (leb 0 i && ltb i 6) (leb 6 i && ltb i 9) (leb 9 i && ltb i 15) (has_bit format i) other t
     parts (VersionBit i) f = refl
     parts Region f = refl

@@ -12,7 +12,7 @@ use Rattle.qr_layout.specs.Region.{is_alignment, ring_of}
 use Rattle.qr_layout.specs.Role.{is_alignment_light}
 use Rattle.qr_matrix.specs.Grid.{Grid, square, colour, painted, with_rectangle, IsSquare}
 use Rattle.qr_matrix.proofs.Facts.{same-place, square-same, colour-square}
-use Rattle.qr_symbol.proofs.lemmas.drawing.DrawingLemmas.{square-is}
+use Rattle.qr_symbol.proofs.lemmas.placement.PlacementLemmas.{square-is}
 
 -- the square with the colours f at the places that pass the test, and h at all other places
 abbrev pub over : ℕ → (ℕ → ℕ → Bool) → (ℕ → ℕ → Bool) → (ℕ → ℕ → Bool) → Grid

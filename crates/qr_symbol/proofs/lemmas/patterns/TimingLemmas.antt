@@ -3,9 +3,8 @@ use Rattle.std.proofs.Common.{◌≡◌, ℕ, ◌+◌, ◌-◌, ◌%◌, ◌<◌
 use Rattle.std.proofs.lemmas.Bool.{cases_lt}
 use Rattle.std.proofs.lemmas.Bool.Decides.{nat_tests}
 use Rattle.qr_layout.specs.declared.role.Role.TheVariants.{Fixed}
-use Rattle.std.specs.List.{list_any}
 use Rattle.qr_layout.specs.Format.{version_word_of}
-use Rattle.qr_layout.specs.Rectangles.{is_in_rectangle, timing_rectangles}
+use Rattle.qr_layout.specs.Region.{is_timing}
 use Rattle.qr_layout.specs.Version.{side_of}
 use Rattle.qr_layout.specs.Role.{finder_ring, pattern_colour, role_of}
 use Rattle.qr_symbol.specs.Steps.Patterns.{fixed_colour, is_dark_in_six, paint_of}
@@ -104,5 +103,5 @@ pub six-more : (at r c : ℕ) → ((eqb r 6 && ltb c (at + 1)) || (eqb c 6 && lt
 six-more at r c = grind (arith, nat_tests)
 
 -- at the end all modules of row 6 and column 6 are painted
-pub six-all : (s r c : ℕ) → r < s → c < s → ((eqb r 6 && ltb c s) || (eqb c 6 && ltb r s)) ≡ list_any (is_in_rectangle r c) (timing_rectangles s)
+pub six-all : (s r c : ℕ) → r < s → c < s → ((eqb r 6 && ltb c s) || (eqb c 6 && ltb r s)) ≡ is_timing r c
 six-all s r c l m = grind (arith, nat_tests)

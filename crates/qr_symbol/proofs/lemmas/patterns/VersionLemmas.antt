@@ -1,14 +1,13 @@
 -- The version information, drawn bit by bit at its two places.
-use Rattle.std.proofs.Common.{◌≡◌, ℕ, ◌+◌, ◌-◌, ◌*◌, ◌/◌, ◌%◌, ◌<◌, ◌≤◌, Bool, false, eqb, ltb, leb, ◌&&◌, ◌||◌, [], ◌∷◌, sym, ap, arith}
+use Rattle.std.proofs.Common.{◌≡◌, ℕ, ◌+◌, ◌-◌, ◌*◌, ◌/◌, ◌%◌, ◌<◌, ◌≤◌, Bool, false, true, eqb, ltb, leb, ◌&&◌, ◌||◌, sym, ap, arith}
 use Rattle.std.proofs.lemmas.Bool.Decides.{nat_tests}
-use Rattle.std.specs.List.{list_any}
 use Rattle.qr_layout.specs.declared.role.Role.TheVariants.{VersionBit}
 use Rattle.qr_layout.specs.Version.{side_of}
 use Rattle.qr_layout.specs.Format.{version_word_of}
-use Rattle.qr_layout.specs.Rectangles.{is_in_rectangle, version_rectangles}
+use Rattle.qr_layout.specs.Region.{is_version_block, is_version_information}
 use Rattle.qr_layout.specs.Role.{role_of}
 use Rattle.qr_layout.proofs.Facts.{version-first, version-second}
-use Rattle.qr_symbol.specs.Symbol.{word_bit}
+use Rattle.qr_matrix.specs.BitRow.{has_bit}
 use Rattle.qr_symbol.specs.Steps.Patterns.{fixed_colour, paint_of}
 
 -- the places of the first n bits beside the top right finder pattern
@@ -28,21 +27,20 @@ pub version-more : (s n r c : ℕ) → 21 ≤ s → version_drawn s (n + 1) r c 
 version-more s n r c h = grind (arith, nat_tests)
 
 -- all eighteen bits fill the two blocks of version information
-pub version-all : (v s r c : ℕ) → 7 ≤ v → 21 ≤ s → version_drawn s 18 r c ≡ list_any (is_in_rectangle r c) (version_rectangles v s)
-version-all v s r c h k = let t : ltb v 7 ≡ false = grind (arith, nat_tests) in rw t (blocks s r c k)
+pub version-all : (v r c : ℕ) → 7 ≤ v → version_drawn (side_of v) 18 r c ≡ is_version_information v r c
+version-all v r c h = let t : leb 7 v ≡ true = grind (arith, nat_tests) in rw t (blocks (side_of v) (omega arith))
   where
-    blocks : (s r c : ℕ) → 21 ≤ s → version_drawn s 18 r c
-        ≡ list_any (is_in_rectangle r c) (record { top = 0; bottom = 6; left = s - 11; right = s - 8 } ∷ record { top = s - 11; bottom = s - 8; left = 0; right = 6 } ∷ [])
-    blocks s r c k = grind (arith, nat_tests)
+    blocks : (s : ℕ) → 21 ≤ s → version_drawn s 18 r c ≡ (is_version_block s r c || is_version_block s c r)
+    blocks s k = grind (arith, nat_tests)
 
 -- a module with a bit of the version information is painted with this bit
-bit-colour : (v r c format i : ℕ) → role_of v r c ≡ VersionBit i → paint_of v format r c ≡ word_bit (version_word_of v) i
+bit-colour : (v r c format i : ℕ) → role_of v r c ≡ VersionBit i → paint_of v format r c ≡ has_bit (version_word_of v) i
 unfolding fixed_colour
 bit-colour v r c format i e = ap (fixed_colour format (version_word_of v)) e
 
 -- the colour of bit i at its two places
-pub version-here : (v format i : ℕ) → 7 ≤ v → v ≤ 40 → i < 18 → word_bit (version_word_of v) i ≡ paint_of v format (i / 3) (side_of v - 11 + i % 3)
+pub version-here : (v format i : ℕ) → 7 ≤ v → v ≤ 40 → i < 18 → has_bit (version_word_of v) i ≡ paint_of v format (i / 3) (side_of v - 11 + i % 3)
 version-here v format i h k l = sym (bit-colour v (i / 3) (side_of v - 11 + i % 3) format i (version-first v i h k l))
 
-pub version-there : (v format i : ℕ) → 7 ≤ v → v ≤ 40 → i < 18 → word_bit (version_word_of v) i ≡ paint_of v format (side_of v - 11 + i % 3) (i / 3)
+pub version-there : (v format i : ℕ) → 7 ≤ v → v ≤ 40 → i < 18 → has_bit (version_word_of v) i ≡ paint_of v format (side_of v - 11 + i % 3) (i / 3)
 version-there v format i h k l = sym (bit-colour v (side_of v - 11 + i % 3) (i / 3) format i (version-second v i h k l))

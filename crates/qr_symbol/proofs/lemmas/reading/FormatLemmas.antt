@@ -9,9 +9,10 @@ use borrow.Author.Tests.{ltb-true}
 use Rattle.qr_layout.specs.declared.level.Level.{Level}
 use Rattle.qr_layout.specs.declared.level.Level.TheVariants.{L, M, Q, H}
 use Rattle.qr_layout.specs.Version.{side_of}
-use Rattle.qr_layout.specs.Format.{remainder_of, format_with, five_bits, level_bits, format_word_of}
+use Rattle.qr_layout.specs.Format.{word_remainder, format_with, five_bits, level_bits, format_word_of}
 use Rattle.qr_layout.specs.Role.{first_place}
 use Rattle.qr_layout.proofs.Facts.{below, below-at, format-first}
+use Rattle.qr_matrix.specs.BitRow.{has_bit}
 use Rattle.qr_matrix.specs.Grid.{Grid}
 use Rattle.qr_symbol.specs.Symbol.{colour_by, colour_of, grid_of}
 use Rattle.qr_symbol.specs.Reading.{IsFormat}
@@ -27,12 +28,12 @@ is-short i = ltb (format_with i) (2 ^ 15)
 
 -- each of the 32 words contains its five data bits, computed
 all-give-back : below 32 gives-back ≡ true
-unfolding gives-back remainder_of
+unfolding gives-back word_remainder
 all-give-back = refl
 
 -- each of the 32 words has at most 15 bits, computed
 all-short : below 32 is-short ≡ true
-unfolding is-short remainder_of
+unfolding is-short word_remainder
 all-short = refl
 
 -- the bits of a level are a number of at most 3
@@ -77,6 +78,7 @@ same-bit a b l m e = grind (arith, nat_tests)
 
 -- a square has the format information of at most one level and mask
 pub format-one : (g : Grid) (l k : Level) (m n : ℕ) → IsFormat g l m → IsFormat g k n → (l ≡ k) × (m ≡ n)
+unfolding has_bit
 format-one g l k m n h j =
     let a = format_word_of l m in
     let b = format_word_of k n in

@@ -23,7 +23,7 @@ use Rattle.qr_symbol.specs.Symbol.{colour_by, colour_of, grid_of}
 use Rattle.qr_symbol.specs.Interleaving.{IsInterleaved}
 use Rattle.qr_symbol.specs.Reading.{unmasked, read_bits, IsRead, IsMessage}
 use Rattle.qr_matrix.proofs.Facts.{colour-square}
-use Rattle.qr_symbol.proofs.lemmas.drawing.DrawingLemmas.{in-square, whole-push, Mem-mid}
+use Rattle.qr_symbol.proofs.lemmas.placement.PlacementLemmas.{in-square, whole-push, Mem-mid}
 use Rattle.qr_symbol.proofs.lemmas.interleaving.MessageLemmas.{append-front, data-one, data-sizes-whole}
 
 -- a bit that is inverted twice is unchanged

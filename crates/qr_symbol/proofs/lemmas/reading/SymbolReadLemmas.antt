@@ -24,9 +24,9 @@ use Rattle.qr_matrix.proofs.Facts.{colour-square, colour-transposed}
 use Rattle.qr_symbol.specs.Mask.{inverts, inverted}
 use Rattle.qr_symbol.specs.Interleaving.{IsInterleaved}
 use Rattle.qr_symbol.specs.Steps.Collecting.{colour_across}
-use Rattle.qr_symbol.specs.Steps.Drawing.{region_grid}
+use Rattle.qr_symbol.specs.Steps.Placement.{region_grid}
 use Rattle.qr_symbol.specs.Reading.{unmasked, IsRead, IsReadUnmasked, IsMessage, IsFormat, IsOfVersion, IsUnread}
-use Rattle.qr_symbol.proofs.lemmas.drawing.DrawingLemmas.{at}
+use Rattle.qr_symbol.proofs.lemmas.placement.PlacementLemmas.{at}
 use Rattle.qr_symbol.proofs.lemmas.interleaving.MessageLemmas.{append-front}
 use Rattle.qr_symbol.proofs.lemmas.reading.ReadLemmas.{read-one}
 

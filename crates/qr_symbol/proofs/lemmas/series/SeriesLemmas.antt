@@ -12,7 +12,8 @@ use Rattle.qr_matrix.specs.Grid.{Grid}
 use Rattle.qr_symbol.specs.VersionChoice.{FitsVersion, HasNoVersion}
 use Rattle.qr_symbol.specs.Series.{squares_of, AreParts, IsSymbolOf, AreSymbolsFrom, IsSplit, IsPlainSymbol, IsSeries}
 use Rattle.qr_symbol.specs.Steps.Series.{AreLengths, parts_of}
-use Rattle.qr_symbol.specs.Joining.{AreReadBy, AreReadings, bytes_of_all, HaveHeaders, IsJoined}
+use Rattle.qr_symbol.specs.Reading.{IsReading}
+use Rattle.qr_symbol.specs.Joining.{AreReadBy, bytes_of_all, HaveHeaders, IsJoined}
 use Rattle.qr_symbol.proofs.lemmas.encoding.SymbolLemmas.{symbol-at-one}
 use Rattle.qr_symbol.proofs.lemmas.reading.RoundTripLemmas.{symbol-read}
 use Rattle.qr_symbol.proofs.lemmas.encoding.SymbolMakingLemmas.{symbol-fits}
@@ -78,7 +79,7 @@ series-one x l b v ss ts (inr h) (inr k) =
 -- the contents of the symbols of parts: their headers, their number and their bytes
 record AreRead (x : List ℕ) (last parity k count : ℕ) (squares : List Grid) : Type 0 where
   contents : List Content
-  read : AreReadings squares contents
+  read : AreReadBy IsReading squares contents
   headers : HaveHeaders last parity k contents
   many : length contents ≡ count
   bytes : bytes_of_all contents ≡ x

@@ -1,15 +1,13 @@
-use Rattle.std.proofs.Common.{◌≡◌, ℕ, Bool, true, false, not, cond, ◌||◌, ap, ◌∙◌, refl, arith}
-use Rattle.std.specs.List.{list_any}
+use Rattle.std.proofs.Common.{◌≡◌, ℕ, Bool, true, false, not, cond, ap, ◌∙◌, refl, arith}
 use Rattle.qr_layout.specs.declared.role.Role.TheVariants.{Fixed, Region}
 use Rattle.qr_layout.specs.Version.{side_of}
 use Rattle.qr_layout.specs.Format.{version_word_of}
 use Rattle.qr_layout.specs.Alignment.{alignment_places, centres_of}
 use Rattle.qr_layout.specs.Steps.Rectangles.{IsInside}
 use Rattle.std.proofs.lemmas.List.Elements.{All-same}
-use Rattle.qr_layout.specs.Region.{is_alignment, is_in_region}
-use Rattle.qr_layout.specs.Rectangles.{is_in_rectangle, corner_rectangles, timing_rectangles, version_rectangles}
+use Rattle.qr_layout.specs.Region.{is_alignment, is_corner, is_in_region, is_timing, is_version_information}
 use Rattle.qr_layout.specs.Role.{is_alignment_light}
-use Rattle.qr_layout.proofs.Facts.{centres-inside, fixed_parts, off-role, region_outside}
+use Rattle.qr_layout.proofs.Facts.{centres-inside, off-role, region-parts}
 use Rattle.qr_matrix.specs.Grid.{colour}
 use Rattle.qr_matrix.proofs.Facts.{square-same}
 use Rattle.qr_symbol.specs.Steps.Patterns.{fixed_colour, paint_of}
@@ -20,16 +18,6 @@ use Rattle.qr_symbol.proofs.patterns.draw_fixed.Goals as goal
 fixed-cond : (format word : ℕ) (e q : Bool) → e ≡ true → fixed_colour format word (cond e (Fixed q) Region) ≡ q
 unfolding fixed_colour
 fixed-cond format word e q t = rw t refl
-
--- the tests that a place is in a corner, in a timing pattern, or in the version information
-abbrev corners : ℕ → ℕ → ℕ → Bool
-corners v r c = list_any (is_in_rectangle r c) (corner_rectangles (side_of v))
-
-abbrev timing : ℕ → ℕ → ℕ → Bool
-timing v r c = list_any (is_in_rectangle r c) (timing_rectangles (side_of v))
-
-abbrev version : ℕ → ℕ → ℕ → Bool
-version v r c = list_any (is_in_rectangle r c) (version_rectangles v (side_of v))
 
 pub fill_alignment-requires : goal.fill_alignment-requires
 fill_alignment-requires c =
@@ -51,10 +39,10 @@ pub paint_corners-requires : goal.paint_corners-requires
 paint_corners-requires c = over-square (side_of c.args.v) (is_alignment_light c.args.v) (λ _ _. false) (colour c.fill_alignment.new.matrix) c.clear_rings.new.matrix c.clear_rings.ensures
 
 pub paint_timing-requires : goal.paint_timing-requires
-paint_timing-requires c = over-square (side_of c.args.v) (corners c.args.v) (paint_of c.args.v c.args.format) (colour c.clear_rings.new.matrix) c.paint_corners.new.matrix c.paint_corners.ensures
+paint_timing-requires c = over-square (side_of c.args.v) (is_corner (side_of c.args.v)) (paint_of c.args.v c.args.format) (colour c.clear_rings.new.matrix) c.paint_corners.new.matrix c.paint_corners.ensures
 
 pub paint_version-requires : goal.paint_version-requires
-paint_version-requires c = over-square (side_of c.args.v) (timing c.args.v) (paint_of c.args.v c.args.format) (colour c.paint_corners.new.matrix) c.paint_timing.new.matrix (c.paint_timing.ensures c.args.format)
+paint_version-requires c = over-square (side_of c.args.v) is_timing (paint_of c.args.v c.args.format) (colour c.paint_corners.new.matrix) c.paint_timing.new.matrix (c.paint_timing.ensures c.args.format)
 
 pub returns : goal.returns
 returns c =
@@ -67,11 +55,11 @@ returns c =
     let g2 = c.clear_rings.new.matrix in
     let g3 = c.paint_corners.new.matrix in
     let g4 = c.paint_timing.new.matrix in
-    c.paint_version.ensures c.args.format ∙ square-same s (λ r k. cond (version v r k) (p r k) (colour g4 r k)) (λ r k. cond (is_in_region v r k) (colour g0 r k) (p r k)) (λ r k l m.
+    c.paint_version.ensures c.args.format ∙ square-same s (λ r k. cond (is_version_information v r k) (p r k) (colour g4 r k)) (λ r k. cond (is_in_region v r k) (colour g0 r k) (p r k)) (λ r k l m.
     let e1 = over-colour s (is_alignment v) (λ _ _. true) (colour g0) g1 r k l m c.fill_alignment.ensures in
     let e2 = over-colour s (is_alignment_light v) (λ _ _. false) (colour g1) g2 r k l m c.clear_rings.ensures ∙ ap (λ z. cond (is_alignment_light v r k) false z) e1 in
-    let e3 = over-colour s (corners v) p (colour g2) g3 r k l m c.paint_corners.ensures ∙ ap (λ z. cond (corners v r k) (p r k) z) e2 in
-    let e4 = over-colour s (timing v) p (colour g3) g4 r k l m (c.paint_timing.ensures c.args.format) ∙ ap (λ z. cond (timing v r k) (p r k) z) e3 in
-    ap (λ z. cond (version v r k) (p r k) z) e4
-    ∙ fixed-tests (corners v r k) (timing v r k) (version v r k) (is_alignment v r k) (is_alignment_light v r k) (p r k) (colour g0 r k) (is_in_region v r k) (region_outside v r k l m ∙ ap (λ z. not (z || is_alignment v r k)) (fixed_parts v r k)) (light-inside v r k) (λ a b d e.
+    let e3 = over-colour s (is_corner s) p (colour g2) g3 r k l m c.paint_corners.ensures ∙ ap (λ z. cond (is_corner s r k) (p r k) z) e2 in
+    let e4 = over-colour s is_timing p (colour g3) g4 r k l m (c.paint_timing.ensures c.args.format) ∙ ap (λ z. cond (is_timing r k) (p r k) z) e3 in
+    ap (λ z. cond (is_version_information v r k) (p r k) z) e4
+    ∙ fixed-tests (is_corner s r k) (is_timing r k) (is_version_information v r k) (is_alignment v r k) (is_alignment_light v r k) (p r k) (colour g0 r k) (is_in_region v r k) (region-parts v r k l m) (light-inside v r k) (λ a b d e.
     ap (fixed_colour c.args.format w) (off-role v r k (omega arith) l m a b d) ∙ fixed-cond c.args.format w (is_alignment v r k) (not (is_alignment_light v r k)) e))

@@ -1,6 +1,6 @@
 use Rattle.std.proofs.Common.{◌≡◌, false, nat_lt, ◌≤◌, ◌∙◌, arith}
 use Rattle.std.proofs.lemmas.Bool.Decides.{nat_tests}
-use Rattle.qr_symbol.proofs.lemmas.drawing.BitLemmas.{word-past}
+use Rattle.qr_symbol.proofs.lemmas.placement.BitLemmas.{word-past}
 use Rattle.qr_symbol.proofs.patterns.is_bit_set.Goals as goal
 
 pub returns-else-i-lt32 : goal.returns-else-i-lt32

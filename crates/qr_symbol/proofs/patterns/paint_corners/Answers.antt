@@ -1,12 +1,11 @@
 use Rattle.std.proofs.Common.{ℕ, ◌-◌, true, cond, eqb, ◌&&◌, ap, sym, ◌∙◌, refl, arith}
-use Rattle.std.specs.List.{list_any}
 use Rattle.qr_layout.specs.Version.{side_of}
-use Rattle.qr_layout.specs.Rectangles.{is_in_rectangle, corner_rectangles}
+use Rattle.qr_layout.specs.Region.{is_corner}
 use Rattle.qr_layout.specs.Role.{role_of}
 use Rattle.qr_matrix.specs.Grid.{Grid, colour}
 use Rattle.qr_matrix.proofs.Facts.{square-same}
 use Rattle.qr_symbol.specs.Steps.Patterns.{format_or, paint_of}
-use Rattle.qr_symbol.proofs.lemmas.drawing.DrawingLemmas.{painted-square}
+use Rattle.qr_symbol.proofs.lemmas.placement.PlacementLemmas.{painted-square}
 use Rattle.qr_symbol.proofs.lemmas.patterns.CornerLemmas.{begun, block, blocks, corners-done, dark-painted, timing-left, timing-top, two_blocks, with_first, with_second}
 use Rattle.qr_symbol.proofs.lemmas.patterns.PaintLemmas.{over-colour, over-place, over-square, over-twice}
 use Rattle.qr_symbol.proofs.patterns.paint_corners.Goals as goal
@@ -75,6 +74,6 @@ returns c =
     let p5 = over-twice s (with_first z) (λ r k. eqb r 6 && eqb k 8) (with_second z) p h g4 g5 p4 (over-place s p g4 g5 6 8 true (ap side p4) (timing-top v f (omega arith)) c.set-2.ensures) (λ _ _ _ _. refl) in
     let dark = dark-painted v f (omega arith) (omega arith) ∙ ap (λ (n : ℕ). p (n - 8) 8) (sym c.side-side.ensures.value) in
     let p6 = over-twice s (with_second z) (λ r k. eqb r (z - 8) && eqb k 8) (begun z) p h g5 g6 p5 (over-place s p g5 g6 (z - 8) 8 true (ap side p5) dark c.set-3.ensures) (λ _ _ _ _. refl) in
-    c.draw_format.ensures ∙ square-same s (λ r k. format_or f (role_of v r k) (colour g6 r k)) (λ r k. cond (list_any (is_in_rectangle r k) (corner_rectangles s)) (p r k) (h r k)) (λ r k l m.
+    c.draw_format.ensures ∙ square-same s (λ r k. format_or f (role_of v r k) (colour g6 r k)) (λ r k. cond (is_corner s r k) (p r k) (h r k)) (λ r k l m.
     ap (format_or f (role_of v r k)) (over-colour s (begun z) p h g6 r k l m p6 ∙ ap (λ (n : ℕ). cond (begun n r k) (p r k) (h r k)) c.side-side.ensures.value)
     ∙ corners-done v r k f (h r k) (omega arith) (omega arith) l m)

@@ -1,7 +1,6 @@
 use Rattle.std.proofs.Common.{◌≡◌, ℕ, ◌+◌, ◌&&◌, ◌||◌, eqb, ltb, ap, refl, ◌∙◌, arith}
-use Rattle.std.specs.List.{list_any}
 use Rattle.qr_layout.specs.Version.{side_of}
-use Rattle.qr_layout.specs.Rectangles.{is_in_rectangle, timing_rectangles}
+use Rattle.qr_layout.specs.Region.{is_timing}
 use Rattle.qr_matrix.specs.Grid.{Grid, colour}
 use Rattle.qr_symbol.specs.Steps.Patterns.{is_dark_in_six, paint_of}
 use Rattle.qr_symbol.proofs.lemmas.patterns.PaintLemmas.{over-place, over-same, over-twice}
@@ -36,5 +35,5 @@ pub returns : goal.returns
 returns c = λ f.
     let v = c.args.v in
     let e : c.loop-at.at ≡ side_of v = omega (arith, c.loop-at.invariant.side) in
-    over-same (side_of v) (λ r k. (eqb r 6 && ltb k c.loop-at.at) || (eqb k 6 && ltb r c.loop-at.at)) (λ r k. list_any (is_in_rectangle r k) (timing_rectangles (side_of v))) (paint_of v f) (colour c.args.matrix.now) c.loop-at.matrix (c.loop-at.invariant.painted f)
+    over-same (side_of v) (λ r k. (eqb r 6 && ltb k c.loop-at.at) || (eqb k 6 && ltb r c.loop-at.at)) is_timing (paint_of v f) (colour c.args.matrix.now) c.loop-at.matrix (c.loop-at.invariant.painted f)
     (λ r k l m. ap (λ z. (eqb r 6 && ltb k z) || (eqb k 6 && ltb r z)) e ∙ six-all (side_of v) r k l m)

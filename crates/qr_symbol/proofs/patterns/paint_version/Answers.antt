@@ -1,10 +1,9 @@
 use Rattle.std.proofs.Common.{◌≡◌, ℕ, ◌+◌, ◌-◌, ◌/◌, ◌%◌, eqb, ◌&&◌, ◌||◌, ap, ◌∙◌, refl, arith}
-use Rattle.std.specs.List.{list_any}
 use Rattle.qr_layout.specs.Version.{side_of}
 use Rattle.qr_layout.specs.Format.{version_word_of}
-use Rattle.qr_layout.specs.Rectangles.{is_in_rectangle, version_rectangles}
+use Rattle.qr_layout.specs.Region.{is_version_information}
 use Rattle.qr_matrix.specs.Grid.{Grid, colour, painted}
-use Rattle.qr_symbol.specs.Symbol.{word_bit}
+use Rattle.qr_matrix.specs.BitRow.{has_bit}
 use Rattle.qr_symbol.specs.Steps.Patterns.{paint_of}
 use Rattle.qr_symbol.proofs.lemmas.patterns.PaintLemmas.{over-none, over-place, over-same, over-twice}
 use Rattle.qr_symbol.proofs.lemmas.patterns.VersionLemmas.{version_drawn, version-all, version-here, version-more, version-none, version-there}
@@ -31,7 +30,7 @@ loop-bit-preserved c =
     let g2 = c.set-in-loop-bit.new.self in
     let d = c.is_bit_set-dark.result in
     let e : c.side-left.result ≡ s = c.side-left.ensures.value in
-    let bit : d ≡ word_bit (version_word_of v) n = c.is_bit_set-dark.ensures ∙ ap (λ (z : ℕ). word_bit z n) c.in-Some.ensures.1 in
+    let bit : d ≡ has_bit (version_word_of v) n = c.is_bit_set-dark.ensures ∙ ap (λ (z : ℕ). has_bit z n) c.in-Some.ensures.1 in
     let here = λ (r k : ℕ). eqb r (n / 3) && eqb k (s - 11 + n % 3) in
     let there = λ (r k : ℕ). eqb r (s - 11 + n % 3) && eqb k (n / 3) in
     let both = λ (r k : ℕ). version_drawn s n r k || here r k in
@@ -51,5 +50,5 @@ returns-after-loop-bit c = λ f.
     let v = c.args.v in
     let s = side_of v in
     let e : c.loop-bit.bit ≡ 18 = omega arith in
-    over-same s (version_drawn s c.loop-bit.bit) (λ r k. list_any (is_in_rectangle r k) (version_rectangles v s)) (paint_of v f) (colour c.args.matrix.now) c.loop-bit.matrix (c.loop-bit.invariant.painted f)
-    (λ r k _ _. ap (λ z. version_drawn s z r k) e ∙ version-all v s r k (omega arith) (omega arith))
+    over-same s (version_drawn s c.loop-bit.bit) (is_version_information v) (paint_of v f) (colour c.args.matrix.now) c.loop-bit.matrix (c.loop-bit.invariant.painted f)
+    (λ r k _ _. ap (λ z. version_drawn s z r k) e ∙ version-all v r k (omega arith))

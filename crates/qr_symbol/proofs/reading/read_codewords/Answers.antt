@@ -5,7 +5,7 @@ use Rattle.qr_layout.specs.Version.{side_of}
 use Rattle.qr_matrix.specs.Grid.{Grid, colour, square, IsSquare}
 use Rattle.qr_symbol.specs.Mask.{inverts, inverted}
 use Rattle.qr_symbol.specs.Reading.{IsRead, IsReadUnmasked}
-use Rattle.qr_symbol.proofs.lemmas.drawing.DrawingLemmas.{square-is}
+use Rattle.qr_symbol.proofs.lemmas.placement.PlacementLemmas.{square-is}
 use Rattle.qr_symbol.proofs.lemmas.reading.SymbolReadLemmas.{read-masked}
 use Rattle.qr_symbol.proofs.reading.read_codewords.Goals as goal
 use Rattle.qr_symbol.proofs.reading.read_codewords.Goals.{then-mask-lt8, else-mask-lt8}

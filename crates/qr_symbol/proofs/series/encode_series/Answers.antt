@@ -6,8 +6,10 @@ use Rattle.std.proofs.lemmas.Option.{MatchOption-at_some}
 use Rattle.std.proofs.lemmas.Result.{IfOk-weaker, IfErr-weaker}
 use Rattle.qr_symbol.specs.declared.fault.EncodeFault.TheVariants.{Empty, TooMany}
 use Rattle.qr_symbol.specs.declared.symbol.Symbol.{Symbol}
+use Rattle.qr_symbol.specs.Series.{HasNoSeries}
 use Rattle.qr_symbol.specs.VersionChoice.{FitsVersion}
 use Rattle.qr_symbol.proofs.lemmas.fault.ExactLemmas.{too-many-exactly, memory-alone}
+use Rattle.qr_symbol.proofs.lemmas.series.LongLemmas.{none-shorter}
 use Rattle.qr_symbol.proofs.lemmas.series.PartLemmas.{lengths-some}
 use Rattle.qr_symbol.proofs.lemmas.series.SeriesLemmas.{lone-series, split-series, series-joined}
 use Rattle.qr_symbol.proofs.lemmas.series.SizeLemmas.{series-shortest}
@@ -64,3 +66,8 @@ returns-clause-too_many c =
     (λ e. absurd (memory-alone c.part_symbols.result TooMany (λ f. cc) c.part_symbols.ensures.fault e)) (returns-clause-series c)
     (λ e. absurd (memory-alone c.part_symbols.result Empty (λ f. cc) c.part_symbols.ensures.fault e))
     (IfErr-weaker c.part_symbols.result _ _ (λ e f. inr (inr f)) c.part_symbols.ensures.fault)
+
+pub returns-in_err-lengths-clause-no_shorter : goal.returns-in_err-lengths-clause-no_shorter
+returns-in_err-lengths-clause-no_shorter c = λ e plain.
+    let none : HasNoSeries c.args.version c.args.level c.args.rule c.args.input.now = search rules in
+    none-shorter c.args.input.now c.args.level c.args.rule c.args.version (omega arith) (omega arith) plain none

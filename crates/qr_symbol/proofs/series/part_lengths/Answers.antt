@@ -2,7 +2,7 @@ use Rattle.std.proofs.Common.{◌+◌, ◌<◌, [], ◌∷◌, length, sym, ◌�
 use Rattle.std.proofs.lemmas.Bool.Decides.{nat_tests}
 use Rattle.std.proofs.lemmas.Bool.{eqb-true}
 use Rattle.std.proofs.lemmas.List.{append-nil, nil_from_length, length-drop}
-use Rattle.qr_symbol.proofs.lemmas.series.PartLemmas.{lengths-none, lengths-more, parts-some, prefixes-more, needs-some, needs-more}
+use Rattle.qr_symbol.proofs.lemmas.series.PartLemmas.{lengths-none, lengths-more, parts-some, prefixes-more}
 use Rattle.qr_symbol.proofs.series.part_lengths.Goals as goal
 
 pub returns-then-is_full-clause-too_many : goal.returns-then-is_full-clause-too_many
@@ -11,14 +11,6 @@ returns-then-is_full-clause-too_many c =
     let full = eqb-true (length c.loop-rest.lengths.items) _ (sym c.is_full.ensures.value ∙ c.if-is_full.true) in
     let some : 0 < length c.loop-rest.rest.now = grind (arith, nat_tests) in
     let more = c.loop-rest.invariant.parts 1 (λ qs cut. parts-some c.args.version c.args.level c.args.rule c.loop-rest.rest.now qs cut some) parts is in
-    omega arith
-
-pub returns-then-is_full-clause-no_shorter : goal.returns-then-is_full-clause-no_shorter
-returns-then-is_full-clause-no_shorter c =
-    λ _ plain parts cut.
-    let full = eqb-true (length c.loop-rest.lengths.items) _ (sym c.is_full.ensures.value ∙ c.if-is_full.true) in
-    let some : 0 < length c.loop-rest.rest.now = grind (arith, nat_tests) in
-    let more = c.loop-rest.invariant.needs plain 1 (needs-some c.args.version c.args.level c.args.rule c.loop-rest.rest.now some) parts cut in
     omega arith
 
 pub loop-rest-preserved : goal.loop-rest-preserved
@@ -37,9 +29,6 @@ loop-rest-preserved c =
       lengths = lengths-more v l b c.args.input.now found rest n c.in_ok-len.ensures.some c.in_ok-len.ensures.longest inv.lengths;
       parts = λ k many ps is.
           let more = inv.parts (k + 1) (prefixes-more v l b rest n k some c.in_ok-len.ensures.longest many) ps is in
-          omega (arith, length-append found (n ∷ []));
-      needs = λ plain k needs parts cut.
-          let more = inv.needs plain (k + 1) (needs-more v l b rest n k plain some c.in_ok-len.ensures.longest needs) parts cut in
           omega (arith, length-append found (n ∷ []));
     })
 

@@ -1,8 +1,8 @@
 use Rattle.std.proofs.Common.{false, sym, ◌∙◌, ap, subst, arith}
 use Rattle.qr_layout.specs.Version.{side_of}
 use Rattle.qr_matrix.specs.Grid.{light, IsSquare}
-use Rattle.qr_symbol.specs.Steps.Drawing.{plain_grid}
-use Rattle.qr_symbol.proofs.lemmas.drawing.DrawingLemmas.{square-is}
+use Rattle.qr_symbol.specs.Steps.Placement.{plain_grid}
+use Rattle.qr_symbol.proofs.lemmas.placement.PlacementLemmas.{square-is}
 use Rattle.qr_symbol.proofs.lemmas.choice.ChoiceLemmas.{canvas-drawn}
 use Rattle.qr_symbol.proofs.symbol.draw_symbol.Goals as goal
 

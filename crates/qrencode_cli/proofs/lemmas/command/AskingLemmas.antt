@@ -1,5 +1,5 @@
 -- The drawing that a command line and an input ask for, or the fault that occurs before any byte is written.
-use Rattle.std.proofs.Common.{◌≡◌, ◌∙◌, ◌≤◌, ℕ, Bool, true, false, List, [], ◌∷◌, take, Option, None, Some, Result, Ok, Err, MatchOption, MatchResult, refl, sym, subst, min, length, append-nil, arith, inl, inr, ◌⊎◌}
+use Rattle.std.proofs.Common.{◌≡◌, ◌∙◌, ◌≤◌, ℕ, true, false, List, [], ◌∷◌, take, Option, None, Some, Result, Ok, Err, MatchOption, MatchResult, refl, sym, subst, min, length, append-nil, arith, inl, inr, ◌⊎◌}
 use Rattle.std.proofs.lemmas.Bool.{cases_lt}
 use Rattle.std.proofs.lemmas.List.{take_min}
 use Rattle.std.specs.List.{All}
@@ -28,7 +28,7 @@ use Rattle.qr_symbol.specs.Encoding.{IsSymbol}
 use Rattle.qr_symbol.specs.VersionChoice.{HasNoVersion}
 use Rattle.qr_bits.proofs.Facts.{fitting_short}
 use Rattle.std.proofs.lemmas.Grind.{common_steps}
-use Rattle.qrencode_cli.specs.Symbols.{AreSquares, IsSquareOf, smallest_of}
+use Rattle.qrencode_cli.specs.Symbols.{smallest_of}
 use Rattle.qrencode_cli.specs.declared.fault.Fault.{Fault}
 use Rattle.qrencode_cli.specs.declared.fault.Fault.TheVariants as fault
 use Rattle.qrencode_cli.specs.declared.drawing_job.DrawingJob.{DrawingJob}
@@ -83,9 +83,8 @@ pub drawn-for-one : (s : SettingsView) (rule : Rule) (input : List ℕ) (version
 drawn-for-one s rule input version symbol symbols one least e same some made read alone =
     let from = made.version.least in
     let few : length input ≤ 7089 = fitting_short symbol.version s.level rule input (omega arith) made.version.most made.version.fits in
-    let square : IsSquareOf s input symbol.matrix = record { version = symbol.version; mask = symbol.mask; symbol = rw (← e, ← same) made } in
     rw alone (record {
-      asked = subst (λ (b : Bool). AreSquares b s input (symbol.matrix ∷ [])) (sym one) (symbol.matrix, square, refl);
+      asked = inr (one, symbol.version, symbol.mask, symbol.matrix, rw (← e, ← same) made, refl);
       joined = joined-one input symbol.version rule symbol.matrix read;
       nonempty = grind (arith, common_steps);
       short = omega arith;
@@ -108,7 +107,7 @@ pub drawn-for-series : (s : SettingsView) (rule : Rule) (input : List ℕ) (vers
     → version ≡ smallest_of s → rule ≡ rule_for s → (input ≡ [] → ⊥) → IsSeries version s.level rule input symbols
     → IsJoined (squares_of symbols) input → AreDrawnFor s input symbols
 drawn-for-series s rule input version symbols many least most e same some series joined = record {
-  asked = subst (λ (b : Bool). AreSquares b s input (squares_of symbols)) (sym many) (record { symbols = symbols; series = rw (← e, ← same) series; theirs = refl });
+  asked = inl (many, symbols, rw (← e, ← same) series, refl);
   joined = joined;
   nonempty = grind (arith, common_steps);
   short = elim (cases_lt (length input) INPUT_MAX) [

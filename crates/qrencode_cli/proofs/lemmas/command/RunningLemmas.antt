@@ -28,7 +28,7 @@ reads-on (Ok s) in0 in1 given p r w h = on s.string h
 
 -- the case that the drawing was written, or the writer was at fault
 pub attempts-shown : (words : List Text) (in0 in1 : Reader) (out0 out1 : Writer) (p : DrawingJob) → Prepares words in0 in1 (Ok p)
-    → (r : Result (Unit {0}) Fault) → OnOk r (DrawnWhole out0 out1 (drawing_of_job p))
+    → (r : Result (Unit {0}) Fault) → OnOk r (DrawnWhole true out0 out1 (drawing_of_job p))
     → IfErr r (λ f. (f ≡ fault.Write) × DrawnInPart out0 out1 (drawing_of_job p)) → Attempts words in0 in1 out0 out1 r
 attempts-shown words in0 in1 out0 out1 p h (Ok t) ok err = record {
   given = h.given;

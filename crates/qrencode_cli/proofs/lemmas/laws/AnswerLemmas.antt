@@ -23,7 +23,7 @@ use Rattle.qr_symbol.specs.declared.fault.EncodeFault.TheVariants as encode
 use Rattle.qrencode_cli.specs.declared.settings.UsageFault.{UsageFault}
 use Rattle.qrencode_cli.specs.declared.fault.Fault.{Fault}
 use Rattle.qrencode_cli.specs.declared.fault.Fault.TheVariants as fault
-use Rattle.qrencode_cli.specs.Symbols.{AreSquares, AreSymbols, IsTooLong, IsTooMany, smallest_of}
+use Rattle.qrencode_cli.specs.Symbols.{AreSymbols, IsTooLong, IsTooMany, smallest_of}
 use Rattle.qrencode_cli.specs.declared.settings.UsageFault.TheVariants as usage
 
 -- a command line has at most one list of settings
@@ -31,17 +31,18 @@ settings-one : (words : List Text) (s t : SettingsView) → settings_for words �
 settings-one words s t a b = let e : Ok s ≡ Ok t = sym a ∙ b in cc
 
 -- the settings ask for at most one list of squares
-squares-one : (structured : Bool) (s : SettingsView) (input : List ℕ) (g h : List Grid) → AreSquares structured s input g → AreSquares structured s input h → g ≡ h
-squares-one true s input g h a b =
-    a.theirs ∙ ap squares_of (series-one input s.level (rule_for s) (smallest_of s) a.symbols b.symbols a.series b.series) ∙ sym b.theirs
-squares-one false s input g h a b =
-    let same = symbol-one input s.level (smallest_of s) (rule_for s) _ _ _ _ a.0 b.0 a.1.symbol b.1.symbol in
-    let e = same.2 in let f = a.2 in let k = b.2 in cc
+squares-one : (s : SettingsView) (input : List ℕ) (g h : List Grid) → AreSymbols s input g → AreSymbols s input h → g ≡ h
+squares-one s input g h (inl (a, ss, m, e)) (inl (b, ts, n, f)) = e ∙ ap squares_of (series-one input s.level (rule_for s) (smallest_of s) ss ts m n) ∙ sym f
+squares-one s input g h (inr (a, v, mask, square, m, e)) (inr (b, w, other, grid, n, f)) =
+    let same = symbol-one input s.level (smallest_of s) (rule_for s) _ _ _ _ square grid m n in
+    let k = same.2 in cc
+squares-one s input g h (inl a) (inr b) = let e : true ≡ false = sym a.0 ∙ b.0 in cc
+squares-one s input g h (inr a) (inl b) = let e : true ≡ false = sym b.0 ∙ a.0 in cc
 
 -- and so for at most one drawing
 drawing-one : (s : SettingsView) (input d e : List ℕ) → IsDrawing s input d → IsDrawing s input e → d ≡ e
 drawing-one s input d e a b =
-    a.is_drawn ∙ ap (drawn s.kind s.margin) (squares-one s.structured s input a.squares b.squares a.symbols b.symbols) ∙ sym b.is_drawn
+    a.is_drawn ∙ ap (drawn s.kind s.margin) (squares-one s input a.squares b.squares a.symbols b.symbols) ∙ sym b.is_drawn
 
 pub answers-one : AnswersAreOne
 answers-one words given d e a b =
@@ -50,16 +51,13 @@ answers-one words given d e a b =
 
 -- an input that has a symbol is not too long
 not-too-long : (s : SettingsView) (input : List ℕ) (squares : List Grid) → AreSymbols s input squares → IsTooLong s input → ⊥
-not-too-long s input squares h long =
-    let one = subst (λ (b : Bool). AreSquares b s input squares) long.0 h in
-    let v = one.1.symbol.version in
-    long.1 one.1.version v.least v.most v.fits
+not-too-long s input squares (inl series) long = let e : true ≡ false = sym series.0 ∙ long.0 in cc
+not-too-long s input squares (inr (one, version, mask, square, symbol, e)) long = long.1 version symbol.version.least symbol.version.most symbol.version.fits
 
 -- an input that has a series does not take too many symbols
 not-too-many : (s : SettingsView) (input : List ℕ) (squares : List Grid) → AreSymbols s input squares → IsTooMany s input → ⊥
-not-too-many s input squares h many =
-    let series = subst (λ (b : Bool). AreSquares b s input squares) many.0 h in
-    no-series input (smallest_of s) series.symbols series.series many.1
+not-too-many s input squares (inr symbol) many = let e : true ≡ false = sym many.0 ∙ symbol.0 in cc
+not-too-many s input squares (inl (structured, symbols, series, e)) many = no-series input (smallest_of s) symbols series many.1
   where
     no-series : (x : List ℕ) (v : ℕ) (ss : _) → IsSeries v s.level (rule_for s) x ss → HasNoSeries v s.level (rule_for s) x → ⊥
     no-series x v ss (inl a) b = b.too_long a.fits

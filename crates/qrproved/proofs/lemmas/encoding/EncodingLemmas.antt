@@ -18,7 +18,7 @@ least-one x l smallest r v w h k = elim (cases_lt v w) [
   ]
 ]
 
--- the status of an input that is too long is returned exactly if it is too long, P, unless memory was refused
+-- TOO_LONG is returned exactly if the input is too long (P), unless memory was refused
 pub too-long-status : {X : Type 0} (r : Result X EncodeFault) (f : EncodeFault) (S P : Type 0) → r ≡ Err f → S
     → ((r ≡ Err fault.TooLong) ↔ ((r ≢ Err fault.Memory) × P))
     → (encode_status f ≡ 2) ↔ ((encode_status f ≢ 4) × S × P)
@@ -27,8 +27,7 @@ too-long-status r fault.TooLong S P is s told = (λ h. (λ m. absurd (omega arit
 too-long-status r fault.TooMany S P is s told = (λ h. absurd (omega arith), λ w. absurd (let e = told.1 (λ h. cc, w.2) in cc))
 too-long-status r fault.Memory S P is s told = (λ h. absurd (omega arith), λ w. absurd (w.0 refl))
 
--- an input that is not encoded never has the status of a short buffer. If it has a symbol, R, it is refused only for
--- lack of memory
+-- ROOM is not returned for an input that is not encoded: if it has a symbol (R), only lack of memory refuses it
 pub room-status : {X : Type 0} (r : Result X EncodeFault) (f : EncodeFault) (x : List ℕ) (S P R : Type 0) → r ≡ Err f → (R → P → ⊥)
     → ((r ≡ Err fault.Empty) ↔ (x ≡ []))
     → ((r ≡ Err fault.TooLong) ↔ ((r ≢ Err fault.Memory) × P))

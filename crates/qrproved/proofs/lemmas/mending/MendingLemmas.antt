@@ -35,7 +35,7 @@ few-changes x t most few = All-weaker (λ n. n ≤ t) (λ n. n ≤ 15) (λ n h. 
 abbrev pub MendedExclude : Type 0
 MendedExclude = (u : Grid) (g : Grid) (v : ℕ) (l : Level) (m : ℕ) (p : Content) (x : List ℕ) (e : ReadFault) → IsMendedReading u g v l m p x → IsUnmended u g e → e ≡ unread.Memory
 
--- a square that is mended is not refused for a fault other than lack of memory
+-- so it is refused for no other fault
 pub not-unmended : (u : Grid) (g : Grid) (v : ℕ) (l : Level) (m : ℕ) (p : Content) (x : List ℕ) (e : ReadFault) → MendedExclude → IsMendedReading u g v l m p x → IsUnmended u g e → (e ≡ unread.Memory → ⊥) → ⊥
 not-unmended u g v l m p x e law r f known = known (law u g v l m p x e r f)
 
@@ -89,13 +89,5 @@ given-mended modules side before put m t len all r format whole long room same e
 pub more-bytes : (modules : List ℕ) (side : ℕ) (buffer : List ℕ) (m : Mended) (len : ℕ) → AreModules modules side
     → IsMendedReading (square_of_unknown side modules) (square_of_bytes side modules) m.version m.level m.mask m.parsed m.changed.items
     → len ≡ length m.parsed.bytes → length buffer < len → HasMoreMendedBytes modules side buffer
-more-bytes modules side buffer m len all r long short = record {
-  all_modules = all;
-  content = m.parsed;
-  version = m.version;
-  level = m.level;
-  mask = m.mask;
-  changed = m.changed.items;
-  read = r;
-  room = omega arith;
-}
+more-bytes modules side buffer m len all r long short =
+    (all, (m.parsed, (m.version, m.level, m.mask, m.changed.items, r), omega arith))

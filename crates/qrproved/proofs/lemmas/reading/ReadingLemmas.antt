@@ -14,7 +14,7 @@ pub version-of : (o : Option ℕ) (n side : ℕ) → n ≡ side
 version-of None n side e none = λ w. none w.0 w.1 w.2 (e ∙ w.3)
 version-of (Some v) n side e is = (is.0, is.1, sym e ∙ is.2)
 
--- `FaultsAreOne U` says that, by U, a square has at most one fault besides lack of memory
+-- by U, a square has at most one fault besides lack of memory
 abbrev pub FaultsAreOne : (ReadFault → Type 0) → Type 0
 FaultsAreOne U = (e f : ReadFault) → U e → U f → (e ≡ unread.Memory) ⊎ (f ≡ unread.Memory) ⊎ (e ≡ f)
 

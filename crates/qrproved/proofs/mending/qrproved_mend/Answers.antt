@@ -29,7 +29,7 @@ returns-in-Err-clause-room c =
     rw c.read_status.ensures
     (room-status c.in-Err.fault (IsSide c.args.side) (length c.args.modules.now < c.args.side * c.args.side) (HasMoreMendedBytes c.args.modules.now c.args.side c.args.bytes.now)
     (λ q. omega (arith, (rw same at c.area-area.ensures)))
-    (λ w. c.mended_readings_are_not_refused.ensures o g w.version w.level w.mask w.content w.changed c.in-Err.fault w.read u))
+    (λ w. let read = w.1.1 in c.mended_readings_are_not_refused.ensures o g read.0 read.1 read.2 w.1.0 read.3 c.in-Err.fault read.4 u))
 
 pub returns-in-Err-clause-format : goal.returns-in-Err-clause-format
 returns-in-Err-clause-format c =
@@ -145,10 +145,11 @@ returns-else-bytes-len-clause-room c =
       λ w. elim w.1 [
         | inl q ↦ absurd (omega (arith, (rw same at c.area-area.ensures)))
         | inr k ↦
-            let more = k.1 in
-            let same = c.mended_readings_are_one.ensures o (square_of_bytes c.args.side c.args.modules.now) more.version m.version more.level m.level more.mask m.mask more.content m.parsed more.changed m.changed.items more.read r in
+            let more = k.1.1 in
+            let read = more.1 in
+            let same = c.mended_readings_are_one.ensures o (square_of_bytes c.args.side c.args.modules.now) read.0 m.version read.1 m.level read.2 m.mask more.0 m.parsed read.3 m.changed.items read.4 r in
             let many = ap (λ (p : Content). length p.bytes) same.3 in
-            absurd (omega (arith, many, long, more.room))
+            absurd (omega (arith, many, long, more.2))
       ],
     )
 

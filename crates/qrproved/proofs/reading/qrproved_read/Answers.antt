@@ -20,7 +20,7 @@ returns-in-Err-clause-room c =
     let same = c.side-side.ensures.value ∙ sym c.in-Some.ensures.2 in
     let u = subst (λ (g : Grid). IsUnread g c.in-Err.fault) (rw same at c.in-Ok.ensures) c.in-Err.ensures.read in
     rw c.read_status.ensures (room-status c.in-Err.fault (IsSide c.args.side) (length c.args.modules.now < c.args.side * c.args.side) (HasMoreBytes c.args.modules.now c.args.side c.args.bytes.now)
-    (λ q. omega (arith, (rw same at c.area.ensures))) (λ w. c.refusals_are_one.ensures.read (square_of_bytes c.args.side c.args.modules.now) w.content c.in-Err.fault w.read u))
+    (λ q. omega (arith, (rw same at c.area.ensures))) (λ w. let more = w.1 in c.refusals_are_one.ensures.read (square_of_bytes c.args.side c.args.modules.now) more.0 c.in-Err.fault more.1 u))
 
 pub returns-in-Err-clause-format : goal.returns-in-Err-clause-format
 returns-in-Err-clause-format c =
@@ -70,9 +70,10 @@ returns-clause-room c =
       λ w. elim w.1 [
         | inl q ↦ absurd (omega (arith, (rw same at c.area.ensures)))
         | inr m ↦
-            let same = c.contents_are_one.ensures (square_of_bytes c.args.side c.args.modules.now) m.1.content c.in-Ok-read_symbol.parsed m.1.read r in
+            let more = m.1.1 in
+            let same = c.contents_are_one.ensures (square_of_bytes c.args.side c.args.modules.now) more.0 c.in-Ok-read_symbol.parsed more.1 r in
             let many = ap (λ (p : Content). length p.bytes) same in
-            absurd (omega (arith, many, long, m.1.room, c.len-len.ensures))
+            absurd (omega (arith, many, long, more.2, c.len-len.ensures))
       ],
     )
 

@@ -18,7 +18,7 @@ pub returns-clause-colours : goal.returns-clause-colours
 returns-clause-colours c = λ k.
     let row = has c.bit_row.result k in
     c.bitand.ensures k ∙ (ap (λ z. row && z) (c.below.ensures k)
-    ∙ (passes row (ltb k (64 * c.args.words)) (λ f. c.bit_row.ensures.past k (past-words c.args.self.now.side (64 * c.args.words) k (omega (arith, c.requires.most)) f)) ∙ c.bit_row.ensures.colours k))
+    ∙ (passes row (ltb k (64 * c.args.words)) (λ f. c.bit_row.ensures.past k (past-words c.args.self.now.side (64 * c.args.words) k (omega (arith, c.requires.width.most)) f)) ∙ c.bit_row.ensures.colours k))
 
 pub returns-clause-past : goal.returns-clause-past
 returns-clause-past c = λ k l. c.bitand.ensures k ∙ false-and (has c.bit_row.result k) (has c.below.result k) (c.bit_row.ensures.past k l)

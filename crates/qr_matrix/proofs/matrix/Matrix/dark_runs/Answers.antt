@@ -1,10 +1,6 @@
-use Rattle.std.proofs.Common.{◌∙◌}
-use Rattle.qr_matrix.proofs.lemmas.dark_runs.ChangeLemmas.{from-start}
+use Rattle.qr_matrix.specs.BitRow.{has}
+use Rattle.qr_matrix.proofs.lemmas.dark_runs.DarkRunLemmas.{runs-of-row}
 use Rattle.qr_matrix.proofs.matrix.Matrix.dark_runs.Goals as goal
 
-pub returns-clause-runs : goal.returns-clause-runs
-returns-clause-runs c = record {
-  few = c.changes.ensures.few;
-  past = c.changes.ensures.past;
-  changes = λ k l. c.changes.ensures.changes k l ∙ from-start c.args.self.now c.args.row k;
-}
+pub returns : goal.returns
+returns c = runs-of-row c.args.self.now c.args.row c.changes.ensures.few c.changes.ensures.past (has c.changes.result) c.changes.ensures.changes

@@ -5,9 +5,9 @@ use Rattle.qr_layout.specs.Format.{format_word_of}
 use Rattle.qr_matrix.specs.Grid.{Grid, square, colour, IsSquare}
 use Rattle.qr_matrix.proofs.Facts.{square-same, colour-square}
 use Rattle.qr_symbol.specs.Mask.{inverts, inverted}
-use Rattle.qr_symbol.specs.Steps.Drawing.{masked_colour}
+use Rattle.qr_symbol.specs.Steps.Placement.{masked_colour}
 use Rattle.qr_symbol.specs.Steps.Patterns.{format_or}
-use Rattle.qr_symbol.proofs.lemmas.drawing.DrawingLemmas.{square-is}
+use Rattle.qr_symbol.proofs.lemmas.placement.PlacementLemmas.{square-is}
 use Rattle.qr_symbol.proofs.canvas.Canvas.draw_masked.Goals as goal
 
 pub set_masked-requires-clause-square : goal.set_masked-requires-clause-square

@@ -1,0 +1,237 @@
+//! Tests of the four types of drawing: some lines and runs, the arguments that name a type, and writers that fail.
+
+ghost use Rattle.std.specs.Prelude.{◌≡◌, IfOk};
+
+use crate::runs::{Devices, run_with};
+use qr_layout::{Level, Version};
+use qr_symbol::{Symbol, build_masked};
+use qrencode_cli::{Drawing, Faults, Trial, draw};
+use std::alloc::Global;
+use std::test::Fail;
+
+// The codewords of `01234567` at 1-M.
+static CODEWORDS: [u8; 26] = [
+    0x10, 0x20, 0x0C, 0x56, 0x61, 0x80, 0xEC, 0x11, 0xEC, 0x11, 0xEC, 0x11, 0xEC, 0x11, 0xEC, 0x11,
+    0xA5, 0x24, 0xD4, 0xC1, 0xED, 0x36, 0xC7, 0x87, 0x2C, 0x55,
+];
+
+// The symbol of `01234567` at 1-M with mask 0.
+fn symbol(alloc: Global) -> Result<Symbol, Fail>
+    ensures { IfOk result (λ s. s.matrix.side ≡ 21) }
+{
+    let version = Version::FIRST;
+    if version.total_codewords() != 26 {
+        return Err("26 codewords".into());
+    }
+    Ok(build_masked(alloc, version, Level::M, &CODEWORDS, 0)?)
+}
+
+// Draws that symbol.
+fn one(alloc: Global, kind: Drawing, margin: u8) -> Result<Trial, Fail> {
+    let symbols = [symbol(alloc)?];
+    let mut out = Trial::writer(alloc, 8000, Faults::NONE)?;
+    draw(&symbols, kind, margin, &mut out)?;
+    Ok(out)
+}
+
+// Line `index` of `text`, from 0.
+fn line(text: &[u8], index: usize) -> &[u8] {
+    text.split(|byte| *byte == b'\n').nth(index).unwrap_or(&[])
+}
+
+fn line_count(text: &[u8]) -> usize {
+    text.iter().filter(|byte| **byte == b'\n').count()
+}
+
+#[test]
+fn ascii(rt: HostRuntime) -> Result<(), Fail> {
+    let out = one(rt.alloc(), Drawing::Ascii, 4)?;
+    let text = out.bytes();
+    assert_eq!(rt; line_count(text), 29);
+    assert_eq!(rt; line(text, 3), [b' '; 58].as_slice());
+    assert_eq!(rt;
+        line(text, 4),
+        b"        ##############      ######  ##############        ".as_slice()
+    );
+    Ok(())
+}
+
+#[test]
+fn ascii_inverse(rt: HostRuntime) -> Result<(), Fail> {
+    let out = one(rt.alloc(), Drawing::AsciiInverse, 0)?;
+    let text = out.bytes();
+    assert_eq!(rt; line_count(text), 21);
+    assert_eq!(rt;
+        line(text, 0),
+        b"              ######      ##              ".as_slice()
+    );
+    Ok(())
+}
+
+#[test]
+fn utf8(rt: HostRuntime) -> Result<(), Fail> {
+    let out = one(rt.alloc(), Drawing::Utf8, 0)?;
+    let text = out.bytes();
+    assert_eq!(rt; line_count(text), 11);
+    assert_eq!(rt; line(text, 0), " ▄▄▄▄▄ █▀▀ ▄▄█ ▄▄▄▄▄ ".as_bytes());
+    assert_eq!(rt; line(text, 10), "▄▄▄▄▄▄▄█▄██▄█▄▄▄██▄█▄".as_bytes());
+    Ok(())
+}
+
+#[test]
+fn utf8_with_a_margin(rt: HostRuntime) -> Result<(), Fail> {
+    let out = one(rt.alloc(), Drawing::Utf8, 4)?;
+    let text = out.bytes();
+    assert_eq!(rt; line_count(text), 15);
+    for index in 0..2 {
+        assert_eq!(rt;
+            line(text, index),
+            "█████████████████████████████".as_bytes()
+        );
+    }
+    assert!(rt; line(text, 2).starts_with("████ ▄▄▄▄▄ █".as_bytes()));
+    Ok(())
+}
+
+#[test]
+fn svg(rt: HostRuntime) -> Result<(), Fail> {
+    let out = one(rt.alloc(), Drawing::Svg, 4)?;
+    let text = out.bytes();
+    assert_eq!(rt; line_count(text), 5);
+    assert_eq!(rt;
+        line(text, 0),
+        b"<?xml version=\"1.0\" encoding=\"UTF-8\"?>".as_slice()
+    );
+    assert_eq!(rt;
+        line(text, 1),
+        b"<svg xmlns=\"http://www.w3.org/2000/svg\" version=\"1.1\" viewBox=\"0 0 29 29\" shape-rendering=\"crispEdges\">".as_slice()
+    );
+    assert_eq!(rt;
+        line(text, 2),
+        b"<rect x=\"0\" y=\"0\" width=\"29\" height=\"29\" fill=\"#ffffff\"/>".as_slice()
+    );
+    let path = line(text, 3);
+    assert!(rt;
+        path.starts_with(
+            b"<path fill=\"#000000\" d=\"M4 4h7v1h-7zM14 4h3v1h-3zM18 4h7v1h-7zM4 5h1v1h-1z"
+        )
+    );
+    assert!(rt; path.ends_with(b"h1v1h-1z\"/>"));
+    assert_eq!(rt; line(text, 4), b"</svg>".as_slice());
+    Ok(())
+}
+
+#[test]
+fn svg_of_two_symbols(rt: HostRuntime) -> Result<(), Fail> {
+    let symbols = [symbol(rt.alloc())?, symbol(rt.alloc())?];
+    let mut out = Trial::writer(rt.alloc(), 8000, Faults::NONE)?;
+    draw(&symbols, Drawing::Svg, 0, &mut out)?;
+    let text = out.bytes();
+    assert_eq!(rt; line_count(text), 5);
+    assert_eq!(rt;
+        line(text, 1),
+        b"<svg xmlns=\"http://www.w3.org/2000/svg\" version=\"1.1\" viewBox=\"0 0 21 42\" shape-rendering=\"crispEdges\">".as_slice()
+    );
+    assert_eq!(rt;
+        line(text, 2),
+        b"<rect x=\"0\" y=\"0\" width=\"21\" height=\"42\" fill=\"#ffffff\"/>".as_slice()
+    );
+    let path = line(text, 3);
+    assert!(rt; path.starts_with(b"<path fill=\"#000000\" d=\"M0 0h7v1h-7zM10 0h3v1h-3z"));
+    let second = b"zM0 21h7v1h-7zM10 21h3v1h-3z";
+    assert_eq!(rt;
+        path.windows(second.len())
+            .filter(|part| *part == second.as_slice())
+            .count(),
+        1
+    );
+    Ok(())
+}
+
+// The dark runs of two finder patterns, and the light run after the first: the column after the last module of each.
+#[test]
+fn runs_of_the_first_row(rt: HostRuntime) -> Result<(), Fail> {
+    let symbol = symbol(rt.alloc())?;
+    assert!(rt; symbol.matrix.side() == 21);
+    for (col, end) in [(0, 7), (7, 10), (14, 21)] {
+        assert_eq!(rt; symbol.matrix.run_end(0, col), end, "column {col}");
+    }
+    Ok(())
+}
+
+#[test]
+fn by_words(rt: HostRuntime) -> Result<(), Fail> {
+    let rows = [
+        (
+            ["-t", "utf8", "-l", "h", "A"].as_slice(),
+            "half blocks",
+            15usize,
+        ),
+        (
+            [
+                "-l", "Q", "-v", "2", "-m", "0", "-8", "-S", "-t", "svg", "A",
+            ]
+            .as_slice(),
+            "a series in a document",
+            5,
+        ),
+        (
+            ["-t", "asciiI", "-m", "0", "A"].as_slice(),
+            "light and dark exchanged",
+            21,
+        ),
+        (
+            ["-t", "ASCII", "-m", "100", "--", "-8"].as_slice(),
+            "a string that begins with a hyphen",
+            221,
+        ),
+    ];
+    for (words, name, lines) in rows {
+        let devices = Devices {
+            out_room: 100_000,
+            ..Devices::WITHOUT_FAULTS
+        };
+        let r = run_with(rt.alloc(), words, b"", devices)?;
+        assert_eq!(rt; r.status, 0, "{name}");
+        assert_eq!(rt; line_count(r.out.bytes()), lines, "{name}");
+        assert!(rt; r.err.bytes().is_empty(), "{name}");
+    }
+    Ok(())
+}
+
+// The writer takes at most 100 bytes in a call and fails from call `call` on, until the drawing needs fewer calls. It
+// always has a prefix of the drawing.
+#[test]
+fn writers_fail_in_turn(rt: HostRuntime) -> Result<(), Fail> {
+    let symbols = [symbol(rt.alloc())?];
+    for kind in [
+        Drawing::Ascii,
+        Drawing::AsciiInverse,
+        Drawing::Utf8,
+        Drawing::Svg,
+    ] {
+        let whole = one(rt.alloc(), kind, 4)?;
+        let mut last = false;
+        for call in 0..80u64 {
+            let faults = Faults {
+                at_most: 100,
+                fails_from: call,
+                ..Faults::NONE
+            };
+            let mut out = Trial::writer(rt.alloc(), 8000, faults)?;
+            let drawn = draw(&symbols, kind, 4, &mut out);
+            assert!(rt;
+                whole.bytes().starts_with(out.bytes()),
+                "{kind:?}, call {call}"
+            );
+            assert_eq!(rt;
+                drawn.is_ok(),
+                out.bytes().len() == whole.bytes().len(),
+                "{kind:?}, call {call}"
+            );
+            last = drawn.is_ok();
+        }
+        assert!(rt; last, "{kind:?}: the last call succeeds");
+    }
+    Ok(())
+}

@@ -1,0 +1,284 @@
+//! Tests of data codewords, made from segments and parsed.
+
+ghost use Rattle.std.specs.Prelude.{◌<◌, ◌≤◌, length};
+ghost use Rattle.std.specs.Option.{ForSome};
+ghost use Rattle.qr_bits.specs.declared.modes.TheConstants.{INPUT_MAX};
+
+use qr_bits::{
+    BitFault, Header, INPUT_MAX, Mode, ParseFault, Segment, codewords, covers, parity, parse,
+};
+use qr_layout::{Level, Version};
+use std::test::Fail;
+
+#[test]
+fn parity_of_eight_letters(rt: HostRuntime) {
+    assert_eq!(rt; parity(b"ABCDEFGH"), 0x08);
+    assert_eq!(rt; parity(b""), 0);
+}
+
+fn encode(
+    rt: &HostRuntime,
+    input: &[u8],
+    segment: Segment,
+    header: Option<Header>,
+    level: Level,
+) -> Result<Vec<u8>, Fail>
+    requires short { length input.now ≤ INPUT_MAX }
+    requires in_range { ForSome header (λ h. (h.position < 16) × (h.last < 16)) }
+{
+    let version = Version::FIRST;
+    let segs = [segment];
+    if !covers(input, &segs) {
+        return Err("the segment is not the input".into());
+    }
+    Ok(codewords(rt.alloc(), input, &segs, header, version, level)?)
+}
+
+#[test]
+fn data_codewords(rt: HostRuntime) -> Result<(), Fail> {
+    let digits = Segment {
+        mode: Mode::Numeric,
+        len: 8,
+    };
+    let data = encode(&rt, b"01234567", digits, None, Level::M)?;
+    let wanted = [
+        0x10, 0x20, 0x0C, 0x56, 0x61, 0x80, 0xEC, 0x11, 0xEC, 0x11, 0xEC, 0x11, 0xEC, 0x11, 0xEC,
+        0x11,
+    ];
+    assert_eq!(rt; data.as_slice(), wanted.as_slice(), "eight digits at 1-M");
+    let characters = Segment {
+        mode: Mode::Alphanumeric,
+        len: 11,
+    };
+    let data = encode(&rt, b"HELLO WORLD", characters, None, Level::M)?;
+    let wanted = [
+        0x20, 0x5B, 0x0B, 0x78, 0xD1, 0x72, 0xDC, 0x4D, 0x43, 0x40, 0xEC, 0x11, 0xEC, 0x11, 0xEC,
+        0x11,
+    ];
+    assert_eq!(rt;
+        data.as_slice(),
+        wanted.as_slice(),
+        "eleven characters at 1-M"
+    );
+    let bytes = Segment {
+        mode: Mode::Byte,
+        len: 1,
+    };
+    let data = encode(&rt, b"A", bytes, None, Level::L)?;
+    let wanted = [
+        0x40, 0x14, 0x10, 0xEC, 0x11, 0xEC, 0x11, 0xEC, 0x11, 0xEC, 0x11, 0xEC, 0x11, 0xEC, 0x11,
+        0xEC, 0x11, 0xEC, 0x11,
+    ];
+    assert_eq!(rt; data.as_slice(), wanted.as_slice(), "a byte at 1-L");
+    let pairs = Segment {
+        mode: Mode::Kanji,
+        len: 4,
+    };
+    let data = encode(&rt, b"\x93\x5F\xE4\xAA", pairs, None, Level::L)?;
+    let wanted = [
+        0x80, 0x26, 0xCF, 0xEA, 0xA8, 0x00, 0xEC, 0x11, 0xEC, 0x11, 0xEC, 0x11, 0xEC, 0x11, 0xEC,
+        0x11, 0xEC, 0x11, 0xEC,
+    ];
+    assert_eq!(rt;
+        data.as_slice(),
+        wanted.as_slice(),
+        "two kanji pairs at 1-L"
+    );
+    Ok(())
+}
+
+#[test]
+fn series(rt: HostRuntime) -> Result<(), Fail> {
+    let first = Header {
+        position: 0,
+        last: 1,
+        parity: 0x08,
+    };
+    let bytes = Segment {
+        mode: Mode::Byte,
+        len: 5,
+    };
+    let data = encode(&rt, b"ABCDE", bytes, Some(first), Level::H)?;
+    let wanted = [0x30, 0x10, 0x84, 0x05, 0x41, 0x42, 0x43, 0x44, 0x45];
+    assert_eq!(rt;
+        data.as_slice(),
+        wanted.as_slice(),
+        "no room for a terminator"
+    );
+    let second = Header {
+        position: 1,
+        last: 1,
+        parity: 0x08,
+    };
+    let bytes = Segment {
+        mode: Mode::Byte,
+        len: 3,
+    };
+    let data = encode(&rt, b"FGH", bytes, Some(second), Level::H)?;
+    let wanted = [0x31, 0x10, 0x84, 0x03, 0x46, 0x47, 0x48, 0x00, 0xEC];
+    assert_eq!(rt;
+        data.as_slice(),
+        wanted.as_slice(),
+        "a terminator and a pad"
+    );
+    Ok(())
+}
+
+#[test]
+fn digits_that_fit(rt: HostRuntime) -> Result<(), Fail> {
+    let most = Segment {
+        mode: Mode::Numeric,
+        len: 41,
+    };
+    let data = encode(&rt, &[b'7'; 41], most, None, Level::L)?;
+    let version = Version::FIRST;
+    assert!(rt; data.len() == 19);
+    assert_eq!(rt;
+        data[18],
+        0b1001101_0,
+        "77 in seven bits, and one bit of terminator"
+    );
+    let parsed = parse(rt.alloc(), &data, version)?;
+    assert_eq!(rt; parsed.bytes.len(), 41, "41 digits");
+    let more = Segment {
+        mode: Mode::Numeric,
+        len: 42,
+    };
+    let digits = [b'7'; 42];
+    assert!(rt; covers(&digits, &[more]));
+    let data = codewords(rt.alloc(), &digits, &[more], None, version, Level::L);
+    assert_eq!(rt; data.err(), Some(BitFault::TooLong), "42 digits");
+    Ok(())
+}
+
+fn says(
+    rt: &HostRuntime,
+    codewords: &[u8],
+    header: Option<Header>,
+    segment: Option<Segment>,
+    bytes: &[u8],
+) -> Result<bool, Fail>
+    requires { length codewords.now ≤ 3706 }
+{
+    let version = Version::FIRST;
+    let parsed = parse(rt.alloc(), codewords, version)?;
+    Ok(
+        parsed.header == header
+            && parsed.segments.len() == usize::from(segment.is_some())
+            && parsed.segments.first().copied() == segment
+            && parsed.bytes.as_slice() == bytes,
+    )
+}
+
+fn fault(rt: &HostRuntime, codewords: &[u8]) -> Result<Option<ParseFault>, Fail>
+    requires { length codewords.now ≤ 3706 }
+{
+    let version = Version::FIRST;
+    Ok(parse(rt.alloc(), codewords, version).err())
+}
+
+fn segment(mode: Mode, len: usize) -> Option<Segment> {
+    Some(Segment { mode, len })
+}
+
+#[test]
+fn contents(rt: HostRuntime) -> Result<(), Fail> {
+    assert!(rt; says(&rt, &[], None, None, b"")?, "no codeword");
+    let five = segment(Mode::Byte, 5);
+    let bytes = [0x40, 0x56, 0x16, 0x23, 0x03, 0x13, 0x20];
+    assert!(rt; says(&rt, &bytes, None, five, b"ab012")?, "digits as bytes");
+    let none = segment(Mode::Numeric, 0);
+    assert!(rt;
+        says(&rt, &[0x10, 0x00, 0x00], None, none, b"")?,
+        "an empty segment"
+    );
+    let two = segment(Mode::Alphanumeric, 2);
+    assert!(rt;
+        says(&rt, &[0x20, 0x17, 0xE8], None, two, b"::")?,
+        "the last pair"
+    );
+    let pair = segment(Mode::Kanji, 2);
+    assert!(rt;
+        says(&rt, &[0x80, 0x10, 0x5E, 0x00], None, pair, b"\x81\xFC")?,
+        "the last low byte of a pair"
+    );
+    let header = Some(Header {
+        position: 1,
+        last: 1,
+        parity: 0x08,
+    });
+    let three = segment(Mode::Byte, 3);
+    let symbol = [0x31, 0x10, 0x84, 0x03, 0x46, 0x47, 0x48, 0x00, 0xEC];
+    assert!(rt;
+        says(&rt, &symbol, header, three, b"FGH")?,
+        "a symbol of a series"
+    );
+    Ok(())
+}
+
+#[test]
+fn faults(rt: HostRuntime) -> Result<(), Fail> {
+    let bad_value = Some(ParseFault::BadValue);
+    assert_eq!(rt;
+        fault(&rt, &[0x10, 0x0F, 0xE8])?,
+        bad_value,
+        "a group of 1000"
+    );
+    assert_eq!(rt;
+        fault(&rt, &[0x10, 0x0B, 0x20])?,
+        bad_value,
+        "two digits of 100"
+    );
+    assert_eq!(rt;
+        fault(&rt, &[0x20, 0x17, 0xE9])?,
+        bad_value,
+        "a pair of 2025"
+    );
+    assert_eq!(rt;
+        fault(&rt, &[0x20, 0x0D, 0xA0])?,
+        bad_value,
+        "a single of 45"
+    );
+    assert_eq!(rt;
+        fault(&rt, &[0x80, 0x10, 0x5E, 0x80])?,
+        bad_value,
+        "a low byte of BD"
+    );
+    assert_eq!(rt;
+        fault(&rt, &[0x40, 0x20, 0x41])?,
+        Some(ParseFault::Cut),
+        "a byte missing"
+    );
+    assert_eq!(rt;
+        fault(&rt, &[0x30])?,
+        Some(ParseFault::Cut),
+        "half a header"
+    );
+    let bad_mode = Some(ParseFault::BadMode);
+    assert_eq!(rt; fault(&rt, &[0x70])?, bad_mode, "an indicator of no mode");
+    assert_eq!(rt;
+        fault(&rt, &[0x30, 0x10, 0x83])?,
+        bad_mode,
+        "a second header"
+    );
+    Ok(())
+}
+
+// All 65,536 pairs of codewords, counted by their fault. `BadValue` does not occur, since two codewords are too short
+// for the data of a segment.
+#[test]
+fn all_pairs_of_codewords(rt: HostRuntime) -> Result<(), Fail> {
+    let (mut read, mut cut, mut no_mode) = (0u32, 0u32, 0u32);
+    for first in 0..=255u8 {
+        for second in 0..=255u8 {
+            match fault(&rt, &[first, second])? {
+                None => read = read.saturating_add(1),
+                Some(ParseFault::Cut) => cut = cut.saturating_add(1),
+                Some(ParseFault::BadMode) => no_mode = no_mode.saturating_add(1),
+                Some(other) => return Err(other.into()),
+            }
+        }
+    }
+    assert_eq!(rt; (read, cut, no_mode), (4110, 20444, 40982));
+    Ok(())
+}

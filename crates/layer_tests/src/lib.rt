@@ -1,0 +1,18 @@
+//! Tests of the public functions of the layout, the field, the square and the segments.
+//! 1-M stands for version 1 and level M.
+#![tactic(auto)]
+
+#[cfg(test)]
+mod codewords;
+#[cfg(test)]
+mod field;
+#[cfg(test)]
+mod layout;
+#[cfg(test)]
+mod matrix;
+#[cfg(test)]
+mod penalty;
+#[cfg(test)]
+mod segments;
+#[cfg(test)]
+mod walk;

@@ -1,0 +1,179 @@
+//! Tests of `Matrix`: modules that are read and set, transposed squares, and differences.
+
+use qr_matrix::{Matrix, differences};
+use std::test::Fail;
+
+#[test]
+fn one_place_is_set(rt: HostRuntime) -> Result<(), Fail> {
+    let mut matrix = Matrix::new(rt.alloc(), 3)?;
+    assert_eq!(rt; matrix.side(), 3);
+    matrix.set(1, 2, true);
+    for row in 0..3 {
+        for col in 0..3 {
+            let is_set = row == 1 && col == 2;
+            assert_eq!(rt; matrix.dark(row, col), is_set, "row {row}, column {col}");
+        }
+    }
+    Ok(())
+}
+
+#[test]
+fn a_rectangle_is_filled(rt: HostRuntime) -> Result<(), Fail> {
+    let mut matrix = Matrix::new(rt.alloc(), 70)?;
+    matrix.fill(2, 5, 62, 67, true);
+    matrix.fill(3, 4, 63, 65, false);
+    for row in 0..70u8 {
+        for col in 0..70u8 {
+            let is_round = row >= 2 && row < 5 && col >= 62 && col < 67;
+            let is_dark = is_round && !(row == 3 && (col == 63 || col == 64));
+            assert_eq!(rt; matrix.dark(row, col), is_dark, "row {row}, column {col}");
+        }
+    }
+    Ok(())
+}
+
+#[test]
+fn four_modules_are_four_bits(rt: HostRuntime) -> Result<(), Fail> {
+    let mut matrix = Matrix::new(rt.alloc(), 72)?;
+    matrix.set(1, 64, true);
+    matrix.set(1, 66, true);
+    matrix.set(1, 67, true);
+    assert_eq!(rt; matrix.four(1, 64), 0b1101);
+    assert_eq!(rt; matrix.four(1, 60), 0);
+    Ok(())
+}
+
+#[test]
+fn a_row_is_masked_within(rt: HostRuntime) -> Result<(), Fail> {
+    let mut plain = Matrix::new(rt.alloc(), 70)?;
+    plain.fill(4, 5, 60, 70, true);
+    let mut within = Matrix::new(rt.alloc(), 70)?;
+    within.fill(4, 5, 0, 66, true);
+    let mut matrix = Matrix::new(rt.alloc(), 70)?;
+    matrix.set_row_masked(4, &plain, &within, 0b000011);
+    for col in 0..70u8 {
+        let is_dark = match col {
+            0..60 => col % 6 < 2,
+            60 | 61 => false,
+            _ => true,
+        };
+        assert_eq!(rt; matrix.dark(4, col), is_dark, "column {col}");
+    }
+    Ok(())
+}
+
+// A row takes one word of 64 bits in the first square, and three in the second.
+#[test]
+fn a_square_is_transposed(rt: HostRuntime) -> Result<(), Fail> {
+    let places = [
+        (0u8, 1u8),
+        (5, 20),
+        (20, 3),
+        (1, 64),
+        (63, 65),
+        (64, 63),
+        (70, 176),
+        (130, 127),
+        (176, 0),
+    ];
+    for side in [21u8, 177] {
+        let mut plain = Matrix::new(rt.alloc(), side)?;
+        for (row, col) in places {
+            if row < plain.side() && col < plain.side() {
+                plain.set(row, col, true);
+            }
+        }
+        let mut matrix = Matrix::new(rt.alloc(), side)?;
+        matrix.fill(0, side, 0, side, true);
+        assert!(rt; plain.side() == matrix.side());
+        matrix.set_transposed(&plain);
+        for row in 0..side {
+            for col in 0..side {
+                let is_dark = places.contains(&(col, row));
+                assert_eq!(rt;
+                    matrix.dark(row, col),
+                    is_dark,
+                    "row {row}, column {col} of {side}"
+                );
+            }
+        }
+    }
+    Ok(())
+}
+
+#[test]
+fn a_light_row_is_one_run(rt: HostRuntime) -> Result<(), Fail> {
+    let matrix = Matrix::new(rt.alloc(), 177)?;
+    assert_eq!(rt; matrix.run_end(0, 60), 177);
+    Ok(())
+}
+
+#[test]
+fn four_bits_are_set(rt: HostRuntime) -> Result<(), Fail> {
+    for (place, bits) in [(0u8, 0b0001u8), (60, 0b0110), (64, 0b1011), (188, 0b1111)] {
+        assert!(rt; place <= 188 && place % 4 == 0 && bits < 16);
+        let mut row = Matrix::new(rt.alloc(), 1)?.bit_row(0);
+        row.set_four(place, bits);
+        assert_eq!(rt; row.four(place), bits, "bits from {place} on");
+        for other in 0..192u8 {
+            if other < place || place + 4 <= other {
+                assert!(rt; !row.at(other), "bit {other}, not from {place} on");
+            }
+        }
+        row.set_four(place, 0b1000);
+        assert_eq!(rt;
+            row.four(place),
+            bits | 0b1000,
+            "one bit more from {place} on"
+        );
+    }
+    Ok(())
+}
+
+#[test]
+fn runs_over_the_border_of_words(rt: HostRuntime) -> Result<(), Fail> {
+    let mut matrix = Matrix::new(rt.alloc(), 132)?;
+    matrix.fill(3, 4, 0, 2, true);
+    matrix.fill(3, 4, 60, 66, true);
+    matrix.fill(3, 4, 67, 128, true);
+    matrix.set(3, 131, true);
+    let mut runs = matrix.dark_runs(3);
+    for (start, end) in [(0, 2), (60, 66), (67, 128), (131, 132)] {
+        let run = runs.next().ok_or("a run")?;
+        assert_eq!(rt; (run.start, run.end), (start, end));
+    }
+    assert!(rt; runs.next().is_none());
+    assert!(rt; matrix.dark_runs(4).next().is_none(), "a light row");
+    Ok(())
+}
+
+// Only the listed modules are dark, and a row takes three words.
+#[test]
+fn differences_are_counted(rt: HostRuntime) -> Result<(), Fail> {
+    let rows = [
+        ("no dark module", &[][..], &[][..], 0),
+        ("one in the first", &[(0u8, 0u8)][..], &[][..], 1),
+        ("one in the second", &[][..], &[(176u8, 176u8)][..], 1),
+        ("the same in both", &[(5, 64)][..], &[(5, 64)][..], 0),
+        (
+            "two rows, all words",
+            &[(3, 0), (3, 70), (3, 140), (9, 63)][..],
+            &[(3, 70), (9, 64)][..],
+            4,
+        ),
+    ];
+    for (name, first, second, wanted) in rows {
+        let (mut a, mut b) = (Matrix::new(rt.alloc(), 177)?, Matrix::new(rt.alloc(), 177)?);
+        for (row, col) in first {
+            assert!(rt; *row < a.side() && *col < a.side());
+            a.set(*row, *col, true);
+        }
+        for (row, col) in second {
+            assert!(rt; *row < b.side() && *col < b.side());
+            b.set(*row, *col, true);
+        }
+        assert!(rt; a.side() == b.side());
+        assert_eq!(rt; differences(&a, &b), wanted, "{name}");
+    }
+    Ok(())
+}

@@ -1,0 +1,14 @@
+use Rattle.std.proofs.Common.{◌≡◌, ◌+◌, ◌*◌, ◌≤◌, length, reverse, drop, vec_len}
+use Rattle.qr_bits.specs.declared.run_state.RunState.{RunState}
+use Rattle.qr_bits.specs.Modes.{is_kanji_pair}
+use Rattle.qr_bits.specs.Steps.BestModes.{bits_at, follow}
+use Rattle.qr_bits.proofs.lemmas.run_state.BestLemmas.{BestBelow}
+use Rattle.qr_bits.proofs.best_modes.best_modes.Given as goal
+
+-- what the table says of the bytes from i on
+abbrev pub invariant-loop-i : goal.invariant-loop-i
+invariant-loop-i l = record {
+  len : vec_len l.table + l.i ≡ length l.input;
+  small : (p : RunState) → bits_at l.rest p ≤ 33 * vec_len l.table;
+  best : BestBelow l.fn.version l.rule is_kanji_pair (drop l.i l.input) (λ p. follow p (reverse l.table.items)) (bits_at l.rest);
+}

@@ -1,0 +1,61 @@
+-- The table of best modes: for each byte a row, which has the best mode of the byte for each state before it.
+use Rattle.std.specs.Prelude.{ℕ, ◌<◌, ◌/◌, ◌%◌, ◌^◌, Bool, List, [], ◌∷◌, IsTrue}
+use Rattle.qr_bits.specs.declared.modes.Mode.{Mode}
+use Rattle.qr_bits.specs.declared.modes.Rule.{Rule}
+use Rattle.qr_bits.specs.declared.run_state.RunState.{RunState}
+use Rattle.qr_bits.specs.declared.run_state.RunState.TheVariants.{Start, Digit1, Digit2, Digit3, Character1, Character2, InBytes, HalfPair, WholePair}
+use Rattle.qr_bits.specs.declared.run_state.PerState.{PerState}
+use Rattle.qr_bits.specs.Steps.RunState.{state_after, allowed, ranked, IsBestRest, IsChoice}
+
+-- The value for a state
+unfoldable pub in_state : {T : Type 0} → PerState T → RunState → T
+in_state b Start = b.start
+in_state b Digit1 = b.digit1
+in_state b Digit2 = b.digit2
+in_state b Digit3 = b.digit3
+in_state b Character1 = b.character1
+in_state b Character2 = b.character2
+in_state b InBytes = b.in_bytes
+in_state b HalfPair = b.half_pair
+in_state b WholePair = b.whole_pair
+
+-- The bits of the best choice, of which `numbers` has the number for each state
+abbrev pub bits_at : PerState ℕ → RunState → ℕ
+bits_at numbers p = in_state numbers p / 4
+
+-- For inputs of at most `INPUT_MAX` bytes all choices stay below this bound, so that the bits of one byte more do not
+-- overflow 32 bits
+abbrev pub IsSmall : PerState ℕ → Type 0
+IsSmall n =
+    (n.start < 40000000) × (n.digit1 < 40000000) × (n.digit2 < 40000000) × (n.digit3 < 40000000) × (n.character1 < 40000000)
+    × (n.character2 < 40000000) × (n.in_bytes < 40000000) × (n.half_pair < 40000000) × (n.whole_pair < 40000000)
+
+-- The lower of a state's two bits in a row
+abbrev pub shift_of : RunState → ℕ
+shift_of Start = 0
+shift_of Digit1 = 2
+shift_of Digit2 = 4
+shift_of Digit3 = 6
+shift_of Character1 = 8
+shift_of Character2 = 10
+shift_of InBytes = 12
+shift_of HalfPair = 14
+shift_of WholePair = 16
+
+-- The mode in a row for a state
+unfoldable pub mode_at : ℕ → RunState → Mode
+mode_at row p = ranked (row / 2 ^ shift_of p % 4)
+
+-- The row has the best mode of the byte `x` for each state before it, where `numbers` are its choices and `rest` those
+-- of the later bytes
+abbrev pub IsRow : ℕ → Rule → ℕ → Bool → PerState ℕ → ℕ → PerState ℕ → Type 0
+IsRow v r x pair rest row numbers = (p : RunState) → IsChoice v r p x pair (bits_at rest) (mode_at row p) (bits_at numbers p)
+
+-- The modes that are read from rows, where each leads to the state for the next
+unfoldable pub follow : RunState → List ℕ → List Mode
+follow p [] = []
+follow p (row ∷ rows) = mode_at row p ∷ follow (state_after p (mode_at row p)) rows
+
+-- `follow` reads the best assignment to the bytes `xs` from the table, for each state after which there is one
+abbrev pub IsBestTable : ℕ → Rule → (ℕ → ℕ → Bool) → List ℕ → List ℕ → Type 0
+IsBestTable v r test xs rows = (p : RunState) (ks : List Mode) → IsTrue (allowed r test p xs ks) → (n : ℕ) × IsBestRest v r test p xs (follow p rows) n

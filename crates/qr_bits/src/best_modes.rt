@@ -1,0 +1,212 @@
+//! The best mode of each byte, by a table that is filled from the last byte to the first. How many bits a byte and all
+//! later ones take depends only on their modes and on the state before that byte (`RunState`: the mode of the last byte,
+//! and how much of its group has come). So the row of a byte has the best mode for each state: the one with the least
+//! sum of the bits that the byte adds and the fewest that the later ones can add.
+//!
+//! A choice is a number, 4 times the bits of the byte and all later ones plus the rank of the mode, so that the
+//! smallest has the fewest bits and then the lowest rank. A row has two bits for each state, the rank of its best mode.
+
+ghost use Rattle.std.specs.Prelude.{◌≡◌, ◌+◌, ◌*◌, ◌/◌, ◌%◌, ◌<◌, ◌≤◌, ℕ, Bool, true, false, length, reverse, IfOk, vec_len};
+ghost use Rattle.qr_bits.specs.declared.modes.Mode.{Mode};
+ghost use Rattle.qr_bits.specs.declared.run_state.RunState.{RunState};
+ghost use Rattle.qr_bits.specs.Modes.{is_kanji_pair};
+ghost use Rattle.qr_bits.specs.Segmentation.{rank};
+ghost use Rattle.qr_bits.specs.declared.modes.Rule.{Rule};
+ghost use Rattle.qr_bits.specs.Steps.RunState.{begins_with_pair, may_begin, choice_number, ranked};
+ghost use Rattle.qr_bits.specs.Steps.BestModes.{in_state, mode_at, IsBestTable, IsRow, IsSmall, shift_of};
+
+use crate::modes::{INPUT_MAX, Mode, Rule, is_alphanumeric, is_digit, is_kanji_pair, may_use};
+use crate::run_state::{FirstChoices, NO_BITS, PerState, RunState, number};
+use qr_layout::Version;
+use std::alloc::{AllocError, Global};
+
+// A choice that is not allowed, greater than any other.
+const NO_CHOICE: u32 = u32::MAX;
+
+#[inline(always)]
+fn ranked(rank: u32) -> Mode
+    ensures { result ≡ ranked rank }
+{
+    match rank {
+        0 => Mode::Numeric,
+        1 => Mode::Alphanumeric,
+        2 => Mode::Byte,
+        _ => Mode::Kanji,
+    }
+}
+
+// Whether `byte` may have `mode`, which is not kanji mode, where it is not the second byte of a kanji pair.
+#[tactic(auto, unfolding(crate::specs::Steps::RunState::may_begin))]
+#[inline(always)]
+fn may_begin(rule: Rule, byte: u8, mode: Mode) -> bool
+    requires { rank mode < 3 }
+    ensures { (pair : Bool) → result ≡ may_begin rule byte pair mode }
+{
+    match mode {
+        Mode::Numeric => may_use(rule, mode) && is_digit(byte),
+        Mode::Alphanumeric => may_use(rule, mode) && is_alphanumeric(byte),
+        Mode::Byte => may_use(rule, mode),
+        Mode::Kanji => false,
+    }
+}
+
+// The choice of a mode that is `first` for the byte alone: with the bits of `rest`, the best choice for the later
+// bytes. `NO_CHOICE` unless the mode may be used.
+#[inline(always)]
+fn choice_if(may: bool, first: u32, rest: u32) -> u32
+    requires first { first ≤ 135 }
+    requires rest { rest < 40000000 }
+    ensures { (b : ℕ) (m : Mode) → first ≡ 4 * b + rank m → result ≡ choice_number may (b + rest / 4) m }
+{
+    if may { first + rest / 4 * 4 } else { NO_CHOICE }
+}
+
+// A row of the modes of these choices.
+#[inline(always)]
+fn row_for(numbers: &PerState<u32>) -> u32
+    ensures { (p : RunState) → mode_at result p ≡ ranked (in_state numbers.now p % 4) }
+{
+    let last = numbers.half_pair % 4 + 4 * (numbers.whole_pair % 4);
+    let last = numbers.character2 % 4 + 4 * (numbers.in_bytes % 4 + 4 * last);
+    let last = numbers.digit3 % 4 + 4 * (numbers.character1 % 4 + 4 * last);
+    let last = numbers.digit1 % 4 + 4 * (numbers.digit2 % 4 + 4 * last);
+    numbers.start % 4 + 4 * last
+}
+
+// The row of a byte, and its best choices. `digit` and `character` are true if the byte may be written in these modes,
+// `pair` if it may begin a kanji pair, and `rest` are the best choices of the later bytes.
+#[inline(always)]
+fn choices(
+    first_choices: &FirstChoices,
+    digit: bool,
+    character: bool,
+    pair: bool,
+    rest: &PerState<u32>,
+) -> (u32, PerState<u32>)
+    requires { IsSmall rest.now }
+    ensures { (r : Rule) (x : ℕ) → digit ≡ may_begin r x pair Mode.Numeric
+        → character ≡ may_begin r x pair Mode.Alphanumeric
+        → IsRow first_choices.now.version r x pair rest.now result.0 result.1 }
+{
+    let digits = choice_if(digit, first_choices.numeric, rest.digit1);
+    let characters = choice_if(character, first_choices.alphanumeric, rest.character1);
+    let bytes = choice_if(true, first_choices.byte, rest.in_bytes);
+    let pairs = choice_if(pair, first_choices.kanji, rest.half_pair);
+    let others = bytes.min(pairs);
+    let no_digits = characters.min(others);
+    let no_characters = digits.min(others);
+    let start = digits.min(no_digits);
+    // After a whole group (`Digit3`, `Character2`, `InBytes`, `WholePair`) it is never better to begin a segment of the
+    // same mode than to go on, and both lead to the same state. So `start`, the best of all that begin a segment,
+    // serves for all other modes there.
+    let digit2 = choice_if(digit, number(3, Mode::Numeric), rest.digit2);
+    let digit3 = choice_if(digit, number(3, Mode::Numeric), rest.digit3);
+    let digit1 = choice_if(digit, number(4, Mode::Numeric), rest.digit1);
+    let character2 = choice_if(character, number(5, Mode::Alphanumeric), rest.character2);
+    let character1 = choice_if(character, number(6, Mode::Alphanumeric), rest.character1);
+    let in_bytes = choice_if(true, number(8, Mode::Byte), rest.in_bytes);
+    let whole_pair = choice_if(true, number(0, Mode::Kanji), rest.whole_pair);
+    let half_pair = choice_if(pair, number(13, Mode::Kanji), rest.half_pair);
+    let numbers = PerState {
+        start,
+        digit1: digit2.min(no_digits),
+        digit2: digit3.min(no_digits),
+        digit3: digit1.min(start),
+        character1: character2.min(no_characters),
+        character2: character1.min(start),
+        in_bytes: in_bytes.min(start),
+        // after half a pair only kanji mode is possible
+        half_pair: whole_pair,
+        whole_pair: half_pair.min(start),
+    };
+    (row_for(&numbers), numbers)
+}
+
+/// As `choices`, for a byte whose modes `rule` decides.
+#[tactic(auto, unfolding(crate::specs::Steps::RunState::may_begin))]
+#[inline(always)]
+pub(crate) fn best_choices(
+    first_choices: &FirstChoices,
+    rule: Rule,
+    byte: u8,
+    pair: bool,
+    rest: &PerState<u32>,
+) -> (u32, PerState<u32>)
+    requires { IsSmall rest.now }
+    ensures { IsRow first_choices.now.version rule byte pair rest.now result.0 result.1 }
+{
+    // Constants as flags let the compiler leave cases out. What may be a digit may be a character.
+    if pair {
+        let digit = may_begin(rule, byte, Mode::Numeric);
+        let character = may_begin(rule, byte, Mode::Alphanumeric);
+        choices(first_choices, digit, character, true, rest)
+    } else if may_begin(rule, byte, Mode::Numeric) {
+        choices(first_choices, true, true, false, rest)
+    } else if may_begin(rule, byte, Mode::Alphanumeric) {
+        choices(first_choices, false, true, false, rest)
+    } else {
+        choices(first_choices, false, false, false, rest)
+    }
+}
+
+// The rule allows kanji mode, and the first two bytes are a kanji pair.
+#[tactic(auto, unfolding(crate::specs::Steps::RunState::begins_with_pair))]
+pub(crate) fn begins_with_pair(rule: Rule, bytes: &[u8]) -> bool
+    ensures { result ≡ begins_with_pair rule is_kanji_pair bytes.now }
+{
+    match bytes {
+        [high, low, ..] => may_use(rule, Mode::Kanji) && is_kanji_pair(*high, *low),
+        _ => false,
+    }
+}
+
+/// Returns the table, a row for each byte of `input`, the last first.
+pub(crate) fn best_modes(
+    alloc: Global,
+    input: &[u8],
+    version: Version,
+    rule: Rule,
+) -> Result<Vec<u32>, AllocError>
+    requires { length input.now ≤ INPUT_MAX }
+    ensures len { IfOk result (λ t. vec_len t ≡ length input.now) }
+    ensures best { IfOk result (λ t. IsBestTable version rule is_kanji_pair input.now (reverse t.items)) }
+{
+    let first_choices = FirstChoices::of(version);
+    let mut table = Vec::with_capacity(alloc, input.len())?;
+    let mut rest = NO_BITS;
+    for i in (0..input.len()).rev() {
+        let pair = begins_with_pair(rule, &input[i..]);
+        let (modes, numbers) = best_choices(&first_choices, rule, input[i], pair, &rest);
+        table.push(modes)?;
+        rest = numbers;
+    }
+    Ok(table)
+}
+
+// The lower of the two bits of a state in a row.
+#[inline(always)]
+fn shift_of(state: RunState) -> u32
+    ensures value { result ≡ shift_of state }
+    ensures most { result ≤ 16 }
+{
+    match state {
+        RunState::Start => 0,
+        RunState::Digit1 => 2,
+        RunState::Digit2 => 4,
+        RunState::Digit3 => 6,
+        RunState::Character1 => 8,
+        RunState::Character2 => 10,
+        RunState::InBytes => 12,
+        RunState::HalfPair => 14,
+        RunState::WholePair => 16,
+    }
+}
+
+/// Returns the best mode in `row` for `state`.
+#[tactic(auto, unfolding(crate::specs::Steps::BestModes::mode_at))]
+#[inline(always)]
+pub(crate) fn mode_at(row: u32, state: RunState) -> Mode
+    ensures { result ≡ mode_at row state }
+{
+    ranked((row >> shift_of(state)) % 4)
+}

@@ -1,0 +1,159 @@
+-- The runs of dark modules of a row, one after the other.
+use Rattle.std.proofs.Common.{◌≡◌, ℕ, zero, suc, ◌+◌, ◌-◌, ◌<◌, ◌≤◌, List, ◌∷◌, ltb, leb, ◌&&◌, ◌||◌, not, Bool, true, false, refl, sym, ap, ◌∙◌, ◌⊎◌, inl, inr, arith}
+use Rattle.std.specs.List.{All, AllPairs, list_any}
+use Rattle.std.proofs.lemmas.Bool.{cases_lt, cases_Bool}
+use Rattle.std.proofs.lemmas.Bool.Decides.{nat_tests}
+use Rattle.std.proofs.lemmas.List.Elements.{All-cons, All-head, All-tail, All-weaker}
+use Rattle.std.proofs.lemmas.List.Folds.{list_any_none}
+use Rattle.qr_matrix.specs.Grid.{Grid, colour, is_same}
+use Rattle.qr_matrix.specs.DarkRuns.{AreDarkRuns}
+use Rattle.qr_matrix.specs.Steps.{columns_passing, is_change, runs_between}
+use Rattle.qr_matrix.specs.declared.dark_runs.Run.{Run}
+use Rattle.qr_matrix.proofs.lemmas.bit_row.BoolLemmas.{or-false}
+
+-- the runs of dark modules of the row from column `col` on
+pub record AreRunsFrom (g : Grid) (row col : ℕ) (runs : List Run) : Type 0 where
+  pub after : All (λ run. col ≤ run.start) runs
+  pub within : All (λ run. (run.start < run.end) × (run.end ≤ g.side)) runs
+  pub apart : AllPairs (λ a b. a.end < b.start) runs
+  pub dark : (c : ℕ) → col ≤ c → colour g row c ≡ list_any (λ run. leb run.start c && ltb c run.end) runs
+
+-- a column before all runs is in none
+before-runs : (c : ℕ) (runs : List Run) → All (λ run. c + 1 ≤ run.start) runs → list_any (λ run. leb run.start c && ltb c run.end) runs ≡ false
+before-runs c runs later =
+    list_any_none (λ (run : Run). leb run.start c && ltb c run.end) runs
+    (All-weaker (λ run. c + 1 ≤ run.start) (λ run. (leb run.start c && ltb c run.end) ≡ false) (λ run l. grind (arith, nat_tests)) runs later)
+
+-- a column before or after a run is not in it
+not-in : (start end c : ℕ) → (c < start) ⊎ (end ≤ c) → (leb start c && ltb c end) ≡ false
+not-in start end c o = grind (arith, nat_tests)
+
+-- ---- of runs from a column on, the first run and the others
+
+-- in this module, `run` and `runs` are the runs from column `col` on
+module _ (g : Grid) (row col : ℕ) (run : Run) (runs : List Run) (are : AreRunsFrom g row col (run ∷ runs)) where
+  -- the other runs begin after a light module
+  others-after : All (λ other. run.end + 1 ≤ other.start) runs
+  others-after k d l = let a = are.apart 0 (suc k) d (omega arith) (omega arith) in omega arith
+
+  -- `run` begins at column `col` or after it, and lies within the row
+  pub run-in : (col ≤ run.start) × (run.start < run.end) × (run.end ≤ g.side)
+  run-in =
+      let w = All-head (λ other. (other.start < other.end) × (other.end ≤ g.side)) run runs are.within in
+      (All-head (λ other. col ≤ other.start) run runs are.after, w.0, w.1)
+
+  -- up to the end of `run`, the modules of `run` alone are dark
+  pub run-colours : (c : ℕ) → col ≤ c → c ≤ run.end → colour g row c ≡ (leb run.start c && ltb c run.end)
+  run-colours c l m =
+      let none = before-runs c runs (All-weaker (λ other. run.end + 1 ≤ other.start) (λ other. c + 1 ≤ other.start) (λ other n. omega arith) runs others-after) in
+      are.dark c l ∙ (ap (λ b. (leb run.start c && ltb c run.end) || b) none ∙ or-false (leb run.start c && ltb c run.end))
+
+  -- `runs` are the runs from the end of `run` on
+  pub other-runs : AreRunsFrom g row run.end runs
+  other-runs =
+      let w = run-in in
+      record {
+        after = All-weaker (λ other. run.end + 1 ≤ other.start) (λ other. run.end ≤ other.start) (λ other n. omega arith) runs others-after;
+        within = All-tail (λ other. (other.start < other.end) × (other.end ≤ g.side)) run runs are.within;
+        apart = λ i j d l m. are.apart (suc i) (suc j) d (omega arith) (omega arith);
+        dark = λ c l. are.dark c (omega arith) ∙ ap (λ b. b || list_any (λ other. leb other.start c && ltb c other.end) runs) (not-in run.start run.end c (inr l));
+      }
+
+-- ---- the runs between the changes of a row
+
+-- runs from the column after a light module on are the runs from this module on
+light-first : (g : Grid) (row k : ℕ) (runs : List Run) → colour g row k ≡ false → AreRunsFrom g row (k + 1) runs → AreRunsFrom g row k runs
+light-first g row k runs light are = record {
+  after = All-weaker (λ run. k + 1 ≤ run.start) (λ run. k ≤ run.start) (λ run l. omega arith) runs are.after;
+  within = are.within;
+  apart = are.apart;
+  dark = λ c l. elim (cases_lt k c) [
+    | inl m ↦ are.dark c (omega arith)
+    | inr m ↦ let e : c ≡ k = omega arith in rw e (light ∙ sym (before-runs k runs are.after))
+  ];
+}
+
+-- dark modules from column a to before a light module at k are a run before the runs after k
+dark-first : (g : Grid) (row a k : ℕ) (runs : List Run) → a < k → k ≤ g.side → ((c : ℕ) → a ≤ c → c < k → colour g row c ≡ true)
+    → colour g row k ≡ false → AreRunsFrom g row (k + 1) runs → AreRunsFrom g row a (record { start = a; end = k } ∷ runs)
+dark-first g row a k runs l m dark light are = record {
+  after = All-cons (λ run. a ≤ run.start) (record { start = a; end = k }) runs (omega arith)
+      (All-weaker (λ run. k + 1 ≤ run.start) (λ run. a ≤ run.start) (λ run n. omega arith) runs are.after);
+  within = All-cons (λ run. (run.start < run.end) × (run.end ≤ g.side)) (record { start = a; end = k }) runs (l, m) are.within;
+  apart = apart;
+  dark = λ c h. elim (cases_lt c k) [
+    | inl n ↦ let t : (leb a c && ltb c k) ≡ true = grind (arith, nat_tests) in rw t (dark c h n)
+    | inr n ↦ rw (not-in a k c (inr n)) ((light-first g row k runs light are).dark c n)
+  ];
+}
+  where
+    apart : AllPairs (λ x y. x.end < y.start) (record { start = a; end = k } ∷ runs)
+    apart i zero d p q = absurd (omega arith)
+    apart zero (suc j) d p q = let s = are.after j d (omega arith) in omega arith
+    apart (suc i) (suc j) d p q = are.apart i j d (omega arith) (omega arith)
+
+-- in this module, `old` is true exactly at the changes of the row
+module _ (g : Grid) (row : ℕ) (few : g.side ≤ 177) (past : (c : ℕ) → g.side ≤ c → colour g row c ≡ false) (old : ℕ → Bool)
+    (is : (c : ℕ) → c < 192 → old c ≡ is_change (colour g row) c) where
+  -- whether the colour changes at column k, where its module has the colour x and the module before it the colour y
+  turns : (k : ℕ) (x y : Bool) → k < 192 → colour g row k ≡ x → (ltb 0 k && colour g row (k - 1)) ≡ y → old k ≡ not (is_same x y)
+  unfolding is_change
+  turns k x y l p q = is k l ∙ (λ i. not (is_same (p i) (q i)))
+
+  -- the module before column k + 1 is the one at k
+  one-before : (k : ℕ) → (ltb 0 (k + 1) && colour g row (k + 1 - 1)) ≡ colour g row k
+  one-before k =
+      let t : ltb 0 (k + 1) ≡ true = grind (arith, nat_tests) in
+      let e : k + 1 - 1 ≡ k = omega arith in
+      rw (t, e) refl
+
+  -- a column after a dark module is at most the side
+  within-side : (k : ℕ) → 0 < k → colour g row (k - 1) ≡ true → k ≤ g.side
+  within-side k l d = elim (cases_lt (k - 1) g.side) [
+    | inl m ↦ omega arith
+    | inr m ↦ let h : true ≡ false = sym d ∙ past (k - 1) m in absurd (cc)
+  ]
+
+  -- if the module before column k is light, the runs between the changes from k on are the runs from k on; if the modules
+  -- from column a to before k are dark, the first of these runs begins at a
+  runs-from : (n k : ℕ) → k + n ≡ 192
+      → ((ltb 0 k && colour g row (k - 1)) ≡ false → AreRunsFrom g row k (runs_between (columns_passing old k n)))
+      × ((a : ℕ) → a < k → ((c : ℕ) → a ≤ c → c < k → colour g row c ≡ true) → AreRunsFrom g row a (runs_between (a ∷ columns_passing old k n)))
+  unfolding columns_passing
+  runs-from zero k e = (
+    λ light. record {
+      after = λ j d l. absurd (omega arith);
+      within = λ j d l. absurd (omega arith);
+      apart = λ i j d l m. absurd (omega arith);
+      dark = λ c l. past c (omega arith);
+    },
+    λ a l dark. absurd (let s = within-side k (omega arith) (dark (k - 1) (omega arith) (omega arith)) in omega arith),
+  )
+  runs-from (suc n) k e =
+      let next = runs-from n (k + 1) (omega arith) in (
+        λ light. elim (cases_Bool (colour g row k)) [
+          | inl d ↦ rw (turns k true false (omega arith) d light)
+              (next.1 k (omega arith) (λ c l m. let s : c ≡ k = omega arith in ap (colour g row) s ∙ d))
+          | inr d ↦ rw (turns k false false (omega arith) d light) (light-first g row k _ d (next.0 (one-before k ∙ d)))
+        ],
+        λ a l dark.
+            let before : (ltb 0 k && colour g row (k - 1)) ≡ true = rw (dark (k - 1) (omega arith) (omega arith)) (grind (arith, nat_tests)) in
+            elim (cases_Bool (colour g row k)) [
+              | inl d ↦ rw (turns k true true (omega arith) d before) (next.1 a (omega arith) (λ c h m. elim (cases_lt c k) [
+                | inl s ↦ dark c h s
+                | inr s ↦ let s : c ≡ k = omega arith in ap (colour g row) s ∙ d
+              ]))
+              | inr d ↦ rw (turns k false true (omega arith) d before)
+                  (dark-first g row a k _ l (within-side k (omega arith) (dark (k - 1) (omega arith) (omega arith))) dark d (next.0 (one-before k ∙ d)))
+            ],
+      )
+
+  -- the runs between all changes are the runs of the row
+  pub runs-of-row : AreDarkRuns g row (runs_between (columns_passing old 0 192))
+  runs-of-row =
+      let all = (runs-from 192 0 (omega arith)).0 refl in
+      record { within = all.within; apart = all.apart; dark = λ c. all.dark c (omega arith) }
+
+-- the runs of the row are its runs from the first column on
+pub all-runs : (g : Grid) (row : ℕ) (runs : List Run) → AreDarkRuns g row runs → AreRunsFrom g row 0 runs
+all-runs g row runs are = record { after = λ k d l. omega arith; within = are.within; apart = are.apart; dark = λ c l. are.dark c }

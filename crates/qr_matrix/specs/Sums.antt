@@ -1,0 +1,21 @@
+-- Sums and counts over the numbers below `n`, and over the places of a square of side `s`.
+use Rattle.std.specs.Prelude.{ℕ, ◌+◌, ◌&&◌, Bool, true, if◌then◌else◌}
+use Prim.Native.Nat.{zero, suc}
+
+-- The sum of `f k` over all `k` below `n` [own]
+abbrev pub sum_below : ℕ → (ℕ → ℕ) → ℕ
+sum_below zero f = 0
+sum_below (suc n) f = f n + sum_below n f
+
+-- The number of `k` below `n` for which `p k` is true [own]
+abbrev pub count_below : ℕ → (ℕ → Bool) → ℕ
+count_below n p = sum_below n (λ k. if p k then 1 else 0)
+
+-- `p k` is true for every `k` below `n` [own]
+abbrev pub all_below : ℕ → (ℕ → Bool) → Bool
+all_below zero p = true
+all_below (suc n) p = p n && all_below n p
+
+-- The number of places of the square that pass the test `p` [own]
+unfoldable pub places_passing : ℕ → (ℕ → ℕ → Bool) → ℕ
+places_passing s p = sum_below s (λ r. count_below s (p r))

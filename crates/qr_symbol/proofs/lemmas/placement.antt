@@ -1,0 +1,18 @@
+-- Bits of codewords, and of words that hold several codewords.
+pub mod BitLemmas
+-- The places of the encoding region among all places of a walk.
+pub mod KeptPlaceLemmas
+-- Drawing along the walk: every place that the walk has passed, or never reaches, has its final colour.
+pub mod PlacementLemmas
+-- Drawing along the walk, where each bit is masked as it is placed.
+pub mod WalkLemmas
+-- Drawing in the transposed square, where the two columns of a strip are rows.
+pub mod AcrossLemmas
+-- The columns of a strip, held apart from the square in which they are two rows.
+pub mod ColumnLemmas
+-- The table that splits eight bits into those of the two columns of a strip.
+pub mod SplitLemmas
+-- The modules of a strip that are still to be drawn, which are light.
+pub mod LightLemmas
+-- Modules that are drawn do not depend on their colour before.
+pub mod OverLemmas

@@ -1,0 +1,207 @@
+-- Drawing along the walk: every place that the walk has passed, or never reaches, has its final colour.
+use Rattle.std.proofs.Common.{◌≡◌, ℕ, ◌<◌, ◌≤◌, Bool, true, false, cond, nat_eq, ◌&&◌, List, [], ◌∷◌, ◌++◌, length, length-append, refl, sym, ◌∙◌, ap, inl, inr, subst, append_assoc, append-nil, arith}
+use Rattle.std.specs.Prelude.{Option, None, Some, SomeIff, unwrap_or}
+use Rattle.qr_layout.specs.declared.level.Level.{Level}
+use Rattle.qr_layout.specs.declared.region.Module.{Module}
+use Rattle.qr_layout.specs.declared.role.Role.{Role}
+use Rattle.qr_layout.specs.declared.role.Role.TheVariants.{Fixed, FormatBit, VersionBit, Region}
+use Rattle.qr_layout.specs.Version.{side_of}
+use Rattle.qr_layout.specs.Format.{format_word_of, version_word_of}
+use Rattle.qr_layout.specs.Region.{is_in_region}
+use Rattle.qr_layout.specs.Role.{role_of}
+use Rattle.qr_layout.specs.Order.{IsOrder, in_region_of, number_of}
+use Rattle.qr_layout.proofs.Facts.{Mem, order-has, order-mem, order-small, number-at, row-in, col-in, region-role, role-region}
+use Rattle.qr_bits.specs.Bits.{codeword_bit}
+use Rattle.qr_matrix.specs.Grid.{Grid, square, colour, painted, IsSquare}
+use Rattle.qr_symbol.specs.Mask.{inverts, inverted}
+use Rattle.qr_symbol.specs.Symbol.{colour_by, colour_of, grid_of}
+use Rattle.qr_symbol.specs.Steps.Placement.{placed_colour, placed_if, number_after, number_along, placed_along, masked_colour, masked_grid, region_grid, plain_grid}
+use Rattle.qr_symbol.specs.Steps.Patterns.{fixed_colour, format_or, paint_of, symmetric_format}
+use Rattle.qr_matrix.proofs.Facts.{same-place, square-same, colour-square, colour-painted-here, colour-painted-there}
+use Rattle.qr_symbol.proofs.lemmas.placement.KeptPlaceLemmas.{kept-in, kept-out, kept-push-in, kept-push-out}
+
+-- the module in a row and a column
+abbrev pub at : ℕ → ℕ → Module
+at r c = record { row = r; col = c }
+
+-- each place of the square that is not in the list has its final colour
+abbrev pub Done : ℕ → (ℕ → ℕ → Bool) → List Module → Grid → Type 0
+Done s want rest g = (r c : ℕ) → r < s → c < s → (Mem (at r c) rest → ⊥) → colour g r c ≡ want r c
+
+-- outside the encoding region the colour stays
+pub outside : (v : ℕ) (cw : List ℕ) (f : ℕ → ℕ → Bool) (r c : ℕ) → is_in_region v r c ≡ false → f r c ≡ placed_colour v cw f r c
+unfolding placed_colour
+outside v cw f r c e = rw e refl
+
+-- inside the encoding region the bit with the place's number is placed
+pub inside : (v : ℕ) (cw : List ℕ) (f : ℕ → ℕ → Bool) (r c : ℕ) → is_in_region v r c ≡ true → placed_colour v cw f r c ≡ codeword_bit cw (number_of v (at r c))
+unfolding placed_colour
+inside v cw f r c e = rw e refl
+
+-- by cases on a test
+pub by_test : (b : Bool) (A : Type 0) → (b ≡ true → A) → (b ≡ false → A) → A
+by_test true A f g = f refl
+by_test false A f g = g refl
+
+-- before the walk, each place that is not in the list is outside the region
+pub done-start : (v : ℕ) (want : ℕ → ℕ → Bool) (g : Grid) (ms : List Module) → IsOrder v ms → ((r c : ℕ) → is_in_region v r c ≡ false → colour g r c ≡ want r c) → Done (side_of v) want ms g
+done-start v want g ms o f r c l m n =
+    f r c (by_test (is_in_region v r c) (is_in_region v r c ≡ false) (λ t. absurd (n (order-has v ms o (at r c) t))) (λ e. e))
+
+-- an item between two lists is a member of the whole list
+pub Mem-mid : {X : Type 0} (x : X) (front back : List X) → Mem x (front ++ x ∷ back)
+Mem-mid x [] back = inl refl
+Mem-mid x (y ∷ ys) back = inr (Mem-mid x ys back)
+
+-- the next module of the walk is in the region, and its number is the number of modules before it
+pub next-number : (v : ℕ) (front later : List Module) (x : Module) (number : ℕ) → IsOrder v (front ++ x ∷ later) → number ≡ length front → (is_in_region v x.row x.col ≡ true) × (number_of v x ≡ number)
+next-number v front later x number o k = (order-mem v (front ++ x ∷ later) o x (Mem-mid x front later), number-at v front later x o ∙ sym k)
+
+-- one module of the walk is drawn
+pub done-step : (s : ℕ) (want : ℕ → ℕ → Bool) (g : Grid) (later : List Module) (x : Module) (d : Bool)
+    → g.side ≡ s → d ≡ want x.row x.col → Done s want (x ∷ later) g → Done s want later (painted g x.row x.col d)
+done-step s want g later x d k e h r c l m n =
+    elim (same-place x.row x.col r c) [
+      | inl w ↦
+          let a : x.row ≡ r = sym w.0.0 in
+          let b : x.col ≡ c = sym w.0.1 in
+          let here = colour-painted-here g x.row x.col d (omega arith) (omega arith) ∙ e in
+          ap (λ (y : ℕ). colour (painted g x.row x.col d) y c) w.0.0 ∙ (ap (λ (y : ℕ). colour (painted g x.row x.col d) x.row y) w.0.1 ∙ (here ∙ (ap (λ (y : ℕ). want y x.col) a ∙ ap (want r) b)))
+      | inr w ↦
+          colour-painted-there g x.row x.col r c d (omega arith) (omega arith) w.0 ∙ h r c l m (λ q. elim q [ inl e ↦ w.0 (ap (λ (z : Module). z.row) (sym e), ap (λ (z : Module). z.col) (sym e)) | inr q ↦ n q ])
+    ]
+
+-- after the walk, every place has its final colour
+pub done-end : (s : ℕ) (want : ℕ → ℕ → Bool) (g : Grid) → IsSquare s g → Done s want [] g → g ≡ square s want
+done-end s want g e h = e ∙ square-same s (colour g) want (λ r c l m. h r c l m (λ q. q))
+
+-- a square is equal to the square of its own colours
+square-again : (k : ℕ) (f : ℕ → ℕ → Bool) → square k f ≡ square k (colour (square k f))
+square-again k f = square-same k f (colour (square k f)) (λ r c l m. sym (colour-square k f r c l m))
+
+-- a grid that equals a square of colours is a square
+pub square-is : (s : ℕ) (f : ℕ → ℕ → Bool) (g : Grid) → g ≡ square s f → IsSquare s g
+square-is s f g e = rw e (square-again s f)
+
+-- a square with one place changed is a square
+pub painted-square : (s : ℕ) (g : Grid) (row col : ℕ) (d : Bool) → g.side ≡ s → IsSquare s (painted g row col d)
+painted-square s g row col d e = square-again g.side (λ r c. cond (nat_eq r row && nat_eq c col) d (colour g r c)) ∙ ap (λ (k : ℕ). square k (colour (painted g row col d))) e
+
+-- a version word, or 0 if the version has none
+pub word-or-none : (v word : ℕ) (o : Option ℕ) → SomeIff o (7 ≤ v) (version_word_of v) → word ≡ unwrap_or o 0 → 7 ≤ v → word ≡ version_word_of v
+word-or-none v word None h e l = absurd (h l)
+word-or-none v word (Some x) h e l = e ∙ h.1
+
+-- the list of all modules, seen at the next module
+pub whole-next : (v : ℕ) (front now later : List Module) (x : Module) → IsOrder v (front ++ now) → now ≡ x ∷ later → IsOrder v (front ++ x ∷ later)
+whole-next v front now later x o e = subst (λ (ms : List Module). IsOrder v (front ++ ms)) e o
+
+-- the list of all modules, after the next module
+pub whole-push : (v : ℕ) (front later : List Module) (x : Module) → IsOrder v (front ++ x ∷ later) → IsOrder v ((front ++ x ∷ []) ++ later)
+whole-push v front later x o = subst (IsOrder v) (sym (append_assoc front (x ∷ []) later)) o
+
+-- a module of the order is in the square
+pub in-square : (v : ℕ) (front later : List Module) (x : Module) → IsOrder v (front ++ x ∷ later) → (x.row < side_of v) × (x.col < side_of v)
+in-square v front later x o = let w = order-mem v (front ++ x ∷ later) o x (Mem-mid x front later) in (row-in v x w, col-in v x w)
+
+-- ---- a symbol that is drawn again with a mask
+
+-- a module that is not in the region has its colour by role once the format information is drawn
+role-masked : (v : ℕ) (l : Level) (mask : ℕ) (cw : List ℕ) (r c : ℕ) (q : Role) → (q ≡ Region → ⊥) → format_or (format_word_of l mask) q (fixed_colour symmetric_format (version_word_of v) q) ≡ colour_by v l mask cw r c q
+unfolding format_or fixed_colour
+role-masked v l mask cw r c (Fixed dark) n = refl
+role-masked v l mask cw r c (FormatBit i) n = refl
+role-masked v l mask cw r c (VersionBit i) n = refl
+role-masked v l mask cw r c Region n = absurd (n refl)
+
+-- the colours of a symbol without mask and format information
+abbrev plain_colours : ℕ → List ℕ → ℕ → ℕ → Bool
+plain_colours v cw = placed_colour v cw (paint_of v symmetric_format)
+
+-- the masked colour of a module in the region
+masked-inside : (v : ℕ) (l : Level) (mask : ℕ) (cw : List ℕ) (r c : ℕ) → is_in_region v r c ≡ true → role_of v r c ≡ Region
+    → format_or (format_word_of l mask) (role_of v r c) (inverted (is_in_region v r c && inverts mask r c) (plain_colours v cw r c)) ≡ colour_of v l mask cw r c
+unfolding colour_of format_or
+masked-inside v l mask cw r c t e =
+    ap (λ (q : Role). format_or (format_word_of l mask) q (inverted (is_in_region v r c && inverts mask r c) (plain_colours v cw r c))) e
+    ∙ (ap (λ (b : Bool). inverted (b && inverts mask r c) (plain_colours v cw r c)) t
+    ∙ (ap (inverted (inverts mask r c)) (inside v cw (paint_of v symmetric_format) r c t) ∙ ap (colour_by v l mask cw r c) (sym e)))
+
+-- the masked colour of a module outside the region
+masked-outside : (v : ℕ) (l : Level) (mask : ℕ) (cw : List ℕ) (r c : ℕ) → is_in_region v r c ≡ false → (role_of v r c ≡ Region → ⊥)
+    → format_or (format_word_of l mask) (role_of v r c) (inverted (is_in_region v r c && inverts mask r c) (plain_colours v cw r c)) ≡ colour_of v l mask cw r c
+unfolding colour_of
+masked-outside v l mask cw r c t n =
+    ap (λ (b : Bool). format_or (format_word_of l mask) (role_of v r c) (inverted (b && inverts mask r c) (plain_colours v cw r c))) t
+    ∙ (ap (format_or (format_word_of l mask) (role_of v r c)) (sym (outside v cw (paint_of v symmetric_format) r c t)) ∙ role-masked v l mask cw r c (role_of v r c) n)
+
+-- with mask and format information, the result is the symbol of its codewords under this mask
+pub masked-all : (v : ℕ) (l : Level) (mask : ℕ) (cw : List ℕ) (region plain : Grid) → 1 ≤ v → region ≡ region_grid v → plain ≡ plain_grid v cw → masked_grid v l mask region plain ≡ grid_of v l mask cw
+unfolding masked_colour
+masked-all v l mask cw region plain k e f = square-same (side_of v) (masked_colour v (format_word_of l mask) mask region plain) (colour_of v l mask cw) (λ r c i j.
+    let a : colour region r c ≡ is_in_region v r c = ap (λ (g : Grid). colour g r c) e ∙ colour-square (side_of v) (is_in_region v) r c i j in
+    let b : colour plain r c ≡ plain_colours v cw r c = ap (λ (g : Grid). colour g r c) f ∙ colour-square (side_of v) (plain_colours v cw) r c i j in
+    ap (λ (x : Bool). format_or (format_word_of l mask) (role_of v r c) (inverted (x && inverts mask r c) (colour plain r c))) a
+    ∙ (ap (λ (x : Bool). format_or (format_word_of l mask) (role_of v r c) (inverted (is_in_region v r c && inverts mask r c) x)) b
+    ∙ by_test (is_in_region v r c) (format_or (format_word_of l mask) (role_of v r c) (inverted (is_in_region v r c && inverts mask r c) (plain_colours v cw r c)) ≡ colour_of v l mask cw r c)
+    (λ t. masked-inside v l mask cw r c t (region-role v r c k i j t))
+    (λ t. masked-outside v l mask cw r c t (λ u. let h = role-region v r c k i j u in cc))))
+
+-- ---- a walk over places, of which each place in the region takes a bit
+
+-- after the places in `before`, with those in `later` still to come: the number of the next bit, and the square
+pub record IsPlaced (v : ℕ) (cw : List ℕ) (g0 : Grid) (before later : List Module) (number : ℕ) (g : Grid) : Type 0 where
+  pub whole : IsOrder v (in_region_of v before ++ in_region_of v later)
+  pub next : number ≡ length (in_region_of v before)
+  pub square : IsSquare (side_of v) g
+  pub done : Done (side_of v) (placed_colour v cw (colour g0)) (in_region_of v later) g
+
+-- before any place, the number is 0 and the square is unchanged
+pub placed-start : (v : ℕ) (cw : List ℕ) (g : Grid) (ms : List Module) → IsSquare (side_of v) g → IsOrder v (in_region_of v ms) → IsPlaced v cw g [] ms 0 g
+placed-start v cw g ms s o = record { whole = o; next = refl; square = s; done = done-start v (placed_colour v cw (colour g)) g (in_region_of v ms) o (outside v cw (colour g)) }
+
+-- one more place is drawn
+pub placed-step : (v : ℕ) (cw : List ℕ) (g0 g : Grid) (before later : List Module) (x : Module) (number : ℕ) (t : Bool) → t ≡ is_in_region v x.row x.col → IsPlaced v cw g0 before (x ∷ later) number g
+    → IsPlaced v cw g0 (before ++ x ∷ []) later (number_after t number) (placed_if t cw number g x.row x.col)
+placed-step v cw g0 g before later x number true e p =
+    let now = kept-in v x later (sym e) in
+    let then = kept-push-in v before x (sym e) in
+    let o : IsOrder v (in_region_of v before ++ x ∷ in_region_of v later) = subst (λ (ms : List Module). IsOrder v (in_region_of v before ++ ms)) now p.whole in
+    let s = ap (λ (h : Grid). h.side) p.square in
+    let n = next-number v (in_region_of v before) (in_region_of v later) x number o p.next in
+    record {
+      whole = rw then (whole-push v (in_region_of v before) (in_region_of v later) x o);
+      next = rw then (let l = length-append (in_region_of v before) (x ∷ []) in let n = p.next in omega arith);
+      square = painted-square (side_of v) g x.row x.col (codeword_bit cw number) s;
+      done = done-step (side_of v) (placed_colour v cw (colour g0)) g (in_region_of v later) x (codeword_bit cw number) s (sym (inside v cw (colour g0) x.row x.col n.0 ∙ ap (codeword_bit cw) n.1)) (subst (λ (ms : List Module). Done (side_of v) (placed_colour v cw (colour g0)) ms g) now p.done);
+    }
+placed-step v cw g0 g before later x number false e p =
+    let now = kept-out v x later (sym e) in
+    let then = kept-push-out v before x (sym e) in
+    record {
+      whole = rw then (subst (λ (ms : List Module). IsOrder v (in_region_of v before ++ ms)) now p.whole);
+      next = rw then p.next;
+      square = p.square;
+      done = subst (λ (ms : List Module). Done (side_of v) (placed_colour v cw (colour g0)) ms g) now p.done;
+    }
+
+-- a list of places is drawn
+pub placed-many : (v : ℕ) (cw : List ℕ) (g0 g : Grid) (before ms later : List Module) (number : ℕ) → IsPlaced v cw g0 before (ms ++ later) number g → IsPlaced v cw g0 (before ++ ms) later (number_along v ms number) (placed_along v cw ms number g)
+placed-many v cw g0 g before [] later number p = rw append-nil p
+placed-many v cw g0 g before (m ∷ ms) later number p =
+    let t = is_in_region v m.row m.col in
+    let one = placed-step v cw g0 g before (ms ++ later) m number t refl p in
+    let rest = placed-many v cw g0 (placed_if t cw number g m.row m.col) (before ++ m ∷ []) ms later (number_after t number) one in
+    subst (λ (z : List Module). IsPlaced v cw g0 z later (number_along v ms (number_after t number)) (placed_along v cw ms (number_after t number) (placed_if t cw number g m.row m.col))) (append_assoc before (m ∷ []) ms) rest
+
+-- the number of the next bit is at most the number of all modules of the region
+pub placed-small : (v : ℕ) (cw : List ℕ) (g0 g : Grid) (before later : List Module) (number : ℕ) → 1 ≤ v → v ≤ 40 → IsPlaced v cw g0 before later number g → number ≤ 29648
+placed-small v cw g0 g before later number k l p =
+    let m = order-small v (in_region_of v before ++ in_region_of v later) k l p.whole in
+    let n = length-append (in_region_of v before) (in_region_of v later) in
+    let q = p.next in
+    omega arith
+
+-- after all places, the square has the placed colours
+pub placed-end : (v : ℕ) (cw : List ℕ) (g0 g : Grid) (before : List Module) (number : ℕ) → IsPlaced v cw g0 before [] number g → g ≡ square (side_of v) (placed_colour v cw (colour g0))
+placed-end v cw g0 g before number p = done-end (side_of v) (placed_colour v cw (colour g0)) g p.square p.done

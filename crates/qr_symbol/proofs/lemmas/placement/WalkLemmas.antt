@@ -1,0 +1,114 @@
+-- Drawing along the walk, where each bit is masked as it is placed.
+use mathlib.Core.Bool.{beq}
+use Rattle.std.proofs.Common.{◌≡◌, ℕ, ◌+◌, ◌<◌, ◌≤◌, Bool, true, false, cond, not, List, [], ◌∷◌, ◌++◌, length, length-append, refl, sym, ◌∙◌, ap, subst, arith}
+use Rattle.qr_layout.specs.declared.level.Level.{Level}
+use Rattle.qr_layout.specs.declared.region.Module.{Module}
+use Rattle.qr_layout.specs.declared.role.Role.{Role}
+use Rattle.qr_layout.specs.declared.role.Role.TheVariants.{Fixed, FormatBit, VersionBit, Region}
+use Rattle.qr_layout.specs.Version.{side_of}
+use Rattle.qr_layout.specs.Format.{format_word_of, version_word_of}
+use Rattle.qr_layout.specs.Region.{is_in_region}
+use Rattle.qr_layout.specs.Role.{role_of}
+use Rattle.qr_layout.specs.Order.{IsOrder, number_of}
+use Rattle.qr_layout.proofs.Facts.{order-small, region-role, role-region}
+use Rattle.qr_bits.specs.Bits.{codeword_bit}
+use Rattle.qr_matrix.specs.Grid.{Grid, square, colour, light, painted, IsSquare}
+use Rattle.qr_matrix.proofs.Facts.{square-same, colour-square}
+use Rattle.qr_symbol.specs.Mask.{inverts, inverted}
+use Rattle.qr_symbol.specs.Symbol.{colour_by, colour_of, grid_of}
+use Rattle.qr_symbol.specs.Steps.Placement.{walked_colour}
+use Rattle.qr_symbol.specs.Steps.Patterns.{fixed_colour}
+use Rattle.qr_symbol.proofs.lemmas.placement.BitLemmas.{differs-inverted}
+use Rattle.qr_symbol.proofs.lemmas.placement.PlacementLemmas.{at, by_test, Done, done-start, done-step, done-end, next-number, painted-square, whole-next, whole-push, in-square}
+
+-- outside the encoding region the colour stays
+walked-outside : (v : ℕ) (cw : List ℕ) (mask : ℕ) (f : ℕ → ℕ → Bool) (r c : ℕ) → is_in_region v r c ≡ false → f r c ≡ walked_colour v cw mask f r c
+unfolding walked_colour
+walked-outside v cw mask f r c e = rw e refl
+
+-- inside the encoding region the bit with the place's number is placed, inverted if the mask inverts there
+walked-inside : (v : ℕ) (cw : List ℕ) (mask : ℕ) (f : ℕ → ℕ → Bool) (r c : ℕ) → is_in_region v r c ≡ true → walked_colour v cw mask f r c ≡ inverted (inverts mask r c) (codeword_bit cw (number_of v (at r c)))
+unfolding walked_colour
+walked-inside v cw mask f r c e = rw e refl
+
+-- the modules of the walk in `front` have been drawn, and those in `later` are still to come
+pub record IsWalked (v : ℕ) (cw : List ℕ) (mask : ℕ) (g0 : Grid) (front later : List Module) (number : ℕ) (g : Grid) : Type 0 where
+  pub whole : IsOrder v (front ++ later)
+  pub next : number ≡ length front
+  pub square : IsSquare (side_of v) g
+  pub done : Done (side_of v) (walked_colour v cw mask (colour g0)) later g
+
+-- at first no module has been drawn
+pub walked-start : (v : ℕ) (cw : List ℕ) (mask : ℕ) (g : Grid) (ms : List Module) → IsSquare (side_of v) g → IsOrder v ms → IsWalked v cw mask g [] ms 0 g
+walked-start v cw mask g ms s o = record { whole = o; next = refl; square = s; done = done-start v (walked_colour v cw mask (colour g)) g ms o (walked-outside v cw mask (colour g)) }
+
+-- the next module is in the square
+pub walked-in : (v : ℕ) (cw : List ℕ) (mask : ℕ) (g0 g : Grid) (front now later : List Module) (x : Module) (number : ℕ) → IsWalked v cw mask g0 front now number g → now ≡ x ∷ later → (x.row < g.side) × (x.col < g.side)
+walked-in v cw mask g0 g front now later x number w e =
+    let o = whole-next v front now later x w.whole e in
+    let l = in-square v front later x o in
+    let s = ap (λ (h : Grid). h.side) w.square in
+    let row = l.0 in let col = l.1 in (omega arith, omega arith)
+
+-- one module is drawn
+pub walked-step : (v : ℕ) (cw : List ℕ) (mask : ℕ) (g0 g : Grid) (front now later : List Module) (x : Module) (number : ℕ) (bit turned : Bool)
+    → bit ≡ codeword_bit cw number → turned ≡ inverts mask x.row x.col → now ≡ x ∷ later → IsWalked v cw mask g0 front now number g
+    → IsWalked v cw mask g0 (front ++ x ∷ []) later (number + 1) (painted g x.row x.col (not (beq bit turned)))
+walked-step v cw mask g0 g front now later x number bit turned b t e w =
+    let o = whole-next v front now later x w.whole e in
+    let s = ap (λ (h : Grid). h.side) w.square in
+    let n = next-number v front later x number o w.next in
+    let d : not (beq bit turned) ≡ inverted (inverts mask x.row x.col) (codeword_bit cw number) =
+    differs-inverted bit turned ∙ (ap (inverted turned) b ∙ ap (λ (z : Bool). inverted z (codeword_bit cw number)) t) in
+    let want : inverted (inverts mask x.row x.col) (codeword_bit cw number) ≡ walked_colour v cw mask (colour g0) x.row x.col =
+    sym (walked-inside v cw mask (colour g0) x.row x.col n.0 ∙ ap (λ (k : ℕ). inverted (inverts mask x.row x.col) (codeword_bit cw k)) n.1) in
+    record {
+      whole = whole-push v front later x o;
+      next = (let l = length-append front (x ∷ []) in let k = w.next in omega arith);
+      square = painted-square (side_of v) g x.row x.col (not (beq bit turned)) s;
+      done = done-step (side_of v) (walked_colour v cw mask (colour g0)) g later x (not (beq bit turned)) s (d ∙ want) (subst (λ (ms : List Module). Done (side_of v) (walked_colour v cw mask (colour g0)) ms g) e w.done);
+    }
+
+-- the number of the next bit is at most the number of all modules of the region
+pub walked-small : (v : ℕ) (cw : List ℕ) (mask : ℕ) (g0 g : Grid) (front later : List Module) (number : ℕ) → 1 ≤ v → v ≤ 40 → IsWalked v cw mask g0 front later number g → number ≤ 29648
+walked-small v cw mask g0 g front later number k l w =
+    let m = order-small v (front ++ later) k l w.whole in
+    let n = length-append front later in
+    let q = w.next in
+    omega arith
+
+-- after the last module, the square has the walked colours
+pub walked-end : (v : ℕ) (cw : List ℕ) (mask : ℕ) (g0 g : Grid) (front later : List Module) (number : ℕ) → later ≡ [] → IsWalked v cw mask g0 front later number g → g ≡ square (side_of v) (walked_colour v cw mask (colour g0))
+walked-end v cw mask g0 g front later number e w = done-end (side_of v) (walked_colour v cw mask (colour g0)) g w.square (subst (λ (ms : List Module). Done (side_of v) (walked_colour v cw mask (colour g0)) ms g) e w.done)
+
+-- a module that is not in the region has the fixed colour of its role
+role-fixed : (v : ℕ) (l : Level) (mask : ℕ) (cw : List ℕ) (r c : ℕ) (q : Role) → (q ≡ Region → ⊥) → fixed_colour (format_word_of l mask) (version_word_of v) q ≡ colour_by v l mask cw r c q
+unfolding fixed_colour
+role-fixed v l mask cw r c (Fixed dark) n = refl
+role-fixed v l mask cw r c (FormatBit i) n = refl
+role-fixed v l mask cw r c (VersionBit i) n = refl
+role-fixed v l mask cw r c Region n = absurd (n refl)
+
+-- the fixed patterns, drawn over a light square
+pub fixed-alone : (v format : ℕ) (g h : Grid) → 1 ≤ v → g ≡ light (side_of v) → h ≡ square (side_of v) (λ r c. cond (is_in_region v r c) (colour g r c) (fixed_colour format (version_word_of v) (role_of v r c)))
+    → h ≡ square (side_of v) (λ r c. fixed_colour format (version_word_of v) (role_of v r c))
+unfolding fixed_colour
+fixed-alone v format g h k e f =
+    let fixed = λ (r c : ℕ). fixed_colour format (version_word_of v) (role_of v r c) in
+    f ∙ square-same (side_of v) (λ r c. cond (is_in_region v r c) (colour g r c) (fixed r c)) fixed (λ r c i j.
+    by_test (is_in_region v r c) (cond (is_in_region v r c) (colour g r c) (fixed r c) ≡ fixed r c)
+    (λ t. ap (λ (z : Bool). cond z (colour g r c) (fixed r c)) t ∙ (ap (λ (z : Grid). colour z r c) e ∙ (colour-square (side_of v) (λ _ _. false) r c i j ∙ sym (ap (fixed_colour format (version_word_of v)) (region-role v r c k i j t)))))
+    (λ t. ap (λ (z : Bool). cond z (colour g r c) (fixed r c)) t))
+
+-- what is drawn along the walk over the fixed patterns is the symbol of the codewords
+pub walked-all : (v : ℕ) (l : Level) (mask : ℕ) (cw : List ℕ) (g h : Grid) → 1 ≤ v → g ≡ square (side_of v) (λ r c. fixed_colour (format_word_of l mask) (version_word_of v) (role_of v r c))
+    → h ≡ square (side_of v) (walked_colour v cw mask (colour g)) → h ≡ grid_of v l mask cw
+unfolding colour_of
+walked-all v l mask cw g h k e f =
+    f ∙ square-same (side_of v) (walked_colour v cw mask (colour g)) (colour_of v l mask cw) (λ r c i j.
+    by_test (is_in_region v r c) (walked_colour v cw mask (colour g) r c ≡ colour_of v l mask cw r c)
+    (λ t. walked-inside v cw mask (colour g) r c t ∙ ap (colour_by v l mask cw r c) (sym (region-role v r c k i j t)))
+    (λ t. sym (walked-outside v cw mask (colour g) r c t)
+    ∙ (ap (λ (z : Grid). colour z r c) e
+    ∙ (colour-square (side_of v) (λ r c. fixed_colour (format_word_of l mask) (version_word_of v) (role_of v r c)) r c i j
+    ∙ role-fixed v l mask cw r c (role_of v r c) (λ u. let m = role-region v r c k i j u in cc)))))

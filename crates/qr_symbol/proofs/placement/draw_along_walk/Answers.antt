@@ -1,0 +1,32 @@
+use Rattle.std.proofs.Common.{sym, subst, arith}
+use Rattle.qr_layout.specs.Order.{IsOrder}
+use Rattle.qr_symbol.proofs.lemmas.placement.WalkLemmas.{walked-start, walked-in, walked-step, walked-small, walked-end}
+use Rattle.qr_symbol.proofs.placement.draw_along_walk.Goals as goal
+
+pub loop-module-init : goal.loop-module-init
+loop-module-init c = record {
+  can_next = tt;
+  is_finite = tt;
+  walked = walked-start c.args.v c.args.codewords.now c.args.mask c.args.matrix.now c.into_iter-module-iterator.result c.requires (subst (IsOrder c.args.v) (sym c.into_iter-module-iterator.ensures.into_iter_gives) c.walk-module-items.ensures.order);
+}
+
+pub set-requires-clause-row_in : goal.set-requires-clause-row_in
+set-requires-clause-row_in c = (walked-in c.args.v c.args.codewords.now c.args.mask c.args.matrix.now c.loop-module.matrix c.loop-module.yielded c.loop-module.module-iterator c.next.new.self c.in-Some.module c.loop-module.number c.loop-module.invariant.walked c.in-Some.ensures.steps).0
+
+pub set-requires-clause-col_in : goal.set-requires-clause-col_in
+set-requires-clause-col_in c = (walked-in c.args.v c.args.codewords.now c.args.mask c.args.matrix.now c.loop-module.matrix c.loop-module.yielded c.loop-module.module-iterator c.next.new.self c.in-Some.module c.loop-module.number c.loop-module.invariant.walked c.in-Some.ensures.steps).1
+
+pub overflow_add-number : goal.overflow_add-number
+overflow_add-number c =
+    let small = walked-small c.args.v c.args.codewords.now c.args.mask c.args.matrix.now c.loop-module.matrix c.loop-module.yielded c.loop-module.module-iterator c.loop-module.number (omega arith) (omega arith) c.loop-module.invariant.walked in
+    omega arith
+
+pub loop-module-preserved : goal.loop-module-preserved
+loop-module-preserved c = record {
+  can_next = tt;
+  is_finite = tt;
+  walked = rw c.set.ensures (walked-step c.args.v c.args.codewords.now c.args.mask c.args.matrix.now c.loop-module.matrix c.loop-module.yielded c.loop-module.module-iterator c.next.new.self c.in-Some.module c.loop-module.number c.bit_at-bit.result c.inverts.result c.bit_at-bit.ensures c.inverts.ensures c.in-Some.ensures.steps c.loop-module.invariant.walked);
+}
+
+pub returns : goal.returns
+returns c = walked-end c.args.v c.args.codewords.now c.args.mask c.args.matrix.now c.loop-module.matrix c.loop-module.yielded c.loop-module.module-iterator c.loop-module.number c.in-None.ensures.steps.0 c.loop-module.invariant.walked

@@ -1,0 +1,56 @@
+use Rattle.std.proofs.Common.{List, ◌++◌, sym, subst, arith}
+use Rattle.std.specs.List.{All}
+use Rattle.std.proofs.lemmas.List.Elements.{All-tail}
+use Rattle.qr_layout.specs.declared.strips.Strip.{Strip}
+use Rattle.qr_layout.specs.Version.{side_of}
+use Rattle.qr_layout.specs.Order.{IsOrder, in_region_of}
+use Rattle.qr_layout.specs.Strips.{both_of, places_of, rows_from}
+use Rattle.qr_layout.proofs.Facts.{Inside}
+use Rattle.qr_matrix.specs.Grid.{transposed}
+use Rattle.qr_symbol.proofs.lemmas.placement.PlacementLemmas.{IsPlaced, placed-start, placed-many, placed-small, placed-end}
+use Rattle.qr_symbol.proofs.lemmas.placement.AcrossLemmas.{transposed-square}
+use Rattle.qr_symbol.proofs.lemmas.placement.KeptPlaceLemmas.{places-push}
+use Rattle.qr_symbol.proofs.placement.draw_codewords.Goals as goal
+
+pub loop-strip-init : goal.loop-strip-init
+loop-strip-init c =
+    let v = c.args.v in
+    let e = sym c.into_iter-strip-iterator.ensures.into_iter_gives in
+    record {
+      can_next = tt;
+      is_finite = tt;
+      inside = subst (All (Inside v)) e c.all_strips-strip-items.ensures.inside;
+      square = c.requires.square;
+      placed = placed-start v c.args.codewords.now (transposed c.args.across.now) (places_of (side_of v) c.into_iter-strip-iterator.result) (transposed-square (side_of v) c.args.across.now c.requires.square) (subst (λ (xs : List Strip). IsOrder v (in_region_of v (places_of (side_of v) xs))) e c.all_strips-strip-items.ensures.order);
+    }
+
+pub draw_strip-number-requires-clause-few : goal.draw_strip-number-requires-clause-few
+draw_strip-number-requires-clause-few c = placed-small c.args.v c.args.codewords.now (transposed c.args.across.now) (transposed c.loop-strip.across) (places_of (side_of c.args.v) c.loop-strip.yielded) (places_of (side_of c.args.v) c.loop-strip.strip-iterator) c.loop-strip.number (omega arith) (omega arith) c.loop-strip.invariant.placed
+
+pub loop-strip-preserved : goal.loop-strip-preserved
+loop-strip-preserved c =
+    let v = c.args.v in
+    let s = side_of v in
+    let i = c.loop-strip.invariant in
+    let x = c.in-Some.strip in
+    let rest = c.next.new.self in
+    let xs = c.loop-strip.yielded in
+    let cw = c.args.codewords.now in
+    let g0 = transposed c.args.across.now in
+    let n = c.loop-strip.number in
+    let g = transposed c.loop-strip.across in
+    let now : IsPlaced v cw g0 (places_of s xs) (both_of (rows_from s x 0 s) ++ places_of s rest) n g = subst (λ (zs : List Strip). IsPlaced v cw g0 (places_of s xs) (places_of s zs) n g) c.in-Some.ensures.steps i.placed in
+    record {
+      can_next = tt;
+      is_finite = tt;
+      inside = All-tail (Inside v) x rest (subst (All (Inside v)) c.in-Some.ensures.steps i.inside);
+      square = c.draw_strip-number.ensures.square;
+      placed = rw (c.draw_strip-number.ensures.number, c.draw_strip-number.ensures.placed, places-push s xs x) (placed-many v cw g0 g (places_of s xs) (both_of (rows_from s x 0 s)) (places_of s rest) n now);
+    }
+
+pub returns-clause-placed : goal.returns-clause-placed
+returns-clause-placed c =
+    let v = c.args.v in
+    let s = side_of v in
+    placed-end v c.args.codewords.now (transposed c.args.across.now) (transposed c.loop-strip.across) (places_of s c.loop-strip.yielded) c.loop-strip.number
+    (subst (λ (xs : List Strip). IsPlaced v c.args.codewords.now (transposed c.args.across.now) (places_of s c.loop-strip.yielded) (places_of s xs) c.loop-strip.number (transposed c.loop-strip.across)) c.in-None.ensures.steps.0 c.loop-strip.invariant.placed)

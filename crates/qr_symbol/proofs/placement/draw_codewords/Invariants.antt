@@ -1,0 +1,16 @@
+use Rattle.std.specs.List.{All}
+use Rattle.qr_layout.specs.Strips.{places_of}
+use Rattle.qr_layout.specs.Version.{side_of}
+use Rattle.qr_layout.proofs.Facts.{Inside}
+use Rattle.qr_matrix.specs.Grid.{transposed, IsSquare}
+use Rattle.qr_symbol.proofs.lemmas.placement.PlacementLemmas.{IsPlaced}
+use Rattle.qr_symbol.proofs.placement.draw_codewords.Given as goal
+
+abbrev pub invariant-loop-strip : goal.invariant-loop-strip
+invariant-loop-strip l = record {
+  can_next : (goal.iterator-loop-strip).can_next l.strip-iterator;
+  is_finite : (goal.iterator-loop-strip).is_finite l.strip-iterator;
+  inside : All (Inside l.fn.v) l.strip-iterator;
+  square : IsSquare (side_of l.fn.v) l.across;
+  placed : IsPlaced l.fn.v l.codewords (transposed l.fn.across) (places_of (side_of l.fn.v) l.yielded) (places_of (side_of l.fn.v) l.strip-iterator) l.number (transposed l.across);
+}

@@ -1,0 +1,215 @@
+//! Tests of the functions that make a symbol from an input or from codewords.
+
+use crate::samples::EIGHT_DIGITS;
+use qr_bits::{INPUT_MAX, Rule};
+use qr_layout::{Level, Version};
+use qr_symbol::laws::plain_and_fast_symbols_are_one;
+use qr_symbol::{EncodeFault, build, build_masked, deinterleave, draw_symbol, encode, interleave};
+use std::test::Fail;
+
+#[test]
+fn masks(rt: HostRuntime) -> Result<(), Fail> {
+    let rows = [
+        ("five letters at 1-L", &b"hello"[..], Level::L, 7),
+        ("letters and digits at 1-L", &b"ab012"[..], Level::L, 3),
+        ("a tie of masks 0 and 4 at 1-Q", &b"g"[..], Level::Q, 0),
+        ("a tie of masks 3 and 7 at 1-L", &b"BR"[..], Level::L, 3),
+        ("a tie of masks 6 and 7 at 1-L", &b"CE"[..], Level::L, 6),
+    ];
+    let first = Version::FIRST;
+    for (name, input, level, mask) in rows {
+        assert!(rt; input.len() <= INPUT_MAX);
+        let symbol = encode(rt.alloc(), input, level, first, Rule::Auto)?;
+        assert_eq!(rt; symbol.version, first, "{name}");
+        assert_eq!(rt; symbol.mask, mask, "{name}");
+    }
+    Ok(())
+}
+
+#[test]
+fn versions(rt: HostRuntime) -> Result<(), Fail> {
+    let digits = [b'7'; 7089];
+    let rows = [
+        ("41 digits at L", 41, 1u8, 1),
+        ("42 digits at L", 42, 1, 2),
+        ("a larger version than needed", 42, 3, 3),
+        ("7,089 digits at L", 7089, 1, 40),
+    ];
+    for (name, len, smallest, version) in rows {
+        let smallest = Version::new(smallest).ok_or("smallest version")?;
+        assert!(rt; len <= digits.len());
+        let symbol = encode(rt.alloc(), &digits[..len], Level::L, smallest, Rule::Auto)?;
+        assert_eq!(rt; symbol.version.number(), version, "{name}");
+    }
+    Ok(())
+}
+
+#[test]
+fn refusals(rt: HostRuntime) -> Result<(), Fail> {
+    let first = Version::FIRST;
+    let fault = encode(rt.alloc(), b"", Level::L, first, Rule::Auto);
+    assert!(rt; matches!(fault, Err(EncodeFault::Empty)), "no byte");
+    let fault = encode(rt.alloc(), &[b'7'; 7090], Level::L, first, Rule::Auto);
+    assert!(rt; matches!(fault, Err(EncodeFault::TooLong)), "7,090 digits");
+    let fault = encode(rt.alloc(), &[b'a'; 2954], Level::L, first, Rule::Auto);
+    assert!(rt; matches!(fault, Err(EncodeFault::TooLong)), "2,954 bytes");
+    let fault = encode(rt.alloc(), &[b'7'; INPUT_MAX], Level::L, first, Rule::Auto);
+    assert!(rt;
+        matches!(fault, Err(EncodeFault::TooLong)),
+        "the longest input"
+    );
+    Ok(())
+}
+
+#[test]
+fn masks_of_least_penalty(rt: HostRuntime) -> Result<(), Fail> {
+    let rows = [
+        (
+            "the byte A at 1-L",
+            Level::L,
+            [0x40u8, 0x14, 0x10, 0xEC, 0x11, 0xEC, 0x11, 0xEC],
+            0u8,
+        ),
+        (
+            "five letters at 1-L",
+            Level::L,
+            [0x40, 0x56, 0x86, 0x56, 0xC6, 0xC6, 0xF0, 0xEC],
+            7,
+        ),
+        (
+            "a tie of masks 0 and 4, the byte g at 1-Q",
+            Level::Q,
+            [0x40, 0x16, 0x70, 0xEC, 0x11, 0xEC, 0x11, 0xEC],
+            0,
+        ),
+    ];
+    let version = Version::FIRST;
+    for (name, level, first, mask) in rows {
+        let wanted = usize::from(version.data_codewords(level));
+        let mut message = Vec::new(rt.alloc());
+        message.extend_from_slice(&first)?;
+        let mut pad = 0x11u8;
+        for _ in 8..wanted {
+            message.push(pad)?;
+            pad = if pad == 0x11 { 0xEC } else { 0x11 };
+        }
+        assert!(rt; message.len() == wanted);
+        let codewords = interleave(rt.alloc(), version, level, &message)?;
+        let symbol = build(rt.alloc(), version, level, &codewords)?;
+        assert_eq!(rt; symbol.mask, mask, "{name}");
+    }
+    Ok(())
+}
+
+// The rows of the symbol of `01234567` at 1-M with mask 0; a dark module is 1.
+static ROWS: [u32; 21] = [
+    0b111111100011101111111,
+    0b100000101110001000001,
+    0b101110100110001011101,
+    0b101110100101101011101,
+    0b101110101101101011101,
+    0b100000100001001000001,
+    0b111111101010101111111,
+    0b000000000000000000000,
+    0b101010100010100010010,
+    0b110100001011010100010,
+    0b000110111011011101110,
+    0b110011010101110110010,
+    0b001001110111011100001,
+    0b000000001010001000010,
+    0b111111100000100010001,
+    0b100000100010001001011,
+    0b101110101110101011101,
+    0b101110100101010101110,
+    0b101110101101011100101,
+    0b100000100001110111000,
+    0b111111101001011100101,
+];
+
+#[test]
+fn eight_digits_at_1_m(rt: HostRuntime) -> Result<(), Fail> {
+    let version = Version::FIRST;
+    assert!(rt; version.total_codewords() == 26);
+    let symbol = build_masked(rt.alloc(), version, Level::M, &EIGHT_DIGITS, 0)?;
+    assert!(rt; symbol.matrix.side() == 21);
+    assert!(rt; symbol.version == version && symbol.level == Level::M && symbol.mask == 0);
+    let drawn = draw_symbol(rt.alloc(), version, Level::M, &EIGHT_DIGITS, 0)?;
+    assert!(rt; drawn.side() == 21);
+    for row in 0..21u8 {
+        for col in 0..21u8 {
+            let dark = ROWS[usize::from(row)] >> (20 - col) & 1 == 1;
+            assert_eq!(rt;
+                symbol.matrix.dark(row, col),
+                dark,
+                "row {row}, column {col}"
+            );
+            assert_eq!(rt;
+                drawn.dark(row, col),
+                dark,
+                "drawn, row {row}, column {col}"
+            );
+        }
+    }
+    Ok(())
+}
+
+#[test]
+fn four_blocks_of_two_lengths(rt: HostRuntime) -> Result<(), Fail> {
+    let version = Version::new(5).ok_or("version 5")?;
+    let mut message = Vec::new(rt.alloc());
+    for byte in 0..62u8 {
+        message.push(byte)?;
+    }
+    let wanted = version.data_codewords(Level::Q);
+    assert!(rt; message.len() == usize::from(wanted));
+    let interleaved = interleave(rt.alloc(), version, Level::Q, &message)?;
+    assert!(rt; interleaved.len() == 134, "five and Q hold 134 codewords");
+    let first = [0u8, 15, 30, 46, 1, 16, 31, 47];
+    assert_eq!(rt;
+        &interleaved[..8],
+        &first[..],
+        "the first codewords of the four blocks"
+    );
+    let last = [45u8, 61];
+    assert_eq!(rt;
+        &interleaved[60..62],
+        &last[..],
+        "the sixteenth of the two long blocks"
+    );
+    let again = deinterleave(rt.alloc(), version, Level::Q, &interleaved)?;
+    assert_eq!(rt; &again[..], &message[..], "put back");
+    Ok(())
+}
+
+// `build` and `build_masked` make the same symbols. These versions have no, three, four or seven remainder bits, and
+// from 7 on version information.
+#[test]
+fn plain_and_fast_symbols(rt: HostRuntime) -> Result<(), Fail> {
+    for number in [1, 2, 7, 14, 21, 40] {
+        let version = Version::new(number).ok_or("no such version")?;
+        let mut codewords = Vec::new(rt.alloc());
+        for place in 0..version.total_codewords() {
+            codewords.push((place % 251) as u8)?;
+        }
+        assert!(rt; codewords.len() == usize::from(version.total_codewords()));
+        let (plain, fast) = plain_and_fast_symbols_are_one(
+            rt.alloc(),
+            version,
+            Level::Q,
+            &codewords,
+        )?;
+        let side = version.side();
+        assert!(rt; plain.matrix.side() == side && fast.matrix.side() == side);
+        for row in 0..side {
+            for col in 0..side {
+                assert!(rt; row < plain.matrix.side() && col < plain.matrix.side());
+                assert!(rt; row < fast.matrix.side() && col < fast.matrix.side());
+                assert!(rt;
+                    plain.matrix.dark(row, col) == fast.matrix.dark(row, col),
+                    "version {number}, row {row}, column {col}"
+                );
+            }
+        }
+    }
+    Ok(())
+}

@@ -1,0 +1,27 @@
+//! Tests of the example of a label.
+
+use example_label::label;
+use qr_layout::{Level, Version};
+use qr_symbol::EncodeFault;
+use std::test::Fail;
+
+// 21 lines of modules, of which the first begins with a finder pattern, and then the line `A`.
+#[test]
+fn a_letter_at_1_l(rt: HostRuntime) -> Result<(), Fail> {
+    let version = Version::new(1).ok_or("version 1")?;
+    let text = label(rt.alloc(), b"A", Level::L, version)?;
+    assert_eq!(rt; text.len(), 21 * 22 + 2);
+    assert_eq!(rt; text.get(..7), Some(&b"#######"[..]));
+    assert_eq!(rt; text.get(21 * 22..), Some(&b"A\n"[..]));
+    Ok(())
+}
+
+// 40-L contains at most 2,953 bytes (Table 7).
+#[test]
+fn refusals(rt: HostRuntime) -> Result<(), Fail> {
+    let fault = label(rt.alloc(), b"", Level::L, Version::FIRST);
+    assert!(rt; matches!(fault, Err(EncodeFault::Empty)), "no words");
+    let fault = label(rt.alloc(), &[b'a'; 2954], Level::L, Version::FIRST);
+    assert!(rt; matches!(fault, Err(EncodeFault::TooLong)), "2,954 bytes");
+    Ok(())
+}

@@ -1,0 +1,175 @@
+//! Tests of damaged blocks.
+
+use crate::samples::EIGHT_DIGITS;
+use qr_field::Divisor;
+use qr_mending::{mend, mend_with_erasures};
+use std::process::Abort;
+
+// How many codewords, of at most `t`, are corrected in the block of `01234567` with this damage; `None` if it cannot be
+// mended.
+fn mended_count(rt: &impl Abort, t: usize, damage: &[(usize, u8)]) -> Option<usize> {
+    let mut damaged = EIGHT_DIGITS;
+    for (place, codeword) in damage {
+        assert!(rt; *place < 26);
+        damaged[*place] = *codeword;
+    }
+    let divisor = Divisor::new(10);
+    assert!(rt; t <= 5 && divisor.count() == 10);
+    let before = damaged;
+    match mend(&divisor, t, &mut damaged) {
+        None => assert!(rt; damaged == before),
+        Some(changed) => {
+            assert!(rt; damaged == EIGHT_DIGITS);
+            return Some(changed);
+        }
+    }
+    None
+}
+
+// The results are those of an independent decoder, by the algorithm of Berlekamp and Massey.
+#[test]
+fn block_of_eight_digits_damaged(rt: HostRuntime) {
+    let five = [(0, 0x41u8), (3, 0), (7, 0x22), (20, 1), (25, 0)];
+    let six = [(0, 0x41u8), (3, 0), (7, 0x22), (11, 0xFF), (20, 1), (25, 0)];
+    let rows = [
+        ("as sent", 5, &five[..0], Some(0)),
+        ("as sent, none allowed", 0, &five[..0], Some(0)),
+        ("the first codeword", 5, &five[..1], Some(1)),
+        ("the first, none allowed", 0, &five[..1], None),
+        ("three data codewords", 3, &five[..3], Some(3)),
+        ("five codewords", 5, &five[..], Some(5)),
+        ("five, four allowed", 4, &five[..], None),
+        ("six codewords", 5, &six[..], None),
+    ];
+    for (name, t, damage, mended) in rows {
+        assert_eq!(rt; mended_count(&rt, t, damage), mended, "{name}");
+    }
+}
+
+// As `mended_count`, with the codewords in `unread` marked as erased; erased ones are not counted.
+fn mended_with_erasures(
+    rt: &impl Abort,
+    spare: usize,
+    unread: &[(usize, u8)],
+    misread: &[(usize, u8)],
+) -> Option<usize> {
+    let mut damaged = EIGHT_DIGITS;
+    let mut erased = [false; 26];
+    for (place, codeword) in unread {
+        assert!(rt; *place < 26);
+        damaged[*place] = *codeword;
+        erased[*place] = true;
+    }
+    for (place, codeword) in misread {
+        assert!(rt; *place < 26);
+        damaged[*place] = *codeword;
+    }
+    let divisor = Divisor::new(10);
+    assert!(rt; spare <= 10 && divisor.count() == 10);
+    let before = damaged;
+    match mend_with_erasures(&divisor, spare, &erased, &mut damaged) {
+        None => assert!(rt; damaged == before),
+        Some(count) => {
+            assert!(rt; damaged == EIGHT_DIGITS);
+            return Some(count);
+        }
+    }
+    None
+}
+
+// The results are those of a search that tried each set of positions, and solved the linear equations for its
+// codewords.
+#[test]
+fn block_of_eight_digits_with_erasures(rt: HostRuntime) {
+    let unread = [
+        (0, 0u8),
+        (1, 0),
+        (2, 0),
+        (3, 0),
+        (5, 0),
+        (8, 0),
+        (13, 0),
+        (16, 0),
+        (21, 0),
+        (25, 0),
+        (7, 0),
+    ];
+    let right = [(0, 0x10u8), (12, 0xEC), (25, 0x55)];
+    let misread = [(4, 0x41u8), (10, 0), (17, 0x22), (24, 0xFF)];
+    let rows = [
+        ("as sent", 10, &unread[..0], &misread[..0], Some(0)),
+        (
+            "three erased, yet right",
+            10,
+            &right[..],
+            &misread[..0],
+            Some(0),
+        ),
+        ("ten erased", 10, &unread[..10], &misread[..0], Some(0)),
+        ("eleven erased", 10, &unread[..], &misread[..0], None),
+        (
+            "eight erased, eight to spare",
+            8,
+            &unread[..8],
+            &misread[..0],
+            Some(0),
+        ),
+        (
+            "nine erased, eight to spare",
+            8,
+            &unread[..9],
+            &misread[..0],
+            None,
+        ),
+        (
+            "nine erased and one misread",
+            10,
+            &unread[..9],
+            &misread[..1],
+            None,
+        ),
+        (
+            "four erased and three misread",
+            10,
+            &unread[..4],
+            &misread[..3],
+            Some(3),
+        ),
+        (
+            "four erased and four misread",
+            10,
+            &unread[..4],
+            &misread[..],
+            None,
+        ),
+        (
+            "three erased and three misread",
+            10,
+            &unread[..3],
+            &misread[..3],
+            Some(3),
+        ),
+        (
+            "four and two, eight to spare",
+            8,
+            &unread[..4],
+            &misread[..2],
+            Some(2),
+        ),
+        (
+            "four and three, eight to spare",
+            8,
+            &unread[..4],
+            &misread[..3],
+            None,
+        ),
+        ("four misread", 10, &unread[..0], &misread[..], Some(4)),
+    ];
+    for (name, spare, unread, misread, mended) in rows {
+        assert_eq!(rt;
+            mended_with_erasures(&rt, spare, unread, misread),
+            mended,
+            "{name}"
+        );
+    }
+}

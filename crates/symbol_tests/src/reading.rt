@@ -1,0 +1,156 @@
+//! Tests of `read_symbol`.
+
+use crate::samples::{EIGHT_DIGITS, byte_symbol};
+use qr_bits::{Mode, Rule, Segment};
+use qr_layout::{Level, Version, walk};
+use qr_matrix::Matrix;
+use qr_symbol::{ReadFault, build_masked, encode, read_symbol};
+use std::test::Fail;
+
+// Whether the symbol is plain, and read as one segment of this mode with these bytes.
+fn says(rt: &HostRuntime, matrix: &Matrix, mode: Mode, bytes: &[u8]) -> Result<bool, Fail> {
+    let parsed = read_symbol(rt.alloc(), matrix)?;
+    let segment = Segment {
+        mode,
+        len: bytes.len(),
+    };
+    Ok(
+        parsed.header.is_none()
+            && parsed.segments.len() == 1
+            && parsed.segments.first().copied() == Some(segment)
+            && parsed.bytes.as_slice() == bytes,
+    )
+}
+
+#[test]
+fn eight_digits_with_a_module_inverted(rt: HostRuntime) -> Result<(), Fail> {
+    let rows = [
+        ("a corner of a finder pattern", (0, 0), None),
+        ("a bit of the second format information", (20, 8), None),
+        (
+            "a bit of the first format information",
+            (0, 8),
+            Some(ReadFault::Format),
+        ),
+        (
+            "a bit of the first codeword",
+            (20, 20),
+            Some(ReadFault::Check),
+        ),
+        (
+            "a bit of the last codeword",
+            (12, 0),
+            Some(ReadFault::Check),
+        ),
+    ];
+    let version = Version::FIRST;
+    assert!(rt; version.total_codewords() == 26);
+    for (name, (row, col), fault) in rows {
+        let mut symbol = build_masked(rt.alloc(), version, Level::M, &EIGHT_DIGITS, 0)?;
+        assert!(rt;
+            says(&rt, &symbol.matrix, Mode::Numeric, b"01234567")?,
+            "as drawn"
+        );
+        assert!(rt; row < symbol.matrix.side() && col < symbol.matrix.side());
+        let dark = symbol.matrix.dark(row, col);
+        symbol.matrix.set(row, col, !dark);
+        let read = read_symbol(rt.alloc(), &symbol.matrix);
+        assert_eq!(rt; read.err(), fault, "{name}");
+        if fault.is_none() {
+            assert!(rt;
+                says(&rt, &symbol.matrix, Mode::Numeric, b"01234567")?,
+                "{name}"
+            );
+        }
+    }
+    Ok(())
+}
+
+// Each module of a symbol of version 1 inverted by itself: 15 are the first copy of the format information, 208 are
+// codewords, and all others are ignored.
+#[test]
+fn each_module_inverted(rt: HostRuntime) -> Result<(), Fail> {
+    let version = Version::FIRST;
+    assert!(rt; version.total_codewords() == 26);
+    let mut symbol = build_masked(rt.alloc(), version, Level::M, &EIGHT_DIGITS, 0)?;
+    let (mut format, mut check, mut read) = (0u32, 0u32, 0u32);
+    for row in 0..21u8 {
+        for col in 0..21u8 {
+            assert!(rt; row < symbol.matrix.side() && col < symbol.matrix.side());
+            let dark = symbol.matrix.dark(row, col);
+            symbol.matrix.set(row, col, !dark);
+            match read_symbol(rt.alloc(), &symbol.matrix) {
+                Err(ReadFault::Format) => format = format.saturating_add(1),
+                Err(ReadFault::Check) => check = check.saturating_add(1),
+                Err(fault) => return Err(fault.into()),
+                Ok(_) => {
+                    let is_same = says(&rt, &symbol.matrix, Mode::Numeric, b"01234567")?;
+                    assert!(rt; is_same, "({row}, {col})");
+                    read = read.saturating_add(1);
+                }
+            }
+            assert!(rt; row < symbol.matrix.side() && col < symbol.matrix.side());
+            symbol.matrix.set(row, col, dark);
+        }
+    }
+    assert_eq!(rt; (format, check, read), (15, 208, 218));
+    Ok(())
+}
+
+// The seven modules after the 44 codewords of version 2 are ignored.
+#[test]
+fn remainder_bits_inverted(rt: HostRuntime) -> Result<(), Fail> {
+    let version = Version::new(2).ok_or("version 2")?;
+    let mut symbol = encode(rt.alloc(), b"A", Level::L, version, Rule::Auto)?;
+    let mut inverted = 0u32;
+    for module in walk(version).skip(8 * 44) {
+        assert!(rt; module.row < symbol.matrix.side() && module.col < symbol.matrix.side());
+        let dark = symbol.matrix.dark(module.row, module.col);
+        symbol.matrix.set(module.row, module.col, !dark);
+        assert!(rt; says(&rt, &symbol.matrix, Mode::Alphanumeric, b"A")?);
+        inverted = inverted.saturating_add(1);
+    }
+    assert_eq!(rt; inverted, 7);
+    Ok(())
+}
+
+#[test]
+fn light_squares(rt: HostRuntime) -> Result<(), Fail> {
+    for (side, fault) in [
+        (1, ReadFault::Side),
+        (17, ReadFault::Side),
+        (20, ReadFault::Side),
+        (21, ReadFault::Format),
+        (22, ReadFault::Side),
+        (176, ReadFault::Side),
+        (177, ReadFault::Format),
+    ] {
+        assert!(rt; side >= 1 && side <= 177);
+        let matrix = Matrix::new(rt.alloc(), side)?;
+        let read = read_symbol(rt.alloc(), &matrix);
+        assert_eq!(rt; read.err(), Some(fault), "side {side}");
+    }
+    Ok(())
+}
+
+#[test]
+fn letters_and_digits_as_bytes(rt: HostRuntime) -> Result<(), Fail> {
+    let symbol = byte_symbol(&rt, b"ab012", None, Level::L)?;
+    assert!(rt; says(&rt, &symbol.matrix, Mode::Byte, b"ab012")?);
+    Ok(())
+}
+
+#[test]
+fn a_letter_in_every_symbol(rt: HostRuntime) -> Result<(), Fail> {
+    for number in 1..=40u8 {
+        let version = Version::new(number).ok_or("no such version")?;
+        for level in [Level::L, Level::M, Level::Q, Level::H] {
+            let symbol = encode(rt.alloc(), b"A", level, version, Rule::Auto)?;
+            assert!(rt;
+                says(&rt, &symbol.matrix, Mode::Alphanumeric, b"A")?,
+                "version {number}, {level:?}"
+            );
+        }
+    }
+    Ok(())
+}

@@ -1,0 +1,56 @@
+//! Codewords and symbols of version 1 for the tests.
+
+ghost use Rattle.std.specs.Prelude.{◌<◌, ◌≤◌, length};
+ghost use Rattle.std.specs.Option.{ForSome};
+ghost use Rattle.qr_bits.specs.declared.modes.TheConstants.{INPUT_MAX};
+
+use qr_bits::{Header, INPUT_MAX, Mode, Segment, codewords, covers};
+use qr_layout::{Level, Version};
+use qr_symbol::{Symbol, build, interleave};
+use std::test::Fail;
+
+/// The codewords of `01234567` at 1-M: 16 data codewords, then 10 for error correction.
+pub static EIGHT_DIGITS: [u8; 26] = [
+    0x10, 0x20, 0x0C, 0x56, 0x61, 0x80, 0xEC, 0x11, 0xEC, 0x11, 0xEC, 0x11, 0xEC, 0x11, 0xEC, 0x11,
+    0xA5, 0x24, 0xD4, 0xC1, 0xED, 0x36, 0xC7, 0x87, 0x2C, 0x55,
+];
+
+/// Returns the data codewords of an optional header and a segment in byte mode.
+pub fn byte_codewords(
+    rt: &HostRuntime,
+    bytes: &[u8],
+    header: Option<Header>,
+    level: Level,
+) -> Result<Vec<u8>, Fail>
+    requires short { length bytes.now ≤ INPUT_MAX }
+    requires in_range { ForSome header (λ h. (h.position < 16) × (h.last < 16)) }
+{
+    let version = Version::FIRST;
+    let segment = Segment {
+        mode: Mode::Byte,
+        len: bytes.len(),
+    };
+    if !covers(bytes, &[segment]) {
+        return Err("the segment is not the bytes".into());
+    }
+    Ok(codewords(rt.alloc(), bytes, &[segment], header, version, level)?)
+}
+
+/// Returns the symbol of an optional header and a segment in byte mode.
+pub fn byte_symbol(
+    rt: &HostRuntime,
+    bytes: &[u8],
+    header: Option<Header>,
+    level: Level,
+) -> Result<Symbol, Fail>
+    requires short { length bytes.now ≤ INPUT_MAX }
+    requires in_range { ForSome header (λ h. (h.position < 16) × (h.last < 16)) }
+{
+    let version = Version::FIRST;
+    let message = byte_codewords(rt, bytes, header, level)?;
+    if message.len() != usize::from(version.data_codewords(level)) {
+        return Err("the codewords are not those of the version".into());
+    }
+    let interleaved = interleave(rt.alloc(), version, level, &message)?;
+    Ok(build(rt.alloc(), version, level, &interleaved)?)
+}
