@@ -1,6 +1,6 @@
-# Builds the proved program and the library for C, tests them, counts their instructions, installs them under PREFIX, the program by
-# the name NAME, and makes packages of them. STRIP=1 leaves the names of functions out of what is installed, and STATIC=1 installs
-# the program that holds its C library.
+# Builds the proved program and the library for C, tests them, counts their instructions, installs them under PREFIX, the program
+# by the name NAME, and makes packages of them. STRIP=1 leaves the names of functions out of what is installed, and STATIC=1
+# installs the program that holds its C library.
 VERSION := $(shell cat VERSION)
 PREFIX = /usr/local
 BINDIR = $(PREFIX)/bin
@@ -49,7 +49,7 @@ PYTHON = python3
 WHEELS = python/out
 DIST = out/dist
 
-# Processors for which the shared library is built once more, beside that for each of them: the loader takes it there.
+# Newer processors, for which the shared library is built once more: there the loader takes that one.
 HWCAPS = $(if $(filter $(LIBRARY)/out/lib:x86-64,$(LIBRARY_OUT):$(CPU)),x86-64-v2)
 HWCAPS_OUT = out/$(HWCAPS)/lib
 HWCAPS_FOLDER = $(LIBRARIES)/glibc-hwcaps/$(HWCAPS)
@@ -95,7 +95,7 @@ static: all
 check:
 	@tests/all
 
-# The tests of the gate; tries no wrong bodies, and proves only what the tests are built of.
+# The gate without wrong bodies, and with proofs only of what the tests are built of.
 test:
 	@tests/all --test
 
@@ -125,8 +125,7 @@ dist:
 
 .PHONY: dist need-rt prove-hwcaps
 
-# Builds the library, unless the last build was by the same flags and no source is newer than it. For x86-64 it is built once
-# more for newer processors.
+# Builds the library, unless the last build was by the same flags and no source is newer than it.
 library_is_old = $(shell test "$$(cat '$(1)/flags' 2>/dev/null)" = '$(2)' || echo flags)$(call is_old,$(1)/flags)
 OLD_LIBRARY := $(if $(call library_is_old,$(LIBRARY_OUT),$(LIBRARY_FLAGS)),prove-lib)
 OLD_HWCAPS := $(if $(HWCAPS),$(if $(call library_is_old,$(HWCAPS_OUT),--cpu $(HWCAPS)),prove-hwcaps))
@@ -135,8 +134,8 @@ lib: $(OLD_LIBRARY) $(OLD_HWCAPS)
 prove-hwcaps: $(OLD_LIBRARY)
 	$(MAKE) --no-print-directory prove-lib CPU=$(HWCAPS) LIBRARY_OUT=$(HWCAPS_OUT)
 
-# Proves the crate, and joins it with the glue for malloc, realloc and free. All other names than those of the header become
-# local, so that two such libraries do not clash in a program.
+# Proves the crate, and joins it with the glue for malloc, realloc and free. All names but those of the header become local, so
+# that two such libraries do not clash in a program.
 prove-lib: need-rt
 	mkdir -p "$(LIBRARY_OUT)"
 	rm -f "$(LIBRARY_OUT)/flags"

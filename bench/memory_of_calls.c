@@ -50,7 +50,7 @@ static size_t input_len, deepest;
 static uint8_t number, level, status;
 static const char *call;
 
-/* Marks the stack below, so that what a call wrote of it can be seen. Its own frame is the least that a call has. */
+/* Marks the stack below, so that what a call wrote of it can be seen. The least that is measured is its frame above the array. */
 static __attribute__((noinline)) void mark(void)
 {
 	volatile uint8_t below[STACK / 2];

@@ -17,7 +17,7 @@
 enum { SOUND, READABLE, NOT_READABLE };
 enum { LINES_MAX = 512, LINE_MAX_LEN = 2 * LINES_MAX + 3 };
 
-/* The modules of a drawing, and the least rectangle that holds all dark ones: rows from top, columns from left. */
+/* The modules of a drawing, and the first and the last row and column with a dark one. */
 struct drawing {
 	uint8_t dark[LINES_MAX][LINES_MAX];
 	int top, bottom, left, right;
@@ -61,7 +61,7 @@ static int take_line(const char *line, int row, int is_last)
 	return 1;
 }
 
-/* Takes the drawing; 0 if it is none. */
+/* Takes the drawing; 0 if it is no drawing in ASCII. */
 static int take_drawing(FILE *from)
 {
 	char line[LINE_MAX_LEN];
@@ -84,7 +84,7 @@ static int copy_square(void)
 	return side;
 }
 
-/* What the call says of the square. The share that is spent is rounded up, so that 100 % says that all is. */
+/* Prints the line of the square, and returns the status. The share that is spent is rounded up. */
 static int judge(int side)
 {
 	struct qrproved_mended mended;

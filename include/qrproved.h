@@ -1,7 +1,7 @@
-/* QR Code symbols (ISO/IEC 18004:2015, QR Code Model 2). The library encodes an input as a symbol or as a series of
- * symbols, draws symbols as text or as SVG, and reads them. It also mends damaged symbols, and measures the damage. The
- * calls are proved to meet their contracts, which are in crates/qrproved; docs/LIBRARY.md says what these mean for a caller.
- * tests/library compares this file with the exports of the library.
+/* QR Code symbols (ISO/IEC 18004:2015, QR Code Model 2): calls that encode an input as a symbol or as a series of symbols,
+ * draw symbols as text or as SVG, read them, and mend damaged ones. The calls are proved to meet their contracts, which are
+ * in crates/qrproved; docs/LIBRARY.md says what these mean for a caller. tests/library compares this file with the exports
+ * of the library.
  *
  * A module is a byte in a buffer of the caller, in which the modules are row by row, from the top left. The buffer does not
  * contain the quiet zone, which is the four light modules that a drawing needs on each side; qrproved_draw adds a margin of
@@ -9,8 +9,8 @@
  * malloc and realloc, and frees all of it before it returns.
  *
  * At each call the caller has to meet these conditions:
- * - each pointer points to as many bytes as the length beside it says, or to a struct; a pointer with the length 0 is not
- *   used;
+ * - each pointer points to as many bytes as the length beside it says, or to a struct or a number; a pointer with the length
+ *   0 is not used;
  * - no two of the buffers and the struct overlap;
  * - during the call nothing else writes to the buffers or the struct, and nothing else reads a buffer or a struct to which
  *   the call writes;
@@ -18,7 +18,7 @@
  *   as the C standard requires;
  * - no call is made from a signal handler, or in the forked child of a process with threads, since malloc may not be
  *   called there.
- * Calls may run at the same time in any threads, each call with its own buffers and its own struct.
+ * Calls may run at the same time in any threads, each with its own buffers and its own struct.
  */
 #ifndef QRPROVED_H
 #define QRPROVED_H
@@ -57,8 +57,9 @@ extern "C" {
 #define QRPROVED_UTF8 2   /* text: a character shows two modules, one above the other; its filled half is light */
 #define QRPROVED_SVG 3    /* a whole SVG document, in which a module is one unit wide */
 
-/* What each call but qrproved_version returns; the exact causes are beside each call. On every status but 0 the caller's
- * buffer and struct are unchanged. Later versions may add statuses, and do not change the meaning of these. */
+/* What each call but qrproved_version returns; beside each call are its exact causes, in the order in which it checks them.
+ * On every status but 0 the caller's buffer and struct are unchanged. Later versions may add statuses, and do not change the
+ * meaning of these. */
 #define QRPROVED_DONE 0     /* the buffer and the struct are written */
 #define QRPROVED_EMPTY 1    /* the input has no byte */
 #define QRPROVED_TOO_LONG 2 /* the input fits no version from the smallest allowed version on */
@@ -67,8 +68,8 @@ extern "C" {
 #define QRPROVED_SETTINGS 5 /* a number is out of its range, or in qrproved_mend the byte of a module is more than 2 */
 #define QRPROVED_ROOM 6     /* a buffer is too short */
 #define QRPROVED_SIDE 7     /* no version has this side */
-#define QRPROVED_FORMAT 8   /* the format information belongs to no level and mask */
-#define QRPROVED_CHECK 9    /* the error correction codewords of a block do not match its data codewords */
+#define QRPROVED_FORMAT 8   /* the format information belongs to no level and mask, or in qrproved_mend is too damaged */
+#define QRPROVED_CHECK 9    /* a block does not match its error correction codewords, or in qrproved_mend is too damaged */
 #define QRPROVED_SEGMENTS 10 /* the data codewords cannot be parsed */
 
 /* The version, the size and the mask of a symbol that was encoded. */
@@ -157,8 +158,7 @@ QRPROVED_HOLDS(offsetof(struct qrproved_mended, changed_allowed) == 21);
 #define QRPROVED_CALL(pointer)
 #endif
 
-/* Returns the version of the library that was linked, as the number 10000 * major + 100 * minor + patch.
- * QRPROVED_VERSION_NUMBER is the version of this header, in the same form. */
+/* Returns the version of the library that was linked, in the form of QRPROVED_VERSION_NUMBER, which is that of this header. */
 uint32_t qrproved_version(void);
 
 /* Encodes the input as a symbol and writes its modules: modules[row * side + column] is 1 if the module in this row and
@@ -169,7 +169,7 @@ uint32_t qrproved_version(void);
  * rule     QRPROVED_RULE_AUTO to QRPROVED_RULE_WITH_KANJI
  * modules  the buffer for the modules; QRPROVED_SYMBOL_MAX bytes suffice for any symbol
  *
- * Returns one of these statuses. The causes are checked in this order:
+ * Returns the first of these statuses whose cause applies:
  *   SETTINGS  version, level or rule is out of its range
  *   EMPTY     input_len is 0
  *   TOO_LONG  the input fits no version from the smallest allowed version on; more than 7,089 bytes are always TOO_LONG
@@ -189,7 +189,7 @@ uint8_t qrproved_encode(const uint8_t *input, size_t input_len, uint32_t version
  * version  the version of all symbols, from 1 to 40
  * modules  the buffer for the modules; QRPROVED_SERIES_MAX bytes suffice for any series
  *
- * The other arguments are those of qrproved_encode. Returns one of these statuses. The causes are checked in this order:
+ * The other arguments are those of qrproved_encode. Returns the first of these statuses whose cause applies:
  *   SETTINGS  version, level or rule is out of its range
  *   EMPTY     input_len is 0
  *   TOO_MANY  the input takes more than 16 symbols of the version; more than 113,425 bytes are always TOO_MANY
@@ -202,20 +202,19 @@ QRPROVED_CALL(8)
 uint8_t qrproved_encode_series(const uint8_t *input, size_t input_len, uint32_t version, uint32_t level, uint32_t rule,
                                uint8_t *modules, size_t modules_len, struct qrproved_series *series);
 
-/* Reads a symbol. The first buffer contains the modules of the symbol, in the order in which qrproved_encode writes them. Any
- * byte but 0 is a dark module, and bytes after the last module are ignored. The call writes the content of the symbol to the
- * start of the second buffer, and leaves the rest unchanged. It corrects no errors: each codeword has to be as it was drawn.
+/* Reads a symbol. The first buffer contains its modules, in the order in which qrproved_encode writes them. Any byte but 0
+ * is a dark module, and bytes after the last module are ignored. The call writes the content of the symbol to the start of
+ * the second buffer, and leaves the rest unchanged. It corrects no errors: each codeword has to be as it was drawn.
  *
  * side   number of modules on a side: 21, 25, and so on to 177
  * bytes  the buffer for the content; QRPROVED_BYTES_MAX bytes suffice for any symbol
  *
- * The call reads the codewords and the first copy of the format information, which is beside the top left finder pattern.
- * The data codewords have to match the error correction codewords. They are parsed up to the terminator. The call ignores
- * the finder, alignment and timing patterns, the version information, the second copy of the format information, the
- * remainder bits, and the bits after the terminator. So DONE does not mean that a scanner finds the symbol. If
- * qrproved_mend returns DONE and wrong_modules is 0, every module of the square is right.
+ * The call reads the first copy of the format information, which is beside the top left finder pattern, and the codewords; it
+ * parses the data codewords up to the terminator. It ignores the finder, alignment and timing patterns, the version
+ * information, the second copy of the format information, the remainder bits, and the bits after the terminator. So DONE does
+ * not mean that a scanner finds the symbol; qrproved_mend looks at every module.
  *
- * Returns one of these statuses. The causes are checked in this order:
+ * Returns the first of these statuses whose cause applies:
  *   SIDE      no version has this side
  *   ROOM      modules_len is less than side times side
  *   FORMAT    the first copy of the format information belongs to no level and mask
@@ -233,7 +232,7 @@ uint8_t qrproved_read(const uint8_t *modules, size_t modules_len, uint32_t side,
  * the order in which qrproved_encode writes them: 0 is a light module, 1 is a dark module, and 2 is a module that is not
  * known, as under a smudge or a fold, or out of the camera's view. Bytes after the last module are ignored. The call writes
  * the content of the symbol to the start of the second buffer, and leaves the rest unchanged. If all modules are 0 or 1
- * and qrproved_read reads them, this call reads the same content.
+ * and qrproved_read reads them, this call gives the same content.
  *
  * side   number of modules on a side: 21, 25, and so on to 177
  * bytes  the buffer for the content; QRPROVED_BYTES_MAX bytes suffice for any symbol
@@ -246,22 +245,19 @@ uint8_t qrproved_read(const uint8_t *modules, size_t modules_len, uint32_t side,
  * most 13, as with any six wrong modules; and also if one copy costs at most 6, and no other pair that is tried mends it.
  *
  * In each block the call mends at most changed_allowed wrong codewords, which is the number that the standard allows. A
- * codeword with a module that is not known counts half as much as a wrong codeword. In each block, add the number of such
- * codewords to twice the number of wrong codewords among the other codewords: the sum may be at most twice changed_allowed.
- * Finder, timing and alignment patterns, version information and remainder bits may all be wrong, since they contain nothing
- * of the content. But their wrong modules count in wrong_modules.
+ * codeword with a module that is not known counts as half a wrong one: with e such codewords and w other wrong ones, a block
+ * can be mended if e + 2w is at most twice changed_allowed. Finder, timing and alignment patterns, version information and
+ * remainder bits may all be wrong, since they contain nothing of the content, but count in wrong_modules.
  *
- * To check a label before it is sold, require that DONE is returned and wrong_modules is 0. Then the square is, module
- * by module, the symbol that the standard defines for its data codewords in its version, level and mask. To check a
- * label after it was printed, call qrproved_mend with its modules: the label is readable as long as DONE is returned.
- * If all modules are known, changed_most divided by changed_allowed is the share of the error correction that is spent,
- * in the block with the most wrong codewords. Neither check covers what a camera sees: quiet zone, contrast, print
- * growth, distortion and curvature.
+ * If wrong_modules is 0, the square is, module by module, the symbol that the standard defines for its data codewords in its
+ * version, level and mask. If all modules are known, changed_most divided by changed_allowed is the share of the error
+ * correction that is spent, in the block with the most wrong codewords. How labels are checked by these, and what they do
+ * not say of a print, is in docs/LIBRARY.md.
  *
  * Damage beyond these bounds may change a symbol so much that it is within the bounds of another symbol. The call then
  * reads the other symbol, as any reader may.
  *
- * Returns one of these statuses. The causes are checked in this order:
+ * Returns the first of these statuses whose cause applies:
  *   SIDE      no version has this side
  *   ROOM      modules_len is less than side times side
  *   SETTINGS  a byte among the first side times side bytes is more than 2
@@ -277,11 +273,10 @@ QRPROVED_CALL(6)
 uint8_t qrproved_mend(const uint8_t *modules, size_t modules_len, uint32_t side, uint8_t *bytes, size_t bytes_len,
                       struct qrproved_mended *mended);
 
-/* Draws squares of modules, all of one side, and writes the drawing, byte for byte as qrencode draws symbols. As text, the
- * squares are drawn one after the other. As SVG, they are drawn one below the other in one document. The first buffer
- * contains the modules, one square after the other, in the order in which qrproved_encode_series writes them. Any byte but 0
- * is a dark module, and bytes after the last module are ignored. A square need not be a symbol. The call writes no byte 0
- * after the drawing, and leaves the rest of the buffer text unchanged.
+/* Draws squares of modules, all of one side, and writes the drawing, byte for byte as qrencode draws symbols: as text one
+ * after the other, as SVG one below the other in one document. The first buffer contains the modules, in the order in which
+ * qrproved_encode_series writes them. Any byte but 0 is a dark module, and bytes after the last module are ignored. A square
+ * need not be a symbol. The call writes no byte 0 after the drawing, and leaves the rest of the buffer text unchanged.
  *
  * side     number of modules on a side, from 1 to 177
  * count    number of squares, from 1 to QRPROVED_COUNT_MAX
@@ -291,13 +286,13 @@ uint8_t qrproved_mend(const uint8_t *modules, size_t modules_len, uint32_t side,
  * written  set to the length of the drawing on DONE, and on ROOM because of text_len; set to 0 on ROOM because of
  *          modules_len; unchanged otherwise
  *
- * Returns one of these statuses. The causes are checked in this order:
+ * Returns the first of these statuses whose cause applies:
  *   SETTINGS  side, count, drawing or margin is out of its range
  *   ROOM      modules_len is less than count times side times side
  *   ROOM      text_len is less than the length of the drawing
  *   DONE      the call succeeded
  * If memory is refused, the call returns MEMORY in place of any status after the first ROOM: the drawing is made in memory,
- * and is copied when it is complete. On every status but DONE the text is unchanged.
+ * and is copied when it is complete.
  */
 QRPROVED_CALL(9)
 uint8_t qrproved_draw(const uint8_t *modules, size_t modules_len, uint32_t side, uint32_t count, uint32_t drawing,

@@ -1,6 +1,6 @@
 /**
- * The calls of the module, as include/qrproved.h states them. A pointer, a length and a size is a BigInt there, and a struct lies in
- * memory as in C. Before each call the heap is given back, so no block of an earlier call may be used.
+ * The calls of the module, as include/qrproved.h states them. A pointer, a length and a size is a BigInt there, and a struct lies
+ * in memory as in C. Before each call the heap is given back, so no block of an earlier call may be used.
  */
 import { OutOfMemoryError, throwFor } from './errors.js';
 import { base64 } from './module.js';
@@ -11,9 +11,7 @@ function code() {
   return Uint8Array.from(atob(base64), (character) => character.charCodeAt(0));
 }
 
-/**
- * Compiles the module aside, for a browser that refuses to compile it at once, as older ones do: before the first call.
- */
+/** Compiles the module before the first call, without blocking: older browsers refuse to compile it in a call. */
 export async function load() {
   library ??= (await WebAssembly.instantiate(code(), {})).instance.exports;
 }
@@ -81,7 +79,7 @@ export function encodedSeries(input, version, level, rule) {
   });
 }
 
-/** Returns the fields that the structs of a symbol that was read and of one that was mended share, with the bytes. */
+/** Returns what the structs of reading and of mending share, with the bytes. */
 function content(at, bytes, version) {
   const [has, position, last, parity] = [1, 2, 3, 4].map((k) => at.getUint8(version + k));
   const header = has ? { position, last, parity } : null;

@@ -30,7 +30,7 @@ export class OutOfMemoryError extends QRError {
   constructor(message = 'out of memory') { super(message, 4, 'MEMORY'); }
 }
 
-/** A number is out of its range, or a module to mend is more than 2. */
+/** A number is out of its range, a name is not known, symbols to draw have several sides, or a module to mend is more than 2. */
 export class SettingsError extends QRError {
   constructor(message = 'a module is more than 2') { super(message, 5, 'SETTINGS'); }
 }
@@ -50,7 +50,7 @@ export class FormatError extends QRError {
   constructor(message = 'the format information cannot be read') { super(message, 8, 'FORMAT'); }
 }
 
-/** The codewords of a block do not match, or have too much damage to be mended. */
+/** A block does not match its error correction codewords, or is too damaged to be mended. */
 export class CheckError extends QRError {
   constructor(message = 'a block has wrong codewords that are not mended') { super(message, 9, 'CHECK'); }
 }

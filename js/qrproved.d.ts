@@ -1,12 +1,15 @@
-/** QR Code symbols (ISO/IEC 18004:2015, QR Code Model 2) by a proved library: encode, read, mend, draw. */
+/**
+ * QR Code symbols (ISO/IEC 18004:2015, QR Code Model 2) by a proved library: encode, read, mend, draw. A value of a wrong type,
+ * or an option that does not exist, is a TypeError. A call that runs out of memory throws OutOfMemoryError.
+ */
 
 /** The level of error correction, by which about 7, 15, 25 or 30 % of a symbol's codewords can be restored. */
 export type Level = 'L' | 'M' | 'Q' | 'H';
 
 /**
- * The modes that the segments of an input may have. 'auto': numeric, alphanumeric and byte mode, mixed so that the number of bits is
- * least. 'byte': the whole input in byte mode. 'kanji': the modes of 'auto', and kanji mode for pairs of bytes that are Shift JIS
- * characters.
+ * The modes that the segments of an input may have. 'auto': numeric, alphanumeric and byte mode, mixed so that the number of bits
+ * is least. 'byte': the whole input in byte mode. 'kanji': the modes of 'auto', and kanji mode for pairs of bytes that are Shift
+ * JIS characters.
  */
 export type Mode = 'auto' | 'byte' | 'kanji';
 
@@ -22,13 +25,18 @@ export type Input = string | Uint8Array;
 export interface Options {
   /** 'L' unless given; small letters are taken too. */
   level?: Level | Lowercase<Level>;
-  /** The smallest allowed version, from 1 to 40; 1 unless given. In a series the version of all symbols, which has to be given. */
+  /**
+   * The smallest allowed version, from 1 to 40; 1 unless given. In a series the version of all symbols, which has to be given.
+   */
   version?: number;
   /** 'auto' unless given. */
   mode?: Mode;
 }
 
-/** A symbol. */
+/**
+ * A symbol that encode or encodeSeries made. A margin is from 0 to 100 modules: 4 unless given, which a scanner needs. Each
+ * drawing throws SettingsError if a value is out of its range.
+ */
 export class QRSymbol {
   private constructor();
   /** From 1 to 40. */
@@ -40,13 +48,17 @@ export class QRSymbol {
   readonly level: Level;
   /** side * side bytes, row by row from the top left, without a margin: 1 is dark, 0 is light. */
   readonly modules: Uint8Array;
-  /** Returns whether a module is dark; both numbers are from 0 to side - 1, from the top left. */
+  /**
+   * Returns whether a module is dark; both numbers are from 0 to side - 1, from the top left. Throws SettingsError for others.
+   */
   dark(row: number, column: number): boolean;
-  /** Returns an SVG document, in which a module is one unit wide. The margin is in modules: 4 unless given, which a scanner needs. */
+  /** Returns an SVG document, in which a module is one unit wide. */
   svg(options?: { margin?: number }): string;
   /** Returns a drawing as text, of type 'UTF8' unless given. */
   text(options?: { margin?: number; type?: Drawing }): string;
-  /** Returns a PNG image of one bit a pixel. `scale` is the number of pixels of a module on a side, from 1 to 100: 8 unless given. */
+  /**
+   * Returns a PNG image of one bit a pixel. `scale` is the number of pixels of a module on a side, from 1 to 100: 8 unless given.
+   */
   png(options?: { scale?: number; margin?: number }): Uint8Array;
   /** Returns a URL that contains the image, a PNG unless the type is 'svg'. */
   dataURL(options?: { type?: 'png' | 'svg'; scale?: number; margin?: number }): string;
@@ -96,36 +108,42 @@ export class Mended extends Content {
 }
 
 /**
- * Returns the symbol of an input, of the least version from `version` on that it fits. Throws EmptyError, TooLongError,
- * SettingsError if a value is out of its range, and OutOfMemoryError.
+ * Returns the symbol of an input, of the least version from `version` on that it fits. Throws EmptyError if the input has no byte,
+ * TooLongError if it fits none of these versions, and SettingsError if a value is out of its range.
  */
 export function encode(input: Input, options?: Options): QRSymbol;
 
 /**
- * Returns the symbols of a series (structured append), all of one version: from 1 to 16. An input that fits one symbol is one plain
- * symbol. Throws as encode does, with TooManyError in place of TooLongError.
+ * Returns the symbols of a series (structured append), all of one version: from 1 to 16. An input that fits one symbol is one
+ * plain symbol. Throws as encode does, but TooManyError in place of TooLongError, if the input takes more than 16 symbols.
  */
 export function encodeSeries(input: Input, options: Options & { version: number }): QRSymbol[];
 
 /**
  * Returns what a symbol contains, whose modules are given row by row: 0 is light, any other byte is dark. Corrects no errors.
- * Throws SideError, FormatError, CheckError, SegmentsError, and OutOfMemoryError.
+ * Throws SideError if no version has so many modules, FormatError if the first copy of the format information belongs to no level
+ * and mask, CheckError if a block does not match its error correction codewords, and SegmentsError if the data codewords cannot
+ * be parsed.
  */
 export function read(square: QRSymbol | Uint8Array): Content;
 
 /**
- * Returns what a damaged symbol contains, and its damage. A module is 0 for light, 1 for dark, and 2 if it is not known, which
- * spends half as much of the correction. Throws as read does, and SettingsError for another module.
+ * Returns what a damaged symbol contains, and its damage. A module is 0 for light, 1 for dark, and 2 if it is not known: its
+ * codeword spends half as much of the correction as a wrong one. Throws as read does, but FormatError and CheckError only if
+ * there is more damage than can be mended; and SettingsError for another module.
  */
 export function mend(square: QRSymbol | Uint8Array): Mended;
 
 /**
  * Returns the drawing of symbols of one side, at most 16, byte for byte as the command `qrencode` draws them: texts one after the
- * other, or one document with one below the other. The type is 'UTF8' and the margin 4 unless given.
+ * other, or one document with one below the other. The type is 'UTF8' and the margin 4 unless given. Throws SettingsError if
+ * there are none or more than 16, if their sides differ, or if a value is out of its range.
  */
 export function draw(symbols: QRSymbol | QRSymbol[], options?: { type?: Drawing; margin?: number }): string;
 
-/** Compiles the module aside, before the first call. Only browsers that refuse to compile it at the first call need it: older ones. */
+/**
+ * Compiles the module before the first call, without blocking. Only older browsers need it: they refuse to compile it in a call.
+ */
 export function load(): Promise<void>;
 
 /** A refusal of the library. */
@@ -141,6 +159,7 @@ export class TooLongError extends QRError {}
 export class TooManyError extends QRError {}
 export class OutOfMemoryError extends QRError {}
 export class SettingsError extends QRError {}
+/** A buffer is too short, which no call of this package meets. */
 export class RoomError extends QRError {}
 export class SideError extends QRError {}
 export class FormatError extends QRError {}

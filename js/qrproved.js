@@ -19,7 +19,7 @@ const SIDE_MAX = 177;
 const COUNT_MAX = 16;
 const SCALE_MAX = 100;
 
-/** Returns the options, each given or its default. An option of another name would do nothing, and so is refused. */
+/** Returns each option as it is given, or its default. An option of another name would do nothing, and so is refused. */
 function chosen(given, defaults) {
   if (given === null || typeof given !== 'object') throw new TypeError(`options are an object, as in { ${Object.keys(defaults)[0]}: … }`);
   for (const name of Object.keys(given)) {
@@ -58,7 +58,6 @@ function settings({ level, version, mode }) {
   return [whole('version', version, 1, 40), named('level', level, LEVELS), named('mode', mode, MODES)];
 }
 
-/** A symbol. */
 export class QRSymbol {
   constructor({ version, side, mask, level, modules }) {
     Object.assign(this, { version, side, mask, level, modules });
@@ -94,7 +93,6 @@ export class QRSymbol {
   }
 }
 
-/** What a symbol contains. */
 export class Content {
   constructor({ bytes, version, header }) {
     Object.assign(this, { bytes, version, header });
@@ -105,7 +103,6 @@ export class Content {
   }
 }
 
-/** What a damaged symbol contains, and its damage. */
 export class Mended extends Content {
   constructor({ level, mask, wrongModules, wrongFormatModules, changedMost, changedAllowed, ...content }) {
     super(content);

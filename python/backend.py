@@ -17,7 +17,7 @@ from pathlib import Path
 HERE = Path(__file__).resolve().parent
 BUILT = HERE.parent / "crates/qrproved/out/lib/libqrproved.so.0"
 IN_PACKAGE = "qrproved/libqrproved.so.0"
-# The machines that are known, and the oldest version of the C library that a wheel of each can ask for.
+# The machines, and the oldest version of the C library that a wheel of each can ask for.
 MACHINES = {"Advanced Micro Devices X86-64": ("x86_64", (2, 5)), "AArch64": ("aarch64", (2, 17))}
 DATE = (1980, 1, 1, 0, 0, 0)  # of all files, so that a wheel is the same wherever it is made
 
@@ -76,7 +76,7 @@ def make(library, folder):
 
 
 def build_wheel(wheel_directory, config_settings=None, metadata_directory=None):
-    """Makes the wheel for a builder of packages."""
+    """Makes the wheel for pip, and returns its name."""
     return make(Path(os.environ.get("QRPROVED_LIBRARY") or BUILT), Path(wheel_directory))
 
 

@@ -1,5 +1,5 @@
-"""What the scripts beside this one read of the sources: the definitions of crates/*/specs, the functions of
-crates/*/src with their contracts, the wrong bodies of crates/*/must-fail and crates/*/wrong, and the documents."""
+"""What the scripts beside this one read: the definitions of crates/*/specs, the functions of crates/*/src with their
+contracts, the wrong bodies of crates/*/must-fail and crates/*/wrong, and the key words of tools/key_words.txt."""
 import pathlib
 import re
 import sys
@@ -52,7 +52,8 @@ def doc_above(lines, i):
 
 
 def read_functions(crate, path, functions):
-    """Adds a file's functions, and its types with ghost members: what they cite, and what they promise by it."""
+    """Adds a file's functions, and its types with ghost members: what their contracts cite, and what of it stands outside of
+    `requires` ("keeps")."""
     text = path.read_text("utf-8").split("#[cfg(test)]")[0]
     names, lines, owner, of_trait, ghost = imported(text), text.split("\n"), None, False, {}
 
@@ -98,7 +99,7 @@ def read_edits(crate, edits):
 
 
 def read_key_words(definitions):
-    """The key words of each definition's name; a name that no definition has is an error."""
+    """Returns the key words of each definition's name; a name that no definition has ends the program."""
     found, names = {}, {key[2] for key in definitions}
     for line in (TOP / "tools" / "key_words.txt").read_text("utf-8").split("\n"):
         words, _, given = line.partition(": ")
@@ -110,7 +111,7 @@ def read_key_words(definitions):
 
 
 def section_order(where):
-    """Clauses by their numbers, then annexes by their letters."""
+    """Returns what sections are sorted by: clauses by their numbers, then annexes by their letters."""
     clause, annex = re.match(r"[\d.]+", where), re.match(r"Annex(?:es)? (\w)", where)
     return ([int(n) for n in clause.group(0).split(".")] if clause else [99, ord(annex.group(1))], where)
 
@@ -142,12 +143,12 @@ def needed(cites, definitions):
 
 
 def public_contracts(functions):
-    """The public functions, and those of traits, whose contracts promise something of the code. Laws say what the definitions imply."""
+    """Returns the public functions and those of traits, but no laws, which promise nothing of the code."""
     return [f for f in functions if (f["hidden"] == 0 or f["of_trait"]) and not f["law"]]
 
 
 def outside_steps(definitions):
-    """All definitions but those of private steps: no public contract rests on them, only what a type promises of its fields."""
+    """Returns all definitions but those of private steps."""
     return {key: it for key, it in definitions.items() if not key[1].startswith("Steps")}
 
 

@@ -162,7 +162,7 @@ test('drawings', () => {
   assert.deepEqual(Buffer.from(symbol.dataURL().split(',')[1], 'base64'), Buffer.from(symbol.png()));
 });
 
-/** Returns the chunks of a PNG image, whose checks are compared with zlib's. */
+/** Returns the chunks of a PNG image, whose checks are computed once more, bit by bit. */
 function chunks(png) {
   const view = new DataView(png.buffer, png.byteOffset), found = [];
   assert.deepEqual([...png.slice(0, 8)], [137, 80, 78, 71, 13, 10, 26, 10]);

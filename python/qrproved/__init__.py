@@ -1,12 +1,12 @@
 """QR Code symbols (ISO/IEC 18004:2015, QR Code Model 2) by the library libqrproved.
 
-encode and encode_series encode a text or bytes as a symbol or as a series of symbols. A Symbol is drawn by its methods: as
-PNG, as SVG or as text. read reads a symbol that is as it was drawn; mend reads a damaged one, and says how damaged it is.
+encode returns the symbol of a text or of bytes, encode_series the symbols of a series. A Symbol is drawn by its methods as PNG,
+as SVG or as text. read reads a symbol that is as it was drawn; mend reads a damaged one, and says how damaged it is.
 parse_drawing finds the modules of a drawing. Modules are bytes, row by row from the top left, without the quiet zone of four
 light modules that a drawing needs on each side.
 
-Each refusal is an exception of the class Error. A number that is out of range is refused, and one that is no integer, as a
-bool or a float, is a TypeError. Calls may run side by side in any number of threads.
+Each refusal is an exception of the class Error, also where a number is out of range or a name is not known. A number that is no
+integer, as a bool or a float, is a TypeError. Calls may run side by side in any number of threads.
 """
 from __future__ import annotations
 
@@ -133,7 +133,8 @@ class Symbol:
         return draw([self], drawing=drawing, margin=margin).decode()
 
     def save(self, path: Union[str, os.PathLike[str]], *wrong: NoReturn, scale: int = 8, margin: int = 4) -> None:
-        """Writes the drawing to a file whose name ends in .png, .svg or .txt. `scale` is that of a PNG picture alone."""
+        """Writes the drawing to a file whose name ends in .png, .svg or .txt; `scale` is that of a PNG picture alone. Raises as
+        png and draw do, and SettingsError for another ending."""
         _no_more("save", "path, ", wrong, "scale", "margin")
         suffix = os.path.splitext(os.fspath(path))[1].lower()
         drawing = self._drawn(suffix, scale, margin)
@@ -141,7 +142,8 @@ class Symbol:
             file.write(drawing)
 
     def data_uri(self, *wrong: NoReturn, kind: str = "png", scale: int = 8, margin: int = 4) -> str:
-        """Returns the drawing as a URI that holds it, as for the attribute src of an image: `kind` is 'png' or 'svg'."""
+        """Returns the drawing as a URI that holds it, as for the attribute src of an image: `kind` is 'png' or 'svg'. Raises as
+        png and draw do, and SettingsError for another kind."""
         _no_more("data_uri", "", wrong, "kind", "scale", "margin")
         if kind not in ("png", "svg"):
             raise SettingsError(f"kind is 'png' or 'svg', and not {kind!r}")
@@ -203,7 +205,7 @@ class Mended:
     wrong_format_modules: int
     """Of the 30 modules of format information, those that are wrong or not known."""
     changed_most: int
-    """The most codewords that were changed in a block, beside those with a module that is not known."""
+    """The most codewords that were changed in a block, without those with a module that is not known."""
     changed_allowed: int
     """How many codewords may be changed in each block, from 2 to 15."""
 
@@ -214,8 +216,8 @@ class Mended:
 
     @property
     def spent(self) -> float:
-        """The share of the correction that the block with the most wrong codewords has spent, from 0.0 to 1.0. Codewords with
-        a module that is not known are not counted."""
+        """The share of the correction that the block with the most wrong codewords has spent, from 0.0 to 1.0, without codewords
+        with a module that is not known."""
         return self.changed_most / self.changed_allowed
 
 
@@ -305,8 +307,8 @@ def encode(data: Input, *wrong: NoReturn, version: int = 1, level: Name = Level.
     level    a Level, its name ('Q' or 'q') or its number
     rule     a Rule, its name ('bytes_only') or its number
 
-    Raises SettingsError if a number is out of range, EmptyError, TooLongError if no version from there on holds the bytes,
-    and OutOfMemoryError.
+    Raises SettingsError if a number is out of range or a name is not known, EmptyError if there is no byte, TooLongError if no
+    version from `version` on holds the bytes, and OutOfMemoryError.
     """
     _no_more("encode", "data, ", wrong, "version", "level", "rule")
     settings, given = _settings(version, level, rule), _input(data)
@@ -318,8 +320,9 @@ def encode(data: Input, *wrong: NoReturn, version: int = 1, level: Name = Level.
 def encode_series(data: Input, *wrong: NoReturn, version: Optional[int] = None, level: Name = Level.L, rule: Name = Rule.AUTO) -> list[Symbol]:
     """Returns the symbols of the series of a text or of some bytes, all of `version`, from 1 to COUNT_MAX of them.
 
-    Bytes that fit one symbol are one plain symbol. The rest is as for encode; TooManyError is raised where encode raises
-    TooLongError: if the bytes take more than COUNT_MAX symbols.
+    Bytes that fit one symbol are one plain symbol. The arguments are those of encode, but `version` has to be given: without it
+    a TypeError is raised. Raises as encode does, but in place of TooLongError TooManyError, if the bytes take more than
+    COUNT_MAX symbols.
     """
     _no_more("encode_series", "data, ", wrong, "version", "level", "rule")
     if version is None:
@@ -339,7 +342,9 @@ def read(modules: Union[Symbol, Bytes], side: Optional[int] = None) -> Content:
     modules  side * side bytes, row by row: 0 is light, all others are dark; bytes past the last module are ignored
     side     modules on a side: 21, 25, and so on to SIDE_MAX; a Symbol has its own
 
-    Raises SideError, RoomError if there are too few modules, FormatError, CheckError, SegmentsError, and OutOfMemoryError.
+    Raises SideError if no version has the side, RoomError if there are too few modules, FormatError if the first copy of the
+    format information belongs to no level and mask, CheckError if a block does not match its error correction codewords,
+    SegmentsError if the data codewords cannot be parsed, and OutOfMemoryError.
 
     The finder, timing and alignment patterns and the version information are not checked, so a symbol that is read here
     may not scan. mend checks each module.
@@ -361,8 +366,9 @@ def mend(modules: Union[Symbol, Bytes], side: Optional[int] = None) -> Mended:
     the correction as a wrong one. Of the 30 modules of format information any six may be wrong, or 13 not known: the number not
     known and twice the number of wrong ones are at most 13. No other module has to be right.
 
-    Raises SideError, RoomError if there are too few modules, SettingsError if one is more than 2, FormatError if both
-    copies of the format information are too damaged, CheckError if a block is, SegmentsError, and OutOfMemoryError.
+    Raises SideError if no version has the side, RoomError if there are too few modules, SettingsError if one is more than 2,
+    FormatError if both copies of the format information are too damaged, CheckError if a block is, SegmentsError if the data
+    codewords cannot be parsed, and OutOfMemoryError.
     """
     square, checked = _square(modules, side)
     given = _copied(square)
@@ -379,8 +385,8 @@ def draw(symbols: Sequence[Symbol], *wrong: NoReturn, drawing: Name = Drawing.UT
     drawing  a Drawing, its name ('svg') or its number
     margin   light modules on each side of each symbol, from 0 to MARGIN_MAX; a scanner needs 4
 
-    Raises SettingsError if a number is out of range or the sides are not the same, RoomError if a symbol has too few modules,
-    and OutOfMemoryError.
+    Raises SettingsError if a number is out of range, a name is not known or the sides are not the same, RoomError if a symbol
+    has too few modules, and OutOfMemoryError.
     """
     _no_more("draw", "symbols, ", wrong, "drawing", "margin")
     kind, light, listed = _named("drawing", Drawing, drawing), _setting("margin", margin, 0, MARGIN_MAX), list(symbols)

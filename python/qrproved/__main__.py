@@ -22,7 +22,7 @@ def say(text: str) -> None:
 
 
 def batch(given: argparse.Namespace, settings: Settings) -> int:
-    """Writes a file for each line of a file that is not empty."""
+    """Writes a symbol for each line that is not empty."""
     source = sys.stdin.buffer if given.batch == "-" else open(given.batch, "rb")
     with source:
         lines = [line.rstrip(b"\r") for line in source.read().split(b"\n")]
@@ -47,7 +47,7 @@ def batch(given: argparse.Namespace, settings: Settings) -> int:
 
 
 def one(given: argparse.Namespace, settings: Settings) -> int:
-    """Writes the drawing of a text, or of what standard input has."""
+    """Writes the symbol of the text, or of what standard input has."""
     data = sys.stdin.buffer.read() if given.text is None else os.fsencode(given.text)
     drawing = settings.drawn(data)
     if given.output is None or given.output == "-":
@@ -62,7 +62,7 @@ def one(given: argparse.Namespace, settings: Settings) -> int:
 
 
 def verdict(modules: bytes, side: int) -> int:
-    """Prints what a symbol contains and how much of its correction is spent."""
+    """Prints what a symbol contains and how much of its correction is spent, and returns the status."""
     try:
         it = qrproved.mend(modules, side)
     except Error as fault:
@@ -85,7 +85,7 @@ def verdict(modules: bytes, side: int) -> int:
 
 
 def check(words: list[str]) -> int:
-    """Checks the symbols of a drawing as text. The status is 0 if each is sound, 1 if each can be read, and 2 otherwise."""
+    """Checks the symbols of a drawing as text, and returns the status."""
     parser = argparse.ArgumentParser(prog=f"{PROGRAM} check", description="Checks the symbols of a drawing in ASCII or in UTF8. The"
                                      " status is 0 if each is sound, 1 if each can be read, and 2 otherwise.")
     parser.add_argument("file", nargs="?", default="-", help="a text file with the drawing; without it, standard input")
@@ -101,7 +101,7 @@ def check(words: list[str]) -> int:
 
 
 def parsed(words: list[str]) -> argparse.Namespace:
-    """Returns the arguments; ends the program if they are none."""
+    """Returns the arguments, or ends the program with their fault."""
     parser = argparse.ArgumentParser(
         prog=PROGRAM, description="Writes the QR Code symbol of a text as PNG, as SVG or as text.",
         epilog=f"'{PROGRAM} check [FILE]' checks a drawing. To encode a text that begins with a hyphen, or the text 'check', write"

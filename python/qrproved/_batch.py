@@ -12,7 +12,7 @@ import qrproved
 from qrproved import Drawing, Error
 
 DRAWINGS = {"utf8": Drawing.UTF8, "ascii": Drawing.ASCII, "asciii": Drawing.ASCII_INVERSE, "svg": Drawing.SVG}
-# A pool of processes takes a tenth of a second to start, and then each process takes so many labels at once.
+# FEW labels are written without a pool of processes, which takes a tenth of a second to start. A process takes PART at once.
 FEW, PART = 3000, 500
 NAME_MAX = 80
 
@@ -43,7 +43,7 @@ class Part(NamedTuple):
 
 
 def write(part: Part) -> tuple[int, list[str]]:
-    """Writes the labels of a part, and returns how many there were and why some could not be written."""
+    """Writes the labels of a part; returns how many there were, and why some could not be written."""
     faults = []
     for number, path, data in part.labels:
         try:
@@ -84,7 +84,7 @@ def labels_of(lines: list[bytes], folder: str, suffix: str, by_text: bool) -> li
 
 
 def written(parts: list[Part], workers: int) -> Iterator[tuple[int, list[str]]]:
-    """Writes all parts, by a pool of processes if there are many."""
+    """Writes all parts, by a pool of processes if there are many, and yields what `write` returns of each."""
     if workers > 1 and len(parts) * PART > FEW:
         try:
             # Not a fork: no call of the library may be made in the child of a process with threads.

@@ -14,7 +14,7 @@ Grid = list  # of rows of bools
 
 
 def _grid(text: str) -> Grid:
-    """Returns the rows of a text's modules, True for ink: all of one length."""
+    """Returns the rows of a text's modules, all of one length; True is ink."""
     lines = textwrap.dedent(text.replace("\r\n", "\n").replace("\ufeff", "")).split("\n")
     lines = [line.rstrip(" ") for line in lines]
     while lines and not lines[0]:
@@ -38,8 +38,8 @@ def _grid(text: str) -> Grid:
 
 
 def _cut(grid: Grid) -> list[tuple[int, int, int]]:
-    """Returns the least rectangle with all dark modules, cut into squares of one size with a gap of one height between them:
-    each way to do so, as a side, a count and a gap."""
+    """Returns each way to cut a grid into squares that are as wide as it, with gaps of one height between them: as a side, a
+    count and a gap."""
     side, height = len(grid[0]), len(grid)
     if side not in SIDES:
         return []
@@ -52,7 +52,7 @@ def _cut(grid: Grid) -> list[tuple[int, int, int]]:
 
 
 def _strangers(rows: Grid) -> int:
-    """Counts the modules of the three finder patterns that are of another colour."""
+    """Counts the wrong modules of the three finder patterns."""
     last = len(rows) - 7
     return sum(rows[top + y][left + x] != (FINDER[y][x] == "1")
                for top, left in ((0, 0), (0, last), (last, 0)) for y in range(7) for x in range(7))
@@ -73,8 +73,8 @@ def parse_drawing(text: str) -> list[tuple[bytes, int]]:
     text  of '##' and two spaces, either of them dark, or of half blocks. Spaces at the end of a line may be missing, and the
           whole drawing may be indented.
 
-    Raises ValueError if it is of other characters, or has no square of a symbol: the first and the last row and column of a
-    symbol each need a dark module.
+    Raises ValueError if it is empty, has other characters or a module of two that differ, or has no square of a symbol: the
+    first and the last row and column of a symbol each need a dark module.
     """
     grid, found = _grid(text), []
     for is_inverse in (False, True):

@@ -43,7 +43,7 @@ class OutOfMemoryError(Error, MemoryError):
 
 
 class SettingsError(Error, ValueError):
-    """A number is out of range, or a module to mend is more than 2."""
+    """A number is out of range, a name is not known, symbols to draw have several sides, or a module to mend is more than 2."""
 
     status = 5
     text = "a module is more than 2"
@@ -71,7 +71,7 @@ class FormatError(Error, ValueError):
 
 
 class CheckError(Error, ValueError):
-    """A block's error correction codewords are not its own, or a block is too damaged to be mended."""
+    """A block does not match its error correction codewords, or is too damaged to be mended."""
 
     status = 9
     text = "a block has wrong codewords that are not mended"

@@ -37,8 +37,7 @@ class Mended(ctypes.Structure):
                 ("wrong_format_modules", c_uint8), ("changed_most", c_uint8), ("changed_allowed", c_uint8)]
 
 
-# A setting is a version, a level, a rule, a side or another number of 32 bits. Python would cut a larger one, so callers
-# check it first.
+# A version, a level, a rule, a side or another number of 32 bits. ctypes cuts a larger one, so callers check it first.
 SETTING = c_uint32
 BYTES = [ctypes.c_char_p, c_size_t]
 BUFFER = [c_void_p, c_size_t]
@@ -52,7 +51,8 @@ PARAMETERS = {
 
 
 def path_of_library() -> str:
-    """Returns the path in the environment variable, that beside the package, or what the system finds."""
+    """Returns the path in the environment variable, that beside the package, or what the system finds. Raises ImportError if
+    there is none."""
     wanted = os.environ.get(VARIABLE)
     if wanted:
         return wanted

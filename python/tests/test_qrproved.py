@@ -158,7 +158,7 @@ class Calls(unittest.TestCase):
 
     def test_modules_that_are_not_known(self):
         modules = bytearray(EIGHT_DIGITS)
-        for row in range(9, 21):  # six codewords, of which eight can be mended
+        for row in range(9, 21):  # six codewords; eight can be mended
             modules[row * 21 + 18] = modules[row * 21 + 20] = 2
         mended = qrproved.mend(modules, 21)
         self.assertEqual(mended, qrproved.Mended(qrproved.Content(b"01234567", 1, None), Level.M, 0, 24, 0, 0, 4))

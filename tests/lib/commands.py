@@ -10,7 +10,7 @@ def number(*parts):
 
 
 def data_of(k):
-    """Returns the input of a command: digits, capitals, any bytes or pairs of kanji, or some of each."""
+    """Returns the input of a command: digits, capitals, any bytes or kanji pairs, or some of each."""
     made = b""
     while len(made) < number("length", k) % (2500 if k % 5 == 0 else 200):
         part, length = number("part", k, len(made)) % 4, 1 + number("run", k, len(made)) % 30

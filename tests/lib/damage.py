@@ -107,7 +107,7 @@ def to_word(square, version, copy, word):
 
 
 class Case:
-    """A symbol of the library, and squares with damage, each with what is wanted of it."""
+    """A symbol of a version and a level, with each kind of damage."""
 
     def __init__(self, library, version, level):
         self.version, self.level, self.side = version, level, squares.side_of(version)
@@ -189,7 +189,6 @@ class Case:
         return self.damaged(wrong + more, len(wrong) + len(more), 0)
 
     def six_of_the_format(self):
-        """Any six modules of both copies are wrong, and the codewords of each block to the bound."""
         return self.damaged(self.codewords_wrong() + self.numbers.some(self.first + self.second, 6), 6, self.bound)
 
     def format_not_known(self):
@@ -261,25 +260,20 @@ class Case:
         return unread(self.square, places), {**self.wanted, "wrong_modules": 21, "wrong_format_modules": 21}
 
     def outside_not_known(self):
-        """No function pattern, no version information and no remainder bit is known."""
         places = sum(self.outside.values(), [])
         return unread(self.square, places), {**self.wanted, "wrong_modules": len(places)}
 
     def no_format(self):
-        """Both copies are near to no word."""
         return inverted(self.square, to_word(self.square, self.version, 0, far_word(self.numbers))
                         + to_word(self.square, self.version, 1, far_word(self.numbers))), "FORMAT"
 
     def outside_alone(self, name):
-        """All of the function patterns, of the version information or of the remainder bits are wrong, and nothing else."""
         return self.damaged(self.outside[name], 0, 0) if self.outside[name] else None
 
     def one_outside(self):
-        """One module outside the codewords and the format information is wrong."""
         return self.damaged([self.numbers.one(sum(self.outside.values(), []))], 0, 0)
 
     def one_codeword(self):
-        """One module of one codeword is wrong."""
         return self.damaged([self.numbers.one(layout(self.version).region)], 0, 1)
 
     def kinds(self):

@@ -88,8 +88,8 @@ class Edit:
 
 
 def clash(one, other):
-    """Returns whether two wrong bodies touch one function. A caller may go with what it calls: it is proved over that contract, and the
-    prover says of a callee that it is not proved."""
+    """Returns whether two wrong bodies touch one function. A caller may go with what it calls: it is proved over that contract,
+    and the prover says of a callee that it is not proved."""
     return not set(one.touched).isdisjoint(other.touched)
 
 
@@ -100,8 +100,8 @@ def clash_or_call(one, other):
 
 
 def groups_of(edits, apart=clash):
-    """Puts wrong bodies in few groups without two that are to be apart, first those that clash with most. Returns also those that go
-    alone."""
+    """Returns wrong bodies in few groups without two that are to be apart, made from those that clash with most, and those that
+    go alone."""
     alone = [it for it in edits if it.is_wide or not it.touched]
     left = [it for it in edits if it not in alone]
     clashes = {it: sum(apart(it, other) for other in left if other is not it) for it in left}

@@ -93,7 +93,8 @@ class Items:
         self.reached = {}
 
     def named_by(self, item):
-        """Returns what the body of an item may call or name, or its proof cites: a method is that of each type that has one of its name."""
+        """Returns what the body of an item may call or name, or its proof cites: a method is that of each type that has one of
+        its name."""
         body, found = item.body(), []
         for before, word in WORD.findall(body):
             of = before.rstrip(":").split("::")[0]
@@ -127,7 +128,7 @@ class Items:
         return os.path.dirname(path)[len("proofs/"):] in self.places
 
     def is_in_lemmas(self, name):
-        """Returns whether a definition or a lemma has this name in it, so that a change of what it names bears on more than bodies."""
+        """Returns whether a definition or a lemma names this, so that a change of it bears on more than bodies."""
         texts = [*self.texts["specs"].items(), *(it for it in self.texts["proofs"].items() if not self.is_of_function(it[0]))]
         return any(re.search(rf"\b{name}\b", text) for _, text in texts)
 

@@ -41,8 +41,8 @@ class Repository:
         return os.path.exists(f"{self.rlib(name)}/format")
 
     def is_left_by_ci(self, name):
-        """Returns whether the library is the one that `rt ci` left in the last run of tests/all, which wrote out/proved_by_ci as that began,
-        and no file of its crate is newer. (`rt check` leaves a stamp beside a library, and its own are those of which it knows.)"""
+        """Returns whether the library is the one that `rt ci` left in the last run of tests/all, and no file of its crate is
+        newer: out/proved_by_ci is as old as the start of that. (A library that `rt check` made has a stamp beside it.)"""
         begun = f"{self.top}/out/proved_by_ci"
         if not self.is_built(name) or not os.path.exists(begun) or os.path.exists(f"{self.folder(name)}/out/rlib/stamp"):
             return False

@@ -37,7 +37,7 @@ def said(*words, given=b"", env=None):
 
 
 def built(name, room):
-    """Builds the library by a compiler, unless it is built, copies it into a folder of `room`, and returns the folder; or None."""
+    """Builds the library by a compiler, copies it into a folder of `room`, and returns the folder; or None."""
     out = f"{room}/{'llvm' if name == 'LLVM' else 'rattle'}"
     made = subprocess.run(["make", "-s", "-C", TOP, "lib", *BUILDS[name]], capture_output=True, timeout=LONG)
     check(f"{name}: make lib", (made.returncode, made.stderr[-300:] if made.returncode else b""), (0, b""))

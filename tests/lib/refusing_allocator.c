@@ -1,6 +1,5 @@
 /* An allocator that refuses one growth of memory, whose number from 1 the variable REFUSED_GROWTH has, and then writes one
-   byte to the descriptor whose number REFUSAL_TOLD_TO has. tests/lib/growths.py has it loaded before a program (LD_PRELOAD);
-   it is linked into nothing. */
+   byte to the descriptor whose number REFUSAL_TOLD_TO has. tests/lib/growths.py has it loaded before a program (LD_PRELOAD). */
 #define _GNU_SOURCE
 #include <dlfcn.h>
 #include <errno.h>

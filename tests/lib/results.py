@@ -24,8 +24,8 @@ def kit_sum(scripts):
 
 
 def ground_of(repository, kit, name):
-    """Returns a sum of all that a verdict on a crate rests on but for the wrong body: the kit, the crate's line in crates.txt and its
-    files, and the libraries below it as they are built (the file `format` of such a library holds a sum of its files)."""
+    """Returns a sum of all that a verdict on a crate rests on but for the wrong body: the kit, the crate's line in crates.txt and
+    its files, and the libraries below it as they are built (the file `format` of such a library holds a sum of its files)."""
     made = hashlib.sha256(repr((kit, name, repository.uses[name], name in repository.static)).encode())
     for file in [*repository.files(name), *(f"{repository.rlib(it)}/format" for it in repository.below(name))]:
         with open(file, "rb") as it:

@@ -38,7 +38,7 @@ def declared():
 
 
 def of_rust_header(header):
-    """Compares the crate's declarations with those of the header. That the version is told is of no use to the crate."""
+    """Compares the crate's declarations with those of the header, of which it does not use qrproved_version."""
     calls, structs = declared()
     check("rust: the calls are the header's", calls, {name: it for name, it in header[0].items() if name != "qrproved_version"})
     check("rust: the structs are the header's", structs, header[1])

@@ -83,8 +83,6 @@ def side_of(version):
 # ---- the places of a square
 
 class Layout:
-    """What each module of a version's squares holds."""
-
     def __init__(self, version):
         self.version, self.side = version, side_of(version)
         side = self.side
@@ -341,7 +339,7 @@ def erased_in(square, version):
 
 
 def mended_codewords(square, version, level, mask, erased=frozenset()):
-    """Returns the codewords of a square with each block mended, and how many were wrong in each beside the erased ones; or
+    """Returns the codewords of a square with each block mended, and how many were wrong in each without the erased ones; or
     None."""
     received = codewords_of(square, version, mask)
     result, changed = bytearray(received), []

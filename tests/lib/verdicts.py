@@ -72,7 +72,8 @@ def names_of(crate, item, verdicts):
 
 
 def goals_refused(item, said):
-    """Returns the lines that refuse goals of a function: errors in its proof, or notes in its own lines that something is not proved."""
+    """Returns the lines that refuse goals of a function: errors in its proof, or notes in its lines that something is not
+    proved."""
     found = []
     for line in said.lines:
         if RESTS.search(line):

@@ -1,7 +1,8 @@
 /**
- * Calls the WebAssembly module for tests/lib/modules.py: node wasm_calls.mjs MODULE [PAGES], with at most so many pages of memory. A
- * request is the length of its head in four bytes, its head in JSON, and the bytes for the call; the reply is the status and the
- * bytes of each buffer that the call may write to. Status 255: the call wrote past a buffer; 254: there is no room for the buffers.
+ * Calls the WebAssembly module for tests/lib/modules.py: node wasm_calls.mjs MODULE [PAGES], with at most so many pages of
+ * memory. A request is the length of its head in four bytes, its head in JSON, and the bytes for the call; the reply is the
+ * status and the bytes of each buffer that the call may write to. Status 255: the call wrote past a buffer; 254: there is no room
+ * for the buffers.
  */
 import fs from 'node:fs';
 import { limited } from './wasm_memory.mjs';

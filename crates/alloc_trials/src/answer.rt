@@ -15,7 +15,7 @@ pub enum Answer {
 }
 
 impl Answer {
-    /// Returns `Ordinary` if the call returned what it should, and otherwise `Other`.
+    /// The answer of a call that was refused no memory.
     pub fn of(is_worked: bool) -> Answer {
         if is_worked {
             Answer::Ordinary
@@ -24,12 +24,12 @@ impl Answer {
         }
     }
 
-    /// Returns this result if the arguments are unchanged, and otherwise `Changed`.
+    /// Changed arguments count more than any result.
     pub fn given(self, is_same: bool) -> Answer {
         if is_same { self } else { Answer::Changed }
     }
 
-    /// Returns what is printed.
+    /// What is printed after the name of the trial.
     pub fn text(self) -> &'static str {
         match self {
             Answer::Ordinary => "as worked out, arguments unchanged",

@@ -33,7 +33,7 @@ fn line(alloc: Global, words: &[&str]) -> Result<Vec<String>, AllocError> {
     Ok(list)
 }
 
-// Whether `list` is still what `line` made.
+// Whether the arguments after the program's name are still `words`.
 fn are(list: &[String], words: &[&str]) -> bool {
     list.iter()
         .skip(1)

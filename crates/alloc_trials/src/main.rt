@@ -2,7 +2,8 @@
 //! the result. The argument is the name of a trial; without it, all are run. `tests/refused_growths` runs each trial
 //! many times, and refuses another request for memory each time.
 //!
-//! A trial makes the arguments of its call before it, and checks afterwards that they are unchanged.
+//! A trial makes the arguments of its call before it, and checks afterwards that they are unchanged. 1-M stands for
+//! version 1 and level M.
 #![tactic(auto)]
 
 mod answer;
@@ -49,7 +50,7 @@ static NAMES: [&str; 30] = [
     "run_kanji",
 ];
 
-// Runs a trial. Fails if memory for the arguments of its call is refused.
+// Fails if memory for the arguments of the call is refused.
 fn trial(alloc: Global, name: &str) -> Result<Answer, AllocError> {
     match name {
         "Matrix::new" => Ok(symbols::matrix(alloc)),
@@ -86,7 +87,7 @@ fn trial(alloc: Global, name: &str) -> Result<Answer, AllocError> {
     }
 }
 
-// Runs a trial, and returns whether the line with its result could be printed.
+// Whether the line with the result could be printed.
 fn tell(rt: &HostRuntime, name: &str) -> bool {
     let text = match trial(rt.alloc(), name) {
         Ok(answer) => answer.text(),

@@ -51,7 +51,6 @@ fn are_equal_series(a: &[Symbol], b: &[Symbol]) -> bool {
             .all(|(x, y)| are_equal(&x.matrix, &y.matrix))
 }
 
-// The symbol of `HELLO WORLD` at 1-M.
 fn hello(alloc: Global) -> Result<Symbol, AllocError> {
     encode(alloc, &HELLO_WORLD, Level::M, Version::FIRST, Rule::Auto).map_err(|_| AllocError)
 }
@@ -247,7 +246,7 @@ pub fn mended_series(alloc: Global) -> Result<Answer, AllocError> {
     Ok(answer.given(are_equal(&squares[0], &same.matrix)))
 }
 
-// The series of `ABCDEFGH` at 1-H, with five letters in the first symbol and three in the second.
+// Five letters are in the first symbol, and three in the second.
 fn series(alloc: Global) -> Result<Vec<Symbol>, AllocError> {
     encode_series(alloc, &LETTERS, Version::FIRST, Level::H, Rule::BytesOnly).map_err(
         |_| AllocError,

@@ -199,8 +199,8 @@ fn by_words(rt: HostRuntime) -> Result<(), Fail> {
     Ok(())
 }
 
-// The writer takes at most 100 bytes in a call and fails from call `call` on, until the drawing needs fewer calls. It
-// always has a prefix of the drawing.
+// In trial `call` the writer takes at most 100 bytes a call and fails from call `call` on; in the last one the drawing
+// needs fewer calls. The writer always has a prefix of the drawing.
 #[test]
 fn writers_fail_in_turn(rt: HostRuntime) -> Result<(), Fail> {
     let symbols = [symbol(rt.alloc())?];

@@ -26,7 +26,7 @@ pub struct Devices {
 }
 
 impl Devices {
-    /// Devices without faults, whose writers take 4,000 bytes.
+    /// Their writers have room for each drawing of these tests.
     pub const WITHOUT_FAULTS: Devices = Devices {
         input: Faults::NONE,
         out: Faults::NONE,

@@ -1,4 +1,4 @@
--- A label: a symbol that is drawn with characters, and below it the text that the symbol contains.
+-- The characters of a label as numbers: 35 is `#`, 32 is a space, and 10 is a line feed.
 use Rattle.std.specs.Prelude.{◌≡◌, ℕ, Bool, if◌then◌else◌, List, [], ◌∷◌, ◌++◌, map}
 use Rattle.std.specs.List.{flat_map, range_with_len}
 use Rattle.qr_layout.specs.declared.level.Level.{Level}
@@ -14,8 +14,8 @@ character_of dark = if dark then 35 else 32
 abbrev pub line_of_row : Grid → ℕ → List ℕ
 line_of_row g row = map (λ col. character_of (colour g row col)) (range_with_len 0 g.side) ++ 10 ∷ []
 
--- `text` has a line for each row of the symbol of `words`, and then a line with `words`; the symbol has this level and
--- the least version, from `smallest` on, that `words` fits [own]
+-- The rows of the symbol of `words`, which may use all modes but kanji mode, as lines from the top down, and then a
+-- line with `words` [own]
 pub record IsLabel (words : List ℕ) (level : Level) (smallest : ℕ) (text : List ℕ) : Type 0 where
   pub version : ℕ
   pub mask : ℕ

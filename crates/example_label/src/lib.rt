@@ -43,7 +43,6 @@ pub fn label(
     Ok(text)
 }
 
-// Adds the line of a row.
 fn push_line(text: &mut Vec<u8>, matrix: &Matrix, row: u8) -> Result<(), AllocError>
     requires { row < matrix.now.side }
     ensures { IsOk result → text.new.items ≡ text.old.items ++ line_of_row matrix.now row }

@@ -8,7 +8,7 @@ enum Pattern {
     Light,
     Dark,
     Chequered,
-    // A window in the first row, the ratio before four light modules, from this column on.
+    // A window whose four light modules come last, in the first row, from this column on.
     WindowFrom(u8),
 }
 

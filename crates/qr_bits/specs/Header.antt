@@ -8,11 +8,12 @@ use Rattle.qr_bits.specs.Bits.{field}
 abbrev pub header_indicator : ℕ
 header_indicator = 3
 
--- 20 bits, or none without a header (ISO/IEC 18004:2015, 8.1)
+-- The length of `header_stream` (ISO/IEC 18004:2015, 8.1)
 abbrev pub header_bits : Option Header → ℕ
 header_bits header = option_map_or (λ _. 20) header 0
 
--- Each number of the header fits its field: position and last of 4 bits, parity of 8 (ISO/IEC 18004:2015, 8.2, 8.3)
+-- Each number of the header fits its field: `position` and `last` of 4 bits, `parity` of 8 (ISO/IEC 18004:2015, 8.2,
+-- 8.3)
 abbrev pub HeaderFits : Option Header → Type 0
 HeaderFits header = ForSome header (λ h. (h.position < 16) × (h.last < 16) × (h.parity < 256))
 

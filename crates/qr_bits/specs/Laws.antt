@@ -29,7 +29,7 @@ DataAreParsed =
     (v : ℕ) (l : Level) (xs : List ℕ) (segs : List Segment) (h : Option Header) (cw : List ℕ) → IsData v l xs segs h cw →
     parse v (bits_of cw) ≡ Ok (record { header = h; segments = segs; bytes = xs })
 
--- A bit stream has the bits of its header and of its segments [own]
+-- A bit stream has as many bits as its header and its segments together [own]
 abbrev pub StreamsHaveTheirBits : Type 0
 StreamsHaveTheirBits =
     (v : ℕ) (xs : List ℕ) (segs : List Segment) (h : Option Header) (stream : List Bool) → IsStream v xs segs h stream →

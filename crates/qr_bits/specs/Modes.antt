@@ -1,5 +1,4 @@
--- The four modes: their indicators, which bytes suit them, and how many bits these take. A kanji pair is two bytes that
--- are one character of kanji mode.
+-- The four modes: their indicators, which bytes suit them, and how many bits these take.
 use Rattle.std.specs.Prelude.{ℕ, ◌+◌, ◌*◌, ◌/◌, ◌%◌, Bool, true, false, ◌&&◌, ◌||◌, if◌then◌else◌, nat_le, ◌==◌, List, [], ◌∷◌, codes, ◌-◌}
 use Rattle.std.specs.List.{list_all, list_any, position_or_len}
 use Rattle.qr_bits.specs.declared.modes.Mode.{Mode}
@@ -7,7 +6,7 @@ use Rattle.qr_bits.specs.declared.modes.Mode.TheVariants.{Numeric, Alphanumeric,
 use Rattle.qr_bits.specs.declared.modes.Rule.{Rule}
 use Rattle.qr_bits.specs.declared.modes.Rule.TheVariants.{Auto, BytesOnly, WithKanji}
 
--- The mode indicator (ISO/IEC 18004:2015, 7.4.1, Table 2)
+-- The mode indicator, the first four bits of a segment (ISO/IEC 18004:2015, 7.4.1, Table 2)
 abbrev pub indicator : Mode → ℕ
 indicator Numeric = 1
 indicator Alphanumeric = 2
@@ -25,12 +24,12 @@ count_width v Alphanumeric = if nat_le v 9 then 9 else (if nat_le v 26 then 11 e
 count_width v Byte = if nat_le v 9 then 8 else 16
 count_width v Kanji = if nat_le v 9 then 8 else (if nat_le v 26 then 10 else 12)
 
--- How many characters `n` bytes are: in kanji mode one for two bytes (ISO/IEC 18004:2015, 7.4.1)
+-- The number in the character count indicator of `n` bytes: a kanji pair is one character (ISO/IEC 18004:2015, 7.4.1)
 abbrev pub character_count : Mode → ℕ → ℕ
 character_count Kanji n = n / 2
 character_count _ n = n
 
--- The bytes of `n` characters (ISO/IEC 18004:2015, 7.4.1)
+-- How many bytes a segment has whose character count indicator is `n` (ISO/IEC 18004:2015, 7.4.1)
 abbrev pub byte_count : Mode → ℕ → ℕ
 byte_count Kanji n = 2 * n
 byte_count _ n = n
@@ -72,7 +71,7 @@ kanji_value high low =
     let rest = if nat_le pair 0x9FFC then pair - 0x8140 else pair - 0xC140 in
     0xC0 * (rest / 256) + rest % 256
 
--- The bytes can be written in the mode (ISO/IEC 18004:2015, 7.3.3 to 7.3.6)
+-- The bytes are characters of the mode (ISO/IEC 18004:2015, 7.3.3 to 7.3.6)
 abbrev pub suits : Mode → List ℕ → Bool
 suits Numeric xs = list_all is_digit xs
 suits Alphanumeric xs = list_all is_alphanumeric xs
@@ -88,7 +87,7 @@ payload_bits Alphanumeric n = 11 * (n / 2) + 6 * (n % 2)
 payload_bits Byte n = 8 * n
 payload_bits Kanji n = 13 * ((n + 1) / 2)
 
--- The rule allows the mode [own]
+-- Every rule allows byte mode, and only `WithKanji` allows kanji mode [own]
 abbrev pub may_use : Rule → Mode → Bool
 may_use Auto Kanji = false
 may_use Auto _ = true

@@ -11,7 +11,7 @@ use Rattle.qr_bits.specs.Stream.{IsStream}
 abbrev pub capacity_of : ℕ → Level → ℕ
 capacity_of v l = 8 * data_codewords_of v l
 
--- The bits that a structured append header leaves (ISO/IEC 18004:2015, 7.4.10, 8.1)
+-- What a structured append header, of 20 bits, leaves of the capacity (ISO/IEC 18004:2015, 7.4.10, 8.1)
 abbrev pub room_of : ℕ → Level → ℕ
 room_of v l = capacity_of v l - 20
 
@@ -23,7 +23,7 @@ terminated capacity stream = stream ++ replicate (min 4 (capacity - length strea
 abbrev pub filled : List Bool → List Bool
 filled stream = stream ++ replicate ((8 - length stream % 8) % 8) false
 
--- EC and 11 (hexadecimal) in turn (ISO/IEC 18004:2015, 7.4.10)
+-- Pad codewords: EC and 11 (hexadecimal) in turn (ISO/IEC 18004:2015, 7.4.10)
 unfoldable pub pads : ℕ → List ℕ
 pads zero = []
 pads (suc zero) = 0xEC ∷ []

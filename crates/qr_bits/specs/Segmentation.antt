@@ -1,5 +1,5 @@
--- Which segments are chosen for an input. An assignment has a mode for each byte, and neighbours of one mode are one
--- segment. It is valid if the rule `r` allows its modes and the bytes of each segment suit theirs.
+-- Which segments are chosen for an input. Neighbouring bytes to which an assignment gives the same mode are one
+-- segment. An assignment is valid if the rule `r` allows its modes and the mode of each segment suits its bytes.
 use Rattle.std.specs.Prelude.{◌≡◌, ℕ, ◌+◌, ◌/◌, ◌<◌, ◌≤◌, ◌⊎◌, if◌then◌else◌, ◌==◌, nat_le, List, [], ◌∷◌, length, take, All, IsTrue}
 use Rattle.std.specs.List.{list_all, sum_by}
 use Rattle.qr_bits.specs.declared.modes.Mode.{Mode}
@@ -14,12 +14,12 @@ use Rattle.qr_bits.specs.Stream.{Suits}
 abbrev pub segment_bits : ℕ → Segment → ℕ
 segment_bits v s = 4 + count_width v s.mode + payload_bits s.mode s.len
 
--- The bits of all segments (ISO/IEC 18004:2015, 7.4.1)
+-- The bits of all segments, without those of a header (ISO/IEC 18004:2015, 7.4.1)
 abbrev pub bits : ℕ → List Segment → ℕ
 bits v [] = 0
 bits v (s ∷ ss) = segment_bits v s + bits v ss
 
--- The segments, none of them empty, contain exactly the bytes, and these suit their modes [own]
+-- As `Suits`, but no segment is empty [own]
 unfoldable pub Covers : List ℕ → List Segment → Type 0
 Covers xs segs = All (λ s. 0 < s.len) segs × Suits xs segs
 
@@ -30,7 +30,7 @@ rank Alphanumeric = 1
 rank Byte = 2
 rank Kanji = 3
 
--- The segments after one byte more at the beginning [own]
+-- The segments with one byte of mode `m` before theirs [own]
 abbrev pub prepend_mode : Mode → List Segment → List Segment
 prepend_mode m [] = record { mode = m; len = 1 } ∷ []
 prepend_mode m (s ∷ ss) = if rank m == rank s.mode then record { mode = m; len = 1 + s.len } ∷ ss else record { mode = m; len = 1 } ∷ s ∷ ss
@@ -40,7 +40,7 @@ unfoldable pub runs_of : List Mode → List Segment
 runs_of [] = []
 runs_of (m ∷ ms) = prepend_mode m (runs_of ms)
 
--- `ms` is a valid assignment [own]
+-- A valid assignment of modes to the bytes `xs` [own]
 abbrev pub IsAssignment : Rule → List ℕ → List Mode → Type 0
 IsAssignment r xs ms = IsTrue (list_all (may_use r) ms) × Covers xs (runs_of ms)
 
@@ -64,7 +64,7 @@ IsLeastSegmentation v r xs segs = (ms : List Mode) × IsBestAssignment v r xs ms
 abbrev pub HasFit : ℕ → Rule → List ℕ → ℕ → Type 0
 HasFit v r xs n = (ms : List Mode) × IsAssignment r xs ms × (bits v (runs_of ms) ≤ n)
 
--- At most what a byte takes in any mode, in sixths of a bit: 20 for a digit (three take 10 bits), 33 for another byte
+-- The least that a byte takes in any mode, in sixths of a bit: 20 for a digit (three take 10 bits), 33 for another byte
 -- up to `Z` (two characters take 11), 39 for one above, which only byte and kanji mode write (ISO/IEC 18004:2015, 7.4.3
 -- to 7.4.6)
 abbrev pub least_sixths : ℕ → ℕ

@@ -1,7 +1,7 @@
 //! The best mode of each byte, by a table that is filled from the last byte to the first. How many bits a byte and all
-//! later ones take depends only on their modes and on the state before that byte (`RunState`: the mode of the last byte,
-//! and how much of its group has come). So the row of a byte has the best mode for each state: the one with the least
-//! sum of the bits that the byte adds and the fewest that the later ones can add.
+//! later ones take depends only on their modes and on the state before that byte (`RunState`). So the row of a byte has
+//! the best mode for each state: the one with the least sum of the bits that the byte adds and the fewest that the
+//! later ones can add.
 //!
 //! A choice is a number, 4 times the bits of the byte and all later ones plus the rank of the mode, so that the
 //! smallest has the fewest bits and then the lowest rank. A row has two bits for each state, the rank of its best mode.
@@ -35,7 +35,7 @@ fn ranked(rank: u32) -> Mode
     }
 }
 
-// Whether `byte` may have `mode`, which is not kanji mode, where it is not the second byte of a kanji pair.
+// Whether `byte` may have `mode` if it is not the second byte of a kanji pair.
 #[tactic(auto, unfolding(crate::specs::Steps::RunState::may_begin))]
 #[inline(always)]
 fn may_begin(rule: Rule, byte: u8, mode: Mode) -> bool
@@ -50,8 +50,8 @@ fn may_begin(rule: Rule, byte: u8, mode: Mode) -> bool
     }
 }
 
-// The choice of a mode that is `first` for the byte alone: with the bits of `rest`, the best choice for the later
-// bytes. `NO_CHOICE` unless the mode may be used.
+// Adds the bits of `rest`, the best choice for the later bytes, to `first`, the choice of a mode for the byte alone.
+// The mode of `rest` is left out.
 #[inline(always)]
 fn choice_if(may: bool, first: u32, rest: u32) -> u32
     requires first { first ≤ 135 }
@@ -61,7 +61,7 @@ fn choice_if(may: bool, first: u32, rest: u32) -> u32
     if may { first + rest / 4 * 4 } else { NO_CHOICE }
 }
 
-// A row of the modes of these choices.
+// A row has the modes of the choices, without their bits.
 #[inline(always)]
 fn row_for(numbers: &PerState<u32>) -> u32
     ensures { (p : RunState) → mode_at result p ≡ ranked (in_state numbers.now p % 4) }
@@ -149,7 +149,7 @@ pub(crate) fn best_choices(
     }
 }
 
-// The rule allows kanji mode, and the first two bytes are a kanji pair.
+// `false` unless the rule allows kanji mode.
 #[tactic(auto, unfolding(crate::specs::Steps::RunState::begins_with_pair))]
 pub(crate) fn begins_with_pair(rule: Rule, bytes: &[u8]) -> bool
     ensures { result ≡ begins_with_pair rule is_kanji_pair bytes.now }
@@ -202,7 +202,6 @@ fn shift_of(state: RunState) -> u32
     }
 }
 
-/// Returns the best mode in `row` for `state`.
 #[tactic(auto, unfolding(crate::specs::Steps::BestModes::mode_at))]
 #[inline(always)]
 pub(crate) fn mode_at(row: u32, state: RunState) -> Mode

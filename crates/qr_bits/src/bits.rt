@@ -12,7 +12,7 @@ use std::marker::Model;
 #[derive(Drop)]
 pub(crate) struct BitWriter {
     whole: Vec<u8>,
-    // The fewer than eight bits after the last whole codeword, as a number.
+    // The bits after the last whole codeword, `width` of them, as a number.
     rest: u8,
     width: u8,
 }
@@ -37,7 +37,7 @@ impl BitWriter {
         }
     }
 
-    /// Writes the lowest `width` bits of `number`, the most significant first.
+    /// Writes the lowest `width` bits of `number`, the most significant first; higher bits may have any value.
     pub(crate) fn put(&mut self, width: u8, number: u16) -> Result<(), AllocError>
         requires { width ≤ 16 }
         ensures { OnOk result (self.new ≡ self.old ++ field width number) }
@@ -50,7 +50,6 @@ impl BitWriter {
         Ok(())
     }
 
-    /// Writes bytes.
     pub(crate) fn put_bytes(&mut self, bytes: &[u8]) -> Result<(), AllocError>
         ensures { OnOk result (self.new ≡ self.old ++ bits_of bytes.now) }
     {
@@ -58,7 +57,7 @@ impl BitWriter {
         Ok(())
     }
 
-    /// Fills the last codeword with zeros.
+    /// Fills the last codeword with zeros, if it is not whole.
     pub(crate) fn fill(&mut self) -> Result<(), AllocError>
         ensures { OnOk result (self.new ≡ filled self.old) }
     {
@@ -69,7 +68,6 @@ impl BitWriter {
         Ok(())
     }
 
-    /// Returns the codewords, of which the last must be whole.
     pub(crate) fn into_codewords(self) -> Vec<u8>
         requires { length self % 8 ≡ 0 }
         ensures { bits_of result.items ≡ self }
@@ -79,7 +77,7 @@ impl BitWriter {
     }
 }
 
-// Appends the whole bytes of the `width` bits `bits` to `whole`, and returns how many bits are left.
+// Appends the whole bytes of the lowest `width` bits of `bits` to `whole`, and returns how many bits are left.
 fn push_whole(whole: &mut Vec<u8>, bits: u32, width: u8) -> Result<u8, AllocError>
     requires { width ≤ 23 }
     ensures few { IfOk result (λ left. left < 8) }
@@ -93,7 +91,8 @@ fn push_whole(whole: &mut Vec<u8>, bits: u32, width: u8) -> Result<u8, AllocErro
     Ok(left)
 }
 
-// Appends the whole bytes of the `width` bits `rest` and then `bytes`, and returns the bits that are left.
+// Appends the `width` bits of `rest`, and then those of `bytes`, as far as they make whole bytes. Returns the bits that
+// are left, again `width` of them.
 fn push_bytes(whole: &mut Vec<u8>, width: u8, mut rest: u8, bytes: &[u8]) -> Result<u8, AllocError>
     requires few { width < 8 }
     requires rest { rest < 2 ^ width }
@@ -110,7 +109,7 @@ fn push_bytes(whole: &mut Vec<u8>, width: u8, mut rest: u8, bytes: &[u8]) -> Res
     Ok(rest)
 }
 
-/// Reads the bits of codewords. Contracts see it as the bits that are not read yet.
+/// Contracts see it as the bits of the codewords that are not read yet.
 #[derive(Drop)]
 pub(crate) struct BitReader<'a> {
     bytes: &'a [u8],
@@ -135,7 +134,6 @@ impl<'a> BitReader<'a> {
         BitReader { bytes, at: 0 }
     }
 
-    /// Returns how many bits are not read yet.
     pub(crate) fn len(&self) -> usize
         ensures { result ≡ length self.now }
     {
@@ -165,7 +163,7 @@ impl<'a> BitReader<'a> {
         number
     }
 
-    /// Returns whether no segment follows: fewer than four bits, or the terminator.
+    /// Whether no segment follows (7.4.9).
     #[tactic(auto, unfolding(crate::specs::Parsing::ends))]
     pub(crate) fn ends(&self) -> bool
         ensures { result ≡ ends self.now }
@@ -173,7 +171,6 @@ impl<'a> BitReader<'a> {
         self.len() < 4 || self.indicator() == TERMINATOR
     }
 
-    /// Returns whether a structured append header follows.
     #[tactic(auto, unfolding(crate::specs::Parsing::begins_header))]
     pub(crate) fn begins_header(&self) -> bool
         ensures { result ≡ begins_header self.now }
@@ -181,7 +178,7 @@ impl<'a> BitReader<'a> {
         self.len() >= 4 && self.indicator() == STRUCTURED_APPEND
     }
 
-    /// Returns the next four bits without reading them.
+    /// The next four bits, which stay unread.
     fn indicator(&self) -> u16
         requires { 4 ≤ length self.now }
         ensures { result ≡ value (take 4 self.now) }

@@ -1,9 +1,9 @@
-//! The structured append header: the place of a symbol in a series (ISO/IEC 18004:2015, 8).
+//! The structured append header: the position of a symbol in its series (ISO/IEC 18004:2015, 8).
 
 ghost use Rattle.std.specs.Prelude.{◌≡◌};
 ghost use Rattle.qr_bits.specs.Header.{header_bits, parity_of};
 
-// Its bits (8.1).
+// Mode indicator, `position` and `last` of 4 bits each, and `parity` of 8 (8.1).
 pub(crate) const HEADER_BITS: u64 = 20;
 
 /// What comes before the segments of each symbol of a series (8.1).

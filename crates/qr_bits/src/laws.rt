@@ -24,8 +24,8 @@ use crate::modes::{INPUT_MAX, Mode, Rule};
 use crate::segment::Segment;
 use std::alloc::AllocError;
 
-/// A parse succeeds exactly if the bits are a bit stream and then an end, whatever follows: fewer than four bits, or
-/// the terminator. Segments may be empty, and need not take the fewest bits.
+/// A parse succeeds exactly if the bits are a bit stream and then an end: fewer than four bits, or the terminator and
+/// anything after it. Segments may be empty, and need not take the fewest bits.
 pub fn streams_are_parsed()
     ensures { StreamsAreParsed }
 {}
@@ -43,12 +43,13 @@ pub fn data_are_one()
     ensures full { DataFillTheSymbol }
 {}
 
-/// A bit stream has the bits of its header and of its segments.
+/// A bit stream has as many bits as its header and its segments together.
 pub fn streams_have_their_bits()
     ensures { StreamsHaveTheirBits }
 {}
 
-/// Where segments suit their bytes, and their bits fit a symbol, each count fits its character count indicator.
+/// If the modes of segments suit their bytes, and their bits fit a symbol, each count fits its character count
+/// indicator.
 pub fn counts_fit_where_bits_fit()
     ensures { CountsFitWhereBitsFit }
 {}
@@ -122,7 +123,7 @@ pub fn streams_compute()
     ensures series { padded 9 (header_stream (Some middle) ++ segments_stream 1 (codes "FGH") (one Byte 3)) ≡ bits_of middle_data }
 {}
 
-/// What these codewords of the second of three symbols contain, and the faults of eleven lists of codewords.
+/// What codewords of the second of three symbols contain, and the faults of eleven lists of codewords.
 #[tactic(auto, unfolding(crate::specs::Parsing::parse, crate::specs::Parsing::first_header, crate::specs::Parsing::begins_header, crate::specs::Parsing::header_at, crate::specs::Parsing::segments_of, crate::specs::Parsing::segments_at, crate::specs::Parsing::segment_at, crate::specs::Parsing::leading_number, crate::specs::Parsing::payload_at, crate::specs::Parsing::values_of, crate::specs::Parsing::digits_of, crate::specs::Parsing::characters_of, crate::specs::Parsing::character, crate::specs::Parsing::bytes_of, crate::specs::Parsing::pairs_of, crate::specs::Parsing::kanji_pair, crate::specs::Parsing::mode_of, crate::specs::Parsing::ends, crate::specs::Modes::characters, crate::specs::Bits::field, crate::specs::Bits::bits_of))]
 pub fn parses_compute()
     ensures series { parse 1 (bits_of middle_data)

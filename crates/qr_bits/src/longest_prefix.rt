@@ -1,6 +1,6 @@
 //! The longest prefix of an input that fits one symbol of a series.
 
-ghost use Rattle.std.specs.Prelude.{IsOkAnd, length, reverse, ℕ, ◌+◌, ◌*◌, ◌<◌, ◌≡◌, ◌≤◌};
+ghost use Rattle.std.specs.Prelude.{IsOkAnd, length, reverse, ◌+◌, ◌*◌, ◌<◌, ◌≡◌, ◌≤◌};
 ghost use Rattle.qr_bits.specs.declared.modes.Mode.{Mode};
 ghost use Rattle.qr_bits.specs.Modes.{count_width, is_kanji_pair};
 ghost use Rattle.qr_bits.specs.Segmentation.{IsLongestFit};
@@ -16,7 +16,7 @@ use crate::run_state::{FirstChoices, NO_BITS};
 use qr_layout::{Level, Version};
 use std::alloc::Global;
 
-// The rule allows kanji mode, and the last two bytes are a kanji pair.
+// As `begins_with_pair`, but at the end of `bytes`.
 fn ends_with_pair(rule: Rule, bytes: &[u8]) -> bool
     ensures { result ≡ begins_with_pair rule (swapped is_kanji_pair) (reverse bytes.now) }
 {
@@ -27,7 +27,7 @@ fn ends_with_pair(rule: Rule, bytes: &[u8]) -> bool
     may_use(rule, Mode::Kanji) && is_kanji_pair(bytes[len - 2], bytes[len - 1])
 }
 
-// Returns how many bytes a segment in byte mode contains that takes at most `room` bits (7.4.5).
+// The most bytes that a segment in byte mode can have in `room` bits (7.4.5).
 fn bytes_in(room: u64, version: Version) -> usize
     requires { 20 ≤ room }
     ensures fits { 4 + count_width version Mode.Byte + 8 * result ≤ room }
@@ -37,8 +37,6 @@ fn bytes_in(room: u64, version: Version) -> usize
     ((room - head) / 8) as usize
 }
 
-// Returns the length of the longest prefix that takes at most `room` bits.
-//
 // The rows of `best_choices` add a byte in front of those that are counted, so prefixes are counted backwards, which
 // takes as many bits; the second byte of a kanji pair then comes first. After the turn of `input[i]`, `rest.start / 4`
 // is the least number of bits of the prefix that ends with it.
@@ -68,8 +66,7 @@ fn longest_by_rows(input: &[u8], version: Version, rule: Rule, room: u64) -> usi
 ///
 /// # Notes
 ///
-/// The allocator and the `Result` are there so that it is called like its neighbours: it never allocates, and never
-/// fails.
+/// It takes an allocator and returns a `Result` as `segments` and `codewords` do, but never allocates and never fails.
 pub fn longest_fit(
     _alloc: Global,
     input: &[u8],

@@ -1,5 +1,5 @@
-//! A lower bound on the bits of an input, however it is cut into segments, by which the search for a version skips
-//! those that are too small.
+//! A bound by which the search for a version skips versions that are too small for an input, however it is cut into
+//! segments.
 
 ghost use Rattle.std.specs.Prelude.{length, ℕ, ◌/◌, ◌≡◌, ◌≤◌};
 ghost use Rattle.qr_bits.specs.declared.modes.Rule.{Rule};

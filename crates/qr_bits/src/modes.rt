@@ -9,8 +9,8 @@ ghost use Rattle.qr_bits.specs.Parsing.{character, mode_of};
 use crate::fault::ParseFault;
 use qr_layout::Version;
 
-/// The greatest length of an input, one more than 16 symbols of at most 7,089 bytes can contain, so that no series has
-/// room for it.
+/// The greatest length of an input, in bytes: one more than 16 symbols of at most 7,089 bytes can contain, so that no
+/// series has room for an input of this length.
 pub const INPUT_MAX: usize = 113_425;
 
 /// How the bytes of a segment are written (7.3.3 to 7.3.6).
@@ -72,7 +72,7 @@ pub(crate) fn mode_of(indicator: u16) -> Result<Mode, ParseFault>
     }
 }
 
-// (7.4.1, Table 3)
+// The bits of a character count indicator (7.4.1, Table 3).
 pub(crate) fn count_width(version: Version, mode: Mode) -> u8
     ensures value { result ≡ count_width version mode }
     ensures most { result ≤ 16 }
@@ -90,7 +90,7 @@ pub(crate) fn count_width(version: Version, mode: Mode) -> u8
     }
 }
 
-// How many characters `len` bytes are: in kanji mode one for two bytes (7.4.1).
+// In kanji mode, two bytes are one character (7.4.1).
 pub(crate) fn character_count(mode: Mode, len: usize) -> usize
     ensures { result ≡ character_count mode len }
 {
@@ -100,7 +100,6 @@ pub(crate) fn character_count(mode: Mode, len: usize) -> usize
     }
 }
 
-// How many bytes `count` characters are (7.4.1).
 pub(crate) fn byte_count(mode: Mode, count: usize) -> usize
     requires { count < 2 ^ 16 }
     ensures { result ≡ byte_count mode count }
@@ -111,7 +110,7 @@ pub(crate) fn byte_count(mode: Mode, count: usize) -> usize
     }
 }
 
-// How many data bits `len` bytes take, half a kanji pair as many as a pair (7.4.3 to 7.4.6).
+// Data bits, without indicators; half a kanji pair takes as many as a pair (7.4.3 to 7.4.6).
 pub(crate) fn payload_bits(mode: Mode, len: usize) -> usize
     requires { len < 2 ^ 20 }
     ensures { result ≡ payload_bits mode len }

@@ -18,14 +18,13 @@ use std::alloc::{AllocError, Global};
 // A whole terminator (7.4.9).
 const TERMINATOR_BITS: u64 = 4;
 
-/// Returns the bits of all data codewords of this version and level.
 pub(crate) fn capacity(version: Version, level: Level) -> u64
     ensures value { result ≡ capacity_of version level }
     ensures first { 1 ≤ version }
     ensures last { version ≤ 40 }
     ensures least { 72 ≤ result }
 {
-    // (the contract of `number` says that the version is from 1 to 40)
+    // Called for its contract: the version is from 1 to 40.
     let _ = version.number();
     8 * u64::from(version.data_codewords(level))
 }
@@ -67,7 +66,7 @@ pub fn codewords(
     Ok(codewords)
 }
 
-// Appends EC and 11 (hexadecimal) in turn up to `len` codewords (7.4.10).
+// Appends pad codewords, up to `len` codewords in all (7.4.10).
 fn pad(codewords: &mut Vec<u8>, len: usize) -> Result<(), AllocError>
     ensures written { OnOk result (codewords.new.items
         ≡ codewords.old.items ++ pads (len - vec_len codewords.old)) }

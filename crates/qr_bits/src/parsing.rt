@@ -16,7 +16,7 @@ use qr_layout::Version;
 use std::alloc::Global;
 use std::marker::Model;
 
-// The number of a group of digits or characters is below these (7.4.3, 7.4.4).
+// The number that is written for a group of digits or characters is below these (7.4.3, 7.4.4).
 const THREE_DIGITS: u16 = 1000;
 
 const TWO_DIGITS: u16 = 100;
@@ -27,7 +27,7 @@ const PAIRS: u16 = 2025;
 
 const SINGLES: u16 = 45;
 
-// The most that the value of a kanji pair leaves after division by C0 (7.4.6).
+// The most that the value of a kanji pair leaves after division by 0xC0 (7.4.6).
 const LOW_MAX: u16 = 0xBC;
 
 /// What data codewords contain.
@@ -56,8 +56,8 @@ impl Model for Parsed {
 /// # Errors
 ///
 /// Returns the fault that comes first: `BadMode` for an indicator of none of the four modes, or of a header after the
-/// beginning; `Cut` for an end within a header, a count or data; `BadValue` for a number that is too large, or the
-/// value of no kanji pair; `Memory` if memory is refused.
+/// beginning; `Cut` for an end within a header, a count or data; `BadValue` for a number that is too large, or that no
+/// kanji pair has; `Memory` if memory is refused.
 #[tactic(auto, unfolding(crate::specs::Parsing::parse))]
 pub fn parse(alloc: Global, codewords: &[u8], version: Version) -> Result<Parsed, ParseFault>
     requires { length codewords.now ≤ 3706 }
@@ -73,7 +73,7 @@ pub fn parse(alloc: Global, codewords: &[u8], version: Version) -> Result<Parsed
     })
 }
 
-// Reads a header if its mode indicator comes next (8.1).
+// A header begins with its mode indicator (8.1).
 #[tactic(auto, unfolding(crate::specs::Parsing::first_header))]
 fn first_header(reader: &mut BitReader) -> Result<Option<Header>, ParseFault>
     ensures ok { IfOk result (λ h. first_header reader.old ≡ Ok (h, reader.new)) }
@@ -87,7 +87,7 @@ fn first_header(reader: &mut BitReader) -> Result<Option<Header>, ParseFault>
     Ok(Some(header))
 }
 
-// Reads a header after its mode indicator (8.1).
+// The mode indicator is already read (8.1).
 #[tactic(auto, unfolding(crate::specs::Parsing::header_at))]
 fn header(reader: &mut BitReader) -> Result<Header, ParseFault>
     ensures ok { IfOk result (λ h. header_at reader.old ≡ Ok (h, reader.new)) }
@@ -103,7 +103,6 @@ fn header(reader: &mut BitReader) -> Result<Header, ParseFault>
     })
 }
 
-// Reads all segments.
 fn segments(
     alloc: Global,
     mut reader: BitReader,
@@ -121,7 +120,7 @@ fn segments(
     Ok((segments, bytes))
 }
 
-// Reads a segment, and appends its bytes to `out`.
+// Appends the bytes of the segment to `out`.
 #[tactic(auto, unfolding(crate::specs::Parsing::segment_at, crate::specs::Parsing::payload_at))]
 fn segment(
     reader: &mut BitReader,
@@ -163,7 +162,7 @@ fn segment_head(reader: &mut BitReader, version: Version) -> Result<(Mode, u16),
     Ok((mode, count))
 }
 
-// Reads the data of a segment of `count` characters, which are complete, and appends its bytes to `out`.
+// The data are complete, as `segment_head` has checked, but may contain a `BadValue`.
 #[tactic(auto, unfolding(crate::specs::Parsing::values_of))]
 fn values(
     reader: &mut BitReader,

@@ -34,7 +34,7 @@ pub fn covers(input: &[u8], segs: &[Segment]) -> bool
     rest.is_empty()
 }
 
-/// Returns the bits of `segs` in this version, with their indicators and without a structured append header.
+/// Returns how many bits `segs` take in this version, with their indicators and without a structured append header.
 pub fn bit_len(segs: &[Segment], version: Version) -> u64
     requires nonempty { All (λ s. 0 < s.len) segs.now }
     requires short { sum_by (λ s. s.len) segs.now ≤ INPUT_MAX }

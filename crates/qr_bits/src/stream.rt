@@ -6,7 +6,6 @@ ghost use Rattle.qr_bits.specs.Segmentation.{Covers};
 ghost use Rattle.qr_bits.specs.Header.{header_stream};
 ghost use Rattle.std.specs.List.{list_all};
 ghost use Rattle.std.specs.Option.{ForSome};
-ghost use Rattle.qr_bits.specs.Bits.{bits_of};
 ghost use Rattle.qr_bits.specs.Stream.{character_bits, digit_bits, kanji_bits, payload, segment_stream, segments_stream};
 
 use crate::bits::BitWriter;
@@ -52,7 +51,7 @@ pub(crate) fn put_segments(
     Ok(())
 }
 
-// (7.4.1)
+// Two indicators come before the data (7.4.1).
 #[tactic(auto, unfolding(crate::specs::Stream::segment_stream))]
 fn put_segment(
     writer: &mut BitWriter,
@@ -129,7 +128,7 @@ fn put_characters(writer: &mut BitWriter, characters: &[u8]) -> Result<(), Alloc
     }
 }
 
-// (7.4.6)
+// A pair in thirteen bits (7.4.6).
 #[tactic(auto, unfolding(crate::specs::Stream::kanji_bits))]
 fn put_kanji(writer: &mut BitWriter, bytes: &[u8]) -> Result<(), AllocError>
     requires { IsTrue (in_twos is_kanji_pair bytes.now) }

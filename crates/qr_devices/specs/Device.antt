@@ -1,5 +1,5 @@
--- What each read, write or flush adds to the counts `c` of a device, and which counts show a fault. `returned` is its
--- result. A call that is interrupted (EINTR) is tried again at most 999 times.
+-- What each read, write or flush adds to the counts `c` of a device, and which counts show a fault. `returned` is the
+-- result of the call. Of the interrupted calls (EINTR), 999 are tried again.
 use Rattle.std.specs.Prelude.{◌≡◌, ◌+◌, ◌-◌, ◌^◌, ◌≤◌, ◌++◌, ◌==◌, ◌||◌, ◌&&◌, ℕ, Bool, false, nat_lt, nat_le, min, max, List, Option, Result, Ok, Err, is_ok, if◌then◌else◌}
 use Rattle.std.specs.Io.KnownBytes.{Appends}
 use Rattle.qr_devices.specs.declared.device.TheConstants.{INTERRUPTIONS_MAX}
@@ -24,7 +24,7 @@ read_returned room (Ok n) c =
 read_returned room (Err Interrupted) c = record c { interrupted = counted (c.interrupted + 1) }
 read_returned room (Err Failed) c = record c { failed = counted (c.failed + 1) }
 
--- The counts after a read into a buffer of `room` bytes, which is one past the end if an earlier one reached it [own]
+-- As `read_returned`, with the call counted too, and as one past the end if an earlier read reached it [own]
 abbrev pub read_counted : ℕ → Result ℕ Trouble → ReadCounts → ReadCounts
 read_counted room returned c = read_returned room returned (record c {
   calls = counted (c.calls + 1);
@@ -44,15 +44,15 @@ no_writes = record {
   settled = false;
 }
 
--- What a write that offered `len` bytes adds by its result: the bytes that were accepted, or a zero if there were none
--- of some [own]
+-- What a write that offered `len` bytes adds by its result: the accepted bytes, or a zero if bytes were offered but
+-- none was accepted [own]
 abbrev pub write_returned : ℕ → Result ℕ Trouble → WriteCounts → WriteCounts
 write_returned len (Ok n) c =
     record c { taken = counted (c.taken + n); zeros = if n == 0 && nat_lt 0 len then counted (c.zeros + 1) else c.zeros }
 write_returned len (Err Interrupted) c = record c { interrupted = counted (c.interrupted + 1) }
 write_returned len (Err Failed) c = record c { failed = counted (c.failed + 1) }
 
--- The counts after a write that offered `len` bytes [own]
+-- As `write_returned`, with the call counted too; after a write the device is not settled [own]
 abbrev pub write_counted : ℕ → Result ℕ Trouble → WriteCounts → WriteCounts
 write_counted len returned c =
     write_returned len returned (record c { calls = counted (c.calls + 1); offered = max c.offered len; settled = false })
@@ -66,7 +66,7 @@ flush_counted returned c = record c {
   settled = is_ok returned;
 }
 
--- `prefix` is a prefix of `whole` [own]
+-- A prefix of a list [own]
 abbrev pub IsBeginning : List ℕ → List ℕ → Type 0
 IsBeginning prefix whole = (rest : List ℕ) × (prefix ++ rest ≡ whole)
 
@@ -82,17 +82,18 @@ is_read_fault c = nat_lt 0 c.failed || nat_le 1000 c.interrupted
 abbrev pub is_write_fault : WriteCounts → Bool
 is_write_fault c = nat_lt 0 c.failed || (nat_lt 0 c.zeros || nat_le 1000 c.interrupted)
 
--- At most one call failed or moved nothing, and at most 1,000 writes were interrupted [own]
+-- At most one call failed or moved nothing, and at most 1,000 writes were interrupted, as when writing stops at the
+-- first fault [own]
 pub record IsWrittenWithin (c : WriteCounts) : Type 0 where
   pub faults : c.failed + c.zeros ≤ 1
   pub interrupted : c.interrupted ≤ INTERRUPTIONS_MAX + 1
 
--- The bytes that are still to be read, if they are known, and the counts [own]
+-- What contracts see of a `Source`; `remaining` is `None` if they do not know its bytes [own]
 pub record Reader : Type 0 where
   pub remaining : Option (List ℕ)
   pub counts : ReadCounts
 
--- The bytes that were accepted, if they are known, and the counts [own]
+-- What contracts see of a `Sink`; `taken` is `None` if they do not know the accepted bytes [own]
 pub record Writer : Type 0 where
   pub taken : Option (List ℕ)
   pub counts : WriteCounts

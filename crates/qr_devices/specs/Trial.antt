@@ -20,6 +20,6 @@ moved m call there =
     if nat_lt call m.interruptions then Err Interrupted else
     (if nat_le m.fails_from call then Err Failed else Ok (min there (max m.at_most 1)))
 
--- The bytes that it has still room for, none from its write or flush number `stops_from` on [own]
+-- How many bytes it has still room for: none from write or flush number `stops_from` on [own]
 abbrev pub free_of : Trial → ℕ
 free_of t = if nat_lt t.writes.calls t.faults.stops_from then t.room - length t.bytes.items else 0

@@ -19,7 +19,7 @@ fn trouble_of(error: io::Error) -> Trouble
 }
 
 /// Passes its calls on to `inner`, a reader or a writer, and counts them. Contracts know its bytes if they know those
-/// of `inner`, as in memory; they do not know those of a file, a pipe or a terminal.
+/// of `inner`: those in memory, but not those of a file, a pipe or a terminal.
 #[derive(Drop)]
 pub struct Counted<T> {
     inner: T,
@@ -41,7 +41,7 @@ impl<T> Counted<T> {
         }
     }
 
-    /// Returns the reader or writer that the device was made from.
+    /// Returns the reader or writer, and drops the counts.
     pub fn into_inner(self) -> T
         ensures { result ≡ self.inner }
     {

@@ -16,9 +16,9 @@ pub const INTERRUPTIONS_MAX: u16 = 999;
 /// How a read, a write or a flush fails.
 #[derive(Clone, Copy, Debug, PartialEq, Eq)]
 pub enum Trouble {
-    /// The call was interrupted (EINTR), and may be tried again.
+    /// By a signal (EINTR); the call may be tried again.
     Interrupted,
-    /// The call is not tried again.
+    /// For any other reason; the call is not tried again.
     Failed,
 }
 
@@ -29,7 +29,6 @@ pub struct ReadCounts {
     pub calls: u64,
     /// Reads that failed, without those that were interrupted.
     pub failed: u64,
-    /// Reads that were interrupted (EINTR).
     pub interrupted: u64,
     /// The bytes that all reads returned.
     pub given: u64,
@@ -78,17 +77,16 @@ pub struct WriteCounts {
     pub calls: u64,
     /// Writes that failed, and flushes that failed or were interrupted.
     pub failed: u64,
-    /// Writes that were interrupted (EINTR).
+    /// Interrupted writes, without flushes.
     pub interrupted: u64,
-    /// Writes that offered a byte and of which none was accepted.
+    /// Writes that returned 0 though they offered at least one byte.
     pub zeros: u64,
     /// The bytes that the device accepted.
     pub taken: u64,
     /// The most bytes that one write offered.
     pub offered: usize,
-    /// All flushes.
+    /// Flushes, failed ones too.
     pub flushes: u64,
-    /// Whether the last call was a flush that succeeded.
     pub settled: bool,
 }
 
@@ -124,7 +122,7 @@ impl WriteCounts {
         }
     }
 
-    /// Counts a flush that returned `answer`. An interrupted flush counts as failed, since it is not tried again.
+    /// Counts a flush that returned `answer`; an interrupted one counts as failed, since it is not tried again.
     pub fn add_flush(&mut self, answer: Result<(), Trouble>)
         ensures { self.new ≡ flush_counted answer self.old }
     {
@@ -137,11 +135,11 @@ impl WriteCounts {
     }
 }
 
-/// A device from which bytes are read. It counts each read with its result.
+/// A device from which bytes are read, and which counts each read with its result.
 pub trait Source {
     ghost use Rattle.qr_devices.specs.Device.{Reader};
 
-    // The bytes that are still to be read, if they are known, and the counts of the reads.
+    // What contracts see of the device.
     ghost device: { Self → Reader };
 
     /// Reads at most as many bytes as `buf` has room for, to its beginning, and returns how many. Returns 0 only at the
@@ -152,11 +150,10 @@ pub trait Source {
         ensures counted { (device self.new).counts ≡ read_counted (length buf.new) result (device self.old).counts };
 }
 
-/// A device to which bytes are written. It counts each write and each flush with its result.
+/// A device to which bytes are written, and which counts each write and each flush with its result.
 pub trait Sink {
     ghost use Rattle.qr_devices.specs.Device.{Writer};
 
-    // The bytes that were accepted, if they are known, and the counts of the writes and flushes.
     ghost device: { Self → Writer };
 
     /// Offers the bytes of `buf`, of which the device accepts a prefix, and returns how many it accepted.

@@ -1,4 +1,4 @@
-//! Laws of devices: how often an interrupted call is tried again, what counts are, and that `==` and clones are exact.
+//! Laws of devices and of their counts. A function with an empty body does nothing: its contract is the law.
 
 ghost use Rattle.std.specs.Prelude.{◌≡◌, ◌-◌, ◌^◌, false, Ok, Err, ◌↔◌, IsTrue, IfOk};
 ghost use Rattle.qr_devices.specs.Device.{no_reads, no_writes, read_counted, write_counted, flush_counted};

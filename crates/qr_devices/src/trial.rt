@@ -17,7 +17,7 @@ pub struct Faults {
     pub fails_from: u64,
     /// Writes from this number on return 0, unless they are interrupted or fail.
     pub stops_from: u64,
-    /// Whether every flush fails.
+    /// Whether every flush fails; none is interrupted.
     pub flush_fails: bool,
 }
 
@@ -51,11 +51,11 @@ impl Trial {
     ghost use Rattle.qr_devices.specs.Device.{no_reads, no_writes};
     ghost use Rattle.qr_devices.specs.Trial.{bytes_held, bytes_left, moved};
 
-    /// Returns a device from which `bytes` are read.
+    /// Returns a device from which a copy of `bytes` is read.
     ///
     /// # Errors
     ///
-    /// Returns an error if memory for the bytes is refused.
+    /// Returns an error if memory for the copy is refused.
     pub fn reader(alloc: Global, bytes: &[u8], faults: Faults) -> Result<Trial, AllocError>
         ensures left { IfOk result (λ t. bytes_left t ≡ bytes.now) }
         ensures unread { IfOk result (λ t. t.reads ≡ no_reads) }
@@ -101,21 +101,20 @@ impl Trial {
         self.bytes.as_slice()
     }
 
-    /// Returns the counts of the reads.
+    /// Returns the counts of all reads since the device was made.
     pub fn reads(&self) -> ReadCounts
         ensures { result ≡ self.now.reads }
     {
         self.reads
     }
 
-    /// Returns the counts of the writes and flushes.
+    /// Returns the counts of all writes and flushes since the device was made.
     pub fn writes(&self) -> WriteCounts
         ensures { result ≡ self.now.writes }
     {
         self.writes
     }
 
-    // Copies the next `n` bytes to the beginning of `buf`.
     fn give(&mut self, buf: &mut [u8], n: usize)
         requires there { self.old.position + n ≤ vec_len self.old.bytes }
         requires fits { n ≤ length buf.old }
@@ -130,7 +129,7 @@ impl Trial {
         self.position = end;
     }
 
-    // Returns what comes of read or write `call`, of which at most `there` bytes can be moved.
+    // `call` is the number of a read or write, and `there` the most bytes that buffer and device allow it to move.
     fn moved(&self, call: u64, there: usize) -> Result<usize, Trouble>
         ensures value { result ≡ moved self.now.faults call there }
         ensures bound { IfOk result (λ n. n ≤ there) }

@@ -3,8 +3,8 @@ use Rattle.std.specs.Prelude.{◌≡◌, [], ◌∷◌, codes, true, false}
 use Rattle.qr_drawing.specs.Text.{ascii_module, half_blocks, line_count}
 use Rattle.qr_drawing.specs.declared.text.TextStyle.TheVariants.{HalfBlocks}
 
--- In the style `Plain` a dark module is `##` and a light one two spaces; in the style `HalfBlocks` the space, U+2584,
--- U+2580 or U+2588 in UTF-8 shows two modules, one above the other, so that 29 rows make 15 lines [own]
+-- The lower half block U+2584, the upper U+2580 and the full block U+2588 are three bytes each in UTF-8; 29 rows are
+-- those of version 1 with a margin of four modules [own]
 pub record CharactersOfModules : Type 0 where
   pub dark : ascii_module true ≡ codes "##"
   pub light : ascii_module false ≡ codes "  "

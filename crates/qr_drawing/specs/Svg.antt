@@ -1,11 +1,12 @@
 -- The SVG document of symbols, drawn one below the other. `y` and `x` are a row and a column of the raster of the
--- square `g` with the margin `margin`, but in `box_path` of the document, and `top` is the number of rows of the document above this raster.
+-- square `g` with the margin `margin`, but in `box_path` of the document, and `top` is the number of rows of the
+-- document above this raster.
 use Rattle.std.specs.Prelude.{ℕ, ◌+◌, ◌-◌, ◌*◌, ◌==◌, Bool, not, ◌&&◌, ◌||◌, if◌then◌else◌, List, [], ◌++◌, length, slice_index_or, codes, decimal}
 use Rattle.std.specs.List.{prefix_len, range_with_len}
 use Rattle.qr_matrix.specs.Grid.{Grid, light}
 use Rattle.qr_drawing.specs.Raster.{is_dark_at, raster_width, texts_below}
 
--- The text, then the number in decimal digits [own]
+-- A piece of the document that ends with a number, in decimal digits [own]
 unfoldable pub numbered : List ℕ → ℕ → List ℕ
 numbered text number = text ++ decimal number
 

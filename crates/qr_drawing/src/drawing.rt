@@ -1,4 +1,4 @@
-//! Draws symbols as text or as an SVG document, with a light margin around each (ISO/IEC 18004:2015, 6.3.8).
+//! The types of drawing, what can be drawn, and the raster of each symbol.
 
 ghost use Rattle.std.specs.Prelude.{◌≡◌, ◌≤◌, ◌<◌, ◌+◌, max, is_err, length, map, OnOk, OnErr};
 ghost use Rattle.std.specs.Io.KnownBytes.{Appends};
@@ -33,7 +33,7 @@ pub trait HasSquare {
     // The square, as contracts see it.
     ghost grid: { Self → Grid };
 
-    /// Returns the square of modules.
+    /// Returns the square, without a margin.
     fn square(&self) -> &Matrix
         ensures { result.now ≡ grid self.now };
 }
@@ -62,7 +62,7 @@ pub(crate) fn raster_width(matrix: &Matrix, margin: u8) -> u16
     2 * u16::from(margin) + u16::from(matrix.side())
 }
 
-// Whether the module in row `y` and column `x` of the raster is dark.
+// All is light around the square, also beyond the raster.
 #[tactic(auto, unfolding(crate::specs::Raster::is_dark_at))]
 pub(crate) fn is_dark_at(matrix: &Matrix, margin: u8, y: u16, x: u16) -> bool
     ensures { result ≡ is_dark_at margin matrix.now y x }

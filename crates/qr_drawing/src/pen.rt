@@ -21,7 +21,7 @@ pub enum DrawFault {
     Write = 1,
 }
 
-/// The pen. The bytes of `piece` are not written yet, and `interrupted` writes were interrupted so far.
+/// The bytes of `piece` are not written yet, and `interrupted` writes were interrupted so far.
 #[derive(Drop)]
 pub(crate) struct Pen {
     pub(crate) piece: ArrayVec<u8, 1200>,

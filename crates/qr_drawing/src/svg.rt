@@ -24,8 +24,8 @@ const HEAD_MAX: usize = 300;
 // The number of bytes after the last box.
 const TAIL: usize = 11;
 
-// Appends a digit. The path's numbers are appended digit by digit, since the crate `itoa` would need 36 % more
-// instructions to draw the largest symbol.
+// The path's numbers are appended digit by digit, since the crate `itoa` would need 36 % more instructions to draw the
+// largest symbol.
 fn push_digit(text: &mut ArrayVec<u8, 1200>, digit: u16)
     requires digit { digit < 10 }
     requires room { array_vec_len text.old < 1200 }
@@ -141,7 +141,6 @@ fn push_head(text: &mut ArrayVec<u8, 1200>, width: u16, height: u16)
     push_all(text, b"<path fill=\"#000000\" d=\"");
 }
 
-// Writes the boxes of row `row` of `matrix`.
 fn put_row<W: Sink>(
     pen: &mut Pen,
     out: &mut W,
@@ -169,7 +168,6 @@ fn put_row<W: Sink>(
     Ok(())
 }
 
-// Writes the boxes of a symbol.
 fn put_symbol<W: Sink>(
     pen: &mut Pen,
     out: &mut W,
@@ -187,7 +185,7 @@ fn put_symbol<W: Sink>(
     Ok(())
 }
 
-// Writes the boxes of all symbols, one symbol below the other.
+// Each symbol stands below the one before it.
 fn put_stack<S: HasSquare, W: Sink>(
     pen: &mut Pen,
     out: &mut W,
@@ -208,7 +206,6 @@ fn put_stack<S: HasSquare, W: Sink>(
     Ok(())
 }
 
-/// Writes the SVG document of `symbols`.
 pub(crate) fn put_document<S: HasSquare, W: Sink>(
     pen: &mut Pen,
     out: &mut W,

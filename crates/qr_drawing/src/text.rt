@@ -51,7 +51,7 @@ fn top_row(style: TextStyle, y: u16) -> u16
     }
 }
 
-// The number of lines that show `rows` rows of modules.
+// If `rows` is odd, the last line of half blocks shows one row and light modules below it.
 fn line_count(style: TextStyle, rows: u16) -> u16
     requires { rows < 1000 }
     ensures value { result ≡ line_count style rows }
@@ -132,7 +132,7 @@ fn dark_bits(matrix: &Matrix, row: Option<u8>, col: u8) -> u8
     }
 }
 
-// The text of four modules, for each number of four bits.
+// The text of four modules in the style `Plain`, for each number of four bits.
 static ASCII_QUADS: [[u8; 8]; 16] = [
     *b"        ",
     *b"##      ",
@@ -152,7 +152,6 @@ static ASCII_QUADS: [[u8; 8]; 16] = [
     *b"########",
 ];
 
-// The text of four modules.
 fn ascii_quad(bits: u8) -> &'static [u8; 8]
     requires { bits < 16 }
     ensures { result.now ≡ bits_text 4 Plain bits 0 }
@@ -217,7 +216,6 @@ fn push_quad(text: &mut ArrayVec<u8, 1200>, style: TextStyle, upper: u8, lower: 
     }
 }
 
-// The text of eight modules.
 fn ascii_eight(bits: u8) -> [u8; 16]
     ensures { result ≡ bits_text 8 Plain bits 0 }
 {
@@ -227,7 +225,7 @@ fn ascii_eight(bits: u8) -> [u8; 16]
     text
 }
 
-// Appends the cells of bits 0 to 7.
+// As `push_quad`, for all eight bits.
 #[inline(always)]
 #[tactic(auto, using(crate::proofs::lemmas::text::CellLemmas::eight_quads, crate::proofs::lemmas::text::CellLemmas::eight_plain, crate::proofs::lemmas::text::CellLemmas::eight_inverse))]
 fn push_eight(text: &mut ArrayVec<u8, 1200>, style: TextStyle, upper: u8, lower: u8)
@@ -244,7 +242,6 @@ fn push_eight(text: &mut ArrayVec<u8, 1200>, style: TextStyle, upper: u8, lower:
     }
 }
 
-// Appends `count` cells of light modules.
 #[inline(always)]
 fn push_light(text: &mut ArrayVec<u8, 1200>, style: TextStyle, count: u16)
     requires room { array_vec_len text.old + count * cell_room style ≤ 1200 }
@@ -255,7 +252,7 @@ fn push_light(text: &mut ArrayVec<u8, 1200>, style: TextStyle, count: u16)
     }
 }
 
-// Appends `count` cells of row `row` of the raster, from column `first` on.
+// Appends cell by cell, for the last columns of a row, which are fewer than four.
 #[inline(always)]
 fn push_cells(
     text: &mut ArrayVec<u8, 1200>,
@@ -349,7 +346,6 @@ fn put_line<W: Sink>(
     Ok(())
 }
 
-// Writes a symbol as lines of text.
 #[inline(never)]
 fn put_lines<W: Sink>(
     pen: &mut Pen,
@@ -368,7 +364,7 @@ fn put_lines<W: Sink>(
     }
 }
 
-// As `put_lines`, but inlined once for each style, so that no loop has to test it.
+// Inlined once for each style, so that no loop has to test it.
 #[inline(always)]
 fn put_lines_of<W: Sink>(
     pen: &mut Pen,
@@ -386,7 +382,7 @@ fn put_lines_of<W: Sink>(
     Ok(())
 }
 
-/// Writes all symbols as lines of text, one symbol after the other.
+/// Nothing is written between two symbols.
 pub(crate) fn put_texts<S: HasSquare, W: Sink>(
     pen: &mut Pen,
     out: &mut W,

@@ -21,8 +21,8 @@ pub record IsRemainder (n divisor x r : ℕ) : Type 0 where
 abbrev pub prime_modulus : ℕ
 prime_modulus = 0x11D
 
--- p is the product of a and b in the field: what is left of their product as polynomials after division by the prime
--- modulus polynomial (ISO/IEC 18004:2015, 7.5.2)
+-- The product p of a and b in the field is what division by the prime modulus polynomial leaves of their product as
+-- polynomials (ISO/IEC 18004:2015, 7.5.2)
 abbrev pub IsProduct : ℕ → ℕ → ℕ → Type 0
 IsProduct a b p = IsRemainder 8 prime_modulus (carryless 8 a b) p
 

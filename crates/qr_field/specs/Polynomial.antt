@@ -9,13 +9,13 @@ use Rattle.qr_field.specs.Galois.{product}
 abbrev pub IsByte : ℕ → Type 0
 IsByte a = a < 256
 
--- The sum of coefficients at the same index, where the shorter list is as if it ended in zeros [own]
+-- The sum of coefficients at the same index, as if the shorter list went on with zeros [own]
 abbrev pub plus : List ℕ → List ℕ → List ℕ
 plus [] ys = ys
 plus (x ∷ xs) [] = x ∷ xs
 plus (x ∷ xs) (y ∷ ys) = bit_xor x y ∷ plus xs ys
 
--- k zeros [own]
+-- The polynomial 0 with k coefficients [own]
 abbrev pub zeros : ℕ → List ℕ
 zeros k = replicate k 0
 
@@ -23,7 +23,7 @@ zeros k = replicate k 0
 abbrev pub scaled : ℕ → List ℕ → List ℕ
 scaled a p = map (product a) p
 
--- The product of polynomials: of m coefficients and of n + 1, it has m + n (ISO/IEC 18004:2015, 7.5.2)
+-- The product of two polynomials; if these have m and n + 1 coefficients, it has m + n (ISO/IEC 18004:2015, 7.5.2)
 abbrev pub times : List ℕ → List ℕ → List ℕ
 times [] g = zeros (length g - 1)
 times (a ∷ q) g = plus (scaled a g) (0 ∷ times q g)
@@ -39,14 +39,14 @@ abbrev pub generator_of : ℕ → List ℕ
 generator_of zero = 1 ∷ []
 generator_of (suc n) = times (generator_of n) (1 ∷ power n ∷ [])
 
--- p is a multiple of g (ISO/IEC 18004:2015, 7.5.2)
+-- Division of p by g leaves no remainder (ISO/IEC 18004:2015, 7.5.2)
 pub record IsMultiple (g p : List ℕ) : Type 0 where
   pub quotient : List ℕ
   pub bytes : All IsByte quotient
   pub whole : times quotient g ≡ p
 
--- e are the n error correction codewords of the data codewords d: after d they make a multiple of the generator
--- polynomial (ISO/IEC 18004:2015, 7.5.2)
+-- The n error correction codewords e of the data codewords d: after d, they make a multiple of the generator polynomial
+-- (ISO/IEC 18004:2015, 7.5.2)
 pub record IsCorrection (d : List ℕ) (n : ℕ) (e : List ℕ) : Type 0 where
   pub count : length e ≡ n
   pub bytes : All IsByte e

@@ -1,4 +1,3 @@
--- How the code computes its results, for private contracts and the invariant of `Divisor`. Nobody who judges the public
--- promises needs these.
+-- How the code computes its results, for private contracts and the invariant of `Divisor`.
 pub mod Register
 pub mod Polynomial

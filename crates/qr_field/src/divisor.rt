@@ -1,5 +1,5 @@
-//! The division by a generator polynomial, a codeword at a time (ISO/IEC 18004:2015, 7.5.2). Its multiples are computed
-//! once: the one for a codeword is the sum of those for its low and its high four bits.
+//! The division by a generator polynomial, a codeword at a time (ISO/IEC 18004:2015, 7.5.2). The multiples of the
+//! polynomial are computed once: the one for a codeword is the sum of those for its low and its high four bits.
 
 ghost use Rattle.std.specs.Prelude.{◌≡◌, ◌≤◌, ℕ, List, length};
 ghost use Rattle.qr_field.specs.Steps.Register.{HasMultiples, divisor_of, packed, value_of};
@@ -10,8 +10,8 @@ use crate::register::Register;
 use arrayvec::ArrayVec;
 use std::marker::Model;
 
-/// The multiples of a generator polynomial, for any number of blocks. Contracts see a divisor as its number of error
-/// correction codewords.
+/// A generator polynomial, with what is needed to divide any number of blocks by it. Contracts see it as the number of
+/// error correction codewords of a block.
 #[derive(Drop)]
 pub struct Divisor {
     count: usize,
@@ -32,8 +32,7 @@ impl Model for Divisor {
         × HasMultiples (divisor_of d.count) 4 16 d.high };
 }
 
-// Entry i of the result is `terms` times i shifted left by `shift` bits: the sum of the entry of i's highest bit and
-// that of the rest of i.
+// Only the entries 1, 2, 4 and 8 are computed as products; the others are sums of them.
 fn multiples(terms: &[u8], shift: u8) -> [Register; 16]
     requires long { length terms.now ≤ 30 }
     requires small { shift ≤ 4 }

@@ -1,6 +1,6 @@
 //! Laws of products, generator polynomials and error correction codewords (ISO/IEC 18004:2015, 7.5.2, Annex A): the
-//! functions do nothing, and their contracts are the laws. Those whose names end in `compute` or `computes` give examples that the standard prints or
-//! that were worked out by hand.
+//! functions do nothing, and their contracts are the laws. Those whose names end in `compute` or `computes` give
+//! examples that the standard prints or that were worked out by hand.
 
 ghost use Rattle.std.specs.Prelude.{◌≡◌, ◌<◌, ◌≤◌, ℕ, ◌-◌, List, [], ◌∷◌, ◌++◌, All, map, length, slice_index, Some, None};
 ghost use Rattle.qr_field.specs.Galois.{IsProduct, product};
@@ -61,8 +61,8 @@ pub fn erasures_are_unambiguous()
     ensures { ErasuresAreUnambiguous }
 {}
 
-/// Where all codewords were read, none is an erasure, and the misread ones are those that differ, so that
-/// `erasures_are_unambiguous` holds for them too.
+/// Where all codewords were read, none is an erasure, and the misread ones are those that differ; so
+/// `erasures_are_unambiguous` also speaks of blocks that were read whole.
 pub fn damage_is_unambiguous()
     ensures read { (xs : List ℕ) → erasures (map (λ x. Some x) xs) ≡ 0 }
     ensures misread { (xs ys : List ℕ) → errors (map (λ x. Some x) xs) ys ≡ differences xs ys }

@@ -6,7 +6,7 @@ use Rattle.qr_layout.specs.declared.level.Level.{Level}
 use Rattle.qr_layout.specs.declared.level.Level.TheVariants.{L, M, Q, H}
 use Rattle.qr_layout.specs.Version.{total_codewords_of}
 
--- The error correction codewords of each block, for each of the versions 1 to 40 (ISO/IEC 18004:2015, 7.5.1, Table 9)
+-- How many error correction codewords each block has, for each of the versions 1 to 40 (ISO/IEC 18004:2015, 7.5.1, Table 9)
 abbrev pub correction_table : Level → List ℕ
 correction_table L = 7 ∷ 10 ∷ 15 ∷ 20 ∷ 26 ∷ 18 ∷ 20 ∷ 24 ∷ 30 ∷ 18 ∷ 20 ∷ 24 ∷ 26 ∷ 30 ∷ 22 ∷ 24 ∷ 28 ∷ 30 ∷ 28 ∷ 28 ∷ 28 ∷ 28 ∷ 30 ∷ 30 ∷ 26 ∷ 28 ∷ 30 ∷ 30 ∷ 30 ∷ 30 ∷ 30 ∷ 30 ∷ 30 ∷ 30 ∷ 30 ∷ 30 ∷ 30 ∷ 30 ∷ 30 ∷ 30 ∷ []
 correction_table M = 10 ∷ 16 ∷ 26 ∷ 18 ∷ 24 ∷ 16 ∷ 18 ∷ 22 ∷ 22 ∷ 26 ∷ 30 ∷ 22 ∷ 22 ∷ 24 ∷ 24 ∷ 28 ∷ 28 ∷ 26 ∷ 26 ∷ 26 ∷ 26 ∷ 28 ∷ 28 ∷ 28 ∷ 28 ∷ 28 ∷ 28 ∷ 28 ∷ 28 ∷ 28 ∷ 28 ∷ 28 ∷ 28 ∷ 28 ∷ 28 ∷ 28 ∷ 28 ∷ 28 ∷ 28 ∷ 28 ∷ []
@@ -20,11 +20,12 @@ block_table M = 1 ∷ 1 ∷ 1 ∷ 2 ∷ 2 ∷ 4 ∷ 4 ∷ 4 ∷ 5 ∷ 5 ∷ 5 �
 block_table Q = 1 ∷ 1 ∷ 2 ∷ 2 ∷ 4 ∷ 4 ∷ 6 ∷ 6 ∷ 8 ∷ 8 ∷ 8 ∷ 10 ∷ 12 ∷ 16 ∷ 12 ∷ 17 ∷ 16 ∷ 18 ∷ 21 ∷ 20 ∷ 23 ∷ 23 ∷ 25 ∷ 27 ∷ 29 ∷ 34 ∷ 34 ∷ 35 ∷ 38 ∷ 40 ∷ 43 ∷ 45 ∷ 48 ∷ 51 ∷ 53 ∷ 56 ∷ 59 ∷ 62 ∷ 65 ∷ 68 ∷ []
 block_table H = 1 ∷ 1 ∷ 2 ∷ 4 ∷ 4 ∷ 4 ∷ 5 ∷ 6 ∷ 8 ∷ 8 ∷ 11 ∷ 11 ∷ 16 ∷ 16 ∷ 18 ∷ 16 ∷ 19 ∷ 21 ∷ 25 ∷ 25 ∷ 25 ∷ 34 ∷ 30 ∷ 32 ∷ 35 ∷ 37 ∷ 40 ∷ 42 ∷ 45 ∷ 48 ∷ 51 ∷ 54 ∷ 57 ∷ 60 ∷ 63 ∷ 66 ∷ 70 ∷ 74 ∷ 77 ∷ 81 ∷ []
 
--- The number of error correction codewords of each block (ISO/IEC 18004:2015, 7.5.1, Table 9)
+-- How many error correction codewords a block has: all blocks of a symbol have equally many (ISO/IEC 18004:2015, 7.5.1,
+-- Table 9)
 unfoldable pub correction_len_of : ℕ → Level → ℕ
 correction_len_of v l = slice_index_or (correction_table l) (v - 1) 0
 
--- The number of blocks (ISO/IEC 18004:2015, 7.5.1, Table 9)
+-- The number of blocks, short and long together (ISO/IEC 18004:2015, 7.5.1, Table 9)
 unfoldable pub block_count_of : ℕ → Level → ℕ
 block_count_of v l = slice_index_or (block_table l) (v - 1) 0
 
@@ -42,20 +43,21 @@ blocks_of v l = record {
   ec_len = correction_len_of v l;
 }
 
--- The number of all codewords of the longest block (ISO/IEC 18004:2015, 7.5.1, Table 9)
+-- The number of codewords of a long block, or of a short one if there is no long block (ISO/IEC 18004:2015, 7.5.1,
+-- Table 9)
 abbrev pub longest_of : Blocks → ℕ
 longest_of b = b.short_len + min b.long 1 + b.ec_len
 
--- How many percent of a block's codewords may be misread, in every version, while what was read determines the block:
--- no more than half its error correction codewords, rounded down [own]
+-- A percentage of a block's codewords that in every version is at most half, rounded down, of its error correction
+-- codewords: if no more are misread and none is erased, only one block is possible [own]
 abbrev pub damage_of : Level → ℕ
 damage_of L = 9
 damage_of M = 17
 damage_of Q = 23
 damage_of H = 30
 
--- Blocks of the sizes `b` have together all data and error correction codewords of the symbol (ISO/IEC 18004:2015,
--- 7.5.1)
+-- Blocks of the sizes `b` together have all data and error correction codewords of the symbol; some are short, and none
+-- is empty or has more than 30 error correction codewords (ISO/IEC 18004:2015, 7.5.1)
 pub record AreWhole (v : ℕ) (l : Level) (b : Blocks) : Type 0 where
   pub some : 1 ≤ b.short
   pub some_len : 1 ≤ b.short_len

@@ -6,13 +6,12 @@ use Rattle.std.specs.Int.{bit_at}
 use Rattle.qr_layout.specs.declared.level.Level.{Level}
 use Rattle.qr_layout.specs.declared.level.Level.TheVariants.{L, M, Q, H}
 
--- x^10 + x^8 + x^5 + x^4 + x^2 + x + 1, the generator polynomial of the format information, of degree 10 (ISO/IEC
--- 18004:2015, Annex C)
+-- x^10 + x^8 + x^5 + x^4 + x^2 + x + 1, the generator polynomial of format information (ISO/IEC 18004:2015, Annex C)
 abbrev pub format_generator : ℕ
 format_generator = 0x537
 
--- x^12 + x^11 + x^10 + x^9 + x^8 + x^5 + x^2 + 1, the generator polynomial of the version information, of degree 12
--- (ISO/IEC 18004:2015, Annex D)
+-- x^12 + x^11 + x^10 + x^9 + x^8 + x^5 + x^2 + 1, the generator polynomial of version information (ISO/IEC 18004:2015,
+-- Annex D)
 abbrev pub version_generator : ℕ
 version_generator = 0x1F25
 

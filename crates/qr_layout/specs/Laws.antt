@@ -41,8 +41,8 @@ printed_protection H = 1 ∷ []
 abbrev pub printed_correction : Level → ℕ → ℕ
 printed_correction l v = 2 * slice_index_or (printed_errors l) (v - 1) 0 + slice_index_or (printed_protection l) (v - 1) 0
 
--- The distance between neighbouring rows of centres, of which there are `k`, from the second on: the least even number
--- that reaches, `k - 1` times, from row 6 to the last row, except that it is 26 in version 32 (ISO/IEC 18004:2015,
+-- With `k` rows of centres, the distance between neighbours from the second row on: the least even number that, taken
+-- `k - 1` times, reaches from row 6 to the last row of centres, except that it is 26 in version 32 (ISO/IEC 18004:2015,
 -- Annex E)
 abbrev pub gap_between : ℕ → ℕ → ℕ
 gap_between v k = if v == 32 then 26 else 2 * ((side_of v - 13 + 2 * (k - 1) - 1) / (2 * (k - 1)))
@@ -57,12 +57,12 @@ spaced_centres v = 6 ∷ map (λ i. side_of v - 7 - gap_between v (v / 7 + 2) * 
 abbrev pub alignment_size : ℕ → ℕ
 alignment_size k = if nat_lt k 2 then 0 else 25 * (k ^ 2 - 3) - 10 * (k - 2)
 
--- The number of modules of the version information (ISO/IEC 18004:2015, 7.10)
+-- The modules of version information: two blocks of 18, from version 7 on (ISO/IEC 18004:2015, 7.10)
 abbrev pub version_size : ℕ → ℕ
 version_size v = if nat_lt v 7 then 0 else 36
 
--- The modules outside the three corners, the timing patterns between them, the alignment patterns and the version
--- information (ISO/IEC 18004:2015, 6.3.7, 7.7.3)
+-- The modules outside the three corners (of 81, 72 and 72 modules), the timing patterns between them, the alignment
+-- patterns and the version information (ISO/IEC 18004:2015, 6.3.7, 7.7.3)
 abbrev pub region_size : ℕ → ℕ
 region_size v =
     side_of v ^ 2 - 225 - 2 * (side_of v - 17) - alignment_size (length (centres_of v)) - version_size v

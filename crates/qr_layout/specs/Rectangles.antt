@@ -1,11 +1,11 @@
--- Rectangles that cover, in a symbol of version `v`, all outside the encoding region but the alignment patterns.
+-- Rectangles that cover, in a symbol of version `v`, everything outside the encoding region but the alignment patterns.
 use Rattle.std.specs.Prelude.{◌≡◌, ℕ, ◌<◌, ◌≤◌, Bool, ◌&&◌, ◌||◌, nat_lt, nat_le, List}
 use Rattle.std.specs.List.{All, list_any}
 use Rattle.qr_layout.specs.declared.rectangles.Rectangle.{Rectangle}
 use Rattle.qr_layout.specs.Region.{is_corner, is_timing, is_version_information}
 use Rattle.qr_layout.specs.Version.{side_of}
 
--- The place in row `r` and column `c` is in the rectangle `b` [own]
+-- Row `bottom` and column `right` are the first after the rectangle [own]
 abbrev pub is_in_rectangle : ℕ → ℕ → Rectangle → Bool
 is_in_rectangle r c b = nat_le b.top r && nat_lt r b.bottom && nat_le b.left c && nat_lt c b.right
 

@@ -1,6 +1,5 @@
--- The encoding region of a symbol of version `v` with `s` modules on a side: the places outside the function patterns,
--- the format information and the version information. The standard's region includes both kinds of information. A place
--- is row `r` and column `c`.
+-- The encoding region of a symbol of version `v` with `s` modules on a side. The standard's region includes format and
+-- version information; here they are outside. A place is row `r` and column `c`.
 use Rattle.std.specs.Prelude.{◌≡◌, ℕ, ◌-◌, Bool, true, max, not, ◌&&◌, ◌||◌, ◌==◌, nat_lt, nat_le}
 use Rattle.std.specs.Int.{abs_diff}
 use Rattle.std.specs.List.{list_any}
@@ -13,7 +12,7 @@ use Rattle.qr_layout.specs.Alignment.{centres_of, alignment_places}
 abbrev pub is_corner : ℕ → ℕ → ℕ → Bool
 is_corner s r c = nat_le r 8 && (nat_le c 8 || nat_le (s - 8) c) || nat_le (s - 8) r && nat_le c 8
 
--- The place is in row 6 or column 6, the timing patterns (ISO/IEC 18004:2015, 6.3.5)
+-- The place is in row 6 or column 6, which have the timing patterns (ISO/IEC 18004:2015, 6.3.5)
 abbrev pub is_timing : ℕ → ℕ → Bool
 is_timing r c = r == 6 || c == 6
 
@@ -40,6 +39,6 @@ is_in_region v r c =
     nat_lt r (side_of v) && nat_lt c (side_of v)
     && not (is_corner (side_of v) r c || is_timing r c || is_version_information v r c || is_alignment v r c)
 
--- The module is in the encoding region (ISO/IEC 18004:2015, 6.3.7, 7.7.3)
+-- `is_in_region` as a statement on a module (ISO/IEC 18004:2015, 6.3.7, 7.7.3)
 abbrev pub InRegion : ℕ → Module → Type 0
 InRegion v m = is_in_region v m.row m.col ≡ true

@@ -14,12 +14,12 @@ use Rattle.qr_layout.specs.Region.{is_alignment, ring_of}
 abbrev pub finder_ring : ℕ → ℕ → ℕ → ℕ
 finder_ring s r c = min (ring_of 3 3 r c) (min (ring_of 3 (s - 4) r c) (ring_of (s - 4) 3 r c))
 
--- The place is on the light ring of an alignment pattern (ISO/IEC 18004:2015, 6.3.6)
+-- In an alignment pattern, ring 1 is light; the centre and ring 2 are dark (ISO/IEC 18004:2015, 6.3.6)
 unfoldable pub is_alignment_light : ℕ → ℕ → ℕ → Bool
 is_alignment_light v r c = list_any (λ m. ring_of m.row m.col r c == 1) (alignment_places (side_of v) (centres_of v))
 
--- The colour of a module of a finder pattern, separator, timing pattern or alignment pattern (ISO/IEC 18004:2015, 6.3.3
--- to 6.3.6)
+-- The colour of a module of a finder pattern, separator, timing pattern or alignment pattern; timing patterns are dark
+-- at even indices (ISO/IEC 18004:2015, 6.3.3 to 6.3.6)
 unfoldable pub pattern_colour : ℕ → ℕ → ℕ → Option Bool
 pattern_colour v r c =
     if nat_lt (finder_ring (side_of v) r c) 4 then Some (not (finder_ring (side_of v) r c == 2)) else
@@ -49,11 +49,11 @@ second_place s i = record {
 abbrev pub version_place : ℕ → ℕ → Module
 version_place s i = record { row = i / 3; col = s - 11 + i % 3 }
 
--- The place with its row and its column exchanged [own]
+-- Row and column exchanged [own]
 abbrev pub mirror_of : Module → Module
 mirror_of m = record { row = m.col; col = m.row }
 
--- The place `m` is in row `r` and column `c` [own]
+-- Equality of places [own]
 abbrev pub is_at : Module → ℕ → ℕ → Bool
 is_at m r c = m.row == r && m.col == c
 

@@ -15,8 +15,7 @@ abbrev pub both_of : List Module → List Module
 both_of [] = []
 both_of (m ∷ ms) = m ∷ record { row = m.row; col = m.col - 1 } ∷ both_of ms
 
--- The places of the strips, one strip after the other, and in each row the right place first (ISO/IEC 18004:2015,
--- 7.7.3)
+-- The places of all rows of the strips, one strip after the other (ISO/IEC 18004:2015, 7.7.3)
 abbrev pub places_of : ℕ → List Strip → List Module
 places_of s [] = []
 places_of s (x ∷ xs) = both_of (rows_from s x 0 s) ++ places_of s xs

@@ -2,7 +2,7 @@
 use Rattle.std.specs.Prelude.{ℕ, ◌-◌, ◌+◌, ◌*◌, List, [], ◌∷◌}
 use Rattle.std.specs.List.{slice_index_or}
 
--- The number of modules on a side (ISO/IEC 18004:2015, 6.3.2)
+-- The number of modules on a side: 21 in version 1, and 4 more in each version after it (ISO/IEC 18004:2015, 6.3.2)
 abbrev pub side_of : ℕ → ℕ
 side_of v = 17 + 4 * v
 
@@ -16,7 +16,7 @@ abbrev pub remainder_table : List ℕ
 remainder_table =
     0 ∷ 7 ∷ 7 ∷ 7 ∷ 7 ∷ 7 ∷ 0 ∷ 0 ∷ 0 ∷ 0 ∷ 0 ∷ 0 ∷ 0 ∷ 3 ∷ 3 ∷ 3 ∷ 3 ∷ 3 ∷ 3 ∷ 3 ∷ 4 ∷ 4 ∷ 4 ∷ 4 ∷ 4 ∷ 4 ∷ 4 ∷ 3 ∷ 3 ∷ 3 ∷ 3 ∷ 3 ∷ 3 ∷ 3 ∷ 0 ∷ 0 ∷ 0 ∷ 0 ∷ 0 ∷ 0 ∷ []
 
--- The number of codewords (ISO/IEC 18004:2015, 7.1, Table 1)
+-- The number of codewords, data and error correction codewords together (ISO/IEC 18004:2015, 7.1, Table 1)
 unfoldable pub total_codewords_of : ℕ → ℕ
 total_codewords_of v = slice_index_or total_table (v - 1) 0
 

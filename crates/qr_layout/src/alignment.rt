@@ -1,5 +1,5 @@
-//! The centres of the alignment patterns (ISO/IEC 18004:2015, 6.3.6 and Annex E). The rows of centres have the same
-//! indices as the columns, which are `centres` below; `side` is the number of modules on a side.
+//! The centres of the alignment patterns (ISO/IEC 18004:2015, 6.3.6 and Annex E). Their rows and their columns are the
+//! same numbers, called `centres` below; `side` is the number of modules on a side.
 
 ghost use Rattle.std.specs.Prelude.{◌≡◌, ◌≤◌, ◌-◌, ◌+◌, ◌&&◌, ◌++◌, ◌∷◌, [], if◌then◌else◌, not, length, nat_le, nat_lt};
 ghost use Rattle.std.specs.List.{list_any, flat_map};
@@ -56,7 +56,7 @@ static CENTRES: [[u8; 7]; 40] = [
     [6, 30, 58, 86, 114, 142, 170],
 ];
 
-// The rows of centres, in rising order.
+// The entry of `CENTRES` without the zeros that fill it up.
 pub(crate) fn centre_list(v: Version) -> &'static [u8]
     ensures { result.now ≡ centres_of v }
 {
@@ -83,7 +83,7 @@ impl Version {
     }
 }
 
-// Whether two rows, or two columns, are at most two apart.
+// An alignment pattern reaches two rows and two columns beyond its centre.
 fn is_near(centre: u8, at: u8) -> bool
     ensures { result ≡ (nat_le (centre - 2) at && nat_lt at (centre + 3)) }
 {
@@ -114,8 +114,7 @@ fn is_beside(centres: &[u8], side: u8, a: u8, col: u8) -> bool
         .any(|b| is_near(*b, col) && !is_corner_pair(side, a, *b))
 }
 
-// Whether the module is at most two rows and columns from a centre, and so in an alignment pattern.
-fn is_on_centre(centres: &[u8], side: u8, row: u8, col: u8) -> bool
+fn is_in_pattern(centres: &[u8], side: u8, row: u8, col: u8) -> bool
     requires { 21 ≤ side }
     ensures { result ≡ list_any (λ a. nat_le (a - 2) row && nat_lt row (a + 3)
         && list_any (λ b. nat_le (b - 2) col && nat_lt col (b + 3)
@@ -126,17 +125,15 @@ fn is_on_centre(centres: &[u8], side: u8, row: u8, col: u8) -> bool
         .any(|a| is_near(*a, row) && is_beside(centres, side, *a, col))
 }
 
-// As `is_on_centre`, for version `v`.
 #[tactic(auto, using(crate::proofs::lemmas::alignment::AlignmentLemmas::alignment_parts))]
 pub(crate) fn is_in_alignment(v: Version, row: u8, col: u8) -> bool
     ensures { result ≡ is_alignment v row col }
 {
     let side = v.side();
     let centres = centre_list(v);
-    is_on_centre(centres, side, row, col)
+    is_in_pattern(centres, side, row, col)
 }
 
-// Appends the centres in row `row`, from left to right.
 fn push_centres(places: &mut ArrayVec<Module, 49>, centres: &[u8], side: u8, row: u8)
     requires side_in { 21 ≤ side }
     requires room { array_vec_len places.old + length centres.now ≤ 49 }

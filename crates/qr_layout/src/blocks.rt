@@ -6,7 +6,7 @@ ghost use Rattle.qr_layout.specs.Blocks.{correction_len_of, block_count_of, data
 use crate::level::Level;
 use crate::version::Version;
 
-// The error correction codewords of each block, for the levels L, M, Q and H, and for the versions 1 to 40.
+// How many error correction codewords each block has, by level (L, M, Q and H) and then by version (1 to 40).
 static CORRECTION_LENS: [[u8; 40]; 4] = [
     [
         7, 10, 15, 20, 26, 18, 20, 24, 30, 18, 20, 24, 26, 30, 22, 24, 28, 30, 28, 28, 28, 28, 30,
@@ -26,7 +26,7 @@ static CORRECTION_LENS: [[u8; 40]; 4] = [
     ],
 ];
 
-// The number of blocks, in the order of `CORRECTION_LENS`.
+// In the order of `CORRECTION_LENS`.
 static BLOCK_COUNTS: [[u8; 40]; 4] = [
     [
         1, 1, 1, 1, 1, 2, 2, 2, 2, 4, 4, 4, 4, 4, 6, 6, 6, 6, 7, 8, 8, 9, 9, 10, 12, 12, 12, 13,
@@ -90,7 +90,8 @@ impl Version {
             - u16::from(self.block_count(level)) * u16::from(self.correction_len(level))
     }
 
-    /// Returns the sizes of the blocks at a level.
+    /// Returns the sizes of the blocks at a level, among which the data codewords are divided as evenly as possible
+    /// (ISO/IEC 18004:2015, 7.5.1, Table 9).
     pub fn blocks(self, level: Level) -> Blocks
         ensures { result ≡ blocks_of self level }
     {

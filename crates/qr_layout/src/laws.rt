@@ -1,5 +1,5 @@
-//! Laws of the layout, for every version, level and mask. The contract of a function is its law; only `nth_place`,
-//! `first_version`, `default_module` and `default_rectangle` compute a value.
+//! Laws of the layout, for every version, level and mask, and that `==` and clones are exact. The contract of a
+//! function is its law.
 
 ghost use Rattle.std.specs.Prelude.{◌≡◌, ◌<◌, ◌≤◌, ◌-◌, ◌*◌, ◌/◌, ◌⊎◌, ◌↔◌, ◌||◌, not, true, ℕ, List, ◌∷◌, ◌++◌, length, map, slice_get, IsTrue, IfOk};
 ghost use Rattle.std.specs.List.{list_any, range_with_len};
@@ -27,7 +27,7 @@ use crate::strips::Strip;
 use crate::version::Version;
 use std::alloc::AllocError;
 
-/// A version has at most one order of its encoding region: at most one list satisfies `IsOrder`.
+/// A version has at most one order of its encoding region.
 pub fn order_is_one(v: Version)
     ensures { (ms ns : List Module) → IsOrder v ms → IsOrder v ns → ms ≡ ns }
 {}

@@ -25,7 +25,6 @@ struct Cursor {
 }
 
 impl Cursor {
-    // The module at this position.
     fn place(self) -> Module
         requires strips_left { 0 < self.strips }
         requires strips_in { self.strips ≤ 88 }
@@ -36,7 +35,7 @@ impl Cursor {
         Module { row: self.row, col }
     }
 
-    // The next position. After the last row of a strip it is in the next strip, in the same row.
+    // After the last row of a strip comes the same row of the next strip.
     #[tactic(auto, unfolding(crate::specs::Steps::Order::next_of))]
     fn next(self, v: Version) -> Cursor
         requires strips_left { 0 < self.strips }
@@ -65,7 +64,7 @@ impl Cursor {
         }
     }
 
-    // The position of the module `m`, if `m` is not in column 6.
+    // The result has no meaning if `m` is in column 6.
     #[tactic(auto, unfolding(crate::specs::Steps::Order::cursor_at))]
     fn at(m: Module) -> Cursor
         ensures { result ≡ cursor_at m }

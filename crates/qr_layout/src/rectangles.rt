@@ -18,7 +18,8 @@ pub struct Rectangle {
 }
 
 impl Rectangle {
-    /// Returns the rectangle with these rows and columns.
+    /// Returns the rectangle with these rows and columns, which are not checked: it may be empty, or outside every
+    /// symbol.
     pub fn new(rows: Range<u8>, columns: Range<u8>) -> Rectangle
         ensures { result ≡ record { top = rows.start; bottom = rows.end; left = columns.start; right = columns.end } }
     {

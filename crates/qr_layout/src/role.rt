@@ -1,6 +1,5 @@
-//! The role of each module: a fixed colour, a bit of the format or version information, or a bit of a codeword or a
-//! remainder bit (ISO/IEC 18004:2015, 6.3 and 7.7.2). `centres` has the rows of centres of alignment patterns, which
-//! are also their columns, and `side` is the number of modules on a side.
+//! The role of each module (ISO/IEC 18004:2015, 6.3 and 7.7.2). `centres` has the rows of centres of alignment
+//! patterns, which are also their columns, and `side` is the number of modules on a side.
 
 ghost use Rattle.std.specs.Prelude.{◌≡◌, ◌≢◌, ◌<◌, ◌≤◌, ◌==◌, ◌&&◌, not};
 ghost use Rattle.std.specs.List.{list_any};
@@ -13,7 +12,7 @@ use crate::alignment::{centre_list, is_corner_pair, is_in_alignment};
 use crate::region::{Module, is_in_version_block};
 use crate::version::Version;
 
-/// What a module contains.
+/// What a module contains, which depends only on the version and the place.
 #[derive(Clone, Copy, Debug, PartialEq, Eq)]
 pub enum Role {
     /// A colour, the same in all symbols of the version; `true` is dark.
@@ -74,7 +73,7 @@ fn is_alignment_light(v: Version, row: u8, col: u8) -> bool
     is_light_among(centres, side, row, col)
 }
 
-// The colour of a module of a finder pattern, separator, timing pattern or alignment pattern; `true` is dark.
+// `None` outside the finder patterns, separators, timing patterns and alignment patterns; `true` is dark.
 #[tactic(auto, unfolding(crate::specs::Role::pattern_colour))]
 fn pattern_colour(v: Version, row: u8, col: u8) -> Option<bool>
     ensures { result ≡ pattern_colour v row col }
@@ -157,7 +156,7 @@ fn format_bit_down(side: u8, row: u8) -> Option<u8>
     }
 }
 
-// As `format_bit_down`, but in row 8, and not in column 8.
+// As `format_bit_down`, but in row 8.
 fn format_bit_across(side: u8, col: u8) -> Option<u8>
     requires least { 21 ≤ side }
     requires col_in { col < side }
@@ -193,8 +192,8 @@ fn format_bit(side: u8, row: u8, col: u8) -> Option<u8>
     }
 }
 
-// The index of the bit of the version information. The first copy is in the rows 0 to 5 and the columns `side - 11` to
-// `side - 9`; in the second, rows and columns are exchanged.
+// In the block beside the top right finder pattern, each row has three bits, the lowest first, from bit 0 in row 0 on.
+// In the other block, rows and columns are exchanged.
 fn version_bit(v: Version, row: u8, col: u8) -> Option<u8>
     requires row_in { row < side_of v }
     requires col_in { col < side_of v }
@@ -213,7 +212,8 @@ fn version_bit(v: Version, row: u8, col: u8) -> Option<u8>
     None
 }
 
-/// Returns the role of the module in row `row` and column `col` of version `v`.
+/// Returns the role of the module in row `row` and column `col`, both counted from 0, in a symbol of version `v`
+/// (ISO/IEC 18004:2015, 6.3 and 7.7.2).
 #[tactic(auto, unfolding(crate::specs::Role::role_of))]
 pub fn cell(v: Version, row: u8, col: u8) -> Role
     requires row_in { row < side_of v }

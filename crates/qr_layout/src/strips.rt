@@ -15,20 +15,19 @@ use std::marker::Model;
 /// Two neighbouring columns that are filled together, row by row; in each row the right module comes first.
 #[derive(Clone, Copy, Debug, PartialEq, Eq)]
 pub struct Strip {
-    /// The right column.
+    /// The right column; the left one is `right - 1`.
     pub right: u8,
     /// Whether it is filled from the last row of the symbol to the first.
     pub upward: bool,
 }
 
-// The strip with this number. Here column 6 is skipped.
 #[inline(always)]
 pub(crate) fn strip_at(number: u8) -> Strip
     requires least { 0 < number }
     requires most { number ≤ 88 }
     ensures { result ≡ strip_at number }
 {
-    // The right column if column 6 is not counted; from column 6 on, the index is greater by 1.
+    // The right column if column 6, which is skipped, were not counted: columns after it have an index greater by 1.
     let untimed = 2 * number - 1;
     let right = if untimed < 6 { untimed } else { untimed + 1 };
     let upward = number % 2 == 0;

@@ -1,5 +1,4 @@
-//! The forty versions, which determine a symbol's side, codewords and remainder bits (ISO/IEC 18004:2015, 6.3.2 and
-//! 7.1, Table 1).
+//! The side, the codewords and the remainder bits of the forty versions (ISO/IEC 18004:2015, 6.3.2 and 7.1, Table 1).
 
 ghost use Rattle.std.specs.Prelude.{◌≡◌, ◌≤◌, SomeIff, ℕ, MatchOption};
 ghost use Rattle.qr_layout.specs.Version.{side_of};
@@ -7,14 +6,14 @@ ghost use Rattle.qr_layout.specs.Version.{total_codewords_of, remainder_bits_of}
 
 use std::marker::Model;
 
-// The number of codewords, for the versions 1 to 40.
+// For the versions 1 to 40.
 static TOTAL_CODEWORDS: [u16; 40] = [
     26, 44, 70, 100, 134, 172, 196, 242, 292, 346, 404, 466, 532, 581, 655, 733, 815, 901, 991,
     1085, 1156, 1258, 1364, 1474, 1588, 1706, 1828, 1921, 2051, 2185, 2323, 2465, 2611, 2761, 2876,
     3034, 3196, 3362, 3532, 3706,
 ];
 
-// The number of remainder bits, for the versions 1 to 40.
+// In the same order.
 static REMAINDER_BITS: [u8; 40] = [
     0, 7, 7, 7, 7, 7, 0, 0, 0, 0, 0, 0, 0, 3, 3, 3, 3, 3, 3, 3, 4, 4, 4, 4, 4, 4, 4, 3, 3, 3, 3, 3,
     3, 3, 0, 0, 0, 0, 0, 0,

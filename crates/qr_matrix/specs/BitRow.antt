@@ -1,5 +1,5 @@
--- A bit row is 192 bits in three words of 64 bits, bit 0 the lowest of the first word. A square of modules is stored as
--- a list of bit rows, one for each row.
+-- Bit rows, in which bit 0 is the lowest bit of the first word. A square is stored as a list of bit rows, from the top
+-- down.
 use Rattle.std.specs.Prelude.{ℕ, ◌+◌, ◌*◌, ◌^◌, Bool, ◌==◌, List, slice_index, slice_index_or, []}
 use Rattle.std.specs.Int.{bit_at}
 
@@ -11,7 +11,7 @@ bit_row_number words = (slice_index words 2 * 2 ^ 64 + slice_index words 1) * 2 
 unfoldable pub has_bit : ℕ → ℕ → Bool
 has_bit n c = bit_at n c == 1
 
--- Bit `c` of the bit row `words` is 1 [own]
+-- As `has_bit`, but for a bit row [own]
 unfoldable pub has : List ℕ → ℕ → Bool
 has words c = has_bit (bit_row_number words) c
 

@@ -1,4 +1,4 @@
--- The dark runs of a row, from left to right.
+-- What `Matrix::dark_runs` yields.
 use Rattle.std.specs.Prelude.{◌≡◌, ◌<◌, ◌≤◌, ◌&&◌, ℕ, nat_le, nat_lt, List}
 use Rattle.std.specs.List.{All, AllPairs, list_any}
 use Rattle.qr_matrix.specs.Grid.{Grid, colour}

@@ -1,12 +1,12 @@
--- In how many modules two squares differ.
+-- Comparing two squares.
 use Rattle.std.specs.Prelude.{ℕ, not, Bool}
 use Rattle.qr_matrix.specs.Grid.{Grid, colour, is_same}
 use Rattle.qr_matrix.specs.Sums.{places_passing}
 
--- The squares have different colours in row `r` and column `c` [own]
+-- The colours in row `r` and column `c` are different [own]
 abbrev pub differs : Grid → Grid → ℕ → ℕ → Bool
 differs g h r c = not (is_same (colour g r c) (colour h r c))
 
--- The number of modules in which the squares differ [own]
+-- The number of places of `g` in which the squares differ [own]
 unfoldable pub difference_count : Grid → Grid → ℕ
 difference_count g h = places_passing g.side (differs g h)

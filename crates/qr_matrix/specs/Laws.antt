@@ -1,11 +1,11 @@
 -- Squares whose penalties were counted by hand, each as the colour of the module in row `r` and column `c`.
 use Rattle.std.specs.Prelude.{ℕ, ◌+◌, ◌%◌, ◌&&◌, ◌||◌, ◌==◌, nat_le, Bool, true, false}
 
--- Every module is dark [own]
+-- Dark everywhere [own]
 abbrev pub all_dark : ℕ → ℕ → Bool
 all_dark r c = true
 
--- Every module is light [own]
+-- Light everywhere [own]
 abbrev pub all_light : ℕ → ℕ → Bool
 all_light r c = false
 

@@ -1,12 +1,12 @@
 -- The penalty of a symbol, by which its mask is chosen. `dark r c` is the colour in row `r` and column `c` of a square
--- of side `s`, and `line k` that of module `k` of a row or column; `true` is dark.
+-- of side `s`, and `line k` that of module `k` of a row or column.
 use Rattle.std.specs.Prelude.{ℕ, ◌+◌, ◌-◌, ◌*◌, ◌/◌, ◌&&◌, ◌||◌, not, Bool, true, false, nat_lt, nat_le, ◌==◌, if◌then◌else◌, List, [], ◌∷◌, ◌++◌}
 use Rattle.std.specs.Int.{abs_diff}
 use Rattle.qr_matrix.specs.Grid.{is_same}
 use Rattle.qr_matrix.specs.Sums.{sum_below, count_below, all_below, places_passing}
 
--- The `k` modules from `a` on are a maximal run: they have one colour, which neither the module before them nor the one
--- after them has (ISO/IEC 18004:2015, 7.8.3, adjacent modules of the same colour)
+-- The `k` modules from `a` on are a run: neither the module before them nor the one after them has their colour
+-- (ISO/IEC 18004:2015, 7.8.3, adjacent modules of the same colour)
 unfoldable pub is_run : ℕ → (ℕ → Bool) → ℕ → ℕ → Bool
 is_run s line a k =
     nat_le (a + k) s
@@ -14,8 +14,8 @@ is_run s line a k =
     && (a == 0 || not (is_same (line (a - 1)) (line a)))
     && (a + k == s || not (is_same (line (a + k)) (line a)))
 
--- The points for runs: `k - 2` for each maximal run of `k` modules, if `k` is at least 5 (ISO/IEC 18004:2015, 7.8.3.1,
--- Table 11)
+-- The points for runs: `k - 2` for each run of `k` modules, if `k` is at least 5 (ISO/IEC 18004:2015, 7.8.3.1, Table
+-- 11)
 unfoldable pub run_cost : ℕ → (ℕ → Bool) → ℕ
 run_cost s line = sum_below s (λ a. sum_below (s + 1) (λ k. if nat_le 5 k && is_run s line a k then k - 2 else 0))
 
@@ -24,20 +24,20 @@ abbrev pub reads : (ℕ → Bool) → ℕ → List Bool → Bool
 reads line c [] = true
 reads line c (b ∷ bs) = is_same (line c) b && reads line (c + 1) bs
 
--- The ratio 1:1:3:1:1 of a finder pattern (ISO/IEC 18004:2015, 7.8.3.1, Table 11)
+-- Dark, light, dark, light and dark in the ratio 1:1:3:1:1 (ISO/IEC 18004:2015, 7.8.3.1, Table 11)
 abbrev pub finder_ratio : List Bool
 finder_ratio = true ∷ false ∷ true ∷ true ∷ true ∷ false ∷ true ∷ []
 
--- Four light modules (ISO/IEC 18004:2015, 7.8.3.1, Table 11)
+-- The light area before or after the ratio, four modules wide (ISO/IEC 18004:2015, 7.8.3.1, Table 11)
 abbrev pub four_light : List Bool
 four_light = false ∷ false ∷ false ∷ false ∷ []
 
--- A window begins at `c`: the ratio before or after four light modules (ISO/IEC 18004:2015, 7.8.3.1, Table 11)
+-- A window begins at `c`; its 11 modules are all inside the symbol (ISO/IEC 18004:2015, 7.8.3.1, Table 11)
 unfoldable pub is_window : ℕ → (ℕ → Bool) → ℕ → Bool
 is_window s line c =
     nat_le (c + 11) s && (reads line c (finder_ratio ++ four_light) || reads line c (four_light ++ finder_ratio))
 
--- The number of windows in `line` [own]
+-- The number of windows in `line`, overlapping ones too [own]
 unfoldable pub window_count : ℕ → (ℕ → Bool) → ℕ
 window_count s line = count_below s (is_window s line)
 
@@ -55,7 +55,7 @@ square_count s dark = places_passing s (is_square_of_two s dark)
 -- The points for the share of dark modules: 10 for each whole twentieth (5 percent) by which it differs from a half
 -- (ISO/IEC 18004:2015, 7.8.3.1, Table 11, proportion of dark modules)
 unfoldable pub dark_cost : ℕ → ℕ → ℕ
-dark_cost s dark = 10 * (abs_diff (20 * dark) (10 * (s * s)) / (s * s))
+dark_cost s many = 10 * (abs_diff (20 * many) (10 * (s * s)) / (s * s))
 
 -- The sum of `f` over all rows and all columns [own]
 unfoldable pub over_lines : ℕ → (ℕ → ℕ → Bool) → ((ℕ → Bool) → ℕ) → ℕ

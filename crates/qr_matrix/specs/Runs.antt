@@ -1,5 +1,5 @@
 -- Where a run ends, and the points for runs counted module by module. `line c` is the colour of module `c` of a row or
--- column of `s` modules; `true` is dark.
+-- column of `s` modules.
 use Rattle.std.specs.Prelude.{◌≡◌, ◌≢◌, ◌+◌, ◌-◌, ◌*◌, ◌<◌, ◌≤◌, ◌&&◌, not, ℕ, Bool, nat_lt}
 use Rattle.qr_matrix.specs.Grid.{Grid, colour, is_same}
 use Rattle.qr_matrix.specs.Sums.{count_below}
@@ -11,11 +11,11 @@ pub record IsRunEnd (g : Grid) (row col end : ℕ) : Type 0 where
   pub same : (c : ℕ) → col ≤ c → c < end → colour g row c ≡ colour g row col
   pub differs : end < g.side → colour g row end ≢ colour g row col
 
--- Modules `c` and `c + 1` are in `line` and have one colour [own]
+-- Two neighbouring modules of one colour, of which `c` is the first [own]
 unfoldable pub joins : ℕ → (ℕ → Bool) → ℕ → Bool
 joins s line c = nat_lt (c + 1) s && is_same (line c) (line (c + 1))
 
--- The five modules from `c` on are in `line` and have one colour [own]
+-- Five modules of one colour, of which `c` is the first [own]
 unfoldable pub begins_five : ℕ → (ℕ → Bool) → ℕ → Bool
 begins_five s line c = (joins s line c && joins s line (c + 1)) && (joins s line (c + 2) && joins s line (c + 3))
 

@@ -29,7 +29,7 @@ columns_passing p k n = filter p (range_with_len k n)
 abbrev pub set_bits : List ℕ → List ℕ
 set_bits words = columns_passing (has words) 0 192
 
--- Module `c` has another colour than the module before it; before module 0 it counts as light
+-- Module `c` has another colour than the module before it, which counts as light for module 0
 unfoldable pub is_change : (ℕ → Bool) → ℕ → Bool
 is_change line c = not (is_same (line c) (nat_lt 0 c && line (c - 1)))
 
@@ -47,12 +47,12 @@ is_charged s line c = (begins_five s line c || (nat_lt 0 c && begins_five s line
 unfoldable pub row_share : ℕ → (ℕ → ℕ → Bool) → ℕ → ℕ
 row_share s dark r = count_below s (λ c. is_charged s (λ i. dark i c) r)
 
--- Bit `c` of word `r`
+-- The bit in row `r` and column `c` of a tile
 unfoldable pub bit_in : List ℕ → ℕ → ℕ → Bool
 bit_in words r c = has_bit (slice_index words r) c
 
--- The square of bits `f` after an exchange: in each group of two by two parts of `s` by `s` bits, the upper right and
--- the lower left part are exchanged
+-- The tile `f` after a stage: of each two by two parts of `s` by `s` bits, the upper right and the lower left one are
+-- exchanged
 unfoldable pub exchanged : ℕ → (ℕ → ℕ → Bool) → ℕ → ℕ → Bool
 exchanged s f r c =
     if nat_lt (r % (2 * s)) s

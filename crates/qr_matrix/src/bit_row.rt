@@ -1,4 +1,4 @@
-//! Rows of 192 bits in three words of 64 bits, as `Matrix` stores its rows. A bit that is 1 is called set.
+//! The rows of a `Matrix`, on which one operation works on 64 modules at a time. A bit that is 1 is called set.
 
 ghost use Rattle.std.specs.Prelude.{◌≡◌, ℕ, List, ◌+◌, ◌-◌, ◌*◌, ◌/◌, ◌%◌, ◌^◌, ◌<◌, ◌≤◌, ◌&&◌, ◌||◌, not, true, false, nat_le, nat_lt, ◌==◌, if◌then◌else◌};
 ghost use Rattle.std.specs.Iterator.{YieldsFirst};
@@ -9,7 +9,7 @@ ghost use Rattle.qr_matrix.specs.Steps.{set_bits, size_of};
 use std::marker::Model;
 use std::ops::{BitAnd, BitOr, BitXor};
 
-/// A row of 192 bits; bit 0 is the lowest bit of the first of three words.
+/// A row of 192 bits in three words of 64 bits; bit 0 is the lowest bit of the first word.
 #[derive(Clone, Copy)]
 pub struct BitRow([u64; 3]);
 
@@ -62,7 +62,6 @@ impl BitXor for BitRow {
 impl BitRow {
     pub(crate) const EMPTY: BitRow = BitRow([0; 3]);
 
-    /// The row in which exactly the bits below `n` are set.
     pub(crate) fn below(n: u8) -> BitRow
         requires { n ≤ 192 }
         ensures { (c : ℕ) → has result c ≡ nat_lt c n }
@@ -94,7 +93,6 @@ impl BitRow {
         }
     }
 
-    /// The six bits of `pattern`, repeated over the row.
     pub(crate) fn repeated(pattern: u8) -> BitRow
         requires { pattern < 64 }
         ensures { (c : ℕ) → c < 192 → has result c ≡ has_bit pattern (c % 6) }
@@ -126,7 +124,6 @@ impl BitRow {
         ])
     }
 
-    /// As `shifted_left`, but by one bit to the right.
     pub(crate) fn shifted_right(self) -> BitRow
         ensures { (c : ℕ) → c < 192 → has result c ≡ (nat_lt 0 c && has self (c - 1)) }
     {
@@ -154,7 +151,7 @@ impl BitRow {
         self.count()
     }
 
-    /// The index of the first bit that is set, or 192.
+    /// Returns 192 if no bit is set.
     pub(crate) fn first(self) -> u8
         ensures most { result ≤ 192 }
         ensures before { (c : ℕ) → c < result → has self c ≡ false }
@@ -173,7 +170,6 @@ impl BitRow {
         192
     }
 
-    /// Clears the first bit that is set, and returns its index.
     #[inline(always)]
     pub(crate) fn take_first(&mut self) -> Option<u8>
         ensures { YieldsFirst set_bits self.old result self.new }
@@ -206,7 +202,6 @@ impl BitRow {
         ((self.0[usize::from(index / 64)] >> (index % 64)) % 16) as u8
     }
 
-    /// As `four`, but for eight bits.
     #[tactic(auto, using(crate::proofs::Named::bit_row_facts))]
     pub(crate) fn eight(&self, index: u8) -> u8
         requires index_in { index < 192 }

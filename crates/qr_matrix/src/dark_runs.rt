@@ -18,7 +18,7 @@ pub struct Run {
 /// An iterator over the dark runs of a row, from left to right. Contracts see it as the list of the runs that are left.
 #[derive(Drop)]
 pub struct DarkRuns {
-    // The starts and the ends of the runs that are left, in turn: the columns in which the colour changes.
+    // The starts and the ends of the runs that are left, in turn.
     changes: BitRow,
 }
 
@@ -33,7 +33,7 @@ impl Model for DarkRuns {
 }
 
 impl Matrix {
-    /// Returns an iterator over the dark runs of row `row`, from left to right.
+    /// Returns the dark runs of row `row`, from left to right.
     pub fn dark_runs(&self, row: u8) -> DarkRuns
         requires { row < self.now.side }
         ensures { AreDarkRuns self.now row result }

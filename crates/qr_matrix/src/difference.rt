@@ -1,4 +1,4 @@
-//! Counts the modules in which two squares differ.
+//! Compares two squares row by row, 64 modules at a time.
 
 ghost use Rattle.std.specs.Prelude.{◌≡◌};
 ghost use Rattle.qr_matrix.specs.Difference.{difference_count};

@@ -1,6 +1,5 @@
-//! Laws of the penalty (ISO/IEC 18004:2015, 7.8.3.1, Table 11) and of differences. A function without a parameter does
-//! nothing: its contract is the law. One with a parameter returns what the code counts 64 modules at a time, and its
-//! contract is that the definition counts the same.
+//! Laws of the penalty (ISO/IEC 18004:2015, 7.8.3.1, Table 11), of differences and of clones. A function without a
+//! parameter does nothing: its contract is the law.
 
 ghost use Rattle.std.specs.Prelude.{◌≡◌, ◌↔◌, ◌<◌, ℕ, Bool, IfOk};
 ghost use Rattle.qr_matrix.specs.Penalty.{over_lines, run_cost, square_count, window_count, penalty_of};

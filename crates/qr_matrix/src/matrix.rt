@@ -1,7 +1,6 @@
-//! Stores the modules of a symbol as a square, without the quiet zone (ISO/IEC 18004:2015, 6.3.2). In numbers and bit
-//! rows, the leftmost module is the lowest bit, and a set bit is dark.
+//! Stores the modules of a symbol as a square, without the quiet zone (ISO/IEC 18004:2015, 6.3.2).
 
-ghost use Rattle.std.specs.Prelude.{◌≡◌, ℕ, ◌+◌, ◌-◌, ◌*◌, ◌/◌, ◌%◌, ◌<◌, ◌≤◌, ◌&&◌, ◌==◌, not, nat_le, nat_lt, if◌then◌else◌, false, length, IfOk};
+ghost use Rattle.std.specs.Prelude.{◌≡◌, ℕ, ◌+◌, ◌-◌, ◌*◌, ◌/◌, ◌%◌, ◌<◌, ◌≤◌, ◌&&◌, ◌==◌, not, if◌then◌else◌, false, length, IfOk};
 ghost use Rattle.qr_matrix.specs.Grid.{square, colour, painted, with_row, with_rectangle, light, transposed};
 ghost use Rattle.qr_matrix.specs.BitRow.{dark_in, has, has_bit};
 ghost use Rattle.qr_matrix.specs.Runs.{IsRunEnd};
@@ -16,7 +15,7 @@ use std::marker::Model;
 #[derive(Drop)]
 pub struct Matrix {
     side: u8,
-    // A bit row for each row. No bit outside the square is set.
+    // From the top down. No bit outside the square is set.
     rows: Vec<BitRow>,
 }
 
@@ -49,7 +48,7 @@ impl Matrix {
         Ok(Matrix { side, rows })
     }
 
-    /// Returns the number of modules on a side.
+    /// Returns the number of modules on a side, from 1 to 177.
     pub fn side(&self) -> u8
         ensures value { result ≡ self.now.side }
         ensures least { 1 ≤ result }
@@ -92,8 +91,8 @@ impl Matrix {
         self.rows[usize::from(row)].eight(col)
     }
 
-    /// Returns the end of the run that contains column `col`: the first column after `col` of another colour, or the
-    /// side if there is none.
+    /// Returns the end of the run in row `row` that contains column `col`: the first column after `col` of another
+    /// colour, or the side if there is none.
     pub fn run_end(&self, row: u8, col: u8) -> u8
         requires row_in { row < self.now.side }
         requires col_in { col < self.now.side }
@@ -104,7 +103,7 @@ impl Matrix {
         later.first().min(side)
     }
 
-    // The columns that have another colour than the one before them; light surrounds the square.
+    // Light surrounds the square: column 0 is a change if it is dark, and column `side` if the last one is.
     #[tactic(auto, unfolding(crate::specs::Steps::is_change))]
     pub(crate) fn changes(&self, row: u8) -> BitRow
         requires { row < self.now.side }
@@ -126,7 +125,6 @@ impl Matrix {
         self.rows[row]
     }
 
-    // As `four`, but for the 64 modules from column `64 * number` on.
     #[tactic(auto, using(crate::proofs::Named::row_facts))]
     pub(crate) fn word(&self, row: usize, number: usize) -> u64
         requires row_in { row < self.now.side }
@@ -136,8 +134,8 @@ impl Matrix {
         self.rows[row].word(number)
     }
 
-    // How many words a row needs. The functions of the penalty take this number as `words`: they are inlined once for
-    // each value, without the empty words.
+    // The functions of the penalty take this number as `words`: they are inlined once for each value, without the empty
+    // words.
     pub(crate) fn words(&self) -> u8
         ensures { NeedsWords self.now.side result }
     {
@@ -165,7 +163,7 @@ impl Matrix {
         self.rows[usize::from(row)].put(col, dark);
     }
 
-    /// Sets row `row` to the bits of `bits`; a set bit is dark.
+    /// Replaces row `row` by `bits`, a bit row as `bit_row` returns it.
     pub fn set_bit_row(&mut self, row: u8, bits: BitRow)
         requires row_in { row < self.old.side }
         requires past { (c : ℕ) → self.old.side ≤ c → has bits c ≡ false }
@@ -174,7 +172,6 @@ impl Matrix {
         self.rows[usize::from(row)] = bits;
     }
 
-    // Sets the modules from column `64 * number` on.
     pub(crate) fn set_word(&mut self, row: usize, number: usize, word: u64)
         requires row_in { row < self.old.side }
         requires word_in { number < 3 }
@@ -202,7 +199,6 @@ impl Matrix {
         self.set_bit_row(row, plain.bit_row(index) ^ inverted);
     }
 
-    // Sets the modules of row `row` in `columns`.
     #[tactic(auto, using(crate::proofs::Named::replaced_facts))]
     fn fill_row(&mut self, row: u8, columns: BitRow, dark: bool)
         requires row_in { row < self.old.side }

@@ -11,13 +11,12 @@ use crate::matrix::Matrix;
 use crate::runs::runs_and_squares;
 use crate::windows::window_count;
 
-// The points of Table 11 for a two by two square of one colour.
+// The points of Table 11; a square here is two by two modules of one colour.
 const SQUARE_POINTS: u32 = 3;
 
-// The points of Table 11 for a window.
 const WINDOW_POINTS: u32 = 40;
 
-// The points of Table 11 for each whole 5 % by which the share of dark modules differs from a half.
+// For each whole 5 % by which the share of dark modules differs from a half.
 const BALANCE_POINTS: u32 = 10;
 
 #[inline(always)]
@@ -34,7 +33,7 @@ fn dark_count(matrix: &Matrix, words: u8) -> u32
     total
 }
 
-// The points for the share of dark modules.
+// Counts in twentieths (5 %) of the modules: of these, `20 * dark / modules` are dark, and 10 are a half.
 fn balance_cost(modules: u32, dark: u32) -> u32
     requires some { 0 < modules }
     requires most { modules ≤ 31329 }

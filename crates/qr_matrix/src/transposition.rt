@@ -3,6 +3,8 @@
 //! A tile is transposed in six stages. The first divides it into two by two parts of 32 by 32 bits, and exchanges the
 //! upper right part with the lower left. The second does the same in each of the four parts, and so on down to single
 //! bits. In a stage, `steps` is the side of a part, and `mask` has the columns of the left parts.
+//!
+//! Band `band` is the rows from `64 * band` on, at most 64; its tile at `word` begins in column `64 * word`.
 
 ghost use Rattle.std.specs.Prelude.{◌≡◌, ℕ, ◌+◌, ◌-◌, ◌*◌, ◌/◌, ◌%◌, ◌<◌, ◌≤◌, ◌&&◌, ◌==◌, ◌⊎◌, nat_lt, if◌then◌else◌, false, slice_index};
 ghost use Rattle.qr_matrix.specs.Grid.{square, colour, IsSquare};
@@ -73,7 +75,6 @@ fn transpose(tile: &mut [u64; 64])
     exchange(tile, 1, 0x5555_5555_5555_5555);
 }
 
-// The tile that begins at row `64 * band` and column `64 * word`; light outside the square.
 fn tile_of(matrix: &Matrix, band: usize, word: usize) -> [u64; 64]
     requires band_in { 64 * band ≤ matrix.now.side }
     requires word_in { word < 3 }
@@ -89,7 +90,7 @@ fn tile_of(matrix: &Matrix, band: usize, word: usize) -> [u64; 64]
     tile
 }
 
-// Sets the modules of the tile at `band` and `word`, but for its rows below the square.
+// Leaves out the rows of the tile that are below the square.
 fn set_tile(matrix: &mut Matrix, band: usize, word: usize, tile: &[u64; 64])
     requires whole { IsSquare matrix.old.side matrix.old }
     requires band_in { 64 * band ≤ matrix.old.side }
@@ -106,7 +107,7 @@ fn set_tile(matrix: &mut Matrix, band: usize, word: usize, tile: &[u64; 64])
     }
 }
 
-// Sets the tile at `band` and `word` to that part of `other` with rows and columns exchanged.
+// Transposes the tile of `other` at band `word` and word `band`.
 fn set_transposed_tile(matrix: &mut Matrix, other: &Matrix, band: usize, word: usize)
     requires whole { IsSquare matrix.old.side matrix.old }
     requires sides { other.now.side ≡ matrix.old.side }
@@ -122,7 +123,6 @@ fn set_transposed_tile(matrix: &mut Matrix, other: &Matrix, band: usize, word: u
     set_tile(matrix, band, word, &tile);
 }
 
-/// Sets the rows from `64 * band` on, at most 64, to those of `other` with rows and columns exchanged.
 pub(crate) fn set_transposed_band(matrix: &mut Matrix, other: &Matrix, band: usize)
     requires whole { IsSquare matrix.old.side matrix.old }
     requires sides { other.now.side ≡ matrix.old.side }

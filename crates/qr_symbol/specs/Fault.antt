@@ -9,7 +9,7 @@ use Rattle.qr_symbol.specs.declared.fault.EncodeFault.TheVariants as fault
 use Rattle.qr_symbol.specs.declared.fault.ReadFault.{ReadFault}
 use Rattle.qr_symbol.specs.declared.fault.ReadFault.TheVariants as unread
 
--- The fault of encoding that follows from the fault of writing bits [own]
+-- Each has the same name among the faults of encoding [own]
 abbrev pub fault_of : BitFault → EncodeFault
 fault_of bit.Memory = fault.Memory
 fault_of bit.TooLong = fault.TooLong
@@ -23,7 +23,7 @@ read_fault_number unread.Check = 4
 read_fault_number (unread.Segments why) = 5
 read_fault_number unread.Series = 6
 
--- The fault of reading that follows from the fault of parsing data codewords [own]
+-- A fault of parsing becomes `Segments`, except for lack of memory [own]
 abbrev pub unread_for : ParseFault → ReadFault
 unread_for unparsed.Memory = unread.Memory
 unread_for e = unread.Segments e

@@ -35,7 +35,7 @@ data_sizes b = record { short = b.short; short_len = b.short_len; long = b.long 
 abbrev pub correction_sizes : Blocks → BlockSizes
 correction_sizes b = record { short = b.short + b.long; short_len = b.ec_len; long = 0 }
 
--- Where a codeword is: the index `place` in the block `block` (ISO/IEC 18004:2015, 7.6)
+-- A codeword's index in its block, and the number of the block, both from 0 (ISO/IEC 18004:2015, 7.6)
 pub record Position : Type 0 where
   pub place : ℕ
   pub block : ℕ
@@ -63,7 +63,7 @@ codeword_at c d t = slice_index_or d (start_of c t.block + t.place) 0
 abbrev pub part_of : BlockSizes → List ℕ → ℕ → List ℕ
 part_of c d i = take (block_len c i) (drop (start_of c i) d)
 
--- The data codewords of block `i`, of all data codewords `d` of the blocks `b` (ISO/IEC 18004:2015, 7.5.1)
+-- As `part_of`, for the data codewords of the blocks `b` (ISO/IEC 18004:2015, 7.5.1)
 abbrev pub block_of : Blocks → List ℕ → ℕ → List ℕ
 block_of b d i = part_of (data_sizes b) d i
 
@@ -82,7 +82,7 @@ pub record IsFinalMessage (b : Blocks) (d cw : List ℕ) : Type 0 where
   pub check_order : IsPositionOrder (correction_sizes b) check_positions
   pub whole : cw ≡ map (codeword_at (data_sizes b) d) data_positions ++ map (check_at corrections) check_positions
 
--- The final sequence of the data codewords `d` in version `v` and level `l` (ISO/IEC 18004:2015, 7.5.2, 7.6)
+-- As `IsFinalMessage`, with the blocks of version `v` and level `l` (ISO/IEC 18004:2015, 7.5.2, 7.6)
 abbrev pub IsInterleaved : ℕ → Level → List ℕ → List ℕ → Type 0
 IsInterleaved v l d cw = IsFinalMessage (blocks_of v l) d cw
 

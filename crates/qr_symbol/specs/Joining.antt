@@ -1,6 +1,5 @@
 -- Which bytes the symbols of a series contain together. `reads g c` says that the square `g` is read as the content
--- `c`, and `refuses g e` that it is refused for the fault `e`. The definitions without these parameters read without
--- correcting errors.
+-- `c`, and `refuses g e` that it is refused for the fault `e`.
 use Rattle.std.specs.Prelude.{◌≡◌, ◌⊎◌, ℕ, ◌+◌, ◌-◌, ◌<◌, List, [], ◌∷◌, length, None, Some}
 use Rattle.std.specs.List.{AllZip, flat_map}
 use Rattle.qr_bits.specs.Parsing.{Content}
@@ -18,7 +17,7 @@ AreReadBy reads squares contents = AllZip reads squares contents
 abbrev pub bytes_of_all : List Content → List ℕ
 bytes_of_all contents = flat_map (λ c. c.bytes) contents
 
--- One content alone, without a structured append header [own]
+-- One content alone, from a plain symbol [own]
 abbrev pub IsPlain : List Content → Type 0
 IsPlain contents = (c : Content) × (contents ≡ c ∷ []) × (c.header ≡ None)
 
@@ -35,7 +34,7 @@ abbrev pub AreInSeries : List Content → Type 0
 AreInSeries contents =
     (0 < length contents) × HaveHeaders (length contents - 1) (parity_of (bytes_of_all contents)) 0 contents
 
--- The contents are one plain one, or a whole series [own]
+-- What can be joined: one plain content, or those of a whole series [own]
 abbrev pub BelongTogether : List Content → Type 0
 BelongTogether contents = IsPlain contents ⊎ AreInSeries contents
 

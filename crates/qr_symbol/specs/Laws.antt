@@ -4,7 +4,7 @@ use Rattle.std.specs.List.{range_with_len}
 use Rattle.qr_bits.specs.Bits.{value}
 use Rattle.qr_symbol.specs.Mask.{inverts}
 
--- The eight masks (ISO/IEC 18004:2015, 7.8.2)
+-- The masks of Table 10 (ISO/IEC 18004:2015, 7.8.2)
 abbrev pub all_masks : List ℕ
 all_masks = range_with_len 0 8
 

@@ -1,5 +1,5 @@
--- How a square `g` is read as a symbol, of version `v`, level `l` and mask `mask` where these are named; `true` is
--- dark. Nothing here uses `grid_of`, by which symbols are drawn.
+-- How a square `g` is read as a symbol, of version `v`, level `l` and mask `mask` where these are named. Nothing here
+-- uses `grid_of`, by which symbols are drawn.
 use Rattle.std.specs.Prelude.{◌≡◌, ◌≢◌, ℕ, ◌-◌, ◌*◌, ◌<◌, ◌≤◌, Bool, false, List, ◌++◌, map, take, length, replicate, Result, Ok, Err, None}
 use Rattle.std.specs.List.{All}
 use Rattle.qr_layout.specs.declared.level.Level.{Level}
@@ -27,8 +27,8 @@ use Rattle.qr_symbol.specs.Interleaving.{IsInterleaved}
 abbrev pub unmasked : ℕ → Grid → Module → Bool
 unmasked mask g m = inverted (inverts mask m.row m.col) (colour g m.row m.col)
 
--- The codeword bits: the unmasked colours of the modules `ms`, as many as there are codeword bits, with 0 for each that
--- is missing (ISO/IEC 18004:2015, 7.7.3, 12)
+-- The unmasked colours of the first of the modules `ms`, eight for each codeword of the version, with 0 for each that is
+-- missing (ISO/IEC 18004:2015, 7.7.3, 12)
 abbrev pub read_bits : ℕ → ℕ → Grid → List Module → List Bool
 read_bits v mask g ms = map (unmasked mask g) (take (8 * total_codewords_of v) ms) ++ replicate (8 * total_codewords_of v - length ms) false
 
@@ -57,8 +57,7 @@ pub record IsMessage (v : ℕ) (l : Level) (mask : ℕ) (g : Grid) (d : List ℕ
 abbrev pub format_bit : Grid → ℕ → Bool
 format_bit g i = colour g (first_place i).row (first_place i).col
 
--- The format information beside the top left finder pattern is that of the level and mask (ISO/IEC 18004:2015, 7.9.1,
--- 12)
+-- All 15 bits beside the top left finder pattern are those of the level and mask (ISO/IEC 18004:2015, 7.9.1, 12)
 pub record IsFormat (g : Grid) (l : Level) (mask : ℕ) : Type 0 where
   pub in_range : mask < 8
   pub bits : (i : ℕ) → i < 15 → format_bit g i ≡ has_bit (format_word_of l mask) i
@@ -81,7 +80,7 @@ pub record IsParsedAs (g : Grid) (outcome : Result Content ParseFault) : Type 0 
   pub holds : IsMessage version level mask g message
   pub parsed : parse version (bits_of message) ≡ outcome
 
--- The square is read as the content (ISO/IEC 18004:2015, 12)
+-- Parsing yields the content, and no fault (ISO/IEC 18004:2015, 12)
 abbrev pub IsReading : Grid → Content → Type 0
 IsReading g content = IsParsedAs g (Ok content)
 

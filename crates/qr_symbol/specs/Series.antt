@@ -32,7 +32,7 @@ FitParts v l rule x parts = (x ≡ concat parts) × All (λ p. HasFit v rule p (
 abbrev pub NeedsParts : ℕ → Level → Rule → List ℕ → ℕ → Type 0
 NeedsParts v l rule x n = (parts : List (List ℕ)) → FitParts v l rule x parts → n ≤ length parts
 
--- The symbol of `x` after the optional header `h` (ISO/IEC 18004:2015, 7.1, 8.1)
+-- As `IsSymbolAt`, for a `Symbol`, which has a version and a level (ISO/IEC 18004:2015, 7.1, 8.1)
 pub record IsSymbolOf (v : ℕ) (l : Level) (rule : Rule) (x : List ℕ) (h : Option Header) (s : Symbol) : Type 0 where
   pub version : s.version ≡ v
   pub level : s.level ≡ l
@@ -64,7 +64,7 @@ pub record IsPlainSymbol (v : ℕ) (l : Level) (rule : Rule) (x : List ℕ) (sym
   pub made : IsSymbolOf v l rule x None symbol
   pub alone : symbols ≡ symbol ∷ []
 
--- The symbols are the series of `x`: the plain symbol if `x` fits it, otherwise those of its parts [own]
+-- One plain symbol if `x` fits it, and otherwise the symbols of the parts [own]
 abbrev pub IsSeries : ℕ → Level → Rule → List ℕ → List Symbol → Type 0
 IsSeries v l rule x symbols = IsPlainSymbol v l rule x symbols ⊎ IsSplit v l rule x symbols
 

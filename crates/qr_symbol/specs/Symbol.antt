@@ -1,5 +1,4 @@
 -- The colour of each module of the symbol of version `v` and level `l` that contains the codewords `cw` under a mask.
--- `true` is dark.
 use Rattle.std.specs.Prelude.{ℕ, Bool, List}
 use Rattle.qr_layout.specs.declared.level.Level.{Level}
 use Rattle.qr_layout.specs.declared.role.Role.{Role}
@@ -21,7 +20,7 @@ colour_by v l mask cw r c (FormatBit i) = has_bit (format_word_of l mask) i
 colour_by v l mask cw r c (VersionBit i) = has_bit (version_word_of v) i
 colour_by v l mask cw r c Region = inverted (inverts mask r c) (codeword_bit cw (number_of v (record { row = r; col = c })))
 
--- The colour of the module in row `r` and column `c` (ISO/IEC 18004:2015, 7.7.2, 7.7.3, 7.8.1, 7.9.1, 7.10)
+-- As `colour_by`, with the role that the place has (ISO/IEC 18004:2015, 7.7.2, 7.7.3, 7.8.1, 7.9.1, 7.10)
 unfoldable pub colour_of : ℕ → Level → ℕ → List ℕ → ℕ → ℕ → Bool
 colour_of v l mask cw r c = colour_by v l mask cw r c (role_of v r c)
 

@@ -5,8 +5,7 @@ use Rattle.qr_bits.specs.declared.modes.Rule.{Rule}
 use Rattle.qr_bits.specs.Segmentation.{HasFit}
 use Rattle.qr_bits.specs.Padding.{capacity_of}
 
--- Some segments of allowed modes that cover `x` have at most as many bits as the data codewords of version `v` (ISO/IEC
--- 18004:2015, 7.4.10, Table 7)
+-- `x` fits a plain symbol of version `v`, whose room is the whole capacity (ISO/IEC 18004:2015, 7.4.10, Table 7)
 abbrev pub FitsVersion : ℕ → Level → Rule → List ℕ → Type 0
 FitsVersion v l rule x = HasFit v rule x (capacity_of v l)
 

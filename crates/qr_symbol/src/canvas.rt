@@ -20,8 +20,7 @@ use std::mem;
 // region: the dark module changes places with a module of bit 7.
 const SYMMETRIC_FORMAT: u32 = 1 << 7;
 
-/// The squares from which symbols are made: `plain` is a symbol without its mask and format information, and in
-/// `region` exactly the region is dark.
+/// The squares from which symbols are made; `plain` is a symbol without its mask and format information.
 #[derive(Drop)]
 pub(crate) struct Canvas {
     pub version: Version,
@@ -33,7 +32,7 @@ pub(crate) struct Canvas {
 }
 
 impl Canvas {
-    // Returns a canvas that has no codewords yet. Allocates once for each square.
+    // No codewords are drawn yet. Allocates once for each square.
     #[inline(never)]
     pub(crate) fn new(alloc: Global, version: Version, level: Level) -> Result<Canvas, AllocError>
         ensures version { IfOk result (λ c. c.version ≡ version) }
@@ -61,14 +60,14 @@ impl Canvas {
         ensures plain { self.new.plain ≡ plain_grid self.old.version codewords.now }
         ensures square { IsSquare (side_of self.old.version) across.new }
     {
-        // Reminds the prover that a version is at most 40.
+        // Only for the prover.
         prove!(self.version.number() <= 40);
         mem::swap(&mut self.plain, across);
         draw_codewords(across, self.version, &self.region, codewords);
         self.plain.set_transposed(across);
     }
 
-    // Draws the symbol under the mask: the region of `plain` masked, then the format information.
+    // The mask is applied to a copy of all of `plain`, so the format information is drawn after it.
     pub(crate) fn draw_masked(&self, matrix: &mut Matrix, mask: u8)
         requires mask_in { mask < 8 }
         requires square { IsSquare (side_of self.now.version) matrix.old }

@@ -20,7 +20,7 @@ use qr_matrix::{BitRow, Matrix};
 use std::alloc::{AllocError, Global};
 use std::marker::Model;
 
-// Collects bits into codewords. To contracts it is the list of its bits.
+// Collects bits into codewords, of which the highest bit is the first.
 #[derive(Drop)]
 struct Collector {
     whole: Vec<u8>,
@@ -42,7 +42,7 @@ impl Model for Collector {
 }
 
 impl Collector {
-    // Returns a collector without bits, with memory for `count` codewords.
+    // Takes the memory for `count` codewords at once.
     fn with_capacity(alloc: Global, count: usize) -> Result<Collector, AllocError>
         ensures { IfOk result (λ b. b ≡ []) }
     {
@@ -68,7 +68,6 @@ impl Collector {
         Ok(())
     }
 
-    // Appends eight bits, the highest first.
     #[inline(always)]
     fn push_byte(&mut self, byte: u8) -> Result<(), AllocError>
         ensures { OnOk result (self.new ≡ self.old ++ field 8 byte) }
@@ -80,7 +79,7 @@ impl Collector {
         Ok(())
     }
 
-    // Returns the whole codewords; bits after them are lost.
+    // Loses the bits after the last whole codeword: the remainder bits, of which there are at most seven.
     fn into_codewords(self) -> Vec<u8>
         ensures bytes { All (λ x. x < 256) result.items }
         ensures bits { (w : ℕ) × (rest : ℕ) × (w < 8) × (bits_of result.items ++ field w rest ≡ self) }
@@ -90,7 +89,6 @@ impl Collector {
     }
 }
 
-// Collects the module in row `row` of a column, if it is in the region.
 fn collect_module(
     bits: &mut Collector,
     column: &BitRow,
@@ -106,7 +104,7 @@ fn collect_module(
     Ok(())
 }
 
-// Collects `count` rows of a strip, module by module. `collect_four` does without it for most rows of a large symbol.
+// Collects module by module, which `collect_four` avoids for most rows of a large symbol.
 #[inline(never)]
 fn collect_rows(
     bits: &mut Collector,
@@ -143,8 +141,7 @@ static SPREADS: [[u8; 16]; 2] = [
     ],
 ];
 
-// Collects four rows of a strip, at once if all their eight modules are in the region. `both` has the rows in which
-// both modules of the strip are.
+// Collects four rows at once if all their eight modules are in the region, and otherwise module by module.
 #[inline(always)]
 fn collect_four(
     bits: &mut Collector,
@@ -174,8 +171,7 @@ fn collect_four(
     collect_rows(bits, columns, v, region, strip, passed, 4)
 }
 
-// Collects the columns of a strip. The number of rows is one more than a multiple of four, so the bottom row is read
-// alone and the others in fours.
+// The number of rows is one more than a multiple of four, so the bottom row is read alone and the others in fours.
 #[inline(always)]
 fn collect_columns(
     bits: &mut Collector,
@@ -217,7 +213,6 @@ fn collect_strip(
     collect_columns(bits, &columns, v, &within, strip)
 }
 
-// Collects the codewords, without the remainder bits.
 pub(crate) fn collect_codewords(
     alloc: Global,
     v: Version,

@@ -70,7 +70,7 @@ pub fn encode(
     symbol_at(alloc, input, &fit.segments, None, fit.version, level)
 }
 
-// The symbol of the optional header and of the input, cut into `segments` (7.1, 8.1).
+// Draws the symbol on a canvas of its own (7.1, 8.1).
 pub(crate) fn symbol_at(
     alloc: Global,
     input: &[u8],
@@ -92,7 +92,7 @@ pub(crate) fn symbol_at(
     symbol_on(alloc, &mut canvas, input, segments, header)
 }
 
-// As `symbol_at`, but on a canvas, with its version and level.
+// As `symbol_at`, but on the given canvas, with its version and level.
 pub(crate) fn symbol_on(
     alloc: Global,
     canvas: &mut Canvas,

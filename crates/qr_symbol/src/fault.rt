@@ -70,8 +70,8 @@ pub enum ReadFault {
     /// No version has as many rows as the square.
     #[error("no version has this side")]
     Side,
-    /// The format information belongs to no level and mask: in reading, the copy beside the top left finder pattern, in
-    /// mending both.
+    /// In reading, the copy of the format information beside the top left finder pattern is that of no level and mask; in
+    /// mending, neither copy is near to one.
     #[error("the format information is damaged")]
     Format,
     /// The error correction codewords of a block do not belong to its data codewords, and in mending cannot be made to.
@@ -88,7 +88,7 @@ pub enum ReadFault {
 impl ReadFault {
     ghost use Rattle.qr_symbol.specs.Fault.{read_fault_number};
 
-    /// Returns the number of the fault, from 1 to 6.
+    /// Returns the number of the fault, from 1 to 6 in the order of `ReadFault`.
     ///
     /// # Notes
     ///

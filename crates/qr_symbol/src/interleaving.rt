@@ -18,11 +18,9 @@ use std::alloc::{AllocError, Global};
 /// more (ISO/IEC 18004:2015, 7.5.1).
 #[derive(Clone, Copy)]
 pub struct BlockSizes {
-    /// The number of short blocks.
     pub short: u16,
     /// The number of codewords in a short block.
     pub short_len: u8,
-    /// The number of long blocks.
     pub long: u8,
 }
 
@@ -74,7 +72,7 @@ impl BlockSizes {
         usize::from(self.short_len) * block + block.saturating_sub(usize::from(self.short))
     }
 
-    /// Returns the codewords of the block with index `block`. In `codewords` the blocks come one after the other.
+    /// Returns the codewords of block `block`, counted from 0; in `codewords` the blocks come one after the other.
     pub fn part(self, codewords: &[u8], block: usize) -> &[u8]
         requires within { block < block_count self }
         requires whole { length codewords.now ≡ codeword_count self }
@@ -85,9 +83,8 @@ impl BlockSizes {
         &codewords[start..start + self.len(block)]
     }
 
-    /// Undoes interleaving: returns the codewords of all blocks, one block after the other. In `codewords` the first of
-    /// each block come first, then the second, and so on; codewords beyond those of the blocks are ignored (ISO/IEC
-    /// 18004:2015, 7.6).
+    /// Undoes interleaving: returns the codewords of all blocks, one block after the other. Codewords beyond those of
+    /// the blocks are ignored (ISO/IEC 18004:2015, 7.6).
     ///
     /// # Errors
     ///
@@ -124,7 +121,6 @@ fn interleave_into(
     Ok(())
 }
 
-// The error correction codewords of all blocks, one block after the other.
 fn corrections(alloc: Global, blocks: Blocks, message: &[u8]) -> Result<Vec<u8>, AllocError>
     requires whole { length message.now ≡ codeword_count (data_sizes blocks) }
     requires least { 1 ≤ blocks.ec_len }

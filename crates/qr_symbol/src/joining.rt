@@ -43,7 +43,6 @@ fn is_plain(contents: &[Parsed]) -> bool
     }
 }
 
-// Whether the content has a header with these numbers; `last` is the number of symbols less 1.
 fn has_header(content: &Parsed, position: usize, last: usize, parity: u8) -> bool
     ensures { Decides result (content.now.header
         ≡ Some (record { position = position; last = last; parity = parity })) }
@@ -58,7 +57,7 @@ fn has_header(content: &Parsed, position: usize, last: usize, parity: u8) -> boo
     }
 }
 
-// Whether the contents are a whole series with this parity data, in order (8.1 to 8.3).
+// `parity` is the parity data of all bytes, which each header must have (8.1 to 8.3).
 fn are_in_series(contents: &[Parsed], parity: u8) -> bool
     ensures { Decides result ((0 < length contents.now)
         × HaveHeaders (length contents.now - 1) parity 0 contents.now) }
@@ -96,9 +95,8 @@ pub fn join(alloc: Global, contents: &[Parsed]) -> Result<Vec<u8>, ReadFault>
     }
 }
 
-/// Reads the symbols and joins their bytes, in order, if they are one plain symbol or a whole series (ISO/IEC
-/// 18004:2015, 8). A series is whole if each header has the position of its symbol, counted from 0, the number of
-/// symbols less 1, and the parity data of all bytes. Only the field `matrix` of a symbol is read.
+/// Reads the symbols and joins their bytes, in order, if they are one plain symbol or a whole series, as `join` defines
+/// it (ISO/IEC 18004:2015, 8). Only the field `matrix` of a symbol is read.
 ///
 /// # Errors
 ///

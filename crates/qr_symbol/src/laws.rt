@@ -134,7 +134,7 @@ pub fn format_is_one()
         → (l ≡ k) × (m ≡ n) }
 {}
 
-/// A square is read as at most one content: an optional structured append header, segments and bytes.
+/// A square is read in at most one way: as one optional header, one list of segments and one list of bytes.
 pub fn contents_are_one()
     ensures { (g : Grid) (p q : Content) → IsReading g p → IsReading g q → p ≡ q }
 {}
@@ -316,7 +316,7 @@ pub fn read_faults_are_equal(a: ReadFault, b: ReadFault) -> bool
     a == b
 }
 
-/// A clone of a `EncodeFault` is equal to it.
+/// A clone of an `EncodeFault` is equal to it.
 pub fn encode_fault_clones(a: EncodeFault) -> Result<EncodeFault, AllocError>
     ensures { IfOk result (λ b. b ≡ a) }
 {

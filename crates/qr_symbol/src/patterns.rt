@@ -22,7 +22,7 @@ use qr_layout::{
 use qr_matrix::Matrix;
 use std::alloc::{AllocError, Global};
 
-// Whether bit `i` is 1; bit 0 is the lowest.
+// A `u32` cannot be shifted by 32 or more.
 #[tactic(auto, unfolding(qr_matrix::specs::BitRow::has_bit))]
 pub(crate) fn is_bit_set(word: u32, i: u8) -> bool
     ensures { result ≡ has_bit word i }
@@ -30,7 +30,6 @@ pub(crate) fn is_bit_set(word: u32, i: u8) -> bool
     i < 32 && word >> i & 1 == 1
 }
 
-// Makes the rectangles light.
 fn clear_rectangles(matrix: &mut Matrix, v: Version, rectangles: &[Rectangle])
     requires square { IsSquare (side_of v) matrix.old }
     requires inside { All (IsWithin (side_of v)) rectangles.now }
@@ -48,7 +47,7 @@ fn clear_rectangles(matrix: &mut Matrix, v: Version, rectangles: &[Rectangle])
     }
 }
 
-// Draws a finder pattern around its centre: the centre is dark, and of the three rings around it the second is light.
+// Fills three squares, one inside the other, of 7, 5 and 3 modules a side.
 fn draw_finder(matrix: &mut Matrix, row: u8, col: u8)
     requires row_least { 3 ≤ row }
     requires row_most { row + 4 ≤ matrix.old.side }
@@ -80,10 +79,9 @@ fn paint_finder(matrix: &mut Matrix, v: Version, block: Module, centre: Module)
     draw_finder(matrix, centre.row, centre.col);
 }
 
-// The number of bits of the format information.
+// Five data bits and ten error correction bits (ISO/IEC 18004:2015, 7.9.1).
 pub(crate) const FORMAT_BITS: u8 = 15;
 
-// Draws the bits from `first` to `end - 1` of the format information in both copies.
 #[inline(always)]
 fn draw_format_bits(matrix: &mut Matrix, v: Version, format: u32, first: u8, end: u8)
     requires square { IsSquare (side_of v) matrix.old }
@@ -100,8 +98,8 @@ fn draw_format_bits(matrix: &mut Matrix, v: Version, format: u32, first: u8, end
     }
 }
 
-// Draws both copies of the format information. Of the three parts, the first and the last have the bits of each copy in
-// one row or column, so that the compiled code finds their places without tests.
+// Of the three parts, the first and the last have the bits of each copy in one row or column, so that the compiled code
+// finds their places without tests.
 pub(crate) fn draw_format(matrix: &mut Matrix, v: Version, format: u32)
     requires { IsSquare (side_of v) matrix.old }
     ensures { matrix.new ≡ square (side_of v) (λ r c. format_or format (role_of v r c) (colour matrix.old r c)) }
@@ -132,15 +130,15 @@ fn paint_corners(matrix: &mut Matrix, v: Version, format: u32)
     draw_format(matrix, v, format);
 }
 
-// Whether module `at` of row 6, or of column 6, is dark. Its first and last seven modules belong to finder patterns;
-// between their separators is a timing pattern (ISO/IEC 18004:2015, 6.3.5).
+// `at` is an index in row 6, or in column 6. The first and last seven modules there belong to finder patterns; between
+// their separators is a timing pattern (ISO/IEC 18004:2015, 6.3.5).
 fn is_dark_in_six(side: u8, at: u8) -> bool
     ensures { result ≡ is_dark_in_six side at }
 {
     at < 7 || at >= side.saturating_sub(7) || at % 2 == 0
 }
 
-// Draws row 6 and column 6.
+// Draws all of row 6 and column 6, with what finder patterns and separators have there.
 fn paint_timing(matrix: &mut Matrix, v: Version)
     requires { IsSquare (side_of v) matrix.old }
     ensures { (format : ℕ) → matrix.new ≡ square (side_of v) (λ r c. if is_timing r c
@@ -154,7 +152,7 @@ fn paint_timing(matrix: &mut Matrix, v: Version)
     }
 }
 
-// The number of bits of the version information.
+// Six data bits and twelve error correction bits (ISO/IEC 18004:2015, 7.10).
 const VERSION_BITS: u8 = 18;
 
 // Draws the version information, from version 7 on: beside the top right finder pattern, and with row and column
@@ -175,7 +173,7 @@ fn paint_version(matrix: &mut Matrix, v: Version)
     }
 }
 
-// Fills the alignment patterns with one colour.
+// An alignment pattern has five by five modules (ISO/IEC 18004:2015, 6.3.6).
 fn fill_alignment(matrix: &mut Matrix, v: Version, centres: &[Module], dark: bool)
     requires square { IsSquare (side_of v) matrix.old }
     requires centres { centres.now ≡ alignment_places (side_of v) (centres_of v) }
@@ -188,7 +186,7 @@ fn fill_alignment(matrix: &mut Matrix, v: Version, centres: &[Module], dark: boo
     }
 }
 
-// Makes the eight modules around a module light.
+// Fills four rectangles around the module, which keeps its colour.
 fn clear_ring(matrix: &mut Matrix, row: u8, col: u8)
     requires row_least { 1 ≤ row }
     requires row_most { row + 2 ≤ matrix.old.side }
@@ -204,7 +202,6 @@ fn clear_ring(matrix: &mut Matrix, row: u8, col: u8)
     matrix.fill(row, row + 1, col + 1, col + 2, false);
 }
 
-// Makes the ring around the centre of each alignment pattern light.
 fn clear_rings(matrix: &mut Matrix, v: Version, centres: &[Module])
     requires square { IsSquare (side_of v) matrix.old }
     requires centres { centres.now ≡ alignment_places (side_of v) (centres_of v) }
@@ -217,7 +214,6 @@ fn clear_rings(matrix: &mut Matrix, v: Version, centres: &[Module])
     }
 }
 
-// Draws all modules outside the region.
 pub(crate) fn draw_fixed(matrix: &mut Matrix, v: Version, format: u32)
     requires { IsSquare (side_of v) matrix.old }
     ensures { matrix.new ≡ square (side_of v) (λ r c. if is_in_region v r c then colour matrix.old r c
@@ -241,7 +237,6 @@ fn draw_region(matrix: &mut Matrix, v: Version)
     fill_alignment(matrix, v, alignment_centres(v).as_slice(), false);
 }
 
-// The square in which exactly the region is dark.
 pub(crate) fn region_of(alloc: Global, version: Version) -> Result<Matrix, AllocError>
     ensures { IfOk result (λ m. m ≡ region_grid version) }
 {

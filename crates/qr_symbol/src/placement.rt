@@ -1,15 +1,15 @@
 //! Draws the codewords into the region in the standard's order (ISO/IEC 18004:2015, 7.7.2 and 7.7.3): `draw_codewords`
 //! strip by strip, `draw_along_walk` module by module.
 //!
-//! Bits are numbered through all codewords; bit 0 is the highest of the first codeword. In a transposed square the two
-//! columns of a strip are rows. Exactly the region is dark in `region`, and transposing does not change it. `passed`
-//! counts the rows of a strip that come earlier in its order.
+//! Bits are numbered through all codewords; bit 0 is the highest of the first codeword. `across` is a transposed
+//! square, in which the two columns of a strip are rows. Exactly the region is dark in `region`, and transposing does
+//! not change it. `passed` counts the rows of a strip that come earlier in its order.
 
 ghost use Rattle.std.specs.Prelude.{◌≡◌, ℕ, List, ◌*◌, ◌%◌, ◌+◌, ◌-◌, ◌<◌, ◌≤◌, ◌==◌, ◌&&◌, if◌then◌else◌, not, false, length, slice_index};
 ghost use Rattle.qr_layout.specs.Version.{side_of};
 ghost use Rattle.qr_layout.specs.Strips.{both_of, rows_from};
 ghost use Rattle.qr_bits.specs.Bits.{codeword_bit};
-ghost use Rattle.qr_matrix.specs.Grid.{square, colour, painted, transposed, IsSquare};
+ghost use Rattle.qr_matrix.specs.Grid.{square, colour, transposed, IsSquare};
 ghost use Rattle.qr_matrix.specs.BitRow.{has, has_bit};
 ghost use Rattle.qr_symbol.specs.Steps.Placement.{placed_colour, number_after, walked_colour, AreDrawn, AreLight, AreNext, AreWithin, IsDrawnAcross, IsCodewordBits, IsRegion, region_grid};
 
@@ -18,14 +18,13 @@ use crate::patterns::is_bit_set;
 use qr_layout::{Module, Strip, Version, all_strips, walk};
 use qr_matrix::{BitRow, Matrix};
 
-// The codeword with index `place`, or 0 after the last, so that the remainder bits are 0 before a mask is applied.
+// Returns 0 after the last codeword, so that the remainder bits are 0 before a mask is applied.
 fn codeword_at(codewords: &[u8], place: usize) -> u8
     ensures { result ≡ slice_index codewords.now place }
 {
     codewords.get(place).copied().unwrap_or(0)
 }
 
-// The eight codewords from index `place` on, the first as the highest byte.
 fn eight_codewords(codewords: &[u8], place: usize) -> u64
     requires { place + 8 ≤ length codewords.now }
     ensures { (k : ℕ) → k < 64 → has_bit result (63 - k) ≡ codeword_bit codewords.now (8 * place + k) }
@@ -76,7 +75,6 @@ fn codeword_bits_at(codewords: &[u8], number: usize) -> CodewordBits
     }
 }
 
-// The eight bits from bit `number` on, the first as the highest.
 fn eight_bits(next: CodewordBits, number: usize) -> u8
     requires least { next.first ≤ number }
     requires most { number ≤ next.first + 56 }
@@ -132,14 +130,13 @@ static SPLITS: [[u8; 256]; 2] = [
     ],
 ];
 
-// The two columns of a strip.
+// The columns of a strip, as rows of `across` or of `region`.
 #[derive(Clone, Copy)]
 pub(crate) struct Columns {
     pub right: BitRow,
     pub left: BitRow,
 }
 
-// The strip whose right column has the index `right`, in the transposed square `across`.
 pub(crate) fn columns_of(across: &Matrix, right: u8) -> Columns
     requires left_in { 1 ≤ right }
     requires right_in { right < across.now.side }
@@ -153,7 +150,6 @@ pub(crate) fn columns_of(across: &Matrix, right: u8) -> Columns
     }
 }
 
-// The columns, with the region made light.
 fn with_light_region(columns: Columns, region: &Columns) -> Columns
     ensures right { (row : ℕ) → has result.right row ≡ (has columns.right row && not (has region.now.right row)) }
     ensures left { (row : ℕ) → has result.left row ≡ (has columns.left row && not (has region.now.left row)) }
@@ -164,8 +160,7 @@ fn with_light_region(columns: Columns, region: &Columns) -> Columns
     }
 }
 
-// Draws bit `taken` of `bits`, counted from the highest, in row `row` of a column, if the module is in the region.
-// Returns how many of the bits are drawn now.
+// `taken` is how many of `bits` were drawn before, from the highest on. Returns how many are drawn now.
 fn draw_module(column: &mut BitRow, region: &BitRow, bits: u8, taken: u8, row: u8) -> u8
     requires row_in { row < 192 }
     requires taken { taken < 8 }
@@ -181,8 +176,7 @@ fn draw_module(column: &mut BitRow, region: &BitRow, bits: u8, taken: u8, row: u
     taken + 1
 }
 
-// Draws the first bits of `bits` in the region of `count` rows of a strip, module by module. Returns how many were
-// drawn. `draw_four` does without it for most rows of a large symbol.
+// Draws module by module, which `draw_four` avoids for most rows of a large symbol. Returns how many bits were drawn.
 #[inline(never)]
 fn draw_rows(
     columns: &mut Columns,
@@ -217,8 +211,7 @@ fn draw_rows(
 }
 
 // As `draw_rows`, but for four rows, and at once if all their eight modules are in the region. They are light before,
-// so only those whose bits are 1 need to be made dark. `both` has the rows in which both modules of the strip are in
-// the region.
+// so only those whose bits are 1 need to be made dark.
 #[inline(always)]
 fn draw_four(
     columns: &mut Columns,
@@ -257,8 +250,8 @@ fn draw_four(
     draw_rows(columns, v, region, bits, strip, passed, 4)
 }
 
-// Draws the bits from bit `first` on in the region of a strip. Returns the number of the next bit. The number of rows
-// is one more than a multiple of four, so the bottom row is drawn alone and the others in fours.
+// Returns the number of the next bit. The number of rows is one more than a multiple of four, so the bottom row is
+// drawn alone and the others in fours.
 #[inline(always)]
 fn draw_columns(
     columns: &mut Columns,
@@ -334,7 +327,6 @@ fn draw_strip(
     next
 }
 
-// Draws the codewords strip by strip into the transposed square `across`.
 pub(crate) fn draw_codewords(across: &mut Matrix, v: Version, region: &Matrix, codewords: &[u8])
     requires square { IsSquare (side_of v) across.old }
     requires region { region.now ≡ region_grid v }
@@ -356,7 +348,7 @@ fn bit_at(codewords: &[u8], number: usize) -> bool
     is_bit_set(u32::from(codeword), 7 - (number % 8) as u8)
 }
 
-// Draws the codewords under a mask in the order of `walk`. The mask is applied to the remainder bits too.
+// The mask is applied to the remainder bits too.
 pub(crate) fn draw_along_walk(matrix: &mut Matrix, v: Version, codewords: &[u8], mask: u8)
     requires { IsSquare (side_of v) matrix.old }
     ensures { matrix.new ≡ square (side_of v) (walked_colour v codewords.now mask (colour matrix.old)) }

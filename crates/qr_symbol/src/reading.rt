@@ -18,7 +18,7 @@ use qr_layout::{Level, Version, format_place, format_word};
 use qr_matrix::Matrix;
 use std::alloc::{AllocError, Global};
 
-// Whether the copy beside the top left finder pattern is the format information of the level and mask.
+// Compares the copy beside the top left finder pattern alone.
 fn has_format(matrix: &Matrix, level: Level, mask: u8) -> bool
     requires side { 21 ≤ matrix.now.side }
     requires mask_in { mask < 8 }
@@ -34,7 +34,6 @@ fn has_format(matrix: &Matrix, level: Level, mask: u8) -> bool
     true
 }
 
-// The mask of the format information, if its level is `level`.
 fn mask_of(matrix: &Matrix, level: Level) -> Option<u8>
     requires { 21 ≤ matrix.now.side }
     ensures { MatchOption result
@@ -49,7 +48,7 @@ fn mask_of(matrix: &Matrix, level: Level) -> Option<u8>
     None
 }
 
-// The level and mask of the format information, if it belongs to any.
+// At most one level and mask match, so it does not matter which are tried first.
 fn format_of(matrix: &Matrix) -> Option<(Level, u8)>
     requires { 21 ≤ matrix.now.side }
     ensures { MatchOption result
@@ -64,8 +63,7 @@ fn format_of(matrix: &Matrix) -> Option<(Level, u8)>
     None
 }
 
-// Reads the codewords without undoing a mask; exactly the region is dark in `region`. A strip's columns are rows of the
-// transposed square, of which a word holds 64 modules.
+// Transposes the square first: the columns of a strip are then rows, of which a word holds 64 modules.
 fn read_plain(
     alloc: Global,
     version: Version,

@@ -26,9 +26,8 @@ use std::alloc::Global;
 /// fits one symbol without a structured append header is this one symbol. Any other is cut into parts, each the longest
 /// prefix of the rest that fits a symbol with a header, even if some shorter prefix does not.
 ///
-/// The parity data in each header are of the whole input.
-/// The symbols, read and joined, yield exactly the input. Without kanji mode the series is the shortest possible: no
-/// cut into parts that fit has fewer.
+/// The parity data in each header are of the whole input. The symbols, read and joined, yield exactly the input.
+/// Without kanji mode the series is the shortest possible: no cut into parts that fit has fewer.
 ///
 /// # Errors
 ///
@@ -67,7 +66,6 @@ pub fn encode_series(
     part_symbols(alloc, input, lengths.as_slice(), version, level, rule)
 }
 
-// (none if the input does not fit it)
 fn plain_symbol(
     alloc: Global,
     input: &[u8],
@@ -119,8 +117,7 @@ fn part_lengths(
     Ok(lengths)
 }
 
-// The length of the longest prefix of `rest` that fits a symbol with a header. No symbol contains more than 7,089
-// bytes, so no more of them are read.
+// No symbol contains more than 7,089 bytes, so no more of `rest` are read.
 fn prefix_len(
     alloc: Global,
     rest: &[u8],
@@ -139,7 +136,7 @@ fn prefix_len(
     Ok(longest_fit(alloc, prefix, version, level, rule)?)
 }
 
-// All are drawn on one canvas, so that the function patterns and the region are drawn once (8.1 to 8.3).
+// All symbols are drawn on one canvas, so that the function patterns and the region are drawn once (8.1 to 8.3).
 fn part_symbols(
     alloc: Global,
     input: &[u8],
@@ -195,7 +192,7 @@ fn part_symbol(
     ensures fault { IfErr result (λ e. e ≡ EncodeFault.Memory) }
 {
     let version = canvas.version;
-    // Reminds the prover that a version is at most 40.
+    // Only for the prover.
     prove!(version.number() <= 40);
     let segments = segments(alloc, part, version, rule)?;
     symbol_on(alloc, canvas, part, &segments, Some(header))

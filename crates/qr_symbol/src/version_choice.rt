@@ -72,7 +72,6 @@ fn first_for(input: &[u8], rule: Rule) -> u8
     }
 }
 
-// The least version from `first` to `last` whose data codewords have at least `bits` bits.
 fn first_with_room(level: Level, first: Version, last: u8, bits: u64) -> Option<Version>
     requires { last ≤ 40 }
     ensures { MatchOption result
@@ -89,7 +88,7 @@ fn first_with_room(level: Level, first: Version, last: u8, bits: u64) -> Option<
     None
 }
 
-// The least version from `smallest` on that the input fits, and its segments of fewest bits there.
+// Takes the ranges in turn, until a version of one has room for the segments.
 pub(crate) fn least_fit(
     alloc: Global,
     input: &[u8],

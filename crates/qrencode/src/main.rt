@@ -12,7 +12,7 @@ use std::alloc::Global;
 use std::env;
 use std::process::ExitCode;
 
-// As `run`, with the status as an exit code.
+// The part of `main` that a contract can describe, since its devices are parameters.
 fn command<R: Source, W: Sink, E: Sink>(
     alloc: Global,
     words: &[String],

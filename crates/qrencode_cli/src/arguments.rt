@@ -23,7 +23,6 @@ struct OptionText<'a> {
     help: &'a str,
 }
 
-// An option whose value is a text.
 fn text_option<'a>(alloc: Global, option: OptionText<'a>) -> Arg<'a>
     ensures rule { rule_of result ≡ text_rule option.entry.id.now option.entry.short }
     ensures local { result.global ≡ false }
@@ -69,7 +68,6 @@ fn positional<'a>(alloc: Global, id: &'a str, value: &'a str, help: &'a str) -> 
     Arg::new(alloc, id).value_name(value).help(help)
 }
 
-// The command without its arguments.
 fn empty_command<'a>(alloc: Global) -> Command<'a>
     ensures { app_of result ≡ new_app (codes "qrencode") }
 {

@@ -37,7 +37,7 @@ fn symbols_for(alloc: Global, input: &[u8], settings: &Settings) -> Result<Vec<S
     Ok(symbols)
 }
 
-// The drawing job for the bytes that the symbols contain.
+// `input` are the bytes that the symbols contain.
 fn job_of(alloc: Global, input: &[u8], settings: &Settings) -> Result<DrawingJob, Fault>
     requires { length input.now ≤ INPUT_MAX }
     ensures { MatchResult result (λ p. IsDrawing settings.now input.now (drawing_of_job p))
@@ -63,7 +63,7 @@ fn make_job(alloc: Global, input: &[u8], settings: &Settings) -> Result<DrawingJ
     job_of(alloc, input, settings)
 }
 
-// The drawing job of a run. A string is cut after `INPUT_MAX` bytes, which already fit no symbols.
+// A string is cut after `INPUT_MAX` bytes, which already fit no symbols.
 fn job_for<R: Source>(alloc: Global, words: &[String], input: &mut R) -> Result<DrawingJob, Fault>
     ensures prepares { Prepares (map string_bytes words.now) (R.device input.old)
         (R.device input.new) result }
@@ -83,7 +83,7 @@ fn job_for<R: Source>(alloc: Global, words: &[String], input: &mut R) -> Result<
     }
 }
 
-// Writes the whole drawing, and flushes `out` after its last byte.
+// A flush that fails is a write fault.
 fn write_drawing<W: Sink>(job: &DrawingJob, out: &mut W) -> Result<(), Fault>
     ensures ok { OnOk result (DrawnWhole true (W.device out.old) (W.device out.new)
         (drawing_of_job job.now)) }

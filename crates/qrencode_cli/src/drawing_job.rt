@@ -7,7 +7,7 @@ ghost use Rattle.qr_drawing.specs.Drawing.{HaveOneSide};
 use qr_drawing::Drawing;
 use qr_symbol::Symbol;
 
-/// The symbols, one or a whole series, with the type and the margin of their drawing.
+/// `symbols` are one plain symbol or a whole series.
 #[derive(Drop)]
 pub(crate) struct DrawingJob {
     pub symbols: Vec<Symbol>,

@@ -8,7 +8,7 @@ use qr_drawing::DrawFault;
 use qr_symbol::EncodeFault;
 use std::alloc::{AllocError, AllocFailed};
 
-/// Why a run fails. Lack of memory is always `Memory`, never `Usage` or `Encode`.
+/// Lack of memory is always `Memory`, also while arguments are read or an input is encoded.
 #[derive(Debug, Drop)]
 pub(crate) enum Fault {
     Usage(UsageFault),
@@ -19,7 +19,7 @@ pub(crate) enum Fault {
 }
 
 impl Fault {
-    /// Returns the line on standard error, which for arguments that `clap` refuses is the text of `clap`.
+    /// Returns the text for standard error: one line, or several if it is the text of `clap`.
     pub(crate) fn line(&self) -> &[u8]
         ensures { result.now ≡ fault_line self.now }
     {

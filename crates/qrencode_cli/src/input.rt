@@ -1,4 +1,4 @@
-//! Reads the input: at most `INPUT_MAX` bytes, more than any symbols hold.
+//! Reads the input, up to `INPUT_MAX` bytes, since no symbols contain as many.
 
 ghost use Rattle.std.specs.Prelude.{◌≡◌, ◌+◌, ◌≤◌, ◌↔◌, ◌⊎◌, IfErr, IfOk, IsTrue, IsErrOf, length};
 ghost use Rattle.std.specs.Io.KnownBytes.{Consumes};
@@ -13,8 +13,7 @@ use std::alloc::Global;
 
 const CHUNK: usize = 4096;
 
-/// Reads `input` to its end, or until `INPUT_MAX` bytes have come. Interrupted reads are tried again, at most
-/// `INTERRUPTIONS_MAX` times in all.
+/// Interrupted reads are tried again, at most `INTERRUPTIONS_MAX` times in all.
 pub(crate) fn read_input<R: Source>(alloc: Global, input: &mut R) -> Result<Vec<u8>, Fault>
     ensures bytes { IfOk result (λ bytes. IsInputOf (R.device input.old).remaining bytes.items) }
     ensures bounded { IfOk result (λ bytes. length bytes.items ≤ INPUT_MAX) }

@@ -25,7 +25,7 @@ const QUIET_ZONE: u8 = 4;
 /// What the arguments of a run mean.
 #[derive(Debug, Drop)]
 pub struct Settings {
-    /// The error correction level.
+    /// The error correction level, L without `-l`.
     pub level: Level,
     /// The smallest version of one symbol, or `None` if any may be chosen. A series needs a version, which all its
     /// symbols have.
@@ -67,7 +67,6 @@ impl Model for Settings {
 }
 
 impl Settings {
-    // The modes that are allowed.
     pub(crate) fn rule(&self) -> Rule
         ensures { result ≡ rule_for self.now }
     {
@@ -81,8 +80,7 @@ impl Settings {
     }
 }
 
-/// Why arguments are refused. Of several reasons `options` returns the first, in the order `Words`, `Level`, `Kind`,
-/// `NeedsVersion`; it returns `Memory` if memory is refused before another is found.
+/// Why `options` refuses arguments.
 #[derive(Debug, Drop, Error)]
 pub enum UsageFault {
     /// `clap` refuses the arguments, or they ask for help: the text of `clap`.
@@ -134,7 +132,6 @@ impl From<AllocError> for UsageFault {
     }
 }
 
-// The first value of the argument `id`, if it is given.
 fn text_in<'a>(matches: &ArgMatches<'a>, id: &str) -> Option<&'a str>
     ensures { option_map (λ s. s.now) result ≡ first_of id.now (rows_of (found_of matches.now)) }
 {
@@ -196,7 +193,6 @@ fn flag_in(matches: &ArgMatches<'_>, id: &str) -> bool
     text_in(matches, id) == Some("true")
 }
 
-// The number of the option `id`, or `otherwise` if it is not given.
 fn number_in(matches: &ArgMatches<'_>, id: &str, otherwise: u8) -> u8
     ensures { result ≡ number_or otherwise (one_of id.now (rows_of (found_of matches.now))) }
 {

@@ -7,11 +7,12 @@ use Rattle.qr_drawing.specs.declared.drawing.Drawing.TheVariants.{Ascii, AsciiIn
 use Rattle.qr_drawing.specs.Drawing.{drawn}
 use Rattle.qrproved.specs.Modules.{square_of_bytes}
 
--- The type of drawing with the number `n`: 0, 1, 2 and 3 are ASCII, ASCIIi, UTF8 and SVG [own]
+-- The type of drawing that a caller means; numbers above 3 are out of range [own]
 abbrev pub drawing_of : ℕ → Drawing
 drawing_of n = if n == 0 then Ascii else (if n == 1 then AsciiInverse else (if n == 2 then Utf8 else Svg))
 
--- The numbers are in range: 1 to 177 rows, 1 to 16 squares, a type up to 3, and a margin of at most 100 modules [own]
+-- The numbers are in range: at most the side of version 40, the number of symbols of the largest series, and the
+-- greatest margin of the command [own]
 abbrev pub AreDrawingSettings : (side count drawing margin : ℕ) → Type 0
 AreDrawingSettings side count drawing margin =
     (1 ≤ side) × (side ≤ 177) × (1 ≤ count) × (count ≤ 16) × (drawing < 4) × (margin ≤ 100)

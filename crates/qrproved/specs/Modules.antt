@@ -3,7 +3,7 @@
 use Rattle.std.specs.Prelude.{◌≡◌, ℕ, ◌+◌, ◌*◌, ◌<◌, ◌≤◌, ◌==◌, Bool, not, if◌then◌else◌, List, length, slice_index_or}
 use Rattle.qr_matrix.specs.Grid.{Grid, square, colour, light}
 
--- The byte of a module: 1 if it is dark, 0 if it is light [own]
+-- The byte that is written for a module [own]
 abbrev pub byte_of : Bool → ℕ
 byte_of dark = if dark then 1 else 0
 

@@ -47,7 +47,6 @@ fn drawing_settings_of(side: u32, count: u32, drawing: u32, margin: u32) -> Opti
     })
 }
 
-// The squares that `modules` begins with.
 fn squares_of(alloc: Global, modules: &[u8], side: u8, count: u8) -> Result<Vec<Matrix>, AllocError>
     requires least { 1 ≤ side }
     requires most { side ≤ 177 }
@@ -63,7 +62,6 @@ fn squares_of(alloc: Global, modules: &[u8], side: u8, count: u8) -> Result<Vec<
     Ok(squares)
 }
 
-// The drawing of these squares.
 fn drawn(alloc: Global, modules: &[u8], asked: DrawingSettings) -> Result<Vec<u8>, AllocError>
     requires least { 1 ≤ asked.side }
     requires most { asked.side ≤ 177 }

@@ -13,7 +13,7 @@ use qr_symbol::encode;
 use qr_symbol::laws::long_inputs_have_none;
 use std::alloc::Global;
 
-/// The version, the size and the mask of a symbol that was encoded.
+/// What `qrproved_encode` tells about a symbol, besides its modules.
 #[repr(C)]
 #[derive(Clone, Copy)]
 pub struct QrprovedSymbol {
@@ -97,7 +97,7 @@ mod tests {
     use super::*;
     use std::test::Fail;
 
-    // The symbol 1-L of `A` in byte mode, as another encoder draws it.
+    // The symbol of `A` in byte mode at version 1 and level L (1-L), as another encoder draws it.
     static ROWS: [u32; 21] = [
         0b111111100101101111111,
         0b100000100111001000001,

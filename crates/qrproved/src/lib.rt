@@ -8,9 +8,8 @@
 //! `qrproved_draw` still sets `written` if a buffer is too short.
 //!
 //! A call returns the status of the first cause that applies, in the order that its comment names, or that of lack of
-//! memory if memory is refused. Some causes are found before any memory is requested, and so reported even if it is refused: a number
-//! out of range, a side that no version has, an empty input, too few modules, a module of more than 2 in `qrproved_mend`,
-//! and an input of more than 7,089 bytes for a symbol or 113,425 for a series.
+//! memory if memory is refused. The comment also names the causes that are found before any memory is requested, and so
+//! reported even if it is refused.
 #![tactic(auto)]
 
 mod drawing;

@@ -29,8 +29,7 @@ use std::alloc::{AllocError, Global};
 pub struct QrprovedMended {
     /// How many bytes the symbol contains.
     pub len: usize,
-    /// The wrong modules of the whole square: those that are not known, and those without the colour that they have in
-    /// the undamaged symbol. 0 exactly if the square is that symbol and all its modules are known.
+    /// The wrong modules of the whole square: 0 exactly if it is the undamaged symbol and all its modules are known.
     pub wrong_modules: u32,
     /// The version, 1 to 40.
     pub version: u8,
@@ -56,7 +55,7 @@ pub struct QrprovedMended {
 
 const NOT_KNOWN: u8 = 2;
 
-// Whether no byte is more than 1. The loop does not end at the first that is, so that many bytes are compared at once.
+// The loop does not end at the first byte of more than 1, so that many bytes are compared at once.
 fn are_known(modules: &[u8]) -> bool
     ensures { result ≡ true → All (λ b. b < 2) modules.now }
 {
@@ -78,7 +77,6 @@ fn are_modules(modules: &[u8]) -> bool
     modules.iter().all(|module| *module <= NOT_KNOWN)
 }
 
-// The square in which exactly the modules that are not known are dark.
 fn unknown_of(alloc: Global, modules: &[u8], side: u8) -> Result<Matrix, AllocError>
     requires least { 1 ≤ side }
     requires most { side ≤ 177 }
@@ -100,7 +98,6 @@ fn unknown_of(alloc: Global, modules: &[u8], side: u8) -> Result<Matrix, AllocEr
     Ok(unknown)
 }
 
-// Mends and reads the square that `modules` begins with.
 fn mend_modules(alloc: Global, modules: &[u8], side: u8) -> Result<Mended, ReadFault>
     requires least { 1 ≤ side }
     requires most { side ≤ 177 }
@@ -126,7 +123,6 @@ fn greatest(numbers: &[usize]) -> usize
     numbers.iter().copied().max().unwrap_or(0)
 }
 
-// The struct of a mended symbol that contains `len` bytes.
 fn mended_of(len: usize, mended: &Mended) -> QrprovedMended
     requires some { 1 ≤ length mended.now.changed.items }
     requires few { All (λ n. n ≤ 15) mended.now.changed.items }
@@ -171,8 +167,8 @@ fn mended_of(len: usize, mended: &Mended) -> QrprovedMended
 ///
 /// # Errors
 ///
-/// The first that applies of `SIDE` (no version has this side), `ROOM` (`modules` is too short), `SETTINGS` (a module is
-/// more than 2), `FORMAT` (the format information is damaged too much), `CHECK` (the codewords are), `SEGMENTS` (the
+/// The first that applies of `SIDE` (no version has this side), `ROOM` (`modules` is too short), `SETTINGS` (a module
+/// is more than 2), `FORMAT` (the format information is damaged too much), `CHECK` (the codewords are), `SEGMENTS` (the
 /// data codewords cannot be parsed) and `ROOM` (`bytes` is too short); or `MEMORY` if memory is refused. The first
 /// three are found before memory is requested.
 #[unsafe(no_mangle)]
@@ -251,7 +247,6 @@ mod tests {
         }
     }
 
-    // `drawn` with the modules at these places inverted.
     fn inverted(drawn: [u8; 441], places: &[(u8, u8)]) -> Result<[u8; 441], Fail> {
         let mut modules = drawn;
         for (row, col) in places {
@@ -264,7 +259,7 @@ mod tests {
         Ok(modules)
     }
 
-    // At 1-M, modules of five different codewords.
+    // Modules of five different codewords at version 1 and level M (1-M).
     static CODEWORDS: [(u8, u8); 5] = [(20, 20), (16, 20), (12, 20), (9, 18), (13, 18)];
 
     // Four modules of the first copy of the format information, then four of the second.

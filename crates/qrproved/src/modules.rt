@@ -11,14 +11,13 @@ ghost use Rattle.qrproved.specs.Steps.Modules.{four_bytes};
 use qr_symbol::{Matrix, Symbol};
 use std::alloc::{AllocError, Global};
 
-/// Returns the number of modules of a square.
 pub(crate) fn area(side: u8) -> usize
     ensures { result ≡ side * side }
 {
     usize::from(side) * usize::from(side)
 }
 
-// The bytes of four modules, of which the lowest bit is the first.
+// The lowest bit is the first module.
 fn four_bytes(bits: u8) -> [u8; 4]
     requires { bits < 16 }
     ensures { result ≡ four_bytes bits }
@@ -43,7 +42,7 @@ fn four_bytes(bits: u8) -> [u8; 4]
     }
 }
 
-// Writes a row from index `start` on, four modules at once where they are a whole group.
+// Writes four modules at once where they are a whole group.
 fn write_row(matrix: &Matrix, row: u8, start: usize, modules: &mut [u8])
     requires row_in { row < matrix.now.side }
     requires room { start + matrix.now.side ≤ length modules.old }
@@ -66,7 +65,6 @@ fn write_row(matrix: &Matrix, row: u8, start: usize, modules: &mut [u8])
     }
 }
 
-/// Writes a square from index `start` on.
 pub(crate) fn write_square(matrix: &Matrix, start: usize, modules: &mut [u8])
     requires { start + matrix.now.side * matrix.now.side ≤ length modules.old }
     ensures modules { (row col : ℕ) → row < matrix.now.side → col < matrix.now.side
@@ -83,7 +81,6 @@ pub(crate) fn write_square(matrix: &Matrix, start: usize, modules: &mut [u8])
     }
 }
 
-/// Writes the squares of `symbols`.
 pub(crate) fn write_squares(symbols: &[Symbol], side: u8, modules: &mut [u8])
     requires sides { All (λ g. g.side ≡ side) (squares_of symbols.now) }
     requires room { length symbols.now * (side * side) ≤ length modules.old }
@@ -97,7 +94,7 @@ pub(crate) fn write_squares(symbols: &[Symbol], side: u8, modules: &mut [u8])
     }
 }
 
-/// Returns the square that `modules` begins with.
+/// Bytes of `modules` after the square are not read.
 pub(crate) fn matrix_of(alloc: Global, modules: &[u8], side: u8) -> Result<Matrix, AllocError>
     requires least { 1 ≤ side }
     requires most { side ≤ 177 }

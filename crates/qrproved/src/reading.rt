@@ -33,7 +33,6 @@ pub struct QrprovedContent {
     pub parity: u8,
 }
 
-/// Returns the version of this side, if one has it.
 pub(crate) fn version_of_side(side: u32) -> Option<Version>
     ensures { MatchOption result (IsSide side → ⊥)
         (λ v. (1 ≤ v) × (v ≤ 40) × (side ≡ side_of v)) }
@@ -42,7 +41,6 @@ pub(crate) fn version_of_side(side: u32) -> Option<Version>
     Version::of_side(side)
 }
 
-/// Returns the struct of what was read.
 pub(crate) fn content_of(len: usize, version: Version, header: Option<Header>) -> QrprovedContent
     ensures len { result.len ≡ len }
     ensures version { result.version ≡ version }
@@ -145,7 +143,7 @@ mod tests {
     #[test]
     fn eight_digits_are_read(rt: HostRuntime) -> Result<(), Fail> {
         let mut modules = eight_digits(&rt)?;
-        // Each byte but 0 is dark.
+        // As dark as 1.
         for module in &mut modules {
             *module = if *module == 0 { 0 } else { 200 };
         }

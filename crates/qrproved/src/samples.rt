@@ -7,7 +7,7 @@ use qr_layout::{Level, Version};
 use qr_symbol::{build_masked, interleave};
 use std::test::Fail;
 
-/// The symbol 1-M of the digits 01234567.
+/// The symbol of the digits 01234567 at version 1 and level M (1-M).
 pub(crate) fn eight_digits(rt: &HostRuntime) -> Result<[u8; 441], Fail> {
     let mut modules = [0u8; 441];
     let mut symbol = QrprovedSymbol {
@@ -22,7 +22,7 @@ pub(crate) fn eight_digits(rt: &HostRuntime) -> Result<[u8; 441], Fail> {
     Ok(modules)
 }
 
-/// A symbol 1-M whose data codewords begin with 0111, the mode indicator of no mode that is read.
+/// A symbol at 1-M whose data codewords begin with 0111, the mode indicator of no mode that is read.
 pub(crate) fn another_mode(rt: &HostRuntime) -> Result<[u8; 441], Fail> {
     let version = Version::FIRST;
     let message = [0x70u8; 16];

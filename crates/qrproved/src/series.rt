@@ -13,7 +13,7 @@ use qr_symbol::encode_series;
 use qr_symbol::laws::{long_inputs_have_none, series_are_one, series_have_one_side};
 use std::alloc::Global;
 
-/// The number and the size of the symbols of a series.
+/// What `qrproved_encode_series` tells about the symbols, besides their modules.
 #[repr(C)]
 #[derive(Clone, Copy)]
 pub struct QrprovedSeries {
@@ -96,7 +96,7 @@ mod tests {
     use super::*;
     use std::test::Fail;
 
-    // In byte mode at 1-H, the first of two symbols has five of eight letters.
+    // In byte mode at version 1 and level H, the first of two symbols has five of eight letters.
     #[test]
     fn eight_letters_at_1_h(rt: HostRuntime) -> Result<(), Fail> {
         let mut modules = [7u8; 884];

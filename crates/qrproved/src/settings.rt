@@ -15,7 +15,6 @@ pub(crate) struct Settings {
     pub rule: Rule,
 }
 
-/// Returns `number` if it is in range.
 pub(crate) fn between(number: u32, least: u8, most: u8) -> Option<u8>
     ensures { SomeIff result ((least ≤ number) × (number ≤ most)) number }
 {
@@ -26,7 +25,6 @@ pub(crate) fn between(number: u32, least: u8, most: u8) -> Option<u8>
     Some(byte)
 }
 
-/// Returns the version, the level and the rule with these numbers, if all are in range.
 pub(crate) fn settings_of(version: u32, level: u32, rule: u32) -> Option<Settings>
     ensures { SomeIff result (AreSettings version level rule)
         (record { version = version; level = level_of level; rule = rule_of rule }) }
@@ -50,7 +48,7 @@ fn level_of(number: u32) -> Option<Level>
     }
 }
 
-/// Returns the number of a level.
+/// The inverse of `level_of`.
 pub(crate) fn number_of(level: Level) -> u8
     ensures in_range { result < 4 }
     ensures same { level_of result ≡ level }

@@ -29,8 +29,8 @@ pub(crate) const ROOM: u8 = 6;
 /// No version has this side.
 pub(crate) const SIDE: u8 = 7;
 
-/// The format information belongs to no level and mask. In `qrproved_mend`: beside each level and mask, each copy has
-/// more than three wrong modules, where one that is not known counts half.
+/// The format information belongs to no level and mask. In `qrproved_mend`: for each level and mask, each copy has more
+/// than three wrong modules, of which one that is not known counts half.
 pub(crate) const FORMAT: u8 = 8;
 
 /// A block does not match its error correction codewords. In `qrproved_mend`: a block is damaged too much.

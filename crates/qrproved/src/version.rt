@@ -1,4 +1,4 @@
-//! The call that returns the version of the library.
+//! The version of the library.
 
 ghost use Rattle.std.specs.Prelude.{◌≡◌};
 

@@ -134,7 +134,7 @@ fn mend_inverted_without(
     }
 }
 
-// At 1-M eight of the ten error correction codewords correct errors.
+// At 1-M eight error correction codewords correct errors: an erased codeword takes one, and a misread one two.
 #[test]
 fn eight_digits_with_unread_modules(rt: HostRuntime) -> Result<(), Fail> {
     let format = [(0u8, 8u8), (1, 8), (2, 8)];

@@ -36,7 +36,7 @@ pub fn byte_codewords(
     Ok(codewords(rt.alloc(), bytes, &[segment], header, version, level)?)
 }
 
-/// Returns the symbol of an optional header and a segment in byte mode.
+/// As `byte_codewords`, but returns the symbol, with the mask of least penalty.
 pub fn byte_symbol(
     rt: &HostRuntime,
     bytes: &[u8],

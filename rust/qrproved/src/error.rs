@@ -12,7 +12,7 @@ pub enum Error {
     TooMany = 3,
     /// Memory was refused.
     Memory = 4,
-    /// A number is out of its range, or a module is that of none.
+    /// A number is out of its range, a module to mend is more than 2, or symbols to draw have several versions.
     Settings = 5,
     /// There are fewer modules than the square has.
     Room = 6,
@@ -20,7 +20,7 @@ pub enum Error {
     Side = 7,
     /// The format information is that of no level and mask, or too damaged.
     Format = 8,
-    /// A block's error correction codewords are not its own, or it has more wrong codewords than can be mended.
+    /// A block does not match its error correction codewords, or is too damaged to be mended.
     Check = 9,
     /// The data codewords cannot be parsed.
     Segments = 10,
@@ -67,7 +67,7 @@ impl fmt::Display for Error {
             Error::TooLong => "no version holds the input",
             Error::TooMany => "the input takes more than 16 symbols",
             Error::Memory => "memory was refused",
-            Error::Settings => "a number is out of its range, or a module is that of none",
+            Error::Settings => "a number is out of range, or a byte is no module",
             Error::Room => "there are fewer modules than the square has",
             Error::Side => "no version has this side",
             Error::Format => "the format information cannot be read",

@@ -99,7 +99,7 @@ pub enum Drawing {
     Svg,
 }
 
-/// A symbol: its modules, and what it was made with.
+/// A symbol: its version and its modules.
 #[derive(Clone, Debug, PartialEq, Eq, Hash)]
 pub struct Symbol {
     version: Version,
@@ -173,7 +173,7 @@ pub struct Mended {
     pub wrong_modules: u32,
     /// How many of the 30 modules of format information are wrong or not known.
     pub wrong_format_modules: u8,
-    /// How many codewords were wrong in the block with the most of them, beside those with a module that is not known.
+    /// How many codewords were wrong in the block with the most of them, without those with a module that is not known.
     pub changed_most: u8,
     /// How many may be wrong in each block, from 2 to 15.
     pub changed_allowed: u8,
@@ -185,7 +185,8 @@ impl Mended {
         self.wrong_modules == 0
     }
 
-    /// Returns the share of the correction that is spent in the worst block, from 0 to 1.
+    /// Returns the share of the correction that is spent in the block with the most wrong codewords, from 0 to 1; codewords with
+    /// a module that is not known do not count.
     pub fn spent(&self) -> f64 {
         f64::from(self.changed_most) / f64::from(self.changed_allowed)
     }
@@ -221,8 +222,8 @@ pub fn encode(input: &[u8], smallest: Version, level: Level, rule: Rule) -> Resu
     })
 }
 
-/// Encodes an input as the series of symbols of one version that holds it, by structured append: at most 16 of them. An input
-/// that fits one symbol is one plain symbol.
+/// Encodes an input as a series of at most 16 symbols of one version, by structured append. An input that fits one symbol is
+/// one plain symbol.
 ///
 /// # Errors
 ///
@@ -271,7 +272,8 @@ pub fn encode_series(
 /// # Errors
 ///
 /// [`Error::Side`] if no version has the side, [`Error::Room`] if there are fewer modules than its square has,
-/// [`Error::Format`], [`Error::Check`] and [`Error::Segments`] if it cannot be read, [`Error::Memory`].
+/// [`Error::Format`] if the first copy of the format information belongs to no level and mask, [`Error::Check`] if a block does
+/// not match its error correction codewords, [`Error::Segments`] if the data codewords cannot be parsed, [`Error::Memory`].
 pub fn read(modules: &[u8], side: usize) -> Result<Content, Error> {
     let mut content = c::Content::default();
     let side = setting(side)?;
@@ -302,9 +304,9 @@ pub fn read(modules: &[u8], side: usize) -> Result<Content, Error> {
     })
 }
 
-/// Reads a symbol, mends its damage, and tells how damaged it is. Each module is 0, 1, or 2 where it is not known: its codeword
-/// takes half as much of the correction as a wrong one. Of the 30 modules of format information any six may be wrong, or 13 not
-/// known. Bytes past the last module are ignored.
+/// Reads a symbol, mends its damage, and tells how damaged it is. Each module is 0 for light, 1 for dark, or 2 where it is not
+/// known: its codeword takes half as much of the correction as a wrong one. Of the 30 modules of format information any six may
+/// be wrong, or 13 not known. Bytes past the last module are ignored.
 ///
 /// # Errors
 ///

@@ -7,7 +7,7 @@ use Rattle.qr_bits.specs.declared.run_state.RunState.TheVariants.{Start, Digit1,
 use Rattle.qr_bits.specs.declared.run_state.PerState.{PerState}
 use Rattle.qr_bits.specs.Steps.RunState.{state_after, allowed, ranked, IsBestRest, IsChoice}
 
--- The value for a state
+-- The field of a state
 unfoldable pub in_state : {T : Type 0} → PerState T → RunState → T
 in_state b Start = b.start
 in_state b Digit1 = b.digit1
@@ -46,7 +46,7 @@ shift_of WholePair = 16
 unfoldable pub mode_at : ℕ → RunState → Mode
 mode_at row p = ranked (row / 2 ^ shift_of p % 4)
 
--- The row has the best mode of the byte `x` for each state before it, where `numbers` are its choices and `rest` those
+-- `numbers` are the choices of the byte `x` for each state before it, `row` has their modes, and `rest` are the choices
 -- of the later bytes
 abbrev pub IsRow : ℕ → Rule → ℕ → Bool → PerState ℕ → ℕ → PerState ℕ → Type 0
 IsRow v r x pair rest row numbers = (p : RunState) → IsChoice v r p x pair (bits_at rest) (mode_at row p) (bits_at numbers p)

@@ -1,4 +1,4 @@
--- With which faults the code may give up reading.
+-- Faults of private steps of reading.
 use Rattle.std.specs.Prelude.{◌≡◌, ◌⊎◌, Result, Err}
 use Rattle.qr_bits.specs.declared.fault.ParseFault.{ParseFault}
 use Rattle.qr_bits.specs.declared.fault.ParseFault.TheVariants.{Memory}

@@ -47,11 +47,11 @@ byte_cost v HalfPair Kanji = 0
 byte_cost v WholePair Kanji = 13
 byte_cost v _ Kanji = 4 + count_width v Kanji + 13
 
--- The test with its arguments exchanged
+-- The test for bytes that are taken from the last to the first: the second byte of a pair comes first
 abbrev pub swapped : (ℕ → ℕ → Bool) → ℕ → ℕ → Bool
 swapped test x y = test y x
 
--- The rule allows kanji mode, and the first two bytes pass `test`
+-- The first two bytes may be written in kanji mode
 unfoldable pub begins_with_pair : Rule → (ℕ → ℕ → Bool) → List ℕ → Bool
 begins_with_pair r test [] = false
 begins_with_pair r test (x ∷ []) = false
@@ -64,7 +64,7 @@ may_begin r x pair Alphanumeric = may_use r Alphanumeric && is_alphanumeric x
 may_begin r x pair Byte = may_use r Byte
 may_begin r x pair Kanji = pair
 
--- `x` may have the mode; after half a pair only kanji mode is possible
+-- After half a pair only kanji mode is possible
 unfoldable pub may_take : Rule → RunState → ℕ → Bool → Mode → Bool
 may_take r HalfPair x pair m = rank m == rank Kanji
 may_take r _ x pair m = may_begin r x pair m
@@ -107,6 +107,6 @@ pub record IsChoice (v : ℕ) (r : Rule) (p : RunState) (x : ℕ) (pair : Bool) 
 abbrev pub choice_number : Bool → ℕ → Mode → ℕ
 choice_number may bits m = if may then 4 * bits + rank m else 4294967295
 
--- The mode of a rank
+-- The reverse of `rank`
 abbrev pub ranked : ℕ → Mode
 ranked n = if n == 0 then Numeric else (if n == 1 then Alphanumeric else (if n == 2 then Byte else Kanji))

@@ -1,11 +1,10 @@
--- What happens to the writer, which changes from `old` to `new`, while a part of a text is written. A writer is well if
--- its counts show no fault.
+-- What happens to the writer, which changes from `old` to `new`, while a part of a text is written.
 use Rattle.std.specs.Prelude.{◌≡◌, ◌≤◌, ◌<◌, ◌+◌, ◌^◌, ◌++◌, ℕ, max, length, List, true}
 use Rattle.std.specs.Io.KnownBytes.{Appends}
 use Rattle.qr_devices.specs.Device.{AppendsBeginning, IsWrittenWithin, Writer, counted, is_write_fault}
 use Rattle.qr_devices.specs.declared.device.WriteCounts.{WriteCounts}
 
--- The counts show no fault, and exactly `interrupted` interrupted writes
+-- A writer is well: its counts show no fault, and exactly `interrupted` interrupted writes
 pub record IsWell (c : WriteCounts) (interrupted : ℕ) : Type 0 where
   pub failed : c.failed ≡ 0
   pub zeros : c.zeros ≡ 0

@@ -1,4 +1,4 @@
--- A polynomial times x - root, and its value at a power of 2.
+-- For the computation of generator polynomials, whose roots are powers of 2.
 use Rattle.std.specs.Prelude.{ℕ, ◌*◌, List, [], ◌∷◌, length, bit_xor}
 use Rattle.qr_field.specs.Galois.{product}
 use Rattle.qr_field.specs.Polynomial.{power}

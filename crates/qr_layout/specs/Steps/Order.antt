@@ -8,7 +8,7 @@ use Rattle.qr_layout.specs.Version.{side_of}
 use Rattle.qr_layout.specs.Order.{column_without_timing}
 use Rattle.qr_layout.specs.Strips.{strip_at}
 
--- 0 for the right module of a row of the strip, and 1 for the left
+-- How many modules of the strip's row the walk visits before this one
 abbrev pub half_of : Bool → ℕ
 half_of at_left = if at_left then 1 else 0
 

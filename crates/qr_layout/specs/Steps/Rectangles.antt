@@ -1,4 +1,4 @@
--- The rectangles that the program draws one by one: they cover all modules outside the encoding region.
+-- The rectangles that the program draws one by one.
 use Rattle.std.specs.Prelude.{ℕ, ◌≤◌, ◌+◌, ◌-◌, nat_lt, if◌then◌else◌, List, [], ◌∷◌, ◌++◌, map}
 use Rattle.qr_layout.specs.declared.region.Module.{Module}
 use Rattle.qr_layout.specs.declared.rectangles.Rectangle.{Rectangle}

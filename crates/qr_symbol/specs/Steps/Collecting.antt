@@ -8,7 +8,7 @@ use Rattle.qr_matrix.specs.Grid.{Grid, colour}
 use Rattle.qr_symbol.specs.declared.placement.Columns.{Columns}
 use Rattle.qr_symbol.specs.Steps.Placement.{row_of}
 
--- The bit of a module, if it is in the region.
+-- The bit of a module, if the module is in the region.
 abbrev pub bit_if : Bool → Bool → List Bool
 bit_if is_in dark = if is_in then dark ∷ [] else []
 

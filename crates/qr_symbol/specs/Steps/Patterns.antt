@@ -1,5 +1,5 @@
 -- The colours of modules outside the region after each step of drawing. `format` and `version` are the format and the
--- version information as numbers; `true` is dark.
+-- version information as numbers.
 use Rattle.std.specs.Prelude.{ℕ, ◌-◌, ◌%◌, ◌==◌, ◌&&◌, ◌||◌, nat_le, nat_lt, if◌then◌else◌, Bool, false}
 use Rattle.qr_layout.specs.declared.role.Role.{Role}
 use Rattle.qr_layout.specs.declared.role.Role.TheVariants.{Fixed, FormatBit, VersionBit, Region}
@@ -14,7 +14,7 @@ fixed_colour format version (FormatBit i) = has_bit format i
 fixed_colour format version (VersionBit i) = has_bit version i
 fixed_colour format version Region = false
 
--- The colour in row `r` and column `c` of version `v`; the region counts as light.
+-- As `fixed_colour`, with the role that the place has in version `v`.
 abbrev pub paint_of : ℕ → ℕ → ℕ → ℕ → Bool
 paint_of v format r c = fixed_colour format (version_word_of v) (role_of v r c)
 

@@ -33,7 +33,7 @@ unfoldable pub walked_colour : ℕ → List ℕ → ℕ → (ℕ → ℕ → Boo
 walked_colour v cw mask other r c =
     if is_in_region v r c then inverted (inverts mask r c) (codeword_bit cw (number_of v (record { row = r; col = c }))) else other r c
 
--- Draws bit `number` in one module, if it is in the region.
+-- Draws bit `number` in one module, if the module is in the region.
 abbrev pub placed_if : Bool → List ℕ → ℕ → Grid → ℕ → ℕ → Grid
 placed_if is_in cw number g row col = if is_in then painted g row col (codeword_bit cw number) else g
 
@@ -60,8 +60,8 @@ IsCodewordBits cw w = (k : ℕ) → k < 64 → has_bit w.bits (63 - k) ≡ codew
 abbrev pub AreNext : List ℕ → ℕ → ℕ → Type 0
 AreNext cw number bits = (k : ℕ) → k < 8 → has_bit bits (7 - k) ≡ codeword_bit cw (number + k)
 
--- Drawing the modules `ms`, each in the region with the next bit from `first` on, changes the transposed square
--- `before` to `after`; `next` is the next bit, and `ms` has the rows and columns of the symbol.
+-- Drawing those of the modules `ms` that are in the region, with the bits from `first` to `next - 1`, changes the
+-- transposed square `before` to `after`; `ms` has the rows and columns of the symbol.
 pub record IsDrawnAcross (v : ℕ) (cw : List ℕ) (ms : List Module) (first : ℕ) (before : Grid) (next : ℕ) (after : Grid) : Type 0 where
   pub number : next ≡ number_along v ms first
   pub placed : transposed after ≡ placed_along v cw ms first (transposed before)
@@ -71,7 +71,7 @@ pub record IsDrawnAcross (v : ℕ) (cw : List ℕ) (ms : List Module) (first : �
 abbrev pub with_columns : Grid → ℕ → Columns → Grid
 with_columns g right x = with_row (with_row g right (has x.right)) (right - 1) (has x.left)
 
--- No bit is set from index `s` on.
+-- No bit outside the square is set.
 abbrev pub AreWithin : ℕ → Columns → Type 0
 AreWithin s x = (row : ℕ) → s ≤ row → (has x.right row ≡ false) × (has x.left row ≡ false)
 
@@ -88,8 +88,8 @@ AreLight s x k region y = (rank : ℕ) → k ≤ rank → rank < s
 abbrev pub IsRegion : ℕ → ℕ → Columns → Type 0
 IsRegion v right x = (row : ℕ) → row < side_of v → (has x.right row ≡ is_in_region v row right) × (has x.left row ≡ is_in_region v row (right - 1))
 
--- Drawing `n` rows of the strip from row `k` on, with the bits from `first` on, changes its columns from `before` to
--- `after`, whatever colours are outside the strip; `next` is the next bit.
+-- As `IsDrawnAcross`, for `n` rows of the strip from row `k` on: its columns change from `before` to `after`, whatever
+-- colours are outside the strip.
 abbrev pub AreDrawn : ℕ → List ℕ → Strip → ℕ → ℕ → ℕ → Columns → ℕ → Columns → Type 0
 AreDrawn v cw strip k n first before next after = (g : Grid) → g.side ≡ side_of v
     → IsDrawnAcross v cw (both_of (rows_from (side_of v) strip k n)) first (with_columns g strip.right before) next (with_columns g strip.right after)
@@ -98,7 +98,7 @@ AreDrawn v cw strip k n first before next after = (g : Grid) → g.side ≡ side
 unfoldable pub masked_colour : ℕ → ℕ → ℕ → Grid → Grid → ℕ → ℕ → Bool
 masked_colour v format mask region plain r c = format_or format (role_of v r c) (inverted (colour region r c && inverts mask r c) (colour plain r c))
 
--- The square `plain` masked where `region` is dark, with the format information.
+-- The square of these colours, with the format information of level `l` and mask `mask`.
 abbrev pub masked_grid : ℕ → Level → ℕ → Grid → Grid → Grid
 masked_grid v l mask region plain = square (side_of v) (masked_colour v (format_word_of l mask) mask region plain)
 

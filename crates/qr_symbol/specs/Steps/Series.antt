@@ -6,7 +6,7 @@ use Rattle.qr_bits.specs.declared.modes.Rule.{Rule}
 use Rattle.qr_bits.specs.Segmentation.{IsLongestFit}
 use Rattle.qr_bits.specs.Padding.{room_of}
 
--- The lengths of the parts: each is the longest prefix of the rest that fits a symbol with a header, and none is empty.
+-- As `AreParts`, but for the lengths.
 unfoldable pub AreLengths : ℕ → Level → Rule → List ℕ → List ℕ → Type 0
 AreLengths v l rule x [] = x ≡ []
 AreLengths v l rule x (n ∷ ns) = (0 < n) × IsLongestFit v rule x (room_of v l) n × AreLengths v l rule (drop n x) ns
