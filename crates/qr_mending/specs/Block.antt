@@ -10,8 +10,7 @@ pub record IsBlock (n : ℕ) (codewords : List ℕ) : Type 0 where
   pub whole : codewords ≡ message ++ correction
   pub corrects : IsCorrection message n correction
 
--- `mended` is a block that has the length of `damaged` and differs from it in at most `t` codewords (ISO/IEC
--- 18004:2015, 7.5.1)
+-- The correction of a block in which at most `t` codewords are misread, and none is erased (ISO/IEC 18004:2015, 7.5.1)
 pub record IsMended (n t : ℕ) (damaged mended : List ℕ) : Type 0 where
   pub block : IsBlock n mended
   pub long : length mended ≡ length damaged

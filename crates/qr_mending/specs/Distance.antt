@@ -1,12 +1,10 @@
--- How far symbols `g` and `h` of version `v` lie apart. The first has level `l`, mask `m` and data codewords `d`, the
--- second `k`, `n` and `e`.
+-- How far symbols of version `v` lie apart
 use Rattle.std.specs.Prelude.{◌≡◌, ◌⊎◌, ℕ, ◌*◌, ◌<◌, ◌≤◌, List}
 use Rattle.qr_field.specs.Distance.{differences}
 use Rattle.qr_layout.specs.declared.level.Level.{Level}
 use Rattle.qr_matrix.specs.Grid.{Grid}
 use Rattle.qr_symbol.specs.Symbol.{grid_of}
-use Rattle.qr_symbol.specs.Reading.{IsMessage}
-use Rattle.qr_symbol.specs.Distance.{blocks_in, held_block}
+use Rattle.qr_symbol.specs.Distance.{HeldMessage, blocks_in, held_block}
 use Rattle.qr_mending.specs.declared.format.FormatCopy.{FormatCopy}
 use Rattle.qr_mending.specs.Format.{bit_differences, copy_bit}
 use Rattle.qr_mending.specs.Message.{tolerance_of}
@@ -17,15 +15,14 @@ FormatsLieApart g h = (copy : FormatCopy) → 7 ≤ bit_differences 15 (copy_bit
 
 -- In some block they differ in more than twice as many codewords as can be corrected in a block of level `l` (ISO/IEC
 -- 18004:2015, 7.5.1)
-abbrev pub SomeBlockLiesApart : (v : ℕ) (l k : Level) (m n : ℕ) (g h : Grid) (d e : List ℕ) → IsMessage v l m g d → IsMessage v k n h e → Type 0
-SomeBlockLiesApart v l k m n g h d e a b = (i : ℕ) × (i < blocks_in v l) × (2 * tolerance_of v l < differences (held_block v l m g d a i) (held_block v k n h e b i))
+abbrev pub SomeBlockLiesApart : (v : ℕ) (l k : Level) → HeldMessage v l → HeldMessage v k → Type 0
+SomeBlockLiesApart v l k m n = (i : ℕ) × (i < blocks_in v l) × (2 * tolerance_of v l < differences (held_block v l m i) (held_block v k n i))
 
 -- Symbols with different levels or data codewords have format information that lies apart, or else one level and mask
 -- and a block that does [own]
 abbrev pub SymbolsLieApart : ℕ → Type 0
 SymbolsLieApart v =
-    (l k : Level) (m n : ℕ) (cw ds d e : List ℕ) → m < 8 → n < 8
-    → (a : IsMessage v l m (grid_of v l m cw) d) → (b : IsMessage v k n (grid_of v k n ds) e)
-    → ((l ≡ k) × (d ≡ e) → ⊥)
-    → FormatsLieApart (grid_of v l m cw) (grid_of v k n ds)
-    ⊎ ((l ≡ k) × (m ≡ n) × SomeBlockLiesApart v l k m n (grid_of v l m cw) (grid_of v k n ds) d e a b)
+    (l k : Level) (m : HeldMessage v l) (n : HeldMessage v k) (cw ds : List ℕ) → m.mask < 8 → n.mask < 8
+    → m.grid ≡ grid_of v l m.mask cw → n.grid ≡ grid_of v k n.mask ds
+    → ((l ≡ k) × (m.message ≡ n.message) → ⊥)
+    → FormatsLieApart m.grid n.grid ⊎ ((l ≡ k) × (m.mask ≡ n.mask) × SomeBlockLiesApart v l k m n)

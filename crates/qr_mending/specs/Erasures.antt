@@ -3,15 +3,15 @@ use Rattle.std.specs.Prelude.{◌≡◌, ℕ, ◌+◌, ◌*◌, ◌≤◌, Bool,
 use Rattle.qr_field.specs.Distance.{erasures, errors}
 use Rattle.qr_mending.specs.Block.{IsBlock}
 
--- What was read, if the codewords are erased at whose index `erased` is true [own]
+-- What was read, if `erased` is true for each erased codeword; codewords past its end count as read [own]
 abbrev pub read_of : List ℕ → List Bool → List (Option ℕ)
 read_of [] erased = []
 read_of (x ∷ xs) [] = Some x ∷ read_of xs []
 read_of (x ∷ xs) (true ∷ erased) = None ∷ read_of xs erased
 read_of (x ∷ xs) (false ∷ erased) = Some x ∷ read_of xs erased
 
--- `mended` is a block with `n` error correction codewords and the length of `read`; correcting it takes at most `spare`
--- of them, one for each erased codeword and two for each misread one (ISO/IEC 18004:2015, 7.5.1)
+-- The correction of a block by at most `spare` of its `n` error correction codewords: an erased codeword takes one, and
+-- a misread one two, since its place is not known (ISO/IEC 18004:2015, 7.5.1)
 pub record IsMendedWithErasures (n spare : ℕ) (read : List (Option ℕ)) (mended : List ℕ) : Type 0 where
   pub block : IsBlock n mended
   pub long : length mended ≡ length read

@@ -1,6 +1,5 @@
--- How the format information of a damaged symbol is read. A symbol has two copies of it. `g` is the square of modules as it
--- was read, and `unknown` is dark where a module was not read. Any other module is misread if it has another colour than the
--- format information requires, which is `word`, or that of level `l` and mask `mask`.
+-- How the format information of a damaged symbol is read. `g` is the square of modules as it was read, and `unknown` is
+-- dark where a module was not read. Both copies should show `word`, or the word of level `l` and mask `mask`.
 use Rattle.std.specs.Prelude.{ℕ, ◌+◌, ◌*◌, ◌<◌, ◌≤◌, ◌&&◌, not, Bool, true, false}
 use Prim.Native.Nat.{zero, suc}
 use Rattle.qr_layout.specs.declared.level.Level.{Level}
@@ -19,19 +18,19 @@ abbrev pub copy_place : FormatCopy → ℕ → ℕ → Module
 copy_place First s i = first_place i
 copy_place Second s i = second_place s i
 
--- Bit `i` of a copy in a square; a dark module is true (ISO/IEC 18004:2015, 7.9.1)
+-- Bit `i` as a copy shows it (ISO/IEC 18004:2015, 7.9.1)
 abbrev pub copy_bit : FormatCopy → Grid → ℕ → Bool
 copy_bit copy g i = colour g (copy_place copy g.side i).row (copy_place copy g.side i).col
 
--- The number of modules of a copy that were not read (ISO/IEC 18004:2015, 7.9.1)
+-- The modules of a copy that were not read (ISO/IEC 18004:2015, 7.9.1)
 abbrev pub unread_bits : Grid → FormatCopy → ℕ
 unread_bits unknown copy = count_below 15 (copy_bit copy unknown)
 
--- The number of misread modules of a copy (ISO/IEC 18004:2015, 7.9.1)
+-- The misread modules of a copy, without those that were not read (ISO/IEC 18004:2015, 7.9.1)
 abbrev pub misread_bits : Grid → FormatCopy → Grid → (word : ℕ) → ℕ
 misread_bits unknown copy g word = count_below 15 (λ i. not (copy_bit copy unknown i) && not (is_same (copy_bit copy g i) (has_bit word i)))
 
--- The cost of a copy: 1 for each module that was not read, and 2 for each misread one [own]
+-- The cost of a copy: a misread module counts twice, since its place is not known [own]
 abbrev pub copy_cost : Grid → FormatCopy → Grid → Level → ℕ → ℕ
 copy_cost unknown copy g l mask = unread_bits unknown copy + 2 * misread_bits unknown copy g (format_word_of l mask)
 
@@ -39,20 +38,20 @@ copy_cost unknown copy g l mask = unread_bits unknown copy + 2 * misread_bits un
 abbrev pub format_cost : Grid → Grid → Level → ℕ → ℕ
 format_cost unknown g l mask = copy_cost unknown First g l mask + copy_cost unknown Second g l mask
 
--- The level and the mask are near to a copy: it costs at most 6. Words of format information differ in seven bits, so at most
--- one pair is near to a copy (ISO/IEC 18004:2015, 7.9.1, Annex C)
+-- The level and the mask are near to a copy, as at most one pair is: words of format information differ in seven bits
+-- (ISO/IEC 18004:2015, 7.9.1, Annex C)
 pub record IsNearFormat (unknown : Grid) (copy : FormatCopy) (g : Grid) (l : Level) (mask : ℕ) : Type 0 where
   pub in_range : mask < 8
   pub near : copy_cost unknown copy g l mask ≤ 6
 
--- 1 if the bits differ, 0 otherwise [own]
+-- A difference as a number, so that differences can be added [own]
 abbrev pub bit_difference : Bool → Bool → ℕ
 bit_difference true true = 0
 bit_difference true false = 1
 bit_difference false true = 1
 bit_difference false false = 0
 
--- The number of indices below `n` at which the bits differ [own]
+-- The Hamming distance of the first `n` bits [own]
 abbrev pub bit_differences : ℕ → (ℕ → Bool) → (ℕ → Bool) → ℕ
 bit_differences zero p q = 0
 bit_differences (suc n) p q = bit_difference (p n) (q n) + bit_differences n p q

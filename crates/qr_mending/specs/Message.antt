@@ -1,8 +1,7 @@
--- How the message of a damaged symbol, which is its data codewords, is mended block by block. `unknown` is a square that is
--- dark where a module of the symbol was not read; a codeword with such a module is erased. `b` has the sizes of the blocks,
--- `cw` lists the interleaved codewords as they were read, and `places` the modules of the encoding region in the order
--- in which codewords fill them. To correct a block takes one error correction codeword for each erased codeword, and two
--- for each misread one.
+-- How the message of a damaged symbol is mended block by block. `unknown` is a square that is dark where a module of
+-- the symbol was not read; a codeword with such a module is erased. `b` has the sizes of the blocks, `cw` lists the
+-- interleaved codewords as they were read, and `places` is the order. An erased codeword takes one error correction
+-- codeword, and a misread one two.
 use Rattle.std.specs.Prelude.{◌≡◌, ℕ, ◌+◌, ◌-◌, ◌*◌, ◌/◌, ◌<◌, ◌≤◌, ◌==◌, if◌then◌else◌, Option, None, Some, List, ◌++◌, map, take, drop, length, slice_index}
 use Rattle.std.specs.List.{list_any, range_with_len}
 use Rattle.qr_field.specs.Polynomial.{IsCorrection}
@@ -38,31 +37,42 @@ spare_of v l = (blocks_of v l).ec_len - protection_of v l
 abbrev pub tolerance_of : ℕ → Level → ℕ
 tolerance_of v l = spare_of v l / 2
 
--- What was read of codeword `k`, counted from 0: nothing if one of its eight modules was not read
--- (ISO/IEC 18004:2015, 7.7.3)
+-- The eight modules of codeword `k`, counted from 0 (ISO/IEC 18004:2015, 7.7.3)
+abbrev pub modules_of : List Module → ℕ → List Module
+modules_of places k = take 8 (drop (8 * k) places)
+
+-- What was read of codeword `k`: nothing if one of its modules was not read (ISO/IEC 18004:2015, 7.7.3)
 abbrev pub read_at : Grid → List Module → List ℕ → ℕ → Option ℕ
 read_at unknown places cw k =
-    if list_any (λ m. colour unknown m.row m.col) (take 8 (drop (8 * k) places)) then None else Some (slice_index cw k)
+    if list_any (λ m. colour unknown m.row m.col) (modules_of places k) then None else Some (slice_index cw k)
 
--- Block `i`, of which `read` was read, can be mended to block `i` of `message`: `misread` of its codewords are misread, and
--- its correction takes at most `spare` error correction codewords (ISO/IEC 18004:2015, 7.5.1)
+-- The data codewords `d` and the error correction codewords `e` of an interleaved list, in the order of the blocks
+-- (ISO/IEC 18004:2015, 7.5.1, 7.6)
+pub record AreInBlocks (b : Blocks) (interleaved d e : List ℕ) : Type 0 where
+  pub gathered : IsGathered (data_sizes b) interleaved d
+  pub rest : IsGathered (correction_sizes b) (drop (codeword_count (data_sizes b)) interleaved) e
+
+-- Which of the codewords of a symbol, counted from 0, are the data codewords and the error correction codewords of its
+-- blocks (ISO/IEC 18004:2015, 7.6)
+abbrev pub AreIndices : ℕ → Level → List ℕ → List ℕ → Type 0
+AreIndices v l indices checks = AreInBlocks (blocks_of v l) (range_with_len 0 (total_codewords_of v)) indices checks
+
+-- Block `i`, of which `read` was read, can be mended to block `i` of `message`: `misread` of its codewords are misread,
+-- and its correction takes at most `spare` error correction codewords (ISO/IEC 18004:2015, 7.5.1)
 pub record IsMendedBlock (b : Blocks) (spare : ℕ) (read : List (Option ℕ)) (message : List ℕ) (misread i : ℕ) : Type 0 where
   pub correction : List ℕ
   pub corrects : IsCorrection (part_of (data_sizes b) message i) b.ec_len correction
   pub near : erasures read + 2 * misread ≤ spare
   pub count : misread ≡ errors read (part_of (data_sizes b) message i ++ correction)
 
--- The codewords of a symbol of version `v` and level `l` can be mended to `message`: `indices` lists, block by block,
--- which of the interleaved codewords are data codewords of the block, and `checks` which are its error correction
--- codewords (ISO/IEC 18004:2015, 7.5.1, 7.6, 7.7.3)
+-- The codewords of a symbol of version `v` and level `l` can be mended to `message` (ISO/IEC 18004:2015, 7.5.1, 7.6,
+-- 7.7.3)
 pub record IsMendedIn (unknown : Grid) (v : ℕ) (l : Level) (cw message misread : List ℕ) : Type 0 where
   pub places : List Module
   pub order : IsOrder v places
   pub indices : List ℕ
   pub checks : List ℕ
-  pub gathered : IsGathered (data_sizes (blocks_of v l)) (range_with_len 0 (total_codewords_of v)) indices
-  pub rest : IsGathered (correction_sizes (blocks_of v l))
-      (drop (codeword_count (data_sizes (blocks_of v l))) (range_with_len 0 (total_codewords_of v))) checks
+  pub inside : AreIndices v l indices checks
   pub long : length message ≡ codeword_count (data_sizes (blocks_of v l))
   pub many : length misread ≡ block_count (data_sizes (blocks_of v l))
   pub each : (i : ℕ) → i < block_count (data_sizes (blocks_of v l)) → IsMendedBlock (blocks_of v l) (spare_of v l)

@@ -9,7 +9,7 @@ use Rattle.qr_symbol.specs.Reading.{IsFormat, IsMessage, IsOfVersion}
 use Rattle.qr_symbol.specs.Joining.{IsJoinedBy, IsUnjoinedBy}
 use Rattle.qr_mending.specs.Mending.{IsDamagedForm, IsMendedReading, IsUnmended}
 
--- The square, of which all modules were read, is mended and read as `content`, with any version, level and mask
+-- The square, of which all modules were read, is mended and read as `content`, with some version, level and mask
 -- (ISO/IEC 18004:2015, 12)
 abbrev pub IsMendedContent : Grid → Content → Type 0
 IsMendedContent g content = (v : ℕ) × (l : Level) × (mask : ℕ) × (changed : List ℕ) × IsMendedReading (light g.side) g v l mask content changed
@@ -18,12 +18,13 @@ IsMendedContent g content = (v : ℕ) × (l : Level) × (mask : ℕ) × (changed
 abbrev pub IsMendedSeries : List Grid → List ℕ → Type 0
 IsMendedSeries squares bytes = IsJoinedBy IsMendedContent squares bytes
 
--- The faults for which the squares are refused (ISO/IEC 18004:2015, 12)
+-- `Memory`, the fault of the first square that is not mended, or `Series` if all are but do not belong together (ISO/IEC
+-- 18004:2015, 8.1 to 8.3, 12)
 abbrev pub IsUnmendedSeries : List Grid → ReadFault → Type 0
 IsUnmendedSeries squares e = IsUnjoinedBy IsMendedContent (λ g. IsUnmended (light g.side) g) squares e
 
--- `damaged`, of which all modules were read, is a damaged form of `whole`, which can be read without mending
--- (ISO/IEC 18004:2015, 7.5.1, 7.9.1, 12)
+-- `damaged`, of which all modules were read, is a damaged form of `whole`, of which level, mask and data codewords are
+-- read without mending (ISO/IEC 18004:2015, 7.5.1, 7.9.1, 12)
 pub record IsDamagedSquare (damaged whole : Grid) : Type 0 where
   pub version : ℕ
   pub level : Level

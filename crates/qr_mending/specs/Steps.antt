@@ -1,5 +1,4 @@
--- Steps of the program, for contracts of private functions only. Nobody needs them to judge the promises of public
--- functions.
+-- Steps of the code. Only private contracts use them.
 pub mod Sums
 pub mod Polynomial
 pub mod Errors

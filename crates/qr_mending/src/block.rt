@@ -1,4 +1,4 @@
-//! Mends damaged blocks (ISO/IEC 18004:2015, 7.5.1 and Annex B).
+//! Mends damaged blocks: computes a candidate from the syndromes, and takes it only if it is a block and near enough.
 
 ghost use Rattle.std.specs.Prelude.{◌≡◌, ℕ, ◌*◌, ◌≤◌, List, length, IfSome, IfNone};
 ghost use Rattle.std.specs.Bool.{Decides};
@@ -11,7 +11,7 @@ use crate::sums::syndromes;
 use arrayvec::ArrayVec;
 use qr_field::Divisor;
 
-// The block that differs from `damaged` in at most `t` codewords, or some list of the same length if there is none.
+// The mended block, or a list that the caller has to refuse if `damaged` cannot be mended.
 fn candidate(n: usize, t: usize, damaged: &[u8]) -> ArrayVec<u8, 255>
     requires most { n ≤ 30 }
     requires half { 2 * t ≤ n }
@@ -38,7 +38,6 @@ fn count_differences(xs: &[u8], ys: &[u8]) -> usize
     count
 }
 
-// Whether the codewords are a block with the error correction codewords of `divisor`.
 pub(crate) fn is_block(divisor: &Divisor, codewords: &[u8]) -> bool
     requires { divisor.now ≤ length codewords.now }
     ensures { Decides result (IsBlock divisor.now codewords.now) }
@@ -48,9 +47,9 @@ pub(crate) fn is_block(divisor: &Divisor, codewords: &[u8]) -> bool
     correction.as_slice() == &codewords[start..]
 }
 
-/// Mends a damaged block of at most 255 codewords: replaces `codewords` by the block that differs from it in at most
-/// `t`, and returns in how many. Returns `None` and changes nothing if there is none (ISO/IEC 18004:2015, 7.5.1 and
-/// Annex B). `divisor` determines the number of error correction codewords, which must be at least twice `t`.
+/// Mends a damaged block of at most 255 codewords: replaces `codewords` by the block that differs from them in at most
+/// `t`, and returns in how many. Returns `None` and changes nothing if there is no such block (ISO/IEC 18004:2015,
+/// 7.5.1 and Annex B). `divisor` determines the number of error correction codewords, which must be at least twice `t`.
 pub fn mend(divisor: &Divisor, t: usize, codewords: &mut [u8]) -> Option<usize>
     requires half { 2 * t ≤ divisor.now }
     requires least { divisor.now ≤ length codewords.old }

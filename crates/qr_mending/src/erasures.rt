@@ -1,5 +1,5 @@
-//! Mends damaged blocks of which some codewords are erased. An erased codeword takes one error correction codeword, a
-//! misread one two (ISO/IEC 18004:2015, 7.5.1 and Annex B). `erased` is true at the index of each erased codeword.
+//! Mends damaged blocks of which some codewords are erased. Their errors are first taken out of the syndromes, so that
+//! the locator has to find only the misread codewords.
 
 ghost use Rattle.std.specs.Prelude.{◌≡◌, ℕ, ◌+◌, ◌≤◌, List, length, IfSome, IfNone};
 ghost use Rattle.std.specs.List.{All, count_by};
@@ -35,8 +35,7 @@ fn modified_syndromes(polynomial: &[u8], syndromes: &[u8]) -> ArrayVec<u8, 30>
     modified
 }
 
-// The block to which `damaged` can be mended with `spare` error correction codewords, or some list of the same length
-// if there is none.
+// The mended block, or a list that the caller has to refuse if `damaged` cannot be mended.
 fn candidate(n: usize, spare: usize, erased: &[bool], damaged: &[u8]) -> ArrayVec<u8, 255>
     requires most { n ≤ 30 }
     requires spare { spare ≤ n }
@@ -76,8 +75,8 @@ fn count_misread(codewords: &[u8], erased: &[bool], mended: &[u8]) -> usize
 /// effect.
 ///
 /// An erased codeword takes one error correction codeword, a misread one two. If more than `spare` are needed, returns
-/// `None` and changes nothing. `divisor` determines how many the block has; in a symbol, `spare` is twice
-/// `changed_max`.
+/// `None` and changes nothing. `divisor` determines the number of error correction codewords of the block; in a symbol,
+/// `spare` is twice `changed_max`.
 pub fn mend_with_erasures(
     divisor: &Divisor,
     spare: usize,

@@ -1,8 +1,8 @@
 //! Removes the errors of a damaged block. The error of a codeword is its difference from the right one, and the errors
-//! are the coefficients of the error polynomial. `syndromes` has its values at the first powers of 2, and `series` at
-//! as many as were computed, from 2 to the power 0 on. The locator is a polynomial with a root for each wrong codeword:
-//! each later value is the sum of the values before it, times the locator's coefficients. All 255 values determine the
-//! errors.
+//! are the coefficients of the error polynomial. `syndromes` lists its values at 2^0, 2^1 and so on, and `series`
+//! those that were computed so far. The locator is a polynomial with a root for each wrong codeword. Each value after
+//! the syndromes is a sum of the values before it, multiplied by the locator's coefficients. All 255 values determine
+//! the errors.
 
 ghost use Rattle.std.specs.Prelude.{◌≡◌, ℕ, ◌+◌, ◌<◌, ◌≤◌, List, length};
 ghost use Rattle.std.specs.List.{All};
@@ -16,8 +16,8 @@ use crate::sums::{dot, value};
 use arrayvec::ArrayVec;
 use qr_field::power_of;
 
-// The value after those in `series`: a syndrome while these are fewer than the locator's degree, then the last values
-// times the locator's coefficients. Its last coefficient, the leading one, is 1 and left out.
+// A syndrome, while `series` has fewer values than the locator's degree. The last coefficient, the leading one, is 1
+// and left out of the sum.
 fn next_value(locator: &[u8], syndromes: &[u8], series: &[u8]) -> u8
     requires least { 1 ≤ length locator.now }
     requires long { length locator.now ≤ length syndromes.now + 1 }
@@ -32,7 +32,6 @@ fn next_value(locator: &[u8], syndromes: &[u8], series: &[u8]) -> u8
     dot(&locator[..degree], &series[count - degree..])
 }
 
-// The values at all 255 powers of 2.
 fn values(locator: &[u8], syndromes: &[u8]) -> ArrayVec<u8, 255>
     requires least { 1 ≤ length locator.now }
     requires long { length locator.now ≤ length syndromes.now + 1 }
@@ -48,9 +47,8 @@ fn values(locator: &[u8], syndromes: &[u8]) -> ArrayVec<u8, 255>
     series
 }
 
-// The error of the codeword with the index `place`, counted from the end. The transform from errors to values undoes
-// itself but for the sign of the exponent: as coefficients, the values have the error as their value at the inverse of 2
-// to the power `place`.
+// `place` is the codeword's index, counted from the end. The transform from errors to values is its own inverse but for
+// the sign of the exponent: the polynomial whose coefficients are the values has the error as its value at 2^-`place`.
 fn error(locator: &[u8], series: &[u8], place: u8) -> u8
     requires count { length series.now ≡ 255 }
     requires place { place < 255 }
@@ -64,7 +62,7 @@ fn error(locator: &[u8], series: &[u8], place: u8) -> u8
     value(series, power_of(inverse))
 }
 
-// The block without its errors.
+// To add the errors removes them, since equal elements of the field add up to 0.
 pub(crate) fn without_errors(locator: &[u8], syndromes: &[u8], damaged: &[u8]) -> ArrayVec<u8, 255>
     requires least { 1 ≤ length locator.now }
     requires long { length locator.now ≤ length syndromes.now + 1 }

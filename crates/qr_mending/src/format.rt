@@ -3,7 +3,6 @@
 
 ghost use Rattle.std.specs.Prelude.{◌≡◌, ℕ, ◌+◌, ◌*◌, ◌<◌, ◌≤◌, ◌&&◌, not, if◌then◌else◌, Some, MatchOption};
 ghost use Rattle.qr_layout.specs.declared.level.Level.{Level};
-ghost use Rattle.qr_layout.specs.Format.{format_word_of};
 ghost use Rattle.qr_layout.specs.Version.{side_of};
 ghost use Rattle.qr_matrix.specs.Grid.{is_same};
 ghost use Rattle.qr_matrix.specs.BitRow.{has_bit};
@@ -14,13 +13,12 @@ ghost use Rattle.qr_mending.specs.Mending.{wrong_format_modules};
 use qr_layout::{Level, Module, Version, format_place, format_word, second_format_place};
 use qr_matrix::Matrix;
 
-// The length of the format information in bits.
+// The number of modules of one copy.
 const FORMAT_BITS: u8 = 15;
 
 // The most that a copy may cost to be near to a level and a mask: three misread modules, or six that were not read.
 const COST_MAX: u8 = 6;
 
-/// One of the two copies of the format information in a symbol.
 #[derive(Clone, Copy)]
 pub(crate) enum FormatCopy {
     /// The copy beside the top left finder pattern.
@@ -30,7 +28,6 @@ pub(crate) enum FormatCopy {
 }
 
 impl FormatCopy {
-    // The place of bit `bit` in this copy.
     fn place(self, version: Version, bit: u8) -> Module
         requires { bit < 15 }
         ensures place { result ≡ copy_place self (side_of version) bit }
@@ -44,7 +41,7 @@ impl FormatCopy {
     }
 }
 
-// Whether bit `i` of `word` is 1; bit 0 is the lowest.
+// Bit 0 is the lowest.
 #[tactic(auto, unfolding(qr_matrix::specs::BitRow::has_bit))]
 fn is_bit_set(word: u32, i: u8) -> bool
     requires { i < 32 }
@@ -53,7 +50,7 @@ fn is_bit_set(word: u32, i: u8) -> bool
     word >> i & 1 == 1
 }
 
-// 1 for a misread module, and 0 for one that was not read or has the colour `wanted`.
+// A module that was not read does not count as misread.
 fn misread_bit(is_unknown: bool, dark: bool, wanted: bool) -> u8
     ensures value { result ≡ (if not is_unknown && not (is_same dark wanted) then 1 else 0) }
     ensures most { result ≤ 1 }
@@ -64,14 +61,14 @@ fn misread_bit(is_unknown: bool, dark: bool, wanted: bool) -> u8
     u8::from(dark != wanted)
 }
 
-// How many modules of a copy were not read, and how many are misread.
+// Numbers of modules of a copy.
 #[derive(Drop)]
 struct CopyDamage {
     unread: u8,
     misread: u8,
 }
 
-// The damage of a copy, if `word` is its format information.
+// `word` is the format information that the copy should show.
 fn copy_damage(
     matrix: &Matrix,
     unknown: &Matrix,
@@ -97,7 +94,6 @@ fn copy_damage(
     CopyDamage { unread, misread }
 }
 
-// The number of wrong modules of a copy.
 fn wrong_bits(
     matrix: &Matrix,
     unknown: &Matrix,
@@ -114,7 +110,6 @@ fn wrong_bits(
     damage.unread + damage.misread
 }
 
-// The cost of a copy.
 fn copy_cost(matrix: &Matrix, unknown: &Matrix, version: Version, copy: FormatCopy, word: u32) -> u8
     requires side { matrix.now.side ≡ side_of version }
     requires unknown_side { unknown.now.side ≡ side_of version }
@@ -125,7 +120,7 @@ fn copy_cost(matrix: &Matrix, unknown: &Matrix, version: Version, copy: FormatCo
     damage.unread + 2 * damage.misread
 }
 
-// The number of wrong modules among the 30 modules of format information.
+// Counts over the 30 modules of both copies.
 pub(crate) fn wrong_format_modules(
     matrix: &Matrix,
     unknown: &Matrix,
@@ -161,7 +156,6 @@ pub(crate) fn format_cost(
     first + copy_cost(matrix, unknown, version, FormatCopy::Second, word)
 }
 
-// The mask that is near to the copy with this level.
 fn near_mask_of(
     matrix: &Matrix,
     unknown: &Matrix,
@@ -184,7 +178,8 @@ fn near_mask_of(
     None
 }
 
-// The level and the mask that are near to the copy; at most one pair is.
+// At most one pair is near to a copy, since words of format information differ in seven bits: so the first that is
+// found is the only one.
 pub(crate) fn near_format_of(
     matrix: &Matrix,
     unknown: &Matrix,
@@ -205,7 +200,7 @@ pub(crate) fn near_format_of(
     None
 }
 
-// A level and a mask that are near to one of the copies.
+// The pair that is near to the first copy, if one is.
 pub(crate) fn near_format_of_either(
     matrix: &Matrix,
     unknown: &Matrix,

@@ -1,7 +1,7 @@
 //! Laws of mending. The contract of each function is the law; where a function has code, it is about what the code
 //! returns.
 
-ghost use Rattle.std.specs.Prelude.{◌≡◌, ◌≢◌, ◌↔◌, ◌⊎◌, Err, ℕ, ◌+◌, ◌*◌, ◌/◌, ◌<◌, ◌≤◌, ◌==◌, ◌&&◌, false, List, [], ◌∷◌, map, length, replicate, Option, None, Some, MatchResult};
+ghost use Rattle.std.specs.Prelude.{◌≡◌, ◌≢◌, ◌↔◌, ◌⊎◌, Err, ℕ, ◌+◌, ◌*◌, ◌/◌, ◌<◌, ◌≤◌, ◌==◌, ◌&&◌, false, List, [], ◌∷◌, map, length, replicate, Option, None, MatchResult};
 ghost use Rattle.std.specs.List.{All};
 ghost use Rattle.qr_layout.specs.declared.level.Level.{Level};
 ghost use Rattle.qr_layout.specs.Format.{format_word_of};
@@ -63,9 +63,9 @@ pub fn blocks_are_those_of_weaker_levels()
     ensures { (n m : ℕ) (block : List ℕ) → 1 ≤ n → n ≤ m → length block ≤ 255 → IsBlock m block → IsBlock n block }
 {}
 
-/// The format information of two pairs of level and mask differs in at least seven of 15 bits, and no bound is better.
-/// So over both copies, whatever they show, the pairs cost at least 28 together: if one costs at most 13, the other
-/// costs at least 15.
+/// The format information of two different pairs of level and mask differs in at least seven of 15 bits, and no bound
+/// is better. So over both copies, whatever they show, two such pairs cost at least 28 together: if one costs at most
+/// 13, the other costs at least 15.
 pub fn format_words_lie_apart()
     ensures words { (l k : Level) (m n : ℕ) → m < 8 → n < 8 → ((l ≡ k) × (m ≡ n) → ⊥)
         → 7 ≤ bit_differences 15 (has_bit (format_word_of l m)) (has_bit (format_word_of k n)) }
@@ -74,8 +74,8 @@ pub fn format_words_lie_apart()
         → 28 ≤ format_cost unknown g l m + format_cost unknown g k n }
 {}
 
-/// At most one pair of level and mask is near to a copy of the format information (costs at most 6 beside it), so at
-/// most two are tried.
+/// At most one pair of level and mask is near to a copy of the format information, by a cost of at most 6. So at most
+/// two pairs are tried.
 pub fn near_format_is_one()
     ensures one { (unknown : Grid) (copy : FormatCopy) (g : Grid) (l k : Level) (m n : ℕ) → IsNearFormat unknown copy g l m
         → IsNearFormat unknown copy g k n → (l ≡ k) × (m ≡ n) }
@@ -97,11 +97,11 @@ pub fn tolerances_compute()
     ensures protection_more { protection_of 2 Level.L ≡ 2 × protection_of 3 Level.L ≡ 1 }
 {}
 
-/// The numbers of mending, computed. From version 4 on all error correction codewords correct errors, and in versions 2
-/// and 3 those of the levels M, Q and H. In the cost of format information a module that was not read counts once and a
-/// misread one twice; as wrong modules both count once, and each copy is counted once. In the example, a light square is
-/// read with level M and mask 0, and one module of the first copy was not read. A level and a mask are near to a copy at a
-/// cost of 6, and not at 7.
+/// From version 4 on all error correction codewords correct errors, and in versions 2 and 3 those of the levels M, Q
+/// and H. In the cost of format information a module that was not read counts once and a misread one twice; as wrong
+/// modules both count once, and each copy is counted once. In the example, a light square is read with level M and mask
+/// 0, and one module of the first copy was not read. A level and a mask are near to a copy at a cost of 6, and not at
+/// 7.
 pub fn mending_numbers_compute()
     ensures protection { (v : ℕ) (l : Level) → 4 ≤ v → protection_of v l ≡ 0 }
     ensures protection_two { protection_of 2 Level.M ≡ 0 × protection_of 2 Level.Q ≡ 0 × protection_of 2 Level.H ≡ 0 }
@@ -139,8 +139,7 @@ pub fn mended_readings_are_one()
         → (v ≡ w) × (l ≡ k) × (m ≡ n) × (p ≡ q) × (x ≡ y) }
 {}
 
-/// A damaged symbol has one number of wrong modules: those that were not read or have another colour than in the
-/// undamaged symbol.
+/// A damaged symbol has one number of wrong modules, whichever way it is mended.
 pub fn wrong_modules_are_one()
     ensures { (unknown : Grid) (g : Grid) (v w : ℕ) (l k : Level) (m n : ℕ) (x y : List ℕ) (a b : ℕ)
         → HasWrongModules unknown g v l m x a → HasWrongModules unknown g w k n y b → a ≡ b }
@@ -202,9 +201,8 @@ pub fn symbols_lie_apart(version: Version)
     ensures { SymbolsLieApart version }
 {}
 
-/// A symbol is read with a level and a mask if both copies together cost at most 13 with them: one for each module that
-/// was not read, two for each misread one. So it is too if they are near to one copy, whatever the other shows, and no
-/// others that are near to a copy mend the symbol.
+/// A symbol is read with a level and a mask if both copies together cost at most 13 with them. It is also read with a
+/// level and a mask that are near to one copy, whatever the other shows, if no others near to a copy mend the symbol.
 pub fn formats_are_found()
     ensures sure { (unknown : Grid) (v : ℕ) (g : Grid) (l : Level) (mask : ℕ) → mask < 8 → format_cost unknown g l mask ≤ 13
         → HasFormat unknown v g l mask }

@@ -1,6 +1,6 @@
-//! Mends damaged symbols: reads them and corrects their damage (ISO/IEC 18004:2015, 7.5.1, 7.9.1 and 12, Annexes B and
-//! C). A block is mended if no more of its codewords are wrong than the standard allows. Level and mask are found by
-//! the two copies of the format information, and by the blocks, which they have to mend.
+//! Reads damaged symbols, and corrects their errors (ISO/IEC 18004:2015, 7.5.1, 7.9.1 and 12, Annexes B and C). A block
+//! is mended if no more of its codewords are wrong than the standard allows. Level and mask come from the two copies of
+//! the format information, and count only if the blocks can be mended with them.
 #![tactic(auto)]
 
 mod block;

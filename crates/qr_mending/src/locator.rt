@@ -1,18 +1,18 @@
-//! Finds the error locator polynomial of a damaged block, which has a root for each wrong codeword, by Gaussian
-//! elimination.
+//! Finds the error locator polynomial of a damaged block by Gaussian elimination. The polynomial has a root for each
+//! wrong codeword.
 //!
 //! A polynomial solves an equation if the sum of its coefficients, each multiplied by the item of `window` at its
-//! index, is 0; for equation `i` the window is the syndromes from index `i` on. The pool begins with one more power of
-//! x than there are equations. A step removes at most one polynomial, and changes those after it so that all in the
-//! pool solve one more equation.
+//! index, is 0; for equation `i` the window is the syndromes from index `i` on. The pool of polynomials begins with one
+//! more power of x than there are equations. A step removes at most one polynomial, and changes those after it so that
+//! all in the pool solve one more equation.
 
 ghost use Rattle.std.specs.Prelude.{◌≡◌, ◌≢◌, ℕ, ◌+◌, ◌*◌, ◌<◌, ◌≤◌, List, length, drop};
-ghost use Rattle.qr_mending.specs.Steps.Polynomial.{at, all_of, miss_of, IsMonic, IsRelieved, HasDegrees, IsPool};
+ghost use Rattle.qr_mending.specs.Steps.Polynomial.{at, miss_of, IsMonic, IsRelieved, HasDegrees, IsPool};
 
 use crate::polynomial::Polynomial;
 use arrayvec::ArrayVec;
 
-// The powers of x from 0 to `t`.
+// The pool before the first step: x^0 to x^`t`.
 fn monomials(t: usize) -> ArrayVec<Polynomial, 16>
     requires { t ≤ 15 }
     ensures { (syndromes : List ℕ) → IsPool t 0 syndromes result.items }
@@ -24,7 +24,7 @@ fn monomials(t: usize) -> ArrayVec<Polynomial, 16>
     pool
 }
 
-// The index of the first polynomial that does not solve the equation, or the number of polynomials.
+// The number of polynomials if all solve the equation of `window`.
 fn first_miss(pool: &[Polynomial], window: &[u8], t: usize) -> usize
     requires degrees { HasDegrees t pool.now }
     requires small { t ≤ 15 }
@@ -41,8 +41,7 @@ fn first_miss(pool: &[Polynomial], window: &[u8], t: usize) -> usize
     pool.len()
 }
 
-// Adds multiples of `pivot`, which does not solve the equation, to the polynomials from index `first` on, so that they
-// do.
+// Adds a multiple of `pivot` to each polynomial from index `first` on; those before it solve the equation already.
 fn relieve(pool: &mut [Polynomial], first: usize, pivot: &Polynomial, window: &[u8], t: usize)
     requires degrees { HasDegrees t pool.old }
     requires small { t ≤ 15 }
@@ -74,7 +73,7 @@ fn solve(pool: &mut ArrayVec<Polynomial, 16>, syndromes: &[u8], i: usize, t: usi
     }
 }
 
-// A polynomial of degree at most `t` that solves equations 0 to `t` - 1.
+// Of the polynomials that are left in the pool, the one of least degree.
 pub(crate) fn locator(syndromes: &[u8], t: usize) -> Polynomial
     requires small { t ≤ 15 }
     requires long { 2 * t ≤ length syndromes.now }

@@ -2,7 +2,7 @@
 //! module of `matrix` was not read. `marks` has a byte for each codeword, which is 0 exactly if all its modules were
 //! read.
 
-ghost use Rattle.std.specs.Prelude.{◌≡◌, ◌<◌, ◌≤◌, length, IfErr, IfOk, Some, MatchOption, MatchResult};
+ghost use Rattle.std.specs.Prelude.{◌≡◌, ◌<◌, length, IfErr, IfOk, Some, MatchOption, MatchResult};
 ghost use Rattle.qr_layout.specs.Blocks.{data_codewords_of};
 ghost use Rattle.qr_layout.specs.Version.{side_of, total_codewords_of};
 ghost use Rattle.qr_matrix.specs.Grid.{light};
@@ -25,7 +25,7 @@ use std::alloc::{AllocError, Global};
 // If both copies together cost at most this, every other level and mask cost more.
 const COST_CERTAIN: u8 = 13;
 
-// A symbol whose blocks were mended, with its level and mask.
+// A symbol whose blocks were mended; `changed` has the number of misread codewords of each.
 #[derive(Drop)]
 struct MendedSquare {
     level: Level,
@@ -34,7 +34,7 @@ struct MendedSquare {
     changed: Vec<usize>,
 }
 
-// Mends the symbol with the level and mask near to the copy, or returns `None` if that cannot be done.
+// Returns `None` if no level and mask are near to the copy, or if those that are do not mend every block.
 fn mend_by(
     alloc: Global,
     version: Version,
@@ -69,7 +69,6 @@ fn mend_by(
     }
 }
 
-// What both copies cost with the level and mask of a mended symbol.
 fn cost_of(matrix: &Matrix, unknown: &Matrix, version: Version, mended: &MendedSquare) -> u8
     requires side { matrix.now.side ≡ side_of version }
     requires unknown_side { unknown.now.side ≡ side_of version }
@@ -79,8 +78,8 @@ fn cost_of(matrix: &Matrix, unknown: &Matrix, version: Version, mended: &MendedS
     format_cost(matrix, unknown, version, mended.level, mended.mask)
 }
 
-// Mends the symbol with the level and mask of least cost, the first copy's among equals, or returns `None` if none near
-// to a copy mend it. The second copy is not tried if the first gives a pair that is certain.
+// Of the levels and masks that are near to a copy and mend the symbol, takes those of least cost, and at equal costs
+// those of the first copy. The second copy is not tried if those of the first cost at most `COST_CERTAIN`.
 fn mend_by_either(
     alloc: Global,
     version: Version,
@@ -132,8 +131,8 @@ fn mend_square(
     mend_by_either(alloc, version, matrix, unknown, &marks)
 }
 
-// The number of wrong modules beside `symbol`. Where a module was not read, the symbol gets another colour than
-// `matrix` has, so that the two differ exactly where a module is wrong.
+// Where a module was not read, `symbol` gets another colour than `matrix` has, so that the two differ exactly where a
+// module is wrong.
 fn count_wrong(unknown: &Matrix, matrix: &Matrix, mut symbol: Matrix) -> u32
     requires unknown_side { unknown.now.side ≡ matrix.now.side }
     requires side { symbol.side ≡ matrix.now.side }
@@ -151,7 +150,7 @@ fn count_wrong(unknown: &Matrix, matrix: &Matrix, mut symbol: Matrix) -> u32
     differences(matrix, &symbol)
 }
 
-// The number of wrong modules beside the undamaged symbol, which is drawn for it.
+// Draws the undamaged symbol to compare the square with it.
 fn count_wrong_modules(
     alloc: Global,
     version: Version,
@@ -172,7 +171,6 @@ fn count_wrong_modules(
     Ok(count_wrong(unknown, matrix, symbol))
 }
 
-// Why a symbol is refused that no level and mask mend.
 fn refusal(version: Version, matrix: &Matrix, unknown: &Matrix) -> ReadFault
     requires sized { IsOfVersion matrix.now version }
     requires unknown_side { unknown.now.side ≡ side_of version }
@@ -190,18 +188,18 @@ fn refusal(version: Version, matrix: &Matrix, unknown: &Matrix) -> ReadFault
 pub struct Mended {
     /// The version, by the number of rows.
     pub version: Version,
-    /// The error correction level.
+    /// The error correction level, by the format information.
     pub level: Level,
     /// The mask, from 0 to 7.
     pub mask: u8,
-    /// The content: an optional structured append header, the segments, and the bytes of all segments.
+    /// What the mended data codewords mean.
     pub parsed: Parsed,
     /// The number of wrong modules among the 30 of both copies of the format information.
     pub wrong_format_modules: u8,
-    /// The number of wrong modules of the whole symbol, with function patterns, version information and remainder bits:
-    /// those that were not read or have another colour than in the undamaged symbol.
+    /// The number of wrong modules of the whole symbol, with function patterns, version information and remainder bits.
+    /// Modules that were not read count too.
     pub wrong_modules: u32,
-    /// For each block, the number of misread codewords, without those that are known to be unreadable.
+    /// For each block, the number of misread codewords. Erased ones do not count.
     pub changed: Vec<usize>,
 }
 
@@ -210,13 +208,13 @@ pub struct Mended {
 ///
 /// A block is mended if its erased codewords, and twice its misread ones, are at most twice `changed_max`. The level
 /// and the mask are found by the two copies of the format information, of 15 modules each. A copy admits a level and a
-/// mask if the modules of it that were not read, and twice those that are misread, are at most 6. Of the pairs that a
-/// copy admits and that mend every block, at most two, the one with the least such sum over both copies is taken, and
-/// of two with the same sum the one that the first copy admits.
+/// mask if the modules of it that were not read, and twice those that are misread, are at most 6; it admits at most one
+/// pair. Of the admitted pairs that mend every block, the one with the least such sum over both copies is taken, and of
+/// two with the same sum the one that the first copy admits.
 ///
 /// So a symbol is mended to exactly itself if its blocks can be mended and that sum is at most 13 over both copies, as
-/// with any six wrong modules. Function patterns, version information and remainder bits have no effect on the content;
-/// their wrong modules are counted in `Mended::wrong_modules`.
+/// with any six wrong modules of format information. Function patterns, version information and remainder bits have no
+/// effect on the content; their wrong modules are counted in `Mended::wrong_modules`.
 ///
 /// # Errors
 ///

@@ -1,5 +1,5 @@
-//! Mends the message of a damaged symbol, which is its data codewords. A codeword is erased if one of its modules was not
-//! read (ISO/IEC 18004:2015, 7.5.1, 7.6 and 7.7.3).
+//! Mends the message of a damaged symbol block by block. A codeword is erased if one of its modules was not read
+//! (ISO/IEC 18004:2015, 7.5.1, 7.6 and 7.7.3).
 
 ghost use Rattle.std.specs.Prelude.{◌≡◌, ℕ, ◌+◌, ◌*◌, ◌<◌, ◌≤◌, ◌==◌, ◌⊎◌, ◌++◌, not, map, List, length, Err, IfOk, IfErr, IfSome, IfNone};
 ghost use Rattle.qr_field.specs.Polynomial.{IsCorrection};
@@ -10,8 +10,8 @@ ghost use Rattle.qr_symbol.specs.declared.fault.ReadFault.{ReadFault};
 ghost use Rattle.qr_symbol.specs.Interleaving.{block_count, block_len, codeword_count, data_sizes, correction_sizes};
 ghost use Rattle.qr_symbol.specs.Reading.{IsReadUnmasked};
 ghost use Rattle.qr_mending.specs.Erasures.{read_of};
-ghost use Rattle.qr_mending.specs.Message.{received, protection_of, spare_of, tolerance_of};
-ghost use Rattle.qr_mending.specs.Steps.Message.{AreInBlocks, AreMended, IsMendedMessage};
+ghost use Rattle.qr_mending.specs.Message.{received, protection_of, spare_of, tolerance_of, AreInBlocks};
+ghost use Rattle.qr_mending.specs.Steps.Message.{AreMended, IsMendedMessage};
 
 use crate::erasures::mend_with_erasures;
 use qr_field::Divisor;
@@ -21,7 +21,7 @@ use qr_symbol::{BlockSizes, ReadFault, read_unmasked};
 use std::alloc::{AllocError, Global};
 
 // A mark for each codeword of a symbol: a byte with a bit for each of its modules, which is 1 if the module is dark in
-// `unknown`. Where no module is, there is no need to read them.
+// `unknown`. If no module is, the marks are all 0 and need not be read.
 pub(crate) fn read_marks(
     alloc: Global,
     version: Version,
@@ -39,14 +39,14 @@ pub(crate) fn read_marks(
     read_unmasked(alloc, version, unknown)
 }
 
-// Codewords, or their marks, in the order of the blocks: those of data, and those of error correction.
+// Codewords, or their marks, in the order of the blocks; `checks` are those of error correction.
 #[derive(Drop)]
 struct InBlocks {
     data: Vec<u8>,
     checks: Vec<u8>,
 }
 
-// Undoes the interleaving of codewords or of their marks.
+// Undoes the interleaving.
 fn in_blocks(alloc: Global, blocks: Blocks, interleaved: &[u8]) -> Result<InBlocks, AllocError>
     requires { length interleaved.now ≡ codeword_count (data_sizes blocks) + codeword_count (correction_sizes blocks) }
     ensures { IfOk result (λ b. AreInBlocks blocks interleaved.now b.data.items b.checks.items) }
@@ -78,7 +78,6 @@ fn block_of(
     Ok(codewords)
 }
 
-// For each mark whether its codeword is erased.
 fn erased_of(alloc: Global, marks: &[u8]) -> Result<Vec<bool>, AllocError>
     ensures { IfOk result (λ erased. erased.items ≡ map (λ mark. not (mark == 0)) marks.now) }
 {
@@ -96,15 +95,14 @@ struct MendedBlock {
     changed: usize,
 }
 
-// The data codewords of a mended symbol in the order of the blocks, and how many codewords of each block were misread.
+// As `MendedBlock`, for all blocks in their order.
 #[derive(Drop)]
 pub(crate) struct MendedMessage {
     pub message: Vec<u8>,
     pub changed: Vec<usize>,
 }
 
-// Mends a block, or returns `None` if that takes more than `spare` error correction codewords: one for each erased codeword,
-// and two for each misread one.
+// Mends the block in its own memory, and then cuts it to its data codewords.
 fn mend_block(
     divisor: &Divisor,
     spare: usize,
@@ -135,7 +133,7 @@ fn mend_block(
     })
 }
 
-// Mends all blocks, each with at most `spare` error correction codewords.
+// Ends at the first block that cannot be mended.
 fn mend_parts(
     alloc: Global,
     blocks: Blocks,
@@ -174,7 +172,7 @@ fn mend_parts(
     Ok(MendedMessage { message, changed })
 }
 
-// Mends all blocks of interleaved codewords.
+// As `mend_parts`, for codewords and marks that are interleaved.
 fn mend_blocks(
     alloc: Global,
     blocks: Blocks,
@@ -219,15 +217,15 @@ fn spare(version: Version, level: Level) -> u8
     count.saturating_sub(protection(version, level))
 }
 
-/// Returns how many misread codewords of a block can be corrected, from 2 to 15: half the number of its error correction
-/// codewords, or less for some levels of versions 1 to 3 (ISO/IEC 18004:2015, 7.5.1, Table 9).
+/// Returns how many misread codewords of a block without erased ones can be corrected, from 2 to 15: half the number of
+/// its error correction codewords, or less for some levels of versions 1 to 3 (ISO/IEC 18004:2015, 7.5.1, Table 9).
 pub fn changed_max(version: Version, level: Level) -> u8
     ensures { result ≡ tolerance_of version level }
 {
     spare(version, level) / 2
 }
 
-// Mends the interleaved codewords of a symbol, whose marks are in the same order.
+// Codewords and marks are interleaved.
 pub(crate) fn mend_message(
     alloc: Global,
     version: Version,

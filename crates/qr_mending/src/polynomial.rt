@@ -1,7 +1,7 @@
 //! Polynomials over the field of 256 elements with the leading coefficient 1. Coefficients begin with that of the
 //! lowest power.
 
-ghost use Rattle.std.specs.Prelude.{◌≡◌, ◌+◌, ◌<◌, ◌≤◌, ◌≢◌, length};
+ghost use Rattle.std.specs.Prelude.{◌≡◌, ◌+◌, ◌<◌, ◌≢◌, length};
 ghost use Rattle.std.specs.List.{All};
 ghost use Rattle.qr_field.specs.Polynomial.{IsByte, plus, scaled};
 ghost use Rattle.qr_mending.specs.Steps.Polynomial.{all_of, IsMonic, miss_of, IsRelieved};
@@ -9,8 +9,8 @@ ghost use Rattle.qr_mending.specs.Steps.Polynomial.{all_of, IsMonic, miss_of, Is
 use crate::sums::dot;
 use qr_field::{div, mul};
 
-// The coefficients are `terms` up to index `degree`; later items are not used. The default value, all 0, is none of
-// these polynomials.
+// The coefficients are `terms` up to index `degree`; later items are not used. The leading coefficient of the default
+// value is 0.
 #[derive(Clone, Copy)]
 pub(crate) struct Polynomial {
     pub(crate) degree: usize,
@@ -46,8 +46,8 @@ impl Polynomial {
         &self.terms[..self.degree + 1]
     }
 
-    // The sum of the coefficients, each multiplied by the item of `window` at its index. The polynomial solves the
-    // equation of `window` if it is 0.
+    // The sum of the coefficients, each multiplied by the item of `window` at its index. If this sum is 0, the
+    // polynomial solves the equation of `window`.
     pub(crate) fn miss(&self, window: &[u8]) -> u8
         requires fits { self.now.degree < 16 }
         requires long { self.now.degree < length window.now }
@@ -58,7 +58,7 @@ impl Polynomial {
         dot(self.coefficients(), window)
     }
 
-    // This polynomial and `factor` times `other`, which has a lower degree, added.
+    // Degree and leading coefficient stay, since `other` has a lower degree.
     fn plus(&self, factor: u8, other: &Polynomial) -> Polynomial
         requires lower { other.now.degree < self.now.degree }
         requires fits { self.now.degree < 16 }
@@ -76,7 +76,7 @@ impl Polynomial {
         }
     }
 
-    // This polynomial and the multiple of `pivot` with which the sum solves the equation, added.
+    // This polynomial plus that multiple of `pivot` with which the sum solves the equation of `window`.
     pub(crate) fn relieved(&self, pivot: &Polynomial, window: &[u8]) -> Polynomial
         requires lower { pivot.now.degree < self.now.degree }
         requires fits { self.now.degree < 16 }

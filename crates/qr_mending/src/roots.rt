@@ -30,7 +30,7 @@ fn with_root(polynomial: &[u8], root: u8) -> ArrayVec<u8, 31>
     product
 }
 
-// The product with a factor x + 2^m for each erased codeword, which m codewords follow in the block.
+// The product with a factor x + 2^m for each erased codeword that has m codewords after it in the block.
 pub(crate) fn with_roots(erased: &[bool], polynomial: &[u8]) -> ArrayVec<u8, 31>
     requires small { length erased.now ≤ 255 }
     requires fits { length polynomial.now + count_by (λ e. e) erased.now ≤ 31 }

@@ -1,4 +1,4 @@
-//! Mends the symbols of a series, and joins their bytes in order (ISO/IEC 18004:2015, 8).
+//! Damaged series: all symbols are mended before their headers are compared.
 
 ghost use Rattle.std.specs.Prelude.{MatchResult};
 ghost use Rattle.qr_symbol.specs.Joining.{AreReadBy};

@@ -1,6 +1,6 @@
 //! Values of polynomials and sums of products over the field of 256 elements.
 
-ghost use Rattle.std.specs.Prelude.{◌≡◌, ◌<◌, ◌≤◌, ℕ, length, slice_index};
+ghost use Rattle.std.specs.Prelude.{◌≡◌, ◌<◌, ◌≤◌, length};
 ghost use Rattle.arrayvec.specs.ArrayVec.{array_vec_len};
 ghost use Rattle.std.specs.List.{All};
 ghost use Rattle.qr_field.specs.Polynomial.{IsByte};
@@ -10,7 +10,7 @@ ghost use Rattle.qr_mending.specs.Steps.Sums.{dot_of, eval, HasValues};
 use arrayvec::ArrayVec;
 use qr_field::{mul, power_of};
 
-// The sum of the products of items at equal indices, as far as `terms` goes.
+// The sum of the products of items at equal indices; later items of `window` are left out.
 pub(crate) fn dot(terms: &[u8], window: &[u8]) -> u8
     requires { length terms.now ≤ length window.now }
     ensures value { result ≡ dot_of terms.now window.now }
@@ -23,7 +23,7 @@ pub(crate) fn dot(terms: &[u8], window: &[u8]) -> u8
     sum
 }
 
-// The value at `x` of the polynomial with the coefficients `terms`, that of the lowest power first.
+// `terms` are the coefficients of a polynomial, that of the lowest power first.
 pub(crate) fn value(terms: &[u8], x: u8) -> u8
     ensures { result ≡ eval x terms.now }
 {
@@ -34,8 +34,7 @@ pub(crate) fn value(terms: &[u8], x: u8) -> u8
     value
 }
 
-// The value at 2 to the power `exponent` of the polynomial with the coefficients `block`, that of the highest power
-// first.
+// The value at 2^`exponent` of the polynomial whose coefficients are `block`, that of the highest power first.
 fn syndrome(block: &[u8], exponent: u8) -> u8
     requires { exponent < 255 }
     ensures { result ≡ value_at exponent block.now }
@@ -48,8 +47,7 @@ fn syndrome(block: &[u8], exponent: u8) -> u8
     value
 }
 
-// The values at the first `n` powers of 2, from 2 to the power 0 on. All are 0 if `block` is one with `n` error
-// correction codewords.
+// The first is the value at 2^0. All are 0 if `block` is undamaged and has `n` error correction codewords.
 pub(crate) fn syndromes(block: &[u8], n: usize) -> ArrayVec<u8, 30>
     requires { n ≤ 30 }
     ensures count { array_vec_len result ≡ n }

@@ -1,6 +1,6 @@
--- The command's arguments as rules of the crate `clap`, and what `clap` finds in a command line. `id` is the
--- name of an option or of the string in the code, `letter` the code of an option's letter, and `words` the command line,
--- which begins with the program's name.
+-- The command's arguments as rules of the crate `clap`, and what `clap` finds in a command line. `id` is the name of an
+-- option or of the string in the code, `letter` the code of an option's letter, and `words` the command line, which
+-- begins with the program's name.
 use Rattle.std.specs.Prelude.{ℕ, true, List, codes, Some, pos, slice_index, ℤ}
 use Rattle.clap.specs.Words.{Kinds, fault_of}
 use Rattle.clap.specs.Walk.{Row, Rule, Text}
@@ -8,15 +8,15 @@ use Rattle.clap.specs.Simple.{App, matches_of, new_app, new_rule, with_rule}
 use Rattle.clap.specs.declared.builder.action.ArgAction.TheVariants.{SetTrue}
 use Rattle.clap.specs.declared.builder.value_parser.ValueParser.TheVariants as parser
 
--- An option whose value is a text [own]
+-- An option that takes a text, as -l does [own]
 abbrev pub text_rule : Text → ℕ → Rule
 text_rule id letter = record (new_rule id) { short = Some letter; value_names = 1 }
 
--- An option whose value is a number from 0 to `most` [own]
+-- An option that takes a number from 0 to `most`, as -v and -m do [own]
 abbrev pub number_rule : Text → ℕ → ℤ → Rule
 number_rule id letter most = record (text_rule id letter) { parser = Some (parser.Signed (pos 0) most) }
 
--- An option that must be given, with a text as its value [own]
+-- As `text_rule`, but `clap` refuses arguments without it [own]
 abbrev pub required_rule : Text → ℕ → Rule
 required_rule id letter = record (text_rule id letter) { required = true }
 
@@ -28,7 +28,7 @@ positional_rule id = record (new_rule id) { value_names = 1 }
 abbrev pub flag_rule : Text → ℕ → Rule
 flag_rule id letter = record (new_rule id) { short = Some letter; action = Some SetTrue }
 
--- The code of the first character [own]
+-- The letter of an option, from a text of this one character [own]
 abbrev pub letter_of : Text → ℕ
 letter_of text = slice_index text 0
 

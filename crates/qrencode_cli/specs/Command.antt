@@ -2,7 +2,7 @@
 -- arguments, of which the first is the program's name, `s` the settings, and `given` the bytes that the reader
 -- returned. A device is `old` (`in0`, `out0`, `err0`) before the run, and `new` (`in1`, `out1`, `err1`) after it; what
 -- is said of its counts holds if they were 0 before.
-use Rattle.std.specs.Prelude.{◌≡◌, ◌↔◌, ◌≤◌, ◌<◌, ◌+◌, ◌⊎◌, ℕ, List, [], length, take, max, MatchOption, None, IfErr, IsErrOf, IsTrue, MatchResult, Result, Ok, Err, is_ok, Bool, true, false, if◌then◌else◌}
+use Rattle.std.specs.Prelude.{◌≡◌, ◌↔◌, ◌≤◌, ◌<◌, ◌+◌, ◌⊎◌, ℕ, List, [], length, take, max, None, IfErr, IsErrOf, IsTrue, MatchResult, Result, Ok, Err, is_ok, Bool, true, false, if◌then◌else◌}
 use Rattle.std.specs.Option.{option_map_or}
 use Rattle.std.specs.Io.KnownBytes.{Appends, Consumes}
 use Rattle.clap.specs.Walk.{Text}
@@ -15,7 +15,7 @@ use Rattle.qr_devices.specs.Device.{AppendsBeginning, IsWrittenWithin, Reader, W
 use Rattle.qr_drawing.specs.Drawing.{drawn}
 use Rattle.qrencode_cli.specs.Fault.{fault_line}
 use Rattle.qrencode_cli.specs.Input.{IsInputOf, IsReadWithin}
-use Rattle.qrencode_cli.specs.Settings.{IsUsageFault, Reason, SettingsView, rule_for, settings_for}
+use Rattle.qrencode_cli.specs.Settings.{IsUsageFault, SettingsView, rule_for, settings_for}
 use Rattle.qrencode_cli.specs.Symbols.{AreSymbols, IsTooLong, IsTooMany}
 use Rattle.qrencode_cli.specs.declared.fault.Fault.{Fault}
 use Rattle.qrencode_cli.specs.declared.fault.Fault.TheVariants as fault
@@ -26,7 +26,7 @@ use Rattle.qr_symbol.specs.declared.fault.EncodeFault.TheVariants as encode
 abbrev pub input_for : SettingsView → List ℕ → List ℕ
 input_for s given = option_map_or (λ text. take INPUT_MAX text) s.string given
 
--- The bytes that the symbols contain: `input`, folded if -i is given [own]
+-- What the symbols contain; folding follows the rule, so that kanji pairs stay with -k, and all bytes with -8 [own]
 abbrev pub held : SettingsView → List ℕ → List ℕ
 held s input = if s.fold then folded (rule_for s) input else input
 
@@ -64,10 +64,14 @@ IsRefusal words given (fault.Encode encode.TooLong) = HasRefusal words given IsT
 IsRefusal words given (fault.Encode encode.TooMany) = HasRefusal words given IsTooMany
 IsRefusal words given _ = ⊥
 
+-- The run has to read its input: the arguments are accepted, and none of them is the input [own]
+abbrev pub ReadsInput : List Text → Type 0
+ReadsInput words = HasSettingsWith words (λ s. s.string ≡ None)
+
 -- `f` can occur: a read fault if the input is to be read, a write fault if there is a drawing, lack of memory always,
 -- and a refusal if it is correct [own]
 abbrev pub IsFault : List Text → List ℕ → Fault → Type 0
-IsFault words given fault.Read = HasSettingsWith words (λ s. s.string ≡ None)
+IsFault words given fault.Read = ReadsInput words
 IsFault words given fault.Memory = Unit {0}
 IsFault words given fault.Write = (drawing : List ℕ) × HasDrawing words given drawing
 IsFault words given refusal = IsRefusal words given refusal
@@ -100,17 +104,10 @@ AllRead old new given = Consumes old.remaining new.remaining given
     × (old.counts ≡ no_reads → new.counts.given ≡ length given)
     × (old.counts ≡ no_reads → (new.counts.ends ≡ 1) ⊎ (length given ≡ INPUT_MAX))
 
--- In a run that has to read its input, all was read, unless a read fault or lack of memory ended the reading [own]
-abbrev pub InputConsumed : Reader → Reader → List ℕ → {T : Type 0} → Result T Fault → Type 0
-InputConsumed old new given (Err fault.Read) = Unit {0}
-InputConsumed old new given (Err fault.Memory) = Unit {0}
-InputConsumed old new given _ = AllRead old new given
-
--- The reader is unchanged if the arguments are refused or contain the input as a string; otherwise its input was read
--- [own]
-abbrev pub InputConsumedFor : Result SettingsView Reason → Reader → Reader → List ℕ → {T : Type 0} → Result T Fault → Type 0
-InputConsumedFor (Err r) old new given outcome = new ≡ old
-InputConsumedFor (Ok s) old new given outcome = MatchOption s.string (InputConsumed old new given outcome) (λ _. new ≡ old)
+-- What a run with this outcome does to its reader [own]
+pub record InputConsumed {T : Type 0} (words : List Text) (old new : Reader) (given : List ℕ) (outcome : Result T Fault) : Type 0 where
+  pub unread : (ReadsInput words → ⊥) → new ≡ old
+  pub read : ReadsInput words → AllRead old new given ⊎ IsErrOf outcome fault.Read ⊎ IsErrOf outcome fault.Memory
 
 -- Standard error received the line, or a prefix of it if its own write failed, counted at most the line's bytes, and was
 -- not flushed [own]
@@ -128,7 +125,7 @@ pub record Runs (words : List Text) (in0 in1 : Reader) (out0 out1 err0 err1 : Wr
   pub is_input : IsInputOf in0.remaining given
   pub is_fault : IfErr outcome (IsFault words given)
   pub shows : OutputHolds words given out0 out1 outcome
-  pub reads : InputConsumedFor (settings_for words) in0 in1 given outcome
+  pub reads : InputConsumed words in0 in1 given outcome
   pub tells : MatchResult outcome (λ _. err1 ≡ err0) (λ f. ErrorHolds err0 err1 (fault_line f))
   pub status_is : status ≡ (if is_ok outcome then 0 else 1)
   pub read_fault : in0.counts ≡ no_reads → IsErrOf outcome fault.Read ↔ IsTrue (is_read_fault in1.counts)

@@ -6,7 +6,7 @@ use Rattle.qrencode_cli.specs.declared.fault.Fault.{Fault}
 use Rattle.qrencode_cli.specs.declared.fault.Fault.TheVariants as fault
 use Rattle.qrencode_cli.specs.declared.settings.UsageFault.TheVariants as usage
 
--- The line that reports the fault; for arguments that `clap` refuses it is the text of `clap` [own]
+-- The text of `clap` for arguments that it refuses, which may be several lines; one line for any other fault [own]
 abbrev pub fault_line : Fault → List ℕ
 fault_line (fault.Usage (usage.Words text)) = string_bytes text
 fault_line (fault.Usage usage.Level) = codes "qrencode: unknown level\n"

@@ -112,8 +112,7 @@ AreAlike r q = r ≡ q
 abbrev pub RefusalsAreOne : Type 0
 RefusalsAreOne = (words : List Text) (given : List ℕ) (r q : Fault) → IsRefusal words given r → IsRefusal words given q → AreAlike r q
 
--- Only byte mode is allowed with -8, whether or not -k is given; otherwise all modes are with -k, and all but kanji
--- mode without it [own]
+-- The rule of each choice of -8 and -k [own]
 pub record RulesOfModes : Type 0 where
   pub bytes : (s : SettingsView) → s.bytes_only ≡ true → rule_for s ≡ BytesOnly
   pub kanji : (s : SettingsView) → s.bytes_only ≡ false → s.kanji ≡ true → rule_for s ≡ WithKanji

@@ -16,8 +16,7 @@ use Rattle.qr_drawing.specs.declared.drawing.Drawing.TheVariants as drawing
 use Rattle.qrencode_cli.specs.declared.settings.UsageFault.{UsageFault}
 use Rattle.qrencode_cli.specs.declared.settings.UsageFault.TheVariants as usage
 
--- Why arguments are refused: by `clap`, for an unknown level or type of drawing, or for a series without a version
--- [own]
+-- The reasons to refuse arguments, without the texts of `clap`; lack of memory is no reason [own]
 pub data Reason : Type 0 where
   refused_by_clap : Reason
   unknown_level : Reason
@@ -36,7 +35,7 @@ pub record SettingsView : Type 0 where
   pub structured : Bool
   pub string : Option Text
 
--- The modes that are allowed: byte mode alone with -8, all with -k, and otherwise all but kanji mode [own]
+-- -8 comes before -k; without both, all modes but kanji mode are allowed [own]
 abbrev pub rule_for : SettingsView → Rule
 rule_for s = if s.bytes_only then BytesOnly else (if s.kanji then WithKanji else Auto)
 
@@ -56,12 +55,12 @@ drawing_named t =
     (if str_eq_ignore_ascii_case t (codes "utf8") then Some drawing.Utf8 else
     (if str_eq_ignore_ascii_case t (codes "svg") then Some drawing.Svg else None)))
 
--- The number that an option has as its value, or `otherwise` if it is not given; a text that is no number from 0 to 255
--- counts as 0 [own]
+-- The number of an option, or `otherwise` if it is not given; a text that cannot be parsed as a number from 0 to 255,
+-- such as `-0`, counts as 0 [own]
 abbrev pub number_or : ℕ → Option Text → ℕ
 number_or otherwise o = option_map_or byte_or_zero o otherwise
 
--- The version that an option has as its value, if it is given and from 1 to 40 [own]
+-- The version of -v; 0 asks for none, as if it were not given [own]
 abbrev pub version_at : Option Text → Option ℕ
 version_at o = let n = number_or 0 o in if nat_le 1 n && nat_le n 40 then Some n else None
 
@@ -96,8 +95,8 @@ settings_of rows =
     (option_and_then drawing_named (first_of (codes "type") rows)) (Err unknown_type))
     (option_map_or level_named (first_of (codes "level") rows) (Some level.L)) (Err unknown_level)
 
--- The settings of the arguments `words`, or the reason to refuse them; a fault that `clap` finds comes before all others
--- [own]
+-- The settings of the arguments `words`, or the reason to refuse them; a fault that `clap` finds comes before all
+-- others [own]
 abbrev pub settings_for : List Text → Result SettingsView Reason
 settings_for words = if length (faults_for words) == 0 then settings_of (rows_for words) else Err refused_by_clap
 

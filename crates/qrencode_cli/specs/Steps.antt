@@ -1,4 +1,3 @@
--- How the program computes its results. Only contracts of private functions use these definitions, so nobody needs them
--- to judge the public ones.
+-- Steps of the code. Only private contracts use them.
 pub mod Command
 pub mod Fault

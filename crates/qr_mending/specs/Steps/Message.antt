@@ -1,17 +1,12 @@
--- How the program mends the blocks of a symbol. Each codeword has a mark, a byte with a bit for each of its modules that is 1
--- if the module was not read; so a mark is 0 exactly if its codeword is not erased. `b` has the sizes of the blocks, `d` and
--- `e` list the data codewords and the error correction codewords as they were read, `u` and `w` their marks, all in the
--- order of the blocks.
-use Rattle.std.specs.Prelude.{◌≡◌, ℕ, ◌<◌, ◌==◌, not, Option, List, map, drop, length, slice_index}
+-- How the program mends the blocks of a symbol. Each codeword has a mark, a byte with a bit for each of its modules
+-- that is 1 if the module was not read; so a mark is 0 exactly if its codeword is not erased. `b` has the sizes of the
+-- blocks, `d` and `e` list the data codewords and the error correction codewords as they were read, `u` and `w` their
+-- marks, all in the order of the blocks.
+use Rattle.std.specs.Prelude.{◌≡◌, ℕ, ◌<◌, ◌==◌, not, Option, List, map, length, slice_index}
 use Rattle.qr_layout.specs.declared.blocks.Blocks.{Blocks}
-use Rattle.qr_symbol.specs.Interleaving.{block_count, start_of, codeword_count, data_sizes, correction_sizes, IsGathered}
+use Rattle.qr_symbol.specs.Interleaving.{block_count, start_of, data_sizes}
 use Rattle.qr_mending.specs.Erasures.{read_of}
-use Rattle.qr_mending.specs.Message.{received, IsMendedBlock}
-
--- The interleaved codewords, or their marks, in the order of the blocks
-pub record AreInBlocks (b : Blocks) (interleaved d e : List ℕ) : Type 0 where
-  pub gathered : IsGathered (data_sizes b) interleaved d
-  pub rest : IsGathered (correction_sizes b) (drop (codeword_count (data_sizes b)) interleaved) e
+use Rattle.qr_mending.specs.Message.{received, AreInBlocks, IsMendedBlock}
 
 -- What was read of a block: `None` for a codeword whose mark is not 0
 abbrev pub read_by : List ℕ → List ℕ → List (Option ℕ)

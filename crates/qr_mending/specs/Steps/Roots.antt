@@ -8,7 +8,7 @@ abbrev pub times_root : ℕ → ℕ → List ℕ → List ℕ
 times_root root carry [] = carry ∷ []
 times_root root carry (a ∷ p) = bit_xor carry (product root a) ∷ times_root root a p
 
--- The product of `p` and a factor x + 2^m for each erased codeword, which m codewords follow in the block.
+-- The product of `p` and a factor x + 2^m for each erased codeword that has m codewords after it in the block.
 abbrev pub rooted : List Bool → List ℕ → List ℕ
 rooted [] p = p
 rooted (true ∷ erased) p = times_root (power (length erased)) 0 (rooted erased p)

@@ -2,7 +2,7 @@
 -- `out0`) before the step and `new` (`in1`, `out1`) after it.
 use Rattle.std.specs.Prelude.{◌≡◌, ◌<◌, ◌≤◌, ℕ, List, [], length, IfErr, Result, MatchResult}
 use Rattle.clap.specs.Walk.{Text}
-use Rattle.qrencode_cli.specs.Command.{HasDrawing, InputConsumedFor, IsFault, OutputHolds}
+use Rattle.qrencode_cli.specs.Command.{HasDrawing, InputConsumed, IsFault, OutputHolds}
 use Rattle.qr_devices.specs.Device.{Reader, Writer}
 use Rattle.qr_bits.specs.declared.modes.TheConstants.{INPUT_MAX}
 use Rattle.qr_symbol.specs.declared.symbol.Symbol.{Symbol}
@@ -10,19 +10,19 @@ use Rattle.qr_symbol.specs.Joining.{IsJoined}
 use Rattle.qr_symbol.specs.Series.{squares_of}
 use Rattle.qr_drawing.specs.Drawing.{HaveOneSide, drawn}
 use Rattle.qrencode_cli.specs.Input.{IsInputOf}
-use Rattle.qrencode_cli.specs.Settings.{SettingsView, settings_for}
+use Rattle.qrencode_cli.specs.Settings.{SettingsView}
 use Rattle.qrencode_cli.specs.Symbols.{AreSymbols, IsTooLong, IsTooMany}
 use Rattle.qrencode_cli.specs.declared.fault.Fault.{Fault}
 use Rattle.qrencode_cli.specs.declared.fault.Fault.TheVariants.{Encode, Memory, Write}
 use Rattle.qr_symbol.specs.declared.fault.EncodeFault.TheVariants.{Empty, TooLong, TooMany}
 use Rattle.qrencode_cli.specs.declared.drawing_job.DrawingJob.{DrawingJob}
 
--- The drawing of the job's symbols
+-- What is written if no write fails
 abbrev pub drawing_of_job : DrawingJob → List ℕ
 drawing_of_job job = drawn job.kind job.margin (squares_of job.symbols.items)
 
--- The settings ask for these symbols of `input`, which is not empty and was not cut; they are read and joined as
--- `input`, and can be drawn, since they are at most 16 and of one size
+-- The settings ask for these symbols of `input`, which is not empty and shorter than `INPUT_MAX`, so that nothing was cut
+-- off; they are read and joined as `input`, and can be drawn, since they are at most 16 and of one size
 pub record AreDrawnFor (s : SettingsView) (input : List ℕ) (symbols : List Symbol) : Type 0 where
   pub asked : AreSymbols s input (squares_of symbols)
   pub joined : IsJoined (squares_of symbols) input
@@ -49,7 +49,7 @@ IsEarly _ = Unit {0}
 pub record Prepares (words : List Text) (old new : Reader) (result : Result DrawingJob Fault) : Type 0 where
   pub given : List ℕ
   pub is_input : IsInputOf old.remaining given
-  pub reads : InputConsumedFor (settings_for words) old new given result
+  pub reads : InputConsumed words old new given result
   pub answer : MatchResult result (λ p. HasDrawing words given (drawing_of_job p)) (λ f. IsFault words given f × IsEarly f)
 
 -- A run can have this result, before the line of a fault is written
@@ -58,4 +58,4 @@ pub record Attempts (words : List Text) (in0 in1 : Reader) (out0 out1 : Writer) 
   pub is_input : IsInputOf in0.remaining given
   pub is_fault : IfErr result (IsFault words given)
   pub shows : OutputHolds words given out0 out1 result
-  pub reads : InputConsumedFor (settings_for words) in0 in1 given result
+  pub reads : InputConsumed words in0 in1 given result

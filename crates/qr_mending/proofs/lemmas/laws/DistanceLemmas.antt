@@ -7,11 +7,10 @@ use Rattle.qr_layout.specs.Version.{side_of}
 use Rattle.qr_layout.specs.Format.{five_bits, format_word_of}
 use Rattle.qr_layout.specs.Role.{second_place}
 use Rattle.qr_layout.proofs.Facts.{format-second}
-use Rattle.qr_matrix.specs.Grid.{Grid}
 use Rattle.qr_matrix.proofs.Facts.{colour-square}
 use Rattle.qr_matrix.specs.BitRow.{has_bit}
 use Rattle.qr_symbol.specs.Symbol.{colour_by, colour_of, grid_of}
-use Rattle.qr_symbol.specs.Reading.{IsMessage}
+use Rattle.qr_symbol.specs.Distance.{HeldMessage}
 use Rattle.qr_symbol.proofs.Facts.{format-read, level-one, level-small, messages-apart}
 use Rattle.qr_mending.specs.declared.format.FormatCopy.{FormatCopy}
 use Rattle.qr_mending.specs.declared.format.FormatCopy.TheVariants.{First, Second}
@@ -60,28 +59,20 @@ formats-apart v l k m n cw ds p q h j o = λ copy.
     omega (arith, apart, same)
 
 -- different messages of one level differ in some block in more than twice as many codewords as can be mended
-blocks-apart : (v : ℕ) (l : Level) (m n : ℕ) (g h : Grid) (d e : List ℕ) → 1 ≤ v → v ≤ 40 → (a : IsMessage v l m g d) →
-    (b : IsMessage v l n h e) → (d ≡ e → ⊥) → SomeBlockLiesApart v l l m n g h d e a b
-blocks-apart v l m n g h d e p q a b o =
-    let w = messages-apart v l p q m n g h d e a b o in
-    let far = w.2 in
-    (w.0, w.1, omega arith)
-
--- the same, where the second message has an equal level by another name
-blocks-apart-at : (v : ℕ) (l k : Level) (m n : ℕ) (g h : Grid) (d e : List ℕ) → 1 ≤ v → v ≤ 40 → l ≡ k →
-    (a : IsMessage v l m g d) → (b : IsMessage v k n h e) → (d ≡ e → ⊥) → SomeBlockLiesApart v l k m n g h d e a b
-blocks-apart-at v l k m n g h d e p q s a b o =
-    subst (λ (z : Level). (b : IsMessage v z n h e) → SomeBlockLiesApart v l z m n g h d e a b) s
-    (λ b. blocks-apart v l m n g h d e p q a b o) b
+blocks-apart : (v : ℕ) (l k : Level) (m : HeldMessage v l) (n : HeldMessage v k) → 1 ≤ v → v ≤ 40 → l ≡ k → (m.message ≡ n.message → ⊥)
+    → SomeBlockLiesApart v l k m n
+blocks-apart v l k m n p q s o =
+    subst (λ (z : Level). (n : HeldMessage v z) → (m.message ≡ n.message → ⊥) → SomeBlockLiesApart v l z m n) s
+    (λ n o. let w = messages-apart v l p q m n o in let far = w.2 in (w.0, w.1, omega arith)) n o
 
 -- the law of the distance of whole symbols
 pub symbols-apart : (v : ℕ) → 1 ≤ v → v ≤ 40 → SymbolsLieApart v
-symbols-apart v p q l k m n cw ds d e h j a b o =
-    elim (cases_eq (five_bits l m) (five_bits k n)) [
+symbols-apart v p q l k m n cw ds h j x y o =
+    elim (cases_eq (five_bits l m.mask) (five_bits k n.mask)) [
       | inl s ↦
           let t = level-small l in
           let u = level-small k in
           let same : l ≡ k = level-one l k (omega arith) in
-          inr (same, omega arith, blocks-apart-at v l k m n (grid_of v l m cw) (grid_of v k n ds) d e p q same a b (λ w. o (same, w)))
-      | inr other ↦ inl (formats-apart v l k m n cw ds p q h j other)
+          inr (same, omega arith, blocks-apart v l k m n p q same (λ w. o (same, w)))
+      | inr other ↦ inl (rw (x, y) (formats-apart v l k m.mask n.mask cw ds p q h j other))
     ]

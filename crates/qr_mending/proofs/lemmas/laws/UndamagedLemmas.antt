@@ -12,7 +12,7 @@ use Rattle.qr_layout.specs.Format.{format_word_of}
 use Rattle.qr_bits.specs.Parsing.{Content}
 use Rattle.qr_matrix.specs.Grid.{Grid, light, is_same}
 use Rattle.qr_matrix.specs.BitRow.{has_bit}
-use Rattle.qr_symbol.specs.Interleaving.{block_count, block_len, start_of, codeword_count, IsPosition, codeword_at, data_sizes, correction_sizes, block_of, check_at, IsFinalMessage, IsGathered, part_of}
+use Rattle.qr_symbol.specs.Interleaving.{block_count, block_len, start_of, codeword_count, IsPosition, codeword_at, data_sizes, correction_sizes, block_of, check_at, IsFinalMessage, part_of}
 use Rattle.qr_symbol.specs.Steps.Interleaving.{IsChecks}
 use Rattle.qr_symbol.specs.Distance.{blocks_in}
 use Rattle.qr_symbol.specs.Reading.{IsFormat, IsRead, IsReading}
@@ -20,7 +20,7 @@ use Rattle.qr_mending.specs.declared.format.FormatCopy.{FormatCopy}
 use Rattle.qr_mending.specs.declared.format.FormatCopy.TheVariants.{First, Second}
 use Rattle.qr_matrix.specs.Sums.{count_below}
 use Rattle.qr_mending.specs.Format.{bit_difference, bit_differences, copy_bit, copy_cost, IsNearFormat}
-use Rattle.qr_mending.specs.Message.{IsMendedIn}
+use Rattle.qr_mending.specs.Message.{AreInBlocks, IsMendedIn}
 use Rattle.qr_mending.specs.Mending.{HasFormat, IsMendedReading}
 use Rattle.qr_symbol.proofs.Facts.{start-none, position, positions-many, check-len, checks-push, map-each, checks-one, data-sizes-whole}
 use Rattle.qr_mending.proofs.lemmas.message.MessageLemmas.{part-len}
@@ -73,8 +73,7 @@ check-part b d es cs h e i l c =
 -- the data codewords and the error correction codewords of a final sequence, both gathered
 pub record FinalParts (b : Blocks) (d cw : List ℕ) (corrections : List (List ℕ)) : Type 0 where
   pub checks : List ℕ
-  pub gathered : IsGathered (data_sizes b) cw d
-  pub rest : IsGathered (correction_sizes b) (drop (codeword_count (data_sizes b)) cw) checks
+  pub inside : AreInBlocks b cw d checks
   pub same : (i : ℕ) → i < block_count (data_sizes b) → part_of (correction_sizes b) checks i ≡ get_or corrections i []
 
 pub final-parts : (b : Blocks) (d cw : List ℕ) → length d ≡ codeword_count (data_sizes b) → (h : IsFinalMessage b d cw) →
@@ -100,19 +99,21 @@ final-parts b d cw n h =
     let after : drop (codeword_count own) cw ≡ last = ap (drop (codeword_count own)) whole ∙ drop_at first last (codeword_count own) front in
     record {
       checks = es;
-      gathered = record {
-        long = n;
-        positions = h.data_positions;
-        order = h.data_order;
-        many = many;
-        same = sym (ap (take (codeword_count own)) whole ∙ take_at first last (codeword_count own) front);
-      };
-      rest = record {
-        long = omega (arith, ch.long);
-        positions = h.check_positions;
-        order = h.check_order;
-        many = rest;
-        same = sym (ap (take (codeword_count sizes)) after ∙ take_all (codeword_count sizes) last (omega (arith, back)));
+      inside = record {
+        gathered = record {
+          long = n;
+          positions = h.data_positions;
+          order = h.data_order;
+          many = many;
+          same = sym (ap (take (codeword_count own)) whole ∙ take_at first last (codeword_count own) front);
+        };
+        rest = record {
+          long = omega (arith, ch.long);
+          positions = h.check_positions;
+          order = h.check_order;
+          many = rest;
+          same = sym (ap (take (codeword_count sizes)) after ∙ take_all (codeword_count sizes) last (omega (arith, back)));
+        };
       };
       same = λ i l. check-part b d es h.corrections ch same i l (h.each i l);
     }
@@ -125,7 +126,7 @@ final-mended v mask s l g d cw p q r n h =
     let b = blocks_of v l in
     let own = data_sizes b in
     let w = final-parts b d cw n h in
-    light-mended v mask s l g cw d w.checks d (replicate (block_count own) 0) p q r (record { gathered = w.gathered; rest = w.rest }) n
+    light-mended v mask s l g cw d w.checks d (replicate (block_count own) 0) p q r w.inside n
     (length-replicate (block_count own) 0)
     (λ i k.
     let none = get_or-replicate (block_count own) i 0 0 k in

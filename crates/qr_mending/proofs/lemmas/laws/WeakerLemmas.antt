@@ -3,6 +3,7 @@
 use Rattle.std.proofs.Common.{◌≡◌, ℕ, ◌-◌, ◌*◌, ◌<◌, ◌≤◌, List, [], ◌∷◌, ◌++◌, take, drop, length, length-append, length-drop, bit_xor, refl, sym, ◌∙◌, ap, subst, arith}
 use Rattle.std.specs.List.{All}
 use Rattle.std.specs.Int.Bits.{xor_self}
+use Rattle.std.proofs.lemmas.Bool.Decides.{nat_tests}
 use Rattle.std.proofs.lemmas.List.{length-take, take-append-drop}
 use Rattle.std.proofs.lemmas.List.Elements.{All-take}
 use Rattle.qr_field.specs.Galois.{product}
@@ -16,8 +17,6 @@ use Rattle.qr_field.proofs.lemmas.polynomial.PolynomialLemmas.{correction-some}
 use Rattle.qr_field.proofs.lemmas.laws.ValueLemmas.{value-plus, block-bytes, block-root}
 use Rattle.qr_field.proofs.lemmas.laws.DistanceLemmas.{difference-most, differences-none, weight-none, weight-plus}
 use Rattle.qr_mending.specs.Block.{IsBlock}
-use Rattle.qr_mending.proofs.lemmas.block.BlockLemmas.{differences-same}
-use Rattle.qr_mending.proofs.lemmas.laws.ModuleLemmas.{differences-join}
 
 -- lists of one length differ at most everywhere
 differences-most : (xs ys : List ℕ) → length xs ≡ length ys → differences xs ys ≤ length xs
@@ -28,6 +27,11 @@ differences-most (x ∷ xs) (y ∷ ys) e =
     let one = difference-most x y in
     let rest = differences-most xs ys (omega (arith, e)) in
     omega (arith, one, rest)
+
+-- lists with the same beginning differ as what comes after it
+differences-rest : (zs us vs : List ℕ) → differences (zs ++ us) (zs ++ vs) ≡ differences us vs
+differences-rest [] us vs = refl
+differences-rest (z ∷ zs) us vs = let h = differences-rest zs us vs in grind (arith, nat_tests)
 
 -- the block differs in at most n codewords from the one whose last n codewords protect the others, and both have the first n
 -- powers of 2 as roots
@@ -58,10 +62,9 @@ weaker-block n m block some less few b =
     ∙ (ap (λ t. bit_xor t (value_at i other)) (product-of_zero (power (i * 0)) (power-lt (i * 0)))
     ∙ (ap (bit_xor 0) (block-root front n f.0 f.1 i h) ∙ xor_self 0))) in
     let near : differences block other ≤ n =
-    let join = ap (λ (z : List ℕ). differences z other) (sym whole) ∙ differences-join front front back f.0 refl in
-    let none = differences-same front in
+    let join = ap (λ (z : List ℕ). differences z other) (sym whole) ∙ differences-rest front back f.0 in
     let most = differences-most back f.0 (omega (arith, long, parts, b.corrects.count, less, last, f.1.count)) in
-    omega (arith, join, none, most, last, long, parts, b.corrects.count, less) in
+    omega (arith, join, most, last, long, parts, b.corrects.count, less) in
     let count = length-plus block other (omega (arith, same)) in
     let weighs = weight-plus block other same in
     let zero = weight-none (length sum) n sum (omega arith) (omega (arith, count, same, few)) (bytes-plus block other bytes bytes') (omega (arith, weighs, near)) roots in

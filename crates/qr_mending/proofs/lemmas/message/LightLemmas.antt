@@ -1,6 +1,6 @@
 -- A symbol of which all modules were read: its marks are 0, no codeword is erased, and its blocks are mended as blocks of
 -- which every codeword was read.
-use Rattle.std.proofs.Common.{◌≡◌, ◌||◌, cond, Bool, false, ℕ, zero, suc, ◌*◌, ◌<◌, ◌≤◌, None, Some, List, [], ◌∷◌, ◌++◌, map, take, drop, length, get_or, refl, sym, ◌∙◌, ap, arith}
+use Rattle.std.proofs.Common.{◌≡◌, ◌||◌, cond, Bool, false, ℕ, zero, suc, ◌*◌, ◌<◌, ◌≤◌, None, Some, List, [], ◌∷◌, ◌++◌, map, take, length, get_or, refl, sym, ◌∙◌, ap, arith}
 use Rattle.std.specs.Prelude.{Option}
 use Rattle.std.specs.List.{list_any, range_with_len}
 use Rattle.std.proofs.lemmas.List.{length-map, length-replicate, length-take}
@@ -21,8 +21,7 @@ use Rattle.qr_matrix.specs.Grid.{Grid, colour, light, rows_of}
 use Rattle.qr_symbol.specs.Interleaving.{block_count, codeword_count, data_sizes, part_of}
 use Rattle.qr_symbol.specs.Reading.{IsRead, IsReadUnmasked}
 use Rattle.qr_symbol.proofs.Facts.{map-each, read-some}
-use Rattle.qr_mending.specs.Message.{read_at, received, spare_of, tolerance_of, IsMendedBlock, IsMendedIn}
-use Rattle.qr_mending.specs.Steps.Message.{AreInBlocks}
+use Rattle.qr_mending.specs.Message.{modules_of, read_at, received, spare_of, tolerance_of, IsMendedBlock, IsMendedIn, AreInBlocks}
 use Rattle.qr_field.proofs.lemmas.laws.DistanceLemmas.{erasures-read, errors-read}
 use Rattle.qr_mending.proofs.lemmas.message.MarkLemmas.{held-many}
 use Rattle.qr_mending.proofs.lemmas.message.MessageLemmas.{in-blocks-one, indices-some, item, items-in-blocks, received-map}
@@ -111,7 +110,7 @@ all-read : (s : ℕ) (places : List Module) (cw ks : List ℕ) →
     map (read_at (light s) places cw) ks ≡ map (λ x. Some x) (map (item cw) ks)
 all-read s places cw [] = refl
 all-read s places cw (k ∷ ks) =
-    let none = none-unread s (take 8 (drop (8 * k) places)) in
+    let none = none-unread s (modules_of places k) in
     let later = all-read s places cw ks in
     λ i. cond (none i) None (Some (item cw k)) ∷ later i
 
@@ -160,8 +159,7 @@ light-mended v mask s l g cw d e message changed p q h inside long many each =
       order = h.order;
       indices = ks;
       checks = js;
-      gathered = some.2.gathered;
-      rest = some.2.rest;
+      inside = some.2;
       long = long;
       many = many;
       each = λ i r.

@@ -1,11 +1,10 @@
 -- A mark is 0 exactly if its codeword is not erased. So to mend by marks is to mend without the modules that were not
 -- read.
 use Rattle.std.proofs.Common.{◌≡◌, ◌==◌, ◌||◌, not, cond, Bool, true, false, ℕ, zero, suc, ◌+◌, ◌-◌, ◌*◌, ◌<◌, ◌≤◌, None, Some, List, [], ◌∷◌, ◌++◌, map, take, drop, length, get_or, replicate, refl, sym, ◌∙◌, ap, subst, arith}
-use Rattle.std.specs.List.{list_any, range_with_len, All}
+use Rattle.std.specs.List.{list_any, All}
 use Rattle.std.specs.Prelude.{Option}
 use Rattle.std.proofs.lemmas.List.{append-nil, length-map, length-take, take_at, take-map, take-take, drop_at, drop-drop, drop-map, drop-take}
-use Rattle.std.proofs.lemmas.List.Elements.{All-append, All-drop, All-from_get_or, All-tail, All-take}
-use Rattle.std.proofs.lemmas.List.FromFn.{get_or-range_with_len, length-range_with_len}
+use Rattle.std.proofs.lemmas.List.Elements.{All-tail}
 use Rattle.qr_layout.specs.declared.level.Level.{Level}
 use Rattle.qr_layout.specs.declared.region.Module.{Module}
 use Rattle.qr_layout.specs.Blocks.{blocks_of}
@@ -15,12 +14,11 @@ use Rattle.qr_layout.proofs.Facts.{below, below-at, only_order, order-length}
 use Rattle.qr_bits.specs.Bits.{bits_of, field}
 use Rattle.qr_bits.proofs.Facts.{length-bits_of, length-field}
 use Rattle.qr_matrix.specs.Grid.{Grid, colour, is_same}
-use Rattle.qr_symbol.specs.Interleaving.{block_len, codeword_count, start_of, data_sizes, correction_sizes, part_of}
 use Rattle.qr_symbol.specs.Reading.{unmasked, read_bits, IsRead, IsReadUnmasked}
 use Rattle.qr_mending.specs.Erasures.{read_of}
-use Rattle.qr_mending.specs.Message.{read_at, received, spare_of, IsMendedBlock, IsMendedIn}
-use Rattle.qr_mending.specs.Steps.Message.{read_by, AreInBlocks, IsMendedMessage}
-use Rattle.qr_mending.proofs.lemmas.message.MessageLemmas.{gathered-all, in-blocks-one, indices-some, item, items-in-blocks, received-map}
+use Rattle.qr_mending.specs.Message.{modules_of, read_at, received, spare_of, IsMendedBlock, IsMendedIn, AreIndices}
+use Rattle.qr_mending.specs.Steps.Message.{read_by, IsMendedMessage}
+use Rattle.qr_mending.proofs.lemmas.message.MessageLemmas.{in-blocks-one, indices-some, item, items-in-blocks, received-all, received-map}
 
 -- ---- the modules of a codeword
 
@@ -91,7 +89,7 @@ marks-many v unknown marks p q h =
     many-read (λ m. colour unknown m.row m.col) h.places marks (total_codewords_of v) h.bits (omega (arith, many))
 
 -- colours that are the same
-same-is : (a b : Bool) → is_same a b ≡ true → a ≡ b
+pub same-is : (a b : Bool) → is_same a b ≡ true → a ≡ b
 same-is true true e = refl
 same-is true false e = sym e
 same-is false true e = e
@@ -112,7 +110,7 @@ any-read f (m ∷ ms) = ap (λ (b : Bool). f m || b) (any-read f ms)
 -- a codeword is erased exactly if its mark is not 0
 abbrev AgreesAt : Grid → List Module → List ℕ → ℕ → Type 0
 AgreesAt unknown places marks k =
-    list_any (λ m. colour unknown m.row m.col) (take 8 (drop (8 * k) places)) ≡ not (get_or marks k 0 == 0)
+    list_any (λ m. colour unknown m.row m.col) (modules_of places k) ≡ not (get_or marks k 0 == 0)
 
 mark-agrees : (v : ℕ) (unknown : Grid) (marks : List ℕ) (k : ℕ) → 1 ≤ v → v ≤ 40 →
     (h : IsReadUnmasked v unknown marks) → k < total_codewords_of v → AgreesAt unknown h.places marks k
@@ -122,7 +120,7 @@ mark-agrees v unknown marks k p q h l =
     let many = marks-many v unknown marks p q h in
     let mark = get_or marks k 0 in
     let byte : mark < 256 = h.bytes k 0 (omega (arith, l, many)) in
-    any-read f (take 8 (drop (8 * k) h.places))
+    any-read f (modules_of h.places k)
     ∙ (ap (list_any (λ (b : Bool). b)) (sym (codeword-read f h.places marks (total_codewords_of v) k h.bits many l))
     ∙ same-is _ _ (below-at 256 is_marked bytes-marked mark byte))
 
@@ -144,32 +142,16 @@ read-marked unknown places cw marks (k ∷ ks) h =
 
 -- what is read by marks of block i
 block-marked : (v : ℕ) (l : Level) (unknown : Grid) (cw marks ks js : List ℕ) (i : ℕ) → 1 ≤ v → v ≤ 40 →
-    (h : IsReadUnmasked v unknown marks) → AreInBlocks (blocks_of v l) (range_with_len 0 (total_codewords_of v)) ks js →
+    (h : IsReadUnmasked v unknown marks) → AreIndices v l ks js →
     read_by (received (blocks_of v l) (map (item cw) ks) (map (item cw) js) i)
     (received (blocks_of v l) (map (item marks) ks) (map (item marks) js) i)
     ≡ map (read_at unknown h.places cw) (received (blocks_of v l) ks js i)
 block-marked v l unknown cw marks ks js i p q h inside =
     let b = blocks_of v l in
-    let c = data_sizes b in
-    let sizes = correction_sizes b in
-    let n = total_codewords_of v in
-    let indices = range_with_len 0 n in
-    let len = length-range_with_len 0 n in
-    let agrees : ℕ → Type 0 = AgreesAt unknown h.places marks in
-    let all : All agrees indices = All-from_get_or agrees indices 0 (λ k r.
-    let here : k < n = omega (arith, r, len) in
-    let same : k ≡ get_or indices k 0 = omega (arith, get_or-range_with_len 0 n k 0 here) in
-    subst agrees same (mark-agrees v unknown marks k p q h here)) in
-    let first = gathered-all c agrees indices ks all inside.gathered in
-    let rest = All-drop agrees (codeword_count c) indices all in
-    let second = gathered-all sizes agrees (drop (codeword_count c) indices) js rest inside.rest in
-    let both : All agrees (received b ks js i) =
-    All-append agrees (part_of c ks i) (part_of sizes js i)
-    (All-take agrees (block_len c i) (drop (start_of c i) ks) (All-drop agrees (start_of c i) ks first))
-    (All-take agrees (block_len sizes i) (drop (start_of sizes i) js) (All-drop agrees (start_of sizes i) js second)) in
+    let all = received-all b (AgreesAt unknown h.places marks) (total_codewords_of v) ks js i (λ k r. mark-agrees v unknown marks k p q h r) inside in
     let x = received-map b (item cw) ks js i in
     let y = received-map b (item marks) ks js i in
-    (λ k. read_by (x k) (y k)) ∙ read-marked unknown h.places cw marks (received b ks js i) both
+    (λ k. read_by (x k) (y k)) ∙ read-marked unknown h.places cw marks (received b ks js i) all
 
 -- ---- mending by marks is mending with the modules that were not read
 
@@ -182,21 +164,20 @@ by-marks v l unknown cw marks message misread p q long h m =
     let ks = m.indices in
     let js = m.checks in
     let same = only_order v m.places h.places m.order h.order in
-    let inside : AreInBlocks b (range_with_len 0 n) ks js = record { gathered = m.gathered; rest = m.rest } in
     record {
       codewords = map (item cw) ks;
       checks = map (item cw) js;
       unread = map (item marks) ks;
       unread_checks = map (item marks) js;
-      in_blocks = items-in-blocks b n cw ks js long inside;
-      marked = items-in-blocks b n marks ks js (marks-many v unknown marks p q h) inside;
+      in_blocks = items-in-blocks b n cw ks js long m.inside;
+      marked = items-in-blocks b n marks ks js (marks-many v unknown marks p q h) m.inside;
       mended = record {
         long = m.long;
         many = m.many;
         each = λ i r.
             subst (λ (z : List (Option ℕ)). IsMendedBlock b (spare_of v l) z message (get_or misread i 0) i)
             (ap (λ (ms : List Module). map (read_at unknown ms cw) (received b ks js i)) same
-            ∙ sym (block-marked v l unknown cw marks ks js i p q h inside))
+            ∙ sym (block-marked v l unknown cw marks ks js i p q h m.inside))
             (m.each i r);
       };
     }
@@ -224,8 +205,7 @@ of-marks v l unknown cw marks message misread p q long h m =
       order = h.order;
       indices = ks;
       checks = js;
-      gathered = inside.gathered;
-      rest = inside.rest;
+      inside = inside;
       long = m.mended.long;
       many = m.mended.many;
       each = λ i r.

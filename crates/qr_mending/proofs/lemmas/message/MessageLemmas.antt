@@ -2,8 +2,8 @@
 use Rattle.std.proofs.Common.{◌≡◌, ℕ, ◌+◌, ◌<◌, ◌≤◌, List, ◌++◌, map, take, drop, length, length-drop, get_or, refl, sym, ◌∙◌, ap, subst, arith}
 use Rattle.std.specs.List.{range_with_len, All}
 use Rattle.std.proofs.lemmas.List.{length-map, length-take, take_all, take-map, drop_at, drop-map, take-append-le, drop-append-le, map-append, ext_get_or, get_or-map}
-use Rattle.std.proofs.lemmas.List.Elements.{All-contains, All-from_get_or, All-take}
-use Rattle.std.proofs.lemmas.List.FromFn.{fill_by_all, length-range_with_len}
+use Rattle.std.proofs.lemmas.List.Elements.{All-append, All-contains, All-drop, All-from_get_or, All-take}
+use Rattle.std.proofs.lemmas.List.FromFn.{fill_by_all, get_or-range_with_len, length-range_with_len}
 use Rattle.std.proofs.lemmas.Simd.{map-map}
 use Rattle.qr_layout.specs.declared.blocks.Blocks.{Blocks}
 use Rattle.qr_layout.specs.declared.level.Level.{Level}
@@ -12,8 +12,7 @@ use Rattle.qr_layout.specs.Version.{total_codewords_of}
 use Rattle.qr_symbol.specs.declared.interleaving.BlockSizes.{BlockSizes}
 use Rattle.qr_symbol.specs.Interleaving.{Position, IsPosition, block_count, block_len, start_of, codeword_count, codeword_at, data_sizes, correction_sizes, IsGathered, part_of}
 use Rattle.qr_symbol.proofs.Facts.{start-next, start-most, position-in, positions-one, position-of, map-at, map-each, gather-some, sizes-whole, Mem-of-Contains}
-use Rattle.qr_mending.specs.Message.{received}
-use Rattle.qr_mending.specs.Steps.Message.{AreInBlocks}
+use Rattle.qr_mending.specs.Message.{received, AreInBlocks}
 
 -- ---- one list of received codewords
 
@@ -54,7 +53,7 @@ gathered-map c f xs ks g = let read : Position → ℕ = λ t. f (codeword_at c 
 }
 
 -- what holds of each item of a sequence holds of each that is gathered
-pub gathered-all : (c : BlockSizes) (P : ℕ → Type 0) (xs ks : List ℕ) → All P xs → IsGathered c xs ks → All P ks
+gathered-all : (c : BlockSizes) (P : ℕ → Type 0) (xs ks : List ℕ) → All P xs → IsGathered c xs ks → All P ks
 gathered-all c P xs ks a g = All-from_get_or P ks 0 (λ j l.
     let w = position-of c (block_count c) j (omega arith) (let q = g.long in omega arith) in
     let read = codeword_at c ks in
@@ -110,6 +109,24 @@ received-map b f ks js i =
     let first = part-map (data_sizes b) f ks i in
     let second = part-map (correction_sizes b) f js i in
     (λ j. first j ++ second j) ∙ sym (map-append f (part_of (data_sizes b) ks i) (part_of (correction_sizes b) js i))
+
+-- what holds of the index of each codeword holds of those of a block
+pub received-all : (b : Blocks) (P : ℕ → Type 0) (n : ℕ) (ks js : List ℕ) (i : ℕ) → ((k : ℕ) → k < n → P k)
+    → AreInBlocks b (range_with_len 0 n) ks js → All P (received b ks js i)
+received-all b P n ks js i h inside =
+    let c = data_sizes b in
+    let sizes = correction_sizes b in
+    let indices = range_with_len 0 n in
+    let len = length-range_with_len 0 n in
+    let all : All P indices = All-from_get_or P indices 0 (λ k r.
+    let here : k < n = omega (arith, r, len) in
+    let same : k ≡ get_or indices k 0 = omega (arith, get_or-range_with_len 0 n k 0 here) in
+    subst P same (h k here)) in
+    let first = gathered-all c P indices ks all inside.gathered in
+    let second = gathered-all sizes P (drop (codeword_count c) indices) js (All-drop P (codeword_count c) indices all) inside.rest in
+    All-append P (part_of c ks i) (part_of sizes js i)
+    (All-take P (block_len c i) (drop (start_of c i) ks) (All-drop P (start_of c i) ks first))
+    (All-take P (block_len sizes i) (drop (start_of sizes i) js) (All-drop P (start_of sizes i) js second))
 
 -- ---- parts
 

@@ -16,8 +16,8 @@ use Rattle.qr_symbol.proofs.Facts.{len-most, parts-same, start-next}
 use Rattle.qr_field.proofs.lemmas.laws.DistanceLemmas.{unambiguous-known}
 use Rattle.qr_field.proofs.Facts.{correction-one}
 use Rattle.qr_mending.specs.Erasures.{read_of, IsMendedWithErasures}
-use Rattle.qr_mending.specs.Message.{read_at, received, spare_of, IsMendedIn, IsMendedBlock}
-use Rattle.qr_mending.specs.Steps.Message.{read_by, AreInBlocks, AreMended, IsMendedMessage}
+use Rattle.qr_mending.specs.Message.{read_at, received, spare_of, IsMendedIn, IsMendedBlock, AreInBlocks}
+use Rattle.qr_mending.specs.Steps.Message.{read_by, AreMended, IsMendedMessage}
 use Rattle.qr_mending.proofs.lemmas.erasures.ErasureLemmas.{length-read}
 use Rattle.qr_mending.proofs.lemmas.message.MessageLemmas.{in-blocks-one, part-grown, part-last, part-len}
 
@@ -116,8 +116,7 @@ beside-one unknown v l cw m n x y few g h =
     let b = blocks_of v l in
     let indices = range_with_len 0 (total_codewords_of v) in
     let ms = only_order v h.places g.places h.order g.order in
-    let same = in-blocks-one b indices h.indices h.checks g.indices g.checks
-    (record { gathered = h.gathered; rest = h.rest }) (record { gathered = g.gathered; rest = g.rest }) in
+    let same = in-blocks-one b indices h.indices h.checks g.indices g.checks h.inside g.inside in
     let ks = same.0 in
     let js = same.1 in
     let read : ℕ → List (Option ℕ) = λ i. map (read_at unknown g.places cw) (received b g.indices g.checks i) in

@@ -8,11 +8,9 @@ use Rattle.qr_field.proofs.Facts.{near-same, unambiguous-known}
 use Rattle.qr_layout.specs.declared.level.Level.{Level}
 use Rattle.qr_layout.specs.Blocks.{blocks_of}
 use Rattle.qr_layout.proofs.Facts.{laws-of}
-use Rattle.qr_matrix.specs.Grid.{Grid}
 use Rattle.qr_symbol.specs.declared.interleaving.BlockSizes.{BlockSizes}
 use Rattle.qr_symbol.specs.Interleaving.{block_count, block_len, start_of, codeword_count, data_sizes, block_of}
-use Rattle.qr_symbol.specs.Reading.{IsMessage}
-use Rattle.qr_symbol.specs.Distance.{blocks_in, held_block, MessagesLieApart, DamagedMessagesAreOne}
+use Rattle.qr_symbol.specs.Distance.{blocks_in, held_block, DamagedMessagesAreOne, HeldMessage, MessagesLieApart}
 use Rattle.qr_symbol.proofs.lemmas.interleaving.MessageLemmas.{data-sizes-whole}
 use Rattle.qr_symbol.proofs.lemmas.interleaving.PositionLemmas.{start-none, start-next, len-most}
 
@@ -78,31 +76,35 @@ search-below P Q (suc n) f = elim (search-below P Q n (λ i l. f i (omega arith)
 ]
 
 -- messages of a version and a level whose blocks are equal are equal
-blocks-same : (v : ℕ) (l : Level) (mask mask' : ℕ) (g g' : Grid) (d d' : List ℕ) → 1 ≤ v → v ≤ 40 →
-    IsMessage v l mask g d → IsMessage v l mask' g' d' →
-    ((i : ℕ) → i < blocks_in v l → block_of (blocks_of v l) d i ≡ block_of (blocks_of v l) d' i) → d ≡ d'
-blocks-same v l mask mask' g g' d d' h k m m' f =
+blocks-same : (v : ℕ) (l : Level) (m n : HeldMessage v l) → 1 ≤ v → v ≤ 40 →
+    ((i : ℕ) → i < blocks_in v l → block_of (blocks_of v l) m.message i ≡ block_of (blocks_of v l) n.message i) → m.message ≡ n.message
+blocks-same v l m n h k f =
     let whole = data-sizes-whole v l h k in
-    parts-same (data_sizes (blocks_of v l)) d d' (m.many ∙ sym whole) (m'.many ∙ sym whole) f
+    parts-same (data_sizes (blocks_of v l)) m.message n.message (m.is.many ∙ sym whole) (n.is.many ∙ sym whole) f
+
+-- two blocks of one index have equally many data codewords
+blocks-long : (v : ℕ) (l : Level) (m n : HeldMessage v l) (i : ℕ)
+    → length (block_of (blocks_of v l) m.message i) ≡ length (block_of (blocks_of v l) n.message i)
+blocks-long v l m n i = part-length (data_sizes (blocks_of v l)) m.message n.message i (m.is.many ∙ sym n.is.many)
 
 -- the law of distance
 pub messages-apart : (v : ℕ) (l : Level) → 1 ≤ v → v ≤ 40 → MessagesLieApart v l
-messages-apart v l h k mask mask' g g' d d' m m' o =
+messages-apart v l h k m n o =
     let b = blocks_of v l in
-    let far : (i : ℕ) → i < blocks_in v l →
-    (b.ec_len + 1 ≤ differences (held_block v l mask g d m i) (held_block v l mask' g' d' m' i)) ⊎ (block_of b d i ≡ block_of b d' i) =
-    λ i n. elim (cases_lt b.ec_len (differences (held_block v l mask g d m i) (held_block v l mask' g' d' m' i))) [
+    let apart : ℕ → Type 0 = λ i. b.ec_len + 1 ≤ differences (held_block v l m i) (held_block v l n i) in
+    let far : (i : ℕ) → i < blocks_in v l → apart i ⊎ (block_of b m.message i ≡ block_of b n.message i) =
+    λ i s. elim (cases_lt b.ec_len (differences (held_block v l m i) (held_block v l n i))) [
       | inl z ↦ inl (omega arith)
-      | inr z ↦ inr (near-same b.ec_len (block_of b d i) (get_or m.interleaved.corrections i []) (block_of b d' i) (get_or m'.interleaved.corrections i []) (m.interleaved.each i n) (m'.interleaved.each i n) (part-length (data_sizes b) d d' i (m.many ∙ sym m'.many)) (part-short v l d i h k) z)
+      | inr z ↦ inr (near-same b.ec_len (block_of b m.message i) (get_or m.is.interleaved.corrections i []) (block_of b n.message i) (get_or n.is.interleaved.corrections i []) (m.is.interleaved.each i s) (n.is.interleaved.each i s) (blocks-long v l m n i) (part-short v l m.message i h k) z)
     ] in
-    elim (search-below (λ i. b.ec_len + 1 ≤ differences (held_block v l mask g d m i) (held_block v l mask' g' d' m' i)) (λ i. block_of b d i ≡ block_of b d' i) (blocks_in v l) far) [
+    elim (search-below apart (λ i. block_of b m.message i ≡ block_of b n.message i) (blocks_in v l) far) [
       | inl w ↦ w
-      | inr same ↦ absurd (o (blocks-same v l mask mask' g g' d d' h k m m' same))
+      | inr same ↦ absurd (o (blocks-same v l m n h k same))
     ]
 
 -- the law of damage
 pub damaged-one : (v : ℕ) (l : Level) → 1 ≤ v → v ≤ 40 → DamagedMessagesAreOne v l
-damaged-one v l h k mask mask' g g' d d' m m' read t few near near' =
+damaged-one v l h k m n read t few near near' =
     let b = blocks_of v l in
-    blocks-same v l mask mask' g g' d d' h k m m' (λ i n.
-    unambiguous-known b.ec_len (t i) (block_of b d i) (get_or m.interleaved.corrections i []) (block_of b d' i) (get_or m'.interleaved.corrections i []) (read i) (m.interleaved.each i n) (m'.interleaved.each i n) (part-length (data_sizes b) d d' i (m.many ∙ sym m'.many)) (part-short v l d i h k) (few i n) (near i n) (near' i n))
+    blocks-same v l m n h k (λ i s.
+    unambiguous-known b.ec_len (t i) (block_of b m.message i) (get_or m.is.interleaved.corrections i []) (block_of b n.message i) (get_or n.is.interleaved.corrections i []) (read i) (m.is.interleaved.each i s) (n.is.interleaved.each i s) (blocks-long v l m n i) (part-short v l m.message i h k) (few i s) (near i s) (near' i s))

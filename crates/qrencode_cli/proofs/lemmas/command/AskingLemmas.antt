@@ -1,5 +1,5 @@
 -- The drawing that a command line and an input ask for, or the fault that occurs before any byte is written.
-use Rattle.std.proofs.Common.{◌≡◌, ◌∙◌, ◌≤◌, ℕ, true, false, List, [], ◌∷◌, take, Option, None, Some, Result, Ok, Err, MatchOption, MatchResult, refl, sym, subst, min, length, append-nil, arith, inl, inr, ◌⊎◌}
+use Rattle.std.proofs.Common.{◌≡◌, ◌∙◌, ◌≤◌, ℕ, true, false, List, [], ◌∷◌, take, Option, None, Some, Result, Ok, Err, MatchResult, refl, sym, subst, min, length, append-nil, arith, inl, inr, ◌⊎◌}
 use Rattle.std.proofs.lemmas.Bool.{cases_lt}
 use Rattle.std.proofs.lemmas.List.{take_min}
 use Rattle.std.specs.List.{All}
@@ -18,7 +18,7 @@ use Rattle.qr_symbol.specs.Joining.{AreReadBy, IsJoined}
 use Rattle.qr_symbol.specs.Reading.{IsReadBack}
 use Rattle.qr_symbol.specs.Series.{IsSeries, squares_of}
 use Rattle.qr_symbol.proofs.Facts.{long-has-no-series, series-few, series-side, series-some}
-use Rattle.qrencode_cli.specs.Command.{AllRead, HasDrawing, InputConsumed, InputConsumedFor, IsDrawing, IsFault, held, input_for}
+use Rattle.qrencode_cli.specs.Command.{AllRead, HasDrawing, IsDrawing, ReadsInput, IsFault, held, input_for}
 use Rattle.qr_devices.specs.Device.{Reader}
 use Rattle.qrencode_cli.specs.Steps.Fault.{fault_of_input, fault_of_words}
 use Rattle.qrencode_cli.specs.Input.{IsInputOf}
@@ -119,16 +119,6 @@ drawn-for-series s rule input version symbols many least most e same some series
   one_side = one-side (squares_of symbols) (side_of version) (series-side input s.level rule version symbols series);
 }
 
--- if nothing was read, and the outcome is lack of memory, `InputConsumedFor` holds
-reads-nothing : (o : Result SettingsView Reason) (in0 : Reader) (given : List ℕ)
-    → InputConsumedFor o in0 in0 given {T = DrawingJob} (Err fault.Memory)
-reads-nothing (Err r) in0 given = refl
-reads-nothing (Ok s) in0 given = nothing s.string
-  where
-    nothing : (o : Option Text) → MatchOption o (Unit {0}) (λ _. in0 ≡ in0)
-    nothing None = tt
-    nothing (Some t) = refl
-
 -- a command line without settings is refused
 refused : (words : List Text) (in0 : Reader) (why : Reason) (u : UsageFault) → settings_for words ≡ Err why
     → (settings_for words ≡ Err why → IsFault words (any_input in0.remaining).0 (fault.Usage u))
@@ -136,7 +126,7 @@ refused : (words : List Text) (in0 : Reader) (why : Reason) (u : UsageFault) →
 refused words in0 why u e is = let i = any_input in0.remaining in record {
   given = i.0;
   is_input = i.1;
-  reads = rw e refl;
+  reads = record { unread = λ n. refl; read = λ i. absurd (let h : Ok i.settings ≡ Err why = sym i.taken ∙ e in cc) };
   answer = (is e, tt);
 }
 
@@ -150,7 +140,7 @@ prepares-usage words in0 usage.NeedsVersion h = refused words in0 _ usage.NeedsV
 prepares-usage words in0 usage.Memory h = let i = any_input in0.remaining in record {
   given = i.0;
   is_input = i.1;
-  reads = reads-nothing (settings_for words) in0 i.0;
+  reads = record { unread = λ n. refl; read = λ i. inr (inr refl) };
   answer = (tt, tt);
 }
 
@@ -166,9 +156,9 @@ module _ (words : List Text) (s : SettingsView) (taken : settings_for words ≡ 
   answer-for given input (Err fault.Memory) e h = (tt, tt)
   answer-for given input (Err _) e h = absurd h
 
-  -- what was done to the reader is stated by the settings, if the command line has settings
-  reads-taken : (in0 in1 : Reader) (given : List ℕ) (r : Result DrawingJob Fault) → InputConsumedFor (Ok s) in0 in1 given r → InputConsumedFor (settings_for words) in0 in1 given r
-  reads-taken in0 in1 given r h = rw taken h
+  -- the input is to be read only if no string is among the arguments
+  string-none : ReadsInput words → s.string ≡ None
+  string-none i = let same : Ok i.settings ≡ Ok s = sym i.taken ∙ taken in let e : i.settings ≡ s = cc in rw (← e) i.holds
 
   -- the case that the input is the string of the command line
   pub prepares-string : (in0 : Reader) (text buf : List ℕ) (n : ℕ) (r : Result DrawingJob Fault) → s.string ≡ Some text → buf ≡ text → n ≡ min INPUT_MAX (length buf)
@@ -177,7 +167,7 @@ module _ (words : List Text) (s : SettingsView) (taken : settings_for words ≡ 
   prepares-string in0 text buf n r string is cut h = let i = any_input in0.remaining in record {
     given = i.0;
     is_input = i.1;
-    reads = reads-taken in0 in0 i.0 r (rw string refl);
+    reads = record { unread = λ n. refl; read = λ i. absurd (let e : Some text ≡ None = sym string ∙ string-none i in cc) };
     answer = answer-for i.0 (take n buf) r (input_for-string s text i.0 buf n string is cut) h;
   }
 
@@ -189,16 +179,9 @@ module _ (words : List Text) (s : SettingsView) (taken : settings_for words ≡ 
   prepares-reader in0 in1 bytes buf r string is input gives h = record {
     given = bytes;
     is_input = input;
-    reads = reads-taken in0 in1 bytes r (rw string (gives-for r h));
+    reads = record { unread = λ n. absurd (n (record { settings = s; taken = taken; holds = string })); read = λ i. inl gives };
     answer = answer-for bytes buf r (input_for-reader s bytes string ∙ sym is) h;
   }
-    where
-      gives-for : (r : Result DrawingJob Fault) → MatchResult r (λ p. IsDrawing s (held s buf) (drawing_of_job p)) (IsInputFault s (held s buf))
-          → InputConsumed in0 in1 bytes r
-      gives-for (Ok p) h = gives
-      gives-for (Err fault.Read) h = tt
-      gives-for (Err fault.Memory) h = tt
-      gives-for (Err _) h = gives
 
   -- the case that the reader was at fault, or memory for the input was refused
   pub prepares-unread : (in0 in1 : Reader) (f : Fault) → s.string ≡ None → (f ≡ fault.Read) ⊎ (f ≡ fault.Memory)
@@ -206,13 +189,13 @@ module _ (words : List Text) (s : SettingsView) (taken : settings_for words ≡ 
   prepares-unread in0 in1 fault.Read string only = let i = any_input in0.remaining in record {
     given = i.0;
     is_input = i.1;
-    reads = reads-taken in0 in1 i.0 (Err fault.Read) (rw string tt);
+    reads = record { unread = λ n. absurd (n (record { settings = s; taken = taken; holds = string })); read = λ i. inr (inl refl) };
     answer = (record { settings = s; taken = taken; holds = string }, tt);
   }
   prepares-unread in0 in1 fault.Memory string only = let i = any_input in0.remaining in record {
     given = i.0;
     is_input = i.1;
-    reads = reads-taken in0 in1 i.0 (Err fault.Memory) (rw string tt);
+    reads = record { unread = λ n. absurd (n (record { settings = s; taken = taken; holds = string })); read = λ i. inr (inr refl) };
     answer = (tt, tt);
   }
   prepares-unread in0 in1 (fault.Usage u) string only = absurd (elim only [ inl e ↦ cc | inr e ↦ cc ])

@@ -1,11 +1,10 @@
 -- The parts of a run make a correct run.
-use Rattle.std.proofs.Common.{◌≤◌, arith, ◌≡◌, ◌∙◌, ℕ, List, [], Option, Result, Ok, Err, MatchOption, OnOk, OnErr, None, Some, IfErr, is_err, true, false, refl, sym, append-nil, length}
+use Rattle.std.proofs.Common.{inl, inr, ◌≤◌, arith, ◌≡◌, ◌∙◌, ℕ, List, [], Option, Result, Ok, Err, OnOk, OnErr, IfErr, is_err, true, false, refl, sym, append-nil, length}
 use Rattle.std.specs.Io.KnownBytes.{Appends}
 use Rattle.clap.specs.Walk.{Text}
-use Rattle.qrencode_cli.specs.Command.{DrawnInPart, DrawnWhole, ErrorHolds, InputConsumed, InputConsumedFor, OutputHolds}
+use Rattle.qrencode_cli.specs.Command.{DrawnInPart, DrawnWhole, ErrorHolds, InputConsumed, OutputHolds}
 use Rattle.qr_devices.specs.Device.{AppendsBeginning, Reader, Writer, counted, is_write_fault, no_writes}
 use Rattle.qrencode_cli.specs.Fault.{fault_line}
-use Rattle.qrencode_cli.specs.Settings.{Reason, SettingsView, settings_for}
 use Rattle.qrencode_cli.specs.Steps.Command.{Attempts, IsEarly, Prepares, drawing_of_job}
 use Rattle.qrencode_cli.specs.declared.fault.Fault.{Fault}
 use Rattle.qrencode_cli.specs.declared.fault.Fault.TheVariants as fault
@@ -13,18 +12,12 @@ use Rattle.qrencode_cli.specs.declared.drawing_job.DrawingJob.{DrawingJob}
 use Rattle.qr_drawing.specs.declared.pen.DrawFault.{DrawFault}
 
 -- writing a drawing reads nothing more from the reader
-reads-on : (o : Result SettingsView Reason) (in0 in1 : Reader) (given : List ℕ) (p : DrawingJob) (r : Result (Unit {0}) Fault)
-    → IfErr r (λ f. f ≡ fault.Write) → InputConsumedFor o in0 in1 given {T = DrawingJob} (Ok p) → InputConsumedFor o in0 in1 given r
-reads-on (Err e) in0 in1 given p r w h = h
-reads-on (Ok s) in0 in1 given p r w h = on s.string h
-  where
-    same : (r : Result (Unit {0}) Fault) → IfErr r (λ f. f ≡ fault.Write) → InputConsumed in0 in1 given {T = DrawingJob} (Ok p) → InputConsumed in0 in1 given r
-    same (Ok t) w h = h
-    same (Err f) w h = rw w h
-
-    on : (o : Option Text) → MatchOption o (InputConsumed in0 in1 given {T = DrawingJob} (Ok p)) (λ _. in1 ≡ in0) → MatchOption o (InputConsumed in0 in1 given r) (λ _. in1 ≡ in0)
-    on None h = same r w h
-    on (Some t) h = h
+reads-on : (words : List Text) (in0 in1 : Reader) (given : List ℕ) (p : DrawingJob) (r : Result (Unit {0}) Fault)
+    → InputConsumed {T = DrawingJob} words in0 in1 given (Ok p) → InputConsumed words in0 in1 given r
+reads-on words in0 in1 given p r h = record {
+  unread = h.unread;
+  read = λ i. elim (h.read i) [ inl a ↦ inl a | inr (inl e) ↦ absurd cc | inr (inr e) ↦ absurd cc ];
+}
 
 -- the case that the drawing was written, or the writer was at fault
 pub attempts-shown : (words : List Text) (in0 in1 : Reader) (out0 out1 : Writer) (p : DrawingJob) → Prepares words in0 in1 (Ok p)
@@ -35,14 +28,14 @@ attempts-shown words in0 in1 out0 out1 p h (Ok t) ok err = record {
   is_input = h.is_input;
   is_fault = tt;
   shows = (drawing_of_job p, h.answer, ok);
-  reads = reads-on (settings_for words) in0 in1 h.given p (Ok t) tt h.reads;
+  reads = reads-on words in0 in1 h.given p (Ok t) h.reads;
 }
 attempts-shown words in0 in1 out0 out1 p h (Err f) ok (e, b) = rw e (record {
   given = h.given;
   is_input = h.is_input;
   is_fault = (drawing_of_job p, h.answer);
   shows = (drawing_of_job p, h.answer, b);
-  reads = reads-on (settings_for words) in0 in1 h.given p (Err fault.Write) refl h.reads;
+  reads = reads-on words in0 in1 h.given p (Err fault.Write) h.reads;
 })
 
 -- a fault before the first byte is written leaves the writer as it was
@@ -51,18 +44,16 @@ shows-nothing words given out0 fault.Write h = absurd h
 shows-nothing words given out0 _ h = refl
 
 -- what was done to the reader is the same if a fault's result has another type
-reads-fault : (o : Result SettingsView Reason) (in0 in1 : Reader) (given : List ℕ) (f : Fault)
-    → InputConsumedFor o in0 in1 given {T = DrawingJob} (Err f) → InputConsumedFor o in0 in1 given {T = Unit {0}} (Err f)
-reads-fault (Err e) in0 in1 given f h = h
-reads-fault (Ok s) in0 in1 given f h = on s.string h
-  where
-    same : (f : Fault) → InputConsumed in0 in1 given {T = DrawingJob} (Err f) → InputConsumed in0 in1 given {T = Unit {0}} (Err f)
-    same _ h = h
-
-    on : (o : Option Text) → MatchOption o (InputConsumed in0 in1 given {T = DrawingJob} (Err f)) (λ _. in1 ≡ in0)
-        → MatchOption o (InputConsumed in0 in1 given {T = Unit {0}} (Err f)) (λ _. in1 ≡ in0)
-    on None h = same f h
-    on (Some t) h = h
+reads-fault : (words : List Text) (in0 in1 : Reader) (given : List ℕ) (f : Fault)
+    → InputConsumed {T = DrawingJob} words in0 in1 given (Err f) → InputConsumed {T = Unit {0}} words in0 in1 given (Err f)
+reads-fault words in0 in1 given f h = record {
+  unread = h.unread;
+  read = λ i. elim (h.read i) [
+    | inl a ↦ inl a
+    | inr (inl e) ↦ let same : f ≡ fault.Read = cc in inr (inl cc)
+    | inr (inr e) ↦ let same : f ≡ fault.Memory = cc in inr (inr cc)
+  ];
+}
 
 -- a run without a drawing job
 pub attempts-refused : (words : List Text) (in0 in1 : Reader) (out0 : Writer) (f : Fault) → Prepares words in0 in1 (Err f)
@@ -72,7 +63,7 @@ attempts-refused words in0 in1 out0 f h = record {
   is_input = h.is_input;
   is_fault = h.answer.0;
   shows = shows-nothing words h.given out0 f h.answer.1;
-  reads = reads-fault (settings_for words) in0 in1 h.given f h.reads;
+  reads = reads-fault words in0 in1 h.given f h.reads;
 }
 
 -- a whole text is a prefix of itself
