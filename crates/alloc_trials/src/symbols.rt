@@ -1,5 +1,5 @@
-//! Trials of `qr_symbol` and `qr_mending`, and of `Matrix::new`, with `HELLO WORLD` at 1-M and the series of `ABCDEFGH`
-//! at 1-H in byte mode.
+//! Trials of `qr_symbol` and `qr_mending`, and of `Matrix::new`, with `HELLO WORLD` at version 1 and level M (1-M), and
+//! the series of `ABCDEFGH` at 1-H in byte mode.
 
 use crate::answer::Answer;
 use crate::bits::{DATA, HELLO_WORLD};

@@ -1,4 +1,5 @@
-//! Tests of `Counted`, which passes calls on to a reader or writer of the standard library, and returns its errors.
+//! Tests of `Counted`, which passes calls on to a `Read` or a `Write` of the standard library, and returns its errors
+//! as `Trouble`.
 
 use qrencode_cli::{Counted, Sink, Source, Trouble};
 use std::io::{self, ErrorKind, Read, Write};

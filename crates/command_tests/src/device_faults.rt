@@ -77,8 +77,8 @@ fn readers_fail_in_turn(rt: HostRuntime) -> Result<(), Fail> {
     Ok(())
 }
 
-// The writer takes at most 100 bytes in a call. From call `call` on it fails, or takes none, until the drawing needs
-// fewer calls than that and the command succeeds.
+// The writer takes at most 100 bytes in a call, and from call `call` on it fails or takes none. If the drawing needs at
+// most `call` writes, the command succeeds.
 #[test]
 fn writers_fail_in_turn(rt: HostRuntime) -> Result<(), Fail> {
     let want = drawing(rt.alloc())?;

@@ -34,7 +34,7 @@ fn one(alloc: Global, kind: Drawing, margin: u8) -> Result<Trial, Fail> {
     Ok(out)
 }
 
-// Line `index` of `text`, from 0.
+// Empty if there is no such line.
 fn line(text: &[u8], index: usize) -> &[u8] {
     text.split(|byte| *byte == b'\n').nth(index).unwrap_or(&[])
 }
@@ -199,8 +199,8 @@ fn by_words(rt: HostRuntime) -> Result<(), Fail> {
     Ok(())
 }
 
-// In trial `call` the writer takes at most 100 bytes a call and fails from call `call` on; in the last one the drawing
-// needs fewer calls. The writer always has a prefix of the drawing.
+// In trial `call` the writer takes at most 100 bytes a call and fails from call `call` on; in the last trial the
+// drawing needs fewer calls. The writer always has a prefix of the drawing.
 #[test]
 fn writers_fail_in_turn(rt: HostRuntime) -> Result<(), Fail> {
     let symbols = [symbol(rt.alloc())?];

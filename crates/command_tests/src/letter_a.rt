@@ -1,4 +1,4 @@
-//! The drawing of `A` at 1-L with mask 0, from the modules of another encoder.
+//! The drawing of `A` at 1-L with mask 0; another encoder made its modules.
 
 use crate::runs::{DRAW, Devices, run_with};
 use std::alloc::{AllocError, Global};
@@ -80,7 +80,7 @@ fn is_drawn(rt: HostRuntime) -> Result<(), Fail> {
     Ok(())
 }
 
-// The symbol's last row, four lines of margin above the end, ends with three dark modules apart and three side by side.
+// The symbol's last row, above four lines of margin, ends with three single dark modules and then three side by side.
 #[test]
 fn ends_in_three_lone_modules(rt: HostRuntime) -> Result<(), Fail> {
     let r = run_with(rt.alloc(), &DRAW, b"A", Devices::WITHOUT_FAULTS)?;

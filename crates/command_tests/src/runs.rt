@@ -26,7 +26,7 @@ pub struct Devices {
 }
 
 impl Devices {
-    /// Their writers have room for each drawing of these tests.
+    /// The writers have room for a drawing of version 1; tests of larger drawings set `out_room`.
     pub const WITHOUT_FAULTS: Devices = Devices {
         input: Faults::NONE,
         out: Faults::NONE,

@@ -14,8 +14,8 @@ character_of dark = if dark then 35 else 32
 abbrev pub line_of_row : Grid → ℕ → List ℕ
 line_of_row g row = map (λ col. character_of (colour g row col)) (range_with_len 0 g.side) ++ 10 ∷ []
 
--- The rows of the symbol of `words`, which may use all modes but kanji mode, as lines from the top down, and then a
--- line with `words` [own]
+-- The rows of the symbol of `words` as lines from the top down, and then a line with `words`; the symbol may use all
+-- modes but kanji mode [own]
 pub record IsLabel (words : List ℕ) (level : Level) (smallest : ℕ) (text : List ℕ) : Type 0 where
   pub version : ℕ
   pub mask : ℕ

@@ -1,4 +1,4 @@
-//! Tests of `Matrix`: modules that are read and set, transposed squares, and differences.
+//! Tests of `Matrix`: modules that are read and set, runs, transposed squares, and differences.
 
 use qr_matrix::{Matrix, differences};
 use std::test::Fail;

@@ -22,7 +22,7 @@ unfoldable pub bits_of : List ℕ → List Bool
 bits_of [] = []
 bits_of (b ∷ bs) = field 8 b ++ bits_of bs
 
--- Bit `k` of the codewords, counted from 0. Those after the last codeword are remainder bits, which are 0, so that
+-- Bit `k` of the codewords, counted from 0. The bits after the last codeword are remainder bits, which are 0, so that
 -- their modules are light before the mask is applied (ISO/IEC 18004:2015, 7.7.3)
 abbrev pub codeword_bit : List ℕ → ℕ → Bool
 codeword_bit cw k = slice_index_or cw (k / 8) 0 / 2 ^ (7 - k % 8) % 2 == 1

@@ -11,7 +11,7 @@ use Rattle.qr_bits.specs.declared.fault.ParseFault.TheVariants.{BadMode, Cut, Ba
 abbrev pub all_modes : List Mode
 all_modes = Numeric ∷ Alphanumeric ∷ Byte ∷ Kanji ∷ []
 
--- One segment [own]
+-- A list of one segment, of `n` bytes in the mode `m` [own]
 abbrev pub one : Mode → ℕ → List Segment
 one m n = record { mode = m; len = n } ∷ []
 
@@ -39,9 +39,9 @@ middle = record { position = 1; last = 2; parity = 0x48 }
 abbrev pub middle_data : List ℕ
 middle_data = 0x31 ∷ 0x24 ∷ 0x84 ∷ 0x03 ∷ 0x46 ∷ 0x47 ∷ 0x48 ∷ 0x00 ∷ 0xEC ∷ []
 
--- Codewords that cannot be read in version 1, with their fault: numbers that are too large (1000 for three digits, 100
--- for two, 10 for one, 2025 for two characters, 45 for one, BD in kanji mode); an end within the data, within the count
--- and within the header; an indicator of no mode; a second header [own]
+-- Codewords that cannot be read in version 1, with their fault. The first six have a number that is too large: 1000 for
+-- three digits, 100 for two, 10 for one, 2025 for two characters, 45 for one, and hexadecimal BD in kanji mode. Three
+-- end within the data, the count and the header; one has an indicator of no mode, and the last a second header [own]
 abbrev pub unreadable : List (List ℕ × ParseFault)
 unreadable =
     (0x10 ∷ 0x0F ∷ 0xE8 ∷ [], BadValue)

@@ -15,8 +15,8 @@ use Rattle.qr_bits.specs.Padding.{capacity_of, IsData}
 use Rattle.qr_bits.specs.Header.{header_bits}
 use Rattle.qr_bits.specs.Parsing.{ends, parse}
 
--- Bits are read as a content exactly if they begin with its bit stream, and then end within three bits or go on with
--- the terminator (ISO/IEC 18004:2015, 7.4.1, 7.4.9, 8.1)
+-- Bits are read as a content exactly if they begin with its bit stream, and after it have at most three bits, or the
+-- terminator and any bits (ISO/IEC 18004:2015, 7.4.1, 7.4.9, 8.1)
 abbrev pub StreamsAreParsed : Type 0
 StreamsAreParsed =
     (v : ℕ) (bits : List Bool) (h : Option Header) (segs : List Segment) (xs : List ℕ) →
@@ -41,7 +41,8 @@ DataAreThere =
     (v : ℕ) (l : Level) (xs : List ℕ) (segs : List Segment) (h : Option Header) (stream : List Bool) → IsStream v xs segs h stream →
     length stream ≤ capacity_of v l → (cw : List ℕ) × IsData v l xs segs h cw
 
--- There is at most one list of data codewords [own]
+-- Segments of given bytes, after a header if there is one, have at most one list of data codewords in a version at a
+-- level [own]
 abbrev pub DataAreOne : Type 0
 DataAreOne =
     (v : ℕ) (l : Level) (xs : List ℕ) (segs : List Segment) (h : Option Header) (cw dw : List ℕ) →
@@ -53,7 +54,8 @@ DataFillTheSymbol =
     (v : ℕ) (l : Level) (xs : List ℕ) (segs : List Segment) (h : Option Header) (cw : List ℕ) → IsData v l xs segs h cw →
     length cw ≡ data_codewords_of v l
 
--- If the bytes suit their modes and the bits fit the capacity, each character count fits its indicator [own]
+-- If the modes of segments suit their bytes, and their bits fit the capacity, each character count fits its indicator
+-- [own]
 abbrev pub CountsFitWhereBitsFit : Type 0
 CountsFitWhereBitsFit =
     (v : ℕ) (l : Level) (xs : List ℕ) (segs : List Segment) → 1 ≤ v → v ≤ 40 → Suits xs segs →
@@ -75,7 +77,7 @@ abbrev pub PiecesNeedNoMore : Type 0
 PiecesNeedNoMore =
     (v : ℕ) (r : Rule) (xs ys zs : List ℕ) (n : ℕ) → may_use r Kanji ≡ false → HasFit v r (xs ++ (ys ++ zs)) n → HasFit v r ys n
 
--- `codeword_bit` counts the bits of codewords as `bits_of` lists them (ISO/IEC 18004:2015, 7.7.3)
+-- `codeword_bit` numbers the bits of codewords in the order in which `bits_of` lists them (ISO/IEC 18004:2015, 7.7.3)
 abbrev pub BitsAreCodewordBits : Type 0
 BitsAreCodewordBits =
     (cw : List ℕ) (k : ℕ) → k < 8 * length cw → slice_index_or (bits_of cw) k false ≡ codeword_bit cw k

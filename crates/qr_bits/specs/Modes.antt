@@ -17,7 +17,7 @@ indicator Kanji = 8
 abbrev pub terminator : ℕ
 terminator = 0
 
--- The bits of a character count indicator in version `v` (ISO/IEC 18004:2015, 7.4.1, Table 3)
+-- How many bits a character count indicator has in version `v` (ISO/IEC 18004:2015, 7.4.1, Table 3)
 abbrev pub count_width : ℕ → Mode → ℕ
 count_width v Numeric = if nat_le v 9 then 10 else (if nat_le v 26 then 12 else 14)
 count_width v Alphanumeric = if nat_le v 9 then 9 else (if nat_le v 26 then 11 else 13)
@@ -57,14 +57,14 @@ is_kanji_pair high low =
     let pair = 256 * high + low in
     (nat_le 0x8140 pair && nat_le pair 0x9FFC || nat_le 0xE040 pair && nat_le pair 0xEBBF) && (nat_le 0x40 low && nat_le low 0xFC)
 
--- The bytes are even in number, and each two of them in turn pass `test` [own]
+-- The bytes are even in number, and taken two by two they all pass `test` [own]
 abbrev pub in_twos : (ℕ → ℕ → Bool) → List ℕ → Bool
 in_twos test [] = true
 in_twos test (x ∷ []) = false
 in_twos test (x ∷ y ∷ xs) = test x y && in_twos test xs
 
--- The 13 bits of a pair: 8140 is subtracted from a pair up to 9FFC, C140 from any other, and C0 times the high byte of
--- the difference is added to its low byte, all hexadecimal (ISO/IEC 18004:2015, 7.4.6)
+-- The 13 bits of a pair. 8140 is subtracted from a pair up to 9FFC, and C140 from any other; then C0 times the high
+-- byte of the difference is added to its low byte, all hexadecimal (ISO/IEC 18004:2015, 7.4.6)
 unfoldable pub kanji_value : ℕ → ℕ → ℕ
 kanji_value high low =
     let pair = 256 * high + low in
@@ -79,8 +79,8 @@ suits Byte xs = true
 suits Kanji xs = in_twos is_kanji_pair xs
 
 -- The data bits of `n` bytes: 10 for three digits, 7 or 4 for two or one at the end; 11 for two characters, 6 for one
--- at the end; 8 for a byte; 13 for a kanji pair, where a byte without its pair, which no valid assignment has, counts
--- as a whole pair (ISO/IEC 18004:2015, 7.4.3 to 7.4.6)
+-- at the end; 8 for a byte; 13 for a kanji pair. A byte without its pair, which no valid assignment has, counts as a
+-- whole pair (ISO/IEC 18004:2015, 7.4.3 to 7.4.6)
 abbrev pub payload_bits : Mode → ℕ → ℕ
 payload_bits Numeric n = 10 * (n / 3) + (if n % 3 == 0 then 0 else (if n % 3 == 1 then 4 else 7))
 payload_bits Alphanumeric n = 11 * (n / 2) + 6 * (n % 2)

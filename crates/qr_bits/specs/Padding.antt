@@ -7,7 +7,7 @@ use Rattle.qr_layout.specs.declared.level.Level.{Level}
 use Rattle.qr_layout.specs.Blocks.{data_codewords_of}
 use Rattle.qr_bits.specs.Stream.{IsStream}
 
--- The bits of all data codewords of version `v` and level `l` (ISO/IEC 18004:2015, 7.4.10, Table 7)
+-- How many bits all data codewords of version `v` and level `l` have (ISO/IEC 18004:2015, 7.4.10, Table 7)
 abbrev pub capacity_of : ℕ → Level → ℕ
 capacity_of v l = 8 * data_codewords_of v l
 
@@ -15,11 +15,12 @@ capacity_of v l = 8 * data_codewords_of v l
 abbrev pub room_of : ℕ → Level → ℕ
 room_of v l = capacity_of v l - 20
 
--- The terminator is four zero bits, or as many as are left of the capacity (ISO/IEC 18004:2015, 7.4.9)
+-- The stream and its terminator: four zero bits, or as many as the capacity leaves if these are fewer (ISO/IEC
+-- 18004:2015, 7.4.9)
 abbrev pub terminated : ℕ → List Bool → List Bool
 terminated capacity stream = stream ++ replicate (min 4 (capacity - length stream)) false
 
--- Zero bits up to the end of the last codeword (ISO/IEC 18004:2015, 7.4.10)
+-- The stream, and zero bits up to the end of its last codeword (ISO/IEC 18004:2015, 7.4.10)
 abbrev pub filled : List Bool → List Bool
 filled stream = stream ++ replicate ((8 - length stream % 8) % 8) false
 

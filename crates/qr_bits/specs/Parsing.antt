@@ -1,5 +1,5 @@
 -- How the bits of data codewords are read: as an optional header, segments and bytes, or as a fault. `bits` are those
--- that are not read yet; what reads a part of them returns it and the rest.
+-- that are not read yet, and a list of bits in a result those that are left then.
 use Rattle.std.specs.Prelude.{◌≡◌, ◌⊎◌, ℕ, zero, suc, ◌+◌, ◌*◌, ◌/◌, ◌%◌, Bool, ◌&&◌, ◌||◌, ◌==◌, nat_lt, nat_le, if◌then◌else◌, List, [], ◌∷◌, ◌++◌, length, take, drop, Result, Ok, Err, Option, Some, None}
 use Rattle.std.specs.List.{slice_index_or}
 use Rattle.qr_bits.specs.declared.modes.Mode.{Mode}
@@ -13,7 +13,7 @@ use Rattle.qr_bits.specs.Modes.{characters, count_width, indicator, byte_count, 
 use Rattle.qr_bits.specs.Header.{header_indicator}
 
 infixl 10 ◌>>=◌
--- `f` of the value, or the fault [own]
+-- `f` of the value of a result, or its fault [own]
 abbrev pub ◌>>=◌ : {A B : Type 0} → Result A ParseFault → (A → Result B ParseFault) → Result B ParseFault
 (Ok x) >>= f = f x
 (Err e) >>= f = Err e
@@ -22,7 +22,7 @@ abbrev pub ◌>>=◌ : {A B : Type 0} → Result A ParseFault → (A → Result 
 abbrev pub IsResultOf : {A : Type 0} → Result A ParseFault → Result A ParseFault → Type 0
 IsResultOf r read = (r ≡ Err Memory) ⊎ (read ≡ r)
 
--- The last decimal digit, in ASCII (ISO/IEC 18004:2015, 7.4.3)
+-- The last decimal digit of `n`, in ASCII (ISO/IEC 18004:2015, 7.4.3)
 abbrev pub digit : ℕ → ℕ
 digit n = 48 + n % 10
 
@@ -60,8 +60,8 @@ unfoldable pub bytes_of : ℕ → List Bool → List ℕ
 bytes_of zero bits = []
 bytes_of (suc n) bits = value (take 8 bits) ∷ bytes_of n (drop 8 bits)
 
--- The pair of a value, as a number of 16 bits: the value divided by C0 gives the high byte, and the remainder the low
--- byte, of a number to which 8140 is added if that byte is at most 1E, and C140 otherwise, all hexadecimal (ISO/IEC
+-- The pair of a value, as a number of 16 bits. The value divided by C0 is the high byte of a number, and the remainder
+-- its low byte. To this number 8140 is added if the high byte is at most 1E, and else C140, all hexadecimal (ISO/IEC
 -- 18004:2015, 7.4.6)
 unfoldable pub kanji_pair : ℕ → ℕ
 kanji_pair n =
@@ -120,8 +120,8 @@ segments_at zero v bits = Ok ([], [])
 segments_at (suc n) v bits =
     if ends bits then Ok ([], []) else (segment_at v bits >>= λ s. segments_at n v s.2 >>= λ r. Ok (s.0 ∷ r.0, s.1 ++ r.1))
 
--- All segments up to the end, of which there are fewer than bits, as each takes four at least (ISO/IEC 18004:2015,
--- 7.4.1, 7.4.9)
+-- All segments up to the end, at most as many as there are bits, since each takes at least four of them (ISO/IEC
+-- 18004:2015, 7.4.1, 7.4.9)
 unfoldable pub segments_of : ℕ → List Bool → Result (List Segment × List ℕ) ParseFault
 segments_of v bits = segments_at (length bits) v bits
 

@@ -64,9 +64,9 @@ IsLeastSegmentation v r xs segs = (ms : List Mode) × IsBestAssignment v r xs ms
 abbrev pub HasFit : ℕ → Rule → List ℕ → ℕ → Type 0
 HasFit v r xs n = (ms : List Mode) × IsAssignment r xs ms × (bits v (runs_of ms) ≤ n)
 
--- The least that a byte takes in any mode, in sixths of a bit: 20 for a digit (three take 10 bits), 33 for another byte
--- up to `Z` (two characters take 11), 39 for one above, which only byte and kanji mode write (ISO/IEC 18004:2015, 7.4.3
--- to 7.4.6)
+-- A lower bound on what a byte takes in any mode, in sixths of a bit. It is 20 for a digit (three take 10 bits), and 33
+-- for another byte up to `Z` (two characters take 11). For a byte above, which only byte and kanji mode write, it is 39
+-- (ISO/IEC 18004:2015, 7.4.3 to 7.4.6)
 abbrev pub least_sixths : ℕ → ℕ
 least_sixths b = if is_digit b then 20 else (if nat_le b 90 then 33 else 39)
 

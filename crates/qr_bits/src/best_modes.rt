@@ -1,10 +1,11 @@
-//! The best mode of each byte, by a table that is filled from the last byte to the first. How many bits a byte and all
-//! later ones take depends only on their modes and on the state before that byte (`RunState`). So the row of a byte has
-//! the best mode for each state: the one with the least sum of the bits that the byte adds and the fewest that the
-//! later ones can add.
+//! The best mode of each byte, by a table that is filled from the last byte to the first. In a given version, how many
+//! bits a byte and all later ones take depends only on their modes and on the state before that byte (`RunState`). So
+//! the row of a byte has the best mode for each state. With it, the bits that the byte adds and the fewest that the
+//! later ones can then add have the least sum.
 //!
-//! A choice is a number, 4 times the bits of the byte and all later ones plus the rank of the mode, so that the
-//! smallest has the fewest bits and then the lowest rank. A row has two bits for each state, the rank of its best mode.
+//! A choice is a number, 4 times the bits of the byte and all later ones plus the rank of the mode. So the smallest has
+//! the fewest bits, and the lowest rank among choices of as many. A row has two bits for each state, the rank of its
+//! best mode.
 
 ghost use Rattle.std.specs.Prelude.{◌≡◌, ◌+◌, ◌*◌, ◌/◌, ◌%◌, ◌<◌, ◌≤◌, ℕ, Bool, true, false, length, reverse, IfOk, vec_len};
 ghost use Rattle.qr_bits.specs.declared.modes.Mode.{Mode};
@@ -20,7 +21,7 @@ use crate::run_state::{FirstChoices, NO_BITS, PerState, RunState, number};
 use qr_layout::Version;
 use std::alloc::{AllocError, Global};
 
-// A choice that is not allowed, greater than any other.
+// Stands for a choice that is not allowed, and is greater than every other.
 const NO_CHOICE: u32 = u32::MAX;
 
 #[inline(always)]
@@ -61,7 +62,6 @@ fn choice_if(may: bool, first: u32, rest: u32) -> u32
     if may { first + rest / 4 * 4 } else { NO_CHOICE }
 }
 
-// A row has the modes of the choices, without their bits.
 #[inline(always)]
 fn row_for(numbers: &PerState<u32>) -> u32
     ensures { (p : RunState) → mode_at result p ≡ ranked (in_state numbers.now p % 4) }
@@ -73,8 +73,9 @@ fn row_for(numbers: &PerState<u32>) -> u32
     numbers.start % 4 + 4 * last
 }
 
-// The row of a byte, and its best choices. `digit` and `character` are true if the byte may be written in these modes,
-// `pair` if it may begin a kanji pair, and `rest` are the best choices of the later bytes.
+// The row of a byte, and its best choice for each state before it. `digit` says that the byte may be written in numeric
+// mode, `character` in alphanumeric mode, and `pair` that it may begin a kanji pair. `rest` has the best choices of the
+// later bytes.
 #[inline(always)]
 fn choices(
     first_choices: &FirstChoices,
@@ -96,9 +97,9 @@ fn choices(
     let no_digits = characters.min(others);
     let no_characters = digits.min(others);
     let start = digits.min(no_digits);
-    // After a whole group (`Digit3`, `Character2`, `InBytes`, `WholePair`) it is never better to begin a segment of the
-    // same mode than to go on, and both lead to the same state. So `start`, the best of all that begin a segment,
-    // serves for all other modes there.
+    // After a whole group (`Digit3`, `Character2`, `InBytes`, `WholePair`) a segment of the same mode takes more bits
+    // to begin than to continue, and both lead to the same state. So there `start`, the best of all choices that begin
+    // a segment, can stand for those of the other modes.
     let digit2 = choice_if(digit, number(3, Mode::Numeric), rest.digit2);
     let digit3 = choice_if(digit, number(3, Mode::Numeric), rest.digit3);
     let digit1 = choice_if(digit, number(4, Mode::Numeric), rest.digit1);
@@ -122,7 +123,7 @@ fn choices(
     (row_for(&numbers), numbers)
 }
 
-/// As `choices`, for a byte whose modes `rule` decides.
+/// As `choices`, but `rule` and `byte` decide whether numeric and alphanumeric mode are allowed.
 #[tactic(auto, unfolding(crate::specs::Steps::RunState::may_begin))]
 #[inline(always)]
 pub(crate) fn best_choices(
@@ -135,7 +136,8 @@ pub(crate) fn best_choices(
     requires { IsSmall rest.now }
     ensures { IsRow first_choices.now.version rule byte pair rest.now result.0 result.1 }
 {
-    // Constants as flags let the compiler leave cases out. What may be a digit may be a character.
+    // Where the flags are constants, the compiler can leave out cases of the inlined `choices`. Each digit is also a
+    // character of alphanumeric mode.
     if pair {
         let digit = may_begin(rule, byte, Mode::Numeric);
         let character = may_begin(rule, byte, Mode::Alphanumeric);
@@ -160,7 +162,7 @@ pub(crate) fn begins_with_pair(rule: Rule, bytes: &[u8]) -> bool
     }
 }
 
-/// Returns the table, a row for each byte of `input`, the last first.
+/// Returns the table: a row for each byte of `input`, that of the last byte first.
 pub(crate) fn best_modes(
     alloc: Global,
     input: &[u8],
@@ -183,7 +185,7 @@ pub(crate) fn best_modes(
     Ok(table)
 }
 
-// The lower of the two bits of a state in a row.
+// The index of the lower of a state's two bits in a row.
 #[inline(always)]
 fn shift_of(state: RunState) -> u32
     ensures value { result ≡ shift_of state }

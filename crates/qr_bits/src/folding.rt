@@ -7,8 +7,8 @@ use crate::best_modes::begins_with_pair;
 use crate::modes::Rule;
 use std::alloc::{AllocError, Global};
 
-/// Returns `input` with the letters `a` to `z` as capitals; as many bytes as it has. Under `Rule::WithKanji` kanji
-/// pairs, found from the left, stay as they are, and under `Rule::BytesOnly` all bytes.
+/// Returns `input` with the letters `a` to `z` as capitals; the number of bytes stays the same. Under `Rule::WithKanji`
+/// kanji pairs, found from the left, stay as they are, and under `Rule::BytesOnly` all bytes do.
 ///
 /// # Errors
 ///

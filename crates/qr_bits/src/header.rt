@@ -1,4 +1,5 @@
-//! The structured append header: the position of a symbol in its series (ISO/IEC 18004:2015, 8).
+//! The structured append header: the position of a symbol in its series, the number of symbols, and the parity data
+//! (ISO/IEC 18004:2015, 8).
 
 ghost use Rattle.std.specs.Prelude.{◌≡◌};
 ghost use Rattle.qr_bits.specs.Header.{header_bits, parity_of};

@@ -102,7 +102,7 @@ pub fn widths_compute()
         ≡ 8 ∷ 8 ∷ 10 ∷ 10 ∷ 12 ∷ 12 ∷ [] }
 {}
 
-/// Data bits of `01234567`, `AC-42` (7.4.3, 7.4.4) and `0123`, and the last nine values of Table 5.
+/// Data bits of `01234567`, `AC-42` (7.4.3, 7.4.4) and `0123`, and the values of the last nine characters of Table 5.
 #[tactic(auto, unfolding(crate::specs::Modes::characters, crate::specs::Stream::digit_bits, crate::specs::Modes::character_value, crate::specs::Stream::character_bits, crate::specs::Bits::field))]
 pub fn payloads_compute()
     ensures digits { digit_bits (codes "01234567") ≡ field 10 12 ++ (field 10 345 ++ field 7 67) }
@@ -113,8 +113,8 @@ pub fn payloads_compute()
         ≡ 36 ∷ 37 ∷ 38 ∷ 39 ∷ 40 ∷ 41 ∷ 42 ∷ 43 ∷ 44 ∷ [] }
 {}
 
-/// Data codewords in version 1 of digits, of characters, of kanji pairs, and of the second of three symbols (7.4.1 to
-/// 7.4.10, 8.1).
+/// Data codewords in version 1: for digits, for characters, for kanji pairs, and in the second of three symbols (7.4.1
+/// to 7.4.10, 8.1).
 #[tactic(auto, unfolding(crate::specs::Modes::characters, crate::specs::Modes::character_value, crate::specs::Modes::kanji_value, crate::specs::Stream::digit_bits, crate::specs::Stream::character_bits, crate::specs::Stream::kanji_bits, crate::specs::Stream::payload, crate::specs::Stream::segment_stream, crate::specs::Stream::segments_stream, crate::specs::Header::header_stream, crate::specs::Padding::padded, crate::specs::Padding::pads, crate::specs::Bits::field, crate::specs::Bits::bits_of))]
 pub fn streams_compute()
     ensures digits { padded 16 (segments_stream 1 (codes "01234567") (one Numeric 8)) ≡ bits_of eight_digits }
@@ -131,7 +131,7 @@ pub fn parses_compute()
     ensures faults { map (λ row. parse 1 (bits_of row.0)) unreadable ≡ map (λ row. Err row.1) unreadable }
 {}
 
-/// A header takes room from segments (8.1).
+/// The room that a header leaves is the capacity less the bits of the header (8.1).
 pub fn headers_take_room()
     ensures { (v : ℕ) (l : Level) (h : Header) → room_of v l ≡ capacity_of v l - header_bits (Some h) }
 {}
@@ -150,8 +150,8 @@ pub fn rules_compute()
     ensures kanji { map (may_use Rule.WithKanji) all_modes ≡ true ∷ true ∷ true ∷ true ∷ [] }
 {}
 
-/// Folding at both ends of the alphabet, under each rule; a kanji pair stays though its second byte is a small letter,
-/// and so does a last byte that could begin a pair.
+/// Folding at both ends of the alphabet, under `Auto` and `BytesOnly`. Under `WithKanji` a kanji pair stays though its
+/// second byte is a small letter, and so does a last byte that could begin a pair.
 #[tactic(auto, unfolding(crate::specs::Folding::folded_around_pairs, crate::specs::Modes::is_kanji_pair))]
 pub fn foldings_compute()
     ensures auto { folded Rule.Auto (codes "@AZ[`az{") ≡ codes "@AZ[`AZ{" }
@@ -160,7 +160,8 @@ pub fn foldings_compute()
         ≡ 0x41 ∷ 0x93 ∷ 0x61 ∷ 0x41 ∷ 0x93 ∷ [] }
 {}
 
-/// The lower bound of five inputs, with the bytes at each limit between its three kinds.
+/// The lower bound on the bits of five inputs, among them the bytes on both sides of each limit: of the digits, and of
+/// `Z`.
 #[tactic(auto, unfolding(crate::specs::Segmentation::least_bits))]
 pub fn least_bits_compute()
     ensures { map least_bits (codes "012" ∷ codes "/9:" ∷ codes "AZ" ∷ codes "[z" ∷ codes "1A[" ∷ [])
@@ -185,8 +186,8 @@ pub fn parse_fault_numbers(fault: ParseFault) -> u8
     fault as u8
 }
 
-/// Values of the two pairs that the standard encodes and of the greatest pair, there and back (7.4.6), and pairs of
-/// bytes on both sides of each limit.
+/// The values of the two kanji pairs that the standard encodes and of the greatest pair, and the pairs of these values
+/// (7.4.6). Which pairs of bytes, on both sides of each limit, are kanji pairs.
 #[tactic(auto, unfolding(crate::specs::Modes::is_kanji_pair, crate::specs::Modes::kanji_value, crate::specs::Parsing::kanji_pair))]
 pub fn kanji_compute()
     ensures first { kanji_value 0x93 0x5F ≡ 0xD9F }

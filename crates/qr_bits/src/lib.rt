@@ -1,4 +1,4 @@
-//! Segments of an input, the data codewords that contain them, and the way back.
+//! Segments of an input, the data codewords that contain them, and the parsing of data codewords.
 #![tactic(auto)]
 
 mod best_modes;

@@ -16,7 +16,6 @@ use crate::run_state::{FirstChoices, NO_BITS};
 use qr_layout::{Level, Version};
 use std::alloc::Global;
 
-// As `begins_with_pair`, but at the end of `bytes`.
 fn ends_with_pair(rule: Rule, bytes: &[u8]) -> bool
     ensures { result ≡ begins_with_pair rule (swapped is_kanji_pair) (reverse bytes.now) }
 {
@@ -37,9 +36,9 @@ fn bytes_in(room: u64, version: Version) -> usize
     ((room - head) / 8) as usize
 }
 
-// The rows of `best_choices` add a byte in front of those that are counted, so prefixes are counted backwards, which
-// takes as many bits; the second byte of a kanji pair then comes first. After the turn of `input[i]`, `rest.start / 4`
-// is the least number of bits of the prefix that ends with it.
+// `best_choices` adds a byte in front of the later ones. So each prefix is taken in reverse, which needs as many bits;
+// the second byte of a kanji pair then comes first. After the turn of `input[i]`, `rest.start / 4` is the least number
+// of bits of the prefix that ends with it.
 fn longest_by_rows(input: &[u8], version: Version, rule: Rule, room: u64) -> usize
     requires { length input.now ≤ INPUT_MAX }
     ensures { IsLongestFit version rule input.now room result }
@@ -58,8 +57,8 @@ fn longest_by_rows(input: &[u8], version: Version, rule: Rule, room: u64) -> usi
     longest
 }
 
-/// Returns the length in bytes of the longest prefix of `input` that fits a symbol of this version and level together
-/// with a structured append header, in modes that `rule` allows.
+/// Returns the length in bytes of the longest prefix of `input` that fits a symbol of this version and level with a
+/// structured append header, in modes that `rule` allows.
 ///
 /// With kanji mode a prefix may fit though a shorter one does not, since half a kanji pair may take more bits than the
 /// pair.

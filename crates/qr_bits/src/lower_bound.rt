@@ -7,7 +7,7 @@ ghost use Rattle.qr_bits.specs.Segmentation.{HasFit, least_bits, least_sixths};
 
 use crate::modes::INPUT_MAX;
 
-// At most what a byte takes in any mode, in sixths of a bit.
+// A lower bound on what a byte takes in any mode, in sixths of a bit.
 fn least_sixths(byte: u8) -> u32
     ensures value { result ≡ least_sixths byte }
     ensures most { result ≤ 39 }
@@ -22,7 +22,7 @@ fn least_sixths(byte: u8) -> u32
 }
 
 /// Returns a lower bound on the bits that `input` takes, without indicators: 10/3 for each digit, 11/2 for any other
-/// byte up to `Z`, 13/2 for each byte above, rounded down in all (ISO/IEC 18004:2015, 7.4.3 to 7.4.6).
+/// byte up to `Z`, 13/2 for each byte above. Only their sum is rounded down (ISO/IEC 18004:2015, 7.4.3 to 7.4.6).
 pub fn least_bits(input: &[u8]) -> u32
     requires { length input.now ≤ INPUT_MAX }
     ensures value { result ≡ least_bits input.now }

@@ -9,8 +9,8 @@ ghost use Rattle.qr_bits.specs.Parsing.{character, mode_of};
 use crate::fault::ParseFault;
 use qr_layout::Version;
 
-/// The greatest length of an input, in bytes: one more than 16 symbols of at most 7,089 bytes can contain, so that no
-/// series has room for an input of this length.
+/// The greatest length of an input, in bytes: one more than 16 symbols of at most 7,089 bytes can contain. So no series
+/// has room for an input of this length.
 pub const INPUT_MAX: usize = 113_425;
 
 /// How the bytes of a segment are written (7.3.3 to 7.3.6).
@@ -72,7 +72,7 @@ pub(crate) fn mode_of(indicator: u16) -> Result<Mode, ParseFault>
     }
 }
 
-// The bits of a character count indicator (7.4.1, Table 3).
+// How many bits a character count indicator has (7.4.1, Table 3).
 pub(crate) fn count_width(version: Version, mode: Mode) -> u8
     ensures value { result ≡ count_width version mode }
     ensures most { result ≤ 16 }
@@ -90,7 +90,7 @@ pub(crate) fn count_width(version: Version, mode: Mode) -> u8
     }
 }
 
-// In kanji mode, two bytes are one character (7.4.1).
+// (7.4.1)
 pub(crate) fn character_count(mode: Mode, len: usize) -> usize
     ensures { result ≡ character_count mode len }
 {

@@ -1,4 +1,4 @@
-//! Data codewords: the bit stream of segments, a terminator and padding (ISO/IEC 18004:2015, 7.4.9, 7.4.10).
+//! Data codewords: the bit stream, a terminator and padding (ISO/IEC 18004:2015, 7.4.9, 7.4.10).
 
 ghost use Rattle.std.specs.Prelude.{All, Err, IfOk, OnOk, length, vec_len, ◌++◌, ◌+◌, ◌-◌, ◌<◌, ◌↔◌, ◌≡◌, ◌≤◌};
 ghost use Rattle.qr_bits.specs.Segmentation.{Covers, bits};
@@ -15,7 +15,7 @@ use crate::stream::{put_header, put_segments};
 use qr_layout::{Level, Version};
 use std::alloc::{AllocError, Global};
 
-// A whole terminator (7.4.9).
+// The terminator has fewer bits where less of the capacity is left (7.4.9).
 const TERMINATOR_BITS: u64 = 4;
 
 pub(crate) fn capacity(version: Version, level: Level) -> u64
@@ -30,8 +30,8 @@ pub(crate) fn capacity(version: Version, level: Level) -> u64
 }
 
 /// Returns the data codewords of this version and level that contain `input` in the segments `segs`, after the header
-/// if there is one: the bit stream, a terminator, zeros up to the end of a codeword, and pad codewords, as far as there
-/// is room (7.4.9, 7.4.10).
+/// if there is one. They are the bit stream and then, as far as the capacity allows, a terminator, zeros up to the end
+/// of a codeword, and pad codewords (7.4.9, 7.4.10).
 ///
 /// # Errors
 ///

@@ -16,7 +16,8 @@ use qr_layout::Version;
 use std::alloc::Global;
 use std::marker::Model;
 
-// The number that is written for a group of digits or characters is below these (7.4.3, 7.4.4).
+// The number that is written for three, two or one digits, or for two or one characters, is below its limit (7.4.3,
+// 7.4.4).
 const THREE_DIGITS: u16 = 1000;
 
 const TWO_DIGITS: u16 = 100;
@@ -27,7 +28,7 @@ const PAIRS: u16 = 2025;
 
 const SINGLES: u16 = 45;
 
-// The most that the value of a kanji pair leaves after division by 0xC0 (7.4.6).
+// The greatest remainder that a division of a kanji pair's value by 0xC0 leaves (7.4.6).
 const LOW_MAX: u16 = 0xBC;
 
 /// What data codewords contain.
@@ -55,9 +56,10 @@ impl Model for Parsed {
 ///
 /// # Errors
 ///
-/// Returns the fault that comes first: `BadMode` for an indicator of none of the four modes, or of a header after the
-/// beginning; `Cut` for an end within a header, a count or data; `BadValue` for a number that is too large, or that no
-/// kanji pair has; `Memory` if memory is refused.
+/// Returns the fault of the first header or segment that has one. `BadMode` stands for an indicator of none of the four
+/// modes, or of a header after the beginning. `Cut` stands for an end within a header, a count or data. `BadValue`
+/// stands for a number that is too large for its digits or characters, or a value that no kanji pair has, in data that
+/// are not cut. Returns `Memory` if memory is refused.
 #[tactic(auto, unfolding(crate::specs::Parsing::parse))]
 pub fn parse(alloc: Global, codewords: &[u8], version: Version) -> Result<Parsed, ParseFault>
     requires { length codewords.now ≤ 3706 }
@@ -288,7 +290,7 @@ fn kanji(reader: &mut BitReader, count: usize, out: &mut Vec<u8>) -> Result<(), 
     Ok(())
 }
 
-// The pair of a value, its first byte high (7.4.6).
+// The kanji pair of a value, with its first byte as the high one (7.4.6).
 #[tactic(auto, unfolding(crate::specs::Parsing::kanji_pair))]
 fn kanji_pair(value: u16) -> u16
     requires { value < 8192 }

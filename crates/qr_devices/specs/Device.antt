@@ -1,5 +1,5 @@
 -- What each read, write or flush adds to the counts `c` of a device, and which counts show a fault. `returned` is the
--- result of the call. Of the interrupted calls (EINTR), 999 are tried again.
+-- result of the call. At most 999 interrupted calls (EINTR) are tried again for each input or text.
 use Rattle.std.specs.Prelude.{◌≡◌, ◌+◌, ◌-◌, ◌^◌, ◌≤◌, ◌++◌, ◌==◌, ◌||◌, ◌&&◌, ℕ, Bool, false, nat_lt, nat_le, min, max, List, Option, Result, Ok, Err, is_ok, if◌then◌else◌}
 use Rattle.std.specs.Io.KnownBytes.{Appends}
 use Rattle.qr_devices.specs.declared.device.TheConstants.{INTERRUPTIONS_MAX}
@@ -16,15 +16,15 @@ counted n = min n (2 ^ 64 - 1)
 abbrev pub no_reads : ReadCounts
 no_reads = record { calls = 0; failed = 0; interrupted = 0; given = 0; ends = 0; past_end = 0 }
 
--- What a read into a buffer of `room` bytes adds by its result: its bytes, or an end if it returned none though there
--- was room [own]
+-- What a read into a buffer of `room` bytes adds by its result: its bytes, an end if it returned none though there was
+-- room, an interruption or a failure [own]
 abbrev pub read_returned : ℕ → Result ℕ Trouble → ReadCounts → ReadCounts
 read_returned room (Ok n) c =
     record c { given = counted (c.given + n); ends = if n == 0 && nat_lt 0 room then counted (c.ends + 1) else c.ends }
 read_returned room (Err Interrupted) c = record c { interrupted = counted (c.interrupted + 1) }
 read_returned room (Err Failed) c = record c { failed = counted (c.failed + 1) }
 
--- As `read_returned`, with the call counted too, and as one past the end if an earlier read reached it [own]
+-- As `read_returned`, with the call counted too, also as one past the end if an earlier read reached the end [own]
 abbrev pub read_counted : ℕ → Result ℕ Trouble → ReadCounts → ReadCounts
 read_counted room returned c = read_returned room returned (record c {
   calls = counted (c.calls + 1);
@@ -44,15 +44,15 @@ no_writes = record {
   settled = false;
 }
 
--- What a write that offered `len` bytes adds by its result: the accepted bytes, or a zero if bytes were offered but
--- none was accepted [own]
+-- What a write that offered `len` bytes adds by its result: the accepted bytes, a zero if bytes were offered but none
+-- was accepted, an interruption or a failure [own]
 abbrev pub write_returned : ℕ → Result ℕ Trouble → WriteCounts → WriteCounts
 write_returned len (Ok n) c =
     record c { taken = counted (c.taken + n); zeros = if n == 0 && nat_lt 0 len then counted (c.zeros + 1) else c.zeros }
 write_returned len (Err Interrupted) c = record c { interrupted = counted (c.interrupted + 1) }
 write_returned len (Err Failed) c = record c { failed = counted (c.failed + 1) }
 
--- As `write_returned`, with the call counted too; after a write the device is not settled [own]
+-- As `write_returned`, with the call and the longest offer counted too; after a write the device is not settled [own]
 abbrev pub write_counted : ℕ → Result ℕ Trouble → WriteCounts → WriteCounts
 write_counted len returned c =
     write_returned len returned (record c { calls = counted (c.calls + 1); offered = max c.offered len; settled = false })
@@ -66,7 +66,7 @@ flush_counted returned c = record c {
   settled = is_ok returned;
 }
 
--- A prefix of a list [own]
+-- The list `whole` begins with `prefix`, and may end with it [own]
 abbrev pub IsBeginning : List ℕ → List ℕ → Type 0
 IsBeginning prefix whole = (rest : List ℕ) × (prefix ++ rest ≡ whole)
 

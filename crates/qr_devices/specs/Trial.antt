@@ -9,17 +9,18 @@ use Rattle.qr_devices.specs.declared.trial.Trial.{Trial}
 abbrev pub bytes_left : Trial → List ℕ
 bytes_left t = drop t.position t.bytes.items
 
--- All its bytes, read or not [own]
+-- All its bytes: of a reader, read or not; of a writer, those that it accepted [own]
 abbrev pub bytes_held : Trial → List ℕ
 bytes_held t = t.bytes.items
 
--- What comes of call number `call` with the faults `m`, if at most `there` bytes can be moved: an interruption before a
--- failure, and otherwise at most `at_most` bytes, which counts as 1 if it is 0 [own]
+-- What read or write number `call` returns with the faults `m`, if at most `there` bytes can be moved. Interruptions
+-- come before failures; otherwise it is as many bytes as `there` and `at_most` allow, and an `at_most` of 0 counts as 1
+-- [own]
 abbrev pub moved : Faults → ℕ → ℕ → Result ℕ Trouble
 moved m call there =
     if nat_lt call m.interruptions then Err Interrupted else
     (if nat_le m.fails_from call then Err Failed else Ok (min there (max m.at_most 1)))
 
--- How many bytes it has still room for: none from write or flush number `stops_from` on [own]
+-- How many bytes the device still has room for: none from write or flush number `stops_from` on [own]
 abbrev pub free_of : Trial → ℕ
 free_of t = if nat_lt t.writes.calls t.faults.stops_from then t.room - length t.bytes.items else 0

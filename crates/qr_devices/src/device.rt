@@ -142,8 +142,8 @@ pub trait Source {
     // What contracts see of the device.
     ghost device: { Self → Reader };
 
-    /// Reads at most as many bytes as `buf` has room for, to its beginning, and returns how many. Returns 0 only at the
-    /// end of the input, or if `buf` is empty.
+    /// Reads at most as many bytes as `buf` has room for, into the beginning of `buf`, and returns how many. Returns 0
+    /// only at the end of the input, or if `buf` is empty.
     fn read(&mut self, buf: &mut [u8]) -> Result<usize, Trouble>
         ensures bound { IfOk result (λ n. n ≤ length buf.new) }
         ensures bytes { ReadConsumes (device self.old).remaining (device self.new).remaining result buf.new }

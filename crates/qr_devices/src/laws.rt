@@ -1,4 +1,4 @@
-//! Laws of devices and of their counts. A function with an empty body does nothing: its contract is the law.
+//! Laws of devices and of their counts. The contract of a function with an empty body is the law.
 
 ghost use Rattle.std.specs.Prelude.{◌≡◌, ◌-◌, ◌^◌, false, Ok, Err, ◌↔◌, IsTrue, IfOk};
 ghost use Rattle.qr_devices.specs.Device.{no_reads, no_writes, read_counted, write_counted, flush_counted};
@@ -29,7 +29,7 @@ pub fn interruptions_are_limited()
     ensures { INTERRUPTIONS_MAX ≡ 999 }
 {}
 
-/// Examples of counts, worked out by hand.
+/// Examples of counts, and of what a trial device returns, worked out by hand.
 pub fn counts_compute()
     ensures ends { (read_counted 4 (Ok 0) no_reads).ends ≡ 1 × (read_counted 0 (Ok 0) no_reads).ends ≡ 0 }
     ensures past { (read_counted 4 (Ok 3) (read_counted 4 (Ok 0) no_reads)).past_end ≡ 1 }

@@ -32,9 +32,9 @@ impl Faults {
     };
 }
 
-/// Bytes in memory that are read, or room for bytes that are written. A read or write moves as many bytes as its
-/// `Faults`, the buffer, and the rest of the bytes or room allow, and goes wrong exactly where the `Faults` say so. A
-/// write to a full device returns 0.
+/// Bytes in memory that are read, or room for bytes that are written. A read or write moves as many bytes as the
+/// `Faults`, the buffer, and the bytes or the room that are left allow. It goes wrong exactly where the `Faults` say
+/// so. A write to a full device returns 0.
 #[derive(Drop)]
 pub struct Trial {
     bytes: Vec<u8>,
@@ -76,7 +76,7 @@ impl Trial {
     ///
     /// # Errors
     ///
-    /// Returns an error if memory for all of them is refused, which is taken at once.
+    /// Returns an error if memory for `room` bytes, which is taken at once, is refused.
     pub fn writer(alloc: Global, room: usize, faults: Faults) -> Result<Trial, AllocError>
         ensures held { IfOk result (λ t. bytes_held t ≡ []) }
         ensures unwritten { IfOk result (λ t. t.writes ≡ no_writes) }

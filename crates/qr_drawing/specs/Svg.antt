@@ -1,6 +1,6 @@
 -- The SVG document of symbols, drawn one below the other. `y` and `x` are a row and a column of the raster of the
--- square `g` with the margin `margin`, but in `box_path` of the document, and `top` is the number of rows of the
--- document above this raster.
+-- square `g` with the margin `margin`; `top` is the number of rows of the document above this raster. In `box_path`,
+-- `y` and `x` are a row and a column of the document.
 use Rattle.std.specs.Prelude.{ℕ, ◌+◌, ◌-◌, ◌*◌, ◌==◌, Bool, not, ◌&&◌, ◌||◌, if◌then◌else◌, List, [], ◌++◌, length, slice_index_or, codes, decimal}
 use Rattle.std.specs.List.{prefix_len, range_with_len}
 use Rattle.qr_matrix.specs.Grid.{Grid, light}
@@ -18,8 +18,8 @@ begins_run margin g y x = is_dark_at margin g y x && (x == 0 || not (is_dark_at 
 unfoldable pub run_length : ℕ → Grid → ℕ → ℕ → ℕ
 run_length margin g y x = prefix_len (is_dark_at margin g y) (range_with_len x (raster_width margin g - x))
 
--- The box around a run of `modules` dark modules, as commands of an SVG path: from the upper left corner, in row `y`
--- and column `x` of the document, it goes right, down by one module, left, and is closed [own]
+-- A box as commands of an SVG path: from row `y` and column `x` of the document it goes right by `modules` modules,
+-- down by one, left, and is closed [own]
 unfoldable pub box_path : ℕ → ℕ → ℕ → List ℕ
 box_path x y modules =
     numbered (codes "M") x ++ numbered (codes " ") y ++ numbered (codes "h") modules ++ numbered (codes "v1h-") modules

@@ -13,7 +13,7 @@ use crate::text::{TextStyle, put_texts};
 use qr_devices::Sink;
 use qr_symbol::{Matrix, Symbol};
 
-/// The types of drawing.
+/// How symbols are drawn: as a text or as an SVG document.
 #[derive(Clone, Copy, Debug, PartialEq, Eq)]
 pub enum Drawing {
     /// Text with two `#` for a dark module, and two spaces for a light one.
@@ -78,7 +78,7 @@ pub(crate) fn is_dark_at(matrix: &Matrix, margin: u8, y: u16, x: u16) -> bool
     matrix.dark((y - first) as u8, (x - first) as u8)
 }
 
-// Writes the drawing through `pen`, which may keep its last bytes.
+// Writes the drawing through `pen`, which may still contain its last bytes afterwards.
 fn put_drawing<S: HasSquare, W: Sink>(
     pen: &mut Pen,
     out: &mut W,
@@ -101,7 +101,7 @@ fn put_drawing<S: HasSquare, W: Sink>(
 }
 
 /// Draws 1 to 16 symbols or other squares, all of the same side, each with a light margin of `margin` modules (ISO/IEC
-/// 18004:2015, 6.3.8): as texts one after the other, or in one SVG document, one below the other.
+/// 18004:2015, 6.3.8). Texts follow one after the other; in the one SVG document the squares are below one another.
 ///
 /// The drawing depends only on its type and on the squares with their margins.
 ///
@@ -110,7 +110,8 @@ fn put_drawing<S: HasSquare, W: Sink>(
 ///
 /// # Errors
 ///
-/// `Write`, only if the writer fails; it has then accepted a prefix of the drawing.
+/// `Write`, only if a write fails or accepts no byte, or if 1,000 are interrupted; `out` has then accepted a prefix of
+/// the drawing.
 pub fn draw<S: HasSquare, W: Sink>(
     symbols: &[S],
     kind: Drawing,

@@ -13,18 +13,19 @@ use crate::drawing::Drawing;
 use crate::pen::DrawFault;
 use std::alloc::AllocError;
 
-/// The characters of modules are those of `CharactersOfModules`. In the style `Plain` two characters show one module;
+/// `CharactersOfModules` lists the characters that show modules. In the style `Plain` two characters show one module;
 /// in the style `HalfBlocks` one shows two, one above the other, so that 29 rows of modules need 15 lines.
 pub fn characters_of_modules()
     ensures { CharactersOfModules }
 {}
 
-/// One write offers at most 1,200 bytes to the writer.
+/// `WRITE_MAX`, the greatest number of bytes that one write offers, is 1,200.
 pub fn pieces_are_limited()
     ensures { WRITE_MAX ≡ 1200 }
 {}
 
 /// Drawings of squares of two by two modules, of which only the first row is dark, with a margin of one module or none.
+/// The last clause lists the parts of an SVG document of two equal squares of any size.
 #[tactic(auto, unfolding(crate::specs::Raster::texts_below, crate::specs::Raster::is_dark_at, crate::specs::Svg::begins_run, crate::specs::Svg::run_length, crate::specs::Svg::run_path, crate::specs::Svg::row_path, crate::specs::Svg::symbol_path, crate::specs::Svg::stack_path, crate::specs::Svg::declaration, crate::specs::Svg::foreground, crate::specs::Svg::closing, crate::specs::Svg::svg_document, qr_matrix::specs::Grid::rows_of, qr_matrix::specs::Grid::colour))]
 pub fn drawings_compute()
     ensures ascii { drawn Ascii 1 (square 2 (λ r c. r == 0) ∷ []) ≡ codes "        \n  ####  \n        \n        \n" }

@@ -21,7 +21,7 @@ pub enum DrawFault {
     Write = 1,
 }
 
-/// The bytes of `piece` are not written yet, and `interrupted` writes were interrupted so far.
+/// The bytes of `piece` are not written yet, and `interrupted` is how many writes were interrupted so far.
 #[derive(Drop)]
 pub(crate) struct Pen {
     pub(crate) piece: ArrayVec<u8, 1200>,
@@ -118,7 +118,8 @@ impl Pen {
 ///
 /// # Errors
 ///
-/// `Write`, only if the writer fails; it has then accepted a prefix of `text`.
+/// `Write`, only if a write fails or accepts no byte, or if 1,000 are interrupted; `out` has then accepted a prefix of
+/// `text`.
 pub fn write_text<W: Sink>(text: &[u8], out: &mut W) -> Result<(), DrawFault>
     ensures ok { OnOk result (Appends (W.device out.old).taken (W.device out.new).taken text.now) }
     ensures err { OnErr result (AppendsBeginning (W.device out.old).taken (W.device out.new).taken text.now) }

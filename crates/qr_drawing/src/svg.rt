@@ -24,8 +24,8 @@ const HEAD_MAX: usize = 300;
 // The number of bytes after the last box.
 const TAIL: usize = 11;
 
-// The path's numbers are appended digit by digit, since the crate `itoa` would need 36 % more instructions to draw the
-// largest symbol.
+// The path's numbers are appended digit by digit: with the crate `itoa`, the largest symbol would take 36 % more
+// instructions to draw.
 fn push_digit(text: &mut ArrayVec<u8, 1200>, digit: u16)
     requires digit { digit < 10 }
     requires room { array_vec_len text.old < 1200 }

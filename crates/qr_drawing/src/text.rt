@@ -1,6 +1,6 @@
-//! Draws symbols as lines of text, cell by cell. Of several modules in a number, the leftmost is bit 0, and a set bit
-//! is dark. In the style `HalfBlocks` a cell shows a module `upper` and the module `lower` below it, and in the others
-//! only `upper`.
+//! Draws symbols as lines of text, cell by cell. Where the bits of a number are modules, bit 0 is the leftmost, and a
+//! bit that is 1 is dark. In the style `HalfBlocks` a cell shows a module `upper` and the module `lower` below it, and
+//! in the others only `upper`.
 
 ghost use Rattle.std.specs.Prelude.{◌≡◌, ℕ, ◌≤◌, ◌<◌, ◌+◌, ◌-◌, ◌*◌, ◌/◌, ◌%◌, ◌++◌, ◌∷◌, [], false, map, IfSome};
 ghost use Rattle.std.specs.List.{flat_map};
@@ -201,7 +201,7 @@ fn push_half_block_quad(text: &mut ArrayVec<u8, 1200>, upper: u8, lower: u8)
     push_half_block_pair(text, upper / 4 % 4 + lower / 4 % 4 * 4);
 }
 
-// Appends the cells of bits 0 to 3.
+// Appends the cells of bits 0 to 3 of `upper` and `lower`.
 #[inline(always)]
 #[tactic(auto, using(crate::proofs::lemmas::text::CellLemmas::quad_plain, crate::proofs::lemmas::text::CellLemmas::quad_inverse))]
 fn push_quad(text: &mut ArrayVec<u8, 1200>, style: TextStyle, upper: u8, lower: u8)
@@ -277,7 +277,7 @@ fn push_cells(
 }
 
 // Appends the cells of row `row` of the raster, without the margin: eight columns at a time, then four if as many are
-// left. The last columns, fewer than four, are left out.
+// left. The columns that then remain, fewer than four, are left out.
 #[inline(always)]
 fn push_columns(
     text: &mut ArrayVec<u8, 1200>,
@@ -308,8 +308,8 @@ fn push_columns(
     }
 }
 
-// Writes line `y` in three parts: the left margin; all columns but the last, fewer than four; these columns with the
-// right margin and the newline.
+// Writes line `y` in three parts: the left margin; the columns that `push_columns` appends; the remaining columns, with
+// the right margin and the newline.
 #[inline(always)]
 fn put_line<W: Sink>(
     pen: &mut Pen,
@@ -364,7 +364,7 @@ fn put_lines<W: Sink>(
     }
 }
 
-// Inlined once for each style, so that no loop has to test it.
+// Inlined once for each style, so that no loop has to test the style.
 #[inline(always)]
 fn put_lines_of<W: Sink>(
     pen: &mut Pen,

@@ -1,5 +1,6 @@
--- How far blocks lie apart, and how much damage leaves a block determined. A block is its data codewords `d` and then
--- its `n` error correction codewords `e`. `None` stands for a codeword that could not be read.
+-- In how many codewords two blocks differ at least, and how much damage a block can have so that what was read still
+-- determines it. A block is its data codewords `d` and then its `n` error correction codewords `e`. `None` stands for a
+-- codeword that could not be read.
 use Rattle.std.specs.Prelude.{◌≡◌, ℕ, ◌+◌, ◌*◌, ◌≤◌, ◌==◌, if◌then◌else◌, Option, None, Some, List, [], ◌∷◌, ◌++◌, length}
 use Rattle.qr_field.specs.Polynomial.{IsCorrection}
 
@@ -13,7 +14,8 @@ differences [] ys = length ys
 differences (x ∷ xs) [] = length (x ∷ xs)
 differences (x ∷ xs) (y ∷ ys) = difference x y + differences xs ys
 
--- Blocks of at most 255 codewords with different data codewords, equally many, differ in at least n + 1 codewords [own]
+-- Two blocks of at most 255 codewords, with equally many but different data codewords, differ in at least n + 1
+-- codewords [own]
 abbrev pub BlocksLieApart : Type 0
 BlocksLieApart =
     (n : ℕ) (d e d' e' : List ℕ) → IsCorrection d n e → IsCorrection d' n e' → length d ≡ length d' →
@@ -32,8 +34,8 @@ errors (r ∷ rs) [] = length (r ∷ rs)
 errors (None ∷ rs) (y ∷ ys) = errors rs ys
 errors (Some x ∷ rs) (y ∷ ys) = difference x y + errors rs ys
 
--- What was read of a block of at most 255 codewords determines its data codewords, if k codewords could not be read, at
--- most t were misread, and k + 2t is at most n (ISO/IEC 18004:2015, 7.5.1)
+-- In a block of at most 255 codewords, k could not be read and at most t were misread. If k + 2t is at most n, what was
+-- read determines the data codewords (ISO/IEC 18004:2015, 7.5.1)
 abbrev pub ErasuresAreUnambiguous : Type 0
 ErasuresAreUnambiguous =
     (n t : ℕ) (d e d' e' : List ℕ) (read : List (Option ℕ)) → IsCorrection d n e → IsCorrection d' n e' →

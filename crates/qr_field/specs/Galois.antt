@@ -32,6 +32,6 @@ unfoldable pub remainder_of : ℕ → ℕ → ℕ → ℕ → ℕ
 remainder_of n divisor zero x = x
 remainder_of n divisor (suc k) x = remainder_of n divisor k (bit_xor x (bit_at x (n + k) * (divisor * 2 ^ k)))
 
--- The one p for which `IsProduct a b p` holds (ISO/IEC 18004:2015, 7.5.2)
+-- For two elements a and b, the one p for which `IsProduct a b p` holds (ISO/IEC 18004:2015, 7.5.2)
 unfoldable pub product : ℕ → ℕ → ℕ
 product a b = remainder_of 8 prime_modulus 7 (carryless 8 a b)

@@ -1,5 +1,5 @@
-//! The division by a generator polynomial, a codeword at a time (ISO/IEC 18004:2015, 7.5.2). The multiples of the
-//! polynomial are computed once: the one for a codeword is the sum of those for its low and its high four bits.
+//! The division by a generator polynomial, a codeword at a time (ISO/IEC 18004:2015, 7.5.2). Multiples of the
+//! polynomial are computed once: the multiple by a codeword is the sum of those by its low and by its high four bits.
 
 ghost use Rattle.std.specs.Prelude.{◌≡◌, ◌≤◌, ℕ, List, length};
 ghost use Rattle.qr_field.specs.Steps.Register.{HasMultiples, divisor_of, packed, value_of};
@@ -15,7 +15,8 @@ use std::marker::Model;
 #[derive(Drop)]
 pub struct Divisor {
     count: usize,
-    // The coefficients after the leading 1, times 0 to 15, and times 0 to 15 shifted left by four bits.
+    // The coefficients after the leading 1, in `low` times each of 0 to 15, in `high` times each of these shifted left
+    // by four bits.
     low: [Register; 16],
     high: [Register; 16],
 }
@@ -81,7 +82,7 @@ impl Divisor {
     }
 
     /// Returns the error correction codewords of a block with the data codewords `message`: the one list of `count`
-    /// bytes that, after them, makes a multiple of the generator polynomial (ISO/IEC 18004:2015, 7.5.2).
+    /// bytes that, appended to `message`, makes a multiple of the generator polynomial (ISO/IEC 18004:2015, 7.5.2).
     pub fn correction(&self, message: &[u8]) -> ArrayVec<u8, 30>
         ensures definition { IsCorrection message.now self.now result.items }
         ensures only { (e : List ℕ) → IsCorrection message.now self.now e → e ≡ result.items }

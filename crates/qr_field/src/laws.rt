@@ -37,7 +37,8 @@ pub fn products_compute()
     ensures zero { product 0 0xFF ≡ 0 }
 {}
 
-/// The generator polynomial of degree 7, and all that Annex A prints for QR Code, as powers of 2.
+/// The generator polynomial of degree 7, and all that Annex A prints for QR Code, there with powers of 2 as
+/// coefficients.
 pub fn generators_compute()
     ensures seven { generator_of 7 ≡ 1 ∷ 0x7F ∷ 0x7A ∷ 0x9A ∷ 0xA4 ∷ 0x0B ∷ 0x44 ∷ 0x75 ∷ [] }
     ensures printed { map generator_of lengths_in_use ≡ map (map power) printed_exponents }
@@ -54,9 +55,8 @@ pub fn blocks_lie_apart()
     ensures { BlocksLieApart }
 {}
 
-/// If a block has k codewords that were not read and t that were misread, and k + 2t is at most its number of error
-/// correction codewords, only one list of data codewords can have been read so: in blocks of at most 255 codewords
-/// whose number of data codewords is known.
+/// In a block of at most 255 codewords, whose number of data codewords is known, k codewords were not read and at most
+/// t were misread. If it has at least k + 2t error correction codewords, what was read determines its data codewords.
 pub fn erasures_are_unambiguous()
     ensures { ErasuresAreUnambiguous }
 {}

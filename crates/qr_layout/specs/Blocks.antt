@@ -6,7 +6,8 @@ use Rattle.qr_layout.specs.declared.level.Level.{Level}
 use Rattle.qr_layout.specs.declared.level.Level.TheVariants.{L, M, Q, H}
 use Rattle.qr_layout.specs.Version.{total_codewords_of}
 
--- How many error correction codewords each block has, for each of the versions 1 to 40 (ISO/IEC 18004:2015, 7.5.1, Table 9)
+-- How many error correction codewords each block has, for each of the versions 1 to 40 (ISO/IEC 18004:2015, 7.5.1,
+-- Table 9)
 abbrev pub correction_table : Level → List ℕ
 correction_table L = 7 ∷ 10 ∷ 15 ∷ 20 ∷ 26 ∷ 18 ∷ 20 ∷ 24 ∷ 30 ∷ 18 ∷ 20 ∷ 24 ∷ 26 ∷ 30 ∷ 22 ∷ 24 ∷ 28 ∷ 30 ∷ 28 ∷ 28 ∷ 28 ∷ 28 ∷ 30 ∷ 30 ∷ 26 ∷ 28 ∷ 30 ∷ 30 ∷ 30 ∷ 30 ∷ 30 ∷ 30 ∷ 30 ∷ 30 ∷ 30 ∷ 30 ∷ 30 ∷ 30 ∷ 30 ∷ 30 ∷ []
 correction_table M = 10 ∷ 16 ∷ 26 ∷ 18 ∷ 24 ∷ 16 ∷ 18 ∷ 22 ∷ 22 ∷ 26 ∷ 30 ∷ 22 ∷ 22 ∷ 24 ∷ 24 ∷ 28 ∷ 28 ∷ 26 ∷ 26 ∷ 26 ∷ 26 ∷ 28 ∷ 28 ∷ 28 ∷ 28 ∷ 28 ∷ 28 ∷ 28 ∷ 28 ∷ 28 ∷ 28 ∷ 28 ∷ 28 ∷ 28 ∷ 28 ∷ 28 ∷ 28 ∷ 28 ∷ 28 ∷ 28 ∷ []
@@ -48,16 +49,16 @@ blocks_of v l = record {
 abbrev pub longest_of : Blocks → ℕ
 longest_of b = b.short_len + min b.long 1 + b.ec_len
 
--- A percentage of a block's codewords that in every version is at most half, rounded down, of its error correction
--- codewords: if no more are misread and none is erased, only one block is possible [own]
+-- In every version, this percentage of a block's codewords is at most half of its error correction codewords, rounded
+-- down. If no more are misread and none is erased, what was read determines the block [own]
 abbrev pub damage_of : Level → ℕ
 damage_of L = 9
 damage_of M = 17
 damage_of Q = 23
 damage_of H = 30
 
--- Blocks of the sizes `b` together have all data and error correction codewords of the symbol; some are short, and none
--- is empty or has more than 30 error correction codewords (ISO/IEC 18004:2015, 7.5.1)
+-- Blocks of the sizes `b` together have all data and error correction codewords of the symbol. Some are short, and each
+-- has a data codeword and from 1 to 30 error correction codewords (ISO/IEC 18004:2015, 7.5.1)
 pub record AreWhole (v : ℕ) (l : Level) (b : Blocks) : Type 0 where
   pub some : 1 ≤ b.short
   pub some_len : 1 ≤ b.short_len

@@ -55,8 +55,8 @@ abbrev pub sum_of_shifts : ℕ → List ℕ → ℕ
 sum_of_shifts divisor [] = 0
 sum_of_shifts divisor (k ∷ ks) = bit_xor (divisor * 2 ^ k) (sum_of_shifts divisor ks)
 
--- Dividing `x` by `divisor`, which has degree `n`, leaves `r`: the exclusive or of `x` and `r` is a multiple, which is
--- an exclusive or of shifted copies of `divisor` (ISO/IEC 18004:2015, Annexes C and D)
+-- Dividing `x` by `divisor`, of degree `n`, leaves `r`: the exclusive or of `x` and `r` is a multiple of `divisor`,
+-- that is, an exclusive or of shifted copies of it (ISO/IEC 18004:2015, Annexes C and D)
 pub record IsWordRemainder (n divisor x r : ℕ) : Type 0 where
   pub monic : (2 ^ n ≤ divisor) × (divisor < 2 ^ (n + 1))
   pub small : r < 2 ^ n

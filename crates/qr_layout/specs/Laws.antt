@@ -27,9 +27,9 @@ printed_errors M = 4 ∷ 8 ∷ 13 ∷ 9 ∷ 12 ∷ 8 ∷ 9 ∷ 11 ∷ 11 ∷ 13 
 printed_errors Q = 6 ∷ 11 ∷ 9 ∷ 13 ∷ 9 ∷ 12 ∷ 9 ∷ 11 ∷ 10 ∷ 12 ∷ 14 ∷ 13 ∷ 12 ∷ 10 ∷ 15 ∷ 12 ∷ 14 ∷ 14 ∷ 13 ∷ 15 ∷ 14 ∷ 15 ∷ 15 ∷ 15 ∷ 15 ∷ 14 ∷ 15 ∷ 15 ∷ 15 ∷ 15 ∷ 15 ∷ 15 ∷ 15 ∷ 15 ∷ 15 ∷ 15 ∷ 15 ∷ 15 ∷ 15 ∷ 15 ∷ []
 printed_errors H = 8 ∷ 14 ∷ 11 ∷ 8 ∷ 11 ∷ 14 ∷ 13 ∷ 13 ∷ 12 ∷ 14 ∷ 12 ∷ 14 ∷ 11 ∷ 12 ∷ 12 ∷ 15 ∷ 14 ∷ 14 ∷ 13 ∷ 14 ∷ 15 ∷ 12 ∷ 15 ∷ 15 ∷ 15 ∷ 15 ∷ 15 ∷ 15 ∷ 15 ∷ 15 ∷ 15 ∷ 15 ∷ 15 ∷ 15 ∷ 15 ∷ 15 ∷ 15 ∷ 15 ∷ 15 ∷ 15 ∷ []
 
--- The misdecode protection codewords of a block for the first versions, and 0 for all others: error correction
--- codewords that only detect errors, so that a damaged block is less likely read as another message (ISO/IEC
--- 18004:2015, 7.5.1, Table 9)
+-- How many misdecode protection codewords a block has, from version 1 on; versions after the last number have none.
+-- They are error correction codewords that only detect errors, so that a damaged block is less likely read as another
+-- message (ISO/IEC 18004:2015, 7.5.1, Table 9)
 abbrev pub printed_protection : Level → List ℕ
 printed_protection L = 3 ∷ 2 ∷ 1 ∷ []
 printed_protection M = 2 ∷ []
@@ -41,8 +41,8 @@ printed_protection H = 1 ∷ []
 abbrev pub printed_correction : Level → ℕ → ℕ
 printed_correction l v = 2 * slice_index_or (printed_errors l) (v - 1) 0 + slice_index_or (printed_protection l) (v - 1) 0
 
--- With `k` rows of centres, the distance between neighbours from the second row on: the least even number that, taken
--- `k - 1` times, reaches from row 6 to the last row of centres, except that it is 26 in version 32 (ISO/IEC 18004:2015,
+-- With `k` rows of centres, the distance between neighbours from the second row on. It is the least even number that,
+-- taken `k - 1` times, reaches from row 6 to the last row of centres; but in version 32 it is 26 (ISO/IEC 18004:2015,
 -- Annex E)
 abbrev pub gap_between : ℕ → ℕ → ℕ
 gap_between v k = if v == 32 then 26 else 2 * ((side_of v - 13 + 2 * (k - 1) - 1) / (2 * (k - 1)))
@@ -52,17 +52,17 @@ gap_between v k = if v == 32 then 26 else 2 * ((side_of v - 13 + 2 * (k - 1) - 1
 abbrev pub spaced_centres : ℕ → List ℕ
 spaced_centres v = 6 ∷ map (λ i. side_of v - 7 - gap_between v (v / 7 + 2) * (v / 7 - i)) (range_with_len 0 (v / 7 + 1))
 
--- The modules of alignment patterns outside the timing patterns, if there are `k` rows of centres: 25 for each pattern,
--- or 20 if it lies across a timing pattern (ISO/IEC 18004:2015, 6.3.5, 6.3.6)
+-- How many modules of alignment patterns are outside the timing patterns, with `k` rows of centres: 25 for each
+-- pattern, or 20 if it lies across a timing pattern (ISO/IEC 18004:2015, 6.3.5, 6.3.6)
 abbrev pub alignment_size : ℕ → ℕ
 alignment_size k = if nat_lt k 2 then 0 else 25 * (k ^ 2 - 3) - 10 * (k - 2)
 
--- The modules of version information: two blocks of 18, from version 7 on (ISO/IEC 18004:2015, 7.10)
+-- How many modules the version information has: two blocks of 18, from version 7 on (ISO/IEC 18004:2015, 7.10)
 abbrev pub version_size : ℕ → ℕ
 version_size v = if nat_lt v 7 then 0 else 36
 
--- The modules outside the three corners (of 81, 72 and 72 modules), the timing patterns between them, the alignment
--- patterns and the version information (ISO/IEC 18004:2015, 6.3.7, 7.7.3)
+-- How many modules are outside the three corners (of 81, 72 and 72 modules), the timing patterns between them, the
+-- alignment patterns and the version information (ISO/IEC 18004:2015, 6.3.7, 7.7.3)
 abbrev pub region_size : ℕ → ℕ
 region_size v =
     side_of v ^ 2 - 225 - 2 * (side_of v - 17) - alignment_size (length (centres_of v)) - version_size v

@@ -33,7 +33,8 @@ ring_of a b r c = max (abs_diff a r) (abs_diff b c)
 abbrev pub is_alignment : ℕ → ℕ → ℕ → Bool
 is_alignment v r c = list_any (λ m. nat_le (ring_of m.row m.col r c) 2) (alignment_places (side_of v) (centres_of v))
 
--- The place is in the symbol, and in none of these parts (ISO/IEC 18004:2015, 6.3.7, 7.7.3)
+-- The place is in the symbol, but not in a corner, a timing pattern, the version information or an alignment pattern
+-- (ISO/IEC 18004:2015, 6.3.7, 7.7.3)
 unfoldable pub is_in_region : ℕ → ℕ → ℕ → Bool
 is_in_region v r c =
     nat_lt r (side_of v) && nat_lt c (side_of v)

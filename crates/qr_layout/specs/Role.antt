@@ -9,8 +9,8 @@ use Rattle.qr_layout.specs.Version.{side_of}
 use Rattle.qr_layout.specs.Alignment.{centres_of, alignment_places}
 use Rattle.qr_layout.specs.Region.{is_alignment, ring_of}
 
--- The ring around the nearest centre of a finder pattern, where the rings 0, 1 and 3 are dark, ring 2 is light, and
--- ring 4 is the separator (ISO/IEC 18004:2015, 6.3.3)
+-- The number of the place's ring around the nearest centre of a finder pattern. The rings 0, 1 and 3 are dark, ring 2
+-- is light, and ring 4 is the separator (ISO/IEC 18004:2015, 6.3.3)
 abbrev pub finder_ring : ℕ → ℕ → ℕ → ℕ
 finder_ring s r c = min (ring_of 3 3 r c) (min (ring_of 3 (s - 4) r c) (ring_of (s - 4) 3 r c))
 
@@ -44,7 +44,7 @@ second_place s i = record {
   col = if nat_lt i 8 then s - 1 - i else 8;
 }
 
--- The place of bit `i` of the version information in the copy beside the top right finder pattern; in the copy beside
+-- The place of bit `i` of the version information in the copy beside the top right finder pattern. In the copy beside
 -- the bottom left one, rows and columns are exchanged (ISO/IEC 18004:2015, 7.10)
 abbrev pub version_place : ℕ → ℕ → Module
 version_place s i = record { row = i / 3; col = s - 11 + i % 3 }
@@ -72,8 +72,8 @@ version_bit_at v r c =
 abbrev pub is_dark_module : ℕ → ℕ → ℕ → Bool
 is_dark_module s r c = r == s - 8 && c == 8
 
--- What the module contains: a fixed colour, a bit of the format information or of the version information, or, in the
--- encoding region, a bit of a codeword or a remainder bit (ISO/IEC 18004:2015, 6.3 and 7.7.2)
+-- What the module contains: a fixed colour, or a bit of the format or version information; in the encoding region, a
+-- bit of a codeword or a remainder bit (ISO/IEC 18004:2015, 6.3 and 7.7.2)
 unfoldable pub role_of : ℕ → ℕ → ℕ → Role
 role_of v r c =
     option_map_or Fixed (pattern_colour v r c)

@@ -4,8 +4,8 @@ use Prim.Native.Nat.{zero, suc}
 use Rattle.qr_layout.specs.declared.region.Module.{Module}
 use Rattle.qr_layout.specs.declared.strips.Strip.{Strip}
 
--- The places of `n` modules in the right column of a strip, in the order in which it is filled, after the first `k`
--- rows; `s` modules are on a side (ISO/IEC 18004:2015, 7.7.3)
+-- The places of `n` modules in the right column of a strip, in the order in which it is filled, after its first `k`
+-- rows. `s` is the number of modules on a side (ISO/IEC 18004:2015, 7.7.3)
 abbrev pub rows_from : ℕ → Strip → ℕ → ℕ → List Module
 rows_from s strip k zero = []
 rows_from s strip k (suc n) = record { row = if strip.upward then s - 1 - k else k; col = strip.right } ∷ rows_from s strip (k + 1) n

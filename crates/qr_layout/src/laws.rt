@@ -1,5 +1,5 @@
-//! Laws of the layout, for every version, level and mask, and that `==` and clones are exact. The contract of a
-//! function is its law.
+//! Laws of the layout, of `==` and of clones, and examples that the standard prints. The contract of a function is its
+//! law.
 
 ghost use Rattle.std.specs.Prelude.{◌≡◌, ◌<◌, ◌≤◌, ◌-◌, ◌*◌, ◌/◌, ◌⊎◌, ◌↔◌, ◌||◌, not, true, ℕ, List, ◌∷◌, ◌++◌, length, map, slice_get, IsTrue, IfOk};
 ghost use Rattle.std.specs.List.{list_any, range_with_len};
@@ -38,16 +38,16 @@ pub fn order_is_full(v: Version)
     ensures most { module_count_of v ≤ 29648 }
 {}
 
-/// The encoding region has as many modules as the whole symbol, less those of the three corners (finder patterns,
-/// separators, format information and the dark module), the timing patterns, the alignment patterns and the version
-/// information. Codewords and remainder bits together have as many bits.
+/// The encoding region has as many modules as the symbol, less those of the three corners, the timing patterns, the
+/// alignment patterns and the version information. The corners have the finder patterns, separators, format information
+/// and the dark module. Table 1 of the standard gives the same number, as bits of codewords and remainder bits.
 pub fn region_is_counted(v: Version)
     ensures region { places_passing (side_of v) (is_in_region v) ≡ region_size v }
     ensures filled { module_count_of v ≡ region_size v }
 {}
 
-/// The encoding region is what such rectangles as `fixed_rectangles` returns and the alignment patterns leave of the
-/// symbol.
+/// If rectangles meet the contract of `fixed_rectangles`, the encoding region is all modules of the symbol that are in
+/// none of them and in no alignment pattern.
 #[tactic(auto, using(crate::proofs::lemmas::alignment::AlignmentLemmas::region_outside))]
 pub fn region_is_outside(v: Version)
     ensures { (bs : List Rectangle) → AreFixed v bs → (r c : ℕ) → r < side_of v → c < side_of v → is_in_region v r c
@@ -82,7 +82,8 @@ pub fn nth_place(v: Version, number: usize) -> Option<Module>
     walk(v).nth(number)
 }
 
-/// For the versions 2 to 40, the centres of alignment patterns have the distances that follow from the rule of Annex E.
+/// For the versions 2 to 40, the centres of alignment patterns have the distances that follow from the rule of Annex E;
+/// version 32 is an exception.
 #[tactic(auto, unfolding(crate::specs::Alignment::centres_of))]
 pub fn centres_are_spaced()
     ensures { map centres_of (range_with_len 2 39) ≡ map spaced_centres (range_with_len 2 39) }
@@ -97,8 +98,8 @@ pub fn data_codewords_compute()
     ensures h { map (λ v. data_codewords_of v H) all_versions ≡ printed_data H }
 {}
 
-/// A block has two error correction codewords for each misread codeword that can be corrected, and the misdecode
-/// protection codewords; Table 9 of the standard prints how many of both there are.
+/// A block has two error correction codewords for each misread codeword that can be corrected, and in versions 1 to 3 up
+/// to three more that only detect errors (misdecode protection). Table 9 of the standard prints both numbers.
 #[tactic(auto, unfolding(crate::specs::Blocks::correction_len_of))]
 pub fn correction_lens_compute()
     ensures l { map (λ v. correction_len_of v L) all_versions ≡ map (printed_correction L) all_versions }
@@ -120,8 +121,8 @@ pub fn blocks_are_short(v: Version, level: Level)
     ensures reached { longest_of (blocks_of 27 L) ≡ 153 }
 {}
 
-/// Half of the error correction codewords of a block, rounded down, are at least 9 % of its codewords at level L, 17 %
-/// at M, 23 % at Q and 30 % at H. By the laws of `qr_field`, so many misread codewords leave the block determined if
+/// Half of a block's error correction codewords, rounded down, are at least 9 % of its codewords at level L, 17 % at M,
+/// 23 % at Q and 30 % at H. By the laws of `qr_field`, what was read determines the block if no more are misread and
 /// none is erased.
 pub fn blocks_stand_damage(v: Version, level: Level)
     ensures { damage_of level * longest_of (blocks_of v level)
@@ -137,7 +138,7 @@ pub fn data_is_bounded(v: Version, level: Level)
 {}
 
 /// The 15 bits of format information are five data bits, for the level and the mask, and the ten bits of the remainder
-/// that Annex C of the standard defines, all combined with 101010000010010 by exclusive or.
+/// that Annex C of the standard defines. All 15 are combined with 101010000010010 by exclusive or.
 pub fn format_words_are_remainders(level: Level, mask: u8)
     ensures { mask < 8 → IsFormatWord (five_bits level mask) (format_word_of level mask) }
 {}
@@ -168,8 +169,8 @@ pub fn roles_compute()
     ensures timing { map (role_of 1 6) (range_with_len 0 21) ≡ row_6 }
 {}
 
-/// A finder pattern of version 1, an alignment pattern of version 2 and both copies of the version information of
-/// version 7 have the roles that the figures of the standard show (6.3.3 to 6.3.6 and 7.10).
+/// The modules of a finder pattern in version 1, an alignment pattern in version 2 and the version information in
+/// version 7 have the roles that the standard's figures show (6.3.3 to 6.3.6 and 7.10).
 #[tactic(auto, unfolding(crate::specs::Role::role_of, crate::specs::Role::pattern_colour, crate::specs::Role::is_alignment_light, crate::specs::Role::format_bit_at, crate::specs::Role::version_bit_at, crate::specs::Alignment::centres_of))]
 pub fn patterns_compute()
     ensures finder { map (λ r. map (role_of 1 r) (range_with_len 0 8)) (range_with_len 0 8) ≡ finder_figure }

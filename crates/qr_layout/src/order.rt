@@ -16,7 +16,7 @@ use crate::version::Version;
 use std::marker::Model;
 
 // A position of the walk. `strips` is the strip's number from the left, from 1 on, and so also how many strips are
-// left; at 0 the walk is at its end.
+// left, with this one; at 0 the walk is at its end.
 #[derive(Clone, Copy)]
 struct Cursor {
     strips: u8,
@@ -122,8 +122,8 @@ impl Iterator for Steps {
     }
 }
 
-/// Returns an iterator over the modules of the encoding region, each once, in the order in which they are filled: first
-/// with the bits of the codewords, then with the remainder bits.
+/// Returns an iterator over the modules of the encoding region, each once, in the order in which they are filled. The
+/// bits of the codewords come first, then the remainder bits.
 pub fn walk(v: Version) -> Steps
     ensures order { IsOrder v result }
     ensures count { length result ≡ module_count_of v }

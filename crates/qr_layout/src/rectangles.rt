@@ -32,10 +32,10 @@ impl Rectangle {
     }
 }
 
-/// Returns rectangles that cover all modules outside the encoding region but the alignment patterns: three corners,
-/// each with a finder pattern, its separator and format information; row 6 and column 6, with the timing patterns; and
-/// from version 7 on two of version information (ISO/IEC 18004:2015, 6.3.3 to 6.3.5, 7.9 and 7.10). Some of them
-/// overlap.
+/// Returns rectangles that, with the alignment patterns, cover all modules outside the encoding region. They are three
+/// corners, each with a finder pattern, its separator and format information, and row 6 and column 6, with the timing
+/// patterns. From version 7 on there are also the two blocks of version information (ISO/IEC 18004:2015, 6.3.3 to
+/// 6.3.5, 7.9 and 7.10). Some of them overlap.
 pub fn fixed_rectangles(v: Version) -> ArrayVec<Rectangle, 7>
     ensures { AreFixed v result.items }
 {

@@ -136,7 +136,7 @@ pub fn second_format_place(v: Version, bit: u8) -> Module
     Module { row, col }
 }
 
-// The index of the bit of the format information in column 8.
+// The index of the bit of the format information that column 8 contains in row `row`.
 fn format_bit_down(side: u8, row: u8) -> Option<u8>
     requires least { 21 ≤ side }
     requires most { side ≤ 177 }
@@ -156,7 +156,7 @@ fn format_bit_down(side: u8, row: u8) -> Option<u8>
     }
 }
 
-// As `format_bit_down`, but in row 8.
+// As `format_bit_down`, but for row 8 and column `col`.
 fn format_bit_across(side: u8, col: u8) -> Option<u8>
     requires least { 21 ≤ side }
     requires col_in { col < side }

@@ -27,7 +27,8 @@ pub(crate) fn strip_at(number: u8) -> Strip
     requires most { number ≤ 88 }
     ensures { result ≡ strip_at number }
 {
-    // The right column if column 6, which is skipped, were not counted: columns after it have an index greater by 1.
+    // The index of the right column as if column 6, which is skipped, were not counted; after that column the true
+    // index is greater by 1.
     let untimed = 2 * number - 1;
     let right = if untimed < 6 { untimed } else { untimed + 1 };
     let upward = number % 2 == 0;

@@ -5,8 +5,8 @@ use Rattle.std.specs.Int.{abs_diff}
 use Rattle.qr_matrix.specs.Grid.{is_same}
 use Rattle.qr_matrix.specs.Sums.{sum_below, count_below, all_below, places_passing}
 
--- The `k` modules from `a` on are a run: neither the module before them nor the one after them has their colour
--- (ISO/IEC 18004:2015, 7.8.3, adjacent modules of the same colour)
+-- The `k` modules from `a` on are a run: they have one colour, and neither the module before them nor the one after
+-- them has it (ISO/IEC 18004:2015, 7.8.3, adjacent modules of the same colour)
 unfoldable pub is_run : ℕ → (ℕ → Bool) → ℕ → ℕ → Bool
 is_run s line a k =
     nat_le (a + k) s

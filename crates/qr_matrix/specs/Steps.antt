@@ -1,4 +1,5 @@
--- Steps of the code: bit rows, dark runs, the modules that cost a point, and the tiles of a transposition.
+-- Steps of the code: bit rows, dark runs, the modules that cost a point, and tiles, the parts of 64 by 64 modules by
+-- which a square is transposed.
 use Rattle.std.specs.Prelude.{◌≡◌, ℕ, ◌+◌, ◌-◌, ◌*◌, ◌%◌, ◌^◌, ◌<◌, ◌≤◌, ◌&&◌, ◌||◌, not, Bool, List, [], ◌∷◌, length, slice_index, nat_lt, if◌then◌else◌}
 use Rattle.std.specs.List.{filter, range_with_len}
 use Rattle.qr_matrix.specs.Grid.{is_same}
@@ -21,7 +22,7 @@ pub record NeedsWords (side words : ℕ) : Type 0 where
 unfoldable pub size_of : List ℕ → ℕ
 size_of words = count_below 192 (has words)
 
--- The columns from `k` to before `k + n` that pass the test `p`, from left to right
+-- The columns from `k` to `k + n - 1` that pass the test `p`, from left to right
 unfoldable pub columns_passing : (ℕ → Bool) → ℕ → ℕ → List ℕ
 columns_passing p k n = filter p (range_with_len k n)
 
@@ -51,8 +52,8 @@ row_share s dark r = count_below s (λ c. is_charged s (λ i. dark i c) r)
 unfoldable pub bit_in : List ℕ → ℕ → ℕ → Bool
 bit_in words r c = has_bit (slice_index words r) c
 
--- The tile `f` after a stage: of each two by two parts of `s` by `s` bits, the upper right and the lower left one are
--- exchanged
+-- The tile `f` after a stage of its transposition: of each two by two parts of `s` by `s` bits, the upper right and the
+-- lower left one are exchanged
 unfoldable pub exchanged : ℕ → (ℕ → ℕ → Bool) → ℕ → ℕ → Bool
 exchanged s f r c =
     if nat_lt (r % (2 * s)) s

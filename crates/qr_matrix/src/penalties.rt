@@ -33,7 +33,7 @@ fn dark_count(matrix: &Matrix, words: u8) -> u32
     total
 }
 
-// Counts in twentieths (5 %) of the modules: of these, `20 * dark / modules` are dark, and 10 are a half.
+// Counts in twentieths (5 %) of the modules: `20 * dark / modules` twentieths are dark, and 10 are a half.
 fn balance_cost(modules: u32, dark: u32) -> u32
     requires some { 0 < modules }
     requires most { modules ≤ 31329 }

@@ -107,7 +107,7 @@ fn set_tile(matrix: &mut Matrix, band: usize, word: usize, tile: &[u64; 64])
     }
 }
 
-// Transposes the tile of `other` at band `word` and word `band`.
+// Sets the tile at `band` and `word` to the transposed tile of `other` at band `word` and word `band`.
 fn set_transposed_tile(matrix: &mut Matrix, other: &Matrix, band: usize, word: usize)
     requires whole { IsSquare matrix.old.side matrix.old }
     requires sides { other.now.side ≡ matrix.old.side }

@@ -10,7 +10,8 @@ pub record IsBlock (n : ℕ) (codewords : List ℕ) : Type 0 where
   pub whole : codewords ≡ message ++ correction
   pub corrects : IsCorrection message n correction
 
--- The correction of a block in which at most `t` codewords are misread, and none is erased (ISO/IEC 18004:2015, 7.5.1)
+-- The block that `damaged` is mended to if at most `t` of its codewords are misread, and none is erased (ISO/IEC
+-- 18004:2015, 7.5.1)
 pub record IsMended (n t : ℕ) (damaged mended : List ℕ) : Type 0 where
   pub block : IsBlock n mended
   pub long : length mended ≡ length damaged

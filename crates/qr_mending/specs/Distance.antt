@@ -9,17 +9,18 @@ use Rattle.qr_mending.specs.declared.format.FormatCopy.{FormatCopy}
 use Rattle.qr_mending.specs.Format.{bit_differences, copy_bit}
 use Rattle.qr_mending.specs.Message.{tolerance_of}
 
--- They differ in at least seven modules of each copy of the format information (ISO/IEC 18004:2015, 7.9.1, Annex C)
+-- The squares differ in at least seven modules of each copy of the format information (ISO/IEC 18004:2015, 7.9.1, Annex
+-- C)
 abbrev pub FormatsLieApart : Grid → Grid → Type 0
 FormatsLieApart g h = (copy : FormatCopy) → 7 ≤ bit_differences 15 (copy_bit copy g) (copy_bit copy h)
 
--- In some block they differ in more than twice as many codewords as can be corrected in a block of level `l` (ISO/IEC
--- 18004:2015, 7.5.1)
+-- In some block two symbols differ in more than twice as many codewords as can be corrected in a block of level `l`
+-- (ISO/IEC 18004:2015, 7.5.1)
 abbrev pub SomeBlockLiesApart : (v : ℕ) (l k : Level) → HeldMessage v l → HeldMessage v k → Type 0
 SomeBlockLiesApart v l k m n = (i : ℕ) × (i < blocks_in v l) × (2 * tolerance_of v l < differences (held_block v l m i) (held_block v k n i))
 
--- Symbols with different levels or data codewords have format information that lies apart, or else one level and mask
--- and a block that does [own]
+-- Two symbols with different levels or data codewords have format information that lies apart, or else the same level
+-- and mask, and some block that lies apart [own]
 abbrev pub SymbolsLieApart : ℕ → Type 0
 SymbolsLieApart v =
     (l k : Level) (m : HeldMessage v l) (n : HeldMessage v k) (cw ds : List ℕ) → m.mask < 8 → n.mask < 8

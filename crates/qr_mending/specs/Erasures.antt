@@ -1,17 +1,19 @@
--- How a damaged block is mended of which some codewords are erased. What was read is a list with `None` for these.
+-- How a damaged block, some of whose codewords may be erased, is mended. In the list of what was read, `None` stands
+-- for an erased codeword.
 use Rattle.std.specs.Prelude.{◌≡◌, ℕ, ◌+◌, ◌*◌, ◌≤◌, Bool, true, false, Option, None, Some, List, [], ◌∷◌, length}
 use Rattle.qr_field.specs.Distance.{erasures, errors}
 use Rattle.qr_mending.specs.Block.{IsBlock}
 
--- What was read, if `erased` is true for each erased codeword; codewords past its end count as read [own]
+-- What was read, where `erased` is true at the index of each erased codeword; codewords past the end of `erased` count
+-- as read [own]
 abbrev pub read_of : List ℕ → List Bool → List (Option ℕ)
 read_of [] erased = []
 read_of (x ∷ xs) [] = Some x ∷ read_of xs []
 read_of (x ∷ xs) (true ∷ erased) = None ∷ read_of xs erased
 read_of (x ∷ xs) (false ∷ erased) = Some x ∷ read_of xs erased
 
--- The correction of a block by at most `spare` of its `n` error correction codewords: an erased codeword takes one, and
--- a misread one two, since its place is not known (ISO/IEC 18004:2015, 7.5.1)
+-- `read` is mended to a block by at most `spare` of its `n` error correction codewords: an erased codeword takes one, a
+-- misread one two, since its index is not known (ISO/IEC 18004:2015, 7.5.1)
 pub record IsMendedWithErasures (n spare : ℕ) (read : List (Option ℕ)) (mended : List ℕ) : Type 0 where
   pub block : IsBlock n mended
   pub long : length mended ≡ length read

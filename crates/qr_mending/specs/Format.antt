@@ -22,24 +22,24 @@ copy_place Second s i = second_place s i
 abbrev pub copy_bit : FormatCopy → Grid → ℕ → Bool
 copy_bit copy g i = colour g (copy_place copy g.side i).row (copy_place copy g.side i).col
 
--- The modules of a copy that were not read (ISO/IEC 18004:2015, 7.9.1)
+-- How many modules of a copy were not read (ISO/IEC 18004:2015, 7.9.1)
 abbrev pub unread_bits : Grid → FormatCopy → ℕ
 unread_bits unknown copy = count_below 15 (copy_bit copy unknown)
 
--- The misread modules of a copy, without those that were not read (ISO/IEC 18004:2015, 7.9.1)
+-- How many modules of a copy are misread; those that were not read do not count (ISO/IEC 18004:2015, 7.9.1)
 abbrev pub misread_bits : Grid → FormatCopy → Grid → (word : ℕ) → ℕ
 misread_bits unknown copy g word = count_below 15 (λ i. not (copy_bit copy unknown i) && not (is_same (copy_bit copy g i) (has_bit word i)))
 
--- The cost of a copy: a misread module counts twice, since its place is not known [own]
+-- The cost of a copy: a misread module counts twice, since nothing shows that it is misread [own]
 abbrev pub copy_cost : Grid → FormatCopy → Grid → Level → ℕ → ℕ
 copy_cost unknown copy g l mask = unread_bits unknown copy + 2 * misread_bits unknown copy g (format_word_of l mask)
 
--- The cost of both copies [own]
+-- The sum of the costs of both copies [own]
 abbrev pub format_cost : Grid → Grid → Level → ℕ → ℕ
 format_cost unknown g l mask = copy_cost unknown First g l mask + copy_cost unknown Second g l mask
 
--- The level and the mask are near to a copy, as at most one pair is: words of format information differ in seven bits
--- (ISO/IEC 18004:2015, 7.9.1, Annex C)
+-- The level and the mask are near to a copy; at most one pair is, since two words of format information differ in at
+-- least seven bits (ISO/IEC 18004:2015, 7.9.1, Annex C)
 pub record IsNearFormat (unknown : Grid) (copy : FormatCopy) (g : Grid) (l : Level) (mask : ℕ) : Type 0 where
   pub in_range : mask < 8
   pub near : copy_cost unknown copy g l mask ≤ 6

@@ -1,6 +1,7 @@
 -- How a damaged symbol is mended and read. `g` is the square of modules as it was read, and `unknown` is dark where a
 -- module was not read. `v`, `l` and `mask` are the version, the level and the mask of the symbol, `message` its data
--- codewords, and `changed` lists for each block how many codewords were misread; erased ones do not count.
+-- codewords, and `changed` lists for each block how many codewords were misread; erased ones do not count. A level and
+-- a mask are near to a copy of the format information if its cost with them is at most 6.
 use Rattle.std.specs.Prelude.{◌≡◌, ◌≢◌, ℕ, ◌+◌, ◌*◌, ◌≤◌, ◌||◌, Result, Ok, Err, List}
 use Rattle.qr_layout.specs.declared.level.Level.{Level}
 use Rattle.qr_layout.specs.Format.{format_word_of}
@@ -33,14 +34,14 @@ abbrev pub IsOfNoUse : Grid → FormatCopy → ℕ → Grid → Type 0
 IsOfNoUse unknown copy v g = (l : Level) (mask : ℕ) → IsNearFormat unknown copy g l mask
     → (message changed : List ℕ) → HoldsDamaged unknown v l mask g message changed → ⊥
 
--- The rank of a level and mask that are near to a copy, by the cost of both copies: less cost ranks first, and at equal
--- costs those of the first copy [own]
+-- The rank of a level and mask that are near to a copy: it rises with the cost of both copies, and at equal costs it is
+-- lower for the first copy [own]
 abbrev pub rank_of : FormatCopy → ℕ → ℕ
 rank_of First cost = 2 * cost
 rank_of Second cost = 2 * cost + 1
 
--- The square has to be read with this level and mask: they are near to a copy, and of those that are and mend the
--- square they have the least rank (ISO/IEC 18004:2015, 7.9.1, 12)
+-- If this level and mask mend the square, they have to be used: they are near to a copy, and no near pair that mends it
+-- has a lower rank (ISO/IEC 18004:2015, 7.9.1, 12)
 pub record HasFormat (unknown : Grid) (v : ℕ) (g : Grid) (l : Level) (mask : ℕ) : Type 0 where
   pub copy : FormatCopy
   pub near : IsNearFormat unknown copy g l mask
@@ -48,13 +49,14 @@ pub record HasFormat (unknown : Grid) (v : ℕ) (g : Grid) (l : Level) (mask : �
       → (message changed : List ℕ) → HoldsDamaged unknown v k n g message changed
       → rank_of copy (format_cost unknown g l mask) ≤ rank_of other (format_cost unknown g k n)
 
--- The square is a damaged form of the symbol of `message` (ISO/IEC 18004:2015, 7.5.1, 7.9.1, 12)
+-- The square has the side of the version, has to be read with this level and mask, and its blocks can be mended to
+-- `message` (ISO/IEC 18004:2015, 7.5.1, 7.9.1, 12)
 pub record IsDamagedForm (unknown g : Grid) (v : ℕ) (l : Level) (mask : ℕ) (message changed : List ℕ) : Type 0 where
   pub sized : IsOfVersion g v
   pub format : HasFormat unknown v g l mask
   pub damaged : HoldsDamaged unknown v l mask g message changed
 
--- The square is mended to data codewords whose parse is `outcome` (ISO/IEC 18004:2015, 12)
+-- The square is mended to data codewords from which parsing yields `outcome` (ISO/IEC 18004:2015, 12)
 pub record IsMendedAs (unknown g : Grid) (v : ℕ) (l : Level) (mask : ℕ) (outcome : Result Content ParseFault) (changed : List ℕ) : Type 0 where
   pub message : List ℕ
   pub form : IsDamagedForm unknown g v l mask message changed
@@ -64,27 +66,27 @@ pub record IsMendedAs (unknown g : Grid) (v : ℕ) (l : Level) (mask : ℕ) (out
 abbrev pub IsMendedReading : Grid → Grid → ℕ → Level → ℕ → Content → List ℕ → Type 0
 IsMendedReading unknown g v l mask content changed = IsMendedAs unknown g v l mask (Ok content) changed
 
--- The wrong modules of a copy (ISO/IEC 18004:2015, 7.9.1)
+-- How many of the 15 modules of a copy were not read or are misread (ISO/IEC 18004:2015, 7.9.1)
 abbrev pub wrong_bits : Grid → FormatCopy → Grid → Level → ℕ → ℕ
 wrong_bits unknown copy g l mask = unread_bits unknown copy + misread_bits unknown copy g (format_word_of l mask)
 
--- The wrong modules among the 30 of format information (ISO/IEC 18004:2015, 7.9.1)
+-- How many of the 30 modules of format information are wrong (ISO/IEC 18004:2015, 7.9.1)
 abbrev pub wrong_format_modules : Grid → Grid → Level → ℕ → ℕ
 wrong_format_modules unknown g l mask = wrong_bits unknown First g l mask + wrong_bits unknown Second g l mask
 
--- The wrong modules of `g`, if `h` is the undamaged symbol [own]
+-- How many modules of `g` are wrong, if `h` is the undamaged symbol [own]
 unfoldable pub wrong_modules : Grid → Grid → Grid → ℕ
 wrong_modules unknown g h = places_passing g.side (λ r c. colour unknown r c || differs g h r c)
 
--- The undamaged symbol is that of `message`, and `wrong` modules of the whole square are wrong, with function patterns,
--- version information and remainder bits (ISO/IEC 18004:2015, 7.5.2, 7.6, 7.7, 7.8)
+-- The undamaged symbol is that of `message`, and `wrong` counts the wrong modules of the whole square, those of
+-- function patterns, version information and remainder bits too (ISO/IEC 18004:2015, 7.5.2, 7.6, 7.7, 7.8)
 pub record DiffersFromSymbol (unknown g : Grid) (v : ℕ) (l : Level) (mask : ℕ) (message : List ℕ) (wrong : ℕ) : Type 0 where
   pub codewords : List ℕ
   pub interleaved : IsInterleaved v l message codewords
   pub count : wrong ≡ wrong_modules unknown g (grid_of v l mask codewords)
 
--- The square is a damaged form of a symbol, and `wrong` of its modules are wrong (ISO/IEC 18004:2015, 7.5.2, 7.6, 7.7,
--- 7.8)
+-- The square is a damaged form of a symbol, and `wrong` is the number of its wrong modules (ISO/IEC 18004:2015, 7.5.2,
+-- 7.6, 7.7, 7.8)
 pub record HasWrongModules (unknown g : Grid) (v : ℕ) (l : Level) (mask : ℕ) (changed : List ℕ) (wrong : ℕ) : Type 0 where
   pub message : List ℕ
   pub form : IsDamagedForm unknown g v l mask message changed
@@ -101,8 +103,8 @@ pub record IsBeyondMending (unknown g : Grid) : Type 0 where
   pub useless : (any : FormatCopy) → IsOfNoUse unknown any version g
 
 -- The faults for which a square is refused: `Side` if no version has its side, `Format` if no level and mask are near
--- to a copy, `Check` if none that are mend the square, and `Segments` if the mended message cannot be parsed. `Memory`
--- is possible for every square, and `Series` for none (ISO/IEC 18004:2015, 12)
+-- to a copy, `Check` if no such level and mask mend the square, and `Segments` if the mended message cannot be parsed.
+-- `Memory` is possible for every square, and `Series` for none (ISO/IEC 18004:2015, 12)
 abbrev pub IsUnmended : Grid → Grid → ReadFault → Type 0
 IsUnmended unknown g unread.Memory = Unit {0}
 IsUnmended unknown g unread.Side = (v : ℕ) → IsOfVersion g v → ⊥

@@ -16,12 +16,12 @@ use Rattle.qr_layout.specs.Version.{total_codewords_of}
 use Rattle.qr_matrix.specs.Grid.{Grid, colour}
 use Rattle.qr_symbol.specs.Interleaving.{block_count, codeword_count, data_sizes, correction_sizes, part_of, IsGathered}
 
--- Block `i`: data codewords, then error correction codewords, each listed in the order of the blocks
--- (ISO/IEC 18004:2015, 7.5.1)
+-- Block `i`: its part of `d`, the data codewords of all blocks, and then its part of `e`, their error correction
+-- codewords (ISO/IEC 18004:2015, 7.5.1)
 abbrev pub received : Blocks → List ℕ → List ℕ → ℕ → List ℕ
 received b d e i = part_of (data_sizes b) d i ++ part_of (correction_sizes b) e i
 
--- The error correction codewords of a block that only detect errors, so that fewer blocks are mended to a wrong one
+-- How many error correction codewords of a block only detect errors, so that fewer blocks are mended to a wrong one
 -- (ISO/IEC 18004:2015, 7.5.1, Table 9)
 abbrev pub protection_of : ℕ → Level → ℕ
 protection_of v L = if v == 1 then 3 else (if v == 2 then 2 else (if v == 3 then 1 else 0))
@@ -29,11 +29,11 @@ protection_of v M = if v == 1 then 2 else 0
 protection_of v Q = if v == 1 then 1 else 0
 protection_of v H = if v == 1 then 1 else 0
 
--- The error correction codewords of a block that correct errors (ISO/IEC 18004:2015, 7.5.1, Table 9)
+-- How many error correction codewords of a block correct errors (ISO/IEC 18004:2015, 7.5.1, Table 9)
 abbrev pub spare_of : ℕ → Level → ℕ
 spare_of v l = (blocks_of v l).ec_len - protection_of v l
 
--- The misread codewords that can be corrected in a block without erased ones (ISO/IEC 18004:2015, 7.5.1, Table 9)
+-- How many misread codewords can be corrected in a block without erased ones (ISO/IEC 18004:2015, 7.5.1, Table 9)
 abbrev pub tolerance_of : ℕ → Level → ℕ
 tolerance_of v l = spare_of v l / 2
 
@@ -52,21 +52,21 @@ pub record AreInBlocks (b : Blocks) (interleaved d e : List ℕ) : Type 0 where
   pub gathered : IsGathered (data_sizes b) interleaved d
   pub rest : IsGathered (correction_sizes b) (drop (codeword_count (data_sizes b)) interleaved) e
 
--- Which of the codewords of a symbol, counted from 0, are the data codewords and the error correction codewords of its
--- blocks (ISO/IEC 18004:2015, 7.6)
+-- `indices` and `checks` list, block by block, the indices in the final sequence of the data codewords and of the error
+-- correction codewords (ISO/IEC 18004:2015, 7.6)
 abbrev pub AreIndices : ℕ → Level → List ℕ → List ℕ → Type 0
 AreIndices v l indices checks = AreInBlocks (blocks_of v l) (range_with_len 0 (total_codewords_of v)) indices checks
 
--- Block `i`, of which `read` was read, can be mended to block `i` of `message`: `misread` of its codewords are misread,
--- and its correction takes at most `spare` error correction codewords (ISO/IEC 18004:2015, 7.5.1)
+-- Block `i`, read as `read`, can be mended to that of `message`: `misread` of its codewords are misread, and mending
+-- takes at most `spare` error correction codewords (ISO/IEC 18004:2015, 7.5.1)
 pub record IsMendedBlock (b : Blocks) (spare : ℕ) (read : List (Option ℕ)) (message : List ℕ) (misread i : ℕ) : Type 0 where
   pub correction : List ℕ
   pub corrects : IsCorrection (part_of (data_sizes b) message i) b.ec_len correction
   pub near : erasures read + 2 * misread ≤ spare
   pub count : misread ≡ errors read (part_of (data_sizes b) message i ++ correction)
 
--- The codewords of a symbol of version `v` and level `l` can be mended to `message` (ISO/IEC 18004:2015, 7.5.1, 7.6,
--- 7.7.3)
+-- The codewords of a symbol of version `v` and level `l` can be mended to `message`, and `misread` lists for each block
+-- how many of them are misread (ISO/IEC 18004:2015, 7.5.1, 7.6, 7.7.3)
 pub record IsMendedIn (unknown : Grid) (v : ℕ) (l : Level) (cw message misread : List ℕ) : Type 0 where
   pub places : List Module
   pub order : IsOrder v places

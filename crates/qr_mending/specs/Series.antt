@@ -18,12 +18,12 @@ IsMendedContent g content = (v : ℕ) × (l : Level) × (mask : ℕ) × (changed
 abbrev pub IsMendedSeries : List Grid → List ℕ → Type 0
 IsMendedSeries squares bytes = IsJoinedBy IsMendedContent squares bytes
 
--- `Memory`, the fault of the first square that is not mended, or `Series` if all are but do not belong together (ISO/IEC
--- 18004:2015, 8.1 to 8.3, 12)
+-- The faults for which squares are refused: `Memory` always, that of the first square that cannot be mended and read,
+-- and `Series` if all can but do not belong together (ISO/IEC 18004:2015, 8.1 to 8.3, 12)
 abbrev pub IsUnmendedSeries : List Grid → ReadFault → Type 0
 IsUnmendedSeries squares e = IsUnjoinedBy IsMendedContent (λ g. IsUnmended (light g.side) g) squares e
 
--- `damaged`, of which all modules were read, is a damaged form of `whole`, of which level, mask and data codewords are
+-- `damaged`, of which all modules were read, is a damaged form of `whole`, whose level, mask and data codewords can be
 -- read without mending (ISO/IEC 18004:2015, 7.5.1, 7.9.1, 12)
 pub record IsDamagedSquare (damaged whole : Grid) : Type 0 where
   pub version : ℕ
@@ -36,6 +36,6 @@ pub record IsDamagedSquare (damaged whole : Grid) : Type 0 where
   pub holds : IsMessage version level mask whole message
   pub form : IsDamagedForm (light damaged.side) damaged version level mask message changed
 
--- As `IsDamagedSquare`, one by one [own]
+-- As `IsDamagedSquare`, for the squares of two lists one by one [own]
 unfoldable pub AreDamagedSquares : List Grid → List Grid → Type 0
 AreDamagedSquares damaged whole = AllZip IsDamagedSquare damaged whole

@@ -1,4 +1,5 @@
-//! Mends damaged blocks: computes a candidate from the syndromes, and takes it only if it is a block and near enough.
+//! Mends damaged blocks: computes a candidate from the syndromes, and takes it only if it is a block and differs in few
+//! enough codewords.
 
 ghost use Rattle.std.specs.Prelude.{◌≡◌, ℕ, ◌*◌, ◌≤◌, List, length, IfSome, IfNone};
 ghost use Rattle.std.specs.Bool.{Decides};
@@ -11,7 +12,7 @@ use crate::sums::syndromes;
 use arrayvec::ArrayVec;
 use qr_field::Divisor;
 
-// The mended block, or a list that the caller has to refuse if `damaged` cannot be mended.
+// The mended block, or if `damaged` cannot be mended, a list that the caller has to refuse.
 fn candidate(n: usize, t: usize, damaged: &[u8]) -> ArrayVec<u8, 255>
     requires most { n ≤ 30 }
     requires half { 2 * t ≤ n }

@@ -1,5 +1,5 @@
-//! Mends damaged blocks of which some codewords are erased. Their errors are first taken out of the syndromes, so that
-//! the locator has to find only the misread codewords.
+//! Mends damaged blocks of which some codewords are erased. The errors of the erased codewords are first taken out of
+//! the syndromes, so that the locator has to find only the misread codewords.
 
 ghost use Rattle.std.specs.Prelude.{◌≡◌, ℕ, ◌+◌, ◌≤◌, List, length, IfSome, IfNone};
 ghost use Rattle.std.specs.List.{All, count_by};
@@ -18,8 +18,8 @@ use crate::sums::{dot, syndromes};
 use arrayvec::ArrayVec;
 use qr_field::Divisor;
 
-// The syndromes of a second error polynomial: its coefficient of x^m is that of the first, multiplied by the value of
-// `polynomial` at 2^m. If `polynomial` has a root for each erased codeword, their errors are gone.
+// The syndromes of another error polynomial, in which each coefficient of x^m is multiplied by the value of
+// `polynomial` at 2^m. If `polynomial` has a root for each erased codeword, the errors of these are gone.
 fn modified_syndromes(polynomial: &[u8], syndromes: &[u8]) -> ArrayVec<u8, 30>
     requires least { 1 ≤ length polynomial.now }
     requires long { length polynomial.now ≤ length syndromes.now + 1 }
@@ -35,7 +35,7 @@ fn modified_syndromes(polynomial: &[u8], syndromes: &[u8]) -> ArrayVec<u8, 30>
     modified
 }
 
-// The mended block, or a list that the caller has to refuse if `damaged` cannot be mended.
+// The mended block, or if `damaged` cannot be mended, a list that the caller has to refuse.
 fn candidate(n: usize, spare: usize, erased: &[bool], damaged: &[u8]) -> ArrayVec<u8, 255>
     requires most { n ≤ 30 }
     requires spare { spare ≤ n }
@@ -70,9 +70,8 @@ fn count_misread(codewords: &[u8], erased: &[bool], mended: &[u8]) -> usize
     count
 }
 
-/// Mends a damaged block of at most 255 codewords, of which those are erased at whose index `erased` is true. Returns
-/// how many of the others were misread (ISO/IEC 18004:2015, 7.5.1 and Annex B). The values of erased codewords have no
-/// effect.
+/// Mends a damaged block of at most 255 codewords. A codeword is erased if `erased` is true at its index, and its value
+/// then has no effect. Returns how many of the other codewords were misread (ISO/IEC 18004:2015, 7.5.1 and Annex B).
 ///
 /// An erased codeword takes one error correction codeword, a misread one two. If more than `spare` are needed, returns
 /// `None` and changes nothing. `divisor` determines the number of error correction codewords of the block; in a symbol,

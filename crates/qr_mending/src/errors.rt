@@ -1,8 +1,8 @@
 //! Removes the errors of a damaged block. The error of a codeword is its difference from the right one, and the errors
-//! are the coefficients of the error polynomial. `syndromes` lists its values at 2^0, 2^1 and so on, and `series`
-//! those that were computed so far. The locator is a polynomial with a root for each wrong codeword. Each value after
-//! the syndromes is a sum of the values before it, multiplied by the locator's coefficients. All 255 values determine
-//! the errors.
+//! are the coefficients of the error polynomial. `syndromes` lists the values of this polynomial at 2^0, 2^1 and so on,
+//! and `series` those that were computed so far. The locator is a polynomial with a root for each misread or erased
+//! codeword. If d is its degree, each value but the first d is the sum of the d values before it, each multiplied by a
+//! coefficient of the locator. The values at all 255 powers of 2 determine the errors.
 
 ghost use Rattle.std.specs.Prelude.{◌≡◌, ℕ, ◌+◌, ◌<◌, ◌≤◌, List, length};
 ghost use Rattle.std.specs.List.{All};
@@ -16,8 +16,8 @@ use crate::sums::{dot, value};
 use arrayvec::ArrayVec;
 use qr_field::power_of;
 
-// A syndrome, while `series` has fewer values than the locator's degree. The last coefficient, the leading one, is 1
-// and left out of the sum.
+// A syndrome, while `series` has fewer values than the locator's degree, and then the sum. The leading coefficient,
+// which is the last, counts as 1 and is left out of the sum.
 fn next_value(locator: &[u8], syndromes: &[u8], series: &[u8]) -> u8
     requires least { 1 ≤ length locator.now }
     requires long { length locator.now ≤ length syndromes.now + 1 }
@@ -47,8 +47,9 @@ fn values(locator: &[u8], syndromes: &[u8]) -> ArrayVec<u8, 255>
     series
 }
 
-// `place` is the codeword's index, counted from the end. The transform from errors to values is its own inverse but for
-// the sign of the exponent: the polynomial whose coefficients are the values has the error as its value at 2^-`place`.
+// The error of the codeword that has `place` codewords after it. The errors follow from the values as the values do
+// from the errors, but for the sign of the exponent. So the polynomial whose coefficients are `series` has this error
+// as its value at 2^-`place`.
 fn error(locator: &[u8], series: &[u8], place: u8) -> u8
     requires count { length series.now ≡ 255 }
     requires place { place < 255 }

@@ -16,7 +16,8 @@ use qr_matrix::Matrix;
 // The number of modules of one copy.
 const FORMAT_BITS: u8 = 15;
 
-// The most that a copy may cost to be near to a level and a mask: three misread modules, or six that were not read.
+// The most that a copy may cost with a level and a mask that are near to it: three misread modules, or six that were
+// not read.
 const COST_MAX: u8 = 6;
 
 #[derive(Clone, Copy)]
@@ -61,7 +62,7 @@ fn misread_bit(is_unknown: bool, dark: bool, wanted: bool) -> u8
     u8::from(dark != wanted)
 }
 
-// Numbers of modules of a copy.
+// How many modules of a copy were not read, and how many are misread.
 #[derive(Drop)]
 struct CopyDamage {
     unread: u8,
@@ -138,7 +139,7 @@ pub(crate) fn wrong_format_modules(
     first + wrong_bits(matrix, unknown, version, FormatCopy::Second, word)
 }
 
-// The cost of both copies.
+// The sum of the costs of both copies.
 pub(crate) fn format_cost(
     matrix: &Matrix,
     unknown: &Matrix,
@@ -178,8 +179,8 @@ fn near_mask_of(
     None
 }
 
-// At most one pair is near to a copy, since words of format information differ in seven bits: so the first that is
-// found is the only one.
+// At most one pair of level and mask is near to a copy, since two words of format information differ in at least seven
+// bits: so the first pair that is found is the only one.
 pub(crate) fn near_format_of(
     matrix: &Matrix,
     unknown: &Matrix,
@@ -200,7 +201,7 @@ pub(crate) fn near_format_of(
     None
 }
 
-// The pair that is near to the first copy, if one is.
+// The pair that is near to the first copy, or if there is none, the one that is near to the second.
 pub(crate) fn near_format_of_either(
     matrix: &Matrix,
     unknown: &Matrix,

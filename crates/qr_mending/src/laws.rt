@@ -1,5 +1,5 @@
-//! Laws of mending. The contract of each function is the law; where a function has code, it is about what the code
-//! returns.
+//! Laws of mending. The contract of each function is the law; where a function has code, the law is about what this
+//! code returns.
 
 ghost use Rattle.std.specs.Prelude.{◌≡◌, ◌≢◌, ◌↔◌, ◌⊎◌, Err, ℕ, ◌+◌, ◌*◌, ◌/◌, ◌<◌, ◌≤◌, ◌==◌, ◌&&◌, false, List, [], ◌∷◌, map, length, replicate, Option, None, MatchResult};
 ghost use Rattle.std.specs.List.{All};
@@ -35,8 +35,8 @@ use qr_matrix::Matrix;
 use qr_symbol::ReadFault;
 use std::alloc::Global;
 
-/// A damaged block of at most 255 codewords is mended to at most one block, if twice the allowed number of wrong
-/// codewords is at most the number of its error correction codewords.
+/// A damaged block of at most 255 codewords is mended to at most one block, if at most half as many misread codewords
+/// are allowed as it has error correction codewords.
 pub fn mended_blocks_are_one()
     ensures { (n t : ℕ) (damaged b c : List ℕ) → length damaged ≤ 255 → 2 * t ≤ n
         → IsMended n t damaged b → IsMended n t damaged c → b ≡ c }
@@ -49,23 +49,23 @@ pub fn blocks_mended_with_erasures_are_one()
         → IsMendedWithErasures n spare read b → IsMendedWithErasures n spare read c → b ≡ c }
 {}
 
-/// Without erased codewords, mending with `spare` error correction codewords has the same results as mending `spare` /
-/// 2 wrong codewords, rounded down.
+/// Without erased codewords, mending by `spare` error correction codewords has the same results as mending at most
+/// `spare` / 2 misread codewords, rounded down.
 pub fn blocks_without_erasures_are_mended_alike()
     ensures { (n spare k : ℕ) (damaged mended : List ℕ)
         → IsMendedWithErasures n spare (read_of damaged (replicate k false)) mended ↔ IsMended n (spare / 2) damaged mended }
 {}
 
 /// A block of at most 255 codewords is also one with fewer error correction codewords, if at least one is left: the
-/// generator polynomial of fewer divides that of more. So where two levels of a version have as many blocks, only the
-/// format information says which is meant.
+/// generator polynomial of fewer divides that of more. So where two levels of a version have the same number of blocks,
+/// only the format information says which is meant.
 pub fn blocks_are_those_of_weaker_levels()
     ensures { (n m : ℕ) (block : List ℕ) → 1 ≤ n → n ≤ m → length block ≤ 255 → IsBlock m block → IsBlock n block }
 {}
 
-/// The format information of two different pairs of level and mask differs in at least seven of 15 bits, and no bound
-/// is better. So over both copies, whatever they show, two such pairs cost at least 28 together: if one costs at most
-/// 13, the other costs at least 15.
+/// The format information of two different pairs of level and mask differs in at least seven of 15 bits, and for some
+/// pairs in just seven. So over both copies, whatever they show, two such pairs cost at least 28 together: if one costs
+/// at most 13, the other costs at least 15.
 pub fn format_words_lie_apart()
     ensures words { (l k : Level) (m n : ℕ) → m < 8 → n < 8 → ((l ≡ k) × (m ≡ n) → ⊥)
         → 7 ≤ bit_differences 15 (has_bit (format_word_of l m)) (has_bit (format_word_of k n)) }
@@ -74,8 +74,8 @@ pub fn format_words_lie_apart()
         → 28 ≤ format_cost unknown g l m + format_cost unknown g k n }
 {}
 
-/// At most one pair of level and mask is near to a copy of the format information, by a cost of at most 6. So at most
-/// two pairs are tried.
+/// At most one pair of level and mask is near to a copy of the format information, that is, the copy costs at most 6
+/// with it. So mending tries at most two pairs.
 pub fn near_format_is_one()
     ensures one { (unknown : Grid) (copy : FormatCopy) (g : Grid) (l k : Level) (m n : ℕ) → IsNearFormat unknown copy g l m
         → IsNearFormat unknown copy g k n → (l ≡ k) × (m ≡ n) }
@@ -84,8 +84,8 @@ pub fn near_format_is_one()
         → ((l ≡ k) × (m ≡ n)) ⊎ (((l ≡ j) × (m ≡ i)) ⊎ ((k ≡ j) × (n ≡ i))) }
 {}
 
-/// For seven pairs of version and level, the number of codewords that can be corrected in a block agrees with Table 9
-/// of the standard, and for six that of error correction codewords that only detect errors.
+/// For seven pairs of version and level, the number of misread codewords that can be corrected in a block agrees with
+/// Table 9 of the standard. For six of them, so does the number of error correction codewords that only detect errors.
 pub fn tolerances_compute()
     ensures one { tolerance_of 1 Level.L ≡ 2 × tolerance_of 1 Level.M ≡ 4 }
     ensures one_more { tolerance_of 1 Level.Q ≡ 6 × tolerance_of 1 Level.H ≡ 8 }
@@ -99,9 +99,9 @@ pub fn tolerances_compute()
 
 /// From version 4 on all error correction codewords correct errors, and in versions 2 and 3 those of the levels M, Q
 /// and H. In the cost of format information a module that was not read counts once and a misread one twice; as wrong
-/// modules both count once, and each copy is counted once. In the example, a light square is read with level M and mask
-/// 0, and one module of the first copy was not read. A level and a mask are near to a copy at a cost of 6, and not at
-/// 7.
+/// modules both count once, and each copy is counted once. In the example, a light square, of which one module of the
+/// first copy was not read, is compared with level M and mask 0. A level and a mask are near to a copy at a cost of 6,
+/// and not at 7.
 pub fn mending_numbers_compute()
     ensures protection { (v : ℕ) (l : Level) → 4 ≤ v → protection_of v l ≡ 0 }
     ensures protection_two { protection_of 2 Level.M ≡ 0 × protection_of 2 Level.Q ≡ 0 × protection_of 2 Level.H ≡ 0 }
@@ -124,22 +124,22 @@ pub fn mending_numbers_compute()
 {}
 
 /// At one version and level, the codewords of a damaged symbol are mended to at most one message, with one number of
-/// changed codewords for each block.
+/// misread codewords for each block.
 pub fn mended_messages_are_one(version: Version, level: Level)
     ensures { (unknown : Grid) (cw m n x y : List ℕ) → IsMendedIn unknown version level cw m x
         → IsMendedIn unknown version level cw n y
         → (m ≡ n) × (x ≡ y) }
 {}
 
-/// A damaged symbol, with or without unread modules, is read as at most one content, with one version, level, mask and
-/// number of changed codewords for each block.
+/// A damaged symbol, with or without unread modules, is read as at most one content, with one version, level and mask,
+/// and one number of misread codewords for each block.
 pub fn mended_readings_are_one()
     ensures { (unknown : Grid) (g : Grid) (v w : ℕ) (l k : Level) (m n : ℕ) (p q : Content) (x y : List ℕ)
         → IsMendedReading unknown g v l m p x → IsMendedReading unknown g w k n q y
         → (v ≡ w) × (l ≡ k) × (m ≡ n) × (p ≡ q) × (x ≡ y) }
 {}
 
-/// A damaged symbol has one number of wrong modules, whichever way it is mended.
+/// A damaged symbol has at most one number of wrong modules.
 pub fn wrong_modules_are_one()
     ensures { (unknown : Grid) (g : Grid) (v w : ℕ) (l k : Level) (m n : ℕ) (x y : List ℕ) (a b : ℕ)
         → HasWrongModules unknown g v l m x a → HasWrongModules unknown g w k n y b → a ≡ b }
@@ -158,8 +158,8 @@ pub fn readings_are_mended_readings()
         → IsMendedReading (light g.side) g h.version h.level h.mask p (replicate (blocks_in h.version h.level) 0) }
 {}
 
-/// Mending yields the number of changed codewords for each of one or more blocks. None is above what can be corrected
-/// in a block, which is from 2 to 15 for every version and level.
+/// Mending yields a number of misread codewords for each block, and there is at least one block. None of the numbers is
+/// above `tolerance_of`, which is from 2 to 15 for every version and level.
 pub fn changes_are_bounded()
     ensures some { (unknown : Grid) (g : Grid) (v : ℕ) (l : Level) (m : ℕ) (p : Content) (x : List ℕ)
         → IsMendedReading unknown g v l m p x → 1 ≤ length x }
@@ -181,8 +181,8 @@ pub fn mending_refusals_are_one()
         → (e ≡ ReadFault.Memory) ⊎ (f ≡ ReadFault.Memory) ⊎ (e ≡ f) }
 {}
 
-/// `IsUnmended` lists the reasons for each fault: `mend_symbol_without` returns one other than `Memory` exactly if they
-/// hold and no allocation is refused.
+/// `IsUnmended` states the reason for each fault: `mend_symbol_without` returns a fault other than `Memory` exactly if
+/// its reason holds and no allocation is refused.
 pub fn mendings_are_refused_exactly(
     alloc: Global,
     damaged: &Matrix,
@@ -195,14 +195,16 @@ pub fn mendings_are_refused_exactly(
     mend_symbol_without(alloc, damaged, unknown)
 }
 
-/// Two symbols of one version with different data codewords or levels differ in at least seven modules of each copy of
-/// the format information, or in more than twice as many codewords of some block as can be corrected there.
+/// Take two symbols of one version with different data codewords or levels. They differ in at least seven modules of
+/// each copy of the format information, or in more than twice as many codewords of some block as can be corrected
+/// there.
 pub fn symbols_lie_apart(version: Version)
     ensures { SymbolsLieApart version }
 {}
 
-/// A symbol is read with a level and a mask if both copies together cost at most 13 with them. It is also read with a
-/// level and a mask that are near to one copy, whatever the other shows, if no others near to a copy mend the symbol.
+/// A level and a mask are those to read a damaged symbol with (`HasFormat`) if both copies together cost at most 13
+/// with them. So are a level and a mask that are near to one copy, whatever the other shows, if no other pair that is
+/// near to a copy mends the symbol.
 pub fn formats_are_found()
     ensures sure { (unknown : Grid) (v : ℕ) (g : Grid) (l : Level) (mask : ℕ) → mask < 8 → format_cost unknown g l mask ≤ 13
         → HasFormat unknown v g l mask }
@@ -213,9 +215,9 @@ pub fn formats_are_found()
         → HasFormat unknown v g l mask }
 {}
 
-/// A damaged symbol of an input is mended to exactly this input, or memory is refused, if its blocks can be mended and
-/// the format information gives its level and mask (`formats_are_found`). All else may be ruined. The numbers of
-/// misread codewords and of wrong modules are exact.
+/// A damaged symbol is mended to exactly its input if its blocks can be mended and the format information gives its
+/// level and mask (`formats_are_found`), unless memory is refused. All other modules may have any colour. The numbers
+/// of misread codewords and of wrong modules are exact.
 pub fn damaged_symbols_are_mended(
     alloc: Global,
     damaged: &Matrix,
@@ -235,9 +237,9 @@ pub fn damaged_symbols_are_mended(
     mend_symbol_without(alloc, damaged, unknown)
 }
 
-/// A symbol of an input is mended to exactly this input, or memory is refused, if at most six of its 30 modules of
-/// format information are wrong, and in each block at most `changed_max`. Those of function patterns, version
-/// information and remainder bits may have any colour.
+/// A symbol is mended to exactly its input, unless memory is refused, if at most six of its 30 modules of format
+/// information are wrong, and at most `changed_max` in each block. Modules of function patterns, version information
+/// and remainder bits may have any colour.
 pub fn few_wrong_modules_are_mended(alloc: Global, damaged: &Matrix) -> Result<Mended, ReadFault>
     ensures { (smallest : ℕ) (l : Level) (rule : Rule) (x : List ℕ) (v mask : ℕ) (g : Grid) → 1 ≤ smallest
         → (s : IsSymbol smallest l rule x v mask g) → damaged.now.side ≡ g.side → DifferInFewModules v l damaged.now g
@@ -248,8 +250,8 @@ pub fn few_wrong_modules_are_mended(alloc: Global, damaged: &Matrix) -> Result<M
     mend_symbol(alloc, damaged)
 }
 
-/// `IsUnmendedSeries` lists the reasons for each fault: `mend_series` returns one other than `Memory` exactly if they
-/// hold and no allocation is refused.
+/// `IsUnmendedSeries` states the reason for each fault: `mend_series` returns a fault other than `Memory` exactly if
+/// its reason holds and no allocation is refused.
 pub fn series_mendings_are_refused_exactly(
     alloc: Global,
     damaged: &[Matrix],
@@ -261,7 +263,8 @@ pub fn series_mendings_are_refused_exactly(
 }
 
 /// If the symbols of a series are damaged, each within what can be mended, mending yields exactly the input, or memory
-/// is refused. For symbols of another encoder it yields what the undamaged ones are joined to.
+/// is refused. From symbols of another encoder mending yields the bytes that the undamaged symbols are joined to, or
+/// memory is refused.
 pub fn damaged_series_are_mended(alloc: Global, damaged: &[Matrix]) -> Result<Vec<u8>, ReadFault>
     ensures series { (v : ℕ) (l : Level) (rule : Rule) (x : List ℕ) (ss : List Symbol) → 1 ≤ v → v ≤ 40
         → IsSeries v l rule x ss → AreDamagedSquares damaged.now (squares_of ss)

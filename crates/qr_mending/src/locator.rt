@@ -1,10 +1,10 @@
 //! Finds the error locator polynomial of a damaged block by Gaussian elimination. The polynomial has a root for each
-//! wrong codeword.
+//! misread codeword.
 //!
 //! A polynomial solves an equation if the sum of its coefficients, each multiplied by the item of `window` at its
-//! index, is 0; for equation `i` the window is the syndromes from index `i` on. The pool of polynomials begins with one
-//! more power of x than there are equations. A step removes at most one polynomial, and changes those after it so that
-//! all in the pool solve one more equation.
+//! index, is 0; for equation `i` the window is the syndromes from index `i` on. There are `t` equations, and the pool
+//! of polynomials begins as the powers x^0 to x^`t`. The step for an equation removes at most one polynomial, the
+//! pivot, and changes those after it so that all in the pool solve this equation too.
 
 ghost use Rattle.std.specs.Prelude.{◌≡◌, ◌≢◌, ℕ, ◌+◌, ◌*◌, ◌<◌, ◌≤◌, List, length, drop};
 ghost use Rattle.qr_mending.specs.Steps.Polynomial.{at, miss_of, IsMonic, IsRelieved, HasDegrees, IsPool};
@@ -12,7 +12,7 @@ ghost use Rattle.qr_mending.specs.Steps.Polynomial.{at, miss_of, IsMonic, IsReli
 use crate::polynomial::Polynomial;
 use arrayvec::ArrayVec;
 
-// The pool before the first step: x^0 to x^`t`.
+// The pool before the first step.
 fn monomials(t: usize) -> ArrayVec<Polynomial, 16>
     requires { t ≤ 15 }
     ensures { (syndromes : List ℕ) → IsPool t 0 syndromes result.items }
@@ -24,7 +24,7 @@ fn monomials(t: usize) -> ArrayVec<Polynomial, 16>
     pool
 }
 
-// The number of polynomials if all solve the equation of `window`.
+// Returns `pool.len()` if all polynomials solve the equation of `window`.
 fn first_miss(pool: &[Polynomial], window: &[u8], t: usize) -> usize
     requires degrees { HasDegrees t pool.now }
     requires small { t ≤ 15 }

@@ -1,6 +1,6 @@
 //! Mends and reads damaged symbols (ISO/IEC 18004:2015, 7.5.1, 7.9.1 and 12). The square `unknown` is dark where a
 //! module of `matrix` was not read. `marks` has a byte for each codeword, which is 0 exactly if all its modules were
-//! read.
+//! read. A level and a mask are near to a copy of the format information if its cost with them is at most 6.
 
 ghost use Rattle.std.specs.Prelude.{◌≡◌, ◌<◌, length, IfErr, IfOk, Some, MatchOption, MatchResult};
 ghost use Rattle.qr_layout.specs.Blocks.{data_codewords_of};
@@ -22,10 +22,10 @@ use qr_matrix::{Matrix, differences};
 use qr_symbol::{ReadFault, draw_symbol, interleave, read_codewords};
 use std::alloc::{AllocError, Global};
 
-// If both copies together cost at most this, every other level and mask cost more.
+// If both copies together cost at most this with a level and a mask, they cost more with every other level and mask.
 const COST_CERTAIN: u8 = 13;
 
-// A symbol whose blocks were mended; `changed` has the number of misread codewords of each.
+// A symbol whose blocks were mended; `changed` has the number of misread codewords of each block.
 #[derive(Drop)]
 struct MendedSquare {
     level: Level,
@@ -78,8 +78,9 @@ fn cost_of(matrix: &Matrix, unknown: &Matrix, version: Version, mended: &MendedS
     format_cost(matrix, unknown, version, mended.level, mended.mask)
 }
 
-// Of the levels and masks that are near to a copy and mend the symbol, takes those of least cost, and at equal costs
-// those of the first copy. The second copy is not tried if those of the first cost at most `COST_CERTAIN`.
+// Of the pairs of level and mask that are near to a copy and mend the symbol, takes the one with the least cost of both
+// copies. At equal costs it takes the one near to the first copy. The second copy is not tried if the pair near to the
+// first mends the symbol and costs at most `COST_CERTAIN`.
 fn mend_by_either(
     alloc: Global,
     version: Version,
@@ -206,15 +207,15 @@ pub struct Mended {
 /// Reads a damaged symbol and corrects its damage (ISO/IEC 18004:2015, 7.5.1, 7.9.1 and 12). A module that was not read
 /// is dark in the square `unknown`, which has the side of `matrix`, and its codeword is called erased.
 ///
-/// A block is mended if its erased codewords, and twice its misread ones, are at most twice `changed_max`. The level
-/// and the mask are found by the two copies of the format information, of 15 modules each. A copy admits a level and a
-/// mask if the modules of it that were not read, and twice those that are misread, are at most 6; it admits at most one
-/// pair. Of the admitted pairs that mend every block, the one with the least such sum over both copies is taken, and of
-/// two with the same sum the one that the first copy admits.
+/// A block is mended if the number of its erased codewords, plus twice that of its misread ones, is at most twice
+/// `changed_max`. The level and the mask are found by the two copies of the format information, of 15 modules each. A
+/// copy admits a level and a mask if the number of its modules that were not read, plus twice that of misread ones, is
+/// at most 6; it admits at most one pair. Of the admitted pairs that mend every block, the one with the least such sum
+/// over both copies is taken. Of two with the same sum it is the one that the first copy admits.
 ///
-/// So a symbol is mended to exactly itself if its blocks can be mended and that sum is at most 13 over both copies, as
-/// with any six wrong modules of format information. Function patterns, version information and remainder bits have no
-/// effect on the content; their wrong modules are counted in `Mended::wrong_modules`.
+/// So a symbol is mended to exactly itself if its blocks can be mended and that sum over both copies is at most 13.
+/// With any six wrong modules of format information it is at most 12. Function patterns, version information and
+/// remainder bits have no effect on the content; their wrong modules are counted in `Mended::wrong_modules`.
 ///
 /// # Errors
 ///

@@ -20,8 +20,8 @@ use qr_matrix::{Matrix, differences};
 use qr_symbol::{BlockSizes, ReadFault, read_unmasked};
 use std::alloc::{AllocError, Global};
 
-// A mark for each codeword of a symbol: a byte with a bit for each of its modules, which is 1 if the module is dark in
-// `unknown`. If no module is, the marks are all 0 and need not be read.
+// A mark for each codeword of a symbol: a byte with a bit for each of its modules, which is 1 if the module was not
+// read, that is, dark in `unknown`. If all of `unknown` is light, all marks are 0 and need not be read.
 pub(crate) fn read_marks(
     alloc: Global,
     version: Version,
@@ -39,7 +39,7 @@ pub(crate) fn read_marks(
     read_unmasked(alloc, version, unknown)
 }
 
-// Codewords, or their marks, in the order of the blocks; `checks` are those of error correction.
+// Codewords, or their marks, in the order of the blocks; `checks` has those of the error correction codewords.
 #[derive(Drop)]
 struct InBlocks {
     data: Vec<u8>,
@@ -102,7 +102,7 @@ pub(crate) struct MendedMessage {
     pub changed: Vec<usize>,
 }
 
-// Mends the block in its own memory, and then cuts it to its data codewords.
+// Mends the block in place, and then cuts it to its data codewords.
 fn mend_block(
     divisor: &Divisor,
     spare: usize,
@@ -196,7 +196,7 @@ fn mend_blocks(
     mend_parts(alloc, blocks, spare, &received, &unread)
 }
 
-// The error correction codewords of a block that only detect errors, so that fewer blocks are mended to a wrong one
+// How many error correction codewords of a block only detect errors, so that fewer blocks are mended to a wrong one
 // (ISO/IEC 18004:2015, 7.5.1, Table 9).
 fn protection(version: Version, level: Level) -> u8
     ensures { result ≡ protection_of version level }
@@ -209,7 +209,7 @@ fn protection(version: Version, level: Level) -> u8
     }
 }
 
-// The error correction codewords of a block that correct errors.
+// How many error correction codewords of a block correct errors.
 fn spare(version: Version, level: Level) -> u8
     ensures { result ≡ spare_of version level }
 {

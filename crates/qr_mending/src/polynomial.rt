@@ -9,8 +9,8 @@ ghost use Rattle.qr_mending.specs.Steps.Polynomial.{all_of, IsMonic, miss_of, Is
 use crate::sums::dot;
 use qr_field::{div, mul};
 
-// The coefficients are `terms` up to index `degree`; later items are not used. The leading coefficient of the default
-// value is 0.
+// The coefficients are `terms` up to index `degree`; later items are not used. The default value alone has the leading
+// coefficient 0.
 #[derive(Clone, Copy)]
 pub(crate) struct Polynomial {
     pub(crate) degree: usize,
@@ -76,7 +76,7 @@ impl Polynomial {
         }
     }
 
-    // This polynomial plus that multiple of `pivot` with which the sum solves the equation of `window`.
+    // This polynomial plus the multiple of `pivot` that makes the sum solve the equation of `window`.
     pub(crate) fn relieved(&self, pivot: &Polynomial, window: &[u8]) -> Polynomial
         requires lower { pivot.now.degree < self.now.degree }
         requires fits { self.now.degree < 16 }

@@ -15,7 +15,7 @@ pub(crate) fn count_erased(erased: &[bool]) -> usize
     erased.iter().filter(|place| **place).count()
 }
 
-// The product with x + `root`.
+// The product of `polynomial` and x + `root`.
 fn with_root(polynomial: &[u8], root: u8) -> ArrayVec<u8, 31>
     requires { length polynomial.now < 31 }
     ensures { result.items ≡ times_root root 0 polynomial.now }
@@ -30,7 +30,8 @@ fn with_root(polynomial: &[u8], root: u8) -> ArrayVec<u8, 31>
     product
 }
 
-// The product with a factor x + 2^m for each erased codeword that has m codewords after it in the block.
+// The product of `polynomial` and a factor x + 2^m for each erased codeword, where m is the number of codewords after
+// it in the block.
 pub(crate) fn with_roots(erased: &[bool], polynomial: &[u8]) -> ArrayVec<u8, 31>
     requires small { length erased.now ≤ 255 }
     requires fits { length polynomial.now + count_by (λ e. e) erased.now ≤ 31 }

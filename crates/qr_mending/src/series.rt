@@ -22,13 +22,14 @@ fn mend_all(alloc: Global, damaged: &[Matrix]) -> Result<Vec<Parsed>, ReadFault>
 }
 
 /// Mends damaged symbols, and joins their bytes in order, if they are one plain symbol or a whole series (ISO/IEC
-/// 18004:2015, 8 and 12). A series is whole if each structured append header has the position of its symbol, counted
-/// from 0, the number of symbols less 1, and the parity data of all bytes.
+/// 18004:2015, 8 and 12). A series is whole if each structured append header has the position of its symbol (from 0),
+/// the number of symbols less 1, and the parity data of all bytes.
 ///
 /// # Errors
 ///
 /// Returns the fault of the first symbol that cannot be mended, whatever the headers are. If all can, returns `Series`
-/// if the symbols are neither of the two, also if there are none. Returns `Memory` if an allocation is refused.
+/// if the symbols are neither one plain symbol nor a whole series, also if there are none. Returns `Memory` if an
+/// allocation is refused.
 ///
 /// # Notes
 ///

@@ -10,7 +10,7 @@ ghost use Rattle.qr_mending.specs.Steps.Sums.{dot_of, eval, HasValues};
 use arrayvec::ArrayVec;
 use qr_field::{mul, power_of};
 
-// The sum of the products of items at equal indices; later items of `window` are left out.
+// The sum of the products of items at equal indices; items of `window` past the end of `terms` are left out.
 pub(crate) fn dot(terms: &[u8], window: &[u8]) -> u8
     requires { length terms.now ≤ length window.now }
     ensures value { result ≡ dot_of terms.now window.now }
@@ -47,7 +47,8 @@ fn syndrome(block: &[u8], exponent: u8) -> u8
     value
 }
 
-// The first is the value at 2^0. All are 0 if `block` is undamaged and has `n` error correction codewords.
+// The syndromes for the exponents 0 to `n` - 1. All are 0 if `block` is undamaged and has `n` error correction
+// codewords.
 pub(crate) fn syndromes(block: &[u8], n: usize) -> ArrayVec<u8, 30>
     requires { n ≤ 30 }
     ensures count { array_vec_len result ≡ n }

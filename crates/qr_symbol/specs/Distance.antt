@@ -11,7 +11,7 @@ use Rattle.qr_symbol.specs.Reading.{IsMessage}
 abbrev pub blocks_in : ℕ → Level → ℕ
 blocks_in v l = block_count (data_sizes (blocks_of v l))
 
--- A message, with the square and the mask in which it is read [own]
+-- A message, and a square that contains it under a mask [own]
 pub record HeldMessage (v : ℕ) (l : Level) : Type 0 where
   pub mask : ℕ
   pub grid : Grid

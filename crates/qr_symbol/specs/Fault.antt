@@ -9,12 +9,12 @@ use Rattle.qr_symbol.specs.declared.fault.EncodeFault.TheVariants as fault
 use Rattle.qr_symbol.specs.declared.fault.ReadFault.{ReadFault}
 use Rattle.qr_symbol.specs.declared.fault.ReadFault.TheVariants as unread
 
--- Each has the same name among the faults of encoding [own]
+-- A fault of `qr_bits` keeps its name among the faults of encoding [own]
 abbrev pub fault_of : BitFault → EncodeFault
 fault_of bit.Memory = fault.Memory
 fault_of bit.TooLong = fault.TooLong
 
--- The number of a fault of reading, which is another in the library for C [own]
+-- The number of a fault of reading; the library for C has other numbers [own]
 abbrev pub read_fault_number : ReadFault → ℕ
 read_fault_number unread.Memory = 1
 read_fault_number unread.Side = 2

@@ -1,6 +1,6 @@
 -- The final sequence of codewords: the interleaved data codewords of all blocks, then their interleaved error
--- correction codewords. Before they are interleaved, the blocks come one after the other. `c` are block sizes, and
--- blocks, and codewords in them, are counted from 0.
+-- correction codewords. Before they are interleaved, the blocks come one after the other. `c` are block sizes. Blocks
+-- are counted from 0, and so are the codewords in a block.
 use Rattle.std.specs.Prelude.{◌≡◌, ℕ, ◌+◌, ◌-◌, ◌*◌, ◌<◌, ◌⊎◌, nat_lt, if◌then◌else◌, List, [], ◌++◌, map, take, drop, length, slice_index_or}
 use Rattle.std.specs.List.{All, AllPairs, Contains}
 use Rattle.qr_field.specs.Polynomial.{IsCorrection}
@@ -35,7 +35,8 @@ data_sizes b = record { short = b.short; short_len = b.short_len; long = b.long 
 abbrev pub correction_sizes : Blocks → BlockSizes
 correction_sizes b = record { short = b.short + b.long; short_len = b.ec_len; long = 0 }
 
--- A codeword's index in its block, and the number of the block, both from 0 (ISO/IEC 18004:2015, 7.6)
+-- The position of a codeword: `place` is its index in its block, and `block` the number of the block (ISO/IEC
+-- 18004:2015, 7.6)
 pub record Position : Type 0 where
   pub place : ℕ
   pub block : ℕ
@@ -55,11 +56,11 @@ pub record IsPositionOrder (c : BlockSizes) (ts : List Position) : Type 0 where
   pub complete : (t : Position) → IsPosition c t → Contains ts t
   pub rising : AllPairs ComesBefore ts
 
--- The codeword at position `t`, of the codewords `d` of all blocks [own]
+-- The codeword at position `t`, among the codewords `d` of all blocks [own]
 abbrev pub codeword_at : BlockSizes → List ℕ → Position → ℕ
 codeword_at c d t = slice_index_or d (start_of c t.block + t.place) 0
 
--- The codewords of block `i`, of the codewords `d` of all blocks (ISO/IEC 18004:2015, 7.5.1)
+-- The codewords of block `i`, among the codewords `d` of all blocks (ISO/IEC 18004:2015, 7.5.1)
 abbrev pub part_of : BlockSizes → List ℕ → ℕ → List ℕ
 part_of c d i = take (block_len c i) (drop (start_of c i) d)
 
@@ -86,8 +87,8 @@ pub record IsFinalMessage (b : Blocks) (d cw : List ℕ) : Type 0 where
 abbrev pub IsInterleaved : ℕ → Level → List ℕ → List ℕ → Type 0
 IsInterleaved v l d cw = IsFinalMessage (blocks_of v l) d cw
 
--- The codewords with which `interleaved` begins, as many as the blocks have, put back into the order of the blocks
--- (ISO/IEC 18004:2015, 7.6)
+-- `xs` are the first codewords of `interleaved`, as many as the blocks have, with one block after the other (ISO/IEC
+-- 18004:2015, 7.6)
 pub record IsGathered (c : BlockSizes) (interleaved xs : List ℕ) : Type 0 where
   pub long : length xs ≡ codeword_count c
   pub positions : List Position

@@ -38,7 +38,7 @@ AreInSeries contents =
 abbrev pub BelongTogether : List Content → Type 0
 BelongTogether contents = IsPlain contents ⊎ AreInSeries contents
 
--- The squares are read as contents that belong together, and `bytes` are theirs in turn (ISO/IEC 18004:2015, 8.1 to
+-- The squares are read as contents that belong together, whose bytes in turn are `bytes` (ISO/IEC 18004:2015, 8.1 to
 -- 8.3, 12)
 pub record IsJoinedBy (reads : Grid → Content → Type 0) (squares : List Grid) (bytes : List ℕ) : Type 0 where
   pub contents : List Content
@@ -58,7 +58,7 @@ pub record IsNoSeries (reads : Grid → Content → Type 0) (squares : List Grid
   pub apart : BelongTogether contents → ⊥
 
 -- Reading and joining may fail with the fault: `Memory` always, `Series` if all squares are read but their contents do
--- not belong together, and any other if it is that of the first square that is refused [own]
+-- not belong together, and any other if the first square that cannot be read is refused for it [own]
 abbrev pub IsUnjoinedBy : (Grid → Content → Type 0) → (Grid → ReadFault → Type 0) → List Grid → ReadFault → Type 0
 IsUnjoinedBy reads refuses squares unread.Memory = Unit {0}
 IsUnjoinedBy reads refuses squares unread.Series = IsNoSeries reads squares

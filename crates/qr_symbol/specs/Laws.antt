@@ -1,4 +1,4 @@
--- Rows of the masks, worked out by hand and compared with the definition by a law.
+-- For laws: rows of the masks, worked out by hand, and the number that bits form.
 use Rattle.std.specs.Prelude.{ℕ, ◌-◌, Bool, List, [], ◌∷◌, map}
 use Rattle.std.specs.List.{range_with_len}
 use Rattle.qr_bits.specs.Bits.{value}
@@ -8,8 +8,8 @@ use Rattle.qr_symbol.specs.Mask.{inverts}
 abbrev pub all_masks : List ℕ
 all_masks = range_with_len 0 8
 
--- Rows 0 to 11 of the mask, in columns 0 to 5: six binary digits each, the highest for column 0, and 1 if the module is
--- inverted [own]
+-- Rows 0 to 11 of the mask, in columns 0 to 5: six binary digits each, the highest for column 0; a digit is 1 if the
+-- module is inverted [own]
 abbrev pub first_rows : ℕ → List ℕ
 first_rows mask = map (λ r. value (map (inverts mask r) (range_with_len 0 6))) (range_with_len 0 12)
 

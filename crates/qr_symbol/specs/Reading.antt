@@ -27,8 +27,8 @@ use Rattle.qr_symbol.specs.Interleaving.{IsInterleaved}
 abbrev pub unmasked : ℕ → Grid → Module → Bool
 unmasked mask g m = inverted (inverts mask m.row m.col) (colour g m.row m.col)
 
--- The unmasked colours of the first of the modules `ms`, eight for each codeword of the version, with 0 for each that is
--- missing (ISO/IEC 18004:2015, 7.7.3, 12)
+-- The unmasked colours of the first `n` of the modules `ms`, where `n` is eight times the number of codewords of the
+-- version; light for each that `ms` lacks (ISO/IEC 18004:2015, 7.7.3, 12)
 abbrev pub read_bits : ℕ → ℕ → Grid → List Module → List Bool
 read_bits v mask g ms = map (unmasked mask g) (take (8 * total_codewords_of v) ms) ++ replicate (8 * total_codewords_of v - length ms) false
 
@@ -62,7 +62,7 @@ pub record IsFormat (g : Grid) (l : Level) (mask : ℕ) : Type 0 where
   pub in_range : mask < 8
   pub bits : (i : ℕ) → i < 15 → format_bit g i ≡ has_bit (format_word_of l mask) i
 
--- The square has as many rows as version `v` (ISO/IEC 18004:2015, 6.3.2, 12)
+-- The square has the side of version `v`, from 1 to 40 (ISO/IEC 18004:2015, 6.3.2, 12)
 pub record IsOfVersion (g : Grid) (v : ℕ) : Type 0 where
   pub least : 1 ≤ v
   pub most : v ≤ 40
@@ -80,7 +80,7 @@ pub record IsParsedAs (g : Grid) (outcome : Result Content ParseFault) : Type 0 
   pub holds : IsMessage version level mask g message
   pub parsed : parse version (bits_of message) ≡ outcome
 
--- Parsing yields the content, and no fault (ISO/IEC 18004:2015, 12)
+-- The square is read as the content: parsing yields it, and no fault (ISO/IEC 18004:2015, 12)
 abbrev pub IsReading : Grid → Content → Type 0
 IsReading g content = IsParsedAs g (Ok content)
 
@@ -90,9 +90,9 @@ abbrev pub IsReadBack : ℕ → Rule → List ℕ → Grid → Type 0
 IsReadBack v rule x g = (segments : List Segment) × IsLeastSegmentation v rule x segments
     × IsReading g (record { header = None; segments = segments; bytes = x })
 
--- Reading may fail with the fault: `Side` if no version has this side, `Format` if the format information belongs to no
--- level and mask, `Check` if the codewords are no final sequence, and `Segments` if the data codewords cannot be
--- parsed, each only if none before it applies; `Memory` always, and `Series` never (ISO/IEC 18004:2015, 12)
+-- Reading may fail with the fault: always with `Memory`, never with `Series`. Of the others one at most applies: `Side`
+-- if no version has this side; else `Format` if the format information belongs to no level and mask; else `Check` if
+-- the codewords are no final sequence; else `Segments` if the data codewords cannot be parsed (ISO/IEC 18004:2015, 12)
 abbrev pub IsUnread : Grid → ReadFault → Type 0
 IsUnread g unread.Memory = Unit {0}
 IsUnread g unread.Side = (v : ℕ) → IsOfVersion g v → ⊥

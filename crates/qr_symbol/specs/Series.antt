@@ -24,15 +24,16 @@ AreParts v l rule x [] = x ≡ []
 AreParts v l rule x (p ∷ ps) = (n : ℕ) × (0 < n) × IsLongestFit v rule x (room_of v l) n × (p ≡ take n x)
     × AreParts v l rule (drop n x) ps
 
--- The parts make up `x`, and each fits a symbol with a header, though it may be empty and need not be longest [own]
+-- The parts make up `x`, and each fits a symbol with a header, though it may be empty and need not be the longest that
+-- does [own]
 abbrev pub FitParts : ℕ → Level → Rule → List ℕ → List (List ℕ) → Type 0
 FitParts v l rule x parts = (x ≡ concat parts) × All (λ p. HasFit v rule p (room_of v l)) parts
 
--- Every cut of `x` into parts that fit has at least `n` [own]
+-- Every cut of `x` into parts that fit has at least `n` parts [own]
 abbrev pub NeedsParts : ℕ → Level → Rule → List ℕ → ℕ → Type 0
 NeedsParts v l rule x n = (parts : List (List ℕ)) → FitParts v l rule x parts → n ≤ length parts
 
--- As `IsSymbolAt`, for a `Symbol`, which has a version and a level (ISO/IEC 18004:2015, 7.1, 8.1)
+-- As `IsSymbolAt`, for a `Symbol`, whose version and level are `v` and `l` (ISO/IEC 18004:2015, 7.1, 8.1)
 pub record IsSymbolOf (v : ℕ) (l : Level) (rule : Rule) (x : List ℕ) (h : Option Header) (s : Symbol) : Type 0 where
   pub version : s.version ≡ v
   pub level : s.level ≡ l
@@ -57,7 +58,7 @@ pub record IsSplit (v : ℕ) (l : Level) (rule : Rule) (x : List ℕ) (symbols :
   pub many : length parts ≤ 16
   pub made : AreSymbolsFrom v l rule (length parts - 1) (parity_of x) 0 parts symbols
 
--- `x` fits one plain symbol, and this is the only one [own]
+-- `x` fits one plain symbol, and `symbols` has this one alone [own]
 pub record IsPlainSymbol (v : ℕ) (l : Level) (rule : Rule) (x : List ℕ) (symbols : List Symbol) : Type 0 where
   pub fits : FitsVersion v l rule x
   pub symbol : Symbol

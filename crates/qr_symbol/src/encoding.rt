@@ -29,7 +29,7 @@ pub(crate) const SYMBOL_BYTES_MAX: usize = 7089;
 /// The segments are those of fewest bits in the modes that `rule` allows, and the codewords those that the standard
 /// requires for them. The mask is the one with the least penalty, the smallest of equals.
 ///
-/// Reading the symbol in the standard's order, unmasked, deinterleaved and parsed, yields exactly the input and these
+/// The codewords in the standard's order, unmasked, deinterleaved and parsed, yield exactly the input and these
 /// segments.
 ///
 /// # Errors

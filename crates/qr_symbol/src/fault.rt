@@ -6,20 +6,17 @@ use qr_bits::{BitFault, ParseFault};
 use std::alloc::{AllocError, AllocFailed};
 use thiserror::Error;
 
-/// Why an input is not encoded. `encode` checks `Empty`, then `TooLong`; `encode_series` `Empty`, then `TooMany`.
-/// Memory may be refused at any step after `Empty`.
+/// Why an input is not encoded. `encode` checks for `Empty`, then for `TooLong`; `encode_series` checks for `Empty`,
+/// then for `TooMany`. Memory may be refused at any step after the check for `Empty`.
 #[derive(Clone, Copy, Debug, PartialEq, Eq, Error)]
 pub enum EncodeFault {
-    /// The input has no byte.
     #[error("input is empty")]
     Empty = 1,
     /// The input fits no allowed version.
     #[error("input does not fit")]
     TooLong = 2,
-    /// The series would have more than 16 symbols.
     #[error("more than 16 symbols")]
     TooMany = 3,
-    /// An allocation was refused.
     #[error("out of memory")]
     Memory = 4,
 }
@@ -64,17 +61,16 @@ impl From<BitFault> for EncodeFault {
 /// `Series` after all symbols; memory may be refused at several steps.
 #[derive(Clone, Copy, Debug, PartialEq, Eq, Error)]
 pub enum ReadFault {
-    /// An allocation was refused.
     #[error("out of memory")]
     Memory,
-    /// No version has as many rows as the square.
     #[error("no version has this side")]
     Side,
-    /// In reading, the copy of the format information beside the top left finder pattern is that of no level and mask; in
-    /// mending, neither copy is near to one.
+    /// In reading, the copy of the format information beside the top left finder pattern belongs to no level and mask.
+    /// In mending, each copy costs more than 6 with every level and mask.
     #[error("the format information is damaged")]
     Format,
-    /// The error correction codewords of a block do not belong to its data codewords, and in mending cannot be made to.
+    /// The error correction codewords of a block do not belong to its data codewords, and in mending the block cannot
+    /// be mended.
     #[error("a codeword is damaged")]
     Check,
     /// The data codewords cannot be parsed, for a reason other than `ParseFault::Memory`.

@@ -50,8 +50,8 @@ pub fn masks_compute()
     ensures rows { map first_rows all_masks ≡ computed_rows }
 {}
 
-/// `build_masked` draws module by module and `build` several modules at once, but under the mask that `build` has
-/// chosen they make the same symbol.
+/// `build_masked` draws the codewords module by module and `build` several modules at once, but under the mask that
+/// `build` has chosen they make the same symbol.
 ///
 /// # Errors
 ///
@@ -104,9 +104,9 @@ pub fn messages_lie_apart(version: Version, level: Level)
     ensures { MessagesLieApart version level }
 {}
 
-/// At one version and level, the codewords of a damaged symbol belong to at most one message if the damage is limited:
-/// in each block, the number of erased codewords plus twice that of misread ones is at most that of error correction
-/// codewords.
+/// At one version and level, the codewords of a damaged symbol belong to at most one message if the damage is limited.
+/// In each block, the number of erased codewords plus twice that of misread ones has to be at most that of error
+/// correction codewords.
 pub fn damaged_messages_are_one(version: Version, level: Level)
     ensures { DamagedMessagesAreOne version level }
 {}
@@ -148,8 +148,8 @@ pub fn refusals_are_one()
         → (e ≡ ReadFault.Memory) ⊎ (f ≡ ReadFault.Memory) ⊎ (e ≡ f) }
 {}
 
-/// `IsUnread` lists the reasons for each fault: `read_symbol` returns one other than `Memory` exactly if they hold and
-/// no allocation is refused.
+/// `read_symbol` returns a fault other than `Memory` exactly if the reasons that `IsUnread` lists for it hold, and no
+/// allocation is refused.
 pub fn readings_are_refused_exactly(alloc: Global, matrix: &Matrix) -> Result<Parsed, ReadFault>
     ensures { (e : ReadFault) → e ≢ ReadFault.Memory
         → (result ≡ Err e) ↔ ((result ≢ Err ReadFault.Memory) × IsUnread matrix.now e) }
@@ -171,8 +171,8 @@ pub fn joining_refusals_are_one()
         → (e ≡ ReadFault.Memory) ⊎ (f ≡ ReadFault.Memory) ⊎ (e ≡ f) }
 {}
 
-/// `IsUnjoined` lists the reasons for each fault: `read_series` returns one other than `Memory` exactly if they hold
-/// and no allocation is refused.
+/// `read_series` returns a fault other than `Memory` exactly if the reasons that `IsUnjoined` lists for it hold, and no
+/// allocation is refused.
 pub fn joinings_are_refused_exactly(alloc: Global, symbols: &[Symbol]) -> Result<Vec<u8>, ReadFault>
     ensures { (e : ReadFault) → e ≢ ReadFault.Memory
         → (result ≡ Err e) ↔ ((result ≢ Err ReadFault.Memory) × IsUnjoined (squares_of symbols.now) e) }

@@ -186,7 +186,7 @@ fn fill_alignment(matrix: &mut Matrix, v: Version, centres: &[Module], dark: boo
     }
 }
 
-// Fills four rectangles around the module, which keeps its colour.
+// Fills four rectangles, so that the module in the middle keeps its colour.
 fn clear_ring(matrix: &mut Matrix, row: u8, col: u8)
     requires row_least { 1 ≤ row }
     requires row_most { row + 2 ≤ matrix.old.side }

@@ -3,7 +3,7 @@
 //!
 //! Bits are numbered through all codewords; bit 0 is the highest of the first codeword. `across` is a transposed
 //! square, in which the two columns of a strip are rows. Exactly the region is dark in `region`, and transposing does
-//! not change it. `passed` counts the rows of a strip that come earlier in its order.
+//! not change it. `passed` counts the rows of the strip that are already drawn.
 
 ghost use Rattle.std.specs.Prelude.{◌≡◌, ℕ, List, ◌*◌, ◌%◌, ◌+◌, ◌-◌, ◌<◌, ◌≤◌, ◌==◌, ◌&&◌, if◌then◌else◌, not, false, length, slice_index};
 ghost use Rattle.qr_layout.specs.Version.{side_of};
@@ -49,7 +49,7 @@ fn last_codewords(codewords: &[u8], place: usize) -> u64
     bits
 }
 
-// Eight codewords, the first as the highest byte of `bits`. Its highest bit has the number `first`.
+// Eight codewords, the first as the highest byte of `bits`. The highest bit of `bits` has the number `first`.
 #[derive(Clone, Copy)]
 struct CodewordBits {
     bits: u64,
@@ -160,7 +160,8 @@ fn with_light_region(columns: Columns, region: &Columns) -> Columns
     }
 }
 
-// `taken` is how many of `bits` were drawn before, from the highest on. Returns how many are drawn now.
+// `taken` is how many of `bits` were drawn before this module, from the highest on. Returns how many are drawn after
+// it.
 fn draw_module(column: &mut BitRow, region: &BitRow, bits: u8, taken: u8, row: u8) -> u8
     requires row_in { row < 192 }
     requires taken { taken < 8 }
@@ -288,8 +289,8 @@ fn draw_columns(
     number + usize::from(draw_rows(columns, v, region, bits, strip, before + last, 1 - before))
 }
 
-// As `draw_columns`, but in the square. `draw_columns` is called in two places, so that each direction is compiled for
-// itself.
+// As `draw_columns`, but takes the columns from the square `across`, and puts them back. `draw_columns` is called in
+// two places, so that each direction is compiled for itself.
 fn draw_strip(
     across: &mut Matrix,
     v: Version,

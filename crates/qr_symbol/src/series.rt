@@ -23,11 +23,11 @@ use qr_layout::{Level, Version};
 use std::alloc::Global;
 
 /// Encodes the input as a series of at most 16 symbols of one version and level (ISO/IEC 18004:2015, 8). An input that
-/// fits one symbol without a structured append header is this one symbol. Any other is cut into parts, each the longest
-/// prefix of the rest that fits a symbol with a header, even if some shorter prefix does not.
+/// fits one symbol without a structured append header is encoded as this one symbol. Any other is cut into parts, each
+/// the longest prefix of the rest that fits a symbol with a header, even if some shorter prefix does not.
 ///
 /// The parity data in each header are of the whole input. The symbols, read and joined, yield exactly the input.
-/// Without kanji mode the series is the shortest possible: no cut into parts that fit has fewer.
+/// Without kanji mode the series is the shortest possible: no cut into parts that fit has fewer parts.
 ///
 /// # Errors
 ///

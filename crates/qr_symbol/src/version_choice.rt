@@ -24,7 +24,8 @@ const SMALL_BITS: u32 = 1856;
 // As `SMALL_BITS`, for versions 1 to 26 (7.4.10, Table 7).
 const MEDIUM_BITS: u32 = 10960;
 
-// An upper bound on the bytes of a symbol of versions 1 to 26: three digits, the shortest, need ten bits (7.4.3).
+// An upper bound on the bytes of a symbol of versions 1 to 26: no bytes take fewer bits than digits, of which three
+// take ten (7.4.3).
 const MEDIUM_BYTES: usize = 3288;
 
 #[derive(Drop)]
@@ -47,7 +48,7 @@ fn last_of_width(version: Version) -> u8
     }
 }
 
-// The first version of a range, 1, 10 or 27, before which the input fits none, as its length or a lower bound on its
+// The first version of a range: 1, 10 or 27. The input fits no version before it, as its length or a lower bound on its
 // bits shows. With byte mode alone this bound is not computed, since it would save little time.
 fn first_for(input: &[u8], rule: Rule) -> u8
     requires { length input.now ≤ INPUT_MAX }

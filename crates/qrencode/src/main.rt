@@ -1,5 +1,5 @@
-//! The program `qrencode` passes its arguments and its standard streams to `qrencode_cli::run`, and exits with its
-//! status.
+//! The program `qrencode` passes its arguments and its standard streams to `qrencode_cli::run`, and exits with the
+//! status that `run` returns.
 #![tactic(auto)]
 
 ghost use Rattle.std.specs.Prelude.{map};
@@ -28,7 +28,7 @@ fn command<R: Source, W: Sink, E: Sink>(
     ExitCode::from(run(alloc, words, input, out, err))
 }
 
-// Writes nothing and returns 1 if memory for the arguments is refused, or if one is not valid UTF-8.
+// Writes nothing and returns 1 if memory for the arguments is refused, or if an argument is not valid UTF-8.
 fn main(rt: HostRuntime) -> ExitCode {
     let words: Vec<String> = match env::args(&rt) {
         Ok(args) => match args.collect(rt.alloc()) {

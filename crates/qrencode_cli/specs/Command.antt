@@ -104,13 +104,14 @@ AllRead old new given = Consumes old.remaining new.remaining given
     × (old.counts ≡ no_reads → new.counts.given ≡ length given)
     × (old.counts ≡ no_reads → (new.counts.ends ≡ 1) ⊎ (length given ≡ INPUT_MAX))
 
--- What a run with this outcome does to its reader [own]
+-- The reader is unchanged if the run need not read it; otherwise it was read to its end or `INPUT_MAX` bytes, or a read
+-- fault or lack of memory ended the run [own]
 pub record InputConsumed {T : Type 0} (words : List Text) (old new : Reader) (given : List ℕ) (outcome : Result T Fault) : Type 0 where
   pub unread : (ReadsInput words → ⊥) → new ≡ old
   pub read : ReadsInput words → AllRead old new given ⊎ IsErrOf outcome fault.Read ⊎ IsErrOf outcome fault.Memory
 
--- Standard error received the line, or a prefix of it if its own write failed, counted at most the line's bytes, and was
--- not flushed [own]
+-- Standard error received the line, or a prefix of it if a write to it failed; it counts at most as many bytes as the
+-- line has, and was not flushed [own]
 abbrev pub ErrorHolds : Writer → Writer → List ℕ → Type 0
 ErrorHolds old new line = AppendsBeginning old.taken new.taken line
     × (old.counts ≡ no_writes → new.counts.taken ≤ counted (length line))
@@ -118,8 +119,8 @@ ErrorHolds old new line = AppendsBeginning old.taken new.taken line
     × (old.counts ≡ no_writes → is_write_fault new.counts ≡ false → new.counts.taken ≡ counted (length line))
     × (new.counts.flushes ≡ old.counts.flushes)
 
--- A run with these arguments can end with this outcome, success or a fault, and this exit status. Only lack of memory
--- and faults of devices, which their counts show, are left open [own]
+-- A run with these arguments can end with this outcome, success or a fault, and this exit status. The arguments and the
+-- input decide all but lack of memory and faults of devices, which the counts of these show [own]
 pub record Runs (words : List Text) (in0 in1 : Reader) (out0 out1 err0 err1 : Writer) (outcome : Result (Unit {0}) Fault) (status : ℕ) : Type 0 where
   pub given : List ℕ
   pub is_input : IsInputOf in0.remaining given

@@ -103,7 +103,7 @@ AnswersAreOne = (words : List Text) (given d e : List ℕ) → HasDrawing words 
 abbrev pub RefusalsExcludeDrawings : Type 0
 RefusalsExcludeDrawings = (words : List Text) (given d : List ℕ) (f : Fault) → HasDrawing words given d → IsRefusal words given f → ⊥
 
--- The faults are equal, or `clap` finds both, with whatever texts [own]
+-- The faults are equal, or both are refusals by `clap`, with whatever texts [own]
 abbrev pub AreAlike : Fault → Fault → Type 0
 AreAlike (fault.Usage (usage.Words text)) (fault.Usage (usage.Words other)) = Unit {0}
 AreAlike r q = r ≡ q

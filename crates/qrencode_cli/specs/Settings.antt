@@ -35,11 +35,11 @@ pub record SettingsView : Type 0 where
   pub structured : Bool
   pub string : Option Text
 
--- -8 comes before -k; without both, all modes but kanji mode are allowed [own]
+-- The option -8 overrides -k; without both, all modes but kanji mode are allowed [own]
 abbrev pub rule_for : SettingsView → Rule
 rule_for s = if s.bytes_only then BytesOnly else (if s.kanji then WithKanji else Auto)
 
--- The error correction level with the letter `t` [own]
+-- The error correction level with the letter `t`, or none if no level has it [own]
 abbrev pub level_named : Text → Option Level
 level_named t =
     if str_eq_ignore_ascii_case t (codes "l") then Some level.L else
@@ -47,7 +47,7 @@ level_named t =
     (if str_eq_ignore_ascii_case t (codes "q") then Some level.Q else
     (if str_eq_ignore_ascii_case t (codes "h") then Some level.H else None)))
 
--- The type of drawing with the name `t` [own]
+-- The type of drawing with the name `t`, or none if no type has it [own]
 abbrev pub drawing_named : Text → Option Drawing
 drawing_named t =
     if str_eq_ignore_ascii_case t (codes "ascii") then Some drawing.Ascii else
@@ -60,7 +60,7 @@ drawing_named t =
 abbrev pub number_or : ℕ → Option Text → ℕ
 number_or otherwise o = option_map_or byte_or_zero o otherwise
 
--- The version of -v; 0 asks for none, as if it were not given [own]
+-- The version of -v; 0 asks for none, as if -v were not given [own]
 abbrev pub version_at : Option Text → Option ℕ
 version_at o = let n = number_or 0 o in if nat_le 1 n && nat_le n 40 then Some n else None
 

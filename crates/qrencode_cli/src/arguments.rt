@@ -41,7 +41,7 @@ fn number_option<'a>(alloc: Global, option: OptionText<'a>, most: i64) -> Arg<'a
     text_option(alloc, option).value_parser(ValueParser::Signed(0, most))
 }
 
-// As `text_option`, but `clap` refuses arguments without it.
+// As `text_option`, but `clap` refuses arguments without this option.
 fn required_option<'a>(alloc: Global, option: OptionText<'a>) -> Arg<'a>
     ensures rule { rule_of result ≡ required_rule option.entry.id.now option.entry.short }
     ensures local { result.global ≡ false }
@@ -130,7 +130,6 @@ const STRUCTURED: OptionText<'static> = OptionText {
     help: "Draw a series of up to 16 symbols if the input does not fit one; needs -v",
 };
 
-// The command with all its arguments.
 fn command_line<'a>(alloc: Global) -> Result<Command<'a>, AllocError>
     ensures { IfOk result (λ c. app_of c ≡ command) }
 {

@@ -63,7 +63,7 @@ fn make_job(alloc: Global, input: &[u8], settings: &Settings) -> Result<DrawingJ
     job_of(alloc, input, settings)
 }
 
-// A string is cut after `INPUT_MAX` bytes, which already fit no symbols.
+// A string among the arguments is cut after `INPUT_MAX` bytes, which already fit no symbols.
 fn job_for<R: Source>(alloc: Global, words: &[String], input: &mut R) -> Result<DrawingJob, Fault>
     ensures prepares { Prepares (map string_bytes words.now) (R.device input.old)
         (R.device input.new) result }
@@ -129,23 +129,23 @@ fn run_to_result<R: Source, W: Sink>(
 /// `err`. Reading the drawn symbols yields the whole input, folded if `-i` is given.
 ///
 /// A run that returns 1 has written the line of the fault to `err`, or a prefix if `err` took no more. After a write
-/// fault, `out` has received a prefix of the drawing, or all of it if only the flush failed; after any other fault
+/// fault, `out` has received a prefix of the drawing, or all of it if only the flush failed. After any other fault
 /// nothing was written to `out`, and it was not flushed.
 ///
-/// A read fault is reported exactly if a read failed or 1,000 were interrupted; a write fault exactly if a write of the
-/// drawing or the flush failed, a write took no byte, or 1,000 were interrupted. Until then interrupted reads and
-/// writes are tried again, counted apart for the input, the drawing and the line.
+/// A read fault is reported exactly if a read failed or 1,000 were interrupted. A write fault is reported exactly if a
+/// write of the drawing or the flush failed, a write took no byte, or 1,000 were interrupted. Until then interrupted
+/// reads and writes are tried again, counted apart for the input, the drawing and the line.
 ///
-/// An input is refused as too long only if its shortest encoding is, for every allowed version; with `-S`, for too many
-/// symbols only if it does not fit one and is cut into more than 16 parts.
+/// An input is refused as too long only if its shortest encoding is too long for every allowed version. With `-S` it is
+/// refused for too many symbols only if it does not fit one and is cut into more than 16 parts.
 ///
-/// A run that reads `input` reads to its end or 113,425 bytes, unless a read fault or lack of memory ends it, by at
-/// most 114,424 reads, none after one that reached the end. After a write fault `out` has taken at most as many bytes
-/// as the drawing has, just as many if only the flush failed, and after any fault `err` at most as many as the line
-/// has. No write of the drawing offers more than 1,200 bytes.
+/// A run that reads `input` reads to its end or 113,425 bytes, unless a read fault or lack of memory ends it. It takes
+/// at most 114,424 reads, none after one that reached the end. After a write fault `out` has taken at most as many
+/// bytes as the drawing has, and just as many if only the flush failed. After any fault `err` has taken at most as many
+/// bytes as the line has. No write of the drawing offers more than 1,200 bytes.
 ///
-/// What is said of bytes holds where a contract can know them; what is said of calls, faults and numbers of bytes holds
-/// for files, pipes and terminals too, if the counts of the device are 0 before the run.
+/// What is said of bytes holds for devices whose bytes a contract can know. What is said of calls, faults and numbers
+/// of bytes holds for files, pipes and terminals too, if the counts of the device are 0 before the run.
 ///
 /// # Notes
 ///

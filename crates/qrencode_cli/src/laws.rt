@@ -19,8 +19,8 @@ pub fn limits()
     ensures interruptions { INTERRUPTIONS_MAX ≡ 999 }
 {}
 
-/// Arguments and an input have at most one drawing. If they have it, no refusal is correct, so only a device or lack of
-/// memory can make the run fail. At most one refusal is correct, all those by `clap` counted as one.
+/// Arguments and an input have at most one drawing. If they have one, no refusal is correct, so only a device or lack
+/// of memory can make the run fail. At most one refusal is correct, all those by `clap` counted as one.
 pub fn answers_are_one()
     ensures drawing { AnswersAreOne }
     ensures refusal { RefusalsExcludeDrawings }

@@ -30,7 +30,6 @@ pub struct Settings {
     /// The smallest version of one symbol, or `None` if any may be chosen. A series needs a version, which all its
     /// symbols have.
     pub smallest: Option<Version>,
-    /// The type of the drawing.
     pub kind: Drawing,
     /// The number of light modules on each side of a symbol, 0 to 100.
     pub margin: u8,
@@ -89,13 +88,12 @@ pub enum UsageFault {
     /// The level is not L, M, Q or H.
     #[error("unknown level")]
     Level,
-    /// The type of drawing is unknown.
+    /// The type is not ASCII, ASCIIi, UTF8 or SVG.
     #[error("unknown type")]
     Kind,
     /// `-S` is given without `-v`, or with version 0.
     #[error("-S needs -v")]
     NeedsVersion,
-    /// Memory was refused.
     #[error("out of memory")]
     Memory,
 }
@@ -138,7 +136,6 @@ fn text_in<'a>(matches: &ArgMatches<'a>, id: &str) -> Option<&'a str>
     matches.get_str(id)
 }
 
-// The type with this name, in small letters or capitals.
 fn drawing_named(name: &str) -> Option<Drawing>
     ensures { result ≡ drawing_named name.now }
 {
@@ -155,14 +152,13 @@ fn drawing_named(name: &str) -> Option<Drawing>
     }
 }
 
-// The level of `-l`, or L without it; `None` if it is unknown.
+// The level of `-l`, or L without `-l`; `None` if the level is unknown.
 fn level_in(matches: &ArgMatches<'_>) -> Option<Level>
     ensures { result ≡ option_map_or level_named (first_of (codes "level") (rows_of (found_of matches.now))) (Some Level.L) }
 {
     text_in(matches, "level").map_or(Some(Level::L), level_named)
 }
 
-// The level with this letter, small or capital.
 fn level_named(name: &str) -> Option<Level>
     ensures { result ≡ level_named name.now }
 {
@@ -186,7 +182,8 @@ fn drawing_in(matches: &ArgMatches<'_>) -> Option<Drawing>
     text_in(matches, "type").and_then(drawing_named)
 }
 
-// Whether the option `id` is given: the contracts of `clap` describe every value as a text, and this one is `true`.
+// Whether the option `id` is given: the contracts of `clap` describe every value as a text, and that of a given option
+// without a value is `true`.
 fn flag_in(matches: &ArgMatches<'_>, id: &str) -> bool
     ensures { result ≡ flag_at (first_of id.now (rows_of (found_of matches.now))) }
 {
@@ -211,7 +208,6 @@ fn version_in(matches: &ArgMatches<'_>) -> Option<Version>
     Version::new(number_in(matches, "version", 0))
 }
 
-// A copy of the string among the arguments.
 fn string_in(alloc: Global, matches: &ArgMatches<'_>) -> Result<Option<String>, AllocError>
     ensures { IfOk result (λ s. option_map string_bytes s ≡ first_of (codes "string") (rows_of (found_of matches.now))) }
 {
@@ -250,12 +246,13 @@ fn settings_in(alloc: Global, matches: &ArgMatches<'_>) -> Result<Settings, Usag
 }
 
 /// Returns the settings that the arguments `words` mean. The first of `words` is the program's name. `clap` decides
-/// which arguments and values are valid, as its contract states for commands without subcommands.
+/// which arguments and numbers are valid, by its contract for commands without subcommands; levels and types are looked
+/// up here.
 ///
 /// # Errors
 ///
 /// The first that applies of `Words` (`clap` refuses the arguments), `Level`, `Kind` and `NeedsVersion`; or `Memory`,
-/// if memory is refused before one of them is found.
+/// if memory is refused.
 pub fn options(alloc: Global, words: &[String]) -> Result<Settings, UsageFault>
     ensures settings { MatchResult result (λ s. settings_for (map string_bytes words.now) ≡ Ok s)
         (IsUsageFault (settings_for (map string_bytes words.now))) }

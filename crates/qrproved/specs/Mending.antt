@@ -33,16 +33,16 @@ pub record IsGreatest (xs : List ℕ) (n : ℕ) : Type 0 where
   pub one : Contains xs n
   pub most : All (λ x. x ≤ n) xs
 
--- `m` counts the wrong modules of the whole square and those of the format information, and has the greatest number of
--- codewords that were corrected in a block and that can be corrected in one (ISO/IEC 18004:2015, 7.5.1, 7.9.1)
+-- `m` counts the wrong modules of the square and of the format information, the most codewords corrected in a block,
+-- and the most misread ones that can be corrected (ISO/IEC 18004:2015, 7.5.1, 7.9.1)
 pub record TellsDamage (m : QrprovedMended) (changed : List ℕ) (side : ℕ) (modules : List ℕ) : Type 0 where
   pub whole : HasWrongModules (square_of_unknown side modules) (square_of_bytes side modules) m.version (level_of m.level) m.mask changed m.wrong_modules
   pub format : m.wrong_format_modules ≡ wrong_format_modules (square_of_unknown side modules) (square_of_bytes side modules) (level_of m.level) m.mask
   pub most : IsGreatest changed m.changed_most
   pub allowed : m.changed_allowed ≡ tolerance_of m.version (level_of m.level)
 
--- The square is mended and read: the bytes of its content were written to the beginning of the buffer, and their number,
--- the version, the level, the mask, the header and the damage are in `m` [own]
+-- The square is mended and read: the bytes of its content were written to the beginning of the buffer, and `m` has
+-- their number, the version, level, mask, header and damage [own]
 pub record IsGivenMended (modules : List ℕ) (side : ℕ) (before after : List ℕ) (m : QrprovedMended) : Type 0 where
   pub all_modules : AreModules modules side
   pub content : Content

@@ -19,8 +19,8 @@ abbrev pub TellsHeader : Option Header → (has_header position last parity : �
 TellsHeader None has_header position last parity = (has_header ≡ 0) × (position ≡ 0) × (last ≡ 0) × (parity ≡ 0)
 TellsHeader (Some h) has_header position last parity = (has_header ≡ 1) × (position ≡ h.position) × (last ≡ h.last) × (parity ≡ h.parity)
 
--- The square is read: its bytes were written to the beginning of the buffer, and their number, the version and the
--- header are in `c` [own]
+-- The square is read: the bytes of its content were written to the beginning of the buffer, and their number, the
+-- version and the header are in `c` [own]
 pub record IsGiven (modules : List ℕ) (side : ℕ) (before after : List ℕ) (c : QrprovedContent) : Type 0 where
   pub whole : side * side ≤ length modules
   pub content : Content

@@ -10,9 +10,9 @@ use Rattle.qrproved.specs.declared.series.QrprovedSeries.{QrprovedSeries}
 use Rattle.qrproved.specs.Settings.{AreSettings, level_of, rule_of}
 use Rattle.qrproved.specs.Modules.{HoldsSquares}
 
--- The modules of the input's series were written to the buffer, its number of symbols and their side are in `t`, and
--- the symbols are read and joined as the input; the numbers are in range, and without kanji mode no cut of the input
--- into parts that fit, each with a header, has fewer parts than there are symbols [own]
+-- The modules of the input's series were written to the buffer, `t` has its number of symbols and their side, and the
+-- symbols are read and joined as the input. The numbers are in range, and without kanji mode no cut of the input into
+-- parts that fit, each with a header, has fewer parts than there are symbols [own]
 pub record IsWrittenSeries (x : List ℕ) (version level rule : ℕ) (before after : List ℕ) (t : QrprovedSeries) : Type 0 where
   pub settings : AreSettings version level rule
   pub symbols : List Symbol

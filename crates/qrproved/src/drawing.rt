@@ -15,11 +15,11 @@ use std::alloc::{AllocError, Global};
 // The numbers of a caller, after they were checked.
 #[derive(Clone, Copy)]
 struct DrawingSettings {
-    // The rows and columns of each square.
+    // The number of rows and columns of each square.
     side: u8,
     count: u8,
     drawing: Drawing,
-    // The light modules on each side of a square.
+    // The number of light modules on each side of a square.
     margin: u8,
 }
 
@@ -62,6 +62,8 @@ fn squares_of(alloc: Global, modules: &[u8], side: u8, count: u8) -> Result<Vec<
     Ok(squares)
 }
 
+// Each fault of drawing is lack of memory: a `Vec` as the writer fails only if it cannot grow, and otherwise accepts
+// all bytes.
 fn drawn(alloc: Global, modules: &[u8], asked: DrawingSettings) -> Result<Vec<u8>, AllocError>
     requires least { 1 ≤ asked.side }
     requires most { asked.side ≤ 177 }

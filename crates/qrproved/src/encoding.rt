@@ -25,9 +25,9 @@ pub struct QrprovedSymbol {
     pub mask: u8,
 }
 
-/// Encodes `input` as one symbol of the least version, from `version` on, that it fits, and writes the modules: that of
-/// a row and a column is at index `row * side + column` of `modules`. `level` is 0 to 3 for L, M, Q and H. `rule` is 0
-/// for all modes but kanji mode, 1 for byte mode alone, and 2 for all modes.
+/// Encodes `input` as one symbol of the least version, from `version` on, that it fits, and writes the modules: the one
+/// in a row and a column is at index `row * side + column` of `modules`. `level` is 0 to 3 for L, M, Q and H. `rule` is
+/// 0 for all modes but kanji mode, 1 for byte mode alone, and 2 for all modes.
 ///
 /// On status 0 the buffer begins with exactly the modules of the symbol, which is read as the input, and `symbol` has
 /// its version, side and mask.

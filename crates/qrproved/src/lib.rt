@@ -1,4 +1,4 @@
-//! A library for C, and for each language that can call it. Its functions, the calls, are declared in
+//! A library for C, and for each language that can call C functions. Its functions, the calls, are declared in
 //! `include/qrproved.h`: they encode an input as a symbol or a series, read symbols, mend damaged ones, and draw
 //! squares of modules. Modules, bytes and texts go to a buffer of the caller, numbers to a struct of the caller. A call
 //! keeps no memory, so there is nothing to free.

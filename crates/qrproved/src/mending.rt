@@ -29,7 +29,8 @@ use std::alloc::{AllocError, Global};
 pub struct QrprovedMended {
     /// How many bytes the symbol contains.
     pub len: usize,
-    /// The wrong modules of the whole square: 0 exactly if it is the undamaged symbol and all its modules are known.
+    /// The number of wrong modules of the whole square, unknown ones too: 0 exactly if it is the undamaged symbol and
+    /// all its modules are known.
     pub wrong_modules: u32,
     /// The version, 1 to 40.
     pub version: u8,
@@ -45,11 +46,11 @@ pub struct QrprovedMended {
     pub level: u8,
     /// The mask, 0 to 7.
     pub mask: u8,
-    /// The wrong modules among the 30 of format information.
+    /// How many of the 30 modules of format information are wrong, unknown ones too.
     pub wrong_format_modules: u8,
-    /// The most codewords that were corrected in one block, without those with a module that is not known.
+    /// The most codewords that were corrected in one block; those with a module that is not known do not count.
     pub changed_most: u8,
-    /// The most wrong codewords that can be corrected in a block, 2 to 15.
+    /// The most misread codewords that can be corrected in a block of which all modules are known, 2 to 15.
     pub changed_allowed: u8,
 }
 
@@ -160,17 +161,15 @@ fn mended_of(len: usize, mended: &Mended) -> QrprovedMended
 /// errors, and writes the bytes that it contains to `bytes`. A module is 0 if it is light, 1 if it is dark, and 2 if it
 /// is not known: its codeword then takes half as much error correction as a misread one.
 ///
-/// On status 0 the square is a damaged form of a symbol. The bytes are those of this symbol, and `mended` has its
-/// version, level, mask and header, and four numbers of the damage: the wrong or unknown modules of the whole square,
-/// those of the format information, the most codewords that were corrected in one block (without those with an unknown
-/// module), and the most that can be corrected.
+/// On status 0 the square is a damaged form of a symbol, `bytes` begins with the bytes of this symbol, and `mended`
+/// describes the symbol and its damage.
 ///
 /// # Errors
 ///
 /// The first that applies of `SIDE` (no version has this side), `ROOM` (`modules` is too short), `SETTINGS` (a module
-/// is more than 2), `FORMAT` (the format information is damaged too much), `CHECK` (the codewords are), `SEGMENTS` (the
-/// data codewords cannot be parsed) and `ROOM` (`bytes` is too short); or `MEMORY` if memory is refused. The first
-/// three are found before memory is requested.
+/// is more than 2), `FORMAT` (the format information is damaged too much), `CHECK` (a block is damaged too much),
+/// `SEGMENTS` (the data codewords cannot be parsed) and `ROOM` (`bytes` is too short); or `MEMORY` if memory is
+/// refused. The first three are found before memory is requested.
 #[unsafe(no_mangle)]
 pub extern "C" fn qrproved_mend(
     alloc: Global,
@@ -274,7 +273,7 @@ mod tests {
         (8, 17),
     ];
 
-    // At 1-M four of the 26 codewords may be wrong.
+    // At 1-M four of the 26 codewords may be misread.
     #[test]
     fn eight_digits_are_mended(rt: HostRuntime) -> Result<(), Fail> {
         let drawn = eight_digits(&rt)?;
@@ -315,8 +314,8 @@ mod tests {
         Ok(())
     }
 
-    // At 1-M eight of the ten error correction codewords correct: a codeword that is not known takes one, a misread one
-    // two.
+    // At 1-M eight of the ten error correction codewords correct errors, and two only detect them. A codeword with a
+    // module that is not known takes one of the eight, and a misread codeword two.
     #[test]
     fn modules_that_are_not_known(rt: HostRuntime) -> Result<(), Fail> {
         let drawn = eight_digits(&rt)?;

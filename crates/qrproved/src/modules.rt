@@ -42,7 +42,7 @@ fn four_bytes(bits: u8) -> [u8; 4]
     }
 }
 
-// Writes four modules at once where they are a whole group.
+// Writes four modules at once, and the last, fewer than four, one by one.
 fn write_row(matrix: &Matrix, row: u8, start: usize, modules: &mut [u8])
     requires row_in { row < matrix.now.side }
     requires room { start + matrix.now.side ≤ length modules.old }

@@ -71,9 +71,9 @@ pub(crate) fn content_of(len: usize, version: Version, header: Option<Header>) -
 /// # Errors
 ///
 /// The first that applies of `SIDE` (no version has this side), `ROOM` (`modules` is too short), `FORMAT` (the format
-/// information is wrong), `CHECK` (the codewords are), `SEGMENTS` (the data codewords cannot be parsed) and `ROOM`
-/// (`bytes` is too short); or `MEMORY` if memory is refused. `SIDE` and the first `ROOM` are found before memory is
-/// requested.
+/// information is wrong), `CHECK` (a block does not match its error correction codewords), `SEGMENTS` (the data
+/// codewords cannot be parsed) and `ROOM` (`bytes` is too short); or `MEMORY` if memory is refused. `SIDE` and the
+/// first `ROOM` are found before memory is requested.
 #[unsafe(no_mangle)]
 pub extern "C" fn qrproved_read(
     alloc: Global,
@@ -143,7 +143,7 @@ mod tests {
     #[test]
     fn eight_digits_are_read(rt: HostRuntime) -> Result<(), Fail> {
         let mut modules = eight_digits(&rt)?;
-        // As dark as 1.
+        // Each byte but 0 is dark, so 200 is as dark as 1.
         for module in &mut modules {
             *module = if *module == 0 { 0 } else { 200 };
         }

@@ -24,8 +24,8 @@ pub struct QrprovedSeries {
 }
 
 /// Encodes `input` as a series of symbols of the version `version`, or as one plain symbol if it fits one, and writes
-/// the modules: that of a row and a column of symbol `number`, from 0, is at index `(number * side + row) * side +
-/// column` of `modules`. `level` and `rule` are those of `qrproved_encode`.
+/// the modules: the one in a row and a column of symbol `number`, counted from 0, is at index `(number * side + row) *
+/// side + column` of `modules`. `level` and `rule` are those of `qrproved_encode`.
 ///
 /// On status 0 the buffer begins with exactly the modules of the symbols, which are read and joined as the input, and
 /// `series` has their number and side. Without kanji mode, no series of this version has fewer symbols.

@@ -6,7 +6,7 @@ ghost use Rattle.qrproved.specs.Settings.{AreSettings, level_of, rule_of};
 use qr_bits::Rule;
 use qr_layout::{Level, Version};
 
-/// What symbols are made with.
+/// The numbers of a caller, after they were checked.
 #[derive(Clone, Copy)]
 pub(crate) struct Settings {
     /// The smallest version of one symbol, or the version of a series.

@@ -17,7 +17,6 @@ pub(crate) const TOO_LONG: u8 = 2;
 /// The input takes more than 16 symbols of the version.
 pub(crate) const TOO_MANY: u8 = 3;
 
-/// Memory was refused.
 pub(crate) const MEMORY: u8 = 4;
 
 /// A number is out of range, or `qrproved_mend` read a module of more than 2.
@@ -30,7 +29,7 @@ pub(crate) const ROOM: u8 = 6;
 pub(crate) const SIDE: u8 = 7;
 
 /// The format information belongs to no level and mask. In `qrproved_mend`: for each level and mask, each copy has more
-/// than three wrong modules, of which one that is not known counts half.
+/// than three wrong modules, where a module that is not known counts half.
 pub(crate) const FORMAT: u8 = 8;
 
 /// A block does not match its error correction codewords. In `qrproved_mend`: a block is damaged too much.
@@ -50,7 +49,7 @@ pub(crate) fn encode_status(fault: EncodeFault) -> u8
     }
 }
 
-// `Series` is a fault of several symbols, which no call reads.
+// `Series` is a fault of reading several symbols, which no call does.
 pub(crate) fn read_status(fault: ReadFault) -> u8
     ensures { result ≡ read_status fault }
 {

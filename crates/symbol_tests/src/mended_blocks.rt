@@ -5,7 +5,7 @@ use qr_field::Divisor;
 use qr_mending::{mend, mend_with_erasures};
 use std::process::Abort;
 
-// How many codewords, of at most `t`, are corrected in the block of `01234567` with this damage; `None` if it cannot be
+// How many codewords are corrected, at most `t`, in the block of `01234567` with this damage; `None` if it cannot be
 // mended.
 fn mended_count(rt: &impl Abort, t: usize, damage: &[(usize, u8)]) -> Option<usize> {
     let mut damaged = EIGHT_DIGITS;
@@ -46,7 +46,8 @@ fn block_of_eight_digits_damaged(rt: HostRuntime) {
     }
 }
 
-// As `mended_count`, with the codewords in `unread` marked as erased; erased ones are not counted.
+// As `mended_count`, with the codewords in `unread` marked as erased, which are not counted. `spare` is the most that
+// erased ones and twice the misread ones may add up to.
 fn mended_with_erasures(
     rt: &impl Abort,
     spare: usize,

@@ -134,7 +134,8 @@ fn mend_inverted_without(
     }
 }
 
-// At 1-M eight error correction codewords correct errors: an erased codeword takes one, and a misread one two.
+// At 1-M eight of the ten error correction codewords correct errors, and two only detect them. An erased codeword takes
+// one of the eight, and a misread one two.
 #[test]
 fn eight_digits_with_unread_modules(rt: HostRuntime) -> Result<(), Fail> {
     let format = [(0u8, 8u8), (1, 8), (2, 8)];
@@ -172,8 +173,8 @@ fn eight_digits_with_unread_modules(rt: HostRuntime) -> Result<(), Fail> {
     Ok(())
 }
 
-// The two symbols of `ABCDEFGH` at 1-H, `ABCDE` and `FGH`, each with an inverted module. There eight wrong codewords
-// can be corrected.
+// The two symbols of `ABCDEFGH` at 1-H, `ABCDE` and `FGH`, each with an inverted module. In a symbol 1-H eight misread
+// codewords can be corrected.
 fn damaged_parts(rt: &HostRuntime) -> Result<Vec<Matrix>, Fail> {
     let symbols = encode_series(
         rt.alloc(),

@@ -66,8 +66,8 @@ fn eight_digits_with_a_module_inverted(rt: HostRuntime) -> Result<(), Fail> {
     Ok(())
 }
 
-// Each module of a symbol of version 1 inverted by itself: 15 are the first copy of the format information, 208 are
-// codewords, and all others are ignored.
+// Each module of a symbol of version 1 inverted by itself: 15 are the first copy of the format information, 208 belong
+// to codewords, and all others are ignored.
 #[test]
 fn each_module_inverted(rt: HostRuntime) -> Result<(), Fail> {
     let version = Version::FIRST;

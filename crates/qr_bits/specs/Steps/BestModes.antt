@@ -19,7 +19,7 @@ in_state b InBytes = b.in_bytes
 in_state b HalfPair = b.half_pair
 in_state b WholePair = b.whole_pair
 
--- The bits of the best choice, of which `numbers` has the number for each state
+-- The bits of the best choice after the state `p`; `numbers` has the choice for each state, as a number
 abbrev pub bits_at : PerState ℕ → RunState → ℕ
 bits_at numbers p = in_state numbers p / 4
 
@@ -30,7 +30,7 @@ IsSmall n =
     (n.start < 40000000) × (n.digit1 < 40000000) × (n.digit2 < 40000000) × (n.digit3 < 40000000) × (n.character1 < 40000000)
     × (n.character2 < 40000000) × (n.in_bytes < 40000000) × (n.half_pair < 40000000) × (n.whole_pair < 40000000)
 
--- The lower of a state's two bits in a row
+-- The index of the lower of a state's two bits in a row
 abbrev pub shift_of : RunState → ℕ
 shift_of Start = 0
 shift_of Digit1 = 2
@@ -51,7 +51,7 @@ mode_at row p = ranked (row / 2 ^ shift_of p % 4)
 abbrev pub IsRow : ℕ → Rule → ℕ → Bool → PerState ℕ → ℕ → PerState ℕ → Type 0
 IsRow v r x pair rest row numbers = (p : RunState) → IsChoice v r p x pair (bits_at rest) (mode_at row p) (bits_at numbers p)
 
--- The modes that are read from rows, where each leads to the state for the next
+-- The modes that are read from rows: each mode leads to the state for the next row
 unfoldable pub follow : RunState → List ℕ → List Mode
 follow p [] = []
 follow p (row ∷ rows) = mode_at row p ∷ follow (state_after p (mode_at row p)) rows

@@ -32,7 +32,8 @@ state_on InBytes = InBytes
 state_on HalfPair = WholePair
 state_on WholePair = HalfPair
 
--- The first byte of a segment adds its indicators too, and the first of a kanji pair all bits of the pair
+-- The first byte of a segment also adds the bits of the segment's indicators, and the first of a kanji pair all bits of
+-- the pair
 unfoldable pub byte_cost : ℕ → RunState → Mode → ℕ
 byte_cost v Digit1 Numeric = 3
 byte_cost v Digit2 Numeric = 3
@@ -94,7 +95,7 @@ pub record IsBestRest (v : ℕ) (r : Rule) (test : ℕ → ℕ → Bool) (p : Ru
   pub least : (ks : List Mode) → IsTrue (allowed r test p xs ks) → n ≤ cost_of v p ks
   pub first : (ks : List Mode) → IsTrue (allowed r test p xs ks) → cost_of v p ks ≡ n → IsNotAfter ms ks
 
--- Of the modes that `x` may have, `m` leads to the fewest bits, `n`, and has the lowest rank of those that do; the
+-- Of the modes that `x` may have, `m` leads to the fewest bits, `n`, and has the lowest rank of those that do. The
 -- later bytes add `cost q` bits if the state after `x` is `q`
 pub record IsChoice (v : ℕ) (r : Rule) (p : RunState) (x : ℕ) (pair : Bool) (cost : RunState → ℕ) (m : Mode) (n : ℕ) : Type 0 where
   pub is_allowed : IsTrue (may_take r p x pair m)
@@ -102,8 +103,8 @@ pub record IsChoice (v : ℕ) (r : Rule) (p : RunState) (x : ℕ) (pair : Bool) 
   pub least : (k : Mode) → IsTrue (may_take r p x pair k) → n ≤ byte_cost v p k + cost (state_after p k)
   pub first : (k : Mode) → IsTrue (may_take r p x pair k) → byte_cost v p k + cost (state_after p k) ≡ n → rank m ≤ rank k
 
--- A choice as a number: a choice of fewer bits, or of as many and of lower rank, has the smaller; one that is not
--- allowed has the greatest of 32 bits, which no other reaches for inputs of at most `INPUT_MAX` bytes
+-- A choice as a number: a choice of fewer bits, or of as many and of lower rank, has the smaller one. A choice that is
+-- not allowed has the greatest number of 32 bits, which no other reaches for inputs of at most `INPUT_MAX` bytes
 abbrev pub choice_number : Bool → ℕ → Mode → ℕ
 choice_number may bits m = if may then 4 * bits + rank m else 4294967295
 

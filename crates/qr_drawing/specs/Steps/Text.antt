@@ -26,7 +26,7 @@ cell_text Plain upper lower = ascii_module upper
 cell_text Inverse upper lower = ascii_module (not upper)
 cell_text HalfBlocks upper lower = half_blocks upper lower
 
--- The cell of the module in row `row` and column `x`, and in the style `HalfBlocks` also of that below it
+-- As `cell_text`, for the module in row `row` and column `x` of the raster
 abbrev pub cell_at : TextStyle → ℕ → Grid → ℕ → ℕ → List ℕ
 cell_at style margin g row x = cell_text style (is_dark_at margin g row x) (is_dark_at margin g (row + 1) x)
 

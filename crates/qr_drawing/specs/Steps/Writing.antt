@@ -4,7 +4,7 @@ use Rattle.std.specs.Io.KnownBytes.{Appends}
 use Rattle.qr_devices.specs.Device.{AppendsBeginning, IsWrittenWithin, Writer, counted, is_write_fault}
 use Rattle.qr_devices.specs.declared.device.WriteCounts.{WriteCounts}
 
--- A writer is well: its counts show no fault, and exactly `interrupted` interrupted writes
+-- The counts of a writer show no fault, and exactly `interrupted` interrupted writes
 pub record IsWell (c : WriteCounts) (interrupted : ℕ) : Type 0 where
   pub failed : c.failed ≡ 0
   pub zeros : c.zeros ≡ 0
@@ -18,8 +18,8 @@ pub record Sends (old new : Writer) (text held : List ℕ) : Type 0 where
   pub whole : sent ++ held ≡ text
   pub many : old.counts.taken < 2 ^ 64 → new.counts.taken ≡ counted (old.counts.taken + length sent)
 
--- As `Sends`, with `held` in the pen, no write of more than 1,200 bytes, and no flush; if the writer was well after
--- `tried` interrupted writes, it still is, after `tries`
+-- As `Sends`, with `held` in the pen, no write of more than 1,200 bytes, and no flush; if `IsWell` held before with
+-- `tried` interrupted writes, it holds afterwards with `tries`
 pub record Writes (old new : Writer) (tried tries : ℕ) (text held : List ℕ) : Type 0 where
   pub sends : Sends old new text held
   pub well : IsWell old.counts tried → IsWell new.counts tries
@@ -27,7 +27,7 @@ pub record Writes (old new : Writer) (tried tries : ℕ) (text held : List ℕ) 
   pub flushes : new.counts.flushes ≡ old.counts.flushes
 
 -- A fault of the writer ended the writing after a prefix of `text`, with no write of more than 1,200 bytes, and no
--- flush; if the writer was well, its counts now show one call with a fault, or 1,000 interrupted writes
+-- flush; if `IsWell` held before, the counts now show one call with a fault, or 1,000 interrupted writes
 pub record Stops (old new : Writer) (tried : ℕ) (text : List ℕ) : Type 0 where
   pub prefix : AppendsBeginning old.taken new.taken text
   pub most : old.counts.taken < 2 ^ 64 → new.counts.taken ≤ counted (old.counts.taken + length text)

@@ -14,7 +14,7 @@ abbrev pub unpacked : ℕ → ℕ → List ℕ
 unpacked zero v = []
 unpacked (suc n) v = v % 2 ^ 8 ∷ unpacked n (v / 2 ^ 8)
 
--- The 256 bits of a register
+-- The 256 bits of a register as one number
 abbrev pub value_of : Register → ℕ
 value_of r = r.high * 2 ^ 128 + r.low
 

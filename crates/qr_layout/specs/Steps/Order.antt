@@ -12,7 +12,7 @@ use Rattle.qr_layout.specs.Strips.{strip_at}
 abbrev pub half_of : Bool → ℕ
 half_of at_left = if at_left then 1 else 0
 
--- The module at the position `a`
+-- The module in the strip's right column, or in the one to the left of it
 abbrev pub place_of : Cursor → Module
 place_of a = let right = (strip_at a.strips).right in record { row = a.row; col = if a.at_left then right - 1 else right }
 
@@ -24,8 +24,8 @@ rank_of s a = if (strip_at a.strips).upward then s - 1 - a.row else a.row
 unfoldable pub left_of : ℕ → Cursor → ℕ
 left_of s a = a.strips * (2 * s) - (2 * rank_of s a + half_of a.at_left)
 
--- The position after `a`: the left module of the row, then the right one of the strip's next row, and after its last
--- row that of the same row in the next strip
+-- The position after `a`: in a row the left module comes after the right one, then the right one of the strip's next
+-- row. After the strip's last row comes the same row of the next strip
 unfoldable pub next_of : ℕ → Cursor → Cursor
 next_of s a =
     if a.at_left then
@@ -48,10 +48,10 @@ places_within v (suc n) a =
 unfoldable pub to_come : ℕ → Cursor → List Module
 to_come v a = places_within v (left_of (side_of v) a) a
 
--- Where the walk of version `v` begins
+-- The walk of version `v` begins in the bottom right corner
 abbrev pub first_cursor : ℕ → Cursor
 first_cursor v = record { strips = 8 + 2 * v; row = 16 + 4 * v; at_left = false }
 
--- The position at the module `m`, if it is not in column 6
+-- The position at the module `m`, if `m` is not in column 6
 unfoldable pub cursor_at : Module → Cursor
 cursor_at m = let c = column_without_timing m.col in record { strips = c / 2 + 1; row = m.row; at_left = c % 2 == 0 }

@@ -38,6 +38,6 @@ fixed_list v =
     (record { top = 0; bottom = 6; left = s - 11; right = s - 8 }
     ∷ record { top = s - 11; bottom = s - 8; left = 0; right = 6 } ∷ []))
 
--- All modules of version `v` outside the encoding region (ISO/IEC 18004:2015, 6.3.7, 7.7.3)
+-- Rectangles that cover all modules of version `v` outside the encoding region (ISO/IEC 18004:2015, 6.3.7, 7.7.3)
 abbrev pub taken_rectangles : ℕ → List Rectangle
 taken_rectangles v = fixed_list v ++ alignment_squares (side_of v) (centres_of v)

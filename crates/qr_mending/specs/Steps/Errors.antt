@@ -1,6 +1,6 @@
 -- How the errors `e` of a damaged block are found. They are the differences of its codewords from the right ones, and
--- the coefficients of the error polynomial, that of the highest power first. In `p` that of the lowest power comes
--- first.
+-- the coefficients of the error polynomial, that of the highest power first. In a polynomial `p` the coefficient of the
+-- lowest power comes first.
 use Rattle.std.specs.Prelude.{◌≡◌, ℕ, ◌+◌, ◌-◌, ◌<◌, ◌≤◌, ◌==◌, if◌then◌else◌, List, [], ◌∷◌, length, take}
 use Rattle.std.specs.List.{All}
 use Rattle.qr_field.specs.Galois.{product}
@@ -22,9 +22,9 @@ abbrev pub weighted : List ℕ → List ℕ → List ℕ
 weighted p [] = []
 weighted p (c ∷ e) = product c (eval (power (length e)) p) ∷ weighted p e
 
--- The polynomial `p` locates at most 255 errors: it is 0 at 2^m where the coefficient of x^m is not 0, and each value
--- of the error polynomial follows from the values at the powers of 2 before it, as many as the degree of `p`, whose
--- leading coefficient counts as 1.
+-- The polynomial `p` locates at most 255 errors: it is 0 at 2^m if the coefficient of x^m of the error polynomial is
+-- not 0. If `p` has the degree d, each value of the error polynomial follows from those at the d powers of 2 before;
+-- the leading coefficient of `p` counts as 1.
 pub record IsLocated (p e : List ℕ) : Type 0 where
   pub bytes : All IsByte e
   pub most : length e ≤ 255

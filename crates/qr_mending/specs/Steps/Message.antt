@@ -1,7 +1,7 @@
 -- How the program mends the blocks of a symbol. Each codeword has a mark, a byte with a bit for each of its modules
 -- that is 1 if the module was not read; so a mark is 0 exactly if its codeword is not erased. `b` has the sizes of the
--- blocks, `d` and `e` list the data codewords and the error correction codewords as they were read, `u` and `w` their
--- marks, all in the order of the blocks.
+-- blocks. `d` and `e` list the data codewords and the error correction codewords as they were read, and `u` and `w`
+-- their marks, all in the order of the blocks.
 use Rattle.std.specs.Prelude.{◌≡◌, ℕ, ◌<◌, ◌==◌, not, Option, List, map, length, slice_index}
 use Rattle.qr_layout.specs.declared.blocks.Blocks.{Blocks}
 use Rattle.qr_symbol.specs.Interleaving.{block_count, start_of, data_sizes}
@@ -12,7 +12,8 @@ use Rattle.qr_mending.specs.Message.{received, AreInBlocks, IsMendedBlock}
 abbrev pub read_by : List ℕ → List ℕ → List (Option ℕ)
 read_by codewords marks = read_of codewords (map (λ mark. not (mark == 0)) marks)
 
--- `message` is the first `n` blocks, mended, and item i of `misread` the number of misread codewords of block i
+-- `message` has the data codewords of the first `n` blocks, mended, and item i of `misread` is the number of misread
+-- codewords of block i
 pub record AreMended (b : Blocks) (spare : ℕ) (d e u w : List ℕ) (n : ℕ) (message misread : List ℕ) : Type 0 where
   pub long : length message ≡ start_of (data_sizes b) n
   pub many : length misread ≡ n

@@ -23,19 +23,17 @@ miss_of p window = dot_of (all_of p) window
 abbrev pub blank : Polynomial
 blank = record { degree = 0; terms = [] }
 
--- The polynomial with index `k`.
 abbrev pub at : List Polynomial → ℕ → Polynomial
 at pool k = slice_index_or pool k blank
 
 -- `after` can replace `before` in the pool: it keeps the degree and the leading coefficient 1, and solves the equation
--- of `window`, and every equation that `pivot` and `before` solve.
+-- of `window`, and every equation that `pivot` and `before` both solve.
 pub record IsRelieved (pivot : Polynomial) (window : List ℕ) (before after : Polynomial) : Type 0 where
   pub degree : after.degree ≡ before.degree
   pub monic : IsMonic before → IsMonic after
   pub none : miss_of after window ≡ 0
   pub others : (w : List ℕ) → All IsByte w → miss_of pivot w ≡ 0 → miss_of before w ≡ 0 → miss_of after w ≡ 0
 
--- No degree is above `most`.
 pub record HasDegrees (most : ℕ) (pool : List Polynomial) : Type 0 where
   pub each : (k : ℕ) → k < length pool → (at pool k).degree ≤ most
 

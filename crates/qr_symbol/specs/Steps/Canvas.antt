@@ -1,12 +1,13 @@
--- What a canvas contains before any codeword is drawn, the same for all symbols of version `v`.
+-- What a canvas, the squares from which symbols are made, has outside the region: the same for all symbols of version
+-- `v`.
 use Rattle.std.specs.Prelude.{◌≡◌, ℕ, ◌<◌, false}
 use Rattle.qr_layout.specs.Version.{side_of}
 use Rattle.qr_layout.specs.Region.{is_in_region}
 use Rattle.qr_matrix.specs.Grid.{Grid, colour, IsSquare}
 use Rattle.qr_symbol.specs.Steps.Patterns.{paint_of, symmetric_format}
 
--- The square has the function patterns, the dark module, the version information, and of the format information bit 7
--- alone as dark; the region may have any colour.
+-- The square has the function patterns, the dark module, the version information, and the format information in which
+-- bit 7 alone is dark; the region may have any colour.
 pub record HasPatterns (v : ℕ) (g : Grid) : Type 0 where
   pub square : IsSquare (side_of v) g
   pub outside : (r c : ℕ) → r < side_of v → c < side_of v → is_in_region v r c ≡ false → colour g r c ≡ paint_of v symmetric_format r c

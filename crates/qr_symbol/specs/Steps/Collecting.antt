@@ -22,6 +22,6 @@ abbrev pub bits_in_rows : ℕ → Strip → Columns → Columns → ℕ → ℕ 
 bits_in_rows s strip region x k zero = []
 bits_in_rows s strip region x k (suc n) = bits_in_row region x (row_of s strip k) ++ bits_in_rows s strip region x (k + 1) n
 
--- The colour of a module in the transposed square.
+-- The colour of module `m` of the symbol, where `g` is its transposed square.
 abbrev pub colour_across : Grid → Module → Bool
 colour_across g m = colour g m.col m.row

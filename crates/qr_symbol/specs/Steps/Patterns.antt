@@ -23,8 +23,8 @@ paint_of v format r c = fixed_colour format (version_word_of v) (role_of v r c)
 abbrev pub symmetric_format : ℕ
 symmetric_format = 128
 
--- Module `at` of row 6, or of column 6, is dark: the seven at each end belong to finder patterns, and of the timing
--- pattern between them those with an even index are dark.
+-- Module `at` of row 6, or of column 6, is dark: the seven at each end belong to finder patterns, and between them
+-- those with an even index are dark.
 abbrev pub is_dark_in_six : ℕ → ℕ → Bool
 is_dark_in_six s at = nat_lt at 7 || nat_le (s - 7) at || at % 2 == 0
 

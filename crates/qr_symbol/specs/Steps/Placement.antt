@@ -1,7 +1,7 @@
 -- The colours after each step of drawing the codewords `cw` in version `v`. Their bits are numbered; bit 0 is the
 -- highest of the first codeword.
 --
--- `x`, `y`, `region`, `before` and `after`, where they are columns, are the two of a strip, which are rows of a
+-- `x`, `y`, `region`, `before` and `after`, where they are columns, are the two columns of a strip, as rows of a
 -- transposed square. Exactly the bits of the region are set in `region`. `s` is the side, and the rows of a strip are
 -- counted in the direction in which it is filled.
 use Rattle.std.specs.Prelude.{◌≡◌, ◌<◌, ◌≤◌, ℕ, ◌+◌, ◌-◌, ◌&&◌, Bool, false, if◌then◌else◌, List, [], ◌∷◌}
@@ -37,11 +37,11 @@ walked_colour v cw mask other r c =
 abbrev pub placed_if : Bool → List ℕ → ℕ → Grid → ℕ → ℕ → Grid
 placed_if is_in cw number g row col = if is_in then painted g row col (codeword_bit cw number) else g
 
--- The next bit after a module was drawn, if bit `number` was next before.
+-- The number of the next bit after one module: one more than `number` if the module is in the region.
 abbrev pub number_after : Bool → ℕ → ℕ
 number_after is_in number = if is_in then number + 1 else number
 
--- The next bit after the modules `ms` were drawn: each in the region uses one.
+-- The number of the next bit after the modules `ms`: each in the region takes one bit.
 abbrev pub number_along : ℕ → List Module → ℕ → ℕ
 number_along v [] number = number
 number_along v (m ∷ ms) number = number_along v ms (number_after (is_in_region v m.row m.col) number)
@@ -61,7 +61,7 @@ abbrev pub AreNext : List ℕ → ℕ → ℕ → Type 0
 AreNext cw number bits = (k : ℕ) → k < 8 → has_bit bits (7 - k) ≡ codeword_bit cw (number + k)
 
 -- Drawing those of the modules `ms` that are in the region, with the bits from `first` to `next - 1`, changes the
--- transposed square `before` to `after`; `ms` has the rows and columns of the symbol.
+-- transposed square `before` to `after`. `ms` has the rows and columns of the symbol.
 pub record IsDrawnAcross (v : ℕ) (cw : List ℕ) (ms : List Module) (first : ℕ) (before : Grid) (next : ℕ) (after : Grid) : Type 0 where
   pub number : next ≡ number_along v ms first
   pub placed : transposed after ≡ placed_along v cw ms first (transposed before)
@@ -110,6 +110,5 @@ region_grid v = square (side_of v) (is_in_region v)
 abbrev pub plain_grid : ℕ → List ℕ → Grid
 plain_grid v cw = square (side_of v) (placed_colour v cw (paint_of v symmetric_format))
 
--- The penalty of `masked_grid`.
 abbrev pub masked_penalty : ℕ → Level → Grid → Grid → ℕ → ℕ
 masked_penalty v l region plain mask = penalty_of (side_of v) (colour (masked_grid v l mask region plain))

@@ -11,7 +11,7 @@ unfoldable pub AreLengths : ℕ → Level → Rule → List ℕ → List ℕ →
 AreLengths v l rule x [] = x ≡ []
 AreLengths v l rule x (n ∷ ns) = (0 < n) × IsLongestFit v rule x (room_of v l) n × AreLengths v l rule (drop n x) ns
 
--- The parts of these lengths.
+-- The parts of `x` that have these lengths, one after the other.
 unfoldable pub parts_of : List ℕ → List ℕ → List (List ℕ)
 parts_of x [] = []
 parts_of x (n ∷ ns) = take n x ∷ parts_of (drop n x) ns

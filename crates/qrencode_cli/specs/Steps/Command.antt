@@ -21,8 +21,8 @@ use Rattle.qrencode_cli.specs.declared.drawing_job.DrawingJob.{DrawingJob}
 abbrev pub drawing_of_job : DrawingJob → List ℕ
 drawing_of_job job = drawn job.kind job.margin (squares_of job.symbols.items)
 
--- The settings ask for these symbols of `input`, which is not empty and shorter than `INPUT_MAX`, so that nothing was cut
--- off; they are read and joined as `input`, and can be drawn, since they are at most 16 and of one size
+-- The settings ask for these symbols of `input`, which is not empty and shorter than `INPUT_MAX`, so that nothing was
+-- cut off. The symbols are read and joined as `input`, and can be drawn, since they are at most 16 and of one size
 pub record AreDrawnFor (s : SettingsView) (input : List ℕ) (symbols : List Symbol) : Type 0 where
   pub asked : AreSymbols s input (squares_of symbols)
   pub joined : IsJoined (squares_of symbols) input
