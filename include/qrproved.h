@@ -210,9 +210,9 @@ uint8_t qrproved_encode_series(const uint8_t *input, size_t input_len, uint32_t 
  * bytes  the buffer for the content; QRPROVED_BYTES_MAX bytes suffice for any symbol
  *
  * The call reads the first copy of the format information, which is beside the top left finder pattern, and the codewords; it
- * parses the data codewords up to the terminator. It ignores the finder, alignment and timing patterns, the version
- * information, the second copy of the format information, the remainder bits, and the bits after the terminator. So DONE does
- * not mean that a scanner finds the symbol; qrproved_mend looks at every module.
+ * parses the data codewords up to the terminator. It ignores all other modules: finder, alignment and timing patterns,
+ * separators, the dark module, the version information, the second copy of the format information and the remainder bits. So
+ * DONE does not mean that a scanner finds the symbol; qrproved_mend looks at every module.
  *
  * Returns the first of these statuses whose cause applies:
  *   SIDE      no version has this side
@@ -246,8 +246,8 @@ uint8_t qrproved_read(const uint8_t *modules, size_t modules_len, uint32_t side,
  *
  * In each block the call mends at most changed_allowed wrong codewords, which is the number that the standard allows. A
  * codeword with a module that is not known counts as half a wrong one: with e such codewords and w other wrong ones, a block
- * can be mended if e + 2w is at most twice changed_allowed. Finder, timing and alignment patterns, version information and
- * remainder bits may all be wrong, since they contain nothing of the content, but count in wrong_modules.
+ * can be mended if e + 2w is at most twice changed_allowed. All modules but those of codewords and format information may be
+ * wrong, since they contain nothing of the content, but count in wrong_modules.
  *
  * If wrong_modules is 0, the square is, module by module, the symbol that the standard defines for its data codewords in its
  * version, level and mask. If all modules are known, changed_most divided by changed_allowed is the share of the error
