@@ -172,7 +172,7 @@ fn by_words(rt: HostRuntime) -> Result<(), Fail> {
                 "-l", "Q", "-v", "2", "-m", "0", "-8", "-S", "-t", "svg", "A",
             ]
             .as_slice(),
-            "a series in a document",
+            "one symbol with -S",
             5,
         ),
         (

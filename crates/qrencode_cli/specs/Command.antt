@@ -76,15 +76,15 @@ IsFault words given fault.Memory = Unit {0}
 IsFault words given fault.Write = (drawing : List ℕ) × HasDrawing words given drawing
 IsFault words given refusal = IsRefusal words given refusal
 
--- The writer received the whole drawing and then one flush, its last call, which succeeded if `settled` is true and
--- otherwise failed [own]
+-- The writer received the whole drawing and one flush more; it is settled if `settled` is true, and otherwise not [own]
 pub record DrawnWhole (settled : Bool) (old new : Writer) (drawing : List ℕ) : Type 0 where
   pub grows : Appends old.taken new.taken drawing
   pub many : old.counts ≡ no_writes → new.counts.taken ≡ counted (length drawing)
   pub flushed : new.counts.flushes ≡ counted (old.counts.flushes + 1)
   pub ended : new.counts.settled ≡ settled
 
--- The writer received a prefix of the drawing, no byte more and no flush, or all of it and a flush that failed [own]
+-- The writer received a prefix of the drawing, no byte more and no flush; or all of it and one flush, without being
+-- settled [own]
 abbrev pub DrawnInPart : Writer → Writer → List ℕ → Type 0
 DrawnInPart old new drawing =
     (AppendsBeginning old.taken new.taken drawing × (new.counts.flushes ≡ old.counts.flushes)
@@ -120,7 +120,7 @@ ErrorHolds old new line = AppendsBeginning old.taken new.taken line
     × (new.counts.flushes ≡ old.counts.flushes)
 
 -- A run with these arguments can end with this outcome, success or a fault, and this exit status. The arguments and the
--- input decide all but lack of memory and faults of devices, which the counts of these show [own]
+-- input decide all but lack of memory and faults of devices; a device's counts show its faults [own]
 pub record Runs (words : List Text) (in0 in1 : Reader) (out0 out1 err0 err1 : Writer) (outcome : Result (Unit {0}) Fault) (status : ℕ) : Type 0 where
   pub given : List ℕ
   pub is_input : IsInputOf in0.remaining given
