@@ -1,4 +1,4 @@
-"""Commands of the program with inputs, the same on every machine: 200, with each type of drawing fifty times."""
+"""Commands of the program with inputs, the same on every machine: 200, with the types of drawing in turn."""
 import hashlib
 
 COMMANDS = 200
@@ -25,7 +25,7 @@ def settings(k):
     is_series = k % 7 == 0
     version = 1 + number("version", k) % 40 if is_series else number("version", k) % 41 if k % 3 == 0 else None
     options = [option for option in ("-8", "-k", "-i") if number(option, k) % 4 == 0]
-    return TYPES[k % 4], "LMQH"[number("level", k) % 4], number("margin", k) % 12, version, is_series, options
+    return TYPES[k % len(TYPES)], "LMQH"[number("level", k) % 4], number("margin", k) % 12, version, is_series, options
 
 
 def words_of(kind, level, margin, version, is_series, options):
