@@ -18,6 +18,10 @@ below-at (suc n) p h k l = elim (cases_lt k n) [
   | inr m ↦ let e : n ≡ k = omega arith in subst (λ (z : ℕ). p z ≡ true) e (and_parts (p n) _ h).0
 ]
 
+-- the test at one of n numbers from a on
+pub below-from : (n a : ℕ) (p : ℕ → Bool) → below n (λ k. p (k + a)) ≡ true → (k : ℕ) → a ≤ k → k < n + a → p k ≡ true
+below-from n a p h k l m = let e : k - a + a ≡ k = omega arith in subst (λ (z : ℕ). p z ≡ true) e (below-at n (λ k. p (k + a)) h (k - a) (omega arith))
+
 -- two lists of numbers are the same
 abbrev pub is_same : List ℕ → List ℕ → Bool
 is_same [] [] = true
