@@ -60,6 +60,4 @@ few-centres = refl
 
 -- a version has at most seven rows of centres
 pub centres-few : (v : ℕ) → 1 ≤ v → v ≤ 40 → length (centres_of v) ≤ 7
-centres-few v h k =
-    let e : v - 1 + 1 ≡ v = omega arith in
-    leb-true _ _ (subst (λ (t : ℕ). leb (length (centres_of t)) 7 ≡ true) e (below-at 40 (λ i. leb (length (centres_of (i + 1))) 7) few-centres (v - 1) (omega arith)))
+centres-few v h k = leb-true _ _ (below-from 40 1 (λ v. leb (length (centres_of v)) 7) few-centres v h (omega arith))

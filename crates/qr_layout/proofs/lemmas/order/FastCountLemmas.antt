@@ -56,9 +56,9 @@ region-count v l m = places-sum (side_of v) (is_in_region v) ∙ sum_below-same 
 
 -- the count of one version is what its codewords and remainder bits need
 abbrev pub agrees : ℕ → Bool
-agrees i = eqb (free_of (side_of (i + 1)) (taken_rectangles (i + 1))) (module_count_of (i + 1))
+agrees v = eqb (free_of (side_of v) (taken_rectangles v)) (module_count_of v)
 
 -- the forty counts, computed
-pub agrees-40 : below 40 agrees ≡ true
+pub agrees-40 : below 40 (λ i. agrees (i + 1)) ≡ true
 unfolding centres_of total_codewords_of remainder_bits_of
 agrees-40 = refl
