@@ -10,16 +10,23 @@ use Rattle.qr_layout.specs.Version.{total_codewords_of}
 use Rattle.qr_layout.specs.Blocks.{correction_len_of, block_count_of, data_codewords_of, blocks_of, longest_of, damage_of, AreWhole}
 use Rattle.qr_layout.proofs.lemmas.alignment.TableLemmas.{below, below-from}
 
+-- a test at each version
+abbrev pub each : (ℕ → Bool) → Bool
+each p = below 40 (λ i. p (i + 1))
+
 -- a test at each level and version
 abbrev pub every : (Level → ℕ → Bool) → Bool
-every p = below 40 (λ i. p L (i + 1)) && (below 40 (λ i. p M (i + 1)) && (below 40 (λ i. p Q (i + 1)) && below 40 (λ i. p H (i + 1))))
+every p = each (p L) && (each (p M) && (each (p Q) && each (p H)))
 
 -- if a test passes for all levels and versions, it passes for each level and version
 pub every-at : (p : Level → ℕ → Bool) → every p ≡ true → (l : Level) (v : ℕ) → 1 ≤ v → v ≤ 40 → p l v ≡ true
-every-at p h L v a b = below-from 40 1 (p L) (and_parts _ _ h).0 v a (omega arith)
-every-at p h M v a b = below-from 40 1 (p M) (and_parts _ _ (and_parts _ _ h).1).0 v a (omega arith)
-every-at p h Q v a b = below-from 40 1 (p Q) (and_parts _ _ (and_parts _ _ (and_parts _ _ h).1).1).0 v a (omega arith)
-every-at p h H v a b = below-from 40 1 (p H) (and_parts _ _ (and_parts _ _ (and_parts _ _ h).1).1).1 v a (omega arith)
+every-at p h l v a b = below-from 40 1 (p l) (elim l as (λ l. each (p l) ≡ true) [ L ↦ w.0 | M ↦ w.1 | Q ↦ w.2 | H ↦ w.3 ]) v a (omega arith)
+  where
+    four : (x y z t : Bool) → (x && (y && (z && t))) ≡ true → (x ≡ true) × (y ≡ true) × (z ≡ true) × (t ≡ true)
+    four x y z t h = (grind (arith, nat_tests), grind (arith, nat_tests), grind (arith, nat_tests), grind (arith, nat_tests))
+
+    w : (each (p L) ≡ true) × (each (p M) ≡ true) × (each (p Q) ≡ true) × (each (p H) ≡ true)
+    w = four (each (p L)) (each (p M)) (each (p Q)) (each (p H)) h
 
 -- the facts that were computed of the tables
 pub record Laws (l : Level) (v : ℕ) : Type 0 where
