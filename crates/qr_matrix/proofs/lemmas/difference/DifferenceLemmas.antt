@@ -1,4 +1,5 @@
 -- Differences of squares.
+use Rattle.std.proofs.lemmas.Bool.Decides.{nat_tests}
 use Rattle.std.proofs.Common.{◌≡◌, ℕ, zero, suc, ◌<◌, ◌≤◌, Bool, true, false, not, cond, inl, inr, refl, sym, ap, ◌∙◌, arith}
 use Rattle.std.specs.Prelude.{List, ◌↔◌}
 use Rattle.std.proofs.lemmas.Bool.{cases_lt}
@@ -20,10 +21,7 @@ one_if b = cond b 1 0
 
 -- colours that are not different are equal
 same-is : (a b : Bool) → one_if (not (is_same a b)) ≡ 0 → a ≡ b
-same-is true true e = refl
-same-is false false e = refl
-same-is true false e = cc
-same-is false true e = cc
+same-is a b h = grind (arith, nat_tests)
 
 -- a place outside both rows differs in neither
 differs-past : (x y : Bool) → x ≡ false → y ≡ false → not (is_same x y) ≡ false

@@ -111,17 +111,11 @@ columns-are left right c x a b f ea eb = cc (among left right c)
 
 -- bit p with the bit t added is dark where t is set
 pub filled-dark : (p t : Bool) → (p || t) ≡ cond t true p
-filled-dark true true = refl
-filled-dark true false = refl
-filled-dark false true = refl
-filled-dark false false = refl
+filled-dark p t = grind (arith, nat_tests)
 
 -- bit p without the bit t is light where t is set
 pub filled-light : (p t : Bool) → (p && not t) ≡ cond t false p
-filled-light true true = refl
-filled-light true false = refl
-filled-light false true = refl
-filled-light false false = refl
+filled-light p t = grind (arith, nat_tests)
 
 -- the grid that a matrix is seen as is the square of its own colours
 pub view-square : (s : ℕ) (rows : List (List ℕ)) (g : Grid) → square s (dark_in rows) ≡ g → g ≡ square g.side (colour g)

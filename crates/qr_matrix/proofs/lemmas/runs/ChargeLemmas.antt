@@ -23,12 +23,7 @@ long-is s line c = search arith
 -- if five modules of one colour begin at the second module before module c, but not at the module before it, then they
 -- do not begin at module c
 gap : (i j a b d e : Bool) → ((i && j) && (a && b)) ≡ true → ((j && a) && (b && d)) ≡ false → ((a && b) && (d && e)) ≡ false
-gap true true true true true e h k = absurd (true≢false k)
-gap true true true true false e h k = refl
-gap true true true false d e h k = absurd (true≢false (sym h))
-gap true true false b d e h k = absurd (true≢false (sym h))
-gap true false a b d e h k = absurd (true≢false (sym h))
-gap false j a b d e h k = absurd (true≢false (sym h))
+gap i j a b d e h k = grind (arith, nat_tests)
 
 gap-is : (s : ℕ) (line : ℕ → Bool) (c : ℕ) → two_before s line c ≡ true → one_before s line c ≡ false → begins_five s line c ≡ false
 unfolding two_before one_before begins_five

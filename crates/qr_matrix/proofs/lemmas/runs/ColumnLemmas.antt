@@ -48,11 +48,7 @@ five-down-bit s line c r x y z p q m n ex ey ez ep eq em en = search (arith, gua
 
 -- the guard u of three tests, of which the last two have the guards t and w too, is the guard of their disjunction
 guarded-three : (u t w f g h : Bool) → (((u && f) || (t && (u && g))) || (w && (u && h))) ≡ (u && ((f || (t && g)) || (w && h)))
-guarded-three true t w f g h = refl
-guarded-three false true true f g h = refl
-guarded-three false true false f g h = refl
-guarded-three false false true f g h = refl
-guarded-three false false false f g h = refl
+guarded-three u t w f g h = grind (arith, nat_tests)
 
 -- as many numbers below 192 pass the test t as numbers below s pass the test p, if t is p guarded by the test that a
 -- number is below s

@@ -91,10 +91,7 @@ stretch-end s line (suc n) a e p = elim (true_or_false (joins s line a)) [
 ]
   where
     turn : (a b : Bool) → is_same a b ≡ is_same b a
-    turn true true = refl
-    turn true false = refl
-    turn false true = refl
-    turn false false = refl
+    turn a b = grind (arith, nat_tests)
 
 -- ---- the maximal run from a module on, if a run begins at this module
 
@@ -157,12 +154,7 @@ run_at s line a l =
     ∙ sum_below-one (s + 1) m (λ k. cond (leb 5 k && heads line a) (k - 2) 0) (omega arith)
   where
     turn : (u h e : Bool) (x : ℕ) → cond (u && (h && e)) x 0 ≡ cond e (cond (u && h) x 0) 0
-    turn true true true x = refl
-    turn true true false x = refl
-    turn true false true x = refl
-    turn true false false x = refl
-    turn false h true x = refl
-    turn false h false x = refl
+    turn u h e x = grind (arith, nat_tests)
 
 -- ---- module by module
 

@@ -34,15 +34,7 @@ ratio-read u line c =
   where
     tests : (u a b d e f g h : Bool) → (((((((u && a) && not b) && d) && e) && f) && not g) && h)
         ≡ (u && (is_same a true && (is_same b false && (is_same d true && (is_same e true && (is_same f true && (is_same g false && (is_same h true && true))))))))
-    tests false a b d e f g h = refl
-    tests true false b d e f g h = refl
-    tests true true true d e f g h = refl
-    tests true true false false e f g h = refl
-    tests true true false true false f g h = refl
-    tests true true false true true false g h = refl
-    tests true true false true true true true h = refl
-    tests true true false true true true false true = refl
-    tests true true false true true true false false = refl
+    tests u a b d e f g h = grind (arith, nat_tests)
 
 -- the tests of four light modules
 four-read : (line : ℕ → Bool) (c : ℕ) → ((not (line c) && not (line (c + 1))) && (not (line (c + 2)) && not (line (c + 3)))) ≡ reads line c four_light
@@ -52,22 +44,14 @@ four-read line c =
     rw (e2, e3) (tests (line c) (line (c + 1)) (line (c + 2)) (line (c + 3)))
   where
     tests : (a b d e : Bool) → ((not a && not b) && (not d && not e)) ≡ (is_same a false && (is_same b false && (is_same d false && (is_same e false && true))))
-    tests true b d e = refl
-    tests false true d e = refl
-    tests false false true e = refl
-    tests false false false true = refl
-    tests false false false false = refl
+    tests a b d e = grind (arith, nat_tests)
 
 -- one of four modules is dark unless all are light
 pub dark-read : (line : ℕ → Bool) (c : ℕ) → (((line c || line (c + 1)) || line (c + 2)) || line (c + 3)) ≡ not (reads line c four_light)
 dark-read line c = tests (line c) (line (c + 1)) (line (c + 2)) (line (c + 3)) ∙ ap not (four-read line c)
   where
     tests : (a b d e : Bool) → (((a || b) || d) || e) ≡ not ((not a && not b) && (not d && not e))
-    tests true b d e = refl
-    tests false true d e = refl
-    tests false false true e = refl
-    tests false false false true = refl
-    tests false false false false = refl
+    tests a b d e = grind (arith, nat_tests)
 
 -- ---- the windows of a row
 

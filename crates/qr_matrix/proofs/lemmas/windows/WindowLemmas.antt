@@ -52,15 +52,7 @@ window-down-bit s line r u h =
     ∙ ap (λ z. u && z) (sym (window-is s line r))
   where
     common : (u a b d e : Bool) → (((u && a) && not (not b)) || ((u && d) && not (not e))) ≡ (u && ((a && b) || (e && d)))
-    common false a b d e = refl
-    common true a true true true = refl
-    common true a true true false = refl
-    common true a true false true = refl
-    common true a true false false = refl
-    common true a false true true = refl
-    common true a false true false = refl
-    common true a false false true = refl
-    common true a false false false = refl
+    common u a b d e = grind (arith, nat_tests)
 
 -- if at most ten rows are left from row r on, then no window of column c begins in row r, and a bit x that is not set
 -- agrees with this
