@@ -60,10 +60,7 @@ digits-same x y i j a b e = (omega arith, omega arith)
 
 -- two halves a and b with the same number are the same half
 half_of-same : (a b : Bool) → half_of a ≡ half_of b → a ≡ b
-half_of-same true true e = refl
-half_of-same true false e = absurd (omega arith)
-half_of-same false true e = absurd (omega arith)
-half_of-same false false e = refl
+half_of-same a b e = grind (arith, nat_tests)
 
 -- two rows x and y that have the same rank in a strip are the same row
 rank-same : (s x y : ℕ) (u : Bool) → x < s → y < s → cond u (s - 1 - x) x ≡ cond u (s - 1 - y) y → x ≡ y

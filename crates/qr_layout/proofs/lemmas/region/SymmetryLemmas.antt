@@ -15,10 +15,7 @@ any-none (x ∷ xs) = any-none xs
 
 -- of four tests the middle ones change places
 middle : (a b c d : Bool) → ((a || b) || (c || d)) ≡ ((a || c) || (b || d))
-middle true b c d = refl
-middle false true true d = refl
-middle false true false d = refl
-middle false false c d = refl
+middle a b c d = grind (arith, nat_tests)
 
 -- two tests of each item
 any-or : {X : Type 0} (p q : X → Bool) (xs : List X) → list_any (λ x. p x || q x) xs ≡ (list_any p xs || list_any q xs)

@@ -315,11 +315,12 @@ record IsClear (a b d e : Bool) : Type 0 where
 
 -- a place of the region is in no part
 clear : (a b d e : Bool) → not (((a || b) || d) || e) ≡ true → IsClear a b d e
-clear false false false false h = record { no_corner = refl; no_timing = refl; no_version = refl; no_alignment = refl }
-clear false false false true h = cc
-clear false false true e h = cc
-clear false true d e h = cc
-clear true b d e h = cc
+clear a b d e h = record {
+  no_corner = grind (arith, nat_tests);
+  no_timing = grind (arith, nat_tests);
+  no_version = grind (arith, nat_tests);
+  no_alignment = grind (arith, nat_tests);
+}
 
 -- beyond ring 4
 ring-far : (n : ℕ) → ltb n 4 ≡ false → eqb n 4 ≡ false → 5 ≤ n
