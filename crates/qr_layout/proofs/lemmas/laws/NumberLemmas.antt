@@ -2,9 +2,7 @@
 use Rattle.std.proofs.Common.{◌≡◌, ℕ, zero, suc, ◌<◌, ◌≤◌, List, [], ◌∷◌, ◌++◌, length, get_or, refl, sym, ap, ◌∙◌, subst, arith}
 use Rattle.std.proofs.Math.Seq.{get_or-append_seam}
 use Rattle.qr_layout.specs.declared.region.Module.{Module}
-use Rattle.qr_layout.specs.Region.{InRegion}
-use Rattle.qr_layout.specs.Version.{module_count_of}
-use Rattle.qr_layout.specs.Order.{IsOrder, number_of}
+use Rattle.qr_layout.specs.{Region.InRegion, Version.module_count_of, Order.IsOrder, Order.number_of}
 use Rattle.qr_layout.specs.Steps.Order.{to_come, first_cursor}
 use Rattle.qr_layout.proofs.lemmas.order.ListLemmas.{split, length-mid}
 use Rattle.qr_layout.proofs.lemmas.order.OrderLemmas.{order-has, order-length, number-at}

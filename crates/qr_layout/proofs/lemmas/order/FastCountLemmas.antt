@@ -3,11 +3,9 @@ use Rattle.std.proofs.Common.{◌≡◌, ℕ, ◌+◌, ◌<◌, ◌≤◌, Bool,
 use Rattle.std.specs.List.{list_any, filter}
 use Rattle.qr_layout.specs.Region.{is_in_region}
 use Rattle.qr_layout.specs.declared.rectangles.Rectangle.{Rectangle}
-use Rattle.qr_layout.specs.Rectangles.{is_in_rectangle}
-use Rattle.qr_layout.specs.Steps.Rectangles.{taken_rectangles}
+use Rattle.qr_layout.specs.{Rectangles.is_in_rectangle, Steps.Rectangles.taken_rectangles}
 use Rattle.qr_layout.proofs.lemmas.alignment.AlignmentLemmas.{region_taken}
-use Rattle.qr_layout.specs.Version.{side_of}
-use Rattle.qr_layout.specs.Alignment.{centres_of}
+use Rattle.qr_layout.specs.{Version.side_of, Alignment.centres_of}
 use Rattle.qr_layout.specs.Version.{total_codewords_of, remainder_bits_of, module_count_of}
 use Rattle.qr_layout.proofs.lemmas.alignment.TableLemmas.{below}
 use Rattle.qr_layout.specs.Order.{places_passing}

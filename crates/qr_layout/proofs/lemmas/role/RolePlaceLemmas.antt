@@ -1,15 +1,13 @@
 -- Which places contain the bits of the format and version information. All places that contain no such bit and have no fixed
 -- colour are the encoding region.
-use Rattle.std.proofs.Common.{◌≡◌, ℕ, ◌+◌, ◌-◌, ◌%◌, ◌<◌, ◌≤◌, Bool, true, false, not, ◌&&◌, ◌||◌, cond, eqb, ltb, leb, Option, None, Some, refl, sym, ap, ◌∙◌, subst, inl, inr, ◌⊎◌, arith}
+use Rattle.std.proofs.Common.{◌≡◌, ℕ, ◌+◌, ◌-◌, ◌%◌, ◌<◌, ◌≤◌, Bool, true, false, not, ◌&&◌, ◌||◌, cond, eqb, ltb, Option, None, Some, refl, sym, ap, ◌∙◌, inl, inr, ◌⊎◌, arith}
 use Rattle.std.proofs.lemmas.Bool.Decides.{nat_tests}
-use Rattle.std.proofs.lemmas.Bool.{cases_lt, and_parts, eqb-true, cases_Bool}
-use Rattle.std.specs.List.{find, range_with_len}
-use Rattle.std.specs.Option.{option_map_or}
+use Rattle.std.proofs.lemmas.Bool.{cases_lt, and_parts, eqb-true}
+use Rattle.std.specs.{List.find, List.range_with_len, Option.option_map_or}
 use Rattle.qr_layout.specs.declared.region.Module.{Module}
 use Rattle.qr_layout.specs.declared.role.Role.{Role}
 use Rattle.qr_layout.specs.declared.role.Role.TheVariants.{Fixed, FormatBit, VersionBit, Region}
-use Rattle.qr_layout.specs.Version.{side_of}
-use Rattle.qr_layout.specs.Alignment.{centres_of}
+use Rattle.qr_layout.specs.{Version.side_of, Alignment.centres_of}
 use Rattle.qr_layout.specs.Region.{is_alignment, is_corner, is_in_region, is_timing, is_version_information}
 use Rattle.qr_layout.specs.Role.{finder_ring, is_alignment_light, pattern_colour, first_place, second_place, version_place, mirror_of, is_at, format_bit_at, version_bit_at, is_dark_module, role_of}
 use Rattle.qr_layout.proofs.lemmas.alignment.TableLemmas.{below, below-at, below-from}

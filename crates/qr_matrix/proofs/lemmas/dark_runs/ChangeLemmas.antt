@@ -2,8 +2,7 @@
 use Rattle.std.proofs.Common.{◌≡◌, ℕ, zero, suc, ◌+◌, ◌-◌, ◌<◌, ◌≤◌, min, ltb, ◌&&◌, not, Bool, true, false, refl, sym, ap, ◌∙◌, arith}
 use Rattle.std.proofs.lemmas.Bool.Decides.{nat_tests}
 use Rattle.qr_matrix.specs.Grid.{Grid, colour, is_same}
-use Rattle.qr_matrix.specs.Runs.{IsRunEnd}
-use Rattle.qr_matrix.specs.Steps.{is_change}
+use Rattle.qr_matrix.specs.{Runs.IsRunEnd, Steps.is_change}
 
 -- if the colour does not change at place c + 1, this place has the colour of place c
 kept : (line : ℕ → Bool) (c : ℕ) → is_change line (suc c) ≡ false → line (suc c) ≡ line c

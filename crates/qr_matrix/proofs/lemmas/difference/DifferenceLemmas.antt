@@ -4,8 +4,7 @@ use Rattle.std.proofs.Common.{◌≡◌, ℕ, zero, suc, ◌<◌, ◌≤◌, Boo
 use Rattle.std.specs.Prelude.{List, ◌↔◌}
 use Rattle.std.proofs.lemmas.Bool.{cases_lt}
 use Rattle.qr_matrix.specs.Grid.{Grid, colour, is_same}
-use Rattle.qr_matrix.specs.BitRow.{has}
-use Rattle.qr_matrix.specs.Steps.{size_of}
+use Rattle.qr_matrix.specs.{BitRow.has, Steps.size_of}
 use Rattle.qr_matrix.specs.Sums.{places_passing, sum_below, count_below}
 use Rattle.qr_matrix.specs.Difference.{differs, difference_count}
 use Rattle.qr_matrix.proofs.lemmas.runs.RowLemmas.{size-is}

@@ -8,8 +8,7 @@ use Rattle.std.proofs.lemmas.Bool.{cases_lt}
 use Rattle.std.proofs.lemmas.Bool.Decides.{nat_tests}
 use Rattle.qr_matrix.specs.BitRow.{has, has_bit}
 use Rattle.qr_matrix.specs.Grid.{Grid, colour, painted, with_row}
-use Rattle.qr_matrix.proofs.lemmas.matrix.GridLemmas.{square-same, colour-square}
-use Rattle.qr_matrix.proofs.lemmas.matrix.MatrixLemmas.{with_row-same}
+use Rattle.qr_matrix.proofs.lemmas.matrix.{GridLemmas.square-same, GridLemmas.colour-square, MatrixLemmas.with_row-same}
 use Rattle.qr_matrix.proofs.lemmas.bit_row.PlaceLemmas.{has-place, has_bit-or, word-step, has_bit-shl-low, has_bit-shl-high}
 
 -- bit j of a number b that is shifted up by s

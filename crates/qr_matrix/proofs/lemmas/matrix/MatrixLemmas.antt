@@ -5,8 +5,7 @@ use Rattle.std.proofs.lemmas.List.{get_or_past, get_or_read, get_or-replicate, l
 use Rattle.std.proofs.lemmas.Nat.Bits.{bit_at-zero}
 use Rattle.qr_matrix.specs.Grid.{Grid, square, colour, painted, with_row, with_rectangle, is_same}
 use Rattle.qr_matrix.specs.BitRow.{has, has_bit, bit_row_number, dark_in}
-use Rattle.qr_matrix.proofs.lemmas.bit_row.BoolLemmas.{and-false}
-use Rattle.qr_matrix.proofs.lemmas.runs.ColumnLemmas.{has-nothing}
+use Rattle.qr_matrix.proofs.lemmas.{bit_row.BoolLemmas.and-false, runs.ColumnLemmas.has-nothing}
 use Rattle.qr_matrix.proofs.lemmas.matrix.GridLemmas.{square-same, colour-square, colour-outside}
 
 -- a bit row without words has no bit that is set

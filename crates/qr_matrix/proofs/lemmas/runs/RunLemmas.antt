@@ -3,13 +3,10 @@
 use Rattle.std.proofs.Common.{◌≡◌, ℕ, zero, suc, ◌+◌, ◌-◌, ◌*◌, ◌<◌, ◌≤◌, ◌⊎◌, inl, inr, eqb, ltb, leb, Bool, true, false, not, ◌&&◌, ◌||◌, cond, refl, sym, ap, ◌∙◌, arith}
 use Rattle.std.proofs.lemmas.Bool.{cases_lt}
 use Rattle.std.proofs.lemmas.Bool.Decides.{nat_tests}
-use Rattle.qr_matrix.specs.Grid.{is_same}
-use Rattle.qr_matrix.specs.Sums.{all_below, sum_below}
-use Rattle.qr_matrix.specs.Penalty.{is_run, run_cost}
+use Rattle.qr_matrix.specs.{Grid.is_same, Sums.all_below, Sums.sum_below, Penalty.is_run, Penalty.run_cost}
 use Rattle.qr_matrix.specs.Runs.{joins, begins_five, begins_long_run, place_cost}
 use Rattle.qr_matrix.proofs.lemmas.bit_row.SumLemmas.{sum_below-same, sum_below-add, sum_below-scale, sum_below-one}
-use Rattle.qr_matrix.proofs.lemmas.bit_row.BoolLemmas.{and-false}
-use Rattle.qr_matrix.proofs.lemmas.runs.RowLemmas.{joins-past}
+use Rattle.qr_matrix.proofs.lemmas.{bit_row.BoolLemmas.and-false, runs.RowLemmas.joins-past}
 
 -- each test b is true or false
 true_or_false : (b : Bool) → (b ≡ true) ⊎ (b ≡ false)

@@ -1,14 +1,9 @@
 -- Bit operations on two rows compute the test of a square of two by two modules.
 use Rattle.std.proofs.Common.{◌≡◌, ℕ, ◌+◌, ◌≤◌, List, ltb, Bool, true, false, ◌&&◌, refl, sym, ap, ◌∙◌, subst, arith}
 use Rattle.std.proofs.lemmas.Bool.Decides.{nat_tests}
-use Rattle.qr_matrix.specs.BitRow.{has}
-use Rattle.qr_matrix.specs.Steps.{size_of}
-use Rattle.qr_matrix.specs.Grid.{is_same}
-use Rattle.qr_matrix.specs.Sums.{count_below}
-use Rattle.qr_matrix.specs.Penalty.{is_square_of_two}
+use Rattle.qr_matrix.specs.{BitRow.has, Steps.size_of, Grid.is_same, Sums.count_below, Penalty.is_square_of_two}
 use Rattle.qr_matrix.specs.Runs.{joins}
-use Rattle.qr_matrix.proofs.lemmas.runs.RowLemmas.{size-is}
-use Rattle.qr_matrix.proofs.lemmas.bit_row.BoolLemmas.{and-false}
+use Rattle.qr_matrix.proofs.lemmas.{runs.RowLemmas.size-is, bit_row.BoolLemmas.and-false}
 
 -- four modules p, q, m and n are equal exactly if p is joined to q in its row, and p to m and q to n in their columns
 square-bools : (t u w p q m n : Bool) → (t ≡ true → u ≡ true) → (((t && is_same p q) && (u && (w && is_same p m))) && (t && (w && is_same q n))) ≡ ((((w && t) && is_same p q) && is_same p m) && is_same p n)

@@ -10,8 +10,7 @@ use Rattle.std.proofs.lemmas.Bool.{cases_lt, cases_eq}
 use Rattle.std.proofs.lemmas.Bool.Decides.{nat_tests}
 use Rattle.qr_matrix.specs.BitRow.{has, has_bit}
 use Rattle.qr_matrix.specs.Grid.{is_same, Grid, square, colour, with_row, IsSquare}
-use Rattle.qr_matrix.specs.Sums.{all_below}
-use Rattle.qr_matrix.specs.Steps.{bit_in, exchanged}
+use Rattle.qr_matrix.specs.{Sums.all_below, Steps.bit_in, Steps.exchanged}
 use Rattle.qr_matrix.proofs.lemmas.bit_row.PlaceLemmas.{has-place, has_bit-and, has_bit-xor, has_bit-shr, word-step, has_bit-shl-low, has_bit-shl-high}
 use Rattle.qr_matrix.proofs.lemmas.matrix.GridLemmas.{square-same, colour-square}
 use Rattle.qr_matrix.proofs.lemmas.bit_row.RepeatLemmas.{below-at, same-same}
