@@ -50,8 +50,7 @@ weight-plus (x ∷ xs) [] e = absurd (omega arith)
 weight-plus (x ∷ xs) (y ∷ ys) e =
     let none : x ≡ y → bit_xor x y ≡ 0 = λ h. ap (λ t. bit_xor t y) h ∙ xor_self y in
     let one : difference (bit_xor x y) 0 ≡ difference x y = difference-alike (bit_xor x y) 0 x y (sum-none x y) none in
-    let f = weight-plus xs ys (omega arith) in
-    omega (arith, one, f)
+    cc (weight-plus xs ys (omega arith))
 
 -- if two lists xs and ys differ at 0 positions, then they are equal
 pub differences-none : (xs ys : List ℕ) → differences xs ys ≡ 0 → xs ≡ ys
@@ -59,9 +58,7 @@ differences-none [] [] e = refl
 differences-none [] (y ∷ ys) e = absurd (omega (arith, e))
 differences-none (x ∷ xs) [] e = absurd (omega (arith, e))
 differences-none (x ∷ xs) (y ∷ ys) e = elim (cases_eq x y) [
-  | inl f ↦
-      let tail = differences-none xs ys (omega (arith, e)) in
-      ap (λ t. t ∷ xs) f ∙ ap (λ t. y ∷ t) tail
+  | inl f ↦ cc (differences-none xs ys (omega (arith, e)))
   | inr n ↦ let one = difference-other x y n in absurd (omega (arith, e, one))
 ]
 
@@ -69,8 +66,7 @@ differences-none (x ∷ xs) (y ∷ ys) e = elim (cases_eq x y) [
 pub value-none : (i : ℕ) (p : List ℕ) → weight p ≡ 0 → value_at i p ≡ 0
 value-none i [] e = refl
 value-none i (c ∷ p) e = elim (cases_eq c 0) [
-  | inl f ↦
-      ap (λ t. value_at i (t ∷ p)) f ∙ (value-zero i p ∙ value-none i p (omega (arith, e)))
+  | inl f ↦ cc (value-zero i p, value-none i p (omega (arith, e)))
   | inr n ↦ let one = difference-other c 0 n in absurd (omega (arith, e, one))
 ]
 
@@ -133,8 +129,7 @@ value-lowered i k (c ∷ p) a =
     let v = value_at i p in
     let parts = product-xor (product c own) (product c other) place (product-lt c own lc) (product-lt c other lc) in
     let joined = product-by_sum other (product c place) v lk (product-lt c place lc) (value-lt i p lp) in
-    let swap = xor-swap (product c (power ((i + 1) * m))) (product other (product c place)) (value_at (i + 1) p) (product other v) in
-    cc (length-lowered k p, product-by_sum c own other lc lo lk, value-lowered i k p lp)
+    cc (xor-swap (product c (power ((i + 1) * m))) (product other (product c place)) (value_at (i + 1) p) (product other v), length-lowered k p, product-by_sum c own other lc lo lk, value-lowered i k p lp)
 
 -- if the values of the polynomial c ∷ p are 0 at 2 to the powers i and i + 1, and p has m coefficients, then the value of
 -- `lowered m p` at 2 to the power i is 0
@@ -150,8 +145,7 @@ lowered-root i c p lc lp e f =
     let next : product c (power ((i + 1) * m)) ≡ value_at (i + 1) p =
     sum-none (product c (power ((i + 1) * m))) (value_at (i + 1) p) f in
     let exponent : (i + 1) * m ≡ m + i * m = omega arith in
-    let front = product-front own c place lo lc li in
-    cc (power-add m (i * m), value-lowered i m p lp, xor_self (value_at (i + 1) p))
+    cc (product-front own c place lo lc li, power-add m (i * m), value-lowered i m p lp, xor_self (value_at (i + 1) p))
 
 -- ---- few coefficients that are not 0
 
@@ -177,8 +171,7 @@ weight-none (suc k) n (c ∷ p) l h a w r =
           let none = difference-same c 0 e in
           let roots : (i : ℕ) → i < n → value_at i p ≡ 0 =
           λ i m. sym (value-zero i p) ∙ (ap (λ t. value_at i (t ∷ p)) (sym e) ∙ r i m) in
-          let tail = weight-none k n p lk hk lp (omega (arith, w)) roots in
-          omega (arith, none, tail)
+          cc (weight-none k n p lk hk lp (omega (arith, w)) roots)
       | inr o ↦
           let one = difference-other c 0 o in
           let some : 1 ≤ n = omega (arith, one, w) in

@@ -76,8 +76,7 @@ value-plus i k (x ∷ xs) (y ∷ ys) e a b =
     let head = product-xor x y place lx ly in
     let vx = value_at i xs in
     let both = product-xor (product x inner) vx shift (product-lt x inner lx) (value-lt i xs lxs) in
-    let swap = xor-swap (product (product x inner) shift) (product y place) (product vx shift) (value_at i ys) in
-    cc (length-plus xs ys h, value-plus i k xs ys f lxs lys)
+    cc (xor-swap (product (product x inner) shift) (product y place) (product vx shift) (value_at i ys), length-plus xs ys h, value-plus i k xs ys f lxs lys)
 
 -- the value of the product of q and a ∷ g at 2 to the power i is the product of the values of q and of a ∷ g at this power
 value-times : (i : ℕ) (q : List ℕ) (a : ℕ) (g : List ℕ) → All IsByte q → All IsByte (a ∷ g) →

@@ -92,9 +92,7 @@ blocks-sum : (b d : ℕ) → 0 < b → (b - d % b) * (d / b) + d % b * (d / b + 
 blocks-sum b d p =
     let c = cut (b - d % b) (d % b) (d / b) in
     let f : b - d % b + d % b ≡ b = omega arith in
-    let g : d / b * (b - d % b + d % b) ≡ d / b * b = ap (λ t. d / b * t) f in
-    let m = div-add-mod' d b in
-    omega (arith, c, g, m)
+    cc (div-add-mod' d b)
 
 -- data and error correction codewords make up the symbol
 blocks-total : (l : Level) (v r : ℕ) → 1 ≤ v → v ≤ 40 → r ≤ block_count_of v l → data_codewords_of v l + (block_count_of v l - r + r) * correction_len_of v l ≡ total_codewords_of v

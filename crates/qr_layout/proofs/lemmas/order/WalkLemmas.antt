@@ -237,7 +237,7 @@ after v m h =
     let j = at-IsCursor v m (row-in v m h) (col-in v m h) in
     let w = reaches v (left_of s (first_cursor v)) (first_cursor v) b (start-IsCursor v) refl j (at-strips m) (start-most v b j) in
     let t : is_in_region v b.row (place_of b).col ≡ true = subst (InRegion v) (sym e) h in
-    let f : to_come v b ≡ m ∷ to_come v (next_of s b) = to_come-next v b j (at-strips m) ∙ (ap (λ z. cond z (place_of b ∷ to_come v (next_of s b)) (to_come v (next_of s b))) t ∙ ap (λ (z : Module). z ∷ to_come v (next_of s b)) e) in
+    let f : to_come v b ≡ m ∷ to_come v (next_of s b) = to_come-next v b j (at-strips m) ∙ (cc) in
     record { front = w.0; whole = subst (IsOrder v) (w.1 ∙ ap (λ zs. w.0 ++ zs) f) (to_come-start v) }
 
 -- the modules that the walk of the code yields, which starts at the last row of the rightmost strip, are the order of

@@ -358,4 +358,4 @@ off-role v r c l i j ha ht hv =
 pub region-role : (v r c : ℕ) → 1 ≤ v → r < side_of v → c < side_of v → is_in_region v r c ≡ true → role_of v r c ≡ Region
 region-role v r c l i j h =
     let w = clear (is_corner (side_of v) r c) (is_timing r c) (is_version_information v r c) (is_alignment v r c) (sym (region-parts v r c i j) ∙ h) in
-    off-role v r c l i j w.no_corner w.no_timing w.no_version ∙ rw w.no_alignment refl
+    cc (off-role v r c l i j w.no_corner w.no_timing w.no_version)

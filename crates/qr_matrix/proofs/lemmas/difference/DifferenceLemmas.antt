@@ -24,7 +24,7 @@ same-is a b h = grind (arith, nat_tests)
 
 -- a place outside both rows differs in neither
 differs-past : (x y : Bool) → x ≡ false → y ≡ false → not (is_same x y) ≡ false
-differs-past x y e f = ap (λ z. not (is_same z y)) e ∙ ap (λ z. not (is_same false z)) f
+differs-past x y e f = cc
 
 -- the bits that are set in exactly one of two rows are the places at which the rows differ
 pub row-differs : (g h : Grid) (r : ℕ) (d a b : List ℕ) → g.side ≤ 192 → ((c : ℕ) → has d c ≡ not (is_same (has a c) (has b c)))

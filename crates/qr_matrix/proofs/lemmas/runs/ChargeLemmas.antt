@@ -18,11 +18,6 @@ long-is : (s : ℕ) (line : ℕ → Bool) (c : ℕ) → begins_long_run s line c
 unfolding begins_long_run begins_five one_before
 long-is s line c = search arith
 
--- if five modules of one colour begin at the second module before module c, but not at the module before it, then they
--- do not begin at module c
-gap : (i j a b d e : Bool) → ((i && j) && (a && b)) ≡ true → ((j && a) && (b && d)) ≡ false → ((a && b) && (d && e)) ≡ false
-gap i j a b d e h k = grind (arith, nat_tests)
-
 gap-is : (s : ℕ) (line : ℕ → Bool) (c : ℕ) → two_before s line c ≡ true → one_before s line c ≡ false → begins_five s line c ≡ false
 unfolding two_before one_before begins_five
 gap-is s line c h k = search arith

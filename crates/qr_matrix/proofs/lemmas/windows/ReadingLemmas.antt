@@ -12,8 +12,7 @@ reads-append : (line : ℕ → Bool) (c : ℕ) (xs ys : List Bool) → reads lin
 reads-append line c [] ys = let e : c ≡ c + 0 = omega arith in ap (λ k. reads line k ys) e
 reads-append line c (x ∷ xs) ys =
     let e : c + 1 + length xs ≡ c + suc (length xs) = omega arith in
-    ap (λ z. is_same (line c) x && z) (reads-append line (c + 1) xs ys ∙ ap (λ k. reads line (c + 1) xs && reads line k ys) e)
-    ∙ sym (and_assoc (is_same (line c) x) (reads line (c + 1) xs) (reads line (c + suc (length xs)) ys))
+    cc (reads-append line (c + 1) xs ys, and_assoc (is_same (line c) x) (reads line (c + 1) xs) (reads line (c + suc (length xs)) ys))
 
 -- a window is the ratio and four light modules after or before it
 pub window-is : (s : ℕ) (line : ℕ → Bool) (c : ℕ)

@@ -16,7 +16,7 @@ window-bit s line core four c cores fours =
     let first : leb (c + 11) s ≡ true → leb (c + 7) s ≡ true = λ e. grind (arith, nat_tests) in
     let second : leb (c + 11) s ≡ true → leb (c + 4) s ≡ true = λ e. grind (arith, nat_tests) in
     (λ i. (cores c i && fours (c + 7) i) || (fours c i && cores (c + 4) i))
-    ∙ (λ i. ((leb (c + 7) s && reads line c finder_ratio) && (seven i && reads line (c + 7) four_light)) || ((leb (c + 4) s && reads line c four_light) && (four_more i && reads line (c + 4) finder_ratio)))
+    ∙ (cc)
     ∙ common (leb (c + 11) s) (leb (c + 7) s) (leb (c + 4) s) (reads line c finder_ratio) (reads line (c + 7) four_light) (reads line c four_light) (reads line (c + 4) finder_ratio) first second
     ∙ sym (window-is s line c)
   where
