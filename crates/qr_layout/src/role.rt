@@ -137,6 +137,7 @@ pub fn second_format_place(v: Version, bit: u8) -> Module
 }
 
 // The index of the bit of the format information that column 8 contains in row `row`.
+#[tactic(auto, using(crate::proofs::lemmas::role::RoleLemmas::format_down))]
 fn format_bit_down(side: u8, row: u8) -> Option<u8>
     requires least { 21 ≤ side }
     requires most { side ≤ 177 }
@@ -157,6 +158,7 @@ fn format_bit_down(side: u8, row: u8) -> Option<u8>
 }
 
 // As `format_bit_down`, but for row 8 and column `col`.
+#[tactic(auto, using(crate::proofs::lemmas::role::RoleLemmas::format_across))]
 fn format_bit_across(side: u8, col: u8) -> Option<u8>
     requires least { 21 ≤ side }
     requires col_in { col < side }
@@ -176,6 +178,7 @@ fn format_bit_across(side: u8, col: u8) -> Option<u8>
     }
 }
 
+#[tactic(auto, using(crate::proofs::lemmas::role::RoleLemmas::format_off))]
 fn format_bit(side: u8, row: u8, col: u8) -> Option<u8>
     requires least { 21 ≤ side }
     requires most { side ≤ 177 }
@@ -194,6 +197,7 @@ fn format_bit(side: u8, row: u8, col: u8) -> Option<u8>
 
 // In the block beside the top right finder pattern, each row has three bits, the lowest first, from bit 0 in row 0 on.
 // In the other block, rows and columns are exchanged.
+#[tactic(auto, using(crate::proofs::lemmas::role::RoleLemmas::version_at))]
 fn version_bit(v: Version, row: u8, col: u8) -> Option<u8>
     requires row_in { row < side_of v }
     requires col_in { col < side_of v }

@@ -8,7 +8,6 @@ use Rattle.std.proofs.lemmas.List.Elements.{All-drop, All-push}
 use Rattle.std.proofs.Math.Nat.{pow-le-pow_right, mul-lt-mul_of_pos_right}
 use lib.ListN.{replicate}
 use Rattle.qr_field.specs.declared.register.Register.{Register}
-use Rattle.qr_field.specs.Galois.{product}
 use Rattle.qr_field.specs.Polynomial.{IsByte, plus, zeros, scaled, generator_of, IsCorrection}
 use Rattle.qr_field.specs.Steps.Register.{packed, unpacked, value_of, zero_register, divisor_of, HasMultiples, IsHeld}
 use Rattle.qr_field.proofs.lemmas.galois.BitLemmas.{digits, xor-shift, zero-times}
@@ -20,10 +19,7 @@ use Rattle.qr_field.proofs.lemmas.register.RegisterLemmas.{packed-plus, packed-n
 -- a sum of multiples
 scaled-xor : (a b : ℕ) (g : List ℕ) → a < 256 → b < 256 → plus (scaled a g) (scaled b g) ≡ scaled (bit_xor a b) g
 scaled-xor a b [] l m = refl
-scaled-xor a b (x ∷ g) l m =
-    let e = product-xor a b x l m in
-    let f = scaled-xor a b g l m in
-    ap (λ t. t ∷ plus (scaled a g) (scaled b g)) e ∙ ap (λ t. product (bit_xor a b) x ∷ t) f
+scaled-xor a b (x ∷ g) l m = cc (product-xor a b x l m, scaled-xor a b g l m)
 
 -- a power of 2 below 16
 pub power-small : (i : ℕ) → i < 4 → 2 ^ i ≤ 8
@@ -44,9 +40,7 @@ multiples-start g s a =
       many = length-replicate 16 zero_register;
       each = λ f l.
           let e : f ≡ 0 = omega arith in
-          let z : 0 ≡ f * 2 ^ s = sym (ap (λ t. t * 2 ^ s) e ∙ zero-times (2 ^ s)) in
-          ap value_of (get_or-replicate 16 f zero_register zero_register (omega arith))
-          ∙ (sym (packed-none g a) ∙ ap (λ t. packed (scaled t g)) z);
+          cc (zero-times (2 ^ s), get_or-replicate 16 f zero_register zero_register (omega arith), packed-none g a);
     }
 
 -- one multiple more
@@ -58,8 +52,7 @@ multiples-more g rows s i r row by_bit a ls li l sum by h =
     let bit = 2 ^ i in
     let small : bit ≤ 8 = power-small i li in
     let one : bit ≡ 1 * bit = omega arith in
-    let joined : bit_xor r bit ≡ bit + r =
-    xor_comm r bit ∙ (ap (λ t. bit_xor t r) one ∙ (digits i 1 r l ∙ ap (λ t. t + r) (sym one))) in
+    let joined : bit_xor r bit ≡ bit + r = cc (xor_comm r bit, digits i 1 r l) in
     let factor : bit_xor (r * 2 ^ s) (bit * 2 ^ s) ≡ (bit + r) * 2 ^ s =
     xor-shift s r bit ∙ ap (λ t. t * 2 ^ s) joined in
     let read = h.each r (omega arith) in
@@ -68,11 +61,7 @@ multiples-more g rows s i r row by_bit a ls li l sum by h =
     let ra = bytes-scaled (r * 2 ^ s) g rl in
     let ba = bytes-scaled (bit * 2 ^ s) g bl in
     let is : value_of row ≡ packed (scaled ((bit + r) * 2 ^ s) g) =
-    sum
-    ∙ (ap (λ t. bit_xor t (value_of by_bit)) read
-    ∙ (ap (λ t. bit_xor (packed (scaled (r * 2 ^ s) g)) t) by
-    ∙ (sym (packed-plus (scaled (r * 2 ^ s) g) (scaled (bit * 2 ^ s) g) ra ba)
-    ∙ (ap packed (scaled-xor (r * 2 ^ s) (bit * 2 ^ s) g rl bl) ∙ ap (λ t. packed (scaled t g)) factor)))) in
+    cc (packed-plus (scaled (r * 2 ^ s) g) (scaled (bit * 2 ^ s) g) ra ba, scaled-xor (r * 2 ^ s) (bit * 2 ^ s) g rl bl) in
     record {
       many = length-set rows (bit + r) row ∙ h.many;
       each = λ f m. elim (cases_lt f (bit + r)) [
@@ -82,9 +71,7 @@ multiples-more g rows s i r row by_bit a ls li l sum by h =
         | inr n ↦
             let e : f ≡ bit + r = omega arith in
             let inside : bit + r < length rows = omega (arith, h.many, small) in
-            ap (λ t. value_of (get_or (set rows (bit + r) row) t zero_register)) e
-            ∙ (ap value_of (get_or-set_same rows (bit + r) row zero_register inside)
-            ∙ (is ∙ ap (λ t. packed (scaled (t * 2 ^ s) g)) (sym e)))
+            cc (get_or-set_same rows (bit + r) row zero_register inside)
       ];
     }
 
@@ -134,19 +121,17 @@ held-step m i n v row l b k e h =
     let small : r < 256 = omega arith in
     let moved : List ℕ = drop 1 items ++ 0 ∷ [] in
     let sum : List ℕ = plus moved (scaled factor g) in
-    let rest : v / 2 ^ 8 ≡ packed moved =
-    ap (λ t. t / 2 ^ 8) h.same ∙ (packed-rest items one bytes ∙ sym (packed-zero_last (drop 1 items))) in
+    let rest : v / 2 ^ 8 ≡ packed moved = cc (packed-rest items one bytes, packed-zero_last (drop 1 items)) in
     let moved_bytes : All IsByte moved = All-push IsByte (drop 1 items) 0 (All-drop IsByte 1 items bytes) (lit< tt) in
     let added = packed-plus moved (scaled factor g) moved_bytes (bytes-scaled factor g (xor_of_8 (get_or m i 0) r b small)) in
     record {
       items = sum;
       correction = correction-step m i n r items moved sum g l b k is first refl refl h.correction;
-      same = ap (λ t. bit_xor t row) rest ∙ (ap (λ t. bit_xor (packed moved) t) e ∙ sym added);
+      same = cc;
     }
 
 -- the error correction codewords that the register contains at last
 pub held-all : (d : List ℕ) (n v : ℕ) (e : List ℕ) → e ≡ unpacked n v → IsHeld d n v → IsCorrection d n e
 held-all d n v e is h =
-    let f : e ≡ h.items =
-    is ∙ (ap (unpacked n) h.same ∙ unpacked-packed n h.items h.correction.count h.correction.bytes) in
+    let f : e ≡ h.items = cc (unpacked-packed n h.items h.correction.count h.correction.bytes) in
     subst (λ (t : List ℕ). IsCorrection d n t) (sym f) h.correction

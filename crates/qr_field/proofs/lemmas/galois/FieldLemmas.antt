@@ -36,9 +36,7 @@ product-comm a b l m = elim (cases_eq a 0) [
     | inr o ↦
         let i = exponent-of a n l in
         let j = exponent-of b o m in
-        ap (λ t. product t b) (sym i.2)
-        ∙ (ap (product (power i.0)) (sym j.2)
-        ∙ (powers-comm i.0 j.0 ∙ (ap (λ t. product t (power i.0)) j.2 ∙ ap (product b) i.2)))
+        cc (powers-comm i.0 j.0)
   ]
 ]
 
@@ -47,8 +45,7 @@ powers-assoc : (i j k : ℕ) →
     product (product (power i) (power j)) (power k) ≡ product (power i) (product (power j) (power k))
 powers-assoc i j k =
     let e : i + j + k ≡ i + (j + k) = omega arith in
-    ap (λ t. product t (power k)) (sym (power-add i j))
-    ∙ (sym (power-add (i + j) k) ∙ (ap power e ∙ (power-add i (j + k) ∙ ap (product (power i)) (power-add j k))))
+    cc (power-add i j, power-add (i + j) k, power-add i (j + k), power-add j k)
 
 -- the product of three elements does not depend on the brackets
 pub product-assoc : (a b c : ℕ) → a < 256 → b < 256 → c < 256 →
@@ -62,15 +59,9 @@ product-assoc a b c l m h = elim (cases_eq a 0) [
           right-none (product a b) c (product-lt a b l) g ∙ sym (right-none a (product b c) l (right-none b c m g))
       | inr p ↦
           let i = exponent-of a n l in
-          let j = exponent-of b o m in
-          let k = exponent-of c p h in
-          let left : product (product (power i.0) (power j.0)) (power k.0) ≡ product (product a b) c =
-          ap (λ t. product (product t (power j.0)) (power k.0)) i.2
-          ∙ (ap (λ t. product (product a t) (power k.0)) j.2 ∙ ap (product (product a b)) k.2) in
-          let right : product (power i.0) (product (power j.0) (power k.0)) ≡ product a (product b c) =
-          ap (λ t. product t (product (power j.0) (power k.0))) i.2
-          ∙ (ap (λ t. product a (product t (power k.0))) j.2 ∙ ap (λ t. product a (product b t)) k.2) in
-          sym left ∙ (powers-assoc i.0 j.0 k.0 ∙ right)
+    let j = exponent-of b o m in
+    let k = exponent-of c p h in
+    cc (powers-assoc i.0 j.0 k.0)
     ]
   ]
 ]
@@ -78,15 +69,12 @@ product-assoc a b c l m h = elim (cases_eq a 0) [
 -- the last two of three factors may be exchanged
 pub product-swap : (a b c : ℕ) → a < 256 → b < 256 → c < 256 →
     product (product a b) c ≡ product (product a c) b
-product-swap a b c l m h =
-    product-assoc a b c l m h ∙ (ap (product a) (product-comm b c m h) ∙ sym (product-assoc a c b l h m))
+product-swap a b c l m h = cc (product-assoc a b c l m h, product-comm b c m h, product-assoc a c b l h m)
 
 -- the first two of three factors may be exchanged
 pub product-front : (a b c : ℕ) → a < 256 → b < 256 → c < 256 →
     product a (product b c) ≡ product b (product a c)
-product-front a b c l m h =
-    sym (product-assoc a b c l m h)
-    ∙ (ap (λ t. product t c) (product-comm a b l m) ∙ product-assoc b a c m l h)
+product-front a b c l m h = cc (product-assoc a b c l m h, product-comm a b l m, product-assoc b a c m l h)
 
 -- ---- sums
 
@@ -95,9 +83,7 @@ pub product-by_sum : (a b c : ℕ) → a < 256 → b < 256 → c < 256 →
     product a (bit_xor b c) ≡ bit_xor (product a b) (product a c)
 product-by_sum a b c l m h =
     product-comm a (bit_xor b c) l (xor_of_8 b c m h)
-    ∙ (sym (product-xor b c a m h)
-    ∙ (ap (λ t. bit_xor t (product c a)) (product-comm b a m l)
-    ∙ ap (bit_xor (product a b)) (product-comm c a h l)))
+    ∙ (cc (product-xor b c a m h, product-comm b a m l, product-comm c a h l))
 
 -- ---- factors that are not 0
 
@@ -108,15 +94,14 @@ product-factor a b l m n e =
     let k = i.0 in
     let rest = power (255 - k) in
     let whole : k + (255 - k) ≡ 255 = omega (arith, i.1) in
-    let one : product b rest ≡ 1 =
-    ap (λ t. product t rest) (sym i.2) ∙ (sym (power-add k (255 - k)) ∙ (ap power whole ∙ power-round)) in
+    let one : product b rest ≡ 1 = cc (power-add k (255 - k), power-round) in
     sym (product-by_one a l)
     ∙ (ap (product a) (sym one)
     ∙ (sym (product-assoc a b rest l m (power-lt (255 - k))) ∙ left-none (product a b) rest (power-lt (255 - k)) e))
 
 -- the sum of two elements is 0 only if they are equal
 pub sum-none : (a b : ℕ) → bit_xor a b ≡ 0 → a ≡ b
-sum-none a b e = sym (xor_zero_r a) ∙ (ap (bit_xor a) (sym e) ∙ xor-cancel a b)
+sum-none a b e = cc (xor_zero_r a, xor-cancel a b)
 
 -- powers with different exponents below 255 have a sum that is not 0
 pub powers-sum : (i j : ℕ) → i < j → j < 255 → bit_xor (power i) (power j) ≡ 0 → ⊥

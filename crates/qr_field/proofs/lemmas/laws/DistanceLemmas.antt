@@ -50,8 +50,7 @@ weight-plus (x ∷ xs) [] e = absurd (omega arith)
 weight-plus (x ∷ xs) (y ∷ ys) e =
     let none : x ≡ y → bit_xor x y ≡ 0 = λ h. ap (λ t. bit_xor t y) h ∙ xor_self y in
     let one : difference (bit_xor x y) 0 ≡ difference x y = difference-alike (bit_xor x y) 0 x y (sum-none x y) none in
-    let f = weight-plus xs ys (omega arith) in
-    omega (arith, one, f)
+    cc (weight-plus xs ys (omega arith))
 
 -- if two lists xs and ys differ at 0 positions, then they are equal
 pub differences-none : (xs ys : List ℕ) → differences xs ys ≡ 0 → xs ≡ ys
@@ -59,9 +58,7 @@ differences-none [] [] e = refl
 differences-none [] (y ∷ ys) e = absurd (omega (arith, e))
 differences-none (x ∷ xs) [] e = absurd (omega (arith, e))
 differences-none (x ∷ xs) (y ∷ ys) e = elim (cases_eq x y) [
-  | inl f ↦
-      let tail = differences-none xs ys (omega (arith, e)) in
-      ap (λ t. t ∷ xs) f ∙ ap (λ t. y ∷ t) tail
+  | inl f ↦ cc (differences-none xs ys (omega (arith, e)))
   | inr n ↦ let one = difference-other x y n in absurd (omega (arith, e, one))
 ]
 
@@ -69,8 +66,7 @@ differences-none (x ∷ xs) (y ∷ ys) e = elim (cases_eq x y) [
 pub value-none : (i : ℕ) (p : List ℕ) → weight p ≡ 0 → value_at i p ≡ 0
 value-none i [] e = refl
 value-none i (c ∷ p) e = elim (cases_eq c 0) [
-  | inl f ↦
-      ap (λ t. value_at i (t ∷ p)) f ∙ (value-zero i p ∙ value-none i p (omega (arith, e)))
+  | inl f ↦ cc (value-zero i p, value-none i p (omega (arith, e)))
   | inr n ↦ let one = difference-other c 0 n in absurd (omega (arith, e, one))
 ]
 
@@ -126,24 +122,14 @@ value-lowered i k (c ∷ p) a =
     let place = power (i * m) in
     let li = power-lt (i * m) in
     let exponent : m + i * m ≡ (i + 1) * m = omega arith in
-    let first : product (product c own) place ≡ product c (power ((i + 1) * m)) =
-    product-assoc c own place lc lo li ∙ ap (product c) (sym (power-add m (i * m)) ∙ ap power exponent) in
-    let second : product (product c other) place ≡ product other (product c place) =
-    product-assoc c other place lc lk li ∙ product-front c other place lc lk li in
-    let head : product (product c (bit_xor own other)) (power (i * length (lowered k p))) ≡ bit_xor (product c (power ((i + 1) * m))) (product other (product c place)) =
-    ap (λ t. product (product c (bit_xor own other)) (power (i * t))) (length-lowered k p)
-    ∙ (ap (λ t. product t place) (product-by_sum c own other lc lo lk)
-    ∙ (sym (product-xor (product c own) (product c other) place (product-lt c own lc) (product-lt c other lc))
-    ∙ (ap (λ t. bit_xor t (product (product c other) place)) first
-    ∙ ap (bit_xor (product c (power ((i + 1) * m)))) second))) in
+    let first = product-assoc c own place lc lo li in
+    let sum = power-add m (i * m) in
+    let second = product-assoc c other place lc lk li in
+    let front = product-front c other place lc lk li in
     let v = value_at i p in
-    let w = value_at (i + 1) p in
-    let joined : bit_xor (product other (product c place)) (product other v) ≡ product other (bit_xor (product c place) v) =
-    sym (product-by_sum other (product c place) v lk (product-lt c place lc) (value-lt i p lp)) in
-    ap (λ t. bit_xor t (value_at i (lowered k p))) head
-    ∙ (ap (bit_xor (bit_xor (product c (power ((i + 1) * m))) (product other (product c place)))) (value-lowered i k p lp)
-    ∙ (xor-swap (product c (power ((i + 1) * m))) (product other (product c place)) w (product other v)
-    ∙ ap (bit_xor (bit_xor (product c (power ((i + 1) * m))) w)) joined))
+    let parts = product-xor (product c own) (product c other) place (product-lt c own lc) (product-lt c other lc) in
+    let joined = product-by_sum other (product c place) v lk (product-lt c place lc) (value-lt i p lp) in
+    cc (xor-swap (product c (power ((i + 1) * m))) (product other (product c place)) (value_at (i + 1) p) (product other v), length-lowered k p, product-by_sum c own other lc lo lk, value-lowered i k p lp)
 
 -- if the values of the polynomial c ∷ p are 0 at 2 to the powers i and i + 1, and p has m coefficients, then the value of
 -- `lowered m p` at 2 to the power i is 0
@@ -159,11 +145,7 @@ lowered-root i c p lc lp e f =
     let next : product c (power ((i + 1) * m)) ≡ value_at (i + 1) p =
     sum-none (product c (power ((i + 1) * m))) (value_at (i + 1) p) f in
     let exponent : (i + 1) * m ≡ m + i * m = omega arith in
-    let same : product own (value_at i p) ≡ value_at (i + 1) p =
-    ap (product own) (sym here)
-    ∙ (product-front own c place lo lc li
-    ∙ (ap (product c) (sym (power-add m (i * m)) ∙ ap power (sym exponent)) ∙ next)) in
-    value-lowered i m p lp ∙ (ap (bit_xor (value_at (i + 1) p)) same ∙ xor_self (value_at (i + 1) p))
+    cc (product-front own c place lo lc li, power-add m (i * m), value-lowered i m p lp, xor_self (value_at (i + 1) p))
 
 -- ---- few coefficients that are not 0
 
@@ -171,9 +153,7 @@ lowered-root i c p lc lp e f =
 value-alone : (c : ℕ) (p : List ℕ) → c < 256 → weight p ≡ 0 → value_at 0 (c ∷ p) ≡ c
 value-alone c p l e =
     let none : 0 * length p ≡ 0 = omega arith in
-    ap (λ t. bit_xor (product c (power t)) (value_at 0 p)) none
-    ∙ (ap (λ t. bit_xor t (value_at 0 p)) (product-by_one c l)
-    ∙ (ap (bit_xor c) (value-none 0 p e) ∙ xor_zero_r c))
+    cc (product-by_one c l, value-none 0 p e, xor_zero_r c)
 
 -- if p has at most 255 coefficients, of which at most n are not 0, and the values of p at the first n powers of 2 are 0,
 -- then every coefficient of p is 0
@@ -191,8 +171,7 @@ weight-none (suc k) n (c ∷ p) l h a w r =
           let none = difference-same c 0 e in
           let roots : (i : ℕ) → i < n → value_at i p ≡ 0 =
           λ i m. sym (value-zero i p) ∙ (ap (λ t. value_at i (t ∷ p)) (sym e) ∙ r i m) in
-          let tail = weight-none k n p lk hk lp (omega (arith, w)) roots in
-          omega (arith, none, tail)
+          cc (weight-none k n p lk hk lp (omega (arith, w)) roots)
       | inr o ↦
           let one = difference-other c 0 o in
           let some : 1 ≤ n = omega (arith, one, w) in

@@ -46,12 +46,8 @@ value-scaled i a (c ∷ p) l b =
     let lx = power-lt (i * length p) in
     let lc = All-head IsByte c p b in
     let lp = All-tail IsByte c p b in
-    let m = length-map p (product a) in
-    let one : product (product a c) (power (i * length (scaled a p))) ≡ product a (product c x) =
-    ap (λ k. product (product a c) (power (i * k))) m ∙ product-assoc a c x l lc lx in
-    ap (λ t. bit_xor t (value_at i (scaled a p))) one
-    ∙ (ap (bit_xor (product a (product c x))) (value-scaled i a p l lp)
-    ∙ sym (product-by_sum a (product c x) (value_at i p) l (product-lt c x lc) (value-lt i p lp)))
+    let sum = product-by_sum a (product c x) (value_at i p) l (product-lt c x lc) (value-lt i p lp) in
+    cc (length-map p (product a), product-assoc a c x l lc lx, value-scaled i a p l lp, sum)
 
 -- if ys has k coefficients more than xs, then the value of `plus xs ys` at 2 to the power i is the sum of the value of ys
 -- and of the value of xs times 2 to the power i * k; `plus` adds the first coefficients of both lists
@@ -75,20 +71,12 @@ value-plus i k (x ∷ xs) (y ∷ ys) e a b =
     let ls = power-lt (i * k) in
     let li = power-lt (i * length xs) in
     let exponent : i * length ys ≡ i * length xs + i * k = ap (λ t. i * t) f ∙ omega arith in
-    let split : place ≡ product inner shift = ap power exponent ∙ power-add (i * length xs) (i * k) in
-    let front : product x place ≡ product (product x inner) shift =
-    ap (product x) split ∙ sym (product-assoc x inner shift lx li ls) in
-    let head : product (bit_xor x y) (power (i * length (plus xs ys))) ≡ bit_xor (product (product x inner) shift) (product y place) =
-    ap (λ t. product (bit_xor x y) (power (i * t))) (length-plus xs ys h)
-    ∙ (sym (product-xor x y place lx ly) ∙ ap (λ t. bit_xor t (product y place)) front) in
+    let split = power-add (i * length xs) (i * k) in
+    let front = product-assoc x inner shift lx li ls in
+    let head = product-xor x y place lx ly in
     let vx = value_at i xs in
-    let vy = value_at i ys in
-    let both : bit_xor (product (product x inner) shift) (product vx shift) ≡ product (bit_xor (product x inner) vx) shift =
-    product-xor (product x inner) vx shift (product-lt x inner lx) (value-lt i xs lxs) in
-    ap (λ t. bit_xor t (value_at i (plus xs ys))) head
-    ∙ (ap (bit_xor (bit_xor (product (product x inner) shift) (product y place))) (value-plus i k xs ys f lxs lys)
-    ∙ (xor-swap (product (product x inner) shift) (product y place) (product vx shift) vy
-    ∙ ap (λ t. bit_xor t (bit_xor (product y place) vy)) both))
+    let both = product-xor (product x inner) vx shift (product-lt x inner lx) (value-lt i xs lxs) in
+    cc (xor-swap (product (product x inner) shift) (product y place) (product vx shift) (value_at i ys), length-plus xs ys h, value-plus i k xs ys f lxs lys)
 
 -- the value of the product of q and a ∷ g at 2 to the power i is the product of the values of q and of a ∷ g at this power
 value-times : (i : ℕ) (q : List ℕ) (a : ℕ) (g : List ℕ) → All IsByte q → All IsByte (a ∷ g) →
@@ -108,13 +96,9 @@ value-times i (b ∷ q) a g bq bg =
     let longer : length (0 ∷ rest) ≡ length q + length (scaled b (a ∷ g)) = omega (arith, m, t) in
     let bytes : All IsByte (0 ∷ rest) = All-cons IsByte 0 rest (lit< tt) (bytes-times q (a ∷ g) lq) in
     let sum = value-plus i (length q) (scaled b (a ∷ g)) (0 ∷ rest) longer (bytes-scaled b (a ∷ g) lb) bytes in
-    let first : product (value_at i (scaled b (a ∷ g))) place ≡ product (product b place) v =
-    ap (λ s. product s place) (value-scaled i b (a ∷ g) lb bg) ∙ product-swap b v place lb lv lp in
-    let last : value_at i (0 ∷ rest) ≡ product (value_at i q) v = value-zero i rest ∙ value-times i q a g lq bg in
-    sum
-    ∙ (ap (λ s. bit_xor s (value_at i (0 ∷ rest))) first
-    ∙ (ap (bit_xor (product (product b place) v)) last
-    ∙ product-xor (product b place) (value_at i q) v (product-lt b place lb) (value-lt i q lq)))
+    let first = product-swap b v place lb lv lp in
+    let both = product-xor (product b place) (value_at i q) v (product-lt b place lb) (value-lt i q lq) in
+    cc (sum, value-scaled i b (a ∷ g) lb bg, value-zero i rest, value-times i q a g lq bg)
 
 -- ---- roots
 
@@ -125,13 +109,9 @@ value-factor n =
     let none : List ℕ = [] in
     let one : n * length last ≡ n = omega arith in
     let no : n * length none ≡ 0 = omega arith in
-    let first : product 1 (power (n * length last)) ≡ power n =
-    ap (λ t. product 1 (power t)) one ∙ product-of_one (power n) (power-lt n) in
-    let second : product (power n) (power (n * length none)) ≡ power n =
-    ap (λ t. product (power n) (power t)) no ∙ product-by_one (power n) (power-lt n) in
-    ap (λ t. bit_xor t (value_at n last)) first
-    ∙ (ap (λ t. bit_xor (power n) (bit_xor t 0)) second
-    ∙ (ap (bit_xor (power n)) (xor_zero_r (power n)) ∙ xor_self (power n)))
+    let first = product-of_one (power n) (power-lt n) in
+    let second = product-by_one (power n) (power-lt n) in
+    cc (xor_zero_r (power n), xor_self (power n))
 
 -- if i is below n, then the value of the generator polynomial of degree n at 2 to the power i is 0
 generator-root : (n i : ℕ) → i < n → value_at i (generator_of n) ≡ 0
@@ -144,14 +124,11 @@ generator-root (suc n) i l =
     let split = value-times i before 1 (power n ∷ []) (bytes-generator n) bytes in
     elim (cases_eq i n) [
       | inl e ↦
-          split
-          ∙ (ap (λ t. product (value_at i before) (value_at t factor)) e
-          ∙ (ap (product (value_at i before)) (value-factor n)
-          ∙ product-by_zero (value_at i before) (value-lt i before (bytes-generator n))))
+          let none = product-by_zero (value_at i before) (value-lt i before (bytes-generator n)) in
+          cc (value-factor n)
       | inr o ↦
-          split
-          ∙ (ap (λ t. product t (value_at i factor)) (generator-root n i (omega (arith, o)))
-          ∙ product-of_zero (value_at i factor) (value-lt i factor bytes))
+          let none = product-of_zero (value_at i factor) (value-lt i factor bytes) in
+          cc (generator-root n i (omega (arith, o)))
     ]
 
 -- a block of data codewords d and n error correction codewords e consists of bytes
@@ -167,8 +144,6 @@ block-root d n e c i l =
     let q = m.quotient in
     let s = generator-shape n in
     let bytes : All IsByte (1 ∷ s.0) = subst (λ (t : List ℕ). All IsByte t) s.1 (bytes-generator n) in
-    let root : value_at i (1 ∷ s.0) ≡ 0 = ap (value_at i) (sym s.1) ∙ generator-root n i l in
-    ap (value_at i) (sym m.whole)
-    ∙ (ap (λ t. value_at i (times q t)) s.1
-    ∙ (value-times i q 1 s.0 m.bytes bytes
-    ∙ (ap (product (value_at i q)) root ∙ product-by_zero (value_at i q) (value-lt i q m.bytes))))
+    let whole = m.whole in
+    let shape = s.1 in
+    cc (generator-root n i l, value-times i q 1 s.0 m.bytes bytes, product-by_zero (value_at i q) (value-lt i q m.bytes))

@@ -42,10 +42,7 @@ power-mod k l = elim (cases_lt k 255) [
 -- the product of two powers is the power to the sum of their exponents modulo 255
 pub product-of_powers : (a b i j k : ℕ) → i < 255 → power i ≡ a → j < 255 → power j ≡ b → k ≡ (i + j) % 255 →
     power k ≡ product a b
-product-of_powers a b i j k li ei lj ej e =
-    ap power e
-    ∙ (power-mod (i + j) (omega arith)
-    ∙ (power-add i j ∙ (ap (λ t. product t (power j)) ei ∙ ap (product a) ej)))
+product-of_powers a b i j k li ei lj ej e = cc (power-mod (i + j) (omega arith), power-add i j)
 
 -- ---- the tables
 
@@ -98,8 +95,7 @@ logarithm-power i l =
 
 -- two powers of 2 with different exponents below 255 are different
 pub powers-apart : (i j : ℕ) → i < 255 → j < 255 → power i ≡ power j → i ≡ j
-powers-apart i j l m e =
-    sym (logarithm-power i l) ∙ (ap (λ t. get_or LOGARITHMS (t - 1) 0) e ∙ logarithm-power j m)
+powers-apart i j l m e = cc (logarithm-power i l, logarithm-power j m)
 
 -- each element except 0 is a power of 2 whose exponent is below 255
 pub exponent-of : (a : ℕ) → (a ≡ 0 → ⊥) → a < 256 → (i : ℕ) × (i < 255) × (power i ≡ a)

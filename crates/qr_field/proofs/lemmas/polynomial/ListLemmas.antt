@@ -1,5 +1,5 @@
 -- Lists of coefficients: their sums, lengths and products.
-use Rattle.std.proofs.Common.{◌≡◌, ℕ, zero, suc, ◌+◌, ◌-◌, ◌<◌, ◌≤◌, List, [], ◌∷◌, ◌++◌, length, take, get_or, refl, sym, ap, ◌∙◌, arith, bit_xor, lit<, ltb, true}
+use Rattle.std.proofs.Common.{◌≡◌, ℕ, zero, suc, ◌+◌, ◌-◌, ◌<◌, ◌≤◌, List, [], ◌∷◌, ◌++◌, length, take, get_or, refl, ap, arith, bit_xor, lit<, ltb, true}
 use Rattle.std.proofs.lemmas.Bool.{and_parts}
 use Rattle.std.specs.List.{All, refill, list_all}
 use Rattle.std.specs.Int.Bits.{xor_assoc, xor_zero_r}
@@ -14,9 +14,7 @@ use Rattle.qr_field.proofs.lemmas.galois.ProductLemmas.{product-lt}
 
 -- a list that is written over by a list of its own length is that list
 pub refill_same : (xs ws : List ℕ) → length ws ≡ length xs → refill (length xs) xs ws ≡ ws
-refill_same xs ws e =
-    ap (λ t. take (length xs) (ws ++ t)) (drop_all (length ws) xs (omega arith))
-    ∙ (ap (λ t. take (length xs) t) (append-nil ws) ∙ take_all (length xs) ws (omega arith))
+refill_same xs ws e = cc (drop_all (length ws) xs (omega arith), append-nil ws, take_all (length xs) ws (omega arith))
 
 -- ---- sums
 
@@ -32,14 +30,14 @@ plus_assoc : (xs ys zs : List ℕ) → plus (plus xs ys) zs ≡ plus xs (plus ys
 plus_assoc [] ys zs = refl
 plus_assoc (x ∷ xs) [] zs = refl
 plus_assoc (x ∷ xs) (y ∷ ys) [] = refl
-plus_assoc (x ∷ xs) (y ∷ ys) (z ∷ zs) = let e = xor_assoc x y z in let f = plus_assoc xs ys zs in cc
+plus_assoc (x ∷ xs) (y ∷ ys) (z ∷ zs) = cc (xor_assoc x y z, plus_assoc xs ys zs)
 
 -- zeros change nothing
 pub plus-zeros : (xs : List ℕ) (k : ℕ) → k ≤ length xs → plus xs (zeros k) ≡ xs
 plus-zeros [] zero l = refl
 plus-zeros [] (suc k) l = absurd (omega arith)
 plus-zeros (x ∷ xs) zero l = refl
-plus-zeros (x ∷ xs) (suc k) l = let e = xor_zero_r x in let f = plus-zeros xs k (omega arith) in cc
+plus-zeros (x ∷ xs) (suc k) l = cc (xor_zero_r x, plus-zeros xs k (omega arith))
 
 -- a sum is as long as its longer list
 pub length-plus : (xs ys : List ℕ) → length xs ≤ length ys → length (plus xs ys) ≡ length ys
@@ -52,19 +50,19 @@ pub plus-append : (xs ys us vs : List ℕ) → length xs ≡ length ys → plus 
 plus-append [] [] us vs e = refl
 plus-append [] (y ∷ ys) us vs e = absurd (omega arith)
 plus-append (x ∷ xs) [] us vs e = absurd (omega arith)
-plus-append (x ∷ xs) (y ∷ ys) us vs e = ap (λ z. bit_xor x y ∷ z) (plus-append xs ys us vs (omega arith))
+plus-append (x ∷ xs) (y ∷ ys) us vs e = cc (plus-append xs ys us vs (omega arith))
 
 -- what follows a sum
 plus-snoc : (xs ys zs : List ℕ) → length xs ≤ length ys → plus xs (ys ++ zs) ≡ plus xs ys ++ zs
 plus-snoc [] ys zs l = refl
 plus-snoc (x ∷ xs) [] zs l = absurd (omega arith)
-plus-snoc (x ∷ xs) (y ∷ ys) zs l = ap (λ z. bit_xor x y ∷ z) (plus-snoc xs ys zs (omega arith))
+plus-snoc (x ∷ xs) (y ∷ ys) zs l = cc (plus-snoc xs ys zs (omega arith))
 
 -- what is added twice is gone
 plus-cancel : (xs ys : List ℕ) → length xs ≤ length ys → plus xs (plus xs ys) ≡ ys
 plus-cancel [] ys l = refl
 plus-cancel (x ∷ xs) [] l = absurd (omega arith)
-plus-cancel (x ∷ xs) (y ∷ ys) l = let e = xor-cancel x y in let f = plus-cancel xs ys (omega arith) in cc
+plus-cancel (x ∷ xs) (y ∷ ys) l = cc (xor-cancel x y, plus-cancel xs ys (omega arith))
 
 -- the front of a sum
 pub take-plus : (n : ℕ) (xs ys : List ℕ) → take n (plus xs ys) ≡ plus (take n xs) (take n ys)
@@ -77,13 +75,10 @@ take-plus (suc n) (x ∷ xs) (y ∷ ys) = ap (λ z. bit_xor x y ∷ z) (take-plu
 pub same-plus : (n : ℕ) (xs ys zs : List ℕ) → n ≤ length ys → n ≤ length zs →
     take n (plus xs ys) ≡ take n (plus xs zs) → take n ys ≡ take n zs
 same-plus n xs ys zs l m e =
-    let f : plus (take n xs) (take n ys) ≡ plus (take n xs) (take n zs) =
-    sym (take-plus n xs ys) ∙ (e ∙ take-plus n xs zs) in
     let a = length-take n xs in
     let b = length-take n ys in
     let d = length-take n zs in
-    sym (plus-cancel (take n xs) (take n ys) (omega (arith, a, b)))
-    ∙ (ap (λ t. plus (take n xs) t) f ∙ plus-cancel (take n xs) (take n zs) (omega (arith, a, d)))
+    cc (take-plus n xs ys, take-plus n xs zs, plus-cancel (take n xs) (take n ys) (omega (arith, a, b)), plus-cancel (take n xs) (take n zs) (omega (arith, a, d)))
 
 -- ---- bytes
 
@@ -139,12 +134,7 @@ pub times-snoc : (q : List ℕ) (f a : ℕ) (g : List ℕ) →
     times (q ++ f ∷ []) (a ∷ g) ≡ plus (times q (a ∷ g) ++ 0 ∷ []) (zeros (length q) ++ scaled f (a ∷ g))
 times-snoc [] f a g =
     let e : length (a ∷ g) - 1 ≡ length g = omega arith in
-    let m = length-map (a ∷ g) (product f) in
-    let z : 0 ∷ zeros (length (a ∷ g) - 1) ≡ zeros (suc (length g)) = ap (λ k. zeros (suc k)) e in
-    let w : zeros (length (a ∷ g) - 1) ++ 0 ∷ [] ≡ zeros (suc (length g)) =
-    ap (λ k. zeros k ++ 0 ∷ []) e ∙ snoc-zeros (length g) in
-    ap (λ t. plus (scaled f (a ∷ g)) t) z
-    ∙ (plus-comm (scaled f (a ∷ g)) (zeros (suc (length g))) ∙ ap (λ t. plus t (scaled f (a ∷ g))) (sym w))
+    cc (length-map (a ∷ g) (product f), snoc-zeros (length g), plus-comm (scaled f (a ∷ g)) (zeros (suc (length g))))
 times-snoc (b ∷ q) f a g =
     let ih = times-snoc q f a g in
     let m = length-map (a ∷ g) (product b) in
@@ -152,6 +142,4 @@ times-snoc (b ∷ q) f a g =
     let first = scaled b (a ∷ g) in
     let middle : List ℕ = 0 ∷ times q (a ∷ g) in
     let last : List ℕ = 0 ∷ (zeros (length q) ++ scaled f (a ∷ g)) in
-    ap (λ t. plus first (0 ∷ t)) ih
-    ∙ (sym (plus_assoc first (middle ++ 0 ∷ []) last)
-    ∙ ap (λ t. plus t last) (plus-snoc first middle (0 ∷ []) (omega (arith, m, l))))
+    cc (plus_assoc first (middle ++ 0 ∷ []) last, plus-snoc first middle (0 ∷ []) (omega (arith, m, l)))

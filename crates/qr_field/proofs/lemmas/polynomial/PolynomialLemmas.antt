@@ -23,15 +23,7 @@ divide-step : (p q : List ℕ) (b r : ℕ) (rs g : List ℕ) → b < 256 → r <
 divide-step p q b r rs g lb lr lq lg e =
     let f = bit_xor b r in
     let lf = xor_of_8 b r lb lr in
-    let one : product f 1 ≡ f = product-by_one f lf in
-    let h : bit_xor r f ≡ b = ap (λ t. bit_xor r t) (xor_comm b r) ∙ xor-cancel r b in
-    times-snoc q f 1 g
-    ∙ (ap (λ t. plus (t ++ 0 ∷ []) (zeros (length q) ++ scaled f (1 ∷ g))) e
-    ∙ (ap (λ t. plus t (zeros (length q) ++ scaled f (1 ∷ g))) (append_assoc p (r ∷ rs) (0 ∷ []))
-    ∙ (plus-append p (zeros (length q)) (r ∷ (rs ++ 0 ∷ [])) (scaled f (1 ∷ g)) (sym lq ∙ sym (length-zeros (length q)))
-    ∙ (ap (λ t. t ++ plus (r ∷ (rs ++ 0 ∷ [])) (scaled f (1 ∷ g))) (plus-zeros p (length q) (omega arith))
-    ∙ (ap (λ t. p ++ bit_xor r t ∷ plus (rs ++ 0 ∷ []) (scaled f g)) one
-    ∙ (ap (λ t. p ++ t ∷ plus (rs ++ 0 ∷ []) (scaled f g)) h ∙ sym (append_assoc p (b ∷ []) (plus (rs ++ 0 ∷ []) (scaled f g)))))))))
+    cc (product-by_one f lf, xor_comm b r, xor-cancel r b, times-snoc q f 1 g, append_assoc p (r ∷ rs) (0 ∷ []), plus-append p (zeros (length q)) (r ∷ (rs ++ 0 ∷ [])) (scaled f (1 ∷ g)) (sym lq ∙ sym (length-zeros (length q))), length-zeros (length q), plus-zeros p (length q) (omega arith), append_assoc p (b ∷ []) (plus (rs ++ 0 ∷ []) (scaled f g)))
 
 -- ---- there is one quotient
 
@@ -52,7 +44,7 @@ quotient-one (x ∷ q) (y ∷ r) g a b l e =
     let tail : take (length q) (plus (scaled x g) (times q (1 ∷ g))) ≡ take (length q) (plus (scaled y g) (times r (1 ∷ g))) =
     ap (λ t. drop 1 t) e in
     let both : take (length q) (plus (scaled x g) (times q (1 ∷ g))) ≡ take (length q) (plus (scaled x g) (times r (1 ∷ g))) =
-    tail ∙ ap (λ t. take (length q) (plus (scaled t g) (times r (1 ∷ g)))) (sym same) in
+    cc in
     let lq = length-times q 1 g in
     let lr = length-times r 1 g in
     let rest = same-plus (length q) (scaled x g) (times q (1 ∷ g)) (times r (1 ∷ g)) (omega (arith, lq)) (omega (arith, lr, lq)) both in
@@ -64,19 +56,12 @@ quotient-one (x ∷ q) (y ∷ r) g a b l e =
 -- the product of a polynomial c ∷ q by x - root has the coefficients that the loop carries
 times-root : (c : ℕ) (q : List ℕ) (root : ℕ) → c < 256 → All IsByte q →
     times (c ∷ q) (1 ∷ root ∷ []) ≡ c ∷ carried c q root
-times-root c [] root l a =
-    let e : product c 1 ≡ c = product-by_one c l in
-    let f = xor_zero_r (product c 1) in
-    let g = xor_zero_r (product c root) in
-    cc
+times-root c [] root l a = cc (product-by_one c l, xor_zero_r (product c 1), xor_zero_r (product c root))
 times-root c (x ∷ q) root l a =
     let e : product c 1 ≡ c = product-by_one c l in
     let f = xor_zero_r (product c 1) in
     let ih = times-root x q root (All-head IsByte x q a) (All-tail IsByte x q a) in
-    let h : plus (scaled c (1 ∷ root ∷ [])) (0 ∷ times (x ∷ q) (1 ∷ root ∷ [])) ≡ bit_xor (product c 1) 0 ∷ bit_xor (product c root) x ∷ carried x q root =
-    ap (λ t. plus (scaled c (1 ∷ root ∷ [])) (0 ∷ t)) ih in
-    let k = xor_comm (product c root) x in
-    h ∙ cc
+    cc (xor_comm (product c root) x)
 
 -- a generator polynomial begins with the coefficient 1 and has degree n
 pub generator-shape : (n : ℕ) → (g : List ℕ) × (generator_of n ≡ 1 ∷ g) × (length g ≡ n)
@@ -110,8 +95,7 @@ pub generator-next : (n r : ℕ) (g : List ℕ) → 1 ∷ g ≡ generator_of n �
     1 ∷ carried 1 g r ≡ generator_of (n + 1)
 generator-next n r g e f =
     let b : All IsByte g = All-rest IsByte 1 g (generator_of n) (sym e) (bytes-generator n) in
-    sym (times-root 1 g r (lit< tt) b)
-    ∙ (ap (λ t. times t (1 ∷ r ∷ [])) e ∙ (ap (λ t. times (generator_of n) (1 ∷ t ∷ [])) f ∙ ap generator_of (suc-eq-add-one n)))
+    cc (times-root 1 g r (lit< tt) b, suc-eq-add-one n)
 
 -- one round of the loop adds one coefficient
 pub length-carried : (c : ℕ) (q : List ℕ) (r : ℕ) → length (carried c q r) ≡ length q + 1
@@ -158,7 +142,7 @@ correction-next p n b r rs g l e c =
       multiple = record {
         quotient = m.quotient ++ bit_xor b r ∷ [];
         bytes = All-push IsByte m.quotient (bit_xor b r) m.bytes lf;
-        whole = ap (λ t. times (m.quotient ++ bit_xor b r ∷ []) t) (sym e) ∙ d;
+        whole = cc;
       };
     }
 
@@ -172,8 +156,7 @@ correction-step m i n r items moved sum g h l k e er em es c =
     let byte = get_or m i 0 in
     let next : List ℕ = plus (drop 1 items ++ 0 ∷ []) (scaled (bit_xor byte r) g) in
     let one : 0 < length items = omega (arith, c.count) in
-    let f : r ∷ drop 1 items ≡ items =
-    ap (λ t. t ∷ drop 1 items) (get_or_read items 0 r one er 0) ∙ sym (drop_more items 0 0 one) in
+    let f : r ∷ drop 1 items ≡ items = cc (get_or_read items 0 r one er 0, drop_more items 0 0 one) in
     let d : IsCorrection (take i m ++ byte ∷ []) n next =
     correction-next (take i m) n byte r (drop 1 items) g l e (subst (λ (t : List ℕ). IsCorrection (take i m) n t) (sym f) c) in
     let read : IsCorrection (take (i + 1) m) n next =
@@ -201,8 +184,7 @@ correction-one d n e f a b =
     let na : length qa ≡ length d = omega (arith, ta, la, ap length wa, a.count, s.2) in
     let nb : length qb ≡ length d = omega (arith, tb, lb, ap length wb, b.count, s.2) in
     let fronts : take (length qa) (times qa (1 ∷ g)) ≡ take (length qa) (times qb (1 ∷ g)) =
-    ap (λ t. take (length qa) t) wa
-    ∙ (take_at d e (length qa) (sym na) ∙ (sym (take_at d f (length qa) (sym na)) ∙ ap (λ t. take (length qa) t) (sym wb))) in
+    cc (take_at d e (length qa) (sym na), take_at d f (length qa) (sym na)) in
     let q = quotient-one qa qb g a.multiple.bytes b.multiple.bytes (omega (arith, na, nb)) fronts in
     append_cancel_left d e f (sym wa ∙ (ap (λ t. times t (1 ∷ g)) q ∙ wb))
 

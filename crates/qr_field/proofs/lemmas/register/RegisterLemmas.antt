@@ -1,5 +1,5 @@
 -- Coefficients packed into one number, and a register of them.
-use Rattle.std.proofs.Common.{◌≡◌, ℕ, zero, suc, ◌+◌, ◌*◌, ◌/◌, ◌%◌, ◌^◌, ◌<◌, ◌≤◌, List, [], ◌∷◌, ◌++◌, length, drop, get_or, refl, sym, ap, ◌∙◌, arith, bit_xor, bit_or}
+use Rattle.std.proofs.Common.{◌≡◌, ℕ, zero, suc, ◌+◌, ◌*◌, ◌/◌, ◌%◌, ◌^◌, ◌<◌, ◌≤◌, List, [], ◌∷◌, ◌++◌, length, drop, get_or, refl, sym, ap, arith, bit_xor, bit_or}
 use Rattle.std.specs.List.{All}
 use Rattle.std.specs.Int.Bits.{xor_zero_l, xor_zero_r}
 use Rattle.std.proofs.lemmas.Nat.{or_shifted, xor_block, mod_low, shr_high}
@@ -25,9 +25,9 @@ halves-after low high first l h k =
     let m : (low * 2 ^ 8) % 2 ^ 128 ≡ (low % 2 ^ 120) * 2 ^ 8 = omega arith in
     let n : (high * 2 ^ 8) % 2 ^ 128 ≡ high * 2 ^ 8 = omega arith in
     let e : bit_or ((low * 2 ^ 8) % 2 ^ 128) first ≡ (low % 2 ^ 120) * 2 ^ 8 + first =
-    ap (λ t. bit_or t first) m ∙ or_shifted (low % 2 ^ 120) 8 first k in
+    cc (or_shifted (low % 2 ^ 120) 8 first k) in
     let f : bit_or ((high * 2 ^ 8) % 2 ^ 128) (low / 2 ^ 120) ≡ high * 2 ^ 8 + low / 2 ^ 120 =
-    ap (λ t. bit_or t (low / 2 ^ 120)) n ∙ or_shifted high 8 (low / 2 ^ 120) (omega arith) in
+    cc (or_shifted high 8 (low / 2 ^ 120) (omega arith)) in
     omega (arith, e, f)
 
 -- ---- packed coefficients

@@ -1,7 +1,6 @@
 use Rattle.std.proofs.Common.{◌≡◌, Option, None, Some, refl, sym, ap, ◌∙◌}
 use Rattle.std.proofs.lemmas.Iterator.Consumers.{nth_from_yields_List, YieldsList-from_first}
-use Rattle.std.specs.List.{slice_get}
-use Rattle.std.specs.Option.{option_map}
+use Rattle.std.specs.{List.slice_get, Option.option_map}
 use Rattle.qr_layout.specs.declared.region.Module.{Module}
 use Rattle.qr_layout.proofs.lemmas.order.OrderLemmas.{only_order}
 use Rattle.qr_layout.proofs.laws.nth_place.Goals as goal

@@ -1,17 +1,15 @@
 -- The alignment patterns and the encoding region, as tests of their parts.
-use Rattle.qr_layout.proofs.lemmas.alignment.TableLemmas.{below, below-at}
-use Rattle.std.proofs.Common.{subst, ◌≡◌, ℕ, ◌+◌, ◌-◌, ◌<◌, ◌≤◌, Bool, true, false, not, ◌&&◌, ◌||◌, cond, eqb, ltb, leb, List, [], ◌∷◌, map, refl, sym, ap, ◌∙◌, inl, inr, ◌⊎◌, arith}
+use Rattle.qr_layout.proofs.lemmas.alignment.TableLemmas.{below, below-from}
+use Rattle.std.proofs.Common.{◌≡◌, ℕ, ◌+◌, ◌-◌, ◌<◌, ◌≤◌, Bool, true, false, not, ◌&&◌, ◌||◌, cond, eqb, ltb, leb, List, [], ◌∷◌, map, refl, sym, ap, ◌∙◌, inl, inr, ◌⊎◌, arith}
 use Rattle.std.proofs.lemmas.Bool.Decides.{nat_tests}
-use Rattle.std.proofs.lemmas.Bool.{cases_lt, and_parts}
-use Rattle.std.proofs.lemmas.List.Folds.{list_any-append}
+use Rattle.std.proofs.lemmas.{Bool.cases_lt, Bool.and_parts, List.Folds.list_any-append}
 use Rattle.std.specs.List.{All, list_all, list_any, flat_map}
 use Rattle.std.proofs.lemmas.List.Elements.{All-nil, All-cons, All-weaker}
 use Rattle.qr_layout.specs.Region.{is_corner, is_timing, is_version_information, is_alignment, ring_of, is_in_region}
 use Rattle.qr_layout.specs.declared.rectangles.Rectangle.{Rectangle}
 use Rattle.qr_layout.specs.Rectangles.{AreFixed, is_in_rectangle}
 use Rattle.qr_layout.specs.Steps.Rectangles.{IsInside, IsWithin, alignment_squares, fixed_list, square_round, taken_rectangles}
-use Rattle.qr_layout.specs.Version.{side_of}
-use Rattle.qr_layout.specs.Role.{is_alignment_light}
+use Rattle.qr_layout.specs.{Version.side_of, Role.is_alignment_light}
 use Rattle.qr_layout.specs.declared.region.Module.{Module}
 use Rattle.qr_layout.specs.Alignment.{centres_of, is_corner_pair, alignment_places}
 
@@ -100,15 +98,7 @@ version-is v r c = elim (cases_lt v 7) [
 -- tests of the rectangles, by the parts that they cover
 by-parts : (a b d e f g x y z : Bool) → x ≡ (a || (b || (d || false))) → y ≡ (e || (f || false)) → z ≡ g
     → (a || (b || (d || (e || (f || g))))) ≡ ((x || y) || z)
-by-parts a b d e f g x y z h k l = rw (h, k, l) (tests a b d e f g)
-  where
-    tests : (a b d e f g : Bool) → (a || (b || (d || (e || (f || g))))) ≡ (((a || (b || (d || false))) || (e || (f || false))) || g)
-    tests true b d e f g = refl
-    tests false true d e f g = refl
-    tests false false true e f g = refl
-    tests false false false true f g = refl
-    tests false false false false true g = refl
-    tests false false false false false g = refl
+by-parts a b d e f g x y z h k l = grind (arith, nat_tests)
 
 -- a place is in one of the rectangles if it is in a corner, on a timing pattern or in the version information
 fixed-places : (v r c : ℕ) → r < side_of v → c < side_of v
@@ -123,12 +113,6 @@ fixed-places v r c h k =
 all-of : {X : Type 0} (p : X → Bool) (P : X → Type 0) → ((x : X) → p x ≡ true → P x) → (xs : List X) → list_all p xs ≡ true → All P xs
 all-of p P f [] h = All-nil P
 all-of p P f (x ∷ xs) h = All-cons P x xs (f x (and_parts (p x) _ h).0) (all-of p P f xs (and_parts (p x) _ h).1)
-
--- a test that each version passes
-each-version : (p : ℕ → Bool) → below 40 (λ k. p (k + 1)) ≡ true → (v : ℕ) → 1 ≤ v → v ≤ 40 → p v ≡ true
-each-version p h v k l =
-    let e : v - 1 + 1 ≡ v = omega arith in
-    subst (λ (z : ℕ). p z ≡ true) e (below-at 40 (λ k. p (k + 1)) h (v - 1) (omega arith))
 
 -- ---- the rectangles are inside the symbol
 
@@ -147,7 +131,7 @@ all-within = refl
 -- the rectangles of a version are such as cover all but the alignment patterns
 pub fixed-are : (v : ℕ) → 1 ≤ v → v ≤ 40 → AreFixed v (fixed_list v)
 fixed-are v h k = record {
-  within = all-of (is_within (side_of v)) _ (within-is (side_of v)) (fixed_list v) (each-version (λ v. list_all (is_within (side_of v)) (fixed_list v)) all-within v h k);
+  within = all-of (is_within (side_of v)) _ (within-is (side_of v)) (fixed_list v) (below-from 40 1 (λ v. list_all (is_within (side_of v)) (fixed_list v)) all-within v h (omega arith));
   places = fixed-places v;
 }
 
@@ -178,20 +162,15 @@ region_taken v r c l m h k =
     region_outside v (fixed_list v) (fixed-are v l m) r c h k
     ∙ ap not (ap (λ b. list_any p (fixed_list v) || b) (sym (list_any-map p square_round ms ∙ alignment-squares r c ms)) ∙ sym (list_any-append p (fixed_list v) (alignment_squares s (centres_of v))))
 
--- a conjunction with a false part is false
-and_false-false : (a b : Bool) → false ≡ ((a && false) && b)
-and_false-false true b = refl
-and_false-false false b = refl
-
 -- no place below the last row is in the region
 pub region_row_out : (v r c : ℕ) → side_of v ≤ r → false ≡ is_in_region v r c
 unfolding is_in_region
-region_row_out v r c h = let e : ltb r (side_of v) ≡ false = grind (arith, nat_tests) in rw e refl
+region_row_out v r c h = grind (arith, nat_tests)
 
 -- no place right of the last column is in the region
 pub region_col_out : (v r c : ℕ) → side_of v ≤ c → false ≡ is_in_region v r c
 unfolding is_in_region
-region_col_out v r c h = let e : ltb c (side_of v) ≡ false = grind (arith, nat_tests) in rw e (and_false-false (ltb r (side_of v)) _)
+region_col_out v r c h = grind (arith, nat_tests)
 
 -- a place inside the square that is in no corner, on no timing pattern and not in the version information
 pub region_free : (v r c : ℕ) → r < side_of v → c < side_of v → is_corner (side_of v) r c ≡ false → is_timing r c ≡ false → is_version_information v r c ≡ false → is_in_region v r c ≡ not (is_alignment v r c)
@@ -202,23 +181,13 @@ pub region_none : (v r c s : ℕ) (e : Bool) → s ≡ side_of v → r < s → c
 region_none v r c s e y h k i j l m =
     ap not m ∙ sym (region_free v r c (omega arith) (omega arith) (sym (i ∙ ap (λ z. is_corner z r c) y)) (sym j) (sym l))
 
--- if one part contains the place, some part contains it
-hidden : (a b d e : Bool) → ((a ≡ true) ⊎ ((b ≡ true) ⊎ (d ≡ true))) → (((a || b) || d) || e) ≡ true
-hidden true b d e h = refl
-hidden false true d e h = refl
-hidden false false true e h = refl
-hidden false false false e (inl h) = cc
-hidden false false false e (inr (inl h)) = cc
-hidden false false false e (inr (inr h)) = cc
-
 -- a place in the corners, on a timing pattern or in the version information is not in the region
 region_hidden : (v r c : ℕ) → ((is_corner (side_of v) r c ≡ true) ⊎ ((is_timing r c ≡ true) ⊎ (is_version_information v r c ≡ true))) → false ≡ is_in_region v r c
 unfolding is_in_region
-region_hidden v r c h = sym (ap (λ b. ltb r (side_of v) && ltb c (side_of v) && not b) (hidden (is_corner (side_of v) r c) (is_timing r c) (is_version_information v r c) (is_alignment v r c) h) ∙ and-false (ltb r (side_of v) && ltb c (side_of v)))
+region_hidden v r c h = hidden (ltb r (side_of v) && ltb c (side_of v)) (is_corner (side_of v) r c) (is_timing r c) (is_version_information v r c) (is_alignment v r c) h
   where
-    and-false : (b : Bool) → (b && false) ≡ false
-    and-false true = refl
-    and-false false = refl
+    hidden : (x a b d e : Bool) → ((a ≡ true) ⊎ ((b ≡ true) ⊎ (d ≡ true))) → false ≡ (x && not (((a || b) || d) || e))
+    hidden x a b d e h = grind (arith, nat_tests)
 
 -- a place in the corners is not in the region
 pub region_corners : (v r c : ℕ) → is_corner (side_of v) r c ≡ true → false ≡ is_in_region v r c
@@ -249,4 +218,4 @@ all-inside = refl
 
 -- the squares of the alignment patterns are inside the symbol
 pub centres-inside : (v : ℕ) → 1 ≤ v → v ≤ 40 → All (IsInside (side_of v)) (alignment_places (side_of v) (centres_of v))
-centres-inside v h k = all-of (is_inside (side_of v)) (IsInside (side_of v)) (inside-is (side_of v)) _ (each-version (λ v. list_all (is_inside (side_of v)) (alignment_places (side_of v) (centres_of v))) all-inside v h k)
+centres-inside v h k = all-of (is_inside (side_of v)) (IsInside (side_of v)) (inside-is (side_of v)) _ (below-from 40 1 (λ v. list_all (is_inside (side_of v)) (alignment_places (side_of v) (centres_of v))) all-inside v h (omega arith))

@@ -18,6 +18,10 @@ below-at (suc n) p h k l = elim (cases_lt k n) [
   | inr m ↦ let e : n ≡ k = omega arith in subst (λ (z : ℕ). p z ≡ true) e (and_parts (p n) _ h).0
 ]
 
+-- the test at one of n numbers from a on
+pub below-from : (n a : ℕ) (p : ℕ → Bool) → below n (λ k. p (k + a)) ≡ true → (k : ℕ) → a ≤ k → k < n + a → p k ≡ true
+below-from n a p h k l m = let e : k - a + a ≡ k = omega arith in subst (λ (z : ℕ). p z ≡ true) e (below-at n (λ k. p (k + a)) h (k - a) (omega arith))
+
 -- two lists of numbers are the same
 abbrev pub is_same : List ℕ → List ℕ → Bool
 is_same [] [] = true
@@ -56,6 +60,4 @@ few-centres = refl
 
 -- a version has at most seven rows of centres
 pub centres-few : (v : ℕ) → 1 ≤ v → v ≤ 40 → length (centres_of v) ≤ 7
-centres-few v h k =
-    let e : v - 1 + 1 ≡ v = omega arith in
-    leb-true _ _ (subst (λ (t : ℕ). leb (length (centres_of t)) 7 ≡ true) e (below-at 40 (λ i. leb (length (centres_of (i + 1))) 7) few-centres (v - 1) (omega arith)))
+centres-few v h k = leb-true _ _ (below-from 40 1 (λ v. leb (length (centres_of v)) 7) few-centres v h (omega arith))

@@ -1,6 +1,5 @@
 -- Facts of the blocks that are computed for each version and level.
-use Rattle.std.proofs.Common.{◌≡◌, ℕ, ◌+◌, ◌-◌, ◌*◌, ◌/◌, ◌%◌, ◌<◌, ◌≤◌, Bool, true, ◌&&◌, ◌||◌, leb, refl, ap, subst, arith}
-use Rattle.std.proofs.lemmas.Bool.{and_parts}
+use Rattle.std.proofs.Common.{◌≡◌, ℕ, ◌+◌, ◌-◌, ◌*◌, ◌/◌, ◌%◌, ◌<◌, ◌≤◌, Bool, true, ◌&&◌, ◌||◌, leb, refl, ap, arith}
 use Rattle.std.proofs.lemmas.Bool.Decides.{nat_tests}
 use borrow.Author.Tests.{leb-true}
 use Rattle.std.proofs.lemmas.Nat.{div-add-mod'}
@@ -8,47 +7,25 @@ use Rattle.qr_layout.specs.declared.level.Level.{Level}
 use Rattle.qr_layout.specs.declared.level.Level.TheVariants.{L, M, Q, H}
 use Rattle.qr_layout.specs.Version.{total_codewords_of}
 use Rattle.qr_layout.specs.Blocks.{correction_len_of, block_count_of, data_codewords_of, blocks_of, longest_of, damage_of, AreWhole}
-use Rattle.qr_layout.proofs.lemmas.alignment.TableLemmas.{below, below-at}
+use Rattle.qr_layout.proofs.lemmas.alignment.TableLemmas.{below, below-from}
+
+-- a test at each version
+abbrev pub each : (ℕ → Bool) → Bool
+each p = below 40 (λ i. p (i + 1))
 
 -- a test at each level and version
 abbrev pub every : (Level → ℕ → Bool) → Bool
-every p = below 40 (λ i. p L (i + 1)) && (below 40 (λ i. p M (i + 1)) && (below 40 (λ i. p Q (i + 1)) && below 40 (λ i. p H (i + 1))))
-
--- if a test passes for all forty versions, it passes for each version
-one-at : (p : ℕ → Bool) → below 40 (λ i. p (i + 1)) ≡ true → (v : ℕ) → 1 ≤ v → v ≤ 40 → p v ≡ true
-one-at p h v a b = let e : v - 1 + 1 ≡ v = omega arith in subst (λ (t : ℕ). p t ≡ true) e (below-at 40 (λ i. p (i + 1)) h (v - 1) (omega arith))
+every p = each (p L) && (each (p M) && (each (p Q) && each (p H)))
 
 -- if a test passes for all levels and versions, it passes for each level and version
 pub every-at : (p : Level → ℕ → Bool) → every p ≡ true → (l : Level) (v : ℕ) → 1 ≤ v → v ≤ 40 → p l v ≡ true
-every-at p h L = one-at (p L) (and_parts (below 40 (λ i. p L (i + 1))) _ h).0
-every-at p h M = one-at (p M) (and_parts (below 40 (λ i. p M (i + 1))) _ (and_parts (below 40 (λ i. p L (i + 1))) _ h).1).0
-every-at p h Q = one-at (p Q) (and_parts (below 40 (λ i. p Q (i + 1))) _ (and_parts (below 40 (λ i. p M (i + 1))) _ (and_parts (below 40 (λ i. p L (i + 1))) _ h).1).1).0
-every-at p h H = one-at (p H) (and_parts (below 40 (λ i. p Q (i + 1))) _ (and_parts (below 40 (λ i. p M (i + 1))) _ (and_parts (below 40 (λ i. p L (i + 1))) _ h).1).1).1
+every-at p h l v a b = below-from 40 1 (p l) (elim l as (λ l. each (p l) ≡ true) [ L ↦ w.0 | M ↦ w.1 | Q ↦ w.2 | H ↦ w.3 ]) v a (omega arith)
+  where
+    four : (x y z t : Bool) → (x && (y && (z && t))) ≡ true → (x ≡ true) × (y ≡ true) × (z ≡ true) × (t ≡ true)
+    four x y z t h = (grind (arith, nat_tests), grind (arith, nat_tests), grind (arith, nat_tests), grind (arith, nat_tests))
 
--- the error correction codewords are no more than all codewords
-fits-all : every (λ l v. leb (block_count_of v l * correction_len_of v l) (total_codewords_of v)) ≡ true
-unfolding block_count_of correction_len_of total_codewords_of
-fits-all = refl
-
--- there are from 1 to 81 blocks
-count-all : every (λ l v. leb 1 (block_count_of v l) && leb (block_count_of v l) 81) ≡ true
-unfolding block_count_of
-count-all = refl
-
--- a block has from 1 to 122 data codewords, or one more
-len-all : every (λ l v. leb 1 (data_codewords_of v l / block_count_of v l) && leb (data_codewords_of v l / block_count_of v l) 122) ≡ true
-unfolding block_count_of correction_len_of data_codewords_of total_codewords_of
-len-all = refl
-
--- a block has from 1 to 30 error correction codewords
-correction-all : every (λ l v. leb 1 (correction_len_of v l) && leb (correction_len_of v l) 30) ≡ true
-unfolding correction_len_of
-correction-all = refl
-
--- there are at most 2,956 data codewords, 1,370 to version 26 and 232 to version 9
-most-all : every (λ l v. leb (data_codewords_of v l) 2956 && ((leb 27 v || leb (data_codewords_of v l) 1370) && (leb 10 v || leb (data_codewords_of v l) 232))) ≡ true
-unfolding block_count_of correction_len_of data_codewords_of total_codewords_of
-most-all = refl
+    w : (each (p L) ≡ true) × (each (p M) ≡ true) × (each (p Q) ≡ true) × (each (p H) ≡ true)
+    w = four (each (p L)) (each (p M)) (each (p Q)) (each (p H)) h
 
 -- the facts that were computed of the tables
 pub record Laws (l : Level) (v : ℕ) : Type 0 where
@@ -63,30 +40,31 @@ pub record Laws (l : Level) (v : ℕ) : Type 0 where
   pub most_middle : v ≤ 26 → data_codewords_of v l ≤ 1370
   pub most_small : v ≤ 9 → data_codewords_of v l ≤ 232
 
--- a bound that is required below some version only
-unless : (a b n m : ℕ) → (leb a b || leb n m) ≡ true → b < a → n ≤ m
-unless a b n m h k = grind (arith, nat_tests)
+-- the tests of these facts
+abbrev are_lawful : Level → ℕ → Bool
+are_lawful l v =
+    leb (block_count_of v l * correction_len_of v l) (total_codewords_of v) && leb 1 (block_count_of v l) && leb (block_count_of v l) 81
+    && leb (data_codewords_of v l / block_count_of v l) 122 && leb 1 (data_codewords_of v l / block_count_of v l)
+    && leb 1 (correction_len_of v l) && leb (correction_len_of v l) 30
+    && leb (data_codewords_of v l) 2956 && (leb 27 v || leb (data_codewords_of v l) 1370) && (leb 10 v || leb (data_codewords_of v l) 232)
 
--- the bounds at one level and version
+all-lawful : every are_lawful ≡ true
+unfolding block_count_of correction_len_of data_codewords_of total_codewords_of
+all-lawful = refl
+
 pub laws-of : (l : Level) (v : ℕ) → 1 ≤ v → v ≤ 40 → Laws l v
-laws-of l v a b =
-    let count = every-at (λ l v. leb 1 (block_count_of v l) && leb (block_count_of v l) 81) count-all l v a b in
-    let len = every-at (λ l v. leb 1 (data_codewords_of v l / block_count_of v l) && leb (data_codewords_of v l / block_count_of v l) 122) len-all l v a b in
-    let correction = every-at (λ l v. leb 1 (correction_len_of v l) && leb (correction_len_of v l) 30) correction-all l v a b in
-    let most = every-at (λ l v. leb (data_codewords_of v l) 2956 && ((leb 27 v || leb (data_codewords_of v l) 1370) && (leb 10 v || leb (data_codewords_of v l) 232))) most-all l v a b in
-    let rest = (and_parts (leb (data_codewords_of v l) 2956) _ most).1 in
-    record {
-      fits = leb-true _ _ (every-at (λ l v. leb (block_count_of v l * correction_len_of v l) (total_codewords_of v)) fits-all l v a b);
-      count = leb-true _ _ (and_parts (leb 1 (block_count_of v l)) _ count).0;
-      most_count = leb-true _ _ (and_parts (leb 1 (block_count_of v l)) _ count).1;
-      len = leb-true _ _ (and_parts (leb 1 (data_codewords_of v l / block_count_of v l)) _ len).1;
-      some_len = leb-true _ _ (and_parts (leb 1 (data_codewords_of v l / block_count_of v l)) _ len).0;
-      ec_least = leb-true _ _ (and_parts (leb 1 (correction_len_of v l)) _ correction).0;
-      ec_most = leb-true _ _ (and_parts (leb 1 (correction_len_of v l)) _ correction).1;
-      most = leb-true _ _ (and_parts (leb (data_codewords_of v l) 2956) _ most).0;
-      most_middle = λ h. unless 27 v (data_codewords_of v l) 1370 (and_parts (leb 27 v || leb (data_codewords_of v l) 1370) _ rest).0 (omega arith);
-      most_small = λ h. unless 10 v (data_codewords_of v l) 232 (and_parts (leb 27 v || leb (data_codewords_of v l) 1370) _ rest).1 (omega arith);
-    }
+laws-of l v a b = let h : are_lawful l v ≡ true = every-at are_lawful all-lawful l v a b in record {
+  fits = grind (arith, nat_tests);
+  count = grind (arith, nat_tests);
+  most_count = grind (arith, nat_tests);
+  len = grind (arith, nat_tests);
+  some_len = grind (arith, nat_tests);
+  ec_least = grind (arith, nat_tests);
+  ec_most = grind (arith, nat_tests);
+  most = grind (arith, nat_tests);
+  most_middle = λ k. grind (arith, nat_tests);
+  most_small = λ k. grind (arith, nat_tests);
+}
 
 -- the difference that the code computes is that of the definition
 pub data-value : (l : Level) (v t b n : ℕ) → t ≡ total_codewords_of v → b ≡ block_count_of v l → n ≡ correction_len_of v l → t - b * n ≡ data_codewords_of v l
@@ -114,9 +92,7 @@ blocks-sum : (b d : ℕ) → 0 < b → (b - d % b) * (d / b) + d % b * (d / b + 
 blocks-sum b d p =
     let c = cut (b - d % b) (d % b) (d / b) in
     let f : b - d % b + d % b ≡ b = omega arith in
-    let g : d / b * (b - d % b + d % b) ≡ d / b * b = ap (λ t. d / b * t) f in
-    let m = div-add-mod' d b in
-    omega (arith, c, g, m)
+    cc (div-add-mod' d b)
 
 -- data and error correction codewords make up the symbol
 blocks-total : (l : Level) (v r : ℕ) → 1 ≤ v → v ≤ 40 → r ≤ block_count_of v l → data_codewords_of v l + (block_count_of v l - r + r) * correction_len_of v l ≡ total_codewords_of v

@@ -1,8 +1,7 @@
 -- The words of the tables are the words of the definitions, and these are remainders.
 use Rattle.std.proofs.Common.{◌≡◌, ℕ, zero, suc, ◌+◌, ◌-◌, ◌*◌, ◌^◌, ◌<◌, ◌≤◌, Bool, true, ◌&&◌, eqb, ltb, List, [], ◌∷◌, cond, get_or, refl, ap, ◌∙◌, arith}
 use Rattle.std.proofs.lemmas.Bool.{and_parts, eqb-true}
-use Rattle.std.specs.Prelude.{bit_xor}
-use Rattle.std.specs.Int.{bit_at}
+use Rattle.std.specs.{Prelude.bit_xor, Int.bit_at}
 use borrow.Author.Tests.{ltb-true}
 use Rattle.qr_layout.specs.declared.level.Level.{Level}
 use Rattle.qr_layout.specs.declared.level.Level.TheVariants.{L, M, Q, H}

@@ -1,10 +1,8 @@
 -- The numbers of the places: each number below the count is the number of one place of the region.
-use Rattle.std.proofs.Common.{◌≡◌, ℕ, zero, suc, ◌<◌, ◌≤◌, List, [], ◌∷◌, ◌++◌, length, get_or, refl, sym, ap, ◌∙◌, subst, arith}
+use Rattle.std.proofs.Common.{◌≡◌, ℕ, zero, suc, ◌<◌, ◌≤◌, List, [], ◌∷◌, ◌++◌, length, get_or, refl, ap, ◌∙◌, subst, arith}
 use Rattle.std.proofs.Math.Seq.{get_or-append_seam}
 use Rattle.qr_layout.specs.declared.region.Module.{Module}
-use Rattle.qr_layout.specs.Region.{InRegion}
-use Rattle.qr_layout.specs.Version.{module_count_of}
-use Rattle.qr_layout.specs.Order.{IsOrder, number_of}
+use Rattle.qr_layout.specs.{Region.InRegion, Version.module_count_of, Order.IsOrder, Order.number_of}
 use Rattle.qr_layout.specs.Steps.Order.{to_come, first_cursor}
 use Rattle.qr_layout.proofs.lemmas.order.ListLemmas.{split, length-mid}
 use Rattle.qr_layout.proofs.lemmas.order.OrderLemmas.{order-has, order-length, number-at}
@@ -24,8 +22,7 @@ number-item v ms n d o h = let w = cut-at ms n d h in number-at v w.0 w.1 (get_o
 pub item-number : (v : ℕ) (ms : List Module) (m d : Module) → IsOrder v ms → InRegion v m → get_or ms (number_of v m) d ≡ m
 item-number v ms m d o h =
     let w = split m ms (order-has v ms o m h) in
-    let e = number-at v w.0 w.1 m (subst (IsOrder v) w.2 o) in
-    ap (λ k. get_or ms k d) e ∙ (ap (λ xs. get_or xs (length w.0) d) w.2 ∙ get_or-append_seam w.0 m w.1 d)
+    cc (number-at v w.0 w.1 m (subst (IsOrder v) w.2 o), get_or-append_seam w.0 m w.1 d)
 
 -- a place's number is an index of the order
 pub number-small : (v : ℕ) (ms : List Module) (m : Module) → IsOrder v ms → InRegion v m → number_of v m < length ms
@@ -53,7 +50,7 @@ number-below v m l k h =
 pub number-one : (v : ℕ) (m n : Module) → InRegion v m → InRegion v n → number_of v m ≡ number_of v n → m ≡ n
 number-one v m n h k e =
     let o = to_come-start v in
-    sym (item-number v (to_come v (first_cursor v)) m m o h) ∙ (ap (λ i. get_or (to_come v (first_cursor v)) i m) e ∙ item-number v (to_come v (first_cursor v)) n m o k)
+    cc (item-number v (to_come v (first_cursor v)) m m o h, item-number v (to_come v (first_cursor v)) n m o k)
 
 -- each number below the count is the number of a place
 pub number-onto : (v n : ℕ) → 1 ≤ v → v ≤ 40 → n < module_count_of v → (m : Module) × InRegion v m × (number_of v m ≡ n)

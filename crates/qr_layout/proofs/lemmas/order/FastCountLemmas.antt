@@ -3,11 +3,9 @@ use Rattle.std.proofs.Common.{◌≡◌, ℕ, ◌+◌, ◌<◌, ◌≤◌, Bool,
 use Rattle.std.specs.List.{list_any, filter}
 use Rattle.qr_layout.specs.Region.{is_in_region}
 use Rattle.qr_layout.specs.declared.rectangles.Rectangle.{Rectangle}
-use Rattle.qr_layout.specs.Rectangles.{is_in_rectangle}
-use Rattle.qr_layout.specs.Steps.Rectangles.{taken_rectangles}
+use Rattle.qr_layout.specs.{Rectangles.is_in_rectangle, Steps.Rectangles.taken_rectangles}
 use Rattle.qr_layout.proofs.lemmas.alignment.AlignmentLemmas.{region_taken}
-use Rattle.qr_layout.specs.Version.{side_of}
-use Rattle.qr_layout.specs.Alignment.{centres_of}
+use Rattle.qr_layout.specs.{Version.side_of, Alignment.centres_of}
 use Rattle.qr_layout.specs.Version.{total_codewords_of, remainder_bits_of, module_count_of}
 use Rattle.qr_layout.proofs.lemmas.alignment.TableLemmas.{below}
 use Rattle.qr_layout.specs.Order.{places_passing}
@@ -56,9 +54,9 @@ region-count v l m = places-sum (side_of v) (is_in_region v) ∙ sum_below-same 
 
 -- the count of one version is what its codewords and remainder bits need
 abbrev pub agrees : ℕ → Bool
-agrees i = eqb (free_of (side_of (i + 1)) (taken_rectangles (i + 1))) (module_count_of (i + 1))
+agrees v = eqb (free_of (side_of v) (taken_rectangles v)) (module_count_of v)
 
 -- the forty counts, computed
-pub agrees-40 : below 40 agrees ≡ true
+pub agrees-40 : below 40 (λ i. agrees (i + 1)) ≡ true
 unfolding centres_of total_codewords_of remainder_bits_of
 agrees-40 = refl

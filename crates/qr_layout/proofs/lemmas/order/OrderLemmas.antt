@@ -1,15 +1,13 @@
 -- A version has one order, and the length of the order is the number of modules of the encoding region.
-use Rattle.std.proofs.Common.{◌≡◌, ℕ, ◌+◌, ◌-◌, ◌<◌, ◌≤◌, Bool, true, leb, eqb, List, [], ◌∷◌, ◌++◌, ◌&&◌, length, refl, sym, ◌∙◌, subst, inl, inr, arith}
+use Rattle.std.proofs.Common.{◌≡◌, ℕ, ◌+◌, ◌≤◌, Bool, true, leb, eqb, List, [], ◌∷◌, ◌++◌, ◌&&◌, length, refl, sym, ◌∙◌, subst, inl, inr, arith}
 use Rattle.std.proofs.lemmas.Bool.{and_parts, eqb-true}
 use borrow.Author.Tests.{leb-true}
 use Rattle.qr_layout.specs.declared.region.Module.{Module}
-use Rattle.qr_layout.specs.Region.{is_in_region, InRegion}
-use Rattle.qr_layout.specs.Version.{side_of}
+use Rattle.qr_layout.specs.{Region.is_in_region, Region.InRegion, Version.side_of}
 use Rattle.qr_layout.specs.Order.{Key, key_of, is_before, IsOrder, places_passing, number_of}
 use Rattle.qr_layout.specs.Version.{total_codewords_of, remainder_bits_of, module_count_of}
-use Rattle.qr_layout.specs.Alignment.{centres_of}
-use Rattle.qr_layout.specs.Laws.{region_size}
-use Rattle.qr_layout.proofs.lemmas.alignment.TableLemmas.{below, below-at}
+use Rattle.qr_layout.specs.{Alignment.centres_of, Laws.region_size}
+use Rattle.qr_layout.proofs.lemmas.alignment.TableLemmas.{below, below-from}
 use Rattle.qr_layout.proofs.lemmas.order.ListLemmas.{Mem, Rises, Distinct, Mem-at, All-of-Mem, All-rec, Mem-left, Mem-right, Mem-append, Rises-of-pairs, one_rising, Mem-of-Contains}
 use Rattle.qr_layout.proofs.lemmas.order.CountLemmas.{count-of}
 use Rattle.qr_layout.proofs.lemmas.order.FastCountLemmas.{region-count, agrees, agrees-40}
@@ -46,8 +44,8 @@ pub only_order : (v : ℕ) (ms ns : List Module) → IsOrder v ms → IsOrder v 
 only_order v ms ns o p = search (arith, one_rising, asym, Rises-of-pairs, order-has, order-mem)
 
 -- the region of each version has as many places as its codewords and remainder bits need
-count-at : (i : ℕ) → i < 40 → places_passing (side_of (i + 1)) (is_in_region (i + 1)) ≡ module_count_of (i + 1)
-count-at i l = region-count (i + 1) (omega arith) (omega arith) ∙ eqb-true _ _ (below-at 40 agrees agrees-40 i l)
+count-at : (v : ℕ) → 1 ≤ v → v ≤ 40 → places_passing (side_of v) (is_in_region v) ≡ module_count_of v
+count-at v l h = region-count v l h ∙ eqb-true _ _ (below-from 40 1 agrees agrees-40 v l (omega arith))
 
 -- the forty sizes, computed
 sizes-agree : below 40 (λ i. eqb (module_count_of (i + 1)) (region_size (i + 1))) ≡ true
@@ -56,22 +54,17 @@ sizes-agree = refl
 
 -- the codewords and remainder bits fill all modules outside the function patterns, the format and the version information
 pub size-at : (v : ℕ) → 1 ≤ v → v ≤ 40 → module_count_of v ≡ region_size v
-size-at v l h =
-    let e : v - 1 + 1 ≡ v = omega arith in
-    subst (λ (k : ℕ). module_count_of k ≡ region_size k) e (eqb-true _ _ (below-at 40 (λ i. eqb (module_count_of (i + 1)) (region_size (i + 1))) sizes-agree (v - 1) (omega arith)))
+size-at v l h = eqb-true _ _ (below-from 40 1 (λ v. eqb (module_count_of v) (region_size v)) sizes-agree v l (omega arith))
 
 -- the region has this number of places
 pub region-size : (v : ℕ) → 1 ≤ v → v ≤ 40 → places_passing (side_of v) (is_in_region v) ≡ region_size v
-region-size v l h =
-    let e : v - 1 + 1 ≡ v = omega arith in
-    search (arith, count-at, size-at)
+region-size v l h = count-at v l h ∙ size-at v l h
 
 -- the length of the order is this number
 pub order-length : (v : ℕ) (ms : List Module) → 1 ≤ v → v ≤ 40 → IsOrder v ms → length ms ≡ module_count_of v
 order-length v ms l h o =
-    let e : v - 1 + 1 ≡ v = omega arith in
-    let c = count-at (v - 1) (omega arith) in
-    count-of (side_of v) (is_in_region v) ms (Rises-distinct (Before v) (asym v) ms (Rises-of-pairs (Before v) ms o.rising)) (λ m k. let w = order-mem v ms o m k in (row-in v m w, col-in v m w, w)) (λ m a b k. order-has v ms o m k) ∙ subst (λ k. places_passing (side_of k) (is_in_region k) ≡ module_count_of k) e c
+    count-of (side_of v) (is_in_region v) ms (Rises-distinct (Before v) (asym v) ms (Rises-of-pairs (Before v) ms o.rising)) (λ m k. let w = order-mem v ms o m k in (row-in v m w, col-in v m w, w)) (λ m a b k. order-has v ms o m k)
+    ∙ count-at v l h
 
 -- the forty counts are at most 29,648, computed
 count-small : below 40 (λ i. leb (module_count_of (i + 1)) 29648) ≡ true
@@ -80,9 +73,7 @@ count-small = refl
 
 -- no version has more than 29,648 modules for its codewords and remainder bits
 pub module-count-small : (v : ℕ) → 1 ≤ v → v ≤ 40 → module_count_of v ≤ 29648
-module-count-small v l h =
-    let e : v - 1 + 1 ≡ v = omega arith in
-    leb-true _ _ (subst (λ (k : ℕ). leb (module_count_of k) 29648 ≡ true) e (below-at 40 (λ i. leb (module_count_of (i + 1)) 29648) count-small (v - 1) (omega arith)))
+module-count-small v l h = leb-true _ _ (below-from 40 1 (λ v. leb (module_count_of v) 29648) count-small v l (omega arith))
 
 -- no order has more than 29,648 items
 pub order-small : (v : ℕ) (ms : List Module) → 1 ≤ v → v ≤ 40 → IsOrder v ms → length ms ≤ 29648

@@ -2,13 +2,11 @@
 use Rattle.std.proofs.Common.{◌≡◌, ℕ, zero, suc, ◌+◌, ◌-◌, ◌*◌, ◌<◌, ◌≤◌, Bool, true, false, cond, List, [], ◌∷◌, ◌++◌, length, get_or, refl, sym, ap, ◌∙◌, subst, inl, inr, arith}
 use Rattle.std.proofs.Math.Nat.{mul-le-mul_right}
 use Rattle.std.proofs.lemmas.Bool.{cases_lt}
-use Rattle.std.proofs.lemmas.Bool.Decides.{nat_tests}
-use Rattle.std.proofs.lemmas.List.Elements.{All-from_recursion}
+use Rattle.std.proofs.lemmas.{Bool.Decides.nat_tests, List.Elements.All-from_recursion}
 use Rattle.std.specs.List.{AllPairs, AllByRecursion, Contains}
 use Rattle.qr_layout.specs.declared.region.Module.{Module}
 use Rattle.qr_layout.specs.declared.order.Cursor.{Cursor}
-use Rattle.qr_layout.specs.Region.{is_in_region, InRegion}
-use Rattle.qr_layout.specs.Version.{side_of}
+use Rattle.qr_layout.specs.{Region.is_in_region, Region.InRegion, Version.side_of}
 use Rattle.qr_layout.specs.Order.{key_of, is_before, IsOrder, IsOrderAfter}
 use Rattle.qr_layout.specs.Steps.Order.{half_of, place_of, left_of, next_of, IsCursor, places_within, to_come, first_cursor, cursor_at}
 use Rattle.qr_layout.proofs.lemmas.order.ListLemmas.{Rises}
@@ -60,10 +58,7 @@ digits-same x y i j a b e = (omega arith, omega arith)
 
 -- two halves a and b with the same number are the same half
 half_of-same : (a b : Bool) → half_of a ≡ half_of b → a ≡ b
-half_of-same true true e = refl
-half_of-same true false e = absurd (omega arith)
-half_of-same false true e = absurd (omega arith)
-half_of-same false false e = refl
+half_of-same a b e = grind (arith, nat_tests)
 
 -- two rows x and y that have the same rank in a strip are the same row
 rank-same : (s x y : ℕ) (u : Bool) → x < s → y < s → cond u (s - 1 - x) x ≡ cond u (s - 1 - y) y → x ≡ y
@@ -242,7 +237,7 @@ after v m h =
     let j = at-IsCursor v m (row-in v m h) (col-in v m h) in
     let w = reaches v (left_of s (first_cursor v)) (first_cursor v) b (start-IsCursor v) refl j (at-strips m) (start-most v b j) in
     let t : is_in_region v b.row (place_of b).col ≡ true = subst (InRegion v) (sym e) h in
-    let f : to_come v b ≡ m ∷ to_come v (next_of s b) = to_come-next v b j (at-strips m) ∙ (ap (λ z. cond z (place_of b ∷ to_come v (next_of s b)) (to_come v (next_of s b))) t ∙ ap (λ (z : Module). z ∷ to_come v (next_of s b)) e) in
+    let f : to_come v b ≡ m ∷ to_come v (next_of s b) = to_come-next v b j (at-strips m) ∙ (cc) in
     record { front = w.0; whole = subst (IsOrder v) (w.1 ∙ ap (λ zs. w.0 ++ zs) f) (to_come-start v) }
 
 -- the modules that the walk of the code yields, which starts at the last row of the rightmost strip, are the order of

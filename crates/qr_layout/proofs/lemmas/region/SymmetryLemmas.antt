@@ -1,5 +1,5 @@
 -- The encoding region is the same when rows and columns are exchanged.
-use Rattle.std.proofs.Common.{◌≡◌, ℕ, Bool, true, false, not, ◌&&◌, ◌||◌, leb, ltb, List, [], ◌∷◌, refl, sym, ap, ◌∙◌, arith}
+use Rattle.std.proofs.Common.{◌≡◌, ℕ, Bool, false, not, ◌&&◌, ◌||◌, leb, ltb, List, [], ◌∷◌, refl, sym, ap, ◌∙◌, arith}
 use Rattle.std.proofs.Math.Bool.{and_comm, or_comm}
 use Rattle.std.proofs.lemmas.Bool.Decides.{nat_tests}
 use Rattle.std.specs.List.{list_any}
@@ -15,15 +15,12 @@ any-none (x ∷ xs) = any-none xs
 
 -- of four tests the middle ones change places
 middle : (a b c d : Bool) → ((a || b) || (c || d)) ≡ ((a || c) || (b || d))
-middle true b c d = refl
-middle false true true d = refl
-middle false true false d = refl
-middle false false c d = refl
+middle a b c d = grind (arith, nat_tests)
 
 -- two tests of each item
 any-or : {X : Type 0} (p q : X → Bool) (xs : List X) → list_any (λ x. p x || q x) xs ≡ (list_any p xs || list_any q xs)
 any-or p q [] = refl
-any-or p q (x ∷ xs) = ap (λ b. (p x || q x) || b) (any-or p q xs) ∙ middle (p x) (q x) (list_any p xs) (list_any q xs)
+any-or p q (x ∷ xs) = cc (any-or p q xs, middle (p x) (q x) (list_any p xs) (list_any q xs))
 
 -- a test of pairs may go over the second list first
 pub any-pairs : {X Y : Type 0} (p : X → Y → Bool) (xs : List X) (ys : List Y) → list_any (λ x. list_any (p x) ys) xs ≡ list_any (λ y. list_any (λ x. p x y) xs) ys
@@ -54,7 +51,7 @@ timing-symmetric r c = grind (arith, nat_tests)
 
 -- the blocks of version information
 version-symmetric : (v r c : ℕ) → is_version_information v r c ≡ is_version_information v c r
-version-symmetric v r c = ap (λ b. leb 7 v && b) (or_comm (is_version_block (side_of v) r c) (is_version_block (side_of v) c r))
+version-symmetric v r c = cc (or_comm (is_version_block (side_of v) r c) (is_version_block (side_of v) c r))
 
 -- a place is in the encoding region exactly if the place with row and column exchanged is in it
 pub region-symmetric : (v r c : ℕ) → is_in_region v r c ≡ is_in_region v c r

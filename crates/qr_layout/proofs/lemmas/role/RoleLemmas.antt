@@ -1,9 +1,9 @@
 -- The places of the bits of the format and version information.
-use Rattle.std.proofs.Common.{◌≡◌, ℕ, zero, suc, ◌+◌, ◌-◌, ◌*◌, ◌<◌, ◌≤◌, Bool, true, false, ◌&&◌, ◌||◌, cond, eqb, ltb, leb, Option, None, Some, refl, sym, ap, ◌∙◌, subst, inl, inr, ◌⊎◌, arith}
+use Rattle.std.proofs.Common.{◌≡◌, ℕ, zero, suc, ◌+◌, ◌-◌, ◌*◌, ◌<◌, ◌≤◌, Bool, true, false, ◌&&◌, ◌||◌, cond, eqb, ltb, leb, None, Some, refl, ap, ◌∙◌, subst, inl, inr, ◌⊎◌, arith}
 use Rattle.std.proofs.lemmas.Bool.Decides.{nat_tests}
-use Rattle.std.proofs.lemmas.Bool.{cases_lt, cases_Bool}
+use Rattle.std.proofs.lemmas.Bool.{and_parts, cases_lt, cases_Bool}
 use Rattle.std.specs.List.{find, range_with_len}
-use Rattle.qr_layout.specs.Version.{side_of}
+use Rattle.qr_layout.specs.{Version.side_of, Region.is_version_block, Region.is_version_information}
 use Rattle.qr_layout.specs.Role.{first_place, second_place, version_place, mirror_of, is_at, format_bit_at, version_bit_at}
 
 -- the only one of n numbers from a on that passes the test is the one that is found
@@ -33,13 +33,20 @@ found-at (suc n) a p i h = elim (cases_Bool (p a)) [
   | inr e ↦ let w = found-at n (a + 1) p i (rw e at h) in let l = w.0 in (omega arith, w.1)
 ]
 
--- the only number below n that passes the test is the one that is found
-pub first-some : (n : ℕ) (p : ℕ → Bool) (i : ℕ) → i < n → p i ≡ true → ((j : ℕ) → j < n → p j ≡ true → j ≡ i) → find p (range_with_len 0 n) ≡ Some i
-first-some n p i l h f = found-some n 0 p i (omega arith) (omega arith) h (λ j a b q. f j (omega arith) q)
+-- of the numbers below n, only i may pass the test: it is found if it does
+first-one : (n : ℕ) (p : ℕ → Bool) (i : ℕ) → ((j : ℕ) → j < n → p j ≡ true → j ≡ i) → find p (range_with_len 0 n) ≡ cond (ltb i n && p i) (Some i) None
+first-one n p i f = elim (cases_Bool (ltb i n && p i)) [
+  | inl e ↦
+      let w = and_parts (ltb i n) (p i) e in
+      rw e (found-some n 0 p i (omega arith) (below i (omega arith) w.0) w.1 (λ j a b q. f j (omega arith) q))
+  | inr e ↦ rw e (found-none n 0 p (λ j a b q. let g = f j (omega arith) q in apart j (omega arith) (rw g at q) e g))
+]
+  where
+    below : (k : ℕ) → k ≡ i → ltb i n ≡ true → i < 0 + n
+    below k e h = grind (arith, nat_tests)
 
--- if no number below n passes the test, none is found
-pub first-none : (n : ℕ) (p : ℕ → Bool) → ((j : ℕ) → j < n → p j ≡ true → ⊥) → find p (range_with_len 0 n) ≡ None
-first-none n p f = found-none n 0 p (λ j a b q. f j (omega arith) q)
+    apart : (j : ℕ) → j < n → p i ≡ true → (ltb i n && p i) ≡ false → j ≡ i → ⊥
+    apart j a q e g = let t : ltb i n ≡ true = grind (arith, nat_tests) in cc
 
 -- the number that is found is below n and passes the test
 pub first-at : (n : ℕ) (p : ℕ → Bool) (i : ℕ) → find p (range_with_len 0 n) ≡ Some i → (i < n) × (p i ≡ true)
@@ -50,7 +57,7 @@ abbrev pub stands : ℕ → ℕ → ℕ → ℕ → Bool
 stands s r c i = is_at (first_place i) r c || is_at (second_place s i) r c
 
 -- the only bit that may be at a place of row 8 or column 8
-abbrev bit_here : ℕ → ℕ → ℕ → ℕ
+abbrev pub bit_here : ℕ → ℕ → ℕ → ℕ
 bit_here s r c = cond (eqb c 8) (cond (ltb r 6) r (cond (ltb r 9) (r - 1) (r + 15 - s))) (cond (eqb c 7) 8 (cond (ltb c 6) (14 - c) (s - 1 - c)))
 
 -- if a bit has its first place here, it is the bit that may be here
@@ -73,57 +80,24 @@ stands-here s r c i l a h = elim (either (is_at (first_place i) r c) (is_at (sec
   | inr e ↦ second-here s r c i l a e
 ]
 
--- no two bits of the format information are at one place
-only-format : (s r c i j : ℕ) → 21 ≤ s → i < 15 → j < 15 → stands s r c i ≡ true → stands s r c j ≡ true → j ≡ i
-only-format s r c i j l a b h k = stands-here s r c j l b k ∙ sym (stands-here s r c i l a h)
-
--- the bit that is at a place is the bit that is found there
-pub format-some : (s r c i : ℕ) → 21 ≤ s → i < 15 → stands s r c i ≡ true → Some i ≡ format_bit_at s r c
+-- the bit of the format information that a place contains
+pub format-at : (s r c : ℕ) → 21 ≤ s → format_bit_at s r c ≡ cond (ltb (bit_here s r c) 15 && stands s r c (bit_here s r c)) (Some (bit_here s r c)) None
 unfolding format_bit_at
-format-some s r c i l a h = sym (first-some 15 (stands s r c) i a h (λ j b k. only-format s r c i j l a b h k))
+format-at s r c l = first-one 15 (stands s r c) (bit_here s r c) (λ j b k. stands-here s r c j l b k)
 
--- if no bit is at a place, no bit is found there
-pub format-none : (s r c : ℕ) → ((j : ℕ) → j < 15 → stands s r c j ≡ true → ⊥) → None ≡ format_bit_at s r c
-unfolding format_bit_at
-format-none s r c f = sym (first-none 15 (stands s r c) f)
+-- column 8
+pub format_down : (s r : ℕ) → 21 ≤ s → r < s → format_bit_at s r 8
+    ≡ cond (ltb r 6) (Some r) (cond (eqb r 6) None (cond (ltb r 9) (Some (r - 1)) (cond (ltb (s - 8) r) (Some (r + 15 - s)) None)))
+format_down s r l h = format-at s r 8 l ∙ grind (arith, nat_tests)
 
--- rows 0 to 5 of column 8
-pub format-top : (s r : ℕ) → 21 ≤ s → r < 6 → Some r ≡ format_bit_at s r 8
-format-top s r l h = format-some s r 8 r l (omega arith) (grind (arith, nat_tests))
+-- row 8 without column 8
+pub format_across : (s c : ℕ) → 21 ≤ s → c < s → (c ≡ 8 → ⊥) → format_bit_at s 8 c
+    ≡ cond (ltb c 6) (Some (14 - c)) (cond (eqb c 6) None (cond (eqb c 7) (Some 8) (cond (leb (s - 8) c) (Some (s - 1 - c)) None)))
+format_across s c l h n = format-at s 8 c l ∙ grind (arith, nat_tests)
 
--- rows 7 and 8 of column 8
-pub format-bend : (s r : ℕ) → 21 ≤ s → 6 < r → r < 9 → Some (r - 1) ≡ format_bit_at s r 8
-format-bend s r l h k = format-some s r 8 (r - 1) l (omega arith) (grind (arith, nat_tests))
-
--- the last seven rows of column 8
-pub format-foot : (s r : ℕ) → 21 ≤ s → s - 8 < r → r < s → Some (r + 15 - s) ≡ format_bit_at s r 8
-format-foot s r l h k = format-some s r 8 (r + 15 - s) l (omega arith) (grind (arith, nat_tests))
-
--- columns 0 to 5 of row 8
-pub format-left : (s c : ℕ) → 21 ≤ s → c < 6 → Some (14 - c) ≡ format_bit_at s 8 c
-format-left s c l h = format-some s 8 c (14 - c) l (omega arith) (grind (arith, nat_tests))
-
--- column 7 of row 8
-pub format-seven : (s c : ℕ) → 21 ≤ s → c ≡ 7 → Some 8 ≡ format_bit_at s 8 c
-format-seven s c l h = format-some s 8 c 8 l (omega arith) (grind (arith, nat_tests))
-
--- the last eight columns of row 8
-pub format-right : (s c : ℕ) → 21 ≤ s → s - 8 ≤ c → c < s → Some (s - 1 - c) ≡ format_bit_at s 8 c
-format-right s c l h k = format-some s 8 c (s - 1 - c) l (omega arith) (grind (arith, nat_tests))
-
--- no bit is where a timing pattern crosses column 8, nor between the finder patterns
-pub format-no_row : (s r : ℕ) → 21 ≤ s → (r ≡ 6) ⊎ ((9 ≤ r) × (r ≤ s - 8)) → None ≡ format_bit_at s r 8
-format-no_row s r l (inl e) = format-none s r 8 (λ j b h. grind (arith, nat_tests))
-format-no_row s r l (inr e) = let a = e.0 in let d = e.1 in format-none s r 8 (λ j b h. grind (arith, nat_tests))
-
--- no bit is where a timing pattern crosses row 8, nor between the finder patterns
-pub format-no_column : (s c : ℕ) → 21 ≤ s → (c ≡ 6) ⊎ ((9 ≤ c) × (c < s - 8)) → None ≡ format_bit_at s 8 c
-format-no_column s c l (inl e) = format-none s 8 c (λ j b h. grind (arith, nat_tests))
-format-no_column s c l (inr e) = let a = e.0 in let d = e.1 in format-none s 8 c (λ j b h. grind (arith, nat_tests))
-
--- no bit is outside row 8 and column 8
-pub format-off : (s r c : ℕ) → 21 ≤ s → (r ≡ 8 → ⊥) → (c ≡ 8 → ⊥) → None ≡ format_bit_at s r c
-format-off s r c l a d = format-none s r c (λ j b h. grind (arith, nat_tests))
+-- outside row 8 and column 8
+pub format_off : (s r c : ℕ) → 21 ≤ s → (r ≡ 8 → ⊥) → (c ≡ 8 → ⊥) → format_bit_at s r c ≡ None
+format_off s r c l a d = format-at s r c l ∙ grind (arith, nat_tests)
 
 -- ---- the version information
 
@@ -131,56 +105,27 @@ format-off s r c l a d = format-none s r c (λ j b h. grind (arith, nat_tests))
 abbrev pub stands_for_version : ℕ → ℕ → ℕ → ℕ → Bool
 stands_for_version s r c i = is_at (version_place s i) r c || is_at (mirror_of (version_place s i)) r c
 
--- no two bits of the version information are at one place
-only-version : (s r c i j : ℕ) → 21 ≤ s → i < 18 → j < 18 → stands_for_version s r c i ≡ true → stands_for_version s r c j ≡ true → j ≡ i
-only-version s r c i j l a b h k = grind (arith, nat_tests)
+-- the only bit that may be at a place
+abbrev version_here : ℕ → ℕ → ℕ → ℕ
+version_here s r c = cond (ltb r 6) (3 * r + (c + 11 - s)) (3 * c + (r + 11 - s))
 
--- from version 7 on the bit is searched for
-version-found : (v r c : ℕ) (o : Option ℕ) → 7 ≤ v → o ≡ find (stands_for_version (side_of v) r c) (range_with_len 0 18) → o ≡ version_bit_at v r c
+version-here : (s r c i : ℕ) → 21 ≤ s → i < 18 → stands_for_version s r c i ≡ true → i ≡ version_here s r c
+version-here s r c i l a h = grind (arith, nat_tests)
+
+-- the bit is there exactly in the two blocks
+version-stands : (s r c : ℕ) → 21 ≤ s → (ltb (version_here s r c) 18 && stands_for_version s r c (version_here s r c)) ≡ (is_version_block s r c || is_version_block s c r)
+version-stands s r c l = grind (arith, nat_tests)
+
+-- the bit of the version information that a place contains
+pub version_at : (v r c : ℕ) → version_bit_at v r c ≡ cond (is_version_information v r c) (Some (version_here (side_of v) r c)) None
 unfolding version_bit_at
-version-found v r c o h e = let t : ltb v 7 ≡ false = grind (arith, nat_tests) in rw t e
-
--- the bit that is at a place is the bit that is found there
-pub version-some : (v r c i : ℕ) → 7 ≤ v → i < 18 → stands_for_version (side_of v) r c i ≡ true → Some i ≡ version_bit_at v r c
-version-some v r c i l a h = version-found v r c (Some i) l (sym (first-some 18 (stands_for_version (side_of v) r c) i a h (λ j b k. only-version (side_of v) r c i j (omega arith) a b h k)))
-
--- if no bit is at a place, no bit is found there
-pub version-none : (v r c : ℕ) → 7 ≤ v → ((j : ℕ) → j < 18 → stands_for_version (side_of v) r c j ≡ true → ⊥) → None ≡ version_bit_at v r c
-version-none v r c l f = version-found v r c None l (sym (first-none 18 (stands_for_version (side_of v) r c) f))
-
--- versions below 7 have no such bit
-pub version-small : (v r c : ℕ) → v < 7 → None ≡ version_bit_at v r c
-unfolding version_bit_at
-version-small v r c h = let t : ltb v 7 ≡ true = grind (arith, nat_tests) in rw t refl
-
--- the place is in the block beside the top right finder pattern
-abbrev pub in_block : ℕ → ℕ → ℕ → Bool
-in_block s r c = ltb r 6 && (leb (s - 11) c && ltb c (s - 8))
-
--- the bit of a place in the block beside the top right finder pattern
-block-right : (s r c : ℕ) → 21 ≤ s → in_block s r c ≡ true → stands_for_version s r c (3 * r + (c + 11 - s)) ≡ true
-block-right s r c l h = grind (arith, nat_tests)
-
--- the bit of a place in the block beside the bottom left finder pattern
-block-below : (s r c : ℕ) → 21 ≤ s → in_block s c r ≡ true → stands_for_version s r c (3 * c + (r + 11 - s)) ≡ true
-block-below s r c l h = grind (arith, nat_tests)
-
--- the bits of a block are below 18
-block-small : (s r c : ℕ) → 21 ≤ s → in_block s r c ≡ true → 3 * r + (c + 11 - s) < 18
-block-small s r c l h = grind (arith, nat_tests)
-
--- a bit is only in the two blocks
-block-neither : (s r c j : ℕ) → 21 ≤ s → j < 18 → in_block s r c ≡ false → in_block s c r ≡ false → stands_for_version s r c j ≡ true → ⊥
-block-neither s r c j l b h k e = grind (arith, nat_tests)
-
--- beside the top right finder pattern
-pub version-right : (v s r c : ℕ) (t : Bool) → 7 ≤ v → s ≡ side_of v → t ≡ in_block s r c → t ≡ true → Some (3 * r + (c + 11 - s)) ≡ version_bit_at v r c
-version-right v s r c t l e f h = rw e (let k = rw e at (sym f ∙ h) in version-some v r c (3 * r + (c + 11 - side_of v)) l (block-small (side_of v) r c (omega arith) k) (block-right (side_of v) r c (omega arith) k))
-
--- beside the bottom left finder pattern
-pub version-below : (v s r c : ℕ) (t : Bool) → 7 ≤ v → s ≡ side_of v → t ≡ in_block s c r → t ≡ true → Some (3 * c + (r + 11 - s)) ≡ version_bit_at v r c
-version-below v s r c t l e f h = rw e (let k = rw e at (sym f ∙ h) in version-some v r c (3 * c + (r + 11 - side_of v)) l (block-small (side_of v) c r (omega arith) k) (block-below (side_of v) r c (omega arith) k))
-
--- in neither block
-pub version-neither : (v s r c : ℕ) (t u : Bool) → 7 ≤ v → s ≡ side_of v → t ≡ in_block s r c → t ≡ false → u ≡ in_block s c r → u ≡ false → None ≡ version_bit_at v r c
-version-neither v s r c t u l e f h g k = let a = rw e at (sym f ∙ h) in let b = rw e at (sym g ∙ k) in version-none v r c l (λ j m q. block-neither (side_of v) r c j (omega arith) m a b q)
+version_at v r c =
+    let s = side_of v in
+    elim (cases_lt v 7) [
+      | inl k ↦ let t : ltb v 7 ≡ true = grind (arith, nat_tests) in let u : leb 7 v ≡ false = grind (arith, nat_tests) in rw (t, u) refl
+      | inr k ↦
+          let t : ltb v 7 ≡ false = grind (arith, nat_tests) in
+          let u : leb 7 v ≡ true = grind (arith, nat_tests) in
+          rw (t, u) (first-one 18 (stands_for_version s r c) (version_here s r c) (λ j b h. version-here s r c j (omega arith) b h)
+          ∙ ap (λ b. cond b (Some (version_here s r c)) None) (version-stands s r c (omega arith)))
+    ]

@@ -1,20 +1,18 @@
 -- Which places contain the bits of the format and version information. All places that contain no such bit and have no fixed
 -- colour are the encoding region.
-use Rattle.std.proofs.Common.{◌≡◌, ℕ, ◌+◌, ◌-◌, ◌%◌, ◌<◌, ◌≤◌, Bool, true, false, not, ◌||◌, cond, eqb, ltb, leb, Option, None, Some, refl, sym, ap, ◌∙◌, subst, inl, inr, ◌⊎◌, arith}
+use Rattle.std.proofs.Common.{◌≡◌, ℕ, ◌+◌, ◌-◌, ◌%◌, ◌<◌, ◌≤◌, Bool, true, false, not, ◌&&◌, ◌||◌, cond, eqb, ltb, Option, None, Some, refl, sym, ap, ◌∙◌, inl, inr, ◌⊎◌, arith}
 use Rattle.std.proofs.lemmas.Bool.Decides.{nat_tests}
-use Rattle.std.proofs.lemmas.Bool.{cases_lt, and_parts, eqb-true, cases_Bool}
-use Rattle.std.specs.List.{find, range_with_len}
-use Rattle.std.specs.Option.{option_map_or}
+use Rattle.std.proofs.lemmas.Bool.{cases_lt, and_parts, eqb-true}
+use Rattle.std.specs.{List.find, List.range_with_len, Option.option_map_or}
 use Rattle.qr_layout.specs.declared.region.Module.{Module}
 use Rattle.qr_layout.specs.declared.role.Role.{Role}
 use Rattle.qr_layout.specs.declared.role.Role.TheVariants.{Fixed, FormatBit, VersionBit, Region}
-use Rattle.qr_layout.specs.Version.{side_of}
-use Rattle.qr_layout.specs.Alignment.{centres_of}
+use Rattle.qr_layout.specs.{Version.side_of, Alignment.centres_of}
 use Rattle.qr_layout.specs.Region.{is_alignment, is_corner, is_in_region, is_timing, is_version_information}
 use Rattle.qr_layout.specs.Role.{finder_ring, is_alignment_light, pattern_colour, first_place, second_place, version_place, mirror_of, is_at, format_bit_at, version_bit_at, is_dark_module, role_of}
-use Rattle.qr_layout.proofs.lemmas.alignment.TableLemmas.{below, below-at}
+use Rattle.qr_layout.proofs.lemmas.alignment.TableLemmas.{below, below-at, below-from}
 use Rattle.qr_layout.proofs.lemmas.alignment.AlignmentLemmas.{region_free, region-parts}
-use Rattle.qr_layout.proofs.lemmas.role.RoleLemmas.{either, first-at, format-top, format-bend, format-foot, format-left, format-seven, format-right, format-no_row, format-no_column, format-off, in_block, version-small, version-right, version-below, version-neither}
+use Rattle.qr_layout.proofs.lemmas.role.RoleLemmas.{either, first-at, bit_here, stands, format-at, version_at}
 
 -- the choice of a role, over what its parts say
 abbrev role_with : Option Bool → Bool → Option ℕ → Option ℕ → Role
@@ -86,135 +84,89 @@ found-version v m i h =
 pub version-only : (v : ℕ) (m : Module) (i : ℕ) → role_of v m.row m.col ≡ VersionBit i → (7 ≤ v) × (i < 18) × ((m ≡ version_place (side_of v) i) ⊎ (m ≡ mirror_of (version_place (side_of v) i)))
 version-only v m i h = found-version v m i (with-version (pattern_colour v m.row m.col) _ (format_bit_at (side_of v) m.row m.col) _ i (sym (role-with v m.row m.col) ∙ h))
 
--- the tests of a role, and what they mean
-is_format : ℕ → Role → Bool
-is_format i (Fixed b) = false
-is_format i (FormatBit j) = eqb j i
-is_format i (VersionBit j) = false
-is_format i Region = false
+-- whether a role is the other
+is_role : Role → Role → Bool
+is_role (Fixed a) (Fixed b) = cond a b (not b)
+is_role (FormatBit i) (FormatBit j) = eqb i j
+is_role (VersionBit i) (VersionBit j) = eqb i j
+is_role Region Region = true
+is_role x y = false
 
--- the role is bit i of the version information
-is_version : ℕ → Role → Bool
-is_version i (Fixed b) = false
-is_version i (FormatBit j) = false
-is_version i (VersionBit j) = eqb j i
-is_version i Region = false
+-- the module has the role
+abbrev has_role : ℕ → Module → Role → Bool
+has_role v m x = is_role (role_of v m.row m.col) x
 
--- the role is a dark module
-is_dark : Role → Bool
-is_dark (Fixed b) = b
-is_dark (FormatBit j) = false
-is_dark (VersionBit j) = false
-is_dark Region = false
+role-same : (x y : Role) → is_role x y ≡ true → x ≡ y
+unfolding is_role
+role-same (Fixed true) (Fixed b) h = cc
+role-same (Fixed false) (Fixed true) h = cc
+role-same (Fixed false) (Fixed false) h = refl
+role-same (Fixed a) (FormatBit j) h = cc
+role-same (Fixed a) (VersionBit j) h = cc
+role-same (Fixed a) Region h = cc
+role-same (FormatBit i) (Fixed b) h = cc
+role-same (FormatBit i) (FormatBit j) h = ap (λ k. FormatBit k) (eqb-true i j h)
+role-same (FormatBit i) (VersionBit j) h = cc
+role-same (FormatBit i) Region h = cc
+role-same (VersionBit i) (Fixed b) h = cc
+role-same (VersionBit i) (FormatBit j) h = cc
+role-same (VersionBit i) (VersionBit j) h = ap (λ k. VersionBit k) (eqb-true i j h)
+role-same (VersionBit i) Region h = cc
+role-same Region (Fixed b) h = cc
+role-same Region (FormatBit j) h = cc
+role-same Region (VersionBit j) h = cc
+role-same Region Region h = refl
 
--- what the test of a format bit means
-is_format-same : (i : ℕ) (x : Role) → is_format i x ≡ true → x ≡ FormatBit i
-unfolding is_format
-is_format-same i (Fixed b) h = cc
-is_format-same i (FormatBit j) h = ap (λ k. FormatBit k) (eqb-true j i h)
-is_format-same i (VersionBit j) h = cc
-is_format-same i Region h = cc
+-- both copies of a bit of the format information
+format_placed : ℕ → ℕ → Bool
+format_placed v i = has_role v (first_place i) (FormatBit i) && has_role v (second_place (side_of v) i) (FormatBit i)
 
--- what the test of a version bit means
-is_version-same : (i : ℕ) (x : Role) → is_version i x ≡ true → x ≡ VersionBit i
-unfolding is_version
-is_version-same i (Fixed b) h = cc
-is_version-same i (FormatBit j) h = cc
-is_version-same i (VersionBit j) h = ap (λ k. VersionBit k) (eqb-true j i h)
-is_version-same i Region h = cc
-
--- what the test of a dark module means
-is_dark-same : (x : Role) → is_dark x ≡ true → x ≡ Fixed true
-unfolding is_dark
-is_dark-same (Fixed true) h = refl
-is_dark-same (Fixed false) h = cc
-is_dark-same (FormatBit j) h = cc
-is_dark-same (VersionBit j) h = cc
-is_dark-same Region h = cc
-
--- the fifteen bits of the format information are at their first places
-format_first : ℕ → Bool
-format_first k = below 15 (λ i. is_format i (role_of (k + 1) (first_place i).row (first_place i).col))
-
--- the fifteen bits of the format information are at their second places
-format_second : ℕ → Bool
-format_second k = below 15 (λ i. is_format i (role_of (k + 1) (second_place (side_of (k + 1)) i).row (second_place (side_of (k + 1)) i).col))
-
--- the eighteen bits of the version information are at their first places
-version_first : ℕ → Bool
-version_first k = below 18 (λ i. is_version i (role_of (k + 7) (version_place (side_of (k + 7)) i).row (version_place (side_of (k + 7)) i).col))
-
--- the eighteen bits of the version information are at their second places
-version_second : ℕ → Bool
-version_second k = below 18 (λ i. is_version i (role_of (k + 7) (version_place (side_of (k + 7)) i).col (version_place (side_of (k + 7)) i).row))
-
--- the dark module is dark
-dark_at : ℕ → Bool
-dark_at k = is_dark (role_of (k + 1) (side_of (k + 1) - 8) 8)
+-- both copies of a bit of the version information
+version_placed : ℕ → ℕ → Bool
+version_placed v i = has_role v (version_place (side_of v) i) (VersionBit i) && has_role v (mirror_of (version_place (side_of v) i)) (VersionBit i)
 
 -- in each version, computed
-all-format_first : below 40 format_first ≡ true
-unfolding format_first is_format role_of pattern_colour format_bit_at version_bit_at is_alignment_light centres_of
-all-format_first = refl
-
--- in each version, computed
-all-format_second : below 40 format_second ≡ true
-unfolding format_second is_format role_of pattern_colour format_bit_at version_bit_at is_alignment_light centres_of
-all-format_second = refl
+all-format : below 40 (λ k. below 15 (format_placed (k + 1))) ≡ true
+unfolding format_placed is_role role_of pattern_colour format_bit_at version_bit_at is_alignment_light centres_of
+all-format = refl
 
 -- in each version from 7 on, computed
-all-version_first : below 34 version_first ≡ true
-unfolding version_first is_version role_of pattern_colour format_bit_at version_bit_at is_alignment_light centres_of
-all-version_first = refl
-
--- in each version from 7 on, computed
-all-version_second : below 34 version_second ≡ true
-unfolding version_second is_version role_of pattern_colour format_bit_at version_bit_at is_alignment_light centres_of
-all-version_second = refl
+all-version : below 34 (λ k. below 18 (version_placed (k + 7))) ≡ true
+unfolding version_placed is_role role_of pattern_colour format_bit_at version_bit_at is_alignment_light centres_of
+all-version = refl
 
 -- in each version, computed
-all-dark_at : below 40 dark_at ≡ true
-unfolding dark_at is_dark role_of pattern_colour format_bit_at version_bit_at is_alignment_light centres_of
-all-dark_at = refl
+all-dark : below 40 (λ k. is_role (role_of (k + 1) (side_of (k + 1) - 8) 8) (Fixed true)) ≡ true
+unfolding is_role role_of pattern_colour format_bit_at version_bit_at is_alignment_light centres_of
+all-dark = refl
+
+format-placed : (v i : ℕ) → 1 ≤ v → v ≤ 40 → i < 15 → (has_role v (first_place i) (FormatBit i) ≡ true) × (has_role v (second_place (side_of v) i) (FormatBit i) ≡ true)
+unfolding format_placed
+format-placed v i h k l = and_parts _ _ (below-at 15 (format_placed v) (below-from 40 1 (λ v. below 15 (format_placed v)) all-format v h (omega arith)) i l)
+
+version-placed : (v i : ℕ) → 7 ≤ v → v ≤ 40 → i < 18 → (has_role v (version_place (side_of v) i) (VersionBit i) ≡ true) × (has_role v (mirror_of (version_place (side_of v) i)) (VersionBit i) ≡ true)
+unfolding version_placed
+version-placed v i h k l = and_parts _ _ (below-at 18 (version_placed v) (below-from 34 7 (λ v. below 18 (version_placed v)) all-version v h (omega arith)) i l)
 
 -- each bit of the format information is at its first place
 pub format-first : (v i : ℕ) → 1 ≤ v → v ≤ 40 → i < 15 → role_of v (first_place i).row (first_place i).col ≡ FormatBit i
-unfolding format_first
-format-first v i h k l =
-    let e : v - 1 + 1 ≡ v = omega arith in
-    let t = below-at 15 (λ i. is_format i (role_of (v - 1 + 1) (first_place i).row (first_place i).col)) (below-at 40 format_first all-format_first (v - 1) (omega arith)) i l in
-    is_format-same i _ (subst (λ (u : ℕ). is_format i (role_of u (first_place i).row (first_place i).col) ≡ true) e t)
+format-first v i h k l = role-same _ _ (format-placed v i h k l).0
 
 -- each bit of the format information is at its second place
 pub format-second : (v i : ℕ) → 1 ≤ v → v ≤ 40 → i < 15 → role_of v (second_place (side_of v) i).row (second_place (side_of v) i).col ≡ FormatBit i
-unfolding format_second
-format-second v i h k l =
-    let e : v - 1 + 1 ≡ v = omega arith in
-    let t = below-at 15 (λ i. is_format i (role_of (v - 1 + 1) (second_place (side_of (v - 1 + 1)) i).row (second_place (side_of (v - 1 + 1)) i).col)) (below-at 40 format_second all-format_second (v - 1) (omega arith)) i l in
-    is_format-same i _ (subst (λ (u : ℕ). is_format i (role_of u (second_place (side_of u) i).row (second_place (side_of u) i).col) ≡ true) e t)
+format-second v i h k l = role-same _ _ (format-placed v i h k l).1
 
 -- each bit of the version information is at its first place
 pub version-first : (v i : ℕ) → 7 ≤ v → v ≤ 40 → i < 18 → role_of v (version_place (side_of v) i).row (version_place (side_of v) i).col ≡ VersionBit i
-unfolding version_first
-version-first v i h k l =
-    let e : v - 7 + 7 ≡ v = omega arith in
-    let t = below-at 18 (λ i. is_version i (role_of (v - 7 + 7) (version_place (side_of (v - 7 + 7)) i).row (version_place (side_of (v - 7 + 7)) i).col)) (below-at 34 version_first all-version_first (v - 7) (omega arith)) i l in
-    is_version-same i _ (subst (λ (u : ℕ). is_version i (role_of u (version_place (side_of u) i).row (version_place (side_of u) i).col) ≡ true) e t)
+version-first v i h k l = role-same _ _ (version-placed v i h k l).0
 
 -- each bit of the version information is at the place with row and column exchanged
 pub version-second : (v i : ℕ) → 7 ≤ v → v ≤ 40 → i < 18 → role_of v (version_place (side_of v) i).col (version_place (side_of v) i).row ≡ VersionBit i
-unfolding version_second
-version-second v i h k l =
-    let e : v - 7 + 7 ≡ v = omega arith in
-    let t = below-at 18 (λ i. is_version i (role_of (v - 7 + 7) (version_place (side_of (v - 7 + 7)) i).col (version_place (side_of (v - 7 + 7)) i).row)) (below-at 34 version_second all-version_second (v - 7) (omega arith)) i l in
-    is_version-same i _ (subst (λ (u : ℕ). is_version i (role_of u (version_place (side_of u) i).col (version_place (side_of u) i).row) ≡ true) e t)
+version-second v i h k l = role-same _ _ (version-placed v i h k l).1
 
 -- the dark module, beside the bottom left finder pattern, is dark
 pub dark-module : (v : ℕ) → 1 ≤ v → v ≤ 40 → role_of v (side_of v - 8) 8 ≡ Fixed true
-unfolding dark_at
-dark-module v h k =
-    let e : v - 1 + 1 ≡ v = omega arith in
-    is_dark-same _ (subst (λ (u : ℕ). is_dark (role_of u (side_of u - 8) 8) ≡ true) e (below-at 40 dark_at all-dark_at (v - 1) (omega arith)))
+dark-module v h k = role-same _ _ (below-from 40 1 (λ v. is_role (role_of v (side_of v - 8) 8) (Fixed true)) all-dark v h (omega arith))
 
 -- ---- the encoding region
 
@@ -232,10 +184,6 @@ with-region None true f g h = cc
 with-region None false (Some j) g h = cc
 with-region None false None (Some j) h = cc
 with-region None false None None h = record { no_pattern = refl; not_dark = refl; no_format = refl; no_version = refl }
-
--- if a place has no colour and no bit and is not the dark module, its role is the region
-free-region : (a : Option Bool) (t : Bool) (f g : Option ℕ) → a ≡ None → t ≡ false → f ≡ None → g ≡ None → role_with a t f g ≡ Region
-free-region a t f g i j k l = rw (i, j, k, l) refl
 
 -- the choice of a colour, over its tests
 abbrev colour_with : Bool → Bool → Bool → Bool → Bool → Bool → Bool → Bool → Bool → Option Bool
@@ -263,25 +211,6 @@ pattern-none : (v r c : ℕ) → pattern_colour v r c ≡ None → IsOffPatterns
 unfolding pattern_colour
 pattern-none v r c h = colour-none _ _ _ _ (is_alignment v r c) (not (eqb (finder_ring (side_of v) r c) 2)) (eqb (c % 2) 0) (eqb (r % 2) 0) (not (is_alignment_light v r c)) h
 
--- a place outside the function patterns has no colour
-none-pattern : (v r c : ℕ) → 5 ≤ finder_ring (side_of v) r c → (r ≡ 6 → ⊥) → (c ≡ 6 → ⊥) → is_alignment v r c ≡ false → pattern_colour v r c ≡ None
-unfolding pattern_colour
-none-pattern v r c h k l a =
-    let x : ltb (finder_ring (side_of v) r c) 4 ≡ false = beyond (finder_ring (side_of v) r c) h in
-    let y : eqb (finder_ring (side_of v) r c) 4 ≡ false = off (finder_ring (side_of v) r c) h in
-    let z : eqb r 6 ≡ false = other r k in
-    let w : eqb c 6 ≡ false = other c l in
-    rw (x, y, z, w, a) refl
-  where
-    beyond : (n : ℕ) → 5 ≤ n → ltb n 4 ≡ false
-    beyond n h = grind (arith, nat_tests)
-
-    off : (n : ℕ) → 5 ≤ n → eqb n 4 ≡ false
-    off n h = grind (arith, nat_tests)
-
-    other : (n : ℕ) → (n ≡ 6 → ⊥) → eqb n 6 ≡ false
-    other n h = grind (arith, nat_tests)
-
 -- a place off the finder and timing patterns has the colour of an alignment pattern, or none
 off-pattern : (v r c : ℕ) → 5 ≤ finder_ring (side_of v) r c → (r ≡ 6 → ⊥) → (c ≡ 6 → ⊥) → pattern_colour v r c ≡ cond (is_alignment v r c) (Some (not (is_alignment_light v r c))) None
 unfolding pattern_colour
@@ -301,79 +230,19 @@ off-pattern v r c h k l =
     other : (n : ℕ) → (n ≡ 6 → ⊥) → eqb n 6 ≡ false
     other n h = grind (arith, nat_tests)
 
--- the top left corner is within ring 4 of a finder pattern
-near-left : (s r c : ℕ) → r ≤ 7 → c ≤ 7 → finder_ring s r c ≤ 4
-near-left s r c h k = omega arith
-
--- the top right corner is within ring 4 of a finder pattern
-near-right : (s r c : ℕ) → 21 ≤ s → r ≤ 7 → s - 8 ≤ c → c < s → finder_ring s r c ≤ 4
-near-right s r c l h k m = omega arith
-
--- the bottom left corner is within ring 4 of a finder pattern
-near-below : (s r c : ℕ) → 21 ≤ s → s - 8 ≤ r → r < s → c ≤ 7 → finder_ring s r c ≤ 4
-near-below s r c l h k m = omega arith
-
--- off the three corners a place is beyond ring 4
-far-off : (s r c : ℕ) → 21 ≤ s → (7 < r) ⊎ (7 < c) → (7 < r) ⊎ (c < s - 8) → (r < s - 8) ⊎ (7 < c) → 5 ≤ finder_ring s r c
-far-off s r c l h k m = grind (arith, nat_tests)
-
--- a place of the corners: near a finder pattern, or in row 8 or column 8 beside it
-corner-cases : (s r c : ℕ) → 21 ≤ s → is_corner s r c ≡ true → ((r ≤ 8) × (c ≤ 8)) ⊎ (((r ≤ 8) × (s - 8 ≤ c)) ⊎ ((s - 8 ≤ r) × (c ≤ 8)))
-corner-cases s r c l h = grind (arith, nat_tests)
-
--- the top left corner has only patterns and bits
-corner-left : (s r c : ℕ) → 21 ≤ s → 5 ≤ finder_ring s r c → (r ≡ 6 → ⊥) → (c ≡ 6 → ⊥) → format_bit_at s r c ≡ None → r ≤ 8 → c ≤ 8 → ⊥
-corner-left s r c l k m n f a b = elim (cases_lt c 8) [
-  | inl x ↦ elim (cases_lt r 8) [
-    | inl y ↦ let z = near-left s r c (omega arith) (omega arith) in omega arith
-    | inr y ↦ let e : r ≡ 8 = omega arith in let g = rw e at f in elim (cases_lt c 6) [
-      | inl z ↦ let w = format-left s c l z in cc
-      | inr z ↦ elim (cases_lt c 7) [
-        | inl q ↦ n (omega arith)
-        | inr q ↦ let w = format-seven s c l (omega arith) in cc
-      ]
-    ]
-  ]
-  | inr x ↦ let e : c ≡ 8 = omega arith in let g = rw e at f in elim (cases_lt r 6) [
-    | inl z ↦ let w = format-top s r l z in cc
-    | inr z ↦ elim (cases_lt r 7) [
-      | inl q ↦ m (omega arith)
-      | inr q ↦ let w = format-bend s r l (omega arith) (omega arith) in cc
-    ]
-  ]
-]
-
--- the top right corner has only patterns and bits
-corner-right : (s r c : ℕ) → 21 ≤ s → c < s → 5 ≤ finder_ring s r c → format_bit_at s r c ≡ None → r ≤ 8 → s - 8 ≤ c → ⊥
-corner-right s r c l i k f a b = elim (cases_lt r 8) [
-  | inl y ↦ let z = near-right s r c l (omega arith) b i in omega arith
-  | inr y ↦ let e : r ≡ 8 = omega arith in let g = rw e at f in let w = format-right s c l b i in cc
-]
-
--- the bottom left corner has only patterns, bits and the dark module
-corner-below : (s r c : ℕ) → 21 ≤ s → r < s → 5 ≤ finder_ring s r c → is_dark_module s r c ≡ false → format_bit_at s r c ≡ None → s - 8 ≤ r → c ≤ 8 → ⊥
-corner-below s r c l i k d f a b = elim (cases_lt c 8) [
-  | inl y ↦ let z = near-below s r c l a i (omega arith) in omega arith
-  | inr y ↦ let e : c ≡ 8 = omega arith in let g = rw e at f in elim (cases_lt (s - 8) r) [
-    | inl z ↦ let w = format-foot s r l z i in cc
-    | inr z ↦ let q : is_dark_module s r c ≡ true = grind (arith, nat_tests) in cc
-  ]
-]
-
 -- a test that cannot pass fails
 truth : (b : Bool) → (b ≡ true → ⊥) → b ≡ false
 truth true f = absurd (f refl)
 truth false f = refl
 
+-- in a corner, a place off the patterns contains a bit, or it is the dark module
+corner-stands : (s r c : ℕ) → 21 ≤ s → r < s → c < s → 5 ≤ finder_ring s r c → (r ≡ 6 → ⊥) → (c ≡ 6 → ⊥) → is_dark_module s r c ≡ false → is_corner s r c ≡ true
+    → (ltb (bit_here s r c) 15 && stands s r c (bit_here s r c)) ≡ true
+corner-stands s r c l i j k m n d h = grind (arith, nat_tests)
+
 -- a place that is in no pattern, contains no bit and is not the dark module is outside the corners
 corners-free : (s r c : ℕ) → 21 ≤ s → r < s → c < s → 5 ≤ finder_ring s r c → (r ≡ 6 → ⊥) → (c ≡ 6 → ⊥) → is_dark_module s r c ≡ false → format_bit_at s r c ≡ None → is_corner s r c ≡ false
-corners-free s r c l i j k m n d f = truth _ (λ h. elim (corner-cases s r c l h) [
-  | inl w ↦ corner-left s r c l k m n f w.0 w.1
-  | inr u ↦ elim u [
-    | inl w ↦ corner-right s r c l j k f w.0 w.1
-    | inr w ↦ corner-below s r c l i k d f w.0 w.1
-  ]
-])
+corners-free s r c l i j k m n d f = truth _ (λ h. let e = rw (corner-stands s r c l i j k m n d h) at (format-at s r c l) in cc)
 
 -- a place off the corners
 record IsOffCorners (s r c : ℕ) : Type 0 where
@@ -387,35 +256,29 @@ off-corners s r c l i j h = record { off_left = grind (arith, nat_tests); off_ri
 
 -- a place off the corners is beyond ring 4 of the finder patterns
 corner-far : (s r c : ℕ) → 21 ≤ s → IsOffCorners s r c → 5 ≤ finder_ring s r c
-corner-far s r c l w = far-off s r c l
-    (elim w.off_left [ inl x ↦ inl (omega arith) | inr x ↦ inr (omega arith) ])
-    (elim w.off_right [ inl x ↦ inl (omega arith) | inr x ↦ inr x ])
-    (elim w.off_below [ inl x ↦ inl x | inr x ↦ inr (omega arith) ])
+corner-far s r c l w = let a = w.off_left in let b = w.off_right in let d = w.off_below in grind (arith, nat_tests)
 
 -- a place off the corners is not the dark module
 corner-not_dark : (s r c : ℕ) → 21 ≤ s → IsOffCorners s r c → is_dark_module s r c ≡ false
 corner-not_dark s r c l w = let b = w.off_below in grind (arith, nat_tests)
 
--- a place of column 8 off the corners lies between them
-off-row : (s r : ℕ) → 21 ≤ s → IsOffCorners s r 8 → (9 ≤ r) × (r ≤ s - 8)
-off-row s r l w = let a = w.off_left in let b = w.off_below in (omega arith, omega arith)
-
--- a place of row 8 off the corners lies between them
-off-column : (s c : ℕ) → 21 ≤ s → IsOffCorners s 8 c → (9 ≤ c) × (c < s - 8)
-off-column s c l w = let a = w.off_left in let b = w.off_right in (omega arith, omega arith)
-
 -- a place off the corners has no bit of the format information
 corner-no_format : (s r c : ℕ) → 21 ≤ s → IsOffCorners s r c → format_bit_at s r c ≡ None
-corner-no_format s r c l w = elim (cases_Bool (eqb c 8)) [
-  | inl x ↦ let e : c ≡ 8 = eqb-true c 8 x in subst (λ z. format_bit_at s r z ≡ None) (sym e) (sym (format-no_row s r l (inr (off-row s r l (subst (IsOffCorners s r) e w)))))
-  | inr x ↦ elim (cases_Bool (eqb r 8)) [
-    | inl y ↦ let e : r ≡ 8 = eqb-true r 8 y in subst (λ z. format_bit_at s z c ≡ None) (sym e) (sym (format-no_column s c l (inr (off-column s c l (subst (λ z. IsOffCorners s z c) e w)))))
-    | inr y ↦ sym (format-off s r c l (unequal r y) (unequal c x))
-  ]
-]
+corner-no_format s r c l w =
+    let none : (ltb (bit_here s r c) 15 && stands s r c (bit_here s r c)) ≡ false = truth _ (λ h. apart (bit_here s r c) (and_parts (ltb (bit_here s r c) 15) _ h)) in
+    format-at s r c l ∙ rw none refl
   where
-    unequal : (n : ℕ) → eqb n 8 ≡ false → n ≡ 8 → ⊥
-    unequal n h e = grind (arith, nat_tests)
+    first-in : (i : ℕ) → ltb i 15 ≡ true → (8 < r) ⊎ (8 < c) → is_at (first_place i) r c ≡ true → ⊥
+    first-in i h k e = grind (arith, nat_tests)
+
+    second-in : (i : ℕ) → ltb i 15 ≡ true → (8 < r) ⊎ (c < s - 8) → (r < s - 8) ⊎ (8 < c) → is_at (second_place s i) r c ≡ true → ⊥
+    second-in i h k m e = grind (arith, nat_tests)
+
+    apart : (i : ℕ) → (ltb i 15 ≡ true) × (stands s r c i ≡ true) → ⊥
+    apart i h = elim (either (is_at (first_place i) r c) (is_at (second_place s i) r c) h.1) [
+      | inl e ↦ first-in i h.0 w.off_left e
+      | inr e ↦ second-in i h.0 w.off_right w.off_below e
+    ]
 
 -- ---- the timing patterns and the blocks of version information
 
@@ -431,34 +294,13 @@ timing-row r c h e = grind (arith, nat_tests)
 timing-column : (r c : ℕ) → is_timing r c ≡ false → c ≡ 6 → ⊥
 timing-column r c h e = grind (arith, nat_tests)
 
--- the two blocks of version information, as tests
-blocks-tests : (v r c : ℕ) → 7 ≤ v → is_version_information v r c ≡ (in_block (side_of v) r c || in_block (side_of v) c r)
-blocks-tests v r c h = let t : leb 7 v ≡ true = grind (arith, nat_tests) in rw t refl
-
--- versions below 7 have no block of version information
-blocks-none : (v r c : ℕ) → v < 7 → is_version_information v r c ≡ false
-blocks-none v r c h = let t : leb 7 v ≡ false = grind (arith, nat_tests) in rw t refl
-
--- a place has no bit of the version information exactly if it is in no block of version information
+-- a place that has no bit of the version information is in no block of it
 version-free : (v r c : ℕ) → version_bit_at v r c ≡ None → is_version_information v r c ≡ false
-version-free v r c h = elim (cases_lt v 7) [
-  | inl k ↦ blocks-none v r c k
-  | inr k ↦ truth _ (λ t. elim (either (in_block (side_of v) r c) (in_block (side_of v) c r) (sym (blocks-tests v r c k) ∙ t)) [
-    | inl x ↦ let w = version-right v (side_of v) r c true k refl (sym x) refl in cc
-    | inr x ↦ let w = version-below v (side_of v) r c true k refl (sym x) refl in cc
-  ])
-]
+version-free v r c h = truth _ (λ t. let e = rw t at (version_at v r c) in cc)
 
 -- a place in no block has no bit of the version information
 free-version : (v r c : ℕ) → is_version_information v r c ≡ false → version_bit_at v r c ≡ None
-free-version v r c h = elim (cases_lt v 7) [
-  | inl k ↦ sym (version-small v r c k)
-  | inr k ↦ let w = neither (in_block (side_of v) r c) (in_block (side_of v) c r) (sym (blocks-tests v r c k) ∙ h) in sym (version-neither v (side_of v) r c false false k refl (sym w.0) refl (sym w.1) refl)
-]
-  where
-    neither : (a b : Bool) → (a || b) ≡ false → (a ≡ false) × (b ≡ false)
-    neither true b h = cc
-    neither false b h = (refl, h)
+free-version v r c h = version_at v r c ∙ rw h refl
 
 -- ---- the law
 
@@ -471,20 +313,12 @@ record IsClear (a b d e : Bool) : Type 0 where
 
 -- a place of the region is in no part
 clear : (a b d e : Bool) → not (((a || b) || d) || e) ≡ true → IsClear a b d e
-clear false false false false h = record { no_corner = refl; no_timing = refl; no_version = refl; no_alignment = refl }
-clear false false false true h = cc
-clear false false true e h = cc
-clear false true d e h = cc
-clear true b d e h = cc
-
--- a module of the encoding region has the role Region
-pub region-role : (v r c : ℕ) → 1 ≤ v → r < side_of v → c < side_of v → is_in_region v r c ≡ true → role_of v r c ≡ Region
-region-role v r c l i j h =
-    let s = side_of v in
-    let w = clear (is_corner s r c) (is_timing r c) (is_version_information v r c) (is_alignment v r c) (sym (region-parts v r c i j) ∙ h) in
-    let o = off-corners s r c (omega arith) i j w.no_corner in
-    let p = none-pattern v r c (corner-far s r c (omega arith) o) (timing-row r c w.no_timing) (timing-column r c w.no_timing) w.no_alignment in
-    role-with v r c ∙ free-region _ _ _ _ p (corner-not_dark s r c (omega arith) o) (corner-no_format s r c (omega arith) o) (free-version v r c w.no_version)
+clear a b d e h = record {
+  no_corner = grind (arith, nat_tests);
+  no_timing = grind (arith, nat_tests);
+  no_version = grind (arith, nat_tests);
+  no_alignment = grind (arith, nat_tests);
+}
 
 -- beyond ring 4
 ring-far : (n : ℕ) → ltb n 4 ≡ false → eqb n 4 ≡ false → 5 ≤ n
@@ -519,3 +353,9 @@ off-role v r c l i j ha ht hv =
     by_alignment : (e q t : Bool) (f g : Option ℕ) → t ≡ false → f ≡ None → g ≡ None → role_with (cond e (Some q) None) t f g ≡ cond e (Fixed q) Region
     by_alignment true q t f g x y z = refl
     by_alignment false q t f g x y z = rw (x, y, z) refl
+
+-- a module of the encoding region has the role Region
+pub region-role : (v r c : ℕ) → 1 ≤ v → r < side_of v → c < side_of v → is_in_region v r c ≡ true → role_of v r c ≡ Region
+region-role v r c l i j h =
+    let w = clear (is_corner (side_of v) r c) (is_timing r c) (is_version_information v r c) (is_alignment v r c) (sym (region-parts v r c i j) ∙ h) in
+    cc (off-role v r c l i j w.no_corner w.no_timing w.no_version)

@@ -1,21 +1,18 @@
 -- The function patterns are the same when rows and columns are exchanged, if of the format information just bit 7 is
 -- dark: this bit is opposite the dark module.
 use Rattle.std.proofs.lemmas.Bool.{eqb-true, cases_Bool}
-use Rattle.std.proofs.Common.{◌≡◌, ℕ, ◌+◌, ◌-◌, ◌%◌, ◌<◌, ◌≤◌, Bool, true, false, not, ◌&&◌, ◌||◌, cond, eqb, ltb, min, List, [], ◌∷◌, Option, None, Some, refl, sym, ap, ◌∙◌, inl, inr, arith}
+use Rattle.std.proofs.Common.{◌≡◌, ℕ, ◌-◌, ◌%◌, ◌<◌, ◌≤◌, Bool, true, false, not, ◌&&◌, ◌||◌, cond, eqb, ltb, min, List, [], ◌∷◌, Option, None, Some, refl, sym, ap, ◌∙◌, inl, inr, arith}
 use Rattle.std.proofs.Math.Bool.{and_comm, or_comm}
-use Rattle.std.proofs.lemmas.Bool.{cases_lt}
 use Rattle.std.proofs.lemmas.Bool.Decides.{nat_tests}
-use Rattle.std.specs.List.{find, range_with_len}
-use Rattle.std.specs.Option.{option_map_or}
+use Rattle.std.specs.{List.find, List.range_with_len, Option.option_map_or}
 use Rattle.qr_layout.specs.declared.region.Module.{Module}
 use Rattle.qr_layout.specs.declared.role.Role.{Role}
 use Rattle.qr_layout.specs.declared.role.Role.TheVariants.{Fixed, FormatBit, VersionBit, Region}
-use Rattle.qr_layout.specs.Alignment.{centres_of, is_corner_pair}
-use Rattle.qr_layout.specs.Region.{is_alignment, ring_of}
+use Rattle.qr_layout.specs.{Alignment.centres_of, Alignment.is_corner_pair, Region.is_alignment, Region.ring_of}
 use Rattle.qr_layout.specs.Version.{side_of}
 use Rattle.qr_layout.specs.Role.{finder_ring, is_alignment_light, pattern_colour, first_place, second_place, version_place, mirror_of, is_at, format_bit_at, version_bit_at, is_dark_module, role_of}
 use Rattle.qr_layout.proofs.lemmas.alignment.AlignmentLemmas.{any-places, list_any-same}
-use Rattle.qr_layout.proofs.lemmas.role.RoleLemmas.{first-at, format-top, format-bend, format-foot, format-left, format-seven, format-right, format-no_row, format-no_column, format-off}
+use Rattle.qr_layout.proofs.lemmas.role.RoleLemmas.{first-at, format_down, format_across, format_off}
 use Rattle.qr_layout.proofs.lemmas.region.SymmetryLemmas.{any-pairs, alignment-symmetric}
 
 -- ---- the patterns
@@ -84,70 +81,30 @@ version-symmetric v r c = ap (λ z. cond (ltb v 7) None z) (find-same _ _ (λ i.
 -- ---- the format information and the dark module
 
 -- the colour of the dark module, or of a module of the format information if just bit 7 is dark
-seven : Bool → Option ℕ → Option Bool
-seven true f = Some true
-seven false (Some i) = Some (eqb i 7)
-seven false None = None
+abbrev seven : Bool → Option ℕ → Option Bool
+seven t o = cond t (Some true) (option_map_or (λ i. Some (eqb i 7)) o None)
 
--- no module of row 8 is the dark module
-row-not_dark : (s c : ℕ) → 21 ≤ s → is_dark_module s 8 c ≡ false
-row-not_dark s c l = grind (arith, nat_tests)
+map-cond : {A B : Type 0} (f : A → B) (d : B) (b : Bool) (x y : Option A) → option_map_or f (cond b x y) d ≡ cond b (option_map_or f x d) (option_map_or f y d)
+map-cond f d true x y = refl
+map-cond f d false x y = refl
 
--- a module of column 8 is not the dark module if it is in another row
-column-not_dark : (s r : ℕ) → (r ≡ s - 8 → ⊥) → is_dark_module s r 8 ≡ false
-column-not_dark s r h = grind (arith, nat_tests)
-
--- the bits in column 8 and in row 8, where neither module is the dark module
-both-bits : (s r i j : ℕ) → 21 ≤ s → (r ≡ s - 8 → ⊥) → Some i ≡ format_bit_at s r 8 → Some j ≡ format_bit_at s 8 r → eqb i 7 ≡ eqb j 7 → seven (is_dark_module s r 8) (format_bit_at s r 8) ≡ seven (is_dark_module s 8 r) (format_bit_at s 8 r)
-unfolding seven
-both-bits s r i j l n e f g = rw (row-not_dark s r l, column-not_dark s r n, sym e, sym f) (ap (λ b. Some b) g)
-
--- no bits in column 8 and in row 8
-no-bits : (s r : ℕ) → 21 ≤ s → (r ≡ s - 8 → ⊥) → None ≡ format_bit_at s r 8 → None ≡ format_bit_at s 8 r → seven (is_dark_module s r 8) (format_bit_at s r 8) ≡ seven (is_dark_module s 8 r) (format_bit_at s 8 r)
-unfolding seven
-no-bits s r l n e f = rw (row-not_dark s r l, column-not_dark s r n, sym e, sym f) refl
-
--- the dark module, and bit 7 of the format information, which is opposite it
-dark-bit : (s r : ℕ) → 21 ≤ s → r ≡ s - 8 → seven (is_dark_module s r 8) (format_bit_at s r 8) ≡ seven (is_dark_module s 8 r) (format_bit_at s 8 r)
-unfolding seven
-dark-bit s r l e =
-    let dark : is_dark_module s r 8 ≡ true = grind (arith, nat_tests) in
-    let bit : eqb (s - 1 - r) 7 ≡ true = grind (arith, nat_tests) in
-    rw (dark, row-not_dark s r l, sym (format-right s r l (omega arith) (omega arith)), bit) refl
+-- what it means that a test for 8 fails
+not-eight : (n : ℕ) → eqb n 8 ≡ false → n ≡ 8 → ⊥
+not-eight n h e = grind (arith, nat_tests)
 
 -- column 8 and row 8
 eights : (s r : ℕ) → 21 ≤ s → r < s → seven (is_dark_module s r 8) (format_bit_at s r 8) ≡ seven (is_dark_module s 8 r) (format_bit_at s 8 r)
-eights s r l h = elim (cases_lt r 6) [
-  | inl a ↦ both-bits s r r (14 - r) l (λ e. omega arith) (format-top s r l a) (format-left s r l a) (grind (arith, nat_tests))
-  | inr a ↦ elim (cases_lt 6 r) [
-    | inr b ↦ no-bits s r l (λ e. omega arith) (format-no_row s r l (inl (omega arith))) (format-no_column s r l (inl (omega arith)))
-    | inl b ↦ elim (cases_lt r 8) [
-      | inl d ↦ both-bits s r (r - 1) 8 l (λ e. omega arith) (format-bend s r l b (omega arith)) (format-seven s r l (omega arith)) (grind (arith, nat_tests))
-      | inr d ↦ elim (cases_lt 8 r) [
-        | inr f ↦ let e : r ≡ 8 = omega arith in rw e refl
-        | inl f ↦ elim (cases_lt r (s - 8)) [
-          | inl g ↦ no-bits s r l (λ e. omega arith) (format-no_row s r l (inr (omega arith, omega arith))) (format-no_column s r l (inr (omega arith, omega arith)))
-          | inr g ↦ elim (cases_lt (s - 8) r) [
-            | inl k ↦ both-bits s r (r + 15 - s) (s - 1 - r) l (λ e. omega arith) (format-foot s r l k h) (format-right s r l (omega arith) h) (grind (arith, nat_tests))
-            | inr k ↦ dark-bit s r l (omega arith)
-          ]
-        ]
-      ]
-    ]
-  ]
+eights s r l h = elim (cases_Bool (eqb r 8)) [
+  | inl a ↦ let e = eqb-true r 8 a in rw e refl
+  | inr a ↦ rw (format_down s r l h, format_across s r l h (not-eight r a)) (simp map-cond (grind (arith, nat_tests)))
 ]
 
 -- a module outside column 8 is not the dark module
 off-not_dark : (s r c : ℕ) → (c ≡ 8 → ⊥) → is_dark_module s r c ≡ false
 off-not_dark s r c h = grind (arith, nat_tests)
 
--- what it means that a test for 8 fails
-not-eight : (n : ℕ) → eqb n 8 ≡ false → n ≡ 8 → ⊥
-not-eight n h e = grind (arith, nat_tests)
-
 -- the dark module and the format information
 seven-symmetric : (s r c : ℕ) → 21 ≤ s → r < s → c < s → seven (is_dark_module s r c) (format_bit_at s r c) ≡ seven (is_dark_module s c r) (format_bit_at s c r)
-unfolding seven
 seven-symmetric s r c l h k = elim (cases_Bool (eqb c 8)) [
   | inl a ↦ let e = eqb-true c 8 a in rw e (eights s r l h)
   | inr a ↦ elim (cases_Bool (eqb r 8)) [
@@ -155,7 +112,7 @@ seven-symmetric s r c l h k = elim (cases_Bool (eqb c 8)) [
     | inr b ↦
         let m = not-eight c a in
         let n = not-eight r b in
-        rw (off-not_dark s r c m, off-not_dark s c r n, sym (format-off s r c l n m), sym (format-off s c r l m n)) refl
+        rw (off-not_dark s r c m, off-not_dark s c r n, format_off s r c l n m, format_off s c r l m n) refl
   ]
 ]
 
@@ -164,7 +121,6 @@ seven-symmetric s r c l h k = elim (cases_Bool (eqb c 8)) [
 -- a colour by role in which just bit 7 of the format information is dark, over what the parts of the role say
 by-parts : (f : Role → Bool) (a : Option Bool) (t : Bool) (o g : Option ℕ) → ((i : ℕ) → o ≡ Some i → f (FormatBit i) ≡ f (Fixed (eqb i 7)))
     → f (option_map_or Fixed a (cond t (Fixed true) (option_map_or FormatBit o (option_map_or VersionBit g Region)))) ≡ f (option_map_or Fixed a (option_map_or Fixed (seven t o) (option_map_or VersionBit g Region)))
-unfolding seven
 by-parts f (Some d) t o g h = refl
 by-parts f None true o g h = refl
 by-parts f None false (Some i) g h = h i refl

@@ -1,15 +1,12 @@
 -- The places of the strips, one strip after the other, are the order of the version when the places outside the
 -- encoding region are left out. Here v is a version, and s the side of its square.
 use Rattle.std.proofs.Common.{◌≡◌, ℕ, zero, suc, ◌+◌, ◌-◌, ◌*◌, ◌<◌, ◌≤◌, false, cond, List, [], ◌∷◌, ◌++◌, refl, sym, ap, ◌∙◌, arith}
-use Rattle.std.proofs.lemmas.List.Elements.{All-from_recursion}
-use Rattle.std.proofs.lemmas.Bool.Decides.{nat_tests}
+use Rattle.std.proofs.lemmas.{List.Elements.All-from_recursion, Bool.Decides.nat_tests}
 use Rattle.std.specs.List.{All, AllByRecursion}
 use Rattle.qr_layout.specs.declared.region.Module.{Module}
 use Rattle.qr_layout.specs.declared.order.Cursor.{Cursor}
 use Rattle.qr_layout.specs.declared.strips.Strip.{Strip}
-use Rattle.qr_layout.specs.Region.{is_in_region}
-use Rattle.qr_layout.specs.Version.{side_of}
-use Rattle.qr_layout.specs.Order.{IsOrder, in_region_of}
+use Rattle.qr_layout.specs.{Region.is_in_region, Version.side_of, Order.IsOrder, Order.in_region_of}
 use Rattle.qr_layout.specs.Steps.Order.{place_of, left_of, next_of, places_within, to_come, first_cursor}
 use Rattle.qr_layout.specs.Strips.{rows_from, both_of, places_of, strip_at, strips_to_come}
 use Rattle.qr_layout.proofs.lemmas.order.WalkLemmas.{places-nil, places-suc, start-left, to_come-start}
@@ -43,7 +40,7 @@ right-again s a e = grind (arith, nat_tests)
 -- the places of n rows from position a on that are in the encoding region are the places that 2 * n steps of the walk
 -- visit from a on
 kept : (v n : ℕ) (a : Cursor) → a.at_left ≡ false → in_region_of v (both_of (pairs_within v n a)) ≡ places_within v (2 * n) a
-kept v zero a e = ap (λ (z : List Module). in_region_of v (both_of z)) (pairs-nil v a) ∙ sym (places-nil v a)
+kept v zero a e = cc (pairs-nil v a, places-nil v a)
 kept v (suc n) a e =
     let s = side_of v in
     let b = next_of s a in
@@ -54,9 +51,7 @@ kept v (suc n) a e =
     let q : place_of b ≡ left = second-place s a e in
     let l : cond (is_in_region v left.row left.col) (left ∷ places_within v (2 * n) (next_of s b)) (places_within v (2 * n) (next_of s b)) ≡ places_within v (suc (2 * n)) b =
     sym (places-suc v (2 * n) b ∙ ap (λ (m : Module). cond (is_in_region v m.row m.col) (m ∷ places_within v (2 * n) (next_of s b)) (places_within v (2 * n) (next_of s b))) q) in
-    ap (λ (z : List Module). in_region_of v (both_of z)) (pairs-suc v n a)
-    ∙ (ap (λ (z : List Module). cond t (place_of a ∷ cond (is_in_region v left.row left.col) (left ∷ z) z) (cond (is_in_region v left.row left.col) (left ∷ z) z)) h
-    ∙ (ap (λ (z : List Module). cond t (place_of a ∷ z) z) l ∙ (sym (places-suc v (suc (2 * n)) a) ∙ ap (λ k. places_within v k a) two)))
+    cc (pairs-suc v n a, places-suc v (suc (2 * n)) a)
 
 -- ---- row by row, and strip by strip
 
@@ -81,13 +76,12 @@ rows-then v p k zero m e =
     let s = side_of v in
     let a = at_row s (suc p) k in
     let q : suc zero + m ≡ suc m = omega arith in
-    ap (λ z. pairs_within v z a) q ∙ (pairs-suc v m a ∙ ap (λ z. place_of a ∷ pairs_within v m z) (next-strip s p k (omega arith)))
+    cc (pairs-suc v m a, next-strip s p k (omega arith))
 rows-then v p k (suc n) m e =
     let s = side_of v in
     let a = at_row s (suc p) k in
     let q : suc (suc n) + m ≡ suc (suc n + m) = omega arith in
-    ap (λ z. pairs_within v z a) q ∙ (pairs-suc v (suc n + m) a ∙ (ap (λ z. place_of a ∷ pairs_within v (suc n + m) z) (next-row s (suc p) k (omega arith))
-    ∙ ap (λ (z : List Module). place_of a ∷ z) (rows-then v p (k + 1) n m (omega arith))))
+    cc (pairs-suc v (suc n + m) a, next-row s (suc p) k (omega arith), rows-then v p (k + 1) n m (omega arith))
 
 -- the right places of all rows of the strips
 abbrev all_rows : ℕ → List Strip → List Module
@@ -97,7 +91,7 @@ all_rows s (x ∷ xs) = rows_from s x 0 s ++ all_rows s xs
 -- the right places of all rows from the first row of strip p on are the right places of strip p and of the strips to
 -- the left of it
 rows-all : (v p : ℕ) → pairs_within v (p * side_of v) (at_row (side_of v) p 0) ≡ all_rows (side_of v) (strips_to_come p)
-rows-all v zero = let e : zero * side_of v ≡ 0 = omega arith in ap (λ z. pairs_within v z (at_row (side_of v) 0 0)) e ∙ pairs-nil v (at_row (side_of v) 0 0)
+rows-all v zero = let e : zero * side_of v ≡ 0 = omega arith in cc (pairs-nil v (at_row (side_of v) 0 0))
 rows-all v (suc p) =
     let s = side_of v in
     let n = s - 1 in
@@ -112,13 +106,13 @@ rows-all v (suc p) =
 -- `both_of` of the list xs followed by the list ys is `both_of xs` followed by `both_of ys`
 both-append : (xs ys : List Module) → both_of (xs ++ ys) ≡ both_of xs ++ both_of ys
 both-append [] ys = refl
-both-append (x ∷ xs) ys = ap (λ (z : List Module). x ∷ record { row = x.row; col = x.col - 1 } ∷ z) (both-append xs ys)
+both-append (x ∷ xs) ys = cc (both-append xs ys)
 
 -- the right places of all rows of the strips xs, each followed by the place to the left of it, are the places of the
 -- strips
 places-both : (s : ℕ) (xs : List Strip) → both_of (all_rows s xs) ≡ places_of s xs
 places-both s [] = refl
-places-both s (x ∷ xs) = both-append (rows_from s x 0 s) (all_rows s xs) ∙ ap (λ (z : List Module). both_of (rows_from s x 0 s) ++ z) (places-both s xs)
+places-both s (x ∷ xs) = cc (both-append (rows_from s x 0 s) (all_rows s xs), places-both s xs)
 
 -- the number of positions left at the beginning of the walk is twice the number of rows of all strips
 left-start : (v : ℕ) → 2 * ((8 + 2 * v) * side_of v) ≡ left_of (side_of v) (first_cursor v)
@@ -162,4 +156,4 @@ strips-inside v n e = All-from_recursion (Inside v) _ (all-inside v (8 + 2 * n) 
 -- the strips from strip p on are strip p and the strips from strip p - 1 on
 pub strips-next : (p : ℕ) (x : Strip) → 0 < p → x ≡ strip_at p → strips_to_come p ≡ x ∷ strips_to_come (p - 1)
 strips-next zero x l e = absurd (omega arith)
-strips-next (suc p) x l e = let f : p ≡ suc p - 1 = omega arith in ap (λ z. z ∷ strips_to_come p) (sym e) ∙ ap (λ z. x ∷ strips_to_come z) f
+strips-next (suc p) x l e = let f : p ≡ suc p - 1 = omega arith in cc

@@ -1,6 +1,5 @@
 use Rattle.std.proofs.Common.{arith}
-use Rattle.qr_layout.proofs.lemmas.order.OrderLemmas.{order-length}
-use Rattle.qr_layout.proofs.lemmas.order.WalkLemmas.{walk-order}
+use Rattle.qr_layout.proofs.lemmas.order.{OrderLemmas.order-length, WalkLemmas.walk-order}
 use Rattle.qr_layout.proofs.order.walk.Goals as goal
 
 pub returns-clause-order : goal.returns-clause-order

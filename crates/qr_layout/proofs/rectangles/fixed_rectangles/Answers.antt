@@ -1,6 +1,5 @@
 use Rattle.std.proofs.Common.{rules, ◌≡◌, arith, subst, sym}
-use Rattle.qr_layout.specs.Rectangles.{AreFixed}
-use Rattle.qr_layout.specs.Steps.Rectangles.{fixed_list}
+use Rattle.qr_layout.specs.{Rectangles.AreFixed, Steps.Rectangles.fixed_list}
 use Rattle.qr_layout.proofs.lemmas.alignment.AlignmentLemmas.{fixed-are}
 use Rattle.qr_layout.proofs.rectangles.fixed_rectangles.Goals as goal
 

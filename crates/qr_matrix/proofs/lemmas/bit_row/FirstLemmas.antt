@@ -4,8 +4,7 @@ use Rattle.std.proofs.lemmas.Bool.{cases_lt}
 use Rattle.std.proofs.lemmas.Bool.Decides.{nat_tests}
 use Rattle.std.specs.Int.{trailing_zeros}
 use Rattle.std.proofs.lemmas.Nat.Bits.{bit_at-trailing_zeros, bit_at-zero}
-use Rattle.qr_matrix.specs.BitRow.{has_bit}
-use Rattle.qr_matrix.specs.Steps.{columns_passing}
+use Rattle.qr_matrix.specs.{BitRow.has_bit, Steps.columns_passing}
 use Rattle.qr_matrix.proofs.lemmas.bit_row.WordLemmas.{three}
 use Rattle.qr_matrix.proofs.lemmas.bit_row.PlaceLemmas.{has_bit-low, has_bit-middle, has_bit-high}
 

@@ -10,8 +10,7 @@ use Rattle.std.proofs.lemmas.Bool.Decides.{nat_tests}
 use Rattle.qr_matrix.specs.Steps.{AreWords}
 use Rattle.qr_matrix.specs.BitRow.{has, has_bit, bit_row_number}
 use Rattle.qr_matrix.proofs.lemmas.bit_row.WordLemmas.{three, three-below}
-use Rattle.qr_matrix.specs.Grid.{is_same}
-use Rattle.qr_matrix.specs.Sums.{count_below, sum_below}
+use Rattle.qr_matrix.specs.{Grid.is_same, Sums.count_below, Sums.sum_below}
 use Rattle.qr_matrix.proofs.lemmas.bit_row.SumLemmas.{sum_below-same}
 
 -- bit c of the conjunction of a and b is set exactly if it is set in a and in b

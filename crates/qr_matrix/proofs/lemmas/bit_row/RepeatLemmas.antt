@@ -1,9 +1,8 @@
 -- A pattern of six bits, repeated over three words.
+use Rattle.std.proofs.lemmas.Bool.Decides.{nat_tests}
 use Rattle.std.proofs.Common.{◌≡◌, ℕ, zero, suc, ◌*◌, ◌/◌, ◌%◌, ◌^◌, ◌<◌, Bool, true, false, ◌&&◌, bit_or, refl, inl, inr, arith}
 use Rattle.std.proofs.lemmas.Bool.{cases_lt}
-use Rattle.qr_matrix.specs.BitRow.{has_bit}
-use Rattle.qr_matrix.specs.Grid.{is_same}
-use Rattle.qr_matrix.specs.Sums.{all_below}
+use Rattle.qr_matrix.specs.{BitRow.has_bit, Grid.is_same, Sums.all_below}
 use Rattle.qr_matrix.proofs.lemmas.bit_row.WordLemmas.{three}
 
 -- the first of two tests
@@ -26,10 +25,7 @@ below-at (suc n) p h k l = elim (cases_lt k n) [
 
 -- colours that are the same
 pub same-same : (a b : Bool) → is_same a b ≡ true → a ≡ b
-same-same true true h = refl
-same-same true false h = cc
-same-same false true h = cc
-same-same false false h = refl
+same-same a b h = grind (arith, nat_tests)
 
 -- the three words of a pattern
 abbrev pub repeats : ℕ → ℕ

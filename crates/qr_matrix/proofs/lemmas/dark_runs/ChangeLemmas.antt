@@ -2,8 +2,7 @@
 use Rattle.std.proofs.Common.{◌≡◌, ℕ, zero, suc, ◌+◌, ◌-◌, ◌<◌, ◌≤◌, min, ltb, ◌&&◌, not, Bool, true, false, refl, sym, ap, ◌∙◌, arith}
 use Rattle.std.proofs.lemmas.Bool.Decides.{nat_tests}
 use Rattle.qr_matrix.specs.Grid.{Grid, colour, is_same}
-use Rattle.qr_matrix.specs.Runs.{IsRunEnd}
-use Rattle.qr_matrix.specs.Steps.{is_change}
+use Rattle.qr_matrix.specs.{Runs.IsRunEnd, Steps.is_change}
 
 -- if the colour does not change at place c + 1, this place has the colour of place c
 kept : (line : ℕ → Bool) (c : ℕ) → is_change line (suc c) ≡ false → line (suc c) ≡ line c
@@ -11,10 +10,7 @@ unfolding is_change
 kept line c e = search (arith, nat_tests)
   where
     same : (a b : Bool) → not (is_same a b) ≡ false → a ≡ b
-    same true true f = refl
-    same true false f = cc
-    same false true f = cc
-    same false false f = refl
+    same a b h = grind (arith, nat_tests)
 
 -- if the colour changes at place c + 1, this place has the other colour than place c
 changed : (line : ℕ → Bool) (c : ℕ) → is_change line (suc c) ≡ true → line (suc c) ≡ not (line c)
@@ -22,10 +18,7 @@ unfolding is_change
 changed line c e = search (arith, nat_tests)
   where
     other : (a b : Bool) → not (is_same a b) ≡ true → a ≡ not b
-    other true true f = cc
-    other true false f = refl
-    other false true f = refl
-    other false false f = cc
+    other a b h = grind (arith, nat_tests)
 
 -- if the colour does not change at any place after a, up to a + d, then place a + d has the colour of place a
 pub steady : (line : ℕ → Bool) (a d : ℕ) → ((c : ℕ) → a < c → c ≤ a + d → is_change line c ≡ false) → line (a + d) ≡ line a

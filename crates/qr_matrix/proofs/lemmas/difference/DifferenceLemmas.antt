@@ -1,10 +1,10 @@
 -- Differences of squares.
+use Rattle.std.proofs.lemmas.Bool.Decides.{nat_tests}
 use Rattle.std.proofs.Common.{◌≡◌, ℕ, zero, suc, ◌<◌, ◌≤◌, Bool, true, false, not, cond, inl, inr, refl, sym, ap, ◌∙◌, arith}
 use Rattle.std.specs.Prelude.{List, ◌↔◌}
 use Rattle.std.proofs.lemmas.Bool.{cases_lt}
 use Rattle.qr_matrix.specs.Grid.{Grid, colour, is_same}
-use Rattle.qr_matrix.specs.BitRow.{has}
-use Rattle.qr_matrix.specs.Steps.{size_of}
+use Rattle.qr_matrix.specs.{BitRow.has, Steps.size_of}
 use Rattle.qr_matrix.specs.Sums.{places_passing, sum_below, count_below}
 use Rattle.qr_matrix.specs.Difference.{differs, difference_count}
 use Rattle.qr_matrix.proofs.lemmas.runs.RowLemmas.{size-is}
@@ -20,14 +20,11 @@ one_if b = cond b 1 0
 
 -- colours that are not different are equal
 same-is : (a b : Bool) → one_if (not (is_same a b)) ≡ 0 → a ≡ b
-same-is true true e = refl
-same-is false false e = refl
-same-is true false e = cc
-same-is false true e = cc
+same-is a b h = grind (arith, nat_tests)
 
 -- a place outside both rows differs in neither
 differs-past : (x y : Bool) → x ≡ false → y ≡ false → not (is_same x y) ≡ false
-differs-past x y e f = ap (λ z. not (is_same z y)) e ∙ ap (λ z. not (is_same false z)) f
+differs-past x y e f = cc
 
 -- the bits that are set in exactly one of two rows are the places at which the rows differ
 pub row-differs : (g h : Grid) (r : ℕ) (d a b : List ℕ) → g.side ≤ 192 → ((c : ℕ) → has d c ≡ not (is_same (has a c) (has b c)))

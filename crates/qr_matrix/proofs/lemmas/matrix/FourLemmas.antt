@@ -8,18 +8,17 @@ use Rattle.std.proofs.lemmas.Bool.{cases_lt}
 use Rattle.std.proofs.lemmas.Bool.Decides.{nat_tests}
 use Rattle.qr_matrix.specs.BitRow.{has, has_bit}
 use Rattle.qr_matrix.specs.Grid.{Grid, colour, painted, with_row}
-use Rattle.qr_matrix.proofs.lemmas.matrix.GridLemmas.{square-same, colour-square}
-use Rattle.qr_matrix.proofs.lemmas.matrix.MatrixLemmas.{with_row-same}
+use Rattle.qr_matrix.proofs.lemmas.matrix.{GridLemmas.square-same, GridLemmas.colour-square, MatrixLemmas.with_row-same}
 use Rattle.qr_matrix.proofs.lemmas.bit_row.PlaceLemmas.{has-place, has_bit-or, word-step, has_bit-shl-low, has_bit-shl-high}
 
 -- bit j of a number b that is shifted up by s
 shl-bit : (b s j : ℕ) → has_bit (b * 2 ^ s) j ≡ (leb s j && has_bit b (j - s))
 shl-bit b s j = elim (cases_lt j s) [
-  | inl l ↦ (let t : leb s j ≡ false = grind (arith, nat_tests) in has_bit-shl-low b s j l ∙ sym (ap (λ z. z && has_bit b (j - s)) t))
+  | inl l ↦ (let t : leb s j ≡ false = grind (arith, nat_tests) in cc (has_bit-shl-low b s j l))
   | inr l ↦
       let e : s + (j - s) ≡ j = omega arith in
       let t : leb s j ≡ true = grind (arith, nat_tests) in
-      ap (has_bit (b * 2 ^ s)) (sym e) ∙ (has_bit-shl-high b s (j - s) ∙ sym (ap (λ z. z && has_bit b (j - s)) t))
+      cc (has_bit-shl-high b s (j - s))
 ]
 
 -- no bit from bit 4 on is set in a number below 16
@@ -58,10 +57,7 @@ four-set ws c k b bits l w h n f g few =
     let u : j - s ≡ p - c = omega arith in
     let q : p / 64 ≡ k = omega arith in
     let o : p % 64 ≡ j = omega arith in
-    let v : has_bit word j ≡ has ws p = sym (has-place ws p w (omega arith) ∙ (ap (λ z. has_bit (get_or ws z 0) (p % 64)) q ∙ ap (has_bit word) o)) in
-    let x : (leb s j && has_bit b (j - s)) ≡ (leb c p && has_bit bits (p - c)) = λ i. t i && has_bit (g i) (u i) in
-    ap (λ z. has_bit (bit_or word z) j) same ∙ (has_bit-or word (b * 2 ^ s) j
-    ∙ (ap (λ z. z || has_bit (b * 2 ^ s) j) v ∙ ap (λ z. has ws p || z) (shl-bit b s j ∙ (x ∙ four-bits c p bits few)))))
+    cc (has-place ws p w (omega arith), has_bit-or word (b * 2 ^ s) j, shl-bit b s j, four-bits c p bits few))
     (λ p q.
     let t : (leb c p && ltb p (c + 4)) ≡ false = grind (arith, nat_tests) in
     none (leb c p) (ltb p (c + 4)) (has_bit bits (p - c)) (has ws p) t)

@@ -5,8 +5,7 @@ use Rattle.std.proofs.lemmas.List.{get_or_past, get_or_read, get_or-replicate, l
 use Rattle.std.proofs.lemmas.Nat.Bits.{bit_at-zero}
 use Rattle.qr_matrix.specs.Grid.{Grid, square, colour, painted, with_row, with_rectangle, is_same}
 use Rattle.qr_matrix.specs.BitRow.{has, has_bit, bit_row_number, dark_in}
-use Rattle.qr_matrix.proofs.lemmas.bit_row.BoolLemmas.{and-false}
-use Rattle.qr_matrix.proofs.lemmas.runs.ColumnLemmas.{has-nothing}
+use Rattle.qr_matrix.proofs.lemmas.{bit_row.BoolLemmas.and-false, runs.ColumnLemmas.has-nothing}
 use Rattle.qr_matrix.proofs.lemmas.matrix.GridLemmas.{square-same, colour-square, colour-outside}
 
 -- a bit row without words has no bit that is set
@@ -111,17 +110,11 @@ columns-are left right c x a b f ea eb = cc (among left right c)
 
 -- bit p with the bit t added is dark where t is set
 pub filled-dark : (p t : Bool) → (p || t) ≡ cond t true p
-filled-dark true true = refl
-filled-dark true false = refl
-filled-dark false true = refl
-filled-dark false false = refl
+filled-dark p t = grind (arith, nat_tests)
 
 -- bit p without the bit t is light where t is set
 pub filled-light : (p t : Bool) → (p && not t) ≡ cond t false p
-filled-light true true = refl
-filled-light true false = refl
-filled-light false true = refl
-filled-light false false = refl
+filled-light p t = grind (arith, nat_tests)
 
 -- the grid that a matrix is seen as is the square of its own colours
 pub view-square : (s : ℕ) (rows : List (List ℕ)) (g : Grid) → square s (dark_in rows) ≡ g → g ≡ square g.side (colour g)

@@ -1,5 +1,5 @@
 -- The penalty from its parts.
-use Rattle.std.proofs.Common.{◌≡◌, ℕ, ◌+◌, ◌*◌, ◌/◌, Bool, ap, ◌∙◌, arith}
+use Rattle.std.proofs.Common.{◌≡◌, ℕ, ◌+◌, ◌*◌, ◌/◌, Bool}
 use Rattle.std.specs.Int.{abs_diff}
 use Rattle.qr_matrix.specs.Sums.{places_passing}
 use Rattle.qr_matrix.specs.Penalty.{run_cost, square_count, window_count, over_lines, dark_cost, penalty_of}
@@ -9,6 +9,4 @@ pub total-is : (s n a b w k d : ℕ) (dark : ℕ → ℕ → Bool) → n ≡ s *
     → d ≡ 10 * (abs_diff (20 * k) (10 * n) / n)
     → a + 3 * b + 40 * w + d ≡ penalty_of s dark
 unfolding penalty_of dark_cost
-total-is s n a b w k d dark en ea eb ew ek ed =
-    let e : d ≡ dark_cost s (places_passing s dark) = ed ∙ (ap (λ z. 10 * (abs_diff (20 * k) (10 * z) / z)) en ∙ ap (dark_cost s) ek) in
-    omega arith
+total-is s n a b w k d dark en ea eb ew ek ed = cc

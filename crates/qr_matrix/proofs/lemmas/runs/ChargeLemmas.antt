@@ -1,12 +1,10 @@
 -- The modules that cost a point for a run are as many as the points that the runs cost.
-use Rattle.std.proofs.Common.{◌≡◌, ℕ, zero, suc, ◌+◌, ◌-◌, ◌*◌, ◌<◌, ◌≤◌, List, ltb, Bool, true, false, not, ◌&&◌, ◌||◌, cond, refl, sym, ◌∙◌, true≢false, arith}
+use Rattle.std.proofs.Common.{◌≡◌, ℕ, zero, suc, ◌+◌, ◌-◌, ◌*◌, ◌<◌, ◌≤◌, List, ltb, Bool, true, false, not, ◌&&◌, ◌||◌, cond, refl, ◌∙◌, true≢false, arith}
 use Rattle.std.proofs.lemmas.Bool.Decides.{nat_tests}
-use Rattle.qr_matrix.specs.BitRow.{has}
-use Rattle.qr_matrix.specs.Sums.{count_below, sum_below}
+use Rattle.qr_matrix.specs.{BitRow.has, Sums.count_below, Sums.sum_below}
 use Rattle.qr_matrix.specs.Runs.{joins, begins_five, begins_long_run, place_cost}
 use Rattle.qr_matrix.specs.Steps.{is_charged, size_of}
-use Rattle.qr_matrix.proofs.lemmas.bit_row.BoolLemmas.{and-false}
-use Rattle.qr_matrix.proofs.lemmas.bit_row.SumLemmas.{sum_below-add, sum_below-scale}
+use Rattle.qr_matrix.proofs.lemmas.bit_row.{BoolLemmas.and-false, SumLemmas.sum_below-add, SumLemmas.sum_below-scale}
 use Rattle.qr_matrix.proofs.lemmas.runs.RowLemmas.{five-bit, five-past, size-is}
 
 -- five modules of one colour begin at the module before module c, and at the second module before it
@@ -19,16 +17,6 @@ two_before s line c = ltb 1 c && begins_five s line (c - 2)
 long-is : (s : ℕ) (line : ℕ → Bool) (c : ℕ) → begins_long_run s line c ≡ (begins_five s line c && not (one_before s line c))
 unfolding begins_long_run begins_five one_before
 long-is s line c = search arith
-
--- if five modules of one colour begin at the second module before module c, but not at the module before it, then they
--- do not begin at module c
-gap : (i j a b d e : Bool) → ((i && j) && (a && b)) ≡ true → ((j && a) && (b && d)) ≡ false → ((a && b) && (d && e)) ≡ false
-gap true true true true true e h k = absurd (true≢false k)
-gap true true true true false e h k = refl
-gap true true true false d e h k = absurd (true≢false (sym h))
-gap true true false b d e h k = absurd (true≢false (sym h))
-gap true false a b d e h k = absurd (true≢false (sym h))
-gap false j a b d e h k = absurd (true≢false (sym h))
 
 gap-is : (s : ℕ) (line : ℕ → Bool) (c : ℕ) → two_before s line c ≡ true → one_before s line c ≡ false → begins_five s line c ≡ false
 unfolding two_before one_before begins_five

@@ -1,15 +1,12 @@
 -- Bit operations on neighbouring rows compute the tests of all columns at once.
 use Rattle.std.proofs.Common.{◌≡◌, ℕ, ◌+◌, ◌-◌, ◌<◌, ◌≤◌, List, [], ◌∷◌, eqb, ltb, Bool, true, false, not, ◌&&◌, ◌||◌, cond, refl, ap, ◌∙◌, arith}
-use Rattle.std.proofs.lemmas.Bool.Decides.{nat_tests}
-use Rattle.std.proofs.lemmas.Nat.Bits.{bit_at-zero}
+use Rattle.std.proofs.lemmas.{Bool.Decides.nat_tests, Nat.Bits.bit_at-zero}
 use Rattle.qr_matrix.specs.BitRow.{has, has_bit, bit_row_number}
 use Rattle.qr_matrix.specs.Steps.{is_charged, row_share, size_of}
-use Rattle.qr_matrix.specs.Grid.{is_same}
-use Rattle.qr_matrix.specs.Sums.{count_below, sum_below}
+use Rattle.qr_matrix.specs.{Grid.is_same, Sums.count_below, Sums.sum_below}
 use Rattle.qr_matrix.specs.Runs.{joins, begins_five, place_cost}
 use Rattle.qr_matrix.proofs.lemmas.bit_row.SumLemmas.{count_below-same, count_below-cut, sum_below-same, sum_below-swap}
-use Rattle.qr_matrix.proofs.lemmas.runs.RowLemmas.{joins-past}
-use Rattle.qr_matrix.proofs.lemmas.runs.ChargeLemmas.{charged-cost}
+use Rattle.qr_matrix.proofs.lemmas.runs.{RowLemmas.joins-past, ChargeLemmas.charged-cost}
 use Rattle.qr_matrix.proofs.lemmas.bit_row.BoolLemmas.{and-false, not-not}
 
 -- the bit row of zeros has no bit set
@@ -48,11 +45,7 @@ five-down-bit s line c r x y z p q m n ex ey ez ep eq em en = search (arith, gua
 
 -- the guard u of three tests, of which the last two have the guards t and w too, is the guard of their disjunction
 guarded-three : (u t w f g h : Bool) → (((u && f) || (t && (u && g))) || (w && (u && h))) ≡ (u && ((f || (t && g)) || (w && h)))
-guarded-three true t w f g h = refl
-guarded-three false true true f g h = refl
-guarded-three false true false f g h = refl
-guarded-three false false true f g h = refl
-guarded-three false false false f g h = refl
+guarded-three u t w f g h = grind (arith, nat_tests)
 
 -- as many numbers below 192 pass the test t as numbers below s pass the test p, if t is p guarded by the test that a
 -- number is below s

@@ -1,11 +1,7 @@
 -- Bit operations on a bit row compute the tests of a row. A module is joined if the module after it has its colour.
 use Rattle.std.proofs.Common.{◌≡◌, ℕ, ◌+◌, ◌-◌, ◌<◌, ◌≤◌, List, ltb, Bool, false, not, ◌&&◌, arith}
 use Rattle.std.proofs.lemmas.Bool.Decides.{nat_tests}
-use Rattle.qr_matrix.specs.BitRow.{has}
-use Rattle.qr_matrix.specs.Steps.{size_of}
-use Rattle.qr_matrix.specs.Grid.{is_same}
-use Rattle.qr_matrix.specs.Sums.{count_below}
-use Rattle.qr_matrix.specs.Runs.{joins, begins_five}
+use Rattle.qr_matrix.specs.{BitRow.has, Steps.size_of, Grid.is_same, Sums.count_below, Runs.joins, Runs.begins_five}
 use Rattle.qr_matrix.proofs.lemmas.bit_row.SumLemmas.{count_below-cut}
 use Rattle.qr_matrix.proofs.lemmas.bit_row.BoolLemmas.{and-false, false-and, not-not}
 

@@ -3,13 +3,10 @@
 use Rattle.std.proofs.Common.{◌≡◌, ℕ, zero, suc, ◌+◌, ◌-◌, ◌*◌, ◌<◌, ◌≤◌, ◌⊎◌, inl, inr, eqb, ltb, leb, Bool, true, false, not, ◌&&◌, ◌||◌, cond, refl, sym, ap, ◌∙◌, arith}
 use Rattle.std.proofs.lemmas.Bool.{cases_lt}
 use Rattle.std.proofs.lemmas.Bool.Decides.{nat_tests}
-use Rattle.qr_matrix.specs.Grid.{is_same}
-use Rattle.qr_matrix.specs.Sums.{all_below, sum_below}
-use Rattle.qr_matrix.specs.Penalty.{is_run, run_cost}
+use Rattle.qr_matrix.specs.{Grid.is_same, Sums.all_below, Sums.sum_below, Penalty.is_run, Penalty.run_cost}
 use Rattle.qr_matrix.specs.Runs.{joins, begins_five, begins_long_run, place_cost}
 use Rattle.qr_matrix.proofs.lemmas.bit_row.SumLemmas.{sum_below-same, sum_below-add, sum_below-scale, sum_below-one}
-use Rattle.qr_matrix.proofs.lemmas.bit_row.BoolLemmas.{and-false}
-use Rattle.qr_matrix.proofs.lemmas.runs.RowLemmas.{joins-past}
+use Rattle.qr_matrix.proofs.lemmas.{bit_row.BoolLemmas.and-false, runs.RowLemmas.joins-past}
 
 -- each test b is true or false
 true_or_false : (b : Bool) → (b ≡ true) ⊎ (b ≡ false)
@@ -91,10 +88,7 @@ stretch-end s line (suc n) a e p = elim (true_or_false (joins s line a)) [
 ]
   where
     turn : (a b : Bool) → is_same a b ≡ is_same b a
-    turn true true = refl
-    turn true false = refl
-    turn false true = refl
-    turn false false = refl
+    turn a b = grind (arith, nat_tests)
 
 -- ---- the maximal run from a module on, if a run begins at this module
 
@@ -157,12 +151,7 @@ run_at s line a l =
     ∙ sum_below-one (s + 1) m (λ k. cond (leb 5 k && heads line a) (k - 2) 0) (omega arith)
   where
     turn : (u h e : Bool) (x : ℕ) → cond (u && (h && e)) x 0 ≡ cond e (cond (u && h) x 0) 0
-    turn true true true x = refl
-    turn true true false x = refl
-    turn true false true x = refl
-    turn true false false x = refl
-    turn false h true x = refl
-    turn false h false x = refl
+    turn u h e x = grind (arith, nat_tests)
 
 -- ---- module by module
 

@@ -1,14 +1,9 @@
 -- Bit operations on two rows compute the test of a square of two by two modules.
 use Rattle.std.proofs.Common.{◌≡◌, ℕ, ◌+◌, ◌≤◌, List, ltb, Bool, true, false, ◌&&◌, refl, sym, ap, ◌∙◌, subst, arith}
 use Rattle.std.proofs.lemmas.Bool.Decides.{nat_tests}
-use Rattle.qr_matrix.specs.BitRow.{has}
-use Rattle.qr_matrix.specs.Steps.{size_of}
-use Rattle.qr_matrix.specs.Grid.{is_same}
-use Rattle.qr_matrix.specs.Sums.{count_below}
-use Rattle.qr_matrix.specs.Penalty.{is_square_of_two}
+use Rattle.qr_matrix.specs.{BitRow.has, Steps.size_of, Grid.is_same, Sums.count_below, Penalty.is_square_of_two}
 use Rattle.qr_matrix.specs.Runs.{joins}
-use Rattle.qr_matrix.proofs.lemmas.runs.RowLemmas.{size-is}
-use Rattle.qr_matrix.proofs.lemmas.bit_row.BoolLemmas.{and-false}
+use Rattle.qr_matrix.proofs.lemmas.{runs.RowLemmas.size-is, bit_row.BoolLemmas.and-false}
 
 -- four modules p, q, m and n are equal exactly if p is joined to q in its row, and p to m and q to n in their columns
 square-bools : (t u w p q m n : Bool) → (t ≡ true → u ≡ true) → (((t && is_same p q) && (u && (w && is_same p m))) && (t && (w && is_same q n))) ≡ ((((w && t) && is_same p q) && is_same p m) && is_same p n)
@@ -17,38 +12,7 @@ square-bools false u false p q m n f = refl
 square-bools true u w p q m n f = subst (λ z. ((is_same p q && (z && (w && is_same p m))) && (w && is_same q n)) ≡ ((((w && true) && is_same p q) && is_same p m) && is_same p n)) (sym (f refl)) (all w p q m n)
   where
     all : (w p q m n : Bool) → ((is_same p q && (w && is_same p m)) && (w && is_same q n)) ≡ ((((w && true) && is_same p q) && is_same p m) && is_same p n)
-    all true true true true true = refl
-    all true true true true false = refl
-    all true true true false true = refl
-    all true true true false false = refl
-    all true true false true true = refl
-    all true true false true false = refl
-    all true true false false true = refl
-    all true true false false false = refl
-    all true false true true true = refl
-    all true false true true false = refl
-    all true false true false true = refl
-    all true false true false false = refl
-    all true false false true true = refl
-    all true false false true false = refl
-    all true false false false true = refl
-    all true false false false false = refl
-    all false true true true true = refl
-    all false true true true false = refl
-    all false true true false true = refl
-    all false true true false false = refl
-    all false true false true true = refl
-    all false true false true false = refl
-    all false true false false true = refl
-    all false true false false false = refl
-    all false false true true true = refl
-    all false false true true false = refl
-    all false false true false true = refl
-    all false false true false false = refl
-    all false false false true true = refl
-    all false false false true false = refl
-    all false false false false true = refl
-    all false false false false false = refl
+    all w p q m n = grind (arith, nat_tests)
 
 -- if bit x is set where a join in row r and joins in the columns c and c + 1 begin, then x is set exactly where a
 -- square of two by two modules of one colour begins

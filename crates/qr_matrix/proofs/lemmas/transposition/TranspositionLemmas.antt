@@ -10,8 +10,7 @@ use Rattle.std.proofs.lemmas.Bool.{cases_lt, cases_eq}
 use Rattle.std.proofs.lemmas.Bool.Decides.{nat_tests}
 use Rattle.qr_matrix.specs.BitRow.{has, has_bit}
 use Rattle.qr_matrix.specs.Grid.{is_same, Grid, square, colour, with_row, IsSquare}
-use Rattle.qr_matrix.specs.Sums.{all_below}
-use Rattle.qr_matrix.specs.Steps.{bit_in, exchanged}
+use Rattle.qr_matrix.specs.{Sums.all_below, Steps.bit_in, Steps.exchanged}
 use Rattle.qr_matrix.proofs.lemmas.bit_row.PlaceLemmas.{has-place, has_bit-and, has_bit-xor, has_bit-shr, word-step, has_bit-shl-low, has_bit-shl-high}
 use Rattle.qr_matrix.proofs.lemmas.matrix.GridLemmas.{square-same, colour-square}
 use Rattle.qr_matrix.proofs.lemmas.bit_row.RepeatLemmas.{below-at, same-same}
@@ -39,28 +38,14 @@ has_bit-word n c l = cc (bit_at_cat_low (n / 2 ^ 64) 64 (n % 2 ^ 64) c l, shr_sp
 
 -- if b is changed where it differs from a and the mask m is set, then the result is a where m is set, and b elsewhere
 changed : (a b m : Bool) → not (is_same b (not (is_same a b) && m)) ≡ cond m a b
-changed true true true = refl
-changed true true false = refl
-changed true false true = refl
-changed true false false = refl
-changed false true true = refl
-changed false true false = refl
-changed false false true = refl
-changed false false false = refl
+changed a b m = grind (arith, nat_tests)
 
 -- a bit that is changed where it differs from another and a mask lets it
 replaced : (n b m t : Bool) → m ≡ t → not (is_same n (not (is_same n b) && m)) ≡ cond t b n
 replaced n b m t e = search arith
   where
     told : (n b t : Bool) → not (is_same n (not (is_same n b) && t)) ≡ cond t b n
-    told true true true = refl
-    told true true false = refl
-    told true false true = refl
-    told true false false = refl
-    told false true true = refl
-    told false true false = refl
-    told false false true = refl
-    told false false false = refl
+    told n b t = grind (arith, nat_tests)
 
 -- after the exchange of the words u and l, bit c of the upper word is bit c of u in the left part, and bit c - s of l in
 -- the right part; the mask m contains the columns of the left parts
@@ -301,9 +286,7 @@ pub chosen-row : (g : Grid) (row : ℕ) (t x : ℕ → Bool) (f : ℕ → ℕ �
 chosen-row g row t x f e = search (arith, square-same, nat_tests)
   where
     told : (a b x y z w : Bool) → (a ≡ true → x ≡ y) → (a ≡ true → z ≡ w) → cond a (cond b x z) w ≡ cond (a && b) y w
-    told true true x y z w h k = h refl
-    told true false x y z w h k = k refl
-    told false b x y z w h k = refl
+    told a b x y z w h k = grind (arith, nat_tests)
 
 -- no row r is in the first 0 rows of a band
 pub row-none : (band r : ℕ) (q : Bool) → ((eqb (r / 64) band && ltb r (64 * band + 0)) && q) ≡ false

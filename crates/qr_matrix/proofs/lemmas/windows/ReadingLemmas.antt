@@ -1,5 +1,5 @@
 -- The tests of the ratio 1:1:3:1:1 and of four light modules, made on whole bit rows at once.
-use Rattle.std.proofs.Common.{◌≡◌, ℕ, suc, ◌+◌, ◌<◌, ◌≤◌, List, [], ◌∷◌, ◌++◌, length, ltb, leb, Bool, true, false, not, ◌&&◌, ◌||◌, inl, inr, refl, sym, ap, ◌∙◌, arith}
+use Rattle.std.proofs.Common.{◌≡◌, ℕ, suc, ◌+◌, ◌<◌, ◌≤◌, List, [], ◌∷◌, ◌++◌, length, ltb, leb, Bool, true, false, not, ◌&&◌, ◌||◌, inl, inr, sym, ap, ◌∙◌, arith}
 use Rattle.std.proofs.Math.Bool.{and_assoc}
 use Rattle.std.proofs.lemmas.Bool.{cases_lt}
 use Rattle.std.proofs.lemmas.Bool.Decides.{nat_tests}
@@ -12,8 +12,7 @@ reads-append : (line : ℕ → Bool) (c : ℕ) (xs ys : List Bool) → reads lin
 reads-append line c [] ys = let e : c ≡ c + 0 = omega arith in ap (λ k. reads line k ys) e
 reads-append line c (x ∷ xs) ys =
     let e : c + 1 + length xs ≡ c + suc (length xs) = omega arith in
-    ap (λ z. is_same (line c) x && z) (reads-append line (c + 1) xs ys ∙ ap (λ k. reads line (c + 1) xs && reads line k ys) e)
-    ∙ sym (and_assoc (is_same (line c) x) (reads line (c + 1) xs) (reads line (c + suc (length xs)) ys))
+    cc (reads-append line (c + 1) xs ys, and_assoc (is_same (line c) x) (reads line (c + 1) xs) (reads line (c + suc (length xs)) ys))
 
 -- a window is the ratio and four light modules after or before it
 pub window-is : (s : ℕ) (line : ℕ → Bool) (c : ℕ)
@@ -34,15 +33,7 @@ ratio-read u line c =
   where
     tests : (u a b d e f g h : Bool) → (((((((u && a) && not b) && d) && e) && f) && not g) && h)
         ≡ (u && (is_same a true && (is_same b false && (is_same d true && (is_same e true && (is_same f true && (is_same g false && (is_same h true && true))))))))
-    tests false a b d e f g h = refl
-    tests true false b d e f g h = refl
-    tests true true true d e f g h = refl
-    tests true true false false e f g h = refl
-    tests true true false true false f g h = refl
-    tests true true false true true false g h = refl
-    tests true true false true true true true h = refl
-    tests true true false true true true false true = refl
-    tests true true false true true true false false = refl
+    tests u a b d e f g h = grind (arith, nat_tests)
 
 -- the tests of four light modules
 four-read : (line : ℕ → Bool) (c : ℕ) → ((not (line c) && not (line (c + 1))) && (not (line (c + 2)) && not (line (c + 3)))) ≡ reads line c four_light
@@ -52,22 +43,14 @@ four-read line c =
     rw (e2, e3) (tests (line c) (line (c + 1)) (line (c + 2)) (line (c + 3)))
   where
     tests : (a b d e : Bool) → ((not a && not b) && (not d && not e)) ≡ (is_same a false && (is_same b false && (is_same d false && (is_same e false && true))))
-    tests true b d e = refl
-    tests false true d e = refl
-    tests false false true e = refl
-    tests false false false true = refl
-    tests false false false false = refl
+    tests a b d e = grind (arith, nat_tests)
 
 -- one of four modules is dark unless all are light
 pub dark-read : (line : ℕ → Bool) (c : ℕ) → (((line c || line (c + 1)) || line (c + 2)) || line (c + 3)) ≡ not (reads line c four_light)
 dark-read line c = tests (line c) (line (c + 1)) (line (c + 2)) (line (c + 3)) ∙ ap not (four-read line c)
   where
     tests : (a b d e : Bool) → (((a || b) || d) || e) ≡ not ((not a && not b) && (not d && not e))
-    tests true b d e = refl
-    tests false true d e = refl
-    tests false false true e = refl
-    tests false false false true = refl
-    tests false false false false = refl
+    tests a b d e = grind (arith, nat_tests)
 
 -- ---- the windows of a row
 

@@ -1,15 +1,11 @@
 -- The windows of rows and columns, found and counted on bit rows.
 use Rattle.std.proofs.Common.{◌≡◌, ℕ, ◌+◌, ◌<◌, ◌≤◌, List, ltb, leb, Bool, true, false, not, ◌&&◌, ◌||◌, cond, refl, sym, ap, ◌∙◌, arith}
 use Rattle.std.proofs.lemmas.Bool.Decides.{nat_tests}
-use Rattle.qr_matrix.specs.BitRow.{has}
-use Rattle.qr_matrix.specs.Steps.{size_of}
-use Rattle.qr_matrix.specs.Sums.{count_below, sum_below}
+use Rattle.qr_matrix.specs.{BitRow.has, Steps.size_of, Sums.count_below, Sums.sum_below}
 use Rattle.qr_matrix.specs.Penalty.{finder_ratio, four_light, reads, is_window, window_count}
-use Rattle.qr_matrix.proofs.lemmas.bit_row.SumLemmas.{sum_below-swap}
-use Rattle.qr_matrix.proofs.lemmas.runs.RowLemmas.{size-is}
+use Rattle.qr_matrix.proofs.lemmas.{bit_row.SumLemmas.sum_below-swap, runs.RowLemmas.size-is}
 use Rattle.qr_matrix.proofs.lemmas.bit_row.BoolLemmas.{and-false, false-and}
-use Rattle.qr_matrix.proofs.lemmas.runs.ColumnLemmas.{guarded-size}
-use Rattle.qr_matrix.proofs.lemmas.windows.ReadingLemmas.{window-is}
+use Rattle.qr_matrix.proofs.lemmas.{runs.ColumnLemmas.guarded-size, windows.ReadingLemmas.window-is}
 
 -- in a row, the tests of the ratio before and after four light modules find the windows
 pub window-bit : (s : ℕ) (line core four : ℕ → Bool) (c : ℕ) → ((m : ℕ) → core m ≡ (leb (m + 7) s && reads line m finder_ratio))
@@ -20,7 +16,7 @@ window-bit s line core four c cores fours =
     let first : leb (c + 11) s ≡ true → leb (c + 7) s ≡ true = λ e. grind (arith, nat_tests) in
     let second : leb (c + 11) s ≡ true → leb (c + 4) s ≡ true = λ e. grind (arith, nat_tests) in
     (λ i. (cores c i && fours (c + 7) i) || (fours c i && cores (c + 4) i))
-    ∙ (λ i. ((leb (c + 7) s && reads line c finder_ratio) && (seven i && reads line (c + 7) four_light)) || ((leb (c + 4) s && reads line c four_light) && (four_more i && reads line (c + 4) finder_ratio)))
+    ∙ (cc)
     ∙ common (leb (c + 11) s) (leb (c + 7) s) (leb (c + 4) s) (reads line c finder_ratio) (reads line (c + 7) four_light) (reads line c four_light) (reads line (c + 4) finder_ratio) first second
     ∙ sym (window-is s line c)
   where
@@ -52,15 +48,7 @@ window-down-bit s line r u h =
     ∙ ap (λ z. u && z) (sym (window-is s line r))
   where
     common : (u a b d e : Bool) → (((u && a) && not (not b)) || ((u && d) && not (not e))) ≡ (u && ((a && b) || (e && d)))
-    common false a b d e = refl
-    common true a true true true = refl
-    common true a true true false = refl
-    common true a true false true = refl
-    common true a true false false = refl
-    common true a false true true = refl
-    common true a false true false = refl
-    common true a false false true = refl
-    common true a false false false = refl
+    common u a b d e = grind (arith, nat_tests)
 
 -- if at most ten rows are left from row r on, then no window of column c begins in row r, and a bit x that is not set
 -- agrees with this

@@ -1,8 +1,5 @@
 use Rattle.std.proofs.Common.{◌≡◌, ℕ, ◌+◌, ◌-◌, ◌*◌, ◌≤◌, ◌&&◌, ltb}
-use Rattle.qr_matrix.specs.Grid.{colour}
-use Rattle.qr_matrix.specs.BitRow.{has}
-use Rattle.qr_matrix.specs.Sums.{count_below, sum_below}
-use Rattle.qr_matrix.specs.Penalty.{is_square_of_two}
+use Rattle.qr_matrix.specs.{Grid.colour, BitRow.has, Sums.count_below, Sums.sum_below, Penalty.is_square_of_two}
 use Rattle.qr_matrix.specs.Runs.{begins_five, joins, place_cost}
 use Rattle.qr_matrix.specs.Steps.{row_share}
 use Rattle.qr_matrix.proofs.runs.runs_and_squares.Given as goal

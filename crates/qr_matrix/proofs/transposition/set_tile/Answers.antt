@@ -1,7 +1,5 @@
 use Rattle.std.proofs.Common.{◌≡◌, ◌+◌, ◌*◌, ◌/◌, ◌%◌, ◌&&◌, ◌∙◌, eqb, ltb, get_or, sym, ap, refl, arith}
-use Rattle.qr_matrix.specs.Grid.{Grid, colour}
-use Rattle.qr_matrix.specs.BitRow.{has_bit}
-use Rattle.qr_matrix.specs.Steps.{bit_in}
+use Rattle.qr_matrix.specs.{Grid.Grid, Grid.colour, BitRow.has_bit, Steps.bit_in}
 use Rattle.qr_matrix.proofs.lemmas.transposition.TranspositionLemmas.{chosen-none, chosen-row, chosen-more, chosen-same, row-none, row-more, row-all}
 use Rattle.qr_matrix.proofs.transposition.set_tile.Goals as goal
 

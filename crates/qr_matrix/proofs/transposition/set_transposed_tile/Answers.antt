@@ -1,6 +1,5 @@
 use Rattle.std.proofs.Common.{ℕ, ◌/◌, ◌%◌, ◌&&◌, ◌∙◌, eqb, refl, arith}
-use Rattle.qr_matrix.specs.Grid.{colour}
-use Rattle.qr_matrix.specs.Steps.{bit_in}
+use Rattle.qr_matrix.specs.{Grid.colour, Steps.bit_in}
 use Rattle.qr_matrix.proofs.lemmas.transposition.TranspositionLemmas.{chosen-same, tile-bit, tile-past}
 use Rattle.qr_matrix.proofs.transposition.set_transposed_tile.Goals as goal
 

@@ -1,6 +1,5 @@
 use Rattle.std.proofs.Common.{◌≡◌, ℕ, ◌+◌, ◌*◌, ◌<◌, ◌≤◌, length, get_or}
-use Rattle.qr_matrix.specs.Grid.{colour}
-use Rattle.qr_matrix.specs.BitRow.{has_bit}
+use Rattle.qr_matrix.specs.{Grid.colour, BitRow.has_bit}
 use Rattle.qr_matrix.proofs.transposition.tile_of.Given as goal
 
 abbrev pub invariant-loop-row : goal.invariant-loop-row

@@ -1,7 +1,5 @@
 use Rattle.std.proofs.Common.{◌≡◌, ◌*◌, ◌≤◌}
-use Rattle.qr_matrix.specs.Grid.{colour}
-use Rattle.qr_matrix.specs.Sums.{count_below, sum_below}
-use Rattle.qr_matrix.specs.Penalty.{is_window, window_count}
+use Rattle.qr_matrix.specs.{Grid.colour, Sums.count_below, Sums.sum_below, Penalty.is_window, Penalty.window_count}
 use Rattle.qr_matrix.proofs.windows.window_count.Given as goal
 
 abbrev pub invariant-loop-row : goal.invariant-loop-row

@@ -1,8 +1,7 @@
 use Rattle.std.proofs.Common.{◌*◌, ◌/◌, ◌%◌, ◌^◌, get_or, refl, ap, ◌∙◌, arith}
 use Rattle.std.proofs.lemmas.Nat.{or_lt}
 use Rattle.qr_matrix.specs.BitRow.{has, has_bit, bit_row_number}
-use Rattle.qr_matrix.proofs.lemmas.bit_row.WordLemmas.{three-up}
-use Rattle.qr_matrix.proofs.lemmas.bit_row.PlaceLemmas.{has_bit-up}
+use Rattle.qr_matrix.proofs.lemmas.bit_row.{WordLemmas.three-up, PlaceLemmas.has_bit-up}
 use Rattle.qr_matrix.proofs.bit_row.BitRow.shifted_right.Goals as goal
 
 pub returns : goal.returns

@@ -1,6 +1,5 @@
 use Rattle.std.proofs.Common.{Bool, ◌&&◌, cond, leb, ltb, ap, ◌∙◌, arith}
-use Rattle.qr_matrix.specs.Grid.{colour}
-use Rattle.qr_matrix.specs.BitRow.{has}
+use Rattle.qr_matrix.specs.{Grid.colour, BitRow.has}
 use Rattle.qr_matrix.proofs.lemmas.matrix.MatrixLemmas.{columns-are, rectangle-none, rectangle-row, view-square, with_row-same}
 use Rattle.qr_matrix.proofs.matrix.Matrix.fill.Goals as goal
 

@@ -1,7 +1,6 @@
 use Rattle.std.proofs.Common.{set, refl, ap, ◌∙◌, arith}
 use Rattle.std.proofs.Math.ListN.{length-set}
-use Rattle.qr_matrix.specs.Grid.{Grid}
-use Rattle.qr_matrix.specs.BitRow.{has}
+use Rattle.qr_matrix.specs.{Grid.Grid, BitRow.has}
 use Rattle.qr_matrix.proofs.lemmas.matrix.MatrixLemmas.{line-set, line-inside, line-write}
 use Rattle.qr_matrix.proofs.matrix.Matrix.set_bit_row.Goals as goal
 
