@@ -1,4 +1,4 @@
--- What the struct of a mended square contains, and which statuses a mended square cannot have.
+-- What the struct of a mended square contains.
 use Rattle.std.proofs.Common.{◌≡◌, ℕ, ◌*◌, ◌<◌, ◌≤◌, List, ◌++◌, drop, length, take, sym, ◌∙◌, ap, subst, arith}
 use Rattle.std.specs.List.{All}
 use Rattle.std.proofs.lemmas.List.Elements.{All-weaker}
@@ -30,14 +30,6 @@ no-other modules side a o = let w = o.one in let low = a.each w.0 w.1 w.2 in ome
 -- numbers that are at most t are at most 15, if t is at most 15
 pub few-changes : (x : List ℕ) (t : ℕ) → t ≤ 15 → All (λ n. n ≤ t) x → All (λ n. n ≤ 15) x
 few-changes x t most few = All-weaker (λ n. n ≤ t) (λ n. n ≤ 15) (λ n h. omega arith) x few
-
--- a square that is mended has no fault except lack of memory
-abbrev pub MendedExclude : Type 0
-MendedExclude = (u : Grid) (g : Grid) (v : ℕ) (l : Level) (m : ℕ) (p : Content) (x : List ℕ) (e : ReadFault) → IsMendedReading u g v l m p x → IsUnmended u g e → e ≡ unread.Memory
-
--- so it is refused for no other fault
-pub not-unmended : (u : Grid) (g : Grid) (v : ℕ) (l : Level) (m : ℕ) (p : Content) (x : List ℕ) (e : ReadFault) → MendedExclude → IsMendedReading u g v l m p x → IsUnmended u g e → (e ≡ unread.Memory → ⊥) → ⊥
-not-unmended u g v l m p x e law r f known = known (law u g v l m p x e r f)
 
 -- the reading, stated with the version, the level and the mask that are in the struct
 read-told : (u : Grid) (g : Grid) (v w : ℕ) (l k : Level) (m n : ℕ) (p : Content) (x : List ℕ) → w ≡ v → k ≡ l → n ≡ m → IsMendedReading u g v l m p x → IsMendedReading u g w k n p x
