@@ -1,5 +1,5 @@
 -- A command line and an input have at most one drawing and at most one reason to be refused, and not both.
-use Rattle.std.proofs.Common.{◌≡◌, ◌≤◌, ◌∙◌, ◌&&◌, ◌==◌, inl, inr, ℕ, Bool, true, false, cond, leb, List, [], length, Option, Some, None, unwrap_or, codes, Result, Ok, Err, refl, ap, sym, subst, arith}
+use Rattle.std.proofs.Common.{◌≡◌, ◌<◌, ◌≤◌, ◌∙◌, ◌&&◌, ◌==◌, inl, inr, ℕ, suc, Bool, true, false, cond, leb, List, [], length, Option, Some, None, unwrap_or, codes, Result, Ok, Err, refl, ap, sym, subst, arith}
 use Rattle.std.specs.Option.{is_none, option_map_or}
 use Rattle.std.specs.Prelude.{option_and_then}
 use borrow.Author.Tests.{leb-true}
@@ -63,8 +63,42 @@ not-too-many s input squares (inl (structured, symbols, series, e)) many = no-se
     no-series x v ss (inl a) b = b.too_long a.fits
     no-series x v ss (inr a) b = let m = a.many in let n = b.too_many a.parts a.split in absurd (omega arith)
 
+-- a number for why a command line has no settings, or 0 if it has settings
+class_of : Result SettingsView Reason → ℕ
+class_of (Ok s) = 0
+class_of (Err refused_by_clap) = 1
+class_of (Err unknown_level) = 2
+class_of (Err unknown_type) = 3
+class_of (Err needs_version) = 4
+
+-- the number of such a reason less 1
+index_of : UsageFault → ℕ
+index_of (usage.Words text) = 0
+index_of usage.Level = 1
+index_of usage.Kind = 2
+index_of usage.NeedsVersion = 3
+index_of usage.Memory = 4
+
+-- the number of the reason that a refusal names; 0 if it is about the input, and 5 if it is no refusal
+class_told : Fault → ℕ
+class_told (fault.Usage u) = suc (index_of u)
+class_told (fault.Encode e) = 0
+class_told _ = 5
+
+-- a correct refusal names the reason why the command line has no settings
+class-is : (words : List Text) (given : List ℕ) (r : Fault) → IsRefusal words given r → (class_of (settings_for words) ≡ class_told r) × (class_told r < 5)
+unfolding class_of class_told index_of
+class-is words given (fault.Usage usage.Memory) h = elim h [ ]
+class-is words given (fault.Encode encode.Memory) h = elim h [ ]
+class-is words given fault.Read h = elim h [ ]
+class-is words given fault.Memory h = elim h [ ]
+class-is words given fault.Write h = elim h [ ]
+class-is words given (fault.Usage u) h = (ap class_of h, omega arith)
+class-is words given (fault.Encode e) h = (ap class_of h.taken, omega arith)
+
 -- a command line and an input that have a drawing are not refused
 pub refusals-exclude : RefusalsExcludeDrawings
+unfolding class_of class_told index_of
 refusals-exclude words given d (fault.Encode encode.Empty) a h =
     let same = settings-one words h.settings a.settings h.taken a.taken in
     let none : held a.settings (input_for a.settings given) ≡ [] = subst (λ (s : SettingsView). held s (input_for s given) ≡ []) same h.holds in
@@ -77,15 +111,8 @@ refusals-exclude words given d (fault.Encode encode.TooLong) a h =
 refusals-exclude words given d (fault.Encode encode.TooMany) a h =
     let same = settings-one words h.settings a.settings h.taken a.taken in
     not-too-many a.settings (held a.settings (input_for a.settings given)) a.holds.squares a.holds.symbols (subst (λ (s : SettingsView). IsTooMany s (held s (input_for s given))) same h.holds)
-refusals-exclude words given d (fault.Usage usage.Memory) a h = elim h [ ]
 refusals-exclude words given d (fault.Encode encode.Memory) a h = elim h [ ]
-refusals-exclude words given d fault.Read a h = elim h [ ]
-refusals-exclude words given d fault.Memory a h = elim h [ ]
-refusals-exclude words given d fault.Write a h = elim h [ ]
-refusals-exclude words given d (fault.Usage (usage.Words text)) a h = let e : Ok a.settings ≡ Err _ = sym a.taken ∙ h in cc
-refusals-exclude words given d (fault.Usage usage.Level) a h = let e : Ok a.settings ≡ Err _ = sym a.taken ∙ h in cc
-refusals-exclude words given d (fault.Usage usage.Kind) a h = let e : Ok a.settings ≡ Err _ = sym a.taken ∙ h in cc
-refusals-exclude words given d (fault.Usage usage.NeedsVersion) a h = let e : Ok a.settings ≡ Err _ = sym a.taken ∙ h in cc
+refusals-exclude words given d r a h = let w = class-is words given r h in absurd (omega (arith, ap class_of a.taken, w.0, w.1))
 
 -- ---- one reason
 
@@ -139,66 +166,17 @@ empty-not-many s input none many =
 long-not-many : (s : SettingsView) (x y : List ℕ) → IsTooLong s x → IsTooMany s y → ⊥
 long-not-many s x y long many = let e : true ≡ false = sym many.0 ∙ long.0 in cc
 
--- a number for why a command line has no settings, or 0 if it has settings
-class_of : Result SettingsView Reason → ℕ
-class_of (Ok s) = 0
-class_of (Err refused_by_clap) = 1
-class_of (Err unknown_level) = 2
-class_of (Err unknown_type) = 3
-class_of (Err needs_version) = 4
-
--- the number of the reason that a refusal names, or 0 if it is about the input
-class_told : Fault → ℕ
-class_told (fault.Usage (usage.Words text)) = 1
-class_told (fault.Usage usage.Level) = 2
-class_told (fault.Usage usage.Kind) = 3
-class_told (fault.Usage usage.NeedsVersion) = 4
-class_told _ = 0
-
--- a correct refusal names the reason why the command line has no settings
-class-is : (words : List Text) (given : List ℕ) (r : Fault) → IsRefusal words given r → class_of (settings_for words) ≡ class_told r
-unfolding class_of class_told
-class-is words given (fault.Usage usage.Memory) h = elim h [ ]
-class-is words given (fault.Encode encode.Memory) h = elim h [ ]
-class-is words given fault.Read h = elim h [ ]
-class-is words given fault.Memory h = elim h [ ]
-class-is words given fault.Write h = elim h [ ]
-class-is words given (fault.Usage (usage.Words text)) h = ap class_of h
-class-is words given (fault.Usage usage.Level) h = ap class_of h
-class-is words given (fault.Usage usage.Kind) h = ap class_of h
-class-is words given (fault.Usage usage.NeedsVersion) h = ap class_of h
-class-is words given (fault.Encode encode.Empty) h = ap class_of h.taken
-class-is words given (fault.Encode encode.TooLong) h = ap class_of h.taken
-class-is words given (fault.Encode encode.TooMany) h = ap class_of h.taken
-
 -- two refusals of an input are about the same settings
 because-one : (words : List Text) (given : List ℕ) (P Q : SettingsView → List ℕ → Type 0) → HasRefusal words given P → HasRefusal words given Q
     → (s : SettingsView) × (settings_for words ≡ Ok s) × P s (held s (input_for s given)) × Q s (held s (input_for s given))
 because-one words given P Q h k =
     (k.settings, k.taken, subst (λ (s : SettingsView). P s (held s (input_for s given))) (settings-one words h.settings k.settings h.taken k.taken) h.holds, k.holds)
 
--- a refused input has settings, and a refused command line has none
-settings-or-none : (words : List Text) (given : List ℕ) (e : EncodeFault) (u : UsageFault) → IsRefusal words given (fault.Encode e) → IsRefusal words given (fault.Usage u) → ⊥
-unfolding class_told
-settings-or-none words given encode.Memory u h k = elim h [ ]
-settings-or-none words given e usage.Memory h k = elim k [ ]
-settings-or-none words given e u h k = let same = sym (class-is words given (fault.Encode e) h) ∙ class-is words given (fault.Usage u) k in omega (arith, same)
-
 -- for a command line and an input at most one refusal is correct
 pub refusals-one : RefusalsAreOne
-unfolding class_told
-refusals-one words given (fault.Usage usage.Memory) q h k = elim h [ ]
+unfolding class_told index_of
 refusals-one words given (fault.Encode encode.Memory) q h k = elim h [ ]
-refusals-one words given fault.Read q h k = elim h [ ]
-refusals-one words given fault.Memory q h k = elim h [ ]
-refusals-one words given fault.Write q h k = elim h [ ]
-refusals-one words given r (fault.Usage usage.Memory) h k = elim k [ ]
 refusals-one words given r (fault.Encode encode.Memory) h k = elim k [ ]
-refusals-one words given r fault.Read h k = elim k [ ]
-refusals-one words given r fault.Memory h k = elim k [ ]
-refusals-one words given r fault.Write h k = elim k [ ]
-refusals-one words given (fault.Encode e) (fault.Usage u) h k = absurd (settings-or-none words given e u h k)
-refusals-one words given (fault.Usage u) (fault.Encode e) h k = absurd (settings-or-none words given e u k h)
 refusals-one words given (fault.Usage (usage.Words text)) (fault.Usage (usage.Words other)) h k = tt
 refusals-one words given (fault.Usage usage.Level) (fault.Usage usage.Level) h k = refl
 refusals-one words given (fault.Usage usage.Kind) (fault.Usage usage.Kind) h k = refl
@@ -212,4 +190,7 @@ refusals-one words given (fault.Encode encode.Empty) (fault.Encode encode.TooMan
 refusals-one words given (fault.Encode encode.TooMany) (fault.Encode encode.Empty) h k = let w = because-one words given IsTooMany (λ s x. x ≡ []) h k in absurd (empty-not-many w.0 _ w.3 w.2)
 refusals-one words given (fault.Encode encode.TooLong) (fault.Encode encode.TooMany) h k = let w = because-one words given IsTooLong IsTooMany h k in absurd (long-not-many w.0 _ _ w.2 w.3)
 refusals-one words given (fault.Encode encode.TooMany) (fault.Encode encode.TooLong) h k = let w = because-one words given IsTooMany IsTooLong h k in absurd (long-not-many w.0 _ _ w.3 w.2)
-refusals-one words given r q h k = let e : class_told r ≡ class_told q = sym (class-is words given r h) ∙ class-is words given q k in absurd (omega (arith, e))
+refusals-one words given r q h k =
+    let v = class-is words given r h in
+    let w = class-is words given q k in
+    absurd (omega (arith, v.0, v.1, w.0, w.1))
