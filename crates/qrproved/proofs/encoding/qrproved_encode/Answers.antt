@@ -2,9 +2,7 @@ use Rattle.std.proofs.Common.{◌≡◌, ◌≢◌, ◌↔◌, ℕ, ◌*◌, Err
 use Rattle.qr_layout.specs.Version.{side_of}
 use Rattle.qr_matrix.specs.Grid.{Grid}
 use Rattle.qr_symbol.specs.declared.fault.EncodeFault.TheVariants as fault
-use Rattle.qr_symbol.specs.Encoding.{IsSymbol}
-use Rattle.qr_symbol.specs.VersionChoice.{HasNoVersion}
-use Rattle.qr_symbol.specs.Reading.{IsReadBack}
+use Rattle.qr_symbol.specs.{Encoding.IsSymbol, VersionChoice.HasNoVersion, Reading.IsReadBack}
 use Rattle.qrproved.specs.declared.settings.Settings.{Settings}
 use Rattle.qrproved.specs.Settings.{AreSettings, level_of, rule_of}
 use Rattle.qrproved.specs.Encoding.{HasNoRoom}

@@ -1,12 +1,11 @@
 -- What the statuses mean for a square that is refused, and for one that is read. `At f` says that the square has the
 -- fault f.
-use Rattle.std.proofs.Common.{◌≡◌, ◌≢◌, ◌↔◌, ◌⊎◌, ℕ, ◌<◌, ◌≤◌, Option, None, Some, MatchOption, refl, sym, ◌∙◌, ap, subst, inl, inr, arith}
+use Rattle.std.proofs.Common.{◌≡◌, ◌≢◌, ◌↔◌, ◌⊎◌, ℕ, ◌<◌, ◌≤◌, Option, None, Some, MatchOption, sym, ◌∙◌, ap, subst, inl, inr, arith}
 use Rattle.qr_bits.specs.declared.fault.ParseFault.{ParseFault}
 use Rattle.qr_symbol.specs.declared.fault.ReadFault.{ReadFault}
 use Rattle.qr_symbol.specs.declared.fault.ReadFault.TheVariants as unread
 use Rattle.qr_layout.specs.Version.{side_of}
-use Rattle.qrproved.specs.Reading.{IsSide}
-use Rattle.qrproved.specs.Steps.Status.{read_status}
+use Rattle.qrproved.specs.{Reading.IsSide, Steps.Status.read_status}
 
 -- the version that has this side
 pub version-of : (o : Option ℕ) (n side : ℕ) → n ≡ side
@@ -73,24 +72,14 @@ refused At f one never u =
 -- a square that is read has no fault except lack of memory
 pub read : (At : ReadFault → Type 0) (status : ℕ) → status < 8 → ((e : ReadFault) → At e → e ≡ unread.Memory)
     → TellsFaults At status
-read At status small none = record {
-  format = (λ h. absurd (omega arith), λ w. absurd (let e = none unread.Format w.1 in cc));
-  check = (λ h. absurd (omega arith), λ w. absurd (let e = none unread.Check w.1 in cc));
-  segments = (λ h. absurd (omega arith), λ w. absurd (let e = none (unread.Segments w.1.0) w.1.1 in cc));
-}
+read At status small none = search arith
 
 -- ---- the statuses of the side and of the buffers
 
 pub side-status : (At : ReadFault → Type 0) (f : ReadFault) (P : Type 0) → P → At f → (At unread.Side → P → ⊥)
     → (read_status f ≡ 7) ↔ (P → ⊥)
-side-status At f P p u apart = (λ h. absurd (apart (subst At ((has-status f).side h) u) p), λ none. absurd (none p))
+side-status At f P p u apart = search (arith, has-status)
 
 pub room-status : (f : ReadFault) (P Q R : Type 0) → (Q → ⊥) → (R → f ≡ unread.Memory)
     → (read_status f ≡ 6) ↔ (P × (Q ⊎ ((read_status f ≢ 4) × R)))
-room-status f P Q R none read = (
-  λ h. absurd ((has-status f).room h),
-  λ w. elim w.1 [
-    | inl q ↦ absurd (none q)
-    | inr r ↦ absurd (r.0 ((has-status f).memory (read r.1)))
-  ],
-)
+room-status f P Q R none read = search (arith, has-status, read)

@@ -1,11 +1,8 @@
 use Rattle.std.proofs.Common.{◌≡◌, ℕ, ◌*◌, ◌<◌, ◌∙◌, length, ap, inl, inr, refl, arith, sym}
 use Rattle.qr_bits.specs.Parsing.{Content}
 use Rattle.qr_mending.specs.declared.mending.Mended.{Mended}
-use Rattle.qr_mending.specs.Mending.{IsMendedReading}
-use Rattle.qr_mending.specs.Message.{tolerance_of}
-use Rattle.qrproved.specs.Modules.{square_of_bytes}
-use Rattle.qrproved.specs.Reading.{IsSide}
-use Rattle.qrproved.specs.Steps.Status.{read_status}
+use Rattle.qr_mending.specs.{Mending.IsMendedReading, Message.tolerance_of}
+use Rattle.qrproved.specs.{Modules.square_of_bytes, Reading.IsSide, Steps.Status.read_status}
 use Rattle.qrproved.specs.Mending.{square_of_unknown, AreModules, HasMoreMendedBytes, IsUnmendedAt}
 use Rattle.qrproved.proofs.lemmas.reading.ReadingLemmas.{TellsFaults, refused, read, side-status, room-status}
 use Rattle.qrproved.proofs.lemmas.mending.MendingLemmas.{all-modules, few-changes, given-mended, more-bytes, no-other}
