@@ -1,2 +1,2 @@
--- What the statuses mean for a square that is refused.
+-- What the statuses mean for a square that is refused, and for one that is read.
 pub mod ReadingLemmas

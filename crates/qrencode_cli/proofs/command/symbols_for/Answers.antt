@@ -3,9 +3,7 @@ use Rattle.std.proofs.lemmas.Result.{err_from_is_err_and}
 use Rattle.qr_symbol.specs.declared.fault.EncodeFault.{EncodeFault}
 use Rattle.qr_symbol.specs.declared.fault.EncodeFault.TheVariants.{Empty}
 use Rattle.qr_symbol.specs.VersionChoice.{HasNoVersion}
-use Rattle.qrencode_cli.specs.Settings.{SettingsView, rule_for}
-use Rattle.qrencode_cli.specs.Symbols.{smallest_of}
-use Rattle.qrencode_cli.specs.Steps.Command.{AreDrawnFor}
+use Rattle.qrencode_cli.specs.{Settings.SettingsView, Settings.rule_for, Symbols.smallest_of, Steps.Command.AreDrawnFor}
 use Rattle.qrencode_cli.proofs.lemmas.command.AskingLemmas.{drawn-for-one, drawn-for-series, told-one}
 use Rattle.qrencode_cli.proofs.command.symbols_for.Goals as goal
 

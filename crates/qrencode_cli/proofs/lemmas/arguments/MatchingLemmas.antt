@@ -1,10 +1,9 @@
 -- From what `clap` states about a command line to the matches of this command.
-use Rattle.std.proofs.Common.{◌≡◌, ◌==◌, ◌∙◌, cond, length, Bool, false, List, [], Err, true, refl, ap, inl, inr}
-use Rattle.std.proofs.lemmas.Bool.{eqb-true}
-use Rattle.std.proofs.lemmas.List.{nil_from_length}
-use Rattle.clap.specs.Words.{HasKind, IsAmong, Kinds, fault_of, found_of, is_simple_and_free, kind_of}
+use Rattle.std.proofs.Common.{arith, ◌≡◌, ◌==◌, cond, length, Bool, false, List, [], Err, true, refl, ap}
+use Rattle.std.proofs.lemmas.{Bool.eqb-true, List.nil_from_length}
+use Rattle.clap.specs.Words.{HasKind, Kinds, fault_of, found_of, is_simple_and_free, kind_of}
 use Rattle.clap.specs.Walk.{Text, rows_of}
-use Rattle.clap.specs.Simple.{App, HasMatchesOf, is_simple, matches_of}
+use Rattle.clap.specs.Simple.{App, HasMatchesOf, is_simple}
 use Rattle.clap.specs.declared.error.Error.{Error}
 use Rattle.clap.specs.declared.error.kind.ErrorKind.TheVariants as kind
 use Rattle.clap.specs.declared.parser.matches.ArgMatches.{ArgMatches}
@@ -25,10 +24,10 @@ faults_are a words e = ap (λ x. fault_of x words) e
 
 pub rows_are : (a : App) (words : List Text) (m : ArgMatches) → a ≡ command → HasMatchesOf a words m → rows_of (found_of m) ≡ rows_for words
 unfolding rows_for
-rows_are a words m e h = (h (ap is_simple e ∙ is_simple-command)).0 ∙ ap (λ x. matches_of x words) e
+rows_are a words m e h = search (arith, is_simple-command)
 
 pub kinds_not_empty : (kinds : Kinds) (e : Error) → (kind_of e ≡ kind.OutOfMemory → ⊥) → HasKind kinds e → kinds ≡ [] → ⊥
-kinds_not_empty kinds e other h none = elim h [ inl memory ↦ other memory | inr among ↦ let no : IsAmong (kind_of e) [] = rw none at among in no ]
+kinds_not_empty kinds e other h none = search arith
 
 -- a command line for which `clap` states a fault has no settings
 pub refused_words : (words : List Text) → (faults_for words ≡ [] → ⊥) → settings_for words ≡ Err refused_by_clap

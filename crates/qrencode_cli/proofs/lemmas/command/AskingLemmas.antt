@@ -1,7 +1,6 @@
 -- The drawing that a command line and an input ask for, or the fault that occurs before any byte is written.
-use Rattle.std.proofs.Common.{◌≡◌, ◌∙◌, ◌≤◌, ℕ, true, false, List, [], ◌∷◌, take, Option, None, Some, Result, Ok, Err, MatchResult, refl, sym, subst, min, length, append-nil, arith, inl, inr, ◌⊎◌}
-use Rattle.std.proofs.lemmas.Bool.{cases_lt}
-use Rattle.std.proofs.lemmas.List.{take_min}
+use Rattle.std.proofs.Common.{◌≡◌, ◌∙◌, ◌≤◌, ℕ, true, false, List, [], ◌∷◌, take, Option, None, Some, Result, Ok, Err, MatchResult, refl, sym, min, length, append-nil, arith, inl, inr, ◌⊎◌}
+use Rattle.std.proofs.lemmas.{Bool.cases_lt, List.take_min}
 use Rattle.std.specs.List.{All}
 use Rattle.std.proofs.lemmas.List.Elements.{All-cons, All-head, All-nil}
 use Rattle.qr_drawing.specs.Drawing.{HaveOneSide}
@@ -14,18 +13,14 @@ use Rattle.qr_symbol.specs.declared.fault.EncodeFault.{EncodeFault}
 use Rattle.qr_symbol.specs.declared.fault.EncodeFault.TheVariants as encode
 use Rattle.qr_symbol.specs.declared.symbol.Symbol.{Symbol}
 use Rattle.qr_matrix.specs.Grid.{Grid}
-use Rattle.qr_symbol.specs.Joining.{AreReadBy, IsJoined}
-use Rattle.qr_symbol.specs.Reading.{IsReadBack}
-use Rattle.qr_symbol.specs.Series.{IsSeries, squares_of}
+use Rattle.qr_symbol.specs.{Joining.AreReadBy, Joining.IsJoined, Reading.IsReadBack, Series.IsSeries, Series.squares_of}
 use Rattle.qr_symbol.proofs.Facts.{long-has-no-series, series-few, series-side, series-some}
 use Rattle.qrencode_cli.specs.Command.{AllRead, HasDrawing, IsDrawing, ReadsInput, IsFault, held, input_for}
 use Rattle.qr_devices.specs.Device.{Reader}
-use Rattle.qrencode_cli.specs.Steps.Fault.{fault_of_input, fault_of_words}
-use Rattle.qrencode_cli.specs.Input.{IsInputOf}
+use Rattle.qrencode_cli.specs.{Steps.Fault.fault_of_input, Steps.Fault.fault_of_words, Input.IsInputOf}
 use Rattle.qrencode_cli.specs.Settings.{IsUsageFault, Reason, SettingsView, rule_for, settings_for}
 use Rattle.qrencode_cli.specs.Steps.Command.{AreDrawnFor, IsEarly, IsInputFault, Prepares, drawing_of_job}
-use Rattle.qr_symbol.specs.Encoding.{IsSymbol}
-use Rattle.qr_symbol.specs.VersionChoice.{HasNoVersion}
+use Rattle.qr_symbol.specs.{Encoding.IsSymbol, VersionChoice.HasNoVersion}
 use Rattle.qr_bits.proofs.Facts.{fitting_short}
 use Rattle.std.proofs.lemmas.Grind.{common_steps}
 use Rattle.qrencode_cli.specs.Symbols.{smallest_of}
@@ -43,9 +38,7 @@ any_input (Some xs) = (take INPUT_MAX xs, refl)
 -- if the command line contains a string, the input is this string, cut after `INPUT_MAX` bytes
 pub input_for-string : (s : SettingsView) (text given buf : List ℕ) (n : ℕ) → s.string ≡ Some text → buf ≡ text → n ≡ min INPUT_MAX (length buf)
     → input_for s given ≡ take n buf
-input_for-string s text given buf n e is cut =
-    let whole : take n buf ≡ take INPUT_MAX text = rw (cut, is) (take_min INPUT_MAX text) in
-    rw e (sym whole)
+input_for-string s text given buf n e is cut = cc (take_min INPUT_MAX text)
 
 -- if the command line contains no string, the input is what the reader returned
 pub input_for-reader : (s : SettingsView) (given : List ℕ) → s.string ≡ None → input_for s given ≡ given
@@ -65,16 +58,14 @@ unfolding AreReadBy
 joined-one input v b g h = record {
   contents = record { header = None; segments = h.0; bytes = input } ∷ [];
   read = (h.2, tt);
-  together = inl (record { header = None; segments = h.0; bytes = input }, refl, refl);
+  together = search arith;
   joined = sym (append-nil input);
 }
 
 -- squares that all have this side are of one side
 one-side : (squares : List Grid) (side : ℕ) → All (λ g. g.side ≡ side) squares → HaveOneSide squares
 one-side [] side h = All-nil (λ k. k.side ≡ 0)
-one-side (g ∷ gs) side h =
-    let e : g.side ≡ side = All-head (λ k. k.side ≡ side) g gs h in
-    subst (λ (n : ℕ). All (λ k. k.side ≡ n) (g ∷ gs)) (sym e) h
+one-side (g ∷ gs) side h = omega (arith, All-head)
 
 -- if a single symbol is asked for, the symbol of the input is what the settings ask for
 pub drawn-for-one : (s : SettingsView) (rule : Rule) (input : List ℕ) (version : ℕ) (symbol : Symbol) (symbols : List Symbol) → s.structured ≡ false → 1 ≤ version
@@ -84,13 +75,13 @@ drawn-for-one s rule input version symbol symbols one least e same some made rea
     let from = made.version.least in
     let few : length input ≤ 7089 = fitting_short symbol.version s.level rule input (omega arith) made.version.most made.version.fits in
     rw alone (record {
-      asked = inr (one, symbol.version, symbol.mask, symbol.matrix, rw (← e, ← same) made, refl);
+      asked = search arith;
       joined = joined-one input symbol.version rule symbol.matrix read;
       nonempty = grind (arith, common_steps);
       short = omega arith;
       some = omega arith;
       few = omega arith;
-      one_side = All-cons (λ g. g.side ≡ symbol.matrix.side) symbol.matrix [] refl (All-nil (λ g. g.side ≡ symbol.matrix.side));
+      one_side = search (arith, All-cons, All-nil);
     })
 
 -- if a single symbol is asked for, a fault of `encode` is a correct reason why the input has no drawing
@@ -99,7 +90,7 @@ pub told-one : (s : SettingsView) (input : List ℕ) (e : EncodeFault) → s.str
     → (e ≡ encode.Empty) ⊎ ((e ≡ encode.TooLong) ⊎ (e ≡ encode.Memory)) → IsInputFault s input (fault_of_input e)
 told-one s input encode.Empty one empty long only = empty refl
 told-one s input encode.TooLong one empty long only = (one, long refl)
-told-one s input encode.TooMany one empty long only = elim only [ inl e ↦ absurd (cc) | inr w ↦ elim w [ inl e ↦ absurd (cc) | inr e ↦ absurd (cc) ] ]
+told-one s input encode.TooMany one empty long only = search arith
 told-one s input encode.Memory one empty long only = tt
 
 -- if a series is asked for, the series of the input is what the settings ask for
@@ -112,7 +103,7 @@ drawn-for-series s rule input version symbols many least most e same some series
   nonempty = grind (arith, common_steps);
   short = elim (cases_lt (length input) INPUT_MAX) [
     | inl i ↦ i
-    | inr i ↦ absurd (long-has-no-series input s.level rule version symbols least most (omega arith) series)
+    | inr i ↦ search (arith, long-has-no-series)
   ];
   some = series-some input s.level rule version symbols series;
   few = series-few input s.level rule version symbols series;
@@ -123,12 +114,7 @@ drawn-for-series s rule input version symbols many least most e same some series
 refused : (words : List Text) (in0 : Reader) (why : Reason) (u : UsageFault) → settings_for words ≡ Err why
     → (settings_for words ≡ Err why → IsFault words (any_input in0.remaining).0 (fault.Usage u))
     → Prepares words in0 in0 (Err (fault.Usage u))
-refused words in0 why u e is = let i = any_input in0.remaining in record {
-  given = i.0;
-  is_input = i.1;
-  reads = record { unread = λ n. refl; read = λ i. absurd (let h : Ok i.settings ≡ Err why = sym i.taken ∙ e in cc) };
-  answer = (is e, tt);
-}
+refused words in0 why u e is = let i = any_input in0.remaining in search arith
 
 -- every fault of the command line is a correct result
 pub prepares-usage : (words : List Text) (in0 : Reader) (u : UsageFault) → IsUsageFault (settings_for words) u

@@ -1,5 +1,5 @@
 -- The parts of a run make a correct run.
-use Rattle.std.proofs.Common.{inl, inr, ◌≤◌, arith, ◌≡◌, ◌∙◌, ℕ, List, [], Option, Result, Ok, Err, OnOk, OnErr, IfErr, is_err, true, false, refl, sym, append-nil, length}
+use Rattle.std.proofs.Common.{◌≤◌, arith, ◌≡◌, ℕ, List, [], Option, Result, Ok, Err, OnOk, OnErr, IfErr, is_err, true, refl, append-nil, length}
 use Rattle.std.specs.Io.KnownBytes.{Appends}
 use Rattle.clap.specs.Walk.{Text}
 use Rattle.qrencode_cli.specs.Command.{DrawnInPart, DrawnWhole, ErrorHolds, InputConsumed, OutputHolds}
@@ -14,29 +14,14 @@ use Rattle.qr_drawing.specs.declared.pen.DrawFault.{DrawFault}
 -- writing a drawing reads nothing more from the reader
 reads-on : (words : List Text) (in0 in1 : Reader) (given : List ℕ) (p : DrawingJob) (r : Result (Unit {0}) Fault)
     → InputConsumed {T = DrawingJob} words in0 in1 given (Ok p) → InputConsumed words in0 in1 given r
-reads-on words in0 in1 given p r h = record {
-  unread = h.unread;
-  read = λ i. elim (h.read i) [ inl a ↦ inl a | inr (inl e) ↦ absurd cc | inr (inr e) ↦ absurd cc ];
-}
+reads-on words in0 in1 given p r h = search arith
 
 -- the case that the drawing was written, or the writer was at fault
 pub attempts-shown : (words : List Text) (in0 in1 : Reader) (out0 out1 : Writer) (p : DrawingJob) → Prepares words in0 in1 (Ok p)
     → (r : Result (Unit {0}) Fault) → OnOk r (DrawnWhole true out0 out1 (drawing_of_job p))
     → IfErr r (λ f. (f ≡ fault.Write) × DrawnInPart out0 out1 (drawing_of_job p)) → Attempts words in0 in1 out0 out1 r
-attempts-shown words in0 in1 out0 out1 p h (Ok t) ok err = record {
-  given = h.given;
-  is_input = h.is_input;
-  is_fault = tt;
-  shows = (drawing_of_job p, h.answer, ok);
-  reads = reads-on words in0 in1 h.given p (Ok t) h.reads;
-}
-attempts-shown words in0 in1 out0 out1 p h (Err f) ok (e, b) = rw e (record {
-  given = h.given;
-  is_input = h.is_input;
-  is_fault = (drawing_of_job p, h.answer);
-  shows = (drawing_of_job p, h.answer, b);
-  reads = reads-on words in0 in1 h.given p (Err fault.Write) h.reads;
-})
+attempts-shown words in0 in1 out0 out1 p h (Ok t) ok err = search (arith, reads-on)
+attempts-shown words in0 in1 out0 out1 p h (Err f) ok (e, b) = rw e (search (arith, reads-on))
 
 -- a fault before the first byte is written leaves the writer as it was
 shows-nothing : (words : List Text) (given : List ℕ) (out0 : Writer) (f : Fault) → IsEarly f → OutputHolds words given out0 out0 {T = Unit {0}} (Err f)
@@ -46,25 +31,12 @@ shows-nothing words given out0 _ h = refl
 -- what was done to the reader is the same if a fault's result has another type
 reads-fault : (words : List Text) (in0 in1 : Reader) (given : List ℕ) (f : Fault)
     → InputConsumed {T = DrawingJob} words in0 in1 given (Err f) → InputConsumed {T = Unit {0}} words in0 in1 given (Err f)
-reads-fault words in0 in1 given f h = record {
-  unread = h.unread;
-  read = λ i. elim (h.read i) [
-    | inl a ↦ inl a
-    | inr (inl e) ↦ let same : f ≡ fault.Read = cc in inr (inl cc)
-    | inr (inr e) ↦ let same : f ≡ fault.Memory = cc in inr (inr cc)
-  ];
-}
+reads-fault words in0 in1 given f h = search arith
 
 -- a run without a drawing job
 pub attempts-refused : (words : List Text) (in0 in1 : Reader) (out0 : Writer) (f : Fault) → Prepares words in0 in1 (Err f)
     → Attempts words in0 in1 out0 out0 (Err f)
-attempts-refused words in0 in1 out0 f h = record {
-  given = h.given;
-  is_input = h.is_input;
-  is_fault = h.answer.0;
-  shows = shows-nothing words h.given out0 f h.answer.1;
-  reads = reads-fault words in0 in1 h.given f h.reads;
-}
+attempts-refused words in0 in1 out0 f h = search (arith, shows-nothing, reads-fault)
 
 -- a whole text is a prefix of itself
 begins-all : (old new : Option (List ℕ)) (text : List ℕ) → Appends old new text → AppendsBeginning old new text
@@ -77,5 +49,5 @@ pub tells-fault : (old new : Writer) (f : Fault) (slice : List ℕ) → slice �
     → (old.counts ≡ no_writes → OnOk r (new.counts.taken ≡ counted (length slice)))
     → (old.counts ≡ no_writes → OnErr r (new.counts.taken ≤ counted (length slice))) → new.counts.flushes ≡ old.counts.flushes
     → ErrorHolds old new (fault_line f)
-tells-fault old new f slice is (Ok t) ok err well many most flushes = rw (← is) (begins-all old.taken new.taken slice ok, λ z. let m = many z in omega arith, λ z w. ok, λ z w. many z, flushes)
-tells-fault old new f slice is (Err e) ok err well many most flushes = rw (← is) (err, λ z. most z, λ z w. let bad : true ≡ false = sym (well z) ∙ w in cc, λ z w. let bad : true ≡ false = sym (well z) ∙ w in cc, flushes)
+tells-fault old new f slice is (Ok t) ok err well many most flushes = search (arith, begins-all)
+tells-fault old new f slice is (Err e) ok err well many most flushes = search arith

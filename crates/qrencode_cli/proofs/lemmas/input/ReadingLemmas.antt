@@ -1,5 +1,5 @@
 -- The invariant of the loop that reads the input.
-use Rattle.std.proofs.Common.{◌≡◌, ◌+◌, ◌<◌, ◌≤◌, ◌++◌, ◌∙◌, ℕ, List, [], length, take, Option, Some, None, arith, sym, ap, refl, append-nil}
+use Rattle.std.proofs.Common.{◌≡◌, ◌+◌, ◌<◌, ◌≤◌, ◌++◌, ◌∙◌, ℕ, List, [], length, take, Option, Some, None, arith, ap, refl, append-nil}
 use Rattle.std.proofs.lemmas.List.{take_all}
 use Rattle.std.proofs.Math.Seq.{take-append_seam}
 use Rattle.qr_bits.specs.declared.modes.TheConstants.{INPUT_MAX}
@@ -30,8 +30,7 @@ IsInputOf-full None b bytes p low high = tt
 IsInputOf-full (Some x) None bytes p low high = absurd p
 IsInputOf-full (Some x) (Some y) bytes p low high =
     let len : length bytes ≡ INPUT_MAX = omega arith in
-    let all : take (length bytes) x ≡ bytes = rw p (take-append_seam bytes y) in
-    sym all ∙ ap (λ n. take n x) len
+    cc (take-append_seam bytes y)
 
 -- all bytes up to the end of the device are the input
 pub IsInputOf-end : (a b c : Option (List ℕ)) (bytes buf : List ℕ) (n : ℕ) → Consumes a b bytes → length bytes ≤ INPUT_MAX
@@ -42,5 +41,4 @@ IsInputOf-end (Some x) (Some y) None bytes buf n p h (q, end) zero room = absurd
 IsInputOf-end (Some x) (Some y) (Some z) bytes buf n p h (q, end) zero room =
     let none : take n buf ≡ [] = rw zero refl in
     let last : y ≡ [] = q ∙ ap (λ l. l ++ z) none ∙ end zero room in
-    let whole : x ≡ bytes = p ∙ ap (λ l. bytes ++ l) last ∙ append-nil bytes in
-    sym (ap (λ l. take INPUT_MAX l) whole ∙ take_all INPUT_MAX bytes h)
+    cc (append-nil bytes, take_all INPUT_MAX bytes h)

@@ -1,24 +1,19 @@
 -- A command line and an input have at most one drawing and at most one reason to be refused, and not both.
-use Rattle.std.proofs.Common.{◌≡◌, ◌≤◌, ◌∙◌, ◌&&◌, ◌==◌, inl, inr, ℕ, Bool, true, false, cond, leb, List, [], length, Option, Some, None, unwrap_or, codes, Result, Ok, Err, refl, ap, sym, subst, arith}
-use Rattle.std.specs.Option.{is_none, option_map_or}
-use Rattle.std.specs.Prelude.{option_and_then}
+use Rattle.std.proofs.Common.{◌≡◌, ◌<◌, ◌≤◌, ◌∙◌, ◌&&◌, ◌==◌, inl, inr, ℕ, suc, Bool, true, false, cond, leb, List, [], length, Option, Some, None, unwrap_or, codes, Result, Ok, Err, refl, ap, sym, subst, arith}
+use Rattle.std.specs.{Option.option_map_or, Prelude.option_and_then}
 use borrow.Author.Tests.{leb-true}
-use Rattle.clap.specs.Words.{first_of, one_of}
-use Rattle.clap.specs.Walk.{Row, Text}
+use Rattle.clap.specs.{Words.first_of, Words.one_of, Walk.Row, Walk.Text}
 use Rattle.qr_layout.specs.declared.level.Level.{Level}
 use Rattle.qr_layout.specs.declared.level.Level.TheVariants as level
 use Rattle.qr_bits.proofs.Facts.{empty_fits}
 use Rattle.qr_matrix.specs.Grid.{Grid}
-use Rattle.qr_symbol.specs.Series.{HasNoSeries, IsSeries, squares_of}
-use Rattle.qr_symbol.specs.VersionChoice.{FitsVersion}
+use Rattle.qr_symbol.specs.{Series.HasNoSeries, Series.IsSeries, VersionChoice.FitsVersion}
 use Rattle.qr_symbol.proofs.Facts.{series-one, symbol-one}
 use Rattle.qrencode_cli.specs.Command.{HasRefusal, IsDrawing, IsRefusal, held, input_for}
 use Rattle.qrencode_cli.specs.Laws.{AnswersAreOne, RefusalsAreOne, RefusalsExcludeDrawings}
 use Rattle.qrencode_cli.specs.Arguments.{faults_for, rows_for}
-use Rattle.qr_drawing.specs.Drawing.{drawn}
 use Rattle.qrencode_cli.specs.Settings.{Reason, SettingsView, checked_series, drawing_named, level_named, needs_version, number_or, refused_by_clap, rule_for, settings_for, settings_of, settings_with, unknown_level, unknown_type}
 use Rattle.qr_drawing.specs.declared.drawing.Drawing.{Drawing}
-use Rattle.qr_symbol.specs.declared.fault.EncodeFault.{EncodeFault}
 use Rattle.qr_symbol.specs.declared.fault.EncodeFault.TheVariants as encode
 use Rattle.qrencode_cli.specs.declared.settings.UsageFault.{UsageFault}
 use Rattle.qrencode_cli.specs.declared.fault.Fault.{Fault}
@@ -32,7 +27,7 @@ settings-one words s t a b = let e : Ok s ≡ Ok t = sym a ∙ b in cc
 
 -- the settings ask for at most one list of squares
 squares-one : (s : SettingsView) (input : List ℕ) (g h : List Grid) → AreSymbols s input g → AreSymbols s input h → g ≡ h
-squares-one s input g h (inl (a, ss, m, e)) (inl (b, ts, n, f)) = e ∙ ap squares_of (series-one input s.level (rule_for s) (smallest_of s) ss ts m n) ∙ sym f
+squares-one s input g h (inl (a, ss, m, e)) (inl (b, ts, n, f)) = cc (series-one input s.level (rule_for s) (smallest_of s) ss ts m n)
 squares-one s input g h (inr (a, v, mask, square, m, e)) (inr (b, w, other, grid, n, f)) =
     let same = symbol-one input s.level (smallest_of s) (rule_for s) _ _ _ _ square grid m n in
     let k = same.2 in cc
@@ -41,8 +36,7 @@ squares-one s input g h (inr a) (inl b) = let e : true ≡ false = sym b.0 ∙ a
 
 -- and so for at most one drawing
 drawing-one : (s : SettingsView) (input d e : List ℕ) → IsDrawing s input d → IsDrawing s input e → d ≡ e
-drawing-one s input d e a b =
-    a.is_drawn ∙ ap (drawn s.kind s.margin) (squares-one s input a.squares b.squares a.symbols b.symbols) ∙ sym b.is_drawn
+drawing-one s input d e a b = cc (squares-one s input a.squares b.squares a.symbols b.symbols)
 
 pub answers-one : AnswersAreOne
 answers-one words given d e a b =
@@ -63,29 +57,49 @@ not-too-many s input squares (inl (structured, symbols, series, e)) many = no-se
     no-series x v ss (inl a) b = b.too_long a.fits
     no-series x v ss (inr a) b = let m = a.many in let n = b.too_many a.parts a.split in absurd (omega arith)
 
+-- a number for why a command line has no settings, or 0 if it has settings
+class_of : Result SettingsView Reason → ℕ
+class_of (Ok s) = 0
+class_of (Err refused_by_clap) = 1
+class_of (Err unknown_level) = 2
+class_of (Err unknown_type) = 3
+class_of (Err needs_version) = 4
+
+-- the number of such a reason less 1
+index_of : UsageFault → ℕ
+index_of (usage.Words text) = 0
+index_of usage.Level = 1
+index_of usage.Kind = 2
+index_of usage.NeedsVersion = 3
+index_of usage.Memory = 4
+
+-- the number of the reason that a refusal names; 0 if it is about the input, and 5 if it is no refusal
+class_told : Fault → ℕ
+class_told (fault.Usage u) = suc (index_of u)
+class_told (fault.Encode e) = 0
+class_told _ = 5
+
+-- a correct refusal names the reason why the command line has no settings
+class-is : (words : List Text) (given : List ℕ) (r : Fault) → IsRefusal words given r → (class_of (settings_for words) ≡ class_told r) × (class_told r < 5)
+unfolding class_of class_told index_of
+class-is words given (fault.Usage usage.Memory) h = elim h [ ]
+class-is words given (fault.Encode encode.Memory) h = elim h [ ]
+class-is words given fault.Read h = elim h [ ]
+class-is words given fault.Memory h = elim h [ ]
+class-is words given fault.Write h = elim h [ ]
+class-is words given (fault.Usage u) h = (ap class_of h, omega arith)
+class-is words given (fault.Encode e) h = (ap class_of h.taken, omega arith)
+
 -- a command line and an input that have a drawing are not refused
 pub refusals-exclude : RefusalsExcludeDrawings
-refusals-exclude words given d (fault.Encode encode.Empty) a h =
-    let same = settings-one words h.settings a.settings h.taken a.taken in
-    let none : held a.settings (input_for a.settings given) ≡ [] = subst (λ (s : SettingsView). held s (input_for s given) ≡ []) same h.holds in
-    let some = a.holds.some in
-    let len = ap length none in
-    omega arith
+unfolding class_of class_told index_of
+refusals-exclude words given d (fault.Encode encode.Empty) a h = search (arith, settings-one)
 refusals-exclude words given d (fault.Encode encode.TooLong) a h =
     let same = settings-one words h.settings a.settings h.taken a.taken in
     not-too-long a.settings (held a.settings (input_for a.settings given)) a.holds.squares a.holds.symbols (subst (λ (s : SettingsView). IsTooLong s (held s (input_for s given))) same h.holds)
-refusals-exclude words given d (fault.Encode encode.TooMany) a h =
-    let same = settings-one words h.settings a.settings h.taken a.taken in
-    not-too-many a.settings (held a.settings (input_for a.settings given)) a.holds.squares a.holds.symbols (subst (λ (s : SettingsView). IsTooMany s (held s (input_for s given))) same h.holds)
-refusals-exclude words given d (fault.Usage usage.Memory) a h = elim h [ ]
+refusals-exclude words given d (fault.Encode encode.TooMany) a h = search (arith, settings-one, not-too-many)
 refusals-exclude words given d (fault.Encode encode.Memory) a h = elim h [ ]
-refusals-exclude words given d fault.Read a h = elim h [ ]
-refusals-exclude words given d fault.Memory a h = elim h [ ]
-refusals-exclude words given d fault.Write a h = elim h [ ]
-refusals-exclude words given d (fault.Usage (usage.Words text)) a h = let e : Ok a.settings ≡ Err _ = sym a.taken ∙ h in cc
-refusals-exclude words given d (fault.Usage usage.Level) a h = let e : Ok a.settings ≡ Err _ = sym a.taken ∙ h in cc
-refusals-exclude words given d (fault.Usage usage.Kind) a h = let e : Ok a.settings ≡ Err _ = sym a.taken ∙ h in cc
-refusals-exclude words given d (fault.Usage usage.NeedsVersion) a h = let e : Ok a.settings ≡ Err _ = sym a.taken ∙ h in cc
+refusals-exclude words given d r a h = search (arith, class-is, class_of)
 
 -- ---- one reason
 
@@ -103,7 +117,7 @@ checked-have : (P : SettingsView → Type 0) (l : Option Level) (k : Option Draw
     → (s : SettingsView) → option_map_or (λ l. option_map_or (λ k. checked_series (f l k)) k (Err unknown_type)) l (Err unknown_level) ≡ Ok s → P s
 checked-have P None k f h s e = absurd (err-ok unknown_level s e)
 checked-have P (Some l) None f h s e = absurd (err-ok unknown_type s e)
-checked-have P (Some l) (Some k) f h s e = subst P (series-checked ((f l k).structured && is_none (f l k).smallest) (f l k) s e) (h l k)
+checked-have P (Some l) (Some k) f h s e = search (arith, series-checked)
 
 -- a property of all settings with a level and a type holds of the settings of a command line
 taken-have : (P : SettingsView → Type 0) (well : Bool) (rows : List Row) → ((l : Level) (k : Drawing) → P (settings_with rows l k))
@@ -139,66 +153,16 @@ empty-not-many s input none many =
 long-not-many : (s : SettingsView) (x y : List ℕ) → IsTooLong s x → IsTooMany s y → ⊥
 long-not-many s x y long many = let e : true ≡ false = sym many.0 ∙ long.0 in cc
 
--- a number for why a command line has no settings, or 0 if it has settings
-class_of : Result SettingsView Reason → ℕ
-class_of (Ok s) = 0
-class_of (Err refused_by_clap) = 1
-class_of (Err unknown_level) = 2
-class_of (Err unknown_type) = 3
-class_of (Err needs_version) = 4
-
--- the number of the reason that a refusal names, or 0 if it is about the input
-class_told : Fault → ℕ
-class_told (fault.Usage (usage.Words text)) = 1
-class_told (fault.Usage usage.Level) = 2
-class_told (fault.Usage usage.Kind) = 3
-class_told (fault.Usage usage.NeedsVersion) = 4
-class_told _ = 0
-
--- a correct refusal names the reason why the command line has no settings
-class-is : (words : List Text) (given : List ℕ) (r : Fault) → IsRefusal words given r → class_of (settings_for words) ≡ class_told r
-unfolding class_of class_told
-class-is words given (fault.Usage usage.Memory) h = elim h [ ]
-class-is words given (fault.Encode encode.Memory) h = elim h [ ]
-class-is words given fault.Read h = elim h [ ]
-class-is words given fault.Memory h = elim h [ ]
-class-is words given fault.Write h = elim h [ ]
-class-is words given (fault.Usage (usage.Words text)) h = ap class_of h
-class-is words given (fault.Usage usage.Level) h = ap class_of h
-class-is words given (fault.Usage usage.Kind) h = ap class_of h
-class-is words given (fault.Usage usage.NeedsVersion) h = ap class_of h
-class-is words given (fault.Encode encode.Empty) h = ap class_of h.taken
-class-is words given (fault.Encode encode.TooLong) h = ap class_of h.taken
-class-is words given (fault.Encode encode.TooMany) h = ap class_of h.taken
-
 -- two refusals of an input are about the same settings
 because-one : (words : List Text) (given : List ℕ) (P Q : SettingsView → List ℕ → Type 0) → HasRefusal words given P → HasRefusal words given Q
     → (s : SettingsView) × (settings_for words ≡ Ok s) × P s (held s (input_for s given)) × Q s (held s (input_for s given))
-because-one words given P Q h k =
-    (k.settings, k.taken, subst (λ (s : SettingsView). P s (held s (input_for s given))) (settings-one words h.settings k.settings h.taken k.taken) h.holds, k.holds)
-
--- a refused input has settings, and a refused command line has none
-settings-or-none : (words : List Text) (given : List ℕ) (e : EncodeFault) (u : UsageFault) → IsRefusal words given (fault.Encode e) → IsRefusal words given (fault.Usage u) → ⊥
-unfolding class_told
-settings-or-none words given encode.Memory u h k = elim h [ ]
-settings-or-none words given e usage.Memory h k = elim k [ ]
-settings-or-none words given e u h k = let same = sym (class-is words given (fault.Encode e) h) ∙ class-is words given (fault.Usage u) k in omega (arith, same)
+because-one words given P Q h k = search (arith, settings-one)
 
 -- for a command line and an input at most one refusal is correct
 pub refusals-one : RefusalsAreOne
-unfolding class_told
-refusals-one words given (fault.Usage usage.Memory) q h k = elim h [ ]
+unfolding class_told index_of
 refusals-one words given (fault.Encode encode.Memory) q h k = elim h [ ]
-refusals-one words given fault.Read q h k = elim h [ ]
-refusals-one words given fault.Memory q h k = elim h [ ]
-refusals-one words given fault.Write q h k = elim h [ ]
-refusals-one words given r (fault.Usage usage.Memory) h k = elim k [ ]
 refusals-one words given r (fault.Encode encode.Memory) h k = elim k [ ]
-refusals-one words given r fault.Read h k = elim k [ ]
-refusals-one words given r fault.Memory h k = elim k [ ]
-refusals-one words given r fault.Write h k = elim k [ ]
-refusals-one words given (fault.Encode e) (fault.Usage u) h k = absurd (settings-or-none words given e u h k)
-refusals-one words given (fault.Usage u) (fault.Encode e) h k = absurd (settings-or-none words given e u k h)
 refusals-one words given (fault.Usage (usage.Words text)) (fault.Usage (usage.Words other)) h k = tt
 refusals-one words given (fault.Usage usage.Level) (fault.Usage usage.Level) h k = refl
 refusals-one words given (fault.Usage usage.Kind) (fault.Usage usage.Kind) h k = refl
@@ -208,8 +172,8 @@ refusals-one words given (fault.Encode encode.TooLong) (fault.Encode encode.TooL
 refusals-one words given (fault.Encode encode.TooMany) (fault.Encode encode.TooMany) h k = refl
 refusals-one words given (fault.Encode encode.Empty) (fault.Encode encode.TooLong) h k = let w = because-one words given (λ s x. x ≡ []) IsTooLong h k in absurd (empty-not-long words w.0 _ w.1 w.2 w.3)
 refusals-one words given (fault.Encode encode.TooLong) (fault.Encode encode.Empty) h k = let w = because-one words given IsTooLong (λ s x. x ≡ []) h k in absurd (empty-not-long words w.0 _ w.1 w.3 w.2)
-refusals-one words given (fault.Encode encode.Empty) (fault.Encode encode.TooMany) h k = let w = because-one words given (λ s x. x ≡ []) IsTooMany h k in absurd (empty-not-many w.0 _ w.2 w.3)
-refusals-one words given (fault.Encode encode.TooMany) (fault.Encode encode.Empty) h k = let w = because-one words given IsTooMany (λ s x. x ≡ []) h k in absurd (empty-not-many w.0 _ w.3 w.2)
-refusals-one words given (fault.Encode encode.TooLong) (fault.Encode encode.TooMany) h k = let w = because-one words given IsTooLong IsTooMany h k in absurd (long-not-many w.0 _ _ w.2 w.3)
-refusals-one words given (fault.Encode encode.TooMany) (fault.Encode encode.TooLong) h k = let w = because-one words given IsTooMany IsTooLong h k in absurd (long-not-many w.0 _ _ w.3 w.2)
-refusals-one words given r q h k = let e : class_told r ≡ class_told q = sym (class-is words given r h) ∙ class-is words given q k in absurd (omega (arith, e))
+refusals-one words given (fault.Encode encode.Empty) (fault.Encode encode.TooMany) h k = search (arith, because-one, empty-not-many)
+refusals-one words given (fault.Encode encode.TooMany) (fault.Encode encode.Empty) h k = search (arith, because-one, empty-not-many)
+refusals-one words given (fault.Encode encode.TooLong) (fault.Encode encode.TooMany) h k = search (arith, because-one, long-not-many)
+refusals-one words given (fault.Encode encode.TooMany) (fault.Encode encode.TooLong) h k = search (arith, because-one, long-not-many)
+refusals-one words given r q h k = search (arith, class-is)

@@ -1,8 +1,7 @@
 -- The number that `try_get_one` returns is the number of the definition.
 use Rattle.std.proofs.Common.{◌≡◌, ℕ, Option, None, Some, Result, Ok, Err, refl}
 use Rattle.std.specs.Str.Parse.{ParsesUnsigned}
-use Rattle.clap.specs.Matches.{TriesOne}
-use Rattle.clap.specs.Walk.{Text}
+use Rattle.clap.specs.{Matches.TriesOne, Walk.Text}
 use Rattle.clap.proofs.WalkLemmas.{byte_read}
 use Rattle.qrencode_cli.specs.Settings.{number_or}
 

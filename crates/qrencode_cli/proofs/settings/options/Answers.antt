@@ -1,6 +1,5 @@
 use Rattle.std.proofs.Common.{◌≡◌, ◌≢◌, ◌↔◌, Result, Ok, Err, String, MatchResult, map, refl, rules}
-use Rattle.std.specs.Global.{Global}
-use Rattle.std.specs.String.{string_bytes}
+use Rattle.std.specs.{Global.Global, String.string_bytes}
 use Rattle.qrencode_cli.specs.Settings.{IsUsageFault, Reason, SettingsView, needs_version, refused_by_clap, settings_for, unknown_level, unknown_type}
 use Rattle.qrencode_cli.specs.declared.settings.UsageFault.{UsageFault}
 use Rattle.qrencode_cli.specs.declared.settings.UsageFault.TheVariants as usage
@@ -14,42 +13,17 @@ record ComeExactly (o : Result SettingsView Reason) (r : Result SettingsView Usa
   version : (r ≡ Err usage.NeedsVersion) ↔ ((r ≢ Err usage.Memory) × (o ≡ Err needs_version))
 
 come-exactly : (o : Result SettingsView Reason) (r : Result SettingsView UsageFault) → MatchResult r (λ s. o ≡ Ok s) (IsUsageFault o) → ComeExactly o r
-come-exactly o (Ok s) h = record {
-  words = (λ (t, e). cc, λ (n, e). cc);
-  level = (λ e. cc, λ (n, e). cc);
-  kind = (λ e. cc, λ (n, e). cc);
-  version = (λ e. cc, λ (n, e). cc);
-}
-come-exactly o (Err usage.Memory) h = record {
-  words = (λ (t, e). cc, λ (n, e). absurd (n refl));
-  level = (λ e. cc, λ (n, e). absurd (n refl));
-  kind = (λ e. cc, λ (n, e). absurd (n refl));
-  version = (λ e. cc, λ (n, e). absurd (n refl));
-}
+come-exactly o (Ok s) h = search rules
+come-exactly o (Err usage.Memory) h = search rules
 come-exactly o (Err (usage.Words text)) h = record {
   words = (λ _. (λ m. cc, h), λ (n, e). (text, refl));
-  level = (λ e. cc, λ (n, e). cc);
-  kind = (λ e. cc, λ (n, e). cc);
-  version = (λ e. cc, λ (n, e). cc);
+  level = search rules;
+  kind = search rules;
+  version = search rules;
 }
-come-exactly o (Err usage.Level) h = record {
-  words = (λ (t, e). cc, λ (n, e). cc);
-  level = (λ _. (λ m. cc, h), λ (n, e). refl);
-  kind = (λ e. cc, λ (n, e). cc);
-  version = (λ e. cc, λ (n, e). cc);
-}
-come-exactly o (Err usage.Kind) h = record {
-  words = (λ (t, e). cc, λ (n, e). cc);
-  level = (λ e. cc, λ (n, e). cc);
-  kind = (λ _. (λ m. cc, h), λ (n, e). refl);
-  version = (λ e. cc, λ (n, e). cc);
-}
-come-exactly o (Err usage.NeedsVersion) h = record {
-  words = (λ (t, e). cc, λ (n, e). cc);
-  level = (λ e. cc, λ (n, e). cc);
-  kind = (λ e. cc, λ (n, e). cc);
-  version = (λ _. (λ m. cc, h), λ (n, e). refl);
-}
+come-exactly o (Err usage.Level) h = search rules
+come-exactly o (Err usage.Kind) h = search rules
+come-exactly o (Err usage.NeedsVersion) h = search rules
 
 pub returns-clause-words : goal.returns-clause-words
 returns-clause-words c = (come-exactly (settings_for (map string_bytes c.args.words.now)) c.settings_in.result (search rules)).words

@@ -1,20 +1,18 @@
 -- The squares whose modules have some bytes, read one square after another.
-use Rattle.std.proofs.Common.{◌≡◌, ℕ, zero, suc, ◌*◌, ◌≤◌, List, [], ◌∷◌, ◌++◌, length, drop, refl, sym, ap, append-nil, ◌∙◌, arith}
+use Rattle.std.proofs.Common.{◌≡◌, ℕ, zero, suc, ◌*◌, ◌≤◌, List, [], ◌∷◌, ◌++◌, length, drop, refl, ap, append-nil, arith}
 use Rattle.std.specs.List.{All}
 use Rattle.std.proofs.lemmas.List.{append_assoc}
 use Rattle.std.proofs.lemmas.List.Elements.{All-cons, All-nil}
-use Rattle.qr_matrix.specs.Grid.{Grid, light}
+use Rattle.qr_matrix.specs.Grid.{Grid}
 use Rattle.qr_drawing.specs.Drawing.{HaveOneSide}
-use Rattle.qrproved.specs.Drawing.{squares_of_bytes}
-use Rattle.qrproved.specs.Modules.{square_of_bytes}
+use Rattle.qrproved.specs.{Drawing.squares_of_bytes, Modules.square_of_bytes}
 
 -- one more square is read
 pub one-more : (side left n : ℕ) (read : List Grid) (rest : List ℕ) → left ≡ suc n
     → (read ++ (square_of_bytes side rest ∷ [])) ++ squares_of_bytes side n (drop (side * side) rest)
     ≡ read ++ squares_of_bytes side left rest
 unfolding squares_of_bytes
-one-more side left n read rest e =
-    rw e (append_assoc read (square_of_bytes side rest ∷ []) (squares_of_bytes side n (drop (side * side) rest)))
+one-more side left n read rest e = search (arith, append_assoc)
 
 -- at the end no square is left
 pub no-more : (side left : ℕ) (read : List Grid) (rest : List ℕ) → left ≡ 0 → read ++ squares_of_bytes side left rest ≡ read
@@ -31,12 +29,8 @@ many-squares side (suc n) bytes = ap suc (many-squares side n (drop (side * side
 sides : (side count : ℕ) (bytes : List ℕ) → All (λ g. g.side ≡ side) (squares_of_bytes side count bytes)
 unfolding squares_of_bytes
 sides side zero bytes = All-nil (λ g. g.side ≡ side)
-sides side (suc n) bytes =
-    All-cons (λ g. g.side ≡ side) (square_of_bytes side bytes) (squares_of_bytes side n (drop (side * side) bytes)) refl
-    (sides side n (drop (side * side) bytes))
+sides side (suc n) bytes = search (arith, All-cons, sides side n (drop (side * side) bytes))
 
 -- so all squares have the same side
 pub one-side : (side count : ℕ) (bytes : List ℕ) → 1 ≤ count → HaveOneSide (squares_of_bytes side count bytes)
-one-side side count bytes some k d l =
-    let all = sides side count bytes in
-    all k d l ∙ sym (all 0 (light 0) (omega (arith, many-squares side count bytes)))
+one-side side count bytes some k d l = omega (arith, sides, many-squares)

@@ -1,56 +1,37 @@
--- What the struct of a mended square contains, and which statuses a mended square cannot have.
-use Rattle.std.proofs.Common.{◌≡◌, ℕ, ◌*◌, ◌<◌, ◌≤◌, List, ◌++◌, drop, length, take, sym, ◌∙◌, ap, subst, arith}
+-- What the struct of a mended square contains.
+use Rattle.std.proofs.Common.{◌≡◌, ℕ, ◌*◌, ◌<◌, ◌≤◌, List, ◌++◌, drop, length, take, arith}
 use Rattle.std.specs.List.{All}
 use Rattle.std.proofs.lemmas.List.Elements.{All-weaker}
 use Rattle.qr_layout.specs.declared.level.Level.{Level}
 use Rattle.qr_bits.specs.Parsing.{Content}
 use Rattle.qr_matrix.specs.Grid.{Grid}
-use Rattle.qr_symbol.specs.declared.fault.ReadFault.{ReadFault}
 use Rattle.qr_symbol.specs.declared.fault.ReadFault.TheVariants as unread
 use Rattle.qr_mending.specs.declared.mending.Mended.{Mended}
-use Rattle.qr_mending.specs.Mending.{wrong_format_modules, HasWrongModules, IsMendedReading, IsUnmended}
+use Rattle.qr_mending.specs.Mending.{wrong_format_modules, HasWrongModules, IsMendedReading}
 use Rattle.qr_mending.specs.Message.{tolerance_of}
 use Rattle.qrproved.specs.declared.mending.QrprovedMended.{QrprovedMended}
-use Rattle.qrproved.specs.Modules.{square_of_bytes}
-use Rattle.qrproved.specs.Reading.{TellsHeader}
-use Rattle.qrproved.specs.Settings.{level_of}
+use Rattle.qrproved.specs.{Modules.square_of_bytes, Reading.TellsHeader, Settings.level_of}
 use Rattle.qrproved.specs.Mending.{square_of_unknown, AreModules, HasMoreMendedBytes, HasOtherByte, IsGivenMended, IsGreatest}
 
 -- if there is a byte for each module of the square, and each byte is 0, 1 or 2, these are modules
 pub all-modules : (modules : List ℕ) (side area : ℕ) → area ≡ side * side → area ≤ length modules → All (λ b. b ≤ 2) (take area modules) → AreModules modules side
-all-modules modules side area e long each = record {
-  whole = omega (arith, e);
-  each = subst (λ (n : ℕ). All (λ b. b ≤ 2) (take n modules)) e each;
-}
+all-modules modules side area e long each = search arith
 
 -- if the bytes are modules, none of them is another byte
 pub no-other : (modules : List ℕ) (side : ℕ) → AreModules modules side → HasOtherByte modules side → ⊥
-no-other modules side a o = let w = o.one in let low = a.each w.0 w.1 w.2 in omega (arith, w.3, w.4, low)
+no-other modules side a o = omega arith
 
 -- numbers that are at most t are at most 15, if t is at most 15
 pub few-changes : (x : List ℕ) (t : ℕ) → t ≤ 15 → All (λ n. n ≤ t) x → All (λ n. n ≤ 15) x
-few-changes x t most few = All-weaker (λ n. n ≤ t) (λ n. n ≤ 15) (λ n h. omega arith) x few
-
--- a square that is mended has no fault except lack of memory
-abbrev pub MendedExclude : Type 0
-MendedExclude = (u : Grid) (g : Grid) (v : ℕ) (l : Level) (m : ℕ) (p : Content) (x : List ℕ) (e : ReadFault) → IsMendedReading u g v l m p x → IsUnmended u g e → e ≡ unread.Memory
-
--- so it is refused for no other fault
-pub not-unmended : (u : Grid) (g : Grid) (v : ℕ) (l : Level) (m : ℕ) (p : Content) (x : List ℕ) (e : ReadFault) → MendedExclude → IsMendedReading u g v l m p x → IsUnmended u g e → (e ≡ unread.Memory → ⊥) → ⊥
-not-unmended u g v l m p x e law r f known = known (law u g v l m p x e r f)
+few-changes x t most few = omega (arith, All-weaker)
 
 -- the reading, stated with the version, the level and the mask that are in the struct
 read-told : (u : Grid) (g : Grid) (v w : ℕ) (l k : Level) (m n : ℕ) (p : Content) (x : List ℕ) → w ≡ v → k ≡ l → n ≡ m → IsMendedReading u g v l m p x → IsMendedReading u g w k n p x
-read-told u g v w l k m n p x ev el em r =
-    subst (λ (z : ℕ). IsMendedReading u g z k n p x) (sym ev)
-    (subst (λ (z : Level). IsMendedReading u g v z n p x) (sym el) (subst (λ (z : ℕ). IsMendedReading u g v l z p x) (sym em) r))
+read-told u g v w l k m n p x ev el em r = search arith
 
 -- the wrong modules, stated in the same way
 wrong-told : (u : Grid) (g : Grid) (v w : ℕ) (l k : Level) (m n : ℕ) (x : List ℕ) (a b : ℕ) → w ≡ v → k ≡ l → n ≡ m → b ≡ a → HasWrongModules u g v l m x a → HasWrongModules u g w k n x b
-wrong-told u g v w l k m n x a b ev el em e r =
-    subst (λ (z : ℕ). HasWrongModules u g z k n x b) (sym ev)
-    (subst (λ (z : Level). HasWrongModules u g v z n x b) (sym el)
-    (subst (λ (z : ℕ). HasWrongModules u g v l z x b) (sym em) (subst (λ (z : ℕ). HasWrongModules u g v l m x z) (sym e) r)))
+wrong-told u g v w l k m n x a b ev el em e r = search arith
 
 -- the struct contains what is read and the damage
 pub given-mended : (modules : List ℕ) (side : ℕ) (before put : List ℕ) (m : Mended) (t : QrprovedMended) (len : ℕ)
@@ -65,29 +46,10 @@ pub given-mended : (modules : List ℕ) (side : ℕ) (before put : List ℕ) (m 
     → IsGreatest m.changed.items t.changed_most → t.changed_allowed ≡ tolerance_of m.version m.level
     → IsGivenMended modules side before (put ++ drop len before) t
 given-mended modules side before put m t len all r format whole long room same elen ewrong ev header small el em eformat most allowed =
-    let g = square_of_bytes side modules in
-    let u = square_of_unknown side modules in
-    record {
-      all_modules = all;
-      content = m.parsed;
-      changed = m.changed.items;
-      level = small;
-      read = read-told u g m.version t.version m.level (level_of t.level) m.mask t.mask m.parsed m.changed.items ev el em r;
-      room = omega arith;
-      holds = ap (λ (z : List ℕ). z ++ drop len before) same ∙ ap (λ (z : ℕ). m.parsed.bytes ++ drop z before) long;
-      len = elen ∙ long;
-      header = header;
-      damage = record {
-        whole = wrong-told u g m.version t.version m.level (level_of t.level) m.mask t.mask m.changed.items m.wrong_modules t.wrong_modules ev el em ewrong whole;
-        format = eformat ∙ (format ∙ (ap (λ (z : Level). wrong_format_modules u g z m.mask) (sym el) ∙ ap (λ (z : ℕ). wrong_format_modules u g (level_of t.level) z) (sym em)));
-        most = most;
-        allowed = allowed ∙ (ap (λ (z : ℕ). tolerance_of z m.level) (sym ev) ∙ ap (λ (z : Level). tolerance_of t.version z) (sym el));
-      };
-    }
+    search (arith, read-told, wrong-told)
 
 -- a square that is mended to more bytes than the buffer has
 pub more-bytes : (modules : List ℕ) (side : ℕ) (buffer : List ℕ) (m : Mended) (len : ℕ) → AreModules modules side
     → IsMendedReading (square_of_unknown side modules) (square_of_bytes side modules) m.version m.level m.mask m.parsed m.changed.items
     → len ≡ length m.parsed.bytes → length buffer < len → HasMoreMendedBytes modules side buffer
-more-bytes modules side buffer m len all r long short =
-    (all, (m.parsed, (m.version, m.level, m.mask, m.changed.items, r), omega arith))
+more-bytes modules side buffer m len all r long short = search arith

@@ -2,8 +2,7 @@ use Rattle.std.proofs.Common.{◌≡◌, ◌≤◌, ◌+◌, ◌-◌, length, sl
 use Rattle.std.proofs.lemmas.Bool.{cases_lt}
 use borrow.Rule.Slice.PartMut.{put_mid}
 use Rattle.qr_matrix.specs.Grid.{colour}
-use Rattle.qrproved.specs.Modules.{byte_of}
-use Rattle.qrproved.specs.Steps.Modules.{four_bytes}
+use Rattle.qrproved.specs.{Modules.byte_of, Steps.Modules.four_bytes}
 use Rattle.qrproved.proofs.lemmas.modules.ModuleLemmas.{part-long, part-here, part-others, four-each}
 use Rattle.qrproved.proofs.modules.write_row.Goals as goal
 

@@ -5,8 +5,7 @@ use Rattle.qr_bits.specs.Modes.{may_use}
 use Rattle.qr_symbol.specs.declared.symbol.Symbol.{Symbol}
 use Rattle.qr_symbol.specs.Series.{squares_of, IsSeries, NeedsParts}
 use Rattle.qrproved.specs.declared.settings.Settings.{Settings}
-use Rattle.qrproved.specs.Settings.{level_of, rule_of}
-use Rattle.qrproved.specs.Modules.{HoldsSquares}
+use Rattle.qrproved.specs.{Settings.level_of, Settings.rule_of, Modules.HoldsSquares}
 use Rattle.qrproved.proofs.series.qrproved_encode_series.Goals as goal
 
 pub returns-then-input-gt-INPUT_MAX-clause-room : goal.returns-then-input-gt-INPUT_MAX-clause-room
