@@ -1,16 +1,9 @@
-use Rattle.std.proofs.Common.{◌≡◌, ◌+◌, ◌*◌, ◌++◌, ◌∙◌, List, Bool, ap, sym, arith, append_assoc, append-nil, get_or, take}
+use Rattle.std.proofs.Common.{◌≡◌, ◌+◌, ◌*◌, ◌++◌, ◌∙◌, List, Bool, ap, sym, arith, append_assoc, get_or, take}
 use Rattle.std.proofs.Math.Nat.{mod-lt}
 use Rattle.std.proofs.lemmas.Nat.{pow_pos}
 use Rattle.qr_bits.specs.Bits.{bits_of, field}
 use Rattle.qr_bits.proofs.lemmas.bits.BitLemmas.{bits_of-take, byte-behind, power-fits}
 use Rattle.qr_bits.proofs.bits.push_bytes.Goals as goal
-
-pub loop-byte-init : goal.loop-byte-init
-unfolding bits_of
-loop-byte-init c = record {
-  rest = c.requires.rest;
-  bits = sym (append-nil (bits_of c.args.whole.now.items ++ field c.args.width c.args.rest));
-}
 
 pub loop-byte-preserved : goal.loop-byte-preserved
 loop-byte-preserved c =

@@ -1,8 +1,7 @@
-use Rattle.std.proofs.Common.{◌≡◌, ℕ, List, [], ◌∷◌, ◌++◌, reverse, refl, sym, ◌∙◌, ap, arith, rules}
-use denote.Enum.Bare.{sameb, same_true}
+use Rattle.std.proofs.Common.{◌≡◌, List, [], ◌∷◌, ◌++◌, reverse, sym, ◌∙◌, ap, arith, rules}
+use denote.Enum.Bare.{same_true}
 use Rattle.qr_bits.specs.contracts.modes.Mode.{the_type}
 use Rattle.std.proofs.lemmas.Bool.{false≢true}
-use Rattle.qr_bits.specs.declared.modes.Mode.{Mode}
 use Rattle.qr_bits.specs.declared.segment.Segment.{Segment}
 use Rattle.qr_bits.specs.declared.run_state.RunState.TheVariants.{Start}
 use Rattle.qr_bits.specs.Segmentation.{runs_of}
@@ -17,7 +16,7 @@ use Rattle.qr_bits.proofs.segmentation.least_segments.Goals as goal
 
 pub loop-modes-init : goal.loop-modes-init
 unfolding runs_of state_on state_after
-loop-modes-init c = ([], append-nil _ ∙ c.new-found.ensures.items, refl, omega arith, λ _. c.new-found.ensures.items, refl)
+loop-modes-init c = search (arith, append-nil)
 
 pub loop-modes-preserved-then-eq : goal.loop-modes-preserved-then-eq
 loop-modes-preserved-then-eq c =
@@ -38,7 +37,7 @@ loop-modes-preserved c =
     let l = c.loop-modes in
     let i = l.invariant in
     let mode = c.mode_at-next.result in
-    let other : l.mode ≡ mode → ⊥ = λ e. false≢true (c.if-eq.ensures ∙ ap (λ (m : Mode). sameb the_type m l.mode) (sym e) ∙ sameb_self l.mode) in (
+    let other : l.mode ≡ mode → ⊥ = search (arith, false≢true, sameb_self) in (
       i.0 ++ mode ∷ [],
       ap (λ (r : List Segment). r ++ one_segment mode 1) c.in_ok-push_segment.ensures ∙ sym (run_other l.found.items l.mode mode l.len i.4 other)
           ∙ ap (λ (r : List Segment). append_mode r mode) i.1 ∙ sym (runs_of-push i.0 mode),
@@ -51,8 +50,7 @@ loop-modes-preserved c =
 pub returns-clause-ok : goal.returns-clause-ok
 returns-clause-ok c =
     let i = c.loop-modes.invariant in
-    let none : c.loop-modes.table.items ≡ [] = nil_from_length _ (omega (arith, c.in_default.ensures.cases.0, c.loop-modes.table.ok.0)) in
-    let end : i.0 ++ [] ≡ follow Start (reverse c.in_ok-table.table.items) =
-    ap (λ (t : List Mode). i.0 ++ t) (sym (follow-nil c.loop-modes.state) ∙ ap (λ (t : List ℕ). follow c.loop-modes.state (reverse t)) (sym none)) ∙ i.2 in
+    let none : c.loop-modes.table.items ≡ [] = search (arith, nil_from_length) in
+    let end : i.0 ++ [] ≡ follow Start (reverse c.in_ok-table.table.items) = search (arith, follow-nil) in
     let whole : i.0 ≡ follow Start (reverse c.in_ok-table.table.items) = sym (append-nil i.0) ∙ end in
     (i.0, rw whole (assignment_from_table c.args.version c.args.rule c.args.input.now (reverse c.in_ok-table.table.items) c.in_ok-table.ensures.best), c.in_ok-push_segment-2.ensures ∙ i.1)
