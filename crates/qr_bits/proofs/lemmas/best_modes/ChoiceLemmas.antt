@@ -1,6 +1,6 @@
 -- The best mode for a byte is the one whose number is the least.
-use Rattle.std.proofs.Common.{◌≡◌, ℕ, ◌+◌, ◌*◌, ◌/◌, ◌%◌, ◌<◌, ◌≤◌, Bool, true, ◌==◌, min, refl, ⊎_elim, arith}
-use Rattle.std.proofs.lemmas.Bool.{cases_lt, eqb-true}
+use Rattle.std.proofs.Common.{◌≡◌, ℕ, ◌+◌, ◌*◌, ◌/◌, ◌%◌, ◌<◌, ◌≤◌, Bool, true, min, refl, ⊎_elim, arith}
+use Rattle.std.proofs.lemmas.Bool.{cases_lt}
 use Rattle.qr_bits.specs.declared.modes.Mode.{Mode}
 use Rattle.qr_bits.specs.declared.modes.Mode.TheVariants.{Numeric, Alphanumeric, Byte, Kanji}
 use Rattle.qr_bits.specs.declared.modes.Rule.{Rule}
@@ -9,7 +9,6 @@ use Rattle.qr_bits.specs.declared.run_state.RunState.TheVariants.{InBytes, HalfP
 use Rattle.qr_bits.specs.Segmentation.{rank}
 use Rattle.qr_bits.specs.Modes.{may_use}
 use Rattle.qr_bits.specs.Steps.RunState.{state_after, state_on, byte_cost, may_begin, may_take, may_end, choice_number, ranked, IsChoice}
-use Rattle.qr_bits.proofs.lemmas.run_state.BestLemmas.{same_rank}
 
 -- the least of the numbers of the four modes
 abbrev pub least_of : (Mode → Bool) → (Mode → ℕ) → ℕ
@@ -68,15 +67,11 @@ pub take_begin : (r : Rule) (p : RunState) (x : ℕ) (pair : Bool) (m : Mode) �
 unfolding may_end may_take
 take_begin r p x pair m e = grind arith
 
--- after half a pair, only kanji mode is possible
-kanji_alone : (k : Mode) → (rank k == rank Kanji) ≡ true → k ≡ Kanji
-kanji_alone k h = same_rank k Kanji (eqb-true _ _ h)
-
 -- after half a pair, kanji mode is the choice
 pub half_choice : (v : ℕ) (r : Rule) (x : ℕ) (pair : Bool) (cost : RunState → ℕ) (c : ℕ) → c ≡ choice_number true (byte_cost v HalfPair Kanji + cost (state_after HalfPair Kanji)) Kanji
     → IsChoice v r HalfPair x pair cost (ranked (c % 4)) (c / 4)
 unfolding may_take byte_cost state_after
-half_choice v r x pair cost c is = search (arith, ranked-number, kanji_alone)
+half_choice v r x pair cost c is = search (arith, ranked-number)
 
 -- after a byte in byte mode the state is `InBytes`
 state_after-byte : (p : RunState) → state_after p Byte ≡ InBytes

@@ -12,7 +12,7 @@ use Rattle.qr_bits.specs.Segmentation.{IsBestAssignment}
 use Rattle.qr_bits.specs.Modes.{is_kanji_pair}
 use Rattle.qr_bits.specs.Steps.RunState.{state_after, begins_with_pair, may_begin, may_take, may_end, allowed, cost_of, ranked, IsBestRest}
 use Rattle.qr_bits.specs.Steps.BestModes.{in_state, bits_at, shift_of, mode_at, follow, IsBestTable, IsRow, IsSmall}
-use Rattle.qr_bits.proofs.lemmas.segment.CoverLemmas.{in_turn, from_turn}
+use Rattle.qr_bits.proofs.lemmas.segment.CoverLemmas.{covers_by, by_covers}
 use Rattle.qr_bits.proofs.lemmas.run_state.BestLemmas.{BestBelow, best_step}
 use Rattle.qr_bits.proofs.lemmas.best_modes.ChoiceLemmas.{byte_used, byte_cost_bound, take_begin}
 use Rattle.qr_bits.proofs.lemmas.run_state.CostLemmas.{bits-runs_of}
@@ -81,17 +81,12 @@ pub packed-mode : (n : PerState ℕ) (p : RunState) → mode_at (packed n) p ≡
 unfolding mode_at
 packed-mode n p = ap ranked (packed-at n p)
 
--- the best assignment from the start is the one that `IsBestAssignment` describes
-assignment_from_best : (v : ℕ) (r : Rule) (xs : List ℕ) (ms : List Mode) (n : ℕ) → IsBestRest v r is_kanji_pair Start xs ms n → IsBestAssignment v r xs ms
-unfolding may_end
-assignment_from_best v r xs ms n best = search (arith, is_assignment, from_turn, bits-runs_of, can_take, in_turn)
-
 -- the modes to which a table leads are the best assignment
 pub assignment_from_table : (v : ℕ) (r : Rule) (xs : List ℕ) (rows : List ℕ) → IsBestTable v r is_kanji_pair xs rows → IsBestAssignment v r xs (follow Start rows)
 unfolding may_end
 assignment_from_table v r xs rows table =
     let some = table Start (replicate (length xs) Byte) (bytes_rest r is_kanji_pair Start xs refl) in
-    search (arith, assignment_from_best)
+    grind (arith, is_assignment, by_covers, bits-runs_of, can_take, covers_by)
 
 -- the modes found so far, the mode of one more row, and then the modes of the other rows
 pub led_on : (p : RunState) (items rows : List ℕ) (row : ℕ) (ms all : List Mode) (m : Mode) → items ≡ rows ++ row ∷ [] → m ≡ mode_at row p

@@ -37,23 +37,11 @@ terminator n stream = replicate (min 4 (8 * n - length stream)) false
 abbrev filling : List Bool → List Bool
 filling bits = replicate ((8 - length bits % 8) % 8) false
 
--- the stream and its terminator fit n codewords, and the pad codewords are the rest of the n codewords
-whole_length : (n s : ℕ) → s ≤ 8 * n → (k : ℕ) → k ≡ s + min 4 (8 * n - s) → (w : ℕ) → w ≡ k + (8 - k % 8) % 8 → (w ≤ 8 * n) × (w / 8 + (n - w / 8) ≡ n) × (8 * (w / 8) ≡ w)
-whole_length n s h k ek w ew = (omega arith, omega arith, omega arith)
-
--- the length of the stream up to the end of a codeword
-length-filled_terminated : (n : ℕ) (stream : List Bool) → length (filled (terminated (8 * n) stream)) ≡ length (terminated (8 * n) stream) + (8 - length (terminated (8 * n) stream) % 8) % 8
-length-filled_terminated n stream = search (arith, length-append, length-replicate)
-
--- the length of the stream with its terminator
-length-terminated : (n : ℕ) (stream : List Bool) → length (terminated (8 * n) stream) ≡ length stream + min 4 (8 * n - length stream)
-length-terminated n stream = search (arith, length-append, length-replicate)
-
 -- the padded stream fills n codewords
 length-padded : (n : ℕ) (stream : List Bool) → length stream ≤ 8 * n → length (padded n stream) ≡ 8 * n
 unfolding padded
 length-padded n stream h =
-    search (arith, whole_length, length-terminated, length-filled_terminated, length-append, bits_of, length-bits_of, length-pads)
+    grind (arith, length-append, length-replicate, bits_of, length-bits_of, length-pads)
 
 -- the stream is followed by an end
 tail_of : (n : ℕ) (stream : List Bool) → length stream ≤ 8 * n → (tail : List Bool) × (padded n stream ≡ stream ++ tail) × (ends tail ≡ true)

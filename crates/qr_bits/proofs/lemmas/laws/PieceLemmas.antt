@@ -10,7 +10,7 @@ use Rattle.qr_bits.specs.declared.run_state.RunState.TheVariants.{Start, Digit1,
 use Rattle.qr_bits.specs.Segmentation.{rank, bits, runs_of, IsAssignment, HasFit}
 use Rattle.qr_bits.specs.Modes.{may_use, is_kanji_pair}
 use Rattle.qr_bits.specs.Steps.RunState.{state_after, byte_cost, begins_with_pair, may_take, may_end, allowed, cost_of}
-use Rattle.qr_bits.proofs.lemmas.segment.CoverLemmas.{in_turn, from_turn}
+use Rattle.qr_bits.proofs.lemmas.segment.CoverLemmas.{covers_by, by_covers}
 use Rattle.qr_bits.proofs.lemmas.run_state.CostLemmas.{bits-runs_of}
 use Rattle.qr_bits.proofs.lemmas.run_state.AssignmentLemmas.{may_end-after, begin_is, can_take, is_assignment}
 use Rattle.qr_bits.proofs.lemmas.best_modes.ChoiceLemmas.{take_begin}
@@ -90,9 +90,9 @@ pub piece : (v : ℕ) (r : Rule) (xs ys zs : List ℕ) (ms : List Mode) → IsPl
     → (ks : List Mode) × IsAssignment r ys ks × (bits v (runs_of ks) ≤ bits v (runs_of ms))
 unfolding may_end
 piece v r xs ys zs ms n h =
-    let b = back v r xs (ys ++ zs) ms n h.0 (search (arith, can_take, in_turn)) in
+    let b = back v r xs (ys ++ zs) ms n h.0 (search (arith, can_take, covers_by)) in
     let f = front v r Start ys zs b.0 n b.1 refl b.2 in
-    search (arith, is_assignment, from_turn, bits-runs_of)
+    search (arith, is_assignment, by_covers, bits-runs_of)
 
 -- If an input fits, each piece of it fits.
 pub piece_fits : (v : ℕ) (r : Rule) (xs ys zs : List ℕ) (n : ℕ) → may_use r Kanji ≡ false → HasFit v r (xs ++ (ys ++ zs)) n → HasFit v r ys n

@@ -15,7 +15,7 @@ use Rattle.qr_bits.specs.Segmentation.{rank, bits, prepend_mode, runs_of, HasFit
 use Rattle.qr_bits.specs.Modes.{in_twos, is_kanji_pair, may_use}
 use Rattle.qr_bits.specs.Steps.Segmentation.{append_mode}
 use Rattle.qr_bits.specs.Steps.RunState.{swapped, begins_with_pair, may_end}
-use Rattle.qr_bits.proofs.lemmas.segment.CoverLemmas.{in_turn, from_turn, suits_by, CoversBy}
+use Rattle.qr_bits.proofs.lemmas.segment.CoverLemmas.{covers_by, by_covers, suits_by, CoversBy}
 use Rattle.qr_bits.proofs.lemmas.run_state.BestLemmas.{BestBelow, same_rank}
 use Rattle.qr_bits.proofs.lemmas.segmentation.BackLemmas.{runs_of-push, append_mode-last}
 use Rattle.qr_bits.proofs.lemmas.run_state.CostLemmas.{bits-runs_of}
@@ -107,20 +107,20 @@ prefix_fits v r xs f cost n below small =
     let best = below Start _ (bytes_rest r (swapped is_kanji_pair) Start (reverse xs) refl) in
     let back = mirror v (swapped is_kanji_pair) r (reverse xs) (f Start) (search (arith, is_assignment)) in
     let again : CoversBy is_kanji_pair (reverse (reverse xs)) (runs_of (reverse (f Start))) = back.0.1 in
-    search (arith, from_turn, reverse-reverse, bits-runs_of)
+    search (arith, by_covers, reverse-reverse, bits-runs_of)
 
 -- if a prefix fits n bits, the best rest of the reversed prefix has at most n bits
 pub prefix_least : (v : ℕ) (r : Rule) (xs : List ℕ) (f : RunState → List Mode) (cost : RunState → ℕ) (n : ℕ) → BestBelow v r (swapped is_kanji_pair) (reverse xs) f cost → HasFit v r xs n → cost Start ≤ n
 unfolding may_end
 prefix_least v r xs f cost n below fit =
-    let back = mirror v is_kanji_pair r xs fit.0 (fit.1.0, in_turn xs _ fit.1.1) in
+    let back = mirror v is_kanji_pair r xs fit.0 (fit.1.0, covers_by xs _ fit.1.1) in
     let taken = can_take (swapped is_kanji_pair) r (reverse xs) (reverse fit.0) back.0 Start refl in
     search (arith, bits-runs_of)
 
 -- an empty input fits any number of bits
 pub empty_fits : (v : ℕ) (r : Rule) (n : ℕ) → HasFit v r [] n
 unfolding CoversBy runs_of
-empty_fits v r n = ([], (refl, from_turn [] [] refl), omega arith)
+empty_fits v r n = ([], (refl, by_covers [] [] refl), omega arith)
 
 -- the test of the first two bytes
 begins_at : (r : Rule) (test : ℕ → ℕ → Bool) (xs : List ℕ) → 2 ≤ length xs → begins_with_pair r test xs ≡ (may_use r Kanji && test (get_or xs 0 0) (get_or xs 1 0))

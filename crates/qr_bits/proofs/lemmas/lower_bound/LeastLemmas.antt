@@ -9,7 +9,7 @@ use Rattle.qr_bits.specs.declared.modes.Rule.{Rule}
 use Rattle.qr_bits.specs.declared.segment.Segment.{Segment}
 use Rattle.qr_bits.specs.Modes.{is_kanji_pair, is_digit, is_alphanumeric, suits, payload_bits}
 use Rattle.qr_bits.specs.Segmentation.{bits, HasFit, least_sixths, least_bits}
-use Rattle.qr_bits.proofs.lemmas.segment.CoverLemmas.{CoversBy, in_turn}
+use Rattle.qr_bits.proofs.lemmas.segment.CoverLemmas.{CoversBy, covers_by}
 use Rattle.qr_bits.proofs.lemmas.modes.CharacterLemmas.{past_z}
 use Rattle.qr_bits.proofs.lemmas.segment.SegmentLemmas.{payload_least}
 
@@ -17,13 +17,9 @@ use Rattle.qr_bits.proofs.lemmas.segment.SegmentLemmas.{payload_least}
 most : (digit low : Bool) → cond digit 20 (cond low 33 39) ≤ 39
 most digit low = grind arith
 
--- the lower bound of a byte up to Z is at most 33 sixths
-low_most : (digit : Bool) → cond digit 20 33 ≤ 33
-low_most digit = grind arith
-
 -- the lower bound of a character is at most 33 sixths
 character_most : (b : ℕ) → is_alphanumeric b ≡ true → least_sixths b ≤ 33
-character_most b h = search (arith, false≢true, past_z, le-leb, low_most)
+character_most b h = grind (arith, false≢true, past_z, le-leb)
 
 -- the lower bound of a digit is 20 sixths
 digit_is : (b : ℕ) → is_digit b ≡ true → least_sixths b ≡ 20
@@ -63,4 +59,4 @@ segments_held v xs (s ∷ ss) c =
 -- If an input fits `room` bits, its lower bound is at most `room`.
 pub least_held : (v : ℕ) (r : Rule) (xs : List ℕ) (room : ℕ) → HasFit v r xs room → least_bits xs ≤ room
 unfolding least_bits
-least_held v r xs room fit = search (arith, segments_held, in_turn)
+least_held v r xs room fit = search (arith, segments_held, covers_by)

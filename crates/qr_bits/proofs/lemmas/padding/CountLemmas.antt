@@ -14,7 +14,7 @@ use Rattle.qr_bits.specs.Segmentation.{segment_bits, bits, HasFit}
 use Rattle.qr_bits.specs.Stream.{CountsFit}
 use Rattle.qr_bits.specs.Padding.{capacity_of}
 use Rattle.qr_bits.proofs.lemmas.segment.SegmentLemmas.{segment_least, bits_least}
-use Rattle.qr_bits.proofs.lemmas.segment.CoverLemmas.{CoversBy, covers_suits, in_turn, from_turn}
+use Rattle.qr_bits.proofs.lemmas.segment.CoverLemmas.{CoversBy, covers_suits, covers_by, by_covers}
 use Rattle.std.proofs.lemmas.List.{length-drop}
 
 -- the most data codewords of the versions to 9, to 26 and to 40
@@ -81,12 +81,12 @@ short_large : (v : ℕ) (xs : List ℕ) (segs : List Segment) → 26 < v → Cov
 unfolding CoversBy
 short_large v xs [] h c few = omega (arith, ap length c)
 short_large v xs (s ∷ ss) h c few =
-    omega (arith, segment_least v s, head_least v s.mode h, bits_least v (drop s.len xs) ss (covers_suits (drop s.len xs) ss (from_turn _ _ c.3)), length-drop s.len xs, c.1)
+    omega (arith, segment_least v s, head_least v s.mode h, bits_least v (drop s.len xs) ss (covers_suits (drop s.len xs) ss (by_covers _ _ c.3)), length-drop s.len xs, c.1)
 
 -- An input that fits a symbol has at most 7,089 bytes.
 pub fitting_short : (v : ℕ) (l : Level) (r : Rule) (xs : List ℕ) → 1 ≤ v → v ≤ 40 → HasFit v r xs (capacity_of v l) → length xs ≤ 7089
 fitting_short v l r xs a b fit =
-    search (arith, data_most, groups, bits_least, covers_suits, short_large, in_turn, capacity_most)
+    search (arith, data_most, groups, bits_least, covers_suits, short_large, covers_by, capacity_most)
 
 -- An input that fits a symbol has at most three bytes for each ten bits.
 fitting_few : (v : ℕ) (l : Level) (r : Rule) (xs : List ℕ) → 1 ≤ v → v ≤ 40 → HasFit v r xs (capacity_of v l) → 10 * length xs ≤ 24 * most_data v

@@ -74,12 +74,6 @@ same_rest : (read : Result (Segment × List ℕ × List Bool) ParseFault) (n m v
     → step read (segments_at n v) ≡ step read (segments_at m v)
 same_rest read n m v h = grind arith
 
--- the bound on the number of segments of the rest may be the number of its bits
-each_rest : (read : Result (Segment × List ℕ × List Bool) ParseFault) (n v : ℕ)
-    → ((s : Segment × List ℕ × List Bool) → read ≡ Ok s → segments_at n v s.2 ≡ segments_at (length s.2) v s.2)
-    → step read (segments_at n v) ≡ step read (λ b. segments_at (length b) v b)
-each_rest read n v h = grind arith
-
 -- the bound makes no difference if it is at least the number of bits
 enough : (n m v : ℕ) (bits : List Bool) → length bits ≤ n → length bits ≤ m → segments_at n v bits ≡ segments_at m v bits
 unfolding segments_at
@@ -102,21 +96,16 @@ segments_end v bits h = search (arith, enough)
 pub segments_step : (v : ℕ) (bits : List Bool) → ends bits ≡ false
     → segments_of v bits ≡ step (segment_at v bits) (segments_of v)
 unfolding segments_of segments_at
-segments_step v bits h = search (arith, enough, each_rest, segment_shorter, not_ended)
+segments_step v bits h = grind (arith, enough, segment_shorter, not_ended)
 
 -- the result for the rest, with the segments and bytes that were read before it
 abbrev pub behind : List Segment → List ℕ → Result (List Segment × List ℕ) ParseFault → Result (List Segment × List ℕ) ParseFault
 behind segs xs read = read >>= λ r. Ok (segs ++ r.0, xs ++ r.1)
 
--- one more segment before the result for the rest
-behind_one : (segs : List Segment) (xs ys : List ℕ) (s : Segment) (read : Result (List Segment × List ℕ) ParseFault)
-    → behind segs xs (read >>= λ r. Ok (s ∷ r.0, ys ++ r.1)) ≡ behind (segs ++ s ∷ []) (xs ++ ys) read
-behind_one segs xs ys s read = grind (arith, append_assoc)
-
 -- one more segment is read
 pub behind_more : (v : ℕ) (bits rest : List Bool) (segs : List Segment) (xs ys : List ℕ) (s : Segment) → ends bits ≡ false → segment_at v bits ≡ Ok (s, ys, rest)
     → behind segs xs (segments_of v bits) ≡ behind (segs ++ s ∷ []) (xs ++ ys) (segments_of v rest)
-behind_more v bits rest segs xs ys s e h = rw (segments_step v bits e, h) (behind_one segs xs ys s (segments_of v rest))
+behind_more v bits rest segs xs ys s e h = rw (segments_step v bits e, h) (grind (arith, append_assoc))
 
 -- a fault of the next segment is the fault of the rest
 pub behind_fault : (v : ℕ) (bits : List Bool) (segs : List Segment) (xs : List ℕ) (f : ParseFault) → ends bits ≡ false → segment_at v bits ≡ Err f

@@ -20,14 +20,6 @@ value_take_below w bs = search (arith, length-take, value_below, pow-le-pow_righ
 abbrev pub prepend_read : List ℕ → Result (List ℕ) ParseFault → Result (List ℕ) ParseFault
 prepend_read prefix read = read >>= λ xs. Ok (prefix ++ xs)
 
--- if the whole is read, the rest is read
-pub prepend_read-ok : (prefix : List ℕ) (read : Result (List ℕ) ParseFault) (ys : List ℕ) → prepend_read prefix read ≡ Ok ys → (xs : List ℕ) × (read ≡ Ok xs) × (ys ≡ prefix ++ xs)
-prepend_read-ok prefix read ys h = grind arith
-
--- if the whole fails, the rest fails with the same fault
-pub prepend_read-err : (prefix : List ℕ) (read : Result (List ℕ) ParseFault) (e : ParseFault) → prepend_read prefix read ≡ Err e → read ≡ Err e
-prepend_read-err prefix read e h = grind arith
-
 -- ---- digits
 
 -- three digits less have ten bits less
@@ -63,8 +55,8 @@ bytes_more prefix n bits h = grind (arith, append_assoc)
 
 -- if the rest is read, the whole is read
 pub finish : (prefix out zs : List ℕ) (read whole : Result (List ℕ) ParseFault) → prepend_read prefix read ≡ prepend_read out whole → read ≡ Ok zs → (xs : List ℕ) × (whole ≡ Ok xs) × (prefix ++ zs ≡ out ++ xs)
-finish prefix out zs read whole h e = search (arith, prepend_read-ok)
+finish prefix out zs read whole h e = grind arith
 
 -- if the rest fails, the whole fails
 pub fails : (prefix out : List ℕ) (read whole : Result (List ℕ) ParseFault) (f : ParseFault) → prepend_read prefix read ≡ prepend_read out whole → read ≡ Err f → IsFaultOf f whole
-fails prefix out read whole f h e = search (arith, prepend_read-err)
+fails prefix out read whole f h e = grind arith

@@ -1,15 +1,14 @@
 -- A parse reads back every stream that is written, and what it reads is a stream.
-use Rattle.std.proofs.Common.{◌≡◌, ℕ, zero, suc, ◌^◌, ◌<◌, ◌≤◌, Bool, true, false, cond, ◌==◌, nat_lt, nat_le, All, List, [], ◌∷◌, ◌++◌, length, take, drop, Ok, Err, Option, Some, refl, sym, ◌∙◌, ap, subst, ⊎_elim, arith, lit<, append_assoc, length-append}
+use Rattle.std.proofs.Common.{◌≡◌, ℕ, zero, suc, ◌^◌, ◌<◌, ◌≤◌, Bool, true, false, ◌==◌, nat_lt, nat_le, All, List, [], ◌∷◌, ◌++◌, length, take, drop, Ok, Option, Some, refl, sym, ◌∙◌, ap, subst, ⊎_elim, arith, lit<, append_assoc, length-append}
 use Rattle.std.proofs.lemmas.Bool.{le-ltb, lt-leb, le-leb, ltb-false, cases_Bool, eqb-true, and_parts}
 use Rattle.std.proofs.lemmas.List.{length-take-le, length-drop, drop-drop, take-append-drop}
 use Rattle.std.proofs.lemmas.List.Elements.{All-nil, All-append, All-take, All-drop}
 use Rattle.std.proofs.Math.Seq.{take-append_seam, drop-append_seam}
 use borrow.Author.Tests.{leb-true}
 use Rattle.qr_bits.specs.declared.modes.Mode.{Mode}
-use Rattle.qr_bits.specs.declared.modes.Mode.TheVariants.{Numeric, Alphanumeric, Byte, Kanji}
 use Rattle.qr_bits.specs.declared.segment.Segment.{Segment}
 use Rattle.qr_bits.specs.declared.header.Header.{Header}
-use Rattle.qr_bits.specs.declared.fault.ParseFault.TheVariants.{BadMode, Cut}
+use Rattle.qr_bits.specs.declared.fault.ParseFault.TheVariants.{Cut}
 use Rattle.qr_bits.specs.Bits.{field, value}
 use Rattle.qr_bits.specs.Modes.{character_count, count_width, byte_count, payload_bits, suits, indicator}
 use Rattle.qr_bits.specs.Header.{header_indicator, header_stream, HeaderFits}
@@ -40,10 +39,6 @@ number_takes w bits n h = search (arith, guard_ok, same_ok, value_take_below, fi
 len_again : (m : Mode) (xs : List ℕ) → suits m xs ≡ true → byte_count m (character_count m (length xs)) ≡ length xs
 len_again m xs h = grind (arith, in_twos-even)
 
--- the number of bytes leads back to the count
-count_again : (m : Mode) (n : ℕ) → character_count m (byte_count m n) ≡ n
-count_again m n = grind arith
-
 -- data that is written is read back
 payload_again : (m : Mode) (xs : List ℕ) (rest : List Bool) → All (λ b. b < 256) xs → suits m xs ≡ true → payload_at m (character_count m (length xs)) (payload m xs ++ rest) ≡ Ok (xs, rest)
 unfolding payload_at
@@ -66,26 +61,14 @@ mode_again : (m : Mode) → mode_of (indicator m) ≡ Ok m
 unfolding mode_of
 mode_again m = grind arith
 
--- if a mode is found, its test is the one that passed
-mode_cases : (n : ℕ) (m : Mode) (a b c d : Bool) → (n == 1) ≡ a → (n == 2) ≡ b → (n == 4) ≡ c → (n == 8) ≡ d → cond a (Ok Numeric) (cond b (Ok Alphanumeric) (cond c (Ok Byte) (cond d (Ok Kanji) (Err BadMode)))) ≡ Ok m → n ≡ indicator m
-mode_cases n m a b c d e f g i h = grind (arith, eqb-true, same_ok)
-
 -- the indicator of the mode that was read is the number that was read
 mode_takes : (n : ℕ) (m : Mode) → mode_of n ≡ Ok m → n ≡ indicator m
 unfolding mode_of
-mode_takes n m h = search (arith, mode_cases)
+mode_takes n m h = grind (arith, eqb-true, same_ok)
 
 -- an indicator of a mode is a number of four bits
 indicator_most : (m : Mode) → indicator m < 2 ^ 4
 indicator_most m = grind arith
-
--- an indicator of a mode is no terminator
-indicator_open : (m : Mode) → (indicator m == 0) ≡ false
-indicator_open m = grind arith
-
--- an indicator of a mode is not that of a header
-indicator_plain : (m : Mode) → (indicator m == 3) ≡ false
-indicator_plain m = grind arith
 
 -- a segment begins with the indicator of its mode
 first_four : (v : ℕ) (m : Mode) (xs : List ℕ) (rest : List Bool) → (value (take 4 (segment_stream v m xs ++ rest)) ≡ indicator m) × (4 ≤ length (segment_stream v m xs ++ rest))
@@ -121,7 +104,7 @@ segment_from v m bits n p four e number said =
     let behind : n.1 ≡ payload m p.0 ++ p.1 = cc in
     let tail : drop 4 bits ≡ count ++ (payload m p.0 ++ p.1) = number.1 ∙ ap (λ (t : List Bool). count ++ t) behind in
     let head : take 4 bits ≡ field 4 (indicator m) = sym (field_read 4 bits four) ∙ ap (field 4) e in
-    search (arith, count_again, append_assoc, take-append-drop)
+    grind (arith, append_assoc, take-append-drop)
 
 -- a segment that is read is written as the same bits
 segment_takes : (v : ℕ) (bits : List Bool) (s : Segment × List ℕ × List Bool) → 4 ≤ length bits → segment_at v bits ≡ Ok s → IsSegment v bits s.0 s.1 s.2
@@ -138,7 +121,7 @@ segment_takes v bits s four h =
 -- the data does not end where a segment begins
 opens : (v : ℕ) (m : Mode) (xs : List ℕ) (rest : List Bool) → ends (segment_stream v m xs ++ rest) ≡ false
 unfolding ends
-opens v m xs rest = search (arith, first_four, le-ltb, indicator_open)
+opens v m xs rest = grind (arith, first_four, le-ltb)
 
 -- the first n bytes of a list of bytes, and those after them, are bytes
 all_take : (n : ℕ) (xs : List ℕ) → All (λ b. b < 256) xs → All (λ b. b < 256) (take n xs) × All (λ b. b < 256) (drop n xs)
@@ -259,7 +242,7 @@ header_again h rest all_fit =
 none_begins : (v : ℕ) (xs : List ℕ) (segs : List Segment) (tail : List Bool) → ends tail ≡ true → begins_header (segments_stream v xs segs ++ tail) ≡ false
 unfolding begins_header segments_stream ends
 none_begins v xs [] tail e = search (arith, lt-leb, eqb-true, le-ltb, le-leb)
-none_begins v xs (s ∷ ss) tail e = search (arith, first_four, append_assoc, le-leb, indicator_plain)
+none_begins v xs (s ∷ ss) tail e = grind (arith, first_four, append_assoc, le-leb)
 
 -- an optional header that is written is read back
 first_again : (v : ℕ) (h : Option Header) (xs : List ℕ) (segs : List Segment) (tail : List Bool) → HeaderFits h → ends tail ≡ true

@@ -7,7 +7,7 @@ use Rattle.std.proofs.lemmas.List.Elements.{All-nil, All-cons, All-head, All-tai
 use Rattle.qr_bits.specs.declared.modes.Mode.{Mode}
 use Rattle.qr_bits.specs.declared.modes.Mode.TheVariants.{Numeric, Alphanumeric, Byte, Kanji}
 use Rattle.qr_bits.specs.declared.fault.ParseFault.TheVariants.{BadValue}
-use Rattle.qr_bits.specs.Bits.{field, value, bits_of}
+use Rattle.qr_bits.specs.Bits.{value, bits_of}
 use Rattle.qr_bits.specs.Modes.{character_count, is_alphanumeric, byte_count, payload_bits, suits, character_value}
 use Rattle.qr_bits.specs.Stream.{character_bits, payload}
 use Rattle.qr_bits.specs.Parsing.{◌>>=◌, character, characters_of, bytes_of, values_of}
@@ -94,11 +94,7 @@ characters_takes (suc (suc n)) xs bits h e =
 pub bytes_again : (xs : List ℕ) (rest : List Bool) → All (λ b. b < 256) xs → bytes_of (length xs) (bits_of xs ++ rest) ≡ xs
 unfolding bytes_of bits_of
 bytes_again [] rest h = refl
-bytes_again (x ∷ xs) rest h =
-    let r = read_field 8 x (bits_of xs ++ rest) (All-head (λ b. b < 256) x xs h) in
-    let d = drop-field 8 x (bits_of xs ++ rest) in
-    let s = append_assoc (field 8 x) (bits_of xs) rest in
-    rw (s, r, d, bytes_again xs rest (All-tail (λ b. b < 256) x xs h)) refl
+bytes_again (x ∷ xs) rest h = search (arith, append_assoc, read_field, drop-field, All-head, All-tail, bytes_again xs rest)
 
 -- bytes that are read are written as the same bits
 pub bytes_takes : (n : ℕ) (bits : List Bool) → 8 * n ≤ length bits

@@ -44,16 +44,7 @@ drop_one : (test : ℕ → ℕ → Bool) (m : Mode) (x : ℕ) (xs : List ℕ) (s
 unfolding CoversBy
 drop_one test m x xs segs k p c = grind arith
 
--- segments with one more mode cover at least one byte
-none_left : (test : ℕ → ℕ → Bool) (m : Mode) (segs : List Segment) → CoversBy test [] (prepend_mode m segs) → ⊥
-unfolding CoversBy
-none_left test m segs c = grind arith
-
 -- ---- two bytes in kanji mode
-
-add_pair : (test : ℕ → ℕ → Bool) (x y : ℕ) (xs : List ℕ) (segs : List Segment) → test x y ≡ true → CoversBy test xs segs → CoversBy test (x ∷ y ∷ xs) (prepend_mode Kanji (prepend_mode Kanji segs))
-unfolding CoversBy
-add_pair test x y xs segs h c = search (arith, nat_tests, and_from, cond_both, same_rank, eqb-true)
 
 drop_pair : (test : ℕ → ℕ → Bool) (x y : ℕ) (xs : List ℕ) (segs : List Segment) → Positive segs → CoversBy test (x ∷ y ∷ xs) (prepend_mode Kanji (prepend_mode Kanji segs)) → (test x y ≡ true) × CoversBy test xs segs
 unfolding CoversBy
@@ -125,7 +116,7 @@ is_assignment test r (x ∷ y ∷ xs) (Kanji ∷ []) p e h = search (arith, fals
 is_assignment test r (x ∷ y ∷ xs) (Kanji ∷ Kanji ∷ ms) p e h =
     let parts = and_parts (may_take r p x (may_use r Kanji && test x y) Kanji) _ h in
     let second : allowed r test HalfPair (y ∷ xs) (Kanji ∷ ms) ≡ true = rw (state_after-whole p e) at parts.1 in
-    search (arith, take_begin, and_parts, and_from, add_pair, is_assignment test r xs ms WholePair refl second)
+    search (arith, take_begin, and_parts, and_from, nat_tests, cond_both, same_rank, eqb-true, is_assignment test r xs ms WholePair refl second)
 is_assignment test r (x ∷ y ∷ xs) (Kanji ∷ m ∷ ms) p e h = search (arith, and_parts, state_after-whole, false≢true)
 is_assignment test r (x ∷ xs) (m ∷ ms) p e h =
     one_is test r m x xs ms p (lit< tt) e (is_assignment test r xs ms (state_after p m) (may_end-after p m (lit< tt))) h

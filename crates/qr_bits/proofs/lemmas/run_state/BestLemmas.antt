@@ -1,36 +1,18 @@
 -- The best rest of an assignment is the best mode for the next byte and the best rest after it.
-use Rattle.std.proofs.Common.{◌≡◌, ℕ, ◌≤◌, Bool, ◌&&◌, List, ◌∷◌, IsTrue, arith}
+use Rattle.std.proofs.Common.{◌≡◌, ℕ, Bool, List, ◌∷◌, IsTrue, arith}
 use Rattle.qr_bits.specs.declared.modes.Mode.{Mode}
 use Rattle.qr_bits.specs.declared.modes.Rule.{Rule}
 use Rattle.qr_bits.specs.declared.run_state.RunState.{RunState}
-use Rattle.qr_bits.specs.Segmentation.{rank, IsNotAfter}
+use Rattle.qr_bits.specs.Segmentation.{rank}
 use Rattle.qr_bits.specs.Steps.RunState.{state_after, begins_with_pair, allowed, cost_of, IsBestRest, IsChoice}
 
 -- two modes of one rank are equal
 pub same_rank : (m k : Mode) → rank m ≡ rank k → m ≡ k
 same_rank m k h = grind arith
 
--- if both parts hold, the conjunction holds
-pub and_both : (a b : Bool) → IsTrue a → IsTrue b → IsTrue (a && b)
-and_both a b k q = grind arith
-
 -- for each state after the next byte, the best rest, if a rest is allowed
 abbrev pub BestBelow : ℕ → Rule → (ℕ → ℕ → Bool) → List ℕ → (RunState → List Mode) → (RunState → ℕ) → Type 0
 BestBelow v r test xs f cost = (q : RunState) (ks : List Mode) → IsTrue (allowed r test q xs ks) → IsBestRest v r test q xs (f q) (cost q)
-
--- Whatever its first mode is, a rest has no fewer bits than the best one.
-step_least : (v : ℕ) (r : Rule) (test : ℕ → ℕ → Bool) (p : RunState) (x : ℕ) (xs : List ℕ) (f : RunState → List Mode) (cost : RunState → ℕ) (m : Mode) (n : ℕ)
-    → BestBelow v r test xs f cost → IsChoice v r p x (begins_with_pair r test (x ∷ xs)) cost m n
-    → (ks : List Mode) → IsTrue (allowed r test p (x ∷ xs) ks) → n ≤ cost_of v p ks
-unfolding allowed cost_of
-step_least v r test p x xs f cost m n below choice ks h = grind arith
-
--- Whatever its first mode is, a rest with equally many bits does not come before the best one.
-step_first : (v : ℕ) (r : Rule) (test : ℕ → ℕ → Bool) (p : RunState) (x : ℕ) (xs : List ℕ) (f : RunState → List Mode) (cost : RunState → ℕ) (m : Mode) (n : ℕ)
-    → BestBelow v r test xs f cost → IsChoice v r p x (begins_with_pair r test (x ∷ xs)) cost m n
-    → (ks : List Mode) → IsTrue (allowed r test p (x ∷ xs) ks) → cost_of v p ks ≡ n → IsNotAfter (m ∷ f (state_after p m)) ks
-unfolding allowed cost_of
-step_first v r test p x xs f cost m n below choice ks h e = grind arith
 
 -- the best rest: the best mode, and the best rest after it
 pub best_step : (v : ℕ) (r : Rule) (test : ℕ → ℕ → Bool) (p : RunState) (x : ℕ) (xs : List ℕ) (f : RunState → List Mode) (cost : RunState → ℕ) (m : Mode) (n : ℕ)
@@ -38,4 +20,4 @@ pub best_step : (v : ℕ) (r : Rule) (test : ℕ → ℕ → Bool) (p : RunState
     → ((ks : List Mode) × IsTrue (allowed r test (state_after p m) xs ks))
     → IsBestRest v r test p (x ∷ xs) (m ∷ f (state_after p m)) n
 unfolding allowed cost_of
-best_step v r test p x xs f cost m n below choice some = search (arith, and_both, step_least, step_first)
+best_step v r test p x xs f cost m n below choice some = search arith

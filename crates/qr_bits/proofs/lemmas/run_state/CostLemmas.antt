@@ -1,6 +1,7 @@
 -- The number of bits of an assignment is a sum over its modes.
+use Rattle.std.proofs.lemmas.Bool.Decides.{nat_tests}
 use Rattle.std.proofs.Common.{◌≡◌, ℕ, ◌+◌, Bool, true, false, cond, ◌==◌, List, [], ◌∷◌, replicate, refl, arith, suc, zero}
-use Rattle.std.proofs.lemmas.Bool.{cond_both, cond-true, cond-false, false≢true, eqb-true, eq-eqb}
+use Rattle.std.proofs.lemmas.Bool.{cond_both, cond-true, cond-false, eqb-true, eq-eqb}
 use Rattle.qr_bits.specs.declared.modes.Mode.{Mode}
 use Rattle.qr_bits.specs.declared.modes.Mode.TheVariants.{Numeric, Alphanumeric, Byte, Kanji}
 use Rattle.qr_bits.specs.declared.segment.Segment.{Segment}
@@ -47,29 +48,17 @@ state_rank-after p Alphanumeric = grind arith
 state_rank-after _ Byte = refl
 state_rank-after p Kanji = grind arith
 
--- at the start no mode goes on with a run
-at_start : (m : Mode) → goes_on Start m ≡ true → ⊥
-at_start m h = grind arith
-
 -- the data bits of one more byte and then n more bytes of a run
 one_more : (v : ℕ) (p : RunState) (m : Mode) (n : ℕ) → goes_on p m ≡ true
     → byte_cost v p m + payload_bits m (turn p) + payload_bits m (turn (state_after p m) + n) ≡ payload_bits m (turn p + (1 + n)) + payload_bits m (turn (state_after p m))
 unfolding state_after byte_cost
-one_more v p Numeric n h = grind arith
-one_more v p Alphanumeric n h = grind arith
-one_more v InBytes Byte n h = omega arith
-one_more v p Kanji n h = grind arith
-one_more v Start m n h = absurd (at_start m h)
-one_more v _ _ n h = absurd (false≢true h)
+one_more v p m n h = grind (arith, nat_tests)
 
 -- the bits of a byte that begins a run
 begins : (v : ℕ) (p : RunState) (m : Mode) → goes_on p m ≡ false
     → (byte_cost v p m ≡ 4 + count_width v m + payload_bits m 1) × (turn (state_after p m) ≡ 1)
 unfolding state_after byte_cost
-begins v p Numeric h = grind arith
-begins v p Alphanumeric h = grind arith
-begins v p Byte h = grind arith
-begins v p Kanji h = grind arith
+begins v p m h = grind arith
 
 -- the bits of n bytes that go on with a run
 run_bits : (v : ℕ) (p : RunState) (m : Mode) (n : ℕ) → goes_on p m ≡ true
@@ -90,11 +79,6 @@ one_run : (v : ℕ) (p : RunState) (m : Mode) (n : ℕ)
 unfolding cost_of
 one_run v p m n = search (arith, cond_both, begins, run_bits, eq-eqb, state_rank-after)
 
--- the bits of one more byte before a segment of the same mode
-front_same : (v : ℕ) (p : RunState) (m : Mode) (n : ℕ) (ss : List Segment)
-    → byte_cost v p m + rest_bits v (state_after p m) (record { mode = m; len = n } ∷ ss) ≡ rest_bits v p (record { mode = m; len = 1 + n } ∷ ss)
-front_same v p m n ss = search (arith, eq-eqb, state_rank-after, cond-true, one_run)
-
 -- the bits of one more byte before segments
 front : (v : ℕ) (p : RunState) (m : Mode) (segs : List Segment)
     → byte_cost v p m + rest_bits v (state_after p m) segs ≡ rest_bits v p (prepend_mode m segs)
@@ -102,7 +86,7 @@ unfolding cost_of
 front v p m [] = omega (arith, one_run v p m 0)
 front v p m (s ∷ ss) =
     cond_both (rank m == rank s.mode) _ _ (λ (r : List Segment). byte_cost v p m + rest_bits v (state_after p m) (s ∷ ss) ≡ rest_bits v p r)
-    (search (arith, same_rank, eqb-true, front_same))
+    (search (arith, same_rank, eqb-true, eq-eqb, state_rank-after, cond-true, one_run))
     (λ e.
     let other : goes_on (state_after p m) s.mode ≡ false = rw (state_rank-after p m) e in
     let f = cond-false (goes_on (state_after p m) s.mode) (cost_of v (state_after p m) (replicate s.len s.mode)) (segment_bits v s) other in
@@ -115,10 +99,6 @@ unfolding cost_of runs_of
 rest_bits-runs_of v p [] = refl
 rest_bits-runs_of v p (m ∷ ms) = omega (arith, front, rest_bits-runs_of v (state_after p m) ms)
 
--- at the start no segment goes on with a run
-rest_bits-start : (v : ℕ) (segs : List Segment) → rest_bits v Start segs ≡ bits v segs
-rest_bits-start v segs = grind arith
-
 -- the number of bits of the runs of an assignment is the sum over its modes
 pub bits-runs_of : (v : ℕ) (ms : List Mode) → bits v (runs_of ms) ≡ cost_of v Start ms
-bits-runs_of v ms = omega (arith, rest_bits-runs_of, rest_bits-start)
+bits-runs_of v ms = grind (arith, rest_bits-runs_of)

@@ -24,26 +24,34 @@ CoversBy test xs [] = xs ≡ []
 CoversBy test xs (s ∷ ss) =
     (0 < s.len) × (s.len ≤ length xs) × IsTrue (suits_by test s.mode (take s.len xs)) × CoversBy test (drop s.len xs) ss
 
--- no segment is empty, and each can write the next part of the bytes
-unfoldable pub CoversInTurn : List ℕ → List Segment → Type 0
-unfolding CoversBy
-CoversInTurn xs segs = CoversBy is_kanji_pair xs segs
-
 -- with the test for kanji pairs, `suits_by` is `suits`
 pub suits-by : (m : Mode) (xs : List ℕ) → suits m xs ≡ suits_by is_kanji_pair m xs
 suits-by m xs = grind arith
 
 -- segments that cover the bytes cover them one after the other
-pub in_turn : (xs : List ℕ) (segs : List Segment) → Covers xs segs → CoversBy is_kanji_pair xs segs
+pub covers_by : (xs : List ℕ) (segs : List Segment) → Covers xs segs → CoversBy is_kanji_pair xs segs
 unfolding Covers CoversBy Suits
-in_turn xs [] h = h.1
-in_turn xs (s ∷ ss) h = search (arith, All-head, All-tail, suits-by, in_turn (drop s.len xs) ss)
+covers_by xs [] h = h.1
+covers_by xs (s ∷ ss) h = search (arith, All-head, All-tail, suits-by, covers_by (drop s.len xs) ss)
 
 -- segments that cover the bytes one after the other cover them
-pub from_turn : (xs : List ℕ) (segs : List Segment) → CoversBy is_kanji_pair xs segs → Covers xs segs
+pub by_covers : (xs : List ℕ) (segs : List Segment) → CoversBy is_kanji_pair xs segs → Covers xs segs
 unfolding Covers CoversBy Suits
-from_turn xs [] h = search (arith, All-nil)
-from_turn xs (s ∷ ss) h = search (arith, All-cons, suits-by, from_turn (drop s.len xs) ss h.3)
+by_covers xs [] h = search (arith, All-nil)
+by_covers xs (s ∷ ss) h = search (arith, All-cons, suits-by, by_covers (drop s.len xs) ss h.3)
+
+-- no segment is empty, and each can write the next part of the bytes
+unfoldable pub CoversInTurn : List ℕ → List Segment → Type 0
+unfolding CoversBy
+CoversInTurn xs segs = CoversBy is_kanji_pair xs segs
+
+pub in_turn : (xs : List ℕ) (segs : List Segment) → Covers xs segs → CoversInTurn xs segs
+unfolding CoversInTurn
+in_turn xs segs h = covers_by xs segs h
+
+pub from_turn : (xs : List ℕ) (segs : List Segment) → CoversInTurn xs segs → Covers xs segs
+unfolding CoversInTurn
+from_turn xs segs h = by_covers xs segs h
 
 -- segments that cover the bytes suit them
 pub covers_suits : (xs : List ℕ) (segs : List Segment) → Covers xs segs → Suits xs segs

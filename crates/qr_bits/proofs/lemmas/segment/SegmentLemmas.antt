@@ -5,7 +5,7 @@ use Rattle.std.proofs.lemmas.Bool.{cond_both, eqb-true}
 use Rattle.std.proofs.lemmas.List.{length-drop, drop_all}
 use Rattle.std.proofs.lemmas.List.Sums.{sum_by-cons}
 use Rattle.std.proofs.lemmas.List.Elements.{All-head, All-tail}
-use Rattle.qr_bits.proofs.lemmas.segment.CoverLemmas.{CoversBy, suits-by, in_turn, from_turn}
+use Rattle.qr_bits.proofs.lemmas.segment.CoverLemmas.{CoversBy, suits-by, covers_by, by_covers}
 use Rattle.std.proofs.Math.Seq.{drop-cons}
 use Rattle.qr_bits.specs.declared.modes.Mode.{Mode}
 use Rattle.qr_bits.specs.declared.modes.Mode.TheVariants.{Numeric}
@@ -27,13 +27,9 @@ left_over n = grind arith
 digits_least : (n : ℕ) → 10 * n ≤ 3 * payload_bits Numeric n
 digits_least n = search (arith, cond_both, eqb-true)
 
--- data has at most eight bits for each byte, and seven bits more
-payload_most : (m : Mode) (n : ℕ) → payload_bits m n ≤ 8 * n + 7
-payload_most m n = grind arith
-
 -- a segment that is not empty has at most 35 bits for each byte
 segment_most : (v : ℕ) (s : Segment) → 0 < s.len → segment_bits v s ≤ 35 * s.len
-segment_most v s h = omega (arith, payload_most, count_width_bound)
+segment_most v s h = grind (arith, count_width_bound)
 
 -- the bits of the segments from index i on
 pub bits-drop : (v : ℕ) (segs : List Segment) (i : ℕ) (d : Segment) → i < length segs → bits v (drop i segs) ≡ segment_bits v (get_or segs i d) + bits v (drop (i + 1) segs)
@@ -60,19 +56,19 @@ covers_all xs segs h = (h.0, suits_length xs segs h.1)
 pub covers_next : (xs : List ℕ) (segs : List Segment) (i : ℕ) (d : Segment) → i < length segs → Covers xs (drop i segs)
     → (0 < (get_or segs i d).len) × ((get_or segs i d).len ≤ length xs) × IsTrue (suits (get_or segs i d).mode (take (get_or segs i d).len xs)) × Covers (drop (get_or segs i d).len xs) (drop (i + 1) segs)
 unfolding CoversBy
-covers_next xs segs i d h c = search (arith, drop-cons, in_turn, from_turn, suits-by)
+covers_next xs segs i d h c = search (arith, drop-cons, covers_by, by_covers, suits-by)
 
 -- a segment that writes its part, and others that cover the other bytes, together cover all bytes
 pub next_covers : (xs : List ℕ) (segs : List Segment) (i : ℕ) (d : Segment) → i < length segs
     → 0 < (get_or segs i d).len → (get_or segs i d).len ≤ length xs → IsTrue (suits (get_or segs i d).mode (take (get_or segs i d).len xs)) → Covers (drop (get_or segs i d).len xs) (drop (i + 1) segs)
     → Covers xs (drop i segs)
 unfolding CoversBy
-next_covers xs segs i d h a b c e = search (arith, from_turn, drop-cons, in_turn, suits-by)
+next_covers xs segs i d h a b c e = search (arith, by_covers, drop-cons, covers_by, suits-by)
 
 -- if no segment is left, exactly the empty list of bytes is covered
 pub covers_end : (xs : List ℕ) (segs : List Segment) (i : ℕ) → length segs ≤ i → (Covers xs (drop i segs) → xs ≡ []) × (xs ≡ [] → Covers xs (drop i segs))
 unfolding CoversBy
-covers_end xs segs i h = search (arith, drop_all, in_turn, from_turn)
+covers_end xs segs i h = search (arith, drop_all, covers_by, by_covers)
 
 -- three bytes have at least ten bits as data
 pub payload_least : (m : Mode) (n : ℕ) → 10 * n ≤ 3 * payload_bits m n

@@ -44,10 +44,6 @@ bytes_least v xs = (
 bits-most : (v n : ℕ) → bits v (one_segment Byte n) ≤ 4 + count_width v Byte + 8 * n
 bits-most v n = grind arith
 
--- and it has at least this number of bits, if there is a byte
-bits-least : (v n : ℕ) → 0 < n → 4 + count_width v Byte + 8 * n ≤ bits v (one_segment Byte n)
-bits-least v n h = grind arith
-
 -- The longest prefix that fits as one byte segment is the longest prefix that fits.
 pub bytes_longest : (v : ℕ) (xs : List ℕ) (room n k : ℕ) → n ≡ min (length xs) k → 4 + count_width v Byte + 8 * k ≤ room → room < 4 + count_width v Byte + 8 * (k + 1)
     → IsLongestFit v BytesOnly xs room n
@@ -62,6 +58,6 @@ bytes_longest v xs room n k e fits most =
           (λ (none : j < 1). omega arith)
           (λ (some : 1 ≤ j).
           let few = ((least_fits v BytesOnly (take j xs) _ (bytes_least v (take j xs))).1 room).0 fit in
-          search (arith, length-take-le, bits-least))
+          grind (arith, length-take-le))
           (cases_lt j 1);
     }

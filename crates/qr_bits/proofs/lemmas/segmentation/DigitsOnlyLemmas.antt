@@ -6,7 +6,7 @@ use Rattle.qr_bits.specs.declared.modes.Mode.TheVariants.{Numeric}
 use Rattle.qr_bits.specs.declared.modes.Rule.{Rule}
 use Rattle.qr_bits.specs.declared.segment.Segment.{Segment}
 use Rattle.qr_bits.specs.Modes.{is_kanji_pair, suits, may_use, count_width, payload_bits}
-use Rattle.qr_bits.proofs.lemmas.segment.CoverLemmas.{CoversBy, in_turn, one_covers}
+use Rattle.qr_bits.proofs.lemmas.segment.CoverLemmas.{CoversBy, covers_by, one_covers}
 use Rattle.qr_bits.specs.Segmentation.{bits, IsNotAfter, IsLeastSegmentation}
 use Rattle.qr_bits.specs.Steps.Segmentation.{one_segment}
 use Rattle.qr_bits.proofs.lemmas.segmentation.BackLemmas.{sum_by-runs_of, runs_of-replicate, all_used}
@@ -48,7 +48,7 @@ digits_least v r xs u h = (
   replicate (length xs) Numeric,
   record {
     assignment = search (arith, all_used, runs_of-replicate, one_covers);
-    least = search (arith, runs_of-replicate, digits_fewest, in_turn);
+    least = search (arith, runs_of-replicate, digits_fewest, covers_by);
     first = search (arith, digits_first, covers_all, sum_by-runs_of);
   },
   sym (runs_of-replicate Numeric (length xs)),

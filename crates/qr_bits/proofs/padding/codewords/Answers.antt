@@ -1,4 +1,4 @@
-use Rattle.std.proofs.Common.{ℕ, ◌+◌, ◌<◌, min, ◌++◌, refl, arith, length-append}
+use Rattle.std.proofs.Common.{ℕ, ◌+◌, ◌<◌, ◌++◌, refl, arith, length-append}
 use Rattle.qr_bits.specs.Header.{header_stream}
 use Rattle.qr_bits.specs.Stream.{segments_stream, IsStream}
 use Rattle.std.proofs.lemmas.List.Elements.{All-from_get_or}

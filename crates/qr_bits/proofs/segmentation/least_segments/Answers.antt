@@ -6,7 +6,7 @@ use Rattle.qr_bits.specs.declared.segment.Segment.{Segment}
 use Rattle.qr_bits.specs.declared.run_state.RunState.TheVariants.{Start}
 use Rattle.qr_bits.specs.Segmentation.{runs_of}
 use Rattle.qr_bits.specs.Steps.RunState.{state_after, state_on}
-use Rattle.qr_bits.specs.Steps.Segmentation.{one_segment, append_mode}
+use Rattle.qr_bits.specs.Steps.Segmentation.{one_segment}
 use Rattle.qr_bits.specs.Steps.BestModes.{follow}
 use Rattle.qr_bits.proofs.lemmas.segmentation.BackLemmas.{run_same, run_other, runs_of-push, sameb_self}
 use Rattle.qr_bits.proofs.lemmas.best_modes.ChoiceLemmas.{on_after}
@@ -23,10 +23,10 @@ loop-modes-preserved-then-eq c =
     let l = c.loop-modes in
     let i = l.invariant in
     let same : c.mode_at-next.result ≡ l.mode = same_true the_type (search rules) _ _ (sym c.if-eq.ensures) in
-    let state : c.state_on-state.result ≡ state_after l.state l.mode = c.state_on-state.ensures ∙ i.5 in (
+    let state : c.state_on-state.result ≡ state_after l.state l.mode = cc in (
       i.0 ++ l.mode ∷ [],
-      sym (run_same l.found.items l.mode l.len i.4) ∙ ap (λ (r : List Segment). append_mode r l.mode) i.1 ∙ sym (runs_of-push i.0 l.mode),
-      rw state (led_on l.state l.table.items _ c.in-Some.modes i.0 _ l.mode c.in-Some.ensures.items (sym same ∙ c.mode_at-next.ensures) i.2),
+      cc (run_same l.found.items l.mode l.len i.4, runs_of-push i.0 l.mode),
+      rw state (led_on l.state l.table.items _ c.in-Some.modes i.0 _ l.mode c.in-Some.ensures.items (cc) i.2),
       omega (arith, i.3, c.in-Some.ensures.len),
       λ z. absurd (omega arith),
       rw state (on_after l.state l.mode),
@@ -39,8 +39,8 @@ loop-modes-preserved c =
     let mode = c.mode_at-next.result in
     let other : l.mode ≡ mode → ⊥ = search (arith, false≢true, sameb_self) in (
       i.0 ++ mode ∷ [],
-      ap (λ (r : List Segment). r ++ one_segment mode 1) c.in_ok-push_segment.ensures ∙ sym (run_other l.found.items l.mode mode l.len i.4 other)
-          ∙ ap (λ (r : List Segment). append_mode r mode) i.1 ∙ sym (runs_of-push i.0 mode),
+      ap (λ (r : List Segment). r ++ one_segment mode 1) c.in_ok-push_segment.ensures
+          ∙ cc (run_other l.found.items l.mode mode l.len i.4 other, runs_of-push i.0 mode),
       rw c.next_state-state.ensures (led_on l.state l.table.items _ c.in-Some.modes i.0 _ mode c.in-Some.ensures.items c.mode_at-next.ensures i.2),
       omega (arith, i.3, c.in-Some.ensures.len),
       λ z. absurd (omega arith),
