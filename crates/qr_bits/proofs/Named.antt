@@ -1,13 +1,13 @@
 -- The lemmas that attributes of functions name.
 use Rattle.std.proofs.Common.{append-nil, append_assoc}
-use Rattle.std.proofs.lemmas.Bool.{eqb-false, eqb-true}
+use Rattle.std.proofs.lemmas.Bool.{eqb-true}
 use Rattle.std.proofs.lemmas.Grind.{pow_more}
 use Rattle.std.proofs.lemmas.List.{take_all}
 use Rattle.std.proofs.lemmas.List.Sums.{sum_by_more}
 use Rattle.std.proofs.lemmas.Result.{err_from_is_err_and}
 use Rattle.qr_bits.proofs.lemmas.best_modes.TableLemmas.{packed-mode}
 use Rattle.qr_bits.proofs.lemmas.bits.BitLemmas.{bits_of-whole, bool_byte-cond, byte-first, drop_bit, filled-none, filled-some, left_at, number-after, power-fits, value_more}
-use Rattle.qr_bits.proofs.lemmas.folding.FoldingLemmas.{begun_with_pair, folded_none, folded_one, folded_pair, length-folded, length-folded_around_pairs, more_folded}
+use Rattle.qr_bits.proofs.lemmas.folding.FoldingLemmas.{begun_with_pair, folded_none, length-folded, length-folded_around_pairs}
 use Rattle.qr_bits.proofs.lemmas.laws.DataLemmas.{length-stream}
 use Rattle.qr_bits.proofs.lemmas.lower_bound.LeastLemmas.{least_held}
 use Rattle.qr_bits.proofs.lemmas.padding.PaddingLemmas.{pads-even, pads-none, pads-odd}
@@ -20,7 +20,7 @@ pub ruleset writing_bits = (bits_of-whole, byte-first, filled-some, filled-none,
 
 pub ruleset reading_bits = (left_at, drop_bit, pow_more, value_more, bool_byte-cond)
 
-pub ruleset folding_around_pairs = (append-nil, eqb-true, eqb-false, begun_with_pair, folded_pair, folded_one, folded_none, length-folded_around_pairs, more_folded)
+pub ruleset folding_around_pairs = (append-nil, eqb-true, begun_with_pair, folded_none, length-folded_around_pairs)
 
 pub ruleset lengths = (length-folded, length-stream)
 

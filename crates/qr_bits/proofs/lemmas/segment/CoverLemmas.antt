@@ -40,7 +40,7 @@ unfolding Covers CoversBy Suits
 by_covers xs [] h = search (arith, All-nil)
 by_covers xs (s ∷ ss) h = search (arith, All-cons, suits-by, by_covers (drop s.len xs) ss h.3)
 
--- no segment is empty, and each can write the next part of the bytes
+-- as `CoversBy` with the test for kanji pairs; so other crates see it, as do `in_turn` and `from_turn`
 unfoldable pub CoversInTurn : List ℕ → List Segment → Type 0
 unfolding CoversBy
 CoversInTurn xs segs = CoversBy is_kanji_pair xs segs

@@ -1,7 +1,10 @@
 use Rattle.std.proofs.Common.{◌≡◌, ℕ, ◌+◌, ◌-◌, ◌*◌, drop, sym, ◌∙◌, ap, arith}
 use Rattle.std.proofs.lemmas.List.{length-drop, drop-drop}
-use Rattle.qr_bits.proofs.lemmas.parsing.PayloadLemmas.{bytes_more}
+use Rattle.qr_bits.proofs.lemmas.parsing.PayloadLemmas.{value_take_below, bytes_more}
 use Rattle.qr_bits.proofs.parsing.bytes.Goals as goal
+
+pub overflow_cast-take : goal.overflow_cast-take
+overflow_cast-take c = omega (arith, c.take.ensures.value, value_take_below 8 c.loop.reader)
 
 pub loop-preserved : goal.loop-preserved
 loop-preserved c =

@@ -1,0 +1,19 @@
+use Rattle.std.proofs.Common.{◌<◌, length, sym, ◌∙◌, arith}
+use Rattle.std.proofs.lemmas.Bool.{eqb-false}
+use Rattle.qr_bits.proofs.lemmas.folding.FoldingLemmas.{folded_pair, folded_one, more_folded}
+use Rattle.qr_bits.proofs.folding.fold_around_pairs.Goals as goal
+
+pub loop-rest-preserved-then-begins_with_pair : goal.loop-rest-preserved-then-begins_with_pair
+loop-rest-preserved-then-begins_with_pair c =
+    let pair = folded_pair c.loop-rest.rest.now (sym c.begins_with_pair.ensures ∙ c.if-begins_with_pair.true) in
+    rw (c.in_ok-extend_from_slice.ensures.items, c.split_at.ensures.front, c.split_at.ensures.back)
+    (more_folded c.loop-rest.folded.items _ _ _ _ pair c.loop-rest.invariant)
+
+pub loop-rest-preserved : goal.loop-rest-preserved
+loop-rest-preserved c =
+    let rest = c.loop-rest.rest.now in
+    let some : 0 < length rest =
+    omega (arith, eqb-false (length rest) 0 (sym c.is_empty.ensures ∙ c.loop-rest-test.true)) in
+    let one = folded_one rest (sym c.begins_with_pair.ensures ∙ c.if-begins_with_pair.false) some in
+    rw (c.in_ok-push.ensures.items, c.capital.ensures, c.split_at-else-begins_with_pair.ensures.back)
+    (more_folded c.loop-rest.folded.items _ _ _ _ one c.loop-rest.invariant)
