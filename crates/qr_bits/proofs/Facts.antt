@@ -1,10 +1,9 @@
 -- The lemmas that other crates use.
 pub use Rattle.qr_bits.proofs.lemmas.bits.BitLemmas.{bits_at, bits_of-more, bool_byte-bit, byte-behind, field-more, length-bits_of, length-field, power-fits}
 pub use Rattle.qr_bits.proofs.lemmas.best_modes.ChoiceLemmas.{byte_used}
-pub use Rattle.qr_bits.proofs.lemmas.segment.CoverLemmas.{CoversInTurn, from_turn, in_turn}
+pub use Rattle.qr_bits.proofs.lemmas.segment.CoverLemmas.{from_turn, in_turn}
 pub use Rattle.qr_bits.proofs.lemmas.padding.CountLemmas.{capacity_least, capacity_medium, capacity_small, fitting_medium, fitting_short}
 unfoldable pub use Rattle.qr_bits.proofs.lemmas.segment.CoverLemmas.{CoversInTurn}
-pub use Rattle.qr_bits.proofs.lemmas.segment.CoverLemmas.{from_turn}
 pub use Rattle.qr_bits.proofs.lemmas.laws.DataLemmas.{data_again, data_one, length-data, length-stream}
 pub use Rattle.qr_bits.proofs.lemmas.longest_prefix.MirrorLemmas.{empty_fits}
 pub use Rattle.qr_bits.proofs.lemmas.parsing.ParsingLemmas.{fault-read}

@@ -1,3 +1,4 @@
 pub mod lemmas
 -- The lemmas that other crates use.
 pub mod Facts
+pub mod Named

@@ -62,6 +62,7 @@ fn choice_if(may: bool, first: u32, rest: u32) -> u32
     if may { first + rest / 4 * 4 } else { NO_CHOICE }
 }
 
+#[tactic(auto, using(crate::proofs::Named::packed_rows))]
 #[inline(always)]
 fn row_for(numbers: &PerState<u32>) -> u32
     ensures { (p : RunState) → mode_at result p ≡ ranked (in_state numbers.now p % 4) }

@@ -38,6 +38,7 @@ impl BitWriter {
     }
 
     /// Writes the lowest `width` bits of `number`, the most significant first; higher bits may have any value.
+    #[tactic(auto, using(crate::proofs::Named::writing_bits))]
     pub(crate) fn put(&mut self, width: u8, number: u16) -> Result<(), AllocError>
         requires { width ≤ 16 }
         ensures { OnOk result (self.new ≡ self.old ++ field width number) }
@@ -58,6 +59,7 @@ impl BitWriter {
     }
 
     /// Fills the last codeword with zeros, if it is not whole.
+    #[tactic(auto, using(crate::proofs::Named::writing_bits))]
     pub(crate) fn fill(&mut self) -> Result<(), AllocError>
         ensures { OnOk result (self.new ≡ filled self.old) }
     {
@@ -68,6 +70,7 @@ impl BitWriter {
         Ok(())
     }
 
+    #[tactic(auto, using(crate::proofs::Named::writing_bits))]
     pub(crate) fn into_codewords(self) -> Vec<u8>
         requires { length self % 8 ≡ 0 }
         ensures { bits_of result.items ≡ self }
@@ -78,6 +81,7 @@ impl BitWriter {
 }
 
 // Appends the whole bytes of the lowest `width` bits of `bits` to `whole`, and returns how many bits are left.
+#[tactic(auto, using(crate::proofs::Named::writing_bits))]
 fn push_whole(whole: &mut Vec<u8>, bits: u32, width: u8) -> Result<u8, AllocError>
     requires { width ≤ 23 }
     ensures few { IfOk result (λ left. left < 8) }
@@ -93,6 +97,7 @@ fn push_whole(whole: &mut Vec<u8>, bits: u32, width: u8) -> Result<u8, AllocErro
 
 // Appends the `width` bits of `rest`, and then those of `bytes`, as far as they make whole bytes. Returns the bits that
 // are left, again `width` of them.
+#[tactic(auto, unfolding(crate::specs::Bits::bits_of))]
 fn push_bytes(whole: &mut Vec<u8>, width: u8, mut rest: u8, bytes: &[u8]) -> Result<u8, AllocError>
     requires few { width < 8 }
     requires rest { rest < 2 ^ width }
@@ -134,12 +139,14 @@ impl<'a> BitReader<'a> {
         BitReader { bytes, at: 0 }
     }
 
+    #[tactic(auto, using(crate::proofs::Named::reading_bits))]
     pub(crate) fn len(&self) -> usize
         ensures { result ≡ length self.now }
     {
         8 * self.bytes.len() - self.at
     }
 
+    #[tactic(auto, using(crate::proofs::Named::reading_bits))]
     fn bit(&mut self) -> bool
         requires { 0 < length self.old }
         ensures { self.old ≡ result ∷ self.new }
@@ -150,6 +157,7 @@ impl<'a> BitReader<'a> {
     }
 
     /// Reads `width` bits as a number, the most significant first.
+    #[tactic(auto, using(crate::proofs::Named::reading_bits))]
     pub(crate) fn take(&mut self, width: usize) -> u16
         requires there { width ≤ length self.old }
         requires fits { width ≤ 16 }

@@ -26,6 +26,7 @@ use std::alloc::AllocError;
 
 /// A parse succeeds exactly if the bits are a bit stream and then an end: fewer than four bits, or the terminator and
 /// anything after it. Segments may be empty, and need not take the fewest bits.
+#[tactic(auto, using(crate::proofs::lemmas::parsing::StreamReadingLemmas::parse_again, crate::proofs::lemmas::parsing::StreamReadingLemmas::parse_takes))]
 pub fn streams_are_parsed()
     ensures { StreamsAreParsed }
 {}
@@ -44,12 +45,14 @@ pub fn data_are_one()
 {}
 
 /// A bit stream has as many bits as its header and its segments together.
+#[tactic(auto, using(crate::proofs::Named::lengths))]
 pub fn streams_have_their_bits()
     ensures { StreamsHaveTheirBits }
 {}
 
 /// If the modes of segments suit their bytes, and their bits fit a symbol, each count fits its character count
 /// indicator.
+#[tactic(auto, using(crate::proofs::lemmas::padding::CountLemmas::counts_fit))]
 pub fn counts_fit_where_bits_fit()
     ensures { CountsFitWhereBitsFit }
 {}
@@ -60,6 +63,7 @@ pub fn fitting_inputs_are_short()
 {}
 
 /// The least segmentation covers its input, and no valid assignment of modes takes fewer bits.
+#[tactic(auto, using(crate::proofs::lemmas::segment::SegmentLemmas::least_fits))]
 pub fn least_segmentations_fit()
     ensures { LeastSegmentationsFit }
 {}
@@ -71,6 +75,7 @@ pub fn segmentations_are_one()
 {}
 
 /// Folding does not change the number of bytes.
+#[tactic(auto, using(crate::proofs::Named::lengths))]
 pub fn foldings_keep_lengths()
     ensures { (r : Rule) (xs : List ℕ) → length (folded r xs) ≡ length xs }
 {}
@@ -81,6 +86,7 @@ pub fn pieces_need_no_more()
 {}
 
 /// Bit k of the list of all bits of codewords is `codeword_bit` of k.
+#[tactic(auto, using(crate::proofs::lemmas::bits::BitLemmas::bits_at))]
 pub fn bits_are_codeword_bits()
     ensures { BitsAreCodewordBits }
 {}

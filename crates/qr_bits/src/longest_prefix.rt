@@ -16,6 +16,7 @@ use crate::run_state::{FirstChoices, NO_BITS};
 use qr_layout::{Level, Version};
 use std::alloc::Global;
 
+#[tactic(auto, using(crate::proofs::lemmas::longest_prefix::MirrorLemmas::ends_at, crate::proofs::lemmas::longest_prefix::MirrorLemmas::ends_short))]
 fn ends_with_pair(rule: Rule, bytes: &[u8]) -> bool
     ensures { result ≡ begins_with_pair rule (swapped is_kanji_pair) (reverse bytes.now) }
 {

@@ -23,6 +23,7 @@ fn least_sixths(byte: u8) -> u32
 
 /// Returns a lower bound on the bits that `input` takes, without indicators: 10/3 for each digit, 11/2 for any other
 /// byte up to `Z`, 13/2 for each byte above. Only their sum is rounded down (ISO/IEC 18004:2015, 7.4.3 to 7.4.6).
+#[tactic(auto, using(crate::proofs::Named::sums_of_sixths), unfolding(crate::specs::Segmentation::least_bits))]
 pub fn least_bits(input: &[u8]) -> u32
     requires { length input.now ≤ INPUT_MAX }
     ensures value { result ≡ least_bits input.now }

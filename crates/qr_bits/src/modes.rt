@@ -139,7 +139,7 @@ pub(crate) fn is_digit(byte: u8) -> bool
     byte.is_ascii_digit()
 }
 
-#[tactic(auto, unfolding(crate::specs::Modes::is_alphanumeric, crate::specs::Modes::characters))]
+#[tactic(auto, unfolding(crate::specs::Modes::is_alphanumeric, crate::specs::Modes::characters), using(crate::proofs::lemmas::modes::CharacterLemmas::past_z))]
 pub(crate) fn is_alphanumeric(byte: u8) -> bool
     ensures { result ≡ is_alphanumeric byte }
 {
@@ -175,7 +175,7 @@ fn place_of(character: u8) -> Option<usize>
 }
 
 // The 13 bits of a kanji pair (7.4.6).
-#[tactic(auto, unfolding(crate::specs::Modes::kanji_value))]
+#[tactic(auto, unfolding(crate::specs::Modes::kanji_value), using(crate::proofs::lemmas::modes::KanjiLemmas::least_first, crate::proofs::lemmas::modes::KanjiLemmas::least_second))]
 pub(crate) fn kanji_value(high: u8, low: u8) -> u16
     requires { IsTrue (is_kanji_pair high low) }
     ensures { result ≡ kanji_value high low }

@@ -18,6 +18,7 @@ use std::alloc::{AllocError, Global};
 // The terminator has fewer bits where less of the capacity is left (7.4.9).
 const TERMINATOR_BITS: u64 = 4;
 
+#[tactic(auto, using(crate::proofs::lemmas::padding::CountLemmas::capacity_least))]
 pub(crate) fn capacity(version: Version, level: Level) -> u64
     ensures value { result ≡ capacity_of version level }
     ensures first { 1 ≤ version }
@@ -67,6 +68,7 @@ pub fn codewords(
 }
 
 // Appends pad codewords, up to `len` codewords in all (7.4.10).
+#[tactic(auto, using(crate::proofs::Named::pad_codewords))]
 fn pad(codewords: &mut Vec<u8>, len: usize) -> Result<(), AllocError>
     ensures written { OnOk result (codewords.new.items
         ≡ codewords.old.items ++ pads (len - vec_len codewords.old)) }

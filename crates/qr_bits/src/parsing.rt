@@ -76,7 +76,7 @@ pub fn parse(alloc: Global, codewords: &[u8], version: Version) -> Result<Parsed
 }
 
 // A header begins with its mode indicator (8.1).
-#[tactic(auto, unfolding(crate::specs::Parsing::first_header))]
+#[tactic(auto, unfolding(crate::specs::Parsing::first_header), using(crate::proofs::lemmas::parsing::ParsingLemmas::begun))]
 fn first_header(reader: &mut BitReader) -> Result<Option<Header>, ParseFault>
     ensures ok { IfOk result (λ h. first_header reader.old ≡ Ok (h, reader.new)) }
     ensures err { IfErr result (λ e. first_header reader.old ≡ Err e) }
@@ -105,6 +105,7 @@ fn header(reader: &mut BitReader) -> Result<Header, ParseFault>
     })
 }
 
+#[tactic(auto, using(crate::proofs::Named::segment_by_segment))]
 fn segments(
     alloc: Global,
     mut reader: BitReader,
@@ -186,6 +187,7 @@ fn values(
     }
 }
 
+#[tactic(auto, unfolding(crate::specs::Parsing::digits_of), using(crate::proofs::Named::reading_groups))]
 fn digits(reader: &mut BitReader, count: usize, out: &mut Vec<u8>) -> Result<(), ParseFault>
     requires { payload_bits Mode.Numeric count ≤ length reader.old }
     ensures ok { OnOk result ((xs : List ℕ) × (digits_of count reader.old ≡ Ok xs)
@@ -224,6 +226,7 @@ fn digit(number: u16) -> u8
     b'0' + (number % 10) as u8
 }
 
+#[tactic(auto, unfolding(crate::specs::Parsing::characters_of), using(crate::proofs::Named::reading_groups))]
 fn characters(reader: &mut BitReader, count: usize, out: &mut Vec<u8>) -> Result<(), ParseFault>
     requires { payload_bits Mode.Alphanumeric count ≤ length reader.old }
     ensures ok { OnOk result ((xs : List ℕ) × (characters_of count reader.old ≡ Ok xs)
@@ -258,6 +261,7 @@ fn character(value: u16) -> u8
     CHARACTERS[usize::from(value)]
 }
 
+#[tactic(auto, unfolding(crate::specs::Parsing::bytes_of), using(crate::proofs::Named::reading_groups))]
 fn bytes(reader: &mut BitReader, count: usize, out: &mut Vec<u8>) -> Result<(), ParseFault>
     requires { payload_bits Mode.Byte count ≤ length reader.old }
     ensures ok { OnOk result ((out.new.items ≡ out.old.items ++ bytes_of count reader.old)
@@ -270,6 +274,7 @@ fn bytes(reader: &mut BitReader, count: usize, out: &mut Vec<u8>) -> Result<(), 
     Ok(())
 }
 
+#[tactic(auto, unfolding(crate::specs::Parsing::pairs_of), using(crate::proofs::Named::reading_groups))]
 fn kanji(reader: &mut BitReader, count: usize, out: &mut Vec<u8>) -> Result<(), ParseFault>
     requires { 13 * count ≤ length reader.old }
     ensures ok { OnOk result ((xs : List ℕ) × (pairs_of count reader.old ≡ Ok xs)

@@ -23,6 +23,7 @@ pub fn mul(a: u8, b: u8) -> u8
 }
 
 /// Returns the element whose product with `b`, which is not 0, is `a` (ISO/IEC 18004:2015, 7.5.2).
+#[tactic(auto, using(crate::proofs::Named::quotients))]
 pub fn div(a: u8, b: u8) -> u8
     requires { 1 ≤ b }
     ensures { product result b ≡ a }

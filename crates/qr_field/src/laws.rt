@@ -32,6 +32,7 @@ pub fn tables_are_powers()
 {}
 
 /// Two products, one that is reduced by the modulus polynomial, and one with 0.
+#[tactic(auto, unfolding(crate::specs::Galois::remainder_of, crate::specs::Galois::carryless, crate::specs::Galois::product))]
 pub fn products_compute()
     ensures reduced { product 0x80 2 ≡ 0x1D }
     ensures zero { product 0 0xFF ≡ 0 }
@@ -63,6 +64,7 @@ pub fn erasures_are_unambiguous()
 
 /// Where all codewords were read, none is an erasure, and the misread ones are those that differ; so
 /// `erasures_are_unambiguous` also speaks of blocks that were read whole.
+#[tactic(auto, using(crate::proofs::Named::damage))]
 pub fn damage_is_unambiguous()
     ensures read { (xs : List ℕ) → erasures (map (λ x. Some x) xs) ≡ 0 }
     ensures misread { (xs ys : List ℕ) → errors (map (λ x. Some x) xs) ys ≡ differences xs ys }

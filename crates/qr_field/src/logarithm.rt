@@ -42,6 +42,7 @@ pub(crate) static LOGARITHMS: [u8; 255] = [
 ];
 
 /// Returns 2 to the power `exponent`, which is below 255 (ISO/IEC 18004:2015, 7.5.2).
+#[tactic(auto, using(crate::proofs::Named::powers))]
 pub fn power_of(exponent: u8) -> u8
     requires { exponent < 255 }
     ensures { result ≡ power exponent }

@@ -1,9 +1,9 @@
-use Rattle.std.proofs.Common.{◌≡◌, ◌-◌, suc, [], ◌∷◌, length, reverse, get_or, take, drop, vec_len, refl, ◌∙◌, ap, arith}
+use Rattle.std.proofs.Common.{◌≡◌, ◌-◌, suc, [], ◌∷◌, length, get_or, take, drop, vec_len, refl, arith}
 use Rattle.std.proofs.Math.Seq.{drop-length, drop-cons}
 use Rattle.std.proofs.lemmas.List.{reverse-append, take_all, length-drop}
 use Rattle.qr_bits.specs.Modes.{is_kanji_pair}
 use Rattle.qr_bits.specs.Steps.RunState.{begins_with_pair}
-use Rattle.qr_bits.specs.Steps.BestModes.{bits_at, IsRow}
+use Rattle.qr_bits.specs.Steps.BestModes.{IsRow}
 use Rattle.qr_bits.proofs.lemmas.best_modes.TableLemmas.{best_none, best_more, small_more, small_row, zeros}
 use Rattle.qr_bits.proofs.best_modes.best_modes.Goals as goal
 
@@ -19,24 +19,15 @@ best_choices-modes-requires c = small_row c.loop-i.rest (vec_len c.loop-i.table)
 
 pub loop-i-preserved : goal.loop-i-preserved
 loop-i-preserved c =
-    let i = c.loop-i.i in
+    let i = c.loop-i.i - 1 in
     let xs = c.args.input.now in
-    let up : suc (i - 1) ≡ i = omega arith in
-    let d : drop (i - 1) xs ≡ get_or xs (i - 1) 0 ∷ drop i xs = rw (drop-cons xs (i - 1) 0 (omega arith), up) refl in
-    let w : take (length xs - (i - 1)) (drop (i - 1) xs) ≡ drop (i - 1) xs = take_all _ (drop (i - 1) xs) (omega (arith, length-drop (i - 1) xs)) in
-    let pair : c.begins_with_pair-pair.result ≡ begins_with_pair c.args.rule is_kanji_pair (get_or xs (i - 1) 0 ∷ drop i xs) = c.begins_with_pair-pair.ensures ∙ ap (begins_with_pair c.args.rule is_kanji_pair) (w ∙ d) in
-    let chosen : IsRow c.args.version c.args.rule (get_or xs (i - 1) 0) c.begins_with_pair-pair.result c.loop-i.rest c.best_choices-modes.result.0 c.best_choices-modes.result.1 = rw c.of-first_choices.ensures at c.best_choices-modes.ensures in
-    let choice : IsRow c.args.version c.args.rule (get_or xs (i - 1) 0) (begins_with_pair c.args.rule is_kanji_pair (get_or xs (i - 1) 0 ∷ drop i xs)) c.loop-i.rest c.best_choices-modes.result.0 c.best_choices-modes.result.1 = rw pair at chosen in
-    let e : reverse c.push.new.self.items ≡ c.best_choices-modes.result.0 ∷ reverse c.loop-i.table.items =
-    ap reverse c.in_ok-push.ensures.items ∙ reverse-append c.loop-i.table.items (c.best_choices-modes.result.0 ∷ []) in
+    let up : suc i ≡ c.loop-i.i = omega arith in
+    let d : drop i xs ≡ get_or xs i 0 ∷ drop c.loop-i.i xs = rw (drop-cons xs i 0 (omega arith), up) refl in
+    let w : take (length xs - i) (drop i xs) ≡ drop i xs = take_all _ _ (omega (arith, length-drop i xs)) in
+    let chosen : IsRow c.args.version c.args.rule (get_or xs i 0) (begins_with_pair c.args.rule is_kanji_pair (get_or xs i 0 ∷ drop c.loop-i.i xs)) c.loop-i.rest c.best_choices-modes.result.0 c.best_choices-modes.result.1 =
+    rw (c.of-first_choices.ensures, c.begins_with_pair-pair.ensures, w, d) at c.best_choices-modes.ensures in
     record {
       len = omega (arith, c.in_ok-push.ensures.len);
       small = λ p. rw c.in_ok-push.ensures.len (small_more c.args.version c.args.rule _ _ _ c.loop-i.rest _ _ c.loop-i.invariant.small chosen p);
-      best = rw (d, e) (best_more c.args.version c.args.rule is_kanji_pair (get_or xs (i - 1) 0) (drop i xs) (reverse c.loop-i.table.items) c.best_choices-modes.result.0 c.loop-i.rest c.best_choices-modes.result.1 c.loop-i.invariant.best choice);
+      best = rw (d, c.in_ok-push.ensures.items, reverse-append c.loop-i.table.items (c.best_choices-modes.result.0 ∷ [])) (best_more c.args.version c.args.rule is_kanji_pair _ _ _ _ _ _ c.loop-i.invariant.best chosen);
     }
-
-pub returns-clause-best : goal.returns-clause-best
-returns-clause-best c =
-    let none : c.loop-i.i ≡ 0 = omega arith in
-    let best = rw none at c.loop-i.invariant.best in
-    λ p ks h. (bits_at c.loop-i.rest p, best p ks h)

@@ -1,16 +1,8 @@
-use Rattle.std.proofs.Common.{◌≡◌, ◌+◌, ◌*◌, ◌++◌, ◌∙◌, List, Bool, ap, sym, arith, append_assoc, append-nil, get_or, take}
+use Rattle.std.proofs.Common.{◌≡◌, ◌+◌, ◌*◌, arith, append_assoc, get_or}
 use Rattle.std.proofs.Math.Nat.{mod-lt}
 use Rattle.std.proofs.lemmas.Nat.{pow_pos}
-use Rattle.qr_bits.specs.Bits.{bits_of, field}
 use Rattle.qr_bits.proofs.lemmas.bits.BitLemmas.{bits_of-take, byte-behind, power-fits}
 use Rattle.qr_bits.proofs.bits.push_bytes.Goals as goal
-
-pub loop-byte-init : goal.loop-byte-init
-unfolding bits_of
-loop-byte-init c = record {
-  rest = c.requires.rest;
-  bits = sym (append-nil (bits_of c.args.whole.now.items ++ field c.args.width c.args.rest));
-}
 
 pub loop-byte-preserved : goal.loop-byte-preserved
 loop-byte-preserved c =
@@ -20,11 +12,8 @@ loop-byte-preserved c =
     let byte = get_or c.args.bytes.now i 0 in
     let n = 256 * c.from.result + c.from-in-loop-byte.result in
     let e : n ≡ 256 * rest + byte = omega (arith, c.from.ensures, c.from-in-loop-byte.ensures) in
-    let before = bits_of c.args.whole.now.items ++ field w c.args.rest in
+    let more = bits_of-take c.args.bytes.now i c.loop-byte-test.true in
     rw (power-fits w 7 65536 (omega (arith, c.requires.few)) (omega arith)) (record {
       rest = mod-lt n (pow_pos w);
-      bits = rw c.in_ok-push.ensures.items
-          (byte-behind c.loop-byte.whole.items w rest byte n (omega (arith, c.from-in-loop-byte.ensures)) e
-          ∙ (ap (λ (t : List Bool). t ++ field 8 byte) c.loop-byte.invariant.bits
-          ∙ (append_assoc before (bits_of (take i c.args.bytes.now)) (field 8 byte) ∙ ap (λ (t : List Bool). before ++ t) (sym (bits_of-take c.args.bytes.now i c.loop-byte-test.true)))));
+      bits = rw (c.in_ok-push.ensures.items, byte-behind c.loop-byte.whole.items w rest byte n (omega arith) e) (search (arith, append_assoc));
     })

@@ -1,9 +1,9 @@
 -- Folding around kanji pairs, step by step.
-use Rattle.std.proofs.Common.{◌≡◌, ℕ, suc, ◌<◌, ◌≤◌, true, false, List, [], ◌∷◌, ◌++◌, length, get_or, take, drop, refl, sym, ◌∙◌, ap, ⊎_elim, arith, append_assoc}
+use Rattle.std.proofs.Common.{◌≡◌, ℕ, suc, ◌<◌, ◌≤◌, true, false, List, [], ◌∷◌, ◌++◌, length, get_or, take, drop, refl, ap, ⊎_elim, arith, append_assoc}
 use Rattle.std.proofs.lemmas.List.{length-map}
-use Rattle.std.proofs.lemmas.Bool.{cases_Bool, false≢true}
+use Rattle.std.proofs.lemmas.Bool.{cases_Bool}
 use Rattle.qr_bits.specs.declared.modes.Rule.{Rule}
-use Rattle.qr_bits.specs.declared.modes.Rule.TheVariants.{Auto, BytesOnly, WithKanji}
+use Rattle.qr_bits.specs.declared.modes.Rule.TheVariants.{WithKanji}
 use Rattle.qr_bits.specs.Modes.{is_kanji_pair}
 use Rattle.qr_bits.specs.Folding.{capital, folded, folded_around_pairs}
 use Rattle.qr_bits.specs.Steps.RunState.{begins_with_pair}
@@ -11,22 +11,17 @@ use Rattle.qr_bits.specs.Steps.RunState.{begins_with_pair}
 -- a pair stays
 pub folded_pair : (xs : List ℕ) → begins_with_pair WithKanji is_kanji_pair xs ≡ true → folded_around_pairs xs ≡ take 2 xs ++ folded_around_pairs (drop 2 xs)
 unfolding folded_around_pairs begins_with_pair
-folded_pair [] h = absurd (false≢true h)
-folded_pair (x ∷ []) h = absurd (false≢true h)
-folded_pair (x ∷ y ∷ xs) h = rw h refl
+folded_pair xs h = grind arith
 
 -- if no pair begins here, the first byte becomes its capital
 pub folded_one : (xs : List ℕ) → begins_with_pair WithKanji is_kanji_pair xs ≡ false → 0 < length xs → folded_around_pairs xs ≡ capital (get_or xs 0 0) ∷ folded_around_pairs (drop 1 xs)
 unfolding folded_around_pairs begins_with_pair
-folded_one [] h n = absurd (omega arith)
-folded_one (x ∷ []) h n = refl
-folded_one (x ∷ y ∷ xs) h n = rw h refl
+folded_one xs h n = grind arith
 
 -- folding no byte gives no byte
 pub folded_none : (xs : List ℕ) → length xs ≡ 0 → folded_around_pairs xs ≡ []
 unfolding folded_around_pairs
-folded_none [] h = refl
-folded_none (x ∷ xs) h = absurd (omega arith)
+folded_none xs h = grind arith
 
 -- folding around pairs keeps the number of bytes
 pub length-folded_around_pairs : (xs : List ℕ) → length (folded_around_pairs xs) ≡ length xs
@@ -35,23 +30,19 @@ length-folded_around_pairs [] = refl
 length-folded_around_pairs (x ∷ []) = refl
 length-folded_around_pairs (x ∷ y ∷ xs) =
     ⊎_elim
-    (λ (t : is_kanji_pair x y ≡ true). rw t (ap (λ (n : ℕ). suc (suc n)) (length-folded_around_pairs xs)))
+    (search (arith, length-folded_around_pairs xs))
     (λ (f : is_kanji_pair x y ≡ false). rw f (ap suc (length-folded_around_pairs (y ∷ xs))))
     (cases_Bool (is_kanji_pair x y))
 
 -- folding keeps the number of bytes
 pub length-folded : (r : Rule) (xs : List ℕ) → length (folded r xs) ≡ length xs
-length-folded Auto xs = length-map xs capital
-length-folded BytesOnly xs = refl
-length-folded WithKanji xs = length-folded_around_pairs xs
+length-folded r xs = grind (arith, length-map, length-folded_around_pairs)
 
 -- one more part is folded
 pub more_folded : (prefix part rest next whole : List ℕ) → rest ≡ part ++ next → prefix ++ rest ≡ whole → (prefix ++ part) ++ next ≡ whole
-more_folded prefix part rest next whole e h = append_assoc prefix part next ∙ ap (λ (t : List ℕ). prefix ++ t) (sym e) ∙ h
+more_folded prefix part rest next whole e h = cc (append_assoc prefix part next)
 
 -- if a pair begins here, there are two bytes
 pub begun_with_pair : (xs : List ℕ) → begins_with_pair WithKanji is_kanji_pair xs ≡ true → 2 ≤ length xs
 unfolding begins_with_pair
-begun_with_pair [] h = absurd (false≢true h)
-begun_with_pair (x ∷ []) h = absurd (false≢true h)
-begun_with_pair (x ∷ y ∷ xs) h = omega arith
+begun_with_pair xs h = grind arith

@@ -1,5 +1,5 @@
 -- Data codewords: a stream that fits a symbol has one list of them, and a parse returns what they were made of.
-use Rattle.std.proofs.Common.{◌≡◌, ℕ, zero, suc, ◌+◌, ◌-◌, ◌*◌, ◌/◌, ◌%◌, ◌<◌, ◌≤◌, min, Bool, true, false, All, List, [], ◌++◌, length, replicate, drop, Ok, Option, refl, sym, ◌∙◌, ap, ⊎_elim, arith, append_assoc, length-append, append-nil}
+use Rattle.std.proofs.Common.{◌≡◌, ℕ, zero, suc, ◌+◌, ◌-◌, ◌*◌, ◌/◌, ◌%◌, ◌<◌, ◌≤◌, min, Bool, true, false, All, List, [], ◌++◌, length, replicate, Ok, Option, refl, sym, ◌∙◌, ap, ⊎_elim, arith, append_assoc, length-append, append-nil}
 use Rattle.std.proofs.lemmas.Bool.{lt-ltb, cases_lt, or_right}
 use Rattle.std.proofs.lemmas.List.{length-replicate, drop_all}
 use Rattle.qr_layout.specs.declared.level.Level.{Level}
@@ -8,8 +8,8 @@ use Rattle.qr_bits.specs.declared.segment.Segment.{Segment}
 use Rattle.qr_bits.specs.declared.header.Header.{Header}
 use Rattle.qr_bits.specs.Bits.{bits_of}
 use Rattle.qr_bits.specs.Segmentation.{bits}
-use Rattle.qr_bits.specs.Header.{header_stream, header_bits}
-use Rattle.qr_bits.specs.Stream.{segments_stream, IsStream}
+use Rattle.qr_bits.specs.Header.{header_bits}
+use Rattle.qr_bits.specs.Stream.{IsStream}
 use Rattle.qr_bits.specs.Parsing.{ends, bytes_of, parse}
 use Rattle.qr_bits.specs.Padding.{capacity_of, terminated, filled, pads, padded, IsData}
 use Rattle.qr_bits.proofs.lemmas.bits.BitLemmas.{length-bits_of}
@@ -20,8 +20,7 @@ use Rattle.qr_bits.proofs.lemmas.parsing.StreamReadingLemmas.{parse_again}
 
 -- The length of a stream is the number of bits of its header and its segments.
 pub length-stream : (v : ℕ) (xs : List ℕ) (segs : List Segment) (h : Option Header) (stream : List Bool) → IsStream v xs segs h stream → length stream ≡ header_bits h + bits v segs
-length-stream v xs segs h stream is =
-    omega (arith, ap length is.whole, length-append (header_stream h) (segments_stream v xs segs), length-header_stream h, length-segments_stream v xs segs is.suit)
+length-stream v xs segs h stream is = search (arith, length-append, length-header_stream, length-segments_stream)
 
 -- the number of pad codewords is n
 length-pads : (n : ℕ) → length (pads n) ≡ n
@@ -38,27 +37,11 @@ terminator n stream = replicate (min 4 (8 * n - length stream)) false
 abbrev filling : List Bool → List Bool
 filling bits = replicate ((8 - length bits % 8) % 8) false
 
--- the stream and its terminator fit n codewords, and the pad codewords are the rest of the n codewords
-whole_length : (n s : ℕ) → s ≤ 8 * n → (k : ℕ) → k ≡ s + min 4 (8 * n - s) → (w : ℕ) → w ≡ k + (8 - k % 8) % 8 → (w ≤ 8 * n) × (w / 8 + (n - w / 8) ≡ n) × (8 * (w / 8) ≡ w)
-whole_length n s h k ek w ew = (omega arith, omega arith, omega arith)
-
--- the length of the stream up to the end of a codeword
-length-filled_terminated : (n : ℕ) (stream : List Bool) → length (filled (terminated (8 * n) stream)) ≡ length (terminated (8 * n) stream) + (8 - length (terminated (8 * n) stream) % 8) % 8
-length-filled_terminated n stream =
-    let t = terminated (8 * n) stream in
-    omega (arith, length-append t (filling t), length-replicate ((8 - length t % 8) % 8) false)
-
--- the length of the stream with its terminator
-length-terminated : (n : ℕ) (stream : List Bool) → length (terminated (8 * n) stream) ≡ length stream + min 4 (8 * n - length stream)
-length-terminated n stream = omega (arith, length-append stream (terminator n stream), length-replicate (min 4 (8 * n - length stream)) false)
-
 -- the padded stream fills n codewords
 length-padded : (n : ℕ) (stream : List Bool) → length stream ≤ 8 * n → length (padded n stream) ≡ 8 * n
 unfolding padded
 length-padded n stream h =
-    let w = filled (terminated (8 * n) stream) in
-    let parts = whole_length n (length stream) h (length (terminated (8 * n) stream)) (length-terminated n stream) (length w) (length-filled_terminated n stream) in
-    omega (arith, length-append w (bits_of (pads (n - length w / 8))), length-bits_of (pads (n - length w / 8)), length-pads (n - length w / 8), parts.0, parts.1, parts.2)
+    grind (arith, length-append, length-replicate, bits_of, length-bits_of, length-pads)
 
 -- the stream is followed by an end
 tail_of : (n : ℕ) (stream : List Bool) → length stream ≤ 8 * n → (tail : List Bool) × (padded n stream ≡ stream ++ tail) × (ends tail ≡ true)
@@ -67,16 +50,14 @@ tail_of n stream h =
     let t = terminator n stream in
     let f = filling (terminated (8 * n) stream) in
     let p = bits_of (pads (n - length (filled (terminated (8 * n) stream)) / 8)) in
-    let whole : ((stream ++ t) ++ f) ++ p ≡ stream ++ (t ++ (f ++ p)) = append_assoc (stream ++ t) f p ∙ append_assoc stream t (f ++ p) in (
+    let whole : ((stream ++ t) ++ f) ++ p ≡ stream ++ (t ++ (f ++ p)) = search (arith, append_assoc) in (
       t ++ (f ++ p),
       whole,
       ⊎_elim
           (λ (l : 8 * n - length stream < 4).
-          let len : length stream + length (t ++ (f ++ p)) ≡ 8 * n = omega (arith, length-append stream (t ++ (f ++ p)), ap length whole, length-padded n stream h) in
+          let len : length stream + length (t ++ (f ++ p)) ≡ 8 * n = cc (length-append stream (t ++ (f ++ p)), length-padded n stream h) in
           rw (lt-ltb (length (t ++ (f ++ p))) 4 (omega arith)) refl)
-          (λ (l : 4 ≤ 8 * n - length stream).
-          let four : min 4 (8 * n - length stream) ≡ 4 = omega arith in
-          rw four (or_right _ true refl))
+          (search (arith, or_right))
           (cases_lt (8 * n - length stream) 4),
     )
 
@@ -85,7 +66,7 @@ pub data_again : (v : ℕ) (l : Level) (xs : List ℕ) (segs : List Segment) (h 
     → parse v (bits_of cw) ≡ Ok (record { header = h; segments = segs; bytes = xs })
 data_again v l xs segs h cw d =
     let t = tail_of (data_codewords_of v l) d.stream d.fits in
-    rw (d.codewords, t.1) (parse_again v xs segs h d.stream t.0 d.is_stream t.2)
+    search (arith, parse_again)
 
 -- If a stream fits a symbol, there are data codewords.
 pub data_found : (v : ℕ) (l : Level) (xs : List ℕ) (segs : List Segment) (h : Option Header) (stream : List Bool) → IsStream v xs segs h stream → length stream ≤ capacity_of v l
@@ -95,8 +76,7 @@ data_found v l xs segs h stream is fits =
     let all = padded n stream in
     let len = length-padded n stream fits in
     let w = bytes_takes n all (omega arith) in
-    let none : drop (8 * n) all ≡ [] = drop_all (8 * n) all (omega arith) in
-    (bytes_of n all, record { stream = stream; is_stream = is; fits = fits; bytes = w.1; codewords = sym (w.2 ∙ ap (λ (t : List Bool). bits_of (bytes_of n all) ++ t) none ∙ append-nil (bits_of (bytes_of n all))) })
+    grind (arith, drop_all, bits_of, append-nil)
 
 -- bytes that have the same bits are equal
 same_bytes : (xs ys : List ℕ) → All (λ b. b < 256) xs → All (λ b. b < 256) ys → bits_of xs ≡ bits_of ys → xs ≡ ys
@@ -106,9 +86,7 @@ same_bytes xs ys a b e =
 
 -- There is only one list of data codewords.
 pub data_one : (v : ℕ) (l : Level) (xs : List ℕ) (segs : List Segment) (h : Option Header) (cw dw : List ℕ) → IsData v l xs segs h cw → IsData v l xs segs h dw → cw ≡ dw
-data_one v l xs segs h cw dw a b =
-    let same : a.stream ≡ b.stream = a.is_stream.whole ∙ sym b.is_stream.whole in
-    same_bytes cw dw a.bytes b.bytes (a.codewords ∙ ap (padded (data_codewords_of v l)) same ∙ sym b.codewords)
+data_one v l xs segs h cw dw a b = search (arith, same_bytes)
 
 -- there are as many data codewords as the symbol has
 pub length-data : (v : ℕ) (l : Level) (xs : List ℕ) (segs : List Segment) (h : Option Header) (cw : List ℕ) → IsData v l xs segs h cw → length cw ≡ data_codewords_of v l

@@ -1,17 +1,18 @@
 -- Without kanji mode, a piece of an input needs no more bits than the input.
-use Rattle.std.proofs.Common.{◌≡◌, ℕ, ◌+◌, ◌<◌, ◌≤◌, true, false, List, [], ◌∷◌, ◌++◌, refl, sym, ◌∙◌, ap, arith, lit<}
+use Rattle.std.proofs.Common.{◌≡◌, ℕ, ◌+◌, ◌<◌, ◌≤◌, true, false, List, [], ◌∷◌, ◌++◌, refl, arith}
 use Rattle.std.specs.List.{list_all}
 use Rattle.std.proofs.lemmas.Bool.{and_parts, and_from, false≢true}
 use Rattle.qr_bits.specs.declared.modes.Mode.{Mode}
-use Rattle.qr_bits.specs.declared.modes.Mode.TheVariants.{Numeric, Alphanumeric, Byte, Kanji}
+use Rattle.qr_bits.specs.declared.modes.Mode.TheVariants.{Numeric, Alphanumeric, Kanji}
 use Rattle.qr_bits.specs.declared.modes.Rule.{Rule}
 use Rattle.qr_bits.specs.declared.run_state.RunState.{RunState}
-use Rattle.qr_bits.specs.declared.run_state.RunState.TheVariants.{Start, Digit1, Digit2, Digit3, Character1, Character2, InBytes, HalfPair, WholePair}
+use Rattle.qr_bits.specs.declared.run_state.RunState.TheVariants.{Start, Digit1, Digit2, Digit3, Character1, Character2}
 use Rattle.qr_bits.specs.Segmentation.{rank, bits, runs_of, IsAssignment, HasFit}
 use Rattle.qr_bits.specs.Modes.{may_use, is_kanji_pair}
 use Rattle.qr_bits.specs.Steps.RunState.{state_after, byte_cost, begins_with_pair, may_take, may_end, allowed, cost_of}
+use Rattle.qr_bits.proofs.lemmas.segment.CoverLemmas.{covers_by, by_covers}
 use Rattle.qr_bits.proofs.lemmas.run_state.CostLemmas.{bits-runs_of}
-use Rattle.qr_bits.proofs.lemmas.run_state.AssignmentLemmas.{may_end-after, take_one, one_taken, can_take, is_assignment, covers_by, by_covers}
+use Rattle.qr_bits.proofs.lemmas.run_state.AssignmentLemmas.{may_end-after, begin_is, can_take, is_assignment}
 use Rattle.qr_bits.proofs.lemmas.best_modes.ChoiceLemmas.{take_begin}
 
 -- the state of a run after one more byte
@@ -29,30 +30,6 @@ lag Digit3 = 1
 lag Character2 = 1
 lag _ = 0
 
-ahead_byte : (v : ℕ) (p : RunState) → byte_cost v p Byte ≡ byte_cost v (ahead p) Byte
-unfolding byte_cost
-ahead_byte v Start = refl
-ahead_byte v Digit1 = refl
-ahead_byte v Digit2 = refl
-ahead_byte v Digit3 = refl
-ahead_byte v Character1 = refl
-ahead_byte v Character2 = refl
-ahead_byte v InBytes = refl
-ahead_byte v HalfPair = refl
-ahead_byte v WholePair = refl
-
-ahead_kanji : (v : ℕ) (p : RunState) → (byte_cost v p Kanji ≡ byte_cost v (ahead p) Kanji) × (state_after p Kanji ≡ state_after (ahead p) Kanji)
-unfolding byte_cost state_after
-ahead_kanji v Start = (refl, refl)
-ahead_kanji v Digit1 = (refl, refl)
-ahead_kanji v Digit2 = (refl, refl)
-ahead_kanji v Digit3 = (refl, refl)
-ahead_kanji v Character1 = (refl, refl)
-ahead_kanji v Character2 = (refl, refl)
-ahead_kanji v InBytes = (refl, refl)
-ahead_kanji v HalfPair = (refl, refl)
-ahead_kanji v WholePair = (refl, refl)
-
 behind_ahead : (v : ℕ) (p : RunState) (ms : List Mode) → cost_of v p ms ≤ cost_of v (ahead p) ms + lag p
 unfolding cost_of byte_cost state_after
 behind_ahead v p [] = omega arith
@@ -63,8 +40,7 @@ behind_ahead v Character1 (Alphanumeric ∷ ms) = omega (arith, behind_ahead v C
 behind_ahead v Character2 (Alphanumeric ∷ ms) = omega (arith, behind_ahead v Character1 ms)
 behind_ahead v _ (Numeric ∷ ms) = omega arith
 behind_ahead v _ (Alphanumeric ∷ ms) = omega arith
-behind_ahead v p (Byte ∷ ms) = omega (arith, ahead_byte v p)
-behind_ahead v p (Kanji ∷ ms) = let e = ahead_kanji v p in omega (arith, e.0, ap (λ (q : RunState). cost_of v q ms) e.1)
+behind_ahead v p h = grind arith
 
 -- without the first mode an assignment takes no more bits
 without_first : (v : ℕ) (m : Mode) (ms : List Mode) → rank m < 3 → cost_of v Start ms ≤ cost_of v Start (m ∷ ms)
@@ -73,20 +49,14 @@ without_first v m [] h = omega arith
 without_first v Numeric (Numeric ∷ ms) h = omega (arith, behind_ahead v Digit1 ms)
 without_first v Alphanumeric (Alphanumeric ∷ ms) h = omega (arith, behind_ahead v Character1 ms)
 without_first v Kanji (k ∷ ms) h = absurd (omega arith)
-without_first v _ (Numeric ∷ ms) h = omega arith
-without_first v _ (Alphanumeric ∷ ms) h = omega arith
-without_first v _ (Byte ∷ ms) h = omega arith
-without_first v _ (Kanji ∷ ms) h = omega arith
+without_first v _ k h = grind arith
 
 -- the rule does not allow kanji mode
 abbrev pub IsPlain : Rule → Type 0
 IsPlain r = may_use r Kanji ≡ false
 
 plain : (r : Rule) (m : Mode) → IsPlain r → may_use r m ≡ true → rank m < 3
-plain r Numeric p h = lit< tt
-plain r Alphanumeric p h = lit< tt
-plain r Byte p h = lit< tt
-plain r Kanji p h = absurd (false≢true (sym p ∙ h))
+plain r m p h = grind arith
 
 abbrev CanUse : Rule → List Mode → Type 0
 CanUse r ms = list_all (may_use r) ms ≡ true
@@ -100,9 +70,8 @@ front v r p (x ∷ xs) ys (m ∷ ms) n u e h =
     let use_ = and_parts (may_use r m) (list_all (may_use r) ms) u in
     let low = plain r m n use_.0 in
     let parts = and_parts (may_take r p x (begins_with_pair r is_kanji_pair (x ∷ (xs ++ ys))) m) _ h in
-    let taken = take_one is_kanji_pair r m x (begins_with_pair r is_kanji_pair (x ∷ (xs ++ ys))) low (sym (take_begin r p x (begins_with_pair r is_kanji_pair (x ∷ (xs ++ ys))) m e) ∙ parts.0) in
     let rest = front v r (state_after p m) xs ys ms n use_.1 (may_end-after p m low) parts.1 in
-    (m ∷ rest.0, and_from _ _ use_.0 rest.1, and_from _ _ (take_begin r p x (begins_with_pair r is_kanji_pair (x ∷ xs)) m e ∙ one_taken is_kanji_pair r m x (begins_with_pair r is_kanji_pair (x ∷ xs)) low taken.0 taken.1) rest.2, omega (arith, rest.3))
+    (m ∷ rest.0, search (arith, and_from), search (arith, take_begin, begin_is is_kanji_pair, and_from), omega (arith, rest.3))
 
 back : (v : ℕ) (r : Rule) (xs ys : List ℕ) (ms : List Mode) → IsPlain r → CanUse r ms → allowed r is_kanji_pair Start (xs ++ ys) ms ≡ true
     → (ks : List Mode) × CanUse r ks × (allowed r is_kanji_pair Start ys ks ≡ true) × (cost_of v Start ks ≤ cost_of v Start ms)
@@ -113,19 +82,17 @@ back v r (x ∷ xs) ys (m ∷ ms) n u h =
     let use_ = and_parts (may_use r m) (list_all (may_use r) ms) u in
     let low = plain r m n use_.0 in
     let parts = and_parts (may_take r Start x (begins_with_pair r is_kanji_pair (x ∷ (xs ++ ys))) m) _ h in
-    let again = can_take is_kanji_pair r (xs ++ ys) ms (is_assignment is_kanji_pair r (xs ++ ys) ms (state_after Start m) (may_end-after Start m low) parts.1) Start refl in
-    let rest = back v r xs ys ms n use_.1 again in
-    (rest.0, rest.1, rest.2, omega (arith, rest.3, without_first v m ms low))
+    let again = can_take is_kanji_pair r (xs ++ ys) ms (search (arith, is_assignment, may_end-after)) Start refl in
+    search (arith, without_first, back v r xs ys ms n use_.1 again)
 
 -- If an assignment is valid for an input, each piece of the input has a valid assignment of no more bits.
 pub piece : (v : ℕ) (r : Rule) (xs ys zs : List ℕ) (ms : List Mode) → IsPlain r → IsAssignment r (xs ++ (ys ++ zs)) ms
     → (ks : List Mode) × IsAssignment r ys ks × (bits v (runs_of ks) ≤ bits v (runs_of ms))
 unfolding may_end
 piece v r xs ys zs ms n h =
-    let b = back v r xs (ys ++ zs) ms n h.0 (can_take is_kanji_pair r (xs ++ (ys ++ zs)) ms (h.0, covers_by (xs ++ (ys ++ zs)) (runs_of ms) h.1) Start refl) in
+    let b = back v r xs (ys ++ zs) ms n h.0 (search (arith, can_take, covers_by)) in
     let f = front v r Start ys zs b.0 n b.1 refl b.2 in
-    let is = is_assignment is_kanji_pair r ys f.0 Start refl f.2 in
-    (f.0, (is.0, by_covers ys (runs_of f.0) is.1), omega (arith, bits-runs_of v f.0, bits-runs_of v ms, f.3, b.3))
+    search (arith, is_assignment, by_covers, bits-runs_of)
 
 -- If an input fits, each piece of it fits.
 pub piece_fits : (v : ℕ) (r : Rule) (xs ys zs : List ℕ) (n : ℕ) → may_use r Kanji ≡ false → HasFit v r (xs ++ (ys ++ zs)) n → HasFit v r ys n

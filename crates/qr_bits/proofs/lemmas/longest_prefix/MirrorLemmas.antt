@@ -6,20 +6,20 @@ use Rattle.std.proofs.lemmas.Bool.{cond_both, and_parts, and_from, false≢true,
 use Rattle.std.proofs.lemmas.List.{reverse-append, reverse-reverse, take_more, take_all, drop_all, take-append-le, drop-append-le, take-append-drop, length-append, length-take-le, length-reverse, get_or-reverse}
 use Rattle.std.proofs.lemmas.List.Folds.{list_all-append}
 use Rattle.qr_bits.specs.declared.modes.Mode.{Mode}
-use Rattle.qr_bits.specs.declared.modes.Mode.TheVariants.{Numeric, Alphanumeric, Byte, Kanji}
+use Rattle.qr_bits.specs.declared.modes.Mode.TheVariants.{Kanji}
 use Rattle.qr_bits.specs.declared.modes.Rule.{Rule}
 use Rattle.qr_bits.specs.declared.segment.Segment.{Segment}
 use Rattle.qr_bits.specs.declared.run_state.RunState.{RunState}
 use Rattle.qr_bits.specs.declared.run_state.RunState.TheVariants.{Start}
 use Rattle.qr_bits.specs.Segmentation.{rank, bits, prepend_mode, runs_of, HasFit}
-use Rattle.qr_bits.specs.Modes.{in_twos, is_kanji_pair, is_digit, is_alphanumeric, may_use}
+use Rattle.qr_bits.specs.Modes.{in_twos, is_kanji_pair, may_use}
 use Rattle.qr_bits.specs.Steps.Segmentation.{append_mode}
 use Rattle.qr_bits.specs.Steps.RunState.{swapped, begins_with_pair, may_end}
+use Rattle.qr_bits.proofs.lemmas.segment.CoverLemmas.{covers_by, by_covers, suits_by, CoversBy}
 use Rattle.qr_bits.proofs.lemmas.run_state.BestLemmas.{BestBelow, same_rank}
 use Rattle.qr_bits.proofs.lemmas.segmentation.BackLemmas.{runs_of-push, append_mode-last}
 use Rattle.qr_bits.proofs.lemmas.run_state.CostLemmas.{bits-runs_of}
-use Rattle.qr_bits.proofs.lemmas.segment.CoverLemmas.{CoversInTurn, from_turn}
-use Rattle.qr_bits.proofs.lemmas.run_state.AssignmentLemmas.{suits_by, CoversBy, IsAssignmentBy, covers_by, by_covers, can_take, is_assignment}
+use Rattle.qr_bits.proofs.lemmas.run_state.AssignmentLemmas.{IsAssignmentBy, can_take, is_assignment}
 use Rattle.qr_bits.proofs.lemmas.best_modes.TableLemmas.{bytes_rest, best_more}
 use Rattle.qr_bits.specs.declared.run_state.PerState.{PerState}
 use Rattle.qr_bits.specs.Steps.BestModes.{bits_at, follow, IsRow}
@@ -28,46 +28,39 @@ use Rattle.qr_bits.specs.Steps.BestModes.{bits_at, follow, IsRow}
 list_all-reverse : {X : Type 0} (p : X → Bool) (xs : List X) → list_all p xs ≡ true → list_all p (reverse xs) ≡ true
 list_all-reverse p [] h = refl
 list_all-reverse p (x ∷ xs) h =
-    let parts = and_parts (p x) (list_all p xs) h in
-    rw (reverse-append (x ∷ []) xs, list_all-append p (reverse xs) (x ∷ [])) (and_from _ _ (list_all-reverse p xs parts.1) (and_from (p x) true parts.0 refl))
+    rw (reverse-append (x ∷ []) xs) (search (arith, list_all-append, and_parts, and_from, list_all-reverse p xs))
 
 -- two more bytes at the end that pass the test
 in_twos-push : (test : ℕ → ℕ → Bool) (xs : List ℕ) (x y : ℕ) → in_twos test xs ≡ true → test x y ≡ true → in_twos test (xs ++ x ∷ y ∷ []) ≡ true
-in_twos-push test [] x y h t = and_from (test x y) true t refl
-in_twos-push test (a ∷ []) x y h t = absurd (false≢true h)
-in_twos-push test (a ∷ b ∷ xs) x y h t = let parts = and_parts (test a b) _ h in and_from (test a b) _ parts.0 (in_twos-push test xs x y parts.1 t)
+in_twos-push test [] x y h t = search (arith, and_from)
+in_twos-push test (a ∷ []) x y h t = cc
+in_twos-push test (a ∷ b ∷ xs) x y h t = search (arith, and_parts, and_from, in_twos-push test xs x y)
 
 -- bytes that pass a test two by two pass it reversed, with the arguments of the test exchanged
 in_twos-reverse : (test : ℕ → ℕ → Bool) (xs : List ℕ) → in_twos test xs ≡ true → in_twos (swapped test) (reverse xs) ≡ true
 in_twos-reverse test [] h = refl
-in_twos-reverse test (x ∷ []) h = absurd (false≢true h)
+in_twos-reverse test (x ∷ []) h = cc
 in_twos-reverse test (x ∷ y ∷ xs) h =
-    let parts = and_parts (test x y) _ h in
-    rw (reverse-append (x ∷ y ∷ []) xs) (in_twos-push (swapped test) (reverse xs) y x (in_twos-reverse test xs parts.1) parts.0)
+    rw (reverse-append (x ∷ y ∷ []) xs) (search (arith, in_twos-push, and_parts, in_twos-reverse test xs))
 
 -- bytes that can be written in a mode can be written in it reversed
 suits-reverse : (test : ℕ → ℕ → Bool) (m : Mode) (xs : List ℕ) → suits_by test m xs ≡ true → suits_by (swapped test) m (reverse xs) ≡ true
-suits-reverse test Numeric xs h = list_all-reverse is_digit xs h
-suits-reverse test Alphanumeric xs h = list_all-reverse is_alphanumeric xs h
-suits-reverse test Byte xs h = refl
-suits-reverse test Kanji xs h = in_twos-reverse test xs h
+suits-reverse test m xs h = grind (arith, list_all-reverse, in_twos-reverse)
 
 -- one more segment at the end
 covers-push : (test : ℕ → ℕ → Bool) (xs ys : List ℕ) (ss : List Segment) (s : Segment) → 0 < s.len → length ys ≡ s.len → suits_by test s.mode ys ≡ true → CoversBy test xs ss → CoversBy test (xs ++ ys) (ss ++ s ∷ [])
 unfolding CoversBy
-covers-push test xs ys [] s a n h c = rw c (a, omega arith, rw (take_all s.len ys (omega arith)) h, drop_all s.len ys (omega arith))
+covers-push test xs ys [] s a n h c = search (arith, take_all, drop_all)
 covers-push test xs ys (t ∷ ss) s a n h c =
-    (c.0, omega (arith, length-append xs ys, c.1), rw (take-append-le t.len xs ys c.1) c.2, rw (drop-append-le t.len xs ys c.1) (covers-push test (drop t.len xs) ys ss s a n h c.3))
+    search (arith, length-append, take-append-le, drop-append-le, covers-push test (drop t.len xs) ys ss s a n h c.3)
 
 -- reversed segments cover the reversed bytes, with the arguments of the test exchanged
 covers-reverse : (test : ℕ → ℕ → Bool) (xs : List ℕ) (ss : List Segment) → CoversBy test xs ss → CoversBy (swapped test) (reverse xs) (reverse ss)
 unfolding CoversBy
 covers-reverse test xs [] c = ap reverse c
 covers-reverse test xs (s ∷ ss) c =
-    let whole : reverse xs ≡ reverse (drop s.len xs) ++ reverse (take s.len xs) = ap reverse (sym (take-append-drop s.len xs)) ∙ reverse-append (take s.len xs) (drop s.len xs) in
-    let n : length (reverse (take s.len xs)) ≡ s.len = length-reverse (take s.len xs) ∙ length-take-le s.len xs c.1 in
-    let all = covers-push (swapped test) (reverse (drop s.len xs)) (reverse (take s.len xs)) (reverse ss) s c.0 n (suits-reverse test s.mode (take s.len xs) c.2) (covers-reverse test (drop s.len xs) ss c.3) in
-    rw (reverse-append (s ∷ []) ss) (subst (λ (ys : List ℕ). CoversBy (swapped test) ys (reverse ss ++ s ∷ [])) (sym whole) all)
+    let whole : reverse xs ≡ reverse (drop s.len xs) ++ reverse (take s.len xs) = cc (take-append-drop s.len xs, reverse-append (take s.len xs) (drop s.len xs)) in
+    rw (reverse-append (s ∷ []) ss, whole) (search (arith, covers-push, length-reverse, length-take-le, suits-reverse, covers-reverse test (drop s.len xs) ss c.3))
 
 -- a mode added before segments is added after the reversed segments
 prepend_mode-reverse : (m : Mode) (ss : List Segment) → append_mode (reverse ss) m ≡ reverse (prepend_mode m ss)
@@ -80,7 +73,7 @@ prepend_mode-reverse m (s ∷ ss) =
     let same = same_rank m s.mode (eqb-true _ _ e) in
     let t : (rank s.mode == rank m) ≡ true = eq-eqb _ _ (sym (eqb-true _ _ e)) in
     let n : s.len + 1 ≡ 1 + s.len = omega arith in
-    rw (t, n, ← same) (sym (reverse-append (record { mode = m; len = 1 + s.len } ∷ []) ss)))
+    cc (reverse-append (record { mode = m; len = 1 + s.len } ∷ []) ss))
     (λ e.
     let t : (rank s.mode == rank m) ≡ false = ne_eqb _ _ (λ q. false≢true (sym e ∙ eq-eqb _ _ (sym q))) in
     rw t (sym (reverse-append (record { mode = m; len = 1 } ∷ s ∷ []) ss))))
@@ -90,7 +83,7 @@ runs_of-reverse : (ms : List Mode) → runs_of (reverse ms) ≡ reverse (runs_of
 unfolding runs_of
 runs_of-reverse [] = refl
 runs_of-reverse (m ∷ ms) =
-    rw (reverse-append (m ∷ []) ms) (runs_of-push (reverse ms) m ∙ ap (λ (r : List Segment). append_mode r m) (runs_of-reverse ms) ∙ prepend_mode-reverse m (runs_of ms))
+    rw (reverse-append (m ∷ []) ms) (search (arith, runs_of-push, prepend_mode-reverse, runs_of-reverse ms))
 
 -- the bits of two lists of segments add up
 bits-append : (v : ℕ) (ss ts : List Segment) → bits v (ss ++ ts) ≡ bits v ss + bits v ts
@@ -105,60 +98,47 @@ bits-reverse v (s ∷ ss) = rw (reverse-append (s ∷ []) ss) (omega (arith, bit
 -- If an assignment is valid for some bytes, its reverse is valid for the reversed bytes, and has the same number of bits.
 mirror : (v : ℕ) (test : ℕ → ℕ → Bool) (r : Rule) (xs : List ℕ) (ms : List Mode) → IsAssignmentBy test r xs ms
     → IsAssignmentBy (swapped test) r (reverse xs) (reverse ms) × (bits v (runs_of (reverse ms)) ≡ bits v (runs_of ms))
-mirror v test r xs ms h = (
-  (list_all-reverse (may_use r) ms h.0, rw (runs_of-reverse ms) (covers-reverse test xs (runs_of ms) h.1)),
-  ap (bits v) (runs_of-reverse ms) ∙ bits-reverse v (runs_of ms),
-)
+mirror v test r xs ms h = search (arith, list_all-reverse, runs_of-reverse, covers-reverse, bits-reverse)
 
 -- if the best rest of a reversed prefix has at most n bits, the prefix fits n bits
 pub prefix_fits : (v : ℕ) (r : Rule) (xs : List ℕ) (f : RunState → List Mode) (cost : RunState → ℕ) (n : ℕ) → BestBelow v r (swapped is_kanji_pair) (reverse xs) f cost → cost Start ≤ n → HasFit v r xs n
 unfolding may_end
 prefix_fits v r xs f cost n below small =
     let best = below Start _ (bytes_rest r (swapped is_kanji_pair) Start (reverse xs) refl) in
-    let back = mirror v (swapped is_kanji_pair) r (reverse xs) (f Start) (is_assignment (swapped is_kanji_pair) r (reverse xs) (f Start) Start refl best.is_allowed) in
+    let back = mirror v (swapped is_kanji_pair) r (reverse xs) (f Start) (search (arith, is_assignment)) in
     let again : CoversBy is_kanji_pair (reverse (reverse xs)) (runs_of (reverse (f Start))) = back.0.1 in
-    (reverse (f Start), (back.0.0, by_covers xs _ (rw (reverse-reverse xs) at again)), omega (arith, back.1, small, bits-runs_of v (f Start), best.has_bits))
+    search (arith, by_covers, reverse-reverse, bits-runs_of)
 
 -- if a prefix fits n bits, the best rest of the reversed prefix has at most n bits
 pub prefix_least : (v : ℕ) (r : Rule) (xs : List ℕ) (f : RunState → List Mode) (cost : RunState → ℕ) (n : ℕ) → BestBelow v r (swapped is_kanji_pair) (reverse xs) f cost → HasFit v r xs n → cost Start ≤ n
 unfolding may_end
 prefix_least v r xs f cost n below fit =
-    let ms = fit.0 in
-    let back = mirror v is_kanji_pair r xs ms (fit.1.0, covers_by xs _ fit.1.1) in
-    let taken = can_take (swapped is_kanji_pair) r (reverse xs) (reverse ms) back.0 Start refl in
-    let best = below Start (reverse ms) taken in
-    omega (arith, best.least (reverse ms) taken, bits-runs_of v (reverse ms), back.1, fit.2)
+    let back = mirror v is_kanji_pair r xs fit.0 (fit.1.0, covers_by xs _ fit.1.1) in
+    let taken = can_take (swapped is_kanji_pair) r (reverse xs) (reverse fit.0) back.0 Start refl in
+    search (arith, bits-runs_of)
 
 -- an empty input fits any number of bits
 pub empty_fits : (v : ℕ) (r : Rule) (n : ℕ) → HasFit v r [] n
-unfolding CoversInTurn runs_of
-empty_fits v r n = ([], (refl, from_turn [] [] refl), omega arith)
+unfolding CoversBy runs_of
+empty_fits v r n = ([], (refl, by_covers [] [] refl), omega arith)
 
 -- the test of the first two bytes
 begins_at : (r : Rule) (test : ℕ → ℕ → Bool) (xs : List ℕ) → 2 ≤ length xs → begins_with_pair r test xs ≡ (may_use r Kanji && test (get_or xs 0 0) (get_or xs 1 0))
 unfolding begins_with_pair
-begins_at r test [] h = absurd (omega arith)
-begins_at r test (x ∷ []) h = absurd (omega arith)
-begins_at r test (x ∷ y ∷ xs) h = refl
+begins_at r test xs h = grind arith
 
 -- the last two bytes are the first two of the reversed bytes
 pub ends_at : (r : Rule) (xs : List ℕ) → 2 ≤ length xs → begins_with_pair r (swapped is_kanji_pair) (reverse xs) ≡ (may_use r Kanji && is_kanji_pair (get_or xs (length xs - 2) 0) (get_or xs (length xs - 1) 0))
-ends_at r xs h =
-    let two = begins_at r (swapped is_kanji_pair) (reverse xs) (omega (arith, length-reverse xs)) in
-    let last : get_or (reverse xs) 0 0 ≡ get_or xs (length xs - 1) 0 = get_or-reverse xs 0 0 (omega arith) ∙ ap (λ (i : ℕ). get_or xs i 0) (omega arith) in
-    let before : get_or (reverse xs) 1 0 ≡ get_or xs (length xs - 2) 0 = get_or-reverse xs 1 0 (omega arith) ∙ ap (λ (i : ℕ). get_or xs i 0) (omega arith) in
-    two ∙ ap (λ (y : ℕ). may_use r Kanji && is_kanji_pair (get_or (reverse xs) 1 0) y) last ∙ ap (λ (x : ℕ). may_use r Kanji && is_kanji_pair x (get_or xs (length xs - 1) 0)) before
+ends_at r xs h = search (arith, begins_at, length-reverse, get_or-reverse)
 
 -- fewer than two bytes do not begin with two
 begins_short : (r : Rule) (test : ℕ → ℕ → Bool) (xs : List ℕ) → length xs < 2 → begins_with_pair r test xs ≡ false
 unfolding begins_with_pair
-begins_short r test [] h = refl
-begins_short r test (x ∷ []) h = refl
-begins_short r test (x ∷ y ∷ xs) h = absurd (omega arith)
+begins_short r test xs h = grind arith
 
 -- fewer than two bytes do not end in two
 pub ends_short : (r : Rule) (xs : List ℕ) → length xs < 2 → begins_with_pair r (swapped is_kanji_pair) (reverse xs) ≡ false
-ends_short r xs h = begins_short r (swapped is_kanji_pair) (reverse xs) (omega (arith, length-reverse xs))
+ends_short r xs h = search (arith, begins_short, length-reverse)
 
 -- a reversed prefix with one more byte
 pub prefix_next : (xs : List ℕ) (i : ℕ) → i < length xs → reverse (take (i + 1) xs) ≡ get_or xs i 0 ∷ reverse (take i xs)

@@ -8,7 +8,6 @@ use Rattle.std.proofs.lemmas.List.Sums.{fails_before_first, passes_at_first, pos
 use Rattle.std.proofs.lemmas.List.Elements.{All-from_get_or}
 use Rattle.qr_bits.specs.declared.modes.Mode.TheVariants.{Numeric, Alphanumeric}
 use Rattle.qr_bits.specs.declared.modes.Rule.{Rule}
-use Rattle.qr_bits.specs.declared.modes.Rule.TheVariants.{Auto, BytesOnly, WithKanji}
 use Rattle.qr_bits.specs.Modes.{characters, is_alphanumeric, is_digit, character_value, may_use}
 use Rattle.qr_bits.specs.Steps.RunState.{may_begin}
 use Rattle.qr_bits.specs.Parsing.{character}
@@ -53,8 +52,7 @@ at_place n = refl
 
 -- if a negation holds, its argument is false
 not_true : (b : Bool) → not b ≡ true → b ≡ false
-not_true true h = cc
-not_true false h = refl
+not_true b h = grind arith
 
 -- there are 45 characters
 many : length characters ≡ 45
@@ -110,9 +108,7 @@ character_taken n h =
 
 -- a rule that allows numeric mode allows alphanumeric mode
 text_used : (r : Rule) → may_use r Numeric ≡ true → may_use r Alphanumeric ≡ true
-text_used Auto h = refl
-text_used BytesOnly h = h
-text_used WithKanji h = refl
+text_used r h = grind arith
 
 -- each digit is one of the 45 characters
 all_digits : below 10 (λ i. is_alphanumeric (48 + i)) ≡ true

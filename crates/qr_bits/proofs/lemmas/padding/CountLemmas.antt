@@ -1,22 +1,20 @@
 -- If the bits of segments fit a symbol, each count fits its field.
-use Rattle.std.proofs.Common.{◌≡◌, ℕ, ◌+◌, ◌-◌, ◌*◌, ◌^◌, ◌<◌, ◌≤◌, Bool, true, false, cond, leb, List, [], ◌∷◌, length, drop, refl, ap, arith, subst, lit≤}
+use Rattle.std.proofs.Common.{◌≡◌, ℕ, ◌+◌, ◌-◌, ◌*◌, ◌^◌, ◌<◌, ◌≤◌, Bool, true, false, cond, leb, List, [], ◌∷◌, length, drop, ap, arith, subst}
 use borrow.Author.Tests.{leb-true}
 use Rattle.std.proofs.lemmas.Bool.{le-leb, lt-leb}
 use Rattle.qr_layout.specs.declared.level.Level.{Level}
-use Rattle.qr_layout.specs.declared.level.Level.TheVariants.{L, M, Q, H}
 use Rattle.qr_layout.specs.Version.{total_codewords_of}
 use Rattle.qr_layout.specs.Blocks.{correction_len_of, block_count_of, data_codewords_of}
 use Rattle.qr_layout.proofs.Facts.{below, below-at}
 use Rattle.qr_bits.specs.declared.modes.Mode.{Mode}
-use Rattle.qr_bits.specs.declared.modes.Mode.TheVariants.{Numeric, Alphanumeric, Byte, Kanji}
 use Rattle.qr_bits.specs.declared.modes.Rule.{Rule}
 use Rattle.qr_bits.specs.declared.segment.Segment.{Segment}
-use Rattle.qr_bits.specs.Modes.{character_count, count_width}
+use Rattle.qr_bits.specs.Modes.{is_kanji_pair, character_count, count_width}
 use Rattle.qr_bits.specs.Segmentation.{segment_bits, bits, HasFit}
 use Rattle.qr_bits.specs.Stream.{CountsFit}
 use Rattle.qr_bits.specs.Padding.{capacity_of}
 use Rattle.qr_bits.proofs.lemmas.segment.SegmentLemmas.{segment_least, bits_least}
-use Rattle.qr_bits.proofs.lemmas.segment.CoverLemmas.{CoversInTurn, covers_suits, in_turn, from_turn}
+use Rattle.qr_bits.proofs.lemmas.segment.CoverLemmas.{CoversBy, covers_suits, covers_by, by_covers}
 use Rattle.std.proofs.lemmas.List.{length-drop}
 
 -- the most data codewords of the versions to 9, to 26 and to 40
@@ -30,10 +28,7 @@ t-most l i = leb (data_codewords_of (i + 1) l) (most_data (i + 1))
 -- the test passes at each version and level
 all-most : (l : Level) → below 40 (t-most l) ≡ true
 unfolding t-most data_codewords_of total_codewords_of block_count_of correction_len_of
-all-most L = refl
-all-most M = refl
-all-most Q = refl
-all-most H = refl
+all-most l = grind arith
 
 -- a symbol has no more data codewords than the most of its group of versions
 data_most : (v : ℕ) (l : Level) → 1 ≤ v → v ≤ 40 → data_codewords_of v l ≤ most_data v
@@ -49,10 +44,7 @@ t-least l i = leb 9 (data_codewords_of (i + 1) l)
 -- the test passes at each version and level
 all-least : (l : Level) → below 40 (t-least l) ≡ true
 unfolding t-least data_codewords_of total_codewords_of block_count_of correction_len_of
-all-least L = refl
-all-least M = refl
-all-least Q = refl
-all-least H = refl
+all-least l = grind arith
 
 -- the data codewords of a symbol have at least 72 bits
 pub capacity_least : (v : ℕ) (l : Level) → 1 ≤ v → v ≤ 40 → 72 ≤ capacity_of v l
@@ -72,10 +64,7 @@ capacity_most v l a b = search (arith, groups, data_most)
 
 -- if the bits of a segment fit, its count fits
 count_fits : (v n : ℕ) (m : Mode) → segment_bits v (record { mode = m; len = n }) ≤ 8 * most_data v → character_count m n < 2 ^ count_width v m
-count_fits v n Numeric h = search (arith, groups)
-count_fits v n Alphanumeric h = search (arith, groups)
-count_fits v n Byte h = search (arith, groups)
-count_fits v n Kanji h = search (arith, groups)
+count_fits v n m h = grind arith
 
 -- If the bits of segments fit a symbol, each count fits its field.
 pub counts_fit : (v : ℕ) (l : Level) (segs : List Segment) → 1 ≤ v → v ≤ 40 → bits v segs ≤ capacity_of v l → CountsFit v segs
@@ -85,22 +74,19 @@ counts_fit v l (s ∷ ss) a b h = search (arith, count_fits, data_most, counts_f
 
 -- from version 27 on, the indicator and the count of a segment have at least 16 bits
 head_least : (v : ℕ) (m : Mode) → 26 < v → 12 ≤ count_width v m
-head_least v Numeric h = rw (lt-leb v 9 (omega arith), lt-leb v 26 h) (lit≤ tt)
-head_least v Alphanumeric h = rw (lt-leb v 9 (omega arith), lt-leb v 26 h) (lit≤ tt)
-head_least v Byte h = rw (lt-leb v 9 (omega arith)) (lit≤ tt)
-head_least v Kanji h = rw (lt-leb v 9 (omega arith), lt-leb v 26 h) (lit≤ tt)
+head_least v m h = grind arith
 
 -- bytes whose segments have at most 23,648 bits are at most 7,089 bytes
-short_large : (v : ℕ) (xs : List ℕ) (segs : List Segment) → 26 < v → CoversInTurn xs segs → bits v segs ≤ 23648 → length xs ≤ 7089
-unfolding CoversInTurn
+short_large : (v : ℕ) (xs : List ℕ) (segs : List Segment) → 26 < v → CoversBy is_kanji_pair xs segs → bits v segs ≤ 23648 → length xs ≤ 7089
+unfolding CoversBy
 short_large v xs [] h c few = omega (arith, ap length c)
 short_large v xs (s ∷ ss) h c few =
-    omega (arith, segment_least v s, head_least v s.mode h, bits_least v (drop s.len xs) ss (covers_suits (drop s.len xs) ss (from_turn _ _ c.3)), length-drop s.len xs, c.1)
+    omega (arith, segment_least v s, head_least v s.mode h, bits_least v (drop s.len xs) ss (covers_suits (drop s.len xs) ss (by_covers _ _ c.3)), length-drop s.len xs, c.1)
 
 -- An input that fits a symbol has at most 7,089 bytes.
 pub fitting_short : (v : ℕ) (l : Level) (r : Rule) (xs : List ℕ) → 1 ≤ v → v ≤ 40 → HasFit v r xs (capacity_of v l) → length xs ≤ 7089
 fitting_short v l r xs a b fit =
-    search (arith, data_most, groups, bits_least, covers_suits, short_large, in_turn, capacity_most)
+    search (arith, data_most, groups, bits_least, covers_suits, short_large, covers_by, capacity_most)
 
 -- An input that fits a symbol has at most three bytes for each ten bits.
 fitting_few : (v : ℕ) (l : Level) (r : Rule) (xs : List ℕ) → 1 ≤ v → v ≤ 40 → HasFit v r xs (capacity_of v l) → 10 * length xs ≤ 24 * most_data v
@@ -117,5 +103,5 @@ capacity_medium v l a b = search (arith, groups, data_most)
 -- An input that fits a version up to 26 has at most 3,288 bytes.
 pub fitting_medium : (v : ℕ) (l : Level) (r : Rule) (xs : List ℕ) → 1 ≤ v → v ≤ 26 → HasFit v r xs (capacity_of v l) → length xs ≤ 3288
 fitting_medium v l r xs a b fit =
-    let most : most_data v ≤ 1370 = groups v (λ s m. v ≤ 26 → cond s 232 (cond m 1370 2956) ≤ 1370) (λ _ _. lit≤ tt) (λ _ _ _. lit≤ tt) (λ k n. absurd (omega arith)) b in
+    let most : most_data v ≤ 1370 = search (arith, groups) in
     omega (arith, most, fitting_few v l r xs a (omega arith) fit)

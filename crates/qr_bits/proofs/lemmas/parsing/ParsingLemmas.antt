@@ -1,49 +1,39 @@
 -- A parse, segment by segment.
-use Rattle.std.proofs.Common.{◌≡◌, ℕ, zero, suc, ◌+◌, ◌≤◌, Bool, true, false, cond, ◌==◌, nat_lt, nat_le, List, [], ◌∷◌, ◌++◌, length, take, drop, Result, Ok, Err, refl, sym, ◌∙◌, ap, inl, inr, ⊎_elim, arith}
+use Rattle.std.proofs.Common.{◌≡◌, ℕ, zero, suc, ◌+◌, ◌≤◌, Bool, true, false, cond, List, [], ◌∷◌, ◌++◌, length, take, drop, Result, Ok, Err, refl, ap, ⊎_elim, arith}
 use Rattle.std.proofs.lemmas.Bool.{lt-ltb, le-ltb, ltb-false, or_parts, or_left, and_parts, cases_Bool}
 use Rattle.std.proofs.lemmas.List.{append-nil, append_assoc, length-drop}
 use Rattle.qr_bits.specs.declared.modes.Mode.{Mode}
 use Rattle.qr_bits.specs.declared.segment.Segment.{Segment}
 use Rattle.qr_bits.specs.declared.fault.ParseFault.{ParseFault}
-use Rattle.qr_bits.specs.declared.fault.ParseFault.TheVariants.{Memory, Cut}
+use Rattle.qr_bits.specs.declared.fault.ParseFault.TheVariants.{Memory}
 use Rattle.qr_bits.specs.Bits.{value}
-use Rattle.qr_bits.specs.Modes.{payload_bits, count_width, byte_count}
-use Rattle.qr_bits.specs.Parsing.{◌>>=◌, IsResultOf, values_of, mode_of, ends, leading_number, payload_at, segment_at, segments_at, segments_of, begins_header, header_at}
+use Rattle.qr_bits.specs.Modes.{count_width}
+use Rattle.qr_bits.specs.Parsing.{◌>>=◌, IsResultOf, mode_of, ends, leading_number, payload_at, segment_at, segments_at, segments_of, begins_header, header_at}
 use Rattle.qr_bits.specs.Steps.Parsing.{IsFaultOf}
 use borrow.Author.Tests.{leb-true}
 
 -- if two parsers in turn succeed, the first one succeeds, and the second one succeeds on its result
 pub bind_ok : {A B : Type 0} (r : Result A ParseFault) (f : A → Result B ParseFault) (y : B) → (r >>= f) ≡ Ok y → (x : A) × (r ≡ Ok x) × (f x ≡ Ok y)
-bind_ok (Ok x) f y h = (x, refl, h)
-bind_ok (Err e) f y h = cc
+bind_ok r f y h = grind arith
 
 -- if a parser after a test succeeds, the test was passed
 pub guard_ok : {A : Type 0} (b : Bool) (e : ParseFault) (r : Result A ParseFault) (y : A) → cond b (Err e) r ≡ Ok y → (b ≡ false) × (r ≡ Ok y)
-guard_ok true e r y h = cc
-guard_ok false e r y h = (refl, h)
+guard_ok b e r y h = grind arith
 
 -- reading a number leaves no more bits than before
 number_shorter : (w : ℕ) (bits : List Bool) (n : ℕ × List Bool) → leading_number w bits ≡ Ok n → length n.1 ≤ length bits
 unfolding leading_number
-number_shorter w bits n h =
-    let g = guard_ok (nat_lt (length bits) w) Cut (Ok (value (take w bits), drop w bits)) n h in
-    let e : drop w bits ≡ n.1 = cc in
-    omega (arith, length-drop w bits, ap length e)
+number_shorter w bits n h = search (arith, guard_ok, length-drop)
 
 -- reading data leaves no more bits than before
 payload_shorter : (m : Mode) (n : ℕ) (bits : List Bool) (p : List ℕ × List Bool) → payload_at m n bits ≡ Ok p → length p.1 ≤ length bits
 unfolding payload_at
-payload_shorter m n bits p h =
-    let g = guard_ok (nat_lt (length bits) (payload_bits m (byte_count m n))) Cut (values_of m n bits >>= λ xs. Ok (xs, drop (payload_bits m (byte_count m n)) bits)) p h in
-    let b = bind_ok (values_of m n bits) (λ xs. Ok (xs, drop (payload_bits m (byte_count m n)) bits)) p g.1 in
-    let e : drop (payload_bits m (byte_count m n)) bits ≡ p.1 = cc in
-    omega (arith, length-drop (payload_bits m (byte_count m n)) bits, ap length e)
+payload_shorter m n bits p h = search (arith, guard_ok, bind_ok, length-drop)
 
 -- a property of each result of the second parser is a property of both in turn
 pub bind_all : {A B : Type 0} (r : Result A ParseFault) (f : A → Result B ParseFault) (P : B → Type 0)
     → ((x : A) → r ≡ Ok x → (y : B) → f x ≡ Ok y → P y) → (y : B) → (r >>= f) ≡ Ok y → P y
-bind_all (Ok x) f P k y h = k x refl y h
-bind_all (Err e) f P k y h = cc
+bind_all r f P k y h = grind arith
 
 -- a result that is no fault
 abbrev pub ok : {A : Type 0} → A → Result A ParseFault
@@ -61,18 +51,18 @@ segment_shorter v bits s four h =
     bind_all (mode_of (value (take 4 bits))) _ P (λ m em t ht.
     bind_all (leading_number (count_width v m) (drop 4 bits)) _ P (λ n en t ht.
     bind_all (payload_at m n.0 n.1) _ P (λ p ep t ht.
-    let e : p.1 ≡ t.2 = ap (λ (u : Segment × List ℕ × List Bool). u.2) (same_ok (record { mode = m; len = byte_count m n.0 }, p.0, p.1) t ht) in
+    let e : p.1 ≡ t.2 = search (arith, same_ok) in
     omega (arith, number_shorter (count_width v m) (drop 4 bits) n en, payload_shorter m n.0 n.1 p ep, length-drop 4 bits, ap length e)) t ht) t ht) s h
 
 -- if the data does not end here, there are four bits
 pub not_ended : (bits : List Bool) → ends bits ≡ false → 4 ≤ length bits
 unfolding ends
-not_ended bits h = ltb-false (length bits) 4 (or_parts (nat_lt (length bits) 4) (value (take 4 bits) == 0) h).0
+not_ended bits h = search (arith, ltb-false, or_parts)
 
 -- an empty list of bits is an end
 pub ended_empty : (bits : List Bool) → length bits ≤ 0 → ends bits ≡ true
 unfolding ends
-ended_empty bits h = or_left (nat_lt (length bits) 4) _ (lt-ltb (length bits) 4 (omega arith))
+ended_empty bits h = search (arith, or_left, lt-ltb)
 
 -- a segment, and then the rest
 abbrev pub step : Result (Segment × List ℕ × List Bool) ParseFault → (List Bool → Result (List Segment × List ℕ) ParseFault) → Result (List Segment × List ℕ) ParseFault
@@ -82,15 +72,7 @@ step read next = read >>= λ s. next s.2 >>= λ r. Ok (s.0 ∷ r.0, s.1 ++ r.1)
 same_rest : (read : Result (Segment × List ℕ × List Bool) ParseFault) (n m v : ℕ)
     → ((s : Segment × List ℕ × List Bool) → read ≡ Ok s → segments_at n v s.2 ≡ segments_at m v s.2)
     → step read (segments_at n v) ≡ step read (segments_at m v)
-same_rest (Ok s) n m v h = ap (λ (q : Result (List Segment × List ℕ) ParseFault). q >>= λ r. Ok (s.0 ∷ r.0, s.1 ++ r.1)) (h s refl)
-same_rest (Err e) n m v h = refl
-
--- the bound on the number of segments of the rest may be the number of its bits
-each_rest : (read : Result (Segment × List ℕ × List Bool) ParseFault) (n v : ℕ)
-    → ((s : Segment × List ℕ × List Bool) → read ≡ Ok s → segments_at n v s.2 ≡ segments_at (length s.2) v s.2)
-    → step read (segments_at n v) ≡ step read (λ b. segments_at (length b) v b)
-each_rest (Ok s) n v h = ap (λ (q : Result (List Segment × List ℕ) ParseFault). q >>= λ r. Ok (s.0 ∷ r.0, s.1 ++ r.1)) (h s refl)
-each_rest (Err e) n v h = refl
+same_rest read n m v h = grind arith
 
 -- the bound makes no difference if it is at least the number of bits
 enough : (n m v : ℕ) (bits : List Bool) → length bits ≤ n → length bits ≤ m → segments_at n v bits ≡ segments_at m v bits
@@ -108,31 +90,22 @@ enough (suc n) (suc m) v bits h k =
 -- at an end no segment is read
 pub segments_end : (v : ℕ) (bits : List Bool) → ends bits ≡ true → segments_of v bits ≡ Ok ([], [])
 unfolding segments_of segments_at
-segments_end v bits h = enough (length bits) (suc (length bits)) v bits (omega arith) (omega arith) ∙ rw h refl
+segments_end v bits h = search (arith, enough)
 
 -- if the data does not end here, a segment is read and then the rest
 pub segments_step : (v : ℕ) (bits : List Bool) → ends bits ≡ false
     → segments_of v bits ≡ step (segment_at v bits) (segments_of v)
 unfolding segments_of segments_at
-segments_step v bits h =
-    enough (length bits) (suc (length bits)) v bits (omega arith) (omega arith)
-    ∙ rw h (each_rest (segment_at v bits) (length bits) v
-    (λ s q. enough (length bits) (length s.2) v s.2 (omega (arith, segment_shorter v bits s (not_ended bits h) q)) (omega arith)))
+segments_step v bits h = grind (arith, enough, segment_shorter, not_ended)
 
 -- the result for the rest, with the segments and bytes that were read before it
 abbrev pub behind : List Segment → List ℕ → Result (List Segment × List ℕ) ParseFault → Result (List Segment × List ℕ) ParseFault
 behind segs xs read = read >>= λ r. Ok (segs ++ r.0, xs ++ r.1)
 
--- one more segment before the result for the rest
-behind_one : (segs : List Segment) (xs ys : List ℕ) (s : Segment) (read : Result (List Segment × List ℕ) ParseFault)
-    → behind segs xs (read >>= λ r. Ok (s ∷ r.0, ys ++ r.1)) ≡ behind (segs ++ s ∷ []) (xs ++ ys) read
-behind_one segs xs ys s (Ok r) = rw (append_assoc segs (s ∷ []) r.0, append_assoc xs ys r.1) refl
-behind_one segs xs ys s (Err e) = refl
-
 -- one more segment is read
 pub behind_more : (v : ℕ) (bits rest : List Bool) (segs : List Segment) (xs ys : List ℕ) (s : Segment) → ends bits ≡ false → segment_at v bits ≡ Ok (s, ys, rest)
     → behind segs xs (segments_of v bits) ≡ behind (segs ++ s ∷ []) (xs ++ ys) (segments_of v rest)
-behind_more v bits rest segs xs ys s e h = rw (segments_step v bits e, h) (behind_one segs xs ys s (segments_of v rest))
+behind_more v bits rest segs xs ys s e h = rw (segments_step v bits e, h) (grind (arith, append_assoc))
 
 -- a fault of the next segment is the fault of the rest
 pub behind_fault : (v : ℕ) (bits : List Bool) (segs : List Segment) (xs : List ℕ) (f : ParseFault) → ends bits ≡ false → segment_at v bits ≡ Err f
@@ -142,20 +115,16 @@ behind_fault v bits segs xs f e h = rw (segments_step v bits e, h) refl
 -- a fault of the next segment is the fault of the whole parse
 pub fault_all : (v : ℕ) (bits start : List Bool) (segs : List Segment) (xs : List ℕ) (f : ParseFault) → ends bits ≡ false → IsFaultOf f (segment_at v bits)
     → behind segs xs (segments_of v bits) ≡ segments_of v start → IsFaultOf f (segments_of v start)
-fault_all v bits start segs xs f e (inl m) i = inl m
-fault_all v bits start segs xs f e (inr h) i = inr (sym i ∙ behind_fault v bits segs xs f e h)
+fault_all v bits start segs xs f e h i = grind (arith, behind_fault)
 
 -- a returned fault other than `Memory` is the fault of the definition
 pub fault-read : {A : Type 0} (e : ParseFault) (read : Result A ParseFault) → (e ≡ Memory → ⊥) → IsResultOf (Err e) read → read ≡ Err e
-fault-read e read other (inl m) = absurd (other cc)
-fault-read e read other (inr h) = h
+fault-read e read other h = grind arith
 
 -- at an end of the data, all segments are read
 pub end_all : (v : ℕ) (bits start : List Bool) (segs : List Segment) (xs : List ℕ) → ends bits ≡ true
     → behind segs xs (segments_of v bits) ≡ segments_of v start → segments_of v start ≡ Ok (segs, xs)
-end_all v bits start segs xs e i =
-    let j : behind segs xs (Ok ([], [])) ≡ segments_of v start = rw (segments_end v bits e) at i in
-    sym j ∙ rw (append-nil segs, append-nil xs) refl
+end_all v bits start segs xs e i = search (arith, segments_end, append-nil)
 
 -- a header whose bits are all there
 pub header_whole : (bits : List Bool) → 16 ≤ length bits
@@ -166,4 +135,4 @@ header_whole bits h = rw (le-ltb (length bits) 16 h) refl
 -- the four bits of a header's indicator are there
 pub begun : (bits : List Bool) → begins_header bits ≡ true → 4 ≤ length bits
 unfolding begins_header
-begun bits h = leb-true 4 (length bits) (and_parts (nat_le 4 (length bits)) (value (take 4 bits) == 3) h).0
+begun bits h = search (arith, leb-true, and_parts)

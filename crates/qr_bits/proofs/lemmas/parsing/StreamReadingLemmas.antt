@@ -1,17 +1,16 @@
 -- A parse reads back every stream that is written, and what it reads is a stream.
-use Rattle.std.proofs.Common.{◌≡◌, ℕ, zero, suc, ◌^◌, ◌<◌, ◌≤◌, Bool, true, false, cond, ◌==◌, nat_lt, nat_le, All, List, [], ◌∷◌, ◌++◌, length, take, drop, Ok, Err, Option, Some, None, refl, sym, ◌∙◌, ap, subst, ⊎_elim, arith, lit<, append_assoc, length-append}
+use Rattle.std.proofs.Common.{◌≡◌, ℕ, zero, suc, ◌^◌, ◌<◌, ◌≤◌, Bool, true, false, ◌==◌, nat_lt, nat_le, All, List, [], ◌∷◌, ◌++◌, length, take, drop, Ok, Option, Some, refl, sym, ◌∙◌, ap, subst, ⊎_elim, arith, lit<, append_assoc, length-append}
 use Rattle.std.proofs.lemmas.Bool.{le-ltb, lt-leb, le-leb, ltb-false, cases_Bool, eqb-true, and_parts}
 use Rattle.std.proofs.lemmas.List.{length-take-le, length-drop, drop-drop, take-append-drop}
 use Rattle.std.proofs.lemmas.List.Elements.{All-nil, All-append, All-take, All-drop}
 use Rattle.std.proofs.Math.Seq.{take-append_seam, drop-append_seam}
 use borrow.Author.Tests.{leb-true}
 use Rattle.qr_bits.specs.declared.modes.Mode.{Mode}
-use Rattle.qr_bits.specs.declared.modes.Mode.TheVariants.{Numeric, Alphanumeric, Byte, Kanji}
 use Rattle.qr_bits.specs.declared.segment.Segment.{Segment}
 use Rattle.qr_bits.specs.declared.header.Header.{Header}
-use Rattle.qr_bits.specs.declared.fault.ParseFault.TheVariants.{BadMode, Cut}
+use Rattle.qr_bits.specs.declared.fault.ParseFault.TheVariants.{Cut}
 use Rattle.qr_bits.specs.Bits.{field, value}
-use Rattle.qr_bits.specs.Modes.{character_count, count_width, is_kanji_pair, byte_count, payload_bits, suits, indicator}
+use Rattle.qr_bits.specs.Modes.{character_count, count_width, byte_count, payload_bits, suits, indicator}
 use Rattle.qr_bits.specs.Header.{header_indicator, header_stream, HeaderFits}
 use Rattle.qr_bits.specs.Stream.{payload, segment_stream, segments_stream, Suits, CountsFit, IsStream}
 use Rattle.qr_bits.specs.Parsing.{◌>>=◌, values_of, mode_of, ends, leading_number, payload_at, segment_at, segments_at, segments_of, begins_header, header_at, first_header, Content, parse}
@@ -38,17 +37,7 @@ number_takes w bits n h = search (arith, guard_ok, same_ok, value_take_below, fi
 
 -- the count of bytes in a mode leads back to their number
 len_again : (m : Mode) (xs : List ℕ) → suits m xs ≡ true → byte_count m (character_count m (length xs)) ≡ length xs
-len_again Numeric xs h = refl
-len_again Alphanumeric xs h = refl
-len_again Byte xs h = refl
-len_again Kanji xs h = in_twos-even is_kanji_pair xs h
-
--- the number of bytes leads back to the count
-count_again : (m : Mode) (n : ℕ) → character_count m (byte_count m n) ≡ n
-count_again Numeric n = refl
-count_again Alphanumeric n = refl
-count_again Byte n = refl
-count_again Kanji n = omega arith
+len_again m xs h = grind (arith, in_twos-even)
 
 -- data that is written is read back
 payload_again : (m : Mode) (xs : List ℕ) (rest : List Bool) → All (λ b. b < 256) xs → suits m xs ≡ true → payload_at m (character_count m (length xs)) (payload m xs ++ rest) ≡ Ok (xs, rest)
@@ -70,44 +59,16 @@ payload_takes m n bits p h =
 -- the indicator of a mode is read back as the mode
 mode_again : (m : Mode) → mode_of (indicator m) ≡ Ok m
 unfolding mode_of
-mode_again Numeric = refl
-mode_again Alphanumeric = refl
-mode_again Byte = refl
-mode_again Kanji = refl
-
--- if a mode is found, its test is the one that passed
-mode_cases : (n : ℕ) (m : Mode) (a b c d : Bool) → (n == 1) ≡ a → (n == 2) ≡ b → (n == 4) ≡ c → (n == 8) ≡ d → cond a (Ok Numeric) (cond b (Ok Alphanumeric) (cond c (Ok Byte) (cond d (Ok Kanji) (Err BadMode)))) ≡ Ok m → n ≡ indicator m
-mode_cases n m true b c d e f g i h = eqb-true n 1 e ∙ ap indicator (same_ok Numeric m h)
-mode_cases n m false true c d e f g i h = eqb-true n 2 f ∙ ap indicator (same_ok Alphanumeric m h)
-mode_cases n m false false true d e f g i h = eqb-true n 4 g ∙ ap indicator (same_ok Byte m h)
-mode_cases n m false false false true e f g i h = eqb-true n 8 i ∙ ap indicator (same_ok Kanji m h)
-mode_cases n m false false false false e f g i h = cc
+mode_again m = grind arith
 
 -- the indicator of the mode that was read is the number that was read
 mode_takes : (n : ℕ) (m : Mode) → mode_of n ≡ Ok m → n ≡ indicator m
 unfolding mode_of
-mode_takes n m h = search (arith, mode_cases)
+mode_takes n m h = grind (arith, eqb-true, same_ok)
 
 -- an indicator of a mode is a number of four bits
 indicator_most : (m : Mode) → indicator m < 2 ^ 4
-indicator_most Numeric = lit< tt
-indicator_most Alphanumeric = lit< tt
-indicator_most Byte = lit< tt
-indicator_most Kanji = lit< tt
-
--- an indicator of a mode is no terminator
-indicator_open : (m : Mode) → (indicator m == 0) ≡ false
-indicator_open Numeric = refl
-indicator_open Alphanumeric = refl
-indicator_open Byte = refl
-indicator_open Kanji = refl
-
--- an indicator of a mode is not that of a header
-indicator_plain : (m : Mode) → (indicator m == 3) ≡ false
-indicator_plain Numeric = refl
-indicator_plain Alphanumeric = refl
-indicator_plain Byte = refl
-indicator_plain Kanji = refl
+indicator_most m = grind arith
 
 -- a segment begins with the indicator of its mode
 first_four : (v : ℕ) (m : Mode) (xs : List ℕ) (rest : List Bool) → (value (take 4 (segment_stream v m xs ++ rest)) ≡ indicator m) × (4 ≤ length (segment_stream v m xs ++ rest))
@@ -140,10 +101,10 @@ unfolding segment_stream
 segment_from v m bits n p four e number said =
     let w = said.0 in
     let count = field (count_width v m) n.0 in
-    let behind : n.1 ≡ payload m p.0 ++ p.1 = w.whole ∙ ap (λ (t : List Bool). payload m p.0 ++ t) (sym said.1) in
+    let behind : n.1 ≡ payload m p.0 ++ p.1 = cc in
     let tail : drop 4 bits ≡ count ++ (payload m p.0 ++ p.1) = number.1 ∙ ap (λ (t : List Bool). count ++ t) behind in
     let head : take 4 bits ≡ field 4 (indicator m) = sym (field_read 4 bits four) ∙ ap (field 4) e in
-    search (arith, count_again, append_assoc, take-append-drop)
+    grind (arith, append_assoc, take-append-drop)
 
 -- a segment that is read is written as the same bits
 segment_takes : (v : ℕ) (bits : List Bool) (s : Segment × List ℕ × List Bool) → 4 ≤ length bits → segment_at v bits ≡ Ok s → IsSegment v bits s.0 s.1 s.2
@@ -153,14 +114,14 @@ segment_takes v bits s four h =
     bind_all (mode_of (value (take 4 bits))) _ P (λ m em t ht.
     bind_all (leading_number (count_width v m) (drop 4 bits)) _ P (λ n en t ht.
     bind_all (payload_at m n.0 n.1) _ P (λ p ep t ht.
-    subst P (same_ok (record { mode = m; len = byte_count m n.0 }, p.0, p.1) t ht) (segment_from v m bits n p four (mode_takes _ m em) (number_takes (count_width v m) (drop 4 bits) n en) (payload_takes m n.0 n.1 p ep))) t ht) t ht) s h
+    subst P (same_ok (record { mode = m; len = byte_count m n.0 }, p.0, p.1) t ht) (search (arith, segment_from, mode_takes, number_takes, payload_takes))) t ht) t ht) s h
 
 -- ---- segments to the end
 
 -- the data does not end where a segment begins
 opens : (v : ℕ) (m : Mode) (xs : List ℕ) (rest : List Bool) → ends (segment_stream v m xs ++ rest) ≡ false
 unfolding ends
-opens v m xs rest = search (arith, first_four, le-ltb, indicator_open)
+opens v m xs rest = grind (arith, first_four, le-ltb)
 
 -- the first n bytes of a list of bytes, and those after them, are bytes
 all_take : (n : ℕ) (xs : List ℕ) → All (λ b. b < 256) xs → All (λ b. b < 256) (take n xs) × All (λ b. b < 256) (drop n xs)
@@ -213,7 +174,7 @@ segments_takes zero v bits r few h = search (arith, same_ok, segments_none, ende
 segments_takes (suc n) v bits r few h =
     let P : List Segment × List ℕ → Type 0 = λ t. IsSegments v bits t.0 t.1 in
     ⊎_elim
-    (λ (e : ends bits ≡ true). subst P (same_ok ([], []) r (rw e at h)) (segments_none v bits e))
+    (search (arith, same_ok, segments_none))
     (λ (e : ends bits ≡ false).
     let four = not_ended bits e in
     bind_all (segment_at v bits) _ P (λ s es t ht.
@@ -228,7 +189,7 @@ segments_takes (suc n) v bits r few h =
 starts : (rest : List Bool) → begins_header (field 4 header_indicator ++ rest) ≡ true
 unfolding begins_header
 starts rest =
-    let there : 4 ≤ length (field 4 header_indicator ++ rest) = omega (arith, length-append (field 4 header_indicator) rest, length-field 4 header_indicator) in
+    let there : 4 ≤ length (field 4 header_indicator ++ rest) = search (arith, length-append, length-field) in
     rw (le-leb 4 (length (field 4 header_indicator ++ rest)) there, read_field 4 header_indicator rest (lit< tt)) refl
 
 -- if a header begins here, the first four bits are its indicator
@@ -246,7 +207,7 @@ header_parts bits long =
     let a = field_read 4 bits (omega arith) in
     let b = field_read 4 (drop 4 bits) (omega (arith, length-drop 4 bits)) in
     let c = field_read 8 (drop 8 bits) (omega (arith, length-drop 8 bits)) in
-    let last : take 8 (drop 8 bits) ++ drop 16 bits ≡ drop 8 bits = ap (λ (t : List Bool). take 8 (drop 8 bits) ++ t) (sym (drop-drop 8 8 bits)) ∙ take-append-drop 8 (drop 8 bits) in
+    let last = take-append-drop 8 (drop 8 bits) in
     search (arith, drop-drop, take-append-drop, append_assoc)
 
 -- a header that is written is read back
@@ -259,11 +220,11 @@ header_again h rest all_fit =
     let q = field 8 h.parity in
     let behind : List Bool = p ++ (l ++ (q ++ rest)) in
     let whole : (field 4 header_indicator ++ (p ++ (l ++ q))) ++ rest ≡ field 4 header_indicator ++ behind =
-    append_assoc (field 4 header_indicator) (p ++ (l ++ q)) rest ∙ ap (λ (t : List Bool). field 4 header_indicator ++ t) (append_assoc p (l ++ q) rest ∙ ap (λ (t : List Bool). p ++ t) (append_assoc l q rest)) in
-    let long : 16 ≤ length behind = omega (arith, length-append p (l ++ (q ++ rest)), length-append l (q ++ rest), length-append q rest, length-field 4 h.position, length-field 4 h.last, length-field 8 h.parity) in
+    search (arith, append_assoc) in
+    let long : 16 ≤ length behind = search (arith, length-append, length-field) in
     let after_p : drop 4 behind ≡ l ++ (q ++ rest) = drop-field 4 h.position (l ++ (q ++ rest)) in
-    let after_l : drop 8 behind ≡ q ++ rest = sym (drop-drop 4 4 behind) ∙ ap (λ (t : List Bool). drop 4 t) after_p ∙ drop-field 4 h.last (q ++ rest) in
-    let after_q : drop 16 behind ≡ rest = sym (drop-drop 8 8 behind) ∙ ap (λ (t : List Bool). drop 8 t) after_l ∙ drop-field 8 h.parity rest in
+    let after_l : drop 8 behind ≡ q ++ rest = cc (drop-drop 4 4 behind, drop-field 4 h.last (q ++ rest)) in
+    let after_q : drop 16 behind ≡ rest = cc (drop-drop 8 8 behind, drop-field 8 h.parity rest) in
     rw (
       whole,
       starts behind,
@@ -281,14 +242,13 @@ header_again h rest all_fit =
 none_begins : (v : ℕ) (xs : List ℕ) (segs : List Segment) (tail : List Bool) → ends tail ≡ true → begins_header (segments_stream v xs segs ++ tail) ≡ false
 unfolding begins_header segments_stream ends
 none_begins v xs [] tail e = search (arith, lt-leb, eqb-true, le-ltb, le-leb)
-none_begins v xs (s ∷ ss) tail e = search (arith, first_four, append_assoc, le-leb, indicator_plain)
+none_begins v xs (s ∷ ss) tail e = grind (arith, first_four, append_assoc, le-leb)
 
 -- an optional header that is written is read back
 first_again : (v : ℕ) (h : Option Header) (xs : List ℕ) (segs : List Segment) (tail : List Bool) → HeaderFits h → ends tail ≡ true
     → first_header ((header_stream h ++ segments_stream v xs segs) ++ tail) ≡ Ok (h, segments_stream v xs segs ++ tail)
 unfolding first_header header_stream
-first_again v None xs segs tail fits e = rw (none_begins v xs segs tail e) refl
-first_again v (Some h) xs segs tail fits e = search (arith, append_assoc, header_again)
+first_again v h xs segs tail fits e = grind (arith, none_begins, append_assoc, header_again)
 
 -- the numbers of a header that was read fit their fields
 fits_of : (h : Header) → h.position < 16 → h.last < 16 → h.parity < 256 → HeaderFits (Some h)
@@ -301,7 +261,7 @@ header_takes bits r h =
     let g = guard_ok (nat_lt (length bits) 16) Cut (Ok (record { position = value (take 4 bits); last = value (take 4 (drop 4 bits)); parity = value (take 8 (drop 8 bits)) }, drop 16 bits)) r h in
     let long : 16 ≤ length bits = ltb-false _ _ g.0 in
     let P : Header × List Bool → Type 0 = λ t. HeaderFits (Some t.0) × (bits ≡ (field 4 t.0.position ++ (field 4 t.0.last ++ field 8 t.0.parity)) ++ t.1) in
-    subst P (same_ok (record { position = value (take 4 bits); last = value (take 4 (drop 4 bits)); parity = value (take 8 (drop 8 bits)) }, drop 16 bits) r g.1)
+    subst P (search (arith, same_ok))
     (fits_of _ (value_take_below 4 bits) (value_take_below 4 (drop 4 bits)) (value_take_below 8 (drop 8 bits)), header_parts bits long)
 
 -- an optional header that is read is written as the same bits
@@ -314,7 +274,7 @@ first_takes bits r h =
     bind_all (header_at (drop 4 bits)) _ P (λ q eq t ht.
     let w = header_takes (drop 4 bits) q eq in
     search (arith, same_ok, append_assoc, started)) r (rw e at h))
-    (λ (e : begins_header bits ≡ false). subst P (same_ok (None, bits) r (rw e at h)) ((λ k z. cc), refl))
+    (search (arith, same_ok))
     (cases_Bool (begins_header bits))
 
 -- ---- the whole

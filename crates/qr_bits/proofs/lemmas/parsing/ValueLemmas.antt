@@ -2,12 +2,12 @@
 use Rattle.std.proofs.Common.{◌≡◌, ℕ, zero, suc, ◌+◌, ◌*◌, ◌/◌, ◌%◌, ◌<◌, ◌≤◌, Bool, true, nat_lt, All, List, [], ◌∷◌, ◌++◌, length, take, drop, Ok, refl, sym, ◌∙◌, ap, subst, arith, append_assoc}
 use Rattle.std.specs.List.{list_all}
 use Rattle.std.proofs.lemmas.Bool.{lt-ltb, ltb-true, and_parts, and_from}
-use Rattle.std.proofs.lemmas.List.{length-drop, drop-drop, take-append-drop}
+use Rattle.std.proofs.lemmas.List.{length-drop, take-append-drop}
 use Rattle.std.proofs.lemmas.List.Elements.{All-nil, All-cons, All-head, All-tail}
 use Rattle.qr_bits.specs.declared.modes.Mode.{Mode}
 use Rattle.qr_bits.specs.declared.modes.Mode.TheVariants.{Numeric, Alphanumeric, Byte, Kanji}
 use Rattle.qr_bits.specs.declared.fault.ParseFault.TheVariants.{BadValue}
-use Rattle.qr_bits.specs.Bits.{field, value, bits_of}
+use Rattle.qr_bits.specs.Bits.{value, bits_of}
 use Rattle.qr_bits.specs.Modes.{character_count, is_alphanumeric, byte_count, payload_bits, suits, character_value}
 use Rattle.qr_bits.specs.Stream.{character_bits, payload}
 use Rattle.qr_bits.specs.Parsing.{◌>>=◌, character, characters_of, bytes_of, values_of}
@@ -15,7 +15,7 @@ use Rattle.qr_bits.proofs.lemmas.modes.KanjiLemmas.{pairs_again, pairs_takes}
 use Rattle.qr_bits.proofs.lemmas.modes.CharacterLemmas.{character_found, character_again, character_taken}
 use Rattle.qr_bits.proofs.lemmas.parsing.PayloadLemmas.{value_take_below}
 use Rattle.qr_bits.proofs.lemmas.parsing.ParsingLemmas.{bind_ok, same_ok}
-use Rattle.qr_bits.proofs.lemmas.stream.StreamLemmas.{drop-field, read_field, field_read, digits_again, digits_takes, are_digits, digits_suit, digits_bytes, chosen_ok}
+use Rattle.qr_bits.proofs.lemmas.stream.StreamLemmas.{more_written, drop-field, read_field, field_read, digits_again, digits_takes, are_digits, digits_suit, digits_bytes, chosen_ok}
 use Rattle.qr_bits.proofs.lemmas.stream.WritingLemmas.{two_more}
 
 -- the digits, characters, bytes or kanji pairs that were read, written again, are the bits that were read
@@ -35,7 +35,7 @@ characters_again (a ∷ []) rest h =
     let p = (and_parts (is_alphanumeric a) true h).0 in
     let small = character_found a p in
     let r = read_field 6 (character_value a) rest (omega (arith, small)) in
-    rw (r, lt-ltb (character_value a) 45 small, character_again a p) refl
+    search (arith, lt-ltb, character_again)
 characters_again (a ∷ b ∷ xs) rest h =
     let p = and_parts (is_alphanumeric a) _ h in
     let q = and_parts (is_alphanumeric b) _ p.1 in
@@ -47,8 +47,7 @@ characters_again (a ∷ b ∷ xs) rest h =
     let second : g % 45 ≡ character_value b = omega (arith, sa, sb) in
     let r = read_field 11 g (character_bits xs ++ rest) (omega (arith, low)) in
     let d = drop-field 11 g (character_bits xs ++ rest) in
-    let s = append_assoc (field 11 g) (character_bits xs) rest in
-    rw (s, r, d, lt-ltb g 2025 low, first, second, character_again a p.0, character_again b q.0, characters_again xs rest q.1) refl
+    search (arith, append_assoc, lt-ltb, character_again, characters_again xs rest q.1)
 
 -- the characters that were read, written again, are the bits that were read
 abbrev WrittenOut : ℕ → List Bool → List ℕ → Type 0
@@ -70,25 +69,20 @@ out_two n bits cs h low w =
     let a = character_taken (g / 45) (omega arith) in
     let b = character_taken (g % 45) (omega arith) in
     let back : 45 * (g / 45) + g % 45 ≡ g = omega arith in
-    let rest : drop 11 bits ≡ character_bits cs ++ drop (11 + payload_bits Alphanumeric n) bits = w.3 ∙ ap (λ (t : List Bool). character_bits cs ++ t) (drop-drop (payload_bits Alphanumeric n) 11 bits) in (
-      omega (arith, w.0),
-      All-cons (λ b. b < 256) _ (character (g % 45) ∷ cs) a.2 (All-cons (λ b. b < 256) _ cs b.2 w.1),
-      and_from _ _ a.0 (and_from _ _ b.0 w.2),
-      rw (a.1, b.1, back, field_read 11 bits h, two_more n, append_assoc (take 11 bits) (character_bits cs) (drop (11 + payload_bits Alphanumeric n) bits), ← rest) (sym (take-append-drop 11 bits)),
-    )
+    let whole = more_written 11 (payload_bits Alphanumeric n) bits (character_bits cs) h w.3 in
+    (omega (arith, w.0), search (arith, All-cons), search (arith, and_from), rw (a.1, b.1, back, two_more n) whole)
 
 -- characters that are read are written as the same bits
 characters_takes : (n : ℕ) (xs : List ℕ) (bits : List Bool) → payload_bits Alphanumeric n ≤ length bits → characters_of n bits ≡ Ok xs → WrittenOut n bits xs
 unfolding characters_of character_bits
-characters_takes zero [] bits h e = (refl, All-nil (λ b. b < 256), refl, refl)
-characters_takes zero (x ∷ xs) bits h e = cc
+characters_takes zero xs bits h e = grind arith
 characters_takes (suc zero) xs bits h e =
     let c = chosen_ok (nat_lt (value (take 6 bits)) 45) (Ok (character (value (take 6 bits)) ∷ [])) BadValue xs e in
-    subst (WrittenOut 1 bits) (same_ok _ _ c.1) (out_one bits h (ltb-true _ _ c.0))
+    search (arith, same_ok, out_one, ltb-true)
 characters_takes (suc (suc n)) xs bits h e =
     let g = value (take 11 bits) in
     let two : suc (suc n) ≡ 2 + n = omega arith in
-    let room : 11 + payload_bits Alphanumeric n ≤ length bits = omega (arith, ap (payload_bits Alphanumeric) two, two_more n, h) in
+    let room : 11 + payload_bits Alphanumeric n ≤ length bits = omega (arith, two_more) in
     let c = chosen_ok (nat_lt g 2025) (characters_of n (drop 11 bits) >>= λ cs. Ok (character (g / 45) ∷ character (g % 45) ∷ cs)) BadValue xs e in
     let b = bind_ok (characters_of n (drop 11 bits)) (λ cs. Ok (character (g / 45) ∷ character (g % 45) ∷ cs)) xs c.1 in
     let rest = characters_takes n b.0 (drop 11 bits) (omega (arith, length-drop 11 bits)) b.1 in
@@ -100,11 +94,7 @@ characters_takes (suc (suc n)) xs bits h e =
 pub bytes_again : (xs : List ℕ) (rest : List Bool) → All (λ b. b < 256) xs → bytes_of (length xs) (bits_of xs ++ rest) ≡ xs
 unfolding bytes_of bits_of
 bytes_again [] rest h = refl
-bytes_again (x ∷ xs) rest h =
-    let r = read_field 8 x (bits_of xs ++ rest) (All-head (λ b. b < 256) x xs h) in
-    let d = drop-field 8 x (bits_of xs ++ rest) in
-    let s = append_assoc (field 8 x) (bits_of xs) rest in
-    rw (s, r, d, bytes_again xs rest (All-tail (λ b. b < 256) x xs h)) refl
+bytes_again (x ∷ xs) rest h = search (arith, append_assoc, read_field, drop-field, All-head, All-tail, bytes_again xs rest)
 
 -- bytes that are read are written as the same bits
 pub bytes_takes : (n : ℕ) (bits : List Bool) → 8 * n ≤ length bits
@@ -114,35 +104,26 @@ bytes_takes zero bits h = (refl, All-nil (λ b. b < 256), refl)
 bytes_takes (suc n) bits h =
     let rest = bytes_takes n (drop 8 bits) (omega (arith, length-drop 8 bits)) in
     let more : 8 * suc n ≡ 8 + 8 * n = omega arith in
-    let tail : drop 8 bits ≡ bits_of (bytes_of n (drop 8 bits)) ++ drop (8 + 8 * n) bits = rest.2 ∙ ap (λ (t : List Bool). bits_of (bytes_of n (drop 8 bits)) ++ t) (drop-drop (8 * n) 8 bits) in (
-      ap suc rest.0,
-      All-cons (λ b. b < 256) _ (bytes_of n (drop 8 bits)) (value_take_below 8 bits) rest.1,
-      rw (more, field_read 8 bits (omega arith), append_assoc (take 8 bits) (bits_of (bytes_of n (drop 8 bits))) (drop (8 + 8 * n) bits), ← tail) (sym (take-append-drop 8 bits)),
-    )
+    (ap suc rest.0, All-cons (λ b. b < 256) _ _ (value_take_below 8 bits) rest.1, rw more (more_written 8 (8 * n) bits _ (omega arith) rest.2))
 
 -- ---- any mode
 
 -- Data that is written is read back, whatever follows.
 pub values_again : (m : Mode) (xs : List ℕ) (rest : List Bool) → All (λ b. b < 256) xs → suits m xs ≡ true → values_of m (character_count m (length xs)) (payload m xs ++ rest) ≡ Ok xs
 unfolding values_of payload
-values_again Numeric xs rest bytes h = digits_again xs rest (are_digits xs h)
-values_again Alphanumeric xs rest bytes h = characters_again xs rest h
-values_again Byte xs rest bytes h = ap Ok (bytes_again xs rest bytes)
-values_again Kanji xs rest bytes h = pairs_again xs rest h
+values_again m xs rest bytes h = grind (arith, digits_again, are_digits, characters_again, bytes_again, pairs_again)
 
 -- Data that is read is written as the same bits.
 pub values_takes : (m : Mode) (n : ℕ) (xs : List ℕ) (bits : List Bool) → payload_bits m (byte_count m n) ≤ length bits → values_of m n bits ≡ Ok xs → IsWritten m n bits xs
 unfolding values_of payload
 values_takes Numeric n xs bits h e =
     let w = digits_takes n xs bits h e in
-    record { long = w.0; bytes = digits_bytes xs w.1; suited = digits_suit xs w.1; whole = w.2 }
+    search (arith, digits_bytes, digits_suit)
 values_takes Alphanumeric n xs bits h e =
     let w = characters_takes n xs bits h e in
-    record { long = w.0; bytes = w.1; suited = w.2; whole = w.3 }
+    search arith
 values_takes Byte n xs bits h e =
     let w = bytes_takes n bits h in
-    subst (IsWritten Byte n bits) (same_ok _ _ e) (record { long = w.0; bytes = w.1; suited = refl; whole = w.2 })
-values_takes Kanji n xs bits h e =
-    let same : payload_bits Kanji (2 * n) ≡ 13 * n = omega arith in
-    let w = pairs_takes n xs bits (omega arith) e in
-    record { long = w.0; bytes = w.1; suited = w.2; whole = rw same w.3 }
+    search (arith, same_ok)
+values_takes Kanji n xs bits h e = let w = pairs_takes n xs bits (omega arith) e in
+    grind arith

@@ -1,6 +1,7 @@
 -- The number of bits of an assignment is a sum over its modes.
-use Rattle.std.proofs.Common.{◌≡◌, ℕ, ◌+◌, Bool, true, false, cond, ◌==◌, List, [], ◌∷◌, replicate, refl, sym, ◌∙◌, ap, subst, arith, suc, zero}
-use Rattle.std.proofs.lemmas.Bool.{false_from_ne_true, cond_both, cond-true, cond-false, false≢true, true≢false, eqb-true, eq-eqb}
+use Rattle.std.proofs.lemmas.Bool.Decides.{nat_tests}
+use Rattle.std.proofs.Common.{◌≡◌, ℕ, ◌+◌, Bool, true, false, cond, ◌==◌, List, [], ◌∷◌, replicate, refl, arith, suc, zero}
+use Rattle.std.proofs.lemmas.Bool.{cond_both, cond-true, cond-false, eqb-true, eq-eqb}
 use Rattle.qr_bits.specs.declared.modes.Mode.{Mode}
 use Rattle.qr_bits.specs.declared.modes.Mode.TheVariants.{Numeric, Alphanumeric, Byte, Kanji}
 use Rattle.qr_bits.specs.declared.segment.Segment.{Segment}
@@ -10,7 +11,6 @@ use Rattle.qr_bits.specs.Modes.{count_width, payload_bits}
 use Rattle.qr_bits.specs.Segmentation.{segment_bits, bits, rank, prepend_mode, runs_of}
 use Rattle.qr_bits.specs.Steps.RunState.{state_after, byte_cost, cost_of}
 use Rattle.qr_bits.proofs.lemmas.run_state.BestLemmas.{same_rank}
-use Rattle.qr_bits.proofs.lemmas.stream.WritingLemmas.{three_more}
 
 -- how far the last group is filled in a state
 abbrev turn : RunState → ℕ
@@ -43,64 +43,30 @@ goes_on p m = state_rank p == rank m
 -- after a byte, the rank of the last mode is that of its mode
 state_rank-after : (p : RunState) (m : Mode) → state_rank (state_after p m) ≡ rank m
 unfolding state_after
-state_rank-after Digit1 Numeric = refl
-state_rank-after Digit2 Numeric = refl
-state_rank-after _ Numeric = refl
-state_rank-after Character1 Alphanumeric = refl
-state_rank-after _ Alphanumeric = refl
+state_rank-after p Numeric = grind arith
+state_rank-after p Alphanumeric = grind arith
 state_rank-after _ Byte = refl
-state_rank-after HalfPair Kanji = refl
-state_rank-after _ Kanji = refl
-
--- at the start no mode goes on with a run
-at_start : (m : Mode) → goes_on Start m ≡ true → ⊥
-at_start Numeric h = false≢true h
-at_start Alphanumeric h = false≢true h
-at_start Byte h = false≢true h
-at_start Kanji h = false≢true h
+state_rank-after p Kanji = grind arith
 
 -- the data bits of one more byte and then n more bytes of a run
 one_more : (v : ℕ) (p : RunState) (m : Mode) (n : ℕ) → goes_on p m ≡ true
     → byte_cost v p m + payload_bits m (turn p) + payload_bits m (turn (state_after p m) + n) ≡ payload_bits m (turn p + (1 + n)) + payload_bits m (turn (state_after p m))
 unfolding state_after byte_cost
-one_more v Digit1 Numeric n h = let e : 1 + (1 + n) ≡ 2 + n = omega arith in rw e (omega arith)
-one_more v Digit2 Numeric n h = let e : 2 + (1 + n) ≡ 3 + n = omega arith in rw e (omega arith)
-one_more v Digit3 Numeric n h = omega (arith, three_more (1 + n))
-one_more v Character1 Alphanumeric n h = omega arith
-one_more v Character2 Alphanumeric n h = omega arith
-one_more v InBytes Byte n h = omega arith
-one_more v HalfPair Kanji n h = omega arith
-one_more v WholePair Kanji n h = omega arith
-one_more v Start m n h = absurd (at_start m h)
-one_more v _ _ n h = absurd (false≢true h)
+one_more v p m n h = grind (arith, nat_tests)
 
 -- the bits of a byte that begins a run
 begins : (v : ℕ) (p : RunState) (m : Mode) → goes_on p m ≡ false
     → (byte_cost v p m ≡ 4 + count_width v m + payload_bits m 1) × (turn (state_after p m) ≡ 1)
 unfolding state_after byte_cost
-begins v Digit1 Numeric h = absurd (true≢false h)
-begins v Digit2 Numeric h = absurd (true≢false h)
-begins v Digit3 Numeric h = absurd (true≢false h)
-begins v _ Numeric h = (refl, refl)
-begins v Character1 Alphanumeric h = absurd (true≢false h)
-begins v Character2 Alphanumeric h = absurd (true≢false h)
-begins v _ Alphanumeric h = (refl, refl)
-begins v InBytes Byte h = absurd (true≢false h)
-begins v _ Byte h = (refl, refl)
-begins v HalfPair Kanji h = absurd (true≢false h)
-begins v WholePair Kanji h = absurd (true≢false h)
-begins v _ Kanji h = (refl, refl)
+begins v p m h = grind arith
 
 -- the bits of n bytes that go on with a run
 run_bits : (v : ℕ) (p : RunState) (m : Mode) (n : ℕ) → goes_on p m ≡ true
     → cost_of v p (replicate n m) + payload_bits m (turn p) ≡ payload_bits m (turn p + n)
 unfolding cost_of
-run_bits v p m zero h = let e : turn p ≡ turn p + 0 = omega arith in omega (arith, ap (payload_bits m) e)
+run_bits v p m zero h = search arith
 run_bits v p m (suc n) h =
-    let more = one_more v p m n h in
-    let rest = run_bits v (state_after p m) m n (eq-eqb _ _ (state_rank-after p m)) in
-    let e : turn p + (1 + n) ≡ turn p + suc n = omega arith in
-    omega (arith, ap (payload_bits m) e)
+    search (arith, one_more, eq-eqb, state_rank-after, run_bits v (state_after p m) m n (eq-eqb _ _ (state_rank-after p m)))
 
 -- the bits that segments add after a state, where the first segment may go on with the run before it
 abbrev rest_bits : ℕ → RunState → List Segment → ℕ
@@ -111,23 +77,7 @@ rest_bits v p (s ∷ ss) = cond (goes_on p s.mode) (cost_of v p (replicate s.len
 one_run : (v : ℕ) (p : RunState) (m : Mode) (n : ℕ)
     → byte_cost v p m + cost_of v (state_after p m) (replicate n m) ≡ cond (goes_on p m) (cost_of v p (replicate (1 + n) m)) (segment_bits v (record { mode = m; len = 1 + n }))
 unfolding cost_of
-one_run v p m n =
-    cond_both (goes_on p m) _ _ (λ (b : ℕ). byte_cost v p m + cost_of v (state_after p m) (replicate n m) ≡ b)
-    (λ e. let s : 1 + n ≡ suc n = omega arith in rw s refl)
-    (λ e.
-    let start = begins v p m e in
-    let rest = run_bits v (state_after p m) m n (eq-eqb _ _ (state_rank-after p m)) in
-    let t = ap (λ (k : ℕ). payload_bits m k) start.1 in
-    let u = ap (λ (k : ℕ). payload_bits m (k + n)) start.1 in
-    omega (arith, start.0, t, u))
-
--- the bits of one more byte before a segment of the same mode
-front_same : (v : ℕ) (p : RunState) (m : Mode) (n : ℕ) (ss : List Segment)
-    → byte_cost v p m + rest_bits v (state_after p m) (record { mode = m; len = n } ∷ ss) ≡ rest_bits v p (record { mode = m; len = 1 + n } ∷ ss)
-front_same v p m n ss =
-    let e : goes_on (state_after p m) m ≡ true = eq-eqb _ _ (state_rank-after p m) in
-    let f = cond-true (goes_on (state_after p m) m) (cost_of v (state_after p m) (replicate n m)) (segment_bits v (record { mode = m; len = n })) e in
-    omega (arith, one_run v p m n, f)
+one_run v p m n = search (arith, cond_both, begins, run_bits, eq-eqb, state_rank-after)
 
 -- the bits of one more byte before segments
 front : (v : ℕ) (p : RunState) (m : Mode) (segs : List Segment)
@@ -136,10 +86,7 @@ unfolding cost_of
 front v p m [] = omega (arith, one_run v p m 0)
 front v p m (s ∷ ss) =
     cond_both (rank m == rank s.mode) _ _ (λ (r : List Segment). byte_cost v p m + rest_bits v (state_after p m) (s ∷ ss) ≡ rest_bits v p r)
-    (λ e.
-    let same = same_rank m s.mode (eqb-true _ _ e) in
-    subst (λ (k : Mode). byte_cost v p m + rest_bits v (state_after p m) (record { mode = k; len = s.len } ∷ ss) ≡ rest_bits v p (record { mode = m; len = 1 + s.len } ∷ ss))
-    same (front_same v p m s.len ss))
+    (search (arith, same_rank, eqb-true, eq-eqb, state_rank-after, cond-true, one_run))
     (λ e.
     let other : goes_on (state_after p m) s.mode ≡ false = rw (state_rank-after p m) e in
     let f = cond-false (goes_on (state_after p m) s.mode) (cost_of v (state_after p m) (replicate s.len s.mode)) (segment_bits v s) other in
@@ -150,13 +97,8 @@ front v p m (s ∷ ss) =
 pub rest_bits-runs_of : (v : ℕ) (p : RunState) (ms : List Mode) → cost_of v p ms ≡ rest_bits v p (runs_of ms)
 unfolding cost_of runs_of
 rest_bits-runs_of v p [] = refl
-rest_bits-runs_of v p (m ∷ ms) = ap (λ (n : ℕ). byte_cost v p m + n) (rest_bits-runs_of v (state_after p m) ms) ∙ front v p m (runs_of ms)
-
--- at the start no segment goes on with a run
-rest_bits-start : (v : ℕ) (segs : List Segment) → rest_bits v Start segs ≡ bits v segs
-rest_bits-start v [] = refl
-rest_bits-start v (s ∷ ss) = let e = false_from_ne_true (goes_on Start s.mode) (at_start s.mode) in rw e refl
+rest_bits-runs_of v p (m ∷ ms) = omega (arith, front, rest_bits-runs_of v (state_after p m) ms)
 
 -- the number of bits of the runs of an assignment is the sum over its modes
 pub bits-runs_of : (v : ℕ) (ms : List Mode) → bits v (runs_of ms) ≡ cost_of v Start ms
-bits-runs_of v ms = sym (rest_bits-runs_of v Start ms ∙ rest_bits-start v (runs_of ms))
+bits-runs_of v ms = grind (arith, rest_bits-runs_of)

@@ -1,31 +1,23 @@
 -- Lists of segments: their bits, their lengths, and what they cover.
-use Rattle.std.proofs.Common.{◌≡◌, ℕ, suc, ◌+◌, ◌*◌, ◌/◌, ◌%◌, ◌<◌, ◌≤◌, ◌↔◌, Bool, true, false, cond, ◌==◌, List, [], ◌∷◌, length, get_or, take, drop, refl, sym, subst, ◌∙◌, ap, inl, inr, arith, lit≤, IsTrue, All}
+use Rattle.std.proofs.Common.{◌≡◌, ℕ, ◌+◌, ◌*◌, ◌%◌, ◌<◌, ◌≤◌, ◌↔◌, cond, ◌==◌, List, [], ◌∷◌, length, get_or, take, drop, refl, sym, ap, inl, inr, arith, IsTrue, All}
 use Rattle.std.specs.List.{sum_by}
 use Rattle.std.proofs.lemmas.Bool.{cond_both, eqb-true}
 use Rattle.std.proofs.lemmas.List.{length-drop, drop_all}
 use Rattle.std.proofs.lemmas.List.Sums.{sum_by-cons}
 use Rattle.std.proofs.lemmas.List.Elements.{All-head, All-tail}
-use Rattle.qr_bits.proofs.lemmas.segment.CoverLemmas.{CoversInTurn, in_turn, from_turn}
+use Rattle.qr_bits.proofs.lemmas.segment.CoverLemmas.{CoversBy, suits-by, covers_by, by_covers}
 use Rattle.std.proofs.Math.Seq.{drop-cons}
 use Rattle.qr_bits.specs.declared.modes.Mode.{Mode}
-use Rattle.qr_bits.specs.declared.modes.Mode.TheVariants.{Numeric, Alphanumeric, Byte, Kanji}
+use Rattle.qr_bits.specs.declared.modes.Mode.TheVariants.{Numeric}
 use Rattle.qr_bits.specs.declared.modes.Rule.{Rule}
 use Rattle.qr_bits.specs.declared.segment.Segment.{Segment}
 use Rattle.qr_bits.specs.Modes.{count_width, payload_bits, suits}
-use Rattle.qr_bits.specs.Segmentation.{segment_bits, bits, rank, Covers, runs_of, IsNotAfter, IsLeastSegmentation, HasFit}
+use Rattle.qr_bits.specs.Segmentation.{segment_bits, bits, rank, Covers, IsNotAfter, IsLeastSegmentation, HasFit}
 use Rattle.qr_bits.specs.Stream.{Suits}
-
--- a choice between small numbers is small
-below16 : (b : Bool) (x y : ℕ) → x ≤ 16 → y ≤ 16 → cond b x y ≤ 16
-below16 true x y h k = h
-below16 false x y h k = k
 
 -- a count field has at most 16 bits
 pub count_width_bound : (v : ℕ) (m : Mode) → count_width v m ≤ 16
-count_width_bound v Numeric = below16 _ 10 _ (lit≤ tt) (below16 _ 12 14 (lit≤ tt) (lit≤ tt))
-count_width_bound v Alphanumeric = below16 _ 9 _ (lit≤ tt) (below16 _ 11 13 (lit≤ tt) (lit≤ tt))
-count_width_bound v Byte = below16 _ 8 16 (lit≤ tt) (lit≤ tt)
-count_width_bound v Kanji = below16 _ 8 _ (lit≤ tt) (below16 _ 10 12 (lit≤ tt) (lit≤ tt))
+count_width_bound v m = grind arith
 
 -- left-over digits need at most 7 bits
 left_over : (n : ℕ) → cond (n % 3 == 0) 0 (cond (n % 3 == 1) 4 7) ≤ 7
@@ -33,25 +25,15 @@ left_over n = grind arith
 
 -- three digits have at least ten bits
 digits_least : (n : ℕ) → 10 * n ≤ 3 * payload_bits Numeric n
-digits_least n =
-    cond_both (n % 3 == 0) _ _ (λ (r : ℕ). 10 * n ≤ 3 * (10 * (n / 3) + r))
-    (λ e. let z = eqb-true (n % 3) 0 e in omega arith)
-    (λ e. cond_both (n % 3 == 1) _ _ (λ (r : ℕ). 10 * n ≤ 3 * (10 * (n / 3) + r)) (λ f. let o = eqb-true (n % 3) 1 f in omega arith) (λ f. omega arith))
-
--- data has at most eight bits for each byte, and seven bits more
-payload_most : (m : Mode) (n : ℕ) → payload_bits m n ≤ 8 * n + 7
-payload_most Numeric n = omega (arith, left_over n)
-payload_most Alphanumeric n = omega arith
-payload_most Byte n = omega arith
-payload_most Kanji n = omega arith
+digits_least n = search (arith, cond_both, eqb-true)
 
 -- a segment that is not empty has at most 35 bits for each byte
 segment_most : (v : ℕ) (s : Segment) → 0 < s.len → segment_bits v s ≤ 35 * s.len
-segment_most v s h = omega (arith, payload_most s.mode s.len, count_width_bound v s.mode)
+segment_most v s h = grind (arith, count_width_bound)
 
 -- the bits of the segments from index i on
 pub bits-drop : (v : ℕ) (segs : List Segment) (i : ℕ) (d : Segment) → i < length segs → bits v (drop i segs) ≡ segment_bits v (get_or segs i d) + bits v (drop (i + 1) segs)
-bits-drop v segs i d h = let one : i + 1 ≡ suc i = omega arith in rw (one, drop-cons segs i d) refl
+bits-drop v segs i d h = search (arith, drop-cons)
 
 -- segments that are not empty have no more than 35 bits for each byte
 pub bits_most : (v : ℕ) (segs : List Segment) → All (λ s. 0 < s.len) segs → bits v segs ≤ 35 * sum_by (λ s. s.len) segs
@@ -73,32 +55,24 @@ covers_all xs segs h = (h.0, suits_length xs segs h.1)
 -- if the segments from index i on cover the bytes, the first writes its part, and the others cover the other bytes
 pub covers_next : (xs : List ℕ) (segs : List Segment) (i : ℕ) (d : Segment) → i < length segs → Covers xs (drop i segs)
     → (0 < (get_or segs i d).len) × ((get_or segs i d).len ≤ length xs) × IsTrue (suits (get_or segs i d).mode (take (get_or segs i d).len xs)) × Covers (drop (get_or segs i d).len xs) (drop (i + 1) segs)
-unfolding CoversInTurn
-covers_next xs segs i d h c =
-    let one : i + 1 ≡ suc i = omega arith in
-    let t = subst (CoversInTurn xs) (drop-cons segs i d h) (in_turn xs (drop i segs) c) in
-    (t.0, t.1, t.2, rw one (from_turn _ _ t.3))
+unfolding CoversBy
+covers_next xs segs i d h c = search (arith, drop-cons, covers_by, by_covers, suits-by)
 
 -- a segment that writes its part, and others that cover the other bytes, together cover all bytes
 pub next_covers : (xs : List ℕ) (segs : List Segment) (i : ℕ) (d : Segment) → i < length segs
     → 0 < (get_or segs i d).len → (get_or segs i d).len ≤ length xs → IsTrue (suits (get_or segs i d).mode (take (get_or segs i d).len xs)) → Covers (drop (get_or segs i d).len xs) (drop (i + 1) segs)
     → Covers xs (drop i segs)
-unfolding CoversInTurn
-next_covers xs segs i d h a b c e =
-    let one : i + 1 ≡ suc i = omega arith in
-    from_turn xs (drop i segs) (subst (CoversInTurn xs) (sym (drop-cons segs i d h)) (a, b, c, in_turn _ _ (rw one at e)))
+unfolding CoversBy
+next_covers xs segs i d h a b c e = search (arith, by_covers, drop-cons, covers_by, suits-by)
 
 -- if no segment is left, exactly the empty list of bytes is covered
 pub covers_end : (xs : List ℕ) (segs : List Segment) (i : ℕ) → length segs ≤ i → (Covers xs (drop i segs) → xs ≡ []) × (xs ≡ [] → Covers xs (drop i segs))
-unfolding CoversInTurn
-covers_end xs segs i h = let none = drop_all i segs h in rw none (in_turn xs [], from_turn xs [])
+unfolding CoversBy
+covers_end xs segs i h = search (arith, drop_all, covers_by, by_covers)
 
 -- three bytes have at least ten bits as data
 pub payload_least : (m : Mode) (n : ℕ) → 10 * n ≤ 3 * payload_bits m n
-payload_least Numeric n = digits_least n
-payload_least Alphanumeric n = omega arith
-payload_least Byte n = omega arith
-payload_least Kanji n = omega arith
+payload_least m n = grind arith
 
 -- a segment has at least its indicator, its count, and ten bits for three bytes
 pub segment_least : (v : ℕ) (s : Segment) → 10 * s.len + 3 * (4 + count_width v s.mode) ≤ 3 * segment_bits v s
@@ -113,13 +87,7 @@ bits_least v xs (s ∷ ss) h = omega (arith, segment_least v s, bits_least v (dr
 -- The least segmentation covers the bytes, and fits exactly if some valid assignment fits.
 pub least_fits : (v : ℕ) (r : Rule) (xs : List ℕ) (segs : List Segment) → IsLeastSegmentation v r xs segs
     → Covers xs segs × ((n : ℕ) → HasFit v r xs n ↔ (bits v segs ≤ n))
-least_fits v r xs segs h =
-    let ms = h.0 in
-    let is = h.1 in
-    let same : bits v segs ≡ bits v (runs_of ms) = ap (bits v) h.2 in (
-      rw h.2 is.assignment.1,
-      λ n. (λ fit. omega (arith, same, is.least fit.0 fit.1, fit.2), λ small. (ms, is.assignment, omega (arith, same))),
-    )
+least_fits v r xs segs h = search arith
 
 -- Assignments are equal if neither comes after the other.
 best-one : (ms ks : List Mode) → IsNotAfter ms ks → IsNotAfter ks ms → ms ≡ ks
@@ -128,13 +96,10 @@ best-one [] (k ∷ ks) a b = absurd b
 best-one (m ∷ ms) [] a b = absurd a
 best-one (m ∷ ms) (k ∷ ks) a b =
     elim a [
-      | inl i ↦ elim b [ inl j ↦ absurd (omega arith) | inr y ↦ (let e = ap rank y.0 in absurd (omega arith)) ]
+      | inl i ↦ search arith
       | inr x ↦ elim b [ inl j ↦ (let e = ap rank x.0 in absurd (omega arith)) | inr y ↦ (let e = best-one ms ks x.1 y.1 in let f = x.0 in cc) ]
     ]
 
 -- There is only one least segmentation.
 pub segmentation-one : (v : ℕ) (r : Rule) (xs : List ℕ) (ss ts : List Segment) → IsLeastSegmentation v r xs ss → IsLeastSegmentation v r xs ts → ss ≡ ts
-segmentation-one v r xs ss ts a b =
-    let ab = a.1.least b.0 b.1.assignment in
-    let ba = b.1.least a.0 a.1.assignment in
-    a.2 ∙ ap runs_of (best-one a.0 b.0 (a.1.first b.0 b.1.assignment (omega arith)) (b.1.first a.0 a.1.assignment (omega arith))) ∙ sym b.2
+segmentation-one v r xs ss ts a b = search (arith, best-one)

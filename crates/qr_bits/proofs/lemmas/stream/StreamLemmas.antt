@@ -1,8 +1,9 @@
 -- Fields and digits: what is written is read back, and what is read is written as the same bits.
-use Rattle.std.proofs.Common.{◌≡◌, ℕ, zero, suc, ◌+◌, ◌-◌, ◌*◌, ◌/◌, ◌%◌, ◌^◌, ◌<◌, ◌≤◌, Bool, true, false, cond, ◌==◌, nat_lt, nat_le, All, List, [], ◌∷◌, ◌++◌, length, take, drop, Result, Ok, Err, refl, sym, ◌∙◌, ap, subst, arith, append_assoc}
+use Rattle.std.proofs.lemmas.Bool.Decides.{nat_tests}
+use Rattle.std.proofs.Common.{◌≡◌, ℕ, zero, suc, ◌+◌, ◌-◌, ◌*◌, ◌/◌, ◌%◌, ◌^◌, ◌<◌, ◌≤◌, Bool, true, false, cond, ◌==◌, nat_lt, All, List, [], ◌∷◌, ◌++◌, length, take, drop, Result, Ok, Err, refl, sym, ◌∙◌, ap, subst, arith, append_assoc}
 use borrow.Author.Tests.{leb-true}
 use Rattle.std.specs.List.{list_all}
-use Rattle.std.proofs.lemmas.Bool.{lt-ltb, ltb-true, le-leb, and_parts, and_from}
+use Rattle.std.proofs.lemmas.Bool.{lt-ltb, ltb-true, and_parts}
 use Rattle.std.proofs.lemmas.List.Elements.{All-nil, All-cons}
 use Rattle.std.proofs.lemmas.List.{length-take-le, length-drop, drop-drop, take-append-drop}
 use Rattle.std.proofs.Math.Seq.{take-append_seam, drop-append_seam}
@@ -21,9 +22,7 @@ use Rattle.qr_bits.proofs.lemmas.parsing.ParsingLemmas.{bind_ok, same_ok}
 
 -- one more bit of a number
 bit_step : (a d : ℕ) (bs : List Bool) → d < 2 → value_from a ((d == 1) ∷ bs) ≡ value_from (2 * a + d) bs
-bit_step a zero bs h = ap (λ (n : ℕ). value_from n bs) (omega arith)
-bit_step a (suc zero) bs h = refl
-bit_step a (suc (suc d)) bs h = absurd (omega arith)
+bit_step a d bs h = grind arith
 
 -- the number of a field after another number
 value_from-field : (a w n : ℕ) → value_from a (field w n) ≡ a * 2 ^ w + n % 2 ^ w
@@ -43,10 +42,10 @@ value_from-inj : (a b : ℕ) (xs ys : List Bool) → length xs ≡ length ys →
 value_from-inj a b [] [] l e = (e, refl)
 value_from-inj a b [] (y ∷ ys) l e = absurd (omega arith)
 value_from-inj a b (x ∷ xs) [] l e = absurd (omega arith)
-value_from-inj a b (true ∷ xs) (true ∷ ys) l e = let r = value_from-inj (2 * a + 1) (2 * b + 1) xs ys (omega arith) e in (omega (arith, r.0), ap (λ (t : List Bool). true ∷ t) r.1)
-value_from-inj a b (true ∷ xs) (false ∷ ys) l e = let r = value_from-inj (2 * a + 1) (2 * b) xs ys (omega arith) e in absurd (omega (arith, r.0))
-value_from-inj a b (false ∷ xs) (true ∷ ys) l e = let r = value_from-inj (2 * a) (2 * b + 1) xs ys (omega arith) e in absurd (omega (arith, r.0))
-value_from-inj a b (false ∷ xs) (false ∷ ys) l e = let r = value_from-inj (2 * a) (2 * b) xs ys (omega arith) e in (omega (arith, r.0), ap (λ (t : List Bool). false ∷ t) r.1)
+value_from-inj a b (true ∷ xs) (true ∷ ys) l e = search (arith, value_from-inj (2 * a + 1) (2 * b + 1) xs ys (omega arith) e)
+value_from-inj a b (true ∷ xs) (false ∷ ys) l e = search (arith, value_from-inj (2 * a + 1) (2 * b) xs ys (omega arith) e)
+value_from-inj a b (false ∷ xs) (true ∷ ys) l e = search (arith, value_from-inj (2 * a) (2 * b + 1) xs ys (omega arith) e)
+value_from-inj a b (false ∷ xs) (false ∷ ys) l e = search (arith, value_from-inj (2 * a) (2 * b) xs ys (omega arith) e)
 
 -- bits are the field of the number that they make
 pub field-value : (w : ℕ) (bs : List Bool) → length bs ≡ w → field w (value bs) ≡ bs
@@ -70,11 +69,11 @@ three_of_digits a b c h i j k l m = (omega arith, omega arith, omega arith, omeg
 
 -- the first bits, if they are a field
 pub take-field : (w n : ℕ) (rest : List Bool) → take w (field w n ++ rest) ≡ field w n
-take-field w n rest = let e = take-append_seam (field w n) rest in rw (length-field w n) at e
+take-field w n rest = cc (take-append_seam (field w n) rest, length-field w n)
 
 -- the bits after a field
 pub drop-field : (w n : ℕ) (rest : List Bool) → drop w (field w n ++ rest) ≡ rest
-drop-field w n rest = let e = drop-append_seam (field w n) rest in rw (length-field w n) at e
+drop-field w n rest = cc (drop-append_seam (field w n) rest, length-field w n)
 
 -- the number of the first bits, if they are a field
 pub read_field : (w n : ℕ) (rest : List Bool) → n < 2 ^ w → value (take w (field w n ++ rest)) ≡ n
@@ -84,34 +83,32 @@ read_field w n rest h = ap value (take-field w n rest) ∙ value-field w n h
 pub field_read : (w : ℕ) (bits : List Bool) → w ≤ length bits → field w (value (take w bits)) ≡ take w bits
 field_read w bits h = field-value w (take w bits) (length-take-le w bits h)
 
+-- a number that was read before other data, written again, is the bits that were read
+pub more_written : (w k : ℕ) (bits body : List Bool) → w ≤ length bits → drop w bits ≡ body ++ drop k (drop w bits)
+    → bits ≡ (field w (value (take w bits)) ++ body) ++ drop (w + k) bits
+more_written w k bits body h e = search (arith, field_read, append_assoc, drop-drop, take-append-drop)
+
 -- Digits that are written are read back.
 pub digits_again : (xs : List ℕ) (rest : List Bool) → AreDigits xs → digits_of (length xs) (digit_bits xs ++ rest) ≡ Ok xs
 unfolding digits_of digit_bits
 digits_again [] rest h = refl
 digits_again (a ∷ []) rest h =
     let r = read_field 4 (a - 48) rest (omega (arith, h.0, h.1)) in
-    let low : nat_lt (a - 48) 10 ≡ true = lt-ltb _ _ (omega (arith, h.0, h.1)) in
-    let d : digit (a - 48) ≡ a = omega (arith, h.0, h.1) in
-    rw (r, low, d) refl
+    grind (arith, lt-ltb)
 digits_again (a ∷ b ∷ []) rest h =
     let g = 10 * (a - 48) + (b - 48) in
     let r = read_field 7 g rest (omega (arith, h.0, h.1, h.2.0, h.2.1)) in
-    let low : nat_lt g 100 ≡ true = lt-ltb _ _ (omega (arith, h.0, h.1, h.2.0, h.2.1)) in
-    let d : digit (g / 10) ≡ a = omega (arith, h.0, h.1, h.2.0, h.2.1) in
-    let e : digit g ≡ b = omega (arith, h.0, h.1, h.2.0, h.2.1) in
-    rw (r, low, d, e) refl
+    grind (arith, lt-ltb)
 digits_again (a ∷ b ∷ c ∷ xs) rest h =
     let g = 100 * (a - 48) + 10 * (b - 48) + (c - 48) in
     let three = three_of_digits a b c h.0 h.1 h.2.0 h.2.1 h.2.2.0 h.2.2.1 in
     let r = read_field 10 g (digit_bits xs ++ rest) (omega (arith, three.3)) in
     let d = drop-field 10 g (digit_bits xs ++ rest) in
-    let s = append_assoc (field 10 g) (digit_bits xs) rest in
-    rw (s, r, d, lt-ltb g 1000 three.3, three.0, three.1, three.2, digits_again xs rest h.2.2.2) refl
+    search (arith, append_assoc, lt-ltb, digits_again xs rest h.2.2.2)
 
 -- a conditional between a result and a fault that succeeds is the result
 pub chosen_ok : {A : Type 0} (b : Bool) (r : Result A ParseFault) (f : ParseFault) (y : A) → cond b r (Err f) ≡ Ok y → (b ≡ true) × (r ≡ Ok y)
-chosen_ok true r f y h = (refl, h)
-chosen_ok false r f y h = cc
+chosen_ok b r f y h = grind arith
 
 -- the digits that were read, written again, are the bits that were read
 abbrev pub Written : ℕ → List Bool → List ℕ → Type 0
@@ -137,29 +134,22 @@ written_three : (n : ℕ) (bits : List Bool) (ds : List ℕ) → 10 ≤ length b
     → Written (3 + n) bits (digit (value (take 10 bits) / 100) ∷ digit (value (take 10 bits) / 10) ∷ digit (value (take 10 bits)) ∷ ds)
 unfolding digit_bits
 written_three n bits ds h low w =
-    let g = value (take 10 bits) in
-    let back = digits_of_three g low in
-    let rest : drop 10 bits ≡ digit_bits ds ++ drop (10 + payload_bits Numeric n) bits = w.2 ∙ ap (λ (t : List Bool). digit_bits ds ++ t) (drop-drop (payload_bits Numeric n) 10 bits) in (
-      omega (arith, w.0),
-      (omega arith, omega arith, (omega arith, omega arith, (omega arith, omega arith, w.1))),
-      rw (back, field_read 10 bits h, three_more n, append_assoc (take 10 bits) (digit_bits ds) (drop (10 + payload_bits Numeric n) bits), ← rest) (sym (take-append-drop 10 bits)),
-    )
+    let back = digits_of_three (value (take 10 bits)) low in
+    let whole = more_written 10 (payload_bits Numeric n) bits (digit_bits ds) h w.2 in
+    (omega (arith, w.0), (omega arith, omega arith, (omega arith, omega arith, (omega arith, omega arith, w.1))), rw (back, three_more n) whole)
 
 -- Digits that are read are written as the same bits.
 pub digits_takes : (n : ℕ) (xs : List ℕ) (bits : List Bool) → payload_bits Numeric n ≤ length bits → digits_of n bits ≡ Ok xs → Written n bits xs
 unfolding digits_of digit_bits
-digits_takes zero [] bits h e = (refl, tt, refl)
-digits_takes zero (x ∷ xs) bits h e = cc
-digits_takes (suc zero) xs bits h e =
-    let c = chosen_ok (nat_lt (value (take 4 bits)) 10) (Ok (digit (value (take 4 bits)) ∷ [])) BadValue xs e in
-    subst (Written 1 bits) (same_ok _ _ c.1) (written_one bits h (ltb-true _ _ c.0))
+digits_takes zero xs bits h e = grind arith
+digits_takes (suc zero) xs bits h e = search (arith, chosen_ok, same_ok, written_one, ltb-true)
 digits_takes (suc (suc zero)) xs bits h e =
     let c = chosen_ok (nat_lt (value (take 7 bits)) 100) (Ok (digit (value (take 7 bits) / 10) ∷ digit (value (take 7 bits)) ∷ [])) BadValue xs e in
     subst (Written 2 bits) (same_ok _ _ c.1) (written_two bits h (ltb-true _ _ c.0))
 digits_takes (suc (suc (suc n))) xs bits h e =
     let g = value (take 10 bits) in
     let three : suc (suc (suc n)) ≡ 3 + n = omega arith in
-    let room : 10 + payload_bits Numeric n ≤ length bits = omega (arith, ap (payload_bits Numeric) three, three_more n, h) in
+    let room : 10 + payload_bits Numeric n ≤ length bits = search (arith, three_more) in
     let c = chosen_ok (nat_lt g 1000) (digits_of n (drop 10 bits) >>= λ ds. Ok (digit (g / 100) ∷ digit (g / 10) ∷ digit g ∷ ds)) BadValue xs e in
     let b = bind_ok (digits_of n (drop 10 bits)) (λ ds. Ok (digit (g / 100) ∷ digit (g / 10) ∷ digit g ∷ ds)) xs c.1 in
     let rest = digits_takes n b.0 (drop 10 bits) (omega (arith, length-drop 10 bits)) b.1 in
@@ -168,17 +158,14 @@ digits_takes (suc (suc (suc n))) xs bits h e =
 -- bytes that suit numeric mode are digits
 pub are_digits : (xs : List ℕ) → list_all is_digit xs ≡ true → AreDigits xs
 are_digits [] h = tt
-are_digits (x ∷ xs) h =
-    let p = and_parts (is_digit x) _ h in
-    let q = and_parts (nat_le 48 x) (nat_le x 57) p.0 in
-    (leb-true 48 x q.0, leb-true x 57 q.1, are_digits xs p.1)
+are_digits (x ∷ xs) h = search (arith, and_parts, leb-true, are_digits xs)
 
 -- digits suit numeric mode
 pub digits_suit : (xs : List ℕ) → AreDigits xs → list_all is_digit xs ≡ true
 digits_suit [] h = refl
-digits_suit (x ∷ xs) h = and_from (is_digit x) _ (and_from (nat_le 48 x) (nat_le x 57) (le-leb 48 x h.0) (le-leb x 57 h.1)) (digits_suit xs h.2)
+digits_suit (x ∷ xs) h = search (arith, nat_tests, digits_suit xs)
 
 -- digits are bytes
 pub digits_bytes : (xs : List ℕ) → AreDigits xs → All (λ b. b < 256) xs
-digits_bytes [] h = All-nil (λ b. b < 256)
-digits_bytes (x ∷ xs) h = All-cons (λ b. b < 256) x xs (omega (arith, h.1)) (digits_bytes xs h.2)
+digits_bytes [] h = search (arith, All-nil)
+digits_bytes (x ∷ xs) h = search (arith, All-cons, digits_bytes xs)

@@ -1,14 +1,14 @@
 -- Writing the data of a segment, group by group, and the length of what is written.
-use Rattle.std.proofs.Common.{◌≡◌, ℕ, zero, suc, ◌+◌, ◌-◌, ◌*◌, ◌/◌, ◌%◌, ◌<◌, ◌≤◌, Bool, true, List, [], ◌∷◌, ◌++◌, length, get_or, take, drop, refl, sym, ◌∙◌, ap, arith, length-append, append_assoc}
+use Rattle.std.proofs.Common.{◌≡◌, ℕ, zero, suc, ◌+◌, ◌-◌, ◌*◌, ◌/◌, ◌<◌, ◌≤◌, Bool, true, List, [], ◌∷◌, ◌++◌, length, get_or, take, drop, refl, sym, ◌∙◌, arith, length-append, append_assoc}
 use Rattle.std.specs.List.{list_all}
 use Rattle.std.proofs.lemmas.Bool.{and_parts, false≢true}
 use Rattle.std.proofs.lemmas.List.{length-take-le, drop_all}
 use Rattle.std.proofs.Math.Seq.{drop-cons}
 use Rattle.qr_bits.specs.declared.modes.Mode.{Mode}
-use Rattle.qr_bits.specs.declared.modes.Mode.TheVariants.{Numeric, Alphanumeric, Byte, Kanji}
+use Rattle.qr_bits.specs.declared.modes.Mode.TheVariants.{Numeric, Alphanumeric, Kanji}
 use Rattle.qr_bits.specs.declared.segment.Segment.{Segment}
 use Rattle.qr_bits.specs.Bits.{field}
-use Rattle.qr_bits.specs.Modes.{character_count, count_width, payload_bits, in_twos, is_kanji_pair, suits, kanji_value, character_value}
+use Rattle.qr_bits.specs.Modes.{payload_bits, in_twos, is_kanji_pair, suits, kanji_value, character_value}
 use Rattle.qr_bits.specs.Segmentation.{segment_bits, bits}
 use Rattle.qr_bits.specs.Stream.{kanji_bits, digit_bits, character_bits, payload, segment_stream, segments_stream, Suits}
 use Rattle.qr_bits.proofs.lemmas.bits.BitLemmas.{length-field, length-bits_of}
@@ -27,33 +27,24 @@ all_rest p (x ∷ xs) (suc n) h = all_rest p xs n (and_parts (p x) _ h).1
 pub characters_two : (xs : List ℕ) → 2 ≤ length xs
     → character_bits xs ≡ field 11 (45 * character_value (get_or xs 0 0) + character_value (get_or xs 1 0)) ++ character_bits (drop 2 xs)
 unfolding character_bits
-characters_two [] h = absurd (omega arith)
-characters_two (a ∷ []) h = absurd (omega arith)
-characters_two (a ∷ b ∷ xs) h = refl
+characters_two xs h = grind arith
 
 -- ---- kanji pairs
 
 -- a pair, and the pairs after it
 pub kanji_two : (xs : List ℕ) → 2 ≤ length xs → kanji_bits xs ≡ field 13 (kanji_value (get_or xs 0 0) (get_or xs 1 0)) ++ kanji_bits (drop 2 xs)
 unfolding kanji_bits
-kanji_two [] h = absurd (omega arith)
-kanji_two (a ∷ []) h = absurd (omega arith)
-kanji_two (a ∷ b ∷ xs) h = refl
+kanji_two xs h = grind arith
 
 -- if bytes pass a test two by two, the first two pass it, and the rest does two by two
 pub in_twos-first : (test : ℕ → ℕ → Bool) (xs : List ℕ) → in_twos test xs ≡ true → 2 ≤ length xs → (test (get_or xs 0 0) (get_or xs 1 0) ≡ true) × (in_twos test (drop 2 xs) ≡ true)
-in_twos-first test [] h n = absurd (omega arith)
-in_twos-first test (x ∷ []) h n = absurd (omega arith)
-in_twos-first test (x ∷ y ∷ xs) h n = let p = and_parts (test x y) _ h in (p.0, p.1)
+in_twos-first test xs h n = grind arith
 
 -- ---- lengths
 
 -- three digits more have ten bits more
 pub three_more : (n : ℕ) → payload_bits Numeric (3 + n) ≡ 10 + payload_bits Numeric n
-three_more n =
-    let q : (3 + n) / 3 ≡ 1 + n / 3 = omega arith in
-    let r : (3 + n) % 3 ≡ n % 3 = omega arith in
-    rw (q, r) (omega arith)
+three_more n = search arith
 
 -- two characters more have eleven bits more
 pub two_more : (n : ℕ) → payload_bits Alphanumeric (2 + n) ≡ 11 + payload_bits Alphanumeric n
@@ -65,28 +56,20 @@ unfolding digit_bits
 length-digit_bits [] = refl
 length-digit_bits (a ∷ []) = length-field 4 (a - 48)
 length-digit_bits (a ∷ b ∷ []) = length-field 7 (10 * (a - 48) + (b - 48))
-length-digit_bits (a ∷ b ∷ c ∷ xs) =
-    let g = 100 * (a - 48) + 10 * (b - 48) + (c - 48) in
-    let e : suc (suc (suc (length xs))) ≡ 3 + length xs = omega arith in
-    omega (arith, length-append (field 10 g) (digit_bits xs), length-field 10 g, length-digit_bits xs, three_more (length xs), ap (payload_bits Numeric) e)
+length-digit_bits (a ∷ b ∷ c ∷ xs) = search (arith, length-append, length-field, three_more, length-digit_bits xs)
 
 -- the length of the bits of characters
 length-character_bits : (xs : List ℕ) → length (character_bits xs) ≡ payload_bits Alphanumeric (length xs)
 unfolding character_bits
 length-character_bits [] = refl
 length-character_bits (a ∷ []) = length-field 6 (character_value a)
-length-character_bits (a ∷ b ∷ xs) =
-    let g = 45 * character_value a + character_value b in
-    let e : suc (suc (length xs)) ≡ 2 + length xs = omega arith in
-    omega (arith, length-append (field 11 g) (character_bits xs), length-field 11 g, length-character_bits xs, two_more (length xs), ap (payload_bits Alphanumeric) e)
+length-character_bits (a ∷ b ∷ xs) = search (arith, length-append, length-field, two_more, length-character_bits xs)
 
 -- bytes that pass a test two by two are even in number
 pub in_twos-even : (test : ℕ → ℕ → Bool) (xs : List ℕ) → in_twos test xs ≡ true → 2 * (length xs / 2) ≡ length xs
 in_twos-even test [] h = refl
 in_twos-even test (x ∷ []) h = absurd (false≢true h)
-in_twos-even test (x ∷ y ∷ xs) h =
-    let rest = in_twos-even test xs (and_parts (test x y) _ h).1 in
-    omega (arith, rest)
+in_twos-even test (x ∷ y ∷ xs) h = omega (arith, and_parts, in_twos-even test xs (and_parts (test x y) _ h).1)
 
 -- the length of the bits of kanji pairs
 pub length-kanji_bits : (xs : List ℕ) → in_twos is_kanji_pair xs ≡ true → length (kanji_bits xs) ≡ payload_bits Kanji (length xs)
@@ -94,32 +77,24 @@ unfolding kanji_bits
 length-kanji_bits [] h = refl
 length-kanji_bits (a ∷ []) h = absurd (false≢true h)
 length-kanji_bits (a ∷ b ∷ xs) h =
-    let rest = length-kanji_bits xs (and_parts (is_kanji_pair a b) _ h).1 in
-    omega (arith, length-append (field 13 (kanji_value a b)) (kanji_bits xs), length-field 13 (kanji_value a b), rest)
+    search (arith, and_parts, length-append, length-field, length-kanji_bits xs (and_parts (is_kanji_pair a b) _ h).1)
 
 -- the length of data
 pub length-payload : (m : Mode) (xs : List ℕ) → suits m xs ≡ true → length (payload m xs) ≡ payload_bits m (length xs)
 unfolding payload
-length-payload Numeric xs h = length-digit_bits xs
-length-payload Alphanumeric xs h = length-character_bits xs
-length-payload Byte xs h = length-bits_of xs
-length-payload Kanji xs h = length-kanji_bits xs h
+length-payload m xs h = grind (arith, length-digit_bits, length-character_bits, length-bits_of, length-kanji_bits)
 
 -- the length of the stream of a segment
 pub length-segment_stream : (v n : ℕ) (m : Mode) (xs : List ℕ) → suits m xs ≡ true → length xs ≡ n → length (segment_stream v m xs) ≡ segment_bits v (record { mode = m; len = n })
 unfolding segment_stream
-length-segment_stream v n m xs h e =
-    let count = field (count_width v m) (character_count m (length xs)) in
-    let id = Rattle.qr_bits.specs.Modes.indicator m in
-    omega (arith, length-append (field 4 id) (count ++ payload m xs), length-append count (payload m xs), length-field 4 id, length-field (count_width v m) (character_count m (length xs)), length-payload m xs h, ap (payload_bits m) e)
+length-segment_stream v n m xs h e = search (arith, length-append, length-field, length-payload)
 
 -- the length of the stream of segments
 pub length-segments_stream : (v : ℕ) (xs : List ℕ) (segs : List Segment) → Suits xs segs → length (segments_stream v xs segs) ≡ bits v segs
 unfolding segments_stream Suits
 length-segments_stream v xs [] h = refl
 length-segments_stream v xs (s ∷ ss) h =
-    let one = length-segment_stream v s.len s.mode (take s.len xs) h.1 (length-take-le s.len xs h.0) in
-    omega (arith, length-append (segment_stream v s.mode (take s.len xs)) (segments_stream v (drop s.len xs) ss), one, length-segments_stream v (drop s.len xs) ss h.2)
+    search (arith, length-segment_stream, length-take-le, length-append, length-segments_stream v (drop s.len xs) ss h.2)
 
 -- ---- segments, one after the other
 
@@ -127,7 +102,7 @@ length-segments_stream v xs (s ∷ ss) h =
 pub stream_next : (v : ℕ) (xs : List ℕ) (segs : List Segment) (i : ℕ) (d : Segment) → i < length segs
     → segments_stream v xs (drop i segs) ≡ segment_stream v (get_or segs i d).mode (take (get_or segs i d).len xs) ++ segments_stream v (drop (get_or segs i d).len xs) (drop (i + 1) segs)
 unfolding segments_stream
-stream_next v xs segs i d h = let one : i + 1 ≡ suc i = omega arith in rw (one, drop-cons segs i d) refl
+stream_next v xs segs i d h = search (arith, drop-cons)
 
 -- the stream of no segment is empty
 pub stream_end : (v : ℕ) (xs : List ℕ) (segs : List Segment) (i : ℕ) → length segs ≤ i → segments_stream v xs (drop i segs) ≡ []

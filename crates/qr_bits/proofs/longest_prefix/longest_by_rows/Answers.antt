@@ -19,7 +19,7 @@ loop-i-init c = record {
 }
 
 pub best_choices-requires : goal.best_choices-requires
-best_choices-requires c = small_row c.loop-i.rest c.loop-i.i (omega arith) c.loop-i.invariant.small
+best_choices-requires c = search (arith, small_row)
 
 pub loop-i-preserved : goal.loop-i-preserved
 unfolding in_state
@@ -39,7 +39,7 @@ loop-i-preserved c =
             inside = omega arith;
             fits = fit;
             longest = λ k h _. h;
-            small = small_more v r _ _ c.best_choices.result.0 c.loop-i.rest c.best_choices.result.1 i inv.small chosen;
+            small = search (arith, small_more);
             best = (c.best_choices.result.0 ∷ inv.best.0, below);
           })
       | else-from-room w ↦
@@ -53,7 +53,7 @@ loop-i-preserved c =
                 absurd (omega (arith, prefix_least v r (take (i + 1) xs) _ (bits_at c.best_choices.result.1) room below q, w.if-from-room.false, c.from.ensures)))
                 (λ (l : k ≤ i). inv.longest k l fit)
                 (cases_lt i k);
-            small = small_more v r _ _ c.best_choices.result.0 c.loop-i.rest c.best_choices.result.1 i inv.small chosen;
+            small = search (arith, small_more);
             best = (c.best_choices.result.0 ∷ inv.best.0, below);
           })
     ]

@@ -9,9 +9,9 @@ unwrap-requires c = rw (c.place_of.ensures, character_place c.args.character c.r
 pub overflow_cast-result : goal.overflow_cast-result
 overflow_cast-result c =
     let same = same_some _ _ (sym c.unwrap.ensures ∙ c.place_of.ensures ∙ character_place c.args.character c.requires) in
-    omega (arith, same, character_found c.args.character c.requires)
+    omega (arith, character_found)
 
 pub returns : goal.returns
 returns c =
     let same : c.unwrap.result ≡ character_value c.args.character = same_some _ _ (sym c.unwrap.ensures ∙ c.place_of.ensures ∙ character_place c.args.character c.requires) in
-    record { value = same; most = omega (arith, character_found c.args.character c.requires) }
+    omega (arith, character_found)

@@ -1,14 +1,8 @@
-use Rattle.std.proofs.Common.{◌≡◌, ◌+◌, ◌-◌, sym, arith, append-nil, append_assoc}
+use Rattle.std.proofs.Common.{◌≡◌, ◌+◌, ◌-◌, arith, append_assoc}
 use Rattle.qr_bits.specs.Padding.{pads}
-use Rattle.qr_bits.proofs.lemmas.padding.PaddingLemmas.{pads-none, pads-even, pads-odd}
+use Rattle.qr_bits.proofs.lemmas.padding.PaddingLemmas.{pads-even, pads-odd}
 use Rattle.qr_bits.proofs.padding.pad.Goals as goal
 use Rattle.qr_bits.proofs.padding.pad.Goals.{then-i-first-eq0, else-i-first-eq0}
-
-pub loop-i-init : goal.loop-i-init
-loop-i-init c = let none : c.len-first.result - c.len-first.result ≡ 0 = omega arith in record {
-  written = rw (pads-none (c.len-first.result - c.len-first.result) none) (sym (append-nil c.args.codewords.now.items));
-  few = omega arith;
-}
 
 pub loop-i-preserved : goal.loop-i-preserved
 loop-i-preserved c =
@@ -22,8 +16,3 @@ loop-i-preserved c =
       ]);
       few = omega (arith, c.loop-i-test.true);
     }
-
-pub returns-clause-written : goal.returns-clause-written
-returns-clause-written c =
-    let all : c.loop-i.i - c.len-first.result ≡ c.args.len - c.len-first.result = omega (arith, c.loop-i.invariant.few, c.loop-i-test.false) in
-    rw (← c.len-first.ensures, ← all) c.loop-i.invariant.written

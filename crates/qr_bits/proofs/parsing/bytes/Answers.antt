@@ -1,7 +1,10 @@
-use Rattle.std.proofs.Common.{◌≡◌, ℕ, ◌+◌, ◌-◌, ◌*◌, List, ◌++◌, drop, sym, ◌∙◌, ap, arith}
-use Rattle.std.proofs.lemmas.List.{length-drop, drop-drop, append-nil}
-use Rattle.qr_bits.proofs.lemmas.parsing.PayloadLemmas.{bytes_more, bytes_none}
+use Rattle.std.proofs.Common.{◌≡◌, ℕ, ◌+◌, ◌-◌, ◌*◌, drop, sym, ◌∙◌, ap, arith}
+use Rattle.std.proofs.lemmas.List.{length-drop, drop-drop}
+use Rattle.qr_bits.proofs.lemmas.parsing.PayloadLemmas.{value_take_below, bytes_more}
 use Rattle.qr_bits.proofs.parsing.bytes.Goals as goal
+
+pub overflow_cast-take : goal.overflow_cast-take
+overflow_cast-take c = omega (arith, c.take.ensures.value, value_take_below 8 c.loop.reader)
 
 pub loop-preserved : goal.loop-preserved
 loop-preserved c =
@@ -15,9 +18,3 @@ loop-preserved c =
       there = rw (← less, c.take.ensures.rest) (omega (arith, length-drop 8 c.loop.reader, i.there));
       rest = rw (← less, c.take.ensures.rest) (drop-drop (8 * (left - 1)) 8 c.loop.reader ∙ ap (λ (n : ℕ). drop n c.loop.reader) eight ∙ i.rest);
     }
-
-pub returns-clause-ok : goal.returns-clause-ok
-returns-clause-ok c =
-    let i = c.loop.invariant in
-    let none : c.args.count - c.loop.counter ≡ 0 = omega arith in
-    (sym (append-nil c.loop.out.items) ∙ ap (λ (r : List ℕ). c.loop.out.items ++ r) (sym (bytes_none c.loop.reader)) ∙ rw none at i.reads, rw none at i.rest)

@@ -1,10 +1,7 @@
 use Rattle.std.proofs.Common.{sym, ◌∙◌, arith}
 use Rattle.std.proofs.lemmas.Result.{err_from_is_err_and}
-use Rattle.qr_bits.proofs.lemmas.parsing.ParsingLemmas.{not_ended, segment_shorter, behind_more, fault_all, end_all}
+use Rattle.qr_bits.proofs.lemmas.parsing.ParsingLemmas.{not_ended, segment_shorter, fault_all}
 use Rattle.qr_bits.proofs.parsing.segments.Goals as goal
-
-pub segment-requires : goal.segment-requires
-segment-requires c = let t = c.loop-reader-test.true in not_ended _ (sym c.ends.ensures ∙ t)
 
 pub returns-in_err-next-clause-err : goal.returns-in_err-next-clause-err
 returns-in_err-next-clause-err c =
@@ -17,13 +14,3 @@ loop-reader-smaller c =
     let s = c.in_ok-next.ensures.ok in
     let open_ = not_ended _ (sym c.ends.ensures ∙ c.loop-reader-test.true) in
     omega (arith, segment_shorter _ _ _ open_ s.1)
-
-pub loop-reader-preserved : goal.loop-reader-preserved
-loop-reader-preserved c =
-    let s = c.in_ok-next.ensures.ok in
-    let more = behind_more _ _ _ c.loop-reader.segments.items c.loop-reader.bytes.items _ _ (sym c.ends.ensures ∙ c.loop-reader-test.true) s.1 in
-    rw (c.in_ok-push.ensures.items, s.2) (sym more ∙ c.loop-reader.invariant)
-
-pub returns-clause-ok : goal.returns-clause-ok
-returns-clause-ok c =
-    (end_all c.args.version c.loop-reader.reader c.args.reader c.loop-reader.segments.items c.loop-reader.bytes.items (sym c.ends.ensures ∙ c.loop-reader-test.false) c.loop-reader.invariant)

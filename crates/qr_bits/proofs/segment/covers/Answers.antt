@@ -1,4 +1,4 @@
-use Rattle.std.proofs.Common.{◌<◌, length, get_or, sym, ◌∙◌, ap, arith}
+use Rattle.std.proofs.Common.{◌<◌, get_or, sym, ◌∙◌, arith}
 use Rattle.std.proofs.lemmas.Bool.{false≢true, eqb-true, eq-eqb}
 use Rattle.std.proofs.lemmas.List.{nil_from_length}
 use Rattle.qr_bits.specs.declared.modes.Mode.TheVariants.{Numeric}
@@ -27,7 +27,7 @@ returns-then-not-suits c = (
   λ e. absurd (false≢true e),
   λ k.
       let next = covers_next c.loop-segment.rest.now c.args.segs.now c.loop-segment.segment-index none c.loop-segment-test.true (c.loop-segment.invariant.rest k) in
-      absurd (false≢true (sym c.if-not-suits.true ∙ rw c.split_at.ensures.front at c.suits.ensures ∙ next.2)),
+      search arith,
 )
 
 pub loop-segment-preserved : goal.loop-segment-preserved
@@ -46,6 +46,6 @@ pub returns : goal.returns
 returns c =
     let rest = c.loop-segment.rest.now in
     let end = covers_end rest c.args.segs.now c.loop-segment.segment-index c.loop-segment-test.false in (
-      λ e. c.loop-segment.invariant.whole (end.1 (nil_from_length rest (eqb-true (length rest) 0 (sym c.is_empty.ensures ∙ e)))),
-      λ k. c.is_empty.ensures ∙ eq-eqb (length rest) 0 (ap length (end.0 (c.loop-segment.invariant.rest k))),
+      λ e. c.loop-segment.invariant.whole (end.1 (search (arith, nil_from_length, eqb-true))),
+      λ k. search (arith, eq-eqb),
     )

@@ -1,13 +1,12 @@
-use Rattle.std.proofs.Common.{◌≡◌, ℕ, List, [], ◌∷◌, ◌++◌, reverse, refl, sym, ◌∙◌, ap, arith, rules}
-use denote.Enum.Bare.{sameb, same_true}
+use Rattle.std.proofs.Common.{◌≡◌, List, [], ◌∷◌, ◌++◌, reverse, sym, ◌∙◌, ap, arith, rules}
+use denote.Enum.Bare.{same_true}
 use Rattle.qr_bits.specs.contracts.modes.Mode.{the_type}
 use Rattle.std.proofs.lemmas.Bool.{false≢true}
-use Rattle.qr_bits.specs.declared.modes.Mode.{Mode}
 use Rattle.qr_bits.specs.declared.segment.Segment.{Segment}
 use Rattle.qr_bits.specs.declared.run_state.RunState.TheVariants.{Start}
 use Rattle.qr_bits.specs.Segmentation.{runs_of}
 use Rattle.qr_bits.specs.Steps.RunState.{state_after, state_on}
-use Rattle.qr_bits.specs.Steps.Segmentation.{one_segment, append_mode}
+use Rattle.qr_bits.specs.Steps.Segmentation.{one_segment}
 use Rattle.qr_bits.specs.Steps.BestModes.{follow}
 use Rattle.qr_bits.proofs.lemmas.segmentation.BackLemmas.{run_same, run_other, runs_of-push, sameb_self}
 use Rattle.qr_bits.proofs.lemmas.best_modes.ChoiceLemmas.{on_after}
@@ -17,17 +16,17 @@ use Rattle.qr_bits.proofs.segmentation.least_segments.Goals as goal
 
 pub loop-modes-init : goal.loop-modes-init
 unfolding runs_of state_on state_after
-loop-modes-init c = ([], append-nil _ ∙ c.new-found.ensures.items, refl, omega arith, λ _. c.new-found.ensures.items, refl)
+loop-modes-init c = search (arith, append-nil)
 
 pub loop-modes-preserved-then-eq : goal.loop-modes-preserved-then-eq
 loop-modes-preserved-then-eq c =
     let l = c.loop-modes in
     let i = l.invariant in
     let same : c.mode_at-next.result ≡ l.mode = same_true the_type (search rules) _ _ (sym c.if-eq.ensures) in
-    let state : c.state_on-state.result ≡ state_after l.state l.mode = c.state_on-state.ensures ∙ i.5 in (
+    let state : c.state_on-state.result ≡ state_after l.state l.mode = cc in (
       i.0 ++ l.mode ∷ [],
-      sym (run_same l.found.items l.mode l.len i.4) ∙ ap (λ (r : List Segment). append_mode r l.mode) i.1 ∙ sym (runs_of-push i.0 l.mode),
-      rw state (led_on l.state l.table.items _ c.in-Some.modes i.0 _ l.mode c.in-Some.ensures.items (sym same ∙ c.mode_at-next.ensures) i.2),
+      cc (run_same l.found.items l.mode l.len i.4, runs_of-push i.0 l.mode),
+      rw state (led_on l.state l.table.items _ c.in-Some.modes i.0 _ l.mode c.in-Some.ensures.items (cc) i.2),
       omega (arith, i.3, c.in-Some.ensures.len),
       λ z. absurd (omega arith),
       rw state (on_after l.state l.mode),
@@ -38,10 +37,10 @@ loop-modes-preserved c =
     let l = c.loop-modes in
     let i = l.invariant in
     let mode = c.mode_at-next.result in
-    let other : l.mode ≡ mode → ⊥ = λ e. false≢true (c.if-eq.ensures ∙ ap (λ (m : Mode). sameb the_type m l.mode) (sym e) ∙ sameb_self l.mode) in (
+    let other : l.mode ≡ mode → ⊥ = search (arith, false≢true, sameb_self) in (
       i.0 ++ mode ∷ [],
-      ap (λ (r : List Segment). r ++ one_segment mode 1) c.in_ok-push_segment.ensures ∙ sym (run_other l.found.items l.mode mode l.len i.4 other)
-          ∙ ap (λ (r : List Segment). append_mode r mode) i.1 ∙ sym (runs_of-push i.0 mode),
+      ap (λ (r : List Segment). r ++ one_segment mode 1) c.in_ok-push_segment.ensures
+          ∙ cc (run_other l.found.items l.mode mode l.len i.4 other, runs_of-push i.0 mode),
       rw c.next_state-state.ensures (led_on l.state l.table.items _ c.in-Some.modes i.0 _ mode c.in-Some.ensures.items c.mode_at-next.ensures i.2),
       omega (arith, i.3, c.in-Some.ensures.len),
       λ z. absurd (omega arith),
@@ -51,8 +50,7 @@ loop-modes-preserved c =
 pub returns-clause-ok : goal.returns-clause-ok
 returns-clause-ok c =
     let i = c.loop-modes.invariant in
-    let none : c.loop-modes.table.items ≡ [] = nil_from_length _ (omega (arith, c.in_default.ensures.cases.0, c.loop-modes.table.ok.0)) in
-    let end : i.0 ++ [] ≡ follow Start (reverse c.in_ok-table.table.items) =
-    ap (λ (t : List Mode). i.0 ++ t) (sym (follow-nil c.loop-modes.state) ∙ ap (λ (t : List ℕ). follow c.loop-modes.state (reverse t)) (sym none)) ∙ i.2 in
+    let none : c.loop-modes.table.items ≡ [] = search (arith, nil_from_length) in
+    let end : i.0 ++ [] ≡ follow Start (reverse c.in_ok-table.table.items) = search (arith, follow-nil) in
     let whole : i.0 ≡ follow Start (reverse c.in_ok-table.table.items) = sym (append-nil i.0) ∙ end in
     (i.0, rw whole (assignment_from_table c.args.version c.args.rule c.args.input.now (reverse c.in_ok-table.table.items) c.in_ok-table.ensures.best), c.in_ok-push_segment-2.ensures ∙ i.1)

@@ -1,4 +1,4 @@
-use Rattle.std.proofs.Common.{List, Bool, ◌++◌, ap, sym, ◌∙◌, arith, append-nil}
+use Rattle.std.proofs.Common.{append_assoc, arith, append-nil}
 use Rattle.qr_bits.specs.declared.modes.Mode.TheVariants.{Numeric}
 use Rattle.qr_bits.specs.declared.segment.Segment.{Segment}
 use Rattle.qr_bits.proofs.lemmas.segment.SegmentLemmas.{covers_next}
@@ -23,12 +23,10 @@ loop-segment-preserved c =
     let i = c.loop-segment.segment-index in
     let next = stream_next c.args.version rest segs i none c.loop-segment-test.true in
     record {
-      whole = rw (c.split_at.ensures.back) (append_next c.loop-segment.writer _ _ _ _ (sym c.loop-segment.invariant.whole ∙ ap (λ (t : List Bool). c.loop-segment.writer ++ t) next) (rw c.split_at.ensures.front at c.in_ok-put_segment.ensures));
+      whole = search (arith, append_next, append_assoc);
       covered = rw c.split_at.ensures.back (covers_next rest segs i none c.loop-segment-test.true c.loop-segment.invariant.covered).3;
-      short = omega (arith, c.split_at.ensures.back_len, c.loop-segment.invariant.short);
+      short = omega arith;
     }
 
 pub returns : goal.returns
-returns c =
-    let none_left = stream_end c.args.version c.loop-segment.rest.now c.args.segs.now c.loop-segment.segment-index c.loop-segment-test.false in
-    sym (append-nil c.loop-segment.writer) ∙ ap (λ (t : List Bool). c.loop-segment.writer ++ t) (sym none_left) ∙ c.loop-segment.invariant.whole
+returns c = search (arith, stream_end, append-nil)

@@ -236,43 +236,12 @@ difference-between z x y = elim (cases_eq x y) [
       ]
 ]
 
--- the length of xs is at most the number of differences of zs and xs plus the length of zs
-differences-length : (zs xs : List ℕ) → length xs ≤ differences zs xs + length zs
-differences-length [] xs = omega arith
-differences-length (z ∷ zs) [] = omega arith
-differences-length (z ∷ zs) (x ∷ xs) = let e = differences-length zs xs in omega (arith, e)
-
 -- two codewords x and y count as at most 1 difference
 pub difference-most : (x y : ℕ) → difference x y ≤ 1
 difference-most x y = elim (cases_eq x y) [
   | inl e ↦ let none = difference-same x y e in omega (arith, none)
   | inr n ↦ let one = difference-other x y n in omega (arith, one)
 ]
-
--- the number of differences of xs and ys is at most the number of differences of zs and xs plus the number of differences
--- of zs and ys
-differences-between : (zs xs ys : List ℕ) → differences xs ys ≤ differences zs xs + differences zs ys
-differences-between [] [] ys = omega arith
-differences-between [] (x ∷ xs) [] = omega arith
-differences-between [] (x ∷ xs) (y ∷ ys) =
-    let e = differences-between [] xs ys in
-    let one = difference-most x y in
-    omega (arith, e, one)
-differences-between (z ∷ zs) [] ys = let e = differences-length (z ∷ zs) ys in omega (arith, e)
-differences-between (z ∷ zs) (x ∷ xs) [] = let e = differences-length zs xs in omega (arith, e)
-differences-between (z ∷ zs) (x ∷ xs) (y ∷ ys) =
-    let e = difference-between z x y in
-    let f = differences-between zs xs ys in
-    omega (arith, e, f)
-
--- if 2 * t is at most n and the list `damaged` differs from each of two blocks in at most t codewords, then the blocks
--- have the same data codewords d and d'
-pub unambiguous : (n t : ℕ) (d e d' e' damaged : List ℕ) → IsCorrection d n e → IsCorrection d' n e' →
-    length d ≡ length d' → length d + n ≤ 255 → 2 * t ≤ n → differences damaged (d ++ e) ≤ t →
-    differences damaged (d' ++ e') ≤ t → d ≡ d'
-unambiguous n t d e d' e' damaged c c' s l h a b =
-    let f = differences-between damaged (d ++ e) (d' ++ e') in
-    near-same n d e d' e' c c' s l (omega (arith, f, h, a, b))
 
 -- the length of xs is at most the number of errors of rs against xs plus the length of rs
 errors-length : (rs : List (Option ℕ)) (xs : List ℕ) → length xs ≤ errors rs xs + length rs
