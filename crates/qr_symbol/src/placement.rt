@@ -7,11 +7,10 @@
 
 ghost use Rattle.std.specs.Prelude.{◌≡◌, ℕ, List, ◌*◌, ◌%◌, ◌+◌, ◌-◌, ◌<◌, ◌≤◌, ◌==◌, ◌&&◌, if◌then◌else◌, not, false, length, slice_index};
 ghost use Rattle.qr_layout.specs.Version.{side_of};
-ghost use Rattle.qr_layout.specs.Strips.{both_of, rows_from};
 ghost use Rattle.qr_bits.specs.Bits.{codeword_bit};
 ghost use Rattle.qr_matrix.specs.Grid.{square, colour, transposed, IsSquare};
 ghost use Rattle.qr_matrix.specs.BitRow.{has, has_bit};
-ghost use Rattle.qr_symbol.specs.Steps.Placement.{placed_colour, number_after, walked_colour, AreDrawn, AreLight, AreNext, AreWithin, IsDrawnAcross, IsCodewordBits, IsRegion, region_grid};
+ghost use Rattle.qr_symbol.specs.Steps.Placement.{placed_colour, number_after, number_at, walked_colour, AreDrawn, AreLight, AreNext, AreWithin, IsStripDrawn, IsCodewordBits, IsRegion, region_grid};
 
 use crate::mask::inverts;
 use crate::patterns::is_bit_set;
@@ -188,18 +187,13 @@ fn draw_rows(
     passed: u8,
     count: u8,
 ) -> u8
-    requires within { AreWithin (side_of v) columns.old }
     requires region { IsRegion v strip.right region.now }
-    requires left_in { 1 ≤ strip.right }
-    requires right_in { strip.right < side_of v }
     requires rows_in { passed + count ≤ side_of v }
     requires few { count ≤ 4 }
-    requires light { AreLight (side_of v) strip passed region.now columns.old }
     ensures few { result ≤ 2 * count }
-    ensures within { AreWithin (side_of v) columns.new }
-    ensures light { AreLight (side_of v) strip (passed + count) region.now columns.new }
-    ensures drawn { (cw : List ℕ) → (number : ℕ) → AreNext cw number bits
-        → AreDrawn v cw strip passed count number columns.old (number + result) columns.new }
+    ensures number { (first : ℕ) → number_at v strip first (passed + count) ≡ number_at v strip first passed + result }
+    ensures drawn { (cw : List ℕ) → (first : ℕ) → AreNext cw (number_at v strip first passed) bits
+        → AreDrawn v cw strip first passed count columns.old columns.new }
 {
     let last = v.side() - 1;
     let mut taken = 0;
@@ -223,19 +217,15 @@ fn draw_four(
     strip: Strip,
     passed: u8,
 ) -> u8
-    requires within { AreWithin (side_of v) columns.old }
     requires region { IsRegion v strip.right region.now }
-    requires left_in { 1 ≤ strip.right }
-    requires right_in { strip.right < side_of v }
     requires rows_in { passed + 4 ≤ side_of v }
     requires whole { passed % 4 ≡ (if strip.upward then 1 else 0) }
     requires both { (row : ℕ) → has both.now row ≡ (has region.now.right row && has region.now.left row) }
     requires light { AreLight (side_of v) strip passed region.now columns.old }
     ensures few { result ≤ 8 }
-    ensures within { AreWithin (side_of v) columns.new }
-    ensures light { AreLight (side_of v) strip (passed + 4) region.now columns.new }
-    ensures drawn { (cw : List ℕ) → (number : ℕ) → AreNext cw number bits
-        → AreDrawn v cw strip passed 4 number columns.old (number + result) columns.new }
+    ensures number { (first : ℕ) → number_at v strip first (passed + 4) ≡ number_at v strip first passed + result }
+    ensures drawn { (cw : List ℕ) → (first : ℕ) → AreNext cw (number_at v strip first passed) bits
+        → AreDrawn v cw strip first passed 4 columns.old columns.new }
 {
     let top = if strip.upward {
         v.side() - 4 - passed
@@ -264,12 +254,11 @@ fn draw_columns(
 ) -> usize
     requires within { AreWithin (side_of v) columns.old }
     requires region { IsRegion v strip.right region.now }
-    requires left_in { 1 ≤ strip.right }
-    requires right_in { strip.right < side_of v }
     requires few { first ≤ 29648 }
     requires light { AreLight (side_of v) strip 0 region.now columns.old }
     ensures within { AreWithin (side_of v) columns.new }
-    ensures drawn { AreDrawn v codewords.now strip 0 (side_of v) first columns.old result columns.new }
+    ensures number { result ≡ number_at v strip first (side_of v) }
+    ensures drawn { AreDrawn v codewords.now strip first 0 (side_of v) columns.old columns.new }
 {
     let last = v.side() - 1;
     let before = u8::from(strip.upward);
@@ -304,8 +293,7 @@ fn draw_strip(
     requires left_in { 1 ≤ strip.right }
     requires right_in { strip.right < side_of v }
     requires few { first ≤ 29648 }
-    ensures { IsDrawnAcross v codewords.now (both_of (rows_from (side_of v) strip 0 (side_of v))) first across.old
-        result across.new }
+    ensures { IsStripDrawn v codewords.now strip first across.old result across.new }
 {
     let Strip { right, upward } = strip;
     let within = columns_of(region, right);

@@ -11,7 +11,7 @@ use Rattle.qr_symbol.specs.declared.collecting.TheConstants.{SPREADS}
 use Rattle.qr_symbol.specs.declared.placement.Columns.{Columns}
 use Rattle.qr_symbol.specs.Steps.Collecting.{bits_in_rows}
 use Rattle.qr_symbol.specs.Steps.Placement.{row_of}
-use Rattle.qr_symbol.proofs.lemmas.placement.AcrossLemmas.{rank_of}
+use Rattle.qr_symbol.proofs.lemmas.placement.ColumnLemmas.{rank_of}
 
 -- the table's entry for a direction and four modules
 abbrev pub spread : ℕ → ℕ → ℕ

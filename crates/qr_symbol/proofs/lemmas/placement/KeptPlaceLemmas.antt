@@ -23,14 +23,6 @@ kept-append v (m ∷ xs) ys = ap (λ (z : List Module). cond (is_in_region v m.r
     front true m xs ys = refl
     front false m xs ys = refl
 
--- a place in the region at the end of a list is kept
-pub kept-push-in : (v : ℕ) (xs : List Module) (m : Module) → is_in_region v m.row m.col ≡ true → in_region_of v (xs ++ m ∷ []) ≡ in_region_of v xs ++ m ∷ []
-kept-push-in v xs m e = kept-append v xs (m ∷ []) ∙ ap (λ (z : List Module). in_region_of v xs ++ z) (kept-in v m [] e)
-
--- a place outside the region at the end of a list is not kept
-pub kept-push-out : (v : ℕ) (xs : List Module) (m : Module) → is_in_region v m.row m.col ≡ false → in_region_of v (xs ++ m ∷ []) ≡ in_region_of v xs
-kept-push-out v xs m e = kept-append v xs (m ∷ []) ∙ (ap (λ (z : List Module). in_region_of v xs ++ z) (kept-out v m [] e) ∙ append-nil (in_region_of v xs))
-
 -- the places of a list of strips with one strip more
 pub places-push : (s : ℕ) (xs : List Strip) (x : Strip) → places_of s (xs ++ x ∷ []) ≡ places_of s xs ++ both_of (rows_from s x 0 s)
 places-push s [] x = append-nil (both_of (rows_from s x 0 s))

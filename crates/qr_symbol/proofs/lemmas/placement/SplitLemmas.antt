@@ -5,7 +5,7 @@ use Rattle.qr_matrix.specs.Grid.{is_same}
 use Rattle.qr_matrix.specs.Sums.{all_below}
 use Rattle.qr_matrix.proofs.Facts.{below-at, same-same, &&-left, &&-right}
 use Rattle.qr_symbol.specs.declared.placement.TheConstants.{SPLITS}
-use Rattle.qr_symbol.proofs.lemmas.placement.AcrossLemmas.{rank_of}
+use Rattle.qr_symbol.proofs.lemmas.placement.ColumnLemmas.{rank_of}
 
 -- the table's entry for a direction and eight bits
 abbrev pub split : ℕ → ℕ → ℕ
