@@ -9,7 +9,7 @@ use Rattle.qr_bits.specs.declared.modes.Mode.{Mode}
 use Rattle.qr_bits.specs.declared.modes.Mode.TheVariants.{Numeric, Alphanumeric, Byte, Kanji}
 use Rattle.qr_bits.specs.declared.modes.Rule.{Rule}
 use Rattle.qr_bits.specs.declared.segment.Segment.{Segment}
-use Rattle.qr_bits.specs.Modes.{may_use, suits}
+use Rattle.qr_bits.specs.Modes.{may_use}
 use Rattle.qr_bits.specs.Segmentation.{bits, rank, prepend_mode, runs_of, Covers, IsAssignment, HasFit, IsLongestFit}
 use Rattle.qr_bits.specs.Padding.{room_of}
 use Rattle.qr_bits.proofs.Facts.{CoversInTurn, byte_used, capacity_least, count_width_bound, covers_all, empty_fits, from_turn, in_turn}
@@ -32,11 +32,11 @@ true-or-not false = inr (λ h. cc)
 
 -- it is decided whether one number is less than another
 below-or-not : (m n : ℕ) → Decided (m < n)
-below-or-not m n = elim (cases_lt m n) [ inl l ↦ inl l | inr l ↦ inr (λ h. omega arith) ]
+below-or-not m n = search arith
 
 -- it is decided whether one number is at most another
 most-or-not : (m n : ℕ) → Decided (m ≤ n)
-most-or-not m n = elim (cases_lt n m) [ inl l ↦ inr (λ h. omega arith) | inr l ↦ inl l ]
+most-or-not m n = search arith
 
 -- it is decided whether segments take all of the bytes, one segment after another
 in-turn-or-not : (xs : List ℕ) (segs : List Segment) → Decided (CoversInTurn xs segs)
@@ -44,18 +44,11 @@ unfolding CoversInTurn
 in-turn-or-not [] [] = inl refl
 in-turn-or-not (x ∷ xs) [] = inr (λ e. cc)
 in-turn-or-not xs (s ∷ ss) =
-    elim (both (0 < s.len) (s.len ≤ length xs) (below-or-not 0 s.len) (most-or-not s.len (length xs))) [
-      | inl a ↦ elim (both (IsTrue (suits s.mode (take s.len xs))) (CoversInTurn (drop s.len xs) ss) (true-or-not (suits s.mode (take s.len xs))) (in-turn-or-not (drop s.len xs) ss)) [
-        | inl b ↦ inl (a.0, a.1, b.0, b.1)
-        | inr n ↦ inr (λ w. n (w.2, w.3))
-      ]
-      | inr n ↦ inr (λ w. n (w.0, w.1))
-    ]
+    search (arith, both, below-or-not, most-or-not, true-or-not, in-turn-or-not (drop s.len xs) ss)
 
 -- it is decided whether segments cover the bytes
 covers-or-not : (xs : List ℕ) (segs : List Segment) → Decided (Covers xs segs)
-covers-or-not xs segs =
-    elim (in-turn-or-not xs segs) [ inl h ↦ inl (from_turn xs segs h) | inr n ↦ inr (λ w. n (in_turn xs segs w)) ]
+covers-or-not xs segs = search (arith, in-turn-or-not, from_turn, in_turn)
 
 -- some list of n modes has a decided property, or no such list has it
 some-modes : (n : ℕ) (P : List Mode → Type 0) → ((ms : List Mode) → Decided (P ms)) → ((ms : List Mode) × P ms) ⊎ ((ms : List Mode) → length ms ≡ n → P ms → ⊥)
@@ -109,7 +102,7 @@ fits-or-not v r xs n =
     (both (IsTrue (list_all (may_use r) ms)) (Covers xs (runs_of ms)) (true-or-not (list_all (may_use r) ms)) (covers-or-not xs (runs_of ms)))
     (most-or-not (bits v (runs_of ms)) n))) [
       | inl p ↦ inl (p.0, p.1.0, p.1.1)
-      | inr q ↦ inr (λ h. q h.0 (let a = runs-long h.0 in let b = (covers_all xs (runs_of h.0) h.1.1).1 in omega arith) (h.1, h.2))
+      | inr q ↦ search (arith, runs-long, covers_all)
     ]
 
 -- if no prefix longer than k fits, there is a longest prefix of at most k bytes that fits
@@ -142,8 +135,7 @@ byte-fits : (v : ℕ) (r : Rule) (b room : ℕ) → 28 ≤ room → HasFit v r (
 unfolding runs_of CoversInTurn
 byte-fits v r b room l =
     let w = count_width_bound v Byte in
-    let covered : Covers (b ∷ []) (runs_of (Byte ∷ [])) =
-    from_turn (b ∷ []) (runs_of (Byte ∷ [])) (omega arith, omega arith, refl, refl) in
+    let covered : Covers (b ∷ []) (runs_of (Byte ∷ [])) = search (arith, from_turn) in
     (Byte ∷ [], (subst (λ (t : Bool). IsTrue (t && true)) (sym (byte_used r)) refl, covered), omega arith)
 
 -- bytes have parts, if a bound for their number is known
