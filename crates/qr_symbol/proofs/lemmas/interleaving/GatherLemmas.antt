@@ -1,14 +1,12 @@
 -- Putting codewords back into their blocks.
 use Rattle.std.proofs.Common.{◌≡◌, ℕ, zero, suc, ◌+◌, ◌<◌, ◌≤◌, List, [], ◌∷◌, ◌++◌, map, take, length, get_or, set, replicate, refl, sym, ◌∙◌, ap, subst, inl, inr, arith}
 use Rattle.std.proofs.lemmas.Bool.{cases_lt}
-use Rattle.std.proofs.lemmas.List.{take_more, get_or-set_same, get_or-set_other, length-set, length-map, length-replicate, length-take, map-append, ext_get_or}
+use Rattle.std.proofs.lemmas.List.{take_more, get_or-set_same, get_or-set_other, length-set, length-map, length-replicate, length-take, map-append}
 use Rattle.qr_layout.proofs.Facts.{Mem}
-use Rattle.qr_layout.specs.declared.blocks.Blocks.{Blocks}
 use Rattle.qr_symbol.specs.declared.interleaving.BlockSizes.{BlockSizes}
-use Rattle.qr_symbol.specs.Interleaving.{Position, ComesBefore, block_count, block_len, start_of, codeword_count, IsPosition, codeword_at, data_sizes, IsFinalMessage, IsGathered}
+use Rattle.qr_symbol.specs.Interleaving.{IsPositionOrder, Position, ComesBefore, block_count, block_len, start_of, codeword_count, IsPosition, codeword_at, IsGathered}
 use Rattle.qr_symbol.proofs.lemmas.interleaving.PositionLemmas.{position, PositionsBefore, positions-start, positions-push, positions-pass, positions-row, positions-end, position-in}
-use Rattle.qr_symbol.proofs.lemmas.interleaving.RankLemmas.{position-one, rank_of, rank-start, rank-push, rank-pass, rank-row, rank-end, rank-in, positions-one, position-of, map-at, Mem-of-Contains}
-use Rattle.qr_symbol.proofs.lemmas.interleaving.MessageLemmas.{final-one}
+use Rattle.qr_symbol.proofs.lemmas.interleaving.RankLemmas.{position-one, rank_of, rank-start, rank-push, rank-pass, rank-row, rank-end, rank-in, positions-one}
 
 -- ---- what was put back so far
 
@@ -113,29 +111,8 @@ gather-some c interleaved n =
     let h = begun-down c interleaved (c.short_len + 1) n (omega arith) in
     (h.codewords, gather-end c interleaved h.codewords (c.short_len + 1) h.next n refl h.gathered)
 
--- ---- one message at most
-
--- the prefix of two joined lists that has the length of the first list is the first list
-take-front : {X : Type 0} (n : ℕ) (xs ys : List X) → length xs ≡ n → take n (xs ++ ys) ≡ xs
-take-front zero [] ys e = refl
-take-front zero (x ∷ xs) ys e = absurd (omega arith)
-take-front (suc n) [] ys e = absurd (omega arith)
-take-front (suc n) (x ∷ xs) ys e = ap (λ zs. x ∷ zs) (take-front n xs ys (omega arith))
-
--- the gathered codewords are the message, if the sequence is the final sequence of a message
-pub gathered-one : (b : Blocks) (interleaved xs d : List ℕ) → IsGathered (data_sizes b) interleaved xs → length d ≡ codeword_count (data_sizes b) → IsFinalMessage b d interleaved → xs ≡ d
-gathered-one b interleaved xs d g n h =
-    let c = data_sizes b in
-    let one = positions-one c h.data_positions g.positions h.data_order g.order in
-    let first : take (codeword_count c) interleaved ≡ map (codeword_at c d) g.positions =
-    search (arith, take-front, length-map) in
-    ext_get_or 0 xs d (g.long ∙ sym n) (λ j l.
-    let w = position-of c (block_count c) j (omega arith) (let z = g.long in omega arith) in
-    let q = map-at (codeword_at c xs) (codeword_at c d) g.positions w.0 (g.same ∙ first) (Mem-of-Contains g.positions w.0 (g.order.complete w.0 w.1)) in
-    cc)
-
--- a sequence that differs from the final sequence of its gathered codewords is the final sequence of no message
-pub none-fits : (b : Blocks) (interleaved xs again d : List ℕ) → IsGathered (data_sizes b) interleaved xs → IsFinalMessage b xs again → (again ≡ interleaved → ⊥) → length d ≡ codeword_count (data_sizes b) → IsFinalMessage b d interleaved → ⊥
-none-fits b interleaved xs again d g h n l k =
-    let e = gathered-one b interleaved xs d g l k in
-    n (final-one b d again interleaved (subst (λ (z : List ℕ). IsFinalMessage b z again) e h) k)
+-- an order of positions has one position for each codeword
+pub positions-many : (c : BlockSizes) (ts : List Position) → IsPositionOrder c ts → length ts ≡ codeword_count c
+positions-many c ts h =
+    let w = gather-some c (replicate (codeword_count c) 0) (omega (arith, length-replicate {A = ℕ})) in
+    ap (length {A = Position}) (positions-one c ts w.1.positions h w.1.order) ∙ w.1.many

@@ -1,7 +1,8 @@
 -- The final sequence of a version and a level: how long it is, and that each message has only one.
-use Rattle.std.proofs.Common.{◌≡◌, ℕ, ◌+◌, ◌-◌, ◌*◌, ◌<◌, ◌≤◌, List, [], ◌∷◌, ◌++◌, map, length, length-append, get_or, refl, sym, ◌∙◌, ap, subst, arith}
+use Rattle.std.proofs.Common.{◌≡◌, ℕ, ◌+◌, ◌-◌, ◌*◌, ◌<◌, ◌≤◌, List, [], ◌∷◌, ◌++◌, map, length, length-append, get_or, refl, sym, ◌∙◌, ap, subst, arith, take}
 use Rattle.std.specs.Prelude.{Result, Ok, Err, IfOk}
 use Rattle.std.proofs.lemmas.List.{length-map, ext_get_or}
+use Rattle.std.proofs.Math.Seq.{take-append_seam}
 use Rattle.qr_field.specs.Polynomial.{IsCorrection}
 use Rattle.qr_field.proofs.Facts.{correction-one}
 use Rattle.qr_layout.specs.declared.blocks.Blocks.{Blocks}
@@ -9,8 +10,9 @@ use Rattle.qr_layout.specs.declared.level.Level.{Level}
 use Rattle.qr_layout.specs.Version.{total_codewords_of}
 use Rattle.qr_layout.specs.Blocks.{data_codewords_of, blocks_of}
 use Rattle.qr_layout.proofs.Facts.{blocks-sound}
-use Rattle.qr_symbol.specs.Interleaving.{block_count, start_of, codeword_count, codeword_at, data_sizes, correction_sizes, block_of, check_at, IsFinalMessage}
-use Rattle.qr_symbol.proofs.lemmas.interleaving.RankLemmas.{positions-one, positions-many, position-of, map-at, Mem-of-Contains}
+use Rattle.qr_symbol.specs.Interleaving.{block_count, start_of, codeword_count, codeword_at, data_sizes, correction_sizes, block_of, check_at, IsFinalMessage, IsGathered}
+use Rattle.qr_symbol.proofs.lemmas.interleaving.GatherLemmas.{positions-many}
+use Rattle.qr_symbol.proofs.lemmas.interleaving.RankLemmas.{positions-one, position-of, map-at, Mem-of-Contains}
 
 -- ---- one final sequence
 
@@ -89,3 +91,27 @@ final-whole v l d cw h k i = final-many (blocks_of v l) d cw i ∙ sizes-whole v
 pub ok-also : {X E : Type 0} (P Q : X → Type 0) (r : Result X E) → IfOk r P → ((x : X) → P x → Q x) → IfOk r Q
 ok-also P Q (Ok x) h f = f x h
 ok-also P Q (Err e) h f = tt
+
+-- ---- one message at most
+
+-- the prefix of two joined lists that has the length of the first list is the first list
+take-front : {X : Type 0} (n : ℕ) (xs ys : List X) → length xs ≡ n → take n (xs ++ ys) ≡ xs
+take-front n xs ys e = rw (← e) (take-append_seam xs ys)
+
+-- the gathered codewords are the message, if the sequence is the final sequence of a message
+pub gathered-one : (b : Blocks) (interleaved xs d : List ℕ) → IsGathered (data_sizes b) interleaved xs → length d ≡ codeword_count (data_sizes b) → IsFinalMessage b d interleaved → xs ≡ d
+gathered-one b interleaved xs d g n h =
+    let c = data_sizes b in
+    let one = positions-one c h.data_positions g.positions h.data_order g.order in
+    let first : take (codeword_count c) interleaved ≡ map (codeword_at c d) g.positions =
+    search (arith, take-front, length-map) in
+    ext_get_or 0 xs d (g.long ∙ sym n) (λ j l.
+    let w = position-of c (block_count c) j (omega arith) (let z = g.long in omega arith) in
+    let q = map-at (codeword_at c xs) (codeword_at c d) g.positions w.0 (g.same ∙ first) (Mem-of-Contains g.positions w.0 (g.order.complete w.0 w.1)) in
+    cc)
+
+-- a sequence that differs from the final sequence of its gathered codewords is the final sequence of no message
+pub none-fits : (b : Blocks) (interleaved xs again d : List ℕ) → IsGathered (data_sizes b) interleaved xs → IsFinalMessage b xs again → (again ≡ interleaved → ⊥) → length d ≡ codeword_count (data_sizes b) → IsFinalMessage b d interleaved → ⊥
+none-fits b interleaved xs again d g h n l k =
+    let e = gathered-one b interleaved xs d g l k in
+    n (final-one b d again interleaved (subst (λ (z : List ℕ). IsFinalMessage b z again) e h) k)

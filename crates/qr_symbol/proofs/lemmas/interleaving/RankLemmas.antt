@@ -1,13 +1,13 @@
 -- The number of positions before a position, and that blocks have only one order of positions.
-use Rattle.std.proofs.Common.{◌≡◌, ℕ, zero, suc, ◌+◌, ◌-◌, ◌*◌, ◌<◌, ◌≤◌, cond, eqb, ltb, List, [], ◌∷◌, ◌++◌, map, length, length-append, sym, ◌∙◌, ap, subst, inl, inr, ◌⊎◌, arith}
+use Rattle.std.proofs.Common.{◌≡◌, ℕ, zero, suc, ◌+◌, ◌-◌, ◌*◌, ◌<◌, ◌≤◌, cond, eqb, ltb, List, [], ◌∷◌, map, sym, ◌∙◌, ap, inl, inr, ◌⊎◌, arith}
 use Rattle.std.proofs.lemmas.Bool.Decides.{nat_tests}
 use Rattle.std.proofs.lemmas.Bool.{cases_lt}
 use Rattle.std.proofs.Math.Nat.{mul-suc, mul-le-mul_left, mul_comm}
 use Rattle.std.specs.List.{All, AllByRecursion, Contains}
 use Rattle.qr_layout.proofs.Facts.{Mem, Mem-at, Rises-of-pairs, one_rising}
 use Rattle.qr_symbol.specs.declared.interleaving.BlockSizes.{BlockSizes}
-use Rattle.qr_symbol.specs.Interleaving.{Position, ComesBefore, block_count, block_len, start_of, codeword_count, IsPosition, IsPositionOrder}
-use Rattle.qr_symbol.proofs.lemmas.interleaving.PositionLemmas.{position, PositionsBefore, positions-start, positions-push, positions-pass, positions-row, positions-end, start-next, start-most}
+use Rattle.qr_symbol.specs.Interleaving.{Position, ComesBefore, block_count, start_of, codeword_count, IsPosition, IsPositionOrder}
+use Rattle.qr_symbol.proofs.lemmas.interleaving.PositionLemmas.{position, start-next, start-most}
 
 -- two positions of codewords at the same index of the message are equal
 pub position-one : (c : BlockSizes) (t u : Position) → IsPosition c t → IsPosition c u → start_of c t.block + t.place ≡ start_of c u.block + u.place → (t.place ≡ u.place) × (t.block ≡ u.block)
@@ -112,39 +112,3 @@ pub map-at : {X Y : Type 0} (f g : X → Y) (xs : List X) (x : X) → map f xs �
 map-at f g [] x e m = absurd m
 map-at f g (y ∷ ys) x e (inl k) = let h : f y ≡ g y = cc in ap f (sym k) ∙ (h ∙ ap g k)
 map-at f g (y ∷ ys) x e (inr m) = let t : map f ys ≡ map g ys = cc in map-at f g ys x t m
-
--- ---- the number of all positions
-
--- the positions before the position (p, b), with their number
-record Listed (c : BlockSizes) (p b : ℕ) : Type 0 where
-  pub positions : List Position
-  pub order : PositionsBefore c p b positions
-  pub many : length positions ≡ rank_of c p b
-
--- one block more
-listed-next : (c : BlockSizes) (p b : ℕ) → p ≤ c.short_len → b < block_count c → Listed c p b → Listed c p (b + 1)
-listed-next c p b l m h = elim (cases_lt p (block_len c b)) [
-  | inl k ↦ record { positions = h.positions ++ position p b ∷ []; order = positions-push c p b h.positions (m, k) h.order; many = search (arith, rank-push, length-append, position) }
-  | inr k ↦
-      let n : IsPosition c (position p b) → ⊥ = λ t. let q = t.1 in absurd (omega arith) in
-      record { positions = h.positions; order = positions-pass c p b h.positions n h.order; many = h.many ∙ sym (rank-pass c p b l m n) }
-]
-
--- all blocks at one index
-listed-across : (c : BlockSizes) (p b : ℕ) → p ≤ c.short_len → b ≤ block_count c → Listed c p 0 → Listed c p b
-listed-across c p zero l m h = h
-listed-across c p (suc b) l m h = let e : b + 1 ≡ suc b = omega arith in search (arith, listed-next, listed-across c p b l (omega arith) h)
-
--- all indices
-listed-down : (c : BlockSizes) (p : ℕ) → p ≤ c.short_len + 1 → Listed c p 0
-listed-down c zero l = search (arith, positions-start, rank-start)
-listed-down c (suc p) l =
-    let h = listed-across c p (block_count c) (omega arith) (omega arith) (listed-down c p (omega arith)) in
-    let e : p + 1 ≡ suc p = omega arith in
-    subst (λ (k : ℕ). Listed c k 0) e (record { positions = h.positions; order = positions-row c p h.positions h.order; many = h.many ∙ rank-row c p (omega arith) })
-
--- an order of positions has one position for each codeword
-pub positions-many : (c : BlockSizes) (ts : List Position) → IsPositionOrder c ts → length ts ≡ codeword_count c
-positions-many c ts h =
-    let w = listed-down c (c.short_len + 1) (omega arith) in
-    ap (length {A = Position}) (positions-one c ts w.positions h (positions-end c w.positions w.order)) ∙ (w.many ∙ rank-end c)

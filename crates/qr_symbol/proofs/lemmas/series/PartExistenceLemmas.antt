@@ -1,5 +1,5 @@
 -- Every input has parts: it is decidable whether a prefix fits, so there is a longest one.
-use Rattle.std.proofs.Common.{◌≡◌, ℕ, zero, suc, ◌+◌, ◌<◌, ◌≤◌, ◌⊎◌, Bool, true, false, ◌&&◌, nat_eq, cond, List, [], ◌∷◌, length, take, drop, refl, sym, subst, inl, inr, length-drop, arith}
+use Rattle.std.proofs.Common.{◌≡◌, ℕ, zero, suc, ◌+◌, ◌<◌, ◌≤◌, ◌⊎◌, Bool, true, false, nat_eq, cond, List, [], ◌∷◌, length, take, drop, refl, subst, inl, inr, length-drop, arith}
 use Rattle.std.specs.Prelude.{IsTrue}
 use Rattle.std.specs.List.{list_all, sum_by}
 use Rattle.std.proofs.lemmas.Bool.{cases_lt}
@@ -12,8 +12,9 @@ use Rattle.qr_bits.specs.declared.segment.Segment.{Segment}
 use Rattle.qr_bits.specs.Modes.{may_use}
 use Rattle.qr_bits.specs.Segmentation.{bits, rank, prepend_mode, runs_of, Covers, IsAssignment, HasFit, IsLongestFit}
 use Rattle.qr_bits.specs.Padding.{room_of}
-use Rattle.qr_bits.proofs.Facts.{CoversInTurn, byte_used, capacity_least, count_width_bound, covers_all, empty_fits, from_turn, in_turn}
+use Rattle.qr_bits.proofs.Facts.{CoversInTurn, capacity_least, count_width_bound, covers_all, empty_fits, from_turn, in_turn}
 use Rattle.qr_symbol.specs.Series.{AreParts}
+use Rattle.qr_symbol.proofs.lemmas.series.PartLemmas.{bytes-fit}
 
 -- a fact is decided if it holds or does not hold
 abbrev Decided : Type 0 → Type 0
@@ -50,6 +51,10 @@ in-turn-or-not xs (s ∷ ss) =
 covers-or-not : (xs : List ℕ) (segs : List Segment) → Decided (Covers xs segs)
 covers-or-not xs segs = search (arith, in-turn-or-not, from_turn, in_turn)
 
+-- some list that begins with this mode has a property, or none with n modes after it has
+abbrev Begun : (List Mode → Type 0) → ℕ → Mode → Type 0
+Begun P n m = ((ks : List Mode) × P (m ∷ ks)) ⊎ ((ks : List Mode) → length ks ≡ n → P (m ∷ ks) → ⊥)
+
 -- some list of n modes has a decided property, or no such list has it
 some-modes : (n : ℕ) (P : List Mode → Type 0) → ((ms : List Mode) → Decided (P ms)) → ((ms : List Mode) × P ms) ⊎ ((ms : List Mode) → length ms ≡ n → P ms → ⊥)
 some-modes zero P d = elim (d []) [ inl p ↦ inl ([], p) | inr q ↦ inr (empty q) ]
@@ -58,19 +63,7 @@ some-modes zero P d = elim (d []) [ inl p ↦ inl ([], p) | inr q ↦ inr (empty
     empty q [] e p = q p
     empty q (m ∷ ms) e p = absurd (omega arith)
 some-modes (suc n) P d =
-    elim (some-modes n (λ ks. P (Numeric ∷ ks)) (λ ks. d (Numeric ∷ ks))) [
-      | inl p ↦ inl (Numeric ∷ p.0, p.1)
-      | inr a ↦ elim (some-modes n (λ ks. P (Alphanumeric ∷ ks)) (λ ks. d (Alphanumeric ∷ ks))) [
-        | inl p ↦ inl (Alphanumeric ∷ p.0, p.1)
-        | inr b ↦ elim (some-modes n (λ ks. P (Byte ∷ ks)) (λ ks. d (Byte ∷ ks))) [
-          | inl p ↦ inl (Byte ∷ p.0, p.1)
-          | inr e ↦ elim (some-modes n (λ ks. P (Kanji ∷ ks)) (λ ks. d (Kanji ∷ ks))) [
-            | inl p ↦ inl (Kanji ∷ p.0, p.1)
-            | inr f ↦ inr (none a b e f)
-          ]
-        ]
-      ]
-    ]
+    let first = λ (m : Mode). some-modes n (λ ks. P (m ∷ ks)) (λ ks. d (m ∷ ks)) in pick (first Numeric) (first Alphanumeric) (first Byte) (first Kanji)
   where
     none : ((ks : List Mode) → length ks ≡ n → P (Numeric ∷ ks) → ⊥) → ((ks : List Mode) → length ks ≡ n → P (Alphanumeric ∷ ks) → ⊥)
         → ((ks : List Mode) → length ks ≡ n → P (Byte ∷ ks) → ⊥) → ((ks : List Mode) → length ks ≡ n → P (Kanji ∷ ks) → ⊥)
@@ -80,6 +73,13 @@ some-modes (suc n) P d =
     none a b e f (Alphanumeric ∷ ks) l p = b ks (omega arith) p
     none a b e f (Byte ∷ ks) l p = e ks (omega arith) p
     none a b e f (Kanji ∷ ks) l p = f ks (omega arith) p
+
+    pick : Begun P n Numeric → Begun P n Alphanumeric → Begun P n Byte → Begun P n Kanji → ((ms : List Mode) × P ms) ⊎ ((ms : List Mode) → length ms ≡ suc n → P ms → ⊥)
+    pick (inl p) b e f = inl (Numeric ∷ p.0, p.1)
+    pick a (inl p) e f = inl (Alphanumeric ∷ p.0, p.1)
+    pick a b (inl p) f = inl (Byte ∷ p.0, p.1)
+    pick a b e (inl p) = inl (Kanji ∷ p.0, p.1)
+    pick (inr a) (inr b) (inr e) (inr f) = inr (none a b e f)
 
 -- the runs of a list of modes are together as long as the list
 runs-long : (ms : List Mode) → sum_by (λ s. s.len) (runs_of ms) ≡ length ms
@@ -130,14 +130,6 @@ longest-to v r xs room (suc k) l none = elim (fits-or-not v r (take (suc k) xs) 
   ])
 ]
 
--- one byte fits in byte mode
-byte-fits : (v : ℕ) (r : Rule) (b room : ℕ) → 28 ≤ room → HasFit v r (b ∷ []) room
-unfolding runs_of CoversInTurn
-byte-fits v r b room l =
-    let w = count_width_bound v Byte in
-    let covered : Covers (b ∷ []) (runs_of (Byte ∷ [])) = search (arith, from_turn) in
-    (Byte ∷ [], (subst (λ (t : Bool). IsTrue (t && true)) (sym (byte_used r)) refl, covered), omega arith)
-
 -- bytes have parts, if a bound for their number is known
 parts-to : (most v : ℕ) (l : Level) (r : Rule) (x : List ℕ) → 1 ≤ v → v ≤ 40 → length x ≤ most → (parts : List (List ℕ)) × AreParts v l r x parts
 unfolding AreParts
@@ -148,7 +140,7 @@ parts-to (suc most) v l r (b ∷ bs) p q h =
     let c = capacity_least v l p q in
     let found = longest-to v r x (room_of v l) (length x) (omega arith) (λ j a d g. absurd (omega arith)) in
     let n = found.0 in
-    let some : 1 ≤ n = found.1.longest 1 (omega arith) (byte-fits v r b (room_of v l) (omega arith)) in
+    let some : 1 ≤ n = found.1.longest 1 (omega arith) (bytes-fit v r (b ∷ []) (room_of v l) (omega arith) (omega (arith, count_width_bound v Byte))) in
     let rest = parts-to most v l r (drop n x) p q (let d = length-drop n x in omega arith) in
     (take n x ∷ rest.0, (n, some, found.1, refl, rest.1))
 

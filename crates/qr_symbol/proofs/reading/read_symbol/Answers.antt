@@ -1,4 +1,4 @@
-use Rattle.std.proofs.Common.{sym, ◌∙◌, arith}
+use Rattle.std.proofs.Common.{sym, ◌∙◌}
 use Rattle.qr_symbol.specs.Reading.{IsOfVersion}
 use Rattle.qr_symbol.proofs.reading.read_symbol.Goals as goal
 use Rattle.qr_symbol.proofs.reading.read_symbol.Goals.{In-Some}
