@@ -43,6 +43,7 @@ impl Model for Collector {
 
 impl Collector {
     // Takes the memory for `count` codewords at once.
+    #[tactic(auto, unfolding(qr_bits::specs::Bits::bits_of, qr_bits::specs::Bits::field))]
     fn with_capacity(alloc: Global, count: usize) -> Result<Collector, AllocError>
         ensures { IfOk result (λ b. b ≡ []) }
     {
@@ -53,6 +54,7 @@ impl Collector {
         })
     }
 
+    #[tactic(auto, using(crate::proofs::Named::collected), unfolding(qr_bits::specs::Bits::field))]
     fn push_bit(&mut self, dark: bool) -> Result<(), AllocError>
         ensures { OnOk result (self.new ≡ self.old ++ dark ∷ []) }
     {
@@ -194,6 +196,7 @@ fn collect_columns(
     collect_rows(bits, columns, v, region, strip, before + last, 1 - before)
 }
 
+#[tactic(auto, using(crate::proofs::Named::strips))]
 fn collect_strip(
     bits: &mut Collector,
     across: &Matrix,

@@ -23,7 +23,7 @@ use qr_matrix::Matrix;
 use std::alloc::{AllocError, Global};
 
 // A `u32` cannot be shifted by 32 or more.
-#[tactic(auto, unfolding(qr_matrix::specs::BitRow::has_bit))]
+#[tactic(auto, unfolding(qr_matrix::specs::BitRow::has_bit), using(crate::proofs::Named::word_bits))]
 pub(crate) fn is_bit_set(word: u32, i: u8) -> bool
     ensures { result ≡ has_bit word i }
 {

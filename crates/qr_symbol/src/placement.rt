@@ -74,6 +74,7 @@ fn codeword_bits_at(codewords: &[u8], number: usize) -> CodewordBits
     }
 }
 
+#[tactic(auto, using(crate::proofs::Named::word_bits))]
 fn eight_bits(next: CodewordBits, number: usize) -> u8
     requires least { next.first ≤ number }
     requires most { number ≤ next.first + 56 }
@@ -149,6 +150,7 @@ pub(crate) fn columns_of(across: &Matrix, right: u8) -> Columns
     }
 }
 
+#[tactic(auto, using(crate::proofs::Named::strips))]
 fn with_light_region(columns: Columns, region: &Columns) -> Columns
     ensures right { (row : ℕ) → has result.right row ≡ (has columns.right row && not (has region.now.right row)) }
     ensures left { (row : ℕ) → has result.left row ≡ (has columns.left row && not (has region.now.left row)) }
@@ -161,6 +163,7 @@ fn with_light_region(columns: Columns, region: &Columns) -> Columns
 
 // `taken` is how many of `bits` were drawn before this module, from the highest on. Returns how many are drawn after
 // it.
+#[tactic(auto, using(crate::proofs::Named::word_bits))]
 fn draw_module(column: &mut BitRow, region: &BitRow, bits: u8, taken: u8, row: u8) -> u8
     requires row_in { row < 192 }
     requires taken { taken < 8 }

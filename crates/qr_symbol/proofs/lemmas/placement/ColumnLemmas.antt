@@ -36,8 +36,7 @@ after-plus false n k m e = omega arith
 pub row-number : (v : ℕ) (x : Strip) (first k n taken one two row : ℕ) (t u : Bool) → row ≡ row_of (side_of v) x k
     → t ≡ is_in_region v row x.right → u ≡ is_in_region v row (x.right - 1) → number_at v x first k ≡ n + taken
     → one ≡ number_after t taken → two ≡ number_after u one → number_at v x first (k + 1) ≡ n + two
-row-number v x first k n taken one two row t u r p q m e f =
-    rw (add-one, ← r, ← p, ← q, m) (cc (after-plus t n taken one e, after-plus u n one two f))
+row-number v x first k n taken one two row t u r p q m e f = search (arith, add-one, after-plus)
 
 -- if all modules of m rows are in the region, these rows take 2 m bits
 pub number-whole : (v : ℕ) (x : Strip) (first k m : ℕ)
@@ -58,26 +57,17 @@ rank_of upward j = cond upward (3 - j) j
 
 -- if no row is drawn, the columns stay the same
 pub rows-none : {v : ℕ} {cw : List ℕ} {x : Strip} {first k n : ℕ} {p : Columns} → n ≡ 0 → AreDrawn v cw x first k n p p
-rows-none e = record { drawn = λ j a b. absurd (omega arith); kept = λ row n. (refl, refl) }
+rows-none e = search arith
 
 -- rows that are drawn after other rows are drawn together with them
 pub rows-drawn : {v : ℕ} {cw : List ℕ} {x : Strip} {first k n i m t : ℕ} {p q r : Columns} → AreDrawn v cw x first k n p q
     → AreDrawn v cw x first i m q r → i ≡ k + n → t ≡ n + m → i + m ≤ side_of v → AreDrawn v cw x first k t p r
 rows-drawn {v} {cw} {x} {first} {k} {n} {i} {m} {t} {p} {q} {r} d e f g room = record {
   drawn = λ j a b. elim (cases_lt j i) [
-    | inl l ↦
-        let one = d.drawn j a (omega arith) in
-        let same = e.kept (row_of (side_of v) x j) (λ h c o w. rows-apart x (side_of v) h j (omega arith) (omega arith) w) in
-        (same.0 ∙ one.0, same.1 ∙ one.1)
-    | inr l ↦
-        let one = e.drawn j l (omega arith) in
-        let same = d.kept (row_of (side_of v) x j) (λ h c o w. rows-apart x (side_of v) j h (omega arith) (omega arith) (sym w)) in
-        (cc, cc)
+    | inl l ↦ search (arith, rows-apart)
+    | inr l ↦ search (arith, rows-apart)
   ];
-  kept = λ row apart.
-      let one = d.kept row (λ j a b. apart j a (omega arith)) in
-      let two = e.kept row (λ j a b. apart j (omega arith) (omega arith)) in
-      (two.0 ∙ one.0, two.1 ∙ one.1);
+  kept = search arith;
 }
 
 -- a module is drawn if it is in the region
@@ -97,11 +87,6 @@ pub row-drawn : {v : ℕ} {cw : List ℕ} {x : Strip} {first k : ℕ} {old new :
 row-drawn {v} {cw} {x} {first} {k} {old} {new} row n taken one bits t u r p q m o l1 l2 next right left = record {
   drawn = λ j a b.
       let e : j ≡ k = omega arith in
-      let same : eqb row row ≡ true = grind (arith, nat_tests) in
-      rw (e, ← r, ← p, ← q, m, ← after-plus t n taken one o) (
-        here-drawn t (eqb row row) _ _ _ _ (right row) same (next taken l1),
-        here-drawn u (eqb row row) _ _ _ _ (left row) same (next one l2));
-  kept = λ i apart.
-      let n : row ≡ i → ⊥ = λ e. apart k (omega arith) (omega arith) (sym r ∙ e) in
-      (there-kept t _ _ _ i row (right i) n, there-kept u _ _ _ i row (left i) n);
+      search (arith, nat_tests, after-plus, here-drawn);
+  kept = search (arith, there-kept);
 }
