@@ -10,7 +10,7 @@ ghost use Rattle.qr_layout.specs.Version.{side_of};
 ghost use Rattle.qr_bits.specs.Bits.{codeword_bit};
 ghost use Rattle.qr_matrix.specs.Grid.{square, colour, transposed, IsSquare};
 ghost use Rattle.qr_matrix.specs.BitRow.{has, has_bit};
-ghost use Rattle.qr_symbol.specs.Steps.Placement.{placed_colour, number_after, number_at, walked_colour, AreDrawn, AreLight, AreNext, AreWithin, IsStripDrawn, IsCodewordBits, IsRegion, region_grid};
+ghost use Rattle.qr_symbol.specs.Steps.Placement.{placed_colour, number_after, number_at, row_of, walked_colour, AreDrawn, AreLight, AreNext, AreWithin, IsStripDrawn, IsCodewordBits, IsRegion, region_grid};
 
 use crate::mask::inverts;
 use crate::patterns::is_bit_set;
@@ -179,6 +179,16 @@ fn draw_module(column: &mut BitRow, region: &BitRow, bits: u8, taken: u8, row: u
     taken + 1
 }
 
+// The row with this index in a strip, where the bottom row of the symbol is `last`.
+#[inline(always)]
+pub(crate) fn row_at(strip: Strip, rank: u8, last: u8) -> u8
+    requires { rank ≤ last }
+    ensures row { result ≡ row_of (last + 1) strip rank }
+    ensures most { result ≤ last }
+{
+    if strip.upward { last - rank } else { rank }
+}
+
 // Draws module by module, which `draw_four` avoids for most rows of a large symbol. Returns how many bits were drawn.
 #[inline(never)]
 fn draw_rows(
@@ -201,11 +211,25 @@ fn draw_rows(
     let last = v.side() - 1;
     let mut taken = 0;
     for rank in passed..passed + count {
-        let row = if strip.upward { last - rank } else { rank };
+        let row = row_at(strip, rank, last);
         taken = draw_module(&mut columns.right, &region.right, bits, taken, row);
         taken = draw_module(&mut columns.left, &region.left, bits, taken, row);
     }
     taken
+}
+
+// The topmost of four rows of a strip.
+#[inline(always)]
+pub(crate) fn top_of(v: Version, strip: Strip, passed: u8) -> u8
+    requires { passed + 4 ≤ side_of v }
+    ensures top { result ≡ (if strip.upward then side_of v - 4 - passed else passed) }
+    ensures most { result + 4 ≤ side_of v }
+{
+    if strip.upward {
+        v.side() - 4 - passed
+    } else {
+        passed
+    }
 }
 
 // As `draw_rows`, but for four rows, and at once if all their eight modules are in the region. They are light before,
@@ -230,11 +254,7 @@ fn draw_four(
     ensures drawn { (cw : List ℕ) → (first : ℕ) → AreNext cw (number_at v strip first passed) bits
         → AreDrawn v cw strip first passed 4 columns.old columns.new }
 {
-    let top = if strip.upward {
-        v.side() - 4 - passed
-    } else {
-        passed
-    };
+    let top = top_of(v, strip, passed);
     if both.four(top) == 15 {
         let split = SPLITS[usize::from(strip.upward)][usize::from(bits)];
         columns.right.set_four(top, split / 16);

@@ -69,18 +69,10 @@ whole-bits s x r y k t u =
     let e0 : k ≡ k + 0 = omega arith in
     let e2 : k + 1 + 1 ≡ k + 2 = omega arith in
     let e3 : k + 1 + 1 + 1 ≡ k + 3 = omega arith in
-    let t0 = t 0 (omega arith) in
-    let u0 = u 0 (omega arith) in
-    let t1 = t 1 (omega arith) in
-    let u1 = u 1 (omega arith) in
-    let t2 = t 2 (omega arith) in
-    let u2 = u 2 (omega arith) in
-    let t3 = t 3 (omega arith) in
-    let u3 = u 3 (omega arith) in
     ap (λ z. rows z (k + 1) (k + 1 + 1) (k + 1 + 1 + 1)) e0
     ∙ (ap (λ z. rows (k + 0) (k + 1) z (k + 1 + 1 + 1)) e2
     ∙ (ap (λ z. rows (k + 0) (k + 1) (k + 2) z) e3
-    ∙ rw (t0, u0, t1, u1, t2, u2, t3, u3) refl))
+    ∙ rw (t 0 (omega arith), u 0 (omega arith), t 1 (omega arith), u 1 (omega arith), t 2 (omega arith), u 2 (omega arith), t 3 (omega arith), u 3 (omega arith)) refl))
   where
     row : ℕ → List Bool
     row z = cond (has r.right (row_of s x z)) (has y.right (row_of s x z) ∷ []) [] ++ cond (has r.left (row_of s x z)) (has y.left (row_of s x z) ∷ []) []

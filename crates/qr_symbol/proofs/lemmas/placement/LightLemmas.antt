@@ -6,6 +6,7 @@ use Rattle.qr_layout.specs.declared.strips.Strip.{Strip}
 use Rattle.qr_layout.specs.Region.{is_in_region}
 use Rattle.qr_layout.specs.Version.{side_of}
 use Rattle.qr_matrix.specs.BitRow.{has, has_bit}
+use Rattle.qr_matrix.proofs.Facts.{has_bit-ones}
 use Rattle.qr_matrix.specs.Grid.{is_same}
 use Rattle.qr_symbol.specs.Steps.Placement.{number_at, row_of, AreDrawn, AreLight, AreNext, AreWithin}
 use Rattle.qr_symbol.specs.declared.placement.Columns.{Columns}
@@ -97,6 +98,10 @@ four-drawn {v} {cw} {x} {first} {old} {new} k top bits r l room e whole split ri
       let out = outside top i (λ c d. let w = from-top x (side_of v) k top i room e c d in apart (k + rank_of x.upward (i - top)) (omega arith) (omega (arith, w.1)) w.0) in
       (right i ∙ rw out refl, left i ∙ rw out refl);
 }
+
+-- all four bits of the number 15 are 1
+pub four-set : (n j : ℕ) → n ≡ 15 → j < 4 → has_bit n j ≡ true
+four-set n j e l = (let t : ltb j 4 ≡ true = grind (arith, nat_tests) in ap (λ z. has_bit z j) e ∙ (has_bit-ones 4 j ∙ t))
 
 -- setting four unset bits gives them their values
 pub column-set : (x : Strip) (s k top bits : ℕ) (q p z : ℕ → Bool) → k + 4 ≤ s → top ≡ cond x.upward (s - 4 - k) k → ((j : ℕ) → j < 4 → q (top + j) ≡ true)

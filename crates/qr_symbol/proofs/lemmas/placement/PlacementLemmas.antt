@@ -124,18 +124,13 @@ plain_colours v cw = placed_colour v cw (paint_of v symmetric_format)
 masked-inside : (v : ℕ) (l : Level) (mask : ℕ) (cw : List ℕ) (r c : ℕ) → is_in_region v r c ≡ true → role_of v r c ≡ Region
     → format_or (format_word_of l mask) (role_of v r c) (inverted (is_in_region v r c && inverts mask r c) (plain_colours v cw r c)) ≡ colour_of v l mask cw r c
 unfolding colour_of format_or
-masked-inside v l mask cw r c t e =
-    ap (λ (q : Role). format_or (format_word_of l mask) q (inverted (is_in_region v r c && inverts mask r c) (plain_colours v cw r c))) e
-    ∙ (ap (λ (b : Bool). inverted (b && inverts mask r c) (plain_colours v cw r c)) t
-    ∙ (ap (inverted (inverts mask r c)) (inside v cw (paint_of v symmetric_format) r c t) ∙ ap (colour_by v l mask cw r c) (sym e)))
+masked-inside v l mask cw r c t e = rw (e, t, inside v cw (paint_of v symmetric_format) r c t) refl
 
 -- the masked colour of a module outside the region
 masked-outside : (v : ℕ) (l : Level) (mask : ℕ) (cw : List ℕ) (r c : ℕ) → is_in_region v r c ≡ false → (role_of v r c ≡ Region → ⊥)
     → format_or (format_word_of l mask) (role_of v r c) (inverted (is_in_region v r c && inverts mask r c) (plain_colours v cw r c)) ≡ colour_of v l mask cw r c
 unfolding colour_of
-masked-outside v l mask cw r c t n =
-    ap (λ (b : Bool). format_or (format_word_of l mask) (role_of v r c) (inverted (b && inverts mask r c) (plain_colours v cw r c))) t
-    ∙ (ap (format_or (format_word_of l mask) (role_of v r c)) (sym (outside v cw (paint_of v symmetric_format) r c t)) ∙ role-masked v l mask cw r c (role_of v r c) n)
+masked-outside v l mask cw r c t n = rw (t, ← outside v cw (paint_of v symmetric_format) r c t) (role-masked v l mask cw r c (role_of v r c) n)
 
 -- with mask and format information, the result is the symbol of its codewords under this mask
 pub masked-all : (v : ℕ) (l : Level) (mask : ℕ) (cw : List ℕ) (region plain : Grid) → 1 ≤ v → region ≡ region_grid v → plain ≡ plain_grid v cw → masked_grid v l mask region plain ≡ grid_of v l mask cw
@@ -143,9 +138,7 @@ unfolding masked_colour
 masked-all v l mask cw region plain k e f = square-same (side_of v) (masked_colour v (format_word_of l mask) mask region plain) (colour_of v l mask cw) (λ r c i j.
     let a : colour region r c ≡ is_in_region v r c = ap (λ (g : Grid). colour g r c) e ∙ colour-square (side_of v) (is_in_region v) r c i j in
     let b : colour plain r c ≡ plain_colours v cw r c = ap (λ (g : Grid). colour g r c) f ∙ colour-square (side_of v) (plain_colours v cw) r c i j in
-    ap (λ (x : Bool). format_or (format_word_of l mask) (role_of v r c) (inverted (x && inverts mask r c) (colour plain r c))) a
-    ∙ (ap (λ (x : Bool). format_or (format_word_of l mask) (role_of v r c) (inverted (is_in_region v r c && inverts mask r c) x)) b
-    ∙ by_test (is_in_region v r c) (format_or (format_word_of l mask) (role_of v r c) (inverted (is_in_region v r c && inverts mask r c) (plain_colours v cw r c)) ≡ colour_of v l mask cw r c)
+    rw (a, b) (by_test (is_in_region v r c) _
     (λ t. masked-inside v l mask cw r c t (region-role v r c k i j t))
     (λ t. masked-outside v l mask cw r c t (λ u. let h = role-region v r c k i j u in cc))))
 

@@ -1,4 +1,4 @@
-use Rattle.std.proofs.Common.{◌≡◌, ◌+◌, ◌-◌, ◌/◌, ◌%◌, ◌<◌, ℕ, Bool, true, ◌≤◌, cond, eqb, ltb, false, ◌&&◌, ap, sym, ◌∙◌, arith}
+use Rattle.std.proofs.Common.{◌≡◌, ◌+◌, ◌-◌, ◌/◌, ◌%◌, ◌<◌, ℕ, true, eqb, ltb, ◌&&◌, ap, sym, ◌∙◌, arith}
 use Rattle.std.proofs.lemmas.Bool.Decides.{nat_tests}
 use Rattle.qr_bits.proofs.Facts.{bool_byte-bit}
 use Rattle.qr_layout.specs.Region.{is_in_region}
@@ -6,19 +6,9 @@ use Rattle.qr_layout.specs.Version.{side_of}
 use Rattle.qr_matrix.specs.BitRow.{has, has_bit}
 use Rattle.qr_matrix.proofs.Facts.{has_bit-ones, &&-left, &&-right}
 use Rattle.qr_symbol.proofs.lemmas.placement.ColumnLemmas.{number-whole}
-use Rattle.qr_symbol.proofs.lemmas.placement.LightLemmas.{column-set, four-drawn, four-region}
+use Rattle.qr_symbol.proofs.lemmas.placement.LightLemmas.{column-set, four-set, four-drawn, four-region}
 use Rattle.qr_symbol.proofs.lemmas.placement.SplitLemmas.{split, split-high, split-low}
 use Rattle.qr_symbol.proofs.placement.draw_four.Goals as goal
-use Rattle.qr_symbol.proofs.placement.draw_four.Goals.{then-strip, else-strip}
-
--- all four bits of the number 15 are 1
-four-set : (n j : ℕ) → n ≡ 15 → j < 4 → has_bit n j ≡ true
-four-set n j e l = (let t : ltb j 4 ≡ true = grind (arith, nat_tests) in ap (λ z. has_bit z j) e ∙ (has_bit-ones 4 j ∙ t))
-
--- four rows of the strip are rows of the symbol
-room-of : (up : Bool) (s k top : ℕ) → k + 4 ≤ s → top ≡ cond up (s - 4 - k) k → top + 4 ≤ s
-room-of true s k top l e = omega arith
-room-of false s k top l e = omega arith
 
 pub returns-then-four-eq15 : goal.returns-then-four-eq15
 returns-then-four-eq15 c =
@@ -26,14 +16,12 @@ returns-then-four-eq15 c =
     let s = side_of v in
     let x = c.args.strip in
     let k = c.args.passed in
-    let top = c.if-strip.top in
+    let top = c.top_of-top.result in
     let region = c.args.region.now in
     let old = c.args.columns.now in
     let bits = c.args.bits in
-    let is-top : top ≡ cond x.upward (s - 4 - k) k = elim c.if-strip.branch [
-      | then-strip w ↦ rw w.if-strip.true (rw w.side.ensures.value at w.top-is)
-      | else-strip w ↦ rw w.if-strip.false w.top-is
-    ] in
+    let is-top = c.top_of-top.ensures.top in
+    let room = c.top_of-top.ensures.most in
     let both : (j : ℕ) → j < 4 → (has region.right (top + j) && has region.left (top + j)) ≡ true = λ j l.
     sym (c.requires.both (top + j)) ∙ (sym (c.four.ensures.bits j l) ∙ four-set c.four.result j c.if-four-eq15.true l) in
     let right : (j : ℕ) → j < 4 → has region.right (top + j) ≡ true = λ j l. &&-left _ (has region.left (top + j)) (both j l) in
@@ -43,7 +31,6 @@ returns-then-four-eq15 c =
     (λ j l m. (c.requires.light j l m).0) c.set_four.ensures in
     let left-set = column-set x s k top (entry % 16) (has region.left) (has old.left) (has c.set_four-then-four-eq15.new.self) c.requires.rows_in is-top left
     (λ j l m. (c.requires.light j l m).1) c.set_four-then-four-eq15.ensures in
-    let room : top + 4 ≤ s = room-of x.upward s k top c.requires.rows_in is-top in
     let whole : (j : ℕ) → j < 4 → (is_in_region v (top + j) x.right ≡ true) × (is_in_region v (top + j) (x.right - 1) ≡ true) = λ j l.
     (sym (c.requires.region (top + j) (omega arith)).0 ∙ right j l, sym (c.requires.region (top + j) (omega arith)).1 ∙ left j l) in
     let e : c.from-then-four-eq15.result ≡ bits = c.from-then-four-eq15.ensures in

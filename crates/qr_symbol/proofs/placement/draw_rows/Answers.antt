@@ -1,9 +1,8 @@
-use Rattle.std.proofs.Common.{◌≡◌, ◌<◌, ◌-◌, subst, ◌∙◌, arith}
+use Rattle.std.proofs.Common.{◌≡◌, ◌<◌, ◌+◌, ◌-◌, subst, arith}
 use Rattle.qr_layout.specs.Version.{side_of}
 use Rattle.qr_symbol.specs.Steps.Placement.{number_at, row_of, AreDrawn}
-use Rattle.qr_symbol.proofs.lemmas.placement.ColumnLemmas.{row-drawn, row-number, row-small, rows-drawn, rows-none}
+use Rattle.qr_symbol.proofs.lemmas.placement.ColumnLemmas.{row-drawn, row-number, rows-drawn, rows-none}
 use Rattle.qr_symbol.proofs.placement.draw_rows.Goals as goal
-use Rattle.qr_symbol.proofs.placement.draw_rows.Goals.{then-strip, else-strip}
 
 pub loop-rank-init : goal.loop-rank-init
 loop-rank-init c = record {
@@ -21,15 +20,13 @@ loop-rank-preserved c =
     let i = c.loop-rank.invariant in
     let k = c.loop-rank.rank in
     let p = c.args.passed in
-    let row = c.if-strip.row in
+    let row = c.row_at-row.result in
     let one = c.draw_module-taken in
     let two = c.draw_module-taken-in-loop-rank in
     let below : k < s = omega (arith, c.loop-rank-test.true, c.requires.rows_in) in
-    let r : row ≡ row_of s x k = elim c.if-strip.branch [
-      | then-strip w ↦ w.row-is ∙ cc (c.side-last.ensures.value, w.if-strip.true)
-      | else-strip w ↦ w.row-is ∙ cc (w.if-strip.false)
-    ] in
-    let inside : row < s = rw r (row-small x s k below).0 in
+    let side : c.side-last.result - 1 + 1 ≡ s = omega (arith, c.side-last.ensures.value) in
+    let r : row ≡ row_of s x k = rw side at c.row_at-row.ensures.row in
+    let inside : row < s = omega (arith, c.row_at-row.ensures.most) in
     let at = c.requires.region row inside in
     record {
       from = omega (arith, i.from);
