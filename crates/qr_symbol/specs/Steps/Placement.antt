@@ -77,7 +77,7 @@ IsRowDrawn v cw x first k right left right' left' =
 -- Drawing `n` rows of the strip from row `k` on changes its columns from `before` to `after`.
 pub record AreDrawn (v : ℕ) (cw : List ℕ) (x : Strip) (first k n : ℕ) (before after : Columns) : Type 0 where
   pub drawn : (j : ℕ) → k ≤ j → j < k + n
-    → IsRowDrawn v cw x first j (has before.right (row_of (side_of v) x j)) (has before.left (row_of (side_of v) x j)) (has after.right (row_of (side_of v) x j)) (has after.left (row_of (side_of v) x j))
+      → IsRowDrawn v cw x first j (has before.right (row_of (side_of v) x j)) (has before.left (row_of (side_of v) x j)) (has after.right (row_of (side_of v) x j)) (has after.left (row_of (side_of v) x j))
   pub kept : (row : ℕ) → ((j : ℕ) → k ≤ j → j < k + n → row_of (side_of v) x j ≡ row → ⊥) → (has after.right row ≡ has before.right row) × (has after.left row ≡ has before.left row)
 
 -- Drawing the strip changes the transposed square `before` to `after`; the bit after it has the number `next`.
@@ -85,7 +85,7 @@ pub record IsStripDrawn (v : ℕ) (cw : List ℕ) (x : Strip) (first : ℕ) (bef
   pub number : next ≡ number_at v x first (side_of v)
   pub square : IsSquare (side_of v) after
   pub drawn : (j : ℕ) → j < side_of v
-    → IsRowDrawn v cw x first j (colour before x.right (row_of (side_of v) x j)) (colour before (x.right - 1) (row_of (side_of v) x j)) (colour after x.right (row_of (side_of v) x j)) (colour after (x.right - 1) (row_of (side_of v) x j))
+      → IsRowDrawn v cw x first j (colour before x.right (row_of (side_of v) x j)) (colour before (x.right - 1) (row_of (side_of v) x j)) (colour after x.right (row_of (side_of v) x j)) (colour after (x.right - 1) (row_of (side_of v) x j))
   pub kept : (row col : ℕ) → row < side_of v → col < side_of v → (col ≡ x.right → ⊥) → (col ≡ x.right - 1 → ⊥) → colour after col row ≡ colour before col row
 
 -- The colour after `plain` was masked where `region` is dark, and the format information, a number, was drawn.

@@ -24,11 +24,13 @@ err-same : {X E : Type 0} (r : Result X E) (e f : E) → r ≡ Err e → r ≡ E
 err-same r e f h k = cc
 
 -- what makes it, if with the fact no value is returned, and no other fault than e and lack of memory
-exactly : {X E : Type 0} (r : Result X E) (e memory : E) (P : Type 0) → (e ≡ memory → ⊥) → (r ≡ Err e → P) → IfOk r (λ _. P → ⊥)
+exactly : {X E : Type 0} (r : Result X E) (e memory : E) (P : Type 0) → (e ≡ memory → ⊥) → (r ≡ Err e → P)
+    → IfOk r (λ _. P → ⊥)
     → IfErr r (λ g. (P → g ≡ e) ⊎ (g ≡ memory)) → Refused r e memory P
 exactly {X = X} {E = E} r e memory P other f none told = (λ h. (λ m. other (err-same r e memory h m), f h), λ w. back r none told w.0 w.1)
   where
-    back : (r : Result X E) → IfOk r (λ _. P → ⊥) → IfErr r (λ g. (P → g ≡ e) ⊎ (g ≡ memory)) → r ≢ Err memory → P → r ≡ Err e
+    back : (r : Result X E) → IfOk r (λ _. P → ⊥) → IfErr r (λ g. (P → g ≡ e) ⊎ (g ≡ memory)) → r ≢ Err memory → P
+        → r ≡ Err e
     back (Ok x) none told m p = absurd (none p)
     back (Err g) none (inl h) m p = ap (λ f. Err f) (h p)
     back (Err g) none (inr h) m p = absurd (m (ap (λ f. Err f) h))

@@ -99,7 +99,8 @@ take-front : {X : Type 0} (n : ℕ) (xs ys : List X) → length xs ≡ n → tak
 take-front n xs ys e = rw (← e) (take-append_seam xs ys)
 
 -- the gathered codewords are the message, if the sequence is the final sequence of a message
-pub gathered-one : (b : Blocks) (interleaved xs d : List ℕ) → IsGathered (data_sizes b) interleaved xs → length d ≡ codeword_count (data_sizes b) → IsFinalMessage b d interleaved → xs ≡ d
+pub gathered-one : (b : Blocks) (interleaved xs d : List ℕ) → IsGathered (data_sizes b) interleaved xs
+    → length d ≡ codeword_count (data_sizes b) → IsFinalMessage b d interleaved → xs ≡ d
 gathered-one b interleaved xs d g n h =
     let c = data_sizes b in
     let one = positions-one c h.data_positions g.positions h.data_order g.order in
@@ -111,7 +112,9 @@ gathered-one b interleaved xs d g n h =
     cc)
 
 -- a sequence that differs from the final sequence of its gathered codewords is the final sequence of no message
-pub none-fits : (b : Blocks) (interleaved xs again d : List ℕ) → IsGathered (data_sizes b) interleaved xs → IsFinalMessage b xs again → (again ≡ interleaved → ⊥) → length d ≡ codeword_count (data_sizes b) → IsFinalMessage b d interleaved → ⊥
+pub none-fits : (b : Blocks) (interleaved xs again d : List ℕ) → IsGathered (data_sizes b) interleaved xs
+    → IsFinalMessage b xs again → (again ≡ interleaved → ⊥) → length d ≡ codeword_count (data_sizes b)
+    → IsFinalMessage b d interleaved → ⊥
 none-fits b interleaved xs again d g h n l k =
     let e = gathered-one b interleaved xs d g l k in
     n (final-one b d again interleaved (subst (λ (z : List ℕ). IsFinalMessage b z again) e h) k)

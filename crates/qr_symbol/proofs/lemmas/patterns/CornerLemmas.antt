@@ -72,7 +72,8 @@ at-second : (v r c i : ℕ) → 1 ≤ v → v ≤ 40 → i < 15 → (second_plac
 at-second v r c i k1 k2 l e f = ap (λ z. role_of v z c) (sym e) ∙ (ap (λ z. role_of v (second_place (side_of v) i).row z) (sym f) ∙ format-second v i k1 k2 l)
 
 -- the places beside the finder patterns, but for the timing modules and the dark module, have bits of the format information
-column-painted : (v r format : ℕ) (w : Bool) → 1 ≤ v → v ≤ 40 → (9 ≤ r → side_of v - 8 < r) → r < side_of v → (r ≡ 6 → ⊥) → format_or format (role_of v r 8) w ≡ paint_of v format r 8
+column-painted : (v r format : ℕ) (w : Bool) → 1 ≤ v → v ≤ 40 → (9 ≤ r → side_of v - 8 < r) → r < side_of v
+    → (r ≡ 6 → ⊥) → format_or format (role_of v r 8) w ≡ paint_of v format r 8
 column-painted v r format w k1 k2 n l o = elim (cases_lt r 6) [
   | inl a ↦ bit-painted v r 8 format r w (at-first v r 8 r k1 k2 (omega arith) (grind (arith, nat_tests)) (grind (arith, nat_tests)))
   | inr a ↦ elim (cases_lt r 9) [
@@ -81,7 +82,8 @@ column-painted v r format w k1 k2 n l o = elim (cases_lt r 6) [
   ]
 ]
 
-row-painted : (v c format : ℕ) (w : Bool) → 1 ≤ v → v ≤ 40 → (8 ≤ c → side_of v - 8 ≤ c) → c < side_of v → (c ≡ 6 → ⊥) → format_or format (role_of v 8 c) w ≡ paint_of v format 8 c
+row-painted : (v c format : ℕ) (w : Bool) → 1 ≤ v → v ≤ 40 → (8 ≤ c → side_of v - 8 ≤ c) → c < side_of v → (c ≡ 6 → ⊥)
+    → format_or format (role_of v 8 c) w ≡ paint_of v format 8 c
 row-painted v c format w k1 k2 n l o = elim (cases_lt c 6) [
   | inl a ↦ bit-painted v 8 c format (14 - c) w (at-first v 8 c (14 - c) k1 k2 (omega arith) (grind (arith, nat_tests)) (grind (arith, nat_tests)))
   | inr a ↦ elim (cases_lt c 8) [
@@ -91,10 +93,12 @@ row-painted v c format w k1 k2 n l o = elim (cases_lt c 6) [
 ]
 
 -- a place of a corner that is drawn last is beside a finder pattern, in column 8 or in row 8
-beside-column : (s r c : ℕ) → 21 ≤ s → r < s → begun s r c ≡ false → is_corner s r c ≡ true → c ≡ 8 → (9 ≤ r → s - 8 < r) × (r ≡ 6 → ⊥)
+beside-column : (s r c : ℕ) → 21 ≤ s → r < s → begun s r c ≡ false → is_corner s r c ≡ true → c ≡ 8
+    → (9 ≤ r → s - 8 < r) × (r ≡ 6 → ⊥)
 beside-column s r c h l t u e = (λ a. grind (arith, nat_tests), λ a. grind (arith, nat_tests))
 
-beside-row : (s r c : ℕ) → 21 ≤ s → r < s → c < s → begun s r c ≡ false → is_corner s r c ≡ true → (c ≡ 8 → ⊥) → (r ≡ 8) × (8 ≤ c → s - 8 ≤ c) × (c ≡ 6 → ⊥)
+beside-row : (s r c : ℕ) → 21 ≤ s → r < s → c < s → begun s r c ≡ false → is_corner s r c ≡ true → (c ≡ 8 → ⊥)
+    → (r ≡ 8) × (8 ≤ c → s - 8 ≤ c) × (c ≡ 6 → ⊥)
 beside-row s r c h l m t u e = (grind (arith, nat_tests), λ a. grind (arith, nat_tests), λ a. grind (arith, nat_tests))
 
 -- drawing the format information does not change the modules outside the corners

@@ -40,9 +40,12 @@ block-of : (a b r c top left : ℕ) → top + 3 ≤ a → a ≤ top + 4 → left
 block-of a b r c top left h i j k e = grind (arith, nat_tests)
 
 -- the colours after a block is painted: a finder pattern and its separator inside it, the old colours outside
-pub block-paint : (v r c a b top left format : ℕ) (w x y : Bool) → top + 3 ≤ a → a ≤ top + 4 → left + 3 ≤ b → b ≤ left + 4
-    → (ring_of a b r c ≤ 4 → finder_ring (side_of v) r c ≡ ring_of a b r c) → x ≡ cond (is_in_block top left r c) false w
-    → y ≡ cond (ltb (ring_of a b r c) 4) (not (eqb (ring_of a b r c) 2)) x → y ≡ cond (is_in_block top left r c) (paint_of v format r c) w
+pub block-paint : (v r c a b top left format : ℕ) (w x y : Bool) → top + 3 ≤ a → a ≤ top + 4 → left + 3 ≤ b
+    → b ≤ left + 4
+    → (ring_of a b r c ≤ 4 → finder_ring (side_of v) r c ≡ ring_of a b r c)
+    → x ≡ cond (is_in_block top left r c) false w
+    → y ≡ cond (ltb (ring_of a b r c) 4) (not (eqb (ring_of a b r c) 2)) x
+    → y ≡ cond (is_in_block top left r c) (paint_of v format r c) w
 block-paint v r c a b top left format w x y h i j k near d e =
     e ∙ rw d (block-tests (is_in_block top left r c) (ltb (ring_of a b r c) 4) (not (eqb (ring_of a b r c) 2)) w (block-of a b r c top left h i j k)
     ∙ in-its-block (is_in_block top left r c) _ _ w (λ e.

@@ -16,7 +16,8 @@ use Rattle.qr_symbol.specs.Steps.Patterns.{IsOver}
 use Rattle.qr_symbol.proofs.lemmas.placement.PlacementLemmas.{square-is}
 
 -- a square with these colours
-pub over-is : {s : ℕ} {g : Grid} (t f h : ℕ → ℕ → Bool) → g ≡ square s (λ r c. cond (t r c) (f r c) (h r c)) → IsOver s t f h g
+pub over-is : {s : ℕ} {g : Grid} (t f h : ℕ → ℕ → Bool) → g ≡ square s (λ r c. cond (t r c) (f r c) (h r c))
+    → IsOver s t f h g
 over-is {s} {g} t f h e = record {
   square = square-is s (λ r c. cond (t r c) (f r c) (h r c)) g e;
   colours = λ r c l m. ap (λ (z : Grid). colour z r c) e ∙ colour-square s (λ r c. cond (t r c) (f r c) (h r c)) r c l m;
@@ -35,22 +36,26 @@ twice : (t u w x y a b : Bool) → a ≡ cond t x y → b ≡ cond u x a → w �
 twice t u w x y a b e k d = grind (arith, nat_tests)
 
 -- painting a square twice, with the same colours, is painting it once
-pub over-twice : {s : ℕ} {t u f h : ℕ → ℕ → Bool} {g g' : Grid} (w : ℕ → ℕ → Bool) → IsOver s t f h g → IsOver s u f (colour g) g' → ((r c : ℕ) → r < s → c < s → w r c ≡ (t r c || u r c)) → IsOver s w f h g'
+pub over-twice : {s : ℕ} {t u f h : ℕ → ℕ → Bool} {g g' : Grid} (w : ℕ → ℕ → Bool) → IsOver s t f h g
+    → IsOver s u f (colour g) g' → ((r c : ℕ) → r < s → c < s → w r c ≡ (t r c || u r c)) → IsOver s w f h g'
 over-twice {s} {t} {u} {f} {h} w e k d = record {
   square = k.square;
   colours = λ r c l m. twice (t r c) (u r c) (w r c) (f r c) (h r c) _ _ (e.colours r c l m) (k.colours r c l m) (d r c l m);
 }
 
 -- if no place passes the test, the square is unchanged
-pub over-none : {s : ℕ} {t f : ℕ → ℕ → Bool} {g : Grid} → IsSquare s g → ((r c : ℕ) → r < s → c < s → t r c ≡ false) → IsOver s t f (colour g) g
+pub over-none : {s : ℕ} {t f : ℕ → ℕ → Bool} {g : Grid} → IsSquare s g → ((r c : ℕ) → r < s → c < s → t r c ≡ false)
+    → IsOver s t f (colour g) g
 over-none e d = record { square = e; colours = λ r c l m. rw (d r c l m) refl }
 
 -- two tests that agree paint the same
-pub over-same : {s : ℕ} {t u f h : ℕ → ℕ → Bool} {g : Grid} → IsOver s t f h g → ((r c : ℕ) → r < s → c < s → t r c ≡ u r c) → IsOver s u f h g
+pub over-same : {s : ℕ} {t u f h : ℕ → ℕ → Bool} {g : Grid} → IsOver s t f h g
+    → ((r c : ℕ) → r < s → c < s → t r c ≡ u r c) → IsOver s u f h g
 over-same e d = record { square = e.square; colours = λ r c l m. rw (← d r c l m) (e.colours r c l m) }
 
 -- one place is painted
-pub over-place : {s : ℕ} (f : ℕ → ℕ → Bool) (g g' : Grid) (row col : ℕ) (d : Bool) → g.side ≡ s → d ≡ f row col → g' ≡ painted g row col d → IsOver s (λ r c. eqb r row && eqb c col) f (colour g) g'
+pub over-place : {s : ℕ} (f : ℕ → ℕ → Bool) (g g' : Grid) (row col : ℕ) (d : Bool) → g.side ≡ s → d ≡ f row col
+    → g' ≡ painted g row col d → IsOver s (λ r c. eqb r row && eqb c col) f (colour g) g'
 over-place f g g' row col d e k p = over-is (λ r c. eqb r row && eqb c col) f (colour g) (
     p ∙ (square-same g.side (λ r c. cond (eqb r row && eqb c col) d (colour g r c)) (λ r c. cond (eqb r row && eqb c col) (f r c) (colour g r c)) (λ r c l m. elim (same-place row col r c) [
       | inl w ↦ rw (w.0.0, w.0.1, k) refl
@@ -58,7 +63,9 @@ over-place f g g' row col d e k p = over-is (λ r c. eqb r row && eqb c col) f (
     ]) ∙ ap (λ z. square z (λ r c. cond (eqb r row && eqb c col) (f r c) (colour g r c))) e))
 
 -- a rectangle is painted in one colour
-pub over-rectangle : {s : ℕ} {g' : Grid} {d : Bool} (g : Grid) (top bottom left right : ℕ) → g.side ≡ s → g' ≡ with_rectangle g top bottom left right d → IsOver s (λ r c. leb top r && ltb r bottom && leb left c && ltb c right) (λ _ _. d) (colour g) g'
+pub over-rectangle : {s : ℕ} {g' : Grid} {d : Bool} (g : Grid) (top bottom left right : ℕ) → g.side ≡ s
+    → g' ≡ with_rectangle g top bottom left right d → IsOver s (λ r c. leb top r && ltb r bottom && leb left c && ltb c
+    right) (λ _ _. d) (colour g) g'
 over-rectangle {d = d} g top bottom left right e k = over-is (λ r c. leb top r && ltb r bottom && leb left c && ltb c right) (λ _ _. d) (colour g) (rw (← e) k)
 
 -- the test of one more item in a list
@@ -70,7 +77,8 @@ any-more p xs i d l = ap (list_any p) (take_more xs i d l) ∙ (list_any-append 
     or-false false = refl
 
 -- painting the places of one more item in a list
-pub over-item : {X : Type 0} {s : ℕ} {f h : ℕ → ℕ → Bool} {g g' : Grid} (p : X → ℕ → ℕ → Bool) (xs : List X) (i : ℕ) (d : X) → i < length xs → IsOver s (λ r c. list_any (λ x. p x r c) (take i xs)) f h g
+pub over-item : {X : Type 0} {s : ℕ} {f h : ℕ → ℕ → Bool} {g g' : Grid} (p : X → ℕ → ℕ → Bool) (xs : List X) (i : ℕ)
+    (d : X) → i < length xs → IsOver s (λ r c. list_any (λ x. p x r c) (take i xs)) f h g
     → IsOver s (p (get_or xs i d)) f (colour g) g' → IsOver s (λ r c. list_any (λ x. p x r c) (take (i + 1) xs)) f h g'
 over-item p xs i d l e k = over-twice (λ r c. list_any (λ x. p x r c) (take (i + 1) xs)) e k (λ r c _ _. any-more (λ x. p x r c) xs i d l)
 

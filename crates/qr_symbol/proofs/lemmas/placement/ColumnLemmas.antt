@@ -23,7 +23,8 @@ rows-apart x s j k l m e = told x.upward e
 pub row-small : (x : Strip) (s k : ℕ) → k < s → (row_of s x k < s) × (row_of s x (row_of s x k) ≡ k)
 row-small x s k l = told x.upward
   where
-    told : (up : Bool) → (cond up (s - 1 - k) k < s) × (cond up (s - 1 - cond up (s - 1 - k) k) (cond up (s - 1 - k) k) ≡ k)
+    told : (up : Bool) → (cond up (s - 1 - k) k < s) × (cond up (s - 1 - cond up (s - 1 - k) k) (cond up (s - 1 - k) k)
+        ≡ k)
     told true = (omega arith, omega arith)
     told false = (l, refl)
 
@@ -40,7 +41,8 @@ row-number v x first k n taken one two row t u r p q m e f = search (arith, add-
 
 -- if all modules of m rows are in the region, these rows take 2 m bits
 pub number-whole : (v : ℕ) (x : Strip) (first k m : ℕ)
-    → ((j : ℕ) → k ≤ j → j < k + m → (is_in_region v (row_of (side_of v) x j) x.right ≡ true) × (is_in_region v (row_of (side_of v) x j) (x.right - 1) ≡ true))
+    → ((j : ℕ) → k ≤ j → j < k + m → (is_in_region v (row_of (side_of v) x j) x.right ≡ true) × (is_in_region v (row_of
+    (side_of v) x j) (x.right - 1) ≡ true))
     → number_at v x first (k + m) ≡ number_at v x first k + 2 * m
 number-whole v x first k zero w = (let e : k + 0 ≡ k = omega arith in rw e (omega arith))
 number-whole v x first k (suc m) w =
@@ -60,7 +62,8 @@ pub rows-none : {v : ℕ} {cw : List ℕ} {x : Strip} {first k n : ℕ} {p : Col
 rows-none e = search arith
 
 -- rows that are drawn after other rows are drawn together with them
-pub rows-drawn : {v : ℕ} {cw : List ℕ} {x : Strip} {first k n i m t : ℕ} {p q r : Columns} → AreDrawn v cw x first k n p q
+pub rows-drawn : {v : ℕ} {cw : List ℕ} {x : Strip} {first k n i m t : ℕ} {p q r : Columns}
+    → AreDrawn v cw x first k n p q
     → AreDrawn v cw x first i m q r → i ≡ k + n → t ≡ n + m → i + m ≤ side_of v → AreDrawn v cw x first k t p r
 rows-drawn {v} {cw} {x} {first} {k} {n} {i} {m} {t} {p} {q} {r} d e f g room = record {
   drawn = λ j a b. elim (cases_lt j i) [
@@ -79,11 +82,14 @@ there-kept : (t d p z : Bool) (i row : ℕ) → z ≡ cond (t && eqb i row) d p 
 there-kept t d p z i row e n = grind (arith, nat_tests)
 
 -- one row is drawn, module by module
-pub row-drawn : {v : ℕ} {cw : List ℕ} {x : Strip} {first k : ℕ} {old new : Columns} (row n taken one bits : ℕ) (t u : Bool) → row ≡ row_of (side_of v) x k
-    → t ≡ is_in_region v row x.right → u ≡ is_in_region v row (x.right - 1) → number_at v x first k ≡ n + taken → one ≡ number_after t taken
+pub row-drawn : {v : ℕ} {cw : List ℕ} {x : Strip} {first k : ℕ} {old new : Columns} (row n taken one bits : ℕ) (t u :
+    Bool) → row ≡ row_of (side_of v) x k
+    → t ≡ is_in_region v row x.right → u ≡ is_in_region v row (x.right - 1) → number_at v x first k ≡ n + taken
+    → one ≡ number_after t taken
     → taken < 8 → one < 8 → AreNext cw n bits
     → ((i : ℕ) → has new.right i ≡ cond (t && eqb i row) (has_bit bits (7 - taken)) (has old.right i))
-    → ((i : ℕ) → has new.left i ≡ cond (u && eqb i row) (has_bit bits (7 - one)) (has old.left i)) → AreDrawn v cw x first k 1 old new
+    → ((i : ℕ) → has new.left i ≡ cond (u && eqb i row) (has_bit bits (7 - one)) (has old.left i))
+    → AreDrawn v cw x first k 1 old new
 row-drawn {v} {cw} {x} {first} {k} {old} {new} row n taken one bits t u r p q m o l1 l2 next right left = record {
   drawn = λ j a b.
       let e : j ≡ k = omega arith in

@@ -27,13 +27,15 @@ cleared-light p false z e = refl
 -- ---- rows that are still to be drawn
 
 -- the rows after those that are drawn stay light
-pub kept-light : {v : ℕ} {cw : List ℕ} {x : Strip} {first k : ℕ} {p q : Columns} (region : Columns) → AreDrawn v cw x first 0 k p q → AreLight (side_of v) x 0 region p → AreLight (side_of v) x k region q
+pub kept-light : {v : ℕ} {cw : List ℕ} {x : Strip} {first k : ℕ} {p q : Columns} (region : Columns)
+    → AreDrawn v cw x first 0 k p q → AreLight (side_of v) x 0 region p → AreLight (side_of v) x k region q
 kept-light {v} {x = x} region d light j l m =
     let same = d.kept (row_of (side_of v) x j) (λ i a b e. rows-apart x (side_of v) j i m (omega arith) (sym e)) in
     rw same.0 (rw same.1 (light j (omega arith) m))
 
 -- the bits outside the square stay unset
-pub kept-within : {v : ℕ} {cw : List ℕ} {x : Strip} {first : ℕ} {p q : Columns} → AreDrawn v cw x first 0 (side_of v) p q → AreWithin (side_of v) p → AreWithin (side_of v) q
+pub kept-within : {v : ℕ} {cw : List ℕ} {x : Strip} {first : ℕ} {p q : Columns}
+    → AreDrawn v cw x first 0 (side_of v) p q → AreWithin (side_of v) p → AreWithin (side_of v) q
 kept-within {v} {x = x} d within row l =
     let same = d.kept row (λ j a b e. let small = (row-small x (side_of v) j (omega arith)).0 in omega arith) in
     (same.0 ∙ (within row l).0, same.1 ∙ (within row l).1)
@@ -42,10 +44,12 @@ kept-within {v} {x = x} d within row l =
 
 -- row m of four rows, by its index from the top
 four-row : (x : Strip) (s k top m : ℕ) → k + 4 ≤ s → top ≡ cond x.upward (s - 4 - k) k → m < 4
-    → (row_of s x (k + m) ≡ top + rank_of x.upward m) × (rank_of x.upward m < 4) × (rank_of x.upward (rank_of x.upward m) ≡ m)
+    → (row_of s x (k + m) ≡ top + rank_of x.upward m) × (rank_of x.upward m < 4) × (rank_of x.upward (rank_of x.upward
+    m) ≡ m)
 four-row x s k top m room = told x.upward
   where
-    told : (up : Bool) → top ≡ cond up (s - 4 - k) k → m < 4 → (cond up (s - 1 - (k + m)) (k + m) ≡ top + rank_of up m) × (rank_of up m < 4) × (rank_of up (rank_of up m) ≡ m)
+    told : (up : Bool) → top ≡ cond up (s - 4 - k) k → m < 4 → (cond up (s - 1 - (k + m)) (k + m) ≡ top + rank_of up m)
+        × (rank_of up m < 4) × (rank_of up (rank_of up m) ≡ m)
     told true e l = (omega arith, omega arith, omega arith)
     told false e l = (omega arith, l, refl)
 
@@ -64,16 +68,19 @@ outside top i n = grind (arith, nat_tests)
 -- if all modules of four rows are in the region, the rows take eight bits
 pub four-region : (v : ℕ) (x : Strip) (k top : ℕ) → k + 4 ≤ side_of v → top ≡ cond x.upward (side_of v - 4 - k) k
     → ((j : ℕ) → j < 4 → (is_in_region v (top + j) x.right ≡ true) × (is_in_region v (top + j) (x.right - 1) ≡ true))
-    → (j : ℕ) → k ≤ j → j < k + 4 → (is_in_region v (row_of (side_of v) x j) x.right ≡ true) × (is_in_region v (row_of (side_of v) x j) (x.right - 1) ≡ true)
+    → (j : ℕ) → k ≤ j → j < k + 4 → (is_in_region v (row_of (side_of v) x j) x.right ≡ true) × (is_in_region v (row_of
+    (side_of v) x j) (x.right - 1) ≡ true)
 four-region v x k top room e whole j a b =
     let w = four-row x (side_of v) k top (j - k) room e (omega arith) in
     let f : k + (j - k) ≡ j = omega arith in
     rw (← f, w.0) (whole (rank_of x.upward (j - k)) w.1)
 
 -- four rows of a strip are drawn at once, if all their modules are in the region
-pub four-drawn : {v : ℕ} {cw : List ℕ} {x : Strip} {first : ℕ} {old new : Columns} (k top bits r l : ℕ) → k + 4 ≤ side_of v → top ≡ cond x.upward (side_of v - 4 - k) k
+pub four-drawn : {v : ℕ} {cw : List ℕ} {x : Strip} {first : ℕ} {old new : Columns} (k top bits r l : ℕ)
+    → k + 4 ≤ side_of v → top ≡ cond x.upward (side_of v - 4 - k) k
     → ((j : ℕ) → j < 4 → (is_in_region v (top + j) x.right ≡ true) × (is_in_region v (top + j) (x.right - 1) ≡ true))
-    → ((j : ℕ) → j < 4 → (has_bit r j ≡ has_bit bits (7 - 2 * rank_of x.upward j)) × (has_bit l j ≡ has_bit bits (6 - 2 * rank_of x.upward j)))
+    → ((j : ℕ) → j < 4 → (has_bit r j ≡ has_bit bits (7 - 2 * rank_of x.upward j)) × (has_bit l j ≡ has_bit bits (6 - 2
+    * rank_of x.upward j)))
     → ((i : ℕ) → has new.right i ≡ cond (leb top i && ltb i (top + 4)) (has_bit r (i - top)) (has old.right i))
     → ((i : ℕ) → has new.left i ≡ cond (leb top i && ltb i (top + 4)) (has_bit l (i - top)) (has old.left i))
     → AreNext cw (number_at v x first k) bits → AreDrawn v cw x first k 4 old new
@@ -93,7 +100,8 @@ four-drawn {v} {cw} {x} {first} {old} {new} k top bits r l room e whole split ri
       let second-bit = next (2 * m + 1) (omega arith) in
       rw (← f, w.0, (whole i w.1).0, (whole i w.1).1, number) (
         right (top + i) ∙ rw (within, back, bit.0, w.2) first-bit,
-        left (top + i) ∙ rw (within, back, bit.1, w.2, six) (second-bit ∙ ap (codeword_bit cw) odd));
+        left (top + i) ∙ rw (within, back, bit.1, w.2, six) (second-bit ∙ ap (codeword_bit cw) odd),
+      );
   kept = λ i apart.
       let out = outside top i (λ c d. let w = from-top x (side_of v) k top i room e c d in apart (k + rank_of x.upward (i - top)) (omega arith) (omega (arith, w.1)) w.0) in
       (right i ∙ rw out refl, left i ∙ rw out refl);
@@ -104,7 +112,8 @@ pub four-set : (n j : ℕ) → n ≡ 15 → j < 4 → has_bit n j ≡ true
 four-set n j e l = (let t : ltb j 4 ≡ true = grind (arith, nat_tests) in ap (λ z. has_bit z j) e ∙ (has_bit-ones 4 j ∙ t))
 
 -- setting four unset bits gives them their values
-pub column-set : (x : Strip) (s k top bits : ℕ) (q p z : ℕ → Bool) → k + 4 ≤ s → top ≡ cond x.upward (s - 4 - k) k → ((j : ℕ) → j < 4 → q (top + j) ≡ true)
+pub column-set : (x : Strip) (s k top bits : ℕ) (q p z : ℕ → Bool) → k + 4 ≤ s → top ≡ cond x.upward (s - 4 - k) k
+    → ((j : ℕ) → j < 4 → q (top + j) ≡ true)
     → ((j : ℕ) → k ≤ j → j < s → (q (row_of s x j) && p (row_of s x j)) ≡ false)
     → ((i : ℕ) → z i ≡ (p i || leb top i && ltb i (top + 4) && has_bit bits (i - top)))
     → (i : ℕ) → z i ≡ cond (leb top i && ltb i (top + 4)) (has_bit bits (i - top)) (p i)
@@ -115,5 +124,6 @@ column-set x s k top bits q p z room e whole light is i = is i ∙ set-replaces 
     let unlit = rw w.0 at (light (k + rank_of x.upward (i - top)) (omega arith) (omega (arith, w.1))) in
     rw lit at unlit)
   where
-    set-replaces : (p h : Bool) (i : ℕ) → (top ≤ i → i < top + 4 → p ≡ false) → (p || leb top i && ltb i (top + 4) && h) ≡ cond (leb top i && ltb i (top + 4)) h p
+    set-replaces : (p h : Bool) (i : ℕ) → (top ≤ i → i < top + 4 → p ≡ false)
+        → (p || leb top i && ltb i (top + 4) && h) ≡ cond (leb top i && ltb i (top + 4)) h p
     set-replaces p h i f = grind (arith, nat_tests)

@@ -156,7 +156,8 @@ pub placed-start : (v : ℕ) (cw : List ℕ) (g : Grid) (ms : List Module) → I
 placed-start v cw g ms s o = record { whole = o; next = refl; square = s; done = done-start v (placed_colour v cw (colour g)) g (in_region_of v ms) o (outside v cw (colour g)) }
 
 -- one more place takes one more bit if it is in the region
-count-push : (v : ℕ) (xs : List Module) (m : Module) → length (in_region_of v (xs ++ m ∷ [])) ≡ number_after (is_in_region v m.row m.col) (length (in_region_of v xs))
+count-push : (v : ℕ) (xs : List Module) (m : Module) → length (in_region_of v (xs ++ m ∷ [])) ≡ number_after
+    (is_in_region v m.row m.col) (length (in_region_of v xs))
 count-push v xs m = ap length (kept-append v xs (m ∷ [])) ∙ (length-append (in_region_of v xs) (in_region_of v (m ∷ [])) ∙ told (is_in_region v m.row m.col) (length (in_region_of v xs)))
   where
     told : (t : Bool) (n : ℕ) → n + length (cond t (m ∷ []) []) ≡ number_after t n
@@ -164,11 +165,13 @@ count-push v xs m = ap length (kept-append v xs (m ∷ [])) ∙ (length-append (
     told false n = omega arith
 
 -- the number of a module of the region is the number of those before it
-place-number : (v : ℕ) (before later : List Module) (m : Module) → IsOrder v (in_region_of v (before ++ m ∷ later)) → is_in_region v m.row m.col ≡ true → number_of v m ≡ length (in_region_of v before)
+place-number : (v : ℕ) (before later : List Module) (m : Module) → IsOrder v (in_region_of v (before ++ m ∷ later))
+    → is_in_region v m.row m.col ≡ true → number_of v m ≡ length (in_region_of v before)
 place-number v before later m o t = number-at v (in_region_of v before) (in_region_of v later) m (rw (kept-append, kept-in v m later t) at o)
 
 -- the rows of a strip before row j, that row, and those after it
-rows-split : (s : ℕ) (x : Strip) (k j m : ℕ) → both_of (rows_from s x k (j + (m + 1))) ≡ both_of (rows_from s x k j) ++ at (row_of s x (k + j)) x.right ∷ at (row_of s x (k + j)) (x.right - 1) ∷ both_of (rows_from s x (k + j + 1) m)
+rows-split : (s : ℕ) (x : Strip) (k j m : ℕ) → both_of (rows_from s x k (j + (m + 1))) ≡ both_of (rows_from s x k j) ++
+    at (row_of s x (k + j)) x.right ∷ at (row_of s x (k + j)) (x.right - 1) ∷ both_of (rows_from s x (k + j + 1) m)
 rows-split s x k zero m =
     let e : 0 + (m + 1) ≡ suc m = omega arith in
     let f : k + 0 ≡ k = omega arith in
@@ -179,14 +182,17 @@ rows-split s x k (suc j) m =
     rw (e, f) (ap (λ (z : List Module). at (row_of s x k) x.right ∷ at (row_of s x k) (x.right - 1) ∷ z) (rows-split s x (k + 1) j m))
 
 -- the places of a strip before row j, that row's, and those after it
-strip-split : (s : ℕ) (x : Strip) (j : ℕ) → j < s → both_of (rows_from s x 0 s) ≡ both_of (rows_from s x 0 j) ++ at (row_of s x j) x.right ∷ at (row_of s x j) (x.right - 1) ∷ both_of (rows_from s x (j + 1) (s - 1 - j))
+strip-split : (s : ℕ) (x : Strip) (j : ℕ) → j < s → both_of (rows_from s x 0 s) ≡ both_of (rows_from s x 0 j) ++ at
+    (row_of s x j) x.right ∷ at (row_of s x j) (x.right - 1) ∷ both_of (rows_from s x (j + 1) (s - 1 - j))
 strip-split s x j l =
     let e : j + (s - 1 - j + 1) ≡ s = omega arith in
     let f : 0 + j ≡ j = omega arith in
     rw (e, f) at (rows-split s x 0 j (s - 1 - j))
 
 -- the number of the next bit after the first rows of a strip
-number-rows : (v : ℕ) (x : Strip) (before : List Module) (j : ℕ) → number_at v x (length (in_region_of v before)) j ≡ length (in_region_of v (before ++ both_of (rows_from (side_of v) x 0 j)))
+number-rows : (v : ℕ) (x : Strip) (before : List Module) (j : ℕ)
+    → number_at v x (length (in_region_of v before)) j ≡ length (in_region_of v (before ++ both_of (rows_from (side_of
+    v) x 0 j)))
 number-rows v x before zero = rw append-nil refl
 number-rows v x before (suc j) =
     let p = at (row_of (side_of v) x j) x.right in
@@ -199,13 +205,15 @@ number-rows v x before (suc j) =
     rw (whole, count-push v ((before ++ xs) ++ p ∷ []) q, count-push v (before ++ xs) p, ← number-rows v x before j) refl
 
 -- a kept module of a list is its first module, or kept after it
-mem-kept : (v : ℕ) (p m : Module) (ms : List Module) → Mem m (in_region_of v (p ∷ ms)) → ((p ≡ m) × (is_in_region v m.row m.col ≡ true)) ⊎ Mem m (in_region_of v ms)
+mem-kept : (v : ℕ) (p m : Module) (ms : List Module) → Mem m (in_region_of v (p ∷ ms))
+    → ((p ≡ m) × (is_in_region v m.row m.col ≡ true)) ⊎ Mem m (in_region_of v ms)
 mem-kept v p m ms q = by_test (is_in_region v p.row p.col) _
     (λ t. elim (subst (Mem m) (kept-in v p ms t) q) [ inl e ↦ inl (e, ap (λ (z : Module). is_in_region v z.row z.col) (sym e) ∙ t) | inr q ↦ inr q ])
     (λ t. inr (subst (Mem m) (kept-out v p ms t) q))
 
 -- a kept module of a strip and further places is one of the strip's columns, or one of the further places
-strip-mem : (v s : ℕ) (x : Strip) (k n : ℕ) (m : Module) (later : List Module) → Mem m (in_region_of v (both_of (rows_from s x k n) ++ later))
+strip-mem : (v s : ℕ) (x : Strip) (k n : ℕ) (m : Module) (later : List Module)
+    → Mem m (in_region_of v (both_of (rows_from s x k n) ++ later))
     → (((m.col ≡ x.right) ⊎ (m.col ≡ x.right - 1)) × (is_in_region v m.row m.col ≡ true)) ⊎ Mem m (in_region_of v later)
 strip-mem v s x k zero m later q = inr q
 strip-mem v s x k (suc n) m later q = elim (mem-kept v (at (row_of s x k) x.right) m (at (row_of s x k) (x.right - 1) ∷ both_of (rows_from s x (k + 1) n) ++ later) q) [
@@ -217,8 +225,10 @@ strip-mem v s x k (suc n) m later q = elim (mem-kept v (at (row_of s x k) x.righ
 ]
 
 -- one more strip is drawn
-pub placed-strip : (v : ℕ) (cw : List ℕ) (g0 a b : Grid) (x : Strip) (before later : List Module) (number next : ℕ) → IsSquare (side_of v) a
-    → IsPlaced v cw g0 before (both_of (rows_from (side_of v) x 0 (side_of v)) ++ later) number (transposed a) → IsStripDrawn v cw x number a next b
+pub placed-strip : (v : ℕ) (cw : List ℕ) (g0 a b : Grid) (x : Strip) (before later : List Module) (number next : ℕ)
+    → IsSquare (side_of v) a
+    → IsPlaced v cw g0 before (both_of (rows_from (side_of v) x 0 (side_of v)) ++ later) number (transposed a)
+    → IsStripDrawn v cw x number a next b
     → IsPlaced v cw g0 (before ++ both_of (rows_from (side_of v) x 0 (side_of v))) later next (transposed b)
 placed-strip v cw g0 a b x before later number next o p d =
     let s = side_of v in

@@ -74,7 +74,8 @@ some-modes (suc n) P d =
     none a b e f (Byte ∷ ks) l p = e ks (omega arith) p
     none a b e f (Kanji ∷ ks) l p = f ks (omega arith) p
 
-    pick : Begun P n Numeric → Begun P n Alphanumeric → Begun P n Byte → Begun P n Kanji → ((ms : List Mode) × P ms) ⊎ ((ms : List Mode) → length ms ≡ suc n → P ms → ⊥)
+    pick : Begun P n Numeric → Begun P n Alphanumeric → Begun P n Byte → Begun P n Kanji
+        → ((ms : List Mode) × P ms) ⊎ ((ms : List Mode) → length ms ≡ suc n → P ms → ⊥)
     pick (inl p) b e f = inl (Numeric ∷ p.0, p.1)
     pick a (inl p) e f = inl (Alphanumeric ∷ p.0, p.1)
     pick a b (inl p) f = inl (Byte ∷ p.0, p.1)

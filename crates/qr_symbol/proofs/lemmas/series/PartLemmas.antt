@@ -36,7 +36,8 @@ bytes-run zero = refl
 bytes-run (suc n) = (let e : 1 + suc n ≡ suc (suc n) = omega arith in rw (bytes-run n, e) refl)
 
 -- bytes fit if there is room for one segment in byte mode
-pub bytes-fit : (v : ℕ) (b : Rule) (xs : List ℕ) (n : ℕ) → 0 < length xs → 4 + count_width v Byte + 8 * length xs ≤ n → HasFit v b xs n
+pub bytes-fit : (v : ℕ) (b : Rule) (xs : List ℕ) (n : ℕ) → 0 < length xs → 4 + count_width v Byte + 8 * length xs ≤ n
+    → HasFit v b xs n
 unfolding CoversInTurn
 bytes-fit v b [] n some h = absurd (omega arith)
 bytes-fit v b (x ∷ xs) n some h =

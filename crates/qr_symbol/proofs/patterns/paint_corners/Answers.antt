@@ -37,7 +37,8 @@ set-requires-3 c =
     record { row_in = omega arith; col_in = omega arith }
 
 -- the finder patterns and the modules beside them
-all-begun : (c : After-set-3) → IsOver (side_of c.args.v) (begun c.side-side.result) (paint_of c.args.v c.args.format) (colour c.args.matrix.now) c.set-3.new.self
+all-begun : (c : After-set-3) → IsOver (side_of c.args.v) (begun c.side-side.result) (paint_of c.args.v c.args.format)
+    (colour c.args.matrix.now) c.set-3.new.self
 all-begun c =
     let z = c.side-side.result in
     let v = c.args.v in

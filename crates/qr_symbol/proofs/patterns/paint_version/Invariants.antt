@@ -8,5 +8,6 @@ use Rattle.qr_symbol.proofs.patterns.paint_version.Given as goal
 abbrev pub invariant-loop-bit : goal.invariant-loop-bit
 invariant-loop-bit l = record {
   side : l.matrix.side ≡ side_of l.fn.v;
-  painted : (format : ℕ) → IsOver (side_of l.fn.v) (version_drawn (side_of l.fn.v) l.bit) (paint_of l.fn.v format) (colour l.fn.matrix) l.matrix;
+  painted : (format : ℕ) → IsOver (side_of l.fn.v) (version_drawn (side_of l.fn.v) l.bit) (paint_of l.fn.v format)
+      (colour l.fn.matrix) l.matrix;
 }

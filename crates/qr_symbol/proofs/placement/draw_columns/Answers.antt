@@ -51,7 +51,9 @@ loop-group-preserved c =
     }
 
 -- the last rows begin where the loop ends, and end with the strip
-at-end : (c : After-draw_rows-2) → (c.from-before.result + (c.side-last.result - 1) ≡ c.from-before.result + 4 * c.loop-group.group) × (c.from-before.result + 4 * c.loop-group.group + (1 - c.from-before.result) ≡ side_of c.args.v)
+at-end : (c : After-draw_rows-2) → (c.from-before.result + (c.side-last.result - 1) ≡ c.from-before.result + 4 *
+    c.loop-group.group) × (c.from-before.result + 4 * c.loop-group.group + (1 - c.from-before.result) ≡ side_of
+    c.args.v)
 at-end c =
     let small : c.from-before.result ≤ 1 = omega (arith, c.from-before.ensures, (bool_byte-bit c.args.strip.upward).0) in
     (omega (arith, c.loop-group-test.false, c.side-last.ensures.value), omega (arith, c.loop-group-test.false, c.side-last.ensures.value))
