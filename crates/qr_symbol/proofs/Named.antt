@@ -2,20 +2,16 @@
 use Rattle.qr_bits.proofs.Facts.{bits_of-more, field-more, length-data}
 use Rattle.qr_layout.proofs.Facts.{blocks-sound}
 use Rattle.qr_symbol.proofs.lemmas.choice.ChoiceLemmas.{canvas-drawn}
-use Rattle.qr_symbol.proofs.lemmas.collecting.CollectingLemmas.{strip-bits}
-use Rattle.qr_symbol.proofs.lemmas.encoding.SymbolMakingLemmas.{symbol-built}
+use Rattle.qr_symbol.proofs.lemmas.{collecting.CollectingLemmas.strip-bits, encoding.SymbolMakingLemmas.symbol-built}
 use Rattle.qr_symbol.proofs.lemmas.interleaving.CheckLemmas.{interleaved-both, slice-in}
 use Rattle.qr_symbol.proofs.lemmas.interleaving.MessageLemmas.{data-sizes-whole, final-whole, ok-also}
 use Rattle.qr_symbol.proofs.lemmas.joining.JoiningLemmas.{readings-more, readings-none, unjoined-at}
 use Rattle.qr_symbol.proofs.lemmas.mask.PatternLemmas.{pattern-is, pattern-small}
 use Rattle.qr_symbol.proofs.lemmas.placement.AcrossLemmas.{region-across}
 use Rattle.qr_symbol.proofs.lemmas.placement.BitLemmas.{eight-bits, one-bit, word-past}
-use Rattle.qr_symbol.proofs.lemmas.placement.LightLemmas.{cleared}
-use Rattle.qr_symbol.proofs.lemmas.placement.PlacementLemmas.{square-is}
+use Rattle.qr_symbol.proofs.lemmas.placement.{LightLemmas.cleared, PlacementLemmas.square-is}
 use Rattle.qr_symbol.proofs.lemmas.reading.SymbolReadLemmas.{read-twice}
-use Rattle.std.proofs.lemmas.Bool.Decides.{nat_tests}
-use Rattle.std.proofs.lemmas.List.{append-nil}
-use Rattle.std.proofs.lemmas.Result.{IfOk-weaker, err_from_is_err_and}
+use Rattle.std.proofs.lemmas.{Bool.Decides.nat_tests, List.append-nil, Result.IfOk-weaker, Result.err_from_is_err_and}
 
 -- Bits of words and of codewords.
 pub ruleset word_bits = (nat_tests, word-past, eight-bits, one-bit)

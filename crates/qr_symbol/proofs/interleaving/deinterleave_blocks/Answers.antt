@@ -1,6 +1,5 @@
 use Rattle.std.proofs.Common.{ℕ, List, ◌∙◌, subst}
-use Rattle.std.proofs.lemmas.Bool.Decides.{Decides-eqb}
-use Rattle.std.proofs.lemmas.Slice.Eq.{slice_eq-Decides}
+use Rattle.std.proofs.lemmas.{Bool.Decides.Decides-eqb, Slice.Eq.slice_eq-Decides}
 use Rattle.qr_symbol.specs.declared.interleaving.BlockSizes.{BlockSizes}
 use Rattle.qr_symbol.specs.Interleaving.{data_sizes, IsFinalMessage, IsGathered}
 use Rattle.qr_symbol.proofs.lemmas.interleaving.MessageLemmas.{none-fits}

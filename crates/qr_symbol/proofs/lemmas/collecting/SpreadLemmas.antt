@@ -3,14 +3,10 @@ use Rattle.std.proofs.Common.{◌≡◌, ℕ, ◌+◌, ◌-◌, ◌*◌, ◌/◌
 use borrow.Author.Tests.{ltb-true}
 use Rattle.qr_layout.specs.declared.strips.Strip.{Strip}
 use Rattle.qr_bits.specs.Bits.{field}
-use Rattle.qr_matrix.specs.BitRow.{has, has_bit}
-use Rattle.qr_matrix.specs.Grid.{is_same}
-use Rattle.qr_matrix.specs.Sums.{all_below}
+use Rattle.qr_matrix.specs.{BitRow.has, BitRow.has_bit, Grid.is_same, Sums.all_below}
 use Rattle.qr_matrix.proofs.Facts.{below-at, same-same, &&-left, &&-right}
-use Rattle.qr_symbol.specs.declared.collecting.TheConstants.{SPREADS}
-use Rattle.qr_symbol.specs.declared.placement.Columns.{Columns}
-use Rattle.qr_symbol.specs.Steps.Collecting.{bits_in_rows}
-use Rattle.qr_symbol.specs.Steps.Placement.{row_of}
+use Rattle.qr_symbol.specs.declared.{collecting.TheConstants.SPREADS, placement.Columns.Columns}
+use Rattle.qr_symbol.specs.Steps.{Collecting.bits_in_rows, Placement.row_of}
 use Rattle.qr_symbol.proofs.lemmas.placement.ColumnLemmas.{rank_of}
 
 -- the table's entry for a direction and four modules

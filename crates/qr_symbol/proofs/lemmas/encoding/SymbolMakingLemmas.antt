@@ -2,24 +2,16 @@
 use Rattle.std.proofs.Common.{◌≡◌, ℕ, ◌+◌, ◌<◌, ◌≤◌, ◌⊎◌, List, Option, None, Some, Result, Ok, Err, subst, sym, arith}
 use Rattle.std.specs.Prelude.{IfOk, IfErr}
 use Rattle.qr_layout.specs.declared.level.Level.{Level}
-use Rattle.qr_bits.specs.declared.modes.Rule.{Rule}
-use Rattle.qr_bits.specs.declared.segment.Segment.{Segment}
-use Rattle.qr_bits.specs.declared.header.Header.{Header}
+use Rattle.qr_bits.specs.declared.{modes.Rule.Rule, segment.Segment.Segment, header.Header.Header}
 use Rattle.qr_bits.specs.Segmentation.{bits, HasFit, IsLeastSegmentation}
-use Rattle.qr_bits.specs.Padding.{IsData, capacity_of, room_of}
-use Rattle.qr_bits.specs.Header.{header_bits}
+use Rattle.qr_bits.specs.{Padding.IsData, Padding.capacity_of, Padding.room_of, Header.header_bits}
 use Rattle.qr_bits.proofs.Facts.{capacity_least, length-stream, least_fits}
 use Rattle.qr_symbol.specs.declared.fault.EncodeFault.{EncodeFault}
 use Rattle.qr_symbol.specs.declared.fault.EncodeFault.TheVariants as fault
-use Rattle.qr_symbol.specs.declared.symbol.Symbol.{Symbol}
+use Rattle.qr_symbol.specs.{declared.symbol.Symbol.Symbol, Symbol.grid_of, Choice.IsMask}
+use Rattle.qr_symbol.specs.{Interleaving.IsInterleaved, Reading.IsReadBack, Encoding.IsSymbolAt, Encoding.IsSymbol}
+use Rattle.qr_symbol.specs.{VersionChoice.FitsVersion, VersionChoice.IsVersion, Series.IsSymbolOf}
 use Rattle.qr_matrix.specs.Grid.{Grid}
-use Rattle.qr_symbol.specs.Symbol.{grid_of}
-use Rattle.qr_symbol.specs.Choice.{IsMask}
-use Rattle.qr_symbol.specs.Interleaving.{IsInterleaved}
-use Rattle.qr_symbol.specs.Reading.{IsReadBack}
-use Rattle.qr_symbol.specs.Encoding.{IsSymbolAt, IsSymbol}
-use Rattle.qr_symbol.specs.VersionChoice.{FitsVersion, IsVersion}
-use Rattle.qr_symbol.specs.Series.{IsSymbolOf}
 use Rattle.qr_symbol.proofs.lemmas.reading.RoundTripLemmas.{symbol-read}
 
 -- a symbol that is built from the codewords of bytes is the symbol of these bytes

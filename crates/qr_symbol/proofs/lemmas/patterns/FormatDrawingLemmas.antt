@@ -1,16 +1,12 @@
 -- The format information, drawn bit by bit over a symbol.
 use Rattle.std.proofs.Common.{◌≡◌, ℕ, ◌+◌, ◌<◌, ◌≤◌, Bool, true, false, cond, ltb, leb, ◌&&◌, ◌||◌, refl, sym, ◌∙◌, ap, inl, inr, arith}
-use Rattle.std.proofs.lemmas.Bool.{cases_eq}
-use Rattle.std.proofs.lemmas.Bool.Decides.{nat_tests}
-use Rattle.qr_layout.specs.declared.region.Module.{Module}
-use Rattle.qr_layout.specs.declared.role.Role.{Role}
+use Rattle.std.proofs.lemmas.Bool.{cases_eq, Decides.nat_tests}
+use Rattle.qr_layout.specs.declared.{region.Module.Module, role.Role.Role}
 use Rattle.qr_layout.specs.declared.role.Role.TheVariants.{Fixed, FormatBit, VersionBit, Region}
-use Rattle.qr_layout.specs.Version.{side_of}
-use Rattle.qr_layout.specs.Role.{role_of, first_place, second_place}
+use Rattle.qr_layout.specs.{Version.side_of, Role.role_of, Role.first_place, Role.second_place}
 use Rattle.qr_layout.proofs.Facts.{format-only, format-first, format-second}
-use Rattle.qr_matrix.specs.Grid.{Grid, square, colour, painted, IsSquare}
+use Rattle.qr_matrix.specs.{Grid.Grid, Grid.square, Grid.colour, Grid.painted, Grid.IsSquare, BitRow.has_bit}
 use Rattle.qr_matrix.proofs.Facts.{same-place, square-same, colour-painted-here, colour-painted-there}
-use Rattle.qr_matrix.specs.BitRow.{has_bit}
 use Rattle.qr_symbol.specs.Steps.Patterns.{format_bits_or, format_or}
 use Rattle.qr_symbol.proofs.lemmas.placement.PlacementLemmas.{at}
 

@@ -1,15 +1,10 @@
 -- Squares that are painted at the places that pass a test.
 use Rattle.std.proofs.Common.{◌≡◌, ℕ, ◌+◌, ◌-◌, ◌<◌, ◌≤◌, Bool, true, false, not, cond, eqb, ltb, leb, ◌&&◌, ◌||◌, List, [], ◌∷◌, length, take, get_or, refl, ◌∙◌, ap, inl, inr, arith}
-use Rattle.std.proofs.lemmas.Bool.Decides.{nat_tests}
-use Rattle.std.proofs.lemmas.List.{take_more}
-use Rattle.std.proofs.lemmas.List.Folds.{list_any-append}
+use Rattle.std.proofs.lemmas.{Bool.Decides.nat_tests, List.take_more, List.Folds.list_any-append}
 use Rattle.std.specs.List.{list_any}
-use Rattle.qr_layout.specs.declared.region.Module.{Module}
-use Rattle.qr_layout.specs.declared.rectangles.Rectangle.{Rectangle}
-use Rattle.qr_layout.specs.Version.{side_of}
+use Rattle.qr_layout.specs.{declared.region.Module.Module, declared.rectangles.Rectangle.Rectangle, Version.side_of}
 use Rattle.qr_layout.specs.Alignment.{alignment_places, centres_of}
-use Rattle.qr_layout.specs.Region.{is_alignment, ring_of}
-use Rattle.qr_layout.specs.Role.{is_alignment_light}
+use Rattle.qr_layout.specs.{Region.is_alignment, Region.ring_of, Role.is_alignment_light}
 use Rattle.qr_matrix.specs.Grid.{Grid, square, colour, painted, with_rectangle, IsSquare}
 use Rattle.qr_matrix.proofs.Facts.{same-place, square-same, colour-square}
 use Rattle.qr_symbol.specs.Steps.Patterns.{IsOver}

@@ -1,12 +1,8 @@
 -- The colours of row 6 and column 6.
 use Rattle.std.proofs.Common.{◌≡◌, ℕ, ◌+◌, ◌-◌, ◌%◌, ◌<◌, ◌≤◌, Bool, true, false, eqb, ltb, ◌&&◌, ◌||◌, refl, sym, ◌∙◌, ap, inl, inr, arith}
-use Rattle.std.proofs.lemmas.Bool.{cases_lt}
-use Rattle.std.proofs.lemmas.Bool.Decides.{nat_tests}
-use Rattle.qr_layout.specs.declared.role.Role.TheVariants.{Fixed}
-use Rattle.qr_layout.specs.Format.{version_word_of}
-use Rattle.qr_layout.specs.Region.{is_timing}
-use Rattle.qr_layout.specs.Version.{side_of}
-use Rattle.qr_layout.specs.Role.{finder_ring, pattern_colour, role_of}
+use Rattle.std.proofs.lemmas.Bool.{cases_lt, Decides.nat_tests}
+use Rattle.qr_layout.specs.{declared.role.Role.TheVariants.Fixed, Format.version_word_of}
+use Rattle.qr_layout.specs.{Region.is_timing, Version.side_of, Role.finder_ring, Role.pattern_colour, Role.role_of}
 use Rattle.qr_symbol.specs.Steps.Patterns.{fixed_colour, is_dark_in_six, paint_of}
 
 -- a place in ring 3 of a finder pattern is dark

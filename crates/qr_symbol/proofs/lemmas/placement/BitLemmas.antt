@@ -1,8 +1,6 @@
 -- Bits of codewords, and of words that hold several codewords.
 use Rattle.std.proofs.Common.{◌≡◌, ℕ, ◌+◌, ◌-◌, ◌*◌, ◌/◌, ◌%◌, ◌^◌, ◌<◌, ◌≤◌, Bool, true, false, not, ◌&&◌, nat_eq, List, get_or, refl, ap, bit_and, arith}
-use Rattle.std.proofs.lemmas.Bool.Decides.{nat_tests}
-use Rattle.std.proofs.lemmas.Nat.{and_mask, pow-add}
-use Rattle.std.proofs.Math.Pow.{pow_mono}
+use Rattle.std.proofs.{lemmas.Bool.Decides.nat_tests, lemmas.Nat.and_mask, lemmas.Nat.pow-add, Math.Pow.pow_mono}
 use Rattle.std.proofs.lemmas.Nat.Bits.{bit_at_above, bit_at_cat_low, bit_at_cat_high}
 use mathlib.Core.Bool.{beq}
 use Rattle.qr_bits.specs.Bits.{codeword_bit}

@@ -1,10 +1,7 @@
 -- The columns of a strip, held apart from the square in which they are two rows.
 use Rattle.std.proofs.Common.{◌≡◌, ℕ, zero, suc, ◌+◌, ◌-◌, ◌*◌, ◌<◌, ◌≤◌, Bool, true, false, cond, eqb, ◌&&◌, List, refl, inl, inr, add-one, arith}
-use Rattle.std.proofs.lemmas.Bool.Decides.{nat_tests}
-use Rattle.std.proofs.lemmas.Bool.{cases_lt}
-use Rattle.qr_layout.specs.declared.strips.Strip.{Strip}
-use Rattle.qr_layout.specs.Region.{is_in_region}
-use Rattle.qr_layout.specs.Version.{side_of}
+use Rattle.std.proofs.lemmas.Bool.{Decides.nat_tests, cases_lt}
+use Rattle.qr_layout.specs.{declared.strips.Strip.Strip, Region.is_in_region, Version.side_of}
 use Rattle.qr_matrix.specs.BitRow.{has, has_bit}
 use Rattle.qr_symbol.specs.Steps.Placement.{number_after, number_at, row_of, AreDrawn, AreNext}
 use Rattle.qr_symbol.specs.declared.placement.Columns.{Columns}

@@ -1,10 +1,7 @@
 -- The places of the encoding region among all places of a walk.
 use Rattle.std.proofs.Common.{◌≡◌, ℕ, Bool, true, false, cond, List, [], ◌∷◌, ◌++◌, append-nil, append_assoc, refl, sym, ◌∙◌, ap}
-use Rattle.qr_layout.specs.declared.region.Module.{Module}
-use Rattle.qr_layout.specs.Region.{is_in_region}
-use Rattle.qr_layout.specs.Order.{in_region_of}
-use Rattle.qr_layout.specs.Strips.{both_of, rows_from, places_of}
-use Rattle.qr_layout.specs.declared.strips.Strip.{Strip}
+use Rattle.qr_layout.specs.{declared.region.Module.Module, Region.is_in_region, Order.in_region_of}
+use Rattle.qr_layout.specs.{Strips.both_of, Strips.rows_from, Strips.places_of, declared.strips.Strip.Strip}
 
 -- a place in the region is kept
 pub kept-in : (v : ℕ) (m : Module) (ms : List Module) → is_in_region v m.row m.col ≡ true → in_region_of v (m ∷ ms) ≡ m ∷ in_region_of v ms

@@ -1,26 +1,17 @@
 -- What is read from the square of a symbol: the codeword bits, the codewords and the message.
 use Rattle.std.proofs.Common.{◌≡◌, ℕ, zero, suc, ◌+◌, ◌-◌, ◌*◌, ◌<◌, ◌≤◌, Bool, true, false, nat_eq, List, [], ◌∷◌, ◌++◌, map, take, drop, length, replicate, refl, sym, ◌∙◌, ap, subst, length-append, inl, inr, arith}
-use Rattle.std.proofs.lemmas.Bool.{cases_lt}
-use Rattle.std.proofs.lemmas.Bool.Decides.{nat_tests}
+use Rattle.std.proofs.lemmas.Bool.{cases_lt, Decides.nat_tests}
 use Rattle.std.proofs.lemmas.List.{append-nil, length-map, length-take, length-replicate}
-use Rattle.std.proofs.Math.Seq.{drop-cons}
-use Rattle.std.specs.List.{All}
-use Rattle.std.specs.Int.{bit_at}
-use Rattle.std.proofs.lemmas.Nat.Bits.{same_from_bits_below, bit_at-lt}
-use Rattle.qr_layout.specs.declared.level.Level.{Level}
-use Rattle.qr_layout.specs.declared.region.Module.{Module}
-use Rattle.qr_layout.specs.Version.{total_codewords_of}
-use Rattle.qr_layout.specs.Blocks.{data_codewords_of, blocks_of}
-use Rattle.qr_layout.specs.Order.{IsOrder, number_of}
+use Rattle.std.proofs.{Math.Seq.drop-cons, lemmas.Nat.Bits.same_from_bits_below, lemmas.Nat.Bits.bit_at-lt}
+use Rattle.std.specs.{List.All, Int.bit_at}
+use Rattle.qr_layout.specs.{declared.level.Level.Level, declared.region.Module.Module, Version.total_codewords_of}
+use Rattle.qr_layout.specs.{Blocks.data_codewords_of, Blocks.blocks_of, Order.IsOrder, Order.number_of}
 use Rattle.qr_layout.specs.Steps.Order.{to_come, first_cursor}
 use Rattle.qr_layout.proofs.Facts.{order-mem, order-length, number-at, only_order, to_come-start, region-role}
-use Rattle.qr_bits.specs.Bits.{field, bits_of, codeword_bit}
-use Rattle.qr_bits.specs.Parsing.{bytes_of}
+use Rattle.qr_bits.specs.{Bits.field, Bits.bits_of, Bits.codeword_bit, Parsing.bytes_of}
 use Rattle.qr_bits.proofs.Facts.{length-field, length-bits_of, bits_at, bytes_takes}
 use Rattle.qr_matrix.specs.Grid.{Grid}
-use Rattle.qr_symbol.specs.Mask.{inverts, inverted}
-use Rattle.qr_symbol.specs.Symbol.{colour_of, grid_of}
-use Rattle.qr_symbol.specs.Interleaving.{IsInterleaved}
+use Rattle.qr_symbol.specs.{Mask.inverts, Mask.inverted, Symbol.colour_of, Symbol.grid_of, Interleaving.IsInterleaved}
 use Rattle.qr_symbol.specs.Reading.{unmasked, read_bits, IsRead, IsMessage}
 use Rattle.qr_matrix.proofs.Facts.{colour-square}
 use Rattle.qr_symbol.proofs.lemmas.placement.PlacementLemmas.{in-square, whole-push, Mem-mid}

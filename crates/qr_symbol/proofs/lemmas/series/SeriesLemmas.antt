@@ -2,21 +2,15 @@
 use Rattle.std.proofs.Common.{◌≡◌, ℕ, suc, ◌+◌, ◌-◌, ◌*◌, ◌<◌, ◌≤◌, List, [], ◌∷◌, drop, length, None, Some, Option, refl, sym, ap, subst, arith, inl, inr}
 use Rattle.std.proofs.lemmas.List.{append-nil, take-append-drop}
 use Rattle.qr_layout.specs.declared.level.Level.{Level}
-use Rattle.qr_bits.specs.declared.modes.Rule.{Rule}
-use Rattle.qr_bits.specs.declared.header.Header.{Header}
-use Rattle.qr_bits.specs.Parsing.{Content}
-use Rattle.qr_bits.specs.Header.{parity_of}
+use Rattle.qr_bits.specs.{declared.modes.Rule.Rule, declared.header.Header.Header, Parsing.Content, Header.parity_of}
 use Rattle.qr_bits.proofs.Facts.{fitting_short, empty_fits}
-use Rattle.qr_symbol.specs.declared.symbol.Symbol.{Symbol}
-use Rattle.qr_matrix.specs.Grid.{Grid}
-use Rattle.qr_symbol.specs.VersionChoice.{FitsVersion, HasNoVersion}
+use Rattle.qr_symbol.specs.{declared.symbol.Symbol.Symbol, VersionChoice.FitsVersion, VersionChoice.HasNoVersion}
 use Rattle.qr_symbol.specs.Series.{squares_of, AreParts, IsSymbolOf, AreSymbolsFrom, IsSplit, IsPlainSymbol, IsSeries}
-use Rattle.qr_symbol.specs.Steps.Series.{AreLengths, parts_of}
-use Rattle.qr_symbol.specs.Reading.{IsReading}
+use Rattle.qr_symbol.specs.{Steps.Series.AreLengths, Steps.Series.parts_of, Reading.IsReading}
 use Rattle.qr_symbol.specs.Joining.{AreReadBy, bytes_of_all, HaveHeaders, IsJoined}
+use Rattle.qr_matrix.specs.Grid.{Grid}
 use Rattle.qr_symbol.proofs.lemmas.encoding.SymbolLemmas.{symbol-at-one}
-use Rattle.qr_symbol.proofs.lemmas.reading.RoundTripLemmas.{symbol-read}
-use Rattle.qr_symbol.proofs.lemmas.encoding.SymbolMakingLemmas.{symbol-fits}
+use Rattle.qr_symbol.proofs.lemmas.{reading.RoundTripLemmas.symbol-read, encoding.SymbolMakingLemmas.symbol-fits}
 use Rattle.qr_symbol.proofs.lemmas.series.PartLemmas.{parts-are, length-parts, parts-one, parts-some, parts-long}
 
 -- ---- what makes a series

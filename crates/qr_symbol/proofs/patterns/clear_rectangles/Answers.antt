@@ -1,5 +1,4 @@
-use Rattle.std.proofs.Common.{◌≡◌, take, get_or, arith}
-use Rattle.std.proofs.lemmas.List.{take_all}
+use Rattle.std.proofs.{Common.◌≡◌, Common.take, Common.get_or, Common.arith, lemmas.List.take_all}
 use Rattle.qr_layout.specs.Rectangles.{is_in_rectangle}
 use Rattle.qr_symbol.proofs.lemmas.patterns.PaintLemmas.{no_rectangle, over-item, over-rectangle, over-side}
 use Rattle.qr_symbol.proofs.patterns.clear_rectangles.Goals as goal

@@ -1,11 +1,8 @@
 use Rattle.std.proofs.Common.{◌≡◌, ℕ, Bool, true, ◌&&◌, leb, ltb, sym, ap, ◌∙◌, arith}
+use Rattle.std.proofs.lemmas.{Bool.Decides.nat_tests, List.Elements.All-same}
 use Rattle.std.specs.List.{list_any}
-use Rattle.std.proofs.lemmas.Bool.Decides.{nat_tests}
-use Rattle.std.proofs.lemmas.List.Elements.{All-same}
-use Rattle.qr_layout.specs.Version.{side_of}
-use Rattle.qr_layout.specs.Alignment.{alignment_places, centres_of}
-use Rattle.qr_layout.specs.Region.{is_alignment, is_in_region}
-use Rattle.qr_layout.specs.Rectangles.{is_in_rectangle}
+use Rattle.qr_layout.specs.{Version.side_of, Alignment.alignment_places, Alignment.centres_of}
+use Rattle.qr_layout.specs.{Region.is_alignment, Region.is_in_region, Rectangles.is_in_rectangle}
 use Rattle.qr_layout.specs.Steps.Rectangles.{IsInside, IsWithin}
 use Rattle.qr_layout.proofs.Facts.{centres-inside, fixed-within, region_outside}
 use Rattle.qr_matrix.specs.Grid.{Grid, colour}

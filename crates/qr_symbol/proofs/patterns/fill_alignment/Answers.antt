@@ -1,11 +1,9 @@
 use Rattle.std.proofs.Common.{◌+◌, ◌-◌, get_or, ap, ◌∙◌, arith}
-use Rattle.std.specs.List.{list_any}
 use Rattle.std.proofs.lemmas.List.{take_all}
-use Rattle.qr_layout.specs.declared.region.Module.{Module}
-use Rattle.qr_layout.specs.Version.{side_of}
+use Rattle.std.specs.List.{list_any}
+use Rattle.qr_layout.specs.{declared.region.Module.Module, Version.side_of}
 use Rattle.qr_layout.specs.Alignment.{alignment_places, centres_of}
-use Rattle.qr_layout.specs.Rectangles.{is_in_rectangle}
-use Rattle.qr_layout.specs.Steps.Rectangles.{square_round}
+use Rattle.qr_layout.specs.{Rectangles.is_in_rectangle, Steps.Rectangles.square_round}
 use Rattle.qr_layout.proofs.Facts.{alignment-squares}
 use Rattle.qr_symbol.proofs.lemmas.patterns.PaintLemmas.{over-item, over-rectangle, over-same, over-side}
 use Rattle.qr_symbol.proofs.patterns.fill_alignment.Goals as goal

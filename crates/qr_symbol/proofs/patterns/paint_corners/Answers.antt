@@ -1,7 +1,5 @@
 use Rattle.std.proofs.Common.{◌≡◌, ℕ, ◌-◌, true, cond, ap, sym, ◌∙◌, refl, arith}
-use Rattle.qr_layout.specs.Version.{side_of}
-use Rattle.qr_layout.specs.Region.{is_corner}
-use Rattle.qr_layout.specs.Role.{role_of}
+use Rattle.qr_layout.specs.{Version.side_of, Region.is_corner, Role.role_of}
 use Rattle.qr_matrix.specs.Grid.{Grid, colour}
 use Rattle.qr_matrix.proofs.Facts.{square-same}
 use Rattle.qr_symbol.specs.Steps.Patterns.{format_or, paint_of, IsOver}

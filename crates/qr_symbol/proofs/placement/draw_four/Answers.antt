@@ -1,8 +1,7 @@
 use Rattle.std.proofs.Common.{◌≡◌, ◌+◌, ◌-◌, ◌/◌, ◌%◌, ◌<◌, ℕ, true, eqb, ltb, ◌&&◌, ap, sym, ◌∙◌, arith}
 use Rattle.std.proofs.lemmas.Bool.Decides.{nat_tests}
 use Rattle.qr_bits.proofs.Facts.{bool_byte-bit}
-use Rattle.qr_layout.specs.Region.{is_in_region}
-use Rattle.qr_layout.specs.Version.{side_of}
+use Rattle.qr_layout.specs.{Region.is_in_region, Version.side_of}
 use Rattle.qr_matrix.specs.BitRow.{has, has_bit}
 use Rattle.qr_matrix.proofs.Facts.{has_bit-ones, &&-left, &&-right}
 use Rattle.qr_symbol.proofs.lemmas.placement.ColumnLemmas.{number-whole}

@@ -1,7 +1,6 @@
 use Rattle.std.proofs.Common.{ℕ, ◌≡◌, ◌-◌, Bool, ◌∙◌, ap, sym, subst, arith}
 use Rattle.qr_layout.specs.Version.{side_of}
-use Rattle.qr_matrix.specs.BitRow.{has}
-use Rattle.qr_matrix.specs.Grid.{Grid, with_row}
+use Rattle.qr_matrix.specs.{BitRow.has, Grid.Grid, Grid.with_row}
 use Rattle.qr_symbol.specs.Steps.Placement.{number_at, AreDrawn, IsRegion}
 use Rattle.qr_symbol.specs.declared.placement.Columns.{Columns}
 use Rattle.qr_symbol.proofs.lemmas.placement.AcrossLemmas.{region-across, strip-drawn}
