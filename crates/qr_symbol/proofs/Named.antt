@@ -12,7 +12,6 @@ use Rattle.qr_symbol.proofs.lemmas.mask.PatternLemmas.{inverts-repeats, pattern-
 use Rattle.qr_symbol.proofs.lemmas.placement.AcrossLemmas.{region-across}
 use Rattle.qr_symbol.proofs.lemmas.placement.BitLemmas.{eight-bits, one-bit, word-past}
 use Rattle.qr_symbol.proofs.lemmas.placement.{LightLemmas.cleared, PlacementLemmas.square-is}
-use Rattle.qr_symbol.proofs.lemmas.reading.RefusalLemmas.{exactly, read-refused, refused-one}
 use Rattle.qr_symbol.proofs.lemmas.reading.{ReadLemmas.read-grid, SymbolReadLemmas.read-twice}
 use Rattle.qr_symbol.proofs.lemmas.series.{PartExistenceLemmas.parts-there, PartLemmas.part-least}
 use Rattle.std.proofs.lemmas.{Bool.Decides.nat_tests, List.append-nil, Result.IfOk-weaker, Result.err_from_is_err_and}
@@ -43,4 +42,4 @@ pub ruleset laws_of_blocks = (start-none, start-next, data-sizes-whole, messages
 
 pub ruleset laws_of_parts = (part-least, parts-there)
 
-pub ruleset laws_of_reading = (read-grid, exactly, read-refused, refused-one)
+pub ruleset laws_of_reading = (read-grid)

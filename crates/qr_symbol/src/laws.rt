@@ -154,7 +154,6 @@ pub fn refusals_are_one()
 
 /// `read_symbol` returns a fault other than `Memory` exactly if the reasons that `IsUnread` lists for it hold, and no
 /// allocation is refused.
-#[tactic(auto, using(crate::proofs::Named::laws_of_reading))]
 pub fn readings_are_refused_exactly(alloc: Global, matrix: &Matrix) -> Result<Parsed, ReadFault>
     ensures { (e : ReadFault) → e ≢ ReadFault.Memory
         → (result ≡ Err e) ↔ ((result ≢ Err ReadFault.Memory) × IsUnread matrix.now e) }

@@ -1,10 +1,9 @@
-use Rattle.std.proofs.Common.{◌≡◌, ◌+◌, ◌<◌, ℕ, ◌++◌, true, eqb, ltb, ◌&&◌, ap, sym, subst, ◌∙◌, arith}
-use Rattle.std.proofs.lemmas.Bool.Decides.{nat_tests}
+use Rattle.std.proofs.Common.{◌≡◌, ◌+◌, ◌<◌, ℕ, ◌++◌, true, eqb, ◌&&◌, ap, sym, subst, ◌∙◌, arith}
 use Rattle.std.specs.Prelude.{OnOk}
 use Rattle.qr_bits.proofs.Facts.{bool_byte-bit}
 use Rattle.qr_layout.specs.Version.{side_of}
 use Rattle.qr_matrix.specs.BitRow.{has, has_bit}
-use Rattle.qr_matrix.proofs.Facts.{has_bit-ones, &&-left, &&-right}
+use Rattle.qr_matrix.proofs.Facts.{&&-left, &&-right}
 use Rattle.qr_symbol.proofs.lemmas.collecting.SpreadLemmas.{four-read, joined-small}
 use Rattle.qr_symbol.proofs.lemmas.placement.LightLemmas.{four-set}
 use Rattle.qr_symbol.proofs.collecting.collect_four.Goals as goal

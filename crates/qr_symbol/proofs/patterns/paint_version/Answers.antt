@@ -1,6 +1,6 @@
 use Rattle.std.proofs.Common.{◌≡◌, ℕ, ◌+◌, ◌-◌, ◌/◌, ◌%◌, eqb, ◌&&◌, ◌||◌, ap, ◌∙◌, refl, arith}
 use Rattle.qr_layout.specs.{Version.side_of, Format.version_word_of}
-use Rattle.qr_matrix.specs.{Grid.Grid, Grid.painted, BitRow.has_bit}
+use Rattle.qr_matrix.specs.{Grid.Grid, BitRow.has_bit}
 use Rattle.qr_symbol.specs.Steps.Patterns.{paint_of}
 use Rattle.qr_symbol.proofs.lemmas.patterns.PaintLemmas.{over-none, over-place, over-same, over-side, over-twice}
 use Rattle.qr_symbol.proofs.lemmas.patterns.VersionLemmas.{version_drawn, version-all, version-here, version-more, version-none, version-there}
