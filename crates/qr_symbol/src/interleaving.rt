@@ -227,6 +227,7 @@ fn deinterleave_blocks(
 ///
 /// Returns `Check` if the error correction codewords of some block do not belong to its data codewords, and `Memory` if
 /// an allocation is refused, in which case `Check` is not returned.
+#[tactic(auto, using(crate::proofs::Named::messages))]
 pub fn deinterleave(
     alloc: Global,
     version: Version,

@@ -59,10 +59,8 @@ pub done-step : (s : ℕ) (want : ℕ → ℕ → Bool) (g : Grid) (later : List
 done-step s want g later x d k e h r c l m n =
     elim (same-place x.row x.col r c) [
       | inl w ↦
-          let a : x.row ≡ r = sym w.0.0 in
-          let b : x.col ≡ c = sym w.0.1 in
-          let here = colour-painted-here g x.row x.col d (omega arith) (omega arith) ∙ e in
-          ap (λ (y : ℕ). colour (painted g x.row x.col d) y c) w.0.0 ∙ (ap (λ (y : ℕ). colour (painted g x.row x.col d) x.row y) w.0.1 ∙ (here ∙ (ap (λ (y : ℕ). want y x.col) a ∙ ap (want r) b)))
+          let a = w.0.0 in
+          let b = w.0.1 in rw (a, b) (colour-painted-here g x.row x.col d (omega arith) (omega arith) ∙ e)
       | inr w ↦
           colour-painted-there g x.row x.col r c d (omega arith) (omega arith) w.0 ∙ h r c l m (λ q. elim q [ inl e ↦ w.0 (ap (λ (z : Module). z.row) (sym e), ap (λ (z : Module). z.col) (sym e)) | inr q ↦ n q ])
     ]
