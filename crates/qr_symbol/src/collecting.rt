@@ -14,7 +14,7 @@ ghost use Rattle.qr_symbol.specs.Reading.{IsReadUnmasked};
 ghost use Rattle.qr_symbol.specs.Steps.Collecting.{bit_if, bits_in_rows, colour_across};
 ghost use Rattle.qr_symbol.specs.Steps.Placement.{region_grid};
 
-use crate::placement::{Columns, columns_of};
+use crate::placement::{Columns, columns_of, row_at, top_of};
 use qr_layout::{Strip, Version, all_strips};
 use qr_matrix::{BitRow, Matrix};
 use std::alloc::{AllocError, Global};
@@ -43,6 +43,7 @@ impl Model for Collector {
 
 impl Collector {
     // Takes the memory for `count` codewords at once.
+    #[tactic(auto, unfolding(qr_bits::specs::Bits::bits_of, qr_bits::specs::Bits::field))]
     fn with_capacity(alloc: Global, count: usize) -> Result<Collector, AllocError>
         ensures { IfOk result (λ b. b ≡ []) }
     {
@@ -53,6 +54,7 @@ impl Collector {
         })
     }
 
+    #[tactic(auto, using(crate::proofs::Named::collected), unfolding(qr_bits::specs::Bits::field))]
     fn push_bit(&mut self, dark: bool) -> Result<(), AllocError>
         ensures { OnOk result (self.new ≡ self.old ++ dark ∷ []) }
     {
@@ -120,7 +122,7 @@ fn collect_rows(
 {
     let last = v.side() - 1;
     for rank in passed..passed + count {
-        let row = if strip.upward { last - rank } else { rank };
+        let row = row_at(strip, rank, last);
         collect_module(bits, &columns.right, &region.right, row)?;
         collect_module(bits, &columns.left, &region.left, row)?;
     }
@@ -157,11 +159,7 @@ fn collect_four(
     requires both { (row : ℕ) → has both.now row ≡ (has region.now.right row && has region.now.left row) }
     ensures { OnOk result (bits.new ≡ bits.old ++ bits_in_rows (side_of v) strip region.now columns.now passed 4) }
 {
-    let top = if strip.upward {
-        v.side() - 4 - passed
-    } else {
-        passed
-    };
+    let top = top_of(v, strip, passed);
     if both.four(top) == 15 {
         let spread = SPREADS[usize::from(strip.upward)];
         let right = spread[usize::from(columns.right.four(top))];
@@ -194,6 +192,7 @@ fn collect_columns(
     collect_rows(bits, columns, v, region, strip, before + last, 1 - before)
 }
 
+#[tactic(auto, using(crate::proofs::Named::strips))]
 fn collect_strip(
     bits: &mut Collector,
     across: &Matrix,

@@ -45,6 +45,7 @@ use std::alloc::{AllocError, Global};
 
 /// Each mask repeats every twelve rows and six columns, and its first twelve rows are those worked out by hand from
 /// Table 10.
+#[tactic(auto, using(crate::proofs::Named::masks), unfolding(crate::specs::Mask::inverts))]
 pub fn masks_compute()
     ensures repeated { (mask r c : ℕ) → mask < 8 → inverts mask r c ≡ inverts mask (r % 12) (c % 6) }
     ensures rows { map first_rows all_masks ≡ computed_rows }
@@ -77,6 +78,7 @@ pub fn plain_and_fast_symbols_are_one(
 
 /// The blocks divide the data codewords without a gap: the first begins at the first data codeword, each other where
 /// the one before it ends, and the last ends at the last data codeword.
+#[tactic(auto, using(crate::proofs::Named::laws_of_blocks))]
 pub fn blocks_are_cut_exactly(version: Version, level: Level)
     ensures first { start_of (data_sizes (blocks_of version level)) 0 ≡ 0 }
     ensures next { (i : ℕ) → i < block_count (data_sizes (blocks_of version level))
@@ -100,6 +102,7 @@ pub fn interleaving_is_one(version: Version, level: Level)
 
 /// Two squares of one version and level that contain different data codewords differ, in some block, in more codewords
 /// than it has error correction codewords.
+#[tactic(auto, using(crate::proofs::Named::laws_of_blocks))]
 pub fn messages_lie_apart(version: Version, level: Level)
     ensures { MessagesLieApart version level }
 {}
@@ -112,6 +115,7 @@ pub fn damaged_messages_are_one(version: Version, level: Level)
 {}
 
 /// Reading the codeword bits of a square yields the bits of the codewords from which it was drawn.
+#[tactic(auto, using(crate::proofs::Named::laws_of_reading))]
 pub fn squares_give_their_bits(version: Version)
     ensures { (l : Level) (mask : ℕ) (cw : List ℕ) (ms : List Module) → IsOrder version ms
         → length cw ≡ total_codewords_of version
@@ -214,11 +218,13 @@ pub fn series_are_shortest()
 {}
 
 /// Every input can be cut into parts, since a symbol has room for a structured append header and a byte.
+#[tactic(auto, using(crate::proofs::Named::laws_of_parts))]
 pub fn parts_are_there(version: Version, level: Level)
     ensures { (rule : Rule) (x : List ℕ) → (parts : List (List ℕ)) × AreParts version level rule x parts }
 {}
 
 /// Each part into which an input is cut has at least five bytes, or all that come after the earlier parts.
+#[tactic(auto, using(crate::proofs::Named::laws_of_parts))]
 pub fn parts_are_long(version: Version, level: Level)
     ensures { (rule : Rule) (x p : List ℕ) (ps : List (List ℕ))
         → AreParts version level rule x (p ∷ ps) → (5 ≤ length p) ⊎ (p ≡ x) }

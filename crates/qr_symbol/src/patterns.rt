@@ -12,7 +12,7 @@ ghost use Rattle.qr_layout.specs.Role.{finder_ring, is_alignment_light, role_of}
 ghost use Rattle.qr_layout.specs.Format.{version_word_of};
 ghost use Rattle.qr_matrix.specs.Grid.{square, colour, light, IsSquare};
 ghost use Rattle.qr_matrix.specs.BitRow.{has_bit};
-ghost use Rattle.qr_symbol.specs.Steps.Patterns.{fixed_colour, format_bits_or, format_or, is_dark_in_six, paint_of};
+ghost use Rattle.qr_symbol.specs.Steps.Patterns.{fixed_colour, format_bits_or, format_or, is_dark_in_six, is_in_block, paint_of, IsOver};
 ghost use Rattle.qr_symbol.specs.Steps.Placement.{region_grid};
 
 use qr_layout::{
@@ -23,7 +23,7 @@ use qr_matrix::Matrix;
 use std::alloc::{AllocError, Global};
 
 // A `u32` cannot be shifted by 32 or more.
-#[tactic(auto, unfolding(qr_matrix::specs::BitRow::has_bit))]
+#[tactic(auto, unfolding(qr_matrix::specs::BitRow::has_bit), using(crate::proofs::Named::word_bits))]
 pub(crate) fn is_bit_set(word: u32, i: u8) -> bool
     ensures { result ≡ has_bit word i }
 {
@@ -33,8 +33,8 @@ pub(crate) fn is_bit_set(word: u32, i: u8) -> bool
 fn clear_rectangles(matrix: &mut Matrix, v: Version, rectangles: &[Rectangle])
     requires square { IsSquare (side_of v) matrix.old }
     requires inside { All (IsWithin (side_of v)) rectangles.now }
-    ensures { matrix.new ≡ square (side_of v) (λ r c. if list_any (is_in_rectangle r c) rectangles.now
-        then false else colour matrix.old r c) }
+    ensures { IsOver (side_of v) (λ r c. list_any (is_in_rectangle r c) rectangles.now) (λ _ _. false)
+        (colour matrix.old) matrix.new }
 {
     for rectangle in rectangles {
         let Rectangle {
@@ -54,8 +54,8 @@ fn draw_finder(matrix: &mut Matrix, row: u8, col: u8)
     requires col_least { 3 ≤ col }
     requires col_most { col + 4 ≤ matrix.old.side }
     requires side { matrix.old.side ≤ 177 }
-    ensures { matrix.new ≡ square matrix.old.side (λ r c. if nat_lt (ring_of row col r c) 4
-        then not (ring_of row col r c == 2) else colour matrix.old r c) }
+    ensures { IsOver matrix.old.side (λ r c. nat_lt (ring_of row col r c) 4) (λ r c. not (ring_of row col r c == 2))
+        (colour matrix.old) matrix.new }
 {
     matrix.fill(row - 3, row + 4, col - 3, col + 4, true);
     matrix.fill(row - 2, row + 3, col - 2, col + 3, false);
@@ -72,8 +72,8 @@ fn paint_finder(matrix: &mut Matrix, v: Version, block: Module, centre: Module)
     requires col_least { block.col + 3 ≤ centre.col }
     requires col_most { centre.col ≤ block.col + 4 }
     requires nearest { (r c : ℕ) → ring_of centre.row centre.col r c ≤ 4 → finder_ring (side_of v) r c ≡ ring_of centre.row centre.col r c }
-    ensures { (format : ℕ) → matrix.new ≡ square (side_of v) (λ r c. if nat_le block.row r && nat_lt r (block.row + 8)
-        && nat_le block.col c && nat_lt c (block.col + 8) then paint_of v format r c else colour matrix.old r c) }
+    ensures { (format : ℕ) → IsOver (side_of v) (is_in_block block.row block.col) (paint_of v format)
+        (colour matrix.old) matrix.new }
 {
     matrix.fill(block.row, block.row + 8, block.col, block.col + 8, false);
     draw_finder(matrix, centre.row, centre.col);
@@ -113,8 +113,7 @@ pub(crate) fn draw_format(matrix: &mut Matrix, v: Version, format: u32)
 // the timing patterns, the dark module and the format information.
 fn paint_corners(matrix: &mut Matrix, v: Version, format: u32)
     requires { IsSquare (side_of v) matrix.old }
-    ensures { matrix.new ≡ square (side_of v) (λ r c. if is_corner (side_of v) r c
-        then paint_of v format r c else colour matrix.old r c) }
+    ensures { IsOver (side_of v) (is_corner (side_of v)) (paint_of v format) (colour matrix.old) matrix.new }
 {
     let side = v.side();
     let (far, last) = (side - 8, side - 4);
@@ -141,8 +140,7 @@ fn is_dark_in_six(side: u8, at: u8) -> bool
 // Draws all of row 6 and column 6, with what finder patterns and separators have there.
 fn paint_timing(matrix: &mut Matrix, v: Version)
     requires { IsSquare (side_of v) matrix.old }
-    ensures { (format : ℕ) → matrix.new ≡ square (side_of v) (λ r c. if is_timing r c
-        then paint_of v format r c else colour matrix.old r c) }
+    ensures { (format : ℕ) → IsOver (side_of v) is_timing (paint_of v format) (colour matrix.old) matrix.new }
 {
     let side = v.side();
     for at in 0..side {
@@ -159,8 +157,8 @@ const VERSION_BITS: u8 = 18;
 // exchanged beside the bottom left one (ISO/IEC 18004:2015, 7.10).
 fn paint_version(matrix: &mut Matrix, v: Version)
     requires { IsSquare (side_of v) matrix.old }
-    ensures { (format : ℕ) → matrix.new ≡ square (side_of v) (λ r c. if is_version_information v r c
-        then paint_of v format r c else colour matrix.old r c) }
+    ensures { (format : ℕ) → IsOver (side_of v) (is_version_information v) (paint_of v format) (colour matrix.old)
+        matrix.new }
 {
     if let Some(word) = v.version_word() {
         let left = v.side() - 11;
@@ -178,7 +176,7 @@ fn fill_alignment(matrix: &mut Matrix, v: Version, centres: &[Module], dark: boo
     requires square { IsSquare (side_of v) matrix.old }
     requires centres { centres.now ≡ alignment_places (side_of v) (centres_of v) }
     requires inside { All (IsInside (side_of v)) centres.now }
-    ensures { matrix.new ≡ square (side_of v) (λ r c. if is_alignment v r c then dark else colour matrix.old r c) }
+    ensures { IsOver (side_of v) (is_alignment v) (λ _ _. dark) (colour matrix.old) matrix.new }
 {
     for centre in centres {
         let Module { row, col } = *centre;
@@ -193,8 +191,7 @@ fn clear_ring(matrix: &mut Matrix, row: u8, col: u8)
     requires col_least { 1 ≤ col }
     requires col_most { col + 2 ≤ matrix.old.side }
     requires side { matrix.old.side ≤ 177 }
-    ensures { matrix.new ≡ square matrix.old.side (λ r c. if ring_of row col r c == 1 then false
-        else colour matrix.old r c) }
+    ensures { IsOver matrix.old.side (λ r c. ring_of row col r c == 1) (λ _ _. false) (colour matrix.old) matrix.new }
 {
     matrix.fill(row - 1, row, col - 1, col + 2, false);
     matrix.fill(row + 1, row + 2, col - 1, col + 2, false);
@@ -206,8 +203,7 @@ fn clear_rings(matrix: &mut Matrix, v: Version, centres: &[Module])
     requires square { IsSquare (side_of v) matrix.old }
     requires centres { centres.now ≡ alignment_places (side_of v) (centres_of v) }
     requires inside { All (IsInside (side_of v)) centres.now }
-    ensures { matrix.new ≡ square (side_of v) (λ r c. if is_alignment_light v r c then false
-        else colour matrix.old r c) }
+    ensures { IsOver (side_of v) (is_alignment_light v) (λ _ _. false) (colour matrix.old) matrix.new }
 {
     for centre in centres {
         clear_ring(matrix, centre.row, centre.col);

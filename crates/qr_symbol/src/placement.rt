@@ -7,11 +7,10 @@
 
 ghost use Rattle.std.specs.Prelude.{◌≡◌, ℕ, List, ◌*◌, ◌%◌, ◌+◌, ◌-◌, ◌<◌, ◌≤◌, ◌==◌, ◌&&◌, if◌then◌else◌, not, false, length, slice_index};
 ghost use Rattle.qr_layout.specs.Version.{side_of};
-ghost use Rattle.qr_layout.specs.Strips.{both_of, rows_from};
 ghost use Rattle.qr_bits.specs.Bits.{codeword_bit};
 ghost use Rattle.qr_matrix.specs.Grid.{square, colour, transposed, IsSquare};
 ghost use Rattle.qr_matrix.specs.BitRow.{has, has_bit};
-ghost use Rattle.qr_symbol.specs.Steps.Placement.{placed_colour, number_after, walked_colour, AreDrawn, AreLight, AreNext, AreWithin, IsDrawnAcross, IsCodewordBits, IsRegion, region_grid};
+ghost use Rattle.qr_symbol.specs.Steps.Placement.{placed_colour, number_after, number_at, row_of, walked_colour, AreDrawn, AreLight, AreNext, AreWithin, IsStripDrawn, IsCodewordBits, IsRegion, region_grid};
 
 use crate::mask::inverts;
 use crate::patterns::is_bit_set;
@@ -75,6 +74,7 @@ fn codeword_bits_at(codewords: &[u8], number: usize) -> CodewordBits
     }
 }
 
+#[tactic(auto, using(crate::proofs::Named::word_bits))]
 fn eight_bits(next: CodewordBits, number: usize) -> u8
     requires least { next.first ≤ number }
     requires most { number ≤ next.first + 56 }
@@ -150,6 +150,7 @@ pub(crate) fn columns_of(across: &Matrix, right: u8) -> Columns
     }
 }
 
+#[tactic(auto, using(crate::proofs::Named::strips))]
 fn with_light_region(columns: Columns, region: &Columns) -> Columns
     ensures right { (row : ℕ) → has result.right row ≡ (has columns.right row && not (has region.now.right row)) }
     ensures left { (row : ℕ) → has result.left row ≡ (has columns.left row && not (has region.now.left row)) }
@@ -162,6 +163,7 @@ fn with_light_region(columns: Columns, region: &Columns) -> Columns
 
 // `taken` is how many of `bits` were drawn before this module, from the highest on. Returns how many are drawn after
 // it.
+#[tactic(auto, using(crate::proofs::Named::word_bits))]
 fn draw_module(column: &mut BitRow, region: &BitRow, bits: u8, taken: u8, row: u8) -> u8
     requires row_in { row < 192 }
     requires taken { taken < 8 }
@@ -177,6 +179,16 @@ fn draw_module(column: &mut BitRow, region: &BitRow, bits: u8, taken: u8, row: u
     taken + 1
 }
 
+// The row with this index in a strip, where the bottom row of the symbol is `last`.
+#[inline(always)]
+pub(crate) fn row_at(strip: Strip, rank: u8, last: u8) -> u8
+    requires { rank ≤ last }
+    ensures row { result ≡ row_of (last + 1) strip rank }
+    ensures most { result ≤ last }
+{
+    if strip.upward { last - rank } else { rank }
+}
+
 // Draws module by module, which `draw_four` avoids for most rows of a large symbol. Returns how many bits were drawn.
 #[inline(never)]
 fn draw_rows(
@@ -188,27 +200,36 @@ fn draw_rows(
     passed: u8,
     count: u8,
 ) -> u8
-    requires within { AreWithin (side_of v) columns.old }
     requires region { IsRegion v strip.right region.now }
-    requires left_in { 1 ≤ strip.right }
-    requires right_in { strip.right < side_of v }
     requires rows_in { passed + count ≤ side_of v }
     requires few { count ≤ 4 }
-    requires light { AreLight (side_of v) strip passed region.now columns.old }
     ensures few { result ≤ 2 * count }
-    ensures within { AreWithin (side_of v) columns.new }
-    ensures light { AreLight (side_of v) strip (passed + count) region.now columns.new }
-    ensures drawn { (cw : List ℕ) → (number : ℕ) → AreNext cw number bits
-        → AreDrawn v cw strip passed count number columns.old (number + result) columns.new }
+    ensures number { (first : ℕ) → number_at v strip first (passed + count) ≡ number_at v strip first passed + result }
+    ensures drawn { (cw : List ℕ) → (first : ℕ) → AreNext cw (number_at v strip first passed) bits
+        → AreDrawn v cw strip first passed count columns.old columns.new }
 {
     let last = v.side() - 1;
     let mut taken = 0;
     for rank in passed..passed + count {
-        let row = if strip.upward { last - rank } else { rank };
+        let row = row_at(strip, rank, last);
         taken = draw_module(&mut columns.right, &region.right, bits, taken, row);
         taken = draw_module(&mut columns.left, &region.left, bits, taken, row);
     }
     taken
+}
+
+// The topmost of four rows of a strip.
+#[inline(always)]
+pub(crate) fn top_of(v: Version, strip: Strip, passed: u8) -> u8
+    requires { passed + 4 ≤ side_of v }
+    ensures top { result ≡ (if strip.upward then side_of v - 4 - passed else passed) }
+    ensures most { result + 4 ≤ side_of v }
+{
+    if strip.upward {
+        v.side() - 4 - passed
+    } else {
+        passed
+    }
 }
 
 // As `draw_rows`, but for four rows, and at once if all their eight modules are in the region. They are light before,
@@ -223,25 +244,17 @@ fn draw_four(
     strip: Strip,
     passed: u8,
 ) -> u8
-    requires within { AreWithin (side_of v) columns.old }
     requires region { IsRegion v strip.right region.now }
-    requires left_in { 1 ≤ strip.right }
-    requires right_in { strip.right < side_of v }
     requires rows_in { passed + 4 ≤ side_of v }
     requires whole { passed % 4 ≡ (if strip.upward then 1 else 0) }
     requires both { (row : ℕ) → has both.now row ≡ (has region.now.right row && has region.now.left row) }
     requires light { AreLight (side_of v) strip passed region.now columns.old }
     ensures few { result ≤ 8 }
-    ensures within { AreWithin (side_of v) columns.new }
-    ensures light { AreLight (side_of v) strip (passed + 4) region.now columns.new }
-    ensures drawn { (cw : List ℕ) → (number : ℕ) → AreNext cw number bits
-        → AreDrawn v cw strip passed 4 number columns.old (number + result) columns.new }
+    ensures number { (first : ℕ) → number_at v strip first (passed + 4) ≡ number_at v strip first passed + result }
+    ensures drawn { (cw : List ℕ) → (first : ℕ) → AreNext cw (number_at v strip first passed) bits
+        → AreDrawn v cw strip first passed 4 columns.old columns.new }
 {
-    let top = if strip.upward {
-        v.side() - 4 - passed
-    } else {
-        passed
-    };
+    let top = top_of(v, strip, passed);
     if both.four(top) == 15 {
         let split = SPLITS[usize::from(strip.upward)][usize::from(bits)];
         columns.right.set_four(top, split / 16);
@@ -264,12 +277,11 @@ fn draw_columns(
 ) -> usize
     requires within { AreWithin (side_of v) columns.old }
     requires region { IsRegion v strip.right region.now }
-    requires left_in { 1 ≤ strip.right }
-    requires right_in { strip.right < side_of v }
     requires few { first ≤ 29648 }
     requires light { AreLight (side_of v) strip 0 region.now columns.old }
     ensures within { AreWithin (side_of v) columns.new }
-    ensures drawn { AreDrawn v codewords.now strip 0 (side_of v) first columns.old result columns.new }
+    ensures number { result ≡ number_at v strip first (side_of v) }
+    ensures drawn { AreDrawn v codewords.now strip first 0 (side_of v) columns.old columns.new }
 {
     let last = v.side() - 1;
     let before = u8::from(strip.upward);
@@ -304,8 +316,7 @@ fn draw_strip(
     requires left_in { 1 ≤ strip.right }
     requires right_in { strip.right < side_of v }
     requires few { first ≤ 29648 }
-    ensures { IsDrawnAcross v codewords.now (both_of (rows_from (side_of v) strip 0 (side_of v))) first across.old
-        result across.new }
+    ensures { IsStripDrawn v codewords.now strip first across.old result across.new }
 {
     let Strip { right, upward } = strip;
     let within = columns_of(region, right);

@@ -64,6 +64,7 @@ fn format_of(matrix: &Matrix) -> Option<(Level, u8)>
 }
 
 // Transposes the square first: the columns of a strip are then rows, of which a word holds 64 modules.
+#[tactic(auto, using(crate::proofs::Named::readings))]
 fn read_plain(
     alloc: Global,
     version: Version,
@@ -122,6 +123,23 @@ pub fn read_codewords(
     read_plain(alloc, version, &plain, &region)
 }
 
+// Reads a symbol of this version, level and mask.
+fn read_with(
+    alloc: Global,
+    matrix: &Matrix,
+    version: Version,
+    level: Level,
+    mask: u8,
+) -> Result<Parsed, ReadFault>
+    requires side { matrix.now.side ≡ side_of version }
+    requires format { IsFormat matrix.now level mask }
+    ensures { MatchResult result (IsReading matrix.now) (IsUnread matrix.now) }
+{
+    let codewords = read_codewords(alloc, version, mask, matrix)?;
+    let message = deinterleave(alloc, version, level, &codewords)?;
+    Ok(parse(alloc, &message, version)?)
+}
+
 /// Reads a symbol, without correcting errors (ISO/IEC 18004:2015, 12). The number of rows gives the version; level and
 /// mask are read from the format information beside the top left finder pattern alone. Function patterns, the dark
 /// module, the second copy, the version information and the remainder bits are ignored. Segments may have any of the
@@ -144,7 +162,5 @@ pub fn read_symbol(alloc: Global, matrix: &Matrix) -> Result<Parsed, ReadFault>
     let Some((level, mask)) = format_of(matrix) else {
         return Err(ReadFault::Format);
     };
-    let codewords = read_codewords(alloc, version, mask, matrix)?;
-    let message = deinterleave(alloc, version, level, &codewords)?;
-    Ok(parse(alloc, &message, version)?)
+    read_with(alloc, matrix, version, level, mask)
 }

@@ -6,13 +6,11 @@ pub mod KeptPlaceLemmas
 pub mod PlacementLemmas
 -- Drawing along the walk, where each bit is masked as it is placed.
 pub mod WalkLemmas
--- Drawing in the transposed square, where the two columns of a strip are rows.
-pub mod AcrossLemmas
 -- The columns of a strip, held apart from the square in which they are two rows.
 pub mod ColumnLemmas
+-- Drawing in the transposed square, where the two columns of a strip are rows.
+pub mod AcrossLemmas
 -- The table that splits eight bits into those of the two columns of a strip.
 pub mod SplitLemmas
 -- The modules of a strip that are still to be drawn, which are light.
 pub mod LightLemmas
--- Modules that are drawn do not depend on their colour before.
-pub mod OverLemmas

@@ -1,11 +1,12 @@
 -- The colours of modules outside the region after each step of drawing. `format` and `version` are the format and the
 -- version information as numbers.
-use Rattle.std.specs.Prelude.{ℕ, ◌-◌, ◌%◌, ◌==◌, ◌&&◌, ◌||◌, nat_le, nat_lt, if◌then◌else◌, Bool, false}
+use Rattle.std.specs.Prelude.{◌≡◌, ◌<◌, ℕ, ◌+◌, ◌-◌, ◌%◌, ◌==◌, ◌&&◌, ◌||◌, nat_le, nat_lt, if◌then◌else◌, Bool, false}
 use Rattle.qr_layout.specs.declared.role.Role.{Role}
 use Rattle.qr_layout.specs.declared.role.Role.TheVariants.{Fixed, FormatBit, VersionBit, Region}
 use Rattle.qr_layout.specs.Format.{version_word_of}
 use Rattle.qr_layout.specs.Role.{role_of}
 use Rattle.qr_matrix.specs.BitRow.{has_bit}
+use Rattle.qr_matrix.specs.Grid.{Grid, colour, IsSquare}
 
 -- The colour by the role of the module; the region counts as light.
 unfoldable pub fixed_colour : ℕ → ℕ → Role → Bool
@@ -17,6 +18,15 @@ fixed_colour format version Region = false
 -- As `fixed_colour`, with the role that the place has in version `v`.
 abbrev pub paint_of : ℕ → ℕ → ℕ → ℕ → Bool
 paint_of v format r c = fixed_colour format (version_word_of v) (role_of v r c)
+
+-- A square has the colours `paint` at the places that pass the test, and `other` at all other places.
+pub record IsOver (s : ℕ) (test paint other : ℕ → ℕ → Bool) (g : Grid) : Type 0 where
+  pub square : IsSquare s g
+  pub colours : (r c : ℕ) → r < s → c < s → colour g r c ≡ (if test r c then paint r c else other r c)
+
+-- The place is in the eight by eight modules from row `top` and column `left` on.
+abbrev pub is_in_block : ℕ → ℕ → ℕ → ℕ → Bool
+is_in_block top left r c = nat_le top r && nat_lt r (top + 8) && nat_le left c && nat_lt c (left + 8)
 
 -- The format information in which only bit 7 is 1. The transposed dark module lies on a module of this bit, which is
 -- dark too, and all other bits are light, so transposing changes nothing outside the region.

@@ -4,18 +4,17 @@
 -- `x`, `y`, `region`, `before` and `after`, where they are columns, are the two columns of a strip, as rows of a
 -- transposed square. Exactly the bits of the region are set in `region`. `s` is the side, and the rows of a strip are
 -- counted in the direction in which it is filled.
-use Rattle.std.specs.Prelude.{◌≡◌, ◌<◌, ◌≤◌, ℕ, ◌+◌, ◌-◌, ◌&&◌, Bool, false, if◌then◌else◌, List, [], ◌∷◌}
+use Rattle.std.specs.Prelude.{◌≡◌, ◌<◌, ◌≤◌, ℕ, ◌+◌, ◌-◌, ◌&&◌, Bool, false, if◌then◌else◌, List}
+use Prim.Native.Nat.{zero, suc}
 use Rattle.qr_layout.specs.declared.level.Level.{Level}
-use Rattle.qr_layout.specs.declared.region.Module.{Module}
 use Rattle.qr_layout.specs.declared.strips.Strip.{Strip}
 use Rattle.qr_layout.specs.Version.{side_of}
 use Rattle.qr_layout.specs.Format.{format_word_of}
 use Rattle.qr_layout.specs.Order.{number_of}
 use Rattle.qr_layout.specs.Region.{is_in_region}
 use Rattle.qr_layout.specs.Role.{role_of}
-use Rattle.qr_layout.specs.Strips.{both_of, rows_from}
 use Rattle.qr_bits.specs.Bits.{codeword_bit}
-use Rattle.qr_matrix.specs.Grid.{Grid, square, colour, painted, transposed, with_row, IsSquare}
+use Rattle.qr_matrix.specs.Grid.{Grid, square, colour, IsSquare}
 use Rattle.qr_matrix.specs.BitRow.{has, has_bit}
 use Rattle.qr_symbol.specs.declared.placement.CodewordBits.{CodewordBits}
 use Rattle.qr_symbol.specs.declared.placement.Columns.{Columns}
@@ -33,24 +32,19 @@ unfoldable pub walked_colour : ℕ → List ℕ → ℕ → (ℕ → ℕ → Boo
 walked_colour v cw mask other r c =
     if is_in_region v r c then inverted (inverts mask r c) (codeword_bit cw (number_of v (record { row = r; col = c }))) else other r c
 
--- Draws bit `number` in one module, if the module is in the region.
-abbrev pub placed_if : Bool → List ℕ → ℕ → Grid → ℕ → ℕ → Grid
-placed_if is_in cw number g row col = if is_in then painted g row col (codeword_bit cw number) else g
-
 -- The number of the next bit after one module: one more than `number` if the module is in the region.
 abbrev pub number_after : Bool → ℕ → ℕ
 number_after is_in number = if is_in then number + 1 else number
 
--- The number of the next bit after the modules `ms`: each in the region takes one bit.
-abbrev pub number_along : ℕ → List Module → ℕ → ℕ
-number_along v [] number = number
-number_along v (m ∷ ms) number = number_along v ms (number_after (is_in_region v m.row m.col) number)
+-- The row of the symbol that has the index `rank` in the strip.
+abbrev pub row_of : ℕ → Strip → ℕ → ℕ
+row_of s x rank = if x.upward then s - 1 - rank else rank
 
--- Draws the modules `ms` in order, those in the region with the bits from `number` on.
-abbrev pub placed_along : ℕ → List ℕ → List Module → ℕ → Grid → Grid
-placed_along v cw [] number g = g
-placed_along v cw (m ∷ ms) number g =
-    placed_along v cw ms (number_after (is_in_region v m.row m.col) number) (placed_if (is_in_region v m.row m.col) cw number g m.row m.col)
+-- The number of the next bit after the first `k` rows of the strip, whose first bit has the number `first`.
+abbrev pub number_at : ℕ → Strip → ℕ → ℕ → ℕ
+number_at v x first zero = first
+number_at v x first (suc k) =
+    number_after (is_in_region v (row_of (side_of v) x k) (x.right - 1)) (number_after (is_in_region v (row_of (side_of v) x k) x.right) (number_at v x first k))
 
 -- `w.bits` has the 64 bits from `w.first` on, the first as the highest.
 abbrev pub IsCodewordBits : List ℕ → CodewordBits → Type 0
@@ -60,24 +54,9 @@ IsCodewordBits cw w = (k : ℕ) → k < 64 → has_bit w.bits (63 - k) ≡ codew
 abbrev pub AreNext : List ℕ → ℕ → ℕ → Type 0
 AreNext cw number bits = (k : ℕ) → k < 8 → has_bit bits (7 - k) ≡ codeword_bit cw (number + k)
 
--- Drawing those of the modules `ms` that are in the region, with the bits from `first` to `next - 1`, changes the
--- transposed square `before` to `after`. `ms` has the rows and columns of the symbol.
-pub record IsDrawnAcross (v : ℕ) (cw : List ℕ) (ms : List Module) (first : ℕ) (before : Grid) (next : ℕ) (after : Grid) : Type 0 where
-  pub number : next ≡ number_along v ms first
-  pub placed : transposed after ≡ placed_along v cw ms first (transposed before)
-  pub square : IsSquare (side_of v) after
-
--- The transposed square in which `x` replaces the strip with the right column `right`.
-abbrev pub with_columns : Grid → ℕ → Columns → Grid
-with_columns g right x = with_row (with_row g right (has x.right)) (right - 1) (has x.left)
-
 -- No bit outside the square is set.
 abbrev pub AreWithin : ℕ → Columns → Type 0
 AreWithin s x = (row : ℕ) → s ≤ row → (has x.right row ≡ false) × (has x.left row ≡ false)
-
--- The row of the symbol that has the index `rank` in the strip.
-abbrev pub row_of : ℕ → Strip → ℕ → ℕ
-row_of s x rank = if x.upward then s - 1 - rank else rank
 
 -- From row `k` of the strip on, the region is light in the columns `y`.
 abbrev pub AreLight : ℕ → Strip → ℕ → Columns → Columns → Type 0
@@ -88,11 +67,26 @@ AreLight s x k region y = (rank : ℕ) → k ≤ rank → rank < s
 abbrev pub IsRegion : ℕ → ℕ → Columns → Type 0
 IsRegion v right x = (row : ℕ) → row < side_of v → (has x.right row ≡ is_in_region v row right) × (has x.left row ≡ is_in_region v row (right - 1))
 
--- As `IsDrawnAcross`, for `n` rows of the strip from row `k` on: its columns change from `before` to `after`, whatever
--- colours are outside the strip.
-abbrev pub AreDrawn : ℕ → List ℕ → Strip → ℕ → ℕ → ℕ → Columns → ℕ → Columns → Type 0
-AreDrawn v cw strip k n first before next after = (g : Grid) → g.side ≡ side_of v
-    → IsDrawnAcross v cw (both_of (rows_from (side_of v) strip k n)) first (with_columns g strip.right before) next (with_columns g strip.right after)
+-- Drawing row `k` of the strip changes the colours of its two modules from `right` and `left` to `right'` and `left'`.
+-- A module in the region gets its bit; the first bit of the strip has the number `first`.
+abbrev pub IsRowDrawn : ℕ → List ℕ → Strip → ℕ → ℕ → (right left right' left' : Bool) → Type 0
+IsRowDrawn v cw x first k right left right' left' =
+    (right' ≡ (if is_in_region v (row_of (side_of v) x k) x.right then codeword_bit cw (number_at v x first k) else right))
+    × (left' ≡ (if is_in_region v (row_of (side_of v) x k) (x.right - 1) then codeword_bit cw (number_after (is_in_region v (row_of (side_of v) x k) x.right) (number_at v x first k)) else left))
+
+-- Drawing `n` rows of the strip from row `k` on changes its columns from `before` to `after`.
+pub record AreDrawn (v : ℕ) (cw : List ℕ) (x : Strip) (first k n : ℕ) (before after : Columns) : Type 0 where
+  pub drawn : (j : ℕ) → k ≤ j → j < k + n
+      → IsRowDrawn v cw x first j (has before.right (row_of (side_of v) x j)) (has before.left (row_of (side_of v) x j)) (has after.right (row_of (side_of v) x j)) (has after.left (row_of (side_of v) x j))
+  pub kept : (row : ℕ) → ((j : ℕ) → k ≤ j → j < k + n → row_of (side_of v) x j ≡ row → ⊥) → (has after.right row ≡ has before.right row) × (has after.left row ≡ has before.left row)
+
+-- Drawing the strip changes the transposed square `before` to `after`; the bit after it has the number `next`.
+pub record IsStripDrawn (v : ℕ) (cw : List ℕ) (x : Strip) (first : ℕ) (before : Grid) (next : ℕ) (after : Grid) : Type 0 where
+  pub number : next ≡ number_at v x first (side_of v)
+  pub square : IsSquare (side_of v) after
+  pub drawn : (j : ℕ) → j < side_of v
+      → IsRowDrawn v cw x first j (colour before x.right (row_of (side_of v) x j)) (colour before (x.right - 1) (row_of (side_of v) x j)) (colour after x.right (row_of (side_of v) x j)) (colour after (x.right - 1) (row_of (side_of v) x j))
+  pub kept : (row col : ℕ) → row < side_of v → col < side_of v → (col ≡ x.right → ⊥) → (col ≡ x.right - 1 → ⊥) → colour after col row ≡ colour before col row
 
 -- The colour after `plain` was masked where `region` is dark, and the format information, a number, was drawn.
 unfoldable pub masked_colour : ℕ → ℕ → ℕ → Grid → Grid → ℕ → ℕ → Bool

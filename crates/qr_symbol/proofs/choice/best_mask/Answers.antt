@@ -1,6 +1,5 @@
 use Rattle.std.proofs.Common.{◌≡◌, ◌≤◌, ◌<◌, ℕ, ◌+◌, sym, ◌∙◌, ap, subst, arith}
-use Rattle.qr_symbol.specs.Choice.{IsFirstLeast}
-use Rattle.qr_symbol.specs.Steps.Placement.{masked_penalty}
+use Rattle.qr_symbol.specs.{Choice.IsFirstLeast, Steps.Placement.masked_penalty}
 use Rattle.qr_symbol.proofs.lemmas.choice.ChoiceLemmas.{least-start, least-better, least-kept}
 use Rattle.qr_symbol.proofs.choice.best_mask.Goals as goal
 use Rattle.qr_symbol.proofs.choice.best_mask.Goals.{then-cost-least, else-cost-least}

@@ -1,8 +1,6 @@
 use Rattle.std.proofs.Common.{◌≡◌, ◌++◌, map}
 use Rattle.std.specs.List.{All}
-use Rattle.qr_layout.specs.Order.{IsOrder, in_region_of}
-use Rattle.qr_layout.specs.Strips.{places_of}
-use Rattle.qr_layout.specs.Version.{side_of}
+use Rattle.qr_layout.specs.{Order.IsOrder, Order.in_region_of, Strips.places_of, Version.side_of}
 use Rattle.qr_layout.proofs.Facts.{Inside}
 use Rattle.qr_symbol.specs.Steps.Collecting.{colour_across}
 use Rattle.qr_symbol.proofs.collecting.collect_codewords.Given as goal

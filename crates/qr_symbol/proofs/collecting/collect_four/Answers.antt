@@ -1,17 +1,12 @@
-use Rattle.std.proofs.Common.{◌≡◌, ◌+◌, ◌-◌, ◌<◌, ℕ, ◌++◌, true, cond, eqb, ltb, ◌&&◌, ap, sym, subst, ◌∙◌, arith}
-use Rattle.std.proofs.lemmas.Bool.Decides.{nat_tests}
+use Rattle.std.proofs.Common.{◌≡◌, ◌+◌, ◌<◌, ℕ, ◌++◌, true, eqb, ◌&&◌, ap, sym, subst, ◌∙◌, arith}
 use Rattle.std.specs.Prelude.{OnOk}
 use Rattle.qr_bits.proofs.Facts.{bool_byte-bit}
 use Rattle.qr_layout.specs.Version.{side_of}
 use Rattle.qr_matrix.specs.BitRow.{has, has_bit}
-use Rattle.qr_matrix.proofs.Facts.{has_bit-ones, &&-left, &&-right}
+use Rattle.qr_matrix.proofs.Facts.{&&-left, &&-right}
 use Rattle.qr_symbol.proofs.lemmas.collecting.SpreadLemmas.{four-read, joined-small}
+use Rattle.qr_symbol.proofs.lemmas.placement.LightLemmas.{four-set}
 use Rattle.qr_symbol.proofs.collecting.collect_four.Goals as goal
-use Rattle.qr_symbol.proofs.collecting.collect_four.Goals.{then-strip, else-strip}
-
--- all four bits of the number 15 are 1
-four-set : (n j : ℕ) → n ≡ 15 → j < 4 → has_bit n j ≡ true
-four-set n j e l = (let t : ltb j 4 ≡ true = grind (arith, nat_tests) in ap (λ z. has_bit z j) e ∙ (has_bit-ones 4 j ∙ t))
 
 pub overflow_add-right : goal.overflow_add-right
 overflow_add-right c =
@@ -23,17 +18,14 @@ returns-then-four-eq15 c =
     let s = side_of c.args.v in
     let x = c.args.strip in
     let k = c.args.passed in
-    let top = c.if-strip.top in
+    let top = c.top_of-top.result in
     let r = c.args.region.now in
     let y = c.args.columns.now in
     let a = c.from-then-four-eq15 in
     let b = c.from-then-four-eq15-2 in
     let up : c.from.result < 2 = omega (arith, c.from.ensures, (bool_byte-bit x.upward).0) in
     let direction : eqb c.from.result 1 ≡ x.upward = ap (λ z. eqb z 1) c.from.ensures ∙ (bool_byte-bit x.upward).1 in
-    let is-top : top ≡ cond x.upward (s - 4 - k) k = elim c.if-strip.branch [
-      | then-strip w ↦ w.top-is ∙ (ap (λ z. z - 4 - k) w.side.ensures.value ∙ sym (ap (λ b. cond b (s - 4 - k) k) w.if-strip.true))
-      | else-strip w ↦ w.top-is ∙ sym (ap (λ b. cond b (s - 4 - k) k) w.if-strip.false)
-    ] in
+    let is-top = c.top_of-top.ensures.top in
     let both : (j : ℕ) → j < 4 → (has r.right (top + j) && has r.left (top + j)) ≡ true = λ j l.
     sym (c.requires.both (top + j)) ∙ (sym (c.four.ensures.bits j l) ∙ four-set c.four.result j c.if-four-eq15.true l) in
     let bits = four-read s c.from.result x r y k top a.result b.result up (omega (arith, a.ensures, c.four-then-four-eq15.ensures.small)) (omega (arith, b.ensures, c.four-then-four-eq15-2.ensures.small)) direction c.requires.rows_in is-top

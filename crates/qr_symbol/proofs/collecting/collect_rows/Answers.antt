@@ -1,9 +1,8 @@
-use Rattle.std.proofs.Common.{◌≡◌, ◌+◌, ◌-◌, ◌++◌, cond, sym, ap, ◌∙◌, arith}
+use Rattle.std.proofs.Common.{◌≡◌, ◌+◌, ◌-◌, ◌++◌, ap, ◌∙◌, arith}
 use Rattle.qr_layout.specs.Version.{side_of}
 use Rattle.qr_symbol.specs.Steps.Collecting.{bits_in_rows}
 use Rattle.qr_symbol.proofs.lemmas.collecting.CollectingLemmas.{none-read, row-read, rows-read}
 use Rattle.qr_symbol.proofs.collecting.collect_rows.Goals as goal
-use Rattle.qr_symbol.proofs.collecting.collect_rows.Goals.{then-strip, else-strip}
 
 pub loop-rank-init : goal.loop-rank-init
 loop-rank-init c =
@@ -20,12 +19,9 @@ loop-rank-preserved c =
     let i = c.loop-rank.invariant in
     let k = c.loop-rank.rank in
     let p = c.args.passed in
-    let row = c.if-strip.row in
-    let side = c.side-last.ensures.value in
-    let r : row ≡ cond x.upward (s - 1 - k) k = elim c.if-strip.branch [
-      | then-strip w ↦ w.row-is ∙ (ap (λ z. z - 1 - k) side ∙ sym (ap (λ b. cond b (s - 1 - k) k) w.if-strip.true))
-      | else-strip w ↦ w.row-is ∙ sym (ap (λ b. cond b (s - 1 - k) k) w.if-strip.false)
-    ] in
+    let row = c.row_at-row.result in
+    let side : c.side-last.result - 1 + 1 ≡ s = omega (arith, c.side-last.ensures.value) in
+    let r = rw side at c.row_at-row.ensures.row in
     record {
       from = omega (arith, i.from);
       bits = rows-read s x c.args.region.now c.args.columns.now p (k - p) 1 k (k + 1 - p) c.args.bits.now c.loop-rank.bits c.collect_module-in-loop-rank.new.bits (omega (arith, i.from)) (omega (arith, i.from)) i.bits

@@ -1,8 +1,6 @@
-use Rattle.std.proofs.Common.{◌≡◌, ◌≤◌, ◌+◌, ◌∙◌, length, sym, ap, subst, arith}
+use Rattle.std.proofs.Common.{◌≡◌, ◌+◌, ◌∙◌, length, sym, ap, subst, arith}
 use Rattle.std.specs.Prelude.{IfOk}
-use Rattle.qr_layout.specs.declared.blocks.Blocks.{Blocks}
-use Rattle.qr_layout.specs.Blocks.{data_codewords_of}
-use Rattle.qr_layout.proofs.Facts.{blocks-sound}
+use Rattle.qr_layout.specs.{declared.blocks.Blocks.Blocks, Blocks.data_codewords_of}
 use Rattle.qr_symbol.specs.Interleaving.{codeword_count, data_sizes, correction_sizes, IsFinalMessage, IsInterleaved}
 use Rattle.qr_symbol.proofs.lemmas.fault.ExactLemmas.{check-exactly, ok-both}
 use Rattle.qr_symbol.proofs.lemmas.interleaving.MessageLemmas.{data-sizes-whole, sizes-whole, ok-also}
@@ -11,12 +9,6 @@ use Rattle.qr_symbol.proofs.interleaving.deinterleave.Goals as goal
 pub deinterleave_blocks-requires-clause-whole : goal.deinterleave_blocks-requires-clause-whole
 deinterleave_blocks-requires-clause-whole c =
     c.requires.whole ∙ (sym (sizes-whole c.args.version c.args.level (omega arith) (omega arith)) ∙ ap (λ (b : Blocks). codeword_count (data_sizes b) + codeword_count (correction_sizes b)) (sym c.blocks-2.ensures))
-
-pub deinterleave_blocks-requires-clause-least : goal.deinterleave_blocks-requires-clause-least
-deinterleave_blocks-requires-clause-least c = let w = (blocks-sound c.args.level c.args.version (omega arith) (omega arith)).correction_least in subst (λ (b : Blocks). 1 ≤ b.ec_len) (sym c.blocks-2.ensures) w
-
-pub deinterleave_blocks-requires-clause-most : goal.deinterleave_blocks-requires-clause-most
-deinterleave_blocks-requires-clause-most c = let w = (blocks-sound c.args.level c.args.version (omega arith) (omega arith)).correction_most in subst (λ (b : Blocks). b.ec_len ≤ 30) (sym c.blocks-2.ensures) w
 
 pub returns-clause-many : goal.returns-clause-many
 returns-clause-many c =

@@ -1,9 +1,8 @@
 use Rattle.std.proofs.Common.{ℕ, List, ◌∙◌, subst}
-use Rattle.std.proofs.lemmas.Bool.Decides.{Decides-eqb}
-use Rattle.std.proofs.lemmas.Slice.Eq.{slice_eq-Decides}
+use Rattle.std.proofs.lemmas.{Bool.Decides.Decides-eqb, Slice.Eq.slice_eq-Decides}
 use Rattle.qr_symbol.specs.declared.interleaving.BlockSizes.{BlockSizes}
 use Rattle.qr_symbol.specs.Interleaving.{data_sizes, IsFinalMessage, IsGathered}
-use Rattle.qr_symbol.proofs.lemmas.interleaving.GatherLemmas.{none-fits}
+use Rattle.qr_symbol.proofs.lemmas.interleaving.MessageLemmas.{none-fits}
 use Rattle.qr_symbol.proofs.interleaving.deinterleave_blocks.Goals as goal
 
 pub returns-else-eq-clause-check : goal.returns-else-eq-clause-check

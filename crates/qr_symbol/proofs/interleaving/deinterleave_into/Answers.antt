@@ -1,7 +1,6 @@
 use Rattle.std.proofs.Common.{ℕ, ◌+◌, Vec, Global, sym, ap, subst, arith}
 use Rattle.qr_symbol.specs.Interleaving.{IsPosition}
-use Rattle.qr_symbol.proofs.lemmas.interleaving.PositionLemmas.{position}
-use Rattle.qr_symbol.proofs.lemmas.interleaving.RankLemmas.{rank-in}
+use Rattle.qr_symbol.proofs.lemmas.interleaving.{PositionLemmas.position, RankLemmas.rank-in}
 use Rattle.qr_symbol.proofs.lemmas.interleaving.GatherLemmas.{GatheredBefore, gather-push, gather-pass, gather-row, gather-end}
 use Rattle.qr_symbol.proofs.interleaving.deinterleave_into.Goals as goal
 use Rattle.qr_symbol.proofs.interleaving.deinterleave_into.Goals.{then-place-len, else-place-len}

@@ -1,7 +1,5 @@
 use Rattle.std.proofs.Common.{take}
-use Rattle.qr_symbol.specs.Series.{squares_of}
-use Rattle.qr_symbol.specs.Reading.{IsReading}
-use Rattle.qr_symbol.specs.Joining.{AreReadBy}
+use Rattle.qr_symbol.specs.{Series.squares_of, Reading.IsReading, Joining.AreReadBy}
 use Rattle.qr_symbol.proofs.joining.read_all.Given as goal
 
 abbrev pub invariant-loop-symbol : goal.invariant-loop-symbol

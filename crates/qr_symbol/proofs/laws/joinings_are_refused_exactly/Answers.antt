@@ -1,6 +1,5 @@
 use Rattle.qr_symbol.specs.Joining.{IsJoined, IsUnjoined}
-use Rattle.qr_symbol.specs.Reading.{IsReading, IsUnread}
-use Rattle.qr_symbol.specs.Series.{squares_of}
+use Rattle.qr_symbol.specs.{Reading.IsReading, Reading.IsUnread, Series.squares_of}
 use Rattle.qr_symbol.proofs.lemmas.joining.JoiningLemmas.{joined-refused, unjoined-one}
 use Rattle.qr_symbol.proofs.lemmas.reading.RefusalLemmas.{exactly, read-refused, refused-one}
 use Rattle.qr_symbol.proofs.lemmas.reading.RoundTripLemmas.{reading-one}

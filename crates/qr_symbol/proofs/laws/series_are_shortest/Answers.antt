@@ -1,6 +1,5 @@
 use Rattle.qr_symbol.proofs.lemmas.series.LongLemmas.{none-shorter}
-use Rattle.qr_symbol.proofs.lemmas.series.PartLemmas.{needs-parts, parts-fit}
-use Rattle.qr_symbol.proofs.lemmas.series.SizeLemmas.{series-shortest}
+use Rattle.qr_symbol.proofs.lemmas.series.{PartLemmas.needs-parts, PartLemmas.parts-fit, SizeLemmas.series-shortest}
 use Rattle.qr_symbol.proofs.laws.series_are_shortest.Goals as goal
 
 pub returns : goal.returns

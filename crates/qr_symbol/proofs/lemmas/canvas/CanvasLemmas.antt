@@ -1,14 +1,10 @@
 -- The function patterns of a canvas, which stay while the codewords of one symbol after another are drawn.
 use Rattle.std.proofs.Common.{◌≡◌, ℕ, ◌<◌, ◌≤◌, Bool, true, false, cond, eqb, List, refl, sym, ◌∙◌, ap, arith}
-use Rattle.qr_layout.specs.Format.{version_word_of}
-use Rattle.qr_layout.specs.Region.{is_in_region}
-use Rattle.qr_layout.specs.Version.{side_of}
+use Rattle.qr_layout.specs.{Format.version_word_of, Region.is_in_region, Version.side_of}
 use Rattle.qr_layout.proofs.Facts.{below, below-at, region-symmetric, role-symmetric}
-use Rattle.qr_matrix.specs.Grid.{Grid, square, colour, transposed}
+use Rattle.qr_matrix.specs.{Grid.Grid, Grid.square, Grid.colour, Grid.transposed, BitRow.has_bit}
 use Rattle.qr_matrix.proofs.Facts.{square-same, colour-square, colour-transposed}
-use Rattle.qr_matrix.specs.BitRow.{has_bit}
-use Rattle.qr_symbol.specs.Steps.Canvas.{HasPatterns}
-use Rattle.qr_symbol.specs.Steps.Placement.{placed_colour, plain_grid}
+use Rattle.qr_symbol.specs.Steps.{Canvas.HasPatterns, Placement.placed_colour, Placement.plain_grid}
 use Rattle.qr_symbol.specs.Steps.Patterns.{fixed_colour, paint_of, symmetric_format}
 use Rattle.qr_symbol.proofs.lemmas.placement.PlacementLemmas.{by_test, inside, outside, square-is}
 

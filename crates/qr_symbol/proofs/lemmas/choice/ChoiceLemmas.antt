@@ -1,13 +1,10 @@
 -- The mask of the least penalty, found by comparing one mask after another.
 use Rattle.std.proofs.Common.{◌≡◌, ℕ, ◌+◌, ◌<◌, ◌≤◌, ◌∙◌, inl, inr, List, ap, subst, arith}
 use Rattle.std.proofs.lemmas.Bool.{cases_lt}
-use Rattle.qr_layout.specs.declared.level.Level.{Level}
-use Rattle.qr_layout.specs.Version.{side_of}
-use Rattle.qr_matrix.specs.Grid.{Grid, colour}
+use Rattle.qr_layout.specs.{declared.level.Level.Level, Version.side_of}
+use Rattle.qr_matrix.specs.{Grid.Grid, Grid.colour, Penalty.penalty_of}
 use Rattle.qr_symbol.specs.Choice.{IsFirstLeast, IsMask, mask_penalty}
-use Rattle.qr_matrix.specs.Penalty.{penalty_of}
-use Rattle.qr_symbol.specs.declared.canvas.Canvas.{Canvas}
-use Rattle.qr_symbol.specs.Symbol.{grid_of}
+use Rattle.qr_symbol.specs.{declared.canvas.Canvas.Canvas, Symbol.grid_of}
 use Rattle.qr_symbol.specs.Steps.Placement.{masked_grid, masked_penalty, region_grid, plain_grid}
 use Rattle.qr_symbol.proofs.lemmas.placement.PlacementLemmas.{masked-all}
 

@@ -1,58 +1,33 @@
 -- The bits of a strip, row by row, are those of the strip's places in the encoding region, in their order.
-use Rattle.std.proofs.Common.{◌≡◌, ℕ, zero, suc, ◌+◌, ◌-◌, ◌<◌, ◌≤◌, Bool, true, false, cond, List, [], ◌∷◌, ◌++◌, map, refl, sym, ◌∙◌, ap, append_assoc, append-nil, arith}
+use Rattle.std.proofs.Common.{◌≡◌, ℕ, zero, suc, ◌+◌, ◌-◌, ◌<◌, ◌≤◌, Bool, true, false, cond, List, [], ◌∷◌, ◌++◌, map, refl, append_assoc, append-nil, arith}
 use Rattle.std.proofs.lemmas.List.{map-append}
-use Rattle.qr_layout.specs.declared.region.Module.{Module}
-use Rattle.qr_layout.specs.declared.strips.Strip.{Strip}
-use Rattle.qr_layout.specs.Order.{in_region_of}
-use Rattle.qr_layout.specs.Region.{is_in_region}
-use Rattle.qr_layout.specs.Strips.{both_of, rows_from, places_of}
-use Rattle.qr_matrix.specs.BitRow.{has}
-use Rattle.qr_matrix.specs.Grid.{Grid, colour}
-use Rattle.qr_symbol.specs.declared.placement.Columns.{Columns}
-use Rattle.qr_symbol.specs.Steps.Placement.{row_of}
-use Rattle.qr_symbol.specs.Steps.Collecting.{bit_if, bits_in_row, bits_in_rows, colour_across}
+use Rattle.qr_layout.specs.declared.{region.Module.Module, strips.Strip.Strip}
+use Rattle.qr_layout.specs.{Order.in_region_of, Region.is_in_region, Strips.both_of, Strips.rows_from, Strips.places_of}
+use Rattle.qr_matrix.specs.{BitRow.has, Grid.Grid, Grid.colour}
+use Rattle.qr_symbol.specs.{declared.placement.Columns.Columns, Steps.Placement.row_of}
+use Rattle.qr_symbol.specs.Steps.Collecting.{bit_if, bits_in_rows, colour_across}
 use Rattle.qr_symbol.proofs.lemmas.placement.PlacementLemmas.{at}
 use Rattle.qr_symbol.proofs.lemmas.placement.KeptPlaceLemmas.{kept-append, places-push}
 
 -- the bits of n + m rows are those of the first n rows, followed by those of m more
 rows-append : (s : ℕ) (x : Strip) (r y : Columns) (k n m : ℕ) → bits_in_rows s x r y k (n + m) ≡ bits_in_rows s x r y k n ++ bits_in_rows s x r y (k + n) m
-rows-append s x r y k zero m =
-    let e : k ≡ k + 0 = omega arith in
-    let f : 0 + m ≡ m = omega arith in
-    ap (λ z. bits_in_rows s x r y k z) f ∙ ap (λ z. bits_in_rows s x r y z m) e
+rows-append s x r y k zero m = search arith
 rows-append s x r y k (suc n) m =
     let e : suc n + m ≡ suc (n + m) = omega arith in
-    let f : k + 1 + n ≡ k + suc n = omega arith in
-    let row = bits_in_row r y (row_of s x k) in
-    ap (λ z. bits_in_rows s x r y k z) e
-    ∙ (ap (λ (z : List Bool). row ++ z) (rows-append s x r y (k + 1) n m)
-    ∙ (sym (append_assoc row (bits_in_rows s x r y (k + 1) n) (bits_in_rows s x r y (k + 1 + n) m))
-    ∙ ap (λ z. (row ++ bits_in_rows s x r y (k + 1) n) ++ bits_in_rows s x r y z m) f))
+    search (arith, append_assoc, rows-append s x r y (k + 1) n m)
 
 -- after n rows, m more rows are read
 pub rows-read : (s : ℕ) (x : Strip) (r y : Columns) (k n m h j : ℕ) (a b c : List Bool) → h ≡ k + n → j ≡ n + m → b ≡ a ++ bits_in_rows s x r y k n → c ≡ b ++ bits_in_rows s x r y h m → c ≡ a ++ bits_in_rows s x r y k j
-rows-read s x r y k n m h j a b c e f p q =
-    let one = bits_in_rows s x r y k n in
-    let two = bits_in_rows s x r y (k + n) m in
-    q
-    ∙ (ap (λ z. b ++ bits_in_rows s x r y z m) e
-    ∙ (ap (λ (z : List Bool). z ++ two) p
-    ∙ (append_assoc a one two ∙ ap (λ (z : List Bool). a ++ z) (sym (rows-append s x r y k n m) ∙ ap (λ z. bits_in_rows s x r y k z) (sym f)))))
+rows-read s x r y k n m h j a b c e f p q = search (arith, append_assoc, rows-append)
 
 -- one row is read, the module of the right column first
 pub row-read : (s : ℕ) (x : Strip) (r y : Columns) (k row : ℕ) (a b c : List Bool) → row ≡ row_of s x k → b ≡ a ++ bit_if (has r.right row) (has y.right row) → c ≡ b ++ bit_if (has r.left row) (has y.left row)
     → c ≡ a ++ bits_in_rows s x r y k 1
-row-read s x r y k row a b c e p q =
-    let right = bit_if (has r.right row) (has y.right row) in
-    let left = bit_if (has r.left row) (has y.left row) in
-    q
-    ∙ (ap (λ (z : List Bool). z ++ left) p
-    ∙ (append_assoc a right left
-    ∙ ap (λ (z : List Bool). a ++ z) (sym (append-nil (right ++ left)) ∙ ap (λ z. bits_in_row r y z ++ []) e)))
+row-read s x r y k row a b c e p q = search (arith, append_assoc, append-nil)
 
 -- no row is read
 pub none-read : (s : ℕ) (x : Strip) (r y : Columns) (k n : ℕ) (a : List Bool) → n ≡ 0 → a ≡ a ++ bits_in_rows s x r y k n
-none-read s x r y k n a e = sym (append-nil a) ∙ ap (λ z. a ++ bits_in_rows s x r y k z) (sym e)
+none-read s x r y k n a e = cc (append-nil a)
 
 -- the bits of a place and of further places
 kept-bit : (t : Bool) (f : Module → Bool) (m : Module) (ms : List Module) → map f (cond t (m ∷ ms) ms) ≡ bit_if t (f m) ++ map f ms
@@ -66,21 +41,7 @@ pub strip-bits : (v s : ℕ) (g : Grid) (x : Strip) (r y : Columns) (k n : ℕ) 
     → bits_in_rows s x r y k n ≡ map (colour_across g) (in_region_of v (both_of (rows_from s x k n)))
 strip-bits v s g x r y k zero l a b c d = refl
 strip-bits v s g x r y k (suc n) l a b c d =
-    let row = row_of s x k in
-    let f = colour_across g in
-    let rest = bits_in_rows s x r y (k + 1) n in
-    let ms = both_of (rows_from s x (k + 1) n) in
-    let p = at row x.right in
-    let q = at row (x.right - 1) in
-    let inside : row < s = row-in x.upward (omega arith) in
-    let right : bit_if (has r.right row) (has y.right row) ≡ bit_if (is_in_region v row x.right) (f p) = ap (λ z. bit_if z (has y.right row)) (a row inside) ∙ ap (bit_if (is_in_region v row x.right)) (c row) in
-    let left : bit_if (has r.left row) (has y.left row) ≡ bit_if (is_in_region v row (x.right - 1)) (f q) = ap (λ z. bit_if z (has y.left row)) (b row inside) ∙ ap (bit_if (is_in_region v row (x.right - 1))) (d row) in
-    let more = strip-bits v s g x r y (k + 1) n (omega arith) a b c d in
-    append_assoc (bit_if (has r.right row) (has y.right row)) (bit_if (has r.left row) (has y.left row)) rest
-    ∙ (ap (λ (z : List Bool). z ++ (bit_if (has r.left row) (has y.left row) ++ rest)) right
-    ∙ (ap (λ (z : List Bool). bit_if (is_in_region v row x.right) (f p) ++ (z ++ rest)) left
-    ∙ (ap (λ (z : List Bool). bit_if (is_in_region v row x.right) (f p) ++ (bit_if (is_in_region v row (x.right - 1)) (f q) ++ z)) more
-    ∙ sym (kept-bit (is_in_region v row x.right) f p (in_region_of v (q ∷ ms)) ∙ ap (λ (z : List Bool). bit_if (is_in_region v row x.right) (f p) ++ z) (kept-bit (is_in_region v row (x.right - 1)) f q (in_region_of v ms))))))
+    search (arith, at, append_assoc, kept-bit, strip-bits v s g x r y (k + 1) n (omega arith) a b c d)
   where
     row-in : (up : Bool) → k < s → cond up (s - 1 - k) k < s
     row-in true m = omega arith
@@ -89,9 +50,4 @@ strip-bits v s g x r y k (suc n) l a b c d =
 -- the bits of one strip more
 pub strip-read : (v s : ℕ) (f : Module → Bool) (xs : List Strip) (x : Strip) (a b : List Bool) → a ≡ map f (in_region_of v (places_of s xs)) → b ≡ a ++ map f (in_region_of v (both_of (rows_from s x 0 s)))
     → b ≡ map f (in_region_of v (places_of s (xs ++ x ∷ [])))
-strip-read v s f xs x a b e q =
-    let more = both_of (rows_from s x 0 s) in
-    q
-    ∙ (ap (λ (z : List Bool). z ++ map f (in_region_of v more)) e
-    ∙ (sym (map-append f (in_region_of v (places_of s xs)) (in_region_of v more))
-    ∙ ap (map f) (sym (kept-append v (places_of s xs) more) ∙ ap (in_region_of v) (sym (places-push s xs x)))))
+strip-read v s f xs x a b e q = search (arith, map-append, kept-append, places-push)

@@ -3,15 +3,11 @@ use Rattle.std.proofs.Common.{◌≡◌, ℕ, ◌+◌, ◌-◌, ◌*◌, ◌/◌
 use borrow.Author.Tests.{ltb-true}
 use Rattle.qr_layout.specs.declared.strips.Strip.{Strip}
 use Rattle.qr_bits.specs.Bits.{field}
-use Rattle.qr_matrix.specs.BitRow.{has, has_bit}
-use Rattle.qr_matrix.specs.Grid.{is_same}
-use Rattle.qr_matrix.specs.Sums.{all_below}
+use Rattle.qr_matrix.specs.{BitRow.has, BitRow.has_bit, Grid.is_same, Sums.all_below}
 use Rattle.qr_matrix.proofs.Facts.{below-at, same-same, &&-left, &&-right}
-use Rattle.qr_symbol.specs.declared.collecting.TheConstants.{SPREADS}
-use Rattle.qr_symbol.specs.declared.placement.Columns.{Columns}
-use Rattle.qr_symbol.specs.Steps.Collecting.{bits_in_rows}
-use Rattle.qr_symbol.specs.Steps.Placement.{row_of}
-use Rattle.qr_symbol.proofs.lemmas.placement.AcrossLemmas.{rank_of}
+use Rattle.qr_symbol.specs.declared.{collecting.TheConstants.SPREADS, placement.Columns.Columns}
+use Rattle.qr_symbol.specs.Steps.{Collecting.bits_in_rows, Placement.row_of}
+use Rattle.qr_symbol.proofs.lemmas.placement.ColumnLemmas.{rank_of}
 
 -- the table's entry for a direction and four modules
 abbrev pub spread : ℕ → ℕ → ℕ
@@ -69,18 +65,10 @@ whole-bits s x r y k t u =
     let e0 : k ≡ k + 0 = omega arith in
     let e2 : k + 1 + 1 ≡ k + 2 = omega arith in
     let e3 : k + 1 + 1 + 1 ≡ k + 3 = omega arith in
-    let t0 = t 0 (omega arith) in
-    let u0 = u 0 (omega arith) in
-    let t1 = t 1 (omega arith) in
-    let u1 = u 1 (omega arith) in
-    let t2 = t 2 (omega arith) in
-    let u2 = u 2 (omega arith) in
-    let t3 = t 3 (omega arith) in
-    let u3 = u 3 (omega arith) in
     ap (λ z. rows z (k + 1) (k + 1 + 1) (k + 1 + 1 + 1)) e0
     ∙ (ap (λ z. rows (k + 0) (k + 1) z (k + 1 + 1 + 1)) e2
     ∙ (ap (λ z. rows (k + 0) (k + 1) (k + 2) z) e3
-    ∙ rw (t0, u0, t1, u1, t2, u2, t3, u3) refl))
+    ∙ rw (t 0 (omega arith), u 0 (omega arith), t 1 (omega arith), u 1 (omega arith), t 2 (omega arith), u 2 (omega arith), t 3 (omega arith), u 3 (omega arith)) refl))
   where
     row : ℕ → List Bool
     row z = cond (has r.right (row_of s x z)) (has y.right (row_of s x z) ∷ []) [] ++ cond (has r.left (row_of s x z)) (has y.left (row_of s x z) ∷ []) []

@@ -1,78 +1,50 @@
 -- A symbol that is built from the codewords of an input is the symbol of this input.
-use Rattle.std.proofs.Common.{◌≡◌, ℕ, ◌+◌, ◌<◌, ◌≤◌, ◌⊎◌, inl, inr, List, Option, None, Some, Result, Ok, Err, subst, sym, ◌∙◌, ap, arith}
+use Rattle.std.proofs.Common.{◌≡◌, ℕ, ◌+◌, ◌<◌, ◌≤◌, ◌⊎◌, List, Option, None, Some, Result, Ok, Err, subst, sym, arith}
 use Rattle.std.specs.Prelude.{IfOk, IfErr}
 use Rattle.qr_layout.specs.declared.level.Level.{Level}
-use Rattle.qr_bits.specs.declared.modes.Rule.{Rule}
-use Rattle.qr_bits.specs.declared.segment.Segment.{Segment}
-use Rattle.qr_bits.specs.declared.header.Header.{Header}
+use Rattle.qr_bits.specs.declared.{modes.Rule.Rule, segment.Segment.Segment, header.Header.Header}
 use Rattle.qr_bits.specs.Segmentation.{bits, HasFit, IsLeastSegmentation}
-use Rattle.qr_bits.specs.Padding.{IsData, capacity_of, room_of}
-use Rattle.qr_bits.specs.Header.{header_bits}
+use Rattle.qr_bits.specs.{Padding.IsData, Padding.capacity_of, Padding.room_of, Header.header_bits}
 use Rattle.qr_bits.proofs.Facts.{capacity_least, length-stream, least_fits}
 use Rattle.qr_symbol.specs.declared.fault.EncodeFault.{EncodeFault}
 use Rattle.qr_symbol.specs.declared.fault.EncodeFault.TheVariants as fault
-use Rattle.qr_symbol.specs.declared.symbol.Symbol.{Symbol}
+use Rattle.qr_symbol.specs.{declared.symbol.Symbol.Symbol, Symbol.grid_of, Choice.IsMask}
+use Rattle.qr_symbol.specs.{Interleaving.IsInterleaved, Reading.IsReadBack, Encoding.IsSymbolAt, Encoding.IsSymbol}
+use Rattle.qr_symbol.specs.{VersionChoice.FitsVersion, VersionChoice.IsVersion, Series.IsSymbolOf}
 use Rattle.qr_matrix.specs.Grid.{Grid}
-use Rattle.qr_symbol.specs.Symbol.{grid_of}
-use Rattle.qr_symbol.specs.Choice.{IsMask}
-use Rattle.qr_symbol.specs.Interleaving.{IsInterleaved}
-use Rattle.qr_symbol.specs.Reading.{IsReadBack}
-use Rattle.qr_symbol.specs.Encoding.{IsSymbolAt, IsSymbol}
-use Rattle.qr_symbol.specs.VersionChoice.{FitsVersion, IsVersion}
-use Rattle.qr_symbol.specs.Series.{IsSymbolOf}
 use Rattle.qr_symbol.proofs.lemmas.reading.RoundTripLemmas.{symbol-read}
 
 -- a symbol that is built from the codewords of bytes is the symbol of these bytes
 pub symbol-built : (v : ℕ) (l : Level) (b : Rule) (x : List ℕ) (h : Option Header) (segs : List Segment) (message passed codewords given : List ℕ) (r : Result Symbol EncodeFault)
     → IsLeastSegmentation v b x segs → IsData v l x segs h message → passed ≡ message → IsInterleaved v l passed codewords → given ≡ codewords
     → IfOk r (λ s. s.version ≡ v) → IfOk r (λ s. s.level ≡ l) → IfOk r (λ s. IsMask v l given s.mask) → IfOk r (λ s. s.matrix ≡ grid_of v l s.mask given) → IfOk r (λ s. IsSymbolOf v l b x h s)
-symbol-built v l b x h segs message passed codewords given (Ok s) chosen written c interleaved e version level best drawn = record {
-  version = version;
-  level = level;
-  made = record {
-    segments = segs;
-    chosen = chosen;
-    message = message;
-    written = written;
-    codewords = codewords;
-    interleaved = subst (λ (d : List ℕ). IsInterleaved v l d codewords) c interleaved;
-    best = subst (λ (cw : List ℕ). IsMask v l cw s.mask) e best;
-    drawn = drawn ∙ ap (grid_of v l s.mask) e;
-  };
-}
+symbol-built v l b x h segs message passed codewords given (Ok s) chosen written c interleaved e version level best drawn = search arith
 symbol-built v l b x h segs message passed codewords given (Err f) chosen written c interleaved e version level best drawn = tt
 
 -- the symbol of bytes in the least version that they fit is the symbol of the input
 pub symbol-found : (v : ℕ) (l : Level) (smallest : ℕ) (b : Rule) (x : List ℕ) (r : Result Symbol EncodeFault)
     → IsVersion smallest l b x v → IfOk r (λ s. IsSymbolOf v l b x None s) → IfOk r (λ s. IsSymbol smallest l b x s.version s.mask s.matrix)
-symbol-found v l smallest b x (Ok s) fits made =
-    subst (λ (w : ℕ). IsSymbol smallest l b x w s.mask s.matrix) (sym made.version) (record { version = fits; made = made.made })
+symbol-found v l smallest b x (Ok s) fits made = search arith
 symbol-found v l smallest b x (Err f) fits made = tt
 
 -- this symbol is read as the input
 pub symbol-back : (v : ℕ) (l : Level) (b : Rule) (x : List ℕ) (r : Result Symbol EncodeFault)
     → 1 ≤ v → v ≤ 40 → IfOk r (λ s. IsSymbolOf v l b x None s) → IfOk r (λ s. IsReadBack s.version b x s.matrix)
 symbol-back v l b x (Ok s) p q made =
-    subst (λ (w : ℕ). IsReadBack w b x s.matrix) (sym made.version) (made.made.segments, made.made.chosen, symbol-read v l b x None s.mask s.matrix p q made.made)
+    subst (λ (w : ℕ). IsReadBack w b x s.matrix) (sym made.version) (search (arith, symbol-read))
 symbol-back v l b x (Err f) p q made = tt
 
 -- bytes that have a symbol without a header fit its version
 pub symbol-fits : (v : ℕ) (l : Level) (b : Rule) (x : List ℕ) (mask : ℕ) (g : Grid) → IsSymbolAt v l b x None mask g → FitsVersion v l b x
-symbol-fits v l b x mask g s =
-    let fit = (least_fits v b x s.segments s.chosen).1 (capacity_of v l) in
-    let few = s.written.fits in
-    fit.1 (omega (arith, length-stream v x s.segments None s.written.stream s.written.is_stream))
+symbol-fits v l b x mask g s = search (arith, least_fits, length-stream)
 
 -- if some segments have room after a header, so have the segments of the fewest bits
 pub behind-header : (v : ℕ) (l : Level) (b : Rule) (x : List ℕ) (segs : List Segment) (h : Header) → 1 ≤ v → v ≤ 40 → IsLeastSegmentation v b x segs → HasFit v b x (room_of v l)
     → header_bits (Some h) + bits v segs ≤ capacity_of v l
-behind-header v l b x segs h p q chosen fits =
-    let least = capacity_least v l p q in
-    let few = ((least_fits v b x segs chosen).1 (room_of v l)).0 fits in omega arith
+behind-header v l b x segs h p q chosen fits = search (arith, capacity_least, least_fits)
 
 -- if there is room, a symbol is refused only for lack of memory
 pub memory-alone : (room used : ℕ) (r : Result Symbol EncodeFault) → used ≤ room → (r ≡ Err fault.TooLong → room < used)
     → IfErr r (λ e. (e ≡ fault.TooLong) ⊎ (e ≡ fault.Memory)) → IfErr r (λ e. e ≡ fault.Memory)
 memory-alone room used (Ok s) few more why = tt
-memory-alone room used (Err e) few more why =
-    elim why [ inl long ↦ absurd (let much = more (ap (λ (f : EncodeFault). Err f) long) in omega arith) | inr memory ↦ memory ]
+memory-alone room used (Err e) few more why = search arith

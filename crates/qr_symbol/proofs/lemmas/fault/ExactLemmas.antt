@@ -1,18 +1,15 @@
 -- A call is refused for a fault exactly if the fault is there, unless memory is refused.
 use Rattle.std.proofs.Common.{◌≡◌, ◌≢◌, ◌≤◌, ◌↔◌, ◌⊎◌, inl, inr, ℕ, List, [], Result, Ok, Err, Vec, Global, sym, ap, subst, arith}
-use Rattle.std.specs.Prelude.{IfOk, IfErr}
 use Rattle.std.proofs.lemmas.Result.{IfErr-at_err}
+use Rattle.std.specs.Prelude.{IfOk, IfErr}
 use Rattle.qr_layout.specs.declared.level.Level.{Level}
-use Rattle.qr_bits.specs.declared.modes.Rule.{Rule}
-use Rattle.qr_bits.specs.Padding.{capacity_of}
+use Rattle.qr_bits.specs.{declared.modes.Rule.Rule, Padding.capacity_of}
 use Rattle.qr_symbol.specs.declared.fault.EncodeFault.{EncodeFault}
 use Rattle.qr_symbol.specs.declared.fault.EncodeFault.TheVariants as fault
 use Rattle.qr_symbol.specs.declared.fault.ReadFault.{ReadFault}
 use Rattle.qr_symbol.specs.declared.fault.ReadFault.TheVariants as unread
-use Rattle.qr_symbol.specs.declared.symbol.Symbol.{Symbol}
-use Rattle.qr_symbol.specs.Encoding.{IsSymbol}
-use Rattle.qr_symbol.specs.VersionChoice.{FitsVersion, HasNoVersion}
-use Rattle.qr_symbol.specs.Series.{IsSeries, HasNoSeries}
+use Rattle.qr_symbol.specs.{declared.symbol.Symbol.Symbol, Encoding.IsSymbol}
+use Rattle.qr_symbol.specs.{VersionChoice.FitsVersion, VersionChoice.HasNoVersion, Series.IsSeries, Series.HasNoSeries}
 use Rattle.qr_bits.proofs.Facts.{empty_fits}
 
 -- the result is the fault e exactly if it is not lack of memory and the fact holds
@@ -23,59 +20,51 @@ Refused r e memory P = (r ≡ Err e) ↔ ((r ≢ Err memory) × P)
 err-same : {X E : Type 0} (r : Result X E) (e f : E) → r ≡ Err e → r ≡ Err f → e ≡ f
 err-same r e f h k = cc
 
--- the two directions of `Refused` make it
-exactly : {X E : Type 0} (r : Result X E) (e memory : E) (P : Type 0) → (e ≡ memory → ⊥) → (r ≡ Err e → P) →
-    (P → (r ≡ Err e) ⊎ (r ≡ Err memory)) → Refused r e memory P
-exactly r e memory P other f g = (λ h. (λ m. other (err-same r e memory h m), f h), λ w. elim (g w.1) [ inl h ↦ h | inr h ↦ absurd (w.0 h) ])
+-- what makes it, if with the fact no value is returned, and no other fault than e and lack of memory
+exactly : {X E : Type 0} (r : Result X E) (e memory : E) (P : Type 0) → (e ≡ memory → ⊥) → (r ≡ Err e → P)
+    → IfOk r (λ _. P → ⊥)
+    → IfErr r (λ g. (P → g ≡ e) ⊎ (g ≡ memory)) → Refused r e memory P
+exactly {X = X} {E = E} r e memory P other f none told = (λ h. (λ m. other (err-same r e memory h m), f h), λ w. back r none told w.0 w.1)
+  where
+    back : (r : Result X E) → IfOk r (λ _. P → ⊥) → IfErr r (λ g. (P → g ≡ e) ⊎ (g ≡ memory)) → r ≢ Err memory → P
+        → r ≡ Err e
+    back (Ok x) none told m p = absurd (none p)
+    back (Err g) none (inl h) m p = ap (λ f. Err f) (h p)
+    back (Err g) none (inr h) m p = absurd (m (ap (λ f. Err f) h))
 
 -- `TooLong` is returned exactly if the input fits no version, unless memory was refused
 pub too-long-exactly : (x : List ℕ) (l : Level) (smallest : ℕ) (b : Rule) (r : Result Symbol EncodeFault) → smallest ≤ 40
     → (r ≡ Err fault.TooLong → HasNoVersion smallest l b x) → IfOk r (λ s. IsSymbol smallest l b x s.version s.mask s.matrix)
     → (r ≡ Err fault.Empty → x ≡ []) → IfErr r (λ e. (e ≡ fault.Empty) ⊎ (e ≡ fault.TooLong) ⊎ (e ≡ fault.Memory))
     → Refused r fault.TooLong fault.Memory (HasNoVersion smallest l b x)
-too-long-exactly x l smallest b r most long made empty told = exactly r fault.TooLong fault.Memory (HasNoVersion smallest l b x) (λ e. cc) long (back r made empty told)
-  where
-    back : (r : Result Symbol EncodeFault) → IfOk r (λ s. IsSymbol smallest l b x s.version s.mask s.matrix) → (r ≡ Err fault.Empty → x ≡ [])
-        → IfErr r (λ e. (e ≡ fault.Empty) ⊎ (e ≡ fault.TooLong) ⊎ (e ≡ fault.Memory)) → HasNoVersion smallest l b x
-        → (r ≡ Err fault.TooLong) ⊎ (r ≡ Err fault.Memory)
-    back (Ok s) made empty told none = absurd (none s.version made.version.least made.version.most made.version.fits)
-    back (Err e) made empty (inl h) none =
-        absurd (none smallest (omega arith) most (subst (λ (y : List ℕ). FitsVersion smallest l b y) (sym (empty (ap (λ f. Err f) h))) (empty_fits smallest b (capacity_of smallest l))))
-    back (Err e) made empty (inr (inl h)) none = inl (ap (λ f. Err f) h)
-    back (Err e) made empty (inr (inr h)) none = inr (ap (λ f. Err f) h)
+too-long-exactly x l smallest b (Ok s) most long made empty told = exactly _ _ _ _ (λ e. cc) long (λ none. none s.version made.version.least made.version.most made.version.fits) tt
+too-long-exactly x l smallest b (Err e) most long made empty told = exactly _ _ _ _ (λ e. cc) long tt (elim told [
+  | inl h ↦ inl (λ none. absurd (none smallest (omega arith) most (subst (FitsVersion smallest l b) (sym (empty (ap (λ f. Err f) h))) (empty_fits smallest b (capacity_of smallest l)))))
+  | inr w ↦ elim w [ inl h ↦ inl (λ _. h) | inr h ↦ inr h ]
+])
 
 -- `TooMany` is returned exactly if the input has no series, unless memory was refused
 pub too-many-exactly : (x : List ℕ) (l : Level) (b : Rule) (v : ℕ) (r : Result (Vec Symbol Global) EncodeFault)
     → (r ≡ Err fault.TooMany → HasNoSeries v l b x) → IfOk r (λ ss. IsSeries v l b x ss.items)
     → (r ≡ Err fault.Empty → x ≡ []) → IfErr r (λ e. (e ≡ fault.Empty) ⊎ (e ≡ fault.TooMany) ⊎ (e ≡ fault.Memory))
     → Refused r fault.TooMany fault.Memory (HasNoSeries v l b x)
-too-many-exactly x l b v r many made empty told = exactly r fault.TooMany fault.Memory (HasNoSeries v l b x) (λ e. cc) many (back r made empty told)
+too-many-exactly x l b v (Ok ss) many made empty told = exactly _ _ _ _ (λ e. cc) many (no-series ss.items made) tt
   where
     no-series : (ss : List Symbol) → IsSeries v l b x ss → HasNoSeries v l b x → ⊥
     no-series ss (inl a) none = none.too_long a.fits
     no-series ss (inr a) none = let few = a.many in let more = none.too_many a.parts a.split in absurd (omega arith)
-
-    back : (r : Result (Vec Symbol Global) EncodeFault) → IfOk r (λ ss. IsSeries v l b x ss.items) → (r ≡ Err fault.Empty → x ≡ [])
-        → IfErr r (λ e. (e ≡ fault.Empty) ⊎ (e ≡ fault.TooMany) ⊎ (e ≡ fault.Memory)) → HasNoSeries v l b x
-        → (r ≡ Err fault.TooMany) ⊎ (r ≡ Err fault.Memory)
-    back (Ok ss) made empty told none = absurd (no-series ss.items made none)
-    back (Err e) made empty (inl h) none =
-        absurd (none.too_long (subst (λ (y : List ℕ). FitsVersion v l b y) (sym (empty (ap (λ f. Err f) h))) (empty_fits v b (capacity_of v l))))
-    back (Err e) made empty (inr (inl h)) none = inl (ap (λ f. Err f) h)
-    back (Err e) made empty (inr (inr h)) none = inr (ap (λ f. Err f) h)
+too-many-exactly x l b v (Err e) many made empty told = exactly _ _ _ _ (λ e. cc) many tt (elim told [
+  | inl h ↦ inl (λ none. absurd (none.too_long (subst (FitsVersion v l b) (sym (empty (ap (λ f. Err f) h))) (empty_fits v b (capacity_of v l)))))
+  | inr w ↦ elim w [ inl h ↦ inl (λ _. h) | inr h ↦ inr h ]
+])
 
 -- `Check` is returned exactly if the codewords are the final sequence of no data codewords, unless memory was refused
 pub check-exactly : (Holds : List ℕ → Type 0) (r : Result (Vec ℕ Global) ReadFault)
     → (r ≡ Err unread.Check → (d : List ℕ) → Holds d → ⊥) → IfOk r (λ d. Holds d.items)
     → IfErr r (λ e. (e ≡ unread.Memory) ⊎ (e ≡ unread.Check))
     → Refused r unread.Check unread.Memory ((d : List ℕ) → Holds d → ⊥)
-check-exactly Holds r none made told = exactly r unread.Check unread.Memory ((d : List ℕ) → Holds d → ⊥) (λ e. cc) none (back r made told)
-  where
-    back : (r : Result (Vec ℕ Global) ReadFault) → IfOk r (λ d. Holds d.items) → IfErr r (λ e. (e ≡ unread.Memory) ⊎ (e ≡ unread.Check))
-        → ((d : List ℕ) → Holds d → ⊥) → (r ≡ Err unread.Check) ⊎ (r ≡ Err unread.Memory)
-    back (Ok d) made told none = absurd (none d.items made)
-    back (Err e) made (inl h) none = inr (ap (λ f. Err f) h)
-    back (Err e) made (inr h) none = inl (ap (λ f. Err f) h)
+check-exactly Holds (Ok d) none made told = exactly _ _ _ _ (λ e. cc) none (λ n. n d.items made) tt
+check-exactly Holds (Err e) none made told = exactly _ _ _ _ (λ e. cc) none tt (elim told [ inl h ↦ inr h | inr h ↦ inl (λ _. h) ])
 
 -- a result for which two facts hold has both of them at once
 pub ok-both : {X E : Type 0} (P Q : X → Type 0) (r : Result X E) → IfOk r P → IfOk r Q → IfOk r (λ x. P x × Q x)

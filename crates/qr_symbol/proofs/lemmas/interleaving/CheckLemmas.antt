@@ -1,8 +1,6 @@
 -- The error correction codewords of all blocks, block after block, and the whole final sequence.
-use Rattle.std.proofs.Common.{◌≡◌, ℕ, suc, ◌+◌, ◌-◌, ◌<◌, ◌≤◌, List, [], ◌∷◌, ◌++◌, map, take, drop, length, length-append, get_or, refl, sym, ◌∙◌, ap, subst, inl, inr, arith}
-use Rattle.std.proofs.lemmas.Bool.Decides.{nat_tests}
-use Rattle.std.proofs.lemmas.Bool.{cases_lt}
-use Rattle.std.proofs.lemmas.List.{get_or_append_left, get_or-append_right}
+use Rattle.std.proofs.Common.{◌≡◌, ℕ, suc, ◌+◌, ◌-◌, ◌<◌, ◌≤◌, List, [], ◌∷◌, ◌++◌, map, take, drop, length-append, get_or, refl, ◌∙◌, ap, inl, inr, arith}
+use Rattle.std.proofs.lemmas.{Bool.Decides.nat_tests, Bool.cases_lt, List.get_or_append_left, List.get_or-append_right}
 use Rattle.std.specs.List.{All}
 use Rattle.qr_field.specs.Polynomial.{IsCorrection}
 use Rattle.qr_layout.specs.declared.blocks.Blocks.{Blocks}
@@ -23,32 +21,19 @@ checks-push b d xs ys es k l h c e =
     let n = c.count in
     let many = h.count in
     let all = h.corrections ++ es ∷ [] in
-    let here : get_or all k [] ≡ es = get_or-append_right h.corrections (es ∷ []) k k [] many (omega arith) ∙ ap (λ (z : ℕ). get_or (es ∷ []) z []) (none k) in
+    let here : get_or all k [] ≡ es = search (arith, get_or-append_right) in
     let there = λ (i : ℕ) (s : i < k). get_or_append_left h.corrections (es ∷ []) [] i (omega arith) in
     record {
       corrections = all;
-      count = let a = length-append h.corrections (es ∷ []) in omega arith;
-      each = λ i m. elim (cases_lt i k) [
-        | inl s ↦ subst (λ (zs : List ℕ). IsCorrection (block_of b d i) b.ec_len zs) (sym (there i s)) (h.each i s)
-        | inr s ↦
-            let f : k ≡ i = omega arith in
-            subst (λ (j : ℕ). IsCorrection (block_of b d j) b.ec_len (get_or all j [])) f (subst (λ (zs : List ℕ). IsCorrection (block_of b d k) b.ec_len zs) (sym here) c)
-      ];
-      long = ap length e ∙ (length-append xs es ∙ (let m = h.long in omega arith));
+      count = search (arith, length-append);
+      each = search arith;
+      long = cc (length-append xs es);
       same = λ t m i. ap (λ (zs : List ℕ). codeword_at (correction_sizes b) zs t) e ∙ (elim (cases_lt t.block k) [
         | inl s ↦
             let a = start-next (correction_sizes b) t.block in
             let z = start-most (correction_sizes b) (t.block + 1) k (omega arith) in
-            let p = i.1 in
-            let g = h.long in
-            get_or_append_left xs es 0 (start_of (correction_sizes b) t.block + t.place) (omega arith) ∙ (h.same t s i ∙ ap (λ (zs : List ℕ). get_or zs t.place 0) (sym (there t.block s)))
-        | inr s ↦
-            let f : t.block ≡ k = omega arith in
-            let g = h.long in
-            let start = ap (start_of (correction_sizes b)) f in
-            let rest : start_of (correction_sizes b) t.block + t.place - start_of (correction_sizes b) k ≡ t.place = omega arith in
-            get_or-append_right xs es (start_of (correction_sizes b) k) (start_of (correction_sizes b) t.block + t.place) 0 h.long (omega arith)
-            ∙ (ap (λ (z : ℕ). get_or es z 0) rest ∙ ap (λ (zs : List ℕ). get_or zs t.place 0) (sym (ap (λ (j : ℕ). get_or all j []) f ∙ here)))
+            search (arith, get_or_append_left)
+        | inr s ↦ search (arith, get_or-append_right)
       ]);
     }
   where
@@ -77,24 +62,16 @@ both-interleaved b d es first second h s t = record {
 pub interleaved-both : (b : Blocks) (d es bytes before first second : List ℕ) (c1 c2 : BlockSizes) → IsChecks b d (block_count (data_sizes b)) es → before ≡ [] → c1 ≡ data_sizes b → c2 ≡ correction_sizes b → bytes ≡ es → AppendsInterleaved c1 d before first → AppendsInterleaved c2 bytes first second → IsFinalMessage b d second
 interleaved-both b d es bytes before first second c1 c2 h e k l m s t =
     both-interleaved b d es first second h
-    (subst (λ (c : BlockSizes). AppendsInterleaved c d [] first) k (subst (λ (xs : List ℕ). AppendsInterleaved c1 d xs first) e s))
-    (subst (λ (c : BlockSizes). AppendsInterleaved c es first second) l (subst (λ (xs : List ℕ). AppendsInterleaved c2 xs first second) m t))
+    (search arith)
+    (search arith)
 
 -- a block is inside the data codewords
 pub slice-in : (c e : BlockSizes) (n s l k : ℕ) → c ≡ e → n ≡ start_of e (block_count e) → k < block_count c → s ≡ start_of c k → l ≡ block_len c k → s + l ≤ n
 slice-in c e n s l k a o m f g =
     let p = start-next c k in
     let q = start-most c (k + 1) (block_count c) (omega arith) in
-    let z = ap (λ (x : BlockSizes). start_of x (block_count x)) a in
-    omega arith
+    search arith
 
 -- one more block, stated with the variables of the loop
 pub push-checks : (b : Blocks) (d xs ys es : List ℕ) (c : BlockSizes) (k s l n : ℕ) → c ≡ data_sizes b → k < block_count c → s ≡ start_of c k → l ≡ block_len c k → n ≡ b.ec_len → IsCorrection (take l (drop s d)) n es → IsChecks b d k xs → ys ≡ xs ++ es → IsChecks b d (k + 1) ys
-push-checks b d xs ys es c k s l n a m f g o e h q =
-    let mm : k < block_count (data_sizes b) = subst (λ (x : BlockSizes). k < block_count x) a m in
-    let ff = f ∙ ap (λ (x : BlockSizes). start_of x k) a in
-    let gg = g ∙ ap (λ (x : BlockSizes). block_len x k) a in
-    let c1 = subst (λ (z : ℕ). IsCorrection (take l (drop s d)) z es) o e in
-    let c2 = subst (λ (z : ℕ). IsCorrection (take z (drop s d)) b.ec_len es) gg c1 in
-    let c3 = subst (λ (z : ℕ). IsCorrection (take (block_len (data_sizes b) k) (drop z d)) b.ec_len es) ff c2 in
-    checks-push b d xs ys es k mm h c3 q
+push-checks b d xs ys es c k s l n a m f g o e h q = search (arith, checks-push)

@@ -1,14 +1,12 @@
 -- Putting codewords back into their blocks.
 use Rattle.std.proofs.Common.{◌≡◌, ℕ, zero, suc, ◌+◌, ◌<◌, ◌≤◌, List, [], ◌∷◌, ◌++◌, map, take, length, get_or, set, replicate, refl, sym, ◌∙◌, ap, subst, inl, inr, arith}
 use Rattle.std.proofs.lemmas.Bool.{cases_lt}
-use Rattle.std.proofs.lemmas.List.{take_more, get_or-set_same, get_or-set_other, length-set, length-map, length-replicate, length-take, map-append, ext_get_or}
+use Rattle.std.proofs.lemmas.List.{take_more, get_or-set_same, get_or-set_other, length-set, length-map, length-replicate, length-take, map-append}
 use Rattle.qr_layout.proofs.Facts.{Mem}
-use Rattle.qr_layout.specs.declared.blocks.Blocks.{Blocks}
 use Rattle.qr_symbol.specs.declared.interleaving.BlockSizes.{BlockSizes}
-use Rattle.qr_symbol.specs.Interleaving.{Position, ComesBefore, block_count, block_len, start_of, codeword_count, IsPosition, codeword_at, data_sizes, check_at, IsFinalMessage, IsGathered}
+use Rattle.qr_symbol.specs.Interleaving.{IsPositionOrder, Position, ComesBefore, block_count, block_len, start_of, codeword_count, IsPosition, codeword_at, IsGathered}
 use Rattle.qr_symbol.proofs.lemmas.interleaving.PositionLemmas.{position, PositionsBefore, positions-start, positions-push, positions-pass, positions-row, positions-end, position-in}
-use Rattle.qr_symbol.proofs.lemmas.interleaving.RankLemmas.{position-one, rank_of, rank-start, rank-push, rank-pass, rank-row, rank-end, rank-in, positions-one, position-of, map-at, Mem-of-Contains}
-use Rattle.qr_symbol.proofs.lemmas.interleaving.MessageLemmas.{final-one}
+use Rattle.qr_symbol.proofs.lemmas.interleaving.RankLemmas.{position-one, rank_of, rank-start, rank-push, rank-pass, rank-row, rank-end, rank-in, positions-one}
 
 -- ---- what was put back so far
 
@@ -47,19 +45,16 @@ gather-push c interleaved xs ys p b next i l h t e k =
       positions = h.positions ++ position p b ∷ [];
       order = positions-push c p b h.positions t h.order;
       rank = ap (λ (z : ℕ). z + 1) r ∙ sym (rank-push c p b t);
-      same = ap (λ (zs : List ℕ). map (codeword_at c zs) (h.positions ++ position p b ∷ [])) ks
-          ∙ (map-append (codeword_at c (set xs j x)) h.positions (position p b ∷ [])
-          ∙ (ap (λ (zs : List ℕ). zs ++ codeword_at c (set xs j x) (position p b) ∷ []) (old ∙ h.same)
-          ∙ (ap (λ (z : ℕ). take next interleaved ++ z ∷ []) new ∙ sym (take_more interleaved next 0 (omega arith)))));
+      same = search (arith, position, map-append, take_more);
     }
 
 -- block b has no codeword with index p, so the step changes nothing
 pub gather-pass : (c : BlockSizes) (interleaved xs : List ℕ) (p b next : ℕ) → p ≤ c.short_len → b < block_count c → GatheredBefore c interleaved p b xs next → (IsPosition c (position p b) → ⊥) → GatheredBefore c interleaved p (b + 1) xs next
-gather-pass c interleaved xs p b next l m h n = record { long = h.long; positions = h.positions; order = positions-pass c p b h.positions n h.order; rank = h.rank ∙ sym (rank-pass c p b l m n); same = h.same }
+gather-pass c interleaved xs p b next l m h n = search (arith, positions-pass, rank-pass)
 
 -- after the last block, the step goes on to the next index
 pub gather-row : (c : BlockSizes) (interleaved xs : List ℕ) (p b next : ℕ) → p ≤ c.short_len → b ≡ block_count c → GatheredBefore c interleaved p b xs next → GatheredBefore c interleaved (p + 1) 0 xs next
-gather-row c interleaved xs p b next l e h = record { long = h.long; positions = h.positions; order = positions-row c p h.positions (subst (λ (k : ℕ). PositionsBefore c p k h.positions) e h.order); rank = h.rank ∙ (ap (rank_of c p) e ∙ rank-row c p l); same = h.same }
+gather-row c interleaved xs p b next l e h = record { long = h.long; positions = h.positions; order = search (arith, positions-row); rank = h.rank ∙ (ap (rank_of c p) e ∙ rank-row c p l); same = h.same }
 
 -- after the last index, all codewords have been put back
 pub gather-end : (c : BlockSizes) (interleaved xs : List ℕ) (p next : ℕ) → codeword_count c ≤ length interleaved → p ≡ c.short_len + 1 → GatheredBefore c interleaved p 0 xs next → IsGathered c interleaved xs
@@ -70,7 +65,7 @@ gather-end c interleaved xs p next l e h =
       long = h.long;
       positions = h.positions;
       order = positions-end c h.positions (subst (λ (k : ℕ). PositionsBefore c k 0 h.positions) e h.order);
-      many = let a = ap length s in let b = length-map h.positions (codeword_at c xs) in let d = length-take (codeword_count c) interleaved in omega arith;
+      many = search (arith, length-map, length-take);
       same = s;
     }
 
@@ -88,27 +83,27 @@ begun-next c interleaved p b n l m h = elim (cases_lt p (block_len c b)) [
   | inl k ↦ record {
     codewords = set h.codewords (start_of c b + p) (get_or interleaved h.next 0);
     next = h.next + 1;
-    gathered = gather-push c interleaved h.codewords (set h.codewords (start_of c b + p) (get_or interleaved h.next 0)) p b h.next (start_of c b + p) n h.gathered (m, k) refl refl;
+    gathered = search (arith, gather-push);
   }
-  | inr k ↦ record { codewords = h.codewords; next = h.next; gathered = gather-pass c interleaved h.codewords p b h.next l m h.gathered (λ t. let q = t.1 in absurd (omega arith)) }
+  | inr k ↦ search (arith, gather-pass)
 ]
 
 -- all blocks at one index
 begun-across : (c : BlockSizes) (interleaved : List ℕ) (p b : ℕ) → codeword_count c ≤ length interleaved → p ≤ c.short_len → b ≤ block_count c → IsBegun c interleaved p 0 → IsBegun c interleaved p b
 begun-across c interleaved p zero n l m h = h
-begun-across c interleaved p (suc b) n l m h = let e : b + 1 ≡ suc b = omega arith in subst (IsBegun c interleaved p) e (begun-next c interleaved p b n l (omega arith) (begun-across c interleaved p b n l (omega arith) h))
+begun-across c interleaved p (suc b) n l m h = let e : b + 1 ≡ suc b = omega arith in search (arith, begun-next, begun-across c interleaved p b n l (omega arith) h)
 
 -- all indices
 begun-down : (c : BlockSizes) (interleaved : List ℕ) (p : ℕ) → codeword_count c ≤ length interleaved → p ≤ c.short_len + 1 → IsBegun c interleaved p 0
 begun-down c interleaved zero n l = record {
   codewords = replicate (codeword_count c) 0;
   next = 0;
-  gathered = record { long = length-replicate (codeword_count c) 0; positions = []; order = positions-start c; rank = rank-start c; same = refl };
+  gathered = search (arith, length-replicate, positions-start, rank-start);
 }
 begun-down c interleaved (suc p) n l =
     let h = begun-across c interleaved p (block_count c) n (omega arith) (omega arith) (begun-down c interleaved p n (omega arith)) in
     let e : p + 1 ≡ suc p = omega arith in
-    subst (λ (k : ℕ). IsBegun c interleaved k 0) e (record { codewords = h.codewords; next = h.next; gathered = gather-row c interleaved h.codewords p (block_count c) h.next (omega arith) refl h.gathered })
+    subst (λ (k : ℕ). IsBegun c interleaved k 0) e (record { codewords = h.codewords; next = h.next; gathered = search (arith, gather-row) })
 
 -- a sequence with at least as many codewords as the blocks can be gathered
 pub gather-some : (c : BlockSizes) (interleaved : List ℕ) → codeword_count c ≤ length interleaved → (xs : List ℕ) × IsGathered c interleaved xs
@@ -116,30 +111,8 @@ gather-some c interleaved n =
     let h = begun-down c interleaved (c.short_len + 1) n (omega arith) in
     (h.codewords, gather-end c interleaved h.codewords (c.short_len + 1) h.next n refl h.gathered)
 
--- ---- one message at most
-
--- the prefix of two joined lists that has the length of the first list is the first list
-take-front : {X : Type 0} (n : ℕ) (xs ys : List X) → length xs ≡ n → take n (xs ++ ys) ≡ xs
-take-front zero [] ys e = refl
-take-front zero (x ∷ xs) ys e = absurd (omega arith)
-take-front (suc n) [] ys e = absurd (omega arith)
-take-front (suc n) (x ∷ xs) ys e = ap (λ zs. x ∷ zs) (take-front n xs ys (omega arith))
-
--- the gathered codewords are the message, if the sequence is the final sequence of a message
-pub gathered-one : (b : Blocks) (interleaved xs d : List ℕ) → IsGathered (data_sizes b) interleaved xs → length d ≡ codeword_count (data_sizes b) → IsFinalMessage b d interleaved → xs ≡ d
-gathered-one b interleaved xs d g n h =
-    let c = data_sizes b in
-    let one = positions-one c h.data_positions g.positions h.data_order g.order in
-    let first : take (codeword_count c) interleaved ≡ map (codeword_at c d) g.positions =
-    ap (take (codeword_count c)) (h.whole ∙ ap (λ (ts : List Position). map (codeword_at c d) ts ++ map (check_at h.corrections) h.check_positions) one)
-    ∙ take-front (codeword_count c) (map (codeword_at c d) g.positions) (map (check_at h.corrections) h.check_positions) (length-map g.positions (codeword_at c d) ∙ g.many) in
-    ext_get_or 0 xs d (g.long ∙ sym n) (λ j l.
-    let w = position-of c (block_count c) j (omega arith) (let z = g.long in omega arith) in
-    let q = map-at (codeword_at c xs) (codeword_at c d) g.positions w.0 (g.same ∙ first) (Mem-of-Contains g.positions w.0 (g.order.complete w.0 w.1)) in
-    ap (λ (k : ℕ). get_or xs k 0) (sym w.2) ∙ (q ∙ ap (λ (k : ℕ). get_or d k 0) w.2))
-
--- a sequence that differs from the final sequence of its gathered codewords is the final sequence of no message
-pub none-fits : (b : Blocks) (interleaved xs again d : List ℕ) → IsGathered (data_sizes b) interleaved xs → IsFinalMessage b xs again → (again ≡ interleaved → ⊥) → length d ≡ codeword_count (data_sizes b) → IsFinalMessage b d interleaved → ⊥
-none-fits b interleaved xs again d g h n l k =
-    let e = gathered-one b interleaved xs d g l k in
-    n (final-one b d again interleaved (subst (λ (z : List ℕ). IsFinalMessage b z again) e h) k)
+-- an order of positions has one position for each codeword
+pub positions-many : (c : BlockSizes) (ts : List Position) → IsPositionOrder c ts → length ts ≡ codeword_count c
+positions-many c ts h =
+    let w = gather-some c (replicate (codeword_count c) 0) (omega (arith, length-replicate {A = ℕ})) in
+    ap (length {A = Position}) (positions-one c ts w.1.positions h w.1.order) ∙ w.1.many

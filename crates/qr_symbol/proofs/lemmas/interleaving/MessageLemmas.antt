@@ -1,16 +1,15 @@
 -- The final sequence of a version and a level: how long it is, and that each message has only one.
-use Rattle.std.proofs.Common.{◌≡◌, ℕ, ◌+◌, ◌-◌, ◌*◌, ◌<◌, ◌≤◌, List, [], ◌∷◌, ◌++◌, map, length, length-append, get_or, refl, sym, ◌∙◌, ap, subst, arith}
+use Rattle.std.proofs.Common.{◌≡◌, ℕ, ◌+◌, ◌-◌, ◌*◌, ◌<◌, ◌≤◌, List, [], ◌∷◌, ◌++◌, map, length, length-append, get_or, refl, sym, ◌∙◌, ap, subst, arith, take}
+use Rattle.std.proofs.{lemmas.List.length-map, lemmas.List.ext_get_or, Math.Seq.take-append_seam}
 use Rattle.std.specs.Prelude.{Result, Ok, Err, IfOk}
-use Rattle.std.proofs.lemmas.List.{length-map, ext_get_or}
 use Rattle.qr_field.specs.Polynomial.{IsCorrection}
 use Rattle.qr_field.proofs.Facts.{correction-one}
-use Rattle.qr_layout.specs.declared.blocks.Blocks.{Blocks}
-use Rattle.qr_layout.specs.declared.level.Level.{Level}
-use Rattle.qr_layout.specs.Version.{total_codewords_of}
-use Rattle.qr_layout.specs.Blocks.{data_codewords_of, blocks_of}
+use Rattle.qr_layout.specs.declared.{blocks.Blocks.Blocks, level.Level.Level}
+use Rattle.qr_layout.specs.{Version.total_codewords_of, Blocks.data_codewords_of, Blocks.blocks_of}
 use Rattle.qr_layout.proofs.Facts.{blocks-sound}
-use Rattle.qr_symbol.specs.Interleaving.{Position, block_count, start_of, codeword_count, codeword_at, data_sizes, correction_sizes, block_of, check_at, IsFinalMessage}
-use Rattle.qr_symbol.proofs.lemmas.interleaving.RankLemmas.{positions-one, positions-many, position-of, map-at, Mem-of-Contains}
+use Rattle.qr_symbol.specs.Interleaving.{block_count, start_of, codeword_count, codeword_at, data_sizes, correction_sizes, block_of, check_at, IsFinalMessage, IsGathered}
+use Rattle.qr_symbol.proofs.lemmas.interleaving.GatherLemmas.{positions-many}
+use Rattle.qr_symbol.proofs.lemmas.interleaving.RankLemmas.{positions-one, position-of, map-at, Mem-of-Contains}
 
 -- ---- one final sequence
 
@@ -25,13 +24,7 @@ checks-one b d n xs ys e f h k =
 -- data codewords have at most one final sequence
 pub final-one : (b : Blocks) (d xs ys : List ℕ) → IsFinalMessage b d xs → IsFinalMessage b d ys → xs ≡ ys
 final-one b d xs ys h k =
-    let t = positions-one (data_sizes b) h.data_positions k.data_positions h.data_order k.data_order in
-    let u = positions-one (correction_sizes b) h.check_positions k.check_positions h.check_order k.check_order in
-    let e = checks-one b d (block_count (data_sizes b)) h.corrections k.corrections h.count k.count h.each k.each in
-    h.whole
-    ∙ (ap (λ (ts : List Position). map (codeword_at (data_sizes b) d) ts ++ map (check_at h.corrections) h.check_positions) t
-    ∙ (ap (λ (ts : List Position). map (codeword_at (data_sizes b) d) k.data_positions ++ map (check_at h.corrections) ts) u
-    ∙ (ap (λ (cs : List (List ℕ)). map (codeword_at (data_sizes b) d) k.data_positions ++ map (check_at cs) k.check_positions) e ∙ sym k.whole)))
+    cc (positions-one (data_sizes b) h.data_positions k.data_positions h.data_order k.data_order, positions-one (correction_sizes b) h.check_positions k.check_positions h.check_order k.check_order, checks-one b d (block_count (data_sizes b)) h.corrections k.corrections h.count k.count h.each k.each)
 
 -- two equal joined lists with first parts of the same length are equal part by part
 pub append-front : {X : Type 0} (xs ys us vs : List X) → length xs ≡ length ys → xs ++ us ≡ ys ++ vs → (xs ≡ ys) × (us ≡ vs)
@@ -50,8 +43,8 @@ data-one b d e cw n m h k =
     let c = data_sizes b in
     let one = positions-one c k.data_positions h.data_positions k.data_order h.data_order in
     let both : map (codeword_at c d) h.data_positions ++ map (check_at h.corrections) h.check_positions ≡ map (codeword_at c e) h.data_positions ++ map (check_at k.corrections) k.check_positions =
-    sym h.whole ∙ (k.whole ∙ ap (λ (ts : List Position). map (codeword_at c e) ts ++ map (check_at k.corrections) k.check_positions) one) in
-    let w = append-front (map (codeword_at c d) h.data_positions) (map (codeword_at c e) h.data_positions) (map (check_at h.corrections) h.check_positions) (map (check_at k.corrections) k.check_positions) (length-map h.data_positions (codeword_at c d) ∙ sym (length-map h.data_positions (codeword_at c e))) both in
+    cc in
+    let w = append-front (map (codeword_at c d) h.data_positions) (map (codeword_at c e) h.data_positions) (map (check_at h.corrections) h.check_positions) (map (check_at k.corrections) k.check_positions) (search (arith, length-map)) both in
     ext_get_or 0 d e (n ∙ sym m) (λ j l.
     let t = position-of c (block_count c) j (omega arith) (omega arith) in
     let q = map-at (codeword_at c d) (codeword_at c e) h.data_positions t.0 w.0 (Mem-of-Contains h.data_positions t.0 (h.data_order.complete t.0 t.1)) in
@@ -69,9 +62,7 @@ final-many b d cw h =
     let a = length-append (map (codeword_at (data_sizes b) d) h.data_positions) (map (check_at h.corrections) h.check_positions) in
     let m = length-map h.data_positions (codeword_at (data_sizes b) d) in
     let n = length-map h.check_positions (check_at h.corrections) in
-    let p = positions-many (data_sizes b) h.data_positions h.data_order in
-    let q = positions-many (correction_sizes b) h.check_positions h.check_order in
-    omega arith
+    omega (arith, positions-many)
 
 -- the number of codewords in blocks of two lengths
 sizes-sum : (k n r : ℕ) → n * (k + r) + (k + r - k) ≡ k * n + r * (n + 1)
@@ -83,16 +74,11 @@ sizes-even k n = omega arith
 
 -- the blocks of the data codewords contain all data codewords
 pub data-sizes-whole : (v : ℕ) (l : Level) → 1 ≤ v → v ≤ 40 → codeword_count (data_sizes (blocks_of v l)) ≡ data_codewords_of v l
-data-sizes-whole v l h k = let b = blocks_of v l in sizes-sum b.short b.short_len b.long ∙ (blocks-sound l v h k).data_whole
+data-sizes-whole v l h k = search (arith, sizes-sum, blocks-sound)
 
 -- the blocks of data and error correction codewords together contain all codewords of the symbol
 pub sizes-whole : (v : ℕ) (l : Level) → 1 ≤ v → v ≤ 40 → codeword_count (data_sizes (blocks_of v l)) + codeword_count (correction_sizes (blocks_of v l)) ≡ total_codewords_of v
-sizes-whole v l h k =
-    let b = blocks_of v l in
-    let w = (blocks-sound l v h k).total_whole in
-    let d = data-sizes-whole v l h k in
-    let e = sizes-even (b.short + b.long) b.ec_len in
-    omega arith
+sizes-whole v l h k = search (arith, blocks-sound, data-sizes-whole, sizes-even)
 
 -- a final sequence has as many codewords as the symbol
 pub final-whole : (v : ℕ) (l : Level) (d cw : List ℕ) → 1 ≤ v → v ≤ 40 → IsFinalMessage (blocks_of v l) d cw → length cw ≡ total_codewords_of v
@@ -102,3 +88,30 @@ final-whole v l d cw h k i = final-many (blocks_of v l) d cw i ∙ sizes-whole v
 pub ok-also : {X E : Type 0} (P Q : X → Type 0) (r : Result X E) → IfOk r P → ((x : X) → P x → Q x) → IfOk r Q
 ok-also P Q (Ok x) h f = f x h
 ok-also P Q (Err e) h f = tt
+
+-- ---- one message at most
+
+-- the prefix of two joined lists that has the length of the first list is the first list
+take-front : {X : Type 0} (n : ℕ) (xs ys : List X) → length xs ≡ n → take n (xs ++ ys) ≡ xs
+take-front n xs ys e = rw (← e) (take-append_seam xs ys)
+
+-- the gathered codewords are the message, if the sequence is the final sequence of a message
+pub gathered-one : (b : Blocks) (interleaved xs d : List ℕ) → IsGathered (data_sizes b) interleaved xs
+    → length d ≡ codeword_count (data_sizes b) → IsFinalMessage b d interleaved → xs ≡ d
+gathered-one b interleaved xs d g n h =
+    let c = data_sizes b in
+    let one = positions-one c h.data_positions g.positions h.data_order g.order in
+    let first : take (codeword_count c) interleaved ≡ map (codeword_at c d) g.positions =
+    search (arith, take-front, length-map) in
+    ext_get_or 0 xs d (g.long ∙ sym n) (λ j l.
+    let w = position-of c (block_count c) j (omega arith) (let z = g.long in omega arith) in
+    let q = map-at (codeword_at c xs) (codeword_at c d) g.positions w.0 (g.same ∙ first) (Mem-of-Contains g.positions w.0 (g.order.complete w.0 w.1)) in
+    cc)
+
+-- a sequence that differs from the final sequence of its gathered codewords is the final sequence of no message
+pub none-fits : (b : Blocks) (interleaved xs again d : List ℕ) → IsGathered (data_sizes b) interleaved xs
+    → IsFinalMessage b xs again → (again ≡ interleaved → ⊥) → length d ≡ codeword_count (data_sizes b)
+    → IsFinalMessage b d interleaved → ⊥
+none-fits b interleaved xs again d g h n l k =
+    let e = gathered-one b interleaved xs d g l k in
+    n (final-one b d again interleaved (subst (λ (z : List ℕ). IsFinalMessage b z again) e h) k)

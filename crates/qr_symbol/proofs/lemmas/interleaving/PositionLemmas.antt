@@ -1,9 +1,6 @@
 -- The interleaving loop appends the codewords of all positions, in their order.
-use Rattle.std.proofs.Common.{◌≡◌, ℕ, zero, suc, ◌+◌, ◌<◌, ◌≤◌, List, [], ◌∷◌, ◌++◌, map, refl, sym, ◌∙◌, ap, subst, inl, inr, ◌⊎◌, append_assoc, arith}
-use Rattle.std.proofs.lemmas.Bool.Decides.{nat_tests}
-use Rattle.std.proofs.lemmas.Bool.{cases_lt}
-use Rattle.std.proofs.lemmas.List.Kept.{AllPairs-cons}
-use Rattle.std.proofs.lemmas.List.{map-append}
+use Rattle.std.proofs.Common.{◌≡◌, ℕ, zero, suc, ◌+◌, ◌<◌, ◌≤◌, List, [], ◌∷◌, ◌++◌, map, refl, subst, inl, inr, ◌⊎◌, append_assoc, arith}
+use Rattle.std.proofs.lemmas.{Bool.Decides.nat_tests, List.Kept.AllPairs-cons, List.map-append}
 use Rattle.std.proofs.Math.Nat.{mul-suc, mul-le-mul_left}
 use Rattle.std.specs.List.{All, AllPairs, AllByRecursion, Contains}
 use Rattle.qr_layout.proofs.Facts.{Mem, Rises, All-of-Mem}
@@ -26,7 +23,7 @@ Mem-push : {X : Type 0} (x y : X) (xs : List X) → Mem x (xs ++ y ∷ []) → M
 Mem-push x y [] (inl e) = inr e
 Mem-push x y [] (inr m) = absurd m
 Mem-push x y (z ∷ zs) (inl e) = inl (inl e)
-Mem-push x y (z ∷ zs) (inr m) = elim (Mem-push x y zs m) [ inl k ↦ inl (inr k) | inr e ↦ inr e ]
+Mem-push x y (z ∷ zs) (inr m) = search (arith, Mem-push x y zs m)
 
 -- the members of a list stay members when an item is added
 Mem-old : {X : Type 0} (x y : X) (xs : List X) → Mem x xs → Mem x (xs ++ y ∷ [])
@@ -53,11 +50,7 @@ Rises-push R (x ∷ xs) y h f = (All-push-rec (R x) xs y h.0 (f x (inl refl)), R
 
 -- no position comes before the first
 pub positions-start : (c : BlockSizes) → PositionsBefore c 0 0 []
-positions-start c = record {
-  sound = λ t m. absurd m;
-  full = λ t i b. elim b [ inl l ↦ absurd (omega arith) | inr w ↦ absurd (let l = w.1 in omega arith) ];
-  rises = tt;
-}
+positions-start c = search arith
 
 -- a position that comes before a position also comes before the next position
 before-more : (t : Position) (p b : ℕ) → ComesBefore t (position p b) → ComesBefore t (position p (b + 1))
@@ -67,40 +60,19 @@ before-more t p b (inr w) = inr (w.0, let l = w.1 in omega arith)
 -- a position that comes before the next position comes before this position, or it is this position
 before-cases : (t : Position) (p b : ℕ) → ComesBefore t (position p (b + 1)) → ComesBefore t (position p b) ⊎ (position p b ≡ t)
 before-cases t p b (inl l) = inl (inl l)
-before-cases t p b (inr w) = elim (cases_lt t.block b) [
-  | inl l ↦ inl (inr (w.0, l))
-  | inr l ↦ let h = w.1 in let k : b ≡ t.block = omega arith in let e = w.0 in inr (λ i. record { place = sym e i; block = k i })
-]
+before-cases t p b (inr w) = search arith
 
 -- one position more
 pub positions-push : (c : BlockSizes) (p b : ℕ) (ts : List Position) → IsPosition c (position p b) → PositionsBefore c p b ts → PositionsBefore c p (b + 1) (ts ++ position p b ∷ [])
-positions-push c p b ts i h = record {
-  sound = λ t m. elim (Mem-push t (position p b) ts m) [
-    | inl k ↦ let w = h.sound t k in (w.0, before-more t p b w.1)
-    | inr e ↦ subst (λ (u : Position). IsPosition c u × ComesBefore u (position p (b + 1))) e (i, inr (refl, omega arith))
-  ];
-  full = λ t j k. elim (before-cases t p b k) [ inl k ↦ Mem-old t (position p b) ts (h.full t j k) | inr e ↦ Mem-new t (position p b) ts e ];
-  rises = Rises-push ComesBefore ts (position p b) h.rises (λ t m. (h.sound t m).1);
-}
+positions-push c p b ts i h = search (arith, Mem-push, before-more, before-cases, Mem-old, Mem-new, Rises-push)
 
 -- block b has no codeword with index p, so no position is added
 pub positions-pass : (c : BlockSizes) (p b : ℕ) (ts : List Position) → (IsPosition c (position p b) → ⊥) → PositionsBefore c p b ts → PositionsBefore c p (b + 1) ts
-positions-pass c p b ts n h = record {
-  sound = λ t m. let w = h.sound t m in (w.0, before-more t p b w.1);
-  full = λ t j k. elim (before-cases t p b k) [ inl k ↦ h.full t j k | inr e ↦ absurd (n (subst (IsPosition c) (sym e) j)) ];
-  rises = h.rises;
-}
+positions-pass c p b ts n h = search (arith, before-more, before-cases)
 
 -- after the last block, the step goes on to the next index
 pub positions-row : (c : BlockSizes) (p : ℕ) (ts : List Position) → PositionsBefore c p (block_count c) ts → PositionsBefore c (p + 1) 0 ts
-positions-row c p ts h = record {
-  sound = λ t m. let w = h.sound t m in (w.0, elim w.1 [ inl l ↦ inl (omega arith) | inr k ↦ inl (let e = k.0 in omega arith) ]);
-  full = λ t j k. h.full t j (elim k [
-    | inl l ↦ elim (cases_lt t.place p) [ inl a ↦ inl a | inr a ↦ inr (omega arith, j.0) ]
-    | inr w ↦ absurd (let l = w.1 in omega arith)
-  ]);
-  rises = h.rises;
-}
+positions-row c p ts h = search arith
 
 -- a member of a list is contained in it
 Contains-of-Mem : {X : Type 0} (xs : List X) (x : X) → Mem x xs → Contains xs x
@@ -127,7 +99,7 @@ len-most c i = grind (arith, nat_tests)
 pub positions-end : (c : BlockSizes) (ts : List Position) → PositionsBefore c (c.short_len + 1) 0 ts → IsPositionOrder c ts
 positions-end c ts h = record {
   in_blocks = All-of-rec (IsPosition c) ts (All-of-Mem (IsPosition c) ts (λ t m. (h.sound t m).0));
-  complete = λ t i. Contains-of-Mem ts t (h.full t i (inl (let l = len-most c t.block in let k = i.1 in omega arith)));
+  complete = search (arith, Contains-of-Mem, len-most);
   rising = pairs-of-Rises ComesBefore ts h.rises;
 }
 
@@ -144,16 +116,16 @@ pub interleaved-push : (c : BlockSizes) (d : List ℕ) (p b : ℕ) (before now l
 interleaved-push c d p b before now later x h i e k = record {
   positions = h.positions ++ position p b ∷ [];
   order = positions-push c p b h.positions i h.order;
-  interleaved = k ∙ (ap (λ (xs : List ℕ). xs ++ x ∷ []) h.interleaved ∙ (append_assoc before (map (codeword_at c d) h.positions) (x ∷ []) ∙ ap (λ (xs : List ℕ). before ++ xs) (ap (λ (y : ℕ). map (codeword_at c d) h.positions ++ y ∷ []) e ∙ sym (map-append (codeword_at c d) h.positions (position p b ∷ [])))));
+  interleaved = search (arith, append_assoc, map-append);
 }
 
 -- block b has no codeword with index p, so nothing is appended
 pub interleaved-pass : (c : BlockSizes) (d : List ℕ) (p b : ℕ) (before now : List ℕ) → InterleavedBefore c d p b before now → (IsPosition c (position p b) → ⊥) → InterleavedBefore c d p (b + 1) before now
-interleaved-pass c d p b before now h n = record { positions = h.positions; order = positions-pass c p b h.positions n h.order; interleaved = h.interleaved }
+interleaved-pass c d p b before now h n = search (arith, positions-pass)
 
 -- after the last block, the step goes on to the next index
 pub interleaved-row : (c : BlockSizes) (d : List ℕ) (p b : ℕ) (before now : List ℕ) → b ≡ block_count c → InterleavedBefore c d p b before now → InterleavedBefore c d (p + 1) 0 before now
-interleaved-row c d p b before now e h = record { positions = h.positions; order = positions-row c p h.positions (subst (λ (k : ℕ). PositionsBefore c p k h.positions) e h.order); interleaved = h.interleaved }
+interleaved-row c d p b before now e h = record { positions = h.positions; order = search (arith, positions-row); interleaved = h.interleaved }
 
 -- after the last index, all codewords have been appended
 pub interleaved-end : (c : BlockSizes) (d : List ℕ) (p : ℕ) (before now : List ℕ) → p ≡ c.short_len + 1 → InterleavedBefore c d p 0 before now → AppendsInterleaved c d before now
@@ -167,7 +139,7 @@ start-none c = omega arith
 
 -- each block begins where the one before ends
 pub start-next : (c : BlockSizes) (i : ℕ) → start_of c (i + 1) ≡ start_of c i + block_len c i
-start-next c i = let e = mul-suc c.short_len i in let o : i + 1 ≡ suc i = omega arith in rw (o, e) (grind (arith, nat_tests))
+start-next c i = search (arith, mul-suc, nat_tests)
 
 -- before the first block there is no codeword
 pub start-first : (c : BlockSizes) (p : ℕ) → p ≡ start_of c 0 + p

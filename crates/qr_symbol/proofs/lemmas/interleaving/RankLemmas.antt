@@ -1,13 +1,12 @@
 -- The number of positions before a position, and that blocks have only one order of positions.
-use Rattle.std.proofs.Common.{◌≡◌, ℕ, zero, suc, ◌+◌, ◌-◌, ◌*◌, ◌<◌, ◌≤◌, cond, eqb, ltb, List, [], ◌∷◌, ◌++◌, map, length, length-append, sym, ◌∙◌, ap, subst, inl, inr, ◌⊎◌, arith}
-use Rattle.std.proofs.lemmas.Bool.Decides.{nat_tests}
-use Rattle.std.proofs.lemmas.Bool.{cases_lt}
+use Rattle.std.proofs.Common.{◌≡◌, ℕ, zero, suc, ◌+◌, ◌-◌, ◌*◌, ◌<◌, ◌≤◌, cond, eqb, ltb, List, [], ◌∷◌, map, sym, ◌∙◌, ap, inl, inr, ◌⊎◌, arith}
+use Rattle.std.proofs.lemmas.Bool.{Decides.nat_tests, cases_lt}
 use Rattle.std.proofs.Math.Nat.{mul-suc, mul-le-mul_left, mul_comm}
 use Rattle.std.specs.List.{All, AllByRecursion, Contains}
 use Rattle.qr_layout.proofs.Facts.{Mem, Mem-at, Rises-of-pairs, one_rising}
 use Rattle.qr_symbol.specs.declared.interleaving.BlockSizes.{BlockSizes}
-use Rattle.qr_symbol.specs.Interleaving.{Position, ComesBefore, block_count, block_len, start_of, codeword_count, IsPosition, IsPositionOrder}
-use Rattle.qr_symbol.proofs.lemmas.interleaving.PositionLemmas.{position, PositionsBefore, positions-start, positions-push, positions-pass, positions-row, positions-end, start-next, start-most}
+use Rattle.qr_symbol.specs.Interleaving.{Position, ComesBefore, block_count, start_of, codeword_count, IsPosition, IsPositionOrder}
+use Rattle.qr_symbol.proofs.lemmas.interleaving.PositionLemmas.{position, start-next, start-most}
 
 -- two positions of codewords at the same index of the message are equal
 pub position-one : (c : BlockSizes) (t u : Position) → IsPosition c t → IsPosition c u → start_of c t.block + t.place ≡ start_of c u.block + u.place → (t.place ≡ u.place) × (t.block ≡ u.block)
@@ -20,7 +19,7 @@ position-one c t u i j e =
       | inl k ↦ absurd (let z = start-most c (t.block + 1) u.block (omega arith) in omega arith)
       | inr k ↦ elim (cases_lt u.block t.block) [
         | inl n ↦ absurd (let z = start-most c (u.block + 1) t.block (omega arith) in omega arith)
-        | inr n ↦ let f : t.block ≡ u.block = omega arith in let g = ap (start_of c) f in (omega arith, f)
+        | inr n ↦ search arith
       ]
     ]
 
@@ -43,17 +42,8 @@ pub rank-in : (c : BlockSizes) (p b : ℕ) → IsPosition c (position p b) → r
 rank-in c p b i = elim (position-cases c p b i) [
   | inl l ↦
       let m : block_count c * (p + 1) ≤ block_count c * c.short_len = mul-le-mul_left (block_count c) (omega arith) in
-      let e = mul_comm (block_count c) c.short_len in
-      let k = i.0 in
-      let f : block_count c * (p + 1) ≡ block_count c * p + block_count c = more (block_count c) p in
-      let g : rank_of c p b ≡ block_count c * p + b = grind (arith, nat_tests) in
-      omega arith
-  | inr w ↦
-      let e = w.0 in
-      let l = w.1 in
-      let k = i.0 in
-      let g : rank_of c p b ≡ c.short_len * block_count c + (b - c.short) = grind (arith, nat_tests) in
-      omega arith
+      search (arith, mul_comm, nat_tests)
+  | inr w ↦ search (arith, nat_tests)
 ]
   where
     more : (n p : ℕ) → n * (p + 1) ≡ n * p + n
@@ -61,27 +51,11 @@ rank-in c p b i = elim (position-cases c p b i) [
 
 -- block b has no codeword with index p, so the number stays the same
 pub rank-pass : (c : BlockSizes) (p b : ℕ) → p ≤ c.short_len → b < block_count c → (IsPosition c (position p b) → ⊥) → rank_of c p (b + 1) ≡ rank_of c p b
-rank-pass c p b l m n = elim (cases_lt p (block_len c b)) [
-  | inl k ↦ absurd (n (m, k))
-  | inr k ↦ grind (arith, nat_tests)
-]
+rank-pass c p b l m n = search (arith, nat_tests)
 
 -- after the last block, the number is that of the first position with the next index
 pub rank-row : (c : BlockSizes) (p : ℕ) → p ≤ c.short_len → rank_of c p (block_count c) ≡ rank_of c (p + 1) 0
-rank-row c p l = elim (cases_lt p c.short_len) [
-  | inl k ↦
-      let o : p + 1 ≡ suc p = omega arith in
-      let f : block_count c * (p + 1) ≡ block_count c * p + block_count c = rw o (mul-suc (block_count c) p) in
-      let e = mul_comm (block_count c) c.short_len in
-      elim (cases_lt (p + 1) c.short_len) [
-        | inl j ↦ grind (arith, nat_tests)
-        | inr j ↦
-            let h : p + 1 ≡ c.short_len = omega arith in
-            let q = ap (λ (z : ℕ). block_count c * z) h in
-            grind (arith, nat_tests)
-      ]
-  | inr k ↦ let h : p ≡ c.short_len = omega arith in grind (arith, nat_tests)
-]
+rank-row c p l = search (arith, mul-suc, mul_comm, nat_tests)
 
 -- no position comes before the first
 pub rank-start : (c : BlockSizes) → 0 ≡ rank_of c 0 0
@@ -137,39 +111,3 @@ pub map-at : {X Y : Type 0} (f g : X → Y) (xs : List X) (x : X) → map f xs �
 map-at f g [] x e m = absurd m
 map-at f g (y ∷ ys) x e (inl k) = let h : f y ≡ g y = cc in ap f (sym k) ∙ (h ∙ ap g k)
 map-at f g (y ∷ ys) x e (inr m) = let t : map f ys ≡ map g ys = cc in map-at f g ys x t m
-
--- ---- the number of all positions
-
--- the positions before the position (p, b), with their number
-record Listed (c : BlockSizes) (p b : ℕ) : Type 0 where
-  pub positions : List Position
-  pub order : PositionsBefore c p b positions
-  pub many : length positions ≡ rank_of c p b
-
--- one block more
-listed-next : (c : BlockSizes) (p b : ℕ) → p ≤ c.short_len → b < block_count c → Listed c p b → Listed c p (b + 1)
-listed-next c p b l m h = elim (cases_lt p (block_len c b)) [
-  | inl k ↦ record { positions = h.positions ++ position p b ∷ []; order = positions-push c p b h.positions (m, k) h.order; many = let r = rank-push c p b (m, k) in let n = h.many in let a = length-append h.positions (position p b ∷ []) in omega arith }
-  | inr k ↦
-      let n : IsPosition c (position p b) → ⊥ = λ t. let q = t.1 in absurd (omega arith) in
-      record { positions = h.positions; order = positions-pass c p b h.positions n h.order; many = h.many ∙ sym (rank-pass c p b l m n) }
-]
-
--- all blocks at one index
-listed-across : (c : BlockSizes) (p b : ℕ) → p ≤ c.short_len → b ≤ block_count c → Listed c p 0 → Listed c p b
-listed-across c p zero l m h = h
-listed-across c p (suc b) l m h = let e : b + 1 ≡ suc b = omega arith in subst (Listed c p) e (listed-next c p b l (omega arith) (listed-across c p b l (omega arith) h))
-
--- all indices
-listed-down : (c : BlockSizes) (p : ℕ) → p ≤ c.short_len + 1 → Listed c p 0
-listed-down c zero l = record { positions = []; order = positions-start c; many = rank-start c }
-listed-down c (suc p) l =
-    let h = listed-across c p (block_count c) (omega arith) (omega arith) (listed-down c p (omega arith)) in
-    let e : p + 1 ≡ suc p = omega arith in
-    subst (λ (k : ℕ). Listed c k 0) e (record { positions = h.positions; order = positions-row c p h.positions h.order; many = h.many ∙ rank-row c p (omega arith) })
-
--- an order of positions has one position for each codeword
-pub positions-many : (c : BlockSizes) (ts : List Position) → IsPositionOrder c ts → length ts ≡ codeword_count c
-positions-many c ts h =
-    let w = listed-down c (c.short_len + 1) (omega arith) in
-    ap (length {A = Position}) (positions-one c ts w.positions h (positions-end c w.positions w.order)) ∙ (w.many ∙ rank-end c)

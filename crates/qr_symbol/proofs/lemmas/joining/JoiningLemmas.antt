@@ -1,15 +1,13 @@
 -- Squares are read one by one, and are joined to one list of bytes or refused for one reason.
-use Rattle.std.proofs.Common.{◌≡◌, ℕ, ◌+◌, ◌<◌, ◌≤◌, List, [], ◌∷◌, ◌++◌, take, drop, length, get_or, refl, sym, ◌∙◌, ap, subst, inl, inr, ◌⊎◌, arith}
-use Rattle.std.specs.Prelude.{Some}
+use Rattle.std.proofs.Common.{◌≡◌, ℕ, ◌+◌, ◌<◌, ◌≤◌, List, [], ◌∷◌, ◌++◌, take, drop, length, get_or, refl, sym, ◌∙◌, inl, inr, ◌⊎◌, arith}
 use Rattle.std.proofs.lemmas.List.{take_more, take-append-drop, take-map, drop_more, drop_all, get_or-map, length-map}
+use Rattle.std.specs.Prelude.{Some}
 use Rattle.qr_bits.specs.Parsing.{Content}
 use Rattle.qr_symbol.specs.declared.fault.ReadFault.{ReadFault}
 use Rattle.qr_symbol.specs.declared.fault.ReadFault.TheVariants as fault
-use Rattle.qr_symbol.specs.declared.symbol.Symbol.{Symbol}
+use Rattle.qr_symbol.specs.{declared.symbol.Symbol.Symbol, Reading.IsReading, Reading.IsUnread, Series.squares_of}
+use Rattle.qr_symbol.specs.Joining.{AreReadBy, HaveHeaders, IsFirstRefused, IsJoinedBy, IsNoSeries, IsUnjoined, IsUnjoinedBy}
 use Rattle.qr_matrix.specs.Grid.{Grid}
-use Rattle.qr_symbol.specs.Reading.{IsReading, IsUnread}
-use Rattle.qr_symbol.specs.Series.{squares_of}
-use Rattle.qr_symbol.specs.Joining.{AreReadBy, bytes_of_all, HaveHeaders, BelongTogether, IsFirstRefused, IsJoinedBy, IsNoSeries, IsUnjoined, IsUnjoinedBy}
 
 -- ---- squares and contents, in turn
 
@@ -36,14 +34,11 @@ first-unread reads refuses (f ∷ gs) rest (c ∷ cs) g e a u = inr (c, a.0, fir
 
 -- one more square of a list is read, stated by its index
 pub readings-next : (reads : Grid → Content → Type 0) (gs : List Grid) (i : ℕ) (g : Grid) (cs : List Content) (c : Content) → i < length gs → g ≡ get_or gs i g → AreReadBy reads (take i gs) cs → reads g c → AreReadBy reads (take (i + 1) gs) (cs ++ c ∷ [])
-readings-next reads gs i g cs c l e a h =
-    subst (λ (fs : List Grid). AreReadBy reads fs (cs ++ c ∷ [])) (sym (take_more gs i g l ∙ ap (λ (f : Grid). take i gs ++ f ∷ []) (sym e))) (readings-push reads (take i gs) cs g c a h)
+readings-next reads gs i g cs c l e a h = search (arith, take_more, readings-push)
 
 -- the square of the symbol with index i
 square-at : (ss : List Symbol) (i : ℕ) (s : Symbol) → i < length ss → s ≡ get_or ss i s → (i < length (squares_of ss)) × (s.matrix ≡ get_or (squares_of ss) i s.matrix)
-square-at ss i s l e =
-    let n = length-map ss (λ (x : Symbol). x.matrix) in
-    (omega arith, ap (λ (x : Symbol). x.matrix) e ∙ sym (get_or-map (λ (x : Symbol). x.matrix) ss i s s.matrix l))
+square-at ss i s l e = search (arith, length-map, get_or-map)
 
 -- the squares of the first symbols
 squares-taken : (ss : List Symbol) (i : ℕ) → squares_of (take i ss) ≡ take i (squares_of ss)
@@ -53,8 +48,7 @@ squares-taken ss i = sym (take-map (λ (x : Symbol). x.matrix) i ss)
 pub readings-more : (ss : List Symbol) (i : ℕ) (s : Symbol) (cs : List Content) (c : Content) → i < length ss → s ≡ get_or ss i s → AreReadBy IsReading (squares_of (take i ss)) cs → IsReading s.matrix c → AreReadBy IsReading (squares_of (take (i + 1) ss)) (cs ++ c ∷ [])
 readings-more ss i s cs c l e a h =
     let at = square-at ss i s l e in
-    subst (λ (gs : List Grid). AreReadBy IsReading gs (cs ++ c ∷ [])) (sym (squares-taken ss (i + 1)))
-    (readings-next IsReading (squares_of ss) i s.matrix cs c at.0 at.1 (subst (λ (gs : List Grid). AreReadBy IsReading gs cs) (squares-taken ss i) a) h)
+    search (arith, squares-taken, readings-next)
 
 -- ---- the first fault
 
@@ -78,33 +72,31 @@ unread-unjoined reads refuses n gs fault.Series u = absurd (never-series reads r
 -- fault
 pub unjoined-next : (reads : Grid → Content → Type 0) (refuses : Grid → ReadFault → Type 0) → ((g : Grid) → refuses g fault.Series → ⊥) → (gs : List Grid) (i : ℕ) (g : Grid) (cs : List Content) (e : ReadFault) → i < length gs → g ≡ get_or gs i g → AreReadBy reads (take i gs) cs → refuses g e → IsUnjoinedBy reads refuses gs e
 unjoined-next reads refuses n gs i g cs e l p a u =
-    let around : gs ≡ take i gs ++ g ∷ drop (i + 1) gs = sym (take-append-drop i gs) ∙ (ap (λ (fs : List Grid). take i gs ++ fs) (drop_more gs i g l) ∙ ap (λ (f : Grid). take i gs ++ f ∷ drop (i + 1) gs) (sym p)) in
-    unread-unjoined reads refuses n gs e (subst (λ (fs : List Grid). IsFirstRefused reads refuses fs e) (sym around) (first-unread reads refuses (take i gs) (drop (i + 1) gs) cs g e a u))
+    let around : gs ≡ take i gs ++ g ∷ drop (i + 1) gs = cc (take-append-drop i gs, drop_more gs i g l) in
+    search (arith, unread-unjoined, first-unread)
 
 -- if all symbols before one are read and this one is refused for a fault, they are not joined because of this fault
 pub unjoined-at : (ss : List Symbol) (i : ℕ) (s : Symbol) (cs : List Content) (e : ReadFault) → i < length ss → s ≡ get_or ss i s → AreReadBy IsReading (squares_of (take i ss)) cs → IsUnread s.matrix e → IsUnjoined (squares_of ss) e
 unjoined-at ss i s cs e l p a u =
     let at = square-at ss i s l p in
-    unjoined-next IsReading IsUnread (λ g v. v) (squares_of ss) i s.matrix cs e at.0 at.1 (subst (λ (gs : List Grid). AreReadBy IsReading gs cs) (squares-taken ss i) a) u
+    search (arith, unjoined-next, squares-taken)
 
 -- ---- the headers of a series
 
 -- if the contents from position k on have their headers, so have those from k + 1 on, and content k has its header
 pub headers-next : (last parity k : ℕ) (cs : List Content) (c : Content) → k < length cs → c ≡ get_or cs k c → HaveHeaders last parity k (drop k cs) → (c.header ≡ Some (record { position = k; last = last; parity = parity })) × HaveHeaders last parity (k + 1) (drop (k + 1) cs)
 unfolding HaveHeaders
-headers-next last parity k cs c l e h =
-    subst (λ (ds : List Content). HaveHeaders last parity k ds) (drop_more cs k c l ∙ ap (λ (x : Content). x ∷ drop (k + 1) cs) (sym e)) h
+headers-next last parity k cs c l e h = search (arith, drop_more)
 
 -- if content k and the contents from position k + 1 on have their headers, so have those from k on
 pub headers-before : (last parity k : ℕ) (cs : List Content) (c : Content) → k < length cs → c ≡ get_or cs k c → c.header ≡ Some (record { position = k; last = last; parity = parity }) → HaveHeaders last parity (k + 1) (drop (k + 1) cs) → HaveHeaders last parity k (drop k cs)
 unfolding HaveHeaders
-headers-before last parity k cs c l e h r =
-    subst (λ (ds : List Content). HaveHeaders last parity k ds) (sym (drop_more cs k c l ∙ ap (λ (x : Content). x ∷ drop (k + 1) cs) (sym e))) (h, r)
+headers-before last parity k cs c l e h r = search (arith, drop_more)
 
 -- after the last position there is no header to check
 pub headers-end : (last parity k : ℕ) (cs : List Content) → length cs ≤ k → HaveHeaders last parity k (drop k cs)
 unfolding HaveHeaders
-headers-end last parity k cs l = subst (λ (ds : List Content). HaveHeaders last parity k ds) (sym (drop_all k cs l)) tt
+headers-end last parity k cs l = cc (drop_all k cs l)
 
 -- ---- squares are joined to one list of bytes
 
@@ -115,13 +107,10 @@ readings-one reads same [] [] (d ∷ ds) a b = absurd b
 readings-one reads same [] (c ∷ cs) ds a b = absurd a
 readings-one reads same (g ∷ gs) [] ds a b = absurd a
 readings-one reads same (g ∷ gs) (c ∷ cs) [] a b = absurd b
-readings-one reads same (g ∷ gs) (c ∷ cs) (d ∷ ds) a b =
-    let e = same g c d a.0 b.0 in
-    let f = readings-one reads same gs cs ds a.1 b.1 in
-    λ i. e i ∷ f i
+readings-one reads same (g ∷ gs) (c ∷ cs) (d ∷ ds) a b = search (arith, readings-one reads same gs cs ds a.1 b.1)
 
 pub joining-one : (reads : Grid → Content → Type 0) → ((g : Grid) (c d : Content) → reads g c → reads g d → c ≡ d) → (gs : List Grid) (x y : List ℕ) → IsJoinedBy reads gs x → IsJoinedBy reads gs y → x ≡ y
-joining-one reads same gs x y h k = h.joined ∙ (ap bytes_of_all (readings-one reads same gs h.contents k.contents h.read k.read) ∙ sym k.joined)
+joining-one reads same gs x y h k = search (arith, readings-one)
 
 -- ---- and are refused for one reason
 
@@ -153,13 +142,7 @@ told reads refuses gs fault.Series u = inr (inr (refl, u))
 
 -- squares that are joined to bytes are refused only for lack of memory
 pub joined-refused : (reads : Grid → Content → Type 0) (refuses : Grid → ReadFault → Type 0) → ((g : Grid) (c d : Content) → reads g c → reads g d → c ≡ d) → ((g : Grid) (c : Content) (e : ReadFault) → reads g c → refuses g e → e ≡ fault.Memory) → (gs : List Grid) (x : List ℕ) (e : ReadFault) → IsJoinedBy reads gs x → IsUnjoinedBy reads refuses gs e → e ≡ fault.Memory
-joined-refused reads refuses same never gs x e h u = elim (told reads refuses gs e u) [
-  | inl m ↦ m
-  | inr r ↦ elim r [
-    | inl f ↦ read-unread reads refuses never gs h.contents e h.read f
-    | inr n ↦ let none = n.1 in absurd (none.apart (subst BelongTogether (readings-one reads same gs h.contents none.contents h.read none.read) h.together))
-  ]
-]
+joined-refused reads refuses same never gs x e h u = search (arith, told, read-unread, readings-one)
 
 -- two faults of the same squares are equal, or one of them is lack of memory
 pub unjoined-one : (reads : Grid → Content → Type 0) (refuses : Grid → ReadFault → Type 0) → ((g : Grid) (c : Content) (e : ReadFault) → reads g c → refuses g e → e ≡ fault.Memory) → ((g : Grid) (e f : ReadFault) → refuses g e → refuses g f → (e ≡ fault.Memory) ⊎ ((f ≡ fault.Memory) ⊎ (e ≡ f))) → (gs : List Grid) (e f : ReadFault) → IsUnjoinedBy reads refuses gs e → IsUnjoinedBy reads refuses gs f → (e ≡ fault.Memory) ⊎ ((f ≡ fault.Memory) ⊎ (e ≡ f))

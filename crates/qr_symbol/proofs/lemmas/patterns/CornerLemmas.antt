@@ -1,29 +1,21 @@
 -- The modules of row 8 and column 8 that are beside the finder patterns.
-use Rattle.std.proofs.Common.{◌≡◌, ℕ, ◌+◌, ◌-◌, ◌<◌, ◌≤◌, Bool, true, false, cond, eqb, ltb, leb, ◌&&◌, ◌||◌, ◌⊎◌, refl, sym, ◌∙◌, ap, inl, inr, arith}
-use Rattle.std.proofs.lemmas.Bool.{cases_eq, cases_lt}
-use Rattle.std.proofs.lemmas.Bool.Decides.{nat_tests}
-use Rattle.qr_layout.specs.declared.region.Module.{Module}
-use Rattle.qr_layout.specs.declared.role.Role.{Role}
+use Rattle.std.proofs.Common.{◌≡◌, ℕ, ◌+◌, ◌-◌, ◌<◌, ◌≤◌, Bool, true, false, cond, eqb, ◌&&◌, ◌||◌, ◌⊎◌, refl, sym, ◌∙◌, ap, inl, inr, subst, arith}
+use Rattle.std.proofs.lemmas.Bool.{cases_eq, cases_lt, Decides.nat_tests}
+use Rattle.qr_layout.specs.declared.{region.Module.Module, role.Role.Role}
 use Rattle.qr_layout.specs.declared.role.Role.TheVariants.{Fixed, FormatBit, VersionBit, Region}
-use Rattle.qr_layout.specs.Version.{side_of}
-use Rattle.qr_layout.specs.Format.{version_word_of}
-use Rattle.qr_layout.specs.Region.{is_corner}
+use Rattle.qr_layout.specs.{Version.side_of, Format.version_word_of, Region.is_corner}
 use Rattle.qr_layout.specs.Role.{role_of, first_place, second_place}
 use Rattle.qr_layout.proofs.Facts.{dark-module, format-first, format-only, format-second}
-use Rattle.qr_symbol.specs.Steps.Patterns.{fixed_colour, format_or, is_dark_in_six, paint_of}
+use Rattle.qr_symbol.specs.Steps.Patterns.{fixed_colour, format_or, is_dark_in_six, is_in_block, paint_of}
 use Rattle.qr_symbol.proofs.lemmas.placement.PlacementLemmas.{at, by_test}
 use Rattle.qr_symbol.proofs.lemmas.patterns.TimingLemmas.{paint-column_six, paint-fixed, paint-row_six}
 
--- the test that a place is in the eight by eight modules of a finder pattern and its separator
-abbrev pub block : ℕ → ℕ → ℕ → ℕ → Bool
-block top left r c = leb top r && ltb r (top + 8) && leb left c && ltb c (left + 8)
-
 -- the tests that a place is in one of the first one, two and three blocks
 abbrev pub two_blocks : ℕ → ℕ → ℕ → Bool
-two_blocks s r c = block 0 0 r c || block 0 (s - 8) r c
+two_blocks s r c = is_in_block 0 0 r c || is_in_block 0 (s - 8) r c
 
 abbrev pub blocks : ℕ → ℕ → ℕ → Bool
-blocks s r c = two_blocks s r c || block (s - 8) 0 r c
+blocks s r c = two_blocks s r c || is_in_block (s - 8) 0 r c
 
 -- the blocks, and then the two timing modules and the dark module beside them
 abbrev pub with_first : ℕ → ℕ → ℕ → Bool
@@ -76,60 +68,34 @@ at-second : (v r c i : ℕ) → 1 ≤ v → v ≤ 40 → i < 15 → (second_plac
 at-second v r c i k1 k2 l e f = ap (λ z. role_of v z c) (sym e) ∙ (ap (λ z. role_of v (second_place (side_of v) i).row z) (sym f) ∙ format-second v i k1 k2 l)
 
 -- the places beside the finder patterns, but for the timing modules and the dark module, have bits of the format information
-column-painted : (v r format : ℕ) (w : Bool) → 1 ≤ v → v ≤ 40 → (r < 9 ⊎ side_of v - 8 < r) → r < side_of v → (r ≡ 6 → ⊥) → format_or format (role_of v r 8) w ≡ paint_of v format r 8
+column-painted : (v r format : ℕ) (w : Bool) → 1 ≤ v → v ≤ 40 → (9 ≤ r → side_of v - 8 < r) → r < side_of v
+    → (r ≡ 6 → ⊥) → format_or format (role_of v r 8) w ≡ paint_of v format r 8
 column-painted v r format w k1 k2 n l o = elim (cases_lt r 6) [
   | inl a ↦ bit-painted v r 8 format r w (at-first v r 8 r k1 k2 (omega arith) (grind (arith, nat_tests)) (grind (arith, nat_tests)))
   | inr a ↦ elim (cases_lt r 9) [
     | inl b ↦ bit-painted v r 8 format (r - 1) w (at-first v r 8 (r - 1) k1 k2 (omega arith) (grind (arith, nat_tests)) (grind (arith, nat_tests)))
-    | inr b ↦ elim n [
-      | inl d ↦ absurd (omega arith)
-      | inr d ↦ bit-painted v r 8 format (r + 15 - side_of v) w (at-second v r 8 (r + 15 - side_of v) k1 k2 (omega arith) (grind (arith, nat_tests)) (grind (arith, nat_tests)))
-    ]
+    | inr b ↦ let d = n b in bit-painted v r 8 format (r + 15 - side_of v) w (at-second v r 8 (r + 15 - side_of v) k1 k2 (omega arith) (grind (arith, nat_tests)) (grind (arith, nat_tests)))
   ]
 ]
 
-row-painted : (v c format : ℕ) (w : Bool) → 1 ≤ v → v ≤ 40 → (c < 8 ⊎ side_of v - 8 ≤ c) → c < side_of v → (c ≡ 6 → ⊥) → format_or format (role_of v 8 c) w ≡ paint_of v format 8 c
+row-painted : (v c format : ℕ) (w : Bool) → 1 ≤ v → v ≤ 40 → (8 ≤ c → side_of v - 8 ≤ c) → c < side_of v → (c ≡ 6 → ⊥)
+    → format_or format (role_of v 8 c) w ≡ paint_of v format 8 c
 row-painted v c format w k1 k2 n l o = elim (cases_lt c 6) [
   | inl a ↦ bit-painted v 8 c format (14 - c) w (at-first v 8 c (14 - c) k1 k2 (omega arith) (grind (arith, nat_tests)) (grind (arith, nat_tests)))
   | inr a ↦ elim (cases_lt c 8) [
     | inl b ↦ bit-painted v 8 c format 8 w (at-first v 8 c 8 k1 k2 (omega arith) (grind (arith, nat_tests)) (grind (arith, nat_tests)))
-    | inr b ↦ elim n [
-      | inl d ↦ absurd (omega arith)
-      | inr d ↦ bit-painted v 8 c format (side_of v - 1 - c) w (at-second v 8 c (side_of v - 1 - c) k1 k2 (omega arith) (grind (arith, nat_tests)) (grind (arith, nat_tests)))
-    ]
+    | inr b ↦ let d = n b in bit-painted v 8 c format (side_of v - 1 - c) w (at-second v 8 c (side_of v - 1 - c) k1 k2 (omega arith) (grind (arith, nat_tests)) (grind (arith, nat_tests)))
   ]
 ]
 
--- the place (r, c) is beside a finder pattern, in column 8 or in row 8
-beside-cases : (s r c : ℕ) → 21 ≤ s → r < s → c < s → begun s r c ≡ false → is_corner s r c ≡ true
-    → ((c ≡ 8) × ((r < 9 ⊎ s - 8 < r) × (r ≡ 6 → ⊥))) ⊎ ((r ≡ 8) × ((c < 8 ⊎ s - 8 ≤ c) × (c ≡ 6 → ⊥)))
-beside-cases s r c h l m t u = elim (cases_eq c 8) [
-  | inl e ↦ inl (e, (near_column e (cases_lt r 9), column-free e))
-  | inr e ↦ inr (row e, (near_row e (cases_lt c 8), row-free e))
-]
-  where
-    far : c ≡ 8 → 9 ≤ r → s - 8 < r
-    far e a = grind (arith, nat_tests)
+-- a place of a corner that is drawn last is beside a finder pattern, in column 8 or in row 8
+beside-column : (s r c : ℕ) → 21 ≤ s → r < s → begun s r c ≡ false → is_corner s r c ≡ true → c ≡ 8
+    → (9 ≤ r → s - 8 < r) × (r ≡ 6 → ⊥)
+beside-column s r c h l t u e = (λ a. grind (arith, nat_tests), λ a. grind (arith, nat_tests))
 
-    near_column : c ≡ 8 → (r < 9 ⊎ 9 ≤ r) → (r < 9 ⊎ s - 8 < r)
-    near_column e (inl a) = inl a
-    near_column e (inr a) = inr (far e a)
-
-    column-free : c ≡ 8 → r ≡ 6 → ⊥
-    column-free e a = grind (arith, nat_tests)
-
-    row : (c ≡ 8 → ⊥) → r ≡ 8
-    row e = grind (arith, nat_tests)
-
-    right : (c ≡ 8 → ⊥) → 8 ≤ c → s - 8 ≤ c
-    right e a = grind (arith, nat_tests)
-
-    near_row : (c ≡ 8 → ⊥) → (c < 8 ⊎ 8 ≤ c) → (c < 8 ⊎ s - 8 ≤ c)
-    near_row e (inl a) = inl a
-    near_row e (inr a) = inr (right e a)
-
-    row-free : (c ≡ 8 → ⊥) → c ≡ 6 → ⊥
-    row-free e a = grind (arith, nat_tests)
+beside-row : (s r c : ℕ) → 21 ≤ s → r < s → c < s → begun s r c ≡ false → is_corner s r c ≡ true → (c ≡ 8 → ⊥)
+    → (r ≡ 8) × (8 ≤ c → s - 8 ≤ c) × (c ≡ 6 → ⊥)
+beside-row s r c h l m t u e = (grind (arith, nat_tests), λ a. grind (arith, nat_tests), λ a. grind (arith, nat_tests))
 
 -- drawing the format information does not change the modules outside the corners
 outside-kept : (v r c format : ℕ) (w : Bool) → 1 ≤ v → is_corner (side_of v) r c ≡ false → format_or format (role_of v r c) w ≡ w
@@ -165,12 +131,11 @@ corners-done v r c format w k1 k2 l m =
     by_test b (format_or format q (cond b p w) ≡ cond corner p w)
     (λ t. ap (λ z. format_or format q (cond z p w)) t ∙ (stays-painted v r c format ∙ ap (λ z. cond z p w) (sym (begun-corner (side_of v) (omega arith) l m t))))
     (λ t. by_test corner (format_or format q (cond b p w) ≡ cond corner p w)
-    (λ u. drawn (cond b p w) (beside-cases (side_of v) r c (omega arith) l m t u) ∙ ap (λ z. cond z p w) (sym u))
+    (λ u. elim (cases_eq c 8) [
+      | inl e ↦ (let d = beside-column (side_of v) r c (omega arith) l t u e in rw u (subst (λ z. format_or format (role_of v r z) (cond b p w) ≡ paint_of v format r z) (sym e) (column-painted v r format (cond b p w) k1 k2 d.0 l d.1)))
+      | inr e ↦ (let d = beside-row (side_of v) r c (omega arith) l m t u e in rw u (subst (λ z. format_or format (role_of v z c) (cond b p w) ≡ paint_of v format z c) (sym d.0) (row-painted v c format (cond b p w) k1 k2 d.1 m d.2)))
+    ])
     (λ u. outside-kept v r c format (cond b p w) k1 u ∙ (ap (λ z. cond z p w) t ∙ ap (λ z. cond z p w) (sym u))))
   where
     begun-corner : (s : ℕ) → 21 ≤ s → r < s → c < s → begun s r c ≡ true → is_corner s r c ≡ true
     begun-corner s h l m t = grind (arith, nat_tests)
-
-    drawn : (x : Bool) → ((c ≡ 8) × ((r < 9 ⊎ side_of v - 8 < r) × (r ≡ 6 → ⊥))) ⊎ ((r ≡ 8) × ((c < 8 ⊎ side_of v - 8 ≤ c) × (c ≡ 6 → ⊥))) → format_or format (role_of v r c) x ≡ paint_of v format r c
-    drawn x (inl d) = ap (λ z. format_or format (role_of v r z) x) d.0 ∙ (column-painted v r format x k1 k2 d.1.0 l d.1.1 ∙ ap (λ z. paint_of v format r z) (sym d.0))
-    drawn x (inr d) = ap (λ z. format_or format (role_of v z c) x) d.0 ∙ (row-painted v c format x k1 k2 d.1.0 m d.1.1 ∙ ap (λ z. paint_of v format z c) (sym d.0))

@@ -1,16 +1,12 @@
 -- The format information, drawn bit by bit over a symbol.
 use Rattle.std.proofs.Common.{◌≡◌, ℕ, ◌+◌, ◌<◌, ◌≤◌, Bool, true, false, cond, ltb, leb, ◌&&◌, ◌||◌, refl, sym, ◌∙◌, ap, inl, inr, arith}
-use Rattle.std.proofs.lemmas.Bool.{cases_eq}
-use Rattle.std.proofs.lemmas.Bool.Decides.{nat_tests}
-use Rattle.qr_layout.specs.declared.region.Module.{Module}
-use Rattle.qr_layout.specs.declared.role.Role.{Role}
+use Rattle.std.proofs.lemmas.Bool.{cases_eq, Decides.nat_tests}
+use Rattle.qr_layout.specs.declared.{region.Module.Module, role.Role.Role}
 use Rattle.qr_layout.specs.declared.role.Role.TheVariants.{Fixed, FormatBit, VersionBit, Region}
-use Rattle.qr_layout.specs.Version.{side_of}
-use Rattle.qr_layout.specs.Role.{role_of, first_place, second_place}
+use Rattle.qr_layout.specs.{Version.side_of, Role.role_of, Role.first_place, Role.second_place}
 use Rattle.qr_layout.proofs.Facts.{format-only, format-first, format-second}
-use Rattle.qr_matrix.specs.Grid.{Grid, square, colour, painted, IsSquare}
+use Rattle.qr_matrix.specs.{Grid.Grid, Grid.square, Grid.colour, Grid.painted, Grid.IsSquare, BitRow.has_bit}
 use Rattle.qr_matrix.proofs.Facts.{same-place, square-same, colour-painted-here, colour-painted-there}
-use Rattle.qr_matrix.specs.BitRow.{has_bit}
 use Rattle.qr_symbol.specs.Steps.Patterns.{format_bits_or, format_or}
 use Rattle.qr_symbol.proofs.lemmas.placement.PlacementLemmas.{at}
 
@@ -53,16 +49,14 @@ pub format-step : (v format first i : ℕ) (g0 g : Grid) (a b : Module) (d : Boo
     → FormatDone v format first i g0 g → FormatDone v format first (i + 1) g0 (painted (painted g a.row a.col d) b.row b.col d)
 format-step v format first i g0 g a b d k1 k2 k l s ea ar ac eb br bc ed h r c m n = elim (same-place b.row b.col r c) [
   | inl w ↦
-      let q : role_of v r c ≡ FormatBit i =
-      ap (λ (z : ℕ). role_of v z c) w.0.0 ∙ (ap (λ (z : ℕ). role_of v b.row z) w.0.1 ∙ (ap (λ (z : Module). role_of v z.row z.col) eb ∙ format-second v i k1 k2 l)) in
-      ap (λ (z : ℕ). colour (painted (painted g a.row a.col d) b.row b.col d) z c) w.0.0 ∙ (ap (λ (z : ℕ). colour (painted (painted g a.row a.col d) b.row b.col d) b.row z) w.0.1
-      ∙ (colour-painted-here (painted g a.row a.col d) b.row b.col d (omega arith) (omega arith) ∙ bit-drawn first i format (role_of v r c) (colour g0 r c) d k q ed))
+      let q : role_of v b.row b.col ≡ FormatBit i = rw eb (format-second v i k1 k2 l) in
+      rw (w.0.0, w.0.1) (colour-painted-here (painted g a.row a.col d) b.row b.col d (omega arith) (omega arith)
+      ∙ bit-drawn first i format (role_of v b.row b.col) (colour g0 b.row b.col) d k q ed)
   | inr w ↦ colour-painted-there (painted g a.row a.col d) b.row b.col r c d (omega arith) (omega arith) w.0 ∙ elim (same-place a.row a.col r c) [
     | inl u ↦
-        let q : role_of v r c ≡ FormatBit i =
-        ap (λ (z : ℕ). role_of v z c) u.0.0 ∙ (ap (λ (z : ℕ). role_of v a.row z) u.0.1 ∙ (ap (λ (z : Module). role_of v z.row z.col) ea ∙ format-first v i k1 k2 l)) in
-        ap (λ (z : ℕ). colour (painted g a.row a.col d) z c) u.0.0 ∙ (ap (λ (z : ℕ). colour (painted g a.row a.col d) a.row z) u.0.1
-        ∙ (colour-painted-here g a.row a.col d (omega arith) (omega arith) ∙ bit-drawn first i format (role_of v r c) (colour g0 r c) d k q ed))
+        let q : role_of v a.row a.col ≡ FormatBit i = rw ea (format-first v i k1 k2 l) in
+        rw (u.0.0, u.0.1) (colour-painted-here g a.row a.col d (omega arith) (omega arith)
+        ∙ bit-drawn first i format (role_of v a.row a.col) (colour g0 a.row a.col) d k q ed)
     | inr u ↦
         colour-painted-there g a.row a.col r c d (omega arith) (omega arith) u.0
         ∙ (h r c m n ∙ bit-kept first i format (role_of v r c) (colour g0 r c) (λ q. elim (format-only v (at r c) i q).1 [

@@ -1,64 +1,67 @@
 -- Squares that are painted at the places that pass a test.
-use Rattle.std.proofs.Common.{◌≡◌, ℕ, ◌+◌, ◌-◌, ◌<◌, ◌≤◌, Bool, true, false, not, cond, eqb, ltb, leb, ◌&&◌, ◌||◌, List, [], ◌∷◌, length, take, get_or, refl, sym, ◌∙◌, ap, inl, inr, arith}
-use Rattle.std.proofs.lemmas.Bool.Decides.{nat_tests}
-use Rattle.std.proofs.lemmas.List.{take_more}
-use Rattle.std.proofs.lemmas.List.Folds.{list_any-append}
+use Rattle.std.proofs.Common.{◌≡◌, ℕ, ◌+◌, ◌-◌, ◌<◌, ◌≤◌, Bool, true, false, not, cond, eqb, ltb, leb, ◌&&◌, ◌||◌, List, [], ◌∷◌, length, take, get_or, refl, ◌∙◌, ap, inl, inr, arith}
+use Rattle.std.proofs.lemmas.{Bool.Decides.nat_tests, List.take_more, List.Folds.list_any-append}
 use Rattle.std.specs.List.{list_any}
-use Rattle.qr_layout.specs.declared.region.Module.{Module}
-use Rattle.qr_layout.specs.declared.rectangles.Rectangle.{Rectangle}
-use Rattle.qr_layout.specs.Version.{side_of}
+use Rattle.qr_layout.specs.{declared.region.Module.Module, declared.rectangles.Rectangle.Rectangle, Version.side_of}
 use Rattle.qr_layout.specs.Alignment.{alignment_places, centres_of}
-use Rattle.qr_layout.specs.Region.{is_alignment, ring_of}
-use Rattle.qr_layout.specs.Role.{is_alignment_light}
+use Rattle.qr_layout.specs.{Region.is_alignment, Region.ring_of, Role.is_alignment_light}
 use Rattle.qr_matrix.specs.Grid.{Grid, square, colour, painted, with_rectangle, IsSquare}
 use Rattle.qr_matrix.proofs.Facts.{same-place, square-same, colour-square}
+use Rattle.qr_symbol.specs.Steps.Patterns.{IsOver}
 use Rattle.qr_symbol.proofs.lemmas.placement.PlacementLemmas.{square-is}
 
--- the square with the colours f at the places that pass the test, and h at all other places
-abbrev pub over : ℕ → (ℕ → ℕ → Bool) → (ℕ → ℕ → Bool) → (ℕ → ℕ → Bool) → Grid
-over s t f h = square s (λ r c. cond (t r c) (f r c) (h r c))
+-- a square with these colours
+pub over-is : {s : ℕ} {g : Grid} (t f h : ℕ → ℕ → Bool) → g ≡ square s (λ r c. cond (t r c) (f r c) (h r c))
+    → IsOver s t f h g
+over-is {s} {g} t f h e = record {
+  square = square-is s (λ r c. cond (t r c) (f r c) (h r c)) g e;
+  colours = λ r c l m. ap (λ (z : Grid). colour z r c) e ∙ colour-square s (λ r c. cond (t r c) (f r c) (h r c)) r c l m;
+}
 
--- the result of painting is a square
-pub over-square : (s : ℕ) (t f h : ℕ → ℕ → Bool) (g : Grid) → g ≡ over s t f h → IsSquare s g
-over-square s t f h g e = square-is s (λ r c. cond (t r c) (f r c) (h r c)) g e
+-- the side of a painted square
+pub over-side : {s : ℕ} {t f h : ℕ → ℕ → Bool} {g : Grid} → IsOver s t f h g → g.side ≡ s
+over-side e = ap (λ (z : Grid). z.side) e.square
 
--- the colours after painting
-pub over-colour : (s : ℕ) (t f h : ℕ → ℕ → Bool) (g : Grid) (r c : ℕ) → r < s → c < s → g ≡ over s t f h → colour g r c ≡ cond (t r c) (f r c) (h r c)
-over-colour s t f h g r c l m e = ap (λ (z : Grid). colour z r c) e ∙ colour-square s (λ r c. cond (t r c) (f r c) (h r c)) r c l m
+-- a painted square whose side is given otherwise
+pub over-sized : {n s : ℕ} {t f h : ℕ → ℕ → Bool} {g : Grid} → n ≡ s → IsOver n t f h g → IsOver s t f h g
+over-sized e d = record { square = rw (← e) d.square; colours = λ r c l m. d.colours r c (omega arith) (omega arith) }
 
 -- painting twice is painting at the places that pass one of the two tests
-twice : (t u w x y : Bool) → w ≡ (t || u) → cond u x (cond t x y) ≡ cond w x y
-twice true true w x y e = ap (λ z. cond z x y) (sym e)
-twice true false w x y e = ap (λ z. cond z x y) (sym e)
-twice false true w x y e = ap (λ z. cond z x y) (sym e)
-twice false false w x y e = ap (λ z. cond z x y) (sym e)
+twice : (t u w x y a b : Bool) → a ≡ cond t x y → b ≡ cond u x a → w ≡ (t || u) → b ≡ cond w x y
+twice t u w x y a b e k d = grind (arith, nat_tests)
 
 -- painting a square twice, with the same colours, is painting it once
-pub over-twice : (s : ℕ) (t u w f h : ℕ → ℕ → Bool) (g g' : Grid) → g ≡ over s t f h → g' ≡ over s u f (colour g) → ((r c : ℕ) → r < s → c < s → w r c ≡ (t r c || u r c)) → g' ≡ over s w f h
-over-twice s t u w f h g g' e k d = k ∙ square-same s (λ r c. cond (u r c) (f r c) (colour g r c)) (λ r c. cond (w r c) (f r c) (h r c)) (λ r c l m.
-    ap (λ z. cond (u r c) (f r c) z) (over-colour s t f h g r c l m e) ∙ twice (t r c) (u r c) (w r c) (f r c) (h r c) (d r c l m))
+pub over-twice : {s : ℕ} {t u f h : ℕ → ℕ → Bool} {g g' : Grid} (w : ℕ → ℕ → Bool) → IsOver s t f h g
+    → IsOver s u f (colour g) g' → ((r c : ℕ) → r < s → c < s → w r c ≡ (t r c || u r c)) → IsOver s w f h g'
+over-twice {s} {t} {u} {f} {h} w e k d = record {
+  square = k.square;
+  colours = λ r c l m. twice (t r c) (u r c) (w r c) (f r c) (h r c) _ _ (e.colours r c l m) (k.colours r c l m) (d r c l m);
+}
 
 -- if no place passes the test, the square is unchanged
-pub over-none : (s : ℕ) (t f : ℕ → ℕ → Bool) (g : Grid) → IsSquare s g → ((r c : ℕ) → r < s → c < s → t r c ≡ false) → g ≡ over s t f (colour g)
-over-none s t f g e d = e ∙ square-same s (colour g) (λ r c. cond (t r c) (f r c) (colour g r c)) (λ r c l m. ap (λ z. cond z (f r c) (colour g r c)) (sym (d r c l m)))
+pub over-none : {s : ℕ} {t f : ℕ → ℕ → Bool} {g : Grid} → IsSquare s g → ((r c : ℕ) → r < s → c < s → t r c ≡ false)
+    → IsOver s t f (colour g) g
+over-none e d = record { square = e; colours = λ r c l m. rw (d r c l m) refl }
 
 -- two tests that agree paint the same
-pub over-same : (s : ℕ) (t u f h : ℕ → ℕ → Bool) (g : Grid) → g ≡ over s t f h → ((r c : ℕ) → r < s → c < s → t r c ≡ u r c) → g ≡ over s u f h
-over-same s t u f h g e d = e ∙ square-same s (λ r c. cond (t r c) (f r c) (h r c)) (λ r c. cond (u r c) (f r c) (h r c)) (λ r c l m. ap (λ z. cond z (f r c) (h r c)) (d r c l m))
+pub over-same : {s : ℕ} {t u f h : ℕ → ℕ → Bool} {g : Grid} → IsOver s t f h g
+    → ((r c : ℕ) → r < s → c < s → t r c ≡ u r c) → IsOver s u f h g
+over-same e d = record { square = e.square; colours = λ r c l m. rw (← d r c l m) (e.colours r c l m) }
 
 -- one place is painted
-pub over-place : (s : ℕ) (f : ℕ → ℕ → Bool) (g g' : Grid) (row col : ℕ) (d : Bool) → g.side ≡ s → d ≡ f row col → g' ≡ painted g row col d → g' ≡ over s (λ r c. eqb r row && eqb c col) f (colour g)
-over-place s f g g' row col d e k p =
+pub over-place : {s : ℕ} (f : ℕ → ℕ → Bool) (g g' : Grid) (row col : ℕ) (d : Bool) → g.side ≡ s → d ≡ f row col
+    → g' ≡ painted g row col d → IsOver s (λ r c. eqb r row && eqb c col) f (colour g) g'
+over-place f g g' row col d e k p = over-is (λ r c. eqb r row && eqb c col) f (colour g) (
     p ∙ (square-same g.side (λ r c. cond (eqb r row && eqb c col) d (colour g r c)) (λ r c. cond (eqb r row && eqb c col) (f r c) (colour g r c)) (λ r c l m. elim (same-place row col r c) [
-      | inl w ↦
-          let q : d ≡ f r c = k ∙ (ap (λ z. f z col) (sym w.0.0) ∙ ap (λ z. f r z) (sym w.0.1)) in
-          ap (λ z. cond (eqb r row && eqb c col) z (colour g r c)) q
-      | inr w ↦ ap (λ z. cond z d (colour g r c)) w.1 ∙ ap (λ z. cond z (f r c) (colour g r c)) (sym w.1)
-    ]) ∙ ap (λ z. over z (λ r c. eqb r row && eqb c col) f (colour g)) e)
+      | inl w ↦ rw (w.0.0, w.0.1, k) refl
+      | inr w ↦ rw w.1 refl
+    ]) ∙ ap (λ z. square z (λ r c. cond (eqb r row && eqb c col) (f r c) (colour g r c))) e))
 
 -- a rectangle is painted in one colour
-pub over-rectangle : (s : ℕ) (g g' : Grid) (top bottom left right : ℕ) (d : Bool) → g.side ≡ s → g' ≡ with_rectangle g top bottom left right d → g' ≡ over s (λ r c. leb top r && ltb r bottom && leb left c && ltb c right) (λ _ _. d) (colour g)
-over-rectangle s g g' top bottom left right d e k = k ∙ ap (λ z. over z (λ r c. leb top r && ltb r bottom && leb left c && ltb c right) (λ _ _. d) (colour g)) e
+pub over-rectangle : {s : ℕ} {g' : Grid} {d : Bool} (g : Grid) (top bottom left right : ℕ) → g.side ≡ s
+    → g' ≡ with_rectangle g top bottom left right d → IsOver s (λ r c. leb top r && ltb r bottom && leb left c && ltb c
+    right) (λ _ _. d) (colour g) g'
+over-rectangle {d = d} g top bottom left right e k = over-is (λ r c. leb top r && ltb r bottom && leb left c && ltb c right) (λ _ _. d) (colour g) (rw (← e) k)
 
 -- the test of one more item in a list
 any-more : {X : Type 0} (p : X → Bool) (xs : List X) (i : ℕ) (d : X) → i < length xs → list_any p (take (i + 1) xs) ≡ (list_any p (take i xs) || p (get_or xs i d))
@@ -69,8 +72,10 @@ any-more p xs i d l = ap (list_any p) (take_more xs i d l) ∙ (list_any-append 
     or-false false = refl
 
 -- painting the places of one more item in a list
-pub over-item : {X : Type 0} (s : ℕ) (p : X → ℕ → ℕ → Bool) (f h : ℕ → ℕ → Bool) (xs : List X) (i : ℕ) (d : X) (g g' : Grid) → i < length xs → g ≡ over s (λ r c. list_any (λ x. p x r c) (take i xs)) f h → g' ≡ over s (p (get_or xs i d)) f (colour g) → g' ≡ over s (λ r c. list_any (λ x. p x r c) (take (i + 1) xs)) f h
-over-item s p f h xs i d g g' l e k = over-twice s (λ r c. list_any (λ x. p x r c) (take i xs)) (p (get_or xs i d)) (λ r c. list_any (λ x. p x r c) (take (i + 1) xs)) f h g g' e k (λ r c _ _. any-more (λ x. p x r c) xs i d l)
+pub over-item : {X : Type 0} {s : ℕ} {f h : ℕ → ℕ → Bool} {g g' : Grid} (p : X → ℕ → ℕ → Bool) (xs : List X) (i : ℕ)
+    (d : X) → i < length xs → IsOver s (λ r c. list_any (λ x. p x r c) (take i xs)) f h g
+    → IsOver s (p (get_or xs i d)) f (colour g) g' → IsOver s (λ r c. list_any (λ x. p x r c) (take (i + 1) xs)) f h g'
+over-item p xs i d l e k = over-twice (λ r c. list_any (λ x. p x r c) (take (i + 1) xs)) e k (λ r c _ _. any-more (λ x. p x r c) xs i d l)
 
 -- a rectangle that stands in for an index past the end of a list
 abbrev pub no_rectangle : Rectangle
@@ -87,24 +92,11 @@ ring-sides a b r c k l = grind (arith, nat_tests)
 
 -- a place that is in no rectangle and in no alignment pattern is in the region
 pub region-tests : (a e : Bool) → cond e false (cond a false true) ≡ not (a || e)
-region-tests true true = refl
-region-tests true false = refl
-region-tests false true = refl
-region-tests false false = refl
+region-tests a e = grind (arith, nat_tests)
 
 -- a place outside all rectangles and alignment patterns keeps its colour
 pub fixed-tests : (a b d e l x w t : Bool) → t ≡ not (((a || b) || d) || e) → (l ≡ true → e ≡ true) → (a ≡ false → b ≡ false → d ≡ false → e ≡ true → x ≡ not l) → cond d x (cond b x (cond a x (cond l false (cond e true w)))) ≡ cond t w x
-fixed-tests true true true e l x w t r i h = rw r refl
-fixed-tests true true false e l x w t r i h = rw r refl
-fixed-tests true false true e l x w t r i h = rw r refl
-fixed-tests true false false e l x w t r i h = rw r refl
-fixed-tests false true true e l x w t r i h = rw r refl
-fixed-tests false true false e l x w t r i h = rw r refl
-fixed-tests false false true e l x w t r i h = rw r refl
-fixed-tests false false false true true x w t r i h = rw r (sym (h refl refl refl refl))
-fixed-tests false false false true false x w t r i h = rw r (sym (h refl refl refl refl))
-fixed-tests false false false false true x w t r i h = absurd (let e = i refl in cc)
-fixed-tests false false false false false x w t r i h = rw r refl
+fixed-tests a b d e l x w t r i h = grind (arith, nat_tests)
 
 -- a place in the light ring of an alignment pattern is in the alignment pattern
 pub light-inside : (v r c : ℕ) → is_alignment_light v r c ≡ true → is_alignment v r c ≡ true

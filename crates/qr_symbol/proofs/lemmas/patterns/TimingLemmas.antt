@@ -1,12 +1,8 @@
 -- The colours of row 6 and column 6.
 use Rattle.std.proofs.Common.{◌≡◌, ℕ, ◌+◌, ◌-◌, ◌%◌, ◌<◌, ◌≤◌, Bool, true, false, eqb, ltb, ◌&&◌, ◌||◌, refl, sym, ◌∙◌, ap, inl, inr, arith}
-use Rattle.std.proofs.lemmas.Bool.{cases_lt}
-use Rattle.std.proofs.lemmas.Bool.Decides.{nat_tests}
-use Rattle.qr_layout.specs.declared.role.Role.TheVariants.{Fixed}
-use Rattle.qr_layout.specs.Format.{version_word_of}
-use Rattle.qr_layout.specs.Region.{is_timing}
-use Rattle.qr_layout.specs.Version.{side_of}
-use Rattle.qr_layout.specs.Role.{finder_ring, pattern_colour, role_of}
+use Rattle.std.proofs.lemmas.Bool.{cases_lt, Decides.nat_tests}
+use Rattle.qr_layout.specs.{declared.role.Role.TheVariants.Fixed, Format.version_word_of}
+use Rattle.qr_layout.specs.{Region.is_timing, Version.side_of, Role.finder_ring, Role.pattern_colour, Role.role_of}
 use Rattle.qr_symbol.specs.Steps.Patterns.{fixed_colour, is_dark_in_six, paint_of}
 
 -- a place in ring 3 of a finder pattern is dark
@@ -49,28 +45,20 @@ six v r c at least inside near far seven eight off = elim (cases_lt at 7) [
     odd-light : (at : ℕ) → at % 2 ≡ 1 → eqb (at % 2) 0 ≡ false
     odd-light at e = grind (arith, nat_tests)
 
+-- a place beyond ring 4 is in no finder pattern
+five-on : (n : ℕ) → 5 ≤ n → (ltb n 4 ≡ false) × (eqb n 4 ≡ false)
+five-on n h = (grind (arith, nat_tests), grind (arith, nat_tests))
+
 -- between the finder patterns row 6 is a timing pattern
 row-off : (v at : ℕ) → 5 ≤ finder_ring (side_of v) 6 at → role_of v 6 at ≡ Fixed (eqb (at % 2) 0)
 unfolding role_of pattern_colour
-row-off v at h = rw (below-four (finder_ring (side_of v) 6 at) h, not-four (finder_ring (side_of v) 6 at) h) refl
-  where
-    below-four : (n : ℕ) → 5 ≤ n → ltb n 4 ≡ false
-    below-four n h = grind (arith, nat_tests)
-
-    not-four : (n : ℕ) → 5 ≤ n → eqb n 4 ≡ false
-    not-four n h = grind (arith, nat_tests)
+row-off v at h = rw ((five-on (finder_ring (side_of v) 6 at) h).0, (five-on (finder_ring (side_of v) 6 at) h).1) refl
 
 -- between the finder patterns column 6 is a timing pattern
 column-off : (v at : ℕ) → 5 ≤ finder_ring (side_of v) at 6 → 7 < at → role_of v at 6 ≡ Fixed (eqb (at % 2) 0)
 unfolding role_of pattern_colour
-column-off v at h k = rw (below-four (finder_ring (side_of v) at 6) h, not-four (finder_ring (side_of v) at 6) h, other at k) refl
+column-off v at h k = rw ((five-on (finder_ring (side_of v) at 6) h).0, (five-on (finder_ring (side_of v) at 6) h).1, other at k) refl
   where
-    below-four : (n : ℕ) → 5 ≤ n → ltb n 4 ≡ false
-    below-four n h = grind (arith, nat_tests)
-
-    not-four : (n : ℕ) → 5 ≤ n → eqb n 4 ≡ false
-    not-four n h = grind (arith, nat_tests)
-
     other : (n : ℕ) → 7 < n → eqb n 6 ≡ false
     other n h = grind (arith, nat_tests)
 

@@ -1,11 +1,8 @@
 -- The version information, drawn bit by bit at its two places.
 use Rattle.std.proofs.Common.{◌≡◌, ℕ, ◌+◌, ◌-◌, ◌*◌, ◌/◌, ◌%◌, ◌<◌, ◌≤◌, Bool, false, true, eqb, ltb, leb, ◌&&◌, ◌||◌, sym, ap, arith}
 use Rattle.std.proofs.lemmas.Bool.Decides.{nat_tests}
-use Rattle.qr_layout.specs.declared.role.Role.TheVariants.{VersionBit}
-use Rattle.qr_layout.specs.Version.{side_of}
-use Rattle.qr_layout.specs.Format.{version_word_of}
-use Rattle.qr_layout.specs.Region.{is_version_block, is_version_information}
-use Rattle.qr_layout.specs.Role.{role_of}
+use Rattle.qr_layout.specs.{declared.role.Role.TheVariants.VersionBit, Version.side_of, Format.version_word_of}
+use Rattle.qr_layout.specs.{Region.is_version_block, Region.is_version_information, Role.role_of}
 use Rattle.qr_layout.proofs.Facts.{version-first, version-second}
 use Rattle.qr_matrix.specs.BitRow.{has_bit}
 use Rattle.qr_symbol.specs.Steps.Patterns.{fixed_colour, paint_of}

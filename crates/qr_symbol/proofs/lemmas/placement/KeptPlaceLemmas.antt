@@ -1,10 +1,7 @@
 -- The places of the encoding region among all places of a walk.
 use Rattle.std.proofs.Common.{◌≡◌, ℕ, Bool, true, false, cond, List, [], ◌∷◌, ◌++◌, append-nil, append_assoc, refl, sym, ◌∙◌, ap}
-use Rattle.qr_layout.specs.declared.region.Module.{Module}
-use Rattle.qr_layout.specs.Region.{is_in_region}
-use Rattle.qr_layout.specs.Order.{in_region_of}
-use Rattle.qr_layout.specs.Strips.{both_of, rows_from, places_of}
-use Rattle.qr_layout.specs.declared.strips.Strip.{Strip}
+use Rattle.qr_layout.specs.{declared.region.Module.Module, Region.is_in_region, Order.in_region_of}
+use Rattle.qr_layout.specs.{Strips.both_of, Strips.rows_from, Strips.places_of, declared.strips.Strip.Strip}
 
 -- a place in the region is kept
 pub kept-in : (v : ℕ) (m : Module) (ms : List Module) → is_in_region v m.row m.col ≡ true → in_region_of v (m ∷ ms) ≡ m ∷ in_region_of v ms
@@ -22,14 +19,6 @@ kept-append v (m ∷ xs) ys = ap (λ (z : List Module). cond (is_in_region v m.r
     front : (t : Bool) (m : Module) (xs ys : List Module) → cond t (m ∷ (xs ++ ys)) (xs ++ ys) ≡ cond t (m ∷ xs) xs ++ ys
     front true m xs ys = refl
     front false m xs ys = refl
-
--- a place in the region at the end of a list is kept
-pub kept-push-in : (v : ℕ) (xs : List Module) (m : Module) → is_in_region v m.row m.col ≡ true → in_region_of v (xs ++ m ∷ []) ≡ in_region_of v xs ++ m ∷ []
-kept-push-in v xs m e = kept-append v xs (m ∷ []) ∙ ap (λ (z : List Module). in_region_of v xs ++ z) (kept-in v m [] e)
-
--- a place outside the region at the end of a list is not kept
-pub kept-push-out : (v : ℕ) (xs : List Module) (m : Module) → is_in_region v m.row m.col ≡ false → in_region_of v (xs ++ m ∷ []) ≡ in_region_of v xs
-kept-push-out v xs m e = kept-append v xs (m ∷ []) ∙ (ap (λ (z : List Module). in_region_of v xs ++ z) (kept-out v m [] e) ∙ append-nil (in_region_of v xs))
 
 -- the places of a list of strips with one strip more
 pub places-push : (s : ℕ) (xs : List Strip) (x : Strip) → places_of s (xs ++ x ∷ []) ≡ places_of s xs ++ both_of (rows_from s x 0 s)

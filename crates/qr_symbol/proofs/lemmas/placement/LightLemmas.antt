@@ -1,9 +1,13 @@
 -- The modules of a strip that are still to be drawn, which are light.
-use Rattle.std.proofs.Common.{◌≡◌, ℕ, ◌+◌, ◌-◌, ◌<◌, ◌≤◌, Bool, true, false, not, cond, eqb, leb, ltb, ◌&&◌, ◌||◌, refl, sym, ◌∙◌, ap, ◌⊎◌, inl, inr, arith}
+use Rattle.std.proofs.Common.{◌≡◌, ℕ, ◌+◌, ◌-◌, ◌*◌, ◌<◌, ◌≤◌, Bool, true, false, not, cond, leb, ltb, ◌&&◌, ◌||◌, List, refl, sym, ◌∙◌, ap, arith}
 use Rattle.std.proofs.lemmas.Bool.Decides.{nat_tests}
-use Rattle.qr_matrix.specs.BitRow.{has_bit}
-use Rattle.qr_matrix.specs.Grid.{is_same}
-use Rattle.qr_symbol.proofs.lemmas.placement.AcrossLemmas.{rank_of}
+use Rattle.qr_bits.specs.Bits.{codeword_bit}
+use Rattle.qr_layout.specs.{declared.strips.Strip.Strip, Region.is_in_region, Version.side_of}
+use Rattle.qr_matrix.specs.{BitRow.has, BitRow.has_bit, Grid.is_same}
+use Rattle.qr_matrix.proofs.Facts.{has_bit-ones}
+use Rattle.qr_symbol.specs.Steps.Placement.{number_at, row_of, AreDrawn, AreLight, AreNext, AreWithin}
+use Rattle.qr_symbol.specs.declared.placement.Columns.{Columns}
+use Rattle.qr_symbol.proofs.lemmas.placement.ColumnLemmas.{number-whole, rank_of, row-small, rows-apart}
 
 -- a bit that is unset where another bit is set
 pub cleared : (p q : Bool) → not (is_same p (p && q)) ≡ (p && not q)
@@ -13,83 +17,110 @@ cleared false q = refl
 
 -- a module of the region is light after the region was made light
 pub cleared-light : (p q z : Bool) → z ≡ (p && not q) → (q && z) ≡ false
-cleared-light p q z e = ap (λ b. q && b) e ∙ told p q
+cleared-light true true z e = e
+cleared-light false true z e = e
+cleared-light p false z e = refl
+
+-- ---- rows that are still to be drawn
+
+-- the rows after those that are drawn stay light
+pub kept-light : {v : ℕ} {cw : List ℕ} {x : Strip} {first k : ℕ} {p q : Columns} (region : Columns)
+    → AreDrawn v cw x first 0 k p q → AreLight (side_of v) x 0 region p → AreLight (side_of v) x k region q
+kept-light {v} {x = x} region d light j l m =
+    let same = d.kept (row_of (side_of v) x j) (λ i a b e. rows-apart x (side_of v) j i m (omega arith) (sym e)) in
+    rw same.0 (rw same.1 (light j (omega arith) m))
+
+-- the bits outside the square stay unset
+pub kept-within : {v : ℕ} {cw : List ℕ} {x : Strip} {first : ℕ} {p q : Columns}
+    → AreDrawn v cw x first 0 (side_of v) p q → AreWithin (side_of v) p → AreWithin (side_of v) q
+kept-within {v} {x = x} d within row l =
+    let same = d.kept row (λ j a b e. let small = (row-small x (side_of v) j (omega arith)).0 in omega arith) in
+    (same.0 ∙ (within row l).0, same.1 ∙ (within row l).1)
+
+-- ---- four rows at once
+
+-- row m of four rows, by its index from the top
+four-row : (x : Strip) (s k top m : ℕ) → k + 4 ≤ s → top ≡ cond x.upward (s - 4 - k) k → m < 4
+    → (row_of s x (k + m) ≡ top + rank_of x.upward m) × (rank_of x.upward m < 4) × (rank_of x.upward (rank_of x.upward
+    m) ≡ m)
+four-row x s k top m room = told x.upward
   where
-    told : (p q : Bool) → (q && (p && not q)) ≡ false
-    told true true = refl
-    told false true = refl
-    told p false = refl
+    told : (up : Bool) → top ≡ cond up (s - 4 - k) k → m < 4 → (cond up (s - 1 - (k + m)) (k + m) ≡ top + rank_of up m)
+        × (rank_of up m < 4) × (rank_of up (rank_of up m) ≡ m)
+    told true e l = (omega arith, omega arith, omega arith)
+    told false e l = (omega arith, l, refl)
 
--- a module outside the region keeps its colour when the region is made light
-cleared-kept : (p q z : Bool) → z ≡ (p && not q) → q ≡ false → z ≡ p
-cleared-kept true q z e f = e ∙ ap not f
-cleared-kept false q z e f = e
+-- a row between these, by its rank
+from-top : (x : Strip) (s k top i : ℕ) → k + 4 ≤ s → top ≡ cond x.upward (s - 4 - k) k → top ≤ i → i < top + 4
+    → (row_of s x (k + rank_of x.upward (i - top)) ≡ i) × (rank_of x.upward (i - top) < 4)
+from-top x s k top i room e l m =
+    let w = four-row x s k top (i - top) room e (omega arith) in
+    let u = four-row x s k top (rank_of x.upward (i - top)) room e w.1 in
+    (omega (arith, u.0, w.2), w.1)
 
--- a module of a column is in the region, or keeps its colour when the region is made light
-pub light-or-same : (t p q z w : Bool) → z ≡ (p && not q) → p ≡ w → q ≡ t → (z ≡ w) ⊎ (t ≡ true)
-light-or-same true p q z w e f g = inr refl
-light-or-same false p q z w e f g = inl (cleared-kept p q z e g ∙ f)
+-- a row that is not one of these
+outside : (top i : ℕ) → (top ≤ i → i < top + 4 → ⊥) → (leb top i && ltb i (top + 4)) ≡ false
+outside top i n = grind (arith, nat_tests)
 
--- a module that is not the drawn one stays light
-pub light-module : (t d p z q : Bool) (i row : ℕ) → (i ≡ row → ⊥) → z ≡ cond (t && eqb i row) d p → (q && p) ≡ false → (q && z) ≡ false
-light-module true d p z q i row n e f = (let u : eqb i row ≡ false = grind (arith, nat_tests) in ap (λ b. q && b) (e ∙ ap (λ b. cond b d p) u) ∙ f)
-light-module false d p z q i row n e f = ap (λ b. q && b) e ∙ f
+-- if all modules of four rows are in the region, the rows take eight bits
+pub four-region : (v : ℕ) (x : Strip) (k top : ℕ) → k + 4 ≤ side_of v → top ≡ cond x.upward (side_of v - 4 - k) k
+    → ((j : ℕ) → j < 4 → (is_in_region v (top + j) x.right ≡ true) × (is_in_region v (top + j) (x.right - 1) ≡ true))
+    → (j : ℕ) → k ≤ j → j < k + 4 → (is_in_region v (row_of (side_of v) x j) x.right ≡ true) × (is_in_region v (row_of
+    (side_of v) x j) (x.right - 1) ≡ true)
+four-region v x k top room e whole j a b =
+    let w = four-row x (side_of v) k top (j - k) room e (omega arith) in
+    let f : k + (j - k) ≡ j = omega arith in
+    rw (← f, w.0) (whole (rank_of x.upward (j - k)) w.1)
 
--- a module that is not one of the four drawn modules stays light
-pub light-four : (d p z q : Bool) (i top : ℕ) → (i < top) ⊎ (top + 4 ≤ i) → z ≡ cond (leb top i && ltb i (top + 4)) d p → (q && p) ≡ false → (q && z) ≡ false
-light-four d p z q i top n e f = ap (λ b. q && b) (e ∙ ap (λ b. cond b d p) (apart n)) ∙ f
-  where
-    apart : (i < top) ⊎ (top + 4 ≤ i) → (leb top i && ltb i (top + 4)) ≡ false
-    apart (inl l) = grind (arith, nat_tests)
-    apart (inr l) = grind (arith, nat_tests)
+-- four rows of a strip are drawn at once, if all their modules are in the region
+pub four-drawn : {v : ℕ} {cw : List ℕ} {x : Strip} {first : ℕ} {old new : Columns} (k top bits r l : ℕ)
+    → k + 4 ≤ side_of v → top ≡ cond x.upward (side_of v - 4 - k) k
+    → ((j : ℕ) → j < 4 → (is_in_region v (top + j) x.right ≡ true) × (is_in_region v (top + j) (x.right - 1) ≡ true))
+    → ((j : ℕ) → j < 4 → (has_bit r j ≡ has_bit bits (7 - 2 * rank_of x.upward j)) × (has_bit l j ≡ has_bit bits (6 - 2
+    * rank_of x.upward j)))
+    → ((i : ℕ) → has new.right i ≡ cond (leb top i && ltb i (top + 4)) (has_bit r (i - top)) (has old.right i))
+    → ((i : ℕ) → has new.left i ≡ cond (leb top i && ltb i (top + 4)) (has_bit l (i - top)) (has old.left i))
+    → AreNext cw (number_at v x first k) bits → AreDrawn v cw x first k 4 old new
+four-drawn {v} {cw} {x} {first} {old} {new} k top bits r l room e whole split right left next = record {
+  drawn = λ j a b.
+      let m = j - k in
+      let f : k + m ≡ j = omega arith in
+      let w = four-row x (side_of v) k top m room e (omega arith) in
+      let i = rank_of x.upward m in
+      let number = number-whole v x first k m (λ h c d. four-region v x k top room e whole h c (omega arith)) in
+      let within : (leb top (top + i) && ltb (top + i) (top + 4)) ≡ true = grind (arith, nat_tests, w.1) in
+      let back : top + i - top ≡ i = omega arith in
+      let six : 6 - 2 * m ≡ 7 - (2 * m + 1) = omega arith in
+      let odd : number_at v x first k + (2 * m + 1) ≡ number_at v x first k + 2 * m + 1 = omega arith in
+      let bit = split i w.1 in
+      let first-bit = next (2 * m) (omega arith) in
+      let second-bit = next (2 * m + 1) (omega arith) in
+      rw (← f, w.0, (whole i w.1).0, (whole i w.1).1, number) (
+        right (top + i) ∙ rw (within, back, bit.0, w.2) first-bit,
+        left (top + i) ∙ rw (within, back, bit.1, w.2, six) (second-bit ∙ ap (codeword_bit cw) odd),
+      );
+  kept = λ i apart.
+      let out = outside top i (λ c d. let w = from-top x (side_of v) k top i room e c d in apart (k + rank_of x.upward (i - top)) (omega arith) (omega (arith, w.1)) w.0) in
+      (right i ∙ rw out refl, left i ∙ rw out refl);
+}
 
--- two different indices are two different rows
-pub rows-apart : (up : Bool) (s j k : ℕ) → j < s → k < j → cond up (s - 1 - j) j ≡ cond up (s - 1 - k) k → ⊥
-rows-apart true s j k l m e = omega arith
-rows-apart false s j k l m e = omega arith
-
--- a row after four rows is not one of them
-pub rows-beyond : (up : Bool) (s j k : ℕ) → j < s → k + 4 ≤ j → (cond up (s - 1 - j) j < cond up (s - 4 - k) k) ⊎ (cond up (s - 4 - k) k + 4 ≤ cond up (s - 1 - j) j)
-rows-beyond true s j k l m = inl (omega arith)
-rows-beyond false s j k l m = inr m
-
--- the rank of one of four rows is less than 4
-pub rank-small : (up : Bool) (j : ℕ) → j < 4 → rank_of up j < 4
-rank-small true j l = omega arith
-rank-small false j l = l
-
--- row j of four rows, counted from the top, by its index in the strip
-pub row-of-four : (up : Bool) (s k j : ℕ) → k + 4 ≤ s → j < 4 → cond up (s - 1 - (k + rank_of up j)) (k + rank_of up j) ≡ cond up (s - 4 - k) k + j
-row-of-four true s k j l m = omega arith
-row-of-four false s k j l m = refl
-
--- a module of the region is light if it is not both in the region and dark
-pub unset-inside : (q p : Bool) → q ≡ true → (q && p) ≡ false → p ≡ false
-unset-inside q p e f = sym (ap (λ b. b && p) e) ∙ f
+-- all four bits of the number 15 are 1
+pub four-set : (n j : ℕ) → n ≡ 15 → j < 4 → has_bit n j ≡ true
+four-set n j e l = (let t : ltb j 4 ≡ true = grind (arith, nat_tests) in ap (λ z. has_bit z j) e ∙ (has_bit-ones 4 j ∙ t))
 
 -- setting four unset bits gives them their values
-set-replaces : (p z h : Bool) (i top : ℕ) → z ≡ (p || leb top i && ltb i (top + 4) && h) → ((leb top i && ltb i (top + 4)) ≡ true → p ≡ false) → z ≡ cond (leb top i && ltb i (top + 4)) h p
-set-replaces p z h i top e f = e ∙ told (leb top i) (ltb i (top + 4)) h p f
-  where
-    told : (a b h p : Bool) → ((a && b) ≡ true → p ≡ false) → (p || a && b && h) ≡ cond (a && b) h p
-    told true true h p f = ap (λ z. z || h) (f refl)
-    told true false h true f = refl
-    told true false h false f = refl
-    told false b h true f = refl
-    told false b h false f = refl
-
--- four modules of the region that are set get their colours, since they were light
-pub column-set : (up : Bool) (s k top bits : ℕ) (q p z : ℕ → Bool) → k + 4 ≤ s → top ≡ cond up (s - 4 - k) k → ((j : ℕ) → j < 4 → q (top + j) ≡ true)
-    → ((j : ℕ) → k ≤ j → j < s → (q (cond up (s - 1 - j) j) && p (cond up (s - 1 - j) j)) ≡ false)
+pub column-set : (x : Strip) (s k top bits : ℕ) (q p z : ℕ → Bool) → k + 4 ≤ s → top ≡ cond x.upward (s - 4 - k) k
+    → ((j : ℕ) → j < 4 → q (top + j) ≡ true)
+    → ((j : ℕ) → k ≤ j → j < s → (q (row_of s x j) && p (row_of s x j)) ≡ false)
     → ((i : ℕ) → z i ≡ (p i || leb top i && ltb i (top + 4) && has_bit bits (i - top)))
     → (i : ℕ) → z i ≡ cond (leb top i && ltb i (top + 4)) (has_bit bits (i - top)) (p i)
-column-set up s k top bits q p z room is-top whole light is i = set-replaces (p i) (z i) (has_bit bits (i - top)) i top (is i) (λ t.
-    let l : top ≤ i = grind (arith, nat_tests) in
-    let m : i < top + 4 = grind (arith, nat_tests) in
-    let j = i - top in
-    let small : j < 4 = omega arith in
-    let e : top + j ≡ i = omega arith in
-    let rank = k + rank_of up j in
-    let below : rank < s = let r = rank-small up j small in omega arith in
-    let row-is : cond up (s - 1 - rank) rank ≡ i = row-of-four up s k j room small ∙ (ap (λ z. z + j) (sym is-top) ∙ e) in
-    unset-inside (q i) (p i) (ap q (sym e) ∙ whole j small) (ap (λ z. q z && p z) (sym row-is) ∙ light rank (omega arith) below))
+column-set x s k top bits q p z room e whole light is i = is i ∙ set-replaces (p i) (has_bit bits (i - top)) i (λ l m.
+    let w = from-top x s k top i room e l m in
+    let f : top + (i - top) ≡ i = omega arith in
+    let lit = rw f at (whole (i - top) (omega arith)) in
+    let unlit = rw w.0 at (light (k + rank_of x.upward (i - top)) (omega arith) (omega (arith, w.1))) in
+    rw lit at unlit)
+  where
+    set-replaces : (p h : Bool) (i : ℕ) → (top ≤ i → i < top + 4 → p ≡ false)
+        → (p || leb top i && ltb i (top + 4) && h) ≡ cond (leb top i && ltb i (top + 4)) h p
+    set-replaces p h i f = grind (arith, nat_tests)

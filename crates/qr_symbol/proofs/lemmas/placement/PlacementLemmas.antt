@@ -1,24 +1,20 @@
 -- Drawing along the walk: every place that the walk has passed, or never reaches, has its final colour.
-use Rattle.std.proofs.Common.{◌≡◌, ℕ, ◌<◌, ◌≤◌, Bool, true, false, cond, nat_eq, ◌&&◌, List, [], ◌∷◌, ◌++◌, length, length-append, refl, sym, ◌∙◌, ap, inl, inr, subst, append_assoc, append-nil, arith}
-use Rattle.std.specs.Prelude.{Option, None, Some, SomeIff, unwrap_or}
-use Rattle.qr_layout.specs.declared.level.Level.{Level}
-use Rattle.qr_layout.specs.declared.region.Module.{Module}
-use Rattle.qr_layout.specs.declared.role.Role.{Role}
+use Rattle.std.proofs.Common.{◌≡◌, ℕ, zero, suc, ◌+◌, ◌-◌, ◌⊎◌, ◌<◌, ◌≤◌, Bool, true, false, cond, nat_eq, ◌&&◌, List, [], ◌∷◌, ◌++◌, length, length-append, refl, sym, ◌∙◌, ap, inl, inr, subst, append_assoc, append-nil, arith}
+use Rattle.std.proofs.lemmas.Bool.{cases_eq}
+use Rattle.qr_layout.specs.declared.{level.Level.Level, region.Module.Module, role.Role.Role}
 use Rattle.qr_layout.specs.declared.role.Role.TheVariants.{Fixed, FormatBit, VersionBit, Region}
-use Rattle.qr_layout.specs.Version.{side_of}
-use Rattle.qr_layout.specs.Format.{format_word_of, version_word_of}
-use Rattle.qr_layout.specs.Region.{is_in_region}
-use Rattle.qr_layout.specs.Role.{role_of}
-use Rattle.qr_layout.specs.Order.{IsOrder, in_region_of, number_of}
+use Rattle.qr_layout.specs.{Version.side_of, Format.format_word_of, Format.version_word_of, Region.is_in_region}
+use Rattle.qr_layout.specs.{Role.role_of, Order.IsOrder, Order.in_region_of, Order.number_of}
+use Rattle.qr_layout.specs.{Strips.both_of, Strips.rows_from, declared.strips.Strip.Strip}
 use Rattle.qr_layout.proofs.Facts.{Mem, order-has, order-mem, order-small, number-at, row-in, col-in, region-role, role-region}
 use Rattle.qr_bits.specs.Bits.{codeword_bit}
-use Rattle.qr_matrix.specs.Grid.{Grid, square, colour, painted, IsSquare}
-use Rattle.qr_symbol.specs.Mask.{inverts, inverted}
-use Rattle.qr_symbol.specs.Symbol.{colour_by, colour_of, grid_of}
-use Rattle.qr_symbol.specs.Steps.Placement.{placed_colour, placed_if, number_after, number_along, placed_along, masked_colour, masked_grid, region_grid, plain_grid}
+use Rattle.qr_matrix.specs.Grid.{Grid, square, colour, painted, transposed, IsSquare}
+use Rattle.qr_symbol.specs.{Mask.inverts, Mask.inverted, Symbol.colour_by, Symbol.colour_of, Symbol.grid_of}
+use Rattle.qr_symbol.specs.Steps.Placement.{placed_colour, number_after, number_at, row_of, IsStripDrawn, masked_colour, masked_grid, region_grid, plain_grid}
 use Rattle.qr_symbol.specs.Steps.Patterns.{fixed_colour, format_or, paint_of, symmetric_format}
-use Rattle.qr_matrix.proofs.Facts.{same-place, square-same, colour-square, colour-painted-here, colour-painted-there}
-use Rattle.qr_symbol.proofs.lemmas.placement.KeptPlaceLemmas.{kept-in, kept-out, kept-push-in, kept-push-out}
+use Rattle.qr_matrix.proofs.Facts.{same-place, square-same, colour-square, colour-painted-here, colour-painted-there, colour-transposed}
+use Rattle.qr_symbol.proofs.lemmas.placement.KeptPlaceLemmas.{kept-append, kept-in, kept-out}
+use Rattle.qr_symbol.proofs.lemmas.placement.ColumnLemmas.{row-small}
 
 -- the module in a row and a column
 abbrev pub at : ℕ → ℕ → Module
@@ -63,10 +59,8 @@ pub done-step : (s : ℕ) (want : ℕ → ℕ → Bool) (g : Grid) (later : List
 done-step s want g later x d k e h r c l m n =
     elim (same-place x.row x.col r c) [
       | inl w ↦
-          let a : x.row ≡ r = sym w.0.0 in
-          let b : x.col ≡ c = sym w.0.1 in
-          let here = colour-painted-here g x.row x.col d (omega arith) (omega arith) ∙ e in
-          ap (λ (y : ℕ). colour (painted g x.row x.col d) y c) w.0.0 ∙ (ap (λ (y : ℕ). colour (painted g x.row x.col d) x.row y) w.0.1 ∙ (here ∙ (ap (λ (y : ℕ). want y x.col) a ∙ ap (want r) b)))
+          let a = w.0.0 in
+          let b = w.0.1 in rw (a, b) (colour-painted-here g x.row x.col d (omega arith) (omega arith) ∙ e)
       | inr w ↦
           colour-painted-there g x.row x.col r c d (omega arith) (omega arith) w.0 ∙ h r c l m (λ q. elim q [ inl e ↦ w.0 (ap (λ (z : Module). z.row) (sym e), ap (λ (z : Module). z.col) (sym e)) | inr q ↦ n q ])
     ]
@@ -83,14 +77,13 @@ square-again k f = square-same k f (colour (square k f)) (λ r c l m. sym (colou
 pub square-is : (s : ℕ) (f : ℕ → ℕ → Bool) (g : Grid) → g ≡ square s f → IsSquare s g
 square-is s f g e = rw e (square-again s f)
 
+-- the transposed square of a square is a square
+pub square-transposed : (s : ℕ) (g : Grid) → IsSquare s g → IsSquare s (transposed g)
+square-transposed s g e = square-is s (λ r c. colour g c r) (transposed g) (ap (λ (z : Grid). square z.side (λ r c. colour g c r)) e)
+
 -- a square with one place changed is a square
 pub painted-square : (s : ℕ) (g : Grid) (row col : ℕ) (d : Bool) → g.side ≡ s → IsSquare s (painted g row col d)
 painted-square s g row col d e = square-again g.side (λ r c. cond (nat_eq r row && nat_eq c col) d (colour g r c)) ∙ ap (λ (k : ℕ). square k (colour (painted g row col d))) e
-
--- a version word, or 0 if the version has none
-pub word-or-none : (v word : ℕ) (o : Option ℕ) → SomeIff o (7 ≤ v) (version_word_of v) → word ≡ unwrap_or o 0 → 7 ≤ v → word ≡ version_word_of v
-word-or-none v word None h e l = absurd (h l)
-word-or-none v word (Some x) h e l = e ∙ h.1
 
 -- the list of all modules, seen at the next module
 pub whole-next : (v : ℕ) (front now later : List Module) (x : Module) → IsOrder v (front ++ now) → now ≡ x ∷ later → IsOrder v (front ++ x ∷ later)
@@ -122,18 +115,13 @@ plain_colours v cw = placed_colour v cw (paint_of v symmetric_format)
 masked-inside : (v : ℕ) (l : Level) (mask : ℕ) (cw : List ℕ) (r c : ℕ) → is_in_region v r c ≡ true → role_of v r c ≡ Region
     → format_or (format_word_of l mask) (role_of v r c) (inverted (is_in_region v r c && inverts mask r c) (plain_colours v cw r c)) ≡ colour_of v l mask cw r c
 unfolding colour_of format_or
-masked-inside v l mask cw r c t e =
-    ap (λ (q : Role). format_or (format_word_of l mask) q (inverted (is_in_region v r c && inverts mask r c) (plain_colours v cw r c))) e
-    ∙ (ap (λ (b : Bool). inverted (b && inverts mask r c) (plain_colours v cw r c)) t
-    ∙ (ap (inverted (inverts mask r c)) (inside v cw (paint_of v symmetric_format) r c t) ∙ ap (colour_by v l mask cw r c) (sym e)))
+masked-inside v l mask cw r c t e = rw (e, t, inside v cw (paint_of v symmetric_format) r c t) refl
 
 -- the masked colour of a module outside the region
 masked-outside : (v : ℕ) (l : Level) (mask : ℕ) (cw : List ℕ) (r c : ℕ) → is_in_region v r c ≡ false → (role_of v r c ≡ Region → ⊥)
     → format_or (format_word_of l mask) (role_of v r c) (inverted (is_in_region v r c && inverts mask r c) (plain_colours v cw r c)) ≡ colour_of v l mask cw r c
 unfolding colour_of
-masked-outside v l mask cw r c t n =
-    ap (λ (b : Bool). format_or (format_word_of l mask) (role_of v r c) (inverted (b && inverts mask r c) (plain_colours v cw r c))) t
-    ∙ (ap (format_or (format_word_of l mask) (role_of v r c)) (sym (outside v cw (paint_of v symmetric_format) r c t)) ∙ role-masked v l mask cw r c (role_of v r c) n)
+masked-outside v l mask cw r c t n = rw (t, ← outside v cw (paint_of v symmetric_format) r c t) (role-masked v l mask cw r c (role_of v r c) n)
 
 -- with mask and format information, the result is the symbol of its codewords under this mask
 pub masked-all : (v : ℕ) (l : Level) (mask : ℕ) (cw : List ℕ) (region plain : Grid) → 1 ≤ v → region ≡ region_grid v → plain ≡ plain_grid v cw → masked_grid v l mask region plain ≡ grid_of v l mask cw
@@ -141,17 +129,15 @@ unfolding masked_colour
 masked-all v l mask cw region plain k e f = square-same (side_of v) (masked_colour v (format_word_of l mask) mask region plain) (colour_of v l mask cw) (λ r c i j.
     let a : colour region r c ≡ is_in_region v r c = ap (λ (g : Grid). colour g r c) e ∙ colour-square (side_of v) (is_in_region v) r c i j in
     let b : colour plain r c ≡ plain_colours v cw r c = ap (λ (g : Grid). colour g r c) f ∙ colour-square (side_of v) (plain_colours v cw) r c i j in
-    ap (λ (x : Bool). format_or (format_word_of l mask) (role_of v r c) (inverted (x && inverts mask r c) (colour plain r c))) a
-    ∙ (ap (λ (x : Bool). format_or (format_word_of l mask) (role_of v r c) (inverted (is_in_region v r c && inverts mask r c) x)) b
-    ∙ by_test (is_in_region v r c) (format_or (format_word_of l mask) (role_of v r c) (inverted (is_in_region v r c && inverts mask r c) (plain_colours v cw r c)) ≡ colour_of v l mask cw r c)
+    rw (a, b) (by_test (is_in_region v r c) _
     (λ t. masked-inside v l mask cw r c t (region-role v r c k i j t))
     (λ t. masked-outside v l mask cw r c t (λ u. let h = role-region v r c k i j u in cc))))
 
--- ---- a walk over places, of which each place in the region takes a bit
+-- ---- strips whose modules are drawn
 
 -- after the places in `before`, with those in `later` still to come: the number of the next bit, and the square
 pub record IsPlaced (v : ℕ) (cw : List ℕ) (g0 : Grid) (before later : List Module) (number : ℕ) (g : Grid) : Type 0 where
-  pub whole : IsOrder v (in_region_of v before ++ in_region_of v later)
+  pub whole : IsOrder v (in_region_of v (before ++ later))
   pub next : number ≡ length (in_region_of v before)
   pub square : IsSquare (side_of v) g
   pub done : Done (side_of v) (placed_colour v cw (colour g0)) (in_region_of v later) g
@@ -160,47 +146,122 @@ pub record IsPlaced (v : ℕ) (cw : List ℕ) (g0 : Grid) (before later : List M
 pub placed-start : (v : ℕ) (cw : List ℕ) (g : Grid) (ms : List Module) → IsSquare (side_of v) g → IsOrder v (in_region_of v ms) → IsPlaced v cw g [] ms 0 g
 placed-start v cw g ms s o = record { whole = o; next = refl; square = s; done = done-start v (placed_colour v cw (colour g)) g (in_region_of v ms) o (outside v cw (colour g)) }
 
--- one more place is drawn
-pub placed-step : (v : ℕ) (cw : List ℕ) (g0 g : Grid) (before later : List Module) (x : Module) (number : ℕ) (t : Bool) → t ≡ is_in_region v x.row x.col → IsPlaced v cw g0 before (x ∷ later) number g
-    → IsPlaced v cw g0 (before ++ x ∷ []) later (number_after t number) (placed_if t cw number g x.row x.col)
-placed-step v cw g0 g before later x number true e p =
-    let now = kept-in v x later (sym e) in
-    let then = kept-push-in v before x (sym e) in
-    let o : IsOrder v (in_region_of v before ++ x ∷ in_region_of v later) = subst (λ (ms : List Module). IsOrder v (in_region_of v before ++ ms)) now p.whole in
-    let s = ap (λ (h : Grid). h.side) p.square in
-    let n = next-number v (in_region_of v before) (in_region_of v later) x number o p.next in
-    record {
-      whole = rw then (whole-push v (in_region_of v before) (in_region_of v later) x o);
-      next = rw then (let l = length-append (in_region_of v before) (x ∷ []) in let n = p.next in omega arith);
-      square = painted-square (side_of v) g x.row x.col (codeword_bit cw number) s;
-      done = done-step (side_of v) (placed_colour v cw (colour g0)) g (in_region_of v later) x (codeword_bit cw number) s (sym (inside v cw (colour g0) x.row x.col n.0 ∙ ap (codeword_bit cw) n.1)) (subst (λ (ms : List Module). Done (side_of v) (placed_colour v cw (colour g0)) ms g) now p.done);
-    }
-placed-step v cw g0 g before later x number false e p =
-    let now = kept-out v x later (sym e) in
-    let then = kept-push-out v before x (sym e) in
-    record {
-      whole = rw then (subst (λ (ms : List Module). IsOrder v (in_region_of v before ++ ms)) now p.whole);
-      next = rw then p.next;
-      square = p.square;
-      done = subst (λ (ms : List Module). Done (side_of v) (placed_colour v cw (colour g0)) ms g) now p.done;
-    }
+-- one more place takes one more bit if it is in the region
+count-push : (v : ℕ) (xs : List Module) (m : Module) → length (in_region_of v (xs ++ m ∷ [])) ≡ number_after
+    (is_in_region v m.row m.col) (length (in_region_of v xs))
+count-push v xs m = ap length (kept-append v xs (m ∷ [])) ∙ (length-append (in_region_of v xs) (in_region_of v (m ∷ [])) ∙ told (is_in_region v m.row m.col) (length (in_region_of v xs)))
+  where
+    told : (t : Bool) (n : ℕ) → n + length (cond t (m ∷ []) []) ≡ number_after t n
+    told true n = refl
+    told false n = omega arith
 
--- a list of places is drawn
-pub placed-many : (v : ℕ) (cw : List ℕ) (g0 g : Grid) (before ms later : List Module) (number : ℕ) → IsPlaced v cw g0 before (ms ++ later) number g → IsPlaced v cw g0 (before ++ ms) later (number_along v ms number) (placed_along v cw ms number g)
-placed-many v cw g0 g before [] later number p = rw append-nil p
-placed-many v cw g0 g before (m ∷ ms) later number p =
-    let t = is_in_region v m.row m.col in
-    let one = placed-step v cw g0 g before (ms ++ later) m number t refl p in
-    let rest = placed-many v cw g0 (placed_if t cw number g m.row m.col) (before ++ m ∷ []) ms later (number_after t number) one in
-    subst (λ (z : List Module). IsPlaced v cw g0 z later (number_along v ms (number_after t number)) (placed_along v cw ms (number_after t number) (placed_if t cw number g m.row m.col))) (append_assoc before (m ∷ []) ms) rest
+-- the number of a module of the region is the number of those before it
+place-number : (v : ℕ) (before later : List Module) (m : Module) → IsOrder v (in_region_of v (before ++ m ∷ later))
+    → is_in_region v m.row m.col ≡ true → number_of v m ≡ length (in_region_of v before)
+place-number v before later m o t = number-at v (in_region_of v before) (in_region_of v later) m (rw (kept-append, kept-in v m later t) at o)
+
+-- the rows of a strip before row j, that row, and those after it
+rows-split : (s : ℕ) (x : Strip) (k j m : ℕ) → both_of (rows_from s x k (j + (m + 1))) ≡ both_of (rows_from s x k j) ++
+    at (row_of s x (k + j)) x.right ∷ at (row_of s x (k + j)) (x.right - 1) ∷ both_of (rows_from s x (k + j + 1) m)
+rows-split s x k zero m =
+    let e : 0 + (m + 1) ≡ suc m = omega arith in
+    let f : k + 0 ≡ k = omega arith in
+    rw (e, f) refl
+rows-split s x k (suc j) m =
+    let e : suc j + (m + 1) ≡ suc (j + (m + 1)) = omega arith in
+    let f : k + suc j ≡ k + 1 + j = omega arith in
+    rw (e, f) (ap (λ (z : List Module). at (row_of s x k) x.right ∷ at (row_of s x k) (x.right - 1) ∷ z) (rows-split s x (k + 1) j m))
+
+-- the places of a strip before row j, that row's, and those after it
+strip-split : (s : ℕ) (x : Strip) (j : ℕ) → j < s → both_of (rows_from s x 0 s) ≡ both_of (rows_from s x 0 j) ++ at
+    (row_of s x j) x.right ∷ at (row_of s x j) (x.right - 1) ∷ both_of (rows_from s x (j + 1) (s - 1 - j))
+strip-split s x j l =
+    let e : j + (s - 1 - j + 1) ≡ s = omega arith in
+    let f : 0 + j ≡ j = omega arith in
+    rw (e, f) at (rows-split s x 0 j (s - 1 - j))
+
+-- the number of the next bit after the first rows of a strip
+number-rows : (v : ℕ) (x : Strip) (before : List Module) (j : ℕ)
+    → number_at v x (length (in_region_of v before)) j ≡ length (in_region_of v (before ++ both_of (rows_from (side_of
+    v) x 0 j)))
+number-rows v x before zero = rw append-nil refl
+number-rows v x before (suc j) =
+    let p = at (row_of (side_of v) x j) x.right in
+    let q = at (row_of (side_of v) x j) (x.right - 1) in
+    let xs = both_of (rows_from (side_of v) x 0 j) in
+    let e : j + 1 ≡ suc j = omega arith in
+    let f : 0 + j ≡ j = omega arith in
+    let split = rw (e, f) at (rows-split (side_of v) x 0 j 0) in
+    let whole : before ++ both_of (rows_from (side_of v) x 0 (suc j)) ≡ ((before ++ xs) ++ p ∷ []) ++ q ∷ [] = rw split (simp append_assoc) in
+    rw (whole, count-push v ((before ++ xs) ++ p ∷ []) q, count-push v (before ++ xs) p, ← number-rows v x before j) refl
+
+-- a kept module of a list is its first module, or kept after it
+mem-kept : (v : ℕ) (p m : Module) (ms : List Module) → Mem m (in_region_of v (p ∷ ms))
+    → ((p ≡ m) × (is_in_region v m.row m.col ≡ true)) ⊎ Mem m (in_region_of v ms)
+mem-kept v p m ms q = by_test (is_in_region v p.row p.col) _
+    (λ t. elim (subst (Mem m) (kept-in v p ms t) q) [ inl e ↦ inl (e, ap (λ (z : Module). is_in_region v z.row z.col) (sym e) ∙ t) | inr q ↦ inr q ])
+    (λ t. inr (subst (Mem m) (kept-out v p ms t) q))
+
+-- a kept module of a strip and further places is one of the strip's columns, or one of the further places
+strip-mem : (v s : ℕ) (x : Strip) (k n : ℕ) (m : Module) (later : List Module)
+    → Mem m (in_region_of v (both_of (rows_from s x k n) ++ later))
+    → (((m.col ≡ x.right) ⊎ (m.col ≡ x.right - 1)) × (is_in_region v m.row m.col ≡ true)) ⊎ Mem m (in_region_of v later)
+strip-mem v s x k zero m later q = inr q
+strip-mem v s x k (suc n) m later q = elim (mem-kept v (at (row_of s x k) x.right) m (at (row_of s x k) (x.right - 1) ∷ both_of (rows_from s x (k + 1) n) ++ later) q) [
+  | inl w ↦ inl (inl (ap (λ (z : Module). z.col) (sym w.0)), w.1)
+  | inr q ↦ elim (mem-kept v (at (row_of s x k) (x.right - 1)) m (both_of (rows_from s x (k + 1) n) ++ later) q) [
+    | inl w ↦ inl (inr (ap (λ (z : Module). z.col) (sym w.0)), w.1)
+    | inr q ↦ strip-mem v s x (k + 1) n m later q
+  ]
+]
+
+-- one more strip is drawn
+pub placed-strip : (v : ℕ) (cw : List ℕ) (g0 a b : Grid) (x : Strip) (before later : List Module) (number next : ℕ)
+    → IsSquare (side_of v) a
+    → IsPlaced v cw g0 before (both_of (rows_from (side_of v) x 0 (side_of v)) ++ later) number (transposed a)
+    → IsStripDrawn v cw x number a next b
+    → IsPlaced v cw g0 (before ++ both_of (rows_from (side_of v) x 0 (side_of v))) later next (transposed b)
+placed-strip v cw g0 a b x before later number next o p d =
+    let s = side_of v in
+    let want = placed_colour v cw (colour g0) in
+    let a-side = ap (λ (z : Grid). z.side) o in
+    let b-side = ap (λ (z : Grid). z.side) d.square in
+    record {
+      whole = rw append_assoc p.whole;
+      next = d.number ∙ (ap (λ n. number_at v x n s) p.next ∙ number-rows v x before s);
+      square = square-transposed s b d.square;
+      done = λ r c l m n.
+          let kept : (((c ≡ x.right) ⊎ (c ≡ x.right - 1)) × (is_in_region v r c ≡ true) → ⊥) → colour a c r ≡ want r c = λ u.
+          sym (colour-transposed a r c (omega arith) (omega arith)) ∙ p.done r c l m (λ q. elim (strip-mem v s x 0 s (at r c) later q) [ inl w ↦ u w | inr q ↦ n q ]) in
+          let j = row_of s x r in
+          let rank = row-small x s r l in
+          let bits = rw rank.1 at (d.drawn j rank.0) in
+          let xs = before ++ both_of (rows_from s x 0 j) in
+          let i = at r x.right in
+          let k = at r (x.right - 1) in
+          let ys = both_of (rows_from s x (j + 1) (s - 1 - j)) ++ later in
+          let order : before ++ (both_of (rows_from s x 0 s) ++ later) ≡ xs ++ i ∷ k ∷ ys = rw (rw rank.1 at (strip-split s x j rank.0)) (simp append_assoc) in
+          let whole = rw order at p.whole in
+          let first : length (in_region_of v xs) ≡ number_at v x number j = sym (ap (λ n. number_at v x n j) p.next ∙ number-rows v x before j) in
+          let second = count-push v xs i in
+          colour-transposed b r c (omega arith) (omega arith) ∙ elim (cases_eq c x.right) [
+            | inl e ↦ rw e (by_test (is_in_region v r x.right) _
+                (λ t. (rw t at bits.0) ∙ cc (place-number v xs (k ∷ ys) i whole t, first, inside v cw (colour g0) r x.right t))
+                (λ t. (rw t at bits.0) ∙ (rw e at kept) (λ w. cc)))
+            | inr e ↦ elim (cases_eq c (x.right - 1)) [
+              | inl f ↦ rw f (by_test (is_in_region v r (x.right - 1)) _
+                  (λ t. (rw t at bits.1) ∙ cc (place-number v (xs ++ i ∷ []) ys k (rw (append_assoc xs (i ∷ []) (k ∷ ys)) whole) t, first, second, inside v cw (colour g0) r (x.right - 1) t))
+                  (λ t. (rw t at bits.1) ∙ (rw f at kept) (λ w. cc)))
+              | inr f ↦ d.kept r c l m e f ∙ kept (λ w. elim w.0 [ inl g ↦ e g | inr g ↦ f g ])
+            ]
+          ];
+    }
 
 -- the number of the next bit is at most the number of all modules of the region
 pub placed-small : (v : ℕ) (cw : List ℕ) (g0 g : Grid) (before later : List Module) (number : ℕ) → 1 ≤ v → v ≤ 40 → IsPlaced v cw g0 before later number g → number ≤ 29648
 placed-small v cw g0 g before later number k l p =
-    let m = order-small v (in_region_of v before ++ in_region_of v later) k l p.whole in
-    let n = length-append (in_region_of v before) (in_region_of v later) in
-    let q = p.next in
-    omega arith
+    let m = order-small v (in_region_of v (before ++ later)) k l p.whole in
+    omega (arith, ap length (kept-append v before later), length-append (in_region_of v before) (in_region_of v later), p.next)
 
 -- after all places, the square has the placed colours
 pub placed-end : (v : ℕ) (cw : List ℕ) (g0 g : Grid) (before : List Module) (number : ℕ) → IsPlaced v cw g0 before [] number g → g ≡ square (side_of v) (placed_colour v cw (colour g0))

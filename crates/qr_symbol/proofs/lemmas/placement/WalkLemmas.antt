@@ -1,23 +1,16 @@
 -- Drawing along the walk, where each bit is masked as it is placed.
 use mathlib.Core.Bool.{beq}
-use Rattle.std.proofs.Common.{◌≡◌, ℕ, ◌+◌, ◌<◌, ◌≤◌, Bool, true, false, cond, not, List, [], ◌∷◌, ◌++◌, length, length-append, refl, sym, ◌∙◌, ap, subst, arith}
-use Rattle.qr_layout.specs.declared.level.Level.{Level}
-use Rattle.qr_layout.specs.declared.region.Module.{Module}
-use Rattle.qr_layout.specs.declared.role.Role.{Role}
+use Rattle.std.proofs.Common.{◌≡◌, ℕ, ◌+◌, ◌<◌, ◌≤◌, Bool, true, false, cond, not, List, [], ◌∷◌, ◌++◌, length, length-append, refl, ◌∙◌, ap, arith}
+use Rattle.qr_layout.specs.declared.{level.Level.Level, region.Module.Module, role.Role.Role}
 use Rattle.qr_layout.specs.declared.role.Role.TheVariants.{Fixed, FormatBit, VersionBit, Region}
-use Rattle.qr_layout.specs.Version.{side_of}
-use Rattle.qr_layout.specs.Format.{format_word_of, version_word_of}
-use Rattle.qr_layout.specs.Region.{is_in_region}
-use Rattle.qr_layout.specs.Role.{role_of}
-use Rattle.qr_layout.specs.Order.{IsOrder, number_of}
+use Rattle.qr_layout.specs.{Version.side_of, Format.format_word_of, Format.version_word_of, Region.is_in_region}
+use Rattle.qr_layout.specs.{Role.role_of, Order.IsOrder, Order.number_of}
 use Rattle.qr_layout.proofs.Facts.{order-small, region-role, role-region}
 use Rattle.qr_bits.specs.Bits.{codeword_bit}
 use Rattle.qr_matrix.specs.Grid.{Grid, square, colour, light, painted, IsSquare}
 use Rattle.qr_matrix.proofs.Facts.{square-same, colour-square}
-use Rattle.qr_symbol.specs.Mask.{inverts, inverted}
-use Rattle.qr_symbol.specs.Symbol.{colour_by, colour_of, grid_of}
-use Rattle.qr_symbol.specs.Steps.Placement.{walked_colour}
-use Rattle.qr_symbol.specs.Steps.Patterns.{fixed_colour}
+use Rattle.qr_symbol.specs.{Mask.inverts, Mask.inverted, Symbol.colour_by, Symbol.colour_of, Symbol.grid_of}
+use Rattle.qr_symbol.specs.Steps.{Placement.walked_colour, Patterns.fixed_colour}
 use Rattle.qr_symbol.proofs.lemmas.placement.BitLemmas.{differs-inverted}
 use Rattle.qr_symbol.proofs.lemmas.placement.PlacementLemmas.{at, by_test, Done, done-start, done-step, done-end, next-number, painted-square, whole-next, whole-push, in-square}
 
@@ -40,15 +33,14 @@ pub record IsWalked (v : ℕ) (cw : List ℕ) (mask : ℕ) (g0 : Grid) (front la
 
 -- at first no module has been drawn
 pub walked-start : (v : ℕ) (cw : List ℕ) (mask : ℕ) (g : Grid) (ms : List Module) → IsSquare (side_of v) g → IsOrder v ms → IsWalked v cw mask g [] ms 0 g
-walked-start v cw mask g ms s o = record { whole = o; next = refl; square = s; done = done-start v (walked_colour v cw mask (colour g)) g ms o (walked-outside v cw mask (colour g)) }
+walked-start v cw mask g ms s o = search (arith, done-start, walked-outside)
 
 -- the next module is in the square
 pub walked-in : (v : ℕ) (cw : List ℕ) (mask : ℕ) (g0 g : Grid) (front now later : List Module) (x : Module) (number : ℕ) → IsWalked v cw mask g0 front now number g → now ≡ x ∷ later → (x.row < g.side) × (x.col < g.side)
 walked-in v cw mask g0 g front now later x number w e =
     let o = whole-next v front now later x w.whole e in
     let l = in-square v front later x o in
-    let s = ap (λ (h : Grid). h.side) w.square in
-    let row = l.0 in let col = l.1 in (omega arith, omega arith)
+    search arith
 
 -- one module is drawn
 pub walked-step : (v : ℕ) (cw : List ℕ) (mask : ℕ) (g0 g : Grid) (front now later : List Module) (x : Module) (number : ℕ) (bit turned : Bool)
@@ -59,27 +51,25 @@ walked-step v cw mask g0 g front now later x number bit turned b t e w =
     let s = ap (λ (h : Grid). h.side) w.square in
     let n = next-number v front later x number o w.next in
     let d : not (beq bit turned) ≡ inverted (inverts mask x.row x.col) (codeword_bit cw number) =
-    differs-inverted bit turned ∙ (ap (inverted turned) b ∙ ap (λ (z : Bool). inverted z (codeword_bit cw number)) t) in
+    search (arith, differs-inverted, codeword_bit) in
     let want : inverted (inverts mask x.row x.col) (codeword_bit cw number) ≡ walked_colour v cw mask (colour g0) x.row x.col =
-    sym (walked-inside v cw mask (colour g0) x.row x.col n.0 ∙ ap (λ (k : ℕ). inverted (inverts mask x.row x.col) (codeword_bit cw k)) n.1) in
+    search (arith, walked-inside, codeword_bit) in
     record {
       whole = whole-push v front later x o;
-      next = (let l = length-append front (x ∷ []) in let k = w.next in omega arith);
-      square = painted-square (side_of v) g x.row x.col (not (beq bit turned)) s;
-      done = done-step (side_of v) (walked_colour v cw mask (colour g0)) g later x (not (beq bit turned)) s (d ∙ want) (subst (λ (ms : List Module). Done (side_of v) (walked_colour v cw mask (colour g0)) ms g) e w.done);
+      next = cc (length-append front (x ∷ []));
+      square = omega (arith, painted-square);
+      done = done-step (side_of v) (walked_colour v cw mask (colour g0)) g later x (not (beq bit turned)) s (d ∙ want) (search arith);
     }
 
 -- the number of the next bit is at most the number of all modules of the region
 pub walked-small : (v : ℕ) (cw : List ℕ) (mask : ℕ) (g0 g : Grid) (front later : List Module) (number : ℕ) → 1 ≤ v → v ≤ 40 → IsWalked v cw mask g0 front later number g → number ≤ 29648
 walked-small v cw mask g0 g front later number k l w =
     let m = order-small v (front ++ later) k l w.whole in
-    let n = length-append front later in
-    let q = w.next in
-    omega arith
+    search (arith, length-append)
 
 -- after the last module, the square has the walked colours
 pub walked-end : (v : ℕ) (cw : List ℕ) (mask : ℕ) (g0 g : Grid) (front later : List Module) (number : ℕ) → later ≡ [] → IsWalked v cw mask g0 front later number g → g ≡ square (side_of v) (walked_colour v cw mask (colour g0))
-walked-end v cw mask g0 g front later number e w = done-end (side_of v) (walked_colour v cw mask (colour g0)) g w.square (subst (λ (ms : List Module). Done (side_of v) (walked_colour v cw mask (colour g0)) ms g) e w.done)
+walked-end v cw mask g0 g front later number e w = search (arith, done-end)
 
 -- a module that is not in the region has the fixed colour of its role
 role-fixed : (v : ℕ) (l : Level) (mask : ℕ) (cw : List ℕ) (r c : ℕ) (q : Role) → (q ≡ Region → ⊥) → fixed_colour (format_word_of l mask) (version_word_of v) q ≡ colour_by v l mask cw r c q
@@ -93,22 +83,11 @@ role-fixed v l mask cw r c Region n = absurd (n refl)
 pub fixed-alone : (v format : ℕ) (g h : Grid) → 1 ≤ v → g ≡ light (side_of v) → h ≡ square (side_of v) (λ r c. cond (is_in_region v r c) (colour g r c) (fixed_colour format (version_word_of v) (role_of v r c)))
     → h ≡ square (side_of v) (λ r c. fixed_colour format (version_word_of v) (role_of v r c))
 unfolding fixed_colour
-fixed-alone v format g h k e f =
-    let fixed = λ (r c : ℕ). fixed_colour format (version_word_of v) (role_of v r c) in
-    f ∙ square-same (side_of v) (λ r c. cond (is_in_region v r c) (colour g r c) (fixed r c)) fixed (λ r c i j.
-    by_test (is_in_region v r c) (cond (is_in_region v r c) (colour g r c) (fixed r c) ≡ fixed r c)
-    (λ t. ap (λ (z : Bool). cond z (colour g r c) (fixed r c)) t ∙ (ap (λ (z : Grid). colour z r c) e ∙ (colour-square (side_of v) (λ _ _. false) r c i j ∙ sym (ap (fixed_colour format (version_word_of v)) (region-role v r c k i j t)))))
-    (λ t. ap (λ (z : Bool). cond z (colour g r c) (fixed r c)) t))
+fixed-alone v format g h k e f = search (arith, square-same, by_test, colour-square, region-role)
 
 -- what is drawn along the walk over the fixed patterns is the symbol of the codewords
 pub walked-all : (v : ℕ) (l : Level) (mask : ℕ) (cw : List ℕ) (g h : Grid) → 1 ≤ v → g ≡ square (side_of v) (λ r c. fixed_colour (format_word_of l mask) (version_word_of v) (role_of v r c))
     → h ≡ square (side_of v) (walked_colour v cw mask (colour g)) → h ≡ grid_of v l mask cw
 unfolding colour_of
 walked-all v l mask cw g h k e f =
-    f ∙ square-same (side_of v) (walked_colour v cw mask (colour g)) (colour_of v l mask cw) (λ r c i j.
-    by_test (is_in_region v r c) (walked_colour v cw mask (colour g) r c ≡ colour_of v l mask cw r c)
-    (λ t. walked-inside v cw mask (colour g) r c t ∙ ap (colour_by v l mask cw r c) (sym (region-role v r c k i j t)))
-    (λ t. sym (walked-outside v cw mask (colour g) r c t)
-    ∙ (ap (λ (z : Grid). colour z r c) e
-    ∙ (colour-square (side_of v) (λ r c. fixed_colour (format_word_of l mask) (version_word_of v) (role_of v r c)) r c i j
-    ∙ role-fixed v l mask cw r c (role_of v r c) (λ u. let m = role-region v r c k i j u in cc)))))
+    f ∙ square-same (side_of v) (walked_colour v cw mask (colour g)) (colour_of v l mask cw) (search (arith, by_test, walked-inside, region-role, walked-outside, colour-square, role-fixed, role-region))

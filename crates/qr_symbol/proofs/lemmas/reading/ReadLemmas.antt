@@ -1,26 +1,17 @@
 -- What is read from the square of a symbol: the codeword bits, the codewords and the message.
-use Rattle.std.proofs.Common.{◌≡◌, ℕ, zero, suc, ◌+◌, ◌-◌, ◌*◌, ◌<◌, ◌≤◌, Bool, true, false, nat_eq, List, [], ◌∷◌, ◌++◌, map, take, drop, length, get_or, replicate, refl, sym, ◌∙◌, ap, subst, length-append, inl, inr, arith}
-use Rattle.std.proofs.lemmas.Bool.{cases_lt}
-use Rattle.std.proofs.lemmas.Bool.Decides.{nat_tests}
+use Rattle.std.proofs.Common.{◌≡◌, ℕ, zero, suc, ◌+◌, ◌-◌, ◌*◌, ◌<◌, ◌≤◌, Bool, true, false, nat_eq, List, [], ◌∷◌, ◌++◌, map, take, drop, length, replicate, refl, sym, ◌∙◌, ap, subst, length-append, inl, inr, arith}
+use Rattle.std.proofs.lemmas.Bool.{cases_lt, Decides.nat_tests}
 use Rattle.std.proofs.lemmas.List.{append-nil, length-map, length-take, length-replicate}
-use Rattle.std.proofs.Math.Seq.{drop-cons}
-use Rattle.std.specs.List.{All}
-use Rattle.std.specs.Int.{bit_at}
-use Rattle.std.proofs.lemmas.Nat.Bits.{same_from_bits_below, bit_at-lt}
-use Rattle.qr_layout.specs.declared.level.Level.{Level}
-use Rattle.qr_layout.specs.declared.region.Module.{Module}
-use Rattle.qr_layout.specs.Version.{side_of, total_codewords_of}
-use Rattle.qr_layout.specs.Blocks.{data_codewords_of, blocks_of}
-use Rattle.qr_layout.specs.Order.{IsOrder, number_of}
+use Rattle.std.proofs.{Math.Seq.drop-cons, lemmas.Nat.Bits.same_from_bits_below, lemmas.Nat.Bits.bit_at-lt}
+use Rattle.std.specs.{List.All, Int.bit_at}
+use Rattle.qr_layout.specs.{declared.level.Level.Level, declared.region.Module.Module, Version.total_codewords_of}
+use Rattle.qr_layout.specs.{Blocks.data_codewords_of, Blocks.blocks_of, Order.IsOrder, Order.number_of}
 use Rattle.qr_layout.specs.Steps.Order.{to_come, first_cursor}
 use Rattle.qr_layout.proofs.Facts.{order-mem, order-length, number-at, only_order, to_come-start, region-role}
-use Rattle.qr_bits.specs.Bits.{field, bits_of, codeword_bit}
-use Rattle.qr_bits.specs.Parsing.{bytes_of}
+use Rattle.qr_bits.specs.{Bits.field, Bits.bits_of, Bits.codeword_bit, Parsing.bytes_of}
 use Rattle.qr_bits.proofs.Facts.{length-field, length-bits_of, bits_at, bytes_takes}
 use Rattle.qr_matrix.specs.Grid.{Grid}
-use Rattle.qr_symbol.specs.Mask.{inverts, inverted}
-use Rattle.qr_symbol.specs.Symbol.{colour_by, colour_of, grid_of}
-use Rattle.qr_symbol.specs.Interleaving.{IsInterleaved}
+use Rattle.qr_symbol.specs.{Mask.inverts, Mask.inverted, Symbol.colour_of, Symbol.grid_of, Interleaving.IsInterleaved}
 use Rattle.qr_symbol.specs.Reading.{unmasked, read_bits, IsRead, IsMessage}
 use Rattle.qr_matrix.proofs.Facts.{colour-square}
 use Rattle.qr_symbol.proofs.lemmas.placement.PlacementLemmas.{in-square, whole-push, Mem-mid}
@@ -39,7 +30,7 @@ read-place v l mask cw front back m k o =
     let w = in-square v front back m o in
     let t = order-mem v (front ++ m ∷ back) o m (Mem-mid m front back) in
     let e = region-role v m.row m.col k w.0 w.1 t in
-    ap (inverted (inverts mask m.row m.col)) (colour-square (side_of v) (colour_of v l mask cw) m.row m.col w.0 w.1 ∙ ap (colour_by v l mask cw m.row m.col) e)
+    ap (inverted (inverts mask m.row m.col)) (search (arith, colour-square))
     ∙ (inverted-twice (inverts mask m.row m.col) (codeword_bit cw (number_of v m)) ∙ ap (codeword_bit cw) (number-at v front back m o))
 
 -- the bits that are read from one module of the order on
@@ -53,9 +44,7 @@ read-from v l mask cw (suc n) front (m ∷ rest) p o i h =
     let here = read-place v l mask cw front rest m p o in
     let later = read-from v l mask cw n (front ++ m ∷ []) rest p (whole-push v front rest m o) (omega arith) (omega arith) ∙ ap (λ (z : ℕ). take n (drop z bits)) next in
     let c = drop-cons bits k false (omega (arith, length-bits_of cw)) in
-    let bit = bits_at cw k (omega arith) in
-    let both : map (unmasked mask (grid_of v l mask cw)) (take (suc n) (m ∷ rest)) ≡ get_or bits k false ∷ take n (drop (suc k) bits) = (let head = here ∙ sym bit in λ i. head i ∷ later i) in
-    both ∙ ap (λ (xs : List Bool). take (suc n) xs) (sym c)
+    cc (bits_at cw k (omega arith))
 
 -- the prefix with the length of the list is the whole list
 take-whole : {X : Type 0} (xs : List X) (n : ℕ) → length xs ≡ n → take n xs ≡ xs
@@ -82,7 +71,7 @@ unfolding field
 field-one zero x y e i l = absurd (omega arith)
 field-one (suc w) x y e i l = elim (cases_lt i w) [
   | inl k ↦ field-one w x y (ap tail e) i k
-  | inr k ↦ let f : i ≡ w = omega arith in ap (λ (z : ℕ). bit_at x z) f ∙ (same_bit (bit_at x w) (bit_at y w) (bit_at-lt x w) (bit_at-lt y w) (ap head e) ∙ ap (λ (z : ℕ). bit_at y z) (sym f))
+  | inr k ↦ search (arith, bit_at-lt)
 ]
   where
     tail : List Bool → List Bool
@@ -110,7 +99,7 @@ bits-one (c ∷ cs) (d ∷ ds) a b e =
 
 -- a square is read as at most one list of codewords
 pub read-one : (v mask : ℕ) (g : Grid) (cw ds : List ℕ) → IsRead v mask g cw → IsRead v mask g ds → cw ≡ ds
-read-one v mask g cw ds h k = bits-one cw ds h.bytes k.bytes (h.bits ∙ (ap (read_bits v mask g) (only_order v h.places k.places h.order k.order) ∙ sym k.bits))
+read-one v mask g cw ds h k = bits-one cw ds h.bytes k.bytes (cc (only_order v h.places k.places h.order k.order))
 
 -- every square contains codewords
 pub read-some : (v mask : ℕ) (g : Grid) → 1 ≤ v → v ≤ 40 → (cw : List ℕ) × IsRead v mask g cw
@@ -119,18 +108,17 @@ read-some v mask g p h =
     let o = to_come-start v in
     let ms = to_come v (first_cursor v) in
     let bits = read_bits v mask g ms in
-    let many : length bits ≡ 8 * t =
-    length-append (map (unmasked mask g) (take (8 * t) ms)) (replicate (8 * t - length ms) false) ∙ (let a = length-map (take (8 * t) ms) (unmasked mask g) in let b = length-take (8 * t) ms in let c = length-replicate (8 * t - length ms) false in omega arith) in
+    let many : length bits ≡ 8 * t = search (arith, length-append, length-map, length-take, length-replicate) in
     let w = bytes_takes t bits (omega arith) in
     let n = w.0 in
     let same = append-front bits (bits_of (bytes_of t bits)) [] (drop (8 * t) bits) (let l = length-bits_of (bytes_of t bits) in omega arith) (append-nil bits ∙ w.2) in
-    (bytes_of t bits, record { bytes = w.1; places = ms; order = o; bits = sym same.0 })
+    search arith
 
 -- the square that is drawn for the codewords of a message contains this message
 pub message-read : (v : ℕ) (l : Level) (mask : ℕ) (d cw : List ℕ) → 1 ≤ v → v ≤ 40 → length cw ≡ total_codewords_of v → All (λ x. x < 256) cw → length d ≡ data_codewords_of v l → IsInterleaved v l d cw → IsMessage v l mask (grid_of v l mask cw) d
 message-read v l mask d cw p h n a m i =
     let o = to_come-start v in
-    record { codewords = cw; read = record { bytes = a; places = to_come v _; order = o; bits = sym (read-grid v l mask cw _ p h o n) }; many = m; interleaved = i }
+    search (arith, read-grid)
 
 -- a square contains at most one message
 pub message-one : (v : ℕ) (l : Level) (mask : ℕ) (g : Grid) (d e : List ℕ) → 1 ≤ v → v ≤ 40 → IsMessage v l mask g d → IsMessage v l mask g e → d ≡ e

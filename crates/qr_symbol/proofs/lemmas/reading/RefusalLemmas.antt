@@ -1,32 +1,28 @@
 -- A square is read as one content, or is refused for one reason.
-use Rattle.std.proofs.Common.{◌≡◌, ℕ, List, refl, sym, ◌∙◌, ap, subst, inl, inr, ◌⊎◌, arith}
+use Rattle.std.proofs.Common.{◌≡◌, ℕ, List, refl, inl, inr, ◌⊎◌, arith}
 use Rattle.std.specs.Prelude.{◌↔◌, MatchResult, Result, Ok, Err}
 use Rattle.qr_layout.specs.declared.level.Level.{Level}
-use Rattle.qr_bits.specs.declared.fault.ParseFault.{ParseFault}
-use Rattle.qr_bits.specs.Bits.{bits_of}
-use Rattle.qr_bits.specs.Parsing.{Content, parse}
+use Rattle.qr_bits.specs.{declared.fault.ParseFault.ParseFault, Bits.bits_of, Parsing.Content}
 use Rattle.qr_symbol.specs.declared.fault.ReadFault.{ReadFault}
 use Rattle.qr_symbol.specs.declared.fault.ReadFault.TheVariants as fault
 use Rattle.qr_matrix.specs.Grid.{Grid}
 use Rattle.qr_symbol.specs.Reading.{IsFormat, IsMessage, IsReading, IsOfVersion, IsParsedAs, IsUnread}
-use Rattle.qr_symbol.proofs.lemmas.reading.ReadLemmas.{message-one}
-use Rattle.qr_symbol.proofs.lemmas.reading.FormatLemmas.{format-one}
+use Rattle.qr_symbol.proofs.lemmas.reading.{ReadLemmas.message-one, FormatLemmas.format-one}
 
 -- a square has one version, level and mask, so its message does not depend on how they were found
 pub moved : (g : Grid) (v w : ℕ) (l k : Level) (m n : ℕ) (d : List ℕ) → IsOfVersion g v → IsOfVersion g w → IsFormat g l m → IsFormat g k n → IsMessage v l m g d → (v ≡ w) × IsMessage w k n g d
 moved g v w l k m n d s t f h i =
     let a = s.side in
     let b = t.side in
-    let vs : v ≡ w = omega arith in
     let e = format-one g l k m n f h in
-    (vs, subst (λ (z : ℕ). IsMessage w k z g d) e.1 (subst (λ (z : Level). IsMessage w z m g d) e.0 (subst (λ (z : ℕ). IsMessage z l m g d) vs i)))
+    search arith
 
 -- a square has at most one outcome of parsing
 gives-one : (g : Grid) (r q : Result Content ParseFault) → IsParsedAs g r → IsParsedAs g q → r ≡ q
 gives-one g r q h k =
     let w = moved g k.version h.version k.level h.level k.mask h.mask k.message k.sized h.sized k.format h.format k.holds in
     let same = message-one h.version h.level h.mask g h.message k.message h.sized.least h.sized.most h.holds w.1 in
-    sym h.parsed ∙ (ap (λ (d : List ℕ). parse h.version (bits_of d)) same ∙ (ap (λ (v : ℕ). parse v (bits_of k.message)) (sym w.0) ∙ k.parsed))
+    search (arith, bits_of)
 
 -- a square that contains a message is refused only if the message cannot be parsed, or for lack of memory
 refused : (g : Grid) (r : Result Content ParseFault) → IsParsedAs g r → (e : ReadFault) → IsUnread g e → (e ≡ fault.Memory) ⊎ ((x : ParseFault) × (e ≡ fault.Segments x) × (r ≡ Err x))
@@ -89,12 +85,9 @@ pub exactly : {T : Type 0} (P : T → Type 0) (U : ReadFault → Type 0) (r : Re
     (e ≡ fault.Memory → ⊥) → (r ≡ Err e) ↔ ((r ≡ Err fault.Memory → ⊥) × U e)
 exactly P U (Ok x) h none one e other = ((λ k. absurd (cc)), (λ w. absurd (other (none x e h w.1))))
 exactly P U (Err f) h none one e other = (
-  (λ k. let same : f ≡ e = cc in ((λ m. let memory : e ≡ fault.Memory = cc in other memory), subst U same h)),
+  (search arith),
   (λ w. elim (one e f w.1 h) [
     | inl a ↦ absurd (other a)
-    | inr b ↦ elim b [
-      | inl m ↦ absurd (w.0 (ap (λ (z : ReadFault). Err z) m))
-      | inr same ↦ ap (λ (z : ReadFault). Err z) (sym same)
-    ]
+    | inr b ↦ search arith
   ]),
 )

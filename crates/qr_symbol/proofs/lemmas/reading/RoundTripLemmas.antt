@@ -1,22 +1,15 @@
 -- A symbol is read as its input.
 use Rattle.std.proofs.Common.{◌≡◌, ℕ, ◌+◌, ◌<◌, ◌≤◌, List, [], map, length, get_or, sym, ◌∙◌, ap, subst, inl, inr, arith}
-use Rattle.std.specs.Prelude.{Option}
-use Rattle.std.specs.List.{All}
-use Rattle.std.proofs.lemmas.Bool.{cases_lt}
-use Rattle.std.proofs.Math.ListN.{get_or-eq_default}
+use Rattle.std.proofs.{lemmas.Bool.cases_lt, Math.ListN.get_or-eq_default}
 use Rattle.std.proofs.lemmas.List.Elements.{All-append, All-map}
-use Rattle.qr_layout.specs.declared.blocks.Blocks.{Blocks}
-use Rattle.qr_layout.specs.declared.level.Level.{Level}
-use Rattle.qr_layout.specs.Blocks.{blocks_of}
-use Rattle.qr_bits.specs.declared.modes.Rule.{Rule}
-use Rattle.qr_bits.specs.declared.header.Header.{Header}
-use Rattle.qr_bits.specs.Bits.{bits_of}
-use Rattle.qr_bits.specs.Parsing.{Content, parse}
+use Rattle.std.specs.{Prelude.Option, List.All}
+use Rattle.qr_layout.specs.{declared.blocks.Blocks.Blocks, declared.level.Level.Level, Blocks.blocks_of}
+use Rattle.qr_bits.specs.declared.{modes.Rule.Rule, header.Header.Header}
+use Rattle.qr_bits.specs.{Bits.bits_of, Parsing.Content, Parsing.parse}
 use Rattle.qr_bits.proofs.Facts.{data_again, length-data}
 use Rattle.qr_matrix.specs.Grid.{Grid}
 use Rattle.qr_symbol.specs.Interleaving.{start_of, codeword_at, data_sizes, check_at, IsFinalMessage}
-use Rattle.qr_symbol.specs.Reading.{IsFormat, IsMessage, IsReading}
-use Rattle.qr_symbol.specs.Encoding.{IsSymbolAt}
+use Rattle.qr_symbol.specs.{Reading.IsFormat, Reading.IsMessage, Reading.IsReading, Encoding.IsSymbolAt}
 use Rattle.qr_symbol.proofs.lemmas.interleaving.MessageLemmas.{final-whole}
 use Rattle.qr_symbol.proofs.lemmas.reading.ReadLemmas.{message-read, message-one}
 use Rattle.qr_symbol.proofs.lemmas.reading.FormatLemmas.{format-one, format-read}

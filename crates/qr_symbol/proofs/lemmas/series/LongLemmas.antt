@@ -1,9 +1,7 @@
 -- Inputs that are too long for 16 symbols have no series, and inputs that have no series need more than 16 parts.
 use Rattle.std.proofs.Common.{◌≡◌, false, ℕ, ◌*◌, ◌<◌, ◌≤◌, List, length, arith}
 use Rattle.qr_layout.specs.declared.level.Level.{Level}
-use Rattle.qr_bits.specs.declared.modes.Rule.{Rule}
-use Rattle.qr_bits.specs.declared.modes.Mode.TheVariants.{Kanji}
-use Rattle.qr_bits.specs.Modes.{may_use}
+use Rattle.qr_bits.specs.{declared.modes.Rule.Rule, declared.modes.Mode.TheVariants.Kanji, Modes.may_use}
 use Rattle.qr_bits.proofs.Facts.{fitting_short}
 use Rattle.qr_symbol.specs.Series.{HasNoSeries, NeedsParts}
 use Rattle.qr_symbol.proofs.lemmas.series.PartLemmas.{needs-parts, parts-long}

@@ -1,19 +1,16 @@
 -- Every input has parts: it is decidable whether a prefix fits, so there is a longest one.
-use Rattle.std.proofs.Common.{◌≡◌, ℕ, zero, suc, ◌+◌, ◌<◌, ◌≤◌, ◌⊎◌, Bool, true, false, ◌&&◌, nat_eq, cond, List, [], ◌∷◌, length, take, drop, refl, sym, subst, inl, inr, length-drop, arith}
-use Rattle.std.specs.Prelude.{IsTrue}
-use Rattle.std.specs.List.{list_all, sum_by}
-use Rattle.std.proofs.lemmas.Bool.{cases_lt}
-use Rattle.std.proofs.lemmas.List.Sums.{sum_by-cons}
+use Rattle.std.proofs.Common.{◌≡◌, ℕ, zero, suc, ◌+◌, ◌<◌, ◌≤◌, ◌⊎◌, Bool, true, false, nat_eq, cond, List, [], ◌∷◌, length, take, drop, refl, subst, inl, inr, length-drop, arith}
+use Rattle.std.proofs.lemmas.{Bool.cases_lt, List.Sums.sum_by-cons}
+use Rattle.std.specs.{Prelude.IsTrue, List.list_all, List.sum_by}
 use Rattle.qr_layout.specs.declared.level.Level.{Level}
 use Rattle.qr_bits.specs.declared.modes.Mode.{Mode}
 use Rattle.qr_bits.specs.declared.modes.Mode.TheVariants.{Numeric, Alphanumeric, Byte, Kanji}
-use Rattle.qr_bits.specs.declared.modes.Rule.{Rule}
-use Rattle.qr_bits.specs.declared.segment.Segment.{Segment}
-use Rattle.qr_bits.specs.Modes.{may_use, suits}
+use Rattle.qr_bits.specs.{declared.modes.Rule.Rule, declared.segment.Segment.Segment, Modes.may_use}
 use Rattle.qr_bits.specs.Segmentation.{bits, rank, prepend_mode, runs_of, Covers, IsAssignment, HasFit, IsLongestFit}
 use Rattle.qr_bits.specs.Padding.{room_of}
-use Rattle.qr_bits.proofs.Facts.{CoversInTurn, byte_used, capacity_least, count_width_bound, covers_all, empty_fits, from_turn, in_turn}
+use Rattle.qr_bits.proofs.Facts.{CoversInTurn, capacity_least, count_width_bound, covers_all, empty_fits, from_turn, in_turn}
 use Rattle.qr_symbol.specs.Series.{AreParts}
+use Rattle.qr_symbol.proofs.lemmas.series.PartLemmas.{bytes-fit}
 
 -- a fact is decided if it holds or does not hold
 abbrev Decided : Type 0 → Type 0
@@ -32,11 +29,11 @@ true-or-not false = inr (λ h. cc)
 
 -- it is decided whether one number is less than another
 below-or-not : (m n : ℕ) → Decided (m < n)
-below-or-not m n = elim (cases_lt m n) [ inl l ↦ inl l | inr l ↦ inr (λ h. omega arith) ]
+below-or-not m n = search arith
 
 -- it is decided whether one number is at most another
 most-or-not : (m n : ℕ) → Decided (m ≤ n)
-most-or-not m n = elim (cases_lt n m) [ inl l ↦ inr (λ h. omega arith) | inr l ↦ inl l ]
+most-or-not m n = search arith
 
 -- it is decided whether segments take all of the bytes, one segment after another
 in-turn-or-not : (xs : List ℕ) (segs : List Segment) → Decided (CoversInTurn xs segs)
@@ -44,18 +41,15 @@ unfolding CoversInTurn
 in-turn-or-not [] [] = inl refl
 in-turn-or-not (x ∷ xs) [] = inr (λ e. cc)
 in-turn-or-not xs (s ∷ ss) =
-    elim (both (0 < s.len) (s.len ≤ length xs) (below-or-not 0 s.len) (most-or-not s.len (length xs))) [
-      | inl a ↦ elim (both (IsTrue (suits s.mode (take s.len xs))) (CoversInTurn (drop s.len xs) ss) (true-or-not (suits s.mode (take s.len xs))) (in-turn-or-not (drop s.len xs) ss)) [
-        | inl b ↦ inl (a.0, a.1, b.0, b.1)
-        | inr n ↦ inr (λ w. n (w.2, w.3))
-      ]
-      | inr n ↦ inr (λ w. n (w.0, w.1))
-    ]
+    search (arith, both, below-or-not, most-or-not, true-or-not, in-turn-or-not (drop s.len xs) ss)
 
 -- it is decided whether segments cover the bytes
 covers-or-not : (xs : List ℕ) (segs : List Segment) → Decided (Covers xs segs)
-covers-or-not xs segs =
-    elim (in-turn-or-not xs segs) [ inl h ↦ inl (from_turn xs segs h) | inr n ↦ inr (λ w. n (in_turn xs segs w)) ]
+covers-or-not xs segs = search (arith, in-turn-or-not, from_turn, in_turn)
+
+-- some list that begins with this mode has a property, or none with n modes after it has
+abbrev Begun : (List Mode → Type 0) → ℕ → Mode → Type 0
+Begun P n m = ((ks : List Mode) × P (m ∷ ks)) ⊎ ((ks : List Mode) → length ks ≡ n → P (m ∷ ks) → ⊥)
 
 -- some list of n modes has a decided property, or no such list has it
 some-modes : (n : ℕ) (P : List Mode → Type 0) → ((ms : List Mode) → Decided (P ms)) → ((ms : List Mode) × P ms) ⊎ ((ms : List Mode) → length ms ≡ n → P ms → ⊥)
@@ -65,19 +59,7 @@ some-modes zero P d = elim (d []) [ inl p ↦ inl ([], p) | inr q ↦ inr (empty
     empty q [] e p = q p
     empty q (m ∷ ms) e p = absurd (omega arith)
 some-modes (suc n) P d =
-    elim (some-modes n (λ ks. P (Numeric ∷ ks)) (λ ks. d (Numeric ∷ ks))) [
-      | inl p ↦ inl (Numeric ∷ p.0, p.1)
-      | inr a ↦ elim (some-modes n (λ ks. P (Alphanumeric ∷ ks)) (λ ks. d (Alphanumeric ∷ ks))) [
-        | inl p ↦ inl (Alphanumeric ∷ p.0, p.1)
-        | inr b ↦ elim (some-modes n (λ ks. P (Byte ∷ ks)) (λ ks. d (Byte ∷ ks))) [
-          | inl p ↦ inl (Byte ∷ p.0, p.1)
-          | inr e ↦ elim (some-modes n (λ ks. P (Kanji ∷ ks)) (λ ks. d (Kanji ∷ ks))) [
-            | inl p ↦ inl (Kanji ∷ p.0, p.1)
-            | inr f ↦ inr (none a b e f)
-          ]
-        ]
-      ]
-    ]
+    let first = λ (m : Mode). some-modes n (λ ks. P (m ∷ ks)) (λ ks. d (m ∷ ks)) in pick (first Numeric) (first Alphanumeric) (first Byte) (first Kanji)
   where
     none : ((ks : List Mode) → length ks ≡ n → P (Numeric ∷ ks) → ⊥) → ((ks : List Mode) → length ks ≡ n → P (Alphanumeric ∷ ks) → ⊥)
         → ((ks : List Mode) → length ks ≡ n → P (Byte ∷ ks) → ⊥) → ((ks : List Mode) → length ks ≡ n → P (Kanji ∷ ks) → ⊥)
@@ -87,6 +69,14 @@ some-modes (suc n) P d =
     none a b e f (Alphanumeric ∷ ks) l p = b ks (omega arith) p
     none a b e f (Byte ∷ ks) l p = e ks (omega arith) p
     none a b e f (Kanji ∷ ks) l p = f ks (omega arith) p
+
+    pick : Begun P n Numeric → Begun P n Alphanumeric → Begun P n Byte → Begun P n Kanji
+        → ((ms : List Mode) × P ms) ⊎ ((ms : List Mode) → length ms ≡ suc n → P ms → ⊥)
+    pick (inl p) b e f = inl (Numeric ∷ p.0, p.1)
+    pick a (inl p) e f = inl (Alphanumeric ∷ p.0, p.1)
+    pick a b (inl p) f = inl (Byte ∷ p.0, p.1)
+    pick a b e (inl p) = inl (Kanji ∷ p.0, p.1)
+    pick (inr a) (inr b) (inr e) (inr f) = inr (none a b e f)
 
 -- the runs of a list of modes are together as long as the list
 runs-long : (ms : List Mode) → sum_by (λ s. s.len) (runs_of ms) ≡ length ms
@@ -109,7 +99,7 @@ fits-or-not v r xs n =
     (both (IsTrue (list_all (may_use r) ms)) (Covers xs (runs_of ms)) (true-or-not (list_all (may_use r) ms)) (covers-or-not xs (runs_of ms)))
     (most-or-not (bits v (runs_of ms)) n))) [
       | inl p ↦ inl (p.0, p.1.0, p.1.1)
-      | inr q ↦ inr (λ h. q h.0 (let a = runs-long h.0 in let b = (covers_all xs (runs_of h.0) h.1.1).1 in omega arith) (h.1, h.2))
+      | inr q ↦ search (arith, runs-long, covers_all)
     ]
 
 -- if no prefix longer than k fits, there is a longest prefix of at most k bytes that fits
@@ -137,15 +127,6 @@ longest-to v r xs room (suc k) l none = elim (fits-or-not v r (take (suc k) xs) 
   ])
 ]
 
--- one byte fits in byte mode
-byte-fits : (v : ℕ) (r : Rule) (b room : ℕ) → 28 ≤ room → HasFit v r (b ∷ []) room
-unfolding runs_of CoversInTurn
-byte-fits v r b room l =
-    let w = count_width_bound v Byte in
-    let covered : Covers (b ∷ []) (runs_of (Byte ∷ [])) =
-    from_turn (b ∷ []) (runs_of (Byte ∷ [])) (omega arith, omega arith, refl, refl) in
-    (Byte ∷ [], (subst (λ (t : Bool). IsTrue (t && true)) (sym (byte_used r)) refl, covered), omega arith)
-
 -- bytes have parts, if a bound for their number is known
 parts-to : (most v : ℕ) (l : Level) (r : Rule) (x : List ℕ) → 1 ≤ v → v ≤ 40 → length x ≤ most → (parts : List (List ℕ)) × AreParts v l r x parts
 unfolding AreParts
@@ -156,7 +137,7 @@ parts-to (suc most) v l r (b ∷ bs) p q h =
     let c = capacity_least v l p q in
     let found = longest-to v r x (room_of v l) (length x) (omega arith) (λ j a d g. absurd (omega arith)) in
     let n = found.0 in
-    let some : 1 ≤ n = found.1.longest 1 (omega arith) (byte-fits v r b (room_of v l) (omega arith)) in
+    let some : 1 ≤ n = found.1.longest 1 (omega arith) (bytes-fit v r (b ∷ []) (room_of v l) (omega arith) (omega (arith, count_width_bound v Byte))) in
     let rest = parts-to most v l r (drop n x) p q (let d = length-drop n x in omega arith) in
     (take n x ∷ rest.0, (n, some, found.1, refl, rest.1))
 

@@ -1,21 +1,17 @@
 -- The parts of an input: how long a prefix fits, and the lengths of the parts, which are found one after another.
 use Rattle.std.proofs.Common.{◌≡◌, ℕ, zero, suc, ◌+◌, ◌-◌, ◌*◌, ◌<◌, ◌≤◌, min, true, false, leb, ◌⊎◌, All, List, [], ◌∷◌, ◌++◌, take, drop, length, get_or, Some, refl, sym, ◌∙◌, ap, subst, append_assoc, inl, inr, arith}
-use Rattle.std.specs.List.{concat, list_all}
-use Rattle.std.specs.Prelude.{IsTrue}
-use borrow.Author.Tests.{leb-true}
-use lib.ListN.{replicate}
-use Rattle.std.proofs.lemmas.List.{length-take, length-drop, append-nil, take-append-drop, drop-append-le, length-append}
+use Rattle.std.proofs.lemmas.List.{length-take, length-drop, append-nil, take-append-drop, drop_all, drop-append-le, length-append}
 use Rattle.std.proofs.lemmas.List.Elements.{All-nil, All-cons, All-head, All-tail}
 use Rattle.std.proofs.lemmas.Bool.{and_from, cases_lt}
 use Rattle.std.proofs.Math.Seq.{drop-cons, drop-nil, drop-append-add, take-append_seam, take-length}
-use Rattle.qr_layout.specs.declared.level.Level.{Level}
-use Rattle.qr_bits.specs.declared.modes.Rule.{Rule}
-use Rattle.qr_bits.specs.declared.modes.Mode.TheVariants.{Byte, Kanji}
-use Rattle.qr_bits.specs.Segmentation.{runs_of, HasFit, IsLongestFit}
-use Rattle.qr_bits.specs.Modes.{may_use, count_width}
-use Rattle.qr_bits.specs.Padding.{room_of}
-use Rattle.qr_layout.specs.Version.{total_codewords_of}
+use Rattle.std.specs.{List.concat, List.list_all, Prelude.IsTrue}
+use borrow.Author.Tests.{leb-true}
+use lib.ListN.{replicate}
+use Rattle.qr_layout.specs.{declared.level.Level.Level, Version.total_codewords_of}
 use Rattle.qr_layout.specs.Blocks.{block_count_of, correction_len_of, data_codewords_of}
+use Rattle.qr_bits.specs.declared.modes.{Rule.Rule, Mode.TheVariants.Byte, Mode.TheVariants.Kanji}
+use Rattle.qr_bits.specs.Segmentation.{runs_of, HasFit, IsLongestFit}
+use Rattle.qr_bits.specs.{Modes.may_use, Modes.count_width, Padding.room_of}
 use Rattle.qr_layout.proofs.Facts.{every, every-at}
 use Rattle.qr_bits.proofs.Facts.{CoversInTurn, from_turn, count_width_bound, capacity_least, fitting_short, byte_used, piece_fits}
 use Rattle.qr_symbol.specs.declared.symbol.Symbol.{Symbol}
@@ -24,22 +20,32 @@ use Rattle.qr_symbol.specs.Steps.Series.{AreLengths, parts_of}
 
 -- ---- how long a prefix fits
 
--- one byte fits if there is room for 28 bits
-one-fits : (v : ℕ) (b : Rule) (x n : ℕ) → 28 ≤ n → HasFit v b (x ∷ []) n
-unfolding runs_of CoversInTurn
-one-fits v b x n h = (Byte ∷ [], (and_from (may_use b Byte) true (byte_used b) refl, from_turn (x ∷ []) (runs_of (Byte ∷ [])) (omega arith, omega arith, refl, refl)), omega (arith, count_width_bound v Byte))
+-- any rule allows byte mode for all bytes
+bytes-used : (b : Rule) (n : ℕ) → IsTrue (list_all (may_use b) (replicate n Byte))
+bytes-used b zero = refl
+bytes-used b (suc n) = and_from (may_use b Byte) _ (byte_used b) (bytes-used b n)
+
+-- bytes in byte mode are one segment
+bytes-run : (n : ℕ) → runs_of (replicate (suc n) Byte) ≡ record { mode = Byte; len = suc n } ∷ []
+unfolding runs_of
+bytes-run zero = refl
+bytes-run (suc n) = (let e : 1 + suc n ≡ suc (suc n) = omega arith in rw (bytes-run n, e) refl)
+
+-- bytes fit if there is room for one segment in byte mode
+pub bytes-fit : (v : ℕ) (b : Rule) (xs : List ℕ) (n : ℕ) → 0 < length xs → 4 + count_width v Byte + 8 * length xs ≤ n
+    → HasFit v b xs n
+unfolding CoversInTurn
+bytes-fit v b [] n some h = absurd (omega arith)
+bytes-fit v b (x ∷ xs) n some h =
+    let run = bytes-run (length xs) in
+    (replicate (length (x ∷ xs)) Byte, (bytes-used b (length (x ∷ xs)), rw run (from_turn (x ∷ xs) (record { mode = Byte; len = length (x ∷ xs) } ∷ []) (omega arith, omega arith, refl, drop_all (length (x ∷ xs)) (x ∷ xs) (omega arith)))), rw run (omega arith))
 
 -- so the longest prefix that fits is not empty
 pub longest-some : (v : ℕ) (l : Level) (b : Rule) (xs : List ℕ) (n : ℕ) → 1 ≤ v → v ≤ 40 → 0 < length xs → IsLongestFit v b xs (room_of v l) n → 0 < n
 longest-some v l b [] n p q some h = absurd (omega arith)
 longest-some v l b (x ∷ xs) n p q some h =
     let least = capacity_least v l p q in
-    let one = h.longest 1 (omega arith) (one-fits v b x (room_of v l) (omega arith)) in omega arith
-
--- any rule allows byte mode for all bytes
-bytes-used : (b : Rule) (n : ℕ) → IsTrue (list_all (may_use b) (replicate n Byte))
-bytes-used b zero = refl
-bytes-used b (suc n) = and_from (may_use b Byte) _ (byte_used b) (bytes-used b n)
+    let one = h.longest 1 (omega arith) (bytes-fit v b (x ∷ []) (room_of v l) (omega arith) (omega (arith, count_width_bound v Byte))) in omega arith
 
 -- the room after a header is enough for a byte segment of five bytes, computed
 five-all : every (λ l v. leb (4 + count_width v Byte + 40) (room_of v l)) ≡ true
@@ -48,24 +54,7 @@ five-all = refl
 
 -- so up to five bytes fit after a header
 few-fit : (v : ℕ) (l : Level) (b : Rule) (xs : List ℕ) → 1 ≤ v → v ≤ 40 → 0 < length xs → length xs ≤ 5 → HasFit v b xs (room_of v l)
-unfolding runs_of CoversInTurn
-few-fit v l b [] p q some few = absurd (omega arith)
-few-fit v l b (x ∷ []) p q some few =
-    let five = leb-true _ _ (every-at (λ l v. leb (4 + count_width v Byte + 40) (room_of v l)) five-all l v p q) in
-    (Byte ∷ [], (bytes-used b 1, from_turn (x ∷ []) (runs_of (Byte ∷ [])) (omega arith, omega arith, refl, refl)), omega (arith, five))
-few-fit v l b (x ∷ y ∷ []) p q some few =
-    let five = leb-true _ _ (every-at (λ l v. leb (4 + count_width v Byte + 40) (room_of v l)) five-all l v p q) in
-    (Byte ∷ Byte ∷ [], (bytes-used b 2, from_turn (x ∷ y ∷ []) (runs_of (Byte ∷ Byte ∷ [])) (omega arith, omega arith, refl, refl)), omega (arith, five))
-few-fit v l b (x ∷ y ∷ z ∷ []) p q some few =
-    let five = leb-true _ _ (every-at (λ l v. leb (4 + count_width v Byte + 40) (room_of v l)) five-all l v p q) in
-    (Byte ∷ Byte ∷ Byte ∷ [], (bytes-used b 3, from_turn (x ∷ y ∷ z ∷ []) (runs_of (Byte ∷ Byte ∷ Byte ∷ [])) (omega arith, omega arith, refl, refl)), omega (arith, five))
-few-fit v l b (x ∷ y ∷ z ∷ w ∷ []) p q some few =
-    let five = leb-true _ _ (every-at (λ l v. leb (4 + count_width v Byte + 40) (room_of v l)) five-all l v p q) in
-    (Byte ∷ Byte ∷ Byte ∷ Byte ∷ [], (bytes-used b 4, from_turn (x ∷ y ∷ z ∷ w ∷ []) (runs_of (Byte ∷ Byte ∷ Byte ∷ Byte ∷ [])) (omega arith, omega arith, refl, refl)), omega (arith, five))
-few-fit v l b (x ∷ y ∷ z ∷ w ∷ u ∷ []) p q some few =
-    let five = leb-true _ _ (every-at (λ l v. leb (4 + count_width v Byte + 40) (room_of v l)) five-all l v p q) in
-    (Byte ∷ Byte ∷ Byte ∷ Byte ∷ Byte ∷ [], (bytes-used b 5, from_turn (x ∷ y ∷ z ∷ w ∷ u ∷ []) (runs_of (Byte ∷ Byte ∷ Byte ∷ Byte ∷ Byte ∷ [])) (omega arith, omega arith, refl, refl)), omega (arith, five))
-few-fit v l b (x ∷ y ∷ z ∷ w ∷ u ∷ t ∷ xs) p q some few = absurd (omega arith)
+few-fit v l b xs p q some few = bytes-fit v b xs (room_of v l) some (omega (arith, leb-true _ _ (every-at (λ l v. leb (4 + count_width v Byte + 40) (room_of v l)) five-all l v p q)))
 
 -- so a part has at least five bytes, or it is the whole rest
 pub part-least : (v : ℕ) (l : Level) (b : Rule) (x p : List ℕ) (ps : List (List ℕ)) → 1 ≤ v → v ≤ 40 → AreParts v l b x (p ∷ ps) → (5 ≤ length p) ⊎ (p ≡ x)

@@ -1,42 +1,28 @@
 -- An input has only one series, which is read as the input; long inputs have no series.
-use Rattle.std.proofs.Common.{◌≡◌, ℕ, suc, ◌+◌, ◌-◌, ◌*◌, ◌<◌, ◌≤◌, List, [], ◌∷◌, ◌++◌, drop, length, None, Some, Option, refl, sym, ◌∙◌, ap, subst, arith, inl, inr}
+use Rattle.std.proofs.Common.{◌≡◌, ℕ, suc, ◌+◌, ◌-◌, ◌*◌, ◌<◌, ◌≤◌, List, [], ◌∷◌, drop, length, None, Some, Option, refl, sym, ap, subst, arith, inl, inr}
 use Rattle.std.proofs.lemmas.List.{append-nil, take-append-drop}
 use Rattle.qr_layout.specs.declared.level.Level.{Level}
-use Rattle.qr_bits.specs.declared.modes.Rule.{Rule}
-use Rattle.qr_bits.specs.declared.header.Header.{Header}
-use Rattle.qr_bits.specs.Parsing.{Content}
-use Rattle.qr_bits.specs.Header.{parity_of}
+use Rattle.qr_bits.specs.{declared.modes.Rule.Rule, declared.header.Header.Header, Parsing.Content, Header.parity_of}
 use Rattle.qr_bits.proofs.Facts.{fitting_short, empty_fits}
-use Rattle.qr_symbol.specs.declared.symbol.Symbol.{Symbol}
-use Rattle.qr_matrix.specs.Grid.{Grid}
-use Rattle.qr_symbol.specs.VersionChoice.{FitsVersion, HasNoVersion}
+use Rattle.qr_symbol.specs.{declared.symbol.Symbol.Symbol, VersionChoice.FitsVersion, VersionChoice.HasNoVersion}
 use Rattle.qr_symbol.specs.Series.{squares_of, AreParts, IsSymbolOf, AreSymbolsFrom, IsSplit, IsPlainSymbol, IsSeries}
-use Rattle.qr_symbol.specs.Steps.Series.{AreLengths, parts_of}
-use Rattle.qr_symbol.specs.Reading.{IsReading}
+use Rattle.qr_symbol.specs.{Steps.Series.AreLengths, Steps.Series.parts_of, Reading.IsReading}
 use Rattle.qr_symbol.specs.Joining.{AreReadBy, bytes_of_all, HaveHeaders, IsJoined}
+use Rattle.qr_matrix.specs.Grid.{Grid}
 use Rattle.qr_symbol.proofs.lemmas.encoding.SymbolLemmas.{symbol-at-one}
-use Rattle.qr_symbol.proofs.lemmas.reading.RoundTripLemmas.{symbol-read}
-use Rattle.qr_symbol.proofs.lemmas.encoding.SymbolMakingLemmas.{symbol-fits}
+use Rattle.qr_symbol.proofs.lemmas.{reading.RoundTripLemmas.symbol-read, encoding.SymbolMakingLemmas.symbol-fits}
 use Rattle.qr_symbol.proofs.lemmas.series.PartLemmas.{parts-are, length-parts, parts-one, parts-some, parts-long}
 
 -- ---- what makes a series
 
 -- a plain symbol is a series
 pub lone-series : (x : List ℕ) (l : Level) (b : Rule) (v : ℕ) (s : Symbol) (ss : List Symbol) → IsSymbolOf v l b x None s → ss ≡ s ∷ [] → IsSeries v l b x ss
-lone-series x l b v s ss made alone = inl (record { fits = symbol-fits v l b x s.mask s.matrix made.made; symbol = s; made = made; alone = alone })
+lone-series x l b v s ss made alone = inl (search (arith, symbol-fits))
 
 -- the symbols of parts are a series
 pub split-series : (x : List ℕ) (l : Level) (b : Rule) (v : ℕ) (ns : List ℕ) (ss : List Symbol) → (FitsVersion v l b x → ⊥) → AreLengths v l b x ns → length ns ≤ 16
     → AreSymbolsFrom v l b (length ns - 1) (parity_of x) 0 (parts_of x ns) ss → IsSeries v l b x ss
-split-series x l b v ns ss long cut few made =
-    let many = length-parts x ns in
-    inr (record {
-      too_long = long;
-      parts = parts_of x ns;
-      split = parts-are v l b x ns cut;
-      many = omega arith;
-      made = subst (λ (n : ℕ). AreSymbolsFrom v l b (n - 1) (parity_of x) 0 (parts_of x ns) ss) (sym many) made;
-    })
+split-series x l b v ns ss long cut few made = search (arith, length-parts, parts-are)
 
 -- ---- only one series
 
@@ -44,11 +30,7 @@ split-series x l b v ns ss long cut few made =
 pub symbol-of-one : (v : ℕ) (l : Level) (b : Rule) (x : List ℕ) (h : Option Header) (s t : Symbol) → IsSymbolOf v l b x h s → IsSymbolOf v l b x h t → s ≡ t
 symbol-of-one v l b x h s t a c =
     let same = symbol-at-one v l b x h s.mask t.mask s.matrix t.matrix a.made c.made in
-    let version : s.version ≡ t.version = a.version ∙ sym c.version in
-    let level : s.level ≡ t.level = a.level ∙ sym c.level in
-    let mask = same.0 in
-    let matrix = same.1 in
-    λ i. record { version = version i; level = level i; mask = mask i; matrix = matrix i }
+    search arith
 
 -- parts have at most one list of symbols
 symbols-one : (v : ℕ) (l : Level) (b : Rule) (last parity k : ℕ) (ps : List (List ℕ)) (ss ts : List Symbol) → AreSymbolsFrom v l b last parity k ps ss → AreSymbolsFrom v l b last parity k ps ts → ss ≡ ts
@@ -59,20 +41,14 @@ symbols-one v l b last parity k [] (s ∷ ss) ts h g = absurd h
 symbols-one v l b last parity k (p ∷ ps) [] ts h g = absurd h
 symbols-one v l b last parity k (p ∷ ps) (s ∷ ss) [] h g = absurd g
 symbols-one v l b last parity k (p ∷ ps) (s ∷ ss) (t ∷ ts) h g =
-    let here = symbol-of-one v l b p (Some (record { position = k; last = last; parity = parity })) s t h.0 g.0 in
-    let rest = symbols-one v l b last parity (k + 1) ps ss ts h.1 g.1 in
-    λ i. here i ∷ rest i
+    search (arith, symbol-of-one, symbols-one v l b last parity (k + 1) ps ss ts h.1 g.1)
 
 -- bytes have at most one series
 pub series-one : (x : List ℕ) (l : Level) (b : Rule) (v : ℕ) (ss ts : List Symbol) → IsSeries v l b x ss → IsSeries v l b x ts → ss ≡ ts
-series-one x l b v ss ts (inl h) (inl k) =
-    h.alone ∙ (ap (λ (s : Symbol). s ∷ []) (symbol-of-one v l b x None h.symbol k.symbol h.made k.made) ∙ sym k.alone)
+series-one x l b v ss ts (inl h) (inl k) = cc (symbol-of-one v l b x None h.symbol k.symbol h.made k.made)
 series-one x l b v ss ts (inl h) (inr k) = absurd (k.too_long h.fits)
 series-one x l b v ss ts (inr h) (inl k) = absurd (h.too_long k.fits)
-series-one x l b v ss ts (inr h) (inr k) =
-    let same = parts-one v l b x h.parts k.parts h.split k.split in
-    symbols-one v l b (length k.parts - 1) (parity_of x) 0 k.parts ss ts
-    (subst (λ (ps : List (List ℕ)). AreSymbolsFrom v l b (length ps - 1) (parity_of x) 0 ps ss) same h.made) k.made
+series-one x l b v ss ts (inr h) (inr k) = search (arith, parts-one, symbols-one)
 
 -- ---- what a series is read as
 
@@ -88,7 +64,7 @@ record AreRead (x : List ℕ) (last parity k count : ℕ) (squares : List Grid) 
 symbols-read : (v : ℕ) (l : Level) (b : Rule) (last parity k : ℕ) (x : List ℕ) (ps : List (List ℕ)) (ss : List Symbol) → 1 ≤ v → v ≤ 40 → AreParts v l b x ps → AreSymbolsFrom v l b last parity k ps ss
     → AreRead x last parity k (length ps) (squares_of ss)
 unfolding AreParts AreSymbolsFrom AreReadBy HaveHeaders
-symbols-read v l b last parity k x [] [] i j cut h = record { contents = []; read = tt; headers = tt; many = refl; bytes = sym cut }
+symbols-read v l b last parity k x [] [] i j cut h = search arith
 symbols-read v l b last parity k x [] (s ∷ ss) i j cut h = absurd h
 symbols-read v l b last parity k x (p ∷ ps) [] i j cut h = absurd h
 symbols-read v l b last parity k x (p ∷ ps) (s ∷ ss) i j cut h =
@@ -97,10 +73,10 @@ symbols-read v l b last parity k x (p ∷ ps) (s ∷ ss) i j cut h =
     let content : Content = record { header = Some (record { position = k; last = last; parity = parity }); segments = made.segments; bytes = p } in
     record {
       contents = content ∷ rest.contents;
-      read = (symbol-read v l b p (Some (record { position = k; last = last; parity = parity })) s.mask s.matrix i j made, rest.read);
+      read = search (arith, symbol-read);
       headers = (refl, rest.headers);
       many = ap suc rest.many;
-      bytes = ap (λ (ys : List ℕ). p ++ ys) rest.bytes ∙ (ap (λ (ys : List ℕ). ys ++ drop cut.0 x) cut.3 ∙ take-append-drop cut.0 x);
+      bytes = cc (take-append-drop cut.0 x);
     }
 
 -- joining a symbol without a header has its bytes as the result
@@ -150,4 +126,4 @@ long-fits-none x l smallest b i long v p q fits = let short = fitting_short v l 
 -- inputs of more than 16 times 7,089 bytes have no series
 pub long-has-no-series : (x : List ℕ) (l : Level) (b : Rule) (v : ℕ) (ss : List Symbol) → 1 ≤ v → v ≤ 40 → 7089 * 16 < length x → IsSeries v l b x ss → ⊥
 long-has-no-series x l b v ss i j long (inl h) = let short = fitting_short v l b x i j h.fits in omega arith
-long-has-no-series x l b v ss i j long (inr h) = let all = parts-long v l b x h.parts i j h.split in let many = h.many in omega arith
+long-has-no-series x l b v ss i j long (inr h) = search (arith, parts-long)

@@ -2,9 +2,7 @@
 use Rattle.std.proofs.Common.{◌≡◌, ℕ, ◌<◌, ◌≤◌, inl, inr, List, [], ◌∷◌, refl, sym, arith}
 use Rattle.std.proofs.lemmas.Bool.{cases_lt}
 use Rattle.qr_layout.specs.declared.level.Level.{Level}
-use Rattle.qr_bits.specs.declared.modes.Rule.{Rule}
-use Rattle.qr_bits.specs.declared.modes.Mode.{Mode}
-use Rattle.qr_bits.specs.declared.segment.Segment.{Segment}
+use Rattle.qr_bits.specs.declared.{modes.Rule.Rule, modes.Mode.Mode, segment.Segment.Segment}
 use Rattle.qr_bits.specs.Modes.{count_width}
 use Rattle.qr_bits.specs.Segmentation.{bits, runs_of, IsBestAssignment, IsLeastSegmentation}
 use Rattle.qr_bits.specs.Padding.{capacity_of}

@@ -1,12 +1,12 @@
-use Rattle.std.proofs.Common.{◌≡◌, take, false}
+use Rattle.std.proofs.Common.{take, false}
 use Rattle.std.specs.List.{list_any}
-use Rattle.qr_layout.specs.Version.{side_of}
-use Rattle.qr_layout.specs.Rectangles.{is_in_rectangle}
+use Rattle.qr_layout.specs.{Version.side_of, Rectangles.is_in_rectangle}
 use Rattle.qr_matrix.specs.Grid.{colour}
-use Rattle.qr_symbol.proofs.lemmas.patterns.PaintLemmas.{over}
+use Rattle.qr_symbol.specs.Steps.Patterns.{IsOver}
 use Rattle.qr_symbol.proofs.patterns.clear_rectangles.Given as goal
 
 abbrev pub invariant-loop-rectangle : goal.invariant-loop-rectangle
 invariant-loop-rectangle l = record {
-  so_far : l.matrix ≡ over (side_of l.fn.v) (λ r c. list_any (is_in_rectangle r c) (take l.rectangle-index l.rectangles)) (λ _ _. false) (colour l.fn.matrix);
+  so_far : IsOver (side_of l.fn.v) (λ r c. list_any (is_in_rectangle r c) (take l.rectangle-index l.rectangles)) (λ _ _.
+      false) (colour l.fn.matrix) l.matrix;
 }

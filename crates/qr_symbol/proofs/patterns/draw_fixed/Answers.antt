@@ -1,17 +1,15 @@
-use Rattle.std.proofs.Common.{◌≡◌, ℕ, Bool, true, false, not, cond, ap, ◌∙◌, refl, arith}
-use Rattle.qr_layout.specs.declared.role.Role.TheVariants.{Fixed, Region}
-use Rattle.qr_layout.specs.Version.{side_of}
-use Rattle.qr_layout.specs.Format.{version_word_of}
-use Rattle.qr_layout.specs.Alignment.{alignment_places, centres_of}
-use Rattle.qr_layout.specs.Steps.Rectangles.{IsInside}
+use Rattle.std.proofs.Common.{◌≡◌, ℕ, Bool, true, not, cond, ap, ◌∙◌, refl, arith}
 use Rattle.std.proofs.lemmas.List.Elements.{All-same}
+use Rattle.qr_layout.specs.declared.role.Role.TheVariants.{Fixed, Region}
+use Rattle.qr_layout.specs.{Version.side_of, Format.version_word_of, Alignment.alignment_places, Alignment.centres_of}
+use Rattle.qr_layout.specs.Steps.Rectangles.{IsInside}
 use Rattle.qr_layout.specs.Region.{is_alignment, is_corner, is_in_region, is_timing, is_version_information}
 use Rattle.qr_layout.specs.Role.{is_alignment_light}
 use Rattle.qr_layout.proofs.Facts.{centres-inside, off-role, region-parts}
 use Rattle.qr_matrix.specs.Grid.{colour}
 use Rattle.qr_matrix.proofs.Facts.{square-same}
 use Rattle.qr_symbol.specs.Steps.Patterns.{fixed_colour, paint_of}
-use Rattle.qr_symbol.proofs.lemmas.patterns.PaintLemmas.{over-square, over-colour, fixed-tests, light-inside}
+use Rattle.qr_symbol.proofs.lemmas.patterns.PaintLemmas.{fixed-tests, light-inside}
 use Rattle.qr_symbol.proofs.patterns.draw_fixed.Goals as goal
 
 -- a module whose role is a fixed colour has this colour
@@ -30,19 +28,13 @@ clear_rings-requires c =
     let v = c.args.v in
     let e = c.as_slice-2.ensures.value ∙ c.alignment_centres-centres.ensures in
     record {
-      square = over-square (side_of v) (is_alignment v) (λ _ _. true) (colour c.args.matrix.now) c.fill_alignment.new.matrix c.fill_alignment.ensures;
+      square = c.fill_alignment.ensures.square;
       centres = e;
       inside = All-same (IsInside (side_of v)) c.as_slice-2.result.now (alignment_places (side_of v) (centres_of v)) e (centres-inside v (omega arith) (omega arith));
     }
 
-pub paint_corners-requires : goal.paint_corners-requires
-paint_corners-requires c = over-square (side_of c.args.v) (is_alignment_light c.args.v) (λ _ _. false) (colour c.fill_alignment.new.matrix) c.clear_rings.new.matrix c.clear_rings.ensures
-
-pub paint_timing-requires : goal.paint_timing-requires
-paint_timing-requires c = over-square (side_of c.args.v) (is_corner (side_of c.args.v)) (paint_of c.args.v c.args.format) (colour c.clear_rings.new.matrix) c.paint_corners.new.matrix c.paint_corners.ensures
-
 pub paint_version-requires : goal.paint_version-requires
-paint_version-requires c = over-square (side_of c.args.v) is_timing (paint_of c.args.v c.args.format) (colour c.paint_corners.new.matrix) c.paint_timing.new.matrix (c.paint_timing.ensures c.args.format)
+paint_version-requires c = (c.paint_timing.ensures c.args.format).square
 
 pub returns : goal.returns
 returns c =
@@ -51,15 +43,8 @@ returns c =
     let w = version_word_of v in
     let p = paint_of v c.args.format in
     let g0 = c.args.matrix.now in
-    let g1 = c.fill_alignment.new.matrix in
-    let g2 = c.clear_rings.new.matrix in
-    let g3 = c.paint_corners.new.matrix in
-    let g4 = c.paint_timing.new.matrix in
-    c.paint_version.ensures c.args.format ∙ square-same s (λ r k. cond (is_version_information v r k) (p r k) (colour g4 r k)) (λ r k. cond (is_in_region v r k) (colour g0 r k) (p r k)) (λ r k l m.
-    let e1 = over-colour s (is_alignment v) (λ _ _. true) (colour g0) g1 r k l m c.fill_alignment.ensures in
-    let e2 = over-colour s (is_alignment_light v) (λ _ _. false) (colour g1) g2 r k l m c.clear_rings.ensures ∙ ap (λ z. cond (is_alignment_light v r k) false z) e1 in
-    let e3 = over-colour s (is_corner s) p (colour g2) g3 r k l m c.paint_corners.ensures ∙ ap (λ z. cond (is_corner s r k) (p r k) z) e2 in
-    let e4 = over-colour s is_timing p (colour g3) g4 r k l m (c.paint_timing.ensures c.args.format) ∙ ap (λ z. cond (is_timing r k) (p r k) z) e3 in
-    ap (λ z. cond (is_version_information v r k) (p r k) z) e4
-    ∙ fixed-tests (is_corner s r k) (is_timing r k) (is_version_information v r k) (is_alignment v r k) (is_alignment_light v r k) (p r k) (colour g0 r k) (is_in_region v r k) (region-parts v r k l m) (light-inside v r k) (λ a b d e.
-    ap (fixed_colour c.args.format w) (off-role v r k (omega arith) l m a b d) ∙ fixed-cond c.args.format w (is_alignment v r k) (not (is_alignment_light v r k)) e))
+    let last = c.paint_version.ensures c.args.format in
+    last.square ∙ square-same s (colour c.paint_version.new.matrix) (λ r k. cond (is_in_region v r k) (colour g0 r k) (p r k)) (λ r k l m.
+    rw (last.colours r k l m, (c.paint_timing.ensures c.args.format).colours r k l m, c.paint_corners.ensures.colours r k l m, c.clear_rings.ensures.colours r k l m, c.fill_alignment.ensures.colours r k l m)
+    (fixed-tests (is_corner s r k) (is_timing r k) (is_version_information v r k) (is_alignment v r k) (is_alignment_light v r k) (p r k) (colour g0 r k) (is_in_region v r k) (region-parts v r k l m) (light-inside v r k) (λ a b d e.
+    ap (fixed_colour c.args.format w) (off-role v r k (omega arith) l m a b d) ∙ fixed-cond c.args.format w (is_alignment v r k) (not (is_alignment_light v r k)) e)))

@@ -1,15 +1,11 @@
-use Rattle.std.proofs.Common.{take, get_or, ◌+◌, ◌-◌, ap, ◌∙◌, arith}
-use Rattle.std.specs.List.{list_any}
+use Rattle.std.proofs.Common.{◌+◌, ◌-◌, get_or, ap, ◌∙◌, arith}
 use Rattle.std.proofs.lemmas.List.{take_all}
-use Rattle.qr_layout.specs.declared.region.Module.{Module}
-use Rattle.qr_layout.specs.Version.{side_of}
+use Rattle.std.specs.List.{list_any}
+use Rattle.qr_layout.specs.{declared.region.Module.Module, Version.side_of}
 use Rattle.qr_layout.specs.Alignment.{alignment_places, centres_of}
-use Rattle.qr_layout.specs.Region.{is_alignment}
-use Rattle.qr_layout.specs.Rectangles.{is_in_rectangle}
-use Rattle.qr_layout.specs.Steps.Rectangles.{square_round}
+use Rattle.qr_layout.specs.{Rectangles.is_in_rectangle, Steps.Rectangles.square_round}
 use Rattle.qr_layout.proofs.Facts.{alignment-squares}
-use Rattle.qr_matrix.specs.Grid.{Grid, colour}
-use Rattle.qr_symbol.proofs.lemmas.patterns.PaintLemmas.{over-rectangle, over-item, over-same}
+use Rattle.qr_symbol.proofs.lemmas.patterns.PaintLemmas.{over-item, over-rectangle, over-same, over-side}
 use Rattle.qr_symbol.proofs.patterns.fill_alignment.Goals as goal
 
 -- a module that stands in for an index past the end of a list
@@ -18,20 +14,16 @@ none = record { row = 0; col = 0 }
 
 pub loop-centre-preserved : goal.loop-centre-preserved
 loop-centre-preserved c =
-    let s = side_of c.args.v in
     let ms = c.args.centres.now in
     let n = c.loop-centre.centre-index in
     let m = get_or ms n none in
     let e = c.loop-centre.invariant.so_far in
     record {
-      so_far = over-item s (λ m r k. is_in_rectangle r k (square_round m)) (λ _ _. c.args.dark) (colour c.args.matrix.now) ms n none c.loop-centre.matrix c.fill.new.self c.loop-centre-test.true e
-          (over-rectangle s c.loop-centre.matrix c.fill.new.self (m.row - 2) (m.row + 3) (m.col - 2) (m.col + 3) c.args.dark (ap (λ (g : Grid). g.side) e) c.fill.ensures);
+      so_far = over-item (λ m r k. is_in_rectangle r k (square_round m)) ms n none c.loop-centre-test.true e
+          (over-rectangle c.loop-centre.matrix (m.row - 2) (m.row + 3) (m.col - 2) (m.col + 3) (over-side e) c.fill.ensures);
     }
 
 pub returns : goal.returns
-returns c =
-    let s = side_of c.args.v in
-    let ms = c.args.centres.now in
-    let n = c.loop-centre.centre-index in
-    over-same s (λ r k. list_any (λ m. is_in_rectangle r k (square_round m)) (take n ms)) (is_alignment c.args.v) (λ _ _. c.args.dark) (colour c.args.matrix.now) c.loop-centre.matrix c.loop-centre.invariant.so_far (λ r k _ _.
-    ap (list_any (λ m. is_in_rectangle r k (square_round m))) (take_all n ms (omega arith) ∙ c.requires.centres) ∙ alignment-squares r k (alignment_places s (centres_of c.args.v)))
+returns c = over-same c.loop-centre.invariant.so_far (λ r k _ _.
+    ap (list_any (λ m. is_in_rectangle r k (square_round m))) (take_all c.loop-centre.centre-index c.args.centres.now (omega arith) ∙ c.requires.centres)
+    ∙ alignment-squares r k (alignment_places (side_of c.args.v) (centres_of c.args.v)))

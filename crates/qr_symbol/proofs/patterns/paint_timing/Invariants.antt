@@ -1,13 +1,13 @@
 use Rattle.std.proofs.Common.{◌≡◌, ℕ, ◌&&◌, ◌||◌, eqb, ltb}
 use Rattle.qr_layout.specs.Version.{side_of}
 use Rattle.qr_matrix.specs.Grid.{colour}
-use Rattle.qr_symbol.specs.Steps.Patterns.{paint_of}
-use Rattle.qr_symbol.proofs.lemmas.patterns.PaintLemmas.{over}
+use Rattle.qr_symbol.specs.Steps.Patterns.{paint_of, IsOver}
 use Rattle.qr_symbol.proofs.patterns.paint_timing.Given as goal
 
 abbrev pub invariant-loop-at : goal.invariant-loop-at
 invariant-loop-at l = record {
   side : l.side ≡ side_of l.fn.v;
   matrix_side : l.matrix.side ≡ side_of l.fn.v;
-  painted : (format : ℕ) → l.matrix ≡ over (side_of l.fn.v) (λ r c. (eqb r 6 && ltb c l.at) || (eqb c 6 && ltb r l.at)) (paint_of l.fn.v format) (colour l.fn.matrix);
+  painted : (format : ℕ) → IsOver (side_of l.fn.v) (λ r c. (eqb r 6 && ltb c l.at) || (eqb c 6 && ltb r l.at)) (paint_of
+      l.fn.v format) (colour l.fn.matrix) l.matrix;
 }

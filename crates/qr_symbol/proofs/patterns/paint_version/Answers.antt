@@ -1,22 +1,16 @@
 use Rattle.std.proofs.Common.{◌≡◌, ℕ, ◌+◌, ◌-◌, ◌/◌, ◌%◌, eqb, ◌&&◌, ◌||◌, ap, ◌∙◌, refl, arith}
-use Rattle.qr_layout.specs.Version.{side_of}
-use Rattle.qr_layout.specs.Format.{version_word_of}
-use Rattle.qr_layout.specs.Region.{is_version_information}
-use Rattle.qr_matrix.specs.Grid.{Grid, colour, painted}
-use Rattle.qr_matrix.specs.BitRow.{has_bit}
+use Rattle.qr_layout.specs.{Version.side_of, Format.version_word_of}
+use Rattle.qr_matrix.specs.{Grid.Grid, BitRow.has_bit}
 use Rattle.qr_symbol.specs.Steps.Patterns.{paint_of}
-use Rattle.qr_symbol.proofs.lemmas.patterns.PaintLemmas.{over-none, over-place, over-same, over-twice}
+use Rattle.qr_symbol.proofs.lemmas.patterns.PaintLemmas.{over-none, over-place, over-same, over-side, over-twice}
 use Rattle.qr_symbol.proofs.lemmas.patterns.VersionLemmas.{version_drawn, version-all, version-here, version-more, version-none, version-there}
 use Rattle.qr_symbol.proofs.patterns.paint_version.Goals as goal
 
 pub loop-bit-init : goal.loop-bit-init
-loop-bit-init c =
-    let s = side_of c.args.v in
-    let side = ap (λ (g : Grid). g.side) c.requires in
-    record {
-      side = side;
-      painted = λ f. over-none s (version_drawn s 0) (paint_of c.args.v f) c.args.matrix.now c.requires (λ r k _ _. version-none s r k);
-    }
+loop-bit-init c = record {
+  side = ap (λ (g : Grid). g.side) c.requires;
+  painted = λ f. over-none c.requires (λ r k _ _. version-none (side_of c.args.v) r k);
+}
 
 pub loop-bit-preserved : goal.loop-bit-preserved
 loop-bit-preserved c =
@@ -24,31 +18,23 @@ loop-bit-preserved c =
     let s = side_of v in
     let n = c.loop-bit.bit in
     let i = c.loop-bit.invariant in
-    let h = colour c.args.matrix.now in
     let g = c.loop-bit.matrix in
     let g1 = c.set.new.self in
     let g2 = c.set-in-loop-bit.new.self in
     let d = c.is_bit_set-dark.result in
-    let e : c.side-left.result ≡ s = c.side-left.ensures.value in
     let bit : d ≡ has_bit (version_word_of v) n = c.is_bit_set-dark.ensures ∙ ap (λ (z : ℕ). has_bit z n) c.in-Some.ensures.1 in
-    let here = λ (r k : ℕ). eqb r (n / 3) && eqb k (s - 11 + n % 3) in
-    let there = λ (r k : ℕ). eqb r (s - 11 + n % 3) && eqb k (n / 3) in
-    let both = λ (r k : ℕ). version_drawn s n r k || here r k in
-    let set1 = c.set.ensures ∙ ap (λ (z : ℕ). painted g (n / 3) (z - 11 + n % 3) d) e in
-    let set2 = c.set-in-loop-bit.ensures ∙ ap (λ (z : ℕ). painted g1 (z - 11 + n % 3) (n / 3) d) e in
-    let first = λ (f : ℕ). over-twice s (version_drawn s n) here both (paint_of v f) h g g1 (i.painted f)
-    (over-place s (paint_of v f) g g1 (n / 3) (s - 11 + n % 3) d i.side (bit ∙ version-here v f n (omega arith) (omega arith) (omega arith)) set1) (λ _ _ _ _. refl) in
+    let set1 = rw c.side-left.ensures.value at c.set.ensures in
+    let set2 = rw c.side-left.ensures.value at c.set-in-loop-bit.ensures in
+    let first = λ (f : ℕ). over-twice (λ r k. version_drawn s n r k || (eqb r (n / 3) && eqb k (s - 11 + n % 3))) (i.painted f)
+    (over-place (paint_of v f) g g1 (n / 3) (s - 11 + n % 3) d i.side (bit ∙ version-here v f n (omega arith) (omega arith) (omega arith)) set1) (λ _ _ _ _. refl) in
     record {
       side = ap (λ (g : Grid). g.side) set2 ∙ (ap (λ (g : Grid). g.side) set1 ∙ i.side);
-      painted = λ f. over-twice s both there (version_drawn s (n + 1)) (paint_of v f) h g1 g2 (first f)
-          (over-place s (paint_of v f) g1 g2 (s - 11 + n % 3) (n / 3) d (ap (λ (g : Grid). g.side) (first f)) (bit ∙ version-there v f n (omega arith) (omega arith) (omega arith)) set2)
+      painted = λ f. over-twice (version_drawn s (n + 1)) (first f)
+          (over-place (paint_of v f) g1 g2 (s - 11 + n % 3) (n / 3) d (over-side (first f)) (bit ∙ version-there v f n (omega arith) (omega arith) (omega arith)) set2)
           (λ r k _ _. version-more s n r k (omega arith));
     }
 
 pub returns-after-loop-bit : goal.returns-after-loop-bit
 returns-after-loop-bit c = λ f.
-    let v = c.args.v in
-    let s = side_of v in
     let e : c.loop-bit.bit ≡ 18 = omega arith in
-    over-same s (version_drawn s c.loop-bit.bit) (is_version_information v) (paint_of v f) (colour c.args.matrix.now) c.loop-bit.matrix (c.loop-bit.invariant.painted f)
-    (λ r k _ _. ap (λ z. version_drawn s z r k) e ∙ version-all v r k (omega arith))
+    over-same (c.loop-bit.invariant.painted f) (λ r k _ _. rw e (version-all c.args.v r k (omega arith)))

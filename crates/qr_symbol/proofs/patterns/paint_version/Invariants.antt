@@ -1,13 +1,13 @@
 use Rattle.std.proofs.Common.{◌≡◌, ℕ}
 use Rattle.qr_layout.specs.Version.{side_of}
 use Rattle.qr_matrix.specs.Grid.{colour}
-use Rattle.qr_symbol.specs.Steps.Patterns.{paint_of}
-use Rattle.qr_symbol.proofs.lemmas.patterns.PaintLemmas.{over}
+use Rattle.qr_symbol.specs.Steps.Patterns.{paint_of, IsOver}
 use Rattle.qr_symbol.proofs.lemmas.patterns.VersionLemmas.{version_drawn}
 use Rattle.qr_symbol.proofs.patterns.paint_version.Given as goal
 
 abbrev pub invariant-loop-bit : goal.invariant-loop-bit
 invariant-loop-bit l = record {
   side : l.matrix.side ≡ side_of l.fn.v;
-  painted : (format : ℕ) → l.matrix ≡ over (side_of l.fn.v) (version_drawn (side_of l.fn.v) l.bit) (paint_of l.fn.v format) (colour l.fn.matrix);
+  painted : (format : ℕ) → IsOver (side_of l.fn.v) (version_drawn (side_of l.fn.v) l.bit) (paint_of l.fn.v format)
+      (colour l.fn.matrix) l.matrix;
 }

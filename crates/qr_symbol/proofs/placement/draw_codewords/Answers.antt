@@ -1,14 +1,10 @@
-use Rattle.std.proofs.Common.{List, ◌++◌, sym, subst, arith}
+use Rattle.std.proofs.{Common.List, Common.sym, Common.subst, Common.arith, lemmas.List.Elements.All-tail}
 use Rattle.std.specs.List.{All}
-use Rattle.std.proofs.lemmas.List.Elements.{All-tail}
-use Rattle.qr_layout.specs.declared.strips.Strip.{Strip}
-use Rattle.qr_layout.specs.Version.{side_of}
-use Rattle.qr_layout.specs.Order.{IsOrder, in_region_of}
-use Rattle.qr_layout.specs.Strips.{both_of, places_of, rows_from}
+use Rattle.qr_layout.specs.{declared.strips.Strip.Strip, Version.side_of}
+use Rattle.qr_layout.specs.{Order.IsOrder, Order.in_region_of, Strips.places_of}
 use Rattle.qr_layout.proofs.Facts.{Inside}
 use Rattle.qr_matrix.specs.Grid.{transposed}
-use Rattle.qr_symbol.proofs.lemmas.placement.PlacementLemmas.{IsPlaced, placed-start, placed-many, placed-small, placed-end}
-use Rattle.qr_symbol.proofs.lemmas.placement.AcrossLemmas.{transposed-square}
+use Rattle.qr_symbol.proofs.lemmas.placement.PlacementLemmas.{IsPlaced, placed-start, placed-strip, placed-small, placed-end, square-transposed}
 use Rattle.qr_symbol.proofs.lemmas.placement.KeptPlaceLemmas.{places-push}
 use Rattle.qr_symbol.proofs.placement.draw_codewords.Goals as goal
 
@@ -21,7 +17,7 @@ loop-strip-init c =
       is_finite = tt;
       inside = subst (All (Inside v)) e c.all_strips-strip-items.ensures.inside;
       square = c.requires.square;
-      placed = placed-start v c.args.codewords.now (transposed c.args.across.now) (places_of (side_of v) c.into_iter-strip-iterator.result) (transposed-square (side_of v) c.args.across.now c.requires.square) (subst (λ (xs : List Strip). IsOrder v (in_region_of v (places_of (side_of v) xs))) e c.all_strips-strip-items.ensures.order);
+      placed = placed-start v c.args.codewords.now (transposed c.args.across.now) (places_of (side_of v) c.into_iter-strip-iterator.result) (square-transposed (side_of v) c.args.across.now c.requires.square) (subst (λ (xs : List Strip). IsOrder v (in_region_of v (places_of (side_of v) xs))) e c.all_strips-strip-items.ensures.order);
     }
 
 pub draw_strip-number-requires-clause-few : goal.draw_strip-number-requires-clause-few
@@ -38,14 +34,13 @@ loop-strip-preserved c =
     let cw = c.args.codewords.now in
     let g0 = transposed c.args.across.now in
     let n = c.loop-strip.number in
-    let g = transposed c.loop-strip.across in
-    let now : IsPlaced v cw g0 (places_of s xs) (both_of (rows_from s x 0 s) ++ places_of s rest) n g = subst (λ (zs : List Strip). IsPlaced v cw g0 (places_of s xs) (places_of s zs) n g) c.in-Some.ensures.steps i.placed in
+    let now = rw c.in-Some.ensures.steps at i.placed in
     record {
       can_next = tt;
       is_finite = tt;
       inside = All-tail (Inside v) x rest (subst (All (Inside v)) c.in-Some.ensures.steps i.inside);
       square = c.draw_strip-number.ensures.square;
-      placed = rw (c.draw_strip-number.ensures.number, c.draw_strip-number.ensures.placed, places-push s xs x) (placed-many v cw g0 g (places_of s xs) (both_of (rows_from s x 0 s)) (places_of s rest) n now);
+      placed = rw (places-push s xs x) (placed-strip v cw g0 c.loop-strip.across c.draw_strip-number.new.across x (places_of s xs) (places_of s rest) n c.draw_strip-number.result i.square now c.draw_strip-number.ensures);
     }
 
 pub returns-clause-placed : goal.returns-clause-placed

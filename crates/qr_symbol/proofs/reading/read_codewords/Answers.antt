@@ -1,12 +1,9 @@
 use Rattle.std.proofs.Common.{◌≡◌, ℕ, ◌≤◌, false, ◌&&◌, eqb, refl, sym, ap, subst, ◌∙◌, arith}
-use Rattle.std.proofs.lemmas.Bool.Decides.{nat_tests}
-use Rattle.std.proofs.lemmas.Result.{IfOk-weaker}
+use Rattle.std.proofs.lemmas.{Bool.Decides.nat_tests, Result.IfOk-weaker}
 use Rattle.qr_layout.specs.Version.{side_of}
 use Rattle.qr_matrix.specs.Grid.{Grid, colour, square, IsSquare}
-use Rattle.qr_symbol.specs.Mask.{inverts, inverted}
-use Rattle.qr_symbol.specs.Reading.{IsRead, IsReadUnmasked}
-use Rattle.qr_symbol.proofs.lemmas.placement.PlacementLemmas.{square-is}
-use Rattle.qr_symbol.proofs.lemmas.reading.SymbolReadLemmas.{read-masked}
+use Rattle.qr_symbol.specs.{Mask.inverts, Mask.inverted, Reading.IsRead, Reading.IsReadUnmasked}
+use Rattle.qr_symbol.proofs.lemmas.{placement.PlacementLemmas.square-is, reading.SymbolReadLemmas.read-masked}
 use Rattle.qr_symbol.proofs.reading.read_codewords.Goals as goal
 use Rattle.qr_symbol.proofs.reading.read_codewords.Goals.{then-mask-lt8, else-mask-lt8}
 

@@ -1,16 +1,10 @@
 use Rattle.std.proofs.Common.{◌<◌, inl, inr, List, [], ◌∷◌, ◌++◌, length, refl, sym, ◌∙◌, ap, arith, rules}
-use Rattle.std.proofs.lemmas.Bool.{eqb-true}
-use Rattle.std.proofs.lemmas.List.{nil_from_length}
-use Rattle.std.proofs.lemmas.Bool.Decides.{nat_tests}
-use Rattle.std.proofs.lemmas.Option.{MatchOption-at_some}
+use Rattle.std.proofs.lemmas.{Bool.eqb-true, List.nil_from_length, Bool.Decides.nat_tests, Option.MatchOption-at_some}
 use Rattle.std.proofs.lemmas.Result.{IfOk-weaker, IfErr-weaker}
 use Rattle.qr_symbol.specs.declared.fault.EncodeFault.TheVariants.{Empty, TooMany}
-use Rattle.qr_symbol.specs.declared.symbol.Symbol.{Symbol}
-use Rattle.qr_symbol.specs.Series.{HasNoSeries}
-use Rattle.qr_symbol.specs.VersionChoice.{FitsVersion}
+use Rattle.qr_symbol.specs.{declared.symbol.Symbol.Symbol, Series.HasNoSeries, VersionChoice.FitsVersion}
 use Rattle.qr_symbol.proofs.lemmas.fault.ExactLemmas.{too-many-exactly, memory-alone}
-use Rattle.qr_symbol.proofs.lemmas.series.LongLemmas.{none-shorter}
-use Rattle.qr_symbol.proofs.lemmas.series.PartLemmas.{lengths-some}
+use Rattle.qr_symbol.proofs.lemmas.series.{LongLemmas.none-shorter, PartLemmas.lengths-some}
 use Rattle.qr_symbol.proofs.lemmas.series.SeriesLemmas.{lone-series, split-series, series-joined}
 use Rattle.qr_symbol.proofs.lemmas.series.SizeLemmas.{series-shortest}
 use Rattle.qr_symbol.proofs.series.encode_series.Goals as goal

@@ -1,7 +1,5 @@
 use Rattle.std.proofs.Common.{◌+◌, Some, arith}
-use Rattle.qr_bits.specs.Segmentation.{bits}
-use Rattle.qr_bits.specs.Padding.{capacity_of}
-use Rattle.qr_bits.specs.Header.{header_bits}
+use Rattle.qr_bits.specs.{Segmentation.bits, Padding.capacity_of, Header.header_bits}
 use Rattle.qr_symbol.proofs.lemmas.encoding.SymbolMakingLemmas.{behind-header, memory-alone}
 use Rattle.qr_symbol.proofs.series.part_symbol.Goals as goal
 

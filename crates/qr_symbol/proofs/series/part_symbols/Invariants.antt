@@ -1,8 +1,7 @@
 use Rattle.std.proofs.Common.{◌≡◌, ◌-◌, ◌≤◌, List, ◌++◌, length, drop}
 use Rattle.std.specs.Prelude.{vec_len}
 use Rattle.qr_bits.specs.Header.{parity_of}
-use Rattle.qr_symbol.specs.declared.symbol.Symbol.{Symbol}
-use Rattle.qr_symbol.specs.Series.{AreSymbolsFrom}
+use Rattle.qr_symbol.specs.{declared.symbol.Symbol.Symbol, Series.AreSymbolsFrom}
 use Rattle.qr_symbol.specs.Steps.Series.{AreLengths, parts_of}
 use Rattle.qr_symbol.proofs.series.part_symbols.Given as goal
 

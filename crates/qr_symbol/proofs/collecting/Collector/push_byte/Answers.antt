@@ -1,8 +1,6 @@
 use Rattle.std.proofs.Common.{◌≡◌, ◌+◌, ◌*◌, ◌/◌, ◌^◌, ◌<◌, sym, subst, arith}
+use Rattle.std.proofs.{Math.Nat.mod-lt, lemmas.List.Elements.All-push, lemmas.Nat.div_below, lemmas.Nat.pow_pos}
 use Rattle.std.specs.List.{All}
-use Rattle.std.proofs.Math.Nat.{mod-lt}
-use Rattle.std.proofs.lemmas.List.Elements.{All-push}
-use Rattle.std.proofs.lemmas.Nat.{div_below, pow_pos}
 use Rattle.qr_bits.proofs.Facts.{byte-behind, power-fits}
 use Rattle.qr_symbol.proofs.collecting.Collector.push_byte.Goals as goal
 
