@@ -18,7 +18,8 @@ use Rattle.qr_mending.specs.Format.{copy_bit}
 use Rattle.qr_mending.specs.Message.{received, tolerance_of}
 use Rattle.qr_mending.specs.Mending.{HasFormat, HoldsDamaged}
 use Rattle.qr_mending.specs.Modules.{codeword_differences, DifferInFewModules}
-use Rattle.qr_mending.proofs.lemmas.laws.DistanceLemmas.{bits-alike, shown}
+use Rattle.qr_mending.proofs.lemmas.format.FormatLemmas.{bits-alike}
+use Rattle.qr_mending.proofs.lemmas.laws.DistanceLemmas.{shown}
 use Rattle.qr_mending.proofs.lemmas.message.MessageLemmas.{in-blocks-one, item, items-in-blocks, received-all, received-map}
 use Rattle.qr_mending.proofs.lemmas.laws.ModuleLemmas.{interleaved-near, items-near}
 use Rattle.qr_mending.proofs.lemmas.laws.UndamagedLemmas.{copy-light, final-parts}
@@ -26,21 +27,16 @@ use Rattle.qr_mending.proofs.lemmas.message.LightLemmas.{light-mended, IsPlainBl
 use Rattle.qr_mending.proofs.lemmas.message.MarkLemmas.{held-many}
 use Rattle.qr_mending.proofs.lemmas.mending.MendingLemmas.{sure-format}
 
--- the second copy shows the format information too
-second-shown : (v : ℕ) (l : Level) (mask : ℕ) (cw : List ℕ) (h : Grid) → 1 ≤ v → v ≤ 40 → mask < 8 → h ≡ grid_of v l mask cw →
-    (i : ℕ) → i < 15 → copy_bit Second h i ≡ has_bit (format_word_of l mask) i
-second-shown v l mask cw h p q m e i k = ap (λ (z : Grid). copy_bit Second z i) e ∙ shown Second v l mask cw i p q m k
-
 -- the format information of the square costs at most 12
 pub few-format : (v : ℕ) (l : Level) (mask : ℕ) (cw : List ℕ) (g h : Grid) → 1 ≤ v → v ≤ 40 → h ≡ grid_of v l mask cw → IsFormat h l mask →
     DifferInFewModules v l g h → HasFormat (light g.side) v g l mask
 few-format v l mask cw g h p q e f w =
-    let first = bits-alike 15 (copy_bit First g) (has_bit (format_word_of l mask)) (copy_bit First g) (copy_bit First h) (λ i k. refl) (λ i k. sym (f.bits i k)) in
-    let second = bits-alike 15 (copy_bit Second g) (has_bit (format_word_of l mask)) (copy_bit Second g) (copy_bit Second h) (λ i k. refl) (λ i k. sym (second-shown v l mask cw h p q f.in_range e i k)) in
-    let few = w.format in
-    let a = copy-light g.side First g l mask in
-    let b = copy-light g.side Second g l mask in
-    sure-format (light g.side) v g l mask f.in_range (omega (arith, first, second, few, a, b))
+    let word = has_bit (format_word_of l mask) in
+    let first = bits-alike 15 (copy_bit First g) word (copy_bit First g) (copy_bit First h) (λ i k. refl) (λ i k. sym (f.bits i k)) in
+    let second = bits-alike 15 (copy_bit Second g) word (copy_bit Second g) (copy_bit Second h) (λ i k. refl)
+    (λ i k. rw e (sym (shown Second v l mask cw i p q f.in_range k))) in
+    let cost = copy-light g.side in
+    sure-format (light g.side) g v l mask f.in_range (omega (arith, first, second, w.format, cost First g l mask, cost Second g l mask))
 
 -- a square that differs from a symbol in few modules contains a damaged form of its message
 pub few-held : (v : ℕ) (l : Level) (mask : ℕ) (g h : Grid) (d : List ℕ) → 1 ≤ v → v ≤ 40 → IsMessage v l mask h d →

@@ -1,8 +1,8 @@
 -- A wrong module damages at most one codeword.
-use Rattle.std.proofs.Common.{◌≡◌, ℕ, zero, suc, ◌+◌, ◌<◌, ◌≤◌, Bool, true, false, not, cond, List, [], ◌∷◌, ◌++◌, map, get_or, refl, sym, ◌∙◌, ap, inl, inr, arith}
-use Rattle.std.proofs.lemmas.Bool.{cases_eq, cases_lt}
-use Rattle.std.proofs.lemmas.Bool.Decides.{nat_tests}
-use Rattle.std.proofs.lemmas.List.Elements.{All-head, All-tail}
+use Rattle.std.proofs.Common.{◌≡◌, ℕ, ◌<◌, ◌≤◌, Bool, true, not, cond, List, [], ◌∷◌, ◌++◌, map, get_or, refl, sym, ◌∙◌, ap, inl, inr, arith}
+use Rattle.std.proofs.lemmas.Bool.{cases_lt}
+use Rattle.std.proofs.lemmas.List.Elements.{All-nil, All-cons, All-head, All-tail}
+use Rattle.qr_field.proofs.lemmas.laws.DistanceLemmas.{difference-most, difference-same}
 use Rattle.std.proofs.lemmas.List.Sums.{sum_by-cons}
 use Rattle.std.specs.List.{All, count_by, sum_by}
 use Rattle.qr_field.specs.Distance.{difference, differences}
@@ -13,7 +13,6 @@ use Rattle.qr_bits.specs.Bits.{bits_of, field}
 use Rattle.qr_matrix.specs.Difference.{differs}
 use Rattle.qr_matrix.specs.Grid.{Grid, colour}
 use Rattle.qr_symbol.specs.Reading.{unmasked, IsRead}
-use Rattle.qr_symbol.specs.Mask.{inverted, inverts}
 use Rattle.qr_symbol.proofs.Facts.{bits-one}
 use Rattle.qr_mending.specs.Message.{modules_of}
 use Rattle.qr_mending.specs.Modules.{codeword_differences}
@@ -29,34 +28,27 @@ same-bits mask g h [] e = refl
 same-bits mask g h (m ∷ ms) e =
     let more = sum_by-cons (λ (m : Module). cond (differs g h m.row m.col) 1 0) m ms in
     let none : ◌≡◌ {A = ℕ} (cond (differs g h m.row m.col) 1 0) 0 = omega (arith, e, more) in
-    let here = ap (inverted (inverts mask m.row m.col)) (same-is (colour g m.row m.col) (colour h m.row m.col) (no-difference _ none)) in
-    let rest = same-bits mask g h ms (omega (arith, e, more)) in
-    λ i. here i ∷ rest i
+    let here = same-is (colour g m.row m.col) (colour h m.row m.col) (no-difference _ none) in
+    cc (here, same-bits mask g h ms (omega (arith, e, more)))
   where
     no-difference : (b : Bool) → ◌≡◌ {A = ℕ} (cond (not b) 1 0) 0 → b ≡ true
-    no-difference true e = refl
-    no-difference false e = absurd (omega (arith, e))
+    no-difference b e = grind arith
 
 -- bytes with the same eight bits are equal
 byte-one : (a b : ℕ) → a < 256 → b < 256 → field 8 a ≡ field 8 b → a ≡ b
 unfolding bits_of
 byte-one a b l m e =
-    let same : a ∷ [] ≡ b ∷ [] = bits-one (a ∷ []) (b ∷ []) (single a l) (single b m) (ap (λ (z : List Bool). z ++ []) e) in
-    ap (λ (z : List ℕ). get_or z 0 0) same
-  where
-    single : (x : ℕ) → x < 256 → All (λ y. y < 256) (x ∷ [])
-    single x l zero d k = l
-    single x l (suc i) d k = absurd (omega (arith, k))
+    let single = λ (x : ℕ) (l : x < 256). All-cons (λ y. y < 256) x [] l (All-nil (λ y. y < 256)) in
+    cc (bits-one (a ∷ []) (b ∷ []) (single a l) (single b m) (ap (λ (z : List Bool). z ++ []) e))
 
 -- a codeword differs only if one of its modules differs
 codeword-near : (mask : ℕ) (g h : Grid) (ms : List Module) (a b : ℕ) → a < 256 → b < 256 →
     field 8 a ≡ map (unmasked mask g) ms → field 8 b ≡ map (unmasked mask h) ms → difference a b ≤ count_by (λ m. differs g h m.row m.col) ms
-codeword-near mask g h ms a b l m e f = elim (cases_eq a b) [
-  | inl same ↦ grind (arith, nat_tests)
-  | inr other ↦ elim (cases_lt 0 (count_by (λ m. differs g h m.row m.col) ms)) [
-    | inl some ↦ grind (arith, nat_tests)
-    | inr none ↦ absurd (other (byte-one a b l m (e ∙ (same-bits mask g h ms (omega (arith, none)) ∙ sym f))))
-  ]
+codeword-near mask g h ms a b l m e f = elim (cases_lt 0 (count_by (λ m. differs g h m.row m.col) ms)) [
+  | inl some ↦ omega (arith, difference-most a b, some)
+  | inr none ↦
+      let same = byte-one a b l m (e ∙ (same-bits mask g h ms (omega (arith, none)) ∙ sym f)) in
+      omega (arith, difference-same a b same)
 ]
 
 -- the bits of codeword j of a square are read from its eight modules
@@ -83,6 +75,4 @@ pub items-near : (f : ℕ → ℕ) (cs ds ks : List ℕ) → All (λ k. differen
 items-near f cs ds [] h = omega arith
 items-near f cs ds (k ∷ ks) h =
     let near : ℕ → Type 0 = λ k. difference (item cs k) (item ds k) ≤ f k in
-    let here = All-head near k ks h in
-    let rest = items-near f cs ds ks (All-tail near k ks h) in
-    omega (arith, here, rest, sum_by-cons f k ks)
+    omega (arith, All-head near k ks h, items-near f cs ds ks (All-tail near k ks h), sum_by-cons f k ks)

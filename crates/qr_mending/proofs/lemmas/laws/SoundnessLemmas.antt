@@ -1,5 +1,5 @@
 -- The number of wrong modules of a square, which is 0 exactly if the square is the symbol.
-use Rattle.std.proofs.Common.{◌≡◌, ℕ, ◌||◌, cond, List, sym, ◌∙◌, ap, subst, arith}
+use Rattle.std.proofs.Common.{◌≡◌, ℕ, ◌||◌, cond, List, sym, ◌∙◌, ap, arith}
 use Rattle.std.specs.Prelude.{◌↔◌}
 use Rattle.qr_layout.specs.declared.level.Level.{Level}
 use Rattle.qr_layout.specs.Blocks.{blocks_of}
@@ -10,7 +10,6 @@ use Rattle.qr_mending.proofs.lemmas.message.LightLemmas.{colour-light}
 use Rattle.qr_matrix.specs.Difference.{difference_count, differs}
 use Rattle.qr_matrix.specs.Sums.{places_passing}
 use Rattle.qr_matrix.proofs.Facts.{colour-square, no-difference, square-same}
-use Rattle.qr_symbol.specs.Interleaving.{IsInterleaved}
 use Rattle.qr_symbol.specs.Symbol.{colour_of, grid_of}
 use Rattle.qr_symbol.proofs.Facts.{final-one}
 use Rattle.qr_mending.specs.Mending.{wrong_modules, DiffersFromSymbol, HasWrongModules}
@@ -20,15 +19,8 @@ use Rattle.qr_mending.proofs.lemmas.mending.MendingLemmas.{form-one}
 pub differs-one : (unknown : Grid) (g : Grid) (v w : ℕ) (l k : Level) (m n : ℕ) (p q : List ℕ) (a b : ℕ) → v ≡ w → l ≡ k → m ≡ n → p ≡ q →
     DiffersFromSymbol unknown g v l m p a → DiffersFromSymbol unknown g w k n q b → a ≡ b
 differs-one unknown g v w l k m n p q a b ev el em ep h j =
-    let here : IsInterleaved v l p j.codewords =
-    subst (λ (z : ℕ). IsInterleaved z l p j.codewords) (sym ev)
-    (subst (λ (z : Level). IsInterleaved w z p j.codewords) (sym el)
-    (subst (λ (z : List ℕ). IsInterleaved w k z j.codewords) (sym ep) j.interleaved)) in
-    let same : h.codewords ≡ j.codewords = final-one (blocks_of v l) p h.codewords j.codewords h.interleaved here in
-    let grids : grid_of v l m h.codewords ≡ grid_of w k n j.codewords =
-    ap (λ (z : ℕ). grid_of z l m h.codewords) ev
-    ∙ (ap (λ (z : Level). grid_of w z m h.codewords) el
-    ∙ (ap (λ (z : ℕ). grid_of w k z h.codewords) em ∙ ap (grid_of w k n) same)) in
+    let same = final-one (blocks_of v l) p h.codewords j.codewords h.interleaved (rw (ev, el, ep) j.interleaved) in
+    let grids : grid_of v l m h.codewords ≡ grid_of w k n j.codewords = rw (ev, el, em, same) in
     h.count ∙ (ap (wrong_modules unknown g) grids ∙ sym j.count)
 
 -- a square has at most one number of wrong modules

@@ -1,8 +1,7 @@
 -- Damaged squares are mended one by one, and are joined to the bytes of the undamaged squares.
-use Rattle.std.proofs.Common.{◌≡◌, ℕ, List, [], ◌∷◌, sym, ◌∙◌, ap}
+use Rattle.std.proofs.Common.{◌≡◌, ℕ, List, [], ◌∷◌}
 use Rattle.std.specs.Prelude.{Result, Ok, Err, MatchResult}
-use Rattle.qr_bits.specs.Bits.{bits_of}
-use Rattle.qr_bits.specs.Parsing.{Content, parse}
+use Rattle.qr_bits.specs.Parsing.{Content}
 use Rattle.qr_matrix.specs.Grid.{Grid, light}
 use Rattle.qr_symbol.specs.declared.fault.ReadFault.{ReadFault}
 use Rattle.qr_symbol.specs.declared.fault.ReadFault.TheVariants as fault
@@ -34,7 +33,7 @@ damaged-content d w c s h =
       record {
         message = s.message;
         form = s.form;
-        parsed = ap (λ (x : List ℕ). parse s.version (bits_of x)) (sym same) ∙ (ap (λ (v : ℕ). parse v (bits_of h.message)) (sym m.0) ∙ h.parsed);
+        parsed = cc (m.0, same, h.parsed);
       },
     )
 

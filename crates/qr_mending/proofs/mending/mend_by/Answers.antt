@@ -1,6 +1,5 @@
-use Rattle.std.proofs.Common.{Err, length, sym, ap, subst, ◌∙◌, arith}
+use Rattle.std.proofs.Common.{Err, length, ap, ◌∙◌, arith}
 use Rattle.qr_symbol.specs.declared.fault.ReadFault.{ReadFault}
-use Rattle.qr_symbol.specs.Reading.{IsRead}
 use Rattle.qr_mending.proofs.lemmas.mending.MendingLemmas.{no-use}
 use Rattle.qr_mending.proofs.lemmas.message.MarkLemmas.{by-marks, of-marks}
 use Rattle.qr_mending.proofs.mending.mend_by.Goals as goal
@@ -11,7 +10,7 @@ returns-in-Ok-clause-mended c =
     let u = c.args.unknown.now in
     let cw = c.deref.result.now in
     let value = c.deref.ensures.value in
-    let read = subst (IsRead v c.in-Some.mask c.args.matrix.now) (sym value) c.in_ok-codewords.ensures.read in
+    let read = rw (← value) at c.in_ok-codewords.ensures.read in
     let many = ap length value ∙ c.in_ok-codewords.ensures.many in
     let m = c.in-Ok.field-0 in
     let mended = rw c.in-Ok.field-0-is at c.in-Ok.ensures.mended in (
@@ -30,9 +29,9 @@ returns-in-Err-Check-clause-mended c =
     let u = c.args.unknown.now in
     let v = c.args.version in
     let value = c.deref.ensures.value in
-    let read = subst (IsRead v c.in-Some.mask c.args.matrix.now) (sym value) c.in_ok-codewords.ensures.read in
+    let read = rw (← value) at c.in_ok-codewords.ensures.read in
     let many = ap length value ∙ c.in_ok-codewords.ensures.many in
-    no-use u c.args.copy c.args.matrix.now v c.in-Some.level c.in-Some.mask c.deref.result.now c.in-Some.ensures read (λ message misread h.
+    no-use u c.args.matrix.now c.args.copy v c.in-Some.level c.in-Some.mask c.deref.result.now c.in-Some.ensures read (λ message misread h.
     c.in-Err-Check.ensures.refused (ap (λ (f : ReadFault). Err f) c.in-Err-Check.field-0-is) message misread
     (by-marks v c.in-Some.level u c.deref.result.now c.args.marks.now message misread (omega arith) (omega arith) many
     c.requires.erased h))
