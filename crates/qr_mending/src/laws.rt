@@ -59,6 +59,7 @@ pub fn blocks_without_erasures_are_mended_alike()
 /// A block of at most 255 codewords is also one with fewer error correction codewords, if at least one is left: the
 /// generator polynomial of fewer divides that of more. So where two levels of a version have the same number of blocks,
 /// only the format information says which is meant.
+#[tactic(auto, using(crate::proofs::Named::law_facts))]
 pub fn blocks_are_those_of_weaker_levels()
     ensures { (n m : ℕ) (block : List ℕ) → 1 ≤ n → n ≤ m → length block ≤ 255 → IsBlock m block → IsBlock n block }
 {}
@@ -76,6 +77,7 @@ pub fn format_words_lie_apart()
 
 /// At most one pair of level and mask is near to a copy of the format information, that is, the copy costs at most 6
 /// with it. So mending tries at most two pairs.
+#[tactic(auto, using(crate::proofs::Named::law_facts))]
 pub fn near_format_is_one()
     ensures one { (unknown : Grid) (copy : FormatCopy) (g : Grid) (l k : Level) (m n : ℕ) → IsNearFormat unknown copy g l m
         → IsNearFormat unknown copy g k n → (l ≡ k) × (m ≡ n) }
@@ -153,6 +155,7 @@ pub fn sound_squares_are_symbols()
 {}
 
 /// A square that can be read without mending is mended to the same content, and no codeword changes.
+#[tactic(auto, using(crate::proofs::Named::law_facts))]
 pub fn readings_are_mended_readings()
     ensures { (g : Grid) (p : Content) → (h : IsReading g p)
         → IsMendedReading (light g.side) g h.version h.level h.mask p (replicate (blocks_in h.version h.level) 0) }
@@ -175,6 +178,7 @@ pub fn mended_readings_are_not_refused()
 {}
 
 /// Apart from lack of memory, there is at most one fault for which a damaged symbol is refused.
+#[tactic(auto, using(crate::proofs::Named::law_facts))]
 pub fn mending_refusals_are_one()
     ensures { (unknown : Grid) (g : Grid) (e f : ReadFault) → IsUnmended unknown g e
         → IsUnmended unknown g f
@@ -198,6 +202,7 @@ pub fn mendings_are_refused_exactly(
 /// Take two symbols of one version with different data codewords or levels. They differ in at least seven modules of
 /// each copy of the format information, or in more than twice as many codewords of some block as can be corrected
 /// there.
+#[tactic(auto, using(crate::proofs::Named::distance_facts))]
 pub fn symbols_lie_apart(version: Version)
     ensures { SymbolsLieApart version }
 {}
