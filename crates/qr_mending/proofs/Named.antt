@@ -1,8 +1,8 @@
 -- The lemmas that the attributes of functions name.
 use Rattle.qr_field.proofs.lemmas.laws.DistanceLemmas.{difference-same}
 use Rattle.qr_field.proofs.lemmas.polynomial.ListLemmas.{length-plus}
-use Rattle.qr_mending.proofs.lemmas.block.BlockLemmas.{differences-same, mended-same, sum-more, value-next}
-use Rattle.qr_mending.proofs.lemmas.erasures.ErasureLemmas.{errors-more, modified-more}
+use Rattle.qr_mending.proofs.lemmas.block.BlockLemmas.{erasures-one, differences-same, mended-same, sum-more, value-next}
+use Rattle.qr_mending.proofs.lemmas.erasures.ErasureLemmas.{errors-more, modified-more, erasures-marked, length-read, errors-self}
 use Rattle.qr_mending.proofs.lemmas.format.FormatLemmas.{near-one, near-two}
 use Rattle.qr_mending.proofs.lemmas.laws.DistanceLemmas.{symbols-apart}
 use Rattle.qr_mending.proofs.lemmas.laws.UndamagedLemmas.{reading-mended}
@@ -33,3 +33,5 @@ pub ruleset series_facts = (err_from_is_err_and, readings-none, unjoined-next)
 pub ruleset law_facts = (near-one, near-two, reading-mended, unmended-one, weaker-block)
 
 pub ruleset distance_facts = (symbols-apart)
+
+pub ruleset mend_with_erasures_facts = (erasures-marked, length-read, errors-self, erasures-one)

@@ -78,6 +78,7 @@ fn count_misread(codewords: &[u8], erased: &[bool], mended: &[u8]) -> usize
 /// An erased codeword takes one error correction codeword, a misread one two. If more than `spare` are needed, returns
 /// `None` and changes nothing. `divisor` determines the number of error correction codewords of the block; in a symbol,
 /// `spare` is twice `changed_max`.
+#[tactic(auto, using(crate::proofs::Named::mend_with_erasures_facts))]
 pub fn mend_with_erasures(
     divisor: &Divisor,
     spare: usize,

@@ -4,7 +4,6 @@ use Rattle.std.proofs.Common.{◌≡◌, ℕ, zero, suc, ◌+◌, ◌-◌, ◌*�
 use Rattle.std.specs.List.{All}
 use Rattle.std.specs.Int.Bits.{xor_zero_r}
 use Rattle.std.proofs.lemmas.List.{length-map, length-take, length-take-le, length_push, take_more, take_at, take_rest, take-append-drop, drop_at}
-use Rattle.qr_field.specs.Galois.{product}
 use Rattle.qr_field.specs.Polynomial.{IsByte, plus, power, IsCorrection}
 use Rattle.qr_field.specs.Distance.{differences, erasures, errors}
 use Rattle.qr_field.specs.Steps.Polynomial.{value_at}
@@ -67,10 +66,13 @@ pub errors-value : (n : ℕ) (damaged b : List ℕ) → IsBlock n b → length b
 errors-value n damaged b h s a i l =
     let v = value_at i damaged in
     let none : i * 0 ≡ 0 = omega arith in
-    value-plus i 0 damaged b (omega (arith, s)) a (bytes-block n b h)
-    ∙ (ap (λ t. bit_xor (product v (power t)) (value_at i b)) none
-    ∙ (ap (λ t. bit_xor t (value_at i b)) (product-by_one v (value-lt i damaged a))
-    ∙ (ap (bit_xor v) (root-block n b h i l) ∙ xor_zero_r v)))
+    cc (
+      none,
+      value-plus i 0 damaged b (omega (arith, s)) a (bytes-block n b h),
+      product-by_one v (value-lt i damaged a),
+      root-block n b h i l,
+      xor_zero_r v,
+    )
 
 -- so the first n values of the errors are the syndromes
 pub errors-values : (n : ℕ) (damaged b first : List ℕ) → IsBlock n b → length b ≡ length damaged → All IsByte damaged →
@@ -92,8 +94,7 @@ roots-locate q w e split bytes le small roots =
       bytes = le;
       most = small;
       recurrence = λ i.
-          let joined : bit_xor (blend w i e) (value_at (i + length w) e) ≡ 0 =
-          sym (blend-push w i e le) ∙ (ap (λ z. blend z i e) (sym split) ∙ all i) in
+          let joined : bit_xor (blend w i e) (value_at (i + length w) e) ≡ 0 = cc (blend-push w i e le, split, all i) in
           search (arith, sum-none);
       roots = roots;
     }
@@ -106,10 +107,7 @@ pub solved-root : (t : ℕ) (e first q : List ℕ) (p : Polynomial) → All IsBy
     coefficient m e ≡ 0
 solved-root t e first q p le small few values long d fits bytes same solved =
     let count : length q ≡ p.degree + 1 = search (arith, length-take-le) in
-    errors-root t q e bytes le small few
-    (λ i g.
-    sym (dot-blend q i first e values (omega (arith, g, count, long, d)))
-    ∙ (ap (λ z. dot_of z (drop i first)) same ∙ solved i g))
+    errors-root t q e bytes le small few (λ i g. cc (dot-blend q i first e values (omega (arith, g, count, long, d)), same, solved i g))
 
 -- adding the difference of two lists to the first list gives the second list
 pub plus-cancel : (xs ys : List ℕ) → length xs ≡ length ys → plus xs (plus xs ys) ≡ ys
@@ -188,8 +186,7 @@ mended-same n t b h = search (arith, differences-same)
 blocks-one : (n : ℕ) (b c : List ℕ) → (g : IsBlock n b) → (h : IsBlock n c) → g.message ≡ h.message → b ≡ c
 blocks-one n b c g h e =
     let f : g.correction ≡ h.correction =
-    correction-one h.message n g.correction h.correction
-    (subst (λ (z : List ℕ). IsCorrection z n g.correction) e g.corrects) h.corrects in
+    correction-one h.message n g.correction h.correction (rw e at g.corrects) h.corrects in
     cc
 
 -- the law of mended blocks with erasures
@@ -208,8 +205,7 @@ erasures-one n spare read b c most enough g h =
     unambiguous-known n t x.message x.correction y.message y.correction read x.corrects y.corrects
     (omega (arith, lx, ly, g.long, h.long))
     (omega (arith, all, ap length x.whole, x.corrects.count, g.long)) (omega (arith, g.near, enough))
-    (subst (λ (z : List ℕ). errors read z ≤ t) x.whole gt)
-    (subst (λ (z : List ℕ). errors read z ≤ t) y.whole ht) in
+    (rw x.whole at gt) (rw y.whole at ht) in
     blocks-one n b c x y e
 
 -- a block of which all codewords were read is mended with erasures as it is without
@@ -228,5 +224,5 @@ pub mended-one : (n t : ℕ) (damaged b c : List ℕ) → length damaged ≤ 255
 mended-one n t damaged b c most half g h =
     let turn : t ≡ 2 * t / 2 = omega arith in
     let known : (z : List ℕ) → IsMended n t damaged z → IsMendedWithErasures n (2 * t) (map (λ x. Some x) damaged) z =
-    λ z m. read-mended n (2 * t) damaged z (subst (λ (k : ℕ). IsMended n k damaged z) turn m) in
+    λ z m. read-mended n (2 * t) damaged z (rw turn at m) in
     search (arith, erasures-one, length-map)
