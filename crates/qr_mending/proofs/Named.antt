@@ -8,10 +8,11 @@ use Rattle.qr_mending.proofs.lemmas.laws.DistanceLemmas.{symbols-apart}
 use Rattle.qr_mending.proofs.lemmas.laws.UndamagedLemmas.{reading-mended}
 use Rattle.qr_mending.proofs.lemmas.laws.WeakerLemmas.{weaker-block}
 use Rattle.qr_mending.proofs.lemmas.locator.PoolLemmas.{leading-stays, plus-more, sum-all}
-use Rattle.qr_mending.proofs.lemmas.mending.MendingLemmas.{unmended-one}
+use Rattle.qr_mending.proofs.lemmas.mending.MendingLemmas.{sure-first, unmended-one}
 use Rattle.qr_mending.proofs.lemmas.roots.RootLemmas.{length-rooted, length-rooted_rest}
 use Rattle.qr_mending.proofs.lemmas.sums.SumLemmas.{value-more, values-more, values-none}
-use Rattle.qr_symbol.proofs.Facts.{readings-none, unjoined-next}
+use Rattle.qr_symbol.proofs.Facts.{data-sizes-whole, readings-none, sizes-whole, unjoined-next}
+use Rattle.qr_layout.proofs.Facts.{blocks-sound, laws-of}
 use Rattle.std.proofs.lemmas.List.{take_all, take_rest}
 use Rattle.std.proofs.lemmas.List.Elements.{All-from_get_or}
 use Rattle.std.proofs.lemmas.Result.{err_from_is_err_and}
@@ -35,3 +36,7 @@ pub ruleset law_facts = (near-one, near-two, reading-mended, unmended-one, weake
 pub ruleset distance_facts = (symbols-apart)
 
 pub ruleset mend_with_erasures_facts = (erasures-marked, length-read, errors-self, erasures-one)
+
+pub ruleset size_facts = (blocks-sound, data-sizes-whole, laws-of, sizes-whole)
+
+pub ruleset format_facts = (sure-first)

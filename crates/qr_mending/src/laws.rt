@@ -88,6 +88,7 @@ pub fn near_format_is_one()
 
 /// For seven pairs of version and level, the number of misread codewords that can be corrected in a block agrees with
 /// Table 9 of the standard. For six of them, so does the number of error correction codewords that only detect errors.
+#[tactic(auto, unfolding(qr_layout::specs::Blocks::correction_len_of))]
 pub fn tolerances_compute()
     ensures one { tolerance_of 1 Level.L ≡ 2 × tolerance_of 1 Level.M ≡ 4 }
     ensures one_more { tolerance_of 1 Level.Q ≡ 6 × tolerance_of 1 Level.H ≡ 8 }
@@ -104,6 +105,7 @@ pub fn tolerances_compute()
 /// modules both count once, and each copy is counted once. In the example, a light square, of which one module of the
 /// first copy was not read, is compared with level M and mask 0. A level and a mask are near to a copy at a cost of 6,
 /// and not at 7.
+#[tactic(auto, unfolding(qr_layout::specs::Blocks::correction_len_of))]
 pub fn mending_numbers_compute()
     ensures protection { (v : ℕ) (l : Level) → 4 ≤ v → protection_of v l ≡ 0 }
     ensures protection_two { protection_of 2 Level.M ≡ 0 × protection_of 2 Level.Q ≡ 0 × protection_of 2 Level.H ≡ 0 }

@@ -81,6 +81,7 @@ fn cost_of(matrix: &Matrix, unknown: &Matrix, version: Version, mended: &MendedS
 // Of the pairs of level and mask that are near to a copy and mend the symbol, takes the one with the least cost of both
 // copies. At equal costs it takes the one near to the first copy. The second copy is not tried if the pair near to the
 // first mends the symbol and costs at most `COST_CERTAIN`.
+#[tactic(auto, using(crate::proofs::Named::format_facts))]
 fn mend_by_either(
     alloc: Global,
     version: Version,
@@ -222,6 +223,7 @@ pub struct Mended {
 /// Returns `Side` if no version has the side of `matrix`, `Format` if no copy admits a level and a mask, `Check` if no
 /// pair that a copy admits mends every block, `Segments` if the mended data codewords cannot be parsed, and `Memory` if
 /// memory is refused.
+#[tactic(auto, using(crate::proofs::Named::size_facts))]
 pub fn mend_symbol_without(
     alloc: Global,
     matrix: &Matrix,

@@ -1,6 +1,5 @@
 -- Two symbols of a version that contain different messages lie far apart.
 use Rattle.std.proofs.Common.{◌≡◌, ℕ, ◌<◌, ◌≤◌, List, ◌∙◌, ap, subst, inl, inr, arith}
-use Rattle.std.proofs.lemmas.Bool.{cases_lt}
 use Rattle.std.proofs.lemmas.Bool.Decides.{nat_tests}
 use Rattle.qr_layout.specs.declared.level.Level.{Level}
 use Rattle.qr_layout.specs.Version.{side_of}
@@ -20,10 +19,10 @@ use Rattle.qr_mending.proofs.lemmas.format.FormatLemmas.{bits-alike, word-one}
 
 -- the places of the second copy are inside the square
 second-row : (s i : ℕ) → 21 ≤ s → i < 15 → (second_place s i).row < s
-second-row s i m l = elim (cases_lt i 8) [ inl k ↦ grind (arith, nat_tests) | inr k ↦ grind (arith, nat_tests) ]
+second-row s i m l = grind (arith, nat_tests)
 
 second-col : (s i : ℕ) → 21 ≤ s → i < 15 → (second_place s i).col < s
-second-col s i m l = elim (cases_lt i 8) [ inl k ↦ grind (arith, nat_tests) | inr k ↦ grind (arith, nat_tests) ]
+second-col s i m l = grind (arith, nat_tests)
 
 -- the bits of each copy in a symbol are those of the word of its level and mask
 pub shown : (copy : FormatCopy) (v : ℕ) (l : Level) (mask : ℕ) (cw : List ℕ) (i : ℕ) → 1 ≤ v → v ≤ 40 → mask < 8 → i < 15 →

@@ -1,5 +1,5 @@
 -- A symbol with few wrong modules is a damaged form of the symbol that it was.
-use Rattle.std.proofs.Common.{◌≡◌, ℕ, ◌<◌, ◌≤◌, List, [], ◌++◌, map, length, get_or, refl, sym, ◌∙◌, ap, subst, arith}
+use Rattle.std.proofs.Common.{◌≡◌, ℕ, ◌<◌, ◌≤◌, List, [], ◌++◌, map, length, get_or, refl, sym, ◌∙◌, arith}
 use Rattle.std.specs.List.{range_with_len, sum_by}
 use Rattle.std.proofs.lemmas.List.FromFn.{get_or-map-range_with_len, length-map-range_with_len}
 use Rattle.qr_field.specs.Distance.{difference, differences}
@@ -64,22 +64,16 @@ few-held v l mask g h d p q m w =
     let near : (i : ℕ) → i < block_count own → count i ≤ sum_by (codeword_differences g h w.places) (received b ks js i) =
     λ i r.
     let x = received-map b (item cw) ks js i in
-    let first = same.0 in
-    let second = same.1 in
     let y : map (item sent) (received b ks js i) ≡ block i =
-    sym (received-map b (item sent) ks js i)
-    ∙ ((λ k. received b (first k) (second k) i) ∙ ap (λ (z : List ℕ). part_of own d i ++ z) (whole.same i r)) in
+    cc (received-map b (item sent) ks js i, same.0, same.1, whole.same i r) in
     let all = received-all b (λ k. difference (item cw k) (item sent k) ≤ codeword_differences g h w.places k) n ks js i
     (λ k r. interleaved-near v mask g h w.places cw sent k p q w.order read.1 m.read r) w.inside in
-    let few = items-near (codeword_differences g h w.places) cw sent (received b ks js i) all in
-    let there : count i ≡ differences (map (item cw) (received b ks js i)) (map (item sent) (received b ks js i)) =
-    λ k. differences (x k) (sym y k) in
-    omega (arith, few, there) in
+    rw (x, ← y) (items-near (codeword_differences g h w.places) cw sent (received b ks js i) all) in
     let each : (i : ℕ) → i < block_count own → IsPlainBlock b (tolerance_of v l) xs es d (count i) i =
     λ i r. record {
       correction = get_or checks i [];
       corrects = m.interleaved.each i r;
-      near = let a = near i r in let few = w.few i r in omega (arith, a, few);
+      near = omega (arith, near i r, w.few i r);
       count = refl;
     } in (
       changed,
@@ -89,6 +83,6 @@ few-held v l mask g h d p q m w =
         mended =
             light-mended v mask g.side l g cw xs es d changed p q read.1 inside long
             (length-map-range_with_len count 0 (block_count own))
-            (λ i r. subst (λ (k : ℕ). IsPlainBlock b (tolerance_of v l) xs es d k i) (sym (get_or-map-range_with_len count 0 (block_count own) i i 0 r (omega arith))) (each i r));
+            (λ i r. rw (get_or-map-range_with_len count 0 (block_count own) i i 0 r (omega arith)) (each i r));
       },
     )

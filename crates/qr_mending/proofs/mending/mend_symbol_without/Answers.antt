@@ -1,29 +1,10 @@
-use Rattle.std.proofs.Common.{length, sym, ap, ◌∙◌, arith}
+use Rattle.std.proofs.Common.{sym, ◌∙◌}
 use Rattle.std.proofs.lemmas.Result.{err_from_is_err_and}
-use Rattle.qr_layout.proofs.Facts.{laws-of}
 use Rattle.qr_mending.proofs.lemmas.mending.MendingLemmas.{mended-unparsed}
 use Rattle.qr_mending.proofs.mending.mend_symbol_without.Goals as goal
 
 pub returns-in_default-clause-mended : goal.returns-in_default-clause-mended
 returns-in_default-clause-mended c = λ v s. c.in_default.ensures v s.least s.most (c.side.ensures.value ∙ s.side)
-
-pub refusal-requires-clause-sized : goal.refusal-requires-clause-sized
-refusal-requires-clause-sized c =
-    let found = c.in-Some.ensures in
-    record { least = found.0; most = found.1; side = sym c.side.ensures.value ∙ found.2 }
-
-pub refusal-requires-clause-useless : goal.refusal-requires-clause-useless
-refusal-requires-clause-useless c = rw c.in_default-2.is at c.in_ok-mended.ensures.mended
-
-pub returns-in_default-2-clause-mended : goal.returns-in_default-2-clause-mended
-returns-in_default-2-clause-mended c = c.refusal.ensures
-
-pub parse-requires : goal.parse-requires
-parse-requires c =
-    let mended = rw c.in-Some-2.is at c.in_ok-mended.ensures.mended in
-    let most = (laws-of c.in-Some-2.mended.level c.in-Some.version (omega arith) (omega arith)).most in
-    let many = ap length c.deref.ensures.value ∙ mended.2 in
-    omega arith
 
 pub returns-in_err-parsed-clause-mended : goal.returns-in_err-parsed-clause-mended
 returns-in_err-parsed-clause-mended c =
