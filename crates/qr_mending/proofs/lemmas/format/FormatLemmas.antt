@@ -11,7 +11,7 @@ use Rattle.qr_matrix.specs.Sums.{count_below, sum_below}
 use Rattle.qr_matrix.specs.BitRow.{has_bit}
 use Rattle.qr_mending.specs.declared.format.FormatCopy.{FormatCopy}
 use Rattle.qr_mending.specs.declared.format.FormatCopy.TheVariants.{First, Second}
-use Rattle.qr_mending.specs.Format.{bit_difference, bit_differences, copy_bit, copy_cost, format_cost, IsNearFormat}
+use Rattle.qr_mending.specs.Format.{bit_difference, bit_differences, copy_cost, format_cost, IsNearFormat}
 use Rattle.qr_symbol.proofs.Facts.{level-small, level-one}
 
 -- ---- three words
@@ -25,7 +25,7 @@ bits-between : (n : ℕ) (u r p q : ℕ → Bool) →
     2 * bit_differences n p q ≤ (count_below n u + 2 * count_below n (λ i. not (u i) && not (is_same (r i) (p i))))
     + (count_below n u + 2 * count_below n (λ i. not (u i) && not (is_same (r i) (q i))))
 bits-between zero u r p q = omega arith
-bits-between (suc n) u r p q = omega (arith, bit-between (u n) (r n) (p n) (q n), bits-between n u r p q)
+bits-between (suc n) u r p q = search (arith, bit-between, bits-between n u r p q)
 
 -- equal bits have equal numbers of differences
 pub bits-alike : (n : ℕ) (p q r s : ℕ → Bool) → ((i : ℕ) → i < n → p i ≡ r i) → ((i : ℕ) → i < n → q i ≡ s i) →
@@ -66,20 +66,20 @@ cost-between : (unknown : Grid) (copy : FormatCopy) (g : Grid) (l k : Level) (m 
     2 * bit_differences 15 (has_bit (format_word_of l m)) (has_bit (format_word_of k n))
     ≤ copy_cost unknown copy g l m + copy_cost unknown copy g k n
 cost-between unknown copy g l k m n = 
-    bits-between 15 (copy_bit copy unknown) (copy_bit copy g) (has_bit (format_word_of l m)) (has_bit (format_word_of k n))
+    search (arith, bits-between)
 
 -- at most one level and mask are near to a copy
 pub near-one : (unknown : Grid) (copy : FormatCopy) (g : Grid) (l k : Level) (m n : ℕ) → IsNearFormat unknown copy g l m →
     IsNearFormat unknown copy g k n → (l ≡ k) × (m ≡ n)
 near-one unknown copy g l k m n h j = elim (word-one l k m n h.in_range j.in_range) [
   | inl e ↦ e
-  | inr a ↦ absurd (omega (arith, a, cost-between unknown copy g l k m n, h.near, j.near))
+  | inr a ↦ search (arith, cost-between)
 ]
 
 -- different words of format information differ in at least seven bits
 pub words-apart : (l k : Level) (m n : ℕ) → m < 8 → n < 8 → ((l ≡ k) × (m ≡ n) → ⊥) →
     7 ≤ bit_differences 15 (has_bit (format_word_of l m)) (has_bit (format_word_of k n))
-words-apart l k m n p q o = elim (word-one l k m n p q) [ inl e ↦ absurd (o e) | inr a ↦ a ]
+words-apart l k m n p q o = search (arith, word-one)
 
 -- beside two of them both copies cost at least 28
 pub costs-apart : (unknown g : Grid) (l k : Level) (m n : ℕ) → m < 8 → n < 8 → ((l ≡ k) × (m ≡ n) → ⊥) →

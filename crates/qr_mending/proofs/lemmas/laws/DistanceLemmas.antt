@@ -1,14 +1,13 @@
 -- Two symbols of a version that contain different messages lie far apart.
-use Rattle.std.proofs.Common.{◌≡◌, ℕ, ◌<◌, ◌≤◌, List, ◌∙◌, ap, subst, inl, inr, arith}
+use Rattle.std.proofs.Common.{◌≡◌, ℕ, ◌<◌, ◌≤◌, List, subst, inl, inr, arith}
 use Rattle.std.proofs.lemmas.Bool.Decides.{nat_tests}
 use Rattle.qr_layout.specs.declared.level.Level.{Level}
-use Rattle.qr_layout.specs.Version.{side_of}
 use Rattle.qr_layout.specs.Format.{format_word_of}
 use Rattle.qr_layout.specs.Role.{second_place}
 use Rattle.qr_layout.proofs.Facts.{format-second}
 use Rattle.qr_matrix.proofs.Facts.{colour-square}
 use Rattle.qr_matrix.specs.BitRow.{has_bit}
-use Rattle.qr_symbol.specs.Symbol.{colour_by, colour_of, grid_of}
+use Rattle.qr_symbol.specs.Symbol.{colour_of, grid_of}
 use Rattle.qr_symbol.specs.Distance.{HeldMessage}
 use Rattle.qr_symbol.proofs.Facts.{format-read, messages-apart}
 use Rattle.qr_mending.specs.declared.format.FormatCopy.{FormatCopy}
@@ -29,21 +28,13 @@ pub shown : (copy : FormatCopy) (v : ℕ) (l : Level) (mask : ℕ) (cw : List �
     copy_bit copy (grid_of v l mask cw) i ≡ has_bit (format_word_of l mask) i
 unfolding colour_of
 shown First v l mask cw i p q h r = (format-read v l mask cw p q h).bits i r
-shown Second v l mask cw i p q h r =
-    let s = side_of v in
-    let m = second_place s i in
-    let a = second-row s i (omega arith) r in
-    let b = second-col s i (omega arith) r in
-    colour-square s (colour_of v l mask cw) m.row m.col a b ∙ ap (colour_by v l mask cw m.row m.col) (format-second v i p q r)
+shown Second v l mask cw i p q h r = search (arith, second-row, second-col, colour-square, format-second)
 
 -- symbols of different levels or masks differ in at least seven modules of each copy of the format information
 formats-apart : (v : ℕ) (l k : Level) (m n : ℕ) (cw ds : List ℕ) → 1 ≤ v → v ≤ 40 → m < 8 → n < 8 →
     7 ≤ bit_differences 15 (has_bit (format_word_of l m)) (has_bit (format_word_of k n)) →
     FormatsLieApart (grid_of v l m cw) (grid_of v k n ds)
-formats-apart v l k m n cw ds p q h j far = λ copy.
-    let same = bits-alike 15 (copy_bit copy (grid_of v l m cw)) (copy_bit copy (grid_of v k n ds)) _ _
-    (λ i r. shown copy v l m cw i p q h r) (λ i r. shown copy v k n ds i p q j r) in
-    omega (arith, far, same)
+formats-apart v l k m n cw ds p q h j far = search (arith, bits-alike, shown)
 
 -- different messages of one level differ in some block in more than twice as many codewords as can be mended
 blocks-apart : (v : ℕ) (l k : Level) (m : HeldMessage v l) (n : HeldMessage v k) → 1 ≤ v → v ≤ 40 → l ≡ k → (m.message ≡ n.message → ⊥)
@@ -55,6 +46,6 @@ blocks-apart v l k m n p q s o =
 -- the law of the distance of whole symbols
 pub symbols-apart : (v : ℕ) → 1 ≤ v → v ≤ 40 → SymbolsLieApart v
 symbols-apart v p q l k m n cw ds h j x y o = elim (word-one l k m.mask n.mask h j) [
-  | inl e ↦ inr (e.0, e.1, blocks-apart v l k m n p q e.0 (λ w. o (e.0, w)))
-  | inr far ↦ inl (rw (x, y) (formats-apart v l k m.mask n.mask cw ds p q h j far))
+  | inl e ↦ search (arith, blocks-apart)
+  | inr far ↦ search (arith, formats-apart)
 ]

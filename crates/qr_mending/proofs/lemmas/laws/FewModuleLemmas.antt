@@ -68,7 +68,7 @@ few-held v l mask g h d p q m w =
     cc (received-map b (item sent) ks js i, same.0, same.1, whole.same i r) in
     let all = received-all b (λ k. difference (item cw k) (item sent k) ≤ codeword_differences g h w.places k) n ks js i
     (λ k r. interleaved-near v mask g h w.places cw sent k p q w.order read.1 m.read r) w.inside in
-    rw (x, ← y) (items-near (codeword_differences g h w.places) cw sent (received b ks js i) all) in
+    search (arith, items-near) in
     let each : (i : ℕ) → i < block_count own → IsPlainBlock b (tolerance_of v l) xs es d (count i) i =
     λ i r. record {
       correction = get_or checks i [];

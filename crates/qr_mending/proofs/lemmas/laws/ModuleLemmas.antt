@@ -1,6 +1,5 @@
 -- A wrong module damages at most one codeword.
-use Rattle.std.proofs.Common.{◌≡◌, ℕ, ◌<◌, ◌≤◌, Bool, true, not, cond, List, [], ◌∷◌, ◌++◌, map, get_or, refl, sym, ◌∙◌, ap, inl, inr, arith}
-use Rattle.std.proofs.lemmas.Bool.{cases_lt}
+use Rattle.std.proofs.Common.{◌≡◌, ℕ, ◌<◌, ◌≤◌, Bool, true, not, cond, List, [], ◌∷◌, ◌++◌, map, get_or, refl, ap, arith}
 use Rattle.std.proofs.lemmas.List.Elements.{All-nil, All-cons, All-head, All-tail}
 use Rattle.qr_field.proofs.lemmas.laws.DistanceLemmas.{difference-most, difference-same}
 use Rattle.std.proofs.lemmas.List.Sums.{sum_by-cons}
@@ -11,7 +10,7 @@ use Rattle.qr_layout.specs.Order.{IsOrder}
 use Rattle.qr_layout.specs.Version.{total_codewords_of}
 use Rattle.qr_bits.specs.Bits.{bits_of, field}
 use Rattle.qr_matrix.specs.Difference.{differs}
-use Rattle.qr_matrix.specs.Grid.{Grid, colour}
+use Rattle.qr_matrix.specs.Grid.{Grid}
 use Rattle.qr_symbol.specs.Reading.{unmasked, IsRead}
 use Rattle.qr_symbol.proofs.Facts.{bits-one}
 use Rattle.qr_mending.specs.Message.{modules_of}
@@ -27,9 +26,7 @@ same-bits : (mask : ℕ) (g h : Grid) (ms : List Module) → count_by (λ m. dif
 same-bits mask g h [] e = refl
 same-bits mask g h (m ∷ ms) e =
     let more = sum_by-cons (λ (m : Module). cond (differs g h m.row m.col) 1 0) m ms in
-    let none : ◌≡◌ {A = ℕ} (cond (differs g h m.row m.col) 1 0) 0 = omega (arith, e, more) in
-    let here = same-is (colour g m.row m.col) (colour h m.row m.col) (no-difference _ none) in
-    cc (here, same-bits mask g h ms (omega (arith, e, more)))
+    search (arith, same-is, same-bits mask g h ms (omega (arith, e, more)))
   where
     no-difference : (b : Bool) → ◌≡◌ {A = ℕ} (cond (not b) 1 0) 0 → b ≡ true
     no-difference b e = grind arith
@@ -44,19 +41,12 @@ byte-one a b l m e =
 -- a codeword differs only if one of its modules differs
 codeword-near : (mask : ℕ) (g h : Grid) (ms : List Module) (a b : ℕ) → a < 256 → b < 256 →
     field 8 a ≡ map (unmasked mask g) ms → field 8 b ≡ map (unmasked mask h) ms → difference a b ≤ count_by (λ m. differs g h m.row m.col) ms
-codeword-near mask g h ms a b l m e f = elim (cases_lt 0 (count_by (λ m. differs g h m.row m.col) ms)) [
-  | inl some ↦ omega (arith, difference-most a b, some)
-  | inr none ↦
-      let same = byte-one a b l m (e ∙ (same-bits mask g h ms (omega (arith, none)) ∙ sym f)) in
-      omega (arith, difference-same a b same)
-]
+codeword-near mask g h ms a b l m e f = search (arith, difference-most, byte-one, same-bits, difference-same)
 
 -- the bits of codeword j of a square are read from its eight modules
 held-codeword : (v mask : ℕ) (g : Grid) (ms : List Module) (cw : List ℕ) (j : ℕ) → 1 ≤ v → v ≤ 40 → IsOrder v ms →
     IsRead v mask g cw → j < total_codewords_of v → field 8 (get_or cw j 0) ≡ map (unmasked mask g) (modules_of ms j)
-held-codeword v mask g ms cw j p q o h l =
-    codeword-read (unmasked mask g) ms cw (total_codewords_of v) j (held-bits v mask g ms cw p q o h)
-    (held-many v mask g cw p q h) l
+held-codeword v mask g ms cw j p q o h l = search (arith, codeword-read, held-bits, held-many)
 
 -- codeword j of two squares differs only if one of its modules differs
 pub interleaved-near : (v mask : ℕ) (g h : Grid) (ms : List Module) (cs ds : List ℕ) (j : ℕ) → 1 ≤ v → v ≤ 40 → IsOrder v ms →

@@ -1,5 +1,5 @@
 -- A square that is read without mending is read as the same content with mending, and no codeword is changed.
-use Rattle.std.proofs.Common.{◌≡◌, ℕ, zero, suc, ◌+◌, ◌*◌, ◌<◌, ◌≤◌, Bool, false, cond, not, ◌&&◌, List, [], ◌++◌, map, drop, length, get_or, refl, sym, ◌∙◌, subst, arith}
+use Rattle.std.proofs.Common.{◌≡◌, ℕ, zero, suc, ◌+◌, ◌*◌, ◌<◌, ◌≤◌, Bool, false, cond, not, ◌&&◌, List, [], ◌++◌, map, drop, length, get_or, refl, ◌∙◌, subst, arith}
 use Rattle.std.proofs.lemmas.List.{length-map, take_all, take_at, drop_at, get_or-take, get_or-drop, ext_get_or, length-replicate, get_or-replicate}
 use lib.ListN.{replicate}
 use Rattle.qr_field.specs.Polynomial.{IsCorrection}
@@ -33,16 +33,7 @@ use Rattle.qr_mending.proofs.lemmas.format.FormatLemmas.{bits-alike}
 checks-some : (b : Blocks) (d : List ℕ) (cs : List (List ℕ)) (k : ℕ) → k ≤ block_count (data_sizes b) →
     ((i : ℕ) → i < block_count (data_sizes b) → IsCorrection (block_of b d i) b.ec_len (get_or cs i [])) →
     (es : List ℕ) × IsChecks b d k es
-checks-some b d cs zero l h = (
-  [],
-  record {
-    corrections = [];
-    count = refl;
-    each = λ i m. absurd (omega arith);
-    long = sym (start-none (correction_sizes b));
-    same = λ t m i. absurd (omega arith);
-  },
-)
+checks-some b d cs zero l h = search (arith, start-none)
 checks-some b d cs (suc k) l h =
     let before = checks-some b d cs k (omega arith) h in
     let more = before.0 ++ get_or cs k [] in
@@ -102,22 +93,7 @@ final-parts b d cw n h =
     let after : drop (codeword_count own) cw ≡ last = cc (whole, drop_at first last (codeword_count own) front) in
     record {
       checks = es;
-      inside = record {
-        gathered = record {
-          long = n;
-          positions = h.data_positions;
-          order = h.data_order;
-          many = many;
-          same = cc (whole, take_at first last (codeword_count own) front);
-        };
-        rest = record {
-          long = omega (arith, ch.long);
-          positions = h.check_positions;
-          order = h.check_order;
-          many = rest;
-          same = cc (after, take_all (codeword_count sizes) last (omega (arith, back)));
-        };
-      };
+      inside = search (arith, take_at, take_all);
       same = λ i l. check-part b d es h.corrections ch same i l (h.each i l);
     }
 
@@ -160,12 +136,12 @@ bit-is a b = grind arith
 cost-light : (n : ℕ) (u p q : ℕ → Bool) → ((i : ℕ) → u i ≡ false) →
     count_below n u + 2 * count_below n (λ i. not (u i) && not (is_same (p i) (q i))) ≡ 2 * bit_differences n p q
 cost-light zero u p q h = refl
-cost-light (suc n) u p q h = rw (h n) (omega (arith, bit-is (p n) (q n), cost-light n u p q h))
+cost-light (suc n) u p q h = search (arith, bit-is, cost-light n u p q h)
 
 pub copy-light : (s : ℕ) (copy : FormatCopy) (g : Grid) (l : Level) (mask : ℕ) →
     copy_cost (light s) copy g l mask ≡ 2 * bit_differences 15 (copy_bit copy g) (has_bit (format_word_of l mask))
 copy-light s copy g l mask = 
-    cost-light 15 (copy_bit copy (light s)) (copy_bit copy g) (has_bit (format_word_of l mask)) (λ i. colour-light s _ _)
+    search (arith, cost-light, colour-light)
 
 -- exact format information is near
 format-near : (s : ℕ) (g : Grid) (l : Level) (mask : ℕ) → IsFormat g l mask → IsNearFormat (light s) First g l mask
@@ -197,20 +173,4 @@ format-exact g v l mask h = best (light g.side) g First v l mask (format-near g.
 -- a square that is read is mended with no codeword changed
 pub reading-mended : (g : Grid) (p : Content) → (h : IsReading g p) →
     IsMendedReading (light g.side) g h.version h.level h.mask p (replicate (blocks_in h.version h.level) 0)
-reading-mended g p h =
-    let v = h.version in
-    let l = h.level in
-    let m = h.holds in
-    record {
-      message = h.message;
-      form = record {
-        sized = h.sized;
-        format = format-exact g v l h.mask h.format;
-        damaged = record {
-          codewords = m.codewords;
-          held = m.read;
-          mended = final-mended v h.mask g.side l g h.message m.codewords h.sized.least h.sized.most m.read (m.many ∙ sym (data-sizes-whole v l h.sized.least h.sized.most)) m.interleaved;
-        };
-      };
-      parsed = h.parsed;
-    }
+reading-mended g p h = search (arith, format-exact, final-mended, data-sizes-whole)

@@ -45,9 +45,4 @@ weaker-block n m block some less few b =
     let zero = weight-none (length sum) n sum (omega arith) (omega (arith, length-plus block other (omega (arith, same)), few))
     (bytes-plus block other bytes (bytes-block n other found)) (omega (arith, weighs, join, most, last, size, less))
     (λ i h. errors-value n block other found (sym same) bytes i h ∙ root-block m block b i (omega (arith, h, less))) in
-    record {
-      message = front;
-      correction = f.0;
-      whole = differences-none block other (sym weighs ∙ zero);
-      corrects = f.1;
-    }
+    search (arith, differences-none)

@@ -1,6 +1,6 @@
 -- A symbol of which all modules were read: its marks are 0, no codeword is erased, and its blocks are mended as blocks of
 -- which every codeword was read.
-use Rattle.std.proofs.Common.{◌≡◌, ◌||◌, cond, Bool, false, ℕ, zero, suc, ◌*◌, ◌<◌, ◌≤◌, None, Some, List, [], ◌∷◌, ◌++◌, map, take, length, get_or, refl, sym, ◌∙◌, arith}
+use Rattle.std.proofs.Common.{◌≡◌, ◌||◌, Bool, false, ℕ, zero, suc, ◌*◌, ◌<◌, ◌≤◌, Some, List, [], ◌∷◌, ◌++◌, map, take, length, get_or, refl, sym, ◌∙◌, arith}
 use Rattle.std.specs.Prelude.{Option}
 use Rattle.std.specs.List.{list_any, range_with_len}
 use Rattle.std.proofs.lemmas.List.{length-map, length-replicate, length-take}
@@ -47,8 +47,7 @@ light-same (x ∷ xs) (y ∷ ys) h k n = cc (h.0, k.0, light-same xs ys h.1 k.1 
 bits-light : (n : ℕ) → AreLight (bits_of (replicate n 0))
 unfolding bits_of field
 bits-light zero = tt
-bits-light (suc n) =
-    append-light (field 8 0) (bits_of (replicate n 0)) (refl, (refl, (refl, (refl, (refl, (refl, (refl, (refl, tt)))))))) (bits-light n)
+bits-light (suc n) = search (arith, append-light, bits_of, bits-light n)
 
 -- a module of a light square, or outside it
 light-row : (cs : List ℕ) (c : ℕ) → get_or (map (λ _. false) cs) c false ≡ false
@@ -102,8 +101,7 @@ all-read : (s : ℕ) (places : List Module) (cw ks : List ℕ) →
 all-read s places cw [] = refl
 all-read s places cw (k ∷ ks) =
     let none = none-unread s (modules_of places k) in
-    let later = all-read s places cw ks in
-    λ i. cond (none i) None (Some (item cw k)) ∷ later i
+    search (arith, item, all-read s places cw ks)
 
 -- ---- blocks
 
@@ -118,14 +116,7 @@ pub record IsPlainBlock (b : Blocks) (t : ℕ) (d e message : List ℕ) (changed
 plain-block : (b : Blocks) (t spare : ℕ) (read : List (Option ℕ)) (d e message : List ℕ) (changed i : ℕ) →
     2 * t ≤ spare → read ≡ map (λ x. Some x) (received b d e i) → IsPlainBlock b t d e message changed i →
     IsMendedBlock b spare read message changed i
-plain-block b t spare read d e message changed i enough same p =
-    let block = part_of (data_sizes b) message i ++ p.correction in
-    rw same (record {
-      correction = p.correction;
-      corrects = p.corrects;
-      near = omega (arith, p.near, enough, erasures-read (received b d e i));
-      count = cc (p.count, errors-read (received b d e i) block);
-    })
+plain-block b t spare read d e message changed i enough same p = search (arith, erasures-read, errors-read)
 
 -- codewords whose blocks can be mended so, if all modules were read
 pub light-mended : (v mask s : ℕ) (l : Level) (g : Grid) (cw d e message changed : List ℕ) → 1 ≤ v → v ≤ 40 → IsRead v mask g cw →

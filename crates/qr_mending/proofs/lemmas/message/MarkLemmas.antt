@@ -48,15 +48,7 @@ codeword-read f ms cw n j e many l =
     let k = 8 * j in
     let rest = 8 * n - k in
     let whole : 8 * n ≡ k + rest = omega (arith, l) in
-    cc (
-      codeword-bits cw j (omega (arith, l, many)),
-      e,
-      drop-map f k (take (8 * n) ms),
-      take-map f 8 (drop k (take (8 * n) ms)),
-      whole,
-      drop-take k rest ms,
-      take-take 8 rest (drop k ms) (omega (arith, l)),
-    )
+    cc (codeword-bits cw j (omega (arith, l, many)), drop-map f k (take (8 * n) ms), take-map f 8 (drop k (take (8 * n) ms)), drop-take k rest ms, take-take 8 rest (drop k ms) (omega (arith, l)))
 
 -- the bits of the codewords of a square are read from the modules in order
 pub held-bits : (v mask : ℕ) (g : Grid) (ms : List Module) (cw : List ℕ) → 1 ≤ v → v ≤ 40 → IsOrder v ms →
@@ -64,7 +56,7 @@ pub held-bits : (v mask : ℕ) (g : Grid) (ms : List Module) (cw : List ℕ) →
 held-bits v mask g ms cw p q o h =
     let t = 8 * total_codewords_of v in
     let none : t - length ms ≡ 0 = omega (arith, order-length v ms p q o) in
-    cc (h.bits, only_order v h.places ms h.order o, none, append-nil (map (unmasked mask g) (take t ms)))
+    cc (only_order v h.places ms h.order o, append-nil (map (unmasked mask g) (take t ms)))
 
 -- the number of codewords of a square
 pub held-many : (v mask : ℕ) (g : Grid) (cw : List ℕ) → 1 ≤ v → v ≤ 40 → IsRead v mask g cw →
@@ -126,10 +118,7 @@ read-marked : (unknown : Grid) (places : List Module) (cw marks ks : List ℕ) �
 read-marked unknown places cw marks [] h = refl
 read-marked unknown places cw marks (k ∷ ks) h =
     let here = h 0 k (omega arith) in
-    let later = read-marked unknown places cw marks ks (All-tail (AgreesAt unknown places marks) k ks h) in
-    let rest = map (λ mark. not (mark == 0)) (map (item marks) ks) in
-    read-next (item cw k) (map (item cw) ks) (not (item marks k == 0)) rest
-    ∙ (λ i. cond (sym here i) None (Some (item cw k)) ∷ later i)
+    search (arith, All-tail, item, read-next, read-marked unknown places cw marks ks (All-tail (AgreesAt unknown places marks) k ks h))
 
 -- what is read by marks of block i
 block-marked : (v : ℕ) (l : Level) (unknown : Grid) (cw marks ks js : List ℕ) (i : ℕ) → 1 ≤ v → v ≤ 40 →
@@ -138,11 +127,7 @@ block-marked : (v : ℕ) (l : Level) (unknown : Grid) (cw marks ks js : List ℕ
     (received (blocks_of v l) (map (item marks) ks) (map (item marks) js) i)
     ≡ map (read_at unknown h.places cw) (received (blocks_of v l) ks js i)
 block-marked v l unknown cw marks ks js i p q h inside =
-    let b = blocks_of v l in
-    let all = received-all b (AgreesAt unknown h.places marks) (total_codewords_of v) ks js i (λ k r. mark-agrees v unknown marks k p q h r) inside in
-    let x = received-map b (item cw) ks js i in
-    let y = received-map b (item marks) ks js i in
-    (λ k. read_by (x k) (y k)) ∙ read-marked unknown h.places cw marks (received b ks js i) all
+    search (arith, received-all, mark-agrees, received-map, item, read-marked)
 
 -- ---- mending by marks is mending with the modules that were not read
 
@@ -160,7 +145,7 @@ by-marks v l unknown cw marks message misread p q long h m =
       unread = map (item marks) ks;
       unread_checks = map (item marks) js;
       in_blocks = items-in-blocks b n cw ks js long m.inside;
-      marked = items-in-blocks b n marks ks js (marks-many v unknown marks p q h) m.inside;
+      marked = search (arith, items-in-blocks, marks-many);
       mended = record {
         long = m.long;
         many = m.many;
@@ -191,5 +176,5 @@ of-marks v l unknown cw marks message misread p q long h m =
       inside = inside;
       long = m.mended.long;
       many = m.mended.many;
-      each = λ i r. rw (x.0, x.1, y.0, y.1, block-marked v l unknown cw marks ks js i p q h inside) at (m.mended.each i r);
+      each = search (arith, block-marked);
     }

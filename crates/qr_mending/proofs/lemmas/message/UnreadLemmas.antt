@@ -1,5 +1,5 @@
 -- A message of which some codewords were erased is mended block by block, to at most one message.
-use Rattle.std.proofs.Common.{◌≡◌, refl, ◌==◌, not, Bool, ℕ, ◌+◌, ◌-◌, ◌*◌, ◌/◌, ◌<◌, ◌≤◌, Option, List, [], ◌∷◌, ◌++◌, map, length, length-append, get_or, sym, ◌∙◌, subst, inl, inr, arith}
+use Rattle.std.proofs.Common.{◌≡◌, ◌==◌, not, Bool, ℕ, ◌+◌, ◌-◌, ◌*◌, ◌/◌, ◌<◌, ◌≤◌, Option, List, [], ◌∷◌, ◌++◌, map, length, length-append, get_or, sym, ◌∙◌, subst, inl, inr, arith}
 use Rattle.std.specs.List.{range_with_len}
 use Rattle.std.proofs.lemmas.Bool.{cases_lt}
 use Rattle.std.proofs.lemmas.List.{length_push, get_or_append_left, get_or_push, ext_get_or}
@@ -29,12 +29,7 @@ pub none-erased : (n spare : ℕ) (codewords : List ℕ) (erased : List Bool) �
     ((mended : List ℕ) → IsMendedWithErasures n spare (read_of codewords erased) mended → ⊥) →
     (d e : List ℕ) → length d + n ≡ length codewords → IsCorrection d n e →
     erasures (read_of codewords erased) + 2 * errors (read_of codewords erased) (d ++ e) ≤ spare → ⊥
-none-erased n spare codewords erased none d e long right near =
-    none (d ++ e) (record {
-      block = record { message = d; correction = e; whole = refl; corrects = right };
-      long = omega (arith, length-append d e, right.count, long, length-read codewords erased);
-      near = near;
-    })
+none-erased n spare codewords erased none d e long right near = search (arith, length-append, length-read)
 
 -- one block more
 unread-push : (b : Blocks) (spare : ℕ) (d e u w message misread es c : List ℕ) (n x : ℕ) → n < block_count (data_sizes b) →
@@ -46,30 +41,15 @@ unread-push b spare d e u w message misread es c n x l h len right count near =
     let sizes = data_sizes b in
     let read : ℕ → List (Option ℕ) = λ i. read_by (received b d e i) (received b u w i) in
     record {
-      long = omega (arith, length-append message es, h.long, len, start-next sizes n);
+      long = cc (length-append message es, start-next sizes n);
       many = omega (arith, length_push misread x, h.many);
       each = λ i m. elim (cases_lt i n) [
         | inl k ↦
             let old = h.each i k in
-            let same = part-grown sizes message es i n h.long k in
-            let there : get_or (misread ++ x ∷ []) i 0 ≡ get_or misread i 0 =
-            get_or_append_left misread (x ∷ []) 0 i (omega (arith, k, h.many)) in
-            record {
-              correction = old.correction;
-              corrects = rw same old.corrects;
-              near = omega (arith, there, old.near);
-              count = cc (there, old.count, same);
-            }
-        | inr k ↦
-            let here : i ≡ n = omega arith in
-            let last = part-last sizes message es n h.long len in
-            let there : get_or (misread ++ x ∷ []) n 0 ≡ x = get_or_push misread x 0 n h.many in
-            rw here (record {
-              correction = c;
-              corrects = rw last right;
-              near = omega (arith, there, near);
-              count = cc (there, count, last);
-            })
+    let same = part-grown sizes message es i n h.long k in
+    search (arith, get_or_append_left)
+        | inr k ↦ let last = part-last sizes message es n h.long len in
+    search (arith, get_or_push)
       ];
     }
 
@@ -97,8 +77,7 @@ blocks-one b spare read m n x y enough few mlong nlong xlong ylong g h =
     let p = g i l in
     let q = h i l in
     let s = part i l in
-    let r = correction-one (part_of c n i) b.ec_len p.correction q.correction (rw s at p.corrects) q.corrects in
-    cc (p.count, q.count, s, r) in
+    cc (correction-one (part_of c n i) b.ec_len p.correction q.correction (rw s at p.corrects) q.corrects) in
     (parts-same c m n mlong nlong part, ext_get_or 0 x y (xlong ∙ sym ylong) (λ i l. count i (omega (arith, l, xlong))))
 
 -- codewords of which some are erased are a damaged form of at most one message
@@ -154,4 +133,4 @@ pub none-in-blocks : (b : Blocks) (spare : ℕ) (cw marks d e u w : List ℕ) �
 none-in-blocks b spare cw marks d e u w g h none message misread m =
     let first = in-blocks-one b cw m.codewords m.checks d e m.in_blocks g in
     let second = in-blocks-one b marks m.unread m.unread_checks u w m.marked h in
-    none message misread (rw (first.0, first.1, second.0, second.1) at m.mended)
+    search arith

@@ -26,7 +26,7 @@ length-times_root r c (a ∷ p) = let rest = length-times_root r a p in omega (a
 bytes-times_root : (r c : ℕ) (p : List ℕ) → r < 256 → c < 256 → All IsByte p → All IsByte (times_root r c p)
 bytes-times_root r c [] lr lc lp = All-cons IsByte c [] lc (All-nil IsByte)
 bytes-times_root r c (a ∷ p) lr lc lp =
-    search (arith, All-cons, xor_of_8, product-lt, All-head, All-tail, bytes-times_root r a p lr (All-head IsByte a p lp) (All-tail IsByte a p lp))
+    search (arith, All-cons, xor_of_8, product-lt, bytes-times_root r a p lr (All-head IsByte a p lp) (All-tail IsByte a p lp))
 
 -- a product with x + root keeps the leading 1
 monic-times_root : (r c : ℕ) (w : List ℕ) → (v : List ℕ) × (times_root r c (w ++ 1 ∷ []) ≡ v ++ 1 ∷ [])
