@@ -146,8 +146,7 @@ root-weighted p (c ∷ e) lp le r =
 -- if each error is at a root, all sums are 0
 pub root-blends : (p e : List ℕ) → All IsByte p → All IsByte e →
     ((m : ℕ) → m < length e → (eval (power m) p ≡ 0 → ⊥) → coefficient m e ≡ 0) → (i : ℕ) → blend p i e ≡ 0
-root-blends p e lp le r i =
-    sym (weighted-value p i e lp le) ∙ value-none i (weighted p e) (root-weighted p e lp le r)
+root-blends p e lp le r i = sym (weighted-value p i e lp le) ∙ value-none i (weighted p e) (root-weighted p e lp le r)
 
 -- a coefficient is a byte
 pub coefficient-lt : (m : ℕ) (e : List ℕ) → All IsByte e → coefficient m e < 256

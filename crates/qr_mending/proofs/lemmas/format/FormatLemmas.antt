@@ -65,8 +65,7 @@ word-one l k m n p q =
 cost-between : (unknown : Grid) (copy : FormatCopy) (g : Grid) (l k : Level) (m n : ℕ) →
     2 * bit_differences 15 (has_bit (format_word_of l m)) (has_bit (format_word_of k n))
     ≤ copy_cost unknown copy g l m + copy_cost unknown copy g k n
-cost-between unknown copy g l k m n = 
-    search (arith, bits-between)
+cost-between unknown copy g l k m n = search (arith, bits-between)
 
 -- at most one level and mask are near to a copy
 pub near-one : (unknown : Grid) (copy : FormatCopy) (g : Grid) (l k : Level) (m n : ℕ) → IsNearFormat unknown copy g l m →

@@ -38,11 +38,8 @@ checks-some b d cs (suc k) l h =
     let before = checks-some b d cs k (omega arith) h in
     let more = before.0 ++ get_or cs k [] in
     let here : k < block_count (data_sizes b) = omega arith in
-    let next : k + 1 ≡ suc k = omega arith in (
-      more,
-      subst (λ (n : ℕ). IsChecks b d n more) next
-          (checks-push b d before.0 more (get_or cs k []) k here before.1 (h k here) refl),
-    )
+    let next : k + 1 ≡ suc k = omega arith in
+    (more, rw next at (checks-push b d before.0 more (get_or cs k []) k here before.1 (h k here) refl))
 
 -- one block of these error correction codewords
 check-part : (b : Blocks) (d es : List ℕ) (cs : List (List ℕ)) →
@@ -140,8 +137,7 @@ cost-light (suc n) u p q h = search (arith, bit-is, cost-light n u p q h)
 
 pub copy-light : (s : ℕ) (copy : FormatCopy) (g : Grid) (l : Level) (mask : ℕ) →
     copy_cost (light s) copy g l mask ≡ 2 * bit_differences 15 (copy_bit copy g) (has_bit (format_word_of l mask))
-copy-light s copy g l mask = 
-    search (arith, cost-light, colour-light)
+copy-light s copy g l mask = search (arith, cost-light, colour-light)
 
 -- exact format information is near
 format-near : (s : ℕ) (g : Grid) (l : Level) (mask : ℕ) → IsFormat g l mask → IsNearFormat (light s) First g l mask

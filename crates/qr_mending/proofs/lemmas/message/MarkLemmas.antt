@@ -127,7 +127,7 @@ block-marked : (v : ℕ) (l : Level) (unknown : Grid) (cw marks ks js : List ℕ
     (received (blocks_of v l) (map (item marks) ks) (map (item marks) js) i)
     ≡ map (read_at unknown h.places cw) (received (blocks_of v l) ks js i)
 block-marked v l unknown cw marks ks js i p q h inside =
-    search (arith, received-all, mark-agrees, received-map, item, read-marked)
+    search (arith, received-all, mark-agrees, received-map, read-marked)
 
 -- ---- mending by marks is mending with the modules that were not read
 

@@ -46,10 +46,11 @@ unread-push b spare d e u w message misread es c n x l h len right count near =
       each = λ i m. elim (cases_lt i n) [
         | inl k ↦
             let old = h.each i k in
-    let same = part-grown sizes message es i n h.long k in
-    search (arith, get_or_append_left)
-        | inr k ↦ let last = part-last sizes message es n h.long len in
-    search (arith, get_or_push)
+            let same = part-grown sizes message es i n h.long k in
+            search (arith, get_or_append_left)
+        | inr k ↦
+            let last = part-last sizes message es n h.long len in
+            search (arith, get_or_push)
       ];
     }
 

@@ -112,8 +112,7 @@ dot-blend (a ∷ p) i s e h l =
 -- the value of a polynomial at a byte is a byte
 pub eval-lt : (x : ℕ) (p : List ℕ) → x < 256 → All IsByte p → eval x p < 256
 eval-lt x [] l a = lit< tt
-eval-lt x (c ∷ p) l a =
-    xor_of_8 c (product x (eval x p)) (All-head IsByte c p a) (product-lt x (eval x p) l)
+eval-lt x (c ∷ p) l a = xor_of_8 c (product x (eval x p)) (All-head IsByte c p a) (product-lt x (eval x p) l)
 
 -- the sum of products for a list that ends with a leading 1
 pub blend-push : (p : List ℕ) (i : ℕ) (e : List ℕ) → All IsByte e →
