@@ -5,10 +5,9 @@ use Rattle.qr_mending.proofs.lemmas.block.BlockLemmas.{erasures-one, differences
 use Rattle.qr_mending.proofs.lemmas.erasures.ErasureLemmas.{errors-more, modified-more, erasures-marked, length-read, errors-self}
 use Rattle.qr_mending.proofs.lemmas.format.FormatLemmas.{near-one, near-two}
 use Rattle.qr_mending.proofs.lemmas.laws.DistanceLemmas.{symbols-apart}
-use Rattle.qr_mending.proofs.lemmas.laws.UndamagedLemmas.{reading-mended}
 use Rattle.qr_mending.proofs.lemmas.laws.WeakerLemmas.{weaker-block}
 use Rattle.qr_mending.proofs.lemmas.locator.PoolLemmas.{leading-stays, plus-more, sum-all}
-use Rattle.qr_mending.proofs.lemmas.mending.MendingLemmas.{sure-first, unmended-one}
+use Rattle.qr_mending.proofs.lemmas.mending.MendingLemmas.{unmended-one}
 use Rattle.qr_mending.proofs.lemmas.roots.RootLemmas.{length-rooted, length-rooted_rest}
 use Rattle.qr_mending.proofs.lemmas.sums.SumLemmas.{value-more, values-more, values-none}
 use Rattle.qr_symbol.proofs.Facts.{data-sizes-whole, readings-none, sizes-whole, unjoined-next}
@@ -31,12 +30,10 @@ pub ruleset erasure_facts = (difference-same, errors-more, modified-more, take_r
 
 pub ruleset series_facts = (err_from_is_err_and, readings-none, unjoined-next)
 
-pub ruleset law_facts = (near-one, near-two, reading-mended, unmended-one, weaker-block)
+pub ruleset law_facts = (near-one, near-two, unmended-one, weaker-block)
 
 pub ruleset distance_facts = (symbols-apart)
 
 pub ruleset mend_with_erasures_facts = (erasures-marked, length-read, errors-self, erasures-one)
 
 pub ruleset size_facts = (blocks-sound, data-sizes-whole, laws-of, sizes-whole)
-
-pub ruleset format_facts = (sure-first)

@@ -157,7 +157,6 @@ pub fn sound_squares_are_symbols()
 {}
 
 /// A square that can be read without mending is mended to the same content, and no codeword changes.
-#[tactic(auto, using(crate::proofs::Named::law_facts))]
 pub fn readings_are_mended_readings()
     ensures { (g : Grid) (p : Content) → (h : IsReading g p)
         → IsMendedReading (light g.side) g h.version h.level h.mask p (replicate (blocks_in h.version h.level) 0) }

@@ -81,7 +81,6 @@ fn cost_of(matrix: &Matrix, unknown: &Matrix, version: Version, mended: &MendedS
 // Of the pairs of level and mask that are near to a copy and mend the symbol, takes the one with the least cost of both
 // copies. At equal costs it takes the one near to the first copy. The second copy is not tried if the pair near to the
 // first mends the symbol and costs at most `COST_CERTAIN`.
-#[tactic(auto, using(crate::proofs::Named::format_facts))]
 fn mend_by_either(
     alloc: Global,
     version: Version,

@@ -1,5 +1,5 @@
 -- A square that is read without mending is read as the same content with mending, and no codeword is changed.
-use Rattle.std.proofs.Common.{◌≡◌, ℕ, zero, suc, ◌+◌, ◌*◌, ◌<◌, ◌≤◌, Bool, false, cond, not, ◌&&◌, List, [], ◌++◌, map, drop, length, get_or, refl, ◌∙◌, subst, arith}
+use Rattle.std.proofs.Common.{◌≡◌, ℕ, zero, suc, ◌+◌, ◌*◌, ◌<◌, ◌≤◌, Bool, false, cond, not, ◌&&◌, List, [], ◌++◌, map, drop, length, get_or, refl, ◌∙◌, arith}
 use Rattle.std.proofs.lemmas.List.{length-map, take_all, take_at, drop_at, get_or-take, get_or-drop, ext_get_or, length-replicate, get_or-replicate}
 use lib.ListN.{replicate}
 use Rattle.qr_field.specs.Polynomial.{IsCorrection}

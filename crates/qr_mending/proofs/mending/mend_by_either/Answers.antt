@@ -2,7 +2,7 @@ use Rattle.std.proofs.Common.{◌≡◌, length, arith}
 use Rattle.qr_layout.specs.Blocks.{data_codewords_of}
 use Rattle.qr_mending.specs.declared.format.FormatCopy.TheVariants.{First, Second}
 use Rattle.qr_mending.specs.Mending.{HoldsDamaged, IsOfNoUse}
-use Rattle.qr_mending.proofs.lemmas.mending.MendingLemmas.{best, best-of-two, second-alone}
+use Rattle.qr_mending.proofs.lemmas.mending.MendingLemmas.{best, best-of-two, second-alone, sure-first}
 use Rattle.qr_mending.proofs.mending.mend_by_either.Goals as goal
 
 pub returns-in_default-clause-mended : goal.returns-in_default-clause-mended
@@ -14,6 +14,11 @@ returns-in_default-clause-mended c =
     (λ m. HoldsDamaged u v m.level m.mask g m.message.items m.changed.items)
     (λ m. length m.message.items ≡ data_codewords_of v m.level)
     c.mend_by-in_default.result (rw c.in_default.is at c.in_ok-first.ensures.mended) c.mend_by-in_default.ensures.mended
+
+pub returns-then-cost-le-COST_CERTAIN-clause-mended : goal.returns-then-cost-le-COST_CERTAIN-clause-mended
+returns-then-cost-le-COST_CERTAIN-clause-mended c =
+    let first = rw c.in-Some.is at c.in_ok-first.ensures.mended in
+    search (arith, sure-first c.args.unknown.now c.args.matrix.now)
 
 pub returns-in_default-2-clause-mended : goal.returns-in_default-2-clause-mended
 returns-in_default-2-clause-mended c =
