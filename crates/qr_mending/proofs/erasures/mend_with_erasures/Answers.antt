@@ -10,7 +10,8 @@ pub returns-then-is_block-clause-only : goal.returns-then-is_block-clause-only
 returns-then-is_block-clause-only c = λ mended h.
     let codewords = c.args.codewords.now in
     let read = read_of codewords c.args.erased.now in
-    let self : IsMendedWithErasures c.args.divisor.now c.args.spare read codewords = search (arith, erasures-marked, errors-self, length-read) in
+    let self : IsMendedWithErasures c.args.divisor.now c.args.spare read codewords = search
+        (arith, erasures-marked, errors-self, length-read) in
     erasures-one c.args.divisor.now c.args.spare read mended codewords
     (omega (arith, c.requires.most, length-read codewords c.args.erased.now)) c.requires.spare h self
 
@@ -36,9 +37,11 @@ returns-clause-mended c =
     let after = c.copy_from_slice.ensures.after ∙ c.as_slice-2.ensures.value in
     let misread = rw (c.as_slice.ensures.value, ← after) at c.count_misread-misread.ensures.value in (
       record {
-        block = rw (c.as_slice-else-unread-misread.ensures.value, ← after) at (c.is_block-else-unread-misread.ensures.0 c.if-not-is_block.false);
+        block = rw (c.as_slice-else-unread-misread.ensures.value, ← after) at
+            (c.is_block-else-unread-misread.ensures.0 c.if-not-is_block.false);
         long = omega (arith, ap length after, c.candidate-mended.ensures.long, length-read codewords c.args.erased.now);
-        near = omega (arith, erasures-marked codewords c.args.erased.now c.requires.marks, c.count_erased-unread.ensures, misread);
+        near = omega (arith, erasures-marked codewords c.args.erased.now c.requires.marks,
+            c.count_erased-unread.ensures, misread);
       },
       misread,
     )

@@ -92,7 +92,8 @@ spectrum-nil zero i y l = refl
 spectrum-nil (suc n) i y l = simp (spectrum-nil n (i + 1) y l, product-by_zero)
 
 -- this sum for a list with one error more
-cons-terms : (u y c place x g v r : ℕ) → u < 256 → y < 256 → c < 256 → place < 256 → x < 256 → g < 256 → r < 256 → product place u ≡ place →
+cons-terms : (u y c place x g v r : ℕ) → u < 256 → y < 256 → c < 256 → place < 256 → x < 256 → g < 256 → r < 256 →
+    product place u ≡ place →
     bit_xor (bit_xor (product c place) v) (product y (bit_xor (product c (product (product x place) g)) r))
     ≡ bit_xor (product c (product place (bit_xor u (product (product y x) g)))) (bit_xor v (product y r))
 cons-terms u y c place x g v r lu ly lc lp lx lg lr one = simp (one, field_laws)
@@ -106,7 +107,8 @@ spectrum-cons (suc n) i y c e ly lc le =
     let lp = power-lt (i * m) in
     let z = product y (power m) in
     cc (
-      cons-terms 1 y c place (power m) (geometric n z) (value_at i e) (spectrum n (i + 1) y e) (lit< tt) ly lc lp (power-lt m)
+      cons-terms 1 y c place (power m) (geometric n z) (value_at i e) (spectrum n (i + 1) y e) (lit< tt) ly lc lp
+          (power-lt m)
           (geometric-lt n z (product-lt y (power m) ly)) (spectrum-lt n (i + 1) y e ly le) (product-by_one place lp),
       spectrum-cons n (i + 1) y c e ly lc le,
       power-next i m,
@@ -139,7 +141,8 @@ spectrum-coefficient m (c ∷ e) l h a =
     let none : 0 * k ≡ 0 = omega arith in
     let lg = geometric-lt 255 (product y (power k)) (product-lt y (power k) ly) in
     let start : spectrum 255 0 y (c ∷ e) ≡ bit_xor (product c (geometric 255 (power (255 - m + k)))) (coefficient m e) =
-    spectrum-cons 255 0 y c e ly lc le ∙ simp (none, product-of_one, power-add, spectrum-coefficient m e l (omega arith) le) in
+    spectrum-cons 255 0 y c e ly lc le ∙ simp (none, product-of_one, power-add,
+        spectrum-coefficient m e l (omega arith) le) in
     elim (cases_eq m k) [
       | inl s ↦
           let turn : 255 - m + k ≡ 255 = omega (arith, s) in

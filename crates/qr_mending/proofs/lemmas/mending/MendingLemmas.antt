@@ -41,14 +41,16 @@ beside Second = First
 
 module _ (unknown g : Grid) where
   -- under one level and mask, a square contains a damaged form of at most one message
-  damaged-one : (v : ℕ) (l : Level) (mask : ℕ) (m n x y : List ℕ) → 1 ≤ v → v ≤ 40 → HoldsDamaged unknown v l mask g m x →
+  damaged-one : (v : ℕ) (l : Level) (mask : ℕ) (m n x y : List ℕ) → 1 ≤ v → v ≤ 40 →
+      HoldsDamaged unknown v l mask g m x →
       HoldsDamaged unknown v l mask g n y → (m ≡ n) × (x ≡ y)
   damaged-one v l mask m n x y least most p q =
       let same = read-one v mask g p.codewords q.codewords p.held q.held in
       mended-one unknown v l least most q.codewords m n x y (rw same at p.mended) q.mended
 
   -- a square that contains damaged messages under two levels and masks has the same level and mask in both cases
-  format-one : (v : ℕ) (l k : Level) (m n : ℕ) (p q x y : List ℕ) → HasFormat unknown v g l m → HasFormat unknown v g k n →
+  format-one : (v : ℕ) (l k : Level) (m n : ℕ) (p q x y : List ℕ) → HasFormat unknown v g l m →
+      HasFormat unknown v g k n →
       HoldsDamaged unknown v l m g p x → HoldsDamaged unknown v k n g q y → (l ≡ k) × (m ≡ n)
   format-one v l k m n p q x y a b h j =
       let same = ranks-alike a.copy b.copy (format_cost unknown g l m) (format_cost unknown g k n)
@@ -80,7 +82,8 @@ module _ (unknown g : Grid) where
       (o.0, o.1, o.2, cc o.3, o.4)
 
   -- a damaged form is not beyond mending
-  form-of-use : (v : ℕ) (l : Level) (m : ℕ) (p x : List ℕ) → IsDamagedForm unknown g v l m p x → IsBeyondMending unknown g → ⊥
+  form-of-use : (v : ℕ) (l : Level) (m : ℕ) (p x : List ℕ) → IsDamagedForm unknown g v l m p x →
+      IsBeyondMending unknown g → ⊥
   form-of-use v l m p x h u =
       let vs : u.version ≡ v = omega (arith, h.sized.side, u.sized.side) in
       (rw vs at u.useless) h.format.copy l m h.format.near p x h.damaged
@@ -92,7 +95,8 @@ module _ (unknown g : Grid) where
   mended-not-refused v l m p x fault.Side h u = absurd (u v h.form.sized)
   mended-not-refused v l m p x fault.Format h u = let f = h.form.format in absurd (u.2 f.copy l m f.near)
   mended-not-refused v l m p x fault.Check h u = absurd (form-of-use v l m h.message x h.form u)
-  mended-not-refused v l m p x (fault.Segments e) h u = let o = outcome-one v u.1 l u.2 m u.3 (Ok p) (Err e) x u.4 h u.5 in cc o.3
+  mended-not-refused v l m p x (fault.Segments e) h u = let o = outcome-one v u.1 l u.2 m u.3 (Ok p) (Err e) x u.4 h
+      u.5 in cc o.3
   mended-not-refused v l m p x fault.Series h u = absurd u
 
   -- two faults of the same square are equal, or one of them is lack of memory
@@ -115,12 +119,14 @@ module _ (unknown g : Grid) where
   unmended-one fault.Check fault.Side a b = absurd (b a.version a.sized)
   unmended-one fault.Check fault.Format a b = absurd (b.2 a.copy a.level a.mask a.format)
   unmended-one fault.Check fault.Check a b = inr (inr refl)
-  unmended-one fault.Check (fault.Segments y) a b = let w = b.5 in absurd (form-of-use b.1 b.2 b.3 w.message b.4 w.form a)
+  unmended-one fault.Check (fault.Segments y) a b = let w = b.5 in absurd
+      (form-of-use b.1 b.2 b.3 w.message b.4 w.form a)
   unmended-one fault.Check fault.Series a b = absurd b
   unmended-one (fault.Segments x) fault.Memory a b = inr (inl refl)
   unmended-one (fault.Segments x) fault.Side a b = let w = a.5 in absurd (b a.1 w.form.sized)
   unmended-one (fault.Segments x) fault.Format a b = let f = a.5.form.format in absurd (b.2 f.copy a.2 a.3 f.near)
-  unmended-one (fault.Segments x) fault.Check a b = let w = a.5 in absurd (form-of-use a.1 a.2 a.3 w.message a.4 w.form b)
+  unmended-one (fault.Segments x) fault.Check a b = let w = a.5 in absurd
+      (form-of-use a.1 a.2 a.3 w.message a.4 w.form b)
   unmended-one (fault.Segments x) (fault.Segments y) a b =
       let o = outcome-one a.1 b.1 a.2 b.2 a.3 b.3 (Err x) (Err y) a.4 b.4 a.5 b.5 in inr (inr (cc o.3))
   unmended-one (fault.Segments x) fault.Series a b = absurd b
@@ -163,19 +169,24 @@ module _ (unknown g : Grid) where
   best First v l m f least = record {
     copy = First;
     near = f;
-    least = each-copy (NoneBelow (rank_of First (format_cost unknown g l m)) v) (λ k n h p x d. omega (arith, rank-same First l k m n f h)) least;
+    least = each-copy (NoneBelow (rank_of First (format_cost unknown g l m)) v)
+        (λ k n h p x d. omega (arith, rank-same First l k m n f h)) least;
   }
   best Second v l m f least = record {
     copy = Second;
     near = f;
-    least = each-copy (NoneBelow (rank_of Second (format_cost unknown g l m)) v) least (λ k n h p x d. omega (arith, rank-same Second l k m n f h));
+    least = each-copy (NoneBelow (rank_of Second (format_cost unknown g l m)) v) least
+        (λ k n h p x d. omega (arith, rank-same Second l k m n f h));
   }
 
   -- a result after the first copy was of no use
-  pub second-alone : {T : Type 0} (v : ℕ) (level : T → Level) (mask : T → ℕ) (Held Long : T → Type 0) (r : Result (Option T) ReadFault) →
+  pub second-alone : {T : Type 0} (v : ℕ) (level : T → Level) (mask : T → ℕ) (Held Long : T → Type 0)
+      (r : Result (Option T) ReadFault) →
       IsOfNoUse unknown First v g →
-      IfOk r (λ o. MatchOption o (IsOfNoUse unknown Second v g) (λ m. IsNearFormat unknown Second g (level m) (mask m) × Held m × Long m)) →
-      IfOk r (λ o. MatchOption o ((any : FormatCopy) → IsOfNoUse unknown any v g) (λ m. HasFormat unknown v g (level m) (mask m) × Held m × Long m))
+      IfOk r (λ o. MatchOption o (IsOfNoUse unknown Second v g)
+          (λ m. IsNearFormat unknown Second g (level m) (mask m) × Held m × Long m)) →
+      IfOk r (λ o. MatchOption o ((any : FormatCopy) → IsOfNoUse unknown any v g)
+          (λ m. HasFormat unknown v g (level m) (mask m) × Held m × Long m))
   second-alone v level mask Held Long (Err e) useless h = tt
   second-alone v level mask Held Long (Ok None) useless h = each-copy (λ any. IsOfNoUse unknown any v g) useless h
   second-alone v level mask Held Long (Ok (Some m)) useless h =
@@ -184,7 +195,8 @@ module _ (unknown g : Grid) where
   -- where both copies give a level and a mask that mend the square, the one of the less rank
   pub best-of-two : (copy : FormatCopy) (v : ℕ) (l k : Level) (m n : ℕ) → IsNearFormat unknown copy g l m →
       IsNearFormat unknown (beside copy) g k n →
-      rank_of copy (format_cost unknown g l m) ≤ rank_of (beside copy) (format_cost unknown g k n) → HasFormat unknown v g l m
+      rank_of copy (format_cost unknown g l m) ≤ rank_of (beside copy) (format_cost unknown g k n) →
+          HasFormat unknown v g l m
   best-of-two copy v l k m n f s less = best copy v l m f (λ j i h p x d.
       omega (arith, rank-same (beside copy) k j n i s h, less))
 
@@ -199,7 +211,8 @@ module _ (unknown g : Grid) where
   ]
 
   -- a pair of the first copy, where both copies cost at most 13
-  pub sure-first : (v : ℕ) (l : Level) (m : ℕ) → IsNearFormat unknown First g l m → format_cost unknown g l m ≤ 13 → HasFormat unknown v g l m
+  pub sure-first : (v : ℕ) (l : Level) (m : ℕ) → IsNearFormat unknown First g l m → format_cost unknown g l m ≤ 13 →
+      HasFormat unknown v g l m
   sure-first v l m f h = best First v l m f (λ k n q x y d. omega (arith, sure-least l k m n f.in_range q.in_range h))
 
   -- both copies cost at most 13

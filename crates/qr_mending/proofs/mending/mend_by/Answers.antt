@@ -13,7 +13,8 @@ returns-in-Ok-clause-mended c =
       record {
         codewords = c.deref.result.now;
         held = rw c.deref.ensures.value c.in_ok-codewords.ensures.read;
-        mended = of-marks c.args.version c.in-Some.level c.args.unknown.now c.deref.result.now c.args.marks.now m.message.items m.changed.items
+        mended = of-marks c.args.version c.in-Some.level c.args.unknown.now c.deref.result.now c.args.marks.now
+            m.message.items m.changed.items
             (omega arith) (omega arith) many c.requires.erased mended;
       },
       rw c.in-Ok.field-0-is at c.in-Ok.ensures.many,
