@@ -1,1 +1,2 @@
 mod lemmas
+pub mod Named

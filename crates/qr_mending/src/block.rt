@@ -51,6 +51,7 @@ pub(crate) fn is_block(divisor: &Divisor, codewords: &[u8]) -> bool
 /// Mends a damaged block of at most 255 codewords: replaces `codewords` by the block that differs from them in at most
 /// `t`, and returns in how many. Returns `None` and changes nothing if there is no such block (ISO/IEC 18004:2015,
 /// 7.5.1 and Annex B). `divisor` determines the number of error correction codewords, which must be at least twice `t`.
+#[tactic(auto, using(crate::proofs::Named::block_facts))]
 pub fn mend(divisor: &Divisor, t: usize, codewords: &mut [u8]) -> Option<usize>
     requires half { 2 * t ≤ divisor.now }
     requires least { divisor.now ≤ length codewords.old }

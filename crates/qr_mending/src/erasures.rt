@@ -20,6 +20,7 @@ use qr_field::Divisor;
 
 // The syndromes of another error polynomial, in which each coefficient of x^m is multiplied by the value of
 // `polynomial` at 2^m. If `polynomial` has a root for each erased codeword, the errors of these are gone.
+#[tactic(auto, using(crate::proofs::Named::erasure_facts))]
 fn modified_syndromes(polynomial: &[u8], syndromes: &[u8]) -> ArrayVec<u8, 30>
     requires least { 1 ≤ length polynomial.now }
     requires long { length polynomial.now ≤ length syndromes.now + 1 }
@@ -55,6 +56,7 @@ fn candidate(n: usize, spare: usize, erased: &[bool], damaged: &[u8]) -> ArrayVe
     without_errors(all.as_slice(), first.as_slice(), damaged)
 }
 
+#[tactic(auto, using(crate::proofs::Named::erasure_facts))]
 fn count_misread(codewords: &[u8], erased: &[bool], mended: &[u8]) -> usize
     requires marks { length erased.now ≡ length codewords.now }
     requires long { length mended.now ≡ length codewords.now }
@@ -76,6 +78,7 @@ fn count_misread(codewords: &[u8], erased: &[bool], mended: &[u8]) -> usize
 /// An erased codeword takes one error correction codeword, a misread one two. If more than `spare` are needed, returns
 /// `None` and changes nothing. `divisor` determines the number of error correction codewords of the block; in a symbol,
 /// `spare` is twice `changed_max`.
+#[tactic(auto, using(crate::proofs::Named::mend_with_erasures_facts))]
 pub fn mend_with_erasures(
     divisor: &Divisor,
     spare: usize,

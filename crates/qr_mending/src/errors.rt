@@ -18,6 +18,7 @@ use qr_field::power_of;
 
 // A syndrome, while `series` has fewer values than the locator's degree, and then the sum. The leading coefficient,
 // which is the last, counts as 1 and is left out of the sum.
+#[tactic(auto, using(crate::proofs::Named::error_facts))]
 fn next_value(locator: &[u8], syndromes: &[u8], series: &[u8]) -> u8
     requires least { 1 ≤ length locator.now }
     requires long { length locator.now ≤ length syndromes.now + 1 }
@@ -64,6 +65,7 @@ fn error(locator: &[u8], series: &[u8], place: u8) -> u8
 }
 
 // To add the errors removes them, since equal elements of the field add up to 0.
+#[tactic(auto, using(crate::proofs::Named::error_facts))]
 pub(crate) fn without_errors(locator: &[u8], syndromes: &[u8], damaged: &[u8]) -> ArrayVec<u8, 255>
     requires least { 1 ≤ length locator.now }
     requires long { length locator.now ≤ length syndromes.now + 1 }

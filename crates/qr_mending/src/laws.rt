@@ -59,6 +59,7 @@ pub fn blocks_without_erasures_are_mended_alike()
 /// A block of at most 255 codewords is also one with fewer error correction codewords, if at least one is left: the
 /// generator polynomial of fewer divides that of more. So where two levels of a version have the same number of blocks,
 /// only the format information says which is meant.
+#[tactic(auto, using(crate::proofs::Named::law_facts))]
 pub fn blocks_are_those_of_weaker_levels()
     ensures { (n m : ℕ) (block : List ℕ) → 1 ≤ n → n ≤ m → length block ≤ 255 → IsBlock m block → IsBlock n block }
 {}
@@ -76,6 +77,7 @@ pub fn format_words_lie_apart()
 
 /// At most one pair of level and mask is near to a copy of the format information, that is, the copy costs at most 6
 /// with it. So mending tries at most two pairs.
+#[tactic(auto, using(crate::proofs::Named::law_facts))]
 pub fn near_format_is_one()
     ensures one { (unknown : Grid) (copy : FormatCopy) (g : Grid) (l k : Level) (m n : ℕ) → IsNearFormat unknown copy g l m
         → IsNearFormat unknown copy g k n → (l ≡ k) × (m ≡ n) }
@@ -86,6 +88,7 @@ pub fn near_format_is_one()
 
 /// For seven pairs of version and level, the number of misread codewords that can be corrected in a block agrees with
 /// Table 9 of the standard. For six of them, so does the number of error correction codewords that only detect errors.
+#[tactic(auto, unfolding(qr_layout::specs::Blocks::correction_len_of))]
 pub fn tolerances_compute()
     ensures one { tolerance_of 1 Level.L ≡ 2 × tolerance_of 1 Level.M ≡ 4 }
     ensures one_more { tolerance_of 1 Level.Q ≡ 6 × tolerance_of 1 Level.H ≡ 8 }
@@ -102,6 +105,7 @@ pub fn tolerances_compute()
 /// modules both count once, and each copy is counted once. In the example, a light square, of which one module of the
 /// first copy was not read, is compared with level M and mask 0. A level and a mask are near to a copy at a cost of 6,
 /// and not at 7.
+#[tactic(auto, unfolding(qr_layout::specs::Blocks::correction_len_of))]
 pub fn mending_numbers_compute()
     ensures protection { (v : ℕ) (l : Level) → 4 ≤ v → protection_of v l ≡ 0 }
     ensures protection_two { protection_of 2 Level.M ≡ 0 × protection_of 2 Level.Q ≡ 0 × protection_of 2 Level.H ≡ 0 }
@@ -175,6 +179,7 @@ pub fn mended_readings_are_not_refused()
 {}
 
 /// Apart from lack of memory, there is at most one fault for which a damaged symbol is refused.
+#[tactic(auto, using(crate::proofs::Named::law_facts))]
 pub fn mending_refusals_are_one()
     ensures { (unknown : Grid) (g : Grid) (e f : ReadFault) → IsUnmended unknown g e
         → IsUnmended unknown g f
@@ -198,6 +203,7 @@ pub fn mendings_are_refused_exactly(
 /// Take two symbols of one version with different data codewords or levels. They differ in at least seven modules of
 /// each copy of the format information, or in more than twice as many codewords of some block as can be corrected
 /// there.
+#[tactic(auto, using(crate::proofs::Named::distance_facts))]
 pub fn symbols_lie_apart(version: Version)
     ensures { SymbolsLieApart version }
 {}

@@ -222,6 +222,7 @@ pub struct Mended {
 /// Returns `Side` if no version has the side of `matrix`, `Format` if no copy admits a level and a mask, `Check` if no
 /// pair that a copy admits mends every block, `Segments` if the mended data codewords cannot be parsed, and `Memory` if
 /// memory is refused.
+#[tactic(auto, using(crate::proofs::Named::size_facts))]
 pub fn mend_symbol_without(
     alloc: Global,
     matrix: &Matrix,

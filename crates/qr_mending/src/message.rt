@@ -226,6 +226,7 @@ pub fn changed_max(version: Version, level: Level) -> u8
 }
 
 // Codewords and marks are interleaved.
+#[tactic(auto, using(crate::proofs::Named::size_facts))]
 pub(crate) fn mend_message(
     alloc: Global,
     version: Version,

@@ -59,6 +59,7 @@ impl Polynomial {
     }
 
     // Degree and leading coefficient stay, since `other` has a lower degree.
+    #[tactic(auto, using(crate::proofs::Named::polynomial_facts))]
     fn plus(&self, factor: u8, other: &Polynomial) -> Polynomial
         requires lower { other.now.degree < self.now.degree }
         requires fits { self.now.degree < 16 }

@@ -32,6 +32,7 @@ fn with_root(polynomial: &[u8], root: u8) -> ArrayVec<u8, 31>
 
 // The product of `polynomial` and a factor x + 2^m for each erased codeword, where m is the number of codewords after
 // it in the block.
+#[tactic(auto, using(crate::proofs::Named::root_facts))]
 pub(crate) fn with_roots(erased: &[bool], polynomial: &[u8]) -> ArrayVec<u8, 31>
     requires small { length erased.now ≤ 255 }
     requires fits { length polynomial.now + count_by (λ e. e) erased.now ≤ 31 }

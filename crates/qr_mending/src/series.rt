@@ -10,6 +10,7 @@ use qr_matrix::Matrix;
 use qr_symbol::{ReadFault, join};
 use std::alloc::Global;
 
+#[tactic(auto, using(crate::proofs::Named::series_facts))]
 fn mend_all(alloc: Global, damaged: &[Matrix]) -> Result<Vec<Parsed>, ReadFault>
     ensures { MatchResult result (λ contents. AreReadBy IsMendedContent damaged.now contents.items)
         (IsUnmendedSeries damaged.now) }

@@ -11,6 +11,7 @@ use arrayvec::ArrayVec;
 use qr_field::{mul, power_of};
 
 // The sum of the products of items at equal indices; items of `window` past the end of `terms` are left out.
+#[tactic(auto, using(crate::proofs::Named::value_facts))]
 pub(crate) fn dot(terms: &[u8], window: &[u8]) -> u8
     requires { length terms.now ≤ length window.now }
     ensures value { result ≡ dot_of terms.now window.now }
@@ -35,6 +36,7 @@ pub(crate) fn value(terms: &[u8], x: u8) -> u8
 }
 
 // The value at 2^`exponent` of the polynomial whose coefficients are `block`, that of the highest power first.
+#[tactic(auto, using(crate::proofs::Named::value_facts))]
 fn syndrome(block: &[u8], exponent: u8) -> u8
     requires { exponent < 255 }
     ensures { result ≡ value_at exponent block.now }
@@ -49,6 +51,7 @@ fn syndrome(block: &[u8], exponent: u8) -> u8
 
 // The syndromes for the exponents 0 to `n` - 1. All are 0 if `block` is undamaged and has `n` error correction
 // codewords.
+#[tactic(auto, using(crate::proofs::Named::value_facts))]
 pub(crate) fn syndromes(block: &[u8], n: usize) -> ArrayVec<u8, 30>
     requires { n ≤ 30 }
     ensures count { array_vec_len result ≡ n }

@@ -28,15 +28,11 @@ nothing_more (Some y) (Some z) buf n e q = q ∙ ap (λ k. y ++ take k buf) e �
 -- no write offered more than a piece
 offered-after : (u : ℕ) (v w : WriteCounts) (len : ℕ) (r : Result ℕ Trouble) → w ≡ write_counted len r v → len ≤ 1200
     → v.offered ≤ max u 1200 → w.offered ≤ max u 1200
-offered-after u v w len (Ok n) e short h = rw e (omega arith)
-offered-after u v w len (Err Interrupted) e short h = rw e (omega arith)
-offered-after u v w len (Err Failed) e short h = rw e (omega arith)
+offered-after u v w len r e short h = grind arith
 
 -- a write is no flush
 flushes-after : (v w : WriteCounts) (len : ℕ) (r : Result ℕ Trouble) → w ≡ write_counted len r v → w.flushes ≡ v.flushes
-flushes-after v w len (Ok n) e = rw e refl
-flushes-after v w len (Err Interrupted) e = rw e refl
-flushes-after v w len (Err Failed) e = rw e refl
+flushes-after v w len r e = grind arith
 
 -- a write after writes without a fault is still within bounds
 within-after : (v w : WriteCounts) (len tries : ℕ) (r : Result ℕ Trouble) → w ≡ write_counted len r v → IsWell v tries → IsWrittenWithin w

@@ -25,9 +25,7 @@ Sends-trans : (a b c : Writer) (h0 h1 h2 x y : List ℕ)
 Sends-trans a b c h0 h1 h2 x y p q = record {
   sent = p.sent ++ q.sent;
   grows = Appends-trans a.taken b.taken c.taken p.sent q.sent p.grows q.grows;
-  whole =
-      append_assoc p.sent q.sent h2 ∙ ap (λ l. p.sent ++ l) q.whole ∙ sym (append_assoc p.sent h1 y) ∙ ap (λ l. l ++ y) p.whole
-      ∙ append_assoc h0 x y;
+  whole = cc (append_assoc p.sent q.sent h2, q.whole, append_assoc p.sent h1 y, p.whole, append_assoc h0 x y);
   many = λ fits. counted-on _ _ _ _ _ _ (length-append p.sent q.sent) fits (p.many fits) q.many;
 }
 
@@ -36,11 +34,7 @@ Sends-stops : (a b c : Writer) (h0 h1 x y : List ℕ)
     → Sends a b (h0 ++ x) h1 → AppendsBeginning b.taken c.taken (h1 ++ y) → AppendsBeginning a.taken c.taken (h0 ++ (x ++ y))
 Sends-stops a b c h0 h1 x y p (t, (rest, f), q) = (
   p.sent ++ t,
-  (
-    rest,
-    append_assoc p.sent t rest ∙ ap (λ l. p.sent ++ l) f ∙ sym (append_assoc p.sent h1 y) ∙ ap (λ l. l ++ y) p.whole
-        ∙ append_assoc h0 x y,
-  ),
+  (rest, cc (append_assoc p.sent t rest, f, append_assoc p.sent h1 y, p.whole, append_assoc h0 x y)),
   Appends-trans a.taken b.taken c.taken p.sent t p.grows q,
 )
 
@@ -107,7 +101,7 @@ formed a b i j h0 h1 h2 x p e = record {
   sends = record {
     sent = p.sends.sent;
     grows = p.sends.grows;
-    whole = ap (λ l. p.sends.sent ++ l) e ∙ sym (append_assoc p.sends.sent h1 x) ∙ ap (λ l. l ++ x) p.sends.whole;
+    whole = cc (e, append_assoc p.sends.sent h1 x, p.sends.whole);
     many = p.sends.many;
   };
   well = p.well;
@@ -123,7 +117,7 @@ stops_between a b c i j h0 h1 x y p q = writes_stop a b c i j h0 h1 x y p (stops
 last_stops : (a b c : Writer) (held text : List ℕ) → Sends a b text held → AppendsBeginning b.taken c.taken held → AppendsBeginning a.taken c.taken text
 last_stops a b c held text p (t, (rest, f), q) = (
   p.sent ++ t,
-  (rest, append_assoc p.sent t rest ∙ ap (λ l. p.sent ++ l) f ∙ p.whole),
+  (rest, cc (append_assoc p.sent t rest, f, p.whole)),
   Appends-trans a.taken b.taken c.taken p.sent t p.grows q,
 )
 

@@ -10,4 +10,4 @@ one_digit h t n lt e = e ∙ ap (λ l. h ++ l) (sym (decimal_digit n lt))
 -- a number of one more digit
 pub more_digits : (h s t : List ℕ) (n : ℕ) → 10 ≤ n → n < 2 ^ 64 → s ≡ h ++ decimal (n / 10) → t ≡ s ++ (48 + n % 10) ∷ [] → t ≡ h ++ decimal n
 more_digits h s t n le small e f =
-    f ∙ (ap (λ l. l ++ (48 + n % 10) ∷ []) e ∙ (append_assoc h (decimal (n / 10)) ((48 + n % 10) ∷ []) ∙ ap (λ l. h ++ l) (sym (decimal_step n le small))))
+    cc (f, e, append_assoc h (decimal (n / 10)) ((48 + n % 10) ∷ []), decimal_step n le small)

@@ -56,9 +56,8 @@ bits-split n d style upper lower =
 pub eight_quads : (h t u : List ℕ) (style : TextStyle) (upper lower : ℕ) → t ≡ h ++ bits_text 4 style upper lower
     → u ≡ t ++ bits_text 4 style (upper / 16) (lower / 16) → u ≡ h ++ bits_text 8 style upper lower
 eight_quads h t u style upper lower p q =
-    q ∙ ap (λ l. l ++ bits_text 4 style (upper / 16) (lower / 16)) p
-    ∙ append_assoc h (bits_text 4 style upper lower) (bits_text 4 style (upper / 16) (lower / 16))
-    ∙ ap (λ l. h ++ l) (sym (bits-split 4 4 style upper lower))
+    cc (q, p, append_assoc h (bits_text 4 style upper lower) (bits_text 4 style (upper / 16) (lower / 16)),
+        bits-split 4 4 style upper lower)
 
 -- each text of the table is that of its four modules: computed
 all-quads : all_below 16 (λ b. pointwise nat_eq (get_or ASCII_QUADS b []) (bits_text 4 Plain b 0)) ≡ true
@@ -84,9 +83,7 @@ eight-joined bits a b l p q =
     let first : take 8 (a ++ light) ≡ a = ap (λ n. take n (a ++ light)) (sym l) ∙ take-append_seam a light in
     let rest : drop 8 (drop 8 (a ++ light)) ≡ [] = drop_all 8 (drop 8 (a ++ light)) (omega (arith, length-drop 8 (a ++ light), length-append a light, l)) in
     let whole : put_mid 8 8 (a ++ light) b ≡ a ++ b = rw first (ap (λ t. a ++ (b ++ t)) rest ∙ ap (λ t. a ++ t) (append-nil b)) in
-    whole ∙ ap (λ t. t ++ b) p ∙ ap (λ t. bits_text 4 Plain (bits % 16) 0 ++ t) q
-    ∙ ap (λ t. t ++ bits_text 4 Plain (bits / 16) 0) (quad_plain bits 0)
-    ∙ sym (bits-split 4 4 Plain bits 0)
+    cc (whole, p, q, quad_plain bits 0, bits-split 4 4 Plain bits 0)
 
 -- each of the four lowest bits of `15 - bits` is the opposite bit: computed
 all-others : all_below 16 (λ b. all_below 4 (λ k. is_same (has_bit (15 - b) k) (not (has_bit b k)))) ≡ true
@@ -143,29 +140,25 @@ pub half_block_pairs : (h t u : List ℕ) (upper lower : ℕ) → t ≡ h ++ pai
 half_block_pairs h t u upper lower p q =
     let low = bits_text 2 HalfBlocks upper lower in
     let high = bits_text 2 HalfBlocks (upper / 4) (lower / 4) in
-    q ∙ (λ i. p i ++ half-pair (upper / 4) (lower / 4) i) ∙ ap (λ l. (h ++ l) ++ high) (half-pair upper lower) ∙ append_assoc h low high
-    ∙ ap (λ l. h ++ l) (sym (bits-split 2 2 HalfBlocks upper lower))
+    cc (
+      q,
+      p,
+      half-pair upper lower,
+      half-pair (upper / 4) (lower / 4),
+      append_assoc h low high,
+      bits-split 2 2 HalfBlocks upper lower,
+    )
 
 -- a cell takes at most its room
 pub cell-length : (style : TextStyle) (upper lower : Bool) → length (cell_text style upper lower) ≤ cell_room style
-cell-length Plain true lower = omega arith
-cell-length Plain false lower = omega arith
-cell-length Inverse true lower = omega arith
-cell-length Inverse false lower = omega arith
-cell-length HalfBlocks true true = omega arith
-cell-length HalfBlocks true false = omega arith
-cell-length HalfBlocks false true = omega arith
-cell-length HalfBlocks false false = omega arith
+cell-length style upper lower = grind arith
 
 -- if there was room for `o` bytes, then after n texts of at most b bytes there is room for d bytes
 pub room-left : (h t : List ℕ) (n d o b room : ℕ) (text : ℕ → List ℕ) → ((k : ℕ) → length (text k) ≤ b) → t ≡ h ++ texts_below n text
     → n + d ≤ o → length h + o * b ≤ room → length t + d * b ≤ room
 room-left h t n d o b room text most e le fits =
     let l : length t ≡ length h + length (texts_below n text) = ap (λ l. length l) e ∙ length-append h (texts_below n text) in
-    let m = texts_below-length n b text most in
-    let p : (n + d) * b ≡ n * b + d * b = add-mul n d b in
-    let q : (n + d) * b ≤ o * b = mul-le-mul_right b le in
-    omega arith
+    omega (arith, l, texts_below-length n b text most, add-mul n d b, mul-le-mul_right b le, fits)
 
 -- if there was room for `count` cells of a row, then after `done` of them there is room for n more
 pub room-cells : (style : TextStyle) (margin : ℕ) (g : Grid) (row first done n count : ℕ) (h t : List ℕ)

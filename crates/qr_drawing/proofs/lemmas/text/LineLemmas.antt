@@ -36,32 +36,36 @@ texts_below-add n zero text =
     rw e (sym (append-nil (texts_below n text)))
 texts_below-add n (suc d) text =
     let e : n + suc d ≡ n + d + 1 = omega arith in
-    ap (λ k. texts_below k text) e ∙ (texts_below-more (n + d) text
-    ∙ (ap (λ l. l ++ text (n + d)) (texts_below-add n d text)
-    ∙ (append_assoc (texts_below n text) (texts_below d (λ i. text (n + i))) (text (n + d))
-    ∙ ap (λ l. texts_below n text ++ l) (sym (texts_below-suc d (λ i. text (n + i)))))))
+    let rest = λ (i : ℕ). text (n + i) in
+    cc (
+      e,
+      texts_below-more (n + d) text,
+      texts_below-add n d text,
+      append_assoc (texts_below n text) (texts_below d rest) (text (n + d)),
+      texts_below-suc d rest,
+    )
 
 -- texts that are all empty are empty together
 pub texts_below-none : (n : ℕ) (text : ℕ → List ℕ) → ((k : ℕ) → k < n → text k ≡ []) → texts_below n text ≡ []
 unfolding texts_below
 texts_below-none zero text none = refl
 texts_below-none (suc n) text none =
-    texts_below-suc n text ∙ (λ i. texts_below-none n text (λ k lt. none k (omega arith)) i ++ none n (omega arith) i)
+    cc (texts_below-suc n text, texts_below-none n text (λ k lt. none k (omega arith)), none n (omega arith))
 
 -- if the texts from m to n are empty, the texts below n are those below m
 pub texts_below-same : (m n : ℕ) (text : ℕ → List ℕ) → m ≤ n → ((k : ℕ) → m ≤ k → k < n → text k ≡ []) → texts_below n text ≡ texts_below m text
 texts_below-same m n text le none =
     let e : n ≡ m + (n - m) = omega arith in
-    ap (λ k. texts_below k text) e ∙ texts_below-add m (n - m) text
-    ∙ ap (λ l. texts_below m text ++ l) (texts_below-none (n - m) (λ i. text (m + i)) (λ k lt. none (m + k) (omega arith) (omega arith)))
-    ∙ append-nil (texts_below m text)
+    let empty = texts_below-none (n - m) (λ i. text (m + i)) (λ k lt. none (m + k) (omega arith) (omega arith)) in
+    cc (e, texts_below-add m (n - m) text, empty, append-nil (texts_below m text))
 
 -- texts that are equal place by place are equal as a whole
 pub texts_below-alike : (n : ℕ) (f g : ℕ → List ℕ) → ((k : ℕ) → k < n → f k ≡ g k) → texts_below n f ≡ texts_below n g
 unfolding texts_below
 texts_below-alike zero f g h = refl
 texts_below-alike (suc n) f g h =
-    texts_below-suc n f ∙ (λ i. texts_below-alike n f g (λ k lt. h k (omega arith)) i ++ h n (omega arith) i) ∙ sym (texts_below-suc n g)
+    cc (texts_below-suc n f, texts_below-suc n g, texts_below-alike n f g (λ k lt. h k (omega arith)),
+        h n (omega arith))
 
 -- n texts of at most b bytes are at most n * b bytes long
 pub texts_below-length : (n b : ℕ) (text : ℕ → List ℕ) → ((k : ℕ) → length (text k) ≤ b) → length (texts_below n text) ≤ n * b
@@ -69,10 +73,7 @@ unfolding texts_below
 texts_below-length zero b text most = omega arith
 texts_below-length (suc n) b text most =
     let l = ap (λ l. length l) (texts_below-suc n text) ∙ length-append (texts_below n text) (text n) in
-    let m = most n in
-    let r = texts_below-length n b text most in
-    let p : suc n * b ≡ n * b + b = suc-mul n b in
-    omega arith
+    omega (arith, l, most n, texts_below-length n b text most, suc-mul n b)
 
 -- the texts of the first n items of a list
 texts-of-first : {A : Type 0} (text : A → List ℕ) (xs : List A) (d : A) (n : ℕ) → n ≤ length xs
@@ -81,15 +82,19 @@ unfolding texts_below
 texts-of-first text xs d zero le = refl
 texts-of-first text xs d (suc n) le =
     let e : suc n ≡ n + 1 = omega arith in
-    ap (λ k. flat_map text (take k xs)) e ∙ ap (λ l. flat_map text l) (take_more xs n d (omega arith))
-    ∙ flat_map-append text (take n xs) (get_or xs n d ∷ [])
-    ∙ (λ i. texts-of-first text xs d n (omega arith) i ++ append-nil (text (get_or xs n d)) i)
-    ∙ sym (texts_below-suc n (λ k. text (get_or xs k d)))
+    cc (
+      e,
+      take_more xs n d (omega arith),
+      flat_map-append text (take n xs) (get_or xs n d ∷ []),
+      texts-of-first text xs d n (omega arith),
+      append-nil (text (get_or xs n d)),
+      texts_below-suc n (λ k. text (get_or xs k d)),
+    )
 
 -- the texts of a list's items, place by place
 pub texts-of-items : {A : Type 0} (text : A → List ℕ) (xs : List A) (d : A) → flat_map text xs ≡ texts_below (length xs) (λ k. text (get_or xs k d))
-texts-of-items text xs d =
-    ap (λ l. flat_map text l) (sym (take_all (length xs) xs (omega arith))) ∙ texts-of-first text xs d (length xs) (omega arith)
+texts-of-items text xs d = cc (take_all (length xs) xs (omega arith),
+    texts-of-first text xs d (length xs) (omega arith))
 
 -- ---- texts that are added
 
@@ -102,13 +107,11 @@ added_none h f = sym (append-nil h)
 pub added_more : (h t u : List ℕ) (n d : ℕ) (f g : ℕ → List ℕ) → t ≡ h ++ texts_below n f → u ≡ t ++ texts_below d g
     → texts_below d g ≡ texts_below d (λ i. f (n + i)) → u ≡ h ++ texts_below (n + d) f
 added_more h t u n d f g p q same =
-    q ∙ ap (λ l. l ++ texts_below d g) p ∙ append_assoc h (texts_below n f) (texts_below d g)
-    ∙ ap (λ l. h ++ (texts_below n f ++ l)) same ∙ ap (λ l. h ++ l) (sym (texts_below-add n d f))
+    cc (q, p, append_assoc h (texts_below n f) (texts_below d g), same, texts_below-add n d f)
 
 -- the text of the next place was added
 pub added_next : (h t u : List ℕ) (n : ℕ) (f : ℕ → List ℕ) → t ≡ h ++ texts_below n f → u ≡ t ++ f n → u ≡ h ++ texts_below (n + 1) f
-added_next h t u n f p q =
-    q ∙ ap (λ l. l ++ f n) p ∙ append_assoc h (texts_below n f) (f n) ∙ ap (λ l. h ++ l) (sym (texts_below-more n f))
+added_next h t u n f p q = cc (q, p, append_assoc h (texts_below n f) (f n), texts_below-more n f)
 
 -- ---- texts that are written through the pen
 
@@ -135,5 +138,5 @@ put_stops a b c i j m n h0 h1 piece text here lt p q =
     let rest = texts_below (n - (m + 1)) (λ i. text (m + 1 + i)) in
     let e : m + 1 + (n - (m + 1)) ≡ n = omega arith in
     let whole : (texts_below m text ++ text m) ++ rest ≡ texts_below n text =
-    ap (λ l. l ++ rest) (sym (texts_below-more m text)) ∙ sym (texts_below-add (m + 1) (n - (m + 1)) text) ∙ ap (λ k. texts_below k text) e in
+    cc (texts_below-more m text, texts_below-add (m + 1) (n - (m + 1)) text, e) in
     rw (← whole) (stops_first a c i h0 (texts_below m text ++ text m) rest (writes_stop a b c i j h0 h1 (texts_below m text) (text m) p (rw here q)))

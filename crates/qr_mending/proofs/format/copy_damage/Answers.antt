@@ -1,9 +1,8 @@
-use Rattle.std.proofs.Common.{◌≡◌, ℕ, Bool, ◌&&◌, not, cond, ap, ◌∙◌, sym, arith}
-use Rattle.qr_layout.specs.declared.region.Module.{Module}
-use Rattle.qr_matrix.specs.Grid.{colour, is_same}
+use Rattle.std.proofs.Common.{◌≡◌, ◌&&◌, not, cond, arith}
+use Rattle.qr_matrix.specs.Grid.{is_same}
 use Rattle.qr_bits.proofs.lemmas.bits.BitLemmas.{bool_byte-bit, bool_byte-cond}
 use Rattle.qr_matrix.specs.BitRow.{has_bit}
-use Rattle.qr_mending.specs.Format.{copy_place, copy_bit}
+use Rattle.qr_mending.specs.Format.{copy_bit}
 use Rattle.qr_mending.proofs.lemmas.format.FormatLemmas.{sum-more}
 use Rattle.qr_mending.proofs.format.copy_damage.Goals as goal
 
@@ -14,18 +13,13 @@ loop-i-preserved c =
     let i = c.loop-i.i in
     let copy = c.args.copy in
     let place = c.place-place.ensures.place in
-    let dark : c.dark-dark.result ≡ copy_bit copy g i =
-    c.dark-dark.ensures
-    ∙ ap (λ (m : Module). colour g m.row m.col) (place ∙ ap (λ (s : ℕ). copy_place copy s i) (sym c.requires.side)) in
-    let unknown : c.dark-is_unknown.result ≡ copy_bit copy u i =
-    c.dark-is_unknown.ensures
-    ∙ ap (λ (m : Module). colour u m.row m.col) (place ∙ ap (λ (s : ℕ). copy_place copy s i) (sym c.requires.unknown_side)) in
-    let unread : c.from-unread.result ≡ cond (copy_bit copy u i) 1 0 = c.from-unread.ensures ∙ ((bool_byte-cond c.dark-is_unknown.result).0 ∙ ap (λ (z : Bool). cond {A = ℕ} z 1 0) unknown) in
+    let dark : c.dark-dark.result ≡ copy_bit copy g i = cc (c.dark-dark.ensures, place, c.requires.side) in
+    let unknown : c.dark-is_unknown.result ≡ copy_bit copy u i = cc
+        (c.dark-is_unknown.ensures, place, c.requires.unknown_side) in
+    let unread : c.from-unread.result ≡ cond (copy_bit copy u i) 1 0 =
+    cc (c.from-unread.ensures, (bool_byte-cond c.dark-is_unknown.result).0, unknown) in
     let misread : c.misread_bit-misread.result ≡ cond (not (copy_bit copy u i) && not (is_same (copy_bit copy g i) (has_bit c.args.word i))) 1 0 =
-    c.misread_bit-misread.ensures.value
-    ∙ (ap (λ (z : Bool). cond {A = ℕ} (not z && not (is_same c.dark-dark.result c.is_bit_set.result)) 1 0) unknown
-    ∙ (ap (λ (z : Bool). cond {A = ℕ} (not (copy_bit copy u i) && not (is_same z c.is_bit_set.result)) 1 0) dark
-    ∙ ap (λ (z : Bool). cond {A = ℕ} (not (copy_bit copy u i) && not (is_same (copy_bit copy g i) z)) 1 0) c.is_bit_set.ensures)) in
+    cc (c.misread_bit-misread.ensures.value, unknown, dark, c.is_bit_set.ensures) in
     let one = (bool_byte-bit c.dark-is_unknown.result).0 in
     let few = c.loop-i.invariant in
     record {

@@ -1,4 +1,4 @@
-use Rattle.std.proofs.Common.{◌≡◌, ℕ, ◌<◌, [], ◌∷◌, get_or, inl, inr, subst, arith}
+use Rattle.std.proofs.Common.{◌≡◌, ℕ, ◌<◌, [], ◌∷◌, get_or, inl, inr, arith}
 use Rattle.std.proofs.lemmas.Bool.{cases_lt}
 use Rattle.qr_layout.specs.declared.level.Level.{Level}
 use Rattle.qr_layout.specs.declared.level.Level.TheVariants.{L, M, Q, H}
@@ -23,7 +23,7 @@ pub loop-level-preserved : goal.loop-level-preserved
 loop-level-preserved c = λ k less mask f.
     elim (cases_lt k c.loop-level.level-index) [
       | inl l ↦ c.loop-level.invariant k l mask f
-      | inr l ↦ let e : k ≡ c.loop-level.level-index = omega arith in c.in_default.ensures mask (subst (λ (i : ℕ). IsNearFormat c.args.unknown.now c.args.copy c.args.matrix.now (level i) mask) e f)
+      | inr l ↦ let e : k ≡ c.loop-level.level-index = omega arith in c.in_default.ensures mask (rw e at f)
     ]
 
 pub returns : goal.returns

@@ -4,7 +4,6 @@ use Rattle.std.proofs.Common.{◌≡◌, ℕ, zero, suc, ◌+◌, ◌-◌, ◌*�
 use Rattle.std.specs.List.{All}
 use Rattle.std.specs.Int.Bits.{xor_zero_r}
 use Rattle.std.proofs.lemmas.List.{length-map, length-take, length-take-le, length_push, take_more, take_at, take_rest, take-append-drop, drop_at}
-use Rattle.qr_field.specs.Galois.{product}
 use Rattle.qr_field.specs.Polynomial.{IsByte, plus, power, IsCorrection}
 use Rattle.qr_field.specs.Distance.{differences, erasures, errors}
 use Rattle.qr_field.specs.Steps.Polynomial.{value_at}
@@ -34,22 +33,16 @@ bytes-block n b h =
     subst (λ (t : List ℕ). All IsByte t) (sym h.whole) (block-bytes h.message n h.correction h.corrects)
 
 -- the first n values of a block are 0
-root-block : (n : ℕ) (b : List ℕ) → IsBlock n b → (i : ℕ) → i < n → value_at i b ≡ 0
-root-block n b h i l = ap (value_at i) h.whole ∙ block-root h.message n h.correction h.corrects i l
+pub root-block : (n : ℕ) (b : List ℕ) → IsBlock n b → (i : ℕ) → i < n → value_at i b ≡ 0
+root-block n b h i l = cc (block-root h.message n h.correction h.corrects i l)
 
 -- the data codewords of a block are all of its codewords but the last n
 start-block : (n : ℕ) (b : List ℕ) → (h : IsBlock n b) → length h.message ≡ length b - n
-start-block n b h = omega (arith, length-append h.message h.correction, ap length h.whole, h.corrects.count)
+start-block n b h = search (arith, length-append)
 
 -- the last n codewords of a block are the error correction codewords of its data codewords
 pub block-corrects : (n : ℕ) (b : List ℕ) → IsBlock n b → IsCorrection (take (length b - n) b) n (drop (length b - n) b)
-block-corrects n b h =
-    let k = length b - n in
-    let s = start-block n b h in
-    let first : h.message ≡ take k b = sym (ap (take k) h.whole ∙ take_at h.message h.correction k s) in
-    let last : h.correction ≡ drop k b = sym (ap (drop k) h.whole ∙ drop_at h.message h.correction k s) in
-    subst (λ (t : List ℕ). IsCorrection t n (drop k b)) first
-    (subst (λ (t : List ℕ). IsCorrection h.message n t) last h.corrects)
+block-corrects n b h = search (arith, start-block, take_at, drop_at)
 
 -- ---- errors
 
@@ -64,49 +57,45 @@ get_or-plus (x ∷ xs) (y ∷ ys) (suc k) e l = get_or-plus xs ys k (omega arith
 -- the coefficient at item k of a list, counted from the last item
 coefficient-at : (e : List ℕ) (k : ℕ) → k < length e → coefficient (length e - 1 - k) e ≡ get_or e k 0
 coefficient-at [] k l = absurd (omega arith)
-coefficient-at (c ∷ e) zero l = coefficient-head (length (c ∷ e) - 1 - zero) c e (omega arith)
-coefficient-at (c ∷ e) (suc k) l =
-    let m = length (c ∷ e) - 1 - suc k in
-    let h : m ≡ length e - 1 - k = omega arith in
-    coefficient-tail m c e (λ g. omega (arith, g)) ∙ (ap (λ t. coefficient t e) h ∙ coefficient-at e k (omega arith))
+coefficient-at (c ∷ e) zero l = omega (arith, coefficient-head)
+coefficient-at (c ∷ e) (suc k) l = search (arith, coefficient-tail, coefficient-at e k (omega arith))
 
 -- the first n values of the errors are those of the damaged block
-errors-value : (n : ℕ) (damaged b : List ℕ) → IsBlock n b → length b ≡ length damaged → All IsByte damaged →
+pub errors-value : (n : ℕ) (damaged b : List ℕ) → IsBlock n b → length b ≡ length damaged → All IsByte damaged →
     (i : ℕ) → i < n → value_at i (plus damaged b) ≡ value_at i damaged
 errors-value n damaged b h s a i l =
     let v = value_at i damaged in
     let none : i * 0 ≡ 0 = omega arith in
-    value-plus i 0 damaged b (omega (arith, s)) a (bytes-block n b h)
-    ∙ (ap (λ t. bit_xor (product v (power t)) (value_at i b)) none
-    ∙ (ap (λ t. bit_xor t (value_at i b)) (product-by_one v (value-lt i damaged a))
-    ∙ (ap (bit_xor v) (root-block n b h i l) ∙ xor_zero_r v)))
+    cc (
+      none,
+      value-plus i 0 damaged b (omega (arith, s)) a (bytes-block n b h),
+      product-by_one v (value-lt i damaged a),
+      root-block n b h i l,
+      xor_zero_r v,
+    )
 
 -- so the first n values of the errors are the syndromes
 pub errors-values : (n : ℕ) (damaged b first : List ℕ) → IsBlock n b → length b ≡ length damaged → All IsByte damaged →
     HasValues first damaged → length first ≡ n → HasValues first (plus damaged b)
-errors-values n damaged b first block long a h l = record {
-  each = λ k g. h.each k g ∙ sym (errors-value n damaged b block long a k (omega (arith, l, g)));
-}
+errors-values n damaged b first block long a h l = search (arith, errors-value)
 
 -- the list of all coefficients ends with the leading 1
 pub all-low : (p : Polynomial) → IsMonic p → p.degree < length p.terms → all_of p ≡ take p.degree p.terms ++ 1 ∷ []
-all-low p m l = take_more p.terms p.degree 0 l ∙ ap (λ z. take p.degree p.terms ++ z ∷ []) m
+all-low p m l = search (arith, take_more)
 
 -- if a polynomial has a root for each error, it locates the errors
 pub roots-locate : (q w e : List ℕ) → q ≡ w ++ 1 ∷ [] → All IsByte q → All IsByte e → length e ≤ 255 →
     ((m : ℕ) → m < length e → (eval (power m) q ≡ 0 → ⊥) → coefficient m e ≡ 0) → IsLocated q e
 roots-locate q w e split bytes le small roots =
     let below : length q - 1 ≡ length w = omega (arith, ap length split, length_push w 1) in
-    let rest : low q ≡ w = ap (take (length q - 1)) split ∙ take_at w (1 ∷ []) (length q - 1) (sym below) in
+    let rest : low q ≡ w = search (arith, take_at) in
     let all = root-blends q e bytes le roots in
     record {
       bytes = le;
       most = small;
       recurrence = λ i.
-          let joined : bit_xor (blend w i e) (value_at (i + length w) e) ≡ 0 =
-          sym (blend-push w i e le) ∙ (ap (λ z. blend z i e) (sym split) ∙ all i) in
-          ap (λ z. value_at (i + z) e) below
-          ∙ (sym (sum-none (blend w i e) (value_at (i + length w) e) joined) ∙ ap (λ z. blend z i e) (sym rest));
+          let joined : bit_xor (blend w i e) (value_at (i + length w) e) ≡ 0 = cc (blend-push w i e le, split, all i) in
+          search (arith, sum-none);
       roots = roots;
     }
 
@@ -117,18 +106,15 @@ pub solved-root : (t : ℕ) (e first q : List ℕ) (p : Polynomial) → All IsBy
     ((i : ℕ) → i < t → miss_of p (drop i first) ≡ 0) → (m : ℕ) → m < length e → (eval (power m) q ≡ 0 → ⊥) →
     coefficient m e ≡ 0
 solved-root t e first q p le small few values long d fits bytes same solved =
-    let count : length q ≡ p.degree + 1 = omega (arith, ap length same, length-take-le (p.degree + 1) p.terms (omega (arith, fits))) in
-    errors-root t q e bytes le small few
-    (λ i g.
-    sym (dot-blend q i first e values (omega (arith, g, count, long, d)))
-    ∙ (ap (λ z. dot_of z (drop i first)) same ∙ solved i g))
+    let count : length q ≡ p.degree + 1 = search (arith, length-take-le) in
+    errors-root t q e bytes le small few (λ i g. cc (dot-blend q i first e values (omega (arith, g, count, long, d)),
+        same, solved i g))
 
 -- adding the difference of two lists to the first list gives the second list
 pub plus-cancel : (xs ys : List ℕ) → length xs ≡ length ys → plus xs (plus xs ys) ≡ ys
 plus-cancel [] ys h = refl
 plus-cancel (x ∷ xs) [] h = absurd (omega arith)
-plus-cancel (x ∷ xs) (y ∷ ys) h =
-    ap (λ z. z ∷ plus xs (plus xs ys)) (xor-cancel x y) ∙ ap (λ z. y ∷ z) (plus-cancel xs ys (omega arith))
+plus-cancel (x ∷ xs) (y ∷ ys) h = cc (xor-cancel x y, plus-cancel xs ys (omega arith))
 
 -- one codeword more, without its error
 pub sum-more : (xs errors items new : List ℕ) (k error : ℕ) → length errors ≡ length xs → k < length xs →
@@ -136,15 +122,8 @@ pub sum-more : (xs errors items new : List ℕ) (k error : ℕ) → length error
     new ≡ items ++ bit_xor (get_or xs k 0) error ∷ [] → new ≡ take (k + 1) (plus xs errors)
 sum-more xs errors items new k error long l h same push =
     let count : length (plus xs errors) ≡ length errors = length-plus xs errors (omega (arith, long)) in
-    let place : length xs - 1 - k ≡ length errors - 1 - k = omega (arith, long) in
-    let read : error ≡ get_or errors k 0 =
-    h ∙ (ap (λ z. coefficient z errors) place ∙ coefficient-at errors k (omega (arith, long, l))) in
-    let here : bit_xor (get_or xs k 0) error ≡ get_or (plus xs errors) k 0 =
-    ap (bit_xor (get_or xs k 0)) read ∙ sym (get_or-plus xs errors k (sym long) l) in
-    push
-    ∙ (ap (λ z. z ++ bit_xor (get_or xs k 0) error ∷ []) same
-    ∙ (ap (λ z. take k (plus xs errors) ++ z ∷ []) here
-    ∙ sym (take_more (plus xs errors) k 0 (omega (arith, l, long, count)))))
+    cc (coefficient-at errors k (omega (arith, long, l)), get_or-plus xs errors k (sym long) l,
+        take_more (plus xs errors) k 0 (omega (arith, l, long, count)))
 
 -- ---- the values of the errors
 
@@ -152,27 +131,17 @@ sum-more xs errors items new k error long l h same push =
 pub value-next : (p series e : List ℕ) (v : ℕ) → IsLocated p e → HasValues series e → length p ≤ length series + 1 →
     v ≡ dot_of (low p) (take (length series - (length series - (length p - 1))) (drop (length series - (length p - 1)) series)) →
     v ≡ value_at (length series) e
-value-next p series e v h s l d =
-    let i = length series - (length p - 1) in
-    let room : i + length (low p) ≤ length series = omega (arith, length-take (length p - 1) p) in
-    let whole : i + (length p - 1) ≡ length series = omega arith in
-    d
-    ∙ (ap (dot_of (low p)) (take_rest series i)
-    ∙ (dot-blend (low p) i series e s room ∙ (sym (h.recurrence i) ∙ ap (λ z. value_at z e) whole)))
+value-next p series e v h s l d = search (arith, length-take, take_rest, dot-blend)
 
 -- the error at index `place` is the value of the series at the inverse of its power
 pub inverse-coefficient : (place inverse v x : ℕ) (p series e : List ℕ) → IsLocated p e →
     HasValues series e → length series ≡ 255 → place < 255 → x ≡ power inverse → v ≡ eval x series →
     power inverse ≡ power (255 - place) → v ≡ coefficient place e
-inverse-coefficient place inverse v x p series e h s l m ex ev turn =
-    ev
-    ∙ (ap (λ z. eval z series) (ex ∙ turn) ∙ eval-coefficient place series e m h.most h.bytes l s)
+inverse-coefficient place inverse v x p series e h s l m ex ev turn = search (arith, eval-coefficient)
 
 -- the inverse of 2 to the power 0
 pub inverse-one : (place inverse : ℕ) → place ≡ 0 → inverse ≡ 0 → power inverse ≡ power (255 - place)
-inverse-one place inverse e f =
-    let turn : 255 - place ≡ 255 = omega arith in
-    ap power f ∙ sym (ap power turn ∙ power-round)
+inverse-one place inverse e f = cc (power-round)
 
 -- ---- the whole list
 
@@ -191,45 +160,36 @@ errors-leave n t damaged first q items p half most a h l d monic fits bytes same
     let few : weight e ≤ t = omega (arith, weight-plus damaged b (sym m.long), m.near) in
     let roots = solved-root t e first q p le small few ve (omega (arith, half, l)) d fits bytes same solved in
     let located = roots-locate q (take p.degree p.terms) e (same ∙ all-low p monic fits) bytes le small roots in
-    sum e (omega (arith, count, m.long)) located ve ∙ plus-cancel damaged b (sym m.long)
+    search (arith, plus-cancel)
 
 -- ---- the checks
 
 -- codewords with the correction that follows from them are a block
 pub block-found : (n k : ℕ) (b correction : List ℕ) → IsCorrection (take k b) n correction → correction ≡ drop k b → IsBlock n b
-block-found n k b correction c e = record {
-  message = take k b;
-  correction = drop k b;
-  whole = sym (take-append-drop k b);
-  corrects = subst (λ (z : List ℕ). IsCorrection (take k b) n z) e c;
-}
+block-found n k b correction c e = search (arith, take-append-drop)
 
 -- a block ends in the correction that follows from its data codewords
 pub block-passes : (n m : ℕ) (b correction : List ℕ) → m ≡ n → IsBlock n b →
     ((e : List ℕ) → IsCorrection (take (length b - m) b) n e → e ≡ correction) → correction ≡ drop (length b - m) b
 block-passes n m b correction e h only =
     sym (only (drop (length b - m) b)
-    (subst (λ (z : ℕ). IsCorrection (take (length b - z) b) n (drop (length b - z) b)) (sym e) (block-corrects n b h)))
+    (search (arith, block-corrects)))
 
 -- a list differs from itself in no item
 pub differences-same : (xs : List ℕ) → differences xs xs ≡ 0
 differences-same [] = refl
-differences-same (x ∷ xs) =
-    let e = difference-same x x refl in
-    let f = differences-same xs in
-    omega (arith, e, f)
+differences-same (x ∷ xs) = omega (arith, difference-same, differences-same xs)
 
 -- a block is a damaged form of itself
 pub mended-same : (n t : ℕ) (b : List ℕ) → IsBlock n b → IsMended n t b b
-mended-same n t b h = record { block = h; long = refl; near = omega (arith, differences-same b) }
+mended-same n t b h = search (arith, differences-same)
 
 -- two blocks of the same length with the same data codewords are equal
 blocks-one : (n : ℕ) (b c : List ℕ) → (g : IsBlock n b) → (h : IsBlock n c) → g.message ≡ h.message → b ≡ c
 blocks-one n b c g h e =
     let f : g.correction ≡ h.correction =
-    correction-one h.message n g.correction h.correction
-    (subst (λ (z : List ℕ). IsCorrection z n g.correction) e g.corrects) h.corrects in
-    g.whole ∙ (ap (λ z. z ++ g.correction) e ∙ (ap (λ z. h.message ++ z) f ∙ sym h.whole))
+    correction-one h.message n g.correction h.correction (rw e at g.corrects) h.corrects in
+    cc
 
 -- the law of mended blocks with erasures
 pub erasures-one : (n spare : ℕ) (read : List (Option ℕ)) (b c : List ℕ) → length read ≤ 255 → spare ≤ n →
@@ -247,27 +207,18 @@ erasures-one n spare read b c most enough g h =
     unambiguous-known n t x.message x.correction y.message y.correction read x.corrects y.corrects
     (omega (arith, lx, ly, g.long, h.long))
     (omega (arith, all, ap length x.whole, x.corrects.count, g.long)) (omega (arith, g.near, enough))
-    (subst (λ (z : List ℕ). errors read z ≤ t) x.whole gt)
-    (subst (λ (z : List ℕ). errors read z ≤ t) y.whole ht) in
+    (rw x.whole at gt) (rw y.whole at ht) in
     blocks-one n b c x y e
 
 -- a block of which all codewords were read is mended with erasures as it is without
 pub read-mended : (n spare : ℕ) (damaged b : List ℕ) → IsMended n (spare / 2) damaged b →
     IsMendedWithErasures n spare (map (λ x. Some x) damaged) b
-read-mended n spare damaged b m = record {
-  block = m.block;
-  long = m.long ∙ sym (length-map damaged (λ x. Some x));
-  near = omega (arith, m.near, erasures-read damaged, errors-read damaged b);
-}
+read-mended n spare damaged b m = search (arith, length-map, erasures-read, errors-read)
 
 -- and the other way round: what is mended with erasures, if there are none, is mended without
 pub mended-read : (n spare : ℕ) (damaged b : List ℕ) →
     IsMendedWithErasures n spare (map (λ x. Some x) damaged) b → IsMended n (spare / 2) damaged b
-mended-read n spare damaged b m = record {
-  block = m.block;
-  long = m.long ∙ length-map damaged (λ x. Some x);
-  near = omega (arith, m.near, erasures-read damaged, errors-read damaged b);
-}
+mended-read n spare damaged b m = search (arith, length-map, erasures-read, errors-read)
 
 -- the law of mended blocks
 pub mended-one : (n t : ℕ) (damaged b c : List ℕ) → length damaged ≤ 255 → 2 * t ≤ n → IsMended n t damaged b →
@@ -275,6 +226,5 @@ pub mended-one : (n t : ℕ) (damaged b c : List ℕ) → length damaged ≤ 255
 mended-one n t damaged b c most half g h =
     let turn : t ≡ 2 * t / 2 = omega arith in
     let known : (z : List ℕ) → IsMended n t damaged z → IsMendedWithErasures n (2 * t) (map (λ x. Some x) damaged) z =
-    λ z m. read-mended n (2 * t) damaged z (subst (λ (k : ℕ). IsMended n k damaged z) turn m) in
-    erasures-one n (2 * t) (map (λ x. Some x) damaged) b c (omega (arith, most, length-map damaged (λ x. Some x))) half
-    (known b g) (known c h)
+    λ z m. read-mended n (2 * t) damaged z (rw turn at m) in
+    search (arith, erasures-one, length-map)

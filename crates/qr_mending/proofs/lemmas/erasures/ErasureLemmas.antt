@@ -1,13 +1,14 @@
 -- Erased codewords. Each error is multiplied by the value of a polynomial that has a root for each erased codeword. Then
 -- only as many errors are left as codewords were misread. A polynomial that locates the errors left, times those roots,
 -- locates all errors.
-use Rattle.std.proofs.Common.{◌≡◌, ℕ, zero, suc, ◌+◌, ◌-◌, ◌*◌, ◌/◌, ◌<◌, ◌≤◌, Bool, true, false, Some, List, [], ◌∷◌, ◌++◌, length, map, replicate, take, drop, get_or, refl, sym, ap, ◌∙◌, subst, arith, lit<, bit_xor}
+use Rattle.std.proofs.Common.{◌≡◌, ℕ, zero, suc, ◌+◌, ◌-◌, ◌*◌, ◌/◌, ◌<◌, ◌≤◌, Bool, true, false, Some, List, [], ◌∷◌, ◌++◌, length, map, replicate, take, drop, get_or, refl, sym, ap, ◌∙◌, arith, lit<, bit_xor}
 use Rattle.std.specs.List.{All, count_by}
 use Rattle.std.specs.Int.Bits.{xor_self}
 use Rattle.std.proofs.lemmas.List.{drop_more}
 use Rattle.std.proofs.lemmas.List.Elements.{All-nil, All-cons, All-head, All-tail}
 use Rattle.qr_field.specs.Galois.{product}
 use Rattle.qr_field.specs.Polynomial.{IsByte, plus, power}
+use Rattle.qr_field.specs.Steps.Polynomial.{value_at}
 use Rattle.qr_field.specs.Distance.{difference, erasures, errors}
 use Rattle.qr_field.proofs.lemmas.galois.ByteLemmas.{product-by_zero, product-of_zero}
 use Rattle.qr_field.proofs.lemmas.logarithm.PowerLemmas.{power-lt}
@@ -43,15 +44,9 @@ read-unmarked (x ∷ xs) (suc k) = ap (λ z. Some x ∷ z) (read-unmarked xs k)
 -- no codeword is misread beside what was read itself
 pub errors-self : (xs : List ℕ) (es : List Bool) → errors (read_of xs es) xs ≡ 0
 errors-self [] es = refl
-errors-self (x ∷ xs) [] =
-    let here = difference-same x x refl in
-    let rest = errors-self xs [] in
-    omega (arith, here, rest)
+errors-self (x ∷ xs) [] = omega (arith, difference-same x x refl, errors-self xs [])
 errors-self (x ∷ xs) (true ∷ es) = errors-self xs es
-errors-self (x ∷ xs) (false ∷ es) =
-    let here = difference-same x x refl in
-    let rest = errors-self xs es in
-    omega (arith, here, rest)
+errors-self (x ∷ xs) (false ∷ es) = omega (arith, difference-same x x refl, errors-self xs es)
 
 -- the number of erased codewords is the number of marked ones
 pub erasures-marked : (xs : List ℕ) (es : List Bool) → length es ≡ length xs →
@@ -59,14 +54,8 @@ pub erasures-marked : (xs : List ℕ) (es : List Bool) → length es ≡ length 
 erasures-marked [] [] h = refl
 erasures-marked [] (e ∷ es) h = absurd (omega arith)
 erasures-marked (x ∷ xs) [] h = absurd (omega arith)
-erasures-marked (x ∷ xs) (true ∷ es) h =
-    let rest = erasures-marked xs es (omega (arith, h)) in
-    let more = count-more true es in
-    omega (arith, rest, more)
-erasures-marked (x ∷ xs) (false ∷ es) h =
-    let rest = erasures-marked xs es (omega (arith, h)) in
-    let more = count-more false es in
-    omega (arith, rest, more)
+erasures-marked (x ∷ xs) (true ∷ es) h = omega (arith, erasures-marked xs es (omega (arith, h)), count-more true es)
+erasures-marked (x ∷ xs) (false ∷ es) h = omega (arith, erasures-marked xs es (omega (arith, h)), count-more false es)
 
 -- 1 if a codeword is misread, 0 if it is read as it should be or is erased
 abbrev pub misread : Bool → ℕ → ℕ → ℕ
@@ -86,17 +75,14 @@ pub errors-more : (xs ys : List ℕ) (es : List Bool) (k : ℕ) (b : Bool) → 0
 errors-more xs ys es k b some l he hy h =
     let i = k - 1 in
     let next : i + 1 ≡ k = omega (arith, some) in
-    let x = get_or xs i 0 in
-    let y = get_or ys i 0 in
-    let dx : drop i xs ≡ x ∷ drop k xs = drop_more xs i 0 (omega (arith, some, l)) ∙ ap (λ z. x ∷ drop z xs) next in
-    let dy : drop i ys ≡ y ∷ drop k ys = drop_more ys i 0 (omega (arith, some, l, hy)) ∙ ap (λ z. y ∷ drop z ys) next in
-    let de : drop i es ≡ b ∷ drop k es =
-    drop_more es i false (omega (arith, some, l, he))
-    ∙ (ap (λ z. z ∷ drop (i + 1) es) h ∙ ap (λ z. b ∷ drop z es) next) in
-    ap (λ z. errors (read_of z (drop i es)) (drop i ys)) dx
-    ∙ (ap (λ z. errors (read_of (x ∷ drop k xs) z) (drop i ys)) de
-    ∙ (ap (λ z. errors (read_of (x ∷ drop k xs) (b ∷ drop k es)) z) dy
-    ∙ errors-cons b x y (drop k xs) (drop k ys) (drop k es)))
+    cc (
+      next,
+      h,
+      drop_more xs i 0 (omega (arith, some, l)),
+      drop_more ys i 0 (omega (arith, some, l, hy)),
+      drop_more es i false (omega (arith, some, l, he)),
+      errors-cons b (get_or xs i 0) (get_or ys i 0) (drop k xs) (drop k ys) (drop k es),
+    )
 
 -- ---- the errors that are left
 
@@ -120,19 +106,15 @@ weighted-few g (x ∷ xs) (y ∷ ys) (true ∷ es) lg le h k r =
     let e = plus xs ys in
     let count = length-plus xs ys (omega (arith, h)) in
     let same : length e ≡ length es = omega (arith, count, h, k) in
-    let none : product c (eval (power (length e)) g) ≡ 0 =
-    ap (λ t. product c (eval (power t) g)) same ∙ (ap (product c) r.0 ∙ product-by_zero c (All-head IsByte c e le)) in
-    let one = difference-same (product c (eval (power (length e)) g)) 0 none in
+    let none : product c (eval (power (length e)) g) ≡ 0 = cc (same, r.0, product-by_zero c (All-head IsByte c e le)) in
     let rest = weighted-few g xs ys es lg (All-tail IsByte c e le) (omega (arith, h)) (omega (arith, k)) r.1 in
-    omega (arith, one, rest)
+    omega (arith, difference-same (product c (eval (power (length e)) g)) 0 none, rest)
 weighted-few g (x ∷ xs) (y ∷ ys) (false ∷ es) lg le h k r =
     let c = bit_xor x y in
     let e = plus xs ys in
     let z = eval (power (length e)) g in
-    let lz = eval-lt (power (length e)) g (power-lt (length e)) lg in
-    let head = difference-product c z lz in
-    let same : difference c 0 ≡ difference x y =
-    difference-alike c 0 x y (sum-none x y) (λ f. ap (λ t. bit_xor t y) f ∙ xor_self y) in
+    let head = difference-product c z (eval-lt (power (length e)) g (power-lt (length e)) lg) in
+    let same = difference-alike c 0 x y (sum-none x y) (λ f. rw f (xor_self y)) in
     let rest = weighted-few g xs ys es lg (All-tail IsByte c e le) (omega (arith, h)) (omega (arith, k)) r in
     omega (arith, head, same, rest)
 
@@ -141,8 +123,8 @@ pub modified-more : (p s e items new : List ℕ) (i v : ℕ) → All IsByte p �
     i + length p ≤ length s → length items ≡ i → HasValues items (weighted p e) → v ≡ dot_of p (drop i s) →
     new ≡ items ++ v ∷ [] → HasValues new (weighted p e)
 modified-more p s e items new i v lp le h l count now value push =
-    subst (λ (z : List ℕ). HasValues z (weighted p e)) (sym push)
-    (values-more items i v (weighted p e) count now (value ∙ (dot-blend p i s e h l ∙ sym (weighted-value p i e lp le))))
+    let next : v ≡ value_at i (weighted p e) = cc (value, dot-blend p i s e h l, weighted-value p i e lp le) in
+    rw push (values-more items i v (weighted p e) count now next)
 
 -- ---- all errors
 
@@ -157,11 +139,9 @@ joined-root es q e lq le roots m l n =
     let g = unread es in
     let z = eval x g in
     let lz = eval-lt x g lx (bytes-unread es) in
-    let w = eval x q in
-    let lw = eval-lt x q lx lq in
     let split = eval-rooted x es q lx lq in
-    let some : z ≡ 0 → ⊥ = λ h. n (split ∙ (ap (λ t. product t w) h ∙ product-of_zero w lw)) in
-    let other : w ≡ 0 → ⊥ = λ h. n (split ∙ (ap (product z) h ∙ product-by_zero z lz)) in
+    let some : z ≡ 0 → ⊥ = λ h. n (cc (split, h, product-of_zero (eval x q) (eval-lt x q lx lq))) in
+    let other : eval x q ≡ 0 → ⊥ = λ h. n (cc (split, h, product-by_zero z lz)) in
     product-factor (coefficient m e) z (coefficient-lt m e le) lz some
     (sym (coefficient-weighted m g e (bytes-unread es)) ∙ roots m (omega (arith, length-weighted g e, l)) other)
 
@@ -175,25 +155,24 @@ pub erasures-leave : (n spare t : ℕ) (damaged first modified items : List ℕ)
     items ≡ plus damaged e) →
     t ≡ (spare - count_by (λ e. e) es) / 2 → (b : List ℕ) → IsMendedWithErasures n spare (read_of damaged es) b → items ≡ b
 erasures-leave n spare t damaged first modified items es p most marks a h l left half d monic fits bytes solved sum tolerance b m =
-    let block = m.block in
     let long : length b ≡ length damaged = m.long ∙ length-read damaged es in
-    let near : errors (read_of damaged es) b ≤ t =
-    omega (arith, m.near, erasures-marked damaged es marks, tolerance) in
+    let near : errors (read_of damaged es) b ≤ t = omega (arith, m.near, erasures-marked damaged es marks, tolerance) in
     let e = plus damaged b in
     let q = all_of p in
     let count : length e ≡ length b = length-plus damaged b (omega (arith, long)) in
-    let le : All IsByte e = bytes-plus damaged b a (bytes-block n b block) in
-    let ve = errors-values n damaged b first block long a h l in
+    let le = bytes-plus damaged b a (bytes-block n b m.block) in
+    let ve = errors-values n damaged b first m.block long a h l in
     let small : length e ≤ 255 = omega (arith, count, long, most) in
     let g = unread es in
     let lg = bytes-unread es in
-    let rest = weighted g e in
     let none = rooted-roots es (1 ∷ []) (All-cons IsByte 1 [] (lit< tt) (All-nil IsByte)) in
-    let few : weight rest ≤ t = omega (arith, weighted-few g damaged b es lg le (sym long) marks none, near) in
-    let roots = solved-root t rest modified q p (bytes-weighted g e le) (omega (arith, length-weighted g e, small)) few
+    let few : weight (weighted g e) ≤ t = omega (arith, weighted-few g damaged b es lg le (sym long) marks none,
+        near) in
+    let roots = solved-root t (weighted g e) modified q p (bytes-weighted g e le)
+        (omega (arith, length-weighted g e, small)) few
     (left e le ve) half d fits bytes refl solved in
     let all = monic-rooted es (take p.degree p.terms) in
     let split : rooted es q ≡ all.0 ++ 1 ∷ [] = ap (rooted es) (all-low p monic fits) ∙ all.1 in
     let located = roots-locate (rooted es q) all.0 e split (bytes-rooted es q bytes) le small
-    (joined-root es q e bytes le roots) in
+        (joined-root es q e bytes le roots) in
     sum e (omega (arith, count, long)) located ve ∙ plus-cancel damaged b (sym long)

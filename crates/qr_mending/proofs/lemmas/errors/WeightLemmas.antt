@@ -10,16 +10,15 @@ use Rattle.qr_field.specs.Galois.{product}
 use Rattle.qr_field.specs.Polynomial.{IsByte, power}
 use Rattle.qr_field.specs.Steps.Polynomial.{value_at}
 use Rattle.qr_field.specs.Distance.{difference}
-use Rattle.qr_field.proofs.lemmas.galois.BitLemmas.{xor-swap}
 use Rattle.qr_field.proofs.lemmas.galois.ByteLemmas.{product-by_zero, product-of_zero}
-use Rattle.qr_field.proofs.lemmas.galois.ProductLemmas.{product-lt, product-xor}
-use Rattle.qr_field.proofs.lemmas.logarithm.PowerLemmas.{power-lt, power-add}
-use Rattle.qr_field.proofs.lemmas.galois.FieldLemmas.{product-assoc, product-front, product-by_sum, product-factor}
+use Rattle.qr_field.proofs.lemmas.galois.ProductLemmas.{product-lt}
+use Rattle.qr_field.proofs.lemmas.logarithm.PowerLemmas.{power-lt}
+use Rattle.qr_field.proofs.lemmas.galois.FieldLemmas.{product-factor}
 use Rattle.qr_field.proofs.lemmas.laws.ValueLemmas.{value-lt}
 use Rattle.qr_field.proofs.lemmas.laws.DistanceLemmas.{weight, weight-none, value-none, difference-same, difference-other, difference-most}
 use Rattle.qr_mending.specs.Steps.Sums.{eval, blend}
 use Rattle.qr_mending.specs.Steps.Errors.{coefficient, weighted}
-use Rattle.qr_mending.proofs.lemmas.sums.SumLemmas.{eval-lt}
+use Rattle.qr_mending.proofs.lemmas.sums.SumLemmas.{eval-lt, field_laws, power-next}
 
 -- there is a product for each error
 pub length-weighted : (p e : List ℕ) → length (weighted p e) ≡ length e
@@ -37,77 +36,46 @@ bytes-weighted p (c ∷ e) a =
 -- a multiple of an error differs from 0 only if the error does
 pub difference-product : (c z : ℕ) → z < 256 → difference (product c z) 0 ≤ difference c 0
 difference-product c z l = elim (cases_eq c 0) [
-  | inl f ↦
-      let none = difference-same (product c z) 0 (ap (λ t. product t z) f ∙ product-of_zero z l) in
-      omega (arith, none)
-  | inr n ↦
-      let one = difference-other c 0 n in
-      let most = difference-most (product c z) 0 in
-      omega (arith, one, most)
+  | inl f ↦ let none = difference-same (product c z) 0 (rw f (product-of_zero z l)) in omega (arith, none)
+  | inr n ↦ omega (arith, difference-other c 0 n, difference-most (product c z) 0)
 ]
 
 -- at most as many products differ from 0 as errors do
 weight-weighted : (p e : List ℕ) → All IsByte p → All IsByte e → weight (weighted p e) ≤ weight e
 weight-weighted p [] b a = omega arith
 weight-weighted p (c ∷ e) b a =
-    let z = eval (power (length e)) p in
-    let lz = eval-lt (power (length e)) p (power-lt (length e)) b in
-    let head = difference-product c z lz in
-    let rest = weight-weighted p e b (All-tail IsByte c e a) in
-    omega (arith, head, rest)
+    let x = power (length e) in
+    let head = difference-product c (eval x p) (eval-lt x p (power-lt (length e)) b) in
+    omega (arith, head, weight-weighted p e b (All-tail IsByte c e a))
 
 -- with the empty polynomial, all products are 0
 weight-nothing : (e : List ℕ) → All IsByte e → weight (weighted [] e) ≡ 0
 weight-nothing [] a = refl
 weight-nothing (c ∷ e) a =
     let none = difference-same (product c 0) 0 (product-by_zero c (All-head IsByte c e a)) in
-    let rest = weight-nothing e (All-tail IsByte c e a) in
-    omega (arith, none, rest)
+    omega (arith, none, weight-nothing e (All-tail IsByte c e a))
 
 -- a polynomial with one coefficient more
+step-terms : (a c x z place v w : ℕ) → a < 256 → c < 256 → x < 256 → z < 256 → place < 256 → v < 256 →
+    bit_xor (product (product c (bit_xor a (product x z))) place) (bit_xor (product a v) w)
+    ≡ bit_xor (product a (bit_xor (product c place) v)) (bit_xor (product (product c z) (product x place)) w)
+step-terms a c x z place v w la lc lx lz lp lv = simp field_laws
+
 weighted-step : (a : ℕ) (p : List ℕ) (i : ℕ) (e : List ℕ) → a < 256 → All IsByte p → All IsByte e →
     value_at i (weighted (a ∷ p) e) ≡ bit_xor (product a (value_at i e)) (value_at (i + 1) (weighted p e))
-weighted-step a p i [] la lp le = sym (ap (λ t. bit_xor t 0) (product-by_zero a la) ∙ xor_zero_l 0)
+weighted-step a p i [] la lp le = cc (product-by_zero a la, xor_zero_l 0)
 weighted-step a p i (c ∷ e) la lp le =
-    let lc = All-head IsByte c e le in
-    let les = All-tail IsByte c e le in
     let m = length e in
-    let x = power m in
     let lx = power-lt m in
-    let z = eval x p in
-    let lz = eval-lt x p lx lp in
-    let place = power (i * m) in
-    let lpl = power-lt (i * m) in
-    let next = power ((i + 1) * m) in
-    let cz = product c z in
-    let lcz = product-lt c z lc in
-    let xz = product x z in
-    let lxz = product-lt x z lx in
-    let exponent : m + i * m ≡ (i + 1) * m = omega arith in
-    let first : product (product c a) place ≡ product a (product c place) =
-    product-assoc c a place lc la lpl ∙ product-front c a place lc la lpl in
-    let second : product (product c xz) place ≡ product cz next =
-    ap (λ t. product t place) (product-front c x z lc lx lz)
-    ∙ (product-assoc x cz place lx lcz lpl
-    ∙ (product-front x cz place lx lcz lpl
-    ∙ ap (product cz) (sym (power-add m (i * m)) ∙ ap power exponent))) in
-    let head : product (product c (bit_xor a xz)) (power (i * length (weighted (a ∷ p) e))) ≡ bit_xor (product a (product c place)) (product cz next) =
-    ap (λ t. product (product c (bit_xor a xz)) (power (i * t))) (length-weighted (a ∷ p) e)
-    ∙ (ap (λ t. product t place) (product-by_sum c a xz lc la lxz)
-    ∙ (sym (product-xor (product c a) (product c xz) place (product-lt c a lc) (product-lt c xz lc))
-    ∙ (ap (λ t. bit_xor t (product (product c xz) place)) first
-    ∙ ap (bit_xor (product a (product c place))) second))) in
-    let v = value_at i e in
-    let w = value_at (i + 1) (weighted p e) in
-    let joined : bit_xor (product a (product c place)) (product a v) ≡ product a (bit_xor (product c place) v) =
-    sym (product-by_sum a (product c place) v la (product-lt c place lc) (value-lt i e les)) in
-    let back : bit_xor (product cz next) w ≡ value_at (i + 1) (weighted p (c ∷ e)) =
-    ap (λ t. bit_xor (product cz (power ((i + 1) * t))) w) (sym (length-weighted p e)) in
-    ap (λ t. bit_xor t (value_at i (weighted (a ∷ p) e))) head
-    ∙ (ap (bit_xor (bit_xor (product a (product c place)) (product cz next))) (weighted-step a p i e la lp les)
-    ∙ (xor-swap (product a (product c place)) (product cz next) (product a v) w
-    ∙ (ap (λ t. bit_xor t (bit_xor (product cz next) w)) joined
-    ∙ ap (bit_xor (product a (bit_xor (product c place) v))) back)))
+    let les = All-tail IsByte c e le in
+    cc (
+      step-terms a c (power m) (eval (power m) p) (power (i * m)) (value_at i e) (value_at (i + 1) (weighted p e))
+          la (All-head IsByte c e le) lx (eval-lt (power m) p lx lp) (power-lt (i * m)) (value-lt i e les),
+      weighted-step a p i e la lp les,
+      length-weighted (a ∷ p) e,
+      length-weighted p e,
+      power-next i m,
+    )
 
 -- the values of the products are sums of the coefficients times the values of the errors
 pub weighted-value : (p : List ℕ) (i : ℕ) (e : List ℕ) → All IsByte p → All IsByte e →
@@ -129,10 +97,7 @@ weighted-none t p e lp le most few h =
 
 -- a byte that does not differ from 0 is 0
 difference-none : (x : ℕ) → difference x 0 ≡ 0 → x ≡ 0
-difference-none x h = elim (cases_eq x 0) [
-  | inl e ↦ e
-  | inr n ↦ let one = difference-other x 0 n in absurd (omega (arith, one, h))
-]
+difference-none x h = elim (cases_eq x 0) [ inl e ↦ e | inr n ↦ absurd (omega (arith, difference-other x 0 n, h)) ]
 
 -- the coefficient of the highest power
 pub coefficient-head : (m c : ℕ) (e : List ℕ) → m ≡ length e → coefficient m (c ∷ e) ≡ c
@@ -148,16 +113,13 @@ weighted-root : (p e : List ℕ) → All IsByte p → All IsByte e → weight (w
 weighted-root p [] lp le w m l n = absurd (omega arith)
 weighted-root p (c ∷ e) lp le w m l n = elim (cases_eq m (length e)) [
   | inl h ↦
-      let x = power (length e) in
-      let z = eval x p in
-      let lz = eval-lt x p (power-lt (length e)) lp in
-      let none : difference (product c z) 0 ≡ 0 = omega (arith, w) in
-      coefficient-head m c e h
-      ∙ product-factor c z (All-head IsByte c e le) lz (λ f. n (ap (λ t. eval (power t) p) h ∙ f))
-      (difference-none (product c z) none)
+      let z = eval (power m) p in
+      let none = difference-none (product c z) (rw h (omega (arith, w))) in
+      rw (coefficient-head m c e h)
+      (product-factor c z (All-head IsByte c e le) (eval-lt (power m) p (power-lt m) lp) n none)
   | inr o ↦
-      coefficient-tail m c e o
-      ∙ weighted-root p e lp (All-tail IsByte c e le) (omega (arith, w)) m (omega (arith, o, l)) n
+      rw (coefficient-tail m c e o)
+      (weighted-root p e lp (All-tail IsByte c e le) (omega (arith, w)) m (omega (arith, o, l)) n)
 ]
 
 -- if there are at most t errors and their first t sums are 0, each error is at a root
@@ -172,23 +134,20 @@ root-weighted p [] lp le r = refl
 root-weighted p (c ∷ e) lp le r =
     let x = power (length e) in
     let z = eval x p in
-    let lz = eval-lt x p (power-lt (length e)) lp in
     let none : product c z ≡ 0 = elim (cases_eq z 0) [
-      | inl f ↦ ap (product c) f ∙ product-by_zero c (All-head IsByte c e le)
+      | inl f ↦ rw f (product-by_zero c (All-head IsByte c e le))
       | inr o ↦
-          let no : c ≡ 0 = sym (coefficient-head (length e) c e refl) ∙ r (length e) (omega arith) o in
-          ap (λ t. product t z) no ∙ product-of_zero z lz
+          cc (coefficient-head (length e) c e refl, r (length e) (omega arith) o,
+              product-of_zero z (eval-lt x p (power-lt (length e)) lp))
     ] in
-    let one = difference-same (product c z) 0 none in
     let rest = root-weighted p e lp (All-tail IsByte c e le)
     (λ m l n. sym (coefficient-tail m c e (λ h. omega (arith, h, l))) ∙ r m (omega (arith, l)) n) in
-    omega (arith, one, rest)
+    omega (arith, difference-same (product c z) 0 none, rest)
 
 -- if each error is at a root, all sums are 0
 pub root-blends : (p e : List ℕ) → All IsByte p → All IsByte e →
     ((m : ℕ) → m < length e → (eval (power m) p ≡ 0 → ⊥) → coefficient m e ≡ 0) → (i : ℕ) → blend p i e ≡ 0
-root-blends p e lp le r i =
-    sym (weighted-value p i e lp le) ∙ value-none i (weighted p e) (root-weighted p e lp le r)
+root-blends p e lp le r i = sym (weighted-value p i e lp le) ∙ value-none i (weighted p e) (root-weighted p e lp le r)
 
 -- a coefficient is a byte
 pub coefficient-lt : (m : ℕ) (e : List ℕ) → All IsByte e → coefficient m e < 256
@@ -206,12 +165,8 @@ coefficient-weighted m p (c ∷ e) lp =
     let x = product c (eval (power (length e)) p) in
     let same = length-weighted p e in
     elim (cases_eq m (length e)) [
-      | inl h ↦
-          coefficient-head m x (weighted p e) (h ∙ sym same)
-          ∙ (ap (λ t. product c (eval (power t) p)) (sym h)
-          ∙ ap (λ t. product t (eval (power m) p)) (sym (coefficient-head m c e h)))
+      | inl h ↦ cc (coefficient-head m x (weighted p e) (h ∙ sym same), coefficient-head m c e h, h)
       | inr o ↦
-          coefficient-tail m x (weighted p e) (λ h. o (h ∙ same))
-          ∙ (coefficient-weighted m p e lp
-          ∙ ap (λ t. product t (eval (power m) p)) (sym (coefficient-tail m c e o)))
+          cc (coefficient-tail m x (weighted p e) (λ h. o (h ∙ same)), coefficient-weighted m p e lp,
+              coefficient-tail m c e o)
     ]

@@ -21,15 +21,11 @@ tolerance-all = refl
 pub tolerance-bounds : (v : ℕ) (l : Level) → 1 ≤ v → v ≤ 40 → (2 ≤ tolerance_of v l) × (tolerance_of v l ≤ 15)
 tolerance-bounds v l a b =
     let t = every-at (λ l v. leb 2 (tolerance_of v l) && leb (tolerance_of v l) 15) tolerance-all l v a b in
-    (leb-true _ _ (&&-left (leb 2 (tolerance_of v l)) _ t), leb-true _ _ (&&-right (leb 2 (tolerance_of v l)) _ t))
+    search (arith, leb-true, &&-left, &&-right)
 
 -- a mended square has at least one block
 pub changes-some : (unknown : Grid) (g : Grid) (v : ℕ) (l : Level) (m : ℕ) (p : Content) (x : List ℕ) → IsMendedReading unknown g v l m p x → 1 ≤ length x
-changes-some unknown g v l m p x h =
-    let sized = h.form.sized in
-    let d = h.form.damaged.mended in
-    let w = blocks-sound l v sized.least sized.most in
-    omega (arith, d.many, w.some)
+changes-some unknown g v l m p x h = search (arith, blocks-sound)
 
 -- in each block at most as many codewords were changed as may be changed
 pub changes-few : (unknown : Grid) (g : Grid) (v : ℕ) (l : Level) (m : ℕ) (p : Content) (x : List ℕ) → IsMendedReading unknown g v l m p x → All (λ n. n ≤ tolerance_of v l) x

@@ -1,62 +1,40 @@
 -- Two symbols of a version that contain different messages lie far apart.
-use Rattle.std.proofs.Common.{◌≡◌, ℕ, zero, suc, ◌<◌, ◌≤◌, Bool, List, refl, ◌∙◌, ap, subst, inl, inr, arith}
-use Rattle.std.proofs.lemmas.Bool.{cases_lt, cases_eq}
+use Rattle.std.proofs.Common.{◌≡◌, ℕ, ◌<◌, ◌≤◌, List, subst, inl, inr, arith}
 use Rattle.std.proofs.lemmas.Bool.Decides.{nat_tests}
 use Rattle.qr_layout.specs.declared.level.Level.{Level}
-use Rattle.qr_layout.specs.Version.{side_of}
-use Rattle.qr_layout.specs.Format.{five_bits, format_word_of}
+use Rattle.qr_layout.specs.Format.{format_word_of}
 use Rattle.qr_layout.specs.Role.{second_place}
 use Rattle.qr_layout.proofs.Facts.{format-second}
 use Rattle.qr_matrix.proofs.Facts.{colour-square}
 use Rattle.qr_matrix.specs.BitRow.{has_bit}
-use Rattle.qr_symbol.specs.Symbol.{colour_by, colour_of, grid_of}
+use Rattle.qr_symbol.specs.Symbol.{colour_of, grid_of}
 use Rattle.qr_symbol.specs.Distance.{HeldMessage}
-use Rattle.qr_symbol.proofs.Facts.{format-read, level-one, level-small, messages-apart}
+use Rattle.qr_symbol.proofs.Facts.{format-read, messages-apart}
 use Rattle.qr_mending.specs.declared.format.FormatCopy.{FormatCopy}
 use Rattle.qr_mending.specs.declared.format.FormatCopy.TheVariants.{First, Second}
-use Rattle.qr_mending.specs.Format.{bit_difference, bit_differences, copy_bit}
+use Rattle.qr_mending.specs.Format.{bit_differences, copy_bit}
 use Rattle.qr_mending.specs.Distance.{FormatsLieApart, SomeBlockLiesApart, SymbolsLieApart}
-use Rattle.qr_mending.proofs.lemmas.format.FormatLemmas.{far}
+use Rattle.qr_mending.proofs.lemmas.format.FormatLemmas.{bits-alike, word-one}
 
 -- the places of the second copy are inside the square
 second-row : (s i : ℕ) → 21 ≤ s → i < 15 → (second_place s i).row < s
-second-row s i m l = elim (cases_lt i 8) [ inl k ↦ grind (arith, nat_tests) | inr k ↦ grind (arith, nat_tests) ]
+second-row s i m l = grind (arith, nat_tests)
 
 second-col : (s i : ℕ) → 21 ≤ s → i < 15 → (second_place s i).col < s
-second-col s i m l = elim (cases_lt i 8) [ inl k ↦ grind (arith, nat_tests) | inr k ↦ grind (arith, nat_tests) ]
+second-col s i m l = grind (arith, nat_tests)
 
 -- the bits of each copy in a symbol are those of the word of its level and mask
 pub shown : (copy : FormatCopy) (v : ℕ) (l : Level) (mask : ℕ) (cw : List ℕ) (i : ℕ) → 1 ≤ v → v ≤ 40 → mask < 8 → i < 15 →
     copy_bit copy (grid_of v l mask cw) i ≡ has_bit (format_word_of l mask) i
 unfolding colour_of
 shown First v l mask cw i p q h r = (format-read v l mask cw p q h).bits i r
-shown Second v l mask cw i p q h r =
-    let s = side_of v in
-    let m = second_place s i in
-    let a = second-row s i (omega arith) r in
-    let b = second-col s i (omega arith) r in
-    colour-square s (colour_of v l mask cw) m.row m.col a b ∙ ap (colour_by v l mask cw m.row m.col) (format-second v i p q r)
-
--- equal bits have equal numbers of differences
-pub bits-alike : (n : ℕ) (p q r s : ℕ → Bool) → ((i : ℕ) → i < n → p i ≡ r i) → ((i : ℕ) → i < n → q i ≡ s i) →
-    bit_differences n p q ≡ bit_differences n r s
-bits-alike zero p q r s f g = refl
-bits-alike (suc n) p q r s f g =
-    let here : bit_difference (p n) (q n) ≡ bit_difference (r n) (s n) =
-    ap (λ (z : Bool). bit_difference z (q n)) (f n (omega arith)) ∙ ap (bit_difference (r n)) (g n (omega arith)) in
-    let rest = bits-alike n p q r s (λ i l. f i (omega arith)) (λ i l. g i (omega arith)) in
-    omega (arith, here, rest)
+shown Second v l mask cw i p q h r = search (arith, second-row, second-col, colour-square, format-second)
 
 -- symbols of different levels or masks differ in at least seven modules of each copy of the format information
 formats-apart : (v : ℕ) (l k : Level) (m n : ℕ) (cw ds : List ℕ) → 1 ≤ v → v ≤ 40 → m < 8 → n < 8 →
-    (five_bits l m ≡ five_bits k n → ⊥) → FormatsLieApart (grid_of v l m cw) (grid_of v k n ds)
-unfolding format_word_of
-formats-apart v l k m n cw ds p q h j o = λ copy.
-    let s = level-small l in
-    let t = level-small k in
-    let apart = far (five_bits l m) (five_bits k n) (omega arith) (omega arith) o in
-    let same = bits-alike 15 (copy_bit copy (grid_of v l m cw)) (copy_bit copy (grid_of v k n ds)) (has_bit (format_word_of l m)) (has_bit (format_word_of k n)) (λ i r. shown copy v l m cw i p q h r) (λ i r. shown copy v k n ds i p q j r) in
-    omega (arith, apart, same)
+    7 ≤ bit_differences 15 (has_bit (format_word_of l m)) (has_bit (format_word_of k n)) →
+    FormatsLieApart (grid_of v l m cw) (grid_of v k n ds)
+formats-apart v l k m n cw ds p q h j far = search (arith, bits-alike, shown)
 
 -- different messages of one level differ in some block in more than twice as many codewords as can be mended
 blocks-apart : (v : ℕ) (l k : Level) (m : HeldMessage v l) (n : HeldMessage v k) → 1 ≤ v → v ≤ 40 → l ≡ k → (m.message ≡ n.message → ⊥)
@@ -67,12 +45,7 @@ blocks-apart v l k m n p q s o =
 
 -- the law of the distance of whole symbols
 pub symbols-apart : (v : ℕ) → 1 ≤ v → v ≤ 40 → SymbolsLieApart v
-symbols-apart v p q l k m n cw ds h j x y o =
-    elim (cases_eq (five_bits l m.mask) (five_bits k n.mask)) [
-      | inl s ↦
-          let t = level-small l in
-          let u = level-small k in
-          let same : l ≡ k = level-one l k (omega arith) in
-          inr (same, omega arith, blocks-apart v l k m n p q same (λ w. o (same, w)))
-      | inr other ↦ inl (rw (x, y) (formats-apart v l k m.mask n.mask cw ds p q h j other))
-    ]
+symbols-apart v p q l k m n cw ds h j x y o = elim (word-one l k m.mask n.mask h j) [
+  | inl e ↦ search (arith, blocks-apart)
+  | inr far ↦ search (arith, formats-apart)
+]

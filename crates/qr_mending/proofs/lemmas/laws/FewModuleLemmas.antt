@@ -1,5 +1,5 @@
 -- A symbol with few wrong modules is a damaged form of the symbol that it was.
-use Rattle.std.proofs.Common.{◌≡◌, ℕ, ◌<◌, ◌≤◌, List, [], ◌++◌, map, length, get_or, refl, sym, ◌∙◌, ap, subst, arith}
+use Rattle.std.proofs.Common.{◌≡◌, ℕ, ◌<◌, ◌≤◌, List, [], ◌++◌, map, length, get_or, refl, sym, ◌∙◌, arith}
 use Rattle.std.specs.List.{range_with_len, sum_by}
 use Rattle.std.proofs.lemmas.List.FromFn.{get_or-map-range_with_len, length-map-range_with_len}
 use Rattle.qr_field.specs.Distance.{difference, differences}
@@ -18,7 +18,8 @@ use Rattle.qr_mending.specs.Format.{copy_bit}
 use Rattle.qr_mending.specs.Message.{received, tolerance_of}
 use Rattle.qr_mending.specs.Mending.{HasFormat, HoldsDamaged}
 use Rattle.qr_mending.specs.Modules.{codeword_differences, DifferInFewModules}
-use Rattle.qr_mending.proofs.lemmas.laws.DistanceLemmas.{bits-alike, shown}
+use Rattle.qr_mending.proofs.lemmas.format.FormatLemmas.{bits-alike}
+use Rattle.qr_mending.proofs.lemmas.laws.DistanceLemmas.{shown}
 use Rattle.qr_mending.proofs.lemmas.message.MessageLemmas.{in-blocks-one, item, items-in-blocks, received-all, received-map}
 use Rattle.qr_mending.proofs.lemmas.laws.ModuleLemmas.{interleaved-near, items-near}
 use Rattle.qr_mending.proofs.lemmas.laws.UndamagedLemmas.{copy-light, final-parts}
@@ -26,21 +27,18 @@ use Rattle.qr_mending.proofs.lemmas.message.LightLemmas.{light-mended, IsPlainBl
 use Rattle.qr_mending.proofs.lemmas.message.MarkLemmas.{held-many}
 use Rattle.qr_mending.proofs.lemmas.mending.MendingLemmas.{sure-format}
 
--- the second copy shows the format information too
-second-shown : (v : ℕ) (l : Level) (mask : ℕ) (cw : List ℕ) (h : Grid) → 1 ≤ v → v ≤ 40 → mask < 8 → h ≡ grid_of v l mask cw →
-    (i : ℕ) → i < 15 → copy_bit Second h i ≡ has_bit (format_word_of l mask) i
-second-shown v l mask cw h p q m e i k = ap (λ (z : Grid). copy_bit Second z i) e ∙ shown Second v l mask cw i p q m k
-
 -- the format information of the square costs at most 12
 pub few-format : (v : ℕ) (l : Level) (mask : ℕ) (cw : List ℕ) (g h : Grid) → 1 ≤ v → v ≤ 40 → h ≡ grid_of v l mask cw → IsFormat h l mask →
     DifferInFewModules v l g h → HasFormat (light g.side) v g l mask
 few-format v l mask cw g h p q e f w =
-    let first = bits-alike 15 (copy_bit First g) (has_bit (format_word_of l mask)) (copy_bit First g) (copy_bit First h) (λ i k. refl) (λ i k. sym (f.bits i k)) in
-    let second = bits-alike 15 (copy_bit Second g) (has_bit (format_word_of l mask)) (copy_bit Second g) (copy_bit Second h) (λ i k. refl) (λ i k. sym (second-shown v l mask cw h p q f.in_range e i k)) in
-    let few = w.format in
-    let a = copy-light g.side First g l mask in
-    let b = copy-light g.side Second g l mask in
-    sure-format (light g.side) v g l mask f.in_range (omega (arith, first, second, few, a, b))
+    let word = has_bit (format_word_of l mask) in
+    let first = bits-alike 15 (copy_bit First g) word (copy_bit First g) (copy_bit First h) (λ i k. refl)
+        (λ i k. sym (f.bits i k)) in
+    let second = bits-alike 15 (copy_bit Second g) word (copy_bit Second g) (copy_bit Second h) (λ i k. refl)
+    (λ i k. rw e (sym (shown Second v l mask cw i p q f.in_range k))) in
+    let cost = copy-light g.side in
+    sure-format (light g.side) g v l mask f.in_range (omega (arith, first, second, w.format, cost First g l mask,
+        cost Second g l mask))
 
 -- a square that differs from a symbol in few modules contains a damaged form of its message
 pub few-held : (v : ℕ) (l : Level) (mask : ℕ) (g h : Grid) (d : List ℕ) → 1 ≤ v → v ≤ 40 → IsMessage v l mask h d →
@@ -68,22 +66,16 @@ few-held v l mask g h d p q m w =
     let near : (i : ℕ) → i < block_count own → count i ≤ sum_by (codeword_differences g h w.places) (received b ks js i) =
     λ i r.
     let x = received-map b (item cw) ks js i in
-    let first = same.0 in
-    let second = same.1 in
     let y : map (item sent) (received b ks js i) ≡ block i =
-    sym (received-map b (item sent) ks js i)
-    ∙ ((λ k. received b (first k) (second k) i) ∙ ap (λ (z : List ℕ). part_of own d i ++ z) (whole.same i r)) in
+    cc (received-map b (item sent) ks js i, same.0, same.1, whole.same i r) in
     let all = received-all b (λ k. difference (item cw k) (item sent k) ≤ codeword_differences g h w.places k) n ks js i
     (λ k r. interleaved-near v mask g h w.places cw sent k p q w.order read.1 m.read r) w.inside in
-    let few = items-near (codeword_differences g h w.places) cw sent (received b ks js i) all in
-    let there : count i ≡ differences (map (item cw) (received b ks js i)) (map (item sent) (received b ks js i)) =
-    λ k. differences (x k) (sym y k) in
-    omega (arith, few, there) in
+    search (arith, items-near) in
     let each : (i : ℕ) → i < block_count own → IsPlainBlock b (tolerance_of v l) xs es d (count i) i =
     λ i r. record {
       correction = get_or checks i [];
       corrects = m.interleaved.each i r;
-      near = let a = near i r in let few = w.few i r in omega (arith, a, few);
+      near = omega (arith, near i r, w.few i r);
       count = refl;
     } in (
       changed,
@@ -93,6 +85,6 @@ few-held v l mask g h d p q m w =
         mended =
             light-mended v mask g.side l g cw xs es d changed p q read.1 inside long
             (length-map-range_with_len count 0 (block_count own))
-            (λ i r. subst (λ (k : ℕ). IsPlainBlock b (tolerance_of v l) xs es d k i) (sym (get_or-map-range_with_len count 0 (block_count own) i i 0 r (omega arith))) (each i r));
+            (λ i r. rw (get_or-map-range_with_len count 0 (block_count own) i i 0 r (omega arith)) (each i r));
       },
     )

@@ -1,8 +1,7 @@
 -- A wrong module damages at most one codeword.
-use Rattle.std.proofs.Common.{◌≡◌, ℕ, zero, suc, ◌+◌, ◌<◌, ◌≤◌, Bool, true, false, not, cond, List, [], ◌∷◌, ◌++◌, map, get_or, refl, sym, ◌∙◌, ap, inl, inr, arith}
-use Rattle.std.proofs.lemmas.Bool.{cases_eq, cases_lt}
-use Rattle.std.proofs.lemmas.Bool.Decides.{nat_tests}
-use Rattle.std.proofs.lemmas.List.Elements.{All-head, All-tail}
+use Rattle.std.proofs.Common.{◌≡◌, ℕ, ◌<◌, ◌≤◌, Bool, true, not, cond, List, [], ◌∷◌, ◌++◌, map, get_or, refl, ap, arith}
+use Rattle.std.proofs.lemmas.List.Elements.{All-nil, All-cons, All-head, All-tail}
+use Rattle.qr_field.proofs.lemmas.laws.DistanceLemmas.{difference-most, difference-same}
 use Rattle.std.proofs.lemmas.List.Sums.{sum_by-cons}
 use Rattle.std.specs.List.{All, count_by, sum_by}
 use Rattle.qr_field.specs.Distance.{difference, differences}
@@ -11,9 +10,8 @@ use Rattle.qr_layout.specs.Order.{IsOrder}
 use Rattle.qr_layout.specs.Version.{total_codewords_of}
 use Rattle.qr_bits.specs.Bits.{bits_of, field}
 use Rattle.qr_matrix.specs.Difference.{differs}
-use Rattle.qr_matrix.specs.Grid.{Grid, colour}
+use Rattle.qr_matrix.specs.Grid.{Grid}
 use Rattle.qr_symbol.specs.Reading.{unmasked, IsRead}
-use Rattle.qr_symbol.specs.Mask.{inverted, inverts}
 use Rattle.qr_symbol.proofs.Facts.{bits-one}
 use Rattle.qr_mending.specs.Message.{modules_of}
 use Rattle.qr_mending.specs.Modules.{codeword_differences}
@@ -28,43 +26,27 @@ same-bits : (mask : ℕ) (g h : Grid) (ms : List Module) → count_by (λ m. dif
 same-bits mask g h [] e = refl
 same-bits mask g h (m ∷ ms) e =
     let more = sum_by-cons (λ (m : Module). cond (differs g h m.row m.col) 1 0) m ms in
-    let none : ◌≡◌ {A = ℕ} (cond (differs g h m.row m.col) 1 0) 0 = omega (arith, e, more) in
-    let here = ap (inverted (inverts mask m.row m.col)) (same-is (colour g m.row m.col) (colour h m.row m.col) (no-difference _ none)) in
-    let rest = same-bits mask g h ms (omega (arith, e, more)) in
-    λ i. here i ∷ rest i
+    search (arith, same-is, same-bits mask g h ms (omega (arith, e, more)))
   where
     no-difference : (b : Bool) → ◌≡◌ {A = ℕ} (cond (not b) 1 0) 0 → b ≡ true
-    no-difference true e = refl
-    no-difference false e = absurd (omega (arith, e))
+    no-difference b e = grind arith
 
 -- bytes with the same eight bits are equal
 byte-one : (a b : ℕ) → a < 256 → b < 256 → field 8 a ≡ field 8 b → a ≡ b
 unfolding bits_of
 byte-one a b l m e =
-    let same : a ∷ [] ≡ b ∷ [] = bits-one (a ∷ []) (b ∷ []) (single a l) (single b m) (ap (λ (z : List Bool). z ++ []) e) in
-    ap (λ (z : List ℕ). get_or z 0 0) same
-  where
-    single : (x : ℕ) → x < 256 → All (λ y. y < 256) (x ∷ [])
-    single x l zero d k = l
-    single x l (suc i) d k = absurd (omega (arith, k))
+    let single = λ (x : ℕ) (l : x < 256). All-cons (λ y. y < 256) x [] l (All-nil (λ y. y < 256)) in
+    cc (bits-one (a ∷ []) (b ∷ []) (single a l) (single b m) (ap (λ (z : List Bool). z ++ []) e))
 
 -- a codeword differs only if one of its modules differs
 codeword-near : (mask : ℕ) (g h : Grid) (ms : List Module) (a b : ℕ) → a < 256 → b < 256 →
     field 8 a ≡ map (unmasked mask g) ms → field 8 b ≡ map (unmasked mask h) ms → difference a b ≤ count_by (λ m. differs g h m.row m.col) ms
-codeword-near mask g h ms a b l m e f = elim (cases_eq a b) [
-  | inl same ↦ grind (arith, nat_tests)
-  | inr other ↦ elim (cases_lt 0 (count_by (λ m. differs g h m.row m.col) ms)) [
-    | inl some ↦ grind (arith, nat_tests)
-    | inr none ↦ absurd (other (byte-one a b l m (e ∙ (same-bits mask g h ms (omega (arith, none)) ∙ sym f))))
-  ]
-]
+codeword-near mask g h ms a b l m e f = search (arith, difference-most, byte-one, same-bits, difference-same)
 
 -- the bits of codeword j of a square are read from its eight modules
 held-codeword : (v mask : ℕ) (g : Grid) (ms : List Module) (cw : List ℕ) (j : ℕ) → 1 ≤ v → v ≤ 40 → IsOrder v ms →
     IsRead v mask g cw → j < total_codewords_of v → field 8 (get_or cw j 0) ≡ map (unmasked mask g) (modules_of ms j)
-held-codeword v mask g ms cw j p q o h l =
-    codeword-read (unmasked mask g) ms cw (total_codewords_of v) j (held-bits v mask g ms cw p q o h)
-    (held-many v mask g cw p q h) l
+held-codeword v mask g ms cw j p q o h l = search (arith, codeword-read, held-bits, held-many)
 
 -- codeword j of two squares differs only if one of its modules differs
 pub interleaved-near : (v mask : ℕ) (g h : Grid) (ms : List Module) (cs ds : List ℕ) (j : ℕ) → 1 ≤ v → v ≤ 40 → IsOrder v ms →
@@ -83,6 +65,4 @@ pub items-near : (f : ℕ → ℕ) (cs ds ks : List ℕ) → All (λ k. differen
 items-near f cs ds [] h = omega arith
 items-near f cs ds (k ∷ ks) h =
     let near : ℕ → Type 0 = λ k. difference (item cs k) (item ds k) ≤ f k in
-    let here = All-head near k ks h in
-    let rest = items-near f cs ds ks (All-tail near k ks h) in
-    omega (arith, here, rest, sum_by-cons f k ks)
+    omega (arith, All-head near k ks h, items-near f cs ds ks (All-tail near k ks h), sum_by-cons f k ks)

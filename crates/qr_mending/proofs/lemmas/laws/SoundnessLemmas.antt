@@ -1,17 +1,16 @@
 -- The number of wrong modules of a square, which is 0 exactly if the square is the symbol.
-use Rattle.std.proofs.Common.{◌≡◌, ℕ, ◌||◌, cond, List, sym, ◌∙◌, ap, subst, arith}
+use Rattle.std.proofs.Common.{◌≡◌, ℕ, List, arith}
 use Rattle.std.specs.Prelude.{◌↔◌}
 use Rattle.qr_layout.specs.declared.level.Level.{Level}
 use Rattle.qr_layout.specs.Blocks.{blocks_of}
 use Rattle.qr_layout.specs.Version.{side_of}
-use Rattle.qr_matrix.specs.Grid.{Grid, IsSquare, colour, light, square}
+use Rattle.qr_matrix.specs.Grid.{Grid, IsSquare, light}
 use Rattle.qr_mending.proofs.lemmas.format.FormatLemmas.{sum-same}
 use Rattle.qr_mending.proofs.lemmas.message.LightLemmas.{colour-light}
 use Rattle.qr_matrix.specs.Difference.{difference_count, differs}
 use Rattle.qr_matrix.specs.Sums.{places_passing}
 use Rattle.qr_matrix.proofs.Facts.{colour-square, no-difference, square-same}
-use Rattle.qr_symbol.specs.Interleaving.{IsInterleaved}
-use Rattle.qr_symbol.specs.Symbol.{colour_of, grid_of}
+use Rattle.qr_symbol.specs.Symbol.{grid_of}
 use Rattle.qr_symbol.proofs.Facts.{final-one}
 use Rattle.qr_mending.specs.Mending.{wrong_modules, DiffersFromSymbol, HasWrongModules}
 use Rattle.qr_mending.proofs.lemmas.mending.MendingLemmas.{form-one}
@@ -20,47 +19,26 @@ use Rattle.qr_mending.proofs.lemmas.mending.MendingLemmas.{form-one}
 pub differs-one : (unknown : Grid) (g : Grid) (v w : ℕ) (l k : Level) (m n : ℕ) (p q : List ℕ) (a b : ℕ) → v ≡ w → l ≡ k → m ≡ n → p ≡ q →
     DiffersFromSymbol unknown g v l m p a → DiffersFromSymbol unknown g w k n q b → a ≡ b
 differs-one unknown g v w l k m n p q a b ev el em ep h j =
-    let here : IsInterleaved v l p j.codewords =
-    subst (λ (z : ℕ). IsInterleaved z l p j.codewords) (sym ev)
-    (subst (λ (z : Level). IsInterleaved w z p j.codewords) (sym el)
-    (subst (λ (z : List ℕ). IsInterleaved w k z j.codewords) (sym ep) j.interleaved)) in
-    let same : h.codewords ≡ j.codewords = final-one (blocks_of v l) p h.codewords j.codewords h.interleaved here in
-    let grids : grid_of v l m h.codewords ≡ grid_of w k n j.codewords =
-    ap (λ (z : ℕ). grid_of z l m h.codewords) ev
-    ∙ (ap (λ (z : Level). grid_of w z m h.codewords) el
-    ∙ (ap (λ (z : ℕ). grid_of w k z h.codewords) em ∙ ap (grid_of w k n) same)) in
-    h.count ∙ (ap (wrong_modules unknown g) grids ∙ sym j.count)
+    cc (final-one (blocks_of v l) p h.codewords j.codewords h.interleaved (rw (ev, el, ep) j.interleaved))
 
 -- a square has at most one number of wrong modules
 pub wrong-one : (unknown : Grid) (g : Grid) (v w : ℕ) (l k : Level) (m n : ℕ) (x y : List ℕ) (a b : ℕ) → HasWrongModules unknown g v l m x a →
     HasWrongModules unknown g w k n y b → a ≡ b
 wrong-one unknown g v w l k m n x y a b h j =
     let o = form-one unknown g v w l k m n h.message j.message x y h.form j.form in
-    differs-one unknown g v w l k m n h.message j.message a b o.0 o.1 o.2 o.3 h.differs j.differs
+    search (arith, differs-one)
 
 -- a square with the side of a symbol is this symbol exactly if no module differs
 same-square : (g : Grid) (v : ℕ) (l : Level) (mask : ℕ) (cw : List ℕ) → IsSquare g.side g → g.side ≡ side_of v →
     (difference_count g (grid_of v l mask cw) ≡ 0) ↔ (g ≡ grid_of v l mask cw)
-same-square g v l mask cw whole side =
-    let none = no-difference g (grid_of v l mask cw) in (
-      (λ e.
-          whole
-          ∙ (square-same g.side (colour g) (colour_of v l mask cw)
-          (λ r c p q. none.0 e r c p q ∙ colour-square (side_of v) (colour_of v l mask cw) r c (omega arith) (omega arith))
-          ∙ ap (λ (z : ℕ). square z (colour_of v l mask cw)) side)),
-      (λ e. none.1 (λ r c p q. ap (λ (z : Grid). colour z r c) e)),
-    )
+same-square g v l mask cw whole side = search (arith, no-difference, square-same, colour-square)
 
 -- with all modules read, the wrong modules are those that differ
 wrong-light : (g h : Grid) → wrong_modules (light g.side) g h ≡ difference_count g h
 unfolding wrong_modules difference_count places_passing
-wrong-light g h =
-    sum-same g.side _ _ (λ r k. sum-same g.side _ _ (λ c l. ap (λ z. cond (z || differs g h r c) 1 0) (colour-light g.side r c)))
+wrong-light g h = search (arith, sum-same, colour-light)
 
 -- no module is wrong exactly if the square is the symbol
 pub sound-is : (g : Grid) (v : ℕ) (l : Level) (mask : ℕ) (changed : List ℕ) (wrong : ℕ) → IsSquare g.side g →
     (w : HasWrongModules (light g.side) g v l mask changed wrong) → (wrong ≡ 0) ↔ (g ≡ grid_of v l mask w.differs.codewords)
-sound-is g v l mask changed wrong whole w =
-    let same = same-square g v l mask w.differs.codewords whole w.form.sized.side in
-    let light = wrong-light g (grid_of v l mask w.differs.codewords) in
-    ((λ e. same.0 (sym light ∙ (sym w.differs.count ∙ e))), (λ e. w.differs.count ∙ (light ∙ same.1 e)))
+sound-is g v l mask changed wrong whole w = search (arith, same-square, wrong-light)

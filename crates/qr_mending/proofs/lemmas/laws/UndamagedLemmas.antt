@@ -1,9 +1,8 @@
 -- A square that is read without mending is read as the same content with mending, and no codeword is changed.
-use Rattle.std.proofs.Common.{◌≡◌, ℕ, zero, suc, ◌+◌, ◌*◌, ◌<◌, ◌≤◌, Bool, true, false, cond, not, ◌&&◌, List, [], ◌++◌, map, take, drop, length, get_or, refl, sym, ◌∙◌, ap, subst, arith}
+use Rattle.std.proofs.Common.{◌≡◌, ℕ, zero, suc, ◌+◌, ◌*◌, ◌<◌, ◌≤◌, Bool, false, cond, not, ◌&&◌, List, [], ◌++◌, map, drop, length, get_or, refl, ◌∙◌, arith}
 use Rattle.std.proofs.lemmas.List.{length-map, take_all, take_at, drop_at, get_or-take, get_or-drop, ext_get_or, length-replicate, get_or-replicate}
 use lib.ListN.{replicate}
 use Rattle.qr_field.specs.Polynomial.{IsCorrection}
-use Rattle.qr_field.specs.Distance.{differences}
 use Rattle.qr_mending.proofs.lemmas.block.BlockLemmas.{differences-same}
 use Rattle.qr_layout.specs.declared.blocks.Blocks.{Blocks}
 use Rattle.qr_layout.specs.declared.level.Level.{Level}
@@ -25,7 +24,8 @@ use Rattle.qr_mending.specs.Mending.{HasFormat, IsMendedReading}
 use Rattle.qr_symbol.proofs.Facts.{start-none, position, positions-many, check-len, checks-push, map-each, checks-one, data-sizes-whole}
 use Rattle.qr_mending.proofs.lemmas.message.MessageLemmas.{part-len}
 use Rattle.qr_mending.proofs.lemmas.message.LightLemmas.{colour-light, light-mended}
-use Rattle.qr_mending.proofs.lemmas.mending.MendingLemmas.{first-best}
+use Rattle.qr_mending.proofs.lemmas.mending.MendingLemmas.{best}
+use Rattle.qr_mending.proofs.lemmas.format.FormatLemmas.{bits-alike}
 
 -- ---- codewords
 
@@ -33,25 +33,13 @@ use Rattle.qr_mending.proofs.lemmas.mending.MendingLemmas.{first-best}
 checks-some : (b : Blocks) (d : List ℕ) (cs : List (List ℕ)) (k : ℕ) → k ≤ block_count (data_sizes b) →
     ((i : ℕ) → i < block_count (data_sizes b) → IsCorrection (block_of b d i) b.ec_len (get_or cs i [])) →
     (es : List ℕ) × IsChecks b d k es
-checks-some b d cs zero l h = (
-  [],
-  record {
-    corrections = [];
-    count = refl;
-    each = λ i m. absurd (omega arith);
-    long = sym (start-none (correction_sizes b));
-    same = λ t m i. absurd (omega arith);
-  },
-)
+checks-some b d cs zero l h = search (arith, start-none)
 checks-some b d cs (suc k) l h =
     let before = checks-some b d cs k (omega arith) h in
     let more = before.0 ++ get_or cs k [] in
     let here : k < block_count (data_sizes b) = omega arith in
-    let next : k + 1 ≡ suc k = omega arith in (
-      more,
-      subst (λ (n : ℕ). IsChecks b d n more) next
-          (checks-push b d before.0 more (get_or cs k []) k here before.1 (h k here) refl),
-    )
+    let next : k + 1 ≡ suc k = omega arith in
+    (more, rw next at (checks-push b d before.0 more (get_or cs k []) k here before.1 (h k here) refl))
 
 -- one block of these error correction codewords
 check-part : (b : Blocks) (d es : List ℕ) (cs : List (List ℕ)) →
@@ -66,9 +54,13 @@ check-part b d es cs h e i l c =
     let long = part-len sizes es i whole within in
     ext_get_or 0 (part_of sizes es i) (get_or cs i []) (omega (arith, long, n, c.count)) (λ k m.
     let small : k < block_len sizes i = omega (arith, m, long) in
-    get_or-take (block_len sizes i) (drop (start_of sizes i) es) k 0 small
-    ∙ (get_or-drop (start_of sizes i) es k 0
-    ∙ (h.same (position k i) l (within, small) ∙ ap (λ (zs : List (List ℕ)). get_or (get_or zs i []) k 0) e)))
+    let rest = drop (start_of sizes i) es in
+    cc (
+      get_or-take (block_len sizes i) rest k 0 small,
+      get_or-drop (start_of sizes i) es k 0,
+      h.same (position k i) l (within, small),
+      e,
+    ))
 
 -- the data codewords and the error correction codewords of a final sequence, both gathered
 pub record FinalParts (b : Blocks) (d cw : List ℕ) (corrections : List (List ℕ)) : Type 0 where
@@ -88,33 +80,18 @@ final-parts b d cw n h =
     checks-one b d (block_count own) ch.corrections h.corrections ch.count h.count ch.each h.each in
     let first = map (codeword_at own d) h.data_positions in
     let last = map (codeword_at sizes es) h.check_positions in
-    let read : last ≡ map (check_at h.corrections) h.check_positions =
-    map-each (IsPosition sizes) (codeword_at sizes es) (check_at ch.corrections) h.check_positions h.check_order.in_blocks (λ u i. ch.same u (let l = i.0 in omega arith) i)
-    ∙ ap (λ (zs : List (List ℕ)). map (check_at zs) h.check_positions) same in
-    let whole : cw ≡ first ++ last = h.whole ∙ ap (λ (zs : List ℕ). first ++ zs) (sym read) in
+    let each = map-each (IsPosition sizes) (codeword_at sizes es) (check_at ch.corrections) h.check_positions
+        h.check_order.in_blocks
+    (λ u i. ch.same u (let l = i.0 in omega arith) i) in
+    let whole : cw ≡ first ++ last = cc (each, same, h.whole) in
     let many = positions-many own h.data_positions h.data_order in
     let rest = positions-many sizes h.check_positions h.check_order in
     let front : length first ≡ codeword_count own = length-map h.data_positions (codeword_at own d) ∙ many in
     let back : length last ≡ codeword_count sizes = length-map h.check_positions (codeword_at sizes es) ∙ rest in
-    let after : drop (codeword_count own) cw ≡ last = ap (drop (codeword_count own)) whole ∙ drop_at first last (codeword_count own) front in
+    let after : drop (codeword_count own) cw ≡ last = cc (whole, drop_at first last (codeword_count own) front) in
     record {
       checks = es;
-      inside = record {
-        gathered = record {
-          long = n;
-          positions = h.data_positions;
-          order = h.data_order;
-          many = many;
-          same = sym (ap (take (codeword_count own)) whole ∙ take_at first last (codeword_count own) front);
-        };
-        rest = record {
-          long = omega (arith, ch.long);
-          positions = h.check_positions;
-          order = h.check_order;
-          many = rest;
-          same = sym (ap (take (codeword_count sizes)) after ∙ take_all (codeword_count sizes) last (omega (arith, back)));
-        };
-      };
+      inside = search (arith, take_at, take_all);
       same = λ i l. check-part b d es h.corrections ch same i l (h.each i l);
     }
 
@@ -129,121 +106,70 @@ final-mended v mask s l g d cw p q r n h =
     light-mended v mask s l g cw d w.checks d (replicate (block_count own) 0) p q r w.inside n
     (length-replicate (block_count own) 0)
     (λ i k.
-    let none = get_or-replicate (block_count own) i 0 0 k in
+    let none = get_or-replicate {A = ℕ} (block_count own) i 0 0 k in
     let c = get_or h.corrections i [] in
     let block = part_of own d i ++ c in
     record {
       correction = c;
       corrects = h.each i k;
       near = omega (arith, none);
-      count = none ∙ (sym (differences-same block) ∙ ap (λ (z : List ℕ). differences (part_of own d i ++ z) block) (sym (w.same i k)));
+      count = cc (none, differences-same block, w.same i k);
     })
 
 -- ---- format information
 
--- a bit does not differ from itself
-bit-same : (a : Bool) → bit_difference a a ≡ 0
-bit-same true = refl
-bit-same false = refl
-
 -- bits that agree have no difference
+bit-same : (a : Bool) → bit_difference a a ≡ 0
+bit-same a = grind arith
+
 bits-same : (n : ℕ) (p q : ℕ → Bool) → ((i : ℕ) → i < n → p i ≡ q i) → bit_differences n p q ≡ 0
 bits-same zero p q h = refl
 bits-same (suc n) p q h =
-    let here : bit_difference (p n) (q n) ≡ 0 = ap (bit_difference (p n)) (sym (h n (omega arith))) ∙ bit-same (p n) in
-    let rest = bits-same n p q (λ i l. h i (omega arith)) in
-    omega (arith, here, rest)
+    rw (h n (omega arith)) (omega (arith, bit-same (q n), bits-same n p q (λ i l. h i (omega arith))))
 
 -- with all modules read, a copy costs twice its wrong modules
 bit-is : (a b : Bool) → cond (not (is_same a b)) 1 0 ≡ bit_difference a b
-bit-is true true = refl
-bit-is true false = refl
-bit-is false true = refl
-bit-is false false = refl
+bit-is a b = grind arith
 
 cost-light : (n : ℕ) (u p q : ℕ → Bool) → ((i : ℕ) → u i ≡ false) →
     count_below n u + 2 * count_below n (λ i. not (u i) && not (is_same (p i) (q i))) ≡ 2 * bit_differences n p q
 cost-light zero u p q h = refl
-cost-light (suc n) u p q h =
-    let read : ◌≡◌ {A = ℕ} (cond (u n) 1 0) 0 = ap (λ (z : Bool). cond {A = ℕ} z 1 0) (h n) in
-    let here : cond (not (u n) && not (is_same (p n) (q n))) 1 0 ≡ bit_difference (p n) (q n) =
-    ap (λ (z : Bool). cond {A = ℕ} (not z && not (is_same (p n) (q n))) 1 0) (h n) ∙ bit-is (p n) (q n) in
-    let rest = cost-light n u p q h in
-    omega (arith, read, here, rest)
+cost-light (suc n) u p q h = search (arith, bit-is, cost-light n u p q h)
 
 pub copy-light : (s : ℕ) (copy : FormatCopy) (g : Grid) (l : Level) (mask : ℕ) →
     copy_cost (light s) copy g l mask ≡ 2 * bit_differences 15 (copy_bit copy g) (has_bit (format_word_of l mask))
-copy-light s copy g l mask =
-    cost-light 15 (copy_bit copy (light s)) (copy_bit copy g) (has_bit (format_word_of l mask)) (λ i. colour-light s _ _)
+copy-light s copy g l mask = search (arith, cost-light, colour-light)
 
 -- exact format information is near
 format-near : (s : ℕ) (g : Grid) (l : Level) (mask : ℕ) → IsFormat g l mask → IsNearFormat (light s) First g l mask
 format-near s g l mask h = record {
   in_range = h.in_range;
-  near =
-      let none = bits-same 15 (copy_bit First g) (has_bit (format_word_of l mask)) h.bits in
-      let cost = copy-light s First g l mask in
-      omega (arith, none, cost);
+  near = omega (arith, bits-same 15 (copy_bit First g) (has_bit (format_word_of l mask)) h.bits,
+      copy-light s First g l mask);
 }
 
 -- the differences of a list from a second are at most those of both from a third
 bit-triangle : (p q r : Bool) → bit_difference p q ≤ bit_difference p r + bit_difference q r
-bit-triangle true true true = omega arith
-bit-triangle true true false = omega arith
-bit-triangle true false true = omega arith
-bit-triangle true false false = omega arith
-bit-triangle false true true = omega arith
-bit-triangle false true false = omega arith
-bit-triangle false false true = omega arith
-bit-triangle false false false = omega arith
+bit-triangle p q r = grind arith
 
 bits-triangle : (n : ℕ) (p q r : ℕ → Bool) → bit_differences n p q ≤ bit_differences n p r + bit_differences n q r
 bits-triangle zero p q r = omega arith
-bits-triangle (suc n) p q r =
-    let e = bit-triangle (p n) (q n) (r n) in
-    let f = bits-triangle n p q r in
-    omega (arith, e, f)
-
-bits-moved : (n : ℕ) (p q r : ℕ → Bool) → ((i : ℕ) → i < n → p i ≡ q i) → bit_differences n p r ≡ bit_differences n q r
-bits-moved zero p q r h = refl
-bits-moved (suc n) p q r h =
-    let here : bit_difference (p n) (r n) ≡ bit_difference (q n) (r n) = ap (λ z. bit_difference z (r n)) (h n (omega arith)) in
-    let rest = bits-moved n p q r (λ i l. h i (omega arith)) in
-    omega (arith, here, rest)
+bits-triangle (suc n) p q r = omega (arith, bit-triangle (p n) (q n) (r n), bits-triangle n p q r)
 
 -- with an exact first copy no other level and mask cost less, whatever the second copy shows
 format-exact : (g : Grid) (v : ℕ) (l : Level) (mask : ℕ) → IsFormat g l mask → HasFormat (light g.side) v g l mask
-format-exact g v l mask h = first-best (light g.side) v g l mask (format-near g.side g l mask h) (λ k n f x y d.
+format-exact g v l mask h = best (light g.side) g First v l mask (format-near g.side g l mask h) (λ k n f x y d.
+    let first = copy_bit First g in
     let here = has_bit (format_word_of l mask) in
     let there = has_bit (format_word_of k n) in
-    let none = bits-same 15 (copy_bit First g) here h.bits in
-    let moved = bits-moved 15 (copy_bit First g) here there h.bits in
-    let three = bits-triangle 15 (copy_bit Second g) here there in
-    let a = copy-light g.side First g l mask in
-    let b = copy-light g.side Second g l mask in
-    let c = copy-light g.side First g k n in
-    let e = copy-light g.side Second g k n in
-    omega (arith, none, moved, three, a, b, c, e))
+    let cost = copy-light g.side in
+    omega (arith, bits-same 15 first here h.bits, bits-alike 15 first there here there h.bits (λ i r. refl),
+      bits-triangle 15 (copy_bit Second g) here there, cost First g l mask, cost Second g l mask, cost First g k n,
+          cost Second g k n))
 
 -- ---- squares
 
 -- a square that is read is mended with no codeword changed
 pub reading-mended : (g : Grid) (p : Content) → (h : IsReading g p) →
     IsMendedReading (light g.side) g h.version h.level h.mask p (replicate (blocks_in h.version h.level) 0)
-reading-mended g p h =
-    let v = h.version in
-    let l = h.level in
-    let m = h.holds in
-    record {
-      message = h.message;
-      form = record {
-        sized = h.sized;
-        format = format-exact g v l h.mask h.format;
-        damaged = record {
-          codewords = m.codewords;
-          held = m.read;
-          mended = final-mended v h.mask g.side l g h.message m.codewords h.sized.least h.sized.most m.read (m.many ∙ sym (data-sizes-whole v l h.sized.least h.sized.most)) m.interleaved;
-        };
-      };
-      parsed = h.parsed;
-    }
+reading-mended g p h = search (arith, format-exact, final-mended, data-sizes-whole)

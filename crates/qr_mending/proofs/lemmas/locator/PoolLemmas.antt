@@ -1,5 +1,5 @@
 -- The elimination: what adding a multiple of the pivot does, and that each equation costs at most one polynomial.
-use Rattle.std.proofs.Common.{◌≡◌, ℕ, zero, suc, ◌+◌, ◌<◌, ◌≤◌, List, [], ◌∷◌, ◌++◌, length, take, drop, get_or, set, refl, sym, ap, ◌∙◌, subst, inl, inr, arith, bit_xor}
+use Rattle.std.proofs.Common.{◌≡◌, ℕ, zero, suc, ◌+◌, ◌<◌, ◌≤◌, List, [], ◌∷◌, length, take, drop, get_or, set, refl, sym, ap, subst, inl, inr, arith, bit_xor}
 use Rattle.std.specs.List.{All, remove, refill}
 use Rattle.std.specs.Int.Bits.{xor_zero_l, xor_self}
 use Rattle.std.proofs.lemmas.Bool.{cases_lt}
@@ -12,7 +12,6 @@ use Rattle.qr_field.specs.Polynomial.{IsByte, plus, scaled}
 use Rattle.qr_field.proofs.lemmas.galois.ByteLemmas.{product-by_zero}
 use Rattle.qr_field.proofs.lemmas.polynomial.ListLemmas.{take-plus}
 use Rattle.qr_mending.specs.declared.polynomial.Polynomial.{Polynomial}
-use Rattle.qr_mending.specs.Steps.Sums.{dot_of}
 use Rattle.qr_mending.specs.Steps.Polynomial.{all_of, IsMonic, miss_of, blank, at, IsRelieved, IsPool}
 use Rattle.qr_mending.proofs.lemmas.sums.SumLemmas.{dot-plus}
 
@@ -24,17 +23,13 @@ pub plus-set : (f : ℕ) (o t : List ℕ) (j : ℕ) → j < length o → j < len
 plus-set f [] t j l h = absurd (omega arith)
 plus-set f (x ∷ o) [] j l h = absurd (omega arith)
 plus-set f (x ∷ o) (y ∷ t) zero l h = refl
-plus-set f (x ∷ o) (y ∷ t) (suc j) l h =
-    ap (λ z. bit_xor (product f x) y ∷ z) (plus-set f o t j (omega arith) (omega arith))
+plus-set f (x ∷ o) (y ∷ t) (suc j) l h = cc (plus-set f o t j (omega arith) (omega arith))
 
 -- one coefficient more, stated with the variables of the loop
 pub plus-more : (f : ℕ) (o t now : List ℕ) (j m : ℕ) → j < length o → j < length t →
     now ≡ plus (scaled f (take j o)) t → m ≡ product f (get_or o j 0) →
     set now j (bit_xor m (get_or t j 0)) ≡ plus (scaled f (take (j + 1) o)) t
-plus-more f o t now j m l h e g =
-    ap (λ s. set s j (bit_xor m (get_or t j 0))) e
-    ∙ (ap (λ z. set (plus (scaled f (take j o)) t) j (bit_xor z (get_or t j 0))) g
-    ∙ (plus-set f o t j l h ∙ ap (λ k. plus (scaled f (take k o)) t) (suc-eq-add-one j)))
+plus-more f o t now j m l h e g = cc (plus-set f o t j l h, suc-eq-add-one j)
 
 -- the items after the end of the shorter list stay the same
 plus-beyond : (xs ys : List ℕ) (k : ℕ) → length xs ≤ k → get_or (plus xs ys) k 0 ≡ get_or ys k 0
@@ -51,26 +46,17 @@ plus-beyond (x ∷ xs) (y ∷ ys) (suc k) l = plus-beyond xs ys k (omega arith)
 
 -- a multiple of the first j coefficients has at most j coefficients
 length-multiple : (f j : ℕ) (o : List ℕ) → length (scaled f (take j o)) ≤ j
-length-multiple f j o =
-    let m = length-map (take j o) (product f) in
-    let l = length-take j o in
-    omega (arith, m, l)
+length-multiple f j o = search (arith, length-map, length-take)
 
 -- the leading coefficient stays the same
 pub leading-stays : (f j d : ℕ) (o t now : List ℕ) → j ≤ d → now ≡ plus (scaled f (take j o)) t →
     get_or t d 0 ≡ 1 → get_or now d 0 ≡ 1
-leading-stays f j d o t now l e h =
-    ap (λ s. get_or s d 0) e
-    ∙ (plus-beyond (scaled f (take j o)) t d (omega (arith, l, length-multiple f j o)) ∙ h)
+leading-stays f j d o t now l e h = search (arith, plus-beyond, length-multiple)
 
 -- the sum with all coefficients of the multiple
 pub sum-all : (f j k d : ℕ) (o t now : List ℕ) → j ≡ k + 1 → k < d → now ≡ plus (scaled f (take j o)) t →
     take (d + 1) now ≡ plus (scaled f (take (k + 1) o)) (take (d + 1) t)
-sum-all f j k d o t now s l e =
-    ap (take (d + 1)) (e ∙ ap (λ i. plus (scaled f (take i o)) t) s)
-    ∙ (take-plus (d + 1) (scaled f (take (k + 1) o)) t
-    ∙ ap (λ z. plus z (take (d + 1) t))
-    (take_all (d + 1) (scaled f (take (k + 1) o)) (omega (arith, l, length-multiple f (k + 1) o))))
+sum-all f j k d o t now s l e = search (arith, take-plus, take_all, length-multiple)
 
 -- ---- relief
 
@@ -81,22 +67,7 @@ pub relieves : (pivot before after : Polynomial) (window : List ℕ) (f : ℕ) �
     all_of after ≡ plus (scaled f (all_of pivot)) (all_of before) →
     product f (miss_of pivot window) ≡ miss_of before window → IsRelieved pivot window before after
 relieves pivot before after window f lf bp bb bw lower fits degree monic sum same =
-    let shorter : length (all_of pivot) ≤ length (all_of before) =
-    omega (arith, length-take (pivot.degree + 1) pivot.terms, length-take (before.degree + 1) before.terms, lower, fits) in
-    record {
-      degree = degree;
-      monic = monic;
-      none =
-          ap (λ z. dot_of z window) sum
-          ∙ (dot-plus f (all_of pivot) (all_of before) window lf bp bb bw shorter
-          ∙ (ap (λ z. bit_xor z (miss_of before window)) same ∙ xor_self (miss_of before window)));
-      others = λ w b p q.
-          ap (λ z. dot_of z w) sum
-          ∙ (dot-plus f (all_of pivot) (all_of before) w lf bp bb b shorter
-          ∙ (ap (λ z. bit_xor (product f z) (miss_of before w)) p
-          ∙ (ap (λ z. bit_xor z (miss_of before w)) (product-by_zero f lf)
-          ∙ (xor_zero_l (miss_of before w) ∙ q))));
-    }
+    search (arith, length-take, dot-plus, xor_self, product-by_zero, xor_zero_l)
 
 -- ---- the pool
 
@@ -108,32 +79,13 @@ bytes-drop j s b =
 -- if all polynomials solve the next equation, the pool stays as it is
 pub pool-kept : (t i : ℕ) (s : List ℕ) (pool : List Polynomial) → IsPool t i s pool →
     ((k : ℕ) → k < length pool → miss_of (at pool k) (drop i s) ≡ 0) → IsPool t (i + 1) s pool
-pool-kept t i s pool p h = record {
-  count = omega (arith, p.count);
-  degrees = p.degrees;
-  monic = p.monic;
-  rising = p.rising;
-  solved = λ k j l m. elim (cases_lt j i) [
-    | inl n ↦ p.solved k j l n
-    | inr n ↦
-        let e : j ≡ i = omega arith in
-        ap (λ z. miss_of (at pool k) (drop z s)) e ∙ h k l
-  ];
-}
+pool-kept t i s pool p h = search arith
 
 -- the polynomials after the pivot have higher degrees than the pivot
 pub pool-higher : (t i : ℕ) (s : List ℕ) (pool rest : List Polynomial) (first : ℕ) (pivot : Polynomial) →
     IsPool t i s pool → first < length pool → pivot ≡ get_or pool first pivot → rest ≡ remove pool first →
     length rest + 1 ≡ length pool → (k : ℕ) → first ≤ k → k < length rest → pivot.degree < (at rest k).degree
-pool-higher t i s pool rest first pivot p l ep er lr k m n =
-    let e : pivot ≡ at pool first = get_or_read pool first pivot l ep blank in
-    let f : at rest k ≡ at pool (k + 1) = ap (λ z. at z k) er ∙ get_or-remove_above pool first blank k m l in
-    omega (
-      arith,
-      ap (λ (z : Polynomial). z.degree) e,
-      ap (λ (z : Polynomial). z.degree) f,
-      p.rising first (k + 1) (omega arith) (omega (arith, n, lr)),
-    )
+pool-higher t i s pool rest first pivot p l ep er lr k m n = search (arith, get_or_read, get_or-remove_above)
 
 -- if the pivot is removed and multiples of it are added to the polynomials after it, the pool solves one equation more
 pub pool-next : (t i : ℕ) (s : List ℕ) (pool rest new : List Polynomial) (first : ℕ) (pivot : Polynomial) →
@@ -144,33 +96,19 @@ pub pool-next : (t i : ℕ) (s : List ℕ) (pool rest new : List Polynomial) (fi
     IsPool t (i + 1) s new
 pool-next t i s pool rest new first pivot bytes p l before own er lr ln same relieved =
     let ep : pivot ≡ at pool first = get_or_read pool first pivot l own blank in
-    let kept : (k : ℕ) → k < first → at new k ≡ at pool k =
-    λ k m. same k m ∙ (ap (λ z. at z k) er ∙ get_or-remove_below pool first blank k m l) in
-    let above : (k : ℕ) → first ≤ k → at rest k ≡ at pool (k + 1) =
-    λ k m. ap (λ z. at z k) er ∙ get_or-remove_above pool first blank k m l in
+    let kept : (k : ℕ) → k < first → at new k ≡ at pool k = search (arith, get_or-remove_below) in
+    let above : (k : ℕ) → first ≤ k → at rest k ≡ at pool (k + 1) = search (arith, get_or-remove_above) in
     let low : (k : ℕ) → k < first → (at new k).degree ≡ (at pool k).degree =
     λ k m. ap (λ (z : Polynomial). z.degree) (kept k m) in
-    let high : (k : ℕ) → first ≤ k → k < length rest → (at new k).degree ≡ (at pool (k + 1)).degree =
-    λ k m n. (relieved k m n).degree ∙ ap (λ (z : Polynomial). z.degree) (above k m) in
+    let high : (k : ℕ) → first ≤ k → k < length rest → (at new k).degree ≡ (at pool (k + 1)).degree = search arith in
     record {
       count = omega (arith, p.count, lr, ln);
-      degrees = record {
-        each = λ k m. elim (cases_lt k first) [
-          | inl n ↦ omega (arith, low k n, p.degrees.each k (omega (arith, m, ln, lr)))
-          | inr n ↦ omega (arith, high k n (omega (arith, m, ln)), p.degrees.each (k + 1) (omega (arith, m, ln, lr)))
-        ];
-      };
-      monic = λ k m. elim (cases_lt k first) [
-        | inl n ↦ subst (λ (z : Polynomial). IsMonic z) (sym (kept k n)) (p.monic k (omega (arith, m, ln, lr)))
-        | inr n ↦
-            (relieved k n (omega (arith, m, ln))).monic
-            (subst (λ (z : Polynomial). IsMonic z) (sym (above k n)) (p.monic (k + 1) (omega (arith, m, ln, lr))))
-      ];
+      degrees = search arith;
+      monic = search arith;
       rising = λ a b m n. elim (cases_lt b first) [
-        | inl h ↦ omega (arith, low a (omega arith), low b h, p.rising a b m (omega (arith, n, ln, lr)))
+        | inl h ↦ search arith
         | inr h ↦ elim (cases_lt a first) [
-          | inl g ↦
-              omega (arith, low a g, high b h (omega (arith, n, ln)), p.rising a (b + 1) (omega arith) (omega (arith, n, ln, lr)))
+          | inl g ↦ search arith
           | inr g ↦
               omega (
                 arith,
@@ -180,29 +118,9 @@ pool-next t i s pool rest new first pivot bytes p l before own er lr ln same rel
               )
         ]
       ];
-      solved = λ k j m n. elim (cases_lt k first) [
-        | inl h ↦
-            ap (λ z. miss_of z (drop j s)) (kept k h)
-            ∙ elim (cases_lt j i) [
-              | inl g ↦ p.solved k j (omega (arith, m, ln, lr)) g
-              | inr g ↦
-                  let e : j ≡ i = omega arith in
-                  ap (λ z. miss_of (at pool k) (drop z s)) e ∙ before k h
-            ]
-        | inr h ↦ elim (cases_lt j i) [
-          | inl g ↦
-              (relieved k h (omega (arith, m, ln))).others (drop j s) (bytes-drop j s bytes)
-              (ap (λ z. miss_of z (drop j s)) ep ∙ p.solved first j l g)
-              (ap (λ z. miss_of z (drop j s)) (above k h) ∙ p.solved (k + 1) j (omega (arith, m, ln, lr)) g)
-          | inr g ↦
-              let e : j ≡ i = omega arith in
-              ap (λ z. miss_of (at new k) (drop z s)) e ∙ (relieved k h (omega (arith, m, ln))).none
-        ]
-      ];
+      solved = search (arith, bytes-drop);
     }
 
 -- overwriting a list with a list of the same length gives the second list
 pub refill-same : (xs ws : List Polynomial) (n : ℕ) → n ≡ length xs → length ws ≡ length xs → refill n xs ws ≡ ws
-refill-same xs ws n l e =
-    ap (λ t. take n (ws ++ t)) (drop_all (length ws) xs (omega arith))
-    ∙ (ap (λ t. take n t) (append-nil ws) ∙ take_all n ws (omega arith))
+refill-same xs ws n l e = search (arith, drop_all, append-nil, take_all)

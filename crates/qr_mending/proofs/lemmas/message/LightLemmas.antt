@@ -1,13 +1,13 @@
 -- A symbol of which all modules were read: its marks are 0, no codeword is erased, and its blocks are mended as blocks of
 -- which every codeword was read.
-use Rattle.std.proofs.Common.{◌≡◌, ◌||◌, cond, Bool, false, ℕ, zero, suc, ◌*◌, ◌<◌, ◌≤◌, None, Some, List, [], ◌∷◌, ◌++◌, map, take, length, get_or, refl, sym, ◌∙◌, ap, arith}
+use Rattle.std.proofs.Common.{◌≡◌, ◌||◌, Bool, false, ℕ, zero, suc, ◌*◌, ◌<◌, ◌≤◌, Some, List, [], ◌∷◌, ◌++◌, map, take, length, get_or, refl, sym, ◌∙◌, arith}
 use Rattle.std.specs.Prelude.{Option}
 use Rattle.std.specs.List.{list_any, range_with_len}
 use Rattle.std.proofs.lemmas.List.{length-map, length-replicate, length-take}
 use Rattle.std.proofs.lemmas.List.Elements.{All-replicate, All-take}
 use lib.ListN.{replicate}
 use Rattle.qr_field.specs.Polynomial.{IsCorrection}
-use Rattle.qr_field.specs.Distance.{differences, erasures, errors}
+use Rattle.qr_field.specs.Distance.{differences}
 use Rattle.qr_layout.specs.declared.blocks.Blocks.{Blocks}
 use Rattle.qr_layout.specs.declared.level.Level.{Level}
 use Rattle.qr_layout.specs.declared.region.Module.{Module}
@@ -41,15 +41,13 @@ light-same : (xs ys : List Bool) → AreLight xs → AreLight ys → length xs �
 light-same [] [] h k n = refl
 light-same [] (y ∷ ys) h k n = absurd (omega arith)
 light-same (x ∷ xs) [] h k n = absurd (omega arith)
-light-same (x ∷ xs) (y ∷ ys) h k n =
-    ap (λ z. z ∷ xs) (h.0 ∙ sym k.0) ∙ ap (λ (zs : List Bool). y ∷ zs) (light-same xs ys h.1 k.1 (omega (arith, n)))
+light-same (x ∷ xs) (y ∷ ys) h k n = cc (h.0, k.0, light-same xs ys h.1 k.1 (omega (arith, n)))
 
 -- the bits of zeros
 bits-light : (n : ℕ) → AreLight (bits_of (replicate n 0))
 unfolding bits_of field
 bits-light zero = tt
-bits-light (suc n) =
-    append-light (field 8 0) (bits_of (replicate n 0)) (refl, (refl, (refl, (refl, (refl, (refl, (refl, (refl, tt)))))))) (bits-light n)
+bits-light (suc n) = search (arith, append-light, bits_of, bits-light n)
 
 -- a module of a light square, or outside it
 light-row : (cs : List ℕ) (c : ℕ) → get_or (map (λ _. false) cs) c false ≡ false
@@ -77,27 +75,21 @@ pub no-marks : (v : ℕ) (u : Grid) → 1 ≤ v → v ≤ 40 → u.side ≡ side
 no-marks v u p q e h =
     let w = (read-some v 0 u p q).1 in
     let n = total_codewords_of v in
-    let none : ℕ = 0 in
-    let zeros : List ℕ = replicate n none in
+    let zeros : List ℕ = replicate n 0 in
     let some : List Module = take (8 * n) w.places in
     let plain : Module → Bool = λ m. colour (light u.side) m.row m.col in
-    let inside = All-take (InRegion v) (8 * n) w.places w.order.in_region in
     let many = order-length v w.places p q w.order in
-    let a = length-bits_of zeros in
-    let b = length-replicate n none in
-    let c = length-map some plain in
-    let d = length-take (8 * n) w.places in
     record {
       bytes = All-replicate (λ x. x < 256) n 0 (omega arith);
       places = w.places;
       order = w.order;
       bits =
           light-same (bits_of zeros) (map plain some) (bits-light n) (colours-light u.side some)
-          (omega (arith, a, b, c, d, many))
-          ∙ map-each (InRegion v) plain (λ m. colour u m.row m.col) some inside (λ t i.
-          let a = row-in v t i in
-          let b = col-in v t i in
-          sym (h t.row t.col (omega (arith, a, e)) (omega (arith, b, e))));
+          (omega (arith, length-bits_of zeros, length-replicate {A = ℕ} n 0, length-map some plain,
+              length-take (8 * n) w.places, many))
+          ∙ map-each (InRegion v) plain (λ m. colour u m.row m.col) some
+              (All-take (InRegion v) (8 * n) w.places w.order.in_region)
+          (λ t i. sym (h t.row t.col (omega (arith, row-in v t i, e)) (omega (arith, col-in v t i, e))));
     }
 
 -- ---- what is read of a symbol of which all modules were read
@@ -111,8 +103,7 @@ all-read : (s : ℕ) (places : List Module) (cw ks : List ℕ) →
 all-read s places cw [] = refl
 all-read s places cw (k ∷ ks) =
     let none = none-unread s (modules_of places k) in
-    let later = all-read s places cw ks in
-    λ i. cond (none i) None (Some (item cw k)) ∷ later i
+    search (arith, item, all-read s places cw ks)
 
 -- ---- blocks
 
@@ -127,16 +118,7 @@ pub record IsPlainBlock (b : Blocks) (t : ℕ) (d e message : List ℕ) (changed
 plain-block : (b : Blocks) (t spare : ℕ) (read : List (Option ℕ)) (d e message : List ℕ) (changed i : ℕ) →
     2 * t ≤ spare → read ≡ map (λ x. Some x) (received b d e i) → IsPlainBlock b t d e message changed i →
     IsMendedBlock b spare read message changed i
-plain-block b t spare read d e message changed i enough same p =
-    let none = ap erasures same ∙ erasures-read (received b d e i) in
-    let block = part_of (data_sizes b) message i ++ p.correction in
-    let all = ap (λ z. errors z block) same ∙ errors-read (received b d e i) block in
-    record {
-      correction = p.correction;
-      corrects = p.corrects;
-      near = omega (arith, p.near, enough, none);
-      count = p.count ∙ sym all;
-    }
+plain-block b t spare read d e message changed i enough same p = search (arith, erasures-read, errors-read)
 
 -- codewords whose blocks can be mended so, if all modules were read
 pub light-mended : (v mask s : ℕ) (l : Level) (g : Grid) (cw d e message changed : List ℕ) → 1 ≤ v → v ≤ 40 → IsRead v mask g cw →
@@ -152,8 +134,6 @@ light-mended v mask s l g cw d e message changed p q h inside long many each =
     let js = some.1 in
     let indexed = items-in-blocks b n cw ks js (held-many v mask g cw p q h) some.2 in
     let same = in-blocks-one b cw (map (item cw) ks) (map (item cw) js) d e indexed inside in
-    let first = same.0 in
-    let second = same.1 in
     record {
       places = h.places;
       order = h.order;
@@ -163,9 +143,10 @@ light-mended v mask s l g cw d e message changed p q h inside long many each =
       long = long;
       many = many;
       each = λ i r.
-          plain-block b (tolerance_of v l) (spare_of v l) (map (read_at (light s) h.places cw) (received b ks js i))
-          d e message (get_or changed i 0) i (omega arith)
-          (all-read s h.places cw (received b ks js i)
-          ∙ ap (map (λ x. Some x)) (sym (received-map b (item cw) ks js i) ∙ (λ k. received b (first k) (second k) i)))
-          (each i r);
+          let read = received b ks js i in
+          let all : map (read_at (light s) h.places cw) read ≡ map (λ x. Some x) (received b d e i) =
+          cc (all-read s h.places cw read, received-map b (item cw) ks js i, same.0, same.1) in
+          plain-block b (tolerance_of v l) (spare_of v l) (map (read_at (light s) h.places cw) read) d e message
+              (get_or changed i 0) i
+          (omega arith) all (each i r);
     }

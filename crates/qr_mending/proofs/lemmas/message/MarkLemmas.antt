@@ -1,8 +1,7 @@
 -- A mark is 0 exactly if its codeword is not erased. So to mend by marks is to mend without the modules that were not
 -- read.
-use Rattle.std.proofs.Common.{◌≡◌, ◌==◌, ◌||◌, not, cond, Bool, true, false, ℕ, zero, suc, ◌+◌, ◌-◌, ◌*◌, ◌<◌, ◌≤◌, None, Some, List, [], ◌∷◌, ◌++◌, map, take, drop, length, get_or, replicate, refl, sym, ◌∙◌, ap, subst, arith}
+use Rattle.std.proofs.Common.{◌≡◌, ◌==◌, ◌||◌, not, cond, Bool, true, false, ℕ, zero, suc, ◌+◌, ◌-◌, ◌*◌, ◌<◌, ◌≤◌, None, Some, List, [], ◌∷◌, ◌++◌, map, take, drop, length, get_or, refl, sym, ◌∙◌, ap, arith}
 use Rattle.std.specs.List.{list_any, All}
-use Rattle.std.specs.Prelude.{Option}
 use Rattle.std.proofs.lemmas.List.{append-nil, length-map, length-take, take_at, take-map, take-take, drop_at, drop-drop, drop-map, drop-take}
 use Rattle.std.proofs.lemmas.List.Elements.{All-tail}
 use Rattle.qr_layout.specs.declared.level.Level.{Level}
@@ -14,9 +13,9 @@ use Rattle.qr_layout.proofs.Facts.{below, below-at, only_order, order-length}
 use Rattle.qr_bits.specs.Bits.{bits_of, field}
 use Rattle.qr_bits.proofs.Facts.{length-bits_of, length-field}
 use Rattle.qr_matrix.specs.Grid.{Grid, colour, is_same}
-use Rattle.qr_symbol.specs.Reading.{unmasked, read_bits, IsRead, IsReadUnmasked}
+use Rattle.qr_symbol.specs.Reading.{unmasked, IsRead, IsReadUnmasked}
 use Rattle.qr_mending.specs.Erasures.{read_of}
-use Rattle.qr_mending.specs.Message.{modules_of, read_at, received, spare_of, IsMendedBlock, IsMendedIn, AreIndices}
+use Rattle.qr_mending.specs.Message.{modules_of, read_at, received, spare_of, IsMendedIn, AreIndices}
 use Rattle.qr_mending.specs.Steps.Message.{read_by, IsMendedMessage}
 use Rattle.qr_mending.proofs.lemmas.message.MessageLemmas.{in-blocks-one, indices-some, item, items-in-blocks, received-all, received-map}
 
@@ -29,55 +28,44 @@ codeword-bits [] j l = absurd (omega (arith, l))
 codeword-bits (c ∷ cs) zero l = take_at (field 8 c) (bits_of cs) 8 (length-field 8 c)
 codeword-bits (c ∷ cs) (suc j) l =
     let n : 8 * suc j ≡ 8 + 8 * j = omega arith in
-    ap (λ (k : ℕ). take 8 (drop k (field 8 c ++ bits_of cs))) n
-    ∙ (ap (take 8) (sym (drop-drop (8 * j) 8 (field 8 c ++ bits_of cs)))
-    ∙ (ap (λ (z : List Bool). take 8 (drop (8 * j) z)) (drop_at (field 8 c) (bits_of cs) 8 (length-field 8 c))
-    ∙ codeword-bits cs j (omega (arith, l))))
+    cc (
+      n,
+      drop-drop (8 * j) 8 (field 8 c ++ bits_of cs),
+      drop_at (field 8 c) (bits_of cs) 8 (length-field 8 c),
+      codeword-bits cs j (omega (arith, l)),
+    )
 
 -- codewords are as many as their modules allow
 many-read : (f : Module → Bool) (ms : List Module) (cw : List ℕ) (n : ℕ) → bits_of cw ≡ map f (take (8 * n) ms) →
     8 * n ≤ length ms → length cw ≡ n
 many-read f ms cw n e l =
-    let a = ap (length {A = Bool}) e in
-    let b = length-map (take (8 * n) ms) f in
-    let c = length-take (8 * n) ms in
-    let d = length-bits_of cw in
-    omega (arith, a, b, c, d, l)
+    omega (arith, ap (length {A = Bool}) e, length-map (take (8 * n) ms) f, length-take (8 * n) ms, length-bits_of cw,
+        l)
 
 -- the bits of codeword j are read from its eight modules
 pub codeword-read : (f : Module → Bool) (ms : List Module) (cw : List ℕ) (n j : ℕ) →
     bits_of cw ≡ map f (take (8 * n) ms) → length cw ≡ n → j < n → field 8 (get_or cw j 0) ≡ map f (take 8 (drop (8 * j) ms))
 codeword-read f ms cw n j e many l =
-    let t = 8 * n in
     let k = 8 * j in
-    let rest = t - k in
-    let whole : t ≡ k + rest = omega (arith, l) in
-    let eight = ap (take 8) (drop-take k rest ms) ∙ take-take 8 rest (drop k ms) (omega (arith, l)) in
-    sym (codeword-bits cw j (omega (arith, l, many)))
-    ∙ (ap (λ (z : List Bool). take 8 (drop k z)) e
-    ∙ (ap (take 8) (drop-map f k (take t ms))
-    ∙ (take-map f 8 (drop k (take t ms))
-    ∙ ap (map f) (ap (λ (i : ℕ). take 8 (drop k (take i ms))) whole ∙ eight))))
+    let rest = 8 * n - k in
+    let whole : 8 * n ≡ k + rest = omega (arith, l) in
+    cc (codeword-bits cw j (omega (arith, l, many)), drop-map f k (take (8 * n) ms),
+        take-map f 8 (drop k (take (8 * n) ms)), drop-take k rest ms, take-take 8 rest (drop k ms) (omega (arith, l)))
 
 -- the bits of the codewords of a square are read from the modules in order
 pub held-bits : (v mask : ℕ) (g : Grid) (ms : List Module) (cw : List ℕ) → 1 ≤ v → v ≤ 40 → IsOrder v ms →
     IsRead v mask g cw → bits_of cw ≡ map (unmasked mask g) (take (8 * total_codewords_of v) ms)
 held-bits v mask g ms cw p q o h =
     let t = 8 * total_codewords_of v in
-    let many = order-length v ms p q o in
-    let none : t - length ms ≡ 0 = omega (arith, many) in
-    h.bits
-    ∙ (ap (read_bits v mask g) (only_order v h.places ms h.order o)
-    ∙ (ap (λ (z : ℕ). map (unmasked mask g) (take t ms) ++ replicate z false) none
-    ∙ append-nil (map (unmasked mask g) (take t ms))))
+    let none : t - length ms ≡ 0 = omega (arith, order-length v ms p q o) in
+    cc (only_order v h.places ms h.order o, append-nil (map (unmasked mask g) (take t ms)))
 
 -- the number of codewords of a square
 pub held-many : (v mask : ℕ) (g : Grid) (cw : List ℕ) → 1 ≤ v → v ≤ 40 → IsRead v mask g cw →
     length cw ≡ total_codewords_of v
 held-many v mask g cw p q h =
-    let many = order-length v h.places p q h.order in
-    let bits = held-bits v mask g h.places cw p q h.order h in
-    many-read (unmasked mask g) h.places cw (total_codewords_of v) bits (omega (arith, many))
+    many-read (unmasked mask g) h.places cw (total_codewords_of v) (held-bits v mask g h.places cw p q h.order h)
+    (omega (arith, order-length v h.places p q h.order))
 
 -- ---- marks
 
@@ -85,15 +73,12 @@ held-many v mask g cw p q h =
 marks-many : (v : ℕ) (unknown : Grid) (marks : List ℕ) → 1 ≤ v → v ≤ 40 → IsReadUnmasked v unknown marks →
     length marks ≡ total_codewords_of v
 marks-many v unknown marks p q h =
-    let many = order-length v h.places p q h.order in
-    many-read (λ m. colour unknown m.row m.col) h.places marks (total_codewords_of v) h.bits (omega (arith, many))
+    many-read (λ m. colour unknown m.row m.col) h.places marks (total_codewords_of v) h.bits
+    (omega (arith, order-length v h.places p q h.order))
 
 -- colours that are the same
 pub same-is : (a b : Bool) → is_same a b ≡ true → a ≡ b
-same-is true true e = refl
-same-is true false e = sym e
-same-is false true e = e
-same-is false false e = refl
+same-is a b e = grind arith
 
 -- each byte is 0 exactly if it has no bit that is 1, computed
 is_marked : ℕ → Bool
@@ -135,10 +120,8 @@ read-marked : (unknown : Grid) (places : List Module) (cw marks ks : List ℕ) �
 read-marked unknown places cw marks [] h = refl
 read-marked unknown places cw marks (k ∷ ks) h =
     let here = h 0 k (omega arith) in
-    let later = read-marked unknown places cw marks ks (All-tail (AgreesAt unknown places marks) k ks h) in
-    let rest = map (λ mark. not (mark == 0)) (map (item marks) ks) in
-    read-next (item cw k) (map (item cw) ks) (not (item marks k == 0)) rest
-    ∙ (λ i. cond (sym here i) None (Some (item cw k)) ∷ later i)
+    search (arith, All-tail, item, read-next, read-marked unknown places cw marks ks
+        (All-tail (AgreesAt unknown places marks) k ks h))
 
 -- what is read by marks of block i
 block-marked : (v : ℕ) (l : Level) (unknown : Grid) (cw marks ks js : List ℕ) (i : ℕ) → 1 ≤ v → v ≤ 40 →
@@ -147,11 +130,7 @@ block-marked : (v : ℕ) (l : Level) (unknown : Grid) (cw marks ks js : List ℕ
     (received (blocks_of v l) (map (item marks) ks) (map (item marks) js) i)
     ≡ map (read_at unknown h.places cw) (received (blocks_of v l) ks js i)
 block-marked v l unknown cw marks ks js i p q h inside =
-    let b = blocks_of v l in
-    let all = received-all b (AgreesAt unknown h.places marks) (total_codewords_of v) ks js i (λ k r. mark-agrees v unknown marks k p q h r) inside in
-    let x = received-map b (item cw) ks js i in
-    let y = received-map b (item marks) ks js i in
-    (λ k. read_by (x k) (y k)) ∙ read-marked unknown h.places cw marks (received b ks js i) all
+    search (arith, received-all, mark-agrees, received-map, read-marked)
 
 -- ---- mending by marks is mending with the modules that were not read
 
@@ -163,22 +142,19 @@ by-marks v l unknown cw marks message misread p q long h m =
     let n = total_codewords_of v in
     let ks = m.indices in
     let js = m.checks in
-    let same = only_order v m.places h.places m.order h.order in
     record {
       codewords = map (item cw) ks;
       checks = map (item cw) js;
       unread = map (item marks) ks;
       unread_checks = map (item marks) js;
       in_blocks = items-in-blocks b n cw ks js long m.inside;
-      marked = items-in-blocks b n marks ks js (marks-many v unknown marks p q h) m.inside;
+      marked = search (arith, items-in-blocks, marks-many);
       mended = record {
         long = m.long;
         many = m.many;
         each = λ i r.
-            subst (λ (z : List (Option ℕ)). IsMendedBlock b (spare_of v l) z message (get_or misread i 0) i)
-            (ap (λ (ms : List Module). map (read_at unknown ms cw) (received b ks js i)) same
-            ∙ sym (block-marked v l unknown cw marks ks js i p q h m.inside))
-            (m.each i r);
+            rw (block-marked v l unknown cw marks ks js i p q h m.inside,
+                only_order v h.places m.places h.order m.order) (m.each i r);
       };
     }
 
@@ -196,10 +172,6 @@ of-marks v l unknown cw marks message misread p q long h m =
     let unread = items-in-blocks b n marks ks js (marks-many v unknown marks p q h) inside in
     let x = in-blocks-one b cw m.codewords m.checks (map (item cw) ks) (map (item cw) js) m.in_blocks codewords in
     let y = in-blocks-one b marks m.unread m.unread_checks (map (item marks) ks) (map (item marks) js) m.marked unread in
-    let d = x.0 in
-    let e = x.1 in
-    let u = y.0 in
-    let w = y.1 in
     record {
       places = h.places;
       order = h.order;
@@ -208,9 +180,5 @@ of-marks v l unknown cw marks message misread p q long h m =
       inside = inside;
       long = m.mended.long;
       many = m.mended.many;
-      each = λ i r.
-          subst (λ (z : List (Option ℕ)). IsMendedBlock b (spare_of v l) z message (get_or misread i 0) i)
-          ((λ k. read_by (received b (d k) (e k) i) (received b (u k) (w k) i))
-          ∙ block-marked v l unknown cw marks ks js i p q h inside)
-          (m.mended.each i r);
+      each = search (arith, block-marked);
     }

@@ -1,5 +1,5 @@
 -- The parts of a list of codewords, that a sequence is gathered in at most one way, and the indices of its codewords.
-use Rattle.std.proofs.Common.{◌≡◌, ℕ, ◌+◌, ◌<◌, ◌≤◌, List, ◌++◌, map, take, drop, length, length-drop, get_or, refl, sym, ◌∙◌, ap, subst, arith}
+use Rattle.std.proofs.Common.{◌≡◌, ℕ, ◌+◌, ◌<◌, ◌≤◌, List, ◌++◌, map, drop, length, length-drop, get_or, refl, sym, ◌∙◌, ap, subst, arith}
 use Rattle.std.specs.List.{range_with_len, All}
 use Rattle.std.proofs.lemmas.List.{length-map, length-take, take_all, take-map, drop_at, drop-map, take-append-le, drop-append-le, map-append, ext_get_or, get_or-map}
 use Rattle.std.proofs.lemmas.List.Elements.{All-append, All-contains, All-drop, All-from_get_or, All-take}
@@ -20,21 +20,16 @@ use Rattle.qr_mending.specs.Message.{received, AreInBlocks}
 pub gathered-same : (c : BlockSizes) (interleaved xs ys : List ℕ) → IsGathered c interleaved xs → IsGathered c interleaved ys → xs ≡ ys
 gathered-same c interleaved xs ys g h =
     let one = positions-one c h.positions g.positions h.order g.order in
-    let first : map (codeword_at c xs) g.positions ≡ map (codeword_at c ys) g.positions =
-    g.same ∙ (sym h.same ∙ ap (λ (ts : List Position). map (codeword_at c ys) ts) one) in
+    let first : map (codeword_at c xs) g.positions ≡ map (codeword_at c ys) g.positions = cc (one, g.same, h.same) in
     ext_get_or 0 xs ys (g.long ∙ sym h.long) (λ j l.
-    let w = position-of c (block_count c) j (omega arith) (let z = g.long in omega arith) in
+    let w = position-of c (block_count c) j (omega arith) (omega (arith, g.long)) in
     let q = map-at (codeword_at c xs) (codeword_at c ys) g.positions w.0 first (Mem-of-Contains g.positions w.0 (g.order.complete w.0 w.1)) in
-    ap (λ (k : ℕ). get_or xs k 0) (sym w.2) ∙ (q ∙ ap (λ (k : ℕ). get_or ys k 0) w.2))
+    rw (← w.2) q)
 
 -- a sequence is put back into blocks in at most one way
 pub in-blocks-one : (b : Blocks) (interleaved d e x y : List ℕ) → AreInBlocks b interleaved d e →
     AreInBlocks b interleaved x y → (d ≡ x) × (e ≡ y)
-in-blocks-one b interleaved d e x y g h =
-    let after = drop (codeword_count (data_sizes b)) interleaved in (
-      gathered-same (data_sizes b) interleaved d x g.gathered h.gathered,
-      gathered-same (correction_sizes b) after e y g.rest h.rest,
-    )
+in-blocks-one b interleaved d e x y g h = search (arith, gathered-same)
 
 -- ---- indices
 
@@ -48,7 +43,7 @@ gathered-map c f xs ks g = let read : Position → ℕ = λ t. f (codeword_at c 
   same =
       map-each (IsPosition c) (codeword_at c (map f ks)) read g.positions g.order.in_blocks (λ t i.
       let inside = position-in c t.place t.block i in
-      get_or-map f ks (start_of c t.block + t.place) 0 0 (omega (arith, inside, g.long)))
+      search (arith, get_or-map))
       ∙ (sym (map-map f (codeword_at c ks) g.positions) ∙ (ap (map f) g.same ∙ sym (take-map f (codeword_count c) xs)));
 }
 
@@ -60,8 +55,7 @@ gathered-all c P xs ks a g = All-from_get_or P ks 0 (λ j l.
     let all : All P (map read g.positions) = subst (All P) (sym g.same) (All-take P (codeword_count c) xs a) in
     let each : All (λ (t : Position). P (read t)) g.positions =
     λ k t m. subst P (get_or-map read g.positions k t 0 m) (all k 0 (omega (arith, length-map g.positions read, m))) in
-    subst P (ap (λ (k : ℕ). get_or ks k 0) w.2)
-    (All-contains (λ (t : Position). P (read t)) g.positions w.0 each (g.order.complete w.0 w.1)))
+    search (arith, All-contains))
 
 -- the item at an index
 abbrev pub item : List ℕ → ℕ → ℕ
@@ -76,13 +70,7 @@ items-in-blocks b n xs ks js e h =
     let own = codeword_count c in
     let indices = range_with_len 0 n in
     let all : map (item xs) indices ≡ xs = sym (fill_by_all (item xs) xs n 0 e (λ k l. refl)) in
-    let after = sym (drop-map (item xs) own indices) ∙ ap (drop own) all in
-    let first = gathered-map c (item xs) indices ks h.gathered in
-    let second = gathered-map sizes (item xs) (drop own indices) js h.rest in
-    record {
-      gathered = subst (λ (z : List ℕ). IsGathered c z (map (item xs) ks)) all first;
-      rest = subst (λ (z : List ℕ). IsGathered sizes z (map (item xs) js)) after second;
-    }
+    search (arith, drop-map, gathered-map)
 
 -- the indices of the codewords of a symbol can be put back into blocks
 pub indices-some : (v : ℕ) (l : Level) → 1 ≤ v → v ≤ 40 →
@@ -93,22 +81,18 @@ indices-some v l p q =
     let indices = range_with_len 0 (total_codewords_of v) in
     let sum = sizes-whole v l p q in
     let len = length-range_with_len 0 (total_codewords_of v) in
-    let left = length-drop own indices in
     let first = gather-some (data_sizes b) indices (omega (arith, sum, len)) in
-    let second = gather-some (correction_sizes b) (drop own indices) (omega (arith, sum, len, left)) in
-    (first.0, second.0, record { gathered = first.1; rest = second.1 })
+    let second = gather-some (correction_sizes b) (drop own indices)
+        (omega (arith, sum, len, length-drop own indices)) in
+    search arith
 
 part-map : (c : BlockSizes) (f : ℕ → ℕ) (ks : List ℕ) (i : ℕ) → part_of c (map f ks) i ≡ map f (part_of c ks i)
-part-map c f ks i =
-    ap (take (block_len c i)) (drop-map f (start_of c i) ks) ∙ take-map f (block_len c i) (drop (start_of c i) ks)
+part-map c f ks i = search (arith, drop-map, take-map)
 
 -- the items of a block are those at its indices
 pub received-map : (b : Blocks) (f : ℕ → ℕ) (ks js : List ℕ) (i : ℕ) →
     received b (map f ks) (map f js) i ≡ map f (received b ks js i)
-received-map b f ks js i =
-    let first = part-map (data_sizes b) f ks i in
-    let second = part-map (correction_sizes b) f js i in
-    (λ j. first j ++ second j) ∙ sym (map-append f (part_of (data_sizes b) ks i) (part_of (correction_sizes b) js i))
+received-map b f ks js i = search (arith, part-map, map-append)
 
 -- what holds of the index of each codeword holds of those of a block
 pub received-all : (b : Blocks) (P : ℕ → Type 0) (n : ℕ) (ks js : List ℕ) (i : ℕ) → ((k : ℕ) → k < n → P k)
@@ -120,36 +104,23 @@ received-all b P n ks js i h inside =
     let len = length-range_with_len 0 n in
     let all : All P indices = All-from_get_or P indices 0 (λ k r.
     let here : k < n = omega (arith, r, len) in
-    let same : k ≡ get_or indices k 0 = omega (arith, get_or-range_with_len 0 n k 0 here) in
-    subst P same (h k here)) in
-    let first = gathered-all c P indices ks all inside.gathered in
-    let second = gathered-all sizes P (drop (codeword_count c) indices) js (All-drop P (codeword_count c) indices all) inside.rest in
-    All-append P (part_of c ks i) (part_of sizes js i)
-    (All-take P (block_len c i) (drop (start_of c i) ks) (All-drop P (start_of c i) ks first))
-    (All-take P (block_len sizes i) (drop (start_of sizes i) js) (All-drop P (start_of sizes i) js second))
+    search (arith, get_or-range_with_len)) in
+    search (arith, gathered-all, All-drop, All-append, All-take)
 
 -- ---- parts
 
 -- the number of codewords in block i
 pub part-len : (c : BlockSizes) (d : List ℕ) (i : ℕ) → length d ≡ codeword_count c → i < block_count c → length (part_of c d i) ≡ block_len c i
 part-len c d i h l =
-    let n = start-next c i in
     let m = start-most c (i + 1) (block_count c) (omega arith) in
-    omega (arith, length-take (block_len c i) (drop (start_of c i) d), length-drop (start_of c i) d, n, m, h)
+    search (arith, length-take, length-drop, start-next)
 
 -- a block stays the same when other blocks are added after it
 pub part-grown : (c : BlockSizes) (xs es : List ℕ) (i k : ℕ) → length xs ≡ start_of c k → i < k →
     part_of c (xs ++ es) i ≡ part_of c xs i
-part-grown c xs es i k h l =
-    let n = start-next c i in
-    let m = start-most c (i + 1) k (omega arith) in
-    let room : start_of c i ≤ length xs = omega (arith, n, m, h) in
-    let rest : block_len c i ≤ length (drop (start_of c i) xs) = omega (arith, length-drop (start_of c i) xs, n, m, h) in
-    ap (take (block_len c i)) (drop-append-le (start_of c i) xs es room)
-    ∙ take-append-le (block_len c i) (drop (start_of c i) xs) es rest
+part-grown c xs es i k h l = search (arith, start-next, start-most, drop-append-le, take-append-le, length-drop)
 
 -- the block that was added last
 pub part-last : (c : BlockSizes) (xs es : List ℕ) (k : ℕ) → length xs ≡ start_of c k → length es ≡ block_len c k →
     part_of c (xs ++ es) k ≡ es
-part-last c xs es k h l =
-    ap (take (block_len c k)) (drop_at xs es (start_of c k) h) ∙ take_all (block_len c k) es (omega arith)
+part-last c xs es k h l = search (arith, drop_at, take_all)

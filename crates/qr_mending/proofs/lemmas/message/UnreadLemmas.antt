@@ -1,5 +1,5 @@
 -- A message of which some codewords were erased is mended block by block, to at most one message.
-use Rattle.std.proofs.Common.{◌≡◌, refl, ◌==◌, not, Bool, ℕ, ◌+◌, ◌-◌, ◌*◌, ◌/◌, ◌<◌, ◌≤◌, Option, List, [], ◌∷◌, ◌++◌, map, length, length-append, get_or, sym, ◌∙◌, ap, subst, inl, inr, arith}
+use Rattle.std.proofs.Common.{◌≡◌, ◌==◌, not, Bool, ℕ, ◌+◌, ◌-◌, ◌*◌, ◌/◌, ◌<◌, ◌≤◌, Option, List, [], ◌∷◌, ◌++◌, map, length, length-append, get_or, sym, ◌∙◌, subst, inl, inr, arith}
 use Rattle.std.specs.List.{range_with_len}
 use Rattle.std.proofs.lemmas.Bool.{cases_lt}
 use Rattle.std.proofs.lemmas.List.{length_push, get_or_append_left, get_or_push, ext_get_or}
@@ -29,12 +29,7 @@ pub none-erased : (n spare : ℕ) (codewords : List ℕ) (erased : List Bool) �
     ((mended : List ℕ) → IsMendedWithErasures n spare (read_of codewords erased) mended → ⊥) →
     (d e : List ℕ) → length d + n ≡ length codewords → IsCorrection d n e →
     erasures (read_of codewords erased) + 2 * errors (read_of codewords erased) (d ++ e) ≤ spare → ⊥
-none-erased n spare codewords erased none d e long right near =
-    none (d ++ e) (record {
-      block = record { message = d; correction = e; whole = refl; corrects = right };
-      long = omega (arith, length-append d e, right.count, long, length-read codewords erased);
-      near = near;
-    })
+none-erased n spare codewords erased none d e long right near = search (arith, length-append, length-read)
 
 -- one block more
 unread-push : (b : Blocks) (spare : ℕ) (d e u w message misread es c : List ℕ) (n x : ℕ) → n < block_count (data_sizes b) →
@@ -46,31 +41,16 @@ unread-push b spare d e u w message misread es c n x l h len right count near =
     let sizes = data_sizes b in
     let read : ℕ → List (Option ℕ) = λ i. read_by (received b d e i) (received b u w i) in
     record {
-      long = omega (arith, length-append message es, h.long, len, start-next sizes n);
+      long = cc (length-append message es, start-next sizes n);
       many = omega (arith, length_push misread x, h.many);
       each = λ i m. elim (cases_lt i n) [
         | inl k ↦
             let old = h.each i k in
             let same = part-grown sizes message es i n h.long k in
-            let there : get_or (misread ++ x ∷ []) i 0 ≡ get_or misread i 0 =
-            get_or_append_left misread (x ∷ []) 0 i (omega (arith, k, h.many)) in
-            record {
-              correction = old.correction;
-              corrects = subst (λ (z : List ℕ). IsCorrection z b.ec_len old.correction) (sym same) old.corrects;
-              near = omega (arith, there, old.near);
-              count = there ∙ (old.count ∙ ap (λ z. errors (read i) (z ++ old.correction)) (sym same));
-            }
+            search (arith, get_or_append_left)
         | inr k ↦
-            let here : n ≡ i = omega arith in
             let last = part-last sizes message es n h.long len in
-            let there : get_or (misread ++ x ∷ []) n 0 ≡ x = get_or_push misread x 0 n h.many in
-            subst (λ (j : ℕ). IsMendedBlock b spare (read j) (message ++ es) (get_or (misread ++ x ∷ []) j 0) j) here
-            (record {
-              correction = c;
-              corrects = subst (λ (z : List ℕ). IsCorrection z b.ec_len c) (sym last) right;
-              near = omega (arith, there, near);
-              count = there ∙ (count ∙ ap (λ z. errors (read n) (z ++ c)) (sym last));
-            })
+            search (arith, get_or_push)
       ];
     }
 
@@ -98,15 +78,8 @@ blocks-one b spare read m n x y enough few mlong nlong xlong ylong g h =
     let p = g i l in
     let q = h i l in
     let s = part i l in
-    let r : p.correction ≡ q.correction =
-    correction-one (part_of c n i) b.ec_len p.correction q.correction
-    (subst (λ (z : List ℕ). IsCorrection z b.ec_len p.correction) s p.corrects) q.corrects in
-    p.count
-    ∙ (ap (λ z. errors (read i) (z ++ p.correction)) s
-    ∙ (ap (λ z. errors (read i) (part_of c n i ++ z)) r ∙ sym q.count)) in (
-      parts-same c m n mlong nlong part,
-      ext_get_or 0 x y (xlong ∙ sym ylong) (λ i l. count i (omega (arith, l, xlong))),
-    )
+    cc (correction-one (part_of c n i) b.ec_len p.correction q.correction (rw s at p.corrects) q.corrects) in
+    (parts-same c m n mlong nlong part, ext_get_or 0 x y (xlong ∙ sym ylong) (λ i l. count i (omega (arith, l, xlong))))
 
 -- codewords of which some are erased are a damaged form of at most one message
 pub beside-one : (unknown : Grid) (v : ℕ) (l : Level) (cw m n x y : List ℕ) →
@@ -127,55 +100,40 @@ beside-one unknown v l cw m n x y few g h =
 
 -- ---- the steps of the code
 
--- one block more, stated with the variables of the loop
-pub push-unread : (b : Blocks) (spare : ℕ) (d e u w : List ℕ) (n k x : ℕ) (codewords marks : List ℕ) (erased : List Bool)
-    (message misread es more counts : List ℕ) → n ≡ b.ec_len → k < block_count (data_sizes b) → codewords ≡ received b d e k →
-    marks ≡ received b u w k → erased ≡ map (λ mark. not (mark == 0)) marks → length codewords ≡ block_len (data_sizes b) k + b.ec_len →
-    AreMended b spare d e u w k message misread → length es + n ≡ length codewords →
-    ((c : List ℕ) × IsCorrection es n c × (x ≡ errors (read_of codewords erased) (es ++ c))) →
-    erasures (read_of codewords erased) + 2 * x ≤ spare → more ≡ message ++ es → counts ≡ misread ++ x ∷ [] →
-    AreMended b spare d e u w (k + 1) more counts
-push-unread b spare d e u w n k x codewords marks erased message misread es more counts en l ec em ee long h le c near push count =
-    let same : read_of codewords erased ≡ read_by (received b d e k) (received b u w k) =
-    ap (λ (z : List ℕ). read_of z erased) ec
-    ∙ (ap (read_of (received b d e k)) ee ∙ ap (read_by (received b d e k)) em) in
-    let right : IsCorrection es b.ec_len c.0 = subst (λ (z : ℕ). IsCorrection es z c.0) en c.1 in
-    let all : erasures (read_by (received b d e k) (received b u w k)) + 2 * x ≤ spare =
-    subst (λ (z : List (Option ℕ)). erasures z + 2 * x ≤ spare) same near in
-    subst (λ (z : List ℕ). AreMended b spare d e u w (k + 1) z counts) (sym push)
-    (subst (λ (z : List ℕ). AreMended b spare d e u w (k + 1) (message ++ es) z) (sym count)
-    (unread-push b spare d e u w message misread es c.0 k x l h (omega (arith, le, long, en)) right
-    (c.2 ∙ ap (λ (z : List (Option ℕ)). errors z (es ++ c.0)) same) all))
+module _ (b : Blocks) (spare : ℕ) (d e u w : List ℕ) (n k : ℕ) (codewords marks : List ℕ) (erased : List Bool)
+    (en : n ≡ b.ec_len)
+    (l : k < block_count (data_sizes b)) (ec : codewords ≡ received b d e k) (em : marks ≡ received b u w k)
+    (ee : erased ≡ map (λ mark. not (mark == 0)) marks) (long : length codewords
+        ≡ block_len (data_sizes b) k + b.ec_len) where
+  -- what was read of block k
+  read-same : read_of codewords erased ≡ read_by (received b d e k) (received b u w k)
+  read-same = rw (ee, em, ec)
 
--- if a block cannot be mended, the codewords are a damaged form of no message
-pub none-unread : (b : Blocks) (spare : ℕ) (d e u w : List ℕ) (n k : ℕ) (codewords marks : List ℕ) (erased : List Bool) →
-    n ≡ b.ec_len → k < block_count (data_sizes b) → codewords ≡ received b d e k → marks ≡ received b u w k →
-    erased ≡ map (λ mark. not (mark == 0)) marks → length codewords ≡ block_len (data_sizes b) k + b.ec_len →
-    ((x c : List ℕ) → length x + n ≡ length codewords → IsCorrection x n c →
-    erasures (read_of codewords erased) + 2 * errors (read_of codewords erased) (x ++ c) ≤ spare → ⊥) →
-    (message misread : List ℕ) → AreMended b spare d e u w (block_count (data_sizes b)) message misread → ⊥
-none-unread b spare d e u w n k codewords marks erased en l ec em ee long none message misread h =
-    let m = h.each k l in
-    let x = part_of (data_sizes b) message k in
-    let same : read_of codewords erased ≡ read_by (received b d e k) (received b u w k) =
-    ap (λ (z : List ℕ). read_of z erased) ec
-    ∙ (ap (read_of (received b d e k)) ee ∙ ap (read_by (received b d e k)) em) in
-    let near : erasures (read_by (received b d e k) (received b u w k)) + 2 * errors (read_by (received b d e k) (received b u w k)) (x ++ m.correction) ≤ spare =
-    omega (arith, m.near, m.count) in
-    none x m.correction (omega (arith, part-len (data_sizes b) message k h.long l, long, en))
-    (subst (λ (z : ℕ). IsCorrection x z m.correction) (sym en) m.corrects)
-    (subst (λ (z : List (Option ℕ)). erasures z + 2 * errors z (x ++ m.correction) ≤ spare) (sym same) near)
+  -- one block more, stated with the variables of the loop
+  pub push-unread : (x : ℕ) (message misread es more counts : List ℕ) → AreMended b spare d e u w k message misread →
+      length es + n ≡ length codewords →
+      ((c : List ℕ) × IsCorrection es n c × (x ≡ errors (read_of codewords erased) (es ++ c))) →
+      erasures (read_of codewords erased) + 2 * x ≤ spare → more ≡ message ++ es → counts ≡ misread ++ x ∷ [] →
+      AreMended b spare d e u w (k + 1) more counts
+  push-unread x message misread es more counts h le c near push count =
+      rw (push, count) (unread-push b spare d e u w message misread es c.0 k x l h (omega (arith, le, long, en))
+      (rw en at c.1) (rw read-same at c.2) (rw read-same at near))
+
+  -- if a block cannot be mended, the codewords are a damaged form of no message
+  pub none-unread : ((x c : List ℕ) → length x + n ≡ length codewords → IsCorrection x n c →
+      erasures (read_of codewords erased) + 2 * errors (read_of codewords erased) (x ++ c) ≤ spare → ⊥) →
+      (message misread : List ℕ) → AreMended b spare d e u w (block_count (data_sizes b)) message misread → ⊥
+  none-unread none message misread h =
+      let m = h.each k l in
+      let x = part_of (data_sizes b) message k in
+      none x m.correction (omega (arith, part-len (data_sizes b) message k h.long l, long, en)) (rw en m.corrects)
+      (rw read-same (omega (arith, m.near, m.count)))
 
 -- codewords that cannot be mended are a damaged form of no message
 pub none-in-blocks : (b : Blocks) (spare : ℕ) (cw marks d e u w : List ℕ) → AreInBlocks b cw d e → AreInBlocks b marks u w →
     ((message misread : List ℕ) → AreMended b spare d e u w (block_count (data_sizes b)) message misread → ⊥) →
     (message misread : List ℕ) → IsMendedMessage b spare cw marks message misread → ⊥
 none-in-blocks b spare cw marks d e u w g h none message misread m =
-    let c = data_sizes b in
     let first = in-blocks-one b cw m.codewords m.checks d e m.in_blocks g in
     let second = in-blocks-one b marks m.unread m.unread_checks u w m.marked h in
-    none message misread
-    (subst (λ (z : List ℕ). AreMended b spare z e u w (block_count c) message misread) first.0
-    (subst (λ (z : List ℕ). AreMended b spare m.codewords z u w (block_count c) message misread) first.1
-    (subst (λ (z : List ℕ). AreMended b spare m.codewords m.checks z w (block_count c) message misread) second.0
-    (subst (λ (z : List ℕ). AreMended b spare m.codewords m.checks m.unread z (block_count c) message misread) second.1 m.mended))))
+    search arith

@@ -1,5 +1,5 @@
 -- Polynomials with given roots: their lengths, their leading coefficients and their values.
-use Rattle.std.proofs.Common.{◌≡◌, ℕ, ◌+◌, ◌-◌, ◌<◌, ◌≤◌, Bool, true, false, if◌then◌else◌, List, [], ◌∷◌, ◌++◌, length, drop, get_or, refl, sym, ap, ◌∙◌, arith, lit<, bit_xor}
+use Rattle.std.proofs.Common.{◌≡◌, ℕ, ◌+◌, ◌-◌, ◌<◌, ◌≤◌, Bool, true, false, if◌then◌else◌, List, [], ◌∷◌, ◌++◌, length, drop, get_or, refl, ap, arith, bit_xor}
 use Rattle.std.specs.List.{All, count_by, sum_by}
 use Rattle.std.specs.Int.Bits.{xor_assoc, xor_zero_l, xor_zero_r, xor_self}
 use Rattle.std.proofs.lemmas.Nat.{xor_of_8, xor_comm}
@@ -26,8 +26,8 @@ length-times_root r c (a ∷ p) = let rest = length-times_root r a p in omega (a
 bytes-times_root : (r c : ℕ) (p : List ℕ) → r < 256 → c < 256 → All IsByte p → All IsByte (times_root r c p)
 bytes-times_root r c [] lr lc lp = All-cons IsByte c [] lc (All-nil IsByte)
 bytes-times_root r c (a ∷ p) lr lc lp =
-    All-cons IsByte (bit_xor c (product r a)) (times_root r a p) (xor_of_8 c (product r a) lc (product-lt r a lr))
-    (bytes-times_root r a p lr (All-head IsByte a p lp) (All-tail IsByte a p lp))
+    search (arith, All-cons, xor_of_8, product-lt, bytes-times_root r a p lr (All-head IsByte a p lp)
+        (All-tail IsByte a p lp))
 
 -- a product with x + root keeps the leading 1
 monic-times_root : (r c : ℕ) (w : List ℕ) → (v : List ℕ) × (times_root r c (w ++ 1 ∷ []) ≡ v ++ 1 ∷ [])
@@ -39,34 +39,17 @@ monic-times_root r c (a ∷ w) =
 -- the value of a product with x + root, with a carry
 eval-times_root : (y r c : ℕ) (p : List ℕ) → y < 256 → r < 256 → All IsByte p →
     eval y (times_root r c p) ≡ bit_xor c (product (bit_xor y r) (eval y p))
-eval-times_root y r c [] ly lr lp =
-    ap (bit_xor c) (product-by_zero y ly ∙ sym (product-by_zero (bit_xor y r) (xor_of_8 y r ly lr)))
+eval-times_root y r c [] ly lr lp = search (arith, product-by_zero, xor_of_8)
 eval-times_root y r c (a ∷ p) ly lr lp =
     let la = All-head IsByte a p lp in
     let lps = All-tail IsByte a p lp in
-    let s = bit_xor y r in
-    let ls = xor_of_8 y r ly lr in
-    let v = eval y p in
-    let lv = eval-lt y p ly lps in
-    let ya = product y a in
-    let ra = product r a in
-    let z = product y (product s v) in
-    let left : product y (eval y (times_root r a p)) ≡ bit_xor ya z =
-    ap (product y) (eval-times_root y r a p ly lr lps) ∙ product-by_sum y a (product s v) ly la (product-lt s v ls) in
-    let right : product s (bit_xor a (product y v)) ≡ bit_xor (bit_xor ya ra) z =
-    product-by_sum s a (product y v) ls la (product-lt y v ly)
-    ∙ (ap (λ t. bit_xor t (product s (product y v))) (sym (product-xor y r a ly lr))
-    ∙ ap (bit_xor (bit_xor ya ra)) (product-front s y v ls ly lv)) in
-    ap (bit_xor (bit_xor c ra)) left
-    ∙ (xor_assoc c ra (bit_xor ya z)
-    ∙ (ap (bit_xor c) (sym (xor_assoc ra ya z))
-    ∙ (ap (λ t. bit_xor c (bit_xor t z)) (xor_comm ra ya) ∙ ap (bit_xor c) (sym right))))
+    search (arith, xor_of_8, eval-lt, product-by_sum, product-lt, product-xor, product-front, xor_assoc, xor_comm,
+        eval-times_root y r a p ly lr lps)
 
 -- the value of a product with x + root, without a carry
 eval-root : (y r : ℕ) (p : List ℕ) → y < 256 → r < 256 → All IsByte p →
     eval y (times_root r 0 p) ≡ product (bit_xor y r) (eval y p)
-eval-root y r p ly lr lp =
-    eval-times_root y r 0 p ly lr lp ∙ xor_zero_l (product (bit_xor y r) (eval y p))
+eval-root y r p ly lr lp = omega (arith, eval-times_root, xor_zero_l)
 
 -- ---- a root for each erased codeword
 
@@ -77,15 +60,8 @@ count-more b es = sum_by-cons (λ e. if e then 1 else 0) b es
 -- the product has a coefficient more for each erased codeword
 pub length-rooted : (es : List Bool) (p : List ℕ) → length (rooted es p) ≡ length p + count_by (λ e. e) es
 length-rooted [] p = omega arith
-length-rooted (true ∷ es) p =
-    let one = length-times_root (power (length es)) 0 (rooted es p) in
-    let rest = length-rooted es p in
-    let more = count-more true es in
-    omega (arith, one, rest, more)
-length-rooted (false ∷ es) p =
-    let rest = length-rooted es p in
-    let more = count-more false es in
-    omega (arith, rest, more)
+length-rooted (true ∷ es) p = omega (arith, length-times_root, count-more, length-rooted es p)
+length-rooted (false ∷ es) p = omega (arith, count-more, length-rooted es p)
 
 -- the product for the codewords after an erased one has fewer coefficients than the product for all codewords
 pub length-rooted_rest : (es : List Bool) (i : ℕ) (p : List ℕ) → 0 < i → i ≤ length es →
@@ -97,15 +73,12 @@ length-rooted_rest es i p some l h =
     let rest = sum_by-drop_more marked es (i - 1) false (omega (arith, some, l)) in
     let one : marked (get_or es (i - 1) false) ≡ 1 = ap marked h in
     let same : sum_by marked (drop i es) ≡ sum_by marked (drop (i - 1 + 1) es) = ap (λ k. sum_by marked (drop k es)) next in
-    let long : length (rooted (drop i es) p) ≡ length p + sum_by marked (drop i es) = length-rooted (drop i es) p in
-    let whole : count_by (λ e. e) es ≡ sum_by marked es = refl in
-    omega (arith, all, rest, one, same, long, whole)
+    omega (arith, length-rooted)
 
 -- the product has bytes as coefficients
 pub bytes-rooted : (es : List Bool) (p : List ℕ) → All IsByte p → All IsByte (rooted es p)
 bytes-rooted [] p lp = lp
-bytes-rooted (true ∷ es) p lp =
-    bytes-times_root (power (length es)) 0 (rooted es p) (power-lt (length es)) (lit< tt) (bytes-rooted es p lp)
+bytes-rooted (true ∷ es) p lp = search (arith, bytes-times_root, power-lt, bytes-rooted es p lp)
 bytes-rooted (false ∷ es) p lp = bytes-rooted es p lp
 
 -- the product keeps the leading 1
@@ -114,28 +87,16 @@ monic-rooted [] w = (w, refl)
 monic-rooted (true ∷ es) w =
     let rest = monic-rooted es w in
     let one = monic-times_root (power (length es)) 0 rest.0 in
-    (one.0, ap (times_root (power (length es)) 0) rest.1 ∙ one.1)
+    search arith
 monic-rooted (false ∷ es) w = monic-rooted es w
 
 -- the value of the product is the value of the polynomial times that of the factor
 pub eval-rooted : (y : ℕ) (es : List Bool) (p : List ℕ) → y < 256 → All IsByte p →
     eval y (rooted es p) ≡ product (eval y (rooted es (1 ∷ []))) (eval y p)
-eval-rooted y [] p ly lp =
-    sym
-    (ap (λ t. product (bit_xor 1 t) (eval y p)) (product-by_zero y ly)
-    ∙ (ap (λ t. product t (eval y p)) (xor_zero_r 1) ∙ product-of_one (eval y p) (eval-lt y p ly lp)))
+eval-rooted y [] p ly lp = search (arith, product-by_zero, xor_zero_r, product-of_one, eval-lt)
 eval-rooted y (true ∷ es) p ly lp =
-    let r = power (length es) in
-    let lr = power-lt (length es) in
-    let s = bit_xor y r in
-    let g = rooted es (1 ∷ []) in
-    let lg = bytes-rooted es (1 ∷ []) (All-cons IsByte 1 [] (lit< tt) (All-nil IsByte)) in
-    let v = eval y g in
-    let lv = eval-lt y g ly lg in
-    eval-root y r (rooted es p) ly lr (bytes-rooted es p lp)
-    ∙ (ap (product s) (eval-rooted y es p ly lp)
-    ∙ (sym (product-assoc s v (eval y p) (xor_of_8 y r ly lr) lv (eval-lt y p ly lp))
-    ∙ ap (λ t. product t (eval y p)) (sym (eval-root y r g ly lr lg))))
+    search (arith, power-lt, bytes-rooted, All-cons, All-nil, eval-lt, eval-root, product-assoc, xor_of_8,
+        eval-rooted y es p ly lp)
 eval-rooted y (false ∷ es) p ly lp = eval-rooted y es p ly lp
 
 -- the polynomial has a root for each erased codeword
@@ -149,23 +110,13 @@ roots-kept : (es : List Bool) (r : ℕ) (g : List ℕ) → r < 256 → All IsByt
     has-roots es (times_root r 0 g)
 roots-kept [] r g lr lg h = tt
 roots-kept (true ∷ es) r g lr lg h =
-    let y = power (length es) in
-    let ly = power-lt (length es) in (
-      eval-root y r g ly lr lg ∙ (ap (product (bit_xor y r)) h.0 ∙ product-by_zero (bit_xor y r) (xor_of_8 y r ly lr)),
-      roots-kept es r g lr lg h.1,
-    )
+    search (arith, power-lt, eval-root, product-by_zero, xor_of_8, roots-kept es r g lr lg h.1)
 roots-kept (false ∷ es) r g lr lg h = roots-kept es r g lr lg h
 
 -- the product has a root for each erased codeword
 pub rooted-roots : (es : List Bool) (p : List ℕ) → All IsByte p → has-roots es (rooted es p)
 rooted-roots [] p lp = tt
 rooted-roots (true ∷ es) p lp =
-    let r = power (length es) in
-    let lr = power-lt (length es) in
-    let g = rooted es p in
-    let lg = bytes-rooted es p lp in (
-      eval-root r r g lr lr lg
-          ∙ (ap (λ t. product t (eval r g)) (xor_self r) ∙ product-of_zero (eval r g) (eval-lt r g lr lg)),
-      roots-kept es r g lr lg (rooted-roots es p lp),
-    )
+    search (arith, power-lt, bytes-rooted, eval-root, xor_self, product-of_zero, eval-lt, roots-kept,
+        rooted-roots es p lp)
 rooted-roots (false ∷ es) p lp = rooted-roots es p lp

@@ -1,8 +1,7 @@
 -- Damaged squares are mended one by one, and are joined to the bytes of the undamaged squares.
-use Rattle.std.proofs.Common.{◌≡◌, ℕ, List, [], ◌∷◌, sym, ◌∙◌, ap}
+use Rattle.std.proofs.Common.{arith, ◌≡◌, ℕ, List, [], ◌∷◌}
 use Rattle.std.specs.Prelude.{Result, Ok, Err, MatchResult}
-use Rattle.qr_bits.specs.Bits.{bits_of}
-use Rattle.qr_bits.specs.Parsing.{Content, parse}
+use Rattle.qr_bits.specs.Parsing.{Content}
 use Rattle.qr_matrix.specs.Grid.{Grid, light}
 use Rattle.qr_symbol.specs.declared.fault.ReadFault.{ReadFault}
 use Rattle.qr_symbol.specs.declared.fault.ReadFault.TheVariants as fault
@@ -19,24 +18,15 @@ content-one g c d h k = (mended-reading-one (light g.side) g h.0 k.0 h.1 k.1 h.2
 
 -- a square that is mended is refused only for lack of memory
 pub content-refused : (g : Grid) (c : Content) (e : ReadFault) → IsMendedContent g c → IsUnmended (light g.side) g e → e ≡ fault.Memory
-content-refused g c e h u = mended-not-refused (light g.side) g h.0 h.1 h.2 c h.3 e h.4 u
+content-refused g c e h u = search (arith, mended-not-refused)
 
 -- a damaged square is mended to the content that the whole square is read as
 damaged-content : (d w : Grid) (c : Content) → IsDamagedSquare d w → IsReading w c → IsMendedContent d c
 damaged-content d w c s h =
     let m = moved w h.version s.version h.level s.level h.mask s.mask h.message h.sized s.sized h.format s.format h.holds in
     let sized = s.sized in
-    let same : h.message ≡ s.message = message-one s.version s.level s.mask w h.message s.message sized.least sized.most m.1 s.holds in (
-      s.version,
-      s.level,
-      s.mask,
-      s.changed,
-      record {
-        message = s.message;
-        form = s.form;
-        parsed = ap (λ (x : List ℕ). parse s.version (bits_of x)) (sym same) ∙ (ap (λ (v : ℕ). parse v (bits_of h.message)) (sym m.0) ∙ h.parsed);
-      },
-    )
+    let same : h.message ≡ s.message = message-one s.version s.level s.mask w h.message s.message sized.least
+        sized.most m.1 s.holds in search arith
 
 -- damaged squares are mended to the contents that the whole squares are read as
 damaged-contents : (ds ws : List Grid) (cs : List Content) → AreDamagedSquares ds ws → AreReadBy IsReading ws cs → AreReadBy IsMendedContent ds cs
@@ -50,15 +40,10 @@ damaged-contents (d ∷ ds) (w ∷ ws) (c ∷ cs) s h = (damaged-content d w c s
 
 -- damaged squares are joined to the bytes that the whole squares are joined to
 pub damaged-joined : (ds ws : List Grid) (x : List ℕ) → AreDamagedSquares ds ws → IsJoined ws x → IsMendedSeries ds x
-damaged-joined ds ws x s h = record {
-  contents = h.contents;
-  read = damaged-contents ds ws h.contents s h.read;
-  together = h.together;
-  joined = h.joined;
-}
+damaged-joined ds ws x s h = search (arith, damaged-contents)
 
 -- squares that can be joined to bytes with their damage mended are joined to them, unless memory is refused
 pub mended-to : {T : Type 0} (bytes : T → List ℕ) (ds : List Grid) (x : List ℕ) (r : Result T ReadFault) → IsMendedSeries ds x →
     MatchResult r (λ b. IsMendedSeries ds (bytes b)) (IsUnmendedSeries ds) → MatchResult r (λ b. bytes b ≡ x) (λ e. e ≡ fault.Memory)
 mended-to bytes ds x (Ok b) h k = joining-one IsMendedContent content-one ds (bytes b) x k h
-mended-to bytes ds x (Err e) h k = joined-refused IsMendedContent (λ g. IsUnmended (light g.side) g) content-one content-refused ds x e h k
+mended-to bytes ds x (Err e) h k = search (arith, joined-refused, content-one, content-refused)

@@ -1,11 +1,11 @@
 -- Values of polynomials, and sums of products of their coefficients with the items of a list.
-use Rattle.std.proofs.Common.{◌≡◌, ℕ, ◌+◌, ◌*◌, ◌<◌, ◌≤◌, List, [], ◌∷◌, ◌++◌, length, take, drop, get_or, refl, sym, ap, ◌∙◌, subst, inl, inr, arith, lit<, bit_xor}
+use Rattle.std.proofs.Common.{◌≡◌, ℕ, ◌+◌, ◌*◌, ◌<◌, ◌≤◌, List, [], ◌∷◌, ◌++◌, length, take, drop, get_or, refl, sym, ap, ◌∙◌, inl, inr, arith, lit<, bit_xor}
 use Rattle.std.specs.List.{All}
 use Rattle.std.specs.Int.Bits.{xor_assoc, xor_zero_l, xor_zero_r}
-use Rattle.std.proofs.lemmas.Nat.{xor_of_8}
+use Rattle.std.proofs.lemmas.Nat.{xor_of_8, xor_comm}
 use Rattle.std.proofs.lemmas.Bool.{cases_lt}
-use Rattle.std.proofs.lemmas.List.{length_push, length-take, get_or-take, get_or_push, get_or_append_left, drop_more, take_more}
-use Rattle.std.proofs.lemmas.List.Elements.{All-head, All-tail, All-from_get_or}
+use Rattle.std.proofs.lemmas.List.{length_push, get_or_push, get_or_append_left, drop_more, take_more}
+use Rattle.std.proofs.lemmas.List.Elements.{All-head, All-tail, All-take, All-from_get_or}
 use Rattle.qr_field.specs.Galois.{product}
 use Rattle.qr_field.specs.Polynomial.{IsByte, plus, scaled, power}
 use Rattle.qr_field.specs.Steps.Polynomial.{value_at}
@@ -13,9 +13,22 @@ use Rattle.qr_field.proofs.lemmas.galois.BitLemmas.{xor-swap}
 use Rattle.qr_field.proofs.lemmas.galois.ByteLemmas.{product-by_zero, product-of_zero, product-by_one, product-of_one}
 use Rattle.qr_field.proofs.lemmas.galois.ProductLemmas.{product-lt, product-xor}
 use Rattle.qr_field.proofs.lemmas.logarithm.PowerLemmas.{power-lt, power-add}
-use Rattle.qr_field.proofs.lemmas.galois.FieldLemmas.{product-assoc, product-by_sum}
+use Rattle.qr_field.proofs.lemmas.galois.FieldLemmas.{product-comm, product-assoc, product-front, product-by_sum}
 use Rattle.qr_field.proofs.lemmas.laws.ValueLemmas.{value-lt}
 use Rattle.qr_mending.specs.Steps.Sums.{dot_of, eval, blend, HasValues}
+
+-- ---- the field
+
+pub xor-front : (a b c : ℕ) → bit_xor a (bit_xor b c) ≡ bit_xor b (bit_xor a c)
+xor-front a b c = search (arith, xor_assoc, xor_comm)
+
+-- the laws by which two sums of products of bytes are brought into one form
+pub ruleset field_laws = (product-by_sum, ← product-xor, product-assoc, product-front, product-comm, xor_assoc,
+    xor-front, xor_comm, product-lt)
+
+-- the next power of a power
+pub power-next : (i m : ℕ) → power ((i + 1) * m) ≡ product (power m) (power (i * m))
+power-next i m = rw (← power-add m (i * m)) (ap power (omega arith))
 
 -- ---- values
 
@@ -23,41 +36,31 @@ use Rattle.qr_mending.specs.Steps.Sums.{dot_of, eval, blend, HasValues}
 value-push : (i : ℕ) (p : List ℕ) (c : ℕ) → All IsByte p → c < 256 →
     value_at i (p ++ c ∷ []) ≡ bit_xor (product (value_at i p) (power i)) c
 value-push i [] c a l =
-    let none : List ℕ = [] in
-    let e : i * length none ≡ 0 = omega arith in
-    ap (λ t. bit_xor (product c (power t)) 0) e
-    ∙ (xor_zero_r (product c (power 0))
-    ∙ (product-by_one c l
-    ∙ sym (ap (λ t. bit_xor t c) (product-of_zero (power i) (power-lt i)) ∙ xor_zero_l c)))
+    let none : i * 0 ≡ 0 = omega arith in
+    cc (none, xor_zero_r (product c (power 0)), product-by_one c l, product-of_zero (power i) (power-lt i),
+        xor_zero_l c)
 value-push i (b ∷ p) c a l =
     let lb = All-head IsByte b p a in
     let lp = All-tail IsByte b p a in
-    let m = length p in
-    let place = power (i * m) in
-    let li = power-lt (i * m) in
-    let longer : length (p ++ c ∷ []) ≡ m + 1 = length_push p c in
-    let exponent : i * (m + 1) ≡ i * m + i = omega arith in
-    let head : product b (power (i * length (p ++ c ∷ []))) ≡ product (product b place) (power i) =
-    ap (λ t. product b (power (i * t))) longer
-    ∙ (ap (λ t. product b (power t)) exponent
-    ∙ (ap (product b) (power-add (i * m) i) ∙ sym (product-assoc b place (power i) lb li (power-lt i)))) in
-    ap (λ t. bit_xor t (value_at i (p ++ c ∷ []))) head
-    ∙ (ap (bit_xor (product (product b place) (power i))) (value-push i p c lp l)
-    ∙ (sym (xor_assoc (product (product b place) (power i)) (product (value_at i p) (power i)) c)
-    ∙ ap (λ t. bit_xor t c) (product-xor (product b place) (value_at i p) (power i) (product-lt b place lb) (value-lt i p lp))))
+    let place = power (i * length p) in
+    let exponent : i * (length p + 1) ≡ i * length p + i = omega arith in
+    cc (
+      length_push p c,
+      exponent,
+      power-add (i * length p) i,
+      product-assoc b place (power i) lb (power-lt (i * length p)) (power-lt i),
+      value-push i p c lp l,
+      xor_assoc (product (product b place) (power i)) (product (value_at i p) (power i)) c,
+      product-xor (product b place) (value_at i p) (power i) (product-lt b place lb) (value-lt i p lp),
+    )
 
 -- the value of a block with one codeword more
 pub value-more : (i k v x w : ℕ) (block : List ℕ) → k < length block → ((j : ℕ) → get_or block j 0 < 256) →
     x ≡ power i → v ≡ value_at i (take k block) → w ≡ product v x →
     bit_xor w (get_or block k 0) ≡ value_at i (take (k + 1) block)
 value-more i k v x w block l b ex ev ew =
-    let bytes : All IsByte (take k block) =
-    All-from_get_or IsByte (take k block) 0 (λ j m.
-    let n : j < k = omega (arith, m, length-take k block) in
-    subst (λ (t : ℕ). t < 256) (sym (get_or-take k block j 0 n)) (b j)) in
-    let c = get_or block k 0 in
-    ap (λ t. bit_xor t c) (ew ∙ (ap (λ t. product t x) ev ∙ ap (product (value_at i (take k block))) ex))
-    ∙ (sym (value-push i (take k block) c bytes (b k)) ∙ ap (value_at i) (sym (take_more block k 0 l)))
+    let bytes = All-take IsByte k block (All-from_get_or IsByte block 0 (λ j m. b j)) in
+    cc (value-push i (take k block) (get_or block k 0) bytes (b k), take_more block k 0 l)
 
 -- a list of values with one value more
 pub values-more : (s : List ℕ) (k v : ℕ) (e : List ℕ) → length s ≡ k → HasValues s e → v ≡ value_at k e →
@@ -83,26 +86,22 @@ dot-lt (x ∷ p) (y ∷ w) a =
 -- the sum of products for a sum of two lists, of which the first is multiplied by c
 pub dot-plus : (c : ℕ) (xs ys w : List ℕ) → c < 256 → All IsByte xs → All IsByte ys → All IsByte w →
     length xs ≤ length ys → dot_of (plus (scaled c xs) ys) w ≡ bit_xor (product c (dot_of xs w)) (dot_of ys w)
-dot-plus c [] ys w lc lx ly lw h =
-    sym (ap (λ t. bit_xor t (dot_of ys w)) (product-by_zero c lc) ∙ xor_zero_l (dot_of ys w))
+dot-plus c [] ys w lc lx ly lw h = cc (product-by_zero c lc, xor_zero_l (dot_of ys w))
 dot-plus c (x ∷ xs) [] w lc lx ly lw h = absurd (omega arith)
-dot-plus c (x ∷ xs) (y ∷ ys) [] lc lx ly lw h = sym (ap (λ t. bit_xor t 0) (product-by_zero c lc) ∙ xor_zero_l 0)
+dot-plus c (x ∷ xs) (y ∷ ys) [] lc lx ly lw h = cc (product-by_zero c lc, xor_zero_l 0)
 dot-plus c (x ∷ xs) (y ∷ ys) (b ∷ w) lc lx ly lw h =
     let ax = All-head IsByte x xs lx in
     let ay = All-head IsByte y ys ly in
     let ab = All-head IsByte b w lw in
     let lxs = All-tail IsByte x xs lx in
-    let lys = All-tail IsByte y ys ly in
-    let lws = All-tail IsByte b w lw in
     let d = dot_of xs w in
-    let head : product (bit_xor (product c x) y) b ≡ bit_xor (product c (product x b)) (product y b) =
-    sym (product-xor (product c x) y b (product-lt c x lc) ay)
-    ∙ ap (λ t. bit_xor t (product y b)) (product-assoc c x b lc ax ab) in
-    ap (λ t. bit_xor t (dot_of (plus (scaled c xs) ys) w)) head
-    ∙ (ap (bit_xor (bit_xor (product c (product x b)) (product y b))) (dot-plus c xs ys w lc lxs lys lws (omega arith))
-    ∙ (xor-swap (product c (product x b)) (product y b) (product c d) (dot_of ys w)
-    ∙ ap (λ t. bit_xor t (bit_xor (product y b) (dot_of ys w)))
-    (sym (product-by_sum c (product x b) d lc (product-lt x b ax) (dot-lt xs w lxs)))))
+    cc (
+      product-xor (product c x) y b (product-lt c x lc) ay,
+      product-assoc c x b lc ax ab,
+      dot-plus c xs ys w lc lxs (All-tail IsByte y ys ly) (All-tail IsByte b w lw) (omega arith),
+      xor-swap (product c (product x b)) (product y b) (product c d) (dot_of ys w),
+      product-by_sum c (product x b) d lc (product-lt x b ax) (dot-lt xs w lxs),
+    )
 
 -- the sum of products with a list of values
 pub dot-blend : (p : List ℕ) (i : ℕ) (s e : List ℕ) → HasValues s e → i + length p ≤ length s →
@@ -110,31 +109,24 @@ pub dot-blend : (p : List ℕ) (i : ℕ) (s e : List ℕ) → HasValues s e → 
 dot-blend [] i s e h l = refl
 dot-blend (a ∷ p) i s e h l =
     let m : i < length s = omega arith in
-    ap (dot_of (a ∷ p)) (drop_more s i 0 m)
-    ∙ (ap (λ t. bit_xor (product a t) (dot_of p (drop (i + 1) s))) (h.each i m)
-    ∙ ap (bit_xor (product a (value_at i e))) (dot-blend p (i + 1) s e h (omega arith)))
+    cc (drop_more s i 0 m, h.each i m, dot-blend p (i + 1) s e h (omega arith))
 
 -- the value of a polynomial at a byte is a byte
 pub eval-lt : (x : ℕ) (p : List ℕ) → x < 256 → All IsByte p → eval x p < 256
 eval-lt x [] l a = lit< tt
-eval-lt x (c ∷ p) l a =
-    xor_of_8 c (product x (eval x p)) (All-head IsByte c p a) (product-lt x (eval x p) l)
+eval-lt x (c ∷ p) l a = xor_of_8 c (product x (eval x p)) (All-head IsByte c p a) (product-lt x (eval x p) l)
 
 -- the sum of products for a list that ends with a leading 1
 pub blend-push : (p : List ℕ) (i : ℕ) (e : List ℕ) → All IsByte e →
     blend (p ++ 1 ∷ []) i e ≡ bit_xor (blend p i e) (value_at (i + length p) e)
 blend-push [] i e a =
-    let none : List ℕ = [] in
-    let same : i ≡ i + length none = omega arith in
-    xor_zero_r (product 1 (value_at i e))
-    ∙ (product-of_one (value_at i e) (value-lt i e a)
-    ∙ (ap (λ t. value_at t e) same ∙ sym (xor_zero_l (value_at (i + length none) e))))
+    let same : i + 0 ≡ i = omega arith in
+    cc (same, xor_zero_r (product 1 (value_at i e)), product-of_one (value_at i e) (value-lt i e a),
+        xor_zero_l (value_at i e))
 blend-push (b ∷ p) i e a =
     let same : i + 1 + length p ≡ i + length (b ∷ p) = omega arith in
-    let head = product b (value_at i e) in
-    ap (bit_xor head) (blend-push p (i + 1) e a)
-    ∙ (sym (xor_assoc head (blend p (i + 1) e) (value_at (i + 1 + length p) e))
-    ∙ ap (λ t. bit_xor (bit_xor head (blend p (i + 1) e)) (value_at t e)) same)
+    cc (blend-push p (i + 1) e a, xor_assoc (product b (value_at i e)) (blend p (i + 1) e)
+        (value_at (i + 1 + length p) e), same)
 
 -- an empty list contains the first values of every list
 pub values-none : (s e : List ℕ) → s ≡ [] → HasValues s e

@@ -1,26 +1,21 @@
-use Rattle.std.proofs.Common.{Err, length, sym, ap, subst, ◌∙◌, arith}
+use Rattle.std.proofs.Common.{Err, ap, arith}
 use Rattle.qr_symbol.specs.declared.fault.ReadFault.{ReadFault}
-use Rattle.qr_symbol.specs.Reading.{IsRead}
 use Rattle.qr_mending.proofs.lemmas.mending.MendingLemmas.{no-use}
 use Rattle.qr_mending.proofs.lemmas.message.MarkLemmas.{by-marks, of-marks}
 use Rattle.qr_mending.proofs.mending.mend_by.Goals as goal
 
 pub returns-in-Ok-clause-mended : goal.returns-in-Ok-clause-mended
 returns-in-Ok-clause-mended c =
-    let v = c.args.version in
-    let u = c.args.unknown.now in
-    let cw = c.deref.result.now in
-    let value = c.deref.ensures.value in
-    let read = subst (IsRead v c.in-Some.mask c.args.matrix.now) (sym value) c.in_ok-codewords.ensures.read in
-    let many = ap length value ∙ c.in_ok-codewords.ensures.many in
     let m = c.in-Ok.field-0 in
-    let mended = rw c.in-Ok.field-0-is at c.in-Ok.ensures.mended in (
+    let mended = rw c.in-Ok.field-0-is at c.in-Ok.ensures.mended in
+    let many = rw (← c.deref.ensures.value) at c.in_ok-codewords.ensures.many in (
       c.in-Some.ensures,
       record {
-        codewords = cw;
-        held = read;
-        mended = of-marks v c.in-Some.level u cw c.args.marks.now m.message.items m.changed.items (omega arith) (omega arith)
-            many c.requires.erased mended;
+        codewords = c.deref.result.now;
+        held = rw c.deref.ensures.value c.in_ok-codewords.ensures.read;
+        mended = of-marks c.args.version c.in-Some.level c.args.unknown.now c.deref.result.now c.args.marks.now
+            m.message.items m.changed.items
+            (omega arith) (omega arith) many c.requires.erased mended;
       },
       rw c.in-Ok.field-0-is at c.in-Ok.ensures.many,
     )
@@ -30,9 +25,8 @@ returns-in-Err-Check-clause-mended c =
     let u = c.args.unknown.now in
     let v = c.args.version in
     let value = c.deref.ensures.value in
-    let read = subst (IsRead v c.in-Some.mask c.args.matrix.now) (sym value) c.in_ok-codewords.ensures.read in
-    let many = ap length value ∙ c.in_ok-codewords.ensures.many in
-    no-use u c.args.copy c.args.matrix.now v c.in-Some.level c.in-Some.mask c.deref.result.now c.in-Some.ensures read (λ message misread h.
+    no-use u c.args.matrix.now c.args.copy v c.in-Some.level c.in-Some.mask c.deref.result.now c.in-Some.ensures
+    (rw value c.in_ok-codewords.ensures.read) (λ message misread h.
     c.in-Err-Check.ensures.refused (ap (λ (f : ReadFault). Err f) c.in-Err-Check.field-0-is) message misread
-    (by-marks v c.in-Some.level u c.deref.result.now c.args.marks.now message misread (omega arith) (omega arith) many
-    c.requires.erased h))
+    (by-marks v c.in-Some.level u c.deref.result.now c.args.marks.now message misread (omega arith) (omega arith)
+    (rw (← value) at c.in_ok-codewords.ensures.many) c.requires.erased h))

@@ -1,43 +1,22 @@
-use Rattle.std.proofs.Common.{ℕ, List, length, sym, ap, subst, ◌∙◌, arith}
+use Rattle.std.proofs.Common.{sym, ◌∙◌}
 use Rattle.std.proofs.lemmas.Result.{err_from_is_err_and}
-use Rattle.qr_layout.proofs.Facts.{laws-of}
-use Rattle.qr_mending.specs.Mending.{IsDamagedForm}
 use Rattle.qr_mending.proofs.lemmas.mending.MendingLemmas.{mended-unparsed}
 use Rattle.qr_mending.proofs.mending.mend_symbol_without.Goals as goal
 
 pub returns-in_default-clause-mended : goal.returns-in_default-clause-mended
 returns-in_default-clause-mended c = λ v s. c.in_default.ensures v s.least s.most (c.side.ensures.value ∙ s.side)
 
-pub refusal-requires-clause-sized : goal.refusal-requires-clause-sized
-refusal-requires-clause-sized c =
-    let found = c.in-Some.ensures in
-    record { least = found.0; most = found.1; side = sym c.side.ensures.value ∙ found.2 }
-
-pub refusal-requires-clause-useless : goal.refusal-requires-clause-useless
-refusal-requires-clause-useless c = rw c.in_default-2.is at c.in_ok-mended.ensures.mended
-
-pub returns-in_default-2-clause-mended : goal.returns-in_default-2-clause-mended
-returns-in_default-2-clause-mended c = c.refusal.ensures
-
-pub parse-requires : goal.parse-requires
-parse-requires c =
-    let mended = rw c.in-Some-2.is at c.in_ok-mended.ensures.mended in
-    let most = (laws-of c.in-Some-2.mended.level c.in-Some.version (omega arith) (omega arith)).most in
-    let many = ap length c.deref.ensures.value ∙ mended.2 in
-    omega arith
-
 pub returns-in_err-parsed-clause-mended : goal.returns-in_err-parsed-clause-mended
 returns-in_err-parsed-clause-mended c =
     let found = c.in-Some.ensures in
     let m = c.in-Some-2.mended in
-    let unknown = c.args.unknown.now in
     let mended = rw c.in-Some-2.is at c.in_ok-mended.ensures.mended in
     let p = err_from_is_err_and c.from_residual-in_err-parsed.result c.from_residual-in_err-parsed.ensures.1 in
-    rw (p.1, p.2) (mended-unparsed unknown c.args.matrix.now c.in-Some.version m.level m.mask c.deref.result.now m.changed.items c.in_err-parsed.field-0.0
-    (subst (λ (z : List ℕ). IsDamagedForm unknown c.args.matrix.now c.in-Some.version m.level m.mask z m.changed.items) (sym c.deref.ensures.value)
-    (record {
+    rw (p.1, p.2) (mended-unparsed c.args.unknown.now c.args.matrix.now c.in-Some.version m.level m.mask
+        c.deref.result.now
+    m.changed.items c.in_err-parsed.field-0.0
+    (rw c.deref.ensures.value (record {
       sized = record { least = found.0; most = found.1; side = sym c.side.ensures.value ∙ found.2 };
       format = mended.0;
       damaged = mended.1;
-    }))
-    c.in_err-parsed.ensures)
+    })) c.in_err-parsed.ensures)
