@@ -1,9 +1,7 @@
 use Rattle.std.proofs.Common.{◌≡◌, ◌-◌, suc, [], ◌∷◌, length, get_or, take, drop, vec_len, refl, arith}
 use Rattle.std.proofs.Math.Seq.{drop-length, drop-cons}
 use Rattle.std.proofs.lemmas.List.{reverse-append, take_all, length-drop}
-use Rattle.qr_bits.specs.Modes.{is_kanji_pair}
-use Rattle.qr_bits.specs.Steps.RunState.{begins_with_pair}
-use Rattle.qr_bits.specs.Steps.BestModes.{IsRow}
+use Rattle.qr_bits.specs.{Modes.is_kanji_pair, Steps.RunState.begins_with_pair, Steps.BestModes.IsRow}
 use Rattle.qr_bits.proofs.lemmas.best_modes.TableLemmas.{best_none, best_more, small_more, small_row, zeros}
 use Rattle.qr_bits.proofs.best_modes.best_modes.Goals as goal
 

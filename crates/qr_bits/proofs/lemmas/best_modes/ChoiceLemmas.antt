@@ -4,10 +4,8 @@ use Rattle.std.proofs.lemmas.Bool.{cases_lt}
 use Rattle.qr_bits.specs.declared.modes.Mode.{Mode}
 use Rattle.qr_bits.specs.declared.modes.Mode.TheVariants.{Numeric, Alphanumeric, Byte, Kanji}
 use Rattle.qr_bits.specs.declared.modes.Rule.{Rule}
-use Rattle.qr_bits.specs.declared.run_state.RunState.{RunState}
-use Rattle.qr_bits.specs.declared.run_state.RunState.TheVariants.{InBytes, HalfPair}
-use Rattle.qr_bits.specs.Segmentation.{rank}
-use Rattle.qr_bits.specs.Modes.{may_use}
+use Rattle.qr_bits.specs.declared.run_state.RunState.{RunState, TheVariants.InBytes, TheVariants.HalfPair}
+use Rattle.qr_bits.specs.{Segmentation.rank, Modes.may_use}
 use Rattle.qr_bits.specs.Steps.RunState.{state_after, state_on, byte_cost, may_begin, may_take, may_end, choice_number, ranked, IsChoice}
 
 -- the least of the numbers of the four modes

@@ -1,10 +1,7 @@
 -- Folding around kanji pairs, step by step.
 use Rattle.std.proofs.Common.{◌≡◌, ℕ, suc, ◌<◌, ◌≤◌, true, false, List, [], ◌∷◌, ◌++◌, length, get_or, take, drop, refl, ap, ⊎_elim, arith, append_assoc}
-use Rattle.std.proofs.lemmas.List.{length-map}
-use Rattle.std.proofs.lemmas.Bool.{cases_Bool}
-use Rattle.qr_bits.specs.declared.modes.Rule.{Rule}
-use Rattle.qr_bits.specs.declared.modes.Rule.TheVariants.{WithKanji}
-use Rattle.qr_bits.specs.Modes.{is_kanji_pair}
+use Rattle.std.proofs.lemmas.{List.length-map, Bool.cases_Bool}
+use Rattle.qr_bits.specs.{declared.modes.Rule.Rule, declared.modes.Rule.TheVariants.WithKanji, Modes.is_kanji_pair}
 use Rattle.qr_bits.specs.Folding.{capital, folded, folded_around_pairs}
 use Rattle.qr_bits.specs.Steps.RunState.{begins_with_pair}
 

@@ -2,21 +2,14 @@
 use Rattle.std.proofs.Common.{◌≡◌, ℕ, zero, suc, ◌+◌, ◌-◌, ◌*◌, ◌/◌, ◌%◌, ◌<◌, ◌≤◌, min, Bool, true, false, All, List, [], ◌++◌, length, replicate, Ok, Option, refl, sym, ◌∙◌, ap, ⊎_elim, arith, append_assoc, length-append, append-nil}
 use Rattle.std.proofs.lemmas.Bool.{lt-ltb, cases_lt, or_right}
 use Rattle.std.proofs.lemmas.List.{length-replicate, drop_all}
-use Rattle.qr_layout.specs.declared.level.Level.{Level}
-use Rattle.qr_layout.specs.Blocks.{data_codewords_of}
-use Rattle.qr_bits.specs.declared.segment.Segment.{Segment}
-use Rattle.qr_bits.specs.declared.header.Header.{Header}
-use Rattle.qr_bits.specs.Bits.{bits_of}
-use Rattle.qr_bits.specs.Segmentation.{bits}
-use Rattle.qr_bits.specs.Header.{header_bits}
-use Rattle.qr_bits.specs.Stream.{IsStream}
+use Rattle.qr_layout.specs.{declared.level.Level.Level, Blocks.data_codewords_of}
+use Rattle.qr_bits.specs.declared.{segment.Segment.Segment, header.Header.Header}
+use Rattle.qr_bits.specs.{Bits.bits_of, Segmentation.bits, Header.header_bits, Stream.IsStream}
 use Rattle.qr_bits.specs.Parsing.{ends, bytes_of, parse}
 use Rattle.qr_bits.specs.Padding.{capacity_of, terminated, filled, pads, padded, IsData}
-use Rattle.qr_bits.proofs.lemmas.bits.BitLemmas.{length-bits_of}
-use Rattle.qr_bits.proofs.lemmas.padding.PaddingLemmas.{length-header_stream}
+use Rattle.qr_bits.proofs.lemmas.{bits.BitLemmas.length-bits_of, padding.PaddingLemmas.length-header_stream}
 use Rattle.qr_bits.proofs.lemmas.parsing.ValueLemmas.{bytes_again, bytes_takes}
-use Rattle.qr_bits.proofs.lemmas.stream.WritingLemmas.{length-segments_stream}
-use Rattle.qr_bits.proofs.lemmas.parsing.StreamReadingLemmas.{parse_again}
+use Rattle.qr_bits.proofs.lemmas.{stream.WritingLemmas.length-segments_stream, parsing.StreamReadingLemmas.parse_again}
 
 -- The length of a stream is the number of bits of its header and its segments.
 pub length-stream : (v : ℕ) (xs : List ℕ) (segs : List Segment) (h : Option Header) (stream : List Bool) → IsStream v xs segs h stream → length stream ≡ header_bits h + bits v segs

@@ -1,17 +1,13 @@
 -- `least_bits` is a lower bound on the number of bits of any segments.
 use Rattle.std.proofs.Common.{◌≡◌, ℕ, ◌*◌, ◌≤◌, Bool, true, cond, nat_le, List, [], ◌∷◌, length, take, drop, sum_by, ap, arith, IsTrue}
-use Rattle.std.specs.List.{list_all}
 use Rattle.std.proofs.lemmas.Bool.{and_parts, false≢true, le-leb}
-use Rattle.std.proofs.lemmas.List.{length-take-le}
-use Rattle.std.proofs.lemmas.List.Sums.{sum_by-cons, sum_by-take-drop}
-use Rattle.qr_bits.specs.declared.modes.Mode.{Mode}
-use Rattle.qr_bits.specs.declared.modes.Rule.{Rule}
-use Rattle.qr_bits.specs.declared.segment.Segment.{Segment}
+use Rattle.std.proofs.lemmas.List.{length-take-le, Sums.sum_by-cons, Sums.sum_by-take-drop}
+use Rattle.std.specs.List.{list_all}
+use Rattle.qr_bits.specs.declared.{modes.Mode.Mode, modes.Rule.Rule, segment.Segment.Segment}
 use Rattle.qr_bits.specs.Modes.{is_kanji_pair, is_digit, is_alphanumeric, suits, payload_bits}
 use Rattle.qr_bits.specs.Segmentation.{bits, HasFit, least_sixths, least_bits}
 use Rattle.qr_bits.proofs.lemmas.segment.CoverLemmas.{CoversBy, covers_by}
-use Rattle.qr_bits.proofs.lemmas.modes.CharacterLemmas.{past_z}
-use Rattle.qr_bits.proofs.lemmas.segment.SegmentLemmas.{payload_least}
+use Rattle.qr_bits.proofs.lemmas.{modes.CharacterLemmas.past_z, segment.SegmentLemmas.payload_least}
 
 -- the lower bound of a byte is at most 39 sixths of a bit
 most : (digit low : Bool) → cond digit 20 (cond low 33 39) ≤ 39

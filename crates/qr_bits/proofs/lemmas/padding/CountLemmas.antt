@@ -1,21 +1,16 @@
 -- If the bits of segments fit a symbol, each count fits its field.
 use Rattle.std.proofs.Common.{◌≡◌, ℕ, ◌+◌, ◌-◌, ◌*◌, ◌^◌, ◌<◌, ◌≤◌, Bool, true, false, cond, leb, List, [], ◌∷◌, length, drop, ap, arith, subst}
+use Rattle.std.proofs.lemmas.{Bool.le-leb, Bool.lt-leb, List.length-drop}
 use borrow.Author.Tests.{leb-true}
-use Rattle.std.proofs.lemmas.Bool.{le-leb, lt-leb}
-use Rattle.qr_layout.specs.declared.level.Level.{Level}
-use Rattle.qr_layout.specs.Version.{total_codewords_of}
+use Rattle.qr_layout.specs.{declared.level.Level.Level, Version.total_codewords_of}
 use Rattle.qr_layout.specs.Blocks.{correction_len_of, block_count_of, data_codewords_of}
 use Rattle.qr_layout.proofs.Facts.{below, below-at}
-use Rattle.qr_bits.specs.declared.modes.Mode.{Mode}
-use Rattle.qr_bits.specs.declared.modes.Rule.{Rule}
-use Rattle.qr_bits.specs.declared.segment.Segment.{Segment}
+use Rattle.qr_bits.specs.declared.{modes.Mode.Mode, modes.Rule.Rule, segment.Segment.Segment}
 use Rattle.qr_bits.specs.Modes.{is_kanji_pair, character_count, count_width}
 use Rattle.qr_bits.specs.Segmentation.{segment_bits, bits, HasFit}
-use Rattle.qr_bits.specs.Stream.{CountsFit}
-use Rattle.qr_bits.specs.Padding.{capacity_of}
+use Rattle.qr_bits.specs.{Stream.CountsFit, Padding.capacity_of}
 use Rattle.qr_bits.proofs.lemmas.segment.SegmentLemmas.{segment_least, bits_least}
 use Rattle.qr_bits.proofs.lemmas.segment.CoverLemmas.{CoversBy, covers_suits, covers_by, by_covers}
-use Rattle.std.proofs.lemmas.List.{length-drop}
 
 -- the most data codewords of the versions to 9, to 26 and to 40
 abbrev most_data : ℕ → ℕ

@@ -1,12 +1,8 @@
 -- The terminator and the pad codewords.
 use Rattle.std.proofs.Common.{◌≡◌, ℕ, zero, suc, ◌+◌, ◌-◌, ◌%◌, ◌<◌, ◌≤◌, min, ◌==◌, Bool, cond, List, [], ◌∷◌, ◌++◌, length, length-append, refl, arith, All}
-use Rattle.std.specs.Option.{ForSome}
-use Rattle.qr_layout.specs.declared.level.Level.{Level}
-use Rattle.qr_layout.specs.Blocks.{data_codewords_of}
-use Rattle.qr_bits.specs.declared.segment.Segment.{Segment}
-use Rattle.qr_bits.specs.declared.header.Header.{Header}
-use Rattle.std.specs.Prelude.{Option}
-use Rattle.qr_bits.specs.Bits.{field, bits_of}
+use Rattle.std.specs.{Option.ForSome, Prelude.Option}
+use Rattle.qr_layout.specs.{declared.level.Level.Level, Blocks.data_codewords_of}
+use Rattle.qr_bits.specs.{declared.segment.Segment.Segment, declared.header.Header.Header, Bits.field, Bits.bits_of}
 use Rattle.qr_bits.specs.Header.{header_stream, HeaderFits, header_bits}
 use Rattle.qr_bits.specs.Stream.{IsStream}
 use Rattle.qr_bits.specs.Padding.{capacity_of, filled, pads, padded, IsData}

@@ -1,12 +1,9 @@
 -- The data of a segment is read group by group.
 use Rattle.std.proofs.Common.{cond, nat_lt, ◌≡◌, ℕ, suc, ◌+◌, ◌-◌, ◌/◌, ◌%◌, ◌^◌, ◌<◌, ◌≤◌, Bool, List, [], ◌∷◌, ◌++◌, take, drop, Result, Ok, Err, arith}
-use Rattle.std.proofs.lemmas.List.{length-take, append_assoc}
-use Rattle.std.proofs.Math.Nat.{pow-le-pow_right}
+use Rattle.std.proofs.{lemmas.List.length-take, lemmas.List.append_assoc, Math.Nat.pow-le-pow_right}
 use Rattle.qr_bits.specs.declared.modes.Mode.TheVariants.{Numeric, Alphanumeric}
-use Rattle.qr_bits.specs.declared.fault.ParseFault.{ParseFault}
-use Rattle.qr_bits.specs.declared.fault.ParseFault.TheVariants.{BadValue}
-use Rattle.qr_bits.specs.Bits.{value}
-use Rattle.qr_bits.specs.Modes.{payload_bits}
+use Rattle.qr_bits.specs.declared.fault.ParseFault.{ParseFault, TheVariants.BadValue}
+use Rattle.qr_bits.specs.{Bits.value, Modes.payload_bits}
 use Rattle.qr_bits.specs.Parsing.{◌>>=◌, digit, digits_of, character, characters_of, bytes_of}
 use Rattle.qr_bits.specs.Steps.Parsing.{IsFaultOf}
 use Rattle.qr_bits.proofs.lemmas.bits.BitLemmas.{value_below}

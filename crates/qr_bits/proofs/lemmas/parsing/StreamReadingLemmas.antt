@@ -5,17 +5,13 @@ use Rattle.std.proofs.lemmas.List.{length-take-le, length-drop, drop-drop, take-
 use Rattle.std.proofs.lemmas.List.Elements.{All-nil, All-append, All-take, All-drop}
 use Rattle.std.proofs.Math.Seq.{take-append_seam, drop-append_seam}
 use borrow.Author.Tests.{leb-true}
-use Rattle.qr_bits.specs.declared.modes.Mode.{Mode}
-use Rattle.qr_bits.specs.declared.segment.Segment.{Segment}
-use Rattle.qr_bits.specs.declared.header.Header.{Header}
-use Rattle.qr_bits.specs.declared.fault.ParseFault.TheVariants.{Cut}
-use Rattle.qr_bits.specs.Bits.{field, value}
+use Rattle.qr_bits.specs.declared.{modes.Mode.Mode, segment.Segment.Segment, header.Header.Header}
+use Rattle.qr_bits.specs.{declared.fault.ParseFault.TheVariants.Cut, Bits.field, Bits.value}
 use Rattle.qr_bits.specs.Modes.{character_count, count_width, byte_count, payload_bits, suits, indicator}
 use Rattle.qr_bits.specs.Header.{header_indicator, header_stream, HeaderFits}
 use Rattle.qr_bits.specs.Stream.{payload, segment_stream, segments_stream, Suits, CountsFit, IsStream}
 use Rattle.qr_bits.specs.Parsing.{◌>>=◌, values_of, mode_of, ends, leading_number, payload_at, segment_at, segments_at, segments_of, begins_header, header_at, first_header, Content, parse}
-use Rattle.qr_bits.proofs.lemmas.bits.BitLemmas.{length-field}
-use Rattle.qr_bits.proofs.lemmas.parsing.PayloadLemmas.{value_take_below}
+use Rattle.qr_bits.proofs.lemmas.{bits.BitLemmas.length-field, parsing.PayloadLemmas.value_take_below}
 use Rattle.qr_bits.proofs.lemmas.parsing.ParsingLemmas.{bind_ok, bind_all, guard_ok, same_ok, not_ended, ended_empty, segment_shorter, segments_end, segments_step, header_whole}
 use Rattle.qr_bits.proofs.lemmas.stream.StreamLemmas.{drop-field, read_field, field_read}
 use Rattle.qr_bits.proofs.lemmas.parsing.ValueLemmas.{IsWritten, values_again, values_takes}

@@ -2,16 +2,13 @@
 use Rattle.std.proofs.Common.{◌≡◌, ℕ, zero, suc, ◌+◌, true, ◌==◌, List, [], ◌∷◌, ◌++◌, length, replicate, refl, append_assoc, arith}
 use Rattle.std.proofs.lemmas.Bool.Decides.{nat_tests}
 use Rattle.std.proofs.lemmas.Bool.{and_from, cond_both, ne_eqb}
-use Rattle.qr_bits.specs.declared.modes.Mode.{Mode}
-use denote.Enum.Bare.{sameb}
-use Rattle.qr_bits.specs.contracts.modes.Mode.{the_type}
-use Rattle.qr_bits.specs.declared.modes.Rule.{Rule}
-use Rattle.qr_bits.specs.declared.segment.Segment.{Segment}
-use Rattle.qr_bits.specs.Modes.{may_use}
+use Rattle.std.proofs.lemmas.List.Sums.{sum_by-cons}
+use Rattle.qr_bits.specs.{declared.modes.Mode.Mode, contracts.modes.Mode.the_type}
+use Rattle.qr_bits.specs.{declared.modes.Rule.Rule, declared.segment.Segment.Segment, Modes.may_use}
 use Rattle.qr_bits.specs.Segmentation.{rank, prepend_mode, runs_of}
 use Rattle.qr_bits.specs.Steps.Segmentation.{one_segment, append_mode}
+use denote.Enum.Bare.{sameb}
 use Rattle.std.specs.List.{list_all, sum_by}
-use Rattle.std.proofs.lemmas.List.Sums.{sum_by-cons}
 use Rattle.qr_bits.proofs.lemmas.run_state.BestLemmas.{same_rank}
 
 -- one mode added before segments and another added after them, in either order

@@ -1,16 +1,11 @@
 -- If only byte mode may be used, there is one valid assignment: byte mode for each byte.
 use Rattle.std.proofs.Common.{◌≡◌, ℕ, ◌+◌, ◌*◌, ◌<◌, ◌≤◌, min, take, ⊎_elim, true, List, [], ◌∷◌, length, replicate, refl, sym, arith, inr}
+use Rattle.std.proofs.lemmas.{List.length-take-le, Bool.cases_lt}
 use Rattle.std.specs.List.{list_all}
-use Rattle.std.proofs.lemmas.List.{length-take-le}
-use Rattle.std.proofs.lemmas.Bool.{cases_lt}
-use Rattle.qr_bits.specs.declared.modes.Mode.{Mode}
-use Rattle.qr_bits.specs.declared.modes.Mode.TheVariants.{Byte}
-use Rattle.qr_bits.specs.declared.modes.Rule.TheVariants.{BytesOnly}
+use Rattle.qr_bits.specs.declared.modes.{Mode.Mode, Mode.TheVariants.Byte, Rule.TheVariants.BytesOnly}
 use Rattle.qr_bits.specs.Segmentation.{bits, IsAssignment, IsNotAfter, IsLeastSegmentation, IsLongestFit}
-use Rattle.qr_bits.specs.Modes.{may_use, count_width}
-use Rattle.qr_bits.specs.Steps.Segmentation.{one_segment}
-use Rattle.qr_bits.proofs.lemmas.segment.CoverLemmas.{one_covers}
-use Rattle.qr_bits.proofs.lemmas.segment.SegmentLemmas.{covers_all, least_fits}
+use Rattle.qr_bits.specs.{Modes.may_use, Modes.count_width, Steps.Segmentation.one_segment}
+use Rattle.qr_bits.proofs.lemmas.segment.{CoverLemmas.one_covers, SegmentLemmas.covers_all, SegmentLemmas.least_fits}
 use Rattle.qr_bits.proofs.lemmas.segmentation.BackLemmas.{sum_by-runs_of, runs_of-replicate, all_used}
 
 -- the only mode that the rule allows is byte mode

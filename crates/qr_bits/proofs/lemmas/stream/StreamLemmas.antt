@@ -1,17 +1,15 @@
 -- Fields and digits: what is written is read back, and what is read is written as the same bits.
 use Rattle.std.proofs.lemmas.Bool.Decides.{nat_tests}
 use Rattle.std.proofs.Common.{◌≡◌, ℕ, zero, suc, ◌+◌, ◌-◌, ◌*◌, ◌/◌, ◌%◌, ◌^◌, ◌<◌, ◌≤◌, Bool, true, false, cond, ◌==◌, nat_lt, All, List, [], ◌∷◌, ◌++◌, length, take, drop, Result, Ok, Err, refl, sym, ◌∙◌, ap, subst, arith, append_assoc}
-use borrow.Author.Tests.{leb-true}
-use Rattle.std.specs.List.{list_all}
 use Rattle.std.proofs.lemmas.Bool.{lt-ltb, ltb-true, and_parts}
 use Rattle.std.proofs.lemmas.List.Elements.{All-nil, All-cons}
 use Rattle.std.proofs.lemmas.List.{length-take-le, length-drop, drop-drop, take-append-drop}
 use Rattle.std.proofs.Math.Seq.{take-append_seam, drop-append_seam}
-use Rattle.std.proofs.lemmas.Nat.{mod-pow-add}
-use Rattle.std.proofs.Math.Nat.{pow-suc, mod-eq_of_lt}
+use Rattle.std.proofs.{lemmas.Nat.mod-pow-add, Math.Nat.pow-suc, Math.Nat.mod-eq_of_lt}
+use borrow.Author.Tests.{leb-true}
+use Rattle.std.specs.List.{list_all}
 use Rattle.qr_bits.specs.declared.modes.Mode.TheVariants.{Numeric}
-use Rattle.qr_bits.specs.declared.fault.ParseFault.{ParseFault}
-use Rattle.qr_bits.specs.declared.fault.ParseFault.TheVariants.{BadValue}
+use Rattle.qr_bits.specs.declared.fault.ParseFault.{ParseFault, TheVariants.BadValue}
 use Rattle.qr_bits.specs.Bits.{field, value_from, value}
 use Rattle.qr_bits.specs.Modes.{payload_bits, is_digit}
 use Rattle.qr_bits.specs.Parsing.{◌>>=◌, digit, digits_of}

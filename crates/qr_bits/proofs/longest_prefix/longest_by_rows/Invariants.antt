@@ -1,9 +1,6 @@
 use Rattle.std.proofs.Common.{ℕ, ◌*◌, ◌≤◌, List, reverse, take}
-use Rattle.qr_bits.specs.declared.run_state.RunState.{RunState}
-use Rattle.qr_bits.specs.Segmentation.{HasFit}
-use Rattle.qr_bits.specs.Modes.{is_kanji_pair}
-use Rattle.qr_bits.specs.Steps.RunState.{swapped}
-use Rattle.qr_bits.specs.Steps.BestModes.{bits_at, follow}
+use Rattle.qr_bits.specs.{declared.run_state.RunState.RunState, Segmentation.HasFit, Modes.is_kanji_pair}
+use Rattle.qr_bits.specs.Steps.{RunState.swapped, BestModes.bits_at, BestModes.follow}
 use Rattle.qr_bits.proofs.lemmas.run_state.BestLemmas.{BestBelow}
 use Rattle.qr_bits.proofs.longest_prefix.longest_by_rows.Given as goal
 

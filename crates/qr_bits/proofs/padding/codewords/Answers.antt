@@ -1,10 +1,8 @@
 use Rattle.std.proofs.Common.{ℕ, ◌+◌, ◌<◌, ◌++◌, refl, arith, length-append}
-use Rattle.qr_bits.specs.Header.{header_stream}
-use Rattle.qr_bits.specs.Stream.{segments_stream, IsStream}
 use Rattle.std.proofs.lemmas.List.Elements.{All-from_get_or}
+use Rattle.qr_bits.specs.{Header.header_stream, Stream.segments_stream, Stream.IsStream}
 use Rattle.qr_bits.proofs.lemmas.segment.SegmentLemmas.{covers_all, bits_most, bits_least}
-use Rattle.qr_bits.proofs.lemmas.stream.WritingLemmas.{length-segments_stream}
-use Rattle.qr_bits.proofs.lemmas.segment.CoverLemmas.{covers_suits}
+use Rattle.qr_bits.proofs.lemmas.{stream.WritingLemmas.length-segments_stream, segment.CoverLemmas.covers_suits}
 use Rattle.qr_bits.proofs.lemmas.padding.PaddingLemmas.{is_data, length-header_stream, header_fits, header_most}
 use Rattle.qr_bits.proofs.lemmas.padding.CountLemmas.{capacity_most, counts_fit}
 use Rattle.qr_bits.proofs.padding.codewords.Goals as goal

@@ -1,9 +1,6 @@
 use Rattle.std.proofs.Common.{◌-◌, append_assoc, arith}
-use Rattle.std.proofs.lemmas.Bool.Decides.{nat_tests}
-use Rattle.std.proofs.lemmas.Bool.{le-ltb}
-use Rattle.std.proofs.lemmas.List.{length-drop, drop-drop}
-use Rattle.qr_bits.specs.declared.modes.Mode.TheVariants.{Alphanumeric}
-use Rattle.qr_bits.specs.declared.fault.ParseFault.TheVariants.{BadValue}
+use Rattle.std.proofs.lemmas.{Bool.Decides.nat_tests, Bool.le-ltb, List.length-drop, List.drop-drop}
+use Rattle.qr_bits.specs.declared.{modes.Mode.TheVariants.Alphanumeric, fault.ParseFault.TheVariants.BadValue}
 use Rattle.qr_bits.specs.Modes.{payload_bits}
 use Rattle.qr_bits.proofs.lemmas.parsing.PayloadLemmas.{payload_two_less, characters_step, fails}
 use Rattle.qr_bits.proofs.parsing.characters.Goals as goal

@@ -1,7 +1,5 @@
 use Rattle.std.proofs.Common.{◌≡◌, ◌≤◌, length, drop}
-use Rattle.qr_bits.specs.declared.modes.Mode.TheVariants.{Numeric}
-use Rattle.qr_bits.specs.Modes.{payload_bits}
-use Rattle.qr_bits.specs.Parsing.{digits_of}
+use Rattle.qr_bits.specs.{declared.modes.Mode.TheVariants.Numeric, Modes.payload_bits, Parsing.digits_of}
 use Rattle.qr_bits.proofs.lemmas.parsing.PayloadLemmas.{prepend_read}
 use Rattle.qr_bits.proofs.parsing.digits.Given as goal
 

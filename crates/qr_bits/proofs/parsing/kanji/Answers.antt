@@ -1,7 +1,5 @@
 use Rattle.std.proofs.Common.{◌*◌, ◌-◌, append_assoc, arith}
-use Rattle.std.proofs.lemmas.Bool.Decides.{nat_tests}
-use Rattle.std.proofs.lemmas.Bool.{lt-leb}
-use Rattle.std.proofs.lemmas.List.{length-drop, drop-drop}
+use Rattle.std.proofs.lemmas.{Bool.Decides.nat_tests, Bool.lt-leb, List.length-drop, List.drop-drop}
 use Rattle.qr_bits.specs.declared.fault.ParseFault.TheVariants.{BadValue}
 use Rattle.qr_bits.proofs.lemmas.modes.KanjiLemmas.{pairs_step}
 use Rattle.qr_bits.proofs.lemmas.parsing.PayloadLemmas.{fails, value_take_below}

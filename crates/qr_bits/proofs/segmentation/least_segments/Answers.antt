@@ -1,16 +1,11 @@
 use Rattle.std.proofs.Common.{◌≡◌, List, [], ◌∷◌, ◌++◌, reverse, sym, ◌∙◌, ap, arith, rules}
+use Rattle.std.proofs.lemmas.{Bool.false≢true, List.append-nil, List.nil_from_length}
 use denote.Enum.Bare.{same_true}
-use Rattle.qr_bits.specs.contracts.modes.Mode.{the_type}
-use Rattle.std.proofs.lemmas.Bool.{false≢true}
-use Rattle.qr_bits.specs.declared.segment.Segment.{Segment}
-use Rattle.qr_bits.specs.declared.run_state.RunState.TheVariants.{Start}
-use Rattle.qr_bits.specs.Segmentation.{runs_of}
-use Rattle.qr_bits.specs.Steps.RunState.{state_after, state_on}
-use Rattle.qr_bits.specs.Steps.Segmentation.{one_segment}
-use Rattle.qr_bits.specs.Steps.BestModes.{follow}
+use Rattle.qr_bits.specs.{contracts.modes.Mode.the_type, declared.segment.Segment.Segment}
+use Rattle.qr_bits.specs.{declared.run_state.RunState.TheVariants.Start, Segmentation.runs_of}
+use Rattle.qr_bits.specs.Steps.{RunState.state_after, RunState.state_on, Segmentation.one_segment, BestModes.follow}
 use Rattle.qr_bits.proofs.lemmas.segmentation.BackLemmas.{run_same, run_other, runs_of-push, sameb_self}
 use Rattle.qr_bits.proofs.lemmas.best_modes.ChoiceLemmas.{on_after}
-use Rattle.std.proofs.lemmas.List.{append-nil, nil_from_length}
 use Rattle.qr_bits.proofs.lemmas.best_modes.TableLemmas.{follow-nil, led_on, assignment_from_table}
 use Rattle.qr_bits.proofs.segmentation.least_segments.Goals as goal
 

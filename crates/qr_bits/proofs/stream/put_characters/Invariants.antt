@@ -1,7 +1,6 @@
 use Rattle.std.proofs.Common.{◌≡◌, ◌++◌, true, length}
 use Rattle.std.specs.List.{list_all}
-use Rattle.qr_bits.specs.Modes.{is_alphanumeric}
-use Rattle.qr_bits.specs.Stream.{character_bits}
+use Rattle.qr_bits.specs.{Modes.is_alphanumeric, Stream.character_bits}
 use Rattle.qr_bits.proofs.stream.put_characters.Given as goal
 
 -- what is written and what is left are the whole

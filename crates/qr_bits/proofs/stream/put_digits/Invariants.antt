@@ -1,7 +1,6 @@
 use Rattle.std.proofs.Common.{◌≡◌, ◌++◌, true, length}
 use Rattle.std.specs.List.{list_all}
-use Rattle.qr_bits.specs.Modes.{is_digit}
-use Rattle.qr_bits.specs.Stream.{digit_bits}
+use Rattle.qr_bits.specs.{Modes.is_digit, Stream.digit_bits}
 use Rattle.qr_bits.proofs.stream.put_digits.Given as goal
 
 -- what is written and what is left are the whole

@@ -1,6 +1,5 @@
 use Rattle.std.proofs.Common.{append_assoc, arith, append-nil}
-use Rattle.qr_bits.specs.declared.modes.Mode.TheVariants.{Numeric}
-use Rattle.qr_bits.specs.declared.segment.Segment.{Segment}
+use Rattle.qr_bits.specs.declared.{modes.Mode.TheVariants.Numeric, segment.Segment.Segment}
 use Rattle.qr_bits.proofs.lemmas.segment.SegmentLemmas.{covers_next}
 use Rattle.qr_bits.proofs.lemmas.stream.WritingLemmas.{stream_next, stream_end, append_next}
 use Rattle.qr_bits.proofs.stream.put_segments.Goals as goal

@@ -1,6 +1,5 @@
 use Rattle.std.proofs.Common.{◌≡◌, ◌++◌, ◌<◌, ◌^◌, drop, length}
-use Rattle.qr_bits.specs.Segmentation.{Covers}
-use Rattle.qr_bits.specs.Stream.{segments_stream}
+use Rattle.qr_bits.specs.{Segmentation.Covers, Stream.segments_stream}
 use Rattle.qr_bits.proofs.stream.put_segments.Given as goal
 
 -- what is written and what is left are the whole

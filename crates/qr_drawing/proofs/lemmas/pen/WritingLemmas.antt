@@ -4,8 +4,7 @@ use Rattle.std.proofs.KnownBytes.{Appends-trans, Appends-nil}
 use Rattle.qr_devices.specs.Device.{AppendsBeginning, Writer, counted}
 use Rattle.qr_drawing.specs.Steps.Pen.{Reserves}
 use Rattle.qr_drawing.specs.Steps.Writing.{Sends, Stops, Writes}
-use Rattle.qr_drawing.specs.declared.pen.DrawFault.{DrawFault}
-use Rattle.qr_drawing.specs.declared.pen.Pen.{Pen}
+use Rattle.qr_drawing.specs.declared.pen.{DrawFault.DrawFault, Pen.Pen}
 
 -- counts of bytes add up
 counted-on : (a b c x y z : ℕ) → z ≡ x + y → a < 2 ^ 64 → b ≡ counted (a + x) → (b < 2 ^ 64 → c ≡ counted (b + y)) → c ≡ counted (a + z)

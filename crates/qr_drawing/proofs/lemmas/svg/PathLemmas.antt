@@ -1,15 +1,11 @@
 -- Which paths are in the rows of a raster, and how they join while they are written.
 use Rattle.std.proofs.Common.{◌≡◌, ◌≤◌, ◌<◌, ◌+◌, ◌-◌, ◌*◌, ◌++◌, ◌∙◌, ◌&&◌, leb, ltb, ℕ, zero, suc, Bool, true, false, List, [], ◌∷◌, length, map, get_or, refl, sym, ap, arith, append_assoc, append-nil, inl, inr}
+use Rattle.std.proofs.{Math.Nat.suc-mul, lemmas.Bool.cases_lt, lemmas.Bool.Decides.nat_tests}
+use Rattle.std.proofs.lemmas.List.{get_or-map, length-map, Elements.All-get_or}
 use Rattle.std.specs.Prelude.{codes}
-use Rattle.std.proofs.Math.Nat.{suc-mul}
-use Rattle.std.proofs.lemmas.Bool.{cases_lt}
 use Rattle.std.specs.List.{flat_map, prefix_len, range_with_len}
-use Rattle.std.proofs.lemmas.Bool.Decides.{nat_tests}
-use Rattle.std.proofs.lemmas.List.{get_or-map, length-map}
-use Rattle.std.proofs.lemmas.List.Elements.{All-get_or}
 use Rattle.qr_matrix.specs.Grid.{Grid, colour, light}
-use Rattle.qr_matrix.specs.DarkRuns.{AreDarkRuns}
-use Rattle.qr_matrix.specs.declared.dark_runs.Run.{Run}
+use Rattle.qr_matrix.specs.{DarkRuns.AreDarkRuns, declared.dark_runs.Run.Run}
 use Rattle.qr_matrix.proofs.Facts.{AreRunsFrom, all-runs, other-runs, run-colours, run-in}
 use Rattle.qr_drawing.specs.Drawing.{HaveOneSide}
 use Rattle.qr_drawing.specs.Raster.{is_dark_at, raster_width, texts_below}

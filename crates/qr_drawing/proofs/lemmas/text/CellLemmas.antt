@@ -1,19 +1,15 @@
 -- The cells of a line by the bits of their modules, and the room that they take.
 use Rattle.std.proofs.Common.{◌≡◌, ◌++◌, ◌∙◌, ◌<◌, ◌≤◌, ◌+◌, ◌-◌, ◌*◌, ◌/◌, ◌%◌, ◌^◌, ◌&&◌, ℕ, Bool, true, false, not, List, [], ◌∷◌, length, get_or, nat_eq, length-append, append-nil, append_assoc, length-drop, take, drop, refl, sym, ap, arith}
-use Rattle.std.proofs.Math.Nat.{add-mul, mul-le-mul_right}
+use Rattle.std.proofs.{Math.Nat.add-mul, Math.Nat.mul-le-mul_right, Math.Seq.take-append_seam, lemmas.List.drop_all}
 use Rattle.std.specs.Cmp.Lexicographic.{pointwise, same_text}
 use Rattle.qr_matrix.specs.Grid.{Grid, colour, is_same}
-use Rattle.qr_matrix.specs.BitRow.{has_bit}
-use Rattle.qr_matrix.specs.Sums.{all_below}
+use Rattle.qr_matrix.specs.{BitRow.has_bit, Sums.all_below}
 use Rattle.qr_matrix.proofs.Facts.{&&-left, &&-right, below-at, has_bit-shr, low-bits, same-same}
 use Rattle.qr_drawing.specs.Raster.{is_dark_at, raster_width, texts_below}
 use Rattle.qr_drawing.specs.Text.{cell_of, cells_of_line, half_blocks}
 use Rattle.qr_drawing.specs.Steps.Text.{AreDark, bits_text, cell_at, cell_room, cell_text, pair_text, top_row}
-use Rattle.qr_drawing.specs.declared.text.TheConstants.{ASCII_QUADS}
-use Rattle.qr_drawing.specs.declared.text.TextStyle.{TextStyle}
+use Rattle.qr_drawing.specs.declared.text.{TheConstants.ASCII_QUADS, TextStyle.TextStyle}
 use Rattle.qr_drawing.specs.declared.text.TextStyle.TheVariants.{Plain, Inverse, HalfBlocks}
-use Rattle.std.proofs.Math.Seq.{take-append_seam}
-use Rattle.std.proofs.lemmas.List.{drop_all}
 use borrow.Rule.Slice.PartMut.{put_mid}
 use Rattle.qr_drawing.proofs.lemmas.text.LineLemmas.{added_more, texts_below-add, texts_below-alike, texts_below-length}
 use Rattle.qr_drawing.proofs.lemmas.svg.PathLemmas.{is_dark_at_inside, is_dark_at_left, is_dark_at_right}

@@ -1,12 +1,9 @@
 -- How the texts of places join while they are added and written.
 use Rattle.std.proofs.Common.{◌≡◌, ◌++◌, ◌∙◌, ◌<◌, ◌≤◌, ◌+◌, ◌-◌, ◌*◌, ℕ, zero, suc, List, [], ◌∷◌, refl, sym, ap, arith, append_assoc, append-nil, take, length, length-append, get_or}
-use Rattle.std.proofs.Math.Nat.{suc-mul}
+use Rattle.std.proofs.{Math.Nat.suc-mul, lemmas.Grind.flat_map-append, lemmas.List.take_all, lemmas.List.take_more}
 use Rattle.std.specs.List.{flat_map, range_with_len}
-use Rattle.std.proofs.lemmas.Grind.{flat_map-append}
-use Rattle.std.proofs.lemmas.List.{take_all, take_more}
 use Rattle.qr_devices.specs.Device.{Writer}
-use Rattle.qr_drawing.specs.Raster.{texts_below}
-use Rattle.qr_drawing.specs.Steps.Writing.{Stops, Writes}
+use Rattle.qr_drawing.specs.{Raster.texts_below, Steps.Writing.Stops, Steps.Writing.Writes}
 use Rattle.qr_drawing.proofs.lemmas.pen.WritingLemmas.{stops_first, writes_none, writes_on, writes_stop}
 
 -- n + 1 numbers are n numbers and one more

@@ -1,6 +1,5 @@
 use Rattle.std.proofs.Common.{append_assoc}
-use Rattle.qr_drawing.specs.Svg.{declaration}
-use Rattle.qr_drawing.specs.Steps.Svg.{head}
+use Rattle.qr_drawing.specs.{Svg.declaration, Steps.Svg.head}
 use Rattle.qr_drawing.proofs.svg.push_head.Goals as goal
 
 pub returns : goal.returns

@@ -1,7 +1,5 @@
 use Rattle.std.proofs.Common.{◌+◌, ◌++◌}
-use Rattle.qr_drawing.specs.Raster.{texts_below}
-use Rattle.qr_drawing.specs.Svg.{row_path}
-use Rattle.qr_drawing.specs.Steps.Writing.{Writes}
+use Rattle.qr_drawing.specs.{Raster.texts_below, Svg.row_path, Steps.Writing.Writes}
 use Rattle.qr_drawing.proofs.svg.put_symbol.Given as goal
 
 abbrev pub invariant-loop-row : goal.invariant-loop-row

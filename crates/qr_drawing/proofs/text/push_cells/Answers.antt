@@ -1,7 +1,6 @@
 use Rattle.std.proofs.Common.{◌+◌, arith}
 use Rattle.qr_drawing.specs.Steps.Text.{cell_at}
-use Rattle.qr_drawing.proofs.lemmas.text.LineLemmas.{added_next, added_none}
-use Rattle.qr_drawing.proofs.lemmas.text.CellLemmas.{room-cells}
+use Rattle.qr_drawing.proofs.lemmas.text.{LineLemmas.added_next, LineLemmas.added_none, CellLemmas.room-cells}
 use Rattle.qr_drawing.proofs.text.push_cells.Goals as goal
 
 pub loop-done-init : goal.loop-done-init

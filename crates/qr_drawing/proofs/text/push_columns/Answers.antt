@@ -1,8 +1,6 @@
 use Rattle.std.proofs.Common.{◌≡◌, ◌+◌, ◌*◌, ◌/◌, ◌++◌, ◌∙◌, ap, arith}
-use Rattle.qr_drawing.specs.Raster.{texts_below}
-use Rattle.qr_drawing.specs.Steps.Text.{cell_at}
-use Rattle.qr_drawing.proofs.lemmas.text.LineLemmas.{added_none}
-use Rattle.qr_drawing.proofs.lemmas.text.CellLemmas.{added-cells, room-cells}
+use Rattle.qr_drawing.specs.{Raster.texts_below, Steps.Text.cell_at}
+use Rattle.qr_drawing.proofs.lemmas.text.{LineLemmas.added_none, CellLemmas.added-cells, CellLemmas.room-cells}
 use Rattle.qr_drawing.proofs.text.push_columns.Goals as goal
 
 pub eights-init : goal.eights-init

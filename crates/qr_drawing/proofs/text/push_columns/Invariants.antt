@@ -1,6 +1,5 @@
 use Rattle.std.proofs.Common.{◌≡◌, ◌≤◌, ◌+◌, ◌-◌, ◌*◌, ◌/◌, ◌%◌, ◌++◌}
-use Rattle.qr_drawing.specs.Raster.{texts_below}
-use Rattle.qr_drawing.specs.Steps.Text.{cell_at}
+use Rattle.qr_drawing.specs.{Raster.texts_below, Steps.Text.cell_at}
 use Rattle.qr_drawing.proofs.text.push_columns.Given as goal
 
 abbrev pub invariant-eights : goal.invariant-eights

@@ -1,7 +1,6 @@
 use Rattle.std.proofs.Common.{◌≡◌, ◌+◌, ◌*◌, ◌/◌, ◌%◌, ◌++◌, ◌∷◌, ◌∙◌, [], false, append_assoc, ap, arith}
 use Rattle.std.proofs.lemmas.Result.{err_from_is_err_and}
-use Rattle.qr_drawing.specs.Raster.{texts_below}
-use Rattle.qr_drawing.specs.Steps.Text.{cell_room, cell_text}
+use Rattle.qr_drawing.specs.{Raster.texts_below, Steps.Text.cell_room, Steps.Text.cell_text}
 use Rattle.qr_drawing.proofs.lemmas.text.CellLemmas.{cell-length, line-parts, room-left, room-light}
 use Rattle.qr_drawing.proofs.lemmas.pen.WritingLemmas.{formed, stops_between, stops_first, writes_on}
 use Rattle.qr_drawing.proofs.text.put_line.Goals as goal

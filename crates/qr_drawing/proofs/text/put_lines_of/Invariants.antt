@@ -1,7 +1,5 @@
 use Rattle.std.proofs.Common.{◌++◌, ◌∷◌, []}
-use Rattle.qr_drawing.specs.Text.{cells_of_line}
-use Rattle.qr_drawing.specs.Raster.{texts_below}
-use Rattle.qr_drawing.specs.Steps.Writing.{Writes}
+use Rattle.qr_drawing.specs.{Text.cells_of_line, Raster.texts_below, Steps.Writing.Writes}
 use Rattle.qr_drawing.proofs.text.put_lines_of.Given as goal
 
 abbrev pub invariant-loop-y : goal.invariant-loop-y

@@ -1,7 +1,6 @@
 use Rattle.std.proofs.Common.{map, ap, refl, arith}
 use Rattle.std.proofs.lemmas.Result.{err_from_is_err_and}
-use Rattle.qr_drawing.specs.Svg.{square_at}
-use Rattle.qr_drawing.specs.Text.{text_drawing}
+use Rattle.qr_drawing.specs.{Svg.square_at, Text.text_drawing}
 use Rattle.qr_drawing.proofs.lemmas.text.LineLemmas.{no-texts, put_next, put_none, put_stops}
 use Rattle.qr_drawing.proofs.lemmas.svg.PathLemmas.{square_at-item, texts-of-symbols}
 use Rattle.qr_drawing.proofs.text.put_texts.Goals as goal

@@ -1,8 +1,5 @@
 use Rattle.std.proofs.Common.{◌++◌, map}
-use Rattle.qr_drawing.specs.Raster.{texts_below}
-use Rattle.qr_drawing.specs.Svg.{square_at}
-use Rattle.qr_drawing.specs.Text.{text_drawing}
-use Rattle.qr_drawing.specs.Steps.Writing.{Writes}
+use Rattle.qr_drawing.specs.{Raster.texts_below, Svg.square_at, Text.text_drawing, Steps.Writing.Writes}
 use Rattle.qr_drawing.proofs.text.put_texts.Given as goal
 
 abbrev pub invariant-loop-symbol : goal.invariant-loop-symbol

@@ -1,11 +1,9 @@
 -- The laws of the field of 256 elements: a product does not depend on the order of its factors or on the brackets, the
 -- product by a sum is the sum of the products, and a product is 0 only if a factor is 0.
 use Rattle.std.proofs.Common.{◌≡◌, ℕ, ◌+◌, ◌-◌, ◌<◌, sym, ap, ◌∙◌, inl, inr, arith, bit_xor}
-use Rattle.std.proofs.lemmas.Bool.{cases_eq}
-use Rattle.std.proofs.lemmas.Nat.{xor_of_8}
+use Rattle.std.proofs.lemmas.{Bool.cases_eq, Nat.xor_of_8}
 use Rattle.std.specs.Int.Bits.{xor_zero_r}
-use Rattle.qr_field.specs.Galois.{product}
-use Rattle.qr_field.specs.Polynomial.{power}
+use Rattle.qr_field.specs.{Galois.product, Polynomial.power}
 use Rattle.qr_field.proofs.lemmas.galois.BitLemmas.{xor-cancel}
 use Rattle.qr_field.proofs.lemmas.galois.ByteLemmas.{product-by_zero, product-of_zero, product-by_one}
 use Rattle.qr_field.proofs.lemmas.galois.ProductLemmas.{product-lt, product-xor}

@@ -1,12 +1,10 @@
 -- The values of polynomials at the powers of 2: the value of a product is the product of the values, so a block with n error
 -- correction codewords has the value 0 at the first n powers of 2.
 use Rattle.std.proofs.Common.{◌≡◌, ℕ, zero, suc, ◌+◌, ◌-◌, ◌*◌, ◌<◌, ◌≤◌, List, [], ◌∷◌, ◌++◌, length, refl, sym, ap, ◌∙◌, subst, inl, inr, arith, lit<, bit_xor}
+use Rattle.std.proofs.lemmas.{Nat.xor_of_8, Bool.cases_eq, List.length-map}
+use Rattle.std.proofs.lemmas.List.Elements.{All-nil, All-cons, All-head, All-tail}
 use Rattle.std.specs.List.{All}
 use Rattle.std.specs.Int.Bits.{xor_zero_l, xor_zero_r, xor_self}
-use Rattle.std.proofs.lemmas.Nat.{xor_of_8}
-use Rattle.std.proofs.lemmas.Bool.{cases_eq}
-use Rattle.std.proofs.lemmas.List.{length-map}
-use Rattle.std.proofs.lemmas.List.Elements.{All-nil, All-cons, All-head, All-tail}
 use Rattle.qr_field.specs.Galois.{product}
 use Rattle.qr_field.specs.Polynomial.{IsByte, plus, zeros, scaled, times, power, generator_of, IsCorrection}
 use Rattle.qr_field.specs.Steps.Polynomial.{value_at}

@@ -1,16 +1,13 @@
 -- Generator polynomials and error correction codewords: what the loops compute, and that both are unique.
 use Rattle.std.proofs.Common.{◌≡◌, ℕ, zero, suc, ◌+◌, ◌-◌, ◌<◌, ◌≤◌, List, [], ◌∷◌, ◌++◌, length, take, drop, get_or, refl, sym, ap, ◌∙◌, subst, arith, bit_xor, lit<, append_assoc, length-append}
-use Rattle.std.specs.List.{All}
-use Rattle.std.specs.Int.Bits.{xor_zero_r}
 use Rattle.std.proofs.lemmas.Nat.{xor_comm, xor_of_8}
 use Rattle.std.proofs.lemmas.List.{length-map, append_cancel_left, append-nil, take_at, take_more, drop_more, get_or_read}
 use Rattle.std.proofs.lemmas.List.Elements.{All-nil, All-cons, All-head, All-tail, All-push, All-rest}
 use Rattle.std.proofs.Math.Numerals.{suc-eq-add-one}
-use Rattle.qr_field.specs.Galois.{product}
-use Rattle.qr_field.specs.Steps.Polynomial.{carried}
+use Rattle.std.specs.{List.All, Int.Bits.xor_zero_r}
+use Rattle.qr_field.specs.{Galois.product, Steps.Polynomial.carried}
 use Rattle.qr_field.specs.Polynomial.{IsByte, plus, zeros, scaled, times, power, generator_of, IsMultiple, IsCorrection, HasCorrection}
-use Rattle.qr_field.proofs.lemmas.galois.ByteLemmas.{product-by_one}
-use Rattle.qr_field.proofs.lemmas.galois.BitLemmas.{xor-cancel}
+use Rattle.qr_field.proofs.lemmas.galois.{ByteLemmas.product-by_one, BitLemmas.xor-cancel}
 use Rattle.qr_field.proofs.lemmas.polynomial.ListLemmas.{plus-append, plus-zeros, length-plus, same-plus, bytes-zeros, bytes-plus, bytes-scaled, length-zeros, length-times, times-snoc}
 
 -- ---- the step of a register

@@ -1,10 +1,8 @@
 -- Coefficients packed into one number, and a register of them.
 use Rattle.std.proofs.Common.{◌≡◌, ℕ, zero, suc, ◌+◌, ◌*◌, ◌/◌, ◌%◌, ◌^◌, ◌<◌, ◌≤◌, List, [], ◌∷◌, ◌++◌, length, drop, get_or, refl, sym, ap, arith, bit_xor, bit_or}
-use Rattle.std.specs.List.{All}
-use Rattle.std.specs.Int.Bits.{xor_zero_l, xor_zero_r}
 use Rattle.std.proofs.lemmas.Nat.{or_shifted, xor_block, mod_low, shr_high}
-use Rattle.std.proofs.lemmas.List.Elements.{All-head, All-tail}
-use Rattle.std.proofs.Math.Nat.{pow-suc}
+use Rattle.std.proofs.{lemmas.List.Elements.All-head, lemmas.List.Elements.All-tail, Math.Nat.pow-suc}
+use Rattle.std.specs.{List.All, Int.Bits.xor_zero_l, Int.Bits.xor_zero_r}
 use Rattle.qr_field.specs.Polynomial.{IsByte, plus, scaled}
 use Rattle.qr_field.specs.Steps.Register.{packed, unpacked}
 use Rattle.qr_field.proofs.lemmas.galois.ByteLemmas.{product-of_zero}

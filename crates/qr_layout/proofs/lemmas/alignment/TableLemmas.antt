@@ -1,9 +1,8 @@
 -- Tests computed at each number below a bound, and the table of the alignment centres.
 use Rattle.std.proofs.Common.{◌≡◌, ℕ, zero, suc, ◌+◌, ◌-◌, ◌/◌, ◌<◌, ◌≤◌, Bool, true, false, ◌&&◌, cond, eqb, leb, List, [], ◌∷◌, length, take, get_or, refl, sym, ap, ◌∙◌, subst, inl, inr, arith}
-use borrow.Author.Tests.{leb-true}
 use Rattle.std.proofs.lemmas.Bool.{cases_lt, and_parts, eqb-true}
-use Rattle.qr_layout.specs.declared.alignment.TheConstants.{CENTRES}
-use Rattle.qr_layout.specs.Alignment.{centres_of, centre_table}
+use borrow.Author.Tests.{leb-true}
+use Rattle.qr_layout.specs.{declared.alignment.TheConstants.CENTRES, Alignment.centres_of, Alignment.centre_table}
 
 -- a test at each number below n
 abbrev pub below : ℕ → (ℕ → Bool) → Bool

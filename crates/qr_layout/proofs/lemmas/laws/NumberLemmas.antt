@@ -1,9 +1,8 @@
 -- The numbers of the places: each number below the count is the number of one place of the region.
 use Rattle.std.proofs.Common.{◌≡◌, ℕ, zero, suc, ◌<◌, ◌≤◌, List, [], ◌∷◌, ◌++◌, length, get_or, refl, ap, ◌∙◌, subst, arith}
 use Rattle.std.proofs.Math.Seq.{get_or-append_seam}
-use Rattle.qr_layout.specs.declared.region.Module.{Module}
+use Rattle.qr_layout.specs.{declared.region.Module.Module, Steps.Order.to_come, Steps.Order.first_cursor}
 use Rattle.qr_layout.specs.{Region.InRegion, Version.module_count_of, Order.IsOrder, Order.number_of}
-use Rattle.qr_layout.specs.Steps.Order.{to_come, first_cursor}
 use Rattle.qr_layout.proofs.lemmas.order.ListLemmas.{split, length-mid}
 use Rattle.qr_layout.proofs.lemmas.order.OrderLemmas.{order-has, order-length, number-at}
 use Rattle.qr_layout.proofs.lemmas.order.WalkLemmas.{to_come-start}

@@ -1,14 +1,11 @@
 -- The number of modules of the encoding region, computed: for each row only the rectangles that meet the row are checked.
 use Rattle.std.proofs.Common.{◌≡◌, ℕ, ◌+◌, ◌<◌, ◌≤◌, Bool, true, false, not, ◌&&◌, ◌||◌, cond, eqb, ltb, leb, List, [], ◌∷◌, refl, ap, ◌∙◌}
 use Rattle.std.specs.List.{list_any, filter}
-use Rattle.qr_layout.specs.Region.{is_in_region}
-use Rattle.qr_layout.specs.declared.rectangles.Rectangle.{Rectangle}
-use Rattle.qr_layout.specs.{Rectangles.is_in_rectangle, Steps.Rectangles.taken_rectangles}
-use Rattle.qr_layout.proofs.lemmas.alignment.AlignmentLemmas.{region_taken}
-use Rattle.qr_layout.specs.{Version.side_of, Alignment.centres_of}
+use Rattle.qr_layout.specs.{Region.is_in_region, declared.rectangles.Rectangle.Rectangle}
 use Rattle.qr_layout.specs.Version.{total_codewords_of, remainder_bits_of, module_count_of}
-use Rattle.qr_layout.proofs.lemmas.alignment.TableLemmas.{below}
 use Rattle.qr_layout.specs.Order.{places_passing}
+use Rattle.qr_layout.specs.{Rectangles.is_in_rectangle, Steps.Rectangles.taken_rectangles, Version.side_of, Alignment.centres_of}
+use Rattle.qr_layout.proofs.lemmas.alignment.{AlignmentLemmas.region_taken, TableLemmas.below}
 use Rattle.qr_layout.proofs.lemmas.order.CountLemmas.{sum_below, sum_below-same, places-sum}
 
 -- the row goes through the rectangle

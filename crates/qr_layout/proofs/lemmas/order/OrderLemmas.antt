@@ -3,10 +3,9 @@ use Rattle.std.proofs.Common.{◌≡◌, ℕ, ◌+◌, ◌≤◌, Bool, true, le
 use Rattle.std.proofs.lemmas.Bool.{and_parts, eqb-true}
 use borrow.Author.Tests.{leb-true}
 use Rattle.qr_layout.specs.declared.region.Module.{Module}
-use Rattle.qr_layout.specs.{Region.is_in_region, Region.InRegion, Version.side_of}
 use Rattle.qr_layout.specs.Order.{Key, key_of, is_before, IsOrder, places_passing, number_of}
 use Rattle.qr_layout.specs.Version.{total_codewords_of, remainder_bits_of, module_count_of}
-use Rattle.qr_layout.specs.{Alignment.centres_of, Laws.region_size}
+use Rattle.qr_layout.specs.{Region.is_in_region, Region.InRegion, Version.side_of, Alignment.centres_of, Laws.region_size}
 use Rattle.qr_layout.proofs.lemmas.alignment.TableLemmas.{below, below-from}
 use Rattle.qr_layout.proofs.lemmas.order.ListLemmas.{Mem, Rises, Distinct, Mem-at, All-of-Mem, All-rec, Mem-left, Mem-right, Mem-append, Rises-of-pairs, one_rising, Mem-of-Contains}
 use Rattle.qr_layout.proofs.lemmas.order.CountLemmas.{count-of}

@@ -1,10 +1,8 @@
 -- The positions of the walk: each step leaves one position fewer, and a position with fewer positions left has a later
 -- key. Here v is a version, and s the side of its square.
 use Rattle.std.proofs.Common.{◌≡◌, ℕ, zero, suc, ◌+◌, ◌-◌, ◌*◌, ◌/◌, ◌%◌, ◌<◌, ◌≤◌, Bool, true, false, cond, eqb, ◌⊎◌, arith}
-use Rattle.std.proofs.Math.Nat.{mul-le-mul_right}
-use Rattle.std.proofs.lemmas.Bool.Decides.{nat_tests}
-use Rattle.qr_layout.specs.declared.order.Cursor.{Cursor}
-use Rattle.qr_layout.specs.Version.{side_of}
+use Rattle.std.proofs.{Math.Nat.mul-le-mul_right, lemmas.Bool.Decides.nat_tests}
+use Rattle.qr_layout.specs.{declared.order.Cursor.Cursor, Version.side_of}
 use Rattle.qr_layout.specs.Order.{column_without_timing, Key, strip_of, key_of, is_before}
 use Rattle.qr_layout.specs.Steps.Order.{half_of, place_of, rank_of, left_of, next_of, IsCursor}
 

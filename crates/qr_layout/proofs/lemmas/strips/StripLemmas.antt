@@ -3,12 +3,10 @@
 use Rattle.std.proofs.Common.{◌≡◌, ℕ, zero, suc, ◌+◌, ◌-◌, ◌*◌, ◌<◌, ◌≤◌, false, cond, List, [], ◌∷◌, ◌++◌, refl, sym, ap, ◌∙◌, arith}
 use Rattle.std.proofs.lemmas.{List.Elements.All-from_recursion, Bool.Decides.nat_tests}
 use Rattle.std.specs.List.{All, AllByRecursion}
-use Rattle.qr_layout.specs.declared.region.Module.{Module}
-use Rattle.qr_layout.specs.declared.order.Cursor.{Cursor}
-use Rattle.qr_layout.specs.declared.strips.Strip.{Strip}
-use Rattle.qr_layout.specs.{Region.is_in_region, Version.side_of, Order.IsOrder, Order.in_region_of}
+use Rattle.qr_layout.specs.declared.{region.Module.Module, order.Cursor.Cursor, strips.Strip.Strip}
 use Rattle.qr_layout.specs.Steps.Order.{place_of, left_of, next_of, places_within, to_come, first_cursor}
 use Rattle.qr_layout.specs.Strips.{rows_from, both_of, places_of, strip_at, strips_to_come}
+use Rattle.qr_layout.specs.{Region.is_in_region, Version.side_of, Order.IsOrder, Order.in_region_of}
 use Rattle.qr_layout.proofs.lemmas.order.WalkLemmas.{places-nil, places-suc, start-left, to_come-start}
 
 -- the right places of n rows of strips, from position a on, in the encoding region or not

@@ -1,17 +1,16 @@
 -- The bits of a bit row, one by one: what operations on words do to each bit.
 use Rattle.std.proofs.Common.{◌≢◌, List, length, get_or, set, ◌≡◌, ℕ, zero, suc, ◌+◌, ◌-◌, ◌*◌, ◌/◌, ◌%◌, ◌^◌, ◌<◌, ◌≤◌, eqb, ltb, Bool, true, false, not, ◌&&◌, cond, bit_and, bit_or, bit_xor, ◌||◌, count_ones, refl, sym, ap, ◌∙◌, subst, arith}
-use Rattle.std.specs.Int.{bit_at}
-use lib.Count.{ones, ones_in}
 use Rattle.std.proofs.lemmas.Nat.{and_le_l, ones_cat, ones-le, shr-shr, shr_split, mod_below, pow_pos, shr_below}
 use Rattle.std.proofs.lemmas.Nat.Bits.{bit_at_above, bit_at_and, bit_at_or, bit_at_xor, bit_at-lt, bit_at_cat_low, bit_at_ones, bit_at_ones_above, bit_at-suc, bit_at_cat_high, bit_at-zero, shr_and_one}
 use Rattle.std.proofs.Math.ListN.{length-set}
 use Rattle.std.proofs.lemmas.List.{get_or_past, get_or-set_same, get_or-set_other}
 use Rattle.std.proofs.lemmas.Bool.Decides.{nat_tests}
+use Rattle.std.specs.Int.{bit_at}
+use lib.Count.{ones, ones_in}
 use Rattle.qr_matrix.specs.Steps.{AreWords}
 use Rattle.qr_matrix.specs.BitRow.{has, has_bit, bit_row_number}
-use Rattle.qr_matrix.proofs.lemmas.bit_row.WordLemmas.{three, three-below}
+use Rattle.qr_matrix.proofs.lemmas.bit_row.{WordLemmas.three, WordLemmas.three-below, SumLemmas.sum_below-same}
 use Rattle.qr_matrix.specs.{Grid.is_same, Sums.count_below, Sums.sum_below}
-use Rattle.qr_matrix.proofs.lemmas.bit_row.SumLemmas.{sum_below-same}
 
 -- bit c of the conjunction of a and b is set exactly if it is set in a and in b
 pub has_bit-and : (a b c : ℕ) → has_bit (bit_and a b) c ≡ (has_bit a c && has_bit b c)

@@ -1,12 +1,12 @@
 -- Differences of squares.
 use Rattle.std.proofs.lemmas.Bool.Decides.{nat_tests}
 use Rattle.std.proofs.Common.{◌≡◌, ℕ, zero, suc, ◌<◌, ◌≤◌, Bool, true, false, not, cond, inl, inr, refl, sym, ap, ◌∙◌, arith}
-use Rattle.std.specs.Prelude.{List, ◌↔◌}
 use Rattle.std.proofs.lemmas.Bool.{cases_lt}
+use Rattle.std.specs.Prelude.{List, ◌↔◌}
 use Rattle.qr_matrix.specs.Grid.{Grid, colour, is_same}
-use Rattle.qr_matrix.specs.{BitRow.has, Steps.size_of}
 use Rattle.qr_matrix.specs.Sums.{places_passing, sum_below, count_below}
 use Rattle.qr_matrix.specs.Difference.{differs, difference_count}
+use Rattle.qr_matrix.specs.{BitRow.has, Steps.size_of}
 use Rattle.qr_matrix.proofs.lemmas.runs.RowLemmas.{size-is}
 
 -- a colour is the same as itself

@@ -1,13 +1,10 @@
 -- A tile of 64 words of 64 bits is transposed by an exchange of parts in six stages. A part has s rows and s columns in
 -- each stage; a pair of parts has 2 * s.
 use Rattle.std.proofs.Common.{List, length, get_or, set, replicate, ◌≡◌, ◌≢◌, ℕ, ◌+◌, ◌-◌, ◌*◌, ◌/◌, ◌%◌, ◌^◌, ◌<◌, ◌≤◌, min, eqb, ltb, Bool, true, false, not, ◌&&◌, cond, bit_and, bit_xor, refl, ap, ◌∙◌, ◌||◌, inl, inr, ◌⊎◌, arith}
-use Rattle.std.proofs.lemmas.Nat.{mod-mul-add, shr_split}
-use Rattle.std.proofs.Math.Nat.{mod-eq_of_lt, mul-mod_right}
-use Rattle.std.proofs.Math.ListN.{length-set}
-use Rattle.std.proofs.lemmas.Nat.Bits.{bit_at_cat_low, bit_at-zero}
+use Rattle.std.proofs.{lemmas.Nat.mod-mul-add, lemmas.Nat.shr_split, Math.Nat.mod-eq_of_lt, Math.Nat.mul-mod_right}
+use Rattle.std.proofs.{Math.ListN.length-set, lemmas.Nat.Bits.bit_at_cat_low, lemmas.Nat.Bits.bit_at-zero}
 use Rattle.std.proofs.lemmas.List.{get_or_past, get_or-replicate, length-replicate, get_or-set_same, get_or-set_other}
-use Rattle.std.proofs.lemmas.Bool.{cases_lt, cases_eq}
-use Rattle.std.proofs.lemmas.Bool.Decides.{nat_tests}
+use Rattle.std.proofs.lemmas.Bool.{cases_lt, cases_eq, Decides.nat_tests}
 use Rattle.qr_matrix.specs.BitRow.{has, has_bit}
 use Rattle.qr_matrix.specs.Grid.{is_same, Grid, square, colour, with_row, IsSquare}
 use Rattle.qr_matrix.specs.{Sums.all_below, Steps.bit_in, Steps.exchanged}

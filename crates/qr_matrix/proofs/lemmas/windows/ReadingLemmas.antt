@@ -1,8 +1,6 @@
 -- The tests of the ratio 1:1:3:1:1 and of four light modules, made on whole bit rows at once.
 use Rattle.std.proofs.Common.{◌≡◌, ℕ, suc, ◌+◌, ◌<◌, ◌≤◌, List, [], ◌∷◌, ◌++◌, length, ltb, leb, Bool, true, false, not, ◌&&◌, ◌||◌, inl, inr, sym, ap, ◌∙◌, arith}
-use Rattle.std.proofs.Math.Bool.{and_assoc}
-use Rattle.std.proofs.lemmas.Bool.{cases_lt}
-use Rattle.std.proofs.lemmas.Bool.Decides.{nat_tests}
+use Rattle.std.proofs.{Math.Bool.and_assoc, lemmas.Bool.cases_lt, lemmas.Bool.Decides.nat_tests}
 use Rattle.qr_matrix.proofs.lemmas.bit_row.BoolLemmas.{and-false}
 use Rattle.qr_matrix.specs.Grid.{is_same}
 use Rattle.qr_matrix.specs.Penalty.{finder_ratio, four_light, is_window, reads}

@@ -1,7 +1,5 @@
 use Rattle.std.proofs.Common.{◌-◌, length, sym, ◌∙◌}
-use Rattle.std.proofs.lemmas.Bool.Decides.{Decides-eqb}
-use Rattle.std.proofs.lemmas.List.{take_rest}
-use Rattle.std.proofs.lemmas.Slice.Eq.{slice_eq-Decides}
+use Rattle.std.proofs.lemmas.{Bool.Decides.Decides-eqb, List.take_rest, Slice.Eq.slice_eq-Decides}
 use Rattle.qr_mending.proofs.lemmas.block.BlockLemmas.{block-found, block-passes}
 use Rattle.qr_mending.proofs.block.is_block.Goals as goal
 

@@ -1,7 +1,6 @@
 use Rattle.std.proofs.Common.{◌≡◌, ℕ, List}
 use Rattle.arrayvec.specs.ArrayVec.{array_vec_len}
-use Rattle.qr_mending.specs.Steps.Sums.{HasValues}
-use Rattle.qr_mending.specs.Steps.Errors.{IsLocated}
+use Rattle.qr_mending.specs.Steps.{Sums.HasValues, Errors.IsLocated}
 use Rattle.qr_mending.proofs.errors.values.Given as goal
 
 abbrev pub invariant-loop-i : goal.invariant-loop-i

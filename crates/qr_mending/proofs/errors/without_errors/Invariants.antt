@@ -1,7 +1,6 @@
 use Rattle.std.proofs.Common.{◌≡◌, ℕ, List, take, length}
 use Rattle.qr_field.specs.Polynomial.{plus}
-use Rattle.qr_mending.specs.Steps.Sums.{HasValues}
-use Rattle.qr_mending.specs.Steps.Errors.{IsLocated}
+use Rattle.qr_mending.specs.Steps.{Sums.HasValues, Errors.IsLocated}
 use Rattle.qr_mending.proofs.errors.without_errors.Given as goal
 
 abbrev pub invariant-loop-k : goal.invariant-loop-k

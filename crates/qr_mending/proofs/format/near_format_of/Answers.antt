@@ -3,8 +3,7 @@ use Rattle.std.proofs.lemmas.Bool.{cases_lt}
 use Rattle.qr_layout.specs.declared.level.Level.{Level}
 use Rattle.qr_layout.specs.declared.level.Level.TheVariants.{L, M, Q, H}
 use Rattle.qr_matrix.specs.Grid.{Grid}
-use Rattle.qr_mending.specs.declared.format.FormatCopy.{FormatCopy}
-use Rattle.qr_mending.specs.Format.{IsNearFormat}
+use Rattle.qr_mending.specs.{declared.format.FormatCopy.FormatCopy, Format.IsNearFormat}
 use Rattle.qr_mending.proofs.format.near_format_of.Goals as goal
 
 -- the level with the number k

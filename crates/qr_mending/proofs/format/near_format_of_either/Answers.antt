@@ -2,8 +2,7 @@ use Rattle.std.proofs.Common.{ℕ}
 use Rattle.std.specs.Prelude.{Option, None, Some, MatchOption}
 use Rattle.qr_layout.specs.declared.level.Level.{Level}
 use Rattle.qr_matrix.specs.Grid.{Grid}
-use Rattle.qr_mending.specs.declared.format.FormatCopy.{FormatCopy}
-use Rattle.qr_mending.specs.declared.format.FormatCopy.TheVariants.{First, Second}
+use Rattle.qr_mending.specs.declared.format.FormatCopy.{FormatCopy, TheVariants.First, TheVariants.Second}
 use Rattle.qr_mending.specs.Format.{IsNearFormat}
 use Rattle.qr_mending.proofs.lemmas.format.FormatLemmas.{each-copy}
 use Rattle.qr_mending.proofs.format.near_format_of_either.Goals as goal

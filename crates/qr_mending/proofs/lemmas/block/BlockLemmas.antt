@@ -1,23 +1,19 @@
 -- The errors of a damaged block are located by any polynomial that solves the equations. Adding the errors to the
 -- damaged codewords gives the true block.
 use Rattle.std.proofs.Common.{◌≡◌, ℕ, zero, suc, ◌+◌, ◌-◌, ◌*◌, ◌/◌, ◌<◌, ◌≤◌, Option, Some, List, [], ◌∷◌, ◌++◌, length, map, take, drop, get_or, refl, sym, ap, ◌∙◌, subst, arith, bit_xor, length-append}
-use Rattle.std.specs.List.{All}
-use Rattle.std.specs.Int.Bits.{xor_zero_r}
 use Rattle.std.proofs.lemmas.List.{length-map, length-take, length-take-le, length_push, take_more, take_at, take_rest, take-append-drop, drop_at}
+use Rattle.std.specs.{List.All, Int.Bits.xor_zero_r}
 use Rattle.qr_field.specs.Polynomial.{IsByte, plus, power, IsCorrection}
 use Rattle.qr_field.specs.Distance.{differences, erasures, errors}
 use Rattle.qr_field.specs.Steps.Polynomial.{value_at}
-use Rattle.qr_field.proofs.lemmas.galois.BitLemmas.{xor-cancel}
-use Rattle.qr_field.proofs.lemmas.galois.ByteLemmas.{product-by_one}
-use Rattle.qr_field.proofs.lemmas.galois.FieldLemmas.{sum-none}
+use Rattle.qr_field.proofs.lemmas.galois.{BitLemmas.xor-cancel, ByteLemmas.product-by_one, FieldLemmas.sum-none}
 use Rattle.qr_field.proofs.lemmas.logarithm.PowerLemmas.{power-round}
 use Rattle.qr_field.proofs.lemmas.polynomial.ListLemmas.{length-plus, bytes-plus}
 use Rattle.qr_field.proofs.lemmas.laws.ValueLemmas.{value-lt, value-plus, block-bytes, block-root}
 use Rattle.qr_field.proofs.lemmas.laws.DistanceLemmas.{weight, weight-plus, difference-same, unambiguous-known, erasures-read, errors-read}
 use Rattle.qr_field.proofs.lemmas.polynomial.PolynomialLemmas.{correction-one}
 use Rattle.qr_mending.specs.Block.{IsBlock, IsMended}
-use Rattle.qr_mending.specs.Erasures.{IsMendedWithErasures}
-use Rattle.qr_mending.specs.declared.polynomial.Polynomial.{Polynomial}
+use Rattle.qr_mending.specs.{Erasures.IsMendedWithErasures, declared.polynomial.Polynomial.Polynomial}
 use Rattle.qr_mending.specs.Steps.Sums.{dot_of, eval, blend, HasValues}
 use Rattle.qr_mending.specs.Steps.Polynomial.{all_of, miss_of, IsMonic}
 use Rattle.qr_mending.specs.Steps.Errors.{coefficient, low, IsLocated}

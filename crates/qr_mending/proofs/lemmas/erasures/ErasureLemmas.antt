@@ -2,10 +2,9 @@
 -- only as many errors are left as codewords were misread. A polynomial that locates the errors left, times those roots,
 -- locates all errors.
 use Rattle.std.proofs.Common.{◌≡◌, ℕ, zero, suc, ◌+◌, ◌-◌, ◌*◌, ◌/◌, ◌<◌, ◌≤◌, Bool, true, false, Some, List, [], ◌∷◌, ◌++◌, length, map, replicate, take, drop, get_or, refl, sym, ap, ◌∙◌, arith, lit<, bit_xor}
-use Rattle.std.specs.List.{All, count_by}
-use Rattle.std.specs.Int.Bits.{xor_self}
 use Rattle.std.proofs.lemmas.List.{drop_more}
 use Rattle.std.proofs.lemmas.List.Elements.{All-nil, All-cons, All-head, All-tail}
+use Rattle.std.specs.{List.All, List.count_by, Int.Bits.xor_self}
 use Rattle.qr_field.specs.Galois.{product}
 use Rattle.qr_field.specs.Polynomial.{IsByte, plus, power}
 use Rattle.qr_field.specs.Steps.Polynomial.{value_at}
@@ -15,8 +14,7 @@ use Rattle.qr_field.proofs.lemmas.logarithm.PowerLemmas.{power-lt}
 use Rattle.qr_field.proofs.lemmas.galois.FieldLemmas.{product-factor, sum-none}
 use Rattle.qr_field.proofs.lemmas.polynomial.ListLemmas.{length-plus, bytes-plus}
 use Rattle.qr_field.proofs.lemmas.laws.DistanceLemmas.{weight, difference-same, difference-alike}
-use Rattle.qr_mending.specs.Erasures.{read_of, IsMendedWithErasures}
-use Rattle.qr_mending.specs.declared.polynomial.Polynomial.{Polynomial}
+use Rattle.qr_mending.specs.{Erasures.read_of, Erasures.IsMendedWithErasures, declared.polynomial.Polynomial.Polynomial}
 use Rattle.qr_mending.specs.Steps.Sums.{dot_of, eval, HasValues}
 use Rattle.qr_mending.specs.Steps.Polynomial.{all_of, miss_of, IsMonic}
 use Rattle.qr_mending.specs.Steps.Errors.{coefficient, weighted, IsLocated}

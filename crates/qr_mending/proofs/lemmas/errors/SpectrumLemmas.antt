@@ -1,23 +1,19 @@
 -- The errors are computed from their values at all powers of 2. These values are taken as the coefficients of a
 -- polynomial; the error at an index is the value of this polynomial at the inverse of 2 to the power of this index.
 use Rattle.std.proofs.Common.{◌≡◌, ℕ, zero, suc, ◌+◌, ◌-◌, ◌*◌, ◌%◌, ◌<◌, ◌≤◌, List, [], ◌∷◌, length, drop, refl, ap, ◌∙◌, inl, inr, arith, lit<, bit_xor}
+use Rattle.std.proofs.lemmas.{Nat.xor_of_8, Nat.xor_comm, Bool.cases_eq}
+use Rattle.std.proofs.lemmas.List.{drop_more, drop_all, Elements.All-head, Elements.All-tail}
 use Rattle.std.specs.List.{All}
 use Rattle.std.specs.Int.Bits.{xor_zero_l, xor_zero_r, xor_self}
-use Rattle.std.proofs.lemmas.Nat.{xor_of_8, xor_comm}
-use Rattle.std.proofs.lemmas.Bool.{cases_eq}
-use Rattle.std.proofs.lemmas.List.{drop_more, drop_all}
-use Rattle.std.proofs.lemmas.List.Elements.{All-head, All-tail}
 use Rattle.qr_field.specs.Galois.{product, remainder_of, carryless}
-use Rattle.qr_field.specs.Polynomial.{IsByte, power}
-use Rattle.qr_field.specs.Steps.Polynomial.{value_at}
+use Rattle.qr_field.specs.{Polynomial.IsByte, Polynomial.power, Steps.Polynomial.value_at}
 use Rattle.qr_field.proofs.lemmas.galois.BitLemmas.{xor-cancel}
 use Rattle.qr_field.proofs.lemmas.galois.ByteLemmas.{product-by_zero, product-by_one, product-of_one}
 use Rattle.qr_field.proofs.lemmas.galois.ProductLemmas.{product-lt}
 use Rattle.qr_field.proofs.lemmas.logarithm.PowerLemmas.{power-lt, power-add, power-round, power-mod, powers-apart}
 use Rattle.qr_field.proofs.lemmas.galois.FieldLemmas.{product-comm, product-by_sum, product-factor, sum-none}
 use Rattle.qr_field.proofs.lemmas.laws.ValueLemmas.{value-lt}
-use Rattle.qr_mending.specs.Steps.Sums.{eval, HasValues}
-use Rattle.qr_mending.specs.Steps.Errors.{coefficient}
+use Rattle.qr_mending.specs.Steps.{Sums.eval, Sums.HasValues, Errors.coefficient}
 use Rattle.qr_mending.proofs.lemmas.sums.SumLemmas.{field_laws, power-next}
 use Rattle.qr_mending.proofs.lemmas.errors.WeightLemmas.{coefficient-head, coefficient-tail}
 

@@ -2,22 +2,16 @@
 -- from 0 as there are errors, so all are 0 if their first values are. They are 0 exactly if each error is at a root of
 -- the polynomial.
 use Rattle.std.proofs.Common.{◌≡◌, ℕ, suc, ◌+◌, ◌*◌, ◌<◌, ◌≤◌, List, [], ◌∷◌, length, refl, sym, ap, ◌∙◌, subst, inl, inr, arith, lit<, bit_xor}
-use Rattle.std.specs.List.{All}
-use Rattle.std.specs.Int.Bits.{xor_zero_l}
 use Rattle.std.proofs.lemmas.Bool.{cases_eq, eq-eqb, ne_eqb}
 use Rattle.std.proofs.lemmas.List.Elements.{All-nil, All-cons, All-head, All-tail}
+use Rattle.std.specs.{List.All, Int.Bits.xor_zero_l}
 use Rattle.qr_field.specs.Galois.{product}
-use Rattle.qr_field.specs.Polynomial.{IsByte, power}
-use Rattle.qr_field.specs.Steps.Polynomial.{value_at}
-use Rattle.qr_field.specs.Distance.{difference}
+use Rattle.qr_field.specs.{Polynomial.IsByte, Polynomial.power, Steps.Polynomial.value_at, Distance.difference}
 use Rattle.qr_field.proofs.lemmas.galois.ByteLemmas.{product-by_zero, product-of_zero}
-use Rattle.qr_field.proofs.lemmas.galois.ProductLemmas.{product-lt}
-use Rattle.qr_field.proofs.lemmas.logarithm.PowerLemmas.{power-lt}
-use Rattle.qr_field.proofs.lemmas.galois.FieldLemmas.{product-factor}
-use Rattle.qr_field.proofs.lemmas.laws.ValueLemmas.{value-lt}
+use Rattle.qr_field.proofs.lemmas.{galois.ProductLemmas.product-lt, logarithm.PowerLemmas.power-lt}
+use Rattle.qr_field.proofs.lemmas.{galois.FieldLemmas.product-factor, laws.ValueLemmas.value-lt}
 use Rattle.qr_field.proofs.lemmas.laws.DistanceLemmas.{weight, weight-none, value-none, difference-same, difference-other, difference-most}
-use Rattle.qr_mending.specs.Steps.Sums.{eval, blend}
-use Rattle.qr_mending.specs.Steps.Errors.{coefficient, weighted}
+use Rattle.qr_mending.specs.Steps.{Sums.eval, Sums.blend, Errors.coefficient, Errors.weighted}
 use Rattle.qr_mending.proofs.lemmas.sums.SumLemmas.{eval-lt, field_laws, power-next}
 
 -- there is a product for each error

@@ -6,11 +6,8 @@ use borrow.Author.Tests.{ltb-true}
 use Rattle.qr_layout.specs.declared.level.Level.{Level}
 use Rattle.qr_layout.specs.Format.{word_remainder, format_with, five_bits, format_word_of}
 use Rattle.qr_layout.proofs.Facts.{below, below-at}
-use Rattle.qr_matrix.specs.Grid.{Grid, is_same}
-use Rattle.qr_matrix.specs.Sums.{count_below, sum_below}
-use Rattle.qr_matrix.specs.BitRow.{has_bit}
-use Rattle.qr_mending.specs.declared.format.FormatCopy.{FormatCopy}
-use Rattle.qr_mending.specs.declared.format.FormatCopy.TheVariants.{First, Second}
+use Rattle.qr_matrix.specs.{Grid.Grid, Grid.is_same, Sums.count_below, Sums.sum_below, BitRow.has_bit}
+use Rattle.qr_mending.specs.declared.format.FormatCopy.{FormatCopy, TheVariants.First, TheVariants.Second}
 use Rattle.qr_mending.specs.Format.{bit_difference, bit_differences, copy_cost, format_cost, IsNearFormat}
 use Rattle.qr_symbol.proofs.Facts.{level-small, level-one}
 

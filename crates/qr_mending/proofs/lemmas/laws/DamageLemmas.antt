@@ -2,12 +2,10 @@
 use Rattle.std.proofs.Common.{◌≡◌, ℕ, ◌≤◌, List, refl, sym, ◌∙◌, ap, arith}
 use Rattle.std.specs.Prelude.{Result, Ok, Err, None, IfOk, MatchResult}
 use Rattle.qr_layout.specs.declared.level.Level.{Level}
-use Rattle.qr_bits.specs.declared.modes.Rule.{Rule}
-use Rattle.qr_bits.specs.Parsing.{Content}
+use Rattle.qr_bits.specs.{declared.modes.Rule.Rule, Parsing.Content}
 use Rattle.qr_bits.proofs.Facts.{data_again}
 use Rattle.qr_matrix.specs.Grid.{Grid}
-use Rattle.qr_symbol.specs.Symbol.{grid_of}
-use Rattle.qr_symbol.specs.declared.fault.ReadFault.{ReadFault}
+use Rattle.qr_symbol.specs.{Symbol.grid_of, declared.fault.ReadFault.ReadFault}
 use Rattle.qr_symbol.specs.declared.fault.ReadFault.TheVariants as fault
 use Rattle.qr_symbol.specs.Encoding.{IsSymbol}
 use Rattle.qr_mending.specs.declared.mending.Mended.{Mended}

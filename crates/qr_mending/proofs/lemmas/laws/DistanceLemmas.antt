@@ -1,17 +1,13 @@
 -- Two symbols of a version that contain different messages lie far apart.
 use Rattle.std.proofs.Common.{◌≡◌, ℕ, ◌<◌, ◌≤◌, List, subst, inl, inr, arith}
 use Rattle.std.proofs.lemmas.Bool.Decides.{nat_tests}
-use Rattle.qr_layout.specs.declared.level.Level.{Level}
-use Rattle.qr_layout.specs.Format.{format_word_of}
-use Rattle.qr_layout.specs.Role.{second_place}
+use Rattle.qr_layout.specs.{declared.level.Level.Level, Format.format_word_of, Role.second_place}
 use Rattle.qr_layout.proofs.Facts.{format-second}
 use Rattle.qr_matrix.proofs.Facts.{colour-square}
 use Rattle.qr_matrix.specs.BitRow.{has_bit}
-use Rattle.qr_symbol.specs.Symbol.{colour_of, grid_of}
-use Rattle.qr_symbol.specs.Distance.{HeldMessage}
+use Rattle.qr_symbol.specs.{Symbol.colour_of, Symbol.grid_of, Distance.HeldMessage}
 use Rattle.qr_symbol.proofs.Facts.{format-read, messages-apart}
-use Rattle.qr_mending.specs.declared.format.FormatCopy.{FormatCopy}
-use Rattle.qr_mending.specs.declared.format.FormatCopy.TheVariants.{First, Second}
+use Rattle.qr_mending.specs.declared.format.FormatCopy.{FormatCopy, TheVariants.First, TheVariants.Second}
 use Rattle.qr_mending.specs.Format.{bit_differences, copy_bit}
 use Rattle.qr_mending.specs.Distance.{FormatsLieApart, SomeBlockLiesApart, SymbolsLieApart}
 use Rattle.qr_mending.proofs.lemmas.format.FormatLemmas.{bits-alike, word-one}

@@ -1,20 +1,16 @@
 -- A wrong module damages at most one codeword.
 use Rattle.std.proofs.Common.{◌≡◌, ℕ, ◌<◌, ◌≤◌, Bool, true, not, cond, List, [], ◌∷◌, ◌++◌, map, get_or, refl, ap, arith}
 use Rattle.std.proofs.lemmas.List.Elements.{All-nil, All-cons, All-head, All-tail}
-use Rattle.qr_field.proofs.lemmas.laws.DistanceLemmas.{difference-most, difference-same}
 use Rattle.std.proofs.lemmas.List.Sums.{sum_by-cons}
+use Rattle.qr_field.proofs.lemmas.laws.DistanceLemmas.{difference-most, difference-same}
 use Rattle.std.specs.List.{All, count_by, sum_by}
 use Rattle.qr_field.specs.Distance.{difference, differences}
-use Rattle.qr_layout.specs.declared.region.Module.{Module}
-use Rattle.qr_layout.specs.Order.{IsOrder}
-use Rattle.qr_layout.specs.Version.{total_codewords_of}
+use Rattle.qr_layout.specs.{declared.region.Module.Module, Order.IsOrder, Version.total_codewords_of}
 use Rattle.qr_bits.specs.Bits.{bits_of, field}
-use Rattle.qr_matrix.specs.Difference.{differs}
-use Rattle.qr_matrix.specs.Grid.{Grid}
+use Rattle.qr_matrix.specs.{Difference.differs, Grid.Grid}
 use Rattle.qr_symbol.specs.Reading.{unmasked, IsRead}
 use Rattle.qr_symbol.proofs.Facts.{bits-one}
-use Rattle.qr_mending.specs.Message.{modules_of}
-use Rattle.qr_mending.specs.Modules.{codeword_differences}
+use Rattle.qr_mending.specs.{Message.modules_of, Modules.codeword_differences}
 use Rattle.qr_mending.proofs.lemmas.message.MarkLemmas.{codeword-read, held-bits, held-many, same-is}
 use Rattle.qr_mending.proofs.lemmas.message.MessageLemmas.{item}
 

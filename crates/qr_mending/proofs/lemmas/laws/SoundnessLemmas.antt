@@ -1,19 +1,15 @@
 -- The number of wrong modules of a square, which is 0 exactly if the square is the symbol.
 use Rattle.std.proofs.Common.{◌≡◌, ℕ, List, arith}
 use Rattle.std.specs.Prelude.{◌↔◌}
-use Rattle.qr_layout.specs.declared.level.Level.{Level}
-use Rattle.qr_layout.specs.Blocks.{blocks_of}
-use Rattle.qr_layout.specs.Version.{side_of}
+use Rattle.qr_layout.specs.{declared.level.Level.Level, Blocks.blocks_of, Version.side_of}
 use Rattle.qr_matrix.specs.Grid.{Grid, IsSquare, light}
+use Rattle.qr_matrix.specs.{Difference.difference_count, Difference.differs, Sums.places_passing}
 use Rattle.qr_mending.proofs.lemmas.format.FormatLemmas.{sum-same}
-use Rattle.qr_mending.proofs.lemmas.message.LightLemmas.{colour-light}
-use Rattle.qr_matrix.specs.Difference.{difference_count, differs}
-use Rattle.qr_matrix.specs.Sums.{places_passing}
+use Rattle.qr_mending.proofs.lemmas.{message.LightLemmas.colour-light, mending.MendingLemmas.form-one}
 use Rattle.qr_matrix.proofs.Facts.{colour-square, no-difference, square-same}
 use Rattle.qr_symbol.specs.Symbol.{grid_of}
 use Rattle.qr_symbol.proofs.Facts.{final-one}
 use Rattle.qr_mending.specs.Mending.{wrong_modules, DiffersFromSymbol, HasWrongModules}
-use Rattle.qr_mending.proofs.lemmas.mending.MendingLemmas.{form-one}
 
 -- a square differs from the symbol of its message in one number of modules
 pub differs-one : (unknown : Grid) (g : Grid) (v w : ℕ) (l k : Level) (m n : ℕ) (p q : List ℕ) (a b : ℕ) → v ≡ w → l ≡ k → m ≡ n → p ≡ q →

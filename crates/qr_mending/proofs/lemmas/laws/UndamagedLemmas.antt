@@ -3,29 +3,21 @@ use Rattle.std.proofs.Common.{◌≡◌, ℕ, zero, suc, ◌+◌, ◌*◌, ◌<�
 use Rattle.std.proofs.lemmas.List.{length-map, take_all, take_at, drop_at, get_or-take, get_or-drop, ext_get_or, length-replicate, get_or-replicate}
 use lib.ListN.{replicate}
 use Rattle.qr_field.specs.Polynomial.{IsCorrection}
-use Rattle.qr_mending.proofs.lemmas.block.BlockLemmas.{differences-same}
-use Rattle.qr_layout.specs.declared.blocks.Blocks.{Blocks}
-use Rattle.qr_layout.specs.declared.level.Level.{Level}
-use Rattle.qr_layout.specs.Blocks.{blocks_of}
-use Rattle.qr_layout.specs.Format.{format_word_of}
+use Rattle.qr_mending.proofs.lemmas.{block.BlockLemmas.differences-same, message.MessageLemmas.part-len}
+use Rattle.qr_mending.proofs.lemmas.message.LightLemmas.{colour-light, light-mended}
+use Rattle.qr_mending.proofs.lemmas.{mending.MendingLemmas.best, format.FormatLemmas.bits-alike}
+use Rattle.qr_layout.specs.declared.{blocks.Blocks.Blocks, level.Level.Level}
+use Rattle.qr_layout.specs.{Blocks.blocks_of, Format.format_word_of}
 use Rattle.qr_bits.specs.Parsing.{Content}
 use Rattle.qr_matrix.specs.Grid.{Grid, light, is_same}
-use Rattle.qr_matrix.specs.BitRow.{has_bit}
+use Rattle.qr_matrix.specs.{BitRow.has_bit, Sums.count_below}
 use Rattle.qr_symbol.specs.Interleaving.{block_count, block_len, start_of, codeword_count, IsPosition, codeword_at, data_sizes, correction_sizes, block_of, check_at, IsFinalMessage, part_of}
-use Rattle.qr_symbol.specs.Steps.Interleaving.{IsChecks}
-use Rattle.qr_symbol.specs.Distance.{blocks_in}
+use Rattle.qr_symbol.specs.{Steps.Interleaving.IsChecks, Distance.blocks_in}
 use Rattle.qr_symbol.specs.Reading.{IsFormat, IsRead, IsReading}
-use Rattle.qr_mending.specs.declared.format.FormatCopy.{FormatCopy}
-use Rattle.qr_mending.specs.declared.format.FormatCopy.TheVariants.{First, Second}
-use Rattle.qr_matrix.specs.Sums.{count_below}
+use Rattle.qr_mending.specs.declared.format.FormatCopy.{FormatCopy, TheVariants.First, TheVariants.Second}
 use Rattle.qr_mending.specs.Format.{bit_difference, bit_differences, copy_bit, copy_cost, IsNearFormat}
-use Rattle.qr_mending.specs.Message.{AreInBlocks, IsMendedIn}
-use Rattle.qr_mending.specs.Mending.{HasFormat, IsMendedReading}
+use Rattle.qr_mending.specs.{Message.AreInBlocks, Message.IsMendedIn, Mending.HasFormat, Mending.IsMendedReading}
 use Rattle.qr_symbol.proofs.Facts.{start-none, position, positions-many, check-len, checks-push, map-each, checks-one, data-sizes-whole}
-use Rattle.qr_mending.proofs.lemmas.message.MessageLemmas.{part-len}
-use Rattle.qr_mending.proofs.lemmas.message.LightLemmas.{colour-light, light-mended}
-use Rattle.qr_mending.proofs.lemmas.mending.MendingLemmas.{best}
-use Rattle.qr_mending.proofs.lemmas.format.FormatLemmas.{bits-alike}
 
 -- ---- codewords
 

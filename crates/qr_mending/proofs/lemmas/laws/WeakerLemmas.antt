@@ -1,11 +1,8 @@
 -- A block with more error correction codewords is also one with fewer, since the generator polynomial of fewer divides that of
 -- more.
 use Rattle.std.proofs.Common.{◌≡◌, ℕ, ◌-◌, ◌≤◌, List, [], ◌∷◌, ◌++◌, take, drop, length, length-append, length-drop, refl, sym, ◌∙◌, ap, arith}
-use Rattle.std.proofs.lemmas.Bool.Decides.{nat_tests}
-use Rattle.std.proofs.lemmas.List.{length-take, take-append-drop}
-use Rattle.std.proofs.lemmas.List.Elements.{All-take}
-use Rattle.qr_field.specs.Polynomial.{IsByte, plus}
-use Rattle.qr_field.specs.Distance.{differences}
+use Rattle.std.proofs.lemmas.{Bool.Decides.nat_tests, List.length-take, List.take-append-drop, List.Elements.All-take}
+use Rattle.qr_field.specs.{Polynomial.IsByte, Polynomial.plus, Distance.differences}
 use Rattle.qr_field.proofs.lemmas.polynomial.ListLemmas.{length-plus, bytes-plus}
 use Rattle.qr_field.proofs.lemmas.polynomial.PolynomialLemmas.{correction-some}
 use Rattle.qr_field.proofs.lemmas.laws.DistanceLemmas.{difference-most, differences-none, weight-none, weight-plus}

@@ -1,16 +1,14 @@
 -- The elimination: what adding a multiple of the pivot does, and that each equation costs at most one polynomial.
 use Rattle.std.proofs.Common.{◌≡◌, ℕ, zero, suc, ◌+◌, ◌<◌, ◌≤◌, List, [], ◌∷◌, length, take, drop, get_or, set, refl, sym, ap, subst, inl, inr, arith, bit_xor}
-use Rattle.std.specs.List.{All, remove, refill}
-use Rattle.std.specs.Int.Bits.{xor_zero_l, xor_self}
 use Rattle.std.proofs.lemmas.Bool.{cases_lt}
 use Rattle.std.proofs.lemmas.List.{length-take, length-map, take_all, drop_all, append-nil, get_or-drop, get_or_read}
-use Rattle.std.proofs.lemmas.List.Edits.{get_or-remove_below, get_or-remove_above}
-use Rattle.std.proofs.lemmas.List.Elements.{All-from_get_or}
+use Rattle.std.proofs.lemmas.List.{Edits.get_or-remove_below, Edits.get_or-remove_above, Elements.All-from_get_or}
 use Rattle.std.proofs.Math.Numerals.{suc-eq-add-one}
+use Rattle.std.specs.List.{All, remove, refill}
+use Rattle.std.specs.Int.Bits.{xor_zero_l, xor_self}
 use Rattle.qr_field.specs.Galois.{product}
 use Rattle.qr_field.specs.Polynomial.{IsByte, plus, scaled}
-use Rattle.qr_field.proofs.lemmas.galois.ByteLemmas.{product-by_zero}
-use Rattle.qr_field.proofs.lemmas.polynomial.ListLemmas.{take-plus}
+use Rattle.qr_field.proofs.lemmas.{galois.ByteLemmas.product-by_zero, polynomial.ListLemmas.take-plus}
 use Rattle.qr_mending.specs.declared.polynomial.Polynomial.{Polynomial}
 use Rattle.qr_mending.specs.Steps.Polynomial.{all_of, IsMonic, miss_of, blank, at, IsRelieved, IsPool}
 use Rattle.qr_mending.proofs.lemmas.sums.SumLemmas.{dot-plus}

@@ -12,14 +12,12 @@ use Rattle.qr_bits.proofs.Facts.{fault-read}
 use Rattle.qr_matrix.specs.Grid.{Grid}
 use Rattle.qr_symbol.specs.declared.fault.ReadFault.{ReadFault}
 use Rattle.qr_symbol.specs.declared.fault.ReadFault.TheVariants as fault
-use Rattle.qr_symbol.specs.Fault.{unread_for}
-use Rattle.qr_mending.specs.declared.format.FormatCopy.{FormatCopy}
-use Rattle.qr_mending.specs.declared.format.FormatCopy.TheVariants.{First, Second}
+use Rattle.qr_symbol.specs.{Fault.unread_for, Reading.IsRead}
+use Rattle.qr_mending.specs.declared.format.FormatCopy.{FormatCopy, TheVariants.First, TheVariants.Second}
 use Rattle.qr_mending.specs.Format.{copy_cost, format_cost, IsNearFormat}
 use Rattle.qr_mending.specs.Message.{IsMendedIn}
 use Rattle.qr_mending.specs.Mending.{rank_of, HasFormat, HoldsDamaged, IsBeyondMending, IsDamagedForm, IsMendedAs, IsMendedReading, IsOfNoUse, IsUnmended}
 use Rattle.qr_symbol.proofs.Facts.{read-one}
-use Rattle.qr_symbol.specs.Reading.{IsRead}
 use Rattle.qr_mending.proofs.lemmas.format.FormatLemmas.{near-one, each-copy, sure-one}
 use Rattle.qr_mending.proofs.lemmas.message.UnreadLemmas.{beside-one}
 

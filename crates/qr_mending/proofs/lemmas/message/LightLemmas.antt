@@ -1,19 +1,13 @@
 -- A symbol of which all modules were read: its marks are 0, no codeword is erased, and its blocks are mended as blocks of
 -- which every codeword was read.
 use Rattle.std.proofs.Common.{◌≡◌, ◌||◌, Bool, false, ℕ, zero, suc, ◌*◌, ◌<◌, ◌≤◌, Some, List, [], ◌∷◌, ◌++◌, map, take, length, get_or, refl, sym, ◌∙◌, arith}
-use Rattle.std.specs.Prelude.{Option}
-use Rattle.std.specs.List.{list_any, range_with_len}
 use Rattle.std.proofs.lemmas.List.{length-map, length-replicate, length-take}
 use Rattle.std.proofs.lemmas.List.Elements.{All-replicate, All-take}
+use Rattle.std.specs.{Prelude.Option, List.list_any, List.range_with_len}
 use lib.ListN.{replicate}
-use Rattle.qr_field.specs.Polynomial.{IsCorrection}
-use Rattle.qr_field.specs.Distance.{differences}
-use Rattle.qr_layout.specs.declared.blocks.Blocks.{Blocks}
-use Rattle.qr_layout.specs.declared.level.Level.{Level}
-use Rattle.qr_layout.specs.declared.region.Module.{Module}
-use Rattle.qr_layout.specs.Blocks.{blocks_of}
-use Rattle.qr_layout.specs.Version.{side_of, total_codewords_of}
-use Rattle.qr_layout.specs.Region.{InRegion}
+use Rattle.qr_field.specs.{Polynomial.IsCorrection, Distance.differences}
+use Rattle.qr_layout.specs.declared.{blocks.Blocks.Blocks, level.Level.Level, region.Module.Module}
+use Rattle.qr_layout.specs.{Blocks.blocks_of, Version.side_of, Version.total_codewords_of, Region.InRegion}
 use Rattle.qr_layout.proofs.Facts.{col-in, order-length, row-in}
 use Rattle.qr_bits.specs.Bits.{bits_of, field}
 use Rattle.qr_bits.proofs.Facts.{length-bits_of}

@@ -1,14 +1,11 @@
 -- A mark is 0 exactly if its codeword is not erased. So to mend by marks is to mend without the modules that were not
 -- read.
 use Rattle.std.proofs.Common.{◌≡◌, ◌==◌, ◌||◌, not, cond, Bool, true, false, ℕ, zero, suc, ◌+◌, ◌-◌, ◌*◌, ◌<◌, ◌≤◌, None, Some, List, [], ◌∷◌, ◌++◌, map, take, drop, length, get_or, refl, sym, ◌∙◌, ap, arith}
-use Rattle.std.specs.List.{list_any, All}
 use Rattle.std.proofs.lemmas.List.{append-nil, length-map, length-take, take_at, take-map, take-take, drop_at, drop-drop, drop-map, drop-take}
 use Rattle.std.proofs.lemmas.List.Elements.{All-tail}
-use Rattle.qr_layout.specs.declared.level.Level.{Level}
-use Rattle.qr_layout.specs.declared.region.Module.{Module}
-use Rattle.qr_layout.specs.Blocks.{blocks_of}
-use Rattle.qr_layout.specs.Order.{IsOrder}
-use Rattle.qr_layout.specs.Version.{total_codewords_of}
+use Rattle.std.specs.List.{list_any, All}
+use Rattle.qr_layout.specs.declared.{level.Level.Level, region.Module.Module}
+use Rattle.qr_layout.specs.{Blocks.blocks_of, Order.IsOrder, Version.total_codewords_of}
 use Rattle.qr_layout.proofs.Facts.{below, below-at, only_order, order-length}
 use Rattle.qr_bits.specs.Bits.{bits_of, field}
 use Rattle.qr_bits.proofs.Facts.{length-bits_of, length-field}

@@ -1,14 +1,12 @@
 -- The parts of a list of codewords, that a sequence is gathered in at most one way, and the indices of its codewords.
 use Rattle.std.proofs.Common.{◌≡◌, ℕ, ◌+◌, ◌<◌, ◌≤◌, List, ◌++◌, map, drop, length, length-drop, get_or, refl, sym, ◌∙◌, ap, subst, arith}
-use Rattle.std.specs.List.{range_with_len, All}
 use Rattle.std.proofs.lemmas.List.{length-map, length-take, take_all, take-map, drop_at, drop-map, take-append-le, drop-append-le, map-append, ext_get_or, get_or-map}
 use Rattle.std.proofs.lemmas.List.Elements.{All-append, All-contains, All-drop, All-from_get_or, All-take}
 use Rattle.std.proofs.lemmas.List.FromFn.{fill_by_all, get_or-range_with_len, length-range_with_len}
 use Rattle.std.proofs.lemmas.Simd.{map-map}
-use Rattle.qr_layout.specs.declared.blocks.Blocks.{Blocks}
-use Rattle.qr_layout.specs.declared.level.Level.{Level}
-use Rattle.qr_layout.specs.Blocks.{blocks_of}
-use Rattle.qr_layout.specs.Version.{total_codewords_of}
+use Rattle.std.specs.List.{range_with_len, All}
+use Rattle.qr_layout.specs.declared.{blocks.Blocks.Blocks, level.Level.Level}
+use Rattle.qr_layout.specs.{Blocks.blocks_of, Version.total_codewords_of}
 use Rattle.qr_symbol.specs.declared.interleaving.BlockSizes.{BlockSizes}
 use Rattle.qr_symbol.specs.Interleaving.{Position, IsPosition, block_count, block_len, start_of, codeword_count, codeword_at, data_sizes, correction_sizes, IsGathered, part_of}
 use Rattle.qr_symbol.proofs.Facts.{start-next, start-most, position-in, positions-one, position-of, map-at, map-each, gather-some, sizes-whole, Mem-of-Contains}

@@ -1,20 +1,16 @@
 -- A message of which some codewords were erased is mended block by block, to at most one message.
 use Rattle.std.proofs.Common.{◌≡◌, ◌==◌, not, Bool, ℕ, ◌+◌, ◌-◌, ◌*◌, ◌/◌, ◌<◌, ◌≤◌, Option, List, [], ◌∷◌, ◌++◌, map, length, length-append, get_or, sym, ◌∙◌, subst, inl, inr, arith}
-use Rattle.std.specs.List.{range_with_len}
 use Rattle.std.proofs.lemmas.Bool.{cases_lt}
 use Rattle.std.proofs.lemmas.List.{length_push, get_or_append_left, get_or_push, ext_get_or}
-use Rattle.qr_field.specs.Polynomial.{IsCorrection}
-use Rattle.qr_field.specs.Distance.{erasures, errors}
-use Rattle.qr_layout.specs.declared.blocks.Blocks.{Blocks}
-use Rattle.qr_layout.specs.declared.level.Level.{Level}
-use Rattle.qr_layout.specs.Blocks.{blocks_of}
-use Rattle.qr_layout.specs.Version.{total_codewords_of}
+use Rattle.std.specs.List.{range_with_len}
+use Rattle.qr_field.specs.{Polynomial.IsCorrection, Distance.erasures, Distance.errors}
+use Rattle.qr_layout.specs.declared.{blocks.Blocks.Blocks, level.Level.Level}
+use Rattle.qr_layout.specs.{Blocks.blocks_of, Version.total_codewords_of}
 use Rattle.qr_layout.proofs.Facts.{only_order}
 use Rattle.qr_matrix.specs.Grid.{Grid}
 use Rattle.qr_symbol.specs.Interleaving.{block_count, block_len, codeword_count, data_sizes, part_of}
 use Rattle.qr_symbol.proofs.Facts.{len-most, parts-same, start-next}
-use Rattle.qr_field.proofs.lemmas.laws.DistanceLemmas.{unambiguous-known}
-use Rattle.qr_field.proofs.Facts.{correction-one}
+use Rattle.qr_field.proofs.{lemmas.laws.DistanceLemmas.unambiguous-known, Facts.correction-one}
 use Rattle.qr_mending.specs.Erasures.{read_of, IsMendedWithErasures}
 use Rattle.qr_mending.specs.Message.{read_at, received, spare_of, IsMendedIn, IsMendedBlock, AreInBlocks}
 use Rattle.qr_mending.specs.Steps.Message.{read_by, AreMended, IsMendedMessage}

@@ -5,8 +5,7 @@ use Rattle.qr_bits.specs.Parsing.{Content}
 use Rattle.qr_matrix.specs.Grid.{Grid, light}
 use Rattle.qr_symbol.specs.declared.fault.ReadFault.{ReadFault}
 use Rattle.qr_symbol.specs.declared.fault.ReadFault.TheVariants as fault
-use Rattle.qr_symbol.specs.Reading.{IsReading}
-use Rattle.qr_symbol.specs.Joining.{AreReadBy, IsJoined}
+use Rattle.qr_symbol.specs.{Reading.IsReading, Joining.AreReadBy, Joining.IsJoined}
 use Rattle.qr_symbol.proofs.Facts.{joined-refused, joining-one, message-one, moved}
 use Rattle.qr_mending.specs.Mending.{IsUnmended}
 use Rattle.qr_mending.specs.Series.{AreDamagedSquares, IsDamagedSquare, IsMendedContent, IsMendedSeries, IsUnmendedSeries}

@@ -1,8 +1,6 @@
 use Rattle.std.proofs.Common.{◌≡◌, ◌<◌, ◌||◌, not, cond, eqb, ℕ, Bool, true, ap, ◌∙◌, inl, inr, arith}
-use Rattle.std.proofs.lemmas.Bool.{cases_lt, ne_eqb}
-use Rattle.std.proofs.lemmas.Bool.Decides.{nat_tests}
-use Rattle.qr_matrix.specs.BitRow.{has}
-use Rattle.qr_matrix.specs.Difference.{difference_count}
+use Rattle.std.proofs.lemmas.Bool.{cases_lt, ne_eqb, Decides.nat_tests}
+use Rattle.qr_matrix.specs.{BitRow.has, Difference.difference_count}
 use Rattle.qr_matrix.specs.Grid.{Grid, colour, with_row, is_same}
 use Rattle.qr_matrix.specs.Sums.{places_passing}
 use Rattle.qr_matrix.proofs.Facts.{colour-square}

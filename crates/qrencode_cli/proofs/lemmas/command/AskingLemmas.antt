@@ -1,33 +1,28 @@
 -- The drawing that a command line and an input ask for, or the fault that occurs before any byte is written.
 use Rattle.std.proofs.Common.{◌≡◌, ◌∙◌, ◌≤◌, ℕ, true, false, List, [], ◌∷◌, take, Option, None, Some, Result, Ok, Err, MatchResult, refl, sym, min, length, append-nil, arith, inl, inr, ◌⊎◌}
 use Rattle.std.proofs.lemmas.{Bool.cases_lt, List.take_min}
-use Rattle.std.specs.List.{All}
 use Rattle.std.proofs.lemmas.List.Elements.{All-cons, All-head, All-nil}
+use Rattle.std.specs.List.{All}
 use Rattle.qr_drawing.specs.Drawing.{HaveOneSide}
 use Rattle.clap.specs.Walk.{Text}
-use Rattle.qr_bits.specs.declared.modes.TheConstants.{INPUT_MAX}
-use Rattle.qr_bits.specs.declared.modes.Rule.{Rule}
-use Rattle.qr_bits.specs.Folding.{folded}
+use Rattle.qr_bits.specs.{declared.modes.TheConstants.INPUT_MAX, declared.modes.Rule.Rule, Folding.folded}
 use Rattle.qr_layout.specs.Version.{side_of}
 use Rattle.qr_symbol.specs.declared.fault.EncodeFault.{EncodeFault}
 use Rattle.qr_symbol.specs.declared.fault.EncodeFault.TheVariants as encode
 use Rattle.qr_symbol.specs.declared.symbol.Symbol.{Symbol}
 use Rattle.qr_matrix.specs.Grid.{Grid}
-use Rattle.qr_symbol.specs.{Joining.AreReadBy, Joining.IsJoined, Reading.IsReadBack, Series.IsSeries, Series.squares_of}
+use Rattle.qr_symbol.specs.{Joining.AreReadBy, Joining.IsJoined, Reading.IsReadBack, Series.IsSeries, Series.squares_of, Encoding.IsSymbol, VersionChoice.HasNoVersion}
 use Rattle.qr_symbol.proofs.Facts.{long-has-no-series, series-few, series-side, series-some}
 use Rattle.qrencode_cli.specs.Command.{AllRead, HasDrawing, IsDrawing, ReadsInput, IsFault, held, input_for}
-use Rattle.qr_devices.specs.Device.{Reader}
-use Rattle.qrencode_cli.specs.{Steps.Fault.fault_of_input, Steps.Fault.fault_of_words, Input.IsInputOf}
 use Rattle.qrencode_cli.specs.Settings.{IsUsageFault, Reason, SettingsView, rule_for, settings_for}
 use Rattle.qrencode_cli.specs.Steps.Command.{AreDrawnFor, IsEarly, IsInputFault, Prepares, drawing_of_job}
-use Rattle.qr_symbol.specs.{Encoding.IsSymbol, VersionChoice.HasNoVersion}
+use Rattle.qrencode_cli.specs.{Symbols.smallest_of, declared.fault.Fault.Fault}
+use Rattle.qr_devices.specs.Device.{Reader}
+use Rattle.qrencode_cli.specs.{Steps.Fault.fault_of_input, Steps.Fault.fault_of_words, Input.IsInputOf}
 use Rattle.qr_bits.proofs.Facts.{fitting_short}
 use Rattle.std.proofs.lemmas.Grind.{common_steps}
-use Rattle.qrencode_cli.specs.Symbols.{smallest_of}
-use Rattle.qrencode_cli.specs.declared.fault.Fault.{Fault}
 use Rattle.qrencode_cli.specs.declared.fault.Fault.TheVariants as fault
-use Rattle.qrencode_cli.specs.declared.drawing_job.DrawingJob.{DrawingJob}
-use Rattle.qrencode_cli.specs.declared.settings.UsageFault.{UsageFault}
+use Rattle.qrencode_cli.specs.declared.{drawing_job.DrawingJob.DrawingJob, settings.UsageFault.UsageFault}
 use Rattle.qrencode_cli.specs.declared.settings.UsageFault.TheVariants as usage
 
 -- there is always an input that the reader may return

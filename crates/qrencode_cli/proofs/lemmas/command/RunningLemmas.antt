@@ -3,10 +3,10 @@ use Rattle.std.proofs.Common.{◌≤◌, arith, ◌≡◌, ℕ, List, [], Option
 use Rattle.std.specs.Io.KnownBytes.{Appends}
 use Rattle.clap.specs.Walk.{Text}
 use Rattle.qrencode_cli.specs.Command.{DrawnInPart, DrawnWhole, ErrorHolds, InputConsumed, OutputHolds}
-use Rattle.qr_devices.specs.Device.{AppendsBeginning, Reader, Writer, counted, is_write_fault, no_writes}
 use Rattle.qrencode_cli.specs.Fault.{fault_line}
 use Rattle.qrencode_cli.specs.Steps.Command.{Attempts, IsEarly, Prepares, drawing_of_job}
 use Rattle.qrencode_cli.specs.declared.fault.Fault.{Fault}
+use Rattle.qr_devices.specs.Device.{AppendsBeginning, Reader, Writer, counted, is_write_fault, no_writes}
 use Rattle.qrencode_cli.specs.declared.fault.Fault.TheVariants as fault
 use Rattle.qrencode_cli.specs.declared.drawing_job.DrawingJob.{DrawingJob}
 use Rattle.qr_drawing.specs.declared.pen.DrawFault.{DrawFault}

@@ -1,12 +1,10 @@
 -- The invariant of the loop that reads the input.
 use Rattle.std.proofs.Common.{◌≡◌, ◌+◌, ◌<◌, ◌≤◌, ◌++◌, ◌∙◌, ℕ, List, [], length, take, Option, Some, None, arith, ap, refl, append-nil}
-use Rattle.std.proofs.lemmas.List.{take_all}
-use Rattle.std.proofs.Math.Seq.{take-append_seam}
+use Rattle.std.proofs.{lemmas.List.take_all, Math.Seq.take-append_seam}
 use Rattle.qr_bits.specs.declared.modes.TheConstants.{INPUT_MAX}
 use Rattle.qrencode_cli.specs.Input.{IsInputOf}
 use Rattle.std.specs.Io.KnownBytes.{Consumes, IsAtEnd}
-use Rattle.qr_devices.specs.Device.{no_reads}
-use Rattle.qr_devices.specs.declared.device.ReadCounts.{ReadCounts}
+use Rattle.qr_devices.specs.{Device.no_reads, declared.device.ReadCounts.ReadCounts}
 
 -- the counts of a device that started at 0, after `len` bytes and this number of interruptions
 pub record IsCounted (c : ReadCounts) (len interrupted : ℕ) : Type 0 where

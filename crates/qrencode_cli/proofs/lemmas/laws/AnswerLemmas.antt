@@ -15,8 +15,7 @@ use Rattle.qrencode_cli.specs.Arguments.{faults_for, rows_for}
 use Rattle.qrencode_cli.specs.Settings.{Reason, SettingsView, checked_series, drawing_named, level_named, needs_version, number_or, refused_by_clap, rule_for, settings_for, settings_of, settings_with, unknown_level, unknown_type}
 use Rattle.qr_drawing.specs.declared.drawing.Drawing.{Drawing}
 use Rattle.qr_symbol.specs.declared.fault.EncodeFault.TheVariants as encode
-use Rattle.qrencode_cli.specs.declared.settings.UsageFault.{UsageFault}
-use Rattle.qrencode_cli.specs.declared.fault.Fault.{Fault}
+use Rattle.qrencode_cli.specs.declared.{settings.UsageFault.UsageFault, fault.Fault.Fault}
 use Rattle.qrencode_cli.specs.declared.fault.Fault.TheVariants as fault
 use Rattle.qrencode_cli.specs.Symbols.{AreSymbols, IsTooLong, IsTooMany, smallest_of}
 use Rattle.qrencode_cli.specs.declared.settings.UsageFault.TheVariants as usage

@@ -1,8 +1,7 @@
 -- The squares whose modules have some bytes, read one square after another.
 use Rattle.std.proofs.Common.{◌≡◌, ℕ, zero, suc, ◌*◌, ◌≤◌, List, [], ◌∷◌, ◌++◌, length, drop, refl, ap, append-nil, arith}
+use Rattle.std.proofs.lemmas.List.{append_assoc, Elements.All-cons, Elements.All-nil}
 use Rattle.std.specs.List.{All}
-use Rattle.std.proofs.lemmas.List.{append_assoc}
-use Rattle.std.proofs.lemmas.List.Elements.{All-cons, All-nil}
 use Rattle.qr_matrix.specs.Grid.{Grid}
 use Rattle.qr_drawing.specs.Drawing.{HaveOneSide}
 use Rattle.qrproved.specs.{Drawing.squares_of_bytes, Modules.square_of_bytes}

@@ -1,6 +1,6 @@
 use Rattle.std.proofs.Common.{◌≡◌, ◌<◌, ◌≤◌, ◌+◌, ◌*◌, ◌==◌, false, ℕ, List, length, get_or, slice_index_or, sym, ap, ◌∙◌, arith}
-use Rattle.std.specs.List.{All}
 use Rattle.std.proofs.lemmas.Bool.{ne_eqb}
+use Rattle.std.specs.List.{All}
 use Rattle.qr_matrix.specs.Grid.{light}
 use Rattle.qrproved.specs.Mending.{square_of_unknown}
 use Rattle.qrproved.proofs.lemmas.modules.ModuleLemmas.{place-in}

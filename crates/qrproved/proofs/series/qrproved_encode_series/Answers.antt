@@ -1,7 +1,6 @@
 use Rattle.std.proofs.Common.{◌≡◌, ℕ, ◌*◌, ◌<◌, List, length, false, sym, ap, subst, ◌∙◌, arith}
 use Rattle.qr_layout.specs.Version.{side_of}
-use Rattle.qr_bits.specs.declared.modes.Mode.TheVariants.{Kanji}
-use Rattle.qr_bits.specs.Modes.{may_use}
+use Rattle.qr_bits.specs.{declared.modes.Mode.TheVariants.Kanji, Modes.may_use}
 use Rattle.qr_symbol.specs.declared.symbol.Symbol.{Symbol}
 use Rattle.qr_symbol.specs.Series.{squares_of, IsSeries, NeedsParts}
 use Rattle.qrproved.specs.declared.settings.Settings.{Settings}
