@@ -52,8 +52,12 @@ bits-split n d style upper lower =
 pub eight_quads : (h t u : List ℕ) (style : TextStyle) (upper lower : ℕ) → t ≡ h ++ bits_text 4 style upper lower
     → u ≡ t ++ bits_text 4 style (upper / 16) (lower / 16) → u ≡ h ++ bits_text 8 style upper lower
 eight_quads h t u style upper lower p q =
-    cc (q, p, append_assoc h (bits_text 4 style upper lower) (bits_text 4 style (upper / 16) (lower / 16)),
-        bits-split 4 4 style upper lower)
+    cc (
+      q,
+      p,
+      append_assoc h (bits_text 4 style upper lower) (bits_text 4 style (upper / 16) (lower / 16)),
+      bits-split 4 4 style upper lower,
+    )
 
 -- each text of the table is that of its four modules: computed
 all-quads : all_below 16 (λ b. pointwise nat_eq (get_or ASCII_QUADS b []) (bits_text 4 Plain b 0)) ≡ true

@@ -61,8 +61,12 @@ pub texts_below-alike : (n : ℕ) (f g : ℕ → List ℕ) → ((k : ℕ) → k 
 unfolding texts_below
 texts_below-alike zero f g h = refl
 texts_below-alike (suc n) f g h =
-    cc (texts_below-suc n f, texts_below-suc n g, texts_below-alike n f g (λ k lt. h k (omega arith)),
-        h n (omega arith))
+    cc (
+      texts_below-suc n f,
+      texts_below-suc n g,
+      texts_below-alike n f g (λ k lt. h k (omega arith)),
+      h n (omega arith),
+    )
 
 -- n texts of at most b bytes are at most n * b bytes long
 pub texts_below-length : (n b : ℕ) (text : ℕ → List ℕ) → ((k : ℕ) → length (text k) ≤ b) → length (texts_below n text) ≤ n * b
@@ -90,8 +94,10 @@ texts-of-first text xs d (suc n) le =
 
 -- the texts of a list's items, place by place
 pub texts-of-items : {A : Type 0} (text : A → List ℕ) (xs : List A) (d : A) → flat_map text xs ≡ texts_below (length xs) (λ k. text (get_or xs k d))
-texts-of-items text xs d = cc (take_all (length xs) xs (omega arith),
-    texts-of-first text xs d (length xs) (omega arith))
+texts-of-items text xs d = cc (
+  take_all (length xs) xs (omega arith),
+  texts-of-first text xs d (length xs) (omega arith),
+)
 
 -- ---- texts that are added
 

@@ -57,9 +57,9 @@ product-assoc a b c l m h = elim (cases_eq a 0) [
           right-none (product a b) c (product-lt a b l) g ∙ sym (right-none a (product b c) l (right-none b c m g))
       | inr p ↦
           let i = exponent-of a n l in
-    let j = exponent-of b o m in
-    let k = exponent-of c p h in
-    cc (powers-assoc i.0 j.0 k.0)
+          let j = exponent-of b o m in
+          let k = exponent-of c p h in
+          cc (powers-assoc i.0 j.0 k.0)
     ]
   ]
 ]

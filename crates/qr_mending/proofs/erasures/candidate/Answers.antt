@@ -10,16 +10,16 @@ returns-clause-mended c =
     let there = c.as_slice-3.ensures.value in
     let value = c.coefficients.ensures.value in
     erasures-leave c.args.n c.args.spare _ c.args.damaged.now c.syndromes-first.result.items
-        c.modified_syndromes-modified.result.items
+    c.modified_syndromes-modified.result.items
     c.without_errors.result.items c.args.erased.now c.locator-misread.result c.requires.fits c.requires.marks
     (All-from_get_or IsByte c.args.damaged.now 0 (λ i l. omega (arith, c.type_inv.damaged i)))
-        c.syndromes-first.ensures.values
+    c.syndromes-first.ensures.values
     (omega (arith, c.syndromes-first.ensures.count))
     (rw (c.as_slice.ensures.value, c.with_roots-unread.ensures.product, here) at
-        c.modified_syndromes-modified.ensures.values)
+    c.modified_syndromes-modified.ensures.values)
     (omega (arith, ap length there, ap length c.as_slice.ensures.value, ap length here))
     c.locator-misread.ensures.degree c.locator-misread.ensures.monic c.coefficients.ensures.terms
     (rw value at c.with_roots-all.ensures.bytes) (rw there at c.locator-misread.ensures.solved)
     (rw (c.as_slice-4.ensures.value, c.with_roots-all.ensures.product, value, c.as_slice-5.ensures.value) at
-        c.without_errors.ensures.sum)
+    c.without_errors.ensures.sum)
     (omega (arith, c.count_erased.ensures))

@@ -11,7 +11,7 @@ returns-then-is_block-clause-only c = λ mended h.
     let codewords = c.args.codewords.now in
     let read = read_of codewords c.args.erased.now in
     let self : IsMendedWithErasures c.args.divisor.now c.args.spare read codewords = search
-        (arith, erasures-marked, errors-self, length-read) in
+    (arith, erasures-marked, errors-self, length-read) in
     erasures-one c.args.divisor.now c.args.spare read mended codewords
     (omega (arith, c.requires.most, length-read codewords c.args.erased.now)) c.requires.spare h self
 
@@ -40,8 +40,12 @@ returns-clause-mended c =
         block = rw (c.as_slice-else-unread-misread.ensures.value, ← after) at
             (c.is_block-else-unread-misread.ensures.0 c.if-not-is_block.false);
         long = omega (arith, ap length after, c.candidate-mended.ensures.long, length-read codewords c.args.erased.now);
-        near = omega (arith, erasures-marked codewords c.args.erased.now c.requires.marks,
-            c.count_erased-unread.ensures, misread);
+        near = omega (
+          arith,
+          erasures-marked codewords c.args.erased.now c.requires.marks,
+          c.count_erased-unread.ensures,
+          misread,
+        );
       },
       misread,
     )

@@ -14,7 +14,7 @@ loop-i-preserved c =
     let place = c.place-place.ensures.place in
     let dark : c.dark-dark.result ≡ copy_bit copy g i = cc (c.dark-dark.ensures, place, c.requires.side) in
     let unknown : c.dark-is_unknown.result ≡ copy_bit copy u i = cc
-        (c.dark-is_unknown.ensures, place, c.requires.unknown_side) in
+    (c.dark-is_unknown.ensures, place, c.requires.unknown_side) in
     let unread : c.from-unread.result ≡ cond (copy_bit copy u i) 1 0 =
     cc (c.from-unread.ensures, (bool_byte-cond c.dark-is_unknown.result).0, unknown) in
     let misread : c.misread_bit-misread.result ≡ cond (not (copy_bit copy u i) && not (is_same (copy_bit copy g i) (has_bit c.args.word i))) 1 0 =

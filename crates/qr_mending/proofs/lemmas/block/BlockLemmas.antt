@@ -103,8 +103,11 @@ pub solved-root : (t : ℕ) (e first q : List ℕ) (p : Polynomial) → All IsBy
     coefficient m e ≡ 0
 solved-root t e first q p le small few values long d fits bytes same solved =
     let count : length q ≡ p.degree + 1 = search (arith, length-take-le) in
-    errors-root t q e bytes le small few (λ i g. cc (dot-blend q i first e values (omega (arith, g, count, long, d)),
-        same, solved i g))
+    errors-root t q e bytes le small few (λ i g. cc (
+      dot-blend q i first e values (omega (arith, g, count, long, d)),
+      same,
+      solved i g,
+    ))
 
 -- adding the difference of two lists to the first list gives the second list
 pub plus-cancel : (xs ys : List ℕ) → length xs ≡ length ys → plus xs (plus xs ys) ≡ ys
@@ -118,8 +121,11 @@ pub sum-more : (xs errors items new : List ℕ) (k error : ℕ) → length error
     new ≡ items ++ bit_xor (get_or xs k 0) error ∷ [] → new ≡ take (k + 1) (plus xs errors)
 sum-more xs errors items new k error long l h same push =
     let count : length (plus xs errors) ≡ length errors = length-plus xs errors (omega (arith, long)) in
-    cc (coefficient-at errors k (omega (arith, long, l)), get_or-plus xs errors k (sym long) l,
-        take_more (plus xs errors) k 0 (omega (arith, l, long, count)))
+    cc (
+      coefficient-at errors k (omega (arith, long, l)),
+      get_or-plus xs errors k (sym long) l,
+      take_more (plus xs errors) k 0 (omega (arith, l, long, count)),
+    )
 
 -- ---- the values of the errors
 

@@ -164,13 +164,16 @@ erasures-leave n spare t damaged first modified items es p most marks a h l left
     let g = unread es in
     let lg = bytes-unread es in
     let none = rooted-roots es (1 ∷ []) (All-cons IsByte 1 [] (lit< tt) (All-nil IsByte)) in
-    let few : weight (weighted g e) ≤ t = omega (arith, weighted-few g damaged b es lg le (sym long) marks none,
-        near) in
+    let few : weight (weighted g e) ≤ t = omega (
+      arith,
+      weighted-few g damaged b es lg le (sym long) marks none,
+      near,
+    ) in
     let roots = solved-root t (weighted g e) modified q p (bytes-weighted g e le)
-        (omega (arith, length-weighted g e, small)) few
+    (omega (arith, length-weighted g e, small)) few
     (left e le ve) half d fits bytes refl solved in
     let all = monic-rooted es (take p.degree p.terms) in
     let split : rooted es q ≡ all.0 ++ 1 ∷ [] = ap (rooted es) (all-low p monic fits) ∙ all.1 in
     let located = roots-locate (rooted es q) all.0 e split (bytes-rooted es q bytes) le small
-        (joined-root es q e bytes le roots) in
+    (joined-root es q e bytes le roots) in
     sum e (omega (arith, count, long)) located ve ∙ plus-cancel damaged b (sym long)

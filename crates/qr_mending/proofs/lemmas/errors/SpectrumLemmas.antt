@@ -137,8 +137,12 @@ spectrum-coefficient m (c ∷ e) l h a =
     let none : 0 * k ≡ 0 = omega arith in
     let lg = geometric-lt 255 (product y (power k)) (product-lt y (power k) ly) in
     let start : spectrum 255 0 y (c ∷ e) ≡ bit_xor (product c (geometric 255 (power (255 - m + k)))) (coefficient m e) =
-    spectrum-cons 255 0 y c e ly lc le ∙ simp (none, product-of_one, power-add,
-        spectrum-coefficient m e l (omega arith) le) in
+    spectrum-cons 255 0 y c e ly lc le ∙ simp (
+      none,
+      product-of_one,
+      power-add,
+      spectrum-coefficient m e l (omega arith) le,
+    ) in
     elim (cases_eq m k) [
       | inl s ↦
           let turn : 255 - m + k ≡ 255 = omega (arith, s) in

@@ -131,8 +131,11 @@ root-weighted p (c ∷ e) lp le r =
     let none : product c z ≡ 0 = elim (cases_eq z 0) [
       | inl f ↦ rw f (product-by_zero c (All-head IsByte c e le))
       | inr o ↦
-          cc (coefficient-head (length e) c e refl, r (length e) (omega arith) o,
-              product-of_zero z (eval-lt x p (power-lt (length e)) lp))
+          cc (
+            coefficient-head (length e) c e refl,
+            r (length e) (omega arith) o,
+            product-of_zero z (eval-lt x p (power-lt (length e)) lp),
+          )
     ] in
     let rest = root-weighted p e lp (All-tail IsByte c e le)
     (λ m l n. sym (coefficient-tail m c e (λ h. omega (arith, h, l))) ∙ r m (omega (arith, l)) n) in
@@ -161,6 +164,9 @@ coefficient-weighted m p (c ∷ e) lp =
     elim (cases_eq m (length e)) [
       | inl h ↦ cc (coefficient-head m x (weighted p e) (h ∙ sym same), coefficient-head m c e h, h)
       | inr o ↦
-          cc (coefficient-tail m x (weighted p e) (λ h. o (h ∙ same)), coefficient-weighted m p e lp,
-              coefficient-tail m c e o)
+          cc (
+            coefficient-tail m x (weighted p e) (λ h. o (h ∙ same)),
+            coefficient-weighted m p e lp,
+            coefficient-tail m c e o,
+          )
     ]

@@ -29,8 +29,12 @@ pub bits-alike : (n : ℕ) (p q r s : ℕ → Bool) → ((i : ℕ) → i < n →
     bit_differences n p q ≡ bit_differences n r s
 bits-alike zero p q r s f g = refl
 bits-alike (suc n) p q r s f g =
-    cc (f n (omega arith), g n (omega arith), bits-alike n p q r s (λ i l. f i (omega arith))
-        (λ i l. g i (omega arith)))
+    cc (
+      f n (omega arith),
+      g n (omega arith),
+      bits-alike n p q r s (λ i l. f i (omega arith))
+          (λ i l. g i (omega arith)),
+    )
 
 -- ---- the distance of the words
 
@@ -56,7 +60,7 @@ word-one l k m n p q =
       | inl e ↦ inl (level-one l k (omega arith), omega arith)
       | inr o ↦
           let pass = below-at 32 (is-far i) (below-at 32 (λ k. below 32 (is-far k)) all-far i (omega arith)) j
-              (omega arith) in
+          (omega arith) in
           inr (ltb-true 6 _ (rw (ne_eqb i j o) at pass))
     ]
 
@@ -83,8 +87,12 @@ words-apart l k m n p q o = search (arith, word-one)
 pub costs-apart : (unknown g : Grid) (l k : Level) (m n : ℕ) → m < 8 → n < 8 → ((l ≡ k) × (m ≡ n) → ⊥) →
     28 ≤ format_cost unknown g l m + format_cost unknown g k n
 costs-apart unknown g l k m n p q o =
-    omega (arith, words-apart l k m n p q o, cost-between unknown First g l k m n,
-        cost-between unknown Second g l k m n)
+    omega (
+      arith,
+      words-apart l k m n p q o,
+      cost-between unknown First g l k m n,
+      cost-between unknown Second g l k m n,
+    )
 
 -- of three levels and masks that are near to a copy, two are the same
 pub near-two : (unknown g : Grid) (a b c : FormatCopy) (l k j : Level) (m n i : ℕ) → IsNearFormat unknown a g l m →

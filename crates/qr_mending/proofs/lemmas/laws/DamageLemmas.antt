@@ -20,7 +20,7 @@ pub symbol-mended-as : (unknown : Grid) (g : Grid) (v : ℕ) (l : Level) (mask :
     MatchResult r (λ m. (m.version ≡ v) × (m.level ≡ l) × (m.mask ≡ mask) × (m.parsed ≡ content)) (λ e. e ≡ fault.Memory)
 symbol-mended-as unknown g v l mask content changed (Ok m) h k =
     let w = mended-reading-one unknown g m.version v m.level l m.mask mask m.parsed content m.changed.items changed k
-        h in
+    h in
     (w.0, w.1, w.2, w.3)
 symbol-mended-as unknown g v l mask content changed (Err e) h k = mended-not-refused unknown g v l mask content changed
     e h k
@@ -28,7 +28,7 @@ symbol-mended-as unknown g v l mask content changed (Err e) h k = mended-not-ref
 module _ (unknown : Grid) (smallest : ℕ) (l : Level) (rule : Rule) (x : List ℕ) (v mask : ℕ) (g h : Grid)
     (changed : List ℕ)
     (least : 1 ≤ smallest) (s : IsSymbol smallest l rule x v mask g) (side : h.side ≡ g.side)
-        (f : HasFormat unknown v h l mask)
+    (f : HasFormat unknown v h l mask)
     (d : HoldsDamaged unknown v l mask h s.made.message changed) where
   -- a damaged symbol of an input is a damaged form of its message
   symbol-form : IsDamagedForm unknown h v l mask s.made.message changed
@@ -43,8 +43,11 @@ module _ (unknown : Grid) (smallest : ℕ) (l : Level) (rule : Rule) (x : List �
   }
 
   -- a damaged symbol of an input can be read with its damage mended, as the input
-  pub symbol-mended : IsMendedReading unknown h v l mask (record { header = None; segments = s.made.segments;
-      bytes = x }) changed
+  pub symbol-mended : IsMendedReading unknown h v l mask (record {
+    header = None;
+    segments = s.made.segments;
+    bytes = x;
+  }) changed
   symbol-mended = record {
     message = s.made.message;
     form = symbol-form;
@@ -61,15 +64,15 @@ module _ (unknown : Grid) (smallest : ℕ) (l : Level) (rule : Rule) (x : List �
       × (m.wrong_modules ≡ wrong_modules unknown h g) × (m.wrong_format_modules ≡ wrong_format_modules unknown h l mask)) (λ e. e ≡ fault.Memory)
   symbol-counted (Ok m) k format modules =
       let w = mended-reading-one unknown h m.version v m.level l m.mask mask m.parsed _ m.changed.items changed k
-          symbol-mended in
+      symbol-mended in
       let drawn : HasWrongModules unknown h v l mask changed
-          (wrong_modules unknown h (grid_of v l mask s.made.codewords)) = record {
+      (wrong_modules unknown h (grid_of v l mask s.made.codewords)) = record {
         message = s.made.message;
         form = symbol-form;
         differs = record { codewords = s.made.codewords; interleaved = s.made.interleaved; count = refl };
       } in
       let wrong = wrong-one unknown h m.version v m.level l m.mask mask m.changed.items changed m.wrong_modules _
-          modules drawn in
+      modules drawn in
       let whole = wrong ∙ ap (wrong_modules unknown h) (sym s.made.drawn) in
       (w.0, w.1, w.2, w.3, w.4, whole, rw (w.1, w.2) at format)
   symbol-counted (Err e) k format modules = mended-not-refused unknown h v l mask _ changed e symbol-mended k

@@ -27,12 +27,18 @@ pub few-format : (v : ℕ) (l : Level) (mask : ℕ) (cw : List ℕ) (g h : Grid)
 few-format v l mask cw g h p q e f w =
     let word = has_bit (format_word_of l mask) in
     let first = bits-alike 15 (copy_bit First g) word (copy_bit First g) (copy_bit First h) (λ i k. refl)
-        (λ i k. sym (f.bits i k)) in
+    (λ i k. sym (f.bits i k)) in
     let second = bits-alike 15 (copy_bit Second g) word (copy_bit Second g) (copy_bit Second h) (λ i k. refl)
     (λ i k. rw e (sym (shown Second v l mask cw i p q f.in_range k))) in
     let cost = copy-light g.side in
-    sure-format (light g.side) g v l mask f.in_range (omega (arith, first, second, w.format, cost First g l mask,
-        cost Second g l mask))
+    sure-format (light g.side) g v l mask f.in_range (omega (
+      arith,
+      first,
+      second,
+      w.format,
+      cost First g l mask,
+      cost Second g l mask,
+    ))
 
 -- a square that differs from a symbol in few modules contains a damaged form of its message
 pub few-held : (v : ℕ) (l : Level) (mask : ℕ) (g h : Grid) (d : List ℕ) → 1 ≤ v → v ≤ 40 → IsMessage v l mask h d →

@@ -73,7 +73,7 @@ final-parts b d cw n h =
     let first = map (codeword_at own d) h.data_positions in
     let last = map (codeword_at sizes es) h.check_positions in
     let each = map-each (IsPosition sizes) (codeword_at sizes es) (check_at ch.corrections) h.check_positions
-        h.check_order.in_blocks
+    h.check_order.in_blocks
     (λ u i. ch.same u (let l = i.0 in omega arith) i) in
     let whole : cw ≡ first ++ last = cc (each, same, h.whole) in
     let many = positions-many own h.data_positions h.data_order in
@@ -136,8 +136,11 @@ copy-light s copy g l mask = search (arith, cost-light, colour-light)
 format-near : (s : ℕ) (g : Grid) (l : Level) (mask : ℕ) → IsFormat g l mask → IsNearFormat (light s) First g l mask
 format-near s g l mask h = record {
   in_range = h.in_range;
-  near = omega (arith, bits-same 15 (copy_bit First g) (has_bit (format_word_of l mask)) h.bits,
-      copy-light s First g l mask);
+  near = omega (
+    arith,
+    bits-same 15 (copy_bit First g) (has_bit (format_word_of l mask)) h.bits,
+    copy-light s First g l mask,
+  );
 }
 
 -- the differences of a list from a second are at most those of both from a third
@@ -155,9 +158,16 @@ format-exact g v l mask h = best (light g.side) g First v l mask (format-near g.
     let here = has_bit (format_word_of l mask) in
     let there = has_bit (format_word_of k n) in
     let cost = copy-light g.side in
-    omega (arith, bits-same 15 first here h.bits, bits-alike 15 first there here there h.bits (λ i r. refl),
-      bits-triangle 15 (copy_bit Second g) here there, cost First g l mask, cost Second g l mask, cost First g k n,
-          cost Second g k n))
+    omega (
+      arith,
+      bits-same 15 first here h.bits,
+      bits-alike 15 first there here there h.bits (λ i r. refl),
+      bits-triangle 15 (copy_bit Second g) here there,
+      cost First g l mask,
+      cost Second g l mask,
+      cost First g k n,
+      cost Second g k n,
+    ))
 
 -- ---- squares
 

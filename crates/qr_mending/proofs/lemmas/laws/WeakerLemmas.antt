@@ -29,21 +29,31 @@ weaker-block n m block some less few b =
     let front = take k block in
     let back = drop k block in
     let bytes = bytes-block m block b in
-    let size : m ≤ length block = omega (arith, ap length b.whole, length-append b.message b.correction,
-        b.corrects.count) in
+    let size : m ≤ length block = omega (
+      arith,
+      ap length b.whole,
+      length-append b.message b.correction,
+      b.corrects.count,
+    ) in
     let f = correction-some front n some (All-take IsByte k block bytes) in
     let other = front ++ f.0 in
     let found : IsBlock n other = record { message = front; correction = f.0; whole = refl; corrects = f.1 } in
     let last = length-drop k block in
-    let same : length block ≡ length other = omega (arith, size, less, length-take k block, length-append front f.0,
-        f.1.count) in
+    let same : length block ≡ length other = omega (
+      arith,
+      size,
+      less,
+      length-take k block,
+      length-append front f.0,
+      f.1.count,
+    ) in
     let join = ap (λ (z : List ℕ). differences z other) (sym (take-append-drop k block))
-        ∙ differences-rest front back f.0 in
+    ∙ differences-rest front back f.0 in
     let most = differences-most back f.0 (omega (arith, size, less, last, f.1.count)) in
     let weighs = weight-plus block other same in
     let sum = plus block other in
     let zero = weight-none (length sum) n sum (omega arith) (omega
-        (arith, length-plus block other (omega (arith, same)), few))
+    (arith, length-plus block other (omega (arith, same)), few))
     (bytes-plus block other bytes (bytes-block n other found)) (omega (arith, weighs, join, most, last, size, less))
     (λ i h. errors-value n block other found (sym same) bytes i h ∙ root-block m block b i (omega (arith, h, less))) in
     search (arith, differences-none)

@@ -182,9 +182,9 @@ module _ (unknown g : Grid) where
       (r : Result (Option T) ReadFault) →
       IsOfNoUse unknown First v g →
       IfOk r (λ o. MatchOption o (IsOfNoUse unknown Second v g)
-          (λ m. IsNearFormat unknown Second g (level m) (mask m) × Held m × Long m)) →
+      (λ m. IsNearFormat unknown Second g (level m) (mask m) × Held m × Long m)) →
       IfOk r (λ o. MatchOption o ((any : FormatCopy) → IsOfNoUse unknown any v g)
-          (λ m. HasFormat unknown v g (level m) (mask m) × Held m × Long m))
+      (λ m. HasFormat unknown v g (level m) (mask m) × Held m × Long m))
   second-alone v level mask Held Long (Err e) useless h = tt
   second-alone v level mask Held Long (Ok None) useless h = each-copy (λ any. IsOfNoUse unknown any v g) useless h
   second-alone v level mask Held Long (Ok (Some m)) useless h =
@@ -194,7 +194,7 @@ module _ (unknown g : Grid) where
   pub best-of-two : (copy : FormatCopy) (v : ℕ) (l k : Level) (m n : ℕ) → IsNearFormat unknown copy g l m →
       IsNearFormat unknown (beside copy) g k n →
       rank_of copy (format_cost unknown g l m) ≤ rank_of (beside copy) (format_cost unknown g k n) →
-          HasFormat unknown v g l m
+      HasFormat unknown v g l m
   best-of-two copy v l k m n f s less = best copy v l m f (λ j i h p x d.
       omega (arith, rank-same (beside copy) k j n i s h, less))
 

@@ -79,10 +79,16 @@ no-marks v u p q e h =
       order = w.order;
       bits =
           light-same (bits_of zeros) (map plain some) (bits-light n) (colours-light u.side some)
-          (omega (arith, length-bits_of zeros, length-replicate {A = ℕ} n 0, length-map some plain,
-              length-take (8 * n) w.places, many))
+          (omega (
+            arith,
+            length-bits_of zeros,
+            length-replicate {A = ℕ} n 0,
+            length-map some plain,
+            length-take (8 * n) w.places,
+            many,
+          ))
           ∙ map-each (InRegion v) plain (λ m. colour u m.row m.col) some
-              (All-take (InRegion v) (8 * n) w.places w.order.in_region)
+          (All-take (InRegion v) (8 * n) w.places w.order.in_region)
           (λ t i. sym (h t.row t.col (omega (arith, row-in v t i, e)) (omega (arith, col-in v t i, e))));
     }
 
@@ -141,6 +147,6 @@ light-mended v mask s l g cw d e message changed p q h inside long many each =
           let all : map (read_at (light s) h.places cw) read ≡ map (λ x. Some x) (received b d e i) =
           cc (all-read s h.places cw read, received-map b (item cw) ks js i, same.0, same.1) in
           plain-block b (tolerance_of v l) (spare_of v l) (map (read_at (light s) h.places cw) read) d e message
-              (get_or changed i 0) i
+          (get_or changed i 0) i
           (omega arith) all (each i r);
     }

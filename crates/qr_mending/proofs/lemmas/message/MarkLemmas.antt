@@ -36,8 +36,14 @@ codeword-bits (c ∷ cs) (suc j) l =
 many-read : (f : Module → Bool) (ms : List Module) (cw : List ℕ) (n : ℕ) → bits_of cw ≡ map f (take (8 * n) ms) →
     8 * n ≤ length ms → length cw ≡ n
 many-read f ms cw n e l =
-    omega (arith, ap (length {A = Bool}) e, length-map (take (8 * n) ms) f, length-take (8 * n) ms, length-bits_of cw,
-        l)
+    omega (
+      arith,
+      ap (length {A = Bool}) e,
+      length-map (take (8 * n) ms) f,
+      length-take (8 * n) ms,
+      length-bits_of cw,
+      l,
+    )
 
 -- the bits of codeword j are read from its eight modules
 pub codeword-read : (f : Module → Bool) (ms : List Module) (cw : List ℕ) (n j : ℕ) →
@@ -46,8 +52,13 @@ codeword-read f ms cw n j e many l =
     let k = 8 * j in
     let rest = 8 * n - k in
     let whole : 8 * n ≡ k + rest = omega (arith, l) in
-    cc (codeword-bits cw j (omega (arith, l, many)), drop-map f k (take (8 * n) ms),
-        take-map f 8 (drop k (take (8 * n) ms)), drop-take k rest ms, take-take 8 rest (drop k ms) (omega (arith, l)))
+    cc (
+      codeword-bits cw j (omega (arith, l, many)),
+      drop-map f k (take (8 * n) ms),
+      take-map f 8 (drop k (take (8 * n) ms)),
+      drop-take k rest ms,
+      take-take 8 rest (drop k ms) (omega (arith, l)),
+    )
 
 -- the bits of the codewords of a square are read from the modules in order
 pub held-bits : (v mask : ℕ) (g : Grid) (ms : List Module) (cw : List ℕ) → 1 ≤ v → v ≤ 40 → IsOrder v ms →
@@ -117,8 +128,14 @@ read-marked : (unknown : Grid) (places : List Module) (cw marks ks : List ℕ) �
 read-marked unknown places cw marks [] h = refl
 read-marked unknown places cw marks (k ∷ ks) h =
     let here = h 0 k (omega arith) in
-    search (arith, All-tail, item, read-next, read-marked unknown places cw marks ks
-        (All-tail (AgreesAt unknown places marks) k ks h))
+    search (
+      arith,
+      All-tail,
+      item,
+      read-next,
+      read-marked unknown places cw marks ks
+          (All-tail (AgreesAt unknown places marks) k ks h),
+    )
 
 -- what is read by marks of block i
 block-marked : (v : ℕ) (l : Level) (unknown : Grid) (cw marks ks js : List ℕ) (i : ℕ) → 1 ≤ v → v ≤ 40 →
@@ -150,8 +167,10 @@ by-marks v l unknown cw marks message misread p q long h m =
         long = m.long;
         many = m.many;
         each = λ i r.
-            rw (block-marked v l unknown cw marks ks js i p q h m.inside,
-                only_order v h.places m.places h.order m.order) (m.each i r);
+            rw (
+              block-marked v l unknown cw marks ks js i p q h m.inside,
+              only_order v h.places m.places h.order m.order,
+            ) (m.each i r);
       };
     }
 

@@ -81,7 +81,7 @@ indices-some v l p q =
     let len = length-range_with_len 0 (total_codewords_of v) in
     let first = gather-some (data_sizes b) indices (omega (arith, sum, len)) in
     let second = gather-some (correction_sizes b) (drop own indices)
-        (omega (arith, sum, len, length-drop own indices)) in
+    (omega (arith, sum, len, length-drop own indices)) in
     search arith
 
 part-map : (c : BlockSizes) (f : ℕ → ℕ) (ks : List ℕ) (i : ℕ) → part_of c (map f ks) i ≡ map f (part_of c ks i)

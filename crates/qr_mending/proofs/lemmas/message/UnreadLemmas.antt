@@ -100,7 +100,7 @@ module _ (b : Blocks) (spare : ℕ) (d e u w : List ℕ) (n k : ℕ) (codewords 
     (en : n ≡ b.ec_len)
     (l : k < block_count (data_sizes b)) (ec : codewords ≡ received b d e k) (em : marks ≡ received b u w k)
     (ee : erased ≡ map (λ mark. not (mark == 0)) marks) (long : length codewords
-        ≡ block_len (data_sizes b) k + b.ec_len) where
+    ≡ block_len (data_sizes b) k + b.ec_len) where
   -- what was read of block k
   read-same : read_of codewords erased ≡ read_by (received b d e k) (received b u w k)
   read-same = rw (ee, em, ec)

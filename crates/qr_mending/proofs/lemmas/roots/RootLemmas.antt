@@ -24,8 +24,14 @@ length-times_root r c (a ∷ p) = let rest = length-times_root r a p in omega (a
 bytes-times_root : (r c : ℕ) (p : List ℕ) → r < 256 → c < 256 → All IsByte p → All IsByte (times_root r c p)
 bytes-times_root r c [] lr lc lp = All-cons IsByte c [] lc (All-nil IsByte)
 bytes-times_root r c (a ∷ p) lr lc lp =
-    search (arith, All-cons, xor_of_8, product-lt, bytes-times_root r a p lr (All-head IsByte a p lp)
-        (All-tail IsByte a p lp))
+    search (
+      arith,
+      All-cons,
+      xor_of_8,
+      product-lt,
+      bytes-times_root r a p lr (All-head IsByte a p lp)
+          (All-tail IsByte a p lp),
+    )
 
 -- a product with x + root keeps the leading 1
 monic-times_root : (r c : ℕ) (w : List ℕ) → (v : List ℕ) × (times_root r c (w ++ 1 ∷ []) ≡ v ++ 1 ∷ [])
@@ -41,8 +47,18 @@ eval-times_root y r c [] ly lr lp = search (arith, product-by_zero, xor_of_8)
 eval-times_root y r c (a ∷ p) ly lr lp =
     let la = All-head IsByte a p lp in
     let lps = All-tail IsByte a p lp in
-    search (arith, xor_of_8, eval-lt, product-by_sum, product-lt, product-xor, product-front, xor_assoc, xor_comm,
-        eval-times_root y r a p ly lr lps)
+    search (
+      arith,
+      xor_of_8,
+      eval-lt,
+      product-by_sum,
+      product-lt,
+      product-xor,
+      product-front,
+      xor_assoc,
+      xor_comm,
+      eval-times_root y r a p ly lr lps,
+    )
 
 -- the value of a product with x + root, without a carry
 eval-root : (y r : ℕ) (p : List ℕ) → y < 256 → r < 256 → All IsByte p →
@@ -93,8 +109,18 @@ pub eval-rooted : (y : ℕ) (es : List Bool) (p : List ℕ) → y < 256 → All 
     eval y (rooted es p) ≡ product (eval y (rooted es (1 ∷ []))) (eval y p)
 eval-rooted y [] p ly lp = search (arith, product-by_zero, xor_zero_r, product-of_one, eval-lt)
 eval-rooted y (true ∷ es) p ly lp =
-    search (arith, power-lt, bytes-rooted, All-cons, All-nil, eval-lt, eval-root, product-assoc, xor_of_8,
-        eval-rooted y es p ly lp)
+    search (
+      arith,
+      power-lt,
+      bytes-rooted,
+      All-cons,
+      All-nil,
+      eval-lt,
+      eval-root,
+      product-assoc,
+      xor_of_8,
+      eval-rooted y es p ly lp,
+    )
 eval-rooted y (false ∷ es) p ly lp = eval-rooted y es p ly lp
 
 -- the polynomial has a root for each erased codeword
@@ -115,6 +141,15 @@ roots-kept (false ∷ es) r g lr lg h = roots-kept es r g lr lg h
 pub rooted-roots : (es : List Bool) (p : List ℕ) → All IsByte p → has-roots es (rooted es p)
 rooted-roots [] p lp = tt
 rooted-roots (true ∷ es) p lp =
-    search (arith, power-lt, bytes-rooted, eval-root, xor_self, product-of_zero, eval-lt, roots-kept,
-        rooted-roots es p lp)
+    search (
+      arith,
+      power-lt,
+      bytes-rooted,
+      eval-root,
+      xor_self,
+      product-of_zero,
+      eval-lt,
+      roots-kept,
+      rooted-roots es p lp,
+    )
 rooted-roots (false ∷ es) p lp = rooted-roots es p lp

@@ -25,7 +25,7 @@ damaged-content d w c s h =
     let m = moved w h.version s.version h.level s.level h.mask s.mask h.message h.sized s.sized h.format s.format h.holds in
     let sized = s.sized in
     let same : h.message ≡ s.message = message-one s.version s.level s.mask w h.message s.message sized.least
-        sized.most m.1 s.holds in search arith
+    sized.most m.1 s.holds in search arith
 
 -- damaged squares are mended to the contents that the whole squares are read as
 damaged-contents : (ds ws : List Grid) (cs : List Content) → AreDamagedSquares ds ws → AreReadBy IsReading ws cs → AreReadBy IsMendedContent ds cs

@@ -22,8 +22,17 @@ pub xor-front : (a b c : ℕ) → bit_xor a (bit_xor b c) ≡ bit_xor b (bit_xor
 xor-front a b c = search (arith, xor_assoc, xor_comm)
 
 -- the laws by which two sums of products of bytes are brought into one form
-pub ruleset field_laws = (product-by_sum, ← product-xor, product-assoc, product-front, product-comm, xor_assoc,
-    xor-front, xor_comm, product-lt)
+pub ruleset field_laws = (
+  product-by_sum,
+  ← product-xor,
+  product-assoc,
+  product-front,
+  product-comm,
+  xor_assoc,
+  xor-front,
+  xor_comm,
+  product-lt,
+)
 
 -- the next power of a power
 pub power-next : (i m : ℕ) → power ((i + 1) * m) ≡ product (power m) (power (i * m))
@@ -36,8 +45,13 @@ value-push : (i : ℕ) (p : List ℕ) (c : ℕ) → All IsByte p → c < 256 →
     value_at i (p ++ c ∷ []) ≡ bit_xor (product (value_at i p) (power i)) c
 value-push i [] c a l =
     let none : i * 0 ≡ 0 = omega arith in
-    cc (none, xor_zero_r (product c (power 0)), product-by_one c l, product-of_zero (power i) (power-lt i),
-        xor_zero_l c)
+    cc (
+      none,
+      xor_zero_r (product c (power 0)),
+      product-by_one c l,
+      product-of_zero (power i) (power-lt i),
+      xor_zero_l c,
+    )
 value-push i (b ∷ p) c a l =
     let lb = All-head IsByte b p a in
     let lp = All-tail IsByte b p a in
@@ -120,12 +134,20 @@ pub blend-push : (p : List ℕ) (i : ℕ) (e : List ℕ) → All IsByte e →
     blend (p ++ 1 ∷ []) i e ≡ bit_xor (blend p i e) (value_at (i + length p) e)
 blend-push [] i e a =
     let same : i + 0 ≡ i = omega arith in
-    cc (same, xor_zero_r (product 1 (value_at i e)), product-of_one (value_at i e) (value-lt i e a),
-        xor_zero_l (value_at i e))
+    cc (
+      same,
+      xor_zero_r (product 1 (value_at i e)),
+      product-of_one (value_at i e) (value-lt i e a),
+      xor_zero_l (value_at i e),
+    )
 blend-push (b ∷ p) i e a =
     let same : i + 1 + length p ≡ i + length (b ∷ p) = omega arith in
-    cc (blend-push p (i + 1) e a, xor_assoc (product b (value_at i e)) (blend p (i + 1) e)
-        (value_at (i + 1 + length p) e), same)
+    cc (
+      blend-push p (i + 1) e a,
+      xor_assoc (product b (value_at i e)) (blend p (i + 1) e)
+          (value_at (i + 1 + length p) e),
+      same,
+    )
 
 -- an empty list contains the first values of every list
 pub values-none : (s e : List ℕ) → s ≡ [] → HasValues s e

@@ -21,7 +21,7 @@ returns-then-first-len c =
     let same = c.as_mut_slice.ensures.value in
     let long : length new ≡ length rest = omega (arith, ap length same) in
     rw (refill-same rest new (array_vec_len c.remove-pivot.new.self) (omega arith) long)
-        (pool-next c.args.t i s c.args.pool.now.items rest new c.first_miss-first.result
+    (pool-next c.args.t i s c.args.pool.now.items rest new c.first_miss-first.result
     c.remove-pivot.result (λ k. omega (arith, c.type_inv.syndromes k)) c.requires.pool (omega arith)
     (rw (c.as_slice.ensures.value, take_rest s i) at c.first_miss-first.ensures.before) c.remove-pivot.ensures.value
     c.remove-pivot.ensures.items (omega (arith, c.remove-pivot.ensures.len)) long (rw same at c.relieve.ensures.before)
@@ -30,6 +30,6 @@ returns-then-first-len c =
 pub returns-else-first-len : goal.returns-else-first-len
 returns-else-first-len c =
     let before = rw (c.as_slice.ensures.value, take_rest c.args.syndromes.now c.args.i) at
-        c.first_miss-first.ensures.before in
+    c.first_miss-first.ensures.before in
     pool-kept c.args.t c.args.i c.args.syndromes.now c.args.pool.now.items c.requires.pool
     (λ k l. before k (omega (arith, l, c.len.ensures.value)))

@@ -46,7 +46,7 @@ loop-row-preserved c =
     let off : (r k : ℕ) → (r ≡ row → ⊥) → r < g.side → k < g.side → colour after r k ≡ colour before r k =
     λ r k other l m.
     off-row before after row bits c.set_bit_row.ensures r k other (omega (arith, i.side, l))
-        (omega (arith, i.side, m)) in
+    (omega (arith, i.side, m)) in
     record {
       side = ap (λ (z : Grid). z.side) c.set_bit_row.ensures ∙ i.side;
       done = λ r k l m. elim (cases_lt r row) [
@@ -54,10 +54,15 @@ loop-row-preserved c =
         | inr o ↦
             let e : r ≡ row = omega arith in
             let new = in-row before after row bits c.set_bit_row.ensures r k e (omega (arith, i.side))
-                (omega (arith, i.side)) in
-            cc (new, written k, e, given-differs (colour g r k)
-                (colour u r k || not (is_same (colour g r k) (colour before r k))),
-                i.rest r k (omega arith) (omega arith) m)
+            (omega (arith, i.side)) in
+            cc (
+              new,
+              written k,
+              e,
+              given-differs (colour g r k)
+                  (colour u r k || not (is_same (colour g r k) (colour before r k))),
+              i.rest r k (omega arith) (omega arith) m,
+            )
       ];
       rest = λ r k l n m. rw (off r k (λ e. omega (arith, e, l)) n m) (i.rest r k (omega arith) n m);
     }

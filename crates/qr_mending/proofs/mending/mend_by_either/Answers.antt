@@ -24,9 +24,12 @@ pub returns-in_default-2-clause-mended : goal.returns-in_default-2-clause-mended
 returns-in_default-2-clause-mended c =
     let first = rw c.in-Some.is at c.in_ok-first.ensures.mended in
     let useless : IsOfNoUse c.args.unknown.now Second c.args.version c.args.matrix.now = rw c.in_default-2.is at c.in_ok-second.ensures.mended in
-    let m = c.in-Some.first in
-    (best c.args.unknown.now c.args.matrix.now First c.args.version m.level m.mask first.0
-        (λ k n f x y d. absurd (useless k n f x y d)), first.1, first.2)
+    let m = c.in-Some.first in (
+      best c.args.unknown.now c.args.matrix.now First c.args.version m.level m.mask first.0
+          (λ k n f x y d. absurd (useless k n f x y d)),
+      first.1,
+      first.2,
+    )
 
 pub returns-then-cost_of-cost-clause-mended : goal.returns-then-cost_of-cost-clause-mended
 returns-then-cost_of-cost-clause-mended c =

@@ -74,11 +74,11 @@ returns-else-modules-area-clause-done c _ =
       settings = c.in-Some.ensures.0;
       square = m.matrix;
       made = subst (λ (v : ℕ). IsSymbol c.args.version (level_of c.args.level) rule c.args.input.now v m.mask m.matrix)
-      version is;
+          version is;
       read = subst (λ (v : ℕ). IsReadBack v rule c.args.input.now m.matrix) version read;
       side = c.side-side.ensures.value;
       holds = one-held c.side-side.result m.matrix c.args.modules.now c.write_square.new.modules c.side-side.ensures.value
-      (omega (arith, c.area.ensures)) (search rules) c.write_square.ensures.modules c.write_square.ensures.others;
+          (omega (arith, c.area.ensures)) (search rules) c.write_square.ensures.modules c.write_square.ensures.others;
     }
 
 pub returns-else-modules-area-clause-too_long : goal.returns-else-modules-area-clause-too_long
