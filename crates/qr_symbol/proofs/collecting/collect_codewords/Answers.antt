@@ -1,9 +1,7 @@
 use Rattle.std.proofs.Common.{List, [], ◌∷◌, ◌++◌, ◌∙◌, ap, sym, subst, append_assoc, append-nil, arith}
-use Rattle.std.proofs.lemmas.List.Elements.{All-tail}
-use Rattle.std.specs.List.{All}
-use Rattle.qr_layout.specs.{declared.strips.Strip.Strip, Order.IsOrder, Order.in_region_of, Strips.places_of}
-use Rattle.qr_layout.specs.Version.{side_of}
-use Rattle.qr_layout.proofs.Facts.{Inside}
+use Rattle.std.{proofs.lemmas.List.Elements.All-tail, specs.List.All}
+use Rattle.qr_layout.{proofs.Facts.Inside, specs.Order.IsOrder, specs.Order.in_region_of}
+use Rattle.qr_layout.specs.{Strips.places_of, Version.side_of, declared.strips.Strip.Strip}
 use Rattle.qr_symbol.specs.Steps.Collecting.{colour_across}
 use Rattle.qr_symbol.proofs.lemmas.collecting.CollectingLemmas.{strip-read}
 use Rattle.qr_symbol.proofs.lemmas.reading.SymbolReadLemmas.{all-read, read-across}

@@ -2,8 +2,7 @@ use Rattle.std.proofs.Common.{◌≡◌, ◌+◌, ◌-◌, ◌*◌, ◌≤◌, �
 use Rattle.std.specs.Prelude.{OnOk}
 use Rattle.qr_bits.proofs.Facts.{bool_byte-bit}
 use Rattle.qr_layout.specs.Version.{side_of}
-use Rattle.qr_symbol.specs.Steps.Collecting.{bits_in_rows}
-use Rattle.qr_symbol.proofs.lemmas.collecting.CollectingLemmas.{rows-read}
+use Rattle.qr_symbol.{proofs.lemmas.collecting.CollectingLemmas.rows-read, specs.Steps.Collecting.bits_in_rows}
 use Rattle.qr_symbol.proofs.collecting.collect_columns.Goals as goal
 
 pub loop-group-init : goal.loop-group-init

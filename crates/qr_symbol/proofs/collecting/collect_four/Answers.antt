@@ -2,8 +2,7 @@ use Rattle.std.proofs.Common.{◌≡◌, ◌+◌, ◌<◌, ℕ, ◌++◌, true, 
 use Rattle.std.specs.Prelude.{OnOk}
 use Rattle.qr_bits.proofs.Facts.{bool_byte-bit}
 use Rattle.qr_layout.specs.Version.{side_of}
-use Rattle.qr_matrix.specs.BitRow.{has, has_bit}
-use Rattle.qr_matrix.proofs.Facts.{&&-left, &&-right}
+use Rattle.qr_matrix.{proofs.Facts.&&-left, proofs.Facts.&&-right, specs.BitRow.has, specs.BitRow.has_bit}
 use Rattle.qr_symbol.proofs.lemmas.collecting.SpreadLemmas.{four-read, joined-small}
 use Rattle.qr_symbol.proofs.lemmas.placement.LightLemmas.{four-set}
 use Rattle.qr_symbol.proofs.collecting.collect_four.Goals as goal

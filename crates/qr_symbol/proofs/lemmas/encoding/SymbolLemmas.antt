@@ -1,15 +1,14 @@
 -- An input has only one symbol, since each step of making it has only one result.
 use Rattle.std.proofs.Common.{◌≡◌, ℕ, inl, inr, List, Option, None, sym, ◌∙◌, ap, subst, arith}
 use Rattle.std.proofs.lemmas.Bool.{cases_lt}
-use Rattle.qr_layout.specs.{declared.level.Level.Level, Blocks.blocks_of}
-use Rattle.qr_bits.specs.declared.{modes.Rule.Rule, segment.Segment.Segment, header.Header.Header}
-use Rattle.qr_bits.specs.Padding.{IsData}
-use Rattle.qr_bits.proofs.Facts.{data_one, segmentation-one}
+use Rattle.qr_layout.specs.{Blocks.blocks_of, declared.level.Level.Level}
+use Rattle.qr_bits.{proofs.Facts.data_one, proofs.Facts.segmentation-one, specs.Padding.IsData}
+use Rattle.qr_bits.specs.declared.{header.Header.Header, modes.Rule.Rule, segment.Segment.Segment}
 use Rattle.qr_matrix.specs.Grid.{Grid}
-use Rattle.qr_symbol.specs.{Interleaving.IsInterleaved, Symbol.grid_of}
-use Rattle.qr_symbol.specs.Choice.{IsFirstLeast, IsMask, mask_penalty}
-use Rattle.qr_symbol.specs.{Encoding.IsSymbolAt, Encoding.SymbolsAreOne, VersionChoice.IsVersion}
 use Rattle.qr_symbol.proofs.lemmas.interleaving.MessageLemmas.{final-one}
+use Rattle.qr_symbol.specs.Choice.{IsFirstLeast, IsMask, mask_penalty}
+use Rattle.qr_symbol.specs.Encoding.{IsSymbolAt, SymbolsAreOne}
+use Rattle.qr_symbol.specs.{Interleaving.IsInterleaved, Symbol.grid_of, VersionChoice.IsVersion}
 
 -- Two first numbers of the least value are equal.
 least-one : (n : ℕ) (f : ℕ → ℕ) (m k : ℕ) → IsFirstLeast n f m → IsFirstLeast n f k → m ≡ k

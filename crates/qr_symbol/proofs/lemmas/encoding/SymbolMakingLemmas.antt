@@ -2,17 +2,16 @@
 use Rattle.std.proofs.Common.{◌≡◌, ℕ, ◌+◌, ◌<◌, ◌≤◌, ◌⊎◌, List, Option, None, Some, Result, Ok, Err, subst, sym, arith}
 use Rattle.std.specs.Prelude.{IfOk, IfErr}
 use Rattle.qr_layout.specs.declared.level.Level.{Level}
-use Rattle.qr_bits.specs.declared.{modes.Rule.Rule, segment.Segment.Segment, header.Header.Header}
-use Rattle.qr_bits.specs.Segmentation.{bits, HasFit, IsLeastSegmentation}
-use Rattle.qr_bits.specs.{Padding.IsData, Padding.capacity_of, Padding.room_of, Header.header_bits}
 use Rattle.qr_bits.proofs.Facts.{capacity_least, length-stream, least_fits}
-use Rattle.qr_symbol.specs.declared.fault.EncodeFault.{EncodeFault}
-use Rattle.qr_symbol.specs.declared.fault.EncodeFault.TheVariants as fault
-use Rattle.qr_symbol.specs.{declared.symbol.Symbol.Symbol, Symbol.grid_of, Choice.IsMask}
-use Rattle.qr_symbol.specs.{Interleaving.IsInterleaved, Reading.IsReadBack, Encoding.IsSymbolAt, Encoding.IsSymbol}
-use Rattle.qr_symbol.specs.{VersionChoice.FitsVersion, VersionChoice.IsVersion, Series.IsSymbolOf}
+use Rattle.qr_bits.specs.{Header.header_bits, Padding.IsData, Padding.capacity_of, Padding.room_of}
+use Rattle.qr_bits.specs.Segmentation.{bits, HasFit, IsLeastSegmentation}
+use Rattle.qr_bits.specs.declared.{header.Header.Header, modes.Rule.Rule, segment.Segment.Segment}
+use Rattle.qr_symbol.{proofs.lemmas.reading.RoundTripLemmas.symbol-read, specs.Choice.IsMask}
+use Rattle.qr_symbol.specs.{Encoding.IsSymbolAt, Encoding.IsSymbol, Interleaving.IsInterleaved, Reading.IsReadBack}
+use Rattle.qr_symbol.specs.{Series.IsSymbolOf, Symbol.grid_of, VersionChoice.FitsVersion, VersionChoice.IsVersion}
+use Rattle.qr_symbol.specs.declared.{fault.EncodeFault.EncodeFault, symbol.Symbol.Symbol}
 use Rattle.qr_matrix.specs.Grid.{Grid}
-use Rattle.qr_symbol.proofs.lemmas.reading.RoundTripLemmas.{symbol-read}
+use Rattle.qr_symbol.specs.declared.fault.EncodeFault.TheVariants as fault
 
 -- a symbol that is built from the codewords of bytes is the symbol of these bytes
 pub symbol-built : (v : ℕ) (l : Level) (b : Rule) (x : List ℕ) (h : Option Header) (segs : List Segment) (message passed codewords given : List ℕ) (r : Result Symbol EncodeFault)

@@ -1,16 +1,13 @@
 -- A call is refused for a fault exactly if the fault is there, unless memory is refused.
 use Rattle.std.proofs.Common.{◌≡◌, ◌≢◌, ◌≤◌, ◌↔◌, ◌⊎◌, inl, inr, ℕ, List, [], Result, Ok, Err, Vec, Global, sym, ap, subst, arith}
-use Rattle.std.proofs.lemmas.Result.{IfErr-at_err}
-use Rattle.std.specs.Prelude.{IfOk, IfErr}
+use Rattle.std.{proofs.lemmas.Result.IfErr-at_err, specs.Prelude.IfOk, specs.Prelude.IfErr}
 use Rattle.qr_layout.specs.declared.level.Level.{Level}
-use Rattle.qr_bits.specs.{declared.modes.Rule.Rule, Padding.capacity_of}
-use Rattle.qr_symbol.specs.declared.fault.EncodeFault.{EncodeFault}
+use Rattle.qr_bits.{proofs.Facts.empty_fits, specs.Padding.capacity_of, specs.declared.modes.Rule.Rule}
+use Rattle.qr_symbol.specs.{Encoding.IsSymbol, Series.IsSeries, Series.HasNoSeries}
+use Rattle.qr_symbol.specs.VersionChoice.{FitsVersion, HasNoVersion}
+use Rattle.qr_symbol.specs.declared.{fault.EncodeFault.EncodeFault, fault.ReadFault.ReadFault, symbol.Symbol.Symbol}
 use Rattle.qr_symbol.specs.declared.fault.EncodeFault.TheVariants as fault
-use Rattle.qr_symbol.specs.declared.fault.ReadFault.{ReadFault}
 use Rattle.qr_symbol.specs.declared.fault.ReadFault.TheVariants as unread
-use Rattle.qr_symbol.specs.{declared.symbol.Symbol.Symbol, Encoding.IsSymbol}
-use Rattle.qr_symbol.specs.{VersionChoice.FitsVersion, VersionChoice.HasNoVersion, Series.IsSeries, Series.HasNoSeries}
-use Rattle.qr_bits.proofs.Facts.{empty_fits}
 
 -- the result is the fault e exactly if it is not lack of memory and the fact holds
 abbrev pub Refused : {X E : Type 0} → Result X E → (e memory : E) → Type 0 → Type 0

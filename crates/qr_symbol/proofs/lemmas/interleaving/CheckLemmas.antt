@@ -46,7 +46,7 @@ map-each P f g [] a e = refl
 map-each P f g (x ∷ xs) a e = let h = e x (a 0 x (omega arith)) in let t = map-each P f g xs (λ k d l. a (suc k) d (omega arith)) e in λ i. h i ∷ t i
 
 -- the data codewords and then the error correction codewords were appended
-both-interleaved : (b : Blocks) (d es first second : List ℕ) → IsChecks b d (block_count (data_sizes b)) es → AppendsInterleaved (data_sizes b) d [] first → AppendsInterleaved (correction_sizes b) es first second → IsFinalMessage b d second
+pub both-interleaved : (b : Blocks) (d es first second : List ℕ) → IsChecks b d (block_count (data_sizes b)) es → AppendsInterleaved (data_sizes b) d [] first → AppendsInterleaved (correction_sizes b) es first second → IsFinalMessage b d second
 both-interleaved b d es first second h s t = record {
   data_positions = s.positions;
   data_order = s.order;
@@ -57,13 +57,6 @@ both-interleaved b d es first second h s t = record {
   check_order = t.order;
   whole = t.interleaved ∙ (ap (λ (xs : List ℕ). xs ++ map (codeword_at (correction_sizes b) es) t.positions) s.interleaved ∙ ap (λ (xs : List ℕ). map (codeword_at (data_sizes b) d) s.positions ++ xs) (map-each (IsPosition (correction_sizes b)) (codeword_at (correction_sizes b) es) (check_at h.corrections) t.positions t.order.in_blocks (λ u i. h.same u (let l = i.0 in omega arith) i)));
 }
-
--- the data codewords and then the error correction codewords, each by rising positions, are the final message
-pub interleaved-both : (b : Blocks) (d es bytes before first second : List ℕ) (c1 c2 : BlockSizes) → IsChecks b d (block_count (data_sizes b)) es → before ≡ [] → c1 ≡ data_sizes b → c2 ≡ correction_sizes b → bytes ≡ es → AppendsInterleaved c1 d before first → AppendsInterleaved c2 bytes first second → IsFinalMessage b d second
-interleaved-both b d es bytes before first second c1 c2 h e k l m s t =
-    both-interleaved b d es first second h
-    (search arith)
-    (search arith)
 
 -- a block is inside the data codewords
 pub slice-in : (c e : BlockSizes) (n s l k : ℕ) → c ≡ e → n ≡ start_of e (block_count e) → k < block_count c → s ≡ start_of c k → l ≡ block_len c k → s + l ≤ n

@@ -1,8 +1,7 @@
 -- The number of positions before a position, and that blocks have only one order of positions.
 use Rattle.std.proofs.Common.{◌≡◌, ℕ, zero, suc, ◌+◌, ◌-◌, ◌*◌, ◌<◌, ◌≤◌, cond, eqb, ltb, List, [], ◌∷◌, map, sym, ◌∙◌, ap, inl, inr, ◌⊎◌, arith}
-use Rattle.std.proofs.lemmas.Bool.{Decides.nat_tests, cases_lt}
-use Rattle.std.proofs.Math.Nat.{mul-suc, mul-le-mul_left, mul_comm}
-use Rattle.std.specs.List.{All, AllByRecursion, Contains}
+use Rattle.std.proofs.{Math.Nat.mul-suc, Math.Nat.mul-le-mul_left, Math.Nat.mul_comm, lemmas.Bool.cases_lt}
+use Rattle.std.{proofs.lemmas.Bool.Decides.nat_tests, specs.List.All, specs.List.AllByRecursion, specs.List.Contains}
 use Rattle.qr_layout.proofs.Facts.{Mem, Mem-at, Rises-of-pairs, one_rising}
 use Rattle.qr_symbol.specs.declared.interleaving.BlockSizes.{BlockSizes}
 use Rattle.qr_symbol.specs.Interleaving.{Position, ComesBefore, block_count, start_of, codeword_count, IsPosition, IsPositionOrder}

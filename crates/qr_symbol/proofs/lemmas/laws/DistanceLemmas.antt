@@ -1,10 +1,8 @@
 -- Messages whose blocks differ in few codewords are the same message.
 use Rattle.std.proofs.Common.{◌≡◌, ℕ, zero, suc, ◌+◌, ◌<◌, ◌≤◌, List, [], ◌++◌, length, take, drop, length-drop, get_or, sym, ap, ◌∙◌, subst, inl, inr, ◌⊎◌, arith}
-use Rattle.std.proofs.{lemmas.Bool.cases_lt, lemmas.List.length-take, Math.Seq.take-add, Math.Seq.take-length}
-use Rattle.qr_field.specs.Distance.{differences}
-use Rattle.qr_field.proofs.Facts.{near-same, unambiguous-known}
-use Rattle.qr_layout.specs.{declared.level.Level.Level, Blocks.blocks_of}
-use Rattle.qr_layout.proofs.Facts.{laws-of}
+use Rattle.std.proofs.{Math.Seq.take-add, Math.Seq.take-length, lemmas.Bool.cases_lt, lemmas.List.length-take}
+use Rattle.qr_field.{proofs.Facts.near-same, proofs.Facts.unambiguous-known, specs.Distance.differences}
+use Rattle.qr_layout.{proofs.Facts.laws-of, specs.Blocks.blocks_of, specs.declared.level.Level.Level}
 use Rattle.qr_symbol.specs.declared.interleaving.BlockSizes.{BlockSizes}
 use Rattle.qr_symbol.specs.Interleaving.{block_count, block_len, start_of, codeword_count, data_sizes, block_of}
 use Rattle.qr_symbol.specs.Distance.{blocks_in, held_block, DamagedMessagesAreOne, HeldMessage, MessagesLieApart}

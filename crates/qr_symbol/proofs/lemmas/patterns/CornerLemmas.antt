@@ -1,11 +1,10 @@
 -- The modules of row 8 and column 8 that are beside the finder patterns.
 use Rattle.std.proofs.Common.{◌≡◌, ℕ, ◌+◌, ◌-◌, ◌<◌, ◌≤◌, Bool, true, false, cond, eqb, ◌&&◌, ◌||◌, ◌⊎◌, refl, sym, ◌∙◌, ap, inl, inr, subst, arith}
 use Rattle.std.proofs.lemmas.Bool.{cases_eq, cases_lt, Decides.nat_tests}
-use Rattle.qr_layout.specs.declared.{region.Module.Module, role.Role.Role}
-use Rattle.qr_layout.specs.declared.role.Role.TheVariants.{Fixed, FormatBit, VersionBit, Region}
-use Rattle.qr_layout.specs.{Version.side_of, Format.version_word_of, Region.is_corner}
-use Rattle.qr_layout.specs.Role.{role_of, first_place, second_place}
 use Rattle.qr_layout.proofs.Facts.{dark-module, format-first, format-only, format-second}
+use Rattle.qr_layout.specs.{Format.version_word_of, Region.is_corner, Role.role_of, Role.first_place, Role.second_place}
+use Rattle.qr_layout.specs.{Version.side_of, declared.region.Module.Module, declared.role.Role.Role}
+use Rattle.qr_layout.specs.declared.role.Role.TheVariants.{Fixed, FormatBit, VersionBit, Region}
 use Rattle.qr_symbol.specs.Steps.Patterns.{fixed_colour, format_or, is_dark_in_six, is_in_block, paint_of}
 use Rattle.qr_symbol.proofs.lemmas.placement.PlacementLemmas.{at, by_test}
 use Rattle.qr_symbol.proofs.lemmas.patterns.TimingLemmas.{paint-column_six, paint-fixed, paint-row_six}

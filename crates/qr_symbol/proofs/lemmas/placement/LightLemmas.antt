@@ -2,9 +2,8 @@
 use Rattle.std.proofs.Common.{◌≡◌, ℕ, ◌+◌, ◌-◌, ◌*◌, ◌<◌, ◌≤◌, Bool, true, false, not, cond, leb, ltb, ◌&&◌, ◌||◌, List, refl, sym, ◌∙◌, ap, arith}
 use Rattle.std.proofs.lemmas.Bool.Decides.{nat_tests}
 use Rattle.qr_bits.specs.Bits.{codeword_bit}
-use Rattle.qr_layout.specs.{declared.strips.Strip.Strip, Region.is_in_region, Version.side_of}
-use Rattle.qr_matrix.specs.{BitRow.has, BitRow.has_bit, Grid.is_same}
-use Rattle.qr_matrix.proofs.Facts.{has_bit-ones}
+use Rattle.qr_layout.specs.{Region.is_in_region, Version.side_of, declared.strips.Strip.Strip}
+use Rattle.qr_matrix.{proofs.Facts.has_bit-ones, specs.BitRow.has, specs.BitRow.has_bit, specs.Grid.is_same}
 use Rattle.qr_symbol.specs.Steps.Placement.{number_at, row_of, AreDrawn, AreLight, AreNext, AreWithin}
 use Rattle.qr_symbol.specs.declared.placement.Columns.{Columns}
 use Rattle.qr_symbol.proofs.lemmas.placement.ColumnLemmas.{number-whole, rank_of, row-small, rows-apart}

@@ -1,9 +1,8 @@
 -- The table that splits eight bits into those of the two columns of a strip.
 use Rattle.std.proofs.Common.{◌≡◌, ℕ, ◌-◌, ◌*◌, ◌/◌, ◌%◌, ◌<◌, Bool, true, ◌&&◌, eqb, get_or, [], refl}
-use Rattle.qr_matrix.specs.{BitRow.has_bit, Grid.is_same, Sums.all_below}
 use Rattle.qr_matrix.proofs.Facts.{below-at, same-same, &&-left, &&-right}
-use Rattle.qr_symbol.specs.declared.placement.TheConstants.{SPLITS}
-use Rattle.qr_symbol.proofs.lemmas.placement.ColumnLemmas.{rank_of}
+use Rattle.qr_matrix.specs.{BitRow.has_bit, Grid.is_same, Sums.all_below}
+use Rattle.qr_symbol.{proofs.lemmas.placement.ColumnLemmas.rank_of, specs.declared.placement.TheConstants.SPLITS}
 
 -- the table's entry for a direction and eight bits
 abbrev pub split : ℕ → ℕ → ℕ

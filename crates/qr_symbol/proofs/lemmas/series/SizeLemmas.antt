@@ -1,15 +1,13 @@
 -- The number of symbols of a series, and their side.
 use Rattle.std.proofs.Common.{◌≡◌, ℕ, ◌+◌, ◌<◌, ◌≤◌, inl, inr, false, List, [], ◌∷◌, length, refl, sym, ap, subst, arith}
-use Rattle.std.proofs.lemmas.List.Elements.{All-cons, All-nil}
-use Rattle.std.specs.List.{All}
-use Rattle.qr_layout.specs.{declared.level.Level.Level, Version.side_of}
+use Rattle.std.{proofs.lemmas.List.Elements.All-cons, proofs.lemmas.List.Elements.All-nil, specs.List.All}
+use Rattle.qr_layout.specs.{Version.side_of, declared.level.Level.Level}
+use Rattle.qr_bits.{proofs.Facts.empty_fits, specs.Modes.may_use, specs.Padding.capacity_of}
 use Rattle.qr_bits.specs.declared.modes.{Mode.TheVariants.Kanji, Rule.Rule}
-use Rattle.qr_bits.specs.{Modes.may_use, Padding.capacity_of}
-use Rattle.qr_bits.proofs.Facts.{empty_fits}
-use Rattle.qr_symbol.specs.{declared.symbol.Symbol.Symbol, VersionChoice.FitsVersion}
-use Rattle.qr_symbol.specs.Series.{squares_of, AreParts, NeedsParts, AreSymbolsFrom, IsSeries}
-use Rattle.qr_matrix.specs.Grid.{Grid}
 use Rattle.qr_symbol.proofs.lemmas.series.PartLemmas.{needs-some, needs-parts}
+use Rattle.qr_symbol.specs.Series.{squares_of, AreParts, NeedsParts, AreSymbolsFrom, IsSeries}
+use Rattle.qr_symbol.specs.{VersionChoice.FitsVersion, declared.symbol.Symbol.Symbol}
+use Rattle.qr_matrix.specs.Grid.{Grid}
 
 -- there are as many symbols as parts
 pub symbols-many : (v : ℕ) (l : Level) (b : Rule) (last parity k : ℕ) (ps : List (List ℕ)) (ss : List Symbol) → AreSymbolsFrom v l b last parity k ps ss → length ss ≡ length ps

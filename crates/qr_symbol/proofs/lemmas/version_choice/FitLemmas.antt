@@ -2,11 +2,9 @@
 use Rattle.std.proofs.Common.{◌≡◌, ℕ, ◌<◌, ◌≤◌, inl, inr, List, [], ◌∷◌, refl, sym, arith}
 use Rattle.std.proofs.lemmas.Bool.{cases_lt}
 use Rattle.qr_layout.specs.declared.level.Level.{Level}
-use Rattle.qr_bits.specs.declared.{modes.Rule.Rule, modes.Mode.Mode, segment.Segment.Segment}
-use Rattle.qr_bits.specs.Modes.{count_width}
+use Rattle.qr_bits.{proofs.Facts.least_fits, specs.Modes.count_width, specs.Padding.capacity_of}
 use Rattle.qr_bits.specs.Segmentation.{bits, runs_of, IsBestAssignment, IsLeastSegmentation}
-use Rattle.qr_bits.specs.Padding.{capacity_of}
-use Rattle.qr_bits.proofs.Facts.{least_fits}
+use Rattle.qr_bits.specs.declared.{modes.Mode.Mode, modes.Rule.Rule, segment.Segment.Segment}
 use Rattle.qr_symbol.specs.VersionChoice.{FitsVersion, IsVersion}
 
 -- Segments have the same number of bits in versions of the same widths.

@@ -1,13 +1,11 @@
 use Rattle.std.proofs.Common.{◌≡◌, ℕ, Bool, true, not, cond, ap, ◌∙◌, refl, arith}
 use Rattle.std.proofs.lemmas.List.Elements.{All-same}
-use Rattle.qr_layout.specs.declared.role.Role.TheVariants.{Fixed, Region}
-use Rattle.qr_layout.specs.{Version.side_of, Format.version_word_of, Alignment.alignment_places, Alignment.centres_of}
-use Rattle.qr_layout.specs.Steps.Rectangles.{IsInside}
-use Rattle.qr_layout.specs.Region.{is_alignment, is_corner, is_in_region, is_timing, is_version_information}
-use Rattle.qr_layout.specs.Role.{is_alignment_light}
 use Rattle.qr_layout.proofs.Facts.{centres-inside, off-role, region-parts}
-use Rattle.qr_matrix.specs.Grid.{colour}
-use Rattle.qr_matrix.proofs.Facts.{square-same}
+use Rattle.qr_layout.specs.{Alignment.alignment_places, Alignment.centres_of, Format.version_word_of}
+use Rattle.qr_layout.specs.Region.{is_alignment, is_corner, is_in_region, is_timing, is_version_information}
+use Rattle.qr_layout.specs.{Role.is_alignment_light, Steps.Rectangles.IsInside, Version.side_of}
+use Rattle.qr_layout.specs.declared.role.Role.TheVariants.{Fixed, Region}
+use Rattle.qr_matrix.{proofs.Facts.square-same, specs.Grid.colour}
 use Rattle.qr_symbol.specs.Steps.Patterns.{fixed_colour, paint_of}
 use Rattle.qr_symbol.proofs.lemmas.patterns.PaintLemmas.{fixed-tests, light-inside}
 use Rattle.qr_symbol.proofs.patterns.draw_fixed.Goals as goal

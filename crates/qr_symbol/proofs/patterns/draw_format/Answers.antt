@@ -1,9 +1,8 @@
 use Rattle.std.proofs.Common.{◌≡◌, ℕ, ◌∙◌, ap}
-use Rattle.qr_layout.specs.{Version.side_of, Role.role_of}
-use Rattle.qr_matrix.specs.Grid.{Grid, colour}
-use Rattle.qr_matrix.proofs.Facts.{square-same, colour-square}
+use Rattle.qr_layout.specs.{Role.role_of, Version.side_of}
+use Rattle.qr_matrix.{proofs.Facts.square-same, proofs.Facts.colour-square, specs.Grid.Grid, specs.Grid.colour}
+use Rattle.qr_symbol.proofs.lemmas.{patterns.FormatDrawingLemmas.three-parts, placement.PlacementLemmas.square-is}
 use Rattle.qr_symbol.specs.Steps.Patterns.{format_bits_or, format_or}
-use Rattle.qr_symbol.proofs.lemmas.{placement.PlacementLemmas.square-is, patterns.FormatDrawingLemmas.three-parts}
 use Rattle.qr_symbol.proofs.patterns.draw_format.Goals as goal
 
 pub draw_format_bits-requires-2-clause-square : goal.draw_format_bits-requires-2-clause-square

@@ -1,10 +1,8 @@
 use Rattle.std.proofs.Common.{◌+◌, ◌-◌, get_or, ap, ◌∙◌, arith}
-use Rattle.std.proofs.lemmas.List.{take_all}
-use Rattle.std.specs.List.{list_any}
-use Rattle.qr_layout.specs.{declared.region.Module.Module, Version.side_of}
-use Rattle.qr_layout.specs.Alignment.{alignment_places, centres_of}
-use Rattle.qr_layout.specs.{Rectangles.is_in_rectangle, Steps.Rectangles.square_round}
+use Rattle.std.{proofs.lemmas.List.take_all, specs.List.list_any}
 use Rattle.qr_layout.proofs.Facts.{alignment-squares}
+use Rattle.qr_layout.specs.{Alignment.alignment_places, Alignment.centres_of, Rectangles.is_in_rectangle}
+use Rattle.qr_layout.specs.{Steps.Rectangles.square_round, Version.side_of, declared.region.Module.Module}
 use Rattle.qr_symbol.proofs.lemmas.patterns.PaintLemmas.{over-item, over-rectangle, over-same, over-side}
 use Rattle.qr_symbol.proofs.patterns.fill_alignment.Goals as goal
 

@@ -1,12 +1,11 @@
 use Rattle.std.proofs.Common.{◌≡◌, ℕ, ◌-◌, true, cond, ap, sym, ◌∙◌, refl, arith}
-use Rattle.qr_layout.specs.{Version.side_of, Region.is_corner, Role.role_of}
-use Rattle.qr_matrix.specs.Grid.{Grid, colour}
-use Rattle.qr_matrix.proofs.Facts.{square-same}
+use Rattle.qr_layout.specs.{Region.is_corner, Role.role_of, Version.side_of}
+use Rattle.qr_matrix.{proofs.Facts.square-same, specs.Grid.Grid, specs.Grid.colour}
 use Rattle.qr_symbol.specs.Steps.Patterns.{format_or, paint_of, IsOver}
 use Rattle.qr_symbol.proofs.lemmas.patterns.CornerLemmas.{begun, blocks, corners-done, dark-painted, timing-left, timing-top, two_blocks, with_first, with_second}
 use Rattle.qr_symbol.proofs.lemmas.patterns.PaintLemmas.{over-is, over-place, over-side, over-twice}
-use Rattle.qr_symbol.proofs.patterns.paint_corners.Goals as goal
 use Rattle.qr_symbol.proofs.patterns.paint_corners.Goals.{After-paint_finder-3, After-set-3}
+use Rattle.qr_symbol.proofs.patterns.paint_corners.Goals as goal
 
 -- the square after the three finder patterns has the side of the symbol
 three-side : (c : After-paint_finder-3) → c.paint_finder-3.new.matrix.side ≡ side_of c.args.v

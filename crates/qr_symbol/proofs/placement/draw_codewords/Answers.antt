@@ -1,8 +1,7 @@
-use Rattle.std.proofs.{Common.List, Common.sym, Common.subst, Common.arith, lemmas.List.Elements.All-tail}
-use Rattle.std.specs.List.{All}
-use Rattle.qr_layout.specs.{declared.strips.Strip.Strip, Version.side_of}
-use Rattle.qr_layout.specs.{Order.IsOrder, Order.in_region_of, Strips.places_of}
-use Rattle.qr_layout.proofs.Facts.{Inside}
+use Rattle.std.proofs.Common.{List, sym, subst, arith}
+use Rattle.std.{proofs.lemmas.List.Elements.All-tail, specs.List.All}
+use Rattle.qr_layout.{proofs.Facts.Inside, specs.Order.IsOrder, specs.Order.in_region_of}
+use Rattle.qr_layout.specs.{Strips.places_of, Version.side_of, declared.strips.Strip.Strip}
 use Rattle.qr_matrix.specs.Grid.{transposed}
 use Rattle.qr_symbol.proofs.lemmas.placement.PlacementLemmas.{IsPlaced, placed-start, placed-strip, placed-small, placed-end, square-transposed}
 use Rattle.qr_symbol.proofs.lemmas.placement.KeptPlaceLemmas.{places-push}

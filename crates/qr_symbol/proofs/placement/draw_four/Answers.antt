@@ -1,8 +1,7 @@
 use Rattle.std.proofs.Common.{◌≡◌, ◌+◌, ◌-◌, ◌/◌, ◌%◌, ◌<◌, ℕ, true, eqb, ◌&&◌, ap, sym, ◌∙◌, arith}
 use Rattle.qr_bits.proofs.Facts.{bool_byte-bit}
 use Rattle.qr_layout.specs.{Region.is_in_region, Version.side_of}
-use Rattle.qr_matrix.specs.BitRow.{has}
-use Rattle.qr_matrix.proofs.Facts.{&&-left, &&-right}
+use Rattle.qr_matrix.{proofs.Facts.&&-left, proofs.Facts.&&-right, specs.BitRow.has}
 use Rattle.qr_symbol.proofs.lemmas.placement.ColumnLemmas.{number-whole}
 use Rattle.qr_symbol.proofs.lemmas.placement.LightLemmas.{column-set, four-set, four-drawn, four-region}
 use Rattle.qr_symbol.proofs.lemmas.placement.SplitLemmas.{split, split-high, split-low}

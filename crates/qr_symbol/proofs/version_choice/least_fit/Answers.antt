@@ -1,9 +1,7 @@
 use Rattle.std.proofs.Common.{◌≡◌, ◌≤◌, ℕ, Option, inl, inr, sym, ◌∙◌, ap, subst, ◌+◌, arith}
-use Rattle.std.proofs.lemmas.Bool.{cases_lt}
-use Rattle.std.specs.Option.{SomeIff}
+use Rattle.std.{proofs.lemmas.Bool.cases_lt, specs.Option.SomeIff}
 use Rattle.qr_layout.specs.declared.version.Version.{Version}
-use Rattle.qr_bits.specs.Segmentation.{bits}
-use Rattle.qr_bits.proofs.Facts.{least_fits, covers_all}
+use Rattle.qr_bits.{proofs.Facts.least_fits, proofs.Facts.covers_all, specs.Segmentation.bits}
 use Rattle.qr_symbol.proofs.lemmas.version_choice.FitLemmas.{segmentation-same, version-found, none-fits}
 use Rattle.qr_symbol.proofs.version_choice.least_fit.Goals as goal
 
