@@ -7,7 +7,7 @@ use Rattle.qr_symbol.proofs.choice.best_mask.Goals.{then-cost-least, else-cost-l
 pub loop-mask-init : goal.loop-mask-init
 loop-mask-init c = record {
   square = c.mask_penalty-least.ensures.square;
-  best = least-start (masked_penalty c.args.canvas.now.version c.args.canvas.now.level c.args.canvas.now.region c.args.canvas.now.plain);
+  best = least-start _;
   least = c.mask_penalty-least.ensures.value;
 }
 

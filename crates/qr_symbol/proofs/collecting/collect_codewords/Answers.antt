@@ -1,8 +1,7 @@
-use Rattle.std.proofs.Common.{List, [], ◌∷◌, ◌++◌, ◌∙◌, ap, sym, subst, append_assoc, append-nil, arith}
+use Rattle.std.proofs.Common.{List, ◌++◌, ◌∙◌, ap, sym, subst, append_assoc, append-nil, arith}
 use Rattle.std.{proofs.lemmas.List.Elements.All-tail, specs.List.All}
 use Rattle.qr_layout.{proofs.Facts.Inside, specs.Order.IsOrder, specs.Order.in_region_of}
 use Rattle.qr_layout.specs.{Strips.places_of, Version.side_of, declared.strips.Strip.Strip}
-use Rattle.qr_symbol.specs.Steps.Collecting.{colour_across}
 use Rattle.qr_symbol.proofs.lemmas.collecting.CollectingLemmas.{strip-read}
 use Rattle.qr_symbol.proofs.lemmas.reading.SymbolReadLemmas.{all-read, read-across}
 use Rattle.qr_symbol.proofs.collecting.collect_codewords.Goals as goal
@@ -31,8 +30,8 @@ loop-strip-preserved c =
       can_next = tt;
       is_finite = tt;
       inside = All-tail (Inside v) x rest (subst (All (Inside v)) c.in-Some.ensures.steps i.inside);
-      whole = subst (λ (zs : List Strip). IsOrder v (in_region_of v (places_of s zs))) (ap (λ (zs : List Strip). xs ++ zs) c.in-Some.ensures.steps ∙ sym (append_assoc xs (x ∷ []) rest)) i.whole;
-      bits = strip-read v s (colour_across c.args.across.now) xs x c.loop-strip.bits c.collect_strip.new.bits i.bits c.in_ok-collect_strip.ensures;
+      whole = subst (λ (zs : List Strip). IsOrder v (in_region_of v (places_of s zs))) (ap (λ (zs : List Strip). xs ++ zs) c.in-Some.ensures.steps ∙ sym (append_assoc xs _ _)) i.whole;
+      bits = strip-read v s _ xs x _ _ i.bits c.in_ok-collect_strip.ensures;
     }
 
 pub returns-clause-read : goal.returns-clause-read
@@ -42,7 +41,7 @@ returns-clause-read c =
     let i = c.loop-strip.invariant in
     let b = c.into_codewords.ensures.bits in
     let o = subst (λ (zs : List Strip). IsOrder v (in_region_of v (places_of (side_of v) zs))) (ap (λ (zs : List Strip). xs ++ zs) c.in-None.ensures.steps.0 ∙ append-nil xs) i.whole in
-    read-across v c.args.across.now (in_region_of v (places_of (side_of v) xs)) c.into_codewords.result.items b.0 b.1 (omega arith) (omega arith) c.requires.side o c.into_codewords.ensures.bytes b.2 (b.3 ∙ i.bits)
+    read-across v _ _ _ b.0 b.1 (omega arith) (omega arith) c.requires.side o c.into_codewords.ensures.bytes b.2 (b.3 ∙ i.bits)
 
 pub returns-clause-many : goal.returns-clause-many
 returns-clause-many c =
@@ -51,4 +50,4 @@ returns-clause-many c =
     let i = c.loop-strip.invariant in
     let b = c.into_codewords.ensures.bits in
     let o = subst (λ (zs : List Strip). IsOrder v (in_region_of v (places_of (side_of v) zs))) (ap (λ (zs : List Strip). xs ++ zs) c.in-None.ensures.steps.0 ∙ append-nil xs) i.whole in
-    all-read v (colour_across c.args.across.now) (in_region_of v (places_of (side_of v) xs)) c.into_codewords.result.items b.0 b.1 (omega arith) (omega arith) o b.2 (b.3 ∙ i.bits)
+    all-read v _ _ _ b.0 b.1 (omega arith) (omega arith) o b.2 (b.3 ∙ i.bits)

@@ -10,7 +10,7 @@ use Rattle.qr_symbol.proofs.collecting.collect_four.Goals as goal
 pub overflow_add-right : goal.overflow_add-right
 overflow_add-right c =
     let up : c.from.result < 2 = omega (arith, c.from.ensures, (bool_byte-bit c.args.strip.upward).0) in
-    omega (arith, joined-small c.from.result c.from-then-four-eq15.result c.from-then-four-eq15-2.result up (omega (arith, c.from-then-four-eq15.ensures, c.four-then-four-eq15.ensures.small)) (omega (arith, c.from-then-four-eq15-2.ensures, c.four-then-four-eq15-2.ensures.small)))
+    omega (arith, joined-small _ c.from-then-four-eq15.result c.from-then-four-eq15-2.result up (omega (arith, c.from-then-four-eq15.ensures, c.four-then-four-eq15.ensures.small)) (omega (arith, c.from-then-four-eq15-2.ensures, c.four-then-four-eq15-2.ensures.small)))
 
 pub returns-then-four-eq15 : goal.returns-then-four-eq15
 returns-then-four-eq15 c =

@@ -9,7 +9,7 @@ loop-rank-init c =
     let p = c.args.passed in
     record {
       from = omega arith;
-      bits = none-read (side_of c.args.v) c.args.strip c.args.region.now c.args.columns.now p (p - p) c.args.bits.now (omega arith);
+      bits = none-read _ c.args.strip _ _ p _ _ (omega arith);
     }
 
 pub loop-rank-preserved : goal.loop-rank-preserved

@@ -7,4 +7,4 @@ interleave-requires c = record { whole = rw c.deref.ensures.value (length-data _
 
 pub returns-clause-made : goal.returns-clause-made
 returns-clause-made c = λ b chosen. let d = c.build_on.ensures in
-    symbol-built _ _ b _ _ _ _ _ _ _ c.build_on.result chosen c.in_ok-message.ensures.ok c.deref.ensures.value c.in_ok-interleaved.ensures.interleaved c.deref-2.ensures.value d.version d.level d.mask d.matrix
+    symbol-built _ _ b _ _ _ _ _ _ _ _ chosen c.in_ok-message.ensures.ok c.deref.ensures.value c.in_ok-interleaved.ensures.interleaved c.deref-2.ensures.value d.version d.level d.mask d.matrix

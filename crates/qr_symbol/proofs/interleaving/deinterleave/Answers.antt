@@ -8,12 +8,12 @@ use Rattle.qr_symbol.proofs.interleaving.deinterleave.Goals as goal
 
 pub deinterleave_blocks-requires-clause-whole : goal.deinterleave_blocks-requires-clause-whole
 deinterleave_blocks-requires-clause-whole c =
-    c.requires.whole ∙ (sym (sizes-whole c.args.version c.args.level (omega arith) (omega arith)) ∙ ap (λ (b : Blocks). codeword_count (data_sizes b) + codeword_count (correction_sizes b)) (sym c.blocks-2.ensures))
+    c.requires.whole ∙ (sym (sizes-whole _ _ (omega arith) (omega arith)) ∙ ap (λ (b : Blocks). codeword_count (data_sizes b) + codeword_count (correction_sizes b)) (sym c.blocks-2.ensures))
 
 pub returns-clause-many : goal.returns-clause-many
 returns-clause-many c =
-    let whole = ap (λ (b : Blocks). codeword_count (data_sizes b)) c.blocks-2.ensures ∙ data-sizes-whole c.args.version c.args.level (omega arith) (omega arith) in
-    ok-also (λ d. length d.items ≡ codeword_count (data_sizes c.blocks-2.result)) (λ d. length d.items ≡ data_codewords_of c.args.version c.args.level) c.deinterleave_blocks.result c.deinterleave_blocks.ensures.len (λ d e. e ∙ whole)
+    let whole = ap (λ (b : Blocks). codeword_count (data_sizes b)) c.blocks-2.ensures ∙ data-sizes-whole _ _ (omega arith) (omega arith) in
+    ok-also (λ d. length d.items ≡ codeword_count _) (λ d. length d.items ≡ data_codewords_of c.args.version c.args.level) _ c.deinterleave_blocks.ensures.len (λ d e. e ∙ whole)
 
 pub returns-clause-read : goal.returns-clause-read
 returns-clause-read c =
@@ -21,8 +21,7 @@ returns-clause-read c =
 
 pub returns-clause-check : goal.returns-clause-check
 returns-clause-check c =
-    let whole = ap (λ (b : Blocks). codeword_count (data_sizes b)) c.blocks-2.ensures ∙ data-sizes-whole c.args.version c.args.level (omega arith) (omega arith) in
-    check-exactly (λ d. (length d ≡ data_codewords_of c.args.version c.args.level) × IsInterleaved c.args.version c.args.level d c.args.codewords.now) c.deinterleave_blocks.result
+    let whole = ap (λ (b : Blocks). codeword_count (data_sizes b)) c.blocks-2.ensures ∙ data-sizes-whole _ _ (omega arith) (omega arith) in
+    check-exactly (λ d. (length d ≡ data_codewords_of c.args.version c.args.level) × IsInterleaved _ _ d _) _
     (λ e d h. c.deinterleave_blocks.ensures.check e d (h.0 ∙ sym whole) (subst (λ (b : Blocks). IsFinalMessage b d c.args.codewords.now) (sym c.blocks-2.ensures) h.1))
-    (ok-both _ _ c.deinterleave_blocks.result (returns-clause-many c) (returns-clause-read c))
-    c.deinterleave_blocks.ensures.fault
+    (ok-both _ _ _ (returns-clause-many c) (returns-clause-read c)) c.deinterleave_blocks.ensures.fault

@@ -11,4 +11,4 @@ returns-else-eq-clause-check c = λ _ d n h.
     let g : IsGathered (data_sizes c.args.blocks) c.args.codewords.now xs = subst (λ (k : BlockSizes). IsGathered k c.args.codewords.now xs) c.of_data-sizes.ensures c.deinterleave_into.ensures in
     let i : IsFinalMessage c.args.blocks xs c.in_ok-again.again.items = subst (λ (z : List ℕ). IsFinalMessage c.args.blocks z c.in_ok-again.again.items) c.deref.ensures.value c.in_ok-again.ensures in
     let e = slice_eq-Decides Decides-eqb _ _ _ c.eq.ensures in
-    none-fits c.args.blocks c.args.codewords.now xs c.in_ok-again.again.items d g i (λ s. let t = e.1 (c.as_slice.ensures.value ∙ s) in let f = c.if-eq.false in cc) n h
+    none-fits _ _ xs _ d g i (λ s. let t = e.1 (c.as_slice.ensures.value ∙ s) in let f = c.if-eq.false in cc) n h

@@ -1,15 +1,15 @@
 use Rattle.std.proofs.Common.{ℕ, ◌+◌, [], ◌∷◌, ◌++◌, get_or, Vec, Global, refl, sym, ◌∙◌, ap, subst, arith}
-use Rattle.qr_symbol.specs.Interleaving.{IsPosition, codeword_at, block_count}
+use Rattle.qr_symbol.specs.Interleaving.{IsPosition, block_count}
 use Rattle.qr_symbol.proofs.lemmas.interleaving.PositionLemmas.{InterleavedBefore, start-first, start-most, start-next, position, position-in, interleaved-push, interleaved-pass, interleaved-row, interleaved-end}
-use Rattle.qr_symbol.proofs.interleaving.interleave_into.Goals as goal
 use Rattle.qr_symbol.proofs.interleaving.interleave_into.Goals.{then-place-len+in_ok-push, else-place-len}
+use Rattle.qr_symbol.proofs.interleaving.interleave_into.Goals as goal
 
 pub bounds-codewords-at : goal.bounds-codewords-at
 bounds-codewords-at c =
     let b = c.loop-block.invariant.blocks in
     let v = c.len-len.ensures.value in
     let t : IsPosition c.args.sizes (position c.loop-place.place c.loop-block.block) = (omega arith, omega arith) in
-    omega (arith, position-in c.args.sizes c.loop-place.place c.loop-block.block t, c.loop-block.invariant.at)
+    omega (arith, position-in _ _ _ t, c.loop-block.invariant.at)
 
 pub overflow_add-at : goal.overflow_add-at
 overflow_add-at c =
@@ -20,7 +20,7 @@ overflow_add-at c =
 pub loop-block-init : goal.loop-block-init
 loop-block-init c = record {
   blocks = c.loop-place.invariant.blocks;
-  at = start-first c.args.sizes c.loop-place.place;
+  at = start-first c.args.sizes _;
   so_far = c.loop-place.invariant.so_far;
 }
 
@@ -39,11 +39,11 @@ loop-block-preserved c =
       so_far = elim c.if-place-len.branch [
         | then-place-len+in_ok-push w ↦
             let t : IsPosition sizes (position p i) = (omega arith, omega arith) in
-            interleaved-push sizes bytes p i c.args.interleaved.now.items c.loop-block.interleaved.items c.if-place-len.interleaved.items (codeword_at sizes bytes (position p i)) c.loop-block.invariant.so_far t refl
+            interleaved-push _ _ p i _ _ _ _ c.loop-block.invariant.so_far t refl
             (ap (λ (s : Vec ℕ Global). s.items) w.interleaved-is ∙ (w.in_ok-push.ensures.items ∙ ap (λ (k : ℕ). c.loop-block.interleaved.items ++ get_or bytes k 0 ∷ []) place))
         | else-place-len w ↦
             subst (λ (s : Vec ℕ Global). InterleavedBefore sizes bytes p (i + 1) c.args.interleaved.now.items s.items) (sym w.interleaved-is)
-            (interleaved-pass sizes bytes p i c.args.interleaved.now.items c.loop-block.interleaved.items c.loop-block.invariant.so_far (λ t. let l = t.1 in absurd (omega arith)))
+            (interleaved-pass _ _ p i _ _ c.loop-block.invariant.so_far (λ t. let l = t.1 in absurd (omega arith)))
       ];
     }
 
@@ -52,8 +52,8 @@ loop-place-preserved c =
     let b = c.loop-block.invariant.blocks in
     record {
       blocks = b;
-      so_far = interleaved-row c.args.sizes c.args.codewords.now c.loop-place.place c.loop-block.block c.args.interleaved.now.items c.loop-block.interleaved.items (omega arith) c.loop-block.invariant.so_far;
+      so_far = interleaved-row _ _ _ _ _ _ (omega arith) c.loop-block.invariant.so_far;
     }
 
 pub returns : goal.returns
-returns c = interleaved-end c.args.sizes c.args.codewords.now c.loop-place.place c.args.interleaved.now.items c.loop-place.interleaved.items (omega arith) c.loop-place.invariant.so_far
+returns c = interleaved-end _ _ _ _ _ (omega arith) c.loop-place.invariant.so_far

@@ -4,11 +4,11 @@ use Rattle.qr_symbol.proofs.joining.are_in_series.Goals as goal
 
 pub returns-then-not-has_header : goal.returns-then-not-has_header
 returns-then-not-has_header c =
-    let last = length c.args.contents.now - 1 in
+    let last = length _ - 1 in
     let k = c.loop-position.position in (
       λ e. absurd (cc),
       λ w.
-          let h = headers-next last c.args.parity k c.args.contents.now c.index-contents-position.result c.loop-position-test.true c.index-contents-position.is (c.loop-position.invariant.there w.1) in
+          let h = headers-next last _ k _ _ c.loop-position-test.true c.index-contents-position.is (c.loop-position.invariant.there w.1) in
           let t = c.has_header.ensures.1 h.0 in
           absurd (cc),
     )
@@ -25,8 +25,8 @@ loop-position-preserved c =
 
 pub returns : goal.returns
 returns c =
-    let last = length c.args.contents.now - 1 in
+    let last = length _ - 1 in
     let k = c.loop-position.position in (
-      λ _. (search rules, c.loop-position.invariant.here (headers-end last c.args.parity k c.args.contents.now c.loop-position-test.false)),
+      λ _. (search rules, c.loop-position.invariant.here (headers-end last _ k _ c.loop-position-test.false)),
       λ _. refl,
     )

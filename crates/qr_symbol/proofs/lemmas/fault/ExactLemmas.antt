@@ -21,13 +21,13 @@ err-same r e f h k = cc
 exactly : {X E : Type 0} (r : Result X E) (e memory : E) (P : Type 0) → (e ≡ memory → ⊥) → (r ≡ Err e → P)
     → IfOk r (λ _. P → ⊥)
     → IfErr r (λ g. (P → g ≡ e) ⊎ (g ≡ memory)) → Refused r e memory P
-exactly {X = X} {E = E} r e memory P other f none told = (λ h. (λ m. other (err-same r e memory h m), f h), λ w. back r none told w.0 w.1)
+exactly {X = X} {E = E} r e memory P other f none told = search (arith, err-same)
   where
     back : (r : Result X E) → IfOk r (λ _. P → ⊥) → IfErr r (λ g. (P → g ≡ e) ⊎ (g ≡ memory)) → r ≢ Err memory → P
         → r ≡ Err e
-    back (Ok x) none told m p = absurd (none p)
-    back (Err g) none (inl h) m p = ap (λ f. Err f) (h p)
-    back (Err g) none (inr h) m p = absurd (m (ap (λ f. Err f) h))
+    back (Ok x) none _ m p = absurd (none p)
+    back _ _ (inl h) m p = ap (λ f. Err f) (h p)
+    back _ _ (inr h) m p = absurd (m (ap (λ f. Err f) h))
 
 -- `TooLong` is returned exactly if the input fits no version, unless memory was refused
 pub too-long-exactly : (x : List ℕ) (l : Level) (smallest : ℕ) (b : Rule) (r : Result Symbol EncodeFault) → smallest ≤ 40
@@ -61,7 +61,7 @@ pub check-exactly : (Holds : List ℕ → Type 0) (r : Result (Vec ℕ Global) R
     → IfErr r (λ e. (e ≡ unread.Memory) ⊎ (e ≡ unread.Check))
     → Refused r unread.Check unread.Memory ((d : List ℕ) → Holds d → ⊥)
 check-exactly Holds (Ok d) none made told = exactly _ _ _ _ (λ e. cc) none (λ n. n d.items made) tt
-check-exactly Holds (Err e) none made told = exactly _ _ _ _ (λ e. cc) none tt (elim told [ inl h ↦ inr h | inr h ↦ inl (λ _. h) ])
+check-exactly Holds (Err e) none made told = search (arith, exactly)
 
 -- a result for which two facts hold has both of them at once
 pub ok-both : {X E : Type 0} (P Q : X → Type 0) (r : Result X E) → IfOk r P → IfOk r Q → IfOk r (λ x. P x × Q x)

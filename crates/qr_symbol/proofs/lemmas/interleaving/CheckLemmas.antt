@@ -1,11 +1,11 @@
 -- The error correction codewords of all blocks, block after block, and the whole final sequence.
 use Rattle.std.proofs.Common.{◌≡◌, ℕ, suc, ◌+◌, ◌-◌, ◌<◌, ◌≤◌, List, [], ◌∷◌, ◌++◌, map, take, drop, length-append, get_or, refl, ◌∙◌, ap, inl, inr, arith}
-use Rattle.std.proofs.lemmas.{Bool.Decides.nat_tests, Bool.cases_lt, List.get_or_append_left, List.get_or-append_right}
+use Rattle.std.proofs.lemmas.{Bool.cases_lt, Bool.Decides.nat_tests, List.get_or_append_left, List.get_or-append_right}
 use Rattle.std.specs.List.{All}
 use Rattle.qr_field.specs.Polynomial.{IsCorrection}
 use Rattle.qr_layout.specs.declared.blocks.Blocks.{Blocks}
 use Rattle.qr_symbol.specs.declared.interleaving.BlockSizes.{BlockSizes}
-use Rattle.qr_symbol.specs.Interleaving.{block_count, block_len, start_of, IsPosition, codeword_at, data_sizes, correction_sizes, block_of, check_at, IsFinalMessage}
+use Rattle.qr_symbol.specs.Interleaving.{block_count, block_len, start_of, codeword_at, data_sizes, correction_sizes, block_of, IsFinalMessage}
 use Rattle.qr_symbol.specs.Steps.Interleaving.{AppendsInterleaved, IsChecks}
 use Rattle.qr_symbol.proofs.lemmas.interleaving.PositionLemmas.{start-next, start-most}
 
@@ -55,7 +55,7 @@ both-interleaved b d es first second h s t = record {
   each = h.each;
   check_positions = t.positions;
   check_order = t.order;
-  whole = t.interleaved ∙ (ap (λ (xs : List ℕ). xs ++ map (codeword_at (correction_sizes b) es) t.positions) s.interleaved ∙ ap (λ (xs : List ℕ). map (codeword_at (data_sizes b) d) s.positions ++ xs) (map-each (IsPosition (correction_sizes b)) (codeword_at (correction_sizes b) es) (check_at h.corrections) t.positions t.order.in_blocks (λ u i. h.same u (let l = i.0 in omega arith) i)));
+  whole = t.interleaved ∙ (ap (λ (xs : List ℕ). xs ++ map (codeword_at (correction_sizes b) es) t.positions) s.interleaved ∙ ap (λ (xs : List ℕ). map (codeword_at (data_sizes b) d) s.positions ++ xs) (map-each _ _ _ _ t.order.in_blocks (λ u i. h.same u (let l = i.0 in omega arith) i)));
 }
 
 -- a block is inside the data codewords

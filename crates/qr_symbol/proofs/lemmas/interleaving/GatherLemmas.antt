@@ -31,19 +31,19 @@ irrefl t p b (inr w) e f = absurd (let l = w.1 in omega arith)
 -- one codeword more is put back
 pub gather-push : (c : BlockSizes) (interleaved xs ys : List ℕ) (p b next i : ℕ) → codeword_count c ≤ length interleaved → GatheredBefore c interleaved p b xs next → IsPosition c (position p b) → i ≡ start_of c b + p → ys ≡ set xs i (get_or interleaved next 0) → GatheredBefore c interleaved p (b + 1) ys (next + 1)
 gather-push c interleaved xs ys p b next i l h t e k =
-    let x = get_or interleaved next 0 in
+    let x = get_or interleaved _ 0 in
     let j = start_of c b + p in
     let ks : ys ≡ set xs j x = k ∙ ap (λ (z : ℕ). set xs z x) e in
     let inside = position-in c p b t in
     let below = rank-in c p b t in
     let r = h.rank in
     let g = h.long in
-    let old : map (codeword_at c (set xs j x)) h.positions ≡ map (codeword_at c xs) h.positions = map-mem (codeword_at c (set xs j x)) (codeword_at c xs) h.positions (λ u m. let w = h.order.sound u m in get_or-set_other xs j (start_of c u.block + u.place) x 0 (λ q. let z = position-one c u (position p b) w.0 t q in irrefl u p b w.1 z.0 z.1)) in
+    let old : map (codeword_at c (set xs j x)) h.positions ≡ map (codeword_at c xs) h.positions = map-mem _ _ _ (λ u m. let w = h.order.sound u m in get_or-set_other xs j _ x 0 (λ q. let z = position-one c u _ w.0 t q in irrefl u p b w.1 z.0 z.1)) in
     let new : codeword_at c (set xs j x) (position p b) ≡ x = get_or-set_same xs j x 0 (omega arith) in
     record {
       long = ap length k ∙ (length-set xs i x ∙ g);
       positions = h.positions ++ position p b ∷ [];
-      order = positions-push c p b h.positions t h.order;
+      order = positions-push c p b _ t h.order;
       rank = ap (λ (z : ℕ). z + 1) r ∙ sym (rank-push c p b t);
       same = search (arith, position, map-append, take_more);
     }
@@ -108,11 +108,11 @@ begun-down c interleaved (suc p) n l =
 -- a sequence with at least as many codewords as the blocks can be gathered
 pub gather-some : (c : BlockSizes) (interleaved : List ℕ) → codeword_count c ≤ length interleaved → (xs : List ℕ) × IsGathered c interleaved xs
 gather-some c interleaved n =
-    let h = begun-down c interleaved (c.short_len + 1) n (omega arith) in
-    (h.codewords, gather-end c interleaved h.codewords (c.short_len + 1) h.next n refl h.gathered)
+    let h = begun-down c _ _ n (omega arith) in
+    (h.codewords, gather-end c _ _ _ _ n refl h.gathered)
 
 -- an order of positions has one position for each codeword
 pub positions-many : (c : BlockSizes) (ts : List Position) → IsPositionOrder c ts → length ts ≡ codeword_count c
 positions-many c ts h =
     let w = gather-some c (replicate (codeword_count c) 0) (omega (arith, length-replicate {A = ℕ})) in
-    ap (length {A = Position}) (positions-one c ts w.1.positions h w.1.order) ∙ w.1.many
+    ap (length {A = Position}) (positions-one c ts _ h w.1.order) ∙ w.1.many

@@ -22,7 +22,7 @@ checks-one b d n xs ys e f h k =
 -- data codewords have at most one final sequence
 pub final-one : (b : Blocks) (d xs ys : List ℕ) → IsFinalMessage b d xs → IsFinalMessage b d ys → xs ≡ ys
 final-one b d xs ys h k =
-    cc (positions-one (data_sizes b) h.data_positions k.data_positions h.data_order k.data_order, positions-one (correction_sizes b) h.check_positions k.check_positions h.check_order k.check_order, checks-one b d (block_count (data_sizes b)) h.corrections k.corrections h.count k.count h.each k.each)
+    cc (positions-one _ _ _ h.data_order k.data_order, positions-one _ _ _ h.check_order k.check_order, checks-one b d _ _ _ h.count k.count h.each k.each)
 
 -- two equal joined lists with first parts of the same length are equal part by part
 pub append-front : {X : Type 0} (xs ys us vs : List X) → length xs ≡ length ys → xs ++ us ≡ ys ++ vs → (xs ≡ ys) × (us ≡ vs)
@@ -98,12 +98,11 @@ pub gathered-one : (b : Blocks) (interleaved xs d : List ℕ) → IsGathered (da
     → length d ≡ codeword_count (data_sizes b) → IsFinalMessage b d interleaved → xs ≡ d
 gathered-one b interleaved xs d g n h =
     let c = data_sizes b in
-    let one = positions-one c h.data_positions g.positions h.data_order g.order in
+    let one = positions-one c _ _ h.data_order g.order in
     let first : take (codeword_count c) interleaved ≡ map (codeword_at c d) g.positions =
-    search (arith, take-front, length-map) in
-    ext_get_or 0 xs d (g.long ∙ sym n) (λ j l.
+    search (arith, take-front, length-map) in ext_get_or 0 xs d (g.long ∙ sym n) (λ j l.
     let w = position-of c (block_count c) j (omega arith) (let z = g.long in omega arith) in
-    let q = map-at (codeword_at c xs) (codeword_at c d) g.positions w.0 (g.same ∙ first) (Mem-of-Contains g.positions w.0 (g.order.complete w.0 w.1)) in
+    let q = map-at _ _ _ w.0 (g.same ∙ first) (Mem-of-Contains _ w.0 (g.order.complete w.0 w.1)) in
     cc)
 
 -- a sequence that differs from the final sequence of its gathered codewords is the final sequence of no message
@@ -111,5 +110,5 @@ pub none-fits : (b : Blocks) (interleaved xs again d : List ℕ) → IsGathered 
     → IsFinalMessage b xs again → (again ≡ interleaved → ⊥) → length d ≡ codeword_count (data_sizes b)
     → IsFinalMessage b d interleaved → ⊥
 none-fits b interleaved xs again d g h n l k =
-    let e = gathered-one b interleaved xs d g l k in
-    n (final-one b d again interleaved (subst (λ (z : List ℕ). IsFinalMessage b z again) e h) k)
+    let e = gathered-one b _ xs d g l k in
+    n (final-one b d _ _ (subst (λ (z : List ℕ). IsFinalMessage b z again) e h) k)

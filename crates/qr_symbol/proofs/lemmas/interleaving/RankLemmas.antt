@@ -86,9 +86,9 @@ asym t u (inr h) (inr k) = absurd (let a = h.1 in let b = k.1 in omega arith)
 
 -- blocks have only one order of positions
 pub positions-one : (c : BlockSizes) (ts us : List Position) → IsPositionOrder c ts → IsPositionOrder c us → ts ≡ us
-positions-one c ts us h k = one_rising ComesBefore asym ts us (Rises-of-pairs ComesBefore ts h.rising) (Rises-of-pairs ComesBefore us k.rising)
-    (λ t m. Mem-of-Contains us t (k.complete t (Mem-at (IsPosition c) ts t (All-rec (IsPosition c) ts h.in_blocks) m)))
-    (λ t m. Mem-of-Contains ts t (h.complete t (Mem-at (IsPosition c) us t (All-rec (IsPosition c) us k.in_blocks) m)))
+positions-one c ts us h k = one_rising _ asym ts us (Rises-of-pairs ComesBefore ts h.rising) (Rises-of-pairs _ us k.rising)
+    (λ t m. Mem-of-Contains us t (k.complete t (Mem-at (IsPosition c) ts t (All-rec _ ts h.in_blocks) m)))
+    (λ t m. Mem-of-Contains ts t (h.complete t (Mem-at (IsPosition c) us t (All-rec _ us k.in_blocks) m)))
 
 -- each index of the message is that of a position
 pub position-of : (c : BlockSizes) (k j : ℕ) → k ≤ block_count c → j < start_of c k → (t : Position) × IsPosition c t × (start_of c t.block + t.place ≡ j)

@@ -30,7 +30,7 @@ unfolding AreReadBy IsFirstRefused
 first-unread reads refuses [] rest [] g e a u = inl u
 first-unread reads refuses [] rest (c ∷ cs) g e a u = absurd a
 first-unread reads refuses (f ∷ gs) rest [] g e a u = absurd a
-first-unread reads refuses (f ∷ gs) rest (c ∷ cs) g e a u = inr (c, a.0, first-unread reads refuses gs rest cs g e a.1 u)
+first-unread reads refuses (f ∷ gs) rest (c ∷ cs) g e a u = inr (c, a.0, first-unread _ _ gs _ cs g e a.1 u)
 
 -- one more square of a list is read, stated by its index
 pub readings-next : (reads : Grid → Content → Type 0) (gs : List Grid) (i : ℕ) (g : Grid) (cs : List Content) (c : Content) → i < length gs → g ≡ get_or gs i g → AreReadBy reads (take i gs) cs → reads g c → AreReadBy reads (take (i + 1) gs) (cs ++ c ∷ [])
@@ -146,12 +146,12 @@ joined-refused reads refuses same never gs x e h u = search (arith, told, read-u
 
 -- two faults of the same squares are equal, or one of them is lack of memory
 pub unjoined-one : (reads : Grid → Content → Type 0) (refuses : Grid → ReadFault → Type 0) → ((g : Grid) (c : Content) (e : ReadFault) → reads g c → refuses g e → e ≡ fault.Memory) → ((g : Grid) (e f : ReadFault) → refuses g e → refuses g f → (e ≡ fault.Memory) ⊎ ((f ≡ fault.Memory) ⊎ (e ≡ f))) → (gs : List Grid) (e f : ReadFault) → IsUnjoinedBy reads refuses gs e → IsUnjoinedBy reads refuses gs f → (e ≡ fault.Memory) ⊎ ((f ≡ fault.Memory) ⊎ (e ≡ f))
-unjoined-one reads refuses never same gs e f u v = by_told (told reads refuses gs e u) (told reads refuses gs f v)
+unjoined-one reads refuses never same gs e f u v = by_told (told _ _ gs e u) (told _ _ gs f v)
   where
     by_told : (e ≡ fault.Memory) ⊎ (IsFirstRefused reads refuses gs e ⊎ ((e ≡ fault.Series) × IsNoSeries reads gs)) → (f ≡ fault.Memory) ⊎ (IsFirstRefused reads refuses gs f ⊎ ((f ≡ fault.Series) × IsNoSeries reads gs)) → (e ≡ fault.Memory) ⊎ ((f ≡ fault.Memory) ⊎ (e ≡ f))
     by_told (inl a) q = inl a
-    by_told (inr p) (inl b) = inr (inl b)
-    by_told (inr (inl a)) (inr (inl b)) = first-one reads refuses never same gs e f a b
-    by_told (inr (inl a)) (inr (inr b)) = inl (read-unread reads refuses never gs b.1.contents e b.1.read a)
-    by_told (inr (inr a)) (inr (inl b)) = inr (inl (read-unread reads refuses never gs a.1.contents f a.1.read b))
+    by_told _ (inl b) = inr (inl b)
+    by_told (inr (inl a)) (inr (inl b)) = first-one _ _ never same gs e f a b
+    by_told (inr (inl a)) (inr (inr b)) = inl (read-unread _ _ never gs _ e b.1.read a)
+    by_told (inr (inr a)) (inr (inl b)) = inr (inl (read-unread _ _ never gs _ f a.1.read b))
     by_told (inr (inr a)) (inr (inr b)) = inr (inr (a.0 ∙ sym b.0))

@@ -44,10 +44,9 @@ pub block-paint : (v r c a b top left format : ℕ) (w x y : Bool) → top + 3 �
     → y ≡ cond (ltb (ring_of a b r c) 4) (not (eqb (ring_of a b r c) 2)) x
     → y ≡ cond (is_in_block top left r c) (paint_of v format r c) w
 block-paint v r c a b top left format w x y h i j k near d e =
-    e ∙ rw d (block-tests (is_in_block top left r c) (ltb (ring_of a b r c) 4) (not (eqb (ring_of a b r c) 2)) w (block-of a b r c top left h i j k)
-    ∙ in-its-block (is_in_block top left r c) _ _ w (λ e.
-    let n = in-block a b r c top left h i j k e in
-    sym (paint-fixed v r c format (ltb (ring_of a b r c) 4 && not (eqb (ring_of a b r c) 2)) (finder-role v r c (ring_of a b r c) (near n) n))))
+    e ∙ rw d (block-tests _ _ _ w (block-of a b r c top _ h i j k) ∙ in-its-block _ _ _ w (λ e.
+    let n = in-block a b r c top _ h i j k e in
+    sym (paint-fixed v r c _ _ (finder-role v r c _ (near n) n))))
   where
     in-its-block : (t x y w : Bool) → (t ≡ true → x ≡ y) → cond t x w ≡ cond t y w
     in-its-block t x y w e = grind (arith, nat_tests)

@@ -20,14 +20,14 @@ six : (v r c at : ℕ) → 21 ≤ side_of v → at < side_of v → (at < 7 → f
     → (at ≡ 7 → finder_ring (side_of v) r c ≡ 4) → (at ≡ side_of v - 8 → finder_ring (side_of v) r c ≡ 4)
     → (7 < at → at < side_of v - 8 → role_of v r c ≡ Fixed (eqb (at % 2) 0)) → role_of v r c ≡ Fixed (is_dark_in_six (side_of v) at)
 six v r c at least inside near far seven eight off = elim (cases_lt at 7) [
-  | inl l ↦ ring-three v r c (near l) ∙ ap Fixed (sym (dark-near (side_of v) at l))
-  | inr l ↦ elim (cases_lt at (side_of v - 7)) [
-    | inr m ↦ ring-three v r c (far m) ∙ ap Fixed (sym (dark-far (side_of v) at m))
+  | inl l ↦ search (arith, ring-three)
+  | inr l ↦ elim (cases_lt at _) [
+    | inr m ↦ ring-three v r c (far m) ∙ ap Fixed (sym (dark-far _ at m))
     | inl m ↦ elim (cases_lt 7 at) [
-      | inr n ↦ ring-four v r c (seven (omega arith)) ∙ ap Fixed (sym (between (side_of v) at l m ∙ odd-light at (omega arith)))
-      | inl n ↦ elim (cases_lt at (side_of v - 8)) [
-        | inr o ↦ ring-four v r c (eight (omega arith)) ∙ ap Fixed (sym (between (side_of v) at l m ∙ odd-light at (omega arith)))
-        | inl o ↦ off n o ∙ ap Fixed (sym (between (side_of v) at l m))
+      | inr n ↦ search (arith, ring-four)
+      | inl n ↦ elim (cases_lt at _) [
+        | inr o ↦ search (arith, ring-four)
+        | inl o ↦ off n o ∙ ap Fixed (sym (between _ at l m))
       ]
     ]
   ]
@@ -52,12 +52,12 @@ five-on n h = (grind (arith, nat_tests), grind (arith, nat_tests))
 -- between the finder patterns row 6 is a timing pattern
 row-off : (v at : ℕ) → 5 ≤ finder_ring (side_of v) 6 at → role_of v 6 at ≡ Fixed (eqb (at % 2) 0)
 unfolding role_of pattern_colour
-row-off v at h = rw ((five-on (finder_ring (side_of v) 6 at) h).0, (five-on (finder_ring (side_of v) 6 at) h).1) refl
+row-off v at h = search (arith, five-on)
 
 -- between the finder patterns column 6 is a timing pattern
 column-off : (v at : ℕ) → 5 ≤ finder_ring (side_of v) at 6 → 7 < at → role_of v at 6 ≡ Fixed (eqb (at % 2) 0)
 unfolding role_of pattern_colour
-column-off v at h k = rw ((five-on (finder_ring (side_of v) at 6) h).0, (five-on (finder_ring (side_of v) at 6) h).1, other at k) refl
+column-off v at h k = rw ((five-on _ h).0, (five-on _ h).1, other at k) refl
   where
     other : (n : ℕ) → 7 < n → eqb n 6 ≡ false
     other n h = grind (arith, nat_tests)
@@ -79,11 +79,11 @@ paint-fixed v r c format dark e = ap (fixed_colour format (version_word_of v)) e
 
 -- the colour that a module of row 6 is painted with
 pub paint-row_six : (v at format : ℕ) → 1 ≤ v → at < side_of v → is_dark_in_six (side_of v) at ≡ paint_of v format 6 at
-paint-row_six v at format l h = sym (paint-fixed v 6 at format (is_dark_in_six (side_of v) at) (row-six v at l h))
+paint-row_six v at format l h = search (arith, paint-fixed, row-six)
 
 -- the colour that a module of column 6 is painted with
 pub paint-column_six : (v at format : ℕ) → 1 ≤ v → at < side_of v → is_dark_in_six (side_of v) at ≡ paint_of v format at 6
-paint-column_six v at format l h = sym (paint-fixed v at 6 format (is_dark_in_six (side_of v) at) (column-six v at l h))
+paint-column_six v at format l h = search (arith, paint-fixed, column-six)
 
 -- the painted modules of row 6 and column 6, with one module more of each
 pub six-more : (at r c : ℕ) → ((eqb r 6 && ltb c (at + 1)) || (eqb c 6 && ltb r (at + 1)))

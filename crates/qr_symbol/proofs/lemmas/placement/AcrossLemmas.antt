@@ -11,14 +11,13 @@ use Rattle.qr_symbol.proofs.lemmas.placement.{ColumnLemmas.row-small, PlacementL
 
 -- the square of the encoding region, read with row and column exchanged, says whether a place is in the region
 pub region-across : (v : ℕ) (g : Grid) (row col : ℕ) → g ≡ region_grid v → row < side_of v → col < side_of v → colour g col row ≡ is_in_region v row col
-region-across v g row col e k l = ap (λ (z : Grid). colour z col row) e ∙ (colour-square (side_of v) (is_in_region v) col row l k ∙ region-symmetric v col row)
+region-across v g row col e k l = ap (λ (z : Grid). colour z col row) e ∙ (colour-square _ _ col row l k ∙ region-symmetric v col row)
 
 -- inside a square with two rows replaced, the colours are those of the rows or of the square
 two-rows : (g : Grid) (a b : ℕ) (f h : ℕ → Bool) (r c : ℕ) → r < g.side → c < g.side
     → colour (with_row (with_row g a f) b h) r c ≡ cond (eqb r b) (h c) (cond (eqb r a) (f c) (colour g r c))
-two-rows g a b f h r c l m =
-    colour-square g.side (λ r c. cond (eqb r b) (h c) (colour (with_row g a f) r c)) r c l m
-    ∙ ap (cond (eqb r b) (h c)) (colour-square g.side (λ r c. cond (eqb r a) (f c) (colour g r c)) r c l m)
+two-rows g a b f h r c l m = colour-square _ (λ r c. cond (eqb r b) (h c) (colour (with_row g a f) r c)) r c l m
+    ∙ ap (cond _ (h c)) (colour-square _ (λ r c. cond (eqb r a) (f c) (colour g r c)) r c l m)
 
 -- the colours of the two rows, and of the others
 two-colours : (g : Grid) (a b : ℕ) (f h : ℕ → Bool) (r c : ℕ) → r < g.side → c < g.side → (a ≡ b → ⊥)

@@ -67,9 +67,9 @@ pub four-region : (v : ℕ) (x : Strip) (k top : ℕ) → k + 4 ≤ side_of v �
     → (j : ℕ) → k ≤ j → j < k + 4 → (is_in_region v (row_of (side_of v) x j) x.right ≡ true) × (is_in_region v (row_of
     (side_of v) x j) (x.right - 1) ≡ true)
 four-region v x k top room e whole j a b =
-    let w = four-row x (side_of v) k top (j - k) room e (omega arith) in
+    let w = four-row x _ k top (j - k) room e (omega arith) in
     let f : k + (j - k) ≡ j = omega arith in
-    rw (← f, w.0) (whole (rank_of x.upward (j - k)) w.1)
+    rw (← f, w.0) (whole (rank_of _ (j - k)) w.1)
 
 -- four rows of a strip are drawn at once, if all their modules are in the region
 pub four-drawn : {v : ℕ} {cw : List ℕ} {x : Strip} {first : ℕ} {old new : Columns} (k top bits r l : ℕ)
@@ -113,7 +113,7 @@ pub column-set : (x : Strip) (s k top bits : ℕ) (q p z : ℕ → Bool) → k +
     → ((j : ℕ) → k ≤ j → j < s → (q (row_of s x j) && p (row_of s x j)) ≡ false)
     → ((i : ℕ) → z i ≡ (p i || leb top i && ltb i (top + 4) && has_bit bits (i - top)))
     → (i : ℕ) → z i ≡ cond (leb top i && ltb i (top + 4)) (has_bit bits (i - top)) (p i)
-column-set x s k top bits q p z room e whole light is i = is i ∙ set-replaces (p i) (has_bit bits (i - top)) i (λ l m.
+column-set x s k top bits q p z room e whole light is i = is i ∙ set-replaces _ _ i (λ l m.
     let w = from-top x s k top i room e l m in
     let f : top + (i - top) ≡ i = omega arith in
     let lit = rw f at (whole (i - top) (omega arith)) in

@@ -24,9 +24,9 @@ row-at u b j k l m = below-at 4 (row-is u b) (below-at 256 (λ b. all_below 4 (r
 -- the higher four bits of an entry are those of the right column
 pub split-high : (u b j : ℕ) → u < 2 → b < 256 → j < 4 → has_bit (split u b / 16) j ≡ has_bit b (7 - 2 * rank_of (eqb u 1) j)
 unfolding row-is
-split-high u b j k l m = same-same (has_bit (split u b / 16) j) (has_bit b (7 - 2 * rank_of (eqb u 1) j)) (&&-left (is_same (has_bit (split u b / 16) j) (has_bit b (7 - 2 * rank_of (eqb u 1) j))) _ (row-at u b j k l m))
+split-high u b j k l m = same-same _ _ (&&-left _ _ (row-at u b j k l m))
 
 -- the lower four bits of an entry are those of the left column
 pub split-low : (u b j : ℕ) → u < 2 → b < 256 → j < 4 → has_bit (split u b % 16) j ≡ has_bit b (6 - 2 * rank_of (eqb u 1) j)
 unfolding row-is
-split-low u b j k l m = same-same (has_bit (split u b % 16) j) (has_bit b (6 - 2 * rank_of (eqb u 1) j)) (&&-right (is_same (has_bit (split u b / 16) j) (has_bit b (7 - 2 * rank_of (eqb u 1) j))) _ (row-at u b j k l m))
+split-low u b j k l m = same-same _ _ (&&-right _ _ (row-at u b j k l m))

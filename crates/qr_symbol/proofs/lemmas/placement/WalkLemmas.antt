@@ -38,8 +38,8 @@ walked-start v cw mask g ms s o = search (arith, done-start, walked-outside)
 -- the next module is in the square
 pub walked-in : (v : ℕ) (cw : List ℕ) (mask : ℕ) (g0 g : Grid) (front now later : List Module) (x : Module) (number : ℕ) → IsWalked v cw mask g0 front now number g → now ≡ x ∷ later → (x.row < g.side) × (x.col < g.side)
 walked-in v cw mask g0 g front now later x number w e =
-    let o = whole-next v front now later x w.whole e in
-    let l = in-square v front later x o in
+    let o = whole-next v _ now _ x w.whole e in
+    let l = in-square v _ _ x o in
     search arith
 
 -- one module is drawn
@@ -47,24 +47,23 @@ pub walked-step : (v : ℕ) (cw : List ℕ) (mask : ℕ) (g0 g : Grid) (front no
     → bit ≡ codeword_bit cw number → turned ≡ inverts mask x.row x.col → now ≡ x ∷ later → IsWalked v cw mask g0 front now number g
     → IsWalked v cw mask g0 (front ++ x ∷ []) later (number + 1) (painted g x.row x.col (not (beq bit turned)))
 walked-step v cw mask g0 g front now later x number bit turned b t e w =
-    let o = whole-next v front now later x w.whole e in
+    let o = whole-next v _ now _ x w.whole e in
     let s = ap (λ (h : Grid). h.side) w.square in
-    let n = next-number v front later x number o w.next in
+    let n = next-number v _ _ x _ o w.next in
     let d : not (beq bit turned) ≡ inverted (inverts mask x.row x.col) (codeword_bit cw number) =
     search (arith, differs-inverted, codeword_bit) in
     let want : inverted (inverts mask x.row x.col) (codeword_bit cw number) ≡ walked_colour v cw mask (colour g0) x.row x.col =
-    search (arith, walked-inside, codeword_bit) in
-    record {
-      whole = whole-push v front later x o;
-      next = cc (length-append front (x ∷ []));
+    search (arith, walked-inside, codeword_bit) in record {
+      whole = whole-push v _ _ x o;
+      next = cc (length-append _ _);
       square = omega (arith, painted-square);
-      done = done-step (side_of v) (walked_colour v cw mask (colour g0)) g later x (not (beq bit turned)) s (d ∙ want) (search arith);
+      done = done-step _ _ g _ x _ s (d ∙ want) (search arith);
     }
 
 -- the number of the next bit is at most the number of all modules of the region
 pub walked-small : (v : ℕ) (cw : List ℕ) (mask : ℕ) (g0 g : Grid) (front later : List Module) (number : ℕ) → 1 ≤ v → v ≤ 40 → IsWalked v cw mask g0 front later number g → number ≤ 29648
 walked-small v cw mask g0 g front later number k l w =
-    let m = order-small v (front ++ later) k l w.whole in
+    let m = order-small v _ k l w.whole in
     search (arith, length-append)
 
 -- after the last module, the square has the walked colours
@@ -90,4 +89,4 @@ pub walked-all : (v : ℕ) (l : Level) (mask : ℕ) (cw : List ℕ) (g h : Grid)
     → h ≡ square (side_of v) (walked_colour v cw mask (colour g)) → h ≡ grid_of v l mask cw
 unfolding colour_of
 walked-all v l mask cw g h k e f =
-    f ∙ square-same (side_of v) (walked_colour v cw mask (colour g)) (colour_of v l mask cw) (search (arith, by_test, walked-inside, region-role, walked-outside, colour-square, role-fixed, role-region))
+    f ∙ square-same _ _ _ (search (arith, by_test, walked-inside, region-role, walked-outside, colour-square, role-fixed, role-region))

@@ -63,7 +63,7 @@ short l mask h = let s = level-small l in ltb-true _ _ (below-at 32 is-short all
 -- the highest five bits of the word are those of the level and the mask, once it is unmasked
 back : (l : Level) (mask : ℕ) → mask < 8 → bit_xor (format_word_of l mask) 0x5412 / 1024 ≡ five_bits l mask
 unfolding format_word_of gives-back
-back l mask h = let s = level-small l in eqb-true (bit_xor (format_with (five_bits l mask)) 0x5412 / 1024) (five_bits l mask) (below-at 32 gives-back all-give-back (five_bits l mask) (omega arith))
+back l mask h = let s = level-small l in eqb-true _ _ (below-at 32 gives-back all-give-back _ (omega arith))
 
 -- two bits are equal if their tests agree
 same-bit : (a b : ℕ) → a < 2 → b < 2 → nat_eq a 1 ≡ nat_eq b 1 → a ≡ b

@@ -20,7 +20,7 @@ moved g v w l k m n d s t f h i =
 -- a square has at most one outcome of parsing
 gives-one : (g : Grid) (r q : Result Content ParseFault) → IsParsedAs g r → IsParsedAs g q → r ≡ q
 gives-one g r q h k =
-    let w = moved g k.version h.version k.level h.level k.mask h.mask k.message k.sized h.sized k.format h.format k.holds in
+    let w = moved g _ _ _ _ _ _ _ k.sized h.sized k.format h.format k.holds in
     let same = message-one h.version h.level h.mask g h.message k.message h.sized.least h.sized.most h.holds w.1 in
     search (arith, bits_of)
 
@@ -29,7 +29,7 @@ refused : (g : Grid) (r : Result Content ParseFault) → IsParsedAs g r → (e :
 refused g r h fault.Memory u = inl refl
 refused g r h fault.Side u = absurd (u h.version h.sized)
 refused g r h fault.Format u = absurd (u.2 h.level h.mask h.format)
-refused g r h fault.Check u = absurd (u.5 h.message (moved g h.version u.0 h.level u.2 h.mask u.3 h.message h.sized u.1 h.format u.4 h.holds).1)
+refused g r h fault.Check u = absurd (u.5 h.message (moved g _ u.0 _ u.2 _ u.3 _ h.sized u.1 h.format u.4 h.holds).1)
 refused g r h (fault.Segments x) u = inr (x, refl, gives-one g r (Err x) h u.1)
 refused g r h fault.Series u = absurd u
 
@@ -65,7 +65,7 @@ refused-one g fault.Format f a b = inr (by_fault f b)
 refused-one g fault.Check f a b = inr (by_fault f b)
   where
     held : (x : ParseFault) → IsParsedAs g (Err x) → ⊥
-    held x h = a.5 h.message (moved g h.version a.0 h.level a.2 h.mask a.3 h.message h.sized a.1 h.format a.4 h.holds).1
+    held x h = a.5 h.message (moved g _ a.0 _ a.2 _ a.3 _ h.sized a.1 h.format a.4 h.holds).1
 
     by_fault : (f : ReadFault) → IsUnread g f → (f ≡ fault.Memory) ⊎ (fault.Check ≡ f)
     by_fault fault.Memory b = inl refl
@@ -73,7 +73,7 @@ refused-one g fault.Check f a b = inr (by_fault f b)
     by_fault fault.Format b = absurd (b.2 a.2 a.3 a.4)
     by_fault fault.Check b = inr refl
     by_fault (fault.Segments x) b = absurd (held x b.1)
-    by_fault fault.Series b = absurd b
+    by_fault _ b = absurd b
 refused-one g (fault.Segments x) f a b = inr (parse-refused g x f a.1 b)
 refused-one g fault.Series f a b = absurd a
 

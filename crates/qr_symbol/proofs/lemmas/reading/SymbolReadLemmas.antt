@@ -47,13 +47,13 @@ all-read v f ms cw width begun p q o w bits =
 pub read-whole : (v : ℕ) (f : Module → Bool) (ms : List Module) (cw : List ℕ) (width begun : ℕ) → 1 ≤ v → v ≤ 40 → IsOrder v ms → width < 8 → bits_of cw ++ field width begun ≡ map f ms → bits_of cw ≡ map f (take (8 * total_codewords_of v) ms)
 read-whole v f ms cw width begun p q o w bits =
     let many = order-length v ms p q o in
-    let all = all-read v f ms cw width begun p q o w bits in
+    let all = all-read v f ms cw _ _ p q o w bits in
     let t = 8 * total_codewords_of v in
-    let cut : map f ms ≡ map f (take t ms) ++ map f (drop t ms) = ap (map f) (sym (take-append-drop t ms)) ∙ map-append f (take t ms) (drop t ms) in
+    let cut : map f ms ≡ map f (take t ms) ++ map f (drop t ms) = ap (map f) (sym (take-append-drop t ms)) ∙ map-append f _ _ in
     let a = length-bits_of cw in
     let b = length-map (take t ms) f in
     let c = length-take t ms in
-    (append-front (bits_of cw) (map f (take t ms)) (field width begun) (map f (drop t ms)) (omega arith) (bits ∙ cut)).0
+    (append-front (bits_of cw) (map f _) (field _ _) (map f _) (omega arith) (bits ∙ cut)).0
 
 -- two functions with the same values at all modules of a list
 take-same : (f h : Module → Bool) (n : ℕ) (ms : List Module) → ((m : Module) → Mem m ms → f m ≡ h m) → map f (take n ms) ≡ map h (take n ms)
@@ -72,8 +72,8 @@ read-across v g ms cw width begun p q s o bytes w bits = record {
   bytes = bytes;
   places = ms;
   order = o;
-  bits = read-whole v (colour_across g) ms cw width begun p q o w bits
-      ∙ order-same v (colour_across g) (λ m. colour (transposed g) m.row m.col) (8 * total_codewords_of v) ms o (λ r c l k t. sym (colour-transposed g r c (omega arith) (omega arith)));
+  bits = read-whole v _ ms cw _ _ p q o w bits
+      ∙ order-same v _ (λ m. colour (transposed g) m.row m.col) _ ms o (λ r c l k t. sym (colour-transposed g r c (omega arith) (omega arith)));
 }
 
 -- squares with the same colours in the encoding region contain the same codewords
@@ -82,12 +82,12 @@ read-same v g h cw e w = record {
   bytes = w.bytes;
   places = w.places;
   order = w.order;
-  bits = w.bits ∙ order-same v (λ m. colour g m.row m.col) (λ m. colour h m.row m.col) (8 * total_codewords_of v) w.places w.order e;
+  bits = w.bits ∙ order-same v (λ m. colour g m.row m.col) (λ m. colour h m.row m.col) _ _ w.order e;
 }
 
 -- a square that is transposed twice contains the same codewords
 pub read-twice : (v : ℕ) (g : Grid) (cw : List ℕ) → g.side ≡ side_of v → IsReadUnmasked v (transposed (transposed g)) cw → IsReadUnmasked v g cw
-read-twice v g cw s w = read-same v (transposed (transposed g)) g cw (λ r c l m t. colour-transposed (transposed g) r c (omega arith) (omega arith) ∙ colour-transposed g c r (omega arith) (omega arith)) w
+read-twice v g cw s w = read-same v _ g cw (λ r c l m t. colour-transposed (transposed g) r c (omega arith) (omega arith) ∙ colour-transposed g c r (omega arith) (omega arith)) w
 
 -- the codewords of the square without its mask pattern are those of the square
 pub read-masked : (v mask n : ℕ) (g region plain : Grid) (cw : List ℕ) → 1 ≤ v → v ≤ 40 → region ≡ region_grid v → ((r c : ℕ) → inverts n r c ≡ inverts mask r c)
@@ -122,8 +122,8 @@ pub not-parsed : (g : Grid) (v : ℕ) (l : Level) (mask : ℕ) (d : List ℕ) (e
     → IsMessage v l mask g d → IsResultOf (Err e) (parse v (bits_of d)) → IsUnread g (unread_for e)
 not-parsed g v l mask d unparsed.Memory s f h k = tt
 not-parsed g v l mask d unparsed.BadMode s f h k =
-    ((λ m. cc), record { version = v; level = l; mask = mask; message = d; sized = s; format = f; holds = h; parsed = fault-read unparsed.BadMode _ (λ m. cc) k })
+    ((λ m. cc), record { version = v; level = l; mask = mask; message = d; sized = s; format = f; holds = h; parsed = fault-read _ _ (λ m. cc) k })
 not-parsed g v l mask d unparsed.Cut s f h k =
     ((λ m. cc), record { version = v; level = l; mask = mask; message = d; sized = s; format = f; holds = h; parsed = fault-read unparsed.Cut _ (λ m. cc) k })
 not-parsed g v l mask d unparsed.BadValue s f h k =
-    ((λ m. cc), record { version = v; level = l; mask = mask; message = d; sized = s; format = f; holds = h; parsed = fault-read unparsed.BadValue _ (λ m. cc) k })
+    ((λ m. cc), record { version = v; level = l; mask = mask; message = d; sized = s; format = f; holds = h; parsed = fault-read _ _ (λ m. cc) k })

@@ -11,7 +11,7 @@ use Rattle.qr_symbol.proofs.lemmas.series.PartExistenceLemmas.{parts-there}
 pub long-refused : (x : List ℕ) (l : Level) (b : Rule) (v : ℕ) → 1 ≤ v → v ≤ 40 → 7089 * 16 < length x → HasNoSeries v l b x
 long-refused x l b v i j long = record {
   too_long = λ fits. let short = fitting_short v l b x i j fits in omega arith;
-  too_many = λ ps cut. let all = parts-long v l b x ps i j cut in omega arith;
+  too_many = search (arith, parts-long);
 }
 
 -- without kanji mode, an input that has no series needs more than 16 parts
@@ -19,6 +19,4 @@ pub none-shorter : (x : List ℕ) (l : Level) (b : Rule) (v : ℕ) → 1 ≤ v �
     HasNoSeries v l b x → NeedsParts v l b x 17
 none-shorter x l b v i j plain none qs cut =
     let parts = parts-there v l b x i j in
-    let more = none.too_many parts.0 parts.1 in
-    let least = needs-parts v l b x parts.0 plain parts.1 qs cut in
-    omega (arith, more, least)
+    search (arith, needs-parts)

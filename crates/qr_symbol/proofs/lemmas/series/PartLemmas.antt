@@ -44,7 +44,7 @@ pub longest-some : (v : ℕ) (l : Level) (b : Rule) (xs : List ℕ) (n : ℕ) �
 longest-some v l b [] n p q some h = absurd (omega arith)
 longest-some v l b (x ∷ xs) n p q some h =
     let least = capacity_least v l p q in
-    let one = h.longest 1 (omega arith) (bytes-fit v b (x ∷ []) (room_of v l) (omega arith) (omega (arith, count_width_bound v Byte))) in omega arith
+    let one = h.longest 1 (omega arith) (bytes-fit v b _ _ (omega arith) (omega (arith, count_width_bound v Byte))) in omega arith
 
 -- the room after a header is enough for a byte segment of five bytes, computed
 five-all : every (λ l v. leb (4 + count_width v Byte + 40) (room_of v l)) ≡ true
@@ -53,7 +53,7 @@ five-all = refl
 
 -- so up to five bytes fit after a header
 few-fit : (v : ℕ) (l : Level) (b : Rule) (xs : List ℕ) → 1 ≤ v → v ≤ 40 → 0 < length xs → length xs ≤ 5 → HasFit v b xs (room_of v l)
-few-fit v l b xs p q some few = bytes-fit v b xs (room_of v l) some (omega (arith, leb-true _ _ (every-at (λ l v. leb (4 + count_width v Byte + 40) (room_of v l)) five-all l v p q)))
+few-fit v l b xs p q some few = bytes-fit v b xs _ some (omega (arith, leb-true _ _ (every-at (λ l v. leb (4 + count_width v Byte + 40) (room_of v l)) five-all l v p q)))
 
 -- so a part has at least five bytes, or it is the whole rest
 pub part-least : (v : ℕ) (l : Level) (b : Rule) (x p : List ℕ) (ps : List (List ℕ)) → 1 ≤ v → v ≤ 40 → AreParts v l b x (p ∷ ps) → (5 ≤ length p) ⊎ (p ≡ x)
@@ -72,7 +72,7 @@ part-least v l b x p ps i j h =
           inr (h.3 ∙ (ap (λ k. take k x) all ∙ take-length x))
       | inr long ↦
           let front = length-take 5 x in
-          let five = cut.longest 5 (omega arith) (few-fit v l b (take 5 x) i j (omega (arith, front)) (omega (arith, front))) in
+          let five = cut.longest 5 (omega arith) (few-fit v l b _ i j (omega (arith, front)) (omega (arith, front))) in
           inl (omega (arith, many, same, five))
     ]
 
@@ -148,7 +148,7 @@ parts-one v l b x [] [] h k = refl
 parts-one v l b x [] (q ∷ qs) h k = absurd (let within = k.2.inside in omega (arith, ap length h))
 parts-one v l b x (p ∷ ps) [] h k = absurd (let within = h.2.inside in omega (arith, ap length k))
 parts-one v l b x (p ∷ ps) (q ∷ qs) h k =
-    let same = longest-one v b x (room_of v l) h.0 k.0 h.2 k.2 in
+    let same = longest-one v b x _ h.0 k.0 h.2 k.2 in
     let here : p ≡ q = h.3 ∙ (ap (λ (n : ℕ). take n x) same ∙ sym k.3) in
     let rest = parts-one v l b (drop k.0 x) ps qs (subst (λ (n : ℕ). AreParts v l b (drop n x) ps) same h.4) k.4 in
     λ i. here i ∷ rest i
@@ -175,14 +175,14 @@ parts-long v l b x (p ∷ ps) i j h =
 behind-all : {X : Type 0} (k : ℕ) (xs ys : List X) → length xs ≤ k → drop k (xs ++ ys) ≡ drop (k - length xs) ys
 behind-all k xs ys i =
     let sum : k ≡ length xs + (k - length xs) = omega arith in
-    ap (λ (n : ℕ). drop n (xs ++ ys)) sum ∙ drop-append-add xs ys (k - length xs)
+    ap (λ (n : ℕ). drop n (xs ++ ys)) sum ∙ drop-append-add xs ys _
 
 -- a rest of the bytes fits wherever all of the bytes fit
 rest-fits : (v : ℕ) (b : Rule) (k : ℕ) (xs : List ℕ) (n : ℕ) → may_use b Kanji ≡ false → HasFit v b xs n → HasFit v b (drop k xs) n
 rest-fits v b k xs n plain fit =
-    let whole : xs ≡ take k xs ++ (drop k xs ++ []) = rw (append-nil (drop k xs)) (sym (take-append-drop k xs)) in
+    let whole : xs ≡ take k xs ++ (drop k xs ++ []) = rw (append-nil _) (sym (take-append-drop k xs)) in
     let all : HasFit v b (take k xs ++ (drop k xs ++ [])) n = subst (λ (ys : List ℕ). HasFit v b ys n) whole fit in
-    piece_fits v b (take k xs) (drop k xs) [] n plain all
+    piece_fits v b _ _ [] n plain all
 
 -- a rest of the bytes can be cut into at most as many parts that fit as all of the bytes
 rest-parts : (v : ℕ) (l : Level) (b : Rule) (k : ℕ) (ps : List (List ℕ)) → may_use b Kanji ≡ false → All (λ p. HasFit v b p (room_of v l)) ps
@@ -193,10 +193,10 @@ rest-parts v l b k (p ∷ ps) plain h =
     let here = All-head fits p ps h in
     let behind = All-tail fits p ps h in
     elim (cases_lt k (length p)) [
-      | inl i ↦ (drop k p ∷ ps, (drop-append-le k p (concat ps) (omega arith), All-cons fits (drop k p) ps (rest-fits v b k p (room_of v l) plain here) behind), omega arith)
+      | inl i ↦ (drop k p ∷ ps, (drop-append-le k p _ (omega arith), All-cons fits _ ps (rest-fits v b k p _ plain here) behind), omega arith)
       | inr i ↦ (
           let r = rest-parts v l b (k - length p) ps plain behind in
-          (r.0, (behind-all k p (concat ps) i ∙ r.1.0, r.1.1), omega (arith, r.2)))
+          (r.0, (behind-all k p _ i ∙ r.1.0, r.1.1), omega (arith, r.2)))
     ]
 
 -- if the rest after the longest prefix needs k parts, the bytes need k + 1
@@ -204,11 +204,11 @@ pub needs-more : (v : ℕ) (l : Level) (b : Rule) (x : List ℕ) (n k : ℕ) →
 needs-more v l b x n k plain some fit needs [] cut = absurd (omega (arith, ap length cut.0))
 needs-more v l b x n k plain some fit needs (p ∷ ps) cut =
     let fits = λ (q : List ℕ). HasFit v b q (room_of v l) in
-    let front : take (length p) x ≡ p = rw cut.0 (take-append_seam p (concat ps)) in
+    let front : take (length p) x ≡ p = rw cut.0 (take-append_seam p _) in
     let within : length p ≤ length x = omega (arith, ap length cut.0, length-append p (concat ps)) in
     let least : length p ≤ n = fit.longest (length p) within (subst fits (sym front) (All-head fits p ps cut.1)) in
-    let r = rest-parts v l b (n - length p) ps plain (All-tail fits p ps cut.1) in
-    let left : drop n x ≡ concat r.0 = ap (λ (ys : List ℕ). drop n ys) cut.0 ∙ (behind-all n p (concat ps) least ∙ r.1.0) in
+    let r = rest-parts v l b _ ps plain (All-tail fits p ps cut.1) in
+    let left : drop n x ≡ concat r.0 = ap (λ (ys : List ℕ). drop n ys) cut.0 ∙ (behind-all n p _ least ∙ r.1.0) in
     let few = needs r.0 (left, r.1.1) in
     omega (arith, r.2)
 
@@ -218,7 +218,7 @@ pub prefixes-more : (v : ℕ) (l : Level) (b : Rule) (x : List ℕ) (n k : ℕ) 
 unfolding AreParts
 prefixes-more v l b x n k some fit many [] h = absurd (omega (arith, ap length h))
 prefixes-more v l b x n k some fit many (p ∷ ps) h =
-    let same = longest-one v b x (room_of v l) h.0 n h.2 fit in
+    let same = longest-one v b x _ h.0 n h.2 fit in
     let more = many ps (subst (λ (m : ℕ). AreParts v l b (drop m x) ps) same h.4) in
     omega arith
 

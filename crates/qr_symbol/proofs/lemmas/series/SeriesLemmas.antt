@@ -1,17 +1,18 @@
 -- An input has only one series, which is read as the input; long inputs have no series.
-use Rattle.std.proofs.Common.{◌≡◌, ℕ, suc, ◌+◌, ◌-◌, ◌*◌, ◌<◌, ◌≤◌, List, [], ◌∷◌, drop, length, None, Some, Option, refl, sym, ap, subst, arith, inl, inr}
+use Rattle.std.proofs.Common.{◌≡◌, ℕ, suc, ◌+◌, ◌-◌, ◌*◌, ◌<◌, ◌≤◌, List, [], ◌∷◌, length, None, Some, Option, refl, sym, ap, subst, arith, inl, inr}
 use Rattle.std.proofs.lemmas.List.{append-nil, take-append-drop}
 use Rattle.qr_layout.specs.declared.level.Level.{Level}
-use Rattle.qr_bits.specs.{declared.modes.Rule.Rule, declared.header.Header.Header, Parsing.Content, Header.parity_of}
 use Rattle.qr_bits.proofs.Facts.{fitting_short, empty_fits}
-use Rattle.qr_symbol.specs.{declared.symbol.Symbol.Symbol, VersionChoice.FitsVersion, VersionChoice.HasNoVersion}
-use Rattle.qr_symbol.specs.Series.{squares_of, AreParts, IsSymbolOf, AreSymbolsFrom, IsSplit, IsPlainSymbol, IsSeries}
-use Rattle.qr_symbol.specs.{Steps.Series.AreLengths, Steps.Series.parts_of, Reading.IsReading}
-use Rattle.qr_symbol.specs.Joining.{AreReadBy, bytes_of_all, HaveHeaders, IsJoined}
-use Rattle.qr_matrix.specs.Grid.{Grid}
-use Rattle.qr_symbol.proofs.lemmas.encoding.SymbolLemmas.{symbol-at-one}
-use Rattle.qr_symbol.proofs.lemmas.{reading.RoundTripLemmas.symbol-read, encoding.SymbolMakingLemmas.symbol-fits}
+use Rattle.qr_bits.specs.{Header.parity_of, Parsing.Content, declared.header.Header.Header, declared.modes.Rule.Rule}
+use Rattle.qr_symbol.proofs.lemmas.encoding.{SymbolLemmas.symbol-at-one, SymbolMakingLemmas.symbol-fits}
+use Rattle.qr_symbol.proofs.lemmas.reading.RoundTripLemmas.{symbol-read}
 use Rattle.qr_symbol.proofs.lemmas.series.PartLemmas.{parts-are, length-parts, parts-one, parts-some, parts-long}
+use Rattle.qr_symbol.specs.Joining.{AreReadBy, bytes_of_all, HaveHeaders, IsJoined}
+use Rattle.qr_symbol.specs.Reading.{IsReading}
+use Rattle.qr_symbol.specs.Series.{squares_of, AreParts, IsSymbolOf, AreSymbolsFrom, IsSplit, IsPlainSymbol, IsSeries}
+use Rattle.qr_symbol.specs.Steps.Series.{AreLengths, parts_of}
+use Rattle.qr_symbol.specs.{VersionChoice.FitsVersion, VersionChoice.HasNoVersion, declared.symbol.Symbol.Symbol}
+use Rattle.qr_matrix.specs.Grid.{Grid}
 
 -- ---- what makes a series
 
@@ -29,7 +30,7 @@ split-series x l b v ns ss long cut few made = search (arith, length-parts, part
 -- bytes have at most one symbol of a version and a level after an optional header
 pub symbol-of-one : (v : ℕ) (l : Level) (b : Rule) (x : List ℕ) (h : Option Header) (s t : Symbol) → IsSymbolOf v l b x h s → IsSymbolOf v l b x h t → s ≡ t
 symbol-of-one v l b x h s t a c =
-    let same = symbol-at-one v l b x h s.mask t.mask s.matrix t.matrix a.made c.made in
+    let same = symbol-at-one v l b x h _ _ _ _ a.made c.made in
     search arith
 
 -- parts have at most one list of symbols
@@ -68,7 +69,7 @@ symbols-read v l b last parity k x [] [] i j cut h = search arith
 symbols-read v l b last parity k x [] (s ∷ ss) i j cut h = absurd h
 symbols-read v l b last parity k x (p ∷ ps) [] i j cut h = absurd h
 symbols-read v l b last parity k x (p ∷ ps) (s ∷ ss) i j cut h =
-    let rest = symbols-read v l b last parity (k + 1) (drop cut.0 x) ps ss i j cut.4 h.1 in
+    let rest = symbols-read v l b _ _ (k + 1) _ ps ss i j cut.4 h.1 in
     let made = h.0.made in
     let content : Content = record { header = Some (record { position = k; last = last; parity = parity }); segments = made.segments; bytes = p } in
     record {
@@ -88,7 +89,7 @@ lone-joined x l b v ss i j h =
     let content : Content = record { header = None; segments = made.segments; bytes = x } in
     subst (λ (ts : List Symbol). IsJoined (squares_of ts) x) (sym h.alone) (record {
       contents = content ∷ [];
-      read = (symbol-read v l b x None s.mask s.matrix i j made, tt);
+      read = (symbol-read v l b x None _ _ i j made, tt);
       together = inl (content, refl, refl);
       joined = sym (append-nil x);
     })
@@ -96,21 +97,20 @@ lone-joined x l b v ss i j h =
 -- the symbols of parts are joined to the bytes
 split-joined : (x : List ℕ) (l : Level) (b : Rule) (v : ℕ) (ss : List Symbol) → 1 ≤ v → v ≤ 40 → IsSplit v l b x ss → IsJoined (squares_of ss) x
 split-joined x l b v ss i j h =
-    let r = symbols-read v l b (length h.parts - 1) (parity_of x) 0 x h.parts ss i j h.split h.made in
+    let r = symbols-read v l b _ _ 0 x _ ss i j h.split h.made in
     let last : length h.parts - 1 ≡ length r.contents - 1 = ap (λ (n : ℕ). n - 1) (sym r.many) in
     let headers = subst (λ (ys : List ℕ). HaveHeaders (length r.contents - 1) (parity_of ys) 0 r.contents) (sym r.bytes)
-    (subst (λ (n : ℕ). HaveHeaders n (parity_of x) 0 r.contents) last r.headers) in
-    record {
+    (subst (λ (n : ℕ). HaveHeaders n (parity_of x) 0 r.contents) last r.headers) in record {
       contents = r.contents;
       read = r.read;
-      together = inr ((let some = parts-some v l b x h.parts h.split (not-empty x l b v h.too_long) in let many = r.many in omega arith), headers);
+      together = inr ((let some = parts-some v l b x _ h.split (not-empty x l b v h.too_long) in let many = r.many in omega arith), headers);
       joined = sym r.bytes;
     }
   where
     -- what does not fit is not empty
     not-empty : (x : List ℕ) (l : Level) (b : Rule) (v : ℕ) → (FitsVersion v l b x → ⊥) → 0 < length x
     not-empty [] l b v none = absurd (none (empty_fits v b _))
-    not-empty (y ∷ x) l b v none = omega arith
+    not-empty _ l b v _ = omega arith
 
 -- a series is joined to its bytes
 pub series-joined : (x : List ℕ) (l : Level) (b : Rule) (v : ℕ) (ss : List Symbol) → 1 ≤ v → v ≤ 40 → IsSeries v l b x ss → IsJoined (squares_of ss) x

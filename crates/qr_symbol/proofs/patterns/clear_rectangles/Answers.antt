@@ -10,7 +10,7 @@ loop-rectangle-preserved c =
     let b = get_or bs n no_rectangle in
     let e = c.loop-rectangle.invariant.so_far in
     record {
-      so_far = over-item (λ b r k. is_in_rectangle r k b) bs n no_rectangle c.loop-rectangle-test.true e (over-rectangle c.loop-rectangle.matrix b.top b.bottom b.left b.right (over-side e) c.fill.ensures);
+      so_far = over-item (λ b r k. is_in_rectangle r k b) bs n _ c.loop-rectangle-test.true e (over-rectangle _ _ _ _ _ (over-side e) c.fill.ensures);
     }
 
 pub returns : goal.returns

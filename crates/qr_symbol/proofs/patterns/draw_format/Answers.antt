@@ -24,5 +24,5 @@ returns c =
     c.draw_format_bits-3.ensures ∙ square-same s (part 9 15 g2) (λ r k. format_or c.args.format (role_of v r k) (colour g0 r k)) (λ r k l m.
     let e1 : colour g1 r k ≡ part 0 6 g0 r k = ap (λ (z : Grid). colour z r k) c.draw_format_bits.ensures ∙ colour-square s (part 0 6 g0) r k l m in
     let e2 : colour g2 r k ≡ part 6 9 g1 r k = ap (λ (z : Grid). colour z r k) c.draw_format_bits-2.ensures ∙ colour-square s (part 6 9 g1) r k l m in
-    ap (format_bits_or 9 15 c.args.format (role_of v r k)) (e2 ∙ ap (format_bits_or 6 9 c.args.format (role_of v r k)) e1)
+    ap (format_bits_or 9 15 _ _) (e2 ∙ ap (format_bits_or 6 9 _ _) e1)
     ∙ three-parts v c.args.format r k (colour g0 r k))

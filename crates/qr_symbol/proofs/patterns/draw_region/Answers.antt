@@ -16,7 +16,7 @@ whole s r c = leb 0 r && ltb r s && leb 0 c && ltb c s
 -- at first the whole square is dark
 all-dark : (c : After-fill) → IsOver (side_of c.args.v) (whole c.side-side.result) (λ _ _. true) (colour
     c.args.matrix.now) c.fill.new.self
-all-dark c = over-rectangle c.args.matrix.now 0 c.side-side.result 0 c.side-side.result (ap (λ (g : Grid). g.side) c.requires) c.fill.ensures
+all-dark c = over-rectangle _ 0 _ 0 _ (ap (λ (g : Grid). g.side) c.requires) c.fill.ensures
 
 pub clear_rectangles-requires : goal.clear_rectangles-requires
 clear_rectangles-requires c = record {

@@ -1,4 +1,4 @@
-use Rattle.std.proofs.Common.{◌+◌, ap}
+use Rattle.std.proofs.Common.{ap}
 use Rattle.qr_matrix.specs.Grid.{Grid}
 use Rattle.qr_symbol.proofs.lemmas.patterns.FinderLemmas.{block-paint}
 use Rattle.qr_symbol.proofs.lemmas.patterns.PaintLemmas.{over-rectangle, over-side, over-sized}
@@ -9,7 +9,7 @@ returns c = λ format.
     let q = c.requires in
     let at = c.args.centre in
     let block = c.args.block in
-    let e = over-rectangle c.args.matrix.now block.row (block.row + 8) block.col (block.col + 8) (ap (λ (g : Grid). g.side) q.square) c.fill.ensures in
+    let e = over-rectangle _ _ _ _ _ (ap (λ (g : Grid). g.side) q.square) c.fill.ensures in
     let d = over-sized (over-side e) c.draw_finder.ensures in
     record {
       square = d.square;

@@ -31,9 +31,9 @@ loop-rank-preserved c =
     record {
       from = omega (arith, i.from);
       few = omega (arith, one.ensures.few, two.ensures.few, i.few, i.from);
-      number = λ first. row-number v x first k (number_at v x first p) c.loop-rank.taken one.result two.result row _ _ r at.0 at.1 (i.number first) one.ensures.taken two.ensures.taken;
+      number = λ first. row-number v x first k (number_at v x _ p) c.loop-rank.taken one.result two.result row _ _ r at.0 at.1 (i.number first) one.ensures.taken two.ensures.taken;
       drawn = λ cw first next.
-          let row = row-drawn row (number_at v x first p) c.loop-rank.taken one.result c.args.bits _ _ r at.0 at.1 (i.number first) one.ensures.taken
+          let row = row-drawn row _ _ _ _ _ _ r at.0 at.1 (i.number first) one.ensures.taken
           (omega (arith, i.few, i.from, c.loop-rank-test.true, c.requires.few)) (omega (arith, one.ensures.few, i.few, i.from, c.loop-rank-test.true, c.requires.few)) next
           one.ensures.column two.ensures.column in
           rows-drawn (i.drawn cw first next) row (omega (arith, i.from)) (omega (arith, i.from)) (omega arith);

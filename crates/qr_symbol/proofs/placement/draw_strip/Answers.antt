@@ -11,8 +11,8 @@ use Rattle.qr_symbol.proofs.placement.draw_strip.Goals.{then-upward, else-upward
 -- exactly the bits of the region are set in the columns of its square
 is-region : (c : After-with_light_region-columns) → IsRegion c.args.v c.args.strip.right c.columns_of-within.result
 is-region c row l = (
-  c.columns_of-within.ensures.right row ∙ region-across c.args.v c.args.region.now row c.args.strip.right c.requires.region l c.requires.right_in,
-  c.columns_of-within.ensures.left row ∙ region-across c.args.v c.args.region.now row (c.args.strip.right - 1) c.requires.region l (omega (arith, c.requires.right_in)),
+  c.columns_of-within.ensures.right row ∙ region-across _ _ row _ c.requires.region l c.requires.right_in,
+  c.columns_of-within.ensures.left row ∙ region-across _ _ row _ c.requires.region l (omega (arith, c.requires.right_in)),
 )
 
 pub draw_columns-next-requires-clause-region : goal.draw_columns-next-requires-clause-region
@@ -23,7 +23,7 @@ draw_columns-next-requires-else-upward-clause-region c = is-region (goal.at.draw
 
 pub draw_columns-next-requires-clause-light : goal.draw_columns-next-requires-clause-light
 draw_columns-next-requires-clause-light c = λ rank k l.
-    let light = c.with_light_region-columns.ensures in (cleared-light _ _ _ (light.right (side_of c.args.v - 1 - rank)), cleared-light _ _ _ (light.left (side_of c.args.v - 1 - rank)))
+    let light = c.with_light_region-columns.ensures in (cleared-light _ _ _ (light.right (side_of _ - 1 - rank)), cleared-light _ _ _ (light.left (side_of _ - 1 - rank)))
 
 pub draw_columns-next-requires-else-upward-clause-light : goal.draw_columns-next-requires-else-upward-clause-light
 draw_columns-next-requires-else-upward-clause-light c = λ rank k l.

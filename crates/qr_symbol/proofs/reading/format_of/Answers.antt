@@ -17,11 +17,10 @@ every g none Q = none 2 (omega arith)
 every g none H = none 3 (omega arith)
 
 pub loop-level-preserved : goal.loop-level-preserved
-loop-level-preserved c = λ k less mask f.
-    elim (cases_lt k c.loop-level.level-index) [
-      | inl l ↦ c.loop-level.invariant k l mask f
-      | inr l ↦ let e : k ≡ c.loop-level.level-index = omega arith in c.in_default.ensures mask (subst (λ (i : ℕ). IsFormat c.args.matrix.now (level i) mask) e f)
-    ]
+loop-level-preserved c = λ k less mask f. elim (cases_lt k _) [
+  | inl l ↦ c.loop-level.invariant k l mask f
+  | inr l ↦ let e : k ≡ c.loop-level.level-index = omega arith in c.in_default.ensures mask (subst (λ (i : ℕ). IsFormat c.args.matrix.now (level i) mask) e f)
+]
 
 pub returns : goal.returns
 returns c = every c.args.matrix.now (λ k l. c.loop-level.invariant k (omega (arith, c.loop-level-test.false)))

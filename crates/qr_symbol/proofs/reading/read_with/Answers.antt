@@ -10,7 +10,7 @@ returns-in_err-message c =
     let v = c.args.version in
     let g = c.args.matrix.now in
     let p = err_from_is_err_and c.from_residual-in_err-message.result c.from_residual-in_err-message.ensures.1 in
-    rw (p.1, p.2) (not-checked g v c.args.level c.args.mask c.deref.result.now c.in_err-message.field-0.0 (record { least = omega arith; most = omega arith; side = c.requires.side }) c.requires.format
+    rw (p.1, p.2) (not-checked g v _ _ _ _ (record { least = omega arith; most = omega arith; side = c.requires.side }) c.requires.format
     (subst (IsRead v c.args.mask g) (sym c.deref.ensures.value) c.in_ok-codewords.ensures.read) c.in_err-message.ensures.fault
     (λ e d n h. (c.in_err-message.ensures.check.0 (ap (λ (f : ReadFault). Err f) e)).1 d (n, h)))
 
@@ -33,5 +33,5 @@ returns-in_err-parse c =
       many = c.in_ok-message.ensures.many;
       interleaved = c.in_ok-message.ensures.read;
     } in
-    rw (p.1, p.2) (not-parsed g v l mask c.deref-2.result.now c.in_err-parse.field-0.0 (record { least = omega arith; most = omega arith; side = c.requires.side }) c.requires.format
+    rw (p.1, p.2) (not-parsed g v l _ _ _ (record { least = omega arith; most = omega arith; side = c.requires.side }) c.requires.format
     (subst (IsMessage v l mask g) (sym c.deref-2.ensures.value) holds) c.in_err-parse.ensures)

@@ -5,9 +5,8 @@ use Rattle.qr_symbol.proofs.lemmas.series.PartLemmas.{lengths-none, lengths-more
 use Rattle.qr_symbol.proofs.series.part_lengths.Goals as goal
 
 pub returns-then-is_full-clause-too_many : goal.returns-then-is_full-clause-too_many
-returns-then-is_full-clause-too_many c =
-    λ _ parts is.
-    let full = eqb-true (length c.loop-rest.lengths.items) _ (sym c.is_full.ensures.value ∙ c.if-is_full.true) in
+returns-then-is_full-clause-too_many c = λ _ parts is.
+    let full = eqb-true _ _ (sym c.is_full.ensures.value ∙ c.if-is_full.true) in
     let some : 0 < length c.loop-rest.rest.now = grind (arith, nat_tests) in
     let more = c.loop-rest.invariant.parts 1 (λ qs cut. parts-some c.args.version c.args.level c.args.rule c.loop-rest.rest.now qs cut some) parts is in
     omega arith
@@ -25,9 +24,9 @@ loop-rest-preserved c =
     let less = length-drop n rest in
     rw (c.push.ensures.items, c.split_at.ensures.back) (record {
       short = omega (arith, inv.short);
-      lengths = lengths-more v l b c.args.input.now found rest n c.in_ok-len.ensures.some c.in_ok-len.ensures.longest inv.lengths;
+      lengths = lengths-more v l b _ _ _ n c.in_ok-len.ensures.some c.in_ok-len.ensures.longest inv.lengths;
       parts = λ k many ps is.
-          let more = inv.parts (k + 1) (prefixes-more v l b rest n k some c.in_ok-len.ensures.longest many) ps is in
+          let more = inv.parts (k + 1) (prefixes-more v l b _ n k some c.in_ok-len.ensures.longest many) ps is in
           omega (arith, length-append found (n ∷ []));
     })
 
@@ -37,5 +36,5 @@ returns-clause-parts c =
     let l = c.args.level in
     let b = c.args.rule in
     let found = c.loop-rest.lengths.items in
-    let none = nil_from_length c.loop-rest.rest.now (eqb-true (length c.loop-rest.rest.now) 0 (sym c.is_empty.ensures ∙ c.loop-rest-test.false)) in
+    let none = nil_from_length _ (eqb-true _ 0 (sym c.is_empty.ensures ∙ c.loop-rest-test.false)) in
     rw append-nil at (c.loop-rest.invariant.lengths [] (rw none (lengths-none v l b)))

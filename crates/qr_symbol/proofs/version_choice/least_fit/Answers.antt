@@ -38,13 +38,13 @@ returns-in-Some-clause-version c =
     let found = c.in-Some.ensures in
     let same = c.last_of_width-last.ensures.same in
     let many : c.bit_len.result ≡ bits u segs = c.bit_len.ensures ∙ ap (bits u) c.deref.ensures.value in
-    version-found c.args.input.now c.args.level c.args.smallest c.args.rule u v segs c.loop-segments.invariant.from found.0 (omega arith) c.loop-segments.invariant.none
+    version-found _ _ _ _ u v _ c.loop-segments.invariant.from found.0 (omega arith) c.loop-segments.invariant.none
     (λ w i j. same w i (omega arith)) c.in_ok-segments.ensures.ok (λ w i j. let less = found.3 w i j in omega arith) (omega arith)
 
 pub returns-in-Some-clause-segments : goal.returns-in-Some-clause-segments
 returns-in-Some-clause-segments c =
     let same = c.last_of_width-last.ensures.same c.in-Some.version c.in-Some.ensures.0 c.in-Some.ensures.1 in
-    segmentation-same c.loop-segments.first c.in-Some.version c.args.rule c.args.input.now c.in_ok-segments.segments.items (λ m. sym (same m)) c.in_ok-segments.ensures.ok
+    segmentation-same _ _ _ _ _ (λ m. sym (same m)) c.in_ok-segments.ensures.ok
 
 pub returns-in-None-clause-too_long : goal.returns-in-None-clause-too_long
 returns-in-None-clause-too_long c =

@@ -13,17 +13,17 @@ set_masked-requires-clause-square c =
 
 pub draw_format-requires : goal.draw_format-requires
 draw_format-requires c =
-    let f = λ (r k : ℕ). inverted (colour c.args.self.now.region r k && inverts c.args.mask r k) (colour c.args.self.now.plain r k) in
+    let f = λ (r k : ℕ). inverted (colour _ r k && inverts c.args.mask r k) (colour _ r k) in
     let side : c.args.matrix.now.side ≡ side_of c.args.self.now.version = ap (λ (g : Grid). g.side) c.requires.square in
-    square-is (side_of c.args.self.now.version) f c.set_masked.new.matrix (c.set_masked.ensures ∙ ap (λ s. square s f) side)
+    square-is _ f _ (c.set_masked.ensures ∙ ap (λ s. square s f) side)
 
 pub returns : goal.returns
 unfolding masked_colour
 returns c =
-    let f = λ (r k : ℕ). inverted (colour c.args.self.now.region r k && inverts c.args.mask r k) (colour c.args.self.now.plain r k) in
+    let f = λ (r k : ℕ). inverted (colour _ r k && inverts c.args.mask r k) (colour _ r k) in
     let s = side_of c.args.self.now.version in
     let side : c.args.matrix.now.side ≡ s = ap (λ (g : Grid). g.side) c.requires.square in
     let drawn : c.set_masked.new.matrix ≡ square s f = c.set_masked.ensures ∙ ap (λ s. square s f) side in
     let w : c.from-format.result ≡ format_word_of c.args.self.now.level c.args.mask = c.from-format.ensures ∙ c.format_word.ensures in
-    c.draw_format.ensures ∙ square-same s (λ r k. format_or c.from-format.result (role_of c.args.self.now.version r k) (colour c.set_masked.new.matrix r k)) (masked_colour c.args.self.now.version (format_word_of c.args.self.now.level c.args.mask) c.args.mask c.args.self.now.region c.args.self.now.plain) (λ r k l m.
+    c.draw_format.ensures ∙ square-same s (λ r k. format_or c.from-format.result (role_of c.args.self.now.version r k) (colour _ r k)) _ (λ r k l m.
     ap (λ (z : ℕ). format_or z (role_of c.args.self.now.version r k) (colour c.set_masked.new.matrix r k)) w ∙ ap (format_or (format_word_of c.args.self.now.level c.args.mask) (role_of c.args.self.now.version r k)) (ap (λ (g : Grid). colour g r k) drawn ∙ colour-square s f r k l m))

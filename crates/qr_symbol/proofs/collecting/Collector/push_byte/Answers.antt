@@ -21,4 +21,4 @@ returns c =
     let n = 256 * c.from.result + c.from-2.result in
     let e : n ≡ 256 * w.rest + c.args.byte = omega (arith, c.from.ensures, c.from-2.ensures) in
     rw (power-fits w.width 7 65536 (omega (arith, c.self.invariant.0)) (omega arith))
-    (rw (← c.self.view_is) (rw c.in_ok-push.ensures.items (byte-behind w.whole.items w.width w.rest c.args.byte n (omega (arith, c.ranges.byte.fits)) e)))
+    (rw (← c.self.view_is) (rw c.in_ok-push.ensures.items (byte-behind _ _ _ _ n (omega (arith, c.ranges.byte.fits)) e)))
