@@ -1,38 +1,24 @@
 -- The function patterns of a canvas, which stay while the codewords of one symbol after another are drawn.
-use Rattle.std.proofs.Common.{◌≡◌, ℕ, ◌<◌, ◌≤◌, Bool, true, false, cond, eqb, List, refl, ◌∙◌, arith}
+use Rattle.std.proofs.Common.{◌≡◌, ℕ, ◌<◌, ◌≤◌, true, cond, eqb, List, refl, ◌∙◌, arith}
 use Rattle.qr_layout.proofs.Facts.{below, below-at, region-symmetric, role-symmetric}
 use Rattle.qr_layout.specs.{Region.is_in_region, Version.side_of}
-use Rattle.qr_matrix.proofs.Facts.{square-same, colour-square, colour-transposed}
-use Rattle.qr_matrix.specs.{BitRow.has_bit, Grid.Grid, Grid.square, Grid.colour, Grid.transposed}
+use Rattle.qr_matrix.proofs.Facts.{same-same, square-same, colour-square, colour-transposed}
+use Rattle.qr_matrix.specs.{BitRow.has_bit, Grid.is_same, Grid.Grid, Grid.square, Grid.colour, Grid.transposed}
 use Rattle.qr_symbol.specs.Steps.Canvas.{HasPatterns}
 use Rattle.qr_symbol.specs.Steps.Placement.{placed_colour, plain_grid}
 use Rattle.qr_symbol.specs.Steps.Patterns.{fixed_colour, paint_of, symmetric_format}
 use Rattle.qr_symbol.proofs.lemmas.placement.PlacementLemmas.{by_test, inside, outside, square-is}
 
--- two truth values are equal
-alike : Bool → Bool → Bool
-alike true b = b
-alike false true = false
-alike false false = true
-
--- what their test means
-alike-same : (a b : Bool) → alike a b ≡ true → a ≡ b
-unfolding alike
-alike-same true true h = refl
-alike-same true false h = cc
-alike-same false true h = cc
-alike-same false false h = refl
-
 -- just bit 7 of the symmetric format information is 1, computed
-just-seven : below 15 (λ i. alike (has_bit symmetric_format i) (eqb i 7)) ≡ true
-unfolding alike has_bit
+just-seven : below 15 (λ i. is_same (has_bit symmetric_format i) (eqb i 7)) ≡ true
+unfolding has_bit
 just-seven = refl
 
 -- the colours outside the encoding region are the same with row and column exchanged
 paint-symmetric : (v r c : ℕ) → 1 ≤ v → r < side_of v → c < side_of v → paint_of v symmetric_format r c ≡ paint_of v symmetric_format c r
 unfolding fixed_colour
 paint-symmetric v r c l h k =
-    role-symmetric (fixed_colour _ _) v r c l h k (λ i m. alike-same _ _ (below-at 15 (λ i. alike (has_bit symmetric_format i) (eqb i 7)) just-seven i m))
+    role-symmetric (fixed_colour _ _) v r c l h k (λ i m. same-same _ _ (below-at 15 (λ i. is_same (has_bit symmetric_format i) (eqb i 7)) just-seven i m))
 
 -- a square on which the function patterns are drawn has them
 pub patterns-start : (v : ℕ) (g h : Grid) → h ≡ square (side_of v) (λ r c. cond (is_in_region v r c) (colour g r c) (paint_of v symmetric_format r c)) → HasPatterns v h

@@ -42,10 +42,6 @@ pub strip-bits : (v s : ℕ) (g : Grid) (x : Strip) (r y : Columns) (k n : ℕ) 
 strip-bits v s g x r y k zero l a b c d = refl
 strip-bits v s g x r y k (suc n) l a b c d =
     search (arith, at, append_assoc, kept-bit, strip-bits v s g x r y (k + 1) n (omega arith) a b c d)
-  where
-    row-in : (up : Bool) → k < s → cond up (s - 1 - k) k < s
-    row-in true m = omega arith
-    row-in false m = m
 
 -- the bits of one strip more
 pub strip-read : (v s : ℕ) (f : Module → Bool) (xs : List Strip) (x : Strip) (a b : List Bool) → a ≡ map f (in_region_of v (places_of s xs)) → b ≡ a ++ map f (in_region_of v (both_of (rows_from s x 0 s)))

@@ -1,13 +1,14 @@
 -- The tables that spread the four modules of a column over a byte.
-use Rattle.std.proofs.Common.{◌≡◌, ℕ, ◌+◌, ◌-◌, ◌*◌, ◌/◌, ◌%◌, ◌^◌, ◌<◌, ◌≤◌, Bool, true, false, cond, ltb, ◌&&◌, ◌==◌, eqb, get_or, List, [], ◌∷◌, ◌++◌, refl, sym, ◌∙◌, ap, arith}
+use Rattle.std.proofs.lemmas.Bool.Decides.{nat_tests}
+use Rattle.std.proofs.Common.{◌≡◌, ℕ, ◌+◌, ◌-◌, ◌*◌, ◌/◌, ◌%◌, ◌^◌, ◌<◌, ◌≤◌, Bool, true, cond, ltb, ◌&&◌, ◌==◌, eqb, get_or, List, [], ◌∷◌, ◌++◌, refl, sym, ◌∙◌, ap, arith}
 use borrow.Author.Tests.{ltb-true}
 use Rattle.qr_layout.specs.declared.strips.Strip.{Strip}
 use Rattle.qr_bits.specs.Bits.{field}
-use Rattle.qr_matrix.specs.{BitRow.has, BitRow.has_bit, Grid.is_same, Sums.all_below}
 use Rattle.qr_matrix.proofs.Facts.{below-at, same-same, &&-left, &&-right}
-use Rattle.qr_symbol.specs.declared.{collecting.TheConstants.SPREADS, placement.Columns.Columns}
-use Rattle.qr_symbol.specs.Steps.{Collecting.bits_in_rows, Placement.row_of}
+use Rattle.qr_matrix.specs.{BitRow.has, BitRow.has_bit, Grid.is_same, Sums.all_below}
 use Rattle.qr_symbol.proofs.lemmas.placement.ColumnLemmas.{rank_of}
+use Rattle.qr_symbol.specs.Steps.{Collecting.bits_in_rows, Placement.row_of}
+use Rattle.qr_symbol.specs.declared.{collecting.TheConstants.SPREADS, placement.Columns.Columns}
 
 -- the table's entry for a direction and four modules
 abbrev pub spread : ℕ → ℕ → ℕ
@@ -78,8 +79,7 @@ whole-bits s x r y k t u =
 
 -- row i of four rows, in the order in which they are filled, by its index from the top
 row-of-rank : (up : Bool) (s k i : ℕ) → k + 4 ≤ s → i < 4 → cond up (s - 4 - k) k + rank_of up i ≡ cond up (s - 1 - (k + i)) (k + i)
-row-of-rank true s k i l m = omega arith
-row-of-rank false s k i l m = refl
+row-of-rank up s k i l m = grind (arith, nat_tests)
 
 -- four rows whose modules are all in the encoding region are read at once
 pub four-read : (s u : ℕ) (x : Strip) (r y : Columns) (k top a b : ℕ) → u < 2 → a < 16 → b < 16 → eqb u 1 ≡ x.upward → k + 4 ≤ s → top ≡ cond x.upward (s - 4 - k) k
@@ -98,5 +98,4 @@ four-read s u x r y k top a b ul al bl e room is-top t w p q =
     ∙ (cc (right 0 (omega arith), left 0 (omega arith), right 1 (omega arith), left 1 (omega arith), right 2 (omega arith), left 2 (omega arith), right 3 (omega arith), left 3 (omega arith)) ∙ sym all)
   where
     rank-in : (up : Bool) (i : ℕ) → i < 4 → rank_of up i < 4
-    rank-in true i l = omega arith
-    rank-in false i l = l
+    rank-in up i l = grind (arith, nat_tests)

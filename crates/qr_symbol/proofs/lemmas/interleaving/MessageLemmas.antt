@@ -27,13 +27,8 @@ final-one b d xs ys h k =
 -- two equal joined lists with first parts of the same length are equal part by part
 pub append-front : {X : Type 0} (xs ys us vs : List X) → length xs ≡ length ys → xs ++ us ≡ ys ++ vs → (xs ≡ ys) × (us ≡ vs)
 append-front [] [] us vs n e = (refl, e)
-append-front [] (y ∷ ys) us vs n e = absurd (omega arith)
-append-front (x ∷ xs) [] us vs n e = absurd (omega arith)
-append-front (x ∷ xs) (y ∷ ys) us vs n e =
-    let h : x ≡ y = cc in
-    let t : xs ++ us ≡ ys ++ vs = cc in
-    let w = append-front xs ys us vs (omega arith) t in
-    (λ i. h i ∷ w.0 i, w.1)
+append-front (x ∷ xs) (y ∷ ys) us vs n e = let w = append-front xs ys us vs (omega arith) cc in (cc, w.1)
+append-front xs ys us vs n e = absurd (omega arith)
 
 -- a sequence is the final sequence of at most one list of data codewords
 pub data-one : (b : Blocks) (d e cw : List ℕ) → length d ≡ codeword_count (data_sizes b) → length e ≡ codeword_count (data_sizes b) → IsFinalMessage b d cw → IsFinalMessage b e cw → d ≡ e

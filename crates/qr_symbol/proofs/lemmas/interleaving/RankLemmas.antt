@@ -79,10 +79,7 @@ All-rec P (x ∷ xs) h = (h 0 x (omega arith), All-rec P xs (λ k d l. h (suc k)
 
 -- of two positions, at most one comes before the other
 asym : (t u : Position) → ComesBefore t u → ComesBefore u t → ⊥
-asym t u (inl h) (inl k) = absurd (omega arith)
-asym t u (inl h) (inr k) = absurd (let e = k.0 in omega arith)
-asym t u (inr h) (inl k) = absurd (let e = h.0 in omega arith)
-asym t u (inr h) (inr k) = absurd (let a = h.1 in let b = k.1 in omega arith)
+asym t u h k = search arith
 
 -- blocks have only one order of positions
 pub positions-one : (c : BlockSizes) (ts us : List Position) → IsPositionOrder c ts → IsPositionOrder c us → ts ≡ us

@@ -114,9 +114,7 @@ outside-kept v r c format w k h = kept _ (λ i q. far i (format-only v _ i q))
     ]
 
     kept : (q : Role) → ((i : ℕ) → q ≡ FormatBit i → ⊥) → format_or format q w ≡ w
-    kept (Fixed _) f = refl
     kept (FormatBit i) f = absurd (f i refl)
-    kept (VersionBit i) f = refl
     kept _ f = refl
 
 -- the format information completes the corners

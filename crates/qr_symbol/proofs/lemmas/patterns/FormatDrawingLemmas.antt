@@ -2,9 +2,8 @@
 use Rattle.std.proofs.Common.{◌≡◌, ℕ, ◌+◌, ◌<◌, ◌≤◌, Bool, true, false, cond, ltb, leb, ◌&&◌, ◌||◌, refl, sym, ◌∙◌, ap, inl, inr, arith}
 use Rattle.std.proofs.lemmas.Bool.Decides.{nat_tests}
 use Rattle.qr_layout.proofs.Facts.{format-only, format-first, format-second}
-use Rattle.qr_layout.specs.Role.{role_of, first_place, second_place}
-use Rattle.qr_layout.specs.{Version.side_of, declared.region.Module.Module, declared.role.Role.Role}
-use Rattle.qr_layout.specs.declared.role.Role.TheVariants.{Fixed, FormatBit, VersionBit, Region}
+use Rattle.qr_layout.specs.{Role.role_of, Role.first_place, Role.second_place, Version.side_of}
+use Rattle.qr_layout.specs.declared.{region.Module.Module, role.Role.Role, role.Role.TheVariants.FormatBit}
 use Rattle.qr_matrix.proofs.Facts.{same-place, square-same, colour-painted-here, colour-painted-there}
 use Rattle.qr_matrix.specs.{BitRow.has_bit, Grid.Grid, Grid.square, Grid.colour, Grid.painted, Grid.IsSquare}
 use Rattle.qr_symbol.specs.Steps.Patterns.{format_bits_or, format_or}
@@ -20,9 +19,7 @@ unfolding format_bits_or
 format-start v format first g r c l m = none _
   where
     none : (q : Role) → colour g r c ≡ format_bits_or first first format q (colour g r c)
-    none (Fixed _) = refl
     none (FormatBit i) = let e : (leb first i && ltb i first) ≡ false = grind (arith, nat_tests) in ap (λ z. cond z (has_bit format i) (colour g r c)) (sym e)
-    none (VersionBit i) = refl
     none _ = refl
 
 -- once bit n is drawn, a module that holds it has its colour
@@ -33,10 +30,8 @@ bit-drawn first n format q other d k e f = search arith
 -- drawing bit n does not change a module that does not hold it
 bit-kept : (first n format : ℕ) (q : Role) (other : Bool) → (q ≡ FormatBit n → ⊥) → format_bits_or first n format q other ≡ format_bits_or first (n + 1) format q other
 unfolding format_bits_or
-bit-kept first n format (Fixed dark) other o = refl
 bit-kept first n format (FormatBit i) other o = search arith
-bit-kept first n format (VersionBit i) other o = refl
-bit-kept first n format Region other o = refl
+bit-kept first n format q other o = refl
 
 -- one bit is drawn at its two places
 pub format-step : (v format first i : ℕ) (g0 g : Grid) (a b : Module) (d : Bool) → 1 ≤ v → v ≤ 40 → first ≤ i → i < 15 → g.side ≡ side_of v
@@ -72,10 +67,8 @@ three-parts v format r c other = parts _ (λ i q. (format-only v (at r c) i q).0
     one false _ false x y e = cc
 
     parts : (q : Role) → ((i : ℕ) → q ≡ FormatBit i → i < 15) → format_bits_or 9 15 format q (format_bits_or 6 9 format q (format_bits_or 0 6 format q other)) ≡ format_or format q other
-    parts (Fixed _) f = refl
     parts (FormatBit i) f =
         let l = f i refl in
         let t : (((leb 0 i && ltb i 6) || (leb 6 i && ltb i 9)) || (leb 9 i && ltb i 15)) ≡ true = grind (arith, nat_tests) in
         one (leb 0 i && ltb i 6) _ (leb 9 i && ltb i 15) _ other t
-    parts (VersionBit i) f = refl
     parts _ f = refl

@@ -1,13 +1,13 @@
 -- Drawing in the transposed square, where the two columns of a strip are rows.
-use Rattle.std.proofs.Common.{◌≡◌, ℕ, ◌-◌, ◌<◌, ◌≤◌, Bool, true, false, not, cond, eqb, ◌&&◌, List, refl, ◌∙◌, ap, arith}
+use Rattle.std.proofs.Common.{◌≡◌, ℕ, ◌-◌, ◌<◌, ◌≤◌, Bool, not, cond, eqb, ◌&&◌, List, refl, ◌∙◌, ap, arith}
 use Rattle.std.proofs.lemmas.Bool.Decides.{nat_tests}
-use Rattle.qr_layout.specs.{declared.strips.Strip.Strip, Region.is_in_region, Version.side_of}
 use Rattle.qr_layout.proofs.Facts.{region-symmetric}
-use Rattle.qr_matrix.specs.{BitRow.has, Grid.Grid, Grid.square, Grid.colour, Grid.with_row, Grid.IsSquare}
-use Rattle.qr_matrix.proofs.Facts.{colour-square}
+use Rattle.qr_layout.specs.{Region.is_in_region, Version.side_of, declared.strips.Strip.Strip}
+use Rattle.qr_matrix.{proofs.Facts.colour-square, specs.BitRow.has}
+use Rattle.qr_matrix.specs.Grid.{Grid, square, colour, with_row, IsSquare}
+use Rattle.qr_symbol.proofs.lemmas.placement.{ColumnLemmas.row-small, PlacementLemmas.square-is}
 use Rattle.qr_symbol.specs.Steps.Placement.{number_at, region_grid, row_of, AreDrawn, IsStripDrawn}
 use Rattle.qr_symbol.specs.declared.placement.Columns.{Columns}
-use Rattle.qr_symbol.proofs.lemmas.placement.{ColumnLemmas.row-small, PlacementLemmas.square-is}
 
 -- the square of the encoding region, read with row and column exchanged, says whether a place is in the region
 pub region-across : (v : ℕ) (g : Grid) (row col : ℕ) → g ≡ region_grid v → row < side_of v → col < side_of v → colour g col row ≡ is_in_region v row col
@@ -28,9 +28,7 @@ two-colours g a b f h r c l m n = rw (two-rows g a b f h r c l m) (λ e. grind (
 
 -- a module in the region gets its bit also if it was made light before
 drawn-light : (t p q w z : Bool) → z ≡ cond t w q → q ≡ (p && not t) → z ≡ cond t w p
-drawn-light true p q w z e f = e
-drawn-light false true q w z e f = e ∙ f
-drawn-light false false q w z e f = e ∙ f
+drawn-light t p q w z e f = grind (arith, nat_tests)
 
 -- a strip is drawn if its columns are drawn, in which the region was made light before
 pub strip-drawn : (v : ℕ) (cw : List ℕ) (x : Strip) (first next : ℕ) (g h : Grid) (old new : Columns)

@@ -1,7 +1,7 @@
 -- The columns of a strip, held apart from the square in which they are two rows.
-use Rattle.std.proofs.Common.{◌≡◌, ℕ, zero, suc, ◌+◌, ◌-◌, ◌*◌, ◌<◌, ◌≤◌, Bool, true, false, cond, eqb, ◌&&◌, List, refl, inl, inr, add-one, arith}
-use Rattle.std.proofs.lemmas.Bool.{Decides.nat_tests, cases_lt}
-use Rattle.qr_layout.specs.{declared.strips.Strip.Strip, Region.is_in_region, Version.side_of}
+use Rattle.std.proofs.Common.{◌≡◌, ℕ, zero, suc, ◌+◌, ◌-◌, ◌*◌, ◌<◌, ◌≤◌, Bool, true, cond, eqb, ◌&&◌, List, inl, inr, add-one, arith}
+use Rattle.std.proofs.lemmas.Bool.{cases_lt, Decides.nat_tests}
+use Rattle.qr_layout.specs.{Region.is_in_region, Version.side_of, declared.strips.Strip.Strip}
 use Rattle.qr_matrix.specs.BitRow.{has, has_bit}
 use Rattle.qr_symbol.specs.Steps.Placement.{number_after, number_at, row_of, AreDrawn, AreNext}
 use Rattle.qr_symbol.specs.declared.placement.Columns.{Columns}
@@ -10,25 +10,15 @@ use Rattle.qr_symbol.specs.declared.placement.Columns.{Columns}
 
 -- two different indices are two different rows
 pub rows-apart : (x : Strip) (s j k : ℕ) → j < s → k < j → row_of s x j ≡ row_of s x k → ⊥
-rows-apart x s j k l m e = told x.upward e
-  where
-    told : (up : Bool) → cond up (s - 1 - j) j ≡ cond up (s - 1 - k) k → ⊥
-    told true e = omega arith
-    told false e = omega arith
+rows-apart x s j k l m e = grind (arith, nat_tests)
 
 -- a row of the strip is a row of the symbol, and has its own index as the row of that index
 pub row-small : (x : Strip) (s k : ℕ) → k < s → (row_of s x k < s) × (row_of s x (row_of s x k) ≡ k)
-row-small x s k l = told x.upward
-  where
-    told : (up : Bool) → (cond up (s - 1 - k) k < s) × (cond up (s - 1 - cond up (s - 1 - k) k) (cond up (s - 1 - k) k)
-        ≡ k)
-    told true = (omega arith, omega arith)
-    told false = (l, refl)
+row-small x s k l = (grind (arith, nat_tests), grind (arith, nat_tests))
 
 -- the number of the next bit after a module that may or may not be in the encoding region
 after-plus : (t : Bool) (n k m : ℕ) → m ≡ number_after t k → n + m ≡ number_after t (n + k)
-after-plus true n k m e = omega arith
-after-plus false n k m e = omega arith
+after-plus t n k m e = grind (arith, nat_tests)
 
 -- one more row takes the bits of its two modules
 pub row-number : (v : ℕ) (x : Strip) (first k n taken one two row : ℕ) (t u : Bool) → row ≡ row_of (side_of v) x k

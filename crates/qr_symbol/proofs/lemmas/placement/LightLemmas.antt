@@ -10,15 +10,11 @@ use Rattle.qr_symbol.proofs.lemmas.placement.ColumnLemmas.{number-whole, rank_of
 
 -- a bit that is unset where another bit is set
 pub cleared : (p q : Bool) → not (is_same p (p && q)) ≡ (p && not q)
-cleared true true = refl
-cleared true false = refl
-cleared false q = refl
+cleared p q = grind (arith, nat_tests)
 
 -- a module of the region is light after the region was made light
 pub cleared-light : (p q z : Bool) → z ≡ (p && not q) → (q && z) ≡ false
-cleared-light true true z e = e
-cleared-light false true z e = e
-cleared-light p false z e = refl
+cleared-light p q z e = grind (arith, nat_tests)
 
 -- ---- rows that are still to be drawn
 
@@ -42,12 +38,7 @@ kept-within {v} {x = x} d within row l =
 four-row : (x : Strip) (s k top m : ℕ) → k + 4 ≤ s → top ≡ cond x.upward (s - 4 - k) k → m < 4
     → (row_of s x (k + m) ≡ top + rank_of x.upward m) × (rank_of x.upward m < 4) × (rank_of x.upward (rank_of x.upward
     m) ≡ m)
-four-row x s k top m room = told x.upward
-  where
-    told : (up : Bool) → top ≡ cond up (s - 4 - k) k → m < 4 → (cond up (s - 1 - (k + m)) (k + m) ≡ top + rank_of up m)
-        × (rank_of up m < 4) × (rank_of up (rank_of up m) ≡ m)
-    told true e l = (omega arith, omega arith, omega arith)
-    told false e l = (omega arith, l, refl)
+four-row x s k top m room e l = (grind (arith, nat_tests), grind (arith, nat_tests), grind (arith, nat_tests))
 
 -- a row between these, by its rank
 from-top : (x : Strip) (s k top i : ℕ) → k + 4 ≤ s → top ≡ cond x.upward (s - 4 - k) k → top ≤ i → i < top + 4

@@ -1,18 +1,19 @@
 -- Drawing along the walk: every place that the walk has passed, or never reaches, has its final colour.
 use Rattle.std.proofs.Common.{◌≡◌, ℕ, zero, suc, ◌+◌, ◌-◌, ◌⊎◌, ◌<◌, ◌≤◌, Bool, true, false, cond, nat_eq, ◌&&◌, List, [], ◌∷◌, ◌++◌, length, length-append, refl, sym, ◌∙◌, ap, inl, inr, subst, append_assoc, append-nil, arith}
 use Rattle.std.proofs.lemmas.Bool.{cases_eq}
-use Rattle.qr_layout.specs.declared.{level.Level.Level, region.Module.Module, role.Role.Role}
-use Rattle.qr_layout.specs.declared.role.Role.TheVariants.{Fixed, FormatBit, VersionBit, Region}
-use Rattle.qr_layout.specs.{Version.side_of, Format.format_word_of, Format.version_word_of, Region.is_in_region}
-use Rattle.qr_layout.specs.{Role.role_of, Order.IsOrder, Order.in_region_of, Order.number_of}
-use Rattle.qr_layout.specs.{Strips.both_of, Strips.rows_from, declared.strips.Strip.Strip}
 use Rattle.qr_layout.proofs.Facts.{Mem, order-has, order-mem, order-small, number-at, row-in, col-in, region-role, role-region}
+use Rattle.qr_layout.specs.Format.{format_word_of, version_word_of}
+use Rattle.qr_layout.specs.Order.{IsOrder, in_region_of, number_of}
+use Rattle.qr_layout.specs.{Region.is_in_region, Role.role_of, Strips.both_of, Strips.rows_from, Version.side_of}
+use Rattle.qr_layout.specs.declared.{level.Level.Level, region.Module.Module}
+use Rattle.qr_layout.specs.declared.{role.Role.Role, role.Role.TheVariants.Region, strips.Strip.Strip}
 use Rattle.qr_bits.specs.Bits.{codeword_bit}
 use Rattle.qr_matrix.specs.Grid.{Grid, square, colour, painted, transposed, IsSquare}
-use Rattle.qr_symbol.specs.{Mask.inverts, Mask.inverted, Symbol.colour_by, Symbol.colour_of, Symbol.grid_of}
+use Rattle.qr_matrix.proofs.Facts.{same-place, square-same, colour-square, colour-painted-here, colour-painted-there, colour-transposed}
+use Rattle.qr_symbol.specs.Mask.{inverts, inverted}
+use Rattle.qr_symbol.specs.Symbol.{colour_by, colour_of, grid_of}
 use Rattle.qr_symbol.specs.Steps.Placement.{placed_colour, number_after, number_at, row_of, IsStripDrawn, masked_colour, masked_grid, region_grid, plain_grid}
 use Rattle.qr_symbol.specs.Steps.Patterns.{fixed_colour, format_or, paint_of, symmetric_format}
-use Rattle.qr_matrix.proofs.Facts.{same-place, square-same, colour-square, colour-painted-here, colour-painted-there, colour-transposed}
 use Rattle.qr_symbol.proofs.lemmas.placement.KeptPlaceLemmas.{kept-append, kept-in, kept-out}
 use Rattle.qr_symbol.proofs.lemmas.placement.ColumnLemmas.{row-small}
 
@@ -100,10 +101,8 @@ in-square v front later x o = let w = order-mem v _ o x (Mem-mid x _ _) in (row-
 -- a module that is not in the region has its colour by role once the format information is drawn
 role-masked : (v : ℕ) (l : Level) (mask : ℕ) (cw : List ℕ) (r c : ℕ) (q : Role) → (q ≡ Region → ⊥) → format_or (format_word_of l mask) q (fixed_colour symmetric_format (version_word_of v) q) ≡ colour_by v l mask cw r c q
 unfolding format_or fixed_colour
-role-masked v l mask cw r c (Fixed dark) n = refl
-role-masked v l mask cw r c (FormatBit i) n = refl
-role-masked v l mask cw r c (VersionBit i) n = refl
 role-masked v l mask cw r c Region n = absurd (n refl)
+role-masked v l mask cw r c q n = refl
 
 -- the colours of a symbol without mask and format information
 abbrev plain_colours : ℕ → List ℕ → ℕ → ℕ → Bool

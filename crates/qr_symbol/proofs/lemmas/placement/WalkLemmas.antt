@@ -1,18 +1,17 @@
 -- Drawing along the walk, where each bit is masked as it is placed.
 use mathlib.Core.Bool.{beq}
 use Rattle.std.proofs.Common.{◌≡◌, ℕ, ◌+◌, ◌<◌, ◌≤◌, Bool, true, false, cond, not, List, [], ◌∷◌, ◌++◌, length, length-append, refl, ◌∙◌, ap, arith}
-use Rattle.qr_layout.specs.declared.{level.Level.Level, region.Module.Module, role.Role.Role}
-use Rattle.qr_layout.specs.declared.role.Role.TheVariants.{Fixed, FormatBit, VersionBit, Region}
-use Rattle.qr_layout.specs.{Version.side_of, Format.format_word_of, Format.version_word_of, Region.is_in_region}
-use Rattle.qr_layout.specs.{Role.role_of, Order.IsOrder, Order.number_of}
 use Rattle.qr_layout.proofs.Facts.{order-small, region-role, role-region}
+use Rattle.qr_layout.specs.{Format.format_word_of, Format.version_word_of, Order.IsOrder, Order.number_of}
+use Rattle.qr_layout.specs.{Region.is_in_region, Role.role_of, Version.side_of, declared.level.Level.Level}
+use Rattle.qr_layout.specs.declared.{region.Module.Module, role.Role.Role, role.Role.TheVariants.Region}
 use Rattle.qr_bits.specs.Bits.{codeword_bit}
 use Rattle.qr_matrix.specs.Grid.{Grid, square, colour, light, painted, IsSquare}
 use Rattle.qr_matrix.proofs.Facts.{square-same, colour-square}
-use Rattle.qr_symbol.specs.{Mask.inverts, Mask.inverted, Symbol.colour_by, Symbol.colour_of, Symbol.grid_of}
-use Rattle.qr_symbol.specs.Steps.{Placement.walked_colour, Patterns.fixed_colour}
 use Rattle.qr_symbol.proofs.lemmas.placement.BitLemmas.{differs-inverted}
 use Rattle.qr_symbol.proofs.lemmas.placement.PlacementLemmas.{at, by_test, Done, done-start, done-step, done-end, next-number, painted-square, whole-next, whole-push, in-square}
+use Rattle.qr_symbol.specs.{Mask.inverts, Mask.inverted, Steps.Patterns.fixed_colour, Steps.Placement.walked_colour}
+use Rattle.qr_symbol.specs.Symbol.{colour_by, colour_of, grid_of}
 
 -- outside the encoding region the colour stays
 walked-outside : (v : ℕ) (cw : List ℕ) (mask : ℕ) (f : ℕ → ℕ → Bool) (r c : ℕ) → is_in_region v r c ≡ false → f r c ≡ walked_colour v cw mask f r c
@@ -73,10 +72,8 @@ walked-end v cw mask g0 g front later number e w = search (arith, done-end)
 -- a module that is not in the region has the fixed colour of its role
 role-fixed : (v : ℕ) (l : Level) (mask : ℕ) (cw : List ℕ) (r c : ℕ) (q : Role) → (q ≡ Region → ⊥) → fixed_colour (format_word_of l mask) (version_word_of v) q ≡ colour_by v l mask cw r c q
 unfolding fixed_colour
-role-fixed v l mask cw r c (Fixed dark) n = refl
-role-fixed v l mask cw r c (FormatBit i) n = refl
-role-fixed v l mask cw r c (VersionBit i) n = refl
 role-fixed v l mask cw r c Region n = absurd (n refl)
+role-fixed v l mask cw r c q n = refl
 
 -- the fixed patterns, drawn over a light square
 pub fixed-alone : (v format : ℕ) (g h : Grid) → 1 ≤ v → g ≡ light (side_of v) → h ≡ square (side_of v) (λ r c. cond (is_in_region v r c) (colour g r c) (fixed_colour format (version_word_of v) (role_of v r c)))

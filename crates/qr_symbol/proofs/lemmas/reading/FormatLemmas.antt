@@ -32,28 +32,15 @@ all-short = refl
 -- the bits of a level are a number of at most 3
 pub level-small : (l : Level) → level_bits l ≤ 3
 level-small L = omega arith
-level-small M = omega arith
-level-small Q = omega arith
-level-small H = omega arith
+level-small l = omega arith
 
 -- different levels have different bits
 pub level-one : (l k : Level) → level_bits l ≡ level_bits k → l ≡ k
 level-one L L e = refl
-level-one L M e = absurd (omega arith)
-level-one L Q e = absurd (omega arith)
-level-one L H e = absurd (omega arith)
-level-one M L e = absurd (omega arith)
 level-one M M e = refl
-level-one M Q e = absurd (omega arith)
-level-one M H e = absurd (omega arith)
-level-one Q L e = absurd (omega arith)
-level-one Q M e = absurd (omega arith)
 level-one Q Q e = refl
-level-one Q H e = absurd (omega arith)
-level-one H L e = absurd (omega arith)
-level-one H M e = absurd (omega arith)
-level-one H Q e = absurd (omega arith)
 level-one H H e = refl
+level-one l k e = absurd (omega arith)
 
 -- the word of a level and a mask has at most 15 bits
 short : (l : Level) (mask : ℕ) → mask < 8 → format_word_of l mask < 2 ^ 15

@@ -1,6 +1,6 @@
 -- What is read from the square of a symbol: the codeword bits, the codewords and the message.
-use Rattle.std.proofs.Common.{◌≡◌, ℕ, zero, suc, ◌+◌, ◌-◌, ◌*◌, ◌<◌, ◌≤◌, Bool, true, false, nat_eq, List, [], ◌∷◌, ◌++◌, map, take, drop, length, replicate, refl, sym, ◌∙◌, ap, subst, length-append, inl, inr, arith}
-use Rattle.std.proofs.{Math.Seq.drop-cons, lemmas.Bool.cases_lt, lemmas.Bool.Decides.nat_tests}
+use Rattle.std.proofs.Common.{◌≡◌, ℕ, zero, suc, ◌+◌, ◌-◌, ◌*◌, ◌<◌, ◌≤◌, Bool, false, nat_eq, List, [], ◌∷◌, ◌++◌, map, take, drop, length, replicate, refl, sym, ◌∙◌, ap, subst, length-append, inl, inr, arith}
+use Rattle.std.proofs.{Math.Seq.drop-cons, Math.Seq.take-length, lemmas.Bool.cases_lt, lemmas.Bool.Decides.nat_tests}
 use Rattle.std.proofs.lemmas.List.{append-nil, length-map, length-take, length-replicate}
 use Rattle.std.proofs.lemmas.Nat.Bits.{same_from_bits_below, bit_at-lt}
 use Rattle.std.specs.{Int.bit_at, List.All}
@@ -18,9 +18,7 @@ use Rattle.qr_symbol.specs.Symbol.{colour_of, grid_of}
 
 -- a bit that is inverted twice is unchanged
 inverted-twice : (b x : Bool) → inverted b (inverted b x) ≡ x
-inverted-twice true true = refl
-inverted-twice true false = refl
-inverted-twice false x = refl
+inverted-twice b x = grind (arith, nat_tests)
 
 -- the bit that is read at one module
 read-place : (v : ℕ) (l : Level) (mask : ℕ) (cw : List ℕ) (front back : List Module) (m : Module) → 1 ≤ v → IsOrder v (front ++ m ∷ back) → unmasked mask (grid_of v l mask cw) m ≡ codeword_bit cw (length front)
@@ -47,10 +45,7 @@ read-from v l mask cw (suc n) front (m ∷ rest) p o i h =
 
 -- the prefix with the length of the list is the whole list
 take-whole : {X : Type 0} (xs : List X) (n : ℕ) → length xs ≡ n → take n xs ≡ xs
-take-whole [] zero e = refl
-take-whole [] (suc n) e = refl
-take-whole (x ∷ xs) zero e = absurd (omega arith)
-take-whole (x ∷ xs) (suc n) e = ap (λ zs. x ∷ zs) (take-whole xs n (omega arith))
+take-whole xs n e = rw (← e) (take-length xs)
 
 -- a symbol is read as the bits of its codewords
 pub read-grid : (v : ℕ) (l : Level) (mask : ℕ) (cw : List ℕ) (ms : List Module) → 1 ≤ v → v ≤ 40 → IsOrder v ms → length cw ≡ total_codewords_of v → read_bits v mask (grid_of v l mask cw) ms ≡ bits_of cw

@@ -1,25 +1,25 @@
 -- The codewords that the bits of all modules form, and the codewords of a square under a mask pattern.
-use Rattle.std.proofs.Common.{◌≡◌, ℕ, zero, suc, ◌+◌, ◌-◌, ◌*◌, ◌<◌, ◌≤◌, Bool, true, false, ◌&&◌, ltb, List, [], ◌∷◌, ◌++◌, map, take, drop, length, replicate, sym, ◌∙◌, ap, refl, subst, length-append, inl, inr, ◌⊎◌, arith}
+use Rattle.std.proofs.Common.{◌≡◌, ℕ, suc, ◌+◌, ◌-◌, ◌*◌, ◌<◌, ◌≤◌, Bool, true, false, ◌&&◌, ltb, List, ◌∷◌, ◌++◌, map, take, drop, length, replicate, sym, ◌∙◌, ap, refl, subst, length-append, inl, inr, ◌⊎◌, arith}
 use Rattle.std.proofs.lemmas.List.{append-nil, length-map, length-take, map-append, take-append-drop}
 use Rattle.std.specs.{List.All, Prelude.Err}
 use borrow.Author.Tests.{ltb-true}
-use Rattle.qr_layout.specs.declared.{region.Module.Module, level.Level.Level}
-use Rattle.qr_layout.specs.{Blocks.data_codewords_of, Region.is_in_region}
-use Rattle.qr_layout.specs.{Version.side_of, Version.total_codewords_of, Version.remainder_bits_of, Order.IsOrder}
 use Rattle.qr_layout.proofs.Facts.{Mem, col-in, order-length, order-mem, row-in, below, below-at}
+use Rattle.qr_layout.specs.{Blocks.data_codewords_of, Order.IsOrder, Region.is_in_region}
+use Rattle.qr_layout.specs.Version.{side_of, total_codewords_of, remainder_bits_of}
+use Rattle.qr_layout.specs.declared.{level.Level.Level, region.Module.Module}
+use Rattle.qr_bits.proofs.Facts.{fault-read, length-field, length-bits_of}
 use Rattle.qr_bits.specs.Bits.{field, bits_of}
 use Rattle.qr_bits.specs.{Parsing.parse, Parsing.IsResultOf, declared.fault.ParseFault.ParseFault}
-use Rattle.qr_bits.proofs.Facts.{fault-read, length-field, length-bits_of}
-use Rattle.qr_bits.specs.declared.fault.ParseFault.TheVariants as unparsed
-use Rattle.qr_symbol.specs.{Fault.unread_for, declared.fault.ReadFault.ReadFault}
-use Rattle.qr_symbol.specs.declared.fault.ReadFault.TheVariants as fault
+use Rattle.qr_symbol.proofs.lemmas.interleaving.MessageLemmas.{append-front}
+use Rattle.qr_symbol.proofs.lemmas.{placement.PlacementLemmas.at, reading.ReadLemmas.read-one}
+use Rattle.qr_symbol.specs.{Fault.unread_for, Interleaving.IsInterleaved, Mask.inverts, Mask.inverted}
+use Rattle.qr_symbol.specs.Reading.{unmasked, IsRead, IsReadUnmasked, IsMessage, IsFormat, IsOfVersion, IsUnread}
+use Rattle.qr_symbol.specs.Steps.{Collecting.colour_across, Placement.region_grid}
+use Rattle.qr_symbol.specs.declared.fault.ReadFault.{ReadFault}
 use Rattle.qr_matrix.specs.Grid.{Grid, colour, square, transposed}
 use Rattle.qr_matrix.proofs.Facts.{colour-square, colour-transposed}
-use Rattle.qr_symbol.specs.{Mask.inverts, Mask.inverted, Interleaving.IsInterleaved}
-use Rattle.qr_symbol.specs.Steps.{Collecting.colour_across, Placement.region_grid}
-use Rattle.qr_symbol.specs.Reading.{unmasked, IsRead, IsReadUnmasked, IsMessage, IsFormat, IsOfVersion, IsUnread}
-use Rattle.qr_symbol.proofs.lemmas.placement.PlacementLemmas.{at}
-use Rattle.qr_symbol.proofs.lemmas.{interleaving.MessageLemmas.append-front, reading.ReadLemmas.read-one}
+use Rattle.qr_bits.specs.declared.fault.ParseFault.TheVariants as unparsed
+use Rattle.qr_symbol.specs.declared.fault.ReadFault.TheVariants as fault
 
 -- each of the forty versions has fewer than eight remainder bits, computed
 remainder-small : below 40 (λ i. ltb (remainder_bits_of (i + 1)) 8) ≡ true
@@ -57,9 +57,8 @@ read-whole v f ms cw width begun p q o w bits =
 
 -- two functions with the same values at all modules of a list
 take-same : (f h : Module → Bool) (n : ℕ) (ms : List Module) → ((m : Module) → Mem m ms → f m ≡ h m) → map f (take n ms) ≡ map h (take n ms)
-take-same f h zero ms e = refl
-take-same f h (suc n) [] e = refl
-take-same f h (suc n) (m ∷ ms) e = ap (λ (z : Bool). z ∷ map f (take n ms)) (e m (inl refl)) ∙ ap (λ (z : List Bool). h m ∷ z) (take-same f h n ms (λ x k. e x (inr k)))
+take-same f h (suc n) (m ∷ ms) e = let t = take-same f h n ms (λ x k. e x (inr k)) in cc (e m (inl refl))
+take-same f h n ms e = refl
 
 -- two functions with the same values in the encoding region
 order-same : (v : ℕ) (f h : Module → Bool) (n : ℕ) (ms : List Module) → IsOrder v ms → ((r c : ℕ) → r < side_of v → c < side_of v → is_in_region v r c ≡ true → f (at r c) ≡ h (at r c)) → map f (take n ms) ≡ map h (take n ms)

@@ -82,10 +82,8 @@ part-short v l b xs p q fit = fitting_short v l b xs p q (fit.0, fit.1, (let few
 
 -- a prefix of a prefix is a prefix of the whole list
 take-less : {X : Type 0} (k m : ℕ) (xs : List X) → k ≤ m → take k (take m xs) ≡ take k xs
-take-less zero m xs h = refl
-take-less (suc k) zero xs h = absurd (omega arith)
-take-less (suc k) (suc m) [] h = refl
 take-less (suc k) (suc m) (x ∷ xs) h = ap (λ zs. x ∷ zs) (take-less k m xs (omega arith))
+take-less k m xs h = search arith
 
 -- to find the longest prefix that fits, the first 7,089 bytes are enough
 pub longest-cut : (v : ℕ) (l : Level) (b : Rule) (xs : List ℕ) (m n : ℕ) → 1 ≤ v → v ≤ 40 → min (length xs) 7089 ≤ m → IsLongestFit v b (take m xs) (room_of v l) n → IsLongestFit v b xs (room_of v l) n

@@ -36,13 +36,9 @@ symbol-of-one v l b x h s t a c =
 -- parts have at most one list of symbols
 symbols-one : (v : ℕ) (l : Level) (b : Rule) (last parity k : ℕ) (ps : List (List ℕ)) (ss ts : List Symbol) → AreSymbolsFrom v l b last parity k ps ss → AreSymbolsFrom v l b last parity k ps ts → ss ≡ ts
 unfolding AreSymbolsFrom
-symbols-one v l b last parity k [] [] [] h g = refl
-symbols-one v l b last parity k [] [] (t ∷ ts) h g = absurd g
-symbols-one v l b last parity k [] (s ∷ ss) ts h g = absurd h
-symbols-one v l b last parity k (p ∷ ps) [] ts h g = absurd h
-symbols-one v l b last parity k (p ∷ ps) (s ∷ ss) [] h g = absurd g
 symbols-one v l b last parity k (p ∷ ps) (s ∷ ss) (t ∷ ts) h g =
     search (arith, symbol-of-one, symbols-one v l b last parity (k + 1) ps ss ts h.1 g.1)
+symbols-one v l b last parity k ps ss ts h g = search arith
 
 -- bytes have at most one series
 pub series-one : (x : List ℕ) (l : Level) (b : Rule) (v : ℕ) (ss ts : List Symbol) → IsSeries v l b x ss → IsSeries v l b x ts → ss ≡ ts

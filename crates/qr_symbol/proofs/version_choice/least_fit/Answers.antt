@@ -16,19 +16,10 @@ loop-segments-init c =
       none = λ v a b fits. c.first_for.ensures.none v c.args.level (omega arith) (omega arith) fits;
     }
 
-pub bit_len-requires-clause-nonempty : goal.bit_len-requires-clause-nonempty
-bit_len-requires-clause-nonempty c =
-    let xs = c.args.input.now in
-    let segs = c.in_ok-segments.segments.items in
-    let all = covers_all xs segs (least_fits c.loop-segments.first c.args.rule xs segs c.in_ok-segments.ensures.ok).0 in
-    rw c.deref.ensures.value all.0
-
-pub bit_len-requires-clause-short : goal.bit_len-requires-clause-short
-bit_len-requires-clause-short c =
-    let xs = c.args.input.now in
-    let segs = c.in_ok-segments.segments.items in
-    let all = covers_all xs segs (least_fits c.loop-segments.first c.args.rule xs segs c.in_ok-segments.ensures.ok).0 in
-    rw c.deref.ensures.value (omega (arith, all.1, c.requires))
+pub bit_len-requires : goal.bit_len-requires
+bit_len-requires c =
+    let all = covers_all _ _ (least_fits _ _ _ _ c.in_ok-segments.ensures.ok).0 in
+    rw c.deref.ensures.value (record { nonempty = all.0; short = omega (arith, all.1, c.requires) })
 
 pub returns-in-Some-clause-version : goal.returns-in-Some-clause-version
 returns-in-Some-clause-version c =
