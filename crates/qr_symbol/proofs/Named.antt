@@ -1,12 +1,10 @@
 -- The lemmas that the attributes of functions name.
-use Rattle.qr_layout.proofs.Facts.{blocks-sound}
-use Rattle.qr_symbol.proofs.lemmas.collecting.CollectingLemmas.{strip-bits}
+use Rattle.{qr_layout.proofs.Facts.blocks-sound, qr_symbol.proofs.lemmas.collecting.CollectingLemmas.strip-bits}
 use Rattle.qr_symbol.proofs.lemmas.interleaving.{CheckLemmas.slice-in, MessageLemmas.data-sizes-whole}
 use Rattle.qr_symbol.proofs.lemmas.interleaving.PositionLemmas.{start-next, start-none}
 use Rattle.qr_symbol.proofs.lemmas.{laws.DistanceLemmas.messages-apart, placement.AcrossLemmas.region-across}
-use Rattle.qr_symbol.proofs.lemmas.placement.BitLemmas.{eight-bits, one-bit, word-past}
-use Rattle.qr_symbol.proofs.lemmas.placement.{LightLemmas.cleared, PlacementLemmas.square-is}
-use Rattle.qr_symbol.proofs.lemmas.reading.ReadLemmas.{read-grid}
+use Rattle.qr_symbol.proofs.lemmas.placement.{BitLemmas.{eight-bits, one-bit, word-past}, LightLemmas.cleared}
+use Rattle.qr_symbol.proofs.lemmas.{placement.PlacementLemmas.square-is, reading.ReadLemmas.read-grid}
 use Rattle.qr_symbol.proofs.lemmas.series.{PartExistenceLemmas.parts-there, PartLemmas.part-least}
 use Rattle.std.proofs.lemmas.Bool.Decides.{nat_tests}
 

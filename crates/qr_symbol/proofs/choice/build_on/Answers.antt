@@ -1,7 +1,6 @@
-use Rattle.std.proofs.Common.{false, ◌∙◌, ap, arith}
-use Rattle.qr_matrix.specs.Grid.{light}
+use Rattle.{qr_matrix.specs.Grid.light, qr_symbol.proofs.lemmas.choice.ChoiceLemmas.{canvas-mask, canvas-drawn}}
 use Rattle.qr_symbol.proofs.lemmas.placement.PlacementLemmas.{square-is}
-use Rattle.qr_symbol.proofs.lemmas.choice.ChoiceLemmas.{canvas-mask, canvas-drawn}
+use Rattle.std.proofs.Common.{false, ◌∙◌, ap, arith}
 use Rattle.qr_symbol.proofs.choice.build_on.Goals as goal
 
 pub draw_data-requires : goal.draw_data-requires

@@ -1,9 +1,8 @@
+use Rattle.qr_layout.{proofs.Facts.Inside, specs.{Order.{IsOrder, in_region_of}, Strips.places_of, Version.side_of}}
+use Rattle.{qr_layout.specs.declared.strips.Strip.Strip, qr_symbol.proofs.lemmas.collecting.CollectingLemmas.strip-read}
+use Rattle.qr_symbol.proofs.lemmas.reading.SymbolReadLemmas.{all-read, read-across}
 use Rattle.std.proofs.Common.{List, ◌++◌, ◌∙◌, ap, sym, subst, append_assoc, append-nil, arith}
 use Rattle.std.{proofs.lemmas.List.Elements.All-tail, specs.List.All}
-use Rattle.qr_layout.{proofs.Facts.Inside, specs.Order.IsOrder, specs.Order.in_region_of}
-use Rattle.qr_layout.specs.{Strips.places_of, Version.side_of, declared.strips.Strip.Strip}
-use Rattle.qr_symbol.proofs.lemmas.collecting.CollectingLemmas.{strip-read}
-use Rattle.qr_symbol.proofs.lemmas.reading.SymbolReadLemmas.{all-read, read-across}
 use Rattle.qr_symbol.proofs.collecting.collect_codewords.Goals as goal
 
 pub loop-strip-init : goal.loop-strip-init

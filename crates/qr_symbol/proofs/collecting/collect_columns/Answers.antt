@@ -1,8 +1,7 @@
+use Rattle.{qr_bits.proofs.Facts.bool_byte-bit, qr_layout.specs.Version.side_of}
+use Rattle.qr_symbol.{proofs.lemmas.collecting.CollectingLemmas.rows-read, specs.Steps.Collecting.bits_in_rows}
 use Rattle.std.proofs.Common.{◌≡◌, ◌+◌, ◌-◌, ◌*◌, ◌≤◌, ◌++◌, refl, ap, subst, ◌∙◌, arith}
 use Rattle.std.specs.Prelude.{OnOk}
-use Rattle.qr_bits.proofs.Facts.{bool_byte-bit}
-use Rattle.qr_layout.specs.Version.{side_of}
-use Rattle.qr_symbol.{proofs.lemmas.collecting.CollectingLemmas.rows-read, specs.Steps.Collecting.bits_in_rows}
 use Rattle.qr_symbol.proofs.collecting.collect_columns.Goals as goal
 
 pub loop-group-init : goal.loop-group-init

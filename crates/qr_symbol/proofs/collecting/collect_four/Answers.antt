@@ -1,10 +1,8 @@
+use Rattle.{qr_bits.proofs.Facts.bool_byte-bit, qr_layout.specs.Version.side_of}
+use Rattle.qr_matrix.{proofs.Facts.{&&-left, &&-right}, specs.BitRow.{has, has_bit}}
+use Rattle.qr_symbol.proofs.lemmas.{collecting.SpreadLemmas.{four-read, joined-small}, placement.LightLemmas.four-set}
 use Rattle.std.proofs.Common.{◌≡◌, ◌+◌, ◌<◌, ℕ, ◌++◌, true, eqb, ◌&&◌, ap, sym, subst, ◌∙◌, arith}
 use Rattle.std.specs.Prelude.{OnOk}
-use Rattle.qr_bits.proofs.Facts.{bool_byte-bit}
-use Rattle.qr_layout.specs.Version.{side_of}
-use Rattle.qr_matrix.{proofs.Facts.&&-left, proofs.Facts.&&-right, specs.BitRow.has, specs.BitRow.has_bit}
-use Rattle.qr_symbol.proofs.lemmas.collecting.SpreadLemmas.{four-read, joined-small}
-use Rattle.qr_symbol.proofs.lemmas.placement.LightLemmas.{four-set}
 use Rattle.qr_symbol.proofs.collecting.collect_four.Goals as goal
 
 pub overflow_add-right : goal.overflow_add-right

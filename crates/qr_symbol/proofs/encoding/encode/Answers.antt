@@ -1,11 +1,10 @@
-use Rattle.std.proofs.Common.{◌≡◌, ◌⊎◌, inl, inr, length, Result, Err, refl, sym, ap, ◌∙◌, arith, rules}
-use Rattle.std.proofs.lemmas.{Bool.eqb-false, Bool.eqb-true, List.nil_from_length}
-use Rattle.std.proofs.lemmas.Result.{err_from_is_err_and, IfOk-weaker}
-use Rattle.qr_bits.proofs.Facts.{fitting_short}
-use Rattle.qr_bits.specs.declared.fault.BitFault.{BitFault, TheVariants.Memory, TheVariants.TooLong}
+use Rattle.qr_bits.{proofs.Facts.fitting_short, specs.declared.fault.BitFault.{BitFault, TheVariants.{Memory, TooLong}}}
 use Rattle.qr_symbol.proofs.lemmas.encoding.SymbolMakingLemmas.{symbol-found, symbol-back}
-use Rattle.qr_symbol.{proofs.lemmas.fault.ExactLemmas.too-long-exactly, specs.Fault.fault_of}
-use Rattle.qr_symbol.specs.declared.{fault.EncodeFault.EncodeFault, symbol.Symbol.Symbol}
+use Rattle.qr_symbol.proofs.lemmas.fault.ExactLemmas.{too-long-exactly}
+use Rattle.qr_symbol.specs.{Fault.fault_of, declared.{fault.EncodeFault.EncodeFault, symbol.Symbol.Symbol}}
+use Rattle.std.proofs.Common.{◌≡◌, ◌⊎◌, inl, inr, length, Result, Err, refl, sym, ap, ◌∙◌, arith, rules}
+use Rattle.std.proofs.lemmas.{Bool.{eqb-false, eqb-true}, List.nil_from_length}
+use Rattle.std.proofs.lemmas.Result.{err_from_is_err_and, IfOk-weaker}
 use Rattle.qr_symbol.specs.declared.fault.EncodeFault.TheVariants as fault
 use Rattle.qr_symbol.proofs.encoding.encode.Goals as goal
 

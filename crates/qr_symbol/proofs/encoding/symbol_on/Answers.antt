@@ -1,5 +1,4 @@
-use Rattle.qr_bits.proofs.Facts.{length-data}
-use Rattle.qr_symbol.proofs.lemmas.encoding.SymbolMakingLemmas.{symbol-built}
+use Rattle.{qr_bits.proofs.Facts.length-data, qr_symbol.proofs.lemmas.encoding.SymbolMakingLemmas.symbol-built}
 use Rattle.qr_symbol.proofs.encoding.symbol_on.Goals as goal
 
 pub interleave-requires : goal.interleave-requires

@@ -1,9 +1,8 @@
-use Rattle.std.proofs.Common.{◌≡◌, ◌+◌, ◌∙◌, length, sym, ap, subst, arith}
-use Rattle.std.specs.Prelude.{IfOk}
-use Rattle.qr_layout.specs.{declared.blocks.Blocks.Blocks, Blocks.data_codewords_of}
-use Rattle.qr_symbol.specs.Interleaving.{codeword_count, data_sizes, correction_sizes, IsFinalMessage, IsInterleaved}
+use Rattle.qr_layout.specs.{Blocks.data_codewords_of, declared.blocks.Blocks.Blocks}
 use Rattle.qr_symbol.proofs.lemmas.fault.ExactLemmas.{check-exactly, ok-both}
 use Rattle.qr_symbol.proofs.lemmas.interleaving.MessageLemmas.{data-sizes-whole, sizes-whole, ok-also}
+use Rattle.qr_symbol.specs.Interleaving.{codeword_count, data_sizes, correction_sizes, IsFinalMessage, IsInterleaved}
+use Rattle.std.{proofs.Common.{◌≡◌, ◌+◌, ◌∙◌, length, sym, ap, subst, arith}, specs.Prelude.IfOk}
 use Rattle.qr_symbol.proofs.interleaving.deinterleave.Goals as goal
 
 pub deinterleave_blocks-requires-clause-whole : goal.deinterleave_blocks-requires-clause-whole

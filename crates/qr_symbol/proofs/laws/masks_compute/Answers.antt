@@ -1,4 +1,4 @@
-use Rattle.{std.proofs.Common.refl, qr_symbol.specs.Mask.inverts, qr_symbol.proofs.lemmas.mask.PatternLemmas.inverts-repeats}
+use Rattle.{qr_symbol.{proofs.lemmas.mask.PatternLemmas.inverts-repeats, specs.Mask.inverts}, std.proofs.Common.refl}
 use Rattle.qr_symbol.proofs.laws.masks_compute.Goals as goal
 
 pub returns : goal.returns

@@ -1,5 +1,4 @@
-use Rattle.std.proofs.Common.{None, arith}
-use Rattle.qr_symbol.proofs.lemmas.reading.RoundTripLemmas.{symbol-read}
+use Rattle.{qr_symbol.proofs.lemmas.reading.RoundTripLemmas.symbol-read, std.proofs.Common.{None, arith}}
 use Rattle.qr_symbol.proofs.laws.symbols_are_read.Goals as goal
 
 pub returns : goal.returns

@@ -1,13 +1,12 @@
 -- The function patterns of a canvas, which stay while the codewords of one symbol after another are drawn.
-use Rattle.std.proofs.Common.{◌≡◌, ℕ, ◌<◌, ◌≤◌, true, cond, eqb, List, refl, ◌∙◌, arith}
 use Rattle.qr_layout.proofs.Facts.{below, below-at, region-symmetric, role-symmetric}
 use Rattle.qr_layout.specs.{Region.is_in_region, Version.side_of}
 use Rattle.qr_matrix.proofs.Facts.{same-same, square-same, colour-square, colour-transposed}
-use Rattle.qr_matrix.specs.{BitRow.has_bit, Grid.is_same, Grid.Grid, Grid.square, Grid.colour, Grid.transposed}
-use Rattle.qr_symbol.specs.Steps.Canvas.{HasPatterns}
-use Rattle.qr_symbol.specs.Steps.Placement.{placed_colour, plain_grid}
-use Rattle.qr_symbol.specs.Steps.Patterns.{fixed_colour, paint_of, symmetric_format}
+use Rattle.qr_matrix.specs.{BitRow.has_bit, Grid.{is_same, Grid, square, colour, transposed}}
 use Rattle.qr_symbol.proofs.lemmas.placement.PlacementLemmas.{by_test, inside, outside, square-is}
+use Rattle.qr_symbol.specs.Steps.{Canvas.HasPatterns, Patterns.{fixed_colour, paint_of, symmetric_format}}
+use Rattle.qr_symbol.specs.Steps.Placement.{placed_colour, plain_grid}
+use Rattle.std.proofs.Common.{◌≡◌, ℕ, ◌<◌, ◌≤◌, true, cond, eqb, List, refl, ◌∙◌, arith}
 
 -- just bit 7 of the symmetric format information is 1, computed
 just-seven : below 15 (λ i. is_same (has_bit symmetric_format i) (eqb i 7)) ≡ true

@@ -1,11 +1,9 @@
 -- The mask of the least penalty, found by comparing one mask after another.
-use Rattle.std.proofs.Common.{◌≡◌, ℕ, ◌+◌, ◌<◌, ◌≤◌, ◌∙◌, List, ap, subst, arith}
-use Rattle.qr_layout.specs.declared.level.Level.{Level}
-use Rattle.qr_matrix.specs.Grid.{Grid}
-use Rattle.qr_symbol.proofs.lemmas.placement.PlacementLemmas.{masked-all}
-use Rattle.qr_symbol.specs.Choice.{IsFirstLeast, IsMask}
+use Rattle.{qr_layout.specs.declared.level.Level.Level, qr_matrix.specs.Grid.Grid}
+use Rattle.qr_symbol.{proofs.lemmas.placement.PlacementLemmas.masked-all, specs.Choice.{IsFirstLeast, IsMask}}
 use Rattle.qr_symbol.specs.Steps.Placement.{masked_grid, masked_penalty, region_grid, plain_grid}
 use Rattle.qr_symbol.specs.{Symbol.grid_of, declared.canvas.Canvas.Canvas}
+use Rattle.std.proofs.Common.{◌≡◌, ℕ, ◌+◌, ◌<◌, ◌≤◌, ◌∙◌, List, ap, subst, arith}
 
 -- of the numbers below 1, the one with the least value is 0
 pub least-start : (f : ℕ → ℕ) → IsFirstLeast 1 f 0

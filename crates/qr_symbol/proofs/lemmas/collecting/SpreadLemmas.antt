@@ -1,14 +1,12 @@
 -- The tables that spread the four modules of a column over a byte.
-use Rattle.std.proofs.lemmas.Bool.Decides.{nat_tests}
-use Rattle.std.proofs.Common.{◌≡◌, ℕ, ◌+◌, ◌-◌, ◌*◌, ◌/◌, ◌%◌, ◌^◌, ◌<◌, ◌≤◌, Bool, true, cond, ltb, ◌&&◌, ◌==◌, eqb, get_or, List, [], ◌∷◌, ◌++◌, refl, sym, ◌∙◌, ap, arith}
 use borrow.Author.Tests.{ltb-true}
-use Rattle.qr_layout.specs.declared.strips.Strip.{Strip}
-use Rattle.qr_bits.specs.Bits.{field}
-use Rattle.qr_matrix.proofs.Facts.{below-at, same-same, &&-left, &&-right}
-use Rattle.qr_matrix.specs.{BitRow.has, BitRow.has_bit, Grid.is_same, Sums.all_below}
-use Rattle.qr_symbol.proofs.lemmas.placement.ColumnLemmas.{rank_of}
+use Rattle.{qr_bits.specs.Bits.field, qr_layout.specs.declared.strips.Strip.Strip}
+use Rattle.qr_matrix.{proofs.Facts.{below-at, same-same, &&-left, &&-right}, specs.BitRow.{has, has_bit}}
+use Rattle.{qr_matrix.specs.{Grid.is_same, Sums.all_below}, qr_symbol.proofs.lemmas.placement.ColumnLemmas.rank_of}
 use Rattle.qr_symbol.specs.Steps.{Collecting.bits_in_rows, Placement.row_of}
 use Rattle.qr_symbol.specs.declared.{collecting.TheConstants.SPREADS, placement.Columns.Columns}
+use Rattle.std.proofs.Common.{◌≡◌, ℕ, ◌+◌, ◌-◌, ◌*◌, ◌/◌, ◌%◌, ◌^◌, ◌<◌, ◌≤◌, Bool, true, cond, ltb, ◌&&◌, ◌==◌, eqb, get_or, List, [], ◌∷◌, ◌++◌, refl, sym, ◌∙◌, ap, arith}
+use Rattle.std.proofs.lemmas.Bool.Decides.{nat_tests}
 
 -- the table's entry for a direction and four modules
 abbrev pub spread : ℕ → ℕ → ℕ

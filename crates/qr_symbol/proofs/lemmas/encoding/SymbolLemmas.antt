@@ -1,13 +1,10 @@
 -- An input has only one symbol, since each step of making it has only one result.
-use Rattle.std.proofs.Common.{◌≡◌, ℕ, inl, inr, List, Option, None, subst, arith}
-use Rattle.std.proofs.lemmas.Bool.{cases_lt}
-use Rattle.qr_layout.specs.declared.level.Level.{Level}
-use Rattle.qr_bits.{proofs.Facts.data_one, proofs.Facts.segmentation-one, specs.Padding.IsData}
-use Rattle.qr_bits.specs.declared.{header.Header.Header, modes.Rule.Rule, segment.Segment.Segment}
-use Rattle.qr_matrix.specs.Grid.{Grid}
+use Rattle.qr_bits.proofs.Facts.{data_one, segmentation-one}
+use Rattle.qr_bits.specs.{Padding.IsData, declared.{header.Header.Header, modes.Rule.Rule, segment.Segment.Segment}}
+use Rattle.{qr_layout.specs.declared.level.Level.Level, qr_matrix.specs.Grid.Grid}
 use Rattle.qr_symbol.{proofs.lemmas.interleaving.MessageLemmas.final-one, specs.Choice.IsFirstLeast}
-use Rattle.qr_symbol.specs.Encoding.{IsSymbolAt, SymbolsAreOne}
-use Rattle.qr_symbol.specs.{Interleaving.IsInterleaved, VersionChoice.IsVersion}
+use Rattle.qr_symbol.specs.{Encoding.{IsSymbolAt, SymbolsAreOne}, Interleaving.IsInterleaved, VersionChoice.IsVersion}
+use Rattle.std.proofs.{Common.{◌≡◌, ℕ, inl, inr, List, Option, None, subst, arith}, lemmas.Bool.cases_lt}
 
 -- Two first numbers of the least value are equal.
 least-one : (n : ℕ) (f : ℕ → ℕ) (m k : ℕ) → IsFirstLeast n f m → IsFirstLeast n f k → m ≡ k

@@ -1,16 +1,14 @@
 -- A symbol that is built from the codewords of an input is the symbol of this input.
+use Rattle.qr_bits.{proofs.Facts.{capacity_least, length-stream, least_fits}, specs.Header.header_bits}
+use Rattle.qr_bits.specs.{Padding.{IsData, capacity_of, room_of}, Segmentation.{bits, HasFit, IsLeastSegmentation}}
+use Rattle.qr_bits.specs.declared.{header.Header.Header, modes.Rule.Rule, segment.Segment.Segment}
+use Rattle.{qr_layout.specs.declared.level.Level.Level, qr_matrix.specs.Grid.Grid}
+use Rattle.qr_symbol.{proofs.lemmas.reading.RoundTripLemmas.symbol-read, specs.Choice.IsMask}
+use Rattle.qr_symbol.specs.{Encoding.{IsSymbolAt, IsSymbol}, Interleaving.IsInterleaved, Reading.IsReadBack}
+use Rattle.qr_symbol.specs.{Series.IsSymbolOf, Symbol.grid_of, VersionChoice.{FitsVersion, IsVersion}}
+use Rattle.qr_symbol.specs.declared.{fault.EncodeFault.EncodeFault, symbol.Symbol.Symbol}
 use Rattle.std.proofs.Common.{◌≡◌, ℕ, ◌+◌, ◌<◌, ◌≤◌, ◌⊎◌, List, Option, None, Some, Result, Ok, Err, subst, sym, arith}
 use Rattle.std.specs.Prelude.{IfOk, IfErr}
-use Rattle.qr_layout.specs.declared.level.Level.{Level}
-use Rattle.qr_bits.proofs.Facts.{capacity_least, length-stream, least_fits}
-use Rattle.qr_bits.specs.{Header.header_bits, Padding.IsData, Padding.capacity_of, Padding.room_of}
-use Rattle.qr_bits.specs.Segmentation.{bits, HasFit, IsLeastSegmentation}
-use Rattle.qr_bits.specs.declared.{header.Header.Header, modes.Rule.Rule, segment.Segment.Segment}
-use Rattle.qr_symbol.{proofs.lemmas.reading.RoundTripLemmas.symbol-read, specs.Choice.IsMask}
-use Rattle.qr_symbol.specs.{Encoding.IsSymbolAt, Encoding.IsSymbol, Interleaving.IsInterleaved, Reading.IsReadBack}
-use Rattle.qr_symbol.specs.{Series.IsSymbolOf, Symbol.grid_of, VersionChoice.FitsVersion, VersionChoice.IsVersion}
-use Rattle.qr_symbol.specs.declared.{fault.EncodeFault.EncodeFault, symbol.Symbol.Symbol}
-use Rattle.qr_matrix.specs.Grid.{Grid}
 use Rattle.qr_symbol.specs.declared.fault.EncodeFault.TheVariants as fault
 
 -- a symbol that is built from the codewords of bytes is the symbol of these bytes

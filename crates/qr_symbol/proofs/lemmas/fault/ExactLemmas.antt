@@ -1,11 +1,10 @@
 -- A call is refused for a fault exactly if the fault is there, unless memory is refused.
+use Rattle.qr_bits.{proofs.Facts.empty_fits, specs.{Padding.capacity_of, declared.modes.Rule.Rule}}
+use Rattle.{qr_layout.specs.declared.level.Level.Level, qr_symbol.specs.Encoding.IsSymbol}
+use Rattle.qr_symbol.specs.{Series.{IsSeries, HasNoSeries}, VersionChoice.{FitsVersion, HasNoVersion}}
+use Rattle.qr_symbol.specs.declared.{fault.{EncodeFault.EncodeFault, ReadFault.ReadFault}, symbol.Symbol.Symbol}
 use Rattle.std.proofs.Common.{◌≡◌, ◌≢◌, ◌≤◌, ◌↔◌, ◌⊎◌, inl, inr, ℕ, List, [], Result, Ok, Err, Vec, Global, sym, ap, subst, arith}
-use Rattle.std.{proofs.lemmas.Result.IfErr-at_err, specs.Prelude.IfOk, specs.Prelude.IfErr}
-use Rattle.qr_layout.specs.declared.level.Level.{Level}
-use Rattle.qr_bits.{proofs.Facts.empty_fits, specs.Padding.capacity_of, specs.declared.modes.Rule.Rule}
-use Rattle.qr_symbol.specs.{Encoding.IsSymbol, Series.IsSeries, Series.HasNoSeries}
-use Rattle.qr_symbol.specs.VersionChoice.{FitsVersion, HasNoVersion}
-use Rattle.qr_symbol.specs.declared.{fault.EncodeFault.EncodeFault, fault.ReadFault.ReadFault, symbol.Symbol.Symbol}
+use Rattle.std.{proofs.lemmas.Result.IfErr-at_err, specs.Prelude.{IfOk, IfErr}}
 use Rattle.qr_symbol.specs.declared.fault.EncodeFault.TheVariants as fault
 use Rattle.qr_symbol.specs.declared.fault.ReadFault.TheVariants as unread
 

@@ -1,11 +1,10 @@
 -- The interleaving loop appends the codewords of all positions, in their order.
-use Rattle.std.proofs.Common.{◌≡◌, ℕ, zero, suc, ◌+◌, ◌<◌, ◌≤◌, List, [], ◌∷◌, ◌++◌, map, refl, subst, inl, inr, ◌⊎◌, append_assoc, arith}
-use Rattle.std.proofs.Math.Nat.{mul-suc, mul-le-mul_left}
-use Rattle.std.proofs.lemmas.{Bool.Decides.nat_tests, List.map-append, List.Kept.AllPairs-cons}
-use Rattle.std.specs.List.{All, AllPairs, AllByRecursion, Contains}
 use Rattle.qr_layout.proofs.Facts.{Mem, Rises, All-of-Mem}
 use Rattle.qr_symbol.specs.Interleaving.{Position, ComesBefore, block_count, block_len, start_of, IsPosition, IsPositionOrder, codeword_count, codeword_at}
 use Rattle.qr_symbol.specs.{Steps.Interleaving.AppendsInterleaved, declared.interleaving.BlockSizes.BlockSizes}
+use Rattle.std.proofs.Common.{◌≡◌, ℕ, zero, suc, ◌+◌, ◌<◌, ◌≤◌, List, [], ◌∷◌, ◌++◌, map, refl, subst, inl, inr, ◌⊎◌, append_assoc, arith}
+use Rattle.std.proofs.{Math.Nat.{mul-suc, mul-le-mul_left}, lemmas.{Bool.Decides.nat_tests, List.map-append}}
+use Rattle.std.{proofs.lemmas.List.Kept.AllPairs-cons, specs.List.{All, AllPairs, AllByRecursion, Contains}}
 
 -- the position with index p in block b
 abbrev pub position : ℕ → ℕ → Position

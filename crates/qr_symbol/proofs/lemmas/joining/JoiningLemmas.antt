@@ -1,13 +1,12 @@
 -- Squares are read one by one, and are joined to one list of bytes or refused for one reason.
+use Rattle.{qr_bits.specs.Parsing.Content, qr_matrix.specs.Grid.Grid}
+use Rattle.qr_symbol.specs.Joining.{AreReadBy, HaveHeaders, IsFirstRefused, IsJoinedBy, IsNoSeries, IsUnjoined, IsUnjoinedBy}
+use Rattle.qr_symbol.specs.{Reading.{IsReading, IsUnread}, Series.squares_of}
+use Rattle.qr_symbol.specs.declared.{fault.ReadFault.ReadFault, symbol.Symbol.Symbol}
 use Rattle.std.proofs.Common.{◌≡◌, ℕ, ◌+◌, ◌<◌, ◌≤◌, List, [], ◌∷◌, ◌++◌, take, drop, length, get_or, refl, sym, ◌∙◌, inl, inr, ◌⊎◌, arith}
 use Rattle.std.proofs.lemmas.List.{take_more, take-append-drop, take-map, drop_more, drop_all, get_or-map, length-map}
 use Rattle.std.specs.Prelude.{Some}
-use Rattle.qr_bits.specs.Parsing.{Content}
-use Rattle.qr_symbol.specs.declared.fault.ReadFault.{ReadFault}
 use Rattle.qr_symbol.specs.declared.fault.ReadFault.TheVariants as fault
-use Rattle.qr_symbol.specs.{declared.symbol.Symbol.Symbol, Reading.IsReading, Reading.IsUnread, Series.squares_of}
-use Rattle.qr_symbol.specs.Joining.{AreReadBy, HaveHeaders, IsFirstRefused, IsJoinedBy, IsNoSeries, IsUnjoined, IsUnjoinedBy}
-use Rattle.qr_matrix.specs.Grid.{Grid}
 
 -- ---- squares and contents, in turn
 

@@ -1,10 +1,9 @@
 -- Finder patterns as three squares, each inside the one before.
+use Rattle.qr_layout.specs.{Region.ring_of, Role.{finder_ring, pattern_colour, role_of}, Version.side_of}
+use Rattle.qr_layout.specs.declared.role.Role.TheVariants.{Fixed}
+use Rattle.qr_symbol.{proofs.lemmas.patterns.TimingLemmas.paint-fixed, specs.Steps.Patterns.{is_in_block, paint_of}}
 use Rattle.std.proofs.Common.{◌≡◌, ℕ, ◌+◌, ◌-◌, ◌<◌, ◌≤◌, Bool, true, false, not, cond, eqb, ltb, leb, ◌&&◌, refl, sym, ◌∙◌, inl, inr, arith}
 use Rattle.std.proofs.lemmas.Bool.{cases_lt, Decides.nat_tests}
-use Rattle.qr_layout.specs.{declared.role.Role.TheVariants.Fixed, Version.side_of, Region.ring_of}
-use Rattle.qr_layout.specs.Role.{finder_ring, pattern_colour, role_of}
-use Rattle.qr_symbol.specs.Steps.Patterns.{is_in_block, paint_of}
-use Rattle.qr_symbol.proofs.lemmas.patterns.TimingLemmas.{paint-fixed}
 
 -- three squares, painted one inside the other, leave only ring 2 light
 pub three-squares : (a b r c : ℕ) (w x y z : Bool) → 3 ≤ a → 3 ≤ b

@@ -1,11 +1,10 @@
 -- The version information, drawn bit by bit at its two places.
+use Rattle.qr_layout.proofs.Facts.{version-first, version-second}
+use Rattle.qr_layout.specs.{Format.version_word_of, Region.{is_version_block, is_version_information}, Role.role_of}
+use Rattle.qr_layout.specs.{Version.side_of, declared.role.Role.TheVariants.VersionBit}
+use Rattle.{qr_matrix.specs.BitRow.has_bit, qr_symbol.specs.Steps.Patterns.{fixed_colour, paint_of}}
 use Rattle.std.proofs.Common.{◌≡◌, ℕ, ◌+◌, ◌-◌, ◌*◌, ◌/◌, ◌%◌, ◌<◌, ◌≤◌, Bool, false, eqb, ltb, leb, ◌&&◌, ◌||◌, ap, arith}
 use Rattle.std.proofs.lemmas.Bool.Decides.{nat_tests}
-use Rattle.qr_layout.proofs.Facts.{version-first, version-second}
-use Rattle.qr_layout.specs.{Format.version_word_of, Region.is_version_block, Region.is_version_information}
-use Rattle.qr_layout.specs.{Role.role_of, Version.side_of, declared.role.Role.TheVariants.VersionBit}
-use Rattle.qr_matrix.specs.BitRow.{has_bit}
-use Rattle.qr_symbol.specs.Steps.Patterns.{fixed_colour, paint_of}
 
 -- the places of the first n bits beside the top right finder pattern
 abbrev part : ℕ → ℕ → ℕ → ℕ → Bool

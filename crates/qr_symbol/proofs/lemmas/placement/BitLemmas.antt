@@ -1,12 +1,10 @@
 -- Bits of codewords, and of words that hold several codewords.
+use mathlib.Core.Bool.{beq}
+use Rattle.{qr_bits.specs.Bits.codeword_bit, qr_matrix.proofs.Facts.{has_bit-and, has_bit-ones, has_bit-shr}}
+use Rattle.{qr_matrix.specs.BitRow.has_bit, qr_symbol.specs.Mask.inverted}
 use Rattle.std.proofs.Common.{◌≡◌, ℕ, ◌+◌, ◌-◌, ◌*◌, ◌/◌, ◌%◌, ◌^◌, ◌<◌, ◌≤◌, Bool, false, not, nat_eq, List, get_or, ap, bit_and, arith}
 use Rattle.std.proofs.{Math.Pow.pow_mono, lemmas.Bool.Decides.nat_tests}
-use Rattle.std.proofs.lemmas.Nat.{and_mask, pow-add, Bits.bit_at_above, Bits.bit_at_cat_low, Bits.bit_at_cat_high}
-use mathlib.Core.Bool.{beq}
-use Rattle.qr_bits.specs.Bits.{codeword_bit}
-use Rattle.qr_matrix.specs.BitRow.{has_bit}
-use Rattle.qr_matrix.proofs.Facts.{has_bit-and, has_bit-ones, has_bit-shr}
-use Rattle.qr_symbol.specs.Mask.{inverted}
+use Rattle.std.proofs.lemmas.Nat.{and_mask, pow-add, Bits.{bit_at_above, bit_at_cat_low, bit_at_cat_high}}
 
 -- a word of 32 bits has no bit from 32 on
 pub word-past : (word i : ℕ) → word < 2 ^ 32 → 32 ≤ i → false ≡ has_bit word i

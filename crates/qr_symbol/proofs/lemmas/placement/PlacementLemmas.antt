@@ -1,21 +1,19 @@
 -- Drawing along the walk: every place that the walk has passed, or never reaches, has its final colour.
-use Rattle.std.proofs.Common.{◌≡◌, ℕ, zero, suc, ◌+◌, ◌-◌, ◌⊎◌, ◌<◌, ◌≤◌, Bool, true, false, cond, nat_eq, ◌&&◌, List, [], ◌∷◌, ◌++◌, length, length-append, refl, sym, ◌∙◌, ap, inl, inr, subst, append_assoc, append-nil, arith}
-use Rattle.std.proofs.lemmas.Bool.{cases_eq}
+use Rattle.qr_bits.specs.Bits.{codeword_bit}
 use Rattle.qr_layout.proofs.Facts.{Mem, order-has, order-mem, order-small, number-at, row-in, col-in, region-role, role-region}
 use Rattle.qr_layout.specs.Format.{format_word_of, version_word_of}
-use Rattle.qr_layout.specs.Order.{IsOrder, in_region_of, number_of}
-use Rattle.qr_layout.specs.{Region.is_in_region, Role.role_of, Strips.both_of, Strips.rows_from, Version.side_of}
-use Rattle.qr_layout.specs.declared.{level.Level.Level, region.Module.Module}
-use Rattle.qr_layout.specs.declared.{role.Role.Role, role.Role.TheVariants.Region, strips.Strip.Strip}
-use Rattle.qr_bits.specs.Bits.{codeword_bit}
-use Rattle.qr_matrix.specs.Grid.{Grid, square, colour, painted, transposed, IsSquare}
+use Rattle.qr_layout.specs.{Order.{IsOrder, in_region_of, number_of}, Region.is_in_region, Role.role_of}
+use Rattle.qr_layout.specs.{Strips.{both_of, rows_from}, Version.side_of, declared.level.Level.Level}
+use Rattle.qr_layout.specs.declared.{region.Module.Module, role.Role.{Role, TheVariants.Region}, strips.Strip.Strip}
 use Rattle.qr_matrix.proofs.Facts.{same-place, square-same, colour-square, colour-painted-here, colour-painted-there, colour-transposed}
+use Rattle.qr_matrix.specs.Grid.{Grid, square, colour, painted, transposed, IsSquare}
+use Rattle.qr_symbol.proofs.lemmas.placement.{ColumnLemmas.row-small, KeptPlaceLemmas.{kept-append, kept-in, kept-out}}
 use Rattle.qr_symbol.specs.Mask.{inverts, inverted}
-use Rattle.qr_symbol.specs.Symbol.{colour_by, colour_of, grid_of}
-use Rattle.qr_symbol.specs.Steps.Placement.{placed_colour, number_after, number_at, row_of, IsStripDrawn, masked_colour, masked_grid, region_grid, plain_grid}
 use Rattle.qr_symbol.specs.Steps.Patterns.{fixed_colour, format_or, paint_of, symmetric_format}
-use Rattle.qr_symbol.proofs.lemmas.placement.KeptPlaceLemmas.{kept-append, kept-in, kept-out}
-use Rattle.qr_symbol.proofs.lemmas.placement.ColumnLemmas.{row-small}
+use Rattle.qr_symbol.specs.Steps.Placement.{placed_colour, number_after, number_at, row_of, IsStripDrawn, masked_colour, masked_grid, region_grid, plain_grid}
+use Rattle.qr_symbol.specs.Symbol.{colour_by, colour_of, grid_of}
+use Rattle.std.proofs.Common.{◌≡◌, ℕ, zero, suc, ◌+◌, ◌-◌, ◌⊎◌, ◌<◌, ◌≤◌, Bool, true, false, cond, nat_eq, ◌&&◌, List, [], ◌∷◌, ◌++◌, length, length-append, refl, sym, ◌∙◌, ap, inl, inr, subst, append_assoc, append-nil, arith}
+use Rattle.std.proofs.lemmas.Bool.{cases_eq}
 
 -- the module in a row and a column
 abbrev pub at : ℕ → ℕ → Module

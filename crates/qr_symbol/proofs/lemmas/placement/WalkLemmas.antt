@@ -1,17 +1,16 @@
 -- Drawing along the walk, where each bit is masked as it is placed.
 use mathlib.Core.Bool.{beq}
-use Rattle.std.proofs.Common.{◌≡◌, ℕ, ◌+◌, ◌<◌, ◌≤◌, Bool, true, false, cond, not, List, [], ◌∷◌, ◌++◌, length, length-append, refl, ◌∙◌, ap, arith}
-use Rattle.qr_layout.proofs.Facts.{order-small, region-role, role-region}
-use Rattle.qr_layout.specs.{Format.format_word_of, Format.version_word_of, Order.IsOrder, Order.number_of}
-use Rattle.qr_layout.specs.{Region.is_in_region, Role.role_of, Version.side_of, declared.level.Level.Level}
-use Rattle.qr_layout.specs.declared.{region.Module.Module, role.Role.Role, role.Role.TheVariants.Region}
-use Rattle.qr_bits.specs.Bits.{codeword_bit}
-use Rattle.qr_matrix.specs.Grid.{Grid, square, colour, light, painted, IsSquare}
+use Rattle.{qr_bits.specs.Bits.codeword_bit, qr_layout.proofs.Facts.{order-small, region-role, role-region}}
+use Rattle.qr_layout.specs.Format.{format_word_of, version_word_of}
+use Rattle.qr_layout.specs.{Order.{IsOrder, number_of}, Region.is_in_region, Role.role_of, Version.side_of}
+use Rattle.qr_layout.specs.declared.{level.Level.Level, region.Module.Module, role.Role.{Role, TheVariants.Region}}
 use Rattle.qr_matrix.proofs.Facts.{square-same, colour-square}
+use Rattle.qr_matrix.specs.Grid.{Grid, square, colour, light, painted, IsSquare}
 use Rattle.qr_symbol.proofs.lemmas.placement.BitLemmas.{differs-inverted}
 use Rattle.qr_symbol.proofs.lemmas.placement.PlacementLemmas.{at, by_test, Done, done-start, done-step, done-end, next-number, painted-square, whole-next, whole-push, in-square}
-use Rattle.qr_symbol.specs.{Mask.inverts, Mask.inverted, Steps.Patterns.fixed_colour, Steps.Placement.walked_colour}
+use Rattle.qr_symbol.specs.{Mask.{inverts, inverted}, Steps.{Patterns.fixed_colour, Placement.walked_colour}}
 use Rattle.qr_symbol.specs.Symbol.{colour_by, colour_of, grid_of}
+use Rattle.std.proofs.Common.{◌≡◌, ℕ, ◌+◌, ◌<◌, ◌≤◌, Bool, true, false, cond, not, List, [], ◌∷◌, ◌++◌, length, length-append, refl, ◌∙◌, ap, arith}
 
 -- outside the encoding region the colour stays
 walked-outside : (v : ℕ) (cw : List ℕ) (mask : ℕ) (f : ℕ → ℕ → Bool) (r c : ℕ) → is_in_region v r c ≡ false → f r c ≡ walked_colour v cw mask f r c

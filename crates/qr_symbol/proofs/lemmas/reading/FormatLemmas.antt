@@ -1,15 +1,13 @@
 -- The format information of a square is that of at most one level and mask.
-use Rattle.std.proofs.Common.{◌≡◌, ℕ, ◌/◌, ◌^◌, ◌<◌, ◌≤◌, Bool, true, eqb, ltb, nat_eq, List, refl, sym, ◌∙◌, ap, inl, inr, arith}
-use Rattle.std.proofs.lemmas.Bool.{cases_lt, eqb-true, Decides.nat_tests}
-use Rattle.std.proofs.lemmas.Nat.Bits.{same_from_bits_below, bit_at-lt}
-use Rattle.std.specs.{Int.bit_at, Prelude.bit_xor}
 use borrow.Author.Tests.{ltb-true}
 use Rattle.qr_layout.proofs.Facts.{below, below-at, format-first}
 use Rattle.qr_layout.specs.Format.{word_remainder, format_with, five_bits, level_bits, format_word_of}
-use Rattle.qr_layout.specs.{Role.first_place, Version.side_of, declared.level.Level.Level}
-use Rattle.qr_layout.specs.declared.level.Level.TheVariants.{L, M, Q, H}
-use Rattle.qr_matrix.{proofs.Facts.colour-square, specs.BitRow.has_bit, specs.Grid.Grid}
-use Rattle.qr_symbol.specs.{Reading.IsFormat, Symbol.colour_by, Symbol.colour_of, Symbol.grid_of}
+use Rattle.qr_layout.specs.{Role.first_place, Version.side_of, declared.level.Level.{Level, TheVariants.{L, M, Q, H}}}
+use Rattle.qr_matrix.{proofs.Facts.colour-square, specs.{BitRow.has_bit, Grid.Grid}}
+use Rattle.qr_symbol.specs.{Reading.IsFormat, Symbol.{colour_by, colour_of, grid_of}}
+use Rattle.std.proofs.Common.{◌≡◌, ℕ, ◌/◌, ◌^◌, ◌<◌, ◌≤◌, Bool, true, eqb, ltb, nat_eq, List, refl, sym, ◌∙◌, ap, inl, inr, arith}
+use Rattle.std.proofs.lemmas.{Bool.{cases_lt, eqb-true, Decides.nat_tests}, Nat.Bits.{same_from_bits_below, bit_at-lt}}
+use Rattle.std.specs.{Int.bit_at, Prelude.bit_xor}
 
 -- the test that the word of format information contains its five data bits
 gives-back : ℕ → Bool

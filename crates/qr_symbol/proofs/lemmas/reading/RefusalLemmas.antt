@@ -1,13 +1,12 @@
 -- A square is read as one content, or is refused for one reason.
+use Rattle.qr_bits.specs.{Bits.bits_of, Parsing.Content, declared.fault.ParseFault.ParseFault}
+use Rattle.{qr_layout.specs.declared.level.Level.Level, qr_matrix.specs.Grid.Grid}
+use Rattle.qr_symbol.proofs.lemmas.reading.{FormatLemmas.format-one, ReadLemmas.message-one}
+use Rattle.qr_symbol.specs.Reading.{IsFormat, IsMessage, IsReading, IsOfVersion, IsParsedAs, IsUnread}
+use Rattle.qr_symbol.specs.declared.fault.ReadFault.{ReadFault}
 use Rattle.std.proofs.Common.{◌≡◌, ℕ, List, refl, inl, inr, ◌⊎◌, arith}
 use Rattle.std.specs.Prelude.{◌↔◌, MatchResult, Result, Ok, Err}
-use Rattle.qr_layout.specs.declared.level.Level.{Level}
-use Rattle.qr_bits.specs.{declared.fault.ParseFault.ParseFault, Bits.bits_of, Parsing.Content}
-use Rattle.qr_symbol.specs.declared.fault.ReadFault.{ReadFault}
 use Rattle.qr_symbol.specs.declared.fault.ReadFault.TheVariants as fault
-use Rattle.qr_matrix.specs.Grid.{Grid}
-use Rattle.qr_symbol.specs.Reading.{IsFormat, IsMessage, IsReading, IsOfVersion, IsParsedAs, IsUnread}
-use Rattle.qr_symbol.proofs.lemmas.reading.{ReadLemmas.message-one, FormatLemmas.format-one}
 
 -- a square has one version, level and mask, so its message does not depend on how they were found
 pub moved : (g : Grid) (v w : ℕ) (l k : Level) (m n : ℕ) (d : List ℕ) → IsOfVersion g v → IsOfVersion g w → IsFormat g l m → IsFormat g k n → IsMessage v l m g d → (v ≡ w) × IsMessage w k n g d

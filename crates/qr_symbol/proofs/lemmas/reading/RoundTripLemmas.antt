@@ -1,18 +1,15 @@
 -- A symbol is read as its input.
-use Rattle.std.proofs.Common.{◌≡◌, ℕ, ◌+◌, ◌<◌, ◌≤◌, List, [], length, get_or, sym, ◌∙◌, ap, subst, inl, inr, arith}
-use Rattle.std.proofs.{Math.ListN.get_or-eq_default, lemmas.Bool.cases_lt}
-use Rattle.std.proofs.lemmas.List.Elements.{All-append, All-map}
-use Rattle.std.specs.{List.All, Prelude.Option}
+use Rattle.qr_bits.proofs.Facts.{data_again, length-data}
+use Rattle.qr_bits.specs.{Bits.bits_of, Parsing.{Content, parse}, declared.{header.Header.Header, modes.Rule.Rule}}
 use Rattle.qr_layout.specs.declared.{blocks.Blocks.Blocks, level.Level.Level}
-use Rattle.qr_bits.{proofs.Facts.data_again, proofs.Facts.length-data, specs.Bits.bits_of}
-use Rattle.qr_bits.specs.{Parsing.Content, Parsing.parse, declared.header.Header.Header, declared.modes.Rule.Rule}
-use Rattle.qr_matrix.specs.Grid.{Grid}
-use Rattle.qr_symbol.specs.Interleaving.{start_of, data_sizes, check_at, IsFinalMessage}
-use Rattle.qr_symbol.specs.Reading.{IsFormat, IsMessage, IsReading}
-use Rattle.qr_symbol.specs.Encoding.{IsSymbolAt}
-use Rattle.qr_symbol.proofs.lemmas.interleaving.MessageLemmas.{final-whole}
-use Rattle.qr_symbol.proofs.lemmas.reading.ReadLemmas.{message-read, message-one}
+use Rattle.{qr_matrix.specs.Grid.Grid, qr_symbol.proofs.lemmas.interleaving.MessageLemmas.final-whole}
 use Rattle.qr_symbol.proofs.lemmas.reading.FormatLemmas.{format-one, format-read}
+use Rattle.qr_symbol.proofs.lemmas.reading.ReadLemmas.{message-read, message-one}
+use Rattle.qr_symbol.specs.{Encoding.IsSymbolAt, Interleaving.{start_of, data_sizes, check_at, IsFinalMessage}}
+use Rattle.qr_symbol.specs.Reading.{IsFormat, IsMessage, IsReading}
+use Rattle.std.proofs.Common.{◌≡◌, ℕ, ◌+◌, ◌<◌, ◌≤◌, List, [], length, get_or, sym, ◌∙◌, ap, subst, inl, inr, arith}
+use Rattle.std.proofs.{Math.ListN.get_or-eq_default, lemmas.{Bool.cases_lt, List.Elements.{All-append, All-map}}}
+use Rattle.std.specs.{List.All, Prelude.Option}
 
 -- an item of a list of bytes, or 0 after its end, is a byte
 byte-at : (xs : List ℕ) (k : ℕ) → All (λ x. x < 256) xs → get_or xs k 0 < 256

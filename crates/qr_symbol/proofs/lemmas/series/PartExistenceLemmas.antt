@@ -1,15 +1,12 @@
 -- Every input has parts: it is decidable whether a prefix fits, so there is a longest one.
-use Rattle.std.proofs.Common.{◌≡◌, ℕ, zero, suc, ◌+◌, ◌<◌, ◌≤◌, ◌⊎◌, Bool, true, false, nat_eq, cond, List, [], ◌∷◌, length, take, drop, refl, subst, inl, inr, length-drop, arith}
-use Rattle.std.proofs.lemmas.{Bool.cases_lt, List.Sums.sum_by-cons}
-use Rattle.std.specs.{List.sum_by, Prelude.IsTrue}
-use Rattle.qr_layout.specs.declared.level.Level.{Level}
 use Rattle.qr_bits.proofs.Facts.{CoversInTurn, capacity_least, count_width_bound, covers_all, empty_fits, from_turn, in_turn}
 use Rattle.qr_bits.specs.Padding.{room_of}
 use Rattle.qr_bits.specs.Segmentation.{bits, prepend_mode, runs_of, Covers, IsAssignment, HasFit, IsLongestFit}
-use Rattle.qr_bits.specs.declared.modes.Mode.{Mode}
-use Rattle.qr_bits.specs.declared.modes.Mode.TheVariants.{Numeric, Alphanumeric, Byte, Kanji}
-use Rattle.qr_bits.specs.declared.{modes.Rule.Rule, segment.Segment.Segment}
+use Rattle.qr_bits.specs.declared.modes.{Mode.{Mode, TheVariants.{Numeric, Alphanumeric, Byte, Kanji}}, Rule.Rule}
+use Rattle.{qr_bits.specs.declared.segment.Segment.Segment, qr_layout.specs.declared.level.Level.Level}
 use Rattle.qr_symbol.{proofs.lemmas.series.PartLemmas.bytes-fit, specs.Series.AreParts}
+use Rattle.std.proofs.Common.{◌≡◌, ℕ, zero, suc, ◌+◌, ◌<◌, ◌≤◌, ◌⊎◌, Bool, true, false, nat_eq, cond, List, [], ◌∷◌, length, take, drop, refl, subst, inl, inr, length-drop, arith}
+use Rattle.std.{proofs.lemmas.{Bool.cases_lt, List.Sums.sum_by-cons}, specs.{List.sum_by, Prelude.IsTrue}}
 
 -- a fact is decided if it holds or does not hold
 abbrev Decided : Type 0 → Type 0

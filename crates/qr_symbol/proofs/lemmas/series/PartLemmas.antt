@@ -1,21 +1,20 @@
 -- The parts of an input: how long a prefix fits, and the lengths of the parts, which are found one after another.
+use borrow.Author.Tests.{leb-true}
+use lib.ListN.{replicate}
+use Rattle.qr_bits.proofs.Facts.{CoversInTurn, from_turn, count_width_bound, capacity_least, fitting_short, byte_used, piece_fits}
+use Rattle.qr_bits.specs.{Modes.{may_use, count_width}, Padding.room_of, Segmentation.{runs_of, HasFit, IsLongestFit}}
+use Rattle.qr_bits.specs.declared.modes.{Mode.TheVariants.{Byte, Kanji}, Rule.Rule}
+use Rattle.qr_layout.proofs.Facts.{every, every-at}
+use Rattle.qr_layout.specs.Blocks.{block_count_of, correction_len_of, data_codewords_of}
+use Rattle.qr_layout.specs.{Version.total_codewords_of, declared.level.Level.Level}
+use Rattle.qr_symbol.specs.Series.{AreParts, FitParts, NeedsParts, IsSymbolOf, AreSymbolsFrom}
+use Rattle.qr_symbol.specs.{Steps.Series.{AreLengths, parts_of}, declared.symbol.Symbol.Symbol}
 use Rattle.std.proofs.Common.{◌≡◌, ℕ, zero, suc, ◌+◌, ◌-◌, ◌*◌, ◌<◌, ◌≤◌, min, true, false, leb, ◌⊎◌, All, List, [], ◌∷◌, ◌++◌, take, drop, length, get_or, Some, refl, sym, ◌∙◌, ap, subst, append_assoc, inl, inr, arith}
 use Rattle.std.proofs.Math.Seq.{drop-cons, drop-nil, drop-append-add, take-append_seam, take-length}
 use Rattle.std.proofs.lemmas.Bool.{and_from, cases_lt}
 use Rattle.std.proofs.lemmas.List.{length-take, length-drop, append-nil, take-append-drop, drop_all, drop-append-le, length-append}
 use Rattle.std.proofs.lemmas.List.Elements.{All-nil, All-cons, All-head, All-tail}
-use Rattle.std.specs.{List.concat, List.list_all, Prelude.IsTrue}
-use borrow.Author.Tests.{leb-true}
-use lib.ListN.{replicate}
-use Rattle.qr_layout.proofs.Facts.{every, every-at}
-use Rattle.qr_layout.specs.Blocks.{block_count_of, correction_len_of, data_codewords_of}
-use Rattle.qr_layout.specs.{Version.total_codewords_of, declared.level.Level.Level}
-use Rattle.qr_bits.proofs.Facts.{CoversInTurn, from_turn, count_width_bound, capacity_least, fitting_short, byte_used, piece_fits}
-use Rattle.qr_bits.specs.{Modes.may_use, Modes.count_width, Padding.room_of}
-use Rattle.qr_bits.specs.Segmentation.{runs_of, HasFit, IsLongestFit}
-use Rattle.qr_bits.specs.declared.modes.{Mode.TheVariants.Byte, Mode.TheVariants.Kanji, Rule.Rule}
-use Rattle.qr_symbol.specs.Series.{AreParts, FitParts, NeedsParts, IsSymbolOf, AreSymbolsFrom}
-use Rattle.qr_symbol.specs.{Steps.Series.AreLengths, Steps.Series.parts_of, declared.symbol.Symbol.Symbol}
+use Rattle.std.specs.{List.{concat, list_all}, Prelude.IsTrue}
 
 -- ---- how long a prefix fits
 

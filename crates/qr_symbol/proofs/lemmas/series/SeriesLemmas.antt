@@ -1,18 +1,15 @@
 -- An input has only one series, which is read as the input; long inputs have no series.
-use Rattle.std.proofs.Common.{◌≡◌, ℕ, suc, ◌+◌, ◌-◌, ◌*◌, ◌<◌, ◌≤◌, List, [], ◌∷◌, length, None, Some, Option, refl, sym, ap, subst, arith, inl, inr}
-use Rattle.std.proofs.lemmas.List.{append-nil, take-append-drop}
-use Rattle.qr_layout.specs.declared.level.Level.{Level}
-use Rattle.qr_bits.proofs.Facts.{fitting_short, empty_fits}
-use Rattle.qr_bits.specs.{Header.parity_of, Parsing.Content, declared.header.Header.Header, declared.modes.Rule.Rule}
-use Rattle.qr_symbol.proofs.lemmas.encoding.{SymbolLemmas.symbol-at-one, SymbolMakingLemmas.symbol-fits}
-use Rattle.qr_symbol.proofs.lemmas.reading.RoundTripLemmas.{symbol-read}
+use Rattle.qr_bits.{proofs.Facts.{fitting_short, empty_fits}, specs.{Header.parity_of, Parsing.Content}}
+use Rattle.{qr_bits.specs.declared.{header.Header.Header, modes.Rule.Rule}, qr_layout.specs.declared.level.Level.Level}
+use Rattle.{qr_matrix.specs.Grid.Grid, qr_symbol.proofs.lemmas.encoding.SymbolLemmas.symbol-at-one}
+use Rattle.qr_symbol.proofs.lemmas.{encoding.SymbolMakingLemmas.symbol-fits, reading.RoundTripLemmas.symbol-read}
 use Rattle.qr_symbol.proofs.lemmas.series.PartLemmas.{parts-are, length-parts, parts-one, parts-some, parts-long}
-use Rattle.qr_symbol.specs.Joining.{AreReadBy, bytes_of_all, HaveHeaders, IsJoined}
-use Rattle.qr_symbol.specs.Reading.{IsReading}
+use Rattle.qr_symbol.specs.{Joining.{AreReadBy, bytes_of_all, HaveHeaders, IsJoined}, Reading.IsReading}
 use Rattle.qr_symbol.specs.Series.{squares_of, AreParts, IsSymbolOf, AreSymbolsFrom, IsSplit, IsPlainSymbol, IsSeries}
 use Rattle.qr_symbol.specs.Steps.Series.{AreLengths, parts_of}
-use Rattle.qr_symbol.specs.{VersionChoice.FitsVersion, VersionChoice.HasNoVersion, declared.symbol.Symbol.Symbol}
-use Rattle.qr_matrix.specs.Grid.{Grid}
+use Rattle.qr_symbol.specs.{VersionChoice.{FitsVersion, HasNoVersion}, declared.symbol.Symbol.Symbol}
+use Rattle.std.proofs.Common.{◌≡◌, ℕ, suc, ◌+◌, ◌-◌, ◌*◌, ◌<◌, ◌≤◌, List, [], ◌∷◌, length, None, Some, Option, refl, sym, ap, subst, arith, inl, inr}
+use Rattle.std.proofs.lemmas.List.{append-nil, take-append-drop}
 
 -- ---- what makes a series
 

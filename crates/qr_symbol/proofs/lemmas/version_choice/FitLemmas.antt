@@ -1,10 +1,9 @@
 -- The least version that an input fits, found with the segments of the first version of each range of equal widths.
+use Rattle.qr_bits.specs.{Modes.count_width, Padding.capacity_of, Segmentation.{bits, IsLeastSegmentation}}
+use Rattle.qr_bits.specs.declared.{modes.{Mode.Mode, Rule.Rule}, segment.Segment.Segment}
+use Rattle.{qr_layout.specs.declared.level.Level.Level, qr_symbol.specs.VersionChoice.{FitsVersion, IsVersion}}
 use Rattle.std.proofs.Common.{◌≡◌, ℕ, ◌<◌, ◌≤◌, inl, inr, List, [], ◌∷◌, refl, arith}
 use Rattle.std.proofs.lemmas.Bool.{cases_lt}
-use Rattle.qr_layout.specs.declared.level.Level.{Level}
-use Rattle.qr_bits.specs.{Modes.count_width, Padding.capacity_of, Segmentation.bits, Segmentation.IsLeastSegmentation}
-use Rattle.qr_bits.specs.declared.{modes.Mode.Mode, modes.Rule.Rule, segment.Segment.Segment}
-use Rattle.qr_symbol.specs.VersionChoice.{FitsVersion, IsVersion}
 
 -- Segments have the same number of bits in versions of the same widths.
 bits-same : (u v : ℕ) → ((m : Mode) → count_width u m ≡ count_width v m) → (segs : List Segment) → bits u segs ≡ bits v segs

@@ -1,7 +1,6 @@
-use Rattle.std.proofs.{Common.eqb, Common.ap, Common.◌∙◌, Common.arith, lemmas.List.take_all}
-use Rattle.std.specs.List.{list_any}
-use Rattle.qr_layout.specs.{declared.region.Module.Module, Region.ring_of, Role.is_alignment_light}
+use Rattle.qr_layout.specs.{Region.ring_of, Role.is_alignment_light, declared.region.Module.Module}
 use Rattle.qr_symbol.proofs.lemmas.patterns.PaintLemmas.{over-item, over-same, over-side, over-sized}
+use Rattle.std.{proofs.{Common.{eqb, ap, ◌∙◌, arith}, lemmas.List.take_all}, specs.List.list_any}
 use Rattle.qr_symbol.proofs.patterns.clear_rings.Goals as goal
 
 -- a module that stands in for an index past the end of a list

@@ -1,6 +1,5 @@
+use Rattle.qr_symbol.proofs.lemmas.patterns.{FinderLemmas.three-squares, PaintLemmas.{over-rectangle, over-side}}
 use Rattle.std.proofs.Common.{refl}
-use Rattle.qr_symbol.proofs.lemmas.patterns.FinderLemmas.{three-squares}
-use Rattle.qr_symbol.proofs.lemmas.patterns.PaintLemmas.{over-rectangle, over-side}
 use Rattle.qr_symbol.proofs.patterns.draw_finder.Goals as goal
 
 pub returns : goal.returns

@@ -1,11 +1,10 @@
-use Rattle.std.proofs.Common.{◌≡◌, ℕ, Bool, true, cond, ap, ◌∙◌, refl, arith}
-use Rattle.std.proofs.lemmas.List.Elements.{All-same}
 use Rattle.qr_layout.proofs.Facts.{centres-inside, off-role, region-parts}
 use Rattle.qr_layout.specs.{Format.version_word_of, Region.is_in_region, Steps.Rectangles.IsInside, Version.side_of}
-use Rattle.qr_layout.specs.declared.role.Role.TheVariants.{Fixed, Region}
-use Rattle.qr_matrix.{proofs.Facts.square-same, specs.Grid.colour}
+use Rattle.{qr_layout.specs.declared.role.Role.TheVariants.{Fixed, Region}, qr_matrix.proofs.Facts.square-same}
+use Rattle.{qr_matrix.specs.Grid.colour, qr_symbol.proofs.lemmas.patterns.PaintLemmas.{fixed-tests, light-inside}}
 use Rattle.qr_symbol.specs.Steps.Patterns.{fixed_colour, paint_of}
-use Rattle.qr_symbol.proofs.lemmas.patterns.PaintLemmas.{fixed-tests, light-inside}
+use Rattle.std.proofs.Common.{◌≡◌, ℕ, Bool, true, cond, ap, ◌∙◌, refl, arith}
+use Rattle.std.proofs.lemmas.List.Elements.{All-same}
 use Rattle.qr_symbol.proofs.patterns.draw_fixed.Goals as goal
 
 -- a module whose role is a fixed colour has this colour

@@ -1,8 +1,7 @@
-use Rattle.std.proofs.Common.{◌≡◌, ◌∙◌, ap, subst, ℕ, arith}
-use Rattle.qr_layout.specs.Version.{side_of}
-use Rattle.qr_matrix.specs.Grid.{Grid, painted}
-use Rattle.qr_symbol.proofs.lemmas.placement.PlacementLemmas.{painted-square}
+use Rattle.{qr_layout.specs.Version.side_of, qr_matrix.specs.Grid.{Grid, painted}}
 use Rattle.qr_symbol.proofs.lemmas.patterns.FormatDrawingLemmas.{FormatDone, format-start, format-step, format-end}
+use Rattle.qr_symbol.proofs.lemmas.placement.PlacementLemmas.{painted-square}
+use Rattle.std.proofs.Common.{◌≡◌, ◌∙◌, ap, subst, ℕ, arith}
 use Rattle.qr_symbol.proofs.patterns.draw_format_bits.Goals as goal
 
 pub loop-bit-init : goal.loop-bit-init

@@ -1,12 +1,11 @@
-use Rattle.std.proofs.Common.{◌≡◌, ℕ, Bool, true, ◌&&◌, leb, ltb, sym, ap, ◌∙◌, arith}
-use Rattle.std.{proofs.lemmas.Bool.Decides.nat_tests, proofs.lemmas.List.Elements.All-same, specs.List.list_any}
 use Rattle.qr_layout.proofs.Facts.{centres-inside, fixed-within, region_outside}
-use Rattle.qr_layout.specs.Alignment.{alignment_places, centres_of}
-use Rattle.qr_layout.specs.{Rectangles.is_in_rectangle, Region.is_alignment, Region.is_in_region}
-use Rattle.qr_layout.specs.{Steps.Rectangles.IsInside, Steps.Rectangles.IsWithin, Version.side_of}
-use Rattle.qr_matrix.{proofs.Facts.square-same, specs.Grid.Grid, specs.Grid.colour}
+use Rattle.qr_layout.specs.{Alignment.{alignment_places, centres_of}, Rectangles.is_in_rectangle}
+use Rattle.qr_layout.specs.{Region.{is_alignment, is_in_region}, Steps.Rectangles.{IsInside, IsWithin}, Version.side_of}
+use Rattle.qr_matrix.{proofs.Facts.square-same, specs.Grid.{Grid, colour}}
 use Rattle.qr_symbol.proofs.lemmas.patterns.PaintLemmas.{over-rectangle, region-tests}
 use Rattle.qr_symbol.{proofs.patterns.draw_region.Goals.After-fill, specs.Steps.Patterns.IsOver}
+use Rattle.std.proofs.Common.{◌≡◌, ℕ, Bool, true, ◌&&◌, leb, ltb, sym, ap, ◌∙◌, arith}
+use Rattle.std.{proofs.lemmas.{Bool.Decides.nat_tests, List.Elements.All-same}, specs.List.list_any}
 use Rattle.qr_symbol.proofs.patterns.draw_region.Goals as goal
 
 -- the test that a place is in the square

@@ -1,8 +1,7 @@
-use Rattle.std.proofs.Common.{get_or, ap, ◌∙◌, arith}
-use Rattle.std.{proofs.lemmas.List.take_all, specs.List.list_any}
 use Rattle.qr_layout.proofs.Facts.{alignment-squares}
 use Rattle.qr_layout.specs.{Rectangles.is_in_rectangle, Steps.Rectangles.square_round, declared.region.Module.Module}
 use Rattle.qr_symbol.proofs.lemmas.patterns.PaintLemmas.{over-item, over-rectangle, over-same, over-side}
+use Rattle.std.{proofs.{Common.{get_or, ap, ◌∙◌, arith}, lemmas.List.take_all}, specs.List.list_any}
 use Rattle.qr_symbol.proofs.patterns.fill_alignment.Goals as goal
 
 -- a module that stands in for an index past the end of a list

@@ -1,7 +1,5 @@
-use Rattle.std.proofs.Common.{ap}
-use Rattle.qr_matrix.specs.Grid.{Grid}
-use Rattle.qr_symbol.proofs.lemmas.patterns.FinderLemmas.{block-paint}
-use Rattle.qr_symbol.proofs.lemmas.patterns.PaintLemmas.{over-rectangle, over-side, over-sized}
+use Rattle.{qr_matrix.specs.Grid.Grid, qr_symbol.proofs.lemmas.patterns.FinderLemmas.block-paint}
+use Rattle.{qr_symbol.proofs.lemmas.patterns.PaintLemmas.{over-rectangle, over-side, over-sized}, std.proofs.Common.ap}
 use Rattle.qr_symbol.proofs.patterns.paint_finder.Goals as goal
 
 pub returns : goal.returns

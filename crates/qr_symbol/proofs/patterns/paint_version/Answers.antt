@@ -1,8 +1,7 @@
-use Rattle.std.proofs.Common.{◌≡◌, ℕ, eqb, ◌&&◌, ◌||◌, ap, ◌∙◌, refl, arith}
-use Rattle.qr_layout.specs.{Format.version_word_of, Version.side_of}
-use Rattle.qr_matrix.specs.{BitRow.has_bit, Grid.Grid}
+use Rattle.{qr_layout.specs.{Format.version_word_of, Version.side_of}, qr_matrix.specs.{BitRow.has_bit, Grid.Grid}}
 use Rattle.qr_symbol.proofs.lemmas.patterns.PaintLemmas.{over-none, over-place, over-same, over-side, over-twice}
 use Rattle.qr_symbol.proofs.lemmas.patterns.VersionLemmas.{version_drawn, version-all, version-here, version-more, version-none, version-there}
+use Rattle.std.proofs.Common.{◌≡◌, ℕ, eqb, ◌&&◌, ◌||◌, ap, ◌∙◌, refl, arith}
 use Rattle.qr_symbol.proofs.patterns.paint_version.Goals as goal
 
 pub loop-bit-init : goal.loop-bit-init

@@ -1,10 +1,8 @@
-use Rattle.std.proofs.Common.{List, sym, subst, arith}
-use Rattle.std.{proofs.lemmas.List.Elements.All-tail, specs.List.All}
-use Rattle.qr_layout.{proofs.Facts.Inside, specs.Order.IsOrder, specs.Order.in_region_of}
+use Rattle.qr_layout.{proofs.Facts.Inside, specs.Order.{IsOrder, in_region_of}}
 use Rattle.qr_layout.specs.{Strips.places_of, Version.side_of, declared.strips.Strip.Strip}
-use Rattle.qr_matrix.specs.Grid.{transposed}
+use Rattle.{qr_matrix.specs.Grid.transposed, qr_symbol.proofs.lemmas.placement.KeptPlaceLemmas.places-push}
 use Rattle.qr_symbol.proofs.lemmas.placement.PlacementLemmas.{IsPlaced, placed-start, placed-strip, placed-small, placed-end, square-transposed}
-use Rattle.qr_symbol.proofs.lemmas.placement.KeptPlaceLemmas.{places-push}
+use Rattle.std.{proofs.{Common.{List, sym, subst, arith}, lemmas.List.Elements.All-tail}, specs.List.All}
 use Rattle.qr_symbol.proofs.placement.draw_codewords.Goals as goal
 
 pub loop-strip-init : goal.loop-strip-init

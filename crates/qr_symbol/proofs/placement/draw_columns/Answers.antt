@@ -1,11 +1,10 @@
-use Rattle.std.proofs.Common.{◌≡◌, ◌+◌, ◌-◌, ◌*◌, ◌≤◌, refl, subst, arith}
-use Rattle.qr_bits.proofs.Facts.{bool_byte-bit}
-use Rattle.qr_layout.specs.Version.{side_of}
-use Rattle.qr_symbol.specs.Steps.Placement.{AreNext, IsCodewordBits}
+use Rattle.{qr_bits.proofs.Facts.bool_byte-bit, qr_layout.specs.Version.side_of}
 use Rattle.qr_symbol.proofs.lemmas.placement.ColumnLemmas.{rows-drawn, rows-none}
 use Rattle.qr_symbol.proofs.lemmas.placement.LightLemmas.{kept-light, kept-within}
-use Rattle.qr_symbol.proofs.placement.draw_columns.Goals as goal
 use Rattle.qr_symbol.proofs.placement.draw_columns.Goals.{then-number-next, else-number-next, After-draw_rows-2}
+use Rattle.qr_symbol.specs.Steps.Placement.{AreNext, IsCodewordBits}
+use Rattle.std.proofs.Common.{◌≡◌, ◌+◌, ◌-◌, ◌*◌, ◌≤◌, refl, subst, arith}
+use Rattle.qr_symbol.proofs.placement.draw_columns.Goals as goal
 
 pub loop-group-init : goal.loop-group-init
 loop-group-init c =

@@ -1,10 +1,9 @@
-use Rattle.std.proofs.Common.{◌≡◌, ◌+◌, ◌-◌, ◌/◌, ◌%◌, ◌<◌, ℕ, true, eqb, ◌&&◌, ap, sym, ◌∙◌, arith}
-use Rattle.qr_bits.proofs.Facts.{bool_byte-bit}
-use Rattle.qr_layout.specs.{Region.is_in_region, Version.side_of}
-use Rattle.qr_matrix.{proofs.Facts.&&-left, proofs.Facts.&&-right, specs.BitRow.has}
+use Rattle.{qr_bits.proofs.Facts.bool_byte-bit, qr_layout.specs.{Region.is_in_region, Version.side_of}}
+use Rattle.qr_matrix.{proofs.Facts.{&&-left, &&-right}, specs.BitRow.has}
 use Rattle.qr_symbol.proofs.lemmas.placement.ColumnLemmas.{number-whole}
 use Rattle.qr_symbol.proofs.lemmas.placement.LightLemmas.{column-set, four-set, four-drawn, four-region}
 use Rattle.qr_symbol.proofs.lemmas.placement.SplitLemmas.{split, split-high, split-low}
+use Rattle.std.proofs.Common.{◌≡◌, ◌+◌, ◌-◌, ◌/◌, ◌%◌, ◌<◌, ℕ, true, eqb, ◌&&◌, ap, sym, ◌∙◌, arith}
 use Rattle.qr_symbol.proofs.placement.draw_four.Goals as goal
 
 pub returns-then-four-eq15 : goal.returns-then-four-eq15

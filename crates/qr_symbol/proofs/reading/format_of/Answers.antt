@@ -1,8 +1,7 @@
+use Rattle.qr_layout.specs.declared.level.Level.{Level, TheVariants.{L, M, Q, H}}
+use Rattle.{qr_matrix.specs.Grid.Grid, qr_symbol.specs.Reading.IsFormat}
 use Rattle.std.proofs.Common.{◌≡◌, ℕ, ◌<◌, [], ◌∷◌, get_or, inl, inr, subst, arith}
 use Rattle.std.proofs.lemmas.Bool.{cases_lt}
-use Rattle.qr_layout.specs.declared.level.Level.{Level, TheVariants.L, TheVariants.M, TheVariants.Q, TheVariants.H}
-use Rattle.qr_matrix.specs.Grid.{Grid}
-use Rattle.qr_symbol.specs.Reading.{IsFormat}
 use Rattle.qr_symbol.proofs.reading.format_of.Goals as goal
 
 -- the level with the number k

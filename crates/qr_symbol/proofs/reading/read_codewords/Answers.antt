@@ -1,11 +1,10 @@
+use Rattle.{qr_layout.specs.Version.side_of, qr_matrix.specs.Grid.{Grid, colour, square, IsSquare}}
+use Rattle.qr_symbol.proofs.lemmas.{placement.PlacementLemmas.square-is, reading.SymbolReadLemmas.read-masked}
+use Rattle.qr_symbol.proofs.reading.read_codewords.Goals.{then-mask-lt8, else-mask-lt8}
+use Rattle.qr_symbol.specs.{Mask.{inverts, inverted}, Reading.{IsRead, IsReadUnmasked}}
 use Rattle.std.proofs.Common.{◌≡◌, ℕ, ◌≤◌, false, ◌&&◌, eqb, refl, sym, ap, subst, ◌∙◌, arith}
 use Rattle.std.proofs.lemmas.{Bool.Decides.nat_tests, Result.IfOk-weaker}
-use Rattle.qr_layout.specs.Version.{side_of}
-use Rattle.qr_matrix.specs.Grid.{Grid, colour, square, IsSquare}
-use Rattle.qr_symbol.specs.{Mask.inverts, Mask.inverted, Reading.IsRead, Reading.IsReadUnmasked}
-use Rattle.qr_symbol.proofs.lemmas.{placement.PlacementLemmas.square-is, reading.SymbolReadLemmas.read-masked}
 use Rattle.qr_symbol.proofs.reading.read_codewords.Goals as goal
-use Rattle.qr_symbol.proofs.reading.read_codewords.Goals.{then-mask-lt8, else-mask-lt8}
 
 -- each number from 7 on is the mask pattern 7
 seven-on : (mask r c : ℕ) → 7 ≤ mask → inverts 7 r c ≡ inverts mask r c

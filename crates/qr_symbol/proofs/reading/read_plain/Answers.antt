@@ -1,5 +1,4 @@
-use Rattle.std.proofs.lemmas.Result.{IfOk-weaker}
-use Rattle.qr_symbol.proofs.lemmas.reading.SymbolReadLemmas.{read-twice}
+use Rattle.{qr_symbol.proofs.lemmas.reading.SymbolReadLemmas.read-twice, std.proofs.lemmas.Result.IfOk-weaker}
 use Rattle.qr_symbol.proofs.reading.read_plain.Goals as goal
 
 pub returns-clause-read : goal.returns-clause-read

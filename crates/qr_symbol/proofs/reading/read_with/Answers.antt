@@ -1,8 +1,6 @@
-use Rattle.std.proofs.Common.{length, Err, sym, ◌∙◌, ap, subst, arith}
-use Rattle.std.proofs.lemmas.Result.{err_from_is_err_and}
-use Rattle.qr_layout.proofs.Facts.{laws-of}
-use Rattle.qr_symbol.specs.{declared.fault.ReadFault.ReadFault, Reading.IsRead, Reading.IsMessage}
-use Rattle.qr_symbol.proofs.lemmas.reading.SymbolReadLemmas.{not-checked, not-parsed}
+use Rattle.{qr_layout.proofs.Facts.laws-of, qr_symbol.proofs.lemmas.reading.SymbolReadLemmas.{not-checked, not-parsed}}
+use Rattle.qr_symbol.specs.{Reading.{IsRead, IsMessage}, declared.fault.ReadFault.ReadFault}
+use Rattle.std.proofs.{Common.{length, Err, sym, ◌∙◌, ap, subst, arith}, lemmas.Result.err_from_is_err_and}
 use Rattle.qr_symbol.proofs.reading.read_with.Goals as goal
 
 pub returns-in_err-message : goal.returns-in_err-message

@@ -1,7 +1,6 @@
-use Rattle.std.proofs.Common.{◌+◌, ◌<◌, [], ◌∷◌, length, sym, ◌∙◌, length-append, arith}
-use Rattle.std.proofs.lemmas.Bool.{Decides.nat_tests, eqb-true}
-use Rattle.std.proofs.lemmas.List.{append-nil, nil_from_length, length-drop}
 use Rattle.qr_symbol.proofs.lemmas.series.PartLemmas.{lengths-none, lengths-more, parts-some, prefixes-more}
+use Rattle.std.proofs.Common.{◌+◌, ◌<◌, [], ◌∷◌, length, sym, ◌∙◌, length-append, arith}
+use Rattle.std.proofs.lemmas.{Bool.{eqb-true, Decides.nat_tests}, List.{append-nil, nil_from_length, length-drop}}
 use Rattle.qr_symbol.proofs.series.part_lengths.Goals as goal
 
 pub returns-then-is_full-clause-too_many : goal.returns-then-is_full-clause-too_many

@@ -1,5 +1,4 @@
-use Rattle.std.proofs.Common.{arith}
-use Rattle.qr_symbol.proofs.lemmas.encoding.SymbolMakingLemmas.{behind-header, memory-alone}
+use Rattle.{qr_symbol.proofs.lemmas.encoding.SymbolMakingLemmas.{behind-header, memory-alone}, std.proofs.Common.arith}
 use Rattle.qr_symbol.proofs.series.part_symbol.Goals as goal
 
 pub returns-clause-fault : goal.returns-clause-fault

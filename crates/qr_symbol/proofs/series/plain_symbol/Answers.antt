@@ -1,5 +1,4 @@
-use Rattle.std.proofs.Common.{arith}
-use Rattle.qr_bits.proofs.Facts.{fitting_short, least_fits, covers_all}
+use Rattle.{qr_bits.proofs.Facts.{fitting_short, least_fits, covers_all}, std.proofs.Common.arith}
 use Rattle.qr_symbol.proofs.series.plain_symbol.Goals as goal
 
 pub returns-then-input-gt-SYMBOL_BYTES_MAX-clause-symbol : goal.returns-then-input-gt-SYMBOL_BYTES_MAX-clause-symbol

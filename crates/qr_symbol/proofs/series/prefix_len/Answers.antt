@@ -1,5 +1,4 @@
-use Rattle.std.proofs.Common.{arith}
-use Rattle.qr_symbol.proofs.lemmas.series.PartLemmas.{longest-cut, longest-some}
+use Rattle.{qr_symbol.proofs.lemmas.series.PartLemmas.{longest-cut, longest-some}, std.proofs.Common.arith}
 use Rattle.qr_symbol.proofs.series.prefix_len.Goals as goal
 
 pub returns-clause-some : goal.returns-clause-some

@@ -1,6 +1,5 @@
+use Rattle.qr_bits.{proofs.Facts.{capacity_medium, capacity_small, fitting_medium}, specs.Padding.capacity_of}
 use Rattle.std.proofs.Common.{arith}
-use Rattle.qr_bits.specs.Padding.{capacity_of}
-use Rattle.qr_bits.proofs.Facts.{capacity_medium, capacity_small, fitting_medium}
 use Rattle.qr_symbol.proofs.version_choice.first_for.Goals as goal
 
 pub returns-then-input-gt-MEDIUM_BYTES-clause-none : goal.returns-then-input-gt-MEDIUM_BYTES-clause-none

@@ -1,6 +1,5 @@
+use Rattle.qr_symbol.{proofs.lemmas.canvas.CanvasLemmas.{patterns-kept, patterns-drawn}, specs.Steps.Canvas.HasPatterns}
 use Rattle.std.proofs.Common.{sym, ◌∙◌, subst, arith}
-use Rattle.qr_symbol.specs.Steps.Canvas.{HasPatterns}
-use Rattle.qr_symbol.proofs.lemmas.canvas.CanvasLemmas.{patterns-kept, patterns-drawn}
 use Rattle.qr_symbol.proofs.canvas.Canvas.draw_data.Goals as goal
 
 pub invariant_of-self : goal.invariant_of-self

@@ -1,9 +1,8 @@
-use Rattle.std.proofs.Common.{◌≡◌, ℕ, ◌&&◌, ◌∙◌, ap, sym, subst}
-use Rattle.qr_layout.specs.{Version.side_of, Role.role_of, Format.format_word_of}
-use Rattle.qr_matrix.specs.Grid.{Grid, square, colour, IsSquare}
-use Rattle.qr_matrix.proofs.Facts.{square-same, colour-square}
-use Rattle.qr_symbol.specs.{Mask.inverts, Mask.inverted, Steps.Placement.masked_colour, Steps.Patterns.format_or}
+use Rattle.qr_layout.specs.{Format.format_word_of, Role.role_of, Version.side_of}
+use Rattle.qr_matrix.{proofs.Facts.{square-same, colour-square}, specs.Grid.{Grid, square, colour, IsSquare}}
 use Rattle.qr_symbol.proofs.lemmas.placement.PlacementLemmas.{square-is}
+use Rattle.qr_symbol.specs.{Mask.{inverts, inverted}, Steps.{Patterns.format_or, Placement.masked_colour}}
+use Rattle.std.proofs.Common.{◌≡◌, ℕ, ◌&&◌, ◌∙◌, ap, sym, subst}
 use Rattle.qr_symbol.proofs.canvas.Canvas.draw_masked.Goals as goal
 
 pub set_masked-requires-clause-square : goal.set_masked-requires-clause-square

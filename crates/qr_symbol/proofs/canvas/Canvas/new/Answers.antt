@@ -1,7 +1,6 @@
+use Rattle.{qr_layout.specs.Version.side_of, qr_matrix.specs.Grid.light}
+use Rattle.qr_symbol.proofs.lemmas.{canvas.CanvasLemmas.patterns-start, placement.PlacementLemmas.square-is}
 use Rattle.std.proofs.Common.{false, ◌∙◌, ap}
-use Rattle.qr_layout.specs.Version.{side_of}
-use Rattle.qr_matrix.specs.Grid.{light}
-use Rattle.qr_symbol.proofs.lemmas.{placement.PlacementLemmas.square-is, canvas.CanvasLemmas.patterns-start}
 use Rattle.qr_symbol.proofs.canvas.Canvas.new.Goals as goal
 
 pub draw_fixed-requires : goal.draw_fixed-requires

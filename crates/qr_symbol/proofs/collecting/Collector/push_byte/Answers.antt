@@ -1,7 +1,6 @@
-use Rattle.std.proofs.Common.{◌≡◌, ◌+◌, ◌*◌, ◌/◌, ◌^◌, ◌<◌, sym, subst, arith}
-use Rattle.std.proofs.{Math.Nat.mod-lt, lemmas.List.Elements.All-push, lemmas.Nat.div_below, lemmas.Nat.pow_pos}
-use Rattle.std.specs.List.{All}
 use Rattle.qr_bits.proofs.Facts.{byte-behind, power-fits}
+use Rattle.std.proofs.Common.{◌≡◌, ◌+◌, ◌*◌, ◌/◌, ◌^◌, ◌<◌, sym, subst, arith}
+use Rattle.std.{proofs.{Math.Nat.mod-lt, lemmas.{List.Elements.All-push, Nat.{div_below, pow_pos}}}, specs.List.All}
 use Rattle.qr_symbol.proofs.collecting.Collector.push_byte.Goals as goal
 
 pub invariant_of-self-2 : goal.invariant_of-self-2
