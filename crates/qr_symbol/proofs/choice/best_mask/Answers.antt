@@ -16,8 +16,7 @@ loop-mask-preserved c =
     let f = masked_penalty c.args.canvas.now.version c.args.canvas.now.level c.args.canvas.now.region c.args.canvas.now.plain in
     let i = c.loop-mask.invariant in
     let cost : c.mask_penalty-cost.result ≡ f c.loop-mask.mask = c.mask_penalty-cost.ensures.value in
-    let old : c.loop-mask.least ≡ f c.loop-mask.best = i.least in
-    record {
+    let old : c.loop-mask.least ≡ f c.loop-mask.best = i.least in record {
       square = c.mask_penalty-cost.ensures.square;
       best = elim c.if-cost-least.branch [
         | then-cost-least w ↦ (let l : c.mask_penalty-cost.result < c.loop-mask.least = w.if-cost-least.true in subst (IsFirstLeast (c.loop-mask.mask + 1) f) (sym w.best-is) (least-better c.loop-mask.mask f c.loop-mask.best i.best (omega arith)))
@@ -31,8 +30,7 @@ loop-mask-preserved c =
 
 pub returns : goal.returns
 returns c =
-    let e : c.loop-mask.mask ≡ 8 = omega arith in
-    record {
+    let e : c.loop-mask.mask ≡ 8 = omega arith in record {
       square = c.loop-mask.invariant.square;
       best = subst (λ (n : ℕ). IsFirstLeast n (masked_penalty c.args.canvas.now.version c.args.canvas.now.level c.args.canvas.now.region c.args.canvas.now.plain) c.loop-mask.best) e c.loop-mask.invariant.best;
     }

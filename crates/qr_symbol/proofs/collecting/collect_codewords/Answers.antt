@@ -8,8 +8,7 @@ use Rattle.qr_symbol.proofs.collecting.collect_codewords.Goals as goal
 pub loop-strip-init : goal.loop-strip-init
 loop-strip-init c =
     let v = c.args.v in
-    let e = sym c.into_iter-strip-iterator.ensures.into_iter_gives in
-    record {
+    let e = sym c.into_iter-strip-iterator.ensures.into_iter_gives in record {
       can_next = tt;
       is_finite = tt;
       inside = subst (All (Inside v)) e c.all_strips-strip-items.ensures.inside;
@@ -24,8 +23,7 @@ loop-strip-preserved c =
     let i = c.loop-strip.invariant in
     let x = c.in-Some.strip in
     let rest = c.next.new.self in
-    let xs = c.loop-strip.yielded in
-    record {
+    let xs = c.loop-strip.yielded in record {
       can_next = tt;
       is_finite = tt;
       inside = All-tail (Inside v) x rest (subst (All (Inside v)) c.in-Some.ensures.steps i.inside);

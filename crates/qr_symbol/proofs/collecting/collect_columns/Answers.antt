@@ -6,16 +6,14 @@ use Rattle.qr_symbol.proofs.collecting.collect_columns.Goals as goal
 
 pub loop-group-init : goal.loop-group-init
 loop-group-init c =
-    let e : c.from-before.result ≡ c.from-before.result + 4 * 0 = omega arith in
-    record {
+    let e : c.from-before.result ≡ c.from-before.result + 4 * 0 = omega arith in record {
       bits = c.in_ok-collect_rows.ensures ∙ ap (λ z. c.args.bits.now ++ bits_in_rows (side_of c.args.v) c.args.strip c.args.region.now c.args.columns.now 0 z) e;
     }
 
 pub loop-group-preserved : goal.loop-group-preserved
 loop-group-preserved c =
     let i = c.loop-group.invariant in
-    let k = c.from-before.result + 4 * c.loop-group.group in
-    record {
+    let k = c.from-before.result + 4 * c.loop-group.group in record {
       bits = rows-read (side_of c.args.v) c.args.strip c.args.region.now c.args.columns.now 0 k 4 k (c.from-before.result + 4 * (c.loop-group.group + 1)) c.args.bits.now c.loop-group.bits c.collect_four.new.bits (omega arith) (omega arith) i.bits c.in_ok-collect_four.ensures;
     }
 

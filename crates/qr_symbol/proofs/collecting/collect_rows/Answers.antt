@@ -6,8 +6,7 @@ use Rattle.qr_symbol.proofs.collecting.collect_rows.Goals as goal
 
 pub loop-rank-init : goal.loop-rank-init
 loop-rank-init c =
-    let p = c.args.passed in
-    record {
+    let p = c.args.passed in record {
       from = omega arith;
       bits = none-read _ c.args.strip _ _ p _ _ (omega arith);
     }
@@ -21,8 +20,7 @@ loop-rank-preserved c =
     let p = c.args.passed in
     let row = c.row_at-row.result in
     let side : c.side-last.result - 1 + 1 ≡ s = omega (arith, c.side-last.ensures.value) in
-    let r = rw side at c.row_at-row.ensures.row in
-    record {
+    let r = rw side at c.row_at-row.ensures.row in record {
       from = omega (arith, i.from);
       bits = rows-read s x c.args.region.now c.args.columns.now p (k - p) 1 k (k + 1 - p) c.args.bits.now c.loop-rank.bits c.collect_module-in-loop-rank.new.bits (omega (arith, i.from)) (omega (arith, i.from)) i.bits
           (row-read s x c.args.region.now c.args.columns.now k row c.loop-rank.bits c.collect_module.new.bits c.collect_module-in-loop-rank.new.bits r c.in_ok-collect_module.ensures c.in_ok-collect_module-2.ensures);

@@ -11,8 +11,7 @@ bounds-codewords-next c =
     let v = c.len.ensures.value in
     let r = c.loop-block.invariant.so_far.rank in
     let t : IsPosition c.args.sizes (position c.loop-place.place c.loop-block.block) = (omega arith, omega arith) in
-    let k = rank-in c.args.sizes c.loop-place.place c.loop-block.block t in
-    omega arith
+    let k = rank-in c.args.sizes c.loop-place.place c.loop-block.block t in omega arith
 
 pub loop-block-preserved : goal.loop-block-preserved
 loop-block-preserved c =
@@ -22,8 +21,7 @@ loop-block-preserved c =
     let interleaved = c.args.codewords.now in
     let p = c.loop-place.place in
     let i = c.loop-block.block in
-    let xs = c.loop-block.message.items in
-    record {
+    let xs = c.loop-block.message.items in record {
       blocks = b;
       so_far = elim c.if-place-len.branch [
         | then-place-len w ↦
@@ -39,8 +37,7 @@ loop-block-preserved c =
 
 pub loop-place-preserved : goal.loop-place-preserved
 loop-place-preserved c =
-    let b = c.loop-block.invariant.blocks in
-    record {
+    let b = c.loop-block.invariant.blocks in record {
       blocks = b;
       so_far = gather-row _ _ _ _ _ _ (omega arith) (omega arith) c.loop-block.invariant.so_far;
     }

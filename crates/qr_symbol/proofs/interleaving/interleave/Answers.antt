@@ -10,8 +10,7 @@ interleave_blocks-requires c =
 
 pub returns : goal.returns
 returns c =
-    let interleaved = rw c.blocks-2.ensures at c.interleave_blocks.ensures in
-    record {
+    let interleaved = rw c.blocks-2.ensures at c.interleave_blocks.ensures in record {
       interleaved = interleaved;
       many = IfOk-weaker c.interleave_blocks.result _ _ (λ cw h. final-whole c.args.version c.args.level _ cw.items (omega arith) (omega arith) h) interleaved;
     }

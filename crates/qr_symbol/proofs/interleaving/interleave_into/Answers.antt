@@ -32,8 +32,7 @@ loop-block-preserved c =
     let bytes = c.args.codewords.now in
     let p = c.loop-place.place in
     let i = c.loop-block.block in
-    let place = c.loop-block.invariant.at in
-    record {
+    let place = c.loop-block.invariant.at in record {
       blocks = b;
       at = omega (arith, start-next sizes i, place, v);
       so_far = elim c.if-place-len.branch [
@@ -49,8 +48,7 @@ loop-block-preserved c =
 
 pub loop-place-preserved : goal.loop-place-preserved
 loop-place-preserved c =
-    let b = c.loop-block.invariant.blocks in
-    record {
+    let b = c.loop-block.invariant.blocks in record {
       blocks = b;
       so_far = interleaved-row _ _ _ _ _ _ (omega arith) c.loop-block.invariant.so_far;
     }

@@ -23,8 +23,7 @@ least-same n f g m e h = search arith
 
 -- the least penalty of the drawn symbols is that of the symbols of the codewords
 pub mask-is : (v : ℕ) (l : Level) (cw : List ℕ) (region plain : Grid) (mask : ℕ) → 1 ≤ v → region ≡ region_grid v → plain ≡ plain_grid v cw → IsFirstLeast 8 (masked_penalty v l region plain) mask → IsMask v l cw mask
-mask-is v l cw region plain mask k e f h =
-    least-same 8 _ _ _ (search (arith, masked-all)) h
+mask-is v l cw region plain mask k e f h = least-same 8 _ _ _ (search (arith, masked-all)) h
 
 -- the mask that is best for a canvas is the mask of its codewords
 pub canvas-mask : (v : ℕ) (l : Level) (cw : List ℕ) (k : Canvas) (mask : ℕ) → 1 ≤ v → k.version ≡ v → k.level ≡ l → k.plain ≡ plain_grid v cw

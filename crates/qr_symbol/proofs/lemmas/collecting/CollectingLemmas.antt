@@ -12,8 +12,7 @@ use Rattle.std.proofs.lemmas.List.{map-append}
 rows-append : (s : ℕ) (x : Strip) (r y : Columns) (k n m : ℕ) → bits_in_rows s x r y k (n + m) ≡ bits_in_rows s x r y k n ++ bits_in_rows s x r y (k + n) m
 rows-append s x r y k zero m = search arith
 rows-append s x r y k (suc n) m =
-    let e : suc n + m ≡ suc (n + m) = omega arith in
-    search (arith, append_assoc, rows-append s x r y (k + 1) n m)
+    let e : suc n + m ≡ suc (n + m) = omega arith in search (arith, append_assoc, rows-append s x r y (k + 1) n m)
 
 -- after n rows, m more rows are read
 pub rows-read : (s : ℕ) (x : Strip) (r y : Columns) (k n m h j : ℕ) (a b c : List Bool) → h ≡ k + n → j ≡ n + m → b ≡ a ++ bits_in_rows s x r y k n → c ≡ b ++ bits_in_rows s x r y h m → c ≡ a ++ bits_in_rows s x r y k j

@@ -63,10 +63,8 @@ unfolding eight
 whole-bits s x r y k t u =
     let e0 : k ≡ k + 0 = omega arith in
     let e2 : k + 1 + 1 ≡ k + 2 = omega arith in
-    let e3 : k + 1 + 1 + 1 ≡ k + 3 = omega arith in
-    ap (λ z. rows z (k + 1) (k + 1 + 1) (k + 1 + 1 + 1)) e0
-    ∙ (ap (λ z. rows (k + 0) (k + 1) z (k + 1 + 1 + 1)) e2
-    ∙ (ap (λ z. rows (k + 0) (k + 1) (k + 2) z) e3
+    let e3 : k + 1 + 1 + 1 ≡ k + 3 = omega arith in ap (λ z. rows z (k + 1) (k + 1 + 1) (k + 1 + 1 + 1)) e0
+    ∙ (ap (λ z. rows (k + 0) (k + 1) z (k + 1 + 1 + 1)) e2 ∙ (ap (λ z. rows (k + 0) (k + 1) (k + 2) z) e3
     ∙ rw (t 0 (omega arith), u 0 (omega arith), t 1 (omega arith), u 1 (omega arith), t 2 (omega arith), u 2 (omega arith), t 3 (omega arith), u 3 (omega arith)) refl))
   where
     row : ℕ → List Bool

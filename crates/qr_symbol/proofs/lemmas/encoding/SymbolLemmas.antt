@@ -12,11 +12,10 @@ least-one n f m k a b = search arith
 
 -- Two least versions are equal.
 version-one : (xs : List ℕ) (l : Level) (least : ℕ) (rule : Rule) (v w : ℕ) → IsVersion least l rule xs v → IsVersion least l rule xs w → v ≡ w
-version-one xs l least rule v w a b =
-    elim (cases_lt v w) [
-      | inl i ↦ absurd (b.first v a.least i a.fits)
-      | inr i ↦ elim (cases_lt w v) [ inl j ↦ absurd (a.first w b.least j b.fits) | inr j ↦ omega arith ]
-    ]
+version-one xs l least rule v w a b = elim (cases_lt v w) [
+  | inl i ↦ absurd (b.first v a.least i a.fits)
+  | inr i ↦ elim (cases_lt w v) [ inl j ↦ absurd (a.first w b.least j b.fits) | inr j ↦ omega arith ]
+]
 
 -- Bytes have at most one symbol of a version and a level after an optional header.
 pub symbol-at-one : (v : ℕ) (l : Level) (rule : Rule) (xs : List ℕ) (head : Option Header) (m n : ℕ) (g h : Grid) → IsSymbolAt v l rule xs head m g → IsSymbolAt v l rule xs head n h → (m ≡ n) × (g ≡ h)
@@ -33,5 +32,4 @@ pub symbol-one : SymbolsAreOne
 symbol-one xs l least rule v w m n g h a b =
     let version : v ≡ w = version-one xs l _ _ v w a.version b.version in
     let made : IsSymbolAt w l rule xs None m g = search arith in
-    let rest = symbol-at-one w l _ xs _ m n g h made b.made in
-    (version, rest.0, rest.1)
+    let rest = symbol-at-one w l _ xs _ m n g h made b.made in (version, rest.0, rest.1)

@@ -21,8 +21,7 @@ checks-push b d xs ys es k l h c e =
     let many = h.count in
     let all = h.corrections ++ es ∷ [] in
     let here : get_or all k [] ≡ es = search (arith, get_or-append_right) in
-    let there = λ (i : ℕ) (s : i < k). get_or_append_left h.corrections (es ∷ []) [] i (omega arith) in
-    record {
+    let there = λ (i : ℕ) (s : i < k). get_or_append_left h.corrections (es ∷ []) [] i (omega arith) in record {
       corrections = all;
       count = search (arith, length-append);
       each = search arith;
@@ -30,8 +29,7 @@ checks-push b d xs ys es k l h c e =
       same = λ t m i. ap (λ (zs : List ℕ). codeword_at (correction_sizes b) zs t) e ∙ (elim (cases_lt t.block k) [
         | inl s ↦
             let a = start-next (correction_sizes b) t.block in
-            let z = start-most (correction_sizes b) (t.block + 1) k (omega arith) in
-            search (arith, get_or_append_left)
+            let z = start-most (correction_sizes b) (t.block + 1) k (omega arith) in search (arith, get_or_append_left)
         | inr s ↦ search (arith, get_or-append_right)
       ]);
     }
@@ -61,8 +59,7 @@ both-interleaved b d es first second h s t = record {
 pub slice-in : (c e : BlockSizes) (n s l k : ℕ) → c ≡ e → n ≡ start_of e (block_count e) → k < block_count c → s ≡ start_of c k → l ≡ block_len c k → s + l ≤ n
 slice-in c e n s l k a o m f g =
     let p = start-next c k in
-    let q = start-most c (k + 1) (block_count c) (omega arith) in
-    search arith
+    let q = start-most c (k + 1) (block_count c) (omega arith) in search arith
 
 -- one more block, stated with the variables of the loop
 pub push-checks : (b : Blocks) (d xs ys es : List ℕ) (c : BlockSizes) (k s l n : ℕ) → c ≡ data_sizes b → k < block_count c → s ≡ start_of c k → l ≡ block_len c k → n ≡ b.ec_len → IsCorrection (take l (drop s d)) n es → IsChecks b d k xs → ys ≡ xs ++ es → IsChecks b d (k + 1) ys

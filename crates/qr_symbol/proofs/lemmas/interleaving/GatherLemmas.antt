@@ -39,8 +39,7 @@ gather-push c interleaved xs ys p b next i l h t e k =
     let r = h.rank in
     let g = h.long in
     let old : map (codeword_at c (set xs j x)) h.positions ≡ map (codeword_at c xs) h.positions = map-mem _ _ _ (λ u m. let w = h.order.sound u m in get_or-set_other xs j _ x 0 (λ q. let z = position-one c u _ w.0 t q in irrefl u p b w.1 z.0 z.1)) in
-    let new : codeword_at c (set xs j x) (position p b) ≡ x = get_or-set_same xs j x 0 (omega arith) in
-    record {
+    let new : codeword_at c (set xs j x) (position p b) ≡ x = get_or-set_same xs j x 0 (omega arith) in record {
       long = ap length k ∙ (length-set xs i x ∙ g);
       positions = h.positions ++ position p b ∷ [];
       order = positions-push c p b _ t h.order;
@@ -108,8 +107,7 @@ begun-down c interleaved (suc p) n l =
 -- a sequence with at least as many codewords as the blocks can be gathered
 pub gather-some : (c : BlockSizes) (interleaved : List ℕ) → codeword_count c ≤ length interleaved → (xs : List ℕ) × IsGathered c interleaved xs
 gather-some c interleaved n =
-    let h = begun-down c _ _ n (omega arith) in
-    (h.codewords, gather-end c _ _ _ _ n refl h.gathered)
+    let h = begun-down c _ _ n (omega arith) in (h.codewords, gather-end c _ _ _ _ n refl h.gathered)
 
 -- an order of positions has one position for each codeword
 pub positions-many : (c : BlockSizes) (ts : List Position) → IsPositionOrder c ts → length ts ≡ codeword_count c

@@ -14,8 +14,7 @@ use Rattle.qr_symbol.proofs.lemmas.interleaving.RankLemmas.{positions-one, posit
 -- two lists of error correction codewords for the same blocks are equal
 pub checks-one : (b : Blocks) (d : List ℕ) (n : ℕ) (xs ys : List (List ℕ)) → length xs ≡ n → length ys ≡ n
     → ((i : ℕ) → i < n → IsCorrection (block_of b d i) b.ec_len (get_or xs i []))
-    → ((i : ℕ) → i < n → IsCorrection (block_of b d i) b.ec_len (get_or ys i []))
-    → xs ≡ ys
+    → ((i : ℕ) → i < n → IsCorrection (block_of b d i) b.ec_len (get_or ys i [])) → xs ≡ ys
 checks-one b d n xs ys e f h k =
     ext_get_or [] xs ys (e ∙ sym f) (λ i l. correction-one (block_of b d i) b.ec_len (get_or xs i []) (get_or ys i []) (h i (omega arith)) (k i (omega arith)))
 
@@ -54,8 +53,7 @@ final-many b d cw h =
     let e = ap (length {A = ℕ}) h.whole in
     let a = length-append (map (codeword_at (data_sizes b) d) h.data_positions) (map (check_at h.corrections) h.check_positions) in
     let m = length-map h.data_positions (codeword_at (data_sizes b) d) in
-    let n = length-map h.check_positions (check_at h.corrections) in
-    omega (arith, positions-many)
+    let n = length-map h.check_positions (check_at h.corrections) in omega (arith, positions-many)
 
 -- the number of codewords in blocks of two lengths
 sizes-sum : (k n r : ℕ) → n * (k + r) + (k + r - k) ≡ k * n + r * (n + 1)
@@ -97,8 +95,7 @@ gathered-one b interleaved xs d g n h =
     let first : take (codeword_count c) interleaved ≡ map (codeword_at c d) g.positions =
     search (arith, take-front, length-map) in ext_get_or 0 xs d (g.long ∙ sym n) (λ j l.
     let w = position-of c (block_count c) j (omega arith) (let z = g.long in omega arith) in
-    let q = map-at _ _ _ w.0 (g.same ∙ first) (Mem-of-Contains _ w.0 (g.order.complete w.0 w.1)) in
-    cc)
+    let q = map-at _ _ _ w.0 (g.same ∙ first) (Mem-of-Contains _ w.0 (g.order.complete w.0 w.1)) in cc)
 
 -- a sequence that differs from the final sequence of its gathered codewords is the final sequence of no message
 pub none-fits : (b : Blocks) (interleaved xs again d : List ℕ) → IsGathered (data_sizes b) interleaved xs

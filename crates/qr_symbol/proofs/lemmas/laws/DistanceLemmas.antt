@@ -24,8 +24,7 @@ fronts-same c d e (suc i) h =
     let a : take (start_of c (suc i)) d ≡ take (start_of c i) d ++ part c d i =
     ap (λ k. take k d) n ∙ take-add (start_of c i) (block_len c i) d in
     let b : take (start_of c (suc i)) e ≡ take (start_of c i) e ++ part c e i =
-    ap (λ k. take k e) n ∙ take-add (start_of c i) (block_len c i) e in
-    search arith
+    ap (λ k. take k e) n ∙ take-add (start_of c i) (block_len c i) e in search arith
 
 -- lists of codewords with equal blocks are equal
 pub parts-same : (c : BlockSizes) (d e : List ℕ) → length d ≡ codeword_count c → length e ≡ codeword_count c →
@@ -37,8 +36,7 @@ parts-same c d e n m h =
 part-length : (c : BlockSizes) (d e : List ℕ) (i : ℕ) → length d ≡ length e → length (part c d i) ≡ length (part c e i)
 part-length c d e i h =
     let a = length-take (block_len c i) (drop (start_of c i) d) in
-    let b = length-take (block_len c i) (drop (start_of c i) e) in
-    search (arith, length-drop)
+    let b = length-take (block_len c i) (drop (start_of c i) e) in search (arith, length-drop)
 
 -- a block has at most 255 codewords
 part-short : (v : ℕ) (l : Level) (d : List ℕ) (i : ℕ) → 1 ≤ v → v ≤ 40 →
@@ -50,8 +48,7 @@ part-short v l d i h k =
     let few = w.len in
     let ec = w.ec_most in
     let a = length-take (block_len c i) (drop (start_of c i) d) in
-    let m = len-most c i in
-    omega (arith, a, m, few, ec)
+    let m = len-most c i in omega (arith, a, m, few, ec)
 
 -- some number below n has the property P, or all of them have the property Q
 search-below : (P Q : ℕ → Type 0) (n : ℕ) → ((i : ℕ) → i < n → P i ⊎ Q i) →
@@ -69,8 +66,7 @@ search-below P Q (suc n) f = elim (search-below P Q n (λ i l. f i (omega arith)
 blocks-same : (v : ℕ) (l : Level) (m n : HeldMessage v l) → 1 ≤ v → v ≤ 40 →
     ((i : ℕ) → i < blocks_in v l → block_of (blocks_of v l) m.message i ≡ block_of (blocks_of v l) n.message i) → m.message ≡ n.message
 blocks-same v l m n h k f =
-    let whole = data-sizes-whole v l h k in
-    parts-same _ _ _ (m.is.many ∙ sym whole) (n.is.many ∙ sym whole) f
+    let whole = data-sizes-whole v l h k in parts-same _ _ _ (m.is.many ∙ sym whole) (n.is.many ∙ sym whole) f
 
 -- two blocks of one index have equally many data codewords
 blocks-long : (v : ℕ) (l : Level) (m n : HeldMessage v l) (i : ℕ)
@@ -94,6 +90,5 @@ messages-apart v l h k m n o =
 -- the law of damage
 pub damaged-one : (v : ℕ) (l : Level) → 1 ≤ v → v ≤ 40 → DamagedMessagesAreOne v l
 damaged-one v l h k m n read t few near near' =
-    let b = blocks_of v l in
-    blocks-same v l m n h k (λ i s.
+    let b = blocks_of v l in blocks-same v l m n h k (λ i s.
     unambiguous-known b.ec_len (t i) (block_of b _ i) (get_or _ i []) (block_of b _ i) (get_or _ i []) (read i) (m.is.interleaved.each i s) (n.is.interleaved.each i s) (blocks-long v l m n i) (part-short v l _ i h k) (few i s) (near i s) (near' i s))

@@ -124,14 +124,12 @@ corners-done v r c format w k1 k2 l m =
     let q = role_of v r c in
     let p = paint_of v _ r c in
     let corner = is_corner (side_of v) r c in
-    let b = begun _ r c in
-    by_test b _
+    let b = begun _ r c in by_test b _
     (λ t. ap (λ z. format_or format q (cond z p w)) t ∙ (stays-painted v r c _ ∙ ap (λ z. cond z p w) (sym (begun-corner _ (omega arith) l m t))))
     (λ t. by_test corner (format_or _ q _ ≡ cond _ p w) (λ u. elim (cases_eq c 8) [
       | inl e ↦ (let d = beside-column _ r c (omega arith) l t u e in search (arith, column-painted))
       | inr e ↦ (let d = beside-row _ r c (omega arith) l m t u e in search (arith, row-painted))
-    ])
-    (search (arith, outside-kept)))
+    ]) (search (arith, outside-kept)))
   where
     begun-corner : (s : ℕ) → 21 ≤ s → r < s → c < s → begun s r c ≡ true → is_corner s r c ≡ true
     begun-corner s h l m t = grind (arith, nat_tests)

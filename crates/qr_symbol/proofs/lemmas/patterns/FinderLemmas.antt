@@ -37,15 +37,13 @@ block-of a b r c top left h i j k e = grind (arith, nat_tests)
 
 -- the colours after a block is painted: a finder pattern and its separator inside it, the old colours outside
 pub block-paint : (v r c a b top left format : ℕ) (w x y : Bool) → top + 3 ≤ a → a ≤ top + 4 → left + 3 ≤ b
-    → b ≤ left + 4
-    → (ring_of a b r c ≤ 4 → finder_ring (side_of v) r c ≡ ring_of a b r c)
+    → b ≤ left + 4 → (ring_of a b r c ≤ 4 → finder_ring (side_of v) r c ≡ ring_of a b r c)
     → x ≡ cond (is_in_block top left r c) false w
     → y ≡ cond (ltb (ring_of a b r c) 4) (not (eqb (ring_of a b r c) 2)) x
     → y ≡ cond (is_in_block top left r c) (paint_of v format r c) w
 block-paint v r c a b top left format w x y h i j k near d e =
     e ∙ rw d (block-tests _ _ _ w (block-of a b r c top _ h i j k) ∙ in-its-block _ _ _ w (λ e.
-    let n = in-block a b r c top _ h i j k e in
-    sym (paint-fixed v r c _ _ (finder-role v r c _ (near n) n))))
+    let n = in-block a b r c top _ h i j k e in sym (paint-fixed v r c _ _ (finder-role v r c _ (near n) n))))
   where
     in-its-block : (t x y w : Bool) → (t ≡ true → x ≡ y) → cond t x w ≡ cond t y w
     in-its-block t x y w e = grind (arith, nat_tests)

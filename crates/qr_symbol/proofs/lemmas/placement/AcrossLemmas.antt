@@ -21,8 +21,7 @@ two-rows g a b f h r c l m = colour-square _ (λ r c. cond (eqb r b) (h c) (colo
 -- the colours of the two rows, and of the others
 two-colours : (g : Grid) (a b : ℕ) (f h : ℕ → Bool) (r c : ℕ) → r < g.side → c < g.side → (a ≡ b → ⊥)
     → (r ≡ a → colour (with_row (with_row g a f) b h) r c ≡ f c) × (r ≡ b → colour (with_row (with_row g a f) b h) r c ≡
-    h c)
-    × ((r ≡ a → ⊥) → (r ≡ b → ⊥) → colour (with_row (with_row g a f) b h) r c ≡ colour g r c)
+    h c) × ((r ≡ a → ⊥) → (r ≡ b → ⊥) → colour (with_row (with_row g a f) b h) r c ≡ colour g r c)
 two-colours g a b f h r c l m n = rw (two-rows g a b f h r c l m) (λ e. grind (arith, nat_tests), λ e. grind (arith, nat_tests), λ e o. grind (arith, nat_tests))
 
 -- a module in the region gets its bit also if it was made light before
@@ -38,8 +37,7 @@ pub strip-drawn : (v : ℕ) (cw : List ℕ) (x : Strip) (first next : ℕ) (g h 
     → next ≡ number_at v x first (side_of v) → AreDrawn v cw x first 0 (side_of v) old new
     → IsStripDrawn v cw x first g next h
 strip-drawn v cw x first next g h old new o least most e light number d =
-    let side = ap (λ (z : Grid). z.side) o in
-    record {
+    let side = ap (λ (z : Grid). z.side) o in record {
       number = number;
       square = square-is (side_of v) (λ r c. cond (eqb r (x.right - 1)) (has new.left c) (colour (with_row g x.right (has new.right)) r c)) h (e ∙ ap (λ z. square z (λ r c. cond (eqb r (x.right - 1)) (has new.left c) (colour (with_row g x.right (has new.right)) r c))) side);
       drawn = λ j l.

@@ -34,8 +34,7 @@ lowest n s m k l = search (arith, nat_tests, has_bit-and, has_bit-ones, has_bit-
 -- the eight bits of a word of codewords from index d on, the first as the highest bit
 pub eight-bits : (n d k : ℕ) → d ≤ 56 → k < 8 → has_bit (bit_and (n / 2 ^ (56 - d)) 255) (7 - k) ≡ has_bit n (63 - (d + k))
 eight-bits n d k l m =
-    let e : 7 - k + (56 - d) ≡ 63 - (d + k) = omega arith in
-    cc (lowest n (56 - d) 8 (7 - k) (omega arith))
+    let e : 7 - k + (56 - d) ≡ 63 - (d + k) = omega arith in cc (lowest n (56 - d) 8 (7 - k) (omega arith))
 
 -- a single bit of a number
 pub one-bit : (n k : ℕ) → nat_eq (bit_and (n / 2 ^ k) 1) 1 ≡ has_bit n k
@@ -50,8 +49,7 @@ codewords-more cw p n w b e s h j l = search (arith, codewords-high, codewords-l
 -- appending a byte to a number makes it at most eight bits longer
 pub codewords-fits : (n w b : ℕ) → w < 2 ^ (8 * n) → b < 256 → 256 * w + b < 2 ^ (8 * (n + 1))
 codewords-fits n w b l m =
-    let e : 8 * (n + 1) ≡ 8 * n + 8 = omega arith in
-    search (arith, pow-add)
+    let e : 8 * (n + 1) ≡ 8 * n + 8 = omega arith in search (arith, pow-add)
 
 -- a word of fewer than eight codewords has room for one more in 64 bits
 pub codewords-room : (n w : ℕ) → n < 8 → w < 2 ^ (8 * n) → w < 2 ^ 56

@@ -29,14 +29,12 @@ row-number v x first k n taken one two row t u r p q m e f = search (arith, add-
 -- if all modules of m rows are in the region, these rows take 2 m bits
 pub number-whole : (v : ℕ) (x : Strip) (first k m : ℕ)
     → ((j : ℕ) → k ≤ j → j < k + m → (is_in_region v (row_of (side_of v) x j) x.right ≡ true) × (is_in_region v (row_of
-    (side_of v) x j) (x.right - 1) ≡ true))
-    → number_at v x first (k + m) ≡ number_at v x first k + 2 * m
+    (side_of v) x j) (x.right - 1) ≡ true)) → number_at v x first (k + m) ≡ number_at v x first k + 2 * m
 number-whole v x first k zero w = (let e : k + 0 ≡ k = omega arith in rw e (omega arith))
 number-whole v x first k (suc m) w =
     let e : k + suc m ≡ suc (k + m) = omega arith in
     let here = w (k + m) (omega arith) (omega arith) in
-    let before = number-whole v x first k m (λ j a b. w j a (omega arith)) in
-    rw (e, here.0, here.1) (omega arith)
+    let before = number-whole v x first k m (λ j a b. w j a (omega arith)) in rw (e, here.0, here.1) (omega arith)
 
 -- ---- drawn rows
 
@@ -72,14 +70,12 @@ there-kept t d p z i row e n = grind (arith, nat_tests)
 pub row-drawn : {v : ℕ} {cw : List ℕ} {x : Strip} {first k : ℕ} {old new : Columns} (row n taken one bits : ℕ) (t u :
     Bool) → row ≡ row_of (side_of v) x k
     → t ≡ is_in_region v row x.right → u ≡ is_in_region v row (x.right - 1) → number_at v x first k ≡ n + taken
-    → one ≡ number_after t taken
-    → taken < 8 → one < 8 → AreNext cw n bits
+    → one ≡ number_after t taken → taken < 8 → one < 8 → AreNext cw n bits
     → ((i : ℕ) → has new.right i ≡ cond (t && eqb i row) (has_bit bits (7 - taken)) (has old.right i))
     → ((i : ℕ) → has new.left i ≡ cond (u && eqb i row) (has_bit bits (7 - one)) (has old.left i))
     → AreDrawn v cw x first k 1 old new
 row-drawn {v} {cw} {x} {first} {k} {old} {new} row n taken one bits t u r p q m o l1 l2 next right left = record {
   drawn = λ j a b.
-      let e : j ≡ k = omega arith in
-      search (arith, nat_tests, after-plus, here-drawn);
+      let e : j ≡ k = omega arith in search (arith, nat_tests, after-plus, here-drawn);
   kept = search (arith, there-kept);
 }

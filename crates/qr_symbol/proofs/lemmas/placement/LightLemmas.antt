@@ -45,8 +45,7 @@ from-top : (x : Strip) (s k top i : ℕ) → k + 4 ≤ s → top ≡ cond x.upwa
     → (row_of s x (k + rank_of x.upward (i - top)) ≡ i) × (rank_of x.upward (i - top) < 4)
 from-top x s k top i room e l m =
     let w = four-row x s k top (i - top) room e (omega arith) in
-    let u = four-row x s k top (rank_of x.upward (i - top)) room e w.1 in
-    (omega (arith, u.0, w.2), w.1)
+    let u = four-row x s k top (rank_of x.upward (i - top)) room e w.1 in (omega (arith, u.0, w.2), w.1)
 
 -- a row that is not one of these
 outside : (top i : ℕ) → (top ≤ i → i < top + 4 → ⊥) → (leb top i && ltb i (top + 4)) ≡ false
@@ -59,8 +58,7 @@ pub four-region : (v : ℕ) (x : Strip) (k top : ℕ) → k + 4 ≤ side_of v �
     (side_of v) x j) (x.right - 1) ≡ true)
 four-region v x k top room e whole j a b =
     let w = four-row x _ k top (j - k) room e (omega arith) in
-    let f : k + (j - k) ≡ j = omega arith in
-    rw (← f, w.0) (whole (rank_of _ (j - k)) w.1)
+    let f : k + (j - k) ≡ j = omega arith in rw (← f, w.0) (whole (rank_of _ (j - k)) w.1)
 
 -- four rows of a strip are drawn at once, if all their modules are in the region
 pub four-drawn : {v : ℕ} {cw : List ℕ} {x : Strip} {first : ℕ} {old new : Columns} (k top bits r l : ℕ)
@@ -84,8 +82,7 @@ four-drawn {v} {cw} {x} {first} {old} {new} k top bits r l room e whole split ri
       let odd : number_at v x first k + (2 * m + 1) ≡ number_at v x first k + 2 * m + 1 = omega arith in
       let bit = split i w.1 in
       let first-bit = next (2 * m) (omega arith) in
-      let second-bit = next (2 * m + 1) (omega arith) in
-      rw (← f, w.0, (whole i w.1).0, (whole i w.1).1, number) (
+      let second-bit = next (2 * m + 1) (omega arith) in rw (← f, w.0, (whole i w.1).0, (whole i w.1).1, number) (
         right (top + i) ∙ rw (within, back, bit.0, w.2) first-bit,
         left (top + i) ∙ rw (within, back, bit.1, w.2, six) (second-bit ∙ ap (codeword_bit cw) odd),
       );

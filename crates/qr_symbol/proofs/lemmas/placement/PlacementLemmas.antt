@@ -159,8 +159,7 @@ rows-split : (s : ℕ) (x : Strip) (k j m : ℕ) → both_of (rows_from s x k (j
     at (row_of s x (k + j)) x.right ∷ at (row_of s x (k + j)) (x.right - 1) ∷ both_of (rows_from s x (k + j + 1) m)
 rows-split s x k zero m =
     let e : 0 + (m + 1) ≡ suc m = omega arith in
-    let f : k + 0 ≡ k = omega arith in
-    rw (e, f) refl
+    let f : k + 0 ≡ k = omega arith in rw (e, f) refl
 rows-split s x k (suc j) m =
     let e : suc j + (m + 1) ≡ suc (j + (m + 1)) = omega arith in
     let f : k + suc j ≡ k + 1 + j = omega arith in
@@ -171,8 +170,7 @@ strip-split : (s : ℕ) (x : Strip) (j : ℕ) → j < s → both_of (rows_from s
     (row_of s x j) x.right ∷ at (row_of s x j) (x.right - 1) ∷ both_of (rows_from s x (j + 1) (s - 1 - j))
 strip-split s x j l =
     let e : j + (s - 1 - j + 1) ≡ s = omega arith in
-    let f : 0 + j ≡ j = omega arith in
-    rw (e, f) at (rows-split s x 0 j (s - 1 - j))
+    let f : 0 + j ≡ j = omega arith in rw (e, f) at (rows-split s x 0 j (s - 1 - j))
 
 -- the number of the next bit after the first rows of a strip
 number-rows : (v : ℕ) (x : Strip) (before : List Module) (j : ℕ)
@@ -219,8 +217,7 @@ placed-strip v cw g0 a b x before later number next o p d =
     let s = side_of v in
     let want = placed_colour v cw (colour g0) in
     let a-side = ap (λ (z : Grid). z.side) o in
-    let b-side = ap (λ (z : Grid). z.side) d.square in
-    record {
+    let b-side = ap (λ (z : Grid). z.side) d.square in record {
       whole = rw append_assoc p.whole;
       next = d.number ∙ (ap (λ n. number_at v x n s) p.next ∙ number-rows v x before s);
       square = square-transposed s b d.square;

@@ -37,8 +37,7 @@ walked-start v cw mask g ms s o = search (arith, done-start, walked-outside)
 pub walked-in : (v : ℕ) (cw : List ℕ) (mask : ℕ) (g0 g : Grid) (front now later : List Module) (x : Module) (number : ℕ) → IsWalked v cw mask g0 front now number g → now ≡ x ∷ later → (x.row < g.side) × (x.col < g.side)
 walked-in v cw mask g0 g front now later x number w e =
     let o = whole-next v _ now _ x w.whole e in
-    let l = in-square v _ _ x o in
-    search arith
+    let l = in-square v _ _ x o in search arith
 
 -- one module is drawn
 pub walked-step : (v : ℕ) (cw : List ℕ) (mask : ℕ) (g0 g : Grid) (front now later : List Module) (x : Module) (number : ℕ) (bit turned : Bool)
@@ -61,8 +60,7 @@ walked-step v cw mask g0 g front now later x number bit turned b t e w =
 -- the number of the next bit is at most the number of all modules of the region
 pub walked-small : (v : ℕ) (cw : List ℕ) (mask : ℕ) (g0 g : Grid) (front later : List Module) (number : ℕ) → 1 ≤ v → v ≤ 40 → IsWalked v cw mask g0 front later number g → number ≤ 29648
 walked-small v cw mask g0 g front later number k l w =
-    let m = order-small v _ k l w.whole in
-    search (arith, length-append)
+    let m = order-small v _ k l w.whole in search (arith, length-append)
 
 -- after the last module, the square has the walked colours
 pub walked-end : (v : ℕ) (cw : List ℕ) (mask : ℕ) (g0 g : Grid) (front later : List Module) (number : ℕ) → later ≡ [] → IsWalked v cw mask g0 front later number g → g ≡ square (side_of v) (walked_colour v cw mask (colour g0))

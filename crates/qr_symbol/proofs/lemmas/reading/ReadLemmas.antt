@@ -24,8 +24,7 @@ unfolding colour_of
 read-place v l mask cw front back m k o =
     let w = in-square v _ _ m o in
     let t = order-mem v _ o m (Mem-mid m _ _) in
-    let e = region-role v _ _ k w.0 w.1 t in
-    ap (inverted (inverts mask m.row m.col)) (search (arith, colour-square))
+    let e = region-role v _ _ k w.0 w.1 t in ap (inverted (inverts mask m.row m.col)) (search (arith, colour-square))
     ∙ (inverted-twice _ _ ∙ ap (codeword_bit cw) (number-at v _ _ m o))
 
 -- the bits that are read from one module of the order on
@@ -38,8 +37,7 @@ read-from v l mask cw (suc n) front (m ∷ rest) p o i h =
     let next : length (front ++ m ∷ []) ≡ suc k = omega (arith, length-append front (m ∷ [])) in
     let here = read-place v l mask cw _ _ m p o in
     let later = read-from v l mask cw n _ _ p (whole-push v _ _ m o) (omega arith) (omega arith) ∙ ap (λ (z : ℕ). take n (drop z bits)) next in
-    let c = drop-cons bits k false (omega (arith, length-bits_of cw)) in
-    cc (bits_at cw k (omega arith))
+    let c = drop-cons bits k false (omega (arith, length-bits_of cw)) in cc (bits_at cw k (omega arith))
 
 -- the prefix with the length of the list is the whole list
 take-whole : {X : Type 0} (xs : List X) (n : ℕ) → length xs ≡ n → take n xs ≡ xs
@@ -109,8 +107,7 @@ read-some v mask g p h =
 -- the square that is drawn for the codewords of a message contains this message
 pub message-read : (v : ℕ) (l : Level) (mask : ℕ) (d cw : List ℕ) → 1 ≤ v → v ≤ 40 → length cw ≡ total_codewords_of v → All (λ x. x < 256) cw → length d ≡ data_codewords_of v l → IsInterleaved v l d cw → IsMessage v l mask (grid_of v l mask cw) d
 message-read v l mask d cw p h n a m i =
-    let o = to_come-start v in
-    search (arith, read-grid)
+    let o = to_come-start v in search (arith, read-grid)
 
 -- a square contains at most one message
 pub message-one : (v : ℕ) (l : Level) (mask : ℕ) (g : Grid) (d e : List ℕ) → 1 ≤ v → v ≤ 40 → IsMessage v l mask g d → IsMessage v l mask g e → d ≡ e

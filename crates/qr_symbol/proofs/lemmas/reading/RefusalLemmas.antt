@@ -13,8 +13,7 @@ pub moved : (g : Grid) (v w : ℕ) (l k : Level) (m n : ℕ) (d : List ℕ) → 
 moved g v w l k m n d s t f h i =
     let a = s.side in
     let b = t.side in
-    let e = format-one g l k m n f h in
-    search arith
+    let e = format-one g l k m n f h in search arith
 
 -- a square has at most one outcome of parsing
 gives-one : (g : Grid) (r q : Result Content ParseFault) → IsParsedAs g r → IsParsedAs g q → r ≡ q

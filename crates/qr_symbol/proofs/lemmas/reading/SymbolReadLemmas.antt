@@ -37,8 +37,7 @@ all-read v f ms cw width begun p q o w bits =
     let a = length-append (bits_of cw) (field width begun) in
     let b = length-map ms f in
     let c = length-bits_of cw in
-    let d = length-field width begun in
-    omega arith
+    let d = length-field width begun in omega arith
 
 -- the codewords that have been read have the bits of the first modules
 pub read-whole : (v : ℕ) (f : Module → Bool) (ms : List Module) (cw : List ℕ) (width begun : ℕ) → 1 ≤ v → v ≤ 40 → IsOrder v ms → width < 8 → bits_of cw ++ field width begun ≡ map f ms → bits_of cw ≡ map f (take (8 * total_codewords_of v) ms)
@@ -97,8 +96,7 @@ read-masked v mask n g region plain cw p q is same e w =
     let turned = λ (r c : ℕ). inverted (colour region r c && inverts n r c) (colour g r c) in
     let one : (r c : ℕ) → r < side_of v → c < side_of v → is_in_region v r c ≡ true → colour plain r c ≡ f (at r c) = λ r c l m k.
     let there : colour region r c ≡ true = ap (λ (z : Grid). colour z r c) is ∙ (colour-square (side_of v) (is_in_region v) r c l m ∙ k) in
-    ap (λ (z : Grid). colour z r c) e
-    ∙ (colour-square (side_of v) turned r c l m
+    ap (λ (z : Grid). colour z r c) e ∙ (colour-square (side_of v) turned r c l m
     ∙ (ap (λ (z : Bool). inverted (z && inverts n r c) (colour g r c)) there ∙ ap (λ (z : Bool). inverted z (colour g r c)) (same r c))) in
     record {
       bytes = w.bytes;

@@ -63,12 +63,10 @@ part-least v l b x p ps i j h =
     let cut = h.2 in
     let within = cut.inside in
     let many = length-take n x in
-    let same = ap length h.3 in
-    elim (cases_lt (length x) 5) [
+    let same = ap length h.3 in elim (cases_lt (length x) 5) [
       | inl short ↦
           let whole = cut.longest (length x) (omega arith) (subst (λ ys. HasFit v b ys (room_of v l)) (sym (take-length x)) (few-fit v l b x i j (omega arith) (omega arith))) in
-          let all : n ≡ length x = omega arith in
-          inr (h.3 ∙ (ap (λ k. take k x) all ∙ take-length x))
+          let all : n ≡ length x = omega arith in inr (h.3 ∙ (ap (λ k. take k x) all ∙ take-length x))
       | inr long ↦
           let front = length-take 5 x in
           let five = cut.longest 5 (omega arith) (few-fit v l b _ i j (omega (arith, front)) (omega (arith, front))) in
@@ -89,8 +87,7 @@ pub longest-cut : (v : ℕ) (l : Level) (b : Rule) (xs : List ℕ) (m n : ℕ) �
 longest-cut v l b xs m n p q long h =
     let room = room_of v l in
     let cut = length-take m xs in
-    let within = h.inside in
-    record {
+    let within = h.inside in record {
       inside = omega arith;
       fits = subst (λ (ys : List ℕ). HasFit v b ys room) (take-less n m xs (omega arith)) h.fits;
       longest = λ k i fit.
@@ -163,8 +160,7 @@ parts-long v l b x [] i j h = omega (arith, ap length h)
 parts-long v l b x (p ∷ ps) i j h =
     let short = part-short v l b (take h.0 x) i j h.2.fits in
     let within = h.2.inside in
-    let rest = parts-long v l b (drop h.0 x) ps i j h.4 in
-    omega (arith, length-take h.0 x, length-drop h.0 x)
+    let rest = parts-long v l b (drop h.0 x) ps i j h.4 in omega (arith, length-take h.0 x, length-drop h.0 x)
 
 -- ---- no fewer parts
 
@@ -188,8 +184,7 @@ rest-parts v l b k [] plain h = ([], (drop-nil k, h), omega arith)
 rest-parts v l b k (p ∷ ps) plain h =
     let fits = λ (q : List ℕ). HasFit v b q (room_of v l) in
     let here = All-head fits p ps h in
-    let behind = All-tail fits p ps h in
-    elim (cases_lt k (length p)) [
+    let behind = All-tail fits p ps h in elim (cases_lt k (length p)) [
       | inl i ↦ (drop k p ∷ ps, (drop-append-le k p _ (omega arith), All-cons fits _ ps (rest-fits v b k p _ plain here) behind), omega arith)
       | inr i ↦ (
           let r = rest-parts v l b (k - length p) ps plain behind in
@@ -206,8 +201,7 @@ needs-more v l b x n k plain some fit needs (p ∷ ps) cut =
     let least : length p ≤ n = fit.longest (length p) within (subst fits (sym front) (All-head fits p ps cut.1)) in
     let r = rest-parts v l b _ ps plain (All-tail fits p ps cut.1) in
     let left : drop n x ≡ concat r.0 = ap (λ (ys : List ℕ). drop n ys) cut.0 ∙ (behind-all n p _ least ∙ r.1.0) in
-    let few = needs r.0 (left, r.1.1) in
-    omega (arith, r.2)
+    let few = needs r.0 (left, r.1.1) in omega (arith, r.2)
 
 -- if the parts of the rest after the longest prefix are at least k, those of the bytes are at least k + 1
 pub prefixes-more : (v : ℕ) (l : Level) (b : Rule) (x : List ℕ) (n k : ℕ) → 0 < length x → IsLongestFit v b x (room_of v l) n
@@ -216,8 +210,7 @@ unfolding AreParts
 prefixes-more v l b x n k some fit many [] h = absurd (omega (arith, ap length h))
 prefixes-more v l b x n k some fit many (p ∷ ps) h =
     let same = longest-one v b x _ h.0 n h.2 fit in
-    let more = many ps (subst (λ (m : ℕ). AreParts v l b (drop m x) ps) same h.4) in
-    omega arith
+    let more = many ps (subst (λ (m : ℕ). AreParts v l b (drop m x) ps) same h.4) in omega arith
 
 -- an input with a byte needs at least one part
 pub needs-some : (v : ℕ) (l : Level) (b : Rule) (x : List ℕ) → 0 < length x → NeedsParts v l b x 1

@@ -27,8 +27,7 @@ split-series x l b v ns ss long cut few made = search (arith, length-parts, part
 -- bytes have at most one symbol of a version and a level after an optional header
 pub symbol-of-one : (v : ℕ) (l : Level) (b : Rule) (x : List ℕ) (h : Option Header) (s t : Symbol) → IsSymbolOf v l b x h s → IsSymbolOf v l b x h t → s ≡ t
 symbol-of-one v l b x h s t a c =
-    let same = symbol-at-one v l b x h _ _ _ _ a.made c.made in
-    search arith
+    let same = symbol-at-one v l b x h _ _ _ _ a.made c.made in search arith
 
 -- parts have at most one list of symbols
 symbols-one : (v : ℕ) (l : Level) (b : Rule) (last parity k : ℕ) (ps : List (List ℕ)) (ss ts : List Symbol) → AreSymbolsFrom v l b last parity k ps ss → AreSymbolsFrom v l b last parity k ps ts → ss ≡ ts

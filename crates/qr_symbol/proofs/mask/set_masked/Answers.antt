@@ -5,8 +5,7 @@ use Rattle.qr_symbol.proofs.mask.set_masked.Goals as goal
 
 pub loop-row-init : goal.loop-row-init
 loop-row-init c =
-    let f = λ (r k : ℕ). inverted (colour _ r k && inverts _ r k) (colour _ r k) in
-    record {
+    let f = λ (r k : ℕ). inverted (colour _ r k && inverts _ r k) (colour _ r k) in record {
       last = c.side-row-end.ensures.value ∙ c.requires.plain_side;
       side = refl;
       so_far = c.requires.square ∙ fill-none _ f _;
@@ -16,8 +15,7 @@ pub loop-row-preserved : goal.loop-row-preserved
 loop-row-preserved c =
     let f = λ (r k : ℕ). inverted (colour _ r k && inverts _ r k) (colour _ r k) in
     let row = c.loop-row.row in
-    let i = c.loop-row.invariant in
-    record {
+    let i = c.loop-row.invariant in record {
       last = i.last;
       side = ap (λ (g : Grid). g.side) c.set_row_masked.ensures ∙ i.side;
       so_far = c.set_row_masked.ensures ∙ fill-line _ f _ row _ _ i.so_far (λ k l. ap (λ (z : Bool). inverted (colour c.args.region.now row k && z) (colour c.args.plain.now row k)) (c.pattern.ensures.value k));

@@ -8,8 +8,7 @@ loop-rectangle-preserved c =
     let bs = c.args.rectangles.now in
     let n = c.loop-rectangle.rectangle-index in
     let b = get_or bs n no_rectangle in
-    let e = c.loop-rectangle.invariant.so_far in
-    record {
+    let e = c.loop-rectangle.invariant.so_far in record {
       so_far = over-item (λ b r k. is_in_rectangle r k b) bs n _ c.loop-rectangle-test.true e (over-rectangle _ _ _ _ _ (over-side e) c.fill.ensures);
     }
 

@@ -21,8 +21,7 @@ fill_alignment-requires c =
 pub clear_rings-requires : goal.clear_rings-requires
 clear_rings-requires c =
     let v = c.args.v in
-    let e = c.as_slice-2.ensures.value ∙ c.alignment_centres-centres.ensures in
-    record {
+    let e = c.as_slice-2.ensures.value ∙ c.alignment_centres-centres.ensures in record {
       square = c.fill_alignment.ensures.square;
       centres = e;
       inside = All-same (IsInside (side_of v)) _ _ e (centres-inside v (omega arith) (omega arith));

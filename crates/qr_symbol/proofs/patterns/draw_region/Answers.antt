@@ -26,8 +26,7 @@ clear_rectangles-requires c = record {
 pub fill_alignment-requires : goal.fill_alignment-requires
 fill_alignment-requires c =
     let v = c.args.v in
-    let e = c.as_slice-2.ensures.value ∙ c.alignment_centres.ensures in
-    record {
+    let e = c.as_slice-2.ensures.value ∙ c.alignment_centres.ensures in record {
       square = c.clear_rectangles.ensures.square;
       centres = e;
       inside = All-same (IsInside (side_of v)) c.as_slice-2.result.now (alignment_places (side_of v) (centres_of v)) e (centres-inside v (omega arith) (omega arith));

@@ -13,8 +13,7 @@ loop-centre-preserved c =
     let ms = c.args.centres.now in
     let n = c.loop-centre.centre-index in
     let m = get_or ms n none in
-    let e = c.loop-centre.invariant.so_far in
-    record {
+    let e = c.loop-centre.invariant.so_far in record {
       so_far = over-item (λ m r k. is_in_rectangle r k (square_round m)) ms n _ c.loop-centre-test.true e
           (over-rectangle _ _ _ _ _ (over-side e) c.fill.ensures);
     }

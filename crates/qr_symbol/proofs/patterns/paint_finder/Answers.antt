@@ -8,8 +8,7 @@ returns c = λ format.
     let at = c.args.centre in
     let block = c.args.block in
     let e = over-rectangle _ _ _ _ _ (ap (λ (g : Grid). g.side) q.square) c.fill.ensures in
-    let d = over-sized (over-side e) c.draw_finder.ensures in
-    record {
+    let d = over-sized (over-side e) c.draw_finder.ensures in record {
       square = d.square;
       colours = λ r k l m. block-paint c.args.v r k at.row at.col block.row block.col format _ _ _ q.row_least q.row_most q.col_least q.col_most (q.nearest r k) (e.colours r k l m) (d.colours r k l m);
     }

@@ -18,8 +18,7 @@ set-requires-clause-col_in c = (walked-in _ _ _ _ _ _ _ _ _ _ c.loop-module.inva
 
 pub overflow_add-number : goal.overflow_add-number
 overflow_add-number c =
-    let small = walked-small _ _ _ _ _ _ _ _ (omega arith) (omega arith) c.loop-module.invariant.walked in
-    omega arith
+    let small = walked-small _ _ _ _ _ _ _ _ (omega arith) (omega arith) c.loop-module.invariant.walked in omega arith
 
 pub loop-module-preserved : goal.loop-module-preserved
 loop-module-preserved c = record {

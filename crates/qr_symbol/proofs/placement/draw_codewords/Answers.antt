@@ -8,8 +8,7 @@ use Rattle.qr_symbol.proofs.placement.draw_codewords.Goals as goal
 pub loop-strip-init : goal.loop-strip-init
 loop-strip-init c =
     let v = c.args.v in
-    let e = sym c.into_iter-strip-iterator.ensures.into_iter_gives in
-    record {
+    let e = sym c.into_iter-strip-iterator.ensures.into_iter_gives in record {
       can_next = tt;
       is_finite = tt;
       inside = subst (All (Inside v)) e c.all_strips-strip-items.ensures.inside;
@@ -31,8 +30,7 @@ loop-strip-preserved c =
     let cw = c.args.codewords.now in
     let g0 = transposed _ in
     let n = c.loop-strip.number in
-    let now = rw c.in-Some.ensures.steps at i.placed in
-    record {
+    let now = rw c.in-Some.ensures.steps at i.placed in record {
       can_next = tt;
       is_finite = tt;
       inside = All-tail (Inside v) x rest (subst (All (Inside v)) c.in-Some.ensures.steps i.inside);
@@ -43,6 +41,5 @@ loop-strip-preserved c =
 pub returns-clause-placed : goal.returns-clause-placed
 returns-clause-placed c =
     let v = c.args.v in
-    let s = side_of v in
-    placed-end v _ _ _ _ _
+    let s = side_of v in placed-end v _ _ _ _ _
     (subst (λ (xs : List Strip). IsPlaced v c.args.codewords.now (transposed c.args.across.now) (places_of s c.loop-strip.yielded) (places_of s xs) c.loop-strip.number (transposed c.loop-strip.across)) c.in-None.ensures.steps.0 c.loop-strip.invariant.placed)

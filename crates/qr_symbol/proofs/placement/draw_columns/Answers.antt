@@ -12,8 +12,7 @@ loop-group-init c =
     let w = c.codeword_bits_at-next in
     let rows = c.draw_rows in
     let e : 0 + c.from-before.result ≡ c.from-before.result + 0 = omega arith in
-    let one = (bool_byte-bit c.args.strip.upward).0 in
-    record {
+    let one = (bool_byte-bit c.args.strip.upward).0 in record {
       next = w.ensures.bits;
       least = omega (arith, w.ensures.least);
       most = omega (arith, w.ensures.most, c.from.ensures, rows.ensures.few, c.from-before.ensures);
@@ -37,10 +36,8 @@ loop-group-preserved c =
     let now : IsCodewordBits cw w × (w.first ≤ number) × (number ≤ w.first + 56) = elim c.if-number-next.branch [
       | then-number-next b ↦ (let d = b.codeword_bits_at-next-then-number-next.ensures in rw b.next-is (d.bits, d.least, omega (arith, d.most)))
       | else-number-next b ↦ rw b.next-is (i.next, omega (arith, i.least), omega (arith, b.if-number-next.false))
-    ] in
-    let k = c.from-before.result + 4 * c.loop-group.group in
-    let e : c.from-before.result + 4 * (c.loop-group.group + 1) ≡ k + 4 = omega arith in
-    record {
+    ] in let k = c.from-before.result + 4 * c.loop-group.group in
+    let e : c.from-before.result + 4 * (c.loop-group.group + 1) ≡ k + 4 = omega arith in record {
       next = now.0;
       least = now.1;
       most = now.2;

@@ -31,8 +31,7 @@ returns-then-four-eq15 c =
     (sym (c.requires.region (top + j) (omega arith)).0 ∙ right j l, sym (c.requires.region (top + j) (omega arith)).1 ∙ left j l) in
     let e : c.from-then-four-eq15.result ≡ bits = c.from-then-four-eq15.ensures in
     let u : eqb c.from.result 1 ≡ x.upward = ap (λ z. eqb z 1) c.from.ensures ∙ (bool_byte-bit x.upward).1 in
-    let few : c.from.result < 2 = omega (arith, c.from.ensures, (bool_byte-bit x.upward).0) in
-    record {
+    let few : c.from.result < 2 = omega (arith, c.from.ensures, (bool_byte-bit x.upward).0) in record {
       few = omega arith;
       number = λ first. number-whole v x first k 4 (four-region v x k top c.requires.rows_in is-top whole);
       drawn = λ cw first next. four-drawn k top bits (entry / 16) (entry % 16) c.requires.rows_in is-top whole

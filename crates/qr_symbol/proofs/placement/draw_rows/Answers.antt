@@ -27,13 +27,11 @@ loop-rank-preserved c =
     let side : c.side-last.result - 1 + 1 ≡ s = omega (arith, c.side-last.ensures.value) in
     let r : row ≡ row_of s x k = rw side at c.row_at-row.ensures.row in
     let inside : row < s = omega (arith, c.row_at-row.ensures.most) in
-    let at = c.requires.region row inside in
-    record {
+    let at = c.requires.region row inside in record {
       from = omega (arith, i.from);
       few = omega (arith, one.ensures.few, two.ensures.few, i.few, i.from);
       number = λ first. row-number v x first k (number_at v x _ p) c.loop-rank.taken one.result two.result row _ _ r at.0 at.1 (i.number first) one.ensures.taken two.ensures.taken;
-      drawn = λ cw first next.
-          let row = row-drawn row _ _ _ _ _ _ r at.0 at.1 (i.number first) one.ensures.taken
+      drawn = λ cw first next. let row = row-drawn row _ _ _ _ _ _ r at.0 at.1 (i.number first) one.ensures.taken
           (omega (arith, i.few, i.from, c.loop-rank-test.true, c.requires.few)) (omega (arith, one.ensures.few, i.few, i.from, c.loop-rank-test.true, c.requires.few)) next
           one.ensures.column two.ensures.column in
           rows-drawn (i.drawn cw first next) row (omega (arith, i.from)) (omega (arith, i.from)) (omega arith);

@@ -38,8 +38,7 @@ returns c =
     let drawn : (c.if-upward.next ≡ number_at v x c.args.first s) × AreDrawn v cw x c.args.first 0 s old c.if-upward.columns = elim c.if-upward.branch [
       | then-upward w ↦ (let e = w.draw_columns-next.ensures in rw (w.columns-is, w.next-is) (subst (is-drawn w.draw_columns-next.result w.draw_columns-next.new.columns) (sym w.if-upward.true) (e.number, e.drawn)))
       | else-upward w ↦ (let e = w.draw_columns-next-else-upward.ensures in rw (w.columns-is, w.next-is) (subst (is-drawn w.draw_columns-next-else-upward.result w.draw_columns-next-else-upward.new.columns) (sym w.if-upward.false) (e.number, e.drawn)))
-    ] in
-    let region = is-region (goal.at.returns c).After-with_light_region-columns in
+    ] in let region = is-region (goal.at.returns c).After-with_light_region-columns in
     strip-drawn v cw x c.args.first c.if-upward.next g c.set_bit_row-2.new.self old c.if-upward.columns c.requires.square c.requires.left_in c.requires.right_in
     (c.set_bit_row-2.ensures ∙ ap (λ (z : Grid). with_row z (x.right - 1) (has c.if-upward.columns.left)) c.set_bit_row.ensures)
     (λ row l. rw (← (region row l).0, ← (region row l).1, ← c.columns_of.ensures.right row, ← c.columns_of.ensures.left row) (c.with_light_region-columns.ensures.right row, c.with_light_region-columns.ensures.left row))

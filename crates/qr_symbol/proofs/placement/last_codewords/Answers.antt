@@ -11,8 +11,7 @@ overflow_add-bits c = omega (arith, codewords-room _ _ (omega arith) c.loop-next
 
 pub loop-next-preserved : goal.loop-next-preserved
 loop-next-preserved c =
-    let i = c.loop-next.invariant in
-    record {
+    let i = c.loop-next.invariant in record {
       small = codewords-fits _ _ _ i.small (omega arith);
       held = codewords-more _ _ _ _ _ (c.from.ensures ∙ c.codeword_at.ensures) (omega arith) i.held;
     }

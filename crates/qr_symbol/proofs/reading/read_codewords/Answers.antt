@@ -16,8 +16,7 @@ seven-on mask r c l =
     let e3 : eqb mask 3 ≡ false = grind (arith, nat_tests) in
     let e4 : eqb mask 4 ≡ false = grind (arith, nat_tests) in
     let e5 : eqb mask 5 ≡ false = grind (arith, nat_tests) in
-    let e6 : eqb mask 6 ≡ false = grind (arith, nat_tests) in
-    rw (e0, e1, e2, e3, e4, e5, e6) refl
+    let e6 : eqb mask 6 ≡ false = grind (arith, nat_tests) in rw (e0, e1, e2, e3, e4, e5, e6) refl
 
 pub set_masked-requires-clause-square : goal.set_masked-requires-clause-square
 set_masked-requires-clause-square c =

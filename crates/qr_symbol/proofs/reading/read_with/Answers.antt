@@ -15,8 +15,7 @@ returns-in_err-message c =
 pub parse-requires : goal.parse-requires
 parse-requires c =
     let most = (laws-of c.args.level c.args.version (omega arith) (omega arith)).most in
-    let many = ap length c.deref-2.ensures.value ∙ c.in_ok-message.ensures.many in
-    omega arith
+    let many = ap length c.deref-2.ensures.value ∙ c.in_ok-message.ensures.many in omega arith
 
 pub returns-in_err-parse : goal.returns-in_err-parse
 returns-in_err-parse c =

@@ -25,8 +25,7 @@ part_symbols-requires-clause-some c =
 pub returns-clause-series : goal.returns-clause-series
 returns-clause-series c =
     let long : FitsVersion c.args.version c.args.level c.args.rule c.args.input.now → ⊥ = search rules in
-    IfOk-weaker c.part_symbols.result _ _
-    (λ ss made.
+    IfOk-weaker c.part_symbols.result _ _ (λ ss made.
     split-series c.args.input.now c.args.level c.args.rule c.args.version c.as_slice.result.now ss.items long (rw c.as_slice.ensures.value c.in_ok-lengths.ensures.parts) (omega arith) made)
     c.part_symbols.ensures.made
 

@@ -20,8 +20,7 @@ loop-rest-preserved c =
     let n = c.in_ok-len.len in
     let inv = c.loop-rest.invariant in
     let some : 0 < length rest = grind (arith, nat_tests) in
-    let less = length-drop n rest in
-    rw (c.push.ensures.items, c.split_at.ensures.back) (record {
+    let less = length-drop n rest in rw (c.push.ensures.items, c.split_at.ensures.back) (record {
       short = omega (arith, inv.short);
       lengths = lengths-more v l b _ _ _ n c.in_ok-len.ensures.some c.in_ok-len.ensures.longest inv.lengths;
       parts = λ k many ps is.

@@ -5,8 +5,7 @@ use Rattle.qr_symbol.proofs.series.part_symbols.Goals as goal
 
 pub split_at-requires : goal.split_at-requires
 split_at-requires c =
-    let next = lengths-at _ _ _ _ _ _ c.loop-len-test.true c.loop-len.invariant.rest in
-    next.0.inside
+    let next = lengths-at _ _ _ _ _ _ c.loop-len-test.true c.loop-len.invariant.rest in next.0.inside
 
 pub part_symbol-requires-clause-fits : goal.part_symbol-requires-clause-fits
 part_symbol-requires-clause-fits c =
@@ -25,8 +24,7 @@ loop-len-preserved c =
     let next = lengths-at v l b _ ns i c.loop-len-test.true inv.rest in
     let s = c.in_ok-symbol.symbol in
     let made = rw (inv.version, inv.level, c.split_at.ensures.front, c.len.ensures, inv.count, c.parity-parity.ensures) at c.in_ok-symbol.ensures.made in
-    let less = length-drop (get_or ns i 0) rest in
-    rw (c.in_ok-push.ensures.items, c.split_at.ensures.back) (record {
+    let less = length-drop (get_or ns i 0) rest in rw (c.in_ok-push.ensures.items, c.split_at.ensures.back) (record {
       version = c.part_symbol.ensures.version ∙ inv.version;
       level = c.part_symbol.ensures.level ∙ inv.level;
       short = omega (arith, inv.short);
@@ -39,5 +37,4 @@ pub returns-clause-made : goal.returns-clause-made
 returns-clause-made c =
     let ns = c.args.lengths.now in
     let none : drop c.loop-len.len-index ns ≡ [] = drop_all _ ns c.loop-len-test.false in
-    let all = c.loop-len.invariant.made [] (rw none (symbols-none _ _ _ _ _ _ _)) in
-    rw append-nil at all
+    let all = c.loop-len.invariant.made [] (rw none (symbols-none _ _ _ _ _ _ _)) in rw append-nil at all

@@ -9,8 +9,7 @@ pub bit_len-requires-clause-nonempty : goal.bit_len-requires-clause-nonempty
 bit_len-requires-clause-nonempty c =
     let xs = c.args.input.now in
     let segs = c.in_ok-segments.segments.items in
-    let all = covers_all xs _ (least_fits _ _ xs _ c.in_ok-segments.ensures.ok).0 in
-    rw c.deref.ensures.value all.0
+    let all = covers_all xs _ (least_fits _ _ xs _ c.in_ok-segments.ensures.ok).0 in rw c.deref.ensures.value all.0
 
 pub bit_len-requires-clause-short : goal.bit_len-requires-clause-short
 bit_len-requires-clause-short c =

@@ -10,8 +10,7 @@ loop-segments-init c =
     let first = c.unwrap-first.result in
     let found = subst (λ (o : Option Version). SomeIff o ((1 ≤ c.max.result) × (c.max.result ≤ 40)) c.max.result) c.unwrap-first.ensures c.new.ensures in
     let e : first ≡ c.max.result = found.1 in
-    let least = c.number.ensures.least in
-    record {
+    let least = c.number.ensures.least in record {
       from = omega arith;
       none = λ v a b fits. c.first_for.ensures.none v c.args.level (omega arith) (omega arith) fits;
     }
@@ -42,8 +41,7 @@ returns-in-None-clause-too_long c =
     let u : ℕ = c.loop-segments.first in
     let segs = c.in_ok-segments.segments.items in
     let many : c.bit_len.result ≡ bits u segs = c.bit_len.ensures ∙ ap (bits u) c.deref.ensures.value in
-    let last = c.last_of_width-last.result in
-    λ _ v a b.
+    let last = c.last_of_width-last.result in λ _ v a b.
     none-fits c.args.input.now c.args.level c.args.smallest c.args.rule u (last + 1) segs c.loop-segments.invariant.none
     (λ w i j. c.last_of_width-last.ensures.same w i (omega arith)) c.in_ok-segments.ensures.ok
     (λ w i j. let less = c.in_default.ensures w i (omega arith) in omega arith) v a
@@ -56,8 +54,7 @@ loop-segments-preserved c =
     let many : c.bit_len.result ≡ bits u segs = c.bit_len.ensures ∙ ap (bits u) c.deref.ensures.value in
     let last = c.last_of_width-last.result in
     let next = c.in-Some-new.ensures.1 in
-    let from = c.last_of_width-last.ensures.least in
-    record {
+    let from = c.last_of_width-last.ensures.least in record {
       from = let start = c.loop-segments.invariant.from in omega arith;
       none = λ v a b.
           none-fits c.args.input.now c.args.level c.args.smallest c.args.rule u (last + 1) segs c.loop-segments.invariant.none
