@@ -29,8 +29,7 @@ loop-mask-preserved c =
     }
 
 pub returns : goal.returns
-returns c =
-    let e : c.loop-mask.mask ≡ 8 = omega arith in record {
-      square = c.loop-mask.invariant.square;
-      best = subst (λ (n : ℕ). IsFirstLeast n (masked_penalty c.args.canvas.now.version c.args.canvas.now.level c.args.canvas.now.region c.args.canvas.now.plain) c.loop-mask.best) e c.loop-mask.invariant.best;
-    }
+returns c = let e : c.loop-mask.mask ≡ 8 = omega arith in record {
+  square = c.loop-mask.invariant.square;
+  best = subst (λ (n : ℕ). IsFirstLeast n (masked_penalty c.args.canvas.now.version c.args.canvas.now.level c.args.canvas.now.region c.args.canvas.now.plain) c.loop-mask.best) e c.loop-mask.invariant.best;
+}

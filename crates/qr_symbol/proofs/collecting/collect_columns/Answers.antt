@@ -5,10 +5,9 @@ use Rattle.std.specs.Prelude.{OnOk}
 use Rattle.qr_symbol.proofs.collecting.collect_columns.Goals as goal
 
 pub loop-group-init : goal.loop-group-init
-loop-group-init c =
-    let e : c.from-before.result ≡ c.from-before.result + 4 * 0 = omega arith in record {
-      bits = c.in_ok-collect_rows.ensures ∙ ap (λ z. c.args.bits.now ++ bits_in_rows (side_of c.args.v) c.args.strip c.args.region.now c.args.columns.now 0 z) e;
-    }
+loop-group-init c = let e : c.from-before.result ≡ c.from-before.result + 4 * 0 = omega arith in record {
+  bits = c.in_ok-collect_rows.ensures ∙ ap (λ z. c.args.bits.now ++ bits_in_rows (side_of c.args.v) c.args.strip c.args.region.now c.args.columns.now 0 z) e;
+}
 
 pub loop-group-preserved : goal.loop-group-preserved
 loop-group-preserved c =

@@ -5,11 +5,10 @@ use Rattle.qr_symbol.proofs.lemmas.collecting.CollectingLemmas.{none-read, row-r
 use Rattle.qr_symbol.proofs.collecting.collect_rows.Goals as goal
 
 pub loop-rank-init : goal.loop-rank-init
-loop-rank-init c =
-    let p = c.args.passed in record {
-      from = omega arith;
-      bits = none-read _ c.args.strip _ _ p _ _ (omega arith);
-    }
+loop-rank-init c = let p = c.args.passed in record {
+  from = omega arith;
+  bits = none-read _ c.args.strip _ _ p _ _ (omega arith);
+}
 
 pub loop-rank-preserved : goal.loop-rank-preserved
 loop-rank-preserved c =

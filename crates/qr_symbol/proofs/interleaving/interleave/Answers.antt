@@ -9,8 +9,7 @@ interleave_blocks-requires c =
     rw c.blocks-2.ensures (record { whole = cc (data-sizes-whole c.args.version c.args.level (omega arith) (omega arith), c.requires.whole); least = w.correction_least; most = w.correction_most })
 
 pub returns : goal.returns
-returns c =
-    let interleaved = rw c.blocks-2.ensures at c.interleave_blocks.ensures in record {
-      interleaved = interleaved;
-      many = IfOk-weaker c.interleave_blocks.result _ _ (λ cw h. final-whole c.args.version c.args.level _ cw.items (omega arith) (omega arith) h) interleaved;
-    }
+returns c = let interleaved = rw c.blocks-2.ensures at c.interleave_blocks.ensures in record {
+  interleaved = interleaved;
+  many = IfOk-weaker c.interleave_blocks.result _ _ (λ cw h. final-whole c.args.version c.args.level _ cw.items (omega arith) (omega arith) h) interleaved;
+}

@@ -47,11 +47,10 @@ loop-block-preserved c =
     }
 
 pub loop-place-preserved : goal.loop-place-preserved
-loop-place-preserved c =
-    let b = c.loop-block.invariant.blocks in record {
-      blocks = b;
-      so_far = interleaved-row _ _ _ _ _ _ (omega arith) c.loop-block.invariant.so_far;
-    }
+loop-place-preserved c = let b = c.loop-block.invariant.blocks in record {
+  blocks = b;
+  so_far = interleaved-row _ _ _ _ _ _ (omega arith) c.loop-block.invariant.so_far;
+}
 
 pub returns : goal.returns
 returns c = interleaved-end _ _ _ _ _ (omega arith) c.loop-place.invariant.so_far

@@ -29,8 +29,7 @@ mask-is v l cw region plain mask k e f h = least-same 8 _ _ _ (search (arith, ma
 pub canvas-mask : (v : ℕ) (l : Level) (cw : List ℕ) (k : Canvas) (mask : ℕ) → 1 ≤ v → k.version ≡ v → k.level ≡ l → k.plain ≡ plain_grid v cw
     → IsFirstLeast 8 (masked_penalty k.version k.level k.region k.plain) mask → IsMask v l cw mask
 canvas-mask v l cw k mask least a b e h =
-    let g = subst (λ (w : ℕ). IsFirstLeast 8 (masked_penalty w k.level k.region k.plain) mask) a h in
-    mask-is v l cw _ _ _ least (k.region_is ∙ ap region_grid a) e (subst (λ (w : Level). IsFirstLeast 8 (masked_penalty v w k.region k.plain) mask) b g)
+    mask-is v l cw _ _ _ least (k.region_is ∙ ap region_grid a) e (subst (λ (w : Level). IsFirstLeast 8 (masked_penalty v w k.region k.plain) mask) b (subst (λ (w : ℕ). IsFirstLeast 8 (masked_penalty w k.level k.region k.plain) mask) a h))
 
 -- what a canvas draws with a mask is the symbol of its codewords
 pub canvas-drawn : (v : ℕ) (l : Level) (cw : List ℕ) (k : Canvas) (mask : ℕ) → 1 ≤ v → k.version ≡ v → k.level ≡ l → k.plain ≡ plain_grid v cw

@@ -61,10 +61,8 @@ whole-bits : (s : ℕ) (x : Strip) (r y : Columns) (k : ℕ) → ((i : ℕ) → 
     → bits_in_rows s x r y k 4 ≡ eight (has y.right (row_of s x (k + 0))) (has y.left (row_of s x (k + 0))) (has y.right (row_of s x (k + 1))) (has y.left (row_of s x (k + 1))) (has y.right (row_of s x (k + 2))) (has y.left (row_of s x (k + 2))) (has y.right (row_of s x (k + 3))) (has y.left (row_of s x (k + 3)))
 unfolding eight
 whole-bits s x r y k t u =
-    let e0 : k ≡ k + 0 = omega arith in
-    let e2 : k + 1 + 1 ≡ k + 2 = omega arith in
-    let e3 : k + 1 + 1 + 1 ≡ k + 3 = omega arith in ap (λ z. rows z (k + 1) (k + 1 + 1) (k + 1 + 1 + 1)) e0
-    ∙ (ap (λ z. rows (k + 0) (k + 1) z (k + 1 + 1 + 1)) e2 ∙ (ap (λ z. rows (k + 0) (k + 1) (k + 2) z) e3
+    let e3 : k + 1 + 1 + 1 ≡ k + 3 = omega arith in ap (λ z. rows z (k + 1) (k + 1 + 1) (k + 1 + 1 + 1)) (omega arith)
+    ∙ (ap (λ z. rows (k + 0) (k + 1) z (k + 1 + 1 + 1)) (omega arith) ∙ (ap (λ z. rows (k + 0) (k + 1) (k + 2) z) e3
     ∙ rw (t 0 (omega arith), u 0 (omega arith), t 1 (omega arith), u 1 (omega arith), t 2 (omega arith), u 2 (omega arith), t 3 (omega arith), u 3 (omega arith)) refl))
   where
     row : ℕ → List Bool
@@ -89,9 +87,8 @@ four-read s u x r y k top a b ul al bl e room is-top t w p q =
     let row : (i : ℕ) → i < 4 → top + rank_of up i ≡ row_of s x (k + i) = λ i l. ap (λ z. z + rank_of up i) is-top ∙ row-of-rank up s k i room l in
     let right : (i : ℕ) → i < 4 → has_bit a (rank_of up i) ≡ has y.right (row_of s x (k + i)) = λ i l. p (rank_of up i) (small i l) ∙ ap (has y.right) (row i l) in
     let left : (i : ℕ) → i < 4 → has_bit b (rank_of up i) ≡ has y.left (row_of s x (k + i)) = λ i l. q (rank_of up i) (small i l) ∙ ap (has y.left) (row i l) in
-    let all = whole-bits s x r y k (λ i l. ap (has r.right) (sym (row i l)) ∙ t (rank_of up i) (small i l)) (λ i l. ap (has r.left) (sym (row i l)) ∙ w (rank_of up i) (small i l)) in
     joined-bits u a b up ul al bl e
-    ∙ (cc (right 0 (omega arith), left 0 (omega arith), right 1 (omega arith), left 1 (omega arith), right 2 (omega arith), left 2 (omega arith), right 3 (omega arith), left 3 (omega arith)) ∙ sym all)
+    ∙ (cc (right 0 (omega arith), left 0 (omega arith), right 1 (omega arith), left 1 (omega arith), right 2 (omega arith), left 2 (omega arith), right 3 (omega arith), left 3 (omega arith)) ∙ sym (whole-bits s x r y k (λ i l. ap (has r.right) (sym (row i l)) ∙ t (rank_of up i) (small i l)) (λ i l. ap (has r.left) (sym (row i l)) ∙ w (rank_of up i) (small i l))))
   where
     rank-in : (up : Bool) (i : ℕ) → i < 4 → rank_of up i < 4
     rank-in up i l = grind (arith, nat_tests)

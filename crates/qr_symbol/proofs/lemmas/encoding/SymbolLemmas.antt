@@ -4,7 +4,7 @@ use Rattle.qr_bits.specs.{Padding.IsData, declared.{header.Header.Header, modes.
 use Rattle.{qr_layout.specs.declared.level.Level.Level, qr_matrix.specs.Grid.Grid}
 use Rattle.qr_symbol.{proofs.lemmas.interleaving.MessageLemmas.final-one, specs.Choice.IsFirstLeast}
 use Rattle.qr_symbol.specs.{Encoding.{IsSymbolAt, SymbolsAreOne}, Interleaving.IsInterleaved, VersionChoice.IsVersion}
-use Rattle.std.proofs.{Common.{◌≡◌, ℕ, inl, inr, List, Option, None, subst, arith}, lemmas.Bool.cases_lt}
+use Rattle.std.proofs.{Common.{◌≡◌, ℕ, inl, inr, List, Option, subst, arith}, lemmas.Bool.cases_lt}
 
 -- Two first numbers of the least value are equal.
 least-one : (n : ℕ) (f : ℕ → ℕ) (m k : ℕ) → IsFirstLeast n f m → IsFirstLeast n f k → m ≡ k
@@ -21,15 +21,12 @@ version-one xs l least rule v w a b = elim (cases_lt v w) [
 pub symbol-at-one : (v : ℕ) (l : Level) (rule : Rule) (xs : List ℕ) (head : Option Header) (m n : ℕ) (g h : Grid) → IsSymbolAt v l rule xs head m g → IsSymbolAt v l rule xs head n h → (m ≡ n) × (g ≡ h)
 symbol-at-one v l rule xs head m n g h a b =
     let segments : a.segments ≡ b.segments = segmentation-one v rule xs a.segments b.segments a.chosen b.chosen in
-    let message : a.message ≡ b.message = data_one v l xs b.segments head a.message b.message
-    (subst (λ (ss : List Segment). IsData v l xs ss head a.message) segments a.written) b.written in
     let codewords : a.codewords ≡ b.codewords = final-one _ _ _ _
-    (subst (λ (d : List ℕ). IsInterleaved v l d a.codewords) message a.interleaved) b.interleaved in
+    (subst (λ (d : List ℕ). IsInterleaved v l d a.codewords) (data_one v l xs b.segments head a.message b.message (subst (λ (ss : List Segment). IsData v l xs ss head a.message) segments a.written) b.written) a.interleaved) b.interleaved in
     search (arith, least-one)
 
 -- An input has at most one symbol.
 pub symbol-one : SymbolsAreOne
 symbol-one xs l least rule v w m n g h a b =
     let version : v ≡ w = version-one xs l _ _ v w a.version b.version in
-    let made : IsSymbolAt w l rule xs None m g = search arith in
-    let rest = symbol-at-one w l _ xs _ m n g h made b.made in (version, rest.0, rest.1)
+    let rest = symbol-at-one w l _ xs _ m n g h (search arith) b.made in (version, rest.0, rest.1)

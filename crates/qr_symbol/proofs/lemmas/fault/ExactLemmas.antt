@@ -47,7 +47,7 @@ too-many-exactly x l b v (Ok ss) many made empty told = exactly _ _ _ _ (λ e. c
   where
     no-series : (ss : List Symbol) → IsSeries v l b x ss → HasNoSeries v l b x → ⊥
     no-series ss (inl a) none = none.too_long a.fits
-    no-series ss (inr a) none = let few = a.many in let more = none.too_many a.parts a.split in absurd (omega arith)
+    no-series ss (inr a) none = absurd (omega arith)
 too-many-exactly x l b v (Err e) many made empty told = exactly _ _ _ _ (λ e. cc) many tt (elim told [
   | inl h ↦ inl (λ none. absurd (none.too_long (subst (FitsVersion v l b) (sym (empty (ap (λ f. Err f) h))) (empty_fits v b (capacity_of v l)))))
   | inr w ↦ elim w [ inl h ↦ inl (λ _. h) | inr h ↦ inr h ]

@@ -17,8 +17,6 @@ pub checks-push : (b : Blocks) (d xs ys es : List ℕ) (k : ℕ) → k < block_c
 checks-push b d xs ys es k l h c e =
     let next = start-next (correction_sizes b) k in
     let one = check-len b k l in
-    let n = c.count in
-    let many = h.count in
     let all = h.corrections ++ es ∷ [] in
     let here : get_or all k [] ≡ es = search (arith, get_or-append_right) in
     let there = λ (i : ℕ) (s : i < k). get_or_append_left h.corrections (es ∷ []) [] i (omega arith) in record {
@@ -28,7 +26,6 @@ checks-push b d xs ys es k l h c e =
       long = cc (length-append xs es);
       same = λ t m i. ap (λ (zs : List ℕ). codeword_at (correction_sizes b) zs t) e ∙ (elim (cases_lt t.block k) [
         | inl s ↦
-            let a = start-next (correction_sizes b) t.block in
             let z = start-most (correction_sizes b) (t.block + 1) k (omega arith) in search (arith, get_or_append_left)
         | inr s ↦ search (arith, get_or-append_right)
       ]);
@@ -40,7 +37,7 @@ checks-push b d xs ys es k l h c e =
 -- two functions that agree on all items of a list map it to the same list
 pub map-each : {X Y : Type 0} (P : X → Type 0) (f g : X → Y) (xs : List X) → All P xs → ((x : X) → P x → f x ≡ g x) → map f xs ≡ map g xs
 map-each P f g [] a e = refl
-map-each P f g (x ∷ xs) a e = let h = e x (a 0 x (omega arith)) in let t = map-each P f g xs (λ k d l. a (suc k) d (omega arith)) e in λ i. h i ∷ t i
+map-each P f g (x ∷ xs) a e = λ i. (e x (a 0 x (omega arith))) i ∷ (map-each P f g xs (λ k d l. a (suc k) d (omega arith)) e) i
 
 -- the data codewords and then the error correction codewords were appended
 pub both-interleaved : (b : Blocks) (d es first second : List ℕ) → IsChecks b d (block_count (data_sizes b)) es → AppendsInterleaved (data_sizes b) d [] first → AppendsInterleaved (correction_sizes b) es first second → IsFinalMessage b d second
@@ -52,14 +49,12 @@ both-interleaved b d es first second h s t = record {
   each = h.each;
   check_positions = t.positions;
   check_order = t.order;
-  whole = t.interleaved ∙ (ap (λ (xs : List ℕ). xs ++ map (codeword_at (correction_sizes b) es) t.positions) s.interleaved ∙ ap (λ (xs : List ℕ). map (codeword_at (data_sizes b) d) s.positions ++ xs) (map-each _ _ _ _ t.order.in_blocks (λ u i. h.same u (let l = i.0 in omega arith) i)));
+  whole = t.interleaved ∙ (ap (λ (xs : List ℕ). xs ++ map (codeword_at (correction_sizes b) es) t.positions) s.interleaved ∙ ap (λ (xs : List ℕ). map (codeword_at (data_sizes b) d) s.positions ++ xs) (map-each _ _ _ _ t.order.in_blocks (λ u i. h.same u (omega arith) i)));
 }
 
 -- a block is inside the data codewords
 pub slice-in : (c e : BlockSizes) (n s l k : ℕ) → c ≡ e → n ≡ start_of e (block_count e) → k < block_count c → s ≡ start_of c k → l ≡ block_len c k → s + l ≤ n
-slice-in c e n s l k a o m f g =
-    let p = start-next c k in
-    let q = start-most c (k + 1) (block_count c) (omega arith) in search arith
+slice-in c e n s l k a o m f g = let q = start-most c (k + 1) (block_count c) (omega arith) in search arith
 
 -- one more block, stated with the variables of the loop
 pub push-checks : (b : Blocks) (d xs ys es : List ℕ) (c : BlockSizes) (k s l n : ℕ) → c ≡ data_sizes b → k < block_count c → s ≡ start_of c k → l ≡ block_len c k → n ≡ b.ec_len → IsCorrection (take l (drop s d)) n es → IsChecks b d k xs → ys ≡ xs ++ es → IsChecks b d (k + 1) ys

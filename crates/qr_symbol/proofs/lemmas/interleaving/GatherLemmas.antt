@@ -36,14 +36,12 @@ gather-push c interleaved xs ys p b next i l h t e k =
     let ks : ys ≡ set xs j x = k ∙ ap (λ (z : ℕ). set xs z x) e in
     let inside = position-in c p b t in
     let below = rank-in c p b t in
-    let r = h.rank in
-    let g = h.long in
     let old : map (codeword_at c (set xs j x)) h.positions ≡ map (codeword_at c xs) h.positions = map-mem _ _ _ (λ u m. let w = h.order.sound u m in get_or-set_other xs j _ x 0 (λ q. let z = position-one c u _ w.0 t q in irrefl u p b w.1 z.0 z.1)) in
     let new : codeword_at c (set xs j x) (position p b) ≡ x = get_or-set_same xs j x 0 (omega arith) in record {
-      long = ap length k ∙ (length-set xs i x ∙ g);
+      long = ap length k ∙ (length-set xs i x ∙ h.long);
       positions = h.positions ++ position p b ∷ [];
       order = positions-push c p b _ t h.order;
-      rank = ap (λ (z : ℕ). z + 1) r ∙ sym (rank-push c p b t);
+      rank = ap (λ (z : ℕ). z + 1) h.rank ∙ sym (rank-push c p b t);
       same = search (arith, position, map-append, take_more);
     }
 
@@ -58,14 +56,12 @@ gather-row c interleaved xs p b next l e h = record { long = h.long; positions =
 -- after the last index, all codewords have been put back
 pub gather-end : (c : BlockSizes) (interleaved xs : List ℕ) (p next : ℕ) → codeword_count c ≤ length interleaved → p ≡ c.short_len + 1 → GatheredBefore c interleaved p 0 xs next → IsGathered c interleaved xs
 gather-end c interleaved xs p next l e h =
-    let n : next ≡ codeword_count c = h.rank ∙ (ap (λ (k : ℕ). rank_of c k 0) e ∙ rank-end c) in
-    let s : map (codeword_at c xs) h.positions ≡ take (codeword_count c) interleaved = h.same ∙ ap (λ (k : ℕ). take k interleaved) n in
-    record {
+    let n : next ≡ codeword_count c = h.rank ∙ (ap (λ (k : ℕ). rank_of c k 0) e ∙ rank-end c) in record {
       long = h.long;
       positions = h.positions;
       order = positions-end c h.positions (subst (λ (k : ℕ). PositionsBefore c k 0 h.positions) e h.order);
       many = search (arith, length-map, length-take);
-      same = s;
+      same = (h.same ∙ ap (λ (k : ℕ). take k interleaved) n);
     }
 
 -- ---- every sequence can be gathered

@@ -35,11 +35,9 @@ data-one b d e cw n m h k =
     let c = data_sizes b in
     let one = positions-one c k.data_positions h.data_positions k.data_order h.data_order in
     let both : map (codeword_at c d) h.data_positions ++ map (check_at h.corrections) h.check_positions ≡ map (codeword_at c e) h.data_positions ++ map (check_at k.corrections) k.check_positions =
-    cc in
-    let w = append-front (map (codeword_at c d) h.data_positions) (map (codeword_at c e) h.data_positions) (map (check_at h.corrections) h.check_positions) (map (check_at k.corrections) k.check_positions) (search (arith, length-map)) both in
-    ext_get_or 0 d e (n ∙ sym m) (λ j l.
+    cc in ext_get_or 0 d e (n ∙ sym m) (λ j l.
     let t = position-of c (block_count c) j (omega arith) (omega arith) in
-    let q = map-at (codeword_at c d) (codeword_at c e) h.data_positions t.0 w.0 (Mem-of-Contains h.data_positions t.0 (h.data_order.complete t.0 t.1)) in
+    let q = map-at (codeword_at c d) (codeword_at c e) h.data_positions t.0 (append-front (map (codeword_at c d) h.data_positions) (map (codeword_at c e) h.data_positions) (map (check_at h.corrections) h.check_positions) (map (check_at k.corrections) k.check_positions) (search (arith, length-map)) both).0 (Mem-of-Contains h.data_positions t.0 (h.data_order.complete t.0 t.1)) in
     same-place d e (start_of c t.0.block + t.0.place) j t.2 q)
   where
     same-place : (d e : List ℕ) (i j : ℕ) → i ≡ j → get_or d i 0 ≡ get_or e i 0 → get_or d j 0 ≡ get_or e j 0
@@ -94,7 +92,7 @@ gathered-one b interleaved xs d g n h =
     let one = positions-one c _ _ h.data_order g.order in
     let first : take (codeword_count c) interleaved ≡ map (codeword_at c d) g.positions =
     search (arith, take-front, length-map) in ext_get_or 0 xs d (g.long ∙ sym n) (λ j l.
-    let w = position-of c (block_count c) j (omega arith) (let z = g.long in omega arith) in
+    let w = position-of c (block_count c) j (omega arith) (omega arith) in
     let q = map-at _ _ _ w.0 (g.same ∙ first) (Mem-of-Contains _ w.0 (g.order.complete w.0 w.1)) in cc)
 
 -- a sequence that differs from the final sequence of its gathered codewords is the final sequence of no message
@@ -102,5 +100,4 @@ pub none-fits : (b : Blocks) (interleaved xs again d : List ℕ) → IsGathered 
     → IsFinalMessage b xs again → (again ≡ interleaved → ⊥) → length d ≡ codeword_count (data_sizes b)
     → IsFinalMessage b d interleaved → ⊥
 none-fits b interleaved xs again d g h n l k =
-    let e = gathered-one b _ xs d g l k in
-    n (final-one b d _ _ (subst (λ (z : List ℕ). IsFinalMessage b z again) e h) k)
+    n (final-one b d _ _ (subst (λ (z : List ℕ). IsFinalMessage b z again) (gathered-one b _ xs d g l k) h) k)

@@ -11,9 +11,7 @@ use Rattle.qr_symbol.proofs.lemmas.interleaving.PositionLemmas.{position, start-
 pub position-one : (c : BlockSizes) (t u : Position) → IsPosition c t → IsPosition c u → start_of c t.block + t.place ≡ start_of c u.block + u.place → (t.place ≡ u.place) × (t.block ≡ u.block)
 position-one c t u i j e =
     let a = start-next c t.block in
-    let b = start-next c u.block in
-    let l = i.1 in
-    let m = j.1 in elim (cases_lt t.block u.block) [
+    let b = start-next c u.block in elim (cases_lt t.block u.block) [
       | inl k ↦ absurd (let z = start-most c (t.block + 1) u.block (omega arith) in omega arith)
       | inr k ↦ elim (cases_lt u.block t.block) [
         | inl n ↦ absurd (let z = start-most c (u.block + 1) t.block (omega arith) in omega arith)
@@ -91,11 +89,10 @@ pub position-of : (c : BlockSizes) (k j : ℕ) → k ≤ block_count c → j < s
 position-of c zero j l m = absurd (no_start c.short_len)
   where
     no_start : (n : ℕ) → ⊥
-    no_start n = absurd (let e : c.short_len * 0 ≡ 0 = omega arith in omega arith)
+    no_start n = absurd (omega arith)
 position-of c (suc k) j l m =
     let o : suc k ≡ k + 1 = omega arith in
-    let e = start-next c k in
-    let f = ap (start_of c) o in elim (cases_lt j (start_of c k)) [
+    let e = start-next c k in elim (cases_lt j (start_of c k)) [
       | inl s ↦ position-of c k j (omega arith) s
       | inr s ↦ (position (j - start_of c k) k, (omega arith, omega arith), omega arith)
     ]

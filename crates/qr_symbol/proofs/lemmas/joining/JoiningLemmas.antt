@@ -43,8 +43,7 @@ squares-taken ss i = sym (take-map (λ (x : Symbol). x.matrix) i ss)
 
 -- one more symbol is read
 pub readings-more : (ss : List Symbol) (i : ℕ) (s : Symbol) (cs : List Content) (c : Content) → i < length ss → s ≡ get_or ss i s → AreReadBy IsReading (squares_of (take i ss)) cs → IsReading s.matrix c → AreReadBy IsReading (squares_of (take (i + 1) ss)) (cs ++ c ∷ [])
-readings-more ss i s cs c l e a h =
-    let at = square-at ss i s l e in search (arith, squares-taken, readings-next)
+readings-more ss i s cs c l e a h = let at = square-at ss i s l e in search (arith, squares-taken, readings-next)
 
 -- ---- the first fault
 
@@ -70,8 +69,7 @@ unjoined-next reads refuses n gs i g cs e l p a u =
 
 -- if all symbols before one are read and this one is refused for a fault, they are not joined because of this fault
 pub unjoined-at : (ss : List Symbol) (i : ℕ) (s : Symbol) (cs : List Content) (e : ReadFault) → i < length ss → s ≡ get_or ss i s → AreReadBy IsReading (squares_of (take i ss)) cs → IsUnread s.matrix e → IsUnjoined (squares_of ss) e
-unjoined-at ss i s cs e l p a u =
-    let at = square-at ss i s l p in search (arith, unjoined-next, squares-taken)
+unjoined-at ss i s cs e l p a u = let at = square-at ss i s l p in search (arith, unjoined-next, squares-taken)
 
 -- ---- the headers of a series
 

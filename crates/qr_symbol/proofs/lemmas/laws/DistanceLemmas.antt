@@ -42,13 +42,9 @@ part-length c d e i h =
 part-short : (v : ℕ) (l : Level) (d : List ℕ) (i : ℕ) → 1 ≤ v → v ≤ 40 →
     length (part (data_sizes (blocks_of v l)) d i) + (blocks_of v l).ec_len ≤ 255
 part-short v l d i h k =
-    let b = blocks_of v l in
-    let c = data_sizes b in
+    let c = data_sizes (blocks_of v l) in
     let w = laws-of l v h k in
-    let few = w.len in
-    let ec = w.ec_most in
-    let a = length-take (block_len c i) (drop (start_of c i) d) in
-    let m = len-most c i in omega (arith, a, m, few, ec)
+    omega (arith, (length-take (block_len c i) (drop (start_of c i) d)), (len-most c i), w.len, w.ec_most)
 
 -- some number below n has the property P, or all of them have the property Q
 search-below : (P Q : ℕ → Type 0) (n : ℕ) → ((i : ℕ) → i < n → P i ⊎ Q i) →
@@ -89,6 +85,5 @@ messages-apart v l h k m n o =
 
 -- the law of damage
 pub damaged-one : (v : ℕ) (l : Level) → 1 ≤ v → v ≤ 40 → DamagedMessagesAreOne v l
-damaged-one v l h k m n read t few near near' =
-    let b = blocks_of v l in blocks-same v l m n h k (λ i s.
+damaged-one v l h k m n read t few near near' = let b = blocks_of v l in blocks-same v l m n h k (λ i s.
     unambiguous-known b.ec_len (t i) (block_of b _ i) (get_or _ i []) (block_of b _ i) (get_or _ i []) (read i) (m.is.interleaved.each i s) (n.is.interleaved.each i s) (blocks-long v l m n i) (part-short v l _ i h k) (few i s) (near i s) (near' i s))

@@ -73,7 +73,7 @@ column-painted v r format w k1 k2 n l o = elim (cases_lt r 6) [
   | inl a ↦ bit-painted v r 8 _ r w (at-first v r 8 r k1 k2 (omega arith) (grind (arith, nat_tests)) (grind (arith, nat_tests)))
   | inr a ↦ elim (cases_lt r 9) [
     | inl b ↦ bit-painted v r 8 format _ w (at-first v r 8 (r - 1) k1 k2 (omega arith) (grind (arith, nat_tests)) (grind (arith, nat_tests)))
-    | inr b ↦ let d = n b in bit-painted v r 8 _ (r + 15 - side_of v) w (at-second v r 8 _ k1 k2 (omega arith) (grind (arith, nat_tests)) (grind (arith, nat_tests)))
+    | inr b ↦ bit-painted v r 8 _ (r + 15 - side_of v) w (at-second v r 8 _ k1 k2 (omega arith) (grind (arith, nat_tests)) (grind (arith, nat_tests)))
   ]
 ]
 
@@ -122,11 +122,9 @@ pub corners-done : (v r c format : ℕ) (w : Bool) → 1 ≤ v → v ≤ 40 → 
     → format_or format (role_of v r c) (cond (begun (side_of v) r c) (paint_of v format r c) w) ≡ cond (is_corner (side_of v) r c) (paint_of v format r c) w
 corners-done v r c format w k1 k2 l m =
     let q = role_of v r c in
-    let p = paint_of v _ r c in
-    let corner = is_corner (side_of v) r c in
-    let b = begun _ r c in by_test b _
+    let p = paint_of v _ r c in by_test (begun _ r c) _
     (λ t. ap (λ z. format_or format q (cond z p w)) t ∙ (stays-painted v r c _ ∙ ap (λ z. cond z p w) (sym (begun-corner _ (omega arith) l m t))))
-    (λ t. by_test corner (format_or _ q _ ≡ cond _ p w) (λ u. elim (cases_eq c 8) [
+    (λ t. by_test (is_corner (side_of v) r c) (format_or _ q _ ≡ cond _ p w) (λ u. elim (cases_eq c 8) [
       | inl e ↦ (let d = beside-column _ r c (omega arith) l t u e in search (arith, column-painted))
       | inr e ↦ (let d = beside-row _ r c (omega arith) l m t u e in search (arith, row-painted))
     ]) (search (arith, outside-kept)))

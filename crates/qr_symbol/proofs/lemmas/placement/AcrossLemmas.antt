@@ -43,9 +43,7 @@ strip-drawn v cw x first next g h old new o least most e light number d =
       drawn = λ j l.
           let row = row_of (side_of v) x j in
           let small = (row-small x (side_of v) j l).0 in
-          let right = (two-colours g x.right (x.right - 1) (has new.right) (has new.left) x.right row (omega arith) (omega arith) (λ i. omega arith)).0 refl in
-          let left = (two-colours g x.right (x.right - 1) (has new.right) (has new.left) (x.right - 1) row (omega arith) (omega arith) (λ i. omega arith)).1 refl in
           let bits = d.drawn j (omega arith) (omega arith) in
-          rw e (right ∙ drawn-light (is_in_region v row x.right) _ _ _ _ bits.0 (light row small).0, left ∙ drawn-light (is_in_region v row (x.right - 1)) _ _ _ _ bits.1 (light row small).1);
+          rw e (((two-colours g x.right (x.right - 1) (has new.right) (has new.left) x.right row (omega arith) (omega arith) (λ i. omega arith)).0 refl) ∙ drawn-light (is_in_region v row x.right) _ _ _ _ bits.0 (light row small).0, ((two-colours g x.right (x.right - 1) (has new.right) (has new.left) (x.right - 1) row (omega arith) (omega arith) (λ i. omega arith)).1 refl) ∙ drawn-light (is_in_region v row (x.right - 1)) _ _ _ _ bits.1 (light row small).1);
       kept = λ row col l m a b. rw e ((two-colours g x.right (x.right - 1) (has new.right) (has new.left) col row (omega arith) (omega arith) (λ i. omega arith)).2 a b);
     }

@@ -48,8 +48,7 @@ codewords-more cw p n w b e s h j l = search (arith, codewords-high, codewords-l
 
 -- appending a byte to a number makes it at most eight bits longer
 pub codewords-fits : (n w b : ℕ) → w < 2 ^ (8 * n) → b < 256 → 256 * w + b < 2 ^ (8 * (n + 1))
-codewords-fits n w b l m =
-    let e : 8 * (n + 1) ≡ 8 * n + 8 = omega arith in search (arith, pow-add)
+codewords-fits n w b l m = let e : 8 * (n + 1) ≡ 8 * n + 8 = omega arith in search (arith, pow-add)
 
 -- a word of fewer than eight codewords has room for one more in 64 bits
 pub codewords-room : (n w : ℕ) → n < 8 → w < 2 ^ (8 * n) → w < 2 ^ 56

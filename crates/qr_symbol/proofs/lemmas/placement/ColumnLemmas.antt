@@ -75,7 +75,6 @@ pub row-drawn : {v : ℕ} {cw : List ℕ} {x : Strip} {first k : ℕ} {old new :
     → ((i : ℕ) → has new.left i ≡ cond (u && eqb i row) (has_bit bits (7 - one)) (has old.left i))
     → AreDrawn v cw x first k 1 old new
 row-drawn {v} {cw} {x} {first} {k} {old} {new} row n taken one bits t u r p q m o l1 l2 next right left = record {
-  drawn = λ j a b.
-      let e : j ≡ k = omega arith in search (arith, nat_tests, after-plus, here-drawn);
+  drawn = λ j a b. search (arith, nat_tests, after-plus, here-drawn);
   kept = search (arith, there-kept);
 }

@@ -45,7 +45,7 @@ from-top : (x : Strip) (s k top i : ℕ) → k + 4 ≤ s → top ≡ cond x.upwa
     → (row_of s x (k + rank_of x.upward (i - top)) ≡ i) × (rank_of x.upward (i - top) < 4)
 from-top x s k top i room e l m =
     let w = four-row x s k top (i - top) room e (omega arith) in
-    let u = four-row x s k top (rank_of x.upward (i - top)) room e w.1 in (omega (arith, u.0, w.2), w.1)
+    (omega (arith, (four-row x s k top (rank_of x.upward (i - top)) room e w.1).0, w.2), w.1)
 
 -- a row that is not one of these
 outside : (top i : ℕ) → (top ≤ i → i < top + 4 → ⊥) → (leb top i && ltb i (top + 4)) ≡ false
@@ -75,16 +75,13 @@ four-drawn {v} {cw} {x} {first} {old} {new} k top bits r l room e whole split ri
       let f : k + m ≡ j = omega arith in
       let w = four-row x (side_of v) k top m room e (omega arith) in
       let i = rank_of x.upward m in
-      let number = number-whole v x first k m (λ h c d. four-region v x k top room e whole h c (omega arith)) in
       let within : (leb top (top + i) && ltb (top + i) (top + 4)) ≡ true = grind (arith, nat_tests, w.1) in
       let back : top + i - top ≡ i = omega arith in
       let six : 6 - 2 * m ≡ 7 - (2 * m + 1) = omega arith in
-      let odd : number_at v x first k + (2 * m + 1) ≡ number_at v x first k + 2 * m + 1 = omega arith in
       let bit = split i w.1 in
-      let first-bit = next (2 * m) (omega arith) in
-      let second-bit = next (2 * m + 1) (omega arith) in rw (← f, w.0, (whole i w.1).0, (whole i w.1).1, number) (
-        right (top + i) ∙ rw (within, back, bit.0, w.2) first-bit,
-        left (top + i) ∙ rw (within, back, bit.1, w.2, six) (second-bit ∙ ap (codeword_bit cw) odd),
+      rw (← f, w.0, (whole i w.1).0, (whole i w.1).1, (number-whole v x first k m (λ h c d. four-region v x k top room e whole h c (omega arith)))) (
+        right (top + i) ∙ rw (within, back, bit.0, w.2) (next (2 * m) (omega arith)),
+        left (top + i) ∙ rw (within, back, bit.1, w.2, six) ((next (2 * m + 1) (omega arith)) ∙ ap (codeword_bit cw) (omega arith)),
       );
   kept = λ i apart.
       let out = outside top i (λ c d. let w = from-top x (side_of v) k top i room e c d in apart (k + rank_of x.upward (i - top)) (omega arith) (omega (arith, w.1)) w.0) in
@@ -93,7 +90,7 @@ four-drawn {v} {cw} {x} {first} {old} {new} k top bits r l room e whole split ri
 
 -- all four bits of the number 15 are 1
 pub four-set : (n j : ℕ) → n ≡ 15 → j < 4 → has_bit n j ≡ true
-four-set n j e l = (let t : ltb j 4 ≡ true = grind (arith, nat_tests) in ap (λ z. has_bit z j) e ∙ (has_bit-ones 4 j ∙ t))
+four-set n j e l = (ap (λ z. has_bit z j) e ∙ (has_bit-ones 4 j ∙ (grind (arith, nat_tests))))
 
 -- setting four unset bits gives them their values
 pub column-set : (x : Strip) (s k top bits : ℕ) (q p z : ℕ → Bool) → k + 4 ≤ s → top ≡ cond x.upward (s - 4 - k) k
@@ -104,9 +101,7 @@ pub column-set : (x : Strip) (s k top bits : ℕ) (q p z : ℕ → Bool) → k +
 column-set x s k top bits q p z room e whole light is i = is i ∙ set-replaces _ _ i (λ l m.
     let w = from-top x s k top i room e l m in
     let f : top + (i - top) ≡ i = omega arith in
-    let lit = rw f at (whole (i - top) (omega arith)) in
-    let unlit = rw w.0 at (light (k + rank_of x.upward (i - top)) (omega arith) (omega (arith, w.1))) in
-    rw lit at unlit)
+    rw (rw f at (whole (i - top) (omega arith))) at (rw w.0 at (light (k + rank_of x.upward (i - top)) (omega arith) (omega (arith, w.1)))))
   where
     set-replaces : (p h : Bool) (i : ℕ) → (top ≤ i → i < top + 4 → p ≡ false)
         → (p || leb top i && ltb i (top + 4) && h) ≡ cond (leb top i && ltb i (top + 4)) h p

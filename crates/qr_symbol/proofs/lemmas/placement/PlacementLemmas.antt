@@ -55,9 +55,7 @@ next-number v front later x number o k = (order-mem v _ o x (Mem-mid x _ _), num
 pub done-step : (s : ℕ) (want : ℕ → ℕ → Bool) (g : Grid) (later : List Module) (x : Module) (d : Bool)
     → g.side ≡ s → d ≡ want x.row x.col → Done s want (x ∷ later) g → Done s want later (painted g x.row x.col d)
 done-step s want g later x d k e h r c l m n = elim (same-place x.row x.col r c) [
-  | inl w ↦
-      let a = w.0.0 in
-      let b = w.0.1 in rw (a, b) (colour-painted-here g _ _ d (omega arith) (omega arith) ∙ e)
+  | inl w ↦ rw (w.0.0, w.0.1) (colour-painted-here g _ _ d (omega arith) (omega arith) ∙ e)
   | inr w ↦
       colour-painted-there g _ _ r c d (omega arith) (omega arith) w.0 ∙ h r c l m (λ q. elim q [ inl e ↦ w.0 (ap (λ (z : Module). z.row) (sym e), ap (λ (z : Module). z.col) (sym e)) | inr q ↦ n q ])
 ]
@@ -122,9 +120,7 @@ masked-outside v l mask cw r c t n = rw (t, ← outside v cw _ r c t) (role-mask
 pub masked-all : (v : ℕ) (l : Level) (mask : ℕ) (cw : List ℕ) (region plain : Grid) → 1 ≤ v → region ≡ region_grid v → plain ≡ plain_grid v cw → masked_grid v l mask region plain ≡ grid_of v l mask cw
 unfolding masked_colour
 masked-all v l mask cw region plain k e f = square-same _ _ _ (λ r c i j.
-    let a : colour region r c ≡ is_in_region v r c = ap (λ (g : Grid). colour g r c) e ∙ colour-square _ _ r c i j in
-    let b : colour plain r c ≡ plain_colours v cw r c = ap (λ (g : Grid). colour g r c) f ∙ colour-square _ _ r c i j in
-    rw (a, b) (by_test _ _ (λ t. masked-inside v l mask cw r c t (region-role v r c k i j t))
+    rw ((ap (λ (g : Grid). colour g r c) e ∙ colour-square _ _ r c i j), (ap (λ (g : Grid). colour g r c) f ∙ colour-square _ _ r c i j)) (by_test _ _ (λ t. masked-inside v l mask cw r c t (region-role v r c k i j t))
     (λ t. masked-outside v l mask cw r c t (λ u. let h = role-region v r c k i j u in cc))))
 
 -- ---- strips whose modules are drawn
@@ -180,11 +176,9 @@ number-rows v x before zero = rw append-nil refl
 number-rows v x before (suc j) =
     let p = at (row_of (side_of v) x j) x.right in
     let q = at (row_of (side_of v) x j) (x.right - 1) in
-    let xs = both_of (rows_from (side_of v) x 0 j) in
     let e : j + 1 ≡ suc j = omega arith in
     let f : 0 + j ≡ j = omega arith in
-    let split = rw (e, f) at (rows-split (side_of v) x 0 j 0) in
-    let whole : before ++ both_of (rows_from (side_of v) x 0 (suc j)) ≡ ((before ++ xs) ++ p ∷ []) ++ q ∷ [] = rw split (simp append_assoc) in
+    let whole : before ++ both_of (rows_from (side_of v) x 0 (suc j)) ≡ ((before ++ (both_of (rows_from (side_of v) x 0 j))) ++ p ∷ []) ++ q ∷ [] = rw (rw (e, f) at (rows-split (side_of v) x 0 j 0)) (simp append_assoc) in
     rw (whole, count-push v _ q, count-push v _ p, ← number-rows v x before j) refl
 
 -- a kept module of a list is its first module, or kept after it
@@ -215,14 +209,13 @@ pub placed-strip : (v : ℕ) (cw : List ℕ) (g0 a b : Grid) (x : Strip) (before
     → IsPlaced v cw g0 (before ++ both_of (rows_from (side_of v) x 0 (side_of v))) later next (transposed b)
 placed-strip v cw g0 a b x before later number next o p d =
     let s = side_of v in
-    let want = placed_colour v cw (colour g0) in
     let a-side = ap (λ (z : Grid). z.side) o in
     let b-side = ap (λ (z : Grid). z.side) d.square in record {
       whole = rw append_assoc p.whole;
       next = d.number ∙ (ap (λ n. number_at v x n s) p.next ∙ number-rows v x before s);
       square = square-transposed s b d.square;
       done = λ r c l m n.
-          let kept : (((c ≡ x.right) ⊎ (c ≡ x.right - 1)) × (is_in_region v r c ≡ true) → ⊥) → colour a c r ≡ want r c = λ u.
+          let kept : (((c ≡ x.right) ⊎ (c ≡ x.right - 1)) × (is_in_region v r c ≡ true) → ⊥) → colour a c r ≡ (placed_colour v cw (colour g0)) r c = λ u.
           sym (colour-transposed a r c (omega arith) (omega arith)) ∙ p.done r c l m (λ q. elim (strip-mem v s x 0 s (at r c) later q) [ inl w ↦ u w | inr q ↦ n q ]) in
           let j = row_of s x r in
           let rank = row-small x s r l in
@@ -234,14 +227,13 @@ placed-strip v cw g0 a b x before later number next o p d =
           let order : before ++ (both_of (rows_from s x 0 s) ++ later) ≡ xs ++ i ∷ k ∷ ys = rw (rw rank.1 at (strip-split s x j rank.0)) (simp append_assoc) in
           let whole = rw order at p.whole in
           let first : length (in_region_of v xs) ≡ number_at v x number j = sym (ap (λ n. number_at v x n j) p.next ∙ number-rows v x before j) in
-          let second = count-push v xs i in
           colour-transposed b r c (omega arith) (omega arith) ∙ elim (cases_eq c x.right) [
             | inl e ↦ rw e (by_test (is_in_region v r x.right) _
                 (λ t. (rw t at bits.0) ∙ cc (place-number v xs _ i whole t, first, inside v cw _ r _ t))
                 (λ t. (rw t at bits.0) ∙ (rw e at kept) (λ w. cc)))
             | inr e ↦ elim (cases_eq c _) [
               | inl f ↦ rw f (by_test (is_in_region v r (x.right - 1)) _
-                  (λ t. (rw t at bits.1) ∙ cc (place-number v (xs ++ i ∷ []) ys k (rw (append_assoc xs _ _) whole) t, first, second, inside v cw _ r _ t))
+                  (λ t. (rw t at bits.1) ∙ cc (place-number v (xs ++ i ∷ []) ys k (rw (append_assoc xs _ _) whole) t, first, (count-push v xs i), inside v cw _ r _ t))
                   (λ t. (rw t at bits.1) ∙ (rw f at kept) (λ w. cc)))
               | inr f ↦ d.kept r c l m e f ∙ kept (λ w. elim w.0 [ inl g ↦ e g | inr g ↦ f g ])
             ]

@@ -36,8 +36,7 @@ walked-start v cw mask g ms s o = search (arith, done-start, walked-outside)
 -- the next module is in the square
 pub walked-in : (v : ℕ) (cw : List ℕ) (mask : ℕ) (g0 g : Grid) (front now later : List Module) (x : Module) (number : ℕ) → IsWalked v cw mask g0 front now number g → now ≡ x ∷ later → (x.row < g.side) × (x.col < g.side)
 walked-in v cw mask g0 g front now later x number w e =
-    let o = whole-next v _ now _ x w.whole e in
-    let l = in-square v _ _ x o in search arith
+    let l = in-square v _ _ x (whole-next v _ now _ x w.whole e) in search arith
 
 -- one module is drawn
 pub walked-step : (v : ℕ) (cw : List ℕ) (mask : ℕ) (g0 g : Grid) (front now later : List Module) (x : Module) (number : ℕ) (bit turned : Bool)
@@ -48,13 +47,11 @@ walked-step v cw mask g0 g front now later x number bit turned b t e w =
     let s = ap (λ (h : Grid). h.side) w.square in
     let n = next-number v _ _ x _ o w.next in
     let d : not (beq bit turned) ≡ inverted (inverts mask x.row x.col) (codeword_bit cw number) =
-    search (arith, differs-inverted, codeword_bit) in
-    let want : inverted (inverts mask x.row x.col) (codeword_bit cw number) ≡ walked_colour v cw mask (colour g0) x.row x.col =
-    search (arith, walked-inside, codeword_bit) in record {
+    search (arith, differs-inverted, codeword_bit) in record {
       whole = whole-push v _ _ x o;
       next = cc (length-append _ _);
       square = omega (arith, painted-square);
-      done = done-step _ _ g _ x _ s (d ∙ want) (search arith);
+      done = done-step _ _ g _ x _ s (d ∙ (search (arith, walked-inside, codeword_bit))) (search arith);
     }
 
 -- the number of the next bit is at most the number of all modules of the region

@@ -62,10 +62,8 @@ format-one g l k m n h j =
     let b = format_word_of k n in
     let p = h.in_range in
     let q = j.in_range in
-    let words : a ≡ b = same_from_bits_below 15 a b (short l m p) (short k n q) (λ i r. same-bit (bit_at a i) (bit_at b i) (bit_at-lt a i) (bit_at-lt b i) (sym (h.bits i r) ∙ j.bits i r)) in
-    let five : five_bits l m ≡ five_bits k n = sym (back l m p) ∙ (ap (λ (z : ℕ). bit_xor z 0x5412 / 1024) words ∙ back k n q) in
-    let s = level-small l in
-    let t = level-small k in (level-one l k (omega arith), omega arith)
+    let five : five_bits l m ≡ five_bits k n = sym (back l m p) ∙ (ap (λ (z : ℕ). bit_xor z 0x5412 / 1024) (same_from_bits_below 15 a b (short l m p) (short k n q) (λ i r. same-bit (bit_at a i) (bit_at b i) (bit_at-lt a i) (bit_at-lt b i) (sym (h.bits i r) ∙ j.bits i r))) ∙ back k n q) in
+    (level-one l k (omega arith), omega arith)
 
 -- the places of the first copy are in the first 15 rows
 first-row : (i : ℕ) → i < 15 → (first_place i).row < 15

@@ -23,8 +23,7 @@ read-place : (v : ℕ) (l : Level) (mask : ℕ) (cw : List ℕ) (front back : Li
 unfolding colour_of
 read-place v l mask cw front back m k o =
     let w = in-square v _ _ m o in
-    let t = order-mem v _ o m (Mem-mid m _ _) in
-    let e = region-role v _ _ k w.0 w.1 t in ap (inverted (inverts mask m.row m.col)) (search (arith, colour-square))
+    let e = region-role v _ _ k w.0 w.1 (order-mem v _ o m (Mem-mid m _ _)) in ap (inverted (inverts mask m.row m.col)) (search (arith, colour-square))
     ∙ (inverted-twice _ _ ∙ ap (codeword_bit cw) (number-at v _ _ m o))
 
 -- the bits that are read from one module of the order on
@@ -84,8 +83,7 @@ bits-one (c ∷ cs) [] a b e = absurd (let l = ap length e in omega (arith, leng
 bits-one (c ∷ cs) (d ∷ ds) a b e =
     let w = append-front _ _ _ _ (length-field 8 c ∙ sym (length-field 8 d)) e in
     let h = same_from_bits_below 8 c d (a 0 c (omega arith)) (b 0 d (omega arith)) (field-one 8 c d w.0) in
-    let t = bits-one cs ds (λ k x l. a (suc k) x (omega arith)) (λ k x l. b (suc k) x (omega arith)) w.1 in
-    λ i. h i ∷ t i
+    λ i. h i ∷ (bits-one cs ds (λ k x l. a (suc k) x (omega arith)) (λ k x l. b (suc k) x (omega arith)) w.1) i
 
 -- a square is read as at most one list of codewords
 pub read-one : (v mask : ℕ) (g : Grid) (cw ds : List ℕ) → IsRead v mask g cw → IsRead v mask g ds → cw ≡ ds
@@ -96,22 +94,18 @@ pub read-some : (v mask : ℕ) (g : Grid) → 1 ≤ v → v ≤ 40 → (cw : Lis
 read-some v mask g p h =
     let t = total_codewords_of v in
     let o = to_come-start v in
-    let ms = to_come v (first_cursor v) in
-    let bits = read_bits v mask g ms in
+    let bits = read_bits v mask g (to_come v (first_cursor v)) in
     let many : length bits ≡ 8 * t = search (arith, length-append, length-map, length-take, length-replicate) in
     let w = bytes_takes t bits (omega arith) in
-    let n = w.0 in
     let same = append-front bits (bits_of (bytes_of t bits)) [] (drop (8 * t) bits) (let l = length-bits_of (bytes_of t bits) in omega arith) (append-nil bits ∙ w.2) in
     search arith
 
 -- the square that is drawn for the codewords of a message contains this message
 pub message-read : (v : ℕ) (l : Level) (mask : ℕ) (d cw : List ℕ) → 1 ≤ v → v ≤ 40 → length cw ≡ total_codewords_of v → All (λ x. x < 256) cw → length d ≡ data_codewords_of v l → IsInterleaved v l d cw → IsMessage v l mask (grid_of v l mask cw) d
-message-read v l mask d cw p h n a m i =
-    let o = to_come-start v in search (arith, read-grid)
+message-read v l mask d cw p h n a m i = let o = to_come-start v in search (arith, read-grid)
 
 -- a square contains at most one message
 pub message-one : (v : ℕ) (l : Level) (mask : ℕ) (g : Grid) (d e : List ℕ) → 1 ≤ v → v ≤ 40 → IsMessage v l mask g d → IsMessage v l mask g e → d ≡ e
 message-one v l mask g d e p q h k =
-    let same = read-one v _ g _ _ k.read h.read in
     let whole = data-sizes-whole v l p q in
-    data-one _ d e _ (h.many ∙ sym whole) (k.many ∙ sym whole) h.interleaved (subst (IsInterleaved v l e) same k.interleaved)
+    data-one _ d e _ (h.many ∙ sym whole) (k.many ∙ sym whole) h.interleaved (subst (IsInterleaved v l e) (read-one v _ g _ _ k.read h.read) k.interleaved)

@@ -10,16 +10,12 @@ use Rattle.qr_symbol.specs.declared.fault.ReadFault.TheVariants as fault
 
 -- a square has one version, level and mask, so its message does not depend on how they were found
 pub moved : (g : Grid) (v w : ℕ) (l k : Level) (m n : ℕ) (d : List ℕ) → IsOfVersion g v → IsOfVersion g w → IsFormat g l m → IsFormat g k n → IsMessage v l m g d → (v ≡ w) × IsMessage w k n g d
-moved g v w l k m n d s t f h i =
-    let a = s.side in
-    let b = t.side in
-    let e = format-one g l k m n f h in search arith
+moved g v w l k m n d s t f h i = let e = format-one g l k m n f h in search arith
 
 -- a square has at most one outcome of parsing
 gives-one : (g : Grid) (r q : Result Content ParseFault) → IsParsedAs g r → IsParsedAs g q → r ≡ q
 gives-one g r q h k =
-    let w = moved g _ _ _ _ _ _ _ k.sized h.sized k.format h.format k.holds in
-    let same = message-one h.version h.level h.mask g h.message k.message h.sized.least h.sized.most h.holds w.1 in
+    let same = message-one h.version h.level h.mask g h.message k.message h.sized.least h.sized.most h.holds (moved g _ _ _ _ _ _ _ k.sized h.sized k.format h.format k.holds).1 in
     search (arith, bits_of)
 
 -- a square that contains a message is refused only if the message cannot be parsed, or for lack of memory
@@ -37,7 +33,7 @@ read-refused g p e h u = elim (refused g (Ok p) h e u) [ inl m ↦ m | inr w ↦
 
 -- a square whose message cannot be parsed is refused for that reason, or for lack of memory
 parse-refused : (g : Grid) (x : ParseFault) (e : ReadFault) → IsParsedAs g (Err x) → IsUnread g e → (e ≡ fault.Memory) ⊎ (fault.Segments x ≡ e)
-parse-refused g x e h u = elim (refused g (Err x) h e u) [ inl m ↦ inl m | inr w ↦ (let s = w.1 in let t = w.2 in inr (cc)) ]
+parse-refused g x e h u = elim (refused g (Err x) h e u) [ inl m ↦ inl m | inr w ↦ (inr (cc)) ]
 
 -- two faults of the same square are equal, or one of them is lack of memory
 pub refused-one : (g : Grid) (e f : ReadFault) → IsUnread g e → IsUnread g f → (e ≡ fault.Memory) ⊎ ((f ≡ fault.Memory) ⊎ (e ≡ f))

@@ -1,13 +1,12 @@
 -- A symbol is read as its input.
-use Rattle.qr_bits.proofs.Facts.{data_again, length-data}
-use Rattle.qr_bits.specs.{Bits.bits_of, Parsing.{Content, parse}, declared.{header.Header.Header, modes.Rule.Rule}}
-use Rattle.qr_layout.specs.declared.{blocks.Blocks.Blocks, level.Level.Level}
+use Rattle.qr_bits.{proofs.Facts.{data_again, length-data}, specs.{Parsing.Content, declared.header.Header.Header}}
+use Rattle.{qr_bits.specs.declared.modes.Rule.Rule, qr_layout.specs.declared.{blocks.Blocks.Blocks, level.Level.Level}}
 use Rattle.{qr_matrix.specs.Grid.Grid, qr_symbol.proofs.lemmas.interleaving.MessageLemmas.final-whole}
 use Rattle.qr_symbol.proofs.lemmas.reading.FormatLemmas.{format-one, format-read}
 use Rattle.qr_symbol.proofs.lemmas.reading.ReadLemmas.{message-read, message-one}
 use Rattle.qr_symbol.specs.{Encoding.IsSymbolAt, Interleaving.{start_of, data_sizes, check_at, IsFinalMessage}}
 use Rattle.qr_symbol.specs.Reading.{IsFormat, IsMessage, IsReading}
-use Rattle.std.proofs.Common.{◌≡◌, ℕ, ◌+◌, ◌<◌, ◌≤◌, List, [], length, get_or, sym, ◌∙◌, ap, subst, inl, inr, arith}
+use Rattle.std.proofs.Common.{◌≡◌, ℕ, ◌+◌, ◌<◌, ◌≤◌, List, [], length, get_or, sym, ap, subst, inl, inr, arith}
 use Rattle.std.proofs.{Math.ListN.get_or-eq_default, lemmas.{Bool.cases_lt, List.Elements.{All-append, All-map}}}
 use Rattle.std.specs.{List.All, Prelude.Option}
 
@@ -21,15 +20,12 @@ final-bytes b d cw a h = subst (All (λ x. x < 256)) (sym h.whole) (All-append (
     (All-map (λ x. x < 256) _ _ (λ k t l. let u = get_or _ k t in byte-at d (start_of (data_sizes b) u.block + u.place) a))
     (All-map (λ x. x < 256) (check_at h.corrections) h.check_positions (λ k t l.
     let u = get_or h.check_positions k t in
-    let i = (h.check_order.in_blocks k t l).0 in
     byte-at (get_or h.corrections u.block []) u.place (h.each u.block (omega arith)).bytes)))
 
 -- the symbol of an input contains its message
 pub symbol-holds : (v : ℕ) (l : Level) (b : Rule) (x : List ℕ) (h : Option Header) (mask : ℕ) (g : Grid) → 1 ≤ v → v ≤ 40 → (s : IsSymbolAt v l b x h mask g) → IsMessage v l mask g s.message
 symbol-holds v l b x h mask g p q s =
-    let bytes = final-bytes _ _ _ s.written.bytes s.interleaved in
-    let many = final-whole v l _ _ p q s.interleaved in
-    subst (λ (z : Grid). IsMessage v l mask z s.message) (sym s.drawn) (message-read v l _ _ _ p q many bytes (length-data v l x _ h _ s.written) s.interleaved)
+    subst (λ (z : Grid). IsMessage v l mask z s.message) (sym s.drawn) (message-read v l _ _ _ p q (final-whole v l _ _ p q s.interleaved) (final-bytes _ _ _ s.written.bytes s.interleaved) (length-data v l x _ h _ s.written) s.interleaved)
 
 -- a symbol has the format information of its level and mask
 pub symbol-format : (v : ℕ) (l : Level) (b : Rule) (x : List ℕ) (h : Option Header) (mask : ℕ) (g : Grid) → 1 ≤ v → v ≤ 40 → IsSymbolAt v l b x h mask g → IsFormat g l mask
@@ -51,13 +47,8 @@ symbol-read v l b x h mask g p q s = record {
 -- a square is read as at most one content
 pub reading-one : (g : Grid) (p q : Content) → IsReading g p → IsReading g q → p ≡ q
 reading-one g p q h k =
-    let a = h.sized.side in
-    let b = k.sized.side in
     let vs : k.version ≡ h.version = omega arith in
     let w = format-one g _ _ _ _ k.format h.format in
-    let m1 = subst (λ (v : ℕ). IsMessage v k.level k.mask g k.message) vs k.holds in
-    let m2 = subst (λ (l : Level). IsMessage h.version l k.mask g k.message) w.0 m1 in
-    let m3 = subst (λ (m : ℕ). IsMessage h.version h.level m g k.message) w.1 m2 in
-    let same = message-one _ _ _ g _ _ h.sized.least h.sized.most h.holds m3 in
-    let e = sym h.parsed ∙ (ap (λ (d : List ℕ). parse h.version (bits_of d)) same ∙ (ap (λ (v : ℕ). parse v (bits_of k.message)) (sym vs) ∙ k.parsed)) in
+    let m2 = subst (λ (l : Level). IsMessage h.version l k.mask g k.message) w.0 (subst (λ (v : ℕ). IsMessage v k.level k.mask g k.message) vs k.holds) in
+    let same = message-one _ _ _ g _ _ h.sized.least h.sized.most h.holds (subst (λ (m : ℕ). IsMessage h.version h.level m g k.message) w.1 m2) in
     cc

@@ -12,7 +12,7 @@ use Rattle.qr_symbol.proofs.lemmas.reading.ReadLemmas.{read-one}
 use Rattle.qr_symbol.specs.{Fault.unread_for, Interleaving.IsInterleaved, Mask.{inverts, inverted}}
 use Rattle.qr_symbol.specs.Reading.{unmasked, IsRead, IsReadUnmasked, IsMessage, IsFormat, IsOfVersion, IsUnread}
 use Rattle.qr_symbol.specs.{Steps.{Collecting.colour_across, Placement.region_grid}, declared.fault.ReadFault.ReadFault}
-use Rattle.std.proofs.Common.{◌≡◌, ℕ, suc, ◌+◌, ◌-◌, ◌*◌, ◌<◌, ◌≤◌, Bool, true, false, ◌&&◌, ltb, List, ◌∷◌, ◌++◌, map, take, drop, length, replicate, sym, ◌∙◌, ap, refl, subst, length-append, inl, inr, ◌⊎◌, arith}
+use Rattle.std.proofs.Common.{◌≡◌, ℕ, suc, ◌+◌, ◌-◌, ◌*◌, ◌<◌, ◌≤◌, Bool, true, false, ◌&&◌, ltb, List, ◌∷◌, ◌++◌, map, take, length, replicate, sym, ◌∙◌, ap, refl, subst, length-append, inl, inr, ◌⊎◌, arith}
 use Rattle.std.proofs.lemmas.List.{append-nil, length-map, length-take, map-append, take-append-drop}
 use Rattle.std.specs.{List.All, Prelude.Err}
 use Rattle.qr_bits.specs.declared.fault.ParseFault.TheVariants as unparsed
@@ -25,8 +25,7 @@ remainder-small = refl
 
 few-left : (v : ℕ) → 1 ≤ v → v ≤ 40 → remainder_bits_of v < 8
 few-left v l h =
-    let e : v - 1 + 1 ≡ v = omega arith in
-    ltb-true _ _ (subst (λ (k : ℕ). ltb (remainder_bits_of k) 8 ≡ true) e (below-at 40 (λ i. ltb (remainder_bits_of (i + 1)) 8) remainder-small (v - 1) (omega arith)))
+    ltb-true _ _ (subst (λ (k : ℕ). ltb (remainder_bits_of k) 8 ≡ true) (omega arith) (below-at 40 (λ i. ltb (remainder_bits_of (i + 1)) 8) remainder-small (v - 1) (omega arith)))
 
 -- if fewer than eight bits are left after all modules, all codewords have been read
 pub all-read : (v : ℕ) (f : Module → Bool) (ms : List Module) (cw : List ℕ) (width begun : ℕ) → 1 ≤ v → v ≤ 40 → IsOrder v ms → width < 8 → bits_of cw ++ field width begun ≡ map f ms → length cw ≡ total_codewords_of v
@@ -45,11 +44,10 @@ read-whole v f ms cw width begun p q o w bits =
     let many = order-length v ms p q o in
     let all = all-read v f ms cw _ _ p q o w bits in
     let t = 8 * total_codewords_of v in
-    let cut : map f ms ≡ map f (take t ms) ++ map f (drop t ms) = ap (map f) (sym (take-append-drop t ms)) ∙ map-append f _ _ in
     let a = length-bits_of cw in
     let b = length-map (take t ms) f in
     let c = length-take t ms in
-    (append-front (bits_of cw) (map f _) (field _ _) (map f _) (omega arith) (bits ∙ cut)).0
+    (append-front (bits_of cw) (map f _) (field _ _) (map f _) (omega arith) (bits ∙ (ap (map f) (sym (take-append-drop t ms)) ∙ map-append f _ _))).0
 
 -- two functions with the same values at all modules of a list
 take-same : (f h : Module → Bool) (n : ℕ) (ms : List Module) → ((m : Module) → Mem m ms → f m ≡ h m) → map f (take n ms) ≡ map h (take n ms)
@@ -93,11 +91,9 @@ read-masked v mask n g region plain cw p q is same e w =
     let ms = w.places in
     let many = order-length v ms p q w.order in
     let none : 0 ≡ t - length ms = omega arith in
-    let turned = λ (r c : ℕ). inverted (colour region r c && inverts n r c) (colour g r c) in
     let one : (r c : ℕ) → r < side_of v → c < side_of v → is_in_region v r c ≡ true → colour plain r c ≡ f (at r c) = λ r c l m k.
-    let there : colour region r c ≡ true = ap (λ (z : Grid). colour z r c) is ∙ (colour-square (side_of v) (is_in_region v) r c l m ∙ k) in
-    ap (λ (z : Grid). colour z r c) e ∙ (colour-square (side_of v) turned r c l m
-    ∙ (ap (λ (z : Bool). inverted (z && inverts n r c) (colour g r c)) there ∙ ap (λ (z : Bool). inverted z (colour g r c)) (same r c))) in
+    ap (λ (z : Grid). colour z r c) e ∙ (colour-square (side_of v) (λ (r c : ℕ). inverted (colour region r c && inverts n r c) (colour g r c)) r c l m
+    ∙ (ap (λ (z : Bool). inverted (z && inverts n r c) (colour g r c)) (ap (λ (z : Grid). colour z r c) is ∙ (colour-square (side_of v) (is_in_region v) r c l m ∙ k)) ∙ ap (λ (z : Bool). inverted z (colour g r c)) (same r c))) in
     record {
       bytes = w.bytes;
       places = ms;

@@ -26,8 +26,7 @@ split-series x l b v ns ss long cut few made = search (arith, length-parts, part
 
 -- bytes have at most one symbol of a version and a level after an optional header
 pub symbol-of-one : (v : ℕ) (l : Level) (b : Rule) (x : List ℕ) (h : Option Header) (s t : Symbol) → IsSymbolOf v l b x h s → IsSymbolOf v l b x h t → s ≡ t
-symbol-of-one v l b x h s t a c =
-    let same = symbol-at-one v l b x h _ _ _ _ a.made c.made in search arith
+symbol-of-one v l b x h s t a c = let same = symbol-at-one v l b x h _ _ _ _ a.made c.made in search arith
 
 -- parts have at most one list of symbols
 symbols-one : (v : ℕ) (l : Level) (b : Rule) (last parity k : ℕ) (ps : List (List ℕ)) (ss ts : List Symbol) → AreSymbolsFrom v l b last parity k ps ss → AreSymbolsFrom v l b last parity k ps ts → ss ≡ ts
@@ -62,10 +61,8 @@ symbols-read v l b last parity k x [] (s ∷ ss) i j cut h = absurd h
 symbols-read v l b last parity k x (p ∷ ps) [] i j cut h = absurd h
 symbols-read v l b last parity k x (p ∷ ps) (s ∷ ss) i j cut h =
     let rest = symbols-read v l b _ _ (k + 1) _ ps ss i j cut.4 h.1 in
-    let made = h.0.made in
-    let content : Content = record { header = Some (record { position = k; last = last; parity = parity }); segments = made.segments; bytes = p } in
-    record {
-      contents = content ∷ rest.contents;
+    let made = h.0.made in record {
+      contents = (record { header = Some (record { position = k; last = last; parity = parity }); segments = made.segments; bytes = p }) ∷ rest.contents;
       read = search (arith, symbol-read);
       headers = (refl, rest.headers);
       many = ap suc rest.many;
@@ -76,7 +73,6 @@ symbols-read v l b last parity k x (p ∷ ps) (s ∷ ss) i j cut h =
 lone-joined : (x : List ℕ) (l : Level) (b : Rule) (v : ℕ) (ss : List Symbol) → 1 ≤ v → v ≤ 40 → IsPlainSymbol v l b x ss → IsJoined (squares_of ss) x
 unfolding AreReadBy
 lone-joined x l b v ss i j h =
-    let s = h.symbol in
     let made = h.made.made in
     let content : Content = record { header = None; segments = made.segments; bytes = x } in
     subst (λ (ts : List Symbol). IsJoined (squares_of ts) x) (sym h.alone) (record {
@@ -90,12 +86,10 @@ lone-joined x l b v ss i j h =
 split-joined : (x : List ℕ) (l : Level) (b : Rule) (v : ℕ) (ss : List Symbol) → 1 ≤ v → v ≤ 40 → IsSplit v l b x ss → IsJoined (squares_of ss) x
 split-joined x l b v ss i j h =
     let r = symbols-read v l b _ _ 0 x _ ss i j h.split h.made in
-    let last : length h.parts - 1 ≡ length r.contents - 1 = ap (λ (n : ℕ). n - 1) (sym r.many) in
-    let headers = subst (λ (ys : List ℕ). HaveHeaders (length r.contents - 1) (parity_of ys) 0 r.contents) (sym r.bytes)
-    (subst (λ (n : ℕ). HaveHeaders n (parity_of x) 0 r.contents) last r.headers) in record {
+    let last : length h.parts - 1 ≡ length r.contents - 1 = ap (λ (n : ℕ). n - 1) (sym r.many) in record {
       contents = r.contents;
       read = r.read;
-      together = inr ((let some = parts-some v l b x _ h.split (not-empty x l b v h.too_long) in let many = r.many in omega arith), headers);
+      together = inr ((let some = parts-some v l b x _ h.split (not-empty x l b v h.too_long) in omega arith), (subst (λ (ys : List ℕ). HaveHeaders (length r.contents - 1) (parity_of ys) 0 r.contents) (sym r.bytes) (subst (λ (n : ℕ). HaveHeaders n (parity_of x) 0 r.contents) last r.headers)));
       joined = sym r.bytes;
     }
   where

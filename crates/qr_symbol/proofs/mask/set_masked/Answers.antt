@@ -4,12 +4,11 @@ use Rattle.std.proofs.Common.{◌≡◌, ℕ, Bool, ◌&&◌, ◌∙◌, ap, ref
 use Rattle.qr_symbol.proofs.mask.set_masked.Goals as goal
 
 pub loop-row-init : goal.loop-row-init
-loop-row-init c =
-    let f = λ (r k : ℕ). inverted (colour _ r k && inverts _ r k) (colour _ r k) in record {
-      last = c.side-row-end.ensures.value ∙ c.requires.plain_side;
-      side = refl;
-      so_far = c.requires.square ∙ fill-none _ f _;
-    }
+loop-row-init c = let f = λ (r k : ℕ). inverted (colour _ r k && inverts _ r k) (colour _ r k) in record {
+  last = c.side-row-end.ensures.value ∙ c.requires.plain_side;
+  side = refl;
+  so_far = c.requires.square ∙ fill-none _ f _;
+}
 
 pub loop-row-preserved : goal.loop-row-preserved
 loop-row-preserved c =

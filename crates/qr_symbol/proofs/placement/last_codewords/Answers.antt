@@ -10,11 +10,10 @@ pub overflow_add-bits : goal.overflow_add-bits
 overflow_add-bits c = omega (arith, codewords-room _ _ (omega arith) c.loop-next.invariant.small)
 
 pub loop-next-preserved : goal.loop-next-preserved
-loop-next-preserved c =
-    let i = c.loop-next.invariant in record {
-      small = codewords-fits _ _ _ i.small (omega arith);
-      held = codewords-more _ _ _ _ _ (c.from.ensures ∙ c.codeword_at.ensures) (omega arith) i.held;
-    }
+loop-next-preserved c = let i = c.loop-next.invariant in record {
+  small = codewords-fits _ _ _ i.small (omega arith);
+  held = codewords-more _ _ _ _ _ (c.from.ensures ∙ c.codeword_at.ensures) (omega arith) i.held;
+}
 
 pub returns : goal.returns
 returns c = λ k l.

@@ -4,8 +4,7 @@ use Rattle.qr_symbol.proofs.lemmas.series.PartLemmas.{lengths-at, symbols-more, 
 use Rattle.qr_symbol.proofs.series.part_symbols.Goals as goal
 
 pub split_at-requires : goal.split_at-requires
-split_at-requires c =
-    let next = lengths-at _ _ _ _ _ _ c.loop-len-test.true c.loop-len.invariant.rest in next.0.inside
+split_at-requires c = let next = lengths-at _ _ _ _ _ _ c.loop-len-test.true c.loop-len.invariant.rest in next.0.inside
 
 pub part_symbol-requires-clause-fits : goal.part_symbol-requires-clause-fits
 part_symbol-requires-clause-fits c =
