@@ -22,11 +22,10 @@ loop-strip-preserved c =
     let s = side_of v in
     let i = c.loop-strip.invariant in
     let x = c.in-Some.strip in
-    let rest = c.next.new.self in
     let xs = c.loop-strip.yielded in record {
       can_next = tt;
       is_finite = tt;
-      inside = All-tail (Inside v) x rest (subst (All (Inside v)) c.in-Some.ensures.steps i.inside);
+      inside = All-tail (Inside v) x c.next.new.self (subst (All (Inside v)) c.in-Some.ensures.steps i.inside);
       whole = subst (λ (zs : List Strip). IsOrder v (in_region_of v (places_of s zs))) (ap (λ (zs : List Strip). xs ++ zs) c.in-Some.ensures.steps ∙ sym (append_assoc xs _ _)) i.whole;
       bits = strip-read v s _ xs x _ _ i.bits c.in_ok-collect_strip.ensures;
     }
@@ -37,8 +36,7 @@ returns-clause-read c =
     let xs = c.loop-strip.yielded in
     let i = c.loop-strip.invariant in
     let b = c.into_codewords.ensures.bits in
-    let o = subst (λ (zs : List Strip). IsOrder v (in_region_of v (places_of (side_of v) zs))) (ap (λ (zs : List Strip). xs ++ zs) c.in-None.ensures.steps.0 ∙ append-nil xs) i.whole in
-    read-across v _ _ _ b.0 b.1 (omega arith) (omega arith) c.requires.side o c.into_codewords.ensures.bytes b.2 (b.3 ∙ i.bits)
+    read-across v _ _ _ b.0 b.1 (omega arith) (omega arith) c.requires.side (subst (λ (zs : List Strip). IsOrder v (in_region_of v (places_of (side_of v) zs))) (ap (λ (zs : List Strip). xs ++ zs) c.in-None.ensures.steps.0 ∙ append-nil xs) i.whole) c.into_codewords.ensures.bytes b.2 (b.3 ∙ i.bits)
 
 pub returns-clause-many : goal.returns-clause-many
 returns-clause-many c =
@@ -46,5 +44,4 @@ returns-clause-many c =
     let xs = c.loop-strip.yielded in
     let i = c.loop-strip.invariant in
     let b = c.into_codewords.ensures.bits in
-    let o = subst (λ (zs : List Strip). IsOrder v (in_region_of v (places_of (side_of v) zs))) (ap (λ (zs : List Strip). xs ++ zs) c.in-None.ensures.steps.0 ∙ append-nil xs) i.whole in
-    all-read v _ _ _ b.0 b.1 (omega arith) (omega arith) o b.2 (b.3 ∙ i.bits)
+    all-read v _ _ _ b.0 b.1 (omega arith) (omega arith) (subst (λ (zs : List Strip). IsOrder v (in_region_of v (places_of (side_of v) zs))) (ap (λ (zs : List Strip). xs ++ zs) c.in-None.ensures.steps.0 ∙ append-nil xs) i.whole) b.2 (b.3 ∙ i.bits)

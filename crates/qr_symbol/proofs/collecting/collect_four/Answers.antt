@@ -25,7 +25,4 @@ returns-then-four-eq15 c =
     let is-top = c.top_of-top.ensures.top in
     let both : (j : ℕ) → j < 4 → (has r.right (top + j) && has r.left (top + j)) ≡ true = λ j l.
     sym (c.requires.both (top + j)) ∙ (sym (c.four.ensures.bits j l) ∙ four-set c.four.result j c.if-four-eq15.true l) in
-    let bits = four-read s c.from.result x r y k top a.result b.result up (omega (arith, a.ensures, c.four-then-four-eq15.ensures.small)) (omega (arith, b.ensures, c.four-then-four-eq15-2.ensures.small)) direction c.requires.rows_in is-top
-    (λ j l. &&-left (has r.right (top + j)) (has r.left (top + j)) (both j l)) (λ j l. &&-right (has r.right (top + j)) (has r.left (top + j)) (both j l))
-    (λ j l. ap (λ z. has_bit z j) a.ensures ∙ c.four-then-four-eq15.ensures.bits j l) (λ j l. ap (λ z. has_bit z j) b.ensures ∙ c.four-then-four-eq15-2.ensures.bits j l) in
-    subst (λ z. OnOk c.push_byte.result (c.push_byte.new.self ≡ c.args.bits.now ++ z)) bits c.push_byte.ensures
+    subst (λ z. OnOk c.push_byte.result (c.push_byte.new.self ≡ c.args.bits.now ++ z)) (four-read s c.from.result x r y k top a.result b.result up (omega (arith, a.ensures, c.four-then-four-eq15.ensures.small)) (omega (arith, b.ensures, c.four-then-four-eq15-2.ensures.small)) direction c.requires.rows_in is-top (λ j l. &&-left (has r.right (top + j)) (has r.left (top + j)) (both j l)) (λ j l. &&-right (has r.right (top + j)) (has r.left (top + j)) (both j l)) (λ j l. ap (λ z. has_bit z j) a.ensures ∙ c.four-then-four-eq15.ensures.bits j l) (λ j l. ap (λ z. has_bit z j) b.ensures ∙ c.four-then-four-eq15-2.ensures.bits j l)) c.push_byte.ensures

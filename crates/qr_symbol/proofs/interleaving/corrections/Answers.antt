@@ -13,11 +13,9 @@ loop-block-preserved c =
     let rest : c.start-start.result + c.len.result - c.start-start.result ≡ c.len.result = omega arith in
     let definition =
     subst (λ (z : ℕ). IsCorrection (take (c.start-start.result + c.len.result - c.start-start.result) (drop c.start-start.result c.args.message.now)) z c.correction-check.result.items)
-    c.new-divisor.ensures c.correction-check.ensures.definition in
-    let es = subst (λ (z : ℕ). IsCorrection (take z (drop c.start-start.result c.args.message.now)) c.from-ec_len.result c.correction-check.result.items) rest definition in
-    record {
+    c.new-divisor.ensures c.correction-check.ensures.definition in record {
       so_far = push-checks _ _ _ _ _ _ _ _ _ _ c.of_data-sizes.ensures (omega arith) c.start-start.ensures c.len.ensures.value c.from-ec_len.ensures
-          (subst (λ (zs : List ℕ). IsCorrection (take c.len.result (drop c.start-start.result c.args.message.now)) c.from-ec_len.result zs) (sym c.as_slice.ensures.value) es) c.loop-block.invariant.so_far c.in_ok-extend_from_slice.ensures.items;
+          (subst (λ (zs : List ℕ). IsCorrection (take c.len.result (drop c.start-start.result c.args.message.now)) c.from-ec_len.result zs) (sym c.as_slice.ensures.value) (subst (λ (z : ℕ). IsCorrection (take z (drop c.start-start.result c.args.message.now)) c.from-ec_len.result c.correction-check.result.items) rest definition)) c.loop-block.invariant.so_far c.in_ok-extend_from_slice.ensures.items;
       sizes = c.loop-block.invariant.sizes;
       ec_len = c.loop-block.invariant.ec_len;
     }

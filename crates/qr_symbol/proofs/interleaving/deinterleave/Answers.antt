@@ -11,8 +11,7 @@ deinterleave_blocks-requires-clause-whole c =
 
 pub returns-clause-many : goal.returns-clause-many
 returns-clause-many c =
-    let whole = ap (λ (b : Blocks). codeword_count (data_sizes b)) c.blocks-2.ensures ∙ data-sizes-whole _ _ (omega arith) (omega arith) in
-    ok-also (λ d. length d.items ≡ codeword_count _) (λ d. length d.items ≡ data_codewords_of c.args.version c.args.level) _ c.deinterleave_blocks.ensures.len (λ d e. e ∙ whole)
+    ok-also (λ d. length d.items ≡ codeword_count _) (λ d. length d.items ≡ data_codewords_of c.args.version c.args.level) _ c.deinterleave_blocks.ensures.len (λ d e. e ∙ (ap (λ (b : Blocks). codeword_count (data_sizes b)) c.blocks-2.ensures ∙ data-sizes-whole _ _ (omega arith) (omega arith)))
 
 pub returns-clause-read : goal.returns-clause-read
 returns-clause-read c =
@@ -20,7 +19,6 @@ returns-clause-read c =
 
 pub returns-clause-check : goal.returns-clause-check
 returns-clause-check c =
-    let whole = ap (λ (b : Blocks). codeword_count (data_sizes b)) c.blocks-2.ensures ∙ data-sizes-whole _ _ (omega arith) (omega arith) in
     check-exactly (λ d. (length d ≡ data_codewords_of c.args.version c.args.level) × IsInterleaved _ _ d _) _
-    (λ e d h. c.deinterleave_blocks.ensures.check e d (h.0 ∙ sym whole) (subst (λ (b : Blocks). IsFinalMessage b d c.args.codewords.now) (sym c.blocks-2.ensures) h.1))
+    (λ e d h. c.deinterleave_blocks.ensures.check e d (h.0 ∙ sym (ap (λ (b : Blocks). codeword_count (data_sizes b)) c.blocks-2.ensures ∙ data-sizes-whole _ _ (omega arith) (omega arith))) (subst (λ (b : Blocks). IsFinalMessage b d c.args.codewords.now) (sym c.blocks-2.ensures) h.1))
     (ok-both _ _ _ (returns-clause-many c) (returns-clause-read c)) c.deinterleave_blocks.ensures.fault

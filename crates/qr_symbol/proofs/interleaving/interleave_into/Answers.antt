@@ -6,16 +6,12 @@ use Rattle.qr_symbol.proofs.interleaving.interleave_into.Goals as goal
 
 pub bounds-codewords-at : goal.bounds-codewords-at
 bounds-codewords-at c =
-    let b = c.loop-block.invariant.blocks in
-    let v = c.len-len.ensures.value in
     let t : IsPosition c.args.sizes (position c.loop-place.place c.loop-block.block) = (omega arith, omega arith) in
     omega (arith, position-in _ _ _ t, c.loop-block.invariant.at)
 
 pub overflow_add-at : goal.overflow_add-at
 overflow_add-at c =
-    let b = c.loop-block.invariant.blocks in
-    let m = start-most c.args.sizes c.loop-block.block (block_count c.args.sizes) (omega arith) in
-    omega (arith, m, c.loop-block.invariant.at, c.len-len.ensures.most)
+    omega (arith, (start-most c.args.sizes c.loop-block.block (block_count c.args.sizes) (omega arith)), c.loop-block.invariant.at, c.len-len.ensures.most)
 
 pub loop-block-init : goal.loop-block-init
 loop-block-init c = record {
@@ -26,15 +22,13 @@ loop-block-init c = record {
 
 pub loop-block-preserved : goal.loop-block-preserved
 loop-block-preserved c =
-    let b = c.loop-block.invariant.blocks in
-    let v = c.len-len.ensures.value in
     let sizes = c.args.sizes in
     let bytes = c.args.codewords.now in
     let p = c.loop-place.place in
     let i = c.loop-block.block in
     let place = c.loop-block.invariant.at in record {
-      blocks = b;
-      at = omega (arith, start-next sizes i, place, v);
+      blocks = c.loop-block.invariant.blocks;
+      at = omega (arith, start-next sizes i, place, c.len-len.ensures.value);
       so_far = elim c.if-place-len.branch [
         | then-place-len+in_ok-push w ↦
             let t : IsPosition sizes (position p i) = (omega arith, omega arith) in
@@ -42,13 +36,13 @@ loop-block-preserved c =
             (ap (λ (s : Vec ℕ Global). s.items) w.interleaved-is ∙ (w.in_ok-push.ensures.items ∙ ap (λ (k : ℕ). c.loop-block.interleaved.items ++ get_or bytes k 0 ∷ []) place))
         | else-place-len w ↦
             subst (λ (s : Vec ℕ Global). InterleavedBefore sizes bytes p (i + 1) c.args.interleaved.now.items s.items) (sym w.interleaved-is)
-            (interleaved-pass _ _ p i _ _ c.loop-block.invariant.so_far (λ t. let l = t.1 in absurd (omega arith)))
+            (interleaved-pass _ _ p i _ _ c.loop-block.invariant.so_far (λ t. absurd (omega arith)))
       ];
     }
 
 pub loop-place-preserved : goal.loop-place-preserved
-loop-place-preserved c = let b = c.loop-block.invariant.blocks in record {
-  blocks = b;
+loop-place-preserved c = record {
+  blocks = c.loop-block.invariant.blocks;
   so_far = interleaved-row _ _ _ _ _ _ (omega arith) c.loop-block.invariant.so_far;
 }
 

@@ -8,8 +8,7 @@ returns-then-not-has_header c =
     let k = c.loop-position.position in (
       λ e. absurd (cc),
       λ w.
-          let h = headers-next last _ k _ _ c.loop-position-test.true c.index-contents-position.is (c.loop-position.invariant.there w.1) in
-          let t = c.has_header.ensures.1 h.0 in absurd (cc),
+          let t = c.has_header.ensures.1 (headers-next last _ k _ _ c.loop-position-test.true c.index-contents-position.is (c.loop-position.invariant.there w.1)).0 in absurd (cc),
     )
 
 pub loop-position-preserved : goal.loop-position-preserved
@@ -22,9 +21,7 @@ loop-position-preserved c =
     }
 
 pub returns : goal.returns
-returns c =
-    let last = length _ - 1 in
-    let k = c.loop-position.position in (
-      λ _. (search rules, c.loop-position.invariant.here (headers-end last _ k _ c.loop-position-test.false)),
-      λ _. refl,
-    )
+returns c = (
+  λ _. (search rules, c.loop-position.invariant.here (headers-end (length _ - 1) _ c.loop-position.position _ c.loop-position-test.false)),
+  λ _. refl,
+)

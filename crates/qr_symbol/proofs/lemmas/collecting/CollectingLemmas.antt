@@ -33,9 +33,10 @@ kept-bit true f m ms = refl
 kept-bit false f m ms = refl
 
 -- the bits of the rows of a strip are those of its places in the encoding region
-pub strip-bits : (v s : ℕ) (g : Grid) (x : Strip) (r y : Columns) (k n : ℕ) → k + n ≤ s
-    → ((row : ℕ) → row < s → has r.right row ≡ is_in_region v row x.right) → ((row : ℕ) → row < s → has r.left row ≡ is_in_region v row (x.right - 1))
-    → ((row : ℕ) → has y.right row ≡ colour g x.right row) → ((row : ℕ) → has y.left row ≡ colour g (x.right - 1) row)
+pub strip-bits : (v s : ℕ) (g : Grid) (x : Strip) (r y : Columns) (k n : ℕ) → k + n ≤ s → ((row : ℕ)
+    → row < s → has r.right row ≡ is_in_region v row x.right) → ((row : ℕ) → row < s
+    → has r.left row ≡ is_in_region v row (x.right - 1)) → ((row : ℕ)
+    → has y.right row ≡ colour g x.right row) → ((row : ℕ) → has y.left row ≡ colour g (x.right - 1) row)
     → bits_in_rows s x r y k n ≡ map (colour_across g) (in_region_of v (both_of (rows_from s x k n)))
 strip-bits v s g x r y k zero l a b c d = refl
 strip-bits v s g x r y k (suc n) l a b c d =

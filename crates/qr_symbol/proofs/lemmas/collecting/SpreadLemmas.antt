@@ -51,8 +51,9 @@ eight : (a0 b0 a1 b1 a2 b2 a3 b3 : Bool) → List Bool
 eight a0 b0 a1 b1 a2 b2 a3 b3 = a0 ∷ b0 ∷ a1 ∷ b1 ∷ a2 ∷ b2 ∷ a3 ∷ b3 ∷ []
 
 -- the byte's bits are those of the modules, in the order in which they are filled
-joined-bits : (u a b : ℕ) (up : Bool) → u < 2 → a < 16 → b < 16 → eqb u 1 ≡ up
-    → field 8 (joined u a b) ≡ eight (has_bit a (rank_of up 0)) (has_bit b (rank_of up 0)) (has_bit a (rank_of up 1)) (has_bit b (rank_of up 1)) (has_bit a (rank_of up 2)) (has_bit b (rank_of up 2)) (has_bit a (rank_of up 3)) (has_bit b (rank_of up 3))
+joined-bits : (u a b : ℕ) (up : Bool) → u < 2 → a < 16 → b < 16 → eqb u 1 ≡ up → field 8 (joined u a b)
+    ≡ eight (has_bit a (rank_of up 0)) (has_bit b (rank_of up 0)) (has_bit a (rank_of up 1)) (has_bit b (rank_of up
+    1)) (has_bit a (rank_of up 2)) (has_bit b (rank_of up 2)) (has_bit a (rank_of up 3)) (has_bit b (rank_of up 3))
 unfolding field eight
 joined-bits u a b up k l m e = rw (← e) (cc (right-at u a b 0 k l m (omega arith), left-at u a b 0 k l m (omega arith), right-at u a b 1 k l m (omega arith), left-at u a b 1 k l m (omega arith), right-at u a b 2 k l m (omega arith), left-at u a b 2 k l m (omega arith), right-at u a b 3 k l m (omega arith), left-at u a b 3 k l m (omega arith)))
 
@@ -76,10 +77,11 @@ row-of-rank : (up : Bool) (s k i : ℕ) → k + 4 ≤ s → i < 4 → cond up (s
 row-of-rank up s k i l m = grind (arith, nat_tests)
 
 -- four rows whose modules are all in the encoding region are read at once
-pub four-read : (s u : ℕ) (x : Strip) (r y : Columns) (k top a b : ℕ) → u < 2 → a < 16 → b < 16 → eqb u 1 ≡ x.upward → k + 4 ≤ s → top ≡ cond x.upward (s - 4 - k) k
-    → ((j : ℕ) → j < 4 → has r.right (top + j) ≡ true) → ((j : ℕ) → j < 4 → has r.left (top + j) ≡ true)
-    → ((j : ℕ) → j < 4 → has_bit a j ≡ has y.right (top + j)) → ((j : ℕ) → j < 4 → has_bit b j ≡ has y.left (top + j))
-    → field 8 (joined u a b) ≡ bits_in_rows s x r y k 4
+pub four-read : (s u : ℕ) (x : Strip) (r y : Columns) (k top a b : ℕ) → u < 2 → a < 16 → b < 16
+    → eqb u 1 ≡ x.upward → k + 4 ≤ s → top ≡ cond x.upward (s - 4 - k) k → ((j : ℕ) → j < 4
+    → has r.right (top + j) ≡ true) → ((j : ℕ) → j < 4 → has r.left (top + j) ≡ true) → ((j : ℕ)
+    → j < 4 → has_bit a j ≡ has y.right (top + j)) → ((j : ℕ) → j < 4
+    → has_bit b j ≡ has y.left (top + j)) → field 8 (joined u a b) ≡ bits_in_rows s x r y k 4
 unfolding eight
 four-read s u x r y k top a b ul al bl e room is-top t w p q =
     let up = x.upward in

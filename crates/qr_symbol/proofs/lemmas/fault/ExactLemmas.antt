@@ -28,9 +28,10 @@ exactly {X = X} {E = E} r e memory P other f none told = search (arith, err-same
     back _ _ (inr h) m p = absurd (m (ap (λ f. Err f) h))
 
 -- `TooLong` is returned exactly if the input fits no version, unless memory was refused
-pub too-long-exactly : (x : List ℕ) (l : Level) (smallest : ℕ) (b : Rule) (r : Result Symbol EncodeFault) → smallest ≤ 40
-    → (r ≡ Err fault.TooLong → HasNoVersion smallest l b x) → IfOk r (λ s. IsSymbol smallest l b x s.version s.mask s.matrix)
-    → (r ≡ Err fault.Empty → x ≡ []) → IfErr r (λ e. (e ≡ fault.Empty) ⊎ (e ≡ fault.TooLong) ⊎ (e ≡ fault.Memory))
+pub too-long-exactly : (x : List ℕ) (l : Level) (smallest : ℕ) (b : Rule) (r : Result Symbol EncodeFault)
+    → smallest ≤ 40 → (r ≡ Err fault.TooLong → HasNoVersion smallest l b x)
+    → IfOk r (λ s. IsSymbol smallest l b x s.version s.mask s.matrix) → (r ≡ Err fault.Empty → x ≡ [])
+    → IfErr r (λ e. (e ≡ fault.Empty) ⊎ (e ≡ fault.TooLong) ⊎ (e ≡ fault.Memory))
     → Refused r fault.TooLong fault.Memory (HasNoVersion smallest l b x)
 too-long-exactly x l smallest b (Ok s) most long made empty told = exactly _ _ _ _ (λ e. cc) long (λ none. none s.version made.version.least made.version.most made.version.fits) tt
 too-long-exactly x l smallest b (Err e) most long made empty told = exactly _ _ _ _ (λ e. cc) long tt (elim told [
@@ -39,9 +40,9 @@ too-long-exactly x l smallest b (Err e) most long made empty told = exactly _ _ 
 ])
 
 -- `TooMany` is returned exactly if the input has no series, unless memory was refused
-pub too-many-exactly : (x : List ℕ) (l : Level) (b : Rule) (v : ℕ) (r : Result (Vec Symbol Global) EncodeFault)
-    → (r ≡ Err fault.TooMany → HasNoSeries v l b x) → IfOk r (λ ss. IsSeries v l b x ss.items)
-    → (r ≡ Err fault.Empty → x ≡ []) → IfErr r (λ e. (e ≡ fault.Empty) ⊎ (e ≡ fault.TooMany) ⊎ (e ≡ fault.Memory))
+pub too-many-exactly : (x : List ℕ) (l : Level) (b : Rule) (v : ℕ) (r : Result (Vec Symbol Global) EncodeFault) →
+    (r ≡ Err fault.TooMany → HasNoSeries v l b x) → IfOk r (λ ss. IsSeries v l b x ss.items) → (r ≡ Err
+    fault.Empty → x ≡ []) → IfErr r (λ e. (e ≡ fault.Empty) ⊎ (e ≡ fault.TooMany) ⊎ (e ≡ fault.Memory))
     → Refused r fault.TooMany fault.Memory (HasNoSeries v l b x)
 too-many-exactly x l b v (Ok ss) many made empty told = exactly _ _ _ _ (λ e. cc) many (no-series ss.items made) tt
   where
@@ -54,10 +55,9 @@ too-many-exactly x l b v (Err e) many made empty told = exactly _ _ _ _ (λ e. c
 ])
 
 -- `Check` is returned exactly if the codewords are the final sequence of no data codewords, unless memory was refused
-pub check-exactly : (Holds : List ℕ → Type 0) (r : Result (Vec ℕ Global) ReadFault)
-    → (r ≡ Err unread.Check → (d : List ℕ) → Holds d → ⊥) → IfOk r (λ d. Holds d.items)
-    → IfErr r (λ e. (e ≡ unread.Memory) ⊎ (e ≡ unread.Check))
-    → Refused r unread.Check unread.Memory ((d : List ℕ) → Holds d → ⊥)
+pub check-exactly : (Holds : List ℕ → Type 0) (r : Result (Vec ℕ Global) ReadFault) → (r ≡ Err unread.Check
+    → (d : List ℕ) → Holds d → ⊥) → IfOk r (λ d. Holds d.items) → IfErr r (λ e. (e ≡ unread.Memory)
+    ⊎ (e ≡ unread.Check)) → Refused r unread.Check unread.Memory ((d : List ℕ) → Holds d → ⊥)
 check-exactly Holds (Ok d) none made told = exactly _ _ _ _ (λ e. cc) none (λ n. n d.items made) tt
 check-exactly Holds (Err e) none made told = search (arith, exactly)
 
@@ -67,6 +67,6 @@ ok-both P Q (Ok x) p q = (p, q)
 ok-both P Q (Err e) p q = tt
 
 -- a result whose only fault is lack of memory has no other fault
-pub memory-alone : {X : Type 0} (r : Result X EncodeFault) (e : EncodeFault) → (e ≡ fault.Memory → ⊥) → IfErr r (λ f. f ≡ fault.Memory)
-    → r ≡ Err e → ⊥
+pub memory-alone : {X : Type 0} (r : Result X EncodeFault) (e : EncodeFault) → (e ≡ fault.Memory → ⊥)
+    → IfErr r (λ f. f ≡ fault.Memory) → r ≡ Err e → ⊥
 memory-alone r e other told h = other (IfErr-at_err (λ f. f ≡ fault.Memory) h told)

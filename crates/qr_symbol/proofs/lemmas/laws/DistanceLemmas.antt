@@ -14,8 +14,8 @@ abbrev pub part : BlockSizes → List ℕ → ℕ → List ℕ
 part c d i = take (block_len c i) (drop (start_of c i) d)
 
 -- lists of codewords whose first blocks are equal are equal as far as these blocks reach
-fronts-same : (c : BlockSizes) (d e : List ℕ) (i : ℕ) → ((j : ℕ) → j < i → part c d j ≡ part c e j) →
-    take (start_of c i) d ≡ take (start_of c i) e
+fronts-same : (c : BlockSizes) (d e : List ℕ) (i : ℕ) → ((j : ℕ) → j < i → part c d j ≡ part c e j)
+    → take (start_of c i) d ≡ take (start_of c i) e
 fronts-same c d e zero h = cc (start-none c)
 fronts-same c d e (suc i) h =
     let f = fronts-same c d e i (λ j l. h j (omega arith)) in
@@ -27,8 +27,8 @@ fronts-same c d e (suc i) h =
     ap (λ k. take k e) n ∙ take-add (start_of c i) (block_len c i) e in search arith
 
 -- lists of codewords with equal blocks are equal
-pub parts-same : (c : BlockSizes) (d e : List ℕ) → length d ≡ codeword_count c → length e ≡ codeword_count c →
-    ((j : ℕ) → j < block_count c → part c d j ≡ part c e j) → d ≡ e
+pub parts-same : (c : BlockSizes) (d e : List ℕ) → length d ≡ codeword_count c → length e ≡ codeword_count c
+    → ((j : ℕ) → j < block_count c → part c d j ≡ part c e j) → d ≡ e
 parts-same c d e n m h =
     sym (take-length d) ∙ (ap (λ k. take k d) n ∙ (fronts-same c d e _ h ∙ (ap (λ k. take k e) (sym m) ∙ take-length e)))
 
@@ -59,8 +59,8 @@ search-below P Q (suc n) f = elim (search-below P Q n (λ i l. f i (omega arith)
 ]
 
 -- messages of a version and a level whose blocks are equal are equal
-blocks-same : (v : ℕ) (l : Level) (m n : HeldMessage v l) → 1 ≤ v → v ≤ 40 →
-    ((i : ℕ) → i < blocks_in v l → block_of (blocks_of v l) m.message i ≡ block_of (blocks_of v l) n.message i) → m.message ≡ n.message
+blocks-same : (v : ℕ) (l : Level) (m n : HeldMessage v l) → 1 ≤ v → v ≤ 40 → ((i : ℕ) → i < blocks_in v
+    l → block_of (blocks_of v l) m.message i ≡ block_of (blocks_of v l) n.message i) → m.message ≡ n.message
 blocks-same v l m n h k f =
     let whole = data-sizes-whole v l h k in parts-same _ _ _ (m.is.many ∙ sym whole) (n.is.many ∙ sym whole) f
 

@@ -67,8 +67,8 @@ at-second : (v r c i : ℕ) → 1 ≤ v → v ≤ 40 → i < 15 → (second_plac
 at-second v r c i k1 k2 l e f = cc (format-second v i k1 k2 l)
 
 -- the places beside the finder patterns, but for the timing modules and the dark module, have bits of the format information
-column-painted : (v r format : ℕ) (w : Bool) → 1 ≤ v → v ≤ 40 → (9 ≤ r → side_of v - 8 < r) → r < side_of v
-    → (r ≡ 6 → ⊥) → format_or format (role_of v r 8) w ≡ paint_of v format r 8
+column-painted : (v r format : ℕ) (w : Bool) → 1 ≤ v → v ≤ 40 → (9 ≤ r → side_of v - 8 < r)
+    → r < side_of v → (r ≡ 6 → ⊥) → format_or format (role_of v r 8) w ≡ paint_of v format r 8
 column-painted v r format w k1 k2 n l o = elim (cases_lt r 6) [
   | inl a ↦ bit-painted v r 8 _ r w (at-first v r 8 r k1 k2 (omega arith) (grind (arith, nat_tests)) (grind (arith, nat_tests)))
   | inr a ↦ elim (cases_lt r 9) [
@@ -77,8 +77,8 @@ column-painted v r format w k1 k2 n l o = elim (cases_lt r 6) [
   ]
 ]
 
-row-painted : (v c format : ℕ) (w : Bool) → 1 ≤ v → v ≤ 40 → (8 ≤ c → side_of v - 8 ≤ c) → c < side_of v → (c ≡ 6 → ⊥)
-    → format_or format (role_of v 8 c) w ≡ paint_of v format 8 c
+row-painted : (v c format : ℕ) (w : Bool) → 1 ≤ v → v ≤ 40 → (8 ≤ c → side_of v - 8 ≤ c)
+    → c < side_of v → (c ≡ 6 → ⊥) → format_or format (role_of v 8 c) w ≡ paint_of v format 8 c
 row-painted v c format w k1 k2 n l o = elim (cases_lt c 6) [
   | inl a ↦ bit-painted v 8 c _ (14 - c) w (at-first v 8 c _ k1 k2 (omega arith) (grind (arith, nat_tests)) (grind (arith, nat_tests)))
   | inr a ↦ elim (cases_lt c 8) [
@@ -90,10 +90,10 @@ row-painted v c format w k1 k2 n l o = elim (cases_lt c 6) [
 -- a place of a corner that is drawn last is beside a finder pattern, in column 8 or in row 8
 beside-column : (s r c : ℕ) → 21 ≤ s → r < s → begun s r c ≡ false → is_corner s r c ≡ true → c ≡ 8
     → (9 ≤ r → s - 8 < r) × (r ≡ 6 → ⊥)
-beside-column s r c h l t u e = search arith
+beside-column s r c h l t u e = (λ a. grind (arith, nat_tests), λ a. grind (arith, nat_tests))
 
-beside-row : (s r c : ℕ) → 21 ≤ s → r < s → c < s → begun s r c ≡ false → is_corner s r c ≡ true → (c ≡ 8 → ⊥)
-    → (r ≡ 8) × (8 ≤ c → s - 8 ≤ c) × (c ≡ 6 → ⊥)
+beside-row : (s r c : ℕ) → 21 ≤ s → r < s → c < s → begun s r c ≡ false → is_corner s r c ≡ true
+    → (c ≡ 8 → ⊥) → (r ≡ 8) × (8 ≤ c → s - 8 ≤ c) × (c ≡ 6 → ⊥)
 beside-row s r c h l m t u e = (grind (arith, nat_tests), λ a. grind (arith, nat_tests), λ a. grind (arith, nat_tests))
 
 -- drawing the format information does not change the modules outside the corners
@@ -125,9 +125,9 @@ corners-done v r c format w k1 k2 l m =
     let p = paint_of v _ r c in by_test (begun _ r c) _
     (λ t. ap (λ z. format_or format q (cond z p w)) t ∙ (stays-painted v r c _ ∙ ap (λ z. cond z p w) (sym (begun-corner _ (omega arith) l m t))))
     (λ t. by_test (is_corner (side_of v) r c) (format_or _ q _ ≡ cond _ p w) (λ u. elim (cases_eq c 8) [
-      | inl e ↦ (let d = beside-column _ r c (omega arith) l t u e in search (arith, column-painted))
-      | inr e ↦ (let d = beside-row _ r c (omega arith) l m t u e in search (arith, row-painted))
-    ]) (search (arith, outside-kept)))
+      | inl e ↦ (let d = beside-column _ r c (omega arith) l t u e in cc (column-painted v r format (cond (begun (side_of v) r c) p w) k1 k2 d.0 l d.1))
+      | inr e ↦ (let d = beside-row _ r c (omega arith) l m t u e in cc (row-painted v c format (cond (begun (side_of v) r c) p w) k1 k2 d.1 m d.2))
+    ]) (λ u. cc (outside-kept v r c format (cond (begun (side_of v) r c) p w) k1 u)))
   where
     begun-corner : (s : ℕ) → 21 ≤ s → r < s → c < s → begun s r c ≡ true → is_corner s r c ≡ true
     begun-corner s h l m t = grind (arith, nat_tests)

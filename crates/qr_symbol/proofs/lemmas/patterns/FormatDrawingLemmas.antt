@@ -33,9 +33,11 @@ bit-kept first n format (FormatBit i) other o = search arith
 bit-kept first n format q other o = refl
 
 -- one bit is drawn at its two places
-pub format-step : (v format first i : ℕ) (g0 g : Grid) (a b : Module) (d : Bool) → 1 ≤ v → v ≤ 40 → first ≤ i → i < 15 → g.side ≡ side_of v
-    → a ≡ first_place i → a.row < side_of v → a.col < side_of v → b ≡ second_place (side_of v) i → b.row < side_of v → b.col < side_of v → d ≡ has_bit format i
-    → FormatDone v format first i g0 g → FormatDone v format first (i + 1) g0 (painted (painted g a.row a.col d) b.row b.col d)
+pub format-step : (v format first i : ℕ) (g0 g : Grid) (a b : Module) (d : Bool) → 1 ≤ v → v ≤ 40
+    → first ≤ i → i < 15 → g.side ≡ side_of v → a ≡ first_place i → a.row < side_of v
+    → a.col < side_of v → b ≡ second_place (side_of v) i → b.row < side_of v → b.col < side_of v
+    → d ≡ has_bit format i → FormatDone v format first i g0 g
+    → FormatDone v format first (i + 1) g0 (painted (painted g a.row a.col d) b.row b.col d)
 format-step v format first i g0 g a b d k1 k2 k l s ea ar ac eb br bc ed h r c m n = elim (same-place b.row b.col r c) [
   | inl w ↦
       let q : role_of v b.row b.col ≡ FormatBit i = rw eb (format-second v i k1 k2 l) in

@@ -8,8 +8,8 @@ use Rattle.std.proofs.Common.{◌≡◌, ℕ, ◌+◌, ◌-◌, ◌<◌, ◌≤�
 use Rattle.std.{proofs.lemmas.{Bool.Decides.nat_tests, List.{take_more, Folds.list_any-append}}, specs.List.list_any}
 
 -- a square with these colours
-pub over-is : {s : ℕ} {g : Grid} (t f h : ℕ → ℕ → Bool) → g ≡ square s (λ r c. cond (t r c) (f r c) (h r c))
-    → IsOver s t f h g
+pub over-is : {s : ℕ} {g : Grid} (t f h : ℕ → ℕ → Bool)
+    → g ≡ square s (λ r c. cond (t r c) (f r c) (h r c)) → IsOver s t f h g
 over-is {s} {g} t f h e = record {
   square = square-is s (λ r c. cond (t r c) (f r c) (h r c)) g e;
   colours = search (arith, colour-square);
@@ -28,13 +28,14 @@ twice : (t u w x y a b : Bool) → a ≡ cond t x y → b ≡ cond u x a → w �
 twice t u w x y a b e k d = grind (arith, nat_tests)
 
 -- painting a square twice, with the same colours, is painting it once
-pub over-twice : {s : ℕ} {t u f h : ℕ → ℕ → Bool} {g g' : Grid} (w : ℕ → ℕ → Bool) → IsOver s t f h g
-    → IsOver s u f (colour g) g' → ((r c : ℕ) → r < s → c < s → w r c ≡ (t r c || u r c)) → IsOver s w f h g'
+pub over-twice : {s : ℕ} {t u f h : ℕ → ℕ → Bool} {g g' : Grid} (w : ℕ → ℕ → Bool)
+    → IsOver s t f h g → IsOver s u f (colour g) g'
+    → ((r c : ℕ) → r < s → c < s → w r c ≡ (t r c || u r c)) → IsOver s w f h g'
 over-twice {s} {t} {u} {f} {h} w e k d = search (arith, twice)
 
 -- if no place passes the test, the square is unchanged
-pub over-none : {s : ℕ} {t f : ℕ → ℕ → Bool} {g : Grid} → IsSquare s g → ((r c : ℕ) → r < s → c < s → t r c ≡ false)
-    → IsOver s t f (colour g) g
+pub over-none : {s : ℕ} {t f : ℕ → ℕ → Bool} {g : Grid} → IsSquare s g
+    → ((r c : ℕ) → r < s → c < s → t r c ≡ false) → IsOver s t f (colour g) g
 over-none e d = search arith
 
 -- two tests that agree paint the same
@@ -43,14 +44,14 @@ pub over-same : {s : ℕ} {t u f h : ℕ → ℕ → Bool} {g : Grid} → IsOver
 over-same e d = search arith
 
 -- one place is painted
-pub over-place : {s : ℕ} (f : ℕ → ℕ → Bool) (g g' : Grid) (row col : ℕ) (d : Bool) → g.side ≡ s → d ≡ f row col
-    → g' ≡ painted g row col d → IsOver s (λ r c. eqb r row && eqb c col) f (colour g) g'
+pub over-place : {s : ℕ} (f : ℕ → ℕ → Bool) (g g' : Grid) (row col : ℕ) (d : Bool) → g.side ≡ s
+    → d ≡ f row col → g' ≡ painted g row col d → IsOver s (λ r c. eqb r row && eqb c col) f (colour g) g'
 over-place f g g' row col d e k p = over-is (λ r c. eqb r row && eqb c col) f _ (search (arith, square-same, same-place))
 
 -- a rectangle is painted in one colour
 pub over-rectangle : {s : ℕ} {g' : Grid} {d : Bool} (g : Grid) (top bottom left right : ℕ) → g.side ≡ s
-    → g' ≡ with_rectangle g top bottom left right d → IsOver s (λ r c. leb top r && ltb r bottom && leb left c && ltb c
-    right) (λ _ _. d) (colour g) g'
+    → g' ≡ with_rectangle g top bottom left right d
+    → IsOver s (λ r c. leb top r && ltb r bottom && leb left c && ltb c right) (λ _ _. d) (colour g) g'
 over-rectangle {d = d} g top bottom left right e k = over-is (λ r c. leb top r && ltb r _ && leb _ c && ltb c _) (λ _ _. d) _ (rw (← e) k)
 
 -- the test of one more item in a list
@@ -62,9 +63,10 @@ any-more p xs i d l = ap (list_any p) (take_more xs i d l) ∙ (list_any-append 
     or-false _ = refl
 
 -- painting the places of one more item in a list
-pub over-item : {X : Type 0} {s : ℕ} {f h : ℕ → ℕ → Bool} {g g' : Grid} (p : X → ℕ → ℕ → Bool) (xs : List X) (i : ℕ)
-    (d : X) → i < length xs → IsOver s (λ r c. list_any (λ x. p x r c) (take i xs)) f h g
-    → IsOver s (p (get_or xs i d)) f (colour g) g' → IsOver s (λ r c. list_any (λ x. p x r c) (take (i + 1) xs)) f h g'
+pub over-item : {X : Type 0} {s : ℕ} {f h : ℕ → ℕ → Bool} {g g' : Grid} (p : X → ℕ → ℕ
+    → Bool) (xs : List X) (i : ℕ) (d : X) → i < length xs
+    → IsOver s (λ r c. list_any (λ x. p x r c) (take i xs)) f h g → IsOver s (p (get_or xs i d)) f (colour g) g'
+    → IsOver s (λ r c. list_any (λ x. p x r c) (take (i + 1) xs)) f h g'
 over-item p xs i d l e k = over-twice (λ r c. list_any (λ x. p x r c) (take (i + 1) xs)) e k (λ r c _ _. any-more (λ x. p x r c) xs i d l)
 
 -- a rectangle that stands in for an index past the end of a list
@@ -74,8 +76,9 @@ no_rectangle = record { top = 0; bottom = 0; left = 0; right = 0 }
 -- ---- the ring round a centre
 
 -- the four sides of the ring
-pub ring-sides : (a b r c : ℕ) → 1 ≤ a → 1 ≤ b → eqb (ring_of a b r c) 1
-    ≡ ((((leb (a - 1) r && ltb r a && leb (b - 1) c && ltb c (b + 2)) || (leb (a + 1) r && ltb r (a + 2) && leb (b - 1) c && ltb c (b + 2))) || (leb a r && ltb r (a + 1) && leb (b - 1) c && ltb c b)) || (leb a r && ltb r (a + 1) && leb (b + 1) c && ltb c (b + 2)))
+pub ring-sides : (a b r c : ℕ) → 1 ≤ a → 1 ≤ b → eqb (ring_of a b r c) 1 ≡ ((((leb (a - 1) r && ltb r a &&
+    leb (b - 1) c && ltb c (b + 2)) || (leb (a + 1) r && ltb r (a + 2) && leb (b - 1) c && ltb c (b + 2))) || (leb a r
+    && ltb r (a + 1) && leb (b - 1) c && ltb c b)) || (leb a r && ltb r (a + 1) && leb (b + 1) c && ltb c (b + 2)))
 ring-sides a b r c k l = grind (arith, nat_tests)
 
 -- ---- tests with other brackets

@@ -16,9 +16,10 @@ unfolding role_of pattern_colour
 ring-four v r c e = rw e refl
 
 -- row 6, or column 6: its ends are in ring 3 and ring 4 of finder patterns, and between them is a timing pattern
-six : (v r c at : ℕ) → 21 ≤ side_of v → at < side_of v → (at < 7 → finder_ring (side_of v) r c ≡ 3) → (side_of v - 7 ≤ at → finder_ring (side_of v) r c ≡ 3)
-    → (at ≡ 7 → finder_ring (side_of v) r c ≡ 4) → (at ≡ side_of v - 8 → finder_ring (side_of v) r c ≡ 4)
-    → (7 < at → at < side_of v - 8 → role_of v r c ≡ Fixed (eqb (at % 2) 0)) → role_of v r c ≡ Fixed (is_dark_in_six (side_of v) at)
+six : (v r c at : ℕ) → 21 ≤ side_of v → at < side_of v → (at < 7 → finder_ring (side_of v) r c ≡ 3) →
+    (side_of v - 7 ≤ at → finder_ring (side_of v) r c ≡ 3) → (at ≡ 7 → finder_ring (side_of v) r c ≡ 4)
+    → (at ≡ side_of v - 8 → finder_ring (side_of v) r c ≡ 4) → (7 < at → at < side_of v - 8 → role_of v r
+    c ≡ Fixed (eqb (at % 2) 0)) → role_of v r c ≡ Fixed (is_dark_in_six (side_of v) at)
 six v r c at least inside near far seven eight off = elim (cases_lt at 7) [
   | inl l ↦ search (arith, ring-three)
   | inr l ↦ elim (cases_lt at _) [

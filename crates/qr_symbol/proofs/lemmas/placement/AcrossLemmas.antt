@@ -19,9 +19,10 @@ two-rows g a b f h r c l m = colour-square _ (λ r c. cond (eqb r b) (h c) (colo
     ∙ ap (cond _ (h c)) (colour-square _ (λ r c. cond (eqb r a) (f c) (colour g r c)) r c l m)
 
 -- the colours of the two rows, and of the others
-two-colours : (g : Grid) (a b : ℕ) (f h : ℕ → Bool) (r c : ℕ) → r < g.side → c < g.side → (a ≡ b → ⊥)
-    → (r ≡ a → colour (with_row (with_row g a f) b h) r c ≡ f c) × (r ≡ b → colour (with_row (with_row g a f) b h) r c ≡
-    h c) × ((r ≡ a → ⊥) → (r ≡ b → ⊥) → colour (with_row (with_row g a f) b h) r c ≡ colour g r c)
+two-colours : (g : Grid) (a b : ℕ) (f h : ℕ → Bool) (r c : ℕ) → r < g.side → c < g.side → (a ≡ b
+    → ⊥) → (r ≡ a → colour (with_row (with_row g a f) b h) r c ≡ f c) × (r ≡ b
+    → colour (with_row (with_row g a f) b h) r c ≡ h c) × ((r ≡ a → ⊥) → (r ≡ b → ⊥)
+    → colour (with_row (with_row g a f) b h) r c ≡ colour g r c)
 two-colours g a b f h r c l m n = rw (two-rows g a b f h r c l m) (λ e. grind (arith, nat_tests), λ e. grind (arith, nat_tests), λ e o. grind (arith, nat_tests))
 
 -- a module in the region gets its bit also if it was made light before
@@ -32,8 +33,7 @@ drawn-light t p q w z e f = grind (arith, nat_tests)
 pub strip-drawn : (v : ℕ) (cw : List ℕ) (x : Strip) (first next : ℕ) (g h : Grid) (old new : Columns)
     → IsSquare (side_of v) g → 1 ≤ x.right → x.right < side_of v
     → h ≡ with_row (with_row g x.right (has new.right)) (x.right - 1) (has new.left)
-    → ((row : ℕ) → row < side_of v → (has old.right row ≡ (colour g x.right row && not (is_in_region v row x.right))) ×
-    (has old.left row ≡ (colour g (x.right - 1) row && not (is_in_region v row (x.right - 1)))))
+    → ((row : ℕ) → row < side_of v → (has old.right row ≡ (colour g x.right row && not (is_in_region v row x.right))) × (has old.left row ≡ (colour g (x.right - 1) row && not (is_in_region v row (x.right - 1)))))
     → next ≡ number_at v x first (side_of v) → AreDrawn v cw x first 0 (side_of v) old new
     → IsStripDrawn v cw x first g next h
 strip-drawn v cw x first next g h old new o least most e light number d =

@@ -36,13 +36,12 @@ kept-within {v} {x = x} d within row l =
 
 -- row m of four rows, by its index from the top
 four-row : (x : Strip) (s k top m : ℕ) → k + 4 ≤ s → top ≡ cond x.upward (s - 4 - k) k → m < 4
-    → (row_of s x (k + m) ≡ top + rank_of x.upward m) × (rank_of x.upward m < 4) × (rank_of x.upward (rank_of x.upward
-    m) ≡ m)
+    → (row_of s x (k + m) ≡ top + rank_of x.upward m) × (rank_of x.upward m < 4) × (rank_of x.upward (rank_of x.upward m) ≡ m)
 four-row x s k top m room e l = (grind (arith, nat_tests), grind (arith, nat_tests), grind (arith, nat_tests))
 
 -- a row between these, by its rank
-from-top : (x : Strip) (s k top i : ℕ) → k + 4 ≤ s → top ≡ cond x.upward (s - 4 - k) k → top ≤ i → i < top + 4
-    → (row_of s x (k + rank_of x.upward (i - top)) ≡ i) × (rank_of x.upward (i - top) < 4)
+from-top : (x : Strip) (s k top i : ℕ) → k + 4 ≤ s → top ≡ cond x.upward (s - 4 - k) k → top ≤ i
+    → i < top + 4 → (row_of s x (k + rank_of x.upward (i - top)) ≡ i) × (rank_of x.upward (i - top) < 4)
 from-top x s k top i room e l m =
     let w = four-row x s k top (i - top) room e (omega arith) in
     (omega (arith, (four-row x s k top (rank_of x.upward (i - top)) room e w.1).0, w.2), w.1)
@@ -52,10 +51,10 @@ outside : (top i : ℕ) → (top ≤ i → i < top + 4 → ⊥) → (leb top i &
 outside top i n = grind (arith, nat_tests)
 
 -- if all modules of four rows are in the region, the rows take eight bits
-pub four-region : (v : ℕ) (x : Strip) (k top : ℕ) → k + 4 ≤ side_of v → top ≡ cond x.upward (side_of v - 4 - k) k
-    → ((j : ℕ) → j < 4 → (is_in_region v (top + j) x.right ≡ true) × (is_in_region v (top + j) (x.right - 1) ≡ true))
-    → (j : ℕ) → k ≤ j → j < k + 4 → (is_in_region v (row_of (side_of v) x j) x.right ≡ true) × (is_in_region v (row_of
-    (side_of v) x j) (x.right - 1) ≡ true)
+pub four-region : (v : ℕ) (x : Strip) (k top : ℕ) → k + 4 ≤ side_of v → top ≡ cond x.upward (side_of v - 4 -
+    k) k → ((j : ℕ) → j < 4 → (is_in_region v (top + j) x.right ≡ true) × (is_in_region v (top + j) (x.right
+    - 1) ≡ true)) → (j : ℕ) → k ≤ j → j < k + 4 → (is_in_region v (row_of (side_of v) x j) x.right ≡
+    true) × (is_in_region v (row_of (side_of v) x j) (x.right - 1) ≡ true)
 four-region v x k top room e whole j a b =
     let w = four-row x _ k top (j - k) room e (omega arith) in
     let f : k + (j - k) ≡ j = omega arith in rw (← f, w.0) (whole (rank_of _ (j - k)) w.1)
@@ -64,8 +63,7 @@ four-region v x k top room e whole j a b =
 pub four-drawn : {v : ℕ} {cw : List ℕ} {x : Strip} {first : ℕ} {old new : Columns} (k top bits r l : ℕ)
     → k + 4 ≤ side_of v → top ≡ cond x.upward (side_of v - 4 - k) k
     → ((j : ℕ) → j < 4 → (is_in_region v (top + j) x.right ≡ true) × (is_in_region v (top + j) (x.right - 1) ≡ true))
-    → ((j : ℕ) → j < 4 → (has_bit r j ≡ has_bit bits (7 - 2 * rank_of x.upward j)) × (has_bit l j ≡ has_bit bits (6 - 2
-    * rank_of x.upward j)))
+    → ((j : ℕ) → j < 4 → (has_bit r j ≡ has_bit bits (7 - 2 * rank_of x.upward j)) × (has_bit l j ≡ has_bit bits (6 - 2 * rank_of x.upward j)))
     → ((i : ℕ) → has new.right i ≡ cond (leb top i && ltb i (top + 4)) (has_bit r (i - top)) (has old.right i))
     → ((i : ℕ) → has new.left i ≡ cond (leb top i && ltb i (top + 4)) (has_bit l (i - top)) (has old.left i))
     → AreNext cw (number_at v x first k) bits → AreDrawn v cw x first k 4 old new
@@ -93,11 +91,11 @@ pub four-set : (n j : ℕ) → n ≡ 15 → j < 4 → has_bit n j ≡ true
 four-set n j e l = (ap (λ z. has_bit z j) e ∙ (has_bit-ones 4 j ∙ (grind (arith, nat_tests))))
 
 -- setting four unset bits gives them their values
-pub column-set : (x : Strip) (s k top bits : ℕ) (q p z : ℕ → Bool) → k + 4 ≤ s → top ≡ cond x.upward (s - 4 - k) k
-    → ((j : ℕ) → j < 4 → q (top + j) ≡ true)
+pub column-set : (x : Strip) (s k top bits : ℕ) (q p z : ℕ → Bool) → k + 4 ≤ s
+    → top ≡ cond x.upward (s - 4 - k) k → ((j : ℕ) → j < 4 → q (top + j) ≡ true)
     → ((j : ℕ) → k ≤ j → j < s → (q (row_of s x j) && p (row_of s x j)) ≡ false)
-    → ((i : ℕ) → z i ≡ (p i || leb top i && ltb i (top + 4) && has_bit bits (i - top)))
-    → (i : ℕ) → z i ≡ cond (leb top i && ltb i (top + 4)) (has_bit bits (i - top)) (p i)
+    → ((i : ℕ) → z i ≡ (p i || leb top i && ltb i (top + 4) && has_bit bits (i - top))) → (i : ℕ)
+    → z i ≡ cond (leb top i && ltb i (top + 4)) (has_bit bits (i - top)) (p i)
 column-set x s k top bits q p z room e whole light is i = is i ∙ set-replaces _ _ i (λ l m.
     let w = from-top x s k top i room e l m in
     let f : top + (i - top) ≡ i = omega arith in

@@ -105,14 +105,16 @@ abbrev plain_colours : ℕ → List ℕ → ℕ → ℕ → Bool
 plain_colours v cw = placed_colour v cw (paint_of v symmetric_format)
 
 -- the masked colour of a module in the region
-masked-inside : (v : ℕ) (l : Level) (mask : ℕ) (cw : List ℕ) (r c : ℕ) → is_in_region v r c ≡ true → role_of v r c ≡ Region
-    → format_or (format_word_of l mask) (role_of v r c) (inverted (is_in_region v r c && inverts mask r c) (plain_colours v cw r c)) ≡ colour_of v l mask cw r c
+masked-inside : (v : ℕ) (l : Level) (mask : ℕ) (cw : List ℕ) (r c : ℕ) → is_in_region v r c ≡ true →
+    role_of v r c ≡ Region → format_or (format_word_of l mask) (role_of v r c) (inverted (is_in_region v r c &&
+    inverts mask r c) (plain_colours v cw r c)) ≡ colour_of v l mask cw r c
 unfolding colour_of format_or
 masked-inside v l mask cw r c t e = rw (e, t, inside v cw (paint_of v symmetric_format) r c t) refl
 
 -- the masked colour of a module outside the region
-masked-outside : (v : ℕ) (l : Level) (mask : ℕ) (cw : List ℕ) (r c : ℕ) → is_in_region v r c ≡ false → (role_of v r c ≡ Region → ⊥)
-    → format_or (format_word_of l mask) (role_of v r c) (inverted (is_in_region v r c && inverts mask r c) (plain_colours v cw r c)) ≡ colour_of v l mask cw r c
+masked-outside : (v : ℕ) (l : Level) (mask : ℕ) (cw : List ℕ) (r c : ℕ) → is_in_region v r c ≡ false →
+    (role_of v r c ≡ Region → ⊥) → format_or (format_word_of l mask) (role_of v r c) (inverted (is_in_region v r
+    c && inverts mask r c) (plain_colours v cw r c)) ≡ colour_of v l mask cw r c
 unfolding colour_of
 masked-outside v l mask cw r c t n = rw (t, ← outside v cw _ r c t) (role-masked v l _ cw r c _ n)
 
@@ -146,8 +148,8 @@ count-push v xs m = ap length (kept-append v xs _) ∙ (length-append (in_region
     told _ n = omega arith
 
 -- the number of a module of the region is the number of those before it
-place-number : (v : ℕ) (before later : List Module) (m : Module) → IsOrder v (in_region_of v (before ++ m ∷ later))
-    → is_in_region v m.row m.col ≡ true → number_of v m ≡ length (in_region_of v before)
+place-number : (v : ℕ) (before later : List Module) (m : Module) → IsOrder v (in_region_of v (before ++ m ∷
+    later)) → is_in_region v m.row m.col ≡ true → number_of v m ≡ length (in_region_of v before)
 place-number v before later m o t = number-at v _ _ m (rw (kept-append, kept-in v m _ t) at o)
 
 -- the rows of a strip before row j, that row, and those after it
@@ -162,16 +164,15 @@ rows-split s x k (suc j) m =
     rw (e, f) (ap (λ (z : List Module). at (row_of s x k) x.right ∷ at (row_of s x k) (x.right - 1) ∷ z) (rows-split s x (k + 1) j m))
 
 -- the places of a strip before row j, that row's, and those after it
-strip-split : (s : ℕ) (x : Strip) (j : ℕ) → j < s → both_of (rows_from s x 0 s) ≡ both_of (rows_from s x 0 j) ++ at
-    (row_of s x j) x.right ∷ at (row_of s x j) (x.right - 1) ∷ both_of (rows_from s x (j + 1) (s - 1 - j))
+strip-split : (s : ℕ) (x : Strip) (j : ℕ) → j < s → both_of (rows_from s x 0 s) ≡ both_of (rows_from s x 0 j)
+    ++ at (row_of s x j) x.right ∷ at (row_of s x j) (x.right - 1) ∷ both_of (rows_from s x (j + 1) (s - 1 - j))
 strip-split s x j l =
     let e : j + (s - 1 - j + 1) ≡ s = omega arith in
     let f : 0 + j ≡ j = omega arith in rw (e, f) at (rows-split s x 0 j (s - 1 - j))
 
 -- the number of the next bit after the first rows of a strip
 number-rows : (v : ℕ) (x : Strip) (before : List Module) (j : ℕ)
-    → number_at v x (length (in_region_of v before)) j ≡ length (in_region_of v (before ++ both_of (rows_from (side_of
-    v) x 0 j)))
+    → number_at v x (length (in_region_of v before)) j ≡ length (in_region_of v (before ++ both_of (rows_from (side_of v) x 0 j)))
 number-rows v x before zero = rw append-nil refl
 number-rows v x before (suc j) =
     let p = at (row_of (side_of v) x j) x.right in
@@ -189,9 +190,9 @@ mem-kept v p m ms q = by_test _ _
     (λ t. inr (subst (Mem m) (kept-out v p ms t) q))
 
 -- a kept module of a strip and further places is one of the strip's columns, or one of the further places
-strip-mem : (v s : ℕ) (x : Strip) (k n : ℕ) (m : Module) (later : List Module)
-    → Mem m (in_region_of v (both_of (rows_from s x k n) ++ later))
-    → (((m.col ≡ x.right) ⊎ (m.col ≡ x.right - 1)) × (is_in_region v m.row m.col ≡ true)) ⊎ Mem m (in_region_of v later)
+strip-mem : (v s : ℕ) (x : Strip) (k n : ℕ) (m : Module) (later : List Module) → Mem m (in_region_of v (both_of
+    (rows_from s x k n) ++ later)) → (((m.col ≡ x.right) ⊎ (m.col ≡ x.right - 1)) × (is_in_region v m.row m.col
+    ≡ true)) ⊎ Mem m (in_region_of v later)
 strip-mem v s x k zero m later q = inr q
 strip-mem v s x k (suc n) m later q = elim (mem-kept v _ m (at _ _ ∷ both_of (rows_from s x (k + 1) n) ++ later) q) [
   | inl w ↦ inl (inl (ap (λ (z : Module). z.col) (sym w.0)), w.1)
@@ -202,11 +203,10 @@ strip-mem v s x k (suc n) m later q = elim (mem-kept v _ m (at _ _ ∷ both_of (
 ]
 
 -- one more strip is drawn
-pub placed-strip : (v : ℕ) (cw : List ℕ) (g0 a b : Grid) (x : Strip) (before later : List Module) (number next : ℕ)
-    → IsSquare (side_of v) a
-    → IsPlaced v cw g0 before (both_of (rows_from (side_of v) x 0 (side_of v)) ++ later) number (transposed a)
-    → IsStripDrawn v cw x number a next b
-    → IsPlaced v cw g0 (before ++ both_of (rows_from (side_of v) x 0 (side_of v))) later next (transposed b)
+pub placed-strip : (v : ℕ) (cw : List ℕ) (g0 a b : Grid) (x : Strip) (before later : List Module) (number next :
+    ℕ) → IsSquare (side_of v) a → IsPlaced v cw g0 before (both_of (rows_from (side_of v) x 0 (side_of v)) ++
+    later) number (transposed a) → IsStripDrawn v cw x number a next b → IsPlaced v cw g0 (before ++ both_of
+    (rows_from (side_of v) x 0 (side_of v))) later next (transposed b)
 placed-strip v cw g0 a b x before later number next o p d =
     let s = side_of v in
     let a-side = ap (λ (z : Grid). z.side) o in

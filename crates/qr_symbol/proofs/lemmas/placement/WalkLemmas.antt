@@ -39,9 +39,10 @@ walked-in v cw mask g0 g front now later x number w e =
     let l = in-square v _ _ x (whole-next v _ now _ x w.whole e) in search arith
 
 -- one module is drawn
-pub walked-step : (v : ℕ) (cw : List ℕ) (mask : ℕ) (g0 g : Grid) (front now later : List Module) (x : Module) (number : ℕ) (bit turned : Bool)
-    → bit ≡ codeword_bit cw number → turned ≡ inverts mask x.row x.col → now ≡ x ∷ later → IsWalked v cw mask g0 front now number g
-    → IsWalked v cw mask g0 (front ++ x ∷ []) later (number + 1) (painted g x.row x.col (not (beq bit turned)))
+pub walked-step : (v : ℕ) (cw : List ℕ) (mask : ℕ) (g0 g : Grid) (front now later : List Module) (x : Module)
+    (number : ℕ) (bit turned : Bool) → bit ≡ codeword_bit cw number → turned ≡ inverts mask x.row x.col →
+    now ≡ x ∷ later → IsWalked v cw mask g0 front now number g → IsWalked v cw mask g0 (front ++ x ∷ []) later
+    (number + 1) (painted g x.row x.col (not (beq bit turned)))
 walked-step v cw mask g0 g front now later x number bit turned b t e w =
     let o = whole-next v _ now _ x w.whole e in
     let s = ap (λ (h : Grid). h.side) w.square in

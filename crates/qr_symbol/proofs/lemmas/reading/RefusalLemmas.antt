@@ -73,10 +73,10 @@ refused-one g fault.Series f a b = absurd a
 
 -- if at most one fault besides lack of memory can hold, and none of these beside a value, a call returns such a fault
 -- exactly if it holds, unless memory is refused
-pub exactly : {T : Type 0} (P : T → Type 0) (U : ReadFault → Type 0) (r : Result T ReadFault) → MatchResult r P U →
-    ((x : T) (e : ReadFault) → P x → U e → e ≡ fault.Memory) →
-    ((e f : ReadFault) → U e → U f → (e ≡ fault.Memory) ⊎ ((f ≡ fault.Memory) ⊎ (e ≡ f))) → (e : ReadFault) →
-    (e ≡ fault.Memory → ⊥) → (r ≡ Err e) ↔ ((r ≡ Err fault.Memory → ⊥) × U e)
+pub exactly : {T : Type 0} (P : T → Type 0) (U : ReadFault → Type 0) (r : Result T ReadFault) → MatchResult r P U
+    → ((x : T) (e : ReadFault) → P x → U e → e ≡ fault.Memory)
+    → ((e f : ReadFault) → U e → U f → (e ≡ fault.Memory) ⊎ ((f ≡ fault.Memory) ⊎ (e ≡ f)))
+    → (e : ReadFault) → (e ≡ fault.Memory → ⊥) → (r ≡ Err e) ↔ ((r ≡ Err fault.Memory → ⊥) × U e)
 exactly P U (Ok x) h none one e other = ((λ k. absurd (cc)), (λ w. absurd (other (none x e h w.1))))
 exactly P U (Err f) h none one e other = (
   (search arith),

@@ -59,8 +59,9 @@ order-same : (v : ℕ) (f h : Module → Bool) (n : ℕ) (ms : List Module) → 
 order-same v f h n ms o e = take-same f h n ms (λ m k. let t = order-mem v ms o m k in e m.row m.col (row-in v m t) (col-in v m t) t)
 
 -- the codewords that are read from the transposed square, strip by strip, are those of the square
-pub read-across : (v : ℕ) (g : Grid) (ms : List Module) (cw : List ℕ) (width begun : ℕ) → 1 ≤ v → v ≤ 40 → g.side ≡ side_of v → IsOrder v ms → All (λ x. x < 256) cw → width < 8 → bits_of cw ++ field width begun ≡ map (colour_across g) ms
-    → IsReadUnmasked v (transposed g) cw
+pub read-across : (v : ℕ) (g : Grid) (ms : List Module) (cw : List ℕ) (width begun : ℕ) → 1 ≤ v → v ≤ 40
+    → g.side ≡ side_of v → IsOrder v ms → All (λ x. x < 256) cw → width < 8
+    → bits_of cw ++ field width begun ≡ map (colour_across g) ms → IsReadUnmasked v (transposed g) cw
 read-across v g ms cw width begun p q s o bytes w bits = record {
   bytes = bytes;
   places = ms;
@@ -83,8 +84,9 @@ pub read-twice : (v : ℕ) (g : Grid) (cw : List ℕ) → g.side ≡ side_of v �
 read-twice v g cw s w = read-same v _ g cw (λ r c l m t. colour-transposed (transposed g) r c (omega arith) (omega arith) ∙ colour-transposed g c r (omega arith) (omega arith)) w
 
 -- the codewords of the square without its mask pattern are those of the square
-pub read-masked : (v mask n : ℕ) (g region plain : Grid) (cw : List ℕ) → 1 ≤ v → v ≤ 40 → region ≡ region_grid v → ((r c : ℕ) → inverts n r c ≡ inverts mask r c)
-    → plain ≡ square (side_of v) (λ r c. inverted (colour region r c && inverts n r c) (colour g r c)) → IsReadUnmasked v plain cw → IsRead v mask g cw
+pub read-masked : (v mask n : ℕ) (g region plain : Grid) (cw : List ℕ) → 1 ≤ v → v ≤ 40 → region ≡
+    region_grid v → ((r c : ℕ) → inverts n r c ≡ inverts mask r c) → plain ≡ square (side_of v) (λ r c.
+    inverted (colour region r c && inverts n r c) (colour g r c)) → IsReadUnmasked v plain cw → IsRead v mask g cw
 read-masked v mask n g region plain cw p q is same e w =
     let t = 8 * total_codewords_of v in
     let f = unmasked mask g in

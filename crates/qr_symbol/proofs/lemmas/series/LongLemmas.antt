@@ -13,6 +13,6 @@ long-refused x l b v i j long = record {
 }
 
 -- without kanji mode, an input that has no series needs more than 16 parts
-pub none-shorter : (x : List ℕ) (l : Level) (b : Rule) (v : ℕ) → 1 ≤ v → v ≤ 40 → may_use b Kanji ≡ false →
-    HasNoSeries v l b x → NeedsParts v l b x 17
+pub none-shorter : (x : List ℕ) (l : Level) (b : Rule) (v : ℕ) → 1 ≤ v → v ≤ 40
+    → may_use b Kanji ≡ false → HasNoSeries v l b x → NeedsParts v l b x 17
 none-shorter x l b v i j plain none qs cut = let parts = parts-there v l b x i j in search (arith, needs-parts)

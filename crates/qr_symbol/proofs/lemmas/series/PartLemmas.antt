@@ -30,8 +30,8 @@ bytes-run zero = refl
 bytes-run (suc n) = (let e : 1 + suc n ≡ suc (suc n) = omega arith in rw (bytes-run n, e) refl)
 
 -- bytes fit if there is room for one segment in byte mode
-pub bytes-fit : (v : ℕ) (b : Rule) (xs : List ℕ) (n : ℕ) → 0 < length xs → 4 + count_width v Byte + 8 * length xs ≤ n
-    → HasFit v b xs n
+pub bytes-fit : (v : ℕ) (b : Rule) (xs : List ℕ) (n : ℕ) → 0 < length xs
+    → 4 + count_width v Byte + 8 * length xs ≤ n → HasFit v b xs n
 unfolding CoversInTurn
 bytes-fit v b [] n some h = absurd (omega arith)
 bytes-fit v b (x ∷ xs) n some h =
@@ -116,8 +116,8 @@ lengths-some v l b x [] h some = absurd (omega (arith, ap length h))
 lengths-some v l b x (n ∷ ns) h some = omega arith
 
 -- if the lengths found and those of the rest are those of the whole input, so they are with the next length
-pub lengths-more : (v : ℕ) (l : Level) (b : Rule) (whole found rest : List ℕ) (n : ℕ) → 0 < n → IsLongestFit v b rest (room_of v l) n
-    → ((ns : List ℕ) → AreLengths v l b rest ns → AreLengths v l b whole (found ++ ns))
+pub lengths-more : (v : ℕ) (l : Level) (b : Rule) (whole found rest : List ℕ) (n : ℕ) → 0 < n → IsLongestFit v
+    b rest (room_of v l) n → ((ns : List ℕ) → AreLengths v l b rest ns → AreLengths v l b whole (found ++ ns))
     → (ns : List ℕ) → AreLengths v l b (drop n rest) ns → AreLengths v l b whole ((found ++ n ∷ []) ++ ns)
 unfolding AreLengths
 lengths-more v l b whole found rest n some fit all ns h = rw append_assoc (all (n ∷ ns) (some, fit, h))
@@ -189,8 +189,9 @@ needs-more v l b x n k plain some fit needs (p ∷ ps) cut =
     omega (arith, r.2)
 
 -- if the parts of the rest after the longest prefix are at least k, those of the bytes are at least k + 1
-pub prefixes-more : (v : ℕ) (l : Level) (b : Rule) (x : List ℕ) (n k : ℕ) → 0 < length x → IsLongestFit v b x (room_of v l) n
-    → ((qs : List (List ℕ)) → AreParts v l b (drop n x) qs → k ≤ length qs) → (ps : List (List ℕ)) → AreParts v l b x ps → k + 1 ≤ length ps
+pub prefixes-more : (v : ℕ) (l : Level) (b : Rule) (x : List ℕ) (n k : ℕ) → 0 < length x
+    → IsLongestFit v b x (room_of v l) n → ((qs : List (List ℕ)) → AreParts v l b (drop n x) qs
+    → k ≤ length qs) → (ps : List (List ℕ)) → AreParts v l b x ps → k + 1 ≤ length ps
 unfolding AreParts
 prefixes-more v l b x n k some fit many [] h = absurd (omega (arith, ap length h))
 prefixes-more v l b x n k some fit many (p ∷ ps) h =
@@ -220,8 +221,9 @@ parts-fit v l b x (p ∷ ps) h =
 -- ---- the symbols of parts, one after another
 
 -- the length with index i is that of the longest prefix of the rest that it cuts
-pub lengths-at : (v : ℕ) (l : Level) (b : Rule) (rest ns : List ℕ) (i : ℕ) → i < length ns → AreLengths v l b rest (drop i ns)
-    → IsLongestFit v b rest (room_of v l) (get_or ns i 0) × AreLengths v l b (drop (get_or ns i 0) rest) (drop (i + 1) ns)
+pub lengths-at : (v : ℕ) (l : Level) (b : Rule) (rest ns : List ℕ) (i : ℕ) → i < length ns → AreLengths v l b
+    rest (drop i ns) → IsLongestFit v b rest (room_of v l) (get_or ns i 0) × AreLengths v l b (drop (get_or ns i 0)
+    rest) (drop (i + 1) ns)
 unfolding AreLengths
 lengths-at v l b rest ns i some h =
     let here : AreLengths v l b rest (get_or ns i 0 ∷ drop (suc i) ns) = rw (drop-cons ns i 0) at h in
@@ -229,10 +231,12 @@ lengths-at v l b rest ns i some h =
     (here.1, subst (λ (k : ℕ). AreLengths v l b (drop (get_or ns i 0) rest) (drop k ns)) next here.2)
 
 -- if the symbols made and those of the rest are those of all parts, so they are with the next symbol
-pub symbols-more : (v : ℕ) (l : Level) (b : Rule) (last parity k : ℕ) (rest ns : List ℕ) (whole : List (List ℕ)) (found : List Symbol) (s : Symbol) → k < length ns
-    → IsSymbolOf v l b (take (get_or ns k 0) rest) (Some (record { position = k; last = last; parity = parity })) s
-    → ((ss : List Symbol) → AreSymbolsFrom v l b last parity k (parts_of rest (drop k ns)) ss → AreSymbolsFrom v l b last parity 0 whole (found ++ ss))
-    → (ss : List Symbol) → AreSymbolsFrom v l b last parity (k + 1) (parts_of (drop (get_or ns k 0) rest) (drop (k + 1) ns)) ss → AreSymbolsFrom v l b last parity 0 whole ((found ++ s ∷ []) ++ ss)
+pub symbols-more : (v : ℕ) (l : Level) (b : Rule) (last parity k : ℕ) (rest ns : List ℕ) (whole : List (List ℕ))
+    (found : List Symbol) (s : Symbol) → k < length ns → IsSymbolOf v l b (take (get_or ns k 0) rest) (Some (record
+    { position = k; last = last; parity = parity })) s → ((ss : List Symbol) → AreSymbolsFrom v l b last parity k
+    (parts_of rest (drop k ns)) ss → AreSymbolsFrom v l b last parity 0 whole (found ++ ss)) → (ss : List Symbol)
+    → AreSymbolsFrom v l b last parity (k + 1) (parts_of (drop (get_or ns k 0) rest) (drop (k + 1) ns)) ss →
+    AreSymbolsFrom v l b last parity 0 whole ((found ++ s ∷ []) ++ ss)
 unfolding AreSymbolsFrom parts_of
 symbols-more v l b last parity k rest ns whole found s some is all ss h =
     let next : k + 1 ≡ suc k = omega arith in

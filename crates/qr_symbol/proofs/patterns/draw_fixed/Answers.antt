@@ -33,12 +33,9 @@ paint_version-requires c = (c.paint_timing.ensures c.args.format).square
 pub returns : goal.returns
 returns c =
     let v = c.args.v in
-    let s = side_of v in
     let w = version_word_of v in
-    let p = paint_of v _ in
-    let g0 = c.args.matrix.now in
     let last = c.paint_version.ensures c.args.format in
-    last.square ∙ square-same s (colour c.paint_version.new.matrix) (λ r k. cond (is_in_region v r k) (colour g0 r k) (p r k)) (λ r k l m.
+    last.square ∙ square-same (side_of v) (colour c.paint_version.new.matrix) (λ r k. cond (is_in_region v r k) (colour c.args.matrix.now r k) ((paint_of v _) r k)) (λ r k l m.
     rw (last.colours r k l m, (c.paint_timing.ensures c.args.format).colours r k l m, c.paint_corners.ensures.colours r k l m, c.clear_rings.ensures.colours r k l m, c.fill_alignment.ensures.colours r k l m)
     (fixed-tests _ _ _ _ _ _ _ _ (region-parts v r k l m) (light-inside v r k) (λ a b d e.
     ap (fixed_colour _ w) (off-role v r k (omega arith) l m a b d) ∙ fixed-cond _ w _ _ e)))

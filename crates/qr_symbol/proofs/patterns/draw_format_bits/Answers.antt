@@ -19,15 +19,12 @@ loop-bit-preserved c =
     let d = c.is_bit_set-dark.result in
     let s : g.side ≡ side_of c.args.v = ap (λ (h : Grid). h.side) i.square in
     let e = c.set-in-loop-bit.ensures ∙ ap (λ (h : Grid). painted h b.result.row b.result.col d) c.set.ensures in
-    let now = format-step _ _ _ _ _ g _ _ d (omega arith) (omega arith) (omega arith) (omega arith) s
-    a.ensures.place (omega arith) (omega arith) b.ensures.place (omega arith) (omega arith) c.is_bit_set-dark.ensures i.done in
     record {
       square = rw e (painted-square _ _ _ _ d s);
-      done = rw e now;
+      done = rw e (format-step _ _ _ _ _ g _ _ d (omega arith) (omega arith) (omega arith) (omega arith) s a.ensures.place (omega arith) (omega arith) b.ensures.place (omega arith) (omega arith) c.is_bit_set-dark.ensures i.done);
     }
 
 pub returns : goal.returns
 returns c =
     let i = c.loop-bit.invariant in
-    let n : c.loop-bit.bit ≡ c.args.end = omega arith in
-    format-end _ _ _ _ _ _ i.square (subst (λ (z : ℕ). FormatDone c.args.v c.args.format c.args.first z c.args.matrix.now c.loop-bit.matrix) n i.done)
+    format-end _ _ _ _ _ _ i.square (subst (λ (z : ℕ). FormatDone c.args.v c.args.format c.args.first z c.args.matrix.now c.loop-bit.matrix) (omega arith) i.done)

@@ -37,16 +37,13 @@ set-requires-3 c =
 all-begun : (c : After-set-3) → IsOver (side_of c.args.v) (begun c.side-side.result) (paint_of c.args.v c.args.format)
     (colour c.args.matrix.now) c.set-3.new.self
 all-begun c =
-    let z = c.side-side.result in
     let v = c.args.v in
     let f = c.args.format in
     let p = paint_of v f in
-    let p2 = over-twice _ (c.paint_finder.ensures f) (c.paint_finder-2.ensures f) (λ _ _ _ _. refl) in
-    let p3 = over-twice _ p2 (c.paint_finder-3.ensures f) (λ _ _ _ _. refl) in
+    let p3 = over-twice _ (over-twice _ (c.paint_finder.ensures f) (c.paint_finder-2.ensures f) (λ _ _ _ _. refl)) (c.paint_finder-3.ensures f) (λ _ _ _ _. refl) in
     let p4 = over-twice _ p3 (over-place p _ _ 8 6 _ (over-side p3) (timing-left v f (omega arith)) c.set.ensures) (λ _ _ _ _. refl) in
     let p5 = over-twice _ p4 (over-place p _ _ 6 8 _ (over-side p4) (timing-top v f (omega arith)) c.set-2.ensures) (λ _ _ _ _. refl) in
-    let dark = dark-painted v f (omega arith) (omega arith) ∙ ap (λ (n : ℕ). p (n - 8) 8) (sym c.side-side.ensures.value) in
-    over-twice _ p5 (over-place p _ _ _ 8 _ (over-side p5) dark c.set-3.ensures) (λ _ _ _ _. refl)
+    over-twice _ p5 (over-place p _ _ _ 8 _ (over-side p5) (dark-painted v f (omega arith) (omega arith) ∙ ap (λ (n : ℕ). p (n - 8) 8) (sym c.side-side.ensures.value)) c.set-3.ensures) (λ _ _ _ _. refl)
 
 pub draw_format-requires : goal.draw_format-requires
 draw_format-requires c = (all-begun (goal.at.draw_format-requires c).After-set-3).square

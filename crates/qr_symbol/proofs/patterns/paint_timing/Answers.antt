@@ -12,8 +12,7 @@ loop-at-preserved c =
     let i = c.loop-at.invariant in
     let d = c.is_dark_in_six-dark.result in
     let dark = c.is_dark_in_six-dark.ensures ∙ ap (λ z. is_dark_in_six z at) i.side in
-    let t1 = λ (r k : ℕ). ((eqb r 6 && ltb k at) || (eqb k 6 && ltb r at)) || (eqb r 6 && eqb k at) in
-    let in_row = λ (f : ℕ). over-twice t1 (i.painted f)
+    let in_row = λ (f : ℕ). over-twice (λ (r k : ℕ). ((eqb r 6 && ltb k at) || (eqb k 6 && ltb r at)) || (eqb r 6 && eqb k at)) (i.painted f)
     (over-place _ _ _ 6 at d (over-side (i.painted f)) (dark ∙ paint-row_six v at f (omega arith) (omega (arith, i.side))) c.set.ensures) (λ _ _ _ _. refl) in
     let both = λ (f : ℕ). over-twice (λ r k. (eqb r 6 && ltb k _) || (eqb k 6 && ltb r _)) (in_row f)
     (over-place _ _ _ at 6 d (over-side (in_row f)) (dark ∙ paint-column_six v at f (omega arith) (omega (arith, i.side))) c.set-in-loop-at.ensures)

@@ -18,7 +18,6 @@ loop-bit-preserved c =
     let i = c.loop-bit.invariant in
     let g = c.loop-bit.matrix in
     let g1 = c.set.new.self in
-    let g2 = c.set-in-loop-bit.new.self in
     let d = c.is_bit_set-dark.result in
     let bit : d ≡ has_bit (version_word_of v) n = c.is_bit_set-dark.ensures ∙ ap (λ (z : ℕ). has_bit z n) c.in-Some.ensures.1 in
     let set1 = rw c.side-left.ensures.value at c.set.ensures in
@@ -28,7 +27,7 @@ loop-bit-preserved c =
     record {
       side = ap (λ (g : Grid). g.side) set2 ∙ (ap (λ (g : Grid). g.side) set1 ∙ i.side);
       painted = λ f. over-twice (version_drawn s _) (first f)
-          (over-place _ g1 g2 _ _ d (over-side (first f)) (bit ∙ version-there v f n (omega arith) (omega arith) (omega arith)) set2)
+          (over-place _ g1 c.set-in-loop-bit.new.self _ _ d (over-side (first f)) (bit ∙ version-there v f n (omega arith) (omega arith) (omega arith)) set2)
           (λ r k _ _. version-more s n r k (omega arith));
     }
 

@@ -24,11 +24,5 @@ returns-in_err-parse c =
     let mask = c.args.mask in
     let g = c.args.matrix.now in
     let p = err_from_is_err_and c.from_residual-in_err-parse.result c.from_residual-in_err-parse.ensures.1 in
-    let holds : IsMessage v l mask g c.in_ok-message.message.items = record {
-      codewords = c.deref.result.now;
-      read = subst (IsRead v mask g) (sym c.deref.ensures.value) c.in_ok-codewords.ensures.read;
-      many = c.in_ok-message.ensures.many;
-      interleaved = c.in_ok-message.ensures.read;
-    } in
     rw (p.1, p.2) (not-parsed g v l _ _ _ (record { least = omega arith; most = omega arith; side = c.requires.side }) c.requires.format
-    (subst (IsMessage v l mask g) (sym c.deref-2.ensures.value) holds) c.in_err-parse.ensures)
+    (subst (IsMessage v l mask g) (sym c.deref-2.ensures.value) (record { codewords = c.deref.result.now; read = subst (IsRead v mask g) (sym c.deref.ensures.value) c.in_ok-codewords.ensures.read; many = c.in_ok-message.ensures.many; interleaved = c.in_ok-message.ensures.read })) c.in_err-parse.ensures)
