@@ -4,7 +4,7 @@ use Rattle.qr_symbol.proofs.joining.are_in_series.Goals as goal
 
 pub returns-then-not-has_header : goal.returns-then-not-has_header
 returns-then-not-has_header c =
-    let last = length _ - 1 in
+    let last = length c.args.contents.now - 1 in
     let k = c.loop-position.position in (
       λ e. absurd (cc),
       λ w.

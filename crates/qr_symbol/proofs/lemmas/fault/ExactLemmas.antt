@@ -19,7 +19,7 @@ err-same r e f h k = cc
 -- what makes it, if with the fact no value is returned, and no other fault than e and lack of memory
 exactly : {X E : Type 0} (r : Result X E) (e memory : E) (P : Type 0) → (e ≡ memory → ⊥) → (r ≡ Err e → P)
     → IfOk r (λ _. P → ⊥) → IfErr r (λ g. (P → g ≡ e) ⊎ (g ≡ memory)) → Refused r e memory P
-exactly {X = X} {E = E} r e memory P other f none told = search (arith, err-same)
+exactly {X = X} {E = E} r e memory P other f none told = (λ h. (λ m. other (err-same r e _ h m), f h), λ w. back r none told w.0 w.1)
   where
     back : (r : Result X E) → IfOk r (λ _. P → ⊥) → IfErr r (λ g. (P → g ≡ e) ⊎ (g ≡ memory)) → r ≢ Err memory → P
         → r ≡ Err e

@@ -117,7 +117,11 @@ first-one reads refuses never same (g ∷ gs) e f (inr w) (inl v) = inr (inl (ne
 first-one reads refuses never same (g ∷ gs) e f (inr w) (inr z) = first-one reads refuses never same gs e f w.2 z.2
 
 -- a fault for which squares are not joined is lack of memory, the first fault of a square, or `Series`
-told : (reads : Grid → Content → Type 0) (refuses : Grid → ReadFault → Type 0) (gs : List Grid) (e : ReadFault) → IsUnjoinedBy reads refuses gs e → (e ≡ fault.Memory) ⊎ (IsFirstRefused reads refuses gs e ⊎ ((e ≡ fault.Series) × IsNoSeries reads gs))
+abbrev Why : (Grid → Content → Type 0) → (Grid → ReadFault → Type 0) → List Grid → ReadFault → Type 0
+Why reads refuses gs e = (e ≡ fault.Memory) ⊎ (IsFirstRefused reads refuses gs e ⊎ ((e ≡ fault.Series) × IsNoSeries reads gs))
+
+told : (reads : Grid → Content → Type 0) (refuses : Grid → ReadFault → Type 0) (gs : List Grid) (e : ReadFault)
+    → IsUnjoinedBy reads refuses gs e → Why reads refuses gs e
 told reads refuses gs fault.Memory u = inl refl
 told reads refuses gs fault.Series u = inr (inr (refl, u))
 told reads refuses gs e u = inr (inl u)
@@ -130,7 +134,7 @@ joined-refused reads refuses same never gs x e h u = search (arith, told, read-u
 pub unjoined-one : (reads : Grid → Content → Type 0) (refuses : Grid → ReadFault → Type 0) → ((g : Grid) (c : Content) (e : ReadFault) → reads g c → refuses g e → e ≡ fault.Memory) → ((g : Grid) (e f : ReadFault) → refuses g e → refuses g f → (e ≡ fault.Memory) ⊎ ((f ≡ fault.Memory) ⊎ (e ≡ f))) → (gs : List Grid) (e f : ReadFault) → IsUnjoinedBy reads refuses gs e → IsUnjoinedBy reads refuses gs f → (e ≡ fault.Memory) ⊎ ((f ≡ fault.Memory) ⊎ (e ≡ f))
 unjoined-one reads refuses never same gs e f u v = by_told (told _ _ gs e u) (told _ _ gs f v)
   where
-    by_told : (e ≡ fault.Memory) ⊎ (IsFirstRefused reads refuses gs e ⊎ ((e ≡ fault.Series) × IsNoSeries reads gs)) → (f ≡ fault.Memory) ⊎ (IsFirstRefused reads refuses gs f ⊎ ((f ≡ fault.Series) × IsNoSeries reads gs)) → (e ≡ fault.Memory) ⊎ ((f ≡ fault.Memory) ⊎ (e ≡ f))
+    by_told : Why reads refuses gs e → Why reads refuses gs f → (e ≡ fault.Memory) ⊎ ((f ≡ fault.Memory) ⊎ (e ≡ f))
     by_told (inl a) q = inl a
     by_told _ (inl b) = inr (inl b)
     by_told (inr (inl a)) (inr (inl b)) = first-one _ _ never same gs e f a b

@@ -4,7 +4,7 @@ use Rattle.{qr_layout.specs.declared.level.Level.Level, qr_matrix.specs.Grid.Gri
 use Rattle.qr_symbol.proofs.lemmas.reading.{FormatLemmas.format-one, ReadLemmas.message-one}
 use Rattle.qr_symbol.specs.Reading.{IsFormat, IsMessage, IsReading, IsOfVersion, IsParsedAs, IsUnread}
 use Rattle.qr_symbol.specs.declared.fault.ReadFault.{ReadFault}
-use Rattle.std.proofs.Common.{◌≡◌, ℕ, List, refl, inl, inr, ◌⊎◌, arith}
+use Rattle.std.proofs.Common.{◌≡◌, ℕ, List, refl, inl, inr, sym, ◌⊎◌, arith}
 use Rattle.std.specs.Prelude.{◌↔◌, MatchResult, Result, Ok, Err}
 use Rattle.qr_symbol.specs.declared.fault.ReadFault.TheVariants as fault
 
@@ -38,38 +38,17 @@ parse-refused g x e h u = elim (refused g (Err x) h e u) [ inl m ↦ inl m | inr
 -- two faults of the same square are equal, or one of them is lack of memory
 pub refused-one : (g : Grid) (e f : ReadFault) → IsUnread g e → IsUnread g f → (e ≡ fault.Memory) ⊎ ((f ≡ fault.Memory) ⊎ (e ≡ f))
 refused-one g fault.Memory f a b = inl refl
-refused-one g fault.Side f a b = inr (by_fault f b)
-  where
-    by_fault : (f : ReadFault) → IsUnread g f → (f ≡ fault.Memory) ⊎ (fault.Side ≡ f)
-    by_fault fault.Memory b = inl refl
-    by_fault fault.Side b = inr refl
-    by_fault fault.Format b = absurd (a b.0 b.1)
-    by_fault fault.Check b = absurd (a b.0 b.1)
-    by_fault (fault.Segments x) b = (let w = b.1 in absurd (a w.version w.sized))
-    by_fault fault.Series b = absurd b
-refused-one g fault.Format f a b = inr (by_fault f b)
-  where
-    by_fault : (f : ReadFault) → IsUnread g f → (f ≡ fault.Memory) ⊎ (fault.Format ≡ f)
-    by_fault fault.Memory b = inl refl
-    by_fault fault.Side b = absurd (b a.0 a.1)
-    by_fault fault.Format b = inr refl
-    by_fault fault.Check b = absurd (a.2 b.2 b.3 b.4)
-    by_fault (fault.Segments x) b = (let w = b.1 in absurd (a.2 w.level w.mask w.format))
-    by_fault fault.Series b = absurd b
-refused-one g fault.Check f a b = inr (by_fault f b)
-  where
-    held : (x : ParseFault) → IsParsedAs g (Err x) → ⊥
-    held x h = a.5 h.message (moved g _ a.0 _ a.2 _ a.3 _ h.sized a.1 h.format a.4 h.holds).1
-
-    by_fault : (f : ReadFault) → IsUnread g f → (f ≡ fault.Memory) ⊎ (fault.Check ≡ f)
-    by_fault fault.Memory b = inl refl
-    by_fault fault.Side b = absurd (b a.0 a.1)
-    by_fault fault.Format b = absurd (b.2 a.2 a.3 a.4)
-    by_fault fault.Check b = inr refl
-    by_fault (fault.Segments x) b = absurd (held x b.1)
-    by_fault _ b = absurd b
-refused-one g (fault.Segments x) f a b = inr (parse-refused g x f a.1 b)
 refused-one g fault.Series f a b = absurd a
+refused-one g (fault.Segments x) f a b = inr (parse-refused g x f a.1 b)
+refused-one g e fault.Memory a b = inr (inl refl)
+refused-one g e fault.Series a b = absurd b
+refused-one g e (fault.Segments x) a b = elim (parse-refused g x e b.1 a) [ inl m ↦ inl m | inr q ↦ inr (inr (sym q)) ]
+refused-one g fault.Side fault.Side a b = inr (inr refl)
+refused-one g fault.Side f a b = absurd (a b.0 b.1)
+refused-one g e fault.Side a b = absurd (b a.0 a.1)
+refused-one g fault.Format fault.Check a b = absurd (a.2 b.2 b.3 b.4)
+refused-one g fault.Check fault.Format a b = absurd (b.2 a.2 a.3 a.4)
+refused-one g e f a b = inr (inr refl)
 
 -- if at most one fault besides lack of memory can hold, and none of these beside a value, a call returns such a fault
 -- exactly if it holds, unless memory is refused

@@ -113,9 +113,5 @@ not-checked g v l mask cw e s f r (inr k) none =
 pub not-parsed : (g : Grid) (v : ℕ) (l : Level) (mask : ℕ) (d : List ℕ) (e : ParseFault) → IsOfVersion g v → IsFormat g l mask
     → IsMessage v l mask g d → IsResultOf (Err e) (parse v (bits_of d)) → IsUnread g (unread_for e)
 not-parsed g v l mask d unparsed.Memory s f h k = tt
-not-parsed g v l mask d unparsed.BadMode s f h k =
-    ((λ m. cc), record { version = v; level = l; mask = mask; message = d; sized = s; format = f; holds = h; parsed = fault-read _ _ (λ m. cc) k })
-not-parsed g v l mask d unparsed.Cut s f h k =
-    ((λ m. cc), record { version = v; level = l; mask = mask; message = d; sized = s; format = f; holds = h; parsed = fault-read unparsed.Cut _ (λ m. cc) k })
-not-parsed g v l mask d unparsed.BadValue s f h k =
-    ((λ m. cc), record { version = v; level = l; mask = mask; message = d; sized = s; format = f; holds = h; parsed = fault-read _ _ (λ m. cc) k })
+not-parsed g v l mask d e s f h k =
+    ((λ m. cc), record { version = v; level = l; mask = mask; message = d; sized = s; format = f; holds = h; parsed = fault-read e _ (λ m. cc) k })
