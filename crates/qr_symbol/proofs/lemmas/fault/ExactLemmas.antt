@@ -48,7 +48,7 @@ too-many-exactly x l b v (Ok ss) many made empty told = exactly _ _ _ _ (λ e. c
   where
     no-series : (ss : List Symbol) → IsSeries v l b x ss → HasNoSeries v l b x → ⊥
     no-series ss (inl a) none = none.too_long a.fits
-    no-series ss (inr a) none = absurd (omega arith)
+    no-series ss (inr a) none = let few = a.many in absurd (omega (arith, none.too_many a.parts a.split))
 too-many-exactly x l b v (Err e) many made empty told = exactly _ _ _ _ (λ e. cc) many tt (elim told [
   | inl h ↦ inl (λ none. absurd (none.too_long (subst (FitsVersion v l b) (sym (empty (ap (λ f. Err f) h))) (empty_fits v b (capacity_of v l)))))
   | inr w ↦ elim w [ inl h ↦ inl (λ _. h) | inr h ↦ inr h ]
@@ -59,7 +59,7 @@ pub check-exactly : (Holds : List ℕ → Type 0) (r : Result (Vec ℕ Global) R
     → (d : List ℕ) → Holds d → ⊥) → IfOk r (λ d. Holds d.items) → IfErr r (λ e. (e ≡ unread.Memory)
     ⊎ (e ≡ unread.Check)) → Refused r unread.Check unread.Memory ((d : List ℕ) → Holds d → ⊥)
 check-exactly Holds (Ok d) none made told = exactly _ _ _ _ (λ e. cc) none (λ n. n d.items made) tt
-check-exactly Holds (Err e) none made told = search (arith, exactly)
+check-exactly Holds (Err e) none made told = exactly _ _ _ _ (λ e. cc) none tt (elim told [ inl h ↦ inr h | inr h ↦ inl (λ _. h) ])
 
 -- a result for which two facts hold has both of them at once
 pub ok-both : {X E : Type 0} (P Q : X → Type 0) (r : Result X E) → IfOk r P → IfOk r Q → IfOk r (λ x. P x × Q x)

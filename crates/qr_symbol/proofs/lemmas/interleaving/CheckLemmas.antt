@@ -4,7 +4,7 @@ use Rattle.qr_symbol.proofs.lemmas.interleaving.PositionLemmas.{start-next, star
 use Rattle.qr_symbol.specs.Interleaving.{block_count, block_len, start_of, codeword_at, data_sizes, correction_sizes, block_of, IsFinalMessage}
 use Rattle.qr_symbol.specs.Steps.Interleaving.{AppendsInterleaved, IsChecks}
 use Rattle.qr_symbol.specs.declared.interleaving.BlockSizes.{BlockSizes}
-use Rattle.std.proofs.Common.{◌≡◌, ℕ, suc, ◌+◌, ◌-◌, ◌<◌, ◌≤◌, List, [], ◌∷◌, ◌++◌, map, take, drop, length-append, get_or, refl, ◌∙◌, ap, inl, inr, arith}
+use Rattle.std.proofs.Common.{◌≡◌, ℕ, suc, ◌+◌, ◌<◌, ◌≤◌, List, [], ◌∷◌, ◌++◌, map, take, drop, length-append, get_or, refl, ◌∙◌, ap, inl, inr, arith}
 use Rattle.std.proofs.lemmas.{Bool.{cases_lt, Decides.nat_tests}, List.{get_or_append_left, get_or-append_right}}
 use Rattle.std.specs.List.{All}
 
@@ -30,9 +30,6 @@ checks-push b d xs ys es k l h c e =
         | inr s ↦ search (arith, get_or-append_right)
       ]);
     }
-  where
-    none : (k : ℕ) → k - k ≡ 0
-    none k = omega arith
 
 -- two functions that agree on all items of a list map it to the same list
 pub map-each : {X Y : Type 0} (P : X → Type 0) (f g : X → Y) (xs : List X) → All P xs → ((x : X) → P x → f x ≡ g x) → map f xs ≡ map g xs

@@ -1,13 +1,13 @@
 -- The final sequence of a version and a level: how long it is, and that each message has only one.
-use Rattle.std.proofs.Common.{◌≡◌, ℕ, ◌+◌, ◌-◌, ◌*◌, ◌<◌, ◌≤◌, List, [], ◌∷◌, ◌++◌, map, length, length-append, get_or, refl, sym, ◌∙◌, ap, subst, arith, take}
-use Rattle.std.proofs.{Math.Seq.take-append_seam, lemmas.List.length-map, lemmas.List.ext_get_or}
-use Rattle.std.specs.Prelude.{Result, Ok, Err, IfOk}
 use Rattle.qr_field.{proofs.Facts.correction-one, specs.Polynomial.IsCorrection}
-use Rattle.qr_layout.{proofs.Facts.blocks-sound, specs.Blocks.data_codewords_of, specs.Blocks.blocks_of}
-use Rattle.qr_layout.specs.{Version.total_codewords_of, declared.blocks.Blocks.Blocks, declared.level.Level.Level}
-use Rattle.qr_symbol.specs.Interleaving.{block_count, start_of, codeword_count, codeword_at, data_sizes, correction_sizes, block_of, check_at, IsFinalMessage, IsGathered}
+use Rattle.qr_layout.{proofs.Facts.{Mem-of-Contains, blocks-sound}, specs.Blocks.{data_codewords_of, blocks_of}}
+use Rattle.qr_layout.specs.{Version.total_codewords_of, declared.{blocks.Blocks.Blocks, level.Level.Level}}
 use Rattle.qr_symbol.proofs.lemmas.interleaving.GatherLemmas.{positions-many}
-use Rattle.qr_symbol.proofs.lemmas.interleaving.RankLemmas.{positions-one, position-of, map-at, Mem-of-Contains}
+use Rattle.qr_symbol.proofs.lemmas.interleaving.RankLemmas.{positions-one, position-of, map-at}
+use Rattle.qr_symbol.specs.Interleaving.{block_count, start_of, codeword_count, codeword_at, data_sizes, correction_sizes, block_of, check_at, IsFinalMessage, IsGathered}
+use Rattle.std.proofs.Common.{◌≡◌, ℕ, ◌+◌, ◌-◌, ◌*◌, ◌<◌, ◌≤◌, List, [], ◌∷◌, ◌++◌, map, length, length-append, get_or, refl, sym, ◌∙◌, ap, subst, arith, take}
+use Rattle.std.proofs.{Math.Seq.take-append_seam, lemmas.List.{length-map, ext_get_or}}
+use Rattle.std.specs.Prelude.{Result, Ok, Err, IfOk}
 
 -- ---- one final sequence
 

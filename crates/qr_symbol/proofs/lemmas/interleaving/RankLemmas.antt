@@ -1,11 +1,10 @@
 -- The number of positions before a position, and that blocks have only one order of positions.
-use Rattle.std.proofs.Common.{◌≡◌, ℕ, zero, suc, ◌+◌, ◌-◌, ◌*◌, ◌<◌, ◌≤◌, cond, eqb, ltb, List, [], ◌∷◌, map, sym, ◌∙◌, ap, inl, inr, ◌⊎◌, arith}
-use Rattle.std.proofs.{Math.Nat.mul-suc, Math.Nat.mul-le-mul_left, Math.Nat.mul_comm, lemmas.Bool.cases_lt}
-use Rattle.std.{proofs.lemmas.Bool.Decides.nat_tests, specs.List.All, specs.List.AllByRecursion, specs.List.Contains}
-use Rattle.qr_layout.proofs.Facts.{Mem, Mem-at, Rises-of-pairs, one_rising}
-use Rattle.qr_symbol.specs.declared.interleaving.BlockSizes.{BlockSizes}
-use Rattle.qr_symbol.specs.Interleaving.{Position, ComesBefore, block_count, start_of, codeword_count, IsPosition, IsPositionOrder}
+use Rattle.qr_layout.proofs.Facts.{All-rec, Mem, Mem-at, Mem-of-Contains, Rises-of-pairs, one_rising}
 use Rattle.qr_symbol.proofs.lemmas.interleaving.PositionLemmas.{position, start-next, start-most}
+use Rattle.qr_symbol.specs.Interleaving.{Position, ComesBefore, block_count, start_of, codeword_count, IsPosition, IsPositionOrder}
+use Rattle.qr_symbol.specs.declared.interleaving.BlockSizes.{BlockSizes}
+use Rattle.std.proofs.Common.{◌≡◌, ℕ, zero, suc, ◌+◌, ◌-◌, ◌*◌, ◌<◌, ◌≤◌, cond, eqb, ltb, List, [], ◌∷◌, map, sym, ◌∙◌, ap, inl, inr, ◌⊎◌, arith}
+use Rattle.std.proofs.{Math.Nat.{mul-suc, mul-le-mul_left, mul_comm}, lemmas.Bool.{cases_lt, Decides.nat_tests}}
 
 -- two positions of codewords at the same index of the message are equal
 pub position-one : (c : BlockSizes) (t u : Position) → IsPosition c t → IsPosition c u → start_of c t.block + t.place ≡ start_of c u.block + u.place → (t.place ≡ u.place) × (t.block ≡ u.block)
@@ -41,9 +40,6 @@ rank-in c p b i = elim (position-cases c p b i) [
       search (arith, mul_comm, nat_tests)
   | inr w ↦ search (arith, nat_tests)
 ]
-  where
-    more : (n p : ℕ) → n * (p + 1) ≡ n * p + n
-    more n p = let o : p + 1 ≡ suc p = omega arith in rw o (mul-suc n p)
 
 -- block b has no codeword with index p, so the number stays the same
 pub rank-pass : (c : BlockSizes) (p b : ℕ) → p ≤ c.short_len → b < block_count c → (IsPosition c (position p b) → ⊥) → rank_of c p (b + 1) ≡ rank_of c p b
@@ -62,17 +58,6 @@ pub rank-end : (c : BlockSizes) → rank_of c (c.short_len + 1) 0 ≡ codeword_c
 rank-end c = grind (arith, nat_tests)
 
 -- ---- only one order
-
--- what is contained is a member
-pub Mem-of-Contains : {X : Type 0} (xs : List X) (x : X) → Contains xs x → Mem x xs
-Mem-of-Contains [] x (k, l, e) = absurd (omega arith)
-Mem-of-Contains (y ∷ ys) x (zero, l, e) = inl e
-Mem-of-Contains (y ∷ ys) x (suc k, l, e) = inr (Mem-of-Contains ys x (k, omega arith, e))
-
--- a fact that holds for all items, in recursive form
-All-rec : {X : Type 0} (P : X → Type 0) (xs : List X) → All P xs → AllByRecursion P xs
-All-rec P [] h = tt
-All-rec P (x ∷ xs) h = (h 0 x (omega arith), All-rec P xs (λ k d l. h (suc k) d (omega arith)))
 
 -- of two positions, at most one comes before the other
 asym : (t u : Position) → ComesBefore t u → ComesBefore u t → ⊥

@@ -28,20 +28,20 @@ begun s r c = with_second s r c || (eqb r (s - 8) && eqb c 8)
 
 -- the two timing modules beside the finder patterns are dark
 pub timing-left : (v format : ℕ) → 1 ≤ v → true ≡ paint_of v format 8 6
-timing-left v format l = search (arith, paint-column_six)
+timing-left v format l = sym (dark (side_of v) (omega arith)) ∙ paint-column_six v 8 format l (omega arith)
   where
     dark : (s : ℕ) → 21 ≤ s → is_dark_in_six s 8 ≡ true
     dark s h = grind (arith, nat_tests)
 
 pub timing-top : (v format : ℕ) → 1 ≤ v → true ≡ paint_of v format 6 8
-timing-top v format l = search (arith, paint-row_six)
+timing-top v format l = sym (dark (side_of v) (omega arith)) ∙ paint-row_six v 8 format l (omega arith)
   where
     dark : (s : ℕ) → 21 ≤ s → is_dark_in_six s 8 ≡ true
     dark s h = grind (arith, nat_tests)
 
 -- the dark module is dark
 pub dark-painted : (v format : ℕ) → 1 ≤ v → v ≤ 40 → true ≡ paint_of v format (side_of v - 8) 8
-dark-painted v format l k = search (arith, paint-fixed, dark-module)
+dark-painted v format l k = sym (paint-fixed v (side_of v - 8) 8 format true (dark-module v l k))
 
 -- a module that contains a bit of the format information gets its colour when this information is drawn
 bit-painted : (v r c format i : ℕ) (w : Bool) → role_of v r c ≡ FormatBit i → format_or format (role_of v r c) w ≡ paint_of v format r c

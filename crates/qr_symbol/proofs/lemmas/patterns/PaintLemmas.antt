@@ -34,14 +34,14 @@ pub over-twice : {s : ℕ} {t u f h : ℕ → ℕ → Bool} {g g' : Grid} (w : �
 over-twice {s} {t} {u} {f} {h} w e k d = search (arith, twice)
 
 -- if no place passes the test, the square is unchanged
-pub over-none : {s : ℕ} {t f : ℕ → ℕ → Bool} {g : Grid} → IsSquare s g
-    → ((r c : ℕ) → r < s → c < s → t r c ≡ false) → IsOver s t f (colour g) g
-over-none e d = search arith
+pub over-none : {s : ℕ} {t f : ℕ → ℕ → Bool} {g : Grid} → IsSquare s g → ((r c : ℕ) → r < s → c < s → t r c ≡ false)
+    → IsOver s t f (colour g) g
+over-none e d = record { square = e; colours = λ r c l m. rw (d r c l m) refl }
 
 -- two tests that agree paint the same
 pub over-same : {s : ℕ} {t u f h : ℕ → ℕ → Bool} {g : Grid} → IsOver s t f h g
     → ((r c : ℕ) → r < s → c < s → t r c ≡ u r c) → IsOver s u f h g
-over-same e d = search arith
+over-same e d = record { square = e.square; colours = λ r c l m. rw (← d r c l m) (e.colours r c l m) }
 
 -- one place is painted
 pub over-place : {s : ℕ} (f : ℕ → ℕ → Bool) (g g' : Grid) (row col : ℕ) (d : Bool) → g.side ≡ s

@@ -1,9 +1,9 @@
 -- The colours of row 6 and column 6.
+use Rattle.qr_layout.specs.{Format.version_word_of, Region.is_timing, Role.{finder_ring, pattern_colour, role_of}}
+use Rattle.qr_layout.specs.{Version.side_of, declared.role.Role.TheVariants.Fixed}
+use Rattle.qr_symbol.specs.Steps.Patterns.{fixed_colour, is_dark_in_six, paint_of}
 use Rattle.std.proofs.Common.{◌≡◌, ℕ, ◌+◌, ◌-◌, ◌%◌, ◌<◌, ◌≤◌, Bool, true, false, eqb, ltb, ◌&&◌, ◌||◌, refl, sym, ◌∙◌, ap, inl, inr, arith}
 use Rattle.std.proofs.lemmas.Bool.{cases_lt, Decides.nat_tests}
-use Rattle.qr_layout.specs.{declared.role.Role.TheVariants.Fixed, Format.version_word_of}
-use Rattle.qr_layout.specs.{Region.is_timing, Version.side_of, Role.finder_ring, Role.pattern_colour, Role.role_of}
-use Rattle.qr_symbol.specs.Steps.Patterns.{fixed_colour, is_dark_in_six, paint_of}
 
 -- a place in ring 3 of a finder pattern is dark
 ring-three : (v r c : ℕ) → finder_ring (side_of v) r c ≡ 3 → role_of v r c ≡ Fixed true
@@ -34,17 +34,11 @@ six v r c at least inside near far seven eight off = elim (cases_lt at 7) [
   ]
 ]
   where
-    dark-near : (s at : ℕ) → at < 7 → is_dark_in_six s at ≡ true
-    dark-near s at l = grind (arith, nat_tests)
-
     dark-far : (s at : ℕ) → s - 7 ≤ at → is_dark_in_six s at ≡ true
     dark-far s at l = grind (arith, nat_tests)
 
     between : (s at : ℕ) → 7 ≤ at → at < s - 7 → is_dark_in_six s at ≡ eqb (at % 2) 0
     between s at l m = grind (arith, nat_tests)
-
-    odd-light : (at : ℕ) → at % 2 ≡ 1 → eqb (at % 2) 0 ≡ false
-    odd-light at e = grind (arith, nat_tests)
 
 -- a place beyond ring 4 is in no finder pattern
 five-on : (n : ℕ) → 5 ≤ n → (ltb n 4 ≡ false) × (eqb n 4 ≡ false)
@@ -53,7 +47,7 @@ five-on n h = (grind (arith, nat_tests), grind (arith, nat_tests))
 -- between the finder patterns row 6 is a timing pattern
 row-off : (v at : ℕ) → 5 ≤ finder_ring (side_of v) 6 at → role_of v 6 at ≡ Fixed (eqb (at % 2) 0)
 unfolding role_of pattern_colour
-row-off v at h = search (arith, five-on)
+row-off v at h = rw ((five-on (finder_ring (side_of v) 6 at) h).0, (five-on (finder_ring (side_of v) 6 at) h).1) refl
 
 -- between the finder patterns column 6 is a timing pattern
 column-off : (v at : ℕ) → 5 ≤ finder_ring (side_of v) at 6 → 7 < at → role_of v at 6 ≡ Fixed (eqb (at % 2) 0)
@@ -80,11 +74,11 @@ paint-fixed v r c format dark e = ap (fixed_colour format (version_word_of v)) e
 
 -- the colour that a module of row 6 is painted with
 pub paint-row_six : (v at format : ℕ) → 1 ≤ v → at < side_of v → is_dark_in_six (side_of v) at ≡ paint_of v format 6 at
-paint-row_six v at format l h = search (arith, paint-fixed, row-six)
+paint-row_six v at format l h = sym (paint-fixed v 6 at format (is_dark_in_six (side_of v) at) (row-six v at l h))
 
 -- the colour that a module of column 6 is painted with
 pub paint-column_six : (v at format : ℕ) → 1 ≤ v → at < side_of v → is_dark_in_six (side_of v) at ≡ paint_of v format at 6
-paint-column_six v at format l h = search (arith, paint-fixed, column-six)
+paint-column_six v at format l h = sym (paint-fixed v at 6 format (is_dark_in_six (side_of v) at) (column-six v at l h))
 
 -- the painted modules of row 6 and column 6, with one module more of each
 pub six-more : (at r c : ℕ) → ((eqb r 6 && ltb c (at + 1)) || (eqb c 6 && ltb r (at + 1)))

@@ -1,9 +1,9 @@
 -- The version information, drawn bit by bit at its two places.
 use Rattle.qr_layout.proofs.Facts.{version-first, version-second}
-use Rattle.qr_layout.specs.{Format.version_word_of, Region.{is_version_block, is_version_information}, Role.role_of}
-use Rattle.qr_layout.specs.{Version.side_of, declared.role.Role.TheVariants.VersionBit}
-use Rattle.{qr_matrix.specs.BitRow.has_bit, qr_symbol.specs.Steps.Patterns.{fixed_colour, paint_of}}
-use Rattle.std.proofs.Common.{◌≡◌, ℕ, ◌+◌, ◌-◌, ◌*◌, ◌/◌, ◌%◌, ◌<◌, ◌≤◌, Bool, false, eqb, ltb, leb, ◌&&◌, ◌||◌, ap, arith}
+use Rattle.qr_layout.specs.{Format.version_word_of, Region.is_version_information, Role.role_of, Version.side_of}
+use Rattle.{qr_layout.specs.declared.role.Role.TheVariants.VersionBit, qr_matrix.specs.BitRow.has_bit}
+use Rattle.qr_symbol.specs.Steps.Patterns.{fixed_colour, paint_of}
+use Rattle.std.proofs.Common.{◌≡◌, ℕ, ◌+◌, ◌-◌, ◌*◌, ◌/◌, ◌%◌, ◌<◌, ◌≤◌, Bool, false, eqb, ltb, leb, ◌&&◌, ◌||◌, sym, ap, arith}
 use Rattle.std.proofs.lemmas.Bool.Decides.{nat_tests}
 
 -- the places of the first n bits beside the top right finder pattern
@@ -25,9 +25,6 @@ version-more s n r c h = grind (arith, nat_tests)
 -- all eighteen bits fill the two blocks of version information
 pub version-all : (v r c : ℕ) → 7 ≤ v → version_drawn (side_of v) 18 r c ≡ is_version_information v r c
 version-all v r c h = search (arith, nat_tests)
-  where
-    blocks : (s : ℕ) → 21 ≤ s → version_drawn s 18 r c ≡ (is_version_block s r c || is_version_block s c r)
-    blocks s k = grind (arith, nat_tests)
 
 -- a module with a bit of the version information is painted with this bit
 bit-colour : (v r c format i : ℕ) → role_of v r c ≡ VersionBit i → paint_of v format r c ≡ has_bit (version_word_of v) i
@@ -36,7 +33,7 @@ bit-colour v r c format i e = ap (fixed_colour format (version_word_of v)) e
 
 -- the colour of bit i at its two places
 pub version-here : (v format i : ℕ) → 7 ≤ v → v ≤ 40 → i < 18 → has_bit (version_word_of v) i ≡ paint_of v format (i / 3) (side_of v - 11 + i % 3)
-version-here v format i h k l = search (arith, bit-colour, version-first)
+version-here v format i h k l = sym (bit-colour v (i / 3) (side_of v - 11 + i % 3) format i (version-first v i h k l))
 
 pub version-there : (v format i : ℕ) → 7 ≤ v → v ≤ 40 → i < 18 → has_bit (version_word_of v) i ≡ paint_of v format (side_of v - 11 + i % 3) (i / 3)
-version-there v format i h k l = search (arith, bit-colour, version-second)
+version-there v format i h k l = sym (bit-colour v (side_of v - 11 + i % 3) (i / 3) format i (version-second v i h k l))

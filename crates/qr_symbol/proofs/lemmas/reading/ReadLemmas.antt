@@ -9,7 +9,7 @@ use Rattle.qr_symbol.proofs.lemmas.interleaving.MessageLemmas.{append-front, dat
 use Rattle.qr_symbol.proofs.lemmas.placement.PlacementLemmas.{in-square, whole-push, Mem-mid}
 use Rattle.qr_symbol.specs.{Interleaving.IsInterleaved, Mask.{inverts, inverted}}
 use Rattle.qr_symbol.specs.{Reading.{unmasked, read_bits, IsRead, IsMessage}, Symbol.{colour_of, grid_of}}
-use Rattle.std.proofs.Common.{◌≡◌, ℕ, zero, suc, ◌+◌, ◌-◌, ◌*◌, ◌<◌, ◌≤◌, Bool, false, nat_eq, List, [], ◌∷◌, ◌++◌, map, take, drop, length, replicate, refl, sym, ◌∙◌, ap, subst, length-append, inl, inr, arith}
+use Rattle.std.proofs.Common.{◌≡◌, ℕ, zero, suc, ◌+◌, ◌-◌, ◌*◌, ◌<◌, ◌≤◌, Bool, false, List, [], ◌∷◌, ◌++◌, map, take, drop, length, replicate, refl, sym, ◌∙◌, ap, subst, length-append, inl, inr, arith}
 use Rattle.std.proofs.{Math.Seq.{drop-cons, take-length}, lemmas.Bool.{cases_lt, Decides.nat_tests}}
 use Rattle.std.proofs.lemmas.List.{append-nil, length-map, length-take, length-replicate}
 use Rattle.std.{proofs.lemmas.Nat.Bits.{same_from_bits_below, bit_at-lt}, specs.{Int.bit_at, List.All}}
@@ -66,13 +66,6 @@ field-one (suc w) x y e i l = elim (cases_lt i w) [
     tail : List Bool → List Bool
     tail [] = []
     tail (b ∷ bs) = bs
-
-    head : List Bool → Bool
-    head [] = false
-    head (b ∷ bs) = b
-
-    same_bit : (a b : ℕ) → a < 2 → b < 2 → nat_eq a 1 ≡ nat_eq b 1 → a ≡ b
-    same_bit a b l m e = grind (arith, nat_tests)
 
 -- bytes with the same bits are equal
 pub bits-one : (cw ds : List ℕ) → All (λ x. x < 256) cw → All (λ x. x < 256) ds → bits_of cw ≡ bits_of ds → cw ≡ ds

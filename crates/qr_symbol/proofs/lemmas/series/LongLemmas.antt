@@ -9,7 +9,7 @@ use Rattle.std.proofs.Common.{◌≡◌, false, ℕ, ◌*◌, ◌<◌, ◌≤◌
 pub long-refused : (x : List ℕ) (l : Level) (b : Rule) (v : ℕ) → 1 ≤ v → v ≤ 40 → 7089 * 16 < length x → HasNoSeries v l b x
 long-refused x l b v i j long = record {
   too_long = λ fits. let short = fitting_short v l b x i j fits in omega arith;
-  too_many = search (arith, parts-long);
+  too_many = λ ps cut. let all = parts-long v l b x ps i j cut in omega arith;
 }
 
 -- without kanji mode, an input that has no series needs more than 16 parts

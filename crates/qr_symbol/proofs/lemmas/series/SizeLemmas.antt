@@ -38,8 +38,8 @@ series-some x l b v ss (inr h) = search (arith, parts-some, symbols-many)
 
 -- a series has at most 16 symbols
 pub series-few : (x : List ℕ) (l : Level) (b : Rule) (v : ℕ) (ss : List Symbol) → IsSeries v l b x ss → length ss ≤ 16
-series-few x l b v ss (inl h) = search arith
-series-few x l b v ss (inr h) = omega (arith, symbols-many)
+series-few x l b v ss (inl h) = subst (λ (ts : List Symbol). length ts ≤ 16) (sym h.alone) (omega arith)
+series-few x l b v ss (inr h) = let m = h.many in let e = symbols-many v l b _ _ 0 h.parts ss h.made in omega arith
 
 -- without kanji mode, bytes need as many parts as their series has symbols
 pub series-shortest : (x : List ℕ) (l : Level) (b : Rule) (v : ℕ) (ss : List Symbol) → may_use b Kanji ≡ false → 0 < length x → IsSeries v l b x ss → NeedsParts v l b x (length ss)
