@@ -42,7 +42,7 @@ gather-push c interleaved xs ys p b next i l h t e k =
       positions = h.positions ++ position p b ∷ [];
       order = positions-push c p b _ t h.order;
       rank = ap (λ (z : ℕ). z + 1) h.rank ∙ sym (rank-push c p b t);
-      same = search (arith, position, map-append, take_more);
+      same = cc (map-append (codeword_at c (set xs j x)) h.positions (position p b ∷ []), take_more interleaved next 0 (omega arith));
     }
 
 -- block b has no codeword with index p, so the step changes nothing
@@ -78,7 +78,7 @@ begun-next c interleaved p b n l m h = elim (cases_lt p (block_len c b)) [
   | inl k ↦ record {
     codewords = set h.codewords (start_of c b + p) (get_or interleaved h.next 0);
     next = h.next + 1;
-    gathered = search (arith, gather-push);
+    gathered = gather-push c interleaved h.codewords _ p b h.next _ n h.gathered (m, k) refl refl;
   }
   | inr k ↦ search (arith, gather-pass)
 ]
@@ -86,7 +86,8 @@ begun-next c interleaved p b n l m h = elim (cases_lt p (block_len c b)) [
 -- all blocks at one index
 begun-across : (c : BlockSizes) (interleaved : List ℕ) (p b : ℕ) → codeword_count c ≤ length interleaved → p ≤ c.short_len → b ≤ block_count c → IsBegun c interleaved p 0 → IsBegun c interleaved p b
 begun-across c interleaved p zero n l m h = h
-begun-across c interleaved p (suc b) n l m h = let e : b + 1 ≡ suc b = omega arith in search (arith, begun-next, begun-across c interleaved p b n l (omega arith) h)
+begun-across c interleaved p (suc b) n l m h = let e : b + 1 ≡ suc b = omega arith in
+    subst (IsBegun c interleaved p) e (begun-next c interleaved p b n l (omega arith) (begun-across c interleaved p b n l (omega arith) h))
 
 -- all indices
 begun-down : (c : BlockSizes) (interleaved : List ℕ) (p : ℕ) → codeword_count c ≤ length interleaved → p ≤ c.short_len + 1 → IsBegun c interleaved p 0
@@ -98,7 +99,7 @@ begun-down c interleaved zero n l = record {
 begun-down c interleaved (suc p) n l =
     let h = begun-across c interleaved p (block_count c) n (omega arith) (omega arith) (begun-down c interleaved p n (omega arith)) in
     let e : p + 1 ≡ suc p = omega arith in
-    subst (λ (k : ℕ). IsBegun c interleaved k 0) e (record { codewords = h.codewords; next = h.next; gathered = search (arith, gather-row) })
+    subst (λ (k : ℕ). IsBegun c interleaved k 0) e (record { codewords = h.codewords; next = h.next; gathered = gather-row c interleaved h.codewords p _ h.next (omega arith) refl h.gathered })
 
 -- a sequence with at least as many codewords as the blocks can be gathered
 pub gather-some : (c : BlockSizes) (interleaved : List ℕ) → codeword_count c ≤ length interleaved → (xs : List ℕ) × IsGathered c interleaved xs
