@@ -15,8 +15,7 @@ pub loop-position-preserved : goal.loop-position-preserved
 loop-position-preserved c =
     let last = length c.args.contents.now - 1 in
     let k = c.loop-position.position in
-    let here = c.has_header.ensures.0 (grind arith) in
-    record {
+    let here = c.has_header.ensures.0 (grind arith) in record {
       here = λ h. c.loop-position.invariant.here (headers-before last c.args.parity k c.args.contents.now c.index-contents-position.result c.loop-position-test.true c.index-contents-position.is here h);
       there = λ h. (headers-next last c.args.parity k c.args.contents.now c.index-contents-position.result c.loop-position-test.true c.index-contents-position.is (c.loop-position.invariant.there h)).1;
     }

@@ -20,9 +20,9 @@ version-one xs l least rule v w a b = elim (cases_lt v w) [
 -- Bytes have at most one symbol of a version and a level after an optional header.
 pub symbol-at-one : (v : ℕ) (l : Level) (rule : Rule) (xs : List ℕ) (head : Option Header) (m n : ℕ) (g h : Grid) → IsSymbolAt v l rule xs head m g → IsSymbolAt v l rule xs head n h → (m ≡ n) × (g ≡ h)
 symbol-at-one v l rule xs head m n g h a b =
-    let segments : a.segments ≡ b.segments = segmentation-one v rule xs a.segments b.segments a.chosen b.chosen in
+    let segments : a.segments ≡ b.segments = segmentation-one v _ xs _ _ a.chosen b.chosen in
     let codewords : a.codewords ≡ b.codewords = final-one _ _ _ _
-    (subst (λ (d : List ℕ). IsInterleaved v l d a.codewords) (data_one v l xs b.segments head a.message b.message (subst (λ (ss : List Segment). IsData v l xs ss head a.message) segments a.written) b.written) a.interleaved) b.interleaved in
+    (subst (λ (d : List ℕ). IsInterleaved v l d a.codewords) (data_one v l xs _ _ _ _ (subst (λ (ss : List Segment). IsData v l xs ss head a.message) segments a.written) b.written) a.interleaved) b.interleaved in
     search (arith, least-one)
 
 -- An input has at most one symbol.

@@ -4,7 +4,7 @@ use Rattle.std.proofs.lemmas.Bool.{cases_lt}
 use Rattle.std.proofs.lemmas.List.{take_more, get_or-set_same, get_or-set_other, length-set, length-map, length-replicate, length-take, map-append}
 use Rattle.qr_layout.proofs.Facts.{Mem}
 use Rattle.qr_symbol.specs.declared.interleaving.BlockSizes.{BlockSizes}
-use Rattle.qr_symbol.specs.Interleaving.{IsPositionOrder, Position, ComesBefore, block_count, block_len, start_of, codeword_count, IsPosition, codeword_at, IsGathered}
+use Rattle.qr_symbol.specs.Interleaving.{IsPositionOrder, Position, ComesBefore, block_count, start_of, codeword_count, IsPosition, codeword_at, IsGathered}
 use Rattle.qr_symbol.proofs.lemmas.interleaving.PositionLemmas.{position, PositionsBefore, positions-start, positions-push, positions-pass, positions-row, positions-end, position-in}
 use Rattle.qr_symbol.proofs.lemmas.interleaving.RankLemmas.{position-one, rank_of, rank-start, rank-push, rank-pass, rank-row, rank-end, rank-in, positions-one}
 
@@ -42,7 +42,7 @@ gather-push c interleaved xs ys p b next i l h t e k =
       positions = h.positions ++ position p b ∷ [];
       order = positions-push c p b _ t h.order;
       rank = ap (λ (z : ℕ). z + 1) h.rank ∙ sym (rank-push c p b t);
-      same = cc (map-append (codeword_at c (set xs j x)) h.positions (position p b ∷ []), take_more interleaved next 0 (omega arith));
+      same = cc (map-append _ h.positions (position p b ∷ []), take_more interleaved next 0 (omega arith));
     }
 
 -- block b has no codeword with index p, so the step changes nothing
@@ -74,11 +74,11 @@ record IsBegun (c : BlockSizes) (interleaved : List ℕ) (p b : ℕ) : Type 0 wh
 
 -- one block more
 begun-next : (c : BlockSizes) (interleaved : List ℕ) (p b : ℕ) → codeword_count c ≤ length interleaved → p ≤ c.short_len → b < block_count c → IsBegun c interleaved p b → IsBegun c interleaved p (b + 1)
-begun-next c interleaved p b n l m h = elim (cases_lt p (block_len c b)) [
+begun-next c interleaved p b n l m h = elim (cases_lt p _) [
   | inl k ↦ record {
     codewords = set h.codewords (start_of c b + p) (get_or interleaved h.next 0);
     next = h.next + 1;
-    gathered = gather-push c interleaved h.codewords _ p b h.next _ n h.gathered (m, k) refl refl;
+    gathered = gather-push c _ _ _ p b _ _ n h.gathered (m, k) refl refl;
   }
   | inr k ↦ search (arith, gather-pass)
 ]
@@ -87,7 +87,7 @@ begun-next c interleaved p b n l m h = elim (cases_lt p (block_len c b)) [
 begun-across : (c : BlockSizes) (interleaved : List ℕ) (p b : ℕ) → codeword_count c ≤ length interleaved → p ≤ c.short_len → b ≤ block_count c → IsBegun c interleaved p 0 → IsBegun c interleaved p b
 begun-across c interleaved p zero n l m h = h
 begun-across c interleaved p (suc b) n l m h = let e : b + 1 ≡ suc b = omega arith in
-    subst (IsBegun c interleaved p) e (begun-next c interleaved p b n l (omega arith) (begun-across c interleaved p b n l (omega arith) h))
+    subst (IsBegun c interleaved p) e (begun-next c _ p b n l (omega arith) (begun-across c _ p b n l (omega arith) h))
 
 -- all indices
 begun-down : (c : BlockSizes) (interleaved : List ℕ) (p : ℕ) → codeword_count c ≤ length interleaved → p ≤ c.short_len + 1 → IsBegun c interleaved p 0
@@ -97,9 +97,9 @@ begun-down c interleaved zero n l = record {
   gathered = search (arith, length-replicate, positions-start, rank-start);
 }
 begun-down c interleaved (suc p) n l =
-    let h = begun-across c interleaved p (block_count c) n (omega arith) (omega arith) (begun-down c interleaved p n (omega arith)) in
+    let h = begun-across c _ p (block_count c) n (omega arith) (omega arith) (begun-down c interleaved p n (omega arith)) in
     let e : p + 1 ≡ suc p = omega arith in
-    subst (λ (k : ℕ). IsBegun c interleaved k 0) e (record { codewords = h.codewords; next = h.next; gathered = gather-row c interleaved h.codewords p _ h.next (omega arith) refl h.gathered })
+    subst (λ (k : ℕ). IsBegun c interleaved k 0) e (record { codewords = h.codewords; next = h.next; gathered = gather-row c _ _ p _ _ (omega arith) refl h.gathered })
 
 -- a sequence with at least as many codewords as the blocks can be gathered
 pub gather-some : (c : BlockSizes) (interleaved : List ℕ) → codeword_count c ≤ length interleaved → (xs : List ℕ) × IsGathered c interleaved xs

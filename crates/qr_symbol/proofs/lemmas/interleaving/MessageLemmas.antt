@@ -4,7 +4,7 @@ use Rattle.qr_layout.{proofs.Facts.{Mem-of-Contains, blocks-sound}, specs.Blocks
 use Rattle.qr_layout.specs.{Version.total_codewords_of, declared.{blocks.Blocks.Blocks, level.Level.Level}}
 use Rattle.qr_symbol.proofs.lemmas.interleaving.GatherLemmas.{positions-many}
 use Rattle.qr_symbol.proofs.lemmas.interleaving.RankLemmas.{positions-one, position-of, map-at}
-use Rattle.qr_symbol.specs.Interleaving.{block_count, start_of, codeword_count, codeword_at, data_sizes, correction_sizes, block_of, check_at, IsFinalMessage, IsGathered}
+use Rattle.qr_symbol.specs.Interleaving.{block_count, codeword_count, codeword_at, data_sizes, correction_sizes, block_of, check_at, IsFinalMessage, IsGathered}
 use Rattle.std.proofs.Common.{◌≡◌, ℕ, ◌+◌, ◌-◌, ◌*◌, ◌<◌, ◌≤◌, List, [], ◌∷◌, ◌++◌, map, length, length-append, get_or, refl, sym, ◌∙◌, ap, subst, arith, take}
 use Rattle.std.proofs.{Math.Seq.take-append_seam, lemmas.List.{length-map, ext_get_or}}
 use Rattle.std.specs.Prelude.{Result, Ok, Err, IfOk}
@@ -33,12 +33,12 @@ append-front xs ys us vs n e = absurd (omega arith)
 pub data-one : (b : Blocks) (d e cw : List ℕ) → length d ≡ codeword_count (data_sizes b) → length e ≡ codeword_count (data_sizes b) → IsFinalMessage b d cw → IsFinalMessage b e cw → d ≡ e
 data-one b d e cw n m h k =
     let c = data_sizes b in
-    let one = positions-one c k.data_positions h.data_positions k.data_order h.data_order in
+    let one = positions-one c _ _ k.data_order h.data_order in
     let both : map (codeword_at c d) h.data_positions ++ map (check_at h.corrections) h.check_positions ≡ map (codeword_at c e) h.data_positions ++ map (check_at k.corrections) k.check_positions =
     cc in ext_get_or 0 d e (n ∙ sym m) (λ j l.
     let t = position-of c (block_count c) j (omega arith) (omega arith) in
-    let q = map-at (codeword_at c d) (codeword_at c e) h.data_positions t.0 (append-front (map (codeword_at c d) h.data_positions) (map (codeword_at c e) h.data_positions) (map (check_at h.corrections) h.check_positions) (map (check_at k.corrections) k.check_positions) (search (arith, length-map)) both).0 (Mem-of-Contains h.data_positions t.0 (h.data_order.complete t.0 t.1)) in
-    same-place d e (start_of c t.0.block + t.0.place) j t.2 q)
+    let q = map-at _ _ _ t.0 (append-front _ _ _ _ (search (arith, length-map)) both).0 (Mem-of-Contains h.data_positions t.0 (h.data_order.complete t.0 t.1)) in
+    same-place d e _ j t.2 q)
   where
     same-place : (d e : List ℕ) (i j : ℕ) → i ≡ j → get_or d i 0 ≡ get_or e i 0 → get_or d j 0 ≡ get_or e j 0
     same-place d e i j f q = subst (λ (z : ℕ). get_or d z 0 ≡ get_or e z 0) f q

@@ -65,7 +65,7 @@ asym t u h k = search arith
 
 -- blocks have only one order of positions
 pub positions-one : (c : BlockSizes) (ts us : List Position) → IsPositionOrder c ts → IsPositionOrder c us → ts ≡ us
-positions-one c ts us h k = one_rising _ asym ts us (Rises-of-pairs ComesBefore ts h.rising) (Rises-of-pairs _ us k.rising)
+positions-one c ts us h k = one_rising _ asym ts us (Rises-of-pairs _ ts h.rising) (Rises-of-pairs _ us k.rising)
     (λ t m. Mem-of-Contains us t (k.complete t (Mem-at (IsPosition c) ts t (All-rec _ ts h.in_blocks) m)))
     (λ t m. Mem-of-Contains ts t (h.complete t (Mem-at (IsPosition c) us t (All-rec _ us k.in_blocks) m)))
 

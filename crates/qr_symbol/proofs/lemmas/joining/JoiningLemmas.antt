@@ -26,7 +26,7 @@ readings-push reads gs cs g c a h = search arith
 first-unread : (reads : Grid → Content → Type 0) (refuses : Grid → ReadFault → Type 0) (gs rest : List Grid) (cs : List Content) (g : Grid) (e : ReadFault) → AreReadBy reads gs cs → refuses g e → IsFirstRefused reads refuses (gs ++ g ∷ rest) e
 unfolding AreReadBy IsFirstRefused
 first-unread reads refuses [] rest [] g e a u = inl u
-first-unread reads refuses (f ∷ gs) rest (c ∷ cs) g e a u = inr (c, a.0, first-unread reads refuses gs rest cs g e a.1 u)
+first-unread reads refuses (f ∷ gs) rest (c ∷ cs) g e a u = inr (c, a.0, first-unread _ _ gs _ cs g e a.1 u)
 first-unread reads refuses gs rest cs g e a u = search arith
 
 -- one more square of a list is read, stated by its index

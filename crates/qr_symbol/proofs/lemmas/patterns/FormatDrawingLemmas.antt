@@ -1,10 +1,10 @@
 -- The format information, drawn bit by bit over a symbol.
 use Rattle.qr_layout.proofs.Facts.{format-only, format-first, format-second}
-use Rattle.qr_layout.specs.{Role.{role_of, first_place, second_place}, Version.side_of}
-use Rattle.qr_layout.specs.declared.{region.Module.Module, role.Role.{Role, TheVariants.FormatBit}}
+use Rattle.qr_layout.specs.{Role.role_of, Role.first_place, Role.second_place, Version.side_of}
+use Rattle.qr_layout.specs.declared.{region.Module.Module, role.Role.Role, role.Role.TheVariants.FormatBit}
 use Rattle.qr_matrix.proofs.Facts.{same-place, square-same, colour-painted-here, colour-painted-there}
-use Rattle.qr_matrix.specs.{BitRow.has_bit, Grid.{Grid, square, colour, painted, IsSquare}}
-use Rattle.qr_symbol.{proofs.lemmas.placement.PlacementLemmas.at, specs.Steps.Patterns.{format_bits_or, format_or}}
+use Rattle.qr_matrix.specs.{BitRow.has_bit, Grid.Grid, Grid.square, Grid.colour, Grid.painted, Grid.IsSquare}
+use Rattle.qr_symbol.specs.Steps.Patterns.{format_bits_or, format_or}
 use Rattle.std.proofs.Common.{◌≡◌, ℕ, ◌+◌, ◌<◌, ◌≤◌, Bool, true, false, cond, ltb, leb, ◌&&◌, ◌||◌, refl, sym, ◌∙◌, ap, inl, inr, arith}
 use Rattle.std.proofs.lemmas.Bool.Decides.{nat_tests}
 
@@ -59,17 +59,17 @@ format-end v format first n g0 g e h = search (arith, square-same)
 -- all fifteen bits, drawn in three parts, are the format information
 pub three-parts : (v format r c : ℕ) (other : Bool) → format_bits_or 9 15 format (role_of v r c) (format_bits_or 6 9 format (role_of v r c) (format_bits_or 0 6 format (role_of v r c) other)) ≡ format_or format (role_of v r c) other
 unfolding format_bits_or format_or
-three-parts v format r c other = parts _ (λ i q. (format-only v (at r c) i q).0)
+three-parts v format r c other = parts _ (λ i q. (format-only v _ i q).0)
   where
     one : (t u w x y : Bool) → ((t || u) || w) ≡ true → cond w x (cond u x (cond t x y)) ≡ x
     one t u true x y e = refl
     one t true _ x y e = refl
-    one true false _ x y e = refl
-    one false _ false x y e = cc
+    one true _ _ x y e = refl
+    one _ _ _ x y e = cc
 
     parts : (q : Role) → ((i : ℕ) → q ≡ FormatBit i → i < 15) → format_bits_or 9 15 format q (format_bits_or 6 9 format q (format_bits_or 0 6 format q other)) ≡ format_or format q other
     parts (FormatBit i) f =
         let l = f i refl in
         let t : (((leb 0 i && ltb i 6) || (leb 6 i && ltb i 9)) || (leb 9 i && ltb i 15)) ≡ true = grind (arith, nat_tests) in
-        one (leb 0 i && ltb i 6) _ (leb 9 i && ltb i 15) _ other t
+        one (leb 0 i && ltb i 6) _ _ _ _ t
     parts _ f = refl

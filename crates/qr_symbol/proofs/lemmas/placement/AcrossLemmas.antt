@@ -39,11 +39,11 @@ pub strip-drawn : (v : ℕ) (cw : List ℕ) (x : Strip) (first next : ℕ) (g h 
 strip-drawn v cw x first next g h old new o least most e light number d =
     let side = ap (λ (z : Grid). z.side) o in record {
       number = number;
-      square = square-is (side_of v) (λ r c. cond (eqb r (x.right - 1)) (has new.left c) (colour (with_row g x.right (has new.right)) r c)) h (e ∙ ap (λ z. square z (λ r c. cond (eqb r (x.right - 1)) (has new.left c) (colour (with_row g x.right (has new.right)) r c))) side);
+      square = square-is (side_of v) (λ r c. cond (eqb r _) (has new.left c) (colour (with_row g x.right (has new.right)) r c)) h (e ∙ ap (λ z. square z (λ r c. cond (eqb r (x.right - 1)) (has new.left c) (colour (with_row g x.right (has new.right)) r c))) side);
       drawn = λ j l.
           let row = row_of (side_of v) x j in
           let small = (row-small x (side_of v) j l).0 in
           let bits = d.drawn j (omega arith) (omega arith) in
-          rw e (((two-colours g x.right (x.right - 1) (has new.right) (has new.left) x.right row (omega arith) (omega arith) (λ i. omega arith)).0 refl) ∙ drawn-light (is_in_region v row x.right) _ _ _ _ bits.0 (light row small).0, ((two-colours g x.right (x.right - 1) (has new.right) (has new.left) (x.right - 1) row (omega arith) (omega arith) (λ i. omega arith)).1 refl) ∙ drawn-light (is_in_region v row (x.right - 1)) _ _ _ _ bits.1 (light row small).1);
-      kept = λ row col l m a b. rw e ((two-colours g x.right (x.right - 1) (has new.right) (has new.left) col row (omega arith) (omega arith) (λ i. omega arith)).2 a b);
+          rw e (((two-colours g _ _ _ _ _ row (omega arith) (omega arith) (λ i. omega arith)).0 refl) ∙ drawn-light _ _ _ _ _ bits.0 (light row small).0, ((two-colours g _ _ _ _ _ row (omega arith) (omega arith) (λ i. omega arith)).1 refl) ∙ drawn-light _ _ _ _ _ bits.1 (light row small).1);
+      kept = λ row col l m a b. rw e ((two-colours g x.right (x.right - 1) _ _ col row (omega arith) (omega arith) (λ i. omega arith)).2 a b);
     }

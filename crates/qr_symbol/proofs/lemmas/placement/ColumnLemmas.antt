@@ -54,10 +54,10 @@ pub rows-drawn : {v : ℕ} {cw : List ℕ} {x : Strip} {first k n i m t : ℕ} {
 rows-drawn {v} {x = x} {i = i} d e f g room = record {
   drawn = λ j a b. elim (cases_lt j i) [
     | inl l ↦
-        let same = e.kept (row_of (side_of v) x j) (λ h c o w. rows-apart x (side_of v) h j (omega arith) (omega arith) w) in
+        let same = e.kept (row_of _ x j) (λ h c o w. rows-apart x (side_of v) h j (omega arith) (omega arith) w) in
         let one = d.drawn j a (omega arith) in (cc, cc)
     | inr l ↦
-        let same = d.kept (row_of (side_of v) x j) (λ h c o w. rows-apart x (side_of v) j h (omega arith) (omega arith) (sym w)) in
+        let same = d.kept (row_of _ x j) (λ h c o w. rows-apart x (side_of v) j h (omega arith) (omega arith) (sym w)) in
         let one = e.drawn j l (omega arith) in (cc, cc)
   ];
   kept = λ row apart.
@@ -85,9 +85,9 @@ row-drawn {x = x} {k = k} row n taken one bits t u r p q m o l1 l2 next right le
   drawn = λ j a b.
       let e : j ≡ k = omega arith in
       let same : eqb row row ≡ true = grind (arith, nat_tests) in
-      rw (e, ← r, ← p, ← q, m, ← after-plus t n taken one o) (
-        here-drawn t (eqb row row) _ _ _ _ (right row) same (next taken l1),
-        here-drawn u (eqb row row) _ _ _ _ (left row) same (next one l2),
+      rw (e, ← r, ← p, ← q, m, ← after-plus t n _ one o) (
+        here-drawn t _ _ _ _ _ (right row) same (next taken l1),
+        here-drawn u _ _ _ _ _ (left row) same (next one l2),
       );
   kept = λ i apart.
       let n : row ≡ i → ⊥ = λ e. apart k (omega arith) (omega arith) (sym r ∙ e) in

@@ -44,7 +44,7 @@ from-top : (x : Strip) (s k top i : ℕ) → k + 4 ≤ s → top ≡ cond x.upwa
     → i < top + 4 → (row_of s x (k + rank_of x.upward (i - top)) ≡ i) × (rank_of x.upward (i - top) < 4)
 from-top x s k top i room e l m =
     let w = four-row x s k top (i - top) room e (omega arith) in
-    (omega (arith, (four-row x s k top (rank_of x.upward (i - top)) room e w.1).0, w.2), w.1)
+    (omega (arith, (four-row x s k top _ room e w.1).0, w.2), w.1)
 
 -- a row that is not one of these
 outside : (top i : ℕ) → (top ≤ i → i < top + 4 → ⊥) → (leb top i && ltb i (top + 4)) ≡ false
@@ -71,18 +71,18 @@ four-drawn {v} {cw} {x} {first} {old} {new} k top bits r l room e whole split ri
   drawn = λ j a b.
       let m = j - k in
       let f : k + m ≡ j = omega arith in
-      let w = four-row x (side_of v) k top m room e (omega arith) in
+      let w = four-row x _ k top m room e (omega arith) in
       let i = rank_of x.upward m in
       let within : (leb top (top + i) && ltb (top + i) (top + 4)) ≡ true = grind (arith, nat_tests, w.1) in
       let back : top + i - top ≡ i = omega arith in
       let six : 6 - 2 * m ≡ 7 - (2 * m + 1) = omega arith in
       let bit = split i w.1 in
-      rw (← f, w.0, (whole i w.1).0, (whole i w.1).1, (number-whole v x first k m (λ h c d. four-region v x k top room e whole h c (omega arith)))) (
+      rw (← f, w.0, (whole i w.1).0, (whole i w.1).1, (number-whole v x _ k m (λ h c d. four-region v x k top room e whole h c (omega arith)))) (
         right (top + i) ∙ rw (within, back, bit.0, w.2) (next (2 * m) (omega arith)),
         left (top + i) ∙ rw (within, back, bit.1, w.2, six) ((next (2 * m + 1) (omega arith)) ∙ ap (codeword_bit cw) (omega arith)),
       );
   kept = λ i apart.
-      let out = outside top i (λ c d. let w = from-top x (side_of v) k top i room e c d in apart (k + rank_of x.upward (i - top)) (omega arith) (omega (arith, w.1)) w.0) in
+      let out = outside top i (λ c d. let w = from-top x _ k top i room e c d in apart (k + rank_of x.upward _) (omega arith) (omega (arith, w.1)) w.0) in
       (right i ∙ rw out refl, left i ∙ rw out refl);
 }
 

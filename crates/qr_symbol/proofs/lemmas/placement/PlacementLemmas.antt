@@ -212,11 +212,11 @@ placed-strip v cw g0 a b x before later number next o p d =
     let a-side = ap (λ (z : Grid). z.side) o in
     let b-side = ap (λ (z : Grid). z.side) d.square in record {
       whole = rw append_assoc p.whole;
-      next = d.number ∙ (ap (λ n. number_at v x n s) p.next ∙ number-rows v x before s);
+      next = d.number ∙ (ap (λ n. number_at v x n s) p.next ∙ number-rows v x _ s);
       square = square-transposed s b d.square;
       done = λ r c l m n.
           let kept : (((c ≡ x.right) ⊎ (c ≡ x.right - 1)) × (is_in_region v r c ≡ true) → ⊥) → colour a c r ≡ (placed_colour v cw (colour g0)) r c = λ u.
-          sym (colour-transposed a r c (omega arith) (omega arith)) ∙ p.done r c l m (λ q. elim (strip-mem v s x 0 s (at r c) later q) [ inl w ↦ u w | inr q ↦ n q ]) in
+          sym (colour-transposed a r c (omega arith) (omega arith)) ∙ p.done r c l m (λ q. elim (strip-mem v s x 0 s _ _ q) [ inl w ↦ u w | inr q ↦ n q ]) in
           let j = row_of s x r in
           let rank = row-small x s r l in
           let bits = rw rank.1 at (d.drawn j rank.0) in
@@ -226,8 +226,8 @@ placed-strip v cw g0 a b x before later number next o p d =
           let ys = both_of (rows_from s x (j + 1) (s - 1 - j)) ++ later in
           let order : before ++ (both_of (rows_from s x 0 s) ++ later) ≡ xs ++ i ∷ k ∷ ys = rw (rw rank.1 at (strip-split s x j rank.0)) (simp append_assoc) in
           let whole = rw order at p.whole in
-          let first : length (in_region_of v xs) ≡ number_at v x number j = sym (ap (λ n. number_at v x n j) p.next ∙ number-rows v x before j) in
-          colour-transposed b r c (omega arith) (omega arith) ∙ elim (cases_eq c x.right) [
+          let first : length (in_region_of v xs) ≡ number_at v x number j = sym (ap (λ n. number_at v x n j) p.next ∙ number-rows v x _ j) in
+          colour-transposed b r c (omega arith) (omega arith) ∙ elim (cases_eq c _) [
             | inl e ↦ rw e (by_test (is_in_region v r x.right) _
                 (λ t. (rw t at bits.0) ∙ cc (place-number v xs _ i whole t, first, inside v cw _ r _ t))
                 (λ t. (rw t at bits.0) ∙ (rw e at kept) (λ w. cc)))

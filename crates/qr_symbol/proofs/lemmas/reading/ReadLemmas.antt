@@ -90,7 +90,7 @@ read-some v mask g p h =
     let bits = read_bits v mask g (to_come v (first_cursor v)) in
     let many : length bits ≡ 8 * t = search (arith, length-append, length-map, length-take, length-replicate) in
     let w = bytes_takes t bits (omega arith) in
-    let same = append-front bits (bits_of (bytes_of t bits)) [] (drop (8 * t) bits) (let l = length-bits_of (bytes_of t bits) in omega arith) (append-nil bits ∙ w.2) in
+    let same = append-front _ _ [] (drop (8 * t) bits) (let l = length-bits_of (bytes_of t bits) in omega arith) (append-nil _ ∙ w.2) in
     search arith
 
 -- the square that is drawn for the codewords of a message contains this message

@@ -6,7 +6,7 @@ use Rattle.qr_symbol.proofs.lemmas.reading.FormatLemmas.{format-one, format-read
 use Rattle.qr_symbol.proofs.lemmas.reading.ReadLemmas.{message-read, message-one}
 use Rattle.qr_symbol.specs.{Encoding.IsSymbolAt, Interleaving.{start_of, data_sizes, check_at, IsFinalMessage}}
 use Rattle.qr_symbol.specs.Reading.{IsFormat, IsMessage, IsReading}
-use Rattle.std.proofs.Common.{◌≡◌, ℕ, ◌+◌, ◌<◌, ◌≤◌, List, [], length, get_or, sym, ap, subst, inl, inr, arith}
+use Rattle.std.proofs.Common.{◌≡◌, ℕ, ◌+◌, ◌<◌, ◌≤◌, List, length, get_or, sym, ap, subst, inl, inr, arith}
 use Rattle.std.proofs.{Math.ListN.get_or-eq_default, lemmas.{Bool.cases_lt, List.Elements.{All-append, All-map}}}
 use Rattle.std.specs.{List.All, Prelude.Option}
 
@@ -19,8 +19,7 @@ final-bytes : (b : Blocks) (d cw : List ℕ) → All (λ x. x < 256) d → IsFin
 final-bytes b d cw a h = subst (All (λ x. x < 256)) (sym h.whole) (All-append (λ x. x < 256) _ _
     (All-map (λ x. x < 256) _ _ (λ k t l. let u = get_or _ k t in byte-at d (start_of (data_sizes b) u.block + u.place) a))
     (All-map (λ x. x < 256) (check_at h.corrections) h.check_positions (λ k t l.
-    let u = get_or h.check_positions k t in
-    byte-at (get_or h.corrections u.block []) u.place (h.each u.block (omega arith)).bytes)))
+    let u = get_or _ k t in byte-at _ _ (h.each u.block (omega arith)).bytes)))
 
 -- the symbol of an input contains its message
 pub symbol-holds : (v : ℕ) (l : Level) (b : Rule) (x : List ℕ) (h : Option Header) (mask : ℕ) (g : Grid) → 1 ≤ v → v ≤ 40 → (s : IsSymbolAt v l b x h mask g) → IsMessage v l mask g s.message

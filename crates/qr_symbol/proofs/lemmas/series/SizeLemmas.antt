@@ -14,7 +14,7 @@ unfolding AreSymbolsFrom
 symbols-many v l b last parity k [] [] h = refl
 symbols-many v l b last parity k [] (s ∷ ss) h = absurd h
 symbols-many v l b last parity k (p ∷ ps) [] h = absurd h
-symbols-many v l b last parity k (p ∷ ps) (s ∷ ss) h = omega (arith, symbols-many v l b last parity (k + 1) ps ss h.1)
+symbols-many v l b last parity k (p ∷ ps) (s ∷ ss) h = omega (arith, symbols-many v l b _ _ (k + 1) ps ss h.1)
 
 -- each symbol of the parts has the side of the version
 pub symbols-side : (v : ℕ) (l : Level) (b : Rule) (last parity k : ℕ) (ps : List (List ℕ)) (ss : List Symbol) → AreSymbolsFrom v l b last parity k ps ss → All (λ g. g.side ≡ side_of v) (squares_of ss)
@@ -22,8 +22,7 @@ unfolding AreSymbolsFrom
 symbols-side v l b last parity k [] [] h = All-nil (λ g. g.side ≡ side_of v)
 symbols-side v l b last parity k [] (s ∷ ss) h = absurd h
 symbols-side v l b last parity k (p ∷ ps) [] h = absurd h
-symbols-side v l b last parity k (p ∷ ps) (s ∷ ss) h =
-    search (arith, symbols-side v l b last parity (k + 1) ps ss h.1)
+symbols-side v l b last parity k (p ∷ ps) (s ∷ ss) h = search (arith, symbols-side v l b _ _ (k + 1) ps ss h.1)
 
 -- bytes that do not fit one symbol have at least one part
 parts-some : (x : List ℕ) (l : Level) (b : Rule) (v : ℕ) (ps : List (List ℕ)) → (FitsVersion v l b x → ⊥) → AreParts v l b x ps → 0 < length ps
