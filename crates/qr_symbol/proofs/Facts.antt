@@ -1,11 +1,12 @@
 -- The lemmas that other crates use.
+pub use Rattle.qr_layout.proofs.Facts.{Mem-of-Contains}
 pub use Rattle.qr_symbol.proofs.lemmas.interleaving.CheckLemmas.{check-len, checks-push, map-each}
 pub use Rattle.qr_symbol.proofs.lemmas.laws.DistanceLemmas.{messages-apart, parts-same}
 pub use Rattle.qr_symbol.proofs.lemmas.reading.FormatLemmas.{format-read, level-one, level-small}
 pub use Rattle.qr_symbol.proofs.lemmas.interleaving.GatherLemmas.{gather-some, positions-many}
 pub use Rattle.qr_symbol.proofs.lemmas.joining.JoiningLemmas.{joined-refused, joining-one, readings-next, readings-none, unjoined-next, unjoined-one}
 pub use Rattle.qr_symbol.proofs.lemmas.interleaving.MessageLemmas.{checks-one, sizes-whole, data-sizes-whole, final-one, ok-also}
-pub use Rattle.qr_symbol.proofs.lemmas.interleaving.RankLemmas.{Mem-of-Contains, map-at, position-of, positions-one}
+pub use Rattle.qr_symbol.proofs.lemmas.interleaving.RankLemmas.{map-at, position-of, positions-one}
 pub use Rattle.qr_symbol.proofs.lemmas.reading.ReadLemmas.{bits-one, message-one, read-one, read-some}
 pub use Rattle.qr_symbol.proofs.lemmas.reading.RefusalLemmas.{exactly, moved}
 pub use Rattle.qr_symbol.proofs.lemmas.reading.RoundTripLemmas.{symbol-format, symbol-holds}

@@ -54,7 +54,6 @@ impl Collector {
         })
     }
 
-    #[tactic(auto, using(crate::proofs::Named::collected), unfolding(qr_bits::specs::Bits::field))]
     fn push_bit(&mut self, dark: bool) -> Result<(), AllocError>
         ensures { OnOk result (self.new ≡ self.old ++ dark ∷ []) }
     {

@@ -93,7 +93,6 @@ pub(crate) fn symbol_at(
 }
 
 // As `symbol_at`, but on the given canvas, with its version and level.
-#[tactic(auto, using(crate::proofs::Named::messages))]
 pub(crate) fn symbol_on(
     alloc: Global,
     canvas: &mut Canvas,

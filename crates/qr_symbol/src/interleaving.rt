@@ -73,7 +73,7 @@ impl BlockSizes {
     }
 
     /// Returns the codewords of block `block`, counted from 0; in `codewords` the blocks come one after the other.
-    #[tactic(auto, using(crate::proofs::Named::messages))]
+    #[tactic(auto, using(crate::proofs::Named::slices))]
     pub fn part(self, codewords: &[u8], block: usize) -> &[u8]
         requires within { block < block_count self }
         requires whole { length codewords.now ≡ codeword_count self }
@@ -140,7 +140,6 @@ fn corrections(alloc: Global, blocks: Blocks, message: &[u8]) -> Result<Vec<u8>,
     Ok(corrections)
 }
 
-#[tactic(auto, using(crate::proofs::Named::messages))]
 fn interleave_blocks(alloc: Global, blocks: Blocks, message: &[u8]) -> Result<Vec<u8>, AllocError>
     requires whole { length message.now ≡ codeword_count (data_sizes blocks) }
     requires least { 1 ≤ blocks.ec_len }
@@ -164,7 +163,6 @@ fn interleave_blocks(alloc: Global, blocks: Blocks, message: &[u8]) -> Result<Ve
 /// # Errors
 ///
 /// Returns an error if an allocation is refused.
-#[tactic(auto, using(crate::proofs::Named::messages))]
 pub fn interleave(
     alloc: Global,
     version: Version,

@@ -12,7 +12,6 @@ use crate::symbol::Symbol;
 use qr_bits::{Parsed, parity};
 use std::alloc::{AllocError, Global};
 
-#[tactic(auto, using(crate::proofs::Named::readings))]
 fn read_all(alloc: Global, symbols: &[Symbol]) -> Result<Vec<Parsed>, ReadFault>
     ensures { MatchResult result
         (λ contents. AreReadBy IsReading (squares_of symbols.now) contents.items)

@@ -45,7 +45,6 @@ use std::alloc::{AllocError, Global};
 
 /// Each mask repeats every twelve rows and six columns, and its first twelve rows are those worked out by hand from
 /// Table 10.
-#[tactic(auto, using(crate::proofs::Named::masks), unfolding(crate::specs::Mask::inverts))]
 pub fn masks_compute()
     ensures repeated { (mask r c : ℕ) → mask < 8 → inverts mask r c ≡ inverts mask (r % 12) (c % 6) }
     ensures rows { map first_rows all_masks ≡ computed_rows }
@@ -102,7 +101,7 @@ pub fn interleaving_is_one(version: Version, level: Level)
 
 /// Two squares of one version and level that contain different data codewords differ, in some block, in more codewords
 /// than it has error correction codewords.
-#[tactic(auto, using(crate::proofs::Named::laws_of_blocks))]
+#[tactic(auto, using(crate::proofs::Named::laws_of_messages))]
 pub fn messages_lie_apart(version: Version, level: Level)
     ensures { MessagesLieApart version level }
 {}

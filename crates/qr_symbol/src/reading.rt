@@ -64,7 +64,6 @@ fn format_of(matrix: &Matrix) -> Option<(Level, u8)>
 }
 
 // Transposes the square first: the columns of a strip are then rows, of which a word holds 64 modules.
-#[tactic(auto, using(crate::proofs::Named::readings))]
 fn read_plain(
     alloc: Global,
     version: Version,

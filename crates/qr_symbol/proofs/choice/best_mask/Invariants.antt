@@ -1,7 +1,5 @@
-use Rattle.std.proofs.Common.{◌≡◌}
-use Rattle.qr_layout.specs.Version.{side_of}
-use Rattle.qr_matrix.specs.Grid.{IsSquare}
-use Rattle.qr_symbol.specs.{Choice.IsFirstLeast, Steps.Placement.masked_penalty}
+use Rattle.{qr_layout.specs.Version.side_of, qr_matrix.specs.Grid.IsSquare}
+use Rattle.{qr_symbol.specs.{Choice.IsFirstLeast, Steps.Placement.masked_penalty}, std.proofs.Common.◌≡◌}
 use Rattle.qr_symbol.proofs.choice.best_mask.Given as goal
 
 abbrev pub invariant-loop-mask : goal.invariant-loop-mask

@@ -1,19 +1,17 @@
-use Rattle.std.proofs.Common.{false, ◌∙◌, ap, arith}
-use Rattle.qr_layout.specs.Version.{side_of}
-use Rattle.qr_matrix.specs.Grid.{light}
+use Rattle.{qr_matrix.specs.Grid.light, qr_symbol.proofs.lemmas.choice.ChoiceLemmas.{canvas-mask, canvas-drawn}}
 use Rattle.qr_symbol.proofs.lemmas.placement.PlacementLemmas.{square-is}
-use Rattle.qr_symbol.proofs.lemmas.choice.ChoiceLemmas.{canvas-mask, canvas-drawn}
+use Rattle.std.proofs.Common.{false, ◌∙◌, ap, arith}
 use Rattle.qr_symbol.proofs.choice.build_on.Goals as goal
 
 pub draw_data-requires : goal.draw_data-requires
-draw_data-requires c = square-is (side_of c.args.canvas.now.version) (λ _ _. false) c.in_ok-matrix.matrix (c.in_ok-matrix.ensures ∙ ap light c.side.ensures.value)
+draw_data-requires c = square-is _ (λ _ _. false) _ (c.in_ok-matrix.ensures ∙ ap light c.side.ensures.value)
 
 pub returns-clause-mask : goal.returns-clause-mask
 returns-clause-mask c =
     let d = c.draw_data in
-    canvas-mask c.args.canvas.now.version c.args.canvas.now.level c.args.codewords.now d.new.self c.best_mask-mask.result (omega arith) d.ensures.version d.ensures.level d.ensures.plain c.best_mask-mask.ensures.best
+    canvas-mask _ _ _ d.new.self _ (omega arith) d.ensures.version d.ensures.level d.ensures.plain c.best_mask-mask.ensures.best
 
 pub returns-clause-matrix : goal.returns-clause-matrix
 returns-clause-matrix c =
     let d = c.draw_data in
-    c.draw_masked.ensures ∙ canvas-drawn c.args.canvas.now.version c.args.canvas.now.level c.args.codewords.now d.new.self c.best_mask-mask.result (omega arith) d.ensures.version d.ensures.level d.ensures.plain
+    c.draw_masked.ensures ∙ canvas-drawn _ _ _ d.new.self _ (omega arith) d.ensures.version d.ensures.level d.ensures.plain

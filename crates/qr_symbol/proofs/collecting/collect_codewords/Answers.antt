@@ -1,19 +1,14 @@
-use Rattle.std.proofs.Common.{List, [], ◌∷◌, ◌++◌, ◌∙◌, ap, sym, subst, append_assoc, append-nil, arith}
-use Rattle.std.proofs.lemmas.List.Elements.{All-tail}
-use Rattle.std.specs.List.{All}
-use Rattle.qr_layout.specs.{declared.strips.Strip.Strip, Order.IsOrder, Order.in_region_of, Strips.places_of}
-use Rattle.qr_layout.specs.Version.{side_of}
-use Rattle.qr_layout.proofs.Facts.{Inside}
-use Rattle.qr_symbol.specs.Steps.Collecting.{colour_across}
-use Rattle.qr_symbol.proofs.lemmas.collecting.CollectingLemmas.{strip-read}
+use Rattle.qr_layout.{proofs.Facts.Inside, specs.{Order.{IsOrder, in_region_of}, Strips.places_of, Version.side_of}}
+use Rattle.{qr_layout.specs.declared.strips.Strip.Strip, qr_symbol.proofs.lemmas.collecting.CollectingLemmas.strip-read}
 use Rattle.qr_symbol.proofs.lemmas.reading.SymbolReadLemmas.{all-read, read-across}
+use Rattle.std.proofs.Common.{List, ◌++◌, ◌∙◌, ap, sym, subst, append_assoc, append-nil, arith}
+use Rattle.std.{proofs.lemmas.List.Elements.All-tail, specs.List.All}
 use Rattle.qr_symbol.proofs.collecting.collect_codewords.Goals as goal
 
 pub loop-strip-init : goal.loop-strip-init
 loop-strip-init c =
     let v = c.args.v in
-    let e = sym c.into_iter-strip-iterator.ensures.into_iter_gives in
-    record {
+    let e = sym c.into_iter-strip-iterator.ensures.into_iter_gives in record {
       can_next = tt;
       is_finite = tt;
       inside = subst (All (Inside v)) e c.all_strips-strip-items.ensures.inside;
@@ -27,14 +22,12 @@ loop-strip-preserved c =
     let s = side_of v in
     let i = c.loop-strip.invariant in
     let x = c.in-Some.strip in
-    let rest = c.next.new.self in
-    let xs = c.loop-strip.yielded in
-    record {
+    let xs = c.loop-strip.yielded in record {
       can_next = tt;
       is_finite = tt;
-      inside = All-tail (Inside v) x rest (subst (All (Inside v)) c.in-Some.ensures.steps i.inside);
-      whole = subst (λ (zs : List Strip). IsOrder v (in_region_of v (places_of s zs))) (ap (λ (zs : List Strip). xs ++ zs) c.in-Some.ensures.steps ∙ sym (append_assoc xs (x ∷ []) rest)) i.whole;
-      bits = strip-read v s (colour_across c.args.across.now) xs x c.loop-strip.bits c.collect_strip.new.bits i.bits c.in_ok-collect_strip.ensures;
+      inside = All-tail (Inside v) x c.next.new.self (subst (All (Inside v)) c.in-Some.ensures.steps i.inside);
+      whole = subst (λ (zs : List Strip). IsOrder v (in_region_of v (places_of s zs))) (ap (λ (zs : List Strip). xs ++ zs) c.in-Some.ensures.steps ∙ sym (append_assoc xs _ _)) i.whole;
+      bits = strip-read v s _ xs x _ _ i.bits c.in_ok-collect_strip.ensures;
     }
 
 pub returns-clause-read : goal.returns-clause-read
@@ -43,8 +36,7 @@ returns-clause-read c =
     let xs = c.loop-strip.yielded in
     let i = c.loop-strip.invariant in
     let b = c.into_codewords.ensures.bits in
-    let o = subst (λ (zs : List Strip). IsOrder v (in_region_of v (places_of (side_of v) zs))) (ap (λ (zs : List Strip). xs ++ zs) c.in-None.ensures.steps.0 ∙ append-nil xs) i.whole in
-    read-across v c.args.across.now (in_region_of v (places_of (side_of v) xs)) c.into_codewords.result.items b.0 b.1 (omega arith) (omega arith) c.requires.side o c.into_codewords.ensures.bytes b.2 (b.3 ∙ i.bits)
+    read-across v _ _ _ b.0 b.1 (omega arith) (omega arith) c.requires.side (subst (λ (zs : List Strip). IsOrder v (in_region_of v (places_of (side_of v) zs))) (ap (λ (zs : List Strip). xs ++ zs) c.in-None.ensures.steps.0 ∙ append-nil xs) i.whole) c.into_codewords.ensures.bytes b.2 (b.3 ∙ i.bits)
 
 pub returns-clause-many : goal.returns-clause-many
 returns-clause-many c =
@@ -52,5 +44,4 @@ returns-clause-many c =
     let xs = c.loop-strip.yielded in
     let i = c.loop-strip.invariant in
     let b = c.into_codewords.ensures.bits in
-    let o = subst (λ (zs : List Strip). IsOrder v (in_region_of v (places_of (side_of v) zs))) (ap (λ (zs : List Strip). xs ++ zs) c.in-None.ensures.steps.0 ∙ append-nil xs) i.whole in
-    all-read v (colour_across c.args.across.now) (in_region_of v (places_of (side_of v) xs)) c.into_codewords.result.items b.0 b.1 (omega arith) (omega arith) o b.2 (b.3 ∙ i.bits)
+    all-read v _ _ _ b.0 b.1 (omega arith) (omega arith) (subst (λ (zs : List Strip). IsOrder v (in_region_of v (places_of (side_of v) zs))) (ap (λ (zs : List Strip). xs ++ zs) c.in-None.ensures.steps.0 ∙ append-nil xs) i.whole) b.2 (b.3 ∙ i.bits)

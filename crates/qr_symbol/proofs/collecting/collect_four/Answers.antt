@@ -1,17 +1,14 @@
+use Rattle.{qr_bits.proofs.Facts.bool_byte-bit, qr_layout.specs.Version.side_of}
+use Rattle.qr_matrix.{proofs.Facts.{&&-left, &&-right}, specs.BitRow.{has, has_bit}}
+use Rattle.qr_symbol.proofs.lemmas.{collecting.SpreadLemmas.{four-read, joined-small}, placement.LightLemmas.four-set}
 use Rattle.std.proofs.Common.{◌≡◌, ◌+◌, ◌<◌, ℕ, ◌++◌, true, eqb, ◌&&◌, ap, sym, subst, ◌∙◌, arith}
 use Rattle.std.specs.Prelude.{OnOk}
-use Rattle.qr_bits.proofs.Facts.{bool_byte-bit}
-use Rattle.qr_layout.specs.Version.{side_of}
-use Rattle.qr_matrix.specs.BitRow.{has, has_bit}
-use Rattle.qr_matrix.proofs.Facts.{&&-left, &&-right}
-use Rattle.qr_symbol.proofs.lemmas.collecting.SpreadLemmas.{four-read, joined-small}
-use Rattle.qr_symbol.proofs.lemmas.placement.LightLemmas.{four-set}
 use Rattle.qr_symbol.proofs.collecting.collect_four.Goals as goal
 
 pub overflow_add-right : goal.overflow_add-right
 overflow_add-right c =
     let up : c.from.result < 2 = omega (arith, c.from.ensures, (bool_byte-bit c.args.strip.upward).0) in
-    omega (arith, joined-small c.from.result c.from-then-four-eq15.result c.from-then-four-eq15-2.result up (omega (arith, c.from-then-four-eq15.ensures, c.four-then-four-eq15.ensures.small)) (omega (arith, c.from-then-four-eq15-2.ensures, c.four-then-four-eq15-2.ensures.small)))
+    omega (arith, joined-small _ c.from-then-four-eq15.result c.from-then-four-eq15-2.result up (omega (arith, c.from-then-four-eq15.ensures, c.four-then-four-eq15.ensures.small)) (omega (arith, c.from-then-four-eq15-2.ensures, c.four-then-four-eq15-2.ensures.small)))
 
 pub returns-then-four-eq15 : goal.returns-then-four-eq15
 returns-then-four-eq15 c =
@@ -28,7 +25,4 @@ returns-then-four-eq15 c =
     let is-top = c.top_of-top.ensures.top in
     let both : (j : ℕ) → j < 4 → (has r.right (top + j) && has r.left (top + j)) ≡ true = λ j l.
     sym (c.requires.both (top + j)) ∙ (sym (c.four.ensures.bits j l) ∙ four-set c.four.result j c.if-four-eq15.true l) in
-    let bits = four-read s c.from.result x r y k top a.result b.result up (omega (arith, a.ensures, c.four-then-four-eq15.ensures.small)) (omega (arith, b.ensures, c.four-then-four-eq15-2.ensures.small)) direction c.requires.rows_in is-top
-    (λ j l. &&-left (has r.right (top + j)) (has r.left (top + j)) (both j l)) (λ j l. &&-right (has r.right (top + j)) (has r.left (top + j)) (both j l))
-    (λ j l. ap (λ z. has_bit z j) a.ensures ∙ c.four-then-four-eq15.ensures.bits j l) (λ j l. ap (λ z. has_bit z j) b.ensures ∙ c.four-then-four-eq15-2.ensures.bits j l) in
-    subst (λ z. OnOk c.push_byte.result (c.push_byte.new.self ≡ c.args.bits.now ++ z)) bits c.push_byte.ensures
+    subst (λ z. OnOk c.push_byte.result (c.push_byte.new.self ≡ c.args.bits.now ++ z)) (four-read s c.from.result x r y k top a.result b.result up (omega (arith, a.ensures, c.four-then-four-eq15.ensures.small)) (omega (arith, b.ensures, c.four-then-four-eq15-2.ensures.small)) direction c.requires.rows_in is-top (λ j l. &&-left (has r.right (top + j)) (has r.left (top + j)) (both j l)) (λ j l. &&-right (has r.right (top + j)) (has r.left (top + j)) (both j l)) (λ j l. ap (λ z. has_bit z j) a.ensures ∙ c.four-then-four-eq15.ensures.bits j l) (λ j l. ap (λ z. has_bit z j) b.ensures ∙ c.four-then-four-eq15-2.ensures.bits j l)) c.push_byte.ensures

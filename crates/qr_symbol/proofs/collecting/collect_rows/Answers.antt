@@ -5,12 +5,10 @@ use Rattle.qr_symbol.proofs.lemmas.collecting.CollectingLemmas.{none-read, row-r
 use Rattle.qr_symbol.proofs.collecting.collect_rows.Goals as goal
 
 pub loop-rank-init : goal.loop-rank-init
-loop-rank-init c =
-    let p = c.args.passed in
-    record {
-      from = omega arith;
-      bits = none-read (side_of c.args.v) c.args.strip c.args.region.now c.args.columns.now p (p - p) c.args.bits.now (omega arith);
-    }
+loop-rank-init c = record {
+  from = omega arith;
+  bits = none-read _ c.args.strip _ _ c.args.passed _ _ (omega arith);
+}
 
 pub loop-rank-preserved : goal.loop-rank-preserved
 loop-rank-preserved c =
@@ -19,16 +17,12 @@ loop-rank-preserved c =
     let i = c.loop-rank.invariant in
     let k = c.loop-rank.rank in
     let p = c.args.passed in
-    let row = c.row_at-row.result in
-    let side : c.side-last.result - 1 + 1 ≡ s = omega (arith, c.side-last.ensures.value) in
-    let r = rw side at c.row_at-row.ensures.row in
-    record {
+    let side : c.side-last.result - 1 + 1 ≡ s = omega (arith, c.side-last.ensures.value) in record {
       from = omega (arith, i.from);
       bits = rows-read s x c.args.region.now c.args.columns.now p (k - p) 1 k (k + 1 - p) c.args.bits.now c.loop-rank.bits c.collect_module-in-loop-rank.new.bits (omega (arith, i.from)) (omega (arith, i.from)) i.bits
-          (row-read s x c.args.region.now c.args.columns.now k row c.loop-rank.bits c.collect_module.new.bits c.collect_module-in-loop-rank.new.bits r c.in_ok-collect_module.ensures c.in_ok-collect_module-2.ensures);
+          (row-read s x c.args.region.now c.args.columns.now k c.row_at-row.result c.loop-rank.bits c.collect_module.new.bits c.collect_module-in-loop-rank.new.bits (rw side at c.row_at-row.ensures.row) c.in_ok-collect_module.ensures c.in_ok-collect_module-2.ensures);
     }
 
 pub returns : goal.returns
 returns c =
-    let e : c.loop-rank.rank - c.args.passed ≡ c.args.count = omega (arith, c.loop-rank-test.false, c.loop-rank.invariant.from) in
-    c.loop-rank.invariant.bits ∙ ap (λ z. c.args.bits.now ++ bits_in_rows (side_of c.args.v) c.args.strip c.args.region.now c.args.columns.now c.args.passed z) e
+    c.loop-rank.invariant.bits ∙ ap (λ z. c.args.bits.now ++ bits_in_rows (side_of c.args.v) c.args.strip c.args.region.now c.args.columns.now c.args.passed z) (omega (arith, c.loop-rank-test.false, c.loop-rank.invariant.from))

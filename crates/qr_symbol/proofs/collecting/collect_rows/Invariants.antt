@@ -1,6 +1,5 @@
+use Rattle.{qr_layout.specs.Version.side_of, qr_symbol.specs.Steps.Collecting.bits_in_rows}
 use Rattle.std.proofs.Common.{◌≡◌, ◌-◌, ◌≤◌, ◌++◌}
-use Rattle.qr_layout.specs.Version.{side_of}
-use Rattle.qr_symbol.specs.Steps.Collecting.{bits_in_rows}
 use Rattle.qr_symbol.proofs.collecting.collect_rows.Given as goal
 
 abbrev pub invariant-loop-rank : goal.invariant-loop-rank

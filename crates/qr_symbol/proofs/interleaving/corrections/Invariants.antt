@@ -1,5 +1,4 @@
-use Rattle.std.proofs.Common.{◌≡◌}
-use Rattle.qr_symbol.specs.{Interleaving.data_sizes, Steps.Interleaving.IsChecks}
+use Rattle.{qr_symbol.specs.{Interleaving.data_sizes, Steps.Interleaving.IsChecks}, std.proofs.Common.◌≡◌}
 use Rattle.qr_symbol.proofs.interleaving.corrections.Given as goal
 
 abbrev pub invariant-loop-block : goal.invariant-loop-block

@@ -1,19 +1,17 @@
-use Rattle.std.proofs.Common.{◌≡◌, ◌+◌, ◌∙◌, length, sym, ap, subst, arith}
-use Rattle.std.specs.Prelude.{IfOk}
-use Rattle.qr_layout.specs.{declared.blocks.Blocks.Blocks, Blocks.data_codewords_of}
-use Rattle.qr_symbol.specs.Interleaving.{codeword_count, data_sizes, correction_sizes, IsFinalMessage, IsInterleaved}
+use Rattle.qr_layout.specs.{Blocks.data_codewords_of, declared.blocks.Blocks.Blocks}
 use Rattle.qr_symbol.proofs.lemmas.fault.ExactLemmas.{check-exactly, ok-both}
 use Rattle.qr_symbol.proofs.lemmas.interleaving.MessageLemmas.{data-sizes-whole, sizes-whole, ok-also}
+use Rattle.qr_symbol.specs.Interleaving.{codeword_count, data_sizes, correction_sizes, IsFinalMessage, IsInterleaved}
+use Rattle.std.{proofs.Common.{◌≡◌, ◌+◌, ◌∙◌, length, sym, ap, subst, arith}, specs.Prelude.IfOk}
 use Rattle.qr_symbol.proofs.interleaving.deinterleave.Goals as goal
 
 pub deinterleave_blocks-requires-clause-whole : goal.deinterleave_blocks-requires-clause-whole
 deinterleave_blocks-requires-clause-whole c =
-    c.requires.whole ∙ (sym (sizes-whole c.args.version c.args.level (omega arith) (omega arith)) ∙ ap (λ (b : Blocks). codeword_count (data_sizes b) + codeword_count (correction_sizes b)) (sym c.blocks-2.ensures))
+    c.requires.whole ∙ (sym (sizes-whole _ _ (omega arith) (omega arith)) ∙ ap (λ (b : Blocks). codeword_count (data_sizes b) + codeword_count (correction_sizes b)) (sym c.blocks-2.ensures))
 
 pub returns-clause-many : goal.returns-clause-many
 returns-clause-many c =
-    let whole = ap (λ (b : Blocks). codeword_count (data_sizes b)) c.blocks-2.ensures ∙ data-sizes-whole c.args.version c.args.level (omega arith) (omega arith) in
-    ok-also (λ d. length d.items ≡ codeword_count (data_sizes c.blocks-2.result)) (λ d. length d.items ≡ data_codewords_of c.args.version c.args.level) c.deinterleave_blocks.result c.deinterleave_blocks.ensures.len (λ d e. e ∙ whole)
+    ok-also (λ d. length d.items ≡ codeword_count _) (λ d. length d.items ≡ data_codewords_of c.args.version c.args.level) _ c.deinterleave_blocks.ensures.len (λ d e. e ∙ (ap (λ (b : Blocks). codeword_count (data_sizes b)) c.blocks-2.ensures ∙ data-sizes-whole _ _ (omega arith) (omega arith)))
 
 pub returns-clause-read : goal.returns-clause-read
 returns-clause-read c =
@@ -21,8 +19,6 @@ returns-clause-read c =
 
 pub returns-clause-check : goal.returns-clause-check
 returns-clause-check c =
-    let whole = ap (λ (b : Blocks). codeword_count (data_sizes b)) c.blocks-2.ensures ∙ data-sizes-whole c.args.version c.args.level (omega arith) (omega arith) in
-    check-exactly (λ d. (length d ≡ data_codewords_of c.args.version c.args.level) × IsInterleaved c.args.version c.args.level d c.args.codewords.now) c.deinterleave_blocks.result
-    (λ e d h. c.deinterleave_blocks.ensures.check e d (h.0 ∙ sym whole) (subst (λ (b : Blocks). IsFinalMessage b d c.args.codewords.now) (sym c.blocks-2.ensures) h.1))
-    (ok-both _ _ c.deinterleave_blocks.result (returns-clause-many c) (returns-clause-read c))
-    c.deinterleave_blocks.ensures.fault
+    check-exactly (λ d. (length d ≡ data_codewords_of c.args.version c.args.level) × IsInterleaved _ _ d _) _
+    (λ e d h. c.deinterleave_blocks.ensures.check e d (h.0 ∙ sym (ap (λ (b : Blocks). codeword_count (data_sizes b)) c.blocks-2.ensures ∙ data-sizes-whole _ _ (omega arith) (omega arith))) (subst (λ (b : Blocks). IsFinalMessage b d c.args.codewords.now) (sym c.blocks-2.ensures) h.1))
+    (ok-both _ _ _ (returns-clause-many c) (returns-clause-read c)) c.deinterleave_blocks.ensures.fault

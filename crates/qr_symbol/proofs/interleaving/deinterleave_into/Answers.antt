@@ -7,43 +7,33 @@ use Rattle.qr_symbol.proofs.interleaving.deinterleave_into.Goals.{then-place-len
 
 pub bounds-codewords-next : goal.bounds-codewords-next
 bounds-codewords-next c =
-    let b = c.loop-block.invariant.blocks in
-    let v = c.len.ensures.value in
-    let r = c.loop-block.invariant.so_far.rank in
-    let t : IsPosition c.args.sizes (position c.loop-place.place c.loop-block.block) = (omega arith, omega arith) in
-    let k = rank-in c.args.sizes c.loop-place.place c.loop-block.block t in
-    omega arith
+    let k = rank-in c.args.sizes c.loop-place.place c.loop-block.block (omega arith, omega arith) in omega arith
 
 pub loop-block-preserved : goal.loop-block-preserved
 loop-block-preserved c =
-    let b = c.loop-block.invariant.blocks in
-    let v = c.len.ensures.value in
     let sizes = c.args.sizes in
     let interleaved = c.args.codewords.now in
     let p = c.loop-place.place in
     let i = c.loop-block.block in
-    let xs = c.loop-block.message.items in
-    record {
-      blocks = b;
+    let xs = c.loop-block.message.items in record {
+      blocks = c.loop-block.invariant.blocks;
       so_far = elim c.if-place-len.branch [
         | then-place-len w ↦
             let t : IsPosition sizes (position p i) = (omega arith, omega arith) in
             subst (λ (n : ℕ). GatheredBefore sizes interleaved p (i + 1) c.if-place-len.message.items n) (sym w.next-is)
-            (gather-push sizes interleaved xs c.if-place-len.message.items p i c.loop-block.next (w.start.result + p) c.requires.interleaved c.loop-block.invariant.so_far t (ap (λ (z : ℕ). z + p) w.start.ensures) (ap (λ (s : Vec ℕ Global). s.items) w.message-is))
+            (gather-push _ _ xs _ p i _ _ c.requires.interleaved c.loop-block.invariant.so_far t (ap (λ (z : ℕ). z + p) w.start.ensures) (ap (λ (s : Vec ℕ Global). s.items) w.message-is))
         | else-place-len w ↦
             subst (λ (n : ℕ). GatheredBefore sizes interleaved p (i + 1) c.if-place-len.message.items n) (sym w.next-is)
             (subst (λ (s : Vec ℕ Global). GatheredBefore sizes interleaved p (i + 1) s.items c.loop-block.next) (sym w.message-is)
-            (gather-pass sizes interleaved xs p i c.loop-block.next (omega arith) (omega arith) c.loop-block.invariant.so_far (λ t. let l = t.1 in absurd (omega arith))))
+            (gather-pass _ _ xs p i _ (omega arith) (omega arith) c.loop-block.invariant.so_far (λ t. absurd (omega arith))))
       ];
     }
 
 pub loop-place-preserved : goal.loop-place-preserved
-loop-place-preserved c =
-    let b = c.loop-block.invariant.blocks in
-    record {
-      blocks = b;
-      so_far = gather-row c.args.sizes c.args.codewords.now c.loop-block.message.items c.loop-place.place c.loop-block.block c.loop-block.next (omega arith) (omega arith) c.loop-block.invariant.so_far;
-    }
+loop-place-preserved c = record {
+  blocks = c.loop-block.invariant.blocks;
+  so_far = gather-row _ _ _ _ _ _ (omega arith) (omega arith) c.loop-block.invariant.so_far;
+}
 
 pub returns : goal.returns
-returns c = gather-end c.args.sizes c.args.codewords.now c.loop-place.message.items c.loop-place.place c.loop-place.next c.requires.interleaved (omega arith) c.loop-place.invariant.so_far
+returns c = gather-end _ _ _ _ _ c.requires.interleaved (omega arith) c.loop-place.invariant.so_far

@@ -1,6 +1,5 @@
 use Rattle.std.proofs.Common.{◌≡◌}
-use Rattle.qr_symbol.specs.Interleaving.{block_count}
-use Rattle.qr_symbol.proofs.lemmas.interleaving.GatherLemmas.{GatheredBefore}
+use Rattle.qr_symbol.{proofs.lemmas.interleaving.GatherLemmas.GatheredBefore, specs.Interleaving.block_count}
 use Rattle.qr_symbol.proofs.interleaving.deinterleave_into.Given as goal
 
 abbrev pub invariant-loop-block : goal.invariant-loop-block

@@ -1,12 +1,15 @@
-use Rattle.std.proofs.Common.{◌≡◌, length, arith}
-use Rattle.qr_layout.specs.{Version.total_codewords_of, Blocks.blocks_of}
-use Rattle.qr_symbol.specs.Interleaving.{IsFinalMessage}
-use Rattle.qr_symbol.proofs.lemmas.interleaving.MessageLemmas.{final-whole, ok-also}
+use Rattle.std.proofs.{Common.arith, lemmas.Result.IfOk-weaker}
+use Rattle.qr_layout.proofs.Facts.{blocks-sound}
+use Rattle.qr_symbol.proofs.lemmas.interleaving.MessageLemmas.{data-sizes-whole, final-whole}
 use Rattle.qr_symbol.proofs.interleaving.interleave.Goals as goal
 
-pub returns-clause-many : goal.returns-clause-many
-returns-clause-many c =
-    ok-also (λ cw. IsFinalMessage (blocks_of c.args.version c.args.level) c.args.message.now cw.items)
-    (λ cw. length cw.items ≡ total_codewords_of c.args.version) c.interleave_blocks.result
-    (rw c.blocks-2.ensures at c.interleave_blocks.ensures)
-    (λ cw h. final-whole c.args.version c.args.level c.args.message.now cw.items (omega arith) (omega arith) h)
+pub interleave_blocks-requires : goal.interleave_blocks-requires
+interleave_blocks-requires c =
+    let w = blocks-sound c.args.level c.args.version (omega arith) (omega arith) in
+    rw c.blocks-2.ensures (record { whole = cc (data-sizes-whole c.args.version c.args.level (omega arith) (omega arith), c.requires.whole); least = w.correction_least; most = w.correction_most })
+
+pub returns : goal.returns
+returns c = let interleaved = rw c.blocks-2.ensures at c.interleave_blocks.ensures in record {
+  interleaved = interleaved;
+  many = IfOk-weaker c.interleave_blocks.result _ _ (λ cw h. final-whole c.args.version c.args.level _ cw.items (omega arith) (omega arith) h) interleaved;
+}

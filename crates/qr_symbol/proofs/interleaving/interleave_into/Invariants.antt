@@ -1,6 +1,5 @@
-use Rattle.std.proofs.Common.{◌≡◌, ◌+◌}
-use Rattle.qr_symbol.specs.Interleaving.{block_count, start_of}
 use Rattle.qr_symbol.proofs.lemmas.interleaving.PositionLemmas.{InterleavedBefore}
+use Rattle.{qr_symbol.specs.Interleaving.{block_count, start_of}, std.proofs.Common.{◌≡◌, ◌+◌}}
 use Rattle.qr_symbol.proofs.interleaving.interleave_into.Given as goal
 
 abbrev pub invariant-loop-block : goal.invariant-loop-block

@@ -1,5 +1,4 @@
-use Rattle.std.proofs.Common.{drop}
-use Rattle.qr_symbol.specs.Joining.{HaveHeaders}
+use Rattle.{qr_symbol.specs.Joining.HaveHeaders, std.proofs.Common.drop}
 use Rattle.qr_symbol.proofs.joining.are_in_series.Given as goal
 
 abbrev pub invariant-loop-position : goal.invariant-loop-position

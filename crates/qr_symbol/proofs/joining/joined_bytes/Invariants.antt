@@ -1,5 +1,4 @@
-use Rattle.std.proofs.Common.{◌≡◌, take}
-use Rattle.qr_symbol.specs.Joining.{bytes_of_all}
+use Rattle.{qr_symbol.specs.Joining.bytes_of_all, std.proofs.Common.{◌≡◌, take}}
 use Rattle.qr_symbol.proofs.joining.joined_bytes.Given as goal
 
 abbrev pub invariant-loop-content : goal.invariant-loop-content

@@ -1,5 +1,4 @@
-use Rattle.std.proofs.Common.{take}
-use Rattle.qr_symbol.specs.{Series.squares_of, Reading.IsReading, Joining.AreReadBy}
+use Rattle.{qr_symbol.specs.{Joining.AreReadBy, Reading.IsReading, Series.squares_of}, std.proofs.Common.take}
 use Rattle.qr_symbol.proofs.joining.read_all.Given as goal
 
 abbrev pub invariant-loop-symbol : goal.invariant-loop-symbol

@@ -1,11 +1,9 @@
-use Rattle.qr_symbol.specs.Reading.{IsReading, IsUnread}
 use Rattle.qr_symbol.proofs.lemmas.joining.JoiningLemmas.{joined-refused, unjoined-one}
-use Rattle.qr_symbol.proofs.lemmas.reading.RefusalLemmas.{read-refused, refused-one}
-use Rattle.qr_symbol.proofs.lemmas.reading.RoundTripLemmas.{reading-one}
+use Rattle.qr_symbol.proofs.lemmas.reading.{RefusalLemmas.{read-refused, refused-one}, RoundTripLemmas.reading-one}
 use Rattle.qr_symbol.proofs.laws.joining_refusals_are_one.Goals as goal
 
 pub returns : goal.returns
 returns c = record {
-  joined = joined-refused IsReading IsUnread reading-one read-refused;
-  one = unjoined-one IsReading IsUnread read-refused refused-one;
+  joined = joined-refused _ _ reading-one read-refused;
+  one = unjoined-one _ _ read-refused refused-one;
 }

@@ -1,13 +1,11 @@
-use Rattle.qr_symbol.specs.Joining.{IsJoined, IsUnjoined}
-use Rattle.qr_symbol.specs.{Reading.IsReading, Reading.IsUnread, Series.squares_of}
 use Rattle.qr_symbol.proofs.lemmas.joining.JoiningLemmas.{joined-refused, unjoined-one}
 use Rattle.qr_symbol.proofs.lemmas.reading.RefusalLemmas.{exactly, read-refused, refused-one}
 use Rattle.qr_symbol.proofs.lemmas.reading.RoundTripLemmas.{reading-one}
+use Rattle.qr_symbol.specs.{Joining.IsJoined, Reading.IsReading, Reading.IsUnread, Series.squares_of}
 use Rattle.qr_symbol.proofs.laws.joinings_are_refused_exactly.Goals as goal
 
 pub returns : goal.returns
 returns c =
-    let gs = squares_of c.args.symbols.now in
-    exactly (λ bytes. IsJoined gs bytes.items) (IsUnjoined gs) c.read_series.result c.read_series.ensures
-    (λ bytes e. joined-refused IsReading IsUnread reading-one read-refused gs bytes.items e)
-    (unjoined-one IsReading IsUnread read-refused refused-one gs)
+    let gs = squares_of c.args.symbols.now in exactly (λ bytes. IsJoined gs bytes.items) _ _ c.read_series.ensures
+    (λ bytes e. joined-refused IsReading IsUnread reading-one read-refused gs _ e)
+    (unjoined-one _ _ read-refused refused-one gs)

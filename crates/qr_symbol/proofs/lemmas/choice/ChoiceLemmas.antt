@@ -1,62 +1,37 @@
 -- The mask of the least penalty, found by comparing one mask after another.
-use Rattle.std.proofs.Common.{◌≡◌, ℕ, ◌+◌, ◌<◌, ◌≤◌, ◌∙◌, inl, inr, List, ap, subst, arith}
-use Rattle.std.proofs.lemmas.Bool.{cases_lt}
-use Rattle.qr_layout.specs.{declared.level.Level.Level, Version.side_of}
-use Rattle.qr_matrix.specs.{Grid.Grid, Grid.colour, Penalty.penalty_of}
-use Rattle.qr_symbol.specs.Choice.{IsFirstLeast, IsMask, mask_penalty}
-use Rattle.qr_symbol.specs.{declared.canvas.Canvas.Canvas, Symbol.grid_of}
+use Rattle.{qr_layout.specs.declared.level.Level.Level, qr_matrix.specs.Grid.Grid}
+use Rattle.qr_symbol.{proofs.lemmas.placement.PlacementLemmas.masked-all, specs.Choice.{IsFirstLeast, IsMask}}
 use Rattle.qr_symbol.specs.Steps.Placement.{masked_grid, masked_penalty, region_grid, plain_grid}
-use Rattle.qr_symbol.proofs.lemmas.placement.PlacementLemmas.{masked-all}
+use Rattle.qr_symbol.specs.{Symbol.grid_of, declared.canvas.Canvas.Canvas}
+use Rattle.std.proofs.Common.{◌≡◌, ℕ, ◌+◌, ◌<◌, ◌≤◌, ◌∙◌, List, ap, subst, arith}
 
 -- of the numbers below 1, the one with the least value is 0
 pub least-start : (f : ℕ → ℕ) → IsFirstLeast 1 f 0
-least-start f = record { in_range = omega arith; least = λ k l. let e : 0 ≡ k = omega arith in inr (ap f e, omega arith) }
+least-start f = search arith
 
 -- if n has a smaller value than all numbers below n, it is the one with the least value of those up to n
 pub least-better : (n : ℕ) (f : ℕ → ℕ) (m : ℕ) → IsFirstLeast n f m → f n < f m → IsFirstLeast (n + 1) f n
-least-better n f m h b = record {
-  in_range = omega arith;
-  least = λ k l. elim (cases_lt k n) [
-    | inl i ↦ elim (h.least k i) [ inl j ↦ inl (omega arith) | inr w ↦ inl (let e = w.0 in omega arith) ]
-    | inr i ↦ let e : n ≡ k = omega arith in inr (ap f e, omega arith)
-  ];
-}
+least-better n f m h b = search arith
 
 -- if n has no smaller value, the number with the least value stays
 pub least-kept : (n : ℕ) (f : ℕ → ℕ) (m : ℕ) → IsFirstLeast n f m → f m ≤ f n → IsFirstLeast (n + 1) f m
-least-kept n f m h b = let r = h.in_range in record {
-  in_range = omega arith;
-  least = λ k l. elim (cases_lt k n) [
-    | inl i ↦ h.least k i
-    | inr i ↦
-        let e : k ≡ n = omega arith in
-        let g = ap f e in
-        elim (cases_lt (f m) (f n)) [ inl j ↦ inl (omega arith) | inr j ↦ inr (omega arith, omega arith) ]
-  ];
-}
+least-kept n f m h b = search arith
 
 -- functions with equal values have the same number of the least value
 least-same : (n : ℕ) (f g : ℕ → ℕ) (m : ℕ) → ((k : ℕ) → f k ≡ g k) → IsFirstLeast n f m → IsFirstLeast n g m
-least-same n f g m e h = record {
-  in_range = h.in_range;
-  least = λ k l. let a = e m in let b = e k in elim (h.least k l) [ inl i ↦ inl (omega arith) | inr w ↦ (let c = w.0 in inr (omega arith, w.1)) ];
-}
+least-same n f g m e h = search arith
 
 -- the least penalty of the drawn symbols is that of the symbols of the codewords
 pub mask-is : (v : ℕ) (l : Level) (cw : List ℕ) (region plain : Grid) (mask : ℕ) → 1 ≤ v → region ≡ region_grid v → plain ≡ plain_grid v cw → IsFirstLeast 8 (masked_penalty v l region plain) mask → IsMask v l cw mask
-mask-is v l cw region plain mask k e f h =
-    least-same 8 (masked_penalty v l region plain) (mask_penalty v l cw) mask (λ m. ap (λ (g : Grid). penalty_of (side_of v) (colour g)) (masked-all v l m cw region plain k e f)) h
+mask-is v l cw region plain mask k e f h = least-same 8 _ _ _ (search (arith, masked-all)) h
 
 -- the mask that is best for a canvas is the mask of its codewords
 pub canvas-mask : (v : ℕ) (l : Level) (cw : List ℕ) (k : Canvas) (mask : ℕ) → 1 ≤ v → k.version ≡ v → k.level ≡ l → k.plain ≡ plain_grid v cw
     → IsFirstLeast 8 (masked_penalty k.version k.level k.region k.plain) mask → IsMask v l cw mask
 canvas-mask v l cw k mask least a b e h =
-    let g = subst (λ (w : ℕ). IsFirstLeast 8 (masked_penalty w k.level k.region k.plain) mask) a h in
-    mask-is v l cw k.region k.plain mask least (k.region_is ∙ ap region_grid a) e (subst (λ (w : Level). IsFirstLeast 8 (masked_penalty v w k.region k.plain) mask) b g)
+    mask-is v l cw _ _ _ least (k.region_is ∙ ap region_grid a) e (subst (λ (w : Level). IsFirstLeast 8 (masked_penalty v w k.region k.plain) mask) b (subst (λ (w : ℕ). IsFirstLeast 8 (masked_penalty w k.level k.region k.plain) mask) a h))
 
 -- what a canvas draws with a mask is the symbol of its codewords
 pub canvas-drawn : (v : ℕ) (l : Level) (cw : List ℕ) (k : Canvas) (mask : ℕ) → 1 ≤ v → k.version ≡ v → k.level ≡ l → k.plain ≡ plain_grid v cw
     → masked_grid k.version k.level mask k.region k.plain ≡ grid_of v l mask cw
-canvas-drawn v l cw k mask least a b e =
-    ap (λ (w : ℕ). masked_grid w k.level mask k.region k.plain) a
-    ∙ (ap (λ (w : Level). masked_grid v w mask k.region k.plain) b ∙ masked-all v l mask cw k.region k.plain least (k.region_is ∙ ap region_grid a) e)
+canvas-drawn v l cw k mask least a b e = search (arith, masked-all)

@@ -1,20 +1,18 @@
 -- The bits of a strip, row by row, are those of the strip's places in the encoding region, in their order.
+use Rattle.qr_layout.specs.{Order.in_region_of, Region.is_in_region, Strips.{both_of, rows_from, places_of}}
+use Rattle.qr_layout.specs.declared.{region.Module.Module, strips.Strip.Strip}
+use Rattle.qr_matrix.specs.{BitRow.has, Grid.{Grid, colour}}
+use Rattle.qr_symbol.proofs.lemmas.placement.{KeptPlaceLemmas.{kept-append, places-push}, PlacementLemmas.at}
+use Rattle.qr_symbol.specs.Steps.{Collecting.{bit_if, bits_in_rows, colour_across}, Placement.row_of}
+use Rattle.qr_symbol.specs.declared.placement.Columns.{Columns}
 use Rattle.std.proofs.Common.{◌≡◌, ℕ, zero, suc, ◌+◌, ◌-◌, ◌<◌, ◌≤◌, Bool, true, false, cond, List, [], ◌∷◌, ◌++◌, map, refl, append_assoc, append-nil, arith}
 use Rattle.std.proofs.lemmas.List.{map-append}
-use Rattle.qr_layout.specs.declared.{region.Module.Module, strips.Strip.Strip}
-use Rattle.qr_layout.specs.{Order.in_region_of, Region.is_in_region, Strips.both_of, Strips.rows_from, Strips.places_of}
-use Rattle.qr_matrix.specs.{BitRow.has, Grid.Grid, Grid.colour}
-use Rattle.qr_symbol.specs.{declared.placement.Columns.Columns, Steps.Placement.row_of}
-use Rattle.qr_symbol.specs.Steps.Collecting.{bit_if, bits_in_rows, colour_across}
-use Rattle.qr_symbol.proofs.lemmas.placement.PlacementLemmas.{at}
-use Rattle.qr_symbol.proofs.lemmas.placement.KeptPlaceLemmas.{kept-append, places-push}
 
 -- the bits of n + m rows are those of the first n rows, followed by those of m more
 rows-append : (s : ℕ) (x : Strip) (r y : Columns) (k n m : ℕ) → bits_in_rows s x r y k (n + m) ≡ bits_in_rows s x r y k n ++ bits_in_rows s x r y (k + n) m
 rows-append s x r y k zero m = search arith
 rows-append s x r y k (suc n) m =
-    let e : suc n + m ≡ suc (n + m) = omega arith in
-    search (arith, append_assoc, rows-append s x r y (k + 1) n m)
+    let e : suc n + m ≡ suc (n + m) = omega arith in search (arith, append_assoc, rows-append s x r y (k + 1) n m)
 
 -- after n rows, m more rows are read
 pub rows-read : (s : ℕ) (x : Strip) (r y : Columns) (k n m h j : ℕ) (a b c : List Bool) → h ≡ k + n → j ≡ n + m → b ≡ a ++ bits_in_rows s x r y k n → c ≡ b ++ bits_in_rows s x r y h m → c ≡ a ++ bits_in_rows s x r y k j
@@ -35,17 +33,14 @@ kept-bit true f m ms = refl
 kept-bit false f m ms = refl
 
 -- the bits of the rows of a strip are those of its places in the encoding region
-pub strip-bits : (v s : ℕ) (g : Grid) (x : Strip) (r y : Columns) (k n : ℕ) → k + n ≤ s
-    → ((row : ℕ) → row < s → has r.right row ≡ is_in_region v row x.right) → ((row : ℕ) → row < s → has r.left row ≡ is_in_region v row (x.right - 1))
-    → ((row : ℕ) → has y.right row ≡ colour g x.right row) → ((row : ℕ) → has y.left row ≡ colour g (x.right - 1) row)
+pub strip-bits : (v s : ℕ) (g : Grid) (x : Strip) (r y : Columns) (k n : ℕ) → k + n ≤ s → ((row : ℕ)
+    → row < s → has r.right row ≡ is_in_region v row x.right) → ((row : ℕ) → row < s
+    → has r.left row ≡ is_in_region v row (x.right - 1)) → ((row : ℕ)
+    → has y.right row ≡ colour g x.right row) → ((row : ℕ) → has y.left row ≡ colour g (x.right - 1) row)
     → bits_in_rows s x r y k n ≡ map (colour_across g) (in_region_of v (both_of (rows_from s x k n)))
 strip-bits v s g x r y k zero l a b c d = refl
 strip-bits v s g x r y k (suc n) l a b c d =
     search (arith, at, append_assoc, kept-bit, strip-bits v s g x r y (k + 1) n (omega arith) a b c d)
-  where
-    row-in : (up : Bool) → k < s → cond up (s - 1 - k) k < s
-    row-in true m = omega arith
-    row-in false m = m
 
 -- the bits of one strip more
 pub strip-read : (v s : ℕ) (f : Module → Bool) (xs : List Strip) (x : Strip) (a b : List Bool) → a ≡ map f (in_region_of v (places_of s xs)) → b ≡ a ++ map f (in_region_of v (both_of (rows_from s x 0 s)))

@@ -1,23 +1,22 @@
 -- A symbol that is built from the codewords of an input is the symbol of this input.
+use Rattle.qr_bits.{proofs.Facts.{capacity_least, length-stream, least_fits}, specs.Header.header_bits}
+use Rattle.qr_bits.specs.{Padding.{IsData, capacity_of, room_of}, Segmentation.{bits, HasFit, IsLeastSegmentation}}
+use Rattle.qr_bits.specs.declared.{header.Header.Header, modes.Rule.Rule, segment.Segment.Segment}
+use Rattle.{qr_layout.specs.declared.level.Level.Level, qr_matrix.specs.Grid.Grid}
+use Rattle.qr_symbol.{proofs.lemmas.reading.RoundTripLemmas.symbol-read, specs.Choice.IsMask}
+use Rattle.qr_symbol.specs.{Encoding.{IsSymbolAt, IsSymbol}, Interleaving.IsInterleaved, Reading.IsReadBack}
+use Rattle.qr_symbol.specs.{Series.IsSymbolOf, Symbol.grid_of, VersionChoice.{FitsVersion, IsVersion}}
+use Rattle.qr_symbol.specs.declared.{fault.EncodeFault.EncodeFault, symbol.Symbol.Symbol}
 use Rattle.std.proofs.Common.{◌≡◌, ℕ, ◌+◌, ◌<◌, ◌≤◌, ◌⊎◌, List, Option, None, Some, Result, Ok, Err, subst, sym, arith}
 use Rattle.std.specs.Prelude.{IfOk, IfErr}
-use Rattle.qr_layout.specs.declared.level.Level.{Level}
-use Rattle.qr_bits.specs.declared.{modes.Rule.Rule, segment.Segment.Segment, header.Header.Header}
-use Rattle.qr_bits.specs.Segmentation.{bits, HasFit, IsLeastSegmentation}
-use Rattle.qr_bits.specs.{Padding.IsData, Padding.capacity_of, Padding.room_of, Header.header_bits}
-use Rattle.qr_bits.proofs.Facts.{capacity_least, length-stream, least_fits}
-use Rattle.qr_symbol.specs.declared.fault.EncodeFault.{EncodeFault}
 use Rattle.qr_symbol.specs.declared.fault.EncodeFault.TheVariants as fault
-use Rattle.qr_symbol.specs.{declared.symbol.Symbol.Symbol, Symbol.grid_of, Choice.IsMask}
-use Rattle.qr_symbol.specs.{Interleaving.IsInterleaved, Reading.IsReadBack, Encoding.IsSymbolAt, Encoding.IsSymbol}
-use Rattle.qr_symbol.specs.{VersionChoice.FitsVersion, VersionChoice.IsVersion, Series.IsSymbolOf}
-use Rattle.qr_matrix.specs.Grid.{Grid}
-use Rattle.qr_symbol.proofs.lemmas.reading.RoundTripLemmas.{symbol-read}
 
 -- a symbol that is built from the codewords of bytes is the symbol of these bytes
-pub symbol-built : (v : ℕ) (l : Level) (b : Rule) (x : List ℕ) (h : Option Header) (segs : List Segment) (message passed codewords given : List ℕ) (r : Result Symbol EncodeFault)
-    → IsLeastSegmentation v b x segs → IsData v l x segs h message → passed ≡ message → IsInterleaved v l passed codewords → given ≡ codewords
-    → IfOk r (λ s. s.version ≡ v) → IfOk r (λ s. s.level ≡ l) → IfOk r (λ s. IsMask v l given s.mask) → IfOk r (λ s. s.matrix ≡ grid_of v l s.mask given) → IfOk r (λ s. IsSymbolOf v l b x h s)
+pub symbol-built : (v : ℕ) (l : Level) (b : Rule) (x : List ℕ) (h : Option Header) (segs : List Segment) (message
+    passed codewords given : List ℕ) (r : Result Symbol EncodeFault) → IsLeastSegmentation v b x segs → IsData v l
+    x segs h message → passed ≡ message → IsInterleaved v l passed codewords → given ≡ codewords → IfOk r
+    (λ s. s.version ≡ v) → IfOk r (λ s. s.level ≡ l) → IfOk r (λ s. IsMask v l given s.mask) → IfOk r (λ
+    s. s.matrix ≡ grid_of v l s.mask given) → IfOk r (λ s. IsSymbolOf v l b x h s)
 symbol-built v l b x h segs message passed codewords given (Ok s) chosen written c interleaved e version level best drawn = search arith
 symbol-built v l b x h segs message passed codewords given (Err f) chosen written c interleaved e version level best drawn = tt
 
@@ -28,8 +27,8 @@ symbol-found v l smallest b x (Ok s) fits made = search arith
 symbol-found v l smallest b x (Err f) fits made = tt
 
 -- this symbol is read as the input
-pub symbol-back : (v : ℕ) (l : Level) (b : Rule) (x : List ℕ) (r : Result Symbol EncodeFault)
-    → 1 ≤ v → v ≤ 40 → IfOk r (λ s. IsSymbolOf v l b x None s) → IfOk r (λ s. IsReadBack s.version b x s.matrix)
+pub symbol-back : (v : ℕ) (l : Level) (b : Rule) (x : List ℕ) (r : Result Symbol EncodeFault) → 1 ≤ v
+    → v ≤ 40 → IfOk r (λ s. IsSymbolOf v l b x None s) → IfOk r (λ s. IsReadBack s.version b x s.matrix)
 symbol-back v l b x (Ok s) p q made =
     subst (λ (w : ℕ). IsReadBack w b x s.matrix) (sym made.version) (search (arith, symbol-read))
 symbol-back v l b x (Err f) p q made = tt

@@ -1,16 +1,12 @@
 -- A call is refused for a fault exactly if the fault is there, unless memory is refused.
+use Rattle.qr_bits.{proofs.Facts.empty_fits, specs.{Padding.capacity_of, declared.modes.Rule.Rule}}
+use Rattle.{qr_layout.specs.declared.level.Level.Level, qr_symbol.specs.Encoding.IsSymbol}
+use Rattle.qr_symbol.specs.{Series.{IsSeries, HasNoSeries}, VersionChoice.{FitsVersion, HasNoVersion}}
+use Rattle.qr_symbol.specs.declared.{fault.{EncodeFault.EncodeFault, ReadFault.ReadFault}, symbol.Symbol.Symbol}
 use Rattle.std.proofs.Common.{◌≡◌, ◌≢◌, ◌≤◌, ◌↔◌, ◌⊎◌, inl, inr, ℕ, List, [], Result, Ok, Err, Vec, Global, sym, ap, subst, arith}
-use Rattle.std.proofs.lemmas.Result.{IfErr-at_err}
-use Rattle.std.specs.Prelude.{IfOk, IfErr}
-use Rattle.qr_layout.specs.declared.level.Level.{Level}
-use Rattle.qr_bits.specs.{declared.modes.Rule.Rule, Padding.capacity_of}
-use Rattle.qr_symbol.specs.declared.fault.EncodeFault.{EncodeFault}
+use Rattle.std.{proofs.lemmas.Result.IfErr-at_err, specs.Prelude.{IfOk, IfErr}}
 use Rattle.qr_symbol.specs.declared.fault.EncodeFault.TheVariants as fault
-use Rattle.qr_symbol.specs.declared.fault.ReadFault.{ReadFault}
 use Rattle.qr_symbol.specs.declared.fault.ReadFault.TheVariants as unread
-use Rattle.qr_symbol.specs.{declared.symbol.Symbol.Symbol, Encoding.IsSymbol}
-use Rattle.qr_symbol.specs.{VersionChoice.FitsVersion, VersionChoice.HasNoVersion, Series.IsSeries, Series.HasNoSeries}
-use Rattle.qr_bits.proofs.Facts.{empty_fits}
 
 -- the result is the fault e exactly if it is not lack of memory and the fact holds
 abbrev pub Refused : {X E : Type 0} → Result X E → (e memory : E) → Type 0 → Type 0
@@ -22,20 +18,20 @@ err-same r e f h k = cc
 
 -- what makes it, if with the fact no value is returned, and no other fault than e and lack of memory
 exactly : {X E : Type 0} (r : Result X E) (e memory : E) (P : Type 0) → (e ≡ memory → ⊥) → (r ≡ Err e → P)
-    → IfOk r (λ _. P → ⊥)
-    → IfErr r (λ g. (P → g ≡ e) ⊎ (g ≡ memory)) → Refused r e memory P
-exactly {X = X} {E = E} r e memory P other f none told = (λ h. (λ m. other (err-same r e memory h m), f h), λ w. back r none told w.0 w.1)
+    → IfOk r (λ _. P → ⊥) → IfErr r (λ g. (P → g ≡ e) ⊎ (g ≡ memory)) → Refused r e memory P
+exactly {X = X} {E = E} r e memory P other f none told = (λ h. (λ m. other (err-same r e _ h m), f h), λ w. back r none told w.0 w.1)
   where
     back : (r : Result X E) → IfOk r (λ _. P → ⊥) → IfErr r (λ g. (P → g ≡ e) ⊎ (g ≡ memory)) → r ≢ Err memory → P
         → r ≡ Err e
-    back (Ok x) none told m p = absurd (none p)
-    back (Err g) none (inl h) m p = ap (λ f. Err f) (h p)
-    back (Err g) none (inr h) m p = absurd (m (ap (λ f. Err f) h))
+    back (Ok x) none _ m p = absurd (none p)
+    back _ _ (inl h) m p = ap (λ f. Err f) (h p)
+    back _ _ (inr h) m p = absurd (m (ap (λ f. Err f) h))
 
 -- `TooLong` is returned exactly if the input fits no version, unless memory was refused
-pub too-long-exactly : (x : List ℕ) (l : Level) (smallest : ℕ) (b : Rule) (r : Result Symbol EncodeFault) → smallest ≤ 40
-    → (r ≡ Err fault.TooLong → HasNoVersion smallest l b x) → IfOk r (λ s. IsSymbol smallest l b x s.version s.mask s.matrix)
-    → (r ≡ Err fault.Empty → x ≡ []) → IfErr r (λ e. (e ≡ fault.Empty) ⊎ (e ≡ fault.TooLong) ⊎ (e ≡ fault.Memory))
+pub too-long-exactly : (x : List ℕ) (l : Level) (smallest : ℕ) (b : Rule) (r : Result Symbol EncodeFault)
+    → smallest ≤ 40 → (r ≡ Err fault.TooLong → HasNoVersion smallest l b x)
+    → IfOk r (λ s. IsSymbol smallest l b x s.version s.mask s.matrix) → (r ≡ Err fault.Empty → x ≡ [])
+    → IfErr r (λ e. (e ≡ fault.Empty) ⊎ (e ≡ fault.TooLong) ⊎ (e ≡ fault.Memory))
     → Refused r fault.TooLong fault.Memory (HasNoVersion smallest l b x)
 too-long-exactly x l smallest b (Ok s) most long made empty told = exactly _ _ _ _ (λ e. cc) long (λ none. none s.version made.version.least made.version.most made.version.fits) tt
 too-long-exactly x l smallest b (Err e) most long made empty told = exactly _ _ _ _ (λ e. cc) long tt (elim told [
@@ -44,25 +40,24 @@ too-long-exactly x l smallest b (Err e) most long made empty told = exactly _ _ 
 ])
 
 -- `TooMany` is returned exactly if the input has no series, unless memory was refused
-pub too-many-exactly : (x : List ℕ) (l : Level) (b : Rule) (v : ℕ) (r : Result (Vec Symbol Global) EncodeFault)
-    → (r ≡ Err fault.TooMany → HasNoSeries v l b x) → IfOk r (λ ss. IsSeries v l b x ss.items)
-    → (r ≡ Err fault.Empty → x ≡ []) → IfErr r (λ e. (e ≡ fault.Empty) ⊎ (e ≡ fault.TooMany) ⊎ (e ≡ fault.Memory))
+pub too-many-exactly : (x : List ℕ) (l : Level) (b : Rule) (v : ℕ) (r : Result (Vec Symbol Global) EncodeFault) →
+    (r ≡ Err fault.TooMany → HasNoSeries v l b x) → IfOk r (λ ss. IsSeries v l b x ss.items) → (r ≡ Err
+    fault.Empty → x ≡ []) → IfErr r (λ e. (e ≡ fault.Empty) ⊎ (e ≡ fault.TooMany) ⊎ (e ≡ fault.Memory))
     → Refused r fault.TooMany fault.Memory (HasNoSeries v l b x)
 too-many-exactly x l b v (Ok ss) many made empty told = exactly _ _ _ _ (λ e. cc) many (no-series ss.items made) tt
   where
     no-series : (ss : List Symbol) → IsSeries v l b x ss → HasNoSeries v l b x → ⊥
     no-series ss (inl a) none = none.too_long a.fits
-    no-series ss (inr a) none = let few = a.many in let more = none.too_many a.parts a.split in absurd (omega arith)
+    no-series ss (inr a) none = let few = a.many in absurd (omega (arith, none.too_many a.parts a.split))
 too-many-exactly x l b v (Err e) many made empty told = exactly _ _ _ _ (λ e. cc) many tt (elim told [
   | inl h ↦ inl (λ none. absurd (none.too_long (subst (FitsVersion v l b) (sym (empty (ap (λ f. Err f) h))) (empty_fits v b (capacity_of v l)))))
   | inr w ↦ elim w [ inl h ↦ inl (λ _. h) | inr h ↦ inr h ]
 ])
 
 -- `Check` is returned exactly if the codewords are the final sequence of no data codewords, unless memory was refused
-pub check-exactly : (Holds : List ℕ → Type 0) (r : Result (Vec ℕ Global) ReadFault)
-    → (r ≡ Err unread.Check → (d : List ℕ) → Holds d → ⊥) → IfOk r (λ d. Holds d.items)
-    → IfErr r (λ e. (e ≡ unread.Memory) ⊎ (e ≡ unread.Check))
-    → Refused r unread.Check unread.Memory ((d : List ℕ) → Holds d → ⊥)
+pub check-exactly : (Holds : List ℕ → Type 0) (r : Result (Vec ℕ Global) ReadFault) → (r ≡ Err unread.Check
+    → (d : List ℕ) → Holds d → ⊥) → IfOk r (λ d. Holds d.items) → IfErr r (λ e. (e ≡ unread.Memory)
+    ⊎ (e ≡ unread.Check)) → Refused r unread.Check unread.Memory ((d : List ℕ) → Holds d → ⊥)
 check-exactly Holds (Ok d) none made told = exactly _ _ _ _ (λ e. cc) none (λ n. n d.items made) tt
 check-exactly Holds (Err e) none made told = exactly _ _ _ _ (λ e. cc) none tt (elim told [ inl h ↦ inr h | inr h ↦ inl (λ _. h) ])
 
@@ -72,6 +67,6 @@ ok-both P Q (Ok x) p q = (p, q)
 ok-both P Q (Err e) p q = tt
 
 -- a result whose only fault is lack of memory has no other fault
-pub memory-alone : {X : Type 0} (r : Result X EncodeFault) (e : EncodeFault) → (e ≡ fault.Memory → ⊥) → IfErr r (λ f. f ≡ fault.Memory)
-    → r ≡ Err e → ⊥
+pub memory-alone : {X : Type 0} (r : Result X EncodeFault) (e : EncodeFault) → (e ≡ fault.Memory → ⊥)
+    → IfErr r (λ f. f ≡ fault.Memory) → r ≡ Err e → ⊥
 memory-alone r e other told h = other (IfErr-at_err (λ f. f ≡ fault.Memory) h told)

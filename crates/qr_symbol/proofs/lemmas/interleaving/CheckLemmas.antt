@@ -1,13 +1,12 @@
 -- The error correction codewords of all blocks, block after block, and the whole final sequence.
-use Rattle.std.proofs.Common.{◌≡◌, ℕ, suc, ◌+◌, ◌-◌, ◌<◌, ◌≤◌, List, [], ◌∷◌, ◌++◌, map, take, drop, length-append, get_or, refl, ◌∙◌, ap, inl, inr, arith}
-use Rattle.std.proofs.lemmas.{Bool.Decides.nat_tests, Bool.cases_lt, List.get_or_append_left, List.get_or-append_right}
-use Rattle.std.specs.List.{All}
-use Rattle.qr_field.specs.Polynomial.{IsCorrection}
-use Rattle.qr_layout.specs.declared.blocks.Blocks.{Blocks}
-use Rattle.qr_symbol.specs.declared.interleaving.BlockSizes.{BlockSizes}
-use Rattle.qr_symbol.specs.Interleaving.{block_count, block_len, start_of, IsPosition, codeword_at, data_sizes, correction_sizes, block_of, check_at, IsFinalMessage}
-use Rattle.qr_symbol.specs.Steps.Interleaving.{AppendsInterleaved, IsChecks}
+use Rattle.{qr_field.specs.Polynomial.IsCorrection, qr_layout.specs.declared.blocks.Blocks.Blocks}
 use Rattle.qr_symbol.proofs.lemmas.interleaving.PositionLemmas.{start-next, start-most}
+use Rattle.qr_symbol.specs.Interleaving.{block_count, block_len, start_of, codeword_at, data_sizes, correction_sizes, block_of, IsFinalMessage}
+use Rattle.qr_symbol.specs.Steps.Interleaving.{AppendsInterleaved, IsChecks}
+use Rattle.qr_symbol.specs.declared.interleaving.BlockSizes.{BlockSizes}
+use Rattle.std.proofs.Common.{◌≡◌, ℕ, suc, ◌+◌, ◌<◌, ◌≤◌, List, [], ◌∷◌, ◌++◌, map, take, drop, length-append, get_or, refl, ◌∙◌, ap, inl, inr, arith}
+use Rattle.std.proofs.lemmas.{Bool.{cases_lt, Decides.nat_tests}, List.{get_or_append_left, get_or-append_right}}
+use Rattle.std.specs.List.{All}
 
 -- each block has the same number of error correction codewords
 pub check-len : (b : Blocks) (k : ℕ) → k < block_count (data_sizes b) → block_len (correction_sizes b) k ≡ b.ec_len
@@ -18,35 +17,27 @@ pub checks-push : (b : Blocks) (d xs ys es : List ℕ) (k : ℕ) → k < block_c
 checks-push b d xs ys es k l h c e =
     let next = start-next (correction_sizes b) k in
     let one = check-len b k l in
-    let n = c.count in
-    let many = h.count in
     let all = h.corrections ++ es ∷ [] in
     let here : get_or all k [] ≡ es = search (arith, get_or-append_right) in
-    let there = λ (i : ℕ) (s : i < k). get_or_append_left h.corrections (es ∷ []) [] i (omega arith) in
-    record {
+    let there = λ (i : ℕ) (s : i < k). get_or_append_left h.corrections (es ∷ []) [] i (omega arith) in record {
       corrections = all;
       count = search (arith, length-append);
       each = search arith;
       long = cc (length-append xs es);
       same = λ t m i. ap (λ (zs : List ℕ). codeword_at (correction_sizes b) zs t) e ∙ (elim (cases_lt t.block k) [
         | inl s ↦
-            let a = start-next (correction_sizes b) t.block in
-            let z = start-most (correction_sizes b) (t.block + 1) k (omega arith) in
-            search (arith, get_or_append_left)
+            let z = start-most (correction_sizes b) (t.block + 1) k (omega arith) in search (arith, get_or_append_left)
         | inr s ↦ search (arith, get_or-append_right)
       ]);
     }
-  where
-    none : (k : ℕ) → k - k ≡ 0
-    none k = omega arith
 
 -- two functions that agree on all items of a list map it to the same list
 pub map-each : {X Y : Type 0} (P : X → Type 0) (f g : X → Y) (xs : List X) → All P xs → ((x : X) → P x → f x ≡ g x) → map f xs ≡ map g xs
 map-each P f g [] a e = refl
-map-each P f g (x ∷ xs) a e = let h = e x (a 0 x (omega arith)) in let t = map-each P f g xs (λ k d l. a (suc k) d (omega arith)) e in λ i. h i ∷ t i
+map-each P f g (x ∷ xs) a e = λ i. (e x (a 0 x (omega arith))) i ∷ (map-each P f g xs (λ k d l. a (suc k) d (omega arith)) e) i
 
 -- the data codewords and then the error correction codewords were appended
-both-interleaved : (b : Blocks) (d es first second : List ℕ) → IsChecks b d (block_count (data_sizes b)) es → AppendsInterleaved (data_sizes b) d [] first → AppendsInterleaved (correction_sizes b) es first second → IsFinalMessage b d second
+pub both-interleaved : (b : Blocks) (d es first second : List ℕ) → IsChecks b d (block_count (data_sizes b)) es → AppendsInterleaved (data_sizes b) d [] first → AppendsInterleaved (correction_sizes b) es first second → IsFinalMessage b d second
 both-interleaved b d es first second h s t = record {
   data_positions = s.positions;
   data_order = s.order;
@@ -55,22 +46,12 @@ both-interleaved b d es first second h s t = record {
   each = h.each;
   check_positions = t.positions;
   check_order = t.order;
-  whole = t.interleaved ∙ (ap (λ (xs : List ℕ). xs ++ map (codeword_at (correction_sizes b) es) t.positions) s.interleaved ∙ ap (λ (xs : List ℕ). map (codeword_at (data_sizes b) d) s.positions ++ xs) (map-each (IsPosition (correction_sizes b)) (codeword_at (correction_sizes b) es) (check_at h.corrections) t.positions t.order.in_blocks (λ u i. h.same u (let l = i.0 in omega arith) i)));
+  whole = t.interleaved ∙ (ap (λ (xs : List ℕ). xs ++ map (codeword_at (correction_sizes b) es) t.positions) s.interleaved ∙ ap (λ (xs : List ℕ). map (codeword_at (data_sizes b) d) s.positions ++ xs) (map-each _ _ _ _ t.order.in_blocks (λ u i. h.same u (omega arith) i)));
 }
-
--- the data codewords and then the error correction codewords, each by rising positions, are the final message
-pub interleaved-both : (b : Blocks) (d es bytes before first second : List ℕ) (c1 c2 : BlockSizes) → IsChecks b d (block_count (data_sizes b)) es → before ≡ [] → c1 ≡ data_sizes b → c2 ≡ correction_sizes b → bytes ≡ es → AppendsInterleaved c1 d before first → AppendsInterleaved c2 bytes first second → IsFinalMessage b d second
-interleaved-both b d es bytes before first second c1 c2 h e k l m s t =
-    both-interleaved b d es first second h
-    (search arith)
-    (search arith)
 
 -- a block is inside the data codewords
 pub slice-in : (c e : BlockSizes) (n s l k : ℕ) → c ≡ e → n ≡ start_of e (block_count e) → k < block_count c → s ≡ start_of c k → l ≡ block_len c k → s + l ≤ n
-slice-in c e n s l k a o m f g =
-    let p = start-next c k in
-    let q = start-most c (k + 1) (block_count c) (omega arith) in
-    search arith
+slice-in c e n s l k a o m f g = let q = start-most c (k + 1) (block_count c) (omega arith) in search arith
 
 -- one more block, stated with the variables of the loop
 pub push-checks : (b : Blocks) (d xs ys es : List ℕ) (c : BlockSizes) (k s l n : ℕ) → c ≡ data_sizes b → k < block_count c → s ≡ start_of c k → l ≡ block_len c k → n ≡ b.ec_len → IsCorrection (take l (drop s d)) n es → IsChecks b d k xs → ys ≡ xs ++ es → IsChecks b d (k + 1) ys

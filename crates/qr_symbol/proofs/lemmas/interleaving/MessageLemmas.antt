@@ -1,54 +1,44 @@
 -- The final sequence of a version and a level: how long it is, and that each message has only one.
-use Rattle.std.proofs.Common.{◌≡◌, ℕ, ◌+◌, ◌-◌, ◌*◌, ◌<◌, ◌≤◌, List, [], ◌∷◌, ◌++◌, map, length, length-append, get_or, refl, sym, ◌∙◌, ap, subst, arith, take}
-use Rattle.std.proofs.{lemmas.List.length-map, lemmas.List.ext_get_or, Math.Seq.take-append_seam}
-use Rattle.std.specs.Prelude.{Result, Ok, Err, IfOk}
-use Rattle.qr_field.specs.Polynomial.{IsCorrection}
-use Rattle.qr_field.proofs.Facts.{correction-one}
-use Rattle.qr_layout.specs.declared.{blocks.Blocks.Blocks, level.Level.Level}
-use Rattle.qr_layout.specs.{Version.total_codewords_of, Blocks.data_codewords_of, Blocks.blocks_of}
-use Rattle.qr_layout.proofs.Facts.{blocks-sound}
-use Rattle.qr_symbol.specs.Interleaving.{block_count, start_of, codeword_count, codeword_at, data_sizes, correction_sizes, block_of, check_at, IsFinalMessage, IsGathered}
+use Rattle.qr_field.{proofs.Facts.correction-one, specs.Polynomial.IsCorrection}
+use Rattle.qr_layout.{proofs.Facts.{Mem-of-Contains, blocks-sound}, specs.Blocks.{data_codewords_of, blocks_of}}
+use Rattle.qr_layout.specs.{Version.total_codewords_of, declared.{blocks.Blocks.Blocks, level.Level.Level}}
 use Rattle.qr_symbol.proofs.lemmas.interleaving.GatherLemmas.{positions-many}
-use Rattle.qr_symbol.proofs.lemmas.interleaving.RankLemmas.{positions-one, position-of, map-at, Mem-of-Contains}
+use Rattle.qr_symbol.proofs.lemmas.interleaving.RankLemmas.{positions-one, position-of, map-at}
+use Rattle.qr_symbol.specs.Interleaving.{block_count, codeword_count, codeword_at, data_sizes, correction_sizes, block_of, check_at, IsFinalMessage, IsGathered}
+use Rattle.std.proofs.Common.{◌≡◌, ℕ, ◌+◌, ◌-◌, ◌*◌, ◌<◌, ◌≤◌, List, [], ◌∷◌, ◌++◌, map, length, length-append, get_or, refl, sym, ◌∙◌, ap, subst, arith, take}
+use Rattle.std.proofs.{Math.Seq.take-append_seam, lemmas.List.{length-map, ext_get_or}}
+use Rattle.std.specs.Prelude.{Result, Ok, Err, IfOk}
 
 -- ---- one final sequence
 
 -- two lists of error correction codewords for the same blocks are equal
 pub checks-one : (b : Blocks) (d : List ℕ) (n : ℕ) (xs ys : List (List ℕ)) → length xs ≡ n → length ys ≡ n
     → ((i : ℕ) → i < n → IsCorrection (block_of b d i) b.ec_len (get_or xs i []))
-    → ((i : ℕ) → i < n → IsCorrection (block_of b d i) b.ec_len (get_or ys i []))
-    → xs ≡ ys
+    → ((i : ℕ) → i < n → IsCorrection (block_of b d i) b.ec_len (get_or ys i [])) → xs ≡ ys
 checks-one b d n xs ys e f h k =
     ext_get_or [] xs ys (e ∙ sym f) (λ i l. correction-one (block_of b d i) b.ec_len (get_or xs i []) (get_or ys i []) (h i (omega arith)) (k i (omega arith)))
 
 -- data codewords have at most one final sequence
 pub final-one : (b : Blocks) (d xs ys : List ℕ) → IsFinalMessage b d xs → IsFinalMessage b d ys → xs ≡ ys
 final-one b d xs ys h k =
-    cc (positions-one (data_sizes b) h.data_positions k.data_positions h.data_order k.data_order, positions-one (correction_sizes b) h.check_positions k.check_positions h.check_order k.check_order, checks-one b d (block_count (data_sizes b)) h.corrections k.corrections h.count k.count h.each k.each)
+    cc (positions-one _ _ _ h.data_order k.data_order, positions-one _ _ _ h.check_order k.check_order, checks-one b d _ _ _ h.count k.count h.each k.each)
 
 -- two equal joined lists with first parts of the same length are equal part by part
 pub append-front : {X : Type 0} (xs ys us vs : List X) → length xs ≡ length ys → xs ++ us ≡ ys ++ vs → (xs ≡ ys) × (us ≡ vs)
 append-front [] [] us vs n e = (refl, e)
-append-front [] (y ∷ ys) us vs n e = absurd (omega arith)
-append-front (x ∷ xs) [] us vs n e = absurd (omega arith)
-append-front (x ∷ xs) (y ∷ ys) us vs n e =
-    let h : x ≡ y = cc in
-    let t : xs ++ us ≡ ys ++ vs = cc in
-    let w = append-front xs ys us vs (omega arith) t in
-    (λ i. h i ∷ w.0 i, w.1)
+append-front (x ∷ xs) (y ∷ ys) us vs n e = let w = append-front xs ys us vs (omega arith) cc in (cc, w.1)
+append-front xs ys us vs n e = absurd (omega arith)
 
 -- a sequence is the final sequence of at most one list of data codewords
 pub data-one : (b : Blocks) (d e cw : List ℕ) → length d ≡ codeword_count (data_sizes b) → length e ≡ codeword_count (data_sizes b) → IsFinalMessage b d cw → IsFinalMessage b e cw → d ≡ e
 data-one b d e cw n m h k =
     let c = data_sizes b in
-    let one = positions-one c k.data_positions h.data_positions k.data_order h.data_order in
+    let one = positions-one c _ _ k.data_order h.data_order in
     let both : map (codeword_at c d) h.data_positions ++ map (check_at h.corrections) h.check_positions ≡ map (codeword_at c e) h.data_positions ++ map (check_at k.corrections) k.check_positions =
-    cc in
-    let w = append-front (map (codeword_at c d) h.data_positions) (map (codeword_at c e) h.data_positions) (map (check_at h.corrections) h.check_positions) (map (check_at k.corrections) k.check_positions) (search (arith, length-map)) both in
-    ext_get_or 0 d e (n ∙ sym m) (λ j l.
+    cc in ext_get_or 0 d e (n ∙ sym m) (λ j l.
     let t = position-of c (block_count c) j (omega arith) (omega arith) in
-    let q = map-at (codeword_at c d) (codeword_at c e) h.data_positions t.0 w.0 (Mem-of-Contains h.data_positions t.0 (h.data_order.complete t.0 t.1)) in
-    same-place d e (start_of c t.0.block + t.0.place) j t.2 q)
+    let q = map-at _ _ _ t.0 (append-front _ _ _ _ (search (arith, length-map)) both).0 (Mem-of-Contains h.data_positions t.0 (h.data_order.complete t.0 t.1)) in
+    same-place d e _ j t.2 q)
   where
     same-place : (d e : List ℕ) (i j : ℕ) → i ≡ j → get_or d i 0 ≡ get_or e i 0 → get_or d j 0 ≡ get_or e j 0
     same-place d e i j f q = subst (λ (z : ℕ). get_or d z 0 ≡ get_or e z 0) f q
@@ -61,8 +51,7 @@ final-many b d cw h =
     let e = ap (length {A = ℕ}) h.whole in
     let a = length-append (map (codeword_at (data_sizes b) d) h.data_positions) (map (check_at h.corrections) h.check_positions) in
     let m = length-map h.data_positions (codeword_at (data_sizes b) d) in
-    let n = length-map h.check_positions (check_at h.corrections) in
-    omega (arith, positions-many)
+    let n = length-map h.check_positions (check_at h.corrections) in omega (arith, positions-many)
 
 -- the number of codewords in blocks of two lengths
 sizes-sum : (k n r : ℕ) → n * (k + r) + (k + r - k) ≡ k * n + r * (n + 1)
@@ -100,18 +89,15 @@ pub gathered-one : (b : Blocks) (interleaved xs d : List ℕ) → IsGathered (da
     → length d ≡ codeword_count (data_sizes b) → IsFinalMessage b d interleaved → xs ≡ d
 gathered-one b interleaved xs d g n h =
     let c = data_sizes b in
-    let one = positions-one c h.data_positions g.positions h.data_order g.order in
+    let one = positions-one c _ _ h.data_order g.order in
     let first : take (codeword_count c) interleaved ≡ map (codeword_at c d) g.positions =
-    search (arith, take-front, length-map) in
-    ext_get_or 0 xs d (g.long ∙ sym n) (λ j l.
-    let w = position-of c (block_count c) j (omega arith) (let z = g.long in omega arith) in
-    let q = map-at (codeword_at c xs) (codeword_at c d) g.positions w.0 (g.same ∙ first) (Mem-of-Contains g.positions w.0 (g.order.complete w.0 w.1)) in
-    cc)
+    search (arith, take-front, length-map) in ext_get_or 0 xs d (g.long ∙ sym n) (λ j l.
+    let w = position-of c (block_count c) j (omega arith) (omega arith) in
+    let q = map-at _ _ _ w.0 (g.same ∙ first) (Mem-of-Contains _ w.0 (g.order.complete w.0 w.1)) in cc)
 
 -- a sequence that differs from the final sequence of its gathered codewords is the final sequence of no message
 pub none-fits : (b : Blocks) (interleaved xs again d : List ℕ) → IsGathered (data_sizes b) interleaved xs
     → IsFinalMessage b xs again → (again ≡ interleaved → ⊥) → length d ≡ codeword_count (data_sizes b)
     → IsFinalMessage b d interleaved → ⊥
 none-fits b interleaved xs again d g h n l k =
-    let e = gathered-one b interleaved xs d g l k in
-    n (final-one b d again interleaved (subst (λ (z : List ℕ). IsFinalMessage b z again) e h) k)
+    n (final-one b d _ _ (subst (λ (z : List ℕ). IsFinalMessage b z again) (gathered-one b _ xs d g l k) h) k)

@@ -1,12 +1,10 @@
 -- The interleaving loop appends the codewords of all positions, in their order.
-use Rattle.std.proofs.Common.{◌≡◌, ℕ, zero, suc, ◌+◌, ◌<◌, ◌≤◌, List, [], ◌∷◌, ◌++◌, map, refl, subst, inl, inr, ◌⊎◌, append_assoc, arith}
-use Rattle.std.proofs.lemmas.{Bool.Decides.nat_tests, List.Kept.AllPairs-cons, List.map-append}
-use Rattle.std.proofs.Math.Nat.{mul-suc, mul-le-mul_left}
-use Rattle.std.specs.List.{All, AllPairs, AllByRecursion, Contains}
 use Rattle.qr_layout.proofs.Facts.{Mem, Rises, All-of-Mem}
-use Rattle.qr_symbol.specs.declared.interleaving.BlockSizes.{BlockSizes}
 use Rattle.qr_symbol.specs.Interleaving.{Position, ComesBefore, block_count, block_len, start_of, IsPosition, IsPositionOrder, codeword_count, codeword_at}
-use Rattle.qr_symbol.specs.Steps.Interleaving.{AppendsInterleaved}
+use Rattle.qr_symbol.specs.{Steps.Interleaving.AppendsInterleaved, declared.interleaving.BlockSizes.BlockSizes}
+use Rattle.std.proofs.Common.{◌≡◌, ℕ, zero, suc, ◌+◌, ◌<◌, ◌≤◌, List, [], ◌∷◌, ◌++◌, map, refl, subst, inl, inr, ◌⊎◌, append_assoc, arith}
+use Rattle.std.proofs.{Math.Nat.{mul-suc, mul-le-mul_left}, lemmas.{Bool.Decides.nat_tests, List.map-append}}
+use Rattle.std.{proofs.lemmas.List.Kept.AllPairs-cons, specs.List.{All, AllPairs, AllByRecursion, Contains}}
 
 -- the position with index p in block b
 abbrev pub position : ℕ → ℕ → Position
@@ -44,7 +42,7 @@ All-push-rec P (x ∷ xs) y h k = (h.0, All-push-rec P xs y h.1 k)
 -- a rising list stays rising when a larger item is added
 Rises-push : {X : Type 0} (R : X → X → Type 0) (xs : List X) (y : X) → Rises R xs → ((x : X) → Mem x xs → R x y) → Rises R (xs ++ y ∷ [])
 Rises-push R [] y h f = (tt, tt)
-Rises-push R (x ∷ xs) y h f = (All-push-rec (R x) xs y h.0 (f x (inl refl)), Rises-push R xs y h.1 (λ z m. f z (inr m)))
+Rises-push R (x ∷ xs) y h f = (All-push-rec _ xs y h.0 (f x (inl refl)), Rises-push R xs y h.1 (λ z m. f z (inr m)))
 
 -- ---- the steps
 
@@ -98,9 +96,9 @@ len-most c i = grind (arith, nat_tests)
 -- after the last index, all positions are in the list
 pub positions-end : (c : BlockSizes) (ts : List Position) → PositionsBefore c (c.short_len + 1) 0 ts → IsPositionOrder c ts
 positions-end c ts h = record {
-  in_blocks = All-of-rec (IsPosition c) ts (All-of-Mem (IsPosition c) ts (λ t m. (h.sound t m).0));
+  in_blocks = All-of-rec _ ts (All-of-Mem _ ts (λ t m. (h.sound t m).0));
   complete = search (arith, Contains-of-Mem, len-most);
-  rising = pairs-of-Rises ComesBefore ts h.rises;
+  rising = pairs-of-Rises _ ts h.rises;
 }
 
 -- ---- what has been appended

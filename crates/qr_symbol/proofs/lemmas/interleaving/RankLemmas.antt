@@ -1,21 +1,16 @@
 -- The number of positions before a position, and that blocks have only one order of positions.
-use Rattle.std.proofs.Common.{◌≡◌, ℕ, zero, suc, ◌+◌, ◌-◌, ◌*◌, ◌<◌, ◌≤◌, cond, eqb, ltb, List, [], ◌∷◌, map, sym, ◌∙◌, ap, inl, inr, ◌⊎◌, arith}
-use Rattle.std.proofs.lemmas.Bool.{Decides.nat_tests, cases_lt}
-use Rattle.std.proofs.Math.Nat.{mul-suc, mul-le-mul_left, mul_comm}
-use Rattle.std.specs.List.{All, AllByRecursion, Contains}
-use Rattle.qr_layout.proofs.Facts.{Mem, Mem-at, Rises-of-pairs, one_rising}
-use Rattle.qr_symbol.specs.declared.interleaving.BlockSizes.{BlockSizes}
-use Rattle.qr_symbol.specs.Interleaving.{Position, ComesBefore, block_count, start_of, codeword_count, IsPosition, IsPositionOrder}
+use Rattle.qr_layout.proofs.Facts.{All-rec, Mem, Mem-at, Mem-of-Contains, Rises-of-pairs, one_rising}
 use Rattle.qr_symbol.proofs.lemmas.interleaving.PositionLemmas.{position, start-next, start-most}
+use Rattle.qr_symbol.specs.Interleaving.{Position, ComesBefore, block_count, start_of, codeword_count, IsPosition, IsPositionOrder}
+use Rattle.qr_symbol.specs.declared.interleaving.BlockSizes.{BlockSizes}
+use Rattle.std.proofs.Common.{◌≡◌, ℕ, zero, suc, ◌+◌, ◌-◌, ◌*◌, ◌<◌, ◌≤◌, cond, eqb, ltb, List, [], ◌∷◌, map, sym, ◌∙◌, ap, inl, inr, ◌⊎◌, arith}
+use Rattle.std.proofs.{Math.Nat.{mul-suc, mul-le-mul_left, mul_comm}, lemmas.Bool.{cases_lt, Decides.nat_tests}}
 
 -- two positions of codewords at the same index of the message are equal
 pub position-one : (c : BlockSizes) (t u : Position) → IsPosition c t → IsPosition c u → start_of c t.block + t.place ≡ start_of c u.block + u.place → (t.place ≡ u.place) × (t.block ≡ u.block)
 position-one c t u i j e =
     let a = start-next c t.block in
-    let b = start-next c u.block in
-    let l = i.1 in
-    let m = j.1 in
-    elim (cases_lt t.block u.block) [
+    let b = start-next c u.block in elim (cases_lt t.block u.block) [
       | inl k ↦ absurd (let z = start-most c (t.block + 1) u.block (omega arith) in omega arith)
       | inr k ↦ elim (cases_lt u.block t.block) [
         | inl n ↦ absurd (let z = start-most c (u.block + 1) t.block (omega arith) in omega arith)
@@ -45,9 +40,6 @@ rank-in c p b i = elim (position-cases c p b i) [
       search (arith, mul_comm, nat_tests)
   | inr w ↦ search (arith, nat_tests)
 ]
-  where
-    more : (n p : ℕ) → n * (p + 1) ≡ n * p + n
-    more n p = let o : p + 1 ≡ suc p = omega arith in rw o (mul-suc n p)
 
 -- block b has no codeword with index p, so the number stays the same
 pub rank-pass : (c : BlockSizes) (p b : ℕ) → p ≤ c.short_len → b < block_count c → (IsPosition c (position p b) → ⊥) → rank_of c p (b + 1) ≡ rank_of c p b
@@ -67,41 +59,25 @@ rank-end c = grind (arith, nat_tests)
 
 -- ---- only one order
 
--- what is contained is a member
-pub Mem-of-Contains : {X : Type 0} (xs : List X) (x : X) → Contains xs x → Mem x xs
-Mem-of-Contains [] x (k, l, e) = absurd (omega arith)
-Mem-of-Contains (y ∷ ys) x (zero, l, e) = inl e
-Mem-of-Contains (y ∷ ys) x (suc k, l, e) = inr (Mem-of-Contains ys x (k, omega arith, e))
-
--- a fact that holds for all items, in recursive form
-All-rec : {X : Type 0} (P : X → Type 0) (xs : List X) → All P xs → AllByRecursion P xs
-All-rec P [] h = tt
-All-rec P (x ∷ xs) h = (h 0 x (omega arith), All-rec P xs (λ k d l. h (suc k) d (omega arith)))
-
 -- of two positions, at most one comes before the other
 asym : (t u : Position) → ComesBefore t u → ComesBefore u t → ⊥
-asym t u (inl h) (inl k) = absurd (omega arith)
-asym t u (inl h) (inr k) = absurd (let e = k.0 in omega arith)
-asym t u (inr h) (inl k) = absurd (let e = h.0 in omega arith)
-asym t u (inr h) (inr k) = absurd (let a = h.1 in let b = k.1 in omega arith)
+asym t u h k = search arith
 
 -- blocks have only one order of positions
 pub positions-one : (c : BlockSizes) (ts us : List Position) → IsPositionOrder c ts → IsPositionOrder c us → ts ≡ us
-positions-one c ts us h k = one_rising ComesBefore asym ts us (Rises-of-pairs ComesBefore ts h.rising) (Rises-of-pairs ComesBefore us k.rising)
-    (λ t m. Mem-of-Contains us t (k.complete t (Mem-at (IsPosition c) ts t (All-rec (IsPosition c) ts h.in_blocks) m)))
-    (λ t m. Mem-of-Contains ts t (h.complete t (Mem-at (IsPosition c) us t (All-rec (IsPosition c) us k.in_blocks) m)))
+positions-one c ts us h k = one_rising _ asym ts us (Rises-of-pairs _ ts h.rising) (Rises-of-pairs _ us k.rising)
+    (λ t m. Mem-of-Contains us t (k.complete t (Mem-at (IsPosition c) ts t (All-rec _ ts h.in_blocks) m)))
+    (λ t m. Mem-of-Contains ts t (h.complete t (Mem-at (IsPosition c) us t (All-rec _ us k.in_blocks) m)))
 
 -- each index of the message is that of a position
 pub position-of : (c : BlockSizes) (k j : ℕ) → k ≤ block_count c → j < start_of c k → (t : Position) × IsPosition c t × (start_of c t.block + t.place ≡ j)
 position-of c zero j l m = absurd (no_start c.short_len)
   where
     no_start : (n : ℕ) → ⊥
-    no_start n = absurd (let e : c.short_len * 0 ≡ 0 = omega arith in omega arith)
+    no_start n = absurd (omega arith)
 position-of c (suc k) j l m =
     let o : suc k ≡ k + 1 = omega arith in
-    let e = start-next c k in
-    let f = ap (start_of c) o in
-    elim (cases_lt j (start_of c k)) [
+    let e = start-next c k in elim (cases_lt j (start_of c k)) [
       | inl s ↦ position-of c k j (omega arith) s
       | inr s ↦ (position (j - start_of c k) k, (omega arith, omega arith), omega arith)
     ]

@@ -1,13 +1,12 @@
 -- Squares are read one by one, and are joined to one list of bytes or refused for one reason.
+use Rattle.{qr_bits.specs.Parsing.Content, qr_matrix.specs.Grid.Grid}
+use Rattle.qr_symbol.specs.Joining.{AreReadBy, HaveHeaders, IsFirstRefused, IsJoinedBy, IsNoSeries, IsUnjoined, IsUnjoinedBy}
+use Rattle.qr_symbol.specs.{Reading.{IsReading, IsUnread}, Series.squares_of}
+use Rattle.qr_symbol.specs.declared.{fault.ReadFault.ReadFault, symbol.Symbol.Symbol}
 use Rattle.std.proofs.Common.{◌≡◌, ℕ, ◌+◌, ◌<◌, ◌≤◌, List, [], ◌∷◌, ◌++◌, take, drop, length, get_or, refl, sym, ◌∙◌, inl, inr, ◌⊎◌, arith}
 use Rattle.std.proofs.lemmas.List.{take_more, take-append-drop, take-map, drop_more, drop_all, get_or-map, length-map}
 use Rattle.std.specs.Prelude.{Some}
-use Rattle.qr_bits.specs.Parsing.{Content}
-use Rattle.qr_symbol.specs.declared.fault.ReadFault.{ReadFault}
 use Rattle.qr_symbol.specs.declared.fault.ReadFault.TheVariants as fault
-use Rattle.qr_symbol.specs.{declared.symbol.Symbol.Symbol, Reading.IsReading, Reading.IsUnread, Series.squares_of}
-use Rattle.qr_symbol.specs.Joining.{AreReadBy, HaveHeaders, IsFirstRefused, IsJoinedBy, IsNoSeries, IsUnjoined, IsUnjoinedBy}
-use Rattle.qr_matrix.specs.Grid.{Grid}
 
 -- ---- squares and contents, in turn
 
@@ -20,17 +19,15 @@ readings-none reads = tt
 readings-push : (reads : Grid → Content → Type 0) (gs : List Grid) (cs : List Content) (g : Grid) (c : Content) → AreReadBy reads gs cs → reads g c → AreReadBy reads (gs ++ g ∷ []) (cs ++ c ∷ [])
 unfolding AreReadBy
 readings-push reads [] [] g c a h = (h, tt)
-readings-push reads [] (d ∷ cs) g c a h = absurd a
-readings-push reads (f ∷ gs) [] g c a h = absurd a
 readings-push reads (f ∷ gs) (d ∷ cs) g c a h = (a.0, readings-push reads gs cs g c a.1 h)
+readings-push reads gs cs g c a h = search arith
 
 -- if all squares before one are read and this one is refused, it is the first that is refused
 first-unread : (reads : Grid → Content → Type 0) (refuses : Grid → ReadFault → Type 0) (gs rest : List Grid) (cs : List Content) (g : Grid) (e : ReadFault) → AreReadBy reads gs cs → refuses g e → IsFirstRefused reads refuses (gs ++ g ∷ rest) e
 unfolding AreReadBy IsFirstRefused
 first-unread reads refuses [] rest [] g e a u = inl u
-first-unread reads refuses [] rest (c ∷ cs) g e a u = absurd a
-first-unread reads refuses (f ∷ gs) rest [] g e a u = absurd a
-first-unread reads refuses (f ∷ gs) rest (c ∷ cs) g e a u = inr (c, a.0, first-unread reads refuses gs rest cs g e a.1 u)
+first-unread reads refuses (f ∷ gs) rest (c ∷ cs) g e a u = inr (c, a.0, first-unread _ _ gs _ cs g e a.1 u)
+first-unread reads refuses gs rest cs g e a u = search arith
 
 -- one more square of a list is read, stated by its index
 pub readings-next : (reads : Grid → Content → Type 0) (gs : List Grid) (i : ℕ) (g : Grid) (cs : List Content) (c : Content) → i < length gs → g ≡ get_or gs i g → AreReadBy reads (take i gs) cs → reads g c → AreReadBy reads (take (i + 1) gs) (cs ++ c ∷ [])
@@ -46,9 +43,7 @@ squares-taken ss i = sym (take-map (λ (x : Symbol). x.matrix) i ss)
 
 -- one more symbol is read
 pub readings-more : (ss : List Symbol) (i : ℕ) (s : Symbol) (cs : List Content) (c : Content) → i < length ss → s ≡ get_or ss i s → AreReadBy IsReading (squares_of (take i ss)) cs → IsReading s.matrix c → AreReadBy IsReading (squares_of (take (i + 1) ss)) (cs ++ c ∷ [])
-readings-more ss i s cs c l e a h =
-    let at = square-at ss i s l e in
-    search (arith, squares-taken, readings-next)
+readings-more ss i s cs c l e a h = let at = square-at ss i s l e in search (arith, squares-taken, readings-next)
 
 -- ---- the first fault
 
@@ -62,11 +57,8 @@ never-series reads refuses n (g ∷ gs) (inr w) = never-series reads refuses n g
 -- for the fault of the first square that is not read, the squares are not joined
 unread-unjoined : (reads : Grid → Content → Type 0) (refuses : Grid → ReadFault → Type 0) → ((g : Grid) → refuses g fault.Series → ⊥) → (gs : List Grid) (e : ReadFault) → IsFirstRefused reads refuses gs e → IsUnjoinedBy reads refuses gs e
 unread-unjoined reads refuses n gs fault.Memory u = tt
-unread-unjoined reads refuses n gs fault.Side u = u
-unread-unjoined reads refuses n gs fault.Format u = u
-unread-unjoined reads refuses n gs fault.Check u = u
-unread-unjoined reads refuses n gs (fault.Segments x) u = u
 unread-unjoined reads refuses n gs fault.Series u = absurd (never-series reads refuses n gs u)
+unread-unjoined reads refuses n gs e u = u
 
 -- if all squares before one are read and this one is refused for a fault, the squares are not joined because of this
 -- fault
@@ -77,9 +69,7 @@ unjoined-next reads refuses n gs i g cs e l p a u =
 
 -- if all symbols before one are read and this one is refused for a fault, they are not joined because of this fault
 pub unjoined-at : (ss : List Symbol) (i : ℕ) (s : Symbol) (cs : List Content) (e : ReadFault) → i < length ss → s ≡ get_or ss i s → AreReadBy IsReading (squares_of (take i ss)) cs → IsUnread s.matrix e → IsUnjoined (squares_of ss) e
-unjoined-at ss i s cs e l p a u =
-    let at = square-at ss i s l p in
-    search (arith, unjoined-next, squares-taken)
+unjoined-at ss i s cs e l p a u = let at = square-at ss i s l p in search (arith, unjoined-next, squares-taken)
 
 -- ---- the headers of a series
 
@@ -102,12 +92,8 @@ headers-end last parity k cs l = cc (drop_all k cs l)
 
 readings-one : (reads : Grid → Content → Type 0) → ((g : Grid) (c d : Content) → reads g c → reads g d → c ≡ d) → (gs : List Grid) (cs ds : List Content) → AreReadBy reads gs cs → AreReadBy reads gs ds → cs ≡ ds
 unfolding AreReadBy
-readings-one reads same [] [] [] a b = refl
-readings-one reads same [] [] (d ∷ ds) a b = absurd b
-readings-one reads same [] (c ∷ cs) ds a b = absurd a
-readings-one reads same (g ∷ gs) [] ds a b = absurd a
-readings-one reads same (g ∷ gs) (c ∷ cs) [] a b = absurd b
 readings-one reads same (g ∷ gs) (c ∷ cs) (d ∷ ds) a b = search (arith, readings-one reads same gs cs ds a.1 b.1)
+readings-one reads same gs cs ds a b = search arith
 
 pub joining-one : (reads : Grid → Content → Type 0) → ((g : Grid) (c d : Content) → reads g c → reads g d → c ≡ d) → (gs : List Grid) (x y : List ℕ) → IsJoinedBy reads gs x → IsJoinedBy reads gs y → x ≡ y
 joining-one reads same gs x y h k = search (arith, readings-one)
@@ -117,10 +103,9 @@ joining-one reads same gs x y h k = search (arith, readings-one)
 -- if all squares are read, none of them is refused, except for lack of memory
 read-unread : (reads : Grid → Content → Type 0) (refuses : Grid → ReadFault → Type 0) → ((g : Grid) (c : Content) (e : ReadFault) → reads g c → refuses g e → e ≡ fault.Memory) → (gs : List Grid) (cs : List Content) (e : ReadFault) → AreReadBy reads gs cs → IsFirstRefused reads refuses gs e → e ≡ fault.Memory
 unfolding AreReadBy IsFirstRefused
-read-unread reads refuses never [] cs e a u = absurd u
-read-unread reads refuses never (g ∷ gs) [] e a u = absurd a
 read-unread reads refuses never (g ∷ gs) (c ∷ cs) e a (inl u) = never g c e a.0 u
 read-unread reads refuses never (g ∷ gs) (c ∷ cs) e a (inr w) = read-unread reads refuses never gs cs e a.1 w.2
+read-unread reads refuses never gs cs e a u = search arith
 
 -- two first faults of the same squares are equal, or one of them is lack of memory
 first-one : (reads : Grid → Content → Type 0) (refuses : Grid → ReadFault → Type 0) → ((g : Grid) (c : Content) (e : ReadFault) → reads g c → refuses g e → e ≡ fault.Memory) → ((g : Grid) (e f : ReadFault) → refuses g e → refuses g f → (e ≡ fault.Memory) ⊎ ((f ≡ fault.Memory) ⊎ (e ≡ f))) → (gs : List Grid) (e f : ReadFault) → IsFirstRefused reads refuses gs e → IsFirstRefused reads refuses gs f → (e ≡ fault.Memory) ⊎ ((f ≡ fault.Memory) ⊎ (e ≡ f))
@@ -132,13 +117,14 @@ first-one reads refuses never same (g ∷ gs) e f (inr w) (inl v) = inr (inl (ne
 first-one reads refuses never same (g ∷ gs) e f (inr w) (inr z) = first-one reads refuses never same gs e f w.2 z.2
 
 -- a fault for which squares are not joined is lack of memory, the first fault of a square, or `Series`
-told : (reads : Grid → Content → Type 0) (refuses : Grid → ReadFault → Type 0) (gs : List Grid) (e : ReadFault) → IsUnjoinedBy reads refuses gs e → (e ≡ fault.Memory) ⊎ (IsFirstRefused reads refuses gs e ⊎ ((e ≡ fault.Series) × IsNoSeries reads gs))
+abbrev Why : (Grid → Content → Type 0) → (Grid → ReadFault → Type 0) → List Grid → ReadFault → Type 0
+Why reads refuses gs e = (e ≡ fault.Memory) ⊎ (IsFirstRefused reads refuses gs e ⊎ ((e ≡ fault.Series) × IsNoSeries reads gs))
+
+told : (reads : Grid → Content → Type 0) (refuses : Grid → ReadFault → Type 0) (gs : List Grid) (e : ReadFault)
+    → IsUnjoinedBy reads refuses gs e → Why reads refuses gs e
 told reads refuses gs fault.Memory u = inl refl
-told reads refuses gs fault.Side u = inr (inl u)
-told reads refuses gs fault.Format u = inr (inl u)
-told reads refuses gs fault.Check u = inr (inl u)
-told reads refuses gs (fault.Segments x) u = inr (inl u)
 told reads refuses gs fault.Series u = inr (inr (refl, u))
+told reads refuses gs e u = inr (inl u)
 
 -- squares that are joined to bytes are refused only for lack of memory
 pub joined-refused : (reads : Grid → Content → Type 0) (refuses : Grid → ReadFault → Type 0) → ((g : Grid) (c d : Content) → reads g c → reads g d → c ≡ d) → ((g : Grid) (c : Content) (e : ReadFault) → reads g c → refuses g e → e ≡ fault.Memory) → (gs : List Grid) (x : List ℕ) (e : ReadFault) → IsJoinedBy reads gs x → IsUnjoinedBy reads refuses gs e → e ≡ fault.Memory
@@ -146,12 +132,12 @@ joined-refused reads refuses same never gs x e h u = search (arith, told, read-u
 
 -- two faults of the same squares are equal, or one of them is lack of memory
 pub unjoined-one : (reads : Grid → Content → Type 0) (refuses : Grid → ReadFault → Type 0) → ((g : Grid) (c : Content) (e : ReadFault) → reads g c → refuses g e → e ≡ fault.Memory) → ((g : Grid) (e f : ReadFault) → refuses g e → refuses g f → (e ≡ fault.Memory) ⊎ ((f ≡ fault.Memory) ⊎ (e ≡ f))) → (gs : List Grid) (e f : ReadFault) → IsUnjoinedBy reads refuses gs e → IsUnjoinedBy reads refuses gs f → (e ≡ fault.Memory) ⊎ ((f ≡ fault.Memory) ⊎ (e ≡ f))
-unjoined-one reads refuses never same gs e f u v = by_told (told reads refuses gs e u) (told reads refuses gs f v)
+unjoined-one reads refuses never same gs e f u v = by_told (told _ _ gs e u) (told _ _ gs f v)
   where
-    by_told : (e ≡ fault.Memory) ⊎ (IsFirstRefused reads refuses gs e ⊎ ((e ≡ fault.Series) × IsNoSeries reads gs)) → (f ≡ fault.Memory) ⊎ (IsFirstRefused reads refuses gs f ⊎ ((f ≡ fault.Series) × IsNoSeries reads gs)) → (e ≡ fault.Memory) ⊎ ((f ≡ fault.Memory) ⊎ (e ≡ f))
+    by_told : Why reads refuses gs e → Why reads refuses gs f → (e ≡ fault.Memory) ⊎ ((f ≡ fault.Memory) ⊎ (e ≡ f))
     by_told (inl a) q = inl a
-    by_told (inr p) (inl b) = inr (inl b)
-    by_told (inr (inl a)) (inr (inl b)) = first-one reads refuses never same gs e f a b
-    by_told (inr (inl a)) (inr (inr b)) = inl (read-unread reads refuses never gs b.1.contents e b.1.read a)
-    by_told (inr (inr a)) (inr (inl b)) = inr (inl (read-unread reads refuses never gs a.1.contents f a.1.read b))
+    by_told _ (inl b) = inr (inl b)
+    by_told (inr (inl a)) (inr (inl b)) = first-one _ _ never same gs e f a b
+    by_told (inr (inl a)) (inr (inr b)) = inl (read-unread _ _ never gs _ e b.1.read a)
+    by_told (inr (inr a)) (inr (inl b)) = inr (inl (read-unread _ _ never gs _ f a.1.read b))
     by_told (inr (inr a)) (inr (inr b)) = inr (inr (a.0 ∙ sym b.0))

@@ -1,10 +1,8 @@
 -- Messages whose blocks differ in few codewords are the same message.
-use Rattle.std.proofs.Common.{◌≡◌, ℕ, zero, suc, ◌+◌, ◌<◌, ◌≤◌, List, [], ◌++◌, length, take, drop, length-drop, get_or, sym, ap, ◌∙◌, subst, inl, inr, ◌⊎◌, arith}
-use Rattle.std.proofs.{lemmas.Bool.cases_lt, lemmas.List.length-take, Math.Seq.take-add, Math.Seq.take-length}
-use Rattle.qr_field.specs.Distance.{differences}
-use Rattle.qr_field.proofs.Facts.{near-same, unambiguous-known}
-use Rattle.qr_layout.specs.{declared.level.Level.Level, Blocks.blocks_of}
-use Rattle.qr_layout.proofs.Facts.{laws-of}
+use Rattle.std.proofs.Common.{◌≡◌, ℕ, zero, suc, ◌+◌, ◌<◌, ◌≤◌, List, [], ◌++◌, length, take, drop, length-drop, get_or, sym, ap, ◌∙◌, inl, inr, ◌⊎◌, arith}
+use Rattle.std.proofs.{Math.Seq.take-add, Math.Seq.take-length, lemmas.Bool.cases_lt, lemmas.List.length-take}
+use Rattle.qr_field.{proofs.Facts.near-same, proofs.Facts.unambiguous-known, specs.Distance.differences}
+use Rattle.qr_layout.{proofs.Facts.laws-of, specs.Blocks.blocks_of, specs.declared.level.Level.Level}
 use Rattle.qr_symbol.specs.declared.interleaving.BlockSizes.{BlockSizes}
 use Rattle.qr_symbol.specs.Interleaving.{block_count, block_len, start_of, codeword_count, data_sizes, block_of}
 use Rattle.qr_symbol.specs.Distance.{blocks_in, held_block, DamagedMessagesAreOne, HeldMessage, MessagesLieApart}
@@ -16,9 +14,9 @@ abbrev pub part : BlockSizes → List ℕ → ℕ → List ℕ
 part c d i = take (block_len c i) (drop (start_of c i) d)
 
 -- lists of codewords whose first blocks are equal are equal as far as these blocks reach
-fronts-same : (c : BlockSizes) (d e : List ℕ) (i : ℕ) → ((j : ℕ) → j < i → part c d j ≡ part c e j) →
-    take (start_of c i) d ≡ take (start_of c i) e
-fronts-same c d e zero h = ap (λ k. take k d) (start-none c) ∙ ap (λ k. take k e) (sym (start-none c))
+fronts-same : (c : BlockSizes) (d e : List ℕ) (i : ℕ) → ((j : ℕ) → j < i → part c d j ≡ part c e j)
+    → take (start_of c i) d ≡ take (start_of c i) e
+fronts-same c d e zero h = cc (start-none c)
 fronts-same c d e (suc i) h =
     let f = fronts-same c d e i (λ j l. h j (omega arith)) in
     let more : suc i ≡ i + 1 = omega arith in
@@ -26,36 +24,27 @@ fronts-same c d e (suc i) h =
     let a : take (start_of c (suc i)) d ≡ take (start_of c i) d ++ part c d i =
     ap (λ k. take k d) n ∙ take-add (start_of c i) (block_len c i) d in
     let b : take (start_of c (suc i)) e ≡ take (start_of c i) e ++ part c e i =
-    ap (λ k. take k e) n ∙ take-add (start_of c i) (block_len c i) e in
-    a ∙ (ap (λ xs. xs ++ part c d i) f ∙ (ap (λ xs. take (start_of c i) e ++ xs) (h i (omega arith)) ∙ sym b))
+    ap (λ k. take k e) n ∙ take-add (start_of c i) (block_len c i) e in search arith
 
 -- lists of codewords with equal blocks are equal
-pub parts-same : (c : BlockSizes) (d e : List ℕ) → length d ≡ codeword_count c → length e ≡ codeword_count c →
-    ((j : ℕ) → j < block_count c → part c d j ≡ part c e j) → d ≡ e
+pub parts-same : (c : BlockSizes) (d e : List ℕ) → length d ≡ codeword_count c → length e ≡ codeword_count c
+    → ((j : ℕ) → j < block_count c → part c d j ≡ part c e j) → d ≡ e
 parts-same c d e n m h =
-    sym (take-length d) ∙ (ap (λ k. take k d) n ∙ (fronts-same c d e (block_count c) h ∙ (ap (λ k. take k e) (sym m) ∙ take-length e)))
+    sym (take-length d) ∙ (ap (λ k. take k d) n ∙ (fronts-same c d e _ h ∙ (ap (λ k. take k e) (sym m) ∙ take-length e)))
 
 -- block i has the same length in two lists of the same length
 part-length : (c : BlockSizes) (d e : List ℕ) (i : ℕ) → length d ≡ length e → length (part c d i) ≡ length (part c e i)
 part-length c d e i h =
     let a = length-take (block_len c i) (drop (start_of c i) d) in
-    let b = length-take (block_len c i) (drop (start_of c i) e) in
-    let f = length-drop (start_of c i) d in
-    let g = length-drop (start_of c i) e in
-    omega (arith, a, b, f, g, h)
+    let b = length-take (block_len c i) (drop (start_of c i) e) in search (arith, length-drop)
 
 -- a block has at most 255 codewords
 part-short : (v : ℕ) (l : Level) (d : List ℕ) (i : ℕ) → 1 ≤ v → v ≤ 40 →
     length (part (data_sizes (blocks_of v l)) d i) + (blocks_of v l).ec_len ≤ 255
 part-short v l d i h k =
-    let b = blocks_of v l in
-    let c = data_sizes b in
+    let c = data_sizes (blocks_of v l) in
     let w = laws-of l v h k in
-    let few = w.len in
-    let ec = w.ec_most in
-    let a = length-take (block_len c i) (drop (start_of c i) d) in
-    let m = len-most c i in
-    omega (arith, a, m, few, ec)
+    omega (arith, (length-take (block_len c i) (drop (start_of c i) d)), (len-most c i), w.len, w.ec_most)
 
 -- some number below n has the property P, or all of them have the property Q
 search-below : (P Q : ℕ → Type 0) (n : ℕ) → ((i : ℕ) → i < n → P i ⊎ Q i) →
@@ -65,19 +54,15 @@ search-below P Q (suc n) f = elim (search-below P Q n (λ i l. f i (omega arith)
   | inl w ↦ let l = w.1 in inl (w.0, omega arith, w.2)
   | inr all ↦ elim (f n (omega arith)) [
     | inl p ↦ inl (n, omega arith, p)
-    | inr q ↦ inr (λ i l. elim (cases_lt i n) [
-      | inl m ↦ all i m
-      | inr m ↦ let e : n ≡ i = omega arith in subst Q e q
-    ])
+    | inr q ↦ search arith
   ]
 ]
 
 -- messages of a version and a level whose blocks are equal are equal
-blocks-same : (v : ℕ) (l : Level) (m n : HeldMessage v l) → 1 ≤ v → v ≤ 40 →
-    ((i : ℕ) → i < blocks_in v l → block_of (blocks_of v l) m.message i ≡ block_of (blocks_of v l) n.message i) → m.message ≡ n.message
+blocks-same : (v : ℕ) (l : Level) (m n : HeldMessage v l) → 1 ≤ v → v ≤ 40 → ((i : ℕ) → i < blocks_in v
+    l → block_of (blocks_of v l) m.message i ≡ block_of (blocks_of v l) n.message i) → m.message ≡ n.message
 blocks-same v l m n h k f =
-    let whole = data-sizes-whole v l h k in
-    parts-same (data_sizes (blocks_of v l)) m.message n.message (m.is.many ∙ sym whole) (n.is.many ∙ sym whole) f
+    let whole = data-sizes-whole v l h k in parts-same _ _ _ (m.is.many ∙ sym whole) (n.is.many ∙ sym whole) f
 
 -- two blocks of one index have equally many data codewords
 blocks-long : (v : ℕ) (l : Level) (m n : HeldMessage v l) (i : ℕ)
@@ -92,16 +77,13 @@ messages-apart v l h k m n o =
     let far : (i : ℕ) → i < blocks_in v l → apart i ⊎ (block_of b m.message i ≡ block_of b n.message i) =
     λ i s. elim (cases_lt b.ec_len (differences (held_block v l m i) (held_block v l n i))) [
       | inl z ↦ inl (omega arith)
-      | inr z ↦ inr (near-same b.ec_len (block_of b m.message i) (get_or m.is.interleaved.corrections i []) (block_of b n.message i) (get_or n.is.interleaved.corrections i []) (m.is.interleaved.each i s) (n.is.interleaved.each i s) (blocks-long v l m n i) (part-short v l m.message i h k) z)
-    ] in
-    elim (search-below apart (λ i. block_of b m.message i ≡ block_of b n.message i) (blocks_in v l) far) [
+      | inr z ↦ inr (near-same b.ec_len (block_of b _ i) (get_or _ i []) (block_of b _ i) (get_or _ i []) (m.is.interleaved.each i s) (n.is.interleaved.each i s) (blocks-long v l m n i) (part-short v l _ i h k) z)
+    ] in elim (search-below _ (λ i. block_of b m.message i ≡ block_of b _ i) _ far) [
       | inl w ↦ w
       | inr same ↦ absurd (o (blocks-same v l m n h k same))
     ]
 
 -- the law of damage
 pub damaged-one : (v : ℕ) (l : Level) → 1 ≤ v → v ≤ 40 → DamagedMessagesAreOne v l
-damaged-one v l h k m n read t few near near' =
-    let b = blocks_of v l in
-    blocks-same v l m n h k (λ i s.
-    unambiguous-known b.ec_len (t i) (block_of b m.message i) (get_or m.is.interleaved.corrections i []) (block_of b n.message i) (get_or n.is.interleaved.corrections i []) (read i) (m.is.interleaved.each i s) (n.is.interleaved.each i s) (blocks-long v l m n i) (part-short v l m.message i h k) (few i s) (near i s) (near' i s))
+damaged-one v l h k m n read t few near near' = let b = blocks_of v l in blocks-same v l m n h k (λ i s.
+    unambiguous-known b.ec_len (t i) (block_of b _ i) (get_or _ i []) (block_of b _ i) (get_or _ i []) (read i) (m.is.interleaved.each i s) (n.is.interleaved.each i s) (blocks-long v l m n i) (part-short v l _ i h k) (few i s) (near i s) (near' i s))

@@ -1,11 +1,10 @@
 -- The modules of row 8 and column 8 that are beside the finder patterns.
-use Rattle.std.proofs.Common.{◌≡◌, ℕ, ◌+◌, ◌-◌, ◌<◌, ◌≤◌, Bool, true, false, cond, eqb, ◌&&◌, ◌||◌, ◌⊎◌, refl, sym, ◌∙◌, ap, inl, inr, subst, arith}
+use Rattle.std.proofs.Common.{◌≡◌, ℕ, ◌+◌, ◌-◌, ◌<◌, ◌≤◌, Bool, true, false, cond, eqb, ◌&&◌, ◌||◌, ◌⊎◌, refl, sym, ◌∙◌, ap, inl, inr, arith}
 use Rattle.std.proofs.lemmas.Bool.{cases_eq, cases_lt, Decides.nat_tests}
-use Rattle.qr_layout.specs.declared.{region.Module.Module, role.Role.Role}
-use Rattle.qr_layout.specs.declared.role.Role.TheVariants.{Fixed, FormatBit, VersionBit, Region}
-use Rattle.qr_layout.specs.{Version.side_of, Format.version_word_of, Region.is_corner}
-use Rattle.qr_layout.specs.Role.{role_of, first_place, second_place}
 use Rattle.qr_layout.proofs.Facts.{dark-module, format-first, format-only, format-second}
+use Rattle.qr_layout.specs.{Format.version_word_of, Region.is_corner, Role.role_of, Role.first_place, Role.second_place}
+use Rattle.qr_layout.specs.{Version.side_of, declared.region.Module.Module, declared.role.Role.Role}
+use Rattle.qr_layout.specs.declared.role.Role.TheVariants.{Fixed, FormatBit, VersionBit, Region}
 use Rattle.qr_symbol.specs.Steps.Patterns.{fixed_colour, format_or, is_dark_in_six, is_in_block, paint_of}
 use Rattle.qr_symbol.proofs.lemmas.placement.PlacementLemmas.{at, by_test}
 use Rattle.qr_symbol.proofs.lemmas.patterns.TimingLemmas.{paint-column_six, paint-fixed, paint-row_six}
@@ -62,29 +61,29 @@ stays-painted v r c format = stays (role_of v r c)
 
 -- the bits of the two copies of the format information
 at-first : (v r c i : ℕ) → 1 ≤ v → v ≤ 40 → i < 15 → (first_place i).row ≡ r → (first_place i).col ≡ c → role_of v r c ≡ FormatBit i
-at-first v r c i k1 k2 l e f = ap (λ z. role_of v z c) (sym e) ∙ (ap (λ z. role_of v (first_place i).row z) (sym f) ∙ format-first v i k1 k2 l)
+at-first v r c i k1 k2 l e f = cc (format-first v i k1 k2 l)
 
 at-second : (v r c i : ℕ) → 1 ≤ v → v ≤ 40 → i < 15 → (second_place (side_of v) i).row ≡ r → (second_place (side_of v) i).col ≡ c → role_of v r c ≡ FormatBit i
-at-second v r c i k1 k2 l e f = ap (λ z. role_of v z c) (sym e) ∙ (ap (λ z. role_of v (second_place (side_of v) i).row z) (sym f) ∙ format-second v i k1 k2 l)
+at-second v r c i k1 k2 l e f = cc (format-second v i k1 k2 l)
 
 -- the places beside the finder patterns, but for the timing modules and the dark module, have bits of the format information
-column-painted : (v r format : ℕ) (w : Bool) → 1 ≤ v → v ≤ 40 → (9 ≤ r → side_of v - 8 < r) → r < side_of v
-    → (r ≡ 6 → ⊥) → format_or format (role_of v r 8) w ≡ paint_of v format r 8
+column-painted : (v r format : ℕ) (w : Bool) → 1 ≤ v → v ≤ 40 → (9 ≤ r → side_of v - 8 < r)
+    → r < side_of v → (r ≡ 6 → ⊥) → format_or format (role_of v r 8) w ≡ paint_of v format r 8
 column-painted v r format w k1 k2 n l o = elim (cases_lt r 6) [
-  | inl a ↦ bit-painted v r 8 format r w (at-first v r 8 r k1 k2 (omega arith) (grind (arith, nat_tests)) (grind (arith, nat_tests)))
+  | inl a ↦ bit-painted v r 8 _ r w (at-first v r 8 r k1 k2 (omega arith) (grind (arith, nat_tests)) (grind (arith, nat_tests)))
   | inr a ↦ elim (cases_lt r 9) [
-    | inl b ↦ bit-painted v r 8 format (r - 1) w (at-first v r 8 (r - 1) k1 k2 (omega arith) (grind (arith, nat_tests)) (grind (arith, nat_tests)))
-    | inr b ↦ let d = n b in bit-painted v r 8 format (r + 15 - side_of v) w (at-second v r 8 (r + 15 - side_of v) k1 k2 (omega arith) (grind (arith, nat_tests)) (grind (arith, nat_tests)))
+    | inl b ↦ bit-painted v r 8 format _ w (at-first v r 8 (r - 1) k1 k2 (omega arith) (grind (arith, nat_tests)) (grind (arith, nat_tests)))
+    | inr b ↦ bit-painted v r 8 _ (r + 15 - side_of v) w (at-second v r 8 _ k1 k2 (omega arith) (grind (arith, nat_tests)) (grind (arith, nat_tests)))
   ]
 ]
 
-row-painted : (v c format : ℕ) (w : Bool) → 1 ≤ v → v ≤ 40 → (8 ≤ c → side_of v - 8 ≤ c) → c < side_of v → (c ≡ 6 → ⊥)
-    → format_or format (role_of v 8 c) w ≡ paint_of v format 8 c
+row-painted : (v c format : ℕ) (w : Bool) → 1 ≤ v → v ≤ 40 → (8 ≤ c → side_of v - 8 ≤ c)
+    → c < side_of v → (c ≡ 6 → ⊥) → format_or format (role_of v 8 c) w ≡ paint_of v format 8 c
 row-painted v c format w k1 k2 n l o = elim (cases_lt c 6) [
-  | inl a ↦ bit-painted v 8 c format (14 - c) w (at-first v 8 c (14 - c) k1 k2 (omega arith) (grind (arith, nat_tests)) (grind (arith, nat_tests)))
+  | inl a ↦ bit-painted v 8 c _ (14 - c) w (at-first v 8 c _ k1 k2 (omega arith) (grind (arith, nat_tests)) (grind (arith, nat_tests)))
   | inr a ↦ elim (cases_lt c 8) [
     | inl b ↦ bit-painted v 8 c format 8 w (at-first v 8 c 8 k1 k2 (omega arith) (grind (arith, nat_tests)) (grind (arith, nat_tests)))
-    | inr b ↦ let d = n b in bit-painted v 8 c format (side_of v - 1 - c) w (at-second v 8 c (side_of v - 1 - c) k1 k2 (omega arith) (grind (arith, nat_tests)) (grind (arith, nat_tests)))
+    | inr b ↦ let d = n b in bit-painted v 8 c _ (side_of v - 1 - c) w (at-second v 8 c _ k1 k2 (omega arith) (grind (arith, nat_tests)) (grind (arith, nat_tests)))
   ]
 ]
 
@@ -93,14 +92,14 @@ beside-column : (s r c : ℕ) → 21 ≤ s → r < s → begun s r c ≡ false �
     → (9 ≤ r → s - 8 < r) × (r ≡ 6 → ⊥)
 beside-column s r c h l t u e = (λ a. grind (arith, nat_tests), λ a. grind (arith, nat_tests))
 
-beside-row : (s r c : ℕ) → 21 ≤ s → r < s → c < s → begun s r c ≡ false → is_corner s r c ≡ true → (c ≡ 8 → ⊥)
-    → (r ≡ 8) × (8 ≤ c → s - 8 ≤ c) × (c ≡ 6 → ⊥)
+beside-row : (s r c : ℕ) → 21 ≤ s → r < s → c < s → begun s r c ≡ false → is_corner s r c ≡ true
+    → (c ≡ 8 → ⊥) → (r ≡ 8) × (8 ≤ c → s - 8 ≤ c) × (c ≡ 6 → ⊥)
 beside-row s r c h l m t u e = (grind (arith, nat_tests), λ a. grind (arith, nat_tests), λ a. grind (arith, nat_tests))
 
 -- drawing the format information does not change the modules outside the corners
 outside-kept : (v r c format : ℕ) (w : Bool) → 1 ≤ v → is_corner (side_of v) r c ≡ false → format_or format (role_of v r c) w ≡ w
 unfolding format_or
-outside-kept v r c format w k h = kept (role_of v r c) (λ i q. far i (format-only v (at r c) i q))
+outside-kept v r c format w k h = kept _ (λ i q. far i (format-only v _ i q))
   where
     first : (i : ℕ) → i < 15 → r ≡ (first_place i).row → c ≡ (first_place i).col → ⊥
     first i l e f = grind (arith, nat_tests)
@@ -115,27 +114,20 @@ outside-kept v r c format w k h = kept (role_of v r c) (λ i q. far i (format-on
     ]
 
     kept : (q : Role) → ((i : ℕ) → q ≡ FormatBit i → ⊥) → format_or format q w ≡ w
-    kept (Fixed dark) f = refl
     kept (FormatBit i) f = absurd (f i refl)
-    kept (VersionBit i) f = refl
-    kept Region f = refl
+    kept _ f = refl
 
 -- the format information completes the corners
 pub corners-done : (v r c format : ℕ) (w : Bool) → 1 ≤ v → v ≤ 40 → r < side_of v → c < side_of v
     → format_or format (role_of v r c) (cond (begun (side_of v) r c) (paint_of v format r c) w) ≡ cond (is_corner (side_of v) r c) (paint_of v format r c) w
 corners-done v r c format w k1 k2 l m =
     let q = role_of v r c in
-    let p = paint_of v format r c in
-    let corner = is_corner (side_of v) r c in
-    let b = begun (side_of v) r c in
-    by_test b (format_or format q (cond b p w) ≡ cond corner p w)
-    (λ t. ap (λ z. format_or format q (cond z p w)) t ∙ (stays-painted v r c format ∙ ap (λ z. cond z p w) (sym (begun-corner (side_of v) (omega arith) l m t))))
-    (λ t. by_test corner (format_or format q (cond b p w) ≡ cond corner p w)
-    (λ u. elim (cases_eq c 8) [
-      | inl e ↦ (let d = beside-column (side_of v) r c (omega arith) l t u e in rw u (subst (λ z. format_or format (role_of v r z) (cond b p w) ≡ paint_of v format r z) (sym e) (column-painted v r format (cond b p w) k1 k2 d.0 l d.1)))
-      | inr e ↦ (let d = beside-row (side_of v) r c (omega arith) l m t u e in rw u (subst (λ z. format_or format (role_of v z c) (cond b p w) ≡ paint_of v format z c) (sym d.0) (row-painted v c format (cond b p w) k1 k2 d.1 m d.2)))
-    ])
-    (λ u. outside-kept v r c format (cond b p w) k1 u ∙ (ap (λ z. cond z p w) t ∙ ap (λ z. cond z p w) (sym u))))
+    let p = paint_of v _ r c in by_test _ _
+    (λ t. ap (λ z. format_or format q (cond z p w)) t ∙ (stays-painted v r c _ ∙ ap (λ z. cond z p w) (sym (begun-corner _ (omega arith) l m t))))
+    (λ t. by_test (is_corner (side_of v) r c) (format_or _ q _ ≡ cond _ p w) (λ u. elim (cases_eq c 8) [
+      | inl e ↦ (let d = beside-column _ r c (omega arith) l t u e in cc (column-painted v r _ _ k1 k2 d.0 l d.1))
+      | inr e ↦ (let d = beside-row _ r c (omega arith) l m t u e in cc (row-painted v c _ _ k1 k2 d.1 m d.2))
+    ]) (λ u. cc (outside-kept v r c _ _ k1 u)))
   where
     begun-corner : (s : ℕ) → 21 ≤ s → r < s → c < s → begun s r c ≡ true → is_corner s r c ≡ true
     begun-corner s h l m t = grind (arith, nat_tests)

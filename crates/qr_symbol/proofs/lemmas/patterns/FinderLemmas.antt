@@ -1,17 +1,15 @@
 -- Finder patterns as three squares, each inside the one before.
+use Rattle.qr_layout.specs.{Region.ring_of, Role.{finder_ring, pattern_colour, role_of}, Version.side_of}
+use Rattle.qr_layout.specs.declared.role.Role.TheVariants.{Fixed}
+use Rattle.qr_symbol.{proofs.lemmas.patterns.TimingLemmas.paint-fixed, specs.Steps.Patterns.{is_in_block, paint_of}}
 use Rattle.std.proofs.Common.{◌≡◌, ℕ, ◌+◌, ◌-◌, ◌<◌, ◌≤◌, Bool, true, false, not, cond, eqb, ltb, leb, ◌&&◌, refl, sym, ◌∙◌, inl, inr, arith}
 use Rattle.std.proofs.lemmas.Bool.{cases_lt, Decides.nat_tests}
-use Rattle.qr_layout.specs.{declared.role.Role.TheVariants.Fixed, Version.side_of, Region.ring_of}
-use Rattle.qr_layout.specs.Role.{finder_ring, pattern_colour, role_of}
-use Rattle.qr_symbol.specs.Steps.Patterns.{is_in_block, paint_of}
-use Rattle.qr_symbol.proofs.lemmas.patterns.TimingLemmas.{paint-fixed}
 
 -- three squares, painted one inside the other, leave only ring 2 light
-pub three-squares : (a b r c : ℕ) (w x y z : Bool) → 3 ≤ a → 3 ≤ b
-    → x ≡ cond (leb (a - 3) r && ltb r (a + 4) && leb (b - 3) c && ltb c (b + 4)) true w
-    → y ≡ cond (leb (a - 2) r && ltb r (a + 3) && leb (b - 2) c && ltb c (b + 3)) false x
-    → z ≡ cond (leb (a - 1) r && ltb r (a + 2) && leb (b - 1) c && ltb c (b + 2)) true y
-    → z ≡ cond (ltb (ring_of a b r c) 4) (not (eqb (ring_of a b r c) 2)) w
+pub three-squares : (a b r c : ℕ) (w x y z : Bool) → 3 ≤ a → 3 ≤ b → x ≡ cond (leb (a - 3) r && ltb r (a +
+    4) && leb (b - 3) c && ltb c (b + 4)) true w → y ≡ cond (leb (a - 2) r && ltb r (a + 3) && leb (b - 2) c && ltb
+    c (b + 3)) false x → z ≡ cond (leb (a - 1) r && ltb r (a + 2) && leb (b - 1) c && ltb c (b + 2)) true y → z
+    ≡ cond (ltb (ring_of a b r c) 4) (not (eqb (ring_of a b r c) 2)) w
 three-squares a b r c w x y z k l d e f = grind (arith, nat_tests)
 
 -- a finder pattern, painted in its block, hides what was there before
@@ -37,17 +35,13 @@ block-of : (a b r c top left : ℕ) → top + 3 ≤ a → a ≤ top + 4 → left
 block-of a b r c top left h i j k e = grind (arith, nat_tests)
 
 -- the colours after a block is painted: a finder pattern and its separator inside it, the old colours outside
-pub block-paint : (v r c a b top left format : ℕ) (w x y : Bool) → top + 3 ≤ a → a ≤ top + 4 → left + 3 ≤ b
-    → b ≤ left + 4
-    → (ring_of a b r c ≤ 4 → finder_ring (side_of v) r c ≡ ring_of a b r c)
-    → x ≡ cond (is_in_block top left r c) false w
-    → y ≡ cond (ltb (ring_of a b r c) 4) (not (eqb (ring_of a b r c) 2)) x
-    → y ≡ cond (is_in_block top left r c) (paint_of v format r c) w
+pub block-paint : (v r c a b top left format : ℕ) (w x y : Bool) → top + 3 ≤ a → a ≤ top + 4 → left + 3 ≤
+    b → b ≤ left + 4 → (ring_of a b r c ≤ 4 → finder_ring (side_of v) r c ≡ ring_of a b r c) → x ≡ cond
+    (is_in_block top left r c) false w → y ≡ cond (ltb (ring_of a b r c) 4) (not (eqb (ring_of a b r c) 2)) x → y
+    ≡ cond (is_in_block top left r c) (paint_of v format r c) w
 block-paint v r c a b top left format w x y h i j k near d e =
-    e ∙ rw d (block-tests (is_in_block top left r c) (ltb (ring_of a b r c) 4) (not (eqb (ring_of a b r c) 2)) w (block-of a b r c top left h i j k)
-    ∙ in-its-block (is_in_block top left r c) _ _ w (λ e.
-    let n = in-block a b r c top left h i j k e in
-    sym (paint-fixed v r c format (ltb (ring_of a b r c) 4 && not (eqb (ring_of a b r c) 2)) (finder-role v r c (ring_of a b r c) (near n) n))))
+    e ∙ rw d (block-tests _ _ _ w (block-of a b r c top _ h i j k) ∙ in-its-block _ _ _ w (λ e.
+    let n = in-block a b r c top _ h i j k e in sym (paint-fixed v r c _ _ (finder-role v r c _ (near n) n))))
   where
     in-its-block : (t x y w : Bool) → (t ≡ true → x ≡ y) → cond t x w ≡ cond t y w
     in-its-block t x y w e = grind (arith, nat_tests)

@@ -1,21 +1,18 @@
 -- Squares that are painted at the places that pass a test.
-use Rattle.std.proofs.Common.{◌≡◌, ℕ, ◌+◌, ◌-◌, ◌<◌, ◌≤◌, Bool, true, false, not, cond, eqb, ltb, leb, ◌&&◌, ◌||◌, List, [], ◌∷◌, length, take, get_or, refl, ◌∙◌, ap, inl, inr, arith}
-use Rattle.std.proofs.lemmas.{Bool.Decides.nat_tests, List.take_more, List.Folds.list_any-append}
-use Rattle.std.specs.List.{list_any}
-use Rattle.qr_layout.specs.{declared.region.Module.Module, declared.rectangles.Rectangle.Rectangle, Version.side_of}
-use Rattle.qr_layout.specs.Alignment.{alignment_places, centres_of}
-use Rattle.qr_layout.specs.{Region.is_alignment, Region.ring_of, Role.is_alignment_light}
-use Rattle.qr_matrix.specs.Grid.{Grid, square, colour, painted, with_rectangle, IsSquare}
+use Rattle.qr_layout.specs.{Region.{is_alignment, ring_of}, Role.is_alignment_light}
+use Rattle.qr_layout.specs.declared.{rectangles.Rectangle.Rectangle, region.Module.Module}
 use Rattle.qr_matrix.proofs.Facts.{same-place, square-same, colour-square}
-use Rattle.qr_symbol.specs.Steps.Patterns.{IsOver}
-use Rattle.qr_symbol.proofs.lemmas.placement.PlacementLemmas.{square-is}
+use Rattle.qr_matrix.specs.Grid.{Grid, square, colour, painted, with_rectangle, IsSquare}
+use Rattle.qr_symbol.{proofs.lemmas.placement.PlacementLemmas.square-is, specs.Steps.Patterns.IsOver}
+use Rattle.std.proofs.Common.{◌≡◌, ℕ, ◌+◌, ◌-◌, ◌<◌, ◌≤◌, Bool, true, false, not, cond, eqb, ltb, leb, ◌&&◌, ◌||◌, List, [], ◌∷◌, length, take, get_or, refl, ◌∙◌, ap, arith}
+use Rattle.std.{proofs.lemmas.{Bool.Decides.nat_tests, List.{take_more, Folds.list_any-append}}, specs.List.list_any}
 
 -- a square with these colours
-pub over-is : {s : ℕ} {g : Grid} (t f h : ℕ → ℕ → Bool) → g ≡ square s (λ r c. cond (t r c) (f r c) (h r c))
-    → IsOver s t f h g
+pub over-is : {s : ℕ} {g : Grid} (t f h : ℕ → ℕ → Bool)
+    → g ≡ square s (λ r c. cond (t r c) (f r c) (h r c)) → IsOver s t f h g
 over-is {s} {g} t f h e = record {
   square = square-is s (λ r c. cond (t r c) (f r c) (h r c)) g e;
-  colours = λ r c l m. ap (λ (z : Grid). colour z r c) e ∙ colour-square s (λ r c. cond (t r c) (f r c) (h r c)) r c l m;
+  colours = search (arith, colour-square);
 }
 
 -- the side of a painted square
@@ -24,19 +21,17 @@ over-side e = ap (λ (z : Grid). z.side) e.square
 
 -- a painted square whose side is given otherwise
 pub over-sized : {n s : ℕ} {t f h : ℕ → ℕ → Bool} {g : Grid} → n ≡ s → IsOver n t f h g → IsOver s t f h g
-over-sized e d = record { square = rw (← e) d.square; colours = λ r c l m. d.colours r c (omega arith) (omega arith) }
+over-sized e d = search arith
 
 -- painting twice is painting at the places that pass one of the two tests
 twice : (t u w x y a b : Bool) → a ≡ cond t x y → b ≡ cond u x a → w ≡ (t || u) → b ≡ cond w x y
 twice t u w x y a b e k d = grind (arith, nat_tests)
 
 -- painting a square twice, with the same colours, is painting it once
-pub over-twice : {s : ℕ} {t u f h : ℕ → ℕ → Bool} {g g' : Grid} (w : ℕ → ℕ → Bool) → IsOver s t f h g
-    → IsOver s u f (colour g) g' → ((r c : ℕ) → r < s → c < s → w r c ≡ (t r c || u r c)) → IsOver s w f h g'
-over-twice {s} {t} {u} {f} {h} w e k d = record {
-  square = k.square;
-  colours = λ r c l m. twice (t r c) (u r c) (w r c) (f r c) (h r c) _ _ (e.colours r c l m) (k.colours r c l m) (d r c l m);
-}
+pub over-twice : {s : ℕ} {t u f h : ℕ → ℕ → Bool} {g g' : Grid} (w : ℕ → ℕ → Bool)
+    → IsOver s t f h g → IsOver s u f (colour g) g'
+    → ((r c : ℕ) → r < s → c < s → w r c ≡ (t r c || u r c)) → IsOver s w f h g'
+over-twice {s} {t} {u} {f} {h} w e k d = search (arith, twice)
 
 -- if no place passes the test, the square is unchanged
 pub over-none : {s : ℕ} {t f : ℕ → ℕ → Bool} {g : Grid} → IsSquare s g → ((r c : ℕ) → r < s → c < s → t r c ≡ false)
@@ -49,32 +44,29 @@ pub over-same : {s : ℕ} {t u f h : ℕ → ℕ → Bool} {g : Grid} → IsOver
 over-same e d = record { square = e.square; colours = λ r c l m. rw (← d r c l m) (e.colours r c l m) }
 
 -- one place is painted
-pub over-place : {s : ℕ} (f : ℕ → ℕ → Bool) (g g' : Grid) (row col : ℕ) (d : Bool) → g.side ≡ s → d ≡ f row col
-    → g' ≡ painted g row col d → IsOver s (λ r c. eqb r row && eqb c col) f (colour g) g'
-over-place f g g' row col d e k p = over-is (λ r c. eqb r row && eqb c col) f (colour g) (
-    p ∙ (square-same g.side (λ r c. cond (eqb r row && eqb c col) d (colour g r c)) (λ r c. cond (eqb r row && eqb c col) (f r c) (colour g r c)) (λ r c l m. elim (same-place row col r c) [
-      | inl w ↦ rw (w.0.0, w.0.1, k) refl
-      | inr w ↦ rw w.1 refl
-    ]) ∙ ap (λ z. square z (λ r c. cond (eqb r row && eqb c col) (f r c) (colour g r c))) e))
+pub over-place : {s : ℕ} (f : ℕ → ℕ → Bool) (g g' : Grid) (row col : ℕ) (d : Bool) → g.side ≡ s
+    → d ≡ f row col → g' ≡ painted g row col d → IsOver s (λ r c. eqb r row && eqb c col) f (colour g) g'
+over-place f g g' row col d e k p = over-is (λ r c. eqb r row && eqb c col) f _ (search (arith, square-same, same-place))
 
 -- a rectangle is painted in one colour
 pub over-rectangle : {s : ℕ} {g' : Grid} {d : Bool} (g : Grid) (top bottom left right : ℕ) → g.side ≡ s
-    → g' ≡ with_rectangle g top bottom left right d → IsOver s (λ r c. leb top r && ltb r bottom && leb left c && ltb c
-    right) (λ _ _. d) (colour g) g'
-over-rectangle {d = d} g top bottom left right e k = over-is (λ r c. leb top r && ltb r bottom && leb left c && ltb c right) (λ _ _. d) (colour g) (rw (← e) k)
+    → g' ≡ with_rectangle g top bottom left right d
+    → IsOver s (λ r c. leb top r && ltb r bottom && leb left c && ltb c right) (λ _ _. d) (colour g) g'
+over-rectangle {d = d} g top bottom left right e k = over-is (λ r c. leb top r && ltb r _ && leb _ c && ltb c _) (λ _ _. d) _ (rw (← e) k)
 
 -- the test of one more item in a list
 any-more : {X : Type 0} (p : X → Bool) (xs : List X) (i : ℕ) (d : X) → i < length xs → list_any p (take (i + 1) xs) ≡ (list_any p (take i xs) || p (get_or xs i d))
-any-more p xs i d l = ap (list_any p) (take_more xs i d l) ∙ (list_any-append p (take i xs) (get_or xs i d ∷ []) ∙ ap (λ z. list_any p (take i xs) || z) (or-false (p (get_or xs i d))))
+any-more p xs i d l = ap (list_any p) (take_more xs i d l) ∙ (list_any-append p (take i xs) (get_or xs i d ∷ []) ∙ ap (λ z. list_any p (take i xs) || z) (or-false _))
   where
     or-false : (b : Bool) → (b || false) ≡ b
     or-false true = refl
-    or-false false = refl
+    or-false _ = refl
 
 -- painting the places of one more item in a list
-pub over-item : {X : Type 0} {s : ℕ} {f h : ℕ → ℕ → Bool} {g g' : Grid} (p : X → ℕ → ℕ → Bool) (xs : List X) (i : ℕ)
-    (d : X) → i < length xs → IsOver s (λ r c. list_any (λ x. p x r c) (take i xs)) f h g
-    → IsOver s (p (get_or xs i d)) f (colour g) g' → IsOver s (λ r c. list_any (λ x. p x r c) (take (i + 1) xs)) f h g'
+pub over-item : {X : Type 0} {s : ℕ} {f h : ℕ → ℕ → Bool} {g g' : Grid} (p : X → ℕ → ℕ
+    → Bool) (xs : List X) (i : ℕ) (d : X) → i < length xs
+    → IsOver s (λ r c. list_any (λ x. p x r c) (take i xs)) f h g → IsOver s (p (get_or xs i d)) f (colour g) g'
+    → IsOver s (λ r c. list_any (λ x. p x r c) (take (i + 1) xs)) f h g'
 over-item p xs i d l e k = over-twice (λ r c. list_any (λ x. p x r c) (take (i + 1) xs)) e k (λ r c _ _. any-more (λ x. p x r c) xs i d l)
 
 -- a rectangle that stands in for an index past the end of a list
@@ -84,8 +76,9 @@ no_rectangle = record { top = 0; bottom = 0; left = 0; right = 0 }
 -- ---- the ring round a centre
 
 -- the four sides of the ring
-pub ring-sides : (a b r c : ℕ) → 1 ≤ a → 1 ≤ b → eqb (ring_of a b r c) 1
-    ≡ ((((leb (a - 1) r && ltb r a && leb (b - 1) c && ltb c (b + 2)) || (leb (a + 1) r && ltb r (a + 2) && leb (b - 1) c && ltb c (b + 2))) || (leb a r && ltb r (a + 1) && leb (b - 1) c && ltb c b)) || (leb a r && ltb r (a + 1) && leb (b + 1) c && ltb c (b + 2)))
+pub ring-sides : (a b r c : ℕ) → 1 ≤ a → 1 ≤ b → eqb (ring_of a b r c) 1 ≡ ((((leb (a - 1) r && ltb r a &&
+    leb (b - 1) c && ltb c (b + 2)) || (leb (a + 1) r && ltb r (a + 2) && leb (b - 1) c && ltb c (b + 2))) || (leb a r
+    && ltb r (a + 1) && leb (b - 1) c && ltb c b)) || (leb a r && ltb r (a + 1) && leb (b + 1) c && ltb c (b + 2)))
 ring-sides a b r c k l = grind (arith, nat_tests)
 
 -- ---- tests with other brackets
@@ -101,16 +94,16 @@ fixed-tests a b d e l x w t r i h = grind (arith, nat_tests)
 -- a place in the light ring of an alignment pattern is in the alignment pattern
 pub light-inside : (v r c : ℕ) → is_alignment_light v r c ≡ true → is_alignment v r c ≡ true
 unfolding is_alignment_light
-light-inside v r c h = rings (alignment_places (side_of v) (centres_of v)) h
+light-inside v r c h = rings _ h
   where
     ring : (n : ℕ) → eqb n 1 ≡ true → leb n 2 ≡ true
     ring n e = grind (arith, nat_tests)
 
     first : (p q a b : Bool) → (p ≡ true → q ≡ true) → (a ≡ true → b ≡ true) → (p || a) ≡ true → (q || b) ≡ true
     first true q a b f g e = rw (f refl) refl
-    first false true a b f g e = refl
-    first false false a b f g e = g e
+    first _ true a b f g e = refl
+    first _ _ a b f g e = g e
 
     rings : (ms : List Module) → list_any (λ m. eqb (ring_of m.row m.col r c) 1) ms ≡ true → list_any (λ m. leb (ring_of m.row m.col r c) 2) ms ≡ true
     rings [] e = cc
-    rings (m ∷ ms) e = first (eqb (ring_of m.row m.col r c) 1) (leb (ring_of m.row m.col r c) 2) (list_any (λ m. eqb (ring_of m.row m.col r c) 1) ms) (list_any (λ m. leb (ring_of m.row m.col r c) 2) ms) (ring (ring_of m.row m.col r c)) (rings ms) e
+    rings (m ∷ ms) e = first _ _ _ _ (ring _) (rings ms) e

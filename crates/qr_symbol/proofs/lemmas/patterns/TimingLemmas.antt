@@ -1,9 +1,9 @@
 -- The colours of row 6 and column 6.
+use Rattle.qr_layout.specs.{Format.version_word_of, Region.is_timing, Role.{finder_ring, pattern_colour, role_of}}
+use Rattle.qr_layout.specs.{Version.side_of, declared.role.Role.TheVariants.Fixed}
+use Rattle.qr_symbol.specs.Steps.Patterns.{fixed_colour, is_dark_in_six, paint_of}
 use Rattle.std.proofs.Common.{◌≡◌, ℕ, ◌+◌, ◌-◌, ◌%◌, ◌<◌, ◌≤◌, Bool, true, false, eqb, ltb, ◌&&◌, ◌||◌, refl, sym, ◌∙◌, ap, inl, inr, arith}
 use Rattle.std.proofs.lemmas.Bool.{cases_lt, Decides.nat_tests}
-use Rattle.qr_layout.specs.{declared.role.Role.TheVariants.Fixed, Format.version_word_of}
-use Rattle.qr_layout.specs.{Region.is_timing, Version.side_of, Role.finder_ring, Role.pattern_colour, Role.role_of}
-use Rattle.qr_symbol.specs.Steps.Patterns.{fixed_colour, is_dark_in_six, paint_of}
 
 -- a place in ring 3 of a finder pattern is dark
 ring-three : (v r c : ℕ) → finder_ring (side_of v) r c ≡ 3 → role_of v r c ≡ Fixed true
@@ -16,34 +16,29 @@ unfolding role_of pattern_colour
 ring-four v r c e = rw e refl
 
 -- row 6, or column 6: its ends are in ring 3 and ring 4 of finder patterns, and between them is a timing pattern
-six : (v r c at : ℕ) → 21 ≤ side_of v → at < side_of v → (at < 7 → finder_ring (side_of v) r c ≡ 3) → (side_of v - 7 ≤ at → finder_ring (side_of v) r c ≡ 3)
-    → (at ≡ 7 → finder_ring (side_of v) r c ≡ 4) → (at ≡ side_of v - 8 → finder_ring (side_of v) r c ≡ 4)
-    → (7 < at → at < side_of v - 8 → role_of v r c ≡ Fixed (eqb (at % 2) 0)) → role_of v r c ≡ Fixed (is_dark_in_six (side_of v) at)
+six : (v r c at : ℕ) → 21 ≤ side_of v → at < side_of v → (at < 7 → finder_ring (side_of v) r c ≡ 3) →
+    (side_of v - 7 ≤ at → finder_ring (side_of v) r c ≡ 3) → (at ≡ 7 → finder_ring (side_of v) r c ≡ 4)
+    → (at ≡ side_of v - 8 → finder_ring (side_of v) r c ≡ 4) → (7 < at → at < side_of v - 8 → role_of v r
+    c ≡ Fixed (eqb (at % 2) 0)) → role_of v r c ≡ Fixed (is_dark_in_six (side_of v) at)
 six v r c at least inside near far seven eight off = elim (cases_lt at 7) [
-  | inl l ↦ ring-three v r c (near l) ∙ ap Fixed (sym (dark-near (side_of v) at l))
-  | inr l ↦ elim (cases_lt at (side_of v - 7)) [
-    | inr m ↦ ring-three v r c (far m) ∙ ap Fixed (sym (dark-far (side_of v) at m))
+  | inl l ↦ search (arith, ring-three)
+  | inr l ↦ elim (cases_lt at _) [
+    | inr m ↦ ring-three v r c (far m) ∙ ap Fixed (sym (dark-far _ at m))
     | inl m ↦ elim (cases_lt 7 at) [
-      | inr n ↦ ring-four v r c (seven (omega arith)) ∙ ap Fixed (sym (between (side_of v) at l m ∙ odd-light at (omega arith)))
-      | inl n ↦ elim (cases_lt at (side_of v - 8)) [
-        | inr o ↦ ring-four v r c (eight (omega arith)) ∙ ap Fixed (sym (between (side_of v) at l m ∙ odd-light at (omega arith)))
-        | inl o ↦ off n o ∙ ap Fixed (sym (between (side_of v) at l m))
+      | inr n ↦ search (arith, ring-four)
+      | inl n ↦ elim (cases_lt at _) [
+        | inr o ↦ search (arith, ring-four)
+        | inl o ↦ off n o ∙ ap Fixed (sym (between _ at l m))
       ]
     ]
   ]
 ]
   where
-    dark-near : (s at : ℕ) → at < 7 → is_dark_in_six s at ≡ true
-    dark-near s at l = grind (arith, nat_tests)
-
     dark-far : (s at : ℕ) → s - 7 ≤ at → is_dark_in_six s at ≡ true
     dark-far s at l = grind (arith, nat_tests)
 
     between : (s at : ℕ) → 7 ≤ at → at < s - 7 → is_dark_in_six s at ≡ eqb (at % 2) 0
     between s at l m = grind (arith, nat_tests)
-
-    odd-light : (at : ℕ) → at % 2 ≡ 1 → eqb (at % 2) 0 ≡ false
-    odd-light at e = grind (arith, nat_tests)
 
 -- a place beyond ring 4 is in no finder pattern
 five-on : (n : ℕ) → 5 ≤ n → (ltb n 4 ≡ false) × (eqb n 4 ≡ false)
@@ -57,7 +52,7 @@ row-off v at h = rw ((five-on (finder_ring (side_of v) 6 at) h).0, (five-on (fin
 -- between the finder patterns column 6 is a timing pattern
 column-off : (v at : ℕ) → 5 ≤ finder_ring (side_of v) at 6 → 7 < at → role_of v at 6 ≡ Fixed (eqb (at % 2) 0)
 unfolding role_of pattern_colour
-column-off v at h k = rw ((five-on (finder_ring (side_of v) at 6) h).0, (five-on (finder_ring (side_of v) at 6) h).1, other at k) refl
+column-off v at h k = rw ((five-on _ h).0, (five-on _ h).1, other at k) refl
   where
     other : (n : ℕ) → 7 < n → eqb n 6 ≡ false
     other n h = grind (arith, nat_tests)

@@ -1,11 +1,10 @@
 -- The version information, drawn bit by bit at its two places.
-use Rattle.std.proofs.Common.{◌≡◌, ℕ, ◌+◌, ◌-◌, ◌*◌, ◌/◌, ◌%◌, ◌<◌, ◌≤◌, Bool, false, true, eqb, ltb, leb, ◌&&◌, ◌||◌, sym, ap, arith}
-use Rattle.std.proofs.lemmas.Bool.Decides.{nat_tests}
-use Rattle.qr_layout.specs.{declared.role.Role.TheVariants.VersionBit, Version.side_of, Format.version_word_of}
-use Rattle.qr_layout.specs.{Region.is_version_block, Region.is_version_information, Role.role_of}
 use Rattle.qr_layout.proofs.Facts.{version-first, version-second}
-use Rattle.qr_matrix.specs.BitRow.{has_bit}
+use Rattle.qr_layout.specs.{Format.version_word_of, Region.is_version_information, Role.role_of, Version.side_of}
+use Rattle.{qr_layout.specs.declared.role.Role.TheVariants.VersionBit, qr_matrix.specs.BitRow.has_bit}
 use Rattle.qr_symbol.specs.Steps.Patterns.{fixed_colour, paint_of}
+use Rattle.std.proofs.Common.{◌≡◌, ℕ, ◌+◌, ◌-◌, ◌*◌, ◌/◌, ◌%◌, ◌<◌, ◌≤◌, Bool, false, eqb, ltb, leb, ◌&&◌, ◌||◌, sym, ap, arith}
+use Rattle.std.proofs.lemmas.Bool.Decides.{nat_tests}
 
 -- the places of the first n bits beside the top right finder pattern
 abbrev part : ℕ → ℕ → ℕ → ℕ → Bool
@@ -25,10 +24,7 @@ version-more s n r c h = grind (arith, nat_tests)
 
 -- all eighteen bits fill the two blocks of version information
 pub version-all : (v r c : ℕ) → 7 ≤ v → version_drawn (side_of v) 18 r c ≡ is_version_information v r c
-version-all v r c h = let t : leb 7 v ≡ true = grind (arith, nat_tests) in rw t (blocks (side_of v) (omega arith))
-  where
-    blocks : (s : ℕ) → 21 ≤ s → version_drawn s 18 r c ≡ (is_version_block s r c || is_version_block s c r)
-    blocks s k = grind (arith, nat_tests)
+version-all v r c h = search (arith, nat_tests)
 
 -- a module with a bit of the version information is painted with this bit
 bit-colour : (v r c format i : ℕ) → role_of v r c ≡ VersionBit i → paint_of v format r c ≡ has_bit (version_word_of v) i

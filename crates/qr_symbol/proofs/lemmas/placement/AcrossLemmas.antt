@@ -1,57 +1,49 @@
 -- Drawing in the transposed square, where the two columns of a strip are rows.
-use Rattle.std.proofs.Common.{◌≡◌, ℕ, ◌-◌, ◌<◌, ◌≤◌, Bool, true, false, not, cond, eqb, ◌&&◌, List, refl, ◌∙◌, ap, arith}
-use Rattle.std.proofs.lemmas.Bool.Decides.{nat_tests}
-use Rattle.qr_layout.specs.{declared.strips.Strip.Strip, Region.is_in_region, Version.side_of}
 use Rattle.qr_layout.proofs.Facts.{region-symmetric}
-use Rattle.qr_matrix.specs.{BitRow.has, Grid.Grid, Grid.square, Grid.colour, Grid.with_row, Grid.IsSquare}
-use Rattle.qr_matrix.proofs.Facts.{colour-square}
+use Rattle.qr_layout.specs.{Region.is_in_region, Version.side_of, declared.strips.Strip.Strip}
+use Rattle.qr_matrix.{proofs.Facts.colour-square, specs.{BitRow.has, Grid.{Grid, square, colour, with_row, IsSquare}}}
+use Rattle.qr_symbol.proofs.lemmas.placement.{ColumnLemmas.row-small, PlacementLemmas.square-is}
 use Rattle.qr_symbol.specs.Steps.Placement.{number_at, region_grid, row_of, AreDrawn, IsStripDrawn}
 use Rattle.qr_symbol.specs.declared.placement.Columns.{Columns}
-use Rattle.qr_symbol.proofs.lemmas.placement.{ColumnLemmas.row-small, PlacementLemmas.square-is}
+use Rattle.std.proofs.Common.{◌≡◌, ℕ, ◌-◌, ◌<◌, ◌≤◌, Bool, not, cond, eqb, ◌&&◌, List, refl, ◌∙◌, ap, arith}
+use Rattle.std.proofs.lemmas.Bool.Decides.{nat_tests}
 
 -- the square of the encoding region, read with row and column exchanged, says whether a place is in the region
 pub region-across : (v : ℕ) (g : Grid) (row col : ℕ) → g ≡ region_grid v → row < side_of v → col < side_of v → colour g col row ≡ is_in_region v row col
-region-across v g row col e k l = ap (λ (z : Grid). colour z col row) e ∙ (colour-square (side_of v) (is_in_region v) col row l k ∙ region-symmetric v col row)
+region-across v g row col e k l = ap (λ (z : Grid). colour z col row) e ∙ (colour-square _ _ col row l k ∙ region-symmetric v col row)
 
 -- inside a square with two rows replaced, the colours are those of the rows or of the square
 two-rows : (g : Grid) (a b : ℕ) (f h : ℕ → Bool) (r c : ℕ) → r < g.side → c < g.side
     → colour (with_row (with_row g a f) b h) r c ≡ cond (eqb r b) (h c) (cond (eqb r a) (f c) (colour g r c))
-two-rows g a b f h r c l m =
-    colour-square g.side (λ r c. cond (eqb r b) (h c) (colour (with_row g a f) r c)) r c l m
-    ∙ ap (cond (eqb r b) (h c)) (colour-square g.side (λ r c. cond (eqb r a) (f c) (colour g r c)) r c l m)
+two-rows g a b f h r c l m = colour-square _ (λ r c. cond (eqb r b) (h c) (colour (with_row g a f) r c)) r c l m
+    ∙ ap (cond _ (h c)) (colour-square _ (λ r c. cond (eqb r a) (f c) (colour g r c)) r c l m)
 
 -- the colours of the two rows, and of the others
-two-colours : (g : Grid) (a b : ℕ) (f h : ℕ → Bool) (r c : ℕ) → r < g.side → c < g.side → (a ≡ b → ⊥)
-    → (r ≡ a → colour (with_row (with_row g a f) b h) r c ≡ f c) × (r ≡ b → colour (with_row (with_row g a f) b h) r c ≡
-    h c)
-    × ((r ≡ a → ⊥) → (r ≡ b → ⊥) → colour (with_row (with_row g a f) b h) r c ≡ colour g r c)
+two-colours : (g : Grid) (a b : ℕ) (f h : ℕ → Bool) (r c : ℕ) → r < g.side → c < g.side → (a ≡ b
+    → ⊥) → (r ≡ a → colour (with_row (with_row g a f) b h) r c ≡ f c) × (r ≡ b
+    → colour (with_row (with_row g a f) b h) r c ≡ h c) × ((r ≡ a → ⊥) → (r ≡ b → ⊥)
+    → colour (with_row (with_row g a f) b h) r c ≡ colour g r c)
 two-colours g a b f h r c l m n = rw (two-rows g a b f h r c l m) (λ e. grind (arith, nat_tests), λ e. grind (arith, nat_tests), λ e o. grind (arith, nat_tests))
 
 -- a module in the region gets its bit also if it was made light before
 drawn-light : (t p q w z : Bool) → z ≡ cond t w q → q ≡ (p && not t) → z ≡ cond t w p
-drawn-light true p q w z e f = e
-drawn-light false true q w z e f = e ∙ f
-drawn-light false false q w z e f = e ∙ f
+drawn-light t p q w z e f = grind (arith, nat_tests)
 
 -- a strip is drawn if its columns are drawn, in which the region was made light before
 pub strip-drawn : (v : ℕ) (cw : List ℕ) (x : Strip) (first next : ℕ) (g h : Grid) (old new : Columns)
     → IsSquare (side_of v) g → 1 ≤ x.right → x.right < side_of v
     → h ≡ with_row (with_row g x.right (has new.right)) (x.right - 1) (has new.left)
-    → ((row : ℕ) → row < side_of v → (has old.right row ≡ (colour g x.right row && not (is_in_region v row x.right))) ×
-    (has old.left row ≡ (colour g (x.right - 1) row && not (is_in_region v row (x.right - 1)))))
+    → ((row : ℕ) → row < side_of v → (has old.right row ≡ (colour g x.right row && not (is_in_region v row x.right))) × (has old.left row ≡ (colour g (x.right - 1) row && not (is_in_region v row (x.right - 1)))))
     → next ≡ number_at v x first (side_of v) → AreDrawn v cw x first 0 (side_of v) old new
     → IsStripDrawn v cw x first g next h
 strip-drawn v cw x first next g h old new o least most e light number d =
-    let side = ap (λ (z : Grid). z.side) o in
-    record {
+    let side = ap (λ (z : Grid). z.side) o in record {
       number = number;
-      square = square-is (side_of v) (λ r c. cond (eqb r (x.right - 1)) (has new.left c) (colour (with_row g x.right (has new.right)) r c)) h (e ∙ ap (λ z. square z (λ r c. cond (eqb r (x.right - 1)) (has new.left c) (colour (with_row g x.right (has new.right)) r c))) side);
+      square = square-is (side_of v) (λ r c. cond (eqb r _) (has new.left c) (colour (with_row g x.right (has new.right)) r c)) h (e ∙ ap (λ z. square z (λ r c. cond (eqb r (x.right - 1)) (has new.left c) (colour (with_row g x.right (has new.right)) r c))) side);
       drawn = λ j l.
           let row = row_of (side_of v) x j in
           let small = (row-small x (side_of v) j l).0 in
-          let right = (two-colours g x.right (x.right - 1) (has new.right) (has new.left) x.right row (omega arith) (omega arith) (λ i. omega arith)).0 refl in
-          let left = (two-colours g x.right (x.right - 1) (has new.right) (has new.left) (x.right - 1) row (omega arith) (omega arith) (λ i. omega arith)).1 refl in
           let bits = d.drawn j (omega arith) (omega arith) in
-          rw e (right ∙ drawn-light (is_in_region v row x.right) _ _ _ _ bits.0 (light row small).0, left ∙ drawn-light (is_in_region v row (x.right - 1)) _ _ _ _ bits.1 (light row small).1);
-      kept = λ row col l m a b. rw e ((two-colours g x.right (x.right - 1) (has new.right) (has new.left) col row (omega arith) (omega arith) (λ i. omega arith)).2 a b);
+          rw e (((two-colours g _ _ _ _ _ row (omega arith) (omega arith) (λ i. omega arith)).0 refl) ∙ drawn-light _ _ _ _ _ bits.0 (light row small).0, ((two-colours g _ _ _ _ _ row (omega arith) (omega arith) (λ i. omega arith)).1 refl) ∙ drawn-light _ _ _ _ _ bits.1 (light row small).1);
+      kept = λ row col l m a b. rw e ((two-colours g x.right (x.right - 1) _ _ col row (omega arith) (omega arith) (λ i. omega arith)).2 a b);
     }

@@ -1,12 +1,10 @@
 -- Bits of codewords, and of words that hold several codewords.
-use Rattle.std.proofs.Common.{◌≡◌, ℕ, ◌+◌, ◌-◌, ◌*◌, ◌/◌, ◌%◌, ◌^◌, ◌<◌, ◌≤◌, Bool, true, false, not, ◌&&◌, nat_eq, List, get_or, refl, ap, bit_and, arith}
-use Rattle.std.proofs.{lemmas.Bool.Decides.nat_tests, lemmas.Nat.and_mask, lemmas.Nat.pow-add, Math.Pow.pow_mono}
-use Rattle.std.proofs.lemmas.Nat.Bits.{bit_at_above, bit_at_cat_low, bit_at_cat_high}
 use mathlib.Core.Bool.{beq}
-use Rattle.qr_bits.specs.Bits.{codeword_bit}
-use Rattle.qr_matrix.specs.BitRow.{has_bit}
-use Rattle.qr_matrix.proofs.Facts.{has_bit-and, has_bit-ones, has_bit-shr}
-use Rattle.qr_symbol.specs.Mask.{inverted}
+use Rattle.{qr_bits.specs.Bits.codeword_bit, qr_matrix.proofs.Facts.{has_bit-and, has_bit-ones, has_bit-shr}}
+use Rattle.{qr_matrix.specs.BitRow.has_bit, qr_symbol.specs.Mask.inverted}
+use Rattle.std.proofs.Common.{◌≡◌, ℕ, ◌+◌, ◌-◌, ◌*◌, ◌/◌, ◌%◌, ◌^◌, ◌<◌, ◌≤◌, Bool, false, not, nat_eq, List, get_or, ap, bit_and, arith}
+use Rattle.std.proofs.{Math.Pow.pow_mono, lemmas.Bool.Decides.nat_tests}
+use Rattle.std.proofs.lemmas.Nat.{and_mask, pow-add, Bits.{bit_at_above, bit_at_cat_low, bit_at_cat_high}}
 
 -- a word of 32 bits has no bit from 32 on
 pub word-past : (word i : ℕ) → word < 2 ^ 32 → 32 ≤ i → false ≡ has_bit word i
@@ -15,10 +13,7 @@ word-past word i l h = cc (bit_at_above word 32 i l h)
 
 -- testing whether a bit differs from `is_to_be` inverts the bit if `is_to_be` is true
 pub differs-inverted : (bit is_to_be : Bool) → not (beq bit is_to_be) ≡ inverted is_to_be bit
-differs-inverted true true = refl
-differs-inverted true false = refl
-differs-inverted false true = refl
-differs-inverted false false = refl
+differs-inverted bit is_to_be = grind (arith, nat_tests)
 
 -- ---- bits of codewords
 
@@ -35,16 +30,11 @@ codewords-low a b i l = let e : 256 * a + b ≡ a * 2 ^ 8 + b = omega arith in c
 -- the lowest bits of a number that is shifted right are higher bits of that number
 lowest : (n s m k : ℕ) → k < m → has_bit (bit_and (n / 2 ^ s) (2 ^ m - 1)) k ≡ has_bit n (k + s)
 lowest n s m k l = search (arith, nat_tests, has_bit-and, has_bit-ones, has_bit-shr)
-  where
-    and-true : (b : Bool) → (b && true) ≡ b
-    and-true true = refl
-    and-true false = refl
 
 -- the eight bits of a word of codewords from index d on, the first as the highest bit
 pub eight-bits : (n d k : ℕ) → d ≤ 56 → k < 8 → has_bit (bit_and (n / 2 ^ (56 - d)) 255) (7 - k) ≡ has_bit n (63 - (d + k))
 eight-bits n d k l m =
-    let e : 7 - k + (56 - d) ≡ 63 - (d + k) = omega arith in
-    cc (lowest n (56 - d) 8 (7 - k) (omega arith))
+    let e : 7 - k + (56 - d) ≡ 63 - (d + k) = omega arith in cc (lowest n (56 - d) 8 (7 - k) (omega arith))
 
 -- a single bit of a number
 pub one-bit : (n k : ℕ) → nat_eq (bit_and (n / 2 ^ k) 1) 1 ≡ has_bit n k
@@ -58,9 +48,7 @@ codewords-more cw p n w b e s h j l = search (arith, codewords-high, codewords-l
 
 -- appending a byte to a number makes it at most eight bits longer
 pub codewords-fits : (n w b : ℕ) → w < 2 ^ (8 * n) → b < 256 → 256 * w + b < 2 ^ (8 * (n + 1))
-codewords-fits n w b l m =
-    let e : 8 * (n + 1) ≡ 8 * n + 8 = omega arith in
-    search (arith, pow-add)
+codewords-fits n w b l m = let e : 8 * (n + 1) ≡ 8 * n + 8 = omega arith in search (arith, pow-add)
 
 -- a word of fewer than eight codewords has room for one more in 64 bits
 pub codewords-room : (n w : ℕ) → n < 8 → w < 2 ^ (8 * n) → w < 2 ^ 56

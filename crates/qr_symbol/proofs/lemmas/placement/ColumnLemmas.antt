@@ -1,7 +1,7 @@
 -- The columns of a strip, held apart from the square in which they are two rows.
-use Rattle.std.proofs.Common.{◌≡◌, ℕ, zero, suc, ◌+◌, ◌-◌, ◌*◌, ◌<◌, ◌≤◌, Bool, true, false, cond, eqb, ◌&&◌, List, refl, inl, inr, add-one, arith}
-use Rattle.std.proofs.lemmas.Bool.{Decides.nat_tests, cases_lt}
-use Rattle.qr_layout.specs.{declared.strips.Strip.Strip, Region.is_in_region, Version.side_of}
+use Rattle.std.proofs.Common.{◌≡◌, ℕ, zero, suc, ◌+◌, ◌-◌, ◌*◌, ◌<◌, ◌≤◌, Bool, true, cond, eqb, ◌&&◌, List, sym, ◌∙◌, inl, inr, add-one, arith}
+use Rattle.std.proofs.lemmas.Bool.{cases_lt, Decides.nat_tests}
+use Rattle.qr_layout.specs.{Region.is_in_region, Version.side_of, declared.strips.Strip.Strip}
 use Rattle.qr_matrix.specs.BitRow.{has, has_bit}
 use Rattle.qr_symbol.specs.Steps.Placement.{number_after, number_at, row_of, AreDrawn, AreNext}
 use Rattle.qr_symbol.specs.declared.placement.Columns.{Columns}
@@ -10,43 +10,32 @@ use Rattle.qr_symbol.specs.declared.placement.Columns.{Columns}
 
 -- two different indices are two different rows
 pub rows-apart : (x : Strip) (s j k : ℕ) → j < s → k < j → row_of s x j ≡ row_of s x k → ⊥
-rows-apart x s j k l m e = told x.upward e
-  where
-    told : (up : Bool) → cond up (s - 1 - j) j ≡ cond up (s - 1 - k) k → ⊥
-    told true e = omega arith
-    told false e = omega arith
+rows-apart x s j k l m e = grind (arith, nat_tests)
 
 -- a row of the strip is a row of the symbol, and has its own index as the row of that index
 pub row-small : (x : Strip) (s k : ℕ) → k < s → (row_of s x k < s) × (row_of s x (row_of s x k) ≡ k)
-row-small x s k l = told x.upward
-  where
-    told : (up : Bool) → (cond up (s - 1 - k) k < s) × (cond up (s - 1 - cond up (s - 1 - k) k) (cond up (s - 1 - k) k)
-        ≡ k)
-    told true = (omega arith, omega arith)
-    told false = (l, refl)
+row-small x s k l = (grind (arith, nat_tests), grind (arith, nat_tests))
 
 -- the number of the next bit after a module that may or may not be in the encoding region
 after-plus : (t : Bool) (n k m : ℕ) → m ≡ number_after t k → n + m ≡ number_after t (n + k)
-after-plus true n k m e = omega arith
-after-plus false n k m e = omega arith
+after-plus t n k m e = grind (arith, nat_tests)
 
 -- one more row takes the bits of its two modules
-pub row-number : (v : ℕ) (x : Strip) (first k n taken one two row : ℕ) (t u : Bool) → row ≡ row_of (side_of v) x k
-    → t ≡ is_in_region v row x.right → u ≡ is_in_region v row (x.right - 1) → number_at v x first k ≡ n + taken
-    → one ≡ number_after t taken → two ≡ number_after u one → number_at v x first (k + 1) ≡ n + two
+pub row-number : (v : ℕ) (x : Strip) (first k n taken one two row : ℕ) (t u : Bool)
+    → row ≡ row_of (side_of v) x k → t ≡ is_in_region v row x.right → u ≡ is_in_region v row (x.right - 1)
+    → number_at v x first k ≡ n + taken → one ≡ number_after t taken → two ≡ number_after u one
+    → number_at v x first (k + 1) ≡ n + two
 row-number v x first k n taken one two row t u r p q m e f = search (arith, add-one, after-plus)
 
 -- if all modules of m rows are in the region, these rows take 2 m bits
-pub number-whole : (v : ℕ) (x : Strip) (first k m : ℕ)
-    → ((j : ℕ) → k ≤ j → j < k + m → (is_in_region v (row_of (side_of v) x j) x.right ≡ true) × (is_in_region v (row_of
-    (side_of v) x j) (x.right - 1) ≡ true))
-    → number_at v x first (k + m) ≡ number_at v x first k + 2 * m
+pub number-whole : (v : ℕ) (x : Strip) (first k m : ℕ) → ((j : ℕ) → k ≤ j → j < k + m → (is_in_region v
+    (row_of (side_of v) x j) x.right ≡ true) × (is_in_region v (row_of (side_of v) x j) (x.right - 1) ≡ true)) →
+    number_at v x first (k + m) ≡ number_at v x first k + 2 * m
 number-whole v x first k zero w = (let e : k + 0 ≡ k = omega arith in rw e (omega arith))
 number-whole v x first k (suc m) w =
     let e : k + suc m ≡ suc (k + m) = omega arith in
     let here = w (k + m) (omega arith) (omega arith) in
-    let before = number-whole v x first k m (λ j a b. w j a (omega arith)) in
-    rw (e, here.0, here.1) (omega arith)
+    let before = number-whole v x first k m (λ j a b. w j a (omega arith)) in rw (e, here.0, here.1) (omega arith)
 
 -- ---- drawn rows
 
@@ -60,14 +49,20 @@ rows-none e = search arith
 
 -- rows that are drawn after other rows are drawn together with them
 pub rows-drawn : {v : ℕ} {cw : List ℕ} {x : Strip} {first k n i m t : ℕ} {p q r : Columns}
-    → AreDrawn v cw x first k n p q
-    → AreDrawn v cw x first i m q r → i ≡ k + n → t ≡ n + m → i + m ≤ side_of v → AreDrawn v cw x first k t p r
-rows-drawn {v} {cw} {x} {first} {k} {n} {i} {m} {t} {p} {q} {r} d e f g room = record {
+    → AreDrawn v cw x first k n p q → AreDrawn v cw x first i m q r → i ≡ k + n → t ≡ n + m
+    → i + m ≤ side_of v → AreDrawn v cw x first k t p r
+rows-drawn {v} {x = x} {i = i} d e f g room = record {
   drawn = λ j a b. elim (cases_lt j i) [
-    | inl l ↦ search (arith, rows-apart)
-    | inr l ↦ search (arith, rows-apart)
+    | inl l ↦
+        let same = e.kept (row_of _ x j) (λ h c o w. rows-apart x (side_of v) h j (omega arith) (omega arith) w) in
+        let one = d.drawn j a (omega arith) in (cc, cc)
+    | inr l ↦
+        let same = d.kept (row_of _ x j) (λ h c o w. rows-apart x (side_of v) j h (omega arith) (omega arith) (sym w)) in
+        let one = e.drawn j l (omega arith) in (cc, cc)
   ];
-  kept = search arith;
+  kept = λ row apart.
+      let one = d.kept row (λ j a b. apart j a (omega arith)) in
+      let two = e.kept row (λ j a b. apart j (omega arith) (omega arith)) in (cc, cc);
 }
 
 -- a module is drawn if it is in the region
@@ -79,17 +74,22 @@ there-kept : (t d p z : Bool) (i row : ℕ) → z ≡ cond (t && eqb i row) d p 
 there-kept t d p z i row e n = grind (arith, nat_tests)
 
 -- one row is drawn, module by module
-pub row-drawn : {v : ℕ} {cw : List ℕ} {x : Strip} {first k : ℕ} {old new : Columns} (row n taken one bits : ℕ) (t u :
-    Bool) → row ≡ row_of (side_of v) x k
-    → t ≡ is_in_region v row x.right → u ≡ is_in_region v row (x.right - 1) → number_at v x first k ≡ n + taken
-    → one ≡ number_after t taken
-    → taken < 8 → one < 8 → AreNext cw n bits
+pub row-drawn : {v : ℕ} {cw : List ℕ} {x : Strip} {first k : ℕ} {old new : Columns} (row n taken one bits : ℕ) (t u : Bool)
+    → row ≡ row_of (side_of v) x k → t ≡ is_in_region v row x.right → u ≡ is_in_region v row (x.right - 1)
+    → number_at v x first k ≡ n + taken → one ≡ number_after t taken → taken < 8 → one < 8
+    → AreNext cw n bits
     → ((i : ℕ) → has new.right i ≡ cond (t && eqb i row) (has_bit bits (7 - taken)) (has old.right i))
     → ((i : ℕ) → has new.left i ≡ cond (u && eqb i row) (has_bit bits (7 - one)) (has old.left i))
     → AreDrawn v cw x first k 1 old new
-row-drawn {v} {cw} {x} {first} {k} {old} {new} row n taken one bits t u r p q m o l1 l2 next right left = record {
+row-drawn {x = x} {k = k} row n taken one bits t u r p q m o l1 l2 next right left = record {
   drawn = λ j a b.
       let e : j ≡ k = omega arith in
-      search (arith, nat_tests, after-plus, here-drawn);
-  kept = search (arith, there-kept);
+      let same : eqb row row ≡ true = grind (arith, nat_tests) in
+      rw (e, ← r, ← p, ← q, m, ← after-plus t n _ one o) (
+        here-drawn t _ _ _ _ _ (right row) same (next taken l1),
+        here-drawn u _ _ _ _ _ (left row) same (next one l2),
+      );
+  kept = λ i apart.
+      let n : row ≡ i → ⊥ = λ e. apart k (omega arith) (omega arith) (sym r ∙ e) in
+      (there-kept t _ _ _ i row (right i) n, there-kept u _ _ _ i row (left i) n);
 }

@@ -14,13 +14,13 @@ kept-out v m ms e = ap (λ z. cond z (m ∷ in_region_of v ms) (in_region_of v m
 -- the kept places of two joined lists are those of the first list, followed by those of the second
 pub kept-append : (v : ℕ) (xs ys : List Module) → in_region_of v (xs ++ ys) ≡ in_region_of v xs ++ in_region_of v ys
 kept-append v [] ys = refl
-kept-append v (m ∷ xs) ys = ap (λ (z : List Module). cond (is_in_region v m.row m.col) (m ∷ z) z) (kept-append v xs ys) ∙ front (is_in_region v m.row m.col) m (in_region_of v xs) (in_region_of v ys)
+kept-append v (m ∷ xs) ys = ap (λ (z : List Module). cond (is_in_region v m.row m.col) (m ∷ z) z) (kept-append v xs ys) ∙ front _ m (in_region_of v xs) _
   where
     front : (t : Bool) (m : Module) (xs ys : List Module) → cond t (m ∷ (xs ++ ys)) (xs ++ ys) ≡ cond t (m ∷ xs) xs ++ ys
     front true m xs ys = refl
-    front false m xs ys = refl
+    front _ m xs ys = refl
 
 -- the places of a list of strips with one strip more
 pub places-push : (s : ℕ) (xs : List Strip) (x : Strip) → places_of s (xs ++ x ∷ []) ≡ places_of s xs ++ both_of (rows_from s x 0 s)
 places-push s [] x = append-nil (both_of (rows_from s x 0 s))
-places-push s (y ∷ ys) x = ap (λ (z : List Module). both_of (rows_from s y 0 s) ++ z) (places-push s ys x) ∙ sym (append_assoc (both_of (rows_from s y 0 s)) (places_of s ys) (both_of (rows_from s x 0 s)))
+places-push s (y ∷ ys) x = ap (λ (z : List Module). both_of (rows_from s y 0 s) ++ z) (places-push s ys x) ∙ sym (append_assoc _ (places_of s ys) _)

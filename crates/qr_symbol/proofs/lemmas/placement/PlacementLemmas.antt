@@ -1,20 +1,19 @@
 -- Drawing along the walk: every place that the walk has passed, or never reaches, has its final colour.
+use Rattle.qr_bits.specs.Bits.{codeword_bit}
+use Rattle.qr_layout.proofs.Facts.{Mem, order-has, order-mem, order-small, number-at, row-in, col-in, region-role, role-region}
+use Rattle.qr_layout.specs.Format.{format_word_of, version_word_of}
+use Rattle.qr_layout.specs.{Order.{IsOrder, in_region_of, number_of}, Region.is_in_region, Role.role_of}
+use Rattle.qr_layout.specs.{Strips.{both_of, rows_from}, Version.side_of, declared.level.Level.Level}
+use Rattle.qr_layout.specs.declared.{region.Module.Module, role.Role.{Role, TheVariants.Region}, strips.Strip.Strip}
+use Rattle.qr_matrix.proofs.Facts.{same-place, square-same, colour-square, colour-painted-here, colour-painted-there, colour-transposed}
+use Rattle.qr_matrix.specs.Grid.{Grid, square, colour, painted, transposed, IsSquare}
+use Rattle.qr_symbol.proofs.lemmas.placement.{ColumnLemmas.row-small, KeptPlaceLemmas.{kept-append, kept-in, kept-out}}
+use Rattle.qr_symbol.specs.Mask.{inverts, inverted}
+use Rattle.qr_symbol.specs.Steps.Patterns.{fixed_colour, format_or, paint_of, symmetric_format}
+use Rattle.qr_symbol.specs.Steps.Placement.{placed_colour, number_after, number_at, row_of, IsStripDrawn, masked_colour, masked_grid, region_grid, plain_grid}
+use Rattle.qr_symbol.specs.Symbol.{colour_by, colour_of, grid_of}
 use Rattle.std.proofs.Common.{◌≡◌, ℕ, zero, suc, ◌+◌, ◌-◌, ◌⊎◌, ◌<◌, ◌≤◌, Bool, true, false, cond, nat_eq, ◌&&◌, List, [], ◌∷◌, ◌++◌, length, length-append, refl, sym, ◌∙◌, ap, inl, inr, subst, append_assoc, append-nil, arith}
 use Rattle.std.proofs.lemmas.Bool.{cases_eq}
-use Rattle.qr_layout.specs.declared.{level.Level.Level, region.Module.Module, role.Role.Role}
-use Rattle.qr_layout.specs.declared.role.Role.TheVariants.{Fixed, FormatBit, VersionBit, Region}
-use Rattle.qr_layout.specs.{Version.side_of, Format.format_word_of, Format.version_word_of, Region.is_in_region}
-use Rattle.qr_layout.specs.{Role.role_of, Order.IsOrder, Order.in_region_of, Order.number_of}
-use Rattle.qr_layout.specs.{Strips.both_of, Strips.rows_from, declared.strips.Strip.Strip}
-use Rattle.qr_layout.proofs.Facts.{Mem, order-has, order-mem, order-small, number-at, row-in, col-in, region-role, role-region}
-use Rattle.qr_bits.specs.Bits.{codeword_bit}
-use Rattle.qr_matrix.specs.Grid.{Grid, square, colour, painted, transposed, IsSquare}
-use Rattle.qr_symbol.specs.{Mask.inverts, Mask.inverted, Symbol.colour_by, Symbol.colour_of, Symbol.grid_of}
-use Rattle.qr_symbol.specs.Steps.Placement.{placed_colour, number_after, number_at, row_of, IsStripDrawn, masked_colour, masked_grid, region_grid, plain_grid}
-use Rattle.qr_symbol.specs.Steps.Patterns.{fixed_colour, format_or, paint_of, symmetric_format}
-use Rattle.qr_matrix.proofs.Facts.{same-place, square-same, colour-square, colour-painted-here, colour-painted-there, colour-transposed}
-use Rattle.qr_symbol.proofs.lemmas.placement.KeptPlaceLemmas.{kept-append, kept-in, kept-out}
-use Rattle.qr_symbol.proofs.lemmas.placement.ColumnLemmas.{row-small}
 
 -- the module in a row and a column
 abbrev pub at : ℕ → ℕ → Module
@@ -41,8 +40,7 @@ by_test false A f g = g refl
 
 -- before the walk, each place that is not in the list is outside the region
 pub done-start : (v : ℕ) (want : ℕ → ℕ → Bool) (g : Grid) (ms : List Module) → IsOrder v ms → ((r c : ℕ) → is_in_region v r c ≡ false → colour g r c ≡ want r c) → Done (side_of v) want ms g
-done-start v want g ms o f r c l m n =
-    f r c (by_test (is_in_region v r c) (is_in_region v r c ≡ false) (λ t. absurd (n (order-has v ms o (at r c) t))) (λ e. e))
+done-start v want g ms o f r c l m n = f r c (by_test _ _ (λ t. absurd (n (order-has v ms o _ t))) (λ e. e))
 
 -- an item between two lists is a member of the whole list
 pub Mem-mid : {X : Type 0} (x : X) (front back : List X) → Mem x (front ++ x ∷ back)
@@ -51,19 +49,16 @@ Mem-mid x (y ∷ ys) back = inr (Mem-mid x ys back)
 
 -- the next module of the walk is in the region, and its number is the number of modules before it
 pub next-number : (v : ℕ) (front later : List Module) (x : Module) (number : ℕ) → IsOrder v (front ++ x ∷ later) → number ≡ length front → (is_in_region v x.row x.col ≡ true) × (number_of v x ≡ number)
-next-number v front later x number o k = (order-mem v (front ++ x ∷ later) o x (Mem-mid x front later), number-at v front later x o ∙ sym k)
+next-number v front later x number o k = (order-mem v _ o x (Mem-mid x _ _), number-at v _ _ x o ∙ sym k)
 
 -- one module of the walk is drawn
 pub done-step : (s : ℕ) (want : ℕ → ℕ → Bool) (g : Grid) (later : List Module) (x : Module) (d : Bool)
     → g.side ≡ s → d ≡ want x.row x.col → Done s want (x ∷ later) g → Done s want later (painted g x.row x.col d)
-done-step s want g later x d k e h r c l m n =
-    elim (same-place x.row x.col r c) [
-      | inl w ↦
-          let a = w.0.0 in
-          let b = w.0.1 in rw (a, b) (colour-painted-here g x.row x.col d (omega arith) (omega arith) ∙ e)
-      | inr w ↦
-          colour-painted-there g x.row x.col r c d (omega arith) (omega arith) w.0 ∙ h r c l m (λ q. elim q [ inl e ↦ w.0 (ap (λ (z : Module). z.row) (sym e), ap (λ (z : Module). z.col) (sym e)) | inr q ↦ n q ])
-    ]
+done-step s want g later x d k e h r c l m n = elim (same-place x.row x.col r c) [
+  | inl w ↦ rw (w.0.0, w.0.1) (colour-painted-here g _ _ d (omega arith) (omega arith) ∙ e)
+  | inr w ↦
+      colour-painted-there g _ _ r c d (omega arith) (omega arith) w.0 ∙ h r c l m (λ q. elim q [ inl e ↦ w.0 (ap (λ (z : Module). z.row) (sym e), ap (λ (z : Module). z.col) (sym e)) | inr q ↦ n q ])
+]
 
 -- after the walk, every place has its final colour
 pub done-end : (s : ℕ) (want : ℕ → ℕ → Bool) (g : Grid) → IsSquare s g → Done s want [] g → g ≡ square s want
@@ -79,7 +74,7 @@ square-is s f g e = rw e (square-again s f)
 
 -- the transposed square of a square is a square
 pub square-transposed : (s : ℕ) (g : Grid) → IsSquare s g → IsSquare s (transposed g)
-square-transposed s g e = square-is s (λ r c. colour g c r) (transposed g) (ap (λ (z : Grid). square z.side (λ r c. colour g c r)) e)
+square-transposed s g e = square-is s (λ r c. colour g c r) _ (ap (λ (z : Grid). square z.side (λ r c. colour g c r)) e)
 
 -- a square with one place changed is a square
 pub painted-square : (s : ℕ) (g : Grid) (row col : ℕ) (d : Bool) → g.side ≡ s → IsSquare s (painted g row col d)
@@ -95,42 +90,39 @@ whole-push v front later x o = subst (IsOrder v) (sym (append_assoc front (x ∷
 
 -- a module of the order is in the square
 pub in-square : (v : ℕ) (front later : List Module) (x : Module) → IsOrder v (front ++ x ∷ later) → (x.row < side_of v) × (x.col < side_of v)
-in-square v front later x o = let w = order-mem v (front ++ x ∷ later) o x (Mem-mid x front later) in (row-in v x w, col-in v x w)
+in-square v front later x o = let w = order-mem v _ o x (Mem-mid x _ _) in (row-in v x w, col-in v x w)
 
 -- ---- a symbol that is drawn again with a mask
 
 -- a module that is not in the region has its colour by role once the format information is drawn
 role-masked : (v : ℕ) (l : Level) (mask : ℕ) (cw : List ℕ) (r c : ℕ) (q : Role) → (q ≡ Region → ⊥) → format_or (format_word_of l mask) q (fixed_colour symmetric_format (version_word_of v) q) ≡ colour_by v l mask cw r c q
 unfolding format_or fixed_colour
-role-masked v l mask cw r c (Fixed dark) n = refl
-role-masked v l mask cw r c (FormatBit i) n = refl
-role-masked v l mask cw r c (VersionBit i) n = refl
 role-masked v l mask cw r c Region n = absurd (n refl)
+role-masked v l mask cw r c q n = refl
 
 -- the colours of a symbol without mask and format information
 abbrev plain_colours : ℕ → List ℕ → ℕ → ℕ → Bool
 plain_colours v cw = placed_colour v cw (paint_of v symmetric_format)
 
 -- the masked colour of a module in the region
-masked-inside : (v : ℕ) (l : Level) (mask : ℕ) (cw : List ℕ) (r c : ℕ) → is_in_region v r c ≡ true → role_of v r c ≡ Region
-    → format_or (format_word_of l mask) (role_of v r c) (inverted (is_in_region v r c && inverts mask r c) (plain_colours v cw r c)) ≡ colour_of v l mask cw r c
+masked-inside : (v : ℕ) (l : Level) (mask : ℕ) (cw : List ℕ) (r c : ℕ) → is_in_region v r c ≡ true →
+    role_of v r c ≡ Region → format_or (format_word_of l mask) (role_of v r c) (inverted (is_in_region v r c &&
+    inverts mask r c) (plain_colours v cw r c)) ≡ colour_of v l mask cw r c
 unfolding colour_of format_or
 masked-inside v l mask cw r c t e = rw (e, t, inside v cw (paint_of v symmetric_format) r c t) refl
 
 -- the masked colour of a module outside the region
-masked-outside : (v : ℕ) (l : Level) (mask : ℕ) (cw : List ℕ) (r c : ℕ) → is_in_region v r c ≡ false → (role_of v r c ≡ Region → ⊥)
-    → format_or (format_word_of l mask) (role_of v r c) (inverted (is_in_region v r c && inverts mask r c) (plain_colours v cw r c)) ≡ colour_of v l mask cw r c
+masked-outside : (v : ℕ) (l : Level) (mask : ℕ) (cw : List ℕ) (r c : ℕ) → is_in_region v r c ≡ false →
+    (role_of v r c ≡ Region → ⊥) → format_or (format_word_of l mask) (role_of v r c) (inverted (is_in_region v r
+    c && inverts mask r c) (plain_colours v cw r c)) ≡ colour_of v l mask cw r c
 unfolding colour_of
-masked-outside v l mask cw r c t n = rw (t, ← outside v cw (paint_of v symmetric_format) r c t) (role-masked v l mask cw r c (role_of v r c) n)
+masked-outside v l mask cw r c t n = rw (t, ← outside v cw _ r c t) (role-masked v l _ cw r c _ n)
 
 -- with mask and format information, the result is the symbol of its codewords under this mask
 pub masked-all : (v : ℕ) (l : Level) (mask : ℕ) (cw : List ℕ) (region plain : Grid) → 1 ≤ v → region ≡ region_grid v → plain ≡ plain_grid v cw → masked_grid v l mask region plain ≡ grid_of v l mask cw
 unfolding masked_colour
-masked-all v l mask cw region plain k e f = square-same (side_of v) (masked_colour v (format_word_of l mask) mask region plain) (colour_of v l mask cw) (λ r c i j.
-    let a : colour region r c ≡ is_in_region v r c = ap (λ (g : Grid). colour g r c) e ∙ colour-square (side_of v) (is_in_region v) r c i j in
-    let b : colour plain r c ≡ plain_colours v cw r c = ap (λ (g : Grid). colour g r c) f ∙ colour-square (side_of v) (plain_colours v cw) r c i j in
-    rw (a, b) (by_test (is_in_region v r c) _
-    (λ t. masked-inside v l mask cw r c t (region-role v r c k i j t))
+masked-all v l mask cw region plain k e f = square-same _ _ _ (λ r c i j.
+    rw ((ap (λ (g : Grid). colour g r c) e ∙ colour-square _ _ r c i j), (ap (λ (g : Grid). colour g r c) f ∙ colour-square _ _ r c i j)) (by_test _ _ (λ t. masked-inside v l mask cw r c t (region-role v r c k i j t))
     (λ t. masked-outside v l mask cw r c t (λ u. let h = role-region v r c k i j u in cc))))
 
 -- ---- strips whose modules are drawn
@@ -144,95 +136,87 @@ pub record IsPlaced (v : ℕ) (cw : List ℕ) (g0 : Grid) (before later : List M
 
 -- before any place, the number is 0 and the square is unchanged
 pub placed-start : (v : ℕ) (cw : List ℕ) (g : Grid) (ms : List Module) → IsSquare (side_of v) g → IsOrder v (in_region_of v ms) → IsPlaced v cw g [] ms 0 g
-placed-start v cw g ms s o = record { whole = o; next = refl; square = s; done = done-start v (placed_colour v cw (colour g)) g (in_region_of v ms) o (outside v cw (colour g)) }
+placed-start v cw g ms s o = record { whole = o; next = refl; square = s; done = done-start v _ g _ o (outside v cw _) }
 
 -- one more place takes one more bit if it is in the region
 count-push : (v : ℕ) (xs : List Module) (m : Module) → length (in_region_of v (xs ++ m ∷ [])) ≡ number_after
     (is_in_region v m.row m.col) (length (in_region_of v xs))
-count-push v xs m = ap length (kept-append v xs (m ∷ [])) ∙ (length-append (in_region_of v xs) (in_region_of v (m ∷ [])) ∙ told (is_in_region v m.row m.col) (length (in_region_of v xs)))
+count-push v xs m = ap length (kept-append v xs _) ∙ (length-append (in_region_of v xs) _ ∙ told _ _)
   where
     told : (t : Bool) (n : ℕ) → n + length (cond t (m ∷ []) []) ≡ number_after t n
     told true n = refl
-    told false n = omega arith
+    told _ n = omega arith
 
 -- the number of a module of the region is the number of those before it
-place-number : (v : ℕ) (before later : List Module) (m : Module) → IsOrder v (in_region_of v (before ++ m ∷ later))
-    → is_in_region v m.row m.col ≡ true → number_of v m ≡ length (in_region_of v before)
-place-number v before later m o t = number-at v (in_region_of v before) (in_region_of v later) m (rw (kept-append, kept-in v m later t) at o)
+place-number : (v : ℕ) (before later : List Module) (m : Module) → IsOrder v (in_region_of v (before ++ m ∷
+    later)) → is_in_region v m.row m.col ≡ true → number_of v m ≡ length (in_region_of v before)
+place-number v before later m o t = number-at v _ _ m (rw (kept-append, kept-in v m _ t) at o)
 
 -- the rows of a strip before row j, that row, and those after it
 rows-split : (s : ℕ) (x : Strip) (k j m : ℕ) → both_of (rows_from s x k (j + (m + 1))) ≡ both_of (rows_from s x k j) ++
     at (row_of s x (k + j)) x.right ∷ at (row_of s x (k + j)) (x.right - 1) ∷ both_of (rows_from s x (k + j + 1) m)
 rows-split s x k zero m =
     let e : 0 + (m + 1) ≡ suc m = omega arith in
-    let f : k + 0 ≡ k = omega arith in
-    rw (e, f) refl
+    let f : k + 0 ≡ k = omega arith in rw (e, f) refl
 rows-split s x k (suc j) m =
     let e : suc j + (m + 1) ≡ suc (j + (m + 1)) = omega arith in
     let f : k + suc j ≡ k + 1 + j = omega arith in
     rw (e, f) (ap (λ (z : List Module). at (row_of s x k) x.right ∷ at (row_of s x k) (x.right - 1) ∷ z) (rows-split s x (k + 1) j m))
 
 -- the places of a strip before row j, that row's, and those after it
-strip-split : (s : ℕ) (x : Strip) (j : ℕ) → j < s → both_of (rows_from s x 0 s) ≡ both_of (rows_from s x 0 j) ++ at
-    (row_of s x j) x.right ∷ at (row_of s x j) (x.right - 1) ∷ both_of (rows_from s x (j + 1) (s - 1 - j))
+strip-split : (s : ℕ) (x : Strip) (j : ℕ) → j < s → both_of (rows_from s x 0 s) ≡ both_of (rows_from s x 0 j)
+    ++ at (row_of s x j) x.right ∷ at (row_of s x j) (x.right - 1) ∷ both_of (rows_from s x (j + 1) (s - 1 - j))
 strip-split s x j l =
     let e : j + (s - 1 - j + 1) ≡ s = omega arith in
-    let f : 0 + j ≡ j = omega arith in
-    rw (e, f) at (rows-split s x 0 j (s - 1 - j))
+    let f : 0 + j ≡ j = omega arith in rw (e, f) at (rows-split s x 0 j (s - 1 - j))
 
 -- the number of the next bit after the first rows of a strip
 number-rows : (v : ℕ) (x : Strip) (before : List Module) (j : ℕ)
-    → number_at v x (length (in_region_of v before)) j ≡ length (in_region_of v (before ++ both_of (rows_from (side_of
-    v) x 0 j)))
+    → number_at v x (length (in_region_of v before)) j ≡ length (in_region_of v (before ++ both_of (rows_from (side_of v) x 0 j)))
 number-rows v x before zero = rw append-nil refl
 number-rows v x before (suc j) =
     let p = at (row_of (side_of v) x j) x.right in
     let q = at (row_of (side_of v) x j) (x.right - 1) in
-    let xs = both_of (rows_from (side_of v) x 0 j) in
     let e : j + 1 ≡ suc j = omega arith in
     let f : 0 + j ≡ j = omega arith in
-    let split = rw (e, f) at (rows-split (side_of v) x 0 j 0) in
-    let whole : before ++ both_of (rows_from (side_of v) x 0 (suc j)) ≡ ((before ++ xs) ++ p ∷ []) ++ q ∷ [] = rw split (simp append_assoc) in
-    rw (whole, count-push v ((before ++ xs) ++ p ∷ []) q, count-push v (before ++ xs) p, ← number-rows v x before j) refl
+    let whole : before ++ both_of (rows_from (side_of v) x 0 (suc j)) ≡ ((before ++ (both_of (rows_from (side_of v) x 0 j))) ++ p ∷ []) ++ q ∷ [] = rw (rw (e, f) at (rows-split (side_of v) x 0 j 0)) (simp append_assoc) in
+    rw (whole, count-push v _ q, count-push v _ p, ← number-rows v x before j) refl
 
 -- a kept module of a list is its first module, or kept after it
 mem-kept : (v : ℕ) (p m : Module) (ms : List Module) → Mem m (in_region_of v (p ∷ ms))
     → ((p ≡ m) × (is_in_region v m.row m.col ≡ true)) ⊎ Mem m (in_region_of v ms)
-mem-kept v p m ms q = by_test (is_in_region v p.row p.col) _
+mem-kept v p m ms q = by_test _ _
     (λ t. elim (subst (Mem m) (kept-in v p ms t) q) [ inl e ↦ inl (e, ap (λ (z : Module). is_in_region v z.row z.col) (sym e) ∙ t) | inr q ↦ inr q ])
     (λ t. inr (subst (Mem m) (kept-out v p ms t) q))
 
 -- a kept module of a strip and further places is one of the strip's columns, or one of the further places
-strip-mem : (v s : ℕ) (x : Strip) (k n : ℕ) (m : Module) (later : List Module)
-    → Mem m (in_region_of v (both_of (rows_from s x k n) ++ later))
-    → (((m.col ≡ x.right) ⊎ (m.col ≡ x.right - 1)) × (is_in_region v m.row m.col ≡ true)) ⊎ Mem m (in_region_of v later)
+strip-mem : (v s : ℕ) (x : Strip) (k n : ℕ) (m : Module) (later : List Module) → Mem m (in_region_of v (both_of
+    (rows_from s x k n) ++ later)) → (((m.col ≡ x.right) ⊎ (m.col ≡ x.right - 1)) × (is_in_region v m.row m.col
+    ≡ true)) ⊎ Mem m (in_region_of v later)
 strip-mem v s x k zero m later q = inr q
-strip-mem v s x k (suc n) m later q = elim (mem-kept v (at (row_of s x k) x.right) m (at (row_of s x k) (x.right - 1) ∷ both_of (rows_from s x (k + 1) n) ++ later) q) [
+strip-mem v s x k (suc n) m later q = elim (mem-kept v _ m (at _ _ ∷ both_of (rows_from s x (k + 1) n) ++ later) q) [
   | inl w ↦ inl (inl (ap (λ (z : Module). z.col) (sym w.0)), w.1)
-  | inr q ↦ elim (mem-kept v (at (row_of s x k) (x.right - 1)) m (both_of (rows_from s x (k + 1) n) ++ later) q) [
+  | inr q ↦ elim (mem-kept v _ m _ q) [
     | inl w ↦ inl (inr (ap (λ (z : Module). z.col) (sym w.0)), w.1)
-    | inr q ↦ strip-mem v s x (k + 1) n m later q
+    | inr q ↦ strip-mem v s x (k + 1) n m _ q
   ]
 ]
 
 -- one more strip is drawn
-pub placed-strip : (v : ℕ) (cw : List ℕ) (g0 a b : Grid) (x : Strip) (before later : List Module) (number next : ℕ)
-    → IsSquare (side_of v) a
-    → IsPlaced v cw g0 before (both_of (rows_from (side_of v) x 0 (side_of v)) ++ later) number (transposed a)
-    → IsStripDrawn v cw x number a next b
-    → IsPlaced v cw g0 (before ++ both_of (rows_from (side_of v) x 0 (side_of v))) later next (transposed b)
+pub placed-strip : (v : ℕ) (cw : List ℕ) (g0 a b : Grid) (x : Strip) (before later : List Module) (number next :
+    ℕ) → IsSquare (side_of v) a → IsPlaced v cw g0 before (both_of (rows_from (side_of v) x 0 (side_of v)) ++
+    later) number (transposed a) → IsStripDrawn v cw x number a next b → IsPlaced v cw g0 (before ++ both_of
+    (rows_from (side_of v) x 0 (side_of v))) later next (transposed b)
 placed-strip v cw g0 a b x before later number next o p d =
     let s = side_of v in
-    let want = placed_colour v cw (colour g0) in
     let a-side = ap (λ (z : Grid). z.side) o in
-    let b-side = ap (λ (z : Grid). z.side) d.square in
-    record {
+    let b-side = ap (λ (z : Grid). z.side) d.square in record {
       whole = rw append_assoc p.whole;
-      next = d.number ∙ (ap (λ n. number_at v x n s) p.next ∙ number-rows v x before s);
+      next = d.number ∙ (ap (λ n. number_at v x n s) p.next ∙ number-rows v x _ s);
       square = square-transposed s b d.square;
       done = λ r c l m n.
-          let kept : (((c ≡ x.right) ⊎ (c ≡ x.right - 1)) × (is_in_region v r c ≡ true) → ⊥) → colour a c r ≡ want r c = λ u.
-          sym (colour-transposed a r c (omega arith) (omega arith)) ∙ p.done r c l m (λ q. elim (strip-mem v s x 0 s (at r c) later q) [ inl w ↦ u w | inr q ↦ n q ]) in
+          let kept : (((c ≡ x.right) ⊎ (c ≡ x.right - 1)) × (is_in_region v r c ≡ true) → ⊥) → colour a c r ≡ (placed_colour v cw (colour g0)) r c = λ u.
+          sym (colour-transposed a r c (omega arith) (omega arith)) ∙ p.done r c l m (λ q. elim (strip-mem v s x 0 s _ _ q) [ inl w ↦ u w | inr q ↦ n q ]) in
           let j = row_of s x r in
           let rank = row-small x s r l in
           let bits = rw rank.1 at (d.drawn j rank.0) in
@@ -242,15 +226,14 @@ placed-strip v cw g0 a b x before later number next o p d =
           let ys = both_of (rows_from s x (j + 1) (s - 1 - j)) ++ later in
           let order : before ++ (both_of (rows_from s x 0 s) ++ later) ≡ xs ++ i ∷ k ∷ ys = rw (rw rank.1 at (strip-split s x j rank.0)) (simp append_assoc) in
           let whole = rw order at p.whole in
-          let first : length (in_region_of v xs) ≡ number_at v x number j = sym (ap (λ n. number_at v x n j) p.next ∙ number-rows v x before j) in
-          let second = count-push v xs i in
-          colour-transposed b r c (omega arith) (omega arith) ∙ elim (cases_eq c x.right) [
+          let first : length (in_region_of v xs) ≡ number_at v x number j = sym (ap (λ n. number_at v x n j) p.next ∙ number-rows v x _ j) in
+          colour-transposed b r c (omega arith) (omega arith) ∙ elim (cases_eq c _) [
             | inl e ↦ rw e (by_test (is_in_region v r x.right) _
-                (λ t. (rw t at bits.0) ∙ cc (place-number v xs (k ∷ ys) i whole t, first, inside v cw (colour g0) r x.right t))
+                (λ t. (rw t at bits.0) ∙ cc (place-number v xs _ i whole t, first, inside v cw _ r _ t))
                 (λ t. (rw t at bits.0) ∙ (rw e at kept) (λ w. cc)))
-            | inr e ↦ elim (cases_eq c (x.right - 1)) [
+            | inr e ↦ elim (cases_eq c _) [
               | inl f ↦ rw f (by_test (is_in_region v r (x.right - 1)) _
-                  (λ t. (rw t at bits.1) ∙ cc (place-number v (xs ++ i ∷ []) ys k (rw (append_assoc xs (i ∷ []) (k ∷ ys)) whole) t, first, second, inside v cw (colour g0) r (x.right - 1) t))
+                  (λ t. (rw t at bits.1) ∙ cc (place-number v (xs ++ i ∷ []) ys k (rw (append_assoc xs _ _) whole) t, first, (count-push v xs i), inside v cw _ r _ t))
                   (λ t. (rw t at bits.1) ∙ (rw f at kept) (λ w. cc)))
               | inr f ↦ d.kept r c l m e f ∙ kept (λ w. elim w.0 [ inl g ↦ e g | inr g ↦ f g ])
             ]
@@ -260,7 +243,7 @@ placed-strip v cw g0 a b x before later number next o p d =
 -- the number of the next bit is at most the number of all modules of the region
 pub placed-small : (v : ℕ) (cw : List ℕ) (g0 g : Grid) (before later : List Module) (number : ℕ) → 1 ≤ v → v ≤ 40 → IsPlaced v cw g0 before later number g → number ≤ 29648
 placed-small v cw g0 g before later number k l p =
-    let m = order-small v (in_region_of v (before ++ later)) k l p.whole in
+    let m = order-small v _ k l p.whole in
     omega (arith, ap length (kept-append v before later), length-append (in_region_of v before) (in_region_of v later), p.next)
 
 -- after all places, the square has the placed colours

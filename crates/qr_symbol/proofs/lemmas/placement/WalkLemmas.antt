@@ -1,18 +1,16 @@
 -- Drawing along the walk, where each bit is masked as it is placed.
 use mathlib.Core.Bool.{beq}
-use Rattle.std.proofs.Common.{◌≡◌, ℕ, ◌+◌, ◌<◌, ◌≤◌, Bool, true, false, cond, not, List, [], ◌∷◌, ◌++◌, length, length-append, refl, ◌∙◌, ap, arith}
-use Rattle.qr_layout.specs.declared.{level.Level.Level, region.Module.Module, role.Role.Role}
-use Rattle.qr_layout.specs.declared.role.Role.TheVariants.{Fixed, FormatBit, VersionBit, Region}
-use Rattle.qr_layout.specs.{Version.side_of, Format.format_word_of, Format.version_word_of, Region.is_in_region}
-use Rattle.qr_layout.specs.{Role.role_of, Order.IsOrder, Order.number_of}
-use Rattle.qr_layout.proofs.Facts.{order-small, region-role, role-region}
-use Rattle.qr_bits.specs.Bits.{codeword_bit}
-use Rattle.qr_matrix.specs.Grid.{Grid, square, colour, light, painted, IsSquare}
+use Rattle.{qr_bits.specs.Bits.codeword_bit, qr_layout.proofs.Facts.{order-small, region-role, role-region}}
+use Rattle.qr_layout.specs.Format.{format_word_of, version_word_of}
+use Rattle.qr_layout.specs.{Order.{IsOrder, number_of}, Region.is_in_region, Role.role_of, Version.side_of}
+use Rattle.qr_layout.specs.declared.{level.Level.Level, region.Module.Module, role.Role.{Role, TheVariants.Region}}
 use Rattle.qr_matrix.proofs.Facts.{square-same, colour-square}
-use Rattle.qr_symbol.specs.{Mask.inverts, Mask.inverted, Symbol.colour_by, Symbol.colour_of, Symbol.grid_of}
-use Rattle.qr_symbol.specs.Steps.{Placement.walked_colour, Patterns.fixed_colour}
+use Rattle.qr_matrix.specs.Grid.{Grid, square, colour, light, painted, IsSquare}
 use Rattle.qr_symbol.proofs.lemmas.placement.BitLemmas.{differs-inverted}
 use Rattle.qr_symbol.proofs.lemmas.placement.PlacementLemmas.{at, by_test, Done, done-start, done-step, done-end, next-number, painted-square, whole-next, whole-push, in-square}
+use Rattle.qr_symbol.specs.{Mask.{inverts, inverted}, Steps.{Patterns.fixed_colour, Placement.walked_colour}}
+use Rattle.qr_symbol.specs.Symbol.{colour_by, colour_of, grid_of}
+use Rattle.std.proofs.Common.{◌≡◌, ℕ, ◌+◌, ◌<◌, ◌≤◌, Bool, true, false, cond, not, List, [], ◌∷◌, ◌++◌, length, length-append, refl, ◌∙◌, ap, arith}
 
 -- outside the encoding region the colour stays
 walked-outside : (v : ℕ) (cw : List ℕ) (mask : ℕ) (f : ℕ → ℕ → Bool) (r c : ℕ) → is_in_region v r c ≡ false → f r c ≡ walked_colour v cw mask f r c
@@ -38,34 +36,29 @@ walked-start v cw mask g ms s o = search (arith, done-start, walked-outside)
 -- the next module is in the square
 pub walked-in : (v : ℕ) (cw : List ℕ) (mask : ℕ) (g0 g : Grid) (front now later : List Module) (x : Module) (number : ℕ) → IsWalked v cw mask g0 front now number g → now ≡ x ∷ later → (x.row < g.side) × (x.col < g.side)
 walked-in v cw mask g0 g front now later x number w e =
-    let o = whole-next v front now later x w.whole e in
-    let l = in-square v front later x o in
-    search arith
+    let l = in-square v _ _ x (whole-next v _ now _ x w.whole e) in search arith
 
 -- one module is drawn
-pub walked-step : (v : ℕ) (cw : List ℕ) (mask : ℕ) (g0 g : Grid) (front now later : List Module) (x : Module) (number : ℕ) (bit turned : Bool)
-    → bit ≡ codeword_bit cw number → turned ≡ inverts mask x.row x.col → now ≡ x ∷ later → IsWalked v cw mask g0 front now number g
-    → IsWalked v cw mask g0 (front ++ x ∷ []) later (number + 1) (painted g x.row x.col (not (beq bit turned)))
+pub walked-step : (v : ℕ) (cw : List ℕ) (mask : ℕ) (g0 g : Grid) (front now later : List Module) (x : Module)
+    (number : ℕ) (bit turned : Bool) → bit ≡ codeword_bit cw number → turned ≡ inverts mask x.row x.col →
+    now ≡ x ∷ later → IsWalked v cw mask g0 front now number g → IsWalked v cw mask g0 (front ++ x ∷ []) later
+    (number + 1) (painted g x.row x.col (not (beq bit turned)))
 walked-step v cw mask g0 g front now later x number bit turned b t e w =
-    let o = whole-next v front now later x w.whole e in
+    let o = whole-next v _ now _ x w.whole e in
     let s = ap (λ (h : Grid). h.side) w.square in
-    let n = next-number v front later x number o w.next in
+    let n = next-number v _ _ x _ o w.next in
     let d : not (beq bit turned) ≡ inverted (inverts mask x.row x.col) (codeword_bit cw number) =
-    search (arith, differs-inverted, codeword_bit) in
-    let want : inverted (inverts mask x.row x.col) (codeword_bit cw number) ≡ walked_colour v cw mask (colour g0) x.row x.col =
-    search (arith, walked-inside, codeword_bit) in
-    record {
-      whole = whole-push v front later x o;
-      next = cc (length-append front (x ∷ []));
+    search (arith, differs-inverted, codeword_bit) in record {
+      whole = whole-push v _ _ x o;
+      next = cc (length-append _ _);
       square = omega (arith, painted-square);
-      done = done-step (side_of v) (walked_colour v cw mask (colour g0)) g later x (not (beq bit turned)) s (d ∙ want) (search arith);
+      done = done-step _ _ g _ x _ s (d ∙ (search (arith, walked-inside, codeword_bit))) (search arith);
     }
 
 -- the number of the next bit is at most the number of all modules of the region
 pub walked-small : (v : ℕ) (cw : List ℕ) (mask : ℕ) (g0 g : Grid) (front later : List Module) (number : ℕ) → 1 ≤ v → v ≤ 40 → IsWalked v cw mask g0 front later number g → number ≤ 29648
 walked-small v cw mask g0 g front later number k l w =
-    let m = order-small v (front ++ later) k l w.whole in
-    search (arith, length-append)
+    let m = order-small v _ k l w.whole in search (arith, length-append)
 
 -- after the last module, the square has the walked colours
 pub walked-end : (v : ℕ) (cw : List ℕ) (mask : ℕ) (g0 g : Grid) (front later : List Module) (number : ℕ) → later ≡ [] → IsWalked v cw mask g0 front later number g → g ≡ square (side_of v) (walked_colour v cw mask (colour g0))
@@ -74,10 +67,8 @@ walked-end v cw mask g0 g front later number e w = search (arith, done-end)
 -- a module that is not in the region has the fixed colour of its role
 role-fixed : (v : ℕ) (l : Level) (mask : ℕ) (cw : List ℕ) (r c : ℕ) (q : Role) → (q ≡ Region → ⊥) → fixed_colour (format_word_of l mask) (version_word_of v) q ≡ colour_by v l mask cw r c q
 unfolding fixed_colour
-role-fixed v l mask cw r c (Fixed dark) n = refl
-role-fixed v l mask cw r c (FormatBit i) n = refl
-role-fixed v l mask cw r c (VersionBit i) n = refl
 role-fixed v l mask cw r c Region n = absurd (n refl)
+role-fixed v l mask cw r c q n = refl
 
 -- the fixed patterns, drawn over a light square
 pub fixed-alone : (v format : ℕ) (g h : Grid) → 1 ≤ v → g ≡ light (side_of v) → h ≡ square (side_of v) (λ r c. cond (is_in_region v r c) (colour g r c) (fixed_colour format (version_word_of v) (role_of v r c)))
@@ -90,4 +81,4 @@ pub walked-all : (v : ℕ) (l : Level) (mask : ℕ) (cw : List ℕ) (g h : Grid)
     → h ≡ square (side_of v) (walked_colour v cw mask (colour g)) → h ≡ grid_of v l mask cw
 unfolding colour_of
 walked-all v l mask cw g h k e f =
-    f ∙ square-same (side_of v) (walked_colour v cw mask (colour g)) (colour_of v l mask cw) (search (arith, by_test, walked-inside, region-role, walked-outside, colour-square, role-fixed, role-region))
+    f ∙ square-same _ _ _ (search (arith, by_test, walked-inside, region-role, walked-outside, colour-square, role-fixed, role-region))

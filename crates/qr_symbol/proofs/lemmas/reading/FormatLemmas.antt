@@ -1,17 +1,13 @@
 -- The format information of a square is that of at most one level and mask.
-use Rattle.std.proofs.Common.{◌≡◌, ℕ, ◌/◌, ◌^◌, ◌<◌, ◌≤◌, Bool, true, eqb, ltb, nat_eq, List, refl, sym, ◌∙◌, ap, inl, inr, arith}
-use Rattle.std.proofs.lemmas.Bool.{cases_lt, eqb-true, Decides.nat_tests}
-use Rattle.std.proofs.lemmas.Nat.Bits.{same_from_bits_below, bit_at-lt}
-use Rattle.std.specs.{Prelude.bit_xor, Int.bit_at}
 use borrow.Author.Tests.{ltb-true}
-use Rattle.qr_layout.specs.declared.level.Level.{Level, TheVariants.L, TheVariants.M, TheVariants.Q, TheVariants.H}
-use Rattle.qr_layout.specs.Version.{side_of}
-use Rattle.qr_layout.specs.Format.{word_remainder, format_with, five_bits, level_bits, format_word_of}
-use Rattle.qr_layout.specs.Role.{first_place}
 use Rattle.qr_layout.proofs.Facts.{below, below-at, format-first}
-use Rattle.qr_matrix.specs.{BitRow.has_bit, Grid.Grid}
-use Rattle.qr_symbol.specs.{Symbol.colour_by, Symbol.colour_of, Symbol.grid_of, Reading.IsFormat}
-use Rattle.qr_matrix.proofs.Facts.{colour-square}
+use Rattle.qr_layout.specs.Format.{word_remainder, format_with, five_bits, level_bits, format_word_of}
+use Rattle.qr_layout.specs.{Role.first_place, Version.side_of, declared.level.Level.{Level, TheVariants.{L, M, Q, H}}}
+use Rattle.qr_matrix.{proofs.Facts.colour-square, specs.{BitRow.has_bit, Grid.Grid}}
+use Rattle.qr_symbol.specs.{Reading.IsFormat, Symbol.{colour_by, colour_of, grid_of}}
+use Rattle.std.proofs.Common.{◌≡◌, ℕ, ◌/◌, ◌^◌, ◌<◌, ◌≤◌, Bool, true, eqb, ltb, nat_eq, List, refl, sym, ◌∙◌, ap, inl, inr, arith}
+use Rattle.std.proofs.lemmas.{Bool.{cases_lt, eqb-true, Decides.nat_tests}, Nat.Bits.{same_from_bits_below, bit_at-lt}}
+use Rattle.std.specs.{Int.bit_at, Prelude.bit_xor}
 
 -- the test that the word of format information contains its five data bits
 gives-back : ℕ → Bool
@@ -34,28 +30,15 @@ all-short = refl
 -- the bits of a level are a number of at most 3
 pub level-small : (l : Level) → level_bits l ≤ 3
 level-small L = omega arith
-level-small M = omega arith
-level-small Q = omega arith
-level-small H = omega arith
+level-small l = omega arith
 
 -- different levels have different bits
 pub level-one : (l k : Level) → level_bits l ≡ level_bits k → l ≡ k
 level-one L L e = refl
-level-one L M e = absurd (omega arith)
-level-one L Q e = absurd (omega arith)
-level-one L H e = absurd (omega arith)
-level-one M L e = absurd (omega arith)
 level-one M M e = refl
-level-one M Q e = absurd (omega arith)
-level-one M H e = absurd (omega arith)
-level-one Q L e = absurd (omega arith)
-level-one Q M e = absurd (omega arith)
 level-one Q Q e = refl
-level-one Q H e = absurd (omega arith)
-level-one H L e = absurd (omega arith)
-level-one H M e = absurd (omega arith)
-level-one H Q e = absurd (omega arith)
 level-one H H e = refl
+level-one l k e = absurd (omega arith)
 
 -- the word of a level and a mask has at most 15 bits
 short : (l : Level) (mask : ℕ) → mask < 8 → format_word_of l mask < 2 ^ 15
@@ -65,7 +48,7 @@ short l mask h = let s = level-small l in ltb-true _ _ (below-at 32 is-short all
 -- the highest five bits of the word are those of the level and the mask, once it is unmasked
 back : (l : Level) (mask : ℕ) → mask < 8 → bit_xor (format_word_of l mask) 0x5412 / 1024 ≡ five_bits l mask
 unfolding format_word_of gives-back
-back l mask h = let s = level-small l in eqb-true (bit_xor (format_with (five_bits l mask)) 0x5412 / 1024) (five_bits l mask) (below-at 32 gives-back all-give-back (five_bits l mask) (omega arith))
+back l mask h = let s = level-small l in eqb-true _ _ (below-at 32 gives-back all-give-back _ (omega arith))
 
 -- two bits are equal if their tests agree
 same-bit : (a b : ℕ) → a < 2 → b < 2 → nat_eq a 1 ≡ nat_eq b 1 → a ≡ b
@@ -79,10 +62,7 @@ format-one g l k m n h j =
     let b = format_word_of k n in
     let p = h.in_range in
     let q = j.in_range in
-    let words : a ≡ b = same_from_bits_below 15 a b (short l m p) (short k n q) (λ i r. same-bit (bit_at a i) (bit_at b i) (bit_at-lt a i) (bit_at-lt b i) (sym (h.bits i r) ∙ j.bits i r)) in
-    let five : five_bits l m ≡ five_bits k n = sym (back l m p) ∙ (ap (λ (z : ℕ). bit_xor z 0x5412 / 1024) words ∙ back k n q) in
-    let s = level-small l in
-    let t = level-small k in
+    let five : five_bits l m ≡ five_bits k n = sym (back l m p) ∙ (ap (λ (z : ℕ). bit_xor z 0x5412 / 1024) (same_from_bits_below 15 a b (short l m p) (short k n q) (λ i r. same-bit (bit_at a i) (bit_at b i) (bit_at-lt a i) (bit_at-lt b i) (sym (h.bits i r) ∙ j.bits i r))) ∙ back k n q) in
     (level-one l k (omega arith), omega arith)
 
 -- the places of the first copy are in the first 15 rows

@@ -1,37 +1,30 @@
 -- What is read from the square of a symbol: the codeword bits, the codewords and the message.
-use Rattle.std.proofs.Common.{◌≡◌, ℕ, zero, suc, ◌+◌, ◌-◌, ◌*◌, ◌<◌, ◌≤◌, Bool, true, false, nat_eq, List, [], ◌∷◌, ◌++◌, map, take, drop, length, replicate, refl, sym, ◌∙◌, ap, subst, length-append, inl, inr, arith}
-use Rattle.std.proofs.lemmas.Bool.{cases_lt, Decides.nat_tests}
-use Rattle.std.proofs.lemmas.List.{append-nil, length-map, length-take, length-replicate}
-use Rattle.std.proofs.{Math.Seq.drop-cons, lemmas.Nat.Bits.same_from_bits_below, lemmas.Nat.Bits.bit_at-lt}
-use Rattle.std.specs.{List.All, Int.bit_at}
-use Rattle.qr_layout.specs.{declared.level.Level.Level, declared.region.Module.Module, Version.total_codewords_of}
-use Rattle.qr_layout.specs.{Blocks.data_codewords_of, Blocks.blocks_of, Order.IsOrder, Order.number_of}
-use Rattle.qr_layout.specs.Steps.Order.{to_come, first_cursor}
-use Rattle.qr_layout.proofs.Facts.{order-mem, order-length, number-at, only_order, to_come-start, region-role}
-use Rattle.qr_bits.specs.{Bits.field, Bits.bits_of, Bits.codeword_bit, Parsing.bytes_of}
 use Rattle.qr_bits.proofs.Facts.{length-field, length-bits_of, bits_at, bytes_takes}
-use Rattle.qr_matrix.specs.Grid.{Grid}
-use Rattle.qr_symbol.specs.{Mask.inverts, Mask.inverted, Symbol.colour_of, Symbol.grid_of, Interleaving.IsInterleaved}
-use Rattle.qr_symbol.specs.Reading.{unmasked, read_bits, IsRead, IsMessage}
-use Rattle.qr_matrix.proofs.Facts.{colour-square}
-use Rattle.qr_symbol.proofs.lemmas.placement.PlacementLemmas.{in-square, whole-push, Mem-mid}
+use Rattle.qr_bits.specs.{Bits.{field, bits_of, codeword_bit}, Parsing.bytes_of}
+use Rattle.qr_layout.proofs.Facts.{order-mem, order-length, number-at, only_order, to_come-start, region-role}
+use Rattle.qr_layout.specs.{Blocks.data_codewords_of, Order.IsOrder, Steps.Order.{to_come, first_cursor}}
+use Rattle.qr_layout.specs.{Version.total_codewords_of, declared.{level.Level.Level, region.Module.Module}}
+use Rattle.qr_matrix.{proofs.Facts.colour-square, specs.Grid.Grid}
 use Rattle.qr_symbol.proofs.lemmas.interleaving.MessageLemmas.{append-front, data-one, data-sizes-whole}
+use Rattle.qr_symbol.proofs.lemmas.placement.PlacementLemmas.{in-square, whole-push, Mem-mid}
+use Rattle.qr_symbol.specs.{Interleaving.IsInterleaved, Mask.{inverts, inverted}}
+use Rattle.qr_symbol.specs.{Reading.{unmasked, read_bits, IsRead, IsMessage}, Symbol.{colour_of, grid_of}}
+use Rattle.std.proofs.Common.{◌≡◌, ℕ, zero, suc, ◌+◌, ◌-◌, ◌*◌, ◌<◌, ◌≤◌, Bool, false, List, [], ◌∷◌, ◌++◌, map, take, drop, length, replicate, refl, sym, ◌∙◌, ap, subst, length-append, inl, inr, arith}
+use Rattle.std.proofs.{Math.Seq.{drop-cons, take-length}, lemmas.Bool.{cases_lt, Decides.nat_tests}}
+use Rattle.std.proofs.lemmas.List.{append-nil, length-map, length-take, length-replicate}
+use Rattle.std.{proofs.lemmas.Nat.Bits.{same_from_bits_below, bit_at-lt}, specs.{Int.bit_at, List.All}}
 
 -- a bit that is inverted twice is unchanged
 inverted-twice : (b x : Bool) → inverted b (inverted b x) ≡ x
-inverted-twice true true = refl
-inverted-twice true false = refl
-inverted-twice false x = refl
+inverted-twice b x = grind (arith, nat_tests)
 
 -- the bit that is read at one module
 read-place : (v : ℕ) (l : Level) (mask : ℕ) (cw : List ℕ) (front back : List Module) (m : Module) → 1 ≤ v → IsOrder v (front ++ m ∷ back) → unmasked mask (grid_of v l mask cw) m ≡ codeword_bit cw (length front)
 unfolding colour_of
 read-place v l mask cw front back m k o =
-    let w = in-square v front back m o in
-    let t = order-mem v (front ++ m ∷ back) o m (Mem-mid m front back) in
-    let e = region-role v m.row m.col k w.0 w.1 t in
-    ap (inverted (inverts mask m.row m.col)) (search (arith, colour-square))
-    ∙ (inverted-twice (inverts mask m.row m.col) (codeword_bit cw (number_of v m)) ∙ ap (codeword_bit cw) (number-at v front back m o))
+    let w = in-square v _ _ m o in
+    let e = region-role v _ _ k w.0 w.1 (order-mem v _ o m (Mem-mid m _ _)) in ap (inverted (inverts mask m.row m.col)) (search (arith, colour-square))
+    ∙ (inverted-twice _ _ ∙ ap (codeword_bit cw) (number-at v _ _ m o))
 
 -- the bits that are read from one module of the order on
 read-from : (v : ℕ) (l : Level) (mask : ℕ) (cw : List ℕ) (n : ℕ) (front rest : List Module) → 1 ≤ v → IsOrder v (front ++ rest) → length front + n ≤ 8 * length cw → n ≤ length rest → map (unmasked mask (grid_of v l mask cw)) (take n rest) ≡ take n (drop (length front) (bits_of cw))
@@ -41,17 +34,13 @@ read-from v l mask cw (suc n) front (m ∷ rest) p o i h =
     let bits = bits_of cw in
     let k = length front in
     let next : length (front ++ m ∷ []) ≡ suc k = omega (arith, length-append front (m ∷ [])) in
-    let here = read-place v l mask cw front rest m p o in
-    let later = read-from v l mask cw n (front ++ m ∷ []) rest p (whole-push v front rest m o) (omega arith) (omega arith) ∙ ap (λ (z : ℕ). take n (drop z bits)) next in
-    let c = drop-cons bits k false (omega (arith, length-bits_of cw)) in
-    cc (bits_at cw k (omega arith))
+    let here = read-place v l mask cw _ _ m p o in
+    let later = read-from v l mask cw n _ _ p (whole-push v _ _ m o) (omega arith) (omega arith) ∙ ap (λ (z : ℕ). take n (drop z bits)) next in
+    let c = drop-cons bits k false (omega (arith, length-bits_of cw)) in cc (bits_at cw k (omega arith))
 
 -- the prefix with the length of the list is the whole list
 take-whole : {X : Type 0} (xs : List X) (n : ℕ) → length xs ≡ n → take n xs ≡ xs
-take-whole [] zero e = refl
-take-whole [] (suc n) e = refl
-take-whole (x ∷ xs) zero e = absurd (omega arith)
-take-whole (x ∷ xs) (suc n) e = ap (λ zs. x ∷ zs) (take-whole xs n (omega arith))
+take-whole xs n e = rw (← e) (take-length xs)
 
 -- a symbol is read as the bits of its codewords
 pub read-grid : (v : ℕ) (l : Level) (mask : ℕ) (cw : List ℕ) (ms : List Module) → 1 ≤ v → v ≤ 40 → IsOrder v ms → length cw ≡ total_codewords_of v → read_bits v mask (grid_of v l mask cw) ms ≡ bits_of cw
@@ -60,8 +49,8 @@ read-grid v l mask cw ms p h o e =
     let many = order-length v ms p h o in
     let none : t - length ms ≡ 0 = omega arith in
     ap (λ (z : ℕ). map (unmasked mask (grid_of v l mask cw)) (take t ms) ++ replicate z false) none
-    ∙ (append-nil (map (unmasked mask (grid_of v l mask cw)) (take t ms))
-    ∙ (read-from v l mask cw t [] ms p o (omega arith) (omega arith) ∙ take-whole (bits_of cw) t (omega (arith, length-bits_of cw))))
+    ∙ (append-nil _
+    ∙ (read-from v l _ cw t [] ms p o (omega arith) (omega arith) ∙ take-whole _ t (omega (arith, length-bits_of cw))))
 
 -- ---- bits determine their bytes
 
@@ -78,13 +67,6 @@ field-one (suc w) x y e i l = elim (cases_lt i w) [
     tail [] = []
     tail (b ∷ bs) = bs
 
-    head : List Bool → Bool
-    head [] = false
-    head (b ∷ bs) = b
-
-    same_bit : (a b : ℕ) → a < 2 → b < 2 → nat_eq a 1 ≡ nat_eq b 1 → a ≡ b
-    same_bit a b l m e = grind (arith, nat_tests)
-
 -- bytes with the same bits are equal
 pub bits-one : (cw ds : List ℕ) → All (λ x. x < 256) cw → All (λ x. x < 256) ds → bits_of cw ≡ bits_of ds → cw ≡ ds
 unfolding bits_of
@@ -92,10 +74,9 @@ bits-one [] [] a b e = refl
 bits-one [] (d ∷ ds) a b e = absurd (let l = ap length e in omega (arith, length-append (field 8 d) (bits_of ds), length-field 8 d))
 bits-one (c ∷ cs) [] a b e = absurd (let l = ap length e in omega (arith, length-append (field 8 c) (bits_of cs), length-field 8 c))
 bits-one (c ∷ cs) (d ∷ ds) a b e =
-    let w = append-front (field 8 c) (field 8 d) (bits_of cs) (bits_of ds) (length-field 8 c ∙ sym (length-field 8 d)) e in
+    let w = append-front _ _ _ _ (length-field 8 c ∙ sym (length-field 8 d)) e in
     let h = same_from_bits_below 8 c d (a 0 c (omega arith)) (b 0 d (omega arith)) (field-one 8 c d w.0) in
-    let t = bits-one cs ds (λ k x l. a (suc k) x (omega arith)) (λ k x l. b (suc k) x (omega arith)) w.1 in
-    λ i. h i ∷ t i
+    λ i. h i ∷ (bits-one cs ds (λ k x l. a (suc k) x (omega arith)) (λ k x l. b (suc k) x (omega arith)) w.1) i
 
 -- a square is read as at most one list of codewords
 pub read-one : (v mask : ℕ) (g : Grid) (cw ds : List ℕ) → IsRead v mask g cw → IsRead v mask g ds → cw ≡ ds
@@ -106,23 +87,18 @@ pub read-some : (v mask : ℕ) (g : Grid) → 1 ≤ v → v ≤ 40 → (cw : Lis
 read-some v mask g p h =
     let t = total_codewords_of v in
     let o = to_come-start v in
-    let ms = to_come v (first_cursor v) in
-    let bits = read_bits v mask g ms in
+    let bits = read_bits v mask g (to_come v (first_cursor v)) in
     let many : length bits ≡ 8 * t = search (arith, length-append, length-map, length-take, length-replicate) in
     let w = bytes_takes t bits (omega arith) in
-    let n = w.0 in
-    let same = append-front bits (bits_of (bytes_of t bits)) [] (drop (8 * t) bits) (let l = length-bits_of (bytes_of t bits) in omega arith) (append-nil bits ∙ w.2) in
+    let same = append-front _ _ [] (drop (8 * t) bits) (let l = length-bits_of (bytes_of t bits) in omega arith) (append-nil _ ∙ w.2) in
     search arith
 
 -- the square that is drawn for the codewords of a message contains this message
 pub message-read : (v : ℕ) (l : Level) (mask : ℕ) (d cw : List ℕ) → 1 ≤ v → v ≤ 40 → length cw ≡ total_codewords_of v → All (λ x. x < 256) cw → length d ≡ data_codewords_of v l → IsInterleaved v l d cw → IsMessage v l mask (grid_of v l mask cw) d
-message-read v l mask d cw p h n a m i =
-    let o = to_come-start v in
-    search (arith, read-grid)
+message-read v l mask d cw p h n a m i = let o = to_come-start v in search (arith, read-grid)
 
 -- a square contains at most one message
 pub message-one : (v : ℕ) (l : Level) (mask : ℕ) (g : Grid) (d e : List ℕ) → 1 ≤ v → v ≤ 40 → IsMessage v l mask g d → IsMessage v l mask g e → d ≡ e
 message-one v l mask g d e p q h k =
-    let same = read-one v mask g k.codewords h.codewords k.read h.read in
     let whole = data-sizes-whole v l p q in
-    data-one (blocks_of v l) d e h.codewords (h.many ∙ sym whole) (k.many ∙ sym whole) h.interleaved (subst (IsInterleaved v l e) same k.interleaved)
+    data-one _ d e _ (h.many ∙ sym whole) (k.many ∙ sym whole) h.interleaved (subst (IsInterleaved v l e) (read-one v _ g _ _ k.read h.read) k.interleaved)

@@ -1,27 +1,21 @@
 -- A square is read as one content, or is refused for one reason.
-use Rattle.std.proofs.Common.{◌≡◌, ℕ, List, refl, inl, inr, ◌⊎◌, arith}
-use Rattle.std.specs.Prelude.{◌↔◌, MatchResult, Result, Ok, Err}
-use Rattle.qr_layout.specs.declared.level.Level.{Level}
-use Rattle.qr_bits.specs.{declared.fault.ParseFault.ParseFault, Bits.bits_of, Parsing.Content}
-use Rattle.qr_symbol.specs.declared.fault.ReadFault.{ReadFault}
-use Rattle.qr_symbol.specs.declared.fault.ReadFault.TheVariants as fault
-use Rattle.qr_matrix.specs.Grid.{Grid}
+use Rattle.qr_bits.specs.{Bits.bits_of, Parsing.Content, declared.fault.ParseFault.ParseFault}
+use Rattle.{qr_layout.specs.declared.level.Level.Level, qr_matrix.specs.Grid.Grid}
+use Rattle.qr_symbol.proofs.lemmas.reading.{FormatLemmas.format-one, ReadLemmas.message-one}
 use Rattle.qr_symbol.specs.Reading.{IsFormat, IsMessage, IsReading, IsOfVersion, IsParsedAs, IsUnread}
-use Rattle.qr_symbol.proofs.lemmas.reading.{ReadLemmas.message-one, FormatLemmas.format-one}
+use Rattle.qr_symbol.specs.declared.fault.ReadFault.{ReadFault}
+use Rattle.std.proofs.Common.{◌≡◌, ℕ, List, refl, inl, inr, sym, ◌⊎◌, arith}
+use Rattle.std.specs.Prelude.{◌↔◌, MatchResult, Result, Ok, Err}
+use Rattle.qr_symbol.specs.declared.fault.ReadFault.TheVariants as fault
 
 -- a square has one version, level and mask, so its message does not depend on how they were found
 pub moved : (g : Grid) (v w : ℕ) (l k : Level) (m n : ℕ) (d : List ℕ) → IsOfVersion g v → IsOfVersion g w → IsFormat g l m → IsFormat g k n → IsMessage v l m g d → (v ≡ w) × IsMessage w k n g d
-moved g v w l k m n d s t f h i =
-    let a = s.side in
-    let b = t.side in
-    let e = format-one g l k m n f h in
-    search arith
+moved g v w l k m n d s t f h i = let e = format-one g l k m n f h in search arith
 
 -- a square has at most one outcome of parsing
 gives-one : (g : Grid) (r q : Result Content ParseFault) → IsParsedAs g r → IsParsedAs g q → r ≡ q
 gives-one g r q h k =
-    let w = moved g k.version h.version k.level h.level k.mask h.mask k.message k.sized h.sized k.format h.format k.holds in
-    let same = message-one h.version h.level h.mask g h.message k.message h.sized.least h.sized.most h.holds w.1 in
+    let same = message-one h.version h.level h.mask g h.message k.message h.sized.least h.sized.most h.holds (moved g _ _ _ _ _ _ _ k.sized h.sized k.format h.format k.holds).1 in
     search (arith, bits_of)
 
 -- a square that contains a message is refused only if the message cannot be parsed, or for lack of memory
@@ -29,7 +23,7 @@ refused : (g : Grid) (r : Result Content ParseFault) → IsParsedAs g r → (e :
 refused g r h fault.Memory u = inl refl
 refused g r h fault.Side u = absurd (u h.version h.sized)
 refused g r h fault.Format u = absurd (u.2 h.level h.mask h.format)
-refused g r h fault.Check u = absurd (u.5 h.message (moved g h.version u.0 h.level u.2 h.mask u.3 h.message h.sized u.1 h.format u.4 h.holds).1)
+refused g r h fault.Check u = absurd (u.5 h.message (moved g _ u.0 _ u.2 _ u.3 _ h.sized u.1 h.format u.4 h.holds).1)
 refused g r h (fault.Segments x) u = inr (x, refl, gives-one g r (Err x) h u.1)
 refused g r h fault.Series u = absurd u
 
@@ -39,50 +33,29 @@ read-refused g p e h u = elim (refused g (Ok p) h e u) [ inl m ↦ m | inr w ↦
 
 -- a square whose message cannot be parsed is refused for that reason, or for lack of memory
 parse-refused : (g : Grid) (x : ParseFault) (e : ReadFault) → IsParsedAs g (Err x) → IsUnread g e → (e ≡ fault.Memory) ⊎ (fault.Segments x ≡ e)
-parse-refused g x e h u = elim (refused g (Err x) h e u) [ inl m ↦ inl m | inr w ↦ (let s = w.1 in let t = w.2 in inr (cc)) ]
+parse-refused g x e h u = elim (refused g (Err x) h e u) [ inl m ↦ inl m | inr w ↦ (inr (cc)) ]
 
 -- two faults of the same square are equal, or one of them is lack of memory
 pub refused-one : (g : Grid) (e f : ReadFault) → IsUnread g e → IsUnread g f → (e ≡ fault.Memory) ⊎ ((f ≡ fault.Memory) ⊎ (e ≡ f))
 refused-one g fault.Memory f a b = inl refl
-refused-one g fault.Side f a b = inr (by_fault f b)
-  where
-    by_fault : (f : ReadFault) → IsUnread g f → (f ≡ fault.Memory) ⊎ (fault.Side ≡ f)
-    by_fault fault.Memory b = inl refl
-    by_fault fault.Side b = inr refl
-    by_fault fault.Format b = absurd (a b.0 b.1)
-    by_fault fault.Check b = absurd (a b.0 b.1)
-    by_fault (fault.Segments x) b = (let w = b.1 in absurd (a w.version w.sized))
-    by_fault fault.Series b = absurd b
-refused-one g fault.Format f a b = inr (by_fault f b)
-  where
-    by_fault : (f : ReadFault) → IsUnread g f → (f ≡ fault.Memory) ⊎ (fault.Format ≡ f)
-    by_fault fault.Memory b = inl refl
-    by_fault fault.Side b = absurd (b a.0 a.1)
-    by_fault fault.Format b = inr refl
-    by_fault fault.Check b = absurd (a.2 b.2 b.3 b.4)
-    by_fault (fault.Segments x) b = (let w = b.1 in absurd (a.2 w.level w.mask w.format))
-    by_fault fault.Series b = absurd b
-refused-one g fault.Check f a b = inr (by_fault f b)
-  where
-    held : (x : ParseFault) → IsParsedAs g (Err x) → ⊥
-    held x h = a.5 h.message (moved g h.version a.0 h.level a.2 h.mask a.3 h.message h.sized a.1 h.format a.4 h.holds).1
-
-    by_fault : (f : ReadFault) → IsUnread g f → (f ≡ fault.Memory) ⊎ (fault.Check ≡ f)
-    by_fault fault.Memory b = inl refl
-    by_fault fault.Side b = absurd (b a.0 a.1)
-    by_fault fault.Format b = absurd (b.2 a.2 a.3 a.4)
-    by_fault fault.Check b = inr refl
-    by_fault (fault.Segments x) b = absurd (held x b.1)
-    by_fault fault.Series b = absurd b
-refused-one g (fault.Segments x) f a b = inr (parse-refused g x f a.1 b)
 refused-one g fault.Series f a b = absurd a
+refused-one g (fault.Segments x) f a b = inr (parse-refused g x f a.1 b)
+refused-one g e fault.Memory a b = inr (inl refl)
+refused-one g e fault.Series a b = absurd b
+refused-one g e (fault.Segments x) a b = elim (parse-refused g x e b.1 a) [ inl m ↦ inl m | inr q ↦ inr (inr (sym q)) ]
+refused-one g fault.Side fault.Side a b = inr (inr refl)
+refused-one g fault.Side f a b = absurd (a b.0 b.1)
+refused-one g e fault.Side a b = absurd (b a.0 a.1)
+refused-one g fault.Format fault.Check a b = absurd (a.2 b.2 b.3 b.4)
+refused-one g fault.Check fault.Format a b = absurd (b.2 a.2 a.3 a.4)
+refused-one g e f a b = inr (inr refl)
 
 -- if at most one fault besides lack of memory can hold, and none of these beside a value, a call returns such a fault
 -- exactly if it holds, unless memory is refused
-pub exactly : {T : Type 0} (P : T → Type 0) (U : ReadFault → Type 0) (r : Result T ReadFault) → MatchResult r P U →
-    ((x : T) (e : ReadFault) → P x → U e → e ≡ fault.Memory) →
-    ((e f : ReadFault) → U e → U f → (e ≡ fault.Memory) ⊎ ((f ≡ fault.Memory) ⊎ (e ≡ f))) → (e : ReadFault) →
-    (e ≡ fault.Memory → ⊥) → (r ≡ Err e) ↔ ((r ≡ Err fault.Memory → ⊥) × U e)
+pub exactly : {T : Type 0} (P : T → Type 0) (U : ReadFault → Type 0) (r : Result T ReadFault) → MatchResult r P U
+    → ((x : T) (e : ReadFault) → P x → U e → e ≡ fault.Memory)
+    → ((e f : ReadFault) → U e → U f → (e ≡ fault.Memory) ⊎ ((f ≡ fault.Memory) ⊎ (e ≡ f)))
+    → (e : ReadFault) → (e ≡ fault.Memory → ⊥) → (r ≡ Err e) ↔ ((r ≡ Err fault.Memory → ⊥) × U e)
 exactly P U (Ok x) h none one e other = ((λ k. absurd (cc)), (λ w. absurd (other (none x e h w.1))))
 exactly P U (Err f) h none one e other = (
   (search arith),

@@ -1,18 +1,14 @@
 -- A symbol is read as its input.
-use Rattle.std.proofs.Common.{◌≡◌, ℕ, ◌+◌, ◌<◌, ◌≤◌, List, [], map, length, get_or, sym, ◌∙◌, ap, subst, inl, inr, arith}
-use Rattle.std.proofs.{lemmas.Bool.cases_lt, Math.ListN.get_or-eq_default}
-use Rattle.std.proofs.lemmas.List.Elements.{All-append, All-map}
-use Rattle.std.specs.{Prelude.Option, List.All}
-use Rattle.qr_layout.specs.{declared.blocks.Blocks.Blocks, declared.level.Level.Level, Blocks.blocks_of}
-use Rattle.qr_bits.specs.declared.{modes.Rule.Rule, header.Header.Header}
-use Rattle.qr_bits.specs.{Bits.bits_of, Parsing.Content, Parsing.parse}
-use Rattle.qr_bits.proofs.Facts.{data_again, length-data}
-use Rattle.qr_matrix.specs.Grid.{Grid}
-use Rattle.qr_symbol.specs.Interleaving.{start_of, codeword_at, data_sizes, check_at, IsFinalMessage}
-use Rattle.qr_symbol.specs.{Reading.IsFormat, Reading.IsMessage, Reading.IsReading, Encoding.IsSymbolAt}
-use Rattle.qr_symbol.proofs.lemmas.interleaving.MessageLemmas.{final-whole}
-use Rattle.qr_symbol.proofs.lemmas.reading.ReadLemmas.{message-read, message-one}
+use Rattle.qr_bits.{proofs.Facts.{data_again, length-data}, specs.{Parsing.Content, declared.header.Header.Header}}
+use Rattle.{qr_bits.specs.declared.modes.Rule.Rule, qr_layout.specs.declared.{blocks.Blocks.Blocks, level.Level.Level}}
+use Rattle.{qr_matrix.specs.Grid.Grid, qr_symbol.proofs.lemmas.interleaving.MessageLemmas.final-whole}
 use Rattle.qr_symbol.proofs.lemmas.reading.FormatLemmas.{format-one, format-read}
+use Rattle.qr_symbol.proofs.lemmas.reading.ReadLemmas.{message-read, message-one}
+use Rattle.qr_symbol.specs.{Encoding.IsSymbolAt, Interleaving.{start_of, data_sizes, check_at, IsFinalMessage}}
+use Rattle.qr_symbol.specs.Reading.{IsFormat, IsMessage, IsReading}
+use Rattle.std.proofs.Common.{◌≡◌, ℕ, ◌+◌, ◌<◌, ◌≤◌, List, length, get_or, sym, ap, subst, inl, inr, arith}
+use Rattle.std.proofs.{Math.ListN.get_or-eq_default, lemmas.{Bool.cases_lt, List.Elements.{All-append, All-map}}}
+use Rattle.std.specs.{List.All, Prelude.Option}
 
 -- an item of a list of bytes, or 0 after its end, is a byte
 byte-at : (xs : List ℕ) (k : ℕ) → All (λ x. x < 256) xs → get_or xs k 0 < 256
@@ -20,25 +16,19 @@ byte-at xs k a = elim (cases_lt k (length xs)) [ inl l ↦ a k 0 l | inr l ↦ (
 
 -- the final sequence of a message of bytes consists of bytes
 final-bytes : (b : Blocks) (d cw : List ℕ) → All (λ x. x < 256) d → IsFinalMessage b d cw → All (λ x. x < 256) cw
-final-bytes b d cw a h =
-    subst (All (λ x. x < 256)) (sym h.whole)
-    (All-append (λ x. x < 256) (map (codeword_at (data_sizes b) d) h.data_positions) (map (check_at h.corrections) h.check_positions)
-    (All-map (λ x. x < 256) (codeword_at (data_sizes b) d) h.data_positions (λ k t l. let u = get_or h.data_positions k t in byte-at d (start_of (data_sizes b) u.block + u.place) a))
+final-bytes b d cw a h = subst (All (λ x. x < 256)) (sym h.whole) (All-append (λ x. x < 256) _ _
+    (All-map (λ x. x < 256) _ _ (λ k t l. let u = get_or _ k t in byte-at d (start_of (data_sizes b) u.block + u.place) a))
     (All-map (λ x. x < 256) (check_at h.corrections) h.check_positions (λ k t l.
-    let u = get_or h.check_positions k t in
-    let i = (h.check_order.in_blocks k t l).0 in
-    byte-at (get_or h.corrections u.block []) u.place (h.each u.block (omega arith)).bytes)))
+    let u = get_or _ k t in byte-at _ _ (h.each u.block (omega arith)).bytes)))
 
 -- the symbol of an input contains its message
 pub symbol-holds : (v : ℕ) (l : Level) (b : Rule) (x : List ℕ) (h : Option Header) (mask : ℕ) (g : Grid) → 1 ≤ v → v ≤ 40 → (s : IsSymbolAt v l b x h mask g) → IsMessage v l mask g s.message
 symbol-holds v l b x h mask g p q s =
-    let bytes = final-bytes (blocks_of v l) s.message s.codewords s.written.bytes s.interleaved in
-    let many = final-whole v l s.message s.codewords p q s.interleaved in
-    subst (λ (z : Grid). IsMessage v l mask z s.message) (sym s.drawn) (message-read v l mask s.message s.codewords p q many bytes (length-data v l x s.segments h s.message s.written) s.interleaved)
+    subst (λ (z : Grid). IsMessage v l mask z s.message) (sym s.drawn) (message-read v l _ _ _ p q (final-whole v l _ _ p q s.interleaved) (final-bytes _ _ _ s.written.bytes s.interleaved) (length-data v l x _ h _ s.written) s.interleaved)
 
 -- a symbol has the format information of its level and mask
 pub symbol-format : (v : ℕ) (l : Level) (b : Rule) (x : List ℕ) (h : Option Header) (mask : ℕ) (g : Grid) → 1 ≤ v → v ≤ 40 → IsSymbolAt v l b x h mask g → IsFormat g l mask
-symbol-format v l b x h mask g p q s = subst (λ (z : Grid). IsFormat z l mask) (sym s.drawn) (format-read v l mask s.codewords p q s.best.in_range)
+symbol-format v l b x h mask g p q s = subst (λ (z : Grid). IsFormat z l mask) (sym s.drawn) (format-read v l _ _ p q s.best.in_range)
 
 -- the symbol of an input is read as its bytes, in its segments and after its header
 pub symbol-read : (v : ℕ) (l : Level) (b : Rule) (x : List ℕ) (h : Option Header) (mask : ℕ) (g : Grid) → 1 ≤ v → v ≤ 40 → (s : IsSymbolAt v l b x h mask g) → IsReading g (record { header = h; segments = s.segments; bytes = x })
@@ -48,21 +38,16 @@ symbol-read v l b x h mask g p q s = record {
   mask = mask;
   message = s.message;
   sized = record { least = p; most = q; side = ap (λ (z : Grid). z.side) s.drawn };
-  format = symbol-format v l b x h mask g p q s;
-  holds = symbol-holds v l b x h mask g p q s;
-  parsed = data_again v l x s.segments h s.message s.written;
+  format = symbol-format v l b x h _ g p q s;
+  holds = symbol-holds v l b x h _ g p q s;
+  parsed = data_again v l x _ h _ s.written;
 }
 
 -- a square is read as at most one content
 pub reading-one : (g : Grid) (p q : Content) → IsReading g p → IsReading g q → p ≡ q
 reading-one g p q h k =
-    let a = h.sized.side in
-    let b = k.sized.side in
     let vs : k.version ≡ h.version = omega arith in
-    let w = format-one g k.level h.level k.mask h.mask k.format h.format in
-    let m1 = subst (λ (v : ℕ). IsMessage v k.level k.mask g k.message) vs k.holds in
-    let m2 = subst (λ (l : Level). IsMessage h.version l k.mask g k.message) w.0 m1 in
-    let m3 = subst (λ (m : ℕ). IsMessage h.version h.level m g k.message) w.1 m2 in
-    let same = message-one h.version h.level h.mask g h.message k.message h.sized.least h.sized.most h.holds m3 in
-    let e = sym h.parsed ∙ (ap (λ (d : List ℕ). parse h.version (bits_of d)) same ∙ (ap (λ (v : ℕ). parse v (bits_of k.message)) (sym vs) ∙ k.parsed)) in
+    let w = format-one g _ _ _ _ k.format h.format in
+    let m2 = subst (λ (l : Level). IsMessage h.version l k.mask g k.message) w.0 (subst (λ (v : ℕ). IsMessage v k.level k.mask g k.message) vs k.holds) in
+    let same = message-one _ _ _ g _ _ h.sized.least h.sized.most h.holds (subst (λ (m : ℕ). IsMessage h.version h.level m g k.message) w.1 m2) in
     cc

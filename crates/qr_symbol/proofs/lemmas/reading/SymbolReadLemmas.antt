@@ -1,25 +1,22 @@
 -- The codewords that the bits of all modules form, and the codewords of a square under a mask pattern.
-use Rattle.std.proofs.Common.{◌≡◌, ℕ, zero, suc, ◌+◌, ◌-◌, ◌*◌, ◌<◌, ◌≤◌, Bool, true, false, ◌&&◌, ltb, List, [], ◌∷◌, ◌++◌, map, take, drop, length, replicate, sym, ◌∙◌, ap, refl, subst, length-append, inl, inr, ◌⊎◌, arith}
+use borrow.Author.Tests.{ltb-true}
+use Rattle.qr_bits.proofs.Facts.{fault-read, length-field, length-bits_of}
+use Rattle.qr_bits.specs.{Bits.{field, bits_of}, Parsing.{parse, IsResultOf}, declared.fault.ParseFault.ParseFault}
+use Rattle.qr_layout.proofs.Facts.{Mem, col-in, order-length, order-mem, row-in, below, below-at}
+use Rattle.qr_layout.specs.{Blocks.data_codewords_of, Order.IsOrder, Region.is_in_region}
+use Rattle.qr_layout.specs.Version.{side_of, total_codewords_of, remainder_bits_of}
+use Rattle.qr_layout.specs.declared.{level.Level.Level, region.Module.Module}
+use Rattle.qr_matrix.{proofs.Facts.{colour-square, colour-transposed}, specs.Grid.{Grid, colour, square, transposed}}
+use Rattle.qr_symbol.proofs.lemmas.{interleaving.MessageLemmas.append-front, placement.PlacementLemmas.at}
+use Rattle.qr_symbol.proofs.lemmas.reading.ReadLemmas.{read-one}
+use Rattle.qr_symbol.specs.{Fault.unread_for, Interleaving.IsInterleaved, Mask.{inverts, inverted}}
+use Rattle.qr_symbol.specs.Reading.{unmasked, IsRead, IsReadUnmasked, IsMessage, IsFormat, IsOfVersion, IsUnread}
+use Rattle.qr_symbol.specs.{Steps.{Collecting.colour_across, Placement.region_grid}, declared.fault.ReadFault.ReadFault}
+use Rattle.std.proofs.Common.{◌≡◌, ℕ, suc, ◌+◌, ◌-◌, ◌*◌, ◌<◌, ◌≤◌, Bool, true, false, ◌&&◌, ltb, List, ◌∷◌, ◌++◌, map, take, length, replicate, sym, ◌∙◌, ap, refl, subst, length-append, inl, inr, ◌⊎◌, arith}
 use Rattle.std.proofs.lemmas.List.{append-nil, length-map, length-take, map-append, take-append-drop}
 use Rattle.std.specs.{List.All, Prelude.Err}
-use borrow.Author.Tests.{ltb-true}
-use Rattle.qr_layout.specs.declared.{region.Module.Module, level.Level.Level}
-use Rattle.qr_layout.specs.{Blocks.data_codewords_of, Region.is_in_region}
-use Rattle.qr_layout.specs.{Version.side_of, Version.total_codewords_of, Version.remainder_bits_of, Order.IsOrder}
-use Rattle.qr_layout.proofs.Facts.{Mem, col-in, order-length, order-mem, row-in, below, below-at}
-use Rattle.qr_bits.specs.Bits.{field, bits_of}
-use Rattle.qr_bits.specs.{Parsing.parse, Parsing.IsResultOf, declared.fault.ParseFault.ParseFault}
-use Rattle.qr_bits.proofs.Facts.{fault-read, length-field, length-bits_of}
 use Rattle.qr_bits.specs.declared.fault.ParseFault.TheVariants as unparsed
-use Rattle.qr_symbol.specs.{Fault.unread_for, declared.fault.ReadFault.ReadFault}
 use Rattle.qr_symbol.specs.declared.fault.ReadFault.TheVariants as fault
-use Rattle.qr_matrix.specs.Grid.{Grid, colour, square, transposed}
-use Rattle.qr_matrix.proofs.Facts.{colour-square, colour-transposed}
-use Rattle.qr_symbol.specs.{Mask.inverts, Mask.inverted, Interleaving.IsInterleaved}
-use Rattle.qr_symbol.specs.Steps.{Collecting.colour_across, Placement.region_grid}
-use Rattle.qr_symbol.specs.Reading.{unmasked, IsRead, IsReadUnmasked, IsMessage, IsFormat, IsOfVersion, IsUnread}
-use Rattle.qr_symbol.proofs.lemmas.placement.PlacementLemmas.{at}
-use Rattle.qr_symbol.proofs.lemmas.{interleaving.MessageLemmas.append-front, reading.ReadLemmas.read-one}
 
 -- each of the forty versions has fewer than eight remainder bits, computed
 remainder-small : below 40 (λ i. ltb (remainder_bits_of (i + 1)) 8) ≡ true
@@ -28,8 +25,7 @@ remainder-small = refl
 
 few-left : (v : ℕ) → 1 ≤ v → v ≤ 40 → remainder_bits_of v < 8
 few-left v l h =
-    let e : v - 1 + 1 ≡ v = omega arith in
-    ltb-true _ _ (subst (λ (k : ℕ). ltb (remainder_bits_of k) 8 ≡ true) e (below-at 40 (λ i. ltb (remainder_bits_of (i + 1)) 8) remainder-small (v - 1) (omega arith)))
+    ltb-true _ _ (subst (λ (k : ℕ). ltb (remainder_bits_of k) 8 ≡ true) (omega arith) (below-at 40 (λ i. ltb (remainder_bits_of (i + 1)) 8) remainder-small (v - 1) (omega arith)))
 
 -- if fewer than eight bits are left after all modules, all codewords have been read
 pub all-read : (v : ℕ) (f : Module → Bool) (ms : List Module) (cw : List ℕ) (width begun : ℕ) → 1 ≤ v → v ≤ 40 → IsOrder v ms → width < 8 → bits_of cw ++ field width begun ≡ map f ms → length cw ≡ total_codewords_of v
@@ -40,40 +36,38 @@ all-read v f ms cw width begun p q o w bits =
     let a = length-append (bits_of cw) (field width begun) in
     let b = length-map ms f in
     let c = length-bits_of cw in
-    let d = length-field width begun in
-    omega arith
+    let d = length-field width begun in omega arith
 
 -- the codewords that have been read have the bits of the first modules
 pub read-whole : (v : ℕ) (f : Module → Bool) (ms : List Module) (cw : List ℕ) (width begun : ℕ) → 1 ≤ v → v ≤ 40 → IsOrder v ms → width < 8 → bits_of cw ++ field width begun ≡ map f ms → bits_of cw ≡ map f (take (8 * total_codewords_of v) ms)
 read-whole v f ms cw width begun p q o w bits =
     let many = order-length v ms p q o in
-    let all = all-read v f ms cw width begun p q o w bits in
+    let all = all-read v f ms cw _ _ p q o w bits in
     let t = 8 * total_codewords_of v in
-    let cut : map f ms ≡ map f (take t ms) ++ map f (drop t ms) = ap (map f) (sym (take-append-drop t ms)) ∙ map-append f (take t ms) (drop t ms) in
     let a = length-bits_of cw in
     let b = length-map (take t ms) f in
     let c = length-take t ms in
-    (append-front (bits_of cw) (map f (take t ms)) (field width begun) (map f (drop t ms)) (omega arith) (bits ∙ cut)).0
+    (append-front (bits_of cw) (map f _) (field _ _) (map f _) (omega arith) (bits ∙ (ap (map f) (sym (take-append-drop t ms)) ∙ map-append f _ _))).0
 
 -- two functions with the same values at all modules of a list
 take-same : (f h : Module → Bool) (n : ℕ) (ms : List Module) → ((m : Module) → Mem m ms → f m ≡ h m) → map f (take n ms) ≡ map h (take n ms)
-take-same f h zero ms e = refl
-take-same f h (suc n) [] e = refl
-take-same f h (suc n) (m ∷ ms) e = ap (λ (z : Bool). z ∷ map f (take n ms)) (e m (inl refl)) ∙ ap (λ (z : List Bool). h m ∷ z) (take-same f h n ms (λ x k. e x (inr k)))
+take-same f h (suc n) (m ∷ ms) e = let t = take-same f h n ms (λ x k. e x (inr k)) in cc (e m (inl refl))
+take-same f h n ms e = refl
 
 -- two functions with the same values in the encoding region
 order-same : (v : ℕ) (f h : Module → Bool) (n : ℕ) (ms : List Module) → IsOrder v ms → ((r c : ℕ) → r < side_of v → c < side_of v → is_in_region v r c ≡ true → f (at r c) ≡ h (at r c)) → map f (take n ms) ≡ map h (take n ms)
 order-same v f h n ms o e = take-same f h n ms (λ m k. let t = order-mem v ms o m k in e m.row m.col (row-in v m t) (col-in v m t) t)
 
 -- the codewords that are read from the transposed square, strip by strip, are those of the square
-pub read-across : (v : ℕ) (g : Grid) (ms : List Module) (cw : List ℕ) (width begun : ℕ) → 1 ≤ v → v ≤ 40 → g.side ≡ side_of v → IsOrder v ms → All (λ x. x < 256) cw → width < 8 → bits_of cw ++ field width begun ≡ map (colour_across g) ms
-    → IsReadUnmasked v (transposed g) cw
+pub read-across : (v : ℕ) (g : Grid) (ms : List Module) (cw : List ℕ) (width begun : ℕ) → 1 ≤ v → v ≤ 40
+    → g.side ≡ side_of v → IsOrder v ms → All (λ x. x < 256) cw → width < 8
+    → bits_of cw ++ field width begun ≡ map (colour_across g) ms → IsReadUnmasked v (transposed g) cw
 read-across v g ms cw width begun p q s o bytes w bits = record {
   bytes = bytes;
   places = ms;
   order = o;
-  bits = read-whole v (colour_across g) ms cw width begun p q o w bits
-      ∙ order-same v (colour_across g) (λ m. colour (transposed g) m.row m.col) (8 * total_codewords_of v) ms o (λ r c l k t. sym (colour-transposed g r c (omega arith) (omega arith)));
+  bits = read-whole v _ ms cw _ _ p q o w bits
+      ∙ order-same v _ (λ m. colour (transposed g) m.row m.col) _ ms o (λ r c l k t. sym (colour-transposed g r c (omega arith) (omega arith)));
 }
 
 -- squares with the same colours in the encoding region contain the same codewords
@@ -82,28 +76,26 @@ read-same v g h cw e w = record {
   bytes = w.bytes;
   places = w.places;
   order = w.order;
-  bits = w.bits ∙ order-same v (λ m. colour g m.row m.col) (λ m. colour h m.row m.col) (8 * total_codewords_of v) w.places w.order e;
+  bits = w.bits ∙ order-same v (λ m. colour g m.row m.col) (λ m. colour h m.row m.col) _ _ w.order e;
 }
 
 -- a square that is transposed twice contains the same codewords
 pub read-twice : (v : ℕ) (g : Grid) (cw : List ℕ) → g.side ≡ side_of v → IsReadUnmasked v (transposed (transposed g)) cw → IsReadUnmasked v g cw
-read-twice v g cw s w = read-same v (transposed (transposed g)) g cw (λ r c l m t. colour-transposed (transposed g) r c (omega arith) (omega arith) ∙ colour-transposed g c r (omega arith) (omega arith)) w
+read-twice v g cw s w = read-same v _ g cw (λ r c l m t. colour-transposed (transposed g) r c (omega arith) (omega arith) ∙ colour-transposed g c r (omega arith) (omega arith)) w
 
 -- the codewords of the square without its mask pattern are those of the square
-pub read-masked : (v mask n : ℕ) (g region plain : Grid) (cw : List ℕ) → 1 ≤ v → v ≤ 40 → region ≡ region_grid v → ((r c : ℕ) → inverts n r c ≡ inverts mask r c)
-    → plain ≡ square (side_of v) (λ r c. inverted (colour region r c && inverts n r c) (colour g r c)) → IsReadUnmasked v plain cw → IsRead v mask g cw
+pub read-masked : (v mask n : ℕ) (g region plain : Grid) (cw : List ℕ) → 1 ≤ v → v ≤ 40 → region ≡
+    region_grid v → ((r c : ℕ) → inverts n r c ≡ inverts mask r c) → plain ≡ square (side_of v) (λ r c.
+    inverted (colour region r c && inverts n r c) (colour g r c)) → IsReadUnmasked v plain cw → IsRead v mask g cw
 read-masked v mask n g region plain cw p q is same e w =
     let t = 8 * total_codewords_of v in
     let f = unmasked mask g in
     let ms = w.places in
     let many = order-length v ms p q w.order in
     let none : 0 ≡ t - length ms = omega arith in
-    let turned = λ (r c : ℕ). inverted (colour region r c && inverts n r c) (colour g r c) in
     let one : (r c : ℕ) → r < side_of v → c < side_of v → is_in_region v r c ≡ true → colour plain r c ≡ f (at r c) = λ r c l m k.
-    let there : colour region r c ≡ true = ap (λ (z : Grid). colour z r c) is ∙ (colour-square (side_of v) (is_in_region v) r c l m ∙ k) in
-    ap (λ (z : Grid). colour z r c) e
-    ∙ (colour-square (side_of v) turned r c l m
-    ∙ (ap (λ (z : Bool). inverted (z && inverts n r c) (colour g r c)) there ∙ ap (λ (z : Bool). inverted z (colour g r c)) (same r c))) in
+    ap (λ (z : Grid). colour z r c) e ∙ (colour-square (side_of v) (λ (r c : ℕ). inverted (colour region r c && inverts n r c) (colour g r c)) r c l m
+    ∙ (ap (λ (z : Bool). inverted (z && inverts n r c) (colour g r c)) (ap (λ (z : Grid). colour z r c) is ∙ (colour-square (side_of v) (is_in_region v) r c l m ∙ k)) ∙ ap (λ (z : Bool). inverted z (colour g r c)) (same r c))) in
     record {
       bytes = w.bytes;
       places = ms;
@@ -121,9 +113,5 @@ not-checked g v l mask cw e s f r (inr k) none =
 pub not-parsed : (g : Grid) (v : ℕ) (l : Level) (mask : ℕ) (d : List ℕ) (e : ParseFault) → IsOfVersion g v → IsFormat g l mask
     → IsMessage v l mask g d → IsResultOf (Err e) (parse v (bits_of d)) → IsUnread g (unread_for e)
 not-parsed g v l mask d unparsed.Memory s f h k = tt
-not-parsed g v l mask d unparsed.BadMode s f h k =
-    ((λ m. cc), record { version = v; level = l; mask = mask; message = d; sized = s; format = f; holds = h; parsed = fault-read unparsed.BadMode _ (λ m. cc) k })
-not-parsed g v l mask d unparsed.Cut s f h k =
-    ((λ m. cc), record { version = v; level = l; mask = mask; message = d; sized = s; format = f; holds = h; parsed = fault-read unparsed.Cut _ (λ m. cc) k })
-not-parsed g v l mask d unparsed.BadValue s f h k =
-    ((λ m. cc), record { version = v; level = l; mask = mask; message = d; sized = s; format = f; holds = h; parsed = fault-read unparsed.BadValue _ (λ m. cc) k })
+not-parsed g v l mask d e s f h k =
+    ((λ m. cc), record { version = v; level = l; mask = mask; message = d; sized = s; format = f; holds = h; parsed = fault-read e _ (λ m. cc) k })

@@ -1,11 +1,9 @@
 -- Inputs that are too long for 16 symbols have no series, and inputs that have no series need more than 16 parts.
-use Rattle.std.proofs.Common.{◌≡◌, false, ℕ, ◌*◌, ◌<◌, ◌≤◌, List, length, arith}
-use Rattle.qr_layout.specs.declared.level.Level.{Level}
-use Rattle.qr_bits.specs.{declared.modes.Rule.Rule, declared.modes.Mode.TheVariants.Kanji, Modes.may_use}
-use Rattle.qr_bits.proofs.Facts.{fitting_short}
+use Rattle.qr_bits.{proofs.Facts.fitting_short, specs.{Modes.may_use, declared.modes.Mode.TheVariants.Kanji}}
+use Rattle.{qr_bits.specs.declared.modes.Rule.Rule, qr_layout.specs.declared.level.Level.Level}
+use Rattle.qr_symbol.proofs.lemmas.series.{PartExistenceLemmas.parts-there, PartLemmas.{needs-parts, parts-long}}
 use Rattle.qr_symbol.specs.Series.{HasNoSeries, NeedsParts}
-use Rattle.qr_symbol.proofs.lemmas.series.PartLemmas.{needs-parts, parts-long}
-use Rattle.qr_symbol.proofs.lemmas.series.PartExistenceLemmas.{parts-there}
+use Rattle.std.proofs.Common.{◌≡◌, false, ℕ, ◌*◌, ◌<◌, ◌≤◌, List, length, arith}
 
 -- an input of more than 16 times 7,089 bytes has no series
 pub long-refused : (x : List ℕ) (l : Level) (b : Rule) (v : ℕ) → 1 ≤ v → v ≤ 40 → 7089 * 16 < length x → HasNoSeries v l b x
@@ -15,10 +13,6 @@ long-refused x l b v i j long = record {
 }
 
 -- without kanji mode, an input that has no series needs more than 16 parts
-pub none-shorter : (x : List ℕ) (l : Level) (b : Rule) (v : ℕ) → 1 ≤ v → v ≤ 40 → may_use b Kanji ≡ false →
-    HasNoSeries v l b x → NeedsParts v l b x 17
-none-shorter x l b v i j plain none qs cut =
-    let parts = parts-there v l b x i j in
-    let more = none.too_many parts.0 parts.1 in
-    let least = needs-parts v l b x parts.0 plain parts.1 qs cut in
-    omega (arith, more, least)
+pub none-shorter : (x : List ℕ) (l : Level) (b : Rule) (v : ℕ) → 1 ≤ v → v ≤ 40
+    → may_use b Kanji ≡ false → HasNoSeries v l b x → NeedsParts v l b x 17
+none-shorter x l b v i j plain none qs cut = let parts = parts-there v l b x i j in search (arith, needs-parts)

@@ -1,16 +1,12 @@
 -- Every input has parts: it is decidable whether a prefix fits, so there is a longest one.
-use Rattle.std.proofs.Common.{◌≡◌, ℕ, zero, suc, ◌+◌, ◌<◌, ◌≤◌, ◌⊎◌, Bool, true, false, nat_eq, cond, List, [], ◌∷◌, length, take, drop, refl, subst, inl, inr, length-drop, arith}
-use Rattle.std.proofs.lemmas.{Bool.cases_lt, List.Sums.sum_by-cons}
-use Rattle.std.specs.{Prelude.IsTrue, List.list_all, List.sum_by}
-use Rattle.qr_layout.specs.declared.level.Level.{Level}
-use Rattle.qr_bits.specs.declared.modes.Mode.{Mode}
-use Rattle.qr_bits.specs.declared.modes.Mode.TheVariants.{Numeric, Alphanumeric, Byte, Kanji}
-use Rattle.qr_bits.specs.{declared.modes.Rule.Rule, declared.segment.Segment.Segment, Modes.may_use}
-use Rattle.qr_bits.specs.Segmentation.{bits, rank, prepend_mode, runs_of, Covers, IsAssignment, HasFit, IsLongestFit}
-use Rattle.qr_bits.specs.Padding.{room_of}
 use Rattle.qr_bits.proofs.Facts.{CoversInTurn, capacity_least, count_width_bound, covers_all, empty_fits, from_turn, in_turn}
-use Rattle.qr_symbol.specs.Series.{AreParts}
-use Rattle.qr_symbol.proofs.lemmas.series.PartLemmas.{bytes-fit}
+use Rattle.qr_bits.specs.Padding.{room_of}
+use Rattle.qr_bits.specs.Segmentation.{bits, prepend_mode, runs_of, Covers, IsAssignment, HasFit, IsLongestFit}
+use Rattle.qr_bits.specs.declared.modes.{Mode.{Mode, TheVariants.{Numeric, Alphanumeric, Byte, Kanji}}, Rule.Rule}
+use Rattle.{qr_bits.specs.declared.segment.Segment.Segment, qr_layout.specs.declared.level.Level.Level}
+use Rattle.qr_symbol.{proofs.lemmas.series.PartLemmas.bytes-fit, specs.Series.AreParts}
+use Rattle.std.proofs.Common.{◌≡◌, ℕ, zero, suc, ◌+◌, ◌<◌, ◌≤◌, ◌⊎◌, Bool, true, false, nat_eq, cond, List, [], ◌∷◌, length, take, drop, refl, subst, inl, inr, length-drop, arith}
+use Rattle.std.{proofs.lemmas.{Bool.cases_lt, List.Sums.sum_by-cons}, specs.{List.sum_by, Prelude.IsTrue}}
 
 -- a fact is decided if it holds or does not hold
 abbrev Decided : Type 0 → Type 0
@@ -82,11 +78,11 @@ some-modes (suc n) P d =
 runs-long : (ms : List Mode) → sum_by (λ s. s.len) (runs_of ms) ≡ length ms
 unfolding runs_of
 runs-long [] = refl
-runs-long (m ∷ ms) = front (runs_of ms) (runs-long ms)
+runs-long (m ∷ ms) = front _ (runs-long ms)
   where
     front : (ss : List Segment) → sum_by (λ s. s.len) ss ≡ length ms → sum_by (λ s. s.len) (prepend_mode m ss) ≡ length (m ∷ ms)
     front [] e = omega arith
-    front (s ∷ ss) e = by_rank (nat_eq (rank m) (rank s.mode))
+    front (s ∷ ss) e = by_rank (nat_eq _ _)
       where
         by_rank : (b : Bool) → sum_by (λ s. s.len) (cond b (record { mode = m; len = 1 + s.len } ∷ ss) (record { mode = m; len = 1 } ∷ s ∷ ss)) ≡ length (m ∷ ms)
         by_rank true = omega (arith, e, sum_by-cons (λ (t : Segment). t.len) (record { mode = m; len = 1 + s.len }) ss, sum_by-cons (λ (t : Segment). t.len) s ss)
@@ -95,9 +91,8 @@ runs-long (m ∷ ms) = front (runs_of ms) (runs-long ms)
 -- it is decided whether bytes fit
 fits-or-not : (v : ℕ) (r : Rule) (xs : List ℕ) (n : ℕ) → Decided (HasFit v r xs n)
 fits-or-not v r xs n =
-    elim (some-modes (length xs) (λ ms. IsAssignment r xs ms × (bits v (runs_of ms) ≤ n)) (λ ms. both (IsAssignment r xs ms) (bits v (runs_of ms) ≤ n)
-    (both (IsTrue (list_all (may_use r) ms)) (Covers xs (runs_of ms)) (true-or-not (list_all (may_use r) ms)) (covers-or-not xs (runs_of ms)))
-    (most-or-not (bits v (runs_of ms)) n))) [
+    elim (some-modes (length xs) (λ ms. IsAssignment r xs ms × (bits v (runs_of ms) ≤ n)) (λ ms. both (IsAssignment r xs ms) (bits v _ ≤ n)
+    (both _ _ (true-or-not _) (covers-or-not xs _)) (most-or-not _ n))) [
       | inl p ↦ inl (p.0, p.1.0, p.1.1)
       | inr q ↦ search (arith, runs-long, covers_all)
     ]
@@ -108,11 +103,11 @@ longest-to v r xs room zero l none = (
   0,
   record {
     inside = omega arith;
-    fits = empty_fits v r room;
+    fits = empty_fits v r _;
     longest = λ j i h. elim (cases_lt 0 j) [ inl p ↦ absurd (none j p i h) | inr p ↦ p ];
   },
 )
-longest-to v r xs room (suc k) l none = elim (fits-or-not v r (take (suc k) xs) room) [
+longest-to v r xs room (suc k) l none = elim (fits-or-not v r _ _) [
   | inl h ↦ (
     suc k,
     record {
@@ -121,7 +116,7 @@ longest-to v r xs room (suc k) l none = elim (fits-or-not v r (take (suc k) xs) 
       longest = λ j i g. elim (cases_lt (suc k) j) [ inl p ↦ absurd (none j p i g) | inr p ↦ p ];
     },
   )
-  | inr q ↦ longest-to v r xs room k (omega arith) (λ j p i g. elim (cases_lt (suc k) j) [
+  | inr q ↦ longest-to v r xs _ k (omega arith) (λ j p i g. elim (cases_lt (suc k) j) [
     | inl s ↦ none j s i g
     | inr s ↦ let e : j ≡ suc k = omega arith in q (subst (λ (z : ℕ). HasFit v r (take z xs) room) e g)
   ])

@@ -1,22 +1,20 @@
 -- The parts of an input: how long a prefix fits, and the lengths of the parts, which are found one after another.
-use Rattle.std.proofs.Common.{◌≡◌, ℕ, zero, suc, ◌+◌, ◌-◌, ◌*◌, ◌<◌, ◌≤◌, min, true, false, leb, ◌⊎◌, All, List, [], ◌∷◌, ◌++◌, take, drop, length, get_or, Some, refl, sym, ◌∙◌, ap, subst, append_assoc, inl, inr, arith}
-use Rattle.std.proofs.lemmas.List.{length-take, length-drop, append-nil, take-append-drop, drop_all, drop-append-le, length-append}
-use Rattle.std.proofs.lemmas.List.Elements.{All-nil, All-cons, All-head, All-tail}
-use Rattle.std.proofs.lemmas.Bool.{and_from, cases_lt}
-use Rattle.std.proofs.Math.Seq.{drop-cons, drop-nil, drop-append-add, take-append_seam, take-length}
-use Rattle.std.specs.{List.concat, List.list_all, Prelude.IsTrue}
 use borrow.Author.Tests.{leb-true}
 use lib.ListN.{replicate}
-use Rattle.qr_layout.specs.{declared.level.Level.Level, Version.total_codewords_of}
-use Rattle.qr_layout.specs.Blocks.{block_count_of, correction_len_of, data_codewords_of}
-use Rattle.qr_bits.specs.declared.modes.{Rule.Rule, Mode.TheVariants.Byte, Mode.TheVariants.Kanji}
-use Rattle.qr_bits.specs.Segmentation.{runs_of, HasFit, IsLongestFit}
-use Rattle.qr_bits.specs.{Modes.may_use, Modes.count_width, Padding.room_of}
-use Rattle.qr_layout.proofs.Facts.{every, every-at}
 use Rattle.qr_bits.proofs.Facts.{CoversInTurn, from_turn, count_width_bound, capacity_least, fitting_short, byte_used, piece_fits}
-use Rattle.qr_symbol.specs.declared.symbol.Symbol.{Symbol}
+use Rattle.qr_bits.specs.{Modes.{may_use, count_width}, Padding.room_of, Segmentation.{runs_of, HasFit, IsLongestFit}}
+use Rattle.qr_bits.specs.declared.modes.{Mode.TheVariants.{Byte, Kanji}, Rule.Rule}
+use Rattle.qr_layout.proofs.Facts.{every, every-at}
+use Rattle.qr_layout.specs.Blocks.{block_count_of, correction_len_of, data_codewords_of}
+use Rattle.qr_layout.specs.{Version.total_codewords_of, declared.level.Level.Level}
 use Rattle.qr_symbol.specs.Series.{AreParts, FitParts, NeedsParts, IsSymbolOf, AreSymbolsFrom}
-use Rattle.qr_symbol.specs.Steps.Series.{AreLengths, parts_of}
+use Rattle.qr_symbol.specs.{Steps.Series.{AreLengths, parts_of}, declared.symbol.Symbol.Symbol}
+use Rattle.std.proofs.Common.{◌≡◌, ℕ, zero, suc, ◌+◌, ◌-◌, ◌*◌, ◌<◌, ◌≤◌, min, true, false, leb, ◌⊎◌, All, List, [], ◌∷◌, ◌++◌, take, drop, length, get_or, Some, refl, sym, ◌∙◌, ap, subst, append_assoc, inl, inr, arith}
+use Rattle.std.proofs.Math.Seq.{drop-cons, drop-nil, drop-append-add, take-append_seam, take-length}
+use Rattle.std.proofs.lemmas.Bool.{and_from, cases_lt}
+use Rattle.std.proofs.lemmas.List.{length-take, length-drop, append-nil, take-append-drop, drop_all, drop-append-le, length-append}
+use Rattle.std.proofs.lemmas.List.Elements.{All-nil, All-cons, All-head, All-tail}
+use Rattle.std.specs.{List.{concat, list_all}, Prelude.IsTrue}
 
 -- ---- how long a prefix fits
 
@@ -32,8 +30,8 @@ bytes-run zero = refl
 bytes-run (suc n) = (let e : 1 + suc n ≡ suc (suc n) = omega arith in rw (bytes-run n, e) refl)
 
 -- bytes fit if there is room for one segment in byte mode
-pub bytes-fit : (v : ℕ) (b : Rule) (xs : List ℕ) (n : ℕ) → 0 < length xs → 4 + count_width v Byte + 8 * length xs ≤ n
-    → HasFit v b xs n
+pub bytes-fit : (v : ℕ) (b : Rule) (xs : List ℕ) (n : ℕ) → 0 < length xs
+    → 4 + count_width v Byte + 8 * length xs ≤ n → HasFit v b xs n
 unfolding CoversInTurn
 bytes-fit v b [] n some h = absurd (omega arith)
 bytes-fit v b (x ∷ xs) n some h =
@@ -45,7 +43,7 @@ pub longest-some : (v : ℕ) (l : Level) (b : Rule) (xs : List ℕ) (n : ℕ) �
 longest-some v l b [] n p q some h = absurd (omega arith)
 longest-some v l b (x ∷ xs) n p q some h =
     let least = capacity_least v l p q in
-    let one = h.longest 1 (omega arith) (bytes-fit v b (x ∷ []) (room_of v l) (omega arith) (omega (arith, count_width_bound v Byte))) in omega arith
+    let one = h.longest 1 (omega arith) (bytes-fit v b _ _ (omega arith) (omega (arith, count_width_bound v Byte))) in omega arith
 
 -- the room after a header is enough for a byte segment of five bytes, computed
 five-all : every (λ l v. leb (4 + count_width v Byte + 40) (room_of v l)) ≡ true
@@ -54,27 +52,20 @@ five-all = refl
 
 -- so up to five bytes fit after a header
 few-fit : (v : ℕ) (l : Level) (b : Rule) (xs : List ℕ) → 1 ≤ v → v ≤ 40 → 0 < length xs → length xs ≤ 5 → HasFit v b xs (room_of v l)
-few-fit v l b xs p q some few = bytes-fit v b xs (room_of v l) some (omega (arith, leb-true _ _ (every-at (λ l v. leb (4 + count_width v Byte + 40) (room_of v l)) five-all l v p q)))
+few-fit v l b xs p q some few = bytes-fit v b xs _ some (omega (arith, leb-true _ _ (every-at (λ l v. leb (4 + count_width v Byte + 40) (room_of v l)) five-all l v p q)))
 
 -- so a part has at least five bytes, or it is the whole rest
 pub part-least : (v : ℕ) (l : Level) (b : Rule) (x p : List ℕ) (ps : List (List ℕ)) → 1 ≤ v → v ≤ 40 → AreParts v l b x (p ∷ ps) → (5 ≤ length p) ⊎ (p ≡ x)
 unfolding AreParts
 part-least v l b x p ps i j h =
     let n = h.0 in
-    let some = h.1 in
-    let cut = h.2 in
-    let within = cut.inside in
-    let many = length-take n x in
-    let same = ap length h.3 in
-    elim (cases_lt (length x) 5) [
+    let cut = h.2 in elim (cases_lt (length x) 5) [
       | inl short ↦
           let whole = cut.longest (length x) (omega arith) (subst (λ ys. HasFit v b ys (room_of v l)) (sym (take-length x)) (few-fit v l b x i j (omega arith) (omega arith))) in
-          let all : n ≡ length x = omega arith in
-          inr (h.3 ∙ (ap (λ k. take k x) all ∙ take-length x))
+          inr (h.3 ∙ (ap (λ k. take k x) (omega arith) ∙ take-length x))
       | inr long ↦
           let front = length-take 5 x in
-          let five = cut.longest 5 (omega arith) (few-fit v l b (take 5 x) i j (omega (arith, front)) (omega (arith, front))) in
-          inl (omega (arith, many, same, five))
+          inl (omega (arith, (length-take n x), (ap length h.3), (cut.longest 5 (omega arith) (few-fit v l b _ i j (omega (arith, front)) (omega (arith, front))))))
     ]
 
 -- bytes that fit after a header are at most 7,089
@@ -83,25 +74,20 @@ part-short v l b xs p q fit = fitting_short v l b xs p q (fit.0, fit.1, (let few
 
 -- a prefix of a prefix is a prefix of the whole list
 take-less : {X : Type 0} (k m : ℕ) (xs : List X) → k ≤ m → take k (take m xs) ≡ take k xs
-take-less zero m xs h = refl
-take-less (suc k) zero xs h = absurd (omega arith)
-take-less (suc k) (suc m) [] h = refl
 take-less (suc k) (suc m) (x ∷ xs) h = ap (λ zs. x ∷ zs) (take-less k m xs (omega arith))
+take-less k m xs h = search arith
 
 -- to find the longest prefix that fits, the first 7,089 bytes are enough
 pub longest-cut : (v : ℕ) (l : Level) (b : Rule) (xs : List ℕ) (m n : ℕ) → 1 ≤ v → v ≤ 40 → min (length xs) 7089 ≤ m → IsLongestFit v b (take m xs) (room_of v l) n → IsLongestFit v b xs (room_of v l) n
 longest-cut v l b xs m n p q long h =
     let room = room_of v l in
-    let cut = length-take m xs in
-    let within = h.inside in
-    record {
+    let cut = length-take m xs in record {
       inside = omega arith;
       fits = subst (λ (ys : List ℕ). HasFit v b ys room) (take-less n m xs (omega arith)) h.fits;
       longest = λ k i fit.
           let short = part-short v l b (take k xs) p q fit in
           let same = length-take k xs in
-          let less : k ≤ m = omega arith in
-          h.longest k (omega arith) (subst (λ (ys : List ℕ). HasFit v b ys room) (sym (take-less k m xs less)) fit);
+          h.longest k (omega arith) (subst (λ (ys : List ℕ). HasFit v b ys room) (sym (take-less k m xs (omega arith))) fit);
     }
 
 -- ---- lengths of parts
@@ -130,8 +116,8 @@ lengths-some v l b x [] h some = absurd (omega (arith, ap length h))
 lengths-some v l b x (n ∷ ns) h some = omega arith
 
 -- if the lengths found and those of the rest are those of the whole input, so they are with the next length
-pub lengths-more : (v : ℕ) (l : Level) (b : Rule) (whole found rest : List ℕ) (n : ℕ) → 0 < n → IsLongestFit v b rest (room_of v l) n
-    → ((ns : List ℕ) → AreLengths v l b rest ns → AreLengths v l b whole (found ++ ns))
+pub lengths-more : (v : ℕ) (l : Level) (b : Rule) (whole found rest : List ℕ) (n : ℕ) → 0 < n → IsLongestFit v
+    b rest (room_of v l) n → ((ns : List ℕ) → AreLengths v l b rest ns → AreLengths v l b whole (found ++ ns))
     → (ns : List ℕ) → AreLengths v l b (drop n rest) ns → AreLengths v l b whole ((found ++ n ∷ []) ++ ns)
 unfolding AreLengths
 lengths-more v l b whole found rest n some fit all ns h = rw append_assoc (all (n ∷ ns) (some, fit, h))
@@ -149,10 +135,8 @@ parts-one v l b x [] [] h k = refl
 parts-one v l b x [] (q ∷ qs) h k = absurd (let within = k.2.inside in omega (arith, ap length h))
 parts-one v l b x (p ∷ ps) [] h k = absurd (let within = h.2.inside in omega (arith, ap length k))
 parts-one v l b x (p ∷ ps) (q ∷ qs) h k =
-    let same = longest-one v b x (room_of v l) h.0 k.0 h.2 k.2 in
-    let here : p ≡ q = h.3 ∙ (ap (λ (n : ℕ). take n x) same ∙ sym k.3) in
-    let rest = parts-one v l b (drop k.0 x) ps qs (subst (λ (n : ℕ). AreParts v l b (drop n x) ps) same h.4) k.4 in
-    λ i. here i ∷ rest i
+    let same = longest-one v b x _ h.0 k.0 h.2 k.2 in
+    λ i. (h.3 ∙ (ap (λ (n : ℕ). take n x) same ∙ sym k.3)) i ∷ (parts-one v l b (drop k.0 x) ps qs (subst (λ (n : ℕ). AreParts v l b (drop n x) ps) same h.4) k.4) i
 
 -- an input with a byte has at least one part
 pub parts-some : (v : ℕ) (l : Level) (b : Rule) (x : List ℕ) (ps : List (List ℕ)) → AreParts v l b x ps → 0 < length x → 0 < length ps
@@ -166,24 +150,19 @@ unfolding AreParts
 parts-long v l b x [] i j h = omega (arith, ap length h)
 parts-long v l b x (p ∷ ps) i j h =
     let short = part-short v l b (take h.0 x) i j h.2.fits in
-    let within = h.2.inside in
-    let rest = parts-long v l b (drop h.0 x) ps i j h.4 in
-    omega (arith, length-take h.0 x, length-drop h.0 x)
+    let rest = parts-long v l b (drop h.0 x) ps i j h.4 in omega (arith, length-take h.0 x, length-drop h.0 x)
 
 -- ---- no fewer parts
 
 -- the rest of two joined lists, if the first list is dropped as a whole
 behind-all : {X : Type 0} (k : ℕ) (xs ys : List X) → length xs ≤ k → drop k (xs ++ ys) ≡ drop (k - length xs) ys
-behind-all k xs ys i =
-    let sum : k ≡ length xs + (k - length xs) = omega arith in
-    ap (λ (n : ℕ). drop n (xs ++ ys)) sum ∙ drop-append-add xs ys (k - length xs)
+behind-all k xs ys i = ap (λ (n : ℕ). drop n (xs ++ ys)) (omega arith) ∙ drop-append-add xs ys _
 
 -- a rest of the bytes fits wherever all of the bytes fit
 rest-fits : (v : ℕ) (b : Rule) (k : ℕ) (xs : List ℕ) (n : ℕ) → may_use b Kanji ≡ false → HasFit v b xs n → HasFit v b (drop k xs) n
 rest-fits v b k xs n plain fit =
-    let whole : xs ≡ take k xs ++ (drop k xs ++ []) = rw (append-nil (drop k xs)) (sym (take-append-drop k xs)) in
-    let all : HasFit v b (take k xs ++ (drop k xs ++ [])) n = subst (λ (ys : List ℕ). HasFit v b ys n) whole fit in
-    piece_fits v b (take k xs) (drop k xs) [] n plain all
+    let whole : xs ≡ take k xs ++ (drop k xs ++ []) = rw (append-nil _) (sym (take-append-drop k xs)) in
+    piece_fits v b _ _ [] n plain (subst (λ (ys : List ℕ). HasFit v b ys n) whole fit)
 
 -- a rest of the bytes can be cut into at most as many parts that fit as all of the bytes
 rest-parts : (v : ℕ) (l : Level) (b : Rule) (k : ℕ) (ps : List (List ℕ)) → may_use b Kanji ≡ false → All (λ p. HasFit v b p (room_of v l)) ps
@@ -191,13 +170,11 @@ rest-parts : (v : ℕ) (l : Level) (b : Rule) (k : ℕ) (ps : List (List ℕ)) �
 rest-parts v l b k [] plain h = ([], (drop-nil k, h), omega arith)
 rest-parts v l b k (p ∷ ps) plain h =
     let fits = λ (q : List ℕ). HasFit v b q (room_of v l) in
-    let here = All-head fits p ps h in
-    let behind = All-tail fits p ps h in
-    elim (cases_lt k (length p)) [
-      | inl i ↦ (drop k p ∷ ps, (drop-append-le k p (concat ps) (omega arith), All-cons fits (drop k p) ps (rest-fits v b k p (room_of v l) plain here) behind), omega arith)
+    let behind = All-tail fits p ps h in elim (cases_lt k (length p)) [
+      | inl i ↦ (drop k p ∷ ps, (drop-append-le k p _ (omega arith), All-cons fits _ ps (rest-fits v b k p _ plain (All-head fits p ps h)) behind), omega arith)
       | inr i ↦ (
           let r = rest-parts v l b (k - length p) ps plain behind in
-          (r.0, (behind-all k p (concat ps) i ∙ r.1.0, r.1.1), omega (arith, r.2)))
+          (r.0, (behind-all k p _ i ∙ r.1.0, r.1.1), omega (arith, r.2)))
     ]
 
 -- if the rest after the longest prefix needs k parts, the bytes need k + 1
@@ -205,23 +182,20 @@ pub needs-more : (v : ℕ) (l : Level) (b : Rule) (x : List ℕ) (n k : ℕ) →
 needs-more v l b x n k plain some fit needs [] cut = absurd (omega (arith, ap length cut.0))
 needs-more v l b x n k plain some fit needs (p ∷ ps) cut =
     let fits = λ (q : List ℕ). HasFit v b q (room_of v l) in
-    let front : take (length p) x ≡ p = rw cut.0 (take-append_seam p (concat ps)) in
+    let front : take (length p) x ≡ p = rw cut.0 (take-append_seam p _) in
     let within : length p ≤ length x = omega (arith, ap length cut.0, length-append p (concat ps)) in
-    let least : length p ≤ n = fit.longest (length p) within (subst fits (sym front) (All-head fits p ps cut.1)) in
-    let r = rest-parts v l b (n - length p) ps plain (All-tail fits p ps cut.1) in
-    let left : drop n x ≡ concat r.0 = ap (λ (ys : List ℕ). drop n ys) cut.0 ∙ (behind-all n p (concat ps) least ∙ r.1.0) in
-    let few = needs r.0 (left, r.1.1) in
+    let r = rest-parts v l b _ ps plain (All-tail fits p ps cut.1) in
+    let left : drop n x ≡ concat r.0 = ap (λ (ys : List ℕ). drop n ys) cut.0 ∙ (behind-all n p _ (fit.longest (length p) within (subst fits (sym front) (All-head fits p ps cut.1))) ∙ r.1.0) in
     omega (arith, r.2)
 
 -- if the parts of the rest after the longest prefix are at least k, those of the bytes are at least k + 1
-pub prefixes-more : (v : ℕ) (l : Level) (b : Rule) (x : List ℕ) (n k : ℕ) → 0 < length x → IsLongestFit v b x (room_of v l) n
-    → ((qs : List (List ℕ)) → AreParts v l b (drop n x) qs → k ≤ length qs) → (ps : List (List ℕ)) → AreParts v l b x ps → k + 1 ≤ length ps
+pub prefixes-more : (v : ℕ) (l : Level) (b : Rule) (x : List ℕ) (n k : ℕ) → 0 < length x
+    → IsLongestFit v b x (room_of v l) n → ((qs : List (List ℕ)) → AreParts v l b (drop n x) qs
+    → k ≤ length qs) → (ps : List (List ℕ)) → AreParts v l b x ps → k + 1 ≤ length ps
 unfolding AreParts
 prefixes-more v l b x n k some fit many [] h = absurd (omega (arith, ap length h))
 prefixes-more v l b x n k some fit many (p ∷ ps) h =
-    let same = longest-one v b x (room_of v l) h.0 n h.2 fit in
-    let more = many ps (subst (λ (m : ℕ). AreParts v l b (drop m x) ps) same h.4) in
-    omega arith
+    let more = many ps (subst (λ (m : ℕ). AreParts v l b (drop m x) ps) (longest-one v b x _ h.0 n h.2 fit) h.4) in omega arith
 
 -- an input with a byte needs at least one part
 pub needs-some : (v : ℕ) (l : Level) (b : Rule) (x : List ℕ) → 0 < length x → NeedsParts v l b x 1
@@ -233,7 +207,6 @@ pub needs-parts : (v : ℕ) (l : Level) (b : Rule) (x : List ℕ) (ps : List (Li
 unfolding AreParts
 needs-parts v l b x [] plain h qs cut = omega arith
 needs-parts v l b x (p ∷ ps) plain h qs cut =
-    let within = h.2.inside in
     let more = needs-more v l b x h.0 (length ps) plain (omega arith) h.2 (needs-parts v l b (drop h.0 x) ps plain h.4) qs cut in omega arith
 
 -- the parts of bytes are parts that fit
@@ -243,14 +216,14 @@ parts-fit v l b x [] h = (h, All-nil (λ q. HasFit v b q (room_of v l)))
 parts-fit v l b x (p ∷ ps) h =
     let fits = λ (q : List ℕ). HasFit v b q (room_of v l) in
     let rest = parts-fit v l b (drop h.0 x) ps h.4 in
-    let whole : p ++ concat ps ≡ x = rw (h.3, ← rest.0) (take-append-drop h.0 x) in
-    (sym whole, All-cons fits p ps (subst fits (sym h.3) h.2.fits) rest.1)
+    (sym (rw (h.3, ← rest.0) (take-append-drop h.0 x)), All-cons fits p ps (subst fits (sym h.3) h.2.fits) rest.1)
 
 -- ---- the symbols of parts, one after another
 
 -- the length with index i is that of the longest prefix of the rest that it cuts
-pub lengths-at : (v : ℕ) (l : Level) (b : Rule) (rest ns : List ℕ) (i : ℕ) → i < length ns → AreLengths v l b rest (drop i ns)
-    → IsLongestFit v b rest (room_of v l) (get_or ns i 0) × AreLengths v l b (drop (get_or ns i 0) rest) (drop (i + 1) ns)
+pub lengths-at : (v : ℕ) (l : Level) (b : Rule) (rest ns : List ℕ) (i : ℕ) → i < length ns → AreLengths v l b
+    rest (drop i ns) → IsLongestFit v b rest (room_of v l) (get_or ns i 0) × AreLengths v l b (drop (get_or ns i 0)
+    rest) (drop (i + 1) ns)
 unfolding AreLengths
 lengths-at v l b rest ns i some h =
     let here : AreLengths v l b rest (get_or ns i 0 ∷ drop (suc i) ns) = rw (drop-cons ns i 0) at h in
@@ -258,15 +231,16 @@ lengths-at v l b rest ns i some h =
     (here.1, subst (λ (k : ℕ). AreLengths v l b (drop (get_or ns i 0) rest) (drop k ns)) next here.2)
 
 -- if the symbols made and those of the rest are those of all parts, so they are with the next symbol
-pub symbols-more : (v : ℕ) (l : Level) (b : Rule) (last parity k : ℕ) (rest ns : List ℕ) (whole : List (List ℕ)) (found : List Symbol) (s : Symbol) → k < length ns
-    → IsSymbolOf v l b (take (get_or ns k 0) rest) (Some (record { position = k; last = last; parity = parity })) s
-    → ((ss : List Symbol) → AreSymbolsFrom v l b last parity k (parts_of rest (drop k ns)) ss → AreSymbolsFrom v l b last parity 0 whole (found ++ ss))
-    → (ss : List Symbol) → AreSymbolsFrom v l b last parity (k + 1) (parts_of (drop (get_or ns k 0) rest) (drop (k + 1) ns)) ss → AreSymbolsFrom v l b last parity 0 whole ((found ++ s ∷ []) ++ ss)
+pub symbols-more : (v : ℕ) (l : Level) (b : Rule) (last parity k : ℕ) (rest ns : List ℕ) (whole : List (List ℕ))
+    (found : List Symbol) (s : Symbol) → k < length ns → IsSymbolOf v l b (take (get_or ns k 0) rest) (Some (record
+    { position = k; last = last; parity = parity })) s → ((ss : List Symbol) → AreSymbolsFrom v l b last parity k
+    (parts_of rest (drop k ns)) ss → AreSymbolsFrom v l b last parity 0 whole (found ++ ss)) → (ss : List Symbol)
+    → AreSymbolsFrom v l b last parity (k + 1) (parts_of (drop (get_or ns k 0) rest) (drop (k + 1) ns)) ss →
+    AreSymbolsFrom v l b last parity 0 whole ((found ++ s ∷ []) ++ ss)
 unfolding AreSymbolsFrom parts_of
 symbols-more v l b last parity k rest ns whole found s some is all ss h =
     let next : k + 1 ≡ suc k = omega arith in
-    let rest_of = subst (λ (j : ℕ). AreSymbolsFrom v l b last parity (k + 1) (parts_of (drop (get_or ns k 0) rest) (drop j ns)) ss) next h in
-    rw append_assoc (all (s ∷ ss) (rw (drop-cons ns k 0) (is, rest_of)))
+    rw append_assoc (all (s ∷ ss) (rw (drop-cons ns k 0) (is, (subst (λ (j : ℕ). AreSymbolsFrom v l b last parity (k + 1) (parts_of (drop (get_or ns k 0) rest) (drop j ns)) ss) next h))))
 
 -- if there is no part left, there is no symbol left
 pub symbols-none : (v : ℕ) (l : Level) (b : Rule) (last parity k : ℕ) (rest : List ℕ) → AreSymbolsFrom v l b last parity k (parts_of rest []) []

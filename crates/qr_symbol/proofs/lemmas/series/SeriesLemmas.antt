@@ -1,17 +1,15 @@
 -- An input has only one series, which is read as the input; long inputs have no series.
-use Rattle.std.proofs.Common.{◌≡◌, ℕ, suc, ◌+◌, ◌-◌, ◌*◌, ◌<◌, ◌≤◌, List, [], ◌∷◌, drop, length, None, Some, Option, refl, sym, ap, subst, arith, inl, inr}
-use Rattle.std.proofs.lemmas.List.{append-nil, take-append-drop}
-use Rattle.qr_layout.specs.declared.level.Level.{Level}
-use Rattle.qr_bits.specs.{declared.modes.Rule.Rule, declared.header.Header.Header, Parsing.Content, Header.parity_of}
-use Rattle.qr_bits.proofs.Facts.{fitting_short, empty_fits}
-use Rattle.qr_symbol.specs.{declared.symbol.Symbol.Symbol, VersionChoice.FitsVersion, VersionChoice.HasNoVersion}
-use Rattle.qr_symbol.specs.Series.{squares_of, AreParts, IsSymbolOf, AreSymbolsFrom, IsSplit, IsPlainSymbol, IsSeries}
-use Rattle.qr_symbol.specs.{Steps.Series.AreLengths, Steps.Series.parts_of, Reading.IsReading}
-use Rattle.qr_symbol.specs.Joining.{AreReadBy, bytes_of_all, HaveHeaders, IsJoined}
-use Rattle.qr_matrix.specs.Grid.{Grid}
-use Rattle.qr_symbol.proofs.lemmas.encoding.SymbolLemmas.{symbol-at-one}
-use Rattle.qr_symbol.proofs.lemmas.{reading.RoundTripLemmas.symbol-read, encoding.SymbolMakingLemmas.symbol-fits}
+use Rattle.qr_bits.{proofs.Facts.{fitting_short, empty_fits}, specs.{Header.parity_of, Parsing.Content}}
+use Rattle.{qr_bits.specs.declared.{header.Header.Header, modes.Rule.Rule}, qr_layout.specs.declared.level.Level.Level}
+use Rattle.{qr_matrix.specs.Grid.Grid, qr_symbol.proofs.lemmas.encoding.SymbolLemmas.symbol-at-one}
+use Rattle.qr_symbol.proofs.lemmas.{encoding.SymbolMakingLemmas.symbol-fits, reading.RoundTripLemmas.symbol-read}
 use Rattle.qr_symbol.proofs.lemmas.series.PartLemmas.{parts-are, length-parts, parts-one, parts-some, parts-long}
+use Rattle.qr_symbol.specs.{Joining.{AreReadBy, bytes_of_all, HaveHeaders, IsJoined}, Reading.IsReading}
+use Rattle.qr_symbol.specs.Series.{squares_of, AreParts, IsSymbolOf, AreSymbolsFrom, IsSplit, IsPlainSymbol, IsSeries}
+use Rattle.qr_symbol.specs.Steps.Series.{AreLengths, parts_of}
+use Rattle.qr_symbol.specs.{VersionChoice.{FitsVersion, HasNoVersion}, declared.symbol.Symbol.Symbol}
+use Rattle.std.proofs.Common.{◌≡◌, ℕ, suc, ◌+◌, ◌-◌, ◌*◌, ◌<◌, ◌≤◌, List, [], ◌∷◌, length, None, Some, Option, refl, sym, ap, subst, arith, inl, inr}
+use Rattle.std.proofs.lemmas.List.{append-nil, take-append-drop}
 
 -- ---- what makes a series
 
@@ -28,20 +26,14 @@ split-series x l b v ns ss long cut few made = search (arith, length-parts, part
 
 -- bytes have at most one symbol of a version and a level after an optional header
 pub symbol-of-one : (v : ℕ) (l : Level) (b : Rule) (x : List ℕ) (h : Option Header) (s t : Symbol) → IsSymbolOf v l b x h s → IsSymbolOf v l b x h t → s ≡ t
-symbol-of-one v l b x h s t a c =
-    let same = symbol-at-one v l b x h s.mask t.mask s.matrix t.matrix a.made c.made in
-    search arith
+symbol-of-one v l b x h s t a c = let same = symbol-at-one v l b x h _ _ _ _ a.made c.made in search arith
 
 -- parts have at most one list of symbols
 symbols-one : (v : ℕ) (l : Level) (b : Rule) (last parity k : ℕ) (ps : List (List ℕ)) (ss ts : List Symbol) → AreSymbolsFrom v l b last parity k ps ss → AreSymbolsFrom v l b last parity k ps ts → ss ≡ ts
 unfolding AreSymbolsFrom
-symbols-one v l b last parity k [] [] [] h g = refl
-symbols-one v l b last parity k [] [] (t ∷ ts) h g = absurd g
-symbols-one v l b last parity k [] (s ∷ ss) ts h g = absurd h
-symbols-one v l b last parity k (p ∷ ps) [] ts h g = absurd h
-symbols-one v l b last parity k (p ∷ ps) (s ∷ ss) [] h g = absurd g
 symbols-one v l b last parity k (p ∷ ps) (s ∷ ss) (t ∷ ts) h g =
     search (arith, symbol-of-one, symbols-one v l b last parity (k + 1) ps ss ts h.1 g.1)
+symbols-one v l b last parity k ps ss ts h g = search arith
 
 -- bytes have at most one series
 pub series-one : (x : List ℕ) (l : Level) (b : Rule) (v : ℕ) (ss ts : List Symbol) → IsSeries v l b x ss → IsSeries v l b x ts → ss ≡ ts
@@ -68,11 +60,9 @@ symbols-read v l b last parity k x [] [] i j cut h = search arith
 symbols-read v l b last parity k x [] (s ∷ ss) i j cut h = absurd h
 symbols-read v l b last parity k x (p ∷ ps) [] i j cut h = absurd h
 symbols-read v l b last parity k x (p ∷ ps) (s ∷ ss) i j cut h =
-    let rest = symbols-read v l b last parity (k + 1) (drop cut.0 x) ps ss i j cut.4 h.1 in
-    let made = h.0.made in
-    let content : Content = record { header = Some (record { position = k; last = last; parity = parity }); segments = made.segments; bytes = p } in
-    record {
-      contents = content ∷ rest.contents;
+    let rest = symbols-read v l b _ _ (k + 1) _ ps ss i j cut.4 h.1 in
+    let made = h.0.made in record {
+      contents = (record { header = Some (record { position = k; last = last; parity = parity }); segments = made.segments; bytes = p }) ∷ rest.contents;
       read = search (arith, symbol-read);
       headers = (refl, rest.headers);
       many = ap suc rest.many;
@@ -83,12 +73,11 @@ symbols-read v l b last parity k x (p ∷ ps) (s ∷ ss) i j cut h =
 lone-joined : (x : List ℕ) (l : Level) (b : Rule) (v : ℕ) (ss : List Symbol) → 1 ≤ v → v ≤ 40 → IsPlainSymbol v l b x ss → IsJoined (squares_of ss) x
 unfolding AreReadBy
 lone-joined x l b v ss i j h =
-    let s = h.symbol in
     let made = h.made.made in
     let content : Content = record { header = None; segments = made.segments; bytes = x } in
     subst (λ (ts : List Symbol). IsJoined (squares_of ts) x) (sym h.alone) (record {
       contents = content ∷ [];
-      read = (symbol-read v l b x None s.mask s.matrix i j made, tt);
+      read = (symbol-read v l b x None _ _ i j made, tt);
       together = inl (content, refl, refl);
       joined = sym (append-nil x);
     })
@@ -96,21 +85,18 @@ lone-joined x l b v ss i j h =
 -- the symbols of parts are joined to the bytes
 split-joined : (x : List ℕ) (l : Level) (b : Rule) (v : ℕ) (ss : List Symbol) → 1 ≤ v → v ≤ 40 → IsSplit v l b x ss → IsJoined (squares_of ss) x
 split-joined x l b v ss i j h =
-    let r = symbols-read v l b (length h.parts - 1) (parity_of x) 0 x h.parts ss i j h.split h.made in
-    let last : length h.parts - 1 ≡ length r.contents - 1 = ap (λ (n : ℕ). n - 1) (sym r.many) in
-    let headers = subst (λ (ys : List ℕ). HaveHeaders (length r.contents - 1) (parity_of ys) 0 r.contents) (sym r.bytes)
-    (subst (λ (n : ℕ). HaveHeaders n (parity_of x) 0 r.contents) last r.headers) in
-    record {
+    let r = symbols-read v l b _ _ 0 x _ ss i j h.split h.made in
+    let last : length h.parts - 1 ≡ length r.contents - 1 = ap (λ (n : ℕ). n - 1) (sym r.many) in record {
       contents = r.contents;
       read = r.read;
-      together = inr ((let some = parts-some v l b x h.parts h.split (not-empty x l b v h.too_long) in let many = r.many in omega arith), headers);
+      together = inr ((let some = parts-some v l b x _ h.split (not-empty x l b v h.too_long) in omega arith), (subst (λ (ys : List ℕ). HaveHeaders (length r.contents - 1) (parity_of ys) 0 r.contents) (sym r.bytes) (subst (λ (n : ℕ). HaveHeaders n (parity_of x) 0 r.contents) last r.headers)));
       joined = sym r.bytes;
     }
   where
     -- what does not fit is not empty
     not-empty : (x : List ℕ) (l : Level) (b : Rule) (v : ℕ) → (FitsVersion v l b x → ⊥) → 0 < length x
     not-empty [] l b v none = absurd (none (empty_fits v b _))
-    not-empty (y ∷ x) l b v none = omega arith
+    not-empty _ l b v _ = omega arith
 
 -- a series is joined to its bytes
 pub series-joined : (x : List ℕ) (l : Level) (b : Rule) (v : ℕ) (ss : List Symbol) → 1 ≤ v → v ≤ 40 → IsSeries v l b x ss → IsJoined (squares_of ss) x

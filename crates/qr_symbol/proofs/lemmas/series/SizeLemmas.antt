@@ -1,15 +1,12 @@
 -- The number of symbols of a series, and their side.
-use Rattle.std.proofs.Common.{◌≡◌, ℕ, ◌+◌, ◌<◌, ◌≤◌, inl, inr, false, List, [], ◌∷◌, length, refl, sym, ap, subst, arith}
-use Rattle.std.proofs.lemmas.List.Elements.{All-cons, All-nil}
-use Rattle.std.specs.List.{All}
-use Rattle.qr_layout.specs.{declared.level.Level.Level, Version.side_of}
+use Rattle.std.proofs.Common.{◌≡◌, ℕ, ◌+◌, ◌<◌, ◌≤◌, inl, inr, false, List, [], ◌∷◌, length, refl, sym, subst, arith}
+use Rattle.std.{proofs.lemmas.List.Elements.All-nil, specs.List.All}
+use Rattle.qr_layout.specs.{Version.side_of, declared.level.Level.Level}
+use Rattle.qr_bits.{proofs.Facts.empty_fits, specs.Modes.may_use, specs.Padding.capacity_of}
 use Rattle.qr_bits.specs.declared.modes.{Mode.TheVariants.Kanji, Rule.Rule}
-use Rattle.qr_bits.specs.{Modes.may_use, Padding.capacity_of}
-use Rattle.qr_bits.proofs.Facts.{empty_fits}
-use Rattle.qr_symbol.specs.{declared.symbol.Symbol.Symbol, VersionChoice.FitsVersion}
-use Rattle.qr_symbol.specs.Series.{squares_of, AreParts, NeedsParts, AreSymbolsFrom, IsSeries}
-use Rattle.qr_matrix.specs.Grid.{Grid}
 use Rattle.qr_symbol.proofs.lemmas.series.PartLemmas.{needs-some, needs-parts}
+use Rattle.qr_symbol.specs.Series.{squares_of, AreParts, NeedsParts, AreSymbolsFrom, IsSeries}
+use Rattle.qr_symbol.specs.{VersionChoice.FitsVersion, declared.symbol.Symbol.Symbol}
 
 -- there are as many symbols as parts
 pub symbols-many : (v : ℕ) (l : Level) (b : Rule) (last parity k : ℕ) (ps : List (List ℕ)) (ss : List Symbol) → AreSymbolsFrom v l b last parity k ps ss → length ss ≡ length ps
@@ -17,7 +14,7 @@ unfolding AreSymbolsFrom
 symbols-many v l b last parity k [] [] h = refl
 symbols-many v l b last parity k [] (s ∷ ss) h = absurd h
 symbols-many v l b last parity k (p ∷ ps) [] h = absurd h
-symbols-many v l b last parity k (p ∷ ps) (s ∷ ss) h = let e = symbols-many v l b last parity (k + 1) ps ss h.1 in omega arith
+symbols-many v l b last parity k (p ∷ ps) (s ∷ ss) h = omega (arith, symbols-many v l b _ _ (k + 1) ps ss h.1)
 
 -- each symbol of the parts has the side of the version
 pub symbols-side : (v : ℕ) (l : Level) (b : Rule) (last parity k : ℕ) (ps : List (List ℕ)) (ss : List Symbol) → AreSymbolsFrom v l b last parity k ps ss → All (λ g. g.side ≡ side_of v) (squares_of ss)
@@ -25,8 +22,7 @@ unfolding AreSymbolsFrom
 symbols-side v l b last parity k [] [] h = All-nil (λ g. g.side ≡ side_of v)
 symbols-side v l b last parity k [] (s ∷ ss) h = absurd h
 symbols-side v l b last parity k (p ∷ ps) [] h = absurd h
-symbols-side v l b last parity k (p ∷ ps) (s ∷ ss) h =
-    All-cons (λ g. g.side ≡ side_of v) s.matrix (squares_of ss) (ap (λ (g : Grid). g.side) h.0.made.drawn) (symbols-side v l b last parity (k + 1) ps ss h.1)
+symbols-side v l b last parity k (p ∷ ps) (s ∷ ss) h = search (arith, symbols-side v l b _ _ (k + 1) ps ss h.1)
 
 -- bytes that do not fit one symbol have at least one part
 parts-some : (x : List ℕ) (l : Level) (b : Rule) (v : ℕ) (ps : List (List ℕ)) → (FitsVersion v l b x → ⊥) → AreParts v l b x ps → 0 < length ps
@@ -36,11 +32,8 @@ parts-some x l b v (p ∷ ps) long h = omega arith
 
 -- a series has at least one symbol
 pub series-some : (x : List ℕ) (l : Level) (b : Rule) (v : ℕ) (ss : List Symbol) → IsSeries v l b x ss → 0 < length ss
-series-some x l b v ss (inl h) = subst (λ (ts : List Symbol). 0 < length ts) (sym h.alone) (omega arith)
-series-some x l b v ss (inr h) =
-    let some = parts-some x l b v h.parts h.too_long h.split in
-    let e = symbols-many v l b _ _ 0 h.parts ss h.made in
-    omega arith
+series-some x l b v ss (inl h) = search arith
+series-some x l b v ss (inr h) = search (arith, parts-some, symbols-many)
 
 -- a series has at most 16 symbols
 pub series-few : (x : List ℕ) (l : Level) (b : Rule) (v : ℕ) (ss : List Symbol) → IsSeries v l b x ss → length ss ≤ 16
@@ -50,12 +43,9 @@ series-few x l b v ss (inr h) = let m = h.many in let e = symbols-many v l b _ _
 -- without kanji mode, bytes need as many parts as their series has symbols
 pub series-shortest : (x : List ℕ) (l : Level) (b : Rule) (v : ℕ) (ss : List Symbol) → may_use b Kanji ≡ false → 0 < length x → IsSeries v l b x ss → NeedsParts v l b x (length ss)
 series-shortest x l b v ss plain some (inl h) = subst (λ (ts : List Symbol). NeedsParts v l b x (length ts)) (sym h.alone) (needs-some v l b x some)
-series-shortest x l b v ss plain some (inr h) =
-    subst (NeedsParts v l b x) (sym (symbols-many v l b _ _ 0 h.parts ss h.made)) (needs-parts v l b x h.parts plain h.split)
+series-shortest x l b v ss plain some (inr h) = search (arith, symbols-many, needs-parts)
 
 -- the symbols of a series have the side of their version
 pub series-side : (x : List ℕ) (l : Level) (b : Rule) (v : ℕ) (ss : List Symbol) → IsSeries v l b x ss → All (λ g. g.side ≡ side_of v) (squares_of ss)
-series-side x l b v ss (inl h) =
-    subst (λ (ts : List Symbol). All (λ g. g.side ≡ side_of v) (squares_of ts)) (sym h.alone)
-    (All-cons (λ g. g.side ≡ side_of v) h.symbol.matrix [] (ap (λ (g : Grid). g.side) h.made.made.drawn) (All-nil (λ g. g.side ≡ side_of v)))
+series-side x l b v ss (inl h) = search arith
 series-side x l b v ss (inr h) = symbols-side v l b _ _ 0 h.parts ss h.made

@@ -8,9 +8,8 @@ loop-rectangle-preserved c =
     let bs = c.args.rectangles.now in
     let n = c.loop-rectangle.rectangle-index in
     let b = get_or bs n no_rectangle in
-    let e = c.loop-rectangle.invariant.so_far in
-    record {
-      so_far = over-item (λ b r k. is_in_rectangle r k b) bs n no_rectangle c.loop-rectangle-test.true e (over-rectangle c.loop-rectangle.matrix b.top b.bottom b.left b.right (over-side e) c.fill.ensures);
+    let e = c.loop-rectangle.invariant.so_far in record {
+      so_far = over-item (λ b r k. is_in_rectangle r k b) bs n _ c.loop-rectangle-test.true e (over-rectangle _ _ _ _ _ (over-side e) c.fill.ensures);
     }
 
 pub returns : goal.returns

@@ -1,8 +1,5 @@
-use Rattle.std.proofs.Common.{take, false}
-use Rattle.std.specs.List.{list_any}
-use Rattle.qr_layout.specs.{Version.side_of, Rectangles.is_in_rectangle}
-use Rattle.qr_matrix.specs.Grid.{colour}
-use Rattle.qr_symbol.specs.Steps.Patterns.{IsOver}
+use Rattle.{qr_layout.specs.{Rectangles.is_in_rectangle, Version.side_of}, qr_matrix.specs.Grid.colour}
+use Rattle.{qr_symbol.specs.Steps.Patterns.IsOver, std.{proofs.Common.{take, false}, specs.List.list_any}}
 use Rattle.qr_symbol.proofs.patterns.clear_rectangles.Given as goal
 
 abbrev pub invariant-loop-rectangle : goal.invariant-loop-rectangle

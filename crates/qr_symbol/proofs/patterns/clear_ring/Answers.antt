@@ -1,4 +1,4 @@
-use Rattle.std.proofs.Common.{ℕ, ◌+◌, ◌-◌, Bool, eqb, ltb, leb, ◌&&◌, ◌||◌, refl}
+use Rattle.std.proofs.Common.{ℕ, Bool, eqb, ltb, leb, ◌&&◌, ◌||◌, refl}
 use Rattle.qr_layout.specs.Region.{ring_of}
 use Rattle.qr_symbol.proofs.lemmas.patterns.PaintLemmas.{over-rectangle, over-side, over-twice, ring-sides}
 use Rattle.qr_symbol.proofs.patterns.clear_ring.Goals as goal
@@ -11,10 +11,9 @@ pub returns : goal.returns
 returns c =
     let a = c.args.row in
     let b = c.args.col in
-    let t1 = inside (a - 1) a (b - 1) (b + 2) in
-    let t2 = inside (a + 1) (a + 2) (b - 1) (b + 2) in
-    let t3 = inside a (a + 1) (b - 1) b in
-    let p1 = over-rectangle c.args.matrix.now (a - 1) a (b - 1) (b + 2) refl c.fill.ensures in
-    let p2 = over-twice (λ r k. t1 r k || t2 r k) p1 (over-rectangle c.fill.new.self (a + 1) (a + 2) (b - 1) (b + 2) (over-side p1) c.fill-2.ensures) (λ r k _ _. refl) in
-    let p3 = over-twice (λ r k. (t1 r k || t2 r k) || t3 r k) p2 (over-rectangle c.fill-2.new.self a (a + 1) (b - 1) b (over-side p2) c.fill-3.ensures) (λ r k _ _. refl) in
-    over-twice (λ r k. eqb (ring_of a b r k) 1) p3 (over-rectangle c.fill-3.new.self a (a + 1) (b + 1) (b + 2) (over-side p3) c.fill-4.ensures) (λ r k _ _. ring-sides a b r k c.requires.row_least c.requires.col_least)
+    let t1 = inside _ a _ _ in
+    let t2 = inside _ _ _ _ in
+    let p1 = over-rectangle _ _ a _ _ refl c.fill.ensures in
+    let p2 = over-twice (λ r k. t1 r k || t2 r k) p1 (over-rectangle _ _ _ _ _ (over-side p1) c.fill-2.ensures) (λ r k _ _. refl) in
+    let p3 = over-twice (λ r k. (t1 r k || t2 r k) || (inside a _ _ b) r k) p2 (over-rectangle _ a _ _ b (over-side p2) c.fill-3.ensures) (λ r k _ _. refl) in
+    over-twice (λ r k. eqb (ring_of a b r k) 1) p3 (over-rectangle _ a _ _ _ (over-side p3) c.fill-4.ensures) (λ r k _ _. ring-sides a b r k c.requires.row_least c.requires.col_least)

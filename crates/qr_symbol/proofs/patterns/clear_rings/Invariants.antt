@@ -1,8 +1,5 @@
-use Rattle.std.proofs.Common.{take, eqb, false}
-use Rattle.std.specs.List.{list_any}
-use Rattle.qr_layout.specs.{Version.side_of, Region.ring_of}
-use Rattle.qr_matrix.specs.Grid.{colour}
-use Rattle.qr_symbol.specs.Steps.Patterns.{IsOver}
+use Rattle.{qr_layout.specs.{Region.ring_of, Version.side_of}, qr_matrix.specs.Grid.colour}
+use Rattle.{qr_symbol.specs.Steps.Patterns.IsOver, std.{proofs.Common.{take, eqb, false}, specs.List.list_any}}
 use Rattle.qr_symbol.proofs.patterns.clear_rings.Given as goal
 
 abbrev pub invariant-loop-centre : goal.invariant-loop-centre

@@ -1,15 +1,10 @@
-use Rattle.std.proofs.Common.{◌≡◌, ℕ, Bool, true, not, cond, ap, ◌∙◌, refl, arith}
-use Rattle.std.proofs.lemmas.List.Elements.{All-same}
-use Rattle.qr_layout.specs.declared.role.Role.TheVariants.{Fixed, Region}
-use Rattle.qr_layout.specs.{Version.side_of, Format.version_word_of, Alignment.alignment_places, Alignment.centres_of}
-use Rattle.qr_layout.specs.Steps.Rectangles.{IsInside}
-use Rattle.qr_layout.specs.Region.{is_alignment, is_corner, is_in_region, is_timing, is_version_information}
-use Rattle.qr_layout.specs.Role.{is_alignment_light}
 use Rattle.qr_layout.proofs.Facts.{centres-inside, off-role, region-parts}
-use Rattle.qr_matrix.specs.Grid.{colour}
-use Rattle.qr_matrix.proofs.Facts.{square-same}
+use Rattle.qr_layout.specs.{Format.version_word_of, Region.is_in_region, Steps.Rectangles.IsInside, Version.side_of}
+use Rattle.{qr_layout.specs.declared.role.Role.TheVariants.{Fixed, Region}, qr_matrix.proofs.Facts.square-same}
+use Rattle.{qr_matrix.specs.Grid.colour, qr_symbol.proofs.lemmas.patterns.PaintLemmas.{fixed-tests, light-inside}}
 use Rattle.qr_symbol.specs.Steps.Patterns.{fixed_colour, paint_of}
-use Rattle.qr_symbol.proofs.lemmas.patterns.PaintLemmas.{fixed-tests, light-inside}
+use Rattle.std.proofs.Common.{◌≡◌, ℕ, Bool, true, cond, ap, ◌∙◌, refl, arith}
+use Rattle.std.proofs.lemmas.List.Elements.{All-same}
 use Rattle.qr_symbol.proofs.patterns.draw_fixed.Goals as goal
 
 -- a module whose role is a fixed colour has this colour
@@ -21,16 +16,15 @@ pub fill_alignment-requires : goal.fill_alignment-requires
 fill_alignment-requires c =
     let v = c.args.v in
     let e = c.as_slice.ensures.value ∙ c.alignment_centres-centres.ensures in
-    record { square = c.requires; centres = e; inside = All-same (IsInside (side_of v)) c.as_slice.result.now (alignment_places (side_of v) (centres_of v)) e (centres-inside v (omega arith) (omega arith)) }
+    record { square = c.requires; centres = e; inside = All-same (IsInside (side_of v)) _ _ e (centres-inside v (omega arith) (omega arith)) }
 
 pub clear_rings-requires : goal.clear_rings-requires
 clear_rings-requires c =
     let v = c.args.v in
-    let e = c.as_slice-2.ensures.value ∙ c.alignment_centres-centres.ensures in
-    record {
+    let e = c.as_slice-2.ensures.value ∙ c.alignment_centres-centres.ensures in record {
       square = c.fill_alignment.ensures.square;
       centres = e;
-      inside = All-same (IsInside (side_of v)) c.as_slice-2.result.now (alignment_places (side_of v) (centres_of v)) e (centres-inside v (omega arith) (omega arith));
+      inside = All-same (IsInside (side_of v)) _ _ e (centres-inside v (omega arith) (omega arith));
     }
 
 pub paint_version-requires : goal.paint_version-requires
@@ -39,12 +33,9 @@ paint_version-requires c = (c.paint_timing.ensures c.args.format).square
 pub returns : goal.returns
 returns c =
     let v = c.args.v in
-    let s = side_of v in
     let w = version_word_of v in
-    let p = paint_of v c.args.format in
-    let g0 = c.args.matrix.now in
     let last = c.paint_version.ensures c.args.format in
-    last.square ∙ square-same s (colour c.paint_version.new.matrix) (λ r k. cond (is_in_region v r k) (colour g0 r k) (p r k)) (λ r k l m.
+    last.square ∙ square-same (side_of v) (colour c.paint_version.new.matrix) (λ r k. cond (is_in_region v r k) (colour c.args.matrix.now r k) ((paint_of v _) r k)) (λ r k l m.
     rw (last.colours r k l m, (c.paint_timing.ensures c.args.format).colours r k l m, c.paint_corners.ensures.colours r k l m, c.clear_rings.ensures.colours r k l m, c.fill_alignment.ensures.colours r k l m)
-    (fixed-tests (is_corner s r k) (is_timing r k) (is_version_information v r k) (is_alignment v r k) (is_alignment_light v r k) (p r k) (colour g0 r k) (is_in_region v r k) (region-parts v r k l m) (light-inside v r k) (λ a b d e.
-    ap (fixed_colour c.args.format w) (off-role v r k (omega arith) l m a b d) ∙ fixed-cond c.args.format w (is_alignment v r k) (not (is_alignment_light v r k)) e)))
+    (fixed-tests _ _ _ _ _ _ _ _ (region-parts v r k l m) (light-inside v r k) (λ a b d e.
+    ap (fixed_colour _ w) (off-role v r k (omega arith) l m a b d) ∙ fixed-cond _ w _ _ e)))

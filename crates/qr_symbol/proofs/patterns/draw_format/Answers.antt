@@ -1,9 +1,7 @@
-use Rattle.std.proofs.Common.{◌≡◌, ℕ, ◌∙◌, ap}
-use Rattle.qr_layout.specs.{Version.side_of, Role.role_of}
-use Rattle.qr_matrix.specs.Grid.{Grid, colour}
-use Rattle.qr_matrix.proofs.Facts.{square-same, colour-square}
-use Rattle.qr_symbol.specs.Steps.Patterns.{format_bits_or, format_or}
-use Rattle.qr_symbol.proofs.lemmas.{placement.PlacementLemmas.square-is, patterns.FormatDrawingLemmas.three-parts}
+use Rattle.qr_layout.specs.{Role.role_of, Version.side_of}
+use Rattle.qr_matrix.{proofs.Facts.{square-same, colour-square}, specs.Grid.{Grid, colour}}
+use Rattle.qr_symbol.proofs.lemmas.{patterns.FormatDrawingLemmas.three-parts, placement.PlacementLemmas.square-is}
+use Rattle.{qr_symbol.specs.Steps.Patterns.{format_bits_or, format_or}, std.proofs.Common.{ℕ, ◌∙◌, ap}}
 use Rattle.qr_symbol.proofs.patterns.draw_format.Goals as goal
 
 pub draw_format_bits-requires-2-clause-square : goal.draw_format_bits-requires-2-clause-square
@@ -23,7 +21,5 @@ returns c =
     let g2 = c.draw_format_bits-2.new.matrix in
     let part = λ (first end : ℕ) (g : Grid) (r k : ℕ). format_bits_or first end c.args.format (role_of v r k) (colour g r k) in
     c.draw_format_bits-3.ensures ∙ square-same s (part 9 15 g2) (λ r k. format_or c.args.format (role_of v r k) (colour g0 r k)) (λ r k l m.
-    let e1 : colour g1 r k ≡ part 0 6 g0 r k = ap (λ (z : Grid). colour z r k) c.draw_format_bits.ensures ∙ colour-square s (part 0 6 g0) r k l m in
-    let e2 : colour g2 r k ≡ part 6 9 g1 r k = ap (λ (z : Grid). colour z r k) c.draw_format_bits-2.ensures ∙ colour-square s (part 6 9 g1) r k l m in
-    ap (format_bits_or 9 15 c.args.format (role_of v r k)) (e2 ∙ ap (format_bits_or 6 9 c.args.format (role_of v r k)) e1)
+    ap (format_bits_or 9 15 _ _) ((ap (λ (z : Grid). colour z r k) c.draw_format_bits-2.ensures ∙ colour-square s (part 6 9 g1) r k l m) ∙ ap (format_bits_or 6 9 _ _) (ap (λ (z : Grid). colour z r k) c.draw_format_bits.ensures ∙ colour-square s (part 0 6 g0) r k l m))
     ∙ three-parts v c.args.format r k (colour g0 r k))

@@ -1,14 +1,13 @@
-use Rattle.std.proofs.Common.{◌≡◌, ◌∙◌, ap, subst, ℕ, arith}
-use Rattle.qr_layout.specs.Version.{side_of}
-use Rattle.qr_matrix.specs.Grid.{Grid, painted}
-use Rattle.qr_symbol.proofs.lemmas.placement.PlacementLemmas.{painted-square}
+use Rattle.{qr_layout.specs.Version.side_of, qr_matrix.specs.Grid.{Grid, painted}}
 use Rattle.qr_symbol.proofs.lemmas.patterns.FormatDrawingLemmas.{FormatDone, format-start, format-step, format-end}
+use Rattle.qr_symbol.proofs.lemmas.placement.PlacementLemmas.{painted-square}
+use Rattle.std.proofs.Common.{◌≡◌, ◌∙◌, ap, subst, ℕ, arith}
 use Rattle.qr_symbol.proofs.patterns.draw_format_bits.Goals as goal
 
 pub loop-bit-init : goal.loop-bit-init
 loop-bit-init c = record {
   square = c.requires.square;
-  done = format-start c.args.v c.args.format c.args.first c.args.matrix.now;
+  done = format-start _ _ _ _;
 }
 
 pub loop-bit-preserved : goal.loop-bit-preserved
@@ -20,15 +19,12 @@ loop-bit-preserved c =
     let d = c.is_bit_set-dark.result in
     let s : g.side ≡ side_of c.args.v = ap (λ (h : Grid). h.side) i.square in
     let e = c.set-in-loop-bit.ensures ∙ ap (λ (h : Grid). painted h b.result.row b.result.col d) c.set.ensures in
-    let now = format-step c.args.v c.args.format c.args.first c.loop-bit.bit c.args.matrix.now g a.result b.result d (omega arith) (omega arith) (omega arith) (omega arith) s
-    a.ensures.place (omega arith) (omega arith) b.ensures.place (omega arith) (omega arith) c.is_bit_set-dark.ensures i.done in
     record {
-      square = rw e (painted-square (side_of c.args.v) (painted g a.result.row a.result.col d) b.result.row b.result.col d s);
-      done = rw e now;
+      square = rw e (painted-square _ _ _ _ d s);
+      done = rw e (format-step _ _ _ _ _ g _ _ d (omega arith) (omega arith) (omega arith) (omega arith) s a.ensures.place (omega arith) (omega arith) b.ensures.place (omega arith) (omega arith) c.is_bit_set-dark.ensures i.done);
     }
 
 pub returns : goal.returns
 returns c =
     let i = c.loop-bit.invariant in
-    let n : c.loop-bit.bit ≡ c.args.end = omega arith in
-    format-end c.args.v c.args.format c.args.first c.args.end c.args.matrix.now c.loop-bit.matrix i.square (subst (λ (z : ℕ). FormatDone c.args.v c.args.format c.args.first z c.args.matrix.now c.loop-bit.matrix) n i.done)
+    format-end _ _ _ _ _ _ i.square (subst (λ (z : ℕ). FormatDone c.args.v c.args.format c.args.first z c.args.matrix.now c.loop-bit.matrix) (omega arith) i.done)

@@ -1,5 +1,4 @@
-use Rattle.qr_layout.specs.Version.{side_of}
-use Rattle.qr_matrix.specs.Grid.{IsSquare}
+use Rattle.{qr_layout.specs.Version.side_of, qr_matrix.specs.Grid.IsSquare}
 use Rattle.qr_symbol.proofs.lemmas.patterns.FormatDrawingLemmas.{FormatDone}
 use Rattle.qr_symbol.proofs.patterns.draw_format_bits.Given as goal
 

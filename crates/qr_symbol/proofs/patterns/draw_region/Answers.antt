@@ -1,16 +1,12 @@
-use Rattle.std.proofs.Common.{◌≡◌, ℕ, Bool, true, ◌&&◌, leb, ltb, sym, ap, ◌∙◌, arith}
-use Rattle.std.proofs.lemmas.{Bool.Decides.nat_tests, List.Elements.All-same}
-use Rattle.std.specs.List.{list_any}
-use Rattle.qr_layout.specs.{Version.side_of, Alignment.alignment_places, Alignment.centres_of}
-use Rattle.qr_layout.specs.{Region.is_alignment, Region.is_in_region, Rectangles.is_in_rectangle}
-use Rattle.qr_layout.specs.Steps.Rectangles.{IsInside, IsWithin}
 use Rattle.qr_layout.proofs.Facts.{centres-inside, fixed-within, region_outside}
-use Rattle.qr_matrix.specs.Grid.{Grid, colour}
-use Rattle.qr_matrix.proofs.Facts.{square-same}
+use Rattle.qr_layout.specs.{Alignment.{alignment_places, centres_of}, Rectangles.is_in_rectangle}
+use Rattle.qr_layout.specs.{Region.{is_alignment, is_in_region}, Steps.Rectangles.{IsInside, IsWithin}, Version.side_of}
+use Rattle.qr_matrix.{proofs.Facts.square-same, specs.Grid.{Grid, colour}}
 use Rattle.qr_symbol.proofs.lemmas.patterns.PaintLemmas.{over-rectangle, region-tests}
-use Rattle.qr_symbol.specs.Steps.Patterns.{IsOver}
+use Rattle.qr_symbol.{proofs.patterns.draw_region.Goals.After-fill, specs.Steps.Patterns.IsOver}
+use Rattle.std.proofs.Common.{◌≡◌, ℕ, Bool, true, ◌&&◌, leb, ltb, sym, ap, ◌∙◌, arith}
+use Rattle.std.{proofs.lemmas.{Bool.Decides.nat_tests, List.Elements.All-same}, specs.List.list_any}
 use Rattle.qr_symbol.proofs.patterns.draw_region.Goals as goal
-use Rattle.qr_symbol.proofs.patterns.draw_region.Goals.{After-fill}
 
 -- the test that a place is in the square
 abbrev whole : ℕ → ℕ → ℕ → Bool
@@ -19,7 +15,7 @@ whole s r c = leb 0 r && ltb r s && leb 0 c && ltb c s
 -- at first the whole square is dark
 all-dark : (c : After-fill) → IsOver (side_of c.args.v) (whole c.side-side.result) (λ _ _. true) (colour
     c.args.matrix.now) c.fill.new.self
-all-dark c = over-rectangle c.args.matrix.now 0 c.side-side.result 0 c.side-side.result (ap (λ (g : Grid). g.side) c.requires) c.fill.ensures
+all-dark c = over-rectangle _ 0 _ 0 _ (ap (λ (g : Grid). g.side) c.requires) c.fill.ensures
 
 pub clear_rectangles-requires : goal.clear_rectangles-requires
 clear_rectangles-requires c = record {
@@ -30,8 +26,7 @@ clear_rectangles-requires c = record {
 pub fill_alignment-requires : goal.fill_alignment-requires
 fill_alignment-requires c =
     let v = c.args.v in
-    let e = c.as_slice-2.ensures.value ∙ c.alignment_centres.ensures in
-    record {
+    let e = c.as_slice-2.ensures.value ∙ c.alignment_centres.ensures in record {
       square = c.clear_rectangles.ensures.square;
       centres = e;
       inside = All-same (IsInside (side_of v)) c.as_slice-2.result.now (alignment_places (side_of v) (centres_of v)) e (centres-inside v (omega arith) (omega arith));

@@ -1,11 +1,7 @@
-use Rattle.std.proofs.Common.{◌+◌, ◌-◌, get_or, ap, ◌∙◌, arith}
-use Rattle.std.proofs.lemmas.List.{take_all}
-use Rattle.std.specs.List.{list_any}
-use Rattle.qr_layout.specs.{declared.region.Module.Module, Version.side_of}
-use Rattle.qr_layout.specs.Alignment.{alignment_places, centres_of}
-use Rattle.qr_layout.specs.{Rectangles.is_in_rectangle, Steps.Rectangles.square_round}
 use Rattle.qr_layout.proofs.Facts.{alignment-squares}
+use Rattle.qr_layout.specs.{Rectangles.is_in_rectangle, Steps.Rectangles.square_round, declared.region.Module.Module}
 use Rattle.qr_symbol.proofs.lemmas.patterns.PaintLemmas.{over-item, over-rectangle, over-same, over-side}
+use Rattle.std.{proofs.{Common.{get_or, ap, ◌∙◌, arith}, lemmas.List.take_all}, specs.List.list_any}
 use Rattle.qr_symbol.proofs.patterns.fill_alignment.Goals as goal
 
 -- a module that stands in for an index past the end of a list
@@ -17,13 +13,12 @@ loop-centre-preserved c =
     let ms = c.args.centres.now in
     let n = c.loop-centre.centre-index in
     let m = get_or ms n none in
-    let e = c.loop-centre.invariant.so_far in
-    record {
-      so_far = over-item (λ m r k. is_in_rectangle r k (square_round m)) ms n none c.loop-centre-test.true e
-          (over-rectangle c.loop-centre.matrix (m.row - 2) (m.row + 3) (m.col - 2) (m.col + 3) (over-side e) c.fill.ensures);
+    let e = c.loop-centre.invariant.so_far in record {
+      so_far = over-item (λ m r k. is_in_rectangle r k (square_round m)) ms n _ c.loop-centre-test.true e
+          (over-rectangle _ _ _ _ _ (over-side e) c.fill.ensures);
     }
 
 pub returns : goal.returns
 returns c = over-same c.loop-centre.invariant.so_far (λ r k _ _.
     ap (list_any (λ m. is_in_rectangle r k (square_round m))) (take_all c.loop-centre.centre-index c.args.centres.now (omega arith) ∙ c.requires.centres)
-    ∙ alignment-squares r k (alignment_places (side_of c.args.v) (centres_of c.args.v)))
+    ∙ alignment-squares r k _)

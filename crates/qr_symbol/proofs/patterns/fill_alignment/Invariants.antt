@@ -1,8 +1,6 @@
-use Rattle.std.proofs.Common.{take}
-use Rattle.std.specs.List.{list_any}
-use Rattle.qr_layout.specs.{Version.side_of, Rectangles.is_in_rectangle, Steps.Rectangles.square_round}
-use Rattle.qr_matrix.specs.Grid.{colour}
-use Rattle.qr_symbol.specs.Steps.Patterns.{IsOver}
+use Rattle.qr_layout.specs.{Rectangles.is_in_rectangle, Steps.Rectangles.square_round, Version.side_of}
+use Rattle.{qr_matrix.specs.Grid.colour, qr_symbol.specs.Steps.Patterns.IsOver}
+use Rattle.std.{proofs.Common.take, specs.List.list_any}
 use Rattle.qr_symbol.proofs.patterns.fill_alignment.Given as goal
 
 abbrev pub invariant-loop-centre : goal.invariant-loop-centre

@@ -1,12 +1,11 @@
-use Rattle.std.proofs.Common.{◌≡◌, ℕ, ◌-◌, true, cond, ap, sym, ◌∙◌, refl, arith}
-use Rattle.qr_layout.specs.{Version.side_of, Region.is_corner, Role.role_of}
-use Rattle.qr_matrix.specs.Grid.{Grid, colour}
-use Rattle.qr_matrix.proofs.Facts.{square-same}
+use Rattle.std.proofs.Common.{◌≡◌, ℕ, ◌-◌, cond, ap, sym, ◌∙◌, refl, arith}
+use Rattle.qr_layout.specs.{Region.is_corner, Role.role_of, Version.side_of}
+use Rattle.qr_matrix.{proofs.Facts.square-same, specs.Grid.Grid, specs.Grid.colour}
 use Rattle.qr_symbol.specs.Steps.Patterns.{format_or, paint_of, IsOver}
-use Rattle.qr_symbol.proofs.lemmas.patterns.CornerLemmas.{begun, blocks, corners-done, dark-painted, timing-left, timing-top, two_blocks, with_first, with_second}
+use Rattle.qr_symbol.proofs.lemmas.patterns.CornerLemmas.{begun, corners-done, dark-painted, timing-left, timing-top}
 use Rattle.qr_symbol.proofs.lemmas.patterns.PaintLemmas.{over-is, over-place, over-side, over-twice}
-use Rattle.qr_symbol.proofs.patterns.paint_corners.Goals as goal
 use Rattle.qr_symbol.proofs.patterns.paint_corners.Goals.{After-paint_finder-3, After-set-3}
+use Rattle.qr_symbol.proofs.patterns.paint_corners.Goals as goal
 
 -- the square after the three finder patterns has the side of the symbol
 three-side : (c : After-paint_finder-3) → c.paint_finder-3.new.matrix.side ≡ side_of c.args.v
@@ -38,16 +37,13 @@ set-requires-3 c =
 all-begun : (c : After-set-3) → IsOver (side_of c.args.v) (begun c.side-side.result) (paint_of c.args.v c.args.format)
     (colour c.args.matrix.now) c.set-3.new.self
 all-begun c =
-    let z = c.side-side.result in
     let v = c.args.v in
     let f = c.args.format in
     let p = paint_of v f in
-    let p2 = over-twice (two_blocks z) (c.paint_finder.ensures f) (c.paint_finder-2.ensures f) (λ _ _ _ _. refl) in
-    let p3 = over-twice (blocks z) p2 (c.paint_finder-3.ensures f) (λ _ _ _ _. refl) in
-    let p4 = over-twice (with_first z) p3 (over-place p c.paint_finder-3.new.matrix c.set.new.self 8 6 true (over-side p3) (timing-left v f (omega arith)) c.set.ensures) (λ _ _ _ _. refl) in
-    let p5 = over-twice (with_second z) p4 (over-place p c.set.new.self c.set-2.new.self 6 8 true (over-side p4) (timing-top v f (omega arith)) c.set-2.ensures) (λ _ _ _ _. refl) in
-    let dark = dark-painted v f (omega arith) (omega arith) ∙ ap (λ (n : ℕ). p (n - 8) 8) (sym c.side-side.ensures.value) in
-    over-twice (begun z) p5 (over-place p c.set-2.new.self c.set-3.new.self (z - 8) 8 true (over-side p5) dark c.set-3.ensures) (λ _ _ _ _. refl)
+    let p3 = over-twice _ (over-twice _ (c.paint_finder.ensures f) (c.paint_finder-2.ensures f) (λ _ _ _ _. refl)) (c.paint_finder-3.ensures f) (λ _ _ _ _. refl) in
+    let p4 = over-twice _ p3 (over-place p _ _ 8 6 _ (over-side p3) (timing-left v f (omega arith)) c.set.ensures) (λ _ _ _ _. refl) in
+    let p5 = over-twice _ p4 (over-place p _ _ 6 8 _ (over-side p4) (timing-top v f (omega arith)) c.set-2.ensures) (λ _ _ _ _. refl) in
+    over-twice _ p5 (over-place p _ _ _ 8 _ (over-side p5) (dark-painted v f (omega arith) (omega arith) ∙ ap (λ (n : ℕ). p (n - 8) 8) (sym c.side-side.ensures.value)) c.set-3.ensures) (λ _ _ _ _. refl)
 
 pub draw_format-requires : goal.draw_format-requires
 draw_format-requires c = (all-begun (goal.at.draw_format-requires c).After-set-3).square

@@ -1,9 +1,7 @@
-use Rattle.std.proofs.Common.{◌≡◌, ℕ, ◌+◌, ◌-◌, ◌/◌, ◌%◌, eqb, ◌&&◌, ◌||◌, ap, ◌∙◌, refl, arith}
-use Rattle.qr_layout.specs.{Version.side_of, Format.version_word_of}
-use Rattle.qr_matrix.specs.{Grid.Grid, BitRow.has_bit}
-use Rattle.qr_symbol.specs.Steps.Patterns.{paint_of}
+use Rattle.{qr_layout.specs.{Format.version_word_of, Version.side_of}, qr_matrix.specs.{BitRow.has_bit, Grid.Grid}}
 use Rattle.qr_symbol.proofs.lemmas.patterns.PaintLemmas.{over-none, over-place, over-same, over-side, over-twice}
 use Rattle.qr_symbol.proofs.lemmas.patterns.VersionLemmas.{version_drawn, version-all, version-here, version-more, version-none, version-there}
+use Rattle.std.proofs.Common.{◌≡◌, ℕ, eqb, ◌&&◌, ◌||◌, ap, ◌∙◌, refl, arith}
 use Rattle.qr_symbol.proofs.patterns.paint_version.Goals as goal
 
 pub loop-bit-init : goal.loop-bit-init
@@ -20,17 +18,16 @@ loop-bit-preserved c =
     let i = c.loop-bit.invariant in
     let g = c.loop-bit.matrix in
     let g1 = c.set.new.self in
-    let g2 = c.set-in-loop-bit.new.self in
     let d = c.is_bit_set-dark.result in
     let bit : d ≡ has_bit (version_word_of v) n = c.is_bit_set-dark.ensures ∙ ap (λ (z : ℕ). has_bit z n) c.in-Some.ensures.1 in
     let set1 = rw c.side-left.ensures.value at c.set.ensures in
     let set2 = rw c.side-left.ensures.value at c.set-in-loop-bit.ensures in
-    let first = λ (f : ℕ). over-twice (λ r k. version_drawn s n r k || (eqb r (n / 3) && eqb k (s - 11 + n % 3))) (i.painted f)
-    (over-place (paint_of v f) g g1 (n / 3) (s - 11 + n % 3) d i.side (bit ∙ version-here v f n (omega arith) (omega arith) (omega arith)) set1) (λ _ _ _ _. refl) in
+    let first = λ (f : ℕ). over-twice (λ r k. version_drawn s n r k || (eqb r _ && eqb k _)) (i.painted f)
+    (over-place _ g g1 _ _ d i.side (bit ∙ version-here v f n (omega arith) (omega arith) (omega arith)) set1) (λ _ _ _ _. refl) in
     record {
       side = ap (λ (g : Grid). g.side) set2 ∙ (ap (λ (g : Grid). g.side) set1 ∙ i.side);
-      painted = λ f. over-twice (version_drawn s (n + 1)) (first f)
-          (over-place (paint_of v f) g1 g2 (s - 11 + n % 3) (n / 3) d (over-side (first f)) (bit ∙ version-there v f n (omega arith) (omega arith) (omega arith)) set2)
+      painted = λ f. over-twice (version_drawn s _) (first f)
+          (over-place _ g1 c.set-in-loop-bit.new.self _ _ d (over-side (first f)) (bit ∙ version-there v f n (omega arith) (omega arith) (omega arith)) set2)
           (λ r k _ _. version-more s n r k (omega arith));
     }
 

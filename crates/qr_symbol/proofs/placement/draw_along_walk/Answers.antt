@@ -7,26 +7,25 @@ pub loop-module-init : goal.loop-module-init
 loop-module-init c = record {
   can_next = tt;
   is_finite = tt;
-  walked = walked-start c.args.v c.args.codewords.now c.args.mask c.args.matrix.now c.into_iter-module-iterator.result c.requires (subst (IsOrder c.args.v) (sym c.into_iter-module-iterator.ensures.into_iter_gives) c.walk-module-items.ensures.order);
+  walked = walked-start _ _ _ _ _ c.requires (subst (IsOrder _) (sym c.into_iter-module-iterator.ensures.into_iter_gives) c.walk-module-items.ensures.order);
 }
 
 pub set-requires-clause-row_in : goal.set-requires-clause-row_in
-set-requires-clause-row_in c = (walked-in c.args.v c.args.codewords.now c.args.mask c.args.matrix.now c.loop-module.matrix c.loop-module.yielded c.loop-module.module-iterator c.next.new.self c.in-Some.module c.loop-module.number c.loop-module.invariant.walked c.in-Some.ensures.steps).0
+set-requires-clause-row_in c = (walked-in _ _ _ _ _ _ _ _ _ _ c.loop-module.invariant.walked c.in-Some.ensures.steps).0
 
 pub set-requires-clause-col_in : goal.set-requires-clause-col_in
-set-requires-clause-col_in c = (walked-in c.args.v c.args.codewords.now c.args.mask c.args.matrix.now c.loop-module.matrix c.loop-module.yielded c.loop-module.module-iterator c.next.new.self c.in-Some.module c.loop-module.number c.loop-module.invariant.walked c.in-Some.ensures.steps).1
+set-requires-clause-col_in c = (walked-in _ _ _ _ _ _ _ _ _ _ c.loop-module.invariant.walked c.in-Some.ensures.steps).1
 
 pub overflow_add-number : goal.overflow_add-number
 overflow_add-number c =
-    let small = walked-small c.args.v c.args.codewords.now c.args.mask c.args.matrix.now c.loop-module.matrix c.loop-module.yielded c.loop-module.module-iterator c.loop-module.number (omega arith) (omega arith) c.loop-module.invariant.walked in
-    omega arith
+    let small = walked-small _ _ _ _ _ _ _ _ (omega arith) (omega arith) c.loop-module.invariant.walked in omega arith
 
 pub loop-module-preserved : goal.loop-module-preserved
 loop-module-preserved c = record {
   can_next = tt;
   is_finite = tt;
-  walked = rw c.set.ensures (walked-step c.args.v c.args.codewords.now c.args.mask c.args.matrix.now c.loop-module.matrix c.loop-module.yielded c.loop-module.module-iterator c.next.new.self c.in-Some.module c.loop-module.number c.bit_at-bit.result c.inverts.result c.bit_at-bit.ensures c.inverts.ensures c.in-Some.ensures.steps c.loop-module.invariant.walked);
+  walked = rw c.set.ensures (walked-step _ _ _ _ _ _ _ _ _ _ _ _ c.bit_at-bit.ensures c.inverts.ensures c.in-Some.ensures.steps c.loop-module.invariant.walked);
 }
 
 pub returns : goal.returns
-returns c = walked-end c.args.v c.args.codewords.now c.args.mask c.args.matrix.now c.loop-module.matrix c.loop-module.yielded c.loop-module.module-iterator c.loop-module.number c.in-None.ensures.steps.0 c.loop-module.invariant.walked
+returns c = walked-end _ _ _ _ _ _ _ _ c.in-None.ensures.steps.0 c.loop-module.invariant.walked

@@ -1,11 +1,10 @@
-use Rattle.std.proofs.Common.{◌≡◌, ◌+◌, ◌-◌, ◌*◌, ◌≤◌, refl, subst, arith}
-use Rattle.qr_bits.proofs.Facts.{bool_byte-bit}
-use Rattle.qr_layout.specs.Version.{side_of}
-use Rattle.qr_symbol.specs.Steps.Placement.{AreNext, IsCodewordBits}
+use Rattle.{qr_bits.proofs.Facts.bool_byte-bit, qr_layout.specs.Version.side_of}
 use Rattle.qr_symbol.proofs.lemmas.placement.ColumnLemmas.{rows-drawn, rows-none}
 use Rattle.qr_symbol.proofs.lemmas.placement.LightLemmas.{kept-light, kept-within}
-use Rattle.qr_symbol.proofs.placement.draw_columns.Goals as goal
 use Rattle.qr_symbol.proofs.placement.draw_columns.Goals.{then-number-next, else-number-next, After-draw_rows-2}
+use Rattle.qr_symbol.specs.Steps.Placement.{AreNext, IsCodewordBits}
+use Rattle.std.proofs.Common.{◌≡◌, ◌+◌, ◌-◌, ◌*◌, ◌≤◌, refl, subst, arith}
+use Rattle.qr_symbol.proofs.placement.draw_columns.Goals as goal
 
 pub loop-group-init : goal.loop-group-init
 loop-group-init c =
@@ -13,8 +12,7 @@ loop-group-init c =
     let w = c.codeword_bits_at-next in
     let rows = c.draw_rows in
     let e : 0 + c.from-before.result ≡ c.from-before.result + 0 = omega arith in
-    let one = (bool_byte-bit c.args.strip.upward).0 in
-    record {
+    let one = (bool_byte-bit c.args.strip.upward).0 in record {
       next = w.ensures.bits;
       least = omega (arith, w.ensures.least);
       most = omega (arith, w.ensures.most, c.from.ensures, rows.ensures.few, c.from-before.ensures);
@@ -38,10 +36,8 @@ loop-group-preserved c =
     let now : IsCodewordBits cw w × (w.first ≤ number) × (number ≤ w.first + 56) = elim c.if-number-next.branch [
       | then-number-next b ↦ (let d = b.codeword_bits_at-next-then-number-next.ensures in rw b.next-is (d.bits, d.least, omega (arith, d.most)))
       | else-number-next b ↦ rw b.next-is (i.next, omega (arith, i.least), omega (arith, b.if-number-next.false))
-    ] in
-    let k = c.from-before.result + 4 * c.loop-group.group in
-    let e : c.from-before.result + 4 * (c.loop-group.group + 1) ≡ k + 4 = omega arith in
-    record {
+    ] in let k = c.from-before.result + 4 * c.loop-group.group in
+    let e : c.from-before.result + 4 * (c.loop-group.group + 1) ≡ k + 4 = omega arith in record {
       next = now.0;
       least = now.1;
       most = now.2;

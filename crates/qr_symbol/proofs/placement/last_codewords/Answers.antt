@@ -1,24 +1,19 @@
-use Rattle.std.proofs.Common.{◌≡◌, ◌-◌, ◌*◌, ap, sym, ◌∙◌, arith}
+use Rattle.std.proofs.Common.{ap, sym, ◌∙◌, arith}
 use Rattle.qr_matrix.specs.BitRow.{has_bit}
 use Rattle.qr_symbol.proofs.lemmas.placement.BitLemmas.{codewords-more, codewords-fits, codewords-room}
 use Rattle.qr_symbol.proofs.placement.last_codewords.Goals as goal
 
 pub overflow_mul-bits : goal.overflow_mul-bits
-overflow_mul-bits c = omega (arith, codewords-room c.loop-next.next c.loop-next.bits (omega arith) c.loop-next.invariant.small)
+overflow_mul-bits c = omega (arith, codewords-room _ _ (omega arith) c.loop-next.invariant.small)
 
 pub overflow_add-bits : goal.overflow_add-bits
-overflow_add-bits c = omega (arith, codewords-room c.loop-next.next c.loop-next.bits (omega arith) c.loop-next.invariant.small)
+overflow_add-bits c = omega (arith, codewords-room _ _ (omega arith) c.loop-next.invariant.small)
 
 pub loop-next-preserved : goal.loop-next-preserved
-loop-next-preserved c =
-    let i = c.loop-next.invariant in
-    record {
-      small = codewords-fits c.loop-next.next c.loop-next.bits c.from.result i.small (omega arith);
-      held = codewords-more c.args.codewords.now c.args.place c.loop-next.next c.loop-next.bits c.from.result (c.from.ensures ∙ c.codeword_at.ensures) (omega arith) i.held;
-    }
+loop-next-preserved c = let i = c.loop-next.invariant in record {
+  small = codewords-fits _ _ _ i.small (omega arith);
+  held = codewords-more _ _ _ _ _ (c.from.ensures ∙ c.codeword_at.ensures) (omega arith) i.held;
+}
 
 pub returns : goal.returns
-returns c = λ k l.
-    let n : c.loop-next.next ≡ 8 = omega arith in
-    let e : 8 * c.loop-next.next - 1 - k ≡ 63 - k = omega arith in
-    ap (has_bit c.loop-next.bits) (sym e) ∙ c.loop-next.invariant.held k (omega arith)
+returns c = λ k l. ap (has_bit _) (sym (omega arith)) ∙ c.loop-next.invariant.held k (omega arith)

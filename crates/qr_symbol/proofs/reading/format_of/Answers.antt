@@ -1,8 +1,6 @@
-use Rattle.std.proofs.Common.{◌≡◌, ℕ, ◌<◌, [], ◌∷◌, get_or, inl, inr, subst, arith}
-use Rattle.std.proofs.lemmas.Bool.{cases_lt}
-use Rattle.qr_layout.specs.declared.level.Level.{Level, TheVariants.L, TheVariants.M, TheVariants.Q, TheVariants.H}
-use Rattle.qr_matrix.specs.Grid.{Grid}
-use Rattle.qr_symbol.specs.Reading.{IsFormat}
+use Rattle.qr_layout.specs.declared.level.Level.{Level, TheVariants.{L, M, Q, H}}
+use Rattle.{qr_matrix.specs.Grid.Grid, qr_symbol.specs.Reading.IsFormat}
+use Rattle.std.proofs.{Common.{ℕ, ◌<◌, [], ◌∷◌, get_or, inl, inr, subst, arith}, lemmas.Bool.cases_lt}
 use Rattle.qr_symbol.proofs.reading.format_of.Goals as goal
 
 -- the level with the number k
@@ -17,11 +15,10 @@ every g none Q = none 2 (omega arith)
 every g none H = none 3 (omega arith)
 
 pub loop-level-preserved : goal.loop-level-preserved
-loop-level-preserved c = λ k less mask f.
-    elim (cases_lt k c.loop-level.level-index) [
-      | inl l ↦ c.loop-level.invariant k l mask f
-      | inr l ↦ let e : k ≡ c.loop-level.level-index = omega arith in c.in_default.ensures mask (subst (λ (i : ℕ). IsFormat c.args.matrix.now (level i) mask) e f)
-    ]
+loop-level-preserved c = λ k less mask f. elim (cases_lt k _) [
+  | inl l ↦ c.loop-level.invariant k l mask f
+  | inr l ↦ c.in_default.ensures mask (subst (λ (i : ℕ). IsFormat c.args.matrix.now (level i) mask) (omega arith) f)
+]
 
 pub returns : goal.returns
 returns c = every c.args.matrix.now (λ k l. c.loop-level.invariant k (omega (arith, c.loop-level-test.false)))

@@ -1,6 +1,5 @@
+use Rattle.{qr_layout.specs.Role.first_place, qr_matrix.specs.{BitRow.has_bit, Grid.colour}}
 use Rattle.std.proofs.Common.{◌≡◌, ℕ, ◌<◌}
-use Rattle.qr_layout.specs.Role.{first_place}
-use Rattle.qr_matrix.specs.{Grid.colour, BitRow.has_bit}
 use Rattle.qr_symbol.proofs.reading.has_format.Given as goal
 
 abbrev pub invariant-loop-i : goal.invariant-loop-i

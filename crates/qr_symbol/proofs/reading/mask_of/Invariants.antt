@@ -1,5 +1,4 @@
-use Rattle.std.proofs.Common.{ℕ, ◌<◌}
-use Rattle.qr_symbol.specs.Reading.{IsFormat}
+use Rattle.{qr_symbol.specs.Reading.IsFormat, std.proofs.Common.{ℕ, ◌<◌}}
 use Rattle.qr_symbol.proofs.reading.mask_of.Given as goal
 
 abbrev pub invariant-loop-mask : goal.invariant-loop-mask

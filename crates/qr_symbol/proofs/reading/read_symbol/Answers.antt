@@ -1,7 +1,6 @@
 use Rattle.std.proofs.Common.{sym, ◌∙◌}
-use Rattle.qr_symbol.specs.Reading.{IsOfVersion}
+use Rattle.qr_symbol.{proofs.reading.read_symbol.Goals.In-Some, specs.Reading.IsOfVersion}
 use Rattle.qr_symbol.proofs.reading.read_symbol.Goals as goal
-use Rattle.qr_symbol.proofs.reading.read_symbol.Goals.{In-Some}
 
 -- the version that was found
 of-version : (c : In-Some) → IsOfVersion c.args.matrix.now c.in-Some.version

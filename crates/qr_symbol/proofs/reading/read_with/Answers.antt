@@ -1,8 +1,6 @@
-use Rattle.std.proofs.Common.{length, Err, sym, ◌∙◌, ap, subst, arith}
-use Rattle.std.proofs.lemmas.Result.{err_from_is_err_and}
-use Rattle.qr_layout.proofs.Facts.{laws-of}
-use Rattle.qr_symbol.specs.{declared.fault.ReadFault.ReadFault, Reading.IsRead, Reading.IsMessage}
-use Rattle.qr_symbol.proofs.lemmas.reading.SymbolReadLemmas.{not-checked, not-parsed}
+use Rattle.{qr_layout.proofs.Facts.laws-of, qr_symbol.proofs.lemmas.reading.SymbolReadLemmas.{not-checked, not-parsed}}
+use Rattle.qr_symbol.specs.{Reading.{IsRead, IsMessage}, declared.fault.ReadFault.ReadFault}
+use Rattle.std.proofs.{Common.{length, Err, sym, ◌∙◌, ap, subst, arith}, lemmas.Result.err_from_is_err_and}
 use Rattle.qr_symbol.proofs.reading.read_with.Goals as goal
 
 pub returns-in_err-message : goal.returns-in_err-message
@@ -10,15 +8,14 @@ returns-in_err-message c =
     let v = c.args.version in
     let g = c.args.matrix.now in
     let p = err_from_is_err_and c.from_residual-in_err-message.result c.from_residual-in_err-message.ensures.1 in
-    rw (p.1, p.2) (not-checked g v c.args.level c.args.mask c.deref.result.now c.in_err-message.field-0.0 (record { least = omega arith; most = omega arith; side = c.requires.side }) c.requires.format
+    rw (p.1, p.2) (not-checked g v _ _ _ _ (record { least = omega arith; most = omega arith; side = c.requires.side }) c.requires.format
     (subst (IsRead v c.args.mask g) (sym c.deref.ensures.value) c.in_ok-codewords.ensures.read) c.in_err-message.ensures.fault
     (λ e d n h. (c.in_err-message.ensures.check.0 (ap (λ (f : ReadFault). Err f) e)).1 d (n, h)))
 
 pub parse-requires : goal.parse-requires
 parse-requires c =
     let most = (laws-of c.args.level c.args.version (omega arith) (omega arith)).most in
-    let many = ap length c.deref-2.ensures.value ∙ c.in_ok-message.ensures.many in
-    omega arith
+    let many = ap length c.deref-2.ensures.value ∙ c.in_ok-message.ensures.many in omega arith
 
 pub returns-in_err-parse : goal.returns-in_err-parse
 returns-in_err-parse c =
@@ -27,11 +24,5 @@ returns-in_err-parse c =
     let mask = c.args.mask in
     let g = c.args.matrix.now in
     let p = err_from_is_err_and c.from_residual-in_err-parse.result c.from_residual-in_err-parse.ensures.1 in
-    let holds : IsMessage v l mask g c.in_ok-message.message.items = record {
-      codewords = c.deref.result.now;
-      read = subst (IsRead v mask g) (sym c.deref.ensures.value) c.in_ok-codewords.ensures.read;
-      many = c.in_ok-message.ensures.many;
-      interleaved = c.in_ok-message.ensures.read;
-    } in
-    rw (p.1, p.2) (not-parsed g v l mask c.deref-2.result.now c.in_err-parse.field-0.0 (record { least = omega arith; most = omega arith; side = c.requires.side }) c.requires.format
-    (subst (IsMessage v l mask g) (sym c.deref-2.ensures.value) holds) c.in_err-parse.ensures)
+    rw (p.1, p.2) (not-parsed g v l _ _ _ (record { least = omega arith; most = omega arith; side = c.requires.side }) c.requires.format
+    (subst (IsMessage v l mask g) (sym c.deref-2.ensures.value) (record { codewords = c.deref.result.now; read = subst (IsRead v mask g) (sym c.deref.ensures.value) c.in_ok-codewords.ensures.read; many = c.in_ok-message.ensures.many; interleaved = c.in_ok-message.ensures.read })) c.in_err-parse.ensures)

@@ -1,8 +1,6 @@
-use Rattle.std.proofs.Common.{◌≡◌, ◌-◌, ◌≤◌, List, ◌++◌, length, drop}
-use Rattle.std.specs.Prelude.{vec_len}
 use Rattle.qr_bits.specs.Header.{parity_of}
-use Rattle.qr_symbol.specs.{declared.symbol.Symbol.Symbol, Series.AreSymbolsFrom}
-use Rattle.qr_symbol.specs.Steps.Series.{AreLengths, parts_of}
+use Rattle.qr_symbol.specs.{Series.AreSymbolsFrom, Steps.Series.{AreLengths, parts_of}, declared.symbol.Symbol.Symbol}
+use Rattle.std.{proofs.Common.{◌≡◌, ◌-◌, ◌≤◌, List, ◌++◌, length, drop}, specs.Prelude.vec_len}
 use Rattle.qr_symbol.proofs.series.part_symbols.Given as goal
 
 -- the symbols made and those of the rest are the symbols of all parts

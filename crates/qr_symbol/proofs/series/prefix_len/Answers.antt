@@ -1,12 +1,10 @@
-use Rattle.std.proofs.Common.{arith}
-use Rattle.qr_symbol.proofs.lemmas.series.PartLemmas.{longest-cut, longest-some}
+use Rattle.{qr_symbol.proofs.lemmas.series.PartLemmas.{longest-cut, longest-some}, std.proofs.Common.arith}
 use Rattle.qr_symbol.proofs.series.prefix_len.Goals as goal
 
 pub returns-clause-some : goal.returns-clause-some
-returns-clause-some c =
-    longest-some c.args.version c.args.level c.args.rule c.args.rest.now c.in_ok-longest_fit.field-0 (omega arith) (omega arith) c.requires.some
-    (longest-cut c.args.version c.args.level c.args.rule c.args.rest.now c.min.result c.in_ok-longest_fit.field-0 (omega arith) (omega arith) (omega arith) c.in_ok-longest_fit.ensures)
+returns-clause-some c = longest-some _ _ _ _ _ (omega arith) (omega arith) c.requires.some
+    (longest-cut _ _ _ _ _ _ (omega arith) (omega arith) (omega arith) c.in_ok-longest_fit.ensures)
 
 pub returns-clause-longest : goal.returns-clause-longest
 returns-clause-longest c =
-    longest-cut c.args.version c.args.level c.args.rule c.args.rest.now c.min.result c.in_ok-longest_fit.field-0 (omega arith) (omega arith) (omega arith) c.in_ok-longest_fit.ensures
+    longest-cut _ _ _ _ _ _ (omega arith) (omega arith) (omega arith) c.in_ok-longest_fit.ensures

@@ -1,5 +1,4 @@
-use Rattle.std.proofs.Common.{◌≤◌, ◌<◌, ℕ}
-use Rattle.qr_bits.specs.Padding.{capacity_of}
+use Rattle.{qr_bits.specs.Padding.capacity_of, std.proofs.Common.{◌≤◌, ◌<◌, ℕ}}
 use Rattle.qr_symbol.proofs.version_choice.first_with_room.Given as goal
 
 abbrev pub invariant-loop-number : goal.invariant-loop-number

@@ -1,5 +1,4 @@
-use Rattle.std.proofs.Common.{◌≤◌, ◌<◌, ◌-◌, ℕ}
-use Rattle.qr_symbol.specs.VersionChoice.{FitsVersion}
+use Rattle.{qr_symbol.specs.VersionChoice.FitsVersion, std.proofs.Common.{◌≤◌, ◌<◌, ◌-◌, ℕ}}
 use Rattle.qr_symbol.proofs.version_choice.least_fit.Given as goal
 
 abbrev pub invariant-loop-segments : goal.invariant-loop-segments

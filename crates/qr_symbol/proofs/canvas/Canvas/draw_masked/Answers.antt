@@ -1,29 +1,24 @@
-use Rattle.std.proofs.Common.{◌≡◌, ℕ, ◌&&◌, ◌∙◌, ap, sym, subst}
-use Rattle.qr_layout.specs.{Version.side_of, Role.role_of, Format.format_word_of}
-use Rattle.qr_matrix.specs.Grid.{Grid, square, colour, IsSquare}
-use Rattle.qr_matrix.proofs.Facts.{square-same, colour-square}
-use Rattle.qr_symbol.specs.{Mask.inverts, Mask.inverted, Steps.Placement.masked_colour, Steps.Patterns.format_or}
+use Rattle.qr_layout.specs.{Format.format_word_of, Role.role_of, Version.side_of}
+use Rattle.qr_matrix.{proofs.Facts.{square-same, colour-square}, specs.Grid.{Grid, square, colour, IsSquare}}
 use Rattle.qr_symbol.proofs.lemmas.placement.PlacementLemmas.{square-is}
+use Rattle.qr_symbol.specs.{Mask.{inverts, inverted}, Steps.{Patterns.format_or, Placement.masked_colour}}
+use Rattle.std.proofs.Common.{◌≡◌, ℕ, ◌&&◌, ◌∙◌, ap, sym, subst}
 use Rattle.qr_symbol.proofs.canvas.Canvas.draw_masked.Goals as goal
 
 pub set_masked-requires-clause-square : goal.set_masked-requires-clause-square
 set_masked-requires-clause-square c =
-    let side : c.args.matrix.now.side ≡ side_of c.args.self.now.version = ap (λ (g : Grid). g.side) c.requires.square in
-    subst (λ s. IsSquare s c.args.matrix.now) (sym side) c.requires.square
+    subst (λ s. IsSquare s c.args.matrix.now) (sym (ap (λ (g : Grid). g.side) c.requires.square)) c.requires.square
 
 pub draw_format-requires : goal.draw_format-requires
 draw_format-requires c =
-    let f = λ (r k : ℕ). inverted (colour c.args.self.now.region r k && inverts c.args.mask r k) (colour c.args.self.now.plain r k) in
-    let side : c.args.matrix.now.side ≡ side_of c.args.self.now.version = ap (λ (g : Grid). g.side) c.requires.square in
-    square-is (side_of c.args.self.now.version) f c.set_masked.new.matrix (c.set_masked.ensures ∙ ap (λ s. square s f) side)
+    let f = λ (r k : ℕ). inverted (colour _ r k && inverts c.args.mask r k) (colour _ r k) in
+    square-is _ f _ (c.set_masked.ensures ∙ ap (λ s. square s f) (ap (λ (g : Grid). g.side) c.requires.square))
 
 pub returns : goal.returns
 unfolding masked_colour
 returns c =
-    let f = λ (r k : ℕ). inverted (colour c.args.self.now.region r k && inverts c.args.mask r k) (colour c.args.self.now.plain r k) in
+    let f = λ (r k : ℕ). inverted (colour _ r k && inverts c.args.mask r k) (colour _ r k) in
     let s = side_of c.args.self.now.version in
     let side : c.args.matrix.now.side ≡ s = ap (λ (g : Grid). g.side) c.requires.square in
-    let drawn : c.set_masked.new.matrix ≡ square s f = c.set_masked.ensures ∙ ap (λ s. square s f) side in
-    let w : c.from-format.result ≡ format_word_of c.args.self.now.level c.args.mask = c.from-format.ensures ∙ c.format_word.ensures in
-    c.draw_format.ensures ∙ square-same s (λ r k. format_or c.from-format.result (role_of c.args.self.now.version r k) (colour c.set_masked.new.matrix r k)) (masked_colour c.args.self.now.version (format_word_of c.args.self.now.level c.args.mask) c.args.mask c.args.self.now.region c.args.self.now.plain) (λ r k l m.
-    ap (λ (z : ℕ). format_or z (role_of c.args.self.now.version r k) (colour c.set_masked.new.matrix r k)) w ∙ ap (format_or (format_word_of c.args.self.now.level c.args.mask) (role_of c.args.self.now.version r k)) (ap (λ (g : Grid). colour g r k) drawn ∙ colour-square s f r k l m))
+    c.draw_format.ensures ∙ square-same s (λ r k. format_or c.from-format.result (role_of c.args.self.now.version r k) (colour _ r k)) _ (λ r k l m.
+    ap (λ (z : ℕ). format_or z (role_of c.args.self.now.version r k) (colour c.set_masked.new.matrix r k)) (c.from-format.ensures ∙ c.format_word.ensures) ∙ ap (format_or (format_word_of c.args.self.now.level c.args.mask) (role_of c.args.self.now.version r k)) (ap (λ (g : Grid). colour g r k) (c.set_masked.ensures ∙ ap (λ s. square s f) side) ∙ colour-square s f r k l m))

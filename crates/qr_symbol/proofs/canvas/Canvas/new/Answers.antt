@@ -1,11 +1,10 @@
+use Rattle.{qr_layout.specs.Version.side_of, qr_matrix.specs.Grid.light}
+use Rattle.qr_symbol.proofs.lemmas.{canvas.CanvasLemmas.patterns-start, placement.PlacementLemmas.square-is}
 use Rattle.std.proofs.Common.{false, ◌∙◌, ap}
-use Rattle.qr_layout.specs.Version.{side_of}
-use Rattle.qr_matrix.specs.Grid.{light}
-use Rattle.qr_symbol.proofs.lemmas.{placement.PlacementLemmas.square-is, canvas.CanvasLemmas.patterns-start}
 use Rattle.qr_symbol.proofs.canvas.Canvas.new.Goals as goal
 
 pub draw_fixed-requires : goal.draw_fixed-requires
-draw_fixed-requires c = square-is (side_of c.args.version) (λ _ _. false) c.in_ok-plain.plain (c.in_ok-plain.ensures ∙ ap light c.side.ensures.value)
+draw_fixed-requires c = square-is (side_of _) (λ _ _. false) c.in_ok-plain.plain (c.in_ok-plain.ensures ∙ ap light c.side.ensures.value)
 
 pub invariant_of-result : goal.invariant_of-result
 invariant_of-result c = record {
