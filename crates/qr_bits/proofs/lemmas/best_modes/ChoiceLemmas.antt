@@ -14,7 +14,6 @@ least_of may cost =
     min (choice_number (may Numeric) (cost Numeric) Numeric)
     (min (choice_number (may Alphanumeric) (cost Alphanumeric) Alphanumeric) (min (choice_number (may Byte) (cost Byte) Byte) (choice_number (may Kanji) (cost Kanji) Kanji)))
 
--- the least number is no more than the number of each mode that may be used
 least_under : (may : Mode → Bool) (cost : Mode → ℕ) (k : Mode) → may k ≡ true → least_of may cost ≤ 4 * cost k + rank k
 least_under may cost k t = grind arith
 
@@ -22,11 +21,9 @@ least_under may cost k t = grind arith
 abbrev IsTaken : (Mode → Bool) → (Mode → ℕ) → ℕ → Type 0
 IsTaken may cost c = (m : Mode) × (may m ≡ true) × (c ≡ 4 * cost m + rank m)
 
--- a number below the limit is that of a mode that may be used
 taken_one : (may : Mode → Bool) (cost : Mode → ℕ) (m : Mode) (t : Bool) → t ≡ may m → choice_number t (cost m) m < 4294967295 → IsTaken may cost (choice_number t (cost m) m)
 taken_one may cost m t e h = grind arith
 
--- the lesser of two numbers is one of them
 taken_min : (may : Mode → Bool) (cost : Mode → ℕ) (a b : ℕ) → (a < 4294967295 → IsTaken may cost a) → (b < 4294967295 → IsTaken may cost b) → min a b < 4294967295 → IsTaken may cost (min a b)
 taken_min may cost a b f g h =
     ⊎_elim
@@ -34,13 +31,11 @@ taken_min may cost a b f g h =
     (λ (l : b ≤ a). let e : min a b ≡ b = omega arith in rw e (g (omega arith)))
     (cases_lt a b)
 
--- the least of the four numbers is that of a mode that may be used, if it is below the limit
 taken_least : (may : Mode → Bool) (cost : Mode → ℕ) → least_of may cost < 4294967295 → IsTaken may cost (least_of may cost)
 taken_least may cost =
     taken_min may cost _ _ (taken_one may cost Numeric _ refl)
     (search (arith, taken_min, taken_one))
 
--- the mode that belongs to a number
 ranked-number : (c b : ℕ) (m : Mode) → c ≡ 4 * b + rank m → ranked (c % 4) ≡ m
 ranked-number c b m e = grind arith
 
@@ -56,8 +51,7 @@ byte_cost_bound v p Kanji = grind arith
 pub byte_used : (r : Rule) → may_use r Byte ≡ true
 byte_used r = grind arith
 
--- there are four modes
-pub rank_below : (m : Mode) → rank m < 4
+rank_below : (m : Mode) → rank m < 4
 rank_below m = grind arith
 
 -- if no half pair is open, the modes that may be used are those that may begin
@@ -71,7 +65,6 @@ pub half_choice : (v : ℕ) (r : Rule) (x : ℕ) (pair : Bool) (cost : RunState 
 unfolding may_take byte_cost state_after
 half_choice v r x pair cost c is = search (arith, ranked-number)
 
--- after a byte in byte mode the state is `InBytes`
 state_after-byte : (p : RunState) → state_after p Byte ≡ InBytes
 unfolding state_after
 state_after-byte _ = refl

@@ -20,8 +20,7 @@ unfolding allowed may_begin may_end state_after
 bytes_rest r test p [] e = e
 bytes_rest r test p (x ∷ xs) e = search (arith, and_from, take_begin, byte_used, bytes_rest r test InBytes xs refl)
 
--- after each mode that may be used, some rest is allowed
-pub rest_after : (r : Rule) (test : ℕ → ℕ → Bool) (p : RunState) (x : ℕ) (xs : List ℕ) (m : Mode) → may_take r p x (begins_with_pair r test (x ∷ xs)) m ≡ true → (ks : List Mode) × IsTrue (allowed r test (state_after p m) xs ks)
+rest_after : (r : Rule) (test : ℕ → ℕ → Bool) (p : RunState) (x : ℕ) (xs : List ℕ) (m : Mode) → may_take r p x (begins_with_pair r test (x ∷ xs)) m ≡ true → (ks : List Mode) × IsTrue (allowed r test (state_after p m) xs ks)
 unfolding may_take may_begin begins_with_pair allowed state_after may_end
 rest_after r test p x xs Numeric h = (replicate (length xs) Byte, bytes_rest r test (state_after p Numeric) xs (may_end-after p Numeric (lit< tt)))
 rest_after r test p x xs Alphanumeric h = (replicate (length xs) Byte, bytes_rest r test (state_after p Alphanumeric) xs (may_end-after p Alphanumeric (lit< tt)))
@@ -67,7 +66,6 @@ zeros p = grind arith
 abbrev pub packed : PerState ℕ → ℕ
 packed n = n.start % 4 + 4 * (n.digit1 % 4 + 4 * (n.digit2 % 4 + 4 * (n.digit3 % 4 + 4 * (n.character1 % 4 + 4 * (n.character2 % 4 + 4 * (n.in_bytes % 4 + 4 * (n.half_pair % 4 + 4 * (n.whole_pair % 4))))))))
 
--- the two bits for a state in a row
 packed-at : (n : PerState ℕ) (p : RunState) → packed n / 2 ^ shift_of p % 4 ≡ in_state n p % 4
 unfolding in_state
 packed-at n p = grind arith

@@ -15,7 +15,6 @@ use Rattle.qr_bits.proofs.lemmas.{stream.WritingLemmas.length-segments_stream, p
 pub length-stream : (v : ℕ) (xs : List ℕ) (segs : List Segment) (h : Option Header) (stream : List Bool) → IsStream v xs segs h stream → length stream ≡ header_bits h + bits v segs
 length-stream v xs segs h stream is = search (arith, length-append, length-header_stream, length-segments_stream)
 
--- the number of pad codewords is n
 length-pads : (n : ℕ) → length (pads n) ≡ n
 unfolding pads
 length-pads zero = refl
@@ -30,13 +29,11 @@ terminator n stream = replicate (min 4 (8 * n - length stream)) false
 abbrev filling : List Bool → List Bool
 filling bits = replicate ((8 - length bits % 8) % 8) false
 
--- the padded stream fills n codewords
 length-padded : (n : ℕ) (stream : List Bool) → length stream ≤ 8 * n → length (padded n stream) ≡ 8 * n
 unfolding padded
 length-padded n stream h =
     grind (arith, length-append, length-replicate, bits_of, length-bits_of, length-pads)
 
--- the stream is followed by an end
 tail_of : (n : ℕ) (stream : List Bool) → length stream ≤ 8 * n → (tail : List Bool) × (padded n stream ≡ stream ++ tail) × (ends tail ≡ true)
 unfolding padded ends
 tail_of n stream h =
@@ -71,7 +68,6 @@ data_found v l xs segs h stream is fits =
     let w = bytes_takes n all (omega arith) in
     grind (arith, drop_all, bits_of, append-nil)
 
--- bytes that have the same bits are equal
 same_bytes : (xs ys : List ℕ) → All (λ b. b < 256) xs → All (λ b. b < 256) ys → bits_of xs ≡ bits_of ys → xs ≡ ys
 same_bytes xs ys a b e =
     let len : length xs ≡ length ys = omega (arith, ap length e, length-bits_of xs, length-bits_of ys) in

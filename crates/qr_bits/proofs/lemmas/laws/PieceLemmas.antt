@@ -41,7 +41,6 @@ behind_ahead v _ (Numeric ∷ ms) = omega arith
 behind_ahead v _ (Alphanumeric ∷ ms) = omega arith
 behind_ahead v p h = grind arith
 
--- without the first mode an assignment takes no more bits
 without_first : (v : ℕ) (m : Mode) (ms : List Mode) → rank m < 3 → cost_of v Start ms ≤ cost_of v Start (m ∷ ms)
 unfolding cost_of byte_cost state_after
 without_first v m [] h = omega arith

@@ -11,7 +11,6 @@ use Rattle.qr_bits.specs.Modes.{characters, is_alphanumeric, is_digit, character
 use Rattle.qr_bits.specs.{Steps.RunState.may_begin, Parsing.character}
 use Rattle.qr_layout.proofs.Facts.{below, below-at}
 
--- if an element of a list passes a test, the position of the first such element is inside the list
 found : (p : ℕ → Bool) (xs : List ℕ) → list_any p xs ≡ true → position_or_len p xs < length xs
 found p xs h =
     ⊎_elim
@@ -43,25 +42,20 @@ pub character_again : (b : ℕ) → is_alphanumeric b ≡ true → character (ch
 unfolding is_alphanumeric character_value character
 character_again b h = eqb-true _ _ (passes_at_first (λ c. c == b) characters 0 (found (λ c. c == b) characters h))
 
--- the character at index n is the character of the value n
 at_place : (n : ℕ) → get_or characters n 0 ≡ character n
 unfolding character
 at_place n = refl
 
--- if a negation holds, its argument is false
 not_true : (b : Bool) → not b ≡ true → b ≡ false
 not_true b h = grind arith
 
--- there are 45 characters
 many : length characters ≡ 45
 unfolding characters
 many = refl
 
--- the test whether a character is at most Z
 low : ℕ → Bool
 low i = nat_le (character i) 90
 
--- each of the 45 characters is at most Z
 all_low : below 45 low ≡ true
 unfolding low character characters
 all_low = refl
@@ -73,20 +67,16 @@ past_z b h =
     list_any_none (λ c. c == b) characters (All-from_get_or (λ x. (x == b) ≡ false) characters 0
     (λ i k. ne_eqb _ _ (λ e. let l = leb-true _ 90 (below-at 45 low all_low i (omega (arith, many))) in absurd (omega arith))))
 
--- the test whether two characters of different values differ
 differs : ℕ → ℕ → Bool
 differs i k = not (character k == character i)
 
--- no two of the 45 characters are equal
 all_differ : below 45 (λ i. below i (differs i)) ≡ true
 unfolding differs character characters
 all_differ = refl
 
--- the test whether a character is a byte
 small : ℕ → Bool
 small i = nat_lt (character i) 256
 
--- each of the 45 characters is a byte
 all_small : below 45 small ≡ true
 unfolding small character characters
 all_small = refl
@@ -104,11 +94,9 @@ character_taken n h =
       ltb-true _ _ (below-at 45 small all_small n h),
     )
 
--- a rule that allows numeric mode allows alphanumeric mode
 text_used : (r : Rule) → may_use r Numeric ≡ true → may_use r Alphanumeric ≡ true
 text_used r h = grind arith
 
--- each digit is one of the 45 characters
 all_digits : below 10 (λ i. is_alphanumeric (48 + i)) ≡ true
 unfolding is_alphanumeric characters
 all_digits = refl

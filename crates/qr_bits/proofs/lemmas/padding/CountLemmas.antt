@@ -16,27 +16,22 @@ use Rattle.qr_bits.proofs.lemmas.segment.CoverLemmas.{CoversBy, covers_suits, co
 abbrev most_data : ℕ → ℕ
 most_data v = cond (leb v 9) 232 (cond (leb v 26) 1370 2956)
 
--- a test of the most data codewords
 t-most : Level → ℕ → Bool
 t-most l i = leb (data_codewords_of (i + 1) l) (most_data (i + 1))
 
--- the test passes at each version and level
 all-most : (l : Level) → below 40 (t-most l) ≡ true
 unfolding t-most data_codewords_of total_codewords_of block_count_of correction_len_of
 all-most l = grind arith
 
--- a symbol has no more data codewords than the most of its group of versions
 data_most : (v : ℕ) (l : Level) → 1 ≤ v → v ≤ 40 → data_codewords_of v l ≤ most_data v
 unfolding t-most
 data_most v l a b =
     let e : v - 1 + 1 ≡ v = omega arith in
     subst (λ (n : ℕ). data_codewords_of n l ≤ most_data n) e (leb-true _ _ (below-at 40 (t-most l) (all-most l) (v - 1) (omega arith)))
 
--- a test of the least data codewords
 t-least : Level → ℕ → Bool
 t-least l i = leb 9 (data_codewords_of (i + 1) l)
 
--- the test passes at each version and level
 all-least : (l : Level) → below 40 (t-least l) ≡ true
 unfolding t-least data_codewords_of total_codewords_of block_count_of correction_len_of
 all-least l = grind arith
@@ -49,7 +44,6 @@ capacity_least v l a b =
     let nine : 9 ≤ data_codewords_of v l = subst (λ (n : ℕ). 9 ≤ data_codewords_of n l) e (leb-true _ _ (below-at 40 (t-least l) (all-least l) (v - 1) (omega arith))) in
     omega arith
 
--- the three groups of versions
 groups : (v : ℕ) (P : Bool → Bool → Type 0) → (v ≤ 9 → P true true) → (9 < v → v ≤ 26 → P false true) → (26 < v → P false false) → P (leb v 9) (leb v 26)
 groups v P small medium large = search (arith, le-leb, lt-leb)
 
@@ -57,7 +51,6 @@ groups v P small medium large = search (arith, le-leb, lt-leb)
 pub capacity_most : (v : ℕ) (l : Level) → 1 ≤ v → v ≤ 40 → capacity_of v l ≤ 23648
 capacity_most v l a b = search (arith, groups, data_most)
 
--- if the bits of a segment fit, its count fits
 count_fits : (v n : ℕ) (m : Mode) → segment_bits v (record { mode = m; len = n }) ≤ 8 * most_data v → character_count m n < 2 ^ count_width v m
 count_fits v n m h = grind arith
 
@@ -67,11 +60,9 @@ unfolding CountsFit
 counts_fit v l [] a b h = tt
 counts_fit v l (s ∷ ss) a b h = search (arith, count_fits, data_most, counts_fit v l ss a b (omega arith))
 
--- from version 27 on, the indicator and the count of a segment have at least 16 bits
 head_least : (v : ℕ) (m : Mode) → 26 < v → 12 ≤ count_width v m
 head_least v m h = grind arith
 
--- bytes whose segments have at most 23,648 bits are at most 7,089 bytes
 short_large : (v : ℕ) (xs : List ℕ) (segs : List Segment) → 26 < v → CoversBy is_kanji_pair xs segs → bits v segs ≤ 23648 → length xs ≤ 7089
 unfolding CoversBy
 short_large v xs [] h c few = omega (arith, ap length c)
@@ -83,7 +74,6 @@ pub fitting_short : (v : ℕ) (l : Level) (r : Rule) (xs : List ℕ) → 1 ≤ v
 fitting_short v l r xs a b fit =
     search (arith, data_most, groups, bits_least, covers_suits, short_large, covers_by, capacity_most)
 
--- An input that fits a symbol has at most three bytes for each ten bits.
 fitting_few : (v : ℕ) (l : Level) (r : Rule) (xs : List ℕ) → 1 ≤ v → v ≤ 40 → HasFit v r xs (capacity_of v l) → 10 * length xs ≤ 24 * most_data v
 fitting_few v l r xs a b fit = search (arith, data_most, bits_least, covers_suits)
 

@@ -8,8 +8,7 @@ use Rattle.qr_bits.specs.Stream.{IsStream}
 use Rattle.qr_bits.specs.Padding.{capacity_of, filled, pads, padded, IsData}
 use Rattle.qr_bits.proofs.lemmas.bits.BitLemmas.{length-field, length-bits_of, bits_of-append, field-zero}
 
--- one more pad codeword
-pub pads-push : (n : ℕ) → pads (n + 1) ≡ pads n ++ cond (n % 2 == 0) 0xEC 0x11 ∷ []
+pads-push : (n : ℕ) → pads (n + 1) ≡ pads n ++ cond (n % 2 == 0) 0xEC 0x11 ∷ []
 unfolding pads
 pads-push zero = refl
 pads-push (suc zero) = refl

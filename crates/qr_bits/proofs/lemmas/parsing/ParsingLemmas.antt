@@ -16,12 +16,10 @@ bind_ok r f y h = grind arith
 pub guard_ok : {A : Type 0} (b : Bool) (e : ParseFault) (r : Result A ParseFault) (y : A) → cond b (Err e) r ≡ Ok y → (b ≡ false) × (r ≡ Ok y)
 guard_ok b e r y h = grind arith
 
--- reading a number leaves no more bits than before
 number_shorter : (w : ℕ) (bits : List Bool) (n : ℕ × List Bool) → leading_number w bits ≡ Ok n → length n.1 ≤ length bits
 unfolding leading_number
 number_shorter w bits n h = search (arith, guard_ok, length-drop)
 
--- reading data leaves no more bits than before
 payload_shorter : (m : Mode) (n : ℕ) (bits : List Bool) (p : List ℕ × List Bool) → payload_at m n bits ≡ Ok p → length p.1 ≤ length bits
 unfolding payload_at
 payload_shorter m n bits p h = search (arith, guard_ok, bind_ok, length-drop)
@@ -64,13 +62,11 @@ ended_empty bits h = search (arith, or_left, lt-ltb)
 abbrev pub step : Result (Segment × List ℕ × List Bool) ParseFault → (List Bool → Result (List Segment × List ℕ) ParseFault) → Result (List Segment × List ℕ) ParseFault
 step read next = read >>= λ s. next s.2 >>= λ r. Ok (s.0 ∷ r.0, s.1 ++ r.1)
 
--- the bound on the number of segments of the rest may be another one
 same_rest : (read : Result (Segment × List ℕ × List Bool) ParseFault) (n m v : ℕ)
     → ((s : Segment × List ℕ × List Bool) → read ≡ Ok s → segments_at n v s.2 ≡ segments_at m v s.2)
     → step read (segments_at n v) ≡ step read (segments_at m v)
 same_rest read n m v h = grind arith
 
--- the bound makes no difference if it is at least the number of bits
 enough : (n m v : ℕ) (bits : List Bool) → length bits ≤ n → length bits ≤ m → segments_at n v bits ≡ segments_at m v bits
 unfolding segments_at
 enough zero zero v bits h k = refl
@@ -103,8 +99,7 @@ pub behind_more : (v : ℕ) (bits rest : List Bool) (segs : List Segment) (xs ys
     → behind segs xs (segments_of v bits) ≡ behind (segs ++ s ∷ []) (xs ++ ys) (segments_of v rest)
 behind_more v bits rest segs xs ys s e h = rw (segments_step v bits e, h) (grind (arith, append_assoc))
 
--- a fault of the next segment is the fault of the rest
-pub behind_fault : (v : ℕ) (bits : List Bool) (segs : List Segment) (xs : List ℕ) (f : ParseFault) → ends bits ≡ false → segment_at v bits ≡ Err f
+behind_fault : (v : ℕ) (bits : List Bool) (segs : List Segment) (xs : List ℕ) (f : ParseFault) → ends bits ≡ false → segment_at v bits ≡ Err f
     → behind segs xs (segments_of v bits) ≡ Err f
 behind_fault v bits segs xs f e h = rw (segments_step v bits e, h) refl
 

@@ -17,8 +17,6 @@ value_take_below w bs = search (arith, length-take, value_below, pow-le-pow_righ
 abbrev pub prepend_read : List ℕ → Result (List ℕ) ParseFault → Result (List ℕ) ParseFault
 prepend_read prefix read = read >>= λ xs. Ok (prefix ++ xs)
 
--- ---- digits
-
 -- three digits less have ten bits less
 pub payload_less : (n : ℕ) → 3 ≤ n → payload_bits Numeric n ≡ 10 + payload_bits Numeric (n - 3)
 payload_less n h = search (arith, three_more)
@@ -30,8 +28,6 @@ unfolding digits_of
 digits_step (suc (suc (suc n))) bits h = search arith
 digits_step _ bits h = absurd (omega arith)
 
--- ---- characters
-
 -- two characters less have eleven bits less
 pub payload_two_less : (n : ℕ) → 2 ≤ n → payload_bits Alphanumeric n ≡ 11 + payload_bits Alphanumeric (n - 2)
 payload_two_less n h = omega (arith, two_more)
@@ -42,8 +38,6 @@ pub characters_step : (n : ℕ) (bits : List Bool) → 2 ≤ n → characters_of
 unfolding characters_of
 characters_step (suc (suc n)) bits h = search arith
 characters_step _ bits h = absurd (omega arith)
-
--- ---- bytes
 
 -- a byte, and the bytes after it
 pub bytes_more : (prefix : List ℕ) (n : ℕ) (bits : List Bool) → 0 < n → prefix ++ bytes_of n bits ≡ (prefix ++ value (take 8 bits) ∷ []) ++ bytes_of (n - 1) (drop 8 bits)

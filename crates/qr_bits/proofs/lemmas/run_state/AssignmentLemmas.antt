@@ -31,8 +31,6 @@ unfolding runs_of
 Positive-runs_of [] = tt
 Positive-runs_of (m ∷ ms) = Positive-prepend_mode m (runs_of ms) (Positive-runs_of ms)
 
--- ---- one byte in a mode other than kanji mode
-
 add_one : (test : ℕ → ℕ → Bool) (m : Mode) (x : ℕ) (xs : List ℕ) (segs : List Segment) → rank m < 3 → suits_by test m (x ∷ []) ≡ true → CoversBy test xs segs → CoversBy test (x ∷ xs) (prepend_mode m segs)
 unfolding CoversBy
 add_one test m x xs segs k h c = grind arith
@@ -40,8 +38,6 @@ add_one test m x xs segs k h c = grind arith
 drop_one : (test : ℕ → ℕ → Bool) (m : Mode) (x : ℕ) (xs : List ℕ) (segs : List Segment) → rank m < 3 → Positive segs → CoversBy test (x ∷ xs) (prepend_mode m segs) → (suits_by test m (x ∷ []) ≡ true) × CoversBy test xs segs
 unfolding CoversBy
 drop_one test m x xs segs k p c = grind arith
-
--- ---- two bytes in kanji mode
 
 drop_pair : (test : ℕ → ℕ → Bool) (x y : ℕ) (xs : List ℕ) (segs : List Segment) → Positive segs → CoversBy test (x ∷ y ∷ xs) (prepend_mode Kanji (prepend_mode Kanji segs)) → (test x y ≡ true) × CoversBy test xs segs
 unfolding CoversBy
@@ -55,7 +51,6 @@ drop_pair test x y xs (s ∷ ss) p c =
     (λ e c. ((and_parts (test x y) true c.2).0, c.3))
     c
 
--- a single byte in kanji mode before another mode is not valid
 half : (test : ℕ → ℕ → Bool) (m : Mode) (x : ℕ) (xs : List ℕ) (segs : List Segment) → rank m < 3 → CoversBy test (x ∷ xs) (prepend_mode Kanji (prepend_mode m segs)) → ⊥
 unfolding CoversBy
 half test m x xs segs k c = grind arith
@@ -63,8 +58,6 @@ half test m x xs segs k c = grind arith
 alone : (test : ℕ → ℕ → Bool) (x : ℕ) (segs : List Segment) → Positive segs → CoversBy test (x ∷ []) (prepend_mode Kanji segs) → ⊥
 unfolding CoversBy
 alone test x segs p c = grind arith
-
--- ---- valid assignments are allowed, and allowed ones are valid
 
 pub may_end-after : (p : RunState) (m : Mode) → rank m < 3 → may_end (state_after p m) ≡ true
 unfolding may_end state_after

@@ -14,15 +14,12 @@ use Rattle.qr_bits.specs.Stream.{Suits}
 pub count_width_bound : (v : ℕ) (m : Mode) → count_width v m ≤ 16
 count_width_bound v m = grind arith
 
--- left-over digits need at most 7 bits
 left_over : (n : ℕ) → cond (n % 3 == 0) 0 (cond (n % 3 == 1) 4 7) ≤ 7
 left_over n = grind arith
 
--- three digits have at least ten bits
 digits_least : (n : ℕ) → 10 * n ≤ 3 * payload_bits Numeric n
 digits_least n = search (arith, cond_both, eqb-true)
 
--- a segment that is not empty has at most 35 bits for each byte
 segment_most : (v : ℕ) (s : Segment) → 0 < s.len → segment_bits v s ≤ 35 * s.len
 segment_most v s h = grind (arith, count_width_bound)
 
@@ -36,7 +33,6 @@ bits_most v [] h = omega arith
 bits_most v (s ∷ ss) h =
     omega (arith, segment_most v s (All-head (λ (t : Segment). 0 < t.len) s ss h), bits_most v ss (All-tail (λ (t : Segment). 0 < t.len) s ss h), sum_by-cons (λ (t : Segment). t.len) s ss)
 
--- the lengths of segments that suit the bytes add up to the number of bytes
 suits_length : (xs : List ℕ) (segs : List Segment) → Suits xs segs → sum_by (λ s. s.len) segs ≡ length xs
 unfolding Suits
 suits_length xs [] h = ap length (sym h)
@@ -84,7 +80,6 @@ pub least_fits : (v : ℕ) (r : Rule) (xs : List ℕ) (segs : List Segment) → 
     → Covers xs segs × ((n : ℕ) → HasFit v r xs n ↔ (bits v segs ≤ n))
 least_fits v r xs segs h = search arith
 
--- Assignments are equal if neither comes after the other.
 best-one : (ms ks : List Mode) → IsNotAfter ms ks → IsNotAfter ks ms → ms ≡ ks
 best-one [] [] a b = refl
 best-one [] (k ∷ ks) a b = absurd b

@@ -11,7 +11,6 @@ use denote.Enum.Bare.{sameb}
 use Rattle.std.specs.List.{list_all, sum_by}
 use Rattle.qr_bits.proofs.lemmas.run_state.BestLemmas.{same_rank}
 
--- one mode added before segments and another added after them, in either order
 both_ends : (k : Mode) (segs : List Segment) (m : Mode) → prepend_mode k (append_mode segs m) ≡ append_mode (prepend_mode k segs) m
 unfolding append_mode
 both_ends k segs m = grind arith
@@ -39,7 +38,6 @@ pub run_other : (segs : List Segment) (k m : Mode) (n : ℕ) → (n ≡ 0 → se
 unfolding append_mode
 run_other segs k m n none other = grind (arith, append_mode-last, ne_eqb, same_rank, append_assoc)
 
--- one more mode before segments makes them longer by 1
 sum_by-prepend_mode : (m : Mode) (segs : List Segment) → sum_by (λ s. s.len) (prepend_mode m segs) ≡ 1 + sum_by (λ s. s.len) segs
 sum_by-prepend_mode m [] = refl
 sum_by-prepend_mode m (s ∷ ss) =

@@ -8,18 +8,15 @@ use Rattle.qr_bits.specs.{Modes.may_use, Modes.count_width, Steps.Segmentation.o
 use Rattle.qr_bits.proofs.lemmas.segment.{CoverLemmas.one_covers, SegmentLemmas.covers_all, SegmentLemmas.least_fits}
 use Rattle.qr_bits.proofs.lemmas.segmentation.BackLemmas.{sum_by-runs_of, runs_of-replicate, all_used}
 
--- the only mode that the rule allows is byte mode
 only_bytes : (ks : List Mode) → list_all (may_use BytesOnly) ks ≡ true → ks ≡ replicate (length ks) Byte
 only_bytes [] u = refl
 only_bytes (Byte ∷ ks) u = cc (only_bytes ks u)
 only_bytes (_ ∷ ks) u = cc
 
--- a list of modes is not after itself
 not_after_self : (ms : List Mode) → IsNotAfter ms ms
 not_after_self [] = tt
 not_after_self (m ∷ ms) = inr (refl, not_after_self ms)
 
--- each valid assignment by this rule is byte mode for each byte
 one_assignment : (xs : List ℕ) (ks : List Mode) → IsAssignment BytesOnly xs ks → ks ≡ replicate (length xs) Byte
 one_assignment xs ks h = search (arith, only_bytes, covers_all, sum_by-runs_of)
 
@@ -35,7 +32,6 @@ bytes_least v xs = (
   sym (runs_of-replicate Byte (length xs)),
 )
 
--- the one segment of n bytes has at most this number of bits
 bits-most : (v n : ℕ) → bits v (one_segment Byte n) ≤ 4 + count_width v Byte + 8 * n
 bits-most v n = grind arith
 
