@@ -42,10 +42,7 @@ ranked-number c b m e = grind arith
 -- a byte adds at most 33 bits
 pub byte_cost_bound : (v : ℕ) (p : RunState) (m : Mode) → byte_cost v p m ≤ 33
 unfolding byte_cost
-byte_cost_bound v p Numeric = grind arith
-byte_cost_bound v p Alphanumeric = grind arith
-byte_cost_bound v p Byte = grind arith
-byte_cost_bound v p Kanji = grind arith
+byte_cost_bound v p m = grind arith
 
 -- each rule allows byte mode
 pub byte_used : (r : Rule) → may_use r Byte ≡ true
@@ -97,7 +94,4 @@ state_after-whole p e = grind arith
 -- the state after one more byte in the mode of the last one
 pub on_after : (p : RunState) (m : Mode) → state_on (state_after p m) ≡ state_after (state_after p m) m
 unfolding state_on state_after
-on_after p Numeric = grind arith
-on_after p Alphanumeric = grind arith
-on_after _ Byte = refl
-on_after p Kanji = grind arith
+on_after p m = grind arith

@@ -25,11 +25,7 @@ pub length-folded_around_pairs : (xs : List ℕ) → length (folded_around_pairs
 unfolding folded_around_pairs
 length-folded_around_pairs [] = refl
 length-folded_around_pairs (x ∷ []) = refl
-length-folded_around_pairs (x ∷ y ∷ xs) =
-    ⊎_elim
-    (search (arith, length-folded_around_pairs xs))
-    (λ (f : is_kanji_pair x y ≡ false). rw f (ap suc (length-folded_around_pairs (y ∷ xs))))
-    (cases_Bool (is_kanji_pair x y))
+length-folded_around_pairs (x ∷ y ∷ xs) = grind (arith, length-folded_around_pairs xs, length-folded_around_pairs (y ∷ xs))
 
 -- folding keeps the number of bytes
 pub length-folded : (r : Rule) (xs : List ℕ) → length (folded r xs) ≡ length xs

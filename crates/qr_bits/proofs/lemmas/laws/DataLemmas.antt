@@ -71,7 +71,7 @@ data_found v l xs segs h stream is fits =
 same_bytes : (xs ys : List ℕ) → All (λ b. b < 256) xs → All (λ b. b < 256) ys → bits_of xs ≡ bits_of ys → xs ≡ ys
 same_bytes xs ys a b e =
     let len : length xs ≡ length ys = omega (arith, ap length e, length-bits_of xs, length-bits_of ys) in
-    sym (bytes_again xs [] a) ∙ ap (λ (t : List Bool). bytes_of (length xs) (t ++ [])) e ∙ ap (λ (k : ℕ). bytes_of k (bits_of ys ++ [])) len ∙ bytes_again ys [] b
+    cc (bytes_again xs [] a, bytes_again ys [] b)
 
 -- There is only one list of data codewords.
 pub data_one : (v : ℕ) (l : Level) (xs : List ℕ) (segs : List Segment) (h : Option Header) (cw dw : List ℕ) → IsData v l xs segs h cw → IsData v l xs segs h dw → cw ≡ dw

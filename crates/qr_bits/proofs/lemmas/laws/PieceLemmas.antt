@@ -32,22 +32,12 @@ lag _ = 0
 behind_ahead : (v : ℕ) (p : RunState) (ms : List Mode) → cost_of v p ms ≤ cost_of v (ahead p) ms + lag p
 unfolding cost_of byte_cost state_after
 behind_ahead v p [] = omega arith
-behind_ahead v Digit1 (Numeric ∷ ms) = omega (arith, behind_ahead v Digit2 ms)
-behind_ahead v Digit2 (Numeric ∷ ms) = omega (arith, behind_ahead v Digit3 ms)
-behind_ahead v Digit3 (Numeric ∷ ms) = omega (arith, behind_ahead v Digit1 ms)
-behind_ahead v Character1 (Alphanumeric ∷ ms) = omega (arith, behind_ahead v Character2 ms)
-behind_ahead v Character2 (Alphanumeric ∷ ms) = omega (arith, behind_ahead v Character1 ms)
-behind_ahead v _ (Numeric ∷ ms) = omega arith
-behind_ahead v _ (Alphanumeric ∷ ms) = omega arith
-behind_ahead v p h = grind arith
+behind_ahead v p (m ∷ ms) = grind (arith, behind_ahead v (state_after p m) ms)
 
 without_first : (v : ℕ) (m : Mode) (ms : List Mode) → rank m < 3 → cost_of v Start ms ≤ cost_of v Start (m ∷ ms)
 unfolding cost_of byte_cost state_after
 without_first v m [] h = omega arith
-without_first v Numeric (Numeric ∷ ms) h = omega (arith, behind_ahead v Digit1 ms)
-without_first v Alphanumeric (Alphanumeric ∷ ms) h = omega (arith, behind_ahead v Character1 ms)
-without_first v Kanji (k ∷ ms) h = absurd (omega arith)
-without_first v _ k h = grind arith
+without_first v m (k ∷ ms) h = grind (arith, behind_ahead v Digit1 ms, behind_ahead v Character1 ms)
 
 -- the rule does not allow kanji mode
 abbrev pub IsPlain : Rule → Type 0

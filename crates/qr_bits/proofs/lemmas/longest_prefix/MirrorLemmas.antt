@@ -1,6 +1,7 @@
 -- Bytes in reverse order: their valid assignments are those of the bytes, reversed, with equally many bits. The two bytes of
 -- each kanji pair are exchanged.
 use Rattle.std.proofs.Common.{◌≡◌, ℕ, ◌+◌, ◌-◌, ◌≤◌, ◌<◌, Bool, true, false, ◌==◌, ◌&&◌, List, [], ◌∷◌, ◌++◌, reverse, length, take, drop, get_or, refl, sym, ◌∙◌, ap, arith, subst}
+use Rattle.std.proofs.lemmas.Bool.Decides.{nat_tests}
 use Rattle.std.proofs.lemmas.Bool.{cond_both, and_parts, and_from, false≢true, eqb-true, eq-eqb, ne_eqb}
 use Rattle.std.proofs.lemmas.List.{reverse-append, reverse-reverse, take_more, take_all, drop_all, take-append-le, drop-append-le, take-append-drop, length-append, length-take-le, length-reverse, get_or-reverse}
 use Rattle.std.proofs.lemmas.List.Folds.{list_all-append}
@@ -57,16 +58,7 @@ prepend_mode-reverse : (m : Mode) (ss : List Segment) → append_mode (reverse s
 unfolding append_mode
 prepend_mode-reverse m [] = refl
 prepend_mode-reverse m (s ∷ ss) =
-    rw (reverse-append (s ∷ []) ss, append_mode-last (reverse ss) s m)
-    (cond_both (rank m == rank s.mode) _ _ (λ (r : List Segment). reverse ss ++ append_mode (s ∷ []) m ≡ reverse r)
-    (λ e.
-    let same = same_rank m s.mode (eqb-true _ _ e) in
-    let t : (rank s.mode == rank m) ≡ true = eq-eqb _ _ (sym (eqb-true _ _ e)) in
-    let n : s.len + 1 ≡ 1 + s.len = omega arith in
-    cc (reverse-append (record { mode = m; len = 1 + s.len } ∷ []) ss))
-    (λ e.
-    let t : (rank s.mode == rank m) ≡ false = ne_eqb _ _ (λ q. false≢true (sym e ∙ eq-eqb _ _ (sym q))) in
-    rw t (sym (reverse-append (record { mode = m; len = 1 } ∷ s ∷ []) ss))))
+    rw (reverse-append (s ∷ []) ss, append_mode-last (reverse ss) s m) (grind (arith, nat_tests, same_rank, reverse-append (record { mode = m; len = 1 + s.len } ∷ []) ss, reverse-append (record { mode = m; len = 1 } ∷ s ∷ []) ss))
 
 runs_of-reverse : (ms : List Mode) → runs_of (reverse ms) ≡ reverse (runs_of ms)
 unfolding runs_of
@@ -116,16 +108,10 @@ begins_at r test xs h = grind arith
 pub ends_at : (r : Rule) (xs : List ℕ) → 2 ≤ length xs → begins_with_pair r (swapped is_kanji_pair) (reverse xs) ≡ (may_use r Kanji && is_kanji_pair (get_or xs (length xs - 2) 0) (get_or xs (length xs - 1) 0))
 ends_at r xs h = search (arith, begins_at, length-reverse, get_or-reverse)
 
-begins_short : (r : Rule) (test : ℕ → ℕ → Bool) (xs : List ℕ) → length xs < 2 → begins_with_pair r test xs ≡ false
-unfolding begins_with_pair
-begins_short r test xs h = grind arith
-
 -- fewer than two bytes do not end in two
 pub ends_short : (r : Rule) (xs : List ℕ) → length xs < 2 → begins_with_pair r (swapped is_kanji_pair) (reverse xs) ≡ false
-ends_short r xs h = search (arith, begins_short, length-reverse)
-
-prefix_next : (xs : List ℕ) (i : ℕ) → i < length xs → reverse (take (i + 1) xs) ≡ get_or xs i 0 ∷ reverse (take i xs)
-prefix_next xs i h = ap reverse (take_more xs i 0 h) ∙ reverse-append (take i xs) (get_or xs i 0 ∷ [])
+unfolding begins_with_pair
+ends_short r xs h = grind (arith, length-reverse)
 
 -- the table for a reversed prefix with one more byte
 pub prefix_more : (v : ℕ) (r : Rule) (xs : List ℕ) (i : ℕ) (pair : Bool) (rows : List ℕ) (row : ℕ) (rest numbers : PerState ℕ) → i < length xs
@@ -135,6 +121,6 @@ pub prefix_more : (v : ℕ) (r : Rule) (xs : List ℕ) (i : ℕ) (pair : Bool) (
     → BestBelow v r (swapped is_kanji_pair) (reverse (take (i + 1) xs)) (λ p. follow p (row ∷ rows)) (bits_at numbers)
 prefix_more v r xs i pair rows row rest numbers h e below choice =
     let x = get_or xs i 0 in
-    let next = prefix_next xs i h in
+    let next : reverse (take (i + 1) xs) ≡ x ∷ reverse (take i xs) = cc (take_more xs i 0 h, reverse-append (take i xs) (x ∷ [])) in
     let flag : pair ≡ begins_with_pair r (swapped is_kanji_pair) (x ∷ reverse (take i xs)) = e ∙ ap (begins_with_pair r (swapped is_kanji_pair)) next in
     rw next (best_more v r (swapped is_kanji_pair) x (reverse (take i xs)) rows row rest numbers below (subst (λ (b : Bool). IsRow v r x b rest row numbers) flag choice))

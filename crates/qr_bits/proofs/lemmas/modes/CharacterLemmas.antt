@@ -29,25 +29,10 @@ pub character_place : (b : ℕ) → is_alphanumeric b ≡ true → position (λ 
 unfolding is_alphanumeric character_value
 character_place b h = rw (lt-ltb _ _ (found (λ c. c == b) characters h)) refl
 
--- an option that contains a number
-abbrev pub some : ℕ → Option ℕ
-some n = Some n
-
--- options that are equal contain equal numbers
-pub same_some : (a b : ℕ) → some a ≡ some b → a ≡ b
-same_some a b h = cc
-
 -- a character is the character of its value
 pub character_again : (b : ℕ) → is_alphanumeric b ≡ true → character (character_value b) ≡ b
 unfolding is_alphanumeric character_value character
 character_again b h = eqb-true _ _ (passes_at_first (λ c. c == b) characters 0 (found (λ c. c == b) characters h))
-
-at_place : (n : ℕ) → get_or characters n 0 ≡ character n
-unfolding character
-at_place n = refl
-
-not_true : (b : Bool) → not b ≡ true → b ≡ false
-not_true b h = grind arith
 
 many : length characters ≡ 45
 unfolding characters
@@ -74,24 +59,17 @@ all_differ : below 45 (λ i. below i (differs i)) ≡ true
 unfolding differs character characters
 all_differ = refl
 
-small : ℕ → Bool
-small i = nat_lt (character i) 256
-
-all_small : below 45 small ≡ true
-unfolding small character characters
-all_small = refl
-
 -- the value of the character n is n
 pub character_taken : (n : ℕ) → n < 45 → (is_alphanumeric (character n) ≡ true) × (character_value (character n) ≡ n) × (character n < 256)
-unfolding is_alphanumeric character_value differs small character
+unfolding is_alphanumeric character_value differs low character
 character_taken n h =
-    let here : (get_or characters n 0 == character n) ≡ true = eq-eqb _ _ (at_place n) in
+    let here : (get_or characters n 0 == character n) ≡ true = eq-eqb (character n) _ refl in
     let inside : n < length characters = omega (arith, many) in (
       list_any_at (λ c. c == character n) characters n 0 inside here,
       position_or_len_is (λ c. c == character n) characters n 0 (omega arith)
-          (λ k l. not_true _ (rw (at_place k) at (below-at n (differs n) (below-at 45 (λ i. below i (differs i)) all_differ n h) k l)))
+          (λ k l. let d = below-at n (differs n) (below-at 45 (λ i. below i (differs i)) all_differ n h) k l in grind arith)
           (λ _. here),
-      ltb-true _ _ (below-at 45 small all_small n h),
+      omega (arith, leb-true _ 90 (below-at 45 low all_low n h)),
     )
 
 text_used : (r : Rule) → may_use r Numeric ≡ true → may_use r Alphanumeric ≡ true

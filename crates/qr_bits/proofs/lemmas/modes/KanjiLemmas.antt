@@ -12,35 +12,16 @@ use Rattle.qr_bits.specs.Parsing.{◌>>=◌, kanji_pair, pairs_of}
 use Rattle.qr_bits.proofs.lemmas.parsing.{ParsingLemmas.bind_ok, ParsingLemmas.same_ok, PayloadLemmas.value_take_below}
 use Rattle.qr_bits.proofs.lemmas.stream.StreamLemmas.{IsWritten, more_written, drop-field, read_field, chosen_ok}
 
--- a kanji pair is not below the first range
-pub least_first : (a b : ℕ) → is_kanji_pair a b ≡ true → 0x8140 ≤ 256 * a + b
+-- a kanji pair is not below the first range, and above it is in the second
+pub least_pair : (a b : ℕ) → is_kanji_pair a b ≡ true → (0x8140 ≤ 256 * a + b) × (0x9FFC < 256 * a + b → 0xE040 ≤ 256 * a + b)
 unfolding is_kanji_pair
-least_first a b h = grind (arith, nat_tests)
+least_pair a b h = grind (arith, nat_tests)
 
--- a kanji pair above the first range is in the second
-pub least_second : (a b : ℕ) → is_kanji_pair a b ≡ true → 0x9FFC < 256 * a + b → 0xE040 ≤ 256 * a + b
-unfolding is_kanji_pair
-least_second a b h m = grind (arith, nat_tests)
-
--- the facts of the value of a kanji pair that reading needs
-pub record IsValue (a b n : ℕ) : Type 0 where
-  pub small : n < 8192
-  pub low : n % 0xC0 ≤ 0xBC
-  pub again : kanji_pair n ≡ 256 * a + b
-  pub high_again : kanji_pair n / 256 ≡ a
-  pub low_again : kanji_pair n % 256 ≡ b
-
-value_again : (a b : ℕ) → is_kanji_pair a b ≡ true → IsValue a b (kanji_value a b)
+value_again : (a b : ℕ) → is_kanji_pair a b ≡ true → let n = kanji_value a b in (n < 8192) × (n % 0xC0 ≤ 0xBC) × (kanji_pair n / 256 ≡ a) × (kanji_pair n % 256 ≡ b)
 unfolding is_kanji_pair kanji_value kanji_pair
 value_again a b h = grind (arith, nat_tests)
 
--- the facts of the pair of a value that writing needs
-pub record IsPair (n p : ℕ) : Type 0 where
-  pub high : p / 256 < 256
-  pub is_pair : is_kanji_pair (p / 256) (p % 256) ≡ true
-  pub again : kanji_value (p / 256) (p % 256) ≡ n
-
-pair_again : (n : ℕ) → n < 8192 → n % 0xC0 ≤ 0xBC → IsPair n (kanji_pair n)
+pair_again : (n : ℕ) → n < 8192 → n % 0xC0 ≤ 0xBC → let p = kanji_pair n in (p / 256 < 256) × (is_kanji_pair (p / 256) (p % 256) ≡ true) × (kanji_value (p / 256) (p % 256) ≡ n)
 unfolding is_kanji_pair kanji_value kanji_pair
 pair_again n s m = grind (arith, nat_tests)
 
@@ -54,7 +35,7 @@ pairs_again (a ∷ b ∷ xs) rest h =
     let v = value_again a b p.0 in
     let n = kanji_value a b in
     let more : suc (suc (length xs)) / 2 ≡ suc (length xs / 2) = omega arith in
-    let r = read_field 13 n (kanji_bits xs ++ rest) v.small in
+    let r = read_field 13 n (kanji_bits xs ++ rest) v.0 in
     let d = drop-field 13 n (kanji_bits xs ++ rest) in
     search (arith, append_assoc, le-leb, pairs_again xs rest p.1)
 
@@ -75,7 +56,7 @@ pairs_takes (suc n) xs bits h e =
       long = omega (arith, w.long);
       bytes = search (arith, All-cons);
       suited = search (arith, and_from);
-      whole = rw (is.again, more) whole;
+      whole = rw (is.2, more) whole;
     })
 
 -- a kanji pair, and the pairs after it

@@ -12,7 +12,7 @@ use Rattle.qr_bits.specs.Header.{header_indicator, header_stream, HeaderFits}
 use Rattle.qr_bits.specs.Stream.{payload, segment_stream, segments_stream, Suits, CountsFit, IsStream}
 use Rattle.qr_bits.specs.Parsing.{◌>>=◌, values_of, mode_of, ends, leading_number, payload_at, segment_at, segments_at, segments_of, begins_header, header_at, first_header, Content, parse}
 use Rattle.qr_bits.proofs.lemmas.{bits.BitLemmas.length-field, parsing.PayloadLemmas.value_take_below}
-use Rattle.qr_bits.proofs.lemmas.parsing.ParsingLemmas.{bind_ok, bind_all, guard_ok, same_ok, not_ended, ended_empty, segment_shorter, segments_end, segments_step, header_whole}
+use Rattle.qr_bits.proofs.lemmas.parsing.ParsingLemmas.{bind_ok, guard_ok, same_ok, not_ended, ended_empty, segment_shorter, segments_end, segments_step, header_whole}
 use Rattle.qr_bits.proofs.lemmas.stream.StreamLemmas.{IsWritten, drop-field, read_field, field_read}
 use Rattle.qr_bits.proofs.lemmas.parsing.ValueLemmas.{values_again, values_takes}
 use Rattle.qr_bits.proofs.lemmas.stream.WritingLemmas.{in_twos-even, length-payload}
@@ -88,11 +88,11 @@ segment_from v m bits n p four e number said =
 segment_takes : (v : ℕ) (bits : List Bool) (s : Segment × List ℕ × List Bool) → 4 ≤ length bits → segment_at v bits ≡ Ok s → IsSegment v bits s.0 s.1 s.2
 unfolding segment_at segment_stream
 segment_takes v bits s four h =
-    let P : Segment × List ℕ × List Bool → Type 0 = λ t. IsSegment v bits t.0 t.1 t.2 in
-    bind_all (mode_of (value (take 4 bits))) _ P (λ m em t ht.
-    bind_all (leading_number (count_width v m) (drop 4 bits)) _ P (λ n en t ht.
-    bind_all (payload_at m n.0 n.1) _ P (λ p ep t ht.
-    subst P (same_ok (record { mode = m; len = byte_count m n.0 }, p.0, p.1) t ht) (search (arith, segment_from, mode_takes, number_takes, payload_takes))) t ht) t ht) s h
+    let m = bind_ok (mode_of (value (take 4 bits))) _ s h in
+    let n = bind_ok (leading_number (count_width v m.0) (drop 4 bits)) _ s m.2 in
+    let p = bind_ok (payload_at m.0 n.0.0 n.0.1) _ s n.2 in
+    subst (λ (t : Segment × List ℕ × List Bool). IsSegment v bits t.0 t.1 t.2) (same_ok _ _ p.2)
+    (segment_from v m.0 bits n.0 p.0 four (mode_takes _ _ m.1) (number_takes _ _ _ n.1) (payload_takes _ _ _ _ p.1))
 
 opens : (v : ℕ) (m : Mode) (xs : List ℕ) (rest : List Bool) → ends (segment_stream v m xs ++ rest) ≡ false
 unfolding ends
@@ -142,15 +142,15 @@ segments_takes : (n v : ℕ) (bits : List Bool) (r : List Segment × List ℕ) �
 unfolding segments_at
 segments_takes zero v bits r few h = search (arith, same_ok, segments_none, ended_empty)
 segments_takes (suc n) v bits r few h =
-    let P : List Segment × List ℕ → Type 0 = λ t. IsSegments v bits t.0 t.1 in
     ⊎_elim
     (search (arith, same_ok, segments_none))
     (λ (e : ends bits ≡ false).
     let four = not_ended bits e in
-    bind_all (segment_at v bits) _ P (λ s es t ht.
-    bind_all (segments_at n v s.2) _ P (λ q eq t ht.
-    subst P (same_ok (s.0 ∷ q.0, s.1 ++ q.1) t ht)
-    (segments_more v bits s.2 s.0 q.0 s.1 q.1 (segment_takes v bits s four es) (segments_takes n v s.2 q (omega (arith, segment_shorter v bits s four es)) eq))) t ht) r (rw e at h))
+    let s = bind_ok (segment_at v bits) _ r (rw e at h) in
+    let q = bind_ok (segments_at n v s.0.2) _ r s.2 in
+    let less = segment_shorter v bits s.0 four s.1 in
+    subst (λ (t : List Segment × List ℕ). IsSegments v bits t.0 t.1) (same_ok _ _ q.2)
+    (segments_more v bits s.0.2 s.0.0 q.0.0 s.0.1 q.0.1 (segment_takes v bits s.0 four s.1) (segments_takes n v s.0.2 q.0 (omega arith) q.1)))
     (cases_Bool (ends bits))
 
 starts : (rest : List Bool) → begins_header (field 4 header_indicator ++ rest) ≡ true
@@ -220,12 +220,11 @@ header_takes bits r h =
 first_takes : (bits : List Bool) (r : Option Header × List Bool) → first_header bits ≡ Ok r → HeaderFits r.0 × (bits ≡ header_stream r.0 ++ r.1)
 unfolding first_header header_stream
 first_takes bits r h =
-    let P : Option Header × List Bool → Type 0 = λ t. HeaderFits t.0 × (bits ≡ header_stream t.0 ++ t.1) in
     ⊎_elim
     (λ (e : begins_header bits ≡ true).
-    bind_all (header_at (drop 4 bits)) _ P (λ q eq t ht.
-    let w = header_takes (drop 4 bits) q eq in
-    search (arith, same_ok, append_assoc, started)) r (rw e at h))
+    let q = bind_ok (header_at (drop 4 bits)) _ r (rw e at h) in
+    let w = header_takes (drop 4 bits) q.0 q.1 in
+    search (arith, same_ok, append_assoc, started))
     (search (arith, same_ok))
     (cases_Bool (begins_header bits))
 
@@ -243,8 +242,8 @@ Says v bits c = (front : List Bool) × (tail : List Bool) × IsStream v c.bytes 
 pub parse_takes : (v : ℕ) (bits : List Bool) (c : Content) → parse v bits ≡ Ok c → Says v bits c
 unfolding parse segments_of
 parse_takes v bits c e =
-    bind_all (first_header bits) _ (Says v bits) (λ h eh d hd.
-    bind_all (segments_at (length h.1) v h.1) _ (Says v bits) (λ r er d hd.
-    let first = first_takes bits h eh in
-    let others = segments_takes (length h.1) v h.1 r (omega arith) er in
-    search (arith, same_ok, append_assoc)) d hd) c e
+    let h = bind_ok (first_header bits) _ c e in
+    let r = bind_ok (segments_at (length h.0.1) v h.0.1) _ c h.2 in
+    let first = first_takes bits h.0 h.1 in
+    let others = segments_takes (length h.0.1) v h.0.1 r.0 (omega arith) r.1 in
+    search (arith, same_ok, append_assoc)

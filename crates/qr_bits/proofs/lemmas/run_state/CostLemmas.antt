@@ -41,10 +41,7 @@ goes_on p m = state_rank p == rank m
 
 state_rank-after : (p : RunState) (m : Mode) → state_rank (state_after p m) ≡ rank m
 unfolding state_after
-state_rank-after p Numeric = grind arith
-state_rank-after p Alphanumeric = grind arith
-state_rank-after _ Byte = refl
-state_rank-after p Kanji = grind arith
+state_rank-after p m = grind arith
 
 one_more : (v : ℕ) (p : RunState) (m : Mode) (n : ℕ) → goes_on p m ≡ true
     → byte_cost v p m + payload_bits m (turn p) + payload_bits m (turn (state_after p m) + n) ≡ payload_bits m (turn p + (1 + n)) + payload_bits m (turn (state_after p m))
