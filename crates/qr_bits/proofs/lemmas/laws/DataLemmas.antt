@@ -21,14 +21,6 @@ length-pads zero = refl
 length-pads (suc zero) = refl
 length-pads (suc (suc n)) = ap (λ (k : ℕ). suc (suc k)) (length-pads n)
 
--- the terminator and the padding
-abbrev terminator : ℕ → List Bool → List Bool
-terminator n stream = replicate (min 4 (8 * n - length stream)) false
-
--- the zero bits to the end of a codeword
-abbrev filling : List Bool → List Bool
-filling bits = replicate ((8 - length bits % 8) % 8) false
-
 length-padded : (n : ℕ) (stream : List Bool) → length stream ≤ 8 * n → length (padded n stream) ≡ 8 * n
 unfolding padded
 length-padded n stream h =
@@ -37,8 +29,8 @@ length-padded n stream h =
 tail_of : (n : ℕ) (stream : List Bool) → length stream ≤ 8 * n → (tail : List Bool) × (padded n stream ≡ stream ++ tail) × (ends tail ≡ true)
 unfolding padded ends
 tail_of n stream h =
-    let t = terminator n stream in
-    let f = filling (terminated (8 * n) stream) in
+    let t = replicate (min 4 (8 * n - length stream)) false in
+    let f = replicate ((8 - length (terminated (8 * n) stream) % 8) % 8) false in
     let p = bits_of (pads (n - length (filled (terminated (8 * n) stream)) / 8)) in
     let whole : ((stream ++ t) ++ f) ++ p ≡ stream ++ (t ++ (f ++ p)) = search (arith, append_assoc) in (
       t ++ (f ++ p),

@@ -52,12 +52,7 @@ pairs_takes (suc n) xs bits h e =
     let one : payload_bits Kanji (2 * n) ≡ 13 * n = omega arith in
     let more : payload_bits Kanji (2 * suc n) ≡ 13 + 13 * n = omega arith in
     let whole = more_written 13 (13 * n) bits (kanji_bits b.0) (omega arith) (rw one at w.whole) in
-    subst (IsWritten Kanji (suc n) bits) (same_ok _ _ b.2) (record {
-      long = omega (arith, w.long);
-      bytes = search (arith, All-cons);
-      suited = search (arith, and_from);
-      whole = rw (is.2, more) whole;
-    })
+    subst (IsWritten Kanji (suc n) bits) (same_ok _ _ b.2) (search (arith, All-cons, and_from))
 
 -- a kanji pair, and the pairs after it
 pub pairs_step : (n : ℕ) (bits : List Bool) → 0 < n → pairs_of n bits ≡ cond (nat_le (value (take 13 bits) % 0xC0) 0xBC)

@@ -43,12 +43,8 @@ characters_takes zero xs bits h e = search (arith, same_ok, All-nil)
 characters_takes (suc zero) xs bits h e =
     let c = chosen_ok _ _ _ xs e in
     let t = character_taken (value (take 6 bits)) (ltb-true _ _ c.0) in
-    subst (IsWritten Alphanumeric 1 bits) (same_ok _ _ c.1) (record {
-      long = refl;
-      bytes = search (arith, All-cons, All-nil);
-      suited = and_from _ true t.0 refl;
-      whole = cc (field_read 6 bits h, take-append-drop 6 bits);
-    })
+    let whole = field_read 6 bits h in
+    subst (IsWritten Alphanumeric 1 bits) (same_ok _ _ c.1) (search (arith, All-cons, All-nil, and_from, take-append-drop))
 characters_takes (suc (suc n)) xs bits h e =
     let g = value (take 11 bits) in
     let c = chosen_ok _ _ _ xs e in
@@ -61,12 +57,7 @@ characters_takes (suc (suc n)) xs bits h e =
     let j = character_taken (g % 45) (omega arith) in
     let back : 45 * (g / 45) + g % 45 ≡ g = omega arith in
     let whole = more_written 11 (payload_bits Alphanumeric n) bits (character_bits b.0) (omega arith) w.whole in
-    rw two (subst (IsWritten Alphanumeric (2 + n) bits) (same_ok _ _ b.2) (record {
-      long = omega (arith, w.long);
-      bytes = search (arith, All-cons);
-      suited = search (arith, and_from);
-      whole = rw (i.1, j.1, back, two_more n) whole;
-    }))
+    rw two (subst (IsWritten Alphanumeric (2 + n) bits) (same_ok _ _ b.2) (search (arith, All-cons, and_from, two_more)))
 
 -- bytes that are written are read back
 pub bytes_again : (xs : List ℕ) (rest : List Bool) → All (λ b. b < 256) xs → bytes_of (length xs) (bits_of xs ++ rest) ≡ xs

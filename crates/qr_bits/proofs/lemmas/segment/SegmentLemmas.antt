@@ -23,6 +23,10 @@ digits_least n = search (arith, cond_both, eqb-true)
 segment_most : (v : ℕ) (s : Segment) → 0 < s.len → segment_bits v s ≤ 35 * s.len
 segment_most v s h = grind (arith, count_width_bound)
 
+-- what stands past the end of a list of segments
+abbrev pub past_end : Segment
+past_end = record { mode = Numeric; len = 0 }
+
 -- the bits of the segments from index i on
 pub bits-drop : (v : ℕ) (segs : List Segment) (i : ℕ) (d : Segment) → i < length segs → bits v (drop i segs) ≡ segment_bits v (get_or segs i d) + bits v (drop (i + 1) segs)
 bits-drop v segs i d h = search (arith, drop-cons)

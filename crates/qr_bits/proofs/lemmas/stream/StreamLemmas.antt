@@ -112,23 +112,15 @@ digits_takes (suc zero) xs bits h e =
     let c = chosen_ok _ _ _ xs e in
     let low : g < 10 = ltb-true _ _ c.0 in
     let back : digit g - 48 ≡ g = omega arith in
-    subst (IsWritten Numeric 1 bits) (same_ok _ _ c.1) (record {
-      long = refl;
-      bytes = search (arith, All-cons, All-nil);
-      suited = search (arith, is_digit-digit);
-      whole = cc (field_read 4 bits h, take-append-drop 4 bits);
-    })
+    let whole : bits ≡ field 4 (value (take 4 bits)) ++ drop 4 bits = cc (field_read 4 bits h, take-append-drop 4 bits) in
+    subst (IsWritten Numeric 1 bits) (same_ok _ _ c.1) (search (arith, All-cons, All-nil, is_digit-digit))
 digits_takes (suc (suc zero)) xs bits h e =
     let g = value (take 7 bits) in
     let c = chosen_ok _ _ _ xs e in
     let low : g < 100 = ltb-true _ _ c.0 in
     let back : 10 * (digit (g / 10) - 48) + (digit g - 48) ≡ g = omega arith in
-    subst (IsWritten Numeric 2 bits) (same_ok _ _ c.1) (record {
-      long = refl;
-      bytes = search (arith, All-cons, All-nil);
-      suited = search (arith, is_digit-digit);
-      whole = cc (field_read 7 bits h, take-append-drop 7 bits);
-    })
+    let whole : bits ≡ field 7 (value (take 7 bits)) ++ drop 7 bits = cc (field_read 7 bits h, take-append-drop 7 bits) in
+    subst (IsWritten Numeric 2 bits) (same_ok _ _ c.1) (search (arith, All-cons, All-nil, is_digit-digit))
 digits_takes (suc (suc (suc n))) xs bits h e =
     let g = value (take 10 bits) in
     let c = chosen_ok _ _ _ xs e in
