@@ -1,7 +1,6 @@
 use Rattle.std.proofs.Common.{◌≡◌, ◌+◌, ◌<◌, ◌≤◌, ℕ, min, refl, ◌∙◌, arith}
-use Rattle.qr_bits.specs.declared.modes.Mode.{Mode}
+use Rattle.qr_bits.specs.declared.{modes.Mode.Mode, run_state.RunState.RunState}
 use Rattle.qr_bits.specs.declared.modes.Mode.TheVariants.{Numeric, Alphanumeric, Byte, Kanji}
-use Rattle.qr_bits.specs.declared.run_state.RunState.{RunState}
 use Rattle.qr_bits.specs.declared.run_state.RunState.TheVariants.{Start, Digit1, Digit2, Digit3, Character1, Character2, InBytes, HalfPair, WholePair}
 use Rattle.qr_bits.specs.Steps.RunState.{state_after, byte_cost, may_begin, may_end, choice_number}
 use Rattle.qr_bits.specs.Steps.BestModes.{in_state, bits_at}

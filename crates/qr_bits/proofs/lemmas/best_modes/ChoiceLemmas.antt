@@ -1,11 +1,9 @@
 -- The best mode for a byte is the one whose number is the least.
 use Rattle.std.proofs.Common.{◌≡◌, ℕ, ◌+◌, ◌*◌, ◌/◌, ◌%◌, ◌<◌, ◌≤◌, Bool, true, min, refl, ⊎_elim, arith}
 use Rattle.std.proofs.lemmas.Bool.{cases_lt}
-use Rattle.qr_bits.specs.declared.modes.Mode.{Mode}
+use Rattle.qr_bits.specs.{declared.modes.Mode.Mode, declared.modes.Rule.Rule, Segmentation.rank, Modes.may_use}
 use Rattle.qr_bits.specs.declared.modes.Mode.TheVariants.{Numeric, Alphanumeric, Byte, Kanji}
-use Rattle.qr_bits.specs.declared.modes.Rule.{Rule}
 use Rattle.qr_bits.specs.declared.run_state.RunState.{RunState, TheVariants.InBytes, TheVariants.HalfPair}
-use Rattle.qr_bits.specs.{Segmentation.rank, Modes.may_use}
 use Rattle.qr_bits.specs.Steps.RunState.{state_after, state_on, byte_cost, may_begin, may_take, may_end, choice_number, ranked, IsChoice}
 
 -- the least of the numbers of the four modes

@@ -1,17 +1,15 @@
 -- A table of best modes, filled from the last byte to the first.
-use Rattle.std.proofs.Common.{◌≡◌, ℕ, ◌+◌, ◌*◌, ◌/◌, ◌%◌, ◌^◌, ◌≤◌, Bool, true, List, [], ◌∷◌, ◌++◌, length, replicate, reverse, append_assoc, IsTrue, refl, ap, arith, lit<}
+use Rattle.std.proofs.Common.{◌≡◌, ℕ, ◌+◌, ◌*◌, ◌/◌, ◌%◌, ◌^◌, ◌≤◌, Bool, true, List, [], ◌∷◌, ◌++◌, length, replicate, reverse, append_assoc, IsTrue, refl, arith, lit<}
 use Rattle.std.proofs.lemmas.{Bool.false≢true, Bool.and_from, List.reverse-append}
-use Rattle.qr_bits.specs.declared.modes.Mode.{Mode}
-use Rattle.qr_bits.specs.declared.modes.Mode.TheVariants.{Numeric, Alphanumeric, Byte, Kanji}
-use Rattle.qr_bits.specs.declared.{modes.Rule.Rule, run_state.RunState.RunState}
+use Rattle.qr_bits.specs.declared.{modes.Mode.Mode, modes.Rule.Rule, run_state.RunState.RunState}
+use Rattle.qr_bits.specs.declared.modes.Mode.TheVariants.{Byte, Kanji}
 use Rattle.qr_bits.specs.declared.run_state.RunState.TheVariants.{Start, Digit1, Digit2, Digit3, Character1, Character2, InBytes, HalfPair, WholePair}
 use Rattle.qr_bits.specs.{declared.run_state.PerState.PerState, Segmentation.IsBestAssignment, Modes.is_kanji_pair}
-use Rattle.qr_bits.specs.Steps.RunState.{state_after, begins_with_pair, may_begin, may_take, may_end, allowed, cost_of, ranked, IsBestRest}
+use Rattle.qr_bits.specs.Steps.RunState.{state_after, begins_with_pair, may_begin, may_take, may_end, allowed, cost_of, ranked}
 use Rattle.qr_bits.specs.Steps.BestModes.{in_state, bits_at, shift_of, mode_at, follow, IsBestTable, IsRow, IsSmall}
 use Rattle.qr_bits.proofs.lemmas.segment.CoverLemmas.{covers_by, by_covers}
-use Rattle.qr_bits.proofs.lemmas.run_state.BestLemmas.{BestBelow, best_step}
+use Rattle.qr_bits.proofs.lemmas.run_state.{BestLemmas.BestBelow, BestLemmas.best_step, CostLemmas.bits-runs_of}
 use Rattle.qr_bits.proofs.lemmas.best_modes.ChoiceLemmas.{byte_used, byte_cost_bound, take_begin}
-use Rattle.qr_bits.proofs.lemmas.run_state.CostLemmas.{bits-runs_of}
 use Rattle.qr_bits.proofs.lemmas.run_state.AssignmentLemmas.{can_take, is_assignment, may_end-after}
 
 -- byte mode for each byte is an allowed rest if no half pair is open

@@ -1,9 +1,8 @@
 -- Folding around kanji pairs, step by step.
-use Rattle.std.proofs.Common.{◌≡◌, ℕ, suc, ◌<◌, ◌≤◌, true, false, List, [], ◌∷◌, ◌++◌, length, get_or, take, drop, refl, ap, ⊎_elim, arith, append_assoc}
-use Rattle.std.proofs.lemmas.{List.length-map, Bool.cases_Bool}
+use Rattle.std.proofs.Common.{◌≡◌, ℕ, ◌<◌, ◌≤◌, true, false, List, [], ◌∷◌, ◌++◌, length, get_or, take, drop, refl, arith, append_assoc}
+use Rattle.std.proofs.lemmas.{List.length-map}
 use Rattle.qr_bits.specs.{declared.modes.Rule.Rule, declared.modes.Rule.TheVariants.WithKanji, Modes.is_kanji_pair}
-use Rattle.qr_bits.specs.Folding.{capital, folded, folded_around_pairs}
-use Rattle.qr_bits.specs.Steps.RunState.{begins_with_pair}
+use Rattle.qr_bits.specs.{Folding.capital, Folding.folded, Folding.folded_around_pairs, Steps.RunState.begins_with_pair}
 
 -- a pair stays
 pub folded_pair : (xs : List ℕ) → begins_with_pair WithKanji is_kanji_pair xs ≡ true → folded_around_pairs xs ≡ take 2 xs ++ folded_around_pairs (drop 2 xs)

@@ -2,17 +2,15 @@
 use Rattle.std.proofs.Common.{◌≡◌, ℕ, ◌+◌, ◌<◌, ◌≤◌, true, false, List, [], ◌∷◌, ◌++◌, refl, arith}
 use Rattle.std.proofs.lemmas.Bool.{and_parts, and_from, false≢true}
 use Rattle.std.specs.List.{list_all}
-use Rattle.qr_bits.specs.declared.modes.Mode.{Mode}
-use Rattle.qr_bits.specs.declared.modes.Mode.TheVariants.{Numeric, Alphanumeric, Kanji}
+use Rattle.qr_bits.specs.{declared.modes.Mode.Mode, Modes.may_use, Modes.is_kanji_pair}
+use Rattle.qr_bits.specs.declared.modes.Mode.TheVariants.{Kanji}
 use Rattle.qr_bits.specs.declared.{modes.Rule.Rule, run_state.RunState.RunState}
 use Rattle.qr_bits.specs.declared.run_state.RunState.TheVariants.{Start, Digit1, Digit2, Digit3, Character1, Character2}
 use Rattle.qr_bits.specs.Segmentation.{rank, bits, runs_of, IsAssignment, HasFit}
-use Rattle.qr_bits.specs.Modes.{may_use, is_kanji_pair}
 use Rattle.qr_bits.specs.Steps.RunState.{state_after, byte_cost, begins_with_pair, may_take, may_end, allowed, cost_of}
 use Rattle.qr_bits.proofs.lemmas.segment.CoverLemmas.{covers_by, by_covers}
-use Rattle.qr_bits.proofs.lemmas.run_state.CostLemmas.{bits-runs_of}
+use Rattle.qr_bits.proofs.lemmas.{run_state.CostLemmas.bits-runs_of, best_modes.ChoiceLemmas.take_begin}
 use Rattle.qr_bits.proofs.lemmas.run_state.AssignmentLemmas.{may_end-after, begin_is, can_take, is_assignment}
-use Rattle.qr_bits.proofs.lemmas.best_modes.ChoiceLemmas.{take_begin}
 
 -- the state of a run after one more byte
 abbrev ahead : RunState → RunState

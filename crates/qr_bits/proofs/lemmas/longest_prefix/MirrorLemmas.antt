@@ -1,24 +1,20 @@
 -- Bytes in reverse order: their valid assignments are those of the bytes, reversed, with equally many bits. The two bytes of
 -- each kanji pair are exchanged.
-use Rattle.std.proofs.Common.{◌≡◌, ℕ, ◌+◌, ◌-◌, ◌≤◌, ◌<◌, Bool, true, false, ◌==◌, ◌&&◌, List, [], ◌∷◌, ◌++◌, reverse, length, take, drop, get_or, refl, sym, ◌∙◌, ap, arith, subst}
-use Rattle.std.proofs.lemmas.Bool.Decides.{nat_tests}
-use Rattle.std.proofs.lemmas.Bool.{cond_both, and_parts, and_from, false≢true, eqb-true, eq-eqb, ne_eqb}
+use Rattle.std.proofs.Common.{◌≡◌, ℕ, ◌+◌, ◌-◌, ◌≤◌, ◌<◌, Bool, true, false, ◌&&◌, List, [], ◌∷◌, ◌++◌, reverse, length, take, drop, get_or, refl, ◌∙◌, ap, arith, subst}
+use Rattle.std.{proofs.lemmas.Bool.Decides.nat_tests, specs.List.list_all, proofs.lemmas.List.Folds.list_all-append}
+use Rattle.std.proofs.lemmas.Bool.{and_parts, and_from}
 use Rattle.std.proofs.lemmas.List.{reverse-append, reverse-reverse, take_more, take_all, drop_all, take-append-le, drop-append-le, take-append-drop, length-append, length-take-le, length-reverse, get_or-reverse}
-use Rattle.std.proofs.lemmas.List.Folds.{list_all-append}
-use Rattle.std.specs.List.{list_all}
 use Rattle.qr_bits.specs.declared.modes.{Mode.Mode, Mode.TheVariants.Kanji, Rule.Rule}
-use Rattle.qr_bits.specs.declared.segment.Segment.{Segment}
+use Rattle.qr_bits.specs.declared.{segment.Segment.Segment, run_state.PerState.PerState}
 use Rattle.qr_bits.specs.declared.run_state.RunState.{RunState, TheVariants.Start}
-use Rattle.qr_bits.specs.Segmentation.{rank, bits, prepend_mode, runs_of, HasFit}
+use Rattle.qr_bits.specs.Segmentation.{bits, prepend_mode, runs_of, HasFit}
 use Rattle.qr_bits.specs.Modes.{in_twos, is_kanji_pair, may_use}
-use Rattle.qr_bits.specs.Steps.Segmentation.{append_mode}
+use Rattle.qr_bits.{specs.Steps.Segmentation.append_mode, proofs.lemmas.run_state.CostLemmas.bits-runs_of}
 use Rattle.qr_bits.specs.Steps.RunState.{swapped, begins_with_pair, may_end}
-use Rattle.qr_bits.specs.declared.run_state.PerState.{PerState}
 use Rattle.qr_bits.specs.Steps.BestModes.{bits_at, follow, IsRow}
 use Rattle.qr_bits.proofs.lemmas.segment.CoverLemmas.{covers_by, by_covers, suits_by, CoversBy}
 use Rattle.qr_bits.proofs.lemmas.run_state.BestLemmas.{BestBelow, same_rank}
 use Rattle.qr_bits.proofs.lemmas.segmentation.BackLemmas.{runs_of-push, append_mode-last}
-use Rattle.qr_bits.proofs.lemmas.run_state.CostLemmas.{bits-runs_of}
 use Rattle.qr_bits.proofs.lemmas.run_state.AssignmentLemmas.{IsAssignmentBy, can_take, is_assignment}
 use Rattle.qr_bits.proofs.lemmas.best_modes.TableLemmas.{bytes_rest, best_more}
 

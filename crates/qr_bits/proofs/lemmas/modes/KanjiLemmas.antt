@@ -1,13 +1,11 @@
 -- Kanji pairs: a pair that is written as a value is read back, and the other way round.
-use Rattle.std.proofs.lemmas.Bool.Decides.{nat_tests}
-use Rattle.std.proofs.Common.{cond, ◌≡◌, ℕ, zero, suc, ◌+◌, ◌-◌, ◌*◌, ◌/◌, ◌%◌, ◌<◌, ◌≤◌, Bool, true, nat_le, All, List, [], ◌∷◌, ◌++◌, length, take, drop, Ok, Err, refl, subst, arith, append_assoc}
-use Rattle.std.proofs.lemmas.Bool.{le-leb, and_parts, and_from, false≢true}
+use Rattle.std.proofs.lemmas.Bool.{Decides.nat_tests, le-leb, and_parts, and_from, false≢true}
+use Rattle.std.proofs.Common.{cond, ◌≡◌, ℕ, zero, suc, ◌+◌, ◌-◌, ◌*◌, ◌/◌, ◌%◌, ◌<◌, ◌≤◌, Bool, true, nat_le, List, [], ◌∷◌, ◌++◌, length, take, drop, Ok, Err, refl, subst, arith, append_assoc}
 use Rattle.std.proofs.lemmas.List.{length-drop, Elements.All-cons, Elements.All-nil}
 use borrow.Author.Tests.{leb-true}
 use Rattle.qr_bits.specs.{declared.fault.ParseFault.TheVariants.BadValue, Bits.value}
-use Rattle.qr_bits.specs.declared.modes.Mode.TheVariants.{Kanji}
+use Rattle.qr_bits.specs.{declared.modes.Mode.TheVariants.Kanji, Stream.kanji_bits, Stream.payload}
 use Rattle.qr_bits.specs.Modes.{in_twos, is_kanji_pair, kanji_value, payload_bits}
-use Rattle.qr_bits.specs.Stream.{kanji_bits, payload}
 use Rattle.qr_bits.specs.Parsing.{◌>>=◌, kanji_pair, pairs_of}
 use Rattle.qr_bits.proofs.lemmas.parsing.{ParsingLemmas.bind_ok, ParsingLemmas.same_ok, PayloadLemmas.value_take_below}
 use Rattle.qr_bits.proofs.lemmas.stream.StreamLemmas.{IsWritten, more_written, drop-field, read_field, chosen_ok}

@@ -1,5 +1,5 @@
 -- If the bits of segments fit a symbol, each count fits its field.
-use Rattle.std.proofs.Common.{◌≡◌, ℕ, ◌+◌, ◌-◌, ◌*◌, ◌^◌, ◌<◌, ◌≤◌, Bool, true, false, ◌&&◌, cond, leb, List, [], ◌∷◌, length, drop, ap, arith, subst}
+use Rattle.std.proofs.Common.{◌≡◌, ℕ, ◌+◌, ◌-◌, ◌*◌, ◌^◌, ◌<◌, ◌≤◌, Bool, true, false, ◌&&◌, cond, leb, List, [], ◌∷◌, length, drop, ap, arith}
 use Rattle.std.proofs.lemmas.{Bool.le-leb, Bool.lt-leb, Bool.and_parts, List.length-drop}
 use borrow.Author.Tests.{leb-true}
 use Rattle.qr_layout.specs.{declared.level.Level.Level, Version.total_codewords_of}

@@ -3,9 +3,8 @@ use Rattle.std.proofs.Common.{cond, nat_lt, ◌≡◌, ℕ, suc, ◌+◌, ◌-�
 use Rattle.std.proofs.{lemmas.List.length-take, lemmas.List.append_assoc, Math.Nat.pow-le-pow_right}
 use Rattle.qr_bits.specs.declared.modes.Mode.TheVariants.{Numeric, Alphanumeric}
 use Rattle.qr_bits.specs.declared.fault.ParseFault.{ParseFault, TheVariants.BadValue}
-use Rattle.qr_bits.specs.{Bits.value, Modes.payload_bits}
+use Rattle.qr_bits.specs.{Bits.value, Modes.payload_bits, Steps.Parsing.IsFaultOf}
 use Rattle.qr_bits.specs.Parsing.{◌>>=◌, digit, digits_of, character, characters_of, bytes_of}
-use Rattle.qr_bits.specs.Steps.Parsing.{IsFaultOf}
 use Rattle.qr_bits.proofs.lemmas.bits.BitLemmas.{value_below}
 use Rattle.qr_bits.proofs.lemmas.stream.WritingLemmas.{three_more, two_more}
 

@@ -1,16 +1,16 @@
 -- A parse reads back every stream that is written, and what it reads is a stream.
-use Rattle.std.proofs.Common.{◌≡◌, ℕ, zero, suc, ◌^◌, ◌<◌, ◌≤◌, Bool, true, false, ◌==◌, nat_lt, nat_le, All, List, [], ◌∷◌, ◌++◌, length, take, drop, Ok, Option, Some, refl, sym, ◌∙◌, ap, subst, ⊎_elim, arith, lit<, append_assoc, length-append}
+use Rattle.std.proofs.Common.{◌≡◌, ℕ, zero, suc, ◌^◌, ◌<◌, ◌≤◌, Bool, true, false, ◌==◌, nat_le, All, List, [], ◌∷◌, ◌++◌, length, take, drop, Ok, Option, Some, refl, sym, ◌∙◌, ap, subst, ⊎_elim, arith, lit<, append_assoc, length-append}
 use Rattle.std.proofs.lemmas.Bool.{le-ltb, lt-leb, le-leb, ltb-false, cases_Bool, eqb-true, and_parts}
 use Rattle.std.proofs.lemmas.List.{length-take-le, length-drop, drop-drop, take-append-drop}
 use Rattle.std.proofs.lemmas.List.Elements.{All-nil, All-append, All-take, All-drop}
 use Rattle.std.proofs.Math.Seq.{take-append_seam, drop-append_seam}
 use borrow.Author.Tests.{leb-true}
 use Rattle.qr_bits.specs.declared.{modes.Mode.Mode, segment.Segment.Segment, header.Header.Header}
-use Rattle.qr_bits.specs.{declared.fault.ParseFault.TheVariants.Cut, Bits.field, Bits.value}
+use Rattle.qr_bits.specs.{Bits.field, Bits.value}
 use Rattle.qr_bits.specs.Modes.{character_count, count_width, byte_count, payload_bits, suits, indicator}
 use Rattle.qr_bits.specs.Header.{header_indicator, header_stream, HeaderFits}
 use Rattle.qr_bits.specs.Stream.{payload, segment_stream, segments_stream, Suits, CountsFit, IsStream}
-use Rattle.qr_bits.specs.Parsing.{◌>>=◌, values_of, mode_of, ends, leading_number, payload_at, segment_at, segments_at, segments_of, begins_header, header_at, first_header, Content, parse}
+use Rattle.qr_bits.specs.Parsing.{values_of, mode_of, ends, leading_number, payload_at, segment_at, segments_at, segments_of, begins_header, header_at, first_header, Content, parse}
 use Rattle.qr_bits.proofs.lemmas.{bits.BitLemmas.length-field, parsing.PayloadLemmas.value_take_below}
 use Rattle.qr_bits.proofs.lemmas.parsing.ParsingLemmas.{bind_ok, guard_ok, same_ok, not_ended, ended_empty, segment_shorter, segments_end, segments_step, header_whole}
 use Rattle.qr_bits.proofs.lemmas.stream.StreamLemmas.{IsWritten, drop-field, read_field, field_read}

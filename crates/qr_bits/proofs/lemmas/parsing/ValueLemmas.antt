@@ -1,15 +1,13 @@
 -- The data of a segment: what is written is read back, and what is read is written as the same bits.
-use Rattle.std.proofs.Common.{◌≡◌, ℕ, zero, suc, ◌+◌, ◌*◌, ◌/◌, ◌%◌, ◌<◌, ◌≤◌, Bool, true, nat_lt, All, List, [], ◌∷◌, ◌++◌, length, take, drop, Ok, refl, sym, ◌∙◌, ap, subst, arith, append_assoc}
+use Rattle.std.proofs.Common.{◌≡◌, ℕ, zero, suc, ◌+◌, ◌*◌, ◌/◌, ◌%◌, ◌<◌, ◌≤◌, Bool, true, All, List, [], ◌∷◌, ◌++◌, length, take, drop, Ok, refl, ap, subst, arith, append_assoc}
 use Rattle.std.proofs.lemmas.Bool.{lt-ltb, ltb-true, and_parts, and_from}
-use Rattle.std.proofs.lemmas.List.{length-drop, take-append-drop}
+use Rattle.std.{proofs.lemmas.List.length-drop, proofs.lemmas.List.take-append-drop, specs.List.list_all}
 use Rattle.std.proofs.lemmas.List.Elements.{All-nil, All-cons, All-head, All-tail}
-use Rattle.std.specs.List.{list_all}
-use Rattle.qr_bits.specs.declared.modes.Mode.{Mode}
+use Rattle.qr_bits.specs.{declared.modes.Mode.Mode, Stream.character_bits, Stream.payload}
 use Rattle.qr_bits.specs.declared.modes.Mode.TheVariants.{Numeric, Alphanumeric, Byte, Kanji}
-use Rattle.qr_bits.specs.{declared.fault.ParseFault.TheVariants.BadValue, Bits.value, Bits.bits_of}
+use Rattle.qr_bits.specs.{Bits.value, Bits.bits_of}
 use Rattle.qr_bits.specs.Modes.{character_count, is_alphanumeric, byte_count, payload_bits, suits, character_value}
-use Rattle.qr_bits.specs.Stream.{character_bits, payload}
-use Rattle.qr_bits.specs.Parsing.{◌>>=◌, character, characters_of, bytes_of, values_of}
+use Rattle.qr_bits.specs.Parsing.{characters_of, bytes_of, values_of}
 use Rattle.qr_bits.proofs.lemmas.modes.KanjiLemmas.{pairs_again, pairs_takes}
 use Rattle.qr_bits.proofs.lemmas.modes.CharacterLemmas.{character_found, character_again, character_taken}
 use Rattle.qr_bits.proofs.lemmas.parsing.{PayloadLemmas.value_take_below, ParsingLemmas.bind_ok, ParsingLemmas.same_ok}

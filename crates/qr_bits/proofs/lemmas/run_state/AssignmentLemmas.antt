@@ -1,12 +1,10 @@
 -- An assignment is valid (`IsAssignment`) exactly if each of its modes is allowed after those before it (`allowed`).
 use Rattle.std.proofs.Common.{◌≡◌, ℕ, suc, ◌+◌, ◌<◌, Bool, true, ◌==◌, ◌&&◌, List, [], ◌∷◌, IsTrue, refl, arith, lit<}
-use Rattle.std.proofs.lemmas.Bool.Decides.{nat_tests}
+use Rattle.std.{proofs.lemmas.Bool.Decides.nat_tests, specs.List.list_all}
 use Rattle.std.proofs.lemmas.Bool.{cond_both, and_parts, and_from, false≢true, eqb-true}
-use Rattle.std.specs.List.{list_all}
 use Rattle.qr_bits.specs.declared.modes.{Mode.Mode, Mode.TheVariants.Kanji, Rule.Rule}
-use Rattle.qr_bits.specs.declared.segment.Segment.{Segment}
+use Rattle.qr_bits.specs.{declared.segment.Segment.Segment, Modes.may_use}
 use Rattle.qr_bits.specs.declared.run_state.RunState.{RunState, TheVariants.HalfPair, TheVariants.WholePair}
-use Rattle.qr_bits.specs.Modes.{may_use}
 use Rattle.qr_bits.specs.Segmentation.{rank, prepend_mode, runs_of}
 use Rattle.qr_bits.specs.Steps.RunState.{state_after, begins_with_pair, may_begin, may_take, may_end, allowed}
 use Rattle.qr_bits.proofs.lemmas.segment.CoverLemmas.{suits_by, CoversBy}

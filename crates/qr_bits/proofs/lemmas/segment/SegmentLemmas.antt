@@ -5,10 +5,9 @@ use Rattle.std.proofs.{lemmas.List.Elements.All-head, lemmas.List.Elements.All-t
 use Rattle.std.specs.List.{sum_by}
 use Rattle.qr_bits.proofs.lemmas.segment.CoverLemmas.{CoversBy, suits-by, covers_by, by_covers}
 use Rattle.qr_bits.specs.declared.modes.{Mode.Mode, Mode.TheVariants.Numeric, Rule.Rule}
-use Rattle.qr_bits.specs.declared.segment.Segment.{Segment}
+use Rattle.qr_bits.specs.{declared.segment.Segment.Segment, Stream.Suits}
 use Rattle.qr_bits.specs.Modes.{count_width, payload_bits, suits}
 use Rattle.qr_bits.specs.Segmentation.{segment_bits, bits, rank, Covers, IsNotAfter, IsLeastSegmentation, HasFit}
-use Rattle.qr_bits.specs.Stream.{Suits}
 
 -- a count field has at most 16 bits
 pub count_width_bound : (v : ℕ) (m : Mode) → count_width v m ≤ 16

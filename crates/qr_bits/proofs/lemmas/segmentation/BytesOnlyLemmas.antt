@@ -1,7 +1,6 @@
 -- If only byte mode may be used, there is one valid assignment: byte mode for each byte.
 use Rattle.std.proofs.Common.{◌≡◌, ℕ, ◌+◌, ◌*◌, ◌<◌, ◌≤◌, min, take, ⊎_elim, true, List, [], ◌∷◌, length, replicate, refl, sym, arith, inr}
-use Rattle.std.proofs.lemmas.{List.length-take-le, Bool.cases_lt}
-use Rattle.std.specs.List.{list_all}
+use Rattle.std.{proofs.lemmas.List.length-take-le, proofs.lemmas.Bool.cases_lt, specs.List.list_all}
 use Rattle.qr_bits.specs.declared.modes.{Mode.Mode, Mode.TheVariants.Byte, Rule.TheVariants.BytesOnly}
 use Rattle.qr_bits.specs.Segmentation.{bits, IsAssignment, IsNotAfter, IsLeastSegmentation, IsLongestFit}
 use Rattle.qr_bits.specs.{Modes.may_use, Modes.count_width, Steps.Segmentation.one_segment}

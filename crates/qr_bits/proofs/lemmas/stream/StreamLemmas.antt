@@ -1,19 +1,16 @@
 -- Fields and digits: what is written is read back, and what is read is written as the same bits.
-use Rattle.std.proofs.lemmas.Bool.Decides.{nat_tests}
-use Rattle.std.proofs.Common.{◌≡◌, ℕ, zero, suc, ◌+◌, ◌-◌, ◌*◌, ◌/◌, ◌%◌, ◌^◌, ◌<◌, ◌≤◌, Bool, true, false, cond, ◌==◌, nat_lt, All, List, [], ◌∷◌, ◌++◌, length, take, drop, Result, Ok, Err, refl, sym, ◌∙◌, ap, subst, arith, append_assoc}
-use Rattle.std.proofs.lemmas.Bool.{lt-ltb, ltb-true, and_parts}
-use Rattle.std.proofs.lemmas.List.Elements.{All-nil, All-cons}
+use Rattle.std.{proofs.lemmas.Bool.Decides.nat_tests, specs.List.list_all}
+use Rattle.std.proofs.Common.{◌≡◌, ℕ, zero, suc, ◌+◌, ◌-◌, ◌*◌, ◌/◌, ◌%◌, ◌^◌, ◌<◌, ◌≤◌, Bool, true, false, cond, ◌==◌, All, List, [], ◌∷◌, ◌++◌, length, take, drop, Result, Ok, Err, refl, sym, ◌∙◌, ap, subst, arith, append_assoc}
+use Rattle.std.proofs.lemmas.{Bool.lt-ltb, Bool.ltb-true, Bool.and_parts, List.Elements.All-nil, List.Elements.All-cons}
 use Rattle.std.proofs.lemmas.List.{length-take-le, length-drop, drop-drop, take-append-drop}
 use Rattle.std.proofs.Math.Seq.{take-append_seam, drop-append_seam}
 use Rattle.std.proofs.{lemmas.Nat.mod-pow-add, Math.Nat.pow-suc, Math.Nat.mod-eq_of_lt}
 use borrow.Author.Tests.{leb-true}
-use Rattle.std.specs.List.{list_all}
 use Rattle.qr_bits.specs.declared.modes.Mode.{Mode, TheVariants.Numeric}
-use Rattle.qr_bits.specs.declared.fault.ParseFault.{ParseFault, TheVariants.BadValue}
-use Rattle.qr_bits.specs.Bits.{field, value_from, value}
+use Rattle.qr_bits.specs.declared.fault.ParseFault.{ParseFault}
+use Rattle.qr_bits.specs.{Bits.field, Bits.value_from, Bits.value, Stream.digit_bits, Stream.payload}
 use Rattle.qr_bits.specs.Modes.{byte_count, payload_bits, suits, is_digit}
-use Rattle.qr_bits.specs.Parsing.{◌>>=◌, digit, digits_of}
-use Rattle.qr_bits.specs.Stream.{digit_bits, payload}
+use Rattle.qr_bits.specs.Parsing.{digit, digits_of}
 use Rattle.qr_bits.proofs.lemmas.bits.BitLemmas.{length-field, value_below}
 use Rattle.qr_bits.proofs.lemmas.stream.WritingLemmas.{three_more}
 use Rattle.qr_bits.proofs.lemmas.parsing.ParsingLemmas.{bind_ok, same_ok}

@@ -1,4 +1,4 @@
-use Rattle.std.proofs.Common.{◌≡◌, ◌∙◌, refl, sym, arith}
+use Rattle.std.proofs.Common.{◌≡◌, refl, arith}
 use Rattle.qr_bits.specs.Modes.{character_value}
 use Rattle.qr_bits.proofs.lemmas.modes.CharacterLemmas.{character_found, character_place}
 use Rattle.qr_bits.proofs.modes.character_value.Goals as goal

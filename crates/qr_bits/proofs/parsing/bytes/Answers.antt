@@ -1,4 +1,4 @@
-use Rattle.std.proofs.Common.{◌≡◌, ℕ, ◌+◌, ◌-◌, ◌*◌, length, ap, arith}
+use Rattle.std.proofs.Common.{◌≡◌, ◌+◌, ◌-◌, ◌*◌, length, ap, arith}
 use Rattle.std.proofs.lemmas.List.{length-drop, drop-drop}
 use Rattle.qr_bits.proofs.lemmas.parsing.PayloadLemmas.{value_take_below, bytes_more}
 use Rattle.qr_bits.proofs.parsing.bytes.Goals as goal

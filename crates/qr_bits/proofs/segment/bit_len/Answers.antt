@@ -1,5 +1,4 @@
-use Rattle.std.proofs.Common.{arith}
-use Rattle.std.proofs.lemmas.List.Sums.{sum_by-drop_more, sum_by-take-drop}
+use Rattle.std.proofs.{Common.arith, lemmas.List.Sums.sum_by-drop_more, lemmas.List.Sums.sum_by-take-drop}
 use Rattle.qr_bits.specs.declared.segment.Segment.{Segment}
 use Rattle.qr_bits.proofs.lemmas.segment.SegmentLemmas.{bits-drop, bits_most, past_end}
 use Rattle.qr_bits.proofs.segment.bit_len.Goals as goal

@@ -1,6 +1,5 @@
 use Rattle.std.proofs.Common.{◌<◌, get_or, sym, ◌∙◌, arith}
-use Rattle.std.proofs.lemmas.Bool.{false≢true, eqb-true, eq-eqb}
-use Rattle.std.proofs.lemmas.List.{nil_from_length}
+use Rattle.std.proofs.lemmas.{Bool.false≢true, Bool.eqb-true, Bool.eq-eqb, List.nil_from_length}
 use Rattle.qr_bits.proofs.lemmas.segment.SegmentLemmas.{covers_next, next_covers, covers_end, past_end}
 use Rattle.qr_bits.proofs.segment.covers.Goals as goal
 use Rattle.qr_bits.proofs.segment.covers.Goals.{then-len-eq0-via-then-len-eq0, then-len-eq0-via-else-len-eq0+then-len-rest}
