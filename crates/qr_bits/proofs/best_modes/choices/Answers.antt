@@ -8,8 +8,8 @@ use Rattle.qr_bits.proofs.lemmas.best_modes.ChoiceLemmas.{byte_used, half_choice
 use Rattle.qr_bits.proofs.best_modes.choices.Goals as goal
 
 -- the least choice in a state, as the least of the four modes, if the choice of its own mode is no more than at the start
-minima : (n a b k d c2 c1 b1 k1 : ℕ) → d ≤ n → c1 ≤ a → b1 ≤ b → k1 ≤ k → let start = min n (min a (min b k)) in
-    (min d start ≡ min d (min a (min b k))) × (min c2 (min n (min b k)) ≡ min n (min c2 (min b k))) × (min c1 start ≡ min n (min c1 (min b k))) × (min b1 start ≡ min n (min a (min b1 k))) × (min k1 start ≡ min n (min a (min b k1)))
+minima : (n a b k d c2 c1 b1 k1 : ℕ) → d ≤ n → c1 ≤ a → b1 ≤ b → k1 ≤ k → let s = min n (min a (min b k)) in
+    (min d s ≡ min d (min a (min b k))) × (min c2 (min n (min b k)) ≡ min n (min c2 (min b k))) × (min c1 s ≡ min n (min c1 (min b k))) × (min b1 s ≡ min n (min a (min b1 k))) × (min k1 s ≡ min n (min a (min b k1)))
 minima n a b k d c2 c1 b1 k1 h i j l = (omega arith, omega arith, omega arith, omega arith, omega arith)
 
 pub returns : goal.returns
@@ -20,7 +20,7 @@ returns c = λ r x digit character.
     let t = c.args.pair in
     let rest = c.args.rest.now in
     let of : RunState → Mode → ℕ = λ q k. choice_number (may_begin r x t k) (byte_cost v q k + bits_at rest (state_after q k)) k in
-    let small : bits_at rest InBytes < 10000000 = omega (arith, c.requires) in
+    let s : bits_at rest InBytes < 10000000 = omega (arith, c.requires) in
     let n = rw digit at (c.choice_if-digits.ensures _ Numeric h.numeric_is) in
     let a = rw character at (c.choice_if-characters.ensures _ Alphanumeric h.alphanumeric_is) in
     let b : c.choice_if-bytes.result ≡ of Start Byte = rw (byte_used r) (c.choice_if-bytes.ensures _ Byte h.byte_is) in
@@ -33,19 +33,19 @@ returns c = λ r x digit character.
     let b1 : c.choice_if-in_bytes.result ≡ of InBytes Byte = rw (byte_used r) (c.choice_if-in_bytes.ensures 8 Byte c.number-6.ensures.value) in
     let k1 = c.choice_if-half_pair.ensures 13 Kanji c.number-8.ensures.value in
     let bk = rw (b, k) at c.min-others.ensures in
-    let abk = rw (a, bk) at c.min-no_digits.ensures in
+    let ab = rw (a, bk) at c.min-no_digits.ensures in
     let nbk = rw (n, bk) at c.min-no_characters.ensures in
-    let start = rw (n, abk) at c.min-start.ensures in
+    let start = rw (n, ab) at c.min-start.ensures in
     let m = minima (of Start Numeric) (of Start Alphanumeric) (of Start Byte) (of Start Kanji) (of Digit3 Numeric) (of Character1 Alphanumeric) (of Character2 Alphanumeric) (of InBytes Byte) (of WholePair Kanji)
     (number_less _ Numeric _ _ (omega arith)) (number_less _ Alphanumeric _ _ (omega arith)) (number_less _ Byte _ _ (omega arith)) (number_less _ Kanji _ _ (omega arith)) in
     elim [
-      | Start ↦ rw (c.row_for.ensures Start) (least_choice v r Start x t _ _ refl small start)
-      | Digit1 ↦ rw (c.row_for.ensures Digit1) (least_choice v r Digit1 x t _ _ refl small (rw (d2, abk) at c.min.ensures))
-      | Digit2 ↦ rw (c.row_for.ensures Digit2) (least_choice v r Digit2 x t _ _ refl small (rw (d3, abk) at c.min-2.ensures))
-      | Digit3 ↦ rw (c.row_for.ensures Digit3) (least_choice v r Digit3 x t _ _ refl small ((rw (d1, start) at c.min-3.ensures) ∙ m.0))
-      | Character1 ↦ rw (c.row_for.ensures Character1) (least_choice v r Character1 x t _ _ refl small ((rw (c2, nbk) at c.min-4.ensures) ∙ m.1))
-      | Character2 ↦ rw (c.row_for.ensures Character2) (least_choice v r Character2 x t _ _ refl small ((rw (c1, start) at c.min-5.ensures) ∙ m.2))
-      | InBytes ↦ rw (c.row_for.ensures InBytes) (least_choice v r InBytes x t _ _ refl small ((rw (b1, start) at c.min-6.ensures) ∙ m.3))
+      | Start ↦ rw (c.row_for.ensures Start) (least_choice v r Start x t _ _ refl s start)
+      | Digit1 ↦ rw (c.row_for.ensures Digit1) (least_choice v r Digit1 x t _ _ refl s (rw (d2, ab) at c.min.ensures))
+      | Digit2 ↦ rw (c.row_for.ensures Digit2) (least_choice v r Digit2 x t _ _ refl s (rw (d3, ab) at c.min-2.ensures))
+      | Digit3 ↦ rw (c.row_for.ensures Digit3) (least_choice v r Digit3 x t _ _ refl s ((rw (d1, start) at c.min-3.ensures) ∙ m.0))
+      | Character1 ↦ rw (c.row_for.ensures Character1) (least_choice v r Character1 x t _ _ refl s ((rw (c2, nbk) at c.min-4.ensures) ∙ m.1))
+      | Character2 ↦ rw (c.row_for.ensures Character2) (least_choice v r Character2 x t _ _ refl s ((rw (c1, start) at c.min-5.ensures) ∙ m.2))
+      | InBytes ↦ rw (c.row_for.ensures InBytes) (least_choice v r InBytes x t _ _ refl s ((rw (b1, start) at c.min-6.ensures) ∙ m.3))
       | HalfPair ↦ rw (c.row_for.ensures HalfPair) (half_choice v r x t _ _ (c.choice_if-whole_pair.ensures 0 Kanji c.number-7.ensures.value))
-      | WholePair ↦ rw (c.row_for.ensures WholePair) (least_choice v r WholePair x t _ _ refl small ((rw (k1, start) at c.min-7.ensures) ∙ m.4))
+      | WholePair ↦ rw (c.row_for.ensures WholePair) (least_choice v r WholePair x t _ _ refl s ((rw (k1, start) at c.min-7.ensures) ∙ m.4))
     ]

@@ -12,8 +12,8 @@ least_of may cost =
     min (choice_number (may Numeric) (cost Numeric) Numeric)
     (min (choice_number (may Alphanumeric) (cost Alphanumeric) Alphanumeric) (min (choice_number (may Byte) (cost Byte) Byte) (choice_number (may Kanji) (cost Kanji) Kanji)))
 
-least_under : (may : Mode → Bool) (cost : Mode → ℕ) (k : Mode) → may k ≡ true → least_of may cost ≤ 4 * cost k + rank k
-least_under may cost k t = grind arith
+least_under : (m : Mode → Bool) (f : Mode → ℕ) (k : Mode) → m k ≡ true → least_of m f ≤ 4 * f k + rank k
+least_under m f k t = grind arith
 
 -- the number is that of a mode that may be used
 abbrev IsTaken : (Mode → Bool) → (Mode → ℕ) → ℕ → Type 0
@@ -29,9 +29,9 @@ taken_min may cost a b f g h =
     (λ (l : b ≤ a). let e : min a b ≡ b = omega arith in rw e (g (omega arith)))
     (cases_lt a b)
 
-taken_least : (may : Mode → Bool) (cost : Mode → ℕ) → least_of may cost < 4294967295 → IsTaken may cost (least_of may cost)
-taken_least may cost =
-    taken_min may cost _ _ (taken_one may cost Numeric _ refl)
+taken_least : (m : Mode → Bool) (f : Mode → ℕ) → least_of m f < 4294967295 → IsTaken m f (least_of m f)
+taken_least m f =
+    taken_min m f _ _ (taken_one m f Numeric _ refl)
     (search (arith, taken_min, taken_one))
 
 ranked-number : (c b : ℕ) (m : Mode) → c ≡ 4 * b + rank m → ranked (c % 4) ≡ m
@@ -65,19 +65,19 @@ unfolding state_after
 state_after-byte _ = refl
 
 -- the least number is that of the mode of lowest rank among those that lead to the fewest bits
-pub least_choice : (v : ℕ) (r : Rule) (p : RunState) (x : ℕ) (pair : Bool) (cost : RunState → ℕ) (c : ℕ) → may_end p ≡ true → cost InBytes < 10000000
-    → c ≡ least_of (may_begin r x pair) (λ k. byte_cost v p k + cost (state_after p k))
-    → IsChoice v r p x pair cost (ranked (c % 4)) (c / 4)
+pub least_choice : (v : ℕ) (r : Rule) (p : RunState) (x : ℕ) (q : Bool) (cost : RunState → ℕ) (c : ℕ) → may_end p ≡ true → cost InBytes < 10000000
+    → c ≡ least_of (may_begin r x q) (λ k. byte_cost v p k + cost (state_after p k))
+    → IsChoice v r p x q cost (ranked (c % 4)) (c / 4)
 unfolding may_begin
-least_choice v r p x pair cost c e small is =
-    let total : Mode → ℕ = λ k. byte_cost v p k + cost (state_after p k) in
-    let take : (k : Mode) → may_take r p x pair k ≡ may_begin r x pair k = λ k. take_begin r p x pair k e in
-    let under : (k : Mode) → may_take r p x pair k ≡ true → c ≤ 4 * total k + rank k = search (arith, least_under) in
+least_choice v r p x q cost c e small is =
+    let t : Mode → ℕ = λ k. byte_cost v p k + cost (state_after p k) in
+    let take : (k : Mode) → may_take r p x q k ≡ may_begin r x q k = λ k. take_begin r p x q k e in
+    let under : (k : Mode) → may_take r p x q k ≡ true → c ≤ 4 * t k + rank k = search (arith, least_under) in
     let few : c < 4294967295 = search (arith, byte_used, byte_cost_bound, state_after-byte) in
-    let taken : IsTaken (may_begin r x pair) total c = rw is (taken_least (may_begin r x pair) total (rw is at few)) in
+    let taken : IsTaken (may_begin r x q) t c = rw is (taken_least (may_begin r x q) t (rw is at few)) in
     let m = taken.0 in
-    let bits : c / 4 ≡ total m = omega (arith, taken.2, rank_below m) in
-    rw (ranked-number c (total m) m taken.2)
+    let bits : c / 4 ≡ t m = omega (arith, taken.2, rank_below m) in
+    rw (ranked-number c (t m) m taken.2)
     (search (arith, rank_below))
 
 -- fewer bits make no larger number

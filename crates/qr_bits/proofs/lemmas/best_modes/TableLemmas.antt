@@ -18,12 +18,12 @@ unfolding allowed may_begin may_end state_after
 bytes_rest r test p [] e = e
 bytes_rest r test p (x ∷ xs) e = search (arith, and_from, take_begin, byte_used, bytes_rest r test InBytes xs refl)
 
-rest_after : (r : Rule) (test : ℕ → ℕ → Bool) (p : RunState) (x : ℕ) (xs : List ℕ) (m : Mode) → may_take r p x (begins_with_pair r test (x ∷ xs)) m ≡ true → (ks : List Mode) × IsTrue (allowed r test (state_after p m) xs ks)
+rest_after : (r : Rule) (t : ℕ → ℕ → Bool) (p : RunState) (x : ℕ) (xs : List ℕ) (m : Mode) → may_take r p x (begins_with_pair r t (x ∷ xs)) m ≡ true → (ks : List Mode) × IsTrue (allowed r t (state_after p m) xs ks)
 unfolding may_take may_begin begins_with_pair allowed state_after may_end
-rest_after r test HalfPair x xs Kanji h = (replicate (length xs) Byte, bytes_rest r test WholePair xs refl)
-rest_after r test _ x [] Kanji h = absurd (false≢true h)
-rest_after r test _ x (y ∷ xs) Kanji h = (Kanji ∷ replicate (length xs) Byte, bytes_rest r test WholePair xs refl)
-rest_after r test p x xs m h = (replicate (length xs) Byte, bytes_rest r test (state_after p m) xs (may_end-after p m (lit< tt)))
+rest_after r t HalfPair x xs Kanji h = (replicate (length xs) Byte, bytes_rest r t WholePair xs refl)
+rest_after r t _ x [] Kanji h = absurd (false≢true h)
+rest_after r t _ x (y ∷ xs) Kanji h = (Kanji ∷ replicate (length xs) Byte, bytes_rest r t WholePair xs refl)
+rest_after r t p x xs m h = (replicate (length xs) Byte, bytes_rest r t (state_after p m) xs (may_end-after p m (lit< tt)))
 
 -- the table without a row
 pub best_none : (v : ℕ) (r : Rule) (test : ℕ → ℕ → Bool) (cost : RunState → ℕ) → ((p : RunState) → cost p ≡ 0) → BestBelow v r test [] (λ p. follow p []) cost

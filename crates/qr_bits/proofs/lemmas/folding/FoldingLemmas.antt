@@ -31,8 +31,8 @@ pub length-folded : (r : Rule) (xs : List ℕ) → length (folded r xs) ≡ leng
 length-folded r xs = grind (arith, length-map, length-folded_around_pairs)
 
 -- one more part is folded
-pub more_folded : (prefix part rest next whole : List ℕ) → rest ≡ part ++ next → prefix ++ rest ≡ whole → (prefix ++ part) ++ next ≡ whole
-more_folded prefix part rest next whole e h = cc (append_assoc prefix part next)
+pub more_folded : (p part t n whole : List ℕ) → t ≡ part ++ n → p ++ t ≡ whole → (p ++ part) ++ n ≡ whole
+more_folded p part t n whole e h = cc (append_assoc p part n)
 
 -- if a pair begins here, there are two bytes
 pub begun_with_pair : (xs : List ℕ) → begins_with_pair WithKanji is_kanji_pair xs ≡ true → 2 ≤ length xs

@@ -37,11 +37,11 @@ in_twos-reverse test (x ∷ y ∷ xs) h =
 suits-reverse : (test : ℕ → ℕ → Bool) (m : Mode) (xs : List ℕ) → suits_by test m xs ≡ true → suits_by (swapped test) m (reverse xs) ≡ true
 suits-reverse test m xs h = grind (arith, list_all-reverse, in_twos-reverse)
 
-covers-push : (test : ℕ → ℕ → Bool) (xs ys : List ℕ) (ss : List Segment) (s : Segment) → 0 < s.len → length ys ≡ s.len → suits_by test s.mode ys ≡ true → CoversBy test xs ss → CoversBy test (xs ++ ys) (ss ++ s ∷ [])
+covers-push : (p : ℕ → ℕ → Bool) (xs ys : List ℕ) (ss : List Segment) (s : Segment) → 0 < s.len → length ys ≡ s.len → suits_by p s.mode ys ≡ true → CoversBy p xs ss → CoversBy p (xs ++ ys) (ss ++ s ∷ [])
 unfolding CoversBy
-covers-push test xs ys [] s a n h c = search (arith, take_all, drop_all)
-covers-push test xs ys (t ∷ ss) s a n h c =
-    search (arith, length-append, take-append-le, drop-append-le, covers-push test (drop t.len xs) ys ss s a n h c.3)
+covers-push p xs ys [] s a n h c = search (arith, take_all, drop_all)
+covers-push p xs ys (t ∷ ss) s a n h c =
+    search (arith, length-append, take-append-le, drop-append-le, covers-push p (drop t.len xs) ys ss s a n h c.3)
 
 covers-reverse : (test : ℕ → ℕ → Bool) (xs : List ℕ) (ss : List Segment) → CoversBy test xs ss → CoversBy (swapped test) (reverse xs) (reverse ss)
 unfolding CoversBy
@@ -70,9 +70,9 @@ bits-reverse : (v : ℕ) (ss : List Segment) → bits v (reverse ss) ≡ bits v 
 bits-reverse v [] = refl
 bits-reverse v (s ∷ ss) = rw (reverse-append (s ∷ []) ss) (omega (arith, bits-append v (reverse ss) (s ∷ []), bits-reverse v ss))
 
-mirror : (v : ℕ) (test : ℕ → ℕ → Bool) (r : Rule) (xs : List ℕ) (ms : List Mode) → IsAssignmentBy test r xs ms
-    → IsAssignmentBy (swapped test) r (reverse xs) (reverse ms) × (bits v (runs_of (reverse ms)) ≡ bits v (runs_of ms))
-mirror v test r xs ms h = search (arith, list_all-reverse, runs_of-reverse, covers-reverse, bits-reverse)
+mirror : (v : ℕ) (t : ℕ → ℕ → Bool) (r : Rule) (xs : List ℕ) (ms : List Mode) → IsAssignmentBy t r xs ms
+    → IsAssignmentBy (swapped t) r (reverse xs) (reverse ms) × (bits v (runs_of (reverse ms)) ≡ bits v (runs_of ms))
+mirror v t r xs ms h = search (arith, list_all-reverse, runs_of-reverse, covers-reverse, bits-reverse)
 
 -- if the best rest of a reversed prefix has at most n bits, the prefix fits n bits
 pub prefix_fits : (v : ℕ) (r : Rule) (xs : List ℕ) (f : RunState → List Mode) (cost : RunState → ℕ) (n : ℕ) → BestBelow v r (swapped is_kanji_pair) (reverse xs) f cost → cost Start ≤ n → HasFit v r xs n
@@ -110,13 +110,13 @@ unfolding begins_with_pair
 ends_short r xs h = grind (arith, length-reverse)
 
 -- the table for a reversed prefix with one more byte
-pub prefix_more : (v : ℕ) (r : Rule) (xs : List ℕ) (i : ℕ) (pair : Bool) (rows : List ℕ) (row : ℕ) (rest numbers : PerState ℕ) → i < length xs
+pub prefix_more : (v : ℕ) (r : Rule) (xs : List ℕ) (i : ℕ) (pair : Bool) (rows : List ℕ) (row : ℕ) (rest ns : PerState ℕ) → i < length xs
     → pair ≡ begins_with_pair r (swapped is_kanji_pair) (reverse (take (i + 1) xs))
     → BestBelow v r (swapped is_kanji_pair) (reverse (take i xs)) (λ p. follow p rows) (bits_at rest)
-    → IsRow v r (get_or xs i 0) pair rest row numbers
-    → BestBelow v r (swapped is_kanji_pair) (reverse (take (i + 1) xs)) (λ p. follow p (row ∷ rows)) (bits_at numbers)
-prefix_more v r xs i pair rows row rest numbers h e below choice =
+    → IsRow v r (get_or xs i 0) pair rest row ns
+    → BestBelow v r (swapped is_kanji_pair) (reverse (take (i + 1) xs)) (λ p. follow p (row ∷ rows)) (bits_at ns)
+prefix_more v r xs i pair rows row rest ns h e below choice =
     let x = get_or xs i 0 in
     let next : reverse (take (i + 1) xs) ≡ x ∷ reverse (take i xs) = cc (take_more xs i 0 h, reverse-append (take i xs) (x ∷ [])) in
     let flag : pair ≡ begins_with_pair r (swapped is_kanji_pair) (x ∷ reverse (take i xs)) = e ∙ ap (begins_with_pair r (swapped is_kanji_pair)) next in
-    rw next (best_more v r (swapped is_kanji_pair) x (reverse (take i xs)) rows row rest numbers below (subst (λ (b : Bool). IsRow v r x b rest row numbers) flag choice))
+    rw next (best_more v r (swapped is_kanji_pair) x (reverse (take i xs)) rows row rest ns below (subst (λ (b : Bool). IsRow v r x b rest row ns) flag choice))

@@ -21,11 +21,11 @@ pub payload_less : (n : ℕ) → 3 ≤ n → payload_bits Numeric n ≡ 10 + pay
 payload_less n h = search (arith, three_more)
 
 -- three digits, and the digits after them
-pub digits_step : (n : ℕ) (bits : List Bool) → 3 ≤ n → digits_of n bits ≡ cond (nat_lt (value (take 10 bits)) 1000)
-    (digits_of (n - 3) (drop 10 bits) >>= λ ds. Ok (digit (value (take 10 bits) / 100) ∷ digit (value (take 10 bits) / 10) ∷ digit (value (take 10 bits)) ∷ ds)) (Err BadValue)
+pub digits_step : (n : ℕ) (bs : List Bool) → 3 ≤ n → digits_of n bs ≡ cond (nat_lt (value (take 10 bs)) 1000)
+    (digits_of (n - 3) (drop 10 bs) >>= λ ds. Ok (digit (value (take 10 bs) / 100) ∷ digit (value (take 10 bs) / 10) ∷ digit (value (take 10 bs)) ∷ ds)) (Err BadValue)
 unfolding digits_of
-digits_step (suc (suc (suc n))) bits h = search arith
-digits_step _ bits h = absurd (omega arith)
+digits_step (suc (suc (suc n))) bs h = search arith
+digits_step _ bs h = absurd (omega arith)
 
 -- two characters less have eleven bits less
 pub payload_two_less : (n : ℕ) → 2 ≤ n → payload_bits Alphanumeric n ≡ 11 + payload_bits Alphanumeric (n - 2)

@@ -80,8 +80,8 @@ unfolding segment_stream
 segment_from v m bits n p four e number said =
     let w = said.0 in
     let count = field (count_width v m) n.0 in
-    let behind : n.1 ≡ payload m p.0 ++ p.1 = cc in
-    let tail : drop 4 bits ≡ count ++ (payload m p.0 ++ p.1) = number.1 ∙ ap (λ (t : List Bool). count ++ t) behind in
+    let b : n.1 ≡ payload m p.0 ++ p.1 = cc in
+    let tail : drop 4 bits ≡ count ++ (payload m p.0 ++ p.1) = number.1 ∙ ap (λ (t : List Bool). count ++ t) b in
     let head : take 4 bits ≡ field 4 (indicator m) = sym (field_read 4 bits four) ∙ ap (field 4) e in
     grind (arith, append_assoc, take-append-drop)
 
@@ -200,10 +200,10 @@ unfolding begins_header segments_stream ends
 none_begins v xs [] tail e = search (arith, lt-leb, eqb-true, le-ltb, le-leb)
 none_begins v xs (s ∷ ss) tail e = grind (arith, first_four, append_assoc, le-leb)
 
-first_again : (v : ℕ) (h : Option Header) (xs : List ℕ) (segs : List Segment) (tail : List Bool) → HeaderFits h → ends tail ≡ true
-    → first_header ((header_stream h ++ segments_stream v xs segs) ++ tail) ≡ Ok (h, segments_stream v xs segs ++ tail)
+first_again : (v : ℕ) (h : Option Header) (xs : List ℕ) (ss : List Segment) (tail : List Bool) → HeaderFits h → ends tail ≡ true
+    → first_header ((header_stream h ++ segments_stream v xs ss) ++ tail) ≡ Ok (h, segments_stream v xs ss ++ tail)
 unfolding first_header header_stream
-first_again v h xs segs tail fits e = grind (arith, none_begins, append_assoc, header_again)
+first_again v h xs ss tail fits e = grind (arith, none_begins, append_assoc, header_again)
 
 fits_of : (h : Header) → h.position < 16 → h.last < 16 → h.parity < 256 → HeaderFits (Some h)
 fits_of h a b d = search arith

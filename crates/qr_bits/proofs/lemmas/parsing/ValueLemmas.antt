@@ -35,33 +35,33 @@ characters_again (a ∷ b ∷ xs) rest h =
     let d = drop-field 11 g (character_bits xs ++ rest) in
     search (arith, append_assoc, lt-ltb, character_again, characters_again xs rest q.1)
 
-characters_takes : (n : ℕ) (xs : List ℕ) (bits : List Bool) → payload_bits Alphanumeric n ≤ length bits → characters_of n bits ≡ Ok xs → IsWritten Alphanumeric n bits xs
+characters_takes : (n : ℕ) (xs : List ℕ) (bs : List Bool) → payload_bits Alphanumeric n ≤ length bs → characters_of n bs ≡ Ok xs → IsWritten Alphanumeric n bs xs
 unfolding characters_of character_bits payload
-characters_takes zero xs bits h e = search (arith, same_ok, All-nil)
-characters_takes (suc zero) xs bits h e =
+characters_takes zero xs bs h e = search (arith, same_ok, All-nil)
+characters_takes (suc zero) xs bs h e =
     let c = chosen_ok _ _ _ xs e in
-    let t = character_taken (value (take 6 bits)) (ltb-true _ _ c.0) in
-    let whole = field_read 6 bits h in
-    subst (IsWritten Alphanumeric 1 bits) (same_ok _ _ c.1) (search (arith, All-cons, All-nil, and_from, take-append-drop))
-characters_takes (suc (suc n)) xs bits h e =
-    let g = value (take 11 bits) in
+    let t = character_taken (value (take 6 bs)) (ltb-true _ _ c.0) in
+    let whole = field_read 6 bs h in
+    subst (IsWritten Alphanumeric 1 bs) (same_ok _ _ c.1) (search (arith, All-cons, All-nil, and_from, take-append-drop))
+characters_takes (suc (suc n)) xs bs h e =
+    let g = value (take 11 bs) in
     let c = chosen_ok _ _ _ xs e in
-    let b = bind_ok (characters_of n (drop 11 bits)) _ xs c.1 in
+    let b = bind_ok (characters_of n (drop 11 bs)) _ xs c.1 in
     let low : g < 2025 = ltb-true _ _ c.0 in
     let two : suc (suc n) ≡ 2 + n = omega arith in
-    let room : 11 + payload_bits Alphanumeric n ≤ length bits = omega (arith, two_more) in
-    let w = characters_takes n b.0 (drop 11 bits) (omega (arith, length-drop 11 bits)) b.1 in
+    let room : 11 + payload_bits Alphanumeric n ≤ length bs = omega (arith, two_more) in
+    let w = characters_takes n b.0 (drop 11 bs) (omega (arith, length-drop 11 bs)) b.1 in
     let i = character_taken (g / 45) (omega arith) in
     let j = character_taken (g % 45) (omega arith) in
     let back : 45 * (g / 45) + g % 45 ≡ g = omega arith in
-    let whole = more_written 11 (payload_bits Alphanumeric n) bits (character_bits b.0) (omega arith) w.whole in
-    rw two (subst (IsWritten Alphanumeric (2 + n) bits) (same_ok _ _ b.2) (search (arith, All-cons, and_from, two_more)))
+    let whole = more_written 11 (payload_bits Alphanumeric n) bs (character_bits b.0) (omega arith) w.whole in
+    rw two (subst (IsWritten Alphanumeric (2 + n) bs) (same_ok _ _ b.2) (search (arith, All-cons, and_from, two_more)))
 
 -- bytes that are written are read back
-pub bytes_again : (xs : List ℕ) (rest : List Bool) → All (λ b. b < 256) xs → bytes_of (length xs) (bits_of xs ++ rest) ≡ xs
+pub bytes_again : (xs : List ℕ) (t : List Bool) → All (λ b. b < 256) xs → bytes_of (length xs) (bits_of xs ++ t) ≡ xs
 unfolding bytes_of bits_of
-bytes_again [] rest h = refl
-bytes_again (x ∷ xs) rest h = search (arith, append_assoc, read_field, drop-field, All-head, All-tail, bytes_again xs rest)
+bytes_again [] t h = refl
+bytes_again (x ∷ xs) t h = search (arith, append_assoc, read_field, drop-field, All-head, All-tail, bytes_again xs t)
 
 -- bytes that are read are written as the same bits
 pub bytes_takes : (n : ℕ) (bits : List Bool) → 8 * n ≤ length bits

@@ -33,9 +33,9 @@ add_one : (test : ℕ → ℕ → Bool) (m : Mode) (x : ℕ) (xs : List ℕ) (se
 unfolding CoversBy
 add_one test m x xs segs k h c = grind arith
 
-drop_one : (test : ℕ → ℕ → Bool) (m : Mode) (x : ℕ) (xs : List ℕ) (segs : List Segment) → rank m < 3 → Positive segs → CoversBy test (x ∷ xs) (prepend_mode m segs) → (suits_by test m (x ∷ []) ≡ true) × CoversBy test xs segs
+drop_one : (t : ℕ → ℕ → Bool) (m : Mode) (x : ℕ) (xs : List ℕ) (segs : List Segment) → rank m < 3 → Positive segs → CoversBy t (x ∷ xs) (prepend_mode m segs) → (suits_by t m (x ∷ []) ≡ true) × CoversBy t xs segs
 unfolding CoversBy
-drop_one test m x xs segs k p c = grind arith
+drop_one t m x xs segs k p c = grind arith
 
 drop_pair : (test : ℕ → ℕ → Bool) (x y : ℕ) (xs : List ℕ) (segs : List Segment) → Positive segs → CoversBy test (x ∷ y ∷ xs) (prepend_mode Kanji (prepend_mode Kanji segs)) → (test x y ≡ true) × CoversBy test xs segs
 unfolding CoversBy

@@ -73,7 +73,7 @@ pub segment_least : (v : ℕ) (s : Segment) → 10 * s.len + 3 * (4 + count_widt
 segment_least v s = omega (arith, payload_least s.mode s.len)
 
 -- segments have at least ten bits for three bytes
-pub bits_least : (v : ℕ) (xs : List ℕ) (segs : List Segment) → Suits xs segs → 10 * length xs ≤ 3 * bits v segs
+pub bits_least : (v : ℕ) (xs : List ℕ) (ts : List Segment) → Suits xs ts → 10 * length xs ≤ 3 * bits v ts
 unfolding Suits
 bits_least v xs [] h = omega (arith, ap length h)
 bits_least v xs (s ∷ ss) h = omega (arith, segment_least v s, bits_least v (drop s.len xs) ss h.2, length-drop s.len xs, h.0)

@@ -40,8 +40,8 @@ value_from-inj a b (false ∷ xs) (false ∷ ys) l e = search (arith, value_from
 
 field-value : (w : ℕ) (bs : List Bool) → length bs ≡ w → field w (value bs) ≡ bs
 field-value w bs h =
-    let small : value bs < 2 ^ w = rw (← h) (value_below bs) in
-    (value_from-inj 0 0 (field w (value bs)) bs (length-field w (value bs) ∙ sym h) (value-field w (value bs) small)).1
+    let s : value bs < 2 ^ w = rw (← h) (value_below bs) in
+    (value_from-inj 0 0 (field w (value bs)) bs (length-field w (value bs) ∙ sym h) (value-field w (value bs) s)).1
 
 -- these bytes are digits
 abbrev pub AreDigits : List ℕ → Type 0
@@ -64,9 +64,9 @@ pub field_read : (w : ℕ) (bits : List Bool) → w ≤ length bits → field w 
 field_read w bits h = field-value w (take w bits) (length-take-le w bits h)
 
 -- a number that was read before other data, written again, is the bits that were read
-pub more_written : (w k : ℕ) (bits body : List Bool) → w ≤ length bits → drop w bits ≡ body ++ drop k (drop w bits)
-    → bits ≡ (field w (value (take w bits)) ++ body) ++ drop (w + k) bits
-more_written w k bits body h e = search (arith, field_read, append_assoc, drop-drop, take-append-drop)
+pub more_written : (w k : ℕ) (bs body : List Bool) → w ≤ length bs → drop w bs ≡ body ++ drop k (drop w bs)
+    → bs ≡ (field w (value (take w bs)) ++ body) ++ drop (w + k) bs
+more_written w k bs body h e = search (arith, field_read, append_assoc, drop-drop, take-append-drop)
 
 -- Digits that are written are read back.
 pub digits_again : (xs : List ℕ) (rest : List Bool) → AreDigits xs → digits_of (length xs) (digit_bits xs ++ rest) ≡ Ok xs
@@ -101,34 +101,34 @@ is_digit-digit : (n : ℕ) → is_digit (digit n) ≡ true
 is_digit-digit n = search (arith, nat_tests)
 
 -- Digits that are read are written as the same bits.
-pub digits_takes : (n : ℕ) (xs : List ℕ) (bits : List Bool) → payload_bits Numeric n ≤ length bits → digits_of n bits ≡ Ok xs → IsWritten Numeric n bits xs
+pub digits_takes : (n : ℕ) (xs : List ℕ) (bs : List Bool) → payload_bits Numeric n ≤ length bs → digits_of n bs ≡ Ok xs → IsWritten Numeric n bs xs
 unfolding digits_of digit_bits payload
-digits_takes zero xs bits h e = search (arith, same_ok, All-nil)
-digits_takes (suc zero) xs bits h e =
-    let g = value (take 4 bits) in
+digits_takes zero xs bs h e = search (arith, same_ok, All-nil)
+digits_takes (suc zero) xs bs h e =
+    let g = value (take 4 bs) in
     let c = chosen_ok _ _ _ xs e in
     let low : g < 10 = ltb-true _ _ c.0 in
     let back : digit g - 48 ≡ g = omega arith in
-    let whole : bits ≡ field 4 (value (take 4 bits)) ++ drop 4 bits = cc (field_read 4 bits h, take-append-drop 4 bits) in
-    subst (IsWritten Numeric 1 bits) (same_ok _ _ c.1) (search (arith, All-cons, All-nil, is_digit-digit))
-digits_takes (suc (suc zero)) xs bits h e =
-    let g = value (take 7 bits) in
+    let whole : bs ≡ field 4 (value (take 4 bs)) ++ drop 4 bs = cc (field_read 4 bs h, take-append-drop 4 bs) in
+    subst (IsWritten Numeric 1 bs) (same_ok _ _ c.1) (search (arith, All-cons, All-nil, is_digit-digit))
+digits_takes (suc (suc zero)) xs bs h e =
+    let g = value (take 7 bs) in
     let c = chosen_ok _ _ _ xs e in
     let low : g < 100 = ltb-true _ _ c.0 in
     let back : 10 * (digit (g / 10) - 48) + (digit g - 48) ≡ g = omega arith in
-    let whole : bits ≡ field 7 (value (take 7 bits)) ++ drop 7 bits = cc (field_read 7 bits h, take-append-drop 7 bits) in
-    subst (IsWritten Numeric 2 bits) (same_ok _ _ c.1) (search (arith, All-cons, All-nil, is_digit-digit))
-digits_takes (suc (suc (suc n))) xs bits h e =
-    let g = value (take 10 bits) in
+    let whole : bs ≡ field 7 (value (take 7 bs)) ++ drop 7 bs = cc (field_read 7 bs h, take-append-drop 7 bs) in
+    subst (IsWritten Numeric 2 bs) (same_ok _ _ c.1) (search (arith, All-cons, All-nil, is_digit-digit))
+digits_takes (suc (suc (suc n))) xs bs h e =
+    let g = value (take 10 bs) in
     let c = chosen_ok _ _ _ xs e in
-    let b = bind_ok (digits_of n (drop 10 bits)) _ xs c.1 in
+    let b = bind_ok (digits_of n (drop 10 bs)) _ xs c.1 in
     let low : g < 1000 = ltb-true _ _ c.0 in
     let three : suc (suc (suc n)) ≡ 3 + n = omega arith in
-    let room : 10 + payload_bits Numeric n ≤ length bits = search (arith, three_more) in
-    let w = digits_takes n b.0 (drop 10 bits) (omega (arith, length-drop 10 bits)) b.1 in
+    let room : 10 + payload_bits Numeric n ≤ length bs = search (arith, three_more) in
+    let w = digits_takes n b.0 (drop 10 bs) (omega (arith, length-drop 10 bs)) b.1 in
     let back : 100 * (digit (g / 100) - 48) + 10 * (digit (g / 10) - 48) + (digit g - 48) ≡ g = omega arith in
-    let whole = more_written 10 (payload_bits Numeric n) bits (digit_bits b.0) (omega arith) w.whole in
-    rw three (subst (IsWritten Numeric (3 + n) bits) (same_ok _ _ b.2) (record {
+    let whole = more_written 10 (payload_bits Numeric n) bs (digit_bits b.0) (omega arith) w.whole in
+    rw three (subst (IsWritten Numeric (3 + n) bs) (same_ok _ _ b.2) (record {
       long = omega (arith, w.long);
       bytes = search (arith, All-cons);
       suited = search (arith, is_digit-digit);

@@ -92,5 +92,5 @@ unfolding segments_stream
 stream_end v xs segs i h = rw (drop_all i segs h) refl
 
 -- one more part is written, and the rest is still to be written
-pub append_next : (prefix part rest whole next : List Bool) → whole ≡ prefix ++ (part ++ rest) → next ≡ prefix ++ part → next ++ rest ≡ whole
-append_next prefix part rest whole next e f = rw f (append_assoc prefix part rest ∙ sym e)
+pub append_next : (p part t whole n : List Bool) → whole ≡ p ++ (part ++ t) → n ≡ p ++ part → n ++ t ≡ whole
+append_next p part t whole n e f = rw f (append_assoc p part t ∙ sym e)

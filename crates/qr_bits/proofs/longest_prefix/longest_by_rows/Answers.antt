@@ -28,16 +28,16 @@ loop-i-preserved c =
     let i = c.loop-i.i in
     let inv = c.loop-i.invariant in
     let chosen : IsRow v r (get_or xs i 0) _ c.loop-i.rest c.best_choices.result.0 c.best_choices.result.1 = rw c.of-first_choices.ensures at c.best_choices.ensures in
-    let below = prefix_more v r xs i _ inv.best.0 _ _ _ (omega arith) c.ends_with_pair-pair.ensures inv.best.1 chosen in
+    let b = prefix_more v r xs i _ inv.best.0 _ _ _ (omega arith) c.ends_with_pair-pair.ensures inv.best.1 chosen in
     let room = c.args.room in
     elim c.if-from-room.branch [
       | then-from-room w ↦
           rw w.longest-is (record {
             inside = omega arith;
-            fits = prefix_fits v r (take (i + 1) xs) _ _ room below (omega (arith, w.if-from-room.true, c.from.ensures));
+            fits = prefix_fits v r (take (i + 1) xs) _ _ room b (omega (arith, w.if-from-room.true, c.from.ensures));
             longest = λ k h _. h;
             small = search (arith, small_more);
-            best = (c.best_choices.result.0 ∷ inv.best.0, below);
+            best = (c.best_choices.result.0 ∷ inv.best.0, b);
           })
       | else-from-room w ↦
           rw w.longest-is (record {
@@ -46,11 +46,11 @@ loop-i-preserved c =
             longest = λ k h fit. ⊎_elim
                 (λ (l : i < k).
                 let e : k ≡ i + 1 = omega arith in
-                absurd (omega (arith, prefix_least v r (take (i + 1) xs) _ _ room below (rw e at fit), w.if-from-room.false, c.from.ensures)))
+                absurd (omega (arith, prefix_least v r (take (i + 1) xs) _ _ room b (rw e at fit), w.if-from-room.false, c.from.ensures)))
                 (λ (l : k ≤ i). inv.longest k l fit)
                 (cases_lt i k);
             small = search (arith, small_more);
-            best = (c.best_choices.result.0 ∷ inv.best.0, below);
+            best = (c.best_choices.result.0 ∷ inv.best.0, b);
           })
     ]
 

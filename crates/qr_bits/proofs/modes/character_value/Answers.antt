@@ -8,10 +8,10 @@ unwrap-requires c = rw (c.place_of.ensures, character_place c.args.character c.r
 
 pub overflow_cast-result : goal.overflow_cast-result
 overflow_cast-result c =
-    let same : c.unwrap.result ≡ character_value c.args.character = cc (character_place c.args.character c.requires) in
+    let s : c.unwrap.result ≡ character_value c.args.character = cc (character_place c.args.character c.requires) in
     omega (arith, character_found)
 
 pub returns : goal.returns
 returns c =
-    let same : c.unwrap.result ≡ character_value c.args.character = cc (character_place c.args.character c.requires) in
+    let s : c.unwrap.result ≡ character_value c.args.character = cc (character_place c.args.character c.requires) in
     omega (arith, character_found)
