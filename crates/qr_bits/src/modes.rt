@@ -175,7 +175,7 @@ fn place_of(character: u8) -> Option<usize>
 }
 
 // The 13 bits of a kanji pair (7.4.6).
-#[tactic(auto, unfolding(crate::specs::Modes::kanji_value), using(crate::proofs::lemmas::modes::KanjiLemmas::least_first, crate::proofs::lemmas::modes::KanjiLemmas::least_second))]
+#[tactic(auto, unfolding(crate::specs::Modes::kanji_value), using(crate::proofs::lemmas::modes::KanjiLemmas::least_pair))]
 pub(crate) fn kanji_value(high: u8, low: u8) -> u16
     requires { IsTrue (is_kanji_pair high low) }
     ensures { result ≡ kanji_value high low }

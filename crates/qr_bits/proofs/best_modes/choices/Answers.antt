@@ -1,12 +1,16 @@
-use Rattle.std.proofs.Common.{◌≡◌, ◌+◌, ◌<◌, ◌≤◌, ℕ, refl, arith}
-use Rattle.qr_bits.specs.declared.modes.Mode.{Mode}
+use Rattle.std.proofs.Common.{◌≡◌, ◌+◌, ◌<◌, ◌≤◌, ℕ, min, refl, ◌∙◌, arith}
+use Rattle.qr_bits.specs.declared.{modes.Mode.Mode, run_state.RunState.RunState}
 use Rattle.qr_bits.specs.declared.modes.Mode.TheVariants.{Numeric, Alphanumeric, Byte, Kanji}
-use Rattle.qr_bits.specs.declared.run_state.RunState.{RunState}
 use Rattle.qr_bits.specs.declared.run_state.RunState.TheVariants.{Start, Digit1, Digit2, Digit3, Character1, Character2, InBytes, HalfPair, WholePair}
 use Rattle.qr_bits.specs.Steps.RunState.{state_after, byte_cost, may_begin, may_end, choice_number}
 use Rattle.qr_bits.specs.Steps.BestModes.{in_state, bits_at}
 use Rattle.qr_bits.proofs.lemmas.best_modes.ChoiceLemmas.{byte_used, half_choice, least_choice, number_less}
 use Rattle.qr_bits.proofs.best_modes.choices.Goals as goal
+
+-- the least choice in a state, as the least of the four modes, if the choice of its own mode is no more than at the start
+minima : (n a b k d c2 c1 b1 k1 : ℕ) → d ≤ n → c1 ≤ a → b1 ≤ b → k1 ≤ k → let s = min n (min a (min b k)) in
+    (min d s ≡ min d (min a (min b k))) × (min c2 (min n (min b k)) ≡ min n (min c2 (min b k))) × (min c1 s ≡ min n (min c1 (min b k))) × (min b1 s ≡ min n (min a (min b1 k))) × (min k1 s ≡ min n (min a (min b k1)))
+minima n a b k d c2 c1 b1 k1 h i j l = (omega arith, omega arith, omega arith, omega arith, omega arith)
 
 pub returns : goal.returns
 unfolding may_begin may_end byte_cost state_after in_state
@@ -16,31 +20,32 @@ returns c = λ r x digit character.
     let t = c.args.pair in
     let rest = c.args.rest.now in
     let of : RunState → Mode → ℕ = λ q k. choice_number (may_begin r x t k) (byte_cost v q k + bits_at rest (state_after q k)) k in
-    let small : bits_at rest InBytes < 10000000 = omega (arith, c.requires) in
-    let n : c.choice_if-digits.result ≡ of Start Numeric = rw digit at (c.choice_if-digits.ensures _ Numeric h.numeric_is) in
-    let a : c.choice_if-characters.result ≡ of Start Alphanumeric =
-    rw character at (c.choice_if-characters.ensures _ Alphanumeric h.alphanumeric_is) in
+    let s : bits_at rest InBytes < 10000000 = omega (arith, c.requires) in
+    let n = rw digit at (c.choice_if-digits.ensures _ Numeric h.numeric_is) in
+    let a = rw character at (c.choice_if-characters.ensures _ Alphanumeric h.alphanumeric_is) in
     let b : c.choice_if-bytes.result ≡ of Start Byte = rw (byte_used r) (c.choice_if-bytes.ensures _ Byte h.byte_is) in
-    let k : c.choice_if-pairs.result ≡ of Start Kanji = c.choice_if-pairs.ensures _ Kanji h.kanji_is in
-    let digit2 : c.choice_if-digit2.result ≡ of Digit1 Numeric = rw digit at (c.choice_if-digit2.ensures 3 Numeric c.number.ensures.value) in
-    let digit3 : c.choice_if-digit3.result ≡ of Digit2 Numeric = rw digit at (c.choice_if-digit3.ensures 3 Numeric c.number-2.ensures.value) in
-    let digit1 : c.choice_if-digit1.result ≡ of Digit3 Numeric = rw digit at (c.choice_if-digit1.ensures 4 Numeric c.number-3.ensures.value) in
-    let character2 : c.choice_if-character2.result ≡ of Character1 Alphanumeric = rw character at (c.choice_if-character2.ensures 5 Alphanumeric c.number-4.ensures.value) in
-    let character1 : c.choice_if-character1.result ≡ of Character2 Alphanumeric = rw character at (c.choice_if-character1.ensures 6 Alphanumeric c.number-5.ensures.value) in
-    let in_bytes : c.choice_if-in_bytes.result ≡ of InBytes Byte = rw (byte_used r) (c.choice_if-in_bytes.ensures 8 Byte c.number-6.ensures.value) in
-    let half_pair : c.choice_if-half_pair.result ≡ of WholePair Kanji = c.choice_if-half_pair.ensures 13 Kanji c.number-8.ensures.value in
-    let d : of Digit3 Numeric ≤ of Start Numeric = number_less _ Numeric _ _ (omega arith) in
-    let e : of Character2 Alphanumeric ≤ of Start Alphanumeric = number_less _ Alphanumeric _ _ (omega arith) in
-    let f : of InBytes Byte ≤ of Start Byte = number_less _ Byte _ _ (omega arith) in
-    let g : of WholePair Kanji ≤ of Start Kanji = number_less _ Kanji _ _ (omega arith) in
+    let k = c.choice_if-pairs.ensures _ Kanji h.kanji_is in
+    let d2 = rw digit at (c.choice_if-digit2.ensures 3 Numeric c.number.ensures.value) in
+    let d3 = rw digit at (c.choice_if-digit3.ensures 3 Numeric c.number-2.ensures.value) in
+    let d1 = rw digit at (c.choice_if-digit1.ensures 4 Numeric c.number-3.ensures.value) in
+    let c2 = rw character at (c.choice_if-character2.ensures 5 Alphanumeric c.number-4.ensures.value) in
+    let c1 = rw character at (c.choice_if-character1.ensures 6 Alphanumeric c.number-5.ensures.value) in
+    let b1 : c.choice_if-in_bytes.result ≡ of InBytes Byte = rw (byte_used r) (c.choice_if-in_bytes.ensures 8 Byte c.number-6.ensures.value) in
+    let k1 = c.choice_if-half_pair.ensures 13 Kanji c.number-8.ensures.value in
+    let bk = rw (b, k) at c.min-others.ensures in
+    let ab = rw (a, bk) at c.min-no_digits.ensures in
+    let nbk = rw (n, bk) at c.min-no_characters.ensures in
+    let start = rw (n, ab) at c.min-start.ensures in
+    let m = minima (of Start Numeric) (of Start Alphanumeric) (of Start Byte) (of Start Kanji) (of Digit3 Numeric) (of Character1 Alphanumeric) (of Character2 Alphanumeric) (of InBytes Byte) (of WholePair Kanji)
+    (number_less _ Numeric _ _ (omega arith)) (number_less _ Alphanumeric _ _ (omega arith)) (number_less _ Byte _ _ (omega arith)) (number_less _ Kanji _ _ (omega arith)) in
     elim [
-      | Start ↦ rw (c.row_for.ensures Start) (least_choice v r Start x t _ _ refl small (omega arith))
-      | Digit1 ↦ rw (c.row_for.ensures Digit1) (least_choice v r Digit1 x t _ _ refl small (omega arith))
-      | Digit2 ↦ rw (c.row_for.ensures Digit2) (least_choice v r Digit2 x t _ _ refl small (omega arith))
-      | Digit3 ↦ rw (c.row_for.ensures Digit3) (least_choice v r Digit3 x t _ _ refl small (omega arith))
-      | Character1 ↦ rw (c.row_for.ensures Character1) (least_choice v r Character1 x t _ _ refl small (omega arith))
-      | Character2 ↦ rw (c.row_for.ensures Character2) (least_choice v r Character2 x t _ _ refl small (omega arith))
-      | InBytes ↦ rw (c.row_for.ensures InBytes) (least_choice v r InBytes x t _ _ refl small (omega arith))
+      | Start ↦ rw (c.row_for.ensures Start) (least_choice v r Start x t _ _ refl s start)
+      | Digit1 ↦ rw (c.row_for.ensures Digit1) (least_choice v r Digit1 x t _ _ refl s (rw (d2, ab) at c.min.ensures))
+      | Digit2 ↦ rw (c.row_for.ensures Digit2) (least_choice v r Digit2 x t _ _ refl s (rw (d3, ab) at c.min-2.ensures))
+      | Digit3 ↦ rw (c.row_for.ensures Digit3) (least_choice v r Digit3 x t _ _ refl s ((rw (d1, start) at c.min-3.ensures) ∙ m.0))
+      | Character1 ↦ rw (c.row_for.ensures Character1) (least_choice v r Character1 x t _ _ refl s ((rw (c2, nbk) at c.min-4.ensures) ∙ m.1))
+      | Character2 ↦ rw (c.row_for.ensures Character2) (least_choice v r Character2 x t _ _ refl s ((rw (c1, start) at c.min-5.ensures) ∙ m.2))
+      | InBytes ↦ rw (c.row_for.ensures InBytes) (least_choice v r InBytes x t _ _ refl s ((rw (b1, start) at c.min-6.ensures) ∙ m.3))
       | HalfPair ↦ rw (c.row_for.ensures HalfPair) (half_choice v r x t _ _ (c.choice_if-whole_pair.ensures 0 Kanji c.number-7.ensures.value))
-      | WholePair ↦ rw (c.row_for.ensures WholePair) (least_choice v r WholePair x t _ _ refl small (omega arith))
+      | WholePair ↦ rw (c.row_for.ensures WholePair) (least_choice v r WholePair x t _ _ refl s ((rw (k1, start) at c.min-7.ensures) ∙ m.4))
     ]

@@ -1,5 +1,4 @@
-use Rattle.std.proofs.Common.{◌<◌, length, sym, ◌∙◌, arith}
-use Rattle.std.proofs.lemmas.Bool.{eqb-false}
+use Rattle.std.proofs.{Common.◌<◌, Common.length, Common.sym, Common.◌∙◌, Common.arith, lemmas.Bool.eqb-false}
 use Rattle.qr_bits.proofs.lemmas.folding.FoldingLemmas.{folded_pair, folded_one, more_folded}
 use Rattle.qr_bits.proofs.folding.fold_around_pairs.Goals as goal
 

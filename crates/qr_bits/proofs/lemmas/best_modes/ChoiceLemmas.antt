@@ -1,11 +1,9 @@
 -- The best mode for a byte is the one whose number is the least.
 use Rattle.std.proofs.Common.{◌≡◌, ℕ, ◌+◌, ◌*◌, ◌/◌, ◌%◌, ◌<◌, ◌≤◌, Bool, true, min, refl, ⊎_elim, arith}
 use Rattle.std.proofs.lemmas.Bool.{cases_lt}
-use Rattle.qr_bits.specs.declared.modes.Mode.{Mode}
+use Rattle.qr_bits.specs.{declared.modes.Mode.Mode, declared.modes.Rule.Rule, Segmentation.rank, Modes.may_use}
 use Rattle.qr_bits.specs.declared.modes.Mode.TheVariants.{Numeric, Alphanumeric, Byte, Kanji}
-use Rattle.qr_bits.specs.declared.modes.Rule.{Rule}
 use Rattle.qr_bits.specs.declared.run_state.RunState.{RunState, TheVariants.InBytes, TheVariants.HalfPair}
-use Rattle.qr_bits.specs.{Segmentation.rank, Modes.may_use}
 use Rattle.qr_bits.specs.Steps.RunState.{state_after, state_on, byte_cost, may_begin, may_take, may_end, choice_number, ranked, IsChoice}
 
 -- the least of the numbers of the four modes
@@ -14,19 +12,16 @@ least_of may cost =
     min (choice_number (may Numeric) (cost Numeric) Numeric)
     (min (choice_number (may Alphanumeric) (cost Alphanumeric) Alphanumeric) (min (choice_number (may Byte) (cost Byte) Byte) (choice_number (may Kanji) (cost Kanji) Kanji)))
 
--- the least number is no more than the number of each mode that may be used
-least_under : (may : Mode → Bool) (cost : Mode → ℕ) (k : Mode) → may k ≡ true → least_of may cost ≤ 4 * cost k + rank k
-least_under may cost k t = grind arith
+least_under : (m : Mode → Bool) (f : Mode → ℕ) (k : Mode) → m k ≡ true → least_of m f ≤ 4 * f k + rank k
+least_under m f k t = grind arith
 
 -- the number is that of a mode that may be used
 abbrev IsTaken : (Mode → Bool) → (Mode → ℕ) → ℕ → Type 0
 IsTaken may cost c = (m : Mode) × (may m ≡ true) × (c ≡ 4 * cost m + rank m)
 
--- a number below the limit is that of a mode that may be used
 taken_one : (may : Mode → Bool) (cost : Mode → ℕ) (m : Mode) (t : Bool) → t ≡ may m → choice_number t (cost m) m < 4294967295 → IsTaken may cost (choice_number t (cost m) m)
 taken_one may cost m t e h = grind arith
 
--- the lesser of two numbers is one of them
 taken_min : (may : Mode → Bool) (cost : Mode → ℕ) (a b : ℕ) → (a < 4294967295 → IsTaken may cost a) → (b < 4294967295 → IsTaken may cost b) → min a b < 4294967295 → IsTaken may cost (min a b)
 taken_min may cost a b f g h =
     ⊎_elim
@@ -34,30 +29,24 @@ taken_min may cost a b f g h =
     (λ (l : b ≤ a). let e : min a b ≡ b = omega arith in rw e (g (omega arith)))
     (cases_lt a b)
 
--- the least of the four numbers is that of a mode that may be used, if it is below the limit
-taken_least : (may : Mode → Bool) (cost : Mode → ℕ) → least_of may cost < 4294967295 → IsTaken may cost (least_of may cost)
-taken_least may cost =
-    taken_min may cost _ _ (taken_one may cost Numeric _ refl)
+taken_least : (m : Mode → Bool) (f : Mode → ℕ) → least_of m f < 4294967295 → IsTaken m f (least_of m f)
+taken_least m f =
+    taken_min m f _ _ (taken_one m f Numeric _ refl)
     (search (arith, taken_min, taken_one))
 
--- the mode that belongs to a number
 ranked-number : (c b : ℕ) (m : Mode) → c ≡ 4 * b + rank m → ranked (c % 4) ≡ m
 ranked-number c b m e = grind arith
 
 -- a byte adds at most 33 bits
 pub byte_cost_bound : (v : ℕ) (p : RunState) (m : Mode) → byte_cost v p m ≤ 33
 unfolding byte_cost
-byte_cost_bound v p Numeric = grind arith
-byte_cost_bound v p Alphanumeric = grind arith
-byte_cost_bound v p Byte = grind arith
-byte_cost_bound v p Kanji = grind arith
+byte_cost_bound v p m = grind arith
 
 -- each rule allows byte mode
 pub byte_used : (r : Rule) → may_use r Byte ≡ true
 byte_used r = grind arith
 
--- there are four modes
-pub rank_below : (m : Mode) → rank m < 4
+rank_below : (m : Mode) → rank m < 4
 rank_below m = grind arith
 
 -- if no half pair is open, the modes that may be used are those that may begin
@@ -71,25 +60,24 @@ pub half_choice : (v : ℕ) (r : Rule) (x : ℕ) (pair : Bool) (cost : RunState 
 unfolding may_take byte_cost state_after
 half_choice v r x pair cost c is = search (arith, ranked-number)
 
--- after a byte in byte mode the state is `InBytes`
 state_after-byte : (p : RunState) → state_after p Byte ≡ InBytes
 unfolding state_after
 state_after-byte _ = refl
 
 -- the least number is that of the mode of lowest rank among those that lead to the fewest bits
-pub least_choice : (v : ℕ) (r : Rule) (p : RunState) (x : ℕ) (pair : Bool) (cost : RunState → ℕ) (c : ℕ) → may_end p ≡ true → cost InBytes < 10000000
-    → c ≡ least_of (may_begin r x pair) (λ k. byte_cost v p k + cost (state_after p k))
-    → IsChoice v r p x pair cost (ranked (c % 4)) (c / 4)
+pub least_choice : (v : ℕ) (r : Rule) (p : RunState) (x : ℕ) (q : Bool) (cost : RunState → ℕ) (c : ℕ) → may_end p ≡ true → cost InBytes < 10000000
+    → c ≡ least_of (may_begin r x q) (λ k. byte_cost v p k + cost (state_after p k))
+    → IsChoice v r p x q cost (ranked (c % 4)) (c / 4)
 unfolding may_begin
-least_choice v r p x pair cost c e small is =
-    let total : Mode → ℕ = λ k. byte_cost v p k + cost (state_after p k) in
-    let take : (k : Mode) → may_take r p x pair k ≡ may_begin r x pair k = λ k. take_begin r p x pair k e in
-    let under : (k : Mode) → may_take r p x pair k ≡ true → c ≤ 4 * total k + rank k = search (arith, least_under) in
+least_choice v r p x q cost c e small is =
+    let t : Mode → ℕ = λ k. byte_cost v p k + cost (state_after p k) in
+    let take : (k : Mode) → may_take r p x q k ≡ may_begin r x q k = λ k. take_begin r p x q k e in
+    let under : (k : Mode) → may_take r p x q k ≡ true → c ≤ 4 * t k + rank k = search (arith, least_under) in
     let few : c < 4294967295 = search (arith, byte_used, byte_cost_bound, state_after-byte) in
-    let taken : IsTaken (may_begin r x pair) total c = rw is (taken_least (may_begin r x pair) total (rw is at few)) in
+    let taken : IsTaken (may_begin r x q) t c = rw is (taken_least (may_begin r x q) t (rw is at few)) in
     let m = taken.0 in
-    let bits : c / 4 ≡ total m = omega (arith, taken.2, rank_below m) in
-    rw (ranked-number c (total m) m taken.2)
+    let bits : c / 4 ≡ t m = omega (arith, taken.2, rank_below m) in
+    rw (ranked-number c (t m) m taken.2)
     (search (arith, rank_below))
 
 -- fewer bits make no larger number
@@ -104,7 +92,4 @@ state_after-whole p e = grind arith
 -- the state after one more byte in the mode of the last one
 pub on_after : (p : RunState) (m : Mode) → state_on (state_after p m) ≡ state_after (state_after p m) m
 unfolding state_on state_after
-on_after p Numeric = grind arith
-on_after p Alphanumeric = grind arith
-on_after _ Byte = refl
-on_after p Kanji = grind arith
+on_after p m = grind arith

@@ -1,17 +1,15 @@
 -- A table of best modes, filled from the last byte to the first.
-use Rattle.std.proofs.Common.{◌≡◌, ℕ, ◌+◌, ◌*◌, ◌/◌, ◌%◌, ◌^◌, ◌≤◌, Bool, true, List, [], ◌∷◌, ◌++◌, length, replicate, reverse, append_assoc, IsTrue, refl, ap, arith, lit<}
+use Rattle.std.proofs.Common.{◌≡◌, ℕ, ◌+◌, ◌*◌, ◌/◌, ◌%◌, ◌^◌, ◌≤◌, Bool, true, List, [], ◌∷◌, ◌++◌, length, replicate, reverse, append_assoc, IsTrue, refl, arith, lit<}
 use Rattle.std.proofs.lemmas.{Bool.false≢true, Bool.and_from, List.reverse-append}
-use Rattle.qr_bits.specs.declared.modes.Mode.{Mode}
-use Rattle.qr_bits.specs.declared.modes.Mode.TheVariants.{Numeric, Alphanumeric, Byte, Kanji}
-use Rattle.qr_bits.specs.declared.{modes.Rule.Rule, run_state.RunState.RunState}
+use Rattle.qr_bits.specs.declared.{modes.Mode.Mode, modes.Rule.Rule, run_state.RunState.RunState}
+use Rattle.qr_bits.specs.declared.modes.Mode.TheVariants.{Byte, Kanji}
 use Rattle.qr_bits.specs.declared.run_state.RunState.TheVariants.{Start, Digit1, Digit2, Digit3, Character1, Character2, InBytes, HalfPair, WholePair}
 use Rattle.qr_bits.specs.{declared.run_state.PerState.PerState, Segmentation.IsBestAssignment, Modes.is_kanji_pair}
-use Rattle.qr_bits.specs.Steps.RunState.{state_after, begins_with_pair, may_begin, may_take, may_end, allowed, cost_of, ranked, IsBestRest}
+use Rattle.qr_bits.specs.Steps.RunState.{state_after, begins_with_pair, may_begin, may_take, may_end, allowed, cost_of, ranked}
 use Rattle.qr_bits.specs.Steps.BestModes.{in_state, bits_at, shift_of, mode_at, follow, IsBestTable, IsRow, IsSmall}
 use Rattle.qr_bits.proofs.lemmas.segment.CoverLemmas.{covers_by, by_covers}
-use Rattle.qr_bits.proofs.lemmas.run_state.BestLemmas.{BestBelow, best_step}
+use Rattle.qr_bits.proofs.lemmas.run_state.{BestLemmas.BestBelow, BestLemmas.best_step, CostLemmas.bits-runs_of}
 use Rattle.qr_bits.proofs.lemmas.best_modes.ChoiceLemmas.{byte_used, byte_cost_bound, take_begin}
-use Rattle.qr_bits.proofs.lemmas.run_state.CostLemmas.{bits-runs_of}
 use Rattle.qr_bits.proofs.lemmas.run_state.AssignmentLemmas.{can_take, is_assignment, may_end-after}
 
 -- byte mode for each byte is an allowed rest if no half pair is open
@@ -20,24 +18,17 @@ unfolding allowed may_begin may_end state_after
 bytes_rest r test p [] e = e
 bytes_rest r test p (x ∷ xs) e = search (arith, and_from, take_begin, byte_used, bytes_rest r test InBytes xs refl)
 
--- after each mode that may be used, some rest is allowed
-pub rest_after : (r : Rule) (test : ℕ → ℕ → Bool) (p : RunState) (x : ℕ) (xs : List ℕ) (m : Mode) → may_take r p x (begins_with_pair r test (x ∷ xs)) m ≡ true → (ks : List Mode) × IsTrue (allowed r test (state_after p m) xs ks)
+rest_after : (r : Rule) (t : ℕ → ℕ → Bool) (p : RunState) (x : ℕ) (xs : List ℕ) (m : Mode) → may_take r p x (begins_with_pair r t (x ∷ xs)) m ≡ true → (ks : List Mode) × IsTrue (allowed r t (state_after p m) xs ks)
 unfolding may_take may_begin begins_with_pair allowed state_after may_end
-rest_after r test p x xs Numeric h = (replicate (length xs) Byte, bytes_rest r test (state_after p Numeric) xs (may_end-after p Numeric (lit< tt)))
-rest_after r test p x xs Alphanumeric h = (replicate (length xs) Byte, bytes_rest r test (state_after p Alphanumeric) xs (may_end-after p Alphanumeric (lit< tt)))
-rest_after r test p x xs Byte h = (replicate (length xs) Byte, bytes_rest r test InBytes xs refl)
-rest_after r test HalfPair x xs Kanji h = (replicate (length xs) Byte, bytes_rest r test WholePair xs refl)
-rest_after r test _ x [] Kanji h = absurd (false≢true h)
-rest_after r test _ x (y ∷ xs) Kanji h = (Kanji ∷ replicate (length xs) Byte, bytes_rest r test WholePair xs refl)
-
-none_best : (v : ℕ) (r : Rule) (test : ℕ → ℕ → Bool) (p : RunState) (ks : List Mode) (n : ℕ) → n ≡ 0 → IsTrue (allowed r test p [] ks) → IsBestRest v r test p [] [] n
-unfolding allowed cost_of
-none_best v r test p ks n e h = grind arith
+rest_after r t HalfPair x xs Kanji h = (replicate (length xs) Byte, bytes_rest r t WholePair xs refl)
+rest_after r t _ x [] Kanji h = absurd (false≢true h)
+rest_after r t _ x (y ∷ xs) Kanji h = (Kanji ∷ replicate (length xs) Byte, bytes_rest r t WholePair xs refl)
+rest_after r t p x xs m h = (replicate (length xs) Byte, bytes_rest r t (state_after p m) xs (may_end-after p m (lit< tt)))
 
 -- the table without a row
 pub best_none : (v : ℕ) (r : Rule) (test : ℕ → ℕ → Bool) (cost : RunState → ℕ) → ((p : RunState) → cost p ≡ 0) → BestBelow v r test [] (λ p. follow p []) cost
-unfolding follow
-best_none v r test cost zeros = search (arith, none_best)
+unfolding follow allowed cost_of
+best_none v r test cost zeros p ks h = grind (arith, zeros p)
 
 -- the table with one more row
 pub best_more : (v : ℕ) (r : Rule) (test : ℕ → ℕ → Bool) (x : ℕ) (xs rows : List ℕ) (row : ℕ) (rest numbers : PerState ℕ)
@@ -67,15 +58,10 @@ zeros p = grind arith
 abbrev pub packed : PerState ℕ → ℕ
 packed n = n.start % 4 + 4 * (n.digit1 % 4 + 4 * (n.digit2 % 4 + 4 * (n.digit3 % 4 + 4 * (n.character1 % 4 + 4 * (n.character2 % 4 + 4 * (n.in_bytes % 4 + 4 * (n.half_pair % 4 + 4 * (n.whole_pair % 4))))))))
 
--- the two bits for a state in a row
-packed-at : (n : PerState ℕ) (p : RunState) → packed n / 2 ^ shift_of p % 4 ≡ in_state n p % 4
-unfolding in_state
-packed-at n p = grind arith
-
 -- the mode for a state in a row
 pub packed-mode : (n : PerState ℕ) (p : RunState) → mode_at (packed n) p ≡ ranked (in_state n p % 4)
-unfolding mode_at
-packed-mode n p = ap ranked (packed-at n p)
+unfolding mode_at in_state
+packed-mode n p = let e : packed n / 2 ^ shift_of p % 4 ≡ in_state n p % 4 = grind arith in cc
 
 -- the modes to which a table leads are the best assignment
 pub assignment_from_table : (v : ℕ) (r : Rule) (xs : List ℕ) (rows : List ℕ) → IsBestTable v r is_kanji_pair xs rows → IsBestAssignment v r xs (follow Start rows)

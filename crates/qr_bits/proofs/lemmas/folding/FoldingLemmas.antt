@@ -1,9 +1,8 @@
 -- Folding around kanji pairs, step by step.
-use Rattle.std.proofs.Common.{◌≡◌, ℕ, suc, ◌<◌, ◌≤◌, true, false, List, [], ◌∷◌, ◌++◌, length, get_or, take, drop, refl, ap, ⊎_elim, arith, append_assoc}
-use Rattle.std.proofs.lemmas.{List.length-map, Bool.cases_Bool}
+use Rattle.std.proofs.Common.{◌≡◌, ℕ, ◌<◌, ◌≤◌, true, false, List, [], ◌∷◌, ◌++◌, length, get_or, take, drop, refl, arith, append_assoc}
+use Rattle.std.proofs.lemmas.{List.length-map}
 use Rattle.qr_bits.specs.{declared.modes.Rule.Rule, declared.modes.Rule.TheVariants.WithKanji, Modes.is_kanji_pair}
-use Rattle.qr_bits.specs.Folding.{capital, folded, folded_around_pairs}
-use Rattle.qr_bits.specs.Steps.RunState.{begins_with_pair}
+use Rattle.qr_bits.specs.{Folding.capital, Folding.folded, Folding.folded_around_pairs, Steps.RunState.begins_with_pair}
 
 -- a pair stays
 pub folded_pair : (xs : List ℕ) → begins_with_pair WithKanji is_kanji_pair xs ≡ true → folded_around_pairs xs ≡ take 2 xs ++ folded_around_pairs (drop 2 xs)
@@ -25,19 +24,15 @@ pub length-folded_around_pairs : (xs : List ℕ) → length (folded_around_pairs
 unfolding folded_around_pairs
 length-folded_around_pairs [] = refl
 length-folded_around_pairs (x ∷ []) = refl
-length-folded_around_pairs (x ∷ y ∷ xs) =
-    ⊎_elim
-    (search (arith, length-folded_around_pairs xs))
-    (λ (f : is_kanji_pair x y ≡ false). rw f (ap suc (length-folded_around_pairs (y ∷ xs))))
-    (cases_Bool (is_kanji_pair x y))
+length-folded_around_pairs (x ∷ y ∷ xs) = grind (arith, length-folded_around_pairs xs, length-folded_around_pairs (y ∷ xs))
 
 -- folding keeps the number of bytes
 pub length-folded : (r : Rule) (xs : List ℕ) → length (folded r xs) ≡ length xs
 length-folded r xs = grind (arith, length-map, length-folded_around_pairs)
 
 -- one more part is folded
-pub more_folded : (prefix part rest next whole : List ℕ) → rest ≡ part ++ next → prefix ++ rest ≡ whole → (prefix ++ part) ++ next ≡ whole
-more_folded prefix part rest next whole e h = cc (append_assoc prefix part next)
+pub more_folded : (p part t n whole : List ℕ) → t ≡ part ++ n → p ++ t ≡ whole → (p ++ part) ++ n ≡ whole
+more_folded p part t n whole e h = cc (append_assoc p part n)
 
 -- if a pair begins here, there are two bytes
 pub begun_with_pair : (xs : List ℕ) → begins_with_pair WithKanji is_kanji_pair xs ≡ true → 2 ≤ length xs

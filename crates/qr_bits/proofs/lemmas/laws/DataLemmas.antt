@@ -1,11 +1,10 @@
 -- Data codewords: a stream that fits a symbol has one list of them, and a parse returns what they were made of.
-use Rattle.std.proofs.Common.{◌≡◌, ℕ, zero, suc, ◌+◌, ◌-◌, ◌*◌, ◌/◌, ◌%◌, ◌<◌, ◌≤◌, min, Bool, true, false, All, List, [], ◌++◌, length, replicate, Ok, Option, refl, sym, ◌∙◌, ap, ⊎_elim, arith, append_assoc, length-append, append-nil}
-use Rattle.std.proofs.lemmas.Bool.{lt-ltb, cases_lt, or_right}
-use Rattle.std.proofs.lemmas.List.{length-replicate, drop_all}
+use Rattle.std.proofs.Common.{◌≡◌, ℕ, zero, suc, ◌+◌, ◌-◌, ◌*◌, ◌/◌, ◌%◌, ◌<◌, ◌≤◌, min, Bool, true, false, All, List, [], ◌++◌, length, replicate, Ok, Option, refl, ap, ⊎_elim, arith, append_assoc, length-append, append-nil}
+use Rattle.std.proofs.lemmas.{Bool.lt-ltb, Bool.cases_lt, Bool.or_right, List.length-replicate, List.drop_all}
 use Rattle.qr_layout.specs.{declared.level.Level.Level, Blocks.data_codewords_of}
 use Rattle.qr_bits.specs.declared.{segment.Segment.Segment, header.Header.Header}
 use Rattle.qr_bits.specs.{Bits.bits_of, Segmentation.bits, Header.header_bits, Stream.IsStream}
-use Rattle.qr_bits.specs.Parsing.{ends, bytes_of, parse}
+use Rattle.qr_bits.specs.Parsing.{ends, parse}
 use Rattle.qr_bits.specs.Padding.{capacity_of, terminated, filled, pads, padded, IsData}
 use Rattle.qr_bits.proofs.lemmas.{bits.BitLemmas.length-bits_of, padding.PaddingLemmas.length-header_stream}
 use Rattle.qr_bits.proofs.lemmas.parsing.ValueLemmas.{bytes_again, bytes_takes}
@@ -15,33 +14,22 @@ use Rattle.qr_bits.proofs.lemmas.{stream.WritingLemmas.length-segments_stream, p
 pub length-stream : (v : ℕ) (xs : List ℕ) (segs : List Segment) (h : Option Header) (stream : List Bool) → IsStream v xs segs h stream → length stream ≡ header_bits h + bits v segs
 length-stream v xs segs h stream is = search (arith, length-append, length-header_stream, length-segments_stream)
 
--- the number of pad codewords is n
 length-pads : (n : ℕ) → length (pads n) ≡ n
 unfolding pads
 length-pads zero = refl
 length-pads (suc zero) = refl
 length-pads (suc (suc n)) = ap (λ (k : ℕ). suc (suc k)) (length-pads n)
 
--- the terminator and the padding
-abbrev terminator : ℕ → List Bool → List Bool
-terminator n stream = replicate (min 4 (8 * n - length stream)) false
-
--- the zero bits to the end of a codeword
-abbrev filling : List Bool → List Bool
-filling bits = replicate ((8 - length bits % 8) % 8) false
-
--- the padded stream fills n codewords
 length-padded : (n : ℕ) (stream : List Bool) → length stream ≤ 8 * n → length (padded n stream) ≡ 8 * n
 unfolding padded
 length-padded n stream h =
     grind (arith, length-append, length-replicate, bits_of, length-bits_of, length-pads)
 
--- the stream is followed by an end
 tail_of : (n : ℕ) (stream : List Bool) → length stream ≤ 8 * n → (tail : List Bool) × (padded n stream ≡ stream ++ tail) × (ends tail ≡ true)
 unfolding padded ends
 tail_of n stream h =
-    let t = terminator n stream in
-    let f = filling (terminated (8 * n) stream) in
+    let t = replicate (min 4 (8 * n - length stream)) false in
+    let f = replicate ((8 - length (terminated (8 * n) stream) % 8) % 8) false in
     let p = bits_of (pads (n - length (filled (terminated (8 * n) stream)) / 8)) in
     let whole : ((stream ++ t) ++ f) ++ p ≡ stream ++ (t ++ (f ++ p)) = search (arith, append_assoc) in (
       t ++ (f ++ p),
@@ -71,11 +59,10 @@ data_found v l xs segs h stream is fits =
     let w = bytes_takes n all (omega arith) in
     grind (arith, drop_all, bits_of, append-nil)
 
--- bytes that have the same bits are equal
 same_bytes : (xs ys : List ℕ) → All (λ b. b < 256) xs → All (λ b. b < 256) ys → bits_of xs ≡ bits_of ys → xs ≡ ys
 same_bytes xs ys a b e =
     let len : length xs ≡ length ys = omega (arith, ap length e, length-bits_of xs, length-bits_of ys) in
-    sym (bytes_again xs [] a) ∙ ap (λ (t : List Bool). bytes_of (length xs) (t ++ [])) e ∙ ap (λ (k : ℕ). bytes_of k (bits_of ys ++ [])) len ∙ bytes_again ys [] b
+    cc (bytes_again xs [] a, bytes_again ys [] b)
 
 -- There is only one list of data codewords.
 pub data_one : (v : ℕ) (l : Level) (xs : List ℕ) (segs : List Segment) (h : Option Header) (cw dw : List ℕ) → IsData v l xs segs h cw → IsData v l xs segs h dw → cw ≡ dw

@@ -2,17 +2,15 @@
 use Rattle.std.proofs.Common.{◌≡◌, ℕ, ◌+◌, ◌<◌, ◌≤◌, true, false, List, [], ◌∷◌, ◌++◌, refl, arith}
 use Rattle.std.proofs.lemmas.Bool.{and_parts, and_from, false≢true}
 use Rattle.std.specs.List.{list_all}
-use Rattle.qr_bits.specs.declared.modes.Mode.{Mode}
-use Rattle.qr_bits.specs.declared.modes.Mode.TheVariants.{Numeric, Alphanumeric, Kanji}
+use Rattle.qr_bits.specs.{declared.modes.Mode.Mode, Modes.may_use, Modes.is_kanji_pair}
+use Rattle.qr_bits.specs.declared.modes.Mode.TheVariants.{Kanji}
 use Rattle.qr_bits.specs.declared.{modes.Rule.Rule, run_state.RunState.RunState}
 use Rattle.qr_bits.specs.declared.run_state.RunState.TheVariants.{Start, Digit1, Digit2, Digit3, Character1, Character2}
 use Rattle.qr_bits.specs.Segmentation.{rank, bits, runs_of, IsAssignment, HasFit}
-use Rattle.qr_bits.specs.Modes.{may_use, is_kanji_pair}
 use Rattle.qr_bits.specs.Steps.RunState.{state_after, byte_cost, begins_with_pair, may_take, may_end, allowed, cost_of}
 use Rattle.qr_bits.proofs.lemmas.segment.CoverLemmas.{covers_by, by_covers}
-use Rattle.qr_bits.proofs.lemmas.run_state.CostLemmas.{bits-runs_of}
+use Rattle.qr_bits.proofs.lemmas.{run_state.CostLemmas.bits-runs_of, best_modes.ChoiceLemmas.take_begin}
 use Rattle.qr_bits.proofs.lemmas.run_state.AssignmentLemmas.{may_end-after, begin_is, can_take, is_assignment}
-use Rattle.qr_bits.proofs.lemmas.best_modes.ChoiceLemmas.{take_begin}
 
 -- the state of a run after one more byte
 abbrev ahead : RunState → RunState
@@ -32,23 +30,12 @@ lag _ = 0
 behind_ahead : (v : ℕ) (p : RunState) (ms : List Mode) → cost_of v p ms ≤ cost_of v (ahead p) ms + lag p
 unfolding cost_of byte_cost state_after
 behind_ahead v p [] = omega arith
-behind_ahead v Digit1 (Numeric ∷ ms) = omega (arith, behind_ahead v Digit2 ms)
-behind_ahead v Digit2 (Numeric ∷ ms) = omega (arith, behind_ahead v Digit3 ms)
-behind_ahead v Digit3 (Numeric ∷ ms) = omega (arith, behind_ahead v Digit1 ms)
-behind_ahead v Character1 (Alphanumeric ∷ ms) = omega (arith, behind_ahead v Character2 ms)
-behind_ahead v Character2 (Alphanumeric ∷ ms) = omega (arith, behind_ahead v Character1 ms)
-behind_ahead v _ (Numeric ∷ ms) = omega arith
-behind_ahead v _ (Alphanumeric ∷ ms) = omega arith
-behind_ahead v p h = grind arith
+behind_ahead v p (m ∷ ms) = grind (arith, behind_ahead v (state_after p m) ms)
 
--- without the first mode an assignment takes no more bits
 without_first : (v : ℕ) (m : Mode) (ms : List Mode) → rank m < 3 → cost_of v Start ms ≤ cost_of v Start (m ∷ ms)
 unfolding cost_of byte_cost state_after
 without_first v m [] h = omega arith
-without_first v Numeric (Numeric ∷ ms) h = omega (arith, behind_ahead v Digit1 ms)
-without_first v Alphanumeric (Alphanumeric ∷ ms) h = omega (arith, behind_ahead v Character1 ms)
-without_first v Kanji (k ∷ ms) h = absurd (omega arith)
-without_first v _ k h = grind arith
+without_first v m (k ∷ ms) h = grind (arith, behind_ahead v Digit1 ms, behind_ahead v Character1 ms)
 
 -- the rule does not allow kanji mode
 abbrev pub IsPlain : Rule → Type 0

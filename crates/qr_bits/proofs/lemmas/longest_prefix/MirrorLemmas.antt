@@ -1,57 +1,48 @@
 -- Bytes in reverse order: their valid assignments are those of the bytes, reversed, with equally many bits. The two bytes of
 -- each kanji pair are exchanged.
-use Rattle.std.proofs.Common.{◌≡◌, ℕ, ◌+◌, ◌-◌, ◌≤◌, ◌<◌, Bool, true, false, ◌==◌, ◌&&◌, List, [], ◌∷◌, ◌++◌, reverse, length, take, drop, get_or, refl, sym, ◌∙◌, ap, arith, subst}
-use Rattle.std.proofs.lemmas.Bool.{cond_both, and_parts, and_from, false≢true, eqb-true, eq-eqb, ne_eqb}
+use Rattle.std.proofs.Common.{◌≡◌, ℕ, ◌+◌, ◌-◌, ◌≤◌, ◌<◌, Bool, true, false, ◌&&◌, List, [], ◌∷◌, ◌++◌, reverse, length, take, drop, get_or, refl, ◌∙◌, ap, arith, subst}
+use Rattle.std.{proofs.lemmas.Bool.Decides.nat_tests, specs.List.list_all, proofs.lemmas.List.Folds.list_all-append}
+use Rattle.std.proofs.lemmas.Bool.{and_parts, and_from}
 use Rattle.std.proofs.lemmas.List.{reverse-append, reverse-reverse, take_more, take_all, drop_all, take-append-le, drop-append-le, take-append-drop, length-append, length-take-le, length-reverse, get_or-reverse}
-use Rattle.std.proofs.lemmas.List.Folds.{list_all-append}
-use Rattle.std.specs.List.{list_all}
 use Rattle.qr_bits.specs.declared.modes.{Mode.Mode, Mode.TheVariants.Kanji, Rule.Rule}
-use Rattle.qr_bits.specs.declared.segment.Segment.{Segment}
+use Rattle.qr_bits.specs.declared.{segment.Segment.Segment, run_state.PerState.PerState}
 use Rattle.qr_bits.specs.declared.run_state.RunState.{RunState, TheVariants.Start}
-use Rattle.qr_bits.specs.Segmentation.{rank, bits, prepend_mode, runs_of, HasFit}
+use Rattle.qr_bits.specs.Segmentation.{bits, prepend_mode, runs_of, HasFit}
 use Rattle.qr_bits.specs.Modes.{in_twos, is_kanji_pair, may_use}
-use Rattle.qr_bits.specs.Steps.Segmentation.{append_mode}
+use Rattle.qr_bits.{specs.Steps.Segmentation.append_mode, proofs.lemmas.run_state.CostLemmas.bits-runs_of}
 use Rattle.qr_bits.specs.Steps.RunState.{swapped, begins_with_pair, may_end}
-use Rattle.qr_bits.specs.declared.run_state.PerState.{PerState}
 use Rattle.qr_bits.specs.Steps.BestModes.{bits_at, follow, IsRow}
 use Rattle.qr_bits.proofs.lemmas.segment.CoverLemmas.{covers_by, by_covers, suits_by, CoversBy}
 use Rattle.qr_bits.proofs.lemmas.run_state.BestLemmas.{BestBelow, same_rank}
 use Rattle.qr_bits.proofs.lemmas.segmentation.BackLemmas.{runs_of-push, append_mode-last}
-use Rattle.qr_bits.proofs.lemmas.run_state.CostLemmas.{bits-runs_of}
 use Rattle.qr_bits.proofs.lemmas.run_state.AssignmentLemmas.{IsAssignmentBy, can_take, is_assignment}
 use Rattle.qr_bits.proofs.lemmas.best_modes.TableLemmas.{bytes_rest, best_more}
 
--- if all elements of a list pass a test, all elements of its reverse pass it
 list_all-reverse : {X : Type 0} (p : X → Bool) (xs : List X) → list_all p xs ≡ true → list_all p (reverse xs) ≡ true
 list_all-reverse p [] h = refl
 list_all-reverse p (x ∷ xs) h =
     rw (reverse-append (x ∷ []) xs) (search (arith, list_all-append, and_parts, and_from, list_all-reverse p xs))
 
--- two more bytes at the end that pass the test
 in_twos-push : (test : ℕ → ℕ → Bool) (xs : List ℕ) (x y : ℕ) → in_twos test xs ≡ true → test x y ≡ true → in_twos test (xs ++ x ∷ y ∷ []) ≡ true
 in_twos-push test [] x y h t = search (arith, and_from)
 in_twos-push test (a ∷ []) x y h t = cc
 in_twos-push test (a ∷ b ∷ xs) x y h t = search (arith, and_parts, and_from, in_twos-push test xs x y)
 
--- bytes that pass a test two by two pass it reversed, with the arguments of the test exchanged
 in_twos-reverse : (test : ℕ → ℕ → Bool) (xs : List ℕ) → in_twos test xs ≡ true → in_twos (swapped test) (reverse xs) ≡ true
 in_twos-reverse test [] h = refl
 in_twos-reverse test (x ∷ []) h = cc
 in_twos-reverse test (x ∷ y ∷ xs) h =
     rw (reverse-append (x ∷ y ∷ []) xs) (search (arith, in_twos-push, and_parts, in_twos-reverse test xs))
 
--- bytes that can be written in a mode can be written in it reversed
 suits-reverse : (test : ℕ → ℕ → Bool) (m : Mode) (xs : List ℕ) → suits_by test m xs ≡ true → suits_by (swapped test) m (reverse xs) ≡ true
 suits-reverse test m xs h = grind (arith, list_all-reverse, in_twos-reverse)
 
--- one more segment at the end
-covers-push : (test : ℕ → ℕ → Bool) (xs ys : List ℕ) (ss : List Segment) (s : Segment) → 0 < s.len → length ys ≡ s.len → suits_by test s.mode ys ≡ true → CoversBy test xs ss → CoversBy test (xs ++ ys) (ss ++ s ∷ [])
+covers-push : (p : ℕ → ℕ → Bool) (xs ys : List ℕ) (ss : List Segment) (s : Segment) → 0 < s.len → length ys ≡ s.len → suits_by p s.mode ys ≡ true → CoversBy p xs ss → CoversBy p (xs ++ ys) (ss ++ s ∷ [])
 unfolding CoversBy
-covers-push test xs ys [] s a n h c = search (arith, take_all, drop_all)
-covers-push test xs ys (t ∷ ss) s a n h c =
-    search (arith, length-append, take-append-le, drop-append-le, covers-push test (drop t.len xs) ys ss s a n h c.3)
+covers-push p xs ys [] s a n h c = search (arith, take_all, drop_all)
+covers-push p xs ys (t ∷ ss) s a n h c =
+    search (arith, length-append, take-append-le, drop-append-le, covers-push p (drop t.len xs) ys ss s a n h c.3)
 
--- reversed segments cover the reversed bytes, with the arguments of the test exchanged
 covers-reverse : (test : ℕ → ℕ → Bool) (xs : List ℕ) (ss : List Segment) → CoversBy test xs ss → CoversBy (swapped test) (reverse xs) (reverse ss)
 unfolding CoversBy
 covers-reverse test xs [] c = ap reverse c
@@ -59,43 +50,29 @@ covers-reverse test xs (s ∷ ss) c =
     let whole : reverse xs ≡ reverse (drop s.len xs) ++ reverse (take s.len xs) = cc (take-append-drop s.len xs, reverse-append (take s.len xs) (drop s.len xs)) in
     rw (reverse-append (s ∷ []) ss, whole) (search (arith, covers-push, length-reverse, length-take-le, suits-reverse, covers-reverse test (drop s.len xs) ss c.3))
 
--- a mode added before segments is added after the reversed segments
 prepend_mode-reverse : (m : Mode) (ss : List Segment) → append_mode (reverse ss) m ≡ reverse (prepend_mode m ss)
 unfolding append_mode
 prepend_mode-reverse m [] = refl
 prepend_mode-reverse m (s ∷ ss) =
-    rw (reverse-append (s ∷ []) ss, append_mode-last (reverse ss) s m)
-    (cond_both (rank m == rank s.mode) _ _ (λ (r : List Segment). reverse ss ++ append_mode (s ∷ []) m ≡ reverse r)
-    (λ e.
-    let same = same_rank m s.mode (eqb-true _ _ e) in
-    let t : (rank s.mode == rank m) ≡ true = eq-eqb _ _ (sym (eqb-true _ _ e)) in
-    let n : s.len + 1 ≡ 1 + s.len = omega arith in
-    cc (reverse-append (record { mode = m; len = 1 + s.len } ∷ []) ss))
-    (λ e.
-    let t : (rank s.mode == rank m) ≡ false = ne_eqb _ _ (λ q. false≢true (sym e ∙ eq-eqb _ _ (sym q))) in
-    rw t (sym (reverse-append (record { mode = m; len = 1 } ∷ s ∷ []) ss))))
+    rw (reverse-append (s ∷ []) ss, append_mode-last (reverse ss) s m) (grind (arith, nat_tests, same_rank, reverse-append (record { mode = m; len = 1 + s.len } ∷ []) ss, reverse-append (record { mode = m; len = 1 } ∷ s ∷ []) ss))
 
--- the runs of reversed modes are the reversed runs of the modes
 runs_of-reverse : (ms : List Mode) → runs_of (reverse ms) ≡ reverse (runs_of ms)
 unfolding runs_of
 runs_of-reverse [] = refl
 runs_of-reverse (m ∷ ms) =
     rw (reverse-append (m ∷ []) ms) (search (arith, runs_of-push, prepend_mode-reverse, runs_of-reverse ms))
 
--- the bits of two lists of segments add up
 bits-append : (v : ℕ) (ss ts : List Segment) → bits v (ss ++ ts) ≡ bits v ss + bits v ts
 bits-append v [] ts = omega arith
 bits-append v (s ∷ ss) ts = omega (arith, bits-append v ss ts)
 
--- reversed segments have the same number of bits
 bits-reverse : (v : ℕ) (ss : List Segment) → bits v (reverse ss) ≡ bits v ss
 bits-reverse v [] = refl
 bits-reverse v (s ∷ ss) = rw (reverse-append (s ∷ []) ss) (omega (arith, bits-append v (reverse ss) (s ∷ []), bits-reverse v ss))
 
--- If an assignment is valid for some bytes, its reverse is valid for the reversed bytes, and has the same number of bits.
-mirror : (v : ℕ) (test : ℕ → ℕ → Bool) (r : Rule) (xs : List ℕ) (ms : List Mode) → IsAssignmentBy test r xs ms
-    → IsAssignmentBy (swapped test) r (reverse xs) (reverse ms) × (bits v (runs_of (reverse ms)) ≡ bits v (runs_of ms))
-mirror v test r xs ms h = search (arith, list_all-reverse, runs_of-reverse, covers-reverse, bits-reverse)
+mirror : (v : ℕ) (t : ℕ → ℕ → Bool) (r : Rule) (xs : List ℕ) (ms : List Mode) → IsAssignmentBy t r xs ms
+    → IsAssignmentBy (swapped t) r (reverse xs) (reverse ms) × (bits v (runs_of (reverse ms)) ≡ bits v (runs_of ms))
+mirror v t r xs ms h = search (arith, list_all-reverse, runs_of-reverse, covers-reverse, bits-reverse)
 
 -- if the best rest of a reversed prefix has at most n bits, the prefix fits n bits
 pub prefix_fits : (v : ℕ) (r : Rule) (xs : List ℕ) (f : RunState → List Mode) (cost : RunState → ℕ) (n : ℕ) → BestBelow v r (swapped is_kanji_pair) (reverse xs) f cost → cost Start ≤ n → HasFit v r xs n
@@ -119,7 +96,6 @@ pub empty_fits : (v : ℕ) (r : Rule) (n : ℕ) → HasFit v r [] n
 unfolding CoversBy runs_of
 empty_fits v r n = ([], (refl, by_covers [] [] refl), omega arith)
 
--- the test of the first two bytes
 begins_at : (r : Rule) (test : ℕ → ℕ → Bool) (xs : List ℕ) → 2 ≤ length xs → begins_with_pair r test xs ≡ (may_use r Kanji && test (get_or xs 0 0) (get_or xs 1 0))
 unfolding begins_with_pair
 begins_at r test xs h = grind arith
@@ -128,27 +104,19 @@ begins_at r test xs h = grind arith
 pub ends_at : (r : Rule) (xs : List ℕ) → 2 ≤ length xs → begins_with_pair r (swapped is_kanji_pair) (reverse xs) ≡ (may_use r Kanji && is_kanji_pair (get_or xs (length xs - 2) 0) (get_or xs (length xs - 1) 0))
 ends_at r xs h = search (arith, begins_at, length-reverse, get_or-reverse)
 
--- fewer than two bytes do not begin with two
-begins_short : (r : Rule) (test : ℕ → ℕ → Bool) (xs : List ℕ) → length xs < 2 → begins_with_pair r test xs ≡ false
-unfolding begins_with_pair
-begins_short r test xs h = grind arith
-
 -- fewer than two bytes do not end in two
 pub ends_short : (r : Rule) (xs : List ℕ) → length xs < 2 → begins_with_pair r (swapped is_kanji_pair) (reverse xs) ≡ false
-ends_short r xs h = search (arith, begins_short, length-reverse)
-
--- a reversed prefix with one more byte
-pub prefix_next : (xs : List ℕ) (i : ℕ) → i < length xs → reverse (take (i + 1) xs) ≡ get_or xs i 0 ∷ reverse (take i xs)
-prefix_next xs i h = ap reverse (take_more xs i 0 h) ∙ reverse-append (take i xs) (get_or xs i 0 ∷ [])
+unfolding begins_with_pair
+ends_short r xs h = grind (arith, length-reverse)
 
 -- the table for a reversed prefix with one more byte
-pub prefix_more : (v : ℕ) (r : Rule) (xs : List ℕ) (i : ℕ) (pair : Bool) (rows : List ℕ) (row : ℕ) (rest numbers : PerState ℕ) → i < length xs
+pub prefix_more : (v : ℕ) (r : Rule) (xs : List ℕ) (i : ℕ) (pair : Bool) (rows : List ℕ) (row : ℕ) (rest ns : PerState ℕ) → i < length xs
     → pair ≡ begins_with_pair r (swapped is_kanji_pair) (reverse (take (i + 1) xs))
     → BestBelow v r (swapped is_kanji_pair) (reverse (take i xs)) (λ p. follow p rows) (bits_at rest)
-    → IsRow v r (get_or xs i 0) pair rest row numbers
-    → BestBelow v r (swapped is_kanji_pair) (reverse (take (i + 1) xs)) (λ p. follow p (row ∷ rows)) (bits_at numbers)
-prefix_more v r xs i pair rows row rest numbers h e below choice =
+    → IsRow v r (get_or xs i 0) pair rest row ns
+    → BestBelow v r (swapped is_kanji_pair) (reverse (take (i + 1) xs)) (λ p. follow p (row ∷ rows)) (bits_at ns)
+prefix_more v r xs i pair rows row rest ns h e below choice =
     let x = get_or xs i 0 in
-    let next = prefix_next xs i h in
+    let next : reverse (take (i + 1) xs) ≡ x ∷ reverse (take i xs) = cc (take_more xs i 0 h, reverse-append (take i xs) (x ∷ [])) in
     let flag : pair ≡ begins_with_pair r (swapped is_kanji_pair) (x ∷ reverse (take i xs)) = e ∙ ap (begins_with_pair r (swapped is_kanji_pair)) next in
-    rw next (best_more v r (swapped is_kanji_pair) x (reverse (take i xs)) rows row rest numbers below (subst (λ (b : Bool). IsRow v r x b rest row numbers) flag choice))
+    rw next (best_more v r (swapped is_kanji_pair) x (reverse (take i xs)) rows row rest ns below (subst (λ (b : Bool). IsRow v r x b rest row ns) flag choice))

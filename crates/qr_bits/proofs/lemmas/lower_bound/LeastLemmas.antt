@@ -9,42 +9,34 @@ use Rattle.qr_bits.specs.Segmentation.{bits, HasFit, least_sixths, least_bits}
 use Rattle.qr_bits.proofs.lemmas.segment.CoverLemmas.{CoversBy, covers_by}
 use Rattle.qr_bits.proofs.lemmas.{modes.CharacterLemmas.past_z, segment.SegmentLemmas.payload_least}
 
--- the lower bound of a byte is at most 39 sixths of a bit
 most : (digit low : Bool) → cond digit 20 (cond low 33 39) ≤ 39
 most digit low = grind arith
 
--- the lower bound of a character is at most 33 sixths
 character_most : (b : ℕ) → is_alphanumeric b ≡ true → least_sixths b ≤ 33
 character_most b h = grind (arith, false≢true, past_z, le-leb)
 
--- the lower bound of a digit is 20 sixths
 digit_is : (b : ℕ) → is_digit b ≡ true → least_sixths b ≡ 20
 digit_is b h = ap (λ (d : Bool). cond d 20 (cond (nat_le b 90) 33 39)) h
 
--- the lower bounds of any bytes add up to at most 39 sixths for each byte
 bytes_held : (xs : List ℕ) → sum_by least_sixths xs ≤ 39 * length xs
 bytes_held [] = omega arith
 bytes_held (x ∷ xs) = omega (arith, sum_by-cons, most, bytes_held xs)
 
--- those of characters add up to at most 33 sixths for each
 characters_held : (xs : List ℕ) → list_all is_alphanumeric xs ≡ true → sum_by least_sixths xs ≤ 33 * length xs
 characters_held [] h = omega arith
 characters_held (x ∷ xs) h =
     let both = and_parts (is_alphanumeric x) (list_all is_alphanumeric xs) h in
     omega (arith, sum_by-cons, character_most, characters_held xs both.1)
 
--- those of digits add up to at most 20 sixths for each
 digits_held : (xs : List ℕ) → list_all is_digit xs ≡ true → sum_by least_sixths xs ≤ 20 * length xs
 digits_held [] h = omega arith
 digits_held (x ∷ xs) h =
     let both = and_parts (is_digit x) (list_all is_digit xs) h in
     omega (arith, sum_by-cons, digit_is, digits_held xs both.1)
 
--- the data of bytes in any mode has at least the bits of the lower bound
 payload_held : (m : Mode) (xs : List ℕ) → IsTrue (suits m xs) → sum_by least_sixths xs ≤ 6 * payload_bits m (length xs)
 payload_held m xs h = grind (arith, digits_held, payload_least, characters_held, bytes_held)
 
--- segments have at least the bits of the lower bound
 segments_held : (v : ℕ) (xs : List ℕ) (segs : List Segment) → CoversBy is_kanji_pair xs segs → sum_by least_sixths xs ≤ 6 * bits v segs
 unfolding CoversBy
 segments_held v xs [] c = omega (arith, ap (sum_by least_sixths) c)

@@ -1,9 +1,8 @@
 -- The 45 characters of alphanumeric mode: each has a value, which is its index.
-use Rattle.std.proofs.Common.{◌≡◌, ℕ, ◌+◌, ◌-◌, ◌<◌, ◌≤◌, ◌==◌, Bool, true, false, not, nat_le, nat_lt, List, length, get_or, Option, Some, refl, sym, ◌∙◌, ⊎_elim, arith}
-use Rattle.std.proofs.lemmas.Bool.{and_parts, and_from, cases_lt, false≢true, lt-ltb, ltb-true, eqb-true, eq-eqb, ne_eqb}
-use Rattle.std.proofs.lemmas.List.Folds.{list_any_none, list_any_at}
+use Rattle.std.proofs.Common.{◌≡◌, ℕ, ◌+◌, ◌-◌, ◌<◌, ◌≤◌, ◌==◌, Bool, true, false, not, nat_le, List, length, get_or, Some, refl, sym, ◌∙◌, ⊎_elim, arith}
+use Rattle.std.proofs.lemmas.Bool.{and_parts, and_from, cases_lt, false≢true, lt-ltb, eqb-true, eq-eqb, ne_eqb}
+use Rattle.std.proofs.lemmas.List.{Folds.list_any_none, Folds.list_any_at, Elements.All-from_get_or}
 use Rattle.std.proofs.lemmas.List.Sums.{fails_before_first, passes_at_first, position_or_len_is}
-use Rattle.std.proofs.lemmas.List.Elements.{All-from_get_or}
 use borrow.Author.Tests.{leb-true}
 use Rattle.std.specs.List.{list_any, position, position_or_len}
 use Rattle.qr_bits.specs.declared.modes.{Mode.TheVariants.Numeric, Mode.TheVariants.Alphanumeric, Rule.Rule}
@@ -11,7 +10,6 @@ use Rattle.qr_bits.specs.Modes.{characters, is_alphanumeric, is_digit, character
 use Rattle.qr_bits.specs.{Steps.RunState.may_begin, Parsing.character}
 use Rattle.qr_layout.proofs.Facts.{below, below-at}
 
--- if an element of a list passes a test, the position of the first such element is inside the list
 found : (p : ℕ → Bool) (xs : List ℕ) → list_any p xs ≡ true → position_or_len p xs < length xs
 found p xs h =
     ⊎_elim
@@ -30,38 +28,18 @@ pub character_place : (b : ℕ) → is_alphanumeric b ≡ true → position (λ 
 unfolding is_alphanumeric character_value
 character_place b h = rw (lt-ltb _ _ (found (λ c. c == b) characters h)) refl
 
--- an option that contains a number
-abbrev pub some : ℕ → Option ℕ
-some n = Some n
-
--- options that are equal contain equal numbers
-pub same_some : (a b : ℕ) → some a ≡ some b → a ≡ b
-same_some a b h = cc
-
 -- a character is the character of its value
 pub character_again : (b : ℕ) → is_alphanumeric b ≡ true → character (character_value b) ≡ b
 unfolding is_alphanumeric character_value character
 character_again b h = eqb-true _ _ (passes_at_first (λ c. c == b) characters 0 (found (λ c. c == b) characters h))
 
--- the character at index n is the character of the value n
-at_place : (n : ℕ) → get_or characters n 0 ≡ character n
-unfolding character
-at_place n = refl
-
--- if a negation holds, its argument is false
-not_true : (b : Bool) → not b ≡ true → b ≡ false
-not_true b h = grind arith
-
--- there are 45 characters
 many : length characters ≡ 45
 unfolding characters
 many = refl
 
--- the test whether a character is at most Z
 low : ℕ → Bool
 low i = nat_le (character i) 90
 
--- each of the 45 characters is at most Z
 all_low : below 45 low ≡ true
 unfolding low character characters
 all_low = refl
@@ -73,42 +51,29 @@ past_z b h =
     list_any_none (λ c. c == b) characters (All-from_get_or (λ x. (x == b) ≡ false) characters 0
     (λ i k. ne_eqb _ _ (λ e. let l = leb-true _ 90 (below-at 45 low all_low i (omega (arith, many))) in absurd (omega arith))))
 
--- the test whether two characters of different values differ
 differs : ℕ → ℕ → Bool
 differs i k = not (character k == character i)
 
--- no two of the 45 characters are equal
 all_differ : below 45 (λ i. below i (differs i)) ≡ true
 unfolding differs character characters
 all_differ = refl
 
--- the test whether a character is a byte
-small : ℕ → Bool
-small i = nat_lt (character i) 256
-
--- each of the 45 characters is a byte
-all_small : below 45 small ≡ true
-unfolding small character characters
-all_small = refl
-
 -- the value of the character n is n
 pub character_taken : (n : ℕ) → n < 45 → (is_alphanumeric (character n) ≡ true) × (character_value (character n) ≡ n) × (character n < 256)
-unfolding is_alphanumeric character_value differs small character
+unfolding is_alphanumeric character_value differs low character
 character_taken n h =
-    let here : (get_or characters n 0 == character n) ≡ true = eq-eqb _ _ (at_place n) in
+    let here : (get_or characters n 0 == character n) ≡ true = eq-eqb (character n) _ refl in
     let inside : n < length characters = omega (arith, many) in (
       list_any_at (λ c. c == character n) characters n 0 inside here,
       position_or_len_is (λ c. c == character n) characters n 0 (omega arith)
-          (λ k l. not_true _ (rw (at_place k) at (below-at n (differs n) (below-at 45 (λ i. below i (differs i)) all_differ n h) k l)))
+          (λ k l. let d = below-at n (differs n) (below-at 45 (λ i. below i (differs i)) all_differ n h) k l in grind arith)
           (λ _. here),
-      ltb-true _ _ (below-at 45 small all_small n h),
+      omega (arith, leb-true _ 90 (below-at 45 low all_low n h)),
     )
 
--- a rule that allows numeric mode allows alphanumeric mode
 text_used : (r : Rule) → may_use r Numeric ≡ true → may_use r Alphanumeric ≡ true
 text_used r h = grind arith
 
--- each digit is one of the 45 characters
 all_digits : below 10 (λ i. is_alphanumeric (48 + i)) ≡ true
 unfolding is_alphanumeric characters
 all_digits = refl

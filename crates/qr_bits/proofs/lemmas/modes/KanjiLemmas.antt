@@ -1,53 +1,27 @@
 -- Kanji pairs: a pair that is written as a value is read back, and the other way round.
-use Rattle.std.proofs.lemmas.Bool.Decides.{nat_tests}
-use Rattle.std.proofs.Common.{cond, ◌≡◌, ℕ, zero, suc, ◌+◌, ◌-◌, ◌*◌, ◌/◌, ◌%◌, ◌<◌, ◌≤◌, Bool, true, nat_le, All, List, [], ◌∷◌, ◌++◌, length, take, drop, Ok, Err, refl, subst, arith, append_assoc}
-use Rattle.std.proofs.lemmas.Bool.{le-leb, and_parts, and_from, false≢true}
-use Rattle.std.proofs.lemmas.List.{length-drop, Elements.All-cons}
+use Rattle.std.proofs.lemmas.Bool.{Decides.nat_tests, le-leb, and_parts, and_from, false≢true}
+use Rattle.std.proofs.Common.{cond, ◌≡◌, ℕ, zero, suc, ◌+◌, ◌-◌, ◌*◌, ◌/◌, ◌%◌, ◌<◌, ◌≤◌, Bool, true, nat_le, List, [], ◌∷◌, ◌++◌, length, take, drop, Ok, Err, refl, subst, arith, append_assoc}
+use Rattle.std.proofs.lemmas.List.{length-drop, Elements.All-cons, Elements.All-nil}
 use borrow.Author.Tests.{leb-true}
 use Rattle.qr_bits.specs.{declared.fault.ParseFault.TheVariants.BadValue, Bits.value}
-use Rattle.qr_bits.specs.Modes.{in_twos, is_kanji_pair, kanji_value}
-use Rattle.qr_bits.specs.Stream.{kanji_bits}
+use Rattle.qr_bits.specs.{declared.modes.Mode.TheVariants.Kanji, Stream.kanji_bits, Stream.payload}
+use Rattle.qr_bits.specs.Modes.{in_twos, is_kanji_pair, kanji_value, payload_bits}
 use Rattle.qr_bits.specs.Parsing.{◌>>=◌, kanji_pair, pairs_of}
 use Rattle.qr_bits.proofs.lemmas.parsing.{ParsingLemmas.bind_ok, ParsingLemmas.same_ok, PayloadLemmas.value_take_below}
-use Rattle.qr_bits.proofs.lemmas.stream.StreamLemmas.{more_written, drop-field, read_field, chosen_ok}
+use Rattle.qr_bits.proofs.lemmas.stream.StreamLemmas.{IsWritten, more_written, drop-field, read_field, chosen_ok}
 
--- ---- one pair
-
--- a kanji pair is not below the first range
-pub least_first : (a b : ℕ) → is_kanji_pair a b ≡ true → 0x8140 ≤ 256 * a + b
+-- a kanji pair is not below the first range, and above it is in the second
+pub least_pair : (a b : ℕ) → is_kanji_pair a b ≡ true → (0x8140 ≤ 256 * a + b) × (0x9FFC < 256 * a + b → 0xE040 ≤ 256 * a + b)
 unfolding is_kanji_pair
-least_first a b h = grind (arith, nat_tests)
+least_pair a b h = grind (arith, nat_tests)
 
--- a kanji pair above the first range is in the second
-pub least_second : (a b : ℕ) → is_kanji_pair a b ≡ true → 0x9FFC < 256 * a + b → 0xE040 ≤ 256 * a + b
-unfolding is_kanji_pair
-least_second a b h m = grind (arith, nat_tests)
-
--- the facts of the value of a kanji pair that reading needs
-pub record IsValue (a b n : ℕ) : Type 0 where
-  pub small : n < 8192
-  pub low : n % 0xC0 ≤ 0xBC
-  pub again : kanji_pair n ≡ 256 * a + b
-  pub high_again : kanji_pair n / 256 ≡ a
-  pub low_again : kanji_pair n % 256 ≡ b
-
--- The value of a kanji pair is read back as the pair.
-pub value_again : (a b : ℕ) → is_kanji_pair a b ≡ true → IsValue a b (kanji_value a b)
+value_again : (a b : ℕ) → is_kanji_pair a b ≡ true → let n = kanji_value a b in (n < 8192) × (n % 0xC0 ≤ 0xBC) × (kanji_pair n / 256 ≡ a) × (kanji_pair n % 256 ≡ b)
 unfolding is_kanji_pair kanji_value kanji_pair
 value_again a b h = grind (arith, nat_tests)
 
--- the facts of the pair of a value that writing needs
-pub record IsPair (n p : ℕ) : Type 0 where
-  pub high : p / 256 < 256
-  pub is_pair : is_kanji_pair (p / 256) (p % 256) ≡ true
-  pub again : kanji_value (p / 256) (p % 256) ≡ n
-
--- A value whose low byte is in its range is the value of its kanji pair.
-pub pair_again : (n : ℕ) → n < 8192 → n % 0xC0 ≤ 0xBC → IsPair n (kanji_pair n)
+pair_again : (n : ℕ) → n < 8192 → n % 0xC0 ≤ 0xBC → let p = kanji_pair n in (p / 256 < 256) × (is_kanji_pair (p / 256) (p % 256) ≡ true) × (kanji_value (p / 256) (p % 256) ≡ n)
 unfolding is_kanji_pair kanji_value kanji_pair
 pair_again n s m = grind (arith, nat_tests)
-
--- ---- lists of pairs
 
 -- kanji pairs that are written are read back
 pub pairs_again : (xs : List ℕ) (rest : List Bool) → in_twos is_kanji_pair xs ≡ true → pairs_of (length xs / 2) (kanji_bits xs ++ rest) ≡ Ok xs
@@ -59,39 +33,24 @@ pairs_again (a ∷ b ∷ xs) rest h =
     let v = value_again a b p.0 in
     let n = kanji_value a b in
     let more : suc (suc (length xs)) / 2 ≡ suc (length xs / 2) = omega arith in
-    let r = read_field 13 n (kanji_bits xs ++ rest) v.small in
+    let r = read_field 13 n (kanji_bits xs ++ rest) v.0 in
     let d = drop-field 13 n (kanji_bits xs ++ rest) in
     search (arith, append_assoc, le-leb, pairs_again xs rest p.1)
 
--- the pairs that were read, written again, are the bits that were read
-abbrev pub PairsWritten : ℕ → List Bool → List ℕ → Type 0
-PairsWritten n bits xs = (length xs ≡ 2 * n) × All (λ b. b < 256) xs × (in_twos is_kanji_pair xs ≡ true) × (bits ≡ kanji_bits xs ++ drop (13 * n) bits)
-
--- one pair that was read before others
-pairs_more-written : (n : ℕ) (bits : List Bool) (xs : List ℕ) → 13 ≤ length bits → value (take 13 bits) % 0xC0 ≤ 0xBC → PairsWritten n (drop 13 bits) xs
-    → PairsWritten (suc n) bits (kanji_pair (value (take 13 bits)) / 256 ∷ kanji_pair (value (take 13 bits)) % 256 ∷ xs)
-unfolding kanji_bits
-pairs_more-written n bits xs h low w =
-    let g = value (take 13 bits) in
-    let p = kanji_pair g in
-    let is = pair_again g (value_take_below 13 bits) low in
-    let whole = more_written 13 (13 * n) bits (kanji_bits xs) h w.3 in
-    let more : 13 * suc n ≡ 13 + 13 * n = omega arith in
-    (omega (arith, w.0), search (arith, All-cons), search (arith, and_from), rw (is.again, more) whole)
-
 -- Pairs that are read are written as the same bits.
-pub pairs_takes : (n : ℕ) (xs : List ℕ) (bits : List Bool) → 13 * n ≤ length bits → pairs_of n bits ≡ Ok xs → PairsWritten n bits xs
-unfolding pairs_of kanji_bits
-pairs_takes zero xs bits h e = grind arith
+pub pairs_takes : (n : ℕ) (xs : List ℕ) (bits : List Bool) → 13 * n ≤ length bits → pairs_of n bits ≡ Ok xs → IsWritten Kanji n bits xs
+unfolding pairs_of kanji_bits payload
+pairs_takes zero xs bits h e = search (arith, same_ok, All-nil)
 pairs_takes (suc n) xs bits h e =
     let g = value (take 13 bits) in
-    let p = kanji_pair g in
-    let c = chosen_ok (nat_le (g % 0xC0) 0xBC) (pairs_of n (drop 13 bits) >>= λ ys. Ok (p / 256 ∷ p % 256 ∷ ys)) BadValue xs e in
-    let b = bind_ok (pairs_of n (drop 13 bits)) (λ ys. Ok (p / 256 ∷ p % 256 ∷ ys)) xs c.1 in
-    let rest = pairs_takes n b.0 (drop 13 bits) (omega (arith, length-drop 13 bits)) b.1 in
-    subst (PairsWritten (suc n) bits) (same_ok _ _ b.2) (pairs_more-written n bits b.0 (omega arith) (leb-true (g % 0xC0) 0xBC c.0) rest)
-
--- ---- group by group
+    let c = chosen_ok _ _ _ xs e in
+    let b = bind_ok (pairs_of n (drop 13 bits)) _ xs c.1 in
+    let is = pair_again g (value_take_below 13 bits) (leb-true _ 0xBC c.0) in
+    let w = pairs_takes n b.0 (drop 13 bits) (omega (arith, length-drop 13 bits)) b.1 in
+    let one : payload_bits Kanji (2 * n) ≡ 13 * n = omega arith in
+    let more : payload_bits Kanji (2 * suc n) ≡ 13 + 13 * n = omega arith in
+    let whole = more_written 13 (13 * n) bits (kanji_bits b.0) (omega arith) (rw one at w.whole) in
+    subst (IsWritten Kanji (suc n) bits) (same_ok _ _ b.2) (search (arith, All-cons, and_from))
 
 -- a kanji pair, and the pairs after it
 pub pairs_step : (n : ℕ) (bits : List Bool) → 0 < n → pairs_of n bits ≡ cond (nat_le (value (take 13 bits) % 0xC0) 0xBC)

@@ -1,6 +1,6 @@
 -- If the bits of segments fit a symbol, each count fits its field.
-use Rattle.std.proofs.Common.{◌≡◌, ℕ, ◌+◌, ◌-◌, ◌*◌, ◌^◌, ◌<◌, ◌≤◌, Bool, true, false, cond, leb, List, [], ◌∷◌, length, drop, ap, arith, subst}
-use Rattle.std.proofs.lemmas.{Bool.le-leb, Bool.lt-leb, List.length-drop}
+use Rattle.std.proofs.Common.{◌≡◌, ℕ, ◌+◌, ◌-◌, ◌*◌, ◌^◌, ◌<◌, ◌≤◌, Bool, true, false, ◌&&◌, cond, leb, List, [], ◌∷◌, length, drop, ap, arith}
+use Rattle.std.proofs.lemmas.{Bool.le-leb, Bool.lt-leb, Bool.and_parts, List.length-drop}
 use borrow.Author.Tests.{leb-true}
 use Rattle.qr_layout.specs.{declared.level.Level.Level, Version.total_codewords_of}
 use Rattle.qr_layout.specs.Blocks.{correction_len_of, block_count_of, data_codewords_of}
@@ -16,48 +16,31 @@ use Rattle.qr_bits.proofs.lemmas.segment.CoverLemmas.{CoversBy, covers_suits, co
 abbrev most_data : ℕ → ℕ
 most_data v = cond (leb v 9) 232 (cond (leb v 26) 1370 2956)
 
--- a test of the most data codewords
-t-most : Level → ℕ → Bool
-t-most l i = leb (data_codewords_of (i + 1) l) (most_data (i + 1))
+in_range : Level → ℕ → Bool
+in_range l i = leb 9 (data_codewords_of (i + 1) l) && leb (data_codewords_of (i + 1) l) (most_data (i + 1))
 
--- the test passes at each version and level
-all-most : (l : Level) → below 40 (t-most l) ≡ true
-unfolding t-most data_codewords_of total_codewords_of block_count_of correction_len_of
-all-most l = grind arith
+all_in_range : (l : Level) → below 40 (in_range l) ≡ true
+unfolding in_range data_codewords_of total_codewords_of block_count_of correction_len_of
+all_in_range l = grind arith
 
--- a symbol has no more data codewords than the most of its group of versions
-data_most : (v : ℕ) (l : Level) → 1 ≤ v → v ≤ 40 → data_codewords_of v l ≤ most_data v
-unfolding t-most
-data_most v l a b =
+data_range : (v : ℕ) (l : Level) → 1 ≤ v → v ≤ 40 → (9 ≤ data_codewords_of v l) × (data_codewords_of v l ≤ most_data v)
+unfolding in_range
+data_range v l a b =
     let e : v - 1 + 1 ≡ v = omega arith in
-    subst (λ (n : ℕ). data_codewords_of n l ≤ most_data n) e (leb-true _ _ (below-at 40 (t-most l) (all-most l) (v - 1) (omega arith)))
-
--- a test of the least data codewords
-t-least : Level → ℕ → Bool
-t-least l i = leb 9 (data_codewords_of (i + 1) l)
-
--- the test passes at each version and level
-all-least : (l : Level) → below 40 (t-least l) ≡ true
-unfolding t-least data_codewords_of total_codewords_of block_count_of correction_len_of
-all-least l = grind arith
+    let p = and_parts (leb 9 (data_codewords_of v l)) _ (rw e at (below-at 40 (in_range l) (all_in_range l) (v - 1) (omega arith))) in
+    (leb-true _ _ p.0, leb-true _ _ p.1)
 
 -- the data codewords of a symbol have at least 72 bits
 pub capacity_least : (v : ℕ) (l : Level) → 1 ≤ v → v ≤ 40 → 72 ≤ capacity_of v l
-unfolding t-least
-capacity_least v l a b =
-    let e : v - 1 + 1 ≡ v = omega arith in
-    let nine : 9 ≤ data_codewords_of v l = subst (λ (n : ℕ). 9 ≤ data_codewords_of n l) e (leb-true _ _ (below-at 40 (t-least l) (all-least l) (v - 1) (omega arith))) in
-    omega arith
+capacity_least v l a b = omega (arith, data_range v l a b)
 
--- the three groups of versions
 groups : (v : ℕ) (P : Bool → Bool → Type 0) → (v ≤ 9 → P true true) → (9 < v → v ≤ 26 → P false true) → (26 < v → P false false) → P (leb v 9) (leb v 26)
 groups v P small medium large = search (arith, le-leb, lt-leb)
 
 -- the data codewords of a symbol have at most 23,648 bits
 pub capacity_most : (v : ℕ) (l : Level) → 1 ≤ v → v ≤ 40 → capacity_of v l ≤ 23648
-capacity_most v l a b = search (arith, groups, data_most)
+capacity_most v l a b = search (arith, groups, data_range)
 
--- if the bits of a segment fit, its count fits
 count_fits : (v n : ℕ) (m : Mode) → segment_bits v (record { mode = m; len = n }) ≤ 8 * most_data v → character_count m n < 2 ^ count_width v m
 count_fits v n m h = grind arith
 
@@ -65,13 +48,11 @@ count_fits v n m h = grind arith
 pub counts_fit : (v : ℕ) (l : Level) (segs : List Segment) → 1 ≤ v → v ≤ 40 → bits v segs ≤ capacity_of v l → CountsFit v segs
 unfolding CountsFit
 counts_fit v l [] a b h = tt
-counts_fit v l (s ∷ ss) a b h = search (arith, count_fits, data_most, counts_fit v l ss a b (omega arith))
+counts_fit v l (s ∷ ss) a b h = search (arith, count_fits, data_range, counts_fit v l ss a b (omega arith))
 
--- from version 27 on, the indicator and the count of a segment have at least 16 bits
 head_least : (v : ℕ) (m : Mode) → 26 < v → 12 ≤ count_width v m
 head_least v m h = grind arith
 
--- bytes whose segments have at most 23,648 bits are at most 7,089 bytes
 short_large : (v : ℕ) (xs : List ℕ) (segs : List Segment) → 26 < v → CoversBy is_kanji_pair xs segs → bits v segs ≤ 23648 → length xs ≤ 7089
 unfolding CoversBy
 short_large v xs [] h c few = omega (arith, ap length c)
@@ -81,19 +62,18 @@ short_large v xs (s ∷ ss) h c few =
 -- An input that fits a symbol has at most 7,089 bytes.
 pub fitting_short : (v : ℕ) (l : Level) (r : Rule) (xs : List ℕ) → 1 ≤ v → v ≤ 40 → HasFit v r xs (capacity_of v l) → length xs ≤ 7089
 fitting_short v l r xs a b fit =
-    search (arith, data_most, groups, bits_least, covers_suits, short_large, covers_by, capacity_most)
+    search (arith, data_range, groups, bits_least, covers_suits, short_large, covers_by, capacity_most)
 
--- An input that fits a symbol has at most three bytes for each ten bits.
 fitting_few : (v : ℕ) (l : Level) (r : Rule) (xs : List ℕ) → 1 ≤ v → v ≤ 40 → HasFit v r xs (capacity_of v l) → 10 * length xs ≤ 24 * most_data v
-fitting_few v l r xs a b fit = search (arith, data_most, bits_least, covers_suits)
+fitting_few v l r xs a b fit = search (arith, data_range, bits_least, covers_suits)
 
 -- the data codewords of a symbol of a version up to 9 have at most 1,856 bits
 pub capacity_small : (v : ℕ) (l : Level) → 1 ≤ v → v ≤ 9 → capacity_of v l ≤ 1856
-capacity_small v l a b = search (arith, groups, data_most)
+capacity_small v l a b = search (arith, groups, data_range)
 
 -- the data codewords of a symbol of a version up to 26 have at most 10,960 bits
 pub capacity_medium : (v : ℕ) (l : Level) → 1 ≤ v → v ≤ 26 → capacity_of v l ≤ 10960
-capacity_medium v l a b = search (arith, groups, data_most)
+capacity_medium v l a b = search (arith, groups, data_range)
 
 -- An input that fits a version up to 26 has at most 3,288 bytes.
 pub fitting_medium : (v : ℕ) (l : Level) (r : Rule) (xs : List ℕ) → 1 ≤ v → v ≤ 26 → HasFit v r xs (capacity_of v l) → length xs ≤ 3288

@@ -3,13 +3,11 @@ use Rattle.std.proofs.Common.{◌≡◌, ℕ, zero, suc, ◌+◌, ◌-◌, ◌%�
 use Rattle.std.specs.{Option.ForSome, Prelude.Option}
 use Rattle.qr_layout.specs.{declared.level.Level.Level, Blocks.data_codewords_of}
 use Rattle.qr_bits.specs.{declared.segment.Segment.Segment, declared.header.Header.Header, Bits.field, Bits.bits_of}
-use Rattle.qr_bits.specs.Header.{header_stream, HeaderFits, header_bits}
-use Rattle.qr_bits.specs.Stream.{IsStream}
+use Rattle.qr_bits.specs.{Header.header_stream, Header.HeaderFits, Header.header_bits, Stream.IsStream}
 use Rattle.qr_bits.specs.Padding.{capacity_of, filled, pads, padded, IsData}
 use Rattle.qr_bits.proofs.lemmas.bits.BitLemmas.{length-field, length-bits_of, bits_of-append, field-zero}
 
--- one more pad codeword
-pub pads-push : (n : ℕ) → pads (n + 1) ≡ pads n ++ cond (n % 2 == 0) 0xEC 0x11 ∷ []
+pads-push : (n : ℕ) → pads (n + 1) ≡ pads n ++ cond (n % 2 == 0) 0xEC 0x11 ∷ []
 unfolding pads
 pads-push zero = refl
 pads-push (suc zero) = refl

@@ -16,20 +16,13 @@ bind_ok r f y h = grind arith
 pub guard_ok : {A : Type 0} (b : Bool) (e : ParseFault) (r : Result A ParseFault) (y : A) → cond b (Err e) r ≡ Ok y → (b ≡ false) × (r ≡ Ok y)
 guard_ok b e r y h = grind arith
 
--- reading a number leaves no more bits than before
 number_shorter : (w : ℕ) (bits : List Bool) (n : ℕ × List Bool) → leading_number w bits ≡ Ok n → length n.1 ≤ length bits
 unfolding leading_number
 number_shorter w bits n h = search (arith, guard_ok, length-drop)
 
--- reading data leaves no more bits than before
 payload_shorter : (m : Mode) (n : ℕ) (bits : List Bool) (p : List ℕ × List Bool) → payload_at m n bits ≡ Ok p → length p.1 ≤ length bits
 unfolding payload_at
 payload_shorter m n bits p h = search (arith, guard_ok, bind_ok, length-drop)
-
--- a property of each result of the second parser is a property of both in turn
-pub bind_all : {A B : Type 0} (r : Result A ParseFault) (f : A → Result B ParseFault) (P : B → Type 0)
-    → ((x : A) → r ≡ Ok x → (y : B) → f x ≡ Ok y → P y) → (y : B) → (r >>= f) ≡ Ok y → P y
-bind_all r f P k y h = grind arith
 
 -- a result that is no fault
 abbrev pub ok : {A : Type 0} → A → Result A ParseFault
@@ -43,12 +36,11 @@ same_ok a b h = cc
 pub segment_shorter : (v : ℕ) (bits : List Bool) (s : Segment × List ℕ × List Bool) → 4 ≤ length bits → segment_at v bits ≡ Ok s → length s.2 + 4 ≤ length bits
 unfolding segment_at
 segment_shorter v bits s four h =
-    let P : Segment × List ℕ × List Bool → Type 0 = λ t. length t.2 + 4 ≤ length bits in
-    bind_all (mode_of (value (take 4 bits))) _ P (λ m em t ht.
-    bind_all (leading_number (count_width v m) (drop 4 bits)) _ P (λ n en t ht.
-    bind_all (payload_at m n.0 n.1) _ P (λ p ep t ht.
-    let e : p.1 ≡ t.2 = search (arith, same_ok) in
-    omega (arith, number_shorter (count_width v m) (drop 4 bits) n en, payload_shorter m n.0 n.1 p ep, length-drop 4 bits, ap length e)) t ht) t ht) s h
+    let m = bind_ok (mode_of (value (take 4 bits))) _ s h in
+    let n = bind_ok (leading_number (count_width v m.0) (drop 4 bits)) _ s m.2 in
+    let p = bind_ok (payload_at m.0 n.0.0 n.0.1) _ s n.2 in
+    let e : p.0.1 ≡ s.2 = search (arith, same_ok) in
+    omega (arith, number_shorter _ _ _ n.1, payload_shorter _ _ _ _ p.1, length-drop 4 bits, ap length e)
 
 -- if the data does not end here, there are four bits
 pub not_ended : (bits : List Bool) → ends bits ≡ false → 4 ≤ length bits
@@ -64,13 +56,11 @@ ended_empty bits h = search (arith, or_left, lt-ltb)
 abbrev pub step : Result (Segment × List ℕ × List Bool) ParseFault → (List Bool → Result (List Segment × List ℕ) ParseFault) → Result (List Segment × List ℕ) ParseFault
 step read next = read >>= λ s. next s.2 >>= λ r. Ok (s.0 ∷ r.0, s.1 ++ r.1)
 
--- the bound on the number of segments of the rest may be another one
 same_rest : (read : Result (Segment × List ℕ × List Bool) ParseFault) (n m v : ℕ)
     → ((s : Segment × List ℕ × List Bool) → read ≡ Ok s → segments_at n v s.2 ≡ segments_at m v s.2)
     → step read (segments_at n v) ≡ step read (segments_at m v)
 same_rest read n m v h = grind arith
 
--- the bound makes no difference if it is at least the number of bits
 enough : (n m v : ℕ) (bits : List Bool) → length bits ≤ n → length bits ≤ m → segments_at n v bits ≡ segments_at m v bits
 unfolding segments_at
 enough zero zero v bits h k = refl
@@ -103,15 +93,10 @@ pub behind_more : (v : ℕ) (bits rest : List Bool) (segs : List Segment) (xs ys
     → behind segs xs (segments_of v bits) ≡ behind (segs ++ s ∷ []) (xs ++ ys) (segments_of v rest)
 behind_more v bits rest segs xs ys s e h = rw (segments_step v bits e, h) (grind (arith, append_assoc))
 
--- a fault of the next segment is the fault of the rest
-pub behind_fault : (v : ℕ) (bits : List Bool) (segs : List Segment) (xs : List ℕ) (f : ParseFault) → ends bits ≡ false → segment_at v bits ≡ Err f
-    → behind segs xs (segments_of v bits) ≡ Err f
-behind_fault v bits segs xs f e h = rw (segments_step v bits e, h) refl
-
 -- a fault of the next segment is the fault of the whole parse
 pub fault_all : (v : ℕ) (bits start : List Bool) (segs : List Segment) (xs : List ℕ) (f : ParseFault) → ends bits ≡ false → IsFaultOf f (segment_at v bits)
     → behind segs xs (segments_of v bits) ≡ segments_of v start → IsFaultOf f (segments_of v start)
-fault_all v bits start segs xs f e h i = grind (arith, behind_fault)
+fault_all v bits start segs xs f e h i = grind (arith, segments_step v bits e)
 
 -- a returned fault other than `Memory` is the fault of the definition
 pub fault-read : {A : Type 0} (e : ParseFault) (read : Result A ParseFault) → (e ≡ Memory → ⊥) → IsResultOf (Err e) read → read ≡ Err e

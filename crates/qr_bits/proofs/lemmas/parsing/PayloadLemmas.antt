@@ -3,9 +3,8 @@ use Rattle.std.proofs.Common.{cond, nat_lt, ◌≡◌, ℕ, suc, ◌+◌, ◌-�
 use Rattle.std.proofs.{lemmas.List.length-take, lemmas.List.append_assoc, Math.Nat.pow-le-pow_right}
 use Rattle.qr_bits.specs.declared.modes.Mode.TheVariants.{Numeric, Alphanumeric}
 use Rattle.qr_bits.specs.declared.fault.ParseFault.{ParseFault, TheVariants.BadValue}
-use Rattle.qr_bits.specs.{Bits.value, Modes.payload_bits}
+use Rattle.qr_bits.specs.{Bits.value, Modes.payload_bits, Steps.Parsing.IsFaultOf}
 use Rattle.qr_bits.specs.Parsing.{◌>>=◌, digit, digits_of, character, characters_of, bytes_of}
-use Rattle.qr_bits.specs.Steps.Parsing.{IsFaultOf}
 use Rattle.qr_bits.proofs.lemmas.bits.BitLemmas.{value_below}
 use Rattle.qr_bits.proofs.lemmas.stream.WritingLemmas.{three_more, two_more}
 
@@ -17,20 +16,16 @@ value_take_below w bs = search (arith, length-take, value_below, pow-le-pow_righ
 abbrev pub prepend_read : List ℕ → Result (List ℕ) ParseFault → Result (List ℕ) ParseFault
 prepend_read prefix read = read >>= λ xs. Ok (prefix ++ xs)
 
--- ---- digits
-
 -- three digits less have ten bits less
 pub payload_less : (n : ℕ) → 3 ≤ n → payload_bits Numeric n ≡ 10 + payload_bits Numeric (n - 3)
 payload_less n h = search (arith, three_more)
 
 -- three digits, and the digits after them
-pub digits_step : (n : ℕ) (bits : List Bool) → 3 ≤ n → digits_of n bits ≡ cond (nat_lt (value (take 10 bits)) 1000)
-    (digits_of (n - 3) (drop 10 bits) >>= λ ds. Ok (digit (value (take 10 bits) / 100) ∷ digit (value (take 10 bits) / 10) ∷ digit (value (take 10 bits)) ∷ ds)) (Err BadValue)
+pub digits_step : (n : ℕ) (bs : List Bool) → 3 ≤ n → digits_of n bs ≡ cond (nat_lt (value (take 10 bs)) 1000)
+    (digits_of (n - 3) (drop 10 bs) >>= λ ds. Ok (digit (value (take 10 bs) / 100) ∷ digit (value (take 10 bs) / 10) ∷ digit (value (take 10 bs)) ∷ ds)) (Err BadValue)
 unfolding digits_of
-digits_step (suc (suc (suc n))) bits h = search arith
-digits_step _ bits h = absurd (omega arith)
-
--- ---- characters
+digits_step (suc (suc (suc n))) bs h = search arith
+digits_step _ bs h = absurd (omega arith)
 
 -- two characters less have eleven bits less
 pub payload_two_less : (n : ℕ) → 2 ≤ n → payload_bits Alphanumeric n ≡ 11 + payload_bits Alphanumeric (n - 2)
@@ -42,8 +37,6 @@ pub characters_step : (n : ℕ) (bits : List Bool) → 2 ≤ n → characters_of
 unfolding characters_of
 characters_step (suc (suc n)) bits h = search arith
 characters_step _ bits h = absurd (omega arith)
-
--- ---- bytes
 
 -- a byte, and the bytes after it
 pub bytes_more : (prefix : List ℕ) (n : ℕ) (bits : List Bool) → 0 < n → prefix ++ bytes_of n bits ≡ (prefix ++ value (take 8 bits) ∷ []) ++ bytes_of (n - 1) (drop 8 bits)

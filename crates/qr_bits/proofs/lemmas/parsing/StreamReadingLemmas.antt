@@ -1,72 +1,57 @@
 -- A parse reads back every stream that is written, and what it reads is a stream.
-use Rattle.std.proofs.Common.{◌≡◌, ℕ, zero, suc, ◌^◌, ◌<◌, ◌≤◌, Bool, true, false, ◌==◌, nat_lt, nat_le, All, List, [], ◌∷◌, ◌++◌, length, take, drop, Ok, Option, Some, refl, sym, ◌∙◌, ap, subst, ⊎_elim, arith, lit<, append_assoc, length-append}
+use Rattle.std.proofs.Common.{◌≡◌, ℕ, zero, suc, ◌^◌, ◌<◌, ◌≤◌, Bool, true, false, ◌==◌, nat_le, All, List, [], ◌∷◌, ◌++◌, length, take, drop, Ok, Option, Some, refl, sym, ◌∙◌, ap, subst, ⊎_elim, arith, lit<, append_assoc, length-append}
 use Rattle.std.proofs.lemmas.Bool.{le-ltb, lt-leb, le-leb, ltb-false, cases_Bool, eqb-true, and_parts}
 use Rattle.std.proofs.lemmas.List.{length-take-le, length-drop, drop-drop, take-append-drop}
 use Rattle.std.proofs.lemmas.List.Elements.{All-nil, All-append, All-take, All-drop}
 use Rattle.std.proofs.Math.Seq.{take-append_seam, drop-append_seam}
 use borrow.Author.Tests.{leb-true}
 use Rattle.qr_bits.specs.declared.{modes.Mode.Mode, segment.Segment.Segment, header.Header.Header}
-use Rattle.qr_bits.specs.{declared.fault.ParseFault.TheVariants.Cut, Bits.field, Bits.value}
+use Rattle.qr_bits.specs.{Bits.field, Bits.value}
 use Rattle.qr_bits.specs.Modes.{character_count, count_width, byte_count, payload_bits, suits, indicator}
 use Rattle.qr_bits.specs.Header.{header_indicator, header_stream, HeaderFits}
 use Rattle.qr_bits.specs.Stream.{payload, segment_stream, segments_stream, Suits, CountsFit, IsStream}
-use Rattle.qr_bits.specs.Parsing.{◌>>=◌, values_of, mode_of, ends, leading_number, payload_at, segment_at, segments_at, segments_of, begins_header, header_at, first_header, Content, parse}
+use Rattle.qr_bits.specs.Parsing.{values_of, mode_of, ends, leading_number, payload_at, segment_at, segments_at, segments_of, begins_header, header_at, first_header, Content, parse}
 use Rattle.qr_bits.proofs.lemmas.{bits.BitLemmas.length-field, parsing.PayloadLemmas.value_take_below}
-use Rattle.qr_bits.proofs.lemmas.parsing.ParsingLemmas.{bind_ok, bind_all, guard_ok, same_ok, not_ended, ended_empty, segment_shorter, segments_end, segments_step, header_whole}
-use Rattle.qr_bits.proofs.lemmas.stream.StreamLemmas.{drop-field, read_field, field_read}
-use Rattle.qr_bits.proofs.lemmas.parsing.ValueLemmas.{IsWritten, values_again, values_takes}
+use Rattle.qr_bits.proofs.lemmas.parsing.ParsingLemmas.{bind_ok, guard_ok, same_ok, not_ended, ended_empty, segment_shorter, segments_end, segments_step, header_whole}
+use Rattle.qr_bits.proofs.lemmas.stream.StreamLemmas.{IsWritten, drop-field, read_field, field_read}
+use Rattle.qr_bits.proofs.lemmas.parsing.ValueLemmas.{values_again, values_takes}
 use Rattle.qr_bits.proofs.lemmas.stream.WritingLemmas.{in_twos-even, length-payload}
 
--- ---- a number
-
--- a field is read back as its number
 number_again : (w n : ℕ) (rest : List Bool) → n < 2 ^ w → leading_number w (field w n ++ rest) ≡ Ok (n, rest)
 unfolding leading_number
 number_again w n rest h = search (arith, length-append, length-field, le-ltb, read_field, drop-field)
 
--- a number that is read is written as the same bits
 number_takes : (w : ℕ) (bits : List Bool) (n : ℕ × List Bool) → leading_number w bits ≡ Ok n → (n.0 < 2 ^ w) × (bits ≡ field w n.0 ++ n.1)
 unfolding leading_number
 number_takes w bits n h = search (arith, guard_ok, same_ok, value_take_below, field_read, ltb-false, take-append-drop)
 
--- ---- the data
-
--- the count of bytes in a mode leads back to their number
 len_again : (m : Mode) (xs : List ℕ) → suits m xs ≡ true → byte_count m (character_count m (length xs)) ≡ length xs
 len_again m xs h = grind (arith, in_twos-even)
 
--- data that is written is read back
 payload_again : (m : Mode) (xs : List ℕ) (rest : List Bool) → All (λ b. b < 256) xs → suits m xs ≡ true → payload_at m (character_count m (length xs)) (payload m xs ++ rest) ≡ Ok (xs, rest)
 unfolding payload_at
 payload_again m xs rest bytes h =
     search (arith, len_again, length-payload, length-append, drop-append_seam, le-ltb, values_again)
 
--- data that is read is written as the same bits
 payload_takes : (m : Mode) (n : ℕ) (bits : List Bool) (p : List ℕ × List Bool) → payload_at m n bits ≡ Ok p → IsWritten m n bits p.0 × (p.1 ≡ drop (payload_bits m (byte_count m n)) bits)
 unfolding payload_at
 payload_takes m n bits p h =
-    let g = guard_ok (nat_lt (length bits) (payload_bits m (byte_count m n))) Cut (values_of m n bits >>= λ xs. Ok (xs, drop (payload_bits m (byte_count m n)) bits)) p h in
-    let b = bind_ok (values_of m n bits) (λ xs. Ok (xs, drop (payload_bits m (byte_count m n)) bits)) p g.1 in
+    let g = guard_ok _ _ _ p h in
+    let b = bind_ok (values_of m n bits) _ p g.1 in
     let P : List ℕ × List Bool → Type 0 = λ t. IsWritten m n bits t.0 × (t.1 ≡ drop (payload_bits m (byte_count m n)) bits) in
     subst P (same_ok (b.0, drop (payload_bits m (byte_count m n)) bits) p b.2) (values_takes m n b.0 bits (ltb-false _ _ g.0) b.1, refl)
 
--- ---- a segment
-
--- the indicator of a mode is read back as the mode
 mode_again : (m : Mode) → mode_of (indicator m) ≡ Ok m
 unfolding mode_of
 mode_again m = grind arith
 
--- the indicator of the mode that was read is the number that was read
 mode_takes : (n : ℕ) (m : Mode) → mode_of n ≡ Ok m → n ≡ indicator m
 unfolding mode_of
 mode_takes n m h = grind (arith, eqb-true, same_ok)
 
--- an indicator of a mode is a number of four bits
 indicator_most : (m : Mode) → indicator m < 2 ^ 4
 indicator_most m = grind arith
 
--- a segment begins with the indicator of its mode
 first_four : (v : ℕ) (m : Mode) (xs : List ℕ) (rest : List Bool) → (value (take 4 (segment_stream v m xs ++ rest)) ≡ indicator m) × (4 ≤ length (segment_stream v m xs ++ rest))
 unfolding segment_stream
 first_four v m xs rest =
@@ -74,7 +59,6 @@ first_four v m xs rest =
     rw (append_assoc (field 4 (indicator m)) behind rest)
     (read_field 4 (indicator m) (behind ++ rest) (indicator_most m), omega (arith, length-append (field 4 (indicator m)) (behind ++ rest), length-field 4 (indicator m)))
 
--- a segment that is written is read back
 segment_again : (v : ℕ) (m : Mode) (xs : List ℕ) (rest : List Bool) → All (λ b. b < 256) xs → suits m xs ≡ true → character_count m (length xs) < 2 ^ count_width v m
     → segment_at v (segment_stream v m xs ++ rest) ≡ Ok (record { mode = m; len = length xs }, xs, rest)
 unfolding segment_at segment_stream
@@ -89,7 +73,6 @@ record IsSegment (v : ℕ) (bits : List Bool) (s : Segment) (xs : List ℕ) (res
   fits : character_count s.mode s.len < 2 ^ count_width v s.mode
   whole : bits ≡ segment_stream v s.mode xs ++ rest
 
--- a segment whose parts were read
 segment_from : (v : ℕ) (m : Mode) (bits : List Bool) (n : ℕ × List Bool) (p : List ℕ × List Bool) → 4 ≤ length bits → value (take 4 bits) ≡ indicator m
     → (n.0 < 2 ^ count_width v m) × (drop 4 bits ≡ field (count_width v m) n.0 ++ n.1) → IsWritten m n.0 n.1 p.0 × (p.1 ≡ drop (payload_bits m (byte_count m n.0)) n.1)
     → IsSegment v bits (record { mode = m; len = byte_count m n.0 }) p.0 p.1
@@ -97,34 +80,28 @@ unfolding segment_stream
 segment_from v m bits n p four e number said =
     let w = said.0 in
     let count = field (count_width v m) n.0 in
-    let behind : n.1 ≡ payload m p.0 ++ p.1 = cc in
-    let tail : drop 4 bits ≡ count ++ (payload m p.0 ++ p.1) = number.1 ∙ ap (λ (t : List Bool). count ++ t) behind in
+    let b : n.1 ≡ payload m p.0 ++ p.1 = cc in
+    let tail : drop 4 bits ≡ count ++ (payload m p.0 ++ p.1) = number.1 ∙ ap (λ (t : List Bool). count ++ t) b in
     let head : take 4 bits ≡ field 4 (indicator m) = sym (field_read 4 bits four) ∙ ap (field 4) e in
     grind (arith, append_assoc, take-append-drop)
 
--- a segment that is read is written as the same bits
 segment_takes : (v : ℕ) (bits : List Bool) (s : Segment × List ℕ × List Bool) → 4 ≤ length bits → segment_at v bits ≡ Ok s → IsSegment v bits s.0 s.1 s.2
 unfolding segment_at segment_stream
 segment_takes v bits s four h =
-    let P : Segment × List ℕ × List Bool → Type 0 = λ t. IsSegment v bits t.0 t.1 t.2 in
-    bind_all (mode_of (value (take 4 bits))) _ P (λ m em t ht.
-    bind_all (leading_number (count_width v m) (drop 4 bits)) _ P (λ n en t ht.
-    bind_all (payload_at m n.0 n.1) _ P (λ p ep t ht.
-    subst P (same_ok (record { mode = m; len = byte_count m n.0 }, p.0, p.1) t ht) (search (arith, segment_from, mode_takes, number_takes, payload_takes))) t ht) t ht) s h
+    let m = bind_ok (mode_of (value (take 4 bits))) _ s h in
+    let n = bind_ok (leading_number (count_width v m.0) (drop 4 bits)) _ s m.2 in
+    let p = bind_ok (payload_at m.0 n.0.0 n.0.1) _ s n.2 in
+    subst (λ (t : Segment × List ℕ × List Bool). IsSegment v bits t.0 t.1 t.2) (same_ok _ _ p.2)
+    (segment_from v m.0 bits n.0 p.0 four (mode_takes _ _ m.1) (number_takes _ _ _ n.1) (payload_takes _ _ _ _ p.1))
 
--- ---- segments to the end
-
--- the data does not end where a segment begins
 opens : (v : ℕ) (m : Mode) (xs : List ℕ) (rest : List Bool) → ends (segment_stream v m xs ++ rest) ≡ false
 unfolding ends
 opens v m xs rest = grind (arith, first_four, le-ltb)
 
--- the first n bytes of a list of bytes, and those after them, are bytes
 all_take : (n : ℕ) (xs : List ℕ) → All (λ b. b < 256) xs → All (λ b. b < 256) (take n xs) × All (λ b. b < 256) (drop n xs)
 all_take n xs h = search (arith, All-take, All-drop)
 
--- Segments that are written and followed by an end are read back.
-pub segments_again : (v : ℕ) (xs : List ℕ) (segs : List Segment) (tail : List Bool) → All (λ b. b < 256) xs → Suits xs segs → CountsFit v segs → ends tail ≡ true
+segments_again : (v : ℕ) (xs : List ℕ) (segs : List Segment) (tail : List Bool) → All (λ b. b < 256) xs → Suits xs segs → CountsFit v segs → ends tail ≡ true
     → segments_of v (segments_stream v xs segs ++ tail) ≡ Ok (segs, xs)
 unfolding segments_stream Suits CountsFit
 segments_again v xs [] tail bytes suit fits end = cc (segments_end v tail end)
@@ -143,12 +120,10 @@ pub record IsSegments (v : ℕ) (bits : List Bool) (segs : List Segment) (xs : L
   pub whole : bits ≡ segments_stream v xs segs ++ tail
   pub end : ends tail ≡ true
 
--- at an end there is the stream of no segment
 segments_none : (v : ℕ) (bits : List Bool) → ends bits ≡ true → IsSegments v bits [] []
 unfolding segments_stream Suits CountsFit
 segments_none v bits e = search (arith, All-nil)
 
--- one segment before the stream of others
 segments_more : (v : ℕ) (bits rest : List Bool) (s : Segment) (ss : List Segment) (ys zs : List ℕ) → IsSegment v bits s ys rest → IsSegments v rest ss zs → IsSegments v bits (s ∷ ss) (ys ++ zs)
 unfolding segments_stream Suits CountsFit
 segments_more v bits rest s ss ys zs one others =
@@ -163,32 +138,27 @@ segments_more v bits rest s ss ys zs one others =
       end = others.end;
     }
 
--- The bits of segments that are read are their stream, and then an end.
-pub segments_takes : (n v : ℕ) (bits : List Bool) (r : List Segment × List ℕ) → length bits ≤ n → segments_at n v bits ≡ Ok r → IsSegments v bits r.0 r.1
+segments_takes : (n v : ℕ) (bits : List Bool) (r : List Segment × List ℕ) → length bits ≤ n → segments_at n v bits ≡ Ok r → IsSegments v bits r.0 r.1
 unfolding segments_at
 segments_takes zero v bits r few h = search (arith, same_ok, segments_none, ended_empty)
 segments_takes (suc n) v bits r few h =
-    let P : List Segment × List ℕ → Type 0 = λ t. IsSegments v bits t.0 t.1 in
     ⊎_elim
     (search (arith, same_ok, segments_none))
     (λ (e : ends bits ≡ false).
     let four = not_ended bits e in
-    bind_all (segment_at v bits) _ P (λ s es t ht.
-    bind_all (segments_at n v s.2) _ P (λ q eq t ht.
-    subst P (same_ok (s.0 ∷ q.0, s.1 ++ q.1) t ht)
-    (segments_more v bits s.2 s.0 q.0 s.1 q.1 (segment_takes v bits s four es) (segments_takes n v s.2 q (omega (arith, segment_shorter v bits s four es)) eq))) t ht) r (rw e at h))
+    let s = bind_ok (segment_at v bits) _ r (rw e at h) in
+    let q = bind_ok (segments_at n v s.0.2) _ r s.2 in
+    let less = segment_shorter v bits s.0 four s.1 in
+    subst (λ (t : List Segment × List ℕ). IsSegments v bits t.0 t.1) (same_ok _ _ q.2)
+    (segments_more v bits s.0.2 s.0.0 q.0.0 s.0.1 q.0.1 (segment_takes v bits s.0 four s.1) (segments_takes n v s.0.2 q.0 (omega arith) q.1)))
     (cases_Bool (ends bits))
 
--- ---- the header
-
--- a header begins with its indicator
 starts : (rest : List Bool) → begins_header (field 4 header_indicator ++ rest) ≡ true
 unfolding begins_header
 starts rest =
     let there : 4 ≤ length (field 4 header_indicator ++ rest) = search (arith, length-append, length-field) in
     rw (le-leb 4 (length (field 4 header_indicator ++ rest)) there, read_field 4 header_indicator rest (lit< tt)) refl
 
--- if a header begins here, the first four bits are its indicator
 started : (bits : List Bool) → begins_header bits ≡ true → bits ≡ field 4 header_indicator ++ drop 4 bits
 unfolding begins_header
 started bits h =
@@ -196,7 +166,6 @@ started bits h =
     let four : 4 ≤ length bits = leb-true 4 (length bits) p.0 in
     cc (eqb-true _ 3 p.1, field_read 4 bits four, take-append-drop 4 bits)
 
--- the fields of a header whose bits are all there
 header_parts : (bits : List Bool) → 16 ≤ length bits
     → bits ≡ (field 4 (value (take 4 bits)) ++ (field 4 (value (take 4 (drop 4 bits))) ++ field 8 (value (take 8 (drop 8 bits))))) ++ drop 16 bits
 header_parts bits long =
@@ -206,7 +175,6 @@ header_parts bits long =
     let last = take-append-drop 8 (drop 8 bits) in
     search (arith, drop-drop, take-append-drop, append_assoc)
 
--- a header that is written is read back
 header_again : (h : Header) (rest : List Bool) → HeaderFits (Some h) → first_header (header_stream (Some h) ++ rest) ≡ Ok (Some h, rest)
 unfolding first_header header_stream
 header_again h rest all_fit =
@@ -221,59 +189,44 @@ header_again h rest all_fit =
     let after_p : drop 4 behind ≡ l ++ (q ++ rest) = drop-field 4 h.position (l ++ (q ++ rest)) in
     let after_l : drop 8 behind ≡ q ++ rest = cc (drop-drop 4 4 behind, drop-field 4 h.last (q ++ rest)) in
     let after_q : drop 16 behind ≡ rest = cc (drop-drop 8 8 behind, drop-field 8 h.parity rest) in
-    rw (
-      whole,
-      starts behind,
-      drop-field 4 header_indicator behind,
-      header_whole behind long,
-      read_field 4 h.position (l ++ (q ++ rest)) fits.0,
-      after_p,
-      read_field 4 h.last (q ++ rest) fits.1,
-      after_l,
-      read_field 8 h.parity rest fits.2,
-      after_q,
-    ) refl
+    let a = read_field 4 h.position (l ++ (q ++ rest)) fits.0 in
+    let b = read_field 4 h.last (q ++ rest) fits.1 in
+    let c = read_field 8 h.parity rest fits.2 in
+    let d = drop-field 4 header_indicator behind in
+    rw (whole, starts behind, d, header_whole behind long, a, after_p, b, after_l, c, after_q) refl
 
--- no header begins where segments begin
 none_begins : (v : ℕ) (xs : List ℕ) (segs : List Segment) (tail : List Bool) → ends tail ≡ true → begins_header (segments_stream v xs segs ++ tail) ≡ false
 unfolding begins_header segments_stream ends
 none_begins v xs [] tail e = search (arith, lt-leb, eqb-true, le-ltb, le-leb)
 none_begins v xs (s ∷ ss) tail e = grind (arith, first_four, append_assoc, le-leb)
 
--- an optional header that is written is read back
-first_again : (v : ℕ) (h : Option Header) (xs : List ℕ) (segs : List Segment) (tail : List Bool) → HeaderFits h → ends tail ≡ true
-    → first_header ((header_stream h ++ segments_stream v xs segs) ++ tail) ≡ Ok (h, segments_stream v xs segs ++ tail)
+first_again : (v : ℕ) (h : Option Header) (xs : List ℕ) (ss : List Segment) (tail : List Bool) → HeaderFits h → ends tail ≡ true
+    → first_header ((header_stream h ++ segments_stream v xs ss) ++ tail) ≡ Ok (h, segments_stream v xs ss ++ tail)
 unfolding first_header header_stream
-first_again v h xs segs tail fits e = grind (arith, none_begins, append_assoc, header_again)
+first_again v h xs ss tail fits e = grind (arith, none_begins, append_assoc, header_again)
 
--- the numbers of a header that was read fit their fields
 fits_of : (h : Header) → h.position < 16 → h.last < 16 → h.parity < 256 → HeaderFits (Some h)
 fits_of h a b d = search arith
 
--- a header that is read is written as the same bits
 header_takes : (bits : List Bool) (r : Header × List Bool) → header_at bits ≡ Ok r → HeaderFits (Some r.0) × (bits ≡ (field 4 r.0.position ++ (field 4 r.0.last ++ field 8 r.0.parity)) ++ r.1)
 unfolding header_at
 header_takes bits r h =
-    let g = guard_ok (nat_lt (length bits) 16) Cut (Ok (record { position = value (take 4 bits); last = value (take 4 (drop 4 bits)); parity = value (take 8 (drop 8 bits)) }, drop 16 bits)) r h in
+    let g = guard_ok _ _ _ r h in
     let long : 16 ≤ length bits = ltb-false _ _ g.0 in
     let P : Header × List Bool → Type 0 = λ t. HeaderFits (Some t.0) × (bits ≡ (field 4 t.0.position ++ (field 4 t.0.last ++ field 8 t.0.parity)) ++ t.1) in
     subst P (search (arith, same_ok))
     (fits_of _ (value_take_below 4 bits) (value_take_below 4 (drop 4 bits)) (value_take_below 8 (drop 8 bits)), header_parts bits long)
 
--- an optional header that is read is written as the same bits
 first_takes : (bits : List Bool) (r : Option Header × List Bool) → first_header bits ≡ Ok r → HeaderFits r.0 × (bits ≡ header_stream r.0 ++ r.1)
 unfolding first_header header_stream
 first_takes bits r h =
-    let P : Option Header × List Bool → Type 0 = λ t. HeaderFits t.0 × (bits ≡ header_stream t.0 ++ t.1) in
     ⊎_elim
     (λ (e : begins_header bits ≡ true).
-    bind_all (header_at (drop 4 bits)) _ P (λ q eq t ht.
-    let w = header_takes (drop 4 bits) q eq in
-    search (arith, same_ok, append_assoc, started)) r (rw e at h))
+    let q = bind_ok (header_at (drop 4 bits)) _ r (rw e at h) in
+    let w = header_takes (drop 4 bits) q.0 q.1 in
+    search (arith, same_ok, append_assoc, started))
     (search (arith, same_ok))
     (cases_Bool (begins_header bits))
-
--- ---- the whole
 
 -- A stream followed by an end is parsed into its header, segments and bytes.
 pub parse_again : (v : ℕ) (xs : List ℕ) (segs : List Segment) (h : Option Header) (front tail : List Bool) → IsStream v xs segs h front → ends tail ≡ true
@@ -289,8 +242,8 @@ Says v bits c = (front : List Bool) × (tail : List Bool) × IsStream v c.bytes 
 pub parse_takes : (v : ℕ) (bits : List Bool) (c : Content) → parse v bits ≡ Ok c → Says v bits c
 unfolding parse segments_of
 parse_takes v bits c e =
-    bind_all (first_header bits) _ (Says v bits) (λ h eh d hd.
-    bind_all (segments_at (length h.1) v h.1) _ (Says v bits) (λ r er d hd.
-    let first = first_takes bits h eh in
-    let others = segments_takes (length h.1) v h.1 r (omega arith) er in
-    search (arith, same_ok, append_assoc)) d hd) c e
+    let h = bind_ok (first_header bits) _ c e in
+    let r = bind_ok (segments_at (length h.0.1) v h.0.1) _ c h.2 in
+    let first = first_takes bits h.0 h.1 in
+    let others = segments_takes (length h.0.1) v h.0.1 r.0 (omega arith) r.1 in
+    search (arith, same_ok, append_assoc)

@@ -1,31 +1,19 @@
 -- The data of a segment: what is written is read back, and what is read is written as the same bits.
-use Rattle.std.proofs.Common.{◌≡◌, ℕ, zero, suc, ◌+◌, ◌*◌, ◌/◌, ◌%◌, ◌<◌, ◌≤◌, Bool, true, nat_lt, All, List, [], ◌∷◌, ◌++◌, length, take, drop, Ok, refl, sym, ◌∙◌, ap, subst, arith, append_assoc}
+use Rattle.std.proofs.Common.{◌≡◌, ℕ, zero, suc, ◌+◌, ◌*◌, ◌/◌, ◌%◌, ◌<◌, ◌≤◌, Bool, true, All, List, [], ◌∷◌, ◌++◌, length, take, drop, Ok, refl, ap, subst, arith, append_assoc}
 use Rattle.std.proofs.lemmas.Bool.{lt-ltb, ltb-true, and_parts, and_from}
-use Rattle.std.proofs.lemmas.List.{length-drop, take-append-drop}
+use Rattle.std.{proofs.lemmas.List.length-drop, proofs.lemmas.List.take-append-drop, specs.List.list_all}
 use Rattle.std.proofs.lemmas.List.Elements.{All-nil, All-cons, All-head, All-tail}
-use Rattle.std.specs.List.{list_all}
-use Rattle.qr_bits.specs.declared.modes.Mode.{Mode}
+use Rattle.qr_bits.specs.{declared.modes.Mode.Mode, Stream.character_bits, Stream.payload}
 use Rattle.qr_bits.specs.declared.modes.Mode.TheVariants.{Numeric, Alphanumeric, Byte, Kanji}
-use Rattle.qr_bits.specs.{declared.fault.ParseFault.TheVariants.BadValue, Bits.value, Bits.bits_of}
+use Rattle.qr_bits.specs.{Bits.value, Bits.bits_of}
 use Rattle.qr_bits.specs.Modes.{character_count, is_alphanumeric, byte_count, payload_bits, suits, character_value}
-use Rattle.qr_bits.specs.Stream.{character_bits, payload}
-use Rattle.qr_bits.specs.Parsing.{◌>>=◌, character, characters_of, bytes_of, values_of}
+use Rattle.qr_bits.specs.Parsing.{characters_of, bytes_of, values_of}
 use Rattle.qr_bits.proofs.lemmas.modes.KanjiLemmas.{pairs_again, pairs_takes}
 use Rattle.qr_bits.proofs.lemmas.modes.CharacterLemmas.{character_found, character_again, character_taken}
 use Rattle.qr_bits.proofs.lemmas.parsing.{PayloadLemmas.value_take_below, ParsingLemmas.bind_ok, ParsingLemmas.same_ok}
-use Rattle.qr_bits.proofs.lemmas.stream.StreamLemmas.{more_written, drop-field, read_field, field_read, digits_again, digits_takes, are_digits, digits_suit, digits_bytes, chosen_ok}
+use Rattle.qr_bits.proofs.lemmas.stream.StreamLemmas.{more_written, drop-field, read_field, field_read, digits_again, digits_takes, are_digits, chosen_ok, IsWritten}
 use Rattle.qr_bits.proofs.lemmas.stream.WritingLemmas.{two_more}
 
--- the digits, characters, bytes or kanji pairs that were read, written again, are the bits that were read
-pub record IsWritten (m : Mode) (n : ℕ) (bits : List Bool) (xs : List ℕ) : Type 0 where
-  pub long : length xs ≡ byte_count m n
-  pub bytes : All (λ b. b < 256) xs
-  pub suited : suits m xs ≡ true
-  pub whole : bits ≡ payload m xs ++ drop (payload_bits m (byte_count m n)) bits
-
--- ---- characters
-
--- characters that are written are read back
 characters_again : (xs : List ℕ) (rest : List Bool) → list_all is_alphanumeric xs ≡ true → characters_of (length xs) (character_bits xs ++ rest) ≡ Ok xs
 unfolding characters_of character_bits
 characters_again [] rest h = refl
@@ -47,52 +35,33 @@ characters_again (a ∷ b ∷ xs) rest h =
     let d = drop-field 11 g (character_bits xs ++ rest) in
     search (arith, append_assoc, lt-ltb, character_again, characters_again xs rest q.1)
 
--- the characters that were read, written again, are the bits that were read
-abbrev WrittenOut : ℕ → List Bool → List ℕ → Type 0
-WrittenOut n bits xs = (length xs ≡ n) × All (λ b. b < 256) xs × (list_all is_alphanumeric xs ≡ true) × (bits ≡ character_bits xs ++ drop (payload_bits Alphanumeric n) bits)
-
--- one character that was read
-out_one : (bits : List Bool) → 6 ≤ length bits → value (take 6 bits) < 45 → WrittenOut 1 bits (character (value (take 6 bits)) ∷ [])
-unfolding character_bits
-out_one bits h low =
-    let t = character_taken (value (take 6 bits)) low in
-    (refl, All-cons (λ b. b < 256) _ [] t.2 (All-nil (λ b. b < 256)), and_from _ true t.0 refl, sym (take-append-drop 6 bits) ∙ ap (λ (r : List Bool). r ++ drop 6 bits) (sym (rw t.1 (field_read 6 bits h))))
-
--- two characters that were read before others
-out_two : (n : ℕ) (bits : List Bool) (cs : List ℕ) → 11 ≤ length bits → value (take 11 bits) < 2025 → WrittenOut n (drop 11 bits) cs
-    → WrittenOut (2 + n) bits (character (value (take 11 bits) / 45) ∷ character (value (take 11 bits) % 45) ∷ cs)
-unfolding character_bits
-out_two n bits cs h low w =
-    let g = value (take 11 bits) in
-    let a = character_taken (g / 45) (omega arith) in
-    let b = character_taken (g % 45) (omega arith) in
-    let back : 45 * (g / 45) + g % 45 ≡ g = omega arith in
-    let whole = more_written 11 (payload_bits Alphanumeric n) bits (character_bits cs) h w.3 in
-    (omega (arith, w.0), search (arith, All-cons), search (arith, and_from), rw (a.1, b.1, back, two_more n) whole)
-
--- characters that are read are written as the same bits
-characters_takes : (n : ℕ) (xs : List ℕ) (bits : List Bool) → payload_bits Alphanumeric n ≤ length bits → characters_of n bits ≡ Ok xs → WrittenOut n bits xs
-unfolding characters_of character_bits
-characters_takes zero xs bits h e = grind arith
-characters_takes (suc zero) xs bits h e =
-    let c = chosen_ok (nat_lt (value (take 6 bits)) 45) (Ok (character (value (take 6 bits)) ∷ [])) BadValue xs e in
-    search (arith, same_ok, out_one, ltb-true)
-characters_takes (suc (suc n)) xs bits h e =
-    let g = value (take 11 bits) in
+characters_takes : (n : ℕ) (xs : List ℕ) (bs : List Bool) → payload_bits Alphanumeric n ≤ length bs → characters_of n bs ≡ Ok xs → IsWritten Alphanumeric n bs xs
+unfolding characters_of character_bits payload
+characters_takes zero xs bs h e = search (arith, same_ok, All-nil)
+characters_takes (suc zero) xs bs h e =
+    let c = chosen_ok _ _ _ xs e in
+    let t = character_taken (value (take 6 bs)) (ltb-true _ _ c.0) in
+    let whole = field_read 6 bs h in
+    subst (IsWritten Alphanumeric 1 bs) (same_ok _ _ c.1) (search (arith, All-cons, All-nil, and_from, take-append-drop))
+characters_takes (suc (suc n)) xs bs h e =
+    let g = value (take 11 bs) in
+    let c = chosen_ok _ _ _ xs e in
+    let b = bind_ok (characters_of n (drop 11 bs)) _ xs c.1 in
+    let low : g < 2025 = ltb-true _ _ c.0 in
     let two : suc (suc n) ≡ 2 + n = omega arith in
-    let room : 11 + payload_bits Alphanumeric n ≤ length bits = omega (arith, two_more) in
-    let c = chosen_ok (nat_lt g 2025) (characters_of n (drop 11 bits) >>= λ cs. Ok (character (g / 45) ∷ character (g % 45) ∷ cs)) BadValue xs e in
-    let b = bind_ok (characters_of n (drop 11 bits)) (λ cs. Ok (character (g / 45) ∷ character (g % 45) ∷ cs)) xs c.1 in
-    let rest = characters_takes n b.0 (drop 11 bits) (omega (arith, length-drop 11 bits)) b.1 in
-    rw two (subst (WrittenOut (2 + n) bits) (same_ok _ _ b.2) (out_two n bits b.0 (omega arith) (ltb-true _ _ c.0) rest))
-
--- ---- bytes
+    let room : 11 + payload_bits Alphanumeric n ≤ length bs = omega (arith, two_more) in
+    let w = characters_takes n b.0 (drop 11 bs) (omega (arith, length-drop 11 bs)) b.1 in
+    let i = character_taken (g / 45) (omega arith) in
+    let j = character_taken (g % 45) (omega arith) in
+    let back : 45 * (g / 45) + g % 45 ≡ g = omega arith in
+    let whole = more_written 11 (payload_bits Alphanumeric n) bs (character_bits b.0) (omega arith) w.whole in
+    rw two (subst (IsWritten Alphanumeric (2 + n) bs) (same_ok _ _ b.2) (search (arith, All-cons, and_from, two_more)))
 
 -- bytes that are written are read back
-pub bytes_again : (xs : List ℕ) (rest : List Bool) → All (λ b. b < 256) xs → bytes_of (length xs) (bits_of xs ++ rest) ≡ xs
+pub bytes_again : (xs : List ℕ) (t : List Bool) → All (λ b. b < 256) xs → bytes_of (length xs) (bits_of xs ++ t) ≡ xs
 unfolding bytes_of bits_of
-bytes_again [] rest h = refl
-bytes_again (x ∷ xs) rest h = search (arith, append_assoc, read_field, drop-field, All-head, All-tail, bytes_again xs rest)
+bytes_again [] t h = refl
+bytes_again (x ∷ xs) t h = search (arith, append_assoc, read_field, drop-field, All-head, All-tail, bytes_again xs t)
 
 -- bytes that are read are written as the same bits
 pub bytes_takes : (n : ℕ) (bits : List Bool) → 8 * n ≤ length bits
@@ -104,8 +73,6 @@ bytes_takes (suc n) bits h =
     let more : 8 * suc n ≡ 8 + 8 * n = omega arith in
     (ap suc rest.0, All-cons (λ b. b < 256) _ _ (value_take_below 8 bits) rest.1, rw more (more_written 8 (8 * n) bits _ (omega arith) rest.2))
 
--- ---- any mode
-
 -- Data that is written is read back, whatever follows.
 pub values_again : (m : Mode) (xs : List ℕ) (rest : List Bool) → All (λ b. b < 256) xs → suits m xs ≡ true → values_of m (character_count m (length xs)) (payload m xs ++ rest) ≡ Ok xs
 unfolding values_of payload
@@ -114,14 +81,9 @@ values_again m xs rest bytes h = grind (arith, digits_again, are_digits, charact
 -- Data that is read is written as the same bits.
 pub values_takes : (m : Mode) (n : ℕ) (xs : List ℕ) (bits : List Bool) → payload_bits m (byte_count m n) ≤ length bits → values_of m n bits ≡ Ok xs → IsWritten m n bits xs
 unfolding values_of payload
-values_takes Numeric n xs bits h e =
-    let w = digits_takes n xs bits h e in
-    search (arith, digits_bytes, digits_suit)
-values_takes Alphanumeric n xs bits h e =
-    let w = characters_takes n xs bits h e in
-    search arith
+values_takes Numeric n xs bits h e = digits_takes n xs bits h e
+values_takes Alphanumeric n xs bits h e = characters_takes n xs bits h e
 values_takes Byte n xs bits h e =
     let w = bytes_takes n bits h in
     search (arith, same_ok)
-values_takes Kanji n xs bits h e = let w = pairs_takes n xs bits (omega arith) e in
-    grind arith
+values_takes Kanji n xs bits h e = pairs_takes n xs bits (omega arith) e

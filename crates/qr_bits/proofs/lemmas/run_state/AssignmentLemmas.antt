@@ -1,12 +1,10 @@
 -- An assignment is valid (`IsAssignment`) exactly if each of its modes is allowed after those before it (`allowed`).
 use Rattle.std.proofs.Common.{◌≡◌, ℕ, suc, ◌+◌, ◌<◌, Bool, true, ◌==◌, ◌&&◌, List, [], ◌∷◌, IsTrue, refl, arith, lit<}
-use Rattle.std.proofs.lemmas.Bool.Decides.{nat_tests}
+use Rattle.std.{proofs.lemmas.Bool.Decides.nat_tests, specs.List.list_all}
 use Rattle.std.proofs.lemmas.Bool.{cond_both, and_parts, and_from, false≢true, eqb-true}
-use Rattle.std.specs.List.{list_all}
 use Rattle.qr_bits.specs.declared.modes.{Mode.Mode, Mode.TheVariants.Kanji, Rule.Rule}
-use Rattle.qr_bits.specs.declared.segment.Segment.{Segment}
+use Rattle.qr_bits.specs.{declared.segment.Segment.Segment, Modes.may_use}
 use Rattle.qr_bits.specs.declared.run_state.RunState.{RunState, TheVariants.HalfPair, TheVariants.WholePair}
-use Rattle.qr_bits.specs.Modes.{may_use}
 use Rattle.qr_bits.specs.Segmentation.{rank, prepend_mode, runs_of}
 use Rattle.qr_bits.specs.Steps.RunState.{state_after, begins_with_pair, may_begin, may_take, may_end, allowed}
 use Rattle.qr_bits.proofs.lemmas.segment.CoverLemmas.{suits_by, CoversBy}
@@ -31,17 +29,13 @@ unfolding runs_of
 Positive-runs_of [] = tt
 Positive-runs_of (m ∷ ms) = Positive-prepend_mode m (runs_of ms) (Positive-runs_of ms)
 
--- ---- one byte in a mode other than kanji mode
-
 add_one : (test : ℕ → ℕ → Bool) (m : Mode) (x : ℕ) (xs : List ℕ) (segs : List Segment) → rank m < 3 → suits_by test m (x ∷ []) ≡ true → CoversBy test xs segs → CoversBy test (x ∷ xs) (prepend_mode m segs)
 unfolding CoversBy
 add_one test m x xs segs k h c = grind arith
 
-drop_one : (test : ℕ → ℕ → Bool) (m : Mode) (x : ℕ) (xs : List ℕ) (segs : List Segment) → rank m < 3 → Positive segs → CoversBy test (x ∷ xs) (prepend_mode m segs) → (suits_by test m (x ∷ []) ≡ true) × CoversBy test xs segs
+drop_one : (t : ℕ → ℕ → Bool) (m : Mode) (x : ℕ) (xs : List ℕ) (segs : List Segment) → rank m < 3 → Positive segs → CoversBy t (x ∷ xs) (prepend_mode m segs) → (suits_by t m (x ∷ []) ≡ true) × CoversBy t xs segs
 unfolding CoversBy
-drop_one test m x xs segs k p c = grind arith
-
--- ---- two bytes in kanji mode
+drop_one t m x xs segs k p c = grind arith
 
 drop_pair : (test : ℕ → ℕ → Bool) (x y : ℕ) (xs : List ℕ) (segs : List Segment) → Positive segs → CoversBy test (x ∷ y ∷ xs) (prepend_mode Kanji (prepend_mode Kanji segs)) → (test x y ≡ true) × CoversBy test xs segs
 unfolding CoversBy
@@ -55,7 +49,6 @@ drop_pair test x y xs (s ∷ ss) p c =
     (λ e c. ((and_parts (test x y) true c.2).0, c.3))
     c
 
--- a single byte in kanji mode before another mode is not valid
 half : (test : ℕ → ℕ → Bool) (m : Mode) (x : ℕ) (xs : List ℕ) (segs : List Segment) → rank m < 3 → CoversBy test (x ∷ xs) (prepend_mode Kanji (prepend_mode m segs)) → ⊥
 unfolding CoversBy
 half test m x xs segs k c = grind arith
@@ -63,8 +56,6 @@ half test m x xs segs k c = grind arith
 alone : (test : ℕ → ℕ → Bool) (x : ℕ) (segs : List Segment) → Positive segs → CoversBy test (x ∷ []) (prepend_mode Kanji segs) → ⊥
 unfolding CoversBy
 alone test x segs p c = grind arith
-
--- ---- valid assignments are allowed, and allowed ones are valid
 
 pub may_end-after : (p : RunState) (m : Mode) → rank m < 3 → may_end (state_after p m) ≡ true
 unfolding may_end state_after

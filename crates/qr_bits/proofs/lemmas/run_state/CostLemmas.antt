@@ -1,12 +1,9 @@
 -- The number of bits of an assignment is a sum over its modes.
-use Rattle.std.proofs.lemmas.Bool.Decides.{nat_tests}
+use Rattle.std.proofs.lemmas.Bool.{Decides.nat_tests, cond_both, cond-true, cond-false, eqb-true, eq-eqb}
 use Rattle.std.proofs.Common.{◌≡◌, ℕ, ◌+◌, Bool, true, false, cond, ◌==◌, List, [], ◌∷◌, replicate, refl, arith, suc, zero}
-use Rattle.std.proofs.lemmas.Bool.{cond_both, cond-true, cond-false, eqb-true, eq-eqb}
-use Rattle.qr_bits.specs.declared.modes.Mode.{Mode}
-use Rattle.qr_bits.specs.declared.modes.Mode.TheVariants.{Numeric, Alphanumeric, Byte, Kanji}
+use Rattle.qr_bits.specs.{declared.modes.Mode.Mode, Modes.count_width, Modes.payload_bits}
 use Rattle.qr_bits.specs.declared.{segment.Segment.Segment, run_state.RunState.RunState}
 use Rattle.qr_bits.specs.declared.run_state.RunState.TheVariants.{Start, Digit1, Digit2, Digit3, Character1, Character2, InBytes, HalfPair, WholePair}
-use Rattle.qr_bits.specs.Modes.{count_width, payload_bits}
 use Rattle.qr_bits.specs.Segmentation.{segment_bits, bits, rank, prepend_mode, runs_of}
 use Rattle.qr_bits.specs.Steps.RunState.{state_after, byte_cost, cost_of}
 use Rattle.qr_bits.proofs.lemmas.run_state.BestLemmas.{same_rank}
@@ -39,27 +36,20 @@ state_rank WholePair = 3
 abbrev goes_on : RunState → Mode → Bool
 goes_on p m = state_rank p == rank m
 
--- after a byte, the rank of the last mode is that of its mode
 state_rank-after : (p : RunState) (m : Mode) → state_rank (state_after p m) ≡ rank m
 unfolding state_after
-state_rank-after p Numeric = grind arith
-state_rank-after p Alphanumeric = grind arith
-state_rank-after _ Byte = refl
-state_rank-after p Kanji = grind arith
+state_rank-after p m = grind arith
 
--- the data bits of one more byte and then n more bytes of a run
 one_more : (v : ℕ) (p : RunState) (m : Mode) (n : ℕ) → goes_on p m ≡ true
     → byte_cost v p m + payload_bits m (turn p) + payload_bits m (turn (state_after p m) + n) ≡ payload_bits m (turn p + (1 + n)) + payload_bits m (turn (state_after p m))
 unfolding state_after byte_cost
 one_more v p m n h = grind (arith, nat_tests)
 
--- the bits of a byte that begins a run
 begins : (v : ℕ) (p : RunState) (m : Mode) → goes_on p m ≡ false
     → (byte_cost v p m ≡ 4 + count_width v m + payload_bits m 1) × (turn (state_after p m) ≡ 1)
 unfolding state_after byte_cost
 begins v p m h = grind arith
 
--- the bits of n bytes that go on with a run
 run_bits : (v : ℕ) (p : RunState) (m : Mode) (n : ℕ) → goes_on p m ≡ true
     → cost_of v p (replicate n m) + payload_bits m (turn p) ≡ payload_bits m (turn p + n)
 unfolding cost_of
@@ -72,13 +62,11 @@ abbrev rest_bits : ℕ → RunState → List Segment → ℕ
 rest_bits v p [] = 0
 rest_bits v p (s ∷ ss) = cond (goes_on p s.mode) (cost_of v p (replicate s.len s.mode)) (segment_bits v s) + bits v ss
 
--- the bits of a byte and then of bytes that go on with its run
 one_run : (v : ℕ) (p : RunState) (m : Mode) (n : ℕ)
     → byte_cost v p m + cost_of v (state_after p m) (replicate n m) ≡ cond (goes_on p m) (cost_of v p (replicate (1 + n) m)) (segment_bits v (record { mode = m; len = 1 + n }))
 unfolding cost_of
 one_run v p m n = search (arith, cond_both, begins, run_bits, eq-eqb, state_rank-after)
 
--- the bits of one more byte before segments
 front : (v : ℕ) (p : RunState) (m : Mode) (segs : List Segment)
     → byte_cost v p m + rest_bits v (state_after p m) segs ≡ rest_bits v p (prepend_mode m segs)
 unfolding cost_of
@@ -92,8 +80,7 @@ front v p m (s ∷ ss) =
     let one = one_run v p m 0 in
     omega (arith, one, f))
 
--- The bits that modes add after a state are those that their runs add.
-pub rest_bits-runs_of : (v : ℕ) (p : RunState) (ms : List Mode) → cost_of v p ms ≡ rest_bits v p (runs_of ms)
+rest_bits-runs_of : (v : ℕ) (p : RunState) (ms : List Mode) → cost_of v p ms ≡ rest_bits v p (runs_of ms)
 unfolding cost_of runs_of
 rest_bits-runs_of v p [] = refl
 rest_bits-runs_of v p (m ∷ ms) = omega (arith, front, rest_bits-runs_of v (state_after p m) ms)

@@ -1,11 +1,9 @@
 -- Segments that cover bytes, one after the other.
 use Rattle.std.proofs.Common.{Bool, true, ◌≡◌, ℕ, ◌<◌, ◌≤◌, List, [], ◌∷◌, length, take, drop, IsTrue, arith}
-use Rattle.std.proofs.lemmas.List.{take_all, drop_all}
+use Rattle.std.{proofs.lemmas.List.take_all, proofs.lemmas.List.drop_all, specs.List.list_all}
 use Rattle.std.proofs.lemmas.List.Elements.{All-cons, All-nil, All-head, All-tail}
-use Rattle.std.specs.List.{list_all}
-use Rattle.qr_bits.specs.declared.modes.Mode.{Mode}
+use Rattle.qr_bits.specs.declared.{modes.Mode.Mode, segment.Segment.Segment}
 use Rattle.qr_bits.specs.declared.modes.Mode.TheVariants.{Numeric, Alphanumeric, Byte, Kanji}
-use Rattle.qr_bits.specs.declared.segment.Segment.{Segment}
 use Rattle.qr_bits.specs.Modes.{suits, is_digit, is_alphanumeric, in_twos, is_kanji_pair}
 use Rattle.qr_bits.specs.{Stream.Suits, Segmentation.Covers, Steps.Segmentation.one_segment}
 

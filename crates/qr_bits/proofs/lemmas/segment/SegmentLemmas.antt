@@ -5,26 +5,26 @@ use Rattle.std.proofs.{lemmas.List.Elements.All-head, lemmas.List.Elements.All-t
 use Rattle.std.specs.List.{sum_by}
 use Rattle.qr_bits.proofs.lemmas.segment.CoverLemmas.{CoversBy, suits-by, covers_by, by_covers}
 use Rattle.qr_bits.specs.declared.modes.{Mode.Mode, Mode.TheVariants.Numeric, Rule.Rule}
-use Rattle.qr_bits.specs.declared.segment.Segment.{Segment}
+use Rattle.qr_bits.specs.{declared.segment.Segment.Segment, Stream.Suits}
 use Rattle.qr_bits.specs.Modes.{count_width, payload_bits, suits}
 use Rattle.qr_bits.specs.Segmentation.{segment_bits, bits, rank, Covers, IsNotAfter, IsLeastSegmentation, HasFit}
-use Rattle.qr_bits.specs.Stream.{Suits}
 
 -- a count field has at most 16 bits
 pub count_width_bound : (v : ℕ) (m : Mode) → count_width v m ≤ 16
 count_width_bound v m = grind arith
 
--- left-over digits need at most 7 bits
 left_over : (n : ℕ) → cond (n % 3 == 0) 0 (cond (n % 3 == 1) 4 7) ≤ 7
 left_over n = grind arith
 
--- three digits have at least ten bits
 digits_least : (n : ℕ) → 10 * n ≤ 3 * payload_bits Numeric n
 digits_least n = search (arith, cond_both, eqb-true)
 
--- a segment that is not empty has at most 35 bits for each byte
 segment_most : (v : ℕ) (s : Segment) → 0 < s.len → segment_bits v s ≤ 35 * s.len
 segment_most v s h = grind (arith, count_width_bound)
+
+-- what stands past the end of a list of segments
+abbrev pub past_end : Segment
+past_end = record { mode = Numeric; len = 0 }
 
 -- the bits of the segments from index i on
 pub bits-drop : (v : ℕ) (segs : List Segment) (i : ℕ) (d : Segment) → i < length segs → bits v (drop i segs) ≡ segment_bits v (get_or segs i d) + bits v (drop (i + 1) segs)
@@ -36,7 +36,6 @@ bits_most v [] h = omega arith
 bits_most v (s ∷ ss) h =
     omega (arith, segment_most v s (All-head (λ (t : Segment). 0 < t.len) s ss h), bits_most v ss (All-tail (λ (t : Segment). 0 < t.len) s ss h), sum_by-cons (λ (t : Segment). t.len) s ss)
 
--- the lengths of segments that suit the bytes add up to the number of bytes
 suits_length : (xs : List ℕ) (segs : List Segment) → Suits xs segs → sum_by (λ s. s.len) segs ≡ length xs
 unfolding Suits
 suits_length xs [] h = ap length (sym h)
@@ -74,7 +73,7 @@ pub segment_least : (v : ℕ) (s : Segment) → 10 * s.len + 3 * (4 + count_widt
 segment_least v s = omega (arith, payload_least s.mode s.len)
 
 -- segments have at least ten bits for three bytes
-pub bits_least : (v : ℕ) (xs : List ℕ) (segs : List Segment) → Suits xs segs → 10 * length xs ≤ 3 * bits v segs
+pub bits_least : (v : ℕ) (xs : List ℕ) (ts : List Segment) → Suits xs ts → 10 * length xs ≤ 3 * bits v ts
 unfolding Suits
 bits_least v xs [] h = omega (arith, ap length h)
 bits_least v xs (s ∷ ss) h = omega (arith, segment_least v s, bits_least v (drop s.len xs) ss h.2, length-drop s.len xs, h.0)
@@ -84,7 +83,6 @@ pub least_fits : (v : ℕ) (r : Rule) (xs : List ℕ) (segs : List Segment) → 
     → Covers xs segs × ((n : ℕ) → HasFit v r xs n ↔ (bits v segs ≤ n))
 least_fits v r xs segs h = search arith
 
--- Assignments are equal if neither comes after the other.
 best-one : (ms ks : List Mode) → IsNotAfter ms ks → IsNotAfter ks ms → ms ≡ ks
 best-one [] [] a b = refl
 best-one [] (k ∷ ks) a b = absurd b

@@ -1,8 +1,6 @@
 -- Segments that grow at their end.
 use Rattle.std.proofs.Common.{◌≡◌, ℕ, zero, suc, ◌+◌, true, ◌==◌, List, [], ◌∷◌, ◌++◌, length, replicate, refl, append_assoc, arith}
-use Rattle.std.proofs.lemmas.Bool.Decides.{nat_tests}
-use Rattle.std.proofs.lemmas.Bool.{and_from, cond_both, ne_eqb}
-use Rattle.std.proofs.lemmas.List.Sums.{sum_by-cons}
+use Rattle.std.proofs.lemmas.{Bool.Decides.nat_tests, List.Sums.sum_by-cons, Bool.and_from, Bool.cond_both, Bool.ne_eqb}
 use Rattle.qr_bits.specs.{declared.modes.Mode.Mode, contracts.modes.Mode.the_type}
 use Rattle.qr_bits.specs.{declared.modes.Rule.Rule, declared.segment.Segment.Segment, Modes.may_use}
 use Rattle.qr_bits.specs.Segmentation.{rank, prepend_mode, runs_of}
@@ -11,7 +9,6 @@ use denote.Enum.Bare.{sameb}
 use Rattle.std.specs.List.{list_all, sum_by}
 use Rattle.qr_bits.proofs.lemmas.run_state.BestLemmas.{same_rank}
 
--- one mode added before segments and another added after them, in either order
 both_ends : (k : Mode) (segs : List Segment) (m : Mode) → prepend_mode k (append_mode segs m) ≡ append_mode (prepend_mode k segs) m
 unfolding append_mode
 both_ends k segs m = grind arith
@@ -39,7 +36,6 @@ pub run_other : (segs : List Segment) (k m : Mode) (n : ℕ) → (n ≡ 0 → se
 unfolding append_mode
 run_other segs k m n none other = grind (arith, append_mode-last, ne_eqb, same_rank, append_assoc)
 
--- one more mode before segments makes them longer by 1
 sum_by-prepend_mode : (m : Mode) (segs : List Segment) → sum_by (λ s. s.len) (prepend_mode m segs) ≡ 1 + sum_by (λ s. s.len) segs
 sum_by-prepend_mode m [] = refl
 sum_by-prepend_mode m (s ∷ ss) =

@@ -1,25 +1,21 @@
 -- If only byte mode may be used, there is one valid assignment: byte mode for each byte.
 use Rattle.std.proofs.Common.{◌≡◌, ℕ, ◌+◌, ◌*◌, ◌<◌, ◌≤◌, min, take, ⊎_elim, true, List, [], ◌∷◌, length, replicate, refl, sym, arith, inr}
-use Rattle.std.proofs.lemmas.{List.length-take-le, Bool.cases_lt}
-use Rattle.std.specs.List.{list_all}
+use Rattle.std.{proofs.lemmas.List.length-take-le, proofs.lemmas.Bool.cases_lt, specs.List.list_all}
 use Rattle.qr_bits.specs.declared.modes.{Mode.Mode, Mode.TheVariants.Byte, Rule.TheVariants.BytesOnly}
 use Rattle.qr_bits.specs.Segmentation.{bits, IsAssignment, IsNotAfter, IsLeastSegmentation, IsLongestFit}
 use Rattle.qr_bits.specs.{Modes.may_use, Modes.count_width, Steps.Segmentation.one_segment}
 use Rattle.qr_bits.proofs.lemmas.segment.{CoverLemmas.one_covers, SegmentLemmas.covers_all, SegmentLemmas.least_fits}
 use Rattle.qr_bits.proofs.lemmas.segmentation.BackLemmas.{sum_by-runs_of, runs_of-replicate, all_used}
 
--- the only mode that the rule allows is byte mode
 only_bytes : (ks : List Mode) → list_all (may_use BytesOnly) ks ≡ true → ks ≡ replicate (length ks) Byte
 only_bytes [] u = refl
 only_bytes (Byte ∷ ks) u = cc (only_bytes ks u)
 only_bytes (_ ∷ ks) u = cc
 
--- a list of modes is not after itself
 not_after_self : (ms : List Mode) → IsNotAfter ms ms
 not_after_self [] = tt
 not_after_self (m ∷ ms) = inr (refl, not_after_self ms)
 
--- each valid assignment by this rule is byte mode for each byte
 one_assignment : (xs : List ℕ) (ks : List Mode) → IsAssignment BytesOnly xs ks → ks ≡ replicate (length xs) Byte
 one_assignment xs ks h = search (arith, only_bytes, covers_all, sum_by-runs_of)
 
@@ -35,7 +31,6 @@ bytes_least v xs = (
   sym (runs_of-replicate Byte (length xs)),
 )
 
--- the one segment of n bytes has at most this number of bits
 bits-most : (v n : ℕ) → bits v (one_segment Byte n) ≤ 4 + count_width v Byte + 8 * n
 bits-most v n = grind arith
 

@@ -2,23 +2,19 @@
 use Rattle.std.proofs.Common.{◌≡◌, ℕ, zero, suc, ◌+◌, ◌*◌, ◌/◌, ◌<◌, ◌≤◌, true, List, [], ◌∷◌, length, drop, replicate, length-drop, refl, sym, ap, arith, inl, inr, lit<, IsTrue}
 use Rattle.std.proofs.lemmas.Bool.Decides.{nat_tests}
 use Rattle.qr_bits.specs.declared.modes.{Mode.Mode, Mode.TheVariants.Numeric, Rule.Rule}
-use Rattle.qr_bits.specs.declared.segment.Segment.{Segment}
+use Rattle.qr_bits.specs.{declared.segment.Segment.Segment, Steps.Segmentation.one_segment}
 use Rattle.qr_bits.specs.Modes.{is_kanji_pair, suits, may_use, count_width, payload_bits}
 use Rattle.qr_bits.specs.Segmentation.{bits, IsNotAfter, IsLeastSegmentation}
-use Rattle.qr_bits.specs.Steps.Segmentation.{one_segment}
 use Rattle.qr_bits.proofs.lemmas.segment.CoverLemmas.{CoversBy, covers_by, one_covers}
 use Rattle.qr_bits.proofs.lemmas.segmentation.BackLemmas.{sum_by-runs_of, runs_of-replicate, all_used}
 use Rattle.qr_bits.proofs.lemmas.segment.SegmentLemmas.{covers_all}
 
--- the number of data bits of n digits
 digits_bits : (n : ℕ) → payload_bits Numeric n ≡ (10 * n + 2) / 3
 digits_bits n = grind (arith, nat_tests)
 
--- no segment of n bytes takes fewer bits than one segment of n digits
 segment_more : (v : ℕ) (m : Mode) (n : ℕ) → 0 < n → 4 + count_width v Numeric + (10 * n + 2) / 3 ≤ 4 + count_width v m + payload_bits m n
 segment_more v m n h = grind (arith, nat_tests)
 
--- nor do several segments of n bytes take fewer bits
 segments_more : (v : ℕ) (s : Segment) (ss : List Segment) (xs : List ℕ) → CoversBy is_kanji_pair xs (s ∷ ss) → 4 + count_width v Numeric + (10 * length xs + 2) / 3 ≤ bits v (s ∷ ss)
 unfolding CoversBy
 segments_more v s [] xs c =
@@ -26,14 +22,12 @@ segments_more v s [] xs c =
     search (arith, segment_more, length-drop)
 segments_more v s (t ∷ ts) xs c = search (arith, segment_more, length-drop, segments_more v t ts (drop s.len xs) c.3)
 
--- nor do any segments that cover the bytes
 digits_fewest : (v : ℕ) (xs : List ℕ) (segs : List Segment) → CoversBy is_kanji_pair xs segs → bits v (one_segment Numeric (length xs)) ≤ bits v segs
 unfolding CoversBy
 digits_fewest v [] segs c = omega arith
 digits_fewest v (x ∷ xs) [] c = absurd (let e = ap length c in omega arith)
 digits_fewest v (x ∷ xs) (s ∷ ss) c = omega (arith, segments_more v s ss (x ∷ xs) c, digits_bits (length (x ∷ xs)))
 
--- the assignment of numeric mode to each byte comes after no other assignment
 digits_first : (n : ℕ) (ks : List Mode) → n ≤ length ks → IsNotAfter (replicate n Numeric) ks
 digits_first zero ks h = tt
 digits_first (suc n) [] h = absurd (omega arith)

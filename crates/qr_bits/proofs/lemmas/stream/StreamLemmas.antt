@@ -1,28 +1,23 @@
 -- Fields and digits: what is written is read back, and what is read is written as the same bits.
-use Rattle.std.proofs.lemmas.Bool.Decides.{nat_tests}
-use Rattle.std.proofs.Common.{◌≡◌, ℕ, zero, suc, ◌+◌, ◌-◌, ◌*◌, ◌/◌, ◌%◌, ◌^◌, ◌<◌, ◌≤◌, Bool, true, false, cond, ◌==◌, nat_lt, All, List, [], ◌∷◌, ◌++◌, length, take, drop, Result, Ok, Err, refl, sym, ◌∙◌, ap, subst, arith, append_assoc}
-use Rattle.std.proofs.lemmas.Bool.{lt-ltb, ltb-true, and_parts}
-use Rattle.std.proofs.lemmas.List.Elements.{All-nil, All-cons}
+use Rattle.std.{proofs.lemmas.Bool.Decides.nat_tests, specs.List.list_all}
+use Rattle.std.proofs.Common.{◌≡◌, ℕ, zero, suc, ◌+◌, ◌-◌, ◌*◌, ◌/◌, ◌%◌, ◌^◌, ◌<◌, ◌≤◌, Bool, true, false, cond, ◌==◌, All, List, [], ◌∷◌, ◌++◌, length, take, drop, Result, Ok, Err, refl, sym, ◌∙◌, ap, subst, arith, append_assoc}
+use Rattle.std.proofs.lemmas.{Bool.lt-ltb, Bool.ltb-true, Bool.and_parts, List.Elements.All-nil, List.Elements.All-cons}
 use Rattle.std.proofs.lemmas.List.{length-take-le, length-drop, drop-drop, take-append-drop}
 use Rattle.std.proofs.Math.Seq.{take-append_seam, drop-append_seam}
 use Rattle.std.proofs.{lemmas.Nat.mod-pow-add, Math.Nat.pow-suc, Math.Nat.mod-eq_of_lt}
 use borrow.Author.Tests.{leb-true}
-use Rattle.std.specs.List.{list_all}
-use Rattle.qr_bits.specs.declared.modes.Mode.TheVariants.{Numeric}
-use Rattle.qr_bits.specs.declared.fault.ParseFault.{ParseFault, TheVariants.BadValue}
-use Rattle.qr_bits.specs.Bits.{field, value_from, value}
-use Rattle.qr_bits.specs.Modes.{payload_bits, is_digit}
-use Rattle.qr_bits.specs.Parsing.{◌>>=◌, digit, digits_of}
-use Rattle.qr_bits.specs.Stream.{digit_bits}
+use Rattle.qr_bits.specs.declared.modes.Mode.{Mode, TheVariants.Numeric}
+use Rattle.qr_bits.specs.declared.fault.ParseFault.{ParseFault}
+use Rattle.qr_bits.specs.{Bits.field, Bits.value_from, Bits.value, Stream.digit_bits, Stream.payload}
+use Rattle.qr_bits.specs.Modes.{byte_count, payload_bits, suits, is_digit}
+use Rattle.qr_bits.specs.Parsing.{digit, digits_of}
 use Rattle.qr_bits.proofs.lemmas.bits.BitLemmas.{length-field, value_below}
 use Rattle.qr_bits.proofs.lemmas.stream.WritingLemmas.{three_more}
 use Rattle.qr_bits.proofs.lemmas.parsing.ParsingLemmas.{bind_ok, same_ok}
 
--- one more bit of a number
 bit_step : (a d : ℕ) (bs : List Bool) → d < 2 → value_from a ((d == 1) ∷ bs) ≡ value_from (2 * a + d) bs
 bit_step a d bs h = grind arith
 
--- the number of a field after another number
 value_from-field : (a w n : ℕ) → value_from a (field w n) ≡ a * 2 ^ w + n % 2 ^ w
 unfolding field
 value_from-field a zero n = omega arith
@@ -31,11 +26,9 @@ value_from-field a (suc w) n =
     let split : n % 2 ^ suc w ≡ n / 2 ^ w % 2 * 2 ^ w + n % 2 ^ w = rw one at (mod-pow-add n 1 w) in
     bit_step a (n / 2 ^ w % 2) (field w n) (omega arith) ∙ rw (pow-suc 2 w) (omega (arith, value_from-field (2 * a + n / 2 ^ w % 2) w n, rw (pow-suc 2 w) at split))
 
--- the number of a field is the number that was written
-pub value-field : (w n : ℕ) → n < 2 ^ w → value (field w n) ≡ n
+value-field : (w n : ℕ) → n < 2 ^ w → value (field w n) ≡ n
 value-field w n h = value_from-field 0 w n ∙ omega (arith, mod-eq_of_lt h)
 
--- lists of one length that make the same number are equal
 value_from-inj : (a b : ℕ) (xs ys : List Bool) → length xs ≡ length ys → value_from a xs ≡ value_from b ys → (a ≡ b) × (xs ≡ ys)
 value_from-inj a b [] [] l e = (e, refl)
 value_from-inj a b [] (y ∷ ys) l e = absurd (omega arith)
@@ -45,28 +38,17 @@ value_from-inj a b (true ∷ xs) (false ∷ ys) l e = search (arith, value_from-
 value_from-inj a b (false ∷ xs) (true ∷ ys) l e = search (arith, value_from-inj (2 * a) (2 * b + 1) xs ys (omega arith) e)
 value_from-inj a b (false ∷ xs) (false ∷ ys) l e = search (arith, value_from-inj (2 * a) (2 * b) xs ys (omega arith) e)
 
--- bits are the field of the number that they make
-pub field-value : (w : ℕ) (bs : List Bool) → length bs ≡ w → field w (value bs) ≡ bs
+field-value : (w : ℕ) (bs : List Bool) → length bs ≡ w → field w (value bs) ≡ bs
 field-value w bs h =
-    let small : value bs < 2 ^ w = rw (← h) (value_below bs) in
-    (value_from-inj 0 0 (field w (value bs)) bs (length-field w (value bs) ∙ sym h) (value-field w (value bs) small)).1
+    let s : value bs < 2 ^ w = rw (← h) (value_below bs) in
+    (value_from-inj 0 0 (field w (value bs)) bs (length-field w (value bs) ∙ sym h) (value-field w (value bs) s)).1
 
 -- these bytes are digits
 abbrev pub AreDigits : List ℕ → Type 0
 AreDigits [] = Unit {0}
 AreDigits (x ∷ xs) = (48 ≤ x) × (x ≤ 57) × AreDigits xs
 
--- three digits of a number
-digits_of_three : (g : ℕ) → g < 1000 → 100 * (digit (g / 100) - 48) + 10 * (digit (g / 10) - 48) + (digit g - 48) ≡ g
-digits_of_three g h = omega arith
-
--- the digits of the number that three digits make
-three_of_digits : (a b c : ℕ) → 48 ≤ a → a ≤ 57 → 48 ≤ b → b ≤ 57 → 48 ≤ c → c ≤ 57
-    → let g = 100 * (a - 48) + 10 * (b - 48) + (c - 48) in (digit (g / 100) ≡ a) × (digit (g / 10) ≡ b) × (digit g ≡ c) × (g < 1000)
-three_of_digits a b c h i j k l m = (omega arith, omega arith, omega arith, omega arith)
-
--- the first bits, if they are a field
-pub take-field : (w n : ℕ) (rest : List Bool) → take w (field w n ++ rest) ≡ field w n
+take-field : (w n : ℕ) (rest : List Bool) → take w (field w n ++ rest) ≡ field w n
 take-field w n rest = cc (take-append_seam (field w n) rest, length-field w n)
 
 -- the bits after a field
@@ -82,9 +64,9 @@ pub field_read : (w : ℕ) (bits : List Bool) → w ≤ length bits → field w 
 field_read w bits h = field-value w (take w bits) (length-take-le w bits h)
 
 -- a number that was read before other data, written again, is the bits that were read
-pub more_written : (w k : ℕ) (bits body : List Bool) → w ≤ length bits → drop w bits ≡ body ++ drop k (drop w bits)
-    → bits ≡ (field w (value (take w bits)) ++ body) ++ drop (w + k) bits
-more_written w k bits body h e = search (arith, field_read, append_assoc, drop-drop, take-append-drop)
+pub more_written : (w k : ℕ) (bs body : List Bool) → w ≤ length bs → drop w bs ≡ body ++ drop k (drop w bs)
+    → bs ≡ (field w (value (take w bs)) ++ body) ++ drop (w + k) bs
+more_written w k bs body h e = search (arith, field_read, append_assoc, drop-drop, take-append-drop)
 
 -- Digits that are written are read back.
 pub digits_again : (xs : List ℕ) (rest : List Bool) → AreDigits xs → digits_of (length xs) (digit_bits xs ++ rest) ≡ Ok xs
@@ -99,7 +81,7 @@ digits_again (a ∷ b ∷ []) rest h =
     grind (arith, lt-ltb)
 digits_again (a ∷ b ∷ c ∷ xs) rest h =
     let g = 100 * (a - 48) + 10 * (b - 48) + (c - 48) in
-    let three = three_of_digits a b c h.0 h.1 h.2.0 h.2.1 h.2.2.0 h.2.2.1 in
+    let three : (digit (g / 100) ≡ a) × (digit (g / 10) ≡ b) × (digit g ≡ c) × (g < 1000) = (omega arith, omega arith, omega arith, omega arith) in
     let r = read_field 10 g (digit_bits xs ++ rest) (omega (arith, three.3)) in
     let d = drop-field 10 g (digit_bits xs ++ rest) in
     search (arith, append_assoc, lt-ltb, digits_again xs rest h.2.2.2)
@@ -108,62 +90,52 @@ digits_again (a ∷ b ∷ c ∷ xs) rest h =
 pub chosen_ok : {A : Type 0} (b : Bool) (r : Result A ParseFault) (f : ParseFault) (y : A) → cond b r (Err f) ≡ Ok y → (b ≡ true) × (r ≡ Ok y)
 chosen_ok b r f y h = grind arith
 
--- the digits that were read, written again, are the bits that were read
-abbrev pub Written : ℕ → List Bool → List ℕ → Type 0
-Written n bits xs = (length xs ≡ n) × AreDigits xs × (bits ≡ digit_bits xs ++ drop (payload_bits Numeric n) bits)
+-- the digits, characters, bytes or kanji pairs that were read, written again, are the bits that were read
+pub record IsWritten (m : Mode) (n : ℕ) (bits : List Bool) (xs : List ℕ) : Type 0 where
+  pub long : length xs ≡ byte_count m n
+  pub bytes : All (λ b. b < 256) xs
+  pub suited : suits m xs ≡ true
+  pub whole : bits ≡ payload m xs ++ drop (payload_bits m (byte_count m n)) bits
 
--- one digit that was read
-written_one : (bits : List Bool) → 4 ≤ length bits → value (take 4 bits) < 10 → Written 1 bits (digit (value (take 4 bits)) ∷ [])
-unfolding digit_bits
-written_one bits h low =
-    let back : digit (value (take 4 bits)) - 48 ≡ value (take 4 bits) = omega arith in
-    (refl, (omega arith, omega arith, tt), sym (take-append-drop 4 bits) ∙ ap (λ (t : List Bool). t ++ drop 4 bits) (sym (rw back (field_read 4 bits h))))
-
--- two digits that were read
-written_two : (bits : List Bool) → 7 ≤ length bits → value (take 7 bits) < 100 → Written 2 bits (digit (value (take 7 bits) / 10) ∷ digit (value (take 7 bits)) ∷ [])
-unfolding digit_bits
-written_two bits h low =
-    let g = value (take 7 bits) in
-    let back : 10 * (digit (g / 10) - 48) + (digit g - 48) ≡ g = omega arith in
-    (refl, (omega arith, omega arith, (omega arith, omega arith, tt)), sym (take-append-drop 7 bits) ∙ ap (λ (t : List Bool). t ++ drop 7 bits) (sym (rw back (field_read 7 bits h))))
-
--- three digits that were read before others
-written_three : (n : ℕ) (bits : List Bool) (ds : List ℕ) → 10 ≤ length bits → value (take 10 bits) < 1000 → Written n (drop 10 bits) ds
-    → Written (3 + n) bits (digit (value (take 10 bits) / 100) ∷ digit (value (take 10 bits) / 10) ∷ digit (value (take 10 bits)) ∷ ds)
-unfolding digit_bits
-written_three n bits ds h low w =
-    let back = digits_of_three (value (take 10 bits)) low in
-    let whole = more_written 10 (payload_bits Numeric n) bits (digit_bits ds) h w.2 in
-    (omega (arith, w.0), (omega arith, omega arith, (omega arith, omega arith, (omega arith, omega arith, w.1))), rw (back, three_more n) whole)
+is_digit-digit : (n : ℕ) → is_digit (digit n) ≡ true
+is_digit-digit n = search (arith, nat_tests)
 
 -- Digits that are read are written as the same bits.
-pub digits_takes : (n : ℕ) (xs : List ℕ) (bits : List Bool) → payload_bits Numeric n ≤ length bits → digits_of n bits ≡ Ok xs → Written n bits xs
-unfolding digits_of digit_bits
-digits_takes zero xs bits h e = grind arith
-digits_takes (suc zero) xs bits h e = search (arith, chosen_ok, same_ok, written_one, ltb-true)
-digits_takes (suc (suc zero)) xs bits h e =
-    let c = chosen_ok (nat_lt (value (take 7 bits)) 100) (Ok (digit (value (take 7 bits) / 10) ∷ digit (value (take 7 bits)) ∷ [])) BadValue xs e in
-    subst (Written 2 bits) (same_ok _ _ c.1) (written_two bits h (ltb-true _ _ c.0))
-digits_takes (suc (suc (suc n))) xs bits h e =
-    let g = value (take 10 bits) in
+pub digits_takes : (n : ℕ) (xs : List ℕ) (bs : List Bool) → payload_bits Numeric n ≤ length bs → digits_of n bs ≡ Ok xs → IsWritten Numeric n bs xs
+unfolding digits_of digit_bits payload
+digits_takes zero xs bs h e = search (arith, same_ok, All-nil)
+digits_takes (suc zero) xs bs h e =
+    let g = value (take 4 bs) in
+    let c = chosen_ok _ _ _ xs e in
+    let low : g < 10 = ltb-true _ _ c.0 in
+    let back : digit g - 48 ≡ g = omega arith in
+    let whole : bs ≡ field 4 (value (take 4 bs)) ++ drop 4 bs = cc (field_read 4 bs h, take-append-drop 4 bs) in
+    subst (IsWritten Numeric 1 bs) (same_ok _ _ c.1) (search (arith, All-cons, All-nil, is_digit-digit))
+digits_takes (suc (suc zero)) xs bs h e =
+    let g = value (take 7 bs) in
+    let c = chosen_ok _ _ _ xs e in
+    let low : g < 100 = ltb-true _ _ c.0 in
+    let back : 10 * (digit (g / 10) - 48) + (digit g - 48) ≡ g = omega arith in
+    let whole : bs ≡ field 7 (value (take 7 bs)) ++ drop 7 bs = cc (field_read 7 bs h, take-append-drop 7 bs) in
+    subst (IsWritten Numeric 2 bs) (same_ok _ _ c.1) (search (arith, All-cons, All-nil, is_digit-digit))
+digits_takes (suc (suc (suc n))) xs bs h e =
+    let g = value (take 10 bs) in
+    let c = chosen_ok _ _ _ xs e in
+    let b = bind_ok (digits_of n (drop 10 bs)) _ xs c.1 in
+    let low : g < 1000 = ltb-true _ _ c.0 in
     let three : suc (suc (suc n)) ≡ 3 + n = omega arith in
-    let room : 10 + payload_bits Numeric n ≤ length bits = search (arith, three_more) in
-    let c = chosen_ok (nat_lt g 1000) (digits_of n (drop 10 bits) >>= λ ds. Ok (digit (g / 100) ∷ digit (g / 10) ∷ digit g ∷ ds)) BadValue xs e in
-    let b = bind_ok (digits_of n (drop 10 bits)) (λ ds. Ok (digit (g / 100) ∷ digit (g / 10) ∷ digit g ∷ ds)) xs c.1 in
-    let rest = digits_takes n b.0 (drop 10 bits) (omega (arith, length-drop 10 bits)) b.1 in
-    rw three (subst (Written (3 + n) bits) (same_ok _ _ b.2) (written_three n bits b.0 (omega arith) (ltb-true _ _ c.0) rest))
+    let room : 10 + payload_bits Numeric n ≤ length bs = search (arith, three_more) in
+    let w = digits_takes n b.0 (drop 10 bs) (omega (arith, length-drop 10 bs)) b.1 in
+    let back : 100 * (digit (g / 100) - 48) + 10 * (digit (g / 10) - 48) + (digit g - 48) ≡ g = omega arith in
+    let whole = more_written 10 (payload_bits Numeric n) bs (digit_bits b.0) (omega arith) w.whole in
+    rw three (subst (IsWritten Numeric (3 + n) bs) (same_ok _ _ b.2) (record {
+      long = omega (arith, w.long);
+      bytes = search (arith, All-cons);
+      suited = search (arith, is_digit-digit);
+      whole = rw (back, three_more n) whole;
+    }))
 
 -- bytes that suit numeric mode are digits
 pub are_digits : (xs : List ℕ) → list_all is_digit xs ≡ true → AreDigits xs
 are_digits [] h = tt
 are_digits (x ∷ xs) h = search (arith, and_parts, leb-true, are_digits xs)
-
--- digits suit numeric mode
-pub digits_suit : (xs : List ℕ) → AreDigits xs → list_all is_digit xs ≡ true
-digits_suit [] h = refl
-digits_suit (x ∷ xs) h = search (arith, nat_tests, digits_suit xs)
-
--- digits are bytes
-pub digits_bytes : (xs : List ℕ) → AreDigits xs → All (λ b. b < 256) xs
-digits_bytes [] h = search (arith, All-nil)
-digits_bytes (x ∷ xs) h = search (arith, All-cons, digits_bytes xs)

@@ -1,11 +1,9 @@
 -- Writing the data of a segment, group by group, and the length of what is written.
 use Rattle.std.proofs.Common.{◌≡◌, ℕ, zero, suc, ◌+◌, ◌-◌, ◌*◌, ◌/◌, ◌<◌, ◌≤◌, Bool, true, List, [], ◌∷◌, ◌++◌, length, get_or, take, drop, refl, sym, ◌∙◌, arith, length-append, append_assoc}
 use Rattle.std.proofs.lemmas.{Bool.and_parts, Bool.false≢true, List.length-take-le, List.drop_all}
-use Rattle.std.proofs.Math.Seq.{drop-cons}
-use Rattle.std.specs.List.{list_all}
-use Rattle.qr_bits.specs.declared.modes.Mode.{Mode}
+use Rattle.std.{proofs.Math.Seq.drop-cons, specs.List.list_all}
+use Rattle.qr_bits.specs.{declared.modes.Mode.Mode, declared.segment.Segment.Segment, Bits.field}
 use Rattle.qr_bits.specs.declared.modes.Mode.TheVariants.{Numeric, Alphanumeric, Kanji}
-use Rattle.qr_bits.specs.{declared.segment.Segment.Segment, Bits.field}
 use Rattle.qr_bits.specs.Modes.{payload_bits, in_twos, is_kanji_pair, suits, kanji_value, character_value}
 use Rattle.qr_bits.specs.Segmentation.{segment_bits, bits}
 use Rattle.qr_bits.specs.Stream.{kanji_bits, digit_bits, character_bits, payload, segment_stream, segments_stream, Suits}
@@ -17,17 +15,11 @@ all_rest p xs zero h = h
 all_rest p [] (suc n) h = h
 all_rest p (x ∷ xs) (suc n) h = all_rest p xs n (and_parts (p x) _ h).1
 
--- ---- digits
-
--- ---- characters
-
 -- a pair of characters, and the characters after it
 pub characters_two : (xs : List ℕ) → 2 ≤ length xs
     → character_bits xs ≡ field 11 (45 * character_value (get_or xs 0 0) + character_value (get_or xs 1 0)) ++ character_bits (drop 2 xs)
 unfolding character_bits
 characters_two xs h = grind arith
-
--- ---- kanji pairs
 
 -- a pair, and the pairs after it
 pub kanji_two : (xs : List ℕ) → 2 ≤ length xs → kanji_bits xs ≡ field 13 (kanji_value (get_or xs 0 0) (get_or xs 1 0)) ++ kanji_bits (drop 2 xs)
@@ -38,8 +30,6 @@ kanji_two xs h = grind arith
 pub in_twos-first : (test : ℕ → ℕ → Bool) (xs : List ℕ) → in_twos test xs ≡ true → 2 ≤ length xs → (test (get_or xs 0 0) (get_or xs 1 0) ≡ true) × (in_twos test (drop 2 xs) ≡ true)
 in_twos-first test xs h n = grind arith
 
--- ---- lengths
-
 -- three digits more have ten bits more
 pub three_more : (n : ℕ) → payload_bits Numeric (3 + n) ≡ 10 + payload_bits Numeric n
 three_more n = search arith
@@ -48,7 +38,6 @@ three_more n = search arith
 pub two_more : (n : ℕ) → payload_bits Alphanumeric (2 + n) ≡ 11 + payload_bits Alphanumeric n
 two_more n = omega arith
 
--- the length of the bits of digits
 length-digit_bits : (xs : List ℕ) → length (digit_bits xs) ≡ payload_bits Numeric (length xs)
 unfolding digit_bits
 length-digit_bits [] = refl
@@ -56,7 +45,6 @@ length-digit_bits (a ∷ []) = length-field 4 (a - 48)
 length-digit_bits (a ∷ b ∷ []) = length-field 7 (10 * (a - 48) + (b - 48))
 length-digit_bits (a ∷ b ∷ c ∷ xs) = search (arith, length-append, length-field, three_more, length-digit_bits xs)
 
--- the length of the bits of characters
 length-character_bits : (xs : List ℕ) → length (character_bits xs) ≡ payload_bits Alphanumeric (length xs)
 unfolding character_bits
 length-character_bits [] = refl
@@ -69,8 +57,7 @@ in_twos-even test [] h = refl
 in_twos-even test (x ∷ []) h = absurd (false≢true h)
 in_twos-even test (x ∷ y ∷ xs) h = omega (arith, and_parts, in_twos-even test xs (and_parts (test x y) _ h).1)
 
--- the length of the bits of kanji pairs
-pub length-kanji_bits : (xs : List ℕ) → in_twos is_kanji_pair xs ≡ true → length (kanji_bits xs) ≡ payload_bits Kanji (length xs)
+length-kanji_bits : (xs : List ℕ) → in_twos is_kanji_pair xs ≡ true → length (kanji_bits xs) ≡ payload_bits Kanji (length xs)
 unfolding kanji_bits
 length-kanji_bits [] h = refl
 length-kanji_bits (a ∷ []) h = absurd (false≢true h)
@@ -82,8 +69,7 @@ pub length-payload : (m : Mode) (xs : List ℕ) → suits m xs ≡ true → leng
 unfolding payload
 length-payload m xs h = grind (arith, length-digit_bits, length-character_bits, length-bits_of, length-kanji_bits)
 
--- the length of the stream of a segment
-pub length-segment_stream : (v n : ℕ) (m : Mode) (xs : List ℕ) → suits m xs ≡ true → length xs ≡ n → length (segment_stream v m xs) ≡ segment_bits v (record { mode = m; len = n })
+length-segment_stream : (v n : ℕ) (m : Mode) (xs : List ℕ) → suits m xs ≡ true → length xs ≡ n → length (segment_stream v m xs) ≡ segment_bits v (record { mode = m; len = n })
 unfolding segment_stream
 length-segment_stream v n m xs h e = search (arith, length-append, length-field, length-payload)
 
@@ -93,8 +79,6 @@ unfolding segments_stream Suits
 length-segments_stream v xs [] h = refl
 length-segments_stream v xs (s ∷ ss) h =
     search (arith, length-segment_stream, length-take-le, length-append, length-segments_stream v (drop s.len xs) ss h.2)
-
--- ---- segments, one after the other
 
 -- the stream of the segments from index i on
 pub stream_next : (v : ℕ) (xs : List ℕ) (segs : List Segment) (i : ℕ) (d : Segment) → i < length segs
@@ -108,5 +92,5 @@ unfolding segments_stream
 stream_end v xs segs i h = rw (drop_all i segs h) refl
 
 -- one more part is written, and the rest is still to be written
-pub append_next : (prefix part rest whole next : List Bool) → whole ≡ prefix ++ (part ++ rest) → next ≡ prefix ++ part → next ++ rest ≡ whole
-append_next prefix part rest whole next e f = rw f (append_assoc prefix part rest ∙ sym e)
+pub append_next : (p part t whole n : List Bool) → whole ≡ p ++ (part ++ t) → n ≡ p ++ part → n ++ t ≡ whole
+append_next p part t whole n e f = rw f (append_assoc p part t ∙ sym e)

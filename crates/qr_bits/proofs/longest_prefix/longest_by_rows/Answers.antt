@@ -1,7 +1,7 @@
-use Rattle.std.proofs.Common.{◌≡◌, ◌+◌, ◌≤◌, ◌<◌, ℕ, [], ◌∷◌, take, length, get_or, arith, subst, ⊎_elim}
+use Rattle.std.proofs.Common.{◌≡◌, ◌+◌, ◌≤◌, ◌<◌, [], ◌∷◌, take, length, get_or, arith, ⊎_elim}
 use Rattle.std.proofs.lemmas.Bool.{cases_lt}
-use Rattle.qr_bits.specs.{Segmentation.HasFit, Modes.is_kanji_pair, Steps.RunState.swapped}
-use Rattle.qr_bits.specs.Steps.BestModes.{in_state, bits_at, IsRow}
+use Rattle.qr_bits.specs.{Modes.is_kanji_pair, Steps.RunState.swapped}
+use Rattle.qr_bits.specs.Steps.BestModes.{in_state, IsRow}
 use Rattle.qr_bits.proofs.lemmas.best_modes.TableLemmas.{best_none, small_more, small_row, zeros}
 use Rattle.qr_bits.proofs.lemmas.longest_prefix.MirrorLemmas.{empty_fits, prefix_more, prefix_fits, prefix_least}
 use Rattle.qr_bits.proofs.longest_prefix.longest_by_rows.Goals as goal
@@ -27,18 +27,17 @@ loop-i-preserved c =
     let xs = c.args.input.now in
     let i = c.loop-i.i in
     let inv = c.loop-i.invariant in
-    let chosen : IsRow v r (get_or xs i 0) c.ends_with_pair-pair.result c.loop-i.rest c.best_choices.result.0 c.best_choices.result.1 = rw c.of-first_choices.ensures at c.best_choices.ensures in
-    let below = prefix_more v r xs i c.ends_with_pair-pair.result inv.best.0 c.best_choices.result.0 c.loop-i.rest c.best_choices.result.1 (omega arith) c.ends_with_pair-pair.ensures inv.best.1 chosen in
+    let chosen : IsRow v r (get_or xs i 0) _ c.loop-i.rest c.best_choices.result.0 c.best_choices.result.1 = rw c.of-first_choices.ensures at c.best_choices.ensures in
+    let b = prefix_more v r xs i _ inv.best.0 _ _ _ (omega arith) c.ends_with_pair-pair.ensures inv.best.1 chosen in
     let room = c.args.room in
     elim c.if-from-room.branch [
       | then-from-room w ↦
-          let fit : HasFit v r (take (i + 1) xs) room = prefix_fits v r (take (i + 1) xs) _ (bits_at c.best_choices.result.1) room below (omega (arith, w.if-from-room.true, c.from.ensures)) in
           rw w.longest-is (record {
             inside = omega arith;
-            fits = fit;
+            fits = prefix_fits v r (take (i + 1) xs) _ _ room b (omega (arith, w.if-from-room.true, c.from.ensures));
             longest = λ k h _. h;
             small = search (arith, small_more);
-            best = (c.best_choices.result.0 ∷ inv.best.0, below);
+            best = (c.best_choices.result.0 ∷ inv.best.0, b);
           })
       | else-from-room w ↦
           rw w.longest-is (record {
@@ -47,12 +46,11 @@ loop-i-preserved c =
             longest = λ k h fit. ⊎_elim
                 (λ (l : i < k).
                 let e : k ≡ i + 1 = omega arith in
-                let q : HasFit v r (take (i + 1) xs) room = subst (λ (n : ℕ). HasFit v r (take n xs) room) e fit in
-                absurd (omega (arith, prefix_least v r (take (i + 1) xs) _ (bits_at c.best_choices.result.1) room below q, w.if-from-room.false, c.from.ensures)))
+                absurd (omega (arith, prefix_least v r (take (i + 1) xs) _ _ room b (rw e at fit), w.if-from-room.false, c.from.ensures)))
                 (λ (l : k ≤ i). inv.longest k l fit)
                 (cases_lt i k);
             small = search (arith, small_more);
-            best = (c.best_choices.result.0 ∷ inv.best.0, below);
+            best = (c.best_choices.result.0 ∷ inv.best.0, b);
           })
     ]
 

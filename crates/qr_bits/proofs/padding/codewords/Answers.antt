@@ -39,14 +39,6 @@ returns-clause-ok c =
     is_data c.args.version c.args.level xs segs c.args.header _ (c.header_bits.result + c.bit_len.result) c.into_codewords-codewords.result.items _ is
     (omega (arith, length-append (header_stream c.args.header) (segments_stream c.args.version xs segs), length-header_stream c.args.header, length-segments_stream c.args.version xs segs suit))
     (omega arith)
-    (rw (
-      c.into_codewords-codewords.ensures,
-      c.in_ok-fill.ensures,
-      c.in_ok-put.ensures,
-      c.in_ok-put_segments.ensures,
-      c.in_ok-put_header.ensures.written,
-      c.new-writer.ensures,
-      c.min.ensures,
-      c.capacity-capacity.ensures.value,
-    ))
+    (rw (c.into_codewords-codewords.ensures, c.in_ok-fill.ensures, c.in_ok-put.ensures, c.in_ok-put_segments.ensures)
+    (rw (c.in_ok-put_header.ensures.written, c.new-writer.ensures, c.min.ensures, c.capacity-capacity.ensures.value)))
     (search arith) c.in_ok-pad.ensures.bytes

@@ -1,4 +1,4 @@
-use Rattle.std.proofs.Common.{◌≡◌, ℕ, ◌+◌, ◌-◌, ◌*◌, drop, sym, ◌∙◌, ap, arith}
+use Rattle.std.proofs.Common.{◌≡◌, ◌+◌, ◌-◌, ◌*◌, length, ap, arith}
 use Rattle.std.proofs.lemmas.List.{length-drop, drop-drop}
 use Rattle.qr_bits.proofs.lemmas.parsing.PayloadLemmas.{value_take_below, bytes_more}
 use Rattle.qr_bits.proofs.parsing.bytes.Goals as goal
@@ -14,7 +14,7 @@ loop-preserved c =
     let more = bytes_more c.loop.out.items left c.loop.reader (omega arith) in
     let eight : 8 + 8 * (left - 1) ≡ 8 * left = omega arith in
     record {
-      reads = rw (← less, c.take.ensures.rest, c.in_ok-push.ensures.items, c.take.ensures.value) (sym more ∙ i.reads);
-      there = rw (← less, c.take.ensures.rest) (omega (arith, length-drop 8 c.loop.reader, i.there));
-      rest = rw (← less, c.take.ensures.rest) (drop-drop (8 * (left - 1)) 8 c.loop.reader ∙ ap (λ (n : ℕ). drop n c.loop.reader) eight ∙ i.rest);
+      reads = cc (c.in_ok-push.ensures.items, c.take.ensures.value, c.take.ensures.rest, i.reads);
+      there = omega (arith, length-drop 8 c.loop.reader, ap length c.take.ensures.rest);
+      rest = cc (drop-drop (8 * (left - 1)) 8 c.loop.reader, c.take.ensures.rest, i.rest);
     }

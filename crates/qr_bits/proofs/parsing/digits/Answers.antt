@@ -1,6 +1,5 @@
 use Rattle.std.proofs.Common.{[], refl, sym, ◌∙◌, ◌≡◌, ◌-◌, append_assoc, arith}
-use Rattle.std.proofs.lemmas.Bool.{Decides.nat_tests, le-ltb}
-use Rattle.std.proofs.lemmas.List.{length-drop, drop-drop, append-nil}
+use Rattle.std.proofs.lemmas.{Bool.Decides.nat_tests, Bool.le-ltb, List.length-drop, List.drop-drop, List.append-nil}
 use Rattle.qr_bits.specs.declared.{modes.Mode.TheVariants.Numeric, fault.ParseFault.TheVariants.BadValue}
 use Rattle.qr_bits.specs.{Modes.payload_bits, Parsing.digits_of}
 use Rattle.qr_bits.proofs.lemmas.parsing.PayloadLemmas.{payload_less, digits_step, finish, fails}

@@ -1,4 +1,4 @@
-use Rattle.std.proofs.Common.{◌≡◌, ◌≤◌, List, Bool, length, drop, ◌∙◌, ap, arith}
+use Rattle.std.proofs.Common.{◌≡◌, ◌≤◌, length, drop, arith}
 use Rattle.std.proofs.lemmas.List.{drop-drop}
 use Rattle.qr_bits.proofs.lemmas.parsing.{PayloadLemmas.value_take_below, ParsingLemmas.header_whole}
 use Rattle.qr_bits.proofs.parsing.header.Goals as goal
@@ -9,8 +9,7 @@ overflow_cast-result-3 c = omega (arith, c.take-3.ensures.value, value_take_belo
 pub returns-clause-ok : goal.returns-clause-ok
 returns-clause-ok c =
     let bits = c.args.reader.now in
-    let first = c.take.ensures.rest in
-    let second : c.take-2.new.self ≡ drop 8 bits = c.take-2.ensures.rest ∙ ap (λ (t : List Bool). drop 4 t) first ∙ drop-drop 4 4 bits in
-    let third : c.take-3.new.self ≡ drop 16 bits = c.take-3.ensures.rest ∙ ap (λ (t : List Bool). drop 8 t) second ∙ drop-drop 8 8 bits in
+    let second : c.take-2.new.self ≡ drop 8 bits = cc (drop-drop 4 4 bits) in
+    let third : c.take-3.new.self ≡ drop 16 bits = cc (drop-drop 8 8 bits) in
     let long : 16 ≤ length bits = omega (arith, c.if-len-lt16.false, c.len.ensures) in
-    rw (third, c.take.ensures.value, c.take-2.ensures.value, first, c.take-3.ensures.value, second) (header_whole bits long)
+    cc (header_whole bits long)

@@ -1,7 +1,6 @@
 use Rattle.std.proofs.Common.{◌*◌, ◌-◌, append_assoc, arith}
 use Rattle.std.proofs.lemmas.{Bool.Decides.nat_tests, Bool.lt-leb, List.length-drop, List.drop-drop}
-use Rattle.qr_bits.specs.declared.fault.ParseFault.TheVariants.{BadValue}
-use Rattle.qr_bits.proofs.lemmas.modes.KanjiLemmas.{pairs_step}
+use Rattle.qr_bits.{specs.declared.fault.ParseFault.TheVariants.BadValue, proofs.lemmas.modes.KanjiLemmas.pairs_step}
 use Rattle.qr_bits.proofs.lemmas.parsing.PayloadLemmas.{fails, value_take_below}
 use Rattle.qr_bits.proofs.parsing.kanji.Goals as goal
 

@@ -1,6 +1,5 @@
 use Rattle.std.proofs.Common.{◌≡◌, ◌*◌, ◌≤◌, length, drop}
-use Rattle.qr_bits.specs.Parsing.{pairs_of}
-use Rattle.qr_bits.proofs.lemmas.parsing.PayloadLemmas.{prepend_read}
+use Rattle.qr_bits.{specs.Parsing.pairs_of, proofs.lemmas.parsing.PayloadLemmas.prepend_read}
 use Rattle.qr_bits.proofs.parsing.kanji.Given as goal
 
 -- what was read, and what is left to read, make the whole

@@ -1,5 +1,4 @@
-use Rattle.std.proofs.Common.{sym, ◌∙◌, arith}
-use Rattle.std.proofs.lemmas.Result.{err_from_is_err_and}
+use Rattle.std.proofs.{Common.sym, Common.◌∙◌, Common.arith, lemmas.Result.err_from_is_err_and}
 use Rattle.qr_bits.proofs.lemmas.parsing.ParsingLemmas.{not_ended, segment_shorter, fault_all}
 use Rattle.qr_bits.proofs.parsing.segments.Goals as goal
 

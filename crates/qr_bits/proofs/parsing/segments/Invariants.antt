@@ -1,6 +1,5 @@
 use Rattle.std.proofs.Common.{◌≡◌, length}
-use Rattle.qr_bits.specs.Parsing.{segments_of}
-use Rattle.qr_bits.proofs.lemmas.parsing.ParsingLemmas.{behind}
+use Rattle.qr_bits.{specs.Parsing.segments_of, proofs.lemmas.parsing.ParsingLemmas.behind}
 use Rattle.qr_bits.proofs.parsing.segments.Given as goal
 
 -- what was read, and what is left to read, make the whole

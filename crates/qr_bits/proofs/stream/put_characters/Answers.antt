@@ -1,5 +1,4 @@
-use Rattle.std.proofs.Common.{arith, append_assoc}
-use Rattle.std.proofs.lemmas.List.{take_rest}
+use Rattle.std.proofs.{Common.arith, Common.append_assoc, lemmas.List.take_rest}
 use Rattle.qr_bits.proofs.lemmas.stream.WritingLemmas.{all_rest, characters_two}
 use Rattle.qr_bits.proofs.stream.put_characters.Goals as goal
 

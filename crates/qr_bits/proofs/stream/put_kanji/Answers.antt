@@ -1,5 +1,4 @@
-use Rattle.std.proofs.Common.{arith, append_assoc}
-use Rattle.std.proofs.lemmas.List.{take_rest}
+use Rattle.std.proofs.{Common.arith, Common.append_assoc, lemmas.List.take_rest}
 use Rattle.qr_bits.specs.Modes.{is_kanji_pair}
 use Rattle.qr_bits.proofs.lemmas.stream.WritingLemmas.{in_twos-first, kanji_two}
 use Rattle.qr_bits.proofs.stream.put_kanji.Goals as goal
