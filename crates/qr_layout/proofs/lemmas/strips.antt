@@ -1,3 +1,2 @@
--- The places of the strips, one strip after the other, are the order of the version when the places outside the
--- encoding region are left out.
+-- The strips in the order of the walk.
 pub mod StripLemmas

@@ -74,8 +74,7 @@ quad_plain upper lower =
     texts_below-alike 4 (λ k. cell_text Plain (has_bit (upper % 16) k) (has_bit 0 k)) (λ k. cell_text Plain (has_bit upper k) (has_bit lower k))
     (λ k lt. ap (λ b. cell_text Plain b false) (low-bits 4 upper k lt))
 
--- if the first eight of 16 bytes are the text of four modules, and the last eight that of the next four, the 16 bytes are
--- the text of eight modules
+-- 16 bytes of which each eight are the text of four modules are the text of eight modules
 pub eight-joined : (bits : ℕ) (a b : List ℕ) → length a ≡ 8 → a ≡ bits_text 4 Plain (bits % 16) 0 → b ≡ bits_text 4 Plain (bits / 16) 0
     → put_mid 8 8 (a ++ 32 ∷ 32 ∷ 32 ∷ 32 ∷ 32 ∷ 32 ∷ 32 ∷ 32 ∷ []) b ≡ bits_text 8 Plain bits 0
 eight-joined bits a b l p q =
@@ -187,8 +186,7 @@ light-cells style margin g row first n light =
     texts_below-alike n (λ i. cell_at style margin g row (first + i)) (λ _. cell_text style false false)
     (λ k lt. λ i. cell_text style (light row k lt i) (light (row + 1) k lt i))
 
--- a line is the light cells of the margin, the cells of the square's columns by fours, those of the remaining columns,
--- the light cells of the margin, and a newline
+-- a line: the margin, the square's columns by fours, the remaining ones, the margin and a newline
 pub line-parts : (style : TextStyle) (margin : ℕ) (g : Grid) (y : ℕ) → cells_of_line style margin g y ++ 10 ∷ []
     ≡ (texts_below margin (λ _. cell_text style false false)
     ++ texts_below (g.side / 4 * 4) (λ i. cell_at style margin g (top_row style y) (margin + i)))

@@ -1,5 +1,4 @@
--- The laws of the field of 256 elements: a product does not depend on the order of its factors or on the brackets, the
--- product by a sum is the sum of the products, and a product is 0 only if a factor is 0.
+-- The laws of the field of 256 elements: products commute, associate, distribute, and are 0 only if a factor is.
 use Rattle.std.proofs.Common.{◌≡◌, ℕ, ◌+◌, ◌-◌, ◌<◌, sym, ap, ◌∙◌, inl, inr, arith, bit_xor}
 use Rattle.std.proofs.lemmas.{Bool.cases_eq, Nat.xor_of_8}
 use Rattle.std.specs.Int.Bits.{xor_zero_r}

@@ -1,5 +1,4 @@
--- The product of two elements: there is exactly one, which `product` computes; and a product of twice an element is
--- twice the product.
+-- The product of two elements, which `product` computes; that of twice an element is twice the product.
 use Rattle.std.proofs.Common.{◌≡◌, ◌⊎◌, ℕ, ◌*◌, ◌<◌, sym, ap, ◌∙◌, subst, inl, inr, arith, bit_xor, lit<}
 use Rattle.std.proofs.lemmas.Nat.{xor_of_8}
 use Rattle.qr_field.specs.Galois.{carryless, prime_modulus, IsProduct, product}

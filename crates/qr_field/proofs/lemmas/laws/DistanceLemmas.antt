@@ -1,5 +1,4 @@
--- If the values of a polynomial at the first n powers of 2 are 0, then more than n of its coefficients are not 0, or every
--- coefficient is 0. So two blocks with n error correction codewords each are equal or differ in more than n codewords.
+-- A polynomial with the value 0 at the first n powers of 2 is 0 or has over n coefficients: how far blocks lie apart.
 use Rattle.std.proofs.Common.{◌≡◌, ℕ, zero, suc, ◌+◌, ◌-◌, ◌*◌, ◌<◌, ◌≤◌, Option, None, Some, List, [], ◌∷◌, ◌++◌, length, map, take, refl, sym, ap, ◌∙◌, inl, inr, arith, bit_xor, length-append}
 use Rattle.std.proofs.lemmas.Nat.{xor_of_8}
 use Rattle.std.proofs.lemmas.Bool.{cases_eq, cases_lt, eq-eqb, ne_eqb}
@@ -41,8 +40,7 @@ difference-alike x y u v f g = elim (cases_eq x y) [
   | inr n ↦ difference-other x y n ∙ sym (difference-other u v (λ e. n (g e)))
 ]
 
--- if xs and ys are equally long, then the number of coefficients of their sum that are not 0 is the number of positions at
--- which xs and ys differ
+-- the coefficients of a sum that are not 0 are as many as the positions at which the summands differ
 pub weight-plus : (xs ys : List ℕ) → length xs ≡ length ys → weight (plus xs ys) ≡ differences xs ys
 weight-plus [] [] e = refl
 weight-plus [] (y ∷ ys) e = absurd (omega arith)
@@ -72,8 +70,7 @@ value-none i (c ∷ p) e = elim (cases_eq c 0) [
 
 -- ---- one coefficient less
 
--- each coefficient of a polynomial, times the sum of two powers of 2: that to the exponent of this coefficient, and that
--- to k; the coefficient of exponent k becomes 0 by this
+-- each coefficient times the sum of 2 to its exponent and 2 to k, by which the coefficient of exponent k becomes 0
 abbrev lowered : ℕ → List ℕ → List ℕ
 lowered k [] = []
 lowered k (c ∷ p) = product c (bit_xor (power (length p)) (power k)) ∷ lowered k p
@@ -91,8 +88,7 @@ bytes-lowered k (c ∷ p) a =
     All-cons IsByte (product c factor) (lowered k p) (product-lt c factor (All-head IsByte c p a))
     (bytes-lowered k p (All-tail IsByte c p a))
 
--- if k is below 255 and at least the number of coefficients of p, then `lowered k p` has as many coefficients that are not
--- 0 as p
+-- if k is from the length of p to 254, `lowered k p` has as many coefficients that are not 0 as p
 weight-lowered : (k : ℕ) (p : List ℕ) → k < 255 → length p ≤ k → All IsByte p → weight (lowered k p) ≡ weight p
 weight-lowered k [] h l a = refl
 weight-lowered k (c ∷ p) h l a =
@@ -106,8 +102,7 @@ weight-lowered k (c ∷ p) h l a =
     let f = weight-lowered k p h (omega arith) (All-tail IsByte c p a) in
     omega (arith, one, f)
 
--- the value of `lowered k p` at 2 to the power i is the value of p at 2 to the power i + 1, plus 2 to the power k times
--- the value of p at 2 to the power i
+-- the value of `lowered k p` at 2 to i is that of p at 2 to i + 1, plus 2 to k times that of p at 2 to i
 value-lowered : (i k : ℕ) (p : List ℕ) → All IsByte p →
     value_at i (lowered k p) ≡ bit_xor (value_at (i + 1) p) (product (power k) (value_at i p))
 value-lowered i k [] a = sym (xor_zero_l (product (power k) 0) ∙ product-by_zero (power k) (power-lt k))
@@ -131,8 +126,7 @@ value-lowered i k (c ∷ p) a =
     let joined = product-by_sum other (product c place) v lk (product-lt c place lc) (value-lt i p lp) in
     cc (xor-swap (product c (power ((i + 1) * m))) (product other (product c place)) (value_at (i + 1) p) (product other v), length-lowered k p, product-by_sum c own other lc lo lk, value-lowered i k p lp)
 
--- if the values of the polynomial c ∷ p are 0 at 2 to the powers i and i + 1, and p has m coefficients, then the value of
--- `lowered m p` at 2 to the power i is 0
+-- if c ∷ p has the value 0 at 2 to i and to i + 1, and p has m coefficients, `lowered m p` has it at 2 to i
 lowered-root : (i c : ℕ) (p : List ℕ) → c < 256 → All IsByte p → value_at i (c ∷ p) ≡ 0 →
     value_at (i + 1) (c ∷ p) ≡ 0 → value_at i (lowered (length p) p) ≡ 0
 lowered-root i c p lc lp e f =
@@ -155,8 +149,7 @@ value-alone c p l e =
     let none : 0 * length p ≡ 0 = omega arith in
     cc (product-by_one c l, value-none 0 p e, xor_zero_r c)
 
--- if p has at most 255 coefficients, of which at most n are not 0, and the values of p at the first n powers of 2 are 0,
--- then every coefficient of p is 0
+-- a polynomial with at most n coefficients that are not 0, and the value 0 at the first n powers of 2, is 0
 pub weight-none : (k n : ℕ) (p : List ℕ) → length p ≤ k → k ≤ 255 → All IsByte p → weight p ≤ n →
     ((i : ℕ) → i < n → value_at i p ≡ 0) → weight p ≡ 0
 weight-none k n [] l h a w r = refl
@@ -187,8 +180,7 @@ weight-none (suc k) n (c ∷ p) l h a w r =
 
 -- ---- blocks
 
--- if two blocks of at most 255 codewords, with n error correction codewords each and equally many data codewords d and d',
--- differ in at most n codewords, then d equals d'
+-- two blocks with n error correction codewords that differ in at most n codewords have the same data codewords
 pub near-same : (n : ℕ) (d e d' e' : List ℕ) → IsCorrection d n e → IsCorrection d' n e' → length d ≡ length d' →
     length d + n ≤ 255 → differences (d ++ e) (d' ++ e') ≤ n → d ≡ d'
 near-same n d e d' e' c c' s l w =
@@ -211,8 +203,7 @@ near-same n d e d' e' c c' s l w =
     front-same : (xs ys us vs : List ℕ) → length xs ≡ length ys → xs ++ us ≡ ys ++ vs → xs ≡ ys
     front-same xs ys us vs s e = sym (take_at xs us (length xs) refl) ∙ (ap (take (length xs)) e ∙ take_at ys vs (length xs) (sym s))
 
--- if two blocks of at most 255 codewords, with n error correction codewords each and equally many data codewords d and d',
--- have different data codewords, then the blocks differ in at least n + 1 codewords
+-- two such blocks with different data codewords differ in at least n + 1 codewords
 pub apart : (n : ℕ) (d e d' e' : List ℕ) → IsCorrection d n e → IsCorrection d' n e' → length d ≡ length d' →
     length d + n ≤ 255 → (d ≡ d' → ⊥) → n + 1 ≤ differences (d ++ e) (d' ++ e')
 apart n d e d' e' c c' s l o = elim (cases_lt n (differences (d ++ e) (d' ++ e'))) [
@@ -250,8 +241,7 @@ errors-length (r ∷ rs) [] = omega arith
 errors-length (None ∷ rs) (x ∷ xs) = let e = errors-length rs xs in omega (arith, e)
 errors-length (Some z ∷ rs) (x ∷ xs) = let e = errors-length rs xs in omega (arith, e)
 
--- the number of differences of xs and ys is at most the number of erasures of rs, plus the number of errors of rs against
--- xs, plus the number of errors of rs against ys
+-- xs and ys differ in at most as many places as a reading has erasures, and errors against xs, and against ys
 errors-between : (rs : List (Option ℕ)) (xs ys : List ℕ) →
     differences xs ys ≤ erasures rs + (errors rs xs + errors rs ys)
 errors-between [] [] ys = omega arith
@@ -272,8 +262,7 @@ errors-between (Some z ∷ rs) (x ∷ xs) (y ∷ ys) =
     let f = errors-between rs xs ys in
     omega (arith, e, f)
 
--- if k codewords of the list `read` are erasures, `read` has at most t errors against each of two blocks, and k + 2 * t is
--- at most n, then the blocks have the same data codewords d and d'
+-- a reading with k erasures and at most t errors against each of two blocks, where k + 2 * t is at most n, tells one
 pub unambiguous-known : (n t : ℕ) (d e d' e' : List ℕ) (read : List (Option ℕ)) → IsCorrection d n e →
     IsCorrection d' n e' → length d ≡ length d' → length d + n ≤ 255 → erasures read + 2 * t ≤ n →
     errors read (d ++ e) ≤ t → errors read (d' ++ e') ≤ t → d ≡ d'

@@ -1,5 +1,4 @@
--- The values of polynomials at the powers of 2: the value of a product is the product of the values, so a block with n error
--- correction codewords has the value 0 at the first n powers of 2.
+-- The values of polynomials at the powers of 2: the value of a product is the product of the values.
 use Rattle.std.proofs.Common.{◌≡◌, ℕ, zero, suc, ◌+◌, ◌-◌, ◌*◌, ◌<◌, ◌≤◌, List, [], ◌∷◌, ◌++◌, length, refl, sym, ap, ◌∙◌, subst, inl, inr, arith, lit<, bit_xor}
 use Rattle.std.proofs.lemmas.{Nat.xor_of_8, Bool.cases_eq, List.length-map}
 use Rattle.std.proofs.lemmas.List.Elements.{All-nil, All-cons, All-head, All-tail}
@@ -47,8 +46,7 @@ value-scaled i a (c ∷ p) l b =
     let sum = product-by_sum a (product c x) (value_at i p) l (product-lt c x lc) (value-lt i p lp) in
     cc (length-map p (product a), product-assoc a c x l lc lx, value-scaled i a p l lp, sum)
 
--- if ys has k coefficients more than xs, then the value of `plus xs ys` at 2 to the power i is the sum of the value of ys
--- and of the value of xs times 2 to the power i * k; `plus` adds the first coefficients of both lists
+-- the value of `plus xs ys`, which adds from the first coefficients on, if ys has k coefficients more than xs
 pub value-plus : (i k : ℕ) (xs ys : List ℕ) → length ys ≡ k + length xs → All IsByte xs → All IsByte ys →
     value_at i (plus xs ys) ≡ bit_xor (product (value_at i xs) (power (i * k))) (value_at i ys)
 value-plus i k [] ys e a b =

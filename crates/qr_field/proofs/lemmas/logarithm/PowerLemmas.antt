@@ -64,8 +64,7 @@ powers-at (suc i) l =
 logarithms-small : below 255 (λ i. ltb (get_or LOGARITHMS i 0) 255) ≡ true
 logarithms-small = refl
 
--- the entry of the table of powers at each entry of the table of logarithms is the element of that logarithm, which is
--- computed
+-- the entry of the table of powers at each logarithm is its element, computed
 logarithms-inverse : below 255 (λ i. eqb (get_or POWERS (get_or LOGARITHMS i 0) 0) (i + 1)) ≡ true
 logarithms-inverse = refl
 
@@ -82,8 +81,7 @@ logarithms-at a i p l e =
     sym (powers-at (get_or LOGARITHMS i 0) (logarithms-lt i k))
     ∙ (same-below 255 (λ k. get_or POWERS (get_or LOGARITHMS k 0) 0) (λ k. k + 1) logarithms-inverse i k ∙ f)
 
--- the entry of the table of logarithms at each entry of the table of powers is the exponent of that power, which is
--- computed
+-- the entry of the table of logarithms at each power is its exponent, computed
 powers-inverse : below 255 (λ i. eqb (get_or LOGARITHMS (get_or POWERS i 0 - 1) 0) i) ≡ true
 powers-inverse = refl
 

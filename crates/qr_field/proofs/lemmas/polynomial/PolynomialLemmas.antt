@@ -12,8 +12,7 @@ use Rattle.qr_field.proofs.lemmas.polynomial.ListLemmas.{plus-append, plus-zeros
 
 -- ---- the step of a register
 
--- if q times the generator polynomial is p followed by the register r ∷ rs, then q with the quotient of one more byte
--- b, times the generator polynomial, is p and b followed by the next register
+-- if q times the generator is p and the register r ∷ rs, then with the next quotient it is p, b and the next register
 divide-step : (p q : List ℕ) (b r : ℕ) (rs g : List ℕ) → b < 256 → r < 256 → length q ≡ length p →
     length g ≡ length (r ∷ rs) → times q (1 ∷ g) ≡ p ++ r ∷ rs →
     times (q ++ bit_xor b r ∷ []) (1 ∷ g) ≡ (p ++ b ∷ []) ++ plus (rs ++ 0 ∷ []) (scaled (bit_xor b r) g)
@@ -24,8 +23,7 @@ divide-step p q b r rs g lb lr lq lg e =
 
 -- ---- there is one quotient
 
--- two quotients q and r of one length are equal, if their products by a polynomial with the leading coefficient 1 begin
--- with the same coefficients
+-- quotients of one length whose products by a monic polynomial begin with the same coefficients are equal
 quotient-one : (q r g : List ℕ) → All IsByte q → All IsByte r → length q ≡ length r →
     take (length q) (times q (1 ∷ g)) ≡ take (length q) (times r (1 ∷ g)) → q ≡ r
 quotient-one [] [] g a b l e = refl
@@ -114,8 +112,7 @@ correction-start n =
     record { quotient = []; bytes = All-nil IsByte; whole = ap zeros e } in
     record { count = length-zeros n; bytes = bytes-zeros n; multiple = multiple }
 
--- if r ∷ rs are the error correction codewords of the codewords p, then one round of the register makes those of p and
--- one more codeword b
+-- one round of the register makes the error correction codewords of one codeword more
 correction-next : (p : List ℕ) (n b r : ℕ) (rs g : List ℕ) → b < 256 → 1 ∷ g ≡ generator_of n →
     IsCorrection p n (r ∷ rs) →
     IsCorrection (p ++ b ∷ []) n (plus (rs ++ 0 ∷ []) (scaled (bit_xor b r) g))
@@ -143,8 +140,7 @@ correction-next p n b r rs g l e c =
       };
     }
 
--- one round of the register makes the error correction codewords of the first i + 1 codewords from those of the first
--- i: its first byte is dropped, a 0 is added at the end, and then a multiple of the generator polynomial is added
+-- the same as the code does it: the first byte is dropped, a 0 added, and then a multiple of the generator
 pub correction-step : (m : List ℕ) (i n r : ℕ) (items moved sum g : List ℕ) → i < length m → get_or m i 0 < 256 →
     1 ≤ n → 1 ∷ g ≡ generator_of n → r ≡ get_or items 0 r → moved ≡ drop 1 items ++ 0 ∷ [] →
     sum ≡ plus moved (scaled (bit_xor (get_or m i 0) r) g) → IsCorrection (take i m) n items →

@@ -50,8 +50,7 @@ packed-first (x ∷ xs) r l a = mod_low (packed xs) 8 x (All-head IsByte x xs a)
 
 -- the coefficients after the first one
 pub packed-rest : (xs : List ℕ) → 1 ≤ length xs → All IsByte xs → packed xs / 2 ^ 8 ≡ packed (drop 1 xs)
-packed-rest [] l a = absurd (omega arith)
-packed-rest (x ∷ xs) l a = shr_high (packed xs) 8 x (All-head IsByte x xs a)
+packed-rest xs l a = grind arith
 
 -- packed coefficients that are unpacked are the same coefficients
 pub unpacked-packed : (n : ℕ) (xs : List ℕ) → length xs ≡ n → All IsByte xs → unpacked n (packed xs) ≡ xs

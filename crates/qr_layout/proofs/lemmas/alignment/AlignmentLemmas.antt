@@ -35,8 +35,7 @@ list_any-map p f (x ∷ xs) = ap (λ b. p (f x) || b) (list_any-map p f xs)
 
 -- a test of a centre, or of none in a corner
 at_centre : (p : Module → Bool) (a b : ℕ) (t : Bool) → list_any p (cond t [] (record { row = a; col = b } ∷ [])) ≡ (not t && p (record { row = a; col = b }))
-at_centre p a b true = refl
-at_centre p a b false = grind (arith, nat_tests)
+at_centre p a b t = grind (arith, nat_tests)
 
 -- a test of the alignment patterns' centres goes over their rows and then their columns
 pub any-places : (p : Module → Bool) (s : ℕ) (cs : List ℕ) → list_any p (alignment_places s cs) ≡ list_any (λ a. list_any (λ b. not (is_corner_pair s a b) && p (record { row = a; col = b })) cs) cs
@@ -53,8 +52,7 @@ light-parts v r c s cs t e f h = h ∙ rw (e, f) (sym (any-places (λ m. eqb (ri
 
 -- a place near one centre, or near none where the centre is in a corner
 one : (r c a b : ℕ) (t : Bool) → (not t && leb (ring_of a b r c) 2) ≡ ((leb (a - 2) r && ltb r (a + 3)) && ((leb (b - 2) c && ltb c (b + 3)) && not t))
-one r c a b true = grind (arith, nat_tests)
-one r c a b false = grind (arith, nat_tests)
+one r c a b t = grind (arith, nat_tests)
 
 -- a place in an alignment pattern, by its row and then its column
 pub alignment_parts : (r c s : ℕ) (cs : List ℕ) → list_any (λ m. leb (ring_of m.row m.col r c) 2) (alignment_places s cs) ≡ list_any (λ a. leb (a - 2) r && ltb r (a + 3) && list_any (λ b. leb (b - 2) c && ltb c (b + 3) && not (is_corner_pair s a b)) cs) cs

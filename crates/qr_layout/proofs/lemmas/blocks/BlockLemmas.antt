@@ -106,7 +106,6 @@ blocks-total l v r h k lr =
 pub blocks-sound : (l : Level) (v : ℕ) → 1 ≤ v → v ≤ 40 → AreWhole v l (blocks_of v l)
 blocks-sound l v h k =
     let f = laws-of l v h k in
-    let b = f.count in
     record {
       some = omega arith;
       some_len = f.some_len;

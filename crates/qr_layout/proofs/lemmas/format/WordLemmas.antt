@@ -73,10 +73,7 @@ passed n divisor k x d h = record {
 
 -- two bits of the level and three of the mask are below 32
 five-small : (l : Level) (mask : ℕ) → mask < 8 → five_bits l mask < 32
-five-small L mask h = omega arith
-five-small M mask h = omega arith
-five-small Q mask h = omega arith
-five-small H mask h = omega arith
+five-small l mask h = grind arith
 
 -- the format information contains a remainder
 pub format-word-remainder : (l : Level) (mask : ℕ) → mask < 8 → IsFormatWord (five_bits l mask) (format_word_of l mask)

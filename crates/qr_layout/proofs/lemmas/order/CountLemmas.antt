@@ -66,10 +66,6 @@ row-facts p r (suc n) m k = row-cond p r n (p r n) (row_places p r n) (λ e. e) 
 -- if the place at one more column passes, it is in the list
 row-has-cond : (r n : ℕ) (m : Module) (t : Bool) (xs : List Module) → (m.col ≡ n → t ≡ true) → m.row ≡ r → ((m.col < n) → Mem m xs) → m.col < suc n → Mem m (cond t (at r n ∷ xs) xs)
 row-has-cond r n m t xs i e f l = search arith
-  where
-    later : (t : Bool) → Mem m xs → Mem m (cond t (at r n ∷ xs) xs)
-    later true k = inr k
-    later false k = k
 
 -- each place of a row that passes is in the list
 row-has : (p : ℕ → ℕ → Bool) (r n : ℕ) (m : Module) → RowFact p r n m → Mem m (row_places p r n)
@@ -93,10 +89,6 @@ row-length : (p : ℕ → ℕ → Bool) (r n : ℕ) → length (row_places p r n
 unfolding row_places
 row-length p r zero = refl
 row-length p r (suc n) = search (arith, row_places, row-length p r n)
-  where
-    one : (t : Bool) (xs : List Module) → length (cond t (at r n ∷ xs) xs) ≡ cond t 1 0 + length xs
-    one true xs = omega arith
-    one false xs = omega arith
 
 -- the facts of a place of the square in the list
 abbrev GridFact : (ℕ → ℕ → Bool) → ℕ → ℕ → Module → Type 0

@@ -1,5 +1,5 @@
 -- The number of modules of the encoding region, computed: for each row only the rectangles that meet the row are checked.
-use Rattle.std.proofs.Common.{◌≡◌, ℕ, ◌+◌, ◌<◌, ◌≤◌, Bool, true, false, not, ◌&&◌, ◌||◌, cond, eqb, ltb, leb, List, [], ◌∷◌, refl, ap, ◌∙◌}
+use Rattle.std.proofs.Common.{◌≡◌, ℕ, ◌+◌, ◌<◌, ◌≤◌, Bool, true, false, not, ◌&&◌, ◌||◌, cond, eqb, ltb, leb, List, [], ◌∷◌, refl, ap, ◌∙◌, arith}
 use Rattle.std.specs.List.{list_any, filter}
 use Rattle.qr_layout.specs.{Region.is_in_region, declared.rectangles.Rectangle.Rectangle}
 use Rattle.qr_layout.specs.Version.{total_codewords_of, remainder_bits_of, module_count_of}
@@ -29,8 +29,7 @@ in-parts : (r c : ℕ) (b : Rectangle) → is_in_rectangle r c b ≡ (is_in_rows
 in-parts r c b = assoc (leb b.top r && ltb r b.bottom) (leb b.left c) (ltb c b.right)
   where
     assoc : (x y z : Bool) → ((x && y) && z) ≡ (x && (y && z))
-    assoc true y z = refl
-    assoc false y z = refl
+    assoc x y z = grind arith
 
 -- only the rectangles that the row goes through can contain a place of it
 any-filter : (r c : ℕ) (bs : List Rectangle) → list_any (is_in_rectangle r c) bs ≡ list_any (is_in_columns c) (filter (is_in_rows r) bs)

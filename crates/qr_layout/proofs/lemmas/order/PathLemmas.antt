@@ -1,5 +1,4 @@
--- The positions of the walk: each step leaves one position fewer, and a position with fewer positions left has a later
--- key. Here v is a version, and s the side of its square.
+-- The positions of the walk: a step leaves one fewer, and a position with fewer left has a later key. v is a version.
 use Rattle.std.proofs.Common.{◌≡◌, ℕ, zero, suc, ◌+◌, ◌-◌, ◌*◌, ◌/◌, ◌%◌, ◌<◌, ◌≤◌, Bool, true, false, cond, eqb, ◌⊎◌, arith}
 use Rattle.std.proofs.{Math.Nat.mul-le-mul_right, lemmas.Bool.Decides.nat_tests}
 use Rattle.qr_layout.specs.{declared.order.Cursor.Cursor, Version.side_of}
@@ -8,8 +7,7 @@ use Rattle.qr_layout.specs.Steps.Order.{half_of, place_of, rank_of, left_of, nex
 
 -- if p is positive, then w is at most p * w
 pub mul-le_one : (p w : ℕ) → 0 < p → w ≤ p * w
-mul-le_one zero w h = absurd (omega arith)
-mul-le_one (suc p) w h = omega arith
+mul-le_one p w h = grind (arith, nat_tests)
 
 -- if p is q + 1, then q * w + w equals p * w
 mul-add_one : (q p w : ℕ) → p ≡ q + 1 → q * w + w ≡ p * w
@@ -31,15 +29,13 @@ next-IsCursor v a k h = search (arith, nat_tests)
 
 -- the number of a half of a strip is 0 or 1
 pub half_of-bound : (b : Bool) → half_of b < 2
-half_of-bound true = omega arith
-half_of-bound false = omega arith
+half_of-bound b = grind (arith, nat_tests)
 
 -- the module at position a has column number 2 * a.strips - 1 - half_of a.at_left when column 6 is left out
 column-back : (a : Cursor) → 0 < a.strips → column_without_timing (place_of a).col ≡ 2 * a.strips - 1 - half_of a.at_left
 column-back a k = grind (arith, nat_tests)
 
--- if c is the number that half h of strip p has when column 6 is left out, then c is in the strip with number
--- 8 + 2 * v - p from the right
+-- the number of half h of strip p without column 6 is in the strip with number 8 + 2 * v - p from the right
 strip-arith : (v p h c : ℕ) → c ≡ 2 * p - 1 - h → 0 < p → p ≤ 8 + 2 * v → h < 2 → (side_of v - 2 - c) / 2 ≡ 8 + 2 * v - p
 strip-arith v p h c e k m l = omega arith
 
@@ -49,8 +45,7 @@ parity-arith v p m = grind (arith, nat_tests)
 
 -- the column number 2 * p - 1 - half_of b is odd just when half_of b is 0, which is the right half
 side-arith : (p : ℕ) (b : Bool) → 0 < p → cond (eqb ((2 * p - 1 - half_of b) % 2) 1) 0 1 ≡ half_of b
-side-arith p true k = grind (arith, nat_tests)
-side-arith p false k = grind (arith, nat_tests)
+side-arith p b k = grind (arith, nat_tests)
 
 -- the module at position a is in the strip with number 8 + 2 * v - a.strips from the right
 key-strip : (v : ℕ) (a : Cursor) → IsCursor v a → 0 < a.strips → strip_of v (place_of a).col ≡ 8 + 2 * v - a.strips
@@ -69,8 +64,7 @@ rank-bound s a k = grind (arith, nat_tests)
 pub mul-lt : (p q w : ℕ) → p < q → p * w + w ≤ q * w
 mul-lt p q w k = search (arith, mul-le-mul_right)
 
--- with w positions in each strip: if position y of strip q has fewer positions left than position x of strip p, then strip
--- q comes later than strip p, or the strips are the same and y is greater than x
+-- of two positions, the one with fewer left is in a later strip, or later in the same strip
 before-arith : (h p q w x y : ℕ) → p ≤ h → q ≤ h → x < w → y < w → q * w - y < p * w - x → 0 < q → (h - p < h - q) ⊎ ((h - p ≡ h - q) × (x < y))
 before-arith h p q w x y a b c d e f = search (arith, mul-lt)
 
@@ -78,8 +72,7 @@ before-arith h p q w x y a b c d e f = search (arith, mul-lt)
 digits-arith : (x y i j : ℕ) → i < 2 → j < 2 → 2 * x + i < 2 * y + j → (x < y) ⊎ ((x ≡ y) × (i < j))
 digits-arith x y i j a b c = search arith
 
--- key a comes before key b: a has the smaller strip, or the same strip and the smaller rank, or the same strip and rank
--- and the smaller side
+-- keys are ordered by strip, then rank, then side
 abbrev KeysRise : Key → Key → Type 0
 KeysRise a b = (a.strip < b.strip) ⊎ ((a.strip ≡ b.strip) × ((a.rank < b.rank) ⊎ ((a.rank ≡ b.rank) × (a.side < b.side))))
 

@@ -45,8 +45,7 @@ pub strips-positive : (s : ℕ) (a : Cursor) (n : ℕ) → left_of s a ≡ suc n
 unfolding left_of
 strips-positive s a n e = search arith
 
--- with w positions in each strip: if position x of strip p and position y of strip q have equally many positions left,
--- then p equals q and x equals y
+-- with w positions in each strip, positions with equally many left are the same
 same-arith : (p q w x y : ℕ) → x < w → y < w → 0 < p → 0 < q → p * w - x ≡ q * w - y → (p ≡ q) × (x ≡ y)
 same-arith p q w x y a b k l e = search (arith, mul-lt, mul-le_one)
 
@@ -60,8 +59,7 @@ half_of-same a b e = grind (arith, nat_tests)
 
 -- two rows x and y that have the same rank in a strip are the same row
 rank-same : (s x y : ℕ) (u : Bool) → x < s → y < s → cond u (s - 1 - x) x ≡ cond u (s - 1 - y) y → x ≡ y
-rank-same s x y true k l e = omega arith
-rank-same s x y false k l e = e
+rank-same s x y u k l e = grind (arith, nat_tests)
 
 -- a position a in a strip has at least one position left, because a itself is counted
 left-positive : (v : ℕ) (a : Cursor) → IsCursor v a → 0 < a.strips → 0 < left_of (side_of v) a
@@ -81,8 +79,7 @@ pub places-nil : (v : ℕ) (a : Cursor) → places_within v 0 a ≡ []
 unfolding places_within
 places-nil v a = refl
 
--- the modules of the encoding region at n + 1 positions from position a on are the module at a, if it is in the region,
--- and the modules at n positions from the next position on
+-- the region's modules at n + 1 positions from a on are that at a, if it is in the region, and those from the next on
 pub places-suc : (v n : ℕ) (a : Cursor) → places_within v (suc n) a ≡ cond (is_in_region v a.row (place_of a).col) (place_of a ∷ places_within v n (next_of (side_of v) a)) (places_within v n (next_of (side_of v) a))
 unfolding places_within
 places-suc v n a = refl
@@ -91,8 +88,7 @@ places-suc v n a = refl
 abbrev Stop : ℕ → ℕ → Module → Type 0
 Stop v n m = (b : Cursor) × IsCursor v b × (0 < b.strips) × (left_of (side_of v) b ≤ n) × (place_of b ≡ m) × InRegion v m
 
--- if `Stop v top` holds for the module at position a in case the test t passes, and for each module of xs, then it holds
--- for each module of the list xs with the module at a in front if t passes
+-- what holds for a module that is put in front, and for each module of xs, holds for each of both
 stops-cond : (v n top : ℕ) (a : Cursor) (t : Bool) (xs : List Module) → (t ≡ true → Stop v top (place_of a)) → AllByRecursion (Stop v top) xs → AllByRecursion (Stop v top) (cond t (place_of a ∷ xs) xs)
 stops-cond v n top a true xs f h = (f refl, h)
 stops-cond v n top a false xs f h = h
@@ -105,8 +101,7 @@ stops v (suc n) top a i e l =
     let d = next-left (side_of v) a k i.row_in in
     search (arith, places-suc, stops-cond, next-IsCursor, stops v n top (next_of (side_of v) a) (next-IsCursor v a i k) (omega arith) (omega arith))
 
--- if the list xs rises and x has the relation R to each item of xs, then the list xs with x in front, if the test t
--- passes, rises
+-- a rising list still rises with an item in front that has the relation to each of its items
 rises-cond : (R : Module → Module → Type 0) (x : Module) (t : Bool) (xs : List Module) → AllByRecursion (R x) xs → Rises R xs → Rises R (cond t (x ∷ xs) xs)
 rises-cond R x true xs h k = (h, k)
 rises-cond R x false xs h k = k
@@ -127,8 +122,7 @@ contains-cond : (x m : Module) (t : Bool) (xs : List Module) → Contains xs m �
 contains-cond x m true xs h = Contains-tail x m xs h
 contains-cond x m false xs h = h
 
--- the walk from a position a with n positions left yields the module at each position b with at most n positions left, if
--- this module is in the encoding region
+-- the walk from a on yields the module at each later position, if this module is in the encoding region
 finds : (v n : ℕ) (a b : Cursor) → IsCursor v a → left_of (side_of v) a ≡ n → IsCursor v b → 0 < b.strips → left_of (side_of v) b ≤ n → InRegion v (place_of b) → Contains (places_within v n a) (place_of b)
 finds v zero a b i e j l h t = let p = left-positive v b j l in absurd (omega arith)
 finds v (suc n) a b i e j l h t =
@@ -197,8 +191,7 @@ reach-cond : (v : ℕ) (x : Module) (t : Bool) (xs ys : List Module) → ((front
 reach-cond v x true xs ys w = (x ∷ w.0, ap (λ zs. x ∷ zs) w.1)
 reach-cond v x false xs ys w = w
 
--- the modules that the walk yields from a position a with n positions left end with the modules that it yields from
--- position b, if b has at most n positions left
+-- the modules that the walk yields from a on end with those from a later position b on
 reaches : (v n : ℕ) (a b : Cursor) → IsCursor v a → left_of (side_of v) a ≡ n → IsCursor v b → 0 < b.strips → left_of (side_of v) b ≤ n → (front : List Module) × (places_within v n a ≡ front ++ places_within v (left_of (side_of v) b) b)
 reaches v zero a b i e j l h = let p = left-positive v b j l in absurd (omega arith)
 reaches v (suc n) a b i e j l h =
@@ -210,8 +203,7 @@ reaches v (suc n) a b i e j l h =
       | inr m ↦ search (arith, same-cursor)
     ]
 
--- the modules from position a on are the module at a, if it is in the encoding region, and the modules from the next
--- position on
+-- the modules from a on are that at a, if it is in the encoding region, and those from the next position on
 pub to_come-next : (v : ℕ) (a : Cursor) → IsCursor v a → 0 < a.strips → to_come v a ≡ cond (is_in_region v a.row (place_of a).col) (place_of a ∷ to_come v (next_of (side_of v) a)) (to_come v (next_of (side_of v) a))
 unfolding to_come
 to_come-next v a i k =
@@ -238,8 +230,7 @@ after v m h =
     let f : to_come v b ≡ m ∷ to_come v (next_of s b) = to_come-next v b j (at-strips m) ∙ (cc) in
     record { front = w.0; whole = subst (IsOrder v) (w.1 ∙ ap (λ zs. w.0 ++ zs) f) (to_come-start v) }
 
--- the modules that the walk of the code yields, which starts at the last row of the rightmost strip, are the order of
--- version v
+-- the modules that the walk of the code yields from the last row of the rightmost strip on are the order of version v
 pub walk-order : (v n s : ℕ) → n ≡ v → s ≡ side_of v → IsOrder v (to_come v (record { strips = 8 + 2 * n; row = s - 1; at_left = false }))
 walk-order v n s e f =
     let g : s - 1 ≡ 16 + 4 * v = omega arith in
@@ -256,18 +247,15 @@ step-cursor v a b i k f = rw f (next-IsCursor v a i k)
 pub step-left : (v : ℕ) (a b : Cursor) → IsCursor v a → 0 < a.strips → b ≡ next_of (side_of v) a → left_of (side_of v) b < left_of (side_of v) a
 step-left v a b i k f = search (arith, next-left)
 
--- if the code steps from position a to position b, and the module m at a is in the encoding region, then the modules from
--- a on are m and the modules from b on
+-- if the code steps from a, where m is in the region, to b, then the modules from a on are m and those from b on
 pub step-yields : (v : ℕ) (a b : Cursor) (m : Module) (t : Bool) → IsCursor v a → 0 < a.strips → b ≡ next_of (side_of v) a → m ≡ place_of a → t ≡ is_in_region v m.row m.col → t ≡ true → to_come v a ≡ m ∷ to_come v b
 step-yields v a b m t i k f g h j = search (arith, to_come-next)
 
--- if the code steps from position a to position b, and the module m at a is not in the encoding region, then the modules
--- from a on are the modules from b on
+-- if the code steps from a, where the module is not in the region, to b, then the modules from a on are those from b on
 pub step-passes : (v : ℕ) (a b : Cursor) (m : Module) (t : Bool) → IsCursor v a → 0 < a.strips → b ≡ next_of (side_of v) a → m ≡ place_of a → t ≡ is_in_region v m.row m.col → t ≡ false → to_come v a ≡ to_come v b
 step-passes v a b m t i k f g h j = search (arith, to_come-next)
 
--- if the code resumes the walk after module m of the encoding region, at position b, then the modules from b on are the
--- modules that come after m in the order
+-- if the code resumes the walk after module m at position b, the modules from b on are those after m in the order
 pub after-order : (v : ℕ) (m : Module) (a b : Cursor) (t : Bool) → t ≡ is_in_region v m.row m.col → t ≡ true → a ≡ cursor_at m → b ≡ next_of (side_of v) a → IsOrderAfter v m (to_come v b)
 after-order v m a b t h j f g = rw (g, f) (after v m (sym h ∙ j))
 

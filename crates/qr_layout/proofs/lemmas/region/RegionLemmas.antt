@@ -33,9 +33,7 @@ col-in v m h = let e : ltb m.col (side_of v) ≡ true = (free-of v m.row m.col h
 
 -- of four tests none of which passes, the second fails
 second-out : (a b d e : Bool) → not (((a || b) || d) || e) ≡ true → b ≡ false
-second-out false false d e h = refl
-second-out false true d e h = cc
-second-out true b d e h = cc
+second-out a b d e h = grind (arith, nat_tests)
 
 -- no module of the region is in column 6
 pub col-not_timing : (v : ℕ) (m : Module) → InRegion v m → m.col ≡ 6 → ⊥

@@ -70,8 +70,7 @@ second-here s r c i l a h = grind (arith, nat_tests)
 
 -- if one of two tests passes, the first or the second passes
 pub either : (a b : Bool) → (a || b) ≡ true → (a ≡ true) ⊎ (b ≡ true)
-either true b h = inl refl
-either false b h = inr h
+either a b h = grind (arith, nat_tests)
 
 -- a bit that is at a place is the bit that may be there
 stands-here : (s r c i : ℕ) → 21 ≤ s → i < 15 → stands s r c i ≡ true → i ≡ bit_here s r c

@@ -1,5 +1,4 @@
--- Which places contain the bits of the format and version information. All places that contain no such bit and have no fixed
--- colour are the encoding region.
+-- Which places contain the bits of the format and version information, and that all other free places are the region.
 use Rattle.std.proofs.Common.{◌≡◌, ℕ, ◌+◌, ◌-◌, ◌%◌, ◌<◌, ◌≤◌, Bool, true, false, not, ◌&&◌, ◌||◌, cond, eqb, ltb, Option, None, Some, refl, sym, ap, ◌∙◌, inl, inr, ◌⊎◌, arith}
 use Rattle.std.proofs.lemmas.Bool.Decides.{nat_tests}
 use Rattle.std.proofs.lemmas.Bool.{cases_lt, and_parts, eqb-true}
@@ -26,19 +25,11 @@ role-with v r c = refl
 
 -- a role that is a bit of the format information comes from its place
 with-format : (a : Option Bool) (t : Bool) (f g : Option ℕ) (i : ℕ) → role_with a t f g ≡ FormatBit i → f ≡ Some i
-with-format (Some x) t f g i h = cc
-with-format None true f g i h = cc
-with-format None false (Some j) g i h = let e : j ≡ i = cc in ap (λ k. Some k) e
-with-format None false None (Some j) i h = cc
-with-format None false None None i h = cc
+with-format a t f g i h = grind (arith, nat_tests)
 
 -- a role that is a bit of the version information comes from its place
 with-version : (a : Option Bool) (t : Bool) (f g : Option ℕ) (i : ℕ) → role_with a t f g ≡ VersionBit i → g ≡ Some i
-with-version (Some x) t f g i h = cc
-with-version None true f g i h = cc
-with-version None false (Some j) g i h = cc
-with-version None false None (Some j) i h = let e : j ≡ i = cc in ap (λ k. Some k) e
-with-version None false None None i h = cc
+with-version a t f g i h = grind (arith, nat_tests)
 
 -- a module at the row and column of another is that one
 at-place : (m n : Module) → is_at n m.row m.col ≡ true → m ≡ n
@@ -97,24 +88,7 @@ has_role v m x = is_role (role_of v m.row m.col) x
 
 role-same : (x y : Role) → is_role x y ≡ true → x ≡ y
 unfolding is_role
-role-same (Fixed true) (Fixed b) h = cc
-role-same (Fixed false) (Fixed true) h = cc
-role-same (Fixed false) (Fixed false) h = refl
-role-same (Fixed a) (FormatBit j) h = cc
-role-same (Fixed a) (VersionBit j) h = cc
-role-same (Fixed a) Region h = cc
-role-same (FormatBit i) (Fixed b) h = cc
-role-same (FormatBit i) (FormatBit j) h = ap (λ k. FormatBit k) (eqb-true i j h)
-role-same (FormatBit i) (VersionBit j) h = cc
-role-same (FormatBit i) Region h = cc
-role-same (VersionBit i) (Fixed b) h = cc
-role-same (VersionBit i) (FormatBit j) h = cc
-role-same (VersionBit i) (VersionBit j) h = ap (λ k. VersionBit k) (eqb-true i j h)
-role-same (VersionBit i) Region h = cc
-role-same Region (Fixed b) h = cc
-role-same Region (FormatBit j) h = cc
-role-same Region (VersionBit j) h = cc
-role-same Region Region h = refl
+role-same x y h = grind (arith, nat_tests)
 
 -- both copies of a bit of the format information
 format_placed : ℕ → ℕ → Bool
@@ -231,8 +205,7 @@ off-pattern v r c h k l =
 
 -- a test that cannot pass fails
 truth : (b : Bool) → (b ≡ true → ⊥) → b ≡ false
-truth true f = absurd (f refl)
-truth false f = refl
+truth b f = grind (arith, nat_tests)
 
 -- in a corner, a place off the patterns contains a bit, or it is the dark module
 corner-stands : (s r c : ℕ) → 21 ≤ s → r < s → c < s → 5 ≤ finder_ring s r c → (r ≡ 6 → ⊥) → (c ≡ 6 → ⊥) → is_dark_module s r c ≡ false → is_corner s r c ≡ true
@@ -350,8 +323,7 @@ off-role v r c l i j ha ht hv =
     ∙ by_alignment (is_alignment v r c) (not (is_alignment_light v r c)) (is_dark_module s r c) (format_bit_at s r c) (version_bit_at v r c) (corner-not_dark s r c (omega arith) o) (corner-no_format s r c (omega arith) o) (free-version v r c hv))
   where
     by_alignment : (e q t : Bool) (f g : Option ℕ) → t ≡ false → f ≡ None → g ≡ None → role_with (cond e (Some q) None) t f g ≡ cond e (Fixed q) Region
-    by_alignment true q t f g x y z = refl
-    by_alignment false q t f g x y z = rw (x, y, z) refl
+    by_alignment e q t f g x y z = grind (arith, nat_tests)
 
 -- a module of the encoding region has the role Region
 pub region-role : (v r c : ℕ) → 1 ≤ v → r < side_of v → c < side_of v → is_in_region v r c ≡ true → role_of v r c ≡ Region

@@ -1,5 +1,4 @@
--- The function patterns are the same when rows and columns are exchanged, if of the format information just bit 7 is
--- dark: this bit is opposite the dark module.
+-- The function patterns are their own transposes, if just bit 7 of the format information, opposite the dark module, is set.
 use Rattle.std.proofs.lemmas.Bool.{eqb-true, cases_Bool}
 use Rattle.std.proofs.Common.{◌≡◌, ℕ, ◌-◌, ◌%◌, ◌<◌, ◌≤◌, Bool, true, false, not, ◌&&◌, ◌||◌, cond, eqb, ltb, min, List, [], ◌∷◌, Option, None, Some, refl, sym, ap, ◌∙◌, inl, inr, arith}
 use Rattle.std.proofs.{Math.Bool.and_comm, Math.Bool.or_comm, lemmas.Bool.Decides.nat_tests}
@@ -83,8 +82,7 @@ abbrev seven : Bool → Option ℕ → Option Bool
 seven t o = cond t (Some true) (option_map_or (λ i. Some (eqb i 7)) o None)
 
 map-cond : {A B : Type 0} (f : A → B) (d : B) (b : Bool) (x y : Option A) → option_map_or f (cond b x y) d ≡ cond b (option_map_or f x d) (option_map_or f y d)
-map-cond f d true x y = refl
-map-cond f d false x y = refl
+map-cond f d b x y = grind (arith, nat_tests)
 
 -- what it means that a test for 8 fails
 not-eight : (n : ℕ) → eqb n 8 ≡ false → n ≡ 8 → ⊥
@@ -119,10 +117,7 @@ seven-symmetric s r c l h k = elim (cases_Bool (eqb c 8)) [
 -- a colour by role in which just bit 7 of the format information is dark, over what the parts of the role say
 by-parts : (f : Role → Bool) (a : Option Bool) (t : Bool) (o g : Option ℕ) → ((i : ℕ) → o ≡ Some i → f (FormatBit i) ≡ f (Fixed (eqb i 7)))
     → f (option_map_or Fixed a (cond t (Fixed true) (option_map_or FormatBit o (option_map_or VersionBit g Region)))) ≡ f (option_map_or Fixed a (option_map_or Fixed (seven t o) (option_map_or VersionBit g Region)))
-by-parts f (Some d) t o g h = refl
-by-parts f None true o g h = refl
-by-parts f None false (Some i) g h = h i refl
-by-parts f None false None g h = refl
+by-parts f a t o g h = grind (arith, nat_tests)
 
 -- the bits of the format information are below 15
 bit-below : (s r c i : ℕ) → format_bit_at s r c ≡ Some i → i < 15

@@ -1,5 +1,4 @@
--- The places of the strips, one strip after the other, are the order of the version when the places outside the
--- encoding region are left out. Here v is a version, and s the side of its square.
+-- The places of the strips of version v in the encoding region, one strip after the other, are its order.
 use Rattle.std.proofs.Common.{◌≡◌, ℕ, zero, suc, ◌+◌, ◌-◌, ◌*◌, ◌<◌, ◌≤◌, false, cond, List, [], ◌∷◌, ◌++◌, refl, sym, ap, ◌∙◌, arith}
 use Rattle.std.proofs.lemmas.{List.Elements.All-from_recursion, Bool.Decides.nat_tests}
 use Rattle.std.specs.List.{All, AllByRecursion}
@@ -19,8 +18,7 @@ pairs-nil : (v : ℕ) (a : Cursor) → pairs_within v 0 a ≡ []
 unfolding pairs_within
 pairs-nil v a = refl
 
--- the right places of n + 1 rows from position a on are the place of a and the right places of n rows from two steps after
--- a on
+-- the right places of n + 1 rows from a on are the place of a and the right places of n rows from two steps on
 pairs-suc : (v n : ℕ) (a : Cursor) → pairs_within v (suc n) a ≡ place_of a ∷ pairs_within v n (next_of (side_of v) (next_of (side_of v) a))
 unfolding pairs_within
 pairs-suc v n a = refl
@@ -35,15 +33,13 @@ right-again : (s : ℕ) (a : Cursor) → a.at_left ≡ false → (next_of s (nex
 unfolding next_of
 right-again s a e = grind (arith, nat_tests)
 
--- the places of n rows from position a on that are in the encoding region are the places that 2 * n steps of the walk
--- visit from a on
+-- the places of n rows from a on that are in the encoding region are those that 2 * n steps of the walk visit
 kept : (v n : ℕ) (a : Cursor) → a.at_left ≡ false → in_region_of v (both_of (pairs_within v n a)) ≡ places_within v (2 * n) a
 kept v zero a e = cc (pairs-nil v a, places-nil v a)
 kept v (suc n) a e =
     let s = side_of v in
     let b = next_of s a in
     let left : Module = record { row = a.row; col = (place_of a).col - 1 } in
-    let t = is_in_region v a.row (place_of a).col in
     let h = kept v n (next_of s b) (right-again s a e) in
     let two : suc (suc (2 * n)) ≡ 2 * suc n = omega arith in
     let q : place_of b ≡ left = second-place s a e in
@@ -67,8 +63,7 @@ next-strip : (s p k : ℕ) → k + 1 ≡ s → next_of s (next_of s (at_row s (s
 unfolding next_of
 next-strip s p k e = grind (arith, nat_tests)
 
--- the right places of n + 1 + m rows, from row k of strip p + 1 on, are the right places of the n + 1 rows that are
--- left in this strip, followed by the right places of m rows from strip p on
+-- the right places from row k of a strip on are those of the rows left in it, and then those of the strips after it
 rows-then : (v p k n m : ℕ) → k + suc n ≡ side_of v → pairs_within v (suc n + m) (at_row (side_of v) (suc p) k) ≡ rows_from (side_of v) (strip_at (suc p)) k (suc n) ++ pairs_within v m (at_row (side_of v) p 0)
 rows-then v p k zero m e =
     let s = side_of v in
@@ -86,8 +81,7 @@ abbrev all_rows : ℕ → List Strip → List Module
 all_rows s [] = []
 all_rows s (x ∷ xs) = rows_from s x 0 s ++ all_rows s xs
 
--- the right places of all rows from the first row of strip p on are the right places of strip p and of the strips to
--- the left of it
+-- the right places from the first row of strip p on are those of strip p and of the strips to the left of it
 rows-all : (v p : ℕ) → pairs_within v (p * side_of v) (at_row (side_of v) p 0) ≡ all_rows (side_of v) (strips_to_come p)
 rows-all v zero = let e : zero * side_of v ≡ 0 = omega arith in cc (pairs-nil v (at_row (side_of v) 0 0))
 rows-all v (suc p) =
@@ -106,8 +100,7 @@ both-append : (xs ys : List Module) → both_of (xs ++ ys) ≡ both_of xs ++ bot
 both-append [] ys = refl
 both-append (x ∷ xs) ys = cc (both-append xs ys)
 
--- the right places of all rows of the strips xs, each followed by the place to the left of it, are the places of the
--- strips
+-- the right places of all rows of the strips, each followed by the place to the left of it, are their places
 places-both : (s : ℕ) (xs : List Strip) → both_of (all_rows s xs) ≡ places_of s xs
 places-both s [] = refl
 places-both s (x ∷ xs) = cc (both-append (rows_from s x 0 s) (all_rows s xs), places-both s xs)
@@ -153,5 +146,4 @@ strips-inside v n e = All-from_recursion (Inside v) _ (all-inside v (8 + 2 * n) 
 
 -- the strips from strip p on are strip p and the strips from strip p - 1 on
 pub strips-next : (p : ℕ) (x : Strip) → 0 < p → x ≡ strip_at p → strips_to_come p ≡ x ∷ strips_to_come (p - 1)
-strips-next zero x l e = absurd (omega arith)
-strips-next (suc p) x l e = let f : p ≡ suc p - 1 = omega arith in cc
+strips-next p x l e = grind (arith, nat_tests)

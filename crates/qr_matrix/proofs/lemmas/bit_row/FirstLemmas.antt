@@ -56,8 +56,7 @@ unfolding columns_passing
 passing-none p k zero none = refl
 passing-none p k (suc n) none = rw (none k (omega arith)) (passing-none p (k + 1) n (λ c l. none c (omega arith)))
 
--- if t is the first column that passes the test p, and the test q fails there alone of the columns that pass p, then the
--- columns that pass p are t and those that pass q
+-- if t is the first column that passes p, and q fails there alone of these, then they are t and those that pass q
 pub passing-first : (p q : ℕ → Bool) (t k n : ℕ) → k ≤ t → t < k + n → ((c : ℕ) → c < t → p c ≡ false) → p t ≡ true
     → ((c : ℕ) → q c ≡ cond (eqb c t) false (p c)) → columns_passing p k n ≡ t ∷ columns_passing q k n
 unfolding columns_passing

@@ -24,13 +24,7 @@ has_bit-or a b c = grind (arith, nat_tests, bit_at-lt, bit_at_or)
 
 -- the sum z of two bits x and y, modulo 2, is 1 exactly if x and y differ
 xor-bits : (x y z : ℕ) → x < 2 → y < 2 → z ≡ (x + y) % 2 → eqb z 1 ≡ not (is_same (eqb x 1) (eqb y 1))
-xor-bits zero zero z a b e = subst (λ w. eqb w 1 ≡ false) (sym e) refl
-xor-bits zero (suc zero) z a b e = subst (λ w. eqb w 1 ≡ true) (sym e) refl
-xor-bits zero (suc (suc y)) z a b e = absurd (omega arith)
-xor-bits (suc zero) zero z a b e = subst (λ w. eqb w 1 ≡ true) (sym e) refl
-xor-bits (suc zero) (suc zero) z a b e = subst (λ w. eqb w 1 ≡ false) (sym e) refl
-xor-bits (suc zero) (suc (suc y)) z a b e = absurd (omega arith)
-xor-bits (suc (suc x)) y z a b e = absurd (omega arith)
+xor-bits x y z a b e = grind (arith, nat_tests)
 
 -- bit c of the exclusive or of a and b is set exactly if a and b differ in bit c
 pub has_bit-xor : (a b c : ℕ) → has_bit (bit_xor a b) c ≡ not (is_same (has_bit a c) (has_bit b c))
@@ -41,9 +35,6 @@ has_bit-xor a b c = search (arith, xor-bits, bit_at-lt, bit_at_xor)
 pub has_bit-shr : (n k c : ℕ) → has_bit (n / 2 ^ k) c ≡ has_bit n (c + k)
 unfolding has_bit
 has_bit-shr n k c = search (arith, shr-shr)
-  where
-    swap : (k c : ℕ) → k + c ≡ c + k
-    swap k c = omega arith
 
 -- in the number whose s lowest bits are 1, bit c is set exactly if c is below s
 pub has_bit-ones : (s c : ℕ) → has_bit (2 ^ s - 1) c ≡ ltb c s
@@ -53,9 +44,7 @@ has_bit-ones s c = search (arith, bit_at_ones, nat_tests, bit_at_ones_above)
 -- a number x below 2 has x % 2 bits that are set
 one_bit : (x : ℕ) → x < 2 → ones x ≡ x % 2
 unfolding ones ones_in
-one_bit zero h = refl
-one_bit (suc zero) h = refl
-one_bit (suc (suc x)) h = absurd (omega arith)
+one_bit x h = grind (arith, nat_tests)
 
 -- the number of set bits of a number N of n bits is the sum of its bits
 ones-bits : (n N : ℕ) → N < 2 ^ n → ones N ≡ sum_below n (λ c. bit_at N c)
@@ -73,9 +62,7 @@ ones-bits (suc n) N h =
 
 -- a number x below 2 is 1 if it passes the test for 1, and 0 otherwise
 as_test : (x : ℕ) → x < 2 → x ≡ cond (eqb x 1) 1 0
-as_test zero h = refl
-as_test (suc zero) h = refl
-as_test (suc (suc x)) h = absurd (omega arith)
+as_test x h = grind (arith, nat_tests)
 
 -- the population count of a number N of n bits is the number of its bits that are set
 pub ones-count : (n N : ℕ) → N < 2 ^ n → count_ones N ≡ count_below n (has_bit N)
@@ -90,9 +77,6 @@ has_bit-up n (suc c) h =
     let f = bit_at_cat_low (n * 2 / 2 ^ 192) 192 (n * 2 % 2 ^ 192) (suc c) h in
     let g = bit_at-suc (n * 2) c in
     grind (arith, shr_split, nat_tests)
-  where
-    first : (b t : Bool) → t ≡ true → b ≡ (t && b)
-    first b t e = subst (λ z. b ≡ (z && b)) (sym e) refl
 
 -- ---- one bit of three words
 
@@ -149,8 +133,7 @@ set-words ws k x l m w = search (arith, set-small, words-small, length-set)
 pub and-small : (n m : ℕ) → n < 2 ^ 64 → bit_and n m < 2 ^ 64
 and-small n m h = let e = and_le_l n m in omega arith
 
--- a bit row in which one word is replaced by a word that differs from it in bit c % 64 alone is the bit row with bit c
--- set to d
+-- if one word is replaced by one that differs from it in bit c % 64 alone, only bit c of the bit row changes
 pub put-step : (ws : List ℕ) (c k x : ℕ) (d : Bool) → length ws ≡ 3 → ((j : ℕ) → get_or ws j 0 < 2 ^ 64) → x < 2 ^ 64 → c < 192 → k ≡ c / 64 → eqb (bit_at x (c % 64)) 1 ≡ d → ((j : ℕ) → j < 64 → j ≢ c % 64 → bit_at x j ≡ bit_at (get_or ws k 0) j) → (i : ℕ) → has (set ws k x) i ≡ cond (eqb i c) d (has ws i)
 unfolding has_bit
 put-step ws c k x d l w m h e here there i =
@@ -176,8 +159,7 @@ four-step ws c i k w h m e l = places-step ws 4 c i k w h (omega arith) e l
 pub eight-step : (ws : List ℕ) (c i k : ℕ) → ((j : ℕ) → get_or ws j 0 < 2 ^ 64) → c < 192 → c % 8 ≡ 0 → i ≡ c / 64 → k < 8 → has_bit (get_or ws i 0 / 2 ^ (c % 64) % 256) k ≡ has ws (c + k)
 eight-step ws c i k w h m e l = places-step ws 8 c i k w h (omega arith) e l
 
--- a bit row in which word k is replaced has the bits f, if the new word has the bits f of its places, and the other
--- words had them before
+-- a bit row with a new word k has the bits f, if this word has those of its places, and the others had theirs
 pub word-step : (ws : List ℕ) (k x : ℕ) (f : ℕ → Bool) → length ws ≡ 3 → ((j : ℕ) → get_or ws j 0 < 2 ^ 64) → x < 2 ^ 64 → k < 3 → ((j : ℕ) → j < 64 → has_bit x j ≡ f (64 * k + j)) → ((i : ℕ) → (i / 64 ≡ k → ⊥) → has ws i ≡ f i) → (i : ℕ) → has (set ws k x) i ≡ f i
 word-step ws k x f l w m n here there i =
     search (arith, set-small, has-place, get_or-set_same, get_or-set_other, has-past)

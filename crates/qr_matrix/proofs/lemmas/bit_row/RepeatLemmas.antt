@@ -7,13 +7,11 @@ use Rattle.qr_matrix.proofs.lemmas.bit_row.WordLemmas.{three}
 
 -- the first of two tests
 pub &&-left : (a b : Bool) → (a && b) ≡ true → a ≡ true
-&&-left true b h = refl
-&&-left false b h = cc
+&&-left a b h = grind (arith, nat_tests)
 
 -- the second of two tests
 pub &&-right : (a b : Bool) → (a && b) ≡ true → b ≡ true
-&&-right true b h = h
-&&-right false b h = cc
+&&-right a b h = grind (arith, nat_tests)
 
 -- the test at one of the numbers
 pub below-at : (n : ℕ) (p : ℕ → Bool) → all_below n p ≡ true → (k : ℕ) → k < n → p k ≡ true

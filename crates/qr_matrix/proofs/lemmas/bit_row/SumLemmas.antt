@@ -54,8 +54,7 @@ sum_below-cut s (suc d) f e = ap (λ z. sum_below z f) (step s d) ∙ (let a = s
 pub count_below-same : (n : ℕ) (p q : ℕ → Bool) → ((k : ℕ) → k < n → p k ≡ q k) → count_below n p ≡ count_below n q
 count_below-same n p q e = search (arith, sum_below-same)
 
--- if the tests p and q agree on each c below n, and q fails for each c from s on, then as many numbers below n pass p as
--- numbers below s pass q
+-- if p and q agree below n, and q fails from s on, then as many numbers below n pass p as numbers below s pass q
 pub count_below-cut : (n s : ℕ) (p q : ℕ → Bool) → s ≤ n → ((c : ℕ) → c < n → p c ≡ q c) → ((c : ℕ) → s ≤ c → q c ≡ false) → count_below n p ≡ count_below s q
 count_below-cut n s p q l e f =
     let d : n - s + s ≡ n = omega arith in

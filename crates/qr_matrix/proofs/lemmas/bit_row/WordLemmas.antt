@@ -27,15 +27,13 @@ three-ones a b c ha hb = omega (arith, ones_cat)
 pub three-below : (a b c : ℕ) → a < 2 ^ 64 → b < 2 ^ 64 → c < 2 ^ 64 → three a b c < 2 ^ 192
 three-below a b c ha hb hc = omega arith
 
--- if the word h, followed below by the word l of j + k bits, is shifted down by k bits, then the lower word of the result
--- is the disjunction of l, shifted down by k bits, and of h, shifted up by j bits
+-- two words, shifted down by k bits: the lower word is that of the low one shifted down, and of the high one shifted up
 two-down : (j k h l : ℕ) → l < 2 ^ (j + k) → (h * 2 ^ (j + k) + l) / 2 ^ k ≡ h / 2 ^ k * 2 ^ (j + k) + bit_or (l / 2 ^ k) (h * 2 ^ j % 2 ^ (j + k))
 two-down j k h l hl =
     let p = pow-add 2 j k in
     let q = h / 2 ^ k in
     let m = h % 2 ^ k in
     let hs = shr_split h k in
-    let ls = shr_split l k in
     let lm = mod_below l (2 ^ k) (pow_pos k) in
     let e : h * 2 ^ j ≡ q * 2 ^ (j + k) + m * 2 ^ j = ap (λ z. z * 2 ^ j) (sym hs) ∙ product q m (2 ^ j) (2 ^ k) (2 ^ (j + k)) p in
     let below : m * 2 ^ j < 2 ^ (j + k) = search (arith, shl_below) in
@@ -44,17 +42,10 @@ two-down j k h l hl =
     let s : h * 2 ^ (j + k) + l ≡ (h * 2 ^ j + l / 2 ^ k) * 2 ^ k + l % 2 ^ k = search arith in
     search (arith, shr_high)
   where
-    swap : (k j : ℕ) → k + j ≡ j + k
-    swap k j = omega arith
-
     product : (q m J K W : ℕ) → W ≡ J * K → (q * K + m) * J ≡ q * W + m * J
     product q m J K W e = let f = ap (λ z. q * z) e in omega arith
 
-    whole : (h l J K W x y : ℕ) → W ≡ J * K → x * K + y ≡ l → h * W + l ≡ (h * J + x) * K + y
-    whole h l J K W x y e f = let g = ap (λ z. h * z) e in omega arith
-
--- if the word h, followed below by the word l of 64 bits, is shifted down by k bits, then the lower word of the result is
--- the disjunction of l, shifted down by k bits, and of h, shifted up by j = 64 - k bits
+-- the same for words of 64 bits
 at-64 : (j k h l : ℕ) → j + k ≡ 64 → l < 2 ^ 64 → (h * 2 ^ 64 + l) / 2 ^ k ≡ h / 2 ^ k * 2 ^ 64 + bit_or (l / 2 ^ k) (h * 2 ^ j % 2 ^ 64)
 at-64 j k h l e = subst (λ z. l < 2 ^ z → (h * 2 ^ z + l) / 2 ^ k ≡ h / 2 ^ k * 2 ^ z + bit_or (l / 2 ^ k) (h * 2 ^ j % 2 ^ z)) e (two-down j k h l)
 
@@ -64,9 +55,6 @@ three-down a b c k hk ha hb =
     let e : 64 - k + k ≡ 64 = omega arith in
     let p = at-64 (64 - k) k (c * 2 ^ 64 + b) a e ha in
     search (arith, at-64, mul-add-mod_self_right)
-  where
-    spread : (c b J : ℕ) → (c * 2 ^ 64 + b) * J ≡ c * J * 2 ^ 64 + b * J
-    spread c b J = omega arith
 
 -- ---- the n lowest bits
 
@@ -74,13 +62,11 @@ three-down a b c k hk ha hb =
 pub three-low : (n x : ℕ) → x ≡ 2 ^ n - 1 → three x 0 0 ≡ 2 ^ n - 1
 three-low n x e = omega arith
 
--- if n is m + 64 and x is 2 ^ m - 1, then the bit row with a low word of ones and the middle word x has its n lowest bits
--- set
+-- a low word of ones and a middle word with m lowest bits set have m + 64 lowest bits set
 pub three-middle : (n m x : ℕ) → m + 64 ≡ n → x ≡ 2 ^ m - 1 → three (2 ^ 64 - 1) x 0 ≡ 2 ^ n - 1
 three-middle n m x e f = search (arith, pow-add, pow_pos)
 
--- if n is m + 128 and x is 2 ^ m - 1, then the bit row with two words of ones and the high word x has its n lowest bits
--- set
+-- two words of ones and a high word with m lowest bits set have m + 128 lowest bits set
 pub three-high : (n m x : ℕ) → m + 128 ≡ n → x ≡ 2 ^ m - 1 → three (2 ^ 64 - 1) (2 ^ 64 - 1) x ≡ 2 ^ n - 1
 three-high n m x e f = search (arith, pow-add, pow_pos)
 

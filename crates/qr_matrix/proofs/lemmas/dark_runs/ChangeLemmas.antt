@@ -8,17 +8,11 @@ use Rattle.qr_matrix.specs.{Runs.IsRunEnd, Steps.is_change}
 kept : (line : ℕ → Bool) (c : ℕ) → is_change line (suc c) ≡ false → line (suc c) ≡ line c
 unfolding is_change
 kept line c e = search (arith, nat_tests)
-  where
-    same : (a b : Bool) → not (is_same a b) ≡ false → a ≡ b
-    same a b h = grind (arith, nat_tests)
 
 -- if the colour changes at place c + 1, this place has the other colour than place c
 changed : (line : ℕ → Bool) (c : ℕ) → is_change line (suc c) ≡ true → line (suc c) ≡ not (line c)
 unfolding is_change
 changed line c e = search (arith, nat_tests)
-  where
-    other : (a b : Bool) → not (is_same a b) ≡ true → a ≡ not b
-    other a b h = grind (arith, nat_tests)
 
 -- if the colour does not change at any place after a, up to a + d, then place a + d has the colour of place a
 pub steady : (line : ℕ → Bool) (a d : ℕ) → ((c : ℕ) → a < c → c ≤ a + d → is_change line c ≡ false) → line (a + d) ≡ line a
@@ -35,17 +29,13 @@ steady-to line a b le none =
 
 -- if the conjunction of a and b is true, then a and b are true
 both : (a b : Bool) → (a && b) ≡ true → (a ≡ true) × (b ≡ true)
-both true true e = (refl, refl)
-both true false e = cc
-both false b e = cc
+both a b e = grind (arith, nat_tests)
 
 -- if the conjunction of a and b is false and b is true, then a is false
 left-fails : (a b : Bool) → (a && b) ≡ false → b ≡ true → a ≡ false
-left-fails true b e f = sym f ∙ e
-left-fails false b e f = refl
+left-fails a b e f = grind (arith, nat_tests)
 
--- the run of equal modules from `col` on ends at the first change after `col`, or at the side if there is no such
--- change
+-- a run of equal modules from `col` on ends at the first change after `col`, or at the side if there is none
 pub run-end-is : (g : Grid) (row col f end : ℕ) (later : ℕ → Bool) → col < g.side → g.side ≤ 177
     → ((c : ℕ) → c < 192 → later c ≡ (is_change (colour g row) c && not (ltb c (col + 1))))
     → ((c : ℕ) → c < f → later c ≡ false) → (f < 192 → later f ≡ true) → end ≡ min f g.side → IsRunEnd g row col end
@@ -64,7 +54,3 @@ run-end-is g row col f end later l s is before here e =
           let o = changed (colour g row) (end - 1) (ap (is_change (colour g row)) (sym n) ∙ t) in
           search arith;
     }
-  where
-    turned : (b : Bool) → b ≡ not b → ⊥
-    turned true e = cc
-    turned false e = cc

@@ -113,8 +113,7 @@ module _ (g : Grid) (row : ℕ) (few : g.side ≤ 177) (past : (c : ℕ) → g.s
     | inr m ↦ let h : true ≡ false = sym d ∙ past (k - 1) m in absurd (cc)
   ]
 
-  -- if the module before column k is light, the runs between the changes from k on are the runs from k on; if the modules
-  -- from column a to before k are dark, the first of these runs begins at a
+  -- the runs between the changes from k on are the runs from k on; if a to k - 1 are dark, the first begins at a
   runs-from : (n k : ℕ) → k + n ≡ 192
       → ((ltb 0 k && colour g row (k - 1)) ≡ false → AreRunsFrom g row k (runs_between (columns_passing old k n)))
       × ((a : ℕ) → a < k → ((c : ℕ) → a ≤ c → c < k → colour g row c ≡ true) → AreRunsFrom g row a (runs_between (a ∷ columns_passing old k n)))

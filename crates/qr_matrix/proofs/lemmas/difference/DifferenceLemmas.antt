@@ -11,8 +11,7 @@ use Rattle.qr_matrix.proofs.lemmas.runs.RowLemmas.{size-is}
 
 -- a colour is the same as itself
 same-self : (b : Bool) → is_same b b ≡ true
-same-self true = refl
-same-self false = refl
+same-self b = grind (arith, nat_tests)
 
 -- 1 if the test is passed
 abbrev one_if : Bool → ℕ

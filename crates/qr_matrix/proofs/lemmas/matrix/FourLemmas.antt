@@ -30,10 +30,7 @@ four-bits c p bits l = elim (cases_lt p (c + 4)) [
 ]
   where
     told : (a b h : Bool) → (b ≡ true) ⊎ (h ≡ false) → (a && h) ≡ (a && b && h)
-    told true b h (inl e) = sym (ap (λ z. z && h) e)
-    told true true h (inr e) = refl
-    told true false h (inr e) = e
-    told false b h e = refl
+    told a b h e = grind (arith, nat_tests)
 
 -- a word in which four bits are set is a bit row with these bits set
 pub four-set : (ws : List ℕ) (c k b bits : ℕ) → length ws ≡ 3 → ((j : ℕ) → get_or ws j 0 < 2 ^ 64) → c < 192 → c % 4 ≡ 0 → k ≡ c / 64 → b ≡ bits → bits < 16
@@ -59,11 +56,7 @@ four-set ws c k b bits l w h n f g few =
     none (leb c p) (ltb p (c + 4)) (has_bit bits (p - c)) (has ws p) t)
   where
     none : (a b h p : Bool) → (a && b) ≡ false → p ≡ (p || a && b && h)
-    none true true h p e = absurd (true≢false e)
-    none true false h true e = refl
-    none true false h false e = refl
-    none false b h true e = refl
-    none false b h false e = refl
+    none a b h p e = grind (arith, nat_tests)
 
 -- ---- four places of a square
 
@@ -73,8 +66,7 @@ painted-row g row col f b = square-same g.side (λ r c. cond (eqb r row && eqb c
     ap (λ z. cond (eqb r row && eqb c col) b z) (colour-square g.side (λ r c. cond (eqb r row) (f c) (colour g r c)) r c l m) ∙ told (eqb r row) (eqb c col) (f c) (colour g r c))
   where
     told : (t u x y : Bool) → cond (t && u) b (cond t x y) ≡ cond t (cond u b x) y
-    told true u x y = refl
-    told false u x y = refl
+    told t u x y = grind (arith, nat_tests)
 
 -- one place of a square that has another colour is painted
 painted-first : (g : Grid) (row col : ℕ) (b : Bool) → painted g row col b ≡ with_row g row (λ c. cond (eqb c col) b (colour g row c))
@@ -83,8 +75,7 @@ painted-first g row col b = square-same g.side (λ r c. cond (eqb r row && eqb c
     told (eqb r row) (eqb c col) (colour g r c) (colour g row c) same)
   where
     told : (t u x y : Bool) → (t ≡ true → x ≡ y) → cond (t && u) b x ≡ cond t (cond u b y) x
-    told true u x y h = ap (λ z. cond u b z) (h refl)
-    told false u x y h = refl
+    told t u x y h = grind (arith, nat_tests)
 
 -- a row with four other colours is a square with four places painted
 pub row-four : (g : Grid) (row col bits : ℕ) → with_row g row (λ c. cond (leb col c && ltb c (col + 4)) (has_bit bits (c - col)) (colour g row c))

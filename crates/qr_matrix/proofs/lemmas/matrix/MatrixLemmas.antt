@@ -18,8 +18,7 @@ dark-under : (rows : List (List ℕ)) (r c : ℕ) → length rows ≤ r → dark
 unfolding dark_in
 dark-under rows r c l = ap (λ z. has z c) (get_or_past rows r [] l) ∙ has-none c
 
--- the square of side s with the colours of `rows` has the same colour as `rows` at each place, also outside the square,
--- if there are s rows and no bit from s on is set
+-- the square of s rows in which no bit from s on is set has the colours of its rows, also outside it
 colour-is : (s : ℕ) (rows : List (List ℕ)) (r c : ℕ) → length rows ≡ s → ((r c : ℕ) → s ≤ c → dark_in rows r c ≡ false) → colour (square s (dark_in rows)) r c ≡ dark_in rows r c
 colour-is s rows r c e h = search (arith, colour-square, colour-outside, dark-under)
 
@@ -39,14 +38,12 @@ pub row-past : (s row i : ℕ) (rows : List (List ℕ)) (words : List ℕ) → i
 unfolding dark_in
 row-past s row i rows words e l h w c k = ap (λ z. has z c) (read-line rows row i words e l w) ∙ h row c k
 
--- after a bit row is written in which bit `col` alone was set to b, the place in this row and column has the colour b,
--- and all other places have their old colours
+-- after a bit row is written in which bit `col` alone was set to b, that place has the colour b, and all others stay
 dark-set : (rows : List (List ℕ)) (row col : ℕ) (words : List ℕ) (b : Bool) → row < length rows → ((i : ℕ) → has words i ≡ cond (eqb i col) b (has (get_or rows row []) i)) → (r c : ℕ) → dark_in (set rows row words) r c ≡ cond (eqb r row && eqb c col) b (dark_in rows r c)
 unfolding dark_in
 dark-set rows row col words b l h r c = search (arith, nat_tests, get_or-set_same, get_or-set_other)
 
--- after bit `col` of the bit row of index i is set to b, the place in this row and column has the colour b, and all
--- other places have their old colours
+-- after bit `col` of bit row i is set to b, that place has the colour b, and all others stay
 pub rows-set : (s row col i : ℕ) (rows : List (List ℕ)) (words new : List ℕ) (b : Bool) → i ≡ row → row < length rows → words ≡ get_or rows i words → ((k : ℕ) → has new k ≡ cond (eqb k col) b (has words k)) → (r c : ℕ) → dark_in (set rows i new) r c ≡ cond (eqb r row && eqb c col) b (dark_in rows r c)
 rows-set s row col i rows words new b e l q h r c = search (arith, get_or_read, dark-set)
 
@@ -68,29 +65,14 @@ line-set rows row i words f l r c = search (arith, nat_tests, get_or-set_same, g
 -- after a bit row is written that has no bit from s on set, still no bit from s on is set in any row
 pub line-inside : (s row : ℕ) (rows new : List (List ℕ)) (words : List ℕ) → ((r c : ℕ) → dark_in new r c ≡ cond (eqb r row) (has words c) (dark_in rows r c)) → ((c : ℕ) → s ≤ c → has words c ≡ false) → ((r c : ℕ) → s ≤ c → dark_in rows r c ≡ false) → (r c : ℕ) → s ≤ c → dark_in new r c ≡ false
 line-inside s row rows new words h w i r c k = search arith
-  where
-    both_false : (t x y : Bool) → x ≡ false → y ≡ false → cond t x y ≡ false
-    both_false true x y e f = e
-    both_false false x y e f = f
 
--- after a bit row is written whose bits below s are the colours f, the square is the old square g with this row
--- replaced by f
+-- after a bit row with the colours f is written, the square is the old square with this row replaced by f
 pub line-write : (s row : ℕ) (rows new : List (List ℕ)) (g : Grid) (words : List ℕ) (f : ℕ → Bool) → square s (dark_in rows) ≡ g → ((r c : ℕ) → dark_in new r c ≡ cond (eqb r row) (has words c) (dark_in rows r c)) → ((c : ℕ) → c < s → has words c ≡ f c) → square s (dark_in new) ≡ with_row g row f
 line-write s row rows new g words f v h e = search (arith, square-same, colour-square)
 
--- if bit d is the bit p of the plain row, inverted where x is set, and x is set where w and r are both set, then d is
--- the inverse of p where w and r are both set, and p elsewhere
+-- a bit of the plain row is inverted where w and r are both set
 pub masked-bit : (d p w r x : Bool) → d ≡ not (is_same p x) → x ≡ (w && r) → d ≡ cond (w && r) (not p) p
-masked-bit d true w r x e f = e ∙ (ap (λ z. not (is_same true z)) f ∙ told (w && r))
-  where
-    told : (t : Bool) → not t ≡ cond t false true
-    told true = refl
-    told false = refl
-masked-bit d false w r x e f = e ∙ (ap (λ z. not (is_same false z)) f ∙ told (w && r))
-  where
-    told : (t : Bool) → not (not t) ≡ cond t true false
-    told true = refl
-    told false = refl
+masked-bit d p w r x e f = grind (arith, nat_tests)
 
 -- a bit that is set neither in the plain row nor in `within` is not set in the masked row
 pub masked-past : (d p w r x : Bool) → d ≡ not (is_same p x) → x ≡ (w && r) → p ≡ false → w ≡ false → d ≡ false

@@ -28,12 +28,7 @@ owed one two = cond one 2 (cond two 1 0)
 
 step : (f one two : Bool) → (two ≡ true → one ≡ false → f ≡ false) → cond f 1 0 + 2 * cond (f && not one) 1 0 + owed one two ≡ cond ((f || one) || two) 1 0 + owed f one
 unfolding owed
-step true true two h = refl
-step true false true h = absurd (true≢false (h refl refl))
-step true false false h = refl
-step false true two h = refl
-step false false true h = refl
-step false false false h = refl
+step f one two h = grind (arith, nat_tests)
 
 -- the points that are owed after module n
 owed-next : (s : ℕ) (line : ℕ → Bool) (n m : ℕ) → m ≡ n + 1 → owed (one_before s line m) (two_before s line m) ≡ owed (begins_five s line n) (one_before s line n)
@@ -65,13 +60,8 @@ charged-cost s line =
 charged-past : (s : ℕ) (line : ℕ → Bool) (c : ℕ) → s ≤ c → is_charged s line c ≡ false
 unfolding is_charged
 charged-past s line c h = search (arith, five-past, and-false)
-  where
-    none : (a b d : Bool) → a ≡ false → b ≡ false → d ≡ false → ((a || b) || d) ≡ false
-    none a b d e f g = λ i. (e i || f i) || g i
 
--- the number of set bits of t is the cost of the runs, if bit c of the bit row j is set where module c is joined to the
--- next, bit c of f where the bits c to c + 3 of j are set, and bit c of t where one of the bits c, c - 1 and c - 2 of f
--- is set
+-- if j has the joins, f the places where four begin, and t those up to two after one of f, then t has the cost
 pub row_cost : (s : ℕ) (line : ℕ → Bool) (j f t : List ℕ) → s ≤ 192 → ((c : ℕ) → has j c ≡ joins s line c) → ((c : ℕ) → has f c ≡ ((has j c && has j (c + 1)) && (has j (c + 2) && has j (c + 3))))
     → ((c : ℕ) → c < 192 → has t c ≡ ((has f c || (ltb 0 c && has f (c - 1))) || (ltb 1 c && has f (c - 2)))) → size_of t ≡ place_cost s line
 unfolding is_charged

@@ -14,8 +14,7 @@ pub has-nothing : (c : ℕ) → has (0 ∷ 0 ∷ 0 ∷ []) c ≡ false
 unfolding has bit_row_number has_bit
 has-nothing c = ap (λ z. eqb z 1) (bit_at-zero c)
 
--- if bit x is set in the columns below s whose place does not differ from the place below it, then x is set exactly
--- where column c is below s and the place is joined to the place below it
+-- a bit that is set in the columns whose place does not differ from that below it is set where they are joined
 pub joins-down-bit : (s : ℕ) (line : ℕ → Bool) (c r : ℕ) (x i d : Bool) → r + 1 < s → x ≡ (i && not d) → i ≡ ltb c s → d ≡ not (is_same (line r) (line (r + 1))) → x ≡ (ltb c s && joins s line r)
 unfolding joins
 joins-down-bit s line c r x i d h e f g = search (arith, nat_tests, not-not)
@@ -34,11 +33,9 @@ guarded s c b h = search (arith, nat_tests, past)
 
 -- four tests that are each guarded by u are the same as the guard u together with the four tests
 guarded-five : (u a b d e : Bool) → (((u && a) && (u && b)) && ((u && d) && (u && e))) ≡ (u && ((a && b) && (d && e)))
-guarded-five true a b d e = refl
-guarded-five false a b d e = refl
+guarded-five u a b d e = grind (arith, nat_tests)
 
--- if bit x is set where four places in turn of column c are joined to the places below them, then x is set exactly
--- where column c is below s and five equal places of it begin in row r
+-- a bit that is set where four places in turn of a column are joined is set where five equal ones begin
 pub five-down-bit : (s : ℕ) (line : ℕ → Bool) (c r : ℕ) (x y z p q m n : Bool) → x ≡ (y && z) → y ≡ (p && q) → z ≡ (m && n) → p ≡ (ltb c s && joins s line r) → q ≡ (ltb c s && joins s line (r + 1)) → m ≡ (ltb c s && joins s line (r + 2)) → n ≡ (ltb c s && joins s line (r + 3)) → x ≡ (ltb c s && begins_five s line r)
 unfolding begins_five
 five-down-bit s line c r x y z p q m n ex ey ez ep eq em en = search (arith, guarded-five)
@@ -47,21 +44,18 @@ five-down-bit s line c r x y z p q m n ex ey ez ep eq em en = search (arith, gua
 guarded-three : (u t w f g h : Bool) → (((u && f) || (t && (u && g))) || (w && (u && h))) ≡ (u && ((f || (t && g)) || (w && h)))
 guarded-three u t w f g h = grind (arith, nat_tests)
 
--- as many numbers below 192 pass the test t as numbers below s pass the test p, if t is p guarded by the test that a
--- number is below s
+-- as many numbers below 192 pass a test that is guarded by `below s` as numbers below s pass it
 guarded-count : (s : ℕ) (t p : ℕ → Bool) → s ≤ 192 → ((c : ℕ) → t c ≡ (ltb c s && p c)) → count_below 192 t ≡ count_below s p
 guarded-count s t p l h =
     count_below-cut 192 s t (λ c. ltb c s && p c) l (λ c k. h c) (λ c k. past s c (p c) k)
     ∙ count_below-same s (λ c. ltb c s && p c) p (λ c k. let e : ltb c s ≡ true = grind (arith, nat_tests) in ap (λ z. z && p c) e)
 
--- a bit row has as many set bits as numbers below s pass the test p, if its bits are p guarded by the test that a
--- column is below s
+-- a bit row whose bits are such a test has as many set bits as numbers below s pass it
 pub guarded-size : (s : ℕ) (words : List ℕ) (p : ℕ → Bool) → s ≤ 192 → ((c : ℕ) → has words c ≡ (ltb c s && p c)) → size_of words ≡ count_below s p
 unfolding size_of
 guarded-size s words p l h = guarded-count s (has words) p l h
 
--- the number of bits of the bit row t is the share of row r in the cost of the runs of all columns, if a bit of t is set
--- where five modules of one colour begin in row r or in one of the two rows above it
+-- the bits where five of one colour begin in row r or the two above it are the row's share in the cost of all columns
 pub share-of : (s : ℕ) (dark : ℕ → ℕ → Bool) (r : ℕ) (t f a b : List ℕ) → s ≤ 192 → ((c : ℕ) → has t c ≡ ((has f c || has a c) || has b c))
     → ((c : ℕ) → has f c ≡ (ltb c s && begins_five s (λ i. dark i c) r)) → ((c : ℕ) → has a c ≡ (ltb 0 r && (ltb c s && begins_five s (λ i. dark i c) (r - 1))))
     → ((c : ℕ) → has b c ≡ (ltb 1 r && (ltb c s && begins_five s (λ i. dark i c) (r - 2)))) → size_of t ≡ row_share s dark r

@@ -7,8 +7,7 @@ use Rattle.qr_matrix.proofs.lemmas.bit_row.BoolLemmas.{and-false, false-and, not
 
 -- ---- the number of set bits
 
--- if bit c of a bit row is set just where c passes the test q, which no c from s on passes, then as many bits are set
--- as c below s pass q
+-- a bit row whose bits pass a test that nothing from s on passes has as many set bits as numbers below s pass it
 pub size-is : (s : ℕ) (words : List ℕ) (q : ℕ → Bool) → s ≤ 192 → ((c : ℕ) → c < 192 → has words c ≡ q c) → ((c : ℕ) → s ≤ c → q c ≡ false) → size_of words ≡ count_below s q
 unfolding size_of
 size-is s words q l e f = count_below-cut 192 s (has words) q l e f
@@ -30,8 +29,7 @@ pub five-past : (s : ℕ) (line : ℕ → Bool) (c : ℕ) → s ≤ c + 4 → be
 unfolding begins_five
 five-past s line c h = search (arith, and-false, joins-past)
 
--- a bit that is set just where the four modules from module c on are joined is set just where five modules of one
--- colour begin at c
+-- the four modules from module c on are joined just when five modules of one colour begin at c
 pub five-bit : (s : ℕ) (line j : ℕ → Bool) (c : ℕ) (f : Bool) → ((c : ℕ) → j c ≡ joins s line c) → f ≡ ((j c && j (c + 1)) && (j (c + 2) && j (c + 3))) → f ≡ begins_five s line c
 unfolding begins_five
 five-bit s line j c f h e = search arith

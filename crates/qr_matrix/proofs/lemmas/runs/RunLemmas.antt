@@ -1,16 +1,10 @@
--- The cost of the maximal runs of a row or column is the cost that is counted module by module. A module is joined if
--- the module after it has its colour, and has ahead the modules after it that belong to its run.
+-- The cost of the maximal runs is the cost counted module by module. A joined module has the colour of the next one.
 use Rattle.std.proofs.Common.{◌≡◌, ℕ, zero, suc, ◌+◌, ◌-◌, ◌*◌, ◌<◌, ◌≤◌, ◌⊎◌, inl, inr, eqb, ltb, leb, Bool, true, false, not, ◌&&◌, ◌||◌, cond, refl, sym, ap, ◌∙◌, arith}
-use Rattle.std.proofs.lemmas.Bool.{cases_lt, Decides.nat_tests}
+use Rattle.std.proofs.lemmas.Bool.{cases_Bool, cases_lt, Decides.nat_tests}
 use Rattle.qr_matrix.specs.{Grid.is_same, Sums.all_below, Sums.sum_below, Penalty.is_run, Penalty.run_cost}
 use Rattle.qr_matrix.specs.Runs.{joins, begins_five, begins_long_run, place_cost}
 use Rattle.qr_matrix.proofs.lemmas.bit_row.SumLemmas.{sum_below-same, sum_below-add, sum_below-scale, sum_below-one}
 use Rattle.qr_matrix.proofs.lemmas.{bit_row.BoolLemmas.and-false, runs.RowLemmas.joins-past}
-
--- each test b is true or false
-true_or_false : (b : Bool) → (b ≡ true) ⊎ (b ≡ false)
-true_or_false true = inl refl
-true_or_false false = inr refl
 
 -- ---- tests of all numbers below a bound
 
@@ -36,8 +30,7 @@ ahead j (suc n) a = cond (j a) (suc (ahead j n (a + 1))) 0
 
 -- two equal colours a and b pass the test `is_same`
 same-self : (a b : Bool) → a ≡ b → is_same a b ≡ true
-same-self true b e = sym e
-same-self false b e = ap not (sym e)
+same-self a b e = grind (arith, nat_tests)
 
 -- if module a is joined, then there is a module after it, which has its colour
 joins-true : (s : ℕ) (line : ℕ → Bool) (a : ℕ) → joins s line a ≡ true → (a + 1 < s) × (line (a + 1) ≡ line a)
@@ -57,8 +50,7 @@ ahead-true j n a e = ap (λ z. cond z (suc (ahead j n (a + 1))) 0) e
 -- if module a is not joined, then it has 0 modules ahead
 ahead-false : (j : ℕ → Bool) (n a : ℕ) → j a ≡ false → ahead j n a ≡ 0
 unfolding ahead
-ahead-false j zero a e = refl
-ahead-false j (suc n) a e = ap (λ z. cond z (suc (ahead j n (a + 1))) 0) e
+ahead-false j n a e = grind (arith, nat_tests)
 
 -- if module a has at least k modules ahead, then module a + k is not past the side and has the colour of a
 stretch : (s : ℕ) (line : ℕ → Bool) (n a k : ℕ) → a + n ≡ s → 0 < n → k ≤ ahead (joins s line) n a → (a + k < s) × (line (a + k) ≡ line a)
@@ -67,7 +59,7 @@ stretch s line (suc n) a zero e p h = (omega arith, ap line (plain a))
   where
     plain : (a : ℕ) → a + 0 ≡ a
     plain a = omega arith
-stretch s line (suc n) a (suc k) e p h = elim (true_or_false (joins s line a)) [
+stretch s line (suc n) a (suc k) e p h = elim (cases_Bool (joins s line a)) [
   | inl t ↦
       let f = ahead-true (joins s line) n a t in
       let u = joins-true s line a t in
@@ -78,16 +70,13 @@ stretch s line (suc n) a (suc k) e p h = elim (true_or_false (joins s line a)) [
 -- the module after those that module a has ahead is past the side or has another colour
 stretch-end : (s : ℕ) (line : ℕ → Bool) (n a : ℕ) → a + n ≡ s → 0 < n → (a + suc (ahead (joins s line) n a) ≡ s) ⊎ (is_same (line (a + suc (ahead (joins s line) n a))) (line a) ≡ false)
 stretch-end s line zero a e p = absurd (omega arith)
-stretch-end s line (suc n) a e p = elim (true_or_false (joins s line a)) [
+stretch-end s line (suc n) a e p = elim (cases_Bool (joins s line a)) [
   | inl t ↦
       let f = ahead-true (joins s line) n a t in
       let u = joins-true s line a t in
       search (arith, stretch-end s line n (a + 1) (omega arith) (omega arith))
   | inr t ↦ search (arith, ahead-false, joins-false)
 ]
-  where
-    turn : (a b : Bool) → is_same a b ≡ is_same b a
-    turn a b = grind (arith, nat_tests)
 
 -- ---- the maximal run from a module on, if a run begins at this module
 
@@ -102,13 +91,8 @@ run_len s line a = suc (ahead (joins s line) (s - a) a)
 -- if p, q and r are true, then the conjunction of p, q, h and r is h
 four : (p q h r : Bool) → p ≡ true → q ≡ true → r ≡ true → (((p && q) && h) && r) ≡ h
 four p q h r a b c = search arith
-  where
-    last : (h : Bool) → (h && true) ≡ h
-    last true = refl
-    last false = refl
 
--- a maximal run of k modules begins at module a just when no module before a belongs to its run, and the run has k
--- modules from a on
+-- a maximal run of k modules begins at module a just when the run of a begins there and has k modules
 is_run-is : (s : ℕ) (line : ℕ → Bool) (a k : ℕ) → a < s → is_run s line a k ≡ (heads line a && eqb k (run_len s line a))
 unfolding is_run
 is_run-is s line a k l =
@@ -128,19 +112,10 @@ is_run-is s line a k l =
         | inr g ↦ search (arith, nat_tests, all_below-true, same-self, stretch-end, four)
       ]
     ]
-  where
-    last : (h : Bool) → h ≡ (h && true)
-    last true = refl
-    last false = refl
-
-    or-true : (a b : Bool) → b ≡ true → (a || b) ≡ true
-    or-true true b e = refl
-    or-true false b e = e
 
 -- ---- the sum over the lengths
 
--- the costs of the maximal runs that begin at module a, summed over all lengths, are the cost of its run, if this
--- begins at a and has at least 5 modules, else 0
+-- the costs of the maximal runs from module a on, over all lengths, are the cost of its run, if this counts, else 0
 run_at : (s : ℕ) (line : ℕ → Bool) (a : ℕ) → a < s → sum_below (s + 1) (λ k. cond (leb 5 k && is_run s line a k) (k - 2) 0) ≡ cond (leb 5 (run_len s line a) && heads line a) (run_len s line a - 2) 0
 run_at s line a l =
     let m = run_len s line a in
@@ -148,9 +123,6 @@ run_at s line a l =
     sum_below-same (s + 1) (λ k. cond (leb 5 k && is_run s line a k) (k - 2) 0) (λ k. cond (eqb k m) (cond (leb 5 k && heads line a) (k - 2) 0) 0)
     (search (arith, is_run-is))
     ∙ sum_below-one (s + 1) m (λ k. cond (leb 5 k && heads line a) (k - 2) 0) (omega arith)
-  where
-    turn : (u h e : Bool) (x : ℕ) → cond (u && (h && e)) x 0 ≡ cond e (cond (u && h) x 0) 0
-    turn u h e x = grind (arith, nat_tests)
 
 -- ---- module by module
 
@@ -162,26 +134,15 @@ left s line a = ahead (joins s line) (s - a) a
 left-is : (s : ℕ) (line : ℕ → Bool) (a : ℕ) → left s line a ≡ cond (joins s line a) (suc (left s line (a + 1))) 0
 unfolding ahead
 left-is s line a = search (arith, joins-past, ahead-false)
-  where
-    step : (j : ℕ → Bool) (n a : ℕ) → ahead j (suc n) a ≡ cond (j a) (suc (ahead j n (a + 1))) 0
-    step j n a = refl
 
--- if a module and the four after it have `a`, b, c, d and e modules ahead, and i, j, k and l are the tests that the
--- first four are joined, then these tests all pass just when `a` is at least 4
+-- a module and the three after it are joined just when it has at least four modules ahead
 five-from : (a b c d e : ℕ) (i j k l : Bool) → a ≡ cond i (suc b) 0 → b ≡ cond j (suc c) 0 → c ≡ cond k (suc d) 0 → d ≡ cond l (suc e) 0 → ((i && j) && (k && l)) ≡ leb 4 a
-five-from a b c d e true true true true p q r s = grind (arith, nat_tests)
-five-from a b c d e true true true false p q r s = grind (arith, nat_tests)
-five-from a b c d e true true false l p q r s = grind (arith, nat_tests)
-five-from a b c d e true false k l p q r s = grind (arith, nat_tests)
-five-from a b c d e false j k l p q r s = grind (arith, nat_tests)
+five-from a b c d e i j k l p q r s = grind (arith, nat_tests)
 
 -- five modules of one colour begin at module a just when it has at least four modules ahead
 five-is : (s : ℕ) (line : ℕ → Bool) (a : ℕ) → begins_five s line a ≡ leb 4 (left s line a)
 unfolding begins_five
 five-is s line a = search (arith, five-from, left-is)
-  where
-    next : (i k : ℕ) → a + i + 1 ≡ a + k → left s line (a + i) ≡ cond (joins s line (a + i)) (suc (left s line (a + k))) 0
-    next i k e = left-is s line (a + i) ∙ ap (λ z. cond (joins s line (a + i)) (suc (left s line z)) 0) e
 
 -- no module before module a belongs to its run just when there is no joined module before it
 heads-is : (s : ℕ) (line : ℕ → Bool) (a : ℕ) → a < s → heads line a ≡ not (ltb 0 a && joins s line (a - 1))
@@ -192,42 +153,32 @@ heads-is s line a h = search (arith, nat_tests)
 abbrev cost_at : ℕ → (ℕ → Bool) → ℕ → ℕ
 cost_at s line a = cond (leb 5 (run_len s line a) && heads line a) (run_len s line a - 2) 0
 
--- the cost that is counted at module a: 1 if five modules of one colour begin there, and 2 more if their run begins
--- there
+-- the cost that is counted at module a: 1 if five of one colour begin there, and 2 more if their run does
 abbrev place_at : ℕ → (ℕ → Bool) → ℕ → ℕ
 place_at s line a = cond (begins_five s line a) 1 0 + 2 * cond (begins_long_run s line a) 1 0
 
--- the open cost at module a: if its run begins before a, the number of modules of this run from a on at which five
--- modules of one colour begin, else 0
+-- the open cost at module a: if its run begins before it, the number of its modules from a on at which five begin
 abbrev open_at : ℕ → (ℕ → Bool) → ℕ → ℕ
 open_at s line a = cond (ltb 0 a && joins s line (a - 1)) (left s line a - 3) 0
 
--- if a module has `a` modules ahead and the next has `b`, j is the test that the module is joined, and f that the one
--- before it is, then the cost counted at the module plus the open cost at the next is the cost of the run that begins
--- at the module plus the open cost at the module
+-- the cost counted at a module plus the open cost at the next is the cost of its run plus the open cost at it
 balance : (a b : ℕ) (j f : Bool) → a ≡ cond j (suc b) 0 → cond (leb 4 a) 1 0 + 2 * cond (leb 4 a && not f) 1 0 + cond j (b - 3) 0 ≡ cond (leb 5 (suc a) && not f) (suc a - 2) 0 + cond f (a - 3) 0
-balance a b true true e = grind (arith, nat_tests)
-balance a b true false e = grind (arith, nat_tests)
-balance a b false true e = grind (arith, nat_tests)
-balance a b false false e = grind (arith, nat_tests)
+balance a b j f e = grind (arith, nat_tests)
 
 -- the open cost at module a + 1 is the number of modules that it has ahead, less 3, if module a is joined, else 0
 open-next : (s : ℕ) (line : ℕ → Bool) (a : ℕ) → open_at s line (a + 1) ≡ cond (joins s line a) (left s line (a + 1) - 3) 0
 open-next s line a = search (arith, nat_tests)
 
--- a run of five modules or more begins at module a just when it has at least four modules ahead and the module before
--- it is not joined
+-- a run of five or more begins at a module that has four ahead, if the module before it is not joined
 begins_long_run-is : (s : ℕ) (line : ℕ → Bool) (a : ℕ) → begins_long_run s line a ≡ (leb 4 (left s line a) && not (ltb 0 a && joins s line (a - 1)))
 unfolding begins_long_run
 begins_long_run-is s line a = cc (five-is s line a)
 
--- the cost counted at module a plus the open cost at a + 1 is the cost of the run that begins at a plus the open cost
--- at a
+-- the same at module a
 place-step : (s : ℕ) (line : ℕ → Bool) (a : ℕ) → a < s → place_at s line a + open_at s line (a + 1) ≡ cost_at s line a + open_at s line a
 place-step s line a h = grind (arith, balance, left-is, five-is, begins_long_run-is, open-next, heads-is)
 
--- the cost counted at the first n modules plus the open cost at module n is the cost of the runs that begin at these
--- modules
+-- the cost counted at the first n modules plus the open cost at n is the cost of the runs that begin at them
 places-sum : (s : ℕ) (line : ℕ → Bool) (n : ℕ) → n ≤ s → sum_below n (place_at s line) + open_at s line n ≡ sum_below n (cost_at s line)
 places-sum s line zero h = refl
 places-sum s line (suc n) h = search (arith, place-step, places-sum s line n (omega arith))
@@ -236,8 +187,7 @@ places-sum s line (suc n) h = search (arith, place-step, places-sum s line n (om
 open-end : (s : ℕ) (line : ℕ → Bool) → open_at s line s ≡ 0
 open-end s line = search (arith, and-false, joins-past, nat_tests)
 
--- the cost of the maximal runs is 1 for each module at which five modules of one colour begin, and 2 more for each of
--- these at which their run begins
+-- runs cost 1 for each module at which five of one colour begin, and 2 more for each at which their run does
 pub runs-by-places : (s : ℕ) (line : ℕ → Bool) → run_cost s line ≡ place_cost s line
 unfolding run_cost place_cost
 runs-by-places s line =

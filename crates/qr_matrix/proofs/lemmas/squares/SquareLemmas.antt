@@ -7,15 +7,9 @@ use Rattle.qr_matrix.proofs.lemmas.{runs.RowLemmas.size-is, bit_row.BoolLemmas.a
 
 -- four modules p, q, m and n are equal exactly if p is joined to q in its row, and p to m and q to n in their columns
 square-bools : (t u w p q m n : Bool) → (t ≡ true → u ≡ true) → (((t && is_same p q) && (u && (w && is_same p m))) && (t && (w && is_same q n))) ≡ ((((w && t) && is_same p q) && is_same p m) && is_same p n)
-square-bools false u true p q m n f = refl
-square-bools false u false p q m n f = refl
-square-bools true u w p q m n f = subst (λ z. ((is_same p q && (z && (w && is_same p m))) && (w && is_same q n)) ≡ ((((w && true) && is_same p q) && is_same p m) && is_same p n)) (sym (f refl)) (all w p q m n)
-  where
-    all : (w p q m n : Bool) → ((is_same p q && (w && is_same p m)) && (w && is_same q n)) ≡ ((((w && true) && is_same p q) && is_same p m) && is_same p n)
-    all w p q m n = grind (arith, nat_tests)
+square-bools t u w p q m n f = grind (arith, nat_tests)
 
--- if bit x is set where a join in row r and joins in the columns c and c + 1 begin, then x is set exactly where a
--- square of two by two modules of one colour begins
+-- a bit that is set where a join in row r and joins in columns c and c + 1 begin is set where a square of two begins
 pub square-bit : (s : ℕ) (dark : ℕ → ℕ → Bool) (r c : ℕ) (x a d e : Bool) → x ≡ ((a && d) && e) → a ≡ joins s (dark r) c → d ≡ (ltb c s && joins s (λ i. dark i c) r) → e ≡ (ltb (c + 1) s && joins s (λ i. dark i (c + 1)) r) → x ≡ is_square_of_two s dark r c
 unfolding is_square_of_two joins
 square-bit s dark r c x a d e ex ea ed ee =
@@ -31,7 +25,6 @@ square-past s dark r c h =
     ap (λ z. ltb (r + 1) s && z && is_same (dark r c) (dark r (c + 1)) && is_same (dark r c) (dark (r + 1) c) && is_same (dark r c) (dark (r + 1) (c + 1))) w
     ∙ ap (λ z. z && is_same (dark r c) (dark r (c + 1)) && is_same (dark r c) (dark (r + 1) c) && is_same (dark r c) (dark (r + 1) (c + 1))) (and-false (ltb (r + 1) s) false refl)
 
--- a bit row has as many set bits as squares of two by two modules begin in row r, if its bits are the places where they
--- begin
+-- a bit row whose bits are the places of row r where squares of two begin has as many set bits as squares begin there
 pub squares-row : (s : ℕ) (dark : ℕ → ℕ → Bool) (r : ℕ) (words : List ℕ) → s ≤ 192 → ((c : ℕ) → has words c ≡ is_square_of_two s dark r c) → size_of words ≡ count_below s (is_square_of_two s dark r)
 squares-row s dark r words l h = size-is s words (is_square_of_two s dark r) l (λ c k. h c) (λ c k. square-past s dark r c k)

@@ -1,5 +1,4 @@
--- A tile of 64 words of 64 bits is transposed by an exchange of parts in six stages. A part has s rows and s columns in
--- each stage; a pair of parts has 2 * s.
+-- A tile of 64 words of 64 bits is transposed in six stages, each of which exchanges parts of s rows and s columns.
 use Rattle.std.proofs.Common.{List, length, get_or, set, replicate, ◌≡◌, ◌≢◌, ℕ, ◌+◌, ◌-◌, ◌*◌, ◌/◌, ◌%◌, ◌^◌, ◌<◌, ◌≤◌, min, eqb, ltb, Bool, true, false, not, ◌&&◌, cond, bit_and, bit_xor, refl, ap, ◌∙◌, ◌||◌, inl, inr, ◌⊎◌, arith}
 use Rattle.std.proofs.{lemmas.Nat.mod-mul-add, lemmas.Nat.shr_split, Math.Nat.mod-eq_of_lt, Math.Nat.mul-mod_right}
 use Rattle.std.proofs.{Math.ListN.length-set, lemmas.Nat.Bits.bit_at_cat_low, lemmas.Nat.Bits.bit_at-zero}
@@ -40,12 +39,8 @@ changed a b m = grind (arith, nat_tests)
 -- a bit that is changed where it differs from another and a mask lets it
 replaced : (n b m t : Bool) → m ≡ t → not (is_same n (not (is_same n b) && m)) ≡ cond t b n
 replaced n b m t e = search arith
-  where
-    told : (n b t : Bool) → not (is_same n (not (is_same n b) && t)) ≡ cond t b n
-    told n b t = grind (arith, nat_tests)
 
--- after the exchange of the words u and l, bit c of the upper word is bit c of u in the left part, and bit c - s of l in
--- the right part; the mask m contains the columns of the left parts
+-- the upper word after an exchange: bit c of u in the left part, and bit c - s of l in the right part
 pub upper-word : (u l s m c : ℕ) → 1 ≤ s → ((c : ℕ) → c < 64 → has_bit m c ≡ ltb (c % (2 * s)) s) → c < 64
     → has_bit (bit_xor u (bit_and (bit_xor (u / 2 ^ s) l) m * 2 ^ s % 2 ^ 64)) c ≡ cond (ltb (c % (2 * s)) s) (has_bit u c) (has_bit l (c - s))
 upper-word u l s m c p masks h =
@@ -57,17 +52,8 @@ upper-word u l s m c p masks h =
           let e : s + x ≡ c = omega arith in
           grind (arith, mod-up, nat_tests, mod-down, has_bit-shl-high, has_bit-and, has_bit-xor, has_bit-shr)
     ])
-  where
-    kept : (n : Bool) → not (is_same n false) ≡ n
-    kept true = refl
-    kept false = refl
 
-    told : (a b t : Bool) → not (is_same a (not (is_same a b) && not t)) ≡ cond t a b
-    told a b true = replaced a b false false refl
-    told a b false = replaced a b true true refl
-
--- after the exchange of the words u and l, bit c of the lower word is bit c + s of u in the left part, and bit c of l in
--- the right part
+-- the lower word after an exchange: bit c + s of u in the left part, and bit c of l in the right part
 pub lower-word : (u l s m c : ℕ) → ((c : ℕ) → c < 64 → has_bit m c ≡ ltb (c % (2 * s)) s) → c < 64
     → has_bit (bit_xor l (bit_and (bit_xor (u / 2 ^ s) l) m)) c ≡ cond (ltb (c % (2 * s)) s) (has_bit u (c + s)) (has_bit l c)
 lower-word u l s m c masks h = search (arith, has_bit-xor, has_bit-and, has_bit-shr, changed)
@@ -78,8 +64,7 @@ lower-word u l s m c masks h = search (arith, has_bit-xor, has_bit-and, has_bit-
 pub word-read : (ws : List ℕ) (k c : ℕ) → ((j : ℕ) → get_or ws j 0 < 2 ^ 64) → k < 3 → c < 64 → has_bit (get_or ws k 0) c ≡ has ws (64 * k + c)
 word-read ws k c w n l = search (arith, has-place)
 
--- if word k of a bit row is replaced by x, then bit i of the result is bit i % 64 of x if it is in word k, else bit i of
--- the old bit row
+-- if word k of a bit row is replaced by x, its bits are those of x, and all others stay
 pub word-put : (ws : List ℕ) (k x : ℕ) → length ws ≡ 3 → ((j : ℕ) → get_or ws j 0 < 2 ^ 64) → x < 2 ^ 64 → k < 3 → (i : ℕ) → has (set ws k x) i ≡ cond (eqb (i / 64) k) (has_bit x (i % 64)) (has ws i)
 word-put ws k x l w m n = word-step ws k x (λ i. cond (eqb (i / 64) k) (has_bit x (i % 64)) (has ws i)) l w m n
     (search (arith, nat_tests))
@@ -95,20 +80,17 @@ two-first w i k u v l n = get_or-set_other (set w i u) k i v 0 n ∙ get_or-set_
 pub two-other : (w : List ℕ) (i k u v r : ℕ) → r ≢ i → r ≢ k → get_or (set (set w i u) k v) r 0 ≡ get_or w r 0
 two-other w i k u v r m n = search (arith, get_or-set_other)
 
--- in a row r of an upper part, the exchange keeps the left part, and moves the bit from s rows below and s columns to the
--- left into the right part
+-- a row of an upper part keeps its left part, and its right part comes from s rows below and s columns to the left
 exchanged-upper : (s : ℕ) (f : ℕ → ℕ → Bool) (r c : ℕ) → r % (2 * s) < s → exchanged s f r c ≡ cond (ltb (c % (2 * s)) s) (f r c) (f (r + s) (c - s))
 unfolding exchanged
 exchanged-upper s f r c l = search (arith, nat_tests)
 
--- in a row r of a lower part, the exchange keeps the right part, and moves the bit from s rows above and s columns to the
--- right into the left part
+-- a row of a lower part keeps its right part, and its left part comes from s rows above and s columns to the right
 exchanged-lower : (s : ℕ) (f : ℕ → ℕ → Bool) (r c : ℕ) → s ≤ r % (2 * s) → exchanged s f r c ≡ cond (ltb (c % (2 * s)) s) (f (r - s) (c + s)) (f r c)
 unfolding exchanged
 exchanged-lower s f r c l = search (arith, nat_tests)
 
--- w is the tile b in which the parts were exchanged in the rows from `first` to `row` - 1; if u is the exchanged word of
--- row `row`, then in w with u and v written to rows `row` and `row + s` the rows up to `row` are exchanged
+-- if the upper rows before `row` are exchanged in w, and u is its exchanged word, then writing u exchanges it
 pub upper-more : (s first row : ℕ) (w b : List ℕ) (u v : ℕ) → 1 ≤ s → length w ≡ 64 → first % (2 * s) ≡ 0 → first ≤ row → row < first + s → first + 2 * s ≤ 64
     → get_or w row 0 ≡ get_or b row 0 → get_or w (row + s) 0 ≡ get_or b (row + s) 0
     → ((c : ℕ) → c < 64 → has_bit u c ≡ cond (ltb (c % (2 * s)) s) (has_bit (get_or w row 0) c) (has_bit (get_or w (row + s) 0) (c - s)))
@@ -122,8 +104,7 @@ upper-more s first row w b u v p n f l m k e g h before r c lr mr hc = elim (cas
   | inr q ↦ search (arith, two-other)
 ]
 
--- w is the tile b in which the parts were exchanged in the rows from `first + s` to `row + s` - 1; if v is the exchanged
--- word of row `row + s`, then in w with u and v written to rows `row` and `row + s` the rows up to `row + s` are exchanged
+-- if the lower rows before `row + s` are exchanged in w, and v is its exchanged word, then writing v exchanges it
 pub lower-more : (s first row : ℕ) (w b : List ℕ) (u v : ℕ) → 1 ≤ s → length w ≡ 64 → first % (2 * s) ≡ 0 → first ≤ row → row < first + s → first + 2 * s ≤ 64
     → get_or w row 0 ≡ get_or b row 0 → get_or w (row + s) 0 ≡ get_or b (row + s) 0
     → ((c : ℕ) → c < 64 → has_bit v c ≡ cond (ltb (c % (2 * s)) s) (has_bit (get_or w row 0) (c + s)) (has_bit (get_or w (row + s) 0) c))
@@ -139,14 +120,12 @@ lower-more s first row w b u v p n f l m k e g h before r c lr mr hc = elim (cas
 
 -- ---- one stage
 
--- if row r and the row with which it is exchanged are the same in the tiles w and b, then bit c of row r is the same after
--- the exchange of w as after the exchange of b
+-- an exchange makes the same row of two tiles that agree on it and on the row with which it is exchanged
 exchanged-same : (s : ℕ) (w b : List ℕ) (r c : ℕ) → get_or w r 0 ≡ get_or b r 0 → get_or w (r + s) 0 ≡ get_or b (r + s) 0 → (s ≤ r % (2 * s) → get_or w (r - s) 0 ≡ get_or b (r - s) 0) → exchanged s (bit_in w) r c ≡ exchanged s (bit_in b) r c
 unfolding bit_in
 exchanged-same s w b r c e f g = search (arith, exchanged-upper, exchanged-lower)
 
--- if the rows of the first k pairs of parts of the tile w are exchanged, the rows after them are as in the tile b, and n
--- is w with the rows of pair k exchanged, then the rows of the first k + 1 pairs of n are exchanged
+-- if the first k pairs of parts are exchanged in w, and n is w with pair k exchanged, then k + 1 are exchanged in n
 pub group-more : (s k : ℕ) (n w b : List ℕ) → 1 ≤ s
     → ((r c : ℕ) → 2 * s * k ≤ r → r < 2 * s * k + 2 * s → c < 64 → bit_in n r c ≡ exchanged s (bit_in w) r c)
     → ((r : ℕ) → (r < 2 * s * k) ⊎ (2 * s * k + 2 * s ≤ r) → get_or n r 0 ≡ get_or w r 0)
@@ -164,8 +143,7 @@ group-more s k n w b p these others before after r c l h = elim (cases_lt r (2 *
 
 -- ---- all stages
 
--- the bit in row r and column c of f after the parts of s by s bits were transposed as wholes, with the bits in each part
--- left in their arrangement
+-- f after its parts of s by s bits were transposed as wholes, the bits in each part as they were
 abbrev mirrored : ℕ → (ℕ → ℕ → Bool) → ℕ → ℕ → Bool
 mirrored s f r c = f (c - c % s + r % s) (r - r % s + c % s)
 
@@ -185,8 +163,7 @@ half-high s x p l =
     let e : x ≡ (2 * q + 1) * s + (m - s) = omega arith in
     search (arith, mod-mul-add)
 
--- if g is f with the parts of 2 * s by 2 * s bits transposed as wholes, and h is g after the exchange of parts of s by s
--- bits, then h is f with the parts of s by s bits transposed as wholes
+-- from f with parts of 2 * s by 2 * s bits transposed as wholes, the exchange makes f with parts of s by s bits so
 pub stage : (s : ℕ) (f g h : ℕ → ℕ → Bool) → 1 ≤ s → ((x : ℕ) → x < 64 → x % (2 * s) < s → x + s < 64)
     → ((r c : ℕ) → r < 64 → c < 64 → g r c ≡ mirrored (2 * s) f r c)
     → ((r c : ℕ) → r < 64 → c < 64 → h r c ≡ exchanged s g r c)
@@ -213,15 +190,6 @@ stage s f g h p fits before now r c l m = now r c l m ∙ elim (cases_lt (r % (2
         search arith
   ]
 ]
-  where
-    left : (x y : Bool) → c % (2 * s) < s → cond (ltb (c % (2 * s)) s) x y ≡ x
-    left x y b = let t : ltb (c % (2 * s)) s ≡ true = grind (arith, nat_tests) in ap (λ z. cond z x y) t
-
-    right : (x y : Bool) → s ≤ c % (2 * s) → cond (ltb (c % (2 * s)) s) x y ≡ y
-    right x y b = let t : ltb (c % (2 * s)) s ≡ false = grind (arith, nat_tests) in ap (λ z. cond z x y) t
-
-    same : (x y z w : ℕ) → x ≡ z → y ≡ w → f x y ≡ f z w
-    same x y z w d e = λ i. f (d i) (e i)
 
 -- the only part of 64 by 64 bits, transposed as a whole, is the tile f itself
 pub first-stage : (f : ℕ → ℕ → Bool) (r c : ℕ) → r < 64 → c < 64 → f r c ≡ mirrored 64 f r c
@@ -235,8 +203,7 @@ last-stage f r c = search arith
 abbrev pub is_mask : ℕ → ℕ → ℕ → Bool
 is_mask m s c = is_same (has_bit m c) (ltb (c % (2 * s)) s)
 
--- if all 64 bits of the mask m pass the test `is_mask`, then bit c of m is set just when column c is in the left part of a
--- pair
+-- if all 64 bits of the mask m pass the test `is_mask`, then the bits that m has set are those of the left parts
 pub mask-at : (m s : ℕ) → all_below 64 (is_mask m s) ≡ true → (c : ℕ) → c < 64 → has_bit m c ≡ ltb (c % (2 * s)) s
 mask-at m s e c l = same-same (has_bit m c) (ltb (c % (2 * s)) s) (below-at 64 (is_mask m s) e c l)
 
@@ -250,40 +217,25 @@ chosen s t f h = square s (λ r c. cond (t r c) (f r c) (h r c))
 pub chosen-square : (s : ℕ) (f : ℕ → ℕ → Bool) (g : Grid) → g ≡ square s f → IsSquare g.side g
 chosen-square s f g e = search (arith, square-same, colour-square)
 
--- if no place of the square g passes the test t, then the `chosen` square with the colours f where t passes, and the
--- colours of g elsewhere, is g
+-- if no place passes the test, the `chosen` square is as before
 pub chosen-none : (s : ℕ) (t f : ℕ → ℕ → Bool) (g : Grid) → g ≡ square g.side (colour g) → g.side ≡ s → ((r c : ℕ) → r < s → c < s → t r c ≡ false) → g ≡ chosen s t f (colour g)
 chosen-none s t f g e q n = search (arith, square-same)
 
--- if the places that pass u are given the colours f in the square g, in which the places that pass t have these colours
--- already, then the places that pass u or t have the colours f
+-- where the places that pass t have the colours f already, giving them to those that pass u gives them to all of both
 pub chosen-more : (s : ℕ) (t u v f h : ℕ → ℕ → Bool) (g : Grid) → g ≡ chosen s t f h → ((r c : ℕ) → r < s → c < s → (u r c || t r c) ≡ v r c) → chosen g.side u f (colour g) ≡ chosen s v f h
 chosen-more s t u v f h g e k = search (arith, square-same, colour-square)
-  where
-    told : (u t x y : Bool) → cond u x (cond t x y) ≡ cond (u || t) x y
-    told true t x y = refl
-    told false t x y = refl
 
--- if the tests t and u agree at each place of the square, and the colours f and g agree at each place that passes u, then
--- their `chosen` squares are equal
+-- `chosen` squares are equal if their tests agree, and their colours at each place that passes
 pub chosen-same : (s : ℕ) (t u f g h : ℕ → ℕ → Bool) → ((r c : ℕ) → r < s → c < s → t r c ≡ u r c) → ((r c : ℕ) → r < s → c < s → u r c ≡ true → f r c ≡ g r c) → chosen s t f h ≡ chosen s u g h
 chosen-same s t u f g h e k = search (arith, square-same)
-  where
-    told : (u x y z : Bool) → (u ≡ true → x ≡ y) → cond u x z ≡ cond u y z
-    told true x y z k = k refl
-    told false x y z k = refl
 
 -- if each place of the square passes the test t, then the `chosen` square has the colours f
 pub chosen-all : (s : ℕ) (t f h : ℕ → ℕ → Bool) → ((r c : ℕ) → r < s → c < s → t r c ≡ true) → chosen s t f h ≡ square s f
 chosen-all s t f h e = search (arith, square-same)
 
--- if the places of a row that pass t are given the colours x, and x are the colours f of this row, then the square g has
--- the colours f at the places of this row that pass t, and is as before elsewhere
+-- giving the places of a row that pass t the colours x of this row in f is a `chosen` square
 pub chosen-row : (g : Grid) (row : ℕ) (t x : ℕ → Bool) (f : ℕ → ℕ → Bool) → ((c : ℕ) → x c ≡ f row c) → with_row g row (λ c. cond (t c) (x c) (colour g row c)) ≡ chosen g.side (λ r c. eqb r row && t c) f (colour g)
 chosen-row g row t x f e = search (arith, square-same, nat_tests)
-  where
-    told : (a b x y z w : Bool) → (a ≡ true → x ≡ y) → (a ≡ true → z ≡ w) → cond a (cond b x z) w ≡ cond (a && b) y w
-    told a b x y z w h k = grind (arith, nat_tests)
 
 -- no row r is in the first 0 rows of a band
 pub row-none : (band r : ℕ) (q : Bool) → ((eqb (r / 64) band && ltb r (64 * band + 0)) && q) ≡ false
@@ -291,38 +243,31 @@ row-none band r q = search (arith, nat_tests)
 
 -- row r is row `row` of the band or in the first `row` rows of the band just when it is in the first `row + 1` rows
 pub row-more : (band row r : ℕ) (q : Bool) → row < 64 → ((eqb r (64 * band + row) && q) || ((eqb (r / 64) band && ltb r (64 * band + row)) && q)) ≡ ((eqb (r / 64) band && ltb r (64 * band + (row + 1))) && q)
-row-more band row r true l = grind (arith, nat_tests)
-row-more band row r false l = grind (arith, nat_tests)
+row-more band row r q l = grind (arith, nat_tests)
 
--- if `row` is the number of rows of the band in the square of side s, then each row r of the band is in the first `row`
--- rows
+-- each row of the band is in its first `row` rows, if it has so many
 pub row-all : (band row s r : ℕ) (q : Bool) → 64 * band ≤ s → row ≡ min (s - 64 * band) 64 → r < s → ((eqb (r / 64) band && ltb r (64 * band + row)) && q) ≡ (eqb (r / 64) band && q)
 row-all band row s r q l e m = ap (λ z. z && q) (grind (arith, nat_tests))
 
 -- no word k is below 0
 pub word-none : (k : ℕ) (q : Bool) → (q && ltb k 0) ≡ false
-word-none k true = grind (arith, nat_tests)
-word-none k false = refl
+word-none k q = grind (arith, nat_tests)
 
 -- word k is `word` or below `word` just when it is below `word + 1`
 pub word-more : (k word : ℕ) (q : Bool) → ((q && eqb k word) || (q && ltb k word)) ≡ (q && ltb k (word + 1))
-word-more k word true = grind (arith, nat_tests)
-word-more k word false = refl
+word-more k word q = grind (arith, nat_tests)
 
 -- if s is at most 64 * words and column c is below s, then the word of c is below `words`
 pub word-all : (c words s : ℕ) (q : Bool) → c < s → s ≤ 64 * words → (q && ltb (c / 64) words) ≡ q
-word-all c words s true l m = grind (arith, nat_tests)
-word-all c words s false l m = refl
+word-all c words s q l m = grind (arith, nat_tests)
 
--- if b is the tile in row band `word` and column word `band` of the square g, and t is b transposed, then the bit of t for
--- row r and column c is the colour of g in row c and column r
+-- a bit of the transposed tile is the colour of the square with row and column exchanged
 pub tile-bit : (band word r c s : ℕ) (b t : List ℕ) (g : Grid) → ((r c : ℕ) → r < 64 → c < 64 → bit_in t r c ≡ bit_in b c r)
     → ((r c : ℕ) → r < 64 → c < 64 → bit_in b r c ≡ (ltb (64 * word + r) s && colour g (64 * word + r) (64 * band + c)))
     → c < s → (eqb (r / 64) band && eqb (c / 64) word) ≡ true → bit_in t (r % 64) (c % 64) ≡ colour g c r
 tile-bit band word r c s b t g turned read l h = search (arith, nat_tests)
 
--- if b is the tile in row band `word` and column word `band` of the square g, and t is b transposed, then bit c of row r
--- of t is not set if row 64 * word + c of g is past the side s
+-- a bit of the transposed tile that is past the side is not set
 pub tile-past : (band word r c s : ℕ) (b t : List ℕ) (g : Grid) → ((r c : ℕ) → r < 64 → c < 64 → bit_in t r c ≡ bit_in b c r)
     → ((r c : ℕ) → r < 64 → c < 64 → bit_in b r c ≡ (ltb (64 * word + r) s && colour g (64 * word + r) (64 * band + c)))
     → r < 64 → c < 64 → s ≤ 64 * word + c → bit_in t r c ≡ false
@@ -334,21 +279,18 @@ tile-past band word r c s b t g turned read l m h = search (arith, nat_tests)
 pub zero-at : (n r x : ℕ) → get_or (replicate n x) r x ≡ x
 zero-at n r x = search (arith, get_or-replicate, get_or_past, length-replicate)
 
--- if the first `row` words of w are the colours of g in the rows of a band, and the words after these are 0, then w is the
--- tile of the colours of g in the band, where modules below the side s are light
+-- if the first `row` words have the colours of the band's rows, and the words after these are 0, the tile is read
 pub tile-read : (band word row s : ℕ) (w : List ℕ) (g : Grid) → 64 * band ≤ s → row ≡ min (s - 64 * band) 64
     → ((r c : ℕ) → r < row → c < 64 → has_bit (get_or w r 0) c ≡ colour g (64 * band + r) (64 * word + c)) → ((r : ℕ) → row ≤ r → get_or w r 0 ≡ 0)
     → (r c : ℕ) → r < 64 → c < 64 → bit_in w r c ≡ (ltb (64 * band + r) s && colour g (64 * band + r) (64 * word + c))
 unfolding bit_in has_bit
 tile-read band word row s w g b e read rest r c l m = search (arith, nat_tests, bit_at-zero)
 
--- if the first `row` words of w have the colours f, and item `row` is set to x, which has the colours f of this row, then
--- the first `row + 1` words have the colours f
+-- one row more of the tile has its colours
 pub read-more : (row x : ℕ) (w : List ℕ) (f : ℕ → ℕ → Bool) → row < length w → ((c : ℕ) → c < 64 → has_bit x c ≡ f row c)
     → ((r c : ℕ) → r < row → c < 64 → has_bit (get_or w r 0) c ≡ f r c) → (r c : ℕ) → r < row + 1 → c < 64 → has_bit (get_or (set w row x) r 0) c ≡ f r c
 read-more row x w f n here before r c l m = search (arith, get_or-set_same, get_or-set_other)
 
--- if the word `number` of a bit row is replaced by a word with the bits f, which has no bit set past the side s, and bit k
--- of the bit row, which is x and past the side s, was not set, then bit k of the new bit row is not set
+-- bits past the side stay unset if a word is replaced by one that has none set there
 pub word-past : (number k s : ℕ) (f : ℕ → Bool) (x : Bool) → ((c : ℕ) → c < 64 → s ≤ 64 * number + c → f c ≡ false) → s ≤ k → x ≡ false → cond (eqb (k / 64) number) (f (k % 64)) x ≡ false
 word-past number k s f x past l e = search (arith, nat_tests)

@@ -21,22 +21,19 @@ window-bit s line core four c cores fours =
   where
     common : (u v w a b d e : Bool) → (u ≡ true → v ≡ true) → (u ≡ true → w ≡ true)
         → (((v && a) && (u && b)) || ((w && d) && (u && e))) ≡ (u && ((a && b) || (d && e)))
-    common true v w a b d e p q = rw (p refl, q refl) refl
-    common false v w a b d e p q = λ i. and-false (v && a) false refl i || and-false (w && d) false refl i
+    common u v w a b d e p q = grind (arith, nat_tests)
 
 -- no window begins at a module c from the side s on
 window-past : (s : ℕ) (line : ℕ → Bool) (c : ℕ) → s ≤ c → is_window s line c ≡ false
 unfolding is_window
 window-past s line c h = false-and (leb (c + 11) s) _ (grind (arith, nat_tests))
 
--- if the bit row `words` has bit c set just where a window begins at module c, then the number of its set bits is the
--- number of windows
+-- a bit row that has a bit set just where a window begins has as many set bits as there are windows
 pub windows-row : (s : ℕ) (line : ℕ → Bool) (words : List ℕ) → s ≤ 192 → ((c : ℕ) → has words c ≡ is_window s line c) → size_of words ≡ window_count s line
 unfolding window_count
 windows-row s line words l h = size-is s words (is_window s line) l (λ c k. h c) (λ c k. window-past s line c k)
 
--- if at least eleven rows are left from row r on, the ratio before and after four light modules in a column that passes the
--- test u is a window
+-- if eleven rows are left, the ratio before and after four light modules in a column is a window
 pub window-down-bit : (s : ℕ) (line : ℕ → Bool) (r : ℕ) (u : Bool) → r + 11 ≤ s
     → (((u && reads line r finder_ratio) && not (not (reads line (r + 7) four_light))) || ((u && reads line (r + 4) finder_ratio) && not (not (reads line r four_light))))
     ≡ (u && is_window s line r)
@@ -49,19 +46,16 @@ window-down-bit s line r u h =
     common : (u a b d e : Bool) → (((u && a) && not (not b)) || ((u && d) && not (not e))) ≡ (u && ((a && b) || (e && d)))
     common u a b d e = grind (arith, nat_tests)
 
--- if at most ten rows are left from row r on, then no window of column c begins in row r, and a bit x that is not set
--- agrees with this
+-- if at most ten rows are left, no window of a column begins
 pub window-down-none : (s : ℕ) (line : ℕ → Bool) (c r : ℕ) (x : Bool) → s < r + 11 → x ≡ false → x ≡ (ltb c s && is_window s line r)
 unfolding is_window
 window-down-none s line c r x h e = e ∙ sym (and-false (ltb c s) _ (false-and (leb (r + 11) s) _ (grind (arith, nat_tests))))
 
--- if the bit row `words` has bit c set just where a window of column c begins in row r, then the number of its set bits is
--- the number of windows of columns that begin in row r
+-- a bit row with a bit set just where a window of a column begins in row r has as many set bits as windows begin there
 pub windows-down-row : (s : ℕ) (dark : ℕ → ℕ → Bool) (r : ℕ) (words : List ℕ) → s ≤ 192 → ((c : ℕ) → has words c ≡ (ltb c s && is_window s (λ i. dark i c) r)) → size_of words ≡ count_below s (λ c. is_window s (λ i. dark i c) r)
 windows-down-row s dark r words l h = guarded-size s words (λ c. is_window s (λ i. dark i c) r) l h
 
--- the number of windows of columns that begin in each row, summed over all rows, is the number of windows in each column,
--- summed over all columns
+-- the windows of columns, counted row by row, are those counted column by column
 pub windows-are-columns : (s : ℕ) (dark : ℕ → ℕ → Bool) → sum_below s (λ r. count_below s (λ c. is_window s (λ i. dark i c) r)) ≡ sum_below s (λ c. window_count s (λ r. dark r c))
 unfolding window_count
 windows-are-columns s dark = sum_below-swap s s (λ r c. cond (is_window s (λ i. dark i c) r) 1 0)

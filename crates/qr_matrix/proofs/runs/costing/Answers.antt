@@ -11,8 +11,7 @@ twice c x y h =
     ap (λ z. ltb 0 c && z) (h ∙ ap (λ z. ltb 0 (c - 1) && x z) e) ∙ (both (ltb 0 c) (ltb 0 (c - 1)) (x (c - 2)) ∙ ap (λ z. z && x (c - 2)) t)
   where
     both : (a b d : Bool) → (a && (b && d)) ≡ ((a && b) && d)
-    both true b d = refl
-    both false b d = refl
+    both a b d = grind (arith, nat_tests)
 
 pub returns : goal.returns
 returns c = λ k l.

@@ -1,5 +1,4 @@
--- What the statuses mean for a square that is refused, and for one that is read. `At f` says that the square has the
--- fault f.
+-- What the statuses mean for a square that is refused, and for one that is read. `At f`: the square has the fault f.
 use Rattle.std.proofs.Common.{◌≡◌, ◌≢◌, ◌↔◌, ◌⊎◌, ℕ, ◌<◌, ◌≤◌, Option, None, Some, MatchOption, sym, ◌∙◌, ap, subst, inl, inr, arith}
 use Rattle.qr_bits.specs.declared.fault.ParseFault.{ParseFault}
 use Rattle.qr_symbol.specs.declared.fault.ReadFault.{ReadFault}

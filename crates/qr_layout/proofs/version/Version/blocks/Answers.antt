@@ -19,5 +19,4 @@ overflow_cast-result-2 c =
 pub overflow_cast-result-3 : goal.overflow_cast-result-3
 overflow_cast-result-3 c =
     let f = laws-of c.args.level c.args.self (omega arith) (omega arith) in
-    let p : 0 < c.from-count.result = omega (arith, f.count) in
     omega (arith, f.most_count)

@@ -11,6 +11,5 @@ returns c = λ k l. ap (λ z. has_bit (repeats z) k) c.from-pattern.ensures ∙ 
 pub invariant_of-result : goal.invariant_of-result
 invariant_of-result c =
     let p = c.from-pattern.result in
-    let small : p < 64 = omega (arith, c.from-pattern.ensures) in
     let w = p * 0x1041041041041041 % 2 ^ 64 in
     (refl, omega arith, or_lt 64 (w * 2 ^ 2 % 2 ^ 64) (p / 2 ^ 4) (omega arith) (omega arith), or_lt 64 (w * 2 ^ 4 % 2 ^ 64) (p / 2 ^ 2) (omega arith) (omega arith))

@@ -16,7 +16,4 @@ pub invariant_of-result : goal.invariant_of-result
 invariant_of-result c =
     let a = c.self.inside.0 in
     let k = c.args.steps in
-    let e = shr_le (get_or a 0 0) k in
-    let f = shr_le (get_or a 1 0) k in
-    let g = shr_le (get_or a 2 0) k in
     (refl, or_lt 64 (get_or a 0 0 / 2 ^ k) (get_or a 1 0 * 2 ^ (64 - k) % 2 ^ 64) (omega arith) (omega arith), or_lt 64 (get_or a 1 0 / 2 ^ k) (get_or a 2 0 * 2 ^ (64 - k) % 2 ^ 64) (omega arith) (omega arith), omega arith)

@@ -6,9 +6,7 @@ use Rattle.qr_matrix.proofs.matrix.Matrix.bit_row_in.Goals as goal
 
 -- what is false wherever a test is false passes the test
 passes : (a b : Bool) → (b ≡ false → a ≡ false) → (a && b) ≡ a
-passes true true h = refl
-passes true false h = sym (h refl)
-passes false b h = refl
+passes a b h = grind (arith, nat_tests)
 
 -- a place past the words is past the side
 past-words : (s n k : ℕ) → s ≤ n → ltb k n ≡ false → s ≤ k
