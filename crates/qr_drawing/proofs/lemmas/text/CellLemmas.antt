@@ -175,9 +175,7 @@ room-light h t r last first room b text most e sum same fits =
 
 -- a cell of a line
 cell-of : (style : TextStyle) (margin : ℕ) (g : Grid) (y x : ℕ) → cell_of style margin g y x ≡ cell_at style margin g (top_row style y) x
-cell-of Plain margin g y x = refl
-cell-of Inverse margin g y x = refl
-cell-of HalfBlocks margin g y x = refl
+cell-of style margin g y x = grind arith
 
 -- the cells of columns that are light
 light-cells : (style : TextStyle) (margin : ℕ) (g : Grid) (row first n : ℕ) → ((y k : ℕ) → k < n → is_dark_at margin g y (first + k) ≡ false)

@@ -49,12 +49,7 @@ not-too-long s input squares (inr (one, version, mask, square, symbol, e)) long 
 
 -- an input that has a series does not take too many symbols
 not-too-many : (s : SettingsView) (input : List ℕ) (squares : List Grid) → AreSymbols s input squares → IsTooMany s input → ⊥
-not-too-many s input squares (inr symbol) many = let e : true ≡ false = sym many.0 ∙ symbol.0 in cc
-not-too-many s input squares (inl (structured, symbols, series, e)) many = no-series input (smallest_of s) symbols series many.1
-  where
-    no-series : (x : List ℕ) (v : ℕ) (ss : _) → IsSeries v s.level (rule_for s) x ss → HasNoSeries v s.level (rule_for s) x → ⊥
-    no-series x v ss (inl a) b = b.too_long a.fits
-    no-series x v ss (inr a) b = let m = a.many in let n = b.too_many a.parts a.split in absurd (omega arith)
+not-too-many s input squares x many = grind arith
 
 -- a number for why a command line has no settings, or 0 if it has settings
 class_of : Result SettingsView Reason → ℕ
@@ -81,13 +76,7 @@ class_told _ = 5
 -- a correct refusal names the reason why the command line has no settings
 class-is : (words : List Text) (given : List ℕ) (r : Fault) → IsRefusal words given r → (class_of (settings_for words) ≡ class_told r) × (class_told r < 5)
 unfolding class_of class_told index_of
-class-is words given (fault.Usage usage.Memory) h = elim h [ ]
-class-is words given (fault.Encode encode.Memory) h = elim h [ ]
-class-is words given fault.Read h = elim h [ ]
-class-is words given fault.Memory h = elim h [ ]
-class-is words given fault.Write h = elim h [ ]
-class-is words given (fault.Usage u) h = (ap class_of h, omega arith)
-class-is words given (fault.Encode e) h = (ap class_of h.taken, omega arith)
+class-is words given r h = grind arith
 
 -- a command line and an input that have a drawing are not refused
 pub refusals-exclude : RefusalsExcludeDrawings
@@ -108,8 +97,7 @@ err-ok r s e = cc
 
 -- if the check of the series succeeds, it returns the settings that it checked
 series-checked : (b : Bool) (t s : SettingsView) → cond b (Err needs_version) (Ok t) ≡ Ok s → t ≡ s
-series-checked true t s e = absurd (err-ok needs_version s e)
-series-checked false t s e = cc
+series-checked b t s e = grind arith
 
 -- a property of all settings with a level and a type holds of the checked settings too
 checked-have : (P : SettingsView → Type 0) (l : Option Level) (k : Option Drawing) (f : Level → Drawing → SettingsView) → ((l : Level) (k : Drawing) → P (f l k))
@@ -129,9 +117,7 @@ version-most : (n : ℕ) → unwrap_or (cond (leb 1 n && leb n 40) (Some n) None
 version-most n = by-test (leb 1 n) (leb n 40) (leb-true n 40)
   where
     by-test : (a b : Bool) → (b ≡ true → n ≤ 40) → unwrap_or (cond (a && b) (Some n) None) 1 ≤ 40
-    by-test true true h = h refl
-    by-test true false h = omega arith
-    by-test false b h = omega arith
+    by-test a b h = grind arith
 
 -- the smallest version of settings is at most 40
 smallest-most : (words : List Text) (s : SettingsView) → settings_for words ≡ Ok s → smallest_of s ≤ 40

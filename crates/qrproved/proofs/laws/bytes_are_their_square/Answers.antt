@@ -1,4 +1,4 @@
-use Rattle.std.proofs.Common.{◌≡◌, ◌*◌, ◌+◌, ◌==◌, ℕ, Bool, true, false, not, slice_index_or, refl, ap, ◌∙◌}
+use Rattle.std.proofs.Common.{◌≡◌, ◌*◌, ◌+◌, ◌==◌, ℕ, Bool, true, false, not, slice_index_or, refl, ap, ◌∙◌, arith}
 use Rattle.qr_matrix.proofs.Facts.{colour-square}
 use Rattle.qr_matrix.specs.Grid.{colour}
 use Rattle.qrproved.specs.Modules.{byte_of}
@@ -6,8 +6,7 @@ use Rattle.qrproved.proofs.laws.bytes_are_their_square.Goals as goal
 
 -- the byte of a colour is read as the colour
 read-back : (b : Bool) → not (byte_of b == 0) ≡ b
-read-back true = refl
-read-back false = refl
+read-back b = grind arith
 
 pub returns : goal.returns
 returns c = λ side g bytes holds row col in_row in_col.

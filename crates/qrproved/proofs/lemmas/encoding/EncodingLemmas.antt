@@ -22,10 +22,7 @@ least-one x l smallest r v w h k = elim (cases_lt v w) [
 pub too-long-status : {X : Type 0} (r : Result X EncodeFault) (f : EncodeFault) (S P : Type 0) → r ≡ Err f → S
     → ((r ≡ Err fault.TooLong) ↔ ((r ≢ Err fault.Memory) × P))
     → (encode_status f ≡ 2) ↔ ((encode_status f ≢ 4) × S × P)
-too-long-status r fault.Empty S P is s told = search arith
-too-long-status r fault.TooLong S P is s told = search arith
-too-long-status r fault.TooMany S P is s told = search arith
-too-long-status r fault.Memory S P is s told = (λ h. absurd (omega arith), λ w. absurd (w.0 refl))
+too-long-status r f S P is s told = grind arith
 
 -- ROOM is not returned for an input that is not encoded: if it has a symbol (R), only lack of memory refuses it
 pub room-status : {X : Type 0} (r : Result X EncodeFault) (f : EncodeFault) (x : List ℕ) (S P R : Type 0) → r ≡ Err f → (R → P → ⊥)
@@ -33,9 +30,4 @@ pub room-status : {X : Type 0} (r : Result X EncodeFault) (f : EncodeFault) (x :
     → ((r ≡ Err fault.TooLong) ↔ ((r ≢ Err fault.Memory) × P))
     → (f ≡ fault.Empty) ⊎ (f ≡ fault.TooLong) ⊎ (f ≡ fault.Memory)
     → (encode_status f ≡ 6) ↔ ((encode_status f ≢ 4) × S × (x ≢ []) × R)
-room-status r fault.Empty x S P R is apart empty told kinds = (λ h. absurd (omega arith), λ w. absurd (w.2 (empty.0 is)))
-room-status r fault.TooLong x S P R is apart empty told kinds = search arith
-room-status r fault.TooMany x S P R is apart empty told (inl e) = absurd (cc)
-room-status r fault.TooMany x S P R is apart empty told (inr (inl e)) = absurd (cc)
-room-status r fault.TooMany x S P R is apart empty told (inr (inr e)) = absurd (cc)
-room-status r fault.Memory x S P R is apart empty told kinds = (λ h. absurd (omega arith), λ w. absurd (w.0 refl))
+room-status r f x S P R is apart empty told kinds = grind arith

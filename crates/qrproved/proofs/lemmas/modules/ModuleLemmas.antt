@@ -52,8 +52,4 @@ module _ (a k : ℕ) (xs ys : List ℕ) (room : a + k ≤ length xs) (many : len
 
 -- each of the four bytes is that of its bit
 pub four-each : (bits j : ℕ) → j < 4 → slice_index_or (four_bytes bits) j 0 ≡ byte_of (has_bit bits j)
-four-each bits zero l = refl
-four-each bits (suc zero) l = refl
-four-each bits (suc (suc zero)) l = refl
-four-each bits (suc (suc (suc zero))) l = refl
-four-each bits (suc (suc (suc (suc j)))) l = absurd (omega arith)
+four-each bits j l = grind arith
