@@ -87,12 +87,12 @@ between-counts [] lo hi h = let e = all-free lo in let d = all-free hi in omega 
 between-counts (b ∷ bs) lo hi h = elim (cases_lt lo hi) [
   | inr n ↦ let e : lo ≡ hi = omega arith in rw e (omega (arith, between-none (b ∷ bs) hi hi (omega arith)))
   | inl n ↦
-    let l = b.left in
-    let r = max b.left b.right in
-    let f = is_free bs in
-    let g = is_free (b ∷ bs) in
-    let x : leb hi lo ≡ false = grind (arith, nat_tests) in
-    rw (x, free_between) (between-step lo hi l r (sum_below l f) (sum_below r f) (sum_below lo f) (sum_below hi f) (sum_below lo g) (sum_below hi g) (free_between bs lo (min hi l)) (free_between bs (max lo r) hi) n (omega arith)
+      let l = b.left in
+      let r = max b.left b.right in
+      let f = is_free bs in
+      let g = is_free (b ∷ bs) in
+      let x : leb hi lo ≡ false = grind (arith, nat_tests) in
+      rw (x, free_between) (between-step lo hi l r (sum_below l f) (sum_below r f) (sum_below lo f) (sum_below hi f) (sum_below lo g) (sum_below hi g) (free_between bs lo (min hi l)) (free_between bs (max lo r) hi) n (omega arith)
       (λ i. sum_below-same lo g f (λ c k. free-before b bs c (omega arith)))
       (λ i j. sum-inside f g l r (free-before b bs) (free-inside b bs) (free-after b bs) lo i j)
       (λ i. sum-after f g l r (free-before b bs) (free-inside b bs) (free-after b bs) lo (omega arith) i)

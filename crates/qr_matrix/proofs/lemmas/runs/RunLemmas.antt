@@ -1,5 +1,5 @@
 -- The cost of the maximal runs is the cost counted module by module. A joined module has the colour of the next one.
-use Rattle.std.proofs.Common.{◌≡◌, ℕ, zero, suc, ◌+◌, ◌-◌, ◌*◌, ◌<◌, ◌≤◌, ◌⊎◌, inl, inr, eqb, ltb, leb, Bool, true, false, not, ◌&&◌, ◌||◌, cond, refl, sym, ap, ◌∙◌, arith}
+use Rattle.std.proofs.Common.{◌≡◌, ℕ, zero, suc, ◌+◌, ◌-◌, ◌*◌, ◌<◌, ◌≤◌, ◌⊎◌, inl, inr, eqb, ltb, leb, Bool, true, false, not, ◌&&◌, ◌||◌, cond, refl, ap, ◌∙◌, arith}
 use Rattle.std.proofs.lemmas.Bool.{cases_Bool, cases_lt, Decides.nat_tests}
 use Rattle.qr_matrix.specs.{Grid.is_same, Sums.all_below, Sums.places_passing, Sums.sum_below, Penalty.is_run, Penalty.run_cost}
 use Rattle.qr_matrix.specs.Penalty.{dark_cost, over_lines, penalty_of, square_count, window_count}
