@@ -57,7 +57,7 @@ static CENTRES: [[u8; 7]; 40] = [
 ];
 
 // The entry of `CENTRES` without the zeros that fill it up.
-pub(crate) fn centre_list(v: Version) -> &'static [u8]
+fn centre_list(v: Version) -> &'static [u8]
     ensures { result.now ≡ centres_of v }
 {
     let number = v.number();
@@ -95,7 +95,7 @@ fn is_near(centre: u8, at: u8) -> bool
 }
 
 // Whether row `a` and column `b` of centres meet in a corner with a finder pattern, where no alignment pattern is.
-pub(crate) fn is_corner_pair(side: u8, a: u8, b: u8) -> bool
+fn is_corner_pair(side: u8, a: u8, b: u8) -> bool
     requires { 21 ≤ side }
     ensures { result ≡ is_corner_pair side a b }
 {

@@ -1,5 +1,4 @@
-//! The role of each module (ISO/IEC 18004:2015, 6.3 and 7.7.2). `centres` has the rows of centres of alignment
-//! patterns, which are also their columns, and `side` is the number of modules on a side.
+//! The role of each module (ISO/IEC 18004:2015, 6.3 and 7.7.2). `side` is the number of modules on a side.
 
 ghost use Rattle.std.specs.Prelude.{◌≡◌, ◌≢◌, ◌<◌, ◌≤◌, ◌==◌, ◌&&◌, not};
 ghost use Rattle.std.specs.List.{list_any};
@@ -8,7 +7,7 @@ ghost use Rattle.qr_layout.specs.Alignment.{is_corner_pair};
 ghost use Rattle.qr_layout.specs.Region.{ring_of};
 ghost use Rattle.qr_layout.specs.Role.{finder_ring, is_alignment_light, pattern_colour, first_place, second_place, format_bit_at, version_bit_at, role_of};
 
-use crate::alignment::{centre_list, is_corner_pair, is_in_alignment};
+use crate::alignment::{alignment_centres, is_in_alignment};
 use crate::region::{Module, is_in_version_block};
 use crate::version::Version;
 
@@ -39,38 +38,13 @@ fn finder_ring(side: u8, row: u8, col: u8) -> u8
     ring(3, 3, row, col).min(ring(3, far, row, col).min(ring(far, 3, row, col)))
 }
 
-fn is_first_ring(a: u8, b: u8, row: u8, col: u8) -> bool
-    ensures { result ≡ (ring_of a b row col == 1) }
-{
-    ring(a, b, row, col) == 1
-}
-
-// Whether the module is on the light ring of an alignment pattern whose centre is in row `a`.
-fn is_light_beside(centres: &[u8], side: u8, a: u8, row: u8, col: u8) -> bool
-    requires { 21 ≤ side }
-    ensures { result ≡ list_any (λ b. not (is_corner_pair side a b) && ring_of a b row col == 1)
-        centres.now }
-{
-    centres.iter().any(|b| !is_corner_pair(side, a, *b) && is_first_ring(a, *b, row, col))
-}
-
-// As `is_light_beside`, for centres in any row.
-fn is_light_among(centres: &[u8], side: u8, row: u8, col: u8) -> bool
-    requires { 21 ≤ side }
-    ensures { result ≡ list_any (λ a. list_any (λ b. not (is_corner_pair side a b)
-        && ring_of a b row col == 1) centres.now) centres.now }
-{
-    centres
-        .iter()
-        .any(|a| is_light_beside(centres, side, *a, row, col))
-}
-
+#[tactic(auto, unfolding(crate::specs::Role::is_alignment_light))]
 fn is_alignment_light(v: Version, row: u8, col: u8) -> bool
     ensures { result ≡ is_alignment_light v row col }
 {
-    let side = v.side();
-    let centres = centre_list(v);
-    is_light_among(centres, side, row, col)
+    alignment_centres(v)
+        .iter()
+        .any(|m| ring(m.row, m.col, row, col) == 1)
 }
 
 // `None` outside the finder patterns, separators, timing patterns and alignment patterns; `true` is dark.

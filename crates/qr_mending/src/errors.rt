@@ -65,7 +65,6 @@ fn error(locator: &[u8], series: &[u8], place: u8) -> u8
 }
 
 // To add the errors removes them, since equal elements of the field add up to 0.
-#[tactic(auto, using(crate::proofs::Named::error_facts))]
 pub(crate) fn without_errors(locator: &[u8], syndromes: &[u8], damaged: &[u8]) -> ArrayVec<u8, 255>
     requires least { 1 ≤ length locator.now }
     requires long { length locator.now ≤ length syndromes.now + 1 }

@@ -1,7 +1,7 @@
 //! Mends the message of a damaged symbol block by block. A codeword is erased if one of its modules was not read
 //! (ISO/IEC 18004:2015, 7.5.1, 7.6 and 7.7.3).
 
-ghost use Rattle.std.specs.Prelude.{◌≡◌, ℕ, ◌+◌, ◌*◌, ◌<◌, ◌≤◌, ◌==◌, ◌⊎◌, ◌++◌, not, map, List, length, Err, IfOk, IfErr, IfSome, IfNone};
+ghost use Rattle.std.specs.Prelude.{◌≡◌, ℕ, ◌+◌, ◌*◌, ◌<◌, ◌≤◌, ◌==◌, ◌⊎◌, ◌++◌, ◌∷◌, [], not, map, List, length, Err, IfOk, IfErr, IfSome, IfNone};
 ghost use Rattle.qr_field.specs.Polynomial.{IsCorrection};
 ghost use Rattle.qr_field.specs.Distance.{erasures, errors};
 ghost use Rattle.qr_layout.specs.Blocks.{blocks_of, data_codewords_of};
@@ -133,6 +133,42 @@ fn mend_block(
     })
 }
 
+// Mends one block. In the contract, `message` has the blocks before it, mended.
+fn mend_next(
+    alloc: Global,
+    blocks: Blocks,
+    divisor: &Divisor,
+    spare: usize,
+    received: &InBlocks,
+    marks: &InBlocks,
+    block: usize,
+) -> Result<MendedBlock, ReadFault>
+    requires codewords { length received.now.data.items ≡ codeword_count (data_sizes blocks) }
+    requires checks { length received.now.checks.items ≡ codeword_count (correction_sizes blocks) }
+    requires marks { length marks.now.data.items ≡ codeword_count (data_sizes blocks) }
+    requires check_marks { length marks.now.checks.items ≡ codeword_count (correction_sizes blocks) }
+    requires few { blocks.short_len + 1 + blocks.ec_len ≤ 255 }
+    requires spare { spare ≤ blocks.ec_len }
+    requires divisor { divisor.now ≡ blocks.ec_len }
+    requires within { block < block_count (data_sizes blocks) }
+    ensures mended { IfOk result (λ m. (message misread : List ℕ)
+        → AreMended blocks spare received.now.data.items received.now.checks.items
+        marks.now.data.items marks.now.checks.items block message misread
+        → AreMended blocks spare received.now.data.items received.now.checks.items
+        marks.now.data.items marks.now.checks.items (block + 1) (message ++ m.message.items) (misread ++ m.changed ∷ [])) }
+    ensures refused { result ≡ Err ReadFault.Check → (message misread : List ℕ)
+        → AreMended blocks spare received.now.data.items received.now.checks.items
+        marks.now.data.items marks.now.checks.items (block_count (data_sizes blocks)) message misread → ⊥ }
+    ensures fault { IfErr result (λ e. (e ≡ ReadFault.Memory) ⊎ (e ≡ ReadFault.Check)) }
+{
+    let codewords = block_of(alloc, blocks, received, block)?;
+    let erased = erased_of(alloc, &block_of(alloc, blocks, marks, block)?)?;
+    let Some(mended) = mend_block(divisor, spare, &erased, codewords) else {
+        return Err(ReadFault::Check);
+    };
+    Ok(mended)
+}
+
 // Ends at the first block that cannot be mended.
 fn mend_parts(
     alloc: Global,
@@ -161,11 +197,7 @@ fn mend_parts(
     let mut message = Vec::with_capacity(alloc, received.data.len())?;
     let mut changed = Vec::with_capacity(alloc, count)?;
     for block in 0..count {
-        let codewords = block_of(alloc, blocks, received, block)?;
-        let erased = erased_of(alloc, &block_of(alloc, blocks, marks, block)?)?;
-        let Some(mended) = mend_block(&divisor, spare, &erased, codewords) else {
-            return Err(ReadFault::Check);
-        };
+        let mended = mend_next(alloc, blocks, &divisor, spare, received, marks, block)?;
         message.extend_from_slice(&mended.message)?;
         changed.push(mended.changed)?;
     }

@@ -1,6 +1,6 @@
 -- The alignment patterns and the encoding region, as tests of their parts.
 use Rattle.qr_layout.proofs.lemmas.alignment.TableLemmas.{below, below-from}
-use Rattle.std.proofs.Common.{◌≡◌, ℕ, ◌+◌, ◌-◌, ◌<◌, ◌≤◌, Bool, true, false, not, ◌&&◌, ◌||◌, cond, eqb, ltb, leb, List, [], ◌∷◌, map, refl, sym, ap, ◌∙◌, inl, inr, ◌⊎◌, arith}
+use Rattle.std.proofs.Common.{◌≡◌, ℕ, ◌+◌, ◌-◌, ◌<◌, ◌≤◌, Bool, true, false, not, ◌&&◌, ◌||◌, cond, ltb, leb, List, [], ◌∷◌, map, refl, sym, ap, ◌∙◌, inl, inr, ◌⊎◌, arith}
 use Rattle.std.proofs.lemmas.Bool.Decides.{nat_tests}
 use Rattle.std.proofs.lemmas.{Bool.cases_lt, Bool.and_parts, List.Folds.list_any-append}
 use Rattle.std.proofs.lemmas.List.Elements.{All-nil, All-cons, All-weaker}
@@ -10,7 +10,7 @@ use Rattle.qr_layout.specs.{declared.rectangles.Rectangle.Rectangle, Rectangles.
 use Rattle.qr_layout.specs.Steps.Rectangles.{IsInside, IsWithin, alignment_squares, fixed_list, square_round, taken_rectangles}
 use Rattle.qr_layout.specs.declared.region.Module.{Module}
 use Rattle.qr_layout.specs.Alignment.{centres_of, is_corner_pair, alignment_places}
-use Rattle.qr_layout.specs.{Version.side_of, Role.is_alignment_light}
+use Rattle.qr_layout.specs.Version.{side_of}
 
 -- a test of the items of a flat map goes over the lists that it joins
 list_any-flat_map : {X Y : Type 0} (p : Y → Bool) (f : X → List Y) (xs : List X) → list_any p (flat_map f xs) ≡ list_any (λ x. list_any p (f x)) xs
@@ -44,11 +44,6 @@ any-places p s cs =
     list_any-same _ _ (λ a.
     list_any-flat_map p (λ b. cond (is_corner_pair s a b) [] (record { row = a; col = b } ∷ [])) cs ∙
     list_any-same _ _ (λ b. at_centre p a b (is_corner_pair s a b)) cs) cs
-
--- the light rings of the alignment patterns
-pub light-parts : (v r c s : ℕ) (cs : List ℕ) (t : Bool) → s ≡ side_of v → cs ≡ centres_of v → t ≡ list_any (λ a. list_any (λ b. not (is_corner_pair s a b) && eqb (ring_of a b r c) 1) cs) cs → t ≡ is_alignment_light v r c
-unfolding is_alignment_light
-light-parts v r c s cs t e f h = h ∙ rw (e, f) (sym (any-places (λ m. eqb (ring_of m.row m.col r c) 1) (side_of v) (centres_of v)))
 
 -- a place near one centre, or near none where the centre is in a corner
 one : (r c a b : ℕ) (t : Bool) → (not t && leb (ring_of a b r c) 2) ≡ ((leb (a - 2) r && ltb r (a + 3)) && ((leb (b - 2) c && ltb c (b + 3)) && not t))

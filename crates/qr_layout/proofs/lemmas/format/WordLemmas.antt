@@ -4,7 +4,6 @@ use Rattle.std.proofs.lemmas.Bool.{and_parts, eqb-true}
 use Rattle.std.specs.{Prelude.bit_xor, Int.bit_at}
 use borrow.Author.Tests.{ltb-true}
 use Rattle.qr_layout.specs.declared.level.Level.{Level}
-use Rattle.qr_layout.specs.declared.level.Level.TheVariants.{L, M, Q, H}
 use Rattle.qr_layout.specs.declared.format.TheConstants.{FORMAT_WORDS, VERSION_WORDS}
 use Rattle.qr_layout.specs.Format.{format_generator, version_generator, word_remainder, format_with, five_bits, format_word_of, version_word_of, level_bits, sum_of_shifts, IsWordRemainder, IsFormatWord, IsVersionWord}
 use Rattle.qr_layout.proofs.lemmas.alignment.TableLemmas.{below, below-at}

@@ -1,5 +1,7 @@
 -- The number of modules of the encoding region, computed: for each row only the rectangles that meet the row are checked.
-use Rattle.std.proofs.Common.{◌≡◌, ℕ, ◌+◌, ◌<◌, ◌≤◌, Bool, true, false, not, ◌&&◌, ◌||◌, cond, eqb, ltb, leb, List, [], ◌∷◌, refl, ap, ◌∙◌, arith}
+use Rattle.std.proofs.Common.{◌≡◌, ℕ, zero, suc, ◌+◌, ◌-◌, ◌<◌, ◌≤◌, min, max, Bool, true, false, not, ◌&&◌, ◌||◌, cond, eqb, ltb, leb, List, [], ◌∷◌, refl, ap, ◌∙◌, inl, inr, arith}
+use Rattle.std.proofs.Math.Nat.{min-eq_left, min-eq_right, max-eq_left, max-eq_right}
+use Rattle.std.proofs.lemmas.{Bool.cases_lt, Bool.Decides.nat_tests}
 use Rattle.std.specs.List.{list_any, filter}
 use Rattle.qr_layout.specs.{Region.is_in_region, declared.rectangles.Rectangle.Rectangle}
 use Rattle.qr_layout.specs.Version.{total_codewords_of, remainder_bits_of, module_count_of}
@@ -16,13 +18,94 @@ is_in_rows r b = leb b.top r && ltb r b.bottom
 abbrev pub is_in_columns : ℕ → Rectangle → Bool
 is_in_columns c b = leb b.left c && ltb c b.right
 
--- the number of columns of a row that are in none of the row's rectangles
-abbrev pub free_in : ℕ → List Rectangle → ℕ
-free_in s bs = sum_below s (λ c. cond (not (list_any (is_in_columns c) bs)) 1 0)
+-- whether a column of a row is in none of the row's rectangles, as a number
+abbrev is_free : List Rectangle → ℕ → ℕ
+is_free bs c = cond (not (list_any (is_in_columns c) bs)) 1 0
+
+-- the number of columns of a row from one column to before another that are in none of the row's rectangles
+abbrev pub free_between : List Rectangle → ℕ → ℕ → ℕ
+free_between [] lo hi = hi - lo
+free_between (b ∷ bs) lo hi = elim (leb hi lo) [
+  | true ↦ 0
+  | false ↦ free_between bs lo (min hi b.left) + free_between bs (max lo (max b.left b.right)) hi
+]
 
 -- the number of places of a square that are in no rectangle, row by row
 abbrev pub free_of : ℕ → List Rectangle → ℕ
-free_of s bs = sum_below s (λ r. free_in s (filter (is_in_rows r) bs))
+free_of s bs = sum_below s (λ r. free_between (filter (is_in_rows r) bs) 0 s)
+
+-- ---- the columns of a row
+
+-- a sum of terms that a second one has too, but for those from l to before r, which it has not
+module _ (f g : ℕ → ℕ) (l r : ℕ) (before : (c : ℕ) → c < l → g c ≡ f c) (none : (c : ℕ) → l ≤ c → c < r → g c ≡ 0) (after : (c : ℕ) → r ≤ c → g c ≡ f c) where
+  sum-inside : (k : ℕ) → l ≤ k → k ≤ r → sum_below k g ≡ sum_below l f
+  sum-inside zero h m = let e : l ≡ 0 = omega arith in rw e refl
+  sum-inside (suc k) h m = elim (cases_lt k l) [
+    | inl n ↦ let e : l ≡ suc k = omega arith in rw e (sum_below-same (suc k) g f (λ c i. before c (omega arith)))
+    | inr n ↦ let e = none k n m in let d = sum-inside k n (omega arith) in omega arith
+  ]
+
+  sum-after : (k : ℕ) → l ≤ r → r ≤ k → sum_below k g + sum_below r f ≡ sum_below l f + sum_below k f
+  sum-after zero h m = let e : r ≡ 0 = omega arith in let d : l ≡ 0 = omega arith in rw (e, d) refl
+  sum-after (suc k) h m = elim (cases_lt k r) [
+    | inl n ↦ let e : r ≡ suc k = omega arith in let d = sum-inside (suc k) (omega arith) (omega arith) in rw e (omega arith)
+    | inr n ↦ let e = after k n in let d = sum-after k h n in omega arith
+  ]
+
+-- what is counted between two columns, from what is counted before and after the rectangle from l to before r
+between-step : (lo hi l r pl pr p q p' q' a b : ℕ) → lo < hi → l ≤ r
+    → (lo ≤ l → p' ≡ p) → (l ≤ lo → lo ≤ r → p' ≡ pl) → (r ≤ lo → p' + pr ≡ pl + p)
+    → (hi ≤ l → q' ≡ q) → (l ≤ hi → hi ≤ r → q' ≡ pl) → (r ≤ hi → q' + pr ≡ pl + q)
+    → (hi ≤ l → a + p ≡ q) → (lo ≤ l → l ≤ hi → a + p ≡ pl) → (l ≤ lo → a ≡ 0)
+    → (hi ≤ r → b ≡ 0) → (lo ≤ r → r ≤ hi → b + pr ≡ q) → (r ≤ lo → b + p ≡ q)
+    → a + b + p' ≡ q'
+between-step lo hi l r pl pr p q p' q' a b u v a1 a2 a3 b1 b2 b3 c1 c2 c3 d1 d2 d3 = grind arith
+
+-- columns before and after a rectangle are free if they are without it, and its own are not
+free-before : (b : Rectangle) (bs : List Rectangle) (c : ℕ) → c < b.left → is_free (b ∷ bs) c ≡ is_free bs c
+free-before b bs c h = let e : leb b.left c ≡ false = grind (arith, nat_tests) in rw e refl
+
+free-inside : (b : Rectangle) (bs : List Rectangle) (c : ℕ) → b.left ≤ c → c < max b.left b.right → is_free (b ∷ bs) c ≡ 0
+free-inside b bs c h k = let e : leb b.left c ≡ true = grind (arith, nat_tests) in let d : ltb c b.right ≡ true = grind (arith, nat_tests) in rw (e, d) refl
+
+free-after : (b : Rectangle) (bs : List Rectangle) (c : ℕ) → max b.left b.right ≤ c → is_free (b ∷ bs) c ≡ is_free bs c
+free-after b bs c h = let e : leb b.left c ≡ true = grind (arith, nat_tests) in let d : ltb c b.right ≡ false = grind (arith, nat_tests) in rw (e, d) refl
+
+-- nothing is between a column and an earlier one
+between-none : (bs : List Rectangle) (lo hi : ℕ) → hi ≤ lo → free_between bs lo hi ≡ 0
+between-none [] lo hi h = omega arith
+between-none (b ∷ bs) lo hi h = let e : leb hi lo ≡ true = grind (arith, nat_tests) in rw (e, free_between) refl
+
+-- all columns are free
+all-free : (k : ℕ) → sum_below k (is_free []) ≡ k
+all-free zero = refl
+all-free (suc k) = let e = all-free k in omega arith
+
+-- the free columns between two, counted one by one
+between-counts : (bs : List Rectangle) (lo hi : ℕ) → lo ≤ hi → free_between bs lo hi + sum_below lo (is_free bs) ≡ sum_below hi (is_free bs)
+between-counts [] lo hi h = let e = all-free lo in let d = all-free hi in omega arith
+between-counts (b ∷ bs) lo hi h = elim (cases_lt lo hi) [
+  | inr n ↦ let e : lo ≡ hi = omega arith in rw e (omega (arith, between-none (b ∷ bs) hi hi (omega arith)))
+  | inl n ↦
+      let l = b.left in
+      let r = max b.left b.right in
+      let f = is_free bs in
+      let g = is_free (b ∷ bs) in
+      let x : leb hi lo ≡ false = grind (arith, nat_tests) in
+      rw (x, free_between) (between-step lo hi l r (sum_below l f) (sum_below r f) (sum_below lo f) (sum_below hi f) (sum_below lo g) (sum_below hi g) (free_between bs lo (min hi l)) (free_between bs (max lo r) hi) n (omega arith)
+      (λ i. sum_below-same lo g f (λ c k. free-before b bs c (omega arith)))
+      (λ i j. sum-inside f g l r (free-before b bs) (free-inside b bs) (free-after b bs) lo i j)
+      (λ i. sum-after f g l r (free-before b bs) (free-inside b bs) (free-after b bs) lo (omega arith) i)
+      (λ i. sum_below-same hi g f (λ c k. free-before b bs c (omega arith)))
+      (λ i j. sum-inside f g l r (free-before b bs) (free-inside b bs) (free-after b bs) hi i j)
+      (λ i. sum-after f g l r (free-before b bs) (free-inside b bs) (free-after b bs) hi (omega arith) i)
+      (λ i. rw (min-eq_left i) (between-counts bs lo hi h))
+      (λ i j. rw (min-eq_right j) (between-counts bs lo l i))
+      (λ i. between-none bs lo (min hi l) (omega arith))
+      (λ i. between-none bs (max lo r) hi (omega arith))
+      (λ i j. rw (max-eq_right i) (between-counts bs r hi j))
+      (λ i. rw (max-eq_left i) (between-counts bs lo hi h)))
+]
 
 -- a place is in a rectangle by its row and by its column
 in-parts : (r c : ℕ) (b : Rectangle) → is_in_rectangle r c b ≡ (is_in_rows r b && is_in_columns c b)
@@ -46,7 +129,9 @@ region-free v r c l m h k = region_taken v r c l m h k ∙ ap not (any-filter r 
 
 -- the places of the region, counted row by row
 pub region-count : (v : ℕ) → 1 ≤ v → v ≤ 40 → places_passing (side_of v) (is_in_region v) ≡ free_of (side_of v) (taken_rectangles v)
-region-count v l m = places-sum (side_of v) (is_in_region v) ∙ sum_below-same (side_of v) _ _ (λ r h. sum_below-same (side_of v) _ _ (λ c k. ap (λ z. cond z 1 0) (region-free v r c l m h k)))
+region-count v l m = places-sum (side_of v) (is_in_region v) ∙ sum_below-same (side_of v) _ _ (λ r h.
+    let e : sum_below (side_of v) (λ c. cond (is_in_region v r c) 1 0) ≡ sum_below (side_of v) (is_free (filter (is_in_rows r) (taken_rectangles v))) = sum_below-same (side_of v) _ _ (λ c k. ap (λ z. cond z 1 0) (region-free v r c l m h k)) in
+    omega (arith, between-counts (filter (is_in_rows r) (taken_rectangles v)) 0 (side_of v) (omega arith)))
 
 -- the count of one version is what its codewords and remainder bits need
 abbrev pub agrees : ℕ → Bool

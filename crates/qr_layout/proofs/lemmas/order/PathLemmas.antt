@@ -1,5 +1,5 @@
 -- The positions of the walk: a step leaves one fewer, and a position with fewer left has a later key. v is a version.
-use Rattle.std.proofs.Common.{◌≡◌, ℕ, zero, suc, ◌+◌, ◌-◌, ◌*◌, ◌/◌, ◌%◌, ◌<◌, ◌≤◌, Bool, true, false, cond, eqb, ◌⊎◌, arith}
+use Rattle.std.proofs.Common.{◌≡◌, ℕ, ◌+◌, ◌-◌, ◌*◌, ◌/◌, ◌%◌, ◌<◌, ◌≤◌, Bool, true, cond, eqb, ◌⊎◌, arith}
 use Rattle.std.proofs.{Math.Nat.mul-le-mul_right, lemmas.Bool.Decides.nat_tests}
 use Rattle.qr_layout.specs.{declared.order.Cursor.Cursor, Version.side_of}
 use Rattle.qr_layout.specs.Order.{column_without_timing, Key, strip_of, key_of, is_before}

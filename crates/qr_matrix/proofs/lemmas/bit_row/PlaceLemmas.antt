@@ -1,5 +1,5 @@
 -- The bits of a bit row, one by one: what operations on words do to each bit.
-use Rattle.std.proofs.Common.{◌≢◌, List, length, get_or, set, ◌≡◌, ℕ, zero, suc, ◌+◌, ◌-◌, ◌*◌, ◌/◌, ◌%◌, ◌^◌, ◌<◌, ◌≤◌, eqb, ltb, Bool, true, false, not, ◌&&◌, cond, bit_and, bit_or, bit_xor, ◌||◌, count_ones, refl, sym, ap, ◌∙◌, subst, arith}
+use Rattle.std.proofs.Common.{◌≢◌, List, length, get_or, set, ◌≡◌, ℕ, zero, suc, ◌+◌, ◌-◌, ◌*◌, ◌/◌, ◌%◌, ◌^◌, ◌<◌, ◌≤◌, eqb, ltb, Bool, false, not, ◌&&◌, cond, bit_and, bit_or, bit_xor, ◌||◌, count_ones, ap, ◌∙◌, subst, arith}
 use Rattle.std.proofs.lemmas.Nat.{and_le_l, ones_cat, ones-le, shr-shr, shr_split, mod_below, pow_pos, shr_below}
 use Rattle.std.proofs.lemmas.Nat.Bits.{bit_at_above, bit_at_and, bit_at_or, bit_at_xor, bit_at-lt, bit_at_cat_low, bit_at_ones, bit_at_ones_above, bit_at-suc, bit_at_cat_high, bit_at-zero, shr_and_one}
 use Rattle.std.proofs.Math.ListN.{length-set}

@@ -1,10 +1,8 @@
 -- Four bits of a bit row set at once.
-use Rattle.std.proofs.Common.{List, length, get_or, set, ◌≡◌, ℕ, ◌+◌, ◌-◌, ◌*◌, ◌/◌, ◌%◌, ◌^◌, ◌<◌, ◌≤◌, eqb, ltb, leb, Bool, true, false, ◌&&◌, ◌||◌, cond, bit_or, refl, sym, ap, ◌∙◌, ◌⊎◌, inl, inr, true≢false, arith}
+use Rattle.std.proofs.Common.{List, length, get_or, set, ◌≡◌, ℕ, ◌+◌, ◌-◌, ◌*◌, ◌/◌, ◌%◌, ◌^◌, ◌<◌, ◌≤◌, eqb, ltb, leb, Bool, true, false, ◌&&◌, ◌||◌, bit_or, ap, ◌⊎◌, inl, inr, arith}
 use Rattle.std.proofs.{lemmas.Nat.or_lt, lemmas.Nat.Bits.bit_at_above, Math.Nat.mul-le-mul_right, Math.Pow.pow_mono}
 use Rattle.std.proofs.lemmas.Bool.{cases_lt, Decides.nat_tests}
 use Rattle.qr_matrix.specs.BitRow.{has, has_bit}
-use Rattle.qr_matrix.specs.Grid.{Grid, colour, painted, with_row}
-use Rattle.qr_matrix.proofs.lemmas.matrix.{GridLemmas.square-same, GridLemmas.colour-square, MatrixLemmas.with_row-same}
 use Rattle.qr_matrix.proofs.lemmas.bit_row.PlaceLemmas.{has-place, has_bit-or, word-step, has_bit-shl-low, has_bit-shl-high}
 
 -- bit j of a number b that is shifted up by s
@@ -57,43 +55,3 @@ four-set ws c k b bits l w h n f g few =
   where
     none : (a b h p : Bool) → (a && b) ≡ false → p ≡ (p || a && b && h)
     none a b h p e = grind (arith, nat_tests)
-
--- ---- four places of a square
-
--- one place of a row that has another colour is painted
-painted-row : (g : Grid) (row col : ℕ) (f : ℕ → Bool) (b : Bool) → painted (with_row g row f) row col b ≡ with_row g row (λ c. cond (eqb c col) b (f c))
-painted-row g row col f b = square-same g.side (λ r c. cond (eqb r row && eqb c col) b (colour (with_row g row f) r c)) (λ r c. cond (eqb r row) (cond (eqb c col) b (f c)) (colour g r c)) (λ r c l m.
-    ap (λ z. cond (eqb r row && eqb c col) b z) (colour-square g.side (λ r c. cond (eqb r row) (f c) (colour g r c)) r c l m) ∙ told (eqb r row) (eqb c col) (f c) (colour g r c))
-  where
-    told : (t u x y : Bool) → cond (t && u) b (cond t x y) ≡ cond t (cond u b x) y
-    told t u x y = grind (arith, nat_tests)
-
--- one place of a square that has another colour is painted
-painted-first : (g : Grid) (row col : ℕ) (b : Bool) → painted g row col b ≡ with_row g row (λ c. cond (eqb c col) b (colour g row c))
-painted-first g row col b = square-same g.side (λ r c. cond (eqb r row && eqb c col) b (colour g r c)) (λ r c. cond (eqb r row) (cond (eqb c col) b (colour g row c)) (colour g r c)) (λ r c l m.
-    let same : eqb r row ≡ true → colour g r c ≡ colour g row c = λ h. let q : r ≡ row = grind (arith, nat_tests) in ap (λ z. colour g z c) q in
-    told (eqb r row) (eqb c col) (colour g r c) (colour g row c) same)
-  where
-    told : (t u x y : Bool) → (t ≡ true → x ≡ y) → cond (t && u) b x ≡ cond t (cond u b y) x
-    told t u x y h = grind (arith, nat_tests)
-
--- a row with four other colours is a square with four places painted
-pub row-four : (g : Grid) (row col bits : ℕ) → with_row g row (λ c. cond (leb col c && ltb c (col + 4)) (has_bit bits (c - col)) (colour g row c))
-    ≡ painted (painted (painted (painted g row col (has_bit bits 0)) row (col + 1) (has_bit bits 1)) row (col + 2) (has_bit bits 2)) row (col + 3) (has_bit bits 3)
-row-four g row col bits =
-    let a = has_bit bits 0 in
-    let b = has_bit bits 1 in
-    let d = has_bit bits 2 in
-    let e = has_bit bits 3 in
-    let one : ℕ → Bool = λ c. cond (eqb c col) a (colour g row c) in
-    let two : ℕ → Bool = λ c. cond (eqb c (col + 1)) b (one c) in
-    let three : ℕ → Bool = λ c. cond (eqb c (col + 2)) d (two c) in
-    let four : ℕ → Bool = λ c. cond (eqb c (col + 3)) e (three c) in
-    sym (ap (λ (z : Grid). painted (painted (painted z row (col + 1) b) row (col + 2) d) row (col + 3) e) (painted-first g row col a)
-    ∙ (ap (λ (z : Grid). painted (painted z row (col + 2) d) row (col + 3) e) (painted-row g row (col + 1) one b)
-    ∙ (ap (λ (z : Grid). painted z row (col + 3) e) (painted-row g row (col + 2) two d)
-    ∙ (painted-row g row (col + 3) three e ∙ with_row-same g row four (λ c. cond (leb col c && ltb c (col + 4)) (has_bit bits (c - col)) (colour g row c)) (λ c l. place c (colour g row c))))))
-  where
-    place : (c : ℕ) (x : Bool) → cond (eqb c (col + 3)) (has_bit bits 3) (cond (eqb c (col + 2)) (has_bit bits 2) (cond (eqb c (col + 1)) (has_bit bits 1) (cond (eqb c col) (has_bit bits 0) x)))
-        ≡ cond (leb col c && ltb c (col + 4)) (has_bit bits (c - col)) x
-    place c x = grind (arith, nat_tests)

@@ -1,5 +1,5 @@
 -- The modules that cost a point for a run are as many as the points that the runs cost.
-use Rattle.std.proofs.Common.{◌≡◌, ℕ, zero, suc, ◌+◌, ◌-◌, ◌*◌, ◌<◌, ◌≤◌, List, ltb, Bool, true, false, not, ◌&&◌, ◌||◌, cond, refl, ◌∙◌, true≢false, arith}
+use Rattle.std.proofs.Common.{◌≡◌, ℕ, zero, suc, ◌+◌, ◌-◌, ◌*◌, ◌<◌, ◌≤◌, List, ltb, Bool, true, false, not, ◌&&◌, ◌||◌, cond, refl, ◌∙◌, arith}
 use Rattle.std.proofs.lemmas.Bool.Decides.{nat_tests}
 use Rattle.qr_matrix.specs.{BitRow.has, Sums.count_below, Sums.sum_below}
 use Rattle.qr_matrix.specs.Runs.{joins, begins_five, begins_long_run, place_cost}

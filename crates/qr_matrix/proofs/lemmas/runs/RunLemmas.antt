@@ -1,7 +1,8 @@
 -- The cost of the maximal runs is the cost counted module by module. A joined module has the colour of the next one.
-use Rattle.std.proofs.Common.{◌≡◌, ℕ, zero, suc, ◌+◌, ◌-◌, ◌*◌, ◌<◌, ◌≤◌, ◌⊎◌, inl, inr, eqb, ltb, leb, Bool, true, false, not, ◌&&◌, ◌||◌, cond, refl, sym, ap, ◌∙◌, arith}
+use Rattle.std.proofs.Common.{◌≡◌, ℕ, zero, suc, ◌+◌, ◌-◌, ◌*◌, ◌<◌, ◌≤◌, ◌⊎◌, inl, inr, eqb, ltb, leb, Bool, true, false, not, ◌&&◌, ◌||◌, cond, refl, ap, ◌∙◌, arith}
 use Rattle.std.proofs.lemmas.Bool.{cases_Bool, cases_lt, Decides.nat_tests}
-use Rattle.qr_matrix.specs.{Grid.is_same, Sums.all_below, Sums.sum_below, Penalty.is_run, Penalty.run_cost}
+use Rattle.qr_matrix.specs.{Grid.is_same, Sums.all_below, Sums.places_passing, Sums.sum_below, Penalty.is_run, Penalty.run_cost}
+use Rattle.qr_matrix.specs.Penalty.{dark_cost, over_lines, penalty_of, square_count, window_count}
 use Rattle.qr_matrix.specs.Runs.{joins, begins_five, begins_long_run, place_cost}
 use Rattle.qr_matrix.proofs.lemmas.bit_row.SumLemmas.{sum_below-same, sum_below-add, sum_below-scale, sum_below-one}
 use Rattle.qr_matrix.proofs.lemmas.{bit_row.BoolLemmas.and-false, runs.RowLemmas.joins-past}
@@ -196,4 +197,12 @@ runs-by-places s line =
     let c = open-end s line in
     let d = sum_below-add s (λ a. cond (begins_five s line a) 1 0) (λ a. 2 * cond (begins_long_run s line a) 1 0) in
     let e = sum_below-scale 2 s (λ a. cond (begins_long_run s line a) 1 0) in
+    omega arith
+
+-- the penalty, with the points for runs counted module by module
+pub penalty-by-places : (s : ℕ) (d : ℕ → ℕ → Bool) → penalty_of s d ≡ over_lines s d (place_cost s) + 3 * square_count s d + 40 * over_lines s d (window_count s) + dark_cost s (places_passing s d)
+unfolding penalty_of over_lines
+penalty-by-places s d =
+    let rows = sum_below-same s (λ r. run_cost s (d r)) (λ r. place_cost s (d r)) (λ r _. runs-by-places s (d r)) in
+    let columns = sum_below-same s (λ c. run_cost s (λ r. d r c)) (λ c. place_cost s (λ r. d r c)) (λ c _. runs-by-places s (λ r. d r c)) in
     omega arith

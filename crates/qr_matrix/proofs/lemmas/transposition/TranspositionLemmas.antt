@@ -1,5 +1,5 @@
 -- A tile of 64 words of 64 bits is transposed in six stages, each of which exchanges parts of s rows and s columns.
-use Rattle.std.proofs.Common.{List, length, get_or, set, replicate, ◌≡◌, ◌≢◌, ℕ, ◌+◌, ◌-◌, ◌*◌, ◌/◌, ◌%◌, ◌^◌, ◌<◌, ◌≤◌, min, eqb, ltb, Bool, true, false, not, ◌&&◌, cond, bit_and, bit_xor, refl, ap, ◌∙◌, ◌||◌, inl, inr, ◌⊎◌, arith}
+use Rattle.std.proofs.Common.{List, length, get_or, set, replicate, ◌≡◌, ◌≢◌, ℕ, ◌+◌, ◌-◌, ◌*◌, ◌/◌, ◌%◌, ◌^◌, ◌<◌, ◌≤◌, min, eqb, ltb, Bool, true, false, not, ◌&&◌, cond, bit_and, bit_xor, ap, ◌∙◌, ◌||◌, inl, inr, ◌⊎◌, arith}
 use Rattle.std.proofs.{lemmas.Nat.mod-mul-add, lemmas.Nat.shr_split, Math.Nat.mod-eq_of_lt, Math.Nat.mul-mod_right}
 use Rattle.std.proofs.{Math.ListN.length-set, lemmas.Nat.Bits.bit_at_cat_low, lemmas.Nat.Bits.bit_at-zero}
 use Rattle.std.proofs.lemmas.List.{get_or_past, get_or-replicate, length-replicate, get_or-set_same, get_or-set_other}
@@ -35,10 +35,6 @@ has_bit-word n c l = cc (bit_at_cat_low (n / 2 ^ 64) 64 (n % 2 ^ 64) c l, shr_sp
 -- if b is changed where it differs from a and the mask m is set, then the result is a where m is set, and b elsewhere
 changed : (a b m : Bool) → not (is_same b (not (is_same a b) && m)) ≡ cond m a b
 changed a b m = grind (arith, nat_tests)
-
--- a bit that is changed where it differs from another and a mask lets it
-replaced : (n b m t : Bool) → m ≡ t → not (is_same n (not (is_same n b) && m)) ≡ cond t b n
-replaced n b m t e = search arith
 
 -- the upper word after an exchange: bit c of u in the left part, and bit c - s of l in the right part
 pub upper-word : (u l s m c : ℕ) → 1 ≤ s → ((c : ℕ) → c < 64 → has_bit m c ≡ ltb (c % (2 * s)) s) → c < 64

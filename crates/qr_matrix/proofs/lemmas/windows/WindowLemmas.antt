@@ -1,5 +1,5 @@
 -- The windows of rows and columns, found and counted on bit rows.
-use Rattle.std.proofs.Common.{◌≡◌, ℕ, ◌+◌, ◌<◌, ◌≤◌, List, ltb, leb, Bool, true, false, not, ◌&&◌, ◌||◌, cond, refl, sym, ap, ◌∙◌, arith}
+use Rattle.std.proofs.Common.{◌≡◌, ℕ, ◌+◌, ◌<◌, ◌≤◌, List, ltb, leb, Bool, true, false, not, ◌&&◌, ◌||◌, cond, sym, ap, ◌∙◌, arith}
 use Rattle.std.proofs.lemmas.Bool.Decides.{nat_tests}
 use Rattle.qr_matrix.specs.{BitRow.has, Steps.size_of, Sums.count_below, Sums.sum_below}
 use Rattle.qr_matrix.specs.Penalty.{finder_ratio, four_light, reads, is_window, window_count}

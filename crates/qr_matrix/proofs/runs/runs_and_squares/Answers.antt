@@ -30,6 +30,25 @@ loop-row-init c = record {
 fits : (s w : ℕ) → s ≤ 64 * w → w ≤ 3 → s ≤ 192
 fits s w h k = omega arith
 
+-- numbers of rows after the row r
+second : (r : ℕ) → r + 2 ≡ r + 1 + 1
+second r = omega arith
+
+third : (r : ℕ) → r + 3 ≡ r + 1 + 2
+third r = omega arith
+
+before : (r : ℕ) → r + 1 - 1 ≡ r
+before r = omega arith
+
+second_before : (r : ℕ) → r + 1 - 2 ≡ r - 1
+second_before r = omega arith
+
+positive : (r : ℕ) → ltb 0 (r + 1) ≡ true
+positive r = grind (arith, nat_tests)
+
+above_one : (r : ℕ) → ltb 1 (r + 1) ≡ ltb 0 r
+above_one r = grind (arith, nat_tests)
+
 -- a sum of so many costs, and one more
 small : (a b m r : ℕ) → a ≤ m * r → b ≤ m → a + b ≤ m * (r + 1)
 small a b m r h k = let e = mul-suc m r in omega arith
@@ -47,7 +66,7 @@ loop-row-preserved c =
     let later : (a b k : ℕ) (x : Bool) → a ≡ b → x ≡ (ltb k s && joins s (λ i. d i k) a) → x ≡ (ltb k s && joins s (λ i. d i k) b) = λ a b k x e h. h ∙ ap (λ z. ltb k s && joins s (λ i. d i k) z) e in
     let square : (k : ℕ) → has c.squares_at.result k ≡ is_square_of_two s d r k = λ k. square-bit s d r k (has c.squares_at.result k) (has c.joined-joins.result k) (has c.loop-row.first k) (has c.loop-row.first (k + 1)) (c.squares_at.ensures k) (c.joined-joins.ensures k) (i.first k) (i.first (k + 1)) in
     let five : (k : ℕ) → has c.bitand-fives.result k ≡ (ltb k s && begins_five s (λ i. d i k) r) = λ k. five-down-bit s (λ i. d i k) k r (has c.bitand-fives.result k) (has c.bitand.result k) (has c.bitand-in-loop-row.result k) (has c.loop-row.first k) (has c.loop-row.second k) (has c.loop-row.third k) (has c.joined_in_column-fourth.result k) (c.bitand-fives.ensures k) (c.bitand.ensures k) (c.bitand-in-loop-row.ensures k) (i.first k) (i.second k) (i.third k) (c.joined_in_column-fourth.ensures k) in
-    let three : (k : ℕ) → has c.bitor-in-loop-row.result k ≡ ((has c.bitand-fives.result k || has c.loop-row.above k) || has c.loop-row.second_above k) = λ k. let e = c.bitor-in-loop-row.ensures k in let f = c.bitor.ensures k in cc in
+    let three : (k : ℕ) → has c.bitor-in-loop-row.result k ≡ ((has c.bitand-fives.result k || has c.loop-row.above k) || has c.loop-row.second_above k) = λ k. c.bitor-in-loop-row.ensures k ∙ ap (λ z. z || has c.loop-row.second_above k) (c.bitor.ensures k) in
     record {
       rows = sum_below-more r _ _ _ (λ r. place_cost s (d r)) i.rows (c.count-rows.ensures.value ∙ row_cost s (d r) c.joined-joins.result c.fours.result c.costing.result few c.joined-joins.ensures c.fours.ensures c.costing.ensures) refl;
       rows_small = rows_small;
@@ -56,16 +75,12 @@ loop-row-preserved c =
       squares = sum_below-more r _ _ _ (λ r. count_below s (is_square_of_two s d r)) i.squares (c.count-squares.ensures.value ∙ squares-row s d r c.squares_at.result few square) refl;
       squares_small = squares_small;
       above = λ k.
-          let t : ltb 0 (r + 1) ≡ true = grind (arith, nat_tests) in
-          let e : r + 1 - 1 ≡ r = omega arith in
-          five k ∙ sym (λ i. t i && (ltb k s && begins_five s (λ i. d i k) (e i)));
+          five k ∙ sym (λ i. positive r i && (ltb k s && begins_five s (λ i. d i k) (before r i)));
       second_above = λ k.
-          let t : ltb 1 (r + 1) ≡ ltb 0 r = grind (arith, nat_tests) in
-          let e : r + 1 - 2 ≡ r - 1 = omega arith in
-          c.loop-row.invariant.above k ∙ sym (λ i. t i && (ltb k s && begins_five s (λ i. d i k) (e i)));
+          i.above k ∙ sym (λ i. above_one r i && (ltb k s && begins_five s (λ i. d i k) (second_before r i)));
       first = i.second;
-      second = λ k. later (r + 2) (r + 1 + 1) k (has c.loop-row.third k) (omega arith) (i.third k);
-      third = λ k. later (r + 3) (r + 1 + 2) k (has c.joined_in_column-fourth.result k) (omega arith) (c.joined_in_column-fourth.ensures k);
+      second = λ k. later (r + 2) (r + 1 + 1) k (has c.loop-row.third k) (second r) (i.third k);
+      third = λ k. later (r + 3) (r + 1 + 2) k (has c.joined_in_column-fourth.result k) (third r) (c.joined_in_column-fourth.ensures k);
     }
 
 pub returns-clause-runs : goal.returns-clause-runs

@@ -1,4 +1,4 @@
-use Rattle.std.proofs.Common.{◌<◌, ◌∙◌, arith}
+use Rattle.std.proofs.Common.{◌∙◌, arith}
 use Rattle.qr_layout.proofs.lemmas.blocks.BlockLemmas.{laws-of, quotient-fits}
 use Rattle.qr_layout.proofs.version.Version.blocks.Goals as goal
 
