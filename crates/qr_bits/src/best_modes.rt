@@ -64,7 +64,7 @@ fn choice_if(may: bool, first: u32, rest: u32) -> u32
 
 #[tactic(auto, using(crate::proofs::Named::packed_rows))]
 #[inline(always)]
-fn row_for(numbers: &PerState<u32>) -> u32
+fn row_for(numbers: &PerState) -> u32
     ensures { (p : RunState) → mode_at result p ≡ ranked (in_state numbers.now p % 4) }
 {
     let last = numbers.half_pair % 4 + 4 * (numbers.whole_pair % 4);
@@ -83,8 +83,8 @@ fn choices(
     digit: bool,
     character: bool,
     pair: bool,
-    rest: &PerState<u32>,
-) -> (u32, PerState<u32>)
+    rest: &PerState,
+) -> (u32, PerState)
     requires { IsSmall rest.now }
     ensures { (r : Rule) (x : ℕ) → digit ≡ may_begin r x pair Mode.Numeric
         → character ≡ may_begin r x pair Mode.Alphanumeric
@@ -132,8 +132,8 @@ pub(crate) fn best_choices(
     rule: Rule,
     byte: u8,
     pair: bool,
-    rest: &PerState<u32>,
-) -> (u32, PerState<u32>)
+    rest: &PerState,
+) -> (u32, PerState)
     requires { IsSmall rest.now }
     ensures { IsRow first_choices.now.version rule byte pair rest.now result.0 result.1 }
 {
