@@ -18,8 +18,8 @@ pub fn fold(alloc: Global, input: &[u8], rule: Rule) -> Result<Vec<u8>, AllocErr
     ensures len { IfOk result (λ v. vec_len v ≡ length input.now) }
 {
     match rule {
-        Rule::Auto => input.iter().map(|byte| capital(*byte)).collect(alloc),
-        Rule::BytesOnly => input.iter().copied().collect(alloc),
+        Rule::Auto => input.to_ascii_uppercase(alloc),
+        Rule::BytesOnly => Vec::from_slice(alloc, input),
         Rule::WithKanji => fold_around_pairs(alloc, input),
     }
 }
