@@ -18,8 +18,8 @@ overflow_add-used c =
     let all = covers_all c.args.input.now c.args.segs.now c.requires.covered in
     omega (arith, header_most c.args.header, all.1, bits_most c.args.version c.args.segs.now all.0, c.requires.short, c.header_bits.ensures, c.bit_len.ensures)
 
-pub put_segments-requires-clause-short : goal.put_segments-requires-clause-short
-put_segments-requires-clause-short c =
+pub put_all-requires-clause-short : goal.put_all-requires-clause-short
+put_all-requires-clause-short c =
     let least = bits_least c.args.version c.args.input.now c.args.segs.now (covers_suits c.args.input.now c.args.segs.now c.requires.covered) in
     let most = capacity_most c.args.version c.args.level c.capacity-capacity.ensures.first c.capacity-capacity.ensures.last in
     omega (arith, least, most, c.capacity-capacity.ensures.value, c.header_bits.ensures, c.bit_len.ensures, c.if-used-capacity.false)
@@ -33,12 +33,11 @@ returns-clause-ok c =
       bytes = All-from_get_or (λ (b : ℕ). b < 256) xs 0 (λ i h. omega (arith, c.type_inv.input i));
       suit = suit;
       counts = counts_fit c.args.version c.args.level segs (omega arith) (omega arith) (omega arith);
-      header = header_fits c.args.header c.requires.in_range c.in_ok-put_header.ensures.parity;
+      header = header_fits c.args.header c.requires.in_range c.in_ok-put_all.ensures.parity;
       whole = refl;
     } in
     is_data c.args.version c.args.level xs segs c.args.header _ (c.header_bits.result + c.bit_len.result) c.into_codewords-codewords.result.items _ is
     (omega (arith, length-append (header_stream c.args.header) (segments_stream c.args.version xs segs), length-header_stream c.args.header, length-segments_stream c.args.version xs segs suit))
     (omega arith)
-    (rw (c.into_codewords-codewords.ensures, c.in_ok-fill.ensures, c.in_ok-put.ensures, c.in_ok-put_segments.ensures)
-    (rw (c.in_ok-put_header.ensures.written, c.new-writer.ensures, c.min.ensures, c.capacity-capacity.ensures.value)))
+    (rw (c.into_codewords-codewords.ensures, c.in_ok-put_all.ensures.written, c.new-writer.ensures, c.capacity-capacity.ensures.value))
     (search arith) c.in_ok-pad.ensures.bytes
