@@ -85,7 +85,7 @@ fn put_payload(writer: &mut BitWriter, mode: Mode, bytes: &[u8]) -> Result<(), A
 }
 
 // Three digits in ten bits, two or one at the end in seven or four (7.4.3).
-#[tactic(auto, unfolding(crate::specs::Stream::digit_bits), using(crate::proofs::lemmas::stream::WritingLemmas::all_rest, std::proofs::lemmas::List::append_assoc))]
+#[tactic(auto, unfolding(crate::specs::Stream::digit_bits))]
 fn put_digits(writer: &mut BitWriter, digits: &[u8]) -> Result<(), AllocError>
     requires { IsTrue (list_all is_digit digits.now) }
     ensures { OnOk result (writer.new ≡ writer.old ++ digit_bits digits.now) }
