@@ -1,7 +1,7 @@
 //! Folding: small letters become capitals, which alphanumeric mode can write.
 
 ghost use Rattle.std.specs.Prelude.{◌≡◌, length, map, vec_len, IfOk};
-ghost use Rattle.qr_bits.specs.Folding.{capital, folded, folded_around_pairs};
+ghost use Rattle.qr_bits.specs.Folding.{folded, folded_around_pairs};
 
 use crate::best_modes::begins_with_pair;
 use crate::modes::Rule;
@@ -37,16 +37,9 @@ fn fold_around_pairs(alloc: Global, input: &[u8]) -> Result<Vec<u8>, AllocError>
             folded.extend_from_slice(pair)?;
             rest = after;
         } else {
-            folded.push(capital(rest[0]))?;
-            let (_, after) = rest.split_at(1);
-            rest = after;
+            folded.push(rest[0].to_ascii_uppercase())?;
+            rest = &rest[1..];
         }
     }
     Ok(folded)
-}
-
-fn capital(byte: u8) -> u8
-    ensures { result ≡ capital byte }
-{
-    byte.to_ascii_uppercase()
 }

@@ -22,13 +22,13 @@ pub(crate) fn put_header(writer: &mut BitWriter, header: Option<Header>) -> Resu
     ensures written { OnOk result (writer.new ≡ writer.old ++ header_stream header) }
     ensures parity { OnOk result (ForSome header (λ h. h.parity < 256)) }
 {
-    if let Some(header) = header {
-        writer.put(4, STRUCTURED_APPEND)?;
-        writer.put(4, u16::from(header.position))?;
-        writer.put(4, u16::from(header.last))?;
-        writer.put(8, u16::from(header.parity))?;
-    }
-    Ok(())
+    let Some(header) = header else {
+        return Ok(());
+    };
+    writer.put(4, STRUCTURED_APPEND)?;
+    writer.put(4, u16::from(header.position))?;
+    writer.put(4, u16::from(header.last))?;
+    writer.put(8, u16::from(header.parity))
 }
 
 pub(crate) fn put_segments(

@@ -1,5 +1,5 @@
-use Rattle.std.proofs.{Common.◌<◌, Common.length, Common.sym, Common.◌∙◌, Common.arith, lemmas.Bool.eqb-false}
-use Rattle.qr_bits.proofs.lemmas.folding.FoldingLemmas.{folded_pair, folded_one, more_folded}
+use Rattle.std.proofs.{Common.◌<◌, Common.length, Common.get_or, Common.sym, Common.◌∙◌, Common.arith, lemmas.Bool.eqb-false, lemmas.List.take_rest}
+use Rattle.qr_bits.proofs.lemmas.folding.FoldingLemmas.{folded_pair, folded_one, more_folded, uppercase}
 use Rattle.qr_bits.proofs.folding.fold_around_pairs.Goals as goal
 
 pub loop-rest-preserved-then-begins_with_pair : goal.loop-rest-preserved-then-begins_with_pair
@@ -11,8 +11,7 @@ loop-rest-preserved-then-begins_with_pair c =
 pub loop-rest-preserved : goal.loop-rest-preserved
 loop-rest-preserved c =
     let rest = c.loop-rest.rest.now in
-    let some : 0 < length rest =
-    omega (arith, eqb-false (length rest) 0 (sym c.is_empty.ensures ∙ c.loop-rest-test.true)) in
+    let some : 0 < length rest = omega (arith, eqb-false (length rest) 0 (sym c.is_empty.ensures ∙ c.loop-rest-test.true)) in
     let one = folded_one rest (sym c.begins_with_pair.ensures ∙ c.if-begins_with_pair.false) some in
-    rw (c.in_ok-push.ensures.items, c.capital.ensures, c.split_at-else-begins_with_pair.ensures.back)
+    rw (c.in_ok-push.ensures.items, c.to_ascii_uppercase.ensures.value, uppercase (get_or rest 0 0), take_rest rest 1)
     (more_folded c.loop-rest.folded.items _ _ _ _ one c.loop-rest.invariant)

@@ -5,7 +5,8 @@ use Rattle.std.specs.Char.{to_ascii_uppercase}
 use Rattle.qr_bits.specs.{declared.modes.Rule.Rule, declared.modes.Rule.TheVariants.WithKanji, Modes.is_kanji_pair}
 use Rattle.qr_bits.specs.{Folding.capital, Folding.folded, Folding.folded_around_pairs, Steps.RunState.begins_with_pair}
 
-uppercase : (b : ℕ) → to_ascii_uppercase b ≡ capital b
+-- what std calls the capital of a byte
+pub uppercase : (b : ℕ) → to_ascii_uppercase b ≡ capital b
 uppercase b = grind (arith, nat_tests)
 
 -- the capitals of bytes
