@@ -25,13 +25,13 @@ returns c = λ r x digit character.
     let a = rw character at (c.choice_if-characters.ensures _ Alphanumeric h.alphanumeric_is) in
     let b : c.choice_if-bytes.result ≡ of Start Byte = rw (byte_used r) (c.choice_if-bytes.ensures _ Byte h.byte_is) in
     let k = c.choice_if-pairs.ensures _ Kanji h.kanji_is in
-    let d2 = rw digit at (c.choice_if-digit2.ensures 3 Numeric c.number.ensures.value) in
-    let d3 = rw digit at (c.choice_if-digit3.ensures 3 Numeric c.number-2.ensures.value) in
-    let d1 = rw digit at (c.choice_if-digit1.ensures 4 Numeric c.number-3.ensures.value) in
-    let c2 = rw character at (c.choice_if-character2.ensures 5 Alphanumeric c.number-4.ensures.value) in
-    let c1 = rw character at (c.choice_if-character1.ensures 6 Alphanumeric c.number-5.ensures.value) in
-    let b1 : c.choice_if-in_bytes.result ≡ of InBytes Byte = rw (byte_used r) (c.choice_if-in_bytes.ensures 8 Byte c.number-6.ensures.value) in
-    let k1 = c.choice_if-half_pair.ensures 13 Kanji c.number-8.ensures.value in
+    let d2 = rw digit at c.next_if-digit2.ensures in
+    let d3 = rw digit at c.next_if-digit3.ensures in
+    let d1 = rw digit at c.next_if-digit1.ensures in
+    let c2 = rw character at c.next_if-character2.ensures in
+    let c1 = rw character at c.next_if-character1.ensures in
+    let b1 : c.next_if-in_bytes.result ≡ of InBytes Byte = rw (byte_used r) c.next_if-in_bytes.ensures in
+    let k1 = c.next_if-half_pair.ensures in
     let bk = rw (b, k) at c.min-others.ensures in
     let ab = rw (a, bk) at c.min-no_digits.ensures in
     let nbk = rw (n, bk) at c.min-no_characters.ensures in
@@ -46,6 +46,6 @@ returns c = λ r x digit character.
       | Character1 ↦ rw (c.row_for.ensures Character1) (least_choice v r Character1 x t _ _ refl s ((rw (c2, nbk) at c.min-4.ensures) ∙ m.1))
       | Character2 ↦ rw (c.row_for.ensures Character2) (least_choice v r Character2 x t _ _ refl s ((rw (c1, start) at c.min-5.ensures) ∙ m.2))
       | InBytes ↦ rw (c.row_for.ensures InBytes) (least_choice v r InBytes x t _ _ refl s ((rw (b1, start) at c.min-6.ensures) ∙ m.3))
-      | HalfPair ↦ rw (c.row_for.ensures HalfPair) (half_choice v r x t _ _ (c.choice_if-whole_pair.ensures 0 Kanji c.number-7.ensures.value))
+      | HalfPair ↦ rw (c.row_for.ensures HalfPair) (half_choice v r x t _ _ c.next_if-whole_pair.ensures)
       | WholePair ↦ rw (c.row_for.ensures WholePair) (least_choice v r WholePair x t _ _ refl s ((rw (k1, start) at c.min-7.ensures) ∙ m.4))
     ]
