@@ -202,6 +202,19 @@ fn digits(reader: &mut BitReader, count: usize, out: &mut Vec<u8>) -> Result<(),
         out.extend_from_slice(&[digit(group / 100), digit(group / 10), digit(group)])?;
         left -= 3;
     }
+    last_digits(reader, left, out)
+}
+
+// At most two digits, in seven or four bits (7.4.3).
+#[tactic(auto, unfolding(crate::specs::Parsing::digits_of))]
+fn last_digits(reader: &mut BitReader, left: usize, out: &mut Vec<u8>) -> Result<(), ParseFault>
+    requires few { left < 3 }
+    requires there { payload_bits Mode.Numeric left ≤ length reader.old }
+    ensures ok { OnOk result ((xs : List ℕ) × (digits_of left reader.old ≡ Ok xs)
+        × (out.new.items ≡ out.old.items ++ xs)
+        × (reader.new ≡ drop (payload_bits Mode.Numeric left) reader.old)) }
+    ensures err { IfErr result (λ e. IsFaultOf e (digits_of left reader.old)) }
+{
     if left == 2 {
         let group = reader.take(7);
         if group >= TWO_DIGITS {
