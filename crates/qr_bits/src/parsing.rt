@@ -185,7 +185,7 @@ fn values(
     }
 }
 
-#[tactic(auto, unfolding(crate::specs::Parsing::digits_of), using(crate::proofs::Named::reading_groups))]
+#[tactic(auto, using(crate::proofs::Named::reading_groups))]
 fn digits(reader: &mut BitReader, count: usize, out: &mut Vec<u8>) -> Result<(), ParseFault>
     requires { payload_bits Mode.Numeric count ≤ length reader.old }
     ensures ok { OnOk result ((xs : List ℕ) × (digits_of count reader.old ≡ Ok xs)
