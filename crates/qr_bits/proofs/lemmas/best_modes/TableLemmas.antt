@@ -75,7 +75,3 @@ pub led_on : (p : RunState) (items rows : List ℕ) (row : ℕ) (ms all : List M
     → ms ++ follow p (reverse items) ≡ all → (ms ++ m ∷ []) ++ follow (state_after p m) (reverse rows) ≡ all
 unfolding follow
 led_on p items rows row ms all m last is so_far = search (arith, reverse-append, append_assoc)
-
-pub follow-nil : (p : RunState) → follow p [] ≡ []
-unfolding follow
-follow-nil p = refl

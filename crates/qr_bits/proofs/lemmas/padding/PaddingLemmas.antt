@@ -32,9 +32,7 @@ pads-none n h = grind arith
 pub is_data : (v : ℕ) (l : Level) (xs : List ℕ) (segs : List Segment) (h : Option Header) (stream : List Bool) (used : ℕ) (whole cw : List ℕ)
     → IsStream v xs segs h stream → length stream ≡ used → used ≤ capacity_of v l
     → bits_of whole ≡ filled (stream ++ field (min 4 (capacity_of v l - used)) 0)
-    → cw ≡ whole ++ pads (data_codewords_of v l - length whole)
-    → All (λ b. b < 256) cw
-    → IsData v l xs segs h cw
+    → cw ≡ whole ++ pads (data_codewords_of v l - length whole) → All (λ b. b < 256) cw → IsData v l xs segs h cw
 unfolding padded
 is_data v l xs segs h stream used whole cw is len fits filling padding bytes =
     search (arith, bits_of, field-zero, length-bits_of, bits_of-append)

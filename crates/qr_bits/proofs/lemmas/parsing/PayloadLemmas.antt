@@ -1,12 +1,12 @@
 -- The data of a segment is read group by group.
 use Rattle.std.proofs.Common.{cond, nat_lt, ◌≡◌, ℕ, suc, ◌+◌, ◌-◌, ◌/◌, ◌%◌, ◌^◌, ◌<◌, ◌≤◌, Bool, List, [], ◌∷◌, ◌++◌, take, drop, Result, Ok, Err, arith}
 use Rattle.std.proofs.{lemmas.List.length-take, lemmas.List.append_assoc, Math.Nat.pow-le-pow_right}
-use Rattle.qr_bits.specs.declared.modes.Mode.TheVariants.{Numeric, Alphanumeric}
+use Rattle.qr_bits.specs.declared.modes.Mode.TheVariants.{Numeric}
 use Rattle.qr_bits.specs.declared.fault.ParseFault.{ParseFault, TheVariants.BadValue}
 use Rattle.qr_bits.specs.{Bits.value, Modes.payload_bits, Steps.Parsing.IsFaultOf}
 use Rattle.qr_bits.specs.Parsing.{◌>>=◌, digit, digits_of, character, characters_of, bytes_of}
 use Rattle.qr_bits.proofs.lemmas.bits.BitLemmas.{value_below}
-use Rattle.qr_bits.proofs.lemmas.stream.WritingLemmas.{three_more, two_more}
+use Rattle.qr_bits.proofs.lemmas.stream.WritingLemmas.{three_more}
 
 -- bits make a number below the power of their width
 pub value_take_below : (w : ℕ) (bs : List Bool) → value (take w bs) < 2 ^ w
@@ -26,10 +26,6 @@ pub digits_step : (n : ℕ) (bs : List Bool) → 3 ≤ n → digits_of n bs ≡ 
 unfolding digits_of
 digits_step (suc (suc (suc n))) bs h = search arith
 digits_step _ bs h = absurd (omega arith)
-
--- two characters less have eleven bits less
-pub payload_two_less : (n : ℕ) → 2 ≤ n → payload_bits Alphanumeric n ≡ 11 + payload_bits Alphanumeric (n - 2)
-payload_two_less n h = omega (arith, two_more)
 
 -- two characters, and the characters after them
 pub characters_step : (n : ℕ) (bits : List Bool) → 2 ≤ n → characters_of n bits ≡ cond (nat_lt (value (take 11 bits)) 2025)

@@ -141,10 +141,7 @@ segments_more v bits rest s ss ys zs one others =
 segments_takes : (n v : ℕ) (bits : List Bool) (r : List Segment × List ℕ) → length bits ≤ n → segments_at n v bits ≡ Ok r → IsSegments v bits r.0 r.1
 unfolding segments_at
 segments_takes zero v bits r few h = search (arith, same_ok, segments_none, ended_empty)
-segments_takes (suc n) v bits r few h =
-    ⊎_elim
-    (search (arith, same_ok, segments_none))
-    (λ (e : ends bits ≡ false).
+segments_takes (suc n) v bits r few h = ⊎_elim (search (arith, same_ok, segments_none)) (λ (e : ends bits ≡ false).
     let four = not_ended bits e in
     let s = bind_ok (segment_at v bits) _ r (rw e at h) in
     let q = bind_ok (segments_at n v s.0.2) _ r s.2 in
@@ -219,14 +216,10 @@ header_takes bits r h =
 
 first_takes : (bits : List Bool) (r : Option Header × List Bool) → first_header bits ≡ Ok r → HeaderFits r.0 × (bits ≡ header_stream r.0 ++ r.1)
 unfolding first_header header_stream
-first_takes bits r h =
-    ⊎_elim
-    (λ (e : begins_header bits ≡ true).
+first_takes bits r h = ⊎_elim (λ (e : begins_header bits ≡ true).
     let q = bind_ok (header_at (drop 4 bits)) _ r (rw e at h) in
     let w = header_takes (drop 4 bits) q.0 q.1 in
-    search (arith, same_ok, append_assoc, started))
-    (search (arith, same_ok))
-    (cases_Bool (begins_header bits))
+    search (arith, same_ok, append_assoc, started)) (search (arith, same_ok)) (cases_Bool (begins_header bits))
 
 -- A stream followed by an end is parsed into its header, segments and bytes.
 pub parse_again : (v : ℕ) (xs : List ℕ) (segs : List Segment) (h : Option Header) (front tail : List Bool) → IsStream v xs segs h front → ends tail ≡ true

@@ -43,12 +43,10 @@ loop-i-preserved c =
           rw w.longest-is (record {
             inside = omega (arith, inv.inside);
             fits = inv.fits;
-            longest = λ k h fit. ⊎_elim
-                (λ (l : i < k).
+            longest = λ k h fit. ⊎_elim (λ (l : i < k).
                 let e : k ≡ i + 1 = omega arith in
                 absurd (omega (arith, prefix_least v r (take (i + 1) xs) _ _ room b (rw e at fit), w.if-from-room.false, c.from.ensures)))
-                (λ (l : k ≤ i). inv.longest k l fit)
-                (cases_lt i k);
+                (λ (l : k ≤ i). inv.longest k l fit) (cases_lt i k);
             small = search (arith, small_more);
             best = (c.best_choices.result.0 ∷ inv.best.0, b);
           })

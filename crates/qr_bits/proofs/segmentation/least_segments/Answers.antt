@@ -6,7 +6,7 @@ use Rattle.qr_bits.specs.{declared.run_state.RunState.TheVariants.Start, Segment
 use Rattle.qr_bits.specs.Steps.{RunState.state_after, RunState.state_on, Segmentation.one_segment, BestModes.follow}
 use Rattle.qr_bits.proofs.lemmas.segmentation.BackLemmas.{run_same, run_other, runs_of-push, sameb_self}
 use Rattle.qr_bits.proofs.lemmas.best_modes.ChoiceLemmas.{on_after}
-use Rattle.qr_bits.proofs.lemmas.best_modes.TableLemmas.{follow-nil, led_on, assignment_from_table}
+use Rattle.qr_bits.proofs.lemmas.best_modes.TableLemmas.{led_on, assignment_from_table}
 use Rattle.qr_bits.proofs.segmentation.least_segments.Goals as goal
 
 pub loop-modes-init : goal.loop-modes-init
@@ -43,9 +43,9 @@ loop-modes-preserved c =
     )
 
 pub returns-clause-ok : goal.returns-clause-ok
+unfolding follow
 returns-clause-ok c =
     let i = c.loop-modes.invariant in
     let none : c.loop-modes.table.items ≡ [] = search (arith, nil_from_length) in
-    let end : i.0 ++ [] ≡ follow Start (reverse c.in_ok-table.table.items) = rw (none, follow-nil c.loop-modes.state) at i.2 in
-    let whole : i.0 ≡ follow Start (reverse c.in_ok-table.table.items) = sym (append-nil i.0) ∙ end in
+    let whole : i.0 ≡ follow Start (reverse c.in_ok-table.table.items) = sym (append-nil i.0) ∙ rw none at i.2 in
     (i.0, rw whole (assignment_from_table c.args.version c.args.rule c.args.input.now (reverse c.in_ok-table.table.items) c.in_ok-table.ensures.best), c.in_ok-push_segment-2.ensures ∙ i.1)
