@@ -24,7 +24,6 @@ pub fn fold(alloc: Global, input: &[u8], rule: Rule) -> Result<Vec<u8>, AllocErr
     }
 }
 
-#[tactic(auto, using(crate::proofs::lemmas::folding::FoldingLemmas::begun_with_pair))]
 fn fold_around_pairs(alloc: Global, input: &[u8]) -> Result<Vec<u8>, AllocError>
     ensures bytes { IfOk result (λ v. v.items ≡ folded_around_pairs input.now) }
     ensures len { IfOk result (λ v. vec_len v ≡ length input.now) }

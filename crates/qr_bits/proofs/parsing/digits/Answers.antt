@@ -1,8 +1,8 @@
-use Rattle.std.proofs.Common.{◌-◌, append_assoc, arith}
+use Rattle.std.proofs.Common.{◌≡◌, ◌+◌, ◌-◌, append_assoc, arith}
 use Rattle.std.proofs.lemmas.{Bool.Decides.nat_tests, Bool.le-ltb, List.length-drop, List.drop-drop}
 use Rattle.qr_bits.specs.declared.{modes.Mode.TheVariants.Numeric, fault.ParseFault.TheVariants.BadValue}
 use Rattle.qr_bits.specs.Modes.{payload_bits}
-use Rattle.qr_bits.proofs.lemmas.parsing.PayloadLemmas.{payload_less, digits_step, fails}
+use Rattle.qr_bits.proofs.lemmas.{parsing.PayloadLemmas.digits_step, parsing.PayloadLemmas.fails, stream.WritingLemmas.three_more}
 use Rattle.qr_bits.proofs.parsing.digits.Goals as goal
 
 pub returns-then-group-ge-THREE_DIGITS-clause-err : goal.returns-then-group-ge-THREE_DIGITS-clause-err
@@ -12,7 +12,8 @@ returns-then-group-ge-THREE_DIGITS-clause-err c =
 pub loop-left-preserved : goal.loop-left-preserved
 loop-left-preserved c =
     let step = digits_step c.loop-left.left c.loop-left.reader c.loop-left-test.true in
-    let less = payload_less c.loop-left.left c.loop-left-test.true in
+    let whole : 3 + (c.loop-left.left - 3) ≡ c.loop-left.left = omega arith in
+    let less = rw whole at (three_more (c.loop-left.left - 3)) in
     record {
       reads = grind (arith, nat_tests, append_assoc);
       there = search (arith, length-drop);
