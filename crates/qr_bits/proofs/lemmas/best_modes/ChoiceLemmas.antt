@@ -75,9 +75,9 @@ least_choice v r p x q cost c e small is =
     let bits : c / 4 ≡ t m = omega (arith, taken.2, rank_below m) in
     rw (ranked-number c (t m) m taken.2) (search (arith, rank_below))
 
--- fewer bits make no larger number
-pub number_less : (may : Bool) (m : Mode) (a b : ℕ) → a ≤ b → choice_number may a m ≤ choice_number may b m
-number_less may m a b h = grind arith
+-- without the bits of a segment's indicators the number is no larger
+pub number_less : (may : Bool) (m : Mode) (k w n : ℕ) → choice_number may (k + n) m ≤ choice_number may (4 + w + k + n) m
+number_less may m k w n = grind arith
 
 -- a byte in kanji mode begins a pair if no half pair is open
 pub state_after-whole : (p : RunState) → may_end p ≡ true → state_after p Kanji ≡ HalfPair
