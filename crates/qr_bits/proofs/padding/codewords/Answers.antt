@@ -3,7 +3,7 @@ use Rattle.std.proofs.lemmas.List.Elements.{All-from_get_or}
 use Rattle.qr_bits.specs.{Header.header_stream, Stream.segments_stream, Stream.IsStream}
 use Rattle.qr_bits.proofs.lemmas.segment.SegmentLemmas.{covers_all, bits_most, bits_least}
 use Rattle.qr_bits.proofs.lemmas.{stream.WritingLemmas.length-segments_stream, segment.CoverLemmas.covers_suits}
-use Rattle.qr_bits.proofs.lemmas.padding.PaddingLemmas.{is_data, length-header_stream, header_fits, header_most}
+use Rattle.qr_bits.proofs.lemmas.padding.PaddingLemmas.{is_data, length-header_stream, header_most}
 use Rattle.qr_bits.proofs.lemmas.padding.CountLemmas.{capacity_most, counts_fit}
 use Rattle.qr_bits.proofs.padding.codewords.Goals as goal
 
@@ -33,7 +33,7 @@ returns-clause-ok c =
       bytes = All-from_get_or (λ (b : ℕ). b < 256) xs 0 (λ i h. omega (arith, c.type_inv.input i));
       suit = suit;
       counts = counts_fit c.args.version c.args.level segs (omega arith) (omega arith) (omega arith);
-      header = header_fits c.args.header c.requires.in_range c.in_ok-put_all.ensures.parity;
+      header = λ h e. let r = c.requires.in_range h e in (r.0, r.1, c.in_ok-put_all.ensures.parity h e);
       whole = refl;
     } in
     is_data c.args.version c.args.level xs segs c.args.header _ (c.header_bits.result + c.bit_len.result) c.into_codewords-codewords.result.items _ is
