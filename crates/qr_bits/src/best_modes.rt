@@ -72,7 +72,7 @@ fn next_if(may: bool, bits: u32, mode: Mode, rest: u32) -> u32
     choice_if(may, number(bits, mode), rest)
 }
 
-#[tactic(auto, using(crate::proofs::Named::packed_rows))]
+#[tactic(auto, using(crate::proofs::lemmas::best_modes::TableLemmas::packed_mode))]
 #[inline(always)]
 fn row_for(numbers: &PerState) -> u32
     ensures { (p : RunState) → mode_at result p ≡ ranked (in_state numbers.now p % 4) }

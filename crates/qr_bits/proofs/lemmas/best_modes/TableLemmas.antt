@@ -59,9 +59,9 @@ abbrev pub packed : PerState → ℕ
 packed n = n.start % 4 + 4 * (n.digit1 % 4 + 4 * (n.digit2 % 4 + 4 * (n.digit3 % 4 + 4 * (n.character1 % 4 + 4 * (n.character2 % 4 + 4 * (n.in_bytes % 4 + 4 * (n.half_pair % 4 + 4 * (n.whole_pair % 4))))))))
 
 -- the mode for a state in a row
-pub packed-mode : (n : PerState) (p : RunState) → mode_at (packed n) p ≡ ranked (in_state n p % 4)
+pub packed_mode : (n : PerState) (p : RunState) → mode_at (packed n) p ≡ ranked (in_state n p % 4)
 unfolding mode_at in_state
-packed-mode n p = let e : packed n / 2 ^ shift_of p % 4 ≡ in_state n p % 4 = grind arith in cc
+packed_mode n p = let e : packed n / 2 ^ shift_of p % 4 ≡ in_state n p % 4 = grind arith in cc
 
 -- the modes to which a table leads are the best assignment
 pub assignment_from_table : (v : ℕ) (r : Rule) (xs : List ℕ) (rows : List ℕ) → IsBestTable v r is_kanji_pair xs rows → IsBestAssignment v r xs (follow Start rows)

@@ -98,9 +98,6 @@ opens : (v : ℕ) (m : Mode) (xs : List ℕ) (rest : List Bool) → ends (segmen
 unfolding ends
 opens v m xs rest = grind (arith, first_four, le-ltb)
 
-all_take : (n : ℕ) (xs : List ℕ) → All (λ b. b < 256) xs → All (λ b. b < 256) (take n xs) × All (λ b. b < 256) (drop n xs)
-all_take n xs h = search (arith, All-take, All-drop)
-
 segments_again : (v : ℕ) (xs : List ℕ) (segs : List Segment) (tail : List Bool) → All (λ b. b < 256) xs → Suits xs segs → CountsFit v segs → ends tail ≡ true
     → segments_of v (segments_stream v xs segs ++ tail) ≡ Ok (segs, xs)
 unfolding segments_stream Suits CountsFit
@@ -108,7 +105,7 @@ segments_again v xs [] tail bytes suit fits end = cc (segments_end v tail end)
 segments_again v xs (s ∷ ss) tail bytes suit fits end =
     let part = take s.len xs in
     let len : length part ≡ s.len = length-take-le s.len xs suit.0 in
-    let halves = all_take s.len xs bytes in
+    let halves : All (λ b. b < 256) part × All (λ b. b < 256) (drop s.len xs) = search (arith, All-take, All-drop) in
     search (arith, append_assoc, segment_again, segments_step, opens, take-append-drop, segments_again v (drop s.len xs) ss tail halves.1 suit.2 fits.1 end)
 
 -- segments that were read are their stream, and then an end

@@ -1,5 +1,5 @@
 -- Writing the data of a segment, group by group, and the length of what is written.
-use Rattle.std.proofs.Common.{◌≡◌, ℕ, zero, suc, ◌+◌, ◌-◌, ◌*◌, ◌/◌, ◌<◌, ◌≤◌, Bool, true, List, [], ◌∷◌, ◌++◌, length, get_or, take, drop, refl, sym, ◌∙◌, arith, length-append, append_assoc}
+use Rattle.std.proofs.Common.{◌≡◌, ℕ, zero, suc, ◌+◌, ◌-◌, ◌*◌, ◌/◌, ◌<◌, ◌≤◌, Bool, true, ◌&&◌, List, [], ◌∷◌, ◌++◌, length, get_or, take, drop, refl, sym, ◌∙◌, arith, length-append, append_assoc}
 use Rattle.std.proofs.lemmas.{Bool.and_parts, Bool.false≢true, List.length-take-le, List.drop_all}
 use Rattle.std.{proofs.Math.Seq.drop-cons, specs.List.list_all}
 use Rattle.qr_bits.specs.{declared.modes.Mode.Mode, declared.segment.Segment.Segment, Bits.field}
@@ -32,9 +32,9 @@ pub kanji_two : (xs : List ℕ) → 2 ≤ length xs → kanji_bits xs ≡ field 
 unfolding kanji_bits
 kanji_two xs h = grind arith
 
--- if bytes pass a test two by two, the first two pass it, and the rest does two by two
-pub in_twos-first : (test : ℕ → ℕ → Bool) (xs : List ℕ) → in_twos test xs ≡ true → 2 ≤ length xs → (test (get_or xs 0 0) (get_or xs 1 0) ≡ true) × (in_twos test (drop 2 xs) ≡ true)
-in_twos-first test xs h n = grind arith
+-- bytes pass a test two by two if the first two pass it, and the rest two by two
+pub in_twos-step : (test : ℕ → ℕ → Bool) (xs : List ℕ) → 2 ≤ length xs → in_twos test xs ≡ test (get_or xs 0 0) (get_or xs 1 0) && in_twos test (drop 2 xs)
+in_twos-step test xs n = grind arith
 
 -- three digits more have ten bits more
 pub three_more : (n : ℕ) → payload_bits Numeric (3 + n) ≡ 10 + payload_bits Numeric n
