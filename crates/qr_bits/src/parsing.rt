@@ -215,18 +215,22 @@ fn last_digits(reader: &mut BitReader, left: usize, out: &mut Vec<u8>) -> Result
         × (reader.new ≡ drop (payload_bits Mode.Numeric left) reader.old)) }
     ensures err { IfErr result (λ e. IsFaultOf e (digits_of left reader.old)) }
 {
-    if left == 2 {
-        let group = reader.take(7);
-        if group >= TWO_DIGITS {
-            return Err(ParseFault::BadValue);
+    match left {
+        2 => {
+            let group = reader.take(7);
+            if group >= TWO_DIGITS {
+                return Err(ParseFault::BadValue);
+            }
+            out.extend_from_slice(&[digit(group / 10), digit(group)])?;
         }
-        out.extend_from_slice(&[digit(group / 10), digit(group)])?;
-    } else if left == 1 {
-        let group = reader.take(4);
-        if group >= ONE_DIGIT {
-            return Err(ParseFault::BadValue);
+        1 => {
+            let group = reader.take(4);
+            if group >= ONE_DIGIT {
+                return Err(ParseFault::BadValue);
+            }
+            out.push(digit(group))?;
         }
-        out.push(digit(group))?;
+        _ => {}
     }
     Ok(())
 }

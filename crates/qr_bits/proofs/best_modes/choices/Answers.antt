@@ -1,4 +1,4 @@
-use Rattle.std.proofs.Common.{◌≡◌, ◌+◌, ◌/◌, ◌<◌, ◌≤◌, ℕ, min, refl, ◌∙◌, arith}
+use Rattle.std.proofs.{Common.◌≡◌, Common.◌+◌, Common.◌<◌, Common.◌≤◌, Common.ℕ, Common.min, Common.refl, Common.◌∙◌, Common.arith, Math.Nat.div-lt_iff_lt-mul, lemmas.Nat.pow_pos}
 use Rattle.qr_bits.specs.declared.{modes.Mode.Mode, run_state.RunState.RunState}
 use Rattle.qr_bits.specs.declared.modes.Mode.TheVariants.{Numeric, Alphanumeric, Byte, Kanji}
 use Rattle.qr_bits.specs.declared.run_state.RunState.TheVariants.{Start, Digit1, Digit2, Digit3, Character1, Character2, InBytes, HalfPair, WholePair}
@@ -12,9 +12,6 @@ minima : (n a b k d c2 c1 b1 k1 : ℕ) → d ≤ n → c1 ≤ a → b1 ≤ b →
     (min d s ≡ min d (min a (min b k))) × (min c2 (min n (min b k)) ≡ min n (min c2 (min b k))) × (min c1 s ≡ min n (min c1 (min b k))) × (min b1 s ≡ min n (min a (min b1 k))) × (min k1 s ≡ min n (min a (min b k1)))
 minima n a b k d c2 c1 b1 k1 h i j l = (omega arith, omega arith, omega arith, omega arith, omega arith)
 
-quarter : (n : ℕ) → n < 40000000 → n / 4 < 10000000
-quarter n h = omega arith
-
 pub returns : goal.returns
 unfolding may_begin may_end byte_cost state_after in_state
 returns c = λ r x digit character.
@@ -23,7 +20,7 @@ returns c = λ r x digit character.
     let t = c.args.pair in
     let rest = c.args.rest.now in
     let of : RunState → Mode → ℕ = λ q k. choice_number (may_begin r x t k) (byte_cost v q k + bits_at rest (state_after q k)) k in
-    let s : bits_at rest InBytes < 10000000 = quarter rest.in_bytes c.requires.6 in
+    let s : bits_at rest InBytes < 10000000 = (div-lt_iff_lt-mul {k = 4} {x = rest.in_bytes} {y = 10000000} (pow_pos 2)).1 c.requires.6 in
     let n = rw digit at (c.choice_if-digits.ensures _ Numeric h.numeric_is) in
     let a = rw character at (c.choice_if-characters.ensures _ Alphanumeric h.alphanumeric_is) in
     let b : c.choice_if-bytes.result ≡ of Start Byte = rw (byte_used r) (c.choice_if-bytes.ensures _ Byte h.byte_is) in

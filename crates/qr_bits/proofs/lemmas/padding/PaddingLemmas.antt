@@ -41,7 +41,3 @@ is_data v l xs segs h stream used whole cw is len fits filling padding bytes =
 pub length-header_stream : (h : Option Header) → length (header_stream h) ≡ header_bits h
 unfolding header_stream
 length-header_stream h = grind (arith, length-append, length-field)
-
--- a header has at most 20 bits
-pub header_most : (h : Option Header) → header_bits h ≤ 20
-header_most h = grind arith

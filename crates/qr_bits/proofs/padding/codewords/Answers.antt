@@ -3,7 +3,7 @@ use Rattle.std.proofs.lemmas.List.Elements.{All-from_get_or}
 use Rattle.qr_bits.specs.{Header.header_stream, Stream.segments_stream, Stream.IsStream}
 use Rattle.qr_bits.proofs.lemmas.segment.SegmentLemmas.{covers_all, bits_most, bits_least}
 use Rattle.qr_bits.proofs.lemmas.{stream.WritingLemmas.length-segments_stream, segment.CoverLemmas.covers_suits}
-use Rattle.qr_bits.proofs.lemmas.padding.PaddingLemmas.{is_data, length-header_stream, header_most}
+use Rattle.qr_bits.proofs.lemmas.padding.PaddingLemmas.{is_data, length-header_stream}
 use Rattle.qr_bits.proofs.lemmas.padding.CountLemmas.{capacity_most, counts_fit}
 use Rattle.qr_bits.proofs.padding.codewords.Goals as goal
 
@@ -16,13 +16,16 @@ bit_len-requires-clause-short c = omega (arith, (covers_all c.args.input.now c.a
 pub overflow_add-used : goal.overflow_add-used
 overflow_add-used c =
     let all = covers_all c.args.input.now c.args.segs.now c.requires.covered in
-    omega (arith, header_most c.args.header, all.1, bits_most c.args.version c.args.segs.now all.0, c.requires.short, c.header_bits.ensures, c.bit_len.ensures)
+    omega (arith, all.1, bits_most c.args.version c.args.segs.now all.0, c.requires.short, c.header_bits.ensures.most, c.bit_len.ensures)
+
+pub returns-then-used-capacity-clause-too_long : goal.returns-then-used-capacity-clause-too_long
+returns-then-used-capacity-clause-too_long c = (λ e. rw (← c.capacity-capacity.ensures.value, ← c.header_bits.ensures.value, ← c.bit_len.ensures) c.if-used-capacity.true, λ h. refl)
 
 pub put_all-requires-clause-short : goal.put_all-requires-clause-short
 put_all-requires-clause-short c =
     let least = bits_least c.args.version c.args.input.now c.args.segs.now (covers_suits c.args.input.now c.args.segs.now c.requires.covered) in
     let most = capacity_most c.args.version c.args.level c.capacity-capacity.ensures.first c.capacity-capacity.ensures.last in
-    omega (arith, least, most, c.capacity-capacity.ensures.value, c.header_bits.ensures, c.bit_len.ensures, c.if-used-capacity.false)
+    omega (arith, least, most, c.capacity-capacity.ensures.value, c.header_bits.ensures.value, c.bit_len.ensures, c.if-used-capacity.false)
 
 pub returns-clause-ok : goal.returns-clause-ok
 returns-clause-ok c =
@@ -41,3 +44,6 @@ returns-clause-ok c =
     (omega arith)
     (rw (c.into_codewords-codewords.ensures, c.in_ok-put_all.ensures.written, c.new-writer.ensures, c.capacity-capacity.ensures.value))
     (search arith) c.in_ok-pad.ensures.bytes
+
+pub returns-clause-too_long : goal.returns-clause-too_long
+returns-clause-too_long c = (λ e. cc, λ h. absurd (omega arith))
