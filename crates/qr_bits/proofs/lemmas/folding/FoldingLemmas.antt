@@ -1,7 +1,6 @@
 -- Folding around kanji pairs, step by step.
 use Rattle.std.proofs.Common.{◌≡◌, ℕ, ◌<◌, ◌≤◌, true, false, List, [], ◌∷◌, ◌++◌, length, map, get_or, take, drop, refl, arith, append_assoc}
-use Rattle.std.proofs.lemmas.{List.length-map, Bool.Decides.nat_tests}
-use Rattle.std.specs.Char.{to_ascii_uppercase}
+use Rattle.std.{proofs.lemmas.List.length-map, proofs.lemmas.Bool.Decides.nat_tests, specs.Char.to_ascii_uppercase}
 use Rattle.qr_bits.specs.{declared.modes.Rule.Rule, declared.modes.Rule.TheVariants.WithKanji, Modes.is_kanji_pair}
 use Rattle.qr_bits.specs.{Folding.capital, Folding.folded, Folding.folded_around_pairs, Steps.RunState.begins_with_pair}
 

@@ -1,7 +1,6 @@
 use Rattle.std.proofs.Common.{◌≡◌, ◌+◌, ◌≤◌, ◌<◌, [], ◌∷◌, take, length, get_or, arith, ⊎_elim}
 use Rattle.std.proofs.lemmas.Bool.{cases_lt}
-use Rattle.qr_bits.specs.{Modes.is_kanji_pair, Steps.RunState.swapped}
-use Rattle.qr_bits.specs.Steps.BestModes.{in_state, IsRow}
+use Rattle.qr_bits.specs.{Modes.is_kanji_pair, Steps.RunState.swapped, Steps.BestModes.in_state, Steps.BestModes.IsRow}
 use Rattle.qr_bits.proofs.lemmas.best_modes.TableLemmas.{best_none, small_more, small_row, zeros}
 use Rattle.qr_bits.proofs.lemmas.longest_prefix.MirrorLemmas.{empty_fits, prefix_more, prefix_fits, prefix_least}
 use Rattle.qr_bits.proofs.longest_prefix.longest_by_rows.Goals as goal

@@ -1,6 +1,5 @@
 use Rattle.std.proofs.{Common.sym, Common.◌∙◌, lemmas.List.take_rest}
-use Rattle.qr_bits.specs.Modes.{is_kanji_pair}
-use Rattle.qr_bits.proofs.lemmas.stream.WritingLemmas.{in_twos-step}
+use Rattle.qr_bits.{specs.Modes.is_kanji_pair, proofs.lemmas.stream.WritingLemmas.in_twos-step}
 use Rattle.qr_bits.proofs.modes.are_kanji_pairs.Goals as goal
 
 pub loop-rest-preserved : goal.loop-rest-preserved
