@@ -1,21 +1,16 @@
 -- The lemmas that attributes of functions name.
-use Rattle.std.proofs.{Common.append-nil, Common.append_assoc, lemmas.Bool.eqb-true}
+use Rattle.std.proofs.{Common.append-nil, Common.append_assoc}
 use Rattle.std.proofs.lemmas.{Grind.pow_more, List.take_all, List.Sums.sum_by_more, Result.err_from_is_err_and}
-use Rattle.qr_bits.proofs.lemmas.best_modes.TableLemmas.{packed-mode}
 use Rattle.qr_bits.proofs.lemmas.bits.BitLemmas.{bits_of-whole, bool_byte-cond, byte-first, drop_bit, filled-none, filled-some, left_at, number-after, power-fits, value_more}
-use Rattle.qr_bits.proofs.lemmas.folding.FoldingLemmas.{begun_with_pair, folded_none, length-folded, length-folded_around_pairs}
+use Rattle.qr_bits.proofs.lemmas.folding.FoldingLemmas.{length-folded}
 use Rattle.qr_bits.proofs.lemmas.{laws.DataLemmas.length-stream, lower_bound.LeastLemmas.least_held}
 use Rattle.qr_bits.proofs.lemmas.padding.PaddingLemmas.{pads-even, pads-none, pads-odd}
 use Rattle.qr_bits.proofs.lemmas.parsing.PayloadLemmas.{finish, fails, value_take_below}
 use Rattle.qr_bits.proofs.lemmas.parsing.ParsingLemmas.{behind_more, end_all, fault_all, not_ended, segment_shorter}
 
-pub ruleset packed_rows = (packed-mode)
-
 pub ruleset writing_bits = (bits_of-whole, byte-first, filled-some, filled-none, number-after, power-fits)
 
 pub ruleset reading_bits = (left_at, drop_bit, pow_more, value_more, bool_byte-cond)
-
-pub ruleset folding_around_pairs = (append-nil, eqb-true, begun_with_pair, folded_none, length-folded_around_pairs)
 
 pub ruleset lengths = (length-folded, length-stream)
 

@@ -62,9 +62,19 @@ fn choice_if(may: bool, first: u32, rest: u32) -> u32
     if may { first + rest / 4 * 4 } else { NO_CHOICE }
 }
 
-#[tactic(auto, using(crate::proofs::Named::packed_rows))]
+// As `choice_if`, where `bits` are those of a byte that does not begin a segment.
 #[inline(always)]
-fn row_for(numbers: &PerState<u32>) -> u32
+fn next_if(may: bool, bits: u32, mode: Mode, rest: u32) -> u32
+    requires bits { bits ≤ 33 }
+    requires rest { rest < 40000000 }
+    ensures { result ≡ choice_number may (bits + rest / 4) mode }
+{
+    choice_if(may, number(bits, mode), rest)
+}
+
+#[tactic(auto, using(crate::proofs::lemmas::best_modes::TableLemmas::packed_mode))]
+#[inline(always)]
+fn row_for(numbers: &PerState) -> u32
     ensures { (p : RunState) → mode_at result p ≡ ranked (in_state numbers.now p % 4) }
 {
     let last = numbers.half_pair % 4 + 4 * (numbers.whole_pair % 4);
@@ -83,8 +93,8 @@ fn choices(
     digit: bool,
     character: bool,
     pair: bool,
-    rest: &PerState<u32>,
-) -> (u32, PerState<u32>)
+    rest: &PerState,
+) -> (u32, PerState)
     requires { IsSmall rest.now }
     ensures { (r : Rule) (x : ℕ) → digit ≡ may_begin r x pair Mode.Numeric
         → character ≡ may_begin r x pair Mode.Alphanumeric
@@ -101,14 +111,14 @@ fn choices(
     // After a whole group (`Digit3`, `Character2`, `InBytes`, `WholePair`) a segment of the same mode takes more bits
     // to begin than to continue, and both lead to the same state. So there `start`, the best of all choices that begin
     // a segment, can stand for those of the other modes.
-    let digit2 = choice_if(digit, number(3, Mode::Numeric), rest.digit2);
-    let digit3 = choice_if(digit, number(3, Mode::Numeric), rest.digit3);
-    let digit1 = choice_if(digit, number(4, Mode::Numeric), rest.digit1);
-    let character2 = choice_if(character, number(5, Mode::Alphanumeric), rest.character2);
-    let character1 = choice_if(character, number(6, Mode::Alphanumeric), rest.character1);
-    let in_bytes = choice_if(true, number(8, Mode::Byte), rest.in_bytes);
-    let whole_pair = choice_if(true, number(0, Mode::Kanji), rest.whole_pair);
-    let half_pair = choice_if(pair, number(13, Mode::Kanji), rest.half_pair);
+    let digit2 = next_if(digit, 3, Mode::Numeric, rest.digit2);
+    let digit3 = next_if(digit, 3, Mode::Numeric, rest.digit3);
+    let digit1 = next_if(digit, 4, Mode::Numeric, rest.digit1);
+    let character2 = next_if(character, 5, Mode::Alphanumeric, rest.character2);
+    let character1 = next_if(character, 6, Mode::Alphanumeric, rest.character1);
+    let in_bytes = next_if(true, 8, Mode::Byte, rest.in_bytes);
+    let whole_pair = next_if(true, 0, Mode::Kanji, rest.whole_pair);
+    let half_pair = next_if(pair, 13, Mode::Kanji, rest.half_pair);
     let numbers = PerState {
         start,
         digit1: digit2.min(no_digits),
@@ -132,8 +142,8 @@ pub(crate) fn best_choices(
     rule: Rule,
     byte: u8,
     pair: bool,
-    rest: &PerState<u32>,
-) -> (u32, PerState<u32>)
+    rest: &PerState,
+) -> (u32, PerState)
     requires { IsSmall rest.now }
     ensures { IsRow first_choices.now.version rule byte pair rest.now result.0 result.1 }
 {

@@ -1,7 +1,7 @@
 //! Folding: small letters become capitals, which alphanumeric mode can write.
 
 ghost use Rattle.std.specs.Prelude.{◌≡◌, length, map, vec_len, IfOk};
-ghost use Rattle.qr_bits.specs.Folding.{capital, folded, folded_around_pairs};
+ghost use Rattle.qr_bits.specs.Folding.{folded, folded_around_pairs};
 
 use crate::best_modes::begins_with_pair;
 use crate::modes::Rule;
@@ -13,18 +13,18 @@ use std::alloc::{AllocError, Global};
 /// # Errors
 ///
 /// Returns an error if memory is refused.
+#[tactic(auto, using(crate::proofs::lemmas::folding::FoldingLemmas::capitals))]
 pub fn fold(alloc: Global, input: &[u8], rule: Rule) -> Result<Vec<u8>, AllocError>
     ensures bytes { IfOk result (λ v. v.items ≡ folded rule input.now) }
     ensures len { IfOk result (λ v. vec_len v ≡ length input.now) }
 {
     match rule {
-        Rule::Auto => input.iter().map(|byte| capital(*byte)).collect(alloc),
-        Rule::BytesOnly => input.iter().copied().collect(alloc),
+        Rule::Auto => input.to_ascii_uppercase(alloc),
+        Rule::BytesOnly => Vec::from_slice(alloc, input),
         Rule::WithKanji => fold_around_pairs(alloc, input),
     }
 }
 
-#[tactic(auto, using(crate::proofs::Named::folding_around_pairs))]
 fn fold_around_pairs(alloc: Global, input: &[u8]) -> Result<Vec<u8>, AllocError>
     ensures bytes { IfOk result (λ v. v.items ≡ folded_around_pairs input.now) }
     ensures len { IfOk result (λ v. vec_len v ≡ length input.now) }
@@ -37,16 +37,9 @@ fn fold_around_pairs(alloc: Global, input: &[u8]) -> Result<Vec<u8>, AllocError>
             folded.extend_from_slice(pair)?;
             rest = after;
         } else {
-            folded.push(capital(rest[0]))?;
-            let (_, after) = rest.split_at(1);
-            rest = after;
+            folded.push(rest[0].to_ascii_uppercase())?;
+            rest = &rest[1..];
         }
     }
     Ok(folded)
-}
-
-fn capital(byte: u8) -> u8
-    ensures { result ≡ capital byte }
-{
-    byte.to_ascii_uppercase()
 }

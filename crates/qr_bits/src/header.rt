@@ -1,7 +1,7 @@
 //! The structured append header: the position of a symbol in its series, the number of symbols, and the parity data
 //! (ISO/IEC 18004:2015, 8).
 
-ghost use Rattle.std.specs.Prelude.{◌≡◌};
+ghost use Rattle.std.specs.Prelude.{◌≡◌, ◌≤◌};
 ghost use Rattle.qr_bits.specs.Header.{header_bits, parity_of};
 
 // Mode indicator, `position` and `last` of 4 bits each, and `parity` of 8 (8.1).
@@ -19,7 +19,8 @@ pub struct Header {
 }
 
 pub(crate) fn header_bits(header: Option<Header>) -> u64
-    ensures { result ≡ header_bits header }
+    ensures value { result ≡ header_bits header }
+    ensures most { result ≤ HEADER_BITS }
 {
     match header {
         None => 0,

@@ -1,9 +1,11 @@
 //! Data codewords: the bit stream, a terminator and padding (ISO/IEC 18004:2015, 7.4.9, 7.4.10).
 
-ghost use Rattle.std.specs.Prelude.{All, Err, IfOk, OnOk, length, vec_len, ◌++◌, ◌+◌, ◌-◌, ◌<◌, ◌↔◌, ◌≡◌, ◌≤◌};
+ghost use Rattle.std.specs.Prelude.{All, Err, IfOk, OnOk, length, min, vec_len, ◌++◌, ◌+◌, ◌-◌, ◌<◌, ◌^◌, ◌↔◌, ◌≡◌, ◌≤◌};
 ghost use Rattle.qr_bits.specs.Segmentation.{Covers, bits};
-ghost use Rattle.qr_bits.specs.Padding.{IsData, capacity_of, pads};
-ghost use Rattle.qr_bits.specs.Header.{header_bits};
+ghost use Rattle.qr_bits.specs.Padding.{IsData, capacity_of, filled, pads};
+ghost use Rattle.qr_bits.specs.Header.{header_bits, header_stream};
+ghost use Rattle.qr_bits.specs.Stream.{segments_stream};
+ghost use Rattle.qr_bits.specs.Bits.{field};
 ghost use Rattle.std.specs.Option.{ForSome};
 
 use crate::bits::BitWriter;
@@ -58,13 +60,32 @@ pub fn codewords(
         return Err(BitFault::TooLong);
     }
     let mut writer = BitWriter::new(alloc);
-    put_header(&mut writer, header)?;
-    put_segments(&mut writer, input, segs, version)?;
-    writer.put(TERMINATOR_BITS.min(capacity - used) as u8, 0)?;
-    writer.fill()?;
+    put_all(&mut writer, input, segs, header, version, capacity - used)?;
     let mut codewords = writer.into_codewords();
     pad(&mut codewords, usize::from(version.data_codewords(level)))?;
     Ok(codewords)
+}
+
+// Writes header, segments, a terminator where `left` bits of the capacity are left for it, and zeros up to the end of a
+// codeword.
+fn put_all(
+    writer: &mut BitWriter,
+    input: &[u8],
+    segs: &[Segment],
+    header: Option<Header>,
+    version: Version,
+    left: u64,
+) -> Result<(), AllocError>
+    requires short { length input.now < 2 ^ 16 }
+    requires covered { Covers input.now segs.now }
+    ensures written { OnOk result (writer.new ≡ filled (((writer.old ++ header_stream header)
+        ++ segments_stream version input.now segs.now) ++ field (min 4 left) 0)) }
+    ensures parity { OnOk result (ForSome header (λ h. h.parity < 256)) }
+{
+    put_header(writer, header)?;
+    put_segments(writer, input, segs, version)?;
+    writer.put(TERMINATOR_BITS.min(left) as u8, 0)?;
+    writer.fill()
 }
 
 // Appends pad codewords, up to `len` codewords in all (7.4.10).

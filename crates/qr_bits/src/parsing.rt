@@ -2,10 +2,10 @@
 //! 7.4.6, 8, 12).
 
 ghost use Rattle.std.specs.Prelude.{Err, IfErr, IfOk, List, OnOk, drop, length, take, ℕ, ◌%◌, ◌*◌, ◌++◌, ◌+◌, ◌<◌, ◌≡◌, ◌≤◌};
-ghost use Rattle.qr_bits.specs.Modes.{count_width, byte_count, payload_bits};
-ghost use Rattle.qr_bits.specs.Bits.{bits_of, value};
-ghost use Rattle.qr_bits.specs.Parsing.{IsResultOf, bytes_of, character, characters_of, digits_of, first_header, header_at, kanji_pair, mode_of, leading_number, pairs_of, parse, segment_at, segments_of, values_of};
-ghost use Rattle.qr_bits.specs.Steps.Parsing.{IsFaultOf};
+ghost use Rattle.qr_bits.specs.Modes.{byte_count, payload_bits};
+ghost use Rattle.qr_bits.specs.Bits.{bits_of};
+ghost use Rattle.qr_bits.specs.Parsing.{IsResultOf, bytes_of, character, characters_of, digits_of, first_header, header_at, kanji_pair, pairs_of, parse, segment_at, segments_of, values_of};
+ghost use Rattle.qr_bits.specs.Steps.Parsing.{IsFaultOf, segment_of};
 
 use crate::bits::BitReader;
 use crate::fault::ParseFault;
@@ -124,7 +124,6 @@ fn segments(
 }
 
 // Appends the bytes of the segment to `out`.
-#[tactic(auto, unfolding(crate::specs::Parsing::segment_at, crate::specs::Parsing::payload_at))]
 fn segment(
     reader: &mut BitReader,
     version: Version,
@@ -147,8 +146,7 @@ fn segment(
 #[tactic(auto, unfolding(crate::specs::Parsing::segment_at, crate::specs::Parsing::leading_number, crate::specs::Parsing::payload_at))]
 fn segment_head(reader: &mut BitReader, version: Version) -> Result<(Mode, u16), ParseFault>
     requires { 4 ≤ length reader.old }
-    ensures ok { IfOk result (λ h. (mode_of (value (take 4 reader.old)) ≡ Ok h.0)
-        × (leading_number (count_width version h.0) (drop 4 reader.old) ≡ Ok (h.1, reader.new))
+    ensures ok { IfOk result (λ h. (segment_at version reader.old ≡ segment_of h.0 h.1 reader.new)
         × (payload_bits h.0 (byte_count h.0 h.1) ≤ length reader.new)) }
     ensures err { IfErr result (λ e. segment_at version reader.old ≡ Err e) }
 {
@@ -187,7 +185,7 @@ fn values(
     }
 }
 
-#[tactic(auto, unfolding(crate::specs::Parsing::digits_of), using(crate::proofs::Named::reading_groups))]
+#[tactic(auto, using(crate::proofs::Named::reading_groups))]
 fn digits(reader: &mut BitReader, count: usize, out: &mut Vec<u8>) -> Result<(), ParseFault>
     requires { payload_bits Mode.Numeric count ≤ length reader.old }
     ensures ok { OnOk result ((xs : List ℕ) × (digits_of count reader.old ≡ Ok xs)
@@ -204,18 +202,35 @@ fn digits(reader: &mut BitReader, count: usize, out: &mut Vec<u8>) -> Result<(),
         out.extend_from_slice(&[digit(group / 100), digit(group / 10), digit(group)])?;
         left -= 3;
     }
-    if left == 2 {
-        let group = reader.take(7);
-        if group >= TWO_DIGITS {
-            return Err(ParseFault::BadValue);
+    last_digits(reader, left, out)
+}
+
+// At most two digits, in seven or four bits (7.4.3).
+#[tactic(auto, unfolding(crate::specs::Parsing::digits_of))]
+fn last_digits(reader: &mut BitReader, left: usize, out: &mut Vec<u8>) -> Result<(), ParseFault>
+    requires few { left < 3 }
+    requires there { payload_bits Mode.Numeric left ≤ length reader.old }
+    ensures ok { OnOk result ((xs : List ℕ) × (digits_of left reader.old ≡ Ok xs)
+        × (out.new.items ≡ out.old.items ++ xs)
+        × (reader.new ≡ drop (payload_bits Mode.Numeric left) reader.old)) }
+    ensures err { IfErr result (λ e. IsFaultOf e (digits_of left reader.old)) }
+{
+    match left {
+        2 => {
+            let group = reader.take(7);
+            if group >= TWO_DIGITS {
+                return Err(ParseFault::BadValue);
+            }
+            out.extend_from_slice(&[digit(group / 10), digit(group)])?;
         }
-        out.extend_from_slice(&[digit(group / 10), digit(group)])?;
-    } else if left == 1 {
-        let group = reader.take(4);
-        if group >= ONE_DIGIT {
-            return Err(ParseFault::BadValue);
+        1 => {
+            let group = reader.take(4);
+            if group >= ONE_DIGIT {
+                return Err(ParseFault::BadValue);
+            }
+            out.push(digit(group))?;
         }
-        out.push(digit(group))?;
+        _ => {}
     }
     Ok(())
 }

@@ -22,13 +22,13 @@ pub(crate) fn put_header(writer: &mut BitWriter, header: Option<Header>) -> Resu
     ensures written { OnOk result (writer.new ≡ writer.old ++ header_stream header) }
     ensures parity { OnOk result (ForSome header (λ h. h.parity < 256)) }
 {
-    if let Some(header) = header {
-        writer.put(4, STRUCTURED_APPEND)?;
-        writer.put(4, u16::from(header.position))?;
-        writer.put(4, u16::from(header.last))?;
-        writer.put(8, u16::from(header.parity))?;
-    }
-    Ok(())
+    let Some(header) = header else {
+        return Ok(());
+    };
+    writer.put(4, STRUCTURED_APPEND)?;
+    writer.put(4, u16::from(header.position))?;
+    writer.put(4, u16::from(header.last))?;
+    writer.put(8, u16::from(header.parity))
 }
 
 pub(crate) fn put_segments(
@@ -85,7 +85,7 @@ fn put_payload(writer: &mut BitWriter, mode: Mode, bytes: &[u8]) -> Result<(), A
 }
 
 // Three digits in ten bits, two or one at the end in seven or four (7.4.3).
-#[tactic(auto, unfolding(crate::specs::Stream::digit_bits), using(crate::proofs::lemmas::stream::WritingLemmas::all_rest, std::proofs::lemmas::List::append_assoc))]
+#[tactic(auto, unfolding(crate::specs::Stream::digit_bits))]
 fn put_digits(writer: &mut BitWriter, digits: &[u8]) -> Result<(), AllocError>
     requires { IsTrue (list_all is_digit digits.now) }
     ensures { OnOk result (writer.new ≡ writer.old ++ digit_bits digits.now) }

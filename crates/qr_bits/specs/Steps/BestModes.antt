@@ -8,7 +8,7 @@ use Rattle.qr_bits.specs.declared.run_state.PerState.{PerState}
 use Rattle.qr_bits.specs.Steps.RunState.{state_after, allowed, ranked, IsBestRest, IsChoice}
 
 -- The field of a state
-unfoldable pub in_state : {T : Type 0} → PerState T → RunState → T
+unfoldable pub in_state : PerState → RunState → ℕ
 in_state b Start = b.start
 in_state b Digit1 = b.digit1
 in_state b Digit2 = b.digit2
@@ -20,12 +20,12 @@ in_state b HalfPair = b.half_pair
 in_state b WholePair = b.whole_pair
 
 -- The bits of the best choice after the state `p`; `numbers` has the choice for each state, as a number
-abbrev pub bits_at : PerState ℕ → RunState → ℕ
+abbrev pub bits_at : PerState → RunState → ℕ
 bits_at numbers p = in_state numbers p / 4
 
 -- For inputs of at most `INPUT_MAX` bytes all choices stay below this bound, so that the bits of one byte more do not
 -- overflow 32 bits
-abbrev pub IsSmall : PerState ℕ → Type 0
+abbrev pub IsSmall : PerState → Type 0
 IsSmall n =
     (n.start < 40000000) × (n.digit1 < 40000000) × (n.digit2 < 40000000) × (n.digit3 < 40000000) × (n.character1 < 40000000)
     × (n.character2 < 40000000) × (n.in_bytes < 40000000) × (n.half_pair < 40000000) × (n.whole_pair < 40000000)
@@ -48,7 +48,7 @@ mode_at row p = ranked (row / 2 ^ shift_of p % 4)
 
 -- `numbers` are the choices of the byte `x` for each state before it, `row` has their modes, and `rest` are the choices
 -- of the later bytes
-abbrev pub IsRow : ℕ → Rule → ℕ → Bool → PerState ℕ → ℕ → PerState ℕ → Type 0
+abbrev pub IsRow : ℕ → Rule → ℕ → Bool → PerState → ℕ → PerState → Type 0
 IsRow v r x pair rest row numbers = (p : RunState) → IsChoice v r p x pair (bits_at rest) (mode_at row p) (bits_at numbers p)
 
 -- The modes that are read from rows: each mode leads to the state for the next row

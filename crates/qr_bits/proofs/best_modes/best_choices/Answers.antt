@@ -12,8 +12,8 @@ returns-then-may_begin c =
 
 pub returns-then-may_begin-2 : goal.returns-then-may_begin-2
 returns-then-may_begin-2 c =
-    rw c.if-pair.false (c.choices-then-may_begin-2.ensures c.args.rule c.args.byte (cc (c.may_begin.ensures false)) (cc (c.may_begin-else-may_begin.ensures false)))
+    rw c.if-pair.false (c.choices-then-may_begin-2.ensures c.args.rule c.args.byte (sym c.if-may_begin.false ∙ c.may_begin.ensures false) (sym c.if-may_begin-2.true ∙ c.may_begin-else-may_begin.ensures false))
 
 pub returns-else-may_begin-2 : goal.returns-else-may_begin-2
 returns-else-may_begin-2 c =
-    rw c.if-pair.false (c.choices-else-may_begin-2.ensures c.args.rule c.args.byte (cc (c.may_begin.ensures false)) (cc (c.may_begin-else-may_begin.ensures false)))
+    rw c.if-pair.false (c.choices-else-may_begin-2.ensures c.args.rule c.args.byte (sym c.if-may_begin.false ∙ c.may_begin.ensures false) (sym c.if-may_begin-2.false ∙ c.may_begin-else-may_begin.ensures false))

@@ -1,7 +1,7 @@
 use Rattle.std.proofs.Common.{◌≡◌, ◌-◌, suc, [], ◌∷◌, length, get_or, take, drop, vec_len, refl, arith}
 use Rattle.std.proofs.Math.Seq.{drop-length, drop-cons}
 use Rattle.std.proofs.lemmas.List.{reverse-append, take_all, length-drop}
-use Rattle.qr_bits.specs.{Modes.is_kanji_pair, Steps.RunState.begins_with_pair, Steps.BestModes.IsRow}
+use Rattle.qr_bits.specs.{Modes.is_kanji_pair, Steps.RunState.begins_with_pair, Steps.BestModes.IsRow, Steps.BestModes.bits_at}
 use Rattle.qr_bits.proofs.lemmas.best_modes.TableLemmas.{best_none, best_more, small_more, small_row, zeros}
 use Rattle.qr_bits.proofs.best_modes.best_modes.Goals as goal
 
@@ -29,3 +29,8 @@ loop-i-preserved c =
       small = λ p. rw c.in_ok-push.ensures.len (small_more c.args.version c.args.rule _ _ _ c.loop-i.rest _ _ c.loop-i.invariant.small chosen p);
       best = rw (d, c.in_ok-push.ensures.items, reverse-append c.loop-i.table.items (c.best_choices-modes.result.0 ∷ [])) (best_more c.args.version c.args.rule is_kanji_pair _ _ _ _ _ _ c.loop-i.invariant.best chosen);
     }
+
+pub returns : goal.returns
+returns c =
+    let none : c.loop-i.i ≡ 0 = omega arith in
+    record { len = omega arith; best = λ p ks h. (bits_at c.loop-i.rest p, (rw none at c.loop-i.invariant.best) p ks h) }

@@ -1,4 +1,4 @@
-use Rattle.std.proofs.Common.{◌≡◌, ◌+◌, ◌<◌, ◌≤◌, ℕ, min, refl, ◌∙◌, arith}
+use Rattle.std.proofs.{Common.◌≡◌, Common.◌+◌, Common.◌<◌, Common.◌≤◌, Common.ℕ, Common.min, Common.refl, Common.◌∙◌, Common.arith, Math.Nat.div-lt_iff_lt-mul, lemmas.Nat.pow_pos}
 use Rattle.qr_bits.specs.declared.{modes.Mode.Mode, run_state.RunState.RunState}
 use Rattle.qr_bits.specs.declared.modes.Mode.TheVariants.{Numeric, Alphanumeric, Byte, Kanji}
 use Rattle.qr_bits.specs.declared.run_state.RunState.TheVariants.{Start, Digit1, Digit2, Digit3, Character1, Character2, InBytes, HalfPair, WholePair}
@@ -20,24 +20,24 @@ returns c = λ r x digit character.
     let t = c.args.pair in
     let rest = c.args.rest.now in
     let of : RunState → Mode → ℕ = λ q k. choice_number (may_begin r x t k) (byte_cost v q k + bits_at rest (state_after q k)) k in
-    let s : bits_at rest InBytes < 10000000 = omega (arith, c.requires) in
+    let s : bits_at rest InBytes < 10000000 = (div-lt_iff_lt-mul {k = 4} {x = rest.in_bytes} {y = 10000000} (pow_pos 2)).1 c.requires.6 in
     let n = rw digit at (c.choice_if-digits.ensures _ Numeric h.numeric_is) in
     let a = rw character at (c.choice_if-characters.ensures _ Alphanumeric h.alphanumeric_is) in
     let b : c.choice_if-bytes.result ≡ of Start Byte = rw (byte_used r) (c.choice_if-bytes.ensures _ Byte h.byte_is) in
     let k = c.choice_if-pairs.ensures _ Kanji h.kanji_is in
-    let d2 = rw digit at (c.choice_if-digit2.ensures 3 Numeric c.number.ensures.value) in
-    let d3 = rw digit at (c.choice_if-digit3.ensures 3 Numeric c.number-2.ensures.value) in
-    let d1 = rw digit at (c.choice_if-digit1.ensures 4 Numeric c.number-3.ensures.value) in
-    let c2 = rw character at (c.choice_if-character2.ensures 5 Alphanumeric c.number-4.ensures.value) in
-    let c1 = rw character at (c.choice_if-character1.ensures 6 Alphanumeric c.number-5.ensures.value) in
-    let b1 : c.choice_if-in_bytes.result ≡ of InBytes Byte = rw (byte_used r) (c.choice_if-in_bytes.ensures 8 Byte c.number-6.ensures.value) in
-    let k1 = c.choice_if-half_pair.ensures 13 Kanji c.number-8.ensures.value in
+    let d2 = rw digit at c.next_if-digit2.ensures in
+    let d3 = rw digit at c.next_if-digit3.ensures in
+    let d1 = rw digit at c.next_if-digit1.ensures in
+    let c2 = rw character at c.next_if-character2.ensures in
+    let c1 = rw character at c.next_if-character1.ensures in
+    let b1 : c.next_if-in_bytes.result ≡ of InBytes Byte = rw (byte_used r) c.next_if-in_bytes.ensures in
+    let k1 = c.next_if-half_pair.ensures in
     let bk = rw (b, k) at c.min-others.ensures in
     let ab = rw (a, bk) at c.min-no_digits.ensures in
     let nbk = rw (n, bk) at c.min-no_characters.ensures in
     let start = rw (n, ab) at c.min-start.ensures in
     let m = minima (of Start Numeric) (of Start Alphanumeric) (of Start Byte) (of Start Kanji) (of Digit3 Numeric) (of Character1 Alphanumeric) (of Character2 Alphanumeric) (of InBytes Byte) (of WholePair Kanji)
-    (number_less _ Numeric _ _ (omega arith)) (number_less _ Alphanumeric _ _ (omega arith)) (number_less _ Byte _ _ (omega arith)) (number_less _ Kanji _ _ (omega arith)) in
+    (number_less _ Numeric 4 _ _) (number_less _ Alphanumeric 6 _ _) (number_less _ Byte 8 _ _) (number_less _ Kanji 13 _ _) in
     elim [
       | Start ↦ rw (c.row_for.ensures Start) (least_choice v r Start x t _ _ refl s start)
       | Digit1 ↦ rw (c.row_for.ensures Digit1) (least_choice v r Digit1 x t _ _ refl s (rw (d2, ab) at c.min.ensures))
@@ -46,6 +46,6 @@ returns c = λ r x digit character.
       | Character1 ↦ rw (c.row_for.ensures Character1) (least_choice v r Character1 x t _ _ refl s ((rw (c2, nbk) at c.min-4.ensures) ∙ m.1))
       | Character2 ↦ rw (c.row_for.ensures Character2) (least_choice v r Character2 x t _ _ refl s ((rw (c1, start) at c.min-5.ensures) ∙ m.2))
       | InBytes ↦ rw (c.row_for.ensures InBytes) (least_choice v r InBytes x t _ _ refl s ((rw (b1, start) at c.min-6.ensures) ∙ m.3))
-      | HalfPair ↦ rw (c.row_for.ensures HalfPair) (half_choice v r x t _ _ (c.choice_if-whole_pair.ensures 0 Kanji c.number-7.ensures.value))
+      | HalfPair ↦ rw (c.row_for.ensures HalfPair) (half_choice v r x t _ _ c.next_if-whole_pair.ensures)
       | WholePair ↦ rw (c.row_for.ensures WholePair) (least_choice v r WholePair x t _ _ refl s ((rw (k1, start) at c.min-7.ensures) ∙ m.4))
     ]

@@ -1,7 +1,13 @@
-use Rattle.std.proofs.Common.{◌≡◌, ◌+◌, ◌*◌, arith, append_assoc, get_or}
-use Rattle.std.proofs.{Math.Nat.mod-lt, lemmas.Nat.pow_pos}
+use Rattle.std.proofs.Common.{◌≡◌, ◌+◌, ◌*◌, ◌<◌, ◌^◌, arith, append_assoc, get_or}
+use Rattle.std.proofs.{Math.Nat.mod-lt, Math.Nat.div-lt_iff_lt-mul, lemmas.Nat.pow_pos, lemmas.List.take_all}
 use Rattle.qr_bits.proofs.lemmas.bits.BitLemmas.{bits_of-take, byte-behind, power-fits}
 use Rattle.qr_bits.proofs.bits.push_bytes.Goals as goal
+
+pub overflow_cast-bits : goal.overflow_cast-bits
+overflow_cast-bits c =
+    let n = 256 * c.from.result + c.from-in-loop-byte.result in
+    let small : n < 256 * 2 ^ c.args.width = omega arith in
+    omega (arith, (div-lt_iff_lt-mul {k = 2 ^ c.args.width} {x = n} {y = 256} (pow_pos c.args.width)).1 small)
 
 pub loop-byte-preserved : goal.loop-byte-preserved
 loop-byte-preserved c =
@@ -16,3 +22,6 @@ loop-byte-preserved c =
       rest = mod-lt n (pow_pos w);
       bits = rw (c.in_ok-push.ensures.items, byte-behind c.loop-byte.whole.items w rest byte n (omega arith) e) (search (arith, append_assoc));
     })
+
+pub returns-clause-bits : goal.returns-clause-bits
+returns-clause-bits c = rw (take_all c.loop-byte.byte-index c.args.bytes.now c.loop-byte-test.false) at c.loop-byte.invariant.bits

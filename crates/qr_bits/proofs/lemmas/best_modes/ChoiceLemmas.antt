@@ -23,16 +23,12 @@ taken_one : (may : Mode → Bool) (cost : Mode → ℕ) (m : Mode) (t : Bool) �
 taken_one may cost m t e h = grind arith
 
 taken_min : (may : Mode → Bool) (cost : Mode → ℕ) (a b : ℕ) → (a < 4294967295 → IsTaken may cost a) → (b < 4294967295 → IsTaken may cost b) → min a b < 4294967295 → IsTaken may cost (min a b)
-taken_min may cost a b f g h =
-    ⊎_elim
-    (λ (l : a < b). let e : min a b ≡ a = omega arith in rw e (f (omega arith)))
-    (λ (l : b ≤ a). let e : min a b ≡ b = omega arith in rw e (g (omega arith)))
-    (cases_lt a b)
+taken_min may cost a b f g h = ⊎_elim (λ (l : a < b). let e : min a b ≡ a = omega arith in rw e (f (omega arith)))
+    (λ (l : b ≤ a). let e : min a b ≡ b = omega arith in rw e (g (omega arith))) (cases_lt a b)
 
 taken_least : (m : Mode → Bool) (f : Mode → ℕ) → least_of m f < 4294967295 → IsTaken m f (least_of m f)
 taken_least m f =
-    taken_min m f _ _ (taken_one m f Numeric _ refl)
-    (search (arith, taken_min, taken_one))
+    taken_min m f _ _ (taken_one m f Numeric _ refl) (search (arith, taken_min, taken_one))
 
 ranked-number : (c b : ℕ) (m : Mode) → c ≡ 4 * b + rank m → ranked (c % 4) ≡ m
 ranked-number c b m e = grind arith
@@ -77,12 +73,11 @@ least_choice v r p x q cost c e small is =
     let taken : IsTaken (may_begin r x q) t c = rw is (taken_least (may_begin r x q) t (rw is at few)) in
     let m = taken.0 in
     let bits : c / 4 ≡ t m = omega (arith, taken.2, rank_below m) in
-    rw (ranked-number c (t m) m taken.2)
-    (search (arith, rank_below))
+    rw (ranked-number c (t m) m taken.2) (search (arith, rank_below))
 
--- fewer bits make no larger number
-pub number_less : (may : Bool) (m : Mode) (a b : ℕ) → a ≤ b → choice_number may a m ≤ choice_number may b m
-number_less may m a b h = grind arith
+-- without the bits of a segment's indicators the number is no larger
+pub number_less : (may : Bool) (m : Mode) (k w n : ℕ) → choice_number may (k + n) m ≤ choice_number may (4 + w + k + n) m
+number_less may m k w n = grind arith
 
 -- a byte in kanji mode begins a pair if no half pair is open
 pub state_after-whole : (p : RunState) → may_end p ≡ true → state_after p Kanji ≡ HalfPair

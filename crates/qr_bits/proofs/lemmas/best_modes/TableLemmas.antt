@@ -31,7 +31,7 @@ unfolding follow allowed cost_of
 best_none v r test cost zeros p ks h = grind (arith, zeros p)
 
 -- the table with one more row
-pub best_more : (v : ℕ) (r : Rule) (test : ℕ → ℕ → Bool) (x : ℕ) (xs rows : List ℕ) (row : ℕ) (rest numbers : PerState ℕ)
+pub best_more : (v : ℕ) (r : Rule) (test : ℕ → ℕ → Bool) (x : ℕ) (xs rows : List ℕ) (row : ℕ) (rest numbers : PerState)
     → BestBelow v r test xs (λ p. follow p rows) (bits_at rest)
     → IsRow v r x (begins_with_pair r test (x ∷ xs)) rest row numbers
     → BestBelow v r test (x ∷ xs) (λ p. follow p (row ∷ rows)) (bits_at numbers)
@@ -40,12 +40,12 @@ best_more v r test x xs rows row rest numbers below choice p ks h =
     best_step v r test p x xs _ (bits_at rest) _ _ below (choice p) (rest_after r test p x xs (mode_at row p) (choice p).is_allowed)
 
 -- a byte adds at most 33 bits to the bits of a rest
-pub small_more : (v : ℕ) (r : Rule) (x : ℕ) (pair : Bool) (row : ℕ) (rest numbers : PerState ℕ) (n : ℕ)
+pub small_more : (v : ℕ) (r : Rule) (x : ℕ) (pair : Bool) (row : ℕ) (rest numbers : PerState) (n : ℕ)
     → ((p : RunState) → bits_at rest p ≤ 33 * n) → IsRow v r x pair rest row numbers → (p : RunState) → bits_at numbers p ≤ 33 * (n + 1)
 small_more v r x pair row rest numbers n small choice p = search (arith, byte_cost_bound)
 
 -- numbers of at most 33 bits for each byte are small
-pub small_row : (rest : PerState ℕ) (n : ℕ) → n ≤ 113425 → ((p : RunState) → bits_at rest p ≤ 33 * n) → IsSmall rest
+pub small_row : (rest : PerState) (n : ℕ) → n ≤ 113425 → ((p : RunState) → bits_at rest p ≤ 33 * n) → IsSmall rest
 unfolding in_state
 small_row rest n few small =
     omega (arith, small Start, small Digit1, small Digit2, small Digit3, small Character1, small Character2, small InBytes, small HalfPair, small WholePair)
@@ -55,13 +55,13 @@ unfolding in_state
 zeros p = grind arith
 
 -- the modes of all numbers as one row: two bits for each state
-abbrev pub packed : PerState ℕ → ℕ
+abbrev pub packed : PerState → ℕ
 packed n = n.start % 4 + 4 * (n.digit1 % 4 + 4 * (n.digit2 % 4 + 4 * (n.digit3 % 4 + 4 * (n.character1 % 4 + 4 * (n.character2 % 4 + 4 * (n.in_bytes % 4 + 4 * (n.half_pair % 4 + 4 * (n.whole_pair % 4))))))))
 
 -- the mode for a state in a row
-pub packed-mode : (n : PerState ℕ) (p : RunState) → mode_at (packed n) p ≡ ranked (in_state n p % 4)
+pub packed_mode : (n : PerState) (p : RunState) → mode_at (packed n) p ≡ ranked (in_state n p % 4)
 unfolding mode_at in_state
-packed-mode n p = let e : packed n / 2 ^ shift_of p % 4 ≡ in_state n p % 4 = grind arith in cc
+packed_mode n p = let e : packed n / 2 ^ shift_of p % 4 ≡ in_state n p % 4 = grind arith in cc
 
 -- the modes to which a table leads are the best assignment
 pub assignment_from_table : (v : ℕ) (r : Rule) (xs : List ℕ) (rows : List ℕ) → IsBestTable v r is_kanji_pair xs rows → IsBestAssignment v r xs (follow Start rows)
@@ -75,7 +75,3 @@ pub led_on : (p : RunState) (items rows : List ℕ) (row : ℕ) (ms all : List M
     → ms ++ follow p (reverse items) ≡ all → (ms ++ m ∷ []) ++ follow (state_after p m) (reverse rows) ≡ all
 unfolding follow
 led_on p items rows row ms all m last is so_far = search (arith, reverse-append, append_assoc)
-
-pub follow-nil : (p : RunState) → follow p [] ≡ []
-unfolding follow
-follow-nil p = refl

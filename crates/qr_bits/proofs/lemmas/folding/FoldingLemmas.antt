@@ -1,8 +1,17 @@
 -- Folding around kanji pairs, step by step.
-use Rattle.std.proofs.Common.{◌≡◌, ℕ, ◌<◌, ◌≤◌, true, false, List, [], ◌∷◌, ◌++◌, length, get_or, take, drop, refl, arith, append_assoc}
-use Rattle.std.proofs.lemmas.{List.length-map}
+use Rattle.std.proofs.Common.{◌≡◌, ℕ, ◌<◌, ◌≤◌, true, false, List, [], ◌∷◌, ◌++◌, length, map, get_or, take, drop, refl, arith, append_assoc}
+use Rattle.std.{proofs.lemmas.List.length-map, proofs.lemmas.Bool.Decides.nat_tests, specs.Char.to_ascii_uppercase}
 use Rattle.qr_bits.specs.{declared.modes.Rule.Rule, declared.modes.Rule.TheVariants.WithKanji, Modes.is_kanji_pair}
 use Rattle.qr_bits.specs.{Folding.capital, Folding.folded, Folding.folded_around_pairs, Steps.RunState.begins_with_pair}
+
+-- what std calls the capital of a byte
+pub uppercase : (b : ℕ) → to_ascii_uppercase b ≡ capital b
+uppercase b = grind (arith, nat_tests)
+
+-- the capitals of bytes
+pub capitals : (xs : List ℕ) → map to_ascii_uppercase xs ≡ map capital xs
+capitals [] = refl
+capitals (x ∷ xs) = cc (uppercase x, capitals xs)
 
 -- a pair stays
 pub folded_pair : (xs : List ℕ) → begins_with_pair WithKanji is_kanji_pair xs ≡ true → folded_around_pairs xs ≡ take 2 xs ++ folded_around_pairs (drop 2 xs)

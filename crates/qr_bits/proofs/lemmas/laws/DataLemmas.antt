@@ -22,8 +22,7 @@ length-pads (suc (suc n)) = ap (λ (k : ℕ). suc (suc k)) (length-pads n)
 
 length-padded : (n : ℕ) (stream : List Bool) → length stream ≤ 8 * n → length (padded n stream) ≡ 8 * n
 unfolding padded
-length-padded n stream h =
-    grind (arith, length-append, length-replicate, bits_of, length-bits_of, length-pads)
+length-padded n stream h = grind (arith, length-append, length-replicate, bits_of, length-bits_of, length-pads)
 
 tail_of : (n : ℕ) (stream : List Bool) → length stream ≤ 8 * n → (tail : List Bool) × (padded n stream ≡ stream ++ tail) × (ends tail ≡ true)
 unfolding padded ends
@@ -34,11 +33,9 @@ tail_of n stream h =
     let whole : ((stream ++ t) ++ f) ++ p ≡ stream ++ (t ++ (f ++ p)) = search (arith, append_assoc) in (
       t ++ (f ++ p),
       whole,
-      ⊎_elim
-          (λ (l : 8 * n - length stream < 4).
+      ⊎_elim (λ (l : 8 * n - length stream < 4).
           let len : length stream + length (t ++ (f ++ p)) ≡ 8 * n = cc (length-append stream (t ++ (f ++ p)), length-padded n stream h) in
-          rw (lt-ltb (length (t ++ (f ++ p))) 4 (omega arith)) refl)
-          (search (arith, or_right))
+          rw (lt-ltb (length (t ++ (f ++ p))) 4 (omega arith)) refl) (search (arith, or_right))
           (cases_lt (8 * n - length stream) 4),
     )
 

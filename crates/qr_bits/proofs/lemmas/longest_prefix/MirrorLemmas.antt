@@ -110,7 +110,7 @@ unfolding begins_with_pair
 ends_short r xs h = grind (arith, length-reverse)
 
 -- the table for a reversed prefix with one more byte
-pub prefix_more : (v : ℕ) (r : Rule) (xs : List ℕ) (i : ℕ) (pair : Bool) (rows : List ℕ) (row : ℕ) (rest ns : PerState ℕ) → i < length xs
+pub prefix_more : (v : ℕ) (r : Rule) (xs : List ℕ) (i : ℕ) (pair : Bool) (rows : List ℕ) (row : ℕ) (rest ns : PerState) → i < length xs
     → pair ≡ begins_with_pair r (swapped is_kanji_pair) (reverse (take (i + 1) xs))
     → BestBelow v r (swapped is_kanji_pair) (reverse (take i xs)) (λ p. follow p rows) (bits_at rest)
     → IsRow v r (get_or xs i 0) pair rest row ns

@@ -11,10 +11,7 @@ use Rattle.qr_bits.specs.{Steps.RunState.may_begin, Parsing.character}
 use Rattle.qr_layout.proofs.Facts.{below, below-at}
 
 found : (p : ℕ → Bool) (xs : List ℕ) → list_any p xs ≡ true → position_or_len p xs < length xs
-found p xs h =
-    ⊎_elim
-    (λ (l : position_or_len p xs < length xs). l)
-    (λ (l : length xs ≤ position_or_len p xs).
+found p xs h = ⊎_elim (λ (l : position_or_len p xs < length xs). l) (λ (l : length xs ≤ position_or_len p xs).
     absurd (false≢true (sym (list_any_none p xs (All-from_get_or (λ x. p x ≡ false) xs 0 (λ i k. fails_before_first p xs i 0 (omega arith)))) ∙ h)))
     (cases_lt (position_or_len p xs) (length xs))
 

@@ -1,9 +1,9 @@
 -- The terminator and the pad codewords.
 use Rattle.std.proofs.Common.{◌≡◌, ℕ, zero, suc, ◌+◌, ◌-◌, ◌%◌, ◌<◌, ◌≤◌, min, ◌==◌, Bool, cond, List, [], ◌∷◌, ◌++◌, length, length-append, refl, arith, All}
-use Rattle.std.specs.{Option.ForSome, Prelude.Option}
+use Rattle.std.specs.{Prelude.Option}
 use Rattle.qr_layout.specs.{declared.level.Level.Level, Blocks.data_codewords_of}
 use Rattle.qr_bits.specs.{declared.segment.Segment.Segment, declared.header.Header.Header, Bits.field, Bits.bits_of}
-use Rattle.qr_bits.specs.{Header.header_stream, Header.HeaderFits, Header.header_bits, Stream.IsStream}
+use Rattle.qr_bits.specs.{Header.header_stream, Header.header_bits, Stream.IsStream}
 use Rattle.qr_bits.specs.Padding.{capacity_of, filled, pads, padded, IsData}
 use Rattle.qr_bits.proofs.lemmas.bits.BitLemmas.{length-field, length-bits_of, bits_of-append, field-zero}
 
@@ -32,9 +32,7 @@ pads-none n h = grind arith
 pub is_data : (v : ℕ) (l : Level) (xs : List ℕ) (segs : List Segment) (h : Option Header) (stream : List Bool) (used : ℕ) (whole cw : List ℕ)
     → IsStream v xs segs h stream → length stream ≡ used → used ≤ capacity_of v l
     → bits_of whole ≡ filled (stream ++ field (min 4 (capacity_of v l - used)) 0)
-    → cw ≡ whole ++ pads (data_codewords_of v l - length whole)
-    → All (λ b. b < 256) cw
-    → IsData v l xs segs h cw
+    → cw ≡ whole ++ pads (data_codewords_of v l - length whole) → All (λ b. b < 256) cw → IsData v l xs segs h cw
 unfolding padded
 is_data v l xs segs h stream used whole cw is len fits filling padding bytes =
     search (arith, bits_of, field-zero, length-bits_of, bits_of-append)
@@ -43,11 +41,3 @@ is_data v l xs segs h stream used whole cw is len fits filling padding bytes =
 pub length-header_stream : (h : Option Header) → length (header_stream h) ≡ header_bits h
 unfolding header_stream
 length-header_stream h = grind (arith, length-append, length-field)
-
--- a header's numbers fit
-pub header_fits : (h : Option Header) → ForSome h (λ k. (k.position < 16) × (k.last < 16)) → ForSome h (λ k. k.parity < 256) → HeaderFits h
-header_fits h a b = λ k e. let r = a k e in (r.0, r.1, b k e)
-
--- a header has at most 20 bits
-pub header_most : (h : Option Header) → header_bits h ≤ 20
-header_most h = grind arith

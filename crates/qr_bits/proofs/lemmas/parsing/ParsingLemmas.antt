@@ -66,9 +66,7 @@ unfolding segments_at
 enough zero zero v bits h k = refl
 enough zero (suc m) v bits h k = rw (ended_empty bits h) refl
 enough (suc n) zero v bits h k = rw (ended_empty bits k) refl
-enough (suc n) (suc m) v bits h k =
-    ⊎_elim
-    (λ (e : ends bits ≡ true). rw e refl)
+enough (suc n) (suc m) v bits h k = ⊎_elim (λ (e : ends bits ≡ true). rw e refl)
     (λ (e : ends bits ≡ false). rw e (same_rest (segment_at v bits) n m v
     (λ s q. enough n m v s.2 (omega (arith, segment_shorter v bits s (not_ended bits e) q)) (omega (arith, segment_shorter v bits s (not_ended bits e) q)))))
     (cases_Bool (ends bits))

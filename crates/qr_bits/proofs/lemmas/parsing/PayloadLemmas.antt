@@ -1,12 +1,10 @@
 -- The data of a segment is read group by group.
-use Rattle.std.proofs.Common.{cond, nat_lt, ◌≡◌, ℕ, suc, ◌+◌, ◌-◌, ◌/◌, ◌%◌, ◌^◌, ◌<◌, ◌≤◌, Bool, List, [], ◌∷◌, ◌++◌, take, drop, Result, Ok, Err, arith}
+use Rattle.std.proofs.Common.{cond, nat_lt, ◌≡◌, ℕ, suc, ◌-◌, ◌/◌, ◌%◌, ◌^◌, ◌<◌, ◌≤◌, Bool, List, [], ◌∷◌, ◌++◌, take, drop, Result, Ok, Err, arith}
 use Rattle.std.proofs.{lemmas.List.length-take, lemmas.List.append_assoc, Math.Nat.pow-le-pow_right}
-use Rattle.qr_bits.specs.declared.modes.Mode.TheVariants.{Numeric, Alphanumeric}
 use Rattle.qr_bits.specs.declared.fault.ParseFault.{ParseFault, TheVariants.BadValue}
-use Rattle.qr_bits.specs.{Bits.value, Modes.payload_bits, Steps.Parsing.IsFaultOf}
+use Rattle.qr_bits.specs.{Bits.value, Steps.Parsing.IsFaultOf}
 use Rattle.qr_bits.specs.Parsing.{◌>>=◌, digit, digits_of, character, characters_of, bytes_of}
 use Rattle.qr_bits.proofs.lemmas.bits.BitLemmas.{value_below}
-use Rattle.qr_bits.proofs.lemmas.stream.WritingLemmas.{three_more, two_more}
 
 -- bits make a number below the power of their width
 pub value_take_below : (w : ℕ) (bs : List Bool) → value (take w bs) < 2 ^ w
@@ -16,20 +14,12 @@ value_take_below w bs = search (arith, length-take, value_below, pow-le-pow_righ
 abbrev pub prepend_read : List ℕ → Result (List ℕ) ParseFault → Result (List ℕ) ParseFault
 prepend_read prefix read = read >>= λ xs. Ok (prefix ++ xs)
 
--- three digits less have ten bits less
-pub payload_less : (n : ℕ) → 3 ≤ n → payload_bits Numeric n ≡ 10 + payload_bits Numeric (n - 3)
-payload_less n h = search (arith, three_more)
-
 -- three digits, and the digits after them
 pub digits_step : (n : ℕ) (bs : List Bool) → 3 ≤ n → digits_of n bs ≡ cond (nat_lt (value (take 10 bs)) 1000)
     (digits_of (n - 3) (drop 10 bs) >>= λ ds. Ok (digit (value (take 10 bs) / 100) ∷ digit (value (take 10 bs) / 10) ∷ digit (value (take 10 bs)) ∷ ds)) (Err BadValue)
 unfolding digits_of
 digits_step (suc (suc (suc n))) bs h = search arith
 digits_step _ bs h = absurd (omega arith)
-
--- two characters less have eleven bits less
-pub payload_two_less : (n : ℕ) → 2 ≤ n → payload_bits Alphanumeric n ≡ 11 + payload_bits Alphanumeric (n - 2)
-payload_two_less n h = omega (arith, two_more)
 
 -- two characters, and the characters after them
 pub characters_step : (n : ℕ) (bits : List Bool) → 2 ≤ n → characters_of n bits ≡ cond (nat_lt (value (take 11 bits)) 2025)

@@ -98,9 +98,6 @@ opens : (v : ℕ) (m : Mode) (xs : List ℕ) (rest : List Bool) → ends (segmen
 unfolding ends
 opens v m xs rest = grind (arith, first_four, le-ltb)
 
-all_take : (n : ℕ) (xs : List ℕ) → All (λ b. b < 256) xs → All (λ b. b < 256) (take n xs) × All (λ b. b < 256) (drop n xs)
-all_take n xs h = search (arith, All-take, All-drop)
-
 segments_again : (v : ℕ) (xs : List ℕ) (segs : List Segment) (tail : List Bool) → All (λ b. b < 256) xs → Suits xs segs → CountsFit v segs → ends tail ≡ true
     → segments_of v (segments_stream v xs segs ++ tail) ≡ Ok (segs, xs)
 unfolding segments_stream Suits CountsFit
@@ -108,7 +105,7 @@ segments_again v xs [] tail bytes suit fits end = cc (segments_end v tail end)
 segments_again v xs (s ∷ ss) tail bytes suit fits end =
     let part = take s.len xs in
     let len : length part ≡ s.len = length-take-le s.len xs suit.0 in
-    let halves = all_take s.len xs bytes in
+    let halves : All (λ b. b < 256) part × All (λ b. b < 256) (drop s.len xs) = search (arith, All-take, All-drop) in
     search (arith, append_assoc, segment_again, segments_step, opens, take-append-drop, segments_again v (drop s.len xs) ss tail halves.1 suit.2 fits.1 end)
 
 -- segments that were read are their stream, and then an end
@@ -141,10 +138,7 @@ segments_more v bits rest s ss ys zs one others =
 segments_takes : (n v : ℕ) (bits : List Bool) (r : List Segment × List ℕ) → length bits ≤ n → segments_at n v bits ≡ Ok r → IsSegments v bits r.0 r.1
 unfolding segments_at
 segments_takes zero v bits r few h = search (arith, same_ok, segments_none, ended_empty)
-segments_takes (suc n) v bits r few h =
-    ⊎_elim
-    (search (arith, same_ok, segments_none))
-    (λ (e : ends bits ≡ false).
+segments_takes (suc n) v bits r few h = ⊎_elim (search (arith, same_ok, segments_none)) (λ (e : ends bits ≡ false).
     let four = not_ended bits e in
     let s = bind_ok (segment_at v bits) _ r (rw e at h) in
     let q = bind_ok (segments_at n v s.0.2) _ r s.2 in
@@ -219,14 +213,10 @@ header_takes bits r h =
 
 first_takes : (bits : List Bool) (r : Option Header × List Bool) → first_header bits ≡ Ok r → HeaderFits r.0 × (bits ≡ header_stream r.0 ++ r.1)
 unfolding first_header header_stream
-first_takes bits r h =
-    ⊎_elim
-    (λ (e : begins_header bits ≡ true).
+first_takes bits r h = ⊎_elim (λ (e : begins_header bits ≡ true).
     let q = bind_ok (header_at (drop 4 bits)) _ r (rw e at h) in
     let w = header_takes (drop 4 bits) q.0 q.1 in
-    search (arith, same_ok, append_assoc, started))
-    (search (arith, same_ok))
-    (cases_Bool (begins_header bits))
+    search (arith, same_ok, append_assoc, started)) (search (arith, same_ok)) (cases_Bool (begins_header bits))
 
 -- A stream followed by an end is parsed into its header, segments and bytes.
 pub parse_again : (v : ℕ) (xs : List ℕ) (segs : List Segment) (h : Option Header) (front tail : List Bool) → IsStream v xs segs h front → ends tail ≡ true

@@ -5,9 +5,8 @@ use Rattle.std.{proofs.lemmas.List.length-drop, proofs.lemmas.List.take-append-d
 use Rattle.std.proofs.lemmas.List.Elements.{All-nil, All-cons, All-head, All-tail}
 use Rattle.qr_bits.specs.{declared.modes.Mode.Mode, Stream.character_bits, Stream.payload}
 use Rattle.qr_bits.specs.declared.modes.Mode.TheVariants.{Numeric, Alphanumeric, Byte, Kanji}
-use Rattle.qr_bits.specs.{Bits.value, Bits.bits_of}
+use Rattle.qr_bits.specs.{Bits.value, Bits.bits_of, Parsing.characters_of, Parsing.bytes_of, Parsing.values_of}
 use Rattle.qr_bits.specs.Modes.{character_count, is_alphanumeric, byte_count, payload_bits, suits, character_value}
-use Rattle.qr_bits.specs.Parsing.{characters_of, bytes_of, values_of}
 use Rattle.qr_bits.proofs.lemmas.modes.KanjiLemmas.{pairs_again, pairs_takes}
 use Rattle.qr_bits.proofs.lemmas.modes.CharacterLemmas.{character_found, character_again, character_taken}
 use Rattle.qr_bits.proofs.lemmas.parsing.{PayloadLemmas.value_take_below, ParsingLemmas.bind_ok, ParsingLemmas.same_ok}

@@ -45,9 +45,7 @@ drop_pair test x y xs (s ∷ ss) p c =
     (λ e c.
     let same = same_rank Kanji s.mode (eqb-true _ _ e) in
     let two : 1 + (1 + s.len) ≡ suc (suc s.len) = omega arith in
-    search (arith, and_parts))
-    (λ e c. ((and_parts (test x y) true c.2).0, c.3))
-    c
+    search (arith, and_parts)) (λ e c. ((and_parts (test x y) true c.2).0, c.3)) c
 
 half : (test : ℕ → ℕ → Bool) (m : Mode) (x : ℕ) (xs : List ℕ) (segs : List Segment) → rank m < 3 → CoversBy test (x ∷ xs) (prepend_mode Kanji (prepend_mode m segs)) → ⊥
 unfolding CoversBy

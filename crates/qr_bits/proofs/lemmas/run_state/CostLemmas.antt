@@ -73,8 +73,7 @@ unfolding cost_of
 front v p m [] = omega (arith, one_run v p m 0)
 front v p m (s ∷ ss) =
     cond_both (rank m == rank s.mode) _ _ (λ (r : List Segment). byte_cost v p m + rest_bits v (state_after p m) (s ∷ ss) ≡ rest_bits v p r)
-    (search (arith, same_rank, eqb-true, eq-eqb, state_rank-after, cond-true, one_run))
-    (λ e.
+    (search (arith, same_rank, eqb-true, eq-eqb, state_rank-after, cond-true, one_run)) (λ e.
     let other : goes_on (state_after p m) s.mode ≡ false = rw (state_rank-after p m) e in
     let f = cond-false (goes_on (state_after p m) s.mode) (cost_of v (state_after p m) (replicate s.len s.mode)) (segment_bits v s) other in
     let one = one_run v p m 0 in

@@ -40,8 +40,7 @@ sum_by-prepend_mode : (m : Mode) (segs : List Segment) → sum_by (λ s. s.len) 
 sum_by-prepend_mode m [] = refl
 sum_by-prepend_mode m (s ∷ ss) =
     cond_both (rank m == rank s.mode) _ _ (λ (r : List Segment). sum_by (λ t. t.len) r ≡ 1 + sum_by (λ t. t.len) (s ∷ ss))
-    (omega (arith, sum_by-cons))
-    (omega (arith, sum_by-cons))
+    (omega (arith, sum_by-cons)) (omega (arith, sum_by-cons))
 
 -- the lengths of the runs add up to the number of modes
 pub sum_by-runs_of : (ms : List Mode) → sum_by (λ s. s.len) (runs_of ms) ≡ length ms

@@ -44,10 +44,7 @@ bytes_longest v xs room n k e fits most =
       inside = inside;
       fits = ((least_fits v BytesOnly (take n xs) _ (bytes_least v (take n xs))).1 room).1 (rw len (omega (arith, bits-most v n)));
       longest = λ j h fit.
-          ⊎_elim
-          (λ (none : j < 1). omega arith)
-          (λ (some : 1 ≤ j).
+          ⊎_elim (λ (none : j < 1). omega arith) (λ (some : 1 ≤ j).
           let few = ((least_fits v BytesOnly (take j xs) _ (bytes_least v (take j xs))).1 room).0 fit in
-          grind (arith, length-take-le))
-          (cases_lt j 1);
+          grind (arith, length-take-le)) (cases_lt j 1);
     }

@@ -6,8 +6,7 @@ use Rattle.std.proofs.lemmas.List.{length-take-le, length-drop, drop-drop, take-
 use Rattle.std.proofs.Math.Seq.{take-append_seam, drop-append_seam}
 use Rattle.std.proofs.{lemmas.Nat.mod-pow-add, Math.Nat.pow-suc, Math.Nat.mod-eq_of_lt}
 use borrow.Author.Tests.{leb-true}
-use Rattle.qr_bits.specs.declared.modes.Mode.{Mode, TheVariants.Numeric}
-use Rattle.qr_bits.specs.declared.fault.ParseFault.{ParseFault}
+use Rattle.qr_bits.specs.declared.{modes.Mode.Mode, modes.Mode.TheVariants.Numeric, fault.ParseFault.ParseFault}
 use Rattle.qr_bits.specs.{Bits.field, Bits.value_from, Bits.value, Stream.digit_bits, Stream.payload}
 use Rattle.qr_bits.specs.Modes.{byte_count, payload_bits, suits, is_digit}
 use Rattle.qr_bits.specs.Parsing.{digit, digits_of}

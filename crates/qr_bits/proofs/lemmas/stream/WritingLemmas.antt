@@ -1,5 +1,5 @@
 -- Writing the data of a segment, group by group, and the length of what is written.
-use Rattle.std.proofs.Common.{◌≡◌, ℕ, zero, suc, ◌+◌, ◌-◌, ◌*◌, ◌/◌, ◌<◌, ◌≤◌, Bool, true, List, [], ◌∷◌, ◌++◌, length, get_or, take, drop, refl, sym, ◌∙◌, arith, length-append, append_assoc}
+use Rattle.std.proofs.Common.{◌≡◌, ℕ, zero, suc, ◌+◌, ◌-◌, ◌*◌, ◌/◌, ◌<◌, ◌≤◌, Bool, true, ◌&&◌, List, [], ◌∷◌, ◌++◌, length, get_or, take, drop, refl, sym, ◌∙◌, arith, length-append, append_assoc}
 use Rattle.std.proofs.lemmas.{Bool.and_parts, Bool.false≢true, List.length-take-le, List.drop_all}
 use Rattle.std.{proofs.Math.Seq.drop-cons, specs.List.list_all}
 use Rattle.qr_bits.specs.{declared.modes.Mode.Mode, declared.segment.Segment.Segment, Bits.field}
@@ -15,6 +15,12 @@ all_rest p xs zero h = h
 all_rest p [] (suc n) h = h
 all_rest p (x ∷ xs) (suc n) h = all_rest p xs n (and_parts (p x) _ h).1
 
+-- three digits, and the digits after them
+pub digits_three : (xs : List ℕ) → 3 ≤ length xs
+    → digit_bits xs ≡ field 10 (100 * (get_or xs 0 0 - 48) + 10 * (get_or xs 1 0 - 48) + (get_or xs 2 0 - 48)) ++ digit_bits (drop 3 xs)
+unfolding digit_bits
+digits_three xs h = grind arith
+
 -- a pair of characters, and the characters after it
 pub characters_two : (xs : List ℕ) → 2 ≤ length xs
     → character_bits xs ≡ field 11 (45 * character_value (get_or xs 0 0) + character_value (get_or xs 1 0)) ++ character_bits (drop 2 xs)
@@ -26,9 +32,9 @@ pub kanji_two : (xs : List ℕ) → 2 ≤ length xs → kanji_bits xs ≡ field 
 unfolding kanji_bits
 kanji_two xs h = grind arith
 
--- if bytes pass a test two by two, the first two pass it, and the rest does two by two
-pub in_twos-first : (test : ℕ → ℕ → Bool) (xs : List ℕ) → in_twos test xs ≡ true → 2 ≤ length xs → (test (get_or xs 0 0) (get_or xs 1 0) ≡ true) × (in_twos test (drop 2 xs) ≡ true)
-in_twos-first test xs h n = grind arith
+-- bytes pass a test two by two if the first two pass it, and the rest two by two
+pub in_twos-step : (test : ℕ → ℕ → Bool) (xs : List ℕ) → 2 ≤ length xs → in_twos test xs ≡ test (get_or xs 0 0) (get_or xs 1 0) && in_twos test (drop 2 xs)
+in_twos-step test xs n = grind arith
 
 -- three digits more have ten bits more
 pub three_more : (n : ℕ) → payload_bits Numeric (3 + n) ≡ 10 + payload_bits Numeric n

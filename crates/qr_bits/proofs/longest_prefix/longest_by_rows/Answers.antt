@@ -1,7 +1,6 @@
 use Rattle.std.proofs.Common.{◌≡◌, ◌+◌, ◌≤◌, ◌<◌, [], ◌∷◌, take, length, get_or, arith, ⊎_elim}
 use Rattle.std.proofs.lemmas.Bool.{cases_lt}
-use Rattle.qr_bits.specs.{Modes.is_kanji_pair, Steps.RunState.swapped}
-use Rattle.qr_bits.specs.Steps.BestModes.{in_state, IsRow}
+use Rattle.qr_bits.specs.{Modes.is_kanji_pair, Steps.RunState.swapped, Steps.BestModes.in_state, Steps.BestModes.IsRow}
 use Rattle.qr_bits.proofs.lemmas.best_modes.TableLemmas.{best_none, small_more, small_row, zeros}
 use Rattle.qr_bits.proofs.lemmas.longest_prefix.MirrorLemmas.{empty_fits, prefix_more, prefix_fits, prefix_least}
 use Rattle.qr_bits.proofs.longest_prefix.longest_by_rows.Goals as goal
@@ -43,12 +42,10 @@ loop-i-preserved c =
           rw w.longest-is (record {
             inside = omega (arith, inv.inside);
             fits = inv.fits;
-            longest = λ k h fit. ⊎_elim
-                (λ (l : i < k).
+            longest = λ k h fit. ⊎_elim (λ (l : i < k).
                 let e : k ≡ i + 1 = omega arith in
                 absurd (omega (arith, prefix_least v r (take (i + 1) xs) _ _ room b (rw e at fit), w.if-from-room.false, c.from.ensures)))
-                (λ (l : k ≤ i). inv.longest k l fit)
-                (cases_lt i k);
+                (λ (l : k ≤ i). inv.longest k l fit) (cases_lt i k);
             small = search (arith, small_more);
             best = (c.best_choices.result.0 ∷ inv.best.0, b);
           })

@@ -3,7 +3,7 @@ use Rattle.std.proofs.lemmas.List.Elements.{All-from_get_or}
 use Rattle.qr_bits.specs.{Header.header_stream, Stream.segments_stream, Stream.IsStream}
 use Rattle.qr_bits.proofs.lemmas.segment.SegmentLemmas.{covers_all, bits_most, bits_least}
 use Rattle.qr_bits.proofs.lemmas.{stream.WritingLemmas.length-segments_stream, segment.CoverLemmas.covers_suits}
-use Rattle.qr_bits.proofs.lemmas.padding.PaddingLemmas.{is_data, length-header_stream, header_fits, header_most}
+use Rattle.qr_bits.proofs.lemmas.padding.PaddingLemmas.{is_data, length-header_stream}
 use Rattle.qr_bits.proofs.lemmas.padding.CountLemmas.{capacity_most, counts_fit}
 use Rattle.qr_bits.proofs.padding.codewords.Goals as goal
 
@@ -16,13 +16,16 @@ bit_len-requires-clause-short c = omega (arith, (covers_all c.args.input.now c.a
 pub overflow_add-used : goal.overflow_add-used
 overflow_add-used c =
     let all = covers_all c.args.input.now c.args.segs.now c.requires.covered in
-    omega (arith, header_most c.args.header, all.1, bits_most c.args.version c.args.segs.now all.0, c.requires.short, c.header_bits.ensures, c.bit_len.ensures)
+    omega (arith, all.1, bits_most c.args.version c.args.segs.now all.0, c.requires.short, c.header_bits.ensures.most, c.bit_len.ensures)
 
-pub put_segments-requires-clause-short : goal.put_segments-requires-clause-short
-put_segments-requires-clause-short c =
+pub returns-then-used-capacity-clause-too_long : goal.returns-then-used-capacity-clause-too_long
+returns-then-used-capacity-clause-too_long c = (λ e. rw (← c.capacity-capacity.ensures.value, ← c.header_bits.ensures.value, ← c.bit_len.ensures) c.if-used-capacity.true, λ h. refl)
+
+pub put_all-requires-clause-short : goal.put_all-requires-clause-short
+put_all-requires-clause-short c =
     let least = bits_least c.args.version c.args.input.now c.args.segs.now (covers_suits c.args.input.now c.args.segs.now c.requires.covered) in
     let most = capacity_most c.args.version c.args.level c.capacity-capacity.ensures.first c.capacity-capacity.ensures.last in
-    omega (arith, least, most, c.capacity-capacity.ensures.value, c.header_bits.ensures, c.bit_len.ensures, c.if-used-capacity.false)
+    omega (arith, least, most, c.capacity-capacity.ensures.value, c.header_bits.ensures.value, c.bit_len.ensures, c.if-used-capacity.false)
 
 pub returns-clause-ok : goal.returns-clause-ok
 returns-clause-ok c =
@@ -33,12 +36,14 @@ returns-clause-ok c =
       bytes = All-from_get_or (λ (b : ℕ). b < 256) xs 0 (λ i h. omega (arith, c.type_inv.input i));
       suit = suit;
       counts = counts_fit c.args.version c.args.level segs (omega arith) (omega arith) (omega arith);
-      header = header_fits c.args.header c.requires.in_range c.in_ok-put_header.ensures.parity;
+      header = λ h e. let r = c.requires.in_range h e in (r.0, r.1, c.in_ok-put_all.ensures.parity h e);
       whole = refl;
     } in
     is_data c.args.version c.args.level xs segs c.args.header _ (c.header_bits.result + c.bit_len.result) c.into_codewords-codewords.result.items _ is
     (omega (arith, length-append (header_stream c.args.header) (segments_stream c.args.version xs segs), length-header_stream c.args.header, length-segments_stream c.args.version xs segs suit))
     (omega arith)
-    (rw (c.into_codewords-codewords.ensures, c.in_ok-fill.ensures, c.in_ok-put.ensures, c.in_ok-put_segments.ensures)
-    (rw (c.in_ok-put_header.ensures.written, c.new-writer.ensures, c.min.ensures, c.capacity-capacity.ensures.value)))
+    (rw (c.into_codewords-codewords.ensures, c.in_ok-put_all.ensures.written, c.new-writer.ensures, c.capacity-capacity.ensures.value))
     (search arith) c.in_ok-pad.ensures.bytes
+
+pub returns-clause-too_long : goal.returns-clause-too_long
+returns-clause-too_long c = (λ e. cc, λ h. absurd (omega arith))

@@ -1,8 +1,8 @@
-use Rattle.std.proofs.Common.{[], refl, sym, ◌∙◌, ◌≡◌, ◌-◌, append_assoc, arith}
-use Rattle.std.proofs.lemmas.{Bool.Decides.nat_tests, Bool.le-ltb, List.length-drop, List.drop-drop, List.append-nil}
+use Rattle.std.proofs.Common.{◌≡◌, ◌+◌, ◌-◌, append_assoc, arith}
+use Rattle.std.proofs.lemmas.{Bool.Decides.nat_tests, Bool.le-ltb, List.length-drop, List.drop-drop}
 use Rattle.qr_bits.specs.declared.{modes.Mode.TheVariants.Numeric, fault.ParseFault.TheVariants.BadValue}
-use Rattle.qr_bits.specs.{Modes.payload_bits, Parsing.digits_of}
-use Rattle.qr_bits.proofs.lemmas.parsing.PayloadLemmas.{payload_less, digits_step, finish, fails}
+use Rattle.qr_bits.specs.Modes.{payload_bits}
+use Rattle.qr_bits.proofs.lemmas.{parsing.PayloadLemmas.digits_step, parsing.PayloadLemmas.fails, stream.WritingLemmas.three_more}
 use Rattle.qr_bits.proofs.parsing.digits.Goals as goal
 
 pub returns-then-group-ge-THREE_DIGITS-clause-err : goal.returns-then-group-ge-THREE_DIGITS-clause-err
@@ -12,16 +12,10 @@ returns-then-group-ge-THREE_DIGITS-clause-err c =
 pub loop-left-preserved : goal.loop-left-preserved
 loop-left-preserved c =
     let step = digits_step c.loop-left.left c.loop-left.reader c.loop-left-test.true in
-    let less = payload_less c.loop-left.left c.loop-left-test.true in
+    let whole : 3 + (c.loop-left.left - 3) ≡ c.loop-left.left = omega arith in
+    let less = rw whole at (three_more (c.loop-left.left - 3)) in
     record {
       reads = grind (arith, nat_tests, append_assoc);
       there = search (arith, length-drop);
       rest = cc (drop-drop (payload_bits Numeric (c.loop-left.left - 3)) 10 c.loop-left.reader);
     }
-
-pub returns-else-left-eq1-clause-ok : goal.returns-else-left-eq1-clause-ok
-unfolding digits_of
-returns-else-left-eq1-clause-ok c =
-    let none : c.loop-left.left ≡ 0 = omega arith in
-    let d = finish _ _ [] (digits_of 0 c.loop-left.reader) _ (rw none at c.loop-left.invariant.reads) refl in
-    (d.0, d.1, sym (append-nil c.loop-left.out.items) ∙ d.2, rw none at c.loop-left.invariant.rest)
