@@ -133,8 +133,7 @@ fn corrections(alloc: Global, blocks: Blocks, message: &[u8]) -> Result<Vec<u8>,
     let divisor = Divisor::new(ec_len);
     let mut corrections = Vec::with_capacity(alloc, sizes.count() * ec_len)?;
     for block in 0..sizes.count() {
-        let start = sizes.start(block);
-        let check = divisor.correction(&message[start..start + sizes.len(block)]);
+        let check = divisor.correction(sizes.part(message, block));
         corrections.extend_from_slice(check.as_slice())?;
     }
     Ok(corrections)
@@ -208,9 +207,7 @@ fn deinterleave_blocks(
         → length d ≡ codeword_count (data_sizes blocks) → IsFinalMessage blocks d codewords.now → ⊥ }
     ensures fault { IfErr result (λ e. (e ≡ ReadFault.Memory) ⊎ (e ≡ ReadFault.Check)) }
 {
-    let sizes = BlockSizes::of_data(blocks);
-    let mut message = vec![in alloc; 0u8; sizes.start(sizes.count())]?;
-    deinterleave_into(&mut message, sizes, codewords);
+    let message = BlockSizes::of_data(blocks).gather(alloc, codewords)?;
     let again = interleave_blocks(alloc, blocks, &message)?;
     if again.as_slice() == codewords {
         Ok(message)

@@ -1,7 +1,7 @@
 -- The error correction codewords of all blocks, block after block, and the whole final sequence.
 use Rattle.{qr_field.specs.Polynomial.IsCorrection, qr_layout.specs.declared.blocks.Blocks.Blocks}
 use Rattle.qr_symbol.proofs.lemmas.interleaving.PositionLemmas.{start-next, start-most}
-use Rattle.qr_symbol.specs.Interleaving.{block_count, block_len, start_of, codeword_at, data_sizes, correction_sizes, block_of, IsFinalMessage}
+use Rattle.qr_symbol.specs.Interleaving.{block_count, block_len, start_of, codeword_at, data_sizes, correction_sizes, block_of, part_of, IsFinalMessage}
 use Rattle.qr_symbol.specs.Steps.Interleaving.{AppendsInterleaved, IsChecks}
 use Rattle.qr_symbol.specs.declared.interleaving.BlockSizes.{BlockSizes}
 use Rattle.std.proofs.Common.{◌≡◌, ℕ, suc, ◌+◌, ◌<◌, ◌≤◌, List, [], ◌∷◌, ◌++◌, map, take, drop, length-append, get_or, refl, ◌∙◌, ap, inl, inr, arith}
@@ -54,5 +54,5 @@ pub slice-in : (c e : BlockSizes) (n s l k : ℕ) → c ≡ e → n ≡ start_of
 slice-in c e n s l k a o m f g = let q = start-most c (k + 1) (block_count c) (omega arith) in search arith
 
 -- one more block, stated with the variables of the loop
-pub push-checks : (b : Blocks) (d xs ys es : List ℕ) (c : BlockSizes) (k s l n : ℕ) → c ≡ data_sizes b → k < block_count c → s ≡ start_of c k → l ≡ block_len c k → n ≡ b.ec_len → IsCorrection (take l (drop s d)) n es → IsChecks b d k xs → ys ≡ xs ++ es → IsChecks b d (k + 1) ys
-push-checks b d xs ys es c k s l n a m f g o e h q = search (arith, checks-push)
+pub push-checks : (b : Blocks) (d xs ys es : List ℕ) (c : BlockSizes) (k : ℕ) → c ≡ data_sizes b → k < block_count c → IsCorrection (part_of c d k) b.ec_len es → IsChecks b d k xs → ys ≡ xs ++ es → IsChecks b d (k + 1) ys
+push-checks b d xs ys es c k a m e h q = search (arith, checks-push)
