@@ -6,10 +6,9 @@ use Rattle.qr_symbol.proofs.lemmas.{encoding.SymbolMakingLemmas.symbol-fits, rea
 use Rattle.qr_symbol.proofs.lemmas.series.PartLemmas.{parts-are, length-parts, parts-one, parts-some, parts-long}
 use Rattle.qr_symbol.specs.{Joining.{AreReadBy, bytes_of_all, HaveHeaders, IsJoined}, Reading.IsReading}
 use Rattle.qr_symbol.specs.Series.{squares_of, AreParts, IsSymbolOf, AreSymbolsFrom, IsSplit, IsPlainSymbol, IsSeries}
-use Rattle.qr_symbol.specs.Steps.Series.{AreLengths, parts_of}
+use Rattle.{qr_symbol.specs.Steps.Series.{AreLengths, parts_of}, std.proofs.lemmas.List.{append-nil, take-append-drop}}
 use Rattle.qr_symbol.specs.{VersionChoice.{FitsVersion, HasNoVersion}, declared.symbol.Symbol.Symbol}
 use Rattle.std.proofs.Common.{◌≡◌, ℕ, suc, ◌+◌, ◌-◌, ◌*◌, ◌<◌, ◌≤◌, List, [], ◌∷◌, length, None, Some, Option, refl, sym, ap, subst, arith, inl, inr}
-use Rattle.std.proofs.lemmas.List.{append-nil, take-append-drop}
 
 -- ---- what makes a series
 
