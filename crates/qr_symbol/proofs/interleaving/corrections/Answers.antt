@@ -1,5 +1,5 @@
-use Rattle.std.proofs.{Common.{ap, subst, arith}, lemmas.Result.IfOk-from_err}
-use Rattle.qr_symbol.specs.{Interleaving.block_count, Steps.Interleaving.IsChecks}
+use Rattle.std.proofs.{Common.{◌∙◌, ap, sym, subst, arith}, lemmas.Result.IfOk-from_err}
+use Rattle.qr_symbol.specs.{Interleaving.{block_count, codeword_count}, Steps.Interleaving.IsChecks}
 use Rattle.qr_symbol.proofs.lemmas.interleaving.CheckLemmas.{push-checks}
 use Rattle.qr_symbol.proofs.interleaving.corrections.Goals as goal
 
@@ -14,3 +14,6 @@ returns-in_err-extend_from_slice c = IfOk-from_err _ _ c.from_residual-in_err-ex
 pub returns : goal.returns
 returns c = subst (λ k. IsChecks c.args.blocks c.args.message.now k c.loop-block.corrections.items)
     (omega (arith, ap block_count c.of_data-sizes.ensures)) c.loop-block.invariant
+
+pub part-requires-clause-whole : goal.part-requires-clause-whole
+part-requires-clause-whole c = c.requires.whole ∙ ap codeword_count (sym c.of_data-sizes.ensures)

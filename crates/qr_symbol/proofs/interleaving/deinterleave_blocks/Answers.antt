@@ -13,8 +13,7 @@ returns-then-eq c =
     )
 
 pub returns-else-eq : goal.returns-else-eq
-returns-else-eq c =
-    let other = iff_false (slice_eq-Decides Decides-eqb _ _ _ c.eq.ensures) c.if-eq.false in
+returns-else-eq c = let other = iff_false (slice_eq-Decides Decides-eqb _ _ _ c.eq.ensures) c.if-eq.false in
     inr (
       refl,
       λ d h. none-fits c.args.blocks _ _ _ d (rw c.of_data.ensures at c.in_ok-message.ensures)

@@ -15,8 +15,7 @@ check-len b k l = grind (arith, nat_tests)
 pub checks-push : (b : Blocks) (d xs ys es : List ℕ) (k : ℕ) → k < block_count (data_sizes b) → IsChecks b d k xs → IsCorrection (block_of b d k) b.ec_len es → ys ≡ xs ++ es → IsChecks b d (k + 1) ys
 checks-push b d xs ys es k l h c e =
     let next = start-next (correction_sizes b) k in let one = check-len b k l in
-    let all = h.corrections ++ es ∷ [] in
-    let here : get_or all k [] ≡ es = search (arith, get_or-append_right) in
+    let all = h.corrections ++ es ∷ [] in let here : get_or all k [] ≡ es = search (arith, get_or-append_right) in
     let there = λ (i : ℕ) (s : i < k). get_or_append_left h.corrections (es ∷ []) [] i (omega arith) in record {
       corrections = all;
       count = search (arith, length-append);

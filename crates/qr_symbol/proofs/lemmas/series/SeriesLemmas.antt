@@ -72,8 +72,7 @@ symbols-read v l b last parity k x (p ∷ ps) (s ∷ ss) i j cut h =
 lone-joined : (x : List ℕ) (l : Level) (b : Rule) (v : ℕ) (ss : List Symbol) → 1 ≤ v → v ≤ 40 → IsPlainSymbol v l b x ss → IsJoined (squares_of ss) x
 unfolding AreReadBy
 lone-joined x l b v ss i j h =
-    let made = h.made.made in
-    let content : Content = record { header = None; segments = made.segments; bytes = x } in
+    let made = h.made.made in let content : Content = record { header = None; segments = made.segments; bytes = x } in
     subst (λ (ts : List Symbol). IsJoined (squares_of ts) x) (sym h.alone) (record {
       contents = content ∷ [];
       read = (symbol-read v l b x None _ _ i j made, tt);

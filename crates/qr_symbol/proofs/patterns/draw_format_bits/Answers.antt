@@ -11,8 +11,7 @@ pub loop-bit-preserved : goal.loop-bit-preserved
 loop-bit-preserved c =
     let i = c.loop-bit.invariant in let g = c.loop-bit.matrix in
     let a = c.format_place-one in let b = c.second_format_place-other in
-    let d = c.is_bit_set-dark.result in
-    let s : g.side ≡ side_of c.args.v = ap (λ (h : Grid). h.side) i.square in
+    let d = c.is_bit_set-dark.result in let s : g.side ≡ side_of c.args.v = ap (λ (h : Grid). h.side) i.square in
     let e = c.set-in-loop-bit.ensures ∙ ap (λ (h : Grid). painted h b.result.row b.result.col d) c.set.ensures in
     record {
       square = rw e (painted-square _ _ _ _ d s);

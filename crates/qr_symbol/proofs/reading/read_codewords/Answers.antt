@@ -9,12 +9,9 @@ use Rattle.qr_symbol.proofs.reading.read_codewords.Goals as goal
 seven-on : (mask r c : ℕ) → 7 ≤ mask → inverts 7 r c ≡ inverts mask r c
 unfolding inverts
 seven-on mask r c l =
-    let e0 : eqb mask 0 ≡ false = grind (arith, nat_tests) in
-    let e1 : eqb mask 1 ≡ false = grind (arith, nat_tests) in
-    let e2 : eqb mask 2 ≡ false = grind (arith, nat_tests) in
-    let e3 : eqb mask 3 ≡ false = grind (arith, nat_tests) in
-    let e4 : eqb mask 4 ≡ false = grind (arith, nat_tests) in
-    let e5 : eqb mask 5 ≡ false = grind (arith, nat_tests) in
+    let e0 : eqb mask 0 ≡ false = grind (arith, nat_tests) in let e1 : eqb mask 1 ≡ false = grind (arith, nat_tests) in
+    let e2 : eqb mask 2 ≡ false = grind (arith, nat_tests) in let e3 : eqb mask 3 ≡ false = grind (arith, nat_tests) in
+    let e4 : eqb mask 4 ≡ false = grind (arith, nat_tests) in let e5 : eqb mask 5 ≡ false = grind (arith, nat_tests) in
     let e6 : eqb mask 6 ≡ false = grind (arith, nat_tests) in rw (e0, e1, e2, e3, e4, e5, e6) refl
 
 -- so a mask above 7 can be taken as 7
