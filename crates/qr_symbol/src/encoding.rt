@@ -1,6 +1,6 @@
 //! Encodes an input as one symbol (ISO/IEC 18004:2015, 7.1).
 
-ghost use Rattle.std.specs.Prelude.{◌≡◌, ◌≢◌, ◌+◌, ◌<◌, ◌≤◌, ◌↔◌, ◌⊎◌, [], length, Err, IfOk, IfErr};
+ghost use Rattle.std.specs.Prelude.{◌≡◌, ◌≢◌, ◌+◌, ◌<◌, ◌≤◌, ◌↔◌, ◌⊎◌, [], length, Err, IfOk, IfErr, MatchResult};
 ghost use Rattle.std.specs.Option.{ForSome};
 ghost use Rattle.qr_bits.specs.declared.modes.Rule.{Rule};
 ghost use Rattle.qr_bits.specs.Segmentation.{bits, Covers, IsLeastSegmentation};
@@ -82,11 +82,11 @@ pub(crate) fn symbol_at(
     requires short { length input.now ≤ INPUT_MAX }
     requires covered { Covers input.now segments.now }
     requires in_range { ForSome header (λ h. (h.position < 16) × (h.last < 16)) }
-    ensures made { (r : Rule) → IsLeastSegmentation version r input.now segments.now
-        → IfOk result (λ s. IsSymbolOf version level r input.now header s) }
-    ensures too_long { result ≡ Err EncodeFault.TooLong
-        → capacity_of version level < header_bits header + bits version segments.now }
-    ensures fault { IfErr result (λ e. (e ≡ EncodeFault.TooLong) ⊎ (e ≡ EncodeFault.Memory)) }
+    ensures { MatchResult result
+        (λ s. (r : Rule) → IsLeastSegmentation version r input.now segments.now
+        → IsSymbolOf version level r input.now header s)
+        (λ e. (e ≡ EncodeFault.Memory) ⊎ ((e ≡ EncodeFault.TooLong)
+        × (capacity_of version level < header_bits header + bits version segments.now))) }
 {
     let mut canvas = Canvas::new(alloc, version, level)?;
     symbol_on(alloc, &mut canvas, input, segments, header)
@@ -105,13 +105,15 @@ pub(crate) fn symbol_on(
     requires in_range { ForSome header (λ h. (h.position < 16) × (h.last < 16)) }
     ensures kept_version { canvas.new.version ≡ canvas.old.version }
     ensures kept_level { canvas.new.level ≡ canvas.old.level }
-    ensures made { (r : Rule) → IsLeastSegmentation canvas.old.version r input.now segments.now
-        → IfOk result (λ s. IsSymbolOf canvas.old.version canvas.old.level r input.now header s) }
-    ensures too_long { result ≡ Err EncodeFault.TooLong → capacity_of canvas.old.version canvas.old.level
-        < header_bits header + bits canvas.old.version segments.now }
-    ensures fault { IfErr result (λ e. (e ≡ EncodeFault.TooLong) ⊎ (e ≡ EncodeFault.Memory)) }
+    ensures made { MatchResult result
+        (λ s. (r : Rule) → IsLeastSegmentation canvas.old.version r input.now segments.now
+        → IsSymbolOf canvas.old.version canvas.old.level r input.now header s)
+        (λ e. (e ≡ EncodeFault.Memory) ⊎ ((e ≡ EncodeFault.TooLong)
+        × (capacity_of canvas.old.version canvas.old.level
+        < header_bits header + bits canvas.old.version segments.now))) }
 {
-    let (version, level) = (canvas.version, canvas.level);
+    let version = canvas.version;
+    let level = canvas.level;
     let message = codewords(alloc, input, segments, header, version, level)?;
     let interleaved = interleave(alloc, version, level, &message)?;
     build_on(alloc, canvas, &interleaved)

@@ -2,7 +2,7 @@
 //! Interleaved codewords come as the first of each block, then the second of each block, and so on; elsewhere the
 //! blocks come one after the other.
 
-ghost use Rattle.std.specs.Prelude.{◌≡◌, ◌≢◌, ◌↔◌, ℕ, ◌+◌, ◌<◌, ◌≤◌, ◌⊎◌, List, length, Err, IfOk, IfErr};
+ghost use Rattle.std.specs.Prelude.{◌≡◌, ◌≢◌, ◌↔◌, ℕ, ◌+◌, ◌<◌, ◌≤◌, ◌⊎◌, List, length, Err, IfOk, IfErr, MatchResult};
 ghost use Rattle.qr_layout.specs.Blocks.{data_codewords_of};
 ghost use Rattle.qr_layout.specs.Version.{total_codewords_of};
 ghost use Rattle.qr_symbol.specs.declared.fault.ReadFault.{ReadFault};
@@ -133,8 +133,7 @@ fn corrections(alloc: Global, blocks: Blocks, message: &[u8]) -> Result<Vec<u8>,
     let divisor = Divisor::new(ec_len);
     let mut corrections = Vec::with_capacity(alloc, sizes.count() * ec_len)?;
     for block in 0..sizes.count() {
-        let start = sizes.start(block);
-        let check = divisor.correction(&message[start..start + sizes.len(block)]);
+        let check = divisor.correction(sizes.part(message, block));
         corrections.extend_from_slice(check.as_slice())?;
     }
     Ok(corrections)
@@ -202,15 +201,12 @@ fn deinterleave_blocks(
         ≡ codeword_count (data_sizes blocks) + codeword_count (correction_sizes blocks) }
     requires least { 1 ≤ blocks.ec_len }
     requires most { blocks.ec_len ≤ 30 }
-    ensures len { IfOk result (λ d. length d.items ≡ codeword_count (data_sizes blocks)) }
-    ensures read { IfOk result (λ d. IsFinalMessage blocks d.items codewords.now) }
-    ensures check { result ≡ Err ReadFault.Check → (d : List ℕ)
-        → length d ≡ codeword_count (data_sizes blocks) → IsFinalMessage blocks d codewords.now → ⊥ }
-    ensures fault { IfErr result (λ e. (e ≡ ReadFault.Memory) ⊎ (e ≡ ReadFault.Check)) }
+    ensures { MatchResult result
+        (λ d. (length d.items ≡ codeword_count (data_sizes blocks)) × IsFinalMessage blocks d.items codewords.now)
+        (λ e. (e ≡ ReadFault.Memory) ⊎ ((e ≡ ReadFault.Check) × ((d : List ℕ)
+        → (length d ≡ codeword_count (data_sizes blocks)) × IsFinalMessage blocks d codewords.now → ⊥))) }
 {
-    let sizes = BlockSizes::of_data(blocks);
-    let mut message = vec![in alloc; 0u8; sizes.start(sizes.count())]?;
-    deinterleave_into(&mut message, sizes, codewords);
+    let message = BlockSizes::of_data(blocks).gather(alloc, codewords)?;
     let again = interleave_blocks(alloc, blocks, &message)?;
     if again.as_slice() == codewords {
         Ok(message)

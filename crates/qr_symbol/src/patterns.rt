@@ -116,7 +116,8 @@ fn paint_corners(matrix: &mut Matrix, v: Version, format: u32)
     ensures { IsOver (side_of v) (is_corner (side_of v)) (paint_of v format) (colour matrix.old) matrix.new }
 {
     let side = v.side();
-    let (far, last) = (side - 8, side - 4);
+    let far = side - 8;
+    let last = side - 4;
     let near = Module { row: 3, col: 3 };
     let right = Module { row: 3, col: last };
     let below = Module { row: last, col: 3 };
@@ -163,7 +164,8 @@ fn paint_version(matrix: &mut Matrix, v: Version)
     if let Some(word) = v.version_word() {
         let left = v.side() - 11;
         for bit in 0..VERSION_BITS {
-            let (row, col) = (bit / 3, left + bit % 3);
+            let row = bit / 3;
+            let col = left + bit % 3;
             let dark = is_bit_set(word, bit);
             matrix.set(row, col, dark);
             matrix.set(col, row, dark);

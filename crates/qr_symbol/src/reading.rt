@@ -117,7 +117,7 @@ pub fn read_codewords(
 {
     let region = region_of(alloc, version)?;
     let mut plain = Matrix::new(alloc, version.side())?;
-    let mask = if mask < 8 { mask } else { 7 };
+    let mask = mask.min(7);
     set_masked(&mut plain, matrix, &region, mask);
     read_plain(alloc, version, &plain, &region)
 }

@@ -1,6 +1,6 @@
 //! Encodes an input as a series of symbols, the standard's Structured Append (ISO/IEC 18004:2015, 8).
 
-ghost use Rattle.std.specs.Prelude.{◌≡◌, ◌≢◌, ◌-◌, ◌<◌, ◌≤◌, ◌↔◌, ◌⊎◌, ℕ, false, List, [], length, None, Some, Err, IfOk, IfErr, MatchOption};
+ghost use Rattle.std.specs.Prelude.{◌≡◌, ◌≢◌, ◌-◌, ◌<◌, ◌≤◌, ◌↔◌, ◌⊎◌, ℕ, false, List, [], length, None, Some, Err, IfOk, IfErr, MatchOption, MatchResult};
 ghost use Rattle.qr_bits.specs.declared.modes.Rule.{Rule};
 ghost use Rattle.qr_bits.specs.declared.modes.Mode.{Mode};
 ghost use Rattle.qr_bits.specs.Segmentation.{HasFit, IsLongestFit};
@@ -57,6 +57,23 @@ pub fn encode_series(
     if input.is_empty() {
         return Err(EncodeFault::Empty);
     }
+    series_of(alloc, input, version, level, rule)
+}
+
+// As `encode_series`, for an input that is not empty.
+fn series_of(
+    alloc: Global,
+    input: &[u8],
+    version: Version,
+    level: Level,
+    rule: Rule,
+) -> Result<Vec<Symbol>, EncodeFault>
+    requires some { 0 < length input.now }
+    requires short { length input.now ≤ INPUT_MAX }
+    ensures { MatchResult result (λ ss. IsSeries version level rule input.now ss.items)
+        (λ e. (e ≡ EncodeFault.Memory)
+        ⊎ ((e ≡ EncodeFault.TooMany) × HasNoSeries version level rule input.now)) }
+{
     if let Some(symbol) = plain_symbol(alloc, input, version, level, rule)? {
         let mut symbols = Vec::new(alloc);
         symbols.push(symbol)?;
@@ -74,10 +91,10 @@ fn plain_symbol(
     rule: Rule,
 ) -> Result<Option<Symbol>, EncodeFault>
     requires { length input.now ≤ INPUT_MAX }
-    ensures symbol { IfOk result (λ found. MatchOption found
+    ensures { MatchResult result (λ found. MatchOption found
         (FitsVersion version level rule input.now → ⊥)
-        (λ s. IsSymbolOf version level rule input.now None s)) }
-    ensures fault { IfErr result (λ e. e ≡ EncodeFault.Memory) }
+        (λ s. IsSymbolOf version level rule input.now None s))
+        (λ e. e ≡ EncodeFault.Memory) }
 {
     if input.len() > SYMBOL_BYTES_MAX {
         return Ok(None);
@@ -98,10 +115,9 @@ fn part_lengths(
     rule: Rule,
 ) -> Result<ArrayVec<usize, 16>, EncodeFault>
     requires { length input.now ≤ INPUT_MAX }
-    ensures parts { IfOk result (λ ns. AreLengths version level rule input.now ns.items) }
-    ensures too_many { result ≡ Err EncodeFault.TooMany
-        → (ps : List (List ℕ)) → AreParts version level rule input.now ps → 16 < length ps }
-    ensures fault { IfErr result (λ e. (e ≡ EncodeFault.TooMany) ⊎ (e ≡ EncodeFault.Memory)) }
+    ensures { MatchResult result (λ ns. AreLengths version level rule input.now ns.items)
+        (λ e. (e ≡ EncodeFault.Memory) ⊎ ((e ≡ EncodeFault.TooMany)
+        × ((ps : List (List ℕ)) → AreParts version level rule input.now ps → 16 < length ps))) }
 {
     let mut lengths = ArrayVec::new();
     let mut rest = input;
@@ -127,10 +143,9 @@ fn prefix_len(
 ) -> Result<usize, EncodeFault>
     requires some { 0 < length rest.now }
     requires short { length rest.now ≤ INPUT_MAX }
-    ensures some { IfOk result (λ n. 0 < n) }
-    ensures longest { IfOk result (λ n.
-        IsLongestFit version rule rest.now (room_of version level) n) }
-    ensures fault { IfErr result (λ e. e ≡ EncodeFault.Memory) }
+    ensures { MatchResult result
+        (λ n. (0 < n) × IsLongestFit version rule rest.now (room_of version level) n)
+        (λ e. e ≡ EncodeFault.Memory) }
 {
     let prefix = &rest[..rest.len().min(SYMBOL_BYTES_MAX)];
     Ok(longest_fit(alloc, prefix, version, level, rule)?)
@@ -149,15 +164,33 @@ fn part_symbols(
     requires parts { AreLengths version level rule input.now lengths.now }
     requires some { 0 < length lengths.now }
     requires few { length lengths.now ≤ 16 }
-    ensures made { IfOk result (λ ss. AreSymbolsFrom version level rule
+    ensures { MatchResult result (λ ss. AreSymbolsFrom version level rule
         (length lengths.now - 1) (parity_of input.now) 0 (parts_of input.now lengths.now)
-        ss.items) }
-    ensures fault { IfErr result (λ e. e ≡ EncodeFault.Memory) }
+        ss.items) (λ e. e ≡ EncodeFault.Memory) }
+{
+    let mut canvas = Canvas::new(alloc, version, level)?;
+    symbols_on(alloc, &mut canvas, input, lengths, rule)
+}
+
+// As `part_symbols`, but on the given canvas, with its version and level.
+fn symbols_on(
+    alloc: Global,
+    canvas: &mut Canvas,
+    input: &[u8],
+    lengths: &[usize],
+    rule: Rule,
+) -> Result<Vec<Symbol>, EncodeFault>
+    requires short { length input.now ≤ INPUT_MAX }
+    requires parts { AreLengths canvas.old.version canvas.old.level rule input.now lengths.now }
+    requires some { 0 < length lengths.now }
+    requires few { length lengths.now ≤ 16 }
+    ensures { MatchResult result (λ ss. AreSymbolsFrom canvas.old.version canvas.old.level rule
+        (length lengths.now - 1) (parity_of input.now) 0 (parts_of input.now lengths.now)
+        ss.items) (λ e. e ≡ EncodeFault.Memory) }
 {
     let last = (lengths.len() - 1) as u8;
     let parity = parity(input);
     let mut symbols = Vec::with_capacity(alloc, lengths.len())?;
-    let mut canvas = Canvas::new(alloc, version, level)?;
     let mut rest = input;
     for len in lengths {
         let (part, after) = rest.split_at(*len);
@@ -166,7 +199,7 @@ fn part_symbols(
             last,
             parity,
         };
-        let symbol = part_symbol(alloc, &mut canvas, part, header, rule)?;
+        let symbol = part_symbol(alloc, canvas, part, header, rule)?;
         symbols.push(symbol)?;
         rest = after;
     }
@@ -187,9 +220,9 @@ fn part_symbol(
     requires last { header.last < 16 }
     ensures version { canvas.new.version ≡ canvas.old.version }
     ensures level { canvas.new.level ≡ canvas.old.level }
-    ensures made { IfOk result (λ s. IsSymbolOf canvas.old.version canvas.old.level rule part.now
-        (Some header) s) }
-    ensures fault { IfErr result (λ e. e ≡ EncodeFault.Memory) }
+    ensures made { MatchResult result
+        (λ s. IsSymbolOf canvas.old.version canvas.old.level rule part.now (Some header) s)
+        (λ e. e ≡ EncodeFault.Memory) }
 {
     let version = canvas.version;
     // Only for the prover.

@@ -2,7 +2,7 @@ use Rattle.qr_layout.{proofs.Facts.Inside, specs.{Order.{IsOrder, in_region_of},
 use Rattle.{qr_layout.specs.declared.strips.Strip.Strip, qr_symbol.proofs.lemmas.collecting.CollectingLemmas.strip-read}
 use Rattle.qr_symbol.proofs.lemmas.reading.SymbolReadLemmas.{all-read, read-across}
 use Rattle.std.proofs.Common.{List, ◌++◌, ◌∙◌, ap, sym, subst, append_assoc, append-nil, arith}
-use Rattle.std.{proofs.lemmas.List.Elements.All-tail, specs.List.All}
+use Rattle.std.{proofs.lemmas.List.Elements.{All-head, All-tail}, specs.List.All, proofs.lemmas.Result.IfOk-from_err}
 use Rattle.qr_symbol.proofs.collecting.collect_codewords.Goals as goal
 
 pub loop-strip-init : goal.loop-strip-init
@@ -16,12 +16,15 @@ loop-strip-init c =
       bits = c.in_ok-bits.ensures;
     }
 
+pub collect_strip-requires : goal.collect_strip-requires
+collect_strip-requires c =
+    let inside = All-head (Inside c.args.v) _ _ (rw c.in-Some.ensures.steps at c.loop-strip.invariant.inside) in
+    record { side = c.requires.side; region = c.requires.region; left_in = inside.0; right_in = inside.1 }
+
 pub loop-strip-preserved : goal.loop-strip-preserved
 loop-strip-preserved c =
-    let v = c.args.v in
-    let s = side_of v in
-    let i = c.loop-strip.invariant in
-    let x = c.in-Some.strip in
+    let v = c.args.v in let s = side_of v in
+    let i = c.loop-strip.invariant in let x = c.in-Some.strip in
     let xs = c.loop-strip.yielded in record {
       can_next = tt;
       is_finite = tt;
@@ -30,18 +33,17 @@ loop-strip-preserved c =
       bits = strip-read v s _ xs x _ _ i.bits c.in_ok-collect_strip.ensures;
     }
 
-pub returns-clause-read : goal.returns-clause-read
-returns-clause-read c =
-    let v = c.args.v in
-    let xs = c.loop-strip.yielded in
-    let i = c.loop-strip.invariant in
-    let b = c.into_codewords.ensures.bits in
-    read-across v _ _ _ b.0 b.1 (omega arith) (omega arith) c.requires.side (subst (λ (zs : List Strip). IsOrder v (in_region_of v (places_of (side_of v) zs))) (ap (λ (zs : List Strip). xs ++ zs) c.in-None.ensures.steps.0 ∙ append-nil xs) i.whole) c.into_codewords.ensures.bytes b.2 (b.3 ∙ i.bits)
+pub returns : goal.returns
+returns c =
+    let v = c.args.v in let xs = c.loop-strip.yielded in
+    let i = c.loop-strip.invariant in let b = c.into_codewords.ensures.bits in
+    let order = subst (λ (zs : List Strip). IsOrder v (in_region_of v (places_of (side_of v) zs)))
+    (ap (λ (zs : List Strip). xs ++ zs) c.in-None.ensures.steps.0 ∙ append-nil xs) i.whole in
+    let bits = b.3 ∙ i.bits in record {
+      read = read-across v _ _ _ b.0 b.1 (omega arith) (omega arith) c.requires.side order c.into_codewords.ensures.bytes b.2 bits;
+      many = all-read v _ _ _ b.0 b.1 (omega arith) (omega arith) order b.2 bits;
+    }
 
-pub returns-clause-many : goal.returns-clause-many
-returns-clause-many c =
-    let v = c.args.v in
-    let xs = c.loop-strip.yielded in
-    let i = c.loop-strip.invariant in
-    let b = c.into_codewords.ensures.bits in
-    all-read v _ _ _ b.0 b.1 (omega arith) (omega arith) (subst (λ (zs : List Strip). IsOrder v (in_region_of v (places_of (side_of v) zs))) (ap (λ (zs : List Strip). xs ++ zs) c.in-None.ensures.steps.0 ∙ append-nil xs) i.whole) b.2 (b.3 ∙ i.bits)
+pub returns-in_err-collect_strip : goal.returns-in_err-collect_strip
+returns-in_err-collect_strip c =
+    let e = c.from_residual-in_err-collect_strip.ensures.0 in record { read = IfOk-from_err _ _ e; many = IfOk-from_err _ _ e }

@@ -1,26 +1,19 @@
-use Rattle.std.proofs.Common.{◌≡◌, ◌+◌, ◌-◌, ◌++◌, ap, ◌∙◌, arith}
+use Rattle.{std.proofs.Common.{◌≡◌, ◌+◌, ◌-◌, ◌++◌, ap, ◌∙◌, arith}, qr_symbol.specs.Steps.Collecting.bits_in_rows}
 use Rattle.qr_layout.specs.Version.{side_of}
-use Rattle.qr_symbol.specs.Steps.Collecting.{bits_in_rows}
 use Rattle.qr_symbol.proofs.lemmas.collecting.CollectingLemmas.{none-read, row-read, rows-read}
 use Rattle.qr_symbol.proofs.collecting.collect_rows.Goals as goal
 
 pub loop-rank-init : goal.loop-rank-init
-loop-rank-init c = record {
-  from = omega arith;
-  bits = none-read _ c.args.strip _ _ c.args.passed _ _ (omega arith);
-}
+loop-rank-init c = record { from = omega arith; bits = none-read _ c.args.strip _ _ c.args.passed _ _ (omega arith) }
 
 pub loop-rank-preserved : goal.loop-rank-preserved
 loop-rank-preserved c =
-    let s = side_of c.args.v in
-    let x = c.args.strip in
-    let i = c.loop-rank.invariant in
-    let k = c.loop-rank.rank in
-    let p = c.args.passed in
+    let s = side_of c.args.v in let i = c.loop-rank.invariant in
+    let k = c.loop-rank.rank in let p = c.args.passed in
     let side : c.side-last.result - 1 + 1 ≡ s = omega (arith, c.side-last.ensures.value) in record {
       from = omega (arith, i.from);
-      bits = rows-read s x c.args.region.now c.args.columns.now p (k - p) 1 k (k + 1 - p) c.args.bits.now c.loop-rank.bits c.collect_module-in-loop-rank.new.bits (omega (arith, i.from)) (omega (arith, i.from)) i.bits
-          (row-read s x c.args.region.now c.args.columns.now k c.row_at-row.result c.loop-rank.bits c.collect_module.new.bits c.collect_module-in-loop-rank.new.bits (rw side at c.row_at-row.ensures.row) c.in_ok-collect_module.ensures c.in_ok-collect_module-2.ensures);
+      bits = rows-read s c.args.strip c.args.region.now c.args.columns.now p (k - p) 1 k (k + 1 - p) c.args.bits.now c.loop-rank.bits c.collect_module-in-loop-rank.new.bits (omega (arith, i.from)) (omega (arith, i.from)) i.bits
+          (row-read s c.args.strip c.args.region.now c.args.columns.now k c.row_at-row.result c.loop-rank.bits c.collect_module.new.bits c.collect_module-in-loop-rank.new.bits (rw side at c.row_at-row.ensures.row) c.in_ok-collect_module.ensures c.in_ok-collect_module-2.ensures);
     }
 
 pub returns : goal.returns

@@ -1,21 +1,19 @@
-use Rattle.std.proofs.Common.{◌≡◌, ℕ, List, ◌+◌, ◌-◌, take, drop, sym, subst, arith}
-use Rattle.qr_field.specs.Polynomial.{IsCorrection}
-use Rattle.qr_symbol.proofs.lemmas.interleaving.CheckLemmas.{slice-in, push-checks}
+use Rattle.std.proofs.{Common.{◌∙◌, ap, sym, subst, arith}, lemmas.Result.IfOk-from_err}
+use Rattle.qr_symbol.specs.{Interleaving.{block_count, codeword_count}, Steps.Interleaving.IsChecks}
+use Rattle.qr_symbol.proofs.lemmas.interleaving.CheckLemmas.{push-checks}
 use Rattle.qr_symbol.proofs.interleaving.corrections.Goals as goal
 
-pub slice_bounds-correction-end : goal.slice_bounds-correction-end
-slice_bounds-correction-end c =
-    let h = slice-in _ _ _ _ _ _ c.of_data-sizes.ensures c.requires.whole (omega arith) c.start-start.ensures c.len.ensures.value in
-    omega arith
-
 pub loop-block-preserved : goal.loop-block-preserved
-loop-block-preserved c =
-    let rest : c.start-start.result + c.len.result - c.start-start.result ≡ c.len.result = omega arith in
-    let definition =
-    subst (λ (z : ℕ). IsCorrection (take (c.start-start.result + c.len.result - c.start-start.result) (drop c.start-start.result c.args.message.now)) z c.correction-check.result.items)
-    c.new-divisor.ensures c.correction-check.ensures.definition in record {
-      so_far = push-checks _ _ _ _ _ _ _ _ _ _ c.of_data-sizes.ensures (omega arith) c.start-start.ensures c.len.ensures.value c.from-ec_len.ensures
-          (subst (λ (zs : List ℕ). IsCorrection (take c.len.result (drop c.start-start.result c.args.message.now)) c.from-ec_len.result zs) (sym c.as_slice.ensures.value) (subst (λ (z : ℕ). IsCorrection (take z (drop c.start-start.result c.args.message.now)) c.from-ec_len.result c.correction-check.result.items) rest definition)) c.loop-block.invariant.so_far c.in_ok-extend_from_slice.ensures.items;
-      sizes = c.loop-block.invariant.sizes;
-      ec_len = c.loop-block.invariant.ec_len;
-    }
+loop-block-preserved c = push-checks _ _ _ _ _ _ _ c.of_data-sizes.ensures (omega arith)
+    (rw (c.new-divisor.ensures, c.part.ensures.value, c.from-ec_len.ensures, ← c.as_slice.ensures.value) at c.correction-check.ensures.definition)
+    c.loop-block.invariant c.in_ok-extend_from_slice.ensures.items
+
+pub returns-in_err-extend_from_slice : goal.returns-in_err-extend_from_slice
+returns-in_err-extend_from_slice c = IfOk-from_err _ _ c.from_residual-in_err-extend_from_slice.ensures.0
+
+pub returns : goal.returns
+returns c = subst (λ k. IsChecks c.args.blocks c.args.message.now k c.loop-block.corrections.items)
+    (omega (arith, ap block_count c.of_data-sizes.ensures)) c.loop-block.invariant
+
+pub part-requires-clause-whole : goal.part-requires-clause-whole
+part-requires-clause-whole c = c.requires.whole ∙ ap codeword_count (sym c.of_data-sizes.ensures)

@@ -1,6 +1,5 @@
-use Rattle.std.proofs.Common.{ℕ, ◌+◌, Vec, Global, sym, ap, subst, arith}
-use Rattle.qr_symbol.specs.Interleaving.{IsPosition}
-use Rattle.qr_symbol.proofs.lemmas.interleaving.{PositionLemmas.position, RankLemmas.rank-in}
+use Rattle.{std.proofs.Common.{ℕ, ◌+◌, Vec, Global, sym, ap, subst, arith}, qr_symbol.specs.Interleaving.IsPosition}
+use Rattle.qr_symbol.proofs.lemmas.interleaving.{PositionLemmas.{position, position-in}, RankLemmas.rank-in}
 use Rattle.qr_symbol.proofs.lemmas.interleaving.GatherLemmas.{GatheredBefore, gather-push, gather-pass, gather-row, gather-end}
 use Rattle.qr_symbol.proofs.interleaving.deinterleave_into.Goals as goal
 use Rattle.qr_symbol.proofs.interleaving.deinterleave_into.Goals.{then-place-len, else-place-len}
@@ -11,10 +10,8 @@ bounds-codewords-next c =
 
 pub loop-block-preserved : goal.loop-block-preserved
 loop-block-preserved c =
-    let sizes = c.args.sizes in
-    let interleaved = c.args.codewords.now in
-    let p = c.loop-place.place in
-    let i = c.loop-block.block in
+    let sizes = c.args.sizes in let interleaved = c.args.codewords.now in
+    let p = c.loop-place.place in let i = c.loop-block.block in
     let xs = c.loop-block.message.items in record {
       blocks = c.loop-block.invariant.blocks;
       so_far = elim c.if-place-len.branch [
@@ -37,3 +34,8 @@ loop-place-preserved c = record {
 
 pub returns : goal.returns
 returns c = gather-end _ _ _ _ _ c.requires.interleaved (omega arith) c.loop-place.invariant.so_far
+
+pub index_mut-requires : goal.index_mut-requires
+index_mut-requires c =
+    let k = position-in c.args.sizes c.loop-place.place c.loop-block.block (omega arith, omega arith) in
+    omega (arith, k, c.start.ensures, c.loop-block.invariant.so_far.long)

@@ -1,11 +1,9 @@
-use Rattle.std.proofs.{Common.arith, lemmas.Result.IfOk-weaker}
-use Rattle.qr_layout.proofs.Facts.{blocks-sound}
+use Rattle.{std.proofs.{Common.arith, lemmas.Result.IfOk-weaker}, qr_layout.proofs.Facts.blocks-sound}
 use Rattle.qr_symbol.proofs.lemmas.interleaving.MessageLemmas.{data-sizes-whole, final-whole}
 use Rattle.qr_symbol.proofs.interleaving.interleave.Goals as goal
 
 pub interleave_blocks-requires : goal.interleave_blocks-requires
-interleave_blocks-requires c =
-    let w = blocks-sound c.args.level c.args.version (omega arith) (omega arith) in
+interleave_blocks-requires c = let w = blocks-sound c.args.level c.args.version (omega arith) (omega arith) in
     rw c.blocks-2.ensures (record { whole = cc (data-sizes-whole c.args.version c.args.level (omega arith) (omega arith), c.requires.whole); least = w.correction_least; most = w.correction_most })
 
 pub returns : goal.returns

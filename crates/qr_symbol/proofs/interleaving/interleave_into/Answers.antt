@@ -22,10 +22,8 @@ loop-block-init c = record {
 
 pub loop-block-preserved : goal.loop-block-preserved
 loop-block-preserved c =
-    let sizes = c.args.sizes in
-    let bytes = c.args.codewords.now in
-    let p = c.loop-place.place in
-    let i = c.loop-block.block in
+    let sizes = c.args.sizes in let bytes = c.args.codewords.now in
+    let p = c.loop-place.place in let i = c.loop-block.block in
     let place = c.loop-block.invariant.at in record {
       blocks = c.loop-block.invariant.blocks;
       at = omega (arith, start-next sizes i, place, c.len-len.ensures.value);

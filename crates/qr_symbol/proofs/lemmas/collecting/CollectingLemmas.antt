@@ -1,12 +1,10 @@
 -- The bits of a strip, row by row, are those of the strip's places in the encoding region, in their order.
 use Rattle.qr_layout.specs.{Order.in_region_of, Region.is_in_region, Strips.{both_of, rows_from, places_of}}
-use Rattle.qr_layout.specs.declared.{region.Module.Module, strips.Strip.Strip}
-use Rattle.qr_matrix.specs.{BitRow.has, Grid.{Grid, colour}}
+use Rattle.{qr_layout.specs.declared.{region.Module.Module, strips.Strip.Strip}, std.proofs.lemmas.List.map-append}
+use Rattle.{qr_matrix.specs.{BitRow.has, Grid.{Grid, colour}}, qr_symbol.specs.declared.placement.Columns.Columns}
 use Rattle.qr_symbol.proofs.lemmas.placement.{KeptPlaceLemmas.{kept-append, places-push}, PlacementLemmas.at}
 use Rattle.qr_symbol.specs.Steps.{Collecting.{bit_if, bits_in_rows, colour_across}, Placement.row_of}
-use Rattle.qr_symbol.specs.declared.placement.Columns.{Columns}
 use Rattle.std.proofs.Common.{◌≡◌, ℕ, zero, suc, ◌+◌, ◌-◌, ◌<◌, ◌≤◌, Bool, true, false, cond, List, [], ◌∷◌, ◌++◌, map, refl, append_assoc, append-nil, arith}
-use Rattle.std.proofs.lemmas.List.{map-append}
 
 -- the bits of n + m rows are those of the first n rows, followed by those of m more
 rows-append : (s : ℕ) (x : Strip) (r y : Columns) (k n m : ℕ) → bits_in_rows s x r y k (n + m) ≡ bits_in_rows s x r y k n ++ bits_in_rows s x r y (k + n) m

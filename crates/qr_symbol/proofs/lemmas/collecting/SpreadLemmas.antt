@@ -3,10 +3,9 @@ use borrow.Author.Tests.{ltb-true}
 use Rattle.{qr_bits.specs.Bits.field, qr_layout.specs.declared.strips.Strip.Strip}
 use Rattle.qr_matrix.{proofs.Facts.{below-at, same-same, &&-left, &&-right}, specs.BitRow.{has, has_bit}}
 use Rattle.{qr_matrix.specs.{Grid.is_same, Sums.all_below}, qr_symbol.proofs.lemmas.placement.ColumnLemmas.rank_of}
-use Rattle.qr_symbol.specs.Steps.{Collecting.bits_in_rows, Placement.row_of}
+use Rattle.{qr_symbol.specs.Steps.{Collecting.bits_in_rows, Placement.row_of}, std.proofs.lemmas.Bool.Decides.nat_tests}
 use Rattle.qr_symbol.specs.declared.{collecting.TheConstants.SPREADS, placement.Columns.Columns}
 use Rattle.std.proofs.Common.{◌≡◌, ℕ, ◌+◌, ◌-◌, ◌*◌, ◌/◌, ◌%◌, ◌^◌, ◌<◌, ◌≤◌, Bool, true, cond, ltb, ◌&&◌, ◌==◌, eqb, get_or, List, [], ◌∷◌, ◌++◌, refl, sym, ◌∙◌, ap, arith}
-use Rattle.std.proofs.lemmas.Bool.Decides.{nat_tests}
 
 -- the table's entry for a direction and four modules
 abbrev pub spread : ℕ → ℕ → ℕ
@@ -84,8 +83,7 @@ pub four-read : (s u : ℕ) (x : Strip) (r y : Columns) (k top a b : ℕ) → u 
     → has_bit b j ≡ has y.left (top + j)) → field 8 (joined u a b) ≡ bits_in_rows s x r y k 4
 unfolding eight
 four-read s u x r y k top a b ul al bl e room is-top t w p q =
-    let up = x.upward in
-    let small : (i : ℕ) → i < 4 → rank_of up i < 4 = λ i l. rank-in up i l in
+    let up = x.upward in let small : (i : ℕ) → i < 4 → rank_of up i < 4 = λ i l. rank-in up i l in
     let row : (i : ℕ) → i < 4 → top + rank_of up i ≡ row_of s x (k + i) = λ i l. ap (λ z. z + rank_of up i) is-top ∙ row-of-rank up s k i room l in
     let right : (i : ℕ) → i < 4 → has_bit a (rank_of up i) ≡ has y.right (row_of s x (k + i)) = λ i l. p (rank_of up i) (small i l) ∙ ap (has y.right) (row i l) in
     let left : (i : ℕ) → i < 4 → has_bit b (rank_of up i) ≡ has y.left (row_of s x (k + i)) = λ i l. q (rank_of up i) (small i l) ∙ ap (has y.left) (row i l) in

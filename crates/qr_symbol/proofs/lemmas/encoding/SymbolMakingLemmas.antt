@@ -7,18 +7,19 @@ use Rattle.qr_symbol.{proofs.lemmas.reading.RoundTripLemmas.symbol-read, specs.C
 use Rattle.qr_symbol.specs.{Encoding.{IsSymbolAt, IsSymbol}, Interleaving.IsInterleaved, Reading.IsReadBack}
 use Rattle.qr_symbol.specs.{Series.IsSymbolOf, Symbol.grid_of, VersionChoice.{FitsVersion, IsVersion}}
 use Rattle.qr_symbol.specs.declared.{fault.EncodeFault.EncodeFault, symbol.Symbol.Symbol}
-use Rattle.std.proofs.Common.{◌≡◌, ℕ, ◌+◌, ◌<◌, ◌≤◌, ◌⊎◌, List, Option, None, Some, Result, Ok, Err, subst, sym, arith}
-use Rattle.std.specs.Prelude.{IfOk, IfErr}
+use Rattle.std.proofs.Common.{◌≡◌, ℕ, ◌+◌, ◌<◌, ◌≤◌, ◌⊎◌, List, Option, None, Some, Result, Ok, Err, inl, subst, sym, arith}
+use Rattle.std.specs.Prelude.{IfOk, IfErr, MatchResult}
 use Rattle.qr_symbol.specs.declared.fault.EncodeFault.TheVariants as fault
 
 -- a symbol that is built from the codewords of bytes is the symbol of these bytes
-pub symbol-built : (v : ℕ) (l : Level) (b : Rule) (x : List ℕ) (h : Option Header) (segs : List Segment) (message
-    passed codewords given : List ℕ) (r : Result Symbol EncodeFault) → IsLeastSegmentation v b x segs → IsData v l
-    x segs h message → passed ≡ message → IsInterleaved v l passed codewords → given ≡ codewords → IfOk r
-    (λ s. s.version ≡ v) → IfOk r (λ s. s.level ≡ l) → IfOk r (λ s. IsMask v l given s.mask) → IfOk r (λ
-    s. s.matrix ≡ grid_of v l s.mask given) → IfOk r (λ s. IsSymbolOf v l b x h s)
-symbol-built v l b x h segs message passed codewords given (Ok s) chosen written c interleaved e version level best drawn = search arith
-symbol-built v l b x h segs message passed codewords given (Err f) chosen written c interleaved e version level best drawn = tt
+pub symbol-built : (v : ℕ) (l : Level) (x : List ℕ) (h : Option Header) (segs : List Segment) (message passed codewords given : List ℕ)
+    (r : Result Symbol EncodeFault) → IsData v l x segs h message → passed ≡ message → IsInterleaved v l passed codewords
+    → given ≡ codewords → IfOk r (λ s. s.version ≡ v) → IfOk r (λ s. s.level ≡ l) → IfOk r (λ s. IsMask v l given s.mask)
+    → IfOk r (λ s. s.matrix ≡ grid_of v l s.mask given) → IfErr r (λ e. e ≡ fault.Memory)
+    → MatchResult r (λ s. (b : Rule) → IsLeastSegmentation v b x segs → IsSymbolOf v l b x h s)
+    (λ e. (e ≡ fault.Memory) ⊎ ((e ≡ fault.TooLong) × (capacity_of v l < header_bits h + bits v segs)))
+symbol-built v l x h segs message passed codewords given (Ok s) written c interleaved e version level best drawn told = λ b chosen. search arith
+symbol-built v l x h segs message passed codewords given (Err f) written c interleaved e version level best drawn told = inl told
 
 -- the symbol of bytes in the least version that they fit is the symbol of the input
 pub symbol-found : (v : ℕ) (l : Level) (smallest : ℕ) (b : Rule) (x : List ℕ) (r : Result Symbol EncodeFault)
@@ -42,8 +43,6 @@ pub behind-header : (v : ℕ) (l : Level) (b : Rule) (x : List ℕ) (segs : List
     → header_bits (Some h) + bits v segs ≤ capacity_of v l
 behind-header v l b x segs h p q chosen fits = search (arith, capacity_least, least_fits)
 
--- if there is room, a symbol is refused only for lack of memory
-pub memory-alone : (room used : ℕ) (r : Result Symbol EncodeFault) → used ≤ room → (r ≡ Err fault.TooLong → room < used)
-    → IfErr r (λ e. (e ≡ fault.TooLong) ⊎ (e ≡ fault.Memory)) → IfErr r (λ e. e ≡ fault.Memory)
-memory-alone room used (Ok s) few more why = tt
-memory-alone room used (Err e) few more why = search arith
+-- if bytes fit a version, there is room for the segments of the fewest bits
+pub version-fits : (v : ℕ) (l : Level) (b : Rule) (x : List ℕ) (segs : List Segment) → IsLeastSegmentation v b x segs → FitsVersion v l b x → bits v segs ≤ capacity_of v l
+version-fits v l b x segs chosen fits = search (arith, least_fits)

@@ -4,7 +4,7 @@ use Rattle.{qr_layout.specs.declared.level.Level.Level, qr_symbol.specs.Encoding
 use Rattle.qr_symbol.specs.{Series.{IsSeries, HasNoSeries}, VersionChoice.{FitsVersion, HasNoVersion}}
 use Rattle.qr_symbol.specs.declared.{fault.{EncodeFault.EncodeFault, ReadFault.ReadFault}, symbol.Symbol.Symbol}
 use Rattle.std.proofs.Common.{◌≡◌, ◌≢◌, ◌≤◌, ◌↔◌, ◌⊎◌, inl, inr, ℕ, List, [], Result, Ok, Err, Vec, Global, sym, ap, subst, arith}
-use Rattle.std.{proofs.lemmas.Result.IfErr-at_err, specs.Prelude.{IfOk, IfErr}}
+use Rattle.std.specs.Prelude.{IfOk, IfErr, MatchResult}
 use Rattle.qr_symbol.specs.declared.fault.EncodeFault.TheVariants as fault
 use Rattle.qr_symbol.specs.declared.fault.ReadFault.TheVariants as unread
 
@@ -40,33 +40,35 @@ too-long-exactly x l smallest b (Err e) most long made empty told = exactly _ _ 
 ])
 
 -- `TooMany` is returned exactly if the input has no series, unless memory was refused
-pub too-many-exactly : (x : List ℕ) (l : Level) (b : Rule) (v : ℕ) (r : Result (Vec Symbol Global) EncodeFault) →
-    (r ≡ Err fault.TooMany → HasNoSeries v l b x) → IfOk r (λ ss. IsSeries v l b x ss.items) → (r ≡ Err
-    fault.Empty → x ≡ []) → IfErr r (λ e. (e ≡ fault.Empty) ⊎ (e ≡ fault.TooMany) ⊎ (e ≡ fault.Memory))
+pub too-many-exactly : (x : List ℕ) (l : Level) (b : Rule) (v : ℕ) (r : Result (Vec Symbol Global) EncodeFault) → MatchResult r
+    (λ ss. IsSeries v l b x ss.items) (λ e. (e ≡ fault.Memory) ⊎ ((e ≡ fault.TooMany) × HasNoSeries v l b x))
     → Refused r fault.TooMany fault.Memory (HasNoSeries v l b x)
-too-many-exactly x l b v (Ok ss) many made empty told = exactly _ _ _ _ (λ e. cc) many (no-series ss.items made) tt
-  where
-    no-series : (ss : List Symbol) → IsSeries v l b x ss → HasNoSeries v l b x → ⊥
-    no-series ss (inl a) none = none.too_long a.fits
-    no-series ss (inr a) none = let few = a.many in absurd (omega (arith, none.too_many a.parts a.split))
-too-many-exactly x l b v (Err e) many made empty told = exactly _ _ _ _ (λ e. cc) many tt (elim told [
-  | inl h ↦ inl (λ none. absurd (none.too_long (subst (FitsVersion v l b) (sym (empty (ap (λ f. Err f) h))) (empty_fits v b (capacity_of v l)))))
-  | inr w ↦ elim w [ inl h ↦ inl (λ _. h) | inr h ↦ inr h ]
-])
+too-many-exactly x l b v (Ok ss) (inl a) = exactly _ _ _ _ (λ e. cc) (λ e. cc) (λ none. none.too_long a.fits) tt
+too-many-exactly x l b v (Ok ss) (inr a) = let few = a.many in
+    exactly _ _ _ _ (λ e. cc) (λ e. cc) (λ none. absurd (omega (arith, none.too_many a.parts a.split))) tt
+too-many-exactly x l b v (Err e) (inl m) = exactly _ _ _ _ (λ e. cc) (λ h. cc) tt (inr m)
+too-many-exactly x l b v (Err e) (inr w) = exactly _ _ _ _ (λ e. cc) (λ _. w.1) tt (inl (λ _. w.0))
+
+-- an empty input has a series
+pub empty-has-series : (x : List ℕ) (l : Level) (b : Rule) (v : ℕ) → x ≡ [] → HasNoSeries v l b x → ⊥
+empty-has-series x l b v e none = none.too_long (subst (FitsVersion v l b) (sym e) (empty_fits v b (capacity_of v l)))
 
 -- `Check` is returned exactly if the codewords are the final sequence of no data codewords, unless memory was refused
-pub check-exactly : (Holds : List ℕ → Type 0) (r : Result (Vec ℕ Global) ReadFault) → (r ≡ Err unread.Check
-    → (d : List ℕ) → Holds d → ⊥) → IfOk r (λ d. Holds d.items) → IfErr r (λ e. (e ≡ unread.Memory)
-    ⊎ (e ≡ unread.Check)) → Refused r unread.Check unread.Memory ((d : List ℕ) → Holds d → ⊥)
-check-exactly Holds (Ok d) none made told = exactly _ _ _ _ (λ e. cc) none (λ n. n d.items made) tt
-check-exactly Holds (Err e) none made told = exactly _ _ _ _ (λ e. cc) none tt (elim told [ inl h ↦ inr h | inr h ↦ inl (λ _. h) ])
+pub check-exactly : (Holds : List ℕ → Type 0) (r : Result (Vec ℕ Global) ReadFault) → MatchResult r (λ d. Holds d.items)
+    (λ e. (e ≡ unread.Memory) ⊎ ((e ≡ unread.Check) × ((d : List ℕ) → Holds d → ⊥)))
+    → Refused r unread.Check unread.Memory ((d : List ℕ) → Holds d → ⊥)
+check-exactly Holds (Ok d) made = exactly _ _ _ _ (λ e. cc) (λ e. cc) (λ n. n d.items made) tt
+check-exactly Holds (Err e) (inl m) = exactly _ _ _ _ (λ e. cc) (λ h. cc) tt (inr m)
+check-exactly Holds (Err e) (inr w) = exactly _ _ _ _ (λ e. cc) (λ _. w.1) tt (inl (λ _. w.0))
 
--- a result for which two facts hold has both of them at once
-pub ok-both : {X E : Type 0} (P Q : X → Type 0) (r : Result X E) → IfOk r P → IfOk r Q → IfOk r (λ x. P x × Q x)
-ok-both P Q (Ok x) p q = (p, q)
-ok-both P Q (Err e) p q = tt
+-- a fault that is lack of memory or one other is not a third
+pub neither : {Q : Type 0} {e f : EncodeFault} → (e ≡ fault.Memory → ⊥) → (e ≡ f → ⊥) → (e ≡ fault.Memory) ⊎ ((e ≡ f) × Q) → ⊥
+neither memory other (inl h) = memory h
+neither memory other (inr w) = other w.0
 
--- a result whose only fault is lack of memory has no other fault
-pub memory-alone : {X : Type 0} (r : Result X EncodeFault) (e : EncodeFault) → (e ≡ fault.Memory → ⊥)
-    → IfErr r (λ f. f ≡ fault.Memory) → r ≡ Err e → ⊥
-memory-alone r e other told h = other (IfErr-at_err (λ f. f ≡ fault.Memory) h told)
+-- an empty input is refused neither as too long nor as too many
+pub empty-long : {X : Type 0} → ◌≡◌ {A = Result X EncodeFault} (Err fault.Empty) (Err fault.TooLong) → ⊥
+empty-long e = cc
+
+pub empty-many : {X : Type 0} → ◌≡◌ {A = Result X EncodeFault} (Err fault.Empty) (Err fault.TooMany) → ⊥
+empty-many e = cc

@@ -1,12 +1,11 @@
 -- The error correction codewords of all blocks, block after block, and the whole final sequence.
-use Rattle.{qr_field.specs.Polynomial.IsCorrection, qr_layout.specs.declared.blocks.Blocks.Blocks}
+use Rattle.{qr_field.specs.Polynomial.IsCorrection, qr_layout.specs.declared.blocks.Blocks.Blocks, std.specs.List.All}
 use Rattle.qr_symbol.proofs.lemmas.interleaving.PositionLemmas.{start-next, start-most}
-use Rattle.qr_symbol.specs.Interleaving.{block_count, block_len, start_of, codeword_at, data_sizes, correction_sizes, block_of, IsFinalMessage}
+use Rattle.qr_symbol.specs.Interleaving.{block_count, block_len, start_of, codeword_at, data_sizes, correction_sizes, block_of, part_of, IsFinalMessage}
 use Rattle.qr_symbol.specs.Steps.Interleaving.{AppendsInterleaved, IsChecks}
 use Rattle.qr_symbol.specs.declared.interleaving.BlockSizes.{BlockSizes}
-use Rattle.std.proofs.Common.{◌≡◌, ℕ, suc, ◌+◌, ◌<◌, ◌≤◌, List, [], ◌∷◌, ◌++◌, map, take, drop, length-append, get_or, refl, ◌∙◌, ap, inl, inr, arith}
+use Rattle.std.proofs.Common.{◌≡◌, ℕ, suc, ◌+◌, ◌<◌, ◌≤◌, List, [], ◌∷◌, ◌++◌, map, length-append, get_or, refl, ◌∙◌, ap, inl, inr, arith}
 use Rattle.std.proofs.lemmas.{Bool.{cases_lt, Decides.nat_tests}, List.{get_or_append_left, get_or-append_right}}
-use Rattle.std.specs.List.{All}
 
 -- each block has the same number of error correction codewords
 pub check-len : (b : Blocks) (k : ℕ) → k < block_count (data_sizes b) → block_len (correction_sizes b) k ≡ b.ec_len
@@ -15,10 +14,8 @@ check-len b k l = grind (arith, nat_tests)
 -- with the error correction codewords of one more block, the list is that of one block more
 pub checks-push : (b : Blocks) (d xs ys es : List ℕ) (k : ℕ) → k < block_count (data_sizes b) → IsChecks b d k xs → IsCorrection (block_of b d k) b.ec_len es → ys ≡ xs ++ es → IsChecks b d (k + 1) ys
 checks-push b d xs ys es k l h c e =
-    let next = start-next (correction_sizes b) k in
-    let one = check-len b k l in
-    let all = h.corrections ++ es ∷ [] in
-    let here : get_or all k [] ≡ es = search (arith, get_or-append_right) in
+    let next = start-next (correction_sizes b) k in let one = check-len b k l in
+    let all = h.corrections ++ es ∷ [] in let here : get_or all k [] ≡ es = search (arith, get_or-append_right) in
     let there = λ (i : ℕ) (s : i < k). get_or_append_left h.corrections (es ∷ []) [] i (omega arith) in record {
       corrections = all;
       count = search (arith, length-append);
@@ -54,5 +51,5 @@ pub slice-in : (c e : BlockSizes) (n s l k : ℕ) → c ≡ e → n ≡ start_of
 slice-in c e n s l k a o m f g = let q = start-most c (k + 1) (block_count c) (omega arith) in search arith
 
 -- one more block, stated with the variables of the loop
-pub push-checks : (b : Blocks) (d xs ys es : List ℕ) (c : BlockSizes) (k s l n : ℕ) → c ≡ data_sizes b → k < block_count c → s ≡ start_of c k → l ≡ block_len c k → n ≡ b.ec_len → IsCorrection (take l (drop s d)) n es → IsChecks b d k xs → ys ≡ xs ++ es → IsChecks b d (k + 1) ys
-push-checks b d xs ys es c k s l n a m f g o e h q = search (arith, checks-push)
+pub push-checks : (b : Blocks) (d xs ys es : List ℕ) (c : BlockSizes) (k : ℕ) → c ≡ data_sizes b → k < block_count c → IsCorrection (part_of c d k) b.ec_len es → IsChecks b d k xs → ys ≡ xs ++ es → IsChecks b d (k + 1) ys
+push-checks b d xs ys es c k a m e h q = search (arith, checks-push)

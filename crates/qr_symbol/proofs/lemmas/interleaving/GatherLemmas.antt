@@ -1,9 +1,8 @@
 -- Putting codewords back into their blocks.
 use Rattle.std.proofs.Common.{◌≡◌, ℕ, zero, suc, ◌+◌, ◌<◌, ◌≤◌, List, [], ◌∷◌, ◌++◌, map, take, length, get_or, set, replicate, refl, sym, ◌∙◌, ap, subst, inl, inr, arith}
-use Rattle.std.proofs.lemmas.Bool.{cases_lt}
+use Rattle.{std.proofs.lemmas.Bool.cases_lt, qr_symbol.specs.declared.interleaving.BlockSizes.BlockSizes}
 use Rattle.std.proofs.lemmas.List.{take_more, get_or-set_same, get_or-set_other, length-set, length-map, length-replicate, length-take, map-append}
 use Rattle.qr_layout.proofs.Facts.{Mem}
-use Rattle.qr_symbol.specs.declared.interleaving.BlockSizes.{BlockSizes}
 use Rattle.qr_symbol.specs.Interleaving.{IsPositionOrder, Position, ComesBefore, block_count, start_of, codeword_count, IsPosition, codeword_at, IsGathered}
 use Rattle.qr_symbol.proofs.lemmas.interleaving.PositionLemmas.{position, PositionsBefore, positions-start, positions-push, positions-pass, positions-row, positions-end, position-in}
 use Rattle.qr_symbol.proofs.lemmas.interleaving.RankLemmas.{position-one, rank_of, rank-start, rank-push, rank-pass, rank-row, rank-end, rank-in, positions-one}
@@ -31,10 +30,8 @@ irrefl t p b (inr w) e f = absurd (let l = w.1 in omega arith)
 -- one codeword more is put back
 pub gather-push : (c : BlockSizes) (interleaved xs ys : List ℕ) (p b next i : ℕ) → codeword_count c ≤ length interleaved → GatheredBefore c interleaved p b xs next → IsPosition c (position p b) → i ≡ start_of c b + p → ys ≡ set xs i (get_or interleaved next 0) → GatheredBefore c interleaved p (b + 1) ys (next + 1)
 gather-push c interleaved xs ys p b next i l h t e k =
-    let x = get_or interleaved _ 0 in
-    let j = start_of c b + p in
-    let ks : ys ≡ set xs j x = k ∙ ap (λ (z : ℕ). set xs z x) e in
-    let inside = position-in c p b t in
+    let x = get_or interleaved _ 0 in let j = start_of c b + p in
+    let ks : ys ≡ set xs j x = k ∙ ap (λ (z : ℕ). set xs z x) e in let inside = position-in c p b t in
     let below = rank-in c p b t in
     let old : map (codeword_at c (set xs j x)) h.positions ≡ map (codeword_at c xs) h.positions = map-mem _ _ _ (λ u m. let w = h.order.sound u m in get_or-set_other xs j _ x 0 (λ q. let z = position-one c u _ w.0 t q in irrefl u p b w.1 z.0 z.1)) in
     let new : codeword_at c (set xs j x) (position p b) ≡ x = get_or-set_same xs j x 0 (omega arith) in record {

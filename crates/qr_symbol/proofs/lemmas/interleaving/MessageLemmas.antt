@@ -2,12 +2,11 @@
 use Rattle.qr_field.{proofs.Facts.correction-one, specs.Polynomial.IsCorrection}
 use Rattle.qr_layout.{proofs.Facts.{Mem-of-Contains, blocks-sound}, specs.Blocks.{data_codewords_of, blocks_of}}
 use Rattle.qr_layout.specs.{Version.total_codewords_of, declared.{blocks.Blocks.Blocks, level.Level.Level}}
-use Rattle.qr_symbol.proofs.lemmas.interleaving.GatherLemmas.{positions-many}
+use Rattle.{qr_symbol.proofs.lemmas.interleaving.GatherLemmas.positions-many, std.specs.Prelude.{Result, Ok, Err, IfOk}}
 use Rattle.qr_symbol.proofs.lemmas.interleaving.RankLemmas.{positions-one, position-of, map-at}
 use Rattle.qr_symbol.specs.Interleaving.{block_count, codeword_count, codeword_at, data_sizes, correction_sizes, block_of, check_at, IsFinalMessage, IsGathered}
 use Rattle.std.proofs.Common.{◌≡◌, ℕ, ◌+◌, ◌-◌, ◌*◌, ◌<◌, ◌≤◌, List, [], ◌∷◌, ◌++◌, map, length, length-append, get_or, refl, sym, ◌∙◌, ap, subst, arith, take}
 use Rattle.std.proofs.{Math.Seq.take-append_seam, lemmas.List.{length-map, ext_get_or}}
-use Rattle.std.specs.Prelude.{Result, Ok, Err, IfOk}
 
 -- ---- one final sequence
 
@@ -32,8 +31,7 @@ append-front xs ys us vs n e = absurd (omega arith)
 -- a sequence is the final sequence of at most one list of data codewords
 pub data-one : (b : Blocks) (d e cw : List ℕ) → length d ≡ codeword_count (data_sizes b) → length e ≡ codeword_count (data_sizes b) → IsFinalMessage b d cw → IsFinalMessage b e cw → d ≡ e
 data-one b d e cw n m h k =
-    let c = data_sizes b in
-    let one = positions-one c _ _ k.data_order h.data_order in
+    let c = data_sizes b in let one = positions-one c _ _ k.data_order h.data_order in
     let both : map (codeword_at c d) h.data_positions ++ map (check_at h.corrections) h.check_positions ≡ map (codeword_at c e) h.data_positions ++ map (check_at k.corrections) k.check_positions =
     cc in ext_get_or 0 d e (n ∙ sym m) (λ j l.
     let t = position-of c (block_count c) j (omega arith) (omega arith) in
@@ -88,8 +86,7 @@ take-front n xs ys e = rw (← e) (take-append_seam xs ys)
 pub gathered-one : (b : Blocks) (interleaved xs d : List ℕ) → IsGathered (data_sizes b) interleaved xs
     → length d ≡ codeword_count (data_sizes b) → IsFinalMessage b d interleaved → xs ≡ d
 gathered-one b interleaved xs d g n h =
-    let c = data_sizes b in
-    let one = positions-one c _ _ h.data_order g.order in
+    let c = data_sizes b in let one = positions-one c _ _ h.data_order g.order in
     let first : take (codeword_count c) interleaved ≡ map (codeword_at c d) g.positions =
     search (arith, take-front, length-map) in ext_get_or 0 xs d (g.long ∙ sym n) (λ j l.
     let w = position-of c (block_count c) j (omega arith) (omega arith) in

@@ -1,11 +1,10 @@
 -- Squares are read one by one, and are joined to one list of bytes or refused for one reason.
 use Rattle.{qr_bits.specs.Parsing.Content, qr_matrix.specs.Grid.Grid}
-use Rattle.qr_symbol.specs.Joining.{AreReadBy, HaveHeaders, IsFirstRefused, IsJoinedBy, IsNoSeries, IsUnjoined, IsUnjoinedBy}
+use Rattle.qr_symbol.specs.Joining.{AreReadBy, HaveHeaders, IsFirstRefused, IsJoinedBy, IsNoSeries, IsUnjoined, IsUnjoinedBy, bytes_of_all}
 use Rattle.qr_symbol.specs.{Reading.{IsReading, IsUnread}, Series.squares_of}
-use Rattle.qr_symbol.specs.declared.{fault.ReadFault.ReadFault, symbol.Symbol.Symbol}
+use Rattle.{qr_symbol.specs.declared.{fault.ReadFault.ReadFault, symbol.Symbol.Symbol}, std.specs.Prelude.Some}
 use Rattle.std.proofs.Common.{◌≡◌, ℕ, ◌+◌, ◌<◌, ◌≤◌, List, [], ◌∷◌, ◌++◌, take, drop, length, get_or, refl, sym, ◌∙◌, inl, inr, ◌⊎◌, arith}
-use Rattle.std.proofs.lemmas.List.{take_more, take-append-drop, take-map, drop_more, drop_all, get_or-map, length-map}
-use Rattle.std.specs.Prelude.{Some}
+use Rattle.std.proofs.lemmas.List.{flat_map_more, take_more, take-append-drop, take-map, drop_more, drop_all, get_or-map, length-map}
 use Rattle.qr_symbol.specs.declared.fault.ReadFault.TheVariants as fault
 
 -- ---- squares and contents, in turn
@@ -44,6 +43,10 @@ squares-taken ss i = sym (take-map (λ (x : Symbol). x.matrix) i ss)
 -- one more symbol is read
 pub readings-more : (ss : List Symbol) (i : ℕ) (s : Symbol) (cs : List Content) (c : Content) → i < length ss → s ≡ get_or ss i s → AreReadBy IsReading (squares_of (take i ss)) cs → IsReading s.matrix c → AreReadBy IsReading (squares_of (take (i + 1) ss)) (cs ++ c ∷ [])
 readings-more ss i s cs c l e a h = let at = square-at ss i s l e in search (arith, squares-taken, readings-next)
+
+-- the bytes of one more content follow
+pub bytes-more : (cs : List Content) (i : ℕ) (c : Content) (xs : List ℕ) → i < length cs → c ≡ get_or cs i c → xs ≡ bytes_of_all (take i cs) → xs ++ c.bytes ≡ bytes_of_all (take (i + 1) cs)
+bytes-more cs i c xs l e h = rw (take_more cs i c l, ← e, h) (flat_map_more (λ (d : Content). d.bytes) [] (take i cs) c)
 
 -- ---- the first fault
 

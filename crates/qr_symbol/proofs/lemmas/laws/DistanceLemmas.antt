@@ -18,8 +18,7 @@ fronts-same : (c : BlockSizes) (d e : List ℕ) (i : ℕ) → ((j : ℕ) → j <
     → take (start_of c i) d ≡ take (start_of c i) e
 fronts-same c d e zero h = cc (start-none c)
 fronts-same c d e (suc i) h =
-    let f = fronts-same c d e i (λ j l. h j (omega arith)) in
-    let more : suc i ≡ i + 1 = omega arith in
+    let f = fronts-same c d e i (λ j l. h j (omega arith)) in let more : suc i ≡ i + 1 = omega arith in
     let n = ap (start_of c) more ∙ start-next c i in
     let a : take (start_of c (suc i)) d ≡ take (start_of c i) d ++ part c d i =
     ap (λ k. take k d) n ∙ take-add (start_of c i) (block_len c i) d in
@@ -42,8 +41,7 @@ part-length c d e i h =
 part-short : (v : ℕ) (l : Level) (d : List ℕ) (i : ℕ) → 1 ≤ v → v ≤ 40 →
     length (part (data_sizes (blocks_of v l)) d i) + (blocks_of v l).ec_len ≤ 255
 part-short v l d i h k =
-    let c = data_sizes (blocks_of v l) in
-    let w = laws-of l v h k in
+    let c = data_sizes (blocks_of v l) in let w = laws-of l v h k in
     omega (arith, (length-take (block_len c i) (drop (start_of c i) d)), (len-most c i), w.len, w.ec_most)
 
 -- some number below n has the property P, or all of them have the property Q

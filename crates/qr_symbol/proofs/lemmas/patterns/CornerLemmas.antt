@@ -27,17 +27,14 @@ abbrev pub begun : ℕ → ℕ → ℕ → Bool
 begun s r c = with_second s r c || (eqb r (s - 8) && eqb c 8)
 
 -- the two timing modules beside the finder patterns are dark
+timing-dark : (s : ℕ) → 21 ≤ s → is_dark_in_six s 8 ≡ true
+timing-dark s h = grind (arith, nat_tests)
+
 pub timing-left : (v format : ℕ) → 1 ≤ v → true ≡ paint_of v format 8 6
-timing-left v format l = sym (dark (side_of v) (omega arith)) ∙ paint-column_six v 8 format l (omega arith)
-  where
-    dark : (s : ℕ) → 21 ≤ s → is_dark_in_six s 8 ≡ true
-    dark s h = grind (arith, nat_tests)
+timing-left v format l = sym (timing-dark (side_of v) (omega arith)) ∙ paint-column_six v 8 format l (omega arith)
 
 pub timing-top : (v format : ℕ) → 1 ≤ v → true ≡ paint_of v format 6 8
-timing-top v format l = sym (dark (side_of v) (omega arith)) ∙ paint-row_six v 8 format l (omega arith)
-  where
-    dark : (s : ℕ) → 21 ≤ s → is_dark_in_six s 8 ≡ true
-    dark s h = grind (arith, nat_tests)
+timing-top v format l = sym (timing-dark (side_of v) (omega arith)) ∙ paint-row_six v 8 format l (omega arith)
 
 -- the dark module is dark
 pub dark-painted : (v format : ℕ) → 1 ≤ v → v ≤ 40 → true ≡ paint_of v format (side_of v - 8) 8

@@ -1,9 +1,8 @@
 -- Finder patterns as three squares, each inside the one before.
 use Rattle.qr_layout.specs.{Region.ring_of, Role.{finder_ring, pattern_colour, role_of}, Version.side_of}
-use Rattle.qr_layout.specs.declared.role.Role.TheVariants.{Fixed}
+use Rattle.{qr_layout.specs.declared.role.Role.TheVariants.Fixed, std.proofs.lemmas.Bool.{cases_lt, Decides.nat_tests}}
 use Rattle.qr_symbol.{proofs.lemmas.patterns.TimingLemmas.paint-fixed, specs.Steps.Patterns.{is_in_block, paint_of}}
 use Rattle.std.proofs.Common.{◌≡◌, ℕ, ◌+◌, ◌-◌, ◌<◌, ◌≤◌, Bool, true, false, not, cond, eqb, ltb, leb, ◌&&◌, refl, sym, ◌∙◌, inl, inr, arith}
-use Rattle.std.proofs.lemmas.Bool.{cases_lt, Decides.nat_tests}
 
 -- three squares, painted one inside the other, leave only ring 2 light
 pub three-squares : (a b r c : ℕ) (w x y z : Bool) → 3 ≤ a → 3 ≤ b → x ≡ cond (leb (a - 3) r && ltb r (a +
@@ -45,3 +44,13 @@ block-paint v r c a b top left format w x y h i j k near d e =
   where
     in-its-block : (t x y w : Bool) → (t ≡ true → x ≡ y) → cond t x w ≡ cond t y w
     in-its-block t x y w e = grind (arith, nat_tests)
+
+-- a place within ring 4 of one finder pattern is nearest to it
+pub near-corner : (s r c : ℕ) → 21 ≤ s → ring_of 3 3 r c ≤ 4 → finder_ring s r c ≡ ring_of 3 3 r c
+near-corner s r c l n = omega arith
+
+pub near-right : (s r c : ℕ) → 21 ≤ s → ring_of 3 (s - 4) r c ≤ 4 → finder_ring s r c ≡ ring_of 3 (s - 4) r c
+near-right s r c l n = omega arith
+
+pub near-below : (s r c : ℕ) → 21 ≤ s → ring_of (s - 4) 3 r c ≤ 4 → finder_ring s r c ≡ ring_of (s - 4) 3 r c
+near-below s r c l n = omega arith

@@ -1,12 +1,11 @@
 -- The format information, drawn bit by bit over a symbol.
-use Rattle.qr_layout.proofs.Facts.{format-only, format-first, format-second}
+use Rattle.{qr_layout.proofs.Facts.{format-only, format-first, format-second}, std.proofs.lemmas.Bool.Decides.nat_tests}
 use Rattle.qr_layout.specs.{Role.role_of, Role.first_place, Role.second_place, Version.side_of}
 use Rattle.qr_layout.specs.declared.{region.Module.Module, role.Role.Role, role.Role.TheVariants.FormatBit}
 use Rattle.qr_matrix.proofs.Facts.{same-place, square-same, colour-painted-here, colour-painted-there}
 use Rattle.qr_matrix.specs.{BitRow.has_bit, Grid.Grid, Grid.square, Grid.colour, Grid.painted, Grid.IsSquare}
 use Rattle.qr_symbol.specs.Steps.Patterns.{format_bits_or, format_or}
 use Rattle.std.proofs.Common.{◌≡◌, ℕ, ◌+◌, ◌<◌, ◌≤◌, Bool, true, false, cond, ltb, leb, ◌&&◌, ◌||◌, refl, sym, ◌∙◌, ap, inl, inr, arith}
-use Rattle.std.proofs.lemmas.Bool.Decides.{nat_tests}
 
 -- the bits from first to n - 1 are drawn, and no other module is changed
 abbrev pub FormatDone : ℕ → ℕ → ℕ → ℕ → Grid → Grid → Type 0

@@ -2,9 +2,8 @@
 use Rattle.qr_layout.proofs.Facts.{version-first, version-second}
 use Rattle.qr_layout.specs.{Format.version_word_of, Region.is_version_information, Role.role_of, Version.side_of}
 use Rattle.{qr_layout.specs.declared.role.Role.TheVariants.VersionBit, qr_matrix.specs.BitRow.has_bit}
-use Rattle.qr_symbol.specs.Steps.Patterns.{fixed_colour, paint_of}
+use Rattle.{qr_symbol.specs.Steps.Patterns.{fixed_colour, paint_of}, std.proofs.lemmas.Bool.Decides.nat_tests}
 use Rattle.std.proofs.Common.{◌≡◌, ℕ, ◌+◌, ◌-◌, ◌*◌, ◌/◌, ◌%◌, ◌<◌, ◌≤◌, Bool, false, eqb, ltb, leb, ◌&&◌, ◌||◌, sym, ap, arith}
-use Rattle.std.proofs.lemmas.Bool.Decides.{nat_tests}
 
 -- the places of the first n bits beside the top right finder pattern
 abbrev part : ℕ → ℕ → ℕ → ℕ → Bool

@@ -4,9 +4,8 @@ use Rattle.qr_layout.specs.{Region.is_in_region, Version.side_of, declared.strip
 use Rattle.qr_matrix.{proofs.Facts.colour-square, specs.{BitRow.has, Grid.{Grid, square, colour, with_row, IsSquare}}}
 use Rattle.qr_symbol.proofs.lemmas.placement.{ColumnLemmas.row-small, PlacementLemmas.square-is}
 use Rattle.qr_symbol.specs.Steps.Placement.{number_at, region_grid, row_of, AreDrawn, IsStripDrawn}
-use Rattle.qr_symbol.specs.declared.placement.Columns.{Columns}
+use Rattle.{qr_symbol.specs.declared.placement.Columns.Columns, std.proofs.lemmas.Bool.Decides.nat_tests}
 use Rattle.std.proofs.Common.{◌≡◌, ℕ, ◌-◌, ◌<◌, ◌≤◌, Bool, not, cond, eqb, ◌&&◌, List, refl, ◌∙◌, ap, arith}
-use Rattle.std.proofs.lemmas.Bool.Decides.{nat_tests}
 
 -- the square of the encoding region, read with row and column exchanged, says whether a place is in the region
 pub region-across : (v : ℕ) (g : Grid) (row col : ℕ) → g ≡ region_grid v → row < side_of v → col < side_of v → colour g col row ≡ is_in_region v row col
@@ -41,8 +40,7 @@ strip-drawn v cw x first next g h old new o least most e light number d =
       number = number;
       square = square-is (side_of v) (λ r c. cond (eqb r _) (has new.left c) (colour (with_row g x.right (has new.right)) r c)) h (e ∙ ap (λ z. square z (λ r c. cond (eqb r (x.right - 1)) (has new.left c) (colour (with_row g x.right (has new.right)) r c))) side);
       drawn = λ j l.
-          let row = row_of (side_of v) x j in
-          let small = (row-small x (side_of v) j l).0 in
+          let row = row_of (side_of v) x j in let small = (row-small x (side_of v) j l).0 in
           let bits = d.drawn j (omega arith) (omega arith) in
           rw e (((two-colours g _ _ _ _ _ row (omega arith) (omega arith) (λ i. omega arith)).0 refl) ∙ drawn-light _ _ _ _ _ bits.0 (light row small).0, ((two-colours g _ _ _ _ _ row (omega arith) (omega arith) (λ i. omega arith)).1 refl) ∙ drawn-light _ _ _ _ _ bits.1 (light row small).1);
       kept = λ row col l m a b. rw e ((two-colours g x.right (x.right - 1) _ _ col row (omega arith) (omega arith) (λ i. omega arith)).2 a b);

@@ -1,10 +1,9 @@
 -- The columns of a strip, held apart from the square in which they are two rows.
 use Rattle.std.proofs.Common.{◌≡◌, ℕ, zero, suc, ◌+◌, ◌-◌, ◌*◌, ◌<◌, ◌≤◌, Bool, true, cond, eqb, ◌&&◌, List, sym, ◌∙◌, inl, inr, add-one, arith}
-use Rattle.std.proofs.lemmas.Bool.{cases_lt, Decides.nat_tests}
+use Rattle.{std.proofs.lemmas.Bool.{cases_lt, Decides.nat_tests}, qr_symbol.specs.declared.placement.Columns.Columns}
 use Rattle.qr_layout.specs.{Region.is_in_region, Version.side_of, declared.strips.Strip.Strip}
 use Rattle.qr_matrix.specs.BitRow.{has, has_bit}
 use Rattle.qr_symbol.specs.Steps.Placement.{number_after, number_at, row_of, AreDrawn, AreNext}
-use Rattle.qr_symbol.specs.declared.placement.Columns.{Columns}
 
 -- ---- rows and their numbers
 
@@ -33,8 +32,7 @@ pub number-whole : (v : ℕ) (x : Strip) (first k m : ℕ) → ((j : ℕ) → k 
     number_at v x first (k + m) ≡ number_at v x first k + 2 * m
 number-whole v x first k zero w = (let e : k + 0 ≡ k = omega arith in rw e (omega arith))
 number-whole v x first k (suc m) w =
-    let e : k + suc m ≡ suc (k + m) = omega arith in
-    let here = w (k + m) (omega arith) (omega arith) in
+    let e : k + suc m ≡ suc (k + m) = omega arith in let here = w (k + m) (omega arith) (omega arith) in
     let before = number-whole v x first k m (λ j a b. w j a (omega arith)) in rw (e, here.0, here.1) (omega arith)
 
 -- ---- drawn rows
@@ -83,8 +81,7 @@ pub row-drawn : {v : ℕ} {cw : List ℕ} {x : Strip} {first k : ℕ} {old new :
     → AreDrawn v cw x first k 1 old new
 row-drawn {x = x} {k = k} row n taken one bits t u r p q m o l1 l2 next right left = record {
   drawn = λ j a b.
-      let e : j ≡ k = omega arith in
-      let same : eqb row row ≡ true = grind (arith, nat_tests) in
+      let e : j ≡ k = omega arith in let same : eqb row row ≡ true = grind (arith, nat_tests) in
       rw (e, ← r, ← p, ← q, m, ← after-plus t n _ one o) (
         here-drawn t _ _ _ _ _ (right row) same (next taken l1),
         here-drawn u _ _ _ _ _ (left row) same (next one l2),

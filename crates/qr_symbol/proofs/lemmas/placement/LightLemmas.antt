@@ -1,11 +1,10 @@
 -- The modules of a strip that are still to be drawn, which are light.
 use Rattle.std.proofs.Common.{◌≡◌, ℕ, ◌+◌, ◌-◌, ◌*◌, ◌<◌, ◌≤◌, Bool, true, false, not, cond, leb, ltb, ◌&&◌, ◌||◌, List, refl, sym, ◌∙◌, ap, arith}
-use Rattle.std.proofs.lemmas.Bool.Decides.{nat_tests}
+use Rattle.{std.proofs.lemmas.Bool.Decides.nat_tests, qr_symbol.specs.declared.placement.Columns.Columns}
 use Rattle.qr_bits.specs.Bits.{codeword_bit}
 use Rattle.qr_layout.specs.{Region.is_in_region, Version.side_of, declared.strips.Strip.Strip}
 use Rattle.qr_matrix.{proofs.Facts.has_bit-ones, specs.BitRow.has, specs.BitRow.has_bit, specs.Grid.is_same}
 use Rattle.qr_symbol.specs.Steps.Placement.{number_at, row_of, AreDrawn, AreLight, AreNext, AreWithin}
-use Rattle.qr_symbol.specs.declared.placement.Columns.{Columns}
 use Rattle.qr_symbol.proofs.lemmas.placement.ColumnLemmas.{number-whole, rank_of, row-small, rows-apart}
 
 -- a bit that is unset where another bit is set
@@ -69,13 +68,10 @@ pub four-drawn : {v : ℕ} {cw : List ℕ} {x : Strip} {first : ℕ} {old new : 
     → AreNext cw (number_at v x first k) bits → AreDrawn v cw x first k 4 old new
 four-drawn {v} {cw} {x} {first} {old} {new} k top bits r l room e whole split right left next = record {
   drawn = λ j a b.
-      let m = j - k in
-      let f : k + m ≡ j = omega arith in
-      let w = four-row x _ k top m room e (omega arith) in
-      let i = rank_of x.upward m in
+      let m = j - k in let f : k + m ≡ j = omega arith in
+      let w = four-row x _ k top m room e (omega arith) in let i = rank_of x.upward m in
       let within : (leb top (top + i) && ltb (top + i) (top + 4)) ≡ true = grind (arith, nat_tests, w.1) in
-      let back : top + i - top ≡ i = omega arith in
-      let six : 6 - 2 * m ≡ 7 - (2 * m + 1) = omega arith in
+      let back : top + i - top ≡ i = omega arith in let six : 6 - 2 * m ≡ 7 - (2 * m + 1) = omega arith in
       let bit = split i w.1 in
       rw (← f, w.0, (whole i w.1).0, (whole i w.1).1, (number-whole v x _ k m (λ h c d. four-region v x k top room e whole h c (omega arith)))) (
         right (top + i) ∙ rw (within, back, bit.0, w.2) (next (2 * m) (omega arith)),
@@ -97,8 +93,7 @@ pub column-set : (x : Strip) (s k top bits : ℕ) (q p z : ℕ → Bool) → k +
     → ((i : ℕ) → z i ≡ (p i || leb top i && ltb i (top + 4) && has_bit bits (i - top))) → (i : ℕ)
     → z i ≡ cond (leb top i && ltb i (top + 4)) (has_bit bits (i - top)) (p i)
 column-set x s k top bits q p z room e whole light is i = is i ∙ set-replaces _ _ i (λ l m.
-    let w = from-top x s k top i room e l m in
-    let f : top + (i - top) ≡ i = omega arith in
+    let w = from-top x s k top i room e l m in let f : top + (i - top) ≡ i = omega arith in
     rw (rw f at (whole (i - top) (omega arith))) at (rw w.0 at (light (k + rank_of x.upward (i - top)) (omega arith) (omega (arith, w.1)))))
   where
     set-replaces : (p h : Bool) (i : ℕ) → (top ≤ i → i < top + 4 → p ≡ false)

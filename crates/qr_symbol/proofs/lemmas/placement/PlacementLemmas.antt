@@ -1,19 +1,16 @@
 -- Drawing along the walk: every place that the walk has passed, or never reaches, has its final colour.
-use Rattle.qr_bits.specs.Bits.{codeword_bit}
+use Rattle.{qr_bits.specs.Bits.codeword_bit, qr_matrix.specs.Grid.{Grid, square, colour, painted, transposed, IsSquare}}
 use Rattle.qr_layout.proofs.Facts.{Mem, order-has, order-mem, order-small, number-at, row-in, col-in, region-role, role-region}
-use Rattle.qr_layout.specs.Format.{format_word_of, version_word_of}
+use Rattle.{qr_layout.specs.Format.{format_word_of, version_word_of}, std.proofs.lemmas.Bool.cases_eq}
 use Rattle.qr_layout.specs.{Order.{IsOrder, in_region_of, number_of}, Region.is_in_region, Role.role_of}
 use Rattle.qr_layout.specs.{Strips.{both_of, rows_from}, Version.side_of, declared.level.Level.Level}
 use Rattle.qr_layout.specs.declared.{region.Module.Module, role.Role.{Role, TheVariants.Region}, strips.Strip.Strip}
 use Rattle.qr_matrix.proofs.Facts.{same-place, square-same, colour-square, colour-painted-here, colour-painted-there, colour-transposed}
-use Rattle.qr_matrix.specs.Grid.{Grid, square, colour, painted, transposed, IsSquare}
 use Rattle.qr_symbol.proofs.lemmas.placement.{ColumnLemmas.row-small, KeptPlaceLemmas.{kept-append, kept-in, kept-out}}
-use Rattle.qr_symbol.specs.Mask.{inverts, inverted}
+use Rattle.qr_symbol.specs.{Mask.{inverts, inverted}, Symbol.{colour_by, colour_of, grid_of}}
 use Rattle.qr_symbol.specs.Steps.Patterns.{fixed_colour, format_or, paint_of, symmetric_format}
 use Rattle.qr_symbol.specs.Steps.Placement.{placed_colour, number_after, number_at, row_of, IsStripDrawn, masked_colour, masked_grid, region_grid, plain_grid}
-use Rattle.qr_symbol.specs.Symbol.{colour_by, colour_of, grid_of}
 use Rattle.std.proofs.Common.{◌≡◌, ℕ, zero, suc, ◌+◌, ◌-◌, ◌⊎◌, ◌<◌, ◌≤◌, Bool, true, false, cond, nat_eq, ◌&&◌, List, [], ◌∷◌, ◌++◌, length, length-append, refl, sym, ◌∙◌, ap, inl, inr, subst, append_assoc, append-nil, arith}
-use Rattle.std.proofs.lemmas.Bool.{cases_eq}
 
 -- the module in a row and a column
 abbrev pub at : ℕ → ℕ → Module
@@ -159,8 +156,7 @@ rows-split s x k zero m =
     let e : 0 + (m + 1) ≡ suc m = omega arith in
     let f : k + 0 ≡ k = omega arith in rw (e, f) refl
 rows-split s x k (suc j) m =
-    let e : suc j + (m + 1) ≡ suc (j + (m + 1)) = omega arith in
-    let f : k + suc j ≡ k + 1 + j = omega arith in
+    let e : suc j + (m + 1) ≡ suc (j + (m + 1)) = omega arith in let f : k + suc j ≡ k + 1 + j = omega arith in
     rw (e, f) (ap (λ (z : List Module). at (row_of s x k) x.right ∷ at (row_of s x k) (x.right - 1) ∷ z) (rows-split s x (k + 1) j m))
 
 -- the places of a strip before row j, that row's, and those after it
@@ -175,10 +171,8 @@ number-rows : (v : ℕ) (x : Strip) (before : List Module) (j : ℕ)
     → number_at v x (length (in_region_of v before)) j ≡ length (in_region_of v (before ++ both_of (rows_from (side_of v) x 0 j)))
 number-rows v x before zero = rw append-nil refl
 number-rows v x before (suc j) =
-    let p = at (row_of (side_of v) x j) x.right in
-    let q = at (row_of (side_of v) x j) (x.right - 1) in
-    let e : j + 1 ≡ suc j = omega arith in
-    let f : 0 + j ≡ j = omega arith in
+    let p = at (row_of (side_of v) x j) x.right in let q = at (row_of (side_of v) x j) (x.right - 1) in
+    let e : j + 1 ≡ suc j = omega arith in let f : 0 + j ≡ j = omega arith in
     let whole : before ++ both_of (rows_from (side_of v) x 0 (suc j)) ≡ ((before ++ (both_of (rows_from (side_of v) x 0 j))) ++ p ∷ []) ++ q ∷ [] = rw (rw (e, f) at (rows-split (side_of v) x 0 j 0)) (simp append_assoc) in
     rw (whole, count-push v _ q, count-push v _ p, ← number-rows v x before j) refl
 
@@ -208,8 +202,7 @@ pub placed-strip : (v : ℕ) (cw : List ℕ) (g0 a b : Grid) (x : Strip) (before
     later) number (transposed a) → IsStripDrawn v cw x number a next b → IsPlaced v cw g0 (before ++ both_of
     (rows_from (side_of v) x 0 (side_of v))) later next (transposed b)
 placed-strip v cw g0 a b x before later number next o p d =
-    let s = side_of v in
-    let a-side = ap (λ (z : Grid). z.side) o in
+    let s = side_of v in let a-side = ap (λ (z : Grid). z.side) o in
     let b-side = ap (λ (z : Grid). z.side) d.square in record {
       whole = rw append_assoc p.whole;
       next = d.number ∙ (ap (λ n. number_at v x n s) p.next ∙ number-rows v x _ s);
@@ -217,12 +210,9 @@ placed-strip v cw g0 a b x before later number next o p d =
       done = λ r c l m n.
           let kept : (((c ≡ x.right) ⊎ (c ≡ x.right - 1)) × (is_in_region v r c ≡ true) → ⊥) → colour a c r ≡ (placed_colour v cw (colour g0)) r c = λ u.
           sym (colour-transposed a r c (omega arith) (omega arith)) ∙ p.done r c l m (λ q. elim (strip-mem v s x 0 s _ _ q) [ inl w ↦ u w | inr q ↦ n q ]) in
-          let j = row_of s x r in
-          let rank = row-small x s r l in
-          let bits = rw rank.1 at (d.drawn j rank.0) in
-          let xs = before ++ both_of (rows_from s x 0 j) in
-          let i = at r x.right in
-          let k = at r (x.right - 1) in
+          let j = row_of s x r in let rank = row-small x s r l in
+          let bits = rw rank.1 at (d.drawn j rank.0) in let xs = before ++ both_of (rows_from s x 0 j) in
+          let i = at r x.right in let k = at r (x.right - 1) in
           let ys = both_of (rows_from s x (j + 1) (s - 1 - j)) ++ later in
           let order : before ++ (both_of (rows_from s x 0 s) ++ later) ≡ xs ++ i ∷ k ∷ ys = rw (rw rank.1 at (strip-split s x j rank.0)) (simp append_assoc) in
           let whole = rw order at p.whole in

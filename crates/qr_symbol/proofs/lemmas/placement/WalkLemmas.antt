@@ -6,10 +6,9 @@ use Rattle.qr_layout.specs.{Order.{IsOrder, number_of}, Region.is_in_region, Rol
 use Rattle.qr_layout.specs.declared.{level.Level.Level, region.Module.Module, role.Role.{Role, TheVariants.Region}}
 use Rattle.qr_matrix.proofs.Facts.{square-same, colour-square}
 use Rattle.qr_matrix.specs.Grid.{Grid, square, colour, light, painted, IsSquare}
-use Rattle.qr_symbol.proofs.lemmas.placement.BitLemmas.{differs-inverted}
+use Rattle.qr_symbol.{proofs.lemmas.placement.BitLemmas.differs-inverted, specs.Symbol.{colour_by, colour_of, grid_of}}
 use Rattle.qr_symbol.proofs.lemmas.placement.PlacementLemmas.{at, by_test, Done, done-start, done-step, done-end, next-number, painted-square, whole-next, whole-push, in-square}
 use Rattle.qr_symbol.specs.{Mask.{inverts, inverted}, Steps.{Patterns.fixed_colour, Placement.walked_colour}}
-use Rattle.qr_symbol.specs.Symbol.{colour_by, colour_of, grid_of}
 use Rattle.std.proofs.Common.{◌≡◌, ℕ, ◌+◌, ◌<◌, ◌≤◌, Bool, true, false, cond, not, List, [], ◌∷◌, ◌++◌, length, length-append, refl, ◌∙◌, ap, arith}
 
 -- outside the encoding region the colour stays
@@ -44,8 +43,7 @@ pub walked-step : (v : ℕ) (cw : List ℕ) (mask : ℕ) (g0 g : Grid) (front no
     now ≡ x ∷ later → IsWalked v cw mask g0 front now number g → IsWalked v cw mask g0 (front ++ x ∷ []) later
     (number + 1) (painted g x.row x.col (not (beq bit turned)))
 walked-step v cw mask g0 g front now later x number bit turned b t e w =
-    let o = whole-next v _ now _ x w.whole e in
-    let s = ap (λ (h : Grid). h.side) w.square in
+    let o = whole-next v _ now _ x w.whole e in let s = ap (λ (h : Grid). h.side) w.square in
     let n = next-number v _ _ x _ o w.next in
     let d : not (beq bit turned) ≡ inverted (inverts mask x.row x.col) (codeword_bit cw number) =
     search (arith, differs-inverted, codeword_bit) in record {

@@ -31,8 +31,7 @@ read-from : (v : ℕ) (l : Level) (mask : ℕ) (cw : List ℕ) (n : ℕ) (front 
 read-from v l mask cw zero front rest p o i h = refl
 read-from v l mask cw (suc n) front [] p o i h = absurd (omega arith)
 read-from v l mask cw (suc n) front (m ∷ rest) p o i h =
-    let bits = bits_of cw in
-    let k = length front in
+    let bits = bits_of cw in let k = length front in
     let next : length (front ++ m ∷ []) ≡ suc k = omega (arith, length-append front (m ∷ [])) in
     let here = read-place v l mask cw _ _ m p o in
     let later = read-from v l mask cw n _ _ p (whole-push v _ _ m o) (omega arith) (omega arith) ∙ ap (λ (z : ℕ). take n (drop z bits)) next in
@@ -45,8 +44,7 @@ take-whole xs n e = rw (← e) (take-length xs)
 -- a symbol is read as the bits of its codewords
 pub read-grid : (v : ℕ) (l : Level) (mask : ℕ) (cw : List ℕ) (ms : List Module) → 1 ≤ v → v ≤ 40 → IsOrder v ms → length cw ≡ total_codewords_of v → read_bits v mask (grid_of v l mask cw) ms ≡ bits_of cw
 read-grid v l mask cw ms p h o e =
-    let t = 8 * total_codewords_of v in
-    let many = order-length v ms p h o in
+    let t = 8 * total_codewords_of v in let many = order-length v ms p h o in
     let none : t - length ms ≡ 0 = omega arith in
     ap (λ (z : ℕ). map (unmasked mask (grid_of v l mask cw)) (take t ms) ++ replicate z false) none
     ∙ (append-nil _
@@ -85,8 +83,7 @@ read-one v mask g cw ds h k = bits-one cw ds h.bytes k.bytes (cc (only_order v h
 -- every square contains codewords
 pub read-some : (v mask : ℕ) (g : Grid) → 1 ≤ v → v ≤ 40 → (cw : List ℕ) × IsRead v mask g cw
 read-some v mask g p h =
-    let t = total_codewords_of v in
-    let o = to_come-start v in
+    let t = total_codewords_of v in let o = to_come-start v in
     let bits = read_bits v mask g (to_come v (first_cursor v)) in
     let many : length bits ≡ 8 * t = search (arith, length-append, length-map, length-take, length-replicate) in
     let w = bytes_takes t bits (omega arith) in

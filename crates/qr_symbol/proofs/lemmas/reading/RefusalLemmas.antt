@@ -3,9 +3,8 @@ use Rattle.qr_bits.specs.{Bits.bits_of, Parsing.Content, declared.fault.ParseFau
 use Rattle.{qr_layout.specs.declared.level.Level.Level, qr_matrix.specs.Grid.Grid}
 use Rattle.qr_symbol.proofs.lemmas.reading.{FormatLemmas.format-one, ReadLemmas.message-one}
 use Rattle.qr_symbol.specs.Reading.{IsFormat, IsMessage, IsReading, IsOfVersion, IsParsedAs, IsUnread}
-use Rattle.qr_symbol.specs.declared.fault.ReadFault.{ReadFault}
+use Rattle.{qr_symbol.specs.declared.fault.ReadFault.ReadFault, std.specs.Prelude.{◌↔◌, MatchResult, Result, Ok, Err}}
 use Rattle.std.proofs.Common.{◌≡◌, ℕ, List, refl, inl, inr, sym, ◌⊎◌, arith}
-use Rattle.std.specs.Prelude.{◌↔◌, MatchResult, Result, Ok, Err}
 use Rattle.qr_symbol.specs.declared.fault.ReadFault.TheVariants as fault
 
 -- a square has one version, level and mask, so its message does not depend on how they were found

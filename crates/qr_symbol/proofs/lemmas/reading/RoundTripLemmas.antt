@@ -5,10 +5,9 @@ use Rattle.{qr_matrix.specs.Grid.Grid, qr_symbol.proofs.lemmas.interleaving.Mess
 use Rattle.qr_symbol.proofs.lemmas.reading.FormatLemmas.{format-one, format-read}
 use Rattle.qr_symbol.proofs.lemmas.reading.ReadLemmas.{message-read, message-one}
 use Rattle.qr_symbol.specs.{Encoding.IsSymbolAt, Interleaving.{start_of, data_sizes, check_at, IsFinalMessage}}
-use Rattle.qr_symbol.specs.Reading.{IsFormat, IsMessage, IsReading}
+use Rattle.{qr_symbol.specs.Reading.{IsFormat, IsMessage, IsReading}, std.specs.{List.All, Prelude.Option}}
 use Rattle.std.proofs.Common.{◌≡◌, ℕ, ◌+◌, ◌<◌, ◌≤◌, List, length, get_or, sym, ap, subst, inl, inr, arith}
 use Rattle.std.proofs.{Math.ListN.get_or-eq_default, lemmas.{Bool.cases_lt, List.Elements.{All-append, All-map}}}
-use Rattle.std.specs.{List.All, Prelude.Option}
 
 -- an item of a list of bytes, or 0 after its end, is a byte
 byte-at : (xs : List ℕ) (k : ℕ) → All (λ x. x < 256) xs → get_or xs k 0 < 256
@@ -46,8 +45,7 @@ symbol-read v l b x h mask g p q s = record {
 -- a square is read as at most one content
 pub reading-one : (g : Grid) (p q : Content) → IsReading g p → IsReading g q → p ≡ q
 reading-one g p q h k =
-    let vs : k.version ≡ h.version = omega arith in
-    let w = format-one g _ _ _ _ k.format h.format in
+    let vs : k.version ≡ h.version = omega arith in let w = format-one g _ _ _ _ k.format h.format in
     let m2 = subst (λ (l : Level). IsMessage h.version l k.mask g k.message) w.0 (subst (λ (v : ℕ). IsMessage v k.level k.mask g k.message) vs k.holds) in
     let same = message-one _ _ _ g _ _ h.sized.least h.sized.most h.holds (subst (λ (m : ℕ). IsMessage h.version h.level m g k.message) w.1 m2) in
     cc

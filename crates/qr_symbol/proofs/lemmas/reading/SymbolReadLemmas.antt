@@ -1,20 +1,19 @@
 -- The codewords that the bits of all modules form, and the codewords of a square under a mask pattern.
 use borrow.Author.Tests.{ltb-true}
 use Rattle.qr_bits.proofs.Facts.{fault-read, length-field, length-bits_of}
-use Rattle.qr_bits.specs.{Bits.{field, bits_of}, Parsing.{parse, IsResultOf}, declared.fault.ParseFault.ParseFault}
+use Rattle.qr_bits.specs.{Bits.{field, bits_of}, Parsing.{parse, Content, IsResultOf}, declared.fault.ParseFault.ParseFault}
 use Rattle.qr_layout.proofs.Facts.{Mem, col-in, order-length, order-mem, row-in, below, below-at}
 use Rattle.qr_layout.specs.{Blocks.data_codewords_of, Order.IsOrder, Region.is_in_region}
 use Rattle.qr_layout.specs.Version.{side_of, total_codewords_of, remainder_bits_of}
-use Rattle.qr_layout.specs.declared.{level.Level.Level, region.Module.Module}
+use Rattle.{qr_layout.specs.declared.{level.Level.Level, region.Module.Module}, std.specs.{List.All, Prelude.{Err, Ok}}}
 use Rattle.qr_matrix.{proofs.Facts.{colour-square, colour-transposed}, specs.Grid.{Grid, colour, square, transposed}}
 use Rattle.qr_symbol.proofs.lemmas.{interleaving.MessageLemmas.append-front, placement.PlacementLemmas.at}
 use Rattle.qr_symbol.proofs.lemmas.reading.ReadLemmas.{read-one}
 use Rattle.qr_symbol.specs.{Fault.unread_for, Interleaving.IsInterleaved, Mask.{inverts, inverted}}
-use Rattle.qr_symbol.specs.Reading.{unmasked, IsRead, IsReadUnmasked, IsMessage, IsFormat, IsOfVersion, IsUnread}
+use Rattle.qr_symbol.specs.Reading.{unmasked, IsRead, IsReadUnmasked, IsMessage, IsFormat, IsOfVersion, IsReading, IsUnread}
 use Rattle.qr_symbol.specs.{Steps.{Collecting.colour_across, Placement.region_grid}, declared.fault.ReadFault.ReadFault}
 use Rattle.std.proofs.Common.{◌≡◌, ℕ, suc, ◌+◌, ◌-◌, ◌*◌, ◌<◌, ◌≤◌, Bool, true, false, ◌&&◌, ltb, List, ◌∷◌, ◌++◌, map, take, length, replicate, sym, ◌∙◌, ap, refl, subst, length-append, inl, inr, ◌⊎◌, arith}
 use Rattle.std.proofs.lemmas.List.{append-nil, length-map, length-take, map-append, take-append-drop}
-use Rattle.std.specs.{List.All, Prelude.Err}
 use Rattle.qr_bits.specs.declared.fault.ParseFault.TheVariants as unparsed
 use Rattle.qr_symbol.specs.declared.fault.ReadFault.TheVariants as fault
 
@@ -30,23 +29,17 @@ few-left v l h =
 -- if fewer than eight bits are left after all modules, all codewords have been read
 pub all-read : (v : ℕ) (f : Module → Bool) (ms : List Module) (cw : List ℕ) (width begun : ℕ) → 1 ≤ v → v ≤ 40 → IsOrder v ms → width < 8 → bits_of cw ++ field width begun ≡ map f ms → length cw ≡ total_codewords_of v
 all-read v f ms cw width begun p q o w bits =
-    let many = order-length v ms p q o in
-    let few = few-left v p q in
-    let long = ap length bits in
-    let a = length-append (bits_of cw) (field width begun) in
-    let b = length-map ms f in
-    let c = length-bits_of cw in
+    let many = order-length v ms p q o in let few = few-left v p q in
+    let long = ap length bits in let a = length-append (bits_of cw) (field width begun) in
+    let b = length-map ms f in let c = length-bits_of cw in
     let d = length-field width begun in omega arith
 
 -- the codewords that have been read have the bits of the first modules
 pub read-whole : (v : ℕ) (f : Module → Bool) (ms : List Module) (cw : List ℕ) (width begun : ℕ) → 1 ≤ v → v ≤ 40 → IsOrder v ms → width < 8 → bits_of cw ++ field width begun ≡ map f ms → bits_of cw ≡ map f (take (8 * total_codewords_of v) ms)
 read-whole v f ms cw width begun p q o w bits =
-    let many = order-length v ms p q o in
-    let all = all-read v f ms cw _ _ p q o w bits in
-    let t = 8 * total_codewords_of v in
-    let a = length-bits_of cw in
-    let b = length-map (take t ms) f in
-    let c = length-take t ms in
+    let many = order-length v ms p q o in let all = all-read v f ms cw _ _ p q o w bits in
+    let t = 8 * total_codewords_of v in let a = length-bits_of cw in
+    let b = length-map (take t ms) f in let c = length-take t ms in
     (append-front (bits_of cw) (map f _) (field _ _) (map f _) (omega arith) (bits ∙ (ap (map f) (sym (take-append-drop t ms)) ∙ map-append f _ _))).0
 
 -- two functions with the same values at all modules of a list
@@ -88,10 +81,8 @@ pub read-masked : (v mask n : ℕ) (g region plain : Grid) (cw : List ℕ) → 1
     region_grid v → ((r c : ℕ) → inverts n r c ≡ inverts mask r c) → plain ≡ square (side_of v) (λ r c.
     inverted (colour region r c && inverts n r c) (colour g r c)) → IsReadUnmasked v plain cw → IsRead v mask g cw
 read-masked v mask n g region plain cw p q is same e w =
-    let t = 8 * total_codewords_of v in
-    let f = unmasked mask g in
-    let ms = w.places in
-    let many = order-length v ms p q w.order in
+    let t = 8 * total_codewords_of v in let f = unmasked mask g in
+    let ms = w.places in let many = order-length v ms p q w.order in
     let none : 0 ≡ t - length ms = omega arith in
     let one : (r c : ℕ) → r < side_of v → c < side_of v → is_in_region v r c ≡ true → colour plain r c ≡ f (at r c) = λ r c l m k.
     ap (λ (z : Grid). colour z r c) e ∙ (colour-square (side_of v) (λ (r c : ℕ). inverted (colour region r c && inverts n r c) (colour g r c)) r c l m
@@ -108,6 +99,13 @@ pub not-checked : (g : Grid) (v : ℕ) (l : Level) (mask : ℕ) (cw : List ℕ) 
 not-checked g v l mask cw e s f r (inl m) none = subst (IsUnread g) (sym m) tt
 not-checked g v l mask cw e s f r (inr k) none =
     subst (IsUnread g) (sym k) (v, s, l, mask, f, λ d h. none k d h.many (subst (IsInterleaved v l d) (read-one v mask g h.codewords cw h.read r) h.interleaved))
+
+-- if the message is parsed, the square is read
+pub is-parsed : (g : Grid) (v : ℕ) (l : Level) (mask : ℕ) (d : List ℕ) (p : Content) → IsOfVersion g v → IsFormat g l mask
+    → IsMessage v l mask g d → IsResultOf (Ok p) (parse v (bits_of d)) → IsReading g p
+is-parsed g v l mask d p s f h (inl e) = absurd (let k = e in cc)
+is-parsed g v l mask d p s f h (inr e) =
+    record { version = v; level = l; mask = mask; message = d; sized = s; format = f; holds = h; parsed = e }
 
 -- if the message cannot be parsed, the square is not read
 pub not-parsed : (g : Grid) (v : ℕ) (l : Level) (mask : ℕ) (d : List ℕ) (e : ParseFault) → IsOfVersion g v → IsFormat g l mask

@@ -1,10 +1,9 @@
 -- Every input has parts: it is decidable whether a prefix fits, so there is a longest one.
 use Rattle.qr_bits.proofs.Facts.{CoversInTurn, capacity_least, count_width_bound, covers_all, empty_fits, from_turn, in_turn}
-use Rattle.qr_bits.specs.Padding.{room_of}
+use Rattle.{qr_bits.specs.Padding.room_of, qr_symbol.{proofs.lemmas.series.PartLemmas.bytes-fit, specs.Series.AreParts}}
 use Rattle.qr_bits.specs.Segmentation.{bits, prepend_mode, runs_of, Covers, IsAssignment, HasFit, IsLongestFit}
 use Rattle.qr_bits.specs.declared.modes.{Mode.{Mode, TheVariants.{Numeric, Alphanumeric, Byte, Kanji}}, Rule.Rule}
 use Rattle.{qr_bits.specs.declared.segment.Segment.Segment, qr_layout.specs.declared.level.Level.Level}
-use Rattle.qr_symbol.{proofs.lemmas.series.PartLemmas.bytes-fit, specs.Series.AreParts}
 use Rattle.std.proofs.Common.{◌≡◌, ℕ, zero, suc, ◌+◌, ◌<◌, ◌≤◌, ◌⊎◌, Bool, true, false, nat_eq, cond, List, [], ◌∷◌, length, take, drop, refl, subst, inl, inr, length-drop, arith}
 use Rattle.std.{proofs.lemmas.{Bool.cases_lt, List.Sums.sum_by-cons}, specs.{List.sum_by, Prelude.IsTrue}}
 
@@ -128,8 +127,7 @@ unfolding AreParts
 parts-to most v l r [] p q h = ([], refl)
 parts-to zero v l r (b ∷ bs) p q h = absurd (omega arith)
 parts-to (suc most) v l r (b ∷ bs) p q h =
-    let x = b ∷ bs in
-    let c = capacity_least v l p q in
+    let x = b ∷ bs in let c = capacity_least v l p q in
     let found = longest-to v r x (room_of v l) (length x) (omega arith) (λ j a d g. absurd (omega arith)) in
     let n = found.0 in
     let some : 1 ≤ n = found.1.longest 1 (omega arith) (bytes-fit v r (b ∷ []) (room_of v l) (omega arith) (omega (arith, count_width_bound v Byte))) in

@@ -4,16 +4,14 @@ use lib.ListN.{replicate}
 use Rattle.qr_bits.proofs.Facts.{CoversInTurn, from_turn, count_width_bound, capacity_least, fitting_short, byte_used, piece_fits}
 use Rattle.qr_bits.specs.{Modes.{may_use, count_width}, Padding.room_of, Segmentation.{runs_of, HasFit, IsLongestFit}}
 use Rattle.qr_bits.specs.declared.modes.{Mode.TheVariants.{Byte, Kanji}, Rule.Rule}
-use Rattle.qr_layout.proofs.Facts.{every, every-at}
+use Rattle.qr_layout.{proofs.Facts.{every, every-at}, specs.{Version.total_codewords_of, declared.level.Level.Level}}
 use Rattle.qr_layout.specs.Blocks.{block_count_of, correction_len_of, data_codewords_of}
-use Rattle.qr_layout.specs.{Version.total_codewords_of, declared.level.Level.Level}
 use Rattle.qr_symbol.specs.Series.{AreParts, FitParts, NeedsParts, IsSymbolOf, AreSymbolsFrom}
 use Rattle.qr_symbol.specs.{Steps.Series.{AreLengths, parts_of}, declared.symbol.Symbol.Symbol}
 use Rattle.std.proofs.Common.{◌≡◌, ℕ, zero, suc, ◌+◌, ◌-◌, ◌*◌, ◌<◌, ◌≤◌, min, true, false, leb, ◌⊎◌, All, List, [], ◌∷◌, ◌++◌, take, drop, length, get_or, Some, refl, sym, ◌∙◌, ap, subst, append_assoc, inl, inr, arith}
 use Rattle.std.proofs.Math.Seq.{drop-cons, drop-nil, drop-append-add, take-append_seam, take-length}
-use Rattle.std.proofs.lemmas.Bool.{and_from, cases_lt}
+use Rattle.std.proofs.lemmas.{Bool.{and_from, cases_lt}, List.Elements.{All-nil, All-cons, All-head, All-tail}}
 use Rattle.std.proofs.lemmas.List.{length-take, length-drop, append-nil, take-append-drop, drop_all, drop-append-le, length-append}
-use Rattle.std.proofs.lemmas.List.Elements.{All-nil, All-cons, All-head, All-tail}
 use Rattle.std.specs.{List.{concat, list_all}, Prelude.IsTrue}
 
 -- ---- how long a prefix fits
@@ -85,8 +83,7 @@ longest-cut v l b xs m n p q long h =
       inside = omega arith;
       fits = subst (λ (ys : List ℕ). HasFit v b ys room) (take-less n m xs (omega arith)) h.fits;
       longest = λ k i fit.
-          let short = part-short v l b (take k xs) p q fit in
-          let same = length-take k xs in
+          let short = part-short v l b (take k xs) p q fit in let same = length-take k xs in
           h.longest k (omega arith) (subst (λ (ys : List ℕ). HasFit v b ys room) (sym (take-less k m xs (omega arith))) fit);
     }
 
@@ -214,8 +211,7 @@ pub parts-fit : (v : ℕ) (l : Level) (b : Rule) (x : List ℕ) (ps : List (List
 unfolding AreParts
 parts-fit v l b x [] h = (h, All-nil (λ q. HasFit v b q (room_of v l)))
 parts-fit v l b x (p ∷ ps) h =
-    let fits = λ (q : List ℕ). HasFit v b q (room_of v l) in
-    let rest = parts-fit v l b (drop h.0 x) ps h.4 in
+    let fits = λ (q : List ℕ). HasFit v b q (room_of v l) in let rest = parts-fit v l b (drop h.0 x) ps h.4 in
     (sym (rw (h.3, ← rest.0) (take-append-drop h.0 x)), All-cons fits p ps (subst fits (sym h.3) h.2.fits) rest.1)
 
 -- ---- the symbols of parts, one after another

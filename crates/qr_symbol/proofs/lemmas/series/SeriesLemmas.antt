@@ -6,10 +6,9 @@ use Rattle.qr_symbol.proofs.lemmas.{encoding.SymbolMakingLemmas.symbol-fits, rea
 use Rattle.qr_symbol.proofs.lemmas.series.PartLemmas.{parts-are, length-parts, parts-one, parts-some, parts-long}
 use Rattle.qr_symbol.specs.{Joining.{AreReadBy, bytes_of_all, HaveHeaders, IsJoined}, Reading.IsReading}
 use Rattle.qr_symbol.specs.Series.{squares_of, AreParts, IsSymbolOf, AreSymbolsFrom, IsSplit, IsPlainSymbol, IsSeries}
-use Rattle.qr_symbol.specs.Steps.Series.{AreLengths, parts_of}
+use Rattle.{qr_symbol.specs.Steps.Series.{AreLengths, parts_of}, std.proofs.lemmas.List.{append-nil, take-append-drop}}
 use Rattle.qr_symbol.specs.{VersionChoice.{FitsVersion, HasNoVersion}, declared.symbol.Symbol.Symbol}
 use Rattle.std.proofs.Common.{◌≡◌, ℕ, suc, ◌+◌, ◌-◌, ◌*◌, ◌<◌, ◌≤◌, List, [], ◌∷◌, length, None, Some, Option, refl, sym, ap, subst, arith, inl, inr}
-use Rattle.std.proofs.lemmas.List.{append-nil, take-append-drop}
 
 -- ---- what makes a series
 
@@ -73,8 +72,7 @@ symbols-read v l b last parity k x (p ∷ ps) (s ∷ ss) i j cut h =
 lone-joined : (x : List ℕ) (l : Level) (b : Rule) (v : ℕ) (ss : List Symbol) → 1 ≤ v → v ≤ 40 → IsPlainSymbol v l b x ss → IsJoined (squares_of ss) x
 unfolding AreReadBy
 lone-joined x l b v ss i j h =
-    let made = h.made.made in
-    let content : Content = record { header = None; segments = made.segments; bytes = x } in
+    let made = h.made.made in let content : Content = record { header = None; segments = made.segments; bytes = x } in
     subst (λ (ts : List Symbol). IsJoined (squares_of ts) x) (sym h.alone) (record {
       contents = content ∷ [];
       read = (symbol-read v l b x None _ _ i j made, tt);

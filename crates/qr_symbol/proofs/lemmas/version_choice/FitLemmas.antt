@@ -2,8 +2,7 @@
 use Rattle.qr_bits.specs.{Modes.count_width, Padding.capacity_of, Segmentation.{bits, IsLeastSegmentation}}
 use Rattle.qr_bits.specs.declared.{modes.{Mode.Mode, Rule.Rule}, segment.Segment.Segment}
 use Rattle.{qr_layout.specs.declared.level.Level.Level, qr_symbol.specs.VersionChoice.{FitsVersion, IsVersion}}
-use Rattle.std.proofs.Common.{◌≡◌, ℕ, ◌<◌, ◌≤◌, inl, inr, List, [], ◌∷◌, refl, arith}
-use Rattle.std.proofs.lemmas.Bool.{cases_lt}
+use Rattle.std.proofs.{Common.{◌≡◌, ℕ, ◌<◌, ◌≤◌, inl, inr, List, [], ◌∷◌, refl, arith}, lemmas.Bool.cases_lt}
 
 -- Segments have the same number of bits in versions of the same widths.
 bits-same : (u v : ℕ) → ((m : Mode) → count_width u m ≡ count_width v m) → (segs : List Segment) → bits u segs ≡ bits v segs

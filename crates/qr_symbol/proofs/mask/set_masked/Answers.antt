@@ -1,6 +1,5 @@
 use Rattle.qr_matrix.{proofs.Facts.{filled, fill-none, fill-line, fill-all}, specs.Grid.{Grid, colour}}
-use Rattle.qr_symbol.specs.Mask.{inverts, inverted}
-use Rattle.std.proofs.Common.{ℕ, Bool, ◌&&◌, ◌∙◌, ap, refl, arith}
+use Rattle.{qr_symbol.specs.Mask.{inverts, inverted}, std.proofs.Common.{ℕ, Bool, ◌&&◌, ◌∙◌, ap, refl, arith}}
 use Rattle.qr_symbol.proofs.mask.set_masked.Goals as goal
 
 pub loop-row-init : goal.loop-row-init

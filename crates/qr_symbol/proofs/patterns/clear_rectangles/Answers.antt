@@ -5,8 +5,7 @@ use Rattle.qr_symbol.proofs.patterns.clear_rectangles.Goals as goal
 
 pub loop-rectangle-preserved : goal.loop-rectangle-preserved
 loop-rectangle-preserved c =
-    let bs = c.args.rectangles.now in
-    let n = c.loop-rectangle.rectangle-index in
+    let bs = c.args.rectangles.now in let n = c.loop-rectangle.rectangle-index in
     let b = get_or bs n no_rectangle in
     let e = c.loop-rectangle.invariant.so_far in record {
       so_far = over-item (λ b r k. is_in_rectangle r k b) bs n _ c.loop-rectangle-test.true e (over-rectangle _ _ _ _ _ (over-side e) c.fill.ensures);

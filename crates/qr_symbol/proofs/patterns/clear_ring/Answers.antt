@@ -1,5 +1,4 @@
-use Rattle.std.proofs.Common.{ℕ, Bool, eqb, ltb, leb, ◌&&◌, ◌||◌, refl}
-use Rattle.qr_layout.specs.Region.{ring_of}
+use Rattle.{std.proofs.Common.{ℕ, Bool, eqb, ltb, leb, ◌&&◌, ◌||◌, refl}, qr_layout.specs.Region.ring_of}
 use Rattle.qr_symbol.proofs.lemmas.patterns.PaintLemmas.{over-rectangle, over-side, over-twice, ring-sides}
 use Rattle.qr_symbol.proofs.patterns.clear_ring.Goals as goal
 
@@ -9,10 +8,8 @@ inside top bottom left right r c = leb top r && ltb r bottom && leb left c && lt
 
 pub returns : goal.returns
 returns c =
-    let a = c.args.row in
-    let b = c.args.col in
-    let t1 = inside _ a _ _ in
-    let t2 = inside _ _ _ _ in
+    let a = c.args.row in let b = c.args.col in
+    let t1 = inside _ a _ _ in let t2 = inside _ _ _ _ in
     let p1 = over-rectangle _ _ a _ _ refl c.fill.ensures in
     let p2 = over-twice (λ r k. t1 r k || t2 r k) p1 (over-rectangle _ _ _ _ _ (over-side p1) c.fill-2.ensures) (λ r k _ _. refl) in
     let p3 = over-twice (λ r k. (t1 r k || t2 r k) || (inside a _ _ b) r k) p2 (over-rectangle _ a _ _ b (over-side p2) c.fill-3.ensures) (λ r k _ _. refl) in

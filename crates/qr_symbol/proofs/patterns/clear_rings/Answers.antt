@@ -8,8 +8,7 @@ abbrev none : Module
 none = record { row = 0; col = 0 }
 
 pub loop-centre-preserved : goal.loop-centre-preserved
-loop-centre-preserved c =
-    let e = c.loop-centre.invariant.so_far in
+loop-centre-preserved c = let e = c.loop-centre.invariant.so_far in
     record { so_far = over-item (λ m r k. eqb (ring_of m.row m.col r k) 1) c.args.centres.now _ _ c.loop-centre-test.true e (over-sized (over-side e) c.clear_ring.ensures) }
 
 pub returns : goal.returns

@@ -14,10 +14,8 @@ draw_format_bits-requires-3-clause-square c =
 
 pub returns : goal.returns
 returns c =
-    let v = c.args.v in
-    let s = side_of v in
-    let g0 = c.args.matrix.now in
-    let g1 = c.draw_format_bits.new.matrix in
+    let v = c.args.v in let s = side_of v in
+    let g0 = c.args.matrix.now in let g1 = c.draw_format_bits.new.matrix in
     let g2 = c.draw_format_bits-2.new.matrix in
     let part = λ (first end : ℕ) (g : Grid) (r k : ℕ). format_bits_or first end c.args.format (role_of v r k) (colour g r k) in
     c.draw_format_bits-3.ensures ∙ square-same s (part 9 15 g2) (λ r k. format_or c.args.format (role_of v r k) (colour g0 r k)) (λ r k l m.

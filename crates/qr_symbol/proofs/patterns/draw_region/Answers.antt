@@ -34,13 +34,10 @@ fill_alignment-requires c =
 
 pub returns : goal.returns
 returns c =
-    let v = c.args.v in
-    let s = side_of v in
-    let n = c.side-side.result in
-    let fs = c.fixed_rectangles.result.items in
-    let last = c.fill_alignment.ensures in
+    let v = c.args.v in let s = side_of v in
+    let fs = c.fixed_rectangles.result.items in let last = c.fill_alignment.ensures in
     last.square ∙ square-same s (colour c.fill_alignment.new.matrix) (is_in_region v) (λ r k l m.
-    let side : n ≡ s = c.side-side.ensures.value in
-    let t : whole n r k ≡ true = grind (arith, nat_tests) in
+    let side : c.side-side.result ≡ s = c.side-side.ensures.value in
+    let t : whole c.side-side.result r k ≡ true = grind (arith, nat_tests) in
     rw (last.colours r k l m, c.clear_rectangles.ensures.colours r k l m, (all-dark (goal.at.returns c).After-fill).colours r k l m, t, c.as_slice.ensures.value)
     (region-tests (list_any (is_in_rectangle r k) fs) (is_alignment v r k) ∙ sym (region_outside v fs c.fixed_rectangles.ensures r k l m)))

@@ -10,8 +10,7 @@ none = record { row = 0; col = 0 }
 
 pub loop-centre-preserved : goal.loop-centre-preserved
 loop-centre-preserved c =
-    let ms = c.args.centres.now in
-    let n = c.loop-centre.centre-index in
+    let ms = c.args.centres.now in let n = c.loop-centre.centre-index in
     let m = get_or ms n none in
     let e = c.loop-centre.invariant.so_far in record {
       so_far = over-item (λ m r k. is_in_rectangle r k (square_round m)) ms n _ c.loop-centre-test.true e

@@ -3,6 +3,7 @@ use Rattle.qr_layout.specs.{Region.is_corner, Role.role_of, Version.side_of}
 use Rattle.qr_matrix.{proofs.Facts.square-same, specs.Grid.Grid, specs.Grid.colour}
 use Rattle.qr_symbol.specs.Steps.Patterns.{format_or, paint_of, IsOver}
 use Rattle.qr_symbol.proofs.lemmas.patterns.CornerLemmas.{begun, corners-done, dark-painted, timing-left, timing-top}
+use Rattle.qr_symbol.proofs.lemmas.patterns.FinderLemmas.{near-corner, near-right, near-below}
 use Rattle.qr_symbol.proofs.lemmas.patterns.PaintLemmas.{over-is, over-place, over-side, over-twice}
 use Rattle.qr_symbol.proofs.patterns.paint_corners.Goals.{After-paint_finder-3, After-set-3}
 use Rattle.qr_symbol.proofs.patterns.paint_corners.Goals as goal
@@ -13,6 +14,15 @@ three-side c = over-side (c.paint_finder-3.ensures c.args.format)
 
 abbrev side : Grid → ℕ
 side g = g.side
+
+pub paint_finder-requires-clause-nearest : goal.paint_finder-requires-clause-nearest
+paint_finder-requires-clause-nearest c = λ r k. near-corner _ r k (omega arith)
+
+pub paint_finder-requires-2-clause-nearest : goal.paint_finder-requires-2-clause-nearest
+paint_finder-requires-2-clause-nearest c = rw c.side-side.ensures.value (λ r k. near-right _ r k (omega arith))
+
+pub paint_finder-requires-3-clause-nearest : goal.paint_finder-requires-3-clause-nearest
+paint_finder-requires-3-clause-nearest c = rw c.side-side.ensures.value (λ r k. near-below _ r k (omega arith))
 
 pub paint_finder-requires-2-clause-square : goal.paint_finder-requires-2-clause-square
 paint_finder-requires-2-clause-square c = (c.paint_finder.ensures c.args.format).square
@@ -37,8 +47,7 @@ set-requires-3 c =
 all-begun : (c : After-set-3) → IsOver (side_of c.args.v) (begun c.side-side.result) (paint_of c.args.v c.args.format)
     (colour c.args.matrix.now) c.set-3.new.self
 all-begun c =
-    let v = c.args.v in
-    let f = c.args.format in
+    let v = c.args.v in let f = c.args.format in
     let p = paint_of v f in
     let p3 = over-twice _ (over-twice _ (c.paint_finder.ensures f) (c.paint_finder-2.ensures f) (λ _ _ _ _. refl)) (c.paint_finder-3.ensures f) (λ _ _ _ _. refl) in
     let p4 = over-twice _ p3 (over-place p _ _ 8 6 _ (over-side p3) (timing-left v f (omega arith)) c.set.ensures) (λ _ _ _ _. refl) in
@@ -50,8 +59,7 @@ draw_format-requires c = (all-begun (goal.at.draw_format-requires c).After-set-3
 
 pub returns : goal.returns
 returns c =
-    let v = c.args.v in
-    let z = c.side-side.ensures.value in
+    let v = c.args.v in let z = c.side-side.ensures.value in
     let all = all-begun (goal.at.returns c).After-set-3 in
     over-is (is_corner (side_of v)) (paint_of v c.args.format) (colour c.args.matrix.now) (
     c.draw_format.ensures ∙ square-same (side_of v) (λ r k. format_or c.args.format (role_of v r k) (colour c.set-3.new.self r k)) (λ r k. cond (is_corner (side_of v) r k) (paint_of v c.args.format r k) (colour c.args.matrix.now r k)) (λ r k l m.

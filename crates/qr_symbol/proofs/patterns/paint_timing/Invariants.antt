@@ -1,6 +1,5 @@
 use Rattle.{qr_layout.specs.Version.side_of, qr_matrix.specs.Grid.colour}
-use Rattle.qr_symbol.specs.Steps.Patterns.{paint_of, IsOver}
-use Rattle.std.proofs.Common.{◌≡◌, ℕ, ◌&&◌, ◌||◌, eqb, ltb}
+use Rattle.{qr_symbol.specs.Steps.Patterns.{paint_of, IsOver}, std.proofs.Common.{◌≡◌, ℕ, ◌&&◌, ◌||◌, eqb, ltb}}
 use Rattle.qr_symbol.proofs.patterns.paint_timing.Given as goal
 
 abbrev pub invariant-loop-at : goal.invariant-loop-at

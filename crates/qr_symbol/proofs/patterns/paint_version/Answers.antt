@@ -12,22 +12,18 @@ loop-bit-init c = record {
 
 pub loop-bit-preserved : goal.loop-bit-preserved
 loop-bit-preserved c =
-    let v = c.args.v in
-    let s = side_of v in
-    let n = c.loop-bit.bit in
-    let i = c.loop-bit.invariant in
-    let g = c.loop-bit.matrix in
-    let g1 = c.set.new.self in
-    let d = c.is_bit_set-dark.result in
+    let v = c.args.v in let s = side_of v in
+    let n = c.loop-bit.bit in let i = c.loop-bit.invariant in
+    let g = c.loop-bit.matrix in let d = c.is_bit_set-dark.result in
     let bit : d ≡ has_bit (version_word_of v) n = c.is_bit_set-dark.ensures ∙ ap (λ (z : ℕ). has_bit z n) c.in-Some.ensures.1 in
     let set1 = rw c.side-left.ensures.value at c.set.ensures in
     let set2 = rw c.side-left.ensures.value at c.set-in-loop-bit.ensures in
     let first = λ (f : ℕ). over-twice (λ r k. version_drawn s n r k || (eqb r _ && eqb k _)) (i.painted f)
-    (over-place _ g g1 _ _ d i.side (bit ∙ version-here v f n (omega arith) (omega arith) (omega arith)) set1) (λ _ _ _ _. refl) in
+    (over-place _ g c.set.new.self _ _ d i.side (bit ∙ version-here v f n (omega arith) (omega arith) (omega arith)) set1) (λ _ _ _ _. refl) in
     record {
       side = ap (λ (g : Grid). g.side) set2 ∙ (ap (λ (g : Grid). g.side) set1 ∙ i.side);
       painted = λ f. over-twice (version_drawn s _) (first f)
-          (over-place _ g1 c.set-in-loop-bit.new.self _ _ d (over-side (first f)) (bit ∙ version-there v f n (omega arith) (omega arith) (omega arith)) set2)
+          (over-place _ c.set.new.self c.set-in-loop-bit.new.self _ _ d (over-side (first f)) (bit ∙ version-there v f n (omega arith) (omega arith) (omega arith)) set2)
           (λ r k _ _. version-more s n r k (omega arith));
     }
 

@@ -1,6 +1,5 @@
-use Rattle.{qr_layout.specs.Version.side_of, qr_matrix.specs.Grid.colour}
+use Rattle.{qr_layout.specs.Version.side_of, qr_matrix.specs.Grid.colour, std.proofs.Common.{◌≡◌, ℕ}}
 use Rattle.qr_symbol.{proofs.lemmas.patterns.VersionLemmas.version_drawn, specs.Steps.Patterns.{paint_of, IsOver}}
-use Rattle.std.proofs.Common.{◌≡◌, ℕ}
 use Rattle.qr_symbol.proofs.patterns.paint_version.Given as goal
 
 abbrev pub invariant-loop-bit : goal.invariant-loop-bit

@@ -1,5 +1,4 @@
-use Rattle.std.proofs.Common.{sym, subst, arith}
-use Rattle.qr_layout.specs.Order.{IsOrder}
+use Rattle.{std.proofs.Common.{sym, subst, arith}, qr_layout.specs.Order.IsOrder}
 use Rattle.qr_symbol.proofs.lemmas.placement.WalkLemmas.{walked-start, walked-in, walked-step, walked-small, walked-end}
 use Rattle.qr_symbol.proofs.placement.draw_along_walk.Goals as goal
 
@@ -10,11 +9,9 @@ loop-module-init c = record {
   walked = walked-start _ _ _ _ _ c.requires (subst (IsOrder _) (sym c.into_iter-module-iterator.ensures.into_iter_gives) c.walk-module-items.ensures.order);
 }
 
-pub set-requires-clause-row_in : goal.set-requires-clause-row_in
-set-requires-clause-row_in c = (walked-in _ _ _ _ _ _ _ _ _ _ c.loop-module.invariant.walked c.in-Some.ensures.steps).0
-
-pub set-requires-clause-col_in : goal.set-requires-clause-col_in
-set-requires-clause-col_in c = (walked-in _ _ _ _ _ _ _ _ _ _ c.loop-module.invariant.walked c.in-Some.ensures.steps).1
+pub set-requires : goal.set-requires
+set-requires c = let inside = walked-in _ _ _ _ _ _ _ _ _ _ c.loop-module.invariant.walked c.in-Some.ensures.steps in
+    record { row_in = inside.0; col_in = inside.1 }
 
 pub overflow_add-number : goal.overflow_add-number
 overflow_add-number c =

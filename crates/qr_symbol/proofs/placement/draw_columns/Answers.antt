@@ -2,16 +2,14 @@ use Rattle.{qr_bits.proofs.Facts.bool_byte-bit, qr_layout.specs.Version.side_of}
 use Rattle.qr_symbol.proofs.lemmas.placement.ColumnLemmas.{rows-drawn, rows-none}
 use Rattle.qr_symbol.proofs.lemmas.placement.LightLemmas.{kept-light, kept-within}
 use Rattle.qr_symbol.proofs.placement.draw_columns.Goals.{then-number-next, else-number-next, After-draw_rows-2}
-use Rattle.qr_symbol.specs.Steps.Placement.{AreNext, IsCodewordBits}
+use Rattle.qr_symbol.specs.Steps.Placement.{number_at, AreNext, IsCodewordBits}
 use Rattle.std.proofs.Common.{◌≡◌, ◌+◌, ◌-◌, ◌*◌, ◌≤◌, refl, subst, arith}
 use Rattle.qr_symbol.proofs.placement.draw_columns.Goals as goal
 
 pub loop-group-init : goal.loop-group-init
 loop-group-init c =
-    let cw = c.args.codewords.now in
-    let w = c.codeword_bits_at-next in
-    let rows = c.draw_rows in
-    let e : 0 + c.from-before.result ≡ c.from-before.result + 0 = omega arith in
+    let cw = c.args.codewords.now in let w = c.codeword_bits_at-next in
+    let rows = c.draw_rows in let e : 0 + c.from-before.result ≡ c.from-before.result + 0 = omega arith in
     let one = (bool_byte-bit c.args.strip.upward).0 in record {
       next = w.ensures.bits;
       least = omega (arith, w.ensures.least);
@@ -26,8 +24,7 @@ draw_four-requires-clause-light c = kept-light c.args.region.now c.loop-group.in
 
 pub loop-group-preserved : goal.loop-group-preserved
 loop-group-preserved c =
-    let cw = c.args.codewords.now in
-    let i = c.loop-group.invariant in
+    let cw = c.args.codewords.now in let i = c.loop-group.invariant in
     let number = c.loop-group.number + c.from-number.result in
     let small : c.from-before.result ≤ 1 = omega (arith, c.from-before.ensures, (bool_byte-bit c.args.strip.upward).0) in
     let four = c.draw_four in
@@ -54,20 +51,12 @@ at-end c =
     let small : c.from-before.result ≤ 1 = omega (arith, c.from-before.ensures, (bool_byte-bit c.args.strip.upward).0) in
     (omega (arith, c.loop-group-test.false, c.side-last.ensures.value), omega (arith, c.loop-group-test.false, c.side-last.ensures.value))
 
-pub returns-clause-number : goal.returns-clause-number
-returns-clause-number c =
-    let e = at-end (goal.at.returns-clause-number c).After-draw_rows-2 in
-    let number = rw (e.0, e.1) at (c.draw_rows-2.ensures.number c.args.first) in
-    omega (arith, number, c.loop-group.invariant.number, c.from-2.ensures)
-
-pub returns-clause-drawn : goal.returns-clause-drawn
-returns-clause-drawn c =
-    let cw = c.args.codewords.now in
-    let i = c.loop-group.invariant in
-    let e = at-end (goal.at.returns-clause-drawn c).After-draw_rows-2 in
+pub returns : goal.returns
+returns c =
+    let cw = c.args.codewords.now in let i = c.loop-group.invariant in
+    let e = at-end (goal.at.returns c).After-draw_rows-2 in
+    let rows = rw (e.0, e.1) at (c.draw_rows-2.ensures.number c.args.first) in
+    let number : c.loop-group.number + c.from-2.result ≡ number_at c.args.v c.args.strip c.args.first (side_of c.args.v) = omega (arith, rows, i.number, c.from-2.ensures) in
     let next = subst (λ n. AreNext cw n c.eight_bits-bits-2.result) i.number (c.eight_bits-bits-2.ensures cw i.next) in
-    let rows = c.draw_rows-2.ensures.drawn cw c.args.first in
-    rows-drawn i.drawn (rows (rw e.0 next)) (omega (arith, e.0)) (omega (arith, e.1)) (omega (arith, e.0, e.1))
-
-pub returns-clause-within : goal.returns-clause-within
-returns-clause-within c = kept-within (returns-clause-drawn c) c.requires.within
+    let drawn = rows-drawn i.drawn (c.draw_rows-2.ensures.drawn cw c.args.first (rw e.0 next)) (omega (arith, e.0)) (omega (arith, e.1)) (omega (arith, e.0, e.1)) in
+    record { within = kept-within drawn c.requires.within; number = number; drawn = drawn }

@@ -1,6 +1,5 @@
 use Rattle.std.proofs.Common.{◌≡◌, ◌+◌, ◌-◌, subst, arith}
-use Rattle.qr_layout.specs.Version.{side_of}
-use Rattle.qr_symbol.specs.Steps.Placement.{number_at, row_of, AreDrawn}
+use Rattle.{qr_layout.specs.Version.side_of, qr_symbol.specs.Steps.Placement.{number_at, row_of, AreDrawn}}
 use Rattle.qr_symbol.proofs.lemmas.placement.ColumnLemmas.{row-drawn, row-number, rows-drawn, rows-none}
 use Rattle.qr_symbol.proofs.placement.draw_rows.Goals as goal
 
@@ -14,14 +13,10 @@ loop-rank-init c = record {
 
 pub loop-rank-preserved : goal.loop-rank-preserved
 loop-rank-preserved c =
-    let v = c.args.v in
-    let s = side_of v in
-    let x = c.args.strip in
-    let i = c.loop-rank.invariant in
-    let k = c.loop-rank.rank in
-    let row = c.row_at-row.result in
-    let one = c.draw_module-taken in
-    let two = c.draw_module-taken-in-loop-rank in
+    let v = c.args.v in let s = side_of v in
+    let x = c.args.strip in let i = c.loop-rank.invariant in
+    let k = c.loop-rank.rank in let row = c.row_at-row.result in
+    let one = c.draw_module-taken in let two = c.draw_module-taken-in-loop-rank in
     let side : c.side-last.result - 1 + 1 ≡ s = omega (arith, c.side-last.ensures.value) in
     let r : row ≡ row_of s x k = rw side at c.row_at-row.ensures.row in
     let at = c.requires.region row (omega (arith, c.row_at-row.ensures.most)) in record {

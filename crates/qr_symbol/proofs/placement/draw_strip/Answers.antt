@@ -28,12 +28,9 @@ draw_columns-next-requires-else-upward-clause-light c = λ rank k l.
 
 pub returns : goal.returns
 returns c =
-    let v = c.args.v in
-    let s = side_of v in
-    let cw = c.args.codewords.now in
-    let x = c.args.strip in
-    let g = c.args.across.now in
-    let old = c.with_light_region-columns.result in
+    let v = c.args.v in let s = side_of v in
+    let cw = c.args.codewords.now in let x = c.args.strip in
+    let g = c.args.across.now in let old = c.with_light_region-columns.result in
     let is-drawn = λ (next : ℕ) (new : Columns) (up : Bool). (next ≡ number_at v (record { right = x.right; upward = up }) c.args.first s) × AreDrawn v cw (record { right = x.right; upward = up }) c.args.first 0 s old new in
     let drawn : (c.if-upward.next ≡ number_at v x c.args.first s) × AreDrawn v cw x c.args.first 0 s old c.if-upward.columns = elim c.if-upward.branch [
       | then-upward w ↦ (let e = w.draw_columns-next.ensures in rw (w.columns-is, w.next-is) (subst (is-drawn w.draw_columns-next.result w.draw_columns-next.new.columns) (sym w.if-upward.true) (e.number, e.drawn)))

@@ -1,5 +1,4 @@
-use Rattle.std.proofs.Common.{ap, sym, ◌∙◌, arith}
-use Rattle.qr_matrix.specs.BitRow.{has_bit}
+use Rattle.{std.proofs.Common.{ap, sym, ◌∙◌, arith}, qr_matrix.specs.BitRow.has_bit}
 use Rattle.qr_symbol.proofs.lemmas.placement.BitLemmas.{codewords-more, codewords-fits, codewords-room}
 use Rattle.qr_symbol.proofs.placement.last_codewords.Goals as goal
 

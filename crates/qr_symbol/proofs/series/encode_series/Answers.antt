@@ -1,61 +1,36 @@
-use Rattle.std.proofs.Common.{◌<◌, inl, inr, List, [], ◌∷◌, ◌++◌, length, refl, sym, ◌∙◌, ap, arith, rules}
-use Rattle.std.proofs.lemmas.{Bool.eqb-true, Bool.Decides.nat_tests, List.nil_from_length, Option.MatchOption-at_some}
-use Rattle.std.proofs.lemmas.Result.{IfOk-weaker, IfErr-weaker}
-use Rattle.qr_symbol.proofs.lemmas.fault.ExactLemmas.{too-many-exactly, memory-alone}
-use Rattle.qr_symbol.proofs.lemmas.series.{LongLemmas.none-shorter, PartLemmas.lengths-some}
-use Rattle.qr_symbol.proofs.lemmas.series.SeriesLemmas.{lone-series, split-series, series-joined}
-use Rattle.qr_symbol.proofs.lemmas.series.SizeLemmas.{series-shortest}
-use Rattle.qr_symbol.specs.{Series.HasNoSeries, VersionChoice.FitsVersion, declared.symbol.Symbol.Symbol}
+use Rattle.std.proofs.Common.{◌≡◌, ◌≤◌, inl, inr, length, Err, refl, sym, ap, ◌∙◌, arith}
+use Rattle.std.proofs.{Math.Nat.pos_of_ne-zero, lemmas.{Bool.{eqb-false, eqb-true}, List.nil_from_length}}
+use Rattle.std.proofs.lemmas.Result.{IfOk-weaker, MatchResult-at_err, MatchResult-weaker}
+use Rattle.qr_symbol.proofs.lemmas.fault.ExactLemmas.{empty-has-series, empty-many, neither, too-many-exactly}
+use Rattle.qr_symbol.proofs.lemmas.series.{LongLemmas.none-shorter, SeriesLemmas.series-joined, SizeLemmas.series-shortest}
+use Rattle.qr_symbol.specs.declared.fault.EncodeFault.TheVariants as fault
 use Rattle.qr_symbol.proofs.series.encode_series.Goals as goal
 
-pub returns-in-Some-clause-series : goal.returns-in-Some-clause-series
-returns-in-Some-clause-series c = lone-series _ _ _ _ _ _
-    (MatchOption-at_some _ _ c.in-Some.symbol c.in-Some.is c.in_ok-symbol.ensures.symbol)
-    (c.in_ok-push.ensures.items ∙ ap (λ (ss : List Symbol). ss ++ c.in-Some.symbol ∷ []) c.new-symbols.ensures.items)
+pub returns-then-is_empty : goal.returns-then-is_empty
+returns-then-is_empty c =
+    let none = nil_from_length c.args.input.now (eqb-true (length _) 0 (sym c.is_empty.ensures ∙ c.if-is_empty.true)) in record {
+      series = tt;
+      joined = tt;
+      shortest = tt;
+      empty = (λ _. none, λ _. refl);
+      too_many = (λ e. absurd (empty-many e), λ w. absurd (empty-has-series _ _ _ _ none w.1));
+      no_shorter = λ e. absurd (empty-many e);
+      fault = inl refl;
+    }
 
-pub returns-in-Some-clause-joined : goal.returns-in-Some-clause-joined
-returns-in-Some-clause-joined c = series-joined _ _ _ _ _ (omega arith) (omega arith) (returns-in-Some-clause-series c)
-
-pub part_symbols-requires-clause-some : goal.part_symbols-requires-clause-some
-part_symbols-requires-clause-some c =
-    let some : 0 < length c.args.input.now = grind (arith, nat_tests) in
-    let more = lengths-some c.args.version c.args.level c.args.rule c.args.input.now c.in_ok-lengths.lengths.items c.in_ok-lengths.ensures.parts some in
-    omega (arith, ap length c.as_slice.ensures.value)
-
-pub returns-clause-series : goal.returns-clause-series
-returns-clause-series c =
-    let long : FitsVersion c.args.version c.args.level c.args.rule c.args.input.now → ⊥ = search rules in
-    IfOk-weaker c.part_symbols.result _ _ (λ ss made.
-    split-series c.args.input.now c.args.level c.args.rule c.args.version c.as_slice.result.now ss.items long (rw c.as_slice.ensures.value c.in_ok-lengths.ensures.parts) (omega arith) made)
-    c.part_symbols.ensures.made
-
-pub returns-clause-joined : goal.returns-clause-joined
-returns-clause-joined c =
-    IfOk-weaker c.part_symbols.result _ _ (λ ss series. series-joined c.args.input.now c.args.level c.args.rule c.args.version ss.items (omega arith) (omega arith) series) (returns-clause-series c)
-
-pub returns-in-Some-clause-shortest : goal.returns-in-Some-clause-shortest
-returns-in-Some-clause-shortest c =
-    λ plain. series-shortest c.args.input.now c.args.level c.args.rule c.args.version c.push.new.self.items plain (grind (arith, nat_tests)) (returns-in-Some-clause-series c)
-
-pub returns-clause-shortest : goal.returns-clause-shortest
-returns-clause-shortest c =
-    IfOk-weaker c.part_symbols.result _ _ (λ ss series plain. series-shortest c.args.input.now c.args.level c.args.rule c.args.version ss.items plain (grind (arith, nat_tests)) series) (returns-clause-series c)
-
-pub returns-then-is_empty-clause-too_many : goal.returns-then-is_empty-clause-too_many
-returns-then-is_empty-clause-too_many c = too-many-exactly _ _ _ _ _ (λ e. cc) tt
-    (λ _. nil_from_length c.args.input.now (eqb-true (length _) 0 (sym c.is_empty.ensures ∙ c.if-is_empty.true))) (inl refl)
-
-pub returns-in-Some-clause-too_many : goal.returns-in-Some-clause-too_many
-returns-in-Some-clause-too_many c =
-    too-many-exactly _ _ _ _ _ (λ e. cc) (returns-in-Some-clause-series c) (λ e. cc) tt
-
-pub returns-clause-too_many : goal.returns-clause-too_many
-returns-clause-too_many c = too-many-exactly _ _ _ _ _
-    (λ e. absurd (memory-alone _ _ (λ f. cc) c.part_symbols.ensures.fault e)) (returns-clause-series c)
-    (λ e. absurd (memory-alone _ _ (λ f. cc) c.part_symbols.ensures.fault e))
-    (IfErr-weaker _ _ _ (λ e f. inr (inr f)) c.part_symbols.ensures.fault)
-
-pub returns-in_err-lengths-clause-no_shorter : goal.returns-in_err-lengths-clause-no_shorter
-returns-in_err-lengths-clause-no_shorter c = λ e plain.
-    let none : HasNoSeries c.args.version c.args.level c.args.rule c.args.input.now = search rules in
-    none-shorter c.args.input.now c.args.level c.args.rule c.args.version (omega arith) (omega arith) plain none
+pub returns : goal.returns
+returns c =
+    let least : 1 ≤ c.args.version = omega arith in let most : c.args.version ≤ 40 = omega arith in
+    let long = eqb-false (length c.args.input.now) 0 (sym c.is_empty.ensures ∙ c.if-is_empty.false) in
+    let r = c.series_of.result in
+    let empty : r ≡ Err fault.Empty → ⊥ = λ e. neither (λ h. cc) (λ h. cc) (MatchResult-at_err _ _ _ e c.series_of.ensures) in
+    let series = MatchResult-weaker r c.series_of.ensures (λ ss h. h) (λ e _. tt) in
+    let many = too-many-exactly _ _ _ _ r c.series_of.ensures in record {
+      series = series;
+      joined = IfOk-weaker r _ _ (λ ss h. series-joined _ _ _ _ ss.items least most h) series;
+      shortest = IfOk-weaker r _ _ (λ ss h plain. series-shortest _ _ _ _ ss.items plain (pos_of_ne-zero long) h) series;
+      empty = (λ e. absurd (empty e), λ e. absurd (long (ap length e)));
+      too_many = many;
+      no_shorter = λ e plain. none-shorter _ _ _ _ least most plain (many.0 e).1;
+      fault = MatchResult-weaker r c.series_of.ensures (λ ss _. tt) (λ e w. elim w [ inl m ↦ inr (inr m) | inr h ↦ inr (inl h.0) ]);
+    }

@@ -1,31 +1,26 @@
 use Rattle.std.proofs.Common.{◌≡◌, ◌≤◌, ℕ, Option, inl, inr, sym, ◌∙◌, ap, subst, ◌+◌, arith}
-use Rattle.std.{proofs.lemmas.Bool.cases_lt, specs.Option.SomeIff}
-use Rattle.qr_layout.specs.declared.version.Version.{Version}
+use Rattle.{std.{proofs.lemmas.Bool.cases_lt, specs.Option.SomeIff}, qr_layout.specs.declared.version.Version.Version}
 use Rattle.qr_bits.{proofs.Facts.least_fits, proofs.Facts.covers_all, specs.Segmentation.bits}
 use Rattle.qr_symbol.proofs.lemmas.version_choice.FitLemmas.{segmentation-same, version-found, none-fits}
 use Rattle.qr_symbol.proofs.version_choice.least_fit.Goals as goal
 
 pub loop-segments-init : goal.loop-segments-init
 loop-segments-init c =
-    let first = c.unwrap-first.result in
     let found = subst (λ (o : Option Version). SomeIff o ((1 ≤ c.max.result) × (c.max.result ≤ 40)) c.max.result) c.unwrap-first.ensures c.new.ensures in
-    let e : first ≡ c.max.result = found.1 in
+    let e : c.unwrap-first.result ≡ c.max.result = found.1 in
     let least = c.number.ensures.least in record {
       from = omega arith;
       none = λ v a b fits. c.first_for.ensures.none v c.args.level (omega arith) (omega arith) fits;
     }
 
 pub bit_len-requires : goal.bit_len-requires
-bit_len-requires c =
-    let all = covers_all _ _ (least_fits _ _ _ _ c.in_ok-segments.ensures.ok).0 in
+bit_len-requires c = let all = covers_all _ _ (least_fits _ _ _ _ c.in_ok-segments.ensures.ok).0 in
     rw c.deref.ensures.value (record { nonempty = all.0; short = omega (arith, all.1, c.requires) })
 
 pub returns-in-Some-clause-version : goal.returns-in-Some-clause-version
 returns-in-Some-clause-version c =
-    let u : ℕ = c.loop-segments.first in
-    let v : ℕ = c.in-Some.version in
-    let segs = c.in_ok-segments.segments.items in
-    let found = c.in-Some.ensures in
+    let u : ℕ = c.loop-segments.first in let v : ℕ = c.in-Some.version in
+    let segs = c.in_ok-segments.segments.items in let found = c.in-Some.ensures in
     let same = c.last_of_width-last.ensures.same in
     let many : c.bit_len.result ≡ bits u segs = c.bit_len.ensures ∙ ap (bits u) c.deref.ensures.value in
     version-found _ _ _ _ u v _ c.loop-segments.invariant.from found.0 (omega arith) c.loop-segments.invariant.none
@@ -38,8 +33,7 @@ returns-in-Some-clause-segments c =
 
 pub returns-in-None-clause-too_long : goal.returns-in-None-clause-too_long
 returns-in-None-clause-too_long c =
-    let u : ℕ = c.loop-segments.first in
-    let segs = c.in_ok-segments.segments.items in
+    let u : ℕ = c.loop-segments.first in let segs = c.in_ok-segments.segments.items in
     let many : c.bit_len.result ≡ bits u segs = c.bit_len.ensures ∙ ap (bits u) c.deref.ensures.value in
     let last = c.last_of_width-last.result in λ _ v a b.
     none-fits c.args.input.now c.args.level c.args.smallest c.args.rule u (last + 1) segs c.loop-segments.invariant.none
@@ -49,11 +43,9 @@ returns-in-None-clause-too_long c =
 
 pub loop-segments-preserved : goal.loop-segments-preserved
 loop-segments-preserved c =
-    let u : ℕ = c.loop-segments.first in
-    let segs = c.in_ok-segments.segments.items in
+    let u : ℕ = c.loop-segments.first in let segs = c.in_ok-segments.segments.items in
     let many : c.bit_len.result ≡ bits u segs = c.bit_len.ensures ∙ ap (bits u) c.deref.ensures.value in
     let last = c.last_of_width-last.result in
-    let next = c.in-Some-new.ensures.1 in
     let from = c.last_of_width-last.ensures.least in record {
       from = let start = c.loop-segments.invariant.from in omega arith;
       none = λ v a b.

@@ -4,8 +4,7 @@ use Rattle.qr_symbol.proofs.canvas.Canvas.draw_data.Goals as goal
 
 pub invariant_of-self : goal.invariant_of-self
 invariant_of-self c =
-    let v = c.args.self.now.version in
-    let cw = c.args.codewords.now in
+    let v = c.args.self.now.version in let cw = c.args.codewords.now in
     let patterns = subst (HasPatterns v) (sym c.swap.ensures.y_after) c.args.self.now.patterns in record {
       region_is = c.args.self.now.region_is;
       patterns = patterns-kept v cw _

@@ -10,8 +10,7 @@ set_masked-requires-clause-square c =
     subst (λ s. IsSquare s c.args.matrix.now) (sym (ap (λ (g : Grid). g.side) c.requires.square)) c.requires.square
 
 pub draw_format-requires : goal.draw_format-requires
-draw_format-requires c =
-    let f = λ (r k : ℕ). inverted (colour _ r k && inverts c.args.mask r k) (colour _ r k) in
+draw_format-requires c = let f = λ (r k : ℕ). inverted (colour _ r k && inverts c.args.mask r k) (colour _ r k) in
     square-is _ f _ (c.set_masked.ensures ∙ ap (λ s. square s f) (ap (λ (g : Grid). g.side) c.requires.square))
 
 pub returns : goal.returns

@@ -1,5 +1,5 @@
-use Rattle.std.proofs.Common.{◌≡◌, append-nil, arith}
-use Rattle.qr_bits.{specs.Bits.field, proofs.Facts.field-more, proofs.Facts.bits_of-more}
+use Rattle.std.proofs.{Common.{◌≡◌, ◌^◌, ◌∙◌, add-one, ap, append-nil, arith}, Math.Nat.pow-suc}
+use Rattle.qr_bits.{specs.Bits.field, proofs.Facts.{bits_of-more, bool_byte-bit, field-more}}
 use Rattle.qr_symbol.proofs.collecting.Collector.push_bit.Goals as goal
 
 pub returns-then-self-lt7 : goal.returns-then-self-lt7
@@ -8,6 +8,9 @@ returns-then-self-lt7 c = rw (← c.self.view_is) (field-more _ c.self.inside.wi
 pub returns : goal.returns
 unfolding field
 returns c =
-    let w = c.self.inside in
-    let seven : 7 ≡ w.width = omega (arith, c.if-self-lt7.false, c.self.invariant.0) in
+    let w = c.self.inside in let seven : 7 ≡ w.width = omega (arith, c.if-self-lt7.false, c.self.invariant.0) in
     rw (← c.self.view_is, append-nil, c.in_ok-push.ensures.items, ← seven) (bits_of-more w.whole.items w.rest _ _ c.from.ensures)
+
+pub invariant_of-self : goal.invariant_of-self
+invariant_of-self c = let i = c.self.invariant in let e = ap (λ n. 2 ^ n) (add-one c.self.inside.width) ∙ pow-suc 2 _ in
+    (omega arith, omega (arith, e, i.1, c.from.ensures, (bool_byte-bit c.args.dark).0), i.2)

@@ -4,9 +4,7 @@ use Rattle.std.{proofs.lemmas.{List.Elements.All-push, Nat.{div_below, pow_pos}}
 use Rattle.qr_symbol.proofs.collecting.Collector.push_byte.Goals as goal
 
 pub invariant_of-self-2 : goal.invariant_of-self-2
-invariant_of-self-2 c =
-    let w = c.self.inside in
-    let n = 256 * c.from.result + c.from-2.result in
+invariant_of-self-2 c = let w = c.self.inside in let n = 256 * c.from.result + c.from-2.result in
     rw (power-fits w.width 7 65536 (omega (arith, c.self.invariant.0)) (omega arith)) (
       c.self.invariant.0,
       mod-lt n (pow_pos w.width),
@@ -14,8 +12,6 @@ invariant_of-self-2 c =
     )
 
 pub returns : goal.returns
-returns c =
-    let w = c.self.inside in
-    let n = 256 * c.from.result + c.from-2.result in
-    rw (power-fits w.width 7 65536 (omega (arith, c.self.invariant.0)) (omega arith))
+returns c = let n = 256 * c.from.result + c.from-2.result in
+    rw (power-fits c.self.inside.width 7 65536 (omega (arith, c.self.invariant.0)) (omega arith))
     (rw (← c.self.view_is) (rw c.in_ok-push.ensures.items (byte-behind _ _ _ _ n (omega (arith, c.ranges.byte.fits)) (omega (arith, c.from.ensures, c.from-2.ensures)))))

@@ -1,0 +1,43 @@
+use Rattle.std.proofs.Common.{◌≡◌, get_or, [], ◌∷◌, drop, length, ◌∙◌, ap, length-append, arith}
+use Rattle.std.proofs.lemmas.{List.{append-nil, drop_all, length-drop}, Result.err_from_is_err_and}
+use Rattle.qr_symbol.proofs.lemmas.series.PartLemmas.{lengths-at, symbols-more, symbols-none}
+use Rattle.qr_symbol.proofs.series.symbols_on.Goals as goal
+
+pub split_at-requires : goal.split_at-requires
+split_at-requires c = let next = lengths-at _ _ _ _ _ _ c.loop-len-test.true c.loop-len.invariant.rest in next.0.inside
+
+pub part_symbol-requires-clause-fits : goal.part_symbol-requires-clause-fits
+part_symbol-requires-clause-fits c = let next = lengths-at _ _ _ _ _ _ c.loop-len-test.true c.loop-len.invariant.rest in
+    rw (c.loop-len.invariant.version, c.loop-len.invariant.level, c.split_at.ensures.front) next.0.fits
+
+pub loop-len-preserved : goal.loop-len-preserved
+loop-len-preserved c =
+    let l = c.args.canvas.now.level in let rest = c.loop-len.rest.now in
+    let ns = c.args.lengths.now in let i = c.loop-len.len-index in
+    let inv = c.loop-len.invariant in
+    let next = lengths-at c.args.canvas.now.version l c.args.rule _ ns i c.loop-len-test.true inv.rest in
+    let s = c.in_ok-symbol.symbol in
+    let made = rw (inv.version, inv.level, c.split_at.ensures.front, c.len.ensures, inv.count, c.parity-parity.ensures) at c.in_ok-symbol.ensures.made in
+    let less = length-drop (get_or ns i 0) rest in rw (c.in_ok-push.ensures.items, c.split_at.ensures.back) (record {
+      version = c.part_symbol.ensures.version ∙ inv.version;
+      level = c.part_symbol.ensures.level ∙ inv.level;
+      short = omega (arith, inv.short);
+      count = omega (arith, ap length c.in_ok-push.ensures.items, length-append c.loop-len.symbols.items (s ∷ []));
+      rest = next.1;
+      made = symbols-more c.args.canvas.now.version l c.args.rule _ _ i _ ns _ _ s c.loop-len-test.true made inv.made;
+    })
+
+pub returns : goal.returns
+returns c =
+    let ns = c.args.lengths.now in
+    let none : drop c.loop-len.len-index ns ≡ [] = drop_all _ ns c.loop-len-test.false in
+    let all = c.loop-len.invariant.made [] (rw none (symbols-none _ _ _ _ _ _ _)) in rw append-nil at all
+
+pub returns-in_err-symbol : goal.returns-in_err-symbol
+returns-in_err-symbol c =
+    let p = err_from_is_err_and c.from_residual-in_err-symbol.result c.from_residual-in_err-symbol.ensures.1 in
+    rw (p.1, p.2) c.in_err-symbol.ensures.made
+
+pub returns-in_err-push : goal.returns-in_err-push
+returns-in_err-push c =
+    let p = err_from_is_err_and c.from_residual-in_err-push.result c.from_residual-in_err-push.ensures.1 in rw p.1 p.2
