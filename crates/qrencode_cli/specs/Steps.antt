@@ -1,3 +1,4 @@
 -- Steps of the code. Only private contracts use them.
+pub mod Arguments
 pub mod Command
 pub mod Fault
