@@ -2,8 +2,11 @@ use Rattle.std.proofs.Common.{refl}
 use Rattle.std.proofs.lemmas.Result.{err_from_is_err_and}
 use Rattle.qr_drawing.specs.{Svg.closing, Steps.Svg.tail}
 use Rattle.qr_drawing.proofs.lemmas.svg.PathLemmas.{document-parts}
-use Rattle.qr_drawing.proofs.lemmas.pen.WritingLemmas.{formed, stops_between, stops_first, writes_on, writes_stop}
+use Rattle.qr_drawing.proofs.lemmas.pen.WritingLemmas.{formed, stops_before, stops_between, stops_first, writes_on, writes_stop}
 use Rattle.qr_drawing.proofs.svg.put_document.Goals as goal
+
+pub returns-in_err-reserve : goal.returns-in_err-reserve
+returns-in_err-reserve g c = rw ((err_from_is_err_and c.from_residual.result c.from_residual.ensures.1).1) (stops_before _ _ _ _ _ c.in_err-reserve.ensures.writes)
 
 pub returns-in_err-put_stack : goal.returns-in_err-put_stack
 returns-in_err-put_stack g c =

@@ -2,8 +2,11 @@ use Rattle.std.proofs.Common.{◌≡◌, ◌+◌, ◌*◌, ◌/◌, ◌%◌, ◌
 use Rattle.std.proofs.lemmas.Result.{err_from_is_err_and}
 use Rattle.qr_drawing.specs.{Raster.texts_below, Steps.Text.cell_room, Steps.Text.cell_text}
 use Rattle.qr_drawing.proofs.lemmas.text.CellLemmas.{cell-length, line-parts, room-left, room-light}
-use Rattle.qr_drawing.proofs.lemmas.pen.WritingLemmas.{formed, stops_between, stops_first, writes_on}
+use Rattle.qr_drawing.proofs.lemmas.pen.WritingLemmas.{formed, stops_before, stops_between, stops_first, writes_on}
 use Rattle.qr_drawing.proofs.text.put_line.Goals as goal
+
+pub returns-in_err-reserve : goal.returns-in_err-reserve
+returns-in_err-reserve g c = rw ((err_from_is_err_and c.from_residual.result c.from_residual.ensures.1).1) (stops_before _ _ _ _ _ c.in_err-reserve.ensures.writes)
 
 pub returns-in_err-reserve-2 : goal.returns-in_err-reserve-2
 returns-in_err-reserve-2 g c =
