@@ -1,10 +1,9 @@
 //! The command's arguments, declared for the crate `clap`, which parses them.
 
-ghost use Rattle.std.specs.Prelude.{◌≡◌, [], Err, IfErr, IfOk, Result, map, false, codes};
+ghost use Rattle.std.specs.Prelude.{◌≡◌, [], Err, IfErr, IfOk, Result, map, false};
 ghost use Rattle.std.specs.String.{string_bytes};
 ghost use Rattle.clap.specs.Words.{app_of, found_of, kind_of};
 ghost use Rattle.clap.specs.Walk.{rows_of, rule_of};
-ghost use Rattle.clap.specs.Simple.{new_app};
 ghost use Rattle.qrencode_cli.specs.Arguments.{command, faults_for, flag_rule, number_rule, positional_rule, required_rule, rows_for, text_rule};
 ghost use Rattle.qrencode_cli.specs.Steps.Arguments.{command_of, rule_for};
 ghost use Rattle.qrencode_cli.specs.Settings.{IsUsageFault, Reason, SettingsView, refused_by_clap, settings_for};
@@ -56,12 +55,6 @@ fn positional<'a>(alloc: Global, id: &'a str, value: &'a str, help: &'a str) -> 
     ensures local { result.global ≡ false }
 {
     Arg::new(alloc, id).value_name(value).help(help)
-}
-
-fn empty_command<'a>(alloc: Global) -> Command<'a>
-    ensures { app_of result ≡ new_app (codes "qrencode") }
-{
-    Command::new(alloc, "qrencode").about("Draws its input as QR Code symbols on standard output")
 }
 
 const OPTIONS: [OptionText<'static>; 8] = [
@@ -127,7 +120,8 @@ const OPTIONS: [OptionText<'static>; 8] = [
 fn command_with<'a>(alloc: Global, options: &[OptionText<'a>]) -> Result<Command<'a>, AllocError>
     ensures { IfOk result (λ c. app_of c ≡ command_of options.now) }
 {
-    let mut command = empty_command(alloc);
+    let mut command = Command::new(alloc, "qrencode")
+        .about("Draws its input as QR Code symbols on standard output");
     for option in options {
         command = command.arg(option_arg(alloc, option))?;
     }
