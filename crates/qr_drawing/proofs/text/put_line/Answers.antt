@@ -28,6 +28,12 @@ returns-in_err-reserve-3 g c =
     (formed _ _ _ _ held _ _ _ c.in_ok-reserve.ensures.writes left)
     (formed _ _ _ _ _ _ _ _ c.in_ok-reserve-2.ensures.writes fours)) c.in_err-reserve-3.ensures.writes)
 
+pub push_light-requires-2 : goal.push_light-requires-2
+push_light-requires-2 g c = grind arith
+
+pub push-requires : goal.push-requires
+push-requires g c = (omega arith, grind arith)
+
 pub returns : goal.returns
 returns g c =
     let held = c.args.pen.now.piece.items in
