@@ -1,10 +1,10 @@
 //! The command's arguments, declared for the crate `clap`, which parses them.
 
-ghost use Rattle.std.specs.Prelude.{◌≡◌, [], Err, IfErr, IfOk, Result, map, false};
+ghost use Rattle.std.specs.Prelude.{◌≡◌, [], Err, IfErr, IfOk, Result, map, false, codes};
 ghost use Rattle.std.specs.String.{string_bytes};
 ghost use Rattle.clap.specs.Words.{app_of, found_of, kind_of};
 ghost use Rattle.clap.specs.Walk.{rows_of, rule_of};
-ghost use Rattle.qrencode_cli.specs.Arguments.{command, faults_for, flag_rule, number_rule, positional_rule, required_rule, rows_for, text_rule};
+ghost use Rattle.qrencode_cli.specs.Arguments.{command, faults_for, positional_rule, rows_for};
 ghost use Rattle.qrencode_cli.specs.Steps.Arguments.{command_of, rule_for};
 ghost use Rattle.qrencode_cli.specs.Settings.{IsUsageFault, Reason, SettingsView, refused_by_clap, settings_for};
 ghost use Rattle.clap.specs.declared.error.kind.ErrorKind.TheVariants.{OutOfMemory};
@@ -49,12 +49,14 @@ fn option_arg<'a>(alloc: Global, option: &OptionText<'a>) -> Arg<'a>
     }
 }
 
-// An argument that belongs to no option; `value` is its name in the help text.
-fn positional<'a>(alloc: Global, id: &'a str, value: &'a str, help: &'a str) -> Arg<'a>
-    ensures rule { rule_of result ≡ positional_rule id.entry.now }
+// The argument that belongs to no option.
+fn string_arg<'a>(alloc: Global) -> Arg<'a>
+    ensures rule { rule_of result ≡ positional_rule (codes "string") }
     ensures local { result.global ≡ false }
 {
-    Arg::new(alloc, id).value_name(value).help(help)
+    Arg::new(alloc, "string")
+        .value_name("STRING")
+        .help("Input, in place of standard input")
 }
 
 const OPTIONS: [OptionText<'static>; 8] = [
@@ -116,21 +118,17 @@ const OPTIONS: [OptionText<'static>; 8] = [
     },
 ];
 
-// The command with `options`, and one argument that belongs to no option.
+// The command with `options`, and one argument that belongs to none.
 fn command_with<'a>(alloc: Global, options: &[OptionText<'a>]) -> Result<Command<'a>, AllocError>
     ensures { IfOk result (λ c. app_of c ≡ command_of options.now) }
 {
-    let mut command = Command::new(alloc, "qrencode")
-        .about("Draws its input as QR Code symbols on standard output");
+    let mut command = Command::new(alloc, "qrencode").about(
+        "Draws its input as QR Code symbols on standard output",
+    );
     for option in options {
         command = command.arg(option_arg(alloc, option))?;
     }
-    command.arg(positional(
-        alloc,
-        "string",
-        "STRING",
-        "Input, in place of standard input",
-    ))
+    command.arg(string_arg(alloc))
 }
 
 fn command_line<'a>(alloc: Global) -> Result<Command<'a>, AllocError>
@@ -139,6 +137,7 @@ fn command_line<'a>(alloc: Global) -> Result<Command<'a>, AllocError>
     command_with(alloc, &OPTIONS)
 }
 
+// The fault if `clap` refuses the arguments by `error`.
 fn refusal(alloc: Global, error: &Error) -> UsageFault
     ensures { (o : Result SettingsView Reason) → ((kind_of error.now ≡ OutOfMemory → ⊥) → o ≡ Err refused_by_clap) → IsUsageFault o result }
 {

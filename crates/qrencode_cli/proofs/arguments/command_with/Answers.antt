@@ -17,4 +17,4 @@ loop-option-preserved c =
 pub returns : goal.returns
 returns c =
     let app = rw (drop_all _ c.args.options.now c.loop-option-test.false) at c.loop-option.invariant in
-    IfOk-weaker c.arg-2.result _ _ (λ r h. h.shape c.positional.ensures.local ∙ ap₂ with_rule app c.positional.ensures.rule) c.arg-2.ensures
+    IfOk-weaker c.arg-2.result _ _ (λ r h. h.shape c.string_arg.ensures.local ∙ ap₂ with_rule app c.string_arg.ensures.rule) c.arg-2.ensures
