@@ -4,8 +4,8 @@ ghost use Rattle.std.specs.Prelude.{◌≡◌, [], Err, IfErr, IfOk, Result, map
 ghost use Rattle.std.specs.String.{string_bytes};
 ghost use Rattle.clap.specs.Words.{app_of, found_of, kind_of};
 ghost use Rattle.clap.specs.Walk.{rows_of, rule_of};
-ghost use Rattle.qrencode_cli.specs.Arguments.{command, faults_for, positional_rule, rows_for};
-ghost use Rattle.qrencode_cli.specs.Steps.Arguments.{command_of, rule_for};
+ghost use Rattle.clap.specs.Simple.{new_app};
+ghost use Rattle.qrencode_cli.specs.Arguments.{command, faults_for, flag_rule, number_rule, positional_rule, required_rule, rows_for, text_rule};
 ghost use Rattle.qrencode_cli.specs.Settings.{IsUsageFault, Reason, SettingsView, refused_by_clap, settings_for};
 ghost use Rattle.clap.specs.declared.error.kind.ErrorKind.TheVariants.{OutOfMemory};
 
@@ -15,126 +15,139 @@ use clap::error::{Error, ErrorKind};
 use clap::{Arg, ArgAction, ArgMatches, Command};
 use std::alloc::{AllocError, Global};
 
-// What the arguments give with an option.
-enum OptionKind {
-    Flag,
-    Text { required: bool },
-    // A number from 0 to `most`.
-    Number { most: i64 },
-}
-
-// An option: its name in the code, its letter, what is given with it, and in the help text the name of its value and
-// the line about it.
+// An option: its name in the code, its letter, and in the help text the name of its value and the line about it.
+#[derive(Clone, Copy)]
 struct OptionText<'a> {
     id: &'a str,
     short: char,
-    kind: OptionKind,
     value: &'a str,
     help: &'a str,
 }
 
-fn option_arg<'a>(alloc: Global, option: &OptionText<'a>) -> Arg<'a>
-    ensures rule { rule_of result ≡ rule_for option.now }
+fn text_option<'a>(alloc: Global, option: OptionText<'a>) -> Arg<'a>
+    ensures rule { rule_of result ≡ text_rule option.entry.id.now option.entry.short }
     ensures local { result.global ≡ false }
 {
-    let named = Arg::new(alloc, option.id)
+    Arg::new(alloc, option.id)
         .short(option.short)
-        .help(option.help);
-    match option.kind {
-        OptionKind::Flag => named.action(ArgAction::SetTrue),
-        OptionKind::Text { required } => named.value_name(option.value).required(required),
-        OptionKind::Number { most } => named
-            .value_name(option.value)
-            .value_parser(ValueParser::Signed(0, most)),
-    }
+        .value_name(option.value)
+        .help(option.help)
 }
 
-// The argument that belongs to no option.
-fn string_arg<'a>(alloc: Global) -> Arg<'a>
-    ensures rule { rule_of result ≡ positional_rule (codes "string") }
+// An option whose value is a number from 0 to `most`.
+fn number_option<'a>(alloc: Global, option: OptionText<'a>, most: i64) -> Arg<'a>
+    ensures rule { rule_of result ≡ number_rule option.entry.id.now option.entry.short most }
     ensures local { result.global ≡ false }
 {
-    Arg::new(alloc, "string")
-        .value_name("STRING")
-        .help("Input, in place of standard input")
+    text_option(alloc, option).value_parser(ValueParser::Signed(0, most))
 }
 
-const OPTIONS: [OptionText<'static>; 8] = [
-    OptionText {
-        id: "level",
-        short: 'l',
-        kind: OptionKind::Text { required: false },
-        value: "LEVEL",
-        help: "Level of error correction, from the lowest to the highest: L, M, Q or H [default: L]",
-    },
-    OptionText {
-        id: "version",
-        short: 'v',
-        kind: OptionKind::Number { most: 40 },
-        value: "N",
-        help: "Smallest version of the symbol, 1 to 40, or 0 for any that fits; with -S the version [default: 0]",
-    },
-    OptionText {
-        id: "type",
-        short: 't',
-        kind: OptionKind::Text { required: true },
-        value: "TYPE",
-        help: "Type of the drawing: ASCII, ASCIIi, UTF8 or SVG",
-    },
-    OptionText {
-        id: "margin",
-        short: 'm',
-        kind: OptionKind::Number { most: 100 },
-        value: "N",
-        help: "Margin on each side, 0 to 100 modules [default: 4]",
-    },
-    OptionText {
-        id: "bytes-only",
-        short: '8',
-        kind: OptionKind::Flag,
-        value: "",
-        help: "Encode the whole input in byte mode",
-    },
-    OptionText {
-        id: "kanji",
-        short: 'k',
-        kind: OptionKind::Flag,
-        value: "",
-        help: "Encode pairs of bytes that are Shift JIS characters in kanji mode, if that is shorter; -8 switches it off",
-    },
-    OptionText {
-        id: "fold",
-        short: 'i',
-        kind: OptionKind::Flag,
-        value: "",
-        help: "Encode the letters a to z as capitals, but not in kanji if -k is given; -8 switches it off",
-    },
-    OptionText {
-        id: "structured",
-        short: 'S',
-        kind: OptionKind::Flag,
-        value: "",
-        help: "Draw a series of up to 16 symbols if the input does not fit one; needs -v",
-    },
-];
-
-// The command with `options`, and one argument that belongs to none.
-fn command_with<'a>(alloc: Global, options: &[OptionText<'a>]) -> Result<Command<'a>, AllocError>
-    ensures { IfOk result (λ c. app_of c ≡ command_of options.now) }
+// As `text_option`, but `clap` refuses arguments without this option.
+fn required_option<'a>(alloc: Global, option: OptionText<'a>) -> Arg<'a>
+    ensures rule { rule_of result ≡ required_rule option.entry.id.now option.entry.short }
+    ensures local { result.global ≡ false }
 {
-    let mut command = Command::new(alloc, "qrencode").about(
-        "Draws its input as QR Code symbols on standard output",
-    );
-    for option in options {
-        command = command.arg(option_arg(alloc, option))?;
-    }
-    command.arg(string_arg(alloc))
+    text_option(alloc, option).required(true)
 }
+
+// An option without a value.
+fn flag_option<'a>(alloc: Global, option: OptionText<'a>) -> Arg<'a>
+    ensures rule { rule_of result ≡ flag_rule option.entry.id.now option.entry.short }
+    ensures local { result.global ≡ false }
+{
+    Arg::new(alloc, option.id)
+        .short(option.short)
+        .help(option.help)
+        .action(ArgAction::SetTrue)
+}
+
+// An argument that belongs to no option; `value` is its name in the help text.
+fn positional<'a>(alloc: Global, id: &'a str, value: &'a str, help: &'a str) -> Arg<'a>
+    ensures rule { rule_of result ≡ positional_rule id.entry.now }
+    ensures local { result.global ≡ false }
+{
+    Arg::new(alloc, id).value_name(value).help(help)
+}
+
+fn empty_command<'a>(alloc: Global) -> Command<'a>
+    ensures { app_of result ≡ new_app (codes "qrencode") }
+{
+    Command::new(alloc, "qrencode").about("Draws its input as QR Code symbols on standard output")
+}
+
+const LEVEL: OptionText<'static> = OptionText {
+    id: "level",
+    short: 'l',
+    value: "LEVEL",
+    help: "Level of error correction, from the lowest to the highest: L, M, Q or H [default: L]",
+};
+
+const VERSION: OptionText<'static> = OptionText {
+    id: "version",
+    short: 'v',
+    value: "N",
+    help: "Smallest version of the symbol, 1 to 40, or 0 for any that fits; with -S the version [default: 0]",
+};
+
+const TYPE: OptionText<'static> = OptionText {
+    id: "type",
+    short: 't',
+    value: "TYPE",
+    help: "Type of the drawing: ASCII, ASCIIi, UTF8 or SVG",
+};
+
+const MARGIN: OptionText<'static> = OptionText {
+    id: "margin",
+    short: 'm',
+    value: "N",
+    help: "Margin on each side, 0 to 100 modules [default: 4]",
+};
+
+const BYTES_ONLY: OptionText<'static> = OptionText {
+    id: "bytes-only",
+    short: '8',
+    value: "",
+    help: "Encode the whole input in byte mode",
+};
+
+const KANJI: OptionText<'static> = OptionText {
+    id: "kanji",
+    short: 'k',
+    value: "",
+    help: "Encode pairs of bytes that are Shift JIS characters in kanji mode, if that is shorter; -8 switches it off",
+};
+
+const FOLD: OptionText<'static> = OptionText {
+    id: "fold",
+    short: 'i',
+    value: "",
+    help: "Encode the letters a to z as capitals, but not in kanji if -k is given; -8 switches it off",
+};
+
+const STRUCTURED: OptionText<'static> = OptionText {
+    id: "structured",
+    short: 'S',
+    value: "",
+    help: "Draw a series of up to 16 symbols if the input does not fit one; needs -v",
+};
 
 fn command_line<'a>(alloc: Global) -> Result<Command<'a>, AllocError>
     ensures { IfOk result (λ c. app_of c ≡ command) }
 {
-    command_with(alloc, &OPTIONS)
+    let with_level = empty_command(alloc).arg(text_option(alloc, LEVEL))?;
+    let with_version = with_level.arg(number_option(alloc, VERSION, 40))?;
+    let with_type = with_version.arg(required_option(alloc, TYPE))?;
+    let with_margin = with_type.arg(number_option(alloc, MARGIN, 100))?;
+    let with_bytes_only = with_margin.arg(flag_option(alloc, BYTES_ONLY))?;
+    let with_kanji = with_bytes_only.arg(flag_option(alloc, KANJI))?;
+    let with_fold = with_kanji.arg(flag_option(alloc, FOLD))?;
+    let with_structured = with_fold.arg(flag_option(alloc, STRUCTURED))?;
+    with_structured.arg(positional(
+        alloc,
+        "string",
+        "STRING",
+        "Input, in place of standard input",
+    ))
 }
 
 // The fault if `clap` refuses the arguments by `error`.

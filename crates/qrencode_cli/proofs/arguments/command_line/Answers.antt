@@ -1,6 +1,18 @@
+use Rattle.std.proofs.Common.{ap₂, ◌∙◌}
+use Rattle.std.proofs.lemmas.Result.{IfOk-weaker}
+use Rattle.clap.specs.Simple.{with_rule}
 use Rattle.qrencode_cli.specs.Arguments.{command}
 use Rattle.qrencode_cli.proofs.arguments.command_line.Goals as goal
 
 pub returns : goal.returns
 unfolding command
-returns c = c.command_with.ensures
+returns c =
+    let a1 = c.in_ok-with_level.ensures.shape c.text_option.ensures.local ∙ ap₂ with_rule c.empty_command.ensures c.text_option.ensures.rule in
+    let a2 = c.in_ok-with_version.ensures.shape c.number_option.ensures.local ∙ ap₂ with_rule a1 c.number_option.ensures.rule in
+    let a3 = c.in_ok-with_type.ensures.shape c.required_option.ensures.local ∙ ap₂ with_rule a2 c.required_option.ensures.rule in
+    let a4 = c.in_ok-with_margin.ensures.shape c.number_option-2.ensures.local ∙ ap₂ with_rule a3 c.number_option-2.ensures.rule in
+    let a5 = c.in_ok-with_bytes_only.ensures.shape c.flag_option.ensures.local ∙ ap₂ with_rule a4 c.flag_option.ensures.rule in
+    let a6 = c.in_ok-with_kanji.ensures.shape c.flag_option-2.ensures.local ∙ ap₂ with_rule a5 c.flag_option-2.ensures.rule in
+    let a7 = c.in_ok-with_fold.ensures.shape c.flag_option-3.ensures.local ∙ ap₂ with_rule a6 c.flag_option-3.ensures.rule in
+    let a8 = c.in_ok-with_structured.ensures.shape c.flag_option-4.ensures.local ∙ ap₂ with_rule a7 c.flag_option-4.ensures.rule in
+    IfOk-weaker c.arg-9.result _ _ (λ r h. h.shape c.positional.ensures.local ∙ ap₂ with_rule a8 c.positional.ensures.rule) c.arg-9.ensures
