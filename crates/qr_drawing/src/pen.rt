@@ -66,7 +66,8 @@ fn send<W: Sink>(out: &mut W, bytes: &[u8], interrupted: u16) -> Result<u16, Dra
 #[inline(always)]
 pub(crate) fn push_all(text: &mut ArrayVec<u8, 1200>, bytes: &[u8])
     requires room { array_vec_len text.old + length bytes.now ≤ 1200 }
-    ensures { text.new.items ≡ text.old.items ++ bytes.now }
+    ensures items { text.new.items ≡ text.old.items ++ bytes.now }
+    ensures len { array_vec_len text.new ≡ array_vec_len text.old + length bytes.now }
 {
     let _ = text.try_extend_from_slice(bytes);
 }

@@ -245,7 +245,8 @@ fn push_eight(text: &mut ArrayVec<u8, 1200>, style: TextStyle, upper: u8, lower:
 #[inline(always)]
 fn push_light(text: &mut ArrayVec<u8, 1200>, style: TextStyle, count: u16)
     requires room { array_vec_len text.old + count * cell_room style ≤ 1200 }
-    ensures { text.new.items ≡ text.old.items ++ texts_below count (λ _. cell_text style false false) }
+    ensures items { text.new.items ≡ text.old.items ++ texts_below count (λ _. cell_text style false false) }
+    ensures len { array_vec_len text.new ≤ array_vec_len text.old + count * cell_room style }
 {
     for done in 0..count {
         push_cell(text, style, false, false);
@@ -266,7 +267,8 @@ fn push_cells(
     requires row_in { row < 2000 }
     requires first_in { first < 1000 }
     requires room { array_vec_len text.old + count * cell_room style ≤ 1200 }
-    ensures { text.new.items ≡ text.old.items ++ texts_below count (λ i. cell_at style margin matrix.now row (first + i)) }
+    ensures items { text.new.items ≡ text.old.items ++ texts_below count (λ i. cell_at style margin matrix.now row (first + i)) }
+    ensures len { array_vec_len text.new ≤ array_vec_len text.old + count * cell_room style }
 {
     for done in 0..count {
         let x = first + done;

@@ -1,16 +1,17 @@
 //! The command's arguments, declared for the crate `clap`, which parses them.
 
-ghost use Rattle.std.specs.Prelude.{◌≡◌, [], IfErr, IfOk, map, false, codes};
+ghost use Rattle.std.specs.Prelude.{◌≡◌, [], Err, IfErr, IfOk, Result, map, false, codes};
 ghost use Rattle.std.specs.String.{string_bytes};
-ghost use Rattle.clap.specs.Words.{app_of, found_of};
+ghost use Rattle.clap.specs.Words.{app_of, found_of, kind_of};
 ghost use Rattle.clap.specs.Walk.{rows_of, rule_of};
 ghost use Rattle.clap.specs.Simple.{new_app};
 ghost use Rattle.qrencode_cli.specs.Arguments.{command, faults_for, flag_rule, number_rule, positional_rule, required_rule, rows_for, text_rule};
-ghost use Rattle.qrencode_cli.specs.Settings.{IsUsageFault, settings_for};
+ghost use Rattle.qrencode_cli.specs.Settings.{IsUsageFault, Reason, SettingsView, refused_by_clap, settings_for};
+ghost use Rattle.clap.specs.declared.error.kind.ErrorKind.TheVariants.{OutOfMemory};
 
 use crate::settings::UsageFault;
 use clap::builder::ValueParser;
-use clap::error::ErrorKind;
+use clap::error::{Error, ErrorKind};
 use clap::{Arg, ArgAction, ArgMatches, Command};
 use std::alloc::{AllocError, Global};
 
@@ -149,6 +150,19 @@ fn command_line<'a>(alloc: Global) -> Result<Command<'a>, AllocError>
     ))
 }
 
+// The fault if `clap` refuses the arguments by `error`.
+fn refusal(alloc: Global, error: &Error) -> UsageFault
+    ensures { (o : Result SettingsView Reason) → ((kind_of error.now ≡ OutOfMemory → ⊥) → o ≡ Err refused_by_clap) → IsUsageFault o result }
+{
+    if error.kind() == ErrorKind::OutOfMemory {
+        return UsageFault::Memory;
+    }
+    match format!(in alloc; "{error}") {
+        Ok(text) => UsageFault::Words(text),
+        Err(_) => UsageFault::Memory,
+    }
+}
+
 /// Returns what `clap` found in the arguments `words`, of which the first is the program's name.
 ///
 /// # Errors
@@ -160,15 +174,8 @@ pub(crate) fn matches<'a>(alloc: Global, words: &'a [String]) -> Result<ArgMatch
     ensures rows { IfOk result (λ m. rows_of (found_of m) ≡ rows_for (map string_bytes words.entry.now)) }
     ensures fault { IfErr result (IsUsageFault (settings_for (map string_bytes words.entry.now))) }
 {
-    let command = command_line(alloc)?;
-    match command.try_get_matches_from(words) {
+    match command_line(alloc)?.try_get_matches_from(words) {
         Ok(matches) => Ok(matches),
-        Err(error) => match error.kind() {
-            ErrorKind::OutOfMemory => Err(UsageFault::Memory),
-            _ => {
-                let text = format!(in alloc; "{error}")?;
-                Err(UsageFault::Words(text))
-            }
-        },
+        Err(error) => Err(refusal(alloc, &error)),
     }
 }

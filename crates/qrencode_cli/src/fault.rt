@@ -9,7 +9,7 @@ use qr_symbol::EncodeFault;
 use std::alloc::{AllocError, AllocFailed};
 
 /// Lack of memory is always `Memory`, also while arguments are read or an input is encoded.
-#[derive(Debug, Drop)]
+#[derive(Drop)]
 pub(crate) enum Fault {
     Usage(UsageFault),
     Encode(EncodeFault),

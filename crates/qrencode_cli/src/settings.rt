@@ -232,6 +232,7 @@ fn settings_in(alloc: Global, matches: &ArgMatches<'_>) -> Result<Settings, Usag
     if structured && smallest.is_none() {
         return Err(UsageFault::NeedsVersion);
     }
+    let string = string_in(alloc, matches)?;
     Ok(Settings {
         level,
         smallest,
@@ -241,7 +242,7 @@ fn settings_in(alloc: Global, matches: &ArgMatches<'_>) -> Result<Settings, Usag
         kanji: flag_in(matches, "kanji"),
         fold: flag_in(matches, "fold"),
         structured,
-        string: string_in(alloc, matches)?,
+        string,
     })
 }
 

@@ -1,5 +1,5 @@
 -- How the written parts of a text join.
-use Rattle.std.proofs.Common.{◌≡◌, ◌++◌, ◌∙◌, ℕ, List, [], OnErr, Option, Result, Ok, Err, append_assoc, append-nil, refl, sym, ap, arith, ◌<◌, ◌≤◌, ◌+◌, ◌^◌, length, length-append, subst}
+use Rattle.std.proofs.Common.{◌≡◌, ◌++◌, ◌∙◌, ℕ, List, [], MatchResult, OnOk, Option, Result, Ok, Err, append_assoc, append-nil, refl, sym, ap, arith, ◌<◌, ◌≤◌, ◌+◌, ◌^◌, length, length-append, subst}
 use Rattle.std.proofs.KnownBytes.{Appends-trans, Appends-nil}
 use Rattle.qr_devices.specs.Device.{AppendsBeginning, Writer, counted}
 use Rattle.qr_drawing.specs.Steps.Pen.{Reserves}
@@ -112,16 +112,11 @@ formed a b i j h0 h1 h2 x p e = record {
 pub stops_between : (a b c : Writer) (i j : ℕ) (h0 h1 x y : List ℕ) → Writes a b i j (h0 ++ x) h1 → Stops b c j h1 → Stops a c i (h0 ++ (x ++ y))
 stops_between a b c i j h0 h1 x y p q = writes_stop a b c i j h0 h1 x y p (stops_before b c j h1 y q)
 
--- the writer failed in the part of a text that was held
-last_stops : (a b c : Writer) (held text : List ℕ) → Sends a b text held → AppendsBeginning b.taken c.taken held → AppendsBeginning a.taken c.taken text
-last_stops a b c held text p (t, (rest, f), q) = (
-  p.sent ++ t,
-  (rest, cc (append_assoc p.sent t rest, f, p.whole)),
-  Appends-trans a.taken b.taken c.taken p.sent t p.grows q,
-)
-
--- if the writer failed in the last part, a prefix of the text was written
-pub empty_stops : (a b c : Writer) (before after : Pen) (text : List ℕ) (r : Result (Unit {0}) DrawFault) → Sends a b text before.piece.items
-    → Reserves b c before after r → OnErr r (AppendsBeginning a.taken c.taken text)
-empty_stops a b c before after text (Ok t) p q = tt
-empty_stops a b c before after text (Err e) p q = last_stops a b c before.piece.items text p q.prefix
+-- what was held of a text was written, or the writer failed in it
+pub emptied : (a b c : Writer) (i : ℕ) (before after : Pen) (text : List ℕ) (r : Result (Unit {0}) DrawFault) → Writes a b i before.interrupted text before.piece.items
+    → Reserves b c before after r → OnOk r (after.piece.items ≡ [])
+    → MatchResult r (λ _. Writes a c i after.interrupted text []) (λ _. Stops a c i text)
+emptied a b c i before after text (Ok t) p q e =
+    let w = writes_on a b c i before.interrupted after.interrupted [] before.piece.items after.piece.items text [] p (rw append-nil q) in rw (append-nil, e) at w
+emptied a b c i before after text (Err f) p q e =
+    let w = writes_stop a b c i before.interrupted [] before.piece.items text [] p (rw append-nil q) in rw append-nil at w

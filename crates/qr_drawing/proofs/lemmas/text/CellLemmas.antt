@@ -152,6 +152,12 @@ half_block_pairs h t u upper lower p q =
 pub cell-length : (style : TextStyle) (upper lower : Bool) → length (cell_text style upper lower) ≤ cell_room style
 cell-length style upper lower = grind arith
 
+-- at most `count` texts of at most b bytes each were added
+pub cells-length : (h t : List ℕ) (n count b : ℕ) (text : ℕ → List ℕ) → ((k : ℕ) → length (text k) ≤ b) → t ≡ h ++ texts_below n text
+    → n ≤ count → length t ≤ length h + count * b
+cells-length h t n count b text most e le =
+    omega (arith, texts_below-length n b text most, ap (λ l. length l) e ∙ length-append h (texts_below n text), mul-le-mul_right b le)
+
 -- if there was room for `o` bytes, then after n texts of at most b bytes there is room for d bytes
 pub room-left : (h t : List ℕ) (n d o b room : ℕ) (text : ℕ → List ℕ) → ((k : ℕ) → length (text k) ≤ b) → t ≡ h ++ texts_below n text
     → n + d ≤ o → length h + o * b ≤ room → length t + d * b ≤ room
@@ -165,13 +171,6 @@ pub room-cells : (style : TextStyle) (margin : ℕ) (g : Grid) (row first done n
     → length t + n * cell_room style ≤ 1200
 room-cells style margin g row first done n count h t e le fits =
     room-left h t done n count (cell_room style) 1200 (λ i. cell_at style margin g row (first + i)) (λ k. cell-length style _ _) e le fits
-
--- if there was room for `last` cells, `first` cells and a newline, then after the `last` cells there is room for the rest
-pub room-light : (h t : List ℕ) (r last first room b : ℕ) (text : ℕ → List ℕ) → ((k : ℕ) → length (text k) ≤ b) → t ≡ h ++ texts_below last text
-    → r ≡ last + first → room ≡ b → length h + (r * room + 1) ≤ 1200 → length t + first * b ≤ 1199
-room-light h t r last first room b text most e sum same fits =
-    let p : r * room ≡ (last + first) * b = λ i. sum i * same i in
-    room-left h t last first (last + first) b 1199 text most e (omega arith) (omega arith)
 
 -- a cell of a line
 cell-of : (style : TextStyle) (margin : ℕ) (g : Grid) (y x : ℕ) → cell_of style margin g y x ≡ cell_at style margin g (top_row style y) x

@@ -4,4 +4,4 @@ use Rattle.qr_drawing.proofs.svg.push_head.Goals as goal
 
 pub returns : goal.returns
 unfolding declaration head
-returns c = rw (c.push_all-2.ensures, c.push_background.ensures.items, c.push_opening.ensures.items, c.push_all.ensures) (simp append_assoc)
+returns c = rw (c.push_all-2.ensures.items, c.push_background.ensures.items, c.push_opening.ensures.items, c.push_all.ensures.items) (simp append_assoc)

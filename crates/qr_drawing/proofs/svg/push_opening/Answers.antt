@@ -4,4 +4,4 @@ use Rattle.qr_drawing.proofs.svg.push_opening.Goals as goal
 
 pub returns-clause-items : goal.returns-clause-items
 unfolding opening
-returns-clause-items c = rw (c.push_all.ensures, c.push_numbered-2.ensures.items, c.push_numbered.ensures.items) (simp append_assoc)
+returns-clause-items c = rw (c.push_all.ensures.items, c.push_numbered-2.ensures.items, c.push_numbered.ensures.items) (simp append_assoc)

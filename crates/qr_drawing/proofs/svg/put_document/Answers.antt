@@ -2,8 +2,11 @@ use Rattle.std.proofs.Common.{refl}
 use Rattle.std.proofs.lemmas.Result.{err_from_is_err_and}
 use Rattle.qr_drawing.specs.{Svg.closing, Steps.Svg.tail}
 use Rattle.qr_drawing.proofs.lemmas.svg.PathLemmas.{document-parts}
-use Rattle.qr_drawing.proofs.lemmas.pen.WritingLemmas.{formed, stops_between, stops_first, writes_on, writes_stop}
+use Rattle.qr_drawing.proofs.lemmas.pen.WritingLemmas.{formed, stops_before, stops_between, stops_first, writes_on, writes_stop}
 use Rattle.qr_drawing.proofs.svg.put_document.Goals as goal
+
+pub returns-in_err-reserve : goal.returns-in_err-reserve
+returns-in_err-reserve g c = rw ((err_from_is_err_and c.from_residual.result c.from_residual.ensures.1).1) (stops_before _ _ _ _ _ c.in_err-reserve.ensures.writes)
 
 pub returns-in_err-put_stack : goal.returns-in_err-put_stack
 returns-in_err-put_stack g c =
@@ -31,4 +34,4 @@ returns g c =
     (rw (c.square.ensures, c.index-symbols-0.is) at c.raster_width-width.ensures.value) refl in
     rw parts (writes_on _ _ _ _ _ _ held _ _ _ _ (writes_on _ _ _ _ _ _ held _ _ _ _
     (formed _ _ _ _ held _ _ _ c.in_ok-reserve.ensures.writes c.push_head.ensures) c.in_ok-put_stack.ensures)
-    (formed _ _ _ _ _ _ _ tail c.in_ok-reserve-2.ensures.writes c.push_all.ensures))
+    (formed _ _ _ _ _ _ _ tail c.in_ok-reserve-2.ensures.writes c.push_all.ensures.items))

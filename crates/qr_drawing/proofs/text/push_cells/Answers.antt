@@ -1,6 +1,6 @@
 use Rattle.std.proofs.Common.{◌+◌, arith}
-use Rattle.qr_drawing.specs.Steps.Text.{cell_at}
-use Rattle.qr_drawing.proofs.lemmas.text.{LineLemmas.added_next, LineLemmas.added_none, CellLemmas.room-cells}
+use Rattle.qr_drawing.specs.Steps.Text.{cell_at, cell_room}
+use Rattle.qr_drawing.proofs.lemmas.text.{LineLemmas.added_next, LineLemmas.added_none, CellLemmas.cell-length, CellLemmas.cells-length, CellLemmas.room-cells}
 use Rattle.qr_drawing.proofs.text.push_cells.Goals as goal
 
 pub loop-done-init : goal.loop-done-init
@@ -18,3 +18,6 @@ pub loop-done-preserved : goal.loop-done-preserved
 loop-done-preserved c =
     added_next c.args.text.now.items _ _ _ (λ i. cell_at c.args.style c.args.margin c.args.matrix.now c.args.row (c.args.first + i))
     c.loop-done.invariant (rw (c.is_dark_at-upper.ensures, c.is_dark_at-lower.ensures) at c.push_cell.ensures)
+
+pub returns-clause-len : goal.returns-clause-len
+returns-clause-len c = cells-length c.args.text.now.items _ _ _ (cell_room c.args.style) _ (λ k. cell-length c.args.style _ _) c.loop-done.invariant (omega arith)

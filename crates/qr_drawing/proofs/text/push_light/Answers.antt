@@ -1,7 +1,7 @@
 use Rattle.std.proofs.Common.{false, arith}
 use Rattle.qr_drawing.specs.Steps.Text.{cell_room, cell_text}
 use Rattle.qr_drawing.proofs.lemmas.text.LineLemmas.{added_next, added_none}
-use Rattle.qr_drawing.proofs.lemmas.text.CellLemmas.{cell-length, room-left}
+use Rattle.qr_drawing.proofs.lemmas.text.CellLemmas.{cell-length, cells-length, room-left}
 use Rattle.qr_drawing.proofs.text.push_light.Goals as goal
 
 pub loop-done-init : goal.loop-done-init
@@ -18,3 +18,6 @@ push_cell-requires c =
 pub loop-done-preserved : goal.loop-done-preserved
 loop-done-preserved c =
     added_next c.args.text.now.items _ _ _ (λ _. cell_text c.args.style false false) c.loop-done.invariant c.push_cell.ensures
+
+pub returns-clause-len : goal.returns-clause-len
+returns-clause-len c = cells-length c.args.text.now.items _ _ _ (cell_room c.args.style) (λ _. cell_text c.args.style false false) (λ k. cell-length c.args.style _ _) c.loop-done.invariant (omega arith)

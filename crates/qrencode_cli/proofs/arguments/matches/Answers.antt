@@ -5,15 +5,11 @@ use Rattle.qrencode_cli.proofs.arguments.matches.Goals as goal
 
 pub returns-in-Ok-clause-taken : goal.returns-in-Ok-clause-taken
 returns-in-Ok-clause-taken c =
-    sym (faults_are _ _ c.in_ok-command.ensures) ∙ c.in-Ok.ensures.kinds (ap is_simple_and_free c.in_ok-command.ensures ∙ is_free-command)
+    sym (faults_are _ _ c.in_ok-command_line.ensures) ∙ c.in-Ok.ensures.kinds (ap is_simple_and_free c.in_ok-command_line.ensures ∙ is_free-command)
 
 pub returns-in-Ok-clause-rows : goal.returns-in-Ok-clause-rows
-returns-in-Ok-clause-rows c = rows_are _ _ _ c.in_ok-command.ensures c.in-Ok.ensures.matches
+returns-in-Ok-clause-rows c = rows_are _ _ _ c.in_ok-command_line.ensures c.in-Ok.ensures.matches
 
-pub returns : goal.returns
-returns c = record {
-  taken = tt;
-  rows = tt;
-  fault = refused_words _ (λ none. kinds_not_empty _ c.in-Err.error (λ k. c.in_default.not-OutOfMemory (c.kind.ensures ∙ k)) (c.in-Err.ensures.kinds (ap is_simple_and_free c.in_ok-command.ensures ∙ is_free-command))
-      (faults_are _ _ c.in_ok-command.ensures ∙ none));
-}
+pub returns-in-Err-clause-fault : goal.returns-in-Err-clause-fault
+returns-in-Err-clause-fault c = c.refusal.ensures _ (λ other. refused_words _ (λ none. kinds_not_empty _ c.in-Err.error other
+    (c.in-Err.ensures.kinds (ap is_simple_and_free c.in_ok-command_line.ensures ∙ is_free-command)) (faults_are _ _ c.in_ok-command_line.ensures ∙ none)))

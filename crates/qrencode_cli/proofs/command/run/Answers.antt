@@ -1,6 +1,26 @@
-use Rattle.std.proofs.Common.{Err, refl}
+use Rattle.std.proofs.Common.{Err, Ok, arith, refl}
 use Rattle.qrencode_cli.proofs.lemmas.command.RunningLemmas.{tells-fault}
 use Rattle.qrencode_cli.proofs.command.run.Goals as goal
+
+pub returns-in-Ok : goal.returns-in-Ok
+returns-in-Ok g c = (
+  Ok tt,
+  record {
+    given = c.in-Ok.ensures.attempts.given;
+    is_input = c.in-Ok.ensures.attempts.is_input;
+    is_fault = tt;
+    shows = c.in-Ok.ensures.attempts.shows;
+    reads = c.in-Ok.ensures.attempts.reads;
+    tells = refl;
+    status_is = refl;
+    read_fault = c.in-Ok.ensures.read_fault;
+    write_fault = c.in-Ok.ensures.write_fault;
+    input_within = c.in-Ok.ensures.input_within;
+    out_within = c.in-Ok.ensures.within;
+    err_within = λ e. rw e (search arith);
+    offered = c.in-Ok.ensures.offered;
+  },
+)
 
 pub returns-in-Err : goal.returns-in-Err
 returns-in-Err g c = (

@@ -25,17 +25,10 @@ come-exactly o (Err usage.Level) h = search rules
 come-exactly o (Err usage.Kind) h = search rules
 come-exactly o (Err usage.NeedsVersion) h = search rules
 
-pub returns-clause-words : goal.returns-clause-words
-returns-clause-words c = (come-exactly (settings_for (map string_bytes c.args.words.now)) c.settings_in.result (search rules)).words
-
-pub returns-clause-level : goal.returns-clause-level
-returns-clause-level c = (come-exactly (settings_for (map string_bytes c.args.words.now)) c.settings_in.result (search rules)).level
-
-pub returns-clause-kind : goal.returns-clause-kind
-returns-clause-kind c = (come-exactly (settings_for (map string_bytes c.args.words.now)) c.settings_in.result (search rules)).kind
-
-pub returns-clause-version : goal.returns-clause-version
-returns-clause-version c = (come-exactly (settings_for (map string_bytes c.args.words.now)) c.settings_in.result (search rules)).version
+pub returns : goal.returns
+returns c =
+    let e = come-exactly (settings_for (map string_bytes c.args.words.now)) c.settings_in.result (search rules) in
+    record { settings = search rules; words = e.words; level = e.level; kind = e.kind; version = e.version }
 
 pub returns-in_err-matches-clause-words : goal.returns-in_err-matches-clause-words
 returns-in_err-matches-clause-words c = (come-exactly (settings_for (map string_bytes c.args.words.now)) c.from_residual.result (search rules)).words
