@@ -44,7 +44,7 @@ term-zero (suc n) f e k l = elim (cases_lt k n) [
 ]
 
 -- if each term is 0, the sum is 0
-sum-zero : (n : ℕ) (f : ℕ → ℕ) → ((k : ℕ) → k < n → f k ≡ 0) → sum_below n f ≡ 0
+pub sum-zero : (n : ℕ) (f : ℕ → ℕ) → ((k : ℕ) → k < n → f k ≡ 0) → sum_below n f ≡ 0
 sum-zero zero f e = refl
 sum-zero (suc n) f e = let here = e n (omega arith) in let rest = sum-zero n f (λ k l. e k (omega arith)) in omega arith
 

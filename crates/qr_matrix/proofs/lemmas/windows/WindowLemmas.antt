@@ -10,18 +10,18 @@ use Rattle.qr_matrix.proofs.lemmas.bit_row.BoolLemmas.{and-false, false-and}
 pub window-bit : (s : ℕ) (line core four : ℕ → Bool) (c : ℕ) → ((m : ℕ) → core m ≡ (leb (m + 7) s && reads line m finder_ratio))
     → ((m : ℕ) → four m ≡ (leb (m + 4) s && reads line m four_light)) → ((core c && four (c + 7)) || (four c && core (c + 4))) ≡ is_window s line c
 window-bit s line core four c cores fours =
-    let seven : leb (c + 7 + 4) s ≡ leb (c + 11) s = grind (arith, nat_tests) in
-    let four_more : leb (c + 4 + 7) s ≡ leb (c + 11) s = grind (arith, nat_tests) in
-    let first : leb (c + 11) s ≡ true → leb (c + 7) s ≡ true = λ e. grind (arith, nat_tests) in
-    let second : leb (c + 11) s ≡ true → leb (c + 4) s ≡ true = λ e. grind (arith, nat_tests) in
+    let seven : leb (c + 7 + 4) s ≡ leb (c + 11) s = ap (λ n. leb n s) (omega arith) in
+    let four_more : leb (c + 4 + 7) s ≡ leb (c + 11) s = ap (λ n. leb n s) (omega arith) in
     (λ i. (cores c i && fours (c + 7) i) || (fours c i && cores (c + 4) i))
-    ∙ (cc)
-    ∙ common (leb (c + 11) s) (leb (c + 7) s) (leb (c + 4) s) (reads line c finder_ratio) (reads line (c + 7) four_light) (reads line c four_light) (reads line (c + 4) finder_ratio) first second
-    ∙ sym (window-is s line c)
+    ∙ rw (seven, four_more) (common (leb (c + 11) s) (leb (c + 7) s) (leb (c + 4) s) (reads line c finder_ratio) (reads line (c + 7) four_light) (reads line c four_light) (reads line (c + 4) finder_ratio) (fits-too 7 (omega arith)) (fits-too 4 (omega arith))
+    ∙ sym (window-is s line c))
   where
     common : (u v w a b d e : Bool) → (u ≡ true → v ≡ true) → (u ≡ true → w ≡ true)
         → (((v && a) && (u && b)) || ((w && d) && (u && e))) ≡ (u && ((a && b) || (d && e)))
     common u v w a b d e p q = grind (arith, nat_tests)
+
+    fits-too : (n : ℕ) → n ≤ 11 → leb (c + 11) s ≡ true → leb (c + n) s ≡ true
+    fits-too n h e = grind (arith, nat_tests)
 
 -- no window begins at a module c from the side s on
 window-past : (s : ℕ) (line : ℕ → Bool) (c : ℕ) → s ≤ c → is_window s line c ≡ false
