@@ -5,7 +5,7 @@ ghost use Rattle.std.specs.String.{string_bytes};
 ghost use Rattle.clap.specs.Words.{app_of, found_of, kind_of};
 ghost use Rattle.clap.specs.Walk.{rows_of, rule_of};
 ghost use Rattle.clap.specs.Simple.{new_app};
-ghost use Rattle.qrencode_cli.specs.Arguments.{command, faults_for, flag_rule, number_rule, positional_rule, required_rule, rows_for, text_rule};
+ghost use Rattle.qrencode_cli.specs.Arguments.{command, faults_for, flag_rule, number_rule, positional_rule, rows_for, text_rule};
 ghost use Rattle.qrencode_cli.specs.Settings.{IsUsageFault, Reason, SettingsView, refused_by_clap, settings_for};
 ghost use Rattle.clap.specs.declared.error.kind.ErrorKind.TheVariants.{OutOfMemory};
 
@@ -40,14 +40,6 @@ fn number_option<'a>(alloc: Global, option: OptionText<'a>, most: i64) -> Arg<'a
     ensures local { result.global ≡ false }
 {
     text_option(alloc, option).value_parser(ValueParser::Signed(0, most))
-}
-
-// As `text_option`, but `clap` refuses arguments without this option.
-fn required_option<'a>(alloc: Global, option: OptionText<'a>) -> Arg<'a>
-    ensures rule { rule_of result ≡ required_rule option.entry.id.now option.entry.short }
-    ensures local { result.global ≡ false }
-{
-    text_option(alloc, option).required(true)
 }
 
 // An option without a value.
@@ -136,7 +128,7 @@ fn command_line<'a>(alloc: Global) -> Result<Command<'a>, AllocError>
 {
     let with_level = empty_command(alloc).arg(text_option(alloc, LEVEL))?;
     let with_version = with_level.arg(number_option(alloc, VERSION, 40))?;
-    let with_type = with_version.arg(required_option(alloc, TYPE))?;
+    let with_type = with_version.arg(text_option(alloc, TYPE).required(true))?;
     let with_margin = with_type.arg(number_option(alloc, MARGIN, 100))?;
     let with_bytes_only = with_margin.arg(flag_option(alloc, BYTES_ONLY))?;
     let with_kanji = with_bytes_only.arg(flag_option(alloc, KANJI))?;

@@ -133,8 +133,10 @@ group-more s k n w b p these others before after r c l h = elim (cases_lt r (2 *
   | inl m ↦ ap (λ z. has_bit z c) (others r (inl m)) ∙ before r c m h
   | inr m ↦
       let first = 2 * s * k in
+      let near : r < first + 2 * s = omega arith in
       let d : first + (r - first) ≡ r = omega arith in
-      search (arith, mod-from, mul-mod_right, exchanged-same)
+      let offset : r % (2 * s) ≡ r - first = rw d at (mod-from s first (r - first) (mul-mod_right (2 * s) k) (omega arith)) in
+      these r c m near h ∙ exchanged-same s w b r c (after r m) (after (r + s) (omega arith)) (λ u. after (r - s) (omega arith))
 ]
 
 -- ---- all stages

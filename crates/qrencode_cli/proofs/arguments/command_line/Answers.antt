@@ -1,6 +1,6 @@
-use Rattle.std.proofs.Common.{ap₂, ◌∙◌}
+use Rattle.std.proofs.Common.{true, ap, ap₂, ◌∙◌}
 use Rattle.std.proofs.lemmas.Result.{IfOk-weaker}
-use Rattle.clap.specs.Simple.{with_rule}
+use Rattle.clap.specs.{Simple.with_rule, Walk.Rule}
 use Rattle.qrencode_cli.specs.Arguments.{command}
 use Rattle.qrencode_cli.proofs.arguments.command_line.Goals as goal
 
@@ -9,7 +9,7 @@ unfolding command
 returns c =
     let a1 = c.in_ok-with_level.ensures.shape c.text_option.ensures.local ∙ ap₂ with_rule c.empty_command.ensures c.text_option.ensures.rule in
     let a2 = c.in_ok-with_version.ensures.shape c.number_option.ensures.local ∙ ap₂ with_rule a1 c.number_option.ensures.rule in
-    let a3 = c.in_ok-with_type.ensures.shape c.required_option.ensures.local ∙ ap₂ with_rule a2 c.required_option.ensures.rule in
+    let a3 = c.in_ok-with_type.ensures.shape (rw c.required.ensures c.text_option-2.ensures.local) ∙ ap₂ with_rule a2 (rw c.required.ensures (ap (λ (r : Rule). record r { required = true }) c.text_option-2.ensures.rule)) in
     let a4 = c.in_ok-with_margin.ensures.shape c.number_option-2.ensures.local ∙ ap₂ with_rule a3 c.number_option-2.ensures.rule in
     let a5 = c.in_ok-with_bytes_only.ensures.shape c.flag_option.ensures.local ∙ ap₂ with_rule a4 c.flag_option.ensures.rule in
     let a6 = c.in_ok-with_kanji.ensures.shape c.flag_option-2.ensures.local ∙ ap₂ with_rule a5 c.flag_option-2.ensures.rule in
