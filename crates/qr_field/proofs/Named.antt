@@ -3,7 +3,7 @@ use Rattle.std.proofs.lemmas.List.{length-drop, length-map}
 use Rattle.qr_field.proofs.lemmas.galois.ByteLemmas.{product-of_zero}
 use Rattle.qr_field.proofs.lemmas.laws.DistanceLemmas.{erasures-read, errors-read}
 use Rattle.qr_field.proofs.lemmas.logarithm.PowerLemmas.{powers-at, product-of_powers}
-use Rattle.qr_field.proofs.lemmas.polynomial.ListLemmas.{bytes-scaled, refill_same}
+use Rattle.qr_field.proofs.lemmas.polynomial.ListLemmas.{bytes-scaled}
 use Rattle.qr_field.proofs.lemmas.polynomial.PolynomialLemmas.{generator-next, length-carried, power-next}
 use Rattle.qr_field.proofs.lemmas.register.RegisterLemmas.{halves-after, halves-rest, packed-room}
 
@@ -11,7 +11,7 @@ pub ruleset quotients = (product-of_zero, product-of_powers)
 
 pub ruleset powers = (powers-at)
 
-pub ruleset generators = (refill_same, generator-next, length-carried, power-next)
+pub ruleset generators = (generator-next, length-carried, power-next)
 
 pub ruleset register_halves = (halves-rest, halves-after)
 
