@@ -126,20 +126,21 @@ const STRUCTURED: OptionText<'static> = OptionText {
 fn command_line<'a>(alloc: Global) -> Result<Command<'a>, AllocError>
     ensures { IfOk result (λ c. app_of c ≡ command) }
 {
-    let with_level = empty_command(alloc).arg(text_option(alloc, LEVEL))?;
-    let with_version = with_level.arg(number_option(alloc, VERSION, 40))?;
-    let with_type = with_version.arg(text_option(alloc, TYPE).required(true))?;
-    let with_margin = with_type.arg(number_option(alloc, MARGIN, 100))?;
-    let with_bytes_only = with_margin.arg(flag_option(alloc, BYTES_ONLY))?;
-    let with_kanji = with_bytes_only.arg(flag_option(alloc, KANJI))?;
-    let with_fold = with_kanji.arg(flag_option(alloc, FOLD))?;
-    let with_structured = with_fold.arg(flag_option(alloc, STRUCTURED))?;
-    with_structured.arg(positional(
-        alloc,
-        "string",
-        "STRING",
-        "Input, in place of standard input",
-    ))
+    empty_command(alloc)
+        .arg(text_option(alloc, LEVEL))?
+        .arg(number_option(alloc, VERSION, 40))?
+        .arg(text_option(alloc, TYPE).required(true))?
+        .arg(number_option(alloc, MARGIN, 100))?
+        .arg(flag_option(alloc, BYTES_ONLY))?
+        .arg(flag_option(alloc, KANJI))?
+        .arg(flag_option(alloc, FOLD))?
+        .arg(flag_option(alloc, STRUCTURED))?
+        .arg(positional(
+            alloc,
+            "string",
+            "STRING",
+            "Input, in place of standard input",
+        ))
 }
 
 // The fault if `clap` refuses the arguments by `error`.
