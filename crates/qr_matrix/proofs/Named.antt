@@ -2,7 +2,7 @@
 use Rattle.qr_matrix.proofs.lemmas.bit_row.PlaceLemmas.{at-step, eight-step, four-step, words-small}
 use Rattle.qr_matrix.proofs.lemmas.bit_row.SumLemmas.{sum_below-more}
 use Rattle.qr_matrix.proofs.lemmas.matrix.MatrixLemmas.{dark-replicate, filled-dark, filled-light, light-square, masked-bit, masked-past, row-read, rows-long, with_row-same}
-use Rattle.qr_matrix.proofs.lemmas.{penalties.PenaltyLemmas.total-is, runs.RowLemmas.size-is}
+use Rattle.qr_matrix.proofs.lemmas.runs.RowLemmas.{size-is}
 use Rattle.qr_matrix.proofs.lemmas.transposition.TranspositionLemmas.{lower-word, upper-word, word-put, word-read}
 
 -- reading and writing parts of a bit row
@@ -21,4 +21,4 @@ pub ruleset replaced_facts = (with_row-same, filled-dark, filled-light, masked-b
 pub ruleset exchange_facts = (upper-word, lower-word)
 
 -- sums of penalty points and of dark modules
-pub ruleset sum_facts = (total-is, sum_below-more, size-is)
+pub ruleset sum_facts = (sum_below-more, size-is)

@@ -46,7 +46,6 @@ fn balance_cost(modules: u32, dark: u32) -> u32
 }
 
 #[inline(always)]
-#[tactic(auto, using(crate::proofs::Named::sum_facts))]
 fn penalty_in(m: &Matrix, words: u8) -> u32
     requires width { NeedsWords m.now.side words }
     ensures { result ≡ penalty_of m.now.side (colour m.now) }
