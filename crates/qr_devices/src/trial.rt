@@ -161,13 +161,10 @@ impl Source for Trial {
         ensures faults { self.new.faults ≡ self.old.faults }
     {
         let left = self.bytes.len() - self.position;
-        let answer = match self.moved(self.reads.calls, left.min(buf.len())) {
-            Ok(n) => {
-                self.give(buf, n);
-                Ok(n)
-            }
-            Err(trouble) => Err(trouble),
-        };
+        let answer = self.moved(self.reads.calls, left.min(buf.len()));
+        if let Ok(n) = answer {
+            self.give(buf, n);
+        }
         self.reads.add(buf.len(), answer);
         answer
     }
