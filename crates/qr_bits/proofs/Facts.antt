@@ -1,5 +1,6 @@
 -- The lemmas that other crates use.
 pub use Rattle.qr_bits.proofs.lemmas.bits.BitLemmas.{bits_at, bits_of-more, bool_byte-bit, byte-behind, field-more, length-bits_of, length-field, power-fits}
+pub use Rattle.qr_bits.proofs.lemmas.segmentation.BackLemmas.{sum_by-runs_of}
 pub use Rattle.qr_bits.proofs.lemmas.best_modes.ChoiceLemmas.{byte_used}
 pub use Rattle.qr_bits.proofs.lemmas.segment.CoverLemmas.{from_turn, in_turn}
 pub use Rattle.qr_bits.proofs.lemmas.padding.CountLemmas.{capacity_least, capacity_medium, capacity_small, fitting_medium, fitting_short}

@@ -12,5 +12,5 @@ pub use Rattle.qr_symbol.proofs.lemmas.reading.RefusalLemmas.{exactly, moved}
 pub use Rattle.qr_symbol.proofs.lemmas.reading.RoundTripLemmas.{symbol-format, symbol-holds}
 pub use Rattle.qr_symbol.proofs.lemmas.series.SeriesLemmas.{long-has-no-series, series-joined, series-one}
 pub use Rattle.qr_symbol.proofs.lemmas.series.SizeLemmas.{series-few, series-side, series-some}
-pub use Rattle.qr_symbol.proofs.lemmas.encoding.SymbolLemmas.{symbol-one}
+pub use Rattle.qr_symbol.proofs.lemmas.encoding.SymbolLemmas.{symbol-one, version-one}
 pub use Rattle.qr_symbol.proofs.lemmas.interleaving.PositionLemmas.{len-most, start-most, start-next, start-none, position, position-in}

@@ -11,7 +11,7 @@ least-one : (n : ℕ) (f : ℕ → ℕ) (m k : ℕ) → IsFirstLeast n f m → I
 least-one n f m k a b = search arith
 
 -- Two least versions are equal.
-version-one : (xs : List ℕ) (l : Level) (least : ℕ) (rule : Rule) (v w : ℕ) → IsVersion least l rule xs v → IsVersion least l rule xs w → v ≡ w
+pub version-one : (xs : List ℕ) (l : Level) (least : ℕ) (rule : Rule) (v w : ℕ) → IsVersion least l rule xs v → IsVersion least l rule xs w → v ≡ w
 version-one xs l least rule v w a b = elim (cases_lt v w) [
   | inl i ↦ absurd (b.first v a.least i a.fits)
   | inr i ↦ elim (cases_lt w v) [ inl j ↦ absurd (a.first w b.least j b.fits) | inr j ↦ omega arith ]

@@ -1,11 +1,11 @@
 -- Every input has parts: it is decidable whether a prefix fits, so there is a longest one.
-use Rattle.qr_bits.proofs.Facts.{CoversInTurn, capacity_least, count_width_bound, covers_all, empty_fits, from_turn, in_turn}
+use Rattle.qr_bits.proofs.Facts.{CoversInTurn, capacity_least, count_width_bound, covers_all, empty_fits, from_turn, in_turn, sum_by-runs_of}
 use Rattle.{qr_bits.specs.Padding.room_of, qr_symbol.{proofs.lemmas.series.PartLemmas.bytes-fit, specs.Series.AreParts}}
-use Rattle.qr_bits.specs.Segmentation.{bits, prepend_mode, runs_of, Covers, IsAssignment, HasFit, IsLongestFit}
+use Rattle.qr_bits.specs.Segmentation.{bits, runs_of, Covers, IsAssignment, HasFit, IsLongestFit}
 use Rattle.qr_bits.specs.declared.modes.{Mode.{Mode, TheVariants.{Numeric, Alphanumeric, Byte, Kanji}}, Rule.Rule}
 use Rattle.{qr_bits.specs.declared.segment.Segment.Segment, qr_layout.specs.declared.level.Level.Level}
-use Rattle.std.proofs.Common.{◌≡◌, ℕ, zero, suc, ◌+◌, ◌<◌, ◌≤◌, ◌⊎◌, Bool, true, false, nat_eq, cond, List, [], ◌∷◌, length, take, drop, refl, subst, inl, inr, length-drop, arith}
-use Rattle.std.{proofs.lemmas.{Bool.cases_lt, List.Sums.sum_by-cons}, specs.{List.sum_by, Prelude.IsTrue}}
+use Rattle.std.proofs.Common.{◌≡◌, ℕ, zero, suc, ◌<◌, ◌≤◌, ◌⊎◌, Bool, true, false, List, [], ◌∷◌, length, take, drop, refl, subst, inl, inr, length-drop, arith}
+use Rattle.std.{proofs.lemmas.Bool.cases_lt, specs.Prelude.IsTrue}
 
 -- a fact is decided if it holds or does not hold
 abbrev Decided : Type 0 → Type 0
@@ -73,27 +73,13 @@ some-modes (suc n) P d =
     pick a b e (inl p) = inl (Kanji ∷ p.0, p.1)
     pick (inr a) (inr b) (inr e) (inr f) = inr (none a b e f)
 
--- the runs of a list of modes are together as long as the list
-runs-long : (ms : List Mode) → sum_by (λ s. s.len) (runs_of ms) ≡ length ms
-unfolding runs_of
-runs-long [] = refl
-runs-long (m ∷ ms) = front _ (runs-long ms)
-  where
-    front : (ss : List Segment) → sum_by (λ s. s.len) ss ≡ length ms → sum_by (λ s. s.len) (prepend_mode m ss) ≡ length (m ∷ ms)
-    front [] e = omega arith
-    front (s ∷ ss) e = by_rank (nat_eq _ _)
-      where
-        by_rank : (b : Bool) → sum_by (λ s. s.len) (cond b (record { mode = m; len = 1 + s.len } ∷ ss) (record { mode = m; len = 1 } ∷ s ∷ ss)) ≡ length (m ∷ ms)
-        by_rank true = omega (arith, e, sum_by-cons (λ (t : Segment). t.len) (record { mode = m; len = 1 + s.len }) ss, sum_by-cons (λ (t : Segment). t.len) s ss)
-        by_rank false = omega (arith, e, sum_by-cons (λ (t : Segment). t.len) (record { mode = m; len = 1 }) (s ∷ ss))
-
 -- it is decided whether bytes fit
 fits-or-not : (v : ℕ) (r : Rule) (xs : List ℕ) (n : ℕ) → Decided (HasFit v r xs n)
 fits-or-not v r xs n =
     elim (some-modes (length xs) (λ ms. IsAssignment r xs ms × (bits v (runs_of ms) ≤ n)) (λ ms. both (IsAssignment r xs ms) (bits v _ ≤ n)
     (both _ _ (true-or-not _) (covers-or-not xs _)) (most-or-not _ n))) [
       | inl p ↦ inl (p.0, p.1.0, p.1.1)
-      | inr q ↦ search (arith, runs-long, covers_all)
+      | inr q ↦ search (arith, sum_by-runs_of, covers_all)
     ]
 
 -- if no prefix longer than k fits, there is a longest prefix of at most k bytes that fits

@@ -3,10 +3,11 @@ use Rattle.qr_layout.specs.Version.{side_of}
 use Rattle.qr_matrix.specs.Grid.{Grid}
 use Rattle.qr_symbol.specs.declared.fault.EncodeFault.TheVariants as fault
 use Rattle.qr_symbol.specs.{Encoding.IsSymbol, VersionChoice.HasNoVersion, Reading.IsReadBack}
+use Rattle.qr_symbol.proofs.Facts.{version-one}
 use Rattle.qrproved.specs.declared.settings.Settings.{Settings}
 use Rattle.qrproved.specs.Settings.{AreSettings, level_of, rule_of}
 use Rattle.qrproved.specs.Encoding.{HasNoRoom}
-use Rattle.qrproved.proofs.lemmas.encoding.EncodingLemmas.{least-one, too-long-status, room-status}
+use Rattle.qrproved.proofs.lemmas.encoding.EncodingLemmas.{too-long-status, room-status}
 use Rattle.qrproved.proofs.lemmas.modules.ModuleLemmas.{one-held}
 use Rattle.qrproved.proofs.encoding.qrproved_encode.Goals as goal
 use Rattle.qrproved.proofs.encoding.qrproved_encode.Goals.{After-long_inputs_have_none, In-Err, In-Ok}
@@ -92,7 +93,7 @@ returns-else-modules-area-clause-room c =
       λ h. absurd (omega arith),
       λ w.
           let n = w.3.least in
-          let least = least-one c.args.input.now (level_of c.args.level) c.args.version (rule_of c.args.rule)
+          let least = version-one c.args.input.now (level_of c.args.level) c.args.version (rule_of c.args.rule)
           c.in-Ok.made.version n is.version w.3.fits in
           let same = ap (λ (g : Grid). g.side) is.made.drawn ∙ ap side_of least in
           let side : c.side-side.result ≡ side_of n = c.side-side.ensures.value ∙ same in

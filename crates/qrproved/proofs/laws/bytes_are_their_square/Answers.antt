@@ -1,4 +1,4 @@
-use Rattle.std.proofs.Common.{◌≡◌, ◌*◌, ◌+◌, ◌==◌, ℕ, Bool, true, false, not, slice_index_or, refl, ap, ◌∙◌, arith}
+use Rattle.std.proofs.Common.{◌≡◌, ◌*◌, ◌+◌, ◌==◌, ℕ, Bool, not, slice_index_or, ap, ◌∙◌, arith}
 use Rattle.qr_matrix.proofs.Facts.{colour-square}
 use Rattle.qr_matrix.specs.Grid.{colour}
 use Rattle.qrproved.specs.Modules.{byte_of}

@@ -1,22 +1,8 @@
 -- What the statuses mean for an input that is not encoded.
-use Rattle.std.proofs.Common.{◌≡◌, ◌≢◌, ◌↔◌, ◌⊎◌, ℕ, List, [], Result, Err, refl, inl, inr, arith}
-use Rattle.std.proofs.lemmas.Bool.{cases_lt}
-use Rattle.qr_layout.specs.declared.level.Level.{Level}
-use Rattle.qr_bits.specs.declared.modes.Rule.{Rule}
+use Rattle.std.proofs.Common.{◌≡◌, ◌≢◌, ◌↔◌, ◌⊎◌, ℕ, List, [], Result, Err, arith}
 use Rattle.qr_symbol.specs.declared.fault.EncodeFault.{EncodeFault}
 use Rattle.qr_symbol.specs.declared.fault.EncodeFault.TheVariants as fault
-use Rattle.qr_symbol.specs.VersionChoice.{IsVersion}
 use Rattle.qrproved.specs.Steps.Status.{encode_status}
-
--- bytes have at most one least version
-pub least-one : (x : List ℕ) (l : Level) (smallest : ℕ) (r : Rule) (v w : ℕ) → IsVersion smallest l r x v → IsVersion smallest l r x w → v ≡ w
-least-one x l smallest r v w h k = elim (cases_lt v w) [
-  | inl a ↦ absurd (k.first v h.least a h.fits)
-  | inr a ↦ elim (cases_lt w v) [
-    | inl b ↦ absurd (h.first w k.least b k.fits)
-    | inr b ↦ omega arith
-  ]
-]
 
 -- TOO_LONG is returned exactly if the input is too long (P), unless memory was refused
 pub too-long-status : {X : Type 0} (r : Result X EncodeFault) (f : EncodeFault) (S P : Type 0) → r ≡ Err f → S
