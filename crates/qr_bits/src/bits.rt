@@ -162,6 +162,7 @@ impl<'a> BitReader<'a> {
         requires there { width ≤ length self.old }
         requires fits { width ≤ 16 }
         ensures value { result ≡ value (take width self.old) }
+        ensures small { result < 2 ^ width }
         ensures rest { self.new ≡ drop width self.old }
     {
         let mut number = 0;
