@@ -1,4 +1,4 @@
-use Rattle.std.proofs.{Common.◌≡◌, Common.◌+◌, Common.◌<◌, Common.◌≤◌, Common.ℕ, Common.min, Common.refl, Common.ap, Common.◌∙◌, Common.arith, Math.Nat.div-lt_iff_lt-mul, lemmas.Nat.pow_pos}
+use Rattle.std.proofs.{Common.◌≡◌, Common.◌+◌, Common.◌<◌, Common.◌≤◌, Common.ℕ, Common.min, Common.refl, Common.ap, Common.◌∙◌, Common.arith, Math.Nat.div-lt_iff_lt-mul, Math.Nat.min-eq_left, lemmas.Nat.pow_pos}
 use Rattle.qr_bits.specs.declared.{modes.Mode.Mode, run_state.RunState.RunState}
 use Rattle.qr_bits.specs.declared.modes.Mode.TheVariants.{Numeric, Alphanumeric, Byte, Kanji}
 use Rattle.qr_bits.specs.declared.run_state.RunState.TheVariants.{Start, Digit1, Digit2, Digit3, Character1, Character2, InBytes, HalfPair, WholePair}
@@ -6,9 +6,6 @@ use Rattle.qr_bits.specs.Steps.RunState.{state_after, byte_cost, may_begin, may_
 use Rattle.qr_bits.specs.Steps.BestModes.{in_state, bits_at}
 use Rattle.qr_bits.proofs.lemmas.best_modes.ChoiceLemmas.{byte_used, half_choice, least_choice, number_less}
 use Rattle.qr_bits.proofs.best_modes.choices.Goals as goal
-
-less : (a b : ℕ) → a ≤ b → min a b ≡ a
-less a b h = omega arith
 
 under : (a b n : ℕ) → a ≤ b → min a (min b n) ≡ min a n
 under a b n h = omega arith
@@ -24,7 +21,7 @@ minima n a b k d c2 c1 b1 k1 h i j l = (
   swap c2 n _,
   swap c1 n _ ∙ ap (min n) (under c1 a _ i),
   swap b1 n _ ∙ ap (min n) (swap b1 a _ ∙ ap (min a) (under b1 b k j)),
-  swap k1 n _ ∙ ap (min n) (swap k1 a _ ∙ ap (min a) (swap k1 b k ∙ ap (min b) (less k1 k l))),
+  swap k1 n _ ∙ ap (min n) (swap k1 a _ ∙ ap (min a) (swap k1 b k ∙ ap (min b) (min-eq_left l))),
 )
 
 pub returns : goal.returns

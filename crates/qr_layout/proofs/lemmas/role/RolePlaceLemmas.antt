@@ -1,7 +1,7 @@
 -- Which places contain the bits of the format and version information, and that all other free places are the region.
 use Rattle.std.proofs.Common.{◌≡◌, ℕ, ◌+◌, ◌-◌, ◌%◌, ◌<◌, ◌≤◌, max, Bool, true, false, not, ◌&&◌, ◌||◌, cond, eqb, ltb, Option, None, Some, refl, sym, ap, ◌∙◌, inl, inr, ◌⊎◌, arith}
 use Rattle.std.proofs.lemmas.Bool.Decides.{nat_tests}
-use Rattle.std.proofs.lemmas.Bool.{cases_lt, cases_eq, and_parts, eqb-true}
+use Rattle.std.proofs.lemmas.Bool.{cases_lt, and_parts, eqb-true}
 use Rattle.std.specs.Int.{abs_diff}
 use Rattle.std.specs.{List.find, List.range_with_len, Option.option_map_or}
 use Rattle.qr_layout.specs.declared.{region.Module.Module, role.Role.Role}
@@ -213,7 +213,7 @@ corner-parts : (s r c : ℕ) → is_corner s r c ≡ true → ((r ≤ 8) × (c �
 corner-parts s r c h = grind (arith, nat_tests)
 
 -- in a corner, a place beyond ring 4 is in row 8 or column 8
-left-edge : (r c : ℕ) → 5 ≤ ring_of 3 3 r c → r ≤ 8 → c ≤ 8 → (c ≡ 8) ⊎ (r ≡ 8)
+left-edge : (r c : ℕ) → 5 ≤ ring_of 3 3 r c → r ≤ 8 → c ≤ 8 → (c ≡ 8) ⊎ ((r ≡ 8) × (c ≡ 8 → ⊥))
 left-edge r c n h k = grind arith
 
 far-edge : (s r c : ℕ) → 21 ≤ s → c < s → 5 ≤ max (abs_diff 3 r) (abs_diff (s - 4) c) → r ≤ 8 → s - 8 ≤ c → r ≡ 8
@@ -231,10 +231,7 @@ corners-free : (s r c : ℕ) → 21 ≤ s → r < s → c < s → 5 ≤ finder_r
 corners-free s r c l i j k m n d f = truth _ (λ h. elim (corner-parts s r c h) [
   | inl p ↦ elim (left-edge r c (omega (arith, k)) p.0 p.1) [
     | inl e ↦ down (inl p.0) e
-    | inr e ↦ elim (cases_eq c 8) [
-      | inl o ↦ down (inl p.0) o
-      | inr o ↦ across (inl p.1) e o
-    ]
+    | inr e ↦ across (inl p.1) e.0 e.1
   ]
   | inr (inl p) ↦ across (inr p.1) (far-edge s r c l j (omega (arith, k)) p.0 p.1) (λ o. omega (arith, o, p.1, l))
   | inr (inr p) ↦ down (inr p.0) (far-edge s c r l i (omega (arith, k)) p.1 p.0)
