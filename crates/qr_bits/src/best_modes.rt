@@ -181,8 +181,8 @@ pub(crate) fn best_modes(
     rule: Rule,
 ) -> Result<Vec<u32>, AllocError>
     requires { length input.now ≤ INPUT_MAX }
-    ensures len { IfOk result (λ t. vec_len t ≡ length input.now) }
-    ensures best { IfOk result (λ t. IsBestTable version rule is_kanji_pair input.now (reverse t.items)) }
+    ensures { IfOk result (λ t. (vec_len t ≡ length input.now)
+        × IsBestTable version rule is_kanji_pair input.now (reverse t.items)) }
 {
     let first_choices = FirstChoices::of(version);
     let mut table = Vec::with_capacity(alloc, input.len())?;

@@ -84,8 +84,8 @@ impl BitWriter {
 #[tactic(auto, using(crate::proofs::Named::writing_bits))]
 fn push_whole(whole: &mut Vec<u8>, bits: u32, width: u8) -> Result<u8, AllocError>
     requires { width ≤ 23 }
-    ensures few { IfOk result (λ left. left < 8) }
-    ensures bits { IfOk result (λ left. bits_of whole.new.items ++ field left bits ≡ bits_of whole.old.items ++ field width bits) }
+    ensures { IfOk result (λ left. (left < 8)
+        × (bits_of whole.new.items ++ field left bits ≡ bits_of whole.old.items ++ field width bits)) }
 {
     let mut left = width;
     while left >= 8 {

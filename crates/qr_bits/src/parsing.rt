@@ -169,7 +169,8 @@ fn values(
     out: &mut Vec<u8>,
 ) -> Result<(), ParseFault>
     requires { payload_bits mode (byte_count mode count) ≤ length reader.old }
-    ensures { IsReadOf result (values_of mode count reader.old) (payload_bits mode (byte_count mode count)) out.old.items out.new.items reader.old reader.new }
+    ensures { IsReadOf result (values_of mode count reader.old) (payload_bits mode (byte_count mode count))
+        out.old.items out.new.items reader.old reader.new }
 {
     match mode {
         Mode::Numeric => digits(reader, count, out),
@@ -181,7 +182,8 @@ fn values(
 
 fn digits(reader: &mut BitReader, count: usize, out: &mut Vec<u8>) -> Result<(), ParseFault>
     requires { payload_bits Mode.Numeric count ≤ length reader.old }
-    ensures { IsReadOf result (digits_of count reader.old) (payload_bits Mode.Numeric count) out.old.items out.new.items reader.old reader.new }
+    ensures { IsReadOf result (digits_of count reader.old) (payload_bits Mode.Numeric count)
+        out.old.items out.new.items reader.old reader.new }
 {
     let mut left = count;
     while left >= 3 {
@@ -200,7 +202,8 @@ fn digits(reader: &mut BitReader, count: usize, out: &mut Vec<u8>) -> Result<(),
 fn last_digits(reader: &mut BitReader, left: usize, out: &mut Vec<u8>) -> Result<(), ParseFault>
     requires few { left < 3 }
     requires there { payload_bits Mode.Numeric left ≤ length reader.old }
-    ensures { IsReadOf result (digits_of left reader.old) (payload_bits Mode.Numeric left) out.old.items out.new.items reader.old reader.new }
+    ensures { IsReadOf result (digits_of left reader.old) (payload_bits Mode.Numeric left)
+        out.old.items out.new.items reader.old reader.new }
 {
     match left {
         2 => {
@@ -231,7 +234,8 @@ fn digit(number: u16) -> u8
 #[tactic(auto, unfolding(crate::specs::Parsing::characters_of), using(crate::proofs::Named::reading_groups))]
 fn characters(reader: &mut BitReader, count: usize, out: &mut Vec<u8>) -> Result<(), ParseFault>
     requires { payload_bits Mode.Alphanumeric count ≤ length reader.old }
-    ensures { IsReadOf result (characters_of count reader.old) (payload_bits Mode.Alphanumeric count) out.old.items out.new.items reader.old reader.new }
+    ensures { IsReadOf result (characters_of count reader.old) (payload_bits Mode.Alphanumeric count)
+        out.old.items out.new.items reader.old reader.new }
 {
     let mut left = count;
     while left >= 2 {
@@ -263,7 +267,8 @@ fn character(value: u16) -> u8
 #[tactic(auto, unfolding(crate::specs::Parsing::bytes_of))]
 fn bytes(reader: &mut BitReader, count: usize, out: &mut Vec<u8>) -> Result<(), ParseFault>
     requires { payload_bits Mode.Byte count ≤ length reader.old }
-    ensures { IsReadOf result (Ok (bytes_of count reader.old)) (payload_bits Mode.Byte count) out.old.items out.new.items reader.old reader.new }
+    ensures { IsReadOf result (Ok (bytes_of count reader.old)) (payload_bits Mode.Byte count)
+        out.old.items out.new.items reader.old reader.new }
 {
     for _ in 0..count {
         out.push(reader.take(8) as u8)?;
@@ -274,7 +279,8 @@ fn bytes(reader: &mut BitReader, count: usize, out: &mut Vec<u8>) -> Result<(), 
 #[tactic(auto, unfolding(crate::specs::Parsing::pairs_of), using(crate::proofs::Named::reading_groups))]
 fn kanji(reader: &mut BitReader, count: usize, out: &mut Vec<u8>) -> Result<(), ParseFault>
     requires { 13 * count ≤ length reader.old }
-    ensures { IsReadOf result (pairs_of count reader.old) (13 * count) out.old.items out.new.items reader.old reader.new }
+    ensures { IsReadOf result (pairs_of count reader.old) (13 * count)
+        out.old.items out.new.items reader.old reader.new }
 {
     let mut left = count;
     while left > 0 {

@@ -41,4 +41,4 @@ loop-i-preserved c =
 pub returns : goal.returns
 returns c =
     let all = (rows _ _ _ c.loop-i.invariant.len).1 c.loop-i-test.false in
-    record { len = all.1; best = λ p ks h. (bits_at c.loop-i.rest p, (rw all.0 at c.loop-i.invariant.best) p ks h) }
+    (all.1, λ p ks h. (bits_at c.loop-i.rest p, (rw all.0 at c.loop-i.invariant.best) p ks h))

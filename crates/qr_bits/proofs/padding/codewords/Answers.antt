@@ -43,14 +43,14 @@ returns-clause-ok c =
       bytes = All-from_get_or (λ (b : ℕ). b < 256) xs 0 (λ i h. omega (arith, c.type_inv.input i));
       suit = suit;
       counts = counts_fit c.args.version c.args.level segs k.first k.last left.1;
-      header = λ h e. let r = c.requires.in_range h e in (r.0, r.1, c.in_ok-put_all.ensures.parity h e);
+      header = λ h e. let r = c.requires.in_range h e in (r.0, r.1, c.in_ok-put_all.ensures.1 h e);
       whole = refl;
     } in
     is_data c.args.version c.args.level xs segs c.args.header _ (c.header_bits.result + c.bit_len.result) c.into_codewords-codewords.result.items _ is
     (rw (length-append (header_stream c.args.header) (segments_stream c.args.version xs segs), length-header_stream c.args.header, length-segments_stream c.args.version xs segs suit, c.header_bits.ensures.value, c.bit_len.ensures) refl)
     left.0
-    (rw (c.into_codewords-codewords.ensures, c.in_ok-put_all.ensures.written, c.new-writer.ensures, c.capacity-capacity.ensures.value))
-    (search arith) c.in_ok-pad.ensures.bytes
+    (rw (c.into_codewords-codewords.ensures, c.in_ok-put_all.ensures.0, c.new-writer.ensures, c.capacity-capacity.ensures.value))
+    (search arith) c.in_ok-pad.ensures.1
 
 pub returns-clause-too_long : goal.returns-clause-too_long
 returns-clause-too_long c =
