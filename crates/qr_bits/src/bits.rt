@@ -159,8 +159,7 @@ impl<'a> BitReader<'a> {
     /// Reads `width` bits as a number, the most significant first.
     #[tactic(auto, using(crate::proofs::Named::reading_bits))]
     pub(crate) fn take(&mut self, width: usize) -> u16
-        requires there { width ≤ length self.old }
-        requires fits { width ≤ 16 }
+        requires { (width ≤ length self.old) × (width ≤ 16) }
         ensures value { result ≡ value (take width self.old) }
         ensures small { result < 2 ^ width }
         ensures rest { self.new ≡ drop width self.old }
