@@ -26,7 +26,8 @@ pub fn fold(alloc: Global, input: &[u8], rule: Rule) -> Result<Vec<u8>, AllocErr
 }
 
 fn fold_around_pairs(alloc: Global, input: &[u8]) -> Result<Vec<u8>, AllocError>
-    ensures { IfOk result (λ v. (v.items ≡ folded_around_pairs input.now) × (vec_len v ≡ length input.now)) }
+    ensures bytes { IfOk result (λ v. v.items ≡ folded_around_pairs input.now) }
+    ensures len { IfOk result (λ v. vec_len v ≡ length input.now) }
 {
     let mut folded = Vec::with_capacity(alloc, input.len())?;
     let mut rest = input;

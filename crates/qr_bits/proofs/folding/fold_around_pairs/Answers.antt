@@ -26,4 +26,4 @@ returns c =
     let f = c.loop-rest.folded in
     let none = folded_none c.loop-rest.rest.now (eqb-true _ 0 (sym c.is_empty.ensures ∙ c.loop-rest-test.false)) in
     let whole : f.items ≡ folded_around_pairs c.args.input.now = cc (append-nil f.items) in
-    (whole, omega (arith, f.ok.0, ap length whole, length-folded_around_pairs c.args.input.now))
+    record { bytes = whole; len = omega (arith, f.ok.0, ap length whole, length-folded_around_pairs c.args.input.now) }
