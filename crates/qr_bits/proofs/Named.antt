@@ -1,12 +1,10 @@
 -- The lemmas that attributes of functions name.
 use Rattle.std.proofs.{Common.append-nil, Common.append_assoc}
-use Rattle.std.proofs.lemmas.{Grind.pow_more, List.take_all, List.Sums.sum_by_more, Result.err_from_is_err_and}
+use Rattle.std.proofs.lemmas.{Grind.pow_more, List.take_all, List.Sums.sum_by_more}
 use Rattle.qr_bits.proofs.lemmas.bits.BitLemmas.{bits_of-whole, bool_byte-cond, byte-first, drop_bit, filled-none, filled-some, left_at, number-after, power-fits, value_more}
 use Rattle.qr_bits.proofs.lemmas.folding.FoldingLemmas.{length-folded}
 use Rattle.qr_bits.proofs.lemmas.{laws.DataLemmas.length-stream, lower_bound.LeastLemmas.least_held}
 use Rattle.qr_bits.proofs.lemmas.padding.PaddingLemmas.{pads-even, pads-none, pads-odd}
-use Rattle.qr_bits.proofs.lemmas.parsing.PayloadLemmas.{finish, fails, value_take_below}
-use Rattle.qr_bits.proofs.lemmas.parsing.ParsingLemmas.{behind_more, end_all, fault_all, not_ended, segment_shorter}
 
 pub ruleset writing_bits = (bits_of-whole, byte-first, filled-some, filled-none, number-after, power-fits)
 
@@ -18,6 +16,4 @@ pub ruleset sums_of_sixths = (take_all, sum_by_more, least_held)
 
 pub ruleset pad_codewords = (append-nil, append_assoc, pads-none, pads-even, pads-odd)
 
-pub ruleset segment_by_segment = (err_from_is_err_and, not_ended, segment_shorter, behind_more, fault_all, end_all)
-
-pub ruleset reading_groups = (append-nil, finish, fails, value_take_below)
+pub ruleset reading_groups = append-nil

@@ -55,8 +55,7 @@ fn may_begin(rule: Rule, byte: u8, mode: Mode) -> bool
 // The mode of `rest` is left out.
 #[inline(always)]
 fn choice_if(may: bool, first: u32, rest: u32) -> u32
-    requires first { first ≤ 135 }
-    requires rest { rest < 40000000 }
+    requires { (first ≤ 135) × (rest < 40000000) }
     ensures { (b : ℕ) (m : Mode) → first ≡ 4 * b + rank m → result ≡ choice_number may (b + rest / 4) m }
 {
     if may { first + rest / 4 * 4 } else { NO_CHOICE }
@@ -65,8 +64,7 @@ fn choice_if(may: bool, first: u32, rest: u32) -> u32
 // As `choice_if`, where `bits` are those of a byte that does not begin a segment.
 #[inline(always)]
 fn next_if(may: bool, bits: u32, mode: Mode, rest: u32) -> u32
-    requires bits { bits ≤ 33 }
-    requires rest { rest < 40000000 }
+    requires { (bits ≤ 33) × (rest < 40000000) }
     ensures { result ≡ choice_number may (bits + rest / 4) mode }
 {
     choice_if(may, number(bits, mode), rest)
@@ -181,8 +179,8 @@ pub(crate) fn best_modes(
     rule: Rule,
 ) -> Result<Vec<u32>, AllocError>
     requires { length input.now ≤ INPUT_MAX }
-    ensures len { IfOk result (λ t. vec_len t ≡ length input.now) }
-    ensures best { IfOk result (λ t. IsBestTable version rule is_kanji_pair input.now (reverse t.items)) }
+    ensures { IfOk result (λ t. (vec_len t ≡ length input.now)
+        × IsBestTable version rule is_kanji_pair input.now (reverse t.items)) }
 {
     let first_choices = FirstChoices::of(version);
     let mut table = Vec::with_capacity(alloc, input.len())?;

@@ -84,8 +84,8 @@ impl BitWriter {
 #[tactic(auto, using(crate::proofs::Named::writing_bits))]
 fn push_whole(whole: &mut Vec<u8>, bits: u32, width: u8) -> Result<u8, AllocError>
     requires { width ≤ 23 }
-    ensures few { IfOk result (λ left. left < 8) }
-    ensures bits { IfOk result (λ left. bits_of whole.new.items ++ field left bits ≡ bits_of whole.old.items ++ field width bits) }
+    ensures { IfOk result (λ left. (left < 8)
+        × (bits_of whole.new.items ++ field left bits ≡ bits_of whole.old.items ++ field width bits)) }
 {
     let mut left = width;
     while left >= 8 {
@@ -159,9 +159,9 @@ impl<'a> BitReader<'a> {
     /// Reads `width` bits as a number, the most significant first.
     #[tactic(auto, using(crate::proofs::Named::reading_bits))]
     pub(crate) fn take(&mut self, width: usize) -> u16
-        requires there { width ≤ length self.old }
-        requires fits { width ≤ 16 }
+        requires { (width ≤ length self.old) × (width ≤ 16) }
         ensures value { result ≡ value (take width self.old) }
+        ensures small { result < 2 ^ width }
         ensures rest { self.new ≡ drop width self.old }
     {
         let mut number = 0;

@@ -78,9 +78,9 @@ fn put_all(
 ) -> Result<(), AllocError>
     requires short { length input.now < 2 ^ 16 }
     requires covered { Covers input.now segs.now }
-    ensures written { OnOk result (writer.new ≡ filled (((writer.old ++ header_stream header)
-        ++ segments_stream version input.now segs.now) ++ field (min 4 left) 0)) }
-    ensures parity { OnOk result (ForSome header (λ h. h.parity < 256)) }
+    ensures { OnOk result ((writer.new ≡ filled (((writer.old ++ header_stream header)
+        ++ segments_stream version input.now segs.now) ++ field (min 4 left) 0))
+        × ForSome header (λ h. h.parity < 256)) }
 {
     put_header(writer, header)?;
     put_segments(writer, input, segs, version)?;
@@ -91,9 +91,8 @@ fn put_all(
 // Appends pad codewords, up to `len` codewords in all (7.4.10).
 #[tactic(auto, using(crate::proofs::Named::pad_codewords))]
 fn pad(codewords: &mut Vec<u8>, len: usize) -> Result<(), AllocError>
-    ensures written { OnOk result (codewords.new.items
-        ≡ codewords.old.items ++ pads (len - vec_len codewords.old)) }
-    ensures bytes { OnOk result (All (λ b. b < 256) codewords.new.items) }
+    ensures { OnOk result ((codewords.new.items ≡ codewords.old.items ++ pads (len - vec_len codewords.old))
+        × All (λ b. b < 256) codewords.new.items) }
 {
     let first = codewords.len();
     for i in first..len {

@@ -1,11 +1,11 @@
 //! Data codewords, parsed: an optional structured append header, segments and their bytes (ISO/IEC 18004:2015, 7.4.1 to
 //! 7.4.6, 8, 12).
 
-ghost use Rattle.std.specs.Prelude.{Err, IfErr, IfOk, List, OnOk, drop, length, take, ℕ, ◌%◌, ◌*◌, ◌++◌, ◌+◌, ◌<◌, ◌≡◌, ◌≤◌};
+ghost use Rattle.std.specs.Prelude.{Err, List, MatchResult, drop, length, take, ℕ, ◌%◌, ◌*◌, ◌++◌, ◌+◌, ◌<◌, ◌≡◌, ◌≤◌};
 ghost use Rattle.qr_bits.specs.Modes.{byte_count, payload_bits};
 ghost use Rattle.qr_bits.specs.Bits.{bits_of};
 ghost use Rattle.qr_bits.specs.Parsing.{IsResultOf, bytes_of, character, characters_of, digits_of, first_header, header_at, kanji_pair, pairs_of, parse, segment_at, segments_of, values_of};
-ghost use Rattle.qr_bits.specs.Steps.Parsing.{IsFaultOf, segment_of};
+ghost use Rattle.qr_bits.specs.Steps.Parsing.{IsFaultOf, IsReadOf, segment_of};
 
 use crate::bits::BitReader;
 use crate::fault::ParseFault;
@@ -78,8 +78,7 @@ pub fn parse(alloc: Global, codewords: &[u8], version: Version) -> Result<Parsed
 // A header begins with its mode indicator (8.1).
 #[tactic(auto, unfolding(crate::specs::Parsing::first_header), using(crate::proofs::lemmas::parsing::ParsingLemmas::begun))]
 fn first_header(reader: &mut BitReader) -> Result<Option<Header>, ParseFault>
-    ensures ok { IfOk result (λ h. first_header reader.old ≡ Ok (h, reader.new)) }
-    ensures err { IfErr result (λ e. first_header reader.old ≡ Err e) }
+    ensures { MatchResult result (λ h. first_header reader.old ≡ Ok (h, reader.new)) (λ e. first_header reader.old ≡ Err e) }
 {
     if !reader.begins_header() {
         return Ok(None);
@@ -92,8 +91,7 @@ fn first_header(reader: &mut BitReader) -> Result<Option<Header>, ParseFault>
 // The mode indicator is already read (8.1).
 #[tactic(auto, unfolding(crate::specs::Parsing::header_at))]
 fn header(reader: &mut BitReader) -> Result<Header, ParseFault>
-    ensures ok { IfOk result (λ h. header_at reader.old ≡ Ok (h, reader.new)) }
-    ensures err { IfErr result (λ e. header_at reader.old ≡ Err e) }
+    ensures { MatchResult result (λ h. header_at reader.old ≡ Ok (h, reader.new)) (λ e. header_at reader.old ≡ Err e) }
 {
     if reader.len() < 16 {
         return Err(ParseFault::Cut);
@@ -105,14 +103,14 @@ fn header(reader: &mut BitReader) -> Result<Header, ParseFault>
     })
 }
 
-#[tactic(auto, using(crate::proofs::Named::segment_by_segment))]
+#[tactic(auto, using(crate::proofs::lemmas::parsing::ParsingLemmas::not_ended))]
 fn segments(
     alloc: Global,
     mut reader: BitReader,
     version: Version,
 ) -> Result<(Vec<Segment>, Vec<u8>), ParseFault>
-    ensures ok { IfOk result (λ r. segments_of version reader.entry ≡ Ok (r.0.items, r.1.items)) }
-    ensures err { IfErr result (λ e. IsFaultOf e (segments_of version reader.entry)) }
+    ensures { MatchResult result (λ r. segments_of version reader.entry ≡ Ok (r.0.items, r.1.items))
+        (λ e. IsFaultOf e (segments_of version reader.entry)) }
 {
     let mut segments = Vec::new(alloc);
     let mut bytes = Vec::new(alloc);
@@ -130,10 +128,9 @@ fn segment(
     out: &mut Vec<u8>,
 ) -> Result<Segment, ParseFault>
     requires { 4 ≤ length reader.old }
-    ensures ok { IfOk result (λ s. (xs : List ℕ)
-        × (segment_at version reader.old ≡ Ok (s, xs, reader.new))
-        × (out.new.items ≡ out.old.items ++ xs)) }
-    ensures err { IfErr result (λ e. IsFaultOf e (segment_at version reader.old)) }
+    ensures { MatchResult result
+        (λ s. (xs : List ℕ) × (segment_at version reader.old ≡ Ok (s, xs, reader.new)) × (out.new.items ≡ out.old.items ++ xs))
+        (λ e. IsFaultOf e (segment_at version reader.old)) }
 {
     let (mode, count) = segment_head(reader, version)?;
     let count = usize::from(count);
@@ -146,9 +143,9 @@ fn segment(
 #[tactic(auto, unfolding(crate::specs::Parsing::segment_at, crate::specs::Parsing::leading_number, crate::specs::Parsing::payload_at))]
 fn segment_head(reader: &mut BitReader, version: Version) -> Result<(Mode, u16), ParseFault>
     requires { 4 ≤ length reader.old }
-    ensures ok { IfOk result (λ h. (segment_at version reader.old ≡ segment_of h.0 h.1 reader.new)
-        × (payload_bits h.0 (byte_count h.0 h.1) ≤ length reader.new)) }
-    ensures err { IfErr result (λ e. segment_at version reader.old ≡ Err e) }
+    ensures { MatchResult result
+        (λ h. (segment_at version reader.old ≡ segment_of h.0 h.1 reader.new) × (payload_bits h.0 (byte_count h.0 h.1) ≤ length reader.new))
+        (λ e. segment_at version reader.old ≡ Err e) }
 {
     let mode = mode_of(reader.take(4))?;
     let width = usize::from(count_width(version, mode));
@@ -172,10 +169,8 @@ fn values(
     out: &mut Vec<u8>,
 ) -> Result<(), ParseFault>
     requires { payload_bits mode (byte_count mode count) ≤ length reader.old }
-    ensures ok { OnOk result ((xs : List ℕ) × (values_of mode count reader.old ≡ Ok xs)
-        × (out.new.items ≡ out.old.items ++ xs)
-        × (reader.new ≡ drop (payload_bits mode (byte_count mode count)) reader.old)) }
-    ensures err { IfErr result (λ e. IsFaultOf e (values_of mode count reader.old)) }
+    ensures { IsReadOf result (values_of mode count reader.old) (payload_bits mode (byte_count mode count))
+        out.old.items out.new.items reader.old reader.new }
 {
     match mode {
         Mode::Numeric => digits(reader, count, out),
@@ -185,13 +180,10 @@ fn values(
     }
 }
 
-#[tactic(auto, using(crate::proofs::Named::reading_groups))]
 fn digits(reader: &mut BitReader, count: usize, out: &mut Vec<u8>) -> Result<(), ParseFault>
     requires { payload_bits Mode.Numeric count ≤ length reader.old }
-    ensures ok { OnOk result ((xs : List ℕ) × (digits_of count reader.old ≡ Ok xs)
-        × (out.new.items ≡ out.old.items ++ xs)
-        × (reader.new ≡ drop (payload_bits Mode.Numeric count) reader.old)) }
-    ensures err { IfErr result (λ e. IsFaultOf e (digits_of count reader.old)) }
+    ensures { IsReadOf result (digits_of count reader.old) (payload_bits Mode.Numeric count)
+        out.old.items out.new.items reader.old reader.new }
 {
     let mut left = count;
     while left >= 3 {
@@ -210,10 +202,8 @@ fn digits(reader: &mut BitReader, count: usize, out: &mut Vec<u8>) -> Result<(),
 fn last_digits(reader: &mut BitReader, left: usize, out: &mut Vec<u8>) -> Result<(), ParseFault>
     requires few { left < 3 }
     requires there { payload_bits Mode.Numeric left ≤ length reader.old }
-    ensures ok { OnOk result ((xs : List ℕ) × (digits_of left reader.old ≡ Ok xs)
-        × (out.new.items ≡ out.old.items ++ xs)
-        × (reader.new ≡ drop (payload_bits Mode.Numeric left) reader.old)) }
-    ensures err { IfErr result (λ e. IsFaultOf e (digits_of left reader.old)) }
+    ensures { IsReadOf result (digits_of left reader.old) (payload_bits Mode.Numeric left)
+        out.old.items out.new.items reader.old reader.new }
 {
     match left {
         2 => {
@@ -244,10 +234,8 @@ fn digit(number: u16) -> u8
 #[tactic(auto, unfolding(crate::specs::Parsing::characters_of), using(crate::proofs::Named::reading_groups))]
 fn characters(reader: &mut BitReader, count: usize, out: &mut Vec<u8>) -> Result<(), ParseFault>
     requires { payload_bits Mode.Alphanumeric count ≤ length reader.old }
-    ensures ok { OnOk result ((xs : List ℕ) × (characters_of count reader.old ≡ Ok xs)
-        × (out.new.items ≡ out.old.items ++ xs)
-        × (reader.new ≡ drop (payload_bits Mode.Alphanumeric count) reader.old)) }
-    ensures err { IfErr result (λ e. IsFaultOf e (characters_of count reader.old)) }
+    ensures { IsReadOf result (characters_of count reader.old) (payload_bits Mode.Alphanumeric count)
+        out.old.items out.new.items reader.old reader.new }
 {
     let mut left = count;
     while left >= 2 {
@@ -276,12 +264,11 @@ fn character(value: u16) -> u8
     CHARACTERS[usize::from(value)]
 }
 
-#[tactic(auto, unfolding(crate::specs::Parsing::bytes_of), using(crate::proofs::Named::reading_groups))]
+#[tactic(auto, unfolding(crate::specs::Parsing::bytes_of))]
 fn bytes(reader: &mut BitReader, count: usize, out: &mut Vec<u8>) -> Result<(), ParseFault>
     requires { payload_bits Mode.Byte count ≤ length reader.old }
-    ensures ok { OnOk result ((out.new.items ≡ out.old.items ++ bytes_of count reader.old)
-        × (reader.new ≡ drop (payload_bits Mode.Byte count) reader.old)) }
-    ensures err { IfErr result (λ e. e ≡ ParseFault.Memory) }
+    ensures { IsReadOf result (Ok (bytes_of count reader.old)) (payload_bits Mode.Byte count)
+        out.old.items out.new.items reader.old reader.new }
 {
     for _ in 0..count {
         out.push(reader.take(8) as u8)?;
@@ -292,10 +279,8 @@ fn bytes(reader: &mut BitReader, count: usize, out: &mut Vec<u8>) -> Result<(), 
 #[tactic(auto, unfolding(crate::specs::Parsing::pairs_of), using(crate::proofs::Named::reading_groups))]
 fn kanji(reader: &mut BitReader, count: usize, out: &mut Vec<u8>) -> Result<(), ParseFault>
     requires { 13 * count ≤ length reader.old }
-    ensures ok { OnOk result ((xs : List ℕ) × (pairs_of count reader.old ≡ Ok xs)
-        × (out.new.items ≡ out.old.items ++ xs)
-        × (reader.new ≡ drop (13 * count) reader.old)) }
-    ensures err { IfErr result (λ e. IsFaultOf e (pairs_of count reader.old)) }
+    ensures { IsReadOf result (pairs_of count reader.old) (13 * count)
+        out.old.items out.new.items reader.old reader.new }
 {
     let mut left = count;
     while left > 0 {

@@ -19,8 +19,7 @@ use std::alloc::AllocError;
 
 #[tactic(auto, unfolding(crate::specs::Header::header_stream))]
 pub(crate) fn put_header(writer: &mut BitWriter, header: Option<Header>) -> Result<(), AllocError>
-    ensures written { OnOk result (writer.new ≡ writer.old ++ header_stream header) }
-    ensures parity { OnOk result (ForSome header (λ h. h.parity < 256)) }
+    ensures { OnOk result ((writer.new ≡ writer.old ++ header_stream header) × ForSome header (λ h. h.parity < 256)) }
 {
     let Some(header) = header else {
         return Ok(());

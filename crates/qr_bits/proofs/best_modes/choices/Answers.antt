@@ -1,4 +1,4 @@
-use Rattle.std.proofs.{Common.◌≡◌, Common.◌+◌, Common.◌<◌, Common.◌≤◌, Common.ℕ, Common.min, Common.refl, Common.◌∙◌, Common.arith, Math.Nat.div-lt_iff_lt-mul, lemmas.Nat.pow_pos}
+use Rattle.std.proofs.{Common.◌≡◌, Common.◌+◌, Common.◌<◌, Common.◌≤◌, Common.ℕ, Common.min, Common.refl, Common.ap, Common.◌∙◌, Common.arith, Math.Nat.div-lt_iff_lt-mul, Math.Nat.min-eq_left, lemmas.Nat.pow_pos}
 use Rattle.qr_bits.specs.declared.{modes.Mode.Mode, run_state.RunState.RunState}
 use Rattle.qr_bits.specs.declared.modes.Mode.TheVariants.{Numeric, Alphanumeric, Byte, Kanji}
 use Rattle.qr_bits.specs.declared.run_state.RunState.TheVariants.{Start, Digit1, Digit2, Digit3, Character1, Character2, InBytes, HalfPair, WholePair}
@@ -7,10 +7,22 @@ use Rattle.qr_bits.specs.Steps.BestModes.{in_state, bits_at}
 use Rattle.qr_bits.proofs.lemmas.best_modes.ChoiceLemmas.{byte_used, half_choice, least_choice, number_less}
 use Rattle.qr_bits.proofs.best_modes.choices.Goals as goal
 
+under : (a b n : ℕ) → a ≤ b → min a (min b n) ≡ min a n
+under a b n h = omega arith
+
+swap : (a b n : ℕ) → min a (min b n) ≡ min b (min a n)
+swap a b n = omega arith
+
 -- the least choice in a state, as the least of the four modes, if the choice of its own mode is no more than at the start
 minima : (n a b k d c2 c1 b1 k1 : ℕ) → d ≤ n → c1 ≤ a → b1 ≤ b → k1 ≤ k → let s = min n (min a (min b k)) in
     (min d s ≡ min d (min a (min b k))) × (min c2 (min n (min b k)) ≡ min n (min c2 (min b k))) × (min c1 s ≡ min n (min c1 (min b k))) × (min b1 s ≡ min n (min a (min b1 k))) × (min k1 s ≡ min n (min a (min b k1)))
-minima n a b k d c2 c1 b1 k1 h i j l = (omega arith, omega arith, omega arith, omega arith, omega arith)
+minima n a b k d c2 c1 b1 k1 h i j l = (
+  under d n _ h,
+  swap c2 n _,
+  swap c1 n _ ∙ ap (min n) (under c1 a _ i),
+  swap b1 n _ ∙ ap (min n) (swap b1 a _ ∙ ap (min a) (under b1 b k j)),
+  swap k1 n _ ∙ ap (min n) (swap k1 a _ ∙ ap (min a) (swap k1 b k ∙ ap (min b) (min-eq_left l))),
+)
 
 pub returns : goal.returns
 unfolding may_begin may_end byte_cost state_after in_state
@@ -39,13 +51,13 @@ returns c = λ r x digit character.
     let m = minima (of Start Numeric) (of Start Alphanumeric) (of Start Byte) (of Start Kanji) (of Digit3 Numeric) (of Character1 Alphanumeric) (of Character2 Alphanumeric) (of InBytes Byte) (of WholePair Kanji)
     (number_less _ Numeric 4 _ _) (number_less _ Alphanumeric 6 _ _) (number_less _ Byte 8 _ _) (number_less _ Kanji 13 _ _) in
     elim [
-      | Start ↦ rw (c.row_for.ensures Start) (least_choice v r Start x t _ _ refl s start)
-      | Digit1 ↦ rw (c.row_for.ensures Digit1) (least_choice v r Digit1 x t _ _ refl s (rw (d2, ab) at c.min.ensures))
-      | Digit2 ↦ rw (c.row_for.ensures Digit2) (least_choice v r Digit2 x t _ _ refl s (rw (d3, ab) at c.min-2.ensures))
-      | Digit3 ↦ rw (c.row_for.ensures Digit3) (least_choice v r Digit3 x t _ _ refl s ((rw (d1, start) at c.min-3.ensures) ∙ m.0))
-      | Character1 ↦ rw (c.row_for.ensures Character1) (least_choice v r Character1 x t _ _ refl s ((rw (c2, nbk) at c.min-4.ensures) ∙ m.1))
-      | Character2 ↦ rw (c.row_for.ensures Character2) (least_choice v r Character2 x t _ _ refl s ((rw (c1, start) at c.min-5.ensures) ∙ m.2))
-      | InBytes ↦ rw (c.row_for.ensures InBytes) (least_choice v r InBytes x t _ _ refl s ((rw (b1, start) at c.min-6.ensures) ∙ m.3))
-      | HalfPair ↦ rw (c.row_for.ensures HalfPair) (half_choice v r x t _ _ c.next_if-whole_pair.ensures)
-      | WholePair ↦ rw (c.row_for.ensures WholePair) (least_choice v r WholePair x t _ _ refl s ((rw (k1, start) at c.min-7.ensures) ∙ m.4))
+      | Start ↦ least_choice v r Start x t _ _ _ (c.row_for.ensures Start) refl s start
+      | Digit1 ↦ least_choice v r Digit1 x t _ _ _ (c.row_for.ensures Digit1) refl s (rw (d2, ab) at c.min.ensures)
+      | Digit2 ↦ least_choice v r Digit2 x t _ _ _ (c.row_for.ensures Digit2) refl s (rw (d3, ab) at c.min-2.ensures)
+      | Digit3 ↦ least_choice v r Digit3 x t _ _ _ (c.row_for.ensures Digit3) refl s ((rw (d1, start) at c.min-3.ensures) ∙ m.0)
+      | Character1 ↦ least_choice v r Character1 x t _ _ _ (c.row_for.ensures Character1) refl s ((rw (c2, nbk) at c.min-4.ensures) ∙ m.1)
+      | Character2 ↦ least_choice v r Character2 x t _ _ _ (c.row_for.ensures Character2) refl s ((rw (c1, start) at c.min-5.ensures) ∙ m.2)
+      | InBytes ↦ least_choice v r InBytes x t _ _ _ (c.row_for.ensures InBytes) refl s ((rw (b1, start) at c.min-6.ensures) ∙ m.3)
+      | HalfPair ↦ half_choice v r x t _ _ _ (c.row_for.ensures HalfPair) c.next_if-whole_pair.ensures
+      | WholePair ↦ least_choice v r WholePair x t _ _ _ (c.row_for.ensures WholePair) refl s ((rw (k1, start) at c.min-7.ensures) ∙ m.4)
     ]

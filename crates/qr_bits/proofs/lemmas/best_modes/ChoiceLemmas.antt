@@ -51,21 +51,20 @@ unfolding may_end may_take
 take_begin r p x pair m e = grind arith
 
 -- after half a pair, kanji mode is the choice
-pub half_choice : (v : ℕ) (r : Rule) (x : ℕ) (pair : Bool) (cost : RunState → ℕ) (c : ℕ) → c ≡ choice_number true (byte_cost v HalfPair Kanji + cost (state_after HalfPair Kanji)) Kanji
-    → IsChoice v r HalfPair x pair cost (ranked (c % 4)) (c / 4)
+pub half_choice : (v : ℕ) (r : Rule) (x : ℕ) (pair : Bool) (cost : RunState → ℕ) (c : ℕ) (m : Mode) → m ≡ ranked (c % 4)
+    → c ≡ choice_number true (byte_cost v HalfPair Kanji + cost (state_after HalfPair Kanji)) Kanji → IsChoice v r HalfPair x pair cost m (c / 4)
 unfolding may_take byte_cost state_after
-half_choice v r x pair cost c is = search (arith, ranked-number)
+half_choice v r x pair cost c m chosen is = rw chosen (search (arith, ranked-number))
 
 state_after-byte : (p : RunState) → state_after p Byte ≡ InBytes
 unfolding state_after
 state_after-byte _ = refl
 
 -- the least number is that of the mode of lowest rank among those that lead to the fewest bits
-pub least_choice : (v : ℕ) (r : Rule) (p : RunState) (x : ℕ) (q : Bool) (cost : RunState → ℕ) (c : ℕ) → may_end p ≡ true → cost InBytes < 10000000
-    → c ≡ least_of (may_begin r x q) (λ k. byte_cost v p k + cost (state_after p k))
-    → IsChoice v r p x q cost (ranked (c % 4)) (c / 4)
+pub least_choice : (v : ℕ) (r : Rule) (p : RunState) (x : ℕ) (q : Bool) (cost : RunState → ℕ) (c : ℕ) (n : Mode) → n ≡ ranked (c % 4) → may_end p ≡ true → cost InBytes < 10000000
+    → c ≡ least_of (may_begin r x q) (λ k. byte_cost v p k + cost (state_after p k)) → IsChoice v r p x q cost n (c / 4)
 unfolding may_begin
-least_choice v r p x q cost c e small is =
+least_choice v r p x q cost c n chosen e small is =
     let t : Mode → ℕ = λ k. byte_cost v p k + cost (state_after p k) in
     let take : (k : Mode) → may_take r p x q k ≡ may_begin r x q k = λ k. take_begin r p x q k e in
     let under : (k : Mode) → may_take r p x q k ≡ true → c ≤ 4 * t k + rank k = search (arith, least_under) in
@@ -73,7 +72,7 @@ least_choice v r p x q cost c e small is =
     let taken : IsTaken (may_begin r x q) t c = rw is (taken_least (may_begin r x q) t (rw is at few)) in
     let m = taken.0 in
     let bits : c / 4 ≡ t m = omega (arith, taken.2, rank_below m) in
-    rw (ranked-number c (t m) m taken.2) (search (arith, rank_below))
+    rw (chosen, ranked-number c (t m) m taken.2) (search (arith, rank_below))
 
 -- without the bits of a segment's indicators the number is no larger
 pub number_less : (may : Bool) (m : Mode) (k w n : ℕ) → choice_number may (k + n) m ≤ choice_number may (4 + w + k + n) m

@@ -54,6 +54,9 @@ pub zeros : (p : RunState) → bits_at (record { start = 0; digit1 = 0; digit2 =
 unfolding in_state
 zeros p = grind arith
 
+pub zeros_small : (n : ℕ) (p : RunState) → bits_at (record { start = 0; digit1 = 0; digit2 = 0; digit3 = 0; character1 = 0; character2 = 0; in_bytes = 0; half_pair = 0; whole_pair = 0 }) p ≤ n
+zeros_small n p = omega (arith, zeros p)
+
 -- the modes of all numbers as one row: two bits for each state
 abbrev pub packed : PerState → ℕ
 packed n = n.start % 4 + 4 * (n.digit1 % 4 + 4 * (n.digit2 % 4 + 4 * (n.digit3 % 4 + 4 * (n.character1 % 4 + 4 * (n.character2 % 4 + 4 * (n.in_bytes % 4 + 4 * (n.half_pair % 4 + 4 * (n.whole_pair % 4))))))))

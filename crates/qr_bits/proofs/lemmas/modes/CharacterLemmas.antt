@@ -25,6 +25,10 @@ pub character_place : (b : ℕ) → is_alphanumeric b ≡ true → position (λ 
 unfolding is_alphanumeric character_value
 character_place b h = rw (lt-ltb _ _ (found (λ c. c == b) characters h)) refl
 
+pub character_index : (b n : ℕ) → is_alphanumeric b ≡ true → position (λ c. c == b) characters ≡ Some n → (n ≡ character_value b) × (n ≤ 44)
+character_index b n h e =
+    let i : n ≡ character_value b = cc (character_place b h) in (i, omega (arith, character_found b h, i))
+
 -- a character is the character of its value
 pub character_again : (b : ℕ) → is_alphanumeric b ≡ true → character (character_value b) ≡ b
 unfolding is_alphanumeric character_value character

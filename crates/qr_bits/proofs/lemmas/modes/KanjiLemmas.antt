@@ -1,6 +1,6 @@
 -- Kanji pairs: a pair that is written as a value is read back, and the other way round.
-use Rattle.std.proofs.lemmas.Bool.{Decides.nat_tests, le-leb, and_parts, and_from, false≢true}
-use Rattle.std.proofs.Common.{cond, ◌≡◌, ℕ, zero, suc, ◌+◌, ◌-◌, ◌*◌, ◌/◌, ◌%◌, ◌<◌, ◌≤◌, Bool, true, nat_le, List, [], ◌∷◌, ◌++◌, length, take, drop, Ok, Err, refl, subst, arith, append_assoc}
+use Rattle.std.proofs.lemmas.Bool.{Decides.nat_tests, le-leb, lt-leb, and_parts, and_from, false≢true}
+use Rattle.std.proofs.Common.{◌≡◌, ℕ, zero, suc, ◌+◌, ◌*◌, ◌/◌, ◌%◌, ◌<◌, ◌≤◌, Bool, true, List, [], ◌∷◌, ◌++◌, length, take, drop, Ok, Err, refl, subst, arith, append_assoc}
 use Rattle.std.proofs.lemmas.List.{length-drop, Elements.All-cons, Elements.All-nil}
 use borrow.Author.Tests.{leb-true}
 use Rattle.qr_bits.specs.{declared.fault.ParseFault.TheVariants.BadValue, Bits.value}
@@ -52,9 +52,8 @@ pairs_takes (suc n) xs bits h e =
     let whole = more_written 13 (13 * n) bits (kanji_bits b.0) (omega arith) (rw one at w.whole) in
     subst (IsWritten Kanji (suc n) bits) (same_ok _ _ b.2) (search (arith, All-cons, and_from))
 
--- a kanji pair, and the pairs after it
-pub pairs_step : (n : ℕ) (bits : List Bool) → 0 < n → pairs_of n bits ≡ cond (nat_le (value (take 13 bits) % 0xC0) 0xBC)
-    (pairs_of (n - 1) (drop 13 bits) >>= λ xs. Ok (kanji_pair (value (take 13 bits)) / 256 ∷ kanji_pair (value (take 13 bits)) % 256 ∷ xs)) (Err BadValue)
+-- a kanji pair, and the pairs after it; or a value that no pair has
+pub pairs_step : (n m : ℕ) (bits : List Bool) → n ≡ suc m → let g = value (take 13 bits) in (13 + 13 * m ≡ 13 * n)
+    × (g % 0xC0 ≤ 0xBC → pairs_of n bits ≡ (pairs_of m (drop 13 bits) >>= λ xs. Ok (kanji_pair g / 256 ∷ kanji_pair g % 256 ∷ xs))) × (0xBC < g % 0xC0 → pairs_of n bits ≡ Err BadValue)
 unfolding pairs_of
-pairs_step zero bits h = absurd (omega arith)
-pairs_step (suc n) bits h = let e : suc n - 1 ≡ n = omega arith in rw e refl
+pairs_step n m bits h = (omega (arith, h), λ l. rw (h, le-leb _ 0xBC l) refl, λ l. rw (h, lt-leb _ 0xBC l) refl)

@@ -86,6 +86,10 @@ segments_step v bits h = grind (arith, enough, segment_shorter, not_ended)
 abbrev pub behind : List Segment → List ℕ → Result (List Segment × List ℕ) ParseFault → Result (List Segment × List ℕ) ParseFault
 behind segs xs read = read >>= λ r. Ok (segs ++ r.0, xs ++ r.1)
 
+pub behind_none : (read : Result (List Segment × List ℕ) ParseFault) → behind [] [] read ≡ read
+behind_none (Ok r) = refl
+behind_none (Err e) = refl
+
 -- one more segment is read
 pub behind_more : (v : ℕ) (bits rest : List Bool) (segs : List Segment) (xs ys : List ℕ) (s : Segment) → ends bits ≡ false → segment_at v bits ≡ Ok (s, ys, rest)
     → behind segs xs (segments_of v bits) ≡ behind (segs ++ s ∷ []) (xs ++ ys) (segments_of v rest)

@@ -1,42 +1,53 @@
 -- The data of a segment is read group by group.
-use Rattle.std.proofs.Common.{cond, nat_lt, ◌≡◌, ℕ, suc, ◌-◌, ◌/◌, ◌%◌, ◌^◌, ◌<◌, ◌≤◌, Bool, List, [], ◌∷◌, ◌++◌, take, drop, Result, Ok, Err, arith}
-use Rattle.std.proofs.{lemmas.List.length-take, lemmas.List.append_assoc, Math.Nat.pow-le-pow_right}
+use Rattle.std.proofs.Common.{◌≡◌, ℕ, suc, ◌+◌, ◌*◌, ◌/◌, ◌%◌, ◌^◌, ◌<◌, ◌≤◌, Bool, List, ◌∷◌, ◌++◌, length, take, drop, Result, Ok, Err, inr, refl, sym, ap, ◌∙◌, append_assoc, arith}
+use Rattle.std.proofs.lemmas.{Bool.lt-ltb, Bool.le-ltb, List.length-take, List.length-drop, List.drop-drop}
+use Rattle.std.proofs.Math.Nat.{pow-le-pow_right}
 use Rattle.qr_bits.specs.declared.fault.ParseFault.{ParseFault, TheVariants.BadValue}
-use Rattle.qr_bits.specs.{Bits.value, Steps.Parsing.IsFaultOf}
+use Rattle.qr_bits.specs.declared.modes.Mode.TheVariants.{Numeric, Alphanumeric}
+use Rattle.qr_bits.specs.{Bits.value, Modes.payload_bits, Steps.Parsing.IsFaultOf, Steps.Parsing.prepend_read}
 use Rattle.qr_bits.specs.Parsing.{◌>>=◌, digit, digits_of, character, characters_of, bytes_of}
-use Rattle.qr_bits.proofs.lemmas.bits.BitLemmas.{value_below}
+use Rattle.qr_bits.proofs.lemmas.{bits.BitLemmas.value_below, stream.WritingLemmas.three_more}
 
 -- bits make a number below the power of their width
 pub value_take_below : (w : ℕ) (bs : List Bool) → value (take w bs) < 2 ^ w
 value_take_below w bs = search (arith, length-take, value_below, pow-le-pow_right)
 
--- the result for the rest, with the bytes that were read before it
-abbrev pub prepend_read : List ℕ → Result (List ℕ) ParseFault → Result (List ℕ) ParseFault
-prepend_read prefix read = read >>= λ xs. Ok (prefix ++ xs)
-
--- three digits, and the digits after them
-pub digits_step : (n : ℕ) (bs : List Bool) → 3 ≤ n → digits_of n bs ≡ cond (nat_lt (value (take 10 bs)) 1000)
-    (digits_of (n - 3) (drop 10 bs) >>= λ ds. Ok (digit (value (take 10 bs) / 100) ∷ digit (value (take 10 bs) / 10) ∷ digit (value (take 10 bs)) ∷ ds)) (Err BadValue)
+-- three digits, and the digits after them; or a number that is too large
+pub digits_step : (n m : ℕ) (bs : List Bool) → n ≡ suc (suc (suc m)) → let g = value (take 10 bs) in (10 + payload_bits Numeric m ≡ payload_bits Numeric n)
+    × (g < 1000 → digits_of n bs ≡ (digits_of m (drop 10 bs) >>= λ xs. Ok (digit (g / 100) ∷ digit (g / 10) ∷ digit g ∷ xs))) × (1000 ≤ g → digits_of n bs ≡ Err BadValue)
 unfolding digits_of
-digits_step (suc (suc (suc n))) bs h = search arith
-digits_step _ bs h = absurd (omega arith)
+digits_step n m bs h = (rw h (search (arith, three_more)), λ l. rw (h, lt-ltb _ 1000 l) refl, λ l. rw (h, le-ltb _ 1000 l) refl)
 
--- two characters, and the characters after them
-pub characters_step : (n : ℕ) (bits : List Bool) → 2 ≤ n → characters_of n bits ≡ cond (nat_lt (value (take 11 bits)) 2025)
-    (characters_of (n - 2) (drop 11 bits) >>= λ cs. Ok (character (value (take 11 bits) / 45) ∷ character (value (take 11 bits) % 45) ∷ cs)) (Err BadValue)
+-- two characters, and the characters after them; or a number that is too large
+pub characters_step : (n m : ℕ) (bs : List Bool) → n ≡ suc (suc m) → let g = value (take 11 bs) in (11 + payload_bits Alphanumeric m ≡ payload_bits Alphanumeric n)
+    × (g < 2025 → characters_of n bs ≡ (characters_of m (drop 11 bs) >>= λ xs. Ok (character (g / 45) ∷ character (g % 45) ∷ xs))) × (2025 ≤ g → characters_of n bs ≡ Err BadValue)
 unfolding characters_of
-characters_step (suc (suc n)) bits h = search arith
-characters_step _ bits h = absurd (omega arith)
+characters_step n m bs h = (omega (arith, h), λ l. rw (h, lt-ltb _ 2025 l) refl, λ l. rw (h, le-ltb _ 2025 l) refl)
 
 -- a byte, and the bytes after it
-pub bytes_more : (prefix : List ℕ) (n : ℕ) (bits : List Bool) → 0 < n → prefix ++ bytes_of n bits ≡ (prefix ++ value (take 8 bits) ∷ []) ++ bytes_of (n - 1) (drop 8 bits)
+pub bytes_step : (n m : ℕ) (bs : List Bool) → n ≡ suc m → (8 + 8 * m ≡ 8 * n) × (bytes_of n bs ≡ value (take 8 bs) ∷ bytes_of m (drop 8 bs))
 unfolding bytes_of
-bytes_more prefix n bits h = grind (arith, append_assoc)
+bytes_step n m bs h = (omega (arith, h), rw h refl)
 
--- if the rest is read, the whole is read
-pub finish : (prefix out zs : List ℕ) (read whole : Result (List ℕ) ParseFault) → prepend_read prefix read ≡ prepend_read out whole → read ≡ Ok zs → (xs : List ℕ) × (whole ≡ Ok xs) × (prefix ++ zs ≡ out ++ xs)
-finish prefix out zs read whole h e = grind arith
+-- what was read before, and what `read` reads from the first w bits, make the whole
+pub record IsReading (read : Result (List ℕ) ParseFault) (w : ℕ) (out : List ℕ) (bits : List Bool) (whole : Result (List ℕ) ParseFault) (end : List Bool) : Type 0 where
+  pub reads : prepend_read out read ≡ whole
+  pub there : w ≤ length bits
+  pub rest : drop w bits ≡ end
+
+after_group : (out new group : List ℕ) (later read : Result (List ℕ) ParseFault) → new ≡ out ++ group → read ≡ (later >>= λ xs. Ok (group ++ xs)) → prepend_read new later ≡ prepend_read out read
+after_group out new group (Ok xs) read o e = rw (o, e) (ap (λ (ys : List ℕ). Ok ys) (append_assoc out group xs))
+after_group out new group (Err f) read o e = rw e refl
+
+-- a group of k bits is read
+pub group_read : {w m : ℕ} {out new : List ℕ} {bits rest end : List Bool} {read later whole : Result (List ℕ) ParseFault} (k : ℕ) (group : List ℕ) → IsReading read m out bits whole end
+    → k + w ≡ m → rest ≡ drop k bits → new ≡ out ++ group → read ≡ (later >>= λ xs. Ok (group ++ xs)) → IsReading later w new rest whole end
+group_read {w = w} {bits = bits} k group h e r o f = record {
+  reads = after_group _ _ group _ _ o f ∙ h.reads;
+  there = omega (arith, e, h.there, ap length r, length-drop k bits);
+  rest = ap (drop w) r ∙ drop-drop w k bits ∙ ap (λ (i : ℕ). drop i bits) e ∙ h.rest;
+}
 
 -- if the rest fails, the whole fails
-pub fails : (prefix out : List ℕ) (read whole : Result (List ℕ) ParseFault) (f : ParseFault) → prepend_read prefix read ≡ prepend_read out whole → read ≡ Err f → IsFaultOf f whole
-fails prefix out read whole f h e = grind arith
+pub fails : {w : ℕ} {out : List ℕ} {bits end : List Bool} {read whole : Result (List ℕ) ParseFault} {f : ParseFault} → IsReading read w out bits whole end → read ≡ Err f → IsFaultOf f whole
+fails {out = out} h e = inr (sym h.reads ∙ ap (prepend_read out) e)

@@ -1,13 +1,14 @@
 -- Segments that grow at their end.
-use Rattle.std.proofs.Common.{◌≡◌, ℕ, zero, suc, ◌+◌, true, ◌==◌, List, [], ◌∷◌, ◌++◌, length, replicate, refl, append_assoc, arith}
-use Rattle.std.proofs.lemmas.{Bool.Decides.nat_tests, List.Sums.sum_by-cons, Bool.and_from, Bool.cond_both, Bool.ne_eqb}
+use Rattle.std.proofs.Common.{◌≡◌, ℕ, zero, suc, ◌+◌, true, ◌==◌, false, ◌⊎◌, List, [], ◌∷◌, ◌++◌, ◌≤◌, length, replicate, reverse, refl, sym, ap, ◌∙◌, append_assoc, arith, rules}
+use Rattle.std.proofs.lemmas.{Bool.Decides.nat_tests, List.Sums.sum_by-cons, Bool.and_from, Bool.cond_both, Bool.ne_eqb, Bool.false≢true}
 use Rattle.qr_bits.specs.{declared.modes.Mode.Mode, contracts.modes.Mode.the_type}
 use Rattle.qr_bits.specs.{declared.modes.Rule.Rule, declared.segment.Segment.Segment, Modes.may_use}
 use Rattle.qr_bits.specs.Segmentation.{rank, prepend_mode, runs_of}
 use Rattle.qr_bits.specs.Steps.Segmentation.{one_segment, append_mode}
-use denote.Enum.Bare.{sameb}
+use Rattle.qr_bits.specs.{declared.run_state.RunState.RunState, Steps.RunState.state_after, Steps.RunState.state_on, Steps.BestModes.follow, Steps.BestModes.mode_at}
+use denote.Enum.Bare.{sameb, same_true}
 use Rattle.std.specs.List.{list_all, sum_by}
-use Rattle.qr_bits.proofs.lemmas.run_state.BestLemmas.{same_rank}
+use Rattle.qr_bits.proofs.lemmas.{run_state.BestLemmas.same_rank, best_modes.ChoiceLemmas.on_after, best_modes.TableLemmas.led_on}
 
 both_ends : (k : Mode) (segs : List Segment) (m : Mode) → prepend_mode k (append_mode segs m) ≡ append_mode (prepend_mode k segs) m
 unfolding append_mode
@@ -36,6 +37,38 @@ pub run_other : (segs : List Segment) (k m : Mode) (n : ℕ) → (n ≡ 0 → se
 unfolding append_mode
 run_other segs k m n none other = grind (arith, append_mode-last, ne_eqb, same_rank, append_assoc)
 
+sameb_self : (m : Mode) → sameb the_type m m ≡ true
+sameb_self m = grind arith
+
+-- the modes so far, whose runs were found, the last of them open, and then those to which k rows of the table lead
+pub record IsFound (all : List Mode) (most : ℕ) (found : List Segment) (m : Mode) (n : ℕ) (p : RunState) (rows : List ℕ) (k : ℕ) : Type 0 where
+  pub modes : List Mode
+  pub runs : found ++ one_segment m n ≡ runs_of modes
+  pub led : modes ++ follow p (reverse rows) ≡ all
+  pub few : n + k ≤ most
+  pub first : n ≡ 0 → found ≡ []
+  pub next : state_on p ≡ state_after p m
+
+-- one more row, whose mode goes on with the open run or begins one
+pub found_more : {all : List Mode} {most n k : ℕ} {found : List Segment} {m : Mode} {p : RunState} {items : List ℕ} (rows : List ℕ) (row j i : ℕ) (w : Mode) (new : List Segment)
+    → IsFound all most found m n p items k → items ≡ rows ++ row ∷ [] → j + 1 ≡ k → w ≡ mode_at row p
+    → (i ≡ 0) ⊎ (i ≡ n) → new ++ one_segment w (i + 1) ≡ append_mode (found ++ one_segment m n) w → IsFound all most new w (i + 1) (state_after p w) rows j
+found_more {p = p} rows row j i w new h e l is low f = record {
+  modes = h.modes ++ w ∷ [];
+  runs = f ∙ ap (λ (r : List Segment). append_mode r w) h.runs ∙ sym (runs_of-push h.modes w);
+  led = led_on p _ _ _ h.modes _ w e is h.led;
+  few = omega (arith, h.few, l, low);
+  first = λ z. absurd (omega arith);
+  next = on_after p w;
+}
+
+-- equal modes by the test, and unequal ones
+pub same_mode : (k m : Mode) → true ≡ sameb the_type k m → k ≡ m
+same_mode k m h = same_true the_type (search rules) k m (sym h)
+
+pub other_mode : (k m : Mode) → false ≡ sameb the_type m k → k ≡ m → ⊥
+other_mode k m h e = false≢true (h ∙ rw e (sameb_self m))
+
 sum_by-prepend_mode : (m : Mode) (segs : List Segment) → sum_by (λ s. s.len) (prepend_mode m segs) ≡ 1 + sum_by (λ s. s.len) segs
 sum_by-prepend_mode m [] = refl
 sum_by-prepend_mode m (s ∷ ss) =
@@ -59,7 +92,3 @@ runs_of-replicate m (suc (suc n)) = search (arith, nat_tests, runs_of-replicate 
 pub all_used : (r : Rule) (m : Mode) (n : ℕ) → may_use r m ≡ true → list_all (may_use r) (replicate n m) ≡ true
 all_used r m zero u = refl
 all_used r m (suc n) u = search (arith, and_from, all_used r m n u)
-
--- a mode is equal to itself
-pub sameb_self : (m : Mode) → sameb the_type m m ≡ true
-sameb_self m = grind arith

@@ -1,22 +1,31 @@
-use Rattle.std.proofs.Common.{◌≡◌, ◌+◌, ◌≤◌, ◌<◌, [], ◌∷◌, take, length, get_or, arith, ⊎_elim}
-use Rattle.std.proofs.lemmas.Bool.{cases_lt}
+use Rattle.std.proofs.Common.{◌≡◌, ℕ, ◌+◌, ◌≤◌, ◌<◌, [], ◌∷◌, take, length, get_or, arith, ⊎_elim}
+use Rattle.std.proofs.{lemmas.Bool.cases_lt, Math.Nat.le_refl}
 use Rattle.qr_bits.specs.{Modes.is_kanji_pair, Steps.RunState.swapped, Steps.BestModes.in_state, Steps.BestModes.IsRow}
-use Rattle.qr_bits.proofs.lemmas.best_modes.TableLemmas.{best_none, small_more, small_row, zeros}
+use Rattle.qr_bits.proofs.lemmas.best_modes.TableLemmas.{best_none, small_more, small_row, zeros, zeros_small}
 use Rattle.qr_bits.proofs.lemmas.longest_prefix.MirrorLemmas.{empty_fits, prefix_more, prefix_fits, prefix_least}
 use Rattle.qr_bits.proofs.longest_prefix.longest_by_rows.Goals as goal
 use Rattle.qr_bits.proofs.longest_prefix.longest_by_rows.Goals.{then-from-room, else-from-room}
 
+below : (i l m : ℕ) → i < l → l ≤ m → i ≤ m
+below i l m h e = omega arith
+
+more : (n i : ℕ) → n ≤ i → n ≤ i + 1
+more n i h = omega arith
+
+last : (i k : ℕ) → i < k → k ≤ i + 1 → k ≡ i + 1
+last i k l h = omega arith
+
 pub loop-i-init : goal.loop-i-init
 loop-i-init c = record {
-  inside = omega arith;
+  inside = le_refl 0;
   fits = empty_fits c.args.version c.args.rule _;
   longest = λ k h fit. h;
-  small = λ p. omega (arith, zeros p);
+  small = zeros_small _;
   best = ([], best_none c.args.version c.args.rule (swapped is_kanji_pair) _ zeros);
 }
 
 pub best_choices-requires : goal.best_choices-requires
-best_choices-requires c = search (arith, small_row)
+best_choices-requires c = small_row _ c.loop-i.i (below _ _ _ c.loop-i-test.true c.requires) c.loop-i.invariant.small
 
 pub loop-i-preserved : goal.loop-i-preserved
 unfolding in_state
@@ -27,26 +36,26 @@ loop-i-preserved c =
     let i = c.loop-i.i in
     let inv = c.loop-i.invariant in
     let chosen : IsRow v r (get_or xs i 0) _ c.loop-i.rest c.best_choices.result.0 c.best_choices.result.1 = rw c.of-first_choices.ensures at c.best_choices.ensures in
-    let b = prefix_more v r xs i _ inv.best.0 _ _ _ (omega arith) c.ends_with_pair-pair.ensures inv.best.1 chosen in
+    let b = prefix_more v r xs i _ inv.best.0 _ _ _ c.loop-i-test.true c.ends_with_pair-pair.ensures inv.best.1 chosen in
     let room = c.args.room in
     elim c.if-from-room.branch [
       | then-from-room w ↦
           rw w.longest-is (record {
-            inside = omega arith;
+            inside = le_refl (i + 1);
             fits = prefix_fits v r (take (i + 1) xs) _ _ room b (omega (arith, w.if-from-room.true, c.from.ensures));
             longest = λ k h _. h;
-            small = search (arith, small_more);
+            small = small_more v r _ _ _ _ _ _ inv.small chosen;
             best = (c.best_choices.result.0 ∷ inv.best.0, b);
           })
       | else-from-room w ↦
           rw w.longest-is (record {
-            inside = omega (arith, inv.inside);
+            inside = more _ _ inv.inside;
             fits = inv.fits;
             longest = λ k h fit. ⊎_elim (λ (l : i < k).
-                let e : k ≡ i + 1 = omega arith in
+                let e = last i k l h in
                 absurd (omega (arith, prefix_least v r (take (i + 1) xs) _ _ room b (rw e at fit), w.if-from-room.false, c.from.ensures)))
                 (λ (l : k ≤ i). inv.longest k l fit) (cases_lt i k);
-            small = search (arith, small_more);
+            small = small_more v r _ _ _ _ _ _ inv.small chosen;
             best = (c.best_choices.result.0 ∷ inv.best.0, b);
           })
     ]

@@ -1,20 +1,16 @@
-use Rattle.std.proofs.Common.{◌≡◌, ◌+◌, ◌-◌, ◌*◌, length, ap, arith}
-use Rattle.std.proofs.lemmas.List.{length-drop, drop-drop}
-use Rattle.qr_bits.proofs.lemmas.parsing.PayloadLemmas.{value_take_below, bytes_more}
+use Rattle.std.proofs.Common.{◌≡◌, ℕ, List, ◌+◌, ◌-◌, [], ◌∷◌, Ok, ap, append-nil, arith, sym, ◌∙◌}
+use Rattle.qr_bits.specs.Parsing.{bytes_of}
+use Rattle.qr_bits.proofs.lemmas.parsing.PayloadLemmas.{bytes_step, group_read}
 use Rattle.qr_bits.proofs.parsing.bytes.Goals as goal
-
-pub overflow_cast-take : goal.overflow_cast-take
-overflow_cast-take c = omega (arith, c.take.ensures.value, value_take_below 8 c.loop.reader)
 
 pub loop-preserved : goal.loop-preserved
 loop-preserved c =
-    let i = c.loop.invariant in
-    let left = c.args.count - c.loop.counter in
-    let less : left - 1 ≡ c.args.count - (c.loop.counter + 1) = omega arith in
-    let more = bytes_more c.loop.out.items left c.loop.reader (omega arith) in
-    let eight : 8 + 8 * (left - 1) ≡ 8 * left = omega arith in
-    record {
-      reads = cc (c.in_ok-push.ensures.items, c.take.ensures.value, c.take.ensures.rest, i.reads);
-      there = omega (arith, length-drop 8 c.loop.reader, ap length c.take.ensures.rest);
-      rest = cc (drop-drop (8 * (left - 1)) 8 c.loop.reader, c.take.ensures.rest, i.rest);
-    }
+    let g = c.take.ensures in
+    let s = bytes_step (c.args.count - c.loop.counter) (c.args.count - (c.loop.counter + 1)) c.loop.reader (omega (arith, c.loop-test.true)) in
+    group_read 8 (c.take.result ∷ []) c.loop.invariant s.0 g.rest c.in_ok-push.ensures.items (rw (g.rest, g.value) (ap (λ (xs : List ℕ). Ok xs) s.1))
+
+pub returns : goal.returns
+unfolding bytes_of
+returns c =
+    let i = rw (let none : c.args.count - c.loop.counter ≡ 0 = omega (arith, c.loop-test.false) in none) at c.loop.invariant in
+    (sym i.reads ∙ ap (λ (xs : List ℕ). Ok xs) (append-nil c.loop.out.items), i.rest)

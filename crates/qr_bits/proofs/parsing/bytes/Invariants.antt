@@ -1,10 +1,9 @@
-use Rattle.std.proofs.Common.{◌≡◌, ◌-◌, ◌*◌, ◌≤◌, ◌++◌, length, drop}
-use Rattle.qr_bits.specs.Parsing.{bytes_of}
+use Rattle.std.proofs.Common.{◌*◌, ◌-◌, drop, Ok}
+use Rattle.qr_bits.specs.{Parsing.bytes_of, Steps.Parsing.prepend_read}
+use Rattle.qr_bits.proofs.lemmas.parsing.PayloadLemmas.{IsReading}
 use Rattle.qr_bits.proofs.parsing.bytes.Given as goal
 
 abbrev pub invariant-loop : goal.invariant-loop
-invariant-loop l = record {
-  reads : l.out.items ++ bytes_of (l.count - l.counter) l.reader ≡ l.initial.out.items ++ bytes_of l.count l.initial.reader;
-  there : 8 * (l.count - l.counter) ≤ length l.reader;
-  rest : drop (8 * (l.count - l.counter)) l.reader ≡ drop (8 * l.count) l.initial.reader;
-}
+invariant-loop l =
+    IsReading (Ok (bytes_of (l.count - l.counter) l.reader)) (8 * (l.count - l.counter)) l.out.items l.reader
+    (prepend_read l.initial.out.items (Ok (bytes_of l.count l.initial.reader))) (drop (8 * l.count) l.initial.reader)

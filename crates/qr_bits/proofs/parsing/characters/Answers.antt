@@ -1,26 +1,23 @@
-use Rattle.std.proofs.Common.{◌≡◌, ◌+◌, ◌-◌, append_assoc, arith, refl}
-use Rattle.std.proofs.lemmas.{Bool.Decides.nat_tests, Bool.le-ltb, List.length-drop, List.drop-drop}
-use Rattle.qr_bits.specs.declared.{modes.Mode.TheVariants.Alphanumeric, fault.ParseFault.TheVariants.BadValue}
-use Rattle.qr_bits.specs.{Modes.payload_bits, Parsing.characters_of}
-use Rattle.qr_bits.proofs.lemmas.parsing.PayloadLemmas.{characters_step, fails}
+use Rattle.std.proofs.Common.{◌-◌, [], ◌∷◌, refl, arith}
+use Rattle.std.proofs.lemmas.Bool.{le-ltb}
+use Rattle.qr_bits.specs.{Parsing.characters_of}
+use Rattle.qr_bits.proofs.lemmas.parsing.PayloadLemmas.{characters_step, group_read, fails}
 use Rattle.qr_bits.proofs.parsing.characters.Goals as goal
 
-pub returns-then-pair-ge-PAIRS-clause-err : goal.returns-then-pair-ge-PAIRS-clause-err
-returns-then-pair-ge-PAIRS-clause-err c =
-    fails _ _ _ _ BadValue c.loop-left.invariant.reads (search (arith, characters_step, le-ltb))
+pub returns-then-pair-ge-PAIRS : goal.returns-then-pair-ge-PAIRS
+returns-then-pair-ge-PAIRS c =
+    let s = characters_step c.loop-left.left (c.loop-left.left - 2) c.loop-left.reader (omega (arith, c.loop-left-test.true)) in
+    fails c.loop-left.invariant (s.2 (rw c.take-pair.ensures.value at c.if-pair-ge-PAIRS.true))
 
 pub loop-left-preserved : goal.loop-left-preserved
 loop-left-preserved c =
-    let step = characters_step c.loop-left.left c.loop-left.reader c.loop-left-test.true in
-    let less : payload_bits Alphanumeric c.loop-left.left ≡ 11 + payload_bits Alphanumeric (c.loop-left.left - 2) = omega arith in
-    record {
-      reads = grind (arith, nat_tests, append_assoc);
-      there = search (arith, length-drop);
-      rest = cc (drop-drop (payload_bits Alphanumeric (c.loop-left.left - 2)) 11 c.loop-left.reader);
-    }
+    let g = c.take-pair.ensures in
+    let s = characters_step c.loop-left.left (c.loop-left.left - 2) c.loop-left.reader (omega (arith, c.loop-left-test.true)) in
+    group_read 11 (c.character.result ∷ c.character-in-loop-left.result ∷ []) c.loop-left.invariant s.0 g.rest c.in_ok-extend_from_slice.ensures.items
+    (rw (c.character.ensures, c.character-in-loop-left.ensures, g.rest, g.value) (s.1 (rw g.value at c.if-pair-ge-PAIRS.false)))
 
-pub returns-then-single-ge-SINGLES-clause-err : goal.returns-then-single-ge-SINGLES-clause-err
+pub returns-then-single-ge-SINGLES : goal.returns-then-single-ge-SINGLES
 unfolding characters_of
-returns-then-single-ge-SINGLES-clause-err c =
+returns-then-single-ge-SINGLES c =
     let bad = le-ltb _ 45 (rw c.take-single.ensures.value at c.if-single-ge-SINGLES.true) in
-    fails _ _ _ _ BadValue c.loop-left.invariant.reads (rw (c.if-left-eq1.true, bad) refl)
+    fails c.loop-left.invariant (rw (c.if-left-eq1.true, bad) refl)

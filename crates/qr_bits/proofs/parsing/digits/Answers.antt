@@ -1,21 +1,17 @@
-use Rattle.std.proofs.Common.{◌≡◌, ◌+◌, ◌-◌, append_assoc, arith}
-use Rattle.std.proofs.lemmas.{Bool.Decides.nat_tests, Bool.le-ltb, List.length-drop, List.drop-drop}
-use Rattle.qr_bits.specs.declared.{modes.Mode.TheVariants.Numeric, fault.ParseFault.TheVariants.BadValue}
-use Rattle.qr_bits.specs.Modes.{payload_bits}
-use Rattle.qr_bits.proofs.lemmas.{parsing.PayloadLemmas.digits_step, parsing.PayloadLemmas.fails, stream.WritingLemmas.three_more}
+use Rattle.std.proofs.Common.{◌-◌, [], ◌∷◌, arith}
+use Rattle.qr_bits.proofs.lemmas.parsing.PayloadLemmas.{digits_step, group_read, fails}
 use Rattle.qr_bits.proofs.parsing.digits.Goals as goal
 
-pub returns-then-group-ge-THREE_DIGITS-clause-err : goal.returns-then-group-ge-THREE_DIGITS-clause-err
-returns-then-group-ge-THREE_DIGITS-clause-err c =
-    fails _ _ _ _ BadValue c.loop-left.invariant.reads (search (arith, digits_step, le-ltb))
+pub returns-then-group-ge-THREE_DIGITS : goal.returns-then-group-ge-THREE_DIGITS
+returns-then-group-ge-THREE_DIGITS c =
+    let s = digits_step c.loop-left.left (c.loop-left.left - 3) c.loop-left.reader (omega (arith, c.loop-left-test.true)) in
+    fails c.loop-left.invariant (s.2 (rw c.take-group.ensures.value at c.if-group-ge-THREE_DIGITS.true))
 
 pub loop-left-preserved : goal.loop-left-preserved
 loop-left-preserved c =
-    let step = digits_step c.loop-left.left c.loop-left.reader c.loop-left-test.true in
-    let whole : 3 + (c.loop-left.left - 3) ≡ c.loop-left.left = omega arith in
-    let less = rw whole at (three_more (c.loop-left.left - 3)) in
-    record {
-      reads = grind (arith, nat_tests, append_assoc);
-      there = search (arith, length-drop);
-      rest = cc (drop-drop (payload_bits Numeric (c.loop-left.left - 3)) 10 c.loop-left.reader);
-    }
+    let g = c.take-group.ensures in
+    let s = digits_step c.loop-left.left (c.loop-left.left - 3) c.loop-left.reader (omega (arith, c.loop-left-test.true)) in
+    group_read 10 (c.digit.result ∷ c.digit-in-loop-left.result ∷ c.digit-in-loop-left-2.result ∷ [])
+    c.loop-left.invariant s.0 g.rest c.in_ok-extend_from_slice.ensures.items
+    (rw (c.digit.ensures, c.digit-in-loop-left.ensures, c.digit-in-loop-left-2.ensures, g.rest, g.value)
+    (s.1 (rw g.value at c.if-group-ge-THREE_DIGITS.false)))

@@ -1,21 +1,16 @@
-use Rattle.std.proofs.Common.{◌*◌, ◌-◌, append_assoc, arith}
-use Rattle.std.proofs.lemmas.{Bool.Decides.nat_tests, Bool.lt-leb, List.length-drop, List.drop-drop}
-use Rattle.qr_bits.{specs.declared.fault.ParseFault.TheVariants.BadValue, proofs.lemmas.modes.KanjiLemmas.pairs_step}
-use Rattle.qr_bits.proofs.lemmas.parsing.PayloadLemmas.{fails, value_take_below}
+use Rattle.std.proofs.Common.{◌-◌, ◌/◌, ◌%◌, [], ◌∷◌, arith}
+use Rattle.qr_bits.{proofs.lemmas.modes.KanjiLemmas.pairs_step}
+use Rattle.qr_bits.proofs.lemmas.parsing.PayloadLemmas.{group_read, fails}
 use Rattle.qr_bits.proofs.parsing.kanji.Goals as goal
 
-pub returns-then-value-gt-LOW_MAX-clause-err : goal.returns-then-value-gt-LOW_MAX-clause-err
-returns-then-value-gt-LOW_MAX-clause-err c =
-    fails _ _ _ _ BadValue c.loop-left.invariant.reads (search (arith, pairs_step, lt-leb))
-
-pub kanji_pair-pair-requires : goal.kanji_pair-pair-requires
-kanji_pair-pair-requires c = omega (arith, c.take-value.ensures.value, value_take_below 13 c.loop-left.reader)
+pub returns-then-value-gt-LOW_MAX : goal.returns-then-value-gt-LOW_MAX
+returns-then-value-gt-LOW_MAX c =
+    let s = pairs_step c.loop-left.left (c.loop-left.left - 1) c.loop-left.reader (omega (arith, c.loop-left-test.true)) in
+    fails c.loop-left.invariant (s.2 (rw c.take-value.ensures.value at c.if-value-gt-LOW_MAX.true))
 
 pub loop-left-preserved : goal.loop-left-preserved
 loop-left-preserved c =
-    let step = pairs_step c.loop-left.left c.loop-left.reader (omega arith) in
-    record {
-      reads = grind (arith, nat_tests, append_assoc);
-      there = search (arith, length-drop);
-      rest = search (arith, drop-drop (13 * (c.loop-left.left - 1)) 13 c.loop-left.reader);
-    }
+    let g = c.take-value.ensures in
+    let s = pairs_step c.loop-left.left (c.loop-left.left - 1) c.loop-left.reader (omega (arith, c.loop-left-test.true)) in
+    group_read 13 (c.kanji_pair-pair.result / 256 ∷ c.kanji_pair-pair.result % 256 ∷ []) c.loop-left.invariant s.0 g.rest c.in_ok-extend_from_slice.ensures.items
+    (rw (c.kanji_pair-pair.ensures, g.rest, g.value) (s.1 (rw g.value at c.if-value-gt-LOW_MAX.false)))

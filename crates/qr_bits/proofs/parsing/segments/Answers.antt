@@ -1,15 +1,26 @@
 use Rattle.std.proofs.{Common.sym, Common.◌∙◌, Common.arith, lemmas.Result.err_from_is_err_and}
-use Rattle.qr_bits.proofs.lemmas.parsing.ParsingLemmas.{not_ended, segment_shorter, fault_all}
+use Rattle.qr_bits.proofs.lemmas.parsing.{ParsingLemmas.{behind_more, behind_none, not_ended, segment_shorter, fault_all, end_all}}
 use Rattle.qr_bits.proofs.parsing.segments.Goals as goal
 
-pub returns-in_err-next-clause-err : goal.returns-in_err-next-clause-err
-returns-in_err-next-clause-err c =
+pub loop-reader-init : goal.loop-reader-init
+loop-reader-init c = rw (c.new-segments.ensures.items, c.new-bytes.ensures.items) (behind_none _)
+
+pub returns-in_err-next : goal.returns-in_err-next
+returns-in_err-next c =
     let p = err_from_is_err_and c.from_residual.result c.from_residual.ensures.1 in
     let open_ = sym c.ends.ensures ∙ c.loop-reader-test.true in
-    rw (p.1, p.2) (fault_all c.args.version c.loop-reader.reader c.args.reader c.loop-reader.segments.items c.loop-reader.bytes.items c.in_err-next.field-0.0 open_ c.in_err-next.ensures.err c.loop-reader.invariant)
+    rw (p.1, p.2) (fault_all c.args.version c.loop-reader.reader c.args.reader c.loop-reader.segments.items c.loop-reader.bytes.items _ open_ c.in_err-next.ensures c.loop-reader.invariant)
+
+pub loop-reader-preserved : goal.loop-reader-preserved
+loop-reader-preserved c =
+    let s = c.in_ok-next.ensures in
+    let more = behind_more c.args.version c.loop-reader.reader c.segment.new.reader c.loop-reader.segments.items c.loop-reader.bytes.items s.0 _ (sym c.ends.ensures ∙ c.loop-reader-test.true) s.1 in
+    rw (c.in_ok-push.ensures.items, s.2) (sym more) ∙ c.loop-reader.invariant
 
 pub loop-reader-smaller : goal.loop-reader-smaller
 loop-reader-smaller c =
-    let s = c.in_ok-next.ensures.ok in
     let open_ = not_ended _ (sym c.ends.ensures ∙ c.loop-reader-test.true) in
-    omega (arith, segment_shorter _ _ _ open_ s.1)
+    omega (arith, segment_shorter _ _ _ open_ c.in_ok-next.ensures.1)
+
+pub returns : goal.returns
+returns c = end_all c.args.version c.loop-reader.reader c.args.reader c.loop-reader.segments.items c.loop-reader.bytes.items (sym c.ends.ensures ∙ c.loop-reader-test.false) c.loop-reader.invariant

@@ -1,16 +1,17 @@
 -- Which places contain the bits of the format and version information, and that all other free places are the region.
-use Rattle.std.proofs.Common.{◌≡◌, ℕ, ◌+◌, ◌-◌, ◌%◌, ◌<◌, ◌≤◌, Bool, true, false, not, ◌&&◌, ◌||◌, cond, eqb, ltb, Option, None, Some, refl, sym, ap, ◌∙◌, inl, inr, ◌⊎◌, arith}
+use Rattle.std.proofs.Common.{◌≡◌, ℕ, ◌+◌, ◌-◌, ◌%◌, ◌<◌, ◌≤◌, max, Bool, true, false, not, ◌&&◌, ◌||◌, cond, eqb, ltb, Option, None, Some, refl, sym, ap, ◌∙◌, inl, inr, ◌⊎◌, arith}
 use Rattle.std.proofs.lemmas.Bool.Decides.{nat_tests}
 use Rattle.std.proofs.lemmas.Bool.{cases_lt, and_parts, eqb-true}
+use Rattle.std.specs.Int.{abs_diff}
 use Rattle.std.specs.{List.find, List.range_with_len, Option.option_map_or}
 use Rattle.qr_layout.specs.declared.{region.Module.Module, role.Role.Role}
 use Rattle.qr_layout.specs.declared.role.Role.TheVariants.{Fixed, FormatBit, VersionBit, Region}
-use Rattle.qr_layout.specs.Region.{is_alignment, is_corner, is_in_region, is_timing, is_version_information}
+use Rattle.qr_layout.specs.Region.{is_alignment, is_corner, is_in_region, is_timing, is_version_information, ring_of}
 use Rattle.qr_layout.specs.Role.{finder_ring, is_alignment_light, pattern_colour, first_place, second_place, version_place, mirror_of, is_at, format_bit_at, version_bit_at, is_dark_module, role_of}
 use Rattle.qr_layout.specs.{Version.side_of, Alignment.centres_of}
 use Rattle.qr_layout.proofs.lemmas.alignment.TableLemmas.{below, below-at, below-from}
 use Rattle.qr_layout.proofs.lemmas.alignment.AlignmentLemmas.{region_free, region-parts}
-use Rattle.qr_layout.proofs.lemmas.role.RoleLemmas.{either, first-at, bit_here, stands, format-at, version_at}
+use Rattle.qr_layout.proofs.lemmas.role.RoleLemmas.{either, first-at, bit_here, stands, format-at, format_down, format_across, version_at}
 
 -- the choice of a role, over what its parts say
 abbrev role_with : Option Bool → Bool → Option ℕ → Option ℕ → Role
@@ -185,7 +186,7 @@ unfolding pattern_colour
 pattern-none v r c h = colour-none _ _ _ _ (is_alignment v r c) (not (eqb (finder_ring (side_of v) r c) 2)) (eqb (c % 2) 0) (eqb (r % 2) 0) (not (is_alignment_light v r c)) h
 
 -- a place off the finder and timing patterns has the colour of an alignment pattern, or none
-off-pattern : (v r c : ℕ) → 5 ≤ finder_ring (side_of v) r c → (r ≡ 6 → ⊥) → (c ≡ 6 → ⊥) → pattern_colour v r c ≡ cond (is_alignment v r c) (Some (not (is_alignment_light v r c))) None
+pub off-pattern : (v r c : ℕ) → 5 ≤ finder_ring (side_of v) r c → (r ≡ 6 → ⊥) → (c ≡ 6 → ⊥) → pattern_colour v r c ≡ cond (is_alignment v r c) (Some (not (is_alignment_light v r c))) None
 unfolding pattern_colour
 off-pattern v r c h k l =
     let x : ltb (finder_ring (side_of v) r c) 4 ≡ false = beyond (finder_ring (side_of v) r c) h in
@@ -207,14 +208,40 @@ off-pattern v r c h k l =
 truth : (b : Bool) → (b ≡ true → ⊥) → b ≡ false
 truth b f = grind (arith, nat_tests)
 
--- in a corner, a place off the patterns contains a bit, or it is the dark module
-corner-stands : (s r c : ℕ) → 21 ≤ s → r < s → c < s → 5 ≤ finder_ring s r c → (r ≡ 6 → ⊥) → (c ≡ 6 → ⊥) → is_dark_module s r c ≡ false → is_corner s r c ≡ true
-    → (ltb (bit_here s r c) 15 && stands s r c (bit_here s r c)) ≡ true
-corner-stands s r c l i j k m n d h = grind (arith, nat_tests)
+-- the three corners
+corner-parts : (s r c : ℕ) → is_corner s r c ≡ true → ((r ≤ 8) × (c ≤ 8)) ⊎ ((r ≤ 8) × (s - 8 ≤ c)) ⊎ ((s - 8 ≤ r) × (c ≤ 8))
+corner-parts s r c h = grind (arith, nat_tests)
+
+-- in a corner, a place beyond ring 4 is in row 8 or column 8
+left-edge : (r c : ℕ) → 5 ≤ ring_of 3 3 r c → r ≤ 8 → c ≤ 8 → (c ≡ 8) ⊎ ((r ≡ 8) × (c ≡ 8 → ⊥))
+left-edge r c n h k = grind arith
+
+far-edge : (s r c : ℕ) → 21 ≤ s → c < s → 5 ≤ max (abs_diff 3 r) (abs_diff (s - 4) c) → r ≤ 8 → s - 8 ≤ c → r ≡ 8
+far-edge s r c l j n h k = grind arith
+
+-- column 8 and row 8 contain bits there, and the dark module
+down-full : (s r : ℕ) → 21 ≤ s → r < s → (r ≡ 6 → ⊥) → is_dark_module s r 8 ≡ false → (r ≤ 8) ⊎ (s - 8 ≤ r) → format_bit_at s r 8 ≡ None → ⊥
+down-full s r l i k d h f = let e = sym (format_down s r l i) ∙ f in grind (arith, nat_tests)
+
+across-full : (s c : ℕ) → 21 ≤ s → c < s → (c ≡ 6 → ⊥) → (c ≡ 8 → ⊥) → (c ≤ 8) ⊎ (s - 8 ≤ c) → format_bit_at s 8 c ≡ None → ⊥
+across-full s c l i k n h f = let e = sym (format_across s c l i n) ∙ f in grind (arith, nat_tests)
 
 -- a place that is in no pattern, contains no bit and is not the dark module is outside the corners
 corners-free : (s r c : ℕ) → 21 ≤ s → r < s → c < s → 5 ≤ finder_ring s r c → (r ≡ 6 → ⊥) → (c ≡ 6 → ⊥) → is_dark_module s r c ≡ false → format_bit_at s r c ≡ None → is_corner s r c ≡ false
-corners-free s r c l i j k m n d f = truth _ (λ h. let e = rw (corner-stands s r c l i j k m n d h) at (format-at s r c l) in cc)
+corners-free s r c l i j k m n d f = truth _ (λ h. elim (corner-parts s r c h) [
+  | inl p ↦ elim (left-edge r c (omega (arith, k)) p.0 p.1) [
+    | inl e ↦ down (inl p.0) e
+    | inr e ↦ across (inl p.1) e.0 e.1
+  ]
+  | inr (inl p) ↦ across (inr p.1) (far-edge s r c l j (omega (arith, k)) p.0 p.1) (λ o. omega (arith, o, p.1, l))
+  | inr (inr p) ↦ down (inr p.0) (far-edge s c r l i (omega (arith, k)) p.1 p.0)
+])
+  where
+    down : (r ≤ 8) ⊎ (s - 8 ≤ r) → c ≡ 8 → ⊥
+    down h e = down-full s r l i m (rw e at d) h (rw e at f)
+
+    across : (c ≤ 8) ⊎ (s - 8 ≤ c) → r ≡ 8 → (c ≡ 8 → ⊥) → ⊥
+    across h e o = across-full s c l j n o h (rw e at f)
 
 -- a place off the corners
 record IsOffCorners (s r c : ℕ) : Type 0 where
@@ -228,7 +255,16 @@ off-corners s r c l i j h = record { off_left = grind (arith, nat_tests); off_ri
 
 -- a place off the corners is beyond ring 4 of the finder patterns
 corner-far : (s r c : ℕ) → 21 ≤ s → IsOffCorners s r c → 5 ≤ finder_ring s r c
-corner-far s r c l w = let a = w.off_left in let b = w.off_right in let d = w.off_below in grind (arith, nat_tests)
+corner-far s r c l w = omega (arith, left w.off_left, right w.off_right, down w.off_below)
+  where
+    left : (8 < r) ⊎ (8 < c) → 5 ≤ ring_of 3 3 r c
+    left h = grind arith
+
+    right : (8 < r) ⊎ (c < s - 8) → 5 ≤ ring_of 3 (s - 4) r c
+    right h = grind arith
+
+    down : (r < s - 8) ⊎ (8 < c) → 5 ≤ ring_of (s - 4) 3 r c
+    down h = grind arith
 
 -- a place off the corners is not the dark module
 corner-not_dark : (s r c : ℕ) → 21 ≤ s → IsOffCorners s r c → is_dark_module s r c ≡ false

@@ -1,6 +1,7 @@
-use Rattle.std.proofs.Common.{◌≡◌, ℕ, ◌≤◌, ◌<◌, ◌%◌, true, false, not, eqb, Some, None, arith}
+use Rattle.std.proofs.Common.{◌≡◌, ℕ, ◌≤◌, ◌<◌, ◌%◌, false, not, eqb, Some, None, cond, sym, ◌∙◌, arith}
 use Rattle.std.proofs.lemmas.Bool.Decides.{nat_tests}
 use Rattle.qr_layout.specs.{Region.is_alignment, Role.finder_ring, Role.is_alignment_light, Role.pattern_colour, Version.side_of}
+use Rattle.qr_layout.proofs.lemmas.role.RolePlaceLemmas.{off-pattern}
 use Rattle.qr_layout.proofs.role.pattern_colour.Goals as goal
 
 -- the colour of a place by its ring n, its row, its column and the alignment patterns
@@ -21,6 +22,9 @@ module _ (v r c s n : ℕ) (side : s ≡ side_of v) (ring : n ≡ finder_ring s 
   unfolding pattern_colour
   column h k e f = grind (arith, nat_tests)
 
+  alignment : 4 ≤ n → (n ≡ 4 → ⊥) → (r ≡ 6 → ⊥) → (c ≡ 6 → ⊥) → cond (is_alignment v r c) (Some (not (is_alignment_light v r c))) None ≡ pattern_colour v r c
+  alignment h k e f = let far : 5 ≤ n = omega (arith, h, k) in sym (off-pattern v r c (rw (ring, side) at far) e f)
+
 pub returns-then-ring-lt4 : goal.returns-then-ring-lt4
 returns-then-ring-lt4 c = finder _ _ _ _ _ c.side.ensures.value c.finder_ring-ring.ensures c.if-ring-lt4.true
 
@@ -32,3 +36,13 @@ returns-then-row-eq6 c = row _ _ _ _ _ c.side.ensures.value c.finder_ring-ring.e
 
 pub returns-then-col-eq6 : goal.returns-then-col-eq6
 returns-then-col-eq6 c = column _ _ _ _ _ c.side.ensures.value c.finder_ring-ring.ensures c.if-ring-lt4.false c.if-ring-eq4.false c.if-row-eq6.false c.if-col-eq6.true
+
+pub returns-then-is_in_alignment : goal.returns-then-is_in_alignment
+returns-then-is_in_alignment c =
+    rw c.is_alignment_light.ensures (rw (sym c.is_in_alignment.ensures ∙ c.if-is_in_alignment.true) at
+    (alignment _ _ _ _ _ c.side.ensures.value c.finder_ring-ring.ensures c.if-ring-lt4.false c.if-ring-eq4.false c.if-row-eq6.false c.if-col-eq6.false))
+
+pub returns : goal.returns
+returns c =
+    rw (sym c.is_in_alignment.ensures ∙ c.if-is_in_alignment.false) at
+    (alignment _ _ _ _ _ c.side.ensures.value c.finder_ring-ring.ensures c.if-ring-lt4.false c.if-ring-eq4.false c.if-row-eq6.false c.if-col-eq6.false)
