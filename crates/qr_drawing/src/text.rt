@@ -28,14 +28,15 @@ pub(crate) enum TextStyle {
     HalfBlocks,
 }
 
-// The greatest number of bytes of a cell.
-fn cell_room(style: TextStyle) -> usize
-    ensures value { result ≡ cell_room style }
-    ensures most { result ≤ 3 }
+// The greatest number of bytes of `count` cells.
+fn cells_room(style: TextStyle, count: u16) -> usize
+    requires { count < 400 }
+    ensures value { result ≡ count * cell_room style }
+    ensures most { result < 1200 }
 {
     match style {
-        TextStyle::Plain | TextStyle::Inverse => 2,
-        TextStyle::HalfBlocks => 3,
+        TextStyle::Plain | TextStyle::Inverse => usize::from(count) * 2,
+        TextStyle::HalfBlocks => usize::from(count) * 3,
     }
 }
 
@@ -310,8 +311,31 @@ fn push_columns(
     }
 }
 
-// Writes line `y` in three parts: the left margin; the columns that `push_columns` appends; the remaining columns, with
-// the right margin and the newline.
+// Appends the cells of the columns that `push_columns` leaves out, with the right margin and the newline.
+#[inline(always)]
+fn push_rest(text: &mut ArrayVec<u8, 1200>, style: TextStyle, matrix: &Matrix, margin: u8, row: u16)
+    requires row_in { row < 2000 }
+    requires room { array_vec_len text.old + (matrix.now.side % 4 * cell_room style + margin * cell_room style + 1) ≤ 1200 }
+    ensures { text.new.items ≡ text.old.items
+        ++ (texts_below (matrix.now.side % 4) (λ i. cell_at style margin matrix.now row (margin + matrix.now.side / 4 * 4 + i))
+        ++ (texts_below margin (λ _. cell_text style false false) ++ 10 ∷ [])) }
+{
+    let first = u16::from(margin);
+    let last = u16::from(matrix.side() % 4);
+    push_cells(
+        text,
+        style,
+        matrix,
+        margin,
+        row,
+        first + u16::from(matrix.side() / 4 * 4),
+        last,
+    );
+    push_light(text, style, first);
+    text.push(b'\n');
+}
+
+// Writes line `y` in three parts: the left margin; the columns that `push_columns` appends; what `push_rest` appends.
 #[inline(always)]
 fn put_line<W: Sink>(
     pen: &mut Pen,
@@ -325,26 +349,15 @@ fn put_line<W: Sink>(
     ensures { Puts (W.device out.old) (W.device out.new)
         pen.old pen.new (cells_of_line style margin matrix.now y ++ 10 ∷ []) result }
 {
-    let room = cell_room(style);
     let row = top_row(style, y);
     let first = u16::from(margin);
     let last = u16::from(matrix.side() % 4);
-    pen.reserve(out, usize::from(first) * room)?;
+    pen.reserve(out, cells_room(style, first))?;
     push_light(&mut pen.piece, style, first);
-    pen.reserve(out, usize::from(matrix.side()) * room)?;
+    pen.reserve(out, cells_room(style, u16::from(matrix.side())))?;
     push_columns(&mut pen.piece, style, matrix, margin, row);
-    pen.reserve(out, usize::from(last + first) * room + 1)?;
-    push_cells(
-        &mut pen.piece,
-        style,
-        matrix,
-        margin,
-        row,
-        first + u16::from(matrix.side() / 4 * 4),
-        last,
-    );
-    push_light(&mut pen.piece, style, first);
-    pen.piece.push(b'\n');
+    pen.reserve(out, cells_room(style, last + first) + 1)?;
+    push_rest(&mut pen.piece, style, matrix, margin, row);
     Ok(())
 }
 
