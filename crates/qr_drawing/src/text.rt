@@ -167,8 +167,7 @@ fn ascii_quad(bits: u8) -> &'static [u8; 8]
 fn push_half_block_pair(text: &mut ArrayVec<u8, 1200>, pair: u8)
     requires small { pair < 16 }
     requires room { array_vec_len text.old + 6 ≤ 1200 }
-    ensures items { text.new.items ≡ text.old.items ++ pair_text pair }
-    ensures len { array_vec_len text.new ≤ array_vec_len text.old + 6 }
+    ensures { text.new.items ≡ text.old.items ++ pair_text pair }
 {
     match pair {
         0 => push_all(text, b"\xE2\x96\x88\xE2\x96\x88"),
@@ -192,11 +191,9 @@ fn push_half_block_pair(text: &mut ArrayVec<u8, 1200>, pair: u8)
 
 // As `push_half_block_pair`, for four modules and the four below them.
 #[inline(always)]
-#[tactic(auto, using(crate::proofs::lemmas::text::CellLemmas::half_block_pairs))]
 fn push_half_block_quad(text: &mut ArrayVec<u8, 1200>, upper: u8, lower: u8)
     requires room { array_vec_len text.old + 12 ≤ 1200 }
-    ensures items { text.new.items ≡ text.old.items ++ bits_text 4 HalfBlocks upper lower }
-    ensures len { array_vec_len text.new ≤ array_vec_len text.old + 12 }
+    ensures { text.new.items ≡ text.old.items ++ bits_text 4 HalfBlocks upper lower }
 {
     push_half_block_pair(text, upper % 4 + lower % 4 * 4);
     push_half_block_pair(text, upper / 4 % 4 + lower / 4 % 4 * 4);
@@ -204,11 +201,9 @@ fn push_half_block_quad(text: &mut ArrayVec<u8, 1200>, upper: u8, lower: u8)
 
 // Appends the cells of bits 0 to 3 of `upper` and `lower`.
 #[inline(always)]
-#[tactic(auto, using(crate::proofs::lemmas::text::CellLemmas::quad_plain, crate::proofs::lemmas::text::CellLemmas::quad_inverse))]
 fn push_quad(text: &mut ArrayVec<u8, 1200>, style: TextStyle, upper: u8, lower: u8)
     requires room { array_vec_len text.old + 4 * cell_room style ≤ 1200 }
-    ensures items { text.new.items ≡ text.old.items ++ bits_text 4 style upper lower }
-    ensures len { array_vec_len text.new ≤ array_vec_len text.old + 4 * cell_room style }
+    ensures { text.new.items ≡ text.old.items ++ bits_text 4 style upper lower }
 {
     match style {
         TextStyle::Plain => push_all(text, ascii_quad(upper % 16)),
@@ -228,7 +223,6 @@ fn ascii_eight(bits: u8) -> [u8; 16]
 
 // As `push_quad`, for all eight bits.
 #[inline(always)]
-#[tactic(auto, using(crate::proofs::lemmas::text::CellLemmas::eight_quads, crate::proofs::lemmas::text::CellLemmas::eight_plain, crate::proofs::lemmas::text::CellLemmas::eight_inverse))]
 fn push_eight(text: &mut ArrayVec<u8, 1200>, style: TextStyle, upper: u8, lower: u8)
     requires room { array_vec_len text.old + 8 * cell_room style ≤ 1200 }
     ensures { text.new.items ≡ text.old.items ++ bits_text 8 style upper lower }
