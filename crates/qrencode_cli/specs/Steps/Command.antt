@@ -1,8 +1,8 @@
 -- What each step of a run can return. `words` are the arguments, `s` the settings, and a device is `old` (`in0`,
 -- `out0`) before the step and `new` (`in1`, `out1`) after it.
-use Rattle.std.specs.Prelude.{◌≡◌, ◌<◌, ◌≤◌, ◌↔◌, ◌⊎◌, ℕ, List, [], false, length, max, IfErr, IsErrOf, IsTrue, Result, MatchResult}
+use Rattle.std.specs.Prelude.{◌≡◌, ◌<◌, ◌≤◌, ◌↔◌, ◌⊎◌, ℕ, List, [], false, length, max, IfErr, IsErrOf, IsTrue, OnOk, Result, MatchResult, true}
 use Rattle.clap.specs.Walk.{Text}
-use Rattle.qrencode_cli.specs.Command.{AllRead, HasDrawing, InputConsumed, IsFault, OutputHolds}
+use Rattle.qrencode_cli.specs.Command.{AllRead, DrawnInPart, DrawnWhole, HasDrawing, InputConsumed, IsFault, OutputHolds}
 use Rattle.qr_devices.specs.Device.{IsWrittenWithin, Reader, Writer, is_read_fault, is_write_fault, no_reads, no_writes}
 use Rattle.qr_bits.specs.declared.modes.TheConstants.{INPUT_MAX}
 use Rattle.qr_symbol.specs.declared.symbol.Symbol.{Symbol}
@@ -68,6 +68,14 @@ pub record Prepares (words : List Text) (old new : Reader) (result : Result Draw
   pub answer : MatchResult result (λ p. HasDrawing words given (drawing_of_job p)) (λ f. IsFault words given f × IsEarly f)
   pub read_fault : old.counts ≡ no_reads → IsErrOf result Read ↔ IsTrue (is_read_fault new.counts)
   pub within : old.counts ≡ no_reads → IsReadWithin new.counts
+
+-- The drawing was written and flushed, or the writer was at fault
+pub record Draws (old new : Writer) (drawing : List ℕ) (result : Result (Unit {0}) Fault) : Type 0 where
+  pub ok : OnOk result (DrawnWhole true old new drawing)
+  pub err : IfErr result (λ f. (f ≡ Write) × DrawnInPart old new drawing)
+  pub fault : old.counts ≡ no_writes → IsErrOf result Write ↔ IsTrue (is_write_fault new.counts)
+  pub within : old.counts ≡ no_writes → IsWrittenWithin new.counts
+  pub offered : new.counts.offered ≤ max old.counts.offered WRITE_MAX
 
 -- A run can have this result, before the line of a fault is written
 pub record Attempts (words : List Text) (in0 in1 : Reader) (out0 out1 : Writer) (result : Result (Unit {0}) Fault) : Type 0 where

@@ -3,8 +3,7 @@ use Rattle.qrencode_cli.proofs.lemmas.command.RunningLemmas.{attempts-refused, a
 use Rattle.qrencode_cli.proofs.command.run_to_result.Goals as goal
 
 pub returns : goal.returns
-returns g c = attempts-shown _ _ _ _ _ c.in_ok-job.job c.in_ok-job.ensures c.write_drawing.result c.write_drawing.ensures.ok c.write_drawing.ensures.err
-    c.write_drawing.ensures.fault c.write_drawing.ensures.within c.write_drawing.ensures.offered
+returns g c = attempts-shown _ _ _ _ _ c.in_ok-job.job c.in_ok-job.ensures c.write_drawing.result c.write_drawing.ensures
 
 pub returns-in_err-job : goal.returns-in_err-job
 returns-in_err-job g c =

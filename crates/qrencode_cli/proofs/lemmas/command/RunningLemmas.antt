@@ -1,17 +1,67 @@
 -- The parts of a run make a correct run.
-use Rattle.std.proofs.Common.{◌≤◌, arith, ◌≡◌, ℕ, List, [], Option, Result, Ok, Err, OnOk, OnErr, IfErr, IsErrOf, IsTrue, ◌↔◌, is_err, max, true, ap, refl, sym, ◌∙◌, append-nil, length}
-use Rattle.std.specs.Io.KnownBytes.{Appends}
-use Rattle.std.proofs.lemmas.Bool.{false≢true}
+use Rattle.std.proofs.Common.{◌≤◌, arith, ◌≡◌, ℕ, List, [], Option, Result, Ok, Err, OnOk, OnErr, IfErr, IsErrOf, IsTrue, ◌↔◌, is_err, is_ok, max, true, ◌+◌, false, inl, inr, ap, refl, sym, ◌∙◌, append-nil, length}
+use Rattle.std.specs.Io.KnownBytes.{Appends, Keeps}
+use Rattle.std.proofs.{lemmas.Bool.false≢true, lemmas.Bool.Decides.nat_tests, KnownBytes.Appends-kept}
 use Rattle.qrencode_cli.proofs.lemmas.command.AskingLemmas.{no-fault, same-fault}
 use Rattle.clap.specs.Walk.{Text}
 use Rattle.qrencode_cli.specs.Command.{DrawnInPart, DrawnWhole, ErrorHolds, InputConsumed, OutputHolds}
 use Rattle.qrencode_cli.specs.Fault.{fault_line}
-use Rattle.qrencode_cli.specs.Steps.Command.{Attempts, IsEarly, Prepares, drawing_of_job}
+use Rattle.qrencode_cli.specs.Steps.Command.{Attempts, Draws, IsEarly, Prepares, drawing_of_job}
 use Rattle.qrencode_cli.specs.declared.fault.Fault.{Fault}
-use Rattle.qr_devices.specs.Device.{AppendsBeginning, IsWrittenWithin, Reader, Writer, counted, is_write_fault, no_writes}
+use Rattle.qr_devices.specs.Device.{AppendsBeginning, IsWrittenWithin, Reader, Writer, counted, flush_counted, is_write_fault, no_writes}
+use Rattle.qr_devices.specs.declared.device.{Trouble.Trouble, WriteCounts.WriteCounts}
 use Rattle.qrencode_cli.specs.declared.fault.Fault.TheVariants as fault
 use Rattle.qrencode_cli.specs.declared.drawing_job.DrawingJob.{DrawingJob}
 use Rattle.qr_drawing.specs.declared.pen.{DrawFault.DrawFault, TheConstants.WRITE_MAX}
+
+-- the writer failed in the drawing
+pub draws-part : (old new : Writer) (drawing : List ℕ) → AppendsBeginning old.taken new.taken drawing → (old.counts ≡ no_writes → is_write_fault new.counts ≡ true)
+    → (old.counts ≡ no_writes → new.counts.taken ≤ counted (length drawing)) → (old.counts ≡ no_writes → IsWrittenWithin new.counts)
+    → new.counts.offered ≤ max old.counts.offered WRITE_MAX → new.counts.flushes ≡ old.counts.flushes → Draws old new drawing (Err fault.Write)
+draws-part old new drawing part well most within offered flushes = record {
+  ok = tt;
+  err = (refl, inl (part, flushes, most));
+  fault = λ z. (λ _. well z, λ _. refl);
+  within = within;
+  offered = offered;
+}
+
+-- counts without a fault
+clean : (c : WriteCounts) → is_write_fault c ≡ false → (c.failed ≡ 0) × (c.zeros ≡ 0)
+clean c well = (grind (arith, nat_tests), grind (arith, nat_tests))
+
+-- the writer took the drawing, and then was flushed
+module _ (old mid new : Writer) (drawing : List ℕ) (f : Result (Unit {0}) Trouble) (all : Appends old.taken mid.taken drawing)
+    (well : old.counts ≡ no_writes → is_write_fault mid.counts ≡ false) (many : old.counts ≡ no_writes → mid.counts.taken ≡ counted (length drawing))
+    (within : old.counts ≡ no_writes → IsWrittenWithin mid.counts) (offered : mid.counts.offered ≤ max old.counts.offered WRITE_MAX)
+    (flushes : mid.counts.flushes ≡ old.counts.flushes) (keeps : Keeps mid.taken new.taken) (e : new.counts ≡ flush_counted f mid.counts) where
+  -- whether the flush was well or not
+  drawn-whole : DrawnWhole (is_ok f) old new drawing
+  drawn-whole = record {
+    grows = Appends-kept old.taken mid.taken new.taken drawing all keeps;
+    many = λ z. rw e (many z);
+    flushed = rw e (ap (λ n. counted (n + 1)) flushes);
+    ended = rw e refl;
+  }
+
+  pub draws-whole : is_ok f ≡ true → Draws old new drawing (Ok tt)
+  draws-whole is = record {
+    ok = rw is at drawn-whole;
+    err = tt;
+    fault = λ z. (λ bad. absurd (no-fault (Ok tt) tt fault.Write refl bad), λ i. absurd (false≢true (sym (well z) ∙ rw (e, is) at i)));
+    within = λ z. let w = within z in rw (e, is) (record { faults = w.faults; interrupted = w.interrupted });
+    offered = rw e offered;
+  }
+
+  pub draws-unflushed : is_ok f ≡ false → Draws old new drawing (Err fault.Write)
+  draws-unflushed is = record {
+    ok = tt;
+    err = (refl, inr (rw is at drawn-whole));
+    fault = λ z. (λ _. rw (e, is) (grind (arith, nat_tests)), λ _. refl);
+    within = λ z. let w = within z in let i = w.interrupted in
+        rw (e, is) (record { faults = let c = clean mid.counts (well z) in omega arith; interrupted = i });
+    offered = rw e offered;
+  }
 
 -- writing a drawing reads nothing more from the reader
 reads-on : (words : List Text) (in0 in1 : Reader) (given : List ℕ) (p : DrawingJob) (r : Result (Unit {0}) Fault)
@@ -24,36 +74,33 @@ write-no-read e = cc
 
 -- the case that the drawing was written, or the writer was at fault
 pub attempts-shown : (words : List Text) (in0 in1 : Reader) (out0 out1 : Writer) (p : DrawingJob) → Prepares words in0 in1 (Ok p)
-    → (r : Result (Unit {0}) Fault) → OnOk r (DrawnWhole true out0 out1 (drawing_of_job p))
-    → IfErr r (λ f. (f ≡ fault.Write) × DrawnInPart out0 out1 (drawing_of_job p))
-    → (out0.counts ≡ no_writes → IsErrOf r fault.Write ↔ IsTrue (is_write_fault out1.counts)) → (out0.counts ≡ no_writes → IsWrittenWithin out1.counts)
-    → out1.counts.offered ≤ max out0.counts.offered WRITE_MAX → Attempts words in0 in1 out0 out1 r
-attempts-shown words in0 in1 out0 out1 p h (Ok t) ok err well within most = record {
+    → (r : Result (Unit {0}) Fault) → Draws out0 out1 (drawing_of_job p) r → Attempts words in0 in1 out0 out1 r
+attempts-shown words in0 in1 out0 out1 p h (Ok t) d = record {
   given = h.given;
   is_input = h.is_input;
   is_fault = tt;
-  shows = (drawing_of_job p, h.answer, ok);
+  shows = (drawing_of_job p, h.answer, d.ok);
   reads = reads-on words in0 in1 h.given p (Ok t) h.reads;
   read_fault = λ z. (λ bad. absurd (no-fault (Ok t) t fault.Read refl bad), λ i. absurd (no-fault (Ok p) p fault.Read refl ((h.read_fault z).1 i)));
-  write_fault = well;
+  write_fault = d.fault;
   input_within = h.within;
-  out_within = within;
-  offered = most;
+  out_within = d.within;
+  offered = d.offered;
 }
-attempts-shown words in0 in1 out0 out1 p h (Err f) ok (e, b) well within most = record {
+attempts-shown words in0 in1 out0 out1 p h (Err f) d = let e = d.err.0 in record {
   given = h.given;
   is_input = h.is_input;
   is_fault = rw e (drawing_of_job p, h.answer);
-  shows = rw e (drawing_of_job p, h.answer, b);
+  shows = rw e (drawing_of_job p, h.answer, d.err.1);
   reads = reads-on words in0 in1 h.given p (Err f) h.reads;
   read_fault = λ z. (
     λ bad. let other : fault.Write ≡ fault.Read = sym e ∙ same-fault (Err f) f fault.Read refl bad in absurd (write-no-read other),
     λ i. absurd (no-fault (Ok p) p fault.Read refl ((h.read_fault z).1 i)),
   );
-  write_fault = well;
+  write_fault = d.fault;
   input_within = h.within;
-  out_within = within;
-  offered = most;
+  out_within = d.within;
+  offered = d.offered;
 }
 
 -- a fault before the first byte is written leaves the writer as it was
@@ -89,6 +136,18 @@ attempts-refused words in0 in1 out0 f h = record {
 begins-all : (old new : Option (List ℕ)) (text : List ℕ) → Appends old new text → AppendsBeginning old new text
 begins-all old new text p = (text, ([], append-nil text), p)
 
+-- a line was written, or a prefix of it
+tells : (old new : Writer) (line : List ℕ) (r : Result (Unit {0}) DrawFault)
+    → OnOk r (Appends old.taken new.taken line) → OnErr r (AppendsBeginning old.taken new.taken line)
+    → (old.counts ≡ no_writes → is_write_fault new.counts ≡ is_err r)
+    → (old.counts ≡ no_writes → OnOk r (new.counts.taken ≡ counted (length line)))
+    → (old.counts ≡ no_writes → OnErr r (new.counts.taken ≤ counted (length line))) → new.counts.flushes ≡ old.counts.flushes
+    → ErrorHolds old new line
+tells old new line (Ok t) ok err well many most flushes =
+    (begins-all old.taken new.taken line ok, λ z. let e = many z in omega arith, λ z w. ok, λ z w. many z, flushes)
+tells old new line (Err e) ok err well many most flushes =
+    (err, most, λ z w. absurd (false≢true (sym w ∙ well z)), λ z w. absurd (false≢true (sym w ∙ well z)), flushes)
+
 -- standard error received the line of a fault
 pub tells-fault : (old new : Writer) (f : Fault) (slice : List ℕ) → slice ≡ fault_line f → (r : Result (Unit {0}) DrawFault)
     → OnOk r (Appends old.taken new.taken slice) → OnErr r (AppendsBeginning old.taken new.taken slice)
@@ -96,5 +155,4 @@ pub tells-fault : (old new : Writer) (f : Fault) (slice : List ℕ) → slice �
     → (old.counts ≡ no_writes → OnOk r (new.counts.taken ≡ counted (length slice)))
     → (old.counts ≡ no_writes → OnErr r (new.counts.taken ≤ counted (length slice))) → new.counts.flushes ≡ old.counts.flushes
     → ErrorHolds old new (fault_line f)
-tells-fault old new f slice is (Ok t) ok err well many most flushes = search (arith, begins-all)
-tells-fault old new f slice is (Err e) ok err well many most flushes = search arith
+tells-fault old new f slice is r ok err well many most flushes = rw (← is) (tells old new slice r ok err well many most flushes)
