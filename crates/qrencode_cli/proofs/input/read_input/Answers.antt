@@ -16,38 +16,38 @@ reads-init g c = reading-begins (g.R.Source.device c.args.input.now) _ c.new-byt
 
 pub reads-preserved-in-Continue-1 : goal.reads-preserved-in-Continue-1
 reads-preserved-in-Continue-1 g c =
-    reading-more (g.R.Source.device c.args.input.now) (g.R.Source.device c.reads.input) (g.R.Source.device c.read.new.self) _ _ _ _ _ _ c.reads.invariant
+    reading-more _ _ _ _ _ _ _ _ _ c.reads.invariant
     c.in-Ok.given-test.1 c.in-Ok.ensures.bound
     (room _ _ _ c.reads.chunk c.read.new.buf (rw (c.len.ensures, c.reads.bytes.ok.0) at c.reads-test.true) c.min-room.ensures (c.len-in-reads.ensures ∙ c.reads.bytes.ok.0) c.read.auto.buf)
     c.in-Ok.ensures.bytes.0 c.in-Ok.ensures.counted c.in_ok-extend_from_slice-in-Ok.ensures.items
 
 pub reads-preserved : goal.reads-preserved
 reads-preserved g c =
-    reading-again (g.R.Source.device c.args.input.now) (g.R.Source.device c.reads.input) (g.R.Source.device c.read.new.self) _ (length c.read.new.buf) _ c.reads.invariant
+    reading-again _ _ _ _ (length c.read.new.buf) _ c.reads.invariant
     c.if-interrupted-eq-INTERRUPTIONS_MAX.false c.in-Err-Interrupted.ensures.bytes (rw c.in-Err-Interrupted.field-0-is at c.in-Err-Interrupted.ensures.counted)
 
 pub returns-in_err-extend_from_slice-in-Ok : goal.returns-in_err-extend_from_slice-in-Ok
 returns-in_err-extend_from_slice-in-Ok g c =
     let p = err_from_is_err_and c.from_residual.result c.from_residual.ensures.1 in
-    rw (p.1, p.2) (stops-memory (g.R.Source.device c.args.input.now) (g.R.Source.device c.reads.input) (g.R.Source.device c.read.new.self) _ _ _ _ c.reads.invariant
+    rw (p.1, p.2) (stops-memory _ _ _ _ _ _ _ c.reads.invariant
     c.in-Ok.given-test.1 c.in-Ok.ensures.bound
     (room _ _ _ c.reads.chunk c.read.new.buf (rw (c.len.ensures, c.reads.bytes.ok.0) at c.reads-test.true) c.min-room.ensures (c.len-in-reads.ensures ∙ c.reads.bytes.ok.0) c.read.auto.buf)
     c.in-Ok.ensures.bytes.0 c.in-Ok.ensures.counted)
 
 pub returns-then-interrupted-eq-INTERRUPTIONS_MAX : goal.returns-then-interrupted-eq-INTERRUPTIONS_MAX
 returns-then-interrupted-eq-INTERRUPTIONS_MAX g c =
-    stops-tried (g.R.Source.device c.args.input.now) (g.R.Source.device c.reads.input) (g.R.Source.device c.read.new.self) _ (length c.read.new.buf) _ c.reads.invariant
+    stops-tried _ _ _ _ (length c.read.new.buf) _ c.reads.invariant
     c.if-interrupted-eq-INTERRUPTIONS_MAX.true (rw (c.len.ensures, c.reads.bytes.ok.0) at c.reads-test.true) (rw c.in-Err-Interrupted.field-0-is at c.in-Err-Interrupted.ensures.counted)
 
 pub returns-in-Err-Failed : goal.returns-in-Err-Failed
 returns-in-Err-Failed g c =
-    stops-failed (g.R.Source.device c.args.input.now) (g.R.Source.device c.reads.input) (g.R.Source.device c.read.new.self) _ (length c.read.new.buf) _ c.reads.invariant
+    stops-failed _ _ _ _ (length c.read.new.buf) _ c.reads.invariant
     (rw (c.len.ensures, c.reads.bytes.ok.0) at c.reads-test.true) (rw c.in-Err-Failed.field-0-is at c.in-Err-Failed.ensures.counted)
 
 pub returns : goal.returns
 returns g c = elim c.reads-test.branch [
-  | else-reads-test w ↦ rw w.input-is (has-read-full (g.R.Source.device c.args.input.now) (g.R.Source.device c.reads.input) _ _ c.reads.invariant (rw (c.len.ensures, c.reads.bytes.ok.0) at w.reads-test.false))
-  | then-reads-test+in-Ok-eq0 w ↦ rw w.input-is (has-read-end (g.R.Source.device c.args.input.now) (g.R.Source.device c.reads.input) (g.R.Source.device w.read.new.self) _ _ _ _
+  | else-reads-test w ↦ rw w.input-is (has-read-full _ _ _ _ c.reads.invariant (rw (c.len.ensures, c.reads.bytes.ok.0) at w.reads-test.false))
+  | then-reads-test+in-Ok-eq0 w ↦ rw w.input-is (has-read-end _ _ _ _ _ _ _
       c.reads.invariant w.in-Ok-eq0.field-0-test (grind (arith, common_steps)) (rw (c.len.ensures, c.reads.bytes.ok.0) at w.reads-test.true)
       w.in-Ok-eq0.ensures.bytes w.in-Ok-eq0.ensures.counted)
 ]

@@ -1,6 +1,6 @@
 -- The invariant of the loop that reads the input.
-use Rattle.std.proofs.Common.{◌≡◌, ◌+◌, ◌<◌, ◌≤◌, ◌++◌, ◌∙◌, ltb, ℕ, List, [], false, true, length, length-append, take, Option, Some, None, Ok, Err, arith, ap, refl, append-nil, inl, inr}
-use Rattle.std.proofs.{lemmas.List.take_all, lemmas.List.take-append-le, lemmas.List.length-take-le, lemmas.Bool.Decides.nat_tests, Math.Seq.take-append_seam, KnownBytes.Consumes-kept, KnownBytes.Consumes-nil, KnownBytes.Consumes-trans}
+use Rattle.std.proofs.Common.{◌≡◌, ◌+◌, ◌<◌, ◌≤◌, ◌++◌, ◌∙◌, ℕ, List, [], false, length, length-append, take, Option, Some, None, Ok, Err, arith, rules, ap, refl, sym, append-nil, inl, inr}
+use Rattle.std.proofs.{lemmas.List.take_all, lemmas.List.take-append-le, lemmas.List.length-take-le, lemmas.Bool.Decides.nat_tests, lemmas.Bool.false≢true, Math.Seq.take-append_seam, KnownBytes.Consumes-trans}
 use Rattle.qr_bits.specs.declared.modes.TheConstants.{INPUT_MAX}
 use Rattle.qrencode_cli.specs.Input.{IsInputOf, IsReadWithin}
 use Rattle.qrencode_cli.specs.Steps.Command.{HasRead, StopsReading}
@@ -44,31 +44,15 @@ IsInputOf-end (Some x) (Some y) (Some z) bytes buf n p h (q, end) zero room =
     let last : y ≡ [] = q ∙ ap (λ l. l ++ z) none ∙ end zero room in
     cc (append-nil bytes, take_all INPUT_MAX bytes h)
 
--- counts without a fault
-counted-well : (c : ReadCounts) (len i : ℕ) → i ≤ 999 → IsCounted c len i → is_read_fault c ≡ false
-counted-well c len i few k = rw (k.failed, k.interrupted_is) (grind (arith, nat_tests))
+-- counts without a fault are within bounds
+counted-well : (c : ReadCounts) (len i : ℕ) → len ≤ INPUT_MAX → i ≤ 999 → IsCounted c len i → (is_read_fault c ≡ false) × IsReadWithin c
+counted-well c len i short few k = (rw (k.failed, k.interrupted_is) (grind (arith, nat_tests)), search rules)
 
--- and within bounds
-counted-within : (c : ReadCounts) (len i : ℕ) → len ≤ INPUT_MAX → i ≤ 999 → IsCounted c len i → IsReadWithin c
-counted-within c len i short few k = let k1 = k.calls in let k2 = k.failed in let k3 = k.interrupted_is in let k4 = k.given in let k5 = k.ends in record {
-  calls = omega arith;
-  given = omega arith;
-  ends = omega arith;
-  past_end = k.past_end;
-  failed = omega arith;
-  interrupted = omega arith;
-}
-
--- before the first read
+-- the state before the first read
 pub reading-begins : (a : Reader) (bytes : List ℕ) → bytes ≡ [] → IsReading a a bytes 0
-reading-begins a bytes e = rw e (record {
-  given = Consumes-nil a.remaining;
-  bounded = omega arith;
-  few = omega arith;
-  counted = λ z. rw z (record { failed = refl; interrupted_is = refl; calls = omega arith; given = refl; ends = refl; past_end = refl });
-})
+reading-begins a bytes e = search rules
 
--- after one more read of some bytes
+-- the state after one more read of some bytes
 pub reading-more : (old a b : Reader) (bytes buf rest more : List ℕ) (n i : ℕ) → IsReading old a bytes i → (n ≡ 0 → ⊥) → n ≤ length buf
     → length bytes + length buf ≤ INPUT_MAX → Consumes a.remaining b.remaining (take n buf) → b.counts ≡ read_counted (length buf) (Ok n) a.counts
     → more ≡ bytes ++ take n (buf ++ rest) → IsReading old b more i
@@ -79,75 +63,32 @@ reading-more old a b bytes buf rest more n i h some le fits q e is =
       given = Consumes-trans old.remaining a.remaining b.remaining bytes (take n buf) h.given q;
       bounded = omega arith;
       few = h.few;
-      counted = λ z. let k = h.counted z in let calls = k.calls in let given = k.given in rw (e, len) (record {
-        failed = k.failed;
-        interrupted_is = k.interrupted_is;
-        calls = omega arith;
-        given = omega arith;
-        ends = rw k.ends (grind (arith, nat_tests));
-        past_end = rw k.ends k.past_end;
-      });
+      counted = λ z. let k = h.counted z in rw (e, len) (search rules);
     })
 
--- after one more interrupted read
+-- the state after one more interrupted read
 pub reading-again : (old a b : Reader) (bytes : List ℕ) (len i : ℕ) → IsReading old a bytes i → (i ≡ 999 → ⊥)
     → Keeps a.remaining b.remaining → b.counts ≡ read_counted len (Err Interrupted) a.counts → IsReading old b bytes (i + 1)
-reading-again old a b bytes len i h ne q e = let few = h.few in record {
-  given = Consumes-kept old.remaining a.remaining b.remaining bytes h.given q;
-  bounded = h.bounded;
-  few = omega arith;
-  counted = λ z. let k = h.counted z in let calls = k.calls in let tried = k.interrupted_is in rw e (record {
-    failed = k.failed;
-    interrupted_is = omega arith;
-    calls = omega arith;
-    given = k.given;
-    ends = k.ends;
-    past_end = rw k.ends k.past_end;
-  });
-}
+reading-again old a b bytes len i h ne q e = search rules
 
 -- memory for the bytes that were read was refused
 pub stops-memory : (old a b : Reader) (bytes buf : List ℕ) (n i : ℕ) → IsReading old a bytes i → (n ≡ 0 → ⊥) → n ≤ length buf
     → length bytes + length buf ≤ INPUT_MAX → Consumes a.remaining b.remaining (take n buf) → b.counts ≡ read_counted (length buf) (Ok n) a.counts
     → StopsReading old b fault.Memory
 stops-memory old a b bytes buf n i h some le fits q e =
-    let r = reading-more old a b bytes buf [] (bytes ++ take n (buf ++ [])) n i h some le fits q e refl in record {
-      only = inr refl;
-      read_fault = λ z. (λ bad. cc, λ bad. let w = counted-well _ _ _ r.few (r.counted z) in cc);
-      within = λ z. counted-within _ _ _ r.bounded r.few (r.counted z);
-    }
+    let r = reading-more old a b bytes buf [] (bytes ++ take n (buf ++ [])) n i h some le fits q e refl in
+    let w = λ (z : old.counts ≡ no_reads). counted-well _ _ _ r.bounded r.few (r.counted z) in
+    record { only = inr refl; read_fault = λ z. (λ bad. cc, λ t. absurd (false≢true (sym (w z).0 ∙ t))); within = λ z. (w z).1 }
 
 -- the read was interrupted for the 1,000th time
 pub stops-tried : (old a b : Reader) (bytes : List ℕ) (len i : ℕ) → IsReading old a bytes i → i ≡ 999 → length bytes < INPUT_MAX
     → b.counts ≡ read_counted len (Err Interrupted) a.counts → StopsReading old b fault.Read
-stops-tried old a b bytes len i h last small e = record {
-  only = inl refl;
-  read_fault = λ z. let k = h.counted z in (λ _. rw (e, k.failed, k.interrupted_is, last) refl, λ _. refl);
-  within = λ z. let k = h.counted z in let calls = k.calls in rw (e, k.failed, k.interrupted_is, k.given, k.ends, k.past_end) (record {
-    calls = omega arith;
-    given = omega arith;
-    ends = omega arith;
-    past_end = refl;
-    failed = omega arith;
-    interrupted = omega arith;
-  });
-}
+stops-tried old a b bytes len i h last small e = search rules
 
 -- the read failed
 pub stops-failed : (old a b : Reader) (bytes : List ℕ) (len i : ℕ) → IsReading old a bytes i → length bytes < INPUT_MAX
     → b.counts ≡ read_counted len (Err Failed) a.counts → StopsReading old b fault.Read
-stops-failed old a b bytes len i h small e = let few = h.few in record {
-  only = inl refl;
-  read_fault = λ z. let k = h.counted z in (λ _. rw (e, k.failed) refl, λ _. refl);
-  within = λ z. let k = h.counted z in let calls = k.calls in rw (e, k.failed, k.interrupted_is, k.given, k.ends, k.past_end) (record {
-    calls = omega arith;
-    given = omega arith;
-    ends = omega arith;
-    past_end = refl;
-    failed = omega arith;
-    interrupted = omega arith;
-  });
-}
+stops-failed old a b bytes len i h small e = search rules
 
 -- `INPUT_MAX` bytes were read
 pub has-read-full : (old a : Reader) (bytes : List ℕ) (i : ℕ) → IsReading old a bytes i → INPUT_MAX ≤ length bytes → HasRead old a bytes
@@ -155,8 +96,8 @@ has-read-full old a bytes i h high = let low = h.bounded in record {
   is_input = IsInputOf-full old.remaining a.remaining bytes h.given h.bounded high;
   short = h.bounded;
   all = (h.given, λ z. (h.counted z).given, λ z. inr (omega arith));
-  well = λ z. counted-well _ _ _ h.few (h.counted z);
-  within = λ z. counted-within _ _ _ h.bounded h.few (h.counted z);
+  well = λ z. (counted-well _ _ _ h.bounded h.few (h.counted z)).0;
+  within = λ z. (counted-well _ _ _ h.bounded h.few (h.counted z)).1;
 }
 
 -- the device was read to its end
@@ -164,25 +105,10 @@ pub has-read-end : (old a b : Reader) (bytes buf : List ℕ) (n i : ℕ) → IsR
     → Consumes a.remaining b.remaining (take n buf) × (n ≡ 0 → 0 < length buf → IsAtEnd b.remaining)
     → b.counts ≡ read_counted (length buf) (Ok n) a.counts → HasRead old b bytes
 has-read-end old a b bytes buf n i h zero some small q e =
-    let room : ltb 0 (length buf) ≡ true = grind (arith, nat_tests) in
-    let last : b.counts ≡ read_counted 1 (Ok 0) a.counts = e ∙ rw (zero, room) refl in
-    let none : bytes ++ take n buf ≡ bytes = rw zero (append-nil bytes) in
-    let few = h.few in
-    record {
+    let none : bytes ++ take n buf ≡ bytes = rw zero (append-nil bytes) in record {
       is_input = IsInputOf-end old.remaining a.remaining b.remaining bytes buf n h.given h.bounded q zero some;
       short = h.bounded;
-      all = (
-        rw none at (Consumes-trans old.remaining a.remaining b.remaining bytes (take n buf) h.given q.0),
-        λ z. let k = h.counted z in rw (last, k.given) (omega arith),
-        λ z. let k = h.counted z in inl (rw (last, k.ends) refl),
-      );
-      well = λ z. let k = h.counted z in rw (last, k.failed, k.interrupted_is) (grind (arith, nat_tests));
-      within = λ z. let k = h.counted z in let calls = k.calls in rw (last, k.failed, k.interrupted_is, k.given, k.ends, k.past_end) (record {
-        calls = omega arith;
-        given = omega arith;
-        ends = omega arith;
-        past_end = refl;
-        failed = omega arith;
-        interrupted = omega arith;
-      });
+      all = (rw none at (Consumes-trans old.remaining a.remaining b.remaining bytes (take n buf) h.given q.0), search rules, search rules);
+      well = search rules;
+      within = search rules;
     }
