@@ -18,13 +18,7 @@ use Rattle.qr_drawing.specs.declared.pen.{DrawFault.DrawFault, TheConstants.WRIT
 pub draws-part : (old new : Writer) (drawing : List ℕ) → AppendsBeginning old.taken new.taken drawing → (old.counts ≡ no_writes → is_write_fault new.counts ≡ true)
     → (old.counts ≡ no_writes → new.counts.taken ≤ counted (length drawing)) → (old.counts ≡ no_writes → IsWrittenWithin new.counts)
     → new.counts.offered ≤ max old.counts.offered WRITE_MAX → new.counts.flushes ≡ old.counts.flushes → Draws old new drawing (Err fault.Write)
-draws-part old new drawing part well most within offered flushes = record {
-  ok = tt;
-  err = (refl, inl (part, flushes, most));
-  fault = λ z. (λ _. well z, λ _. refl);
-  within = within;
-  offered = offered;
-}
+draws-part old new drawing part well most within offered flushes = search arith
 
 -- counts without a fault
 clean : (c : WriteCounts) → is_write_fault c ≡ false → (c.failed ≡ 0) × (c.zeros ≡ 0)
@@ -136,18 +130,6 @@ attempts-refused words in0 in1 out0 f h = record {
 begins-all : (old new : Option (List ℕ)) (text : List ℕ) → Appends old new text → AppendsBeginning old new text
 begins-all old new text p = (text, ([], append-nil text), p)
 
--- a line was written, or a prefix of it
-tells : (old new : Writer) (line : List ℕ) (r : Result (Unit {0}) DrawFault)
-    → OnOk r (Appends old.taken new.taken line) → OnErr r (AppendsBeginning old.taken new.taken line)
-    → (old.counts ≡ no_writes → is_write_fault new.counts ≡ is_err r)
-    → (old.counts ≡ no_writes → OnOk r (new.counts.taken ≡ counted (length line)))
-    → (old.counts ≡ no_writes → OnErr r (new.counts.taken ≤ counted (length line))) → new.counts.flushes ≡ old.counts.flushes
-    → ErrorHolds old new line
-tells old new line (Ok t) ok err well many most flushes =
-    (begins-all old.taken new.taken line ok, λ z. let e = many z in omega arith, λ z w. ok, λ z w. many z, flushes)
-tells old new line (Err e) ok err well many most flushes =
-    (err, most, λ z w. absurd (false≢true (sym w ∙ well z)), λ z w. absurd (false≢true (sym w ∙ well z)), flushes)
-
 -- standard error received the line of a fault
 pub tells-fault : (old new : Writer) (f : Fault) (slice : List ℕ) → slice ≡ fault_line f → (r : Result (Unit {0}) DrawFault)
     → OnOk r (Appends old.taken new.taken slice) → OnErr r (AppendsBeginning old.taken new.taken slice)
@@ -155,4 +137,5 @@ pub tells-fault : (old new : Writer) (f : Fault) (slice : List ℕ) → slice �
     → (old.counts ≡ no_writes → OnOk r (new.counts.taken ≡ counted (length slice)))
     → (old.counts ≡ no_writes → OnErr r (new.counts.taken ≤ counted (length slice))) → new.counts.flushes ≡ old.counts.flushes
     → ErrorHolds old new (fault_line f)
-tells-fault old new f slice is r ok err well many most flushes = rw (← is) (tells old new slice r ok err well many most flushes)
+tells-fault old new f slice is (Ok t) ok err well many most flushes = search (arith, begins-all)
+tells-fault old new f slice is (Err e) ok err well many most flushes = search arith
