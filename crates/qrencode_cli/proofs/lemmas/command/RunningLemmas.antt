@@ -1,10 +1,10 @@
 -- The parts of a run make a correct run.
-use Rattle.std.proofs.Common.{◌≤◌, arith, ◌≡◌, ℕ, List, [], Option, Result, Ok, Err, OnOk, OnErr, IfErr, IsErrOf, IsTrue, ◌↔◌, is_err, is_ok, max, true, ◌+◌, false, inl, inr, ap, refl, sym, ◌∙◌, append-nil, length}
+use Rattle.std.proofs.Common.{◌≤◌, arith, ◌≡◌, ℕ, List, [], Option, Result, Ok, Err, OnOk, OnErr, is_err, is_ok, max, true, ◌+◌, false, inr, ap, refl, sym, ◌∙◌, append-nil, length}
 use Rattle.std.specs.Io.KnownBytes.{Appends, Keeps}
 use Rattle.std.proofs.{lemmas.Bool.false≢true, lemmas.Bool.Decides.nat_tests, KnownBytes.Appends-kept}
 use Rattle.qrencode_cli.proofs.lemmas.command.AskingLemmas.{no-fault, same-fault}
 use Rattle.clap.specs.Walk.{Text}
-use Rattle.qrencode_cli.specs.Command.{DrawnInPart, DrawnWhole, ErrorHolds, InputConsumed, OutputHolds}
+use Rattle.qrencode_cli.specs.Command.{DrawnWhole, ErrorHolds, InputConsumed, OutputHolds}
 use Rattle.qrencode_cli.specs.Fault.{fault_line}
 use Rattle.qrencode_cli.specs.Steps.Command.{Attempts, Draws, IsEarly, Prepares, drawing_of_job}
 use Rattle.qrencode_cli.specs.declared.fault.Fault.{Fault}

@@ -1,5 +1,5 @@
 -- The invariant of the loop that reads the input.
-use Rattle.std.proofs.Common.{◌≡◌, ◌+◌, ◌<◌, ◌≤◌, ◌++◌, ◌∙◌, ℕ, List, [], false, length, length-append, take, Option, Some, None, Ok, Err, arith, rules, ap, refl, sym, append-nil, inl, inr}
+use Rattle.std.proofs.Common.{◌≡◌, ◌+◌, ◌<◌, ◌≤◌, ◌++◌, ◌∙◌, ℕ, List, [], false, length, length-append, take, Option, Some, None, Ok, Err, arith, rules, ap, refl, sym, append-nil, inr}
 use Rattle.std.proofs.{lemmas.List.take_all, lemmas.List.take-append-le, lemmas.List.length-take-le, lemmas.Bool.Decides.nat_tests, lemmas.Bool.false≢true, Math.Seq.take-append_seam, KnownBytes.Consumes-trans}
 use Rattle.qr_bits.specs.declared.modes.TheConstants.{INPUT_MAX}
 use Rattle.qrencode_cli.specs.Input.{IsInputOf, IsReadWithin}
