@@ -28,14 +28,15 @@ pub(crate) enum TextStyle {
     HalfBlocks,
 }
 
-// The greatest number of bytes of a cell.
-fn cell_room(style: TextStyle) -> usize
-    ensures value { result ≡ cell_room style }
-    ensures most { result ≤ 3 }
+// The greatest number of bytes of `count` cells.
+fn cells_room(style: TextStyle, count: u16) -> usize
+    requires { count < 400 }
+    ensures value { result ≡ count * cell_room style }
+    ensures most { result < 1200 }
 {
     match style {
-        TextStyle::Plain | TextStyle::Inverse => 2,
-        TextStyle::HalfBlocks => 3,
+        TextStyle::Plain | TextStyle::Inverse => usize::from(count) * 2,
+        TextStyle::HalfBlocks => usize::from(count) * 3,
     }
 }
 
@@ -166,8 +167,7 @@ fn ascii_quad(bits: u8) -> &'static [u8; 8]
 fn push_half_block_pair(text: &mut ArrayVec<u8, 1200>, pair: u8)
     requires small { pair < 16 }
     requires room { array_vec_len text.old + 6 ≤ 1200 }
-    ensures items { text.new.items ≡ text.old.items ++ pair_text pair }
-    ensures len { array_vec_len text.new ≤ array_vec_len text.old + 6 }
+    ensures { text.new.items ≡ text.old.items ++ pair_text pair }
 {
     match pair {
         0 => push_all(text, b"\xE2\x96\x88\xE2\x96\x88"),
@@ -191,11 +191,9 @@ fn push_half_block_pair(text: &mut ArrayVec<u8, 1200>, pair: u8)
 
 // As `push_half_block_pair`, for four modules and the four below them.
 #[inline(always)]
-#[tactic(auto, using(crate::proofs::lemmas::text::CellLemmas::half_block_pairs))]
 fn push_half_block_quad(text: &mut ArrayVec<u8, 1200>, upper: u8, lower: u8)
     requires room { array_vec_len text.old + 12 ≤ 1200 }
-    ensures items { text.new.items ≡ text.old.items ++ bits_text 4 HalfBlocks upper lower }
-    ensures len { array_vec_len text.new ≤ array_vec_len text.old + 12 }
+    ensures { text.new.items ≡ text.old.items ++ bits_text 4 HalfBlocks upper lower }
 {
     push_half_block_pair(text, upper % 4 + lower % 4 * 4);
     push_half_block_pair(text, upper / 4 % 4 + lower / 4 % 4 * 4);
@@ -203,11 +201,9 @@ fn push_half_block_quad(text: &mut ArrayVec<u8, 1200>, upper: u8, lower: u8)
 
 // Appends the cells of bits 0 to 3 of `upper` and `lower`.
 #[inline(always)]
-#[tactic(auto, using(crate::proofs::lemmas::text::CellLemmas::quad_plain, crate::proofs::lemmas::text::CellLemmas::quad_inverse))]
 fn push_quad(text: &mut ArrayVec<u8, 1200>, style: TextStyle, upper: u8, lower: u8)
     requires room { array_vec_len text.old + 4 * cell_room style ≤ 1200 }
-    ensures items { text.new.items ≡ text.old.items ++ bits_text 4 style upper lower }
-    ensures len { array_vec_len text.new ≤ array_vec_len text.old + 4 * cell_room style }
+    ensures { text.new.items ≡ text.old.items ++ bits_text 4 style upper lower }
 {
     match style {
         TextStyle::Plain => push_all(text, ascii_quad(upper % 16)),
@@ -227,7 +223,6 @@ fn ascii_eight(bits: u8) -> [u8; 16]
 
 // As `push_quad`, for all eight bits.
 #[inline(always)]
-#[tactic(auto, using(crate::proofs::lemmas::text::CellLemmas::eight_quads, crate::proofs::lemmas::text::CellLemmas::eight_plain, crate::proofs::lemmas::text::CellLemmas::eight_inverse))]
 fn push_eight(text: &mut ArrayVec<u8, 1200>, style: TextStyle, upper: u8, lower: u8)
     requires room { array_vec_len text.old + 8 * cell_room style ≤ 1200 }
     ensures { text.new.items ≡ text.old.items ++ bits_text 8 style upper lower }
@@ -310,8 +305,31 @@ fn push_columns(
     }
 }
 
-// Writes line `y` in three parts: the left margin; the columns that `push_columns` appends; the remaining columns, with
-// the right margin and the newline.
+// Appends the cells of the columns that `push_columns` leaves out, with the right margin and the newline.
+#[inline(always)]
+fn push_rest(text: &mut ArrayVec<u8, 1200>, style: TextStyle, matrix: &Matrix, margin: u8, row: u16)
+    requires row_in { row < 2000 }
+    requires room { array_vec_len text.old + (matrix.now.side % 4 * cell_room style + margin * cell_room style + 1) ≤ 1200 }
+    ensures { text.new.items ≡ text.old.items
+        ++ (texts_below (matrix.now.side % 4) (λ i. cell_at style margin matrix.now row (margin + matrix.now.side / 4 * 4 + i))
+        ++ (texts_below margin (λ _. cell_text style false false) ++ 10 ∷ [])) }
+{
+    let first = u16::from(margin);
+    let last = u16::from(matrix.side() % 4);
+    push_cells(
+        text,
+        style,
+        matrix,
+        margin,
+        row,
+        first + u16::from(matrix.side() / 4 * 4),
+        last,
+    );
+    push_light(text, style, first);
+    text.push(b'\n');
+}
+
+// Writes line `y` in three parts: the left margin; the columns that `push_columns` appends; what `push_rest` appends.
 #[inline(always)]
 fn put_line<W: Sink>(
     pen: &mut Pen,
@@ -325,26 +343,15 @@ fn put_line<W: Sink>(
     ensures { Puts (W.device out.old) (W.device out.new)
         pen.old pen.new (cells_of_line style margin matrix.now y ++ 10 ∷ []) result }
 {
-    let room = cell_room(style);
     let row = top_row(style, y);
     let first = u16::from(margin);
     let last = u16::from(matrix.side() % 4);
-    pen.reserve(out, usize::from(first) * room)?;
+    pen.reserve(out, cells_room(style, first))?;
     push_light(&mut pen.piece, style, first);
-    pen.reserve(out, usize::from(matrix.side()) * room)?;
+    pen.reserve(out, cells_room(style, u16::from(matrix.side())))?;
     push_columns(&mut pen.piece, style, matrix, margin, row);
-    pen.reserve(out, usize::from(last + first) * room + 1)?;
-    push_cells(
-        &mut pen.piece,
-        style,
-        matrix,
-        margin,
-        row,
-        first + u16::from(matrix.side() / 4 * 4),
-        last,
-    );
-    push_light(&mut pen.piece, style, first);
-    pen.piece.push(b'\n');
+    pen.reserve(out, cells_room(style, last + first) + 1)?;
+    push_rest(&mut pen.piece, style, matrix, margin, row);
     Ok(())
 }
 

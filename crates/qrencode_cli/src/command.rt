@@ -1,13 +1,9 @@
 //! A run of the command: its settings, its input, its symbols, and their drawing or the line of a fault.
 
-ghost use Rattle.std.specs.Prelude.{◌≡◌, ◌≤◌, ◌<◌, ◌↔◌, true, Err, OnOk, IfErr, IsErrOf, IsTrue, max, length, map};
-ghost use Rattle.std.specs.Prelude.{MatchResult, Result};
+ghost use Rattle.std.specs.Prelude.{◌≤◌, MatchResult, length, map};
 ghost use Rattle.std.specs.String.{string_bytes};
-ghost use Rattle.qrencode_cli.specs.Input.{IsReadWithin};
-ghost use Rattle.qrencode_cli.specs.Command.{DrawnInPart, DrawnWhole, IsDrawing, RunsTo, held};
-ghost use Rattle.qr_devices.specs.Device.{IsWrittenWithin, is_read_fault, is_write_fault, no_reads, no_writes};
-ghost use Rattle.qrencode_cli.specs.Steps.Command.{AreDrawnFor, Attempts, IsInputFault, Prepares, drawing_of_job};
-ghost use Rattle.qrencode_cli.specs.declared.fault.Fault.{Fault};
+ghost use Rattle.qrencode_cli.specs.Command.{IsDrawing, RunsTo, held};
+ghost use Rattle.qrencode_cli.specs.Steps.Command.{AreDrawnFor, Attempts, Draws, IsInputFault, Prepares, drawing_of_job};
 
 use crate::drawing_job::DrawingJob;
 use crate::fault::Fault;
@@ -15,7 +11,7 @@ use crate::input::read_input;
 use crate::settings::{Settings, options};
 use qr_bits::{INPUT_MAX, fold};
 use qr_devices::{Sink, Source};
-use qr_drawing::{WRITE_MAX, draw, write_text};
+use qr_drawing::{draw, write_text};
 use qr_layout::Version;
 use qr_symbol::{Symbol, encode, encode_series};
 use std::alloc::Global;
@@ -65,10 +61,7 @@ fn make_job(alloc: Global, input: &[u8], settings: &Settings) -> Result<DrawingJ
 
 // A string among the arguments is cut after `INPUT_MAX` bytes, which already fit no symbols.
 fn job_for<R: Source>(alloc: Global, words: &[String], input: &mut R) -> Result<DrawingJob, Fault>
-    ensures prepares { Prepares (map string_bytes words.now) (R.device input.old)
-        (R.device input.new) result }
-    ensures within { (R.device input.old).counts ≡ no_reads → IsReadWithin (R.device input.new).counts }
-    ensures read_fault { (R.device input.old).counts ≡ no_reads → IsErrOf result Fault.Read ↔ IsTrue (is_read_fault (R.device input.new).counts) }
+    ensures { Prepares (map string_bytes words.now) (R.device input.old) (R.device input.new) result }
 {
     let settings = options(alloc, words)?;
     match &settings.string {
@@ -85,17 +78,13 @@ fn job_for<R: Source>(alloc: Global, words: &[String], input: &mut R) -> Result<
 
 // A flush that fails is a write fault.
 fn write_drawing<W: Sink>(job: &DrawingJob, out: &mut W) -> Result<(), Fault>
-    ensures ok { OnOk result (DrawnWhole true (W.device out.old) (W.device out.new)
-        (drawing_of_job job.now)) }
-    ensures err { IfErr result (λ f. (f ≡ Fault.Write)
-        × DrawnInPart (W.device out.old) (W.device out.new)
-        (drawing_of_job job.now)) }
-    ensures fault { (W.device out.old).counts ≡ no_writes → IsErrOf result Fault.Write ↔ IsTrue (is_write_fault (W.device out.new).counts) }
-    ensures within { (W.device out.old).counts ≡ no_writes → IsWrittenWithin (W.device out.new).counts }
-    ensures offered { (W.device out.new).counts.offered ≤ max (W.device out.old).counts.offered WRITE_MAX }
+    ensures { Draws (W.device out.old) (W.device out.new) (drawing_of_job job.now) result }
 {
     draw(&job.symbols, job.kind, job.margin, out)?;
-    out.flush().map_err(|_| Fault::Write)
+    if out.flush().is_err() {
+        return Err(Fault::Write);
+    }
+    Ok(())
 }
 
 // As `run`, but returns a fault instead of writing its line.
@@ -105,14 +94,9 @@ fn run_to_result<R: Source, W: Sink>(
     input: &mut R,
     out: &mut W,
 ) -> Result<(), Fault>
-    ensures attempts { Attempts (map string_bytes words.now) (R.device input.old)
+    ensures { Attempts (map string_bytes words.now) (R.device input.old)
         (R.device input.new) (W.device out.old)
         (W.device out.new) result }
-    ensures input_within { (R.device input.old).counts ≡ no_reads → IsReadWithin (R.device input.new).counts }
-    ensures read_fault { (R.device input.old).counts ≡ no_reads → IsErrOf result Fault.Read ↔ IsTrue (is_read_fault (R.device input.new).counts) }
-    ensures write_fault { (W.device out.old).counts ≡ no_writes → IsErrOf result Fault.Write ↔ IsTrue (is_write_fault (W.device out.new).counts) }
-    ensures within { (W.device out.old).counts ≡ no_writes → IsWrittenWithin (W.device out.new).counts }
-    ensures offered { (W.device out.new).counts.offered ≤ max (W.device out.old).counts.offered WRITE_MAX }
 {
     let job = job_for(alloc, words, input)?;
     write_drawing(&job, out)

@@ -65,7 +65,7 @@ sends_more a b c bytes at len n i j k p le short some same q e =
     rw (take-add at n bytes, ← take-offered n len (drop at bytes) le) (writes_on a b c i j k [] [] [] (take at bytes) (take n buf) p one)
 
 -- a write was interrupted, and is tried again
-pub sends_again : (a b c : Writer) (text : List ℕ) (len i j : ℕ) → Writes a b i j text [] → len ≤ 1200 → j < 999
+pub sends_again : (a b c : Writer) (text : List ℕ) (len i j : ℕ) → Writes a b i j text [] → len ≤ 1200 → j + 1 < 1000
     → Keeps b.taken c.taken → c.counts ≡ write_counted len (Err Interrupted) b.counts → Writes a c i (j + 1) text []
 sends_again a b c text len i j p short few q e =
     let one : Writes b c j (j + 1) [] [] = record {

@@ -1,7 +1,8 @@
 -- How the written parts of a text join.
-use Rattle.std.proofs.Common.{◌≡◌, ◌++◌, ◌∙◌, ℕ, List, [], MatchResult, OnOk, Option, Result, Ok, Err, append_assoc, append-nil, refl, sym, ap, arith, ◌<◌, ◌≤◌, ◌+◌, ◌^◌, length, length-append, subst}
+use Rattle.std.proofs.Common.{◌≡◌, ◌++◌, ◌∙◌, ℕ, List, [], MatchResult, OnErr, OnOk, is_err, max, Option, Result, Ok, Err, append_assoc, append-nil, refl, sym, ap, arith, rules, ◌<◌, ◌≤◌, ◌+◌, ◌^◌, length, length-append, subst}
 use Rattle.std.proofs.KnownBytes.{Appends-trans, Appends-nil}
-use Rattle.qr_devices.specs.Device.{AppendsBeginning, Writer, counted}
+use Rattle.std.specs.Io.KnownBytes.{Appends}
+use Rattle.qr_devices.specs.Device.{AppendsBeginning, IsWrittenWithin, Writer, counted, is_write_fault, no_writes}
 use Rattle.qr_drawing.specs.Steps.Pen.{Reserves}
 use Rattle.qr_drawing.specs.Steps.Writing.{Sends, Stops, Writes}
 use Rattle.qr_drawing.specs.declared.pen.{DrawFault.DrawFault, Pen.Pen}
@@ -120,3 +121,22 @@ emptied a b c i before after text (Ok t) p q e =
     let w = writes_on a b c i before.interrupted after.interrupted [] before.piece.items after.piece.items text [] p (rw append-nil q) in rw (append-nil, e) at w
 emptied a b c i before after text (Err f) p q e =
     let w = writes_stop a b c i before.interrupted [] before.piece.items text [] p (rw append-nil q) in rw append-nil at w
+
+-- what the calls promise that write a text whole
+abbrev pub Written : Writer → Writer → List ℕ → {T : Type 0} → Result T DrawFault → Type 0
+Written old new text r = record {
+  ok : OnOk r (Appends old.taken new.taken text);
+  err : OnErr r (AppendsBeginning old.taken new.taken text);
+  fault : old.counts ≡ no_writes → is_write_fault new.counts ≡ is_err r;
+  taken : old.counts ≡ no_writes → OnOk r (new.counts.taken ≡ counted (length text));
+  most : old.counts ≡ no_writes → OnErr r (new.counts.taken ≤ counted (length text));
+  within : old.counts ≡ no_writes → IsWrittenWithin new.counts;
+  offered : new.counts.offered ≤ max old.counts.offered 1200;
+  flushes : new.counts.flushes ≡ old.counts.flushes;
+}
+
+-- a text that was written, or in which the writer failed, with no interrupted writes before
+pub written : {T : Type 0} (a b : Writer) (tries : ℕ) (text : List ℕ) (r : Result T DrawFault)
+    → MatchResult r (λ _. Writes a b 0 tries text []) (λ _. Stops a b 0 text) → Written a b text r
+written a b tries text (Ok t) p = search rules
+written a b tries text (Err f) p = search rules

@@ -165,6 +165,16 @@ room-left h t n d o b room text most e le fits =
     let l : length t ≡ length h + length (texts_below n text) = ap (λ l. length l) e ∙ length-append h (texts_below n text) in
     omega (arith, l, texts_below-length n b text most, add-mul n d b, mul-le-mul_right b le, fits)
 
+-- if there was room for four characters of half blocks, then after two there is room for two more
+pub room-pair : (h t : List ℕ) (pair : ℕ) → t ≡ h ++ pair_text pair → length h + 12 ≤ 1200 → length t + 6 ≤ 1200
+room-pair h t pair e fits =
+    room-left h t 2 2 4 3 1200 (λ k. half_blocks (has_bit pair k) (has_bit pair (2 + k))) (λ k. cell-length HalfBlocks _ _) e (omega arith) fits
+
+-- if there was room for eight of them, then after four there is room for four more
+pub room-quad : (h t : List ℕ) (upper lower : ℕ) → t ≡ h ++ bits_text 4 HalfBlocks upper lower → length h + 24 ≤ 1200 → length t + 12 ≤ 1200
+room-quad h t upper lower e fits =
+    room-left h t 4 4 8 3 1200 (λ k. cell_text HalfBlocks (has_bit upper k) (has_bit lower k)) (λ k. cell-length HalfBlocks _ _) e (omega arith) fits
+
 -- if there was room for `count` cells of a row, then after `done` of them there is room for n more
 pub room-cells : (style : TextStyle) (margin : ℕ) (g : Grid) (row first done n count : ℕ) (h t : List ℕ)
     → t ≡ h ++ texts_below done (λ i. cell_at style margin g row (first + i)) → done + n ≤ count → length h + count * cell_room style ≤ 1200

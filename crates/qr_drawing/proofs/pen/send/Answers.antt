@@ -1,44 +1,60 @@
-use Rattle.std.proofs.Common.{◌≤◌, ◌+◌, ◌-◌, [], length, take, drop, refl, arith}
-use Rattle.std.proofs.lemmas.Grind.{common_steps}
+use Rattle.std.proofs.Common.{◌≡◌, ◌<◌, ◌≤◌, ◌+◌, ◌-◌, ℕ, List, [], min, length, take, drop, refl, arith}
+use Rattle.std.proofs.lemmas.List.{length-drop, length-take}
 use Rattle.qr_drawing.proofs.lemmas.pen.SendingLemmas.{sends_more, sends_again, refused-zero, refused-failed, refused-tried}
 use Rattle.qr_drawing.proofs.lemmas.pen.WritingLemmas.{writes_none}
 use Rattle.qr_drawing.proofs.pen.send.Goals as goal
+
+-- a write offers some bytes, at most 1,200, and no more than are left
+offered : (bytes : List ℕ) (at len : ℕ) → at < length bytes → len ≡ min (length bytes - at) 1200
+    → let n = length (take (at + len - at) (drop at bytes)) in (0 < n) × (n ≤ 1200) × (at + n ≤ length bytes)
+offered bytes at len lt e = rw (length-take, length-drop) (omega arith, omega arith, omega arith)
+
+-- the writer accepted no more than was offered
+within : (at taken n all : ℕ) → taken ≤ n → at + n ≤ all → at + taken ≤ all
+within at taken n all le fits = omega arith
+
+-- one more interrupted write may be tried again
+again : (tries : ℕ) → tries < 1000 → (tries ≡ 999 → ⊥) → tries + 1 < 1000
+again tries lt ne = omega arith
 
 pub offers-init : goal.offers-init
 offers-init g c = record { within = omega arith; few = c.requires; writes = writes_none _ _ [] }
 
 pub returns-then-taken-eq0-clause-writes : goal.returns-then-taken-eq0-clause-writes
 returns-then-taken-eq0-clause-writes g c =
-    refused-zero _ _ _ _ _ _ _ _ _ c.if-taken-eq0.true c.offers.invariant.writes (grind (arith, common_steps)) (grind (arith, common_steps))
-    c.in-Ok.ensures.bytes c.in-Ok.ensures.counted
+    let o = offered c.args.bytes.now c.offers.at c.min-len.result c.offers-test.true c.min-len.ensures in
+    refused-zero _ _ _ _ _ _ _ _ _ c.if-taken-eq0.true c.offers.invariant.writes o.0 o.1 c.in-Ok.ensures.bytes c.in-Ok.ensures.counted
 
 pub offers-preserved-in-Ok : goal.offers-preserved-in-Ok
 offers-preserved-in-Ok g c =
-    let m = c.offers.at + c.min-len.result - c.offers.at in
-    let short : length (take m (drop c.offers.at c.args.bytes.now)) ≤ 1200 = grind (arith, common_steps) in
+    let o = offered c.args.bytes.now c.offers.at c.min-len.result c.offers-test.true c.min-len.ensures in
     record {
-      within = grind (arith, common_steps, c.in-Ok.ensures.bound);
+      within = within c.offers.at c.in-Ok.taken _ _ c.in-Ok.ensures.bound o.2;
       few = c.offers.invariant.few;
-      writes = sends_more _ _ _ _ c.offers.at m _ _ _ _ c.offers.invariant.writes c.in-Ok.ensures.bound short c.if-taken-eq0.false refl
-          c.in-Ok.ensures.bytes c.in-Ok.ensures.counted;
+      writes = sends_more _ _ _ _ c.offers.at (c.offers.at + c.min-len.result - c.offers.at) _ _ _ _ c.offers.invariant.writes
+          c.in-Ok.ensures.bound o.1 c.if-taken-eq0.false refl c.in-Ok.ensures.bytes c.in-Ok.ensures.counted;
     }
 
 pub offers-preserved : goal.offers-preserved
 offers-preserved g c =
+    let o = offered c.args.bytes.now c.offers.at c.min-len.result c.offers-test.true c.min-len.ensures in
+    let few = again c.offers.tries c.offers.invariant.few c.if-tries-eq-INTERRUPTIONS_MAX.false in
     record {
       within = c.offers.invariant.within;
-      few = omega arith;
-      writes = sends_again _ _ _ _ _ _ _ c.offers.invariant.writes (grind (arith, common_steps)) (omega arith)
+      few = few;
+      writes = sends_again _ _ _ _ _ _ _ c.offers.invariant.writes o.1 few
           c.in-Err-Interrupted.ensures.bytes (rw c.in-Err-Interrupted.field-0-is at c.in-Err-Interrupted.ensures.counted);
     }
 
 pub returns-then-tries-eq-INTERRUPTIONS_MAX-clause-writes :
     goal.returns-then-tries-eq-INTERRUPTIONS_MAX-clause-writes
 returns-then-tries-eq-INTERRUPTIONS_MAX-clause-writes g c =
-    refused-tried _ _ _ _ _ _ _ _ c.if-tries-eq-INTERRUPTIONS_MAX.true c.offers.invariant.writes
-    (grind (arith, common_steps)) c.in-Err-Interrupted.ensures.bytes (rw c.in-Err-Interrupted.field-0-is at c.in-Err-Interrupted.ensures.counted)
+    let o = offered c.args.bytes.now c.offers.at c.min-len.result c.offers-test.true c.min-len.ensures in
+    refused-tried _ _ _ _ _ _ _ _ c.if-tries-eq-INTERRUPTIONS_MAX.true c.offers.invariant.writes o.1
+    c.in-Err-Interrupted.ensures.bytes (rw c.in-Err-Interrupted.field-0-is at c.in-Err-Interrupted.ensures.counted)
 
 pub returns-in-Err-Failed-clause-writes : goal.returns-in-Err-Failed-clause-writes
 returns-in-Err-Failed-clause-writes g c =
-    refused-failed _ _ _ _ _ _ _ _ c.offers.invariant.writes (grind (arith, common_steps))
+    let o = offered c.args.bytes.now c.offers.at c.min-len.result c.offers-test.true c.min-len.ensures in
+    refused-failed _ _ _ _ _ _ _ _ c.offers.invariant.writes o.1
     c.in-Err-Failed.ensures.bytes (rw c.in-Err-Failed.field-0-is at c.in-Err-Failed.ensures.counted)

@@ -47,5 +47,5 @@ returns-then-col-end c =
     let e : c.eights.col + 4 ≡ c.args.matrix.now.side / 4 * 4 = omega (arith, i.end, i.whole, c.eights-test.false, c.if-col-end.true) in
     added-cells c.args.style c.args.margin c.args.matrix.now c.args.row _ 4 _ _ c.args.text.now.items _ _ (omega arith) (omega arith)
     (c.dark_bits-upper-then-col-end.ensures c.args.margin c.args.row c.square_row-upper_row.ensures)
-    (c.dark_bits-lower-then-col-end.ensures c.args.margin (c.args.row + 1) c.square_row-lower_row.ensures) i.items c.push_quad.ensures.items
+    (c.dark_bits-lower-then-col-end.ensures c.args.margin (c.args.row + 1) c.square_row-lower_row.ensures) i.items c.push_quad.ensures
     ∙ ap (λ n. c.args.text.now.items ++ texts_below n (λ i. cell_at c.args.style c.args.margin c.args.matrix.now c.args.row (c.args.margin + i))) e

@@ -2,10 +2,10 @@ use Rattle.std.proofs.lemmas.Result.{err_from_is_err_and}
 use Rattle.qrencode_cli.proofs.lemmas.command.RunningLemmas.{attempts-refused, attempts-shown}
 use Rattle.qrencode_cli.proofs.command.run_to_result.Goals as goal
 
-pub returns-clause-attempts : goal.returns-clause-attempts
-returns-clause-attempts g c = attempts-shown _ _ _ _ _ c.in_ok-job.job c.in_ok-job.ensures.prepares c.write_drawing.result c.write_drawing.ensures.ok c.write_drawing.ensures.err
+pub returns : goal.returns
+returns g c = attempts-shown _ _ _ _ _ c.in_ok-job.job c.in_ok-job.ensures c.write_drawing.result c.write_drawing.ensures
 
-pub returns-in_err-job-clause-attempts : goal.returns-in_err-job-clause-attempts
-returns-in_err-job-clause-attempts g c =
+pub returns-in_err-job : goal.returns-in_err-job
+returns-in_err-job g c =
     let p = err_from_is_err_and c.from_residual.result c.from_residual.ensures.1 in
-    rw (p.1, p.2) (attempts-refused _ _ _ _ c.in_err-job.field-0.0 c.in_err-job.ensures.prepares)
+    rw (p.1, p.2) (attempts-refused _ _ _ _ c.in_err-job.field-0.0 c.in_err-job.ensures)

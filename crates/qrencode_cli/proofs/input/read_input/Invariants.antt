@@ -4,8 +4,7 @@ use Rattle.qrencode_cli.proofs.lemmas.input.ReadingLemmas.{IsReading}
 use Rattle.qrencode_cli.proofs.input.read_input.Given as goal
 
 abbrev pub invariant-reads : goal.invariant-reads
-invariant-reads g l = IsReading (g.R.Source.device l.fn.input).remaining (g.R.Source.device l.input).remaining
-    (g.R.Source.device l.fn.input).counts (g.R.Source.device l.input).counts l.bytes.items l.interrupted
+invariant-reads g l = IsReading (g.R.Source.device l.fn.input) (g.R.Source.device l.input) l.bytes.items l.interrupted
 
 abbrev pub decreases-reads : goal.decreases-reads
 decreases-reads g l = (INPUT_MAX - vec_len l.bytes) + (999 - l.interrupted)

@@ -1,6 +1,6 @@
 -- The drawing that a command line and an input ask for, or the fault that occurs before any byte is written.
-use Rattle.std.proofs.Common.{◌≡◌, ◌∙◌, ◌≤◌, ℕ, true, false, List, [], ◌∷◌, take, Option, None, Some, Result, Ok, Err, MatchResult, refl, sym, min, length, append-nil, arith, inl, inr, ◌⊎◌}
-use Rattle.std.proofs.lemmas.{Bool.cases_lt, List.take_min}
+use Rattle.std.proofs.Common.{◌≡◌, ◌∙◌, ◌≤◌, ℕ, true, false, List, [], ◌∷◌, take, Option, None, Some, Result, Ok, Err, MatchResult, IsErrOf, IsTrue, ◌↔◌, ap, refl, sym, min, length, append-nil, arith, inl, inr, ◌⊎◌}
+use Rattle.std.proofs.lemmas.{Bool.cases_lt, Bool.false≢true, List.take_min}
 use Rattle.std.proofs.lemmas.List.Elements.{All-cons, All-head, All-nil}
 use Rattle.std.specs.List.{All}
 use Rattle.qr_drawing.specs.Drawing.{HaveOneSide}
@@ -13,12 +13,12 @@ use Rattle.qr_symbol.specs.declared.symbol.Symbol.{Symbol}
 use Rattle.qr_matrix.specs.Grid.{Grid}
 use Rattle.qr_symbol.specs.{Joining.AreReadBy, Joining.IsJoined, Reading.IsReadBack, Series.IsSeries, Series.squares_of, Encoding.IsSymbol, VersionChoice.HasNoVersion}
 use Rattle.qr_symbol.proofs.Facts.{long-has-no-series, series-few, series-side, series-some}
-use Rattle.qrencode_cli.specs.Command.{AllRead, HasDrawing, IsDrawing, ReadsInput, IsFault, held, input_for}
+use Rattle.qrencode_cli.specs.Command.{HasDrawing, IsDrawing, ReadsInput, IsFault, held, input_for}
 use Rattle.qrencode_cli.specs.Settings.{IsUsageFault, Reason, SettingsView, rule_for, settings_for}
-use Rattle.qrencode_cli.specs.Steps.Command.{AreDrawnFor, IsEarly, IsInputFault, Prepares, drawing_of_job}
+use Rattle.qrencode_cli.specs.Steps.Command.{AreDrawnFor, HasRead, IsEarly, IsInputFault, Prepares, StopsReading, drawing_of_job}
 use Rattle.qrencode_cli.specs.{Symbols.smallest_of, declared.fault.Fault.Fault}
-use Rattle.qr_devices.specs.Device.{Reader}
-use Rattle.qrencode_cli.specs.{Steps.Fault.fault_of_input, Steps.Fault.fault_of_words, Input.IsInputOf}
+use Rattle.qr_devices.specs.{Device.Reader, Device.is_read_fault, Device.no_reads, declared.device.ReadCounts.ReadCounts}
+use Rattle.qrencode_cli.specs.{Steps.Fault.fault_of_input, Steps.Fault.fault_of_words, Input.IsInputOf, Input.IsReadWithin}
 use Rattle.qr_bits.proofs.Facts.{fitting_short}
 use Rattle.std.proofs.lemmas.Grind.{common_steps}
 use Rattle.qrencode_cli.specs.declared.fault.Fault.TheVariants as fault
@@ -105,11 +105,44 @@ drawn-for-series s rule input version symbols many least most e same some series
   one_side = one-side (squares_of symbols) (side_of version) (series-side input s.level rule version symbols series);
 }
 
+-- the result is a read fault neither by itself nor by the reader's counts
+no-read-fault : {T : Type 0} (r : Result T Fault) (c : ReadCounts) → (r ≡ Err fault.Read → ⊥) → is_read_fault c ≡ false → IsErrOf r fault.Read ↔ IsTrue (is_read_fault c)
+no-read-fault r c never well = (λ e. absurd (never e), λ t. absurd (false≢true (sym well ∙ t)))
+
+-- a reader that was not read shows no fault
+unread-well : (c : ReadCounts) → c ≡ no_reads → is_read_fault c ≡ false
+unread-well c z = rw z refl
+
+-- and is within bounds
+unread-within : (c : ReadCounts) → c ≡ no_reads → IsReadWithin c
+unread-within c z = rw z (search arith)
+
+-- a result has one fault
+pub same-fault : {T : Type 0} (r : Result T Fault) (f g : Fault) → r ≡ Err f → r ≡ Err g → f ≡ g
+same-fault r f g p q = cc
+
+-- success is no fault
+pub no-fault : {T : Type 0} (r : Result T Fault) (t : T) (f : Fault) → r ≡ Ok t → r ≡ Err f → ⊥
+no-fault r t f p q = cc
+
+-- making a job is no read fault
+made-unread : (s : SettingsView) (input : List ℕ) (r : Result DrawingJob Fault)
+    → MatchResult r (λ p. IsDrawing s input (drawing_of_job p)) (IsInputFault s input) → r ≡ Err fault.Read → ⊥
+made-unread s input (Ok p) h e = no-fault (Ok p) p fault.Read refl e
+made-unread s input (Err f) h e = rw (same-fault (Err f) f fault.Read refl e) at h
+
 -- a command line without settings is refused
 refused : (words : List Text) (in0 : Reader) (why : Reason) (u : UsageFault) → settings_for words ≡ Err why
     → (settings_for words ≡ Err why → IsFault words (any_input in0.remaining).0 (fault.Usage u))
     → Prepares words in0 in0 (Err (fault.Usage u))
-refused words in0 why u e is = let i = any_input in0.remaining in search arith
+refused words in0 why u e is = let i = any_input in0.remaining in record {
+  given = i.0;
+  is_input = i.1;
+  reads = record { unread = λ n. refl; read = λ i. let bad : Ok i.settings ≡ Err why = sym i.taken ∙ e in cc };
+  answer = (is e, tt);
+  read_fault = λ z. no-read-fault _ in0.counts (λ bad. cc) (unread-well in0.counts z);
+  within = unread-within in0.counts;
+}
 
 -- every fault of the command line is a correct result
 pub prepares-usage : (words : List Text) (in0 : Reader) (u : UsageFault) → IsUsageFault (settings_for words) u
@@ -123,6 +156,8 @@ prepares-usage words in0 usage.Memory h = let i = any_input in0.remaining in rec
   is_input = i.1;
   reads = record { unread = λ n. refl; read = λ i. inr (inr refl) };
   answer = (tt, tt);
+  read_fault = λ z. no-read-fault _ in0.counts (λ bad. cc) (unread-well in0.counts z);
+  within = unread-within in0.counts;
 }
 
 module _ (words : List Text) (s : SettingsView) (taken : settings_for words ≡ Ok s) where
@@ -150,35 +185,37 @@ module _ (words : List Text) (s : SettingsView) (taken : settings_for words ≡ 
     is_input = i.1;
     reads = record { unread = λ n. refl; read = λ i. absurd (let e : Some text ≡ None = sym string ∙ string-none i in cc) };
     answer = answer-for i.0 (take n buf) r (input_for-string s text i.0 buf n string is cut) h;
+    read_fault = λ z. no-read-fault r in0.counts (made-unread s _ r h) (unread-well in0.counts z);
+    within = unread-within in0.counts;
   }
 
   -- the case that the input is what the reader returned
   pub prepares-reader : (in0 in1 : Reader) (bytes buf : List ℕ) (r : Result DrawingJob Fault) → s.string ≡ None → buf ≡ bytes
-      → IsInputOf in0.remaining bytes → AllRead in0 in1 bytes
+      → HasRead in0 in1 bytes
       → MatchResult r (λ p. IsDrawing s (held s buf) (drawing_of_job p)) (IsInputFault s (held s buf))
       → Prepares words in0 in1 r
-  prepares-reader in0 in1 bytes buf r string is input gives h = record {
+  prepares-reader in0 in1 bytes buf r string is done h = record {
     given = bytes;
-    is_input = input;
-    reads = record { unread = λ n. absurd (n (record { settings = s; taken = taken; holds = string })); read = λ i. inl gives };
+    is_input = done.is_input;
+    reads = record { unread = λ n. absurd (n (record { settings = s; taken = taken; holds = string })); read = λ i. inl done.all };
     answer = answer-for bytes buf r (input_for-reader s bytes string ∙ sym is) h;
+    read_fault = λ z. no-read-fault r in1.counts (made-unread s _ r h) (done.well z);
+    within = done.within;
   }
 
   -- the case that the reader was at fault, or memory for the input was refused
-  pub prepares-unread : (in0 in1 : Reader) (f : Fault) → s.string ≡ None → (f ≡ fault.Read) ⊎ (f ≡ fault.Memory)
-      → Prepares words in0 in1 (Err f)
-  prepares-unread in0 in1 fault.Read string only = let i = any_input in0.remaining in record {
-    given = i.0;
-    is_input = i.1;
-    reads = record { unread = λ n. absurd (n (record { settings = s; taken = taken; holds = string })); read = λ i. inr (inl refl) };
-    answer = (record { settings = s; taken = taken; holds = string }, tt);
-  }
-  prepares-unread in0 in1 fault.Memory string only = let i = any_input in0.remaining in record {
-    given = i.0;
-    is_input = i.1;
-    reads = record { unread = λ n. absurd (n (record { settings = s; taken = taken; holds = string })); read = λ i. inr (inr refl) };
-    answer = (tt, tt);
-  }
-  prepares-unread in0 in1 (fault.Usage u) string only = absurd (elim only [ inl e ↦ cc | inr e ↦ cc ])
-  prepares-unread in0 in1 (fault.Encode e) string only = absurd (elim only [ inl e ↦ cc | inr e ↦ cc ])
-  prepares-unread in0 in1 fault.Write string only = absurd (elim only [ inl e ↦ cc | inr e ↦ cc ])
+  pub prepares-unread : (in0 in1 : Reader) (f : Fault) → s.string ≡ None → StopsReading in0 in1 f → Prepares words in0 in1 (Err f)
+  prepares-unread in0 in1 f string stops =
+      let i = any_input in0.remaining in
+      let asked : ReadsInput words = record { settings = s; taken = taken; holds = string } in
+      record {
+        given = i.0;
+        is_input = i.1;
+        reads = record {
+          unread = λ n. absurd (n asked);
+          read = λ _. elim stops.only [ inl e ↦ inr (inl (ap (λ (f : Fault). Err f) e)) | inr e ↦ inr (inr (ap (λ (f : Fault). Err f) e)) ];
+        };
+        answer = elim stops.only [ inl e ↦ rw e (asked, tt) | inr e ↦ rw e (tt, tt) ];
+        read_fault = λ z. (λ e. (stops.read_fault z).0 (same-fault (Err f) f fault.Read refl e), λ t. ap (λ (f : Fault). Err f) ((stops.read_fault z).1 t));
+        within = stops.within;
+      }
