@@ -47,22 +47,27 @@ fn clear_rectangles(matrix: &mut Matrix, v: Version, rectangles: &[Rectangle])
     }
 }
 
-// Fills three squares, one inside the other, of 7, 5 and 3 modules a side.
-fn draw_finder(matrix: &mut Matrix, row: u8, col: u8)
-    requires row_least { 3 ≤ row }
-    requires row_most { row + 4 ≤ matrix.old.side }
-    requires col_least { 3 ≤ col }
-    requires col_most { col + 4 ≤ matrix.old.side }
+// Fills the square of the modules that are at most `distance` rows and columns from its centre.
+#[inline]
+fn fill_around(matrix: &mut Matrix, centre: Module, distance: u8, dark: bool)
+    requires rows_in { (distance ≤ centre.row) × (centre.row + distance < matrix.old.side) }
+    requires columns_in { (distance ≤ centre.col) × (centre.col + distance < matrix.old.side) }
     requires side { matrix.old.side ≤ 177 }
-    ensures { IsOver matrix.old.side (λ r c. nat_lt (ring_of row col r c) 4) (λ r c. not (ring_of row col r c == 2))
+    ensures { IsOver matrix.old.side (λ r c. nat_le (ring_of centre.row centre.col r c) distance) (λ _ _. dark)
         (colour matrix.old) matrix.new }
 {
-    matrix.fill(row - 3, row + 4, col - 3, col + 4, true);
-    matrix.fill(row - 2, row + 3, col - 2, col + 3, false);
-    matrix.fill(row - 1, row + 2, col - 1, col + 2, true);
+    let Module { row, col } = centre;
+    matrix.fill(
+        row - distance,
+        row + distance + 1,
+        col - distance,
+        col + distance + 1,
+        dark,
+    );
 }
 
-// Draws a finder pattern and its separator, which fill the eight by eight modules from `block` on.
+// Draws a finder pattern and its separator, which fill the eight by eight modules from `block` on. The pattern is three
+// squares, one inside the other, of 7, 5 and 3 modules a side.
 fn paint_finder(matrix: &mut Matrix, v: Version, block: Module, centre: Module)
     requires square { IsSquare (side_of v) matrix.old }
     requires bottom_in { block.row + 8 ≤ side_of v }
@@ -76,7 +81,9 @@ fn paint_finder(matrix: &mut Matrix, v: Version, block: Module, centre: Module)
         (colour matrix.old) matrix.new }
 {
     matrix.fill(block.row, block.row + 8, block.col, block.col + 8, false);
-    draw_finder(matrix, centre.row, centre.col);
+    fill_around(matrix, centre, 3, true);
+    fill_around(matrix, centre, 2, false);
+    fill_around(matrix, centre, 1, true);
 }
 
 // Five data bits and ten error correction bits (ISO/IEC 18004:2015, 7.9.1).
@@ -181,26 +188,11 @@ fn fill_alignment(matrix: &mut Matrix, v: Version, centres: &[Module], dark: boo
     ensures { IsOver (side_of v) (is_alignment v) (λ _ _. dark) (colour matrix.old) matrix.new }
 {
     for centre in centres {
-        let Module { row, col } = *centre;
-        matrix.fill(row - 2, row + 3, col - 2, col + 3, dark);
+        fill_around(matrix, *centre, 2, dark);
     }
 }
 
-// Fills four rectangles, so that the module in the middle keeps its colour.
-fn clear_ring(matrix: &mut Matrix, row: u8, col: u8)
-    requires row_least { 1 ≤ row }
-    requires row_most { row + 2 ≤ matrix.old.side }
-    requires col_least { 1 ≤ col }
-    requires col_most { col + 2 ≤ matrix.old.side }
-    requires side { matrix.old.side ≤ 177 }
-    ensures { IsOver matrix.old.side (λ r c. ring_of row col r c == 1) (λ _ _. false) (colour matrix.old) matrix.new }
-{
-    matrix.fill(row - 1, row, col - 1, col + 2, false);
-    matrix.fill(row + 1, row + 2, col - 1, col + 2, false);
-    matrix.fill(row, row + 1, col - 1, col, false);
-    matrix.fill(row, row + 1, col + 1, col + 2, false);
-}
-
+// Makes the rings round the centres light; the centres keep their colours.
 fn clear_rings(matrix: &mut Matrix, v: Version, centres: &[Module])
     requires square { IsSquare (side_of v) matrix.old }
     requires centres { centres.now ≡ alignment_places (side_of v) (centres_of v) }
@@ -208,7 +200,9 @@ fn clear_rings(matrix: &mut Matrix, v: Version, centres: &[Module])
     ensures { IsOver (side_of v) (is_alignment_light v) (λ _ _. false) (colour matrix.old) matrix.new }
 {
     for centre in centres {
-        clear_ring(matrix, centre.row, centre.col);
+        let dark = matrix.dark(centre.row, centre.col);
+        fill_around(matrix, *centre, 1, false);
+        matrix.set(centre.row, centre.col, dark);
     }
 }
 
