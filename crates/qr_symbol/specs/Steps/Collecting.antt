@@ -27,10 +27,14 @@ bits_in_rows s strip region x k (suc n) = bits_in_row region x (row_of s strip k
 abbrev pub colour_across : Grid → Module → Bool
 colour_across g m = colour g m.col m.row
 
--- A collector has exactly the bits `xs`, unless an allocation was refused, which makes it `None`.
-abbrev pub HasCollected : List Bool → Option (List Bool) → Type 0
+-- The bits of a collector, unless an allocation was refused.
+abbrev pub Bits : Type 0
+Bits = Option (List Bool)
+
+-- A collector has exactly the bits `xs`, if no allocation was refused.
+abbrev pub HasCollected : List Bool → Bits → Type 0
 HasCollected xs b = IfSome b (λ ys. ys ≡ xs)
 
 -- The bits `more` come after those that the collector had.
-abbrev pub Appends : List Bool → Option (List Bool) → Option (List Bool) → Type 0
+abbrev pub Appends : List Bool → Bits → Bits → Type 0
 Appends more before after = (xs : List Bool) → HasCollected xs before → HasCollected (xs ++ more) after

@@ -1,6 +1,6 @@
 use Rattle.qr_bits.specs.declared.fault.BitFault.{BitFault, TheVariants.{Memory, TooLong}}
 use Rattle.qr_symbol.proofs.lemmas.encoding.SymbolMakingLemmas.{symbol-found, symbol-back, version-fits}
-use Rattle.qr_symbol.proofs.lemmas.fault.ExactLemmas.{empty-has-version, empty-long, empty-short, long-has-no-version, not-empty-long, too-long-exactly}
+use Rattle.qr_symbol.proofs.lemmas.fault.ExactLemmas.{empty-has-version, empty-long, empty-short, long-has-no-version, not-empty, too-long-exactly}
 use Rattle.qr_symbol.specs.{Fault.fault_of, VersionChoice.HasNoVersion, declared.{fault.EncodeFault.EncodeFault, symbol.Symbol.Symbol}}
 use Rattle.std.proofs.Common.{◌≡◌, ◌+◌, ◌<◌, ◌≤◌, ◌⊎◌, ℕ, inl, inr, length, Result, Err, refl, sym, ap, ◌∙◌, arith}
 use Rattle.std.proofs.lemmas.{Bool.{eqb-false, eqb-true}, List.nil_from_length}
@@ -34,7 +34,7 @@ crossed : {m n : ℕ} → m < n → n ≤ m → ⊥
 crossed l k = omega arith
 
 -- what has room is not too long
-not-long : {m n : ℕ} → n ≤ m → (◌≡◌ {A = EncodeFault} fault.TooLong fault.Memory) ⊎ ((◌≡◌ {A = EncodeFault} fault.TooLong fault.TooLong) × (m < 0 + n)) → ⊥
+not-long : {m n : ℕ} → n ≤ m → (fault.TooLong ≡ fault.Memory) ⊎ ((fault.TooLong ≡ fault.TooLong) × (m < 0 + n)) → ⊥
 not-long room (inl h) = cc
 not-long room (inr w) = let l = w.1 in omega arith
 
@@ -80,7 +80,7 @@ returns c =
     let version = c.in_ok-fit.ensures.version in
     let least : 1 ≤ c.in_ok-fit.fit.version = omega arith in
     let r = c.symbol_at.result in let m = c.symbol_at.ensures in
-    let none : r ≡ Err fault.Empty → ⊥ = λ e. not-empty-long (MatchResult-at_err _ _ _ e m) in
+    let none : r ≡ Err fault.Empty → ⊥ = λ e. not-empty (λ h. cc) (MatchResult-at_err _ _ _ e m) in
     let chosen = rw (← c.deref.ensures.value) at c.in_ok-fit.ensures.segments in
     let room = version-fits _ c.args.level c.args.rule _ _ chosen version.fits in
     let long : r ≡ Err fault.TooLong → HasNoVersion c.args.smallest c.args.level c.args.rule c.args.input.now = λ e. absurd (not-long room (MatchResult-at_err _ _ _ e m)) in

@@ -30,8 +30,7 @@ exactly {X = X} {E = E} r e memory P other f none told = (λ h. (λ m. other (er
 -- `TooLong` is returned exactly if the input, which is not empty, fits no version, unless memory was refused
 pub too-long-exactly : (x : List ℕ) (l : Level) (smallest : ℕ) (b : Rule) (r : Result Symbol EncodeFault)
     → (r ≡ Err fault.TooLong → HasNoVersion smallest l b x)
-    → IfOk r (λ s. IsSymbol smallest l b x s.version s.mask s.matrix)
-    → IfErr r (λ e. (e ≡ fault.TooLong) ⊎ (e ≡ fault.Memory))
+    → IfOk r (λ s. IsSymbol smallest l b x s.version s.mask s.matrix) → IfErr r (λ e. (e ≡ fault.TooLong) ⊎ (e ≡ fault.Memory))
     → Refused r fault.TooLong fault.Memory (HasNoVersion smallest l b x)
 too-long-exactly x l smallest b (Ok s) long made told = exactly _ _ _ _ (λ e. cc) long (λ none. none s.version made.version.least made.version.most made.version.fits) tt
 too-long-exactly x l smallest b (Err e) long made told = exactly _ _ _ _ (λ e. cc) long tt (elim told [ inl h ↦ inl (λ _. h) | inr h ↦ inr h ])
@@ -70,13 +69,9 @@ check-exactly Holds (Err e) (inl m) = exactly _ _ _ _ (λ e. cc) (λ h. cc) tt (
 check-exactly Holds (Err e) (inr w) = exactly _ _ _ _ (λ e. cc) (λ _. w.1) tt (inl (λ _. w.0))
 
 -- a fault that is lack of memory or one other is not `Empty`
-pub not-empty-long : {Q : Type 0} → ◌≡◌ {A = EncodeFault} fault.Empty fault.Memory ⊎ ((◌≡◌ {A = EncodeFault} fault.Empty fault.TooLong) × Q) → ⊥
-not-empty-long (inl h) = cc
-not-empty-long (inr w) = let h = w.0 in cc
-
-pub not-empty-many : {Q : Type 0} → ◌≡◌ {A = EncodeFault} fault.Empty fault.Memory ⊎ ((◌≡◌ {A = EncodeFault} fault.Empty fault.TooMany) × Q) → ⊥
-not-empty-many (inl h) = cc
-not-empty-many (inr w) = let h = w.0 in cc
+pub not-empty : {Q : Type 0} {f : EncodeFault} → (fault.Empty ≡ f → ⊥) → (fault.Empty ≡ fault.Memory) ⊎ ((fault.Empty ≡ f) × Q) → ⊥
+not-empty other (inl h) = cc
+not-empty other (inr w) = other w.0
 
 -- an empty input is refused neither as too long nor as too many
 pub empty-long : {X : Type 0} → ◌≡◌ {A = Result X EncodeFault} (Err fault.Empty) (Err fault.TooLong) → ⊥

@@ -85,10 +85,8 @@ ring-left a b r c w x y d e = grind (arith, nat_tests)
 
 pub over-ring : {s : ℕ} {g' g'' : Grid} (g : Grid) (a b : ℕ) → IsOver s (λ r c. leb (ring_of a b r c) 1) (λ _ _. false) (colour g) g'
     → g'' ≡ painted g' a b (colour g a b) → IsOver s (λ r c. eqb (ring_of a b r c) 1) (λ _ _. false) (colour g) g''
-over-ring {g' = g'} {g'' = g''} g a b e p = let d = over-place (colour g) g' g'' a b _ (over-side e) refl p in record {
-  square = d.square;
-  colours = λ r c l m. ring-left a b r c _ _ _ (e.colours r c l m) (d.colours r c l m);
-}
+over-ring g a b e p = let d = over-place (colour g) _ _ a b _ (over-side e) refl p in
+    record { square = d.square; colours = λ r c l m. ring-left a b r c _ _ _ (e.colours r c l m) (d.colours r c l m) }
 
 -- ---- tests with other brackets
 

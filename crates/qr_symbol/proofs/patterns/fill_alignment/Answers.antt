@@ -1,11 +1,7 @@
-use Rattle.qr_layout.specs.{Region.ring_of, declared.region.Module.Module}
+use Rattle.qr_layout.specs.Region.{ring_of}
 use Rattle.qr_symbol.proofs.lemmas.patterns.PaintLemmas.{over-item, over-same, over-side, over-sized}
 use Rattle.std.{proofs.{Common.{leb, ap, ◌∙◌, arith}, lemmas.List.take_all}, specs.List.list_any}
 use Rattle.qr_symbol.proofs.patterns.fill_alignment.Goals as goal
-
--- a module that stands in for an index past the end of a list
-abbrev none : Module
-none = record { row = 0; col = 0 }
 
 pub loop-centre-preserved : goal.loop-centre-preserved
 loop-centre-preserved c = let e = c.loop-centre.invariant.so_far in
