@@ -1,28 +1,21 @@
 use Rattle.qr_bits.specs.declared.fault.BitFault.{BitFault, TheVariants.{Memory, TooLong}}
 use Rattle.qr_symbol.proofs.lemmas.encoding.SymbolMakingLemmas.{symbol-found, symbol-back, version-fits}
-use Rattle.qr_symbol.proofs.lemmas.fault.ExactLemmas.{empty-has-version, empty-long, empty-short, long-has-no-version, not-empty, too-long-exactly}
-use Rattle.qr_symbol.specs.{Fault.fault_of, VersionChoice.HasNoVersion, declared.{fault.EncodeFault.EncodeFault, symbol.Symbol.Symbol}}
-use Rattle.std.proofs.Common.{◌≡◌, ◌+◌, ◌<◌, ◌≤◌, ◌⊎◌, ℕ, inl, inr, length, Result, Err, refl, sym, ap, ◌∙◌, arith}
+use Rattle.qr_symbol.proofs.lemmas.fault.ExactLemmas.{empty-has-version, empty-long, empty-short, err-same, long-has-no-version, not-empty, too-long-exactly}
+use Rattle.qr_symbol.specs.{Fault.fault_of, VersionChoice.HasNoVersion}
+use Rattle.std.proofs.Common.{◌≡◌, ◌+◌, ◌<◌, ◌≤◌, ◌⊎◌, ℕ, inl, inr, length, Err, refl, sym, ap, ◌∙◌, arith}
 use Rattle.std.proofs.lemmas.{Bool.{eqb-false, eqb-true}, List.nil_from_length}
 use Rattle.std.proofs.lemmas.Result.{err_from_is_err_and, IfOk-weaker, MatchResult-at_err, MatchResult-weaker}
 use Rattle.qr_symbol.specs.declared.fault.EncodeFault.TheVariants as fault
 use Rattle.qr_symbol.proofs.encoding.encode.Goals as goal
 
--- the result of a call that is refused for this fault
-answer : EncodeFault → Result Symbol EncodeFault
-answer e = Err e
-
--- A fault of `qr_bits` is never `Empty`.
-not_empty : (f : BitFault) → answer (fault_of f) ≡ answer fault.Empty → ⊥
-unfolding answer
+-- A fault of `qr_bits` is never `Empty`, and is `TooLong` only if it becomes `TooLong`.
+not_empty : (f : BitFault) → fault_of f ≡ fault.Empty → ⊥
 not_empty Memory e = cc
 not_empty TooLong e = cc
 
--- The fault is `TooLong` only if that of `qr_bits` is `TooLong`.
-is_too_long : (f : BitFault) → answer (fault_of f) ≡ answer fault.TooLong → f ≡ TooLong
-unfolding answer
+is_too_long : (f : BitFault) → fault_of f ≡ fault.TooLong → f ≡ TooLong
 is_too_long Memory e = cc
-is_too_long TooLong e = cc
+is_too_long TooLong e = refl
 
 -- A fault of `qr_bits` becomes `TooLong` or `Memory`.
 of_bits : (f : BitFault) → (fault_of f ≡ fault.TooLong) ⊎ (fault_of f ≡ fault.Memory)
@@ -62,15 +55,14 @@ returns-then-input-gt-SYMBOL_BYTES_MAX c = let long = c.if-input-gt-SYMBOL_BYTES
 }
 
 pub returns-in_err-fit : goal.returns-in_err-fit
-unfolding answer
 returns-in_err-fit c =
     let p = err_from_is_err_and c.from_residual.result c.from_residual.ensures.1 in rw (p.1, p.2) (record {
       symbol = tt;
       level = tt;
       read = tt;
-      empty = (λ e. absurd (not_empty _ e), λ none. absurd (eqb-false (length _) 0 (sym c.if-is_empty.ensures) (ap length none)));
+      empty = (λ e. absurd (not_empty _ (err-same _ _ _ refl e)), λ none. absurd (eqb-false (length _) 0 (sym c.if-is_empty.ensures) (ap length none)));
       too_long = too-long-exactly _ _ c.args.smallest _ _
-          (λ e. c.in_err-fit.ensures.too_long (ap (λ (f : BitFault). Err f) (is_too_long _ e))) tt (of_bits _);
+          (λ e. c.in_err-fit.ensures.too_long (ap (λ (f : BitFault). Err f) (is_too_long _ (err-same _ _ _ refl e)))) tt (of_bits _);
       long = λ l. absurd (crossed l c.if-input-gt-SYMBOL_BYTES_MAX.false);
       fault = inr (of_bits _);
     })

@@ -3,14 +3,15 @@ use Rattle.qr_layout.specs.{Order.in_region_of, Region.is_in_region, Strips.{bot
 use Rattle.{qr_layout.specs.declared.{region.Module.Module, strips.Strip.Strip}, std.{proofs.lemmas.List.{map-append, Elements.All-push}, specs.List.All}}
 use Rattle.{qr_matrix.specs.{BitRow.has, Grid.{Grid, colour}}, qr_symbol.specs.declared.placement.Columns.Columns}
 use Rattle.qr_symbol.proofs.lemmas.placement.{KeptPlaceLemmas.{kept-append, places-push}, PlacementLemmas.at}
-use Rattle.qr_symbol.specs.Steps.{Collecting.{bit_if, bits_in_rows, colour_across, Appends, Bits, HasCollected}, Placement.row_of}
+use Rattle.qr_symbol.specs.Steps.{Collecting.{bit_if, bits_in_row, bits_in_rows, colour_across, Appends, Bits, HasCollected}, Placement.row_of}
 use Rattle.std.proofs.Common.{◌≡◌, ℕ, zero, suc, ◌+◌, ◌-◌, ◌<◌, ◌≤◌, Bool, true, false, cond, not, ◌||◌, None, Some, List, [], ◌∷◌, ◌++◌, map, refl, sym, ◌∙◌, ap, subst, append_assoc, append-nil, arith}
 
 -- the bits of n + m rows are those of the first n rows, followed by those of m more
 rows-append : (s : ℕ) (x : Strip) (r y : Columns) (k n m : ℕ) → bits_in_rows s x r y k (n + m) ≡ bits_in_rows s x r y k n ++ bits_in_rows s x r y (k + n) m
-rows-append s x r y k zero m = search arith
+rows-append s x r y k zero m = let e : 0 + m ≡ m = omega arith in let f : k + 0 ≡ k = omega arith in rw (e, f) refl
 rows-append s x r y k (suc n) m =
-    let e : suc n + m ≡ suc (n + m) = omega arith in search (arith, append_assoc, rows-append s x r y (k + 1) n m)
+    let e : suc n + m ≡ suc (n + m) = omega arith in let f : k + suc n ≡ k + 1 + n = omega arith in
+    rw (e, f) (ap (λ z. bits_in_row r y (row_of s x k) ++ z) (rows-append s x r y (k + 1) n m) ∙ sym (append_assoc (bits_in_row r y (row_of s x k)) _ _))
 
 -- bits are added to those of a collector
 pub added : (was : Bool) (old new more : List Bool) → new ≡ old ++ more → Appends more (cond was None (Some old)) (cond was None (Some new))

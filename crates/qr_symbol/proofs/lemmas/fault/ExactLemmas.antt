@@ -13,7 +13,7 @@ abbrev pub Refused : {X E : Type 0} → Result X E → (e memory : E) → Type 0
 Refused r e memory P = (r ≡ Err e) ↔ ((r ≢ Err memory) × P)
 
 -- a result has one fault
-err-same : {X E : Type 0} (r : Result X E) (e f : E) → r ≡ Err e → r ≡ Err f → e ≡ f
+pub err-same : {X E : Type 0} (r : Result X E) (e f : E) → r ≡ Err e → r ≡ Err f → e ≡ f
 err-same r e f h k = cc
 
 -- what makes it, if with the fact no value is returned, and no other fault than e and lack of memory
