@@ -10,7 +10,7 @@ ghost use Rattle.qr_layout.specs.Rectangles.{is_in_rectangle};
 ghost use Rattle.qr_layout.specs.Steps.Rectangles.{IsInside, IsWithin};
 ghost use Rattle.qr_layout.specs.Role.{finder_ring, is_alignment_light, role_of};
 ghost use Rattle.qr_layout.specs.Format.{version_word_of};
-ghost use Rattle.qr_matrix.specs.Grid.{square, colour, light, IsSquare};
+ghost use Rattle.qr_matrix.specs.Grid.{square, colour, IsSquare};
 ghost use Rattle.qr_matrix.specs.BitRow.{has_bit};
 ghost use Rattle.qr_symbol.specs.Steps.Patterns.{fixed_colour, format_bits_or, format_or, is_dark_in_six, is_in_block, paint_of, IsOver};
 ghost use Rattle.qr_symbol.specs.Steps.Placement.{region_grid};
@@ -219,20 +219,19 @@ pub(crate) fn draw_fixed(matrix: &mut Matrix, v: Version, format: u32)
     paint_version(matrix, v);
 }
 
-fn draw_region(matrix: &mut Matrix, v: Version)
-    requires { matrix.old ≡ light (side_of v) }
-    ensures { matrix.new ≡ region_grid v }
-{
-    let side = v.side();
-    matrix.fill(0, side, 0, side, true);
-    clear_rectangles(matrix, v, fixed_rectangles(v).as_slice());
-    fill_alignment(matrix, v, alignment_centres(v).as_slice(), false);
-}
-
+// All modules are dark at first; then those that are not in the region are made light.
 pub(crate) fn region_of(alloc: Global, version: Version) -> Result<Matrix, AllocError>
     ensures { IfOk result (λ m. m ≡ region_grid version) }
 {
-    let mut region = Matrix::new(alloc, version.side())?;
-    draw_region(&mut region, version);
+    let side = version.side();
+    let mut region = Matrix::new(alloc, side)?;
+    region.fill(0, side, 0, side, true);
+    clear_rectangles(&mut region, version, fixed_rectangles(version).as_slice());
+    fill_alignment(
+        &mut region,
+        version,
+        alignment_centres(version).as_slice(),
+        false,
+    );
     Ok(region)
 }
