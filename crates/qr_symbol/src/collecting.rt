@@ -173,28 +173,6 @@ fn collect_four(
 }
 
 // The number of rows is one more than a multiple of four, so the bottom row is read alone and the others in fours.
-#[inline(always)]
-fn collect_columns(
-    bits: &mut Collector,
-    columns: &Columns,
-    v: Version,
-    region: &Columns,
-    strip: Strip,
-)
-    ensures { Appends (bits_in_rows (side_of v) strip region.now columns.now 0 (side_of v)) bits.old bits.new }
-{
-    let last = v.side() - 1;
-    let before = u8::from(strip.upward);
-    let both = region.right & region.left;
-    collect_rows(bits, columns, v, region, strip, 0, before);
-    for group in 0..last / 4 {
-        let passed = before + 4 * group;
-        collect_four(bits, columns, v, region, &both, strip, passed);
-    }
-    collect_rows(bits, columns, v, region, strip, before + last, 1 - before);
-}
-
-#[tactic(auto, using(crate::proofs::Named::strips))]
 fn collect_strip(bits: &mut Collector, across: &Matrix, v: Version, region: &Matrix, strip: Strip)
     requires side { across.now.side ≡ side_of v }
     requires region { region.now ≡ region_grid v }
@@ -205,7 +183,15 @@ fn collect_strip(bits: &mut Collector, across: &Matrix, v: Version, region: &Mat
 {
     let columns = columns_of(across, strip.right);
     let within = columns_of(region, strip.right);
-    collect_columns(bits, &columns, v, &within, strip);
+    let last = v.side() - 1;
+    let before = u8::from(strip.upward);
+    let both = within.right & within.left;
+    collect_rows(bits, &columns, v, &within, strip, 0, before);
+    for group in 0..last / 4 {
+        let passed = before + 4 * group;
+        collect_four(bits, &columns, v, &within, &both, strip, passed);
+    }
+    collect_rows(bits, &columns, v, &within, strip, before + last, 1 - before);
 }
 
 pub(crate) fn collect_codewords(
