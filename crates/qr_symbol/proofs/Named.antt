@@ -1,8 +1,8 @@
 -- The lemmas that the attributes of functions name.
-use Rattle.{qr_layout.proofs.Facts.blocks-sound, qr_symbol.proofs.lemmas.collecting.CollectingLemmas.strip-bits}
+use Rattle.{qr_layout.proofs.Facts.blocks-sound}
 use Rattle.qr_symbol.proofs.lemmas.interleaving.{CheckLemmas.slice-in, MessageLemmas.data-sizes-whole}
 use Rattle.qr_symbol.proofs.lemmas.interleaving.PositionLemmas.{start-next, start-none}
-use Rattle.qr_symbol.proofs.lemmas.{laws.DistanceLemmas.messages-apart, placement.AcrossLemmas.region-across}
+use Rattle.qr_symbol.proofs.lemmas.{laws.DistanceLemmas.messages-apart}
 use Rattle.qr_symbol.proofs.lemmas.placement.{BitLemmas.{eight-bits, one-bit, word-past}, LightLemmas.cleared}
 use Rattle.qr_symbol.proofs.lemmas.{placement.PlacementLemmas.square-is, reading.ReadLemmas.read-grid}
 use Rattle.qr_symbol.proofs.lemmas.series.{PartExistenceLemmas.parts-there, PartLemmas.part-least}
@@ -12,7 +12,7 @@ use Rattle.std.proofs.lemmas.Bool.Decides.{nat_tests}
 pub ruleset word_bits = (nat_tests, word-past, eight-bits, one-bit)
 
 -- The columns of a strip.
-pub ruleset strips = (cleared, region-across, strip-bits)
+pub ruleset strips = (cleared)
 
 -- Squares that are drawn.
 pub ruleset squares = (square-is)

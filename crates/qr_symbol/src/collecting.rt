@@ -2,7 +2,7 @@
 //! `draw_codewords`. Squares are transposed: the two columns of a strip are rows. Exactly the region is dark in
 //! `region`, and transposing does not change it. `passed` counts the rows of a strip that come earlier in its order.
 
-ghost use Rattle.std.specs.Prelude.{◌≡◌, ℕ, List, [], ◌∷◌, ◌++◌, ◌*◌, ◌%◌, ◌+◌, ◌-◌, ◌<◌, ◌≤◌, ◌&&◌, if◌then◌else◌, map, length, IfOk, OnOk};
+ghost use Rattle.std.specs.Prelude.{◌≡◌, ℕ, Bool, List, [], ◌∷◌, ◌++◌, ◌*◌, ◌%◌, ◌+◌, ◌-◌, ◌<◌, ◌≤◌, ◌&&◌, if◌then◌else◌, map, length, Some, IfOk};
 ghost use Rattle.std.specs.List.{All};
 ghost use Rattle.qr_layout.specs.Version.{side_of, total_codewords_of};
 ghost use Rattle.qr_layout.specs.Order.{in_region_of};
@@ -11,7 +11,7 @@ ghost use Rattle.qr_bits.specs.Bits.{bits_of, field};
 ghost use Rattle.qr_matrix.specs.Grid.{transposed};
 ghost use Rattle.qr_matrix.specs.BitRow.{has};
 ghost use Rattle.qr_symbol.specs.Reading.{IsReadUnmasked};
-ghost use Rattle.qr_symbol.specs.Steps.Collecting.{bit_if, bits_in_rows, colour_across};
+ghost use Rattle.qr_symbol.specs.Steps.Collecting.{bit_if, bits_in_rows, colour_across, Appends, HasCollected};
 ghost use Rattle.qr_symbol.specs.Steps.Placement.{region_grid};
 
 use crate::placement::{Columns, columns_of, row_at, top_of};
@@ -20,23 +20,26 @@ use qr_matrix::{BitRow, Matrix};
 use std::alloc::{AllocError, Global};
 use std::marker::Model;
 
-// Collects bits into codewords, of which the highest bit is the first.
+// Collects bits into codewords, of which the highest bit is the first. It remembers that an allocation was refused, so
+// the functions that pass bits on return no error.
 #[derive(Drop)]
 struct Collector {
     whole: Vec<u8>,
     // The `width` bits after the last whole codeword, as a number.
     rest: u8,
     width: u8,
+    is_refused: bool,
 }
 
 impl Model for Collector {
-    ghost use Rattle.std.specs.Prelude.{Bool, List, ◌++◌, ◌<◌, ◌^◌};
+    ghost use Rattle.std.specs.Prelude.{Bool, List, Option, None, Some, if◌then◌else◌, ◌++◌, ◌<◌, ◌^◌};
     ghost use Rattle.std.specs.List.{All};
     ghost use Rattle.qr_bits.specs.Bits.{bits_of, field};
 
-    ghost Value = { List Bool };
+    // The bits, if no allocation was refused.
+    ghost Value = { Option (List Bool) };
 
-    ghost view = { λ b. bits_of b.whole.items ++ field b.width b.rest };
+    ghost view = { λ b. if b.is_refused then None else Some (bits_of b.whole.items ++ field b.width b.rest) };
 
     ghost invariant = { λ b. (b.width < 8) × (b.rest < 2 ^ b.width) × All (λ x. x < 256) b.whole.items };
 }
@@ -45,64 +48,65 @@ impl Collector {
     // Takes the memory for `count` codewords at once.
     #[tactic(auto, unfolding(qr_bits::specs::Bits::bits_of, qr_bits::specs::Bits::field))]
     fn with_capacity(alloc: Global, count: usize) -> Result<Collector, AllocError>
-        ensures { IfOk result (λ b. b ≡ []) }
+        ensures { IfOk result (HasCollected []) }
     {
         Ok(Collector {
             whole: Vec::with_capacity(alloc, count)?,
             rest: 0,
             width: 0,
+            is_refused: false,
         })
     }
 
-    fn push_bit(&mut self, dark: bool) -> Result<(), AllocError>
-        ensures { OnOk result (self.new ≡ self.old ++ dark ∷ []) }
+    fn push_bit(&mut self, dark: bool)
+        ensures { Appends (dark ∷ []) self.old self.new }
     {
         let bits = 2 * self.rest + u8::from(dark);
         if self.width < 7 {
             self.rest = bits;
             self.width += 1;
-            return Ok(());
+        } else {
+            self.is_refused |= self.whole.push(bits).is_err();
+            self.rest = 0;
+            self.width = 0;
         }
-        self.whole.push(bits)?;
-        self.rest = 0;
-        self.width = 0;
-        Ok(())
     }
 
     #[inline(always)]
-    fn push_byte(&mut self, byte: u8) -> Result<(), AllocError>
-        ensures { OnOk result (self.new ≡ self.old ++ field 8 byte) }
+    fn push_byte(&mut self, byte: u8)
+        ensures { Appends (field 8 byte) self.old self.new }
     {
         let size = 1u16 << self.width;
         let bits = 256 * u16::from(self.rest) + u16::from(byte);
-        self.whole.push((bits >> self.width) as u8)?;
+        self.is_refused |= self.whole.push((bits >> self.width) as u8).is_err();
         self.rest = (bits % size) as u8;
-        Ok(())
     }
 
     // Loses the bits after the last whole codeword: the remainder bits, of which there are at most seven.
-    fn into_codewords(self) -> Vec<u8>
-        ensures bytes { All (λ x. x < 256) result.items }
-        ensures bits { (w : ℕ) × (rest : ℕ) × (w < 8) × (bits_of result.items ++ field w rest ≡ self) }
+    fn into_codewords(self) -> Result<Vec<u8>, AllocError>
+        ensures { IfOk result (λ cw. (w : ℕ) × (rest : ℕ) × (w < 8) × All (λ x. x < 256) cw.items
+            × (self ≡ Some (bits_of cw.items ++ field w rest))) }
     {
-        let Collector { whole, .. } = self;
-        whole
+        let Collector {
+            whole,
+            is_refused,
+            ..
+        } = self;
+        if is_refused {
+            Err(AllocError)
+        } else {
+            Ok(whole)
+        }
     }
 }
 
-fn collect_module(
-    bits: &mut Collector,
-    column: &BitRow,
-    region: &BitRow,
-    row: u8,
-) -> Result<(), AllocError>
+fn collect_module(bits: &mut Collector, column: &BitRow, region: &BitRow, row: u8)
     requires { row < 192 }
-    ensures { OnOk result (bits.new ≡ bits.old ++ bit_if (has region.now row) (has column.now row)) }
+    ensures { Appends (bit_if (has region.now row) (has column.now row)) bits.old bits.new }
 {
     if region.at(row) {
-        bits.push_bit(column.at(row))?;
+        bits.push_bit(column.at(row));
     }
-    Ok(())
 }
 
 // Collects module by module, which `collect_four` avoids for most rows of a large symbol.
@@ -115,17 +119,16 @@ fn collect_rows(
     strip: Strip,
     passed: u8,
     count: u8,
-) -> Result<(), AllocError>
+)
     requires { passed + count ≤ side_of v }
-    ensures { OnOk result (bits.new ≡ bits.old ++ bits_in_rows (side_of v) strip region.now columns.now passed count) }
+    ensures { Appends (bits_in_rows (side_of v) strip region.now columns.now passed count) bits.old bits.new }
 {
     let last = v.side() - 1;
     for rank in passed..passed + count {
         let row = row_at(strip, rank, last);
-        collect_module(bits, &columns.right, &region.right, row)?;
-        collect_module(bits, &columns.left, &region.left, row)?;
+        collect_module(bits, &columns.right, &region.right, row);
+        collect_module(bits, &columns.left, &region.left, row);
     }
-    Ok(())
 }
 
 // Spread the four modules of a column over every second bit of a byte: bit 6 for the module that is filled first, bit 0
@@ -152,63 +155,43 @@ fn collect_four(
     both: &BitRow,
     strip: Strip,
     passed: u8,
-) -> Result<(), AllocError>
+)
     requires rows_in { passed + 4 ≤ side_of v }
     requires whole { passed % 4 ≡ (if strip.upward then 1 else 0) }
     requires both { (row : ℕ) → has both.now row ≡ (has region.now.right row && has region.now.left row) }
-    ensures { OnOk result (bits.new ≡ bits.old ++ bits_in_rows (side_of v) strip region.now columns.now passed 4) }
+    ensures { Appends (bits_in_rows (side_of v) strip region.now columns.now passed 4) bits.old bits.new }
 {
     let top = top_of(v, strip, passed);
     if both.four(top) == 15 {
         let spread = SPREADS[usize::from(strip.upward)];
         let right = spread[usize::from(columns.right.four(top))];
         let left = spread[usize::from(columns.left.four(top))];
-        return bits.push_byte(2 * right + left);
+        bits.push_byte(2 * right + left);
+    } else {
+        collect_rows(bits, columns, v, region, strip, passed, 4);
     }
-    collect_rows(bits, columns, v, region, strip, passed, 4)
 }
 
 // The number of rows is one more than a multiple of four, so the bottom row is read alone and the others in fours.
-#[inline(always)]
-fn collect_columns(
-    bits: &mut Collector,
-    columns: &Columns,
-    v: Version,
-    region: &Columns,
-    strip: Strip,
-) -> Result<(), AllocError>
-    ensures { OnOk result
-        (bits.new ≡ bits.old ++ bits_in_rows (side_of v) strip region.now columns.now 0 (side_of v)) }
-{
-    let last = v.side() - 1;
-    let before = u8::from(strip.upward);
-    let both = region.right & region.left;
-    collect_rows(bits, columns, v, region, strip, 0, before)?;
-    for group in 0..last / 4 {
-        let passed = before + 4 * group;
-        collect_four(bits, columns, v, region, &both, strip, passed)?;
-    }
-    collect_rows(bits, columns, v, region, strip, before + last, 1 - before)
-}
-
-#[tactic(auto, using(crate::proofs::Named::strips))]
-fn collect_strip(
-    bits: &mut Collector,
-    across: &Matrix,
-    v: Version,
-    region: &Matrix,
-    strip: Strip,
-) -> Result<(), AllocError>
+fn collect_strip(bits: &mut Collector, across: &Matrix, v: Version, region: &Matrix, strip: Strip)
     requires side { across.now.side ≡ side_of v }
     requires region { region.now ≡ region_grid v }
     requires left_in { 1 ≤ strip.right }
     requires right_in { strip.right < side_of v }
-    ensures { OnOk result (bits.new ≡ bits.old
-        ++ map (colour_across across.now) (in_region_of v (both_of (rows_from (side_of v) strip 0 (side_of v))))) }
+    ensures { Appends (map (colour_across across.now) (in_region_of v (both_of (rows_from (side_of v) strip 0
+        (side_of v))))) bits.old bits.new }
 {
     let columns = columns_of(across, strip.right);
     let within = columns_of(region, strip.right);
-    collect_columns(bits, &columns, v, &within, strip)
+    let last = v.side() - 1;
+    let before = u8::from(strip.upward);
+    let both = within.right & within.left;
+    collect_rows(bits, &columns, v, &within, strip, 0, before);
+    for group in 0..last / 4 {
+        let passed = before + 4 * group;
+        collect_four(bits, &columns, v, &within, &both, strip, passed);
+    }
+    collect_rows(bits, &columns, v, &within, strip, before + last, 1 - before);
 }
 
 pub(crate) fn collect_codewords(
@@ -224,7 +207,7 @@ pub(crate) fn collect_codewords(
 {
     let mut bits = Collector::with_capacity(alloc, usize::from(v.total_codewords()))?;
     for strip in all_strips(v) {
-        collect_strip(&mut bits, across, v, region, strip)?;
+        collect_strip(&mut bits, across, v, region, strip);
     }
-    Ok(bits.into_codewords())
+    bits.into_codewords()
 }

@@ -10,7 +10,7 @@ ghost use Rattle.qr_layout.specs.Rectangles.{is_in_rectangle};
 ghost use Rattle.qr_layout.specs.Steps.Rectangles.{IsInside, IsWithin};
 ghost use Rattle.qr_layout.specs.Role.{finder_ring, is_alignment_light, role_of};
 ghost use Rattle.qr_layout.specs.Format.{version_word_of};
-ghost use Rattle.qr_matrix.specs.Grid.{square, colour, light, IsSquare};
+ghost use Rattle.qr_matrix.specs.Grid.{square, colour, IsSquare};
 ghost use Rattle.qr_matrix.specs.BitRow.{has_bit};
 ghost use Rattle.qr_symbol.specs.Steps.Patterns.{fixed_colour, format_bits_or, format_or, is_dark_in_six, is_in_block, paint_of, IsOver};
 ghost use Rattle.qr_symbol.specs.Steps.Placement.{region_grid};
@@ -47,22 +47,27 @@ fn clear_rectangles(matrix: &mut Matrix, v: Version, rectangles: &[Rectangle])
     }
 }
 
-// Fills three squares, one inside the other, of 7, 5 and 3 modules a side.
-fn draw_finder(matrix: &mut Matrix, row: u8, col: u8)
-    requires row_least { 3 ≤ row }
-    requires row_most { row + 4 ≤ matrix.old.side }
-    requires col_least { 3 ≤ col }
-    requires col_most { col + 4 ≤ matrix.old.side }
+// Fills the square of the modules that are at most `distance` rows and columns from its centre.
+#[inline]
+fn fill_around(matrix: &mut Matrix, centre: Module, distance: u8, dark: bool)
+    requires rows_in { (distance ≤ centre.row) × (centre.row + distance < matrix.old.side) }
+    requires columns_in { (distance ≤ centre.col) × (centre.col + distance < matrix.old.side) }
     requires side { matrix.old.side ≤ 177 }
-    ensures { IsOver matrix.old.side (λ r c. nat_lt (ring_of row col r c) 4) (λ r c. not (ring_of row col r c == 2))
+    ensures { IsOver matrix.old.side (λ r c. nat_le (ring_of centre.row centre.col r c) distance) (λ _ _. dark)
         (colour matrix.old) matrix.new }
 {
-    matrix.fill(row - 3, row + 4, col - 3, col + 4, true);
-    matrix.fill(row - 2, row + 3, col - 2, col + 3, false);
-    matrix.fill(row - 1, row + 2, col - 1, col + 2, true);
+    let Module { row, col } = centre;
+    matrix.fill(
+        row - distance,
+        row + distance + 1,
+        col - distance,
+        col + distance + 1,
+        dark,
+    );
 }
 
-// Draws a finder pattern and its separator, which fill the eight by eight modules from `block` on.
+// Draws a finder pattern and its separator, which fill the eight by eight modules from `block` on. The pattern is three
+// squares, one inside the other, of 7, 5 and 3 modules a side.
 fn paint_finder(matrix: &mut Matrix, v: Version, block: Module, centre: Module)
     requires square { IsSquare (side_of v) matrix.old }
     requires bottom_in { block.row + 8 ≤ side_of v }
@@ -76,7 +81,9 @@ fn paint_finder(matrix: &mut Matrix, v: Version, block: Module, centre: Module)
         (colour matrix.old) matrix.new }
 {
     matrix.fill(block.row, block.row + 8, block.col, block.col + 8, false);
-    draw_finder(matrix, centre.row, centre.col);
+    fill_around(matrix, centre, 3, true);
+    fill_around(matrix, centre, 2, false);
+    fill_around(matrix, centre, 1, true);
 }
 
 // Five data bits and ten error correction bits (ISO/IEC 18004:2015, 7.9.1).
@@ -181,26 +188,11 @@ fn fill_alignment(matrix: &mut Matrix, v: Version, centres: &[Module], dark: boo
     ensures { IsOver (side_of v) (is_alignment v) (λ _ _. dark) (colour matrix.old) matrix.new }
 {
     for centre in centres {
-        let Module { row, col } = *centre;
-        matrix.fill(row - 2, row + 3, col - 2, col + 3, dark);
+        fill_around(matrix, *centre, 2, dark);
     }
 }
 
-// Fills four rectangles, so that the module in the middle keeps its colour.
-fn clear_ring(matrix: &mut Matrix, row: u8, col: u8)
-    requires row_least { 1 ≤ row }
-    requires row_most { row + 2 ≤ matrix.old.side }
-    requires col_least { 1 ≤ col }
-    requires col_most { col + 2 ≤ matrix.old.side }
-    requires side { matrix.old.side ≤ 177 }
-    ensures { IsOver matrix.old.side (λ r c. ring_of row col r c == 1) (λ _ _. false) (colour matrix.old) matrix.new }
-{
-    matrix.fill(row - 1, row, col - 1, col + 2, false);
-    matrix.fill(row + 1, row + 2, col - 1, col + 2, false);
-    matrix.fill(row, row + 1, col - 1, col, false);
-    matrix.fill(row, row + 1, col + 1, col + 2, false);
-}
-
+// Makes the rings round the centres light; the centres keep their colours.
 fn clear_rings(matrix: &mut Matrix, v: Version, centres: &[Module])
     requires square { IsSquare (side_of v) matrix.old }
     requires centres { centres.now ≡ alignment_places (side_of v) (centres_of v) }
@@ -208,7 +200,9 @@ fn clear_rings(matrix: &mut Matrix, v: Version, centres: &[Module])
     ensures { IsOver (side_of v) (is_alignment_light v) (λ _ _. false) (colour matrix.old) matrix.new }
 {
     for centre in centres {
-        clear_ring(matrix, centre.row, centre.col);
+        let dark = matrix.dark(centre.row, centre.col);
+        fill_around(matrix, *centre, 1, false);
+        matrix.set(centre.row, centre.col, dark);
     }
 }
 
@@ -225,20 +219,19 @@ pub(crate) fn draw_fixed(matrix: &mut Matrix, v: Version, format: u32)
     paint_version(matrix, v);
 }
 
-fn draw_region(matrix: &mut Matrix, v: Version)
-    requires { matrix.old ≡ light (side_of v) }
-    ensures { matrix.new ≡ region_grid v }
-{
-    let side = v.side();
-    matrix.fill(0, side, 0, side, true);
-    clear_rectangles(matrix, v, fixed_rectangles(v).as_slice());
-    fill_alignment(matrix, v, alignment_centres(v).as_slice(), false);
-}
-
+// All modules are dark at first; then those that are not in the region are made light.
 pub(crate) fn region_of(alloc: Global, version: Version) -> Result<Matrix, AllocError>
     ensures { IfOk result (λ m. m ≡ region_grid version) }
 {
-    let mut region = Matrix::new(alloc, version.side())?;
-    draw_region(&mut region, version);
+    let side = version.side();
+    let mut region = Matrix::new(alloc, side)?;
+    region.fill(0, side, 0, side, true);
+    clear_rectangles(&mut region, version, fixed_rectangles(version).as_slice());
+    fill_alignment(
+        &mut region,
+        version,
+        alignment_centres(version).as_slice(),
+        false,
+    );
     Ok(region)
 }

@@ -1,5 +1,6 @@
 -- Which bits are read from the columns `x` of a strip; exactly the bits of the region are set in the columns `region`.
-use Rattle.std.specs.Prelude.{ℕ, ◌+◌, Bool, if◌then◌else◌, List, [], ◌∷◌, ◌++◌}
+use Rattle.std.specs.Prelude.{◌≡◌, ℕ, ◌+◌, Bool, if◌then◌else◌, Option, List, [], ◌∷◌, ◌++◌}
+use Rattle.std.specs.Option.{IfSome}
 use Prim.Native.Nat.{zero, suc}
 use Rattle.qr_layout.specs.declared.region.Module.{Module}
 use Rattle.qr_layout.specs.declared.strips.Strip.{Strip}
@@ -25,3 +26,15 @@ bits_in_rows s strip region x k (suc n) = bits_in_row region x (row_of s strip k
 -- The colour of module `m` of the symbol, where `g` is its transposed square.
 abbrev pub colour_across : Grid → Module → Bool
 colour_across g m = colour g m.col m.row
+
+-- The bits of a collector, unless an allocation was refused.
+abbrev pub Bits : Type 0
+Bits = Option (List Bool)
+
+-- A collector has exactly the bits `xs`, if no allocation was refused.
+abbrev pub HasCollected : List Bool → Bits → Type 0
+HasCollected xs b = IfSome b (λ ys. ys ≡ xs)
+
+-- The bits `more` come after those that the collector had.
+abbrev pub Appends : List Bool → Bits → Bits → Type 0
+Appends more before after = (xs : List Bool) → HasCollected xs before → HasCollected (xs ++ more) after

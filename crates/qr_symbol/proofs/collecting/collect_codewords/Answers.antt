@@ -1,8 +1,8 @@
 use Rattle.qr_layout.{proofs.Facts.Inside, specs.{Order.{IsOrder, in_region_of}, Strips.places_of, Version.side_of}}
 use Rattle.{qr_layout.specs.declared.strips.Strip.Strip, qr_symbol.proofs.lemmas.collecting.CollectingLemmas.strip-read}
 use Rattle.qr_symbol.proofs.lemmas.reading.SymbolReadLemmas.{all-read, read-across}
-use Rattle.std.proofs.Common.{List, ◌++◌, ◌∙◌, ap, sym, subst, append_assoc, append-nil, arith}
-use Rattle.std.{proofs.lemmas.List.Elements.{All-head, All-tail}, specs.List.All, proofs.lemmas.Result.IfOk-from_err}
+use Rattle.std.proofs.Common.{◌≤◌, List, ◌++◌, ◌∙◌, ap, sym, subst, append_assoc, append-nil, arith}
+use Rattle.std.{proofs.lemmas.List.Elements.{All-head, All-tail}, specs.List.All, proofs.lemmas.Result.IfOk-weaker}
 use Rattle.qr_symbol.proofs.collecting.collect_codewords.Goals as goal
 
 pub loop-strip-init : goal.loop-strip-init
@@ -30,20 +30,16 @@ loop-strip-preserved c =
       is_finite = tt;
       inside = All-tail (Inside v) x c.next.new.self (subst (All (Inside v)) c.in-Some.ensures.steps i.inside);
       whole = subst (λ (zs : List Strip). IsOrder v (in_region_of v (places_of s zs))) (ap (λ (zs : List Strip). xs ++ zs) c.in-Some.ensures.steps ∙ sym (append_assoc xs _ _)) i.whole;
-      bits = strip-read v s _ xs x _ _ i.bits c.in_ok-collect_strip.ensures;
+      bits = strip-read v s _ xs x _ _ i.bits c.collect_strip.ensures;
     }
 
 pub returns : goal.returns
 returns c =
     let v = c.args.v in let xs = c.loop-strip.yielded in
-    let i = c.loop-strip.invariant in let b = c.into_codewords.ensures.bits in
+    let i = c.loop-strip.invariant in let r = c.into_codewords.result in
     let order = subst (λ (zs : List Strip). IsOrder v (in_region_of v (places_of (side_of v) zs)))
     (ap (λ (zs : List Strip). xs ++ zs) c.in-None.ensures.steps.0 ∙ append-nil xs) i.whole in
-    let bits = b.3 ∙ i.bits in record {
-      read = read-across v _ _ _ b.0 b.1 (omega arith) (omega arith) c.requires.side order c.into_codewords.ensures.bytes b.2 bits;
-      many = all-read v _ _ _ b.0 b.1 (omega arith) (omega arith) order b.2 bits;
+    let least : 1 ≤ v = omega arith in let most : v ≤ 40 = omega arith in record {
+      read = IfOk-weaker r _ _ (λ cw b. read-across v _ _ _ b.0 b.1 least most c.requires.side order b.3 b.2 (rw b.4 at i.bits)) c.into_codewords.ensures;
+      many = IfOk-weaker r _ _ (λ cw b. all-read v _ _ _ b.0 b.1 least most order b.2 (rw b.4 at i.bits)) c.into_codewords.ensures;
     }
-
-pub returns-in_err-collect_strip : goal.returns-in_err-collect_strip
-returns-in_err-collect_strip c =
-    let e = c.from_residual-in_err-collect_strip.ensures.0 in record { read = IfOk-from_err _ _ e; many = IfOk-from_err _ _ e }

@@ -1,5 +1,5 @@
 use Rattle.qr_layout.{proofs.Facts.Inside, specs.{Order.{IsOrder, in_region_of}, Strips.places_of, Version.side_of}}
-use Rattle.{qr_symbol.specs.Steps.Collecting.colour_across, std.{proofs.Common.{◌≡◌, ◌++◌, map}, specs.List.All}}
+use Rattle.{qr_symbol.specs.Steps.Collecting.{colour_across, HasCollected}, std.{proofs.Common.{◌++◌, map}, specs.List.All}}
 use Rattle.qr_symbol.proofs.collecting.collect_codewords.Given as goal
 
 abbrev pub invariant-loop-strip : goal.invariant-loop-strip
@@ -8,5 +8,5 @@ invariant-loop-strip l = record {
   is_finite : (goal.iterator-loop-strip).is_finite l.strip-iterator;
   inside : All (Inside l.fn.v) l.strip-iterator;
   whole : IsOrder l.fn.v (in_region_of l.fn.v (places_of (side_of l.fn.v) (l.yielded ++ l.strip-iterator)));
-  bits : l.bits ≡ map (colour_across l.across) (in_region_of l.fn.v (places_of (side_of l.fn.v) l.yielded));
+  bits : HasCollected (map (colour_across l.across) (in_region_of l.fn.v (places_of (side_of l.fn.v) l.yielded))) l.bits;
 }

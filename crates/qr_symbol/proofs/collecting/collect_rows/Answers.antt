@@ -1,4 +1,4 @@
-use Rattle.{std.proofs.Common.{◌≡◌, ◌+◌, ◌-◌, ◌++◌, ap, ◌∙◌, arith}, qr_symbol.specs.Steps.Collecting.bits_in_rows}
+use Rattle.{std.proofs.Common.{◌≡◌, ◌+◌, ◌-◌, subst, arith}, qr_symbol.specs.Steps.Collecting.{bits_in_rows, Appends}}
 use Rattle.qr_layout.specs.Version.{side_of}
 use Rattle.qr_symbol.proofs.lemmas.collecting.CollectingLemmas.{none-read, row-read, rows-read}
 use Rattle.qr_symbol.proofs.collecting.collect_rows.Goals as goal
@@ -13,9 +13,9 @@ loop-rank-preserved c =
     let side : c.side-last.result - 1 + 1 ≡ s = omega (arith, c.side-last.ensures.value) in record {
       from = omega (arith, i.from);
       bits = rows-read s c.args.strip c.args.region.now c.args.columns.now p (k - p) 1 k (k + 1 - p) c.args.bits.now c.loop-rank.bits c.collect_module-in-loop-rank.new.bits (omega (arith, i.from)) (omega (arith, i.from)) i.bits
-          (row-read s c.args.strip c.args.region.now c.args.columns.now k c.row_at-row.result c.loop-rank.bits c.collect_module.new.bits c.collect_module-in-loop-rank.new.bits (rw side at c.row_at-row.ensures.row) c.in_ok-collect_module.ensures c.in_ok-collect_module-2.ensures);
+          (row-read s c.args.strip c.args.region.now c.args.columns.now k c.row_at-row.result c.loop-rank.bits c.collect_module.new.bits c.collect_module-in-loop-rank.new.bits (rw side at c.row_at-row.ensures.row) c.collect_module.ensures c.collect_module-in-loop-rank.ensures);
     }
 
 pub returns : goal.returns
 returns c =
-    c.loop-rank.invariant.bits ∙ ap (λ z. c.args.bits.now ++ bits_in_rows (side_of c.args.v) c.args.strip c.args.region.now c.args.columns.now c.args.passed z) (omega (arith, c.loop-rank-test.false, c.loop-rank.invariant.from))
+    subst (λ z. Appends (bits_in_rows (side_of c.args.v) c.args.strip c.args.region.now c.args.columns.now c.args.passed z) c.args.bits.now c.loop-rank.bits) (omega (arith, c.loop-rank-test.false, c.loop-rank.invariant.from)) c.loop-rank.invariant.bits

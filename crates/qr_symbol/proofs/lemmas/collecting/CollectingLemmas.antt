@@ -1,29 +1,55 @@
 -- The bits of a strip, row by row, are those of the strip's places in the encoding region, in their order.
 use Rattle.qr_layout.specs.{Order.in_region_of, Region.is_in_region, Strips.{both_of, rows_from, places_of}}
-use Rattle.{qr_layout.specs.declared.{region.Module.Module, strips.Strip.Strip}, std.proofs.lemmas.List.map-append}
+use Rattle.{qr_layout.specs.declared.{region.Module.Module, strips.Strip.Strip}, std.{proofs.lemmas.List.{map-append, Elements.All-push}, specs.List.All}}
 use Rattle.{qr_matrix.specs.{BitRow.has, Grid.{Grid, colour}}, qr_symbol.specs.declared.placement.Columns.Columns}
 use Rattle.qr_symbol.proofs.lemmas.placement.{KeptPlaceLemmas.{kept-append, places-push}, PlacementLemmas.at}
-use Rattle.qr_symbol.specs.Steps.{Collecting.{bit_if, bits_in_rows, colour_across}, Placement.row_of}
-use Rattle.std.proofs.Common.{◌≡◌, ℕ, zero, suc, ◌+◌, ◌-◌, ◌<◌, ◌≤◌, Bool, true, false, cond, List, [], ◌∷◌, ◌++◌, map, refl, append_assoc, append-nil, arith}
+use Rattle.qr_symbol.specs.Steps.{Collecting.{bit_if, bits_in_row, bits_in_rows, colour_across, Appends, Bits, HasCollected}, Placement.row_of}
+use Rattle.std.proofs.Common.{◌≡◌, ℕ, zero, suc, ◌+◌, ◌-◌, ◌<◌, ◌≤◌, Bool, true, false, cond, not, ◌||◌, None, Some, List, [], ◌∷◌, ◌++◌, map, refl, sym, ◌∙◌, ap, subst, append_assoc, append-nil, arith}
 
 -- the bits of n + m rows are those of the first n rows, followed by those of m more
 rows-append : (s : ℕ) (x : Strip) (r y : Columns) (k n m : ℕ) → bits_in_rows s x r y k (n + m) ≡ bits_in_rows s x r y k n ++ bits_in_rows s x r y (k + n) m
-rows-append s x r y k zero m = search arith
+rows-append s x r y k zero m = let e : 0 + m ≡ m = omega arith in let f : k + 0 ≡ k = omega arith in rw (e, f) refl
 rows-append s x r y k (suc n) m =
-    let e : suc n + m ≡ suc (n + m) = omega arith in search (arith, append_assoc, rows-append s x r y (k + 1) n m)
+    let e : suc n + m ≡ suc (n + m) = omega arith in let f : k + suc n ≡ k + 1 + n = omega arith in
+    rw (e, f) (ap (λ z. bits_in_row r y (row_of s x k) ++ z) (rows-append s x r y (k + 1) n m) ∙ sym (append_assoc (bits_in_row r y (row_of s x k)) _ _))
+
+-- bits are added to those of a collector
+pub added : (was : Bool) (old new more : List Bool) → new ≡ old ++ more → Appends more (cond was None (Some old)) (cond was None (Some new))
+added true _ _ _ e _ i = tt
+added false _ _ more e _ i = e ∙ ap (λ zs. zs ++ more) i
+
+-- a codeword is added, if memory for it is not refused
+pub pushed : (was failed : Bool) (old new more : List Bool) → (failed ≡ false → new ≡ old ++ more) → Appends more (cond was None (Some old)) (cond (was || failed) None (Some new))
+pushed true _ _ _ _ e _ i = tt
+pushed false true _ _ _ e _ i = tt
+pushed false false _ _ more e _ i = e refl ∙ ap (λ zs. zs ++ more) i
+
+-- the codewords after a push that is not refused
+pub push-made : (xs ys zs : List ℕ) (ok failed : Bool) → zs ≡ cond ok ys xs → ok ≡ not failed → failed ≡ false → zs ≡ ys
+push-made _ _ _ _ _ e d f = rw (d, f) at e
+
+-- the codewords fit a byte after a push, refused or not
+pub push-fits : (ok : Bool) (xs ys : List ℕ) (x : ℕ) → ys ≡ cond ok (xs ++ x ∷ []) xs → All (λ z. z < 256) xs → x < 256 → All (λ z. z < 256) ys
+push-fits true xs ys x e a l = rw e (All-push (λ z. z < 256) xs x a l)
+push-fits false xs ys x e a l = rw e a
+
+-- bits and then further bits are added
+both-added : (a b c : Bits) (more further all : List Bool) → all ≡ more ++ further → Appends more a b → Appends further b c → Appends all a c
+both-added a b c more further all e p q xs i = subst (λ zs. HasCollected zs c) (append_assoc xs more further ∙ ap (λ zs. xs ++ zs) (sym e)) (q _ (p xs i))
 
 -- after n rows, m more rows are read
-pub rows-read : (s : ℕ) (x : Strip) (r y : Columns) (k n m h j : ℕ) (a b c : List Bool) → h ≡ k + n → j ≡ n + m → b ≡ a ++ bits_in_rows s x r y k n → c ≡ b ++ bits_in_rows s x r y h m → c ≡ a ++ bits_in_rows s x r y k j
-rows-read s x r y k n m h j a b c e f p q = search (arith, append_assoc, rows-append)
+pub rows-read : (s : ℕ) (x : Strip) (r y : Columns) (k n m h j : ℕ) (a b c : Bits) → h ≡ k + n → j ≡ n + m → Appends (bits_in_rows s x r y k n) a b → Appends (bits_in_rows s x r y h m) b c
+    → Appends (bits_in_rows s x r y k j) a c
+rows-read s x r y k n m h j a b c e f p q = both-added a b c _ _ _ (rw (e, f) (rows-append s x r y k n m)) p q
 
 -- one row is read, the module of the right column first
-pub row-read : (s : ℕ) (x : Strip) (r y : Columns) (k row : ℕ) (a b c : List Bool) → row ≡ row_of s x k → b ≡ a ++ bit_if (has r.right row) (has y.right row) → c ≡ b ++ bit_if (has r.left row) (has y.left row)
-    → c ≡ a ++ bits_in_rows s x r y k 1
-row-read s x r y k row a b c e p q = search (arith, append_assoc, append-nil)
+pub row-read : (s : ℕ) (x : Strip) (r y : Columns) (k row : ℕ) (a b c : Bits) → row ≡ row_of s x k → Appends (bit_if (has r.right row) (has y.right row)) a b → Appends (bit_if (has r.left row) (has y.left row)) b c
+    → Appends (bits_in_rows s x r y k 1) a c
+row-read s x r y k row a b c e p q = both-added a b c _ _ _ (rw (← e) (append-nil _)) p q
 
 -- no row is read
-pub none-read : (s : ℕ) (x : Strip) (r y : Columns) (k n : ℕ) (a : List Bool) → n ≡ 0 → a ≡ a ++ bits_in_rows s x r y k n
-none-read s x r y k n a e = cc (append-nil a)
+pub none-read : (s : ℕ) (x : Strip) (r y : Columns) (k n : ℕ) (a : Bits) → n ≡ 0 → Appends (bits_in_rows s x r y k n) a a
+none-read s x r y k n a e xs i = rw (e, append-nil) i
 
 -- the bits of a place and of further places
 kept-bit : (t : Bool) (f : Module → Bool) (m : Module) (ms : List Module) → map f (cond t (m ∷ ms) ms) ≡ bit_if t (f m) ++ map f ms
@@ -41,6 +67,7 @@ strip-bits v s g x r y k (suc n) l a b c d =
     search (arith, at, append_assoc, kept-bit, strip-bits v s g x r y (k + 1) n (omega arith) a b c d)
 
 -- the bits of one strip more
-pub strip-read : (v s : ℕ) (f : Module → Bool) (xs : List Strip) (x : Strip) (a b : List Bool) → a ≡ map f (in_region_of v (places_of s xs)) → b ≡ a ++ map f (in_region_of v (both_of (rows_from s x 0 s)))
-    → b ≡ map f (in_region_of v (places_of s (xs ++ x ∷ [])))
-strip-read v s f xs x a b e q = search (arith, map-append, kept-append, places-push)
+pub strip-read : (v s : ℕ) (f : Module → Bool) (xs : List Strip) (x : Strip) (a b : Bits) → HasCollected (map f (in_region_of v (places_of s xs))) a → Appends (map f (in_region_of v (both_of (rows_from s x 0 s)))) a b
+    → HasCollected (map f (in_region_of v (places_of s (xs ++ x ∷ [])))) b
+strip-read v s f xs x a b i q =
+    let e : map f (in_region_of v (places_of s (xs ++ x ∷ []))) ≡ map f (in_region_of v (places_of s xs)) ++ map f (in_region_of v (both_of (rows_from s x 0 s))) = search (arith, map-append, kept-append, places-push) in rw e (q _ i)

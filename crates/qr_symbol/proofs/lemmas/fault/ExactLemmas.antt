@@ -1,9 +1,9 @@
 -- A call is refused for a fault exactly if the fault is there, unless memory is refused.
-use Rattle.qr_bits.{proofs.Facts.empty_fits, specs.{Padding.capacity_of, declared.modes.Rule.Rule}}
+use Rattle.qr_bits.{proofs.Facts.{empty_fits, fitting_short}, specs.{Padding.capacity_of, declared.modes.Rule.Rule}}
 use Rattle.{qr_layout.specs.declared.level.Level.Level, qr_symbol.specs.Encoding.IsSymbol}
 use Rattle.qr_symbol.specs.{Series.{IsSeries, HasNoSeries}, VersionChoice.{FitsVersion, HasNoVersion}}
 use Rattle.qr_symbol.specs.declared.{fault.{EncodeFault.EncodeFault, ReadFault.ReadFault}, symbol.Symbol.Symbol}
-use Rattle.std.proofs.Common.{◌≡◌, ◌≢◌, ◌≤◌, ◌↔◌, ◌⊎◌, inl, inr, ℕ, List, [], Result, Ok, Err, Vec, Global, sym, ap, subst, arith}
+use Rattle.std.proofs.Common.{◌≡◌, ◌≢◌, ◌<◌, ◌≤◌, ◌↔◌, ◌⊎◌, inl, inr, ℕ, List, [], length, Result, Ok, Err, Vec, Global, sym, ap, subst, arith}
 use Rattle.std.specs.Prelude.{IfOk, IfErr, MatchResult}
 use Rattle.qr_symbol.specs.declared.fault.EncodeFault.TheVariants as fault
 use Rattle.qr_symbol.specs.declared.fault.ReadFault.TheVariants as unread
@@ -13,7 +13,7 @@ abbrev pub Refused : {X E : Type 0} → Result X E → (e memory : E) → Type 0
 Refused r e memory P = (r ≡ Err e) ↔ ((r ≢ Err memory) × P)
 
 -- a result has one fault
-err-same : {X E : Type 0} (r : Result X E) (e f : E) → r ≡ Err e → r ≡ Err f → e ≡ f
+pub err-same : {X E : Type 0} (r : Result X E) (e f : E) → r ≡ Err e → r ≡ Err f → e ≡ f
 err-same r e f h k = cc
 
 -- what makes it, if with the fact no value is returned, and no other fault than e and lack of memory
@@ -27,17 +27,13 @@ exactly {X = X} {E = E} r e memory P other f none told = (λ h. (λ m. other (er
     back _ _ (inl h) m p = ap (λ f. Err f) (h p)
     back _ _ (inr h) m p = absurd (m (ap (λ f. Err f) h))
 
--- `TooLong` is returned exactly if the input fits no version, unless memory was refused
+-- `TooLong` is returned exactly if the input, which is not empty, fits no version, unless memory was refused
 pub too-long-exactly : (x : List ℕ) (l : Level) (smallest : ℕ) (b : Rule) (r : Result Symbol EncodeFault)
-    → smallest ≤ 40 → (r ≡ Err fault.TooLong → HasNoVersion smallest l b x)
-    → IfOk r (λ s. IsSymbol smallest l b x s.version s.mask s.matrix) → (r ≡ Err fault.Empty → x ≡ [])
-    → IfErr r (λ e. (e ≡ fault.Empty) ⊎ (e ≡ fault.TooLong) ⊎ (e ≡ fault.Memory))
+    → (r ≡ Err fault.TooLong → HasNoVersion smallest l b x)
+    → IfOk r (λ s. IsSymbol smallest l b x s.version s.mask s.matrix) → IfErr r (λ e. (e ≡ fault.TooLong) ⊎ (e ≡ fault.Memory))
     → Refused r fault.TooLong fault.Memory (HasNoVersion smallest l b x)
-too-long-exactly x l smallest b (Ok s) most long made empty told = exactly _ _ _ _ (λ e. cc) long (λ none. none s.version made.version.least made.version.most made.version.fits) tt
-too-long-exactly x l smallest b (Err e) most long made empty told = exactly _ _ _ _ (λ e. cc) long tt (elim told [
-  | inl h ↦ inl (λ none. absurd (none smallest (omega arith) most (subst (FitsVersion smallest l b) (sym (empty (ap (λ f. Err f) h))) (empty_fits smallest b (capacity_of smallest l)))))
-  | inr w ↦ elim w [ inl h ↦ inl (λ _. h) | inr h ↦ inr h ]
-])
+too-long-exactly x l smallest b (Ok s) long made told = exactly _ _ _ _ (λ e. cc) long (λ none. none s.version made.version.least made.version.most made.version.fits) tt
+too-long-exactly x l smallest b (Err e) long made told = exactly _ _ _ _ (λ e. cc) long tt (elim told [ inl h ↦ inl (λ _. h) | inr h ↦ inr h ])
 
 -- `TooMany` is returned exactly if the input has no series, unless memory was refused
 pub too-many-exactly : (x : List ℕ) (l : Level) (b : Rule) (v : ℕ) (r : Result (Vec Symbol Global) EncodeFault) → MatchResult r
@@ -48,6 +44,17 @@ too-many-exactly x l b v (Ok ss) (inr a) = let few = a.many in
     exactly _ _ _ _ (λ e. cc) (λ e. cc) (λ none. absurd (omega (arith, none.too_many a.parts a.split))) tt
 too-many-exactly x l b v (Err e) (inl m) = exactly _ _ _ _ (λ e. cc) (λ h. cc) tt (inr m)
 too-many-exactly x l b v (Err e) (inr w) = exactly _ _ _ _ (λ e. cc) (λ _. w.1) tt (inl (λ _. w.0))
+
+-- an empty input fits a version, and is short
+pub empty-has-version : (x : List ℕ) (l : Level) (b : Rule) (smallest : ℕ) → smallest ≤ 40 → x ≡ [] → HasNoVersion smallest l b x → ⊥
+empty-has-version x l b smallest most e none = none smallest (omega arith) most (subst (FitsVersion smallest l b) (sym e) (empty_fits smallest b (capacity_of smallest l)))
+
+pub empty-short : (x : List ℕ) → x ≡ [] → 7089 < length x → ⊥
+empty-short x e l = omega (arith, ap length e)
+
+-- an input of more than 7,089 bytes fits no version
+pub long-has-no-version : (x : List ℕ) (l : Level) (b : Rule) (smallest : ℕ) → 1 ≤ smallest → 7089 < length x → HasNoVersion smallest l b x
+long-has-no-version x l b smallest least long v a c fits = let short = fitting_short v l b x (omega arith) c fits in omega arith
 
 -- an empty input has a series
 pub empty-has-series : (x : List ℕ) (l : Level) (b : Rule) (v : ℕ) → x ≡ [] → HasNoSeries v l b x → ⊥
@@ -61,10 +68,10 @@ check-exactly Holds (Ok d) made = exactly _ _ _ _ (λ e. cc) (λ e. cc) (λ n. n
 check-exactly Holds (Err e) (inl m) = exactly _ _ _ _ (λ e. cc) (λ h. cc) tt (inr m)
 check-exactly Holds (Err e) (inr w) = exactly _ _ _ _ (λ e. cc) (λ _. w.1) tt (inl (λ _. w.0))
 
--- a fault that is lack of memory or one other is not a third
-pub neither : {Q : Type 0} {e f : EncodeFault} → (e ≡ fault.Memory → ⊥) → (e ≡ f → ⊥) → (e ≡ fault.Memory) ⊎ ((e ≡ f) × Q) → ⊥
-neither memory other (inl h) = memory h
-neither memory other (inr w) = other w.0
+-- a fault that is lack of memory or one other is not `Empty`
+pub not-empty : {Q : Type 0} {f : EncodeFault} → (fault.Empty ≡ f → ⊥) → (fault.Empty ≡ fault.Memory) ⊎ ((fault.Empty ≡ f) × Q) → ⊥
+not-empty other (inl h) = cc
+not-empty other (inr w) = other w.0
 
 -- an empty input is refused neither as too long nor as too many
 pub empty-long : {X : Type 0} → ◌≡◌ {A = Result X EncodeFault} (Err fault.Empty) (Err fault.TooLong) → ⊥

@@ -4,7 +4,7 @@ use Rattle.qr_symbol.proofs.lemmas.interleaving.PositionLemmas.{start-next, star
 use Rattle.qr_symbol.specs.Interleaving.{block_count, block_len, start_of, codeword_at, data_sizes, correction_sizes, block_of, part_of, IsFinalMessage}
 use Rattle.qr_symbol.specs.Steps.Interleaving.{AppendsInterleaved, IsChecks}
 use Rattle.qr_symbol.specs.declared.interleaving.BlockSizes.{BlockSizes}
-use Rattle.std.proofs.Common.{◌≡◌, ℕ, suc, ◌+◌, ◌<◌, ◌≤◌, List, [], ◌∷◌, ◌++◌, map, length-append, get_or, refl, ◌∙◌, ap, inl, inr, arith}
+use Rattle.std.proofs.Common.{◌≡◌, ℕ, suc, ◌+◌, ◌-◌, ◌<◌, ◌≤◌, List, [], ◌∷◌, ◌++◌, map, length-append, get_or, refl, ◌∙◌, ap, inl, inr, arith}
 use Rattle.std.proofs.lemmas.{Bool.{cases_lt, Decides.nat_tests}, List.{get_or_append_left, get_or-append_right}}
 
 -- each block has the same number of error correction codewords
@@ -15,11 +15,11 @@ check-len b k l = grind (arith, nat_tests)
 pub checks-push : (b : Blocks) (d xs ys es : List ℕ) (k : ℕ) → k < block_count (data_sizes b) → IsChecks b d k xs → IsCorrection (block_of b d k) b.ec_len es → ys ≡ xs ++ es → IsChecks b d (k + 1) ys
 checks-push b d xs ys es k l h c e =
     let next = start-next (correction_sizes b) k in let one = check-len b k l in
-    let all = h.corrections ++ es ∷ [] in let here : get_or all k [] ≡ es = search (arith, get_or-append_right) in
+    let all = h.corrections ++ es ∷ [] in let z0 : k - k ≡ 0 = omega arith in let here : get_or all k [] ≡ es = get_or-append_right h.corrections (es ∷ []) k k [] h.count (omega arith) ∙ ap (λ n. get_or (es ∷ []) n []) z0 in
     let there = λ (i : ℕ) (s : i < k). get_or_append_left h.corrections (es ∷ []) [] i (omega arith) in record {
       corrections = all;
-      count = search (arith, length-append);
-      each = search arith;
+      count = length-append h.corrections (es ∷ []) ∙ ap (λ n. n + 1) h.count;
+      each = λ i a. elim (cases_lt i k) [ inl s ↦ rw (there i s) (h.each i s) | inr s ↦ (let q : i ≡ k = omega arith in rw (q, here) c) ];
       long = cc (length-append xs es);
       same = λ t m i. ap (λ (zs : List ℕ). codeword_at (correction_sizes b) zs t) e ∙ (elim (cases_lt t.block k) [
         | inl s ↦

@@ -118,13 +118,12 @@ outside-kept v r c format w k h = kept _ (λ i q. far i (format-only v _ i q))
 pub corners-done : (v r c format : ℕ) (w : Bool) → 1 ≤ v → v ≤ 40 → r < side_of v → c < side_of v
     → format_or format (role_of v r c) (cond (begun (side_of v) r c) (paint_of v format r c) w) ≡ cond (is_corner (side_of v) r c) (paint_of v format r c) w
 corners-done v r c format w k1 k2 l m =
-    let q = role_of v r c in
-    let p = paint_of v _ r c in by_test _ _
-    (λ t. ap (λ z. format_or format q (cond z p w)) t ∙ (stays-painted v r c _ ∙ ap (λ z. cond z p w) (sym (begun-corner _ (omega arith) l m t))))
-    (λ t. by_test (is_corner (side_of v) r c) (format_or _ q _ ≡ cond _ p w) (λ u. elim (cases_eq c 8) [
-      | inl e ↦ (let d = beside-column _ r c (omega arith) l t u e in cc (column-painted v r _ _ k1 k2 d.0 l d.1))
-      | inr e ↦ (let d = beside-row _ r c (omega arith) l m t u e in cc (row-painted v c _ _ k1 k2 d.1 m d.2))
-    ]) (λ u. cc (outside-kept v r c _ _ k1 u)))
+    by_test (begun (side_of v) r c) _
+    (λ t. rw (t, begun-corner _ (omega arith) l m t) (stays-painted v r c format))
+    (λ t. by_test (is_corner (side_of v) r c) _ (λ u. elim (cases_eq c 8) [
+      | inl e ↦ (let d = beside-column _ r c (omega arith) l t u e in rw (t, u, e) (column-painted v r format w k1 k2 d.0 l d.1))
+      | inr e ↦ (let d = beside-row _ r c (omega arith) l m t u e in rw (t, u, d.0) (row-painted v c format w k1 k2 d.1 m d.2))
+    ]) (λ u. rw (t, u) (outside-kept v r c format w k1 u)))
   where
     begun-corner : (s : ℕ) → 21 ≤ s → r < s → c < s → begun s r c ≡ true → is_corner s r c ≡ true
     begun-corner s h l m t = grind (arith, nat_tests)

@@ -5,11 +5,8 @@ use Rattle.qr_symbol.{proofs.lemmas.patterns.TimingLemmas.paint-fixed, specs.Ste
 use Rattle.std.proofs.Common.{◌≡◌, ℕ, ◌+◌, ◌-◌, ◌<◌, ◌≤◌, Bool, true, false, not, cond, eqb, ltb, leb, ◌&&◌, refl, sym, ◌∙◌, inl, inr, arith}
 
 -- three squares, painted one inside the other, leave only ring 2 light
-pub three-squares : (a b r c : ℕ) (w x y z : Bool) → 3 ≤ a → 3 ≤ b → x ≡ cond (leb (a - 3) r && ltb r (a +
-    4) && leb (b - 3) c && ltb c (b + 4)) true w → y ≡ cond (leb (a - 2) r && ltb r (a + 3) && leb (b - 2) c && ltb
-    c (b + 3)) false x → z ≡ cond (leb (a - 1) r && ltb r (a + 2) && leb (b - 1) c && ltb c (b + 2)) true y → z
-    ≡ cond (ltb (ring_of a b r c) 4) (not (eqb (ring_of a b r c) 2)) w
-three-squares a b r c w x y z k l d e f = grind (arith, nat_tests)
+pub three-squares : (n : ℕ) (w x y z : Bool) → x ≡ cond (leb n 3) true w → y ≡ cond (leb n 2) false x → z ≡ cond (leb n 1) true y → z ≡ cond (ltb n 4) (not (eqb n 2)) w
+three-squares n w x y z d e f = grind (arith, nat_tests)
 
 -- a finder pattern, painted in its block, hides what was there before
 block-tests : (b f q w : Bool) → (f ≡ true → b ≡ true) → cond f q (cond b false w) ≡ cond b (f && q) w

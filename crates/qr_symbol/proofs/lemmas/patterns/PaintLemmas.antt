@@ -4,7 +4,7 @@ use Rattle.qr_layout.specs.declared.{rectangles.Rectangle.Rectangle, region.Modu
 use Rattle.qr_matrix.proofs.Facts.{same-place, square-same, colour-square}
 use Rattle.qr_matrix.specs.Grid.{Grid, square, colour, painted, with_rectangle, IsSquare}
 use Rattle.qr_symbol.{proofs.lemmas.placement.PlacementLemmas.square-is, specs.Steps.Patterns.IsOver}
-use Rattle.std.proofs.Common.{◌≡◌, ℕ, ◌+◌, ◌-◌, ◌<◌, ◌≤◌, Bool, true, false, not, cond, eqb, ltb, leb, ◌&&◌, ◌||◌, List, [], ◌∷◌, length, take, get_or, refl, ◌∙◌, ap, arith}
+use Rattle.std.proofs.Common.{◌≡◌, ℕ, ◌+◌, ◌-◌, ◌<◌, Bool, true, false, not, cond, eqb, ltb, leb, ◌&&◌, ◌||◌, List, [], ◌∷◌, length, take, get_or, refl, ◌∙◌, ap, arith}
 use Rattle.std.{proofs.lemmas.{Bool.Decides.nat_tests, List.{take_more, Folds.list_any-append}}, specs.List.list_any}
 
 -- a square with these colours
@@ -73,13 +73,20 @@ over-item p xs i d l e k = over-twice (λ r c. list_any (λ x. p x r c) (take (i
 abbrev pub no_rectangle : Rectangle
 no_rectangle = record { top = 0; bottom = 0; left = 0; right = 0 }
 
--- ---- the ring round a centre
+-- ---- the rings round a centre
 
--- the four sides of the ring
-pub ring-sides : (a b r c : ℕ) → 1 ≤ a → 1 ≤ b → eqb (ring_of a b r c) 1 ≡ ((((leb (a - 1) r && ltb r a &&
-    leb (b - 1) c && ltb c (b + 2)) || (leb (a + 1) r && ltb r (a + 2) && leb (b - 1) c && ltb c (b + 2))) || (leb a r
-    && ltb r (a + 1) && leb (b - 1) c && ltb c b)) || (leb a r && ltb r (a + 1) && leb (b + 1) c && ltb c (b + 2)))
-ring-sides a b r c k l = grind (arith, nat_tests)
+-- the places of a square are at most this far from its centre
+pub square-rings : (a b d r c : ℕ) → (leb (a - d) r && ltb r (a + d + 1) && leb (b - d) c && ltb c (b + d + 1)) ≡ leb (ring_of a b r c) d
+square-rings a b d r c = grind (arith, nat_tests)
+
+-- the ring is what is left of its square if the centre gets back its colour
+ring-left : (a b r c : ℕ) (w x y : Bool) → x ≡ cond (leb (ring_of a b r c) 1) false w → y ≡ cond (eqb r a && eqb c b) w x → y ≡ cond (eqb (ring_of a b r c) 1) false w
+ring-left a b r c w x y d e = grind (arith, nat_tests)
+
+pub over-ring : {s : ℕ} {g' g'' : Grid} (g : Grid) (a b : ℕ) → IsOver s (λ r c. leb (ring_of a b r c) 1) (λ _ _. false) (colour g) g'
+    → g'' ≡ painted g' a b (colour g a b) → IsOver s (λ r c. eqb (ring_of a b r c) 1) (λ _ _. false) (colour g) g''
+over-ring g a b e p = let d = over-place (colour g) _ _ a b _ (over-side e) refl p in
+    record { square = d.square; colours = λ r c l m. ring-left a b r c _ _ _ (e.colours r c l m) (d.colours r c l m) }
 
 -- ---- tests with other brackets
 

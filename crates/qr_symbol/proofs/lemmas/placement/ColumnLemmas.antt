@@ -71,6 +71,10 @@ here-drawn t q w d p z e f g = grind (arith, nat_tests)
 there-kept : (t d p z : Bool) (i row : ℕ) → z ≡ cond (t && eqb i row) d p → (row ≡ i → ⊥) → z ≡ p
 there-kept t d p z i row e n = grind (arith, nat_tests)
 
+-- a number equals itself
+eqb-same : (n : ℕ) → eqb n n ≡ true
+eqb-same n = grind (arith, nat_tests)
+
 -- one row is drawn, module by module
 pub row-drawn : {v : ℕ} {cw : List ℕ} {x : Strip} {first k : ℕ} {old new : Columns} (row n taken one bits : ℕ) (t u : Bool)
     → row ≡ row_of (side_of v) x k → t ≡ is_in_region v row x.right → u ≡ is_in_region v row (x.right - 1)
@@ -81,7 +85,7 @@ pub row-drawn : {v : ℕ} {cw : List ℕ} {x : Strip} {first k : ℕ} {old new :
     → AreDrawn v cw x first k 1 old new
 row-drawn {x = x} {k = k} row n taken one bits t u r p q m o l1 l2 next right left = record {
   drawn = λ j a b.
-      let e : j ≡ k = omega arith in let same : eqb row row ≡ true = grind (arith, nat_tests) in
+      let e : j ≡ k = omega arith in let same = eqb-same row in
       rw (e, ← r, ← p, ← q, m, ← after-plus t n _ one o) (
         here-drawn t _ _ _ _ _ (right row) same (next taken l1),
         here-drawn u _ _ _ _ _ (left row) same (next one l2),

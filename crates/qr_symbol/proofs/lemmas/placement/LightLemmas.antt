@@ -58,6 +58,10 @@ four-region v x k top room e whole j a b =
     let w = four-row x _ k top (j - k) room e (omega arith) in
     let f : k + (j - k) ≡ j = omega arith in rw (← f, w.0) (whole (rank_of _ (j - k)) w.1)
 
+-- one of four rows is among them
+in-four : (top i : ℕ) → i < 4 → (leb top (top + i) && ltb (top + i) (top + 4)) ≡ true
+in-four top i l = grind (arith, nat_tests)
+
 -- four rows of a strip are drawn at once, if all their modules are in the region
 pub four-drawn : {v : ℕ} {cw : List ℕ} {x : Strip} {first : ℕ} {old new : Columns} (k top bits r l : ℕ)
     → k + 4 ≤ side_of v → top ≡ cond x.upward (side_of v - 4 - k) k
@@ -70,7 +74,7 @@ four-drawn {v} {cw} {x} {first} {old} {new} k top bits r l room e whole split ri
   drawn = λ j a b.
       let m = j - k in let f : k + m ≡ j = omega arith in
       let w = four-row x _ k top m room e (omega arith) in let i = rank_of x.upward m in
-      let within : (leb top (top + i) && ltb (top + i) (top + 4)) ≡ true = grind (arith, nat_tests, w.1) in
+      let within : (leb top (top + i) && ltb (top + i) (top + 4)) ≡ true = in-four top i w.1 in
       let back : top + i - top ≡ i = omega arith in let six : 6 - 2 * m ≡ 7 - (2 * m + 1) = omega arith in
       let bit = split i w.1 in
       rw (← f, w.0, (whole i w.1).0, (whole i w.1).1, (number-whole v x _ k m (λ h c d. four-region v x k top room e whole h c (omega arith)))) (

@@ -1,7 +1,7 @@
 -- Drawing along the walk: every place that the walk has passed, or never reaches, has its final colour.
 use Rattle.{qr_bits.specs.Bits.codeword_bit, qr_matrix.specs.Grid.{Grid, square, colour, painted, transposed, IsSquare}}
 use Rattle.qr_layout.proofs.Facts.{Mem, order-has, order-mem, order-small, number-at, row-in, col-in, region-role, role-region}
-use Rattle.{qr_layout.specs.Format.{format_word_of, version_word_of}, std.proofs.lemmas.Bool.cases_eq}
+use Rattle.{qr_layout.specs.Format.{format_word_of, version_word_of}, std.proofs.lemmas.Bool.{cases_eq, false≢true}}
 use Rattle.qr_layout.specs.{Order.{IsOrder, in_region_of, number_of}, Region.is_in_region, Role.role_of}
 use Rattle.qr_layout.specs.{Strips.{both_of, rows_from}, Version.side_of, declared.level.Level.Level}
 use Rattle.qr_layout.specs.declared.{region.Module.Module, role.Role.{Role, TheVariants.Region}, strips.Strip.Strip}
@@ -202,14 +202,14 @@ pub placed-strip : (v : ℕ) (cw : List ℕ) (g0 a b : Grid) (x : Strip) (before
     later) number (transposed a) → IsStripDrawn v cw x number a next b → IsPlaced v cw g0 (before ++ both_of
     (rows_from (side_of v) x 0 (side_of v))) later next (transposed b)
 placed-strip v cw g0 a b x before later number next o p d =
-    let s = side_of v in let a-side = ap (λ (z : Grid). z.side) o in
-    let b-side = ap (λ (z : Grid). z.side) d.square in record {
+    let s = side_of v in let a-side : a.side ≡ s = ap (λ (z : Grid). z.side) o in
+    let b-side : b.side ≡ s = ap (λ (z : Grid). z.side) d.square in record {
       whole = rw append_assoc p.whole;
       next = d.number ∙ (ap (λ n. number_at v x n s) p.next ∙ number-rows v x _ s);
       square = square-transposed s b d.square;
       done = λ r c l m n.
           let kept : (((c ≡ x.right) ⊎ (c ≡ x.right - 1)) × (is_in_region v r c ≡ true) → ⊥) → colour a c r ≡ (placed_colour v cw (colour g0)) r c = λ u.
-          sym (colour-transposed a r c (omega arith) (omega arith)) ∙ p.done r c l m (λ q. elim (strip-mem v s x 0 s _ _ q) [ inl w ↦ u w | inr q ↦ n q ]) in
+          sym (colour-transposed a r c (subst (λ n. r < n) (sym a-side) l) (subst (λ n. c < n) (sym a-side) m)) ∙ p.done r c l m (λ q. elim (strip-mem v s x 0 s _ _ q) [ inl w ↦ u w | inr q ↦ n q ]) in
           let j = row_of s x r in let rank = row-small x s r l in
           let bits = rw rank.1 at (d.drawn j rank.0) in let xs = before ++ both_of (rows_from s x 0 j) in
           let i = at r x.right in let k = at r (x.right - 1) in
@@ -217,14 +217,14 @@ placed-strip v cw g0 a b x before later number next o p d =
           let order : before ++ (both_of (rows_from s x 0 s) ++ later) ≡ xs ++ i ∷ k ∷ ys = rw (rw rank.1 at (strip-split s x j rank.0)) (simp append_assoc) in
           let whole = rw order at p.whole in
           let first : length (in_region_of v xs) ≡ number_at v x number j = sym (ap (λ n. number_at v x n j) p.next ∙ number-rows v x _ j) in
-          colour-transposed b r c (omega arith) (omega arith) ∙ elim (cases_eq c _) [
+          colour-transposed b r c (subst (λ n. r < n) (sym b-side) l) (subst (λ n. c < n) (sym b-side) m) ∙ elim (cases_eq c _) [
             | inl e ↦ rw e (by_test (is_in_region v r x.right) _
-                (λ t. (rw t at bits.0) ∙ cc (place-number v xs _ i whole t, first, inside v cw _ r _ t))
-                (λ t. (rw t at bits.0) ∙ (rw e at kept) (λ w. cc)))
+                (λ t. (rw t at bits.0) ∙ (ap (codeword_bit cw) (sym first ∙ sym (place-number v xs _ i whole t)) ∙ sym (inside v cw _ r _ t)))
+                (λ t. (rw t at bits.0) ∙ (rw e at kept) (λ w. false≢true (sym t ∙ w.1))))
             | inr e ↦ elim (cases_eq c _) [
               | inl f ↦ rw f (by_test (is_in_region v r (x.right - 1)) _
-                  (λ t. (rw t at bits.1) ∙ cc (place-number v (xs ++ i ∷ []) ys k (rw (append_assoc xs _ _) whole) t, first, (count-push v xs i), inside v cw _ r _ t))
-                  (λ t. (rw t at bits.1) ∙ (rw f at kept) (λ w. cc)))
+                  (λ t. (rw t at bits.1) ∙ (ap (codeword_bit cw) (ap (number_after _) (sym first) ∙ (sym (count-push v xs i) ∙ sym (place-number v (xs ++ i ∷ []) ys k (rw (append_assoc xs _ _) whole) t))) ∙ sym (inside v cw _ r _ t)))
+                  (λ t. (rw t at bits.1) ∙ (rw f at kept) (λ w. false≢true (sym t ∙ w.1))))
               | inr f ↦ d.kept r c l m e f ∙ kept (λ w. elim w.0 [ inl g ↦ e g | inr g ↦ f g ])
             ]
           ];

@@ -9,7 +9,7 @@ use Rattle.qr_matrix.specs.Grid.{Grid, square, colour, light, painted, IsSquare}
 use Rattle.qr_symbol.{proofs.lemmas.placement.BitLemmas.differs-inverted, specs.Symbol.{colour_by, colour_of, grid_of}}
 use Rattle.qr_symbol.proofs.lemmas.placement.PlacementLemmas.{at, by_test, Done, done-start, done-step, done-end, next-number, painted-square, whole-next, whole-push, in-square}
 use Rattle.qr_symbol.specs.{Mask.{inverts, inverted}, Steps.{Patterns.fixed_colour, Placement.walked_colour}}
-use Rattle.std.proofs.Common.{◌≡◌, ℕ, ◌+◌, ◌<◌, ◌≤◌, Bool, true, false, cond, not, List, [], ◌∷◌, ◌++◌, length, length-append, refl, ◌∙◌, ap, arith}
+use Rattle.std.proofs.Common.{◌≡◌, ℕ, ◌+◌, ◌<◌, ◌≤◌, Bool, true, false, cond, not, List, [], ◌∷◌, ◌++◌, length, length-append, refl, ◌∙◌, ap, sym, subst, arith}
 
 -- outside the encoding region the colour stays
 walked-outside : (v : ℕ) (cw : List ℕ) (mask : ℕ) (f : ℕ → ℕ → Bool) (r c : ℕ) → is_in_region v r c ≡ false → f r c ≡ walked_colour v cw mask f r c
@@ -45,12 +45,12 @@ pub walked-step : (v : ℕ) (cw : List ℕ) (mask : ℕ) (g0 g : Grid) (front no
 walked-step v cw mask g0 g front now later x number bit turned b t e w =
     let o = whole-next v _ now _ x w.whole e in let s = ap (λ (h : Grid). h.side) w.square in
     let n = next-number v _ _ x _ o w.next in
-    let d : not (beq bit turned) ≡ inverted (inverts mask x.row x.col) (codeword_bit cw number) =
-    search (arith, differs-inverted, codeword_bit) in record {
+    let d : not (beq bit turned) ≡ inverted (inverts mask x.row x.col) (codeword_bit cw number) = rw (b, t) (differs-inverted _ _) in record {
       whole = whole-push v _ _ x o;
       next = cc (length-append _ _);
-      square = omega (arith, painted-square);
-      done = done-step _ _ g _ x _ s (d ∙ (search (arith, walked-inside, codeword_bit))) (search arith);
+      square = painted-square (side_of v) g x.row x.col _ s;
+      done = done-step _ _ g _ x _ s (d ∙ (ap (λ k. inverted (inverts mask x.row x.col) (codeword_bit cw k)) (sym n.1) ∙ sym (walked-inside v cw mask (colour g0) x.row x.col n.0)))
+          (subst (λ (ms : List Module). Done (side_of v) (walked_colour v cw mask (colour g0)) ms g) e w.done);
     }
 
 -- the number of the next bit is at most the number of all modules of the region

@@ -1,7 +1,7 @@
 use Rattle.std.proofs.Common.{◌≡◌, ◌≤◌, inl, inr, length, Err, refl, sym, ap, ◌∙◌, arith}
 use Rattle.std.proofs.{Math.Nat.pos_of_ne-zero, lemmas.{Bool.{eqb-false, eqb-true}, List.nil_from_length}}
 use Rattle.std.proofs.lemmas.Result.{IfOk-weaker, MatchResult-at_err, MatchResult-weaker}
-use Rattle.qr_symbol.proofs.lemmas.fault.ExactLemmas.{empty-has-series, empty-many, neither, too-many-exactly}
+use Rattle.qr_symbol.proofs.lemmas.fault.ExactLemmas.{empty-has-series, empty-many, not-empty, too-many-exactly}
 use Rattle.qr_symbol.proofs.lemmas.series.{LongLemmas.none-shorter, SeriesLemmas.series-joined, SizeLemmas.series-shortest}
 use Rattle.qr_symbol.specs.declared.fault.EncodeFault.TheVariants as fault
 use Rattle.qr_symbol.proofs.series.encode_series.Goals as goal
@@ -23,7 +23,7 @@ returns c =
     let least : 1 ≤ c.args.version = omega arith in let most : c.args.version ≤ 40 = omega arith in
     let long = eqb-false (length c.args.input.now) 0 (sym c.is_empty.ensures ∙ c.if-is_empty.false) in
     let r = c.series_of.result in
-    let empty : r ≡ Err fault.Empty → ⊥ = λ e. neither (λ h. cc) (λ h. cc) (MatchResult-at_err _ _ _ e c.series_of.ensures) in
+    let empty : r ≡ Err fault.Empty → ⊥ = λ e. not-empty (λ h. cc) (MatchResult-at_err _ _ _ e c.series_of.ensures) in
     let series = MatchResult-weaker r c.series_of.ensures (λ ss h. h) (λ e _. tt) in
     let many = too-many-exactly _ _ _ _ r c.series_of.ensures in record {
       series = series;

@@ -1,8 +1,0 @@
-use Rattle.{qr_layout.specs.Version.side_of, qr_symbol.specs.Steps.Collecting.bits_in_rows}
-use Rattle.std.proofs.Common.{◌≡◌, ◌+◌, ◌*◌, ◌++◌}
-use Rattle.qr_symbol.proofs.collecting.collect_columns.Given as goal
-
-abbrev pub invariant-loop-group : goal.invariant-loop-group
-invariant-loop-group l = record {
-  bits : l.bits ≡ l.fn.bits ++ bits_in_rows (side_of l.v) l.strip l.region l.columns 0 (l.before + 4 * l.group);
-}
