@@ -4,32 +4,22 @@ ghost use Rattle.std.specs.Prelude.{◌≡◌};
 
 use qr_bits::{BitFault, ParseFault};
 use std::alloc::{AllocError, AllocFailed};
-use std::error::Error;
-use std::fmt;
+use thiserror::Error;
 
 /// Why an input is not encoded. `encode` checks for `Empty`, then for `TooLong`; `encode_series` checks for `Empty`,
 /// then for `TooMany`. Memory may be refused at any step after the check for `Empty`.
-#[derive(Clone, Copy, Debug, PartialEq, Eq)]
+#[derive(Clone, Copy, Debug, PartialEq, Eq, Error)]
 pub enum EncodeFault {
+    #[error("input is empty")]
     Empty = 1,
     /// The input fits no allowed version.
+    #[error("input does not fit")]
     TooLong = 2,
+    #[error("more than 16 symbols")]
     TooMany = 3,
+    #[error("out of memory")]
     Memory = 4,
 }
-
-impl fmt::Display for EncodeFault {
-    fn fmt<W: fmt::Write>(&self, f: &mut fmt::Formatter<W>) -> fmt::Result {
-        f.write_str(match self {
-            EncodeFault::Empty => "input is empty",
-            EncodeFault::TooLong => "input does not fit",
-            EncodeFault::TooMany => "more than 16 symbols",
-            EncodeFault::Memory => "out of memory",
-        })
-    }
-}
-
-impl Error for EncodeFault {}
 
 impl From<AllocError> for EncodeFault {
     ghost use Rattle.std.specs.Prelude.{◌≡◌};
@@ -69,38 +59,27 @@ impl From<BitFault> for EncodeFault {
 
 /// Why symbols are not read or mended. For each symbol the faults from `Side` on are checked in this order, and
 /// `Series` after all symbols; memory may be refused at several steps.
-#[derive(Clone, Copy, Debug, PartialEq, Eq)]
+#[derive(Clone, Copy, Debug, PartialEq, Eq, Error)]
 pub enum ReadFault {
+    #[error("out of memory")]
     Memory,
+    #[error("no version has this side")]
     Side,
     /// In reading, the copy of the format information beside the top left finder pattern belongs to no level and mask.
     /// In mending, each copy costs more than 6 with every level and mask.
+    #[error("the format information is damaged")]
     Format,
     /// The error correction codewords of a block do not belong to its data codewords, and in mending the block cannot
     /// be mended.
+    #[error("a codeword is damaged")]
     Check,
     /// The data codewords cannot be parsed, for a reason other than `ParseFault::Memory`.
+    #[error("the data codewords cannot be parsed: {0}")]
     Segments(ParseFault),
     /// The symbols are neither one plain symbol nor a whole series.
+    #[error("the symbols do not form a series")]
     Series,
 }
-
-impl fmt::Display for ReadFault {
-    fn fmt<W: fmt::Write>(&self, f: &mut fmt::Formatter<W>) -> fmt::Result {
-        f.write_str(match self {
-            ReadFault::Memory => "out of memory",
-            ReadFault::Side => "no version has this side",
-            ReadFault::Format => "the format information is damaged",
-            ReadFault::Check => "a codeword is damaged",
-            ReadFault::Segments(fault) => {
-                return write!(f, "the data codewords cannot be parsed: {fault}");
-            }
-            ReadFault::Series => "the symbols do not form a series",
-        })
-    }
-}
-
-impl Error for ReadFault {}
 
 impl ReadFault {
     ghost use Rattle.qr_symbol.specs.Fault.{read_fault_number};
