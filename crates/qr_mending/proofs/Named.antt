@@ -1,5 +1,5 @@
 -- The lemmas that the attributes of functions name.
-use Rattle.qr_field.proofs.lemmas.{laws.DistanceLemmas.difference-same, polynomial.ListLemmas.length-plus}
+use Rattle.qr_field.proofs.lemmas.laws.DistanceLemmas.{difference-same}
 use Rattle.qr_mending.proofs.lemmas.block.BlockLemmas.{erasures-one, differences-same, mended-same, sum-more, value-next}
 use Rattle.qr_mending.proofs.lemmas.erasures.ErasureLemmas.{errors-more, modified-more, erasures-marked, length-read, errors-self}
 use Rattle.qr_mending.proofs.lemmas.format.FormatLemmas.{near-one, near-two}
@@ -18,7 +18,7 @@ pub ruleset polynomial_facts = (leading-stays, plus-more, sum-all)
 
 pub ruleset root_facts = (All-from_get_or, length-rooted, length-rooted_rest)
 
-pub ruleset error_facts = (All-from_get_or, length-plus, sum-more, take_all, value-next)
+pub ruleset error_facts = (value-next)
 
 pub ruleset block_facts = (differences-same, mended-same)
 

@@ -3,7 +3,7 @@ use Rattle.std.proofs.Common.{◌≡◌, ℕ, List, arith}
 use Rattle.std.specs.Prelude.{◌↔◌}
 use Rattle.qr_layout.specs.{declared.level.Level.Level, Blocks.blocks_of, Version.side_of}
 use Rattle.qr_matrix.specs.Grid.{Grid, IsSquare, light}
-use Rattle.qr_matrix.specs.{Difference.difference_count, Difference.differs, Sums.places_passing}
+use Rattle.qr_matrix.specs.{Difference.difference_count, Sums.places_passing}
 use Rattle.qr_mending.proofs.lemmas.format.FormatLemmas.{sum-same}
 use Rattle.qr_mending.proofs.lemmas.{message.LightLemmas.colour-light, mending.MendingLemmas.form-one}
 use Rattle.qr_matrix.proofs.Facts.{colour-square, no-difference, square-same}

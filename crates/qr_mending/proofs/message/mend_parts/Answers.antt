@@ -1,5 +1,4 @@
-use Rattle.std.proofs.Common.{◌≡◌, ◌++◌, ◌∷◌, [], ◌∙◌, ap}
-use Rattle.qr_mending.specs.Steps.Message.{AreMended}
+use Rattle.std.proofs.Common.{◌++◌, ◌∙◌, ap}
 use Rattle.qr_mending.proofs.message.mend_parts.Goals as goal
 
 pub loop-block-preserved : goal.loop-block-preserved
