@@ -1,5 +1,5 @@
 -- The best mode for a byte is the one whose number is the least.
-use Rattle.std.proofs.Common.{◌≡◌, ℕ, ◌+◌, ◌*◌, ◌/◌, ◌%◌, ◌<◌, ◌≤◌, Bool, true, min, refl, ⊎_elim, arith}
+use Rattle.std.proofs.Common.{◌≡◌, ℕ, ◌+◌, ◌*◌, ◌/◌, ◌%◌, ◌<◌, ◌≤◌, Bool, true, min, refl, sym, ◌∙◌, ⊎_elim, arith}
 use Rattle.std.proofs.lemmas.Bool.{cases_lt}
 use Rattle.qr_bits.specs.{declared.modes.Mode.Mode, declared.modes.Rule.Rule, Segmentation.rank, Modes.may_use}
 use Rattle.qr_bits.specs.declared.modes.Mode.TheVariants.{Numeric, Alphanumeric, Byte, Kanji}
@@ -67,7 +67,7 @@ unfolding may_begin
 least_choice v r p x q cost c n chosen e small is =
     let t : Mode → ℕ = λ k. byte_cost v p k + cost (state_after p k) in
     let take : (k : Mode) → may_take r p x q k ≡ may_begin r x q k = λ k. take_begin r p x q k e in
-    let under : (k : Mode) → may_take r p x q k ≡ true → c ≤ 4 * t k + rank k = search (arith, least_under) in
+    let under : (k : Mode) → may_take r p x q k ≡ true → c ≤ 4 * t k + rank k = λ k ok. rw is (least_under (may_begin r x q) t k (sym (take k) ∙ ok)) in
     let few : c < 4294967295 = search (arith, byte_used, byte_cost_bound, state_after-byte) in
     let taken : IsTaken (may_begin r x q) t c = rw is (taken_least (may_begin r x q) t (rw is at few)) in
     let m = taken.0 in

@@ -1,5 +1,5 @@
 -- The number of bits of an assignment is a sum over its modes.
-use Rattle.std.proofs.lemmas.Bool.{Decides.nat_tests, cond_both, cond-true, cond-false, eqb-true, eq-eqb}
+use Rattle.std.proofs.lemmas.Bool.{cond_both, cond-true, cond-false, eqb-true, eq-eqb}
 use Rattle.std.proofs.Common.{◌≡◌, ℕ, ◌+◌, Bool, true, false, cond, ◌==◌, List, [], ◌∷◌, replicate, refl, arith, suc, zero}
 use Rattle.qr_bits.specs.{declared.modes.Mode.Mode, Modes.count_width, Modes.payload_bits}
 use Rattle.qr_bits.specs.declared.{segment.Segment.Segment, run_state.RunState.RunState}
@@ -43,7 +43,7 @@ state_rank-after p m = grind arith
 one_more : (v : ℕ) (p : RunState) (m : Mode) (n : ℕ) → goes_on p m ≡ true
     → byte_cost v p m + payload_bits m (turn p) + payload_bits m (turn (state_after p m) + n) ≡ payload_bits m (turn p + (1 + n)) + payload_bits m (turn (state_after p m))
 unfolding state_after byte_cost
-one_more v p m n h = grind (arith, nat_tests)
+one_more v p m n h = search arith
 
 begins : (v : ℕ) (p : RunState) (m : Mode) → goes_on p m ≡ false
     → (byte_cost v p m ≡ 4 + count_width v m + payload_bits m 1) × (turn (state_after p m) ≡ 1)

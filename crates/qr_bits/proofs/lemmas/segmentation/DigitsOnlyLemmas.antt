@@ -19,8 +19,8 @@ segments_more : (v : ℕ) (s : Segment) (ss : List Segment) (xs : List ℕ) → 
 unfolding CoversBy
 segments_more v s [] xs c =
     let none = ap length c.3 in
-    search (arith, segment_more, length-drop)
-segments_more v s (t ∷ ts) xs c = search (arith, segment_more, length-drop, segments_more v t ts (drop s.len xs) c.3)
+    omega (arith, segment_more v s.mode s.len c.0, length-drop s.len xs, none)
+segments_more v s (t ∷ ts) xs c = omega (arith, segment_more v s.mode s.len c.0, length-drop s.len xs, segments_more v t ts (drop s.len xs) c.3)
 
 digits_fewest : (v : ℕ) (xs : List ℕ) (segs : List Segment) → CoversBy is_kanji_pair xs segs → bits v (one_segment Numeric (length xs)) ≤ bits v segs
 unfolding CoversBy

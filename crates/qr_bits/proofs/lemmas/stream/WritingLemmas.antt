@@ -1,6 +1,6 @@
 -- Writing the data of a segment, group by group, and the length of what is written.
-use Rattle.std.proofs.Common.{◌≡◌, ℕ, zero, suc, ◌+◌, ◌-◌, ◌*◌, ◌/◌, ◌<◌, ◌≤◌, Bool, true, ◌&&◌, List, [], ◌∷◌, ◌++◌, length, get_or, take, drop, refl, sym, ◌∙◌, arith, length-append, append_assoc}
-use Rattle.std.proofs.lemmas.{Bool.and_parts, Bool.false≢true, List.length-take-le, List.drop_all}
+use Rattle.std.proofs.Common.{◌≡◌, ℕ, ◌+◌, ◌-◌, ◌*◌, ◌/◌, ◌<◌, ◌≤◌, Bool, true, ◌&&◌, List, [], ◌∷◌, ◌++◌, length, get_or, take, drop, refl, sym, ◌∙◌, arith, length-append, append_assoc}
+use Rattle.std.proofs.lemmas.{Bool.and_parts, Bool.false≢true, List.length-take-le, List.drop_all, List.take-append-drop, List.Folds.list_all-append}
 use Rattle.std.{proofs.Math.Seq.drop-cons, specs.List.list_all}
 use Rattle.qr_bits.specs.{declared.modes.Mode.Mode, declared.segment.Segment.Segment, Bits.field}
 use Rattle.qr_bits.specs.declared.modes.Mode.TheVariants.{Numeric, Alphanumeric, Kanji}
@@ -11,9 +11,7 @@ use Rattle.qr_bits.proofs.lemmas.bits.BitLemmas.{length-field, length-bits_of}
 
 -- if all bytes pass a test, the bytes after the first n pass it
 pub all_rest : (p : ℕ → Bool) (xs : List ℕ) (n : ℕ) → list_all p xs ≡ true → list_all p (drop n xs) ≡ true
-all_rest p xs zero h = h
-all_rest p [] (suc n) h = h
-all_rest p (x ∷ xs) (suc n) h = all_rest p xs n (and_parts (p x) _ h).1
+all_rest p xs n h = (and_parts _ _ (sym (list_all-append p (take n xs) (drop n xs)) ∙ rw (take-append-drop n xs) h)).1
 
 -- three digits, and the digits after them
 pub digits_three : (xs : List ℕ) → 3 ≤ length xs

@@ -12,7 +12,7 @@ use Rattle.qr_layout.proofs.lemmas.order.CountLemmas.{sum_below, sum_below-same,
 
 -- the row goes through the rectangle
 abbrev pub is_in_rows : ℕ → Rectangle → Bool
-is_in_rows r b = leb b.top r && ltb r b.bottom
+is_in_rows r b = elim (leb b.top r) [ true ↦ ltb r b.bottom | false ↦ false ]
 
 -- the column goes through the rectangle
 abbrev pub is_in_columns : ℕ → Rectangle → Bool
@@ -109,10 +109,10 @@ between-counts (b ∷ bs) lo hi h = elim (cases_lt lo hi) [
 
 -- a place is in a rectangle by its row and by its column
 in-parts : (r c : ℕ) (b : Rectangle) → is_in_rectangle r c b ≡ (is_in_rows r b && is_in_columns c b)
-in-parts r c b = assoc (leb b.top r && ltb r b.bottom) (leb b.left c) (ltb c b.right)
+in-parts r c b = assoc (leb b.top r) (ltb r b.bottom) (leb b.left c) (ltb c b.right)
   where
-    assoc : (x y z : Bool) → ((x && y) && z) ≡ (x && (y && z))
-    assoc x y z = grind arith
+    assoc : (w x y z : Bool) → (((w && x) && y) && z) ≡ (elim w [ true ↦ x | false ↦ false ] && (y && z))
+    assoc w x y z = grind arith
 
 -- only the rectangles that the row goes through can contain a place of it
 any-filter : (r c : ℕ) (bs : List Rectangle) → list_any (is_in_rectangle r c) bs ≡ list_any (is_in_columns c) (filter (is_in_rows r) bs)

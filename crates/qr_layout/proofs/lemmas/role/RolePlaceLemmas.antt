@@ -11,6 +11,7 @@ use Rattle.qr_layout.specs.Role.{finder_ring, is_alignment_light, pattern_colour
 use Rattle.qr_layout.specs.{Version.side_of, Alignment.centres_of}
 use Rattle.qr_layout.proofs.lemmas.alignment.TableLemmas.{below, below-at, below-from}
 use Rattle.qr_layout.proofs.lemmas.alignment.AlignmentLemmas.{region_free, region-parts}
+use Rattle.qr_layout.proofs.lemmas.role.RoleSymmetryLemmas.{role-symmetric}
 use Rattle.qr_layout.proofs.lemmas.role.RoleLemmas.{either, first-at, bit_here, stands, format-at, format_down, format_across, version_at}
 
 -- the choice of a role, over what its parts say
@@ -95,9 +96,9 @@ role-same x y h = grind (arith, nat_tests)
 format_placed : ℕ → ℕ → Bool
 format_placed v i = has_role v (first_place i) (FormatBit i) && has_role v (second_place (side_of v) i) (FormatBit i)
 
--- both copies of a bit of the version information
+-- the first copy of a bit of the version information
 version_placed : ℕ → ℕ → Bool
-version_placed v i = has_role v (version_place (side_of v) i) (VersionBit i) && has_role v (mirror_of (version_place (side_of v) i)) (VersionBit i)
+version_placed v i = has_role v (version_place (side_of v) i) (VersionBit i)
 
 -- in each version, computed
 all-format : below 40 (λ k. below 15 (format_placed (k + 1))) ≡ true
@@ -118,9 +119,8 @@ format-placed : (v i : ℕ) → 1 ≤ v → v ≤ 40 → i < 15 → (has_role v 
 unfolding format_placed
 format-placed v i h k l = and_parts _ _ (below-at 15 (format_placed v) (below-from 40 1 (λ v. below 15 (format_placed v)) all-format v h (omega arith)) i l)
 
-version-placed : (v i : ℕ) → 7 ≤ v → v ≤ 40 → i < 18 → (has_role v (version_place (side_of v) i) (VersionBit i) ≡ true) × (has_role v (mirror_of (version_place (side_of v) i)) (VersionBit i) ≡ true)
-unfolding version_placed
-version-placed v i h k l = and_parts _ _ (below-at 18 (version_placed v) (below-from 34 7 (λ v. below 18 (version_placed v)) all-version v h (omega arith)) i l)
+version-placed : (v i : ℕ) → 7 ≤ v → v ≤ 40 → i < 18 → version_placed v i ≡ true
+version-placed v i h k l = below-at 18 (version_placed v) (below-from 34 7 (λ v. below 18 (version_placed v)) all-version v h (omega arith)) i l
 
 -- each bit of the format information is at its first place
 pub format-first : (v i : ℕ) → 1 ≤ v → v ≤ 40 → i < 15 → role_of v (first_place i).row (first_place i).col ≡ FormatBit i
@@ -132,11 +132,15 @@ format-second v i h k l = role-same _ _ (format-placed v i h k l).1
 
 -- each bit of the version information is at its first place
 pub version-first : (v i : ℕ) → 7 ≤ v → v ≤ 40 → i < 18 → role_of v (version_place (side_of v) i).row (version_place (side_of v) i).col ≡ VersionBit i
-version-first v i h k l = role-same _ _ (version-placed v i h k l).0
+unfolding version_placed
+version-first v i h k l = role-same _ _ (version-placed v i h k l)
 
 -- each bit of the version information is at the place with row and column exchanged
 pub version-second : (v i : ℕ) → 7 ≤ v → v ≤ 40 → i < 18 → role_of v (version_place (side_of v) i).col (version_place (side_of v) i).row ≡ VersionBit i
-version-second v i h k l = role-same _ _ (version-placed v i h k l).1
+unfolding is_role version_placed
+version-second v i h k l =
+    let m = version_place (side_of v) i in
+    role-same _ _ (sym (role-symmetric (λ x. is_role x (VersionBit i)) v m.row m.col (omega arith) (omega arith) (omega arith) (λ j n. refl)) ∙ version-placed v i h k l)
 
 -- the dark module, beside the bottom left finder pattern, is dark
 pub dark-module : (v : ℕ) → 1 ≤ v → v ≤ 40 → role_of v (side_of v - 8) 8 ≡ Fixed true
