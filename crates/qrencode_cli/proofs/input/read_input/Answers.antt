@@ -1,4 +1,4 @@
-use Rattle.std.proofs.Common.{length, arith}
+use Rattle.std.proofs.Common.{inl, inr, length, arith}
 use Rattle.std.proofs.lemmas.Grind.{common_steps}
 use Rattle.std.proofs.lemmas.Result.{err_from_is_err_and}
 use Rattle.qrencode_cli.proofs.lemmas.input.ReadingLemmas.{has-read-end, has-read-full, reading-again, reading-begins, reading-more, stops-memory, stops-read}
@@ -33,12 +33,12 @@ returns-in_err-extend_from_slice-in-Ok g c =
 pub returns-then-interrupted-eq-INTERRUPTIONS_MAX : goal.returns-then-interrupted-eq-INTERRUPTIONS_MAX
 returns-then-interrupted-eq-INTERRUPTIONS_MAX g c =
     stops-read _ _ _ _ (length c.read.new.buf) _ _ c.reads.invariant (rw (c.len.ensures, c.reads.bytes.ok.0) at c.reads-test.true)
-    (λ _. c.if-interrupted-eq-INTERRUPTIONS_MAX.true) c.in-Err-Interrupted.ensures.counted
+    (inr c.if-interrupted-eq-INTERRUPTIONS_MAX.true) c.in-Err-Interrupted.ensures.counted
 
 pub returns-in-Err-Failed : goal.returns-in-Err-Failed
 returns-in-Err-Failed g c =
     stops-read _ _ _ _ (length c.read.new.buf) _ _ c.reads.invariant (rw (c.len.ensures, c.reads.bytes.ok.0) at c.reads-test.true)
-    (λ e. let bad = c.in-Err-Failed.field-0-is in cc) c.in-Err-Failed.ensures.counted
+    (inl c.in-Err-Failed.field-0-is) c.in-Err-Failed.ensures.counted
 
 pub returns : goal.returns
 returns g c = elim c.reads-test.branch [

@@ -73,9 +73,10 @@ reading-again old a b bytes len i h ne q e = search rules
 
 -- the read failed, or was interrupted for the 1,000th time
 pub stops-read : (old a b : Reader) (bytes : List ℕ) (len i : ℕ) (t : Trouble) → IsReading old a bytes i
-    → length bytes < INPUT_MAX → (t ≡ Interrupted → i ≡ 999) → b.counts ≡ read_counted len (Err t) a.counts → StopsReading old b fault.Read
-stops-read old a b bytes len i Interrupted h small tried e = let last = tried refl in search rules
-stops-read old a b bytes len i Failed h small tried e = search rules
+    → length bytes < INPUT_MAX → (t ≡ Failed) ⊎ (i ≡ 999) → b.counts ≡ read_counted len (Err t) a.counts → StopsReading old b fault.Read
+stops-read old a b bytes len i Interrupted h small (inl bad) e = cc
+stops-read old a b bytes len i Interrupted h small (inr last) e = search rules
+stops-read old a b bytes len i Failed h small last e = search rules
 
 -- `INPUT_MAX` bytes were read
 pub has-read-full : (old a : Reader) (bytes : List ℕ) (i : ℕ) → IsReading old a bytes i → INPUT_MAX ≤ length bytes → HasRead old a bytes
