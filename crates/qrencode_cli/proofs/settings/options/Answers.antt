@@ -29,10 +29,9 @@ come-exactly o (Err usage.NeedsVersion) h = search rules
 pub returns : goal.returns
 returns c =
     let m = c.in_ok-matches.ensures in
-    let h : MatchResult c.settings_in.result (λ s. settings_for (map string_bytes c.args.words.now) ≡ Ok s)
-    (IsUsageFault (settings_for (map string_bytes c.args.words.now))) = rw m.taken (rw m.rows at c.settings_in.ensures) in
-    let e = come-exactly _ _ h in
-    record { settings = h; words = e.words; level = e.level; kind = e.kind; version = e.version }
+    let s = rw m.rows at c.settings_in.ensures in
+    let e = come-exactly (settings_for (map string_bytes c.args.words.now)) c.settings_in.result (rw m.taken s) in
+    record { settings = rw m.taken s; words = e.words; level = e.level; kind = e.kind; version = e.version }
 
 pub returns-in_err-matches-clause-words : goal.returns-in_err-matches-clause-words
 returns-in_err-matches-clause-words c =
