@@ -2,8 +2,8 @@
 
 ghost use Rattle.std.specs.Prelude.{◌≤◌, MatchResult, length, map};
 ghost use Rattle.std.specs.String.{string_bytes};
-ghost use Rattle.qrencode_cli.specs.Command.{IsDrawing, RunsTo, held};
-ghost use Rattle.qrencode_cli.specs.Steps.Command.{AreDrawnFor, Attempts, Draws, IsInputFault, Prepares, drawing_of_job};
+ghost use Rattle.qrencode_cli.specs.Command.{RunsTo, held};
+ghost use Rattle.qrencode_cli.specs.Steps.Command.{AreDrawnFor, Attempts, Draws, IsInputFault, IsJobFor, Prepares, drawing_of_job};
 
 use crate::drawing_job::DrawingJob;
 use crate::fault::Fault;
@@ -36,8 +36,7 @@ fn symbols_for(alloc: Global, input: &[u8], settings: &Settings) -> Result<Vec<S
 // `input` are the bytes that the symbols contain.
 fn job_of(alloc: Global, input: &[u8], settings: &Settings) -> Result<DrawingJob, Fault>
     requires { length input.now ≤ INPUT_MAX }
-    ensures { MatchResult result (λ p. IsDrawing settings.now input.now (drawing_of_job p))
-        (IsInputFault settings.now input.now) }
+    ensures { IsJobFor settings.now input.now result }
 {
     Ok(DrawingJob {
         symbols: symbols_for(alloc, input, settings)?,
@@ -49,8 +48,7 @@ fn job_of(alloc: Global, input: &[u8], settings: &Settings) -> Result<DrawingJob
 // As `job_of`, but with `-i` the input is folded first.
 fn make_job(alloc: Global, input: &[u8], settings: &Settings) -> Result<DrawingJob, Fault>
     requires { length input.now ≤ INPUT_MAX }
-    ensures { MatchResult result (λ p. IsDrawing settings.now (held settings.now input.now) (drawing_of_job p))
-        (IsInputFault settings.now (held settings.now input.now)) }
+    ensures { IsJobFor settings.now (held settings.now input.now) result }
 {
     if settings.fold {
         let folded = fold(alloc, input, settings.rule())?;

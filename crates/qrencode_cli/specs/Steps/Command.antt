@@ -1,8 +1,8 @@
 -- What each step of a run can return. `words` are the arguments, `s` the settings, and a device is `old` (`in0`,
 -- `out0`) before the step and `new` (`in1`, `out1`) after it.
-use Rattle.std.specs.Prelude.{◌≡◌, ◌<◌, ◌≤◌, ◌↔◌, ◌⊎◌, ℕ, List, [], false, length, max, IfErr, IsErrOf, IsTrue, OnOk, Result, MatchResult, true}
+use Rattle.std.specs.Prelude.{◌≡◌, ◌<◌, ◌≤◌, ◌↔◌, ◌⊎◌, ℕ, List, [], false, length, max, IfErr, IsErrOf, IsTrue, OnOk, Result, Ok, Err, MatchResult, true}
 use Rattle.clap.specs.Walk.{Text}
-use Rattle.qrencode_cli.specs.Command.{AllRead, DrawnInPart, DrawnWhole, HasDrawing, InputConsumed, IsFault, OutputHolds}
+use Rattle.qrencode_cli.specs.Command.{AllRead, DrawnInPart, DrawnWhole, HasDrawing, InputConsumed, IsDrawing, IsFault}
 use Rattle.qr_devices.specs.Device.{IsWrittenWithin, Reader, Writer, is_read_fault, is_write_fault, no_reads, no_writes}
 use Rattle.qr_bits.specs.declared.modes.TheConstants.{INPUT_MAX}
 use Rattle.qr_symbol.specs.declared.symbol.Symbol.{Symbol}
@@ -55,17 +55,27 @@ IsInputFault s input (Encode TooMany) = IsTooMany s input
 IsInputFault s input Memory = Unit {0}
 IsInputFault s input _ = ⊥
 
+-- The result is the drawing job of `input`, or a fault for which it has none
+abbrev pub IsJobFor : SettingsView → List ℕ → Result DrawingJob Fault → Type 0
+IsJobFor s input result = MatchResult result (λ p. IsDrawing s input (drawing_of_job p)) (IsInputFault s input)
+
 -- No byte of the drawing is written before this fault
 abbrev pub IsEarly : Fault → Type 0
 IsEarly Write = ⊥
 IsEarly _ = Unit {0}
+
+-- The result is the drawing job for the arguments if the reader returned `given`, or a fault before any byte of the
+-- drawing is written
+abbrev pub IsJobGiven : List Text → List ℕ → Result DrawingJob Fault → Type 0
+IsJobGiven words given result =
+    MatchResult result (λ p. HasDrawing words given (drawing_of_job p)) (λ f. IsFault words given f × IsEarly f)
 
 -- The result is the drawing job for the arguments and their input, or a fault before any byte of the drawing is written
 pub record Prepares (words : List Text) (old new : Reader) (result : Result DrawingJob Fault) : Type 0 where
   pub given : List ℕ
   pub is_input : IsInputOf old.remaining given
   pub reads : InputConsumed words old new given result
-  pub answer : MatchResult result (λ p. HasDrawing words given (drawing_of_job p)) (λ f. IsFault words given f × IsEarly f)
+  pub answer : IsJobGiven words given result
   pub read_fault : old.counts ≡ no_reads → IsErrOf result Read ↔ IsTrue (is_read_fault new.counts)
   pub within : old.counts ≡ no_reads → IsReadWithin new.counts
 
@@ -77,15 +87,9 @@ pub record Draws (old new : Writer) (drawing : List ℕ) (result : Result (Unit 
   pub within : old.counts ≡ no_writes → IsWrittenWithin new.counts
   pub offered : new.counts.offered ≤ max old.counts.offered WRITE_MAX
 
--- A run can have this result, before the line of a fault is written
-pub record Attempts (words : List Text) (in0 in1 : Reader) (out0 out1 : Writer) (result : Result (Unit {0}) Fault) : Type 0 where
-  pub given : List ℕ
-  pub is_input : IsInputOf in0.remaining given
-  pub is_fault : IfErr result (IsFault words given)
-  pub shows : OutputHolds words given out0 out1 result
-  pub reads : InputConsumed words in0 in1 given result
-  pub read_fault : in0.counts ≡ no_reads → IsErrOf result Read ↔ IsTrue (is_read_fault in1.counts)
-  pub write_fault : out0.counts ≡ no_writes → IsErrOf result Write ↔ IsTrue (is_write_fault out1.counts)
-  pub input_within : in0.counts ≡ no_reads → IsReadWithin in1.counts
-  pub out_within : out0.counts ≡ no_writes → IsWrittenWithin out1.counts
-  pub offered : out1.counts.offered ≤ max out0.counts.offered WRITE_MAX
+-- A run can have this result, before the line of a fault is written: a drawing job was made, and writing its drawing had
+-- the result; or making it failed, and nothing was written
+abbrev pub Attempts : List Text → Reader → Reader → Writer → Writer → Result (Unit {0}) Fault → Type 0
+Attempts words in0 in1 out0 out1 result =
+    ((job : DrawingJob) × Prepares words in0 in1 (Ok job) × Draws out0 out1 (drawing_of_job job) result)
+    ⊎ ((f : Fault) × (result ≡ Err f) × Prepares words in0 in1 (Err f) × (out1 ≡ out0))

@@ -1,5 +1,5 @@
 -- The drawing that a command line and an input ask for, or the fault that occurs before any byte is written.
-use Rattle.std.proofs.Common.{◌≡◌, ◌∙◌, ◌≤◌, ℕ, true, false, List, [], ◌∷◌, take, Option, None, Some, Result, Ok, Err, MatchResult, IsErrOf, IsTrue, ◌↔◌, ap, refl, sym, min, length, append-nil, arith, inl, inr, ◌⊎◌}
+use Rattle.std.proofs.Common.{◌≡◌, ◌∙◌, ◌≤◌, ℕ, true, false, List, [], ◌∷◌, take, Option, None, Some, Result, Ok, Err, refl, sym, min, length, append-nil, arith, inl, inr, ◌⊎◌}
 use Rattle.std.proofs.lemmas.{Bool.cases_lt, Bool.false≢true, List.take_min}
 use Rattle.std.proofs.lemmas.List.Elements.{All-cons, All-head, All-nil}
 use Rattle.std.specs.List.{All}
@@ -13,12 +13,12 @@ use Rattle.qr_symbol.specs.declared.symbol.Symbol.{Symbol}
 use Rattle.qr_matrix.specs.Grid.{Grid}
 use Rattle.qr_symbol.specs.{Joining.AreReadBy, Joining.IsJoined, Reading.IsReadBack, Series.IsSeries, Series.squares_of, Encoding.IsSymbol, VersionChoice.HasNoVersion}
 use Rattle.qr_symbol.proofs.Facts.{long-has-no-series, series-few, series-side, series-some}
-use Rattle.qrencode_cli.specs.Command.{HasDrawing, IsDrawing, ReadsInput, IsFault, held, input_for}
+use Rattle.qrencode_cli.specs.Command.{HasSettingsWith, ReadsInput, held, input_for}
 use Rattle.qrencode_cli.specs.Settings.{IsUsageFault, Reason, SettingsView, rule_for, settings_for}
-use Rattle.qrencode_cli.specs.Steps.Command.{AreDrawnFor, HasRead, IsEarly, IsInputFault, Prepares, StopsReading, drawing_of_job}
+use Rattle.qrencode_cli.specs.Steps.Command.{AreDrawnFor, HasRead, IsInputFault, IsJobFor, IsJobGiven, Prepares, StopsReading}
 use Rattle.qrencode_cli.specs.{Symbols.smallest_of, declared.fault.Fault.Fault}
-use Rattle.qr_devices.specs.{Device.Reader, Device.is_read_fault, Device.no_reads, declared.device.ReadCounts.ReadCounts}
-use Rattle.qrencode_cli.specs.{Steps.Fault.fault_of_input, Steps.Fault.fault_of_words, Input.IsInputOf, Input.IsReadWithin}
+use Rattle.qr_devices.specs.{Device.Reader}
+use Rattle.qrencode_cli.specs.{Steps.Fault.fault_of_input, Steps.Fault.fault_of_words, Input.IsInputOf}
 use Rattle.qr_bits.proofs.Facts.{fitting_short}
 use Rattle.std.proofs.lemmas.Grind.{common_steps}
 use Rattle.qrencode_cli.specs.declared.fault.Fault.TheVariants as fault
@@ -31,13 +31,9 @@ any_input None = ([], tt)
 any_input (Some xs) = (take INPUT_MAX xs, refl)
 
 -- if the command line contains a string, the input is this string, cut after `INPUT_MAX` bytes
-pub input_for-string : (s : SettingsView) (text given buf : List ℕ) (n : ℕ) → s.string ≡ Some text → buf ≡ text → n ≡ min INPUT_MAX (length buf)
-    → input_for s given ≡ take n buf
+input_for-string : (s : SettingsView) (text given buf : List ℕ) (n : ℕ) → s.string ≡ Some text → buf ≡ text
+    → n ≡ min INPUT_MAX (length buf) → input_for s given ≡ take n buf
 input_for-string s text given buf n e is cut = cc (take_min INPUT_MAX text)
-
--- if the command line contains no string, the input is what the reader returned
-pub input_for-reader : (s : SettingsView) (given : List ℕ) → s.string ≡ None → input_for s given ≡ given
-input_for-reader s given e = rw e refl
 
 -- under -i the symbols contain the folded input
 pub held-folded : (s : SettingsView) (rule : Rule) (input bytes : List ℕ) → s.fold ≡ true → rule ≡ rule_for s → bytes ≡ folded rule input → held s input ≡ bytes
@@ -105,117 +101,80 @@ drawn-for-series s rule input version symbols many least most e same some series
   one_side = one-side (squares_of symbols) (side_of version) (series-side input s.level rule version symbols series);
 }
 
--- the result is a read fault neither by itself nor by the reader's counts
-no-read-fault : {T : Type 0} (r : Result T Fault) (c : ReadCounts) → (r ≡ Err fault.Read → ⊥) → is_read_fault c ≡ false → IsErrOf r fault.Read ↔ IsTrue (is_read_fault c)
-no-read-fault r c never well = (λ e. absurd (never e), λ t. absurd (false≢true (sym well ∙ t)))
-
--- a reader that was not read shows no fault
-unread-well : (c : ReadCounts) → c ≡ no_reads → is_read_fault c ≡ false
-unread-well c z = rw z refl
-
--- and is within bounds
-unread-within : (c : ReadCounts) → c ≡ no_reads → IsReadWithin c
-unread-within c z = rw z (search arith)
-
--- a result has one fault
-pub same-fault : {T : Type 0} (r : Result T Fault) (f g : Fault) → r ≡ Err f → r ≡ Err g → f ≡ g
-same-fault r f g p q = cc
-
--- success is no fault
-pub no-fault : {T : Type 0} (r : Result T Fault) (t : T) (f : Fault) → r ≡ Ok t → r ≡ Err f → ⊥
-no-fault r t f p q = cc
-
--- making a job is no read fault
-made-unread : (s : SettingsView) (input : List ℕ) (r : Result DrawingJob Fault)
-    → MatchResult r (λ p. IsDrawing s input (drawing_of_job p)) (IsInputFault s input) → r ≡ Err fault.Read → ⊥
-made-unread s input (Ok p) h e = no-fault (Ok p) p fault.Read refl e
-made-unread s input (Err f) h e = rw (same-fault (Err f) f fault.Read refl e) at h
-
--- a command line without settings is refused
-refused : (words : List Text) (in0 : Reader) (why : Reason) (u : UsageFault) → settings_for words ≡ Err why
-    → (settings_for words ≡ Err why → IsFault words (any_input in0.remaining).0 (fault.Usage u))
-    → Prepares words in0 in0 (Err (fault.Usage u))
-refused words in0 why u e is = let i = any_input in0.remaining in record {
+-- the reader was not read: it need not be, or lack of memory ended the run
+unread : (words : List Text) (in0 : Reader) (r : Result DrawingJob Fault) → (ReadsInput words → r ≡ Err fault.Memory)
+    → ((given : List ℕ) → IsJobGiven words given r) → Prepares words in0 in0 r
+unread words in0 r memory answer = let i = any_input in0.remaining in record {
   given = i.0;
   is_input = i.1;
-  reads = record { unread = λ n. refl; read = λ i. let bad : Ok i.settings ≡ Err why = sym i.taken ∙ e in cc };
-  answer = (is e, tt);
-  read_fault = λ z. no-read-fault _ in0.counts (λ bad. cc) (unread-well in0.counts z);
-  within = unread-within in0.counts;
+  reads = record { unread = λ _. refl; read = λ asked. inr (inr (memory asked)) };
+  answer = answer i.0;
+  read_fault = λ z. (λ e. let m = memory (rw e at (answer i.0)).0 in cc, λ t. absurd (false≢true (rw z at t)));
+  within = λ z. rw z (search arith);
 }
+
+-- a result has one fault
+pub same-fault : {T : Type 0} {r : Result T Fault} {f g : Fault} → r ≡ Err f → r ≡ Err g → f ≡ g
+same-fault p q = cc
+
+-- a command line without settings asks for no input
+refused : {words : List Text} {why : Reason} {r : Result DrawingJob Fault} → settings_for words ≡ Err why → ReadsInput words
+    → r ≡ Err fault.Memory
+refused {why = why} e i = let bad : Ok i.settings ≡ Err why = sym i.taken ∙ e in cc
 
 -- every fault of the command line is a correct result
 pub prepares-usage : (words : List Text) (in0 : Reader) (u : UsageFault) → IsUsageFault (settings_for words) u
     → Prepares words in0 in0 (Err (fault_of_words u))
-prepares-usage words in0 (usage.Words text) h = refused words in0 _ (usage.Words text) h (λ e. e)
-prepares-usage words in0 usage.Level h = refused words in0 _ usage.Level h (λ e. e)
-prepares-usage words in0 usage.Kind h = refused words in0 _ usage.Kind h (λ e. e)
-prepares-usage words in0 usage.NeedsVersion h = refused words in0 _ usage.NeedsVersion h (λ e. e)
-prepares-usage words in0 usage.Memory h = let i = any_input in0.remaining in record {
-  given = i.0;
-  is_input = i.1;
-  reads = record { unread = λ n. refl; read = λ i. inr (inr refl) };
-  answer = (tt, tt);
-  read_fault = λ z. no-read-fault _ in0.counts (λ bad. cc) (unread-well in0.counts z);
-  within = unread-within in0.counts;
-}
+prepares-usage words in0 (usage.Words text) h = unread words in0 _ (refused h) (λ _. (h, tt))
+prepares-usage words in0 usage.Level h = unread words in0 _ (refused h) (λ _. (h, tt))
+prepares-usage words in0 usage.Kind h = unread words in0 _ (refused h) (λ _. (h, tt))
+prepares-usage words in0 usage.NeedsVersion h = unread words in0 _ (refused h) (λ _. (h, tt))
+prepares-usage words in0 usage.Memory h = unread words in0 _ (λ _. refl) (λ _. (tt, tt))
 
 module _ (words : List Text) (s : SettingsView) (taken : settings_for words ≡ Ok s) where
+  -- settings with this property are those of the command line
+  has : {P : SettingsView → Type 0} → P s → HasSettingsWith words P
+  has h = record { settings = s; taken = taken; holds = h }
+
   -- a correct result for the input that is encoded is correct for the command line
   answer-for : (given input : List ℕ) (r : Result DrawingJob Fault) → input_for s given ≡ input
-      → MatchResult r (λ p. IsDrawing s (held s input) (drawing_of_job p)) (IsInputFault s (held s input))
-      → MatchResult r (λ p. HasDrawing words given (drawing_of_job p)) (λ f. IsFault words given f × IsEarly f)
-  answer-for given input (Ok p) e h = record { settings = s; taken = taken; holds = rw e h }
-  answer-for given input (Err (fault.Encode encode.Empty)) e h = (record { settings = s; taken = taken; holds = rw e h }, tt)
-  answer-for given input (Err (fault.Encode encode.TooLong)) e h = (record { settings = s; taken = taken; holds = rw e h }, tt)
-  answer-for given input (Err (fault.Encode encode.TooMany)) e h = (record { settings = s; taken = taken; holds = rw e h }, tt)
+      → IsJobFor s (held s input) r → IsJobGiven words given r
+  answer-for given input (Ok p) e h = has (rw e h)
+  answer-for given input (Err (fault.Encode encode.Empty)) e h = (has (rw e h), tt)
+  answer-for given input (Err (fault.Encode encode.TooLong)) e h = (has (rw e h), tt)
+  answer-for given input (Err (fault.Encode encode.TooMany)) e h = (has (rw e h), tt)
   answer-for given input (Err fault.Memory) e h = (tt, tt)
   answer-for given input (Err _) e h = absurd h
 
-  -- the input is to be read only if no string is among the arguments
-  string-none : ReadsInput words → s.string ≡ None
-  string-none i = let same : Ok i.settings ≡ Ok s = sym i.taken ∙ taken in let e : i.settings ≡ s = cc in rw (← e) i.holds
-
   -- the case that the input is the string of the command line
-  pub prepares-string : (in0 : Reader) (text buf : List ℕ) (n : ℕ) (r : Result DrawingJob Fault) → s.string ≡ Some text → buf ≡ text → n ≡ min INPUT_MAX (length buf)
-      → MatchResult r (λ p. IsDrawing s (held s (take n buf)) (drawing_of_job p)) (IsInputFault s (held s (take n buf)))
-      → Prepares words in0 in0 r
-  prepares-string in0 text buf n r string is cut h = let i = any_input in0.remaining in record {
-    given = i.0;
-    is_input = i.1;
-    reads = record { unread = λ n. refl; read = λ i. absurd (let e : Some text ≡ None = sym string ∙ string-none i in cc) };
-    answer = answer-for i.0 (take n buf) r (input_for-string s text i.0 buf n string is cut) h;
-    read_fault = λ z. no-read-fault r in0.counts (made-unread s _ r h) (unread-well in0.counts z);
-    within = unread-within in0.counts;
-  }
+  pub prepares-string : (in0 : Reader) (text buf : List ℕ) (n : ℕ) (r : Result DrawingJob Fault) → s.string ≡ Some text
+      → buf ≡ text → n ≡ min INPUT_MAX (length buf) → IsJobFor s (held s (take n buf)) r → Prepares words in0 in0 r
+  prepares-string in0 text buf n r string is cut h = unread words in0 r
+      (λ i. let same : Ok i.settings ≡ Ok s = sym i.taken ∙ taken in let none = i.holds in cc)
+      (λ given. answer-for given (take n buf) r (input_for-string s text given buf n string is cut) h)
 
   -- the case that the input is what the reader returned
-  pub prepares-reader : (in0 in1 : Reader) (bytes buf : List ℕ) (r : Result DrawingJob Fault) → s.string ≡ None → buf ≡ bytes
-      → HasRead in0 in1 bytes
-      → MatchResult r (λ p. IsDrawing s (held s buf) (drawing_of_job p)) (IsInputFault s (held s buf))
-      → Prepares words in0 in1 r
+  pub prepares-reader : (in0 in1 : Reader) (bytes buf : List ℕ) (r : Result DrawingJob Fault) → s.string ≡ None
+      → buf ≡ bytes → HasRead in0 in1 bytes → IsJobFor s (held s buf) r → Prepares words in0 in1 r
   prepares-reader in0 in1 bytes buf r string is done h = record {
     given = bytes;
     is_input = done.is_input;
-    reads = record { unread = λ n. absurd (n (record { settings = s; taken = taken; holds = string })); read = λ i. inl done.all };
-    answer = answer-for bytes buf r (input_for-reader s bytes string ∙ sym is) h;
-    read_fault = λ z. no-read-fault r in1.counts (made-unread s _ r h) (done.well z);
+    reads = record { unread = λ n. absurd (n (has string)); read = λ i. inl done.all };
+    answer = answer-for bytes buf r (rw (string, is) refl) h;
+    read_fault = λ z. (λ e. absurd (rw e at h), λ t. absurd (false≢true (sym (done.well z) ∙ t)));
     within = done.within;
   }
 
   -- the case that the reader was at fault, or memory for the input was refused
   pub prepares-unread : (in0 in1 : Reader) (f : Fault) → s.string ≡ None → StopsReading in0 in1 f → Prepares words in0 in1 (Err f)
-  prepares-unread in0 in1 f string stops =
-      let i = any_input in0.remaining in
-      let asked : ReadsInput words = record { settings = s; taken = taken; holds = string } in
-      record {
-        given = i.0;
-        is_input = i.1;
-        reads = record {
-          unread = λ n. absurd (n asked);
-          read = λ _. elim stops.only [ inl e ↦ inr (inl (ap (λ (f : Fault). Err f) e)) | inr e ↦ inr (inr (ap (λ (f : Fault). Err f) e)) ];
-        };
-        answer = elim stops.only [ inl e ↦ rw e (asked, tt) | inr e ↦ rw e (tt, tt) ];
-        read_fault = λ z. (λ e. (stops.read_fault z).0 (same-fault (Err f) f fault.Read refl e), λ t. ap (λ (f : Fault). Err f) ((stops.read_fault z).1 t));
-        within = stops.within;
-      }
+  prepares-unread in0 in1 f string stops = let i = any_input in0.remaining in record {
+    given = i.0;
+    is_input = i.1;
+    reads = record {
+      unread = λ n. absurd (n (has string));
+      read = λ _. elim stops.only [ inl e ↦ inr (inl (rw e refl)) | inr e ↦ inr (inr (rw e refl)) ];
+    };
+    answer = elim stops.only [ inl e ↦ rw e (has string, tt) | inr e ↦ rw e (tt, tt) ];
+    read_fault = λ z. (λ e. (stops.read_fault z).0 (same-fault refl e), λ t. rw ((stops.read_fault z).1 t) refl);
+    within = stops.within;
+  }

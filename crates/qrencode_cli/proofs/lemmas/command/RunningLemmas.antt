@@ -1,17 +1,16 @@
 -- The parts of a run make a correct run.
-use Rattle.std.proofs.Common.{◌≤◌, arith, ◌≡◌, ℕ, List, [], Option, Result, Ok, Err, OnOk, OnErr, is_err, is_ok, max, true, ◌+◌, false, inr, ap, refl, sym, ◌∙◌, append-nil, length}
+use Rattle.qrencode_cli.proofs.lemmas.command.AskingLemmas.{same-fault}
+use Rattle.std.proofs.Common.{◌≤◌, arith, ◌≡◌, ℕ, List, [], Option, Result, Ok, Err, OnOk, OnErr, IfErr, MatchResult, if◌then◌else◌, inl, is_err, is_ok, max, true, ◌+◌, false, inr, ap, refl, sym, ◌∙◌, append-nil, length}
 use Rattle.std.specs.Io.KnownBytes.{Appends, Keeps}
 use Rattle.std.proofs.{lemmas.Bool.false≢true, lemmas.Bool.Decides.nat_tests, KnownBytes.Appends-kept}
-use Rattle.qrencode_cli.proofs.lemmas.command.AskingLemmas.{no-fault, same-fault}
 use Rattle.clap.specs.Walk.{Text}
-use Rattle.qrencode_cli.specs.Command.{DrawnWhole, ErrorHolds, InputConsumed, OutputHolds}
+use Rattle.qrencode_cli.specs.Command.{DrawnWhole, ErrorHolds, HasDrawing, IsFault, OutputHolds, Runs}
 use Rattle.qrencode_cli.specs.Fault.{fault_line}
-use Rattle.qrencode_cli.specs.Steps.Command.{Attempts, Draws, IsEarly, Prepares, drawing_of_job}
+use Rattle.qrencode_cli.specs.Steps.Command.{Attempts, Draws, IsEarly, drawing_of_job}
 use Rattle.qrencode_cli.specs.declared.fault.Fault.{Fault}
 use Rattle.qr_devices.specs.Device.{AppendsBeginning, IsWrittenWithin, Reader, Writer, counted, flush_counted, is_write_fault, no_writes}
 use Rattle.qr_devices.specs.declared.device.{Trouble.Trouble, WriteCounts.WriteCounts}
 use Rattle.qrencode_cli.specs.declared.fault.Fault.TheVariants as fault
-use Rattle.qrencode_cli.specs.declared.drawing_job.DrawingJob.{DrawingJob}
 use Rattle.qr_drawing.specs.declared.pen.{DrawFault.DrawFault, TheConstants.WRITE_MAX}
 
 -- the writer failed in the drawing
@@ -42,7 +41,7 @@ module _ (old mid new : Writer) (drawing : List ℕ) (f : Result (Unit {0}) Trou
   draws-whole is = record {
     ok = rw is at drawn-whole;
     err = tt;
-    fault = λ z. (λ bad. absurd (no-fault (Ok tt) tt fault.Write refl bad), λ i. absurd (false≢true (sym (well z) ∙ rw (e, is) at i)));
+    fault = λ z. (λ bad. cc, λ i. absurd (false≢true (sym (well z) ∙ rw (e, is) at i)));
     within = λ z. let w = within z in rw (e, is) (record { faults = w.faults; interrupted = w.interrupted });
     offered = rw e offered;
   }
@@ -57,75 +56,6 @@ module _ (old mid new : Writer) (drawing : List ℕ) (f : Result (Unit {0}) Trou
     offered = rw e offered;
   }
 
--- writing a drawing reads nothing more from the reader
-reads-on : (words : List Text) (in0 in1 : Reader) (given : List ℕ) (p : DrawingJob) (r : Result (Unit {0}) Fault)
-    → InputConsumed {T = DrawingJob} words in0 in1 given (Ok p) → InputConsumed words in0 in1 given r
-reads-on words in0 in1 given p r h = search arith
-
--- a write fault is no read fault
-write-no-read : fault.Write ≡ fault.Read → ⊥
-write-no-read e = cc
-
--- the case that the drawing was written, or the writer was at fault
-pub attempts-shown : (words : List Text) (in0 in1 : Reader) (out0 out1 : Writer) (p : DrawingJob) → Prepares words in0 in1 (Ok p)
-    → (r : Result (Unit {0}) Fault) → Draws out0 out1 (drawing_of_job p) r → Attempts words in0 in1 out0 out1 r
-attempts-shown words in0 in1 out0 out1 p h (Ok t) d = record {
-  given = h.given;
-  is_input = h.is_input;
-  is_fault = tt;
-  shows = (drawing_of_job p, h.answer, d.ok);
-  reads = reads-on words in0 in1 h.given p (Ok t) h.reads;
-  read_fault = λ z. (λ bad. absurd (no-fault (Ok t) t fault.Read refl bad), λ i. absurd (no-fault (Ok p) p fault.Read refl ((h.read_fault z).1 i)));
-  write_fault = d.fault;
-  input_within = h.within;
-  out_within = d.within;
-  offered = d.offered;
-}
-attempts-shown words in0 in1 out0 out1 p h (Err f) d = let e = d.err.0 in record {
-  given = h.given;
-  is_input = h.is_input;
-  is_fault = rw e (drawing_of_job p, h.answer);
-  shows = rw e (drawing_of_job p, h.answer, d.err.1);
-  reads = reads-on words in0 in1 h.given p (Err f) h.reads;
-  read_fault = λ z. (
-    λ bad. let other : fault.Write ≡ fault.Read = sym e ∙ same-fault (Err f) f fault.Read refl bad in absurd (write-no-read other),
-    λ i. absurd (no-fault (Ok p) p fault.Read refl ((h.read_fault z).1 i)),
-  );
-  write_fault = d.fault;
-  input_within = h.within;
-  out_within = d.within;
-  offered = d.offered;
-}
-
--- a fault before the first byte is written leaves the writer as it was
-shows-nothing : (words : List Text) (given : List ℕ) (out0 : Writer) (f : Fault) → IsEarly f → OutputHolds words given out0 out0 {T = Unit {0}} (Err f)
-shows-nothing words given out0 fault.Write h = absurd h
-shows-nothing words given out0 _ h = refl
-
--- what was done to the reader is the same if a fault's result has another type
-reads-fault : (words : List Text) (in0 in1 : Reader) (given : List ℕ) (f : Fault)
-    → InputConsumed {T = DrawingJob} words in0 in1 given (Err f) → InputConsumed {T = Unit {0}} words in0 in1 given (Err f)
-reads-fault words in0 in1 given f h = search arith
-
--- a run without a drawing job
-pub attempts-refused : (words : List Text) (in0 in1 : Reader) (out0 : Writer) (f : Fault) → Prepares words in0 in1 (Err f)
-    → Attempts words in0 in1 out0 out0 (Err f)
-attempts-refused words in0 in1 out0 f h = record {
-  given = h.given;
-  is_input = h.is_input;
-  is_fault = h.answer.0;
-  shows = shows-nothing words h.given out0 f h.answer.1;
-  reads = reads-fault words in0 in1 h.given f h.reads;
-  read_fault = λ z. (
-    λ e. (h.read_fault z).0 (ap (λ (f : Fault). Err f) (same-fault (Err f) f fault.Read refl e)),
-    λ i. ap (λ (f : Fault). Err f) (same-fault (Err f) f fault.Read refl ((h.read_fault z).1 i)),
-  );
-  write_fault = λ z. (λ e. absurd (rw (same-fault (Err f) f fault.Write refl e) at h.answer.1), λ i. absurd (false≢true (rw z at i)));
-  input_within = h.within;
-  out_within = λ z. rw z (search arith);
-  offered = omega arith;
-}
-
 -- a whole text is a prefix of itself
 begins-all : (old new : Option (List ℕ)) (text : List ℕ) → Appends old new text → AppendsBeginning old new text
 begins-all old new text p = (text, ([], append-nil text), p)
@@ -139,3 +69,67 @@ pub tells-fault : (old new : Writer) (f : Fault) (slice : List ℕ) → slice �
     → ErrorHolds old new (fault_line f)
 tells-fault old new f slice is (Ok t) ok err well many most flushes = search (arith, begins-all)
 tells-fault old new f slice is (Err e) ok err well many most flushes = search arith
+
+-- after a drawing was written, or the writer was at fault
+shown : (words : List Text) (given drawing : List ℕ) (out0 out1 : Writer) (r : Result (Unit {0}) Fault)
+    → HasDrawing words given drawing → Draws out0 out1 drawing r
+    → IfErr r (IsFault words given) × OutputHolds words given out0 out1 r
+shown words given drawing out0 out1 (Ok t) h d = (tt, (drawing, h, d.ok))
+shown words given drawing out0 out1 (Err f) h d = rw d.err.0 ((drawing, h), (drawing, h, d.err.1))
+
+-- a fault before the first byte is written leaves the writer as it was
+shows-nothing : (words : List Text) (given : List ℕ) (out0 out1 : Writer) (f : Fault) → IsEarly f → out1 ≡ out0
+    → OutputHolds words given out0 out1 {T = Unit {0}} (Err f)
+shows-nothing words given out0 out1 fault.Write h e = absurd h
+shows-nothing words given out0 out1 _ h e = e
+
+-- a run with this result, which standard error and the exit status show
+pub runs : (words : List Text) (in0 in1 : Reader) (out0 out1 err0 err1 : Writer) (r : Result (Unit {0}) Fault) (status : ℕ)
+    → Attempts words in0 in1 out0 out1 r → MatchResult r (λ _. err1 ≡ err0) (λ f. ErrorHolds err0 err1 (fault_line f))
+    → status ≡ (if is_ok r then 0 else 1) → (err0.counts ≡ no_writes → IsWrittenWithin err1.counts)
+    → Runs words in0 in1 out0 out1 err0 err1 r status
+runs words in0 in1 out0 out1 err0 err1 r status (inl (job, h, d)) tells is within =
+    let s = shown words h.given (drawing_of_job job) out0 out1 r h.answer d in
+    record {
+      given = h.given;
+      is_input = h.is_input;
+      is_fault = s.0;
+      shows = s.1;
+      reads = record {
+        unread = h.reads.unread;
+        read = λ i. elim (h.reads.read i) [ inl all ↦ inl all | inr (inl bad) ↦ cc | inr (inr bad) ↦ cc ];
+      };
+      tells = tells;
+      status_is = is;
+      read_fault = λ z. (
+        λ bad. let same : fault.Read ≡ fault.Write = (rw bad at d.err).0 in cc,
+        λ t. let bad : Ok job ≡ Err fault.Read = (h.read_fault z).1 t in cc,
+      );
+      write_fault = d.fault;
+      input_within = h.within;
+      out_within = d.within;
+      err_within = within;
+      offered = d.offered;
+    }
+runs words in0 in1 out0 out1 err0 err1 r status (inr (f, e, h, same)) tells is within = record {
+  given = h.given;
+  is_input = h.is_input;
+  is_fault = rw e h.answer.0;
+  shows = rw e (shows-nothing words h.given out0 out1 f h.answer.1 same);
+  reads = rw e (record {
+    unread = h.reads.unread;
+    read = λ i. elim (h.reads.read i) [
+      | inl all ↦ inl all
+      | inr (inl b) ↦ inr (inl (rw (same-fault refl b) refl))
+      | inr (inr b) ↦ inr (inr (rw (same-fault refl b) refl))
+    ];
+  });
+  tells = tells;
+  status_is = is;
+  read_fault = λ z. let k = h.read_fault z in rw e (λ bad. k.0 (rw (same-fault refl bad) refl), λ t. rw (same-fault refl (k.1 t)) refl);
+  write_fault = λ z. (λ bad. absurd (rw (same-fault e bad) at h.answer.1), λ t. absurd (false≢true (rw (same, z) at t)));
+  input_within = h.within;
+  out_within = λ z. rw (same, z) (search arith);
+  err_within = within;
+  offered = rw same (omega arith);
+}

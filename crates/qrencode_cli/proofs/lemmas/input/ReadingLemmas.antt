@@ -1,13 +1,13 @@
 -- The invariant of the loop that reads the input.
-use Rattle.std.proofs.Common.{◌≡◌, ◌+◌, ◌<◌, ◌≤◌, ◌++◌, ◌∙◌, ℕ, List, [], false, length, length-append, take, Option, Some, None, Ok, Err, arith, rules, ap, refl, sym, append-nil, inr}
-use Rattle.std.proofs.{lemmas.List.take_all, lemmas.List.take-append-le, lemmas.List.length-take-le, lemmas.Bool.Decides.nat_tests, lemmas.Bool.false≢true, Math.Seq.take-append_seam, KnownBytes.Consumes-trans}
+use Rattle.std.proofs.Common.{◌≡◌, ◌+◌, ◌<◌, ◌≤◌, ◌++◌, ◌∙◌, ℕ, List, [], false, length, length-append, take, Option, Some, None, Ok, Err, arith, rules, ap, refl, sym, append-nil, inl, inr, ◌⊎◌, ◌-◌, min}
+use Rattle.std.proofs.{lemmas.List.take_all, lemmas.List.take-append-le, lemmas.List.length-take, lemmas.List.length-take-le, lemmas.Bool.Decides.nat_tests, lemmas.Bool.false≢true, Math.Seq.take-append_seam, KnownBytes.Consumes-trans}
 use Rattle.qr_bits.specs.declared.modes.TheConstants.{INPUT_MAX}
 use Rattle.qrencode_cli.specs.Input.{IsInputOf, IsReadWithin}
 use Rattle.qrencode_cli.specs.Steps.Command.{HasRead, StopsReading}
 use Rattle.qrencode_cli.specs.declared.fault.Fault.TheVariants as fault
 use Rattle.std.specs.Io.KnownBytes.{Consumes, IsAtEnd, Keeps}
 use Rattle.qr_devices.specs.Device.{Reader, is_read_fault, no_reads, read_counted}
-use Rattle.qr_devices.specs.declared.device.{ReadCounts.ReadCounts, Trouble.TheVariants.Failed, Trouble.TheVariants.Interrupted}
+use Rattle.qr_devices.specs.declared.device.{ReadCounts.ReadCounts, Trouble.Trouble, Trouble.TheVariants.Failed, Trouble.TheVariants.Interrupted}
 
 -- the counts of a device that started at 0, after `len` bytes and this number of interruptions
 pub record IsCounted (c : ReadCounts) (len interrupted : ℕ) : Type 0 where
@@ -25,24 +25,14 @@ pub record IsReading (old new : Reader) (bytes : List ℕ) (interrupted : ℕ) :
   pub few : interrupted ≤ 999
   pub counted : old.counts ≡ no_reads → IsCounted new.counts (length bytes) interrupted
 
--- `INPUT_MAX` bytes that were read are the input
-pub IsInputOf-full : (a b : Option (List ℕ)) (bytes : List ℕ) → Consumes a b bytes → length bytes ≤ INPUT_MAX → INPUT_MAX ≤ length bytes → IsInputOf a bytes
-IsInputOf-full None b bytes p low high = tt
-IsInputOf-full (Some x) None bytes p low high = absurd p
-IsInputOf-full (Some x) (Some y) bytes p low high =
-    let len : length bytes ≡ INPUT_MAX = omega arith in
-    cc (take-append_seam bytes y)
-
--- all bytes up to the end of the device are the input
-pub IsInputOf-end : (a b c : Option (List ℕ)) (bytes buf : List ℕ) (n : ℕ) → Consumes a b bytes → length bytes ≤ INPUT_MAX
-    → Consumes b c (take n buf) × (n ≡ 0 → 0 < length buf → IsAtEnd c) → n ≡ 0 → 0 < length buf → IsInputOf a bytes
-IsInputOf-end None b c bytes buf n p h (q, end) zero room = tt
-IsInputOf-end (Some x) None c bytes buf n p h (q, end) zero room = absurd p
-IsInputOf-end (Some x) (Some y) None bytes buf n p h (q, end) zero room = absurd q
-IsInputOf-end (Some x) (Some y) (Some z) bytes buf n p h (q, end) zero room =
-    let none : take n buf ≡ [] = rw zero refl in
-    let last : y ≡ [] = q ∙ ap (λ l. l ++ z) none ∙ end zero room in
-    cc (append-nil bytes, take_all INPUT_MAX bytes h)
+-- bytes that were read are the input if they end it or are `INPUT_MAX`
+IsInputOf-read : (a b : Option (List ℕ)) (bytes : List ℕ) → Consumes a b bytes → length bytes ≤ INPUT_MAX
+    → IsAtEnd b ⊎ (INPUT_MAX ≤ length bytes) → IsInputOf a bytes
+IsInputOf-read None b bytes p low end = tt
+IsInputOf-read (Some x) None bytes p low end = absurd p
+IsInputOf-read (Some x) (Some y) bytes p low (inl end) = cc (append-nil bytes, take_all INPUT_MAX bytes low)
+IsInputOf-read (Some x) (Some y) bytes p low (inr high) =
+    let len : length bytes ≡ INPUT_MAX = omega arith in cc (take-append_seam bytes y)
 
 -- counts without a fault are within bounds
 counted-well : (c : ReadCounts) (len i : ℕ) → len ≤ INPUT_MAX → i ≤ 999 → IsCounted c len i → (is_read_fault c ≡ false) × IsReadWithin c
@@ -52,48 +42,46 @@ counted-well c len i short few k = (rw (k.failed, k.interrupted_is) (grind (arit
 pub reading-begins : (a : Reader) (bytes : List ℕ) → bytes ≡ [] → IsReading a a bytes 0
 reading-begins a bytes e = search rules
 
--- the state after one more read of some bytes
-pub reading-more : (old a b : Reader) (bytes buf rest more : List ℕ) (n i : ℕ) → IsReading old a bytes i → (n ≡ 0 → ⊥) → n ≤ length buf
-    → length bytes + length buf ≤ INPUT_MAX → Consumes a.remaining b.remaining (take n buf) → b.counts ≡ read_counted (length buf) (Ok n) a.counts
-    → more ≡ bytes ++ take n (buf ++ rest) → IsReading old b more i
-reading-more old a b bytes buf rest more n i h some le fits q e is =
-    let all : more ≡ bytes ++ take n buf = is ∙ ap (λ l. bytes ++ l) (take-append-le n buf rest le) in
-    let len : length (bytes ++ take n buf) ≡ length bytes + n = length-append bytes (take n buf) ∙ ap (λ k. length bytes + k) (length-take-le n buf le) in
-    rw all (record {
-      given = Consumes-trans old.remaining a.remaining b.remaining bytes (take n buf) h.given q;
-      bounded = omega arith;
-      few = h.few;
-      counted = λ z. let k = h.counted z in rw (e, len) (search rules);
-    })
+-- one more read, into the first bytes of a chunk, returned some bytes
+module _ (old a b : Reader) (bytes buf chunk : List ℕ) (n i most room : ℕ) (h : IsReading old a bytes i) (some : n ≡ 0 → ⊥)
+    (le : n ≤ length buf) (q : Consumes a.remaining b.remaining (take n buf))
+    (e : b.counts ≡ read_counted (length buf) (Ok n) a.counts) (small : length bytes < INPUT_MAX)
+    (is : room ≡ min most (INPUT_MAX - length bytes)) (first : length buf ≡ length (take room chunk)) where
+  -- the state after it
+  pub reading-more : (rest more : List ℕ) → more ≡ bytes ++ take n (buf ++ rest) → IsReading old b more i
+  reading-more rest more m =
+      let fits : length bytes + length buf ≤ INPUT_MAX = omega (arith, length-take room chunk) in
+      let len = length-append bytes (take n buf) ∙ ap (λ k. length bytes + k) (length-take-le n buf le) in
+      rw (m, take-append-le n buf rest le) (record {
+        given = Consumes-trans old.remaining a.remaining b.remaining bytes (take n buf) h.given q;
+        bounded = omega arith;
+        few = h.few;
+        counted = λ z. let k = h.counted z in rw (e, len) (search rules);
+      })
+
+  -- memory for its bytes was refused
+  pub stops-memory : StopsReading old b fault.Memory
+  stops-memory =
+      let r = reading-more [] _ refl in
+      let w = λ (z : old.counts ≡ no_reads). counted-well _ _ _ r.bounded r.few (r.counted z) in
+      record { only = inr refl; read_fault = λ z. (λ bad. cc, λ t. absurd (false≢true (sym (w z).0 ∙ t))); within = λ z. (w z).1 }
 
 -- the state after one more interrupted read
 pub reading-again : (old a b : Reader) (bytes : List ℕ) (len i : ℕ) → IsReading old a bytes i → (i ≡ 999 → ⊥)
     → Keeps a.remaining b.remaining → b.counts ≡ read_counted len (Err Interrupted) a.counts → IsReading old b bytes (i + 1)
 reading-again old a b bytes len i h ne q e = search rules
 
--- memory for the bytes that were read was refused
-pub stops-memory : (old a b : Reader) (bytes buf : List ℕ) (n i : ℕ) → IsReading old a bytes i → (n ≡ 0 → ⊥) → n ≤ length buf
-    → length bytes + length buf ≤ INPUT_MAX → Consumes a.remaining b.remaining (take n buf) → b.counts ≡ read_counted (length buf) (Ok n) a.counts
-    → StopsReading old b fault.Memory
-stops-memory old a b bytes buf n i h some le fits q e =
-    let r = reading-more old a b bytes buf [] (bytes ++ take n (buf ++ [])) n i h some le fits q e refl in
-    let w = λ (z : old.counts ≡ no_reads). counted-well _ _ _ r.bounded r.few (r.counted z) in
-    record { only = inr refl; read_fault = λ z. (λ bad. cc, λ t. absurd (false≢true (sym (w z).0 ∙ t))); within = λ z. (w z).1 }
-
--- the read was interrupted for the 1,000th time
-pub stops-tried : (old a b : Reader) (bytes : List ℕ) (len i : ℕ) → IsReading old a bytes i → i ≡ 999 → length bytes < INPUT_MAX
-    → b.counts ≡ read_counted len (Err Interrupted) a.counts → StopsReading old b fault.Read
-stops-tried old a b bytes len i h last small e = search rules
-
--- the read failed
-pub stops-failed : (old a b : Reader) (bytes : List ℕ) (len i : ℕ) → IsReading old a bytes i → length bytes < INPUT_MAX
-    → b.counts ≡ read_counted len (Err Failed) a.counts → StopsReading old b fault.Read
-stops-failed old a b bytes len i h small e = search rules
+-- the read failed, or was interrupted for the 1,000th time
+pub stops-read : (old a b : Reader) (bytes : List ℕ) (len i : ℕ) (t : Trouble) → IsReading old a bytes i
+    → length bytes < INPUT_MAX → (t ≡ Failed) ⊎ (i ≡ 999) → b.counts ≡ read_counted len (Err t) a.counts → StopsReading old b fault.Read
+stops-read old a b bytes len i Interrupted h small (inl bad) e = cc
+stops-read old a b bytes len i Interrupted h small (inr last) e = search rules
+stops-read old a b bytes len i Failed h small last e = search rules
 
 -- `INPUT_MAX` bytes were read
 pub has-read-full : (old a : Reader) (bytes : List ℕ) (i : ℕ) → IsReading old a bytes i → INPUT_MAX ≤ length bytes → HasRead old a bytes
 has-read-full old a bytes i h high = let low = h.bounded in record {
-  is_input = IsInputOf-full old.remaining a.remaining bytes h.given h.bounded high;
+  is_input = IsInputOf-read old.remaining a.remaining bytes h.given h.bounded (inr high);
   short = h.bounded;
   all = (h.given, λ z. (h.counted z).given, λ z. inr (omega arith));
   well = λ z. (counted-well _ _ _ h.bounded h.few (h.counted z)).0;
@@ -101,14 +89,16 @@ has-read-full old a bytes i h high = let low = h.bounded in record {
 }
 
 -- the device was read to its end
-pub has-read-end : (old a b : Reader) (bytes buf : List ℕ) (n i : ℕ) → IsReading old a bytes i → n ≡ 0 → 0 < length buf → length bytes < INPUT_MAX
-    → Consumes a.remaining b.remaining (take n buf) × (n ≡ 0 → 0 < length buf → IsAtEnd b.remaining)
+pub has-read-end : (old a b : Reader) (bytes buf : List ℕ) (n i : ℕ) → IsReading old a bytes i → n ≡ 0 → 0 < length buf
+    → length bytes < INPUT_MAX → Consumes a.remaining b.remaining (take n buf) × (n ≡ 0 → 0 < length buf → IsAtEnd b.remaining)
     → b.counts ≡ read_counted (length buf) (Ok n) a.counts → HasRead old b bytes
 has-read-end old a b bytes buf n i h zero some small q e =
-    let none : bytes ++ take n buf ≡ bytes = rw zero (append-nil bytes) in record {
-      is_input = IsInputOf-end old.remaining a.remaining b.remaining bytes buf n h.given h.bounded q zero some;
+    let none : bytes ++ take n buf ≡ bytes = rw zero (append-nil bytes) in
+    let given = rw none at (Consumes-trans old.remaining a.remaining b.remaining bytes (take n buf) h.given q.0) in
+    record {
+      is_input = IsInputOf-read old.remaining b.remaining bytes given h.bounded (inl (q.1 zero some));
       short = h.bounded;
-      all = (rw none at (Consumes-trans old.remaining a.remaining b.remaining bytes (take n buf) h.given q.0), search rules, search rules);
+      all = (given, search rules, search rules);
       well = search rules;
       within = search rules;
     }

@@ -1,5 +1,5 @@
 -- A command line and an input have at most one drawing and at most one reason to be refused, and not both.
-use Rattle.std.proofs.Common.{◌≡◌, ◌<◌, ◌≤◌, ◌∙◌, ◌&&◌, ◌==◌, inl, inr, ℕ, suc, Bool, true, false, cond, leb, List, [], length, Option, Some, None, unwrap_or, codes, Result, Ok, Err, refl, ap, sym, subst, arith}
+use Rattle.std.proofs.Common.{◌≡◌, ◌<◌, ◌≤◌, ◌∙◌, ◌&&◌, ◌==◌, inl, inr, ℕ, suc, Bool, true, false, cond, leb, List, [], length, Option, Some, None, unwrap_or, codes, Result, Ok, Err, refl, sym, subst, arith}
 use Rattle.std.specs.{Option.option_map_or, Prelude.option_and_then}
 use borrow.Author.Tests.{leb-true}
 use Rattle.clap.specs.{Words.first_of, Words.one_of, Walk.Row, Walk.Text}
@@ -7,7 +7,7 @@ use Rattle.qr_layout.specs.declared.level.Level.{Level}
 use Rattle.qr_layout.specs.declared.level.Level.TheVariants as level
 use Rattle.qr_bits.proofs.Facts.{empty_fits}
 use Rattle.qr_matrix.specs.Grid.{Grid}
-use Rattle.qr_symbol.specs.{Series.HasNoSeries, Series.IsSeries, VersionChoice.FitsVersion}
+use Rattle.qr_symbol.specs.{VersionChoice.FitsVersion}
 use Rattle.qr_symbol.proofs.Facts.{series-one, symbol-one}
 use Rattle.qrencode_cli.specs.Command.{HasRefusal, IsDrawing, IsRefusal, held, input_for}
 use Rattle.qrencode_cli.specs.Laws.{AnswersAreOne, RefusalsAreOne, RefusalsExcludeDrawings}

@@ -1,4 +1,5 @@
 use Rattle.std.proofs.Common.{◌≡◌, ◌≢◌, ◌↔◌, Result, Ok, Err, String, MatchResult, map, refl, rules}
+use Rattle.std.proofs.lemmas.Result.{err_from_is_err_and}
 use Rattle.std.specs.{Global.Global, String.string_bytes}
 use Rattle.qrencode_cli.specs.Settings.{IsUsageFault, Reason, SettingsView, needs_version, refused_by_clap, settings_for, unknown_level, unknown_type}
 use Rattle.qrencode_cli.specs.declared.settings.UsageFault.{UsageFault}
@@ -27,8 +28,12 @@ come-exactly o (Err usage.NeedsVersion) h = search rules
 
 pub returns : goal.returns
 returns c =
-    let e = come-exactly (settings_for (map string_bytes c.args.words.now)) c.settings_in.result (search rules) in
-    record { settings = search rules; words = e.words; level = e.level; kind = e.kind; version = e.version }
+    let m = c.in_ok-matches.ensures in
+    let s = rw m.rows at c.settings_in.ensures in
+    let e = come-exactly (settings_for (map string_bytes c.args.words.now)) c.settings_in.result (rw m.taken s) in
+    record { settings = rw m.taken s; words = e.words; level = e.level; kind = e.kind; version = e.version }
 
 pub returns-in_err-matches-clause-words : goal.returns-in_err-matches-clause-words
-returns-in_err-matches-clause-words c = (come-exactly (settings_for (map string_bytes c.args.words.now)) c.from_residual.result (search rules)).words
+returns-in_err-matches-clause-words c =
+    let p = err_from_is_err_and c.from_residual.result c.from_residual.ensures.1 in
+    (come-exactly (settings_for (map string_bytes c.args.words.now)) c.from_residual.result (rw (p.1, p.2) c.in_err-matches.ensures.fault)).words
