@@ -1,6 +1,5 @@
 -- The lemmas that attributes of functions name.
-use Rattle.std.proofs.{Common.append-nil, Common.append_assoc}
-use Rattle.std.proofs.lemmas.{Grind.pow_more, List.take_all, List.Sums.sum_by_more}
+use Rattle.std.proofs.{Common.{append-nil, append_assoc}, lemmas.{Grind.pow_more, List.{take_all, Sums.sum_by_more}}}
 use Rattle.qr_bits.proofs.lemmas.bits.BitLemmas.{bits_of-whole, bool_byte-cond, byte-first, drop_bit, filled-none, filled-some, left_at, number-after, power-fits, value_more}
 use Rattle.qr_bits.proofs.lemmas.folding.FoldingLemmas.{length-folded}
 use Rattle.qr_bits.proofs.lemmas.{laws.DataLemmas.length-stream, lower_bound.LeastLemmas.least_held}

@@ -1,8 +1,7 @@
 -- The lemmas that the attributes of functions name.
 use Rattle.qr_matrix.proofs.lemmas.bit_row.PlaceLemmas.{at-step, eight-step, four-step, words-small}
-use Rattle.qr_matrix.proofs.lemmas.bit_row.SumLemmas.{sum_below-more}
+use Rattle.qr_matrix.proofs.lemmas.{bit_row.SumLemmas.sum_below-more, runs.RowLemmas.size-is}
 use Rattle.qr_matrix.proofs.lemmas.matrix.MatrixLemmas.{dark-replicate, filled-dark, filled-light, light-square, masked-bit, masked-past, row-read, rows-long, with_row-same}
-use Rattle.qr_matrix.proofs.lemmas.runs.RowLemmas.{size-is}
 use Rattle.qr_matrix.proofs.lemmas.transposition.TranspositionLemmas.{lower-word, upper-word, word-put, word-read}
 
 -- reading and writing parts of a bit row

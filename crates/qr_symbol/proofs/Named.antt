@@ -1,12 +1,11 @@
 -- The lemmas that the attributes of functions name.
-use Rattle.{qr_layout.proofs.Facts.blocks-sound}
+use Rattle.{qr_layout.proofs.Facts.blocks-sound, std.proofs.lemmas.Bool.Decides.nat_tests}
 use Rattle.qr_symbol.proofs.lemmas.interleaving.{CheckLemmas.slice-in, MessageLemmas.data-sizes-whole}
 use Rattle.qr_symbol.proofs.lemmas.interleaving.PositionLemmas.{start-next, start-none}
 use Rattle.qr_symbol.proofs.lemmas.{laws.DistanceLemmas.messages-apart}
 use Rattle.qr_symbol.proofs.lemmas.placement.{BitLemmas.{eight-bits, one-bit, word-past}, LightLemmas.cleared}
 use Rattle.qr_symbol.proofs.lemmas.{placement.PlacementLemmas.square-is, reading.ReadLemmas.read-grid}
 use Rattle.qr_symbol.proofs.lemmas.series.{PartExistenceLemmas.parts-there, PartLemmas.part-least}
-use Rattle.std.proofs.lemmas.Bool.Decides.{nat_tests}
 
 -- Bits of words and of codewords.
 pub ruleset word_bits = (nat_tests, word-past, eight-bits, one-bit)

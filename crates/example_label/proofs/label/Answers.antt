@@ -1,8 +1,6 @@
 use Rattle.std.proofs.Common.{◌≡◌, ◌≢◌, ◌↔◌, ℕ, suc, ◌+◌, List, [], ◌∷◌, ◌++◌, Result, Err, append_assoc, refl, sym, ap, ◌∙◌, arith}
-use Rattle.std.proofs.lemmas.Result.{err_from_is_err_and}
-use Rattle.std.specs.List.{flat_map, range_with_len}
-use Rattle.example_label.specs.Label.{line_of_row}
-use Rattle.example_label.proofs.LineLemmas.{flat-more}
+use Rattle.std.{proofs.lemmas.Result.err_from_is_err_and, specs.List.{flat_map, range_with_len}}
+use Rattle.example_label.{specs.Label.line_of_row, proofs.LineLemmas.flat-more}
 use Rattle.example_label.proofs.label.Goals as goal
 
 -- if `encode` returns a refusal exactly if P holds, unless memory is refused, so does the call that passes it on

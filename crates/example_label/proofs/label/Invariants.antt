@@ -1,6 +1,4 @@
-use Rattle.std.proofs.Common.{◌≡◌}
-use Rattle.std.specs.List.{flat_map, range_with_len}
-use Rattle.example_label.specs.Label.{line_of_row}
+use Rattle.{std.{proofs.Common.◌≡◌, specs.List.{flat_map, range_with_len}}, example_label.specs.Label.line_of_row}
 use Rattle.example_label.proofs.label.Given as goal
 
 -- the lines of the rows before the current one have been added

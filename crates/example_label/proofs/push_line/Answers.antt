@@ -1,8 +1,6 @@
 use Rattle.std.proofs.Common.{◌≡◌, ℕ, List, [], ◌∷◌, ◌++◌, map, append_assoc, sym, ap, ◌∙◌, arith}
-use Rattle.std.proofs.lemmas.List.FromFn.{map-range_with_len_more}
-use Rattle.std.specs.List.{range_with_len}
-use Rattle.qr_matrix.specs.Grid.{colour}
-use Rattle.example_label.specs.Label.{character_of}
+use Rattle.std.{proofs.lemmas.List.FromFn.map-range_with_len_more, specs.List.range_with_len}
+use Rattle.{qr_matrix.specs.Grid.colour, example_label.specs.Label.character_of}
 use Rattle.example_label.proofs.push_line.Goals as goal
 
 pub loop-col-preserved : goal.loop-col-preserved

@@ -1,7 +1,5 @@
-use Rattle.std.proofs.Common.{◌≡◌, ◌++◌, map}
-use Rattle.std.specs.List.{range_with_len}
-use Rattle.qr_matrix.specs.Grid.{colour}
-use Rattle.example_label.specs.Label.{character_of}
+use Rattle.std.{proofs.Common.{◌≡◌, ◌++◌, map}, specs.List.range_with_len}
+use Rattle.{qr_matrix.specs.Grid.colour, example_label.specs.Label.character_of}
 use Rattle.example_label.proofs.push_line.Given as goal
 
 -- the characters of the modules before the current one have been added

@@ -1,5 +1,4 @@
-use Rattle.std.proofs.Common.{sym, ◌∙◌, false}
-use Rattle.qr_bits.proofs.lemmas.modes.CharacterLemmas.{digit_character}
+use Rattle.{std.proofs.Common.{sym, ◌∙◌, false}, qr_bits.proofs.lemmas.modes.CharacterLemmas.digit_character}
 use Rattle.qr_bits.proofs.best_modes.best_choices.Goals as goal
 
 pub returns-then-pair : goal.returns-then-pair

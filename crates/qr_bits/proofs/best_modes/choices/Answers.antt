@@ -1,9 +1,8 @@
 use Rattle.std.proofs.{Common.◌≡◌, Common.◌+◌, Common.◌<◌, Common.◌≤◌, Common.ℕ, Common.min, Common.refl, Common.ap, Common.◌∙◌, Common.arith, Math.Nat.div-lt_iff_lt-mul, Math.Nat.min-eq_left, lemmas.Nat.pow_pos}
-use Rattle.qr_bits.specs.declared.{modes.Mode.Mode, run_state.RunState.RunState}
+use Rattle.qr_bits.specs.{declared.{modes.Mode.Mode, run_state.RunState.RunState}, Steps.BestModes.{in_state, bits_at}}
 use Rattle.qr_bits.specs.declared.modes.Mode.TheVariants.{Numeric, Alphanumeric, Byte, Kanji}
 use Rattle.qr_bits.specs.declared.run_state.RunState.TheVariants.{Start, Digit1, Digit2, Digit3, Character1, Character2, InBytes, HalfPair, WholePair}
 use Rattle.qr_bits.specs.Steps.RunState.{state_after, byte_cost, may_begin, may_end, choice_number}
-use Rattle.qr_bits.specs.Steps.BestModes.{in_state, bits_at}
 use Rattle.qr_bits.proofs.lemmas.best_modes.ChoiceLemmas.{byte_used, half_choice, least_choice, number_less}
 use Rattle.qr_bits.proofs.best_modes.choices.Goals as goal
 

@@ -1,5 +1,4 @@
-use Rattle.std.proofs.Common.{◌++◌, ◌<◌, ◌^◌, ◌≡◌, take}
-use Rattle.qr_bits.specs.Bits.{bits_of, field}
+use Rattle.{std.proofs.Common.{◌++◌, ◌<◌, ◌^◌, ◌≡◌, take}, qr_bits.specs.Bits.{bits_of, field}}
 use Rattle.qr_bits.proofs.bits.push_bytes.Given as goal
 
 -- the bytes so far are appended

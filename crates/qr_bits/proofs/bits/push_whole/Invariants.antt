@@ -1,5 +1,4 @@
-use Rattle.std.proofs.Common.{◌++◌, ◌≡◌, ◌≤◌}
-use Rattle.qr_bits.specs.Bits.{bits_of, field}
+use Rattle.{std.proofs.Common.{◌++◌, ◌≡◌, ◌≤◌}, qr_bits.specs.Bits.{bits_of, field}}
 use Rattle.qr_bits.proofs.bits.push_whole.Given as goal
 
 -- the bytes so far and the bits that are left are all the bits

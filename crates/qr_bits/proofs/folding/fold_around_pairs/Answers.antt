@@ -1,6 +1,5 @@
 use Rattle.std.proofs.{Common.◌<◌, Common.◌≡◌, Common.ap, Common.append-nil, Common.length, Common.get_or, Common.sym, Common.◌∙◌, Common.arith}
-use Rattle.std.proofs.lemmas.{Bool.eqb-false, Bool.eqb-true, List.take_rest}
-use Rattle.qr_bits.specs.Folding.{folded_around_pairs}
+use Rattle.{std.proofs.lemmas.{Bool.{eqb-false, eqb-true}, List.take_rest}, qr_bits.specs.Folding.folded_around_pairs}
 use Rattle.qr_bits.proofs.lemmas.folding.FoldingLemmas.{begun_with_pair, folded_none, folded_pair, folded_one, length-folded_around_pairs, more_folded, uppercase}
 use Rattle.qr_bits.proofs.folding.fold_around_pairs.Goals as goal
 

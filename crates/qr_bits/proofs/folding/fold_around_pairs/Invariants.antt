@@ -1,5 +1,4 @@
-use Rattle.std.proofs.Common.{◌≡◌, ◌++◌, length}
-use Rattle.qr_bits.specs.Folding.{folded_around_pairs}
+use Rattle.{std.proofs.Common.{◌≡◌, ◌++◌, length}, qr_bits.specs.Folding.folded_around_pairs}
 use Rattle.qr_bits.proofs.folding.fold_around_pairs.Given as goal
 
 -- what is folded and what is left are the whole

@@ -1,7 +1,6 @@
 -- Without kanji mode, a piece of an input needs no more bits than the input.
 use Rattle.std.proofs.Common.{◌≡◌, ℕ, ◌+◌, ◌<◌, ◌≤◌, true, false, List, [], ◌∷◌, ◌++◌, refl, arith}
-use Rattle.std.proofs.lemmas.Bool.{and_parts, and_from, false≢true}
-use Rattle.std.specs.List.{list_all}
+use Rattle.std.{proofs.lemmas.Bool.{and_parts, and_from, false≢true}, specs.List.list_all}
 use Rattle.qr_bits.specs.{declared.modes.Mode.Mode, Modes.may_use, Modes.is_kanji_pair}
 use Rattle.qr_bits.specs.declared.{modes.Mode.TheVariants.Kanji, modes.Rule.Rule, run_state.RunState.RunState}
 use Rattle.qr_bits.specs.declared.run_state.RunState.TheVariants.{Start, Digit1, Digit2, Digit3, Character1, Character2}
@@ -46,8 +45,9 @@ plain r m p h = grind arith
 abbrev CanUse : Rule → List Mode → Type 0
 CanUse r ms = list_all (may_use r) ms ≡ true
 
-front : (v : ℕ) (r : Rule) (p : RunState) (xs ys : List ℕ) (ms : List Mode) → IsPlain r → CanUse r ms → may_end p ≡ true → allowed r is_kanji_pair p (xs ++ ys) ms ≡ true
-    → (ks : List Mode) × CanUse r ks × (allowed r is_kanji_pair p xs ks ≡ true) × (cost_of v p ks ≤ cost_of v p ms)
+front : (v : ℕ) (r : Rule) (p : RunState) (xs ys : List ℕ) (ms : List Mode) → IsPlain r → CanUse r ms →
+    may_end p ≡ true → allowed r is_kanji_pair p (xs ++ ys) ms ≡ true →
+    (ks : List Mode) × CanUse r ks × (allowed r is_kanji_pair p xs ks ≡ true) × (cost_of v p ks ≤ cost_of v p ms)
 unfolding allowed cost_of
 front v r p [] ys ms n u e h = ([], refl, e, omega arith)
 front v r p (x ∷ xs) ys [] n u e h = absurd (false≢true h)

@@ -7,11 +7,9 @@ use Rattle.std.proofs.lemmas.List.{reverse-append, reverse-reverse, take_more, t
 use Rattle.qr_bits.specs.declared.modes.{Mode.Mode, Mode.TheVariants.Kanji, Rule.Rule}
 use Rattle.qr_bits.specs.declared.{segment.Segment.Segment, run_state.PerState.PerState}
 use Rattle.qr_bits.specs.declared.run_state.RunState.{RunState, TheVariants.Start}
-use Rattle.qr_bits.specs.Segmentation.{bits, prepend_mode, runs_of, HasFit}
-use Rattle.qr_bits.specs.Modes.{in_twos, is_kanji_pair, may_use}
+use Rattle.qr_bits.specs.{Segmentation.{bits, prepend_mode, runs_of, HasFit}, Modes.{in_twos, is_kanji_pair, may_use}}
 use Rattle.qr_bits.{specs.Steps.Segmentation.append_mode, proofs.lemmas.run_state.CostLemmas.bits-runs_of}
-use Rattle.qr_bits.specs.Steps.RunState.{swapped, begins_with_pair, may_end}
-use Rattle.qr_bits.specs.Steps.BestModes.{bits_at, follow, IsRow}
+use Rattle.qr_bits.specs.Steps.{RunState.{swapped, begins_with_pair, may_end}, BestModes.{bits_at, follow, IsRow}}
 use Rattle.qr_bits.proofs.lemmas.segment.CoverLemmas.{covers_by, by_covers, suits_by, CoversBy}
 use Rattle.qr_bits.proofs.lemmas.run_state.BestLemmas.{BestBelow, same_rank}
 use Rattle.qr_bits.proofs.lemmas.segmentation.BackLemmas.{runs_of-push, append_mode-last}

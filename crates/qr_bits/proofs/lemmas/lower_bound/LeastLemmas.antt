@@ -1,8 +1,7 @@
 -- `least_bits` is a lower bound on the number of bits of any segments.
 use Rattle.std.proofs.Common.{◌≡◌, ℕ, ◌*◌, ◌≤◌, Bool, true, cond, nat_le, List, [], ◌∷◌, length, take, drop, sum_by, ap, arith, IsTrue}
-use Rattle.std.proofs.lemmas.Bool.{and_parts, false≢true, le-leb}
+use Rattle.std.{proofs.lemmas.Bool.{and_parts, false≢true, le-leb}, specs.List.list_all}
 use Rattle.std.proofs.lemmas.List.{length-take-le, Sums.sum_by-cons, Sums.sum_by-take-drop}
-use Rattle.std.specs.List.{list_all}
 use Rattle.qr_bits.specs.declared.{modes.Mode.Mode, modes.Rule.Rule, segment.Segment.Segment}
 use Rattle.qr_bits.specs.Modes.{is_kanji_pair, is_digit, is_alphanumeric, suits, payload_bits}
 use Rattle.qr_bits.specs.Segmentation.{bits, HasFit, least_sixths, least_bits}

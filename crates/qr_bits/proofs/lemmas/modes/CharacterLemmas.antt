@@ -4,11 +4,10 @@ use Rattle.std.proofs.lemmas.Bool.{and_parts, and_from, cases_lt, false≢true, 
 use Rattle.std.proofs.lemmas.List.{Folds.list_any_none, Folds.list_any_at, Elements.All-from_get_or}
 use Rattle.std.proofs.lemmas.List.Sums.{fails_before_first, passes_at_first, position_or_len_is}
 use borrow.Author.Tests.{leb-true}
-use Rattle.std.specs.List.{list_any, position, position_or_len}
+use Rattle.{std.specs.List.{list_any, position, position_or_len}, qr_layout.proofs.Facts.{below, below-at}}
 use Rattle.qr_bits.specs.declared.modes.{Mode.TheVariants.Numeric, Mode.TheVariants.Alphanumeric, Rule.Rule}
 use Rattle.qr_bits.specs.Modes.{characters, is_alphanumeric, is_digit, character_value, may_use}
 use Rattle.qr_bits.specs.{Steps.RunState.may_begin, Parsing.character}
-use Rattle.qr_layout.proofs.Facts.{below, below-at}
 
 found : (p : ℕ → Bool) (xs : List ℕ) → list_any p xs ≡ true → position_or_len p xs < length xs
 found p xs h = ⊎_elim (λ (l : position_or_len p xs < length xs). l) (λ (l : length xs ≤ position_or_len p xs).

@@ -2,13 +2,11 @@
 use Rattle.std.proofs.Common.{◌≡◌, ℕ, ◌+◌, ◌-◌, ◌*◌, ◌^◌, ◌<◌, ◌≤◌, Bool, true, false, ◌&&◌, cond, leb, List, [], ◌∷◌, length, drop, ap, arith}
 use Rattle.std.proofs.lemmas.{Bool.le-leb, Bool.lt-leb, Bool.and_parts, List.length-drop}
 use borrow.Author.Tests.{leb-true}
-use Rattle.qr_layout.specs.{declared.level.Level.Level, Version.total_codewords_of}
+use Rattle.qr_layout.{specs.{declared.level.Level.Level, Version.total_codewords_of}, proofs.Facts.{below, below-at}}
 use Rattle.qr_layout.specs.Blocks.{correction_len_of, block_count_of, data_codewords_of}
-use Rattle.qr_layout.proofs.Facts.{below, below-at}
 use Rattle.qr_bits.specs.declared.{modes.Mode.Mode, modes.Rule.Rule, segment.Segment.Segment}
 use Rattle.qr_bits.specs.Modes.{is_kanji_pair, character_count, count_width}
-use Rattle.qr_bits.specs.Segmentation.{segment_bits, bits, HasFit}
-use Rattle.qr_bits.specs.{Stream.CountsFit, Padding.capacity_of}
+use Rattle.qr_bits.specs.{Segmentation.{segment_bits, bits, HasFit}, Stream.CountsFit, Padding.capacity_of}
 use Rattle.qr_bits.proofs.lemmas.segment.SegmentLemmas.{segment_least, bits_least}
 use Rattle.qr_bits.proofs.lemmas.segment.CoverLemmas.{CoversBy, covers_suits, covers_by, by_covers}
 

@@ -1,9 +1,8 @@
 -- The data of a segment is read group by group.
 use Rattle.std.proofs.Common.{◌≡◌, ℕ, suc, ◌+◌, ◌*◌, ◌/◌, ◌%◌, ◌^◌, ◌<◌, ◌≤◌, Bool, List, ◌∷◌, ◌++◌, length, take, drop, Result, Ok, Err, inr, refl, sym, ap, ◌∙◌, append_assoc, arith}
 use Rattle.std.proofs.lemmas.{Bool.lt-ltb, Bool.le-ltb, List.length-take, List.length-drop, List.drop-drop}
-use Rattle.std.proofs.Math.Nat.{pow-le-pow_right}
+use Rattle.{std.proofs.Math.Nat.pow-le-pow_right, qr_bits.specs.declared.modes.Mode.TheVariants.{Numeric, Alphanumeric}}
 use Rattle.qr_bits.specs.declared.fault.ParseFault.{ParseFault, TheVariants.BadValue}
-use Rattle.qr_bits.specs.declared.modes.Mode.TheVariants.{Numeric, Alphanumeric}
 use Rattle.qr_bits.specs.{Bits.value, Modes.payload_bits, Steps.Parsing.IsFaultOf, Steps.Parsing.prepend_read}
 use Rattle.qr_bits.specs.Parsing.{◌>>=◌, digit, digits_of, character, characters_of, bytes_of}
 use Rattle.qr_bits.proofs.lemmas.{bits.BitLemmas.value_below, stream.WritingLemmas.three_more}

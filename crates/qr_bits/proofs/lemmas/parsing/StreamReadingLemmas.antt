@@ -6,9 +6,8 @@ use Rattle.std.proofs.lemmas.List.Elements.{All-nil, All-append, All-take, All-d
 use Rattle.std.proofs.Math.Seq.{take-append_seam, drop-append_seam}
 use borrow.Author.Tests.{leb-true}
 use Rattle.qr_bits.specs.declared.{modes.Mode.Mode, segment.Segment.Segment, header.Header.Header}
-use Rattle.qr_bits.specs.{Bits.field, Bits.value}
+use Rattle.qr_bits.specs.{Bits.{field, value}, Header.{header_indicator, header_stream, HeaderFits}}
 use Rattle.qr_bits.specs.Modes.{character_count, count_width, byte_count, payload_bits, suits, indicator}
-use Rattle.qr_bits.specs.Header.{header_indicator, header_stream, HeaderFits}
 use Rattle.qr_bits.specs.Stream.{payload, segment_stream, segments_stream, Suits, CountsFit, IsStream}
 use Rattle.qr_bits.specs.Parsing.{values_of, mode_of, ends, leading_number, payload_at, segment_at, segments_at, segments_of, begins_header, header_at, first_header, Content, parse}
 use Rattle.qr_bits.proofs.lemmas.{bits.BitLemmas.length-field, parsing.PayloadLemmas.value_take_below}

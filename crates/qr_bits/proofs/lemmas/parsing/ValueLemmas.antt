@@ -7,11 +7,10 @@ use Rattle.qr_bits.specs.{declared.modes.Mode.Mode, Stream.character_bits, Strea
 use Rattle.qr_bits.specs.declared.modes.Mode.TheVariants.{Numeric, Alphanumeric, Byte, Kanji}
 use Rattle.qr_bits.specs.{Bits.value, Bits.bits_of, Parsing.characters_of, Parsing.bytes_of, Parsing.values_of}
 use Rattle.qr_bits.specs.Modes.{character_count, is_alphanumeric, byte_count, payload_bits, suits, character_value}
-use Rattle.qr_bits.proofs.lemmas.modes.KanjiLemmas.{pairs_again, pairs_takes}
+use Rattle.qr_bits.proofs.lemmas.{modes.KanjiLemmas.{pairs_again, pairs_takes}, stream.WritingLemmas.two_more}
 use Rattle.qr_bits.proofs.lemmas.modes.CharacterLemmas.{character_found, character_again, character_taken}
 use Rattle.qr_bits.proofs.lemmas.parsing.{PayloadLemmas.value_take_below, ParsingLemmas.bind_ok, ParsingLemmas.same_ok}
 use Rattle.qr_bits.proofs.lemmas.stream.StreamLemmas.{more_written, drop-field, read_field, field_read, digits_again, digits_takes, are_digits, chosen_ok, IsWritten}
-use Rattle.qr_bits.proofs.lemmas.stream.WritingLemmas.{two_more}
 
 characters_again : (xs : List ℕ) (rest : List Bool) → list_all is_alphanumeric xs ≡ true → characters_of (length xs) (character_bits xs ++ rest) ≡ Ok xs
 unfolding characters_of character_bits

@@ -1,12 +1,10 @@
 -- Lists of segments: their bits, their lengths, and what they cover.
 use Rattle.std.proofs.Common.{◌≡◌, ℕ, ◌+◌, ◌*◌, ◌%◌, ◌<◌, ◌≤◌, ◌↔◌, cond, ◌==◌, List, [], ◌∷◌, length, get_or, take, drop, refl, sym, ap, inl, inr, arith, IsTrue, All}
 use Rattle.std.proofs.lemmas.{Bool.cond_both, Bool.eqb-true, List.length-drop, List.drop_all, List.Sums.sum_by-cons}
-use Rattle.std.proofs.{lemmas.List.Elements.All-head, lemmas.List.Elements.All-tail, Math.Seq.drop-cons}
-use Rattle.std.specs.List.{sum_by}
+use Rattle.std.{proofs.{lemmas.List.Elements.{All-head, All-tail}, Math.Seq.drop-cons}, specs.List.sum_by}
 use Rattle.qr_bits.proofs.lemmas.segment.CoverLemmas.{CoversBy, suits-by, covers_by, by_covers}
 use Rattle.qr_bits.specs.declared.modes.{Mode.Mode, Mode.TheVariants.Numeric, Rule.Rule}
-use Rattle.qr_bits.specs.{declared.segment.Segment.Segment, Stream.Suits}
-use Rattle.qr_bits.specs.Modes.{count_width, payload_bits, suits}
+use Rattle.qr_bits.specs.{declared.segment.Segment.Segment, Stream.Suits, Modes.{count_width, payload_bits, suits}}
 use Rattle.qr_bits.specs.Segmentation.{segment_bits, bits, rank, Covers, IsNotAfter, IsLeastSegmentation, HasFit}
 
 -- a count field has at most 16 bits

@@ -5,9 +5,8 @@ use Rattle.qr_bits.specs.declared.modes.{Mode.Mode, Mode.TheVariants.Numeric, Ru
 use Rattle.qr_bits.specs.{declared.segment.Segment.Segment, Steps.Segmentation.one_segment}
 use Rattle.qr_bits.specs.Modes.{is_kanji_pair, suits, may_use, count_width, payload_bits}
 use Rattle.qr_bits.specs.Segmentation.{bits, IsNotAfter, IsLeastSegmentation}
-use Rattle.qr_bits.proofs.lemmas.segment.CoverLemmas.{CoversBy, covers_by, one_covers}
+use Rattle.qr_bits.proofs.lemmas.segment.{CoverLemmas.{CoversBy, covers_by, one_covers}, SegmentLemmas.covers_all}
 use Rattle.qr_bits.proofs.lemmas.segmentation.BackLemmas.{sum_by-runs_of, runs_of-replicate, all_used}
-use Rattle.qr_bits.proofs.lemmas.segment.SegmentLemmas.{covers_all}
 
 digits_bits : (n : ℕ) → payload_bits Numeric n ≡ (10 * n + 2) / 3
 digits_bits n = grind (arith, nat_tests)

@@ -8,11 +8,9 @@ use Rattle.std.proofs.{lemmas.Nat.mod-pow-add, Math.Nat.pow-suc, Math.Nat.mod-eq
 use borrow.Author.Tests.{leb-true}
 use Rattle.qr_bits.specs.declared.{modes.Mode.Mode, modes.Mode.TheVariants.Numeric, fault.ParseFault.ParseFault}
 use Rattle.qr_bits.specs.{Bits.field, Bits.value_from, Bits.value, Stream.digit_bits, Stream.payload}
-use Rattle.qr_bits.specs.Modes.{byte_count, payload_bits, suits, is_digit}
-use Rattle.qr_bits.specs.Parsing.{digit, digits_of}
+use Rattle.qr_bits.specs.{Modes.{byte_count, payload_bits, suits, is_digit}, Parsing.{digit, digits_of}}
 use Rattle.qr_bits.proofs.lemmas.bits.BitLemmas.{length-field, value_below}
-use Rattle.qr_bits.proofs.lemmas.stream.WritingLemmas.{three_more}
-use Rattle.qr_bits.proofs.lemmas.parsing.ParsingLemmas.{bind_ok, same_ok}
+use Rattle.qr_bits.proofs.lemmas.{stream.WritingLemmas.three_more, parsing.ParsingLemmas.{bind_ok, same_ok}}
 
 bit_step : (a d : ℕ) (bs : List Bool) → d < 2 → value_from a ((d == 1) ∷ bs) ≡ value_from (2 * a + d) bs
 bit_step a d bs h = grind arith

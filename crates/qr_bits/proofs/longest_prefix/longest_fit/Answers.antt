@@ -1,5 +1,4 @@
-use Rattle.std.proofs.Common.{◌-◌}
-use Rattle.qr_bits.proofs.lemmas.segmentation.BytesOnlyLemmas.{bytes_longest}
+use Rattle.{std.proofs.Common.◌-◌, qr_bits.proofs.lemmas.segmentation.BytesOnlyLemmas.bytes_longest}
 use Rattle.qr_bits.proofs.longest_prefix.longest_fit.Goals as goal
 
 pub returns-in-BytesOnly : goal.returns-in-BytesOnly

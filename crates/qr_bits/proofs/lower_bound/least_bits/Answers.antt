@@ -1,6 +1,5 @@
 use Rattle.std.proofs.{Common.◌∙◌, Common.sum_by, Common.ap, Common.arith, lemmas.List.take_all}
-use Rattle.qr_bits.specs.Segmentation.{least_sixths, least_bits}
-use Rattle.qr_bits.proofs.lemmas.lower_bound.LeastLemmas.{least_held}
+use Rattle.qr_bits.{specs.Segmentation.{least_sixths, least_bits}, proofs.lemmas.lower_bound.LeastLemmas.least_held}
 use Rattle.qr_bits.proofs.lower_bound.least_bits.Goals as goal
 
 pub returns-clause-least : goal.returns-clause-least

@@ -1,5 +1,4 @@
-use Rattle.std.proofs.Common.{◌≡◌, ◌≤◌, ◌*◌, sum_by, take}
-use Rattle.qr_bits.specs.Segmentation.{least_sixths}
+use Rattle.{std.proofs.Common.{◌≡◌, ◌≤◌, ◌*◌, sum_by, take}, qr_bits.specs.Segmentation.least_sixths}
 use Rattle.qr_bits.proofs.lower_bound.least_bits.Given as goal
 
 abbrev pub invariant-loop-byte : goal.invariant-loop-byte

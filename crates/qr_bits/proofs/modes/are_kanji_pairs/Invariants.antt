@@ -1,5 +1,4 @@
-use Rattle.std.proofs.Common.{◌≡◌, length}
-use Rattle.qr_bits.specs.Modes.{in_twos, is_kanji_pair}
+use Rattle.{std.proofs.Common.{◌≡◌, length}, qr_bits.specs.Modes.{in_twos, is_kanji_pair}}
 use Rattle.qr_bits.proofs.modes.are_kanji_pairs.Given as goal
 
 -- what is left is in twos where the whole is

@@ -1,6 +1,5 @@
 use Rattle.std.proofs.Common.{◌≡◌, ◌+◌, ◌-◌, arith, append_assoc}
-use Rattle.qr_bits.specs.Padding.{pads}
-use Rattle.qr_bits.proofs.lemmas.padding.PaddingLemmas.{pads-even, pads-odd}
+use Rattle.qr_bits.{specs.Padding.pads, proofs.lemmas.padding.PaddingLemmas.{pads-even, pads-odd}}
 use Rattle.qr_bits.proofs.padding.pad.Goals as goal
 use Rattle.qr_bits.proofs.padding.pad.Goals.{then-i-first-eq0, else-i-first-eq0}
 

@@ -1,5 +1,4 @@
-use Rattle.std.proofs.Common.{◌≡◌, ◌-◌, ◌≤◌, ◌++◌}
-use Rattle.qr_bits.specs.Padding.{pads}
+use Rattle.{std.proofs.Common.{◌≡◌, ◌-◌, ◌≤◌, ◌++◌}, qr_bits.specs.Padding.pads}
 use Rattle.qr_bits.proofs.padding.pad.Given as goal
 
 -- the pad codewords so far

@@ -1,6 +1,5 @@
 use Rattle.std.proofs.Common.{◌≡◌, ℕ, List, ◌+◌, ◌-◌, [], ◌∷◌, Ok, ap, append-nil, arith, sym, ◌∙◌}
-use Rattle.qr_bits.specs.Parsing.{bytes_of}
-use Rattle.qr_bits.proofs.lemmas.parsing.PayloadLemmas.{bytes_step, group_read}
+use Rattle.qr_bits.{specs.Parsing.bytes_of, proofs.lemmas.parsing.PayloadLemmas.{bytes_step, group_read}}
 use Rattle.qr_bits.proofs.parsing.bytes.Goals as goal
 
 pub loop-preserved : goal.loop-preserved

@@ -1,6 +1,5 @@
 use Rattle.std.proofs.Common.{◌*◌, ◌-◌, drop, Ok}
-use Rattle.qr_bits.specs.{Parsing.bytes_of, Steps.Parsing.prepend_read}
-use Rattle.qr_bits.proofs.lemmas.parsing.PayloadLemmas.{IsReading}
+use Rattle.qr_bits.{specs.{Parsing.bytes_of, Steps.Parsing.prepend_read}, proofs.lemmas.parsing.PayloadLemmas.IsReading}
 use Rattle.qr_bits.proofs.parsing.bytes.Given as goal
 
 abbrev pub invariant-loop : goal.invariant-loop

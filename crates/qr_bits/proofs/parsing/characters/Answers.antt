@@ -1,5 +1,4 @@
-use Rattle.std.proofs.Common.{◌-◌, [], ◌∷◌, refl, arith}
-use Rattle.std.proofs.lemmas.Bool.{le-ltb}
+use Rattle.std.proofs.{Common.{◌-◌, [], ◌∷◌, refl, arith}, lemmas.Bool.le-ltb}
 use Rattle.qr_bits.specs.{Parsing.characters_of}
 use Rattle.qr_bits.proofs.lemmas.parsing.PayloadLemmas.{characters_step, group_read, fails}
 use Rattle.qr_bits.proofs.parsing.characters.Goals as goal

@@ -1,6 +1,5 @@
-use Rattle.std.proofs.Common.{drop}
+use Rattle.{std.proofs.Common.drop, qr_bits.proofs.lemmas.parsing.PayloadLemmas.IsReading}
 use Rattle.qr_bits.specs.{declared.modes.Mode.TheVariants.Numeric, Modes.payload_bits, Parsing.digits_of, Steps.Parsing.prepend_read}
-use Rattle.qr_bits.proofs.lemmas.parsing.PayloadLemmas.{IsReading}
 use Rattle.qr_bits.proofs.parsing.digits.Given as goal
 
 abbrev pub invariant-loop-left : goal.invariant-loop-left

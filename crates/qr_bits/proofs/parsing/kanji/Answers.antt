@@ -1,6 +1,5 @@
 use Rattle.std.proofs.Common.{◌-◌, ◌/◌, ◌%◌, [], ◌∷◌, arith}
-use Rattle.qr_bits.{proofs.lemmas.modes.KanjiLemmas.pairs_step}
-use Rattle.qr_bits.proofs.lemmas.parsing.PayloadLemmas.{group_read, fails}
+use Rattle.qr_bits.proofs.lemmas.{modes.KanjiLemmas.pairs_step, parsing.PayloadLemmas.{group_read, fails}}
 use Rattle.qr_bits.proofs.parsing.kanji.Goals as goal
 
 pub returns-then-value-gt-LOW_MAX : goal.returns-then-value-gt-LOW_MAX

@@ -1,6 +1,5 @@
 use Rattle.std.proofs.Common.{◌*◌, drop}
-use Rattle.qr_bits.specs.{Parsing.pairs_of, Steps.Parsing.prepend_read}
-use Rattle.qr_bits.proofs.lemmas.parsing.PayloadLemmas.{IsReading}
+use Rattle.qr_bits.{specs.{Parsing.pairs_of, Steps.Parsing.prepend_read}, proofs.lemmas.parsing.PayloadLemmas.IsReading}
 use Rattle.qr_bits.proofs.parsing.kanji.Given as goal
 
 abbrev pub invariant-loop-left : goal.invariant-loop-left

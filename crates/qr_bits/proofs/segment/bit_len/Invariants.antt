@@ -1,5 +1,4 @@
-use Rattle.std.proofs.Common.{◌≡◌, ◌+◌, drop}
-use Rattle.qr_bits.specs.Segmentation.{bits}
+use Rattle.{std.proofs.Common.{◌≡◌, ◌+◌, drop}, qr_bits.specs.Segmentation.bits}
 use Rattle.qr_bits.proofs.segment.bit_len.Given as goal
 
 -- the bits so far and those of the rest

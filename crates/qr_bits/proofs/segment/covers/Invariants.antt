@@ -1,5 +1,4 @@
-use Rattle.std.proofs.Common.{drop}
-use Rattle.qr_bits.specs.Segmentation.{Covers}
+use Rattle.{std.proofs.Common.drop, qr_bits.specs.Segmentation.Covers}
 use Rattle.qr_bits.proofs.segment.covers.Given as goal
 
 -- the segments so far cover what is no more in the rest

@@ -1,6 +1,5 @@
 use Rattle.std.proofs.{Common.arith, Common.append_assoc, Common.sym, Common.◌∙◌, lemmas.Bool.and_parts, lemmas.List.take_rest}
-use Rattle.qr_bits.specs.Modes.{is_kanji_pair}
-use Rattle.qr_bits.proofs.lemmas.stream.WritingLemmas.{in_twos-step, kanji_two}
+use Rattle.qr_bits.{specs.Modes.is_kanji_pair, proofs.lemmas.stream.WritingLemmas.{in_twos-step, kanji_two}}
 use Rattle.qr_bits.proofs.stream.put_kanji.Goals as goal
 
 pub loop-rest-preserved : goal.loop-rest-preserved

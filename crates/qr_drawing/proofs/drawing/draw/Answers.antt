@@ -1,5 +1,4 @@
-use Rattle.std.proofs.lemmas.Result.{err_from_is_err_and}
-use Rattle.qr_drawing.proofs.lemmas.pen.WritingLemmas.{emptied, written}
+use Rattle.{std.proofs.lemmas.Result.err_from_is_err_and, qr_drawing.proofs.lemmas.pen.WritingLemmas.{emptied, written}}
 use Rattle.qr_drawing.proofs.drawing.draw.Goals as goal
 
 pub returns-in_err-put_drawing : goal.returns-in_err-put_drawing

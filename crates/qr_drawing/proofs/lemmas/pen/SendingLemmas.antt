@@ -2,11 +2,10 @@
 use Rattle.std.proofs.Common.{◌≡◌, ◌≤◌, ◌<◌, ◌+◌, ◌^◌, ◌++◌, ◌∙◌, ℕ, zero, suc, List, [], ◌∷◌, Option, None, Some, Result, append-nil, length, Ok, Err, true, ap, refl, arith, max, take, drop}
 use Rattle.std.proofs.lemmas.{List.length-take-le, List.take-append-drop, Bool.Decides.nat_tests}
 use Rattle.std.proofs.{Math.Seq.take-add, KnownBytes.Appends-kept, KnownBytes.Appends-nil}
-use Rattle.std.specs.Io.KnownBytes.{Appends, Keeps}
+use Rattle.{std.specs.Io.KnownBytes.{Appends, Keeps}, qr_drawing.specs.Steps.Writing.{IsWell, Stops, Writes}}
 use Rattle.qr_devices.specs.Device.{IsWrittenWithin, Writer, counted, is_write_fault, write_counted}
 use Rattle.qr_devices.specs.declared.device.Trouble.{Trouble, TheVariants.Interrupted, TheVariants.Failed}
 use Rattle.qr_devices.specs.declared.device.WriteCounts.{WriteCounts}
-use Rattle.qr_drawing.specs.Steps.Writing.{IsWell, Stops, Writes}
 use Rattle.qr_drawing.proofs.lemmas.pen.WritingLemmas.{writes_on, writes_stop}
 
 -- the writer took some of the bytes that a write offered
@@ -23,8 +22,8 @@ nothing_more (Some y) None buf n e q = absurd q
 nothing_more (Some y) (Some z) buf n e q = q ∙ ap (λ k. y ++ take k buf) e ∙ append-nil y
 
 -- no write offered more than a piece
-offered-after : (u : ℕ) (v w : WriteCounts) (len : ℕ) (r : Result ℕ Trouble) → w ≡ write_counted len r v → len ≤ 1200
-    → v.offered ≤ max u 1200 → w.offered ≤ max u 1200
+offered-after : (u : ℕ) (v w : WriteCounts) (len : ℕ) (r : Result ℕ Trouble) → w ≡ write_counted len r v →
+    len ≤ 1200 → v.offered ≤ max u 1200 → w.offered ≤ max u 1200
 offered-after u v w len r e short h = grind arith
 
 -- a write is no flush
@@ -44,10 +43,11 @@ within-after v w len tries (Err Failed) e h =
     rw e (record { faults = rw (f, z) (omega arith); interrupted = rw t (omega arith) })
 
 -- the writes of n bytes, and of some more
-pub sends_more : (a b c : Writer) (bytes : List ℕ) (at len n i j k : ℕ) → Writes a b i j (take at bytes) []
-    → n ≤ length (take len (drop at bytes)) → length (take len (drop at bytes)) ≤ 1200 → (n ≡ 0 → ⊥) → j ≡ k
-    → Appends b.taken c.taken (take n (take len (drop at bytes)))
-    → c.counts ≡ write_counted (length (take len (drop at bytes))) (Ok n) b.counts → Writes a c i k (take (at + n) bytes) []
+pub sends_more : (a b c : Writer) (bytes : List ℕ) (at len n i j k : ℕ) → Writes a b i j (take at bytes) [] →
+    n ≤ length (take len (drop at bytes)) → length (take len (drop at bytes)) ≤ 1200 → (n ≡ 0 → ⊥) →
+    j ≡ k → Appends b.taken c.taken (take n (take len (drop at bytes))) →
+    c.counts ≡ write_counted (length (take len (drop at bytes))) (Ok n) b.counts →
+    Writes a c i k (take (at + n) bytes) []
 sends_more a b c bytes at len n i j k p le short some same q e =
     let buf = take len (drop at bytes) in
     let z : length (take n buf) ≡ n = length-take-le n buf le in
@@ -65,8 +65,9 @@ sends_more a b c bytes at len n i j k p le short some same q e =
     rw (take-add at n bytes, ← take-offered n len (drop at bytes) le) (writes_on a b c i j k [] [] [] (take at bytes) (take n buf) p one)
 
 -- a write was interrupted, and is tried again
-pub sends_again : (a b c : Writer) (text : List ℕ) (len i j : ℕ) → Writes a b i j text [] → len ≤ 1200 → j + 1 < 1000
-    → Keeps b.taken c.taken → c.counts ≡ write_counted len (Err Interrupted) b.counts → Writes a c i (j + 1) text []
+pub sends_again : (a b c : Writer) (text : List ℕ) (len i j : ℕ) → Writes a b i j text [] → len ≤ 1200 →
+    j + 1 < 1000 → Keeps b.taken c.taken → c.counts ≡ write_counted len (Err Interrupted) b.counts →
+    Writes a c i (j + 1) text []
 sends_again a b c text len i j p short few q e =
     let one : Writes b c j (j + 1) [] [] = record {
       sends = record {
@@ -105,8 +106,8 @@ refused-zero a b c text buf at n i j none p some short q e =
     (λ h. let f = h.failed in let z = h.zeros in rw (e, none, f, z) (grind (arith, nat_tests)))
 
 -- the write failed
-pub refused-failed : (a b c : Writer) (text : List ℕ) (at len i j : ℕ) → Writes a b i j (take at text) [] → len ≤ 1200
-    → Keeps b.taken c.taken → c.counts ≡ write_counted len (Err Failed) b.counts → Stops a c i text
+pub refused-failed : (a b c : Writer) (text : List ℕ) (at len i j : ℕ) → Writes a b i j (take at text) [] →
+    len ≤ 1200 → Keeps b.taken c.taken → c.counts ≡ write_counted len (Err Failed) b.counts → Stops a c i text
 refused-failed a b c text at len i j p short q e =
     refused a b c text at len i j (Err Failed) p short q e (λ fits. rw e (omega arith)) (λ h. let f = h.failed in rw (e, f) refl)
 

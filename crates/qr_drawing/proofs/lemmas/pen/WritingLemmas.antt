@@ -1,10 +1,8 @@
 -- How the written parts of a text join.
 use Rattle.std.proofs.Common.{◌≡◌, ◌++◌, ◌∙◌, ℕ, List, [], MatchResult, OnErr, OnOk, is_err, max, Option, Result, Ok, Err, append_assoc, append-nil, refl, sym, ap, arith, rules, ◌<◌, ◌≤◌, ◌+◌, ◌^◌, length, length-append, subst}
-use Rattle.std.proofs.KnownBytes.{Appends-trans, Appends-nil}
-use Rattle.std.specs.Io.KnownBytes.{Appends}
+use Rattle.std.{proofs.KnownBytes.{Appends-trans, Appends-nil}, specs.Io.KnownBytes.Appends}
 use Rattle.qr_devices.specs.Device.{AppendsBeginning, IsWrittenWithin, Writer, counted, is_write_fault, no_writes}
-use Rattle.qr_drawing.specs.Steps.Pen.{Reserves}
-use Rattle.qr_drawing.specs.Steps.Writing.{Sends, Stops, Writes}
+use Rattle.qr_drawing.specs.Steps.{Pen.Reserves, Writing.{Sends, Stops, Writes}}
 use Rattle.qr_drawing.specs.declared.pen.{DrawFault.DrawFault, Pen.Pen}
 
 -- counts of bytes add up
@@ -30,8 +28,8 @@ Sends-trans a b c h0 h1 h2 x y p q = record {
 }
 
 -- what was sent, followed by a prefix of the rest, is a prefix of the whole
-Sends-stops : (a b c : Writer) (h0 h1 x y : List ℕ)
-    → Sends a b (h0 ++ x) h1 → AppendsBeginning b.taken c.taken (h1 ++ y) → AppendsBeginning a.taken c.taken (h0 ++ (x ++ y))
+Sends-stops : (a b c : Writer) (h0 h1 x y : List ℕ) → Sends a b (h0 ++ x) h1 →
+    AppendsBeginning b.taken c.taken (h1 ++ y) → AppendsBeginning a.taken c.taken (h0 ++ (x ++ y))
 Sends-stops a b c h0 h1 x y p (t, (rest, f), q) = (
   p.sent ++ t,
   (rest, cc (append_assoc p.sent t rest, f, append_assoc p.sent h1 y, p.whole, append_assoc h0 x y)),

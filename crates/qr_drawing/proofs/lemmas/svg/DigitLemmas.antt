@@ -1,7 +1,6 @@
 -- Numbers that are written digit by digit.
 use Rattle.std.proofs.Common.{◌≡◌, ℕ, ◌+◌, ◌/◌, ◌%◌, ◌<◌, ◌≤◌, ◌^◌, List, [], ◌∷◌, ◌++◌, sym, ◌∙◌, ap, append_assoc}
-use Rattle.std.proofs.lemmas.Fmt.{decimal_digit, decimal_step}
-use Rattle.std.specs.Prelude.{decimal}
+use Rattle.std.{proofs.lemmas.Fmt.{decimal_digit, decimal_step}, specs.Prelude.decimal}
 
 -- a number of one digit
 pub one_digit : (h t : List ℕ) (n : ℕ) → n < 10 → t ≡ h ++ (48 + n) ∷ [] → t ≡ h ++ decimal n

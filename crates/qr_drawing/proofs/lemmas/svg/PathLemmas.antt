@@ -2,15 +2,12 @@
 use Rattle.std.proofs.Common.{◌≡◌, ◌≤◌, ◌<◌, ◌+◌, ◌-◌, ◌*◌, ◌++◌, ◌∙◌, ◌&&◌, leb, ltb, ℕ, zero, suc, Bool, true, false, List, [], ◌∷◌, length, map, get_or, refl, sym, ap, arith, append_assoc, append-nil, inl, inr}
 use Rattle.std.proofs.{Math.Nat.suc-mul, lemmas.Bool.cases_lt, lemmas.Bool.Decides.nat_tests}
 use Rattle.std.proofs.lemmas.List.{get_or-map, length-map, Elements.All-get_or}
-use Rattle.std.specs.Prelude.{codes}
-use Rattle.std.specs.List.{flat_map, prefix_len, range_with_len}
-use Rattle.qr_matrix.specs.Grid.{Grid, colour, light}
-use Rattle.qr_matrix.specs.{DarkRuns.AreDarkRuns, declared.dark_runs.Run.Run}
+use Rattle.std.specs.{Prelude.codes, List.{flat_map, prefix_len, range_with_len}}
+use Rattle.qr_matrix.specs.{Grid.{Grid, colour, light}, DarkRuns.AreDarkRuns, declared.dark_runs.Run.Run}
 use Rattle.qr_matrix.proofs.Facts.{AreRunsFrom, all-runs, other-runs, run-colours, run-in}
-use Rattle.qr_drawing.specs.Drawing.{HaveOneSide}
+use Rattle.qr_drawing.specs.{Drawing.HaveOneSide, Steps.Svg.{head, tail}}
 use Rattle.qr_drawing.specs.Raster.{is_dark_at, raster_width, texts_below}
 use Rattle.qr_drawing.specs.Svg.{background, begins_run, box_path, closing, declaration, foreground, opening, row_path, run_length, run_path, square_at, stack_path, svg_document, symbol_path}
-use Rattle.qr_drawing.specs.Steps.Svg.{head, tail}
 use Rattle.qr_drawing.proofs.lemmas.text.LineLemmas.{texts_below-more, texts_below-none, texts_below-same, texts-of-items}
 
 -- a place of the symbol has its colour
@@ -217,8 +214,8 @@ one_width grid margin k xs x one lt is =
     ap (λ m. 2 * margin + m) (ap (λ g. g.side) (sym (square_at-item grid xs k x lt is)) ∙ here)
 
 -- the texts of a list of k symbols
-pub texts-of-symbols : {T : Type 0} (grid : T → Grid) (text : Grid → List ℕ) (xs : List T) (k : ℕ) → k ≡ length xs
-    → flat_map text (map grid xs) ≡ texts_below k (λ n. text (square_at (map grid xs) n))
+pub texts-of-symbols : {T : Type 0} (grid : T → Grid) (text : Grid → List ℕ) (xs : List T) (k : ℕ) →
+    k ≡ length xs → flat_map text (map grid xs) ≡ texts_below k (λ n. text (square_at (map grid xs) n))
 texts-of-symbols grid text xs k e =
     texts-of-items text (map grid xs) (light 0)
     ∙ ap (λ m. texts_below m (λ n. text (square_at (map grid xs) n))) (length-map xs grid ∙ sym e)
@@ -261,9 +258,9 @@ lines_of width height margin squares =
     declaration ++ opening width height ++ background width height ++ foreground margin squares ++ closing
 
 -- the parts of the document
-pub document-parts : {T : Type 0} (grid : T → Grid) (margin width height : ℕ) (xs : List T) (x : T) → 0 < length xs
-    → width ≡ raster_width margin (grid (get_or xs 0 x)) → height ≡ width * length xs
-    → svg_document margin (map grid xs) ≡ (head width height ++ stack_path margin (map grid xs)) ++ tail
+pub document-parts : {T : Type 0} (grid : T → Grid) (margin width height : ℕ) (xs : List T) (x : T) →
+    0 < length xs → width ≡ raster_width margin (grid (get_or xs 0 x)) → height ≡ width * length xs →
+    svg_document margin (map grid xs) ≡ (head width height ++ stack_path margin (map grid xs)) ++ tail
 unfolding svg_document foreground head tail lines_of
 document-parts grid margin width height xs x some e f =
     let n : length (map grid xs) ≡ length xs = length-map xs grid in

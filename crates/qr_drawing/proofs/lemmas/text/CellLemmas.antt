@@ -2,11 +2,9 @@
 use Rattle.std.proofs.Common.{◌≡◌, ◌++◌, ◌∙◌, ◌<◌, ◌≤◌, ◌+◌, ◌-◌, ◌*◌, ◌/◌, ◌%◌, ◌^◌, ◌&&◌, ℕ, Bool, true, false, not, List, [], ◌∷◌, length, get_or, nat_eq, length-append, append-nil, append_assoc, length-drop, take, drop, refl, sym, ap, arith}
 use Rattle.std.proofs.{Math.Nat.add-mul, Math.Nat.mul-le-mul_right, Math.Seq.take-append_seam, lemmas.List.drop_all}
 use Rattle.std.specs.Cmp.Lexicographic.{pointwise, same_text}
-use Rattle.qr_matrix.specs.Grid.{Grid, colour, is_same}
-use Rattle.qr_matrix.specs.{BitRow.has_bit, Sums.all_below}
+use Rattle.qr_matrix.specs.{Grid.{Grid, colour, is_same}, BitRow.has_bit, Sums.all_below}
 use Rattle.qr_matrix.proofs.Facts.{&&-left, &&-right, below-at, has_bit-shr, low-bits, same-same}
-use Rattle.qr_drawing.specs.Raster.{is_dark_at, raster_width, texts_below}
-use Rattle.qr_drawing.specs.Text.{cell_of, cells_of_line, half_blocks}
+use Rattle.qr_drawing.specs.{Raster.{is_dark_at, raster_width, texts_below}, Text.{cell_of, cells_of_line, half_blocks}}
 use Rattle.qr_drawing.specs.Steps.Text.{AreDark, bits_text, cell_at, cell_room, cell_text, pair_text, top_row}
 use Rattle.qr_drawing.specs.declared.text.{TheConstants.ASCII_QUADS, TextStyle.TextStyle}
 use Rattle.qr_drawing.specs.declared.text.TextStyle.TheVariants.{Plain, Inverse, HalfBlocks}
@@ -31,9 +29,11 @@ dark_eight margin g y row col bits e inside h k lt col_in =
     h k lt ∙ sym (ap (λ r. is_dark_at margin g r (margin + (col + k))) (sym e) ∙ is_dark_at_inside margin row (col + k) g inside col_in)
 
 -- n cells of columns of the square that are added to the cells before them
-pub added-cells : (style : TextStyle) (margin : ℕ) (g : Grid) (row col n upper lower : ℕ) (h t u : List ℕ) → n ≤ 8 → col + n ≤ g.side
-    → AreDark margin g row col upper → AreDark margin g (row + 1) col lower → t ≡ h ++ texts_below col (λ i. cell_at style margin g row (margin + i))
-    → u ≡ t ++ bits_text n style upper lower → u ≡ h ++ texts_below (col + n) (λ i. cell_at style margin g row (margin + i))
+pub added-cells : (style : TextStyle) (margin : ℕ) (g : Grid) (row col n upper lower : ℕ) (h t u : List ℕ) →
+    n ≤ 8 → col + n ≤ g.side → AreDark margin g row col upper → AreDark margin g (row + 1) col lower →
+    t ≡ h ++ texts_below col (λ i. cell_at style margin g row (margin + i)) →
+    u ≡ t ++ bits_text n style upper lower →
+    u ≡ h ++ texts_below (col + n) (λ i. cell_at style margin g row (margin + i))
 added-cells style margin g row col n upper lower h t u few fits up down p q =
     added_more h t u col n (λ i. cell_at style margin g row (margin + i)) (λ k. cell_text style (has_bit upper k) (has_bit lower k)) p q
     (texts_below-alike n (λ k. cell_text style (has_bit upper k) (has_bit lower k)) (λ k. cell_at style margin g row (margin + (col + k)))
@@ -176,9 +176,9 @@ room-quad h t upper lower e fits =
     room-left h t 4 4 8 3 1200 (λ k. cell_text HalfBlocks (has_bit upper k) (has_bit lower k)) (λ k. cell-length HalfBlocks _ _) e (omega arith) fits
 
 -- if there was room for `count` cells of a row, then after `done` of them there is room for n more
-pub room-cells : (style : TextStyle) (margin : ℕ) (g : Grid) (row first done n count : ℕ) (h t : List ℕ)
-    → t ≡ h ++ texts_below done (λ i. cell_at style margin g row (first + i)) → done + n ≤ count → length h + count * cell_room style ≤ 1200
-    → length t + n * cell_room style ≤ 1200
+pub room-cells : (style : TextStyle) (margin : ℕ) (g : Grid) (row first done n count : ℕ) (h t : List ℕ) →
+    t ≡ h ++ texts_below done (λ i. cell_at style margin g row (first + i)) → done + n ≤ count →
+    length h + count * cell_room style ≤ 1200 → length t + n * cell_room style ≤ 1200
 room-cells style margin g row first done n count h t e le fits =
     room-left h t done n count (cell_room style) 1200 (λ i. cell_at style margin g row (first + i)) (λ k. cell-length style _ _) e le fits
 
@@ -187,8 +187,9 @@ cell-of : (style : TextStyle) (margin : ℕ) (g : Grid) (y x : ℕ) → cell_of 
 cell-of style margin g y x = grind arith
 
 -- the cells of columns that are light
-light-cells : (style : TextStyle) (margin : ℕ) (g : Grid) (row first n : ℕ) → ((y k : ℕ) → k < n → is_dark_at margin g y (first + k) ≡ false)
-    → texts_below n (λ i. cell_at style margin g row (first + i)) ≡ texts_below n (λ _. cell_text style false false)
+light-cells : (style : TextStyle) (margin : ℕ) (g : Grid) (row first n : ℕ) →
+    ((y k : ℕ) → k < n → is_dark_at margin g y (first + k) ≡ false) →
+    texts_below n (λ i. cell_at style margin g row (first + i)) ≡ texts_below n (λ _. cell_text style false false)
 light-cells style margin g row first n light =
     texts_below-alike n (λ i. cell_at style margin g row (first + i)) (λ _. cell_text style false false)
     (λ k lt. λ i. cell_text style (light row k lt i) (light (row + 1) k lt i))

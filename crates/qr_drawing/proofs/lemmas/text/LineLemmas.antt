@@ -1,8 +1,7 @@
 -- How the texts of places join while they are added and written.
 use Rattle.std.proofs.Common.{◌≡◌, ◌++◌, ◌∙◌, ◌<◌, ◌≤◌, ◌+◌, ◌-◌, ◌*◌, ℕ, zero, suc, List, [], ◌∷◌, refl, sym, ap, arith, append_assoc, append-nil, take, length, length-append, get_or}
 use Rattle.std.proofs.{Math.Nat.suc-mul, lemmas.Grind.flat_map-append, lemmas.List.take_all, lemmas.List.take_more}
-use Rattle.std.specs.List.{flat_map, range_with_len}
-use Rattle.qr_devices.specs.Device.{Writer}
+use Rattle.{std.specs.List.{flat_map, range_with_len}, qr_devices.specs.Device.Writer}
 use Rattle.qr_drawing.specs.{Raster.texts_below, Steps.Writing.Stops, Steps.Writing.Writes}
 use Rattle.qr_drawing.proofs.lemmas.pen.WritingLemmas.{stops_first, writes_none, writes_on, writes_stop}
 
@@ -128,15 +127,17 @@ unfolding texts_below
 no-texts text = refl
 
 -- the text of place m was written, and the texts from there to n are empty
-pub put_next : (a b c : Writer) (i j k m n : ℕ) (h0 h1 h2 piece : List ℕ) (text : ℕ → List ℕ) → text m ≡ piece
-    → texts_below n text ≡ texts_below (m + 1) text
-    → Writes a b i j (h0 ++ texts_below m text) h1 → Writes b c j k (h1 ++ piece) h2 → Writes a c i k (h0 ++ texts_below n text) h2
+pub put_next : (a b c : Writer) (i j k m n : ℕ) (h0 h1 h2 piece : List ℕ) (text : ℕ → List ℕ) →
+    text m ≡ piece → texts_below n text ≡ texts_below (m + 1) text →
+    Writes a b i j (h0 ++ texts_below m text) h1 → Writes b c j k (h1 ++ piece) h2 →
+    Writes a c i k (h0 ++ texts_below n text) h2
 put_next a b c i j k m n h0 h1 h2 piece text here same p q =
     rw (same, texts_below-more m text) (writes_on a b c i j k h0 h1 h2 (texts_below m text) (text m) p (rw here q))
 
 -- the writer failed in the text of place m of n
-pub put_stops : (a b c : Writer) (i j m n : ℕ) (h0 h1 piece : List ℕ) (text : ℕ → List ℕ) → text m ≡ piece → m < n
-    → Writes a b i j (h0 ++ texts_below m text) h1 → Stops b c j (h1 ++ piece) → Stops a c i (h0 ++ texts_below n text)
+pub put_stops : (a b c : Writer) (i j m n : ℕ) (h0 h1 piece : List ℕ) (text : ℕ → List ℕ) →
+    text m ≡ piece → m < n → Writes a b i j (h0 ++ texts_below m text) h1 → Stops b c j (h1 ++ piece) →
+    Stops a c i (h0 ++ texts_below n text)
 put_stops a b c i j m n h0 h1 piece text here lt p q =
     let rest = texts_below (n - (m + 1)) (λ i. text (m + 1 + i)) in
     let e : m + 1 + (n - (m + 1)) ≡ n = omega arith in

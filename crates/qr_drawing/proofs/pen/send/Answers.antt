@@ -1,7 +1,6 @@
 use Rattle.std.proofs.Common.{◌≡◌, ◌<◌, ◌≤◌, ◌+◌, ◌-◌, ℕ, List, [], min, length, take, drop, refl, arith}
-use Rattle.std.proofs.lemmas.List.{length-drop, length-take}
+use Rattle.{std.proofs.lemmas.List.{length-drop, length-take}, qr_drawing.proofs.lemmas.pen.WritingLemmas.writes_none}
 use Rattle.qr_drawing.proofs.lemmas.pen.SendingLemmas.{sends_more, sends_again, refused-zero, refused-failed, refused-tried}
-use Rattle.qr_drawing.proofs.lemmas.pen.WritingLemmas.{writes_none}
 use Rattle.qr_drawing.proofs.pen.send.Goals as goal
 
 -- a write offers some bytes, at most 1,200, and no more than are left

@@ -1,5 +1,4 @@
-use Rattle.std.proofs.Common.{append_assoc}
-use Rattle.qr_drawing.specs.{Svg.declaration, Steps.Svg.head}
+use Rattle.{std.proofs.Common.append_assoc, qr_drawing.specs.{Svg.declaration, Steps.Svg.head}}
 use Rattle.qr_drawing.proofs.svg.push_head.Goals as goal
 
 pub returns : goal.returns

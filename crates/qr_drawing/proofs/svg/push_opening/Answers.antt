@@ -1,5 +1,4 @@
-use Rattle.std.proofs.Common.{append_assoc}
-use Rattle.qr_drawing.specs.Svg.{opening}
+use Rattle.{std.proofs.Common.append_assoc, qr_drawing.specs.Svg.opening}
 use Rattle.qr_drawing.proofs.svg.push_opening.Goals as goal
 
 pub returns-clause-items : goal.returns-clause-items

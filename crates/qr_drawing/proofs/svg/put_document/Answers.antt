@@ -1,7 +1,5 @@
-use Rattle.std.proofs.Common.{refl}
-use Rattle.std.proofs.lemmas.Result.{err_from_is_err_and}
-use Rattle.qr_drawing.specs.{Svg.closing, Steps.Svg.tail}
-use Rattle.qr_drawing.proofs.lemmas.svg.PathLemmas.{document-parts}
+use Rattle.std.proofs.{Common.refl, lemmas.Result.err_from_is_err_and}
+use Rattle.qr_drawing.{specs.{Svg.closing, Steps.Svg.tail}, proofs.lemmas.svg.PathLemmas.document-parts}
 use Rattle.qr_drawing.proofs.lemmas.pen.WritingLemmas.{formed, stops_before, stops_between, stops_first, writes_on, writes_stop}
 use Rattle.qr_drawing.proofs.svg.put_document.Goals as goal
 

@@ -1,8 +1,6 @@
 use Rattle.std.proofs.Common.{◌<◌, ◌≤◌, ◌+◌, ◌++◌, [], ◌∷◌, ap, sym, ◌∙◌, append_assoc, append-nil, arith}
-use Rattle.std.proofs.lemmas.{Grind.flat_map-append, List.Elements.All-head, List.Elements.All-rest}
-use Rattle.std.proofs.lemmas.Result.{err_from_is_err_and}
-use Rattle.std.specs.List.{flat_map}
-use Rattle.qr_drawing.proofs.lemmas.svg.PathLemmas.{box-is, box_of, row_boxes}
+use Rattle.std.proofs.lemmas.{Grind.flat_map-append, List.Elements.{All-head, All-rest}, Result.err_from_is_err_and}
+use Rattle.{std.specs.List.flat_map, qr_drawing.proofs.lemmas.svg.PathLemmas.{box-is, box_of, row_boxes}}
 use Rattle.qr_drawing.proofs.lemmas.pen.WritingLemmas.{formed, stops_between, writes_none, writes_on}
 use Rattle.qr_drawing.proofs.svg.put_row.Goals as goal
 

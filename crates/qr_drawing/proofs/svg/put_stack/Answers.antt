@@ -1,5 +1,4 @@
-use Rattle.std.proofs.Common.{refl, arith}
-use Rattle.std.proofs.lemmas.Result.{err_from_is_err_and}
+use Rattle.std.proofs.{Common.{refl, arith}, lemmas.Result.err_from_is_err_and}
 use Rattle.qr_drawing.proofs.lemmas.text.LineLemmas.{no-texts, put_next, put_none, put_stops}
 use Rattle.qr_drawing.proofs.lemmas.svg.PathLemmas.{next_top, stack_at, stack_ends}
 use Rattle.qr_drawing.proofs.svg.put_stack.Goals as goal

@@ -1,6 +1,5 @@
 use Rattle.std.proofs.Common.{◌≡◌, ◌≤◌, ◌*◌, ◌++◌, map}
-use Rattle.qr_drawing.specs.Raster.{raster_width, texts_below}
-use Rattle.qr_drawing.specs.{Svg.square_at, Svg.symbol_path, Steps.Writing.Writes}
+use Rattle.qr_drawing.specs.{Raster.{raster_width, texts_below}, Svg.{square_at, symbol_path}, Steps.Writing.Writes}
 use Rattle.qr_drawing.proofs.svg.put_stack.Given as goal
 
 abbrev pub invariant-loop-symbol : goal.invariant-loop-symbol

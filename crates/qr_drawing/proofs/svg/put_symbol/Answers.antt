@@ -1,5 +1,4 @@
-use Rattle.std.proofs.Common.{ap, refl, arith}
-use Rattle.std.proofs.lemmas.Result.{err_from_is_err_and}
+use Rattle.std.proofs.{Common.{ap, refl, arith}, lemmas.Result.err_from_is_err_and}
 use Rattle.qr_drawing.specs.{Raster.texts_below, Svg.row_path}
 use Rattle.qr_drawing.proofs.lemmas.text.LineLemmas.{put_next, put_none, put_stops}
 use Rattle.qr_drawing.proofs.lemmas.svg.PathLemmas.{symbol_begins, symbol_ends}

@@ -1,5 +1,4 @@
-use Rattle.std.proofs.Common.{◌∙◌}
-use Rattle.qr_drawing.proofs.lemmas.text.CellLemmas.{eight-joined}
+use Rattle.{std.proofs.Common.◌∙◌, qr_drawing.proofs.lemmas.text.CellLemmas.eight-joined}
 use Rattle.qr_drawing.proofs.text.ascii_eight.Goals as goal
 
 pub returns : goal.returns

@@ -1,6 +1,5 @@
-use Rattle.std.proofs.Common.{◌∙◌, ap, arith}
+use Rattle.{std.proofs.Common.{◌∙◌, ap, arith}, qr_drawing.proofs.lemmas.text.CellLemmas.quad-at}
 use Rattle.qr_drawing.specs.{Steps.Text.bits_text, declared.text.TextStyle.TheVariants.Plain}
-use Rattle.qr_drawing.proofs.lemmas.text.CellLemmas.{quad-at}
 use Rattle.qr_drawing.proofs.text.ascii_quad.Goals as goal
 
 pub returns : goal.returns

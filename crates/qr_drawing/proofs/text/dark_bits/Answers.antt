@@ -1,6 +1,4 @@
-use Rattle.std.proofs.Common.{subst}
-use Rattle.qr_drawing.specs.Steps.Text.{ShowsRow}
-use Rattle.qr_drawing.proofs.lemmas.text.CellLemmas.{dark_eight}
+use Rattle.{std.proofs.Common.subst, qr_drawing.{specs.Steps.Text.ShowsRow, proofs.lemmas.text.CellLemmas.dark_eight}}
 use Rattle.qr_drawing.proofs.text.dark_bits.Goals as goal
 
 pub returns-in-Some : goal.returns-in-Some

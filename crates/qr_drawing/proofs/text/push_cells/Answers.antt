@@ -1,5 +1,4 @@
-use Rattle.std.proofs.Common.{◌+◌, arith}
-use Rattle.qr_drawing.specs.Steps.Text.{cell_at, cell_room}
+use Rattle.{std.proofs.Common.{◌+◌, arith}, qr_drawing.specs.Steps.Text.{cell_at, cell_room}}
 use Rattle.qr_drawing.proofs.lemmas.text.{LineLemmas.added_next, LineLemmas.added_none, CellLemmas.cell-length, CellLemmas.cells-length, CellLemmas.room-cells}
 use Rattle.qr_drawing.proofs.text.push_cells.Goals as goal
 

@@ -1,5 +1,4 @@
-use Rattle.std.proofs.Common.{◌≡◌, ◌+◌, ◌++◌}
-use Rattle.qr_drawing.specs.{Raster.texts_below, Steps.Text.cell_at}
+use Rattle.{std.proofs.Common.{◌≡◌, ◌+◌, ◌++◌}, qr_drawing.specs.{Raster.texts_below, Steps.Text.cell_at}}
 use Rattle.qr_drawing.proofs.text.push_cells.Given as goal
 
 abbrev pub invariant-loop-done : goal.invariant-loop-done

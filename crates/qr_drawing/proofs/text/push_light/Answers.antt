@@ -1,6 +1,5 @@
 use Rattle.std.proofs.Common.{false, arith}
-use Rattle.qr_drawing.specs.Steps.Text.{cell_room, cell_text}
-use Rattle.qr_drawing.proofs.lemmas.text.LineLemmas.{added_next, added_none}
+use Rattle.qr_drawing.{specs.Steps.Text.{cell_room, cell_text}, proofs.lemmas.text.LineLemmas.{added_next, added_none}}
 use Rattle.qr_drawing.proofs.lemmas.text.CellLemmas.{cell-length, cells-length, room-left}
 use Rattle.qr_drawing.proofs.text.push_light.Goals as goal
 

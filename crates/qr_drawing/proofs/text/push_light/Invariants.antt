@@ -1,5 +1,4 @@
-use Rattle.std.proofs.Common.{◌≡◌, ◌++◌, false}
-use Rattle.qr_drawing.specs.{Raster.texts_below, Steps.Text.cell_text}
+use Rattle.{std.proofs.Common.{◌≡◌, ◌++◌, false}, qr_drawing.specs.{Raster.texts_below, Steps.Text.cell_text}}
 use Rattle.qr_drawing.proofs.text.push_light.Given as goal
 
 abbrev pub invariant-loop-done : goal.invariant-loop-done

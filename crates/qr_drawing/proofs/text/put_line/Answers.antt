@@ -1,5 +1,4 @@
-use Rattle.std.proofs.Math.Nat.{add-mul}
-use Rattle.std.proofs.lemmas.Result.{err_from_is_err_and}
+use Rattle.std.proofs.{Math.Nat.add-mul, lemmas.Result.err_from_is_err_and}
 use Rattle.qr_drawing.proofs.lemmas.text.CellLemmas.{line-parts}
 use Rattle.qr_drawing.proofs.lemmas.pen.WritingLemmas.{formed, stops_before, stops_between, stops_first, writes_on}
 use Rattle.qr_drawing.proofs.text.put_line.Goals as goal

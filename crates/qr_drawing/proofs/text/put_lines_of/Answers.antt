@@ -1,5 +1,4 @@
-use Rattle.std.proofs.Common.{◌++◌, ◌∷◌, [], refl}
-use Rattle.std.proofs.lemmas.Result.{err_from_is_err_and}
+use Rattle.std.proofs.{Common.{◌++◌, ◌∷◌, [], refl}, lemmas.Result.err_from_is_err_and}
 use Rattle.qr_drawing.specs.Text.{cells_of_line}
 use Rattle.qr_drawing.proofs.lemmas.text.LineLemmas.{no-texts, put_next, put_none, put_stops}
 use Rattle.qr_drawing.proofs.text.put_lines_of.Goals as goal

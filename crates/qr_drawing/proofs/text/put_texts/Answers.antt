@@ -1,5 +1,4 @@
-use Rattle.std.proofs.Common.{map, ap, refl, arith}
-use Rattle.std.proofs.lemmas.Result.{err_from_is_err_and}
+use Rattle.std.proofs.{Common.{map, ap, refl, arith}, lemmas.Result.err_from_is_err_and}
 use Rattle.qr_drawing.specs.{Svg.square_at, Text.text_drawing}
 use Rattle.qr_drawing.proofs.lemmas.text.LineLemmas.{no-texts, put_next, put_none, put_stops}
 use Rattle.qr_drawing.proofs.lemmas.svg.PathLemmas.{square_at-item, texts-of-symbols}

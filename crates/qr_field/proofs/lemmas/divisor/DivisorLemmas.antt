@@ -1,11 +1,8 @@
 -- The multiples of a divisor, and the division by them.
 use Rattle.std.proofs.Common.{◌≡◌, ◌≢◌, ℕ, zero, suc, ◌+◌, ◌*◌, ◌/◌, ◌%◌, ◌^◌, ◌<◌, ◌≤◌, List, [], ◌∷◌, ◌++◌, length, take, drop, get_or, set, refl, sym, ap, ◌∙◌, subst, inl, inr, arith, bit_xor, lit<}
-use Rattle.std.proofs.lemmas.Bool.{cases_lt}
-use Rattle.std.proofs.lemmas.Nat.{pow_pos, xor_comm, xor_of_8}
+use Rattle.std.proofs.lemmas.{Bool.cases_lt, Nat.{pow_pos, xor_comm, xor_of_8}, List.Elements.{All-drop, All-push}}
 use Rattle.std.proofs.lemmas.List.{get_or-replicate, get_or-set_same, get_or-set_other, length-set, length-replicate}
-use Rattle.std.proofs.lemmas.List.Elements.{All-drop, All-push}
-use Rattle.std.proofs.Math.Nat.{pow-le-pow_right, mul-lt-mul_of_pos_right}
-use Rattle.std.specs.List.{All}
+use Rattle.std.{proofs.Math.Nat.{pow-le-pow_right, mul-lt-mul_of_pos_right}, specs.List.All}
 use lib.ListN.{replicate}
 use Rattle.qr_field.specs.declared.register.Register.{Register}
 use Rattle.qr_field.specs.Polynomial.{IsByte, plus, zeros, scaled, generator_of, IsCorrection}

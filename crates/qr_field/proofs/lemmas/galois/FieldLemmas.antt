@@ -1,11 +1,9 @@
 -- The laws of the field of 256 elements: products commute, associate, distribute, and are 0 only if a factor is.
 use Rattle.std.proofs.Common.{◌≡◌, ℕ, ◌+◌, ◌-◌, ◌<◌, sym, ap, ◌∙◌, inl, inr, arith, bit_xor}
-use Rattle.std.proofs.lemmas.{Bool.cases_eq, Nat.xor_of_8}
-use Rattle.std.specs.Int.Bits.{xor_zero_r}
+use Rattle.std.{proofs.lemmas.{Bool.cases_eq, Nat.xor_of_8}, specs.Int.Bits.xor_zero_r}
 use Rattle.qr_field.specs.{Galois.product, Polynomial.power}
-use Rattle.qr_field.proofs.lemmas.galois.BitLemmas.{xor-cancel}
+use Rattle.qr_field.proofs.lemmas.galois.{BitLemmas.xor-cancel, ProductLemmas.{product-lt, product-xor}}
 use Rattle.qr_field.proofs.lemmas.galois.ByteLemmas.{product-by_zero, product-of_zero, product-by_one}
-use Rattle.qr_field.proofs.lemmas.galois.ProductLemmas.{product-lt, product-xor}
 use Rattle.qr_field.proofs.lemmas.logarithm.PowerLemmas.{power-lt, power-add, power-round, powers-apart, exponent-of}
 
 -- a product is 0 if its first factor is 0

@@ -1,7 +1,6 @@
 -- The product of two elements, which `product` computes; that of twice an element is twice the product.
 use Rattle.std.proofs.Common.{◌≡◌, ◌⊎◌, ℕ, ◌*◌, ◌<◌, sym, ap, ◌∙◌, subst, inl, inr, arith, bit_xor, lit<}
-use Rattle.std.proofs.lemmas.Nat.{xor_of_8}
-use Rattle.qr_field.specs.Galois.{carryless, prime_modulus, IsProduct, product}
+use Rattle.{std.proofs.lemmas.Nat.xor_of_8, qr_field.specs.Galois.{carryless, prime_modulus, IsProduct, product}}
 use Rattle.qr_field.proofs.lemmas.galois.ByteLemmas.{carryless-two, product-by_zero, product-of_zero}
 use Rattle.qr_field.proofs.lemmas.galois.BitLemmas.{IsCongruent, congruent-turned, congruent-next, congruent-double, congruent-times, congruent-xor, carryless-xor, carryless-double, carryless-lt, remainder-is, remainder-one}
 

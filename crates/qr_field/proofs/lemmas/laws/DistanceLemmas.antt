@@ -1,18 +1,12 @@
 -- A polynomial with the value 0 at the first n powers of 2 is 0 or has over n coefficients: how far blocks lie apart.
 use Rattle.std.proofs.Common.{◌≡◌, ℕ, zero, suc, ◌+◌, ◌-◌, ◌*◌, ◌<◌, ◌≤◌, Option, None, Some, List, [], ◌∷◌, ◌++◌, length, map, take, refl, sym, ap, ◌∙◌, inl, inr, arith, bit_xor, length-append}
-use Rattle.std.proofs.lemmas.Nat.{xor_of_8}
-use Rattle.std.proofs.lemmas.Bool.{cases_eq, cases_lt, eq-eqb, ne_eqb}
-use Rattle.std.proofs.lemmas.List.{length-map, take_at}
-use Rattle.std.proofs.lemmas.List.Elements.{All-nil, All-cons, All-head, All-tail}
-use Rattle.std.specs.List.{All}
-use Rattle.std.specs.Int.Bits.{xor_zero_l, xor_zero_r, xor_self}
-use Rattle.qr_field.specs.Galois.{product}
-use Rattle.qr_field.specs.Polynomial.{IsByte, plus, power, IsCorrection}
-use Rattle.qr_field.specs.Steps.Polynomial.{value_at}
+use Rattle.std.proofs.lemmas.{Nat.xor_of_8, Bool.{cases_eq, cases_lt, eq-eqb, ne_eqb}}
+use Rattle.std.proofs.lemmas.List.{length-map, take_at, Elements.{All-nil, All-cons, All-head, All-tail}}
+use Rattle.std.specs.{List.All, Int.Bits.{xor_zero_l, xor_zero_r, xor_self}}
+use Rattle.qr_field.specs.{Galois.product, Steps.Polynomial.value_at, Polynomial.{IsByte, plus, power, IsCorrection}}
 use Rattle.qr_field.specs.Distance.{difference, differences, erasures, errors}
-use Rattle.qr_field.proofs.lemmas.galois.BitLemmas.{xor-swap}
+use Rattle.qr_field.proofs.lemmas.galois.{BitLemmas.xor-swap, ProductLemmas.{product-lt, product-xor}}
 use Rattle.qr_field.proofs.lemmas.galois.ByteLemmas.{product-by_zero, product-of_zero, product-by_one}
-use Rattle.qr_field.proofs.lemmas.galois.ProductLemmas.{product-lt, product-xor}
 use Rattle.qr_field.proofs.lemmas.logarithm.PowerLemmas.{power-lt, power-add}
 use Rattle.qr_field.proofs.lemmas.galois.FieldLemmas.{product-assoc, product-front, product-by_sum, product-factor, powers-sum, sum-none}
 use Rattle.qr_field.proofs.lemmas.polynomial.ListLemmas.{length-plus, bytes-plus}
@@ -181,8 +175,8 @@ weight-none (suc k) n (c ∷ p) l h a w r =
 -- ---- blocks
 
 -- two blocks with n error correction codewords that differ in at most n codewords have the same data codewords
-pub near-same : (n : ℕ) (d e d' e' : List ℕ) → IsCorrection d n e → IsCorrection d' n e' → length d ≡ length d' →
-    length d + n ≤ 255 → differences (d ++ e) (d' ++ e') ≤ n → d ≡ d'
+pub near-same : (n : ℕ) (d e d' e' : List ℕ) → IsCorrection d n e → IsCorrection d' n e' →
+    length d ≡ length d' → length d + n ≤ 255 → differences (d ++ e) (d' ++ e') ≤ n → d ≡ d'
 near-same n d e d' e' c c' s l w =
     let one = length-append d e in
     let two = length-append d' e' in
@@ -204,8 +198,8 @@ near-same n d e d' e' c c' s l w =
     front-same xs ys us vs s e = sym (take_at xs us (length xs) refl) ∙ (ap (take (length xs)) e ∙ take_at ys vs (length xs) (sym s))
 
 -- two such blocks with different data codewords differ in at least n + 1 codewords
-pub apart : (n : ℕ) (d e d' e' : List ℕ) → IsCorrection d n e → IsCorrection d' n e' → length d ≡ length d' →
-    length d + n ≤ 255 → (d ≡ d' → ⊥) → n + 1 ≤ differences (d ++ e) (d' ++ e')
+pub apart : (n : ℕ) (d e d' e' : List ℕ) → IsCorrection d n e → IsCorrection d' n e' →
+    length d ≡ length d' → length d + n ≤ 255 → (d ≡ d' → ⊥) → n + 1 ≤ differences (d ++ e) (d' ++ e')
 apart n d e d' e' c c' s l o = elim (cases_lt n (differences (d ++ e) (d' ++ e'))) [
   | inl m ↦ omega arith
   | inr m ↦ absurd (o (near-same n d e d' e' c c' s l m))

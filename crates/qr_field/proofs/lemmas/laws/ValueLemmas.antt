@@ -2,14 +2,11 @@
 use Rattle.std.proofs.Common.{◌≡◌, ℕ, zero, suc, ◌+◌, ◌-◌, ◌*◌, ◌<◌, ◌≤◌, List, [], ◌∷◌, ◌++◌, length, refl, sym, ap, ◌∙◌, subst, inl, inr, arith, lit<, bit_xor}
 use Rattle.std.proofs.lemmas.{Nat.xor_of_8, Bool.cases_eq, List.length-map}
 use Rattle.std.proofs.lemmas.List.Elements.{All-nil, All-cons, All-head, All-tail}
-use Rattle.std.specs.List.{All}
-use Rattle.std.specs.Int.Bits.{xor_zero_l, xor_zero_r, xor_self}
-use Rattle.qr_field.specs.Galois.{product}
+use Rattle.std.specs.{List.All, Int.Bits.{xor_zero_l, xor_zero_r, xor_self}}
+use Rattle.qr_field.specs.{Galois.product, Steps.Polynomial.value_at}
 use Rattle.qr_field.specs.Polynomial.{IsByte, plus, zeros, scaled, times, power, generator_of, IsCorrection}
-use Rattle.qr_field.specs.Steps.Polynomial.{value_at}
-use Rattle.qr_field.proofs.lemmas.galois.BitLemmas.{xor-swap}
+use Rattle.qr_field.proofs.lemmas.galois.{BitLemmas.xor-swap, ProductLemmas.{product-lt, product-xor}}
 use Rattle.qr_field.proofs.lemmas.galois.ByteLemmas.{product-by_zero, product-of_zero, product-by_one, product-of_one}
-use Rattle.qr_field.proofs.lemmas.galois.ProductLemmas.{product-lt, product-xor}
 use Rattle.qr_field.proofs.lemmas.logarithm.PowerLemmas.{power-lt, power-add}
 use Rattle.qr_field.proofs.lemmas.galois.FieldLemmas.{product-assoc, product-swap, product-by_sum}
 use Rattle.qr_field.proofs.lemmas.polynomial.ListLemmas.{length-plus, length-times, bytes-scaled}

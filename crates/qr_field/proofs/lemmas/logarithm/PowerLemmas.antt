@@ -1,10 +1,8 @@
 -- Powers of 2 in the field, and the tables of powers and logarithms.
 use Rattle.std.proofs.Common.{◌≡◌, ℕ, zero, suc, ◌+◌, ◌-◌, ◌%◌, ◌<◌, ◌≤◌, true, eqb, ltb, get_or, refl, sym, ap, ◌∙◌, inl, inr, arith, lit<}
-use Rattle.std.proofs.lemmas.Bool.{cases_lt}
+use Rattle.{std.proofs.lemmas.Bool.cases_lt, qr_field.specs.declared.logarithm.TheConstants.{POWERS, LOGARITHMS}}
 use borrow.Author.Tests.{ltb-true}
-use Rattle.qr_field.specs.Galois.{carryless, product, remainder_of}
-use Rattle.qr_field.specs.Polynomial.{power}
-use Rattle.qr_field.specs.declared.logarithm.TheConstants.{POWERS, LOGARITHMS}
+use Rattle.qr_field.specs.{Galois.{carryless, product, remainder_of}, Polynomial.power}
 use Rattle.qr_field.proofs.lemmas.galois.ByteLemmas.{below, below-at, same-below, product-of_one}
 use Rattle.qr_field.proofs.lemmas.galois.ProductLemmas.{product-lt, product-double}
 
@@ -40,8 +38,8 @@ power-mod k l = elim (cases_lt k 255) [
 ]
 
 -- the product of two powers is the power to the sum of their exponents modulo 255
-pub product-of_powers : (a b i j k : ℕ) → i < 255 → power i ≡ a → j < 255 → power j ≡ b → k ≡ (i + j) % 255 →
-    power k ≡ product a b
+pub product-of_powers : (a b i j k : ℕ) → i < 255 → power i ≡ a → j < 255 → power j ≡ b →
+    k ≡ (i + j) % 255 → power k ≡ product a b
 product-of_powers a b i j k li ei lj ej e = cc (power-mod (i + j) (omega arith), power-add i j)
 
 -- ---- the tables

@@ -3,11 +3,9 @@ use Rattle.std.proofs.Common.{◌≡◌, ℕ, zero, suc, ◌+◌, ◌-◌, ◌<�
 use Rattle.std.proofs.lemmas.{Bool.and_parts, Nat.xor_comm, Nat.xor_of_8}
 use Rattle.std.proofs.lemmas.List.{length-map, append-nil, drop_all, take_all, length-take}
 use Rattle.std.proofs.lemmas.List.Elements.{All-map, All-nil, All-cons, All-head, All-tail}
-use Rattle.std.specs.List.{All, refill, list_all}
-use Rattle.std.specs.Int.Bits.{xor_assoc, xor_zero_r}
+use Rattle.std.specs.{List.{All, refill, list_all}, Int.Bits.{xor_assoc, xor_zero_r}}
 use borrow.Author.Tests.{ltb-true}
-use Rattle.qr_field.specs.Galois.{product}
-use Rattle.qr_field.specs.Polynomial.{IsByte, plus, zeros, scaled, times}
+use Rattle.qr_field.specs.{Galois.product, Polynomial.{IsByte, plus, zeros, scaled, times}}
 use Rattle.qr_field.proofs.lemmas.galois.{BitLemmas.xor-cancel, ProductLemmas.product-lt}
 
 -- a list that is written over by a list of its own length is that list

@@ -1,11 +1,9 @@
 -- Generator polynomials and error correction codewords: what the loops compute, and that both are unique.
 use Rattle.std.proofs.Common.{◌≡◌, ℕ, zero, suc, ◌+◌, ◌-◌, ◌<◌, ◌≤◌, List, [], ◌∷◌, ◌++◌, length, take, drop, get_or, refl, sym, ap, ◌∙◌, subst, arith, bit_xor, lit<, append_assoc, length-append}
-use Rattle.std.proofs.lemmas.Nat.{xor_comm, xor_of_8}
+use Rattle.std.proofs.{lemmas.Nat.{xor_comm, xor_of_8}, Math.Numerals.suc-eq-add-one}
 use Rattle.std.proofs.lemmas.List.{length-map, append_cancel_left, append-nil, take_at, take_more, drop_more, get_or_read}
 use Rattle.std.proofs.lemmas.List.Elements.{All-nil, All-cons, All-head, All-tail, All-push, All-rest}
-use Rattle.std.proofs.Math.Numerals.{suc-eq-add-one}
-use Rattle.std.specs.{List.All, Int.Bits.xor_zero_r}
-use Rattle.qr_field.specs.{Galois.product, Steps.Polynomial.carried}
+use Rattle.{std.specs.{List.All, Int.Bits.xor_zero_r}, qr_field.specs.{Galois.product, Steps.Polynomial.carried}}
 use Rattle.qr_field.specs.Polynomial.{IsByte, plus, zeros, scaled, times, power, generator_of, IsMultiple, IsCorrection, HasCorrection}
 use Rattle.qr_field.proofs.lemmas.galois.{ByteLemmas.product-by_one, BitLemmas.xor-cancel}
 use Rattle.qr_field.proofs.lemmas.polynomial.ListLemmas.{plus-append, plus-zeros, length-plus, same-plus, bytes-zeros, bytes-plus, bytes-scaled, length-zeros, length-times, times-snoc}
@@ -114,8 +112,7 @@ correction-start n =
 
 -- one round of the register makes the error correction codewords of one codeword more
 correction-next : (p : List ℕ) (n b r : ℕ) (rs g : List ℕ) → b < 256 → 1 ∷ g ≡ generator_of n →
-    IsCorrection p n (r ∷ rs) →
-    IsCorrection (p ++ b ∷ []) n (plus (rs ++ 0 ∷ []) (scaled (bit_xor b r) g))
+    IsCorrection p n (r ∷ rs) → IsCorrection (p ++ b ∷ []) n (plus (rs ++ 0 ∷ []) (scaled (bit_xor b r) g))
 correction-next p n b r rs g l e c =
     let s = generator-shape n in
     let lg : length g ≡ n = omega (arith, ap length e, ap length s.1, s.2) in
@@ -141,10 +138,10 @@ correction-next p n b r rs g l e c =
     }
 
 -- the same as the code does it: the first byte is dropped, a 0 added, and then a multiple of the generator
-pub correction-step : (m : List ℕ) (i n r : ℕ) (items moved sum g : List ℕ) → i < length m → get_or m i 0 < 256 →
-    1 ≤ n → 1 ∷ g ≡ generator_of n → r ≡ get_or items 0 r → moved ≡ drop 1 items ++ 0 ∷ [] →
-    sum ≡ plus moved (scaled (bit_xor (get_or m i 0) r) g) → IsCorrection (take i m) n items →
-    IsCorrection (take (i + 1) m) n sum
+pub correction-step : (m : List ℕ) (i n r : ℕ) (items moved sum g : List ℕ) → i < length m →
+    get_or m i 0 < 256 → 1 ≤ n → 1 ∷ g ≡ generator_of n → r ≡ get_or items 0 r →
+    moved ≡ drop 1 items ++ 0 ∷ [] → sum ≡ plus moved (scaled (bit_xor (get_or m i 0) r) g) →
+    IsCorrection (take i m) n items → IsCorrection (take (i + 1) m) n sum
 correction-step m i n r items moved sum g h l k e er em es c =
     let byte = get_or m i 0 in
     let next : List ℕ = plus (drop 1 items ++ 0 ∷ []) (scaled (bit_xor byte r) g) in
@@ -182,8 +179,8 @@ correction-one d n e f a b =
     append_cancel_left d e f (sym wa ∙ (ap (λ t. times t (1 ∷ g)) q ∙ wb))
 
 -- if the codewords p have error correction codewords, then p followed by any bytes d has error correction codewords
-correction-after : (p : List ℕ) (n : ℕ) (register d g : List ℕ) → 1 ≤ n → 1 ∷ g ≡ generator_of n → All IsByte d →
-    IsCorrection p n register → HasCorrection (p ++ d) n
+correction-after : (p : List ℕ) (n : ℕ) (register d g : List ℕ) → 1 ≤ n → 1 ∷ g ≡ generator_of n →
+    All IsByte d → IsCorrection p n register → HasCorrection (p ++ d) n
 correction-after p n register [] g k e a c = (register, subst (λ (t : List ℕ). IsCorrection t n register) (sym (append-nil p)) c)
 correction-after p n register (b ∷ d) g k e a c =
     let r = get_or register 0 0 in

@@ -3,8 +3,7 @@ use Rattle.std.proofs.Common.{◌≡◌, ℕ, zero, suc, ◌+◌, ◌*◌, ◌/�
 use Rattle.std.proofs.lemmas.Nat.{or_shifted, xor_block, mod_low, shr_high}
 use Rattle.std.proofs.{lemmas.List.Elements.All-head, lemmas.List.Elements.All-tail, Math.Nat.pow-suc}
 use Rattle.std.specs.{List.All, Int.Bits.xor_zero_l, Int.Bits.xor_zero_r}
-use Rattle.qr_field.specs.Polynomial.{IsByte, plus, scaled}
-use Rattle.qr_field.specs.Steps.Register.{packed, unpacked}
+use Rattle.qr_field.specs.{Polynomial.{IsByte, plus, scaled}, Steps.Register.{packed, unpacked}}
 use Rattle.qr_field.proofs.lemmas.galois.ByteLemmas.{product-of_zero}
 
 -- ---- two halves of a register

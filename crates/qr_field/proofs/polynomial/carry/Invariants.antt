@@ -1,5 +1,4 @@
-use Rattle.std.proofs.Common.{◌≡◌, ◌++◌, take, drop}
-use Rattle.qr_field.specs.Steps.Polynomial.{carried}
+use Rattle.{std.proofs.Common.{◌≡◌, ◌++◌, take, drop}, qr_field.specs.Steps.Polynomial.carried}
 use Rattle.qr_field.proofs.polynomial.carry.Given as goal
 
 abbrev pub invariant-loop-i : goal.invariant-loop-i

@@ -1,7 +1,5 @@
 use Rattle.std.proofs.Common.{◌≡◌, ℕ, List, [], ◌∷◌, ◌++◌, length, ap, ◌∙◌, arith}
-use Rattle.std.proofs.lemmas.List.{length-append}
-use Rattle.std.specs.List.{refill}
-use Rattle.qr_field.specs.Steps.Polynomial.{carried}
+use Rattle.{std.{proofs.lemmas.List.length-append, specs.List.refill}, qr_field.specs.Steps.Polynomial.carried}
 use Rattle.qr_field.proofs.lemmas.polynomial.{ListLemmas.refill_same, PolynomialLemmas.length-carried}
 use Rattle.qr_field.proofs.polynomial.multiply.Goals as goal
 

@@ -1,6 +1,5 @@
 use Rattle.std.proofs.Common.{◌≡◌, ◌≤◌, ◌-◌, ◌+◌, cond, eqb, ◌/◌, ℕ, arith}
-use Rattle.std.proofs.lemmas.Bool.Decides.{nat_tests}
-use Rattle.qr_layout.proofs.lemmas.alignment.TableLemmas.{centres-agree}
+use Rattle.{std.proofs.lemmas.Bool.Decides.nat_tests, qr_layout.proofs.lemmas.alignment.TableLemmas.centres-agree}
 use Rattle.qr_layout.proofs.alignment.centre_list.Goals as goal
 use Rattle.qr_layout.proofs.alignment.centre_list.Goals.{then-number-eq1, else-number-eq1}
 

@@ -1,8 +1,7 @@
 use Rattle.std.proofs.Common.{◌≡◌, ◌*◌, ◌+◌, ◌≤◌, sym, ap, ◌∙◌, arith}
 use Rattle.qr_layout.specs.Format.{level_bits}
-use Rattle.qr_layout.proofs.lemmas.format.WordLemmas.{format-at}
+use Rattle.qr_layout.proofs.{lemmas.format.WordLemmas.format-at, format.format_word.Goals.{in-L, in-M, in-Q, in-H}}
 use Rattle.qr_layout.proofs.format.format_word.Goals as goal
-use Rattle.qr_layout.proofs.format.format_word.Goals.{in-L, in-M, in-Q, in-H}
 
 pub returns : goal.returns
 returns c =

@@ -1,5 +1,4 @@
-use Rattle.std.proofs.Common.{arith}
-use Rattle.qr_layout.proofs.lemmas.role.RolePlaceLemmas.{dark-module}
+use Rattle.{std.proofs.Common.arith, qr_layout.proofs.lemmas.role.RolePlaceLemmas.dark-module}
 use Rattle.qr_layout.proofs.laws.dark_module_is_dark.Goals as goal
 
 pub returns : goal.returns

@@ -1,8 +1,7 @@
 use Rattle.std.proofs.Common.{◌≡◌, Option, refl, sym, ap, ◌∙◌, arith}
 use Rattle.std.proofs.lemmas.Iterator.Consumers.{nth_from_yields_List, YieldsList-from_first}
 use Rattle.std.specs.{List.slice_get, Option.option_map}
-use Rattle.qr_layout.specs.declared.region.Module.{Module}
-use Rattle.qr_layout.proofs.lemmas.order.OrderLemmas.{only_order}
+use Rattle.qr_layout.{specs.declared.region.Module.Module, proofs.lemmas.order.OrderLemmas.only_order}
 use Rattle.qr_layout.proofs.laws.nth_place.Goals as goal
 
 same : (r : Option Module) → option_map (λ (x : Module). x) r ≡ r

@@ -1,5 +1,4 @@
-use Rattle.std.proofs.Common.{arith}
-use Rattle.qr_layout.proofs.lemmas.laws.NumberLemmas.{number-below, number-one, number-onto}
+use Rattle.{std.proofs.Common.arith, qr_layout.proofs.lemmas.laws.NumberLemmas.{number-below, number-one, number-onto}}
 use Rattle.qr_layout.proofs.laws.numbers_are_places.Goals as goal
 
 pub returns-clause-below : goal.returns-clause-below

@@ -1,5 +1,4 @@
-use Rattle.std.proofs.Common.{arith}
-use Rattle.qr_layout.proofs.lemmas.order.OrderLemmas.{region-size, size-at}
+use Rattle.{std.proofs.Common.arith, qr_layout.proofs.lemmas.order.OrderLemmas.{region-size, size-at}}
 use Rattle.qr_layout.proofs.laws.region_is_counted.Goals as goal
 
 pub returns-clause-region : goal.returns-clause-region

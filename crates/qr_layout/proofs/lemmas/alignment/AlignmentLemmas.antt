@@ -1,16 +1,14 @@
 -- The alignment patterns and the encoding region, as tests of their parts.
 use Rattle.qr_layout.proofs.lemmas.alignment.TableLemmas.{below, below-from}
 use Rattle.std.proofs.Common.{◌≡◌, ℕ, ◌+◌, ◌-◌, ◌<◌, ◌≤◌, Bool, true, false, not, ◌&&◌, ◌||◌, cond, ltb, leb, List, [], ◌∷◌, map, refl, sym, ap, ◌∙◌, inl, inr, ◌⊎◌, arith}
-use Rattle.std.proofs.lemmas.Bool.Decides.{nat_tests}
+use Rattle.std.proofs.lemmas.{Bool.Decides.nat_tests, List.Elements.{All-nil, All-cons, All-weaker}}
 use Rattle.std.proofs.lemmas.{Bool.cases_lt, Bool.and_parts, List.Folds.list_any-append}
-use Rattle.std.proofs.lemmas.List.Elements.{All-nil, All-cons, All-weaker}
 use Rattle.std.specs.List.{All, list_all, list_any, flat_map}
 use Rattle.qr_layout.specs.Region.{is_corner, is_timing, is_version_information, is_alignment, ring_of, is_in_region}
 use Rattle.qr_layout.specs.{declared.rectangles.Rectangle.Rectangle, Rectangles.AreFixed, Rectangles.is_in_rectangle}
 use Rattle.qr_layout.specs.Steps.Rectangles.{IsInside, IsWithin, alignment_squares, fixed_list, square_round, taken_rectangles}
-use Rattle.qr_layout.specs.declared.region.Module.{Module}
+use Rattle.qr_layout.specs.{declared.region.Module.Module, Version.side_of}
 use Rattle.qr_layout.specs.Alignment.{centres_of, is_corner_pair, alignment_places}
-use Rattle.qr_layout.specs.Version.{side_of}
 
 -- a test of the items of a flat map goes over the lists that it joins
 list_any-flat_map : {X Y : Type 0} (p : Y → Bool) (f : X → List Y) (xs : List X) → list_any p (flat_map f xs) ≡ list_any (λ x. list_any p (f x)) xs
@@ -141,8 +139,8 @@ region-parts v r c h k =
     rw (p, q) refl
 
 -- a place inside the square is in the encoding region if it is in none of such rectangles and in no alignment pattern
-pub region_outside : (v : ℕ) (bs : List Rectangle) → AreFixed v bs → (r c : ℕ) → r < side_of v → c < side_of v
-    → is_in_region v r c ≡ not (list_any (is_in_rectangle r c) bs || is_alignment v r c)
+pub region_outside : (v : ℕ) (bs : List Rectangle) → AreFixed v bs → (r c : ℕ) → r < side_of v →
+    c < side_of v → is_in_region v r c ≡ not (list_any (is_in_rectangle r c) bs || is_alignment v r c)
 region_outside v bs a r c h k = region-parts v r c h k ∙ ap (λ b. not (b || is_alignment v r c)) (sym (a.places r c h k))
 
 -- the same for the rectangles of a version, with the alignment patterns as rectangles too

@@ -2,9 +2,7 @@
 use Rattle.std.proofs.Common.{◌≡◌, ℕ, ◌+◌, ◌-◌, ◌*◌, ◌/◌, ◌%◌, ◌<◌, ◌≤◌, Bool, true, ◌&&◌, ◌||◌, leb, refl, ap, arith}
 use Rattle.std.proofs.lemmas.{Bool.Decides.nat_tests, Nat.div-add-mod'}
 use borrow.Author.Tests.{leb-true}
-use Rattle.qr_layout.specs.declared.level.Level.{Level}
-use Rattle.qr_layout.specs.declared.level.Level.TheVariants.{L, M, Q, H}
-use Rattle.qr_layout.specs.Version.{total_codewords_of}
+use Rattle.qr_layout.specs.{declared.level.Level.{Level, TheVariants.{L, M, Q, H}}, Version.total_codewords_of}
 use Rattle.qr_layout.specs.Blocks.{correction_len_of, block_count_of, data_codewords_of, blocks_of, longest_of, damage_of, AreWhole}
 use Rattle.qr_layout.proofs.lemmas.alignment.TableLemmas.{below, below-from}
 

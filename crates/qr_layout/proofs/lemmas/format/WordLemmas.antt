@@ -1,10 +1,8 @@
 -- The words of the tables are the words of the definitions, and these are remainders.
 use Rattle.std.proofs.Common.{◌≡◌, ℕ, zero, suc, ◌+◌, ◌-◌, ◌*◌, ◌^◌, ◌<◌, ◌≤◌, Bool, true, ◌&&◌, eqb, ltb, List, [], ◌∷◌, cond, get_or, refl, ap, ◌∙◌, arith}
-use Rattle.std.proofs.lemmas.Bool.{and_parts, eqb-true}
-use Rattle.std.specs.{Prelude.bit_xor, Int.bit_at}
+use Rattle.std.{proofs.lemmas.Bool.{and_parts, eqb-true}, specs.{Prelude.bit_xor, Int.bit_at}}
 use borrow.Author.Tests.{ltb-true}
-use Rattle.qr_layout.specs.declared.level.Level.{Level}
-use Rattle.qr_layout.specs.declared.format.TheConstants.{FORMAT_WORDS, VERSION_WORDS}
+use Rattle.qr_layout.specs.declared.{level.Level.Level, format.TheConstants.{FORMAT_WORDS, VERSION_WORDS}}
 use Rattle.qr_layout.specs.Format.{format_generator, version_generator, word_remainder, format_with, five_bits, format_word_of, version_word_of, level_bits, sum_of_shifts, IsWordRemainder, IsFormatWord, IsVersionWord}
 use Rattle.qr_layout.proofs.lemmas.alignment.TableLemmas.{below, below-at}
 

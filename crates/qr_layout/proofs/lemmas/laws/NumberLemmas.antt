@@ -3,9 +3,8 @@ use Rattle.std.proofs.Common.{◌≡◌, ℕ, zero, suc, ◌<◌, ◌≤◌, Lis
 use Rattle.std.proofs.Math.Seq.{get_or-append_seam}
 use Rattle.qr_layout.specs.{declared.region.Module.Module, Steps.Order.to_come, Steps.Order.first_cursor}
 use Rattle.qr_layout.specs.{Region.InRegion, Version.module_count_of, Order.IsOrder, Order.number_of}
-use Rattle.qr_layout.proofs.lemmas.order.ListLemmas.{split, length-mid}
+use Rattle.qr_layout.proofs.lemmas.order.{ListLemmas.{split, length-mid}, WalkLemmas.to_come-start}
 use Rattle.qr_layout.proofs.lemmas.order.OrderLemmas.{order-has, order-length, number-at}
-use Rattle.qr_layout.proofs.lemmas.order.WalkLemmas.{to_come-start}
 
 -- a list cut at an item by its index
 cut-at : (ms : List Module) (n : ℕ) (d : Module) → n < length ms → (front : List Module) × (back : List Module) × (ms ≡ front ++ get_or ms n d ∷ back) × (length front ≡ n)

@@ -1,8 +1,7 @@
 -- The number of places of a square that pass a test is the length of a list that contains just these places, each once.
 use Rattle.std.proofs.Common.{◌≡◌, ◌≢◌, ℕ, zero, suc, ◌+◌, ◌<◌, Bool, true, false, cond, List, [], ◌∷◌, ◌++◌, length, length-append, add-zero, zero-add, refl, sym, ap, ◌∙◌, subst, inl, inr, arith}
-use Rattle.std.proofs.lemmas.{Bool.cases_lt, List.Sums.sum_by_push}
+use Rattle.std.{proofs.lemmas.{Bool.cases_lt, List.Sums.sum_by_push}, specs.List.{range_with_len, sum_by}}
 use Rattle.qr_layout.specs.{declared.region.Module.Module, Order.places_passing}
-use Rattle.std.specs.List.{range_with_len, sum_by}
 use Rattle.qr_layout.proofs.lemmas.order.ListLemmas.{Mem, Distinct, Mem-at, All-of-Mem, Mem-append, Mem-left, Mem-right, length-le_members}
 
 -- f 0 + .. + f (n - 1)

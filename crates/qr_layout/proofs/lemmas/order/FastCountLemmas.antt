@@ -1,11 +1,9 @@
 -- The number of modules of the encoding region, computed: for each row only the rectangles that meet the row are checked.
 use Rattle.std.proofs.Common.{◌≡◌, ℕ, zero, suc, ◌+◌, ◌-◌, ◌<◌, ◌≤◌, min, max, Bool, true, false, not, ◌&&◌, ◌||◌, cond, eqb, ltb, leb, List, [], ◌∷◌, refl, ap, ◌∙◌, inl, inr, arith}
 use Rattle.std.proofs.Math.Nat.{min-eq_left, min-eq_right, max-eq_left, max-eq_right}
-use Rattle.std.proofs.lemmas.{Bool.cases_lt, Bool.Decides.nat_tests}
-use Rattle.std.specs.List.{list_any, filter}
-use Rattle.qr_layout.specs.{Region.is_in_region, declared.rectangles.Rectangle.Rectangle}
+use Rattle.std.{proofs.lemmas.Bool.{cases_lt, Decides.nat_tests}, specs.List.{list_any, filter}}
+use Rattle.qr_layout.specs.{Region.is_in_region, declared.rectangles.Rectangle.Rectangle, Order.places_passing}
 use Rattle.qr_layout.specs.Version.{total_codewords_of, remainder_bits_of, module_count_of}
-use Rattle.qr_layout.specs.Order.{places_passing}
 use Rattle.qr_layout.specs.{Rectangles.is_in_rectangle, Steps.Rectangles.taken_rectangles, Version.side_of, Alignment.centres_of}
 use Rattle.qr_layout.proofs.lemmas.alignment.{AlignmentLemmas.region_taken, TableLemmas.below}
 use Rattle.qr_layout.proofs.lemmas.order.CountLemmas.{sum_below, sum_below-same, places-sum}
@@ -53,12 +51,11 @@ module _ (f g : ℕ → ℕ) (l r : ℕ) (before : (c : ℕ) → c < l → g c �
   ]
 
 -- what is counted between two columns, from what is counted before and after the rectangle from l to before r
-between-step : (lo hi l r pl pr p q p' q' a b : ℕ) → lo < hi → l ≤ r
-    → (lo ≤ l → p' ≡ p) → (l ≤ lo → lo ≤ r → p' ≡ pl) → (r ≤ lo → p' + pr ≡ pl + p)
-    → (hi ≤ l → q' ≡ q) → (l ≤ hi → hi ≤ r → q' ≡ pl) → (r ≤ hi → q' + pr ≡ pl + q)
-    → (hi ≤ l → a + p ≡ q) → (lo ≤ l → l ≤ hi → a + p ≡ pl) → (l ≤ lo → a ≡ 0)
-    → (hi ≤ r → b ≡ 0) → (lo ≤ r → r ≤ hi → b + pr ≡ q) → (r ≤ lo → b + p ≡ q)
-    → a + b + p' ≡ q'
+between-step : (lo hi l r pl pr p q p' q' a b : ℕ) → lo < hi → l ≤ r → (lo ≤ l → p' ≡ p) →
+    (l ≤ lo → lo ≤ r → p' ≡ pl) → (r ≤ lo → p' + pr ≡ pl + p) → (hi ≤ l → q' ≡ q) →
+    (l ≤ hi → hi ≤ r → q' ≡ pl) → (r ≤ hi → q' + pr ≡ pl + q) → (hi ≤ l → a + p ≡ q) →
+    (lo ≤ l → l ≤ hi → a + p ≡ pl) → (l ≤ lo → a ≡ 0) → (hi ≤ r → b ≡ 0) →
+    (lo ≤ r → r ≤ hi → b + pr ≡ q) → (r ≤ lo → b + p ≡ q) → a + b + p' ≡ q'
 between-step lo hi l r pl pr p q p' q' a b u v a1 a2 a3 b1 b2 b3 c1 c2 c3 d1 d2 d3 = grind arith
 
 -- columns before and after a rectangle are free if they are without it, and its own are not

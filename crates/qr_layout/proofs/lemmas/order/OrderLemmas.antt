@@ -1,17 +1,14 @@
 -- A version has one order, and the length of the order is the number of modules of the encoding region.
 use Rattle.std.proofs.Common.{◌≡◌, ℕ, ◌+◌, ◌≤◌, Bool, true, leb, eqb, List, [], ◌∷◌, ◌++◌, ◌&&◌, length, refl, sym, ◌∙◌, subst, inl, inr, arith}
-use Rattle.std.proofs.lemmas.Bool.{and_parts, eqb-true}
+use Rattle.{std.proofs.lemmas.Bool.{and_parts, eqb-true}, qr_layout.specs.declared.region.Module.Module}
 use borrow.Author.Tests.{leb-true}
-use Rattle.qr_layout.specs.declared.region.Module.{Module}
 use Rattle.qr_layout.specs.Order.{Key, key_of, is_before, IsOrder, places_passing, number_of}
 use Rattle.qr_layout.specs.Version.{total_codewords_of, remainder_bits_of, module_count_of}
 use Rattle.qr_layout.specs.{Region.is_in_region, Region.InRegion, Version.side_of, Alignment.centres_of, Laws.region_size}
-use Rattle.qr_layout.proofs.lemmas.alignment.TableLemmas.{below, below-from}
+use Rattle.qr_layout.proofs.lemmas.{alignment.TableLemmas.{below, below-from}, region.RegionLemmas.{row-in, col-in}}
 use Rattle.qr_layout.proofs.lemmas.order.ListLemmas.{Mem, Rises, Distinct, Mem-at, All-of-Mem, All-rec, Mem-left, Mem-right, Mem-append, Rises-of-pairs, one_rising, Mem-of-Contains}
-use Rattle.qr_layout.proofs.lemmas.order.CountLemmas.{count-of}
+use Rattle.qr_layout.proofs.lemmas.order.{CountLemmas.count-of, PathLemmas.before-parts}
 use Rattle.qr_layout.proofs.lemmas.order.FastCountLemmas.{region-count, agrees, agrees-40}
-use Rattle.qr_layout.proofs.lemmas.order.PathLemmas.{before-parts}
-use Rattle.qr_layout.proofs.lemmas.region.RegionLemmas.{row-in, col-in}
 
 -- no two keys are each before the other
 before-asym : (a b : Key) → is_before a b ≡ true → is_before b a ≡ true → ⊥

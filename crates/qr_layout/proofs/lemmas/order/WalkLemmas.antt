@@ -1,14 +1,12 @@
 -- The modules that the walk visits are the order of the version. Here v is a version, and s the side of its square.
 use Rattle.std.proofs.Common.{◌≡◌, ℕ, zero, suc, ◌+◌, ◌-◌, ◌*◌, ◌<◌, ◌≤◌, Bool, true, false, cond, List, [], ◌∷◌, ◌++◌, length, get_or, refl, sym, ap, ◌∙◌, subst, inl, inr, arith}
-use Rattle.std.proofs.Math.Nat.{mul-le-mul_right}
+use Rattle.std.{proofs.Math.Nat.mul-le-mul_right, specs.List.{AllPairs, AllByRecursion, Contains}}
 use Rattle.std.proofs.lemmas.{Bool.cases_lt, Bool.Decides.nat_tests, List.Elements.All-from_recursion}
-use Rattle.std.specs.List.{AllPairs, AllByRecursion, Contains}
 use Rattle.qr_layout.specs.declared.{region.Module.Module, order.Cursor.Cursor}
 use Rattle.qr_layout.specs.Order.{key_of, is_before, IsOrder, IsOrderAfter}
 use Rattle.qr_layout.specs.Steps.Order.{half_of, place_of, left_of, next_of, IsCursor, places_within, to_come, first_cursor, cursor_at}
 use Rattle.qr_layout.specs.{Region.is_in_region, Region.InRegion, Version.side_of}
-use Rattle.qr_layout.proofs.lemmas.order.ListLemmas.{Rises}
-use Rattle.qr_layout.proofs.lemmas.region.RegionLemmas.{row-in, col-in, col-not_timing}
+use Rattle.qr_layout.proofs.lemmas.{order.ListLemmas.Rises, region.RegionLemmas.{row-in, col-in, col-not_timing}}
 use Rattle.qr_layout.proofs.lemmas.order.PathLemmas.{half_of-bound, rank-bound, mul-lt, mul-le_one, next-left, next-IsCursor, is_before-left}
 
 -- ---- lists

@@ -1,9 +1,8 @@
 -- A module of the encoding region is inside the square, and not in column 6. There are small facts of tests, too.
 use Rattle.std.proofs.Common.{◌≡◌, ℕ, ◌<◌, Bool, true, false, not, ◌&&◌, ◌||◌, ltb, arith}
 use Rattle.std.proofs.lemmas.Bool.{and_parts, Decides.nat_tests}
-use Rattle.qr_layout.specs.declared.region.Module.{Module}
+use Rattle.qr_layout.specs.{declared.region.Module.Module, Version.side_of}
 use Rattle.qr_layout.specs.Region.{is_corner, is_timing, is_version_information, is_alignment, is_in_region, InRegion}
-use Rattle.qr_layout.specs.Version.{side_of}
 
 -- a module of the region is inside the square, and in no part outside the region
 record IsFree (v r c : ℕ) : Type 0 where

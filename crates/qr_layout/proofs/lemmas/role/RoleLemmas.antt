@@ -1,7 +1,6 @@
 -- The places of the bits of the format and version information.
 use Rattle.std.proofs.Common.{◌≡◌, ℕ, zero, suc, ◌+◌, ◌-◌, ◌*◌, ◌<◌, ◌≤◌, Bool, true, false, ◌&&◌, ◌||◌, cond, eqb, ltb, leb, None, Some, refl, ap, ◌∙◌, subst, inl, inr, ◌⊎◌, arith}
-use Rattle.std.proofs.lemmas.Bool.Decides.{nat_tests}
-use Rattle.std.proofs.lemmas.Bool.{and_parts, cases_lt, cases_Bool}
+use Rattle.std.proofs.lemmas.Bool.{Decides.nat_tests, and_parts, cases_lt, cases_Bool}
 use Rattle.std.specs.List.{find, range_with_len}
 use Rattle.qr_layout.specs.{Version.side_of, Region.is_version_block, Region.is_version_information}
 use Rattle.qr_layout.specs.Role.{first_place, second_place, version_place, mirror_of, is_at, format_bit_at, version_bit_at}

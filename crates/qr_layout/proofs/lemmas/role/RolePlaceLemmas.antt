@@ -1,14 +1,11 @@
 -- Which places contain the bits of the format and version information, and that all other free places are the region.
 use Rattle.std.proofs.Common.{◌≡◌, ℕ, ◌+◌, ◌-◌, ◌%◌, ◌<◌, ◌≤◌, max, Bool, true, false, not, ◌&&◌, ◌||◌, cond, eqb, ltb, Option, None, Some, refl, sym, ap, ◌∙◌, inl, inr, ◌⊎◌, arith}
-use Rattle.std.proofs.lemmas.Bool.Decides.{nat_tests}
-use Rattle.std.proofs.lemmas.Bool.{cases_lt, and_parts, eqb-true}
-use Rattle.std.specs.Int.{abs_diff}
-use Rattle.std.specs.{List.find, List.range_with_len, Option.option_map_or}
-use Rattle.qr_layout.specs.declared.{region.Module.Module, role.Role.Role}
+use Rattle.std.proofs.lemmas.Bool.{Decides.nat_tests, cases_lt, and_parts, eqb-true}
+use Rattle.std.specs.{Int.abs_diff, List.{find, range_with_len}, Option.option_map_or}
+use Rattle.qr_layout.specs.{declared.{region.Module.Module, role.Role.Role}, Version.side_of, Alignment.centres_of}
 use Rattle.qr_layout.specs.declared.role.Role.TheVariants.{Fixed, FormatBit, VersionBit, Region}
 use Rattle.qr_layout.specs.Region.{is_alignment, is_corner, is_in_region, is_timing, is_version_information, ring_of}
 use Rattle.qr_layout.specs.Role.{finder_ring, is_alignment_light, pattern_colour, first_place, second_place, version_place, mirror_of, is_at, format_bit_at, version_bit_at, is_dark_module, role_of}
-use Rattle.qr_layout.specs.{Version.side_of, Alignment.centres_of}
 use Rattle.qr_layout.proofs.lemmas.alignment.TableLemmas.{below, below-at, below-from}
 use Rattle.qr_layout.proofs.lemmas.alignment.AlignmentLemmas.{region_free, region-parts}
 use Rattle.qr_layout.proofs.lemmas.role.RoleSymmetryLemmas.{role-symmetric}

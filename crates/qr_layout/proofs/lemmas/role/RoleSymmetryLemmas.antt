@@ -1,11 +1,9 @@
 -- The function patterns are their own transposes, if just bit 7 of the format information, opposite the dark module, is set.
-use Rattle.std.proofs.lemmas.Bool.{eqb-true, cases_Bool}
+use Rattle.std.proofs.{lemmas.Bool.{eqb-true, cases_Bool, Decides.nat_tests}, Math.Bool.{and_comm, or_comm}}
 use Rattle.std.proofs.Common.{◌≡◌, ℕ, ◌-◌, ◌%◌, ◌<◌, ◌≤◌, Bool, true, false, not, ◌&&◌, ◌||◌, cond, eqb, ltb, min, List, [], ◌∷◌, Option, None, Some, refl, sym, ap, ◌∙◌, inl, inr, arith}
-use Rattle.std.proofs.{Math.Bool.and_comm, Math.Bool.or_comm, lemmas.Bool.Decides.nat_tests}
 use Rattle.std.specs.{List.find, List.range_with_len, Option.option_map_or}
-use Rattle.qr_layout.specs.declared.{region.Module.Module, role.Role.Role}
+use Rattle.qr_layout.specs.{declared.{region.Module.Module, role.Role.Role}, Version.side_of}
 use Rattle.qr_layout.specs.declared.role.Role.TheVariants.{Fixed, FormatBit, VersionBit, Region}
-use Rattle.qr_layout.specs.Version.{side_of}
 use Rattle.qr_layout.specs.Role.{finder_ring, is_alignment_light, pattern_colour, first_place, second_place, version_place, mirror_of, is_at, format_bit_at, version_bit_at, is_dark_module, role_of}
 use Rattle.qr_layout.specs.{Alignment.centres_of, Alignment.is_corner_pair, Region.is_alignment, Region.ring_of}
 use Rattle.qr_layout.proofs.lemmas.alignment.AlignmentLemmas.{any-places, list_any-same}

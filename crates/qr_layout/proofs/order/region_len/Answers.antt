@@ -1,5 +1,4 @@
-use Rattle.std.proofs.Common.{arith}
-use Rattle.qr_layout.proofs.lemmas.order.OrderLemmas.{order-length}
+use Rattle.{std.proofs.Common.arith, qr_layout.proofs.lemmas.order.OrderLemmas.order-length}
 use Rattle.qr_layout.proofs.order.region_len.Goals as goal
 
 pub returns-clause-length : goal.returns-clause-length

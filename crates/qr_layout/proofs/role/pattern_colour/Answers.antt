@@ -1,7 +1,6 @@
 use Rattle.std.proofs.Common.{◌≡◌, ℕ, ◌≤◌, ◌<◌, ◌%◌, false, not, eqb, Some, None, cond, sym, ◌∙◌, arith}
-use Rattle.std.proofs.lemmas.Bool.Decides.{nat_tests}
+use Rattle.{std.proofs.lemmas.Bool.Decides.nat_tests, qr_layout.proofs.lemmas.role.RolePlaceLemmas.off-pattern}
 use Rattle.qr_layout.specs.{Region.is_alignment, Role.finder_ring, Role.is_alignment_light, Role.pattern_colour, Version.side_of}
-use Rattle.qr_layout.proofs.lemmas.role.RolePlaceLemmas.{off-pattern}
 use Rattle.qr_layout.proofs.role.pattern_colour.Goals as goal
 
 -- the colour of a place by its ring n, its row, its column and the alignment patterns

@@ -1,6 +1,5 @@
 use Rattle.std.proofs.Common.{arith, ap, ◌∙◌, refl}
-use Rattle.qr_matrix.specs.Difference.{differs, difference_count}
-use Rattle.qr_matrix.specs.Sums.{count_below, places_passing, sum_below}
+use Rattle.qr_matrix.specs.{Difference.{differs, difference_count}, Sums.{count_below, places_passing, sum_below}}
 use Rattle.qr_matrix.proofs.lemmas.{bit_row.SumLemmas.sum_below-more, difference.DifferenceLemmas.row-differs}
 use Rattle.qr_matrix.proofs.difference.differences.Goals as goal
 

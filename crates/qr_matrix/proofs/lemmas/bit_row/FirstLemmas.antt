@@ -1,11 +1,8 @@
 -- The first bit of a bit row that is set.
 use Rattle.std.proofs.Common.{◌≡◌, ℕ, zero, suc, ◌+◌, ◌^◌, ◌<◌, ◌≤◌, Bool, true, false, eqb, cond, [], ◌∷◌, refl, ap, ◌∙◌, inl, inr, w64, arith}
-use Rattle.std.proofs.lemmas.Bool.{cases_lt, Decides.nat_tests}
-use Rattle.std.proofs.lemmas.Nat.Bits.{bit_at-trailing_zeros, bit_at-zero}
-use Rattle.std.specs.Int.{trailing_zeros}
-use Rattle.qr_matrix.specs.{BitRow.has_bit, Steps.columns_passing}
-use Rattle.qr_matrix.proofs.lemmas.bit_row.WordLemmas.{three}
-use Rattle.qr_matrix.proofs.lemmas.bit_row.PlaceLemmas.{has_bit-low, has_bit-middle, has_bit-high}
+use Rattle.std.proofs.lemmas.{Bool.{cases_lt, Decides.nat_tests}, Nat.Bits.{bit_at-trailing_zeros, bit_at-zero}}
+use Rattle.{std.specs.Int.trailing_zeros, qr_matrix.specs.{BitRow.has_bit, Steps.columns_passing}}
+use Rattle.qr_matrix.proofs.lemmas.bit_row.{WordLemmas.three, PlaceLemmas.{has_bit-low, has_bit-middle, has_bit-high}}
 
 -- a word that is 0 has no bit set
 none : (a c : ℕ) → a ≡ 0 → has_bit a c ≡ false

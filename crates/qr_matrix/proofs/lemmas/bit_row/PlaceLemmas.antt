@@ -2,13 +2,10 @@
 use Rattle.std.proofs.Common.{◌≢◌, List, length, get_or, set, ◌≡◌, ℕ, zero, suc, ◌+◌, ◌-◌, ◌*◌, ◌/◌, ◌%◌, ◌^◌, ◌<◌, ◌≤◌, eqb, ltb, Bool, false, not, ◌&&◌, cond, bit_and, bit_or, bit_xor, ◌||◌, count_ones, ap, ◌∙◌, subst, arith}
 use Rattle.std.proofs.lemmas.Nat.{and_le_l, ones_cat, ones-le, shr-shr, shr_split, mod_below, pow_pos, shr_below}
 use Rattle.std.proofs.lemmas.Nat.Bits.{bit_at_above, bit_at_and, bit_at_or, bit_at_xor, bit_at-lt, bit_at_cat_low, bit_at_ones, bit_at_ones_above, bit_at-suc, bit_at_cat_high, bit_at-zero, shr_and_one}
-use Rattle.std.proofs.Math.ListN.{length-set}
-use Rattle.std.proofs.lemmas.List.{get_or_past, get_or-set_same, get_or-set_other}
-use Rattle.std.proofs.lemmas.Bool.Decides.{nat_tests}
-use Rattle.std.specs.Int.{bit_at}
+use Rattle.std.{proofs.Math.ListN.length-set, specs.Int.bit_at}
+use Rattle.std.proofs.lemmas.{List.{get_or_past, get_or-set_same, get_or-set_other}, Bool.Decides.nat_tests}
 use lib.Count.{ones, ones_in}
-use Rattle.qr_matrix.specs.Steps.{AreWords}
-use Rattle.qr_matrix.specs.BitRow.{has, has_bit, bit_row_number}
+use Rattle.qr_matrix.specs.{Steps.AreWords, BitRow.{has, has_bit, bit_row_number}}
 use Rattle.qr_matrix.proofs.lemmas.bit_row.{WordLemmas.three, WordLemmas.three-below, SumLemmas.sum_below-same}
 use Rattle.qr_matrix.specs.{Grid.is_same, Sums.count_below, Sums.sum_below}
 
@@ -147,8 +144,8 @@ unfolding has_bit
 low-bits n m k l = cc (bit_at_cat_low (m / 2 ^ n) n (m % 2 ^ n) k l, shr_split m n)
 
 -- the n bits from place c of a bit row on, which are in one word, are the lowest bits of a number
-places-step : (ws : List ℕ) (n c i k : ℕ) → ((j : ℕ) → get_or ws j 0 < 2 ^ 64) → c < 192 → c % 64 + n ≤ 64 → i ≡ c / 64 → k < n
-    → has_bit (get_or ws i 0 / 2 ^ (c % 64) % 2 ^ n) k ≡ has ws (c + k)
+places-step : (ws : List ℕ) (n c i k : ℕ) → ((j : ℕ) → get_or ws j 0 < 2 ^ 64) → c < 192 →
+    c % 64 + n ≤ 64 → i ≡ c / 64 → k < n → has_bit (get_or ws i 0 / 2 ^ (c % 64) % 2 ^ n) k ≡ has ws (c + k)
 places-step ws n c i k w h m e l = search (arith, low-bits, has_bit-shr, has-place)
 
 -- the four bits that the code reads are the bits c to c + 3 of the bit row

@@ -1,9 +1,7 @@
 -- A pattern of six bits, repeated over three words.
-use Rattle.std.proofs.lemmas.Bool.Decides.{nat_tests}
+use Rattle.std.proofs.lemmas.Bool.{Decides.nat_tests, cases_lt}
 use Rattle.std.proofs.Common.{◌≡◌, ℕ, zero, suc, ◌*◌, ◌/◌, ◌%◌, ◌^◌, ◌<◌, Bool, true, ◌&&◌, bit_or, refl, inl, inr, arith}
-use Rattle.std.proofs.lemmas.Bool.{cases_lt}
-use Rattle.qr_matrix.specs.{BitRow.has_bit, Grid.is_same, Sums.all_below}
-use Rattle.qr_matrix.proofs.lemmas.bit_row.WordLemmas.{three}
+use Rattle.qr_matrix.{specs.{BitRow.has_bit, Grid.is_same, Sums.all_below}, proofs.lemmas.bit_row.WordLemmas.three}
 
 -- the first of two tests
 pub &&-left : (a b : Bool) → (a && b) ≡ true → a ≡ true

@@ -1,8 +1,7 @@
 -- The columns of a row at which the colour changes, and the end of a run of one colour.
 use Rattle.std.proofs.Common.{◌≡◌, ℕ, zero, suc, ◌+◌, ◌-◌, ◌<◌, ◌≤◌, min, ltb, ◌&&◌, not, Bool, true, false, sym, ap, ◌∙◌, arith}
 use Rattle.std.proofs.lemmas.Bool.Decides.{nat_tests}
-use Rattle.qr_matrix.specs.Grid.{Grid, colour}
-use Rattle.qr_matrix.specs.{Runs.IsRunEnd, Steps.is_change}
+use Rattle.qr_matrix.specs.{Grid.{Grid, colour}, Runs.IsRunEnd, Steps.is_change}
 
 -- if the colour does not change at place c + 1, this place has the colour of place c
 kept : (line : ℕ → Bool) (c : ℕ) → is_change line (suc c) ≡ false → line (suc c) ≡ line c

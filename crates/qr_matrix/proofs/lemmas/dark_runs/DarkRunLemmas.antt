@@ -1,14 +1,9 @@
 -- The runs of dark modules of a row, one after the other.
 use Rattle.std.proofs.Common.{◌≡◌, ℕ, zero, suc, ◌+◌, ◌-◌, ◌<◌, ◌≤◌, List, ◌∷◌, ltb, leb, ◌&&◌, ◌||◌, not, Bool, true, false, refl, sym, ap, ◌∙◌, ◌⊎◌, inl, inr, arith}
-use Rattle.std.proofs.lemmas.Bool.{cases_lt, cases_Bool, Decides.nat_tests}
-use Rattle.std.proofs.lemmas.List.Elements.{All-cons, All-head, All-tail, All-weaker}
-use Rattle.std.proofs.lemmas.List.Folds.{list_any_none}
-use Rattle.std.specs.List.{All, AllPairs, list_any}
-use Rattle.qr_matrix.specs.Grid.{Grid, colour, is_same}
-use Rattle.qr_matrix.specs.DarkRuns.{AreDarkRuns}
-use Rattle.qr_matrix.specs.Steps.{columns_passing, is_change, runs_between}
-use Rattle.qr_matrix.specs.declared.dark_runs.Run.{Run}
-use Rattle.qr_matrix.proofs.lemmas.bit_row.BoolLemmas.{or-false}
+use Rattle.std.{proofs.lemmas.Bool.{cases_lt, cases_Bool, Decides.nat_tests}, specs.List.{All, AllPairs, list_any}}
+use Rattle.std.proofs.lemmas.List.{Elements.{All-cons, All-head, All-tail, All-weaker}, Folds.list_any_none}
+use Rattle.qr_matrix.specs.{Grid.{Grid, colour, is_same}, DarkRuns.AreDarkRuns, declared.dark_runs.Run.Run}
+use Rattle.qr_matrix.{specs.Steps.{columns_passing, is_change, runs_between}, proofs.lemmas.bit_row.BoolLemmas.or-false}
 
 -- the runs of dark modules of the row from column `col` on
 pub record AreRunsFrom (g : Grid) (row col : ℕ) (runs : List Run) : Type 0 where

@@ -1,12 +1,8 @@
 -- Differences of squares.
-use Rattle.std.proofs.lemmas.Bool.Decides.{nat_tests}
+use Rattle.std.{proofs.lemmas.Bool.{Decides.nat_tests, cases_lt}, specs.Prelude.{List, ◌↔◌}}
 use Rattle.std.proofs.Common.{◌≡◌, ℕ, zero, suc, ◌<◌, ◌≤◌, Bool, true, false, not, cond, inl, inr, refl, sym, ap, ◌∙◌, arith}
-use Rattle.std.proofs.lemmas.Bool.{cases_lt}
-use Rattle.std.specs.Prelude.{List, ◌↔◌}
-use Rattle.qr_matrix.specs.Grid.{Grid, colour, is_same}
-use Rattle.qr_matrix.specs.Sums.{places_passing, sum_below, count_below}
-use Rattle.qr_matrix.specs.Difference.{differs, difference_count}
-use Rattle.qr_matrix.specs.{BitRow.has, Steps.size_of}
+use Rattle.qr_matrix.specs.{Grid.{Grid, colour, is_same}, BitRow.has, Steps.size_of}
+use Rattle.qr_matrix.specs.{Sums.{places_passing, sum_below, count_below}, Difference.{differs, difference_count}}
 use Rattle.qr_matrix.proofs.lemmas.runs.RowLemmas.{size-is}
 
 -- a colour is the same as itself
@@ -26,10 +22,10 @@ differs-past : (x y : Bool) → x ≡ false → y ≡ false → not (is_same x y
 differs-past x y e f = cc
 
 -- the bits that are set in exactly one of two rows are the places at which the rows differ
-pub row-differs : (g h : Grid) (r : ℕ) (d a b : List ℕ) → g.side ≤ 192 → ((c : ℕ) → has d c ≡ not (is_same (has a c) (has b c)))
-    → ((c : ℕ) → has a c ≡ colour g r c) → ((c : ℕ) → has b c ≡ colour h r c)
-    → ((c : ℕ) → g.side ≤ c → has a c ≡ false) → ((c : ℕ) → g.side ≤ c → has b c ≡ false)
-    → size_of d ≡ count_below g.side (differs g h r)
+pub row-differs : (g h : Grid) (r : ℕ) (d a b : List ℕ) → g.side ≤ 192 →
+    ((c : ℕ) → has d c ≡ not (is_same (has a c) (has b c))) → ((c : ℕ) → has a c ≡ colour g r c) →
+    ((c : ℕ) → has b c ≡ colour h r c) → ((c : ℕ) → g.side ≤ c → has a c ≡ false) →
+    ((c : ℕ) → g.side ≤ c → has b c ≡ false) → size_of d ≡ count_below g.side (differs g h r)
 row-differs g h r d a b few x p q past beyond =
     size-is g.side d (differs g h r) few
     (λ c _. x c ∙ (ap (λ z. not (is_same z (has b c))) (p c) ∙ ap (λ z. not (is_same (colour g r c) z)) (q c)))

@@ -1,8 +1,7 @@
 -- Four bits of a bit row set at once.
 use Rattle.std.proofs.Common.{List, length, get_or, set, ◌≡◌, ℕ, ◌+◌, ◌-◌, ◌*◌, ◌/◌, ◌%◌, ◌^◌, ◌<◌, ◌≤◌, eqb, ltb, leb, Bool, true, false, ◌&&◌, ◌||◌, bit_or, ap, ◌⊎◌, inl, inr, arith}
 use Rattle.std.proofs.{lemmas.Nat.or_lt, lemmas.Nat.Bits.bit_at_above, Math.Nat.mul-le-mul_right, Math.Pow.pow_mono}
-use Rattle.std.proofs.lemmas.Bool.{cases_lt, Decides.nat_tests}
-use Rattle.qr_matrix.specs.BitRow.{has, has_bit}
+use Rattle.{std.proofs.lemmas.Bool.{cases_lt, Decides.nat_tests}, qr_matrix.specs.BitRow.{has, has_bit}}
 use Rattle.qr_matrix.proofs.lemmas.bit_row.PlaceLemmas.{has-place, has_bit-or, word-step, has_bit-shl-low, has_bit-shl-high}
 
 -- bit j of a number b that is shifted up by s

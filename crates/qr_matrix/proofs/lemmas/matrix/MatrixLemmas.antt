@@ -1,8 +1,7 @@
 -- Rows of words, seen as a square of colours: what reading and writing a bit row does to the colours.
 use Rattle.std.proofs.Common.{◌≡◌, ℕ, ◌<◌, ◌≤◌, Bool, true, false, not, ◌&&◌, ◌||◌, cond, eqb, ltb, leb, ◌+◌, List, [], ◌∷◌, length, get_or, set, replicate, ap, ◌∙◌, arith}
-use Rattle.std.proofs.lemmas.Bool.Decides.{nat_tests}
+use Rattle.std.proofs.lemmas.{Bool.Decides.nat_tests, Nat.Bits.bit_at-zero}
 use Rattle.std.proofs.lemmas.List.{get_or_past, get_or_read, get_or-replicate, length-replicate, get_or-set_same, get_or-set_other}
-use Rattle.std.proofs.lemmas.Nat.Bits.{bit_at-zero}
 use Rattle.qr_matrix.specs.Grid.{Grid, square, colour, painted, with_row, with_rectangle, is_same}
 use Rattle.qr_matrix.specs.BitRow.{has, has_bit, bit_row_number, dark_in}
 use Rattle.qr_matrix.proofs.lemmas.{bit_row.BoolLemmas.and-false, runs.ColumnLemmas.has-nothing}

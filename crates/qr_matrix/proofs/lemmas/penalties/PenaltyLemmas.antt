@@ -1,6 +1,5 @@
 -- The penalty from its parts.
-use Rattle.std.proofs.Common.{◌≡◌, ℕ, ◌+◌, ◌*◌, ◌/◌, Bool}
-use Rattle.std.specs.Int.{abs_diff}
+use Rattle.std.{proofs.Common.{◌≡◌, ℕ, ◌+◌, ◌*◌, ◌/◌, Bool}, specs.Int.abs_diff}
 use Rattle.qr_matrix.specs.Sums.{places_passing}
 use Rattle.qr_matrix.specs.Penalty.{run_cost, square_count, window_count, over_lines, dark_cost, penalty_of}
 

@@ -1,9 +1,8 @@
 -- The modules that cost a point for a run are as many as the points that the runs cost.
 use Rattle.std.proofs.Common.{◌≡◌, ℕ, zero, suc, ◌+◌, ◌-◌, ◌*◌, ◌<◌, ◌≤◌, List, ltb, Bool, true, false, not, ◌&&◌, ◌||◌, cond, refl, ◌∙◌, arith}
 use Rattle.std.proofs.lemmas.Bool.Decides.{nat_tests}
-use Rattle.qr_matrix.specs.{BitRow.has, Sums.count_below, Sums.sum_below}
+use Rattle.qr_matrix.specs.{BitRow.has, Sums.{count_below, sum_below}, Steps.{is_charged, size_of}}
 use Rattle.qr_matrix.specs.Runs.{joins, begins_five, begins_long_run, place_cost}
-use Rattle.qr_matrix.specs.Steps.{is_charged, size_of}
 use Rattle.qr_matrix.proofs.lemmas.bit_row.{BoolLemmas.and-false, SumLemmas.sum_below-add, SumLemmas.sum_below-scale}
 use Rattle.qr_matrix.proofs.lemmas.runs.RowLemmas.{five-bit, five-past, size-is}
 

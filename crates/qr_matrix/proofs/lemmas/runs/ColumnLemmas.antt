@@ -1,10 +1,8 @@
 -- Bit operations on neighbouring rows compute the tests of all columns at once.
 use Rattle.std.proofs.Common.{◌≡◌, ℕ, ◌+◌, ◌-◌, ◌<◌, ◌≤◌, List, [], ◌∷◌, eqb, ltb, Bool, true, false, not, ◌&&◌, ◌||◌, cond, ap, ◌∙◌, arith}
 use Rattle.std.proofs.lemmas.{Bool.Decides.nat_tests, Nat.Bits.bit_at-zero}
-use Rattle.qr_matrix.specs.BitRow.{has, has_bit, bit_row_number}
-use Rattle.qr_matrix.specs.Steps.{is_charged, row_share, size_of}
-use Rattle.qr_matrix.specs.Runs.{joins, begins_five, place_cost}
-use Rattle.qr_matrix.specs.{Grid.is_same, Sums.count_below, Sums.sum_below}
+use Rattle.qr_matrix.specs.{BitRow.{has, has_bit, bit_row_number}, Runs.{joins, begins_five, place_cost}}
+use Rattle.qr_matrix.specs.{Steps.{is_charged, row_share, size_of}, Grid.is_same, Sums.{count_below, sum_below}}
 use Rattle.qr_matrix.proofs.lemmas.bit_row.SumLemmas.{count_below-same, count_below-cut, sum_below-same, sum_below-swap}
 use Rattle.qr_matrix.proofs.lemmas.runs.{RowLemmas.joins-past, ChargeLemmas.charged-cost}
 use Rattle.qr_matrix.proofs.lemmas.bit_row.BoolLemmas.{and-false, not-not}

@@ -2,8 +2,7 @@
 use Rattle.std.proofs.Common.{◌≡◌, ℕ, ◌+◌, ◌-◌, ◌<◌, ◌≤◌, List, ltb, Bool, false, not, ◌&&◌, arith}
 use Rattle.std.proofs.lemmas.Bool.Decides.{nat_tests}
 use Rattle.qr_matrix.specs.{BitRow.has, Steps.size_of, Grid.is_same, Sums.count_below, Runs.joins, Runs.begins_five}
-use Rattle.qr_matrix.proofs.lemmas.bit_row.SumLemmas.{count_below-cut}
-use Rattle.qr_matrix.proofs.lemmas.bit_row.BoolLemmas.{and-false, false-and, not-not}
+use Rattle.qr_matrix.proofs.lemmas.bit_row.{SumLemmas.count_below-cut, BoolLemmas.{and-false, false-and, not-not}}
 
 -- ---- the number of set bits
 

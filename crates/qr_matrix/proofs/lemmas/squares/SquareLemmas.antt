@@ -2,8 +2,7 @@
 use Rattle.std.proofs.Common.{◌≡◌, ℕ, ◌+◌, ◌≤◌, List, ltb, Bool, true, false, ◌&&◌, refl, ap, ◌∙◌, arith}
 use Rattle.std.proofs.lemmas.Bool.Decides.{nat_tests}
 use Rattle.qr_matrix.specs.{BitRow.has, Steps.size_of, Grid.is_same, Sums.count_below, Penalty.is_square_of_two}
-use Rattle.qr_matrix.specs.Runs.{joins}
-use Rattle.qr_matrix.proofs.lemmas.{runs.RowLemmas.size-is, bit_row.BoolLemmas.and-false}
+use Rattle.qr_matrix.{specs.Runs.joins, proofs.lemmas.{runs.RowLemmas.size-is, bit_row.BoolLemmas.and-false}}
 
 -- four modules p, q, m and n are equal exactly if p is joined to q in its row, and p to m and q to n in their columns
 square-bools : (t u w p q m n : Bool) → (t ≡ true → u ≡ true) → (((t && is_same p q) && (u && (w && is_same p m))) && (t && (w && is_same q n))) ≡ ((((w && t) && is_same p q) && is_same p m) && is_same p n)

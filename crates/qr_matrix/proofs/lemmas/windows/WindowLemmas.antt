@@ -1,10 +1,9 @@
 -- The windows of rows and columns, found and counted on bit rows.
 use Rattle.std.proofs.Common.{◌≡◌, ℕ, ◌+◌, ◌<◌, ◌≤◌, List, ltb, leb, Bool, true, false, not, ◌&&◌, ◌||◌, cond, sym, ap, ◌∙◌, arith}
-use Rattle.std.proofs.lemmas.Bool.Decides.{nat_tests}
+use Rattle.{std.proofs.lemmas.Bool.Decides.nat_tests, qr_matrix.proofs.lemmas.bit_row.BoolLemmas.{and-false, false-and}}
 use Rattle.qr_matrix.specs.{BitRow.has, Steps.size_of, Sums.count_below, Sums.sum_below}
 use Rattle.qr_matrix.specs.Penalty.{finder_ratio, four_light, reads, is_window, window_count}
 use Rattle.qr_matrix.proofs.lemmas.{bit_row.SumLemmas.sum_below-swap, runs.RowLemmas.size-is, runs.ColumnLemmas.guarded-size, windows.ReadingLemmas.window-is}
-use Rattle.qr_matrix.proofs.lemmas.bit_row.BoolLemmas.{and-false, false-and}
 
 -- in a row, the tests of the ratio before and after four light modules find the windows
 pub window-bit : (s : ℕ) (line core four : ℕ → Bool) (c : ℕ) → ((m : ℕ) → core m ≡ (leb (m + 7) s && reads line m finder_ratio))

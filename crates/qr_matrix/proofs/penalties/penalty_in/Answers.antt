@@ -1,6 +1,5 @@
 use Rattle.std.proofs.Common.{◌*◌, ◌∙◌, ap₂}
-use Rattle.qr_matrix.specs.Grid.{colour}
-use Rattle.qr_matrix.proofs.lemmas.penalties.PenaltyLemmas.{total-is}
+use Rattle.qr_matrix.{specs.Grid.colour, proofs.lemmas.penalties.PenaltyLemmas.total-is}
 use Rattle.qr_matrix.proofs.penalties.penalty_in.Goals as goal
 
 pub returns : goal.returns

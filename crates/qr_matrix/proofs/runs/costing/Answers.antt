@@ -1,6 +1,5 @@
 use Rattle.std.proofs.Common.{◌≡◌, ℕ, ◌-◌, Bool, ltb, ◌&&◌, ap, ◌∙◌, arith}
-use Rattle.std.proofs.lemmas.Bool.Decides.{nat_tests}
-use Rattle.qr_matrix.specs.BitRow.{has}
+use Rattle.{std.proofs.lemmas.Bool.Decides.nat_tests, qr_matrix.specs.BitRow.has}
 use Rattle.qr_matrix.proofs.runs.costing.Goals as goal
 
 -- a bit row that is moved by one bit twice is moved by two bits

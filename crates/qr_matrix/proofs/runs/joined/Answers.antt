@@ -1,6 +1,5 @@
 use Rattle.std.proofs.Common.{◌+◌, ◌-◌, not, ltb, ap, ◌∙◌, arith}
-use Rattle.qr_matrix.specs.{Grid.colour, Grid.is_same, BitRow.has}
-use Rattle.qr_matrix.proofs.lemmas.runs.RowLemmas.{joins-bit}
+use Rattle.qr_matrix.{specs.{Grid.{colour, is_same}, BitRow.has}, proofs.lemmas.runs.RowLemmas.joins-bit}
 use Rattle.qr_matrix.proofs.runs.joined.Goals as goal
 
 pub returns : goal.returns

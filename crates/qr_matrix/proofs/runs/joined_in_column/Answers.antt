@@ -1,5 +1,4 @@
-use Rattle.std.proofs.Common.{not, ltb, ap, ◌∙◌, arith}
-use Rattle.qr_matrix.specs.{Grid.colour, Grid.is_same, BitRow.has}
+use Rattle.{std.proofs.Common.{not, ltb, ap, ◌∙◌, arith}, qr_matrix.specs.{Grid.{colour, is_same}, BitRow.has}}
 use Rattle.qr_matrix.proofs.lemmas.runs.ColumnLemmas.{has-nothing, joins-down-bit, joins-down-none}
 use Rattle.qr_matrix.proofs.runs.joined_in_column.Goals as goal
 

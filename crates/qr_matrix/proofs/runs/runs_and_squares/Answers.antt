@@ -1,10 +1,8 @@
 use Rattle.std.proofs.Common.{◌≡◌, ℕ, ◌+◌, ◌-◌, ◌*◌, ◌≤◌, Bool, true, ◌&&◌, ◌||◌, ltb, arith, ap, sym, ◌∙◌, refl}
 use Rattle.std.proofs.{lemmas.Bool.Decides.nat_tests, Math.Nat.mul-suc}
-use Rattle.qr_matrix.specs.{Grid.colour, BitRow.has}
+use Rattle.qr_matrix.specs.{Grid.colour, BitRow.has, Steps.row_share, Runs.{begins_five, joins, place_cost}}
 use Rattle.qr_matrix.specs.Sums.{count_below, places_passing, sum_below}
 use Rattle.qr_matrix.specs.Penalty.{is_square_of_two, over_lines, run_cost, square_count}
-use Rattle.qr_matrix.specs.Runs.{begins_five, joins, place_cost}
-use Rattle.qr_matrix.specs.Steps.{row_share}
 use Rattle.qr_matrix.proofs.lemmas.bit_row.SumLemmas.{sum_below-more, sum_below-same}
 use Rattle.qr_matrix.proofs.lemmas.runs.{ChargeLemmas.row_cost, RunLemmas.runs-by-places}
 use Rattle.qr_matrix.proofs.lemmas.squares.SquareLemmas.{square-bit, squares-row}

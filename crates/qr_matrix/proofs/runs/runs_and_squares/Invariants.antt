@@ -1,7 +1,6 @@
 use Rattle.std.proofs.Common.{◌≡◌, ℕ, ◌+◌, ◌-◌, ◌*◌, ◌≤◌, ◌&&◌, ltb}
 use Rattle.qr_matrix.specs.{Grid.colour, BitRow.has, Sums.count_below, Sums.sum_below, Penalty.is_square_of_two}
-use Rattle.qr_matrix.specs.Runs.{begins_five, joins, place_cost}
-use Rattle.qr_matrix.specs.Steps.{row_share}
+use Rattle.qr_matrix.specs.{Runs.{begins_five, joins, place_cost}, Steps.row_share}
 use Rattle.qr_matrix.proofs.runs.runs_and_squares.Given as goal
 
 abbrev pub invariant-loop-row : goal.invariant-loop-row

@@ -1,5 +1,4 @@
-use Rattle.std.proofs.Common.{◌*◌, ◌∙◌, inr, arith}
-use Rattle.std.proofs.Math.Nat.{mul-mod_right}
+use Rattle.std.proofs.{Common.{◌*◌, ◌∙◌, inr, arith}, Math.Nat.mul-mod_right}
 use Rattle.qr_matrix.proofs.lemmas.transposition.TranspositionLemmas.{group-more}
 use Rattle.qr_matrix.proofs.transposition.exchange.Goals as goal
 

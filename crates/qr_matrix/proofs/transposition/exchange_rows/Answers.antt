@@ -1,5 +1,4 @@
-use Rattle.std.proofs.Common.{◌+◌, ◌∙◌, set, arith}
-use Rattle.std.proofs.Math.ListN.{length-set}
+use Rattle.std.proofs.{Common.{◌+◌, ◌∙◌, set, arith}, Math.ListN.length-set}
 use Rattle.qr_matrix.proofs.lemmas.transposition.TranspositionLemmas.{two-other, upper-more, lower-more}
 use Rattle.qr_matrix.proofs.transposition.exchange_rows.Goals as goal
 

@@ -1,6 +1,5 @@
 use Rattle.std.proofs.Common.{◌≡◌, ◌+◌, ◌*◌, ◌/◌, ◌%◌, ◌&&◌, eqb, ltb}
-use Rattle.qr_matrix.specs.{Grid.colour, Steps.bit_in}
-use Rattle.qr_matrix.proofs.lemmas.transposition.TranspositionLemmas.{chosen}
+use Rattle.qr_matrix.{specs.{Grid.colour, Steps.bit_in}, proofs.lemmas.transposition.TranspositionLemmas.chosen}
 use Rattle.qr_matrix.proofs.transposition.set_tile.Given as goal
 
 abbrev pub invariant-loop-row : goal.invariant-loop-row

@@ -1,6 +1,5 @@
 use Rattle.std.proofs.Common.{◌≡◌, ◌/◌, ◌&&◌, eqb, ltb}
-use Rattle.qr_matrix.specs.Grid.{colour}
-use Rattle.qr_matrix.proofs.lemmas.transposition.TranspositionLemmas.{chosen}
+use Rattle.qr_matrix.{specs.Grid.colour, proofs.lemmas.transposition.TranspositionLemmas.chosen}
 use Rattle.qr_matrix.proofs.transposition.set_transposed_band.Given as goal
 
 abbrev pub invariant-loop-word : goal.invariant-loop-word

@@ -1,6 +1,5 @@
-use Rattle.std.proofs.Common.{◌+◌, ◌*◌, ◌∙◌, refl, arith}
+use Rattle.{std.proofs.Common.{◌+◌, ◌*◌, ◌∙◌, refl, arith}, qr_matrix.specs.Grid.colour}
 use Rattle.std.proofs.{Math.ListN.length-set, lemmas.List.get_or-set_other}
-use Rattle.qr_matrix.specs.Grid.{colour}
 use Rattle.qr_matrix.proofs.lemmas.transposition.TranspositionLemmas.{zero-at, tile-read, read-more}
 use Rattle.qr_matrix.proofs.transposition.tile_of.Goals as goal
 

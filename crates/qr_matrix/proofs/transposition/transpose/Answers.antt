@@ -1,5 +1,4 @@
-use Rattle.std.proofs.Common.{◌∙◌, refl, arith}
-use Rattle.qr_matrix.specs.{BitRow.has_bit, Steps.bit_in}
+use Rattle.{std.proofs.Common.{◌∙◌, refl, arith}, qr_matrix.specs.{BitRow.has_bit, Steps.bit_in}}
 use Rattle.qr_matrix.proofs.lemmas.transposition.TranspositionLemmas.{mask-at, stage, first-stage, last-stage}
 use Rattle.qr_matrix.proofs.transposition.transpose.Goals as goal
 

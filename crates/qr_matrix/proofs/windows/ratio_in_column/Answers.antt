@@ -1,6 +1,5 @@
 use Rattle.std.proofs.Common.{ltb, sym, ◌∙◌}
-use Rattle.qr_matrix.specs.Grid.{colour}
-use Rattle.qr_matrix.proofs.lemmas.{runs.ColumnLemmas.guarded, windows.ReadingLemmas.ratio-read}
+use Rattle.qr_matrix.{specs.Grid.colour, proofs.lemmas.{runs.ColumnLemmas.guarded, windows.ReadingLemmas.ratio-read}}
 use Rattle.qr_matrix.proofs.windows.ratio_in_column.Goals as goal
 
 pub returns : goal.returns

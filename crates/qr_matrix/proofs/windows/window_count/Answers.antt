@@ -1,6 +1,5 @@
 use Rattle.std.proofs.Common.{arith, ◌≡◌, ap, ◌∙◌, refl}
-use Rattle.qr_matrix.specs.{Grid.colour, Sums.count_below, Sums.sum_below}
-use Rattle.qr_matrix.specs.Penalty.{over_lines, is_window, window_count}
+use Rattle.qr_matrix.specs.{Grid.colour, Sums.{count_below, sum_below}, Penalty.{over_lines, is_window, window_count}}
 use Rattle.qr_matrix.proofs.lemmas.bit_row.SumLemmas.{sum_below-more}
 use Rattle.qr_matrix.proofs.lemmas.windows.WindowLemmas.{windows-down-row, windows-are-columns}
 use Rattle.qr_matrix.proofs.windows.window_count.Goals as goal

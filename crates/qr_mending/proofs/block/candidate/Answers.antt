@@ -1,7 +1,5 @@
-use Rattle.std.proofs.Common.{arith}
-use Rattle.std.proofs.lemmas.List.Elements.{All-from_get_or}
-use Rattle.qr_field.specs.Polynomial.{IsByte}
-use Rattle.qr_mending.proofs.lemmas.block.BlockLemmas.{errors-leave}
+use Rattle.std.proofs.{Common.arith, lemmas.List.Elements.All-from_get_or}
+use Rattle.{qr_field.specs.Polynomial.IsByte, qr_mending.proofs.lemmas.block.BlockLemmas.errors-leave}
 use Rattle.qr_mending.proofs.block.candidate.Goals as goal
 
 pub returns-clause-mended : goal.returns-clause-mended

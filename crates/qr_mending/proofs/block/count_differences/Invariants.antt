@@ -1,5 +1,4 @@
-use Rattle.std.proofs.Common.{◌≡◌, ◌+◌, ◌≤◌, drop, length}
-use Rattle.qr_field.specs.Distance.{differences}
+use Rattle.{std.proofs.Common.{◌≡◌, ◌+◌, ◌≤◌, drop, length}, qr_field.specs.Distance.differences}
 use Rattle.qr_mending.proofs.block.count_differences.Given as goal
 
 abbrev pub invariant-loop-k : goal.invariant-loop-k

@@ -1,7 +1,5 @@
-use Rattle.std.proofs.Common.{◌∙◌, length, ap, arith}
-use Rattle.qr_field.specs.Distance.{errors}
-use Rattle.qr_mending.specs.Erasures.{read_of, IsMendedWithErasures}
-use Rattle.qr_mending.proofs.lemmas.block.BlockLemmas.{erasures-one}
+use Rattle.{std.proofs.Common.{◌∙◌, length, ap, arith}, qr_field.specs.Distance.errors}
+use Rattle.qr_mending.{specs.Erasures.{read_of, IsMendedWithErasures}, proofs.lemmas.block.BlockLemmas.erasures-one}
 use Rattle.qr_mending.proofs.lemmas.erasures.ErasureLemmas.{length-read, erasures-marked, errors-self}
 use Rattle.qr_mending.proofs.erasures.mend_with_erasures.Goals as goal
 use Rattle.qr_mending.proofs.erasures.mend_with_erasures.Goals.{then-unread-misread-via-then-unread-misread, then-unread-misread-via-else-unread-misread+then-not-is_block}

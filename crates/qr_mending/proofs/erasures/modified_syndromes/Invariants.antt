@@ -1,7 +1,5 @@
-use Rattle.std.proofs.Common.{◌≡◌, ℕ, List}
-use Rattle.std.specs.List.{All}
-use Rattle.arrayvec.specs.ArrayVec.{array_vec_len}
-use Rattle.qr_field.specs.Polynomial.{IsByte}
+use Rattle.std.{proofs.Common.{◌≡◌, ℕ, List}, specs.List.All}
+use Rattle.{arrayvec.specs.ArrayVec.array_vec_len, qr_field.specs.Polynomial.IsByte}
 use Rattle.qr_mending.specs.Steps.{Sums.HasValues, Errors.weighted}
 use Rattle.qr_mending.proofs.erasures.modified_syndromes.Given as goal
 

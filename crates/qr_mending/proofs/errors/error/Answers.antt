@@ -1,5 +1,4 @@
-use Rattle.std.proofs.Common.{◌≡◌, ◌-◌, ap, arith}
-use Rattle.qr_field.specs.Polynomial.{power}
+use Rattle.{std.proofs.Common.{◌≡◌, ◌-◌, ap, arith}, qr_field.specs.Polynomial.power}
 use Rattle.qr_mending.proofs.lemmas.block.BlockLemmas.{inverse-coefficient, inverse-one}
 use Rattle.qr_mending.proofs.errors.error.Goals as goal
 use Rattle.qr_mending.proofs.errors.error.Goals.{then-place-eq0, else-place-eq0}

@@ -1,5 +1,4 @@
-use Rattle.std.proofs.Common.{◌≡◌, ℕ, List}
-use Rattle.arrayvec.specs.ArrayVec.{array_vec_len}
+use Rattle.{std.proofs.Common.{◌≡◌, ℕ, List}, arrayvec.specs.ArrayVec.array_vec_len}
 use Rattle.qr_mending.specs.Steps.{Sums.HasValues, Errors.IsLocated}
 use Rattle.qr_mending.proofs.errors.values.Given as goal
 

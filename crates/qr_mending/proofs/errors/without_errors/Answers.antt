@@ -1,7 +1,5 @@
-use Rattle.std.proofs.Common.{◌∙◌, arith}
-use Rattle.std.proofs.lemmas.List.{take_all, Elements.All-from_get_or}
-use Rattle.qr_field.specs.Polynomial.{IsByte, plus}
-use Rattle.qr_field.proofs.lemmas.polynomial.ListLemmas.{length-plus}
+use Rattle.std.proofs.{Common.{◌∙◌, arith}, lemmas.List.{take_all, Elements.All-from_get_or}}
+use Rattle.qr_field.{specs.Polynomial.{IsByte, plus}, proofs.lemmas.polynomial.ListLemmas.length-plus}
 use Rattle.qr_mending.proofs.lemmas.block.BlockLemmas.{sum-more}
 use Rattle.qr_mending.proofs.errors.without_errors.Goals as goal
 

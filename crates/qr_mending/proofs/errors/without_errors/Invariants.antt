@@ -1,5 +1,4 @@
-use Rattle.std.proofs.Common.{◌≡◌, ℕ, List, take, length}
-use Rattle.qr_field.specs.Polynomial.{plus}
+use Rattle.{std.proofs.Common.{◌≡◌, ℕ, List, take, length}, qr_field.specs.Polynomial.plus}
 use Rattle.qr_mending.specs.Steps.{Sums.HasValues, Errors.IsLocated}
 use Rattle.qr_mending.proofs.errors.without_errors.Given as goal
 

@@ -1,8 +1,6 @@
-use Rattle.std.proofs.Common.{◌≡◌, ◌&&◌, not, cond, arith}
-use Rattle.qr_matrix.specs.{Grid.is_same, BitRow.has_bit}
+use Rattle.{std.proofs.Common.{◌≡◌, ◌&&◌, not, cond, arith}, qr_matrix.specs.{Grid.is_same, BitRow.has_bit}}
 use Rattle.qr_bits.proofs.lemmas.bits.BitLemmas.{bool_byte-bit, bool_byte-cond}
-use Rattle.qr_mending.specs.Format.{copy_bit}
-use Rattle.qr_mending.proofs.lemmas.format.FormatLemmas.{sum-more}
+use Rattle.qr_mending.{specs.Format.copy_bit, proofs.lemmas.format.FormatLemmas.sum-more}
 use Rattle.qr_mending.proofs.format.copy_damage.Goals as goal
 
 pub loop-i-preserved : goal.loop-i-preserved

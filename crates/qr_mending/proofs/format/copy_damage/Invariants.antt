@@ -1,6 +1,5 @@
-use Rattle.std.proofs.Common.{◌≡◌, ◌≤◌, ◌&&◌, not}
+use Rattle.{std.proofs.Common.{◌≡◌, ◌≤◌, ◌&&◌, not}, qr_mending.specs.Format.copy_bit}
 use Rattle.qr_matrix.specs.{Grid.is_same, Sums.count_below, BitRow.has_bit}
-use Rattle.qr_mending.specs.Format.{copy_bit}
 use Rattle.qr_mending.proofs.format.copy_damage.Given as goal
 
 abbrev pub invariant-loop-i : goal.invariant-loop-i

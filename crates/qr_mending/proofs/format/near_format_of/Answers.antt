@@ -1,8 +1,5 @@
-use Rattle.std.proofs.Common.{◌≡◌, ℕ, ◌<◌, [], ◌∷◌, get_or, inl, inr, arith}
-use Rattle.std.proofs.lemmas.Bool.{cases_lt}
-use Rattle.qr_layout.specs.declared.level.Level.{Level}
-use Rattle.qr_layout.specs.declared.level.Level.TheVariants.{L, M, Q, H}
-use Rattle.qr_matrix.specs.Grid.{Grid}
+use Rattle.std.proofs.{Common.{◌≡◌, ℕ, ◌<◌, [], ◌∷◌, get_or, inl, inr, arith}, lemmas.Bool.cases_lt}
+use Rattle.{qr_layout.specs.declared.level.Level.{Level, TheVariants.{L, M, Q, H}}, qr_matrix.specs.Grid.Grid}
 use Rattle.qr_mending.specs.{declared.format.FormatCopy.FormatCopy, Format.IsNearFormat}
 use Rattle.qr_mending.proofs.format.near_format_of.Goals as goal
 

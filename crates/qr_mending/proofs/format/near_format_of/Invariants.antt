@@ -1,6 +1,5 @@
-use Rattle.std.proofs.Common.{ℕ, ◌<◌, [], ◌∷◌, get_or}
+use Rattle.{std.proofs.Common.{ℕ, ◌<◌, [], ◌∷◌, get_or}, qr_mending.specs.Format.IsNearFormat}
 use Rattle.qr_layout.specs.declared.level.Level.TheVariants.{L, M, Q, H}
-use Rattle.qr_mending.specs.Format.{IsNearFormat}
 use Rattle.qr_mending.proofs.format.near_format_of.Given as goal
 
 abbrev pub invariant-loop-level : goal.invariant-loop-level

@@ -1,9 +1,6 @@
-use Rattle.std.proofs.Common.{ℕ}
-use Rattle.std.specs.Prelude.{Option, None, Some, MatchOption}
-use Rattle.qr_layout.specs.declared.level.Level.{Level}
-use Rattle.qr_matrix.specs.Grid.{Grid}
-use Rattle.qr_mending.specs.declared.format.FormatCopy.{FormatCopy, TheVariants.First, TheVariants.Second}
-use Rattle.qr_mending.specs.Format.{IsNearFormat}
+use Rattle.std.{proofs.Common.ℕ, specs.Prelude.{Option, None, Some, MatchOption}}
+use Rattle.{qr_layout.specs.declared.level.Level.Level, qr_matrix.specs.Grid.Grid}
+use Rattle.qr_mending.specs.{declared.format.FormatCopy.{FormatCopy, TheVariants.{First, Second}}, Format.IsNearFormat}
 use Rattle.qr_mending.proofs.lemmas.format.FormatLemmas.{each-copy}
 use Rattle.qr_mending.proofs.format.near_format_of_either.Goals as goal
 

@@ -1,5 +1,4 @@
-use Rattle.std.proofs.Common.{ℕ, ◌<◌}
-use Rattle.qr_mending.specs.Format.{IsNearFormat}
+use Rattle.{std.proofs.Common.{ℕ, ◌<◌}, qr_mending.specs.Format.IsNearFormat}
 use Rattle.qr_mending.proofs.format.near_mask_of.Given as goal
 
 abbrev pub invariant-loop-mask : goal.invariant-loop-mask

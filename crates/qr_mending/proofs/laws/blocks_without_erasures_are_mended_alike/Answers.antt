@@ -1,7 +1,5 @@
-use Rattle.std.proofs.Common.{List, ℕ, Option, sym, subst}
-use Rattle.qr_mending.specs.Erasures.{IsMendedWithErasures}
-use Rattle.qr_mending.proofs.lemmas.block.BlockLemmas.{read-mended, mended-read}
-use Rattle.qr_mending.proofs.lemmas.erasures.ErasureLemmas.{read-unmarked}
+use Rattle.{std.proofs.Common.{List, ℕ, Option, sym, subst}, qr_mending.specs.Erasures.IsMendedWithErasures}
+use Rattle.qr_mending.proofs.lemmas.{block.BlockLemmas.{read-mended, mended-read}, erasures.ErasureLemmas.read-unmarked}
 use Rattle.qr_mending.proofs.laws.blocks_without_erasures_are_mended_alike.Goals as goal
 
 pub returns : goal.returns

@@ -1,6 +1,4 @@
-use Rattle.std.proofs.Common.{arith}
-use Rattle.qr_matrix.specs.Grid.{light}
-use Rattle.std.specs.Prelude.{None}
+use Rattle.{std.{proofs.Common.arith, specs.Prelude.None}, qr_matrix.specs.Grid.light}
 use Rattle.qr_symbol.proofs.Facts.{symbol-format, symbol-holds}
 use Rattle.qr_mending.proofs.lemmas.laws.DamageLemmas.{symbol-mended, symbol-mended-as}
 use Rattle.qr_mending.proofs.lemmas.laws.FewModuleLemmas.{few-format, few-held}

@@ -1,5 +1,4 @@
-use Rattle.std.proofs.Common.{refl, arith}
-use Rattle.std.proofs.lemmas.Bool.Decides.{nat_tests}
+use Rattle.std.proofs.{Common.{refl, arith}, lemmas.Bool.Decides.nat_tests}
 use Rattle.qr_layout.specs.Format.{format_word_of, word_remainder}
 use Rattle.qr_matrix.specs.{BitRow.has_bit, Grid.colour, Grid.rows_of}
 use Rattle.qr_mending.proofs.laws.mending_numbers_compute.Goals as goal

@@ -2,24 +2,18 @@
 -- damaged codewords gives the true block.
 use Rattle.std.proofs.Common.{◌≡◌, ℕ, zero, suc, ◌+◌, ◌-◌, ◌*◌, ◌/◌, ◌<◌, ◌≤◌, Option, Some, List, [], ◌∷◌, ◌++◌, length, map, take, drop, get_or, refl, sym, ap, ◌∙◌, subst, arith, bit_xor, length-append}
 use Rattle.std.proofs.lemmas.List.{length-map, length-take, length-take-le, length_push, take_more, take_at, take_rest, take-append-drop, drop_at}
-use Rattle.std.specs.{List.All, Int.Bits.xor_zero_r}
+use Rattle.{std.specs.{List.All, Int.Bits.xor_zero_r}, qr_field.proofs.lemmas.logarithm.PowerLemmas.power-round}
 use Rattle.qr_field.specs.Polynomial.{IsByte, plus, power, IsCorrection}
-use Rattle.qr_field.specs.Distance.{differences, erasures, errors}
-use Rattle.qr_field.specs.Steps.Polynomial.{value_at}
+use Rattle.qr_field.specs.{Distance.{differences, erasures, errors}, Steps.Polynomial.value_at}
 use Rattle.qr_field.proofs.lemmas.galois.{BitLemmas.xor-cancel, ByteLemmas.product-by_one, FieldLemmas.sum-none}
-use Rattle.qr_field.proofs.lemmas.logarithm.PowerLemmas.{power-round}
-use Rattle.qr_field.proofs.lemmas.polynomial.ListLemmas.{length-plus, bytes-plus}
+use Rattle.qr_field.proofs.lemmas.polynomial.{ListLemmas.{length-plus, bytes-plus}, PolynomialLemmas.correction-one}
 use Rattle.qr_field.proofs.lemmas.laws.ValueLemmas.{value-lt, value-plus, block-bytes, block-root}
 use Rattle.qr_field.proofs.lemmas.laws.DistanceLemmas.{weight, weight-plus, difference-same, unambiguous-known, erasures-read, errors-read}
-use Rattle.qr_field.proofs.lemmas.polynomial.PolynomialLemmas.{correction-one}
-use Rattle.qr_mending.specs.Block.{IsBlock, IsMended}
+use Rattle.qr_mending.specs.{Block.{IsBlock, IsMended}, Steps.Polynomial.{all_of, miss_of, IsMonic}}
 use Rattle.qr_mending.specs.{Erasures.IsMendedWithErasures, declared.polynomial.Polynomial.Polynomial}
-use Rattle.qr_mending.specs.Steps.Sums.{dot_of, eval, blend, HasValues}
-use Rattle.qr_mending.specs.Steps.Polynomial.{all_of, miss_of, IsMonic}
-use Rattle.qr_mending.specs.Steps.Errors.{coefficient, low, IsLocated}
-use Rattle.qr_mending.proofs.lemmas.sums.SumLemmas.{dot-blend, blend-push}
+use Rattle.qr_mending.specs.Steps.{Sums.{dot_of, eval, blend, HasValues}, Errors.{coefficient, low, IsLocated}}
+use Rattle.qr_mending.proofs.lemmas.{sums.SumLemmas.{dot-blend, blend-push}, errors.SpectrumLemmas.eval-coefficient}
 use Rattle.qr_mending.proofs.lemmas.errors.WeightLemmas.{root-blends, errors-root, coefficient-head, coefficient-tail}
-use Rattle.qr_mending.proofs.lemmas.errors.SpectrumLemmas.{eval-coefficient}
 
 -- ---- blocks
 
@@ -57,8 +51,8 @@ coefficient-at (c ∷ e) zero l = omega (arith, coefficient-head)
 coefficient-at (c ∷ e) (suc k) l = search (arith, coefficient-tail, coefficient-at e k (omega arith))
 
 -- the first n values of the errors are those of the damaged block
-pub errors-value : (n : ℕ) (damaged b : List ℕ) → IsBlock n b → length b ≡ length damaged → All IsByte damaged →
-    (i : ℕ) → i < n → value_at i (plus damaged b) ≡ value_at i damaged
+pub errors-value : (n : ℕ) (damaged b : List ℕ) → IsBlock n b → length b ≡ length damaged →
+    All IsByte damaged → (i : ℕ) → i < n → value_at i (plus damaged b) ≡ value_at i damaged
 errors-value n damaged b h s a i l =
     let v = value_at i damaged in
     let none : i * 0 ≡ 0 = omega arith in
@@ -71,8 +65,8 @@ errors-value n damaged b h s a i l =
     )
 
 -- so the first n values of the errors are the syndromes
-pub errors-values : (n : ℕ) (damaged b first : List ℕ) → IsBlock n b → length b ≡ length damaged → All IsByte damaged →
-    HasValues first damaged → length first ≡ n → HasValues first (plus damaged b)
+pub errors-values : (n : ℕ) (damaged b first : List ℕ) → IsBlock n b → length b ≡ length damaged →
+    All IsByte damaged → HasValues first damaged → length first ≡ n → HasValues first (plus damaged b)
 errors-values n damaged b first block long a h l = search (arith, errors-value)
 
 -- the list of all coefficients ends with the leading 1
@@ -97,10 +91,10 @@ roots-locate q w e split bytes le small roots =
 
 -- if there are at most t errors, a polynomial that solves the first t equations of their values has a root for each of
 -- them
-pub solved-root : (t : ℕ) (e first q : List ℕ) (p : Polynomial) → All IsByte e → length e ≤ 255 → weight e ≤ t →
-    HasValues first e → 2 * t ≤ length first → p.degree ≤ t → p.degree < length p.terms → All IsByte q → q ≡ all_of p →
-    ((i : ℕ) → i < t → miss_of p (drop i first) ≡ 0) → (m : ℕ) → m < length e → (eval (power m) q ≡ 0 → ⊥) →
-    coefficient m e ≡ 0
+pub solved-root : (t : ℕ) (e first q : List ℕ) (p : Polynomial) → All IsByte e → length e ≤ 255 →
+    weight e ≤ t → HasValues first e → 2 * t ≤ length first → p.degree ≤ t → p.degree < length p.terms →
+    All IsByte q → q ≡ all_of p → ((i : ℕ) → i < t → miss_of p (drop i first) ≡ 0) → (m : ℕ) →
+    m < length e → (eval (power m) q ≡ 0 → ⊥) → coefficient m e ≡ 0
 solved-root t e first q p le small few values long d fits bytes same solved =
     let count : length q ≡ p.degree + 1 = search (arith, length-take-le) in
     errors-root t q e bytes le small few (λ i g. cc (
@@ -194,8 +188,8 @@ blocks-one n b c g h e =
     cc
 
 -- the law of mended blocks with erasures
-pub erasures-one : (n spare : ℕ) (read : List (Option ℕ)) (b c : List ℕ) → length read ≤ 255 → spare ≤ n →
-    IsMendedWithErasures n spare read b → IsMendedWithErasures n spare read c → b ≡ c
+pub erasures-one : (n spare : ℕ) (read : List (Option ℕ)) (b c : List ℕ) → length read ≤ 255 →
+    spare ≤ n → IsMendedWithErasures n spare read b → IsMendedWithErasures n spare read c → b ≡ c
 erasures-one n spare read b c most enough g h =
     let x = g.block in
     let y = h.block in
@@ -223,8 +217,8 @@ pub mended-read : (n spare : ℕ) (damaged b : List ℕ) →
 mended-read n spare damaged b m = search (arith, length-map, erasures-read, errors-read)
 
 -- the law of mended blocks
-pub mended-one : (n t : ℕ) (damaged b c : List ℕ) → length damaged ≤ 255 → 2 * t ≤ n → IsMended n t damaged b →
-    IsMended n t damaged c → b ≡ c
+pub mended-one : (n t : ℕ) (damaged b c : List ℕ) → length damaged ≤ 255 → 2 * t ≤ n →
+    IsMended n t damaged b → IsMended n t damaged c → b ≡ c
 mended-one n t damaged b c most half g h =
     let turn : t ≡ 2 * t / 2 = omega arith in
     let known : (z : List ℕ) → IsMended n t damaged z → IsMendedWithErasures n (2 * t) (map (λ x. Some x) damaged) z =

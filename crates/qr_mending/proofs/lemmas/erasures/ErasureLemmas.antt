@@ -2,23 +2,17 @@
 -- only as many errors are left as codewords were misread. A polynomial that locates the errors left, times those roots,
 -- locates all errors.
 use Rattle.std.proofs.Common.{◌≡◌, ℕ, zero, suc, ◌+◌, ◌-◌, ◌*◌, ◌/◌, ◌<◌, ◌≤◌, Bool, true, false, Some, List, [], ◌∷◌, ◌++◌, length, map, replicate, take, drop, get_or, refl, sym, ap, ◌∙◌, arith, lit<, bit_xor}
-use Rattle.std.proofs.lemmas.List.{drop_more}
-use Rattle.std.proofs.lemmas.List.Elements.{All-nil, All-cons, All-head, All-tail}
+use Rattle.std.proofs.lemmas.List.{drop_more, Elements.{All-nil, All-cons, All-head, All-tail}}
 use Rattle.std.specs.{List.All, List.count_by, Int.Bits.xor_self}
-use Rattle.qr_field.specs.Galois.{product}
-use Rattle.qr_field.specs.Polynomial.{IsByte, plus, power}
-use Rattle.qr_field.specs.Steps.Polynomial.{value_at}
-use Rattle.qr_field.specs.Distance.{difference, erasures, errors}
+use Rattle.qr_field.specs.{Galois.product, Steps.Polynomial.value_at}
+use Rattle.qr_field.specs.{Polynomial.{IsByte, plus, power}, Distance.{difference, erasures, errors}}
 use Rattle.qr_field.proofs.lemmas.galois.ByteLemmas.{product-by_zero, product-of_zero}
-use Rattle.qr_field.proofs.lemmas.logarithm.PowerLemmas.{power-lt}
-use Rattle.qr_field.proofs.lemmas.galois.FieldLemmas.{product-factor, sum-none}
+use Rattle.qr_field.proofs.lemmas.{logarithm.PowerLemmas.power-lt, galois.FieldLemmas.{product-factor, sum-none}}
 use Rattle.qr_field.proofs.lemmas.polynomial.ListLemmas.{length-plus, bytes-plus}
 use Rattle.qr_field.proofs.lemmas.laws.DistanceLemmas.{weight, difference-same, difference-alike}
 use Rattle.qr_mending.specs.{Erasures.read_of, Erasures.IsMendedWithErasures, declared.polynomial.Polynomial.Polynomial}
-use Rattle.qr_mending.specs.Steps.Sums.{dot_of, eval, HasValues}
-use Rattle.qr_mending.specs.Steps.Polynomial.{all_of, miss_of, IsMonic}
-use Rattle.qr_mending.specs.Steps.Errors.{coefficient, weighted, IsLocated}
-use Rattle.qr_mending.specs.Steps.Roots.{rooted}
+use Rattle.qr_mending.specs.Steps.{Sums.{dot_of, eval, HasValues}, Roots.rooted}
+use Rattle.qr_mending.specs.Steps.{Polynomial.{all_of, miss_of, IsMonic}, Errors.{coefficient, weighted, IsLocated}}
 use Rattle.qr_mending.proofs.lemmas.sums.SumLemmas.{dot-blend, eval-lt, values-more}
 use Rattle.qr_mending.proofs.lemmas.errors.WeightLemmas.{length-weighted, bytes-weighted, difference-product, weighted-value, coefficient-lt, coefficient-weighted}
 use Rattle.qr_mending.proofs.lemmas.roots.RootLemmas.{count-more, bytes-rooted, monic-rooted, eval-rooted, has-roots, rooted-roots}
@@ -118,8 +112,8 @@ weighted-few g (x ∷ xs) (y ∷ ys) (false ∷ es) lg le h k r =
 
 -- the next value of the errors that are left
 pub modified-more : (p s e items new : List ℕ) (i v : ℕ) → All IsByte p → All IsByte e → HasValues s e →
-    i + length p ≤ length s → length items ≡ i → HasValues items (weighted p e) → v ≡ dot_of p (drop i s) →
-    new ≡ items ++ v ∷ [] → HasValues new (weighted p e)
+    i + length p ≤ length s → length items ≡ i → HasValues items (weighted p e) →
+    v ≡ dot_of p (drop i s) → new ≡ items ++ v ∷ [] → HasValues new (weighted p e)
 modified-more p s e items new i v lp le h l count now value push =
     let next : v ≡ value_at i (weighted p e) = cc (value, dot-blend p i s e h l, weighted-value p i e lp le) in
     rw push (values-more items i v (weighted p e) count now next)

@@ -3,16 +3,13 @@
 use Rattle.std.proofs.Common.{◌≡◌, ℕ, zero, suc, ◌+◌, ◌-◌, ◌*◌, ◌%◌, ◌<◌, ◌≤◌, List, [], ◌∷◌, length, drop, refl, ap, ◌∙◌, inl, inr, arith, lit<, bit_xor}
 use Rattle.std.proofs.lemmas.{Nat.xor_of_8, Nat.xor_comm, Bool.cases_eq}
 use Rattle.std.proofs.lemmas.List.{drop_more, drop_all, Elements.All-head, Elements.All-tail}
-use Rattle.std.specs.List.{All}
-use Rattle.std.specs.Int.Bits.{xor_zero_l, xor_zero_r, xor_self}
+use Rattle.std.specs.{List.All, Int.Bits.{xor_zero_l, xor_zero_r, xor_self}}
 use Rattle.qr_field.specs.Galois.{product, remainder_of, carryless}
 use Rattle.qr_field.specs.{Polynomial.IsByte, Polynomial.power, Steps.Polynomial.value_at}
-use Rattle.qr_field.proofs.lemmas.galois.BitLemmas.{xor-cancel}
+use Rattle.qr_field.proofs.lemmas.{galois.{BitLemmas.xor-cancel, ProductLemmas.product-lt}, laws.ValueLemmas.value-lt}
 use Rattle.qr_field.proofs.lemmas.galois.ByteLemmas.{product-by_zero, product-by_one, product-of_one}
-use Rattle.qr_field.proofs.lemmas.galois.ProductLemmas.{product-lt}
 use Rattle.qr_field.proofs.lemmas.logarithm.PowerLemmas.{power-lt, power-add, power-round, power-mod, powers-apart}
 use Rattle.qr_field.proofs.lemmas.galois.FieldLemmas.{product-comm, product-by_sum, product-factor, sum-none}
-use Rattle.qr_field.proofs.lemmas.laws.ValueLemmas.{value-lt}
 use Rattle.qr_mending.specs.Steps.{Sums.eval, Sums.HasValues, Errors.coefficient}
 use Rattle.qr_mending.proofs.lemmas.sums.SumLemmas.{field_laws, power-next}
 use Rattle.qr_mending.proofs.lemmas.errors.WeightLemmas.{coefficient-head, coefficient-tail}
@@ -162,7 +159,7 @@ spectrum-coefficient m (c ∷ e) l h a =
     ]
 
 -- the coefficient at m is computed from a list of 255 values
-pub eval-coefficient : (m : ℕ) (s e : List ℕ) → m < 255 → length e ≤ 255 → All IsByte e → length s ≡ 255 →
-    HasValues s e → eval (power (255 - m)) s ≡ coefficient m e
+pub eval-coefficient : (m : ℕ) (s e : List ℕ) → m < 255 → length e ≤ 255 → All IsByte e →
+    length s ≡ 255 → HasValues s e → eval (power (255 - m)) s ≡ coefficient m e
 eval-coefficient m s e l h a n v =
     eval-spectrum 255 0 (power (255 - m)) s e v (omega (arith, n)) ∙ spectrum-coefficient m e l h a

@@ -2,11 +2,9 @@
 -- from 0 as there are errors, so all are 0 if their first values are. They are 0 exactly if each error is at a root of
 -- the polynomial.
 use Rattle.std.proofs.Common.{◌≡◌, ℕ, suc, ◌+◌, ◌*◌, ◌<◌, ◌≤◌, List, [], ◌∷◌, length, refl, sym, ap, ◌∙◌, subst, inl, inr, arith, lit<, bit_xor}
-use Rattle.std.proofs.lemmas.Bool.{cases_eq, eq-eqb, ne_eqb}
-use Rattle.std.proofs.lemmas.List.Elements.{All-nil, All-cons, All-head, All-tail}
+use Rattle.std.proofs.lemmas.{Bool.{cases_eq, eq-eqb, ne_eqb}, List.Elements.{All-nil, All-cons, All-head, All-tail}}
 use Rattle.std.specs.{List.All, Int.Bits.xor_zero_l}
-use Rattle.qr_field.specs.Galois.{product}
-use Rattle.qr_field.specs.{Polynomial.IsByte, Polynomial.power, Steps.Polynomial.value_at, Distance.difference}
+use Rattle.qr_field.specs.{Galois.product, Polynomial.{IsByte, power}, Steps.Polynomial.value_at, Distance.difference}
 use Rattle.qr_field.proofs.lemmas.galois.ByteLemmas.{product-by_zero, product-of_zero}
 use Rattle.qr_field.proofs.lemmas.{galois.ProductLemmas.product-lt, logarithm.PowerLemmas.power-lt}
 use Rattle.qr_field.proofs.lemmas.{galois.FieldLemmas.product-factor, laws.ValueLemmas.value-lt}
@@ -102,8 +100,8 @@ pub coefficient-tail : (m c : ℕ) (e : List ℕ) → (m ≡ length e → ⊥) �
 coefficient-tail m c e h = rw (ne_eqb m (length e) h)
 
 -- if all products are 0, each error is at a root
-weighted-root : (p e : List ℕ) → All IsByte p → All IsByte e → weight (weighted p e) ≡ 0 → (m : ℕ) → m < length e →
-    (eval (power m) p ≡ 0 → ⊥) → coefficient m e ≡ 0
+weighted-root : (p e : List ℕ) → All IsByte p → All IsByte e → weight (weighted p e) ≡ 0 → (m : ℕ) →
+    m < length e → (eval (power m) p ≡ 0 → ⊥) → coefficient m e ≡ 0
 weighted-root p [] lp le w m l n = absurd (omega arith)
 weighted-root p (c ∷ e) lp le w m l n = elim (cases_eq m (length e)) [
   | inl h ↦
@@ -117,8 +115,9 @@ weighted-root p (c ∷ e) lp le w m l n = elim (cases_eq m (length e)) [
 ]
 
 -- if there are at most t errors and their first t sums are 0, each error is at a root
-pub errors-root : (t : ℕ) (p e : List ℕ) → All IsByte p → All IsByte e → length e ≤ 255 → weight e ≤ t →
-    ((i : ℕ) → i < t → blend p i e ≡ 0) → (m : ℕ) → m < length e → (eval (power m) p ≡ 0 → ⊥) → coefficient m e ≡ 0
+pub errors-root : (t : ℕ) (p e : List ℕ) → All IsByte p → All IsByte e → length e ≤ 255 →
+    weight e ≤ t → ((i : ℕ) → i < t → blend p i e ≡ 0) → (m : ℕ) → m < length e →
+    (eval (power m) p ≡ 0 → ⊥) → coefficient m e ≡ 0
 errors-root t p e lp le most few h = weighted-root p e lp le (weighted-none t p e lp le most few h)
 
 -- if each error is at a root, all products are 0

@@ -1,15 +1,12 @@
 -- Any two words of the format information differ in at least seven bits, so at most one word is near to what was read.
-use Rattle.std.specs.Prelude.{◌⊎◌}
+use Rattle.std.{specs.Prelude.◌⊎◌, proofs.lemmas.Bool.{cases_eq, ne_eqb}}
 use Rattle.std.proofs.Common.{◌≡◌, ℕ, zero, suc, ◌+◌, ◌*◌, ◌<◌, ◌≤◌, Bool, true, cond, not, ◌&&◌, ◌||◌, eqb, ltb, add-one, refl, inl, inr, arith}
-use Rattle.std.proofs.lemmas.Bool.{cases_eq, ne_eqb}
 use borrow.Author.Tests.{ltb-true}
-use Rattle.qr_layout.specs.declared.level.Level.{Level}
-use Rattle.qr_layout.specs.Format.{word_remainder, format_with, five_bits, format_word_of}
-use Rattle.qr_layout.proofs.Facts.{below, below-at}
+use Rattle.qr_layout.specs.{declared.level.Level.Level, Format.{word_remainder, format_with, five_bits, format_word_of}}
+use Rattle.{qr_layout.proofs.Facts.{below, below-at}, qr_symbol.proofs.Facts.{level-small, level-one}}
 use Rattle.qr_matrix.specs.{Grid.Grid, Grid.is_same, Sums.count_below, Sums.sum_below, BitRow.has_bit}
 use Rattle.qr_mending.specs.declared.format.FormatCopy.{FormatCopy, TheVariants.First, TheVariants.Second}
 use Rattle.qr_mending.specs.Format.{bit_difference, bit_differences, copy_cost, format_cost, IsNearFormat}
-use Rattle.qr_symbol.proofs.Facts.{level-small, level-one}
 
 -- ---- three words
 
@@ -25,8 +22,8 @@ bits-between zero u r p q = omega arith
 bits-between (suc n) u r p q = search (arith, bit-between, bits-between n u r p q)
 
 -- equal bits have equal numbers of differences
-pub bits-alike : (n : ℕ) (p q r s : ℕ → Bool) → ((i : ℕ) → i < n → p i ≡ r i) → ((i : ℕ) → i < n → q i ≡ s i) →
-    bit_differences n p q ≡ bit_differences n r s
+pub bits-alike : (n : ℕ) (p q r s : ℕ → Bool) → ((i : ℕ) → i < n → p i ≡ r i) →
+    ((i : ℕ) → i < n → q i ≡ s i) → bit_differences n p q ≡ bit_differences n r s
 bits-alike zero p q r s f g = refl
 bits-alike (suc n) p q r s f g =
     cc (
@@ -71,8 +68,8 @@ cost-between : (unknown : Grid) (copy : FormatCopy) (g : Grid) (l k : Level) (m 
 cost-between unknown copy g l k m n = search (arith, bits-between)
 
 -- at most one level and mask are near to a copy
-pub near-one : (unknown : Grid) (copy : FormatCopy) (g : Grid) (l k : Level) (m n : ℕ) → IsNearFormat unknown copy g l m →
-    IsNearFormat unknown copy g k n → (l ≡ k) × (m ≡ n)
+pub near-one : (unknown : Grid) (copy : FormatCopy) (g : Grid) (l k : Level) (m n : ℕ) →
+    IsNearFormat unknown copy g l m → IsNearFormat unknown copy g k n → (l ≡ k) × (m ≡ n)
 near-one unknown copy g l k m n h j = elim (word-one l k m n h.in_range j.in_range) [
   | inl e ↦ e
   | inr a ↦ search (arith, cost-between)
@@ -84,8 +81,8 @@ pub words-apart : (l k : Level) (m n : ℕ) → m < 8 → n < 8 → ((l ≡ k) �
 words-apart l k m n p q o = search (arith, word-one)
 
 -- beside two of them both copies cost at least 28
-pub costs-apart : (unknown g : Grid) (l k : Level) (m n : ℕ) → m < 8 → n < 8 → ((l ≡ k) × (m ≡ n) → ⊥) →
-    28 ≤ format_cost unknown g l m + format_cost unknown g k n
+pub costs-apart : (unknown g : Grid) (l k : Level) (m n : ℕ) → m < 8 → n < 8 →
+    ((l ≡ k) × (m ≡ n) → ⊥) → 28 ≤ format_cost unknown g l m + format_cost unknown g k n
 costs-apart unknown g l k m n p q o =
     omega (
       arith,
@@ -95,8 +92,8 @@ costs-apart unknown g l k m n p q o =
     )
 
 -- of three levels and masks that are near to a copy, two are the same
-pub near-two : (unknown g : Grid) (a b c : FormatCopy) (l k j : Level) (m n i : ℕ) → IsNearFormat unknown a g l m →
-    IsNearFormat unknown b g k n → IsNearFormat unknown c g j i →
+pub near-two : (unknown g : Grid) (a b c : FormatCopy) (l k j : Level) (m n i : ℕ) →
+    IsNearFormat unknown a g l m → IsNearFormat unknown b g k n → IsNearFormat unknown c g j i →
     ((l ≡ k) × (m ≡ n)) ⊎ (((l ≡ j) × (m ≡ i)) ⊎ ((k ≡ j) × (n ≡ i)))
 near-two unknown g First First c l k j m n i x y z = inl (near-one unknown First g l k m n x y)
 near-two unknown g Second Second c l k j m n i x y z = inl (near-one unknown Second g l k m n x y)

@@ -1,13 +1,10 @@
 -- Bounds on the number of codewords of a block that may be changed, and that were changed.
 use Rattle.std.proofs.Common.{◌≡◌, ℕ, ◌≤◌, ◌&&◌, true, leb, List, length, refl, arith}
-use Rattle.std.proofs.lemmas.List.Elements.{All-from_get_or}
-use Rattle.std.specs.List.{All}
+use Rattle.std.{proofs.lemmas.List.Elements.All-from_get_or, specs.List.All}
 use borrow.Author.Tests.{leb-true}
 use Rattle.qr_layout.specs.{declared.level.Level.Level, Blocks.correction_len_of}
-use Rattle.qr_layout.proofs.Facts.{blocks-sound, every, every-at}
-use Rattle.qr_bits.specs.Parsing.{Content}
-use Rattle.qr_matrix.specs.Grid.{Grid}
-use Rattle.qr_matrix.proofs.Facts.{&&-left, &&-right}
+use Rattle.{qr_layout.proofs.Facts.{blocks-sound, every, every-at}, qr_bits.specs.Parsing.Content}
+use Rattle.qr_matrix.{specs.Grid.Grid, proofs.Facts.{&&-left, &&-right}}
 use Rattle.qr_mending.specs.{Message.tolerance_of, Mending.IsMendedReading}
 
 -- in each version and level, from 2 to 15 codewords may be changed, computed

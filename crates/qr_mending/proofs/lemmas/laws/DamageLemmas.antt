@@ -1,17 +1,13 @@
 -- A damaged symbol of an input is mended to the input.
 use Rattle.std.proofs.Common.{◌≡◌, ℕ, ◌≤◌, List, refl, sym, ◌∙◌, ap, arith}
 use Rattle.std.specs.Prelude.{Result, Ok, Err, None, IfOk, MatchResult}
-use Rattle.qr_layout.specs.declared.level.Level.{Level}
-use Rattle.qr_bits.specs.{declared.modes.Rule.Rule, Parsing.Content}
-use Rattle.qr_bits.proofs.Facts.{data_again}
-use Rattle.qr_matrix.specs.Grid.{Grid}
-use Rattle.qr_symbol.specs.{Symbol.grid_of, declared.fault.ReadFault.ReadFault}
+use Rattle.{qr_layout.specs.declared.level.Level.Level, qr_matrix.specs.Grid.Grid}
+use Rattle.qr_bits.{specs.{declared.modes.Rule.Rule, Parsing.Content}, proofs.Facts.data_again}
+use Rattle.qr_symbol.specs.{Symbol.grid_of, declared.fault.ReadFault.ReadFault, Encoding.IsSymbol}
 use Rattle.qr_symbol.specs.declared.fault.ReadFault.TheVariants as fault
-use Rattle.qr_symbol.specs.Encoding.{IsSymbol}
-use Rattle.qr_mending.specs.declared.mending.Mended.{Mended}
+use Rattle.qr_mending.{specs.declared.mending.Mended.Mended, proofs.lemmas.laws.SoundnessLemmas.wrong-one}
 use Rattle.qr_mending.specs.Mending.{wrong_format_modules, wrong_modules, HasFormat, HasWrongModules, HoldsDamaged, IsDamagedForm, IsMendedReading, IsUnmended}
 use Rattle.qr_mending.proofs.lemmas.mending.MendingLemmas.{mended-reading-one, mended-not-refused}
-use Rattle.qr_mending.proofs.lemmas.laws.SoundnessLemmas.{wrong-one}
 
 -- a square that can be read with its damage mended is read so, unless memory is refused
 pub symbol-mended-as : (unknown : Grid) (g : Grid) (v : ℕ) (l : Level) (mask : ℕ) (content : Content) (changed : List ℕ) (r : Result Mended ReadFault) →

@@ -1,14 +1,11 @@
 -- Two symbols of a version that contain different messages lie far apart.
 use Rattle.std.proofs.Common.{◌≡◌, ℕ, ◌<◌, ◌≤◌, List, subst, inl, inr, arith}
-use Rattle.std.proofs.lemmas.Bool.Decides.{nat_tests}
+use Rattle.{std.proofs.lemmas.Bool.Decides.nat_tests, qr_layout.proofs.Facts.format-second}
 use Rattle.qr_layout.specs.{declared.level.Level.Level, Format.format_word_of, Role.second_place}
-use Rattle.qr_layout.proofs.Facts.{format-second}
-use Rattle.qr_matrix.proofs.Facts.{colour-square}
-use Rattle.qr_matrix.specs.BitRow.{has_bit}
+use Rattle.qr_matrix.{proofs.Facts.colour-square, specs.BitRow.has_bit}
 use Rattle.qr_symbol.specs.{Symbol.colour_of, Symbol.grid_of, Distance.HeldMessage}
-use Rattle.qr_symbol.proofs.Facts.{format-read, messages-apart}
+use Rattle.{qr_symbol.proofs.Facts.{format-read, messages-apart}, qr_mending.specs.Format.{bit_differences, copy_bit}}
 use Rattle.qr_mending.specs.declared.format.FormatCopy.{FormatCopy, TheVariants.First, TheVariants.Second}
-use Rattle.qr_mending.specs.Format.{bit_differences, copy_bit}
 use Rattle.qr_mending.specs.Distance.{FormatsLieApart, SomeBlockLiesApart, SymbolsLieApart}
 use Rattle.qr_mending.proofs.lemmas.format.FormatLemmas.{bits-alike, word-one}
 
@@ -20,8 +17,8 @@ second-col : (s i : ℕ) → 21 ≤ s → i < 15 → (second_place s i).col < s
 second-col s i m l = grind (arith, nat_tests)
 
 -- the bits of each copy in a symbol are those of the word of its level and mask
-pub shown : (copy : FormatCopy) (v : ℕ) (l : Level) (mask : ℕ) (cw : List ℕ) (i : ℕ) → 1 ≤ v → v ≤ 40 → mask < 8 → i < 15 →
-    copy_bit copy (grid_of v l mask cw) i ≡ has_bit (format_word_of l mask) i
+pub shown : (copy : FormatCopy) (v : ℕ) (l : Level) (mask : ℕ) (cw : List ℕ) (i : ℕ) → 1 ≤ v →
+    v ≤ 40 → mask < 8 → i < 15 → copy_bit copy (grid_of v l mask cw) i ≡ has_bit (format_word_of l mask) i
 unfolding colour_of
 shown First v l mask cw i p q h r = (format-read v l mask cw p q h).bits i r
 shown Second v l mask cw i p q h r = search (arith, second-row, second-col, colour-square, format-second)
@@ -33,8 +30,8 @@ formats-apart : (v : ℕ) (l k : Level) (m n : ℕ) (cw ds : List ℕ) → 1 ≤
 formats-apart v l k m n cw ds p q h j far = search (arith, bits-alike, shown)
 
 -- different messages of one level differ in some block in more than twice as many codewords as can be mended
-blocks-apart : (v : ℕ) (l k : Level) (m : HeldMessage v l) (n : HeldMessage v k) → 1 ≤ v → v ≤ 40 → l ≡ k → (m.message ≡ n.message → ⊥)
-    → SomeBlockLiesApart v l k m n
+blocks-apart : (v : ℕ) (l k : Level) (m : HeldMessage v l) (n : HeldMessage v k) → 1 ≤ v → v ≤ 40 →
+    l ≡ k → (m.message ≡ n.message → ⊥) → SomeBlockLiesApart v l k m n
 blocks-apart v l k m n p q s o =
     subst (λ (z : Level). (n : HeldMessage v z) → (m.message ≡ n.message → ⊥) → SomeBlockLiesApart v l z m n) s
     (λ n o. let w = messages-apart v l p q m n o in let far = w.2 in (w.0, w.1, omega arith)) n o

@@ -1,15 +1,11 @@
 -- A wrong module damages at most one codeword.
 use Rattle.std.proofs.Common.{◌≡◌, ℕ, ◌<◌, ◌≤◌, Bool, true, not, cond, List, [], ◌∷◌, ◌++◌, map, get_or, refl, ap, arith}
-use Rattle.std.proofs.lemmas.List.Elements.{All-nil, All-cons, All-head, All-tail}
-use Rattle.std.proofs.lemmas.List.Sums.{sum_by-cons}
+use Rattle.std.proofs.lemmas.List.{Elements.{All-nil, All-cons, All-head, All-tail}, Sums.sum_by-cons}
 use Rattle.qr_field.proofs.lemmas.laws.DistanceLemmas.{difference-most, difference-same}
-use Rattle.std.specs.List.{All, count_by, sum_by}
-use Rattle.qr_field.specs.Distance.{difference, differences}
+use Rattle.{std.specs.List.{All, count_by, sum_by}, qr_bits.specs.Bits.{bits_of, field}}
+use Rattle.{qr_field.specs.Distance.{difference, differences}, qr_matrix.specs.{Difference.differs, Grid.Grid}}
 use Rattle.qr_layout.specs.{declared.region.Module.Module, Order.IsOrder, Version.total_codewords_of}
-use Rattle.qr_bits.specs.Bits.{bits_of, field}
-use Rattle.qr_matrix.specs.{Difference.differs, Grid.Grid}
-use Rattle.qr_symbol.specs.Reading.{unmasked, IsRead}
-use Rattle.qr_symbol.proofs.Facts.{bits-one}
+use Rattle.qr_symbol.{specs.Reading.{unmasked, IsRead}, proofs.Facts.bits-one}
 use Rattle.qr_mending.specs.{Message.modules_of, Modules.codeword_differences}
 use Rattle.qr_mending.proofs.lemmas.message.MarkLemmas.{codeword-read, held-bits, held-many, same-is}
 use Rattle.qr_mending.proofs.lemmas.message.MessageLemmas.{item}
@@ -40,13 +36,14 @@ codeword-near : (mask : ℕ) (g h : Grid) (ms : List Module) (a b : ℕ) → a <
 codeword-near mask g h ms a b l m e f = search (arith, difference-most, byte-one, same-bits, difference-same)
 
 -- the bits of codeword j of a square are read from its eight modules
-held-codeword : (v mask : ℕ) (g : Grid) (ms : List Module) (cw : List ℕ) (j : ℕ) → 1 ≤ v → v ≤ 40 → IsOrder v ms →
-    IsRead v mask g cw → j < total_codewords_of v → field 8 (get_or cw j 0) ≡ map (unmasked mask g) (modules_of ms j)
+held-codeword : (v mask : ℕ) (g : Grid) (ms : List Module) (cw : List ℕ) (j : ℕ) → 1 ≤ v → v ≤ 40 →
+    IsOrder v ms → IsRead v mask g cw → j < total_codewords_of v →
+    field 8 (get_or cw j 0) ≡ map (unmasked mask g) (modules_of ms j)
 held-codeword v mask g ms cw j p q o h l = search (arith, codeword-read, held-bits, held-many)
 
 -- codeword j of two squares differs only if one of its modules differs
-pub interleaved-near : (v mask : ℕ) (g h : Grid) (ms : List Module) (cs ds : List ℕ) (j : ℕ) → 1 ≤ v → v ≤ 40 → IsOrder v ms →
-    IsRead v mask g cs → IsRead v mask h ds → j < total_codewords_of v →
+pub interleaved-near : (v mask : ℕ) (g h : Grid) (ms : List Module) (cs ds : List ℕ) (j : ℕ) → 1 ≤ v →
+    v ≤ 40 → IsOrder v ms → IsRead v mask g cs → IsRead v mask h ds → j < total_codewords_of v →
     difference (get_or cs j 0) (get_or ds j 0) ≤ codeword_differences g h ms j
 interleaved-near v mask g h ms cs ds j p q o a b l =
     codeword-near mask g h (modules_of ms j) (get_or cs j 0) (get_or ds j 0)

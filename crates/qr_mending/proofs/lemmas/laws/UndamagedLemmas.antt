@@ -2,18 +2,14 @@
 use Rattle.std.proofs.Common.{◌≡◌, ℕ, zero, suc, ◌+◌, ◌*◌, ◌<◌, ◌≤◌, Bool, false, cond, not, ◌&&◌, List, [], ◌++◌, map, drop, length, get_or, refl, ◌∙◌, arith}
 use Rattle.std.proofs.lemmas.List.{length-map, take_all, take_at, drop_at, get_or-take, get_or-drop, ext_get_or, length-replicate, get_or-replicate}
 use lib.ListN.{replicate}
-use Rattle.qr_field.specs.Polynomial.{IsCorrection}
+use Rattle.{qr_field.specs.Polynomial.IsCorrection, qr_bits.specs.Parsing.Content}
 use Rattle.qr_mending.proofs.lemmas.{block.BlockLemmas.differences-same, message.MessageLemmas.part-len}
 use Rattle.qr_mending.proofs.lemmas.message.LightLemmas.{colour-light, light-mended}
 use Rattle.qr_mending.proofs.lemmas.{mending.MendingLemmas.best, format.FormatLemmas.bits-alike}
-use Rattle.qr_layout.specs.declared.{blocks.Blocks.Blocks, level.Level.Level}
-use Rattle.qr_layout.specs.{Blocks.blocks_of, Format.format_word_of}
-use Rattle.qr_bits.specs.Parsing.{Content}
-use Rattle.qr_matrix.specs.Grid.{Grid, light, is_same}
-use Rattle.qr_matrix.specs.{BitRow.has_bit, Sums.count_below}
+use Rattle.qr_layout.specs.{declared.{blocks.Blocks.Blocks, level.Level.Level}, Blocks.blocks_of, Format.format_word_of}
+use Rattle.qr_matrix.specs.{Grid.{Grid, light, is_same}, BitRow.has_bit, Sums.count_below}
 use Rattle.qr_symbol.specs.Interleaving.{block_count, block_len, start_of, codeword_count, IsPosition, codeword_at, data_sizes, correction_sizes, block_of, check_at, IsFinalMessage, part_of}
-use Rattle.qr_symbol.specs.{Steps.Interleaving.IsChecks, Distance.blocks_in}
-use Rattle.qr_symbol.specs.Reading.{IsFormat, IsRead, IsReading}
+use Rattle.qr_symbol.specs.{Steps.Interleaving.IsChecks, Distance.blocks_in, Reading.{IsFormat, IsRead, IsReading}}
 use Rattle.qr_mending.specs.declared.format.FormatCopy.{FormatCopy, TheVariants.First, TheVariants.Second}
 use Rattle.qr_mending.specs.Format.{bit_difference, bit_differences, copy_bit, copy_cost, IsNearFormat}
 use Rattle.qr_mending.specs.{Message.AreInBlocks, Message.IsMendedIn, Mending.HasFormat, Mending.IsMendedReading}
@@ -60,8 +56,8 @@ pub record FinalParts (b : Blocks) (d cw : List ℕ) (corrections : List (List �
   pub inside : AreInBlocks b cw d checks
   pub same : (i : ℕ) → i < block_count (data_sizes b) → part_of (correction_sizes b) checks i ≡ get_or corrections i []
 
-pub final-parts : (b : Blocks) (d cw : List ℕ) → length d ≡ codeword_count (data_sizes b) → (h : IsFinalMessage b d cw) →
-    FinalParts b d cw h.corrections
+pub final-parts : (b : Blocks) (d cw : List ℕ) → length d ≡ codeword_count (data_sizes b) →
+    (h : IsFinalMessage b d cw) → FinalParts b d cw h.corrections
 final-parts b d cw n h =
     let own = data_sizes b in
     let sizes = correction_sizes b in

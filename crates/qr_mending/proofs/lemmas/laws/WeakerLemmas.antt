@@ -3,11 +3,9 @@
 use Rattle.std.proofs.Common.{◌≡◌, ℕ, ◌-◌, ◌≤◌, List, [], ◌∷◌, ◌++◌, take, drop, length, length-append, length-drop, refl, sym, ◌∙◌, ap, arith}
 use Rattle.std.proofs.lemmas.{Bool.Decides.nat_tests, List.length-take, List.take-append-drop, List.Elements.All-take}
 use Rattle.qr_field.specs.{Polynomial.IsByte, Polynomial.plus, Distance.differences}
-use Rattle.qr_field.proofs.lemmas.polynomial.ListLemmas.{length-plus, bytes-plus}
-use Rattle.qr_field.proofs.lemmas.polynomial.PolynomialLemmas.{correction-some}
+use Rattle.qr_field.proofs.lemmas.polynomial.{ListLemmas.{length-plus, bytes-plus}, PolynomialLemmas.correction-some}
 use Rattle.qr_field.proofs.lemmas.laws.DistanceLemmas.{difference-most, differences-none, weight-none, weight-plus}
-use Rattle.qr_mending.specs.Block.{IsBlock}
-use Rattle.qr_mending.proofs.lemmas.block.BlockLemmas.{bytes-block, errors-value, root-block}
+use Rattle.qr_mending.{specs.Block.IsBlock, proofs.lemmas.block.BlockLemmas.{bytes-block, errors-value, root-block}}
 
 -- lists of one length differ at most everywhere
 differences-most : (xs ys : List ℕ) → length xs ≡ length ys → differences xs ys ≤ length xs

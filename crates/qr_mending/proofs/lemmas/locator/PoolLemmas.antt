@@ -1,17 +1,13 @@
 -- The elimination: what adding a multiple of the pivot does, and that each equation costs at most one polynomial.
 use Rattle.std.proofs.Common.{◌≡◌, ℕ, zero, suc, ◌+◌, ◌<◌, ◌≤◌, List, [], ◌∷◌, length, take, drop, get_or, set, refl, sym, ap, subst, inl, inr, arith, bit_xor}
-use Rattle.std.proofs.lemmas.Bool.{cases_lt}
+use Rattle.std.proofs.{lemmas.Bool.cases_lt, Math.Numerals.suc-eq-add-one}
 use Rattle.std.proofs.lemmas.List.{length-take, length-map, take_all, drop_all, append-nil, get_or-drop, get_or_read}
 use Rattle.std.proofs.lemmas.List.{Edits.get_or-remove_below, Edits.get_or-remove_above, Elements.All-from_get_or}
-use Rattle.std.proofs.Math.Numerals.{suc-eq-add-one}
-use Rattle.std.specs.List.{All, remove, refill}
-use Rattle.std.specs.Int.Bits.{xor_zero_l, xor_self}
-use Rattle.qr_field.specs.Galois.{product}
-use Rattle.qr_field.specs.Polynomial.{IsByte, plus, scaled}
+use Rattle.std.specs.{List.{All, remove, refill}, Int.Bits.{xor_zero_l, xor_self}}
+use Rattle.qr_field.specs.{Galois.product, Polynomial.{IsByte, plus, scaled}}
 use Rattle.qr_field.proofs.lemmas.{galois.ByteLemmas.product-by_zero, polynomial.ListLemmas.take-plus}
-use Rattle.qr_mending.specs.declared.polynomial.Polynomial.{Polynomial}
+use Rattle.qr_mending.{specs.declared.polynomial.Polynomial.Polynomial, proofs.lemmas.sums.SumLemmas.dot-plus}
 use Rattle.qr_mending.specs.Steps.Polynomial.{all_of, IsMonic, miss_of, blank, at, IsRelieved, IsPool}
-use Rattle.qr_mending.proofs.lemmas.sums.SumLemmas.{dot-plus}
 
 -- ---- sums of a polynomial and a multiple
 
@@ -52,16 +48,16 @@ pub leading-stays : (f j d : ℕ) (o t now : List ℕ) → j ≤ d → now ≡ p
 leading-stays f j d o t now l e h = search (arith, plus-beyond, length-multiple)
 
 -- the sum with all coefficients of the multiple
-pub sum-all : (f j k d : ℕ) (o t now : List ℕ) → j ≡ k + 1 → k < d → now ≡ plus (scaled f (take j o)) t →
-    take (d + 1) now ≡ plus (scaled f (take (k + 1) o)) (take (d + 1) t)
+pub sum-all : (f j k d : ℕ) (o t now : List ℕ) → j ≡ k + 1 → k < d →
+    now ≡ plus (scaled f (take j o)) t → take (d + 1) now ≡ plus (scaled f (take (k + 1) o)) (take (d + 1) t)
 sum-all f j k d o t now s l e = search (arith, take-plus, take_all, length-multiple)
 
 -- ---- relief
 
 -- adding the chosen multiple of the pivot makes a polynomial solve the equation, and keeps the equations that both solve
-pub relieves : (pivot before after : Polynomial) (window : List ℕ) (f : ℕ) → f < 256 → All IsByte (all_of pivot) →
-    All IsByte (all_of before) → All IsByte window → pivot.degree < before.degree → before.degree < length before.terms →
-    after.degree ≡ before.degree → (IsMonic before → IsMonic after) →
+pub relieves : (pivot before after : Polynomial) (window : List ℕ) (f : ℕ) → f < 256 →
+    All IsByte (all_of pivot) → All IsByte (all_of before) → All IsByte window → pivot.degree < before.degree →
+    before.degree < length before.terms → after.degree ≡ before.degree → (IsMonic before → IsMonic after) →
     all_of after ≡ plus (scaled f (all_of pivot)) (all_of before) →
     product f (miss_of pivot window) ≡ miss_of before window → IsRelieved pivot window before after
 relieves pivot before after window f lf bp bb bw lower fits degree monic sum same =
@@ -88,8 +84,9 @@ pool-higher t i s pool rest first pivot p l ep er lr k m n = search (arith, get_
 -- if the pivot is removed and multiples of it are added to the polynomials after it, the pool solves one equation more
 pub pool-next : (t i : ℕ) (s : List ℕ) (pool rest new : List Polynomial) (first : ℕ) (pivot : Polynomial) →
     ((k : ℕ) → get_or s k 0 < 256) → IsPool t i s pool → first < length pool →
-    ((k : ℕ) → k < first → miss_of (at pool k) (drop i s) ≡ 0) → pivot ≡ get_or pool first pivot → rest ≡ remove pool first →
-    length rest + 1 ≡ length pool → length new ≡ length rest → ((k : ℕ) → k < first → at new k ≡ at rest k) →
+    ((k : ℕ) → k < first → miss_of (at pool k) (drop i s) ≡ 0) → pivot ≡ get_or pool first pivot →
+    rest ≡ remove pool first → length rest + 1 ≡ length pool → length new ≡ length rest →
+    ((k : ℕ) → k < first → at new k ≡ at rest k) →
     ((k : ℕ) → first ≤ k → k < length rest → IsRelieved pivot (drop i s) (at rest k) (at new k)) →
     IsPool t (i + 1) s new
 pool-next t i s pool rest new first pivot bytes p l before own er lr ln same relieved =

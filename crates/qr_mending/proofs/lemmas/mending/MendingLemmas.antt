@@ -1,25 +1,17 @@
 -- A square with damage is read as at most one content, and then it is not refused.
-use Rattle.std.proofs.lemmas.Bool.{cases_lt}
+use Rattle.std.{proofs.lemmas.Bool.cases_lt, specs.Prelude.{Option, None, Some, Result, Ok, Err, IfOk, MatchOption}}
 use Rattle.std.proofs.Common.{◌≡◌, ◌⊎◌, ℕ, ◌<◌, ◌≤◌, List, refl, inl, inr, arith}
-use Rattle.std.specs.Prelude.{Option, None, Some, Result, Ok, Err, IfOk, MatchOption}
-use Rattle.qr_layout.specs.declared.level.Level.{Level}
-use Rattle.qr_layout.proofs.Facts.{laws-of}
-use Rattle.qr_bits.specs.declared.fault.ParseFault.{ParseFault}
+use Rattle.qr_layout.{specs.declared.level.Level.Level, proofs.Facts.laws-of}
+use Rattle.qr_bits.specs.{declared.fault.ParseFault.ParseFault, Bits.bits_of, Parsing.{Content, parse, IsResultOf}}
 use Rattle.qr_bits.specs.declared.fault.ParseFault.TheVariants as unparsed
-use Rattle.qr_bits.specs.Bits.{bits_of}
-use Rattle.qr_bits.specs.Parsing.{Content, parse, IsResultOf}
-use Rattle.qr_bits.proofs.Facts.{fault-read}
-use Rattle.qr_matrix.specs.Grid.{Grid}
-use Rattle.qr_symbol.specs.declared.fault.ReadFault.{ReadFault}
+use Rattle.{qr_bits.proofs.Facts.fault-read, qr_matrix.specs.Grid.Grid}
+use Rattle.qr_symbol.specs.{declared.fault.ReadFault.ReadFault, Fault.unread_for, Reading.IsRead}
 use Rattle.qr_symbol.specs.declared.fault.ReadFault.TheVariants as fault
-use Rattle.qr_symbol.specs.{Fault.unread_for, Reading.IsRead}
 use Rattle.qr_mending.specs.declared.format.FormatCopy.{FormatCopy, TheVariants.First, TheVariants.Second}
-use Rattle.qr_mending.specs.Format.{copy_cost, format_cost, IsNearFormat}
-use Rattle.qr_mending.specs.Message.{IsMendedIn}
+use Rattle.qr_mending.specs.{Format.{copy_cost, format_cost, IsNearFormat}, Message.IsMendedIn}
 use Rattle.qr_mending.specs.Mending.{rank_of, HasFormat, HoldsDamaged, IsBeyondMending, IsDamagedForm, IsMendedAs, IsMendedReading, IsOfNoUse, IsUnmended}
-use Rattle.qr_symbol.proofs.Facts.{read-one}
+use Rattle.{qr_symbol.proofs.Facts.read-one, qr_mending.proofs.lemmas.message.UnreadLemmas.beside-one}
 use Rattle.qr_mending.proofs.lemmas.format.FormatLemmas.{near-one, each-copy, sure-one}
-use Rattle.qr_mending.proofs.lemmas.message.UnreadLemmas.{beside-one}
 
 -- codewords are a damaged form of at most one message
 pub mended-one : (unknown : Grid) (v : ℕ) (l : Level) → 1 ≤ v → v ≤ 40 → (cw m n x y : List ℕ) →
@@ -40,8 +32,7 @@ beside Second = First
 module _ (unknown g : Grid) where
   -- under one level and mask, a square contains a damaged form of at most one message
   damaged-one : (v : ℕ) (l : Level) (mask : ℕ) (m n x y : List ℕ) → 1 ≤ v → v ≤ 40 →
-      HoldsDamaged unknown v l mask g m x →
-      HoldsDamaged unknown v l mask g n y → (m ≡ n) × (x ≡ y)
+      HoldsDamaged unknown v l mask g m x → HoldsDamaged unknown v l mask g n y → (m ≡ n) × (x ≡ y)
   damaged-one v l mask m n x y least most p q =
       let same = read-one v mask g p.codewords q.codewords p.held q.held in
       mended-one unknown v l least most q.codewords m n x y (rw same at p.mended) q.mended
@@ -209,8 +200,8 @@ module _ (unknown g : Grid) where
   ]
 
   -- a pair of the first copy, where both copies cost at most 13
-  pub sure-first : (v : ℕ) (l : Level) (m : ℕ) → IsNearFormat unknown First g l m → format_cost unknown g l m ≤ 13 →
-      HasFormat unknown v g l m
+  pub sure-first : (v : ℕ) (l : Level) (m : ℕ) → IsNearFormat unknown First g l m →
+      format_cost unknown g l m ≤ 13 → HasFormat unknown v g l m
   sure-first v l m f h = best First v l m f (λ k n q x y d. omega (arith, sure-least l k m n f.in_range q.in_range h))
 
   -- both copies cost at most 13

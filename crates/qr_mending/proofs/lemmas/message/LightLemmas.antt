@@ -1,20 +1,16 @@
 -- A symbol of which all modules were read: its marks are 0, no codeword is erased, and its blocks are mended as blocks of
 -- which every codeword was read.
 use Rattle.std.proofs.Common.{◌≡◌, ◌||◌, Bool, false, ℕ, zero, suc, ◌*◌, ◌<◌, ◌≤◌, Some, List, [], ◌∷◌, ◌++◌, map, take, length, get_or, refl, sym, ◌∙◌, arith}
-use Rattle.std.proofs.lemmas.List.{length-map, length-replicate, length-take}
-use Rattle.std.proofs.lemmas.List.Elements.{All-replicate, All-take}
+use Rattle.std.proofs.lemmas.List.{length-map, length-replicate, length-take, Elements.{All-replicate, All-take}}
 use Rattle.std.specs.{Prelude.Option, List.list_any, List.range_with_len}
 use lib.ListN.{replicate}
 use Rattle.qr_field.specs.{Polynomial.IsCorrection, Distance.differences}
 use Rattle.qr_layout.specs.declared.{blocks.Blocks.Blocks, level.Level.Level, region.Module.Module}
 use Rattle.qr_layout.specs.{Blocks.blocks_of, Version.side_of, Version.total_codewords_of, Region.InRegion}
-use Rattle.qr_layout.proofs.Facts.{col-in, order-length, row-in}
-use Rattle.qr_bits.specs.Bits.{bits_of, field}
-use Rattle.qr_bits.proofs.Facts.{length-bits_of}
-use Rattle.qr_matrix.specs.Grid.{Grid, colour, light, rows_of}
+use Rattle.{qr_layout.proofs.Facts.{col-in, order-length, row-in}, qr_matrix.specs.Grid.{Grid, colour, light, rows_of}}
+use Rattle.qr_bits.{specs.Bits.{bits_of, field}, proofs.Facts.length-bits_of}
 use Rattle.qr_symbol.specs.Interleaving.{block_count, codeword_count, data_sizes, part_of}
-use Rattle.qr_symbol.specs.Reading.{IsRead, IsReadUnmasked}
-use Rattle.qr_symbol.proofs.Facts.{map-each, read-some}
+use Rattle.qr_symbol.{specs.Reading.{IsRead, IsReadUnmasked}, proofs.Facts.{map-each, read-some}}
 use Rattle.qr_mending.specs.Message.{modules_of, read_at, received, spare_of, tolerance_of, IsMendedBlock, IsMendedIn, AreInBlocks}
 use Rattle.qr_field.proofs.lemmas.laws.DistanceLemmas.{erasures-read, errors-read}
 use Rattle.qr_mending.proofs.lemmas.message.MarkLemmas.{held-many}

@@ -2,18 +2,14 @@
 -- read.
 use Rattle.std.proofs.Common.{◌≡◌, ◌==◌, ◌||◌, not, cond, Bool, true, false, ℕ, zero, suc, ◌+◌, ◌-◌, ◌*◌, ◌<◌, ◌≤◌, None, Some, List, [], ◌∷◌, ◌++◌, map, take, drop, length, get_or, refl, sym, ◌∙◌, ap, arith}
 use Rattle.std.proofs.lemmas.List.{append-nil, length-map, length-take, take_at, take-map, take-take, drop_at, drop-drop, drop-map, drop-take}
-use Rattle.std.proofs.lemmas.List.Elements.{All-tail}
-use Rattle.std.specs.List.{list_any, All}
+use Rattle.std.{proofs.lemmas.List.Elements.All-tail, specs.List.{list_any, All}}
 use Rattle.qr_layout.specs.declared.{level.Level.Level, region.Module.Module}
 use Rattle.qr_layout.specs.{Blocks.blocks_of, Order.IsOrder, Version.total_codewords_of}
 use Rattle.qr_layout.proofs.Facts.{below, below-at, only_order, order-length}
-use Rattle.qr_bits.specs.Bits.{bits_of, field}
-use Rattle.qr_bits.proofs.Facts.{length-bits_of, length-field}
-use Rattle.qr_matrix.specs.Grid.{Grid, colour, is_same}
-use Rattle.qr_symbol.specs.Reading.{unmasked, IsRead, IsReadUnmasked}
-use Rattle.qr_mending.specs.Erasures.{read_of}
+use Rattle.qr_bits.{specs.Bits.{bits_of, field}, proofs.Facts.{length-bits_of, length-field}}
+use Rattle.{qr_matrix.specs.Grid.{Grid, colour, is_same}, qr_symbol.specs.Reading.{unmasked, IsRead, IsReadUnmasked}}
+use Rattle.qr_mending.specs.{Erasures.read_of, Steps.Message.{read_by, IsMendedMessage}}
 use Rattle.qr_mending.specs.Message.{modules_of, read_at, received, spare_of, IsMendedIn, AreIndices}
-use Rattle.qr_mending.specs.Steps.Message.{read_by, IsMendedMessage}
 use Rattle.qr_mending.proofs.lemmas.message.MessageLemmas.{in-blocks-one, indices-some, item, items-in-blocks, received-all, received-map}
 
 -- ---- the modules of a codeword
@@ -33,8 +29,8 @@ codeword-bits (c ∷ cs) (suc j) l =
     )
 
 -- codewords are as many as their modules allow
-many-read : (f : Module → Bool) (ms : List Module) (cw : List ℕ) (n : ℕ) → bits_of cw ≡ map f (take (8 * n) ms) →
-    8 * n ≤ length ms → length cw ≡ n
+many-read : (f : Module → Bool) (ms : List Module) (cw : List ℕ) (n : ℕ) →
+    bits_of cw ≡ map f (take (8 * n) ms) → 8 * n ≤ length ms → length cw ≡ n
 many-read f ms cw n e l =
     omega (
       arith,
@@ -61,8 +57,8 @@ codeword-read f ms cw n j e many l =
     )
 
 -- the bits of the codewords of a square are read from the modules in order
-pub held-bits : (v mask : ℕ) (g : Grid) (ms : List Module) (cw : List ℕ) → 1 ≤ v → v ≤ 40 → IsOrder v ms →
-    IsRead v mask g cw → bits_of cw ≡ map (unmasked mask g) (take (8 * total_codewords_of v) ms)
+pub held-bits : (v mask : ℕ) (g : Grid) (ms : List Module) (cw : List ℕ) → 1 ≤ v → v ≤ 40 →
+    IsOrder v ms → IsRead v mask g cw → bits_of cw ≡ map (unmasked mask g) (take (8 * total_codewords_of v) ms)
 held-bits v mask g ms cw p q o h =
     let t = 8 * total_codewords_of v in
     let none : t - length ms ≡ 0 = omega (arith, order-length v ms p q o) in
@@ -78,8 +74,8 @@ held-many v mask g cw p q h =
 -- ---- marks
 
 -- the number of marks of a square
-marks-many : (v : ℕ) (unknown : Grid) (marks : List ℕ) → 1 ≤ v → v ≤ 40 → IsReadUnmasked v unknown marks →
-    length marks ≡ total_codewords_of v
+marks-many : (v : ℕ) (unknown : Grid) (marks : List ℕ) → 1 ≤ v → v ≤ 40 →
+    IsReadUnmasked v unknown marks → length marks ≡ total_codewords_of v
 marks-many v unknown marks p q h =
     many-read (λ m. colour unknown m.row m.col) h.places marks (total_codewords_of v) h.bits
     (omega (arith, order-length v h.places p q h.order))

@@ -2,15 +2,13 @@
 use Rattle.std.proofs.Common.{◌≡◌, ℕ, ◌+◌, ◌<◌, ◌≤◌, List, ◌++◌, map, drop, length, length-drop, get_or, refl, sym, ◌∙◌, ap, subst, arith}
 use Rattle.std.proofs.lemmas.List.{length-map, length-take, take_all, take-map, drop_at, drop-map, take-append-le, drop-append-le, map-append, ext_get_or, get_or-map}
 use Rattle.std.proofs.lemmas.List.Elements.{All-append, All-contains, All-drop, All-from_get_or, All-take}
-use Rattle.std.proofs.lemmas.List.FromFn.{fill_by_all, get_or-range_with_len, length-range_with_len}
-use Rattle.std.proofs.lemmas.Simd.{map-map}
-use Rattle.std.specs.List.{range_with_len, All}
+use Rattle.std.proofs.lemmas.{List.FromFn.{fill_by_all, get_or-range_with_len, length-range_with_len}, Simd.map-map}
+use Rattle.{std.specs.List.{range_with_len, All}, qr_mending.specs.Message.{received, AreInBlocks}}
 use Rattle.qr_layout.specs.declared.{blocks.Blocks.Blocks, level.Level.Level}
 use Rattle.qr_layout.specs.{Blocks.blocks_of, Version.total_codewords_of}
 use Rattle.qr_symbol.specs.declared.interleaving.BlockSizes.{BlockSizes}
 use Rattle.qr_symbol.specs.Interleaving.{Position, IsPosition, block_count, block_len, start_of, codeword_count, codeword_at, data_sizes, correction_sizes, IsGathered, part_of}
 use Rattle.qr_symbol.proofs.Facts.{start-next, start-most, position-in, positions-one, position-of, map-at, map-each, gather-some, sizes-whole, Mem-of-Contains}
-use Rattle.qr_mending.specs.Message.{received, AreInBlocks}
 
 -- ---- one list of received codewords
 
@@ -93,8 +91,8 @@ pub received-map : (b : Blocks) (f : ℕ → ℕ) (ks js : List ℕ) (i : ℕ) �
 received-map b f ks js i = search (arith, part-map, map-append)
 
 -- what holds of the index of each codeword holds of those of a block
-pub received-all : (b : Blocks) (P : ℕ → Type 0) (n : ℕ) (ks js : List ℕ) (i : ℕ) → ((k : ℕ) → k < n → P k)
-    → AreInBlocks b (range_with_len 0 n) ks js → All P (received b ks js i)
+pub received-all : (b : Blocks) (P : ℕ → Type 0) (n : ℕ) (ks js : List ℕ) (i : ℕ) →
+    ((k : ℕ) → k < n → P k) → AreInBlocks b (range_with_len 0 n) ks js → All P (received b ks js i)
 received-all b P n ks js i h inside =
     let c = data_sizes b in
     let sizes = correction_sizes b in
@@ -119,6 +117,6 @@ pub part-grown : (c : BlockSizes) (xs es : List ℕ) (i k : ℕ) → length xs �
 part-grown c xs es i k h l = search (arith, start-next, start-most, drop-append-le, take-append-le, length-drop)
 
 -- the block that was added last
-pub part-last : (c : BlockSizes) (xs es : List ℕ) (k : ℕ) → length xs ≡ start_of c k → length es ≡ block_len c k →
-    part_of c (xs ++ es) k ≡ es
+pub part-last : (c : BlockSizes) (xs es : List ℕ) (k : ℕ) → length xs ≡ start_of c k →
+    length es ≡ block_len c k → part_of c (xs ++ es) k ≡ es
 part-last c xs es k h l = search (arith, drop_at, take_all)

@@ -1,20 +1,16 @@
 -- A message of which some codewords were erased is mended block by block, to at most one message.
 use Rattle.std.proofs.Common.{◌≡◌, ◌==◌, not, Bool, ℕ, ◌+◌, ◌-◌, ◌*◌, ◌/◌, ◌<◌, ◌≤◌, Option, List, [], ◌∷◌, ◌++◌, map, length, length-append, get_or, sym, ◌∙◌, subst, inl, inr, arith}
-use Rattle.std.proofs.lemmas.Bool.{cases_lt}
-use Rattle.std.proofs.lemmas.List.{length_push, get_or_append_left, get_or_push, ext_get_or}
-use Rattle.std.specs.List.{range_with_len}
+use Rattle.std.proofs.lemmas.{Bool.cases_lt, List.{length_push, get_or_append_left, get_or_push, ext_get_or}}
+use Rattle.{std.specs.List.range_with_len, qr_matrix.specs.Grid.Grid}
 use Rattle.qr_field.specs.{Polynomial.IsCorrection, Distance.erasures, Distance.errors}
 use Rattle.qr_layout.specs.declared.{blocks.Blocks.Blocks, level.Level.Level}
-use Rattle.qr_layout.specs.{Blocks.blocks_of, Version.total_codewords_of}
-use Rattle.qr_layout.proofs.Facts.{only_order}
-use Rattle.qr_matrix.specs.Grid.{Grid}
+use Rattle.qr_layout.{specs.{Blocks.blocks_of, Version.total_codewords_of}, proofs.Facts.only_order}
 use Rattle.qr_symbol.specs.Interleaving.{block_count, block_len, codeword_count, data_sizes, part_of}
 use Rattle.qr_symbol.proofs.Facts.{len-most, parts-same, start-next}
 use Rattle.qr_field.proofs.{lemmas.laws.DistanceLemmas.unambiguous-known, Facts.correction-one}
-use Rattle.qr_mending.specs.Erasures.{read_of, IsMendedWithErasures}
+use Rattle.qr_mending.{specs.Erasures.{read_of, IsMendedWithErasures}, proofs.lemmas.erasures.ErasureLemmas.length-read}
 use Rattle.qr_mending.specs.Message.{read_at, received, spare_of, IsMendedIn, IsMendedBlock, AreInBlocks}
 use Rattle.qr_mending.specs.Steps.Message.{read_by, AreMended, IsMendedMessage}
-use Rattle.qr_mending.proofs.lemmas.erasures.ErasureLemmas.{length-read}
 use Rattle.qr_mending.proofs.lemmas.message.MessageLemmas.{in-blocks-one, part-grown, part-last, part-len}
 
 -- ---- blocks
@@ -28,8 +24,9 @@ pub none-erased : (n spare : ℕ) (codewords : List ℕ) (erased : List Bool) �
 none-erased n spare codewords erased none d e long right near = search (arith, length-append, length-read)
 
 -- one block more
-unread-push : (b : Blocks) (spare : ℕ) (d e u w message misread es c : List ℕ) (n x : ℕ) → n < block_count (data_sizes b) →
-    AreMended b spare d e u w n message misread → length es ≡ block_len (data_sizes b) n → IsCorrection es b.ec_len c →
+unread-push : (b : Blocks) (spare : ℕ) (d e u w message misread es c : List ℕ) (n x : ℕ) →
+    n < block_count (data_sizes b) → AreMended b spare d e u w n message misread →
+    length es ≡ block_len (data_sizes b) n → IsCorrection es b.ec_len c →
     x ≡ errors (read_by (received b d e n) (received b u w n)) (es ++ c) →
     erasures (read_by (received b d e n) (received b u w n)) + 2 * x ≤ spare →
     AreMended b spare d e u w (n + 1) (message ++ es) (misread ++ x ∷ [])
@@ -53,11 +50,13 @@ unread-push b spare d e u w message misread es c n x l h len right count near =
 -- ---- at most one message
 
 -- blocks of which this was read are mended to at most one message
-blocks-one : (b : Blocks) (spare : ℕ) (read : ℕ → List (Option ℕ)) (m n x y : List ℕ) → spare ≤ b.ec_len →
-    b.short_len + 1 + b.ec_len ≤ 255 → length m ≡ codeword_count (data_sizes b) → length n ≡ codeword_count (data_sizes b) →
-    length x ≡ block_count (data_sizes b) → length y ≡ block_count (data_sizes b) →
+blocks-one : (b : Blocks) (spare : ℕ) (read : ℕ → List (Option ℕ)) (m n x y : List ℕ) →
+    spare ≤ b.ec_len → b.short_len + 1 + b.ec_len ≤ 255 → length m ≡ codeword_count (data_sizes b) →
+    length n ≡ codeword_count (data_sizes b) → length x ≡ block_count (data_sizes b) →
+    length y ≡ block_count (data_sizes b) →
     ((i : ℕ) → i < block_count (data_sizes b) → IsMendedBlock b spare (read i) m (get_or x i 0) i) →
-    ((i : ℕ) → i < block_count (data_sizes b) → IsMendedBlock b spare (read i) n (get_or y i 0) i) → (m ≡ n) × (x ≡ y)
+    ((i : ℕ) → i < block_count (data_sizes b) → IsMendedBlock b spare (read i) n (get_or y i 0) i) →
+    (m ≡ n) × (x ≡ y)
 blocks-one b spare read m n x y enough few mlong nlong xlong ylong g h =
     let c = data_sizes b in
     let part : (i : ℕ) → i < block_count c → part_of c m i ≡ part_of c n i =
@@ -106,11 +105,11 @@ module _ (b : Blocks) (spare : ℕ) (d e u w : List ℕ) (n k : ℕ) (codewords 
   read-same = rw (ee, em, ec)
 
   -- one block more, stated with the variables of the loop
-  pub push-unread : (x : ℕ) (message misread es more counts : List ℕ) → AreMended b spare d e u w k message misread →
-      length es + n ≡ length codewords →
+  pub push-unread : (x : ℕ) (message misread es more counts : List ℕ) →
+      AreMended b spare d e u w k message misread → length es + n ≡ length codewords →
       ((c : List ℕ) × IsCorrection es n c × (x ≡ errors (read_of codewords erased) (es ++ c))) →
-      erasures (read_of codewords erased) + 2 * x ≤ spare → more ≡ message ++ es → counts ≡ misread ++ x ∷ [] →
-      AreMended b spare d e u w (k + 1) more counts
+      erasures (read_of codewords erased) + 2 * x ≤ spare → more ≡ message ++ es →
+      counts ≡ misread ++ x ∷ [] → AreMended b spare d e u w (k + 1) more counts
   push-unread x message misread es more counts h le c near push count =
       rw (push, count) (unread-push b spare d e u w message misread es c.0 k x l h (omega (arith, le, long, en))
       (rw en at c.1) (rw read-same at c.2) (rw read-same at near))

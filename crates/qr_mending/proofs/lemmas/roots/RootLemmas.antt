@@ -1,17 +1,13 @@
 -- Polynomials with given roots: their lengths, their leading coefficients and their values.
 use Rattle.std.proofs.Common.{◌≡◌, ℕ, ◌+◌, ◌-◌, ◌<◌, ◌≤◌, Bool, true, false, if◌then◌else◌, List, [], ◌∷◌, ◌++◌, length, drop, get_or, refl, ap, arith, bit_xor}
-use Rattle.std.proofs.lemmas.Nat.{xor_of_8, xor_comm}
+use Rattle.std.proofs.lemmas.{Nat.{xor_of_8, xor_comm}, List.Elements.{All-nil, All-cons, All-head, All-tail}}
 use Rattle.std.proofs.lemmas.List.Sums.{sum_by-cons, sum_by-take-drop, sum_by-drop_more}
-use Rattle.std.proofs.lemmas.List.Elements.{All-nil, All-cons, All-head, All-tail}
-use Rattle.std.specs.List.{All, count_by, sum_by}
-use Rattle.std.specs.Int.Bits.{xor_assoc, xor_zero_l, xor_zero_r, xor_self}
+use Rattle.std.specs.{List.{All, count_by, sum_by}, Int.Bits.{xor_assoc, xor_zero_l, xor_zero_r, xor_self}}
 use Rattle.qr_field.specs.{Galois.product, Polynomial.IsByte, Polynomial.power}
 use Rattle.qr_field.proofs.lemmas.galois.ByteLemmas.{product-by_zero, product-of_zero, product-of_one}
-use Rattle.qr_field.proofs.lemmas.galois.ProductLemmas.{product-lt, product-xor}
-use Rattle.qr_field.proofs.lemmas.logarithm.PowerLemmas.{power-lt}
+use Rattle.qr_field.proofs.lemmas.{galois.ProductLemmas.{product-lt, product-xor}, logarithm.PowerLemmas.power-lt}
 use Rattle.qr_field.proofs.lemmas.galois.FieldLemmas.{product-assoc, product-front, product-by_sum}
-use Rattle.qr_mending.specs.Steps.{Sums.eval, Roots.times_root, Roots.rooted}
-use Rattle.qr_mending.proofs.lemmas.sums.SumLemmas.{eval-lt}
+use Rattle.qr_mending.{specs.Steps.{Sums.eval, Roots.{times_root, rooted}}, proofs.lemmas.sums.SumLemmas.eval-lt}
 
 -- ---- one root
 

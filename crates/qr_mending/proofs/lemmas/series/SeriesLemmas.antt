@@ -1,13 +1,10 @@
 -- Damaged squares are mended one by one, and are joined to the bytes of the undamaged squares.
-use Rattle.std.proofs.Common.{arith, ◌≡◌, ℕ, List, [], ◌∷◌}
+use Rattle.{std.proofs.Common.{arith, ◌≡◌, ℕ, List, [], ◌∷◌}, qr_mending.specs.Mending.IsUnmended}
 use Rattle.std.specs.Prelude.{Result, Ok, Err, MatchResult}
-use Rattle.qr_bits.specs.Parsing.{Content}
-use Rattle.qr_matrix.specs.Grid.{Grid, light}
-use Rattle.qr_symbol.specs.declared.fault.ReadFault.{ReadFault}
+use Rattle.{qr_bits.specs.Parsing.Content, qr_matrix.specs.Grid.{Grid, light}}
+use Rattle.qr_symbol.specs.{declared.fault.ReadFault.ReadFault, Reading.IsReading, Joining.{AreReadBy, IsJoined}}
 use Rattle.qr_symbol.specs.declared.fault.ReadFault.TheVariants as fault
-use Rattle.qr_symbol.specs.{Reading.IsReading, Joining.AreReadBy, Joining.IsJoined}
 use Rattle.qr_symbol.proofs.Facts.{joined-refused, joining-one, message-one, moved}
-use Rattle.qr_mending.specs.Mending.{IsUnmended}
 use Rattle.qr_mending.specs.Series.{AreDamagedSquares, IsDamagedSquare, IsMendedContent, IsMendedSeries, IsUnmendedSeries}
 use Rattle.qr_mending.proofs.lemmas.mending.MendingLemmas.{mended-reading-one, mended-not-refused}
 
@@ -42,7 +39,8 @@ pub damaged-joined : (ds ws : List Grid) (x : List ℕ) → AreDamagedSquares ds
 damaged-joined ds ws x s h = search (arith, damaged-contents)
 
 -- squares that can be joined to bytes with their damage mended are joined to them, unless memory is refused
-pub mended-to : {T : Type 0} (bytes : T → List ℕ) (ds : List Grid) (x : List ℕ) (r : Result T ReadFault) → IsMendedSeries ds x →
-    MatchResult r (λ b. IsMendedSeries ds (bytes b)) (IsUnmendedSeries ds) → MatchResult r (λ b. bytes b ≡ x) (λ e. e ≡ fault.Memory)
+pub mended-to : {T : Type 0} (bytes : T → List ℕ) (ds : List Grid) (x : List ℕ) (r : Result T ReadFault) →
+    IsMendedSeries ds x → MatchResult r (λ b. IsMendedSeries ds (bytes b)) (IsUnmendedSeries ds) →
+    MatchResult r (λ b. bytes b ≡ x) (λ e. e ≡ fault.Memory)
 mended-to bytes ds x (Ok b) h k = joining-one IsMendedContent content-one ds (bytes b) x k h
 mended-to bytes ds x (Err e) h k = search (arith, joined-refused, content-one, content-refused)

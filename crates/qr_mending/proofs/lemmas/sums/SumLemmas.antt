@@ -3,17 +3,12 @@ use Rattle.std.proofs.Common.{◌≡◌, ℕ, ◌+◌, ◌*◌, ◌<◌, ◌≤�
 use Rattle.std.proofs.lemmas.{Nat.xor_of_8, Nat.xor_comm, Bool.cases_lt}
 use Rattle.std.proofs.lemmas.List.{length_push, get_or_push, get_or_append_left, drop_more, take_more}
 use Rattle.std.proofs.lemmas.List.Elements.{All-head, All-tail, All-take, All-from_get_or}
-use Rattle.std.specs.List.{All}
-use Rattle.std.specs.Int.Bits.{xor_assoc, xor_zero_l, xor_zero_r}
-use Rattle.qr_field.specs.Galois.{product}
-use Rattle.qr_field.specs.Polynomial.{IsByte, plus, scaled, power}
-use Rattle.qr_field.specs.Steps.Polynomial.{value_at}
-use Rattle.qr_field.proofs.lemmas.galois.BitLemmas.{xor-swap}
+use Rattle.std.specs.{List.All, Int.Bits.{xor_assoc, xor_zero_l, xor_zero_r}}
+use Rattle.qr_field.specs.{Galois.product, Steps.Polynomial.value_at, Polynomial.{IsByte, plus, scaled, power}}
+use Rattle.qr_field.proofs.lemmas.galois.{BitLemmas.xor-swap, ProductLemmas.{product-lt, product-xor}}
 use Rattle.qr_field.proofs.lemmas.galois.ByteLemmas.{product-by_zero, product-of_zero, product-by_one, product-of_one}
-use Rattle.qr_field.proofs.lemmas.galois.ProductLemmas.{product-lt, product-xor}
-use Rattle.qr_field.proofs.lemmas.logarithm.PowerLemmas.{power-lt, power-add}
+use Rattle.qr_field.proofs.lemmas.{logarithm.PowerLemmas.{power-lt, power-add}, laws.ValueLemmas.value-lt}
 use Rattle.qr_field.proofs.lemmas.galois.FieldLemmas.{product-comm, product-assoc, product-front, product-by_sum}
-use Rattle.qr_field.proofs.lemmas.laws.ValueLemmas.{value-lt}
 use Rattle.qr_mending.specs.Steps.Sums.{dot_of, eval, blend, HasValues}
 
 -- ---- the field
@@ -68,16 +63,16 @@ value-push i (b ∷ p) c a l =
     )
 
 -- the value of a block with one codeword more
-pub value-more : (i k v x w : ℕ) (block : List ℕ) → k < length block → ((j : ℕ) → get_or block j 0 < 256) →
-    x ≡ power i → v ≡ value_at i (take k block) → w ≡ product v x →
-    bit_xor w (get_or block k 0) ≡ value_at i (take (k + 1) block)
+pub value-more : (i k v x w : ℕ) (block : List ℕ) → k < length block →
+    ((j : ℕ) → get_or block j 0 < 256) → x ≡ power i → v ≡ value_at i (take k block) →
+    w ≡ product v x → bit_xor w (get_or block k 0) ≡ value_at i (take (k + 1) block)
 value-more i k v x w block l b ex ev ew =
     let bytes = All-take IsByte k block (All-from_get_or IsByte block 0 (λ j m. b j)) in
     cc (value-push i (take k block) (get_or block k 0) bytes (b k), take_more block k 0 l)
 
 -- a list of values with one value more
-pub values-more : (s : List ℕ) (k v : ℕ) (e : List ℕ) → length s ≡ k → HasValues s e → v ≡ value_at k e →
-    HasValues (s ++ v ∷ []) e
+pub values-more : (s : List ℕ) (k v : ℕ) (e : List ℕ) → length s ≡ k → HasValues s e →
+    v ≡ value_at k e → HasValues (s ++ v ∷ []) e
 values-more s k v e n h f = record {
   each = λ j l. elim (cases_lt j k) [
     | inl m ↦ get_or_append_left s (v ∷ []) 0 j (omega (arith, m, n)) ∙ h.each j (omega (arith, m, n))

@@ -1,5 +1,4 @@
-use Rattle.std.proofs.Common.{◌≡◌, ◌<◌, ℕ}
-use Rattle.qr_mending.specs.Steps.Polynomial.{at, miss_of}
+use Rattle.{std.proofs.Common.{◌≡◌, ◌<◌, ℕ}, qr_mending.specs.Steps.Polynomial.{at, miss_of}}
 use Rattle.qr_mending.proofs.locator.first_miss.Given as goal
 
 abbrev pub invariant-loop-k : goal.invariant-loop-k

@@ -1,5 +1,4 @@
-use Rattle.std.proofs.Common.{◌≡◌, ◌<◌, ℕ, length}
-use Rattle.qr_mending.specs.Steps.Polynomial.{at, IsMonic}
+use Rattle.{std.proofs.Common.{◌≡◌, ◌<◌, ℕ, length}, qr_mending.specs.Steps.Polynomial.{at, IsMonic}}
 use Rattle.qr_mending.proofs.locator.monomials.Given as goal
 
 abbrev pub invariant-loop-degree : goal.invariant-loop-degree

@@ -1,5 +1,4 @@
-use Rattle.std.proofs.Common.{arith, ◌≡◌, length, ap}
-use Rattle.std.proofs.lemmas.List.{take_rest}
+use Rattle.std.proofs.{Common.{arith, ◌≡◌, length, ap}, lemmas.List.take_rest}
 use Rattle.arrayvec.specs.ArrayVec.{array_vec_len}
 use Rattle.qr_mending.proofs.lemmas.locator.PoolLemmas.{pool-kept, pool-next, pool-higher, refill-same}
 use Rattle.qr_mending.proofs.locator.solve.Goals as goal

@@ -1,11 +1,8 @@
 use Rattle.std.proofs.Common.{◌≡◌, ◌<◌, ◌||◌, not, cond, eqb, ℕ, Bool, true, ap, ◌∙◌, inl, inr, arith}
 use Rattle.std.proofs.lemmas.Bool.{cases_lt, ne_eqb, Decides.nat_tests}
-use Rattle.qr_matrix.specs.{BitRow.has, Difference.difference_count}
-use Rattle.qr_matrix.specs.Grid.{Grid, colour, with_row, is_same}
-use Rattle.qr_matrix.specs.Sums.{places_passing}
-use Rattle.qr_matrix.proofs.Facts.{colour-square}
-use Rattle.qr_mending.specs.Mending.{wrong_modules}
-use Rattle.qr_mending.proofs.lemmas.format.FormatLemmas.{sum-same}
+use Rattle.qr_matrix.{specs.{BitRow.has, Difference.difference_count}, proofs.Facts.colour-square}
+use Rattle.qr_matrix.specs.{Grid.{Grid, colour, with_row, is_same}, Sums.places_passing}
+use Rattle.qr_mending.{specs.Mending.wrong_modules, proofs.lemmas.format.FormatLemmas.sum-same}
 use Rattle.qr_mending.proofs.mending.count_wrong.Goals as goal
 
 -- the colour that a module of the symbol is given differs from that of the square exactly if the module is wrong

@@ -1,7 +1,5 @@
-use Rattle.std.proofs.Common.{Err, ap, arith}
-use Rattle.qr_symbol.specs.declared.fault.ReadFault.{ReadFault}
-use Rattle.qr_mending.proofs.lemmas.mending.MendingLemmas.{no-use}
-use Rattle.qr_mending.proofs.lemmas.message.MarkLemmas.{by-marks, of-marks}
+use Rattle.{std.proofs.Common.{Err, ap, arith}, qr_symbol.specs.declared.fault.ReadFault.ReadFault}
+use Rattle.qr_mending.proofs.lemmas.{mending.MendingLemmas.no-use, message.MarkLemmas.{by-marks, of-marks}}
 use Rattle.qr_mending.proofs.mending.mend_by.Goals as goal
 
 pub returns-in-Ok-clause-mended : goal.returns-in-Ok-clause-mended

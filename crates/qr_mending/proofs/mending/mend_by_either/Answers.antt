@@ -1,7 +1,5 @@
-use Rattle.std.proofs.Common.{◌≡◌, length, arith}
-use Rattle.qr_layout.specs.Blocks.{data_codewords_of}
-use Rattle.qr_mending.specs.declared.format.FormatCopy.TheVariants.{First, Second}
-use Rattle.qr_mending.specs.Mending.{HoldsDamaged, IsOfNoUse}
+use Rattle.{std.proofs.Common.{◌≡◌, length, arith}, qr_layout.specs.Blocks.data_codewords_of}
+use Rattle.qr_mending.specs.{declared.format.FormatCopy.TheVariants.{First, Second}, Mending.{HoldsDamaged, IsOfNoUse}}
 use Rattle.qr_mending.proofs.lemmas.mending.MendingLemmas.{best, best-of-two, second-alone, sure-first}
 use Rattle.qr_mending.proofs.mending.mend_by_either.Goals as goal
 

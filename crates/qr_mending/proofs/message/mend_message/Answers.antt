@@ -1,7 +1,5 @@
-use Rattle.std.proofs.Common.{◌≡◌, ◌∙◌, length, arith}
-use Rattle.qr_layout.specs.Blocks.{data_codewords_of}
-use Rattle.qr_mending.specs.Steps.Message.{IsMendedMessage}
-use Rattle.qr_symbol.proofs.Facts.{data-sizes-whole, ok-also}
+use Rattle.{std.proofs.Common.{◌≡◌, ◌∙◌, length, arith}, qr_layout.specs.Blocks.data_codewords_of}
+use Rattle.{qr_mending.specs.Steps.Message.IsMendedMessage, qr_symbol.proofs.Facts.{data-sizes-whole, ok-also}}
 use Rattle.qr_mending.proofs.message.mend_message.Goals as goal
 
 pub returns-clause-many : goal.returns-clause-many

@@ -1,5 +1,4 @@
-use Rattle.std.proofs.Common.{◌≡◌}
-use Rattle.qr_mending.specs.Steps.Message.{AreMended}
+use Rattle.{std.proofs.Common.◌≡◌, qr_mending.specs.Steps.Message.AreMended}
 use Rattle.qr_mending.proofs.message.mend_parts.Given as goal
 
 abbrev pub invariant-loop-block : goal.invariant-loop-block

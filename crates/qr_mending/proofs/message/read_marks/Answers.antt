@@ -1,7 +1,5 @@
-use Rattle.std.proofs.Common.{sym, ◌∙◌, arith}
-use Rattle.qr_matrix.specs.Grid.{light}
-use Rattle.qr_matrix.proofs.Facts.{no-difference}
-use Rattle.qr_mending.proofs.lemmas.message.LightLemmas.{no-marks}
+use Rattle.{std.proofs.Common.{sym, ◌∙◌, arith}, qr_mending.proofs.lemmas.message.LightLemmas.no-marks}
+use Rattle.qr_matrix.{specs.Grid.light, proofs.Facts.no-difference}
 use Rattle.qr_mending.proofs.message.read_marks.Goals as goal
 
 pub returns-then-differences-eq0-clause-marks : goal.returns-then-differences-eq0-clause-marks

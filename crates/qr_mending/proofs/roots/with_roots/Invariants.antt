@@ -1,5 +1,4 @@
-use Rattle.std.proofs.Common.{◌≡◌, drop}
-use Rattle.qr_mending.specs.Steps.Roots.{rooted}
+use Rattle.{std.proofs.Common.{◌≡◌, drop}, qr_mending.specs.Steps.Roots.rooted}
 use Rattle.qr_mending.proofs.roots.with_roots.Given as goal
 
 abbrev pub invariant-loop-i : goal.invariant-loop-i

@@ -1,5 +1,4 @@
-use Rattle.qr_symbol.proofs.Facts.{readings-next}
-use Rattle.qr_mending.specs.Series.{IsMendedContent}
+use Rattle.{qr_symbol.proofs.Facts.readings-next, qr_mending.specs.Series.IsMendedContent}
 use Rattle.qr_mending.proofs.series.mend_all.Goals as goal
 
 pub loop-matrix-preserved : goal.loop-matrix-preserved

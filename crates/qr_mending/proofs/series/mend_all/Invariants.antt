@@ -1,6 +1,4 @@
-use Rattle.std.proofs.Common.{take}
-use Rattle.qr_symbol.specs.Joining.{AreReadBy}
-use Rattle.qr_mending.specs.Series.{IsMendedContent}
+use Rattle.{std.proofs.Common.take, qr_symbol.specs.Joining.AreReadBy, qr_mending.specs.Series.IsMendedContent}
 use Rattle.qr_mending.proofs.series.mend_all.Given as goal
 
 abbrev pub invariant-loop-matrix : goal.invariant-loop-matrix

@@ -1,5 +1,4 @@
-use Rattle.std.proofs.Common.{◌≡◌, drop}
-use Rattle.qr_mending.specs.Steps.Sums.{dot_of}
+use Rattle.{std.proofs.Common.{◌≡◌, drop}, qr_mending.specs.Steps.Sums.dot_of}
 use Rattle.qr_mending.proofs.sums.dot.Given as goal
 
 abbrev pub invariant-loop-j : goal.invariant-loop-j

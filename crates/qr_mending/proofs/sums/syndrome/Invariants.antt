@@ -1,5 +1,4 @@
-use Rattle.std.proofs.Common.{◌≡◌, take}
-use Rattle.qr_field.specs.Steps.Polynomial.{value_at}
+use Rattle.{std.proofs.Common.{◌≡◌, take}, qr_field.specs.Steps.Polynomial.value_at}
 use Rattle.qr_mending.proofs.sums.syndrome.Given as goal
 
 abbrev pub invariant-loop-codeword : goal.invariant-loop-codeword

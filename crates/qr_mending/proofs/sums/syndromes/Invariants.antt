@@ -1,6 +1,4 @@
-use Rattle.std.proofs.Common.{◌≡◌}
-use Rattle.arrayvec.specs.ArrayVec.{array_vec_len}
-use Rattle.qr_mending.specs.Steps.Sums.{HasValues}
+use Rattle.{std.proofs.Common.◌≡◌, arrayvec.specs.ArrayVec.array_vec_len, qr_mending.specs.Steps.Sums.HasValues}
 use Rattle.qr_mending.proofs.sums.syndromes.Given as goal
 
 abbrev pub invariant-loop-exponent : goal.invariant-loop-exponent

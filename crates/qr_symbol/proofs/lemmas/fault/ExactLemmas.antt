@@ -21,8 +21,8 @@ exactly : {X E : Type 0} (r : Result X E) (e memory : E) (P : Type 0) → (e ≡
     → IfOk r (λ _. P → ⊥) → IfErr r (λ g. (P → g ≡ e) ⊎ (g ≡ memory)) → Refused r e memory P
 exactly {X = X} {E = E} r e memory P other f none told = (λ h. (λ m. other (err-same r e _ h m), f h), λ w. back r none told w.0 w.1)
   where
-    back : (r : Result X E) → IfOk r (λ _. P → ⊥) → IfErr r (λ g. (P → g ≡ e) ⊎ (g ≡ memory)) → r ≢ Err memory → P
-        → r ≡ Err e
+    back : (r : Result X E) → IfOk r (λ _. P → ⊥) → IfErr r (λ g. (P → g ≡ e) ⊎ (g ≡ memory)) →
+        r ≢ Err memory → P → r ≡ Err e
     back (Ok x) none _ m p = absurd (none p)
     back _ _ (inl h) m p = ap (λ f. Err f) (h p)
     back _ _ (inr h) m p = absurd (m (ap (λ f. Err f) h))

@@ -34,8 +34,8 @@ pub over-twice : {s : ℕ} {t u f h : ℕ → ℕ → Bool} {g g' : Grid} (w : �
 over-twice {s} {t} {u} {f} {h} w e k d = search (arith, twice)
 
 -- if no place passes the test, the square is unchanged
-pub over-none : {s : ℕ} {t f : ℕ → ℕ → Bool} {g : Grid} → IsSquare s g → ((r c : ℕ) → r < s → c < s → t r c ≡ false)
-    → IsOver s t f (colour g) g
+pub over-none : {s : ℕ} {t f : ℕ → ℕ → Bool} {g : Grid} → IsSquare s g →
+    ((r c : ℕ) → r < s → c < s → t r c ≡ false) → IsOver s t f (colour g) g
 over-none e d = record { square = e; colours = λ r c l m. rw (d r c l m) refl }
 
 -- two tests that agree paint the same
@@ -83,8 +83,9 @@ square-rings a b d r c = grind (arith, nat_tests)
 ring-left : (a b r c : ℕ) (w x y : Bool) → x ≡ cond (leb (ring_of a b r c) 1) false w → y ≡ cond (eqb r a && eqb c b) w x → y ≡ cond (eqb (ring_of a b r c) 1) false w
 ring-left a b r c w x y d e = grind (arith, nat_tests)
 
-pub over-ring : {s : ℕ} {g' g'' : Grid} (g : Grid) (a b : ℕ) → IsOver s (λ r c. leb (ring_of a b r c) 1) (λ _ _. false) (colour g) g'
-    → g'' ≡ painted g' a b (colour g a b) → IsOver s (λ r c. eqb (ring_of a b r c) 1) (λ _ _. false) (colour g) g''
+pub over-ring : {s : ℕ} {g' g'' : Grid} (g : Grid) (a b : ℕ) →
+    IsOver s (λ r c. leb (ring_of a b r c) 1) (λ _ _. false) (colour g) g' →
+    g'' ≡ painted g' a b (colour g a b) → IsOver s (λ r c. eqb (ring_of a b r c) 1) (λ _ _. false) (colour g) g''
 over-ring g a b e p = let d = over-place (colour g) _ _ a b _ (over-side e) refl p in
     record { square = d.square; colours = λ r c l m. ring-left a b r c _ _ _ (e.colours r c l m) (d.colours r c l m) }
 

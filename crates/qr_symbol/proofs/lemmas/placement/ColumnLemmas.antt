@@ -76,13 +76,13 @@ eqb-same : (n : ℕ) → eqb n n ≡ true
 eqb-same n = grind (arith, nat_tests)
 
 -- one row is drawn, module by module
-pub row-drawn : {v : ℕ} {cw : List ℕ} {x : Strip} {first k : ℕ} {old new : Columns} (row n taken one bits : ℕ) (t u : Bool)
-    → row ≡ row_of (side_of v) x k → t ≡ is_in_region v row x.right → u ≡ is_in_region v row (x.right - 1)
-    → number_at v x first k ≡ n + taken → one ≡ number_after t taken → taken < 8 → one < 8
-    → AreNext cw n bits
-    → ((i : ℕ) → has new.right i ≡ cond (t && eqb i row) (has_bit bits (7 - taken)) (has old.right i))
-    → ((i : ℕ) → has new.left i ≡ cond (u && eqb i row) (has_bit bits (7 - one)) (has old.left i))
-    → AreDrawn v cw x first k 1 old new
+pub row-drawn : {v : ℕ} {cw : List ℕ} {x : Strip} {first k : ℕ} {old new : Columns} (row n taken one bits : ℕ)
+    (t u : Bool) → row ≡ row_of (side_of v) x k → t ≡ is_in_region v row x.right →
+    u ≡ is_in_region v row (x.right - 1) → number_at v x first k ≡ n + taken → one ≡ number_after t taken →
+    taken < 8 → one < 8 → AreNext cw n bits →
+    ((i : ℕ) → has new.right i ≡ cond (t && eqb i row) (has_bit bits (7 - taken)) (has old.right i)) →
+    ((i : ℕ) → has new.left i ≡ cond (u && eqb i row) (has_bit bits (7 - one)) (has old.left i)) →
+    AreDrawn v cw x first k 1 old new
 row-drawn {x = x} {k = k} row n taken one bits t u r p q m o l1 l2 next right left = record {
   drawn = λ j a b.
       let e : j ≡ k = omega arith in let same = eqb-same row in

@@ -101,8 +101,8 @@ not-checked g v l mask cw e s f r (inr k) none =
     subst (IsUnread g) (sym k) (v, s, l, mask, f, λ d h. none k d h.many (subst (IsInterleaved v l d) (read-one v mask g h.codewords cw h.read r) h.interleaved))
 
 -- if the message is parsed, the square is read
-pub is-parsed : (g : Grid) (v : ℕ) (l : Level) (mask : ℕ) (d : List ℕ) (p : Content) → IsOfVersion g v → IsFormat g l mask
-    → IsMessage v l mask g d → IsResultOf (Ok p) (parse v (bits_of d)) → IsReading g p
+pub is-parsed : (g : Grid) (v : ℕ) (l : Level) (mask : ℕ) (d : List ℕ) (p : Content) → IsOfVersion g v →
+    IsFormat g l mask → IsMessage v l mask g d → IsResultOf (Ok p) (parse v (bits_of d)) → IsReading g p
 is-parsed g v l mask d p s f h (inl e) = absurd (let k = e in cc)
 is-parsed g v l mask d p s f h (inr e) =
     record { version = v; level = l; mask = mask; message = d; sized = s; format = f; holds = h; parsed = e }

@@ -1,6 +1,5 @@
-use Rattle.qr_layout.specs.{Region.ring_of, Version.side_of}
+use Rattle.{qr_layout.specs.{Region.ring_of, Version.side_of}, std.{proofs.Common.{take, leb}, specs.List.list_any}}
 use Rattle.{qr_matrix.specs.Grid.colour, qr_symbol.specs.Steps.Patterns.IsOver}
-use Rattle.std.{proofs.Common.{take, leb}, specs.List.list_any}
 use Rattle.qr_symbol.proofs.patterns.fill_alignment.Given as goal
 
 abbrev pub invariant-loop-centre : goal.invariant-loop-centre

@@ -1,7 +1,5 @@
-use Rattle.std.proofs.Common.{true, ap, ap₂, ◌∙◌}
-use Rattle.std.proofs.lemmas.Result.{IfOk-weaker}
-use Rattle.clap.specs.{Simple.with_rule, Walk.Rule}
-use Rattle.qrencode_cli.specs.Arguments.{command}
+use Rattle.std.proofs.{Common.{true, ap, ap₂, ◌∙◌}, lemmas.Result.IfOk-weaker}
+use Rattle.{clap.specs.{Simple.with_rule, Walk.Rule}, qrencode_cli.specs.Arguments.command}
 use Rattle.qrencode_cli.proofs.arguments.command_line.Goals as goal
 
 pub returns : goal.returns

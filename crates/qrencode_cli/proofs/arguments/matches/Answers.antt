@@ -1,5 +1,4 @@
-use Rattle.std.proofs.Common.{ap, sym, ◌∙◌}
-use Rattle.clap.specs.Words.{is_simple_and_free}
+use Rattle.{std.proofs.Common.{ap, sym, ◌∙◌}, clap.specs.Words.is_simple_and_free}
 use Rattle.qrencode_cli.proofs.lemmas.arguments.MatchingLemmas.{faults_are, rows_are, is_free-command, kinds_not_empty, refused_words}
 use Rattle.qrencode_cli.proofs.arguments.matches.Goals as goal
 

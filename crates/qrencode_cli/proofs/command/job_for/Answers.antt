@@ -1,7 +1,5 @@
-use Rattle.std.proofs.Common.{◌∙◌, ap, option_map, sym}
-use Rattle.std.proofs.lemmas.Result.{err_from_is_err_and}
-use Rattle.std.specs.String.{string_bytes}
-use Rattle.qrencode_cli.specs.Settings.{SettingsView}
+use Rattle.std.proofs.{Common.{◌∙◌, ap, option_map, sym}, lemmas.Result.err_from_is_err_and}
+use Rattle.{std.specs.String.string_bytes, qrencode_cli.specs.Settings.SettingsView}
 use Rattle.qrencode_cli.proofs.lemmas.command.AskingLemmas.{prepares-reader, prepares-string, prepares-unread, prepares-usage}
 use Rattle.qrencode_cli.proofs.command.job_for.Goals as goal
 

@@ -1,6 +1,5 @@
 use Rattle.std.proofs.Common.{◌∙◌, ap, List, ℕ, subst, sym}
-use Rattle.qrencode_cli.specs.Settings.{SettingsView}
-use Rattle.qrencode_cli.specs.Steps.Command.{IsJobFor}
+use Rattle.qrencode_cli.specs.{Settings.SettingsView, Steps.Command.IsJobFor}
 use Rattle.qrencode_cli.proofs.lemmas.command.AskingLemmas.{held-folded, held-plain}
 use Rattle.qrencode_cli.proofs.command.make_job.Goals as goal
 

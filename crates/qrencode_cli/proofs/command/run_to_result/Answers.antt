@@ -1,5 +1,4 @@
-use Rattle.std.proofs.Common.{inl, inr, refl}
-use Rattle.std.proofs.lemmas.Result.{err_from_is_err_and}
+use Rattle.std.proofs.{Common.{inl, inr, refl}, lemmas.Result.err_from_is_err_and}
 use Rattle.qrencode_cli.proofs.command.run_to_result.Goals as goal
 
 pub returns : goal.returns

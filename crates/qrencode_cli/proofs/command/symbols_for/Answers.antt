@@ -1,7 +1,6 @@
 use Rattle.std.proofs.Common.{◌≡◌, ◌∙◌, ap, subst, sym, unwrap_or, arith, Err, Ok}
 use Rattle.std.proofs.lemmas.Result.{err_from_is_err_and}
-use Rattle.qr_symbol.specs.declared.fault.EncodeFault.{EncodeFault, TheVariants.Empty}
-use Rattle.qr_symbol.specs.VersionChoice.{HasNoVersion}
+use Rattle.qr_symbol.specs.{declared.fault.EncodeFault.{EncodeFault, TheVariants.Empty}, VersionChoice.HasNoVersion}
 use Rattle.qrencode_cli.specs.{Settings.SettingsView, Settings.rule_for, Symbols.smallest_of, Steps.Command.AreDrawnFor}
 use Rattle.qrencode_cli.proofs.lemmas.command.AskingLemmas.{drawn-for-one, drawn-for-series, told-one}
 use Rattle.qrencode_cli.proofs.command.symbols_for.Goals as goal

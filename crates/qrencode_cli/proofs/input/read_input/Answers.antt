@@ -1,6 +1,4 @@
-use Rattle.std.proofs.Common.{inl, inr, length, arith}
-use Rattle.std.proofs.lemmas.Grind.{common_steps}
-use Rattle.std.proofs.lemmas.Result.{err_from_is_err_and}
+use Rattle.std.proofs.{Common.{inl, inr, length, arith}, lemmas.{Grind.common_steps, Result.err_from_is_err_and}}
 use Rattle.qrencode_cli.proofs.lemmas.input.ReadingLemmas.{has-read-end, has-read-full, reading-again, reading-begins, reading-more, stops-memory, stops-read}
 use Rattle.qrencode_cli.proofs.input.read_input.Goals as goal
 use Rattle.qrencode_cli.proofs.input.read_input.Goals.{else-reads-test, then-reads-test+in-Ok-eq0}

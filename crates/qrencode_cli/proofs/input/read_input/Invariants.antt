@@ -1,5 +1,4 @@
-use Rattle.std.proofs.Common.{◌+◌, ◌-◌, vec_len}
-use Rattle.qr_bits.specs.declared.modes.TheConstants.{INPUT_MAX}
+use Rattle.{std.proofs.Common.{◌+◌, ◌-◌, vec_len}, qr_bits.specs.declared.modes.TheConstants.INPUT_MAX}
 use Rattle.qrencode_cli.proofs.lemmas.input.ReadingLemmas.{IsReading}
 use Rattle.qrencode_cli.proofs.input.read_input.Given as goal
 

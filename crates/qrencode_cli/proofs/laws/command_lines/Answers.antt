@@ -1,5 +1,4 @@
-use Rattle.std.proofs.Common.{rules}
-use Rattle.clap.proofs.OnLiterals.{clap_on_literals}
+use Rattle.{std.proofs.Common.rules, clap.proofs.OnLiterals.clap_on_literals}
 use Rattle.qrencode_cli.specs.Arguments.{command, faults_for, rows_for}
 use Rattle.qrencode_cli.proofs.laws.command_lines.Goals as goal
 

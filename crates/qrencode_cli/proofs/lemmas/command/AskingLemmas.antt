@@ -1,26 +1,20 @@
 -- The drawing that a command line and an input ask for, or the fault that occurs before any byte is written.
 use Rattle.std.proofs.Common.{◌≡◌, ◌∙◌, ◌≤◌, ℕ, true, false, List, [], ◌∷◌, take, Option, None, Some, Result, Ok, Err, refl, sym, min, length, append-nil, arith, inl, inr, ◌⊎◌}
-use Rattle.std.proofs.lemmas.{Bool.cases_lt, Bool.false≢true, List.take_min}
-use Rattle.std.proofs.lemmas.List.Elements.{All-cons, All-head, All-nil}
-use Rattle.std.specs.List.{All}
-use Rattle.qr_drawing.specs.Drawing.{HaveOneSide}
-use Rattle.clap.specs.Walk.{Text}
+use Rattle.std.proofs.lemmas.{Bool.{cases_lt, false≢true}, List.take_min, Grind.common_steps}
+use Rattle.std.{proofs.lemmas.List.Elements.{All-cons, All-head, All-nil}, specs.List.All}
+use Rattle.{qr_drawing.specs.Drawing.HaveOneSide, qr_bits.proofs.Facts.fitting_short}
+use Rattle.{clap.specs.Walk.Text, qr_matrix.specs.Grid.Grid}
 use Rattle.qr_bits.specs.{declared.modes.TheConstants.INPUT_MAX, declared.modes.Rule.Rule, Folding.folded}
-use Rattle.qr_layout.specs.Version.{side_of}
-use Rattle.qr_symbol.specs.declared.fault.EncodeFault.{EncodeFault}
+use Rattle.{qr_layout.specs.Version.side_of, qr_devices.specs.Device.Reader}
+use Rattle.qr_symbol.specs.declared.{fault.EncodeFault.EncodeFault, symbol.Symbol.Symbol}
 use Rattle.qr_symbol.specs.declared.fault.EncodeFault.TheVariants as encode
-use Rattle.qr_symbol.specs.declared.symbol.Symbol.{Symbol}
-use Rattle.qr_matrix.specs.Grid.{Grid}
 use Rattle.qr_symbol.specs.{Joining.AreReadBy, Joining.IsJoined, Reading.IsReadBack, Series.IsSeries, Series.squares_of, Encoding.IsSymbol, VersionChoice.HasNoVersion}
 use Rattle.qr_symbol.proofs.Facts.{long-has-no-series, series-few, series-side, series-some}
 use Rattle.qrencode_cli.specs.Command.{HasSettingsWith, ReadsInput, held, input_for}
 use Rattle.qrencode_cli.specs.Settings.{IsUsageFault, Reason, SettingsView, rule_for, settings_for}
 use Rattle.qrencode_cli.specs.Steps.Command.{AreDrawnFor, HasRead, IsInputFault, IsJobFor, IsJobGiven, Prepares, StopsReading}
 use Rattle.qrencode_cli.specs.{Symbols.smallest_of, declared.fault.Fault.Fault}
-use Rattle.qr_devices.specs.{Device.Reader}
 use Rattle.qrencode_cli.specs.{Steps.Fault.fault_of_input, Steps.Fault.fault_of_words, Input.IsInputOf}
-use Rattle.qr_bits.proofs.Facts.{fitting_short}
-use Rattle.std.proofs.lemmas.Grind.{common_steps}
 use Rattle.qrencode_cli.specs.declared.fault.Fault.TheVariants as fault
 use Rattle.qrencode_cli.specs.declared.{drawing_job.DrawingJob.DrawingJob, settings.UsageFault.UsageFault}
 use Rattle.qrencode_cli.specs.declared.settings.UsageFault.TheVariants as usage
@@ -85,9 +79,10 @@ told-one s input encode.TooMany one empty long only = search arith
 told-one s input encode.Memory one empty long only = tt
 
 -- if a series is asked for, the series of the input is what the settings ask for
-pub drawn-for-series : (s : SettingsView) (rule : Rule) (input : List ℕ) (version : ℕ) (symbols : List Symbol) → s.structured ≡ true → 1 ≤ version → version ≤ 40
-    → version ≡ smallest_of s → rule ≡ rule_for s → (input ≡ [] → ⊥) → IsSeries version s.level rule input symbols
-    → IsJoined (squares_of symbols) input → AreDrawnFor s input symbols
+pub drawn-for-series : (s : SettingsView) (rule : Rule) (input : List ℕ) (version : ℕ) (symbols : List Symbol) →
+    s.structured ≡ true → 1 ≤ version → version ≤ 40 → version ≡ smallest_of s → rule ≡ rule_for s →
+    (input ≡ [] → ⊥) → IsSeries version s.level rule input symbols → IsJoined (squares_of symbols) input →
+    AreDrawnFor s input symbols
 drawn-for-series s rule input version symbols many least most e same some series joined = record {
   asked = inl (many, symbols, rw (← e, ← same) series, refl);
   joined = joined;
@@ -118,8 +113,8 @@ pub same-fault : {T : Type 0} {r : Result T Fault} {f g : Fault} → r ≡ Err f
 same-fault p q = cc
 
 -- a command line without settings asks for no input
-refused : {words : List Text} {why : Reason} {r : Result DrawingJob Fault} → settings_for words ≡ Err why → ReadsInput words
-    → r ≡ Err fault.Memory
+refused : {words : List Text} {why : Reason} {r : Result DrawingJob Fault} → settings_for words ≡ Err why →
+    ReadsInput words → r ≡ Err fault.Memory
 refused {why = why} e i = let bad : Ok i.settings ≡ Err why = sym i.taken ∙ e in cc
 
 -- every fault of the command line is a correct result
@@ -147,8 +142,9 @@ module _ (words : List Text) (s : SettingsView) (taken : settings_for words ≡ 
   answer-for given input (Err _) e h = absurd h
 
   -- the case that the input is the string of the command line
-  pub prepares-string : (in0 : Reader) (text buf : List ℕ) (n : ℕ) (r : Result DrawingJob Fault) → s.string ≡ Some text
-      → buf ≡ text → n ≡ min INPUT_MAX (length buf) → IsJobFor s (held s (take n buf)) r → Prepares words in0 in0 r
+  pub prepares-string : (in0 : Reader) (text buf : List ℕ) (n : ℕ) (r : Result DrawingJob Fault) →
+      s.string ≡ Some text → buf ≡ text → n ≡ min INPUT_MAX (length buf) →
+      IsJobFor s (held s (take n buf)) r → Prepares words in0 in0 r
   prepares-string in0 text buf n r string is cut h = unread words in0 r
       (λ i. let same : Ok i.settings ≡ Ok s = sym i.taken ∙ taken in let none = i.holds in cc)
       (λ given. answer-for given (take n buf) r (input_for-string s text given buf n string is cut) h)

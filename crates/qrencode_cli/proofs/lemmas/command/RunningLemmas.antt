@@ -1,13 +1,11 @@
 -- The parts of a run make a correct run.
 use Rattle.qrencode_cli.proofs.lemmas.command.AskingLemmas.{same-fault}
 use Rattle.std.proofs.Common.{◌≤◌, arith, ◌≡◌, ℕ, List, [], Option, Result, Ok, Err, OnOk, OnErr, IfErr, MatchResult, if◌then◌else◌, inl, is_err, is_ok, max, true, ◌+◌, false, inr, ap, refl, sym, ◌∙◌, append-nil, length}
-use Rattle.std.specs.Io.KnownBytes.{Appends, Keeps}
+use Rattle.{std.specs.Io.KnownBytes.{Appends, Keeps}, clap.specs.Walk.Text}
 use Rattle.std.proofs.{lemmas.Bool.false≢true, lemmas.Bool.Decides.nat_tests, KnownBytes.Appends-kept}
-use Rattle.clap.specs.Walk.{Text}
 use Rattle.qrencode_cli.specs.Command.{DrawnWhole, ErrorHolds, HasDrawing, IsFault, OutputHolds, Runs}
-use Rattle.qrencode_cli.specs.Fault.{fault_line}
+use Rattle.qrencode_cli.specs.{Fault.fault_line, declared.fault.Fault.Fault}
 use Rattle.qrencode_cli.specs.Steps.Command.{Attempts, Draws, IsEarly, drawing_of_job}
-use Rattle.qrencode_cli.specs.declared.fault.Fault.{Fault}
 use Rattle.qr_devices.specs.Device.{AppendsBeginning, IsWrittenWithin, Reader, Writer, counted, flush_counted, is_write_fault, no_writes}
 use Rattle.qr_devices.specs.declared.device.{Trouble.Trouble, WriteCounts.WriteCounts}
 use Rattle.qrencode_cli.specs.declared.fault.Fault.TheVariants as fault
@@ -61,12 +59,13 @@ begins-all : (old new : Option (List ℕ)) (text : List ℕ) → Appends old new
 begins-all old new text p = (text, ([], append-nil text), p)
 
 -- standard error received the line of a fault
-pub tells-fault : (old new : Writer) (f : Fault) (slice : List ℕ) → slice ≡ fault_line f → (r : Result (Unit {0}) DrawFault)
-    → OnOk r (Appends old.taken new.taken slice) → OnErr r (AppendsBeginning old.taken new.taken slice)
-    → (old.counts ≡ no_writes → is_write_fault new.counts ≡ is_err r)
-    → (old.counts ≡ no_writes → OnOk r (new.counts.taken ≡ counted (length slice)))
-    → (old.counts ≡ no_writes → OnErr r (new.counts.taken ≤ counted (length slice))) → new.counts.flushes ≡ old.counts.flushes
-    → ErrorHolds old new (fault_line f)
+pub tells-fault : (old new : Writer) (f : Fault) (slice : List ℕ) → slice ≡ fault_line f →
+    (r : Result (Unit {0}) DrawFault) → OnOk r (Appends old.taken new.taken slice) →
+    OnErr r (AppendsBeginning old.taken new.taken slice) →
+    (old.counts ≡ no_writes → is_write_fault new.counts ≡ is_err r) →
+    (old.counts ≡ no_writes → OnOk r (new.counts.taken ≡ counted (length slice))) →
+    (old.counts ≡ no_writes → OnErr r (new.counts.taken ≤ counted (length slice))) →
+    new.counts.flushes ≡ old.counts.flushes → ErrorHolds old new (fault_line f)
 tells-fault old new f slice is (Ok t) ok err well many most flushes = search (arith, begins-all)
 tells-fault old new f slice is (Err e) ok err well many most flushes = search arith
 
@@ -84,10 +83,11 @@ shows-nothing words given out0 out1 fault.Write h e = absurd h
 shows-nothing words given out0 out1 _ h e = e
 
 -- a run with this result, which standard error and the exit status show
-pub runs : (words : List Text) (in0 in1 : Reader) (out0 out1 err0 err1 : Writer) (r : Result (Unit {0}) Fault) (status : ℕ)
-    → Attempts words in0 in1 out0 out1 r → MatchResult r (λ _. err1 ≡ err0) (λ f. ErrorHolds err0 err1 (fault_line f))
-    → status ≡ (if is_ok r then 0 else 1) → (err0.counts ≡ no_writes → IsWrittenWithin err1.counts)
-    → Runs words in0 in1 out0 out1 err0 err1 r status
+pub runs : (words : List Text) (in0 in1 : Reader) (out0 out1 err0 err1 : Writer) (r : Result (Unit {0}) Fault)
+    (status : ℕ) → Attempts words in0 in1 out0 out1 r →
+    MatchResult r (λ _. err1 ≡ err0) (λ f. ErrorHolds err0 err1 (fault_line f)) →
+    status ≡ (if is_ok r then 0 else 1) → (err0.counts ≡ no_writes → IsWrittenWithin err1.counts) →
+    Runs words in0 in1 out0 out1 err0 err1 r status
 runs words in0 in1 out0 out1 err0 err1 r status (inl (job, h, d)) tells is within =
     let s = shown words h.given (drawing_of_job job) out0 out1 r h.answer d in
     record {

@@ -1,11 +1,9 @@
 -- The invariant of the loop that reads the input.
 use Rattle.std.proofs.Common.{◌≡◌, ◌+◌, ◌<◌, ◌≤◌, ◌++◌, ◌∙◌, ℕ, List, [], false, length, length-append, take, Option, Some, None, Ok, Err, arith, rules, ap, refl, sym, append-nil, inl, inr, ◌⊎◌, ◌-◌, min}
 use Rattle.std.proofs.{lemmas.List.take_all, lemmas.List.take-append-le, lemmas.List.length-take, lemmas.List.length-take-le, lemmas.Bool.Decides.nat_tests, lemmas.Bool.false≢true, Math.Seq.take-append_seam, KnownBytes.Consumes-trans}
-use Rattle.qr_bits.specs.declared.modes.TheConstants.{INPUT_MAX}
-use Rattle.qrencode_cli.specs.Input.{IsInputOf, IsReadWithin}
-use Rattle.qrencode_cli.specs.Steps.Command.{HasRead, StopsReading}
+use Rattle.{qr_bits.specs.declared.modes.TheConstants.INPUT_MAX, std.specs.Io.KnownBytes.{Consumes, IsAtEnd, Keeps}}
+use Rattle.qrencode_cli.specs.{Input.{IsInputOf, IsReadWithin}, Steps.Command.{HasRead, StopsReading}}
 use Rattle.qrencode_cli.specs.declared.fault.Fault.TheVariants as fault
-use Rattle.std.specs.Io.KnownBytes.{Consumes, IsAtEnd, Keeps}
 use Rattle.qr_devices.specs.Device.{Reader, is_read_fault, no_reads, read_counted}
 use Rattle.qr_devices.specs.declared.device.{ReadCounts.ReadCounts, Trouble.Trouble, Trouble.TheVariants.Failed, Trouble.TheVariants.Interrupted}
 
@@ -67,8 +65,9 @@ module _ (old a b : Reader) (bytes buf chunk : List ℕ) (n i most room : ℕ) (
       record { only = inr refl; read_fault = λ z. (λ bad. cc, λ t. absurd (false≢true (sym (w z).0 ∙ t))); within = λ z. (w z).1 }
 
 -- the state after one more interrupted read
-pub reading-again : (old a b : Reader) (bytes : List ℕ) (len i : ℕ) → IsReading old a bytes i → (i ≡ 999 → ⊥)
-    → Keeps a.remaining b.remaining → b.counts ≡ read_counted len (Err Interrupted) a.counts → IsReading old b bytes (i + 1)
+pub reading-again : (old a b : Reader) (bytes : List ℕ) (len i : ℕ) → IsReading old a bytes i →
+    (i ≡ 999 → ⊥) → Keeps a.remaining b.remaining →
+    b.counts ≡ read_counted len (Err Interrupted) a.counts → IsReading old b bytes (i + 1)
 reading-again old a b bytes len i h ne q e = search rules
 
 -- the read failed, or was interrupted for the 1,000th time
@@ -89,9 +88,10 @@ has-read-full old a bytes i h high = let low = h.bounded in record {
 }
 
 -- the device was read to its end
-pub has-read-end : (old a b : Reader) (bytes buf : List ℕ) (n i : ℕ) → IsReading old a bytes i → n ≡ 0 → 0 < length buf
-    → length bytes < INPUT_MAX → Consumes a.remaining b.remaining (take n buf) × (n ≡ 0 → 0 < length buf → IsAtEnd b.remaining)
-    → b.counts ≡ read_counted (length buf) (Ok n) a.counts → HasRead old b bytes
+pub has-read-end : (old a b : Reader) (bytes buf : List ℕ) (n i : ℕ) → IsReading old a bytes i → n ≡ 0 →
+    0 < length buf → length bytes < INPUT_MAX →
+    Consumes a.remaining b.remaining (take n buf) × (n ≡ 0 → 0 < length buf → IsAtEnd b.remaining) →
+    b.counts ≡ read_counted (length buf) (Ok n) a.counts → HasRead old b bytes
 has-read-end old a b bytes buf n i h zero some small q e =
     let none : bytes ++ take n buf ≡ bytes = rw zero (append-nil bytes) in
     let given = rw none at (Consumes-trans old.remaining a.remaining b.remaining bytes (take n buf) h.given q.0) in

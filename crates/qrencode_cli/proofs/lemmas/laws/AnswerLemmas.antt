@@ -3,17 +3,14 @@ use Rattle.std.proofs.Common.{◌≡◌, ◌<◌, ◌≤◌, ◌∙◌, ◌&&◌
 use Rattle.std.specs.{Option.option_map_or, Prelude.option_and_then}
 use borrow.Author.Tests.{leb-true}
 use Rattle.clap.specs.{Words.first_of, Words.one_of, Walk.Row, Walk.Text}
-use Rattle.qr_layout.specs.declared.level.Level.{Level}
+use Rattle.{qr_layout.specs.declared.level.Level.Level, qr_drawing.specs.declared.drawing.Drawing.Drawing}
 use Rattle.qr_layout.specs.declared.level.Level.TheVariants as level
-use Rattle.qr_bits.proofs.Facts.{empty_fits}
-use Rattle.qr_matrix.specs.Grid.{Grid}
-use Rattle.qr_symbol.specs.{VersionChoice.FitsVersion}
-use Rattle.qr_symbol.proofs.Facts.{series-one, symbol-one}
+use Rattle.{qr_bits.proofs.Facts.empty_fits, qr_matrix.specs.Grid.Grid}
+use Rattle.qr_symbol.{specs.VersionChoice.FitsVersion, proofs.Facts.{series-one, symbol-one}}
 use Rattle.qrencode_cli.specs.Command.{HasRefusal, IsDrawing, IsRefusal, held, input_for}
 use Rattle.qrencode_cli.specs.Laws.{AnswersAreOne, RefusalsAreOne, RefusalsExcludeDrawings}
 use Rattle.qrencode_cli.specs.Arguments.{faults_for, rows_for}
 use Rattle.qrencode_cli.specs.Settings.{Reason, SettingsView, checked_series, drawing_named, level_named, needs_version, number_or, refused_by_clap, rule_for, settings_for, settings_of, settings_with, unknown_level, unknown_type}
-use Rattle.qr_drawing.specs.declared.drawing.Drawing.{Drawing}
 use Rattle.qr_symbol.specs.declared.fault.EncodeFault.TheVariants as encode
 use Rattle.qrencode_cli.specs.declared.{settings.UsageFault.UsageFault, fault.Fault.Fault}
 use Rattle.qrencode_cli.specs.declared.fault.Fault.TheVariants as fault

@@ -1,9 +1,7 @@
 -- The number that `try_get_one` returns is the number of the definition.
 use Rattle.std.proofs.Common.{◌≡◌, ℕ, Option, None, Some, Result, Ok, Err, refl}
-use Rattle.std.specs.Str.Parse.{ParsesUnsigned}
-use Rattle.clap.specs.{Matches.TriesOne, Walk.Text}
-use Rattle.clap.proofs.WalkLemmas.{byte_read}
-use Rattle.qrencode_cli.specs.Settings.{number_or}
+use Rattle.{std.specs.Str.Parse.ParsesUnsigned, qrencode_cli.specs.Settings.number_or}
+use Rattle.clap.{specs.{Matches.TriesOne, Walk.Text}, proofs.WalkLemmas.byte_read}
 
 module _ {E : Type 0} (gives : Text → Result ℕ E → Type 0)
     (reads : (t : Text) (r : Result ℕ E) → gives t r → ParsesUnsigned 8 10 t r)
@@ -16,13 +14,13 @@ module _ {E : Type 0} (gives : Text → Result ℕ E → Type 0)
     number_some (Some t) r none some n e = byte_read {E = E} t (Ok n) (reads t (Ok n) (rw e at (some t refl)))
 
     -- the case that the option is not given
-    pub number_none : (o : Option Text) (r : Result (Option ℕ) E) → (o ≡ None → r ≡ Ok None) → ((t : Text) → o ≡ Some t → TriesOne gives t r)
-        → r ≡ Ok None → otherwise ≡ number_or otherwise o
+    pub number_none : (o : Option Text) (r : Result (Option ℕ) E) → (o ≡ None → r ≡ Ok None) →
+        ((t : Text) → o ≡ Some t → TriesOne gives t r) → r ≡ Ok None → otherwise ≡ number_or otherwise o
     number_none None r none some e = refl
     number_none (Some t) r none some e = absurd (rw e at (some t refl))
 
     -- the case that the option's text is not a byte
-    pub number_err : (o : Option Text) (r : Result (Option ℕ) E) → (o ≡ None → r ≡ Ok None) → ((t : Text) → o ≡ Some t → TriesOne gives t r)
-        → (x : E) → r ≡ Err x → 0 ≡ number_or otherwise o
+    pub number_err : (o : Option Text) (r : Result (Option ℕ) E) → (o ≡ None → r ≡ Ok None) →
+        ((t : Text) → o ≡ Some t → TriesOne gives t r) → (x : E) → r ≡ Err x → 0 ≡ number_or otherwise o
     number_err None r none some x e = let bad : r ≡ Ok None = none refl in cc
     number_err (Some t) r none some x e = byte_read {E = E} t (Err x) (reads t (Err x) (rw e at (some t refl)))

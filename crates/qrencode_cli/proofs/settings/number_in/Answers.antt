@@ -1,8 +1,6 @@
-use Rattle.std.proofs.Common.{◌∙◌, ap, Ok}
+use Rattle.{std.proofs.Common.{◌∙◌, ap, Ok}, qrencode_cli.specs.Settings.number_or}
 use Rattle.std.specs.Str.Parse.{ParsesUnsigned, ExplainsUnsignedError, HasUnsignedDigitsIfOk}
-use Rattle.clap.proofs.WalkLemmas.{one_text-rows}
-use Rattle.clap.specs.Words.{found_of, one_text}
-use Rattle.qrencode_cli.specs.Settings.{number_or}
+use Rattle.clap.{proofs.WalkLemmas.one_text-rows, specs.Words.{found_of, one_text}}
 use Rattle.qrencode_cli.proofs.lemmas.settings.NumberLemmas.{number_some, number_none, number_err}
 use Rattle.qrencode_cli.proofs.settings.number_in.Goals as goal
 

@@ -1,6 +1,5 @@
 use Rattle.std.proofs.Common.{◌≡◌, ◌≢◌, ◌↔◌, Result, Ok, Err, String, MatchResult, map, refl, rules}
-use Rattle.std.proofs.lemmas.Result.{err_from_is_err_and}
-use Rattle.std.specs.{Global.Global, String.string_bytes}
+use Rattle.std.{proofs.lemmas.Result.err_from_is_err_and, specs.{Global.Global, String.string_bytes}}
 use Rattle.qrencode_cli.specs.Settings.{IsUsageFault, Reason, SettingsView, needs_version, refused_by_clap, settings_for, unknown_level, unknown_type}
 use Rattle.qrencode_cli.specs.declared.settings.UsageFault.{UsageFault}
 use Rattle.qrencode_cli.specs.declared.settings.UsageFault.TheVariants as usage

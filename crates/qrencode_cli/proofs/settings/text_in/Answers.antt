@@ -1,6 +1,4 @@
-use Rattle.std.proofs.Common.{◌∙◌}
-use Rattle.clap.specs.Words.{found_of}
-use Rattle.clap.proofs.WalkLemmas.{first_value-rows}
+use Rattle.{std.proofs.Common.◌∙◌, clap.{specs.Words.found_of, proofs.WalkLemmas.first_value-rows}}
 use Rattle.qrencode_cli.proofs.settings.text_in.Goals as goal
 
 pub returns : goal.returns

@@ -1,7 +1,5 @@
-use Rattle.std.proofs.Common.{length, sym, subst, ap, ◌∙◌, arith}
-use Rattle.std.proofs.lemmas.List.{map-id}
-use Rattle.qr_drawing.specs.Drawing.{HaveOneSide}
-use Rattle.qrproved.proofs.lemmas.drawing.DrawingLemmas.{many-squares, one-side}
+use Rattle.std.proofs.{Common.{length, sym, subst, ap, ◌∙◌, arith}, lemmas.List.map-id}
+use Rattle.{qr_drawing.specs.Drawing.HaveOneSide, qrproved.proofs.lemmas.drawing.DrawingLemmas.{many-squares, one-side}}
 use Rattle.qrproved.proofs.drawing.drawn.Goals as goal
 
 pub draw-requires-clause-some : goal.draw-requires-clause-some

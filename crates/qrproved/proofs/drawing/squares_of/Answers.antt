@@ -1,6 +1,5 @@
 use Rattle.std.proofs.Common.{◌≡◌, ◌-◌, ◌+◌, ◌*◌, suc, length-drop, ap, sym, ◌∙◌, arith}
-use Rattle.std.proofs.Math.Nat.{suc-mul}
-use Rattle.qrproved.proofs.lemmas.drawing.DrawingLemmas.{no-more, one-more}
+use Rattle.{std.proofs.Math.Nat.suc-mul, qrproved.proofs.lemmas.drawing.DrawingLemmas.{no-more, one-more}}
 use Rattle.qrproved.proofs.drawing.squares_of.Goals as goal
 
 pub loop-preserved : goal.loop-preserved

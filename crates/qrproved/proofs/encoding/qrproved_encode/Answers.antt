@@ -1,14 +1,10 @@
 use Rattle.std.proofs.Common.{◌≡◌, ◌≢◌, ◌↔◌, ℕ, ◌*◌, Err, refl, sym, ap, subst, ◌∙◌, arith, rules}
-use Rattle.qr_layout.specs.Version.{side_of}
-use Rattle.qr_matrix.specs.Grid.{Grid}
+use Rattle.{qr_layout.specs.Version.side_of, qr_matrix.specs.Grid.Grid, qr_symbol.proofs.Facts.version-one}
 use Rattle.qr_symbol.specs.declared.fault.EncodeFault.TheVariants as fault
 use Rattle.qr_symbol.specs.{Encoding.IsSymbol, VersionChoice.HasNoVersion, Reading.IsReadBack}
-use Rattle.qr_symbol.proofs.Facts.{version-one}
-use Rattle.qrproved.specs.declared.settings.Settings.{Settings}
-use Rattle.qrproved.specs.Settings.{AreSettings, level_of, rule_of}
-use Rattle.qrproved.specs.Encoding.{HasNoRoom}
+use Rattle.qrproved.specs.{declared.settings.Settings.Settings, Encoding.HasNoRoom}
+use Rattle.qrproved.{specs.Settings.{AreSettings, level_of, rule_of}, proofs.lemmas.modules.ModuleLemmas.one-held}
 use Rattle.qrproved.proofs.lemmas.encoding.EncodingLemmas.{too-long-status, room-status}
-use Rattle.qrproved.proofs.lemmas.modules.ModuleLemmas.{one-held}
 use Rattle.qrproved.proofs.encoding.qrproved_encode.Goals as goal
 use Rattle.qrproved.proofs.encoding.qrproved_encode.Goals.{After-long_inputs_have_none, In-Err, In-Ok}
 

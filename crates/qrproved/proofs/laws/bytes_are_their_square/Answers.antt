@@ -1,7 +1,5 @@
 use Rattle.std.proofs.Common.{◌≡◌, ◌*◌, ◌+◌, ◌==◌, ℕ, Bool, not, slice_index_or, ap, ◌∙◌, arith}
-use Rattle.qr_matrix.proofs.Facts.{colour-square}
-use Rattle.qr_matrix.specs.Grid.{colour}
-use Rattle.qrproved.specs.Modules.{byte_of}
+use Rattle.{qr_matrix.{proofs.Facts.colour-square, specs.Grid.colour}, qrproved.specs.Modules.byte_of}
 use Rattle.qrproved.proofs.laws.bytes_are_their_square.Goals as goal
 
 -- the byte of a colour is read as the colour

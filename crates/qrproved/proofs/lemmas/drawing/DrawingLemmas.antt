@@ -1,9 +1,7 @@
 -- The squares whose modules have some bytes, read one square after another.
 use Rattle.std.proofs.Common.{◌≡◌, ℕ, zero, suc, ◌*◌, ◌≤◌, List, [], ◌∷◌, ◌++◌, length, drop, refl, ap, append-nil, arith}
-use Rattle.std.proofs.lemmas.List.{append_assoc, Elements.All-cons, Elements.All-nil}
-use Rattle.std.specs.List.{All}
-use Rattle.qr_matrix.specs.Grid.{Grid}
-use Rattle.qr_drawing.specs.Drawing.{HaveOneSide}
+use Rattle.std.{proofs.lemmas.List.{append_assoc, Elements.{All-cons, All-nil}}, specs.List.All}
+use Rattle.{qr_matrix.specs.Grid.Grid, qr_drawing.specs.Drawing.HaveOneSide}
 use Rattle.qrproved.specs.{Drawing.squares_of_bytes, Modules.square_of_bytes}
 
 -- one more square is read

@@ -1,13 +1,9 @@
 -- What the struct of a mended square contains.
 use Rattle.std.proofs.Common.{◌≡◌, ℕ, ◌*◌, ◌<◌, ◌≤◌, List, ◌++◌, drop, length, take, arith}
-use Rattle.std.proofs.lemmas.List.Elements.{All-weaker}
-use Rattle.std.specs.List.{All}
-use Rattle.qr_layout.specs.declared.level.Level.{Level}
-use Rattle.qr_bits.specs.Parsing.{Content}
-use Rattle.qr_matrix.specs.Grid.{Grid}
-use Rattle.qr_mending.specs.declared.mending.Mended.{Mended}
+use Rattle.std.{proofs.lemmas.List.Elements.All-weaker, specs.List.All}
+use Rattle.{qr_layout.specs.declared.level.Level.Level, qr_bits.specs.Parsing.Content, qr_matrix.specs.Grid.Grid}
+use Rattle.qr_mending.specs.{declared.mending.Mended.Mended, Message.tolerance_of}
 use Rattle.qr_mending.specs.Mending.{wrong_format_modules, HasWrongModules, IsMendedReading}
-use Rattle.qr_mending.specs.Message.{tolerance_of}
 use Rattle.qrproved.specs.declared.mending.QrprovedMended.{QrprovedMended}
 use Rattle.qrproved.specs.Mending.{square_of_unknown, AreModules, HasMoreMendedBytes, HasOtherByte, IsGivenMended, IsGreatest}
 use Rattle.qrproved.specs.{Modules.square_of_bytes, Reading.TellsHeader, Settings.level_of}

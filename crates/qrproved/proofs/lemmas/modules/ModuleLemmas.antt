@@ -1,10 +1,8 @@
 -- Where rows and squares of modules are among bytes: as blocks of the same length, one block after another.
 use Rattle.std.proofs.Common.{◌≡◌, ℕ, ◌+◌, ◌-◌, ◌*◌, ◌<◌, ◌≤◌, ◌⊎◌, List, [], ◌∷◌, ◌++◌, length, take, drop, length-append, length-drop, get_or, slice_index_or, ap, ◌∙◌, inl, inr, arith}
-use Rattle.std.proofs.Math.Nat.{mul-le-mul_right}
+use Rattle.{std.proofs.Math.Nat.mul-le-mul_right, qr_matrix.specs.{Grid.{Grid, colour, light}, BitRow.has_bit}}
 use Rattle.std.proofs.lemmas.List.{get_or-map, get_or-append_right, get_or_append_left, get_or-drop, get_or-take, length-take-le}
 use borrow.Rule.Slice.PartMut.{put_mid}
-use Rattle.qr_matrix.specs.Grid.{Grid, colour, light}
-use Rattle.qr_matrix.specs.BitRow.{has_bit}
 use Rattle.qr_symbol.specs.{declared.symbol.Symbol.Symbol, Series.squares_of}
 use Rattle.qrproved.specs.{Modules.HoldsSquares, Modules.byte_of, Steps.Modules.four_bytes}
 

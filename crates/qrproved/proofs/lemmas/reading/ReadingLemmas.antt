@@ -1,9 +1,8 @@
 -- What the statuses mean for a square that is refused, and for one that is read. `At f`: the square has the fault f.
 use Rattle.std.proofs.Common.{◌≡◌, ◌≢◌, ◌↔◌, ◌⊎◌, ℕ, ◌<◌, ◌≤◌, Option, None, Some, MatchOption, sym, ◌∙◌, ap, subst, inl, inr, arith}
-use Rattle.qr_bits.specs.declared.fault.ParseFault.{ParseFault}
+use Rattle.{qr_bits.specs.declared.fault.ParseFault.ParseFault, qr_layout.specs.Version.side_of}
 use Rattle.qr_symbol.specs.declared.fault.ReadFault.{ReadFault}
 use Rattle.qr_symbol.specs.declared.fault.ReadFault.TheVariants as unread
-use Rattle.qr_layout.specs.Version.{side_of}
 use Rattle.qrproved.specs.{Reading.IsSide, Steps.Status.read_status}
 
 -- the version that has this side
@@ -41,8 +40,8 @@ pub record TellsFaults (At : ReadFault → Type 0) (status : ℕ) : Type 0 where
   pub segments : (status ≡ 10) ↔ ((status ≢ 4) × ((why : ParseFault) × At (unread.Segments why)))
 
 -- if the status is not that of lack of memory, the fault is the one that the square has
-same-status : (At : ReadFault → Type 0) (f e : ReadFault) → FaultsAreOne At → At f → At e → read_status f ≢ 4
-    → (e ≡ unread.Memory → ⊥) → read_status f ≡ read_status e
+same-status : (At : ReadFault → Type 0) (f e : ReadFault) → FaultsAreOne At → At f → At e →
+    read_status f ≢ 4 → (e ≡ unread.Memory → ⊥) → read_status f ≡ read_status e
 same-status At f e one u w other known = elim (one f e u w) [
   | inl h ↦ absurd (other ((has-status f).memory h))
   | inr (inl h) ↦ absurd (known h)
@@ -69,14 +68,14 @@ refused At f one never u =
     }
 
 -- a square that is read has no fault except lack of memory
-pub read : (At : ReadFault → Type 0) (status : ℕ) → status < 8 → ((e : ReadFault) → At e → e ≡ unread.Memory)
-    → TellsFaults At status
+pub read : (At : ReadFault → Type 0) (status : ℕ) → status < 8 →
+    ((e : ReadFault) → At e → e ≡ unread.Memory) → TellsFaults At status
 read At status small none = search arith
 
 -- ---- the statuses of the side and of the buffers
 
-pub side-status : (At : ReadFault → Type 0) (f : ReadFault) (P : Type 0) → P → At f → (At unread.Side → P → ⊥)
-    → (read_status f ≡ 7) ↔ (P → ⊥)
+pub side-status : (At : ReadFault → Type 0) (f : ReadFault) (P : Type 0) → P → At f →
+    (At unread.Side → P → ⊥) → (read_status f ≡ 7) ↔ (P → ⊥)
 side-status At f P p u apart = search (arith, has-status)
 
 pub room-status : (f : ReadFault) (P Q R : Type 0) → (Q → ⊥) → (R → f ≡ unread.Memory)

@@ -1,5 +1,4 @@
-use Rattle.std.proofs.Common.{◌<◌, ◌≤◌, arith}
-use Rattle.std.proofs.lemmas.List.Elements.{All-weaker}
+use Rattle.std.proofs.{Common.{◌<◌, ◌≤◌, arith}, lemmas.List.Elements.All-weaker}
 use Rattle.qrproved.proofs.mending.are_modules.Goals as goal
 
 pub returns-then-are_known : goal.returns-then-are_known

@@ -1,8 +1,6 @@
-use Rattle.std.proofs.Common.{◌≡◌, subst}
-use Rattle.std.specs.Prelude.{IfOk, MatchResult}
-use Rattle.qr_matrix.specs.Grid.{Grid}
+use Rattle.std.{proofs.Common.{◌≡◌, subst}, specs.Prelude.{IfOk, MatchResult}}
+use Rattle.{qr_matrix.specs.Grid.Grid, qrproved.specs.Modules.square_of_bytes}
 use Rattle.qr_mending.specs.Mending.{wrong_format_modules, HasWrongModules, IsMendedReading, IsUnmended}
-use Rattle.qrproved.specs.Modules.{square_of_bytes}
 use Rattle.qrproved.proofs.mending.mend_modules.Goals as goal
 
 pub returns-clause-mended : goal.returns-clause-mended

@@ -1,13 +1,11 @@
 use Rattle.std.proofs.Common.{◌≡◌, ℕ, ◌*◌, ◌<◌, ◌∙◌, length, ap, inl, inr, refl, arith, sym}
-use Rattle.qr_bits.specs.Parsing.{Content}
-use Rattle.qr_mending.specs.declared.mending.Mended.{Mended}
-use Rattle.qr_mending.specs.{Mending.IsMendedReading, Message.tolerance_of}
+use Rattle.{qr_bits.specs.Parsing.Content, qrproved.proofs.mending.qrproved_mend.Goals.{In-Err, In-Ok}}
+use Rattle.qr_mending.specs.{declared.mending.Mended.Mended, Mending.IsMendedReading, Message.tolerance_of}
 use Rattle.qrproved.specs.{Modules.square_of_bytes, Reading.IsSide, Steps.Status.read_status}
 use Rattle.qrproved.specs.Mending.{square_of_unknown, AreModules, HasMoreMendedBytes, IsUnmendedAt}
 use Rattle.qrproved.proofs.lemmas.reading.ReadingLemmas.{TellsFaults, refused, read, side-status, room-status}
 use Rattle.qrproved.proofs.lemmas.mending.MendingLemmas.{all-modules, few-changes, given-mended, more-bytes, no-other}
 use Rattle.qrproved.proofs.mending.qrproved_mend.Goals as goal
-use Rattle.qrproved.proofs.mending.qrproved_mend.Goals.{In-Err, In-Ok}
 
 -- ---- a square that cannot be mended
 

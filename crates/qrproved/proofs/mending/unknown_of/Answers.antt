@@ -1,10 +1,7 @@
 use Rattle.std.proofs.Common.{◌≡◌, ◌<◌, ◌≤◌, ◌+◌, ◌*◌, ◌==◌, false, ℕ, List, length, get_or, slice_index_or, sym, ap, ◌∙◌, arith}
-use Rattle.std.proofs.lemmas.Bool.{ne_eqb}
-use Rattle.std.specs.List.{All}
-use Rattle.qr_matrix.specs.Grid.{light}
-use Rattle.qrproved.specs.Mending.{square_of_unknown}
-use Rattle.qrproved.proofs.lemmas.modules.ModuleLemmas.{place-in}
-use Rattle.qr_matrix.proofs.Facts.{filled, fill-step, fill-row, fill-all, square-same}
+use Rattle.std.{proofs.lemmas.Bool.ne_eqb, specs.List.All}
+use Rattle.qr_matrix.{specs.Grid.light, proofs.Facts.{filled, fill-step, fill-row, fill-all, square-same}}
+use Rattle.qrproved.{specs.Mending.square_of_unknown, proofs.lemmas.modules.ModuleLemmas.place-in}
 use Rattle.qrproved.proofs.mending.unknown_of.Goals as goal
 
 pub loop-col-preserved : goal.loop-col-preserved

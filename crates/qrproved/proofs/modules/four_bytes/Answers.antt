@@ -1,5 +1,4 @@
-use Rattle.std.proofs.Common.{◌≡◌, sym, ap, arith}
-use Rattle.qr_matrix.specs.BitRow.{has_bit}
+use Rattle.{std.proofs.Common.{◌≡◌, sym, ap, arith}, qr_matrix.specs.BitRow.has_bit}
 use Rattle.qrproved.specs.Steps.Modules.{four_bytes}
 use Rattle.qrproved.proofs.modules.four_bytes.Goals as goal
 

@@ -1,7 +1,6 @@
 use Rattle.std.proofs.Common.{◌≡◌, ◌≤◌, ◌+◌, ◌-◌, length, slice_index_or, ap, ◌∙◌, inl, inr, arith}
-use Rattle.std.proofs.lemmas.Bool.{cases_lt}
+use Rattle.{std.proofs.lemmas.Bool.cases_lt, qr_matrix.specs.Grid.colour}
 use borrow.Rule.Slice.PartMut.{put_mid}
-use Rattle.qr_matrix.specs.Grid.{colour}
 use Rattle.qrproved.specs.{Modules.byte_of, Steps.Modules.four_bytes}
 use Rattle.qrproved.proofs.lemmas.modules.ModuleLemmas.{part-long, part-here, part-others, four-each}
 use Rattle.qrproved.proofs.modules.write_row.Goals as goal

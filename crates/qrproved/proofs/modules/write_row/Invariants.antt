@@ -1,6 +1,5 @@
 use Rattle.std.proofs.Common.{◌≡◌, ℕ, ◌+◌, ◌-◌, ◌<◌, ◌≤◌, ◌⊎◌, length, slice_index_or}
-use Rattle.qr_matrix.specs.Grid.{colour}
-use Rattle.qrproved.specs.Modules.{byte_of}
+use Rattle.{qr_matrix.specs.Grid.colour, qrproved.specs.Modules.byte_of}
 use Rattle.qrproved.proofs.modules.write_row.Given as goal
 
 -- the modules of the row before the current one have been written

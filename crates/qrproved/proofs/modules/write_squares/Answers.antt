@@ -1,9 +1,7 @@
 use Rattle.std.proofs.Common.{◌≡◌, ℕ, ◌+◌, ◌*◌, ◌<◌, length, get_or, slice_index_or, sym, ap, ◌∙◌, inl, inr, arith, rules}
-use Rattle.std.proofs.lemmas.{Bool.cases_lt, List.length-map}
-use Rattle.qr_matrix.specs.Grid.{Grid, colour, light}
+use Rattle.{std.proofs.lemmas.{Bool.cases_lt, List.length-map}, qr_matrix.specs.Grid.{Grid, colour, light}}
 use Rattle.qr_symbol.specs.{declared.symbol.Symbol.Symbol, Series.squares_of}
-use Rattle.qrproved.specs.Modules.{byte_of}
-use Rattle.qrproved.proofs.lemmas.modules.ModuleLemmas.{block-end, place-in, item-square}
+use Rattle.qrproved.{specs.Modules.byte_of, proofs.lemmas.modules.ModuleLemmas.{block-end, place-in, item-square}}
 use Rattle.qrproved.proofs.modules.write_squares.Goals as goal
 
 pub write_square-requires : goal.write_square-requires

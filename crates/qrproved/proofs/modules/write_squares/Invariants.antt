@@ -1,7 +1,5 @@
 use Rattle.std.proofs.Common.{◌≡◌, ℕ, ◌+◌, ◌*◌, ◌<◌, ◌≤◌, length, slice_index_or}
-use Rattle.qr_matrix.specs.Grid.{colour, light}
-use Rattle.qr_symbol.specs.Series.{squares_of}
-use Rattle.qrproved.specs.Modules.{byte_of}
+use Rattle.{qr_matrix.specs.Grid.{colour, light}, qr_symbol.specs.Series.squares_of, qrproved.specs.Modules.byte_of}
 use Rattle.qrproved.proofs.modules.write_squares.Given as goal
 
 -- the squares before the current one have been written

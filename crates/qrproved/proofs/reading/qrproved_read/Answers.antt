@@ -1,10 +1,7 @@
 use Rattle.std.proofs.Common.{ℕ, ◌*◌, ◌<◌, ◌≤◌, length, ap, subst, sym, ◌∙◌, inl, inr, arith}
-use Rattle.qr_bits.specs.Parsing.{Content}
-use Rattle.qr_matrix.specs.Grid.{Grid}
-use Rattle.qr_symbol.specs.Reading.{IsReading, IsUnread}
-use Rattle.qrproved.specs.Modules.{square_of_bytes}
+use Rattle.{qr_bits.specs.Parsing.Content, qr_matrix.specs.Grid.Grid, qr_symbol.specs.Reading.{IsReading, IsUnread}}
+use Rattle.qrproved.specs.{Modules.square_of_bytes, Steps.Status.read_status}
 use Rattle.qrproved.specs.Reading.{IsSide, IsUnreadAt, HasMoreBytes}
-use Rattle.qrproved.specs.Steps.Status.{read_status}
 use Rattle.qrproved.proofs.lemmas.reading.ReadingLemmas.{TellsFaults, refused, read, side-status, room-status}
 use Rattle.qrproved.proofs.reading.qrproved_read.Goals as goal
 use Rattle.qrproved.proofs.reading.qrproved_read.Goals.{In-Err, In-Ok-read_symbol}

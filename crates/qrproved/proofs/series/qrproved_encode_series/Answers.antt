@@ -1,10 +1,7 @@
 use Rattle.std.proofs.Common.{◌≡◌, ℕ, ◌*◌, ◌<◌, List, length, false, sym, ap, subst, ◌∙◌, arith}
-use Rattle.qr_layout.specs.Version.{side_of}
-use Rattle.qr_bits.specs.{declared.modes.Mode.TheVariants.Kanji, Modes.may_use}
-use Rattle.qr_symbol.specs.declared.symbol.Symbol.{Symbol}
-use Rattle.qr_symbol.specs.Series.{squares_of, IsSeries, NeedsParts}
-use Rattle.qrproved.specs.declared.settings.Settings.{Settings}
-use Rattle.qrproved.specs.{Settings.level_of, Settings.rule_of, Modules.HoldsSquares}
+use Rattle.{qr_layout.specs.Version.side_of, qr_bits.specs.{declared.modes.Mode.TheVariants.Kanji, Modes.may_use}}
+use Rattle.qr_symbol.specs.{declared.symbol.Symbol.Symbol, Series.{squares_of, IsSeries, NeedsParts}}
+use Rattle.qrproved.specs.{declared.settings.Settings.Settings, Settings.{level_of, rule_of}, Modules.HoldsSquares}
 use Rattle.qrproved.proofs.series.qrproved_encode_series.Goals as goal
 
 pub returns-then-input-gt-INPUT_MAX-clause-room : goal.returns-then-input-gt-INPUT_MAX-clause-room

@@ -1,5 +1,4 @@
-use Rattle.std.proofs.Common.{◌≡◌, ◌^◌, ◌<◌, take, drop}
-use Rattle.qr_bits.specs.Bits.{value}
+use Rattle.{std.proofs.Common.{◌≡◌, ◌^◌, ◌<◌, take, drop}, qr_bits.specs.Bits.value}
 use Rattle.qr_bits.proofs.bits.BitReader.take.Given as goal
 
 -- the bits that were read make the number

@@ -1,6 +1,5 @@
 use Rattle.std.proofs.Common.{◌≡◌, ℕ, ◌+◌, ◌-◌, List, ◌++◌, length, take, drop, refl, ap, sym, ◌∙◌, arith}
-use Rattle.std.proofs.lemmas.List.{drop-drop, length-take-le, take-append-drop}
-use Rattle.std.proofs.Math.Seq.{take-append_seam}
+use Rattle.std.proofs.{lemmas.List.{drop-drop, length-take-le, take-append-drop}, Math.Seq.take-append_seam}
 use Rattle.qr_devices.proofs.trial.Trial.give.Goals as goal
 
 -- what was left is what is given, and what is left after it

@@ -1,11 +1,9 @@
 use Rattle.std.proofs.Common.{◌≡◌, ℕ, ◌<◌, ◌+◌, ◌%◌, ◌^◌, List, take, get_or, sym, ap, ◌∙◌, subst, arith, bit_xor}
-use Rattle.std.proofs.lemmas.List.{take_all}
+use Rattle.{std.proofs.lemmas.List.take_all, qr_field.proofs.divisor.Divisor.correction.Goals.After-coefficients}
 use Rattle.qr_field.specs.Steps.Register.{IsHeld, packed, unpacked, divisor_of, value_of}
-use Rattle.qr_field.specs.Polynomial.{scaled, IsCorrection}
+use Rattle.qr_field.{specs.Polynomial.{scaled, IsCorrection}, proofs.lemmas.polynomial.PolynomialLemmas.correction-one}
 use Rattle.qr_field.proofs.lemmas.divisor.DivisorLemmas.{held-start, held-step, held-all}
-use Rattle.qr_field.proofs.lemmas.polynomial.PolynomialLemmas.{correction-one}
 use Rattle.qr_field.proofs.divisor.Divisor.correction.Goals as goal
-use Rattle.qr_field.proofs.divisor.Divisor.correction.Goals.{After-coefficients}
 
 pub loop-byte-init : goal.loop-byte-init
 loop-byte-init c = held-start c.args.self.now

@@ -1,5 +1,4 @@
-use Rattle.std.proofs.Common.{take}
-use Rattle.qr_field.specs.Steps.Register.{IsHeld, value_of}
+use Rattle.{std.proofs.Common.take, qr_field.specs.Steps.Register.{IsHeld, value_of}}
 use Rattle.qr_field.proofs.divisor.Divisor.correction.Given as goal
 
 abbrev pub invariant-loop-byte : goal.invariant-loop-byte

@@ -1,8 +1,6 @@
 use Rattle.std.proofs.Common.{◌≡◌, ◌%◌, ◌/◌, ◌^◌, get_or, ap, ◌∙◌, arith, bit_xor, bit_and}
-use Rattle.std.proofs.lemmas.Nat.{and_mask}
-use Rattle.qr_field.specs.Steps.Register.{divisor_of, packed, value_of, zero_register}
-use Rattle.qr_field.specs.Polynomial.{scaled}
-use Rattle.qr_field.proofs.lemmas.divisor.DivisorLemmas.{multiple-of_halves}
+use Rattle.{std.proofs.lemmas.Nat.and_mask, qr_field.proofs.lemmas.divisor.DivisorLemmas.multiple-of_halves}
+use Rattle.qr_field.specs.{Steps.Register.{divisor_of, packed, value_of, zero_register}, Polynomial.scaled}
 use Rattle.qr_field.proofs.divisor.Divisor.multiple.Goals as goal
 
 pub returns : goal.returns

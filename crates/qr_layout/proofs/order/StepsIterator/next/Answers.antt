@@ -1,5 +1,4 @@
-use Rattle.std.proofs.Common.{sym, ◌∙◌, arith}
-use Rattle.qr_layout.specs.Steps.Order.{to_come}
+use Rattle.{std.proofs.Common.{sym, ◌∙◌, arith}, qr_layout.specs.Steps.Order.to_come}
 use Rattle.qr_layout.proofs.lemmas.order.WalkLemmas.{step-cursor, step-left, step-yields, step-passes, to_come-end, length-less}
 use Rattle.qr_layout.proofs.order.StepsIterator.next.Goals as goal
 

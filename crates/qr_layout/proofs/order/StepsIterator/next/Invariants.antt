@@ -1,6 +1,5 @@
 use Rattle.std.proofs.Common.{◌≡◌, ◌≤◌}
-use Rattle.qr_layout.specs.Version.{side_of}
-use Rattle.qr_layout.specs.Steps.Order.{IsCursor, to_come, left_of}
+use Rattle.qr_layout.specs.{Version.side_of, Steps.Order.{IsCursor, to_come, left_of}}
 use Rattle.qr_layout.proofs.order.StepsIterator.next.Given as goal
 
 abbrev pub invariant-loop-self : goal.invariant-loop-self

@@ -1,5 +1,4 @@
-use Rattle.std.proofs.Common.{sym, ◌∙◌, arith}
-use Rattle.qr_layout.proofs.lemmas.strips.StripLemmas.{strips-next}
+use Rattle.{std.proofs.Common.{sym, ◌∙◌, arith}, qr_layout.proofs.lemmas.strips.StripLemmas.strips-next}
 use Rattle.qr_layout.proofs.strips.StripsIterator.next.Goals as goal
 
 pub returns-clause-steps : goal.returns-clause-steps

@@ -1,5 +1,4 @@
-use Rattle.std.proofs.Common.{◌∙◌, arith}
-use Rattle.qr_layout.proofs.lemmas.blocks.BlockLemmas.{laws-of, quotient-fits}
+use Rattle.{std.proofs.Common.{◌∙◌, arith}, qr_layout.proofs.lemmas.blocks.BlockLemmas.{laws-of, quotient-fits}}
 use Rattle.qr_layout.proofs.version.Version.blocks.Goals as goal
 
 pub nonzero_rem-long : goal.nonzero_rem-long

@@ -1,6 +1,5 @@
 use Rattle.std.proofs.Common.{◌≡◌, ℕ, ◌≤◌, ◌<◌, List, length, take, ap, arith}
-use Rattle.std.proofs.lemmas.List.{length-take}
-use Rattle.qr_layout.proofs.lemmas.alignment.TableLemmas.{centres-few}
+use Rattle.{std.proofs.lemmas.List.length-take, qr_layout.proofs.lemmas.alignment.TableLemmas.centres-few}
 use Rattle.qr_layout.proofs.version.Version.centres.Goals as goal
 
 -- of at most seven items the first k are fewer than seven, where there is one more

@@ -1,7 +1,6 @@
 use Rattle.std.proofs.Common.{◌≡◌, ◌-◌, ◌^◌, ap, ◌∙◌, arith}
 use Rattle.qr_matrix.specs.BitRow.{has, has_bit, bit_row_number}
-use Rattle.qr_matrix.proofs.lemmas.bit_row.WordLemmas.{three-low, three-middle, three-high}
-use Rattle.qr_matrix.proofs.lemmas.bit_row.PlaceLemmas.{has_bit-ones}
+use Rattle.qr_matrix.proofs.lemmas.bit_row.{WordLemmas.{three-low, three-middle, three-high}, PlaceLemmas.has_bit-ones}
 use Rattle.qr_matrix.proofs.bit_row.BitRow.below_in.Goals as goal
 
 pub returns-in-1 : goal.returns-in-1

@@ -1,5 +1,4 @@
-use Rattle.std.proofs.Common.{get_or, ◌∙◌, arith}
-use Rattle.std.proofs.lemmas.Nat.{ones-le}
+use Rattle.std.proofs.{Common.{get_or, ◌∙◌, arith}, lemmas.Nat.ones-le}
 use Rattle.qr_matrix.specs.{BitRow.has, BitRow.bit_row_number, Steps.size_of}
 use Rattle.qr_matrix.proofs.lemmas.bit_row.{WordLemmas.three-ones, WordLemmas.three-below, PlaceLemmas.ones-count}
 use Rattle.qr_matrix.proofs.bit_row.BitRow.count.Goals as goal

@@ -1,5 +1,4 @@
-use Rattle.std.proofs.Common.{◌≡◌, ℕ, ◌+◌, count_ones, get_or, ◌∙◌, arith}
-use Rattle.std.proofs.lemmas.Nat.{ones_le_self}
+use Rattle.std.proofs.{Common.{◌≡◌, ℕ, ◌+◌, count_ones, get_or, ◌∙◌, arith}, lemmas.Nat.ones_le_self}
 use Rattle.qr_matrix.specs.{BitRow.has, BitRow.bit_row_number, Steps.size_of}
 use Rattle.qr_matrix.proofs.lemmas.bit_row.{WordLemmas.three-ones, WordLemmas.three-below, PlaceLemmas.ones-count}
 use Rattle.qr_matrix.proofs.bit_row.BitRow.count_unless_empty.Goals as goal

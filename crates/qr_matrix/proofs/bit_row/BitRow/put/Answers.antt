@@ -1,5 +1,4 @@
-use Rattle.std.proofs.Common.{ℕ, ◌∙◌, ◌%◌, ap, eqb, sym, get_or, w64, arith}
-use Rattle.std.proofs.lemmas.Nat.{or_lt}
+use Rattle.std.proofs.{Common.{ℕ, ◌∙◌, ◌%◌, ap, eqb, sym, get_or, w64, arith}, lemmas.Nat.or_lt}
 use Rattle.std.proofs.lemmas.Nat.Bits.{bit_at_set_same, bit_at_set_other, bit_at_clear_same, bit_at_clear_other}
 use Rattle.qr_matrix.proofs.lemmas.bit_row.PlaceLemmas.{and-small, put-step, set-words, words-small}
 use Rattle.qr_matrix.proofs.bit_row.BitRow.put.Goals as goal

@@ -1,5 +1,4 @@
-use Rattle.std.proofs.Common.{ap, ◌∙◌, ◌*◌, ◌/◌, ◌%◌, ◌^◌, refl, arith}
-use Rattle.std.proofs.lemmas.Nat.{or_lt}
+use Rattle.std.proofs.{Common.{ap, ◌∙◌, ◌*◌, ◌/◌, ◌%◌, ◌^◌, refl, arith}, lemmas.Nat.or_lt}
 use Rattle.qr_matrix.specs.BitRow.{has, has_bit, bit_row_number}
 use Rattle.qr_matrix.proofs.lemmas.bit_row.RepeatLemmas.{repeats, repeated-bit}
 use Rattle.qr_matrix.proofs.bit_row.BitRow.repeated.Goals as goal

@@ -1,7 +1,5 @@
-use Rattle.std.proofs.Common.{arith}
-use Rattle.std.proofs.lemmas.Nat.{or_lt}
-use Rattle.qr_matrix.proofs.lemmas.bit_row.PlaceLemmas.{words-small, set-words}
-use Rattle.qr_matrix.proofs.lemmas.matrix.FourLemmas.{four-set}
+use Rattle.std.proofs.{Common.arith, lemmas.Nat.or_lt}
+use Rattle.qr_matrix.proofs.lemmas.{bit_row.PlaceLemmas.{words-small, set-words}, matrix.FourLemmas.four-set}
 use Rattle.qr_matrix.proofs.bit_row.BitRow.set_four.Goals as goal
 
 pub returns : goal.returns

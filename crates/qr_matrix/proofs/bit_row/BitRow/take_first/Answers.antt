@@ -1,6 +1,5 @@
 use Rattle.std.proofs.Common.{arith}
-use Rattle.qr_matrix.specs.BitRow.{has}
-use Rattle.qr_matrix.proofs.lemmas.bit_row.FirstLemmas.{passing-first, passing-none}
+use Rattle.qr_matrix.{specs.BitRow.has, proofs.lemmas.bit_row.FirstLemmas.{passing-first, passing-none}}
 use Rattle.qr_matrix.proofs.bit_row.BitRow.take_first.Goals as goal
 
 pub returns-then-index : goal.returns-then-index

@@ -1,5 +1,4 @@
-use Rattle.std.proofs.Common.{get_or, ap, ◌∙◌, arith}
-use Rattle.qr_matrix.specs.BitRow.{has, has_bit, bit_row_number}
+use Rattle.{std.proofs.Common.{get_or, ap, ◌∙◌, arith}, qr_matrix.specs.BitRow.{has, has_bit, bit_row_number}}
 use Rattle.qr_matrix.proofs.lemmas.bit_row.{WordLemmas.three-and, PlaceLemmas.has_bit-and}
 use Rattle.qr_matrix.proofs.bit_row.BitRowBitAnd.bitand.Goals as goal
 

@@ -1,5 +1,4 @@
-use Rattle.std.proofs.Common.{get_or, refl, ap, ◌∙◌, arith}
-use Rattle.std.proofs.lemmas.Nat.{or_lt}
+use Rattle.std.proofs.{Common.{get_or, refl, ap, ◌∙◌, arith}, lemmas.Nat.or_lt}
 use Rattle.qr_matrix.specs.BitRow.{has, has_bit, bit_row_number}
 use Rattle.qr_matrix.proofs.lemmas.bit_row.{WordLemmas.three-or, PlaceLemmas.has_bit-or}
 use Rattle.qr_matrix.proofs.bit_row.BitRowBitOr.bitor.Goals as goal

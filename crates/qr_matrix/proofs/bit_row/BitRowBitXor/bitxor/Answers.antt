@@ -1,5 +1,4 @@
-use Rattle.std.proofs.Common.{get_or, refl, ap, ◌∙◌, arith}
-use Rattle.std.proofs.lemmas.Nat.{xor_lt}
+use Rattle.std.proofs.{Common.{get_or, refl, ap, ◌∙◌, arith}, lemmas.Nat.xor_lt}
 use Rattle.qr_matrix.specs.BitRow.{has, has_bit, bit_row_number}
 use Rattle.qr_matrix.proofs.lemmas.bit_row.{WordLemmas.three-xor, PlaceLemmas.has_bit-xor}
 use Rattle.qr_matrix.proofs.bit_row.BitRowBitXor.bitxor.Goals as goal

@@ -1,6 +1,5 @@
 use Rattle.std.proofs.Common.{refl, ap, arith}
-use Rattle.qr_matrix.specs.Grid.{Grid}
-use Rattle.qr_matrix.proofs.lemmas.matrix.MatrixLemmas.{row-read, row-past}
+use Rattle.qr_matrix.{specs.Grid.Grid, proofs.lemmas.matrix.MatrixLemmas.{row-read, row-past}}
 use Rattle.qr_matrix.proofs.matrix.Matrix.bit_row.Goals as goal
 
 pub index-requires : goal.index-requires

@@ -1,7 +1,6 @@
 use Rattle.std.proofs.Common.{◌≡◌, ℕ, ◌*◌, ◌≤◌, Bool, false, ◌&&◌, ltb, ap, ◌∙◌, arith}
 use Rattle.std.proofs.lemmas.Bool.Decides.{nat_tests}
-use Rattle.qr_matrix.specs.BitRow.{has}
-use Rattle.qr_matrix.proofs.lemmas.bit_row.BoolLemmas.{false-and}
+use Rattle.qr_matrix.{specs.BitRow.has, proofs.lemmas.bit_row.BoolLemmas.false-and}
 use Rattle.qr_matrix.proofs.matrix.Matrix.bit_row_in.Goals as goal
 
 -- what is false wherever a test is false passes the test

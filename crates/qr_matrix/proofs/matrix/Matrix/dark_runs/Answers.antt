@@ -1,5 +1,4 @@
-use Rattle.qr_matrix.specs.BitRow.{has}
-use Rattle.qr_matrix.proofs.lemmas.dark_runs.DarkRunLemmas.{runs-of-row}
+use Rattle.qr_matrix.{specs.BitRow.has, proofs.lemmas.dark_runs.DarkRunLemmas.runs-of-row}
 use Rattle.qr_matrix.proofs.matrix.Matrix.dark_runs.Goals as goal
 
 pub returns : goal.returns

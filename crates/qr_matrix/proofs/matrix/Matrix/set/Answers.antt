@@ -1,7 +1,5 @@
-use Rattle.std.proofs.Common.{set, ap, ◌∙◌, arith}
-use Rattle.std.proofs.Math.ListN.{length-set}
-use Rattle.qr_matrix.specs.Grid.{Grid}
-use Rattle.qr_matrix.proofs.lemmas.matrix.MatrixLemmas.{rows-set, inside-set, write-step}
+use Rattle.std.proofs.{Common.{set, ap, ◌∙◌, arith}, Math.ListN.length-set}
+use Rattle.qr_matrix.{specs.Grid.Grid, proofs.lemmas.matrix.MatrixLemmas.{rows-set, inside-set, write-step}}
 use Rattle.qr_matrix.proofs.matrix.Matrix.set.Goals as goal
 
 pub index_mut-requires : goal.index_mut-requires

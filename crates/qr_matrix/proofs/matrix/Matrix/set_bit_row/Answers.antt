@@ -1,5 +1,4 @@
-use Rattle.std.proofs.Common.{set, refl, ap, ◌∙◌, arith}
-use Rattle.std.proofs.Math.ListN.{length-set}
+use Rattle.std.proofs.{Common.{set, refl, ap, ◌∙◌, arith}, Math.ListN.length-set}
 use Rattle.qr_matrix.specs.{Grid.Grid, BitRow.has}
 use Rattle.qr_matrix.proofs.lemmas.matrix.MatrixLemmas.{line-set, line-inside, line-write}
 use Rattle.qr_matrix.proofs.matrix.Matrix.set_bit_row.Goals as goal

@@ -1,6 +1,5 @@
 use Rattle.std.proofs.Common.{◌+◌, ◌/◌, ◌∙◌, true, eqb, ltb, sym, ap, refl, arith}
-use Rattle.qr_matrix.specs.Grid.{square, colour}
-use Rattle.qr_matrix.proofs.lemmas.matrix.MatrixLemmas.{view-square}
+use Rattle.qr_matrix.{specs.Grid.{square, colour}, proofs.lemmas.matrix.MatrixLemmas.view-square}
 use Rattle.qr_matrix.proofs.lemmas.transposition.TranspositionLemmas.{chosen-none, chosen-square, chosen-more, chosen-all, word-none, word-more, word-all}
 use Rattle.qr_matrix.proofs.matrix.Matrix.set_transposed.Goals as goal
 

@@ -1,6 +1,5 @@
 use Rattle.std.proofs.Common.{◌≡◌, ◌/◌, ltb}
-use Rattle.qr_matrix.specs.Grid.{colour}
-use Rattle.qr_matrix.proofs.lemmas.transposition.TranspositionLemmas.{chosen}
+use Rattle.qr_matrix.{specs.Grid.colour, proofs.lemmas.transposition.TranspositionLemmas.chosen}
 use Rattle.qr_matrix.proofs.matrix.Matrix.set_transposed.Given as goal
 
 abbrev pub invariant-loop-band : goal.invariant-loop-band

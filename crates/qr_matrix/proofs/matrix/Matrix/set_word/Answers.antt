@@ -1,7 +1,6 @@
 use Rattle.std.proofs.Common.{◌≡◌, ◌/◌, ◌%◌, ◌∙◌, cond, eqb, [], set, get_or, refl, ap, arith}
 use Rattle.std.proofs.{Math.ListN.length-set, lemmas.List.get_or_read}
-use Rattle.qr_matrix.specs.Grid.{Grid, colour}
-use Rattle.qr_matrix.specs.BitRow.{has, has_bit, dark_in}
+use Rattle.qr_matrix.specs.{Grid.{Grid, colour}, BitRow.{has, has_bit, dark_in}}
 use Rattle.qr_matrix.proofs.lemmas.matrix.MatrixLemmas.{line-set, line-inside, row-read, line-write}
 use Rattle.qr_matrix.proofs.lemmas.transposition.TranspositionLemmas.{word-past}
 use Rattle.qr_matrix.proofs.matrix.Matrix.set_word.Goals as goal

@@ -1,5 +1,4 @@
-use Rattle.std.proofs.Common.{◌≡◌, take}
-use Rattle.qr_field.specs.Polynomial.{plus, scaled}
+use Rattle.{std.proofs.Common.{◌≡◌, take}, qr_field.specs.Polynomial.{plus, scaled}}
 use Rattle.qr_mending.proofs.polynomial.Polynomial.plus.Given as goal
 
 abbrev pub invariant-loop-j : goal.invariant-loop-j
