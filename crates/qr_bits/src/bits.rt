@@ -38,7 +38,6 @@ impl BitWriter {
     }
 
     /// Writes the lowest `width` bits of `number`, the most significant first; higher bits may have any value.
-    #[tactic(auto, using(crate::proofs::Named::writing_bits))]
     pub(crate) fn put(&mut self, width: u8, number: u16) -> Result<(), AllocError>
         requires { width ≤ 16 }
         ensures { OnOk result (self.new ≡ self.old ++ field width number) }
