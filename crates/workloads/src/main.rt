@@ -1,0 +1,77 @@
+//! The jobs that users wait for, on inputs that are made from a seed. The arguments are the name of a job, how many
+//! inputs it takes, and the seed; with the name `all`, each job takes as many. A line is printed for each job, with a
+//! digest of all its results. `bench/run` times it.
+#![tactic(auto)]
+
+mod checking;
+mod digest;
+mod printing;
+mod random;
+mod texts;
+
+use crate::digest::Digest;
+use std::alloc::{AllocError, Global};
+use std::env;
+use std::process::ExitCode;
+
+static NAMES: [&str; 6] = ["labels", "large", "series", "awkward", "proofread", "mend"];
+
+// `None` if there is no job of this name.
+fn job(
+    alloc: Global,
+    name: &str,
+    count: u64,
+    seed: u64,
+    digest: &mut Digest,
+) -> Option<Result<(), AllocError>> {
+    match name {
+        "labels" => Some(printing::labels(alloc, count, seed, digest)),
+        "large" => Some(printing::large(alloc, count, seed, digest)),
+        "series" => Some(printing::series(alloc, count, seed, digest)),
+        "awkward" => Some(printing::awkward(alloc, count, seed, digest)),
+        "proofread" => Some(checking::proofread(alloc, count, seed, digest)),
+        "mend" => Some(checking::mend(alloc, count, seed, digest)),
+        _ => None,
+    }
+}
+
+// Whether the job was done and its line printed.
+fn tell(rt: &HostRuntime, name: &str, count: u64, seed: u64) -> bool {
+    let mut digest = Digest::NONE;
+    match job(rt.alloc(), name, count, seed, &mut digest) {
+        Some(Ok(())) => {
+            let value = digest.value();
+            println!(rt; "{name} {count} {seed}: {value:016x}").is_ok()
+        }
+        Some(Err(_)) => false,
+        None => false,
+    }
+}
+
+fn tell_all(rt: &HostRuntime, words: &[String]) -> bool {
+    let [_, name, count, seed] = words else {
+        return false;
+    };
+    let (Ok(count), Ok(seed)) = (count.parse::<u64>(), seed.parse::<u64>()) else {
+        return false;
+    };
+    if name.as_str() == "all" {
+        return NAMES.iter().all(|each| tell(rt, each, count, seed));
+    }
+    tell(rt, name.as_str(), count, seed)
+}
+
+fn main(rt: HostRuntime) -> ExitCode {
+    let words: Vec<String> = match env::args(&rt) {
+        Ok(args) => match args.collect(rt.alloc()) {
+            Ok(words) => words,
+            Err(_) => return ExitCode::from(1),
+        },
+        Err(_) => return ExitCode::from(1),
+    };
+    ExitCode::from(if tell_all(&rt, words.as_slice()) {
+        0
+    } else {
+        1
+    })
+}

@@ -1,0 +1,210 @@
+//! Jobs of the command: labels, large symbols, series, and inputs that are awkward. Each run is one of
+//! `qrencode_cli::run` with devices in memory.
+
+use crate::digest::Digest;
+use crate::random::Random;
+use crate::texts::Text;
+use qrencode_cli::{Faults, Trial, run};
+use std::alloc::{AllocError, Global};
+
+static LEVELS: [&str; 4] = ["L", "M", "Q", "H"];
+
+static TYPES: [&str; 4] = ["SVG", "UTF8", "ASCII", "ASCIIi"];
+
+static NUMBERS: [&str; 11] = ["0", "1", "2", "3", "4", "5", "6", "7", "8", "9", "10"];
+
+// The most bytes in byte mode of versions 19 and 40, by level.
+static BYTES: [(usize, usize); 4] = [(792, 2953), (624, 2331), (442, 1663), (338, 1273)];
+
+// The same for digits.
+static DIGITS: [(usize, usize); 4] = [(1903, 7089), (1500, 5596), (1063, 3993), (813, 3057)];
+
+// One byte too many for version 9 or 26 in byte mode, by level.
+static TOO_MANY: [(usize, usize); 4] = [(231, 1368), (181, 1060), (131, 752), (99, 594)];
+
+const LABEL_ROOM: usize = 120_000;
+
+const SYMBOL_ROOM: usize = 400_000;
+
+const SERIES_ROOM: usize = 4_000_000;
+
+// Runs the command once, and adds its status and all that it wrote.
+fn add_run(
+    alloc: Global,
+    words: &[&str],
+    text: &Text,
+    room: usize,
+    digest: &mut Digest,
+) -> Result<(), AllocError> {
+    let mut list = Vec::with_capacity(alloc, words.len() + 1)?;
+    list.push(String::from_str(alloc, "qrencode")?)?;
+    for word in words {
+        list.push(String::from_str(alloc, word)?)?;
+    }
+    let mut input = Trial::reader(alloc, text.bytes(), Faults::NONE)?;
+    let mut out = Trial::writer(alloc, room, Faults::NONE)?;
+    let mut err = Trial::writer(alloc, 4000, Faults::NONE)?;
+    let status = run(alloc, &list, &mut input, &mut out, &mut err);
+    digest.add(u64::from(status));
+    digest.add_bytes(out.bytes());
+    digest.add_bytes(err.bytes());
+    Ok(())
+}
+
+/// Labels of versions 1 to 13: links, serial numbers, trade item numbers, networks and contacts, at levels M and Q,
+/// most as SVG.
+pub fn labels(alloc: Global, count: u64, seed: u64, digest: &mut Digest) -> Result<(), AllocError> {
+    let mut random = Random::new(seed);
+    for turn in 0..count {
+        let mut text = Text::new(alloc);
+        match turn % 8 {
+            0 | 3 | 6 => text.put_link(&mut random)?,
+            1 | 4 => text.put_serial(&mut random)?,
+            2 => text.put_gtin(&mut random)?,
+            5 => text.put_network(&mut random)?,
+            _ => text.put_contact(&mut random)?,
+        }
+        let level = if random.below(2) == 0 { "M" } else { "Q" };
+        let kind = if turn % 5 == 4 { "UTF8" } else { "SVG" };
+        add_run(alloc, &["-l", level, "-t", kind], &text, LABEL_ROOM, digest)?;
+    }
+    Ok(())
+}
+
+// A text of one of five kinds that fits versions 20 to 40.
+fn large_text(
+    alloc: Global,
+    random: &mut Random,
+    kind: usize,
+    level: usize,
+) -> Result<Text, AllocError> {
+    let mut text = Text::new(alloc);
+    let (least, most) = if kind == 3 {
+        DIGITS[level % 4]
+    } else {
+        BYTES[level % 4]
+    };
+    let count = random.between(least, most);
+    match kind {
+        0 => text.put_prose(random, count)?,
+        1 => text.put_records(random, count)?,
+        2 => text.put_base64(random, count)?,
+        3 => text.put_digits(random, count)?,
+        _ => text.put_runs(random, count)?,
+    }
+    text.cut(count);
+    Ok(text)
+}
+
+/// Symbols of versions 20 to 40, at all levels, in all drawings, with margins from 0 to 10.
+pub fn large(alloc: Global, count: u64, seed: u64, digest: &mut Digest) -> Result<(), AllocError> {
+    let mut random = Random::new(seed);
+    for turn in 0..count {
+        let level = (turn % 4) as usize;
+        let text = large_text(alloc, &mut random, (turn % 5) as usize, level)?;
+        let kind = TYPES[random.below(4)];
+        let margin = NUMBERS[random.below(11)];
+        let words = ["-l", LEVELS[level], "-t", kind, "-m", margin];
+        add_run(alloc, &words, &text, SYMBOL_ROOM, digest)?;
+    }
+    Ok(())
+}
+
+/// Files of 1 to 44 kB as series of version 40, shorter ones in versions 5 to 10, and Japanese texts.
+pub fn series(alloc: Global, count: u64, seed: u64, digest: &mut Digest) -> Result<(), AllocError> {
+    let mut random = Random::new(seed);
+    for turn in 0..count {
+        let mut text = Text::new(alloc);
+        match turn % 8 {
+            0 => {
+                let count = random.between(1000, 44_000);
+                text.put_records(&mut random, count)?;
+                add_run(
+                    alloc,
+                    &["-S", "-v", "40", "-t", "UTF8"],
+                    &text,
+                    SERIES_ROOM,
+                    digest,
+                )?;
+            }
+            1 => {
+                let count = random.between(1000, 20_000);
+                text.put_pairs(&mut random, count)?;
+                let words = ["-S", "-k", "-v", "40", "-t", "ASCII"];
+                add_run(alloc, &words, &text, SERIES_ROOM, digest)?;
+            }
+            2 => {
+                let count = random.between(200, 700);
+                text.put_pairs(&mut random, count)?;
+                let words = ["-S", "-k", "-i", "-v", "7", "-t", "UTF8"];
+                add_run(alloc, &words, &text, SERIES_ROOM, digest)?;
+            }
+            3 => {
+                let count = random.between(1000, 30_000);
+                text.put_runs(&mut random, count)?;
+                let words = ["-S", "-v", "40", "-l", "M", "-t", "SVG"];
+                add_run(alloc, &words, &text, SERIES_ROOM, digest)?;
+            }
+            _ => {
+                let count = random.between(500, 1600);
+                text.put_prose(&mut random, count)?;
+                let version = NUMBERS[5 + random.below(6)];
+                let words = ["-S", "-v", version, "-t", "SVG"];
+                add_run(alloc, &words, &text, SERIES_ROOM, digest)?;
+            }
+        }
+    }
+    Ok(())
+}
+
+/// Modes that change just where a segment pays, Japanese pairs at odd places, a byte too many for a range of versions,
+/// series of version 1, and inputs of more than 16 symbols.
+pub fn awkward(
+    alloc: Global,
+    count: u64,
+    seed: u64,
+    digest: &mut Digest,
+) -> Result<(), AllocError> {
+    let mut random = Random::new(seed);
+    for turn in 0..count {
+        let mut text = Text::new(alloc);
+        let level = random.below(4);
+        let name = LEVELS[level];
+        match turn % 16 {
+            0 => {
+                let count = random.between(60_000, 113_425);
+                text.put_records(&mut random, count)?;
+                let words = ["-S", "-v", "20", "-l", name, "-t", "UTF8"];
+                add_run(alloc, &words, &text, SYMBOL_ROOM, digest)?;
+            }
+            1..=4 => {
+                let count = random.between(20, 200);
+                text.put_runs(&mut random, count)?;
+                let words = ["-S", "-v", "1", "-l", name, "-t", "UTF8"];
+                add_run(alloc, &words, &text, SYMBOL_ROOM, digest)?;
+            }
+            5..=8 => {
+                let (least, most) = BYTES[level];
+                let count = random.between(least, most);
+                text.put_runs(&mut random, count)?;
+                text.cut(count);
+                let words = ["-l", name, "-t", "UTF8"];
+                add_run(alloc, &words, &text, SYMBOL_ROOM, digest)?;
+            }
+            9..=11 => {
+                let (_, most) = BYTES[level];
+                text.put_pairs(&mut random, most / 2)?;
+                let words = ["-k", "-l", name, "-t", "UTF8"];
+                add_run(alloc, &words, &text, SYMBOL_ROOM, digest)?;
+            }
+            _ => {
+                let (low, high) = TOO_MANY[level];
+                let count = if turn % 2 == 0 { low } else { high };
+                text.put_base64(&mut random, count)?;
+                let words = ["-l", name, "-t", "UTF8"];
+                add_run(alloc, &words, &text, SYMBOL_ROOM, digest)?;
+            }
+        }
+    }
+    Ok(())
+}
