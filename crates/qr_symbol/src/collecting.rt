@@ -2,7 +2,7 @@
 //! `draw_codewords`. Squares are transposed: the two columns of a strip are rows. Exactly the region is dark in
 //! `region`, and transposing does not change it. `passed` counts the rows of a strip that come earlier in its order.
 
-ghost use Rattle.std.specs.Prelude.{◌≡◌, ℕ, Bool, List, [], ◌∷◌, ◌++◌, ◌*◌, ◌%◌, ◌+◌, ◌-◌, ◌<◌, ◌≤◌, ◌&&◌, if◌then◌else◌, map, length, Some, IfOk};
+ghost use Rattle.std.specs.Prelude.{◌≡◌, ℕ, Bool, List, [], ◌∷◌, ◌++◌, ◌*◌, ◌%◌, ◌+◌, ◌-◌, ◌^◌, ◌<◌, ◌≤◌, ◌&&◌, if◌then◌else◌, map, length, Some, IfOk};
 ghost use Rattle.std.specs.List.{All};
 ghost use Rattle.qr_layout.specs.Version.{side_of, total_codewords_of};
 ghost use Rattle.qr_layout.specs.Order.{in_region_of};
@@ -11,10 +11,10 @@ ghost use Rattle.qr_bits.specs.Bits.{bits_of, field};
 ghost use Rattle.qr_matrix.specs.Grid.{transposed};
 ghost use Rattle.qr_matrix.specs.BitRow.{has};
 ghost use Rattle.qr_symbol.specs.Reading.{IsReadUnmasked};
-ghost use Rattle.qr_symbol.specs.Steps.Collecting.{bit_if, bits_in_rows, colour_across, Appends, HasCollected};
+ghost use Rattle.qr_symbol.specs.Steps.Collecting.{bit_if, bits_in_four, bits_in_rows, colour_across, Appends, HasCollected};
 ghost use Rattle.qr_symbol.specs.Steps.Placement.{region_grid};
 
-use crate::placement::{Columns, columns_of, row_at, top_of};
+use crate::placement::{Columns, ROW_COUNTS, columns_of, row_at, top_of};
 use qr_layout::{Strip, Version, all_strips};
 use qr_matrix::{BitRow, Matrix};
 use std::alloc::{AllocError, Global};
@@ -82,6 +82,25 @@ impl Collector {
         self.rest = (bits % size) as u8;
     }
 
+    // The `count` lowest bits of `bits`, the highest first; the others are 0.
+    fn push_bits(&mut self, bits: u8, count: u8)
+        requires few { count ≤ 8 }
+        requires small { bits < 2 ^ count }
+        ensures { Appends (field count bits) self.old self.new }
+    {
+        let all = (u16::from(self.rest) << count) + u16::from(bits);
+        let width = self.width + count;
+        if width < 8 {
+            self.rest = all as u8;
+            self.width = width;
+        } else {
+            let left = width - 8;
+            self.is_refused |= self.whole.push((all >> left) as u8).is_err();
+            self.rest = (all % (1 << left)) as u8;
+            self.width = left;
+        }
+    }
+
     // Loses the bits after the last whole codeword: the remainder bits, of which there are at most seven.
     fn into_codewords(self) -> Result<Vec<u8>, AllocError>
         ensures { IfOk result (λ cw. (w : ℕ) × (rest : ℕ) × (w < 8) × All (λ x. x < 256) cw.items
@@ -145,7 +164,89 @@ static SPREADS: [[u8; 16]; 2] = [
     ],
 ];
 
-// Collects four rows at once if all their eight modules are in the region, and otherwise module by module.
+// As `SPREADS`, but for those of the four modules whose rows are in the region; bit 0 is for the last of them. The second
+// index has these rows.
+static SPREAD_PARTS: [[[u8; 16]; 16]; 2] = [
+    [
+        [0, 0, 0, 0, 0, 0, 0, 0, 0, 0, 0, 0, 0, 0, 0, 0],
+        [0, 1, 0, 1, 0, 1, 0, 1, 0, 1, 0, 1, 0, 1, 0, 1],
+        [0, 0, 1, 1, 0, 0, 1, 1, 0, 0, 1, 1, 0, 0, 1, 1],
+        [0, 4, 1, 5, 0, 4, 1, 5, 0, 4, 1, 5, 0, 4, 1, 5],
+        [0, 0, 0, 0, 1, 1, 1, 1, 0, 0, 0, 0, 1, 1, 1, 1],
+        [0, 4, 0, 4, 1, 5, 1, 5, 0, 4, 0, 4, 1, 5, 1, 5],
+        [0, 0, 4, 4, 1, 1, 5, 5, 0, 0, 4, 4, 1, 1, 5, 5],
+        [0, 16, 4, 20, 1, 17, 5, 21, 0, 16, 4, 20, 1, 17, 5, 21],
+        [0, 0, 0, 0, 0, 0, 0, 0, 1, 1, 1, 1, 1, 1, 1, 1],
+        [0, 4, 0, 4, 0, 4, 0, 4, 1, 5, 1, 5, 1, 5, 1, 5],
+        [0, 0, 4, 4, 0, 0, 4, 4, 1, 1, 5, 5, 1, 1, 5, 5],
+        [0, 16, 4, 20, 0, 16, 4, 20, 1, 17, 5, 21, 1, 17, 5, 21],
+        [0, 0, 0, 0, 4, 4, 4, 4, 1, 1, 1, 1, 5, 5, 5, 5],
+        [0, 16, 0, 16, 4, 20, 4, 20, 1, 17, 1, 17, 5, 21, 5, 21],
+        [0, 0, 16, 16, 4, 4, 20, 20, 1, 1, 17, 17, 5, 5, 21, 21],
+        [0, 64, 16, 80, 4, 68, 20, 84, 1, 65, 17, 81, 5, 69, 21, 85],
+    ],
+    [
+        [0, 0, 0, 0, 0, 0, 0, 0, 0, 0, 0, 0, 0, 0, 0, 0],
+        [0, 1, 0, 1, 0, 1, 0, 1, 0, 1, 0, 1, 0, 1, 0, 1],
+        [0, 0, 1, 1, 0, 0, 1, 1, 0, 0, 1, 1, 0, 0, 1, 1],
+        [0, 1, 4, 5, 0, 1, 4, 5, 0, 1, 4, 5, 0, 1, 4, 5],
+        [0, 0, 0, 0, 1, 1, 1, 1, 0, 0, 0, 0, 1, 1, 1, 1],
+        [0, 1, 0, 1, 4, 5, 4, 5, 0, 1, 0, 1, 4, 5, 4, 5],
+        [0, 0, 1, 1, 4, 4, 5, 5, 0, 0, 1, 1, 4, 4, 5, 5],
+        [0, 1, 4, 5, 16, 17, 20, 21, 0, 1, 4, 5, 16, 17, 20, 21],
+        [0, 0, 0, 0, 0, 0, 0, 0, 1, 1, 1, 1, 1, 1, 1, 1],
+        [0, 1, 0, 1, 0, 1, 0, 1, 4, 5, 4, 5, 4, 5, 4, 5],
+        [0, 0, 1, 1, 0, 0, 1, 1, 4, 4, 5, 5, 4, 4, 5, 5],
+        [0, 1, 4, 5, 0, 1, 4, 5, 16, 17, 20, 21, 16, 17, 20, 21],
+        [0, 0, 0, 0, 1, 1, 1, 1, 4, 4, 4, 4, 5, 5, 5, 5],
+        [0, 1, 0, 1, 4, 5, 4, 5, 16, 17, 16, 17, 20, 21, 20, 21],
+        [0, 0, 1, 1, 4, 4, 5, 5, 16, 16, 17, 17, 20, 20, 21, 21],
+        [0, 1, 4, 5, 16, 17, 20, 21, 64, 65, 68, 69, 80, 81, 84, 85],
+    ],
+];
+
+// The bits of those of four rows that are in the region, the first as the highest, and how many they are. The lowest bit
+// of `rows`, `right` and `left` is the topmost row.
+fn bits_of_part(upward: bool, rows: u8, right: u8, left: u8) -> (u8, u8)
+    requires rows { rows < 16 }
+    requires right { right < 16 }
+    requires left { left < 16 }
+    ensures few { result.1 ≤ 8 }
+    ensures small { result.0 < 2 ^ result.1 }
+    ensures bits { field result.1 result.0 ≡ bits_in_four upward rows right left }
+{
+    let spread = &SPREAD_PARTS[usize::from(upward)][usize::from(rows)];
+    let bits = 2 * spread[usize::from(right)] + spread[usize::from(left)];
+    (bits, 2 * ROW_COUNTS[usize::from(rows)])
+}
+
+// Collects four rows at once if both columns have the same rows in the region, and otherwise module by module.
+#[inline(never)]
+fn collect_part_of_four(
+    bits: &mut Collector,
+    columns: &Columns,
+    v: Version,
+    region: &Columns,
+    strip: Strip,
+    passed: u8,
+)
+    requires rows_in { passed + 4 ≤ side_of v }
+    requires whole { passed % 4 ≡ (if strip.upward then 1 else 0) }
+    ensures { Appends (bits_in_rows (side_of v) strip region.now columns.now passed 4) bits.old bits.new }
+{
+    let top = top_of(v, strip, passed);
+    let rows = region.right.four(top);
+    if rows != region.left.four(top) {
+        collect_rows(bits, columns, v, region, strip, passed, 4);
+        return;
+    }
+    let right = columns.right.four(top);
+    let left = columns.left.four(top);
+    let (part, count) = bits_of_part(strip.upward, rows, right, left);
+    bits.push_bits(part, count);
+}
+
+// Collects four rows at once if all their eight modules are in the region.
 #[inline(always)]
 fn collect_four(
     bits: &mut Collector,
@@ -168,7 +269,7 @@ fn collect_four(
         let left = spread[usize::from(columns.left.four(top))];
         bits.push_byte(2 * right + left);
     } else {
-        collect_rows(bits, columns, v, region, strip, passed, 4);
+        collect_part_of_four(bits, columns, v, region, strip, passed);
     }
 }
 

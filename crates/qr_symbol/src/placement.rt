@@ -218,6 +218,51 @@ fn draw_rows(
     taken
 }
 
+// Move the bits of four rows of a column to those of the rows that are in the region, if only these are filled: the bits
+// that come first stay. The first index is the direction, the second has the rows that are in the region, and the lowest
+// bit of each number is the topmost row.
+static PLACES: [[[u8; 16]; 16]; 2] = [
+    [
+        [0, 0, 0, 0, 0, 0, 0, 0, 0, 0, 0, 0, 0, 0, 0, 0],
+        [0, 1, 0, 1, 0, 1, 0, 1, 0, 1, 0, 1, 0, 1, 0, 1],
+        [0, 2, 0, 2, 0, 2, 0, 2, 0, 2, 0, 2, 0, 2, 0, 2],
+        [0, 1, 2, 3, 0, 1, 2, 3, 0, 1, 2, 3, 0, 1, 2, 3],
+        [0, 4, 0, 4, 0, 4, 0, 4, 0, 4, 0, 4, 0, 4, 0, 4],
+        [0, 1, 4, 5, 0, 1, 4, 5, 0, 1, 4, 5, 0, 1, 4, 5],
+        [0, 2, 4, 6, 0, 2, 4, 6, 0, 2, 4, 6, 0, 2, 4, 6],
+        [0, 1, 2, 3, 4, 5, 6, 7, 0, 1, 2, 3, 4, 5, 6, 7],
+        [0, 8, 0, 8, 0, 8, 0, 8, 0, 8, 0, 8, 0, 8, 0, 8],
+        [0, 1, 8, 9, 0, 1, 8, 9, 0, 1, 8, 9, 0, 1, 8, 9],
+        [0, 2, 8, 10, 0, 2, 8, 10, 0, 2, 8, 10, 0, 2, 8, 10],
+        [0, 1, 2, 3, 8, 9, 10, 11, 0, 1, 2, 3, 8, 9, 10, 11],
+        [0, 4, 8, 12, 0, 4, 8, 12, 0, 4, 8, 12, 0, 4, 8, 12],
+        [0, 1, 4, 5, 8, 9, 12, 13, 0, 1, 4, 5, 8, 9, 12, 13],
+        [0, 2, 4, 6, 8, 10, 12, 14, 0, 2, 4, 6, 8, 10, 12, 14],
+        [0, 1, 2, 3, 4, 5, 6, 7, 8, 9, 10, 11, 12, 13, 14, 15],
+    ],
+    [
+        [0, 0, 0, 0, 0, 0, 0, 0, 0, 0, 0, 0, 0, 0, 0, 0],
+        [0, 0, 0, 0, 0, 0, 0, 0, 1, 1, 1, 1, 1, 1, 1, 1],
+        [0, 0, 0, 0, 0, 0, 0, 0, 2, 2, 2, 2, 2, 2, 2, 2],
+        [0, 0, 0, 0, 1, 1, 1, 1, 2, 2, 2, 2, 3, 3, 3, 3],
+        [0, 0, 0, 0, 0, 0, 0, 0, 4, 4, 4, 4, 4, 4, 4, 4],
+        [0, 0, 0, 0, 1, 1, 1, 1, 4, 4, 4, 4, 5, 5, 5, 5],
+        [0, 0, 0, 0, 2, 2, 2, 2, 4, 4, 4, 4, 6, 6, 6, 6],
+        [0, 0, 1, 1, 2, 2, 3, 3, 4, 4, 5, 5, 6, 6, 7, 7],
+        [0, 0, 0, 0, 0, 0, 0, 0, 8, 8, 8, 8, 8, 8, 8, 8],
+        [0, 0, 0, 0, 1, 1, 1, 1, 8, 8, 8, 8, 9, 9, 9, 9],
+        [0, 0, 0, 0, 2, 2, 2, 2, 8, 8, 8, 8, 10, 10, 10, 10],
+        [0, 0, 1, 1, 2, 2, 3, 3, 8, 8, 9, 9, 10, 10, 11, 11],
+        [0, 0, 0, 0, 4, 4, 4, 4, 8, 8, 8, 8, 12, 12, 12, 12],
+        [0, 0, 1, 1, 4, 4, 5, 5, 8, 8, 9, 9, 12, 12, 13, 13],
+        [0, 0, 2, 2, 4, 4, 6, 6, 8, 8, 10, 10, 12, 12, 14, 14],
+        [0, 1, 2, 3, 4, 5, 6, 7, 8, 9, 10, 11, 12, 13, 14, 15],
+    ],
+];
+
+// How many of four rows are in the region.
+pub(crate) static ROW_COUNTS: [u8; 16] = [0, 1, 1, 2, 1, 2, 2, 3, 1, 2, 2, 3, 2, 3, 3, 4];
+
 // The topmost of four rows of a strip.
 #[inline(always)]
 pub(crate) fn top_of(v: Version, strip: Strip, passed: u8) -> u8
@@ -230,6 +275,38 @@ pub(crate) fn top_of(v: Version, strip: Strip, passed: u8) -> u8
     } else {
         passed
     }
+}
+
+// As `draw_rows`, but for four rows, and at once if both columns have the same rows in the region, as everywhere but
+// beside alignment patterns.
+#[inline(never)]
+fn draw_part_of_four(
+    columns: &mut Columns,
+    v: Version,
+    region: &Columns,
+    bits: u8,
+    strip: Strip,
+    passed: u8,
+) -> u8
+    requires region { IsRegion v strip.right region.now }
+    requires rows_in { passed + 4 ≤ side_of v }
+    requires whole { passed % 4 ≡ (if strip.upward then 1 else 0) }
+    requires light { AreLight (side_of v) strip passed region.now columns.old }
+    ensures few { result ≤ 8 }
+    ensures number { (first : ℕ) → number_at v strip first (passed + 4) ≡ number_at v strip first passed + result }
+    ensures drawn { (cw : List ℕ) → (first : ℕ) → AreNext cw (number_at v strip first passed) bits
+        → AreDrawn v cw strip first passed 4 columns.old columns.new }
+{
+    let top = top_of(v, strip, passed);
+    let rows = region.right.four(top);
+    if rows != region.left.four(top) {
+        return draw_rows(columns, v, region, bits, strip, passed, 4);
+    }
+    let split = SPLITS[usize::from(strip.upward)][usize::from(bits)];
+    let places = &PLACES[usize::from(strip.upward)][usize::from(rows)];
+    columns.right.set_four(top, places[usize::from(split / 16)]);
+    columns.left.set_four(top, places[usize::from(split % 16)]);
+    2 * ROW_COUNTS[usize::from(rows)]
 }
 
 // As `draw_rows`, but for four rows, and at once if all their eight modules are in the region. They are light before,
@@ -261,7 +338,7 @@ fn draw_four(
         columns.left.set_four(top, split % 16);
         return 8;
     }
-    draw_rows(columns, v, region, bits, strip, passed, 4)
+    draw_part_of_four(columns, v, region, bits, strip, passed)
 }
 
 // Returns the number of the next bit. The number of rows is one more than a multiple of four, so the bottom row is

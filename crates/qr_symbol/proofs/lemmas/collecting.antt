@@ -2,3 +2,7 @@
 pub mod CollectingLemmas
 -- The tables that spread the four modules of a column over a byte.
 pub mod SpreadLemmas
+-- Further bits after the bits of a number.
+pub mod JoinLemmas
+-- Four rows of a strip of which both columns have the same ones in the encoding region, read at once.
+pub mod PartReadLemmas

@@ -14,3 +14,5 @@ pub mod AcrossLemmas
 pub mod SplitLemmas
 -- The modules of a strip that are still to be drawn, which are light.
 pub mod LightLemmas
+-- Four rows of a strip of which both columns have the same ones in the encoding region.
+pub mod PartLemmas

@@ -72,7 +72,7 @@ whole-bits s x r y k t u =
     rows p q m n = row p ++ (row q ++ (row m ++ (row n ++ [])))
 
 -- row i of four rows, in the order in which they are filled, by its index from the top
-row-of-rank : (up : Bool) (s k i : ℕ) → k + 4 ≤ s → i < 4 → cond up (s - 4 - k) k + rank_of up i ≡ cond up (s - 1 - (k + i)) (k + i)
+pub row-of-rank : (up : Bool) (s k i : ℕ) → k + 4 ≤ s → i < 4 → cond up (s - 4 - k) k + rank_of up i ≡ cond up (s - 1 - (k + i)) (k + i)
 row-of-rank up s k i l m = grind (arith, nat_tests)
 
 -- four rows whose modules are all in the encoding region are read at once

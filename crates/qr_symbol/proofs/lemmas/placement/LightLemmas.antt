@@ -34,19 +34,19 @@ kept-within {v} {x = x} d within row l =
 -- ---- four rows at once
 
 -- row m of four rows, by its index from the top
-four-row : (x : Strip) (s k top m : ℕ) → k + 4 ≤ s → top ≡ cond x.upward (s - 4 - k) k → m < 4
+pub four-row : (x : Strip) (s k top m : ℕ) → k + 4 ≤ s → top ≡ cond x.upward (s - 4 - k) k → m < 4
     → (row_of s x (k + m) ≡ top + rank_of x.upward m) × (rank_of x.upward m < 4) × (rank_of x.upward (rank_of x.upward m) ≡ m)
 four-row x s k top m room e l = (grind (arith, nat_tests), grind (arith, nat_tests), grind (arith, nat_tests))
 
 -- a row between these, by its rank
-from-top : (x : Strip) (s k top i : ℕ) → k + 4 ≤ s → top ≡ cond x.upward (s - 4 - k) k → top ≤ i
+pub from-top : (x : Strip) (s k top i : ℕ) → k + 4 ≤ s → top ≡ cond x.upward (s - 4 - k) k → top ≤ i
     → i < top + 4 → (row_of s x (k + rank_of x.upward (i - top)) ≡ i) × (rank_of x.upward (i - top) < 4)
 from-top x s k top i room e l m =
     let w = four-row x s k top (i - top) room e (omega arith) in
     (omega (arith, (four-row x s k top _ room e w.1).0, w.2), w.1)
 
 -- a row that is not one of these
-outside : (top i : ℕ) → (top ≤ i → i < top + 4 → ⊥) → (leb top i && ltb i (top + 4)) ≡ false
+pub outside : (top i : ℕ) → (top ≤ i → i < top + 4 → ⊥) → (leb top i && ltb i (top + 4)) ≡ false
 outside top i n = grind (arith, nat_tests)
 
 -- if all modules of four rows are in the region, the rows take eight bits
@@ -59,7 +59,7 @@ four-region v x k top room e whole j a b =
     let f : k + (j - k) ≡ j = omega arith in rw (← f, w.0) (whole (rank_of _ (j - k)) w.1)
 
 -- one of four rows is among them
-in-four : (top i : ℕ) → i < 4 → (leb top (top + i) && ltb (top + i) (top + 4)) ≡ true
+pub in-four : (top i : ℕ) → i < 4 → (leb top (top + i) && ltb (top + i) (top + 4)) ≡ true
 in-four top i l = grind (arith, nat_tests)
 
 -- four rows of a strip are drawn at once, if all their modules are in the region
