@@ -1,0 +1,16 @@
+use Rattle.std.proofs.Common.{ltb, sym, ◌∙◌, arith}
+use Rattle.qr_matrix.specs.{Grid.colour, BitRow.has, Steps.is_window_before}
+use Rattle.qr_matrix.proofs.lemmas.windows.WindowLemmas.{before-bit, before-none, none-pass}
+use Rattle.qr_matrix.proofs.lemmas.runs.ColumnLemmas.{guarded-size}
+use Rattle.qr_matrix.proofs.windows.windows_before.Goals as goal
+
+pub returns-then-row-lt4-clause-value : goal.returns-then-row-lt4-clause-value
+returns-then-row-lt4-clause-value c =
+    let m = c.args.matrix.now in
+    sym (none-pass m.side (λ k. is_window_before m.side (λ i. colour m i k) c.args.row) (λ k _. before-none m.side (λ i. colour m i k) c.args.row c.if-row-lt4.true))
+
+pub returns-clause-value : goal.returns-clause-value
+returns-clause-value c =
+    let m = c.args.matrix.now in
+    c.count.ensures.value ∙ guarded-size m.side c.and_not.result (λ k. is_window_before m.side (λ i. colour m i k) c.args.row) (omega arith)
+    (λ k. before-bit m.side (λ i. colour m i k) c.args.row (ltb k m.side) (has c.args.core k) (has c.dark_of_four.result k) _ c.requires.row_in (omega (arith, c.if-row-lt4.false)) (c.requires.core k) (c.dark_of_four.ensures k) (c.and_not.ensures k))
