@@ -6,7 +6,7 @@ use Rattle.qr_matrix.specs.{Grid.{Grid, colour, is_same}, BitRow.has_bit, Sums.a
 use Rattle.qr_matrix.proofs.Facts.{&&-left, &&-right, below-at, has_bit-shr, low-bits, same-same}
 use Rattle.qr_drawing.specs.{Raster.{is_dark_at, raster_width, texts_below}, Text.{cell_of, cells_of_line, half_blocks}}
 use Rattle.qr_drawing.specs.Steps.Text.{AreDark, bits_text, cell_at, cell_room, cell_text, pair_text, top_row}
-use Rattle.qr_drawing.specs.declared.text.{TheConstants.ASCII_QUADS, TextStyle.TextStyle}
+use Rattle.qr_drawing.specs.declared.text.{TheConstants.{ASCII_QUADS, HALF_BLOCK_PAIRS}, TextStyle.TextStyle}
 use Rattle.qr_drawing.specs.declared.text.TextStyle.TheVariants.{Plain, Inverse, HalfBlocks}
 use borrow.Rule.Slice.PartMut.{put_mid}
 use Rattle.qr_drawing.proofs.lemmas.text.LineLemmas.{added_more, texts_below-add, texts_below-alike, texts_below-length}
@@ -119,6 +119,16 @@ eight_inverse upper lower l =
 all-pairs : all_below 4 (λ a. all_below 4 (λ b. all_below 2 (λ k. is_same (has_bit (a + b * 4) k) (has_bit a k) && is_same (has_bit (a + b * 4) (2 + k)) (has_bit b k)))) ≡ true
 unfolding has_bit
 all-pairs = refl
+
+-- each text of the table of pairs is that of its modules: computed
+all-pair-texts : all_below 16 (λ p. pointwise nat_eq (take (get_or HALF_BLOCK_PAIRS p ([], 0)).1 (get_or HALF_BLOCK_PAIRS p ([], 0)).0) (pair_text p)) ≡ true
+unfolding has_bit texts_below
+all-pair-texts = refl
+
+-- a text of that table
+pub pair-at : (p : ℕ) → p < 16 → take (get_or HALF_BLOCK_PAIRS p ([], 0)).1 (get_or HALF_BLOCK_PAIRS p ([], 0)).0 ≡ pair_text p
+pair-at p lt =
+    same_text _ _ (sym (below-at 16 (λ p. pointwise nat_eq (take (get_or HALF_BLOCK_PAIRS p ([], 0)).1 (get_or HALF_BLOCK_PAIRS p ([], 0)).0) (pair_text p)) all-pair-texts p lt))
 
 -- two modules and the two below them as two characters of half blocks
 half-pair : (upper lower : ℕ) → pair_text (upper % 4 + lower % 4 * 4) ≡ bits_text 2 HalfBlocks upper lower

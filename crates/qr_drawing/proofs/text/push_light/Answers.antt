@@ -4,19 +4,19 @@ use Rattle.qr_drawing.proofs.lemmas.text.CellLemmas.{cell-length, cells-length, 
 use Rattle.qr_drawing.proofs.text.push_light.Goals as goal
 
 pub loop-done-init : goal.loop-done-init
-loop-done-init c = added_none c.args.text.now.items _
+loop-done-init c = added_none c.args.text.now _
 
 pub push_cell-requires : goal.push_cell-requires
 push_cell-requires c =
     omega (
       arith,
-      room-left c.args.text.now.items _ _ 1 c.args.count (cell_room c.args.style) 1200 (λ _. cell_text c.args.style false false)
+      room-left c.args.text.now _ _ 1 c.args.count (cell_room c.args.style) 1200 (λ _. cell_text c.args.style false false)
           (λ k. cell-length c.args.style _ _) c.loop-done.invariant (omega arith) c.requires.room,
     )
 
 pub loop-done-preserved : goal.loop-done-preserved
 loop-done-preserved c =
-    added_next c.args.text.now.items _ _ _ (λ _. cell_text c.args.style false false) c.loop-done.invariant c.push_cell.ensures
+    added_next c.args.text.now _ _ _ (λ _. cell_text c.args.style false false) c.loop-done.invariant c.push_cell.ensures
 
 pub returns-clause-len : goal.returns-clause-len
-returns-clause-len c = cells-length c.args.text.now.items _ _ _ (cell_room c.args.style) (λ _. cell_text c.args.style false false) (λ k. cell-length c.args.style _ _) c.loop-done.invariant (omega arith)
+returns-clause-len c = cells-length c.args.text.now _ _ _ (cell_room c.args.style) (λ _. cell_text c.args.style false false) (λ k. cell-length c.args.style _ _) c.loop-done.invariant (omega arith)

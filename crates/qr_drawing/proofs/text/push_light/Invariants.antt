@@ -2,4 +2,4 @@ use Rattle.{std.proofs.Common.{◌≡◌, ◌++◌, false}, qr_drawing.specs.{Ra
 use Rattle.qr_drawing.proofs.text.push_light.Given as goal
 
 abbrev pub invariant-loop-done : goal.invariant-loop-done
-invariant-loop-done l = l.text.items ≡ l.fn.text.items ++ texts_below l.done (λ _. cell_text l.style false false)
+invariant-loop-done l = l.text ≡ l.fn.text ++ texts_below l.done (λ _. cell_text l.style false false)
