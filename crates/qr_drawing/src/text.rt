@@ -239,13 +239,26 @@ fn push_eight(text: &mut Piece<1208>, style: TextStyle, upper: u8, lower: u8)
     }
 }
 
+// Appends `count` times four light cells.
+#[inline(always)]
+fn push_light_quads(text: &mut Piece<1208>, style: TextStyle, count: u16)
+    requires room { length text.old + count * 4 * cell_room style ≤ 1200 }
+    ensures items { text.new ≡ text.old ++ texts_below (count * 4) (λ _. cell_text style false false) }
+    ensures len { length text.new ≤ length text.old + count * 4 * cell_room style }
+{
+    for done in 0..count {
+        push_quad(text, style, 0, 0);
+    }
+}
+
 #[inline(always)]
 fn push_light(text: &mut Piece<1208>, style: TextStyle, count: u16)
     requires room { length text.old + count * cell_room style ≤ 1200 }
     ensures items { text.new ≡ text.old ++ texts_below count (λ _. cell_text style false false) }
     ensures len { length text.new ≤ length text.old + count * cell_room style }
 {
-    for done in 0..count {
+    push_light_quads(text, style, count / 4);
+    for done in 0..count % 4 {
         push_cell(text, style, false, false);
     }
 }

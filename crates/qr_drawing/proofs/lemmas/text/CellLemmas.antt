@@ -17,6 +17,13 @@ none-set : all_below 8 (λ k. is_same (has_bit 0 k) false) ≡ true
 unfolding has_bit
 none-set = refl
 
+-- four light cells
+pub light-quad : (style : TextStyle) → bits_text 4 style 0 0 ≡ texts_below 4 (λ _. cell_text style false false)
+light-quad style =
+    let light : (k : ℕ) → k < 8 → has_bit 0 k ≡ false = λ k lt. same-same (has_bit 0 k) false (below-at 8 (λ k. is_same (has_bit 0 k) false) none-set k lt) in
+    texts_below-alike 4 (λ k. cell_text style (has_bit 0 k) (has_bit 0 k)) (λ _. cell_text style false false)
+    (λ k lt. λ i. cell_text style (light k (omega arith) i) (light k (omega arith) i))
+
 -- eight places of a row of the raster that shows no row of the square
 pub dark_none : (margin : ℕ) (g : Grid) (y col : ℕ) → ((x : ℕ) → is_dark_at margin g y x ≡ false) → AreDark margin g y col 0
 dark_none margin g y col h k lt inside =
