@@ -5,6 +5,7 @@
 mod drawing;
 pub mod laws;
 mod pen;
+mod piece;
 mod svg;
 mod text;
 

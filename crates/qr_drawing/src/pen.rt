@@ -3,10 +3,9 @@
 ghost use Rattle.std.specs.Prelude.{◌≡◌, ◌+◌, ◌<◌, ◌≤◌, ◌++◌, [], max, is_err, length, MatchResult, OnOk, OnErr};
 ghost use Rattle.std.specs.Io.KnownBytes.{Appends};
 ghost use Rattle.qr_devices.specs.Device.{AppendsBeginning, IsWrittenWithin, counted, is_write_fault, no_writes};
-ghost use Rattle.arrayvec.specs.ArrayVec.{array_vec_len};
 ghost use Rattle.qr_drawing.specs.Steps.Writing.{Stops, Writes};
 
-use arrayvec::ArrayVec;
+use crate::piece::Piece;
 use qr_devices::{INTERRUPTIONS_MAX, Sink, Trouble};
 use thiserror::Error;
 
@@ -21,10 +20,11 @@ pub enum DrawFault {
     Write = 1,
 }
 
-/// The bytes of `piece` are not written yet, and `interrupted` is how many writes were interrupted so far.
+/// The bytes of `piece` are not written yet, and `interrupted` is how many writes were interrupted so far. The pen
+/// contains at most 1,200 bytes: the other eight let a copy of eight bytes begin at each of them.
 #[derive(Drop)]
 pub(crate) struct Pen {
-    pub(crate) piece: ArrayVec<u8, 1200>,
+    pub(crate) piece: Piece<1208>,
     interrupted: u16,
     ghost few: { interrupted < 1000 },
 }
@@ -63,26 +63,16 @@ fn send<W: Sink>(out: &mut W, bytes: &[u8], interrupted: u16) -> Result<u16, Dra
     Ok(tries)
 }
 
-#[inline(always)]
-pub(crate) fn push_all(text: &mut ArrayVec<u8, 1200>, bytes: &[u8])
-    requires room { array_vec_len text.old + length bytes.now ≤ 1200 }
-    ensures items { text.new.items ≡ text.old.items ++ bytes.now }
-    ensures len { array_vec_len text.new ≡ array_vec_len text.old + length bytes.now }
-{
-    let _ = text.try_extend_from_slice(bytes);
-}
-
 impl Pen {
-    ghost use Rattle.std.specs.Prelude.{◌≡◌, ◌≤◌, ◌+◌, [], OnOk};
-    ghost use Rattle.arrayvec.specs.ArrayVec.{array_vec_len};
+    ghost use Rattle.std.specs.Prelude.{◌≡◌, ◌≤◌, ◌+◌, [], OnOk, length};
     ghost use Rattle.qr_drawing.specs.Steps.Pen.{Reserves};
 
     pub(crate) fn new() -> Self
-        ensures piece { result.piece.items ≡ [] }
+        ensures piece { result.piece ≡ [] }
         ensures interrupted { result.interrupted ≡ 0 }
     {
         Pen {
-            piece: ArrayVec::new(),
+            piece: Piece::new(),
             interrupted: 0,
         }
     }
@@ -92,7 +82,7 @@ impl Pen {
     pub(crate) fn empty<W: Sink>(&mut self, out: &mut W) -> Result<(), DrawFault>
         ensures writes { Reserves (W.device out.old) (W.device out.new)
             self.old self.new result }
-        ensures empty { OnOk result (self.new.piece.items ≡ []) }
+        ensures empty { OnOk result (self.new.piece ≡ []) }
     {
         self.interrupted = send(out, self.piece.as_slice(), self.interrupted)?;
         self.piece.clear();
@@ -105,7 +95,7 @@ impl Pen {
         requires { room ≤ 1200 }
         ensures writes { Reserves (W.device out.old) (W.device out.new)
             self.old self.new result }
-        ensures room { OnOk result (array_vec_len self.new.piece + room ≤ 1200) }
+        ensures room { OnOk result (length self.new.piece + room ≤ 1200) }
     {
         if self.piece.len() + room > WRITE_MAX {
             return self.empty(out);

@@ -1,16 +1,15 @@
 //! Draws symbols as a Scalable Vector Graphics document with one path, which has a box around each run of dark modules
 //! in a row. `top` is the number of rows of the document above a symbol and its margin.
 
-ghost use Rattle.std.specs.Prelude.{◌≡◌, ◌≤◌, ◌<◌, ◌+◌, ◌*◌, ◌++◌, ◌∷◌, [], decimal, length, map};
-ghost use Rattle.arrayvec.specs.ArrayVec.{array_vec_len};
+ghost use Rattle.std.specs.Prelude.{◌≡◌, ◌≤◌, ◌<◌, ◌+◌, ◌*◌, ◌++◌, ◌∷◌, [], ℕ, ◌/◌, ◌%◌, codes, decimal, length, map};
 ghost use Rattle.qr_drawing.specs.Drawing.{HaveOneSide};
 ghost use Rattle.qr_drawing.specs.Steps.Pen.{Puts};
-ghost use Rattle.qr_drawing.specs.Steps.Svg.{head};
+ghost use Rattle.qr_drawing.specs.Steps.Svg.{head, width_path};
 ghost use Rattle.qr_drawing.specs.Svg.{background, box_path, numbered, opening, row_path, stack_path, svg_document, symbol_path};
 
 use crate::drawing::{HasSquare, raster_width};
-use crate::pen::{DrawFault, Pen, push_all};
-use arrayvec::ArrayVec;
+use crate::pen::{DrawFault, Pen};
+use crate::piece::Piece;
 use itoa::Buffer;
 use qr_devices::Sink;
 use qr_symbol::Matrix;
@@ -24,23 +23,22 @@ const HEAD_MAX: usize = 300;
 // The number of bytes after the last box.
 const TAIL: usize = 11;
 
-// The path's numbers are appended digit by digit: with the crate `itoa`, the largest symbol would take 36 % more
-// instructions to draw.
-fn push_digit(text: &mut ArrayVec<u8, 1200>, digit: u16)
+// The numbers of the path are appended digit by digit, which takes fewer instructions than the crate `itoa`.
+fn push_digit<const CAP: usize>(text: &mut Piece<CAP>, digit: u16)
     requires digit { digit < 10 }
-    requires room { array_vec_len text.old < 1200 }
-    ensures items { text.new.items ≡ text.old.items ++ (48 + digit) ∷ [] }
-    ensures len { array_vec_len text.new ≡ array_vec_len text.old + 1 }
+    requires room { length text.old < CAP }
+    ensures items { text.new ≡ text.old ++ (48 + digit) ∷ [] }
+    ensures len { length text.new ≡ length text.old + 1 }
 {
     text.push(b'0' + digit as u8);
 }
 
 #[tactic(auto, using(crate::proofs::lemmas::svg::DigitLemmas::one_digit, crate::proofs::lemmas::svg::DigitLemmas::more_digits))]
-fn push_two(text: &mut ArrayVec<u8, 1200>, number: u16)
+fn push_two<const CAP: usize>(text: &mut Piece<CAP>, number: u16)
     requires number { number < 100 }
-    requires room { array_vec_len text.old + 2 ≤ 1200 }
-    ensures items { text.new.items ≡ text.old.items ++ decimal number }
-    ensures len { array_vec_len text.new ≤ array_vec_len text.old + 2 }
+    requires room { length text.old + 2 ≤ CAP }
+    ensures items { text.new ≡ text.old ++ decimal number }
+    ensures len { length text.new ≤ length text.old + 2 }
 {
     if number < 10 {
         push_digit(text, number);
@@ -51,11 +49,11 @@ fn push_two(text: &mut ArrayVec<u8, 1200>, number: u16)
 }
 
 #[tactic(auto, using(crate::proofs::lemmas::svg::DigitLemmas::more_digits))]
-fn push_three(text: &mut ArrayVec<u8, 1200>, number: u16)
+fn push_three<const CAP: usize>(text: &mut Piece<CAP>, number: u16)
     requires number { number < 1000 }
-    requires room { array_vec_len text.old + 3 ≤ 1200 }
-    ensures items { text.new.items ≡ text.old.items ++ decimal number }
-    ensures len { array_vec_len text.new ≤ array_vec_len text.old + 3 }
+    requires room { length text.old + 3 ≤ CAP }
+    ensures items { text.new ≡ text.old ++ decimal number }
+    ensures len { length text.new ≤ length text.old + 3 }
 {
     if number < 100 {
         push_two(text, number);
@@ -66,10 +64,10 @@ fn push_three(text: &mut ArrayVec<u8, 1200>, number: u16)
 }
 
 #[tactic(auto, using(crate::proofs::lemmas::svg::DigitLemmas::more_digits))]
-fn push_number(text: &mut ArrayVec<u8, 1200>, number: u16)
-    requires room { array_vec_len text.old + 5 ≤ 1200 }
-    ensures items { text.new.items ≡ text.old.items ++ decimal number }
-    ensures len { array_vec_len text.new ≤ array_vec_len text.old + 5 }
+fn push_number<const CAP: usize>(text: &mut Piece<CAP>, number: u16)
+    requires room { length text.old + 5 ≤ CAP }
+    ensures items { text.new ≡ text.old ++ decimal number }
+    ensures len { length text.new ≤ length text.old + 5 }
 {
     if number < 1000 {
         push_three(text, number);
@@ -80,65 +78,145 @@ fn push_number(text: &mut ArrayVec<u8, 1200>, number: u16)
     }
 }
 
-// Appends the box around `modules` dark modules, of which the first is in row `y` and column `x` of the document.
-#[tactic(auto, unfolding(crate::specs::Svg::box_path, crate::specs::Svg::numbered))]
-fn push_box(text: &mut ArrayVec<u8, 1200>, x: u16, y: u16, modules: u16)
-    requires room { array_vec_len text.old + 32 ≤ 1200 }
-    ensures { text.new.items ≡ text.old.items ++ box_path x y modules }
+// The digits of the numbers below 100.
+static TWO_DIGITS: [[u8; 2]; 100] = [
+    *b"00", *b"01", *b"02", *b"03", *b"04", *b"05", *b"06", *b"07", *b"08", *b"09", *b"10", *b"11",
+    *b"12", *b"13", *b"14", *b"15", *b"16", *b"17", *b"18", *b"19", *b"20", *b"21", *b"22", *b"23",
+    *b"24", *b"25", *b"26", *b"27", *b"28", *b"29", *b"30", *b"31", *b"32", *b"33", *b"34", *b"35",
+    *b"36", *b"37", *b"38", *b"39", *b"40", *b"41", *b"42", *b"43", *b"44", *b"45", *b"46", *b"47",
+    *b"48", *b"49", *b"50", *b"51", *b"52", *b"53", *b"54", *b"55", *b"56", *b"57", *b"58", *b"59",
+    *b"60", *b"61", *b"62", *b"63", *b"64", *b"65", *b"66", *b"67", *b"68", *b"69", *b"70", *b"71",
+    *b"72", *b"73", *b"74", *b"75", *b"76", *b"77", *b"78", *b"79", *b"80", *b"81", *b"82", *b"83",
+    *b"84", *b"85", *b"86", *b"87", *b"88", *b"89", *b"90", *b"91", *b"92", *b"93", *b"94", *b"95",
+    *b"96", *b"97", *b"98", *b"99",
+];
+
+fn two_digits(number: u16) -> &'static [u8; 2]
+    requires { number < 100 }
+    ensures { result.now ≡ (48 + number / 10) ∷ (48 + number % 10) ∷ [] }
 {
-    text.push(b'M');
-    push_number(text, x);
+    &TWO_DIGITS[usize::from(number)]
+}
+
+// Appends the column of a box, where its path begins.
+fn push_column(text: &mut Piece<1208>, x: u16)
+    requires column { x < 1000 }
+    requires room { length text.old + 4 ≤ 1200 }
+    ensures items { text.new ≡ text.old ++ numbered (codes "M") x }
+    ensures len { length text.new ≤ length text.old + 4 }
+{
+    if x < 10 {
+        text.push_all(&[b'M', b'0' + x as u8]);
+    } else if x < 100 {
+        let digits = two_digits(x);
+        text.push_all(&[b'M', digits[0], digits[1]]);
+    } else {
+        let digits = two_digits(x % 100);
+        text.push_all(&[b'M', b'0' + (x / 100) as u8, digits[0], digits[1]]);
+    }
+}
+
+// What follows the row of a box around fewer than ten modules, as almost all boxes are.
+static SHORT_RUNS: [[u8; 8]; 10] = [
+    *b"h0v1h-0z",
+    *b"h1v1h-1z",
+    *b"h2v1h-2z",
+    *b"h3v1h-3z",
+    *b"h4v1h-4z",
+    *b"h5v1h-5z",
+    *b"h6v1h-6z",
+    *b"h7v1h-7z",
+    *b"h8v1h-8z",
+    *b"h9v1h-9z",
+];
+
+// Appends what follows the row of a box.
+#[tactic(auto, unfolding(crate::specs::Svg::numbered, crate::specs::Steps::Svg::width_path))]
+fn push_width(text: &mut Piece<1208>, modules: u16)
+    requires modules { modules < 1000 }
+    requires room { length text.old + 12 ≤ 1200 }
+    ensures { text.new ≡ text.old ++ width_path modules }
+{
+    if modules < 10 {
+        let path = SHORT_RUNS[usize::from(modules)];
+        text.push_all(&path);
+    } else {
+        text.push(b'h');
+        push_three(text, modules);
+        text.push_all(b"v1h-");
+        push_three(text, modules);
+        text.push(b'z');
+    }
+}
+
+// Appends the box around `modules` dark modules, of which the first is in column `x` of the document, and in the row
+// whose text is `row`.
+#[inline(always)]
+#[tactic(auto, unfolding(crate::specs::Svg::box_path, crate::specs::Svg::numbered, crate::specs::Steps::Svg::width_path))]
+fn push_box(text: &mut Piece<1208>, x: u16, row: &Piece<8>, modules: u16)
+    requires column { x < 1000 }
+    requires modules { modules < 1000 }
+    requires room { length text.old + 32 ≤ 1200 }
+    ensures { (y : ℕ) → row.now ≡ numbered (codes " ") y → text.new ≡ text.old ++ box_path x y modules }
+{
+    push_column(text, x);
+    text.push_piece(row);
+    push_width(text, modules);
+}
+
+// The row of the boxes in row `y` of the document, which is the same in each.
+#[tactic(auto, unfolding(crate::specs::Svg::numbered))]
+fn text_of_row(y: u16) -> Piece<8>
+    ensures { result ≡ numbered (codes " ") y }
+{
+    let mut text = Piece::new();
     text.push(b' ');
-    push_number(text, y);
-    text.push(b'h');
-    push_number(text, modules);
-    push_all(text, b"v1h-");
-    push_number(text, modules);
-    text.push(b'z');
+    push_number(&mut text, y);
+    text
 }
 
 #[tactic(auto, unfolding(crate::specs::Svg::numbered))]
-fn push_numbered(text: &mut ArrayVec<u8, 1200>, bytes: &[u8], number: u16)
-    requires room { array_vec_len text.old + length bytes.now + 5 ≤ 1200 }
-    ensures items { text.new.items ≡ text.old.items ++ numbered bytes.now number }
-    ensures len { array_vec_len text.new ≤ array_vec_len text.old + length bytes.now + 5 }
+fn push_numbered(text: &mut Piece<1208>, bytes: &[u8], number: u16)
+    requires room { length text.old + length bytes.now + 5 ≤ 1200 }
+    ensures items { text.new ≡ text.old ++ numbered bytes.now number }
+    ensures len { length text.new ≤ length text.old + length bytes.now + 5 }
 {
     let mut digits = Buffer::new();
-    push_all(text, bytes);
-    push_all(text, digits.format(number).as_bytes());
+    text.push_all(bytes);
+    text.push_all(digits.format(number).as_bytes());
 }
 
-fn push_opening(text: &mut ArrayVec<u8, 1200>, width: u16, height: u16)
-    requires room { array_vec_len text.old + 120 ≤ 1200 }
-    ensures items { text.new.items ≡ text.old.items ++ opening width height }
-    ensures len { array_vec_len text.new ≤ array_vec_len text.old + 120 }
+fn push_opening(text: &mut Piece<1208>, width: u16, height: u16)
+    requires room { length text.old + 120 ≤ 1200 }
+    ensures items { text.new ≡ text.old ++ opening width height }
+    ensures len { length text.new ≤ length text.old + 120 }
 {
     let width_after = b"<svg xmlns=\"http://www.w3.org/2000/svg\" version=\"1.1\" viewBox=\"0 0 ";
     push_numbered(text, width_after, width);
     push_numbered(text, b" ", height);
-    push_all(text, b"\" shape-rendering=\"crispEdges\">\n");
+    text.push_all(b"\" shape-rendering=\"crispEdges\">\n");
 }
 
 #[tactic(auto, unfolding(crate::specs::Svg::background))]
-fn push_background(text: &mut ArrayVec<u8, 1200>, width: u16, height: u16)
-    requires room { array_vec_len text.old + 80 ≤ 1200 }
-    ensures items { text.new.items ≡ text.old.items ++ background width height }
-    ensures len { array_vec_len text.new ≤ array_vec_len text.old + 80 }
+fn push_background(text: &mut Piece<1208>, width: u16, height: u16)
+    requires room { length text.old + 80 ≤ 1200 }
+    ensures items { text.new ≡ text.old ++ background width height }
+    ensures len { length text.new ≤ length text.old + 80 }
 {
     push_numbered(text, b"<rect x=\"0\" y=\"0\" width=\"", width);
     push_numbered(text, b"\" height=\"", height);
-    push_all(text, b"\" fill=\"#ffffff\"/>\n");
+    text.push_all(b"\" fill=\"#ffffff\"/>\n");
 }
 
 // Appends all that comes before the first box.
-fn push_head(text: &mut ArrayVec<u8, 1200>, width: u16, height: u16)
-    requires room { array_vec_len text.old + 300 ≤ 1200 }
-    ensures { text.new.items ≡ text.old.items ++ head width height }
+fn push_head(text: &mut Piece<1208>, width: u16, height: u16)
+    requires room { length text.old + 300 ≤ 1200 }
+    ensures { text.new ≡ text.old ++ head width height }
 {
-    push_all(text, b"<?xml version=\"1.0\" encoding=\"UTF-8\"?>\n");
+    text.push_all(b"<?xml version=\"1.0\" encoding=\"UTF-8\"?>\n");
     push_opening(text, width, height);
     push_background(text, width, height);
-    push_all(text, b"<path fill=\"#000000\" d=\"");
+    text.push_all(b"<path fill=\"#000000\" d=\"");
 }
 
 fn put_row<W: Sink>(
@@ -156,12 +234,13 @@ fn put_row<W: Sink>(
 {
     let left = u16::from(margin);
     let y = top + left + u16::from(row);
+    let row_text = text_of_row(y);
     for run in matrix.dark_runs(row) {
         pen.reserve(out, BOX_MAX)?;
         push_box(
             &mut pen.piece,
             left + u16::from(run.start),
-            y,
+            &row_text,
             u16::from(run.end - run.start),
         );
     }
@@ -224,6 +303,6 @@ pub(crate) fn put_document<S: HasSquare, W: Sink>(
     push_head(&mut pen.piece, width, height);
     put_stack(pen, out, symbols, margin)?;
     pen.reserve(out, TAIL)?;
-    push_all(&mut pen.piece, b"\"/>\n</svg>\n");
+    pen.piece.push_all(b"\"/>\n</svg>\n");
     Ok(())
 }

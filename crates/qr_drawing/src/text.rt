@@ -2,9 +2,8 @@
 //! bit that is 1 is dark. In the style `HalfBlocks` a cell shows a module `upper` and the module `lower` below it, and
 //! in the others only `upper`.
 
-ghost use Rattle.std.specs.Prelude.{◌≡◌, ℕ, ◌≤◌, ◌<◌, ◌+◌, ◌-◌, ◌*◌, ◌/◌, ◌%◌, ◌++◌, ◌∷◌, [], false, map, IfSome};
+ghost use Rattle.std.specs.Prelude.{◌≡◌, ℕ, ◌≤◌, ◌<◌, ◌+◌, ◌-◌, ◌*◌, ◌/◌, ◌%◌, ◌++◌, ◌∷◌, [], false, length, map, IfSome};
 ghost use Rattle.std.specs.List.{flat_map};
-ghost use Rattle.arrayvec.specs.ArrayVec.{array_vec_len};
 ghost use Rattle.qr_drawing.specs.Raster.{texts_below};
 ghost use Rattle.qr_drawing.specs.Text.{ascii_module, half_blocks, line_count, cells_of_line, text_drawing};
 ghost use Rattle.qr_drawing.specs.Steps.Text.{AreDark, ShowsRow, bits_text, cell_at, cell_room, cell_text, pair_text, top_row};
@@ -12,8 +11,8 @@ ghost use Rattle.qr_drawing.specs.Steps.Pen.{Puts};
 ghost use Rattle.qr_drawing.specs.declared.text.TextStyle.TheVariants.{HalfBlocks, Plain};
 
 use crate::drawing::{HasSquare, is_dark_at, raster_width};
-use crate::pen::{DrawFault, Pen, push_all};
-use arrayvec::ArrayVec;
+use crate::pen::{DrawFault, Pen};
+use crate::piece::Piece;
 use qr_devices::Sink;
 use qr_symbol::Matrix;
 
@@ -64,19 +63,19 @@ fn line_count(style: TextStyle, rows: u16) -> u16
     }
 }
 
-fn push_module(text: &mut ArrayVec<u8, 1200>, dark: bool)
-    requires room { array_vec_len text.old + 2 ≤ 1200 }
-    ensures { text.new.items ≡ text.old.items ++ ascii_module dark }
+fn push_module(text: &mut Piece<1208>, dark: bool)
+    requires room { length text.old + 2 ≤ 1200 }
+    ensures { text.new ≡ text.old ++ ascii_module dark }
 {
     let character = if dark { b'#' } else { b' ' };
-    push_all(text, &[character; 2]);
+    text.push_all(&[character; 2]);
 }
 
 // Appends one character, whose filled parts are light modules.
-fn push_half_block(text: &mut ArrayVec<u8, 1200>, upper: bool, lower: bool)
-    requires room { array_vec_len text.old + 3 ≤ 1200 }
-    ensures items { text.new.items ≡ text.old.items ++ half_blocks upper lower }
-    ensures len { array_vec_len text.new ≤ array_vec_len text.old + 3 }
+fn push_half_block(text: &mut Piece<1208>, upper: bool, lower: bool)
+    requires room { length text.old + 3 ≤ 1200 }
+    ensures items { text.new ≡ text.old ++ half_blocks upper lower }
+    ensures len { length text.new ≤ length text.old + 3 }
 {
     let last = match (upper, lower) {
         (true, true) => {
@@ -92,9 +91,9 @@ fn push_half_block(text: &mut ArrayVec<u8, 1200>, upper: bool, lower: bool)
     text.push(last);
 }
 
-fn push_cell(text: &mut ArrayVec<u8, 1200>, style: TextStyle, upper: bool, lower: bool)
-    requires room { array_vec_len text.old + cell_room style ≤ 1200 }
-    ensures { text.new.items ≡ text.old.items ++ cell_text style upper lower }
+fn push_cell(text: &mut Piece<1208>, style: TextStyle, upper: bool, lower: bool)
+    requires room { length text.old + cell_room style ≤ 1200 }
+    ensures { text.new ≡ text.old ++ cell_text style upper lower }
 {
     match style {
         TextStyle::Plain => push_module(text, upper),
@@ -160,40 +159,43 @@ fn ascii_quad(bits: u8) -> &'static [u8; 8]
     &ASCII_QUADS[usize::from(bits)]
 }
 
-// Appends two characters, for two modules and the two below them: bits 0 and 1 of `pair` are the upper modules, and
-// bits 2 and 3 the lower.
+// The text of two modules and of the two below them, for each number of four bits: bits 0 and 1 are the upper modules,
+// and bits 2 and 3 the lower. It is the first bytes of eight, as many as the number beside them says.
+static HALF_BLOCK_PAIRS: [([u8; 8], usize); 16] = [
+    (*b"\xE2\x96\x88\xE2\x96\x88  ", 6),
+    (*b"\xE2\x96\x84\xE2\x96\x88  ", 6),
+    (*b"\xE2\x96\x88\xE2\x96\x84  ", 6),
+    (*b"\xE2\x96\x84\xE2\x96\x84  ", 6),
+    (*b"\xE2\x96\x80\xE2\x96\x88  ", 6),
+    (*b" \xE2\x96\x88    ", 4),
+    (*b"\xE2\x96\x80\xE2\x96\x84  ", 6),
+    (*b" \xE2\x96\x84    ", 4),
+    (*b"\xE2\x96\x88\xE2\x96\x80  ", 6),
+    (*b"\xE2\x96\x84\xE2\x96\x80  ", 6),
+    (*b"\xE2\x96\x88     ", 4),
+    (*b"\xE2\x96\x84     ", 4),
+    (*b"\xE2\x96\x80\xE2\x96\x80  ", 6),
+    (*b" \xE2\x96\x80    ", 4),
+    (*b"\xE2\x96\x80     ", 4),
+    (*b"        ", 2),
+];
+
+// Appends two characters. Eight bytes are copied whatever their number is, since that takes one instruction.
 #[inline(always)]
-#[tactic(auto, unfolding(qr_matrix::specs::BitRow::has_bit, crate::specs::Raster::texts_below))]
-fn push_half_block_pair(text: &mut ArrayVec<u8, 1200>, pair: u8)
+fn push_half_block_pair(text: &mut Piece<1208>, pair: u8)
     requires small { pair < 16 }
-    requires room { array_vec_len text.old + 6 ≤ 1200 }
-    ensures { text.new.items ≡ text.old.items ++ pair_text pair }
+    requires room { length text.old + 6 ≤ 1200 }
+    ensures { text.new ≡ text.old ++ pair_text pair }
 {
-    match pair {
-        0 => push_all(text, b"\xE2\x96\x88\xE2\x96\x88"),
-        1 => push_all(text, b"\xE2\x96\x84\xE2\x96\x88"),
-        2 => push_all(text, b"\xE2\x96\x88\xE2\x96\x84"),
-        3 => push_all(text, b"\xE2\x96\x84\xE2\x96\x84"),
-        4 => push_all(text, b"\xE2\x96\x80\xE2\x96\x88"),
-        5 => push_all(text, b" \xE2\x96\x88"),
-        6 => push_all(text, b"\xE2\x96\x80\xE2\x96\x84"),
-        7 => push_all(text, b" \xE2\x96\x84"),
-        8 => push_all(text, b"\xE2\x96\x88\xE2\x96\x80"),
-        9 => push_all(text, b"\xE2\x96\x84\xE2\x96\x80"),
-        10 => push_all(text, b"\xE2\x96\x88 "),
-        11 => push_all(text, b"\xE2\x96\x84 "),
-        12 => push_all(text, b"\xE2\x96\x80\xE2\x96\x80"),
-        13 => push_all(text, b" \xE2\x96\x80"),
-        14 => push_all(text, b"\xE2\x96\x80 "),
-        _ => push_all(text, b"  "),
-    }
+    let (bytes, count) = HALF_BLOCK_PAIRS[usize::from(pair)];
+    text.push_first(&bytes, count);
 }
 
 // As `push_half_block_pair`, for four modules and the four below them.
 #[inline(always)]
-fn push_half_block_quad(text: &mut ArrayVec<u8, 1200>, upper: u8, lower: u8)
-    requires room { array_vec_len text.old + 12 ≤ 1200 }
-    ensures { text.new.items ≡ text.old.items ++ bits_text 4 HalfBlocks upper lower }
+fn push_half_block_quad(text: &mut Piece<1208>, upper: u8, lower: u8)
+    requires room { length text.old + 12 ≤ 1200 }
+    ensures { text.new ≡ text.old ++ bits_text 4 HalfBlocks upper lower }
 {
     push_half_block_pair(text, upper % 4 + lower % 4 * 4);
     push_half_block_pair(text, upper / 4 % 4 + lower / 4 % 4 * 4);
@@ -201,13 +203,13 @@ fn push_half_block_quad(text: &mut ArrayVec<u8, 1200>, upper: u8, lower: u8)
 
 // Appends the cells of bits 0 to 3 of `upper` and `lower`.
 #[inline(always)]
-fn push_quad(text: &mut ArrayVec<u8, 1200>, style: TextStyle, upper: u8, lower: u8)
-    requires room { array_vec_len text.old + 4 * cell_room style ≤ 1200 }
-    ensures { text.new.items ≡ text.old.items ++ bits_text 4 style upper lower }
+fn push_quad(text: &mut Piece<1208>, style: TextStyle, upper: u8, lower: u8)
+    requires room { length text.old + 4 * cell_room style ≤ 1200 }
+    ensures { text.new ≡ text.old ++ bits_text 4 style upper lower }
 {
     match style {
-        TextStyle::Plain => push_all(text, ascii_quad(upper % 16)),
-        TextStyle::Inverse => push_all(text, ascii_quad(15 - upper % 16)),
+        TextStyle::Plain => text.push_all(ascii_quad(upper % 16)),
+        TextStyle::Inverse => text.push_all(ascii_quad(15 - upper % 16)),
         TextStyle::HalfBlocks => push_half_block_quad(text, upper, lower),
     }
 }
@@ -223,13 +225,13 @@ fn ascii_eight(bits: u8) -> [u8; 16]
 
 // As `push_quad`, for all eight bits.
 #[inline(always)]
-fn push_eight(text: &mut ArrayVec<u8, 1200>, style: TextStyle, upper: u8, lower: u8)
-    requires room { array_vec_len text.old + 8 * cell_room style ≤ 1200 }
-    ensures { text.new.items ≡ text.old.items ++ bits_text 8 style upper lower }
+fn push_eight(text: &mut Piece<1208>, style: TextStyle, upper: u8, lower: u8)
+    requires room { length text.old + 8 * cell_room style ≤ 1200 }
+    ensures { text.new ≡ text.old ++ bits_text 8 style upper lower }
 {
     match style {
-        TextStyle::Plain => push_all(text, &ascii_eight(upper)),
-        TextStyle::Inverse => push_all(text, &ascii_eight(255 - upper)),
+        TextStyle::Plain => text.push_all(&ascii_eight(upper)),
+        TextStyle::Inverse => text.push_all(&ascii_eight(255 - upper)),
         TextStyle::HalfBlocks => {
             push_half_block_quad(text, upper, lower);
             push_half_block_quad(text, upper / 16, lower / 16);
@@ -237,13 +239,26 @@ fn push_eight(text: &mut ArrayVec<u8, 1200>, style: TextStyle, upper: u8, lower:
     }
 }
 
+// Appends `count` times four light cells.
 #[inline(always)]
-fn push_light(text: &mut ArrayVec<u8, 1200>, style: TextStyle, count: u16)
-    requires room { array_vec_len text.old + count * cell_room style ≤ 1200 }
-    ensures items { text.new.items ≡ text.old.items ++ texts_below count (λ _. cell_text style false false) }
-    ensures len { array_vec_len text.new ≤ array_vec_len text.old + count * cell_room style }
+fn push_light_quads(text: &mut Piece<1208>, style: TextStyle, count: u16)
+    requires room { length text.old + count * 4 * cell_room style ≤ 1200 }
+    ensures items { text.new ≡ text.old ++ texts_below (count * 4) (λ _. cell_text style false false) }
+    ensures len { length text.new ≤ length text.old + count * 4 * cell_room style }
 {
     for done in 0..count {
+        push_quad(text, style, 0, 0);
+    }
+}
+
+#[inline(always)]
+fn push_light(text: &mut Piece<1208>, style: TextStyle, count: u16)
+    requires room { length text.old + count * cell_room style ≤ 1200 }
+    ensures items { text.new ≡ text.old ++ texts_below count (λ _. cell_text style false false) }
+    ensures len { length text.new ≤ length text.old + count * cell_room style }
+{
+    push_light_quads(text, style, count / 4);
+    for done in 0..count % 4 {
         push_cell(text, style, false, false);
     }
 }
@@ -251,7 +266,7 @@ fn push_light(text: &mut ArrayVec<u8, 1200>, style: TextStyle, count: u16)
 // Appends cell by cell, for the last columns of a row, which are fewer than four.
 #[inline(always)]
 fn push_cells(
-    text: &mut ArrayVec<u8, 1200>,
+    text: &mut Piece<1208>,
     style: TextStyle,
     matrix: &Matrix,
     margin: u8,
@@ -261,9 +276,9 @@ fn push_cells(
 )
     requires row_in { row < 2000 }
     requires first_in { first < 1000 }
-    requires room { array_vec_len text.old + count * cell_room style ≤ 1200 }
-    ensures items { text.new.items ≡ text.old.items ++ texts_below count (λ i. cell_at style margin matrix.now row (first + i)) }
-    ensures len { array_vec_len text.new ≤ array_vec_len text.old + count * cell_room style }
+    requires room { length text.old + count * cell_room style ≤ 1200 }
+    ensures items { text.new ≡ text.old ++ texts_below count (λ i. cell_at style margin matrix.now row (first + i)) }
+    ensures len { length text.new ≤ length text.old + count * cell_room style }
 {
     for done in 0..count {
         let x = first + done;
@@ -276,17 +291,11 @@ fn push_cells(
 // Appends the cells of row `row` of the raster, without the margin: eight columns at a time, then four if as many are
 // left. The columns that then remain, fewer than four, are left out.
 #[inline(always)]
-fn push_columns(
-    text: &mut ArrayVec<u8, 1200>,
-    style: TextStyle,
-    matrix: &Matrix,
-    margin: u8,
-    row: u16,
-)
+fn push_columns(text: &mut Piece<1208>, style: TextStyle, matrix: &Matrix, margin: u8, row: u16)
     requires row_in { row < 2000 }
-    requires room { array_vec_len text.old + matrix.now.side * cell_room style ≤ 1200 }
-    ensures { text.new.items
-        ≡ text.old.items ++ texts_below (matrix.now.side / 4 * 4) (λ i. cell_at style margin matrix.now row (margin + i)) }
+    requires room { length text.old + matrix.now.side * cell_room style ≤ 1200 }
+    ensures { text.new
+        ≡ text.old ++ texts_below (matrix.now.side / 4 * 4) (λ i. cell_at style margin matrix.now row (margin + i)) }
 {
     let upper_row = square_row(matrix, margin, row);
     let lower_row = square_row(matrix, margin, row + 1);
@@ -307,10 +316,10 @@ fn push_columns(
 
 // Appends the cells of the columns that `push_columns` leaves out, with the right margin and the newline.
 #[inline(always)]
-fn push_rest(text: &mut ArrayVec<u8, 1200>, style: TextStyle, matrix: &Matrix, margin: u8, row: u16)
+fn push_rest(text: &mut Piece<1208>, style: TextStyle, matrix: &Matrix, margin: u8, row: u16)
     requires row_in { row < 2000 }
-    requires room { array_vec_len text.old + (matrix.now.side % 4 * cell_room style + margin * cell_room style + 1) ≤ 1200 }
-    ensures { text.new.items ≡ text.old.items
+    requires room { length text.old + (matrix.now.side % 4 * cell_room style + margin * cell_room style + 1) ≤ 1200 }
+    ensures { text.new ≡ text.old
         ++ (texts_below (matrix.now.side % 4) (λ i. cell_at style margin matrix.now row (margin + matrix.now.side / 4 * 4 + i))
         ++ (texts_below margin (λ _. cell_text style false false) ++ 10 ∷ [])) }
 {

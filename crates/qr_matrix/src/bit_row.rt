@@ -176,8 +176,33 @@ impl BitRow {
         if index == 192 {
             return None;
         }
-        self.put(index, false);
+        self.clear(index);
         Some(index)
+    }
+
+    // In each branch the word is known, so that the row of an iterator stays in registers.
+    #[inline(always)]
+    fn clear(&mut self, index: u8)
+        requires { index < 192 }
+        ensures { (i : ℕ) → has self.new i ≡ (if i == index then false else has self.old i) }
+    {
+        if index < 64 {
+            self.clear_in(0, index);
+        } else if index < 128 {
+            self.clear_in(1, index);
+        } else {
+            self.clear_in(2, index);
+        }
+    }
+
+    // Clears bit `index`, which is in word `number`.
+    #[inline(always)]
+    fn clear_in(&mut self, number: usize, index: u8)
+        requires index_in { index < 192 }
+        requires word { number ≡ index / 64 }
+        ensures { (i : ℕ) → has self.new i ≡ (if i == index then false else has self.old i) }
+    {
+        self.0[number] &= !(1u64 << (index % 64));
     }
 
     /// Returns whether bit `index` is set.

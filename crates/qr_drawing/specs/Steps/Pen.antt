@@ -11,11 +11,11 @@ use Rattle.qr_drawing.specs.declared.pen.Pen.{Pen}
 -- them
 abbrev pub Puts : Writer → Writer → Pen → Pen → List ℕ → {T : Type 0} → Result T DrawFault → Type 0
 Puts old new before after text r = MatchResult r
-    (λ _. Writes old new before.interrupted after.interrupted (before.piece.items ++ text) after.piece.items)
-    (λ _. Stops old new before.interrupted (before.piece.items ++ text))
+    (λ _. Writes old new before.interrupted after.interrupted (before.piece ++ text) after.piece)
+    (λ _. Stops old new before.interrupted (before.piece ++ text))
 
 -- As `Puts`, without a text: the call only makes room
 abbrev pub Reserves : Writer → Writer → Pen → Pen → {T : Type 0} → Result T DrawFault → Type 0
 Reserves old new before after r = MatchResult r
-    (λ _. Writes old new before.interrupted after.interrupted before.piece.items after.piece.items)
-    (λ _. Stops old new before.interrupted before.piece.items)
+    (λ _. Writes old new before.interrupted after.interrupted before.piece after.piece)
+    (λ _. Stops old new before.interrupted before.piece)

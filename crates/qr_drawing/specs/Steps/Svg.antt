@@ -1,6 +1,6 @@
--- The parts of an SVG document before and after the boxes.
+-- The parts of an SVG document before and after the boxes, and of a box.
 use Rattle.std.specs.Prelude.{ℕ, List, ◌++◌, codes}
-use Rattle.qr_drawing.specs.Svg.{background, closing, declaration, opening}
+use Rattle.qr_drawing.specs.Svg.{background, closing, declaration, numbered, opening}
 
 -- All lines before the path, and the beginning of its line
 unfoldable pub head : ℕ → ℕ → List ℕ
@@ -9,3 +9,7 @@ head width height = declaration ++ opening width height ++ background width heig
 -- The end of the line with the path, and the last line
 unfoldable pub tail : List ℕ
 tail = codes "\"/>\n" ++ closing
+
+-- What follows the row of a box
+unfoldable pub width_path : ℕ → List ℕ
+width_path modules = numbered (codes "h") modules ++ numbered (codes "v1h-") modules ++ codes "z"

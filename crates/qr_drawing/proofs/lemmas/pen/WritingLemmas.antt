@@ -112,13 +112,13 @@ pub stops_between : (a b c : Writer) (i j : ℕ) (h0 h1 x y : List ℕ) → Writ
 stops_between a b c i j h0 h1 x y p q = writes_stop a b c i j h0 h1 x y p (stops_before b c j h1 y q)
 
 -- what was held of a text was written, or the writer failed in it
-pub emptied : (a b c : Writer) (i : ℕ) (before after : Pen) (text : List ℕ) (r : Result (Unit {0}) DrawFault) → Writes a b i before.interrupted text before.piece.items
-    → Reserves b c before after r → OnOk r (after.piece.items ≡ [])
+pub emptied : (a b c : Writer) (i : ℕ) (before after : Pen) (text : List ℕ) (r : Result (Unit {0}) DrawFault) → Writes a b i before.interrupted text before.piece
+    → Reserves b c before after r → OnOk r (after.piece ≡ [])
     → MatchResult r (λ _. Writes a c i after.interrupted text []) (λ _. Stops a c i text)
 emptied a b c i before after text (Ok t) p q e =
-    let w = writes_on a b c i before.interrupted after.interrupted [] before.piece.items after.piece.items text [] p (rw append-nil q) in rw (append-nil, e) at w
+    let w = writes_on a b c i before.interrupted after.interrupted [] before.piece after.piece text [] p (rw append-nil q) in rw (append-nil, e) at w
 emptied a b c i before after text (Err f) p q e =
-    let w = writes_stop a b c i before.interrupted [] before.piece.items text [] p (rw append-nil q) in rw append-nil at w
+    let w = writes_stop a b c i before.interrupted [] before.piece text [] p (rw append-nil q) in rw append-nil at w
 
 -- what the calls promise that write a text whole
 abbrev pub Written : Writer → Writer → List ℕ → {T : Type 0} → Result T DrawFault → Type 0

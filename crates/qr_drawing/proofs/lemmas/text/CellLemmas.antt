@@ -6,7 +6,7 @@ use Rattle.qr_matrix.specs.{Grid.{Grid, colour, is_same}, BitRow.has_bit, Sums.a
 use Rattle.qr_matrix.proofs.Facts.{&&-left, &&-right, below-at, has_bit-shr, low-bits, same-same}
 use Rattle.qr_drawing.specs.{Raster.{is_dark_at, raster_width, texts_below}, Text.{cell_of, cells_of_line, half_blocks}}
 use Rattle.qr_drawing.specs.Steps.Text.{AreDark, bits_text, cell_at, cell_room, cell_text, pair_text, top_row}
-use Rattle.qr_drawing.specs.declared.text.{TheConstants.ASCII_QUADS, TextStyle.TextStyle}
+use Rattle.qr_drawing.specs.declared.text.{TheConstants.{ASCII_QUADS, HALF_BLOCK_PAIRS}, TextStyle.TextStyle}
 use Rattle.qr_drawing.specs.declared.text.TextStyle.TheVariants.{Plain, Inverse, HalfBlocks}
 use borrow.Rule.Slice.PartMut.{put_mid}
 use Rattle.qr_drawing.proofs.lemmas.text.LineLemmas.{added_more, texts_below-add, texts_below-alike, texts_below-length}
@@ -16,6 +16,13 @@ use Rattle.qr_drawing.proofs.lemmas.svg.PathLemmas.{is_dark_at_inside, is_dark_a
 none-set : all_below 8 (λ k. is_same (has_bit 0 k) false) ≡ true
 unfolding has_bit
 none-set = refl
+
+-- four light cells
+pub light-quad : (style : TextStyle) → bits_text 4 style 0 0 ≡ texts_below 4 (λ _. cell_text style false false)
+light-quad style =
+    let light : (k : ℕ) → k < 8 → has_bit 0 k ≡ false = λ k lt. same-same (has_bit 0 k) false (below-at 8 (λ k. is_same (has_bit 0 k) false) none-set k lt) in
+    texts_below-alike 4 (λ k. cell_text style (has_bit 0 k) (has_bit 0 k)) (λ _. cell_text style false false)
+    (λ k lt. λ i. cell_text style (light k (omega arith) i) (light k (omega arith) i))
 
 -- eight places of a row of the raster that shows no row of the square
 pub dark_none : (margin : ℕ) (g : Grid) (y col : ℕ) → ((x : ℕ) → is_dark_at margin g y x ≡ false) → AreDark margin g y col 0
@@ -119,6 +126,16 @@ eight_inverse upper lower l =
 all-pairs : all_below 4 (λ a. all_below 4 (λ b. all_below 2 (λ k. is_same (has_bit (a + b * 4) k) (has_bit a k) && is_same (has_bit (a + b * 4) (2 + k)) (has_bit b k)))) ≡ true
 unfolding has_bit
 all-pairs = refl
+
+-- each text of the table of pairs is that of its modules: computed
+all-pair-texts : all_below 16 (λ p. pointwise nat_eq (take (get_or HALF_BLOCK_PAIRS p ([], 0)).1 (get_or HALF_BLOCK_PAIRS p ([], 0)).0) (pair_text p)) ≡ true
+unfolding has_bit texts_below
+all-pair-texts = refl
+
+-- a text of that table
+pub pair-at : (p : ℕ) → p < 16 → take (get_or HALF_BLOCK_PAIRS p ([], 0)).1 (get_or HALF_BLOCK_PAIRS p ([], 0)).0 ≡ pair_text p
+pair-at p lt =
+    same_text _ _ (sym (below-at 16 (λ p. pointwise nat_eq (take (get_or HALF_BLOCK_PAIRS p ([], 0)).1 (get_or HALF_BLOCK_PAIRS p ([], 0)).0) (pair_text p)) all-pair-texts p lt))
 
 -- two modules and the two below them as two characters of half blocks
 half-pair : (upper lower : ℕ) → pair_text (upper % 4 + lower % 4 * 4) ≡ bits_text 2 HalfBlocks upper lower

@@ -9,7 +9,7 @@ returns-in_err-reserve g c = rw ((err_from_is_err_and c.from_residual.result c.f
 pub returns-in_err-put_stack : goal.returns-in_err-put_stack
 returns-in_err-put_stack g c =
     let p = err_from_is_err_and c.from_residual-in_err-put_stack.result c.from_residual-in_err-put_stack.ensures.1 in
-    let held = c.args.pen.now.piece.items in
+    let held = c.args.pen.now.piece in
     let parts = document-parts g.S.HasSquare.grid c.args.margin c.raster_width-width.result _ c.args.symbols.now c.index-symbols-0.result c.requires.some
     (rw (c.square.ensures, c.index-symbols-0.is) at c.raster_width-width.ensures.value) refl in
     rw (p.1, parts) (stops_first _ _ _ held _ _ (writes_stop _ _ _ _ _ held _ _ _
@@ -18,7 +18,7 @@ returns-in_err-put_stack g c =
 pub returns-in_err-reserve-2 : goal.returns-in_err-reserve-2
 returns-in_err-reserve-2 g c =
     let p = err_from_is_err_and c.from_residual-in_err-reserve-2.result c.from_residual-in_err-reserve-2.ensures.1 in
-    let held = c.args.pen.now.piece.items in
+    let held = c.args.pen.now.piece in
     let parts = document-parts g.S.HasSquare.grid c.args.margin c.raster_width-width.result _ c.args.symbols.now c.index-symbols-0.result c.requires.some
     (rw (c.square.ensures, c.index-symbols-0.is) at c.raster_width-width.ensures.value) refl in
     rw (p.1, parts) (stops_between _ _ _ _ _ held _ _ _ (writes_on _ _ _ _ _ _ held _ _ _ _
@@ -27,7 +27,7 @@ returns-in_err-reserve-2 g c =
 pub returns : goal.returns
 unfolding tail closing
 returns g c =
-    let held = c.args.pen.now.piece.items in
+    let held = c.args.pen.now.piece in
     let parts = document-parts g.S.HasSquare.grid c.args.margin c.raster_width-width.result _ c.args.symbols.now c.index-symbols-0.result c.requires.some
     (rw (c.square.ensures, c.index-symbols-0.is) at c.raster_width-width.ensures.value) refl in
     rw parts (writes_on _ _ _ _ _ _ held _ _ _ _ (writes_on _ _ _ _ _ _ held _ _ _ _

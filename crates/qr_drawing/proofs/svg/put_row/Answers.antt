@@ -16,7 +16,7 @@ returns-in_err-reserve g c =
     let p = err_from_is_err_and c.from_residual.result c.from_residual.ensures.1 in
     let box = box_of c.args.top c.args.margin c.args.row in
     rw (p.1, c.loop-run.invariant.path, flat_map-append box c.loop-run.yielded c.loop-run.run-iterator)
-    (stops_between _ _ _ _ _ c.args.pen.now.piece.items c.loop-run.pen.piece.items (flat_map box c.loop-run.yielded) (flat_map box c.loop-run.run-iterator)
+    (stops_between _ _ _ _ _ c.args.pen.now.piece c.loop-run.pen.piece (flat_map box c.loop-run.yielded) (flat_map box c.loop-run.run-iterator)
     c.loop-run.invariant.writes c.in_err-reserve.ensures.writes)
 
 pub overflow_sub-run : goal.overflow_sub-run
@@ -36,8 +36,8 @@ loop-run-preserved g c =
       path = c.loop-run.invariant.path ∙ ap (λ runs. flat_map box (c.loop-run.yielded ++ runs)) c.in-Some.ensures.steps
           ∙ ap (flat_map box) (sym (append_assoc c.loop-run.yielded (run ∷ []) c.next.new.self));
       writes = rw (flat_map-append box c.loop-run.yielded (run ∷ []), append-nil (box run), ← here)
-          (writes_on _ _ _ _ _ _ c.args.pen.now.piece.items c.loop-run.pen.piece.items _ (flat_map box c.loop-run.yielded) _ c.loop-run.invariant.writes
-          (formed _ _ _ _ c.loop-run.pen.piece.items _ _ _ c.in_ok-reserve.ensures.writes c.push_box.ensures));
+          (writes_on _ _ _ _ _ _ c.args.pen.now.piece c.loop-run.pen.piece _ (flat_map box c.loop-run.yielded) _ c.loop-run.invariant.writes
+          (formed _ _ _ _ c.loop-run.pen.piece _ _ _ c.in_ok-reserve.ensures.writes (c.push_box.ensures _ c.text_of_row-row_text.ensures)));
     }
 
 pub returns : goal.returns

@@ -8,5 +8,5 @@ invariant-loop-run g l = record {
   path : row_path l.top l.margin l.matrix (l.margin + l.row) ≡ flat_map (box_of l.top l.margin l.row) (l.yielded ++ l.run-iterator);
   writes :
       Writes (g.W.Sink.device l.fn.out) (g.W.Sink.device l.out)
-      l.fn.pen.interrupted l.pen.interrupted (l.fn.pen.piece.items ++ flat_map (box_of l.top l.margin l.row) l.yielded) l.pen.piece.items;
+      l.fn.pen.interrupted l.pen.interrupted (l.fn.pen.piece ++ flat_map (box_of l.top l.margin l.row) l.yielded) l.pen.piece;
 }

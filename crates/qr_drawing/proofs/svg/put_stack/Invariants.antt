@@ -9,7 +9,7 @@ invariant-loop-symbol g l = record {
   writes :
       Writes (g.W.Sink.device l.fn.out) (g.W.Sink.device l.out)
       l.fn.pen.interrupted l.pen.interrupted
-      (l.fn.pen.piece.items ++ texts_below l.symbol-index
+      (l.fn.pen.piece ++ texts_below l.symbol-index
       (λ k. symbol_path (k * raster_width l.margin (square_at (map g.S.HasSquare.grid l.symbols) k)) l.margin (square_at (map g.S.HasSquare.grid l.symbols) k)))
-      l.pen.piece.items;
+      l.pen.piece;
 }

@@ -3,7 +3,7 @@ use Rattle.qr_drawing.proofs.lemmas.text.{LineLemmas.added_next, LineLemmas.adde
 use Rattle.qr_drawing.proofs.text.push_cells.Goals as goal
 
 pub loop-done-init : goal.loop-done-init
-loop-done-init c = added_none c.args.text.now.items _
+loop-done-init c = added_none c.args.text.now _
 
 pub push_cell-requires : goal.push_cell-requires
 push_cell-requires c =
@@ -15,8 +15,8 @@ push_cell-requires c =
 
 pub loop-done-preserved : goal.loop-done-preserved
 loop-done-preserved c =
-    added_next c.args.text.now.items _ _ _ (λ i. cell_at c.args.style c.args.margin c.args.matrix.now c.args.row (c.args.first + i))
+    added_next c.args.text.now _ _ _ (λ i. cell_at c.args.style c.args.margin c.args.matrix.now c.args.row (c.args.first + i))
     c.loop-done.invariant (rw (c.is_dark_at-upper.ensures, c.is_dark_at-lower.ensures) at c.push_cell.ensures)
 
 pub returns-clause-len : goal.returns-clause-len
-returns-clause-len c = cells-length c.args.text.now.items _ _ _ (cell_room c.args.style) _ (λ k. cell-length c.args.style _ _) c.loop-done.invariant (omega arith)
+returns-clause-len c = cells-length c.args.text.now _ _ _ (cell_room c.args.style) _ (λ k. cell-length c.args.style _ _) c.loop-done.invariant (omega arith)

@@ -8,7 +8,7 @@ eights-init c = record {
   end = omega arith;
   within = omega arith;
   whole = omega arith;
-  items = added_none c.args.text.now.items _;
+  items = added_none c.args.text.now _;
 }
 
 pub push_eight-requires : goal.push_eight-requires
@@ -27,7 +27,7 @@ eights-preserved c =
       end = i.end;
       within = omega (arith, i.within, c.eights-test.true);
       whole = omega (arith, i.whole);
-      items = added-cells c.args.style c.args.margin c.args.matrix.now c.args.row _ 8 _ _ c.args.text.now.items _ _ (omega arith) (omega (arith, i.end, c.eights-test.true))
+      items = added-cells c.args.style c.args.margin c.args.matrix.now c.args.row _ 8 _ _ c.args.text.now _ _ (omega arith) (omega (arith, i.end, c.eights-test.true))
           (c.dark_bits-upper.ensures c.args.margin c.args.row c.square_row-upper_row.ensures)
           (c.dark_bits-lower.ensures c.args.margin (c.args.row + 1) c.square_row-lower_row.ensures) i.items c.push_eight.ensures;
     }
@@ -45,7 +45,7 @@ pub returns-then-col-end : goal.returns-then-col-end
 returns-then-col-end c =
     let i = c.eights.invariant in
     let e : c.eights.col + 4 ≡ c.args.matrix.now.side / 4 * 4 = omega (arith, i.end, i.whole, c.eights-test.false, c.if-col-end.true) in
-    added-cells c.args.style c.args.margin c.args.matrix.now c.args.row _ 4 _ _ c.args.text.now.items _ _ (omega arith) (omega arith)
+    added-cells c.args.style c.args.margin c.args.matrix.now c.args.row _ 4 _ _ c.args.text.now _ _ (omega arith) (omega arith)
     (c.dark_bits-upper-then-col-end.ensures c.args.margin c.args.row c.square_row-upper_row.ensures)
     (c.dark_bits-lower-then-col-end.ensures c.args.margin (c.args.row + 1) c.square_row-lower_row.ensures) i.items c.push_quad.ensures
-    ∙ ap (λ n. c.args.text.now.items ++ texts_below n (λ i. cell_at c.args.style c.args.margin c.args.matrix.now c.args.row (c.args.margin + i))) e
+    ∙ ap (λ n. c.args.text.now ++ texts_below n (λ i. cell_at c.args.style c.args.margin c.args.matrix.now c.args.row (c.args.margin + i))) e

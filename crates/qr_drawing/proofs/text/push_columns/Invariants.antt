@@ -7,7 +7,7 @@ invariant-eights l = record {
   end : l.end ≡ l.matrix.side / 4 * 4;
   within : l.col ≤ l.end;
   whole : l.col % 8 ≡ 0;
-  items : l.text.items ≡ l.fn.text.items ++ texts_below l.col (λ i. cell_at l.style l.margin l.matrix l.row (l.margin + i));
+  items : l.text ≡ l.fn.text ++ texts_below l.col (λ i. cell_at l.style l.margin l.matrix l.row (l.margin + i));
 }
 
 abbrev pub decreases-eights : goal.decreases-eights

@@ -12,7 +12,7 @@ push_light-requires g c = record { room = rw c.cells_room.ensures.value at c.in_
 pub returns-in_err-reserve-2 : goal.returns-in_err-reserve-2
 returns-in_err-reserve-2 g c =
     let p = err_from_is_err_and c.from_residual-in_err-reserve-2.result c.from_residual-in_err-reserve-2.ensures.1 in
-    let held = c.args.pen.now.piece.items in
+    let held = c.args.pen.now.piece in
     let left = rw c.from-first.ensures at c.push_light.ensures.items in
     rw (p.1, line-parts c.args.style c.args.margin c.args.matrix.now c.args.y)
     (stops_first _ _ _ held _ _ (stops_between _ _ _ _ _ held _ _ _
@@ -24,7 +24,7 @@ push_columns-requires-clause-room g c = rw (c.cells_room-2.ensures.value, c.from
 pub returns-in_err-reserve-3 : goal.returns-in_err-reserve-3
 returns-in_err-reserve-3 g c =
     let p = err_from_is_err_and c.from_residual-in_err-reserve-3.result c.from_residual-in_err-reserve-3.ensures.1 in
-    let held = c.args.pen.now.piece.items in
+    let held = c.args.pen.now.piece in
     let left = rw c.from-first.ensures at c.push_light.ensures.items in
     let fours = rw c.top_row-row.ensures.value at c.push_columns.ensures in
     rw (p.1, line-parts c.args.style c.args.margin c.args.matrix.now c.args.y)
@@ -38,7 +38,7 @@ push_rest-requires-clause-room g c =
 
 pub returns : goal.returns
 returns g c =
-    let held = c.args.pen.now.piece.items in
+    let held = c.args.pen.now.piece in
     let left = rw c.from-first.ensures at c.push_light.ensures.items in
     let fours = rw c.top_row-row.ensures.value at c.push_columns.ensures in
     rw (line-parts c.args.style c.args.margin c.args.matrix.now c.args.y)

@@ -5,4 +5,4 @@ use Rattle.qr_drawing.proofs.text.put_texts.Given as goal
 abbrev pub invariant-loop-symbol : goal.invariant-loop-symbol
 invariant-loop-symbol g l = Writes (g.W.Sink.device l.fn.out) (g.W.Sink.device l.out)
     l.fn.pen.interrupted l.pen.interrupted
-    (l.fn.pen.piece.items ++ texts_below l.symbol-index (λ k. text_drawing l.style l.margin (square_at (map g.S.HasSquare.grid l.symbols) k))) l.pen.piece.items
+    (l.fn.pen.piece ++ texts_below l.symbol-index (λ k. text_drawing l.style l.margin (square_at (map g.S.HasSquare.grid l.symbols) k))) l.pen.piece

@@ -8,5 +8,5 @@ returns-then-index c =
     (none, none)
 
 pub returns : goal.returns
-returns c = passing-first (has c.args.self.now) (has c.put.new.self) c.first-index.result 0 192 (omega arith) (omega arith)
-    c.first-index.ensures.before (c.first-index.ensures.here (omega arith)) c.put.ensures
+returns c = passing-first (has c.args.self.now) (has c.clear.new.self) c.first-index.result 0 192 (omega arith) (omega arith)
+    c.first-index.ensures.before (c.first-index.ensures.here (omega arith)) c.clear.ensures

@@ -1,0 +1,2 @@
+-- What is in a piece after a copy.
+pub mod CopyLemmas

@@ -1,0 +1,102 @@
+//! Short texts in memory of a fixed size.
+
+ghost use Rattle.std.specs.Prelude.{◌≡◌, ◌≤◌, ◌<◌, ◌+◌, ◌++◌, ◌∷◌, [], length, take};
+
+use std::marker::Model;
+
+/// At most `CAP` bytes, the first `len` of `bytes`. What is after them means nothing, so that a text of few bytes can
+/// be appended by a copy of constant length, which takes an instruction or two.
+#[derive(Drop)]
+pub(crate) struct Piece<const CAP: usize> {
+    bytes: [u8; CAP],
+    len: usize,
+}
+
+impl<const CAP: usize> Model for Piece<CAP> {
+    ghost use Rattle.std.specs.Prelude.{◌≡◌, ◌≤◌, ℕ, List, length, take};
+
+    ghost Value = { List ℕ };
+
+    ghost view = { λ p. take p.len p.bytes };
+
+    ghost invariant = { λ p. (p.len ≤ CAP) × (length p.bytes ≡ CAP) };
+}
+
+impl<const CAP: usize> Piece<CAP> {
+    pub(crate) fn new() -> Self
+        ensures { result ≡ [] }
+    {
+        Piece {
+            bytes: [0; CAP],
+            len: 0,
+        }
+    }
+
+    #[inline(always)]
+    pub(crate) fn len(&self) -> usize
+        ensures value { result ≡ length self.now }
+        ensures fits { result ≤ CAP }
+    {
+        self.len
+    }
+
+    #[inline(always)]
+    pub(crate) fn as_slice(&self) -> &[u8]
+        ensures { result.now ≡ self.now }
+    {
+        &self.bytes[..self.len]
+    }
+
+    #[inline(always)]
+    pub(crate) fn clear(&mut self)
+        ensures { self.new ≡ [] }
+    {
+        self.len = 0;
+    }
+
+    #[inline(always)]
+    pub(crate) fn push(&mut self, byte: u8)
+        requires { length self.old < CAP }
+        ensures items { self.new ≡ self.old ++ byte ∷ [] }
+        ensures len { length self.new ≡ length self.old + 1 }
+    {
+        self.bytes[self.len] = byte;
+        self.len += 1;
+    }
+
+    #[inline(always)]
+    pub(crate) fn push_all(&mut self, bytes: &[u8])
+        requires { length self.old + length bytes.now ≤ CAP }
+        ensures items { self.new ≡ self.old ++ bytes.now }
+        ensures len { length self.new ≡ length self.old + length bytes.now }
+    {
+        let start = self.len;
+        let all = &mut self.bytes[..];
+        all[start..start + bytes.len()].copy_from_slice(bytes);
+        self.len = start + bytes.len();
+    }
+
+    /// Appends the first `count` bytes of `bytes`.
+    #[inline(always)]
+    pub(crate) fn push_first<const N: usize>(&mut self, bytes: &[u8; N], count: usize)
+        requires room { length self.old + N ≤ CAP }
+        requires count { count ≤ N }
+        ensures items { self.new ≡ self.old ++ take count bytes.now }
+        ensures len { length self.new ≡ length self.old + count }
+    {
+        let start = self.len;
+        let all = &mut self.bytes[..];
+        all[start..start + N].copy_from_slice(bytes);
+        self.len = start + count;
+    }
+
+    /// Appends `short`. There must be room for all that it could contain.
+    #[inline(always)]
+    pub(crate) fn push_piece<const N: usize>(&mut self, short: &Piece<N>)
+        requires { length self.old + N ≤ CAP }
+        ensures items { self.new ≡ self.old ++ short.now }
+        ensures len { length self.new ≤ length self.old + N }
+    {
+        self.push_first(&short.bytes, short.len);
+    }
+}
