@@ -1,6 +1,15 @@
 use Rattle.std.proofs.{Common.{length, ap, arith}, lemmas.List.Elements.All-from_get_or}
 use Rattle.{qr_field.specs.Polynomial.IsByte, qr_mending.proofs.lemmas.erasures.ErasureLemmas.erasures-leave}
+use Rattle.qr_mending.proofs.lemmas.{block.BlockLemmas.{all-leading}, roots.RootLemmas.{rooted-leading}}
+use Rattle.qr_mending.specs.Steps.Polynomial.{all_of}
 use Rattle.qr_mending.proofs.erasures.candidate.Goals as goal
+
+pub without_errors-requires-clause-leading : goal.without_errors-requires-clause-leading
+without_errors-requires-clause-leading c =
+    let p = c.locator-misread.result in
+    let leading = all-leading p c.locator-misread.ensures.monic c.coefficients.ensures.terms in
+    rw (c.as_slice-4.ensures.value, c.with_roots-all.ensures.product, c.coefficients.ensures.value)
+    (rooted-leading c.args.erased.now (all_of p) leading)
 
 pub returns-clause-mended : goal.returns-clause-mended
 returns-clause-mended c =

@@ -1,19 +1,18 @@
 -- The errors of a damaged block are located by any polynomial that solves the equations. Adding the errors to the
 -- damaged codewords gives the true block.
-use Rattle.std.proofs.Common.{◌≡◌, ℕ, zero, suc, ◌+◌, ◌-◌, ◌*◌, ◌/◌, ◌<◌, ◌≤◌, Option, Some, List, [], ◌∷◌, ◌++◌, length, map, take, drop, get_or, refl, sym, ap, ◌∙◌, subst, arith, bit_xor, length-append}
-use Rattle.std.proofs.lemmas.List.{length-map, length-take, length-take-le, length_push, take_more, take_at, take_rest, take-append-drop, drop_at}
-use Rattle.{std.specs.{List.All, Int.Bits.xor_zero_r}, qr_field.proofs.lemmas.logarithm.PowerLemmas.power-round}
+use Rattle.std.proofs.Common.{◌≡◌, ℕ, ◌+◌, ◌-◌, ◌*◌, ◌/◌, ◌<◌, ◌≤◌, Option, Some, List, [], ◌∷◌, length, map, take, drop, refl, sym, ap, subst, arith, length-append}
+use Rattle.std.proofs.lemmas.List.{length-map, length-take-le, take_more, take_at, take-append-drop, drop_at}
+use Rattle.{std.specs.{List.All, Int.Bits.xor_zero_r}}
 use Rattle.qr_field.specs.Polynomial.{IsByte, plus, power, IsCorrection}
 use Rattle.qr_field.specs.{Distance.{differences, erasures, errors}, Steps.Polynomial.value_at}
-use Rattle.qr_field.proofs.lemmas.galois.{BitLemmas.xor-cancel, ByteLemmas.product-by_one, FieldLemmas.sum-none}
+use Rattle.qr_field.proofs.lemmas.galois.{BitLemmas.xor-cancel, ByteLemmas.product-by_one}
 use Rattle.qr_field.proofs.lemmas.polynomial.{ListLemmas.{length-plus, bytes-plus}, PolynomialLemmas.correction-one}
 use Rattle.qr_field.proofs.lemmas.laws.ValueLemmas.{value-lt, value-plus, block-bytes, block-root}
 use Rattle.qr_field.proofs.lemmas.laws.DistanceLemmas.{weight, weight-plus, difference-same, unambiguous-known, erasures-read, errors-read}
 use Rattle.qr_mending.specs.{Block.{IsBlock, IsMended}, Steps.Polynomial.{all_of, miss_of, IsMonic}}
 use Rattle.qr_mending.specs.{Erasures.IsMendedWithErasures, declared.polynomial.Polynomial.Polynomial}
-use Rattle.qr_mending.specs.Steps.{Sums.{dot_of, eval, blend, HasValues}, Errors.{coefficient, low, IsLocated}}
-use Rattle.qr_mending.proofs.lemmas.{sums.SumLemmas.{dot-blend, blend-push}, errors.SpectrumLemmas.eval-coefficient}
-use Rattle.qr_mending.proofs.lemmas.errors.WeightLemmas.{root-blends, errors-root, coefficient-head, coefficient-tail}
+use Rattle.qr_mending.specs.Steps.{Sums.{eval, HasValues}, Roots.HasLeadingOne, Errors.{coefficient, IsLocated}}
+use Rattle.qr_mending.proofs.lemmas.{sums.SumLemmas.dot-blend, errors.WeightLemmas.errors-root}
 
 -- ---- blocks
 
@@ -36,20 +35,6 @@ block-corrects n b h = search (arith, start-block, take_at, drop_at)
 
 -- ---- errors
 
--- item k of the sum of two lists
-get_or-plus : (xs ys : List ℕ) (k : ℕ) → length xs ≡ length ys → k < length xs →
-    get_or (plus xs ys) k 0 ≡ bit_xor (get_or xs k 0) (get_or ys k 0)
-get_or-plus [] ys k e l = absurd (omega arith)
-get_or-plus (x ∷ xs) [] k e l = absurd (omega arith)
-get_or-plus (x ∷ xs) (y ∷ ys) zero e l = refl
-get_or-plus (x ∷ xs) (y ∷ ys) (suc k) e l = get_or-plus xs ys k (omega arith) (omega arith)
-
--- the coefficient at item k of a list, counted from the last item
-coefficient-at : (e : List ℕ) (k : ℕ) → k < length e → coefficient (length e - 1 - k) e ≡ get_or e k 0
-coefficient-at [] k l = absurd (omega arith)
-coefficient-at (c ∷ e) zero l = omega (arith, coefficient-head)
-coefficient-at (c ∷ e) (suc k) l = search (arith, coefficient-tail, coefficient-at e k (omega arith))
-
 -- the first n values of the errors are those of the damaged block
 pub errors-value : (n : ℕ) (damaged b : List ℕ) → IsBlock n b → length b ≡ length damaged →
     All IsByte damaged → (i : ℕ) → i < n → value_at i (plus damaged b) ≡ value_at i damaged
@@ -70,24 +55,8 @@ pub errors-values : (n : ℕ) (damaged b first : List ℕ) → IsBlock n b → l
 errors-values n damaged b first block long a h l = search (arith, errors-value)
 
 -- the list of all coefficients ends with the leading 1
-pub all-low : (p : Polynomial) → IsMonic p → p.degree < length p.terms → all_of p ≡ take p.degree p.terms ++ 1 ∷ []
-all-low p m l = search (arith, take_more)
-
--- if a polynomial has a root for each error, it locates the errors
-pub roots-locate : (q w e : List ℕ) → q ≡ w ++ 1 ∷ [] → All IsByte q → All IsByte e → length e ≤ 255 →
-    ((m : ℕ) → m < length e → (eval (power m) q ≡ 0 → ⊥) → coefficient m e ≡ 0) → IsLocated q e
-roots-locate q w e split bytes le small roots =
-    let below : length q - 1 ≡ length w = omega (arith, ap length split, length_push w 1) in
-    let rest : low q ≡ w = search (arith, take_at) in
-    let all = root-blends q e bytes le roots in
-    record {
-      bytes = le;
-      most = small;
-      recurrence = λ i.
-          let joined : bit_xor (blend w i e) (value_at (i + length w) e) ≡ 0 = cc (blend-push w i e le, split, all i) in
-          search (arith, sum-none);
-      roots = roots;
-    }
+pub all-leading : (p : Polynomial) → IsMonic p → p.degree < length p.terms → HasLeadingOne (all_of p)
+all-leading p m l = record { others = take p.degree p.terms; whole = search (arith, take_more) }
 
 -- if there are at most t errors, a polynomial that solves the first t equations of their values has a root for each of
 -- them
@@ -109,36 +78,6 @@ plus-cancel [] ys h = refl
 plus-cancel (x ∷ xs) [] h = absurd (omega arith)
 plus-cancel (x ∷ xs) (y ∷ ys) h = cc (xor-cancel x y, plus-cancel xs ys (omega arith))
 
--- one codeword more, without its error
-pub sum-more : (xs errors items new : List ℕ) (k error : ℕ) → length errors ≡ length xs → k < length xs →
-    error ≡ coefficient (length xs - 1 - k) errors → items ≡ take k (plus xs errors) →
-    new ≡ items ++ bit_xor (get_or xs k 0) error ∷ [] → new ≡ take (k + 1) (plus xs errors)
-sum-more xs errors items new k error long l h same push =
-    let count : length (plus xs errors) ≡ length errors = length-plus xs errors (omega (arith, long)) in
-    cc (
-      coefficient-at errors k (omega (arith, long, l)),
-      get_or-plus xs errors k (sym long) l,
-      take_more (plus xs errors) k 0 (omega (arith, l, long, count)),
-    )
-
--- ---- the values of the errors
-
--- the next value of located errors follows from the values before it
-pub value-next : (p series e : List ℕ) (v : ℕ) → IsLocated p e → HasValues series e → length p ≤ length series + 1 →
-    v ≡ dot_of (low p) (take (length series - (length series - (length p - 1))) (drop (length series - (length p - 1)) series)) →
-    v ≡ value_at (length series) e
-value-next p series e v h s l d = search (arith, length-take, take_rest, dot-blend)
-
--- the error at index `place` is the value of the series at the inverse of its power
-pub inverse-coefficient : (place inverse v x : ℕ) (p series e : List ℕ) → IsLocated p e →
-    HasValues series e → length series ≡ 255 → place < 255 → x ≡ power inverse → v ≡ eval x series →
-    power inverse ≡ power (255 - place) → v ≡ coefficient place e
-inverse-coefficient place inverse v x p series e h s l m ex ev turn = search (arith, eval-coefficient)
-
--- the inverse of 2 to the power 0
-pub inverse-one : (place inverse : ℕ) → place ≡ 0 → inverse ≡ 0 → power inverse ≡ power (255 - place)
-inverse-one place inverse e f = cc (power-round)
-
 -- ---- the whole list
 
 -- the damaged codewords without their located errors are the true block
@@ -155,7 +94,7 @@ errors-leave n t damaged first q items p half most a h l d monic fits bytes same
     let small : length e ≤ 255 = omega (arith, count, m.long) in
     let few : weight e ≤ t = omega (arith, weight-plus damaged b (sym m.long), m.near) in
     let roots = solved-root t e first q p le small few ve (omega (arith, half, l)) d fits bytes same solved in
-    let located = roots-locate q (take p.degree p.terms) e (same ∙ all-low p monic fits) bytes le small roots in
+    let located : IsLocated q e = record { bytes = le; most = small; roots = roots } in
     search (arith, plus-cancel)
 
 -- ---- the checks

@@ -1,7 +1,7 @@
 -- Erased codewords. Each error is multiplied by the value of a polynomial that has a root for each erased codeword. Then
 -- only as many errors are left as codewords were misread. A polynomial that locates the errors left, times those roots,
 -- locates all errors.
-use Rattle.std.proofs.Common.{◌≡◌, ℕ, zero, suc, ◌+◌, ◌-◌, ◌*◌, ◌/◌, ◌<◌, ◌≤◌, Bool, true, false, Some, List, [], ◌∷◌, ◌++◌, length, map, replicate, take, drop, get_or, refl, sym, ap, ◌∙◌, arith, lit<, bit_xor}
+use Rattle.std.proofs.Common.{◌≡◌, ℕ, zero, suc, ◌+◌, ◌-◌, ◌*◌, ◌/◌, ◌<◌, ◌≤◌, Bool, true, false, Some, List, [], ◌∷◌, ◌++◌, length, map, replicate, drop, get_or, refl, sym, ap, ◌∙◌, arith, lit<, bit_xor}
 use Rattle.std.proofs.lemmas.List.{drop_more, Elements.{All-nil, All-cons, All-head, All-tail}}
 use Rattle.std.specs.{List.All, List.count_by, Int.Bits.xor_self}
 use Rattle.qr_field.specs.{Galois.product, Steps.Polynomial.value_at}
@@ -15,8 +15,8 @@ use Rattle.qr_mending.specs.Steps.{Sums.{dot_of, eval, HasValues}, Roots.rooted}
 use Rattle.qr_mending.specs.Steps.{Polynomial.{all_of, miss_of, IsMonic}, Errors.{coefficient, weighted, IsLocated}}
 use Rattle.qr_mending.proofs.lemmas.sums.SumLemmas.{dot-blend, eval-lt, values-more}
 use Rattle.qr_mending.proofs.lemmas.errors.WeightLemmas.{length-weighted, bytes-weighted, difference-product, weighted-value, coefficient-lt, coefficient-weighted}
-use Rattle.qr_mending.proofs.lemmas.roots.RootLemmas.{count-more, bytes-rooted, monic-rooted, eval-rooted, has-roots, rooted-roots}
-use Rattle.qr_mending.proofs.lemmas.block.BlockLemmas.{bytes-block, errors-values, all-low, roots-locate, solved-root, plus-cancel}
+use Rattle.qr_mending.proofs.lemmas.roots.RootLemmas.{count-more, bytes-rooted, eval-rooted, has-roots, rooted-roots}
+use Rattle.qr_mending.proofs.lemmas.block.BlockLemmas.{bytes-block, errors-values, solved-root, plus-cancel}
 
 -- ---- what was read
 
@@ -166,8 +166,6 @@ erasures-leave n spare t damaged first modified items es p most marks a h l left
     let roots = solved-root t (weighted g e) modified q p (bytes-weighted g e le)
     (omega (arith, length-weighted g e, small)) few
     (left e le ve) half d fits bytes refl solved in
-    let all = monic-rooted es (take p.degree p.terms) in
-    let split : rooted es q ≡ all.0 ++ 1 ∷ [] = ap (rooted es) (all-low p monic fits) ∙ all.1 in
-    let located = roots-locate (rooted es q) all.0 e split (bytes-rooted es q bytes) le small
-    (joined-root es q e bytes le roots) in
+    let located : IsLocated (rooted es q) e =
+    record { bytes = le; most = small; roots = joined-root es q e bytes le roots } in
     sum e (omega (arith, count, long)) located ve ∙ plus-cancel damaged b (sym long)
