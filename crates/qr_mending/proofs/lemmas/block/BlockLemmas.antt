@@ -1,17 +1,17 @@
 -- The errors of a damaged block are located by any polynomial that solves the equations. Adding the errors to the
 -- damaged codewords gives the true block.
-use Rattle.std.proofs.Common.{◌≡◌, ℕ, ◌+◌, ◌-◌, ◌*◌, ◌/◌, ◌<◌, ◌≤◌, Option, Some, List, [], ◌∷◌, length, map, take, drop, refl, sym, ap, subst, arith, length-append}
+use Rattle.std.proofs.Common.{◌≡◌, ℕ, ◌+◌, ◌-◌, ◌*◌, ◌/◌, ◌<◌, ◌≤◌, Option, Some, List, [], ◌∷◌, ◌++◌, length, map, take, drop, refl, sym, ap, ◌∙◌, subst, arith, length-append}
 use Rattle.std.proofs.lemmas.List.{length-map, length-take-le, take_more, take_at, take-append-drop, drop_at}
-use Rattle.{std.specs.{List.All, Int.Bits.xor_zero_r}}
+use Rattle.{std.specs.{List.All, Int.Bits.{xor_zero_r, xor_self}}}
 use Rattle.qr_field.specs.Polynomial.{IsByte, plus, power, IsCorrection}
 use Rattle.qr_field.specs.{Distance.{differences, erasures, errors}, Steps.Polynomial.value_at}
 use Rattle.qr_field.proofs.lemmas.galois.{BitLemmas.xor-cancel, ByteLemmas.product-by_one}
 use Rattle.qr_field.proofs.lemmas.polynomial.{ListLemmas.{length-plus, bytes-plus}, PolynomialLemmas.correction-one}
-use Rattle.qr_field.proofs.lemmas.laws.ValueLemmas.{value-lt, value-plus, block-bytes, block-root}
+use Rattle.qr_field.proofs.lemmas.laws.ValueLemmas.{value-lt, value-plus, value-zero, block-bytes, block-root}
 use Rattle.qr_field.proofs.lemmas.laws.DistanceLemmas.{weight, weight-plus, difference-same, unambiguous-known, erasures-read, errors-read}
 use Rattle.qr_mending.specs.{Block.{IsBlock, IsMended}, Steps.Polynomial.{all_of, miss_of, IsMonic}}
 use Rattle.qr_mending.specs.{Erasures.IsMendedWithErasures, declared.polynomial.Polynomial.Polynomial}
-use Rattle.qr_mending.specs.Steps.{Sums.{eval, HasValues}, Roots.HasLeadingOne, Errors.{coefficient, IsLocated}}
+use Rattle.qr_mending.specs.Steps.{Sums.{eval, HasValues, HasSameValues}, Roots.HasLeadingOne, Errors.{coefficient, IsLocated}}
 use Rattle.qr_mending.proofs.lemmas.{sums.SumLemmas.dot-blend, errors.WeightLemmas.errors-root}
 
 -- ---- blocks
@@ -53,6 +53,36 @@ errors-value n damaged b h s a i l =
 pub errors-values : (n : ℕ) (damaged b first : List ℕ) → IsBlock n b → length b ≡ length damaged →
     All IsByte damaged → HasValues first damaged → length first ≡ n → HasValues first (plus damaged b)
 errors-values n damaged b first block long a h l = search (arith, errors-value)
+
+-- the sum of two lists that begin alike has the values of the sum of what follows
+value-front : (i : ℕ) (xs ys zs : List ℕ) → value_at i (plus (xs ++ ys) (xs ++ zs)) ≡ value_at i (plus ys zs)
+value-front i [] ys zs = refl
+value-front i (x ∷ xs) ys zs =
+    let rest = plus (xs ++ ys) (xs ++ zs) in
+    ap (λ t. value_at i (t ∷ rest)) (xor_self x) ∙ (value-zero i rest ∙ value-front i xs ys zs)
+
+-- the remainder of a block has its first values
+pub remainder-values : (n k : ℕ) (damaged correction r : List ℕ) → All IsByte damaged → k + n ≡ length damaged →
+    IsCorrection (take k damaged) n correction → r ≡ plus (drop k damaged) correction → length r ≡ n →
+    HasSameValues r damaged
+remainder-values n k damaged correction r a long corrects sum count =
+    let start = take k damaged in
+    let rest = drop k damaged in
+    let b = start ++ correction in
+    let block : IsBlock n b = record { message = start; correction = correction; whole = refl; corrects = corrects } in
+    let same : length b ≡ length damaged =
+    omega (arith, length-append start correction, length-take-le k damaged (omega (arith, long)), corrects.count, long) in
+    record {
+      each = λ i l.
+          ap (value_at i) sum
+          ∙ (sym (value-front i start rest correction)
+          ∙ (ap (λ t. value_at i (plus t b)) (take-append-drop k damaged)
+          ∙ errors-value n damaged b block same a i (omega (arith, l, count))));
+    }
+
+-- the values of a remainder are those of the damaged block
+pub same-values : (s r e : List ℕ) → HasValues s r → HasSameValues r e → length s ≡ length r → HasValues s e
+same-values s r e h same l = record { each = λ k m. h.each k m ∙ same.each k (omega (arith, m, l)) }
 
 -- the list of all coefficients ends with the leading 1
 pub all-leading : (p : Polynomial) → IsMonic p → p.degree < length p.terms → HasLeadingOne (all_of p)
