@@ -4,8 +4,8 @@
 use Rattle.std.specs.Prelude.{◌≡◌, ℕ, ◌<◌, ◌≤◌, ◌==◌, if◌then◌else◌, List, [], ◌∷◌, length}
 use Rattle.std.specs.List.{All}
 use Rattle.qr_field.specs.Galois.{product}
-use Rattle.qr_field.specs.Polynomial.{IsByte, power}
-use Rattle.qr_mending.specs.Steps.Sums.{eval}
+use Rattle.qr_field.specs.{Polynomial.{IsByte, power, zeros}, Distance.{differences}}
+use Rattle.qr_mending.specs.Steps.Sums.{eval, HasValues}
 
 -- The coefficient of x^m.
 abbrev pub coefficient : ℕ → List ℕ → ℕ
@@ -23,3 +23,10 @@ pub record IsLocated (p e : List ℕ) : Type 0 where
   pub bytes : All IsByte e
   pub most : length e ≤ 255
   pub roots : (m : ℕ) → m < length e → (eval (power m) p ≡ 0 → ⊥) → coefficient m e ≡ 0
+
+-- At most `t` of the errors are not 0, and `s` has their first values.
+pub record AreFewErrors (t : ℕ) (s e : List ℕ) : Type 0 where
+  pub bytes : All IsByte e
+  pub most : length e ≤ 255
+  pub few : differences e (zeros (length e)) ≤ t
+  pub values : HasValues s e

@@ -1,4 +1,4 @@
-use Rattle.std.proofs.{Common.{length, ap, arith}, lemmas.List.Elements.All-from_get_or}
+use Rattle.std.proofs.{Common.{arith}, lemmas.List.Elements.All-from_get_or}
 use Rattle.{qr_field.specs.Polynomial.IsByte, qr_mending.proofs.lemmas.erasures.ErasureLemmas.erasures-leave}
 use Rattle.qr_mending.proofs.lemmas.{block.BlockLemmas.{all-leading, same-values}, roots.RootLemmas.{rooted-leading}}
 use Rattle.qr_mending.specs.Steps.Polynomial.{all_of}
@@ -19,17 +19,15 @@ returns-clause-mended c =
     let first = c.syndromes-first.result.items in
     λ n mended count.
     erasures-leave n c.args.spare _ c.args.damaged.now first
-    c.modified_syndromes-modified.result.items
-    c.without_errors.result.items c.args.erased.now c.locator-misread.result c.requires.fits c.requires.marks
+    c.modified_syndromes-modified.result.items (all_of c.locator-misread.result)
+    c.without_errors.result.items c.args.erased.now c.requires.fits c.requires.marks
     (All-from_get_or IsByte c.args.damaged.now 0 (λ i l. omega (arith, c.type_inv.damaged i)))
     (same-values first c.args.remainder.now c.args.damaged.now c.syndromes-first.ensures.values c.requires.same
     (omega (arith, c.syndromes-first.ensures.count)))
     (omega (arith, count, c.syndromes-first.ensures.count))
     (rw (c.as_slice.ensures.value, c.with_roots-unread.ensures.product, here) at
     c.modified_syndromes-modified.ensures.values)
-    (omega (arith, ap length there, ap length c.as_slice.ensures.value, ap length here))
-    c.locator-misread.ensures.degree c.locator-misread.ensures.monic c.coefficients.ensures.terms
-    (rw value at c.with_roots-all.ensures.bytes) (rw there at c.locator-misread.ensures.solved)
+    (rw value at c.with_roots-all.ensures.bytes) (rw there at c.locator-misread.ensures.located)
     (rw (c.as_slice-4.ensures.value, c.with_roots-all.ensures.product, value, c.as_slice-5.ensures.value) at
     c.without_errors.ensures.sum)
     (omega (arith, c.count_erased.ensures))

@@ -3,16 +3,16 @@
 use Rattle.std.proofs.Common.{◌≡◌, ℕ, ◌+◌, ◌-◌, ◌*◌, ◌/◌, ◌<◌, ◌≤◌, Option, Some, List, [], ◌∷◌, ◌++◌, length, map, take, drop, refl, sym, ap, ◌∙◌, subst, arith, length-append}
 use Rattle.std.proofs.lemmas.List.{length-map, length-take-le, take_more, take_at, take-append-drop, drop_at}
 use Rattle.{std.specs.{List.All, Int.Bits.{xor_zero_r, xor_self}}}
-use Rattle.qr_field.specs.Polynomial.{IsByte, plus, power, IsCorrection}
+use Rattle.qr_field.specs.Polynomial.{IsByte, plus, IsCorrection}
 use Rattle.qr_field.specs.{Distance.{differences, erasures, errors}, Steps.Polynomial.value_at}
 use Rattle.qr_field.proofs.lemmas.galois.{BitLemmas.xor-cancel, ByteLemmas.product-by_one}
 use Rattle.qr_field.proofs.lemmas.polynomial.{ListLemmas.{length-plus, bytes-plus}, PolynomialLemmas.correction-one}
 use Rattle.qr_field.proofs.lemmas.laws.ValueLemmas.{value-lt, value-plus, value-zero, block-bytes, block-root}
-use Rattle.qr_field.proofs.lemmas.laws.DistanceLemmas.{weight, weight-plus, difference-same, unambiguous-known, erasures-read, errors-read}
-use Rattle.qr_mending.specs.{Block.{IsBlock, IsMended}, Steps.Polynomial.{all_of, miss_of, IsMonic}}
+use Rattle.qr_field.proofs.lemmas.laws.DistanceLemmas.{weight-plus, difference-same, unambiguous-known, erasures-read, errors-read}
+use Rattle.qr_mending.specs.{Block.{IsBlock, IsMended}, Steps.Polynomial.{all_of, IsMonic}}
 use Rattle.qr_mending.specs.{Erasures.IsMendedWithErasures, declared.polynomial.Polynomial.Polynomial}
-use Rattle.qr_mending.specs.Steps.{Sums.{eval, HasValues, HasSameValues}, Roots.HasLeadingOne, Errors.{coefficient, IsLocated}}
-use Rattle.qr_mending.proofs.lemmas.{sums.SumLemmas.dot-blend, errors.WeightLemmas.errors-root}
+use Rattle.qr_mending.specs.Steps.{Sums.{HasValues, HasSameValues}, Roots.HasLeadingOne, Errors.{AreFewErrors, IsLocated}}
+use Rattle.qr_mending.proofs.lemmas.locator.SearchLemmas.{weight-zeros}
 
 -- ---- blocks
 
@@ -88,20 +88,6 @@ same-values s r e h same l = record { each = λ k m. h.each k m ∙ same.each k 
 pub all-leading : (p : Polynomial) → IsMonic p → p.degree < length p.terms → HasLeadingOne (all_of p)
 all-leading p m l = record { others = take p.degree p.terms; whole = search (arith, take_more) }
 
--- if there are at most t errors, a polynomial that solves the first t equations of their values has a root for each of
--- them
-pub solved-root : (t : ℕ) (e first q : List ℕ) (p : Polynomial) → All IsByte e → length e ≤ 255 →
-    weight e ≤ t → HasValues first e → 2 * t ≤ length first → p.degree ≤ t → p.degree < length p.terms →
-    All IsByte q → q ≡ all_of p → ((i : ℕ) → i < t → miss_of p (drop i first) ≡ 0) → (m : ℕ) →
-    m < length e → (eval (power m) q ≡ 0 → ⊥) → coefficient m e ≡ 0
-solved-root t e first q p le small few values long d fits bytes same solved =
-    let count : length q ≡ p.degree + 1 = search (arith, length-take-le) in
-    errors-root t q e bytes le small few (λ i g. cc (
-      dot-blend q i first e values (omega (arith, g, count, long, d)),
-      same,
-      solved i g,
-    ))
-
 -- adding the difference of two lists to the first list gives the second list
 pub plus-cancel : (xs ys : List ℕ) → length xs ≡ length ys → plus xs (plus xs ys) ≡ ys
 plus-cancel [] ys h = refl
@@ -111,21 +97,21 @@ plus-cancel (x ∷ xs) (y ∷ ys) h = cc (xor-cancel x y, plus-cancel xs ys (ome
 -- ---- the whole list
 
 -- the damaged codewords without their located errors are the true block
-pub errors-leave : (n t : ℕ) (damaged first q items : List ℕ) (p : Polynomial) → 2 * t ≤ n → length damaged ≤ 255 →
-    All IsByte damaged → HasValues first damaged → length first ≡ n → p.degree ≤ t → IsMonic p →
-    p.degree < length p.terms → All IsByte q → q ≡ all_of p → ((i : ℕ) → i < t → miss_of p (drop i first) ≡ 0) →
+pub errors-leave : (n t : ℕ) (damaged first q items : List ℕ) → length damaged ≤ 255 → All IsByte damaged →
+    HasValues first damaged → length first ≡ n → ((e : List ℕ) → AreFewErrors t first e → IsLocated q e) →
     ((e : List ℕ) → length e ≡ length damaged → IsLocated q e → HasValues first e → items ≡ plus damaged e) →
     (b : List ℕ) → IsMended n t damaged b → items ≡ b
-errors-leave n t damaged first q items p half most a h l d monic fits bytes same solved sum b m =
+errors-leave n t damaged first q items most a h l located sum b m =
     let e = plus damaged b in
     let count : length e ≡ length b = length-plus damaged b (omega (arith, m.long)) in
-    let le : All IsByte e = bytes-plus damaged b a (bytes-block n b m.block) in
     let ve = errors-values n damaged b first m.block m.long a h l in
-    let small : length e ≤ 255 = omega (arith, count, m.long) in
-    let few : weight e ≤ t = omega (arith, weight-plus damaged b (sym m.long), m.near) in
-    let roots = solved-root t e first q p le small few ve (omega (arith, half, l)) d fits bytes same solved in
-    let located : IsLocated q e = record { bytes = le; most = small; roots = roots } in
-    search (arith, plus-cancel)
+    let few : AreFewErrors t first e = record {
+      bytes = bytes-plus damaged b a (bytes-block n b m.block);
+      most = omega (arith, count, m.long);
+      few = omega (arith, weight-zeros e, weight-plus damaged b (sym m.long), m.near);
+      values = ve;
+    } in
+    sum e (omega (arith, count, m.long)) (located e few) ve ∙ plus-cancel damaged b (sym m.long)
 
 -- ---- the checks
 

@@ -1,7 +1,7 @@
 -- Erased codewords. Each error is multiplied by the value of a polynomial that has a root for each erased codeword. Then
 -- only as many errors are left as codewords were misread. A polynomial that locates the errors left, times those roots,
 -- locates all errors.
-use Rattle.std.proofs.Common.{◌≡◌, ℕ, zero, suc, ◌+◌, ◌-◌, ◌*◌, ◌/◌, ◌<◌, ◌≤◌, Bool, true, false, Some, List, [], ◌∷◌, ◌++◌, length, map, replicate, drop, get_or, refl, sym, ap, ◌∙◌, arith, lit<, bit_xor}
+use Rattle.std.proofs.Common.{◌≡◌, ℕ, zero, suc, ◌+◌, ◌-◌, ◌/◌, ◌<◌, ◌≤◌, Bool, true, false, Some, List, [], ◌∷◌, ◌++◌, length, map, replicate, drop, get_or, refl, sym, ap, ◌∙◌, arith, lit<, bit_xor}
 use Rattle.std.proofs.lemmas.List.{drop_more, Elements.{All-nil, All-cons, All-head, All-tail}}
 use Rattle.std.specs.{List.All, List.count_by, Int.Bits.xor_self}
 use Rattle.qr_field.specs.{Galois.product, Steps.Polynomial.value_at}
@@ -10,13 +10,14 @@ use Rattle.qr_field.proofs.lemmas.galois.ByteLemmas.{product-by_zero, product-of
 use Rattle.qr_field.proofs.lemmas.{logarithm.PowerLemmas.power-lt, galois.FieldLemmas.{product-factor, sum-none}}
 use Rattle.qr_field.proofs.lemmas.polynomial.ListLemmas.{length-plus, bytes-plus}
 use Rattle.qr_field.proofs.lemmas.laws.DistanceLemmas.{weight, difference-same, difference-alike}
-use Rattle.qr_mending.specs.{Erasures.read_of, Erasures.IsMendedWithErasures, declared.polynomial.Polynomial.Polynomial}
+use Rattle.qr_mending.specs.{Erasures.read_of, Erasures.IsMendedWithErasures}
 use Rattle.qr_mending.specs.Steps.{Sums.{dot_of, eval, HasValues}, Roots.rooted}
-use Rattle.qr_mending.specs.Steps.{Polynomial.{all_of, miss_of, IsMonic}, Errors.{coefficient, weighted, IsLocated}}
+use Rattle.qr_mending.specs.Steps.{Errors.{coefficient, weighted, AreFewErrors, IsLocated}}
 use Rattle.qr_mending.proofs.lemmas.sums.SumLemmas.{dot-blend, eval-lt, values-more}
 use Rattle.qr_mending.proofs.lemmas.errors.WeightLemmas.{length-weighted, bytes-weighted, difference-product, weighted-value, coefficient-lt, coefficient-weighted}
 use Rattle.qr_mending.proofs.lemmas.roots.RootLemmas.{count-more, bytes-rooted, eval-rooted, has-roots, rooted-roots}
-use Rattle.qr_mending.proofs.lemmas.block.BlockLemmas.{bytes-block, errors-values, solved-root, plus-cancel}
+use Rattle.qr_mending.proofs.lemmas.block.BlockLemmas.{bytes-block, errors-values, plus-cancel}
+use Rattle.qr_mending.proofs.lemmas.locator.SearchLemmas.{weight-zeros}
 
 -- ---- what was read
 
@@ -138,34 +139,30 @@ joined-root es q e lq le roots m l n =
     (sym (coefficient-weighted m g e (bytes-unread es)) ∙ roots m (omega (arith, length-weighted g e, l)) other)
 
 -- the damaged codewords with erasures, without their located errors, are the true block
-pub erasures-leave : (n spare t : ℕ) (damaged first modified items : List ℕ) (es : List Bool) (p : Polynomial) →
+pub erasures-leave : (n spare t : ℕ) (damaged first modified q items : List ℕ) (es : List Bool) →
     length damaged ≤ 255 → length es ≡ length damaged → All IsByte damaged → HasValues first damaged → length first ≡ n →
     ((e : List ℕ) → All IsByte e → HasValues first e → HasValues modified (weighted (unread es) e)) →
-    2 * t ≤ length modified → p.degree ≤ t → IsMonic p → p.degree < length p.terms → All IsByte (all_of p) →
-    ((i : ℕ) → i < t → miss_of p (drop i modified) ≡ 0) →
-    ((e : List ℕ) → length e ≡ length damaged → IsLocated (rooted es (all_of p)) e → HasValues first e →
+    All IsByte q → ((e : List ℕ) → AreFewErrors t modified e → IsLocated q e) →
+    ((e : List ℕ) → length e ≡ length damaged → IsLocated (rooted es q) e → HasValues first e →
     items ≡ plus damaged e) →
     t ≡ (spare - count_by (λ e. e) es) / 2 → (b : List ℕ) → IsMendedWithErasures n spare (read_of damaged es) b → items ≡ b
-erasures-leave n spare t damaged first modified items es p most marks a h l left half d monic fits bytes solved sum tolerance b m =
+erasures-leave n spare t damaged first modified q items es most marks a h l left bytes located sum tolerance b m =
     let long : length b ≡ length damaged = m.long ∙ length-read damaged es in
     let near : errors (read_of damaged es) b ≤ t = omega (arith, m.near, erasures-marked damaged es marks, tolerance) in
     let e = plus damaged b in
-    let q = all_of p in
     let count : length e ≡ length b = length-plus damaged b (omega (arith, long)) in
     let le = bytes-plus damaged b a (bytes-block n b m.block) in
     let ve = errors-values n damaged b first m.block long a h l in
     let small : length e ≤ 255 = omega (arith, count, long, most) in
     let g = unread es in
-    let lg = bytes-unread es in
+    let rest = weighted g e in
     let none = rooted-roots es (1 ∷ []) (All-cons IsByte 1 [] (lit< tt) (All-nil IsByte)) in
-    let few : weight (weighted g e) ≤ t = omega (
-      arith,
-      weighted-few g damaged b es lg le (sym long) marks none,
-      near,
-    ) in
-    let roots = solved-root t (weighted g e) modified q p (bytes-weighted g e le)
-    (omega (arith, length-weighted g e, small)) few
-    (left e le ve) half d fits bytes refl solved in
-    let located : IsLocated (rooted es q) e =
-    record { bytes = le; most = small; roots = joined-root es q e bytes le roots } in
-    sum e (omega (arith, count, long)) located ve ∙ plus-cancel damaged b (sym long)
+    let few : AreFewErrors t modified rest = record {
+      bytes = bytes-weighted g e le;
+      most = omega (arith, length-weighted g e, small);
+      few = omega (arith, weight-zeros rest, weighted-few g damaged b es (bytes-unread es) le (sym long) marks none, near);
+      values = left e le ve;
+    } in
+    let all : IsLocated (rooted es q) e =
+    record { bytes = le; most = small; roots = joined-root es q e bytes le (located rest few).roots } in
+    sum e (omega (arith, count, long)) all ve ∙ plus-cancel damaged b (sym long)
