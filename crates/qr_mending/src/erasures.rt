@@ -10,7 +10,7 @@ ghost use Rattle.qr_mending.specs.Erasures.{read_of, IsMendedWithErasures};
 ghost use Rattle.qr_mending.specs.Steps.Sums.{HasValues, HasSameValues};
 ghost use Rattle.qr_mending.specs.Steps.Errors.{weighted};
 
-use crate::block::{is_block, remainder};
+use crate::block::{is_block, mend, remainder};
 use crate::errors::without_errors;
 use crate::locator::locator;
 use crate::roots::{count_erased, with_roots};
@@ -102,6 +102,9 @@ pub fn mend_with_erasures(
     let unread = count_erased(erased);
     if unread > spare {
         return None;
+    }
+    if unread == 0 {
+        return mend(divisor, spare / 2, codewords);
     }
     let Some(remainder) = remainder(divisor, codewords) else {
         return Some(0);

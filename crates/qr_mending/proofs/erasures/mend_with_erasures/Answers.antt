@@ -1,8 +1,32 @@
 use Rattle.{std.proofs.Common.{◌∙◌, length, sym, ap, arith}, qr_field.specs.Distance.errors}
 use Rattle.qr_mending.{specs.Erasures.{read_of, IsMendedWithErasures}, proofs.lemmas.block.BlockLemmas.erasures-one}
-use Rattle.qr_mending.proofs.lemmas.erasures.ErasureLemmas.{length-read, erasures-marked, errors-self}
+use Rattle.qr_field.proofs.lemmas.laws.DistanceLemmas.{errors-read}
+use Rattle.qr_mending.proofs.lemmas.block.BlockLemmas.{read-mended, mended-read}
+use Rattle.qr_mending.proofs.lemmas.erasures.ErasureLemmas.{read-none, some-follows, none-follows, length-read, erasures-marked, errors-self}
 use Rattle.qr_mending.proofs.erasures.mend_with_erasures.Goals as goal
 use Rattle.qr_mending.proofs.erasures.mend_with_erasures.Goals.{then-unread-misread-via-then-unread-misread, then-unread-misread-via-else-unread-misread+then-not-is_block}
+
+pub returns-then-unread-eq0-clause-mended : goal.returns-then-unread-eq0-clause-mended
+returns-then-unread-eq0-clause-mended c =
+    let old = c.args.codewords.now in
+    let new = c.mend.new.codewords in
+    let same = read-none old c.args.erased.now c.requires.marks (omega (arith, c.count_erased-unread.ensures)) in
+    some-follows c.mend.result _ _ c.mend.ensures.mended
+    (λ x h. rw same (read-mended c.args.divisor.now c.args.spare old new h.0, h.1 ∙ sym (errors-read old new)))
+
+pub returns-then-unread-eq0-clause-only : goal.returns-then-unread-eq0-clause-only
+returns-then-unread-eq0-clause-only c =
+    let old = c.args.codewords.now in
+    let same = read-none old c.args.erased.now c.requires.marks (omega (arith, c.count_erased-unread.ensures)) in
+    some-follows c.mend.result _ _ c.mend.ensures.only
+    (λ x h mended m. h mended (mended-read c.args.divisor.now c.args.spare old mended (rw same at m)))
+
+pub returns-then-unread-eq0-clause-refused : goal.returns-then-unread-eq0-clause-refused
+returns-then-unread-eq0-clause-refused c =
+    let old = c.args.codewords.now in
+    let same = read-none old c.args.erased.now c.requires.marks (omega (arith, c.count_erased-unread.ensures)) in
+    none-follows c.mend.result _ _ c.mend.ensures.refused
+    (λ h mended m. h mended (mended-read c.args.divisor.now c.args.spare old mended (rw same at m)))
 
 pub returns-in_default-clause-only : goal.returns-in_default-clause-only
 returns-in_default-clause-only c = λ mended h.

@@ -1,8 +1,9 @@
 -- Erased codewords. Each error is multiplied by the value of a polynomial that has a root for each erased codeword. Then
 -- only as many errors are left as codewords were misread. A polynomial that locates the errors left, times those roots,
 -- locates all errors.
-use Rattle.std.proofs.Common.{◌≡◌, ℕ, zero, suc, ◌+◌, ◌-◌, ◌/◌, ◌<◌, ◌≤◌, Bool, true, false, Some, List, [], ◌∷◌, ◌++◌, length, map, replicate, drop, get_or, refl, sym, ap, ◌∙◌, arith, lit<, bit_xor}
+use Rattle.std.proofs.Common.{◌≡◌, ℕ, zero, suc, ◌+◌, ◌-◌, ◌/◌, ◌<◌, ◌≤◌, Bool, true, false, Option, None, Some, List, [], ◌∷◌, ◌++◌, length, map, replicate, drop, get_or, refl, sym, ap, ◌∙◌, arith, lit<, bit_xor}
 use Rattle.std.proofs.lemmas.List.{drop_more, Elements.{All-nil, All-cons, All-head, All-tail}}
+use Rattle.std.specs.Prelude.{IfSome, IfNone}
 use Rattle.std.specs.{List.All, List.count_by, Int.Bits.xor_self}
 use Rattle.qr_field.specs.{Galois.product, Steps.Polynomial.value_at}
 use Rattle.qr_field.specs.{Polynomial.{IsByte, plus, power}, Distance.{difference, erasures, errors}}
@@ -33,6 +34,25 @@ pub read-unmarked : (xs : List ℕ) (k : ℕ) → read_of xs (replicate k false)
 read-unmarked [] k = refl
 read-unmarked (x ∷ xs) zero = ap (λ z. Some x ∷ z) (read-unmarked xs zero)
 read-unmarked (x ∷ xs) (suc k) = ap (λ z. Some x ∷ z) (read-unmarked xs k)
+
+-- nor is one if no mark is true
+pub read-none : (xs : List ℕ) (es : List Bool) → length es ≡ length xs → count_by (λ e. e) es ≡ 0 →
+    read_of xs es ≡ map (λ x. Some x) xs
+read-none [] es h none = refl
+read-none (x ∷ xs) [] h none = absurd (omega arith)
+read-none (x ∷ xs) (true ∷ es) h none = absurd (omega (arith, count-more true es))
+read-none (x ∷ xs) (false ∷ es) h none =
+    ap (λ z. Some x ∷ z) (read-none xs es (omega (arith, h)) (omega (arith, none, count-more false es)))
+
+-- what follows from a fact about the value, if there is one
+pub some-follows : (o : Option ℕ) (P Q : ℕ → Type 0) → IfSome o P → ((x : ℕ) → P x → Q x) → IfSome o Q
+some-follows None P Q p f = tt
+some-follows (Some x) P Q p f = f x p
+
+-- what follows from a fact that holds if there is no value
+pub none-follows : (o : Option ℕ) (P Q : Type 0) → IfNone o P → (P → Q) → IfNone o Q
+none-follows None P Q p f = f p
+none-follows (Some x) P Q p f = tt
 
 -- no codeword is misread beside what was read itself
 pub errors-self : (xs : List ℕ) (es : List Bool) → errors (read_of xs es) xs ≡ 0
