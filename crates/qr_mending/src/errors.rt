@@ -95,14 +95,13 @@ fn error(locator: &mut ArrayVec<u8, 31>, syndromes: &mut ArrayVec<u8, 30>, place
     error
 }
 
-// To add the errors removes them, since equal elements of the field add up to 0.
+// To add the errors removes them, since equal elements of the field add up to 0. None is left once the locator is 1.
 pub(crate) fn without_errors(locator: &[u8], syndromes: &[u8], damaged: &[u8]) -> ArrayVec<u8, 255>
     requires leading { HasLeadingOne locator.now }
     requires most { length syndromes.now ≤ 30 }
     requires long { length locator.now ≤ length syndromes.now + 1 }
     requires fits { length damaged.now ≤ 255 }
     ensures long { length result.items ≡ length damaged.now }
-    ensures bytes { All IsByte locator.now }
     ensures sum { (errors : List ℕ) → length errors ≡ length damaged.now → IsLocated locator.now errors →
         HasValues syndromes.now errors → result.items ≡ plus damaged.now errors }
 {
@@ -112,6 +111,10 @@ pub(crate) fn without_errors(locator: &[u8], syndromes: &[u8], damaged: &[u8]) -
     let _ = syndromes_left.try_extend_from_slice(syndromes);
     let mut codewords = ArrayVec::new();
     for k in 0..damaged.len() {
+        if locator_left.len() == 1 {
+            let _ = codewords.try_extend_from_slice(&damaged[k..]);
+            return codewords;
+        }
         let place = (damaged.len() - 1 - k) as u8;
         codewords.push(damaged[k] ^ error(&mut locator_left, &mut syndromes_left, place));
     }

@@ -1,6 +1,7 @@
-use Rattle.std.proofs.{Common.{◌≡◌, ℕ, ◌+◌, ◌<◌, List, ◌∙◌, ◌∷◌, length, drop, get_or, length-drop, arith}, lemmas.List.{take_all, drop_more, Elements.All-from_get_or}}
-use Rattle.qr_field.{specs.Polynomial.{IsByte, plus}, proofs.lemmas.polynomial.ListLemmas.{length-plus}}
-use Rattle.qr_mending.proofs.lemmas.errors.RemovalLemmas.{sum-more}
+use Rattle.std.proofs.{Common.{◌≡◌, ℕ, ◌+◌, ◌<◌, List, ◌∙◌, ◌∷◌, length, drop, get_or, length-drop, arith}, lemmas.List.{take_all, drop_more}}
+use Rattle.qr_field.{specs.Polynomial.{plus}, proofs.lemmas.polynomial.ListLemmas.{length-plus}}
+use Rattle.std.proofs.lemmas.{Grind.{common_steps}, List.{take_rest}}
+use Rattle.qr_mending.proofs.lemmas.errors.RemovalLemmas.{sum-more, sum-rest}
 use Rattle.qr_mending.proofs.errors.without_errors.Goals as goal
 
 -- the errors from codeword k on, one by one
@@ -36,8 +37,14 @@ loop-k-preserved c =
           (kept.5 errors long located values) (cc (c.push.ensures.items, found)),
     )
 
-pub returns-clause-bytes : goal.returns-clause-bytes
-returns-clause-bytes c = All-from_get_or IsByte c.args.locator.now 0 (λ i l. omega (arith, c.type_inv.locator i))
+pub returns-then-len-eq1-clause-sum : goal.returns-then-len-eq1-clause-sum
+returns-then-len-eq1-clause-sum c = λ errors long located values.
+    let k = c.loop-k.k in
+    let damaged = c.args.damaged.now in
+    let kept = c.loop-k.invariant in
+    sum-rest damaged errors c.loop-k.codewords.items _ c.loop-k.locator_left.items k long (omega arith)
+    (kept.5 errors long located values) kept.1 (omega arith) (kept.3 errors long located values)
+    (grind (arith, common_steps, take_rest))
 
 pub returns-clause-sum : goal.returns-clause-sum
 returns-clause-sum c =

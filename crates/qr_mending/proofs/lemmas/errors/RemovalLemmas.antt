@@ -1,14 +1,14 @@
 -- The errors are found one at a time. A polynomial that has a root for each later error, but none for this one, leaves
 -- of the products of all errors only that of this one.
-use Rattle.std.proofs.Common.{◌≡◌, ℕ, zero, suc, ◌+◌, ◌*◌, ◌<◌, ◌≤◌, List, [], ◌∷◌, ◌++◌, length, take, get_or, refl, sym, ◌∙◌, arith, bit_xor}
-use Rattle.std.proofs.lemmas.{Nat.xor_of_8, Nat.xor_comm, List.{take_more, drop_all, append-nil, take_all}, List.Elements.{All-head, All-tail}}
+use Rattle.std.proofs.Common.{◌≡◌, ℕ, zero, suc, ◌+◌, ◌*◌, ◌<◌, ◌≤◌, List, [], ◌∷◌, ◌++◌, length, take, drop, get_or, refl, sym, ap, ◌∙◌, length-drop, arith, bit_xor}
+use Rattle.std.proofs.lemmas.{Nat.xor_of_8, Nat.xor_comm, List.{length_push, take-append-drop, take_more, drop_all, append-nil, take_all}, List.Elements.{All-head, All-tail}}
 use Rattle.std.specs.{List.{All, refill}, Int.Bits.{xor_zero_r, xor_self}}
 use Rattle.qr_field.specs.{Galois.product, Polynomial.{IsByte, plus, power}, Steps.Polynomial.value_at}
-use Rattle.qr_field.proofs.lemmas.galois.{BitLemmas.xor-cancel, ByteLemmas.product-by_one, ProductLemmas.{product-lt, product-xor}}
+use Rattle.qr_field.proofs.lemmas.galois.{BitLemmas.xor-cancel, ByteLemmas.{product-by_zero, product-by_one}, ProductLemmas.{product-lt, product-xor}}
 use Rattle.qr_field.proofs.lemmas.galois.FieldLemmas.{product-assoc, product-factor, sum-none}
 use Rattle.qr_field.proofs.lemmas.{logarithm.PowerLemmas.{power-lt, power-add, powers-apart}, laws.ValueLemmas.{value-zero}}
 use Rattle.qr_field.proofs.lemmas.polynomial.ListLemmas.{length-plus}
-use Rattle.qr_mending.specs.Steps.{Sums.{dot_of, eval, HasValues}, Errors.{weighted, IsLocated}}
+use Rattle.qr_mending.specs.Steps.{Sums.{dot_of, eval, HasValues}, Roots.HasLeadingOne, Errors.{weighted, IsLocated}}
 use Rattle.qr_mending.proofs.lemmas.sums.SumLemmas.{dot-blend}
 use Rattle.qr_mending.proofs.lemmas.errors.WeightLemmas.{coefficient-head, coefficient-tail, root-blends, weighted-value}
 
@@ -120,3 +120,40 @@ sum-more xs errors items new k long l same push =
       get_or-plus xs errors k (sym long) l,
       take_more (plus xs errors) k 0 (omega (arith, l, long, count)),
     )
+
+-- where the locator is 1, there is no error
+none-left : (xs e : List ℕ) → length e ≡ length xs → IsLocated (1 ∷ []) e → plus xs e ≡ xs
+none-left [] [] l h = refl
+none-left [] (c ∷ e) l h = absurd (omega arith)
+none-left (x ∷ xs) [] l h = absurd (omega arith)
+none-left (x ∷ xs) (c ∷ e) l h =
+    let y = power (length e) in
+    let one : eval y (1 ∷ []) ≡ 1 = let none = product-by_zero y (power-lt (length e)) in cc (none, xor_zero_r 1) in
+    let none : c ≡ 0 = located-none (1 ∷ []) e c h (λ z. omega (arith, one, z)) in
+    cc (none, xor_zero_r x, none-left xs e (omega (arith, l)) (located-rest (1 ∷ []) e c h))
+
+-- a leading 1 with no other coefficient
+leading-alone : (p : List ℕ) → HasLeadingOne p → length p ≡ 1 → p ≡ 1 ∷ []
+leading-alone p h l = go h.others h.whole
+  where
+    go : (v : List ℕ) → p ≡ v ++ 1 ∷ [] → p ≡ 1 ∷ []
+    go [] e = e
+    go (x ∷ v) e = absurd (omega (arith, ap length e, length_push (x ∷ v) 1, l))
+
+-- the sum from codeword k on
+drop-plus : (k : ℕ) (xs ys : List ℕ) → length xs ≡ length ys → drop k (plus xs ys) ≡ plus (drop k xs) (drop k ys)
+drop-plus zero xs ys l = refl
+drop-plus (suc k) [] [] l = refl
+drop-plus (suc k) [] (y ∷ ys) l = absurd (omega arith)
+drop-plus (suc k) (x ∷ xs) [] l = absurd (omega arith)
+drop-plus (suc k) (x ∷ xs) (y ∷ ys) l = drop-plus k xs ys (omega (arith, l))
+
+-- the codewords so far and those after them, if no error is left
+pub sum-rest : (xs errors items new p : List ℕ) (k : ℕ) → length errors ≡ length xs → k ≤ length xs →
+    items ≡ take k (plus xs errors) → HasLeadingOne p → length p ≡ 1 → IsLocated p (drop k errors) →
+    new ≡ items ++ drop k xs → new ≡ plus xs errors
+sum-rest xs errors items new p k long l same leading alone located push =
+    let one : p ≡ 1 ∷ [] = leading-alone p leading alone in
+    let rest = none-left (drop k xs) (drop k errors)
+    (omega (arith, length-drop k xs, length-drop k errors, long)) (rw one at located) in
+    cc (push, same, rest, drop-plus k xs errors (sym long), take-append-drop k (plus xs errors))
