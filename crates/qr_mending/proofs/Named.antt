@@ -1,22 +1,24 @@
 -- The lemmas that the attributes of functions name.
 use Rattle.{qr_field.proofs.lemmas.laws.DistanceLemmas.difference-same, qr_layout.proofs.Facts.{blocks-sound, laws-of}}
-use Rattle.qr_mending.proofs.lemmas.block.BlockLemmas.{erasures-one, differences-same, mended-same, sum-more, value-next}
+use Rattle.qr_mending.proofs.lemmas.block.BlockLemmas.{erasures-one, differences-same, mended-same}
 use Rattle.qr_mending.proofs.lemmas.erasures.ErasureLemmas.{errors-more, modified-more, erasures-marked, length-read, errors-self}
 use Rattle.qr_mending.proofs.lemmas.{format.FormatLemmas.{near-one, near-two}, mending.MendingLemmas.unmended-one}
 use Rattle.qr_mending.proofs.lemmas.laws.{DistanceLemmas.symbols-apart, WeakerLemmas.weaker-block}
-use Rattle.qr_mending.proofs.lemmas.locator.PoolLemmas.{leading-stays, plus-more, sum-all}
-use Rattle.qr_mending.proofs.lemmas.roots.RootLemmas.{length-rooted, length-rooted_rest}
+use Rattle.qr_mending.proofs.lemmas.locator.SearchLemmas.{leading-stays, plus-more, sum-all, shift-more, shift-leading}
+use Rattle.qr_mending.proofs.lemmas.roots.RootLemmas.{length-rooted, length-rooted_rest, divided-more, value-more_divided}
 use Rattle.qr_mending.proofs.lemmas.sums.SumLemmas.{value-more, values-more, values-none}
 use Rattle.qr_symbol.proofs.Facts.{data-sizes-whole, readings-none, sizes-whole, unjoined-next}
-use Rattle.std.proofs.lemmas.{List.take_all, List.take_rest, List.Elements.All-from_get_or, Result.err_from_is_err_and}
+use Rattle.std.proofs.lemmas.{List.take_all, List.take_rest, List.take-replicate, List.Elements.All-from_get_or, Result.err_from_is_err_and}
 
 pub ruleset value_facts = (All-from_get_or, value-more, values-more, values-none)
 
 pub ruleset polynomial_facts = (leading-stays, plus-more, sum-all)
 
+pub ruleset shift_facts = (shift-more, shift-leading, take-replicate)
+
 pub ruleset root_facts = (All-from_get_or, length-rooted, length-rooted_rest)
 
-pub ruleset error_facts = (value-next)
+pub ruleset division_facts = (All-from_get_or, divided-more, value-more_divided)
 
 pub ruleset block_facts = (differences-same, mended-same)
 

@@ -7,10 +7,10 @@ ghost use Rattle.arrayvec.specs.ArrayVec.{array_vec_len};
 ghost use Rattle.qr_field.specs.Polynomial.{IsByte};
 ghost use Rattle.qr_field.specs.Distance.{errors};
 ghost use Rattle.qr_mending.specs.Erasures.{read_of, IsMendedWithErasures};
-ghost use Rattle.qr_mending.specs.Steps.Sums.{HasValues};
+ghost use Rattle.qr_mending.specs.Steps.Sums.{HasValues, HasSameValues};
 ghost use Rattle.qr_mending.specs.Steps.Errors.{weighted};
 
-use crate::block::is_block;
+use crate::block::{is_block, mend, remainder};
 use crate::errors::without_errors;
 use crate::locator::locator;
 use crate::roots::{count_erased, with_roots};
@@ -37,18 +37,19 @@ fn modified_syndromes(polynomial: &[u8], syndromes: &[u8]) -> ArrayVec<u8, 30>
 }
 
 // The mended block, or if `damaged` cannot be mended, a list that the caller has to refuse.
-fn candidate(n: usize, spare: usize, erased: &[bool], damaged: &[u8]) -> ArrayVec<u8, 255>
-    requires most { n ≤ 30 }
-    requires spare { spare ≤ n }
+fn candidate(remainder: &[u8], spare: usize, erased: &[bool], damaged: &[u8]) -> ArrayVec<u8, 255>
+    requires most { length remainder.now ≤ 30 }
+    requires spare { spare ≤ length remainder.now }
+    requires same { HasSameValues remainder.now damaged.now }
     requires enough { count_by (λ e. e) erased.now ≤ spare }
     requires fits { length damaged.now ≤ 255 }
     requires marks { length erased.now ≡ length damaged.now }
     ensures long { length result.items ≡ length damaged.now }
-    ensures mended { (mended : List ℕ) → IsMendedWithErasures n spare (read_of damaged.now erased.now) mended →
-        result.items ≡ mended }
+    ensures mended { (n : ℕ) (mended : List ℕ) → n ≡ length remainder.now →
+        IsMendedWithErasures n spare (read_of damaged.now erased.now) mended → result.items ≡ mended }
 {
     let t = (spare - count_erased(erased)) / 2;
-    let first = syndromes(damaged, n);
+    let first = syndromes(remainder);
     let unread = with_roots(erased, &[1]);
     let modified = modified_syndromes(unread.as_slice(), first.as_slice());
     let misread = locator(modified.as_slice(), t);
@@ -102,10 +103,13 @@ pub fn mend_with_erasures(
     if unread > spare {
         return None;
     }
-    if is_block(divisor, codewords) {
-        return Some(0);
+    if unread == 0 {
+        return mend(divisor, spare / 2, codewords);
     }
-    let mended = candidate(divisor.count(), spare, erased, codewords);
+    let Some(remainder) = remainder(divisor, codewords) else {
+        return Some(0);
+    };
+    let mended = candidate(remainder.as_slice(), spare, erased, codewords);
     let misread = count_misread(codewords, erased, mended.as_slice());
     if unread + 2 * misread > spare || !is_block(divisor, mended.as_slice()) {
         return None;

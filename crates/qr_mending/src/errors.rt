@@ -1,84 +1,122 @@
 //! Removes the errors of a damaged block. The error of a codeword is its difference from the right one, and the errors
-//! are the coefficients of the error polynomial. `syndromes` lists the values of this polynomial at 2^0, 2^1 and so on,
-//! and `series` those that were computed so far. The locator is a polynomial with a root for each misread or erased
-//! codeword. If d is its degree, each value but the first d is the sum of the d values before it, each multiplied by a
-//! coefficient of the locator. The values at all 255 powers of 2 determine the errors.
+//! are the coefficients of the error polynomial. `syndromes` lists the values of this polynomial at 2^0, 2^1 and so on.
+//! The locator is a polynomial with a root for each misread or erased codeword.
+//!
+//! The codewords are taken in their order. At a root of the locator, the locator is divided by the factor of this root.
+//! It then has a root for each error that is left but this one, so the sum of its coefficients, each multiplied by the
+//! syndrome at its index, is this error times the value of the locator at its root. The error then goes out of the
+//! syndromes.
 
-ghost use Rattle.std.specs.Prelude.{◌≡◌, ℕ, ◌+◌, ◌<◌, ◌≤◌, List, length};
+ghost use Rattle.std.specs.Prelude.{◌≡◌, ◌≢◌, ℕ, ◌+◌, ◌*◌, ◌<◌, ◌≤◌, List, ◌∷◌, length, bit_xor, slice_index};
 ghost use Rattle.std.specs.List.{All};
 ghost use Rattle.arrayvec.specs.ArrayVec.{array_vec_len};
-ghost use Rattle.qr_field.specs.Polynomial.{IsByte, plus};
-ghost use Rattle.qr_field.specs.Steps.Polynomial.{value_at};
-ghost use Rattle.qr_mending.specs.Steps.Sums.{HasValues};
-ghost use Rattle.qr_mending.specs.Steps.Errors.{coefficient, IsLocated};
+ghost use Rattle.qr_field.specs.Galois.{product};
+ghost use Rattle.qr_field.specs.Polynomial.{IsByte, plus, power};
+ghost use Rattle.qr_mending.specs.Steps.Sums.{eval, HasValues};
+ghost use Rattle.qr_mending.specs.Steps.Roots.{quotient, HasLeadingOne};
+ghost use Rattle.qr_mending.specs.Steps.Errors.{IsLocated};
 
 use crate::sums::{dot, value};
 use arrayvec::ArrayVec;
-use qr_field::power_of;
+use qr_field::{div, mul, power_of};
 
-// A syndrome, while `series` has fewer values than the locator's degree, and then the sum. The leading coefficient,
-// which is the last, counts as 1 and is left out of the sum.
-#[tactic(auto, using(crate::proofs::Named::error_facts))]
-fn next_value(locator: &[u8], syndromes: &[u8], series: &[u8]) -> u8
-    requires least { 1 ≤ length locator.now }
-    requires long { length locator.now ≤ length syndromes.now + 1 }
-    ensures { (errors : List ℕ) → IsLocated locator.now errors → HasValues syndromes.now errors →
-        HasValues series.now errors → result ≡ value_at (length series.now) errors }
+// Divides a polynomial by x + `root` by Horner's rule. The quotient has a coefficient less, so the last becomes 0; the
+// remainder is left out.
+#[tactic(auto, using(crate::proofs::Named::division_facts))]
+fn divide(terms: &mut [u8], root: u8)
+    ensures quotient { terms.new ≡ quotient root terms.old }
+    ensures bytes { All IsByte terms.old }
 {
-    let count = series.len();
-    let degree = locator.len() - 1;
-    if count < degree {
-        return syndromes[count];
+    let mut value = 0;
+    for j in (0..terms.len()).rev() {
+        let next = terms[j] ^ mul(root, value);
+        terms[j] = value;
+        value = next;
     }
-    dot(&locator[..degree], &series[count - degree..])
 }
 
-fn values(locator: &[u8], syndromes: &[u8]) -> ArrayVec<u8, 255>
-    requires least { 1 ≤ length locator.now }
-    requires long { length locator.now ≤ length syndromes.now + 1 }
-    ensures count { array_vec_len result ≡ 255 }
-    ensures values { (errors : List ℕ) → IsLocated locator.now errors → HasValues syndromes.now errors →
-        HasValues result.items errors }
+// Divides `locator` by x + `root` until `root` is no root of it, and returns its value there.
+fn divide_out(locator: &mut ArrayVec<u8, 31>, root: u8) -> u8
+    requires leading { HasLeadingOne locator.old.items }
+    requires root { eval root locator.old.items ≡ 0 }
+    ensures leading { HasLeadingOne locator.new.items }
+    ensures shorter { array_vec_len locator.new < array_vec_len locator.old }
+    ensures some { 1 ≤ result }
+    ensures value { result ≡ eval root locator.new.items }
+    ensures others { (y : ℕ) → IsByte y → y ≢ root → eval y locator.old.items ≡ 0 → eval y locator.new.items ≡ 0 }
 {
-    let mut series = ArrayVec::new();
-    for _i in 0..255usize {
-        let value = next_value(locator, syndromes, series.as_slice());
-        series.push(value);
+    let mut rest = 0;
+    while rest == 0 {
+        divide(locator.as_mut_slice(), root);
+        locator.pop();
+        rest = value(locator.as_slice(), root);
     }
-    series
+    rest
 }
 
-// The error of the codeword that has `place` codewords after it. The errors follow from the values as the values do
-// from the errors, but for the sign of the exponent. So the polynomial whose coefficients are `series` has this error
-// as its value at 2^-`place`.
-fn error(locator: &[u8], series: &[u8], place: u8) -> u8
-    requires count { length series.now ≡ 255 }
+// Takes the error of the codeword that has `place` codewords after it out of the syndromes.
+fn remove(syndromes: &mut [u8], error: u8, place: u8)
+    requires { place < 255 }
+    ensures long { length syndromes.new ≡ length syndromes.old }
+    ensures each { (k : ℕ) → k < length syndromes.old → slice_index syndromes.new k ≡
+        bit_xor (slice_index syndromes.old k) (product error (power (k * place))) }
+{
+    let root = power_of(place);
+    let mut term = error;
+    for k in 0..syndromes.len() {
+        syndromes[k] ^= term;
+        term = mul(term, root);
+    }
+}
+
+// The error of the codeword that has `place` codewords after it. `locator` and `syndromes` are then those of the errors
+// after it.
+fn error(locator: &mut ArrayVec<u8, 31>, syndromes: &mut ArrayVec<u8, 30>, place: u8) -> u8
+    requires leading { HasLeadingOne locator.old.items }
+    requires long { array_vec_len locator.old ≤ array_vec_len syndromes.old + 1 }
     requires place { place < 255 }
-    ensures { (errors : List ℕ) → IsLocated locator.now errors → HasValues series.now errors →
-        place < length errors → result ≡ coefficient place errors }
+    ensures leading { HasLeadingOne locator.new.items }
+    ensures long { array_vec_len locator.new ≤ array_vec_len syndromes.new + 1 }
+    ensures error { (c : ℕ) (errors : List ℕ) → length errors ≡ place → IsLocated locator.old.items (c ∷ errors) →
+        HasValues syndromes.old.items (c ∷ errors) → result ≡ c }
+    ensures located { (c : ℕ) (errors : List ℕ) → length errors ≡ place → IsLocated locator.old.items (c ∷ errors) →
+        HasValues syndromes.old.items (c ∷ errors) → IsLocated locator.new.items errors }
+    ensures values { (c : ℕ) (errors : List ℕ) → length errors ≡ place → IsLocated locator.old.items (c ∷ errors) →
+        HasValues syndromes.old.items (c ∷ errors) → HasValues syndromes.new.items errors }
 {
-    if value(locator, power_of(place)) != 0 {
+    let root = power_of(place);
+    if value(locator.as_slice(), root) != 0 {
         return 0;
     }
-    let inverse = if place == 0 { 0 } else { 255 - place };
-    value(series, power_of(inverse))
+    let rest = divide_out(locator, root);
+    let error = div(dot(locator.as_slice(), syndromes.as_slice()), rest);
+    syndromes.truncate(locator.len() - 1);
+    remove(syndromes.as_mut_slice(), error, place);
+    error
 }
 
-// To add the errors removes them, since equal elements of the field add up to 0.
+// To add the errors removes them, since equal elements of the field add up to 0. None is left once the locator is 1.
 pub(crate) fn without_errors(locator: &[u8], syndromes: &[u8], damaged: &[u8]) -> ArrayVec<u8, 255>
-    requires least { 1 ≤ length locator.now }
+    requires leading { HasLeadingOne locator.now }
+    requires most { length syndromes.now ≤ 30 }
     requires long { length locator.now ≤ length syndromes.now + 1 }
     requires fits { length damaged.now ≤ 255 }
     ensures long { length result.items ≡ length damaged.now }
-    ensures bytes { All IsByte locator.now }
     ensures sum { (errors : List ℕ) → length errors ≡ length damaged.now → IsLocated locator.now errors →
         HasValues syndromes.now errors → result.items ≡ plus damaged.now errors }
 {
-    let series = values(locator, syndromes);
+    let mut locator_left = ArrayVec::new();
+    let _ = locator_left.try_extend_from_slice(locator);
+    let mut syndromes_left = ArrayVec::new();
+    let _ = syndromes_left.try_extend_from_slice(syndromes);
     let mut codewords = ArrayVec::new();
     for k in 0..damaged.len() {
+        if locator_left.len() == 1 {
+            let _ = codewords.try_extend_from_slice(&damaged[k..]);
+            return codewords;
+        }
         let place = (damaged.len() - 1 - k) as u8;
-        codewords.push(damaged[k] ^ error(locator, series.as_slice(), place));
+        codewords.push(damaged[k] ^ error(&mut locator_left, &mut syndromes_left, place));
     }
     codewords
 }

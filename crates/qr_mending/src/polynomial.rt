@@ -1,40 +1,30 @@
 //! Polynomials over the field of 256 elements with the leading coefficient 1. Coefficients begin with that of the
 //! lowest power.
 
-ghost use Rattle.std.specs.Prelude.{◌≡◌, ◌+◌, ◌<◌, ◌≢◌, length};
+ghost use Rattle.std.specs.Prelude.{◌≡◌, ◌+◌, ◌<◌, ◌++◌, [], ◌∷◌, length};
 ghost use Rattle.std.specs.List.{All};
-ghost use Rattle.qr_field.specs.Polynomial.{IsByte, plus, scaled};
-ghost use Rattle.qr_mending.specs.Steps.Polynomial.{all_of, IsMonic, miss_of, IsRelieved};
+ghost use Rattle.qr_field.specs.Polynomial.{IsByte, plus, scaled, zeros};
+ghost use Rattle.qr_mending.specs.Steps.Polynomial.{all_of, IsMonic, miss_of};
 
 use crate::sums::dot;
-use qr_field::{div, mul};
+use qr_field::mul;
 
-// The coefficients are `terms` up to index `degree`; later items are not used. The default value alone has the leading
-// coefficient 0.
+// The coefficients are `terms` up to index `degree`; later items are not used.
 #[derive(Clone, Copy)]
 pub(crate) struct Polynomial {
     pub(crate) degree: usize,
     pub(crate) terms: [u8; 16],
 }
 
-impl Default for Polynomial {
-    fn default() -> Polynomial {
-        Polynomial {
-            degree: 0,
-            terms: [0; 16],
-        }
-    }
-}
-
 impl Polynomial {
-    pub(crate) fn monomial(degree: usize) -> Polynomial
-        requires { degree < 16 }
-        ensures degree { result.degree ≡ degree }
+    pub(crate) fn one() -> Polynomial
+        ensures degree { result.degree ≡ 0 }
         ensures monic { IsMonic result }
+        ensures terms { all_of result ≡ 1 ∷ [] }
     {
         let mut terms = [0; 16];
-        terms[degree] = 1;
-        Polynomial { degree, terms }
+        terms[0] = 1;
+        Polynomial { degree: 0, terms }
     }
 
     pub(crate) fn coefficients(&self) -> &[u8]
@@ -60,7 +50,7 @@ impl Polynomial {
 
     // Degree and leading coefficient stay, since `other` has a lower degree.
     #[tactic(auto, using(crate::proofs::Named::polynomial_facts))]
-    fn plus(&self, factor: u8, other: &Polynomial) -> Polynomial
+    pub(crate) fn plus(&self, factor: u8, other: &Polynomial) -> Polynomial
         requires lower { other.now.degree < self.now.degree }
         requires fits { self.now.degree < 16 }
         ensures degree { result.degree ≡ self.now.degree }
@@ -77,15 +67,21 @@ impl Polynomial {
         }
     }
 
-    // This polynomial plus the multiple of `pivot` that makes the sum solve the equation of `window`.
-    pub(crate) fn relieved(&self, pivot: &Polynomial, window: &[u8]) -> Polynomial
-        requires lower { pivot.now.degree < self.now.degree }
-        requires fits { self.now.degree < 16 }
-        requires long { self.now.degree < length window.now }
-        requires misses { miss_of pivot.now window.now ≢ 0 }
-        ensures { IsRelieved pivot.now window.now self.now result }
+    // The product with x^`count`.
+    #[tactic(auto, using(crate::proofs::Named::shift_facts))]
+    pub(crate) fn shifted(&self, count: usize) -> Polynomial
+        requires { self.now.degree + count < 16 }
+        ensures degree { result.degree ≡ self.now.degree + count }
+        ensures monic { IsMonic self.now → IsMonic result }
+        ensures terms { all_of result ≡ zeros count ++ all_of self.now }
     {
-        let factor = div(self.miss(window), pivot.miss(window));
-        self.plus(factor, pivot)
+        let mut terms = [0; 16];
+        for k in 0..self.degree + 1 {
+            terms[count + k] = self.terms[k];
+        }
+        Polynomial {
+            degree: self.degree + count,
+            terms,
+        }
     }
 }

@@ -49,17 +49,16 @@ fn syndrome(block: &[u8], exponent: u8) -> u8
     value
 }
 
-// The syndromes for the exponents 0 to `n` - 1. All are 0 if `block` is undamaged and has `n` error correction
-// codewords.
+// The syndromes for the exponents 0 to `n` - 1, where `n` is the number of coefficients of `remainder`.
 #[tactic(auto, using(crate::proofs::Named::value_facts))]
-pub(crate) fn syndromes(block: &[u8], n: usize) -> ArrayVec<u8, 30>
-    requires { n ≤ 30 }
-    ensures count { array_vec_len result ≡ n }
-    ensures values { HasValues result.items block.now }
+pub(crate) fn syndromes(remainder: &[u8]) -> ArrayVec<u8, 30>
+    requires { length remainder.now ≤ 30 }
+    ensures count { array_vec_len result ≡ length remainder.now }
+    ensures values { HasValues result.items remainder.now }
 {
     let mut syndromes = ArrayVec::new();
-    for exponent in 0..n {
-        syndromes.push(syndrome(block, exponent as u8));
+    for exponent in 0..remainder.len() {
+        syndromes.push(syndrome(remainder, exponent as u8));
     }
     syndromes
 }

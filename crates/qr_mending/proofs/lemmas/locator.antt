@@ -1,2 +1,2 @@
--- The elimination: what adding a multiple of the pivot does, and that each equation costs at most one polynomial.
-pub mod PoolLemmas
+-- The search for the locator: each step solves one equation more, and the degree stays at most the number of errors.
+pub mod SearchLemmas

@@ -1,7 +1,8 @@
 -- Polynomials with given roots. The coefficient of the lowest power comes first.
-use Rattle.std.specs.Prelude.{ℕ, Bool, true, false, List, [], ◌∷◌, length, bit_xor}
+use Rattle.std.specs.Prelude.{◌≡◌, ℕ, Bool, true, false, List, [], ◌∷◌, ◌++◌, length, bit_xor}
 use Rattle.qr_field.specs.Galois.{product}
 use Rattle.qr_field.specs.Polynomial.{power}
+use Rattle.qr_mending.specs.Steps.Sums.{eval}
 
 -- The product of `p` and x + `root`, with `carry` added to the coefficient of x^0.
 abbrev pub times_root : ℕ → ℕ → List ℕ → List ℕ
@@ -13,3 +14,13 @@ abbrev pub rooted : List Bool → List ℕ → List ℕ
 rooted [] p = p
 rooted (true ∷ erased) p = times_root (power (length erased)) 0 (rooted erased p)
 rooted (false ∷ erased) p = rooted erased p
+
+-- The quotient of `p` by x + `root`, and then a 0, since the quotient has a coefficient less.
+abbrev pub quotient : ℕ → List ℕ → List ℕ
+quotient root [] = []
+quotient root (a ∷ p) = eval root p ∷ quotient root p
+
+-- The leading coefficient, which is the last, is 1.
+pub record HasLeadingOne (p : List ℕ) : Type 0 where
+  pub others : List ℕ
+  pub whole : p ≡ others ++ 1 ∷ []

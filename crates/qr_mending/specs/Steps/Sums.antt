@@ -23,3 +23,7 @@ blend (a ∷ p) i e = bit_xor (product a (value_at i e)) (blend p (i + 1) e)
 -- Item k of `s` is the value of the polynomial `e` at 2 to the power k, from k = 0 on.
 pub record HasValues (s e : List ℕ) : Type 0 where
   pub each : (k : ℕ) → k < length s → slice_index s k ≡ value_at k e
+
+-- The polynomial `r` has the same values as `e` at the first powers of 2, as many as it has coefficients.
+pub record HasSameValues (r e : List ℕ) : Type 0 where
+  pub each : (k : ℕ) → k < length r → value_at k r ≡ value_at k e

@@ -1,19 +1,18 @@
 -- The errors of a damaged block are located by any polynomial that solves the equations. Adding the errors to the
 -- damaged codewords gives the true block.
-use Rattle.std.proofs.Common.{◌≡◌, ℕ, zero, suc, ◌+◌, ◌-◌, ◌*◌, ◌/◌, ◌<◌, ◌≤◌, Option, Some, List, [], ◌∷◌, ◌++◌, length, map, take, drop, get_or, refl, sym, ap, ◌∙◌, subst, arith, bit_xor, length-append}
-use Rattle.std.proofs.lemmas.List.{length-map, length-take, length-take-le, length_push, take_more, take_at, take_rest, take-append-drop, drop_at}
-use Rattle.{std.specs.{List.All, Int.Bits.xor_zero_r}, qr_field.proofs.lemmas.logarithm.PowerLemmas.power-round}
-use Rattle.qr_field.specs.Polynomial.{IsByte, plus, power, IsCorrection}
+use Rattle.std.proofs.Common.{◌≡◌, ℕ, ◌+◌, ◌-◌, ◌*◌, ◌/◌, ◌<◌, ◌≤◌, Option, Some, List, [], ◌∷◌, ◌++◌, length, map, take, drop, refl, sym, ap, ◌∙◌, subst, arith, length-append}
+use Rattle.std.proofs.lemmas.List.{length-map, length-take-le, take_more, take_at, take-append-drop, drop_at}
+use Rattle.{std.specs.{List.All, Int.Bits.{xor_zero_r, xor_self}}}
+use Rattle.qr_field.specs.Polynomial.{IsByte, plus, IsCorrection}
 use Rattle.qr_field.specs.{Distance.{differences, erasures, errors}, Steps.Polynomial.value_at}
-use Rattle.qr_field.proofs.lemmas.galois.{BitLemmas.xor-cancel, ByteLemmas.product-by_one, FieldLemmas.sum-none}
+use Rattle.qr_field.proofs.lemmas.galois.{BitLemmas.xor-cancel, ByteLemmas.product-by_one}
 use Rattle.qr_field.proofs.lemmas.polynomial.{ListLemmas.{length-plus, bytes-plus}, PolynomialLemmas.correction-one}
-use Rattle.qr_field.proofs.lemmas.laws.ValueLemmas.{value-lt, value-plus, block-bytes, block-root}
-use Rattle.qr_field.proofs.lemmas.laws.DistanceLemmas.{weight, weight-plus, difference-same, unambiguous-known, erasures-read, errors-read}
-use Rattle.qr_mending.specs.{Block.{IsBlock, IsMended}, Steps.Polynomial.{all_of, miss_of, IsMonic}}
+use Rattle.qr_field.proofs.lemmas.laws.ValueLemmas.{value-lt, value-plus, value-zero, block-bytes, block-root}
+use Rattle.qr_field.proofs.lemmas.laws.DistanceLemmas.{weight-plus, difference-same, unambiguous-known, erasures-read, errors-read}
+use Rattle.qr_mending.specs.{Block.{IsBlock, IsMended}, Steps.Polynomial.{all_of, IsMonic}}
 use Rattle.qr_mending.specs.{Erasures.IsMendedWithErasures, declared.polynomial.Polynomial.Polynomial}
-use Rattle.qr_mending.specs.Steps.{Sums.{dot_of, eval, blend, HasValues}, Errors.{coefficient, low, IsLocated}}
-use Rattle.qr_mending.proofs.lemmas.{sums.SumLemmas.{dot-blend, blend-push}, errors.SpectrumLemmas.eval-coefficient}
-use Rattle.qr_mending.proofs.lemmas.errors.WeightLemmas.{root-blends, errors-root, coefficient-head, coefficient-tail}
+use Rattle.qr_mending.specs.Steps.{Sums.{HasValues, HasSameValues}, Roots.HasLeadingOne, Errors.{AreFewErrors, IsLocated}}
+use Rattle.qr_mending.proofs.lemmas.locator.SearchLemmas.{weight-zeros}
 
 -- ---- blocks
 
@@ -36,20 +35,6 @@ block-corrects n b h = search (arith, start-block, take_at, drop_at)
 
 -- ---- errors
 
--- item k of the sum of two lists
-get_or-plus : (xs ys : List ℕ) (k : ℕ) → length xs ≡ length ys → k < length xs →
-    get_or (plus xs ys) k 0 ≡ bit_xor (get_or xs k 0) (get_or ys k 0)
-get_or-plus [] ys k e l = absurd (omega arith)
-get_or-plus (x ∷ xs) [] k e l = absurd (omega arith)
-get_or-plus (x ∷ xs) (y ∷ ys) zero e l = refl
-get_or-plus (x ∷ xs) (y ∷ ys) (suc k) e l = get_or-plus xs ys k (omega arith) (omega arith)
-
--- the coefficient at item k of a list, counted from the last item
-coefficient-at : (e : List ℕ) (k : ℕ) → k < length e → coefficient (length e - 1 - k) e ≡ get_or e k 0
-coefficient-at [] k l = absurd (omega arith)
-coefficient-at (c ∷ e) zero l = omega (arith, coefficient-head)
-coefficient-at (c ∷ e) (suc k) l = search (arith, coefficient-tail, coefficient-at e k (omega arith))
-
 -- the first n values of the errors are those of the damaged block
 pub errors-value : (n : ℕ) (damaged b : List ℕ) → IsBlock n b → length b ≡ length damaged →
     All IsByte damaged → (i : ℕ) → i < n → value_at i (plus damaged b) ≡ value_at i damaged
@@ -69,39 +54,39 @@ pub errors-values : (n : ℕ) (damaged b first : List ℕ) → IsBlock n b → l
     All IsByte damaged → HasValues first damaged → length first ≡ n → HasValues first (plus damaged b)
 errors-values n damaged b first block long a h l = search (arith, errors-value)
 
--- the list of all coefficients ends with the leading 1
-pub all-low : (p : Polynomial) → IsMonic p → p.degree < length p.terms → all_of p ≡ take p.degree p.terms ++ 1 ∷ []
-all-low p m l = search (arith, take_more)
+-- the sum of two lists that begin alike has the values of the sum of what follows
+value-front : (i : ℕ) (xs ys zs : List ℕ) → value_at i (plus (xs ++ ys) (xs ++ zs)) ≡ value_at i (plus ys zs)
+value-front i [] ys zs = refl
+value-front i (x ∷ xs) ys zs =
+    let rest = plus (xs ++ ys) (xs ++ zs) in
+    ap (λ t. value_at i (t ∷ rest)) (xor_self x) ∙ (value-zero i rest ∙ value-front i xs ys zs)
 
--- if a polynomial has a root for each error, it locates the errors
-pub roots-locate : (q w e : List ℕ) → q ≡ w ++ 1 ∷ [] → All IsByte q → All IsByte e → length e ≤ 255 →
-    ((m : ℕ) → m < length e → (eval (power m) q ≡ 0 → ⊥) → coefficient m e ≡ 0) → IsLocated q e
-roots-locate q w e split bytes le small roots =
-    let below : length q - 1 ≡ length w = omega (arith, ap length split, length_push w 1) in
-    let rest : low q ≡ w = search (arith, take_at) in
-    let all = root-blends q e bytes le roots in
+-- the remainder of a block has its first values
+pub remainder-values : (n k : ℕ) (damaged correction r : List ℕ) → All IsByte damaged → k + n ≡ length damaged →
+    IsCorrection (take k damaged) n correction → r ≡ plus (drop k damaged) correction → length r ≡ n →
+    HasSameValues r damaged
+remainder-values n k damaged correction r a long corrects sum count =
+    let start = take k damaged in
+    let rest = drop k damaged in
+    let b = start ++ correction in
+    let block : IsBlock n b = record { message = start; correction = correction; whole = refl; corrects = corrects } in
+    let same : length b ≡ length damaged =
+    omega (arith, length-append start correction, length-take-le k damaged (omega (arith, long)), corrects.count, long) in
     record {
-      bytes = le;
-      most = small;
-      recurrence = λ i.
-          let joined : bit_xor (blend w i e) (value_at (i + length w) e) ≡ 0 = cc (blend-push w i e le, split, all i) in
-          search (arith, sum-none);
-      roots = roots;
+      each = λ i l.
+          ap (value_at i) sum
+          ∙ (sym (value-front i start rest correction)
+          ∙ (ap (λ t. value_at i (plus t b)) (take-append-drop k damaged)
+          ∙ errors-value n damaged b block same a i (omega (arith, l, count))));
     }
 
--- if there are at most t errors, a polynomial that solves the first t equations of their values has a root for each of
--- them
-pub solved-root : (t : ℕ) (e first q : List ℕ) (p : Polynomial) → All IsByte e → length e ≤ 255 →
-    weight e ≤ t → HasValues first e → 2 * t ≤ length first → p.degree ≤ t → p.degree < length p.terms →
-    All IsByte q → q ≡ all_of p → ((i : ℕ) → i < t → miss_of p (drop i first) ≡ 0) → (m : ℕ) →
-    m < length e → (eval (power m) q ≡ 0 → ⊥) → coefficient m e ≡ 0
-solved-root t e first q p le small few values long d fits bytes same solved =
-    let count : length q ≡ p.degree + 1 = search (arith, length-take-le) in
-    errors-root t q e bytes le small few (λ i g. cc (
-      dot-blend q i first e values (omega (arith, g, count, long, d)),
-      same,
-      solved i g,
-    ))
+-- the values of a remainder are those of the damaged block
+pub same-values : (s r e : List ℕ) → HasValues s r → HasSameValues r e → length s ≡ length r → HasValues s e
+same-values s r e h same l = record { each = λ k m. h.each k m ∙ same.each k (omega (arith, m, l)) }
+
+-- the list of all coefficients ends with the leading 1
+pub all-leading : (p : Polynomial) → IsMonic p → p.degree < length p.terms → HasLeadingOne (all_of p)
+all-leading p m l = record { others = take p.degree p.terms; whole = search (arith, take_more) }
 
 -- adding the difference of two lists to the first list gives the second list
 pub plus-cancel : (xs ys : List ℕ) → length xs ≡ length ys → plus xs (plus xs ys) ≡ ys
@@ -109,54 +94,24 @@ plus-cancel [] ys h = refl
 plus-cancel (x ∷ xs) [] h = absurd (omega arith)
 plus-cancel (x ∷ xs) (y ∷ ys) h = cc (xor-cancel x y, plus-cancel xs ys (omega arith))
 
--- one codeword more, without its error
-pub sum-more : (xs errors items new : List ℕ) (k error : ℕ) → length errors ≡ length xs → k < length xs →
-    error ≡ coefficient (length xs - 1 - k) errors → items ≡ take k (plus xs errors) →
-    new ≡ items ++ bit_xor (get_or xs k 0) error ∷ [] → new ≡ take (k + 1) (plus xs errors)
-sum-more xs errors items new k error long l h same push =
-    let count : length (plus xs errors) ≡ length errors = length-plus xs errors (omega (arith, long)) in
-    cc (
-      coefficient-at errors k (omega (arith, long, l)),
-      get_or-plus xs errors k (sym long) l,
-      take_more (plus xs errors) k 0 (omega (arith, l, long, count)),
-    )
-
--- ---- the values of the errors
-
--- the next value of located errors follows from the values before it
-pub value-next : (p series e : List ℕ) (v : ℕ) → IsLocated p e → HasValues series e → length p ≤ length series + 1 →
-    v ≡ dot_of (low p) (take (length series - (length series - (length p - 1))) (drop (length series - (length p - 1)) series)) →
-    v ≡ value_at (length series) e
-value-next p series e v h s l d = search (arith, length-take, take_rest, dot-blend)
-
--- the error at index `place` is the value of the series at the inverse of its power
-pub inverse-coefficient : (place inverse v x : ℕ) (p series e : List ℕ) → IsLocated p e →
-    HasValues series e → length series ≡ 255 → place < 255 → x ≡ power inverse → v ≡ eval x series →
-    power inverse ≡ power (255 - place) → v ≡ coefficient place e
-inverse-coefficient place inverse v x p series e h s l m ex ev turn = search (arith, eval-coefficient)
-
--- the inverse of 2 to the power 0
-pub inverse-one : (place inverse : ℕ) → place ≡ 0 → inverse ≡ 0 → power inverse ≡ power (255 - place)
-inverse-one place inverse e f = cc (power-round)
-
 -- ---- the whole list
 
 -- the damaged codewords without their located errors are the true block
-pub errors-leave : (n t : ℕ) (damaged first q items : List ℕ) (p : Polynomial) → 2 * t ≤ n → length damaged ≤ 255 →
-    All IsByte damaged → HasValues first damaged → length first ≡ n → p.degree ≤ t → IsMonic p →
-    p.degree < length p.terms → All IsByte q → q ≡ all_of p → ((i : ℕ) → i < t → miss_of p (drop i first) ≡ 0) →
+pub errors-leave : (n t : ℕ) (damaged first q items : List ℕ) → length damaged ≤ 255 → All IsByte damaged →
+    HasValues first damaged → length first ≡ n → ((e : List ℕ) → AreFewErrors t first e → IsLocated q e) →
     ((e : List ℕ) → length e ≡ length damaged → IsLocated q e → HasValues first e → items ≡ plus damaged e) →
     (b : List ℕ) → IsMended n t damaged b → items ≡ b
-errors-leave n t damaged first q items p half most a h l d monic fits bytes same solved sum b m =
+errors-leave n t damaged first q items most a h l located sum b m =
     let e = plus damaged b in
     let count : length e ≡ length b = length-plus damaged b (omega (arith, m.long)) in
-    let le : All IsByte e = bytes-plus damaged b a (bytes-block n b m.block) in
     let ve = errors-values n damaged b first m.block m.long a h l in
-    let small : length e ≤ 255 = omega (arith, count, m.long) in
-    let few : weight e ≤ t = omega (arith, weight-plus damaged b (sym m.long), m.near) in
-    let roots = solved-root t e first q p le small few ve (omega (arith, half, l)) d fits bytes same solved in
-    let located = roots-locate q (take p.degree p.terms) e (same ∙ all-low p monic fits) bytes le small roots in
-    search (arith, plus-cancel)
+    let few : AreFewErrors t first e = record {
+      bytes = bytes-plus damaged b a (bytes-block n b m.block);
+      most = omega (arith, count, m.long);
+      few = omega (arith, weight-zeros e, weight-plus damaged b (sym m.long), m.near);
+      values = ve;
+    } in
+    sum e (omega (arith, count, m.long)) (located e few) ve ∙ plus-cancel damaged b (sym m.long)
 
 -- ---- the checks
 

@@ -1,8 +1,9 @@
 -- Erased codewords. Each error is multiplied by the value of a polynomial that has a root for each erased codeword. Then
 -- only as many errors are left as codewords were misread. A polynomial that locates the errors left, times those roots,
 -- locates all errors.
-use Rattle.std.proofs.Common.{◌≡◌, ℕ, zero, suc, ◌+◌, ◌-◌, ◌*◌, ◌/◌, ◌<◌, ◌≤◌, Bool, true, false, Some, List, [], ◌∷◌, ◌++◌, length, map, replicate, take, drop, get_or, refl, sym, ap, ◌∙◌, arith, lit<, bit_xor}
+use Rattle.std.proofs.Common.{◌≡◌, ℕ, zero, suc, ◌+◌, ◌-◌, ◌/◌, ◌<◌, ◌≤◌, Bool, true, false, Option, None, Some, List, [], ◌∷◌, ◌++◌, length, map, replicate, drop, get_or, refl, sym, ap, ◌∙◌, arith, lit<, bit_xor}
 use Rattle.std.proofs.lemmas.List.{drop_more, Elements.{All-nil, All-cons, All-head, All-tail}}
+use Rattle.std.specs.Prelude.{IfSome, IfNone}
 use Rattle.std.specs.{List.All, List.count_by, Int.Bits.xor_self}
 use Rattle.qr_field.specs.{Galois.product, Steps.Polynomial.value_at}
 use Rattle.qr_field.specs.{Polynomial.{IsByte, plus, power}, Distance.{difference, erasures, errors}}
@@ -10,13 +11,14 @@ use Rattle.qr_field.proofs.lemmas.galois.ByteLemmas.{product-by_zero, product-of
 use Rattle.qr_field.proofs.lemmas.{logarithm.PowerLemmas.power-lt, galois.FieldLemmas.{product-factor, sum-none}}
 use Rattle.qr_field.proofs.lemmas.polynomial.ListLemmas.{length-plus, bytes-plus}
 use Rattle.qr_field.proofs.lemmas.laws.DistanceLemmas.{weight, difference-same, difference-alike}
-use Rattle.qr_mending.specs.{Erasures.read_of, Erasures.IsMendedWithErasures, declared.polynomial.Polynomial.Polynomial}
+use Rattle.qr_mending.specs.{Erasures.read_of, Erasures.IsMendedWithErasures}
 use Rattle.qr_mending.specs.Steps.{Sums.{dot_of, eval, HasValues}, Roots.rooted}
-use Rattle.qr_mending.specs.Steps.{Polynomial.{all_of, miss_of, IsMonic}, Errors.{coefficient, weighted, IsLocated}}
+use Rattle.qr_mending.specs.Steps.{Errors.{coefficient, weighted, AreFewErrors, IsLocated}}
 use Rattle.qr_mending.proofs.lemmas.sums.SumLemmas.{dot-blend, eval-lt, values-more}
 use Rattle.qr_mending.proofs.lemmas.errors.WeightLemmas.{length-weighted, bytes-weighted, difference-product, weighted-value, coefficient-lt, coefficient-weighted}
-use Rattle.qr_mending.proofs.lemmas.roots.RootLemmas.{count-more, bytes-rooted, monic-rooted, eval-rooted, has-roots, rooted-roots}
-use Rattle.qr_mending.proofs.lemmas.block.BlockLemmas.{bytes-block, errors-values, all-low, roots-locate, solved-root, plus-cancel}
+use Rattle.qr_mending.proofs.lemmas.roots.RootLemmas.{count-more, bytes-rooted, eval-rooted, has-roots, rooted-roots}
+use Rattle.qr_mending.proofs.lemmas.block.BlockLemmas.{bytes-block, errors-values, plus-cancel}
+use Rattle.qr_mending.proofs.lemmas.locator.SearchLemmas.{weight-zeros}
 
 -- ---- what was read
 
@@ -32,6 +34,25 @@ pub read-unmarked : (xs : List ℕ) (k : ℕ) → read_of xs (replicate k false)
 read-unmarked [] k = refl
 read-unmarked (x ∷ xs) zero = ap (λ z. Some x ∷ z) (read-unmarked xs zero)
 read-unmarked (x ∷ xs) (suc k) = ap (λ z. Some x ∷ z) (read-unmarked xs k)
+
+-- nor is one if no mark is true
+pub read-none : (xs : List ℕ) (es : List Bool) → length es ≡ length xs → count_by (λ e. e) es ≡ 0 →
+    read_of xs es ≡ map (λ x. Some x) xs
+read-none [] es h none = refl
+read-none (x ∷ xs) [] h none = absurd (omega arith)
+read-none (x ∷ xs) (true ∷ es) h none = absurd (omega (arith, count-more true es))
+read-none (x ∷ xs) (false ∷ es) h none =
+    ap (λ z. Some x ∷ z) (read-none xs es (omega (arith, h)) (omega (arith, none, count-more false es)))
+
+-- what follows from a fact about the value, if there is one
+pub some-follows : (o : Option ℕ) (P Q : ℕ → Type 0) → IfSome o P → ((x : ℕ) → P x → Q x) → IfSome o Q
+some-follows None P Q p f = tt
+some-follows (Some x) P Q p f = f x p
+
+-- what follows from a fact that holds if there is no value
+pub none-follows : (o : Option ℕ) (P Q : Type 0) → IfNone o P → (P → Q) → IfNone o Q
+none-follows None P Q p f = f p
+none-follows (Some x) P Q p f = tt
 
 -- no codeword is misread beside what was read itself
 pub errors-self : (xs : List ℕ) (es : List Bool) → errors (read_of xs es) xs ≡ 0
@@ -138,36 +159,30 @@ joined-root es q e lq le roots m l n =
     (sym (coefficient-weighted m g e (bytes-unread es)) ∙ roots m (omega (arith, length-weighted g e, l)) other)
 
 -- the damaged codewords with erasures, without their located errors, are the true block
-pub erasures-leave : (n spare t : ℕ) (damaged first modified items : List ℕ) (es : List Bool) (p : Polynomial) →
+pub erasures-leave : (n spare t : ℕ) (damaged first modified q items : List ℕ) (es : List Bool) →
     length damaged ≤ 255 → length es ≡ length damaged → All IsByte damaged → HasValues first damaged → length first ≡ n →
     ((e : List ℕ) → All IsByte e → HasValues first e → HasValues modified (weighted (unread es) e)) →
-    2 * t ≤ length modified → p.degree ≤ t → IsMonic p → p.degree < length p.terms → All IsByte (all_of p) →
-    ((i : ℕ) → i < t → miss_of p (drop i modified) ≡ 0) →
-    ((e : List ℕ) → length e ≡ length damaged → IsLocated (rooted es (all_of p)) e → HasValues first e →
+    All IsByte q → ((e : List ℕ) → AreFewErrors t modified e → IsLocated q e) →
+    ((e : List ℕ) → length e ≡ length damaged → IsLocated (rooted es q) e → HasValues first e →
     items ≡ plus damaged e) →
     t ≡ (spare - count_by (λ e. e) es) / 2 → (b : List ℕ) → IsMendedWithErasures n spare (read_of damaged es) b → items ≡ b
-erasures-leave n spare t damaged first modified items es p most marks a h l left half d monic fits bytes solved sum tolerance b m =
+erasures-leave n spare t damaged first modified q items es most marks a h l left bytes located sum tolerance b m =
     let long : length b ≡ length damaged = m.long ∙ length-read damaged es in
     let near : errors (read_of damaged es) b ≤ t = omega (arith, m.near, erasures-marked damaged es marks, tolerance) in
     let e = plus damaged b in
-    let q = all_of p in
     let count : length e ≡ length b = length-plus damaged b (omega (arith, long)) in
     let le = bytes-plus damaged b a (bytes-block n b m.block) in
     let ve = errors-values n damaged b first m.block long a h l in
     let small : length e ≤ 255 = omega (arith, count, long, most) in
     let g = unread es in
-    let lg = bytes-unread es in
+    let rest = weighted g e in
     let none = rooted-roots es (1 ∷ []) (All-cons IsByte 1 [] (lit< tt) (All-nil IsByte)) in
-    let few : weight (weighted g e) ≤ t = omega (
-      arith,
-      weighted-few g damaged b es lg le (sym long) marks none,
-      near,
-    ) in
-    let roots = solved-root t (weighted g e) modified q p (bytes-weighted g e le)
-    (omega (arith, length-weighted g e, small)) few
-    (left e le ve) half d fits bytes refl solved in
-    let all = monic-rooted es (take p.degree p.terms) in
-    let split : rooted es q ≡ all.0 ++ 1 ∷ [] = ap (rooted es) (all-low p monic fits) ∙ all.1 in
-    let located = roots-locate (rooted es q) all.0 e split (bytes-rooted es q bytes) le small
-    (joined-root es q e bytes le roots) in
-    sum e (omega (arith, count, long)) located ve ∙ plus-cancel damaged b (sym long)
+    let few : AreFewErrors t modified rest = record {
+      bytes = bytes-weighted g e le;
+      most = omega (arith, length-weighted g e, small);
+      few = omega (arith, weight-zeros rest, weighted-few g damaged b es (bytes-unread es) le (sym long) marks none, near);
+      values = left e le ve;
+    } in
+    let all : IsLocated (rooted es q) e =
+    record { bytes = le; most = small; roots = joined-root es q e bytes le (located rest few).roots } in
+    sum e (omega (arith, count, long)) all ve ∙ plus-cancel damaged b (sym long)

@@ -80,7 +80,7 @@ weighted-value (a ∷ p) i e lp le =
     ∙ ap (bit_xor (product a (value_at i e))) (weighted-value p (i + 1) e lps le)
 
 -- if there are at most t errors and their first t sums are 0, all products are 0
-weighted-none : (t : ℕ) (p e : List ℕ) → All IsByte p → All IsByte e → length e ≤ 255 → weight e ≤ t →
+pub weighted-none : (t : ℕ) (p e : List ℕ) → All IsByte p → All IsByte e → length e ≤ 255 → weight e ≤ t →
     ((i : ℕ) → i < t → blend p i e ≡ 0) → weight (weighted p e) ≡ 0
 weighted-none t p e lp le most few h =
     let w = weight-weighted p e lp le in

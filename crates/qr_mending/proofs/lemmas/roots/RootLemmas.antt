@@ -1,13 +1,13 @@
 -- Polynomials with given roots: their lengths, their leading coefficients and their values.
-use Rattle.std.proofs.Common.{◌≡◌, ℕ, ◌+◌, ◌-◌, ◌<◌, ◌≤◌, Bool, true, false, if◌then◌else◌, List, [], ◌∷◌, ◌++◌, length, drop, get_or, refl, ap, arith, bit_xor}
-use Rattle.std.proofs.lemmas.{Nat.{xor_of_8, xor_comm}, List.Elements.{All-nil, All-cons, All-head, All-tail}}
+use Rattle.std.proofs.Common.{◌≡◌, ℕ, zero, suc, ◌+◌, ◌-◌, ◌<◌, ◌≤◌, Bool, true, false, if◌then◌else◌, List, [], ◌∷◌, ◌++◌, length, take, drop, get_or, set, refl, ap, ◌∙◌, arith, bit_xor}
+use Rattle.std.proofs.lemmas.{Nat.{xor_of_8, xor_comm}, List.{drop_more, take_at, length_push}, List.Elements.{All-nil, All-cons, All-head, All-tail}}
 use Rattle.std.proofs.lemmas.List.Sums.{sum_by-cons, sum_by-take-drop, sum_by-drop_more}
 use Rattle.std.specs.{List.{All, count_by, sum_by}, Int.Bits.{xor_assoc, xor_zero_l, xor_zero_r, xor_self}}
 use Rattle.qr_field.specs.{Galois.product, Polynomial.IsByte, Polynomial.power}
 use Rattle.qr_field.proofs.lemmas.galois.ByteLemmas.{product-by_zero, product-of_zero, product-of_one}
 use Rattle.qr_field.proofs.lemmas.{galois.ProductLemmas.{product-lt, product-xor}, logarithm.PowerLemmas.power-lt}
-use Rattle.qr_field.proofs.lemmas.galois.FieldLemmas.{product-assoc, product-front, product-by_sum}
-use Rattle.qr_mending.{specs.Steps.{Sums.eval, Roots.{times_root, rooted}}, proofs.lemmas.sums.SumLemmas.eval-lt}
+use Rattle.qr_field.proofs.lemmas.galois.{BitLemmas.xor-cancel, FieldLemmas.{product-assoc, product-comm, product-front, product-by_sum, product-factor, sum-none}}
+use Rattle.qr_mending.{specs.Steps.{Sums.eval, Roots.{times_root, rooted, quotient, HasLeadingOne}}, proofs.lemmas.sums.SumLemmas.{eval-lt, field_laws}}
 
 -- ---- one root
 
@@ -92,13 +92,18 @@ bytes-rooted (true ∷ es) p lp = search (arith, bytes-times_root, power-lt, byt
 bytes-rooted (false ∷ es) p lp = bytes-rooted es p lp
 
 -- the product keeps the leading 1
-pub monic-rooted : (es : List Bool) (w : List ℕ) → (v : List ℕ) × (rooted es (w ++ 1 ∷ []) ≡ v ++ 1 ∷ [])
+monic-rooted : (es : List Bool) (w : List ℕ) → (v : List ℕ) × (rooted es (w ++ 1 ∷ []) ≡ v ++ 1 ∷ [])
 monic-rooted [] w = (w, refl)
 monic-rooted (true ∷ es) w =
     let rest = monic-rooted es w in
     let one = monic-times_root (power (length es)) 0 rest.0 in
     search arith
 monic-rooted (false ∷ es) w = monic-rooted es w
+
+pub rooted-leading : (es : List Bool) (p : List ℕ) → HasLeadingOne p → HasLeadingOne (rooted es p)
+rooted-leading es p h =
+    let all = monic-rooted es h.others in
+    record { others = all.0; whole = ap (rooted es) h.whole ∙ all.1 }
 
 -- the value of the product is the value of the polynomial times that of the factor
 pub eval-rooted : (y : ℕ) (es : List Bool) (p : List ℕ) → y < 256 → All IsByte p →
@@ -149,3 +154,142 @@ rooted-roots (true ∷ es) p lp =
       rooted-roots es p lp,
     )
 rooted-roots (false ∷ es) p lp = rooted-roots es p lp
+
+-- ---- division by x + root
+
+-- one coefficient more
+quotient-terms : (y r a h v : ℕ) → y < 256 → r < 256 → a < 256 → h < 256 → v < 256 →
+    bit_xor a (product y (bit_xor (product (bit_xor y r) h) v))
+    ≡ bit_xor (product (bit_xor y r) (bit_xor v (product y h))) (bit_xor a (product r v))
+quotient-terms y r a h v ly lr la lh lv = simp (field_laws, xor-cancel, xor_of_8)
+
+-- the quotient has bytes as coefficients
+bytes-quotient : (r : ℕ) (p : List ℕ) → r < 256 → All IsByte p → All IsByte (quotient r p)
+bytes-quotient r [] lr lp = All-nil IsByte
+bytes-quotient r (a ∷ p) lr lp =
+    let lps = All-tail IsByte a p lp in
+    All-cons IsByte (eval r p) (quotient r p) (eval-lt r p lr lps) (bytes-quotient r p lr lps)
+
+-- the quotient is followed by 0, so it has as many coefficients
+length-quotient : (r : ℕ) (p : List ℕ) → length (quotient r p) ≡ length p
+length-quotient r [] = refl
+length-quotient r (a ∷ p) = ap suc (length-quotient r p)
+
+-- a value is that of the quotient times that of the factor, plus the remainder
+eval-quotient : (y r : ℕ) (p : List ℕ) → y < 256 → r < 256 → All IsByte p →
+    eval y p ≡ bit_xor (product (bit_xor y r) (eval y (quotient r p))) (eval r p)
+eval-quotient y r [] ly lr lp = simp (product-by_zero, xor_of_8, xor_zero_l)
+eval-quotient y r (a ∷ p) ly lr lp =
+    let la = All-head IsByte a p lp in
+    let lps = All-tail IsByte a p lp in
+    let h = eval y (quotient r p) in
+    let v = eval r p in
+    let lh = eval-lt y (quotient r p) ly (bytes-quotient r p lr lps) in
+    ap (λ t. bit_xor a (product y t)) (eval-quotient y r p ly lr lps)
+    ∙ quotient-terms y r a h v ly lr la lh (eval-lt r p lr lps)
+
+-- the quotient of a polynomial with a leading 1 and more coefficients
+quotient-leading : (r a : ℕ) (w : List ℕ) → r < 256 →
+    (v : List ℕ) × (quotient r (a ∷ (w ++ 1 ∷ [])) ≡ (v ++ 1 ∷ []) ++ 0 ∷ [])
+quotient-leading r a [] lr = ([], let none = product-by_zero r lr in cc (none, xor_zero_r 1))
+quotient-leading r a (b ∷ w) lr =
+    let rest = quotient-leading r b w lr in
+    (eval r (b ∷ (w ++ 1 ∷ [])) ∷ rest.0, ap (λ t. eval r (b ∷ (w ++ 1 ∷ [])) ∷ t) rest.1)
+
+-- 0 after the coefficients does not change a value
+eval-blank : (y : ℕ) (p : List ℕ) → y < 256 → eval y (p ++ 0 ∷ []) ≡ eval y p
+eval-blank y [] ly = let none = product-by_zero y ly in cc (none, xor_zero_r 0)
+eval-blank y (a ∷ p) ly = ap (λ t. bit_xor a (product y t)) (eval-blank y p ly)
+
+-- what a polynomial becomes when it is divided by x + root, if this is its root
+pub record IsDivided (r : ℕ) (p n : List ℕ) : Type 0 where
+  pub leading : HasLeadingOne n
+  pub shorter : length n + 1 ≡ length p
+  pub others : (y : ℕ) → y < 256 → (y ≡ r → ⊥) → eval y p ≡ 0 → eval y n ≡ 0
+
+-- division, where the leading 1 is shown
+divided-split : (r : ℕ) (w p n : List ℕ) → r < 256 → All IsByte p → p ≡ w ++ 1 ∷ [] → eval r p ≡ 0 →
+    n ≡ take (length (quotient r p) - 1) (quotient r p) → IsDivided r p n
+divided-split r [] p n lr lp split root same =
+    let none = product-by_zero r lr in
+    let one : eval r p ≡ bit_xor 1 0 = ap (eval r) split ∙ ap (bit_xor 1) none in
+    let other : bit_xor 1 0 ≡ 1 = xor_zero_r 1 in
+    absurd (omega (arith, one, other, root))
+divided-split r (a ∷ w) p n lr lp split root same =
+    let q = quotient r p in
+    let led = quotient-leading r a w lr in
+    let v = led.0 in
+    let whole : q ≡ (v ++ 1 ∷ []) ++ 0 ∷ [] = ap (quotient r) split ∙ led.1 in
+    let long = length-quotient r p in
+    let lq = bytes-quotient r p lr lp in
+    let count : length q ≡ length (v ++ 1 ∷ []) + 1 = ap length whole ∙ length_push (v ++ 1 ∷ []) 0 in
+    let cut : length q - 1 ≡ length (v ++ 1 ∷ []) = omega (arith, count) in
+    let rest : n ≡ v ++ 1 ∷ [] = same ∙ (ap (λ t. take t q) cut ∙ (ap (take (length (v ++ 1 ∷ []))) whole ∙ take_at (v ++ 1 ∷ []) (0 ∷ []) (length (v ++ 1 ∷ [])) refl)) in
+    record {
+      leading = record { others = v; whole = rest };
+      shorter = omega (arith, ap length rest, count, long);
+      others = λ y ly n z.
+          let value = eval y q in
+          let lv = eval-lt y q ly lq in
+          let lf = xor_of_8 y r ly lr in
+          let all : product (bit_xor y r) value ≡ 0 =
+          cc (eval-quotient y r p ly lr lp, z, root, xor_zero_r (product (bit_xor y r) value)) in
+          let none : value ≡ 0 =
+          product-factor value (bit_xor y r) lv lf (λ e. n (sum-none y r e)) (product-comm value (bit_xor y r) lv lf ∙ all) in
+          cc (rest, whole, eval-blank y (v ++ 1 ∷ []) ly, none);
+    }
+
+-- the polynomial after a division without remainder
+pub divided : (r : ℕ) (p q n : List ℕ) → r < 256 → All IsByte p → HasLeadingOne p → eval r p ≡ 0 →
+    q ≡ quotient r p → n ≡ take (length q - 1) q → IsDivided r p n
+divided r p q n lr lp leading root same cut =
+    divided-split r leading.others p n lr lp leading.whole root (cut ∙ ap (λ t. take (length t - 1) t) same)
+
+-- ---- the loop of the division
+
+-- the coefficient that is read
+divided-get : (old q : List ℕ) (i : ℕ) → i < length old → get_or (take (suc i) old ++ q) i 0 ≡ get_or old i 0
+divided-get [] q i l = absurd (omega arith)
+divided-get (x ∷ old) q zero l = refl
+divided-get (x ∷ old) q (suc i) l = divided-get old q i (omega arith)
+
+-- the coefficient that is written
+divided-set : (old q : List ℕ) (i v : ℕ) → i < length old → set (take (suc i) old ++ q) i v ≡ take i old ++ v ∷ q
+divided-set [] q i v l = absurd (omega arith)
+divided-set (x ∷ old) q zero v l = refl
+divided-set (x ∷ old) q (suc i) v l = ap (λ t. x ∷ t) (divided-set old q i v (omega arith))
+
+-- one coefficient more of the quotient
+pub divided-more : (r k v : ℕ) (old now : List ℕ) → 0 < k → k ≤ length old →
+    now ≡ take k old ++ quotient r (drop k old) → v ≡ eval r (drop k old) →
+    set now (k - 1) v ≡ take (k - 1) old ++ quotient r (drop (k - 1) old)
+divided-more r k v old now some l same value =
+    let i = k - 1 in
+    let next : suc i ≡ k = omega (arith, some) in
+    let other : i + 1 ≡ k = omega (arith, some) in
+    cc (
+      same,
+      value,
+      next,
+      other,
+      drop_more old i 0 (omega (arith, some, l)),
+      divided-set old (quotient r (drop k old)) i v (omega (arith, some, l)),
+    )
+
+-- one coefficient more of the value
+pub value-more_divided : (r k v m : ℕ) (old now : List ℕ) → 0 < k → k ≤ length old →
+    now ≡ take k old ++ quotient r (drop k old) → v ≡ eval r (drop k old) → m ≡ product r v →
+    bit_xor (get_or now (k - 1) 0) m ≡ eval r (drop (k - 1) old)
+value-more_divided r k v m old now some l same value product =
+    let i = k - 1 in
+    let next : suc i ≡ k = omega (arith, some) in
+    let other : i + 1 ≡ k = omega (arith, some) in
+    cc (
+      same,
+      value,
+      product,
+      next,
+      other,
+      drop_more old i 0 (omega (arith, some, l)),
+      divided-get old (quotient r (drop k old)) i (omega (arith, some, l)),
+    )

@@ -1,5 +1,6 @@
-use Rattle.qr_mending.specs.Steps.Polynomial.{IsPool}
+use Rattle.std.proofs.Common.{◌≤◌}
+use Rattle.qr_mending.specs.Steps.Polynomial.{IsSearch}
 use Rattle.qr_mending.proofs.locator.locator.Given as goal
 
 abbrev pub invariant-loop-i : goal.invariant-loop-i
-invariant-loop-i l = IsPool l.t l.i l.syndromes l.pool.items
+invariant-loop-i l = IsSearch l.i l.syndromes l.search × (l.search.best.degree ≤ l.t)

@@ -2,4 +2,4 @@ use Rattle.{std.proofs.Common.◌≡◌, arrayvec.specs.ArrayVec.array_vec_len, 
 use Rattle.qr_mending.proofs.sums.syndromes.Given as goal
 
 abbrev pub invariant-loop-exponent : goal.invariant-loop-exponent
-invariant-loop-exponent l = (array_vec_len l.syndromes ≡ l.exponent) × HasValues l.syndromes.items l.block
+invariant-loop-exponent l = (array_vec_len l.syndromes ≡ l.exponent) × HasValues l.syndromes.items l.remainder

@@ -1,0 +1,240 @@
+-- The search for the locator: what adding a multiple of a shifted polynomial does, and that its degree stays below the
+-- number of errors.
+use Rattle.std.proofs.Common.{◌≡◌, ℕ, zero, suc, ◌+◌, ◌-◌, ◌*◌, ◌<◌, ◌≤◌, List, [], ◌∷◌, ◌++◌, length, take, drop, get_or, set, refl, sym, ap, ◌∙◌, subst, inl, inr, arith, lit<, bit_xor, append_assoc, length-append}
+use Rattle.std.proofs.{lemmas.Bool.cases_lt, Math.Numerals.suc-eq-add-one}
+use Rattle.std.proofs.lemmas.List.{length-take, length-map, take_all, get_or-take, get_or-append-add, drop-drop, take_more_set, take_more, length-replicate}
+use Rattle.std.proofs.lemmas.List.Elements.{All-nil, All-cons, All-head, All-tail, All-drop}
+use Rattle.std.specs.{List.All, Int.Bits.{xor_zero_l, xor_self}}
+use Rattle.qr_field.specs.{Galois.product}
+use Rattle.qr_field.specs.{Polynomial.{IsByte, plus, scaled, zeros}, Distance.{differences}}
+use Rattle.qr_field.proofs.lemmas.{galois.ByteLemmas.{product-by_zero, product-of_zero}, polynomial.ListLemmas.{take-plus, length-plus, bytes-plus, bytes-scaled}}
+use Rattle.qr_field.proofs.lemmas.laws.DistanceLemmas.{weight, value-none}
+use Rattle.qr_mending.specs.declared.{polynomial.Polynomial.Polynomial, locator.Search.Search}
+use Rattle.qr_mending.specs.Steps.Polynomial.{all_of, IsMonic, miss_of, IsBest, IsSearch}
+use Rattle.qr_mending.specs.Steps.{Sums.{dot_of, blend}, Errors.{weighted, AreFewErrors, IsLocated}}
+use Rattle.qr_mending.proofs.lemmas.sums.SumLemmas.{dot-plus, dot-blend}
+use Rattle.qr_mending.proofs.lemmas.errors.WeightLemmas.{weighted-none, weighted-value, errors-root}
+
+-- ---- sums of a polynomial and a multiple
+
+-- one coefficient more
+pub plus-set : (f : ℕ) (o t : List ℕ) (j : ℕ) → j < length o → j < length t →
+    set (plus (scaled f (take j o)) t) j (bit_xor (product f (get_or o j 0)) (get_or t j 0)) ≡ plus (scaled f (take (suc j) o)) t
+plus-set f [] t j l h = absurd (omega arith)
+plus-set f (x ∷ o) [] j l h = absurd (omega arith)
+plus-set f (x ∷ o) (y ∷ t) zero l h = refl
+plus-set f (x ∷ o) (y ∷ t) (suc j) l h = cc (plus-set f o t j (omega arith) (omega arith))
+
+-- one coefficient more, stated with the variables of the loop
+pub plus-more : (f : ℕ) (o t now : List ℕ) (j m : ℕ) → j < length o → j < length t →
+    now ≡ plus (scaled f (take j o)) t → m ≡ product f (get_or o j 0) →
+    set now j (bit_xor m (get_or t j 0)) ≡ plus (scaled f (take (j + 1) o)) t
+plus-more f o t now j m l h e g = cc (plus-set f o t j l h, suc-eq-add-one j)
+
+-- the items after the end of the shorter list stay the same
+plus-beyond : (xs ys : List ℕ) (k : ℕ) → length xs ≤ k → get_or (plus xs ys) k 0 ≡ get_or ys k 0
+plus-beyond [] ys k l = refl
+plus-beyond (x ∷ xs) [] zero l = absurd (omega arith)
+plus-beyond (x ∷ xs) [] (suc k) l = past xs k (omega arith)
+  where
+    past : (zs : List ℕ) (k : ℕ) → length zs ≤ k → get_or zs k 0 ≡ 0
+    past [] k l = refl
+    past (z ∷ zs) zero l = absurd (omega arith)
+    past (z ∷ zs) (suc k) l = past zs k (omega arith)
+plus-beyond (x ∷ xs) (y ∷ ys) zero l = absurd (omega arith)
+plus-beyond (x ∷ xs) (y ∷ ys) (suc k) l = plus-beyond xs ys k (omega arith)
+
+-- a multiple of the first j coefficients has at most j coefficients
+length-multiple : (f j : ℕ) (o : List ℕ) → length (scaled f (take j o)) ≤ j
+length-multiple f j o = search (arith, length-map, length-take)
+
+-- the leading coefficient stays the same
+pub leading-stays : (f j d : ℕ) (o t now : List ℕ) → j ≤ d → now ≡ plus (scaled f (take j o)) t →
+    get_or t d 0 ≡ 1 → get_or now d 0 ≡ 1
+leading-stays f j d o t now l e h = search (arith, plus-beyond, length-multiple)
+
+-- the sum with all coefficients of the multiple
+pub sum-all : (f j k d : ℕ) (o t now : List ℕ) → j ≡ k + 1 → k < d →
+    now ≡ plus (scaled f (take j o)) t → take (d + 1) now ≡ plus (scaled f (take (k + 1) o)) (take (d + 1) t)
+sum-all f j k d o t now s l e = search (arith, take-plus, take_all, length-multiple)
+
+-- ---- shifted polynomials
+
+-- one coefficient more
+pub shift-more : (a k v : ℕ) (p now : List ℕ) → a + k < length now → k < length p →
+    take (a + k) now ≡ zeros a ++ take k p → v ≡ get_or p k 0 →
+    take (a + (k + 1)) (set now (a + k) v) ≡ zeros a ++ take (k + 1) p
+shift-more a k v p now l m same value =
+    let next : a + (k + 1) ≡ a + k + 1 = omega arith in
+    cc (
+      next,
+      take_more_set now (a + k) v l,
+      same,
+      value,
+      append_assoc (zeros a) (take k p) (v ∷ []),
+      take_more p k 0 m,
+    )
+
+-- the leading coefficient moves up
+pub shift-leading : (a d e : ℕ) (p q : List ℕ) → e ≡ d + a → take (a + (d + 1)) q ≡ zeros a ++ take (d + 1) p →
+    get_or p d 0 ≡ 1 → get_or q e 0 ≡ 1
+shift-leading a d e p q exponent same one =
+    let place : e ≡ length (zeros a) + d = omega (arith, length-replicate {A = ℕ} a 0, exponent) in
+    cc (
+      get_or-take (a + (d + 1)) q e 0 (omega (arith, exponent)),
+      same,
+      place,
+      get_or-append-add (zeros a) (take (d + 1) p) d 0,
+      get_or-take (d + 1) p d 0 (omega arith),
+      one,
+    )
+
+-- the sum of products without the first zeros
+dot-zeros : (a : ℕ) (p w : List ℕ) → All IsByte w → dot_of (zeros a ++ p) w ≡ dot_of p (drop a w)
+dot-zeros zero p w lw = refl
+dot-zeros (suc a) p [] lw = dot-nothing p
+  where
+    dot-nothing : (p : List ℕ) → 0 ≡ dot_of p []
+    dot-nothing [] = refl
+    dot-nothing (x ∷ p) = refl
+dot-zeros (suc a) p (b ∷ w) lw =
+    let lb = All-head IsByte b w lw in
+    ap (λ t. bit_xor t (dot_of (zeros a ++ p) w)) (product-of_zero b lb)
+    ∙ (xor_zero_l (dot_of (zeros a ++ p) w) ∙ dot-zeros a p w (All-tail IsByte b w lw))
+
+-- zeros and bytes are bytes
+bytes-zeros : (a : ℕ) (p : List ℕ) → All IsByte p → All IsByte (zeros a ++ p)
+bytes-zeros zero p lp = lp
+bytes-zeros (suc a) p lp = All-cons IsByte 0 (zeros a ++ p) (lit< tt) (bytes-zeros a p lp)
+
+-- ---- the next polynomial
+
+-- the sum of the next polynomial for the equation of index j
+miss-next : (f a b j : ℕ) (p q s : List ℕ) → f < 256 → All IsByte p → All IsByte q → All IsByte s →
+    length (zeros a ++ p) ≤ length (zeros b ++ q) →
+    dot_of (plus (scaled f (zeros a ++ p)) (zeros b ++ q)) (drop j s) ≡ bit_xor (product f (dot_of p (drop (a + j) s))) (dot_of q (drop (b + j) s))
+miss-next f a b j p q s lf lp lq ls short =
+    let w = drop j s in
+    let lw = All-drop IsByte j s ls in
+    let first : j + a ≡ a + j = omega arith in
+    let second : j + b ≡ b + j = omega arith in
+    cc (
+      dot-plus f (zeros a ++ p) (zeros b ++ q) w lf (bytes-zeros a p lp) (bytes-zeros b q lq) lw short,
+      dot-zeros a p w lw,
+      dot-zeros b q w lw,
+      drop-drop a j s,
+      drop-drop b j s,
+      first,
+      second,
+    )
+
+-- the next polynomial solves one equation more
+solved-next : (i l m a b f d : ℕ) (search : Search) (r s : List ℕ) → f < 256 → All IsByte s →
+    IsSearch i s search → l ≡ search.best.degree → l ≤ m → a + (i + 1) ≡ l + m → b + l ≡ m →
+    length (zeros a ++ all_of search.earlier) ≤ length (zeros b ++ all_of search.best) →
+    r ≡ plus (scaled f (zeros a ++ all_of search.earlier)) (zeros b ++ all_of search.best) →
+    d ≡ miss_of search.best (drop (i - l) s) → product f search.miss ≡ d →
+    (j : ℕ) → j + m < i + 1 → dot_of r (drop j s) ≡ 0
+solved-next i l m a b f d search r s lf ls h same up low high short sum miss factor j g =
+    let p = all_of search.earlier in
+    let q = all_of search.best in
+    let start : dot_of r (drop j s) ≡ bit_xor (product f (dot_of p (drop (a + j) s))) (dot_of q (drop (b + j) s)) =
+    ap (λ t. dot_of t (drop j s)) sum ∙ miss-next f a b j p q s lf h.bytes h.best.bytes ls short in
+    elim (cases_lt (j + m) i) [
+      | inl k ↦
+          let before = h.before (a + j) (omega (arith, k, low, same)) in
+          let solved = h.best.solved (b + j) (omega (arith, k, high, same)) in
+          cc (start, before, solved, product-by_zero f lf, xor_zero_l 0)
+      | inr k ↦
+          let last = h.last (a + j) (omega (arith, k, g, low, same)) in
+          let place : b + j ≡ i - l = omega (arith, k, g, high) in
+          cc (start, last, place, miss, factor, xor_self d)
+    ]
+
+-- the next polynomial
+pub best-next : (i l m a b f d : ℕ) (search : Search) (next : Polynomial) (s : List ℕ) → f < 256 → All IsByte s →
+    IsSearch i s search → l ≡ search.best.degree → l ≤ m → a + (i + 1) ≡ l + m → b + l ≡ m →
+    all_of next ≡ plus (scaled f (zeros a ++ all_of search.earlier)) (zeros b ++ all_of search.best) →
+    d ≡ miss_of search.best (drop (i - l) s) → product f search.miss ≡ d → next.degree ≡ m → IsMonic next →
+    IsBest (i + 1) s next
+best-next i l m a b f d search next s lf ls h same up low high sum miss factor degree monic =
+    let p = zeros a ++ all_of search.earlier in
+    let q = zeros b ++ all_of search.best in
+    let lp = bytes-zeros a (all_of search.earlier) h.bytes in
+    let lq = bytes-zeros b (all_of search.best) h.best.bytes in
+    let long : length q ≡ m + 1 =
+    omega (arith, length-append (zeros b) (all_of search.best), length-replicate {A = ℕ} b 0, h.best.count, same, high) in
+    let short : length p ≤ length q = omega (
+      arith,
+      length-append (zeros a) (all_of search.earlier),
+      length-replicate {A = ℕ} a 0,
+      length-take (search.earlier.degree + 1) search.earlier.terms,
+      h.room,
+      long,
+      low,
+      same,
+    ) in
+    let count : length (scaled f p) ≡ length p = length-map p (product f) in
+    record {
+      bytes = subst (λ (t : List ℕ). All IsByte t) (sym sum) (bytes-plus (scaled f p) q (bytes-scaled f p lf) lq);
+      count = omega (arith, ap length sum, length-plus (scaled f p) q (omega (arith, count, short)), long, degree);
+      monic = monic;
+      solved = λ j g. solved-next i l m a b f d search (all_of next) s lf ls h same up low high short sum miss factor j (omega (arith, g, degree));
+    }
+
+-- ---- the bound of the degree
+
+-- how many errors are not 0
+pub weight-zeros : (e : List ℕ) → differences e (zeros (length e)) ≡ weight e
+weight-zeros [] = refl
+weight-zeros (c ∷ e) = omega (arith, weight-zeros e)
+
+-- if an equation is not solved, the number of errors is above its index
+pub few-bound : (t i : ℕ) (search : Search) (s e : List ℕ) → IsSearch i s search → i < length s → AreFewErrors t s e → (miss_of search.best (drop (i - search.best.degree) s) ≡ 0 → ⊥) → i < t + search.best.degree
+few-bound t i search s e h within few some = elim (cases_lt i (t + search.best.degree)) [
+  | inl g ↦ g
+  | inr g ↦
+      let q = all_of search.best in
+      let k = i - search.best.degree in
+      let lb = h.best.bytes in
+      let count = h.best.count in
+      let none = weighted-none k q e lb few.bytes few.most (omega (arith, few.few, weight-zeros e, g))
+      (λ n m. sym (dot-blend q n s e few.values (omega (arith, m, count, within)))
+      ∙ h.best.solved n (omega (arith, m))) in
+      let value : blend q k e ≡ 0 = sym (weighted-value q k e lb few.bytes) ∙ value-none k (weighted q e) none in
+      absurd (some (dot-blend q k s e few.values (omega (arith, count, within, h.room)) ∙ value))
+]
+
+-- the polynomial 1, with which the search begins
+pub search-begins : (s : List ℕ) (p : Polynomial) → p.degree ≡ 0 → IsMonic p → all_of p ≡ 1 ∷ [] →
+    IsSearch 0 s (record { best = p; earlier = p; miss = 1 })
+search-begins s p degree monic terms =
+    let bytes = subst (λ (t : List ℕ). All IsByte t) (sym terms) (All-cons IsByte 1 [] (lit< tt) (All-nil IsByte)) in
+    record {
+      best = record {
+        bytes = bytes;
+        count = omega (arith, ap length terms, degree);
+        monic = monic;
+        solved = λ j g. absurd (omega arith);
+      };
+      bytes = bytes;
+      some = omega arith;
+      room = omega (arith, degree);
+      before = λ j g. absurd (omega (arith, g, degree));
+      last = λ j g. absurd (omega (arith, g, degree));
+    }
+
+-- the polynomial that solves t equations locates the errors
+pub search-locates : (t i : ℕ) (search : Search) (s e : List ℕ) → IsSearch i s search → 2 * t ≤ i → i ≤ length s →
+    search.best.degree ≤ t → AreFewErrors t s e → IsLocated (all_of search.best) e
+search-locates t i search s e h enough long most few =
+    let q = all_of search.best in
+    let lb = h.best.bytes in
+    let count = h.best.count in
+    record {
+      bytes = few.bytes;
+      most = few.most;
+      roots = errors-root t q e lb few.bytes few.most (omega (arith, few.few, weight-zeros e))
+          (λ k g. sym (dot-blend q k s e few.values (omega (arith, g, count, enough, long, most)))
+          ∙ h.best.solved k (omega (arith, g, enough, most)));
+    }
