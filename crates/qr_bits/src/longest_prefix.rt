@@ -2,8 +2,10 @@
 
 ghost use Rattle.std.specs.Prelude.{IsOkAnd, length, reverse, ◌+◌, ◌*◌, ◌<◌, ◌≡◌, ◌≤◌};
 ghost use Rattle.qr_bits.specs.declared.modes.Mode.{Mode};
+ghost use Rattle.qr_bits.specs.declared.run_state.RunState.{RunState};
 ghost use Rattle.qr_bits.specs.Modes.{count_width, is_kanji_pair};
 ghost use Rattle.qr_bits.specs.Segmentation.{IsLongestFit};
+ghost use Rattle.qr_bits.specs.Steps.BestModes.{in_state};
 ghost use Rattle.qr_bits.specs.Steps.RunState.{begins_with_pair, swapped};
 ghost use Rattle.qr_bits.specs.Padding.{room_of};
 
@@ -12,7 +14,7 @@ use crate::fault::BitFault;
 use crate::header::HEADER_BITS;
 use crate::modes::{INPUT_MAX, Mode, Rule, count_width, is_kanji_pair, may_use};
 use crate::padding::capacity;
-use crate::run_state::{FirstChoices, NO_BITS};
+use crate::run_state::{FirstChoices, NO_BITS, PerState};
 use qr_layout::{Level, Version};
 use std::alloc::Global;
 
@@ -37,9 +39,22 @@ fn bytes_in(room: u64, version: Version) -> usize
     ((room - head) / 8) as usize
 }
 
+// The least choice of all states.
+#[tactic(auto, unfolding(crate::specs::Steps::BestModes::in_state))]
+fn fewest(numbers: &PerState) -> u32
+    ensures { (p : RunState) → result ≤ in_state numbers.now p }
+{
+    let digits = numbers.digit1.min(numbers.digit2).min(numbers.digit3);
+    let characters = numbers.character1.min(numbers.character2);
+    let pairs = numbers.half_pair.min(numbers.whole_pair);
+    let others = numbers.start.min(numbers.in_bytes);
+    digits.min(characters).min(pairs.min(others))
+}
+
 // `best_choices` adds a byte in front of the later ones. So each prefix is taken in reverse, which needs as many bits;
 // the second byte of a kanji pair then comes first. After the turn of `input[i]`, `rest.start / 4` is the least number
-// of bits of the prefix that ends with it.
+// of bits of the prefix that ends with it. A longer prefix takes no fewer than the least of `rest`, since each byte only
+// adds to one of them. Not `rest.start` alone decides: half a kanji pair may take more bits than the pair.
 fn longest_by_rows(input: &[u8], version: Version, rule: Rule, room: u64) -> usize
     requires { length input.now ≤ INPUT_MAX }
     ensures { IsLongestFit version rule input.now room result }
@@ -53,6 +68,8 @@ fn longest_by_rows(input: &[u8], version: Version, rule: Rule, room: u64) -> usi
         rest = numbers;
         if u64::from(rest.start / 4) <= room {
             longest = i + 1;
+        } else if u64::from(fewest(&rest) / 4) > room {
+            break;
         }
     }
     longest
