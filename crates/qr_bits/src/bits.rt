@@ -1,6 +1,7 @@
 //! Bits of codewords, written and read, the highest of each codeword first (ISO/IEC 18004:2015, 7.4.10).
 
 ghost use Rattle.std.specs.Prelude.{Bool, IfOk, List, OnOk, [], drop, length, take, ◌%◌, ◌*◌, ◌++◌, ◌+◌, ◌<◌, ◌^◌, ◌∷◌, ◌≡◌, ◌≤◌};
+ghost use Rattle.std.specs.List.{slice_index_or};
 ghost use Rattle.qr_bits.specs.Padding.{filled};
 ghost use Rattle.qr_bits.specs.Bits.{bits_of, field, value};
 
@@ -113,6 +114,31 @@ fn push_bytes(whole: &mut Vec<u8>, width: u8, mut rest: u8, bytes: &[u8]) -> Res
     Ok(rest)
 }
 
+// The byte at `i`, or 0 after the last.
+#[inline(always)]
+fn byte_at(bytes: &[u8], i: usize) -> u32
+    ensures value { result ≡ slice_index_or bytes.now i 0 }
+    ensures most { result < 256 }
+{
+    if i < bytes.len() {
+        u32::from(bytes[i])
+    } else {
+        0
+    }
+}
+
+// The bytes from `at` on as a number of 24 bits, which contains any 16 bits that begin in the first of them.
+#[inline(always)]
+fn three_bytes(bytes: &[u8], at: usize) -> u32
+    requires { at ≤ length bytes.now }
+    ensures value { result ≡ 65536 * slice_index_or bytes.now at 0 + (256 * slice_index_or bytes.now (at + 1) 0 + slice_index_or bytes.now (at + 2) 0) }
+    ensures most { result < 2 ^ 24 }
+    ensures second { slice_index_or bytes.now (at + 1) 0 < 256 }
+    ensures third { slice_index_or bytes.now (at + 2) 0 < 256 }
+{
+    65536 * byte_at(bytes, at) + 256 * byte_at(bytes, at + 1) + byte_at(bytes, at + 2)
+}
+
 /// Contracts see it as the bits of the codewords that are not read yet.
 #[derive(Drop)]
 pub(crate) struct BitReader<'a> {
@@ -138,36 +164,24 @@ impl<'a> BitReader<'a> {
         BitReader { bytes, at: 0 }
     }
 
-    #[tactic(auto, using(crate::proofs::Named::reading_bits))]
+    #[tactic(auto, using(crate::proofs::lemmas::bits::BitLemmas::left_at))]
     pub(crate) fn len(&self) -> usize
         ensures { result ≡ length self.now }
     {
         8 * self.bytes.len() - self.at
     }
 
-    #[tactic(auto, using(crate::proofs::Named::reading_bits))]
-    fn bit(&mut self) -> bool
-        requires { 0 < length self.old }
-        ensures { self.old ≡ result ∷ self.new }
-    {
-        let bit = self.bytes[self.at / 8] >> (7 - self.at % 8) & 1 == 1;
-        self.at += 1;
-        bit
-    }
-
     /// Reads `width` bits as a number, the most significant first.
-    #[tactic(auto, using(crate::proofs::Named::reading_bits))]
     pub(crate) fn take(&mut self, width: usize) -> u16
         requires { (width ≤ length self.old) × (width ≤ 16) }
         ensures value { result ≡ value (take width self.old) }
         ensures small { result < 2 ^ width }
         ensures rest { self.new ≡ drop width self.old }
     {
-        let mut number = 0;
-        for _ in 0..width {
-            number = 2 * number + u16::from(self.bit());
-        }
-        number
+        let after = 24 - self.at % 8 - width;
+        let bits = three_bytes(self.bytes, self.at / 8) >> after;
+        self.at += width;
+        (bits % (1 << width)) as u16
     }
 
     /// Whether no segment follows (7.4.9).
