@@ -25,7 +25,7 @@ loop-i-init c = record {
 }
 
 pub best_choices-requires : goal.best_choices-requires
-best_choices-requires c = small_row _ c.loop-i.i (below _ _ _ c.loop-i-test.true c.requires) c.loop-i.invariant.small
+best_choices-requires c = small_row _ c.loop-i.i (below _ _ _ c.loop-i-test.true c.requires.short) c.loop-i.invariant.small
 
 pub loop-i-preserved : goal.loop-i-preserved
 unfolding in_state
