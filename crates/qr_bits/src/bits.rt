@@ -27,15 +27,17 @@ impl Model for BitWriter {
 }
 
 impl BitWriter {
+    /// Has room for `len` codewords, so that up to then no call allocates.
     #[tactic(auto, unfolding(crate::specs::Bits::bits_of, crate::specs::Bits::field))]
-    pub(crate) fn new(alloc: Global) -> Self
-        ensures { result ≡ [] }
+    pub(crate) fn with_capacity(alloc: Global, len: usize) -> Result<Self, AllocError>
+        requires { len < 2 ^ 16 }
+        ensures { IfOk result (λ bits. bits ≡ []) }
     {
-        BitWriter {
-            whole: Vec::new(alloc),
+        Ok(BitWriter {
+            whole: Vec::with_capacity(alloc, len)?,
             rest: 0,
             width: 0,
-        }
+        })
     }
 
     /// Writes the lowest `width` bits of `number`, the most significant first; higher bits may have any value.
