@@ -4,6 +4,7 @@ ghost use Rattle.std.specs.Prelude.{Bool, IfOk, List, OnOk, [], drop, length, ta
 ghost use Rattle.std.specs.List.{slice_index_or};
 ghost use Rattle.qr_bits.specs.Padding.{filled};
 ghost use Rattle.qr_bits.specs.Bits.{bits_of, field, value};
+ghost use Rattle.qr_bits.specs.Parsing.{bytes_of};
 
 use crate::modes::{STRUCTURED_APPEND, TERMINATOR};
 use std::alloc::{AllocError, Global};
@@ -141,6 +142,23 @@ fn three_bytes(bytes: &[u8], at: usize) -> u32
     65536 * byte_at(bytes, at) + 256 * byte_at(bytes, at + 1) + byte_at(bytes, at + 2)
 }
 
+// Appends the `count` bytes that begin at bit `at` of `bytes`, each a part of two of these.
+fn push_bytes_at(out: &mut Vec<u8>, bytes: &[u8], at: usize, count: usize) -> Result<(), AllocError>
+    requires { at + 8 * count ≤ 8 * length bytes.now }
+    ensures { OnOk result (out.new.items ≡ out.old.items ++ bytes_of count (drop at (bits_of bytes.now))) }
+{
+    let first = at / 8;
+    let left = 8 - at % 8;
+    let mut high = byte_at(bytes, first);
+    for i in 0..count {
+        let low = byte_at(bytes, first + i + 1);
+        let two = 256 * high + low;
+        out.push(((two >> left) % 256) as u8)?;
+        high = low;
+    }
+    Ok(())
+}
+
 /// Contracts see it as the bits of the codewords that are not read yet.
 #[derive(Drop)]
 pub(crate) struct BitReader<'a> {
@@ -184,6 +202,17 @@ impl<'a> BitReader<'a> {
         let bits = three_bytes(self.bytes, self.at / 8) >> after;
         self.at += width;
         (bits % (1 << width)) as u16
+    }
+
+    /// Reads `count` bytes and appends them to `out`.
+    pub(crate) fn take_bytes(&mut self, count: usize, out: &mut Vec<u8>) -> Result<(), AllocError>
+        requires { 8 * count ≤ length self.old }
+        ensures { OnOk result ((out.new.items ≡ out.old.items ++ bytes_of count self.old)
+            × (self.new ≡ drop (8 * count) self.old)) }
+    {
+        push_bytes_at(out, self.bytes, self.at, count)?;
+        self.at += 8 * count;
+        Ok(())
     }
 
     /// Whether no segment follows (7.4.9).

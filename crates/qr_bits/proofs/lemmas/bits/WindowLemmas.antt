@@ -1,7 +1,8 @@
 -- Up to 16 bits at any place are a part of three bytes, taken as one number.
 use Rattle.std.proofs.Common.{◌≡◌, ℕ, zero, suc, ◌+◌, ◌-◌, ◌*◌, ◌/◌, ◌%◌, ◌^◌, ◌<◌, ◌≤◌, Bool, List, [], ◌∷◌, ◌++◌, length, get_or, take, drop, refl, ap, arith, append_assoc}
-use Rattle.std.proofs.lemmas.{List.{drop-drop, drop-append-le, take-append-le, get_or-drop, length-drop}, Nat.{pow_pos, shr_split}}
-use Rattle.std.proofs.Math.Nat.{mod-lt}
+use Rattle.std.proofs.lemmas.{List.{drop-drop, drop-append-le, take-append-le, get_or-drop, length-drop}, Nat.{pow-add, pow_pos, shr_split}}
+use Rattle.std.proofs.Math.Nat.{mod-lt, div-div-eq-div-mul}
+use Rattle.qr_bits.specs.Parsing.{bytes_of}
 use Rattle.qr_bits.specs.Bits.{field, value, bits_of}
 use Rattle.qr_bits.proofs.lemmas.bits.BitLemmas.{bits_of-append, field-join, field-low, length-bits_of}
 use Rattle.qr_bits.proofs.lemmas.stream.StreamLemmas.{drop-field, read_field}
@@ -66,3 +67,22 @@ value_window bs i w c n inside e h k is =
     let padded : drop r (bits_of xs ++ bits_of zeros) ≡ drop r (bits_of xs) ++ bits_of zeros = drop-append-le r (bits_of xs) (bits_of zeros) (omega arith) in
     let taken : take w (drop r (bits_of xs) ++ bits_of zeros) ≡ take w (drop r (bits_of xs)) = take-append-le w (drop r (bits_of xs)) (bits_of zeros) (omega (arith, length-drop r (bits_of xs))) in
     cc (whole, padded, taken, first, window r w c n (bits_of t.0) e)
+
+-- eight bits lie in two bytes
+pub byte_window : (bs : List ℕ) (i c n : ℕ) → i + 8 ≤ 8 * length bs → i % 8 + c ≡ 8 → get_or bs (i / 8 + 1) 0 < 256 → get_or bs (i / 8 + 2) 0 < 256
+    → n ≡ 256 * get_or bs (i / 8) 0 + get_or bs (i / 8 + 1) 0 → value (take 8 (drop i (bits_of bs))) ≡ n / 2 ^ c % 256
+byte_window bs i c n inside e h k is =
+    let last = get_or bs (i / 8 + 2) 0 in
+    let m = 256 * n + last in
+    let all : m ≡ 65536 * get_or bs (i / 8) 0 + (256 * get_or bs (i / 8 + 1) 0 + last) = omega arith in
+    let two : m / 2 ^ 8 ≡ n = omega arith in
+    cc (value_window bs i 8 (8 + c) m inside (omega arith) h k all, pow-add 2 8 c, div-div-eq-div-mul m (2 ^ 8) (2 ^ c), two)
+
+-- one more byte is read
+pub bytes_of-more : (n : ℕ) (bits : List Bool) → bytes_of (n + 1) bits ≡ bytes_of n bits ++ value (take 8 (drop (8 * n) bits)) ∷ []
+unfolding bytes_of
+bytes_of-more zero bits = refl
+bytes_of-more (suc n) bits =
+    let one : suc n + 1 ≡ suc (n + 1) = omega arith in
+    let more : 8 * suc n ≡ 8 + 8 * n = omega arith in
+    rw (one, more) (cc (bytes_of-more n (drop 8 bits), drop-drop (8 * n) 8 bits))
