@@ -103,8 +103,13 @@ pub fn longest_fit(
         IsLongestFit version rule input.now (room_of version level) n) }
 {
     let room = capacity(version, level) - HEADER_BITS;
+    let most = bytes_in(room, version);
+    // Each rule allows byte mode.
+    if input.len() <= most {
+        return Ok(input.len());
+    }
     match rule {
-        Rule::BytesOnly => Ok(input.len().min(bytes_in(room, version))),
+        Rule::BytesOnly => Ok(most),
         Rule::Auto => Ok(longest_by_rows(input, version, rule, false, room)),
         Rule::WithKanji => Ok(longest_by_rows(input, version, rule, true, room)),
     }
