@@ -3,7 +3,7 @@ pub use Rattle.qr_bits.proofs.lemmas.bits.BitLemmas.{bits_at, bits_of-more, bool
 pub use Rattle.qr_bits.proofs.lemmas.segmentation.BackLemmas.{sum_by-runs_of}
 pub use Rattle.qr_bits.proofs.lemmas.best_modes.ChoiceLemmas.{byte_used}
 pub use Rattle.qr_bits.proofs.lemmas.segment.CoverLemmas.{from_turn, in_turn}
-pub use Rattle.qr_bits.proofs.lemmas.padding.CountLemmas.{capacity_least, capacity_medium, capacity_small, fitting_medium, fitting_short}
+pub use Rattle.qr_bits.proofs.lemmas.padding.CountLemmas.{capacity_26, capacity_least, capacity_nine, fitting_medium, fitting_short}
 unfoldable pub use Rattle.qr_bits.proofs.lemmas.segment.CoverLemmas.{CoversInTurn}
 pub use Rattle.qr_bits.proofs.lemmas.laws.DataLemmas.{data_again, data_one, length-data, length-stream}
 pub use Rattle.qr_bits.proofs.lemmas.longest_prefix.MirrorLemmas.{empty_fits}

@@ -1,13 +1,11 @@
 -- The lemmas that attributes of functions name.
-use Rattle.std.proofs.{Common.{append-nil, append_assoc}, lemmas.{Grind.pow_more, List.{take_all, Sums.sum_by_more}}}
-use Rattle.qr_bits.proofs.lemmas.bits.BitLemmas.{bits_of-whole, bool_byte-cond, byte-first, drop_bit, filled-none, filled-some, left_at, number-after, power-fits, value_more}
+use Rattle.std.proofs.{Common.{append-nil, append_assoc}, lemmas.List.{take_all, Sums.sum_by_more}}
+use Rattle.qr_bits.proofs.lemmas.bits.BitLemmas.{bits_of-whole, byte-first, filled-none, filled-some, number-after, power-fits}
 use Rattle.qr_bits.proofs.lemmas.folding.FoldingLemmas.{length-folded}
 use Rattle.qr_bits.proofs.lemmas.{laws.DataLemmas.length-stream, lower_bound.LeastLemmas.least_held}
 use Rattle.qr_bits.proofs.lemmas.padding.PaddingLemmas.{pads-even, pads-none, pads-odd}
 
 pub ruleset writing_bits = (bits_of-whole, byte-first, filled-some, filled-none, number-after, power-fits)
-
-pub ruleset reading_bits = (left_at, drop_bit, pow_more, value_more, bool_byte-cond)
 
 pub ruleset lengths = (length-folded, length-stream)
 

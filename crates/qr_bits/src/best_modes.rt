@@ -10,7 +10,7 @@
 ghost use Rattle.std.specs.Prelude.{◌≡◌, ◌+◌, ◌*◌, ◌/◌, ◌%◌, ◌<◌, ◌≤◌, ℕ, Bool, true, false, length, reverse, IfOk, vec_len};
 ghost use Rattle.qr_bits.specs.declared.modes.Mode.{Mode};
 ghost use Rattle.qr_bits.specs.declared.run_state.RunState.{RunState};
-ghost use Rattle.qr_bits.specs.Modes.{is_kanji_pair};
+ghost use Rattle.qr_bits.specs.Modes.{is_kanji_pair, may_use};
 ghost use Rattle.qr_bits.specs.Segmentation.{rank};
 ghost use Rattle.qr_bits.specs.declared.modes.Rule.{Rule};
 ghost use Rattle.qr_bits.specs.Steps.RunState.{begins_with_pair, may_begin, choice_number, ranked};
@@ -171,6 +171,16 @@ pub(crate) fn begins_with_pair(rule: Rule, bytes: &[u8]) -> bool
     }
 }
 
+// As `begins_with_pair`, where `kanji` says whether the rule allows kanji mode.
+#[tactic(auto, unfolding(crate::specs::Steps::RunState::begins_with_pair))]
+#[inline(always)]
+fn pair_at(kanji: bool, rule: Rule, bytes: &[u8]) -> bool
+    requires { kanji ≡ may_use rule Mode.Kanji }
+    ensures { result ≡ begins_with_pair rule is_kanji_pair bytes.now }
+{
+    kanji && begins_with_pair(rule, bytes)
+}
+
 /// Returns the table: a row for each byte of `input`, that of the last byte first.
 pub(crate) fn best_modes(
     alloc: Global,
@@ -182,11 +192,33 @@ pub(crate) fn best_modes(
     ensures { IfOk result (λ t. (vec_len t ≡ length input.now)
         × IsBestTable version rule is_kanji_pair input.now (reverse t.items)) }
 {
+    if may_use(rule, Mode::Kanji) {
+        best_rows(alloc, input, version, rule, true)
+    } else {
+        best_rows(alloc, input, version, rule, false)
+    }
+}
+
+// As `best_modes`. Where `kanji`, which says that the rule allows kanji mode, is constant, the compiler can leave out
+// the test for pairs.
+#[inline(always)]
+fn best_rows(
+    alloc: Global,
+    input: &[u8],
+    version: Version,
+    rule: Rule,
+    kanji: bool,
+) -> Result<Vec<u32>, AllocError>
+    requires short { length input.now ≤ INPUT_MAX }
+    requires kanji { kanji ≡ may_use rule Mode.Kanji }
+    ensures { IfOk result (λ t. (vec_len t ≡ length input.now)
+        × IsBestTable version rule is_kanji_pair input.now (reverse t.items)) }
+{
     let first_choices = FirstChoices::of(version);
     let mut table = Vec::with_capacity(alloc, input.len())?;
     let mut rest = NO_BITS;
     for i in (0..input.len()).rev() {
-        let pair = begins_with_pair(rule, &input[i..]);
+        let pair = pair_at(kanji, rule, &input[i..]);
         let (modes, numbers) = best_choices(&first_choices, rule, input[i], pair, &rest);
         table.push(modes)?;
         rest = numbers;

@@ -1,8 +1,10 @@
 //! Bits of codewords, written and read, the highest of each codeword first (ISO/IEC 18004:2015, 7.4.10).
 
 ghost use Rattle.std.specs.Prelude.{Bool, IfOk, List, OnOk, [], drop, length, take, ◌%◌, ◌*◌, ◌++◌, ◌+◌, ◌<◌, ◌^◌, ◌∷◌, ◌≡◌, ◌≤◌};
+ghost use Rattle.std.specs.List.{slice_index_or};
 ghost use Rattle.qr_bits.specs.Padding.{filled};
 ghost use Rattle.qr_bits.specs.Bits.{bits_of, field, value};
+ghost use Rattle.qr_bits.specs.Parsing.{bytes_of};
 
 use crate::modes::{STRUCTURED_APPEND, TERMINATOR};
 use std::alloc::{AllocError, Global};
@@ -26,15 +28,17 @@ impl Model for BitWriter {
 }
 
 impl BitWriter {
+    /// Has room for `len` codewords, so that up to then no call allocates.
     #[tactic(auto, unfolding(crate::specs::Bits::bits_of, crate::specs::Bits::field))]
-    pub(crate) fn new(alloc: Global) -> Self
-        ensures { result ≡ [] }
+    pub(crate) fn with_capacity(alloc: Global, len: usize) -> Result<Self, AllocError>
+        requires { len < 2 ^ 16 }
+        ensures { IfOk result (λ bits. bits ≡ []) }
     {
-        BitWriter {
-            whole: Vec::new(alloc),
+        Ok(BitWriter {
+            whole: Vec::with_capacity(alloc, len)?,
             rest: 0,
             width: 0,
-        }
+        })
     }
 
     /// Writes the lowest `width` bits of `number`, the most significant first; higher bits may have any value.
@@ -113,6 +117,48 @@ fn push_bytes(whole: &mut Vec<u8>, width: u8, mut rest: u8, bytes: &[u8]) -> Res
     Ok(rest)
 }
 
+// The byte at `i`, or 0 after the last.
+#[inline(always)]
+fn byte_at(bytes: &[u8], i: usize) -> u32
+    ensures value { result ≡ slice_index_or bytes.now i 0 }
+    ensures most { result < 256 }
+{
+    if i < bytes.len() {
+        u32::from(bytes[i])
+    } else {
+        0
+    }
+}
+
+// The bytes from `at` on as a number of 24 bits, which contains any 16 bits that begin in the first of them.
+#[inline(always)]
+fn three_bytes(bytes: &[u8], at: usize) -> u32
+    requires { at ≤ length bytes.now }
+    ensures value { result ≡ 65536 * slice_index_or bytes.now at 0 + (256 * slice_index_or bytes.now (at + 1) 0 + slice_index_or bytes.now (at + 2) 0) }
+    ensures most { result < 2 ^ 24 }
+    ensures second { slice_index_or bytes.now (at + 1) 0 < 256 }
+    ensures third { slice_index_or bytes.now (at + 2) 0 < 256 }
+{
+    65536 * byte_at(bytes, at) + 256 * byte_at(bytes, at + 1) + byte_at(bytes, at + 2)
+}
+
+// Appends the `count` bytes that begin at bit `at` of `bytes`, each a part of two of these.
+fn push_bytes_at(out: &mut Vec<u8>, bytes: &[u8], at: usize, count: usize) -> Result<(), AllocError>
+    requires { at + 8 * count ≤ 8 * length bytes.now }
+    ensures { OnOk result (out.new.items ≡ out.old.items ++ bytes_of count (drop at (bits_of bytes.now))) }
+{
+    let first = at / 8;
+    let left = 8 - at % 8;
+    let mut high = byte_at(bytes, first);
+    for i in 0..count {
+        let low = byte_at(bytes, first + i + 1);
+        let two = 256 * high + low;
+        out.push(((two >> left) % 256) as u8)?;
+        high = low;
+    }
+    Ok(())
+}
+
 /// Contracts see it as the bits of the codewords that are not read yet.
 #[derive(Drop)]
 pub(crate) struct BitReader<'a> {
@@ -138,36 +184,35 @@ impl<'a> BitReader<'a> {
         BitReader { bytes, at: 0 }
     }
 
-    #[tactic(auto, using(crate::proofs::Named::reading_bits))]
+    #[tactic(auto, using(crate::proofs::lemmas::bits::BitLemmas::left_at))]
     pub(crate) fn len(&self) -> usize
         ensures { result ≡ length self.now }
     {
         8 * self.bytes.len() - self.at
     }
 
-    #[tactic(auto, using(crate::proofs::Named::reading_bits))]
-    fn bit(&mut self) -> bool
-        requires { 0 < length self.old }
-        ensures { self.old ≡ result ∷ self.new }
-    {
-        let bit = self.bytes[self.at / 8] >> (7 - self.at % 8) & 1 == 1;
-        self.at += 1;
-        bit
-    }
-
     /// Reads `width` bits as a number, the most significant first.
-    #[tactic(auto, using(crate::proofs::Named::reading_bits))]
     pub(crate) fn take(&mut self, width: usize) -> u16
         requires { (width ≤ length self.old) × (width ≤ 16) }
         ensures value { result ≡ value (take width self.old) }
         ensures small { result < 2 ^ width }
         ensures rest { self.new ≡ drop width self.old }
     {
-        let mut number = 0;
-        for _ in 0..width {
-            number = 2 * number + u16::from(self.bit());
-        }
-        number
+        let after = 24 - self.at % 8 - width;
+        let bits = three_bytes(self.bytes, self.at / 8) >> after;
+        self.at += width;
+        (bits % (1 << width)) as u16
+    }
+
+    /// Reads `count` bytes and appends them to `out`.
+    pub(crate) fn take_bytes(&mut self, count: usize, out: &mut Vec<u8>) -> Result<(), AllocError>
+        requires { 8 * count ≤ length self.old }
+        ensures { OnOk result ((out.new.items ≡ out.old.items ++ bytes_of count self.old)
+            × (self.new ≡ drop (8 * count) self.old)) }
+    {
+        push_bytes_at(out, self.bytes, self.at, count)?;
+        self.at += 8 * count;
+        Ok(())
     }
 
     /// Whether no segment follows (7.4.9).

@@ -2,29 +2,33 @@
 
 ghost use Rattle.std.specs.Prelude.{IsOkAnd, length, reverse, ◌+◌, ◌*◌, ◌<◌, ◌≡◌, ◌≤◌};
 ghost use Rattle.qr_bits.specs.declared.modes.Mode.{Mode};
-ghost use Rattle.qr_bits.specs.Modes.{count_width, is_kanji_pair};
+ghost use Rattle.qr_bits.specs.declared.run_state.RunState.{RunState};
+ghost use Rattle.qr_bits.specs.Modes.{count_width, is_kanji_pair, may_use};
 ghost use Rattle.qr_bits.specs.Segmentation.{IsLongestFit};
+ghost use Rattle.qr_bits.specs.Steps.BestModes.{in_state};
 ghost use Rattle.qr_bits.specs.Steps.RunState.{begins_with_pair, swapped};
 ghost use Rattle.qr_bits.specs.Padding.{room_of};
 
 use crate::best_modes::best_choices;
 use crate::fault::BitFault;
 use crate::header::HEADER_BITS;
-use crate::modes::{INPUT_MAX, Mode, Rule, count_width, is_kanji_pair, may_use};
+use crate::modes::{INPUT_MAX, Mode, Rule, count_width, is_kanji_pair};
 use crate::padding::capacity;
-use crate::run_state::{FirstChoices, NO_BITS};
+use crate::run_state::{FirstChoices, NO_BITS, PerState};
 use qr_layout::{Level, Version};
 use std::alloc::Global;
 
 #[tactic(auto, using(crate::proofs::lemmas::longest_prefix::MirrorLemmas::ends_at, crate::proofs::lemmas::longest_prefix::MirrorLemmas::ends_short))]
-fn ends_with_pair(rule: Rule, bytes: &[u8]) -> bool
+#[inline(always)]
+fn ends_with_pair(kanji: bool, rule: Rule, bytes: &[u8]) -> bool
+    requires { kanji ≡ may_use rule Mode.Kanji }
     ensures { result ≡ begins_with_pair rule (swapped is_kanji_pair) (reverse bytes.now) }
 {
     let len = bytes.len();
     if len < 2 {
         return false;
     }
-    may_use(rule, Mode::Kanji) && is_kanji_pair(bytes[len - 2], bytes[len - 1])
+    kanji && is_kanji_pair(bytes[len - 2], bytes[len - 1])
 }
 
 // The most bytes that a segment in byte mode can have in `room` bits (7.4.5).
@@ -37,22 +41,42 @@ fn bytes_in(room: u64, version: Version) -> usize
     ((room - head) / 8) as usize
 }
 
+// The least choice of all states.
+#[tactic(auto, unfolding(crate::specs::Steps::BestModes::in_state))]
+fn fewest(numbers: &PerState) -> u32
+    ensures { (p : RunState) → result ≤ in_state numbers.now p }
+{
+    let digits = numbers.digit1.min(numbers.digit2).min(numbers.digit3);
+    let characters = numbers.character1.min(numbers.character2);
+    let pairs = numbers.half_pair.min(numbers.whole_pair);
+    let others = numbers.start.min(numbers.in_bytes);
+    digits.min(characters).min(pairs.min(others))
+}
+
 // `best_choices` adds a byte in front of the later ones. So each prefix is taken in reverse, which needs as many bits;
 // the second byte of a kanji pair then comes first. After the turn of `input[i]`, `rest.start / 4` is the least number
-// of bits of the prefix that ends with it.
-fn longest_by_rows(input: &[u8], version: Version, rule: Rule, room: u64) -> usize
-    requires { length input.now ≤ INPUT_MAX }
+// of bits of the prefix that ends with it. A longer prefix takes no fewer than the least of `rest`, since each byte only
+// adds to one of them. Not `rest.start` alone decides: half a kanji pair may take more bits than the pair.
+//
+// Where `kanji`, which says whether the rule allows kanji mode, is constant, the compiler can leave out the test for
+// pairs.
+#[inline(always)]
+fn longest_by_rows(input: &[u8], version: Version, rule: Rule, kanji: bool, room: u64) -> usize
+    requires short { length input.now ≤ INPUT_MAX }
+    requires kanji { kanji ≡ may_use rule Mode.Kanji }
     ensures { IsLongestFit version rule input.now room result }
 {
     let first_choices = FirstChoices::of(version);
     let mut longest = 0;
     let mut rest = NO_BITS;
     for i in 0..input.len() {
-        let pair = ends_with_pair(rule, &input[..i + 1]);
+        let pair = ends_with_pair(kanji, rule, &input[..i + 1]);
         let (_, numbers) = best_choices(&first_choices, rule, input[i], pair, &rest);
         rest = numbers;
         if u64::from(rest.start / 4) <= room {
             longest = i + 1;
+        } else if u64::from(fewest(&rest) / 4) > room {
+            break;
         }
     }
     longest
@@ -79,8 +103,14 @@ pub fn longest_fit(
         IsLongestFit version rule input.now (room_of version level) n) }
 {
     let room = capacity(version, level) - HEADER_BITS;
+    let most = bytes_in(room, version);
+    // Each rule allows byte mode.
+    if input.len() <= most {
+        return Ok(input.len());
+    }
     match rule {
-        Rule::BytesOnly => Ok(input.len().min(bytes_in(room, version))),
-        Rule::Auto | Rule::WithKanji => Ok(longest_by_rows(input, version, rule, room)),
+        Rule::BytesOnly => Ok(most),
+        Rule::Auto => Ok(longest_by_rows(input, version, rule, false, room)),
+        Rule::WithKanji => Ok(longest_by_rows(input, version, rule, true, room)),
     }
 }

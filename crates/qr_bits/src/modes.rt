@@ -154,6 +154,10 @@ pub(crate) fn is_alphanumeric(byte: u8) -> bool
 pub(crate) fn is_kanji_pair(high: u8, low: u8) -> bool
     ensures { result ≡ is_kanji_pair high low }
 {
+    // No ASCII begins a pair.
+    if high < 0x81 {
+        return false;
+    }
     let pair = 256 * u16::from(high) + u16::from(low);
     (0x8140 <= pair && pair <= 0x9FFC || 0xE040 <= pair && pair <= 0xEBBF)
         && (0x40 <= low && low <= 0xFC)

@@ -59,10 +59,11 @@ pub fn codewords(
     if used > capacity {
         return Err(BitFault::TooLong);
     }
-    let mut writer = BitWriter::new(alloc);
+    let len = usize::from(version.data_codewords(level));
+    let mut writer = BitWriter::with_capacity(alloc, len)?;
     put_all(&mut writer, input, segs, header, version, capacity - used)?;
     let mut codewords = writer.into_codewords();
-    pad(&mut codewords, usize::from(version.data_codewords(level)))?;
+    pad(&mut codewords, len)?;
     Ok(codewords)
 }
 

@@ -270,10 +270,7 @@ fn bytes(reader: &mut BitReader, count: usize, out: &mut Vec<u8>) -> Result<(), 
     ensures { IsReadOf result (Ok (bytes_of count reader.old)) (payload_bits Mode.Byte count)
         out.old.items out.new.items reader.old reader.new }
 {
-    for _ in 0..count {
-        out.push(reader.take(8) as u8)?;
-    }
-    Ok(())
+    Ok(reader.take_bytes(count, out)?)
 }
 
 #[tactic(auto, unfolding(crate::specs::Parsing::pairs_of), using(crate::proofs::Named::reading_groups))]

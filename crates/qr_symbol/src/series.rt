@@ -1,6 +1,6 @@
 //! Encodes an input as a series of symbols, the standard's Structured Append (ISO/IEC 18004:2015, 8).
 
-ghost use Rattle.std.specs.Prelude.{◌≡◌, ◌≢◌, ◌-◌, ◌<◌, ◌≤◌, ◌↔◌, ◌⊎◌, ℕ, false, List, [], length, None, Some, Err, IfOk, IfErr, MatchOption, MatchResult};
+ghost use Rattle.std.specs.Prelude.{◌≡◌, ◌≢◌, ◌-◌, ◌<◌, ◌≤◌, ◌↔◌, ◌⊎◌, ℕ, false, List, [], length, None, Some, Err, IsTrue, IfOk, IfErr, MatchOption, MatchResult};
 ghost use Rattle.qr_bits.specs.declared.modes.Rule.{Rule};
 ghost use Rattle.qr_bits.specs.declared.modes.Mode.{Mode};
 ghost use Rattle.qr_bits.specs.Segmentation.{HasFit, IsLongestFit};
@@ -18,7 +18,7 @@ use crate::encoding::{SYMBOL_BYTES_MAX, symbol_at, symbol_on};
 use crate::fault::EncodeFault;
 use crate::symbol::Symbol;
 use arrayvec::ArrayVec;
-use qr_bits::{Header, INPUT_MAX, Rule, bit_len, longest_fit, parity, segments};
+use qr_bits::{Header, INPUT_MAX, Rule, bit_len, least_bits, longest_fit, parity, segments};
 use qr_layout::{Level, Version};
 use std::alloc::Global;
 
@@ -83,6 +83,20 @@ fn series_of(
     part_symbols(alloc, input, lengths.as_slice(), version, level, rule)
 }
 
+// Whether a bound shows that the input does not fit, so that it need not be cut into segments. With byte mode alone the
+// lower bound on its bits is not computed, since there is only one segment.
+fn takes_more(input: &[u8], version: Version, level: Level, rule: Rule) -> bool
+    requires { length input.now ≤ INPUT_MAX }
+    ensures none { IsTrue result → FitsVersion version level rule input.now → ⊥ }
+    ensures short { result ≡ false → length input.now ≤ SYMBOL_BYTES_MAX }
+{
+    if input.len() > SYMBOL_BYTES_MAX {
+        return true;
+    }
+    !matches!(rule, Rule::BytesOnly)
+        && u64::from(least_bits(input)) > 8 * u64::from(version.data_codewords(level))
+}
+
 fn plain_symbol(
     alloc: Global,
     input: &[u8],
@@ -96,7 +110,7 @@ fn plain_symbol(
         (λ s. IsSymbolOf version level rule input.now None s))
         (λ e. e ≡ EncodeFault.Memory) }
 {
-    if input.len() > SYMBOL_BYTES_MAX {
+    if takes_more(input, version, level, rule) {
         return Ok(None);
     }
     let segments = segments(alloc, input, version, rule)?;

@@ -18,11 +18,10 @@ use qr_bits::{BitFault, INPUT_MAX, Rule, Segment, bit_len, least_bits, segments}
 use qr_layout::{Level, Version};
 use std::alloc::Global;
 
-// The most bits that the data codewords of versions 1 to 9 have (7.4.10, Table 7).
-const SMALL_BITS: u32 = 1856;
+// The last versions of the first two ranges.
+const SMALL: u8 = 9;
 
-// As `SMALL_BITS`, for versions 1 to 26 (7.4.10, Table 7).
-const MEDIUM_BITS: u32 = 10960;
+const MEDIUM: u8 = 26;
 
 // An upper bound on the bytes of a symbol of versions 1 to 26: no bytes take fewer bits than digits, of which three
 // take ten (7.4.3).
@@ -48,14 +47,23 @@ fn last_of_width(version: Version) -> u8
     }
 }
 
+// How many bits all data codewords of this version and level have.
+fn room_in(number: u8, level: Level) -> u64
+    requires { (1 ≤ number) × (number ≤ 40) }
+    ensures { result ≡ capacity_of number level }
+{
+    let version = Version::new(number).unwrap();
+    8 * u64::from(version.data_codewords(level))
+}
+
 // The first version of a range: 1, 10 or 27. The input fits no version before it, as its length or a lower bound on its
-// bits shows. With byte mode alone this bound is not computed, since it would save little time.
-fn first_for(input: &[u8], rule: Rule) -> u8
+// bits shows, since the last version of a range has the most room. With byte mode alone this bound is not computed,
+// since it would save little time.
+fn first_for(input: &[u8], level: Level, rule: Rule) -> u8
     requires { length input.now ≤ INPUT_MAX }
     ensures first { 1 ≤ result }
     ensures last { result ≤ 40 }
-    ensures none { (v : ℕ) (l : Level) → 1 ≤ v → v < result
-        → FitsVersion v l rule input.now → ⊥ }
+    ensures none { (v : ℕ) → 1 ≤ v → v < result → FitsVersion v level rule input.now → ⊥ }
 {
     if input.len() > MEDIUM_BYTES {
         return 27;
@@ -63,10 +71,10 @@ fn first_for(input: &[u8], rule: Rule) -> u8
     if matches!(rule, Rule::BytesOnly) {
         return 1;
     }
-    let bits = least_bits(input);
-    if bits > MEDIUM_BITS {
+    let bits = u64::from(least_bits(input));
+    if bits > room_in(MEDIUM, level) {
         27
-    } else if bits > SMALL_BITS {
+    } else if bits > room_in(SMALL, level) {
         10
     } else {
         1
@@ -104,7 +112,7 @@ pub(crate) fn least_fit(
     ensures too_long { result ≡ Err BitFault.TooLong
         → HasNoVersion smallest level rule input.now }
 {
-    let mut first = Version::new(smallest.number().max(first_for(input, rule))).unwrap();
+    let mut first = Version::new(smallest.number().max(first_for(input, level, rule))).unwrap();
     loop {
         let last = last_of_width(first);
         let segments = segments(alloc, input, first, rule)?;

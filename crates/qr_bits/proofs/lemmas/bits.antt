@@ -1,2 +1,3 @@
 -- Lists of bits, bytes and numbers.
 pub mod BitLemmas
+pub mod WindowLemmas

@@ -1,6 +1,7 @@
 -- Bytes in reverse order: their valid assignments are those of the bytes, reversed, with equally many bits. The two bytes of
 -- each kanji pair are exchanged.
 use Rattle.std.proofs.Common.{◌≡◌, ℕ, ◌+◌, ◌-◌, ◌≤◌, ◌<◌, Bool, true, false, ◌&&◌, List, [], ◌∷◌, ◌++◌, reverse, length, take, drop, get_or, refl, ◌∙◌, ap, arith, subst}
+use Rattle.std.proofs.{Math.Nat.le_refl, lemmas.Bool.false≢true, lemmas.List.take-take}
 use Rattle.std.{proofs.lemmas.Bool.Decides.nat_tests, specs.List.list_all, proofs.lemmas.List.Folds.list_all-append}
 use Rattle.std.proofs.lemmas.Bool.{and_parts, and_from}
 use Rattle.std.proofs.lemmas.List.{reverse-append, reverse-reverse, take_more, take_all, drop_all, take-append-le, drop-append-le, take-append-drop, length-append, length-take-le, length-reverse, get_or-reverse}
@@ -9,7 +10,7 @@ use Rattle.qr_bits.specs.declared.{segment.Segment.Segment, run_state.PerState.P
 use Rattle.qr_bits.specs.declared.run_state.RunState.{RunState, TheVariants.Start}
 use Rattle.qr_bits.specs.{Segmentation.{bits, prepend_mode, runs_of, HasFit}, Modes.{in_twos, is_kanji_pair, may_use}}
 use Rattle.qr_bits.{specs.Steps.Segmentation.append_mode, proofs.lemmas.run_state.CostLemmas.bits-runs_of}
-use Rattle.qr_bits.specs.Steps.{RunState.{swapped, begins_with_pair, may_end}, BestModes.{bits_at, follow, IsRow}}
+use Rattle.qr_bits.specs.Steps.{RunState.{swapped, begins_with_pair, may_end, may_take, allowed, cost_of, state_after}, BestModes.{bits_at, follow, IsRow}}
 use Rattle.qr_bits.proofs.lemmas.segment.CoverLemmas.{covers_by, by_covers, suits_by, CoversBy}
 use Rattle.qr_bits.proofs.lemmas.run_state.BestLemmas.{BestBelow, same_rank}
 use Rattle.qr_bits.proofs.lemmas.segmentation.BackLemmas.{runs_of-push, append_mode-last}
@@ -88,6 +89,29 @@ prefix_least v r xs f cost n below fit =
     let back = mirror v is_kanji_pair r xs fit.0 (fit.1.0, covers_by xs _ fit.1.1) in
     let taken = can_take (swapped is_kanji_pair) r (reverse xs) (reverse fit.0) back.0 Start refl in
     search (arith, bits-runs_of)
+
+-- what is allowed for the bytes `ys` and then `xs` contains what is allowed for `xs`, which takes no more bits
+later_part : (v : ℕ) (r : Rule) (test : ℕ → ℕ → Bool) (ys xs : List ℕ) (p : RunState) (ks : List Mode) → allowed r test p (ys ++ xs) ks ≡ true
+    → (q : RunState) × (ms : List Mode) × (allowed r test q xs ms ≡ true) × (cost_of v q ms ≤ cost_of v p ks)
+unfolding allowed cost_of
+later_part v r test [] xs p ks h = (p, ks, h, le_refl _)
+later_part v r test (y ∷ ys) xs p [] h = absurd (false≢true h)
+later_part v r test (y ∷ ys) xs p (k ∷ ks) h =
+    let more = later_part v r test ys xs (state_after p k) ks (and_parts (may_take r p y (begins_with_pair r test (y ∷ ys ++ xs)) k) _ h).1 in
+    (more.0, more.1, more.2, omega (arith, more.3))
+
+-- if all best rests of a reversed prefix take more than n bits, no prefix at least as long fits n bits
+pub none_longer : (v : ℕ) (r : Rule) (xs : List ℕ) (i k : ℕ) (f : RunState → List Mode) (cost : RunState → ℕ) (n : ℕ) → BestBelow v r (swapped is_kanji_pair) (reverse (take i xs)) f cost
+    → ((p : RunState) → n < cost p) → i ≤ k → HasFit v r (take k xs) n → ⊥
+unfolding may_end
+none_longer v r xs i k f cost n below more l fit =
+    let ys = drop i (take k xs) in
+    let cut : reverse (take k xs) ≡ reverse ys ++ reverse (take i xs) = cc (take-take i k xs l, take-append-drop i (take k xs), reverse-append (take i (take k xs)) ys) in
+    let back = mirror v is_kanji_pair r (take k xs) fit.0 (fit.1.0, covers_by (take k xs) _ fit.1.1) in
+    let taken = can_take (swapped is_kanji_pair) r (reverse (take k xs)) (reverse fit.0) back.0 Start refl in
+    let part = later_part v r (swapped is_kanji_pair) (reverse ys) (reverse (take i xs)) Start (reverse fit.0) (rw cut at taken) in
+    let least = (below part.0 part.1 part.2).least part.1 part.2 in
+    absurd (omega (arith, least, more part.0, part.3, back.1, fit.2, bits-runs_of v (reverse fit.0)))
 
 -- an empty input fits any number of bits
 pub empty_fits : (v : ℕ) (r : Rule) (n : ℕ) → HasFit v r [] n

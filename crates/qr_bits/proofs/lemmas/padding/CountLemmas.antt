@@ -65,13 +65,31 @@ fitting_short v l r xs a b fit =
 fitting_few : (v : ℕ) (l : Level) (r : Rule) (xs : List ℕ) → 1 ≤ v → v ≤ 40 → HasFit v r xs (capacity_of v l) → 10 * length xs ≤ 24 * most_data v
 fitting_few v l r xs a b fit = search (arith, data_range, bits_least, covers_suits)
 
--- the data codewords of a symbol of a version up to 9 have at most 1,856 bits
-pub capacity_small : (v : ℕ) (l : Level) → 1 ≤ v → v ≤ 9 → capacity_of v l ≤ 1856
-capacity_small v l a b = search (arith, groups, data_range)
+no_more : ℕ → Level → ℕ → Bool
+no_more m l i = leb (data_codewords_of (i + 1) l) (data_codewords_of m l)
 
--- the data codewords of a symbol of a version up to 26 have at most 10,960 bits
-pub capacity_medium : (v : ℕ) (l : Level) → 1 ≤ v → v ≤ 26 → capacity_of v l ≤ 10960
-capacity_medium v l a b = search (arith, groups, data_range)
+all_nine : (l : Level) → below 9 (no_more 9 l) ≡ true
+unfolding no_more data_codewords_of total_codewords_of block_count_of correction_len_of
+all_nine l = grind arith
+
+all_26 : (l : Level) → below 26 (no_more 26 l) ≡ true
+unfolding no_more data_codewords_of total_codewords_of block_count_of correction_len_of
+all_26 l = grind arith
+
+last_most : (m v : ℕ) (l : Level) → below m (no_more m l) ≡ true → 1 ≤ v → v ≤ m → capacity_of v l ≤ capacity_of m l
+unfolding no_more
+last_most m v l all a b =
+    let e : v - 1 + 1 ≡ v = omega arith in
+    let p : leb (data_codewords_of v l) (data_codewords_of m l) ≡ true = rw e at (below-at m (no_more m l) all (v - 1) (omega arith)) in
+    omega (arith, leb-true _ _ p)
+
+-- no version up to 9 has more room than version 9
+pub capacity_nine : (v : ℕ) (l : Level) → 1 ≤ v → v ≤ 9 → capacity_of v l ≤ capacity_of 9 l
+capacity_nine v l a b = last_most 9 v l (all_nine l) a b
+
+-- no version up to 26 has more room than version 26
+pub capacity_26 : (v : ℕ) (l : Level) → 1 ≤ v → v ≤ 26 → capacity_of v l ≤ capacity_of 26 l
+capacity_26 v l a b = last_most 26 v l (all_26 l) a b
 
 -- An input that fits a version up to 26 has at most 3,288 bytes.
 pub fitting_medium : (v : ℕ) (l : Level) (r : Rule) (xs : List ℕ) → 1 ≤ v → v ≤ 26 → HasFit v r xs (capacity_of v l) → length xs ≤ 3288

@@ -1,10 +1,10 @@
 -- The data of a segment is read group by group.
-use Rattle.std.proofs.Common.{◌≡◌, ℕ, suc, ◌+◌, ◌*◌, ◌/◌, ◌%◌, ◌^◌, ◌<◌, ◌≤◌, Bool, List, ◌∷◌, ◌++◌, length, take, drop, Result, Ok, Err, inr, refl, sym, ap, ◌∙◌, append_assoc, arith}
+use Rattle.std.proofs.Common.{◌≡◌, ℕ, suc, ◌+◌, ◌/◌, ◌%◌, ◌^◌, ◌<◌, ◌≤◌, Bool, List, ◌∷◌, ◌++◌, length, take, drop, Result, Ok, Err, inr, refl, sym, ap, ◌∙◌, append_assoc, arith}
 use Rattle.std.proofs.lemmas.{Bool.lt-ltb, Bool.le-ltb, List.length-take, List.length-drop, List.drop-drop}
 use Rattle.{std.proofs.Math.Nat.pow-le-pow_right, qr_bits.specs.declared.modes.Mode.TheVariants.{Numeric, Alphanumeric}}
 use Rattle.qr_bits.specs.declared.fault.ParseFault.{ParseFault, TheVariants.BadValue}
 use Rattle.qr_bits.specs.{Bits.value, Modes.payload_bits, Steps.Parsing.IsFaultOf, Steps.Parsing.prepend_read}
-use Rattle.qr_bits.specs.Parsing.{◌>>=◌, digit, digits_of, character, characters_of, bytes_of}
+use Rattle.qr_bits.specs.Parsing.{◌>>=◌, digit, digits_of, character, characters_of}
 use Rattle.qr_bits.proofs.lemmas.{bits.BitLemmas.value_below, stream.WritingLemmas.three_more}
 
 -- bits make a number below the power of their width
@@ -22,11 +22,6 @@ pub characters_step : (n m : ℕ) (bs : List Bool) → n ≡ suc (suc m) → let
     × (g < 2025 → characters_of n bs ≡ (characters_of m (drop 11 bs) >>= λ xs. Ok (character (g / 45) ∷ character (g % 45) ∷ xs))) × (2025 ≤ g → characters_of n bs ≡ Err BadValue)
 unfolding characters_of
 characters_step n m bs h = (omega (arith, h), λ l. rw (h, lt-ltb _ 2025 l) refl, λ l. rw (h, le-ltb _ 2025 l) refl)
-
--- a byte, and the bytes after it
-pub bytes_step : (n m : ℕ) (bs : List Bool) → n ≡ suc m → (8 + 8 * m ≡ 8 * n) × (bytes_of n bs ≡ value (take 8 bs) ∷ bytes_of m (drop 8 bs))
-unfolding bytes_of
-bytes_step n m bs h = (omega (arith, h), rw h refl)
 
 -- what was read before, and what `read` reads from the first w bits, make the whole
 pub record IsReading (read : Result (List ℕ) ParseFault) (w : ℕ) (out : List ℕ) (bits : List Bool) (whole : Result (List ℕ) ParseFault) (end : List Bool) : Type 0 where

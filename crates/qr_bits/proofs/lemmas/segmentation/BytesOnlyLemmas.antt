@@ -1,7 +1,9 @@
 -- If only byte mode may be used, there is one valid assignment: byte mode for each byte.
 use Rattle.std.proofs.Common.{◌≡◌, ℕ, ◌+◌, ◌*◌, ◌<◌, ◌≤◌, min, take, ⊎_elim, true, List, [], ◌∷◌, length, replicate, refl, sym, arith, inr}
-use Rattle.std.{proofs.lemmas.List.length-take-le, proofs.lemmas.Bool.cases_lt, specs.List.list_all}
-use Rattle.qr_bits.specs.declared.modes.{Mode.Mode, Mode.TheVariants.Byte, Rule.TheVariants.BytesOnly}
+use Rattle.std.proofs.Math.Nat.{le_refl}
+use Rattle.qr_bits.proofs.lemmas.best_modes.ChoiceLemmas.{byte_used}
+use Rattle.std.{proofs.lemmas.List.take_all, proofs.lemmas.List.length-take-le, proofs.lemmas.Bool.cases_lt, specs.List.list_all}
+use Rattle.qr_bits.specs.declared.modes.{Mode.Mode, Mode.TheVariants.Byte, Rule.Rule, Rule.TheVariants.BytesOnly}
 use Rattle.qr_bits.specs.Segmentation.{bits, IsAssignment, IsNotAfter, IsLeastSegmentation, IsLongestFit}
 use Rattle.qr_bits.specs.{Modes.may_use, Modes.count_width, Steps.Segmentation.one_segment}
 use Rattle.qr_bits.proofs.lemmas.segment.{CoverLemmas.one_covers, SegmentLemmas.covers_all, SegmentLemmas.least_fits}
@@ -47,4 +49,14 @@ bytes_longest v xs room n k e fits most =
           ⊎_elim (λ (none : j < 1). omega arith) (λ (some : 1 ≤ j).
           let few = ((least_fits v BytesOnly (take j xs) _ (bytes_least v (take j xs))).1 room).0 fit in
           grind (arith, length-take-le)) (cases_lt j 1);
+    }
+
+-- An input that fits in byte mode alone fits under each rule, and so is its own longest prefix that fits.
+pub whole_longest : (v : ℕ) (r : Rule) (xs : List ℕ) (room : ℕ) → 4 + count_width v Byte + 8 * length xs ≤ room → IsLongestFit v r xs room (length xs)
+whole_longest v r xs room few =
+    let is : IsAssignment r xs (replicate (length xs) Byte) = search (arith, all_used, byte_used, runs_of-replicate, one_covers) in
+    record {
+      inside = le_refl (length xs);
+      fits = rw (take_all (length xs) xs (le_refl (length xs))) (replicate (length xs) Byte, is, rw (runs_of-replicate Byte (length xs)) (omega (arith, bits-most v (length xs))));
+      longest = λ k h _. h;
     }

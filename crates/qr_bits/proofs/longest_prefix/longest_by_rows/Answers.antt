@@ -2,9 +2,9 @@ use Rattle.std.proofs.Common.{◌≡◌, ℕ, ◌+◌, ◌≤◌, ◌<◌, [], �
 use Rattle.std.proofs.{lemmas.Bool.cases_lt, Math.Nat.le_refl}
 use Rattle.qr_bits.specs.{Modes.is_kanji_pair, Steps.RunState.swapped, Steps.BestModes.in_state, Steps.BestModes.IsRow}
 use Rattle.qr_bits.proofs.lemmas.best_modes.TableLemmas.{best_none, small_more, small_row, zeros, zeros_small}
-use Rattle.qr_bits.proofs.lemmas.longest_prefix.MirrorLemmas.{empty_fits, prefix_more, prefix_fits, prefix_least}
+use Rattle.qr_bits.proofs.lemmas.longest_prefix.MirrorLemmas.{empty_fits, none_longer, prefix_more, prefix_fits, prefix_least}
 use Rattle.qr_bits.proofs.longest_prefix.longest_by_rows.Goals as goal
-use Rattle.qr_bits.proofs.longest_prefix.longest_by_rows.Goals.{then-from-room, else-from-room}
+use Rattle.qr_bits.proofs.longest_prefix.longest_by_rows.Goals.{then-from-room, else-from-room+else-from-room-2}
 
 below : (i l m : ℕ) → i < l → l ≤ m → i ≤ m
 below i l m h e = omega arith
@@ -25,7 +25,7 @@ loop-i-init c = record {
 }
 
 pub best_choices-requires : goal.best_choices-requires
-best_choices-requires c = small_row _ c.loop-i.i (below _ _ _ c.loop-i-test.true c.requires) c.loop-i.invariant.small
+best_choices-requires c = small_row _ c.loop-i.i (below _ _ _ c.loop-i-test.true c.requires.short) c.loop-i.invariant.small
 
 pub loop-i-preserved : goal.loop-i-preserved
 unfolding in_state
@@ -47,7 +47,7 @@ loop-i-preserved c =
             small = small_more v r _ _ _ _ _ _ inv.small chosen;
             best = (c.best_choices.result.0 ∷ inv.best.0, b);
           })
-      | else-from-room w ↦
+      | else-from-room+else-from-room-2 w ↦
           rw w.longest-is (record {
             inside = more _ _ inv.inside;
             fits = inv.fits;
@@ -60,11 +60,28 @@ loop-i-preserved c =
           })
     ]
 
-pub returns : goal.returns
-returns c =
+pub returns-after-loop-i : goal.returns-after-loop-i
+returns-after-loop-i c =
     let all : c.loop-i.i ≡ length c.args.input.now = omega arith in
     record {
       inside = omega (arith, c.loop-i.invariant.inside);
       fits = c.loop-i.invariant.fits;
       longest = λ k h fit. c.loop-i.invariant.longest k (omega arith) fit;
+    }
+
+pub returns-then-from-room-2 : goal.returns-then-from-room-2
+returns-then-from-room-2 c =
+    let v = c.args.version in
+    let r = c.args.rule in
+    let xs = c.args.input.now in
+    let i = c.loop-i.i in
+    let inv = c.loop-i.invariant in
+    let chosen : IsRow v r (get_or xs i 0) _ c.loop-i.rest c.best_choices.result.0 c.best_choices.result.1 = rw c.of-first_choices.ensures at c.best_choices.ensures in
+    let b = prefix_more v r xs i _ inv.best.0 _ _ _ c.loop-i-test.true c.ends_with_pair-pair.ensures inv.best.1 chosen in
+    record {
+      inside = omega (arith, inv.inside, c.loop-i-test.true);
+      fits = inv.fits;
+      longest = λ k h fit. ⊎_elim (λ (l : i < k).
+          absurd (none_longer v r xs (i + 1) k _ _ c.args.room b (λ p. omega (arith, c.fewest.ensures p, c.if-from-room-2.true, c.from-else-from-room.ensures)) (omega (arith, l)) fit))
+          (λ (l : k ≤ i). inv.longest k l fit) (cases_lt i k);
     }

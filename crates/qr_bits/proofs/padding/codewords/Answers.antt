@@ -49,7 +49,7 @@ returns-clause-ok c =
     is_data c.args.version c.args.level xs segs c.args.header _ (c.header_bits.result + c.bit_len.result) c.into_codewords-codewords.result.items _ is
     (rw (length-append (header_stream c.args.header) (segments_stream c.args.version xs segs), length-header_stream c.args.header, length-segments_stream c.args.version xs segs suit, c.header_bits.ensures.value, c.bit_len.ensures) refl)
     left.0
-    (rw (c.into_codewords-codewords.ensures, c.in_ok-put_all.ensures.0, c.new-writer.ensures, c.capacity-capacity.ensures.value))
+    (rw (c.into_codewords-codewords.ensures, c.in_ok-put_all.ensures.0, c.in_ok-writer.ensures, c.capacity-capacity.ensures.value))
     (search arith) c.in_ok-pad.ensures.1
 
 pub returns-clause-too_long : goal.returns-clause-too_long

@@ -1,9 +1,5 @@
-use Rattle.{qr_bits.proofs.Facts.{fitting_short, least_fits, covers_all}, std.proofs.Common.arith}
+use Rattle.{qr_bits.proofs.Facts.{least_fits, covers_all}, std.proofs.Common.arith}
 use Rattle.qr_symbol.proofs.series.plain_symbol.Goals as goal
-
-pub returns-then-input-gt-SYMBOL_BYTES_MAX : goal.returns-then-input-gt-SYMBOL_BYTES_MAX
-returns-then-input-gt-SYMBOL_BYTES_MAX c = λ fits.
-    let short = fitting_short _ _ _ _ (omega arith) (omega arith) fits in omega arith
 
 pub bit_len-requires : goal.bit_len-requires
 bit_len-requires c = let all = covers_all _ _ (least_fits _ _ _ _ c.in_ok-segments.ensures.ok).0 in

@@ -10,7 +10,7 @@ loop-segments-init c =
     let e : c.unwrap-first.result ≡ c.max.result = found.1 in
     let least = c.number.ensures.least in record {
       from = omega arith;
-      none = λ v a b fits. c.first_for.ensures.none v c.args.level (omega arith) (omega arith) fits;
+      none = λ v a b fits. c.first_for.ensures.none v (omega arith) (omega arith) fits;
     }
 
 pub bit_len-requires : goal.bit_len-requires

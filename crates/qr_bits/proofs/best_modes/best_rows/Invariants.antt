@@ -1,7 +1,7 @@
 use Rattle.std.proofs.Common.{◌≡◌, ◌+◌, ◌*◌, ◌≤◌, length, reverse, drop, vec_len}
 use Rattle.qr_bits.specs.{declared.run_state.RunState.RunState, Modes.is_kanji_pair, Steps.BestModes.{bits_at, follow}}
 use Rattle.qr_bits.proofs.lemmas.run_state.BestLemmas.{BestBelow}
-use Rattle.qr_bits.proofs.best_modes.best_modes.Given as goal
+use Rattle.qr_bits.proofs.best_modes.best_rows.Given as goal
 
 -- what the table says of the bytes from i on
 abbrev pub invariant-loop-i : goal.invariant-loop-i

@@ -3,7 +3,7 @@ use Rattle.std.proofs.Math.{Seq.drop-length, Seq.drop-cons, Nat.le_refl}
 use Rattle.std.proofs.lemmas.List.{reverse-append, take_all, length-drop}
 use Rattle.qr_bits.specs.{Modes.is_kanji_pair, Steps.RunState.begins_with_pair, Steps.BestModes.IsRow, Steps.BestModes.bits_at}
 use Rattle.qr_bits.proofs.lemmas.best_modes.TableLemmas.{best_none, best_more, small_more, small_row, zeros, zeros_small}
-use Rattle.qr_bits.proofs.best_modes.best_modes.Goals as goal
+use Rattle.qr_bits.proofs.best_modes.best_rows.Goals as goal
 
 -- n rows are in the table, and k bytes have none yet
 rows : (n k l : ℕ) → n + k ≡ l
@@ -21,7 +21,7 @@ loop-i-init c = record {
 }
 
 pub best_choices-modes-requires : goal.best_choices-modes-requires
-best_choices-modes-requires c = small_row c.loop-i.rest _ ((rows _ _ _ c.loop-i.invariant.len).2 c.requires) c.loop-i.invariant.small
+best_choices-modes-requires c = small_row c.loop-i.rest _ ((rows _ _ _ c.loop-i.invariant.len).2 c.requires.short) c.loop-i.invariant.small
 
 pub loop-i-preserved : goal.loop-i-preserved
 loop-i-preserved c =
@@ -31,7 +31,7 @@ loop-i-preserved c =
     let d : drop i xs ≡ get_or xs i 0 ∷ drop c.loop-i.i xs = rw (drop-cons xs i 0 at.1, at.0) refl in
     let w : take (length xs - i) (drop i xs) ≡ drop i xs = take_all _ _ (rw (length-drop i xs) (le_refl (length xs - i))) in
     let chosen : IsRow c.args.version c.args.rule (get_or xs i 0) (begins_with_pair c.args.rule is_kanji_pair (get_or xs i 0 ∷ drop c.loop-i.i xs)) c.loop-i.rest c.best_choices-modes.result.0 c.best_choices-modes.result.1 =
-    rw (c.of-first_choices.ensures, c.begins_with_pair-pair.ensures, w, d) at c.best_choices-modes.ensures in
+    rw (c.of-first_choices.ensures, c.pair_at-pair.ensures, w, d) at c.best_choices-modes.ensures in
     record {
       len = rw c.in_ok-push.ensures.len at.2;
       small = λ p. rw c.in_ok-push.ensures.len (small_more c.args.version c.args.rule _ _ _ c.loop-i.rest _ _ c.loop-i.invariant.small chosen p);

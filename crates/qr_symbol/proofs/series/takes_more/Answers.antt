@@ -1,0 +1,10 @@
+use Rattle.{qr_bits.{proofs.Facts.{fitting_short}, specs.Padding.capacity_of}, std.proofs.{Common.{arith}, lemmas.Bool.ltb-true}}
+use Rattle.qr_symbol.proofs.series.takes_more.Goals as goal
+
+pub returns-then-input-gt-SYMBOL_BYTES_MAX-clause-none : goal.returns-then-input-gt-SYMBOL_BYTES_MAX-clause-none
+returns-then-input-gt-SYMBOL_BYTES_MAX-clause-none c = λ _ fits.
+    let short = fitting_short _ _ _ _ (omega arith) (omega arith) fits in omega arith
+
+pub returns-then-not-matches-clause-none : goal.returns-then-not-matches-clause-none
+returns-then-not-matches-clause-none c = λ more fits.
+    omega (arith, ltb-true _ _ more, c.least_bits.ensures.least c.args.version (capacity_of c.args.version c.args.level) c.args.rule fits, c.from.ensures, c.from-then-not-matches.ensures, c.data_codewords.ensures)
