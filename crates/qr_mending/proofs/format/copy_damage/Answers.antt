@@ -1,7 +1,12 @@
-use Rattle.{std.proofs.Common.{◌≡◌, ◌&&◌, not, cond, arith}, qr_matrix.specs.{Grid.is_same, BitRow.has_bit}}
-use Rattle.qr_bits.proofs.lemmas.bits.BitLemmas.{bool_byte-bit, bool_byte-cond}
+use Rattle.{std.proofs.Common.{◌≡◌, ◌&&◌, Bool, not, cond, arith}, qr_matrix.specs.{Grid.is_same, BitRow.has_bit}}
+use Rattle.qr_bits.proofs.Facts.{bool_byte-bit}
+use mir.Val.{bool_byte}
 use Rattle.qr_mending.{specs.Format.copy_bit, proofs.lemmas.format.FormatLemmas.sum-more}
 use Rattle.qr_mending.proofs.format.copy_damage.Goals as goal
+
+-- a bit as a number
+as-number : (b : Bool) → bool_byte b ≡ cond b 1 0
+as-number b = grind arith
 
 pub loop-i-preserved : goal.loop-i-preserved
 loop-i-preserved c =
@@ -14,7 +19,7 @@ loop-i-preserved c =
     let unknown : c.dark-is_unknown.result ≡ copy_bit copy u i = cc
     (c.dark-is_unknown.ensures, place, c.requires.unknown_side) in
     let unread : c.from-unread.result ≡ cond (copy_bit copy u i) 1 0 =
-    cc (c.from-unread.ensures, (bool_byte-cond c.dark-is_unknown.result).0, unknown) in
+    cc (c.from-unread.ensures, as-number c.dark-is_unknown.result, unknown) in
     let misread : c.misread_bit-misread.result ≡ cond (not (copy_bit copy u i) && not (is_same (copy_bit copy g i) (has_bit c.args.word i))) 1 0 =
     cc (c.misread_bit-misread.ensures.value, unknown, dark, c.is_bit_set.ensures) in
     let one = (bool_byte-bit c.dark-is_unknown.result).0 in
