@@ -1,10 +1,9 @@
 -- Steps of the code: bit rows, dark runs, the modules that cost a point, and tiles, the parts of 64 by 64 modules by
 -- which a square is transposed.
-use Rattle.std.specs.Prelude.{◌≡◌, ℕ, ◌+◌, ◌-◌, ◌*◌, ◌%◌, ◌^◌, ◌<◌, ◌≤◌, ◌&&◌, ◌||◌, not, Bool, List, [], ◌∷◌, length, slice_index, nat_le, nat_lt, if◌then◌else◌}
+use Rattle.std.specs.Prelude.{◌≡◌, ℕ, ◌+◌, ◌-◌, ◌*◌, ◌%◌, ◌^◌, ◌<◌, ◌≤◌, ◌&&◌, ◌||◌, not, Bool, List, [], ◌∷◌, length, slice_index, nat_lt, if◌then◌else◌}
 use Rattle.std.specs.List.{filter, range_with_len}
 use Rattle.qr_matrix.specs.Grid.{is_same}
 use Rattle.qr_matrix.specs.Sums.{count_below}
-use Rattle.qr_matrix.specs.Penalty.{finder_ratio, four_light, reads}
 use Rattle.qr_matrix.specs.Runs.{begins_five}
 use Rattle.qr_matrix.specs.BitRow.{has, has_bit}
 use Rattle.qr_matrix.specs.declared.dark_runs.Run.{Run}
@@ -48,19 +47,6 @@ is_charged s line c = (begins_five s line c || (nat_lt 0 c && begins_five s line
 -- The number of modules of row `r` that are charged for runs in columns
 unfoldable pub row_share : ℕ → (ℕ → ℕ → Bool) → ℕ → ℕ
 row_share s dark r = count_below s (λ c. is_charged s (λ i. dark i c) r)
-
--- A window of `line` whose ratio begins at module `q` and comes before its light modules
-unfoldable pub is_window_after : ℕ → (ℕ → Bool) → ℕ → Bool
-is_window_after s line q = nat_le (q + 11) s && (reads line q finder_ratio && reads line (q + 7) four_light)
-
--- A window of `line` whose ratio begins at module `q` and comes after its light modules
-unfoldable pub is_window_before : ℕ → (ℕ → Bool) → ℕ → Bool
-is_window_before s line q = (nat_le 4 q && nat_le (q + 7) s) && (reads line (q - 4) four_light && reads line q finder_ratio)
-
--- The windows of all columns whose ratio begins in row `r`
-unfoldable pub windows_of_row : ℕ → (ℕ → ℕ → Bool) → ℕ → ℕ
-windows_of_row s dark r =
-    count_below s (λ c. is_window_after s (λ i. dark i c) r) + count_below s (λ c. is_window_before s (λ i. dark i c) r)
 
 -- The bit in row `r` and column `c` of a tile
 unfoldable pub bit_in : List ℕ → ℕ → ℕ → Bool

@@ -8,7 +8,7 @@ sum_below-same zero f g e = refl
 sum_below-same (suc n) f g e = let a = e n (omega arith) in let b = sum_below-same n f g (λ k l. e k (omega arith)) in omega arith
 
 -- the sum of 0 over the numbers below n is 0
-pub sum_below-zero : (n : ℕ) → sum_below n (λ k. 0) ≡ 0
+sum_below-zero : (n : ℕ) → sum_below n (λ k. 0) ≡ 0
 sum_below-zero zero = refl
 sum_below-zero (suc n) = let a = sum_below-zero n in omega arith
 
