@@ -184,6 +184,7 @@ impl Matrix {
 
     /// Sets row `row` to that of `plain`, and inverts each module that is dark in `within` and whose bit of `pattern`
     /// is 1. The six bits of `pattern` repeat every six columns, the lowest bit first.
+    #[tactic(auto, using(crate::proofs::Named::replaced_facts))]
     pub fn set_row_masked(&mut self, row: u8, plain: &Matrix, within: &Matrix, pattern: u8)
         requires row_in { row < self.old.side }
         requires plain_side { plain.now.side ≡ self.old.side }
@@ -193,29 +194,9 @@ impl Matrix {
             (λ c. if colour within.now row c && has_bit pattern (c % 6)
             then not (colour plain.now row c) else colour plain.now row c) }
     {
-        match self.words() {
-            1 => self.set_words_masked(row, plain, within, pattern, 1),
-            2 => self.set_words_masked(row, plain, within, pattern, 2),
-            _ => self.set_words_masked(row, plain, within, pattern, 3),
-        }
-    }
-
-    // As `set_row_masked`, but the compiler sees that the words after the first `words` are 0.
-    #[inline(always)]
-    #[tactic(auto, using(crate::proofs::Named::replaced_facts))]
-    fn set_words_masked(&mut self, row: u8, plain: &Matrix, within: &Matrix, pattern: u8, words: u8)
-        requires row_in { row < self.old.side }
-        requires plain_side { plain.now.side ≡ self.old.side }
-        requires within_side { within.now.side ≡ self.old.side }
-        requires pattern_in { pattern < 64 }
-        requires width { NeedsWords self.old.side words }
-        ensures { self.new ≡ with_row self.old row
-            (λ c. if colour within.now row c && has_bit pattern (c % 6)
-            then not (colour plain.now row c) else colour plain.now row c) }
-    {
         let index = usize::from(row);
-        let inverted = within.bit_row_in(index, words) & BitRow::repeated(pattern);
-        self.set_bit_row(row, plain.bit_row_in(index, words) ^ inverted);
+        let inverted = within.bit_row(index) & BitRow::repeated(pattern);
+        self.set_bit_row(row, plain.bit_row(index) ^ inverted);
     }
 
     #[tactic(auto, using(crate::proofs::Named::replaced_facts))]
