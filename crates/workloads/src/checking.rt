@@ -80,6 +80,8 @@ fn add_mended(outcome: &Result<Mended, ReadFault>, digest: &mut Digest) {
     match outcome {
         Ok(mended) => {
             add_parsed(&mended.parsed, digest);
+            digest.add(u64::from(mended.version.number()));
+            digest.add(u64::from(mended.mask));
             digest.add(u64::from(mended.wrong_modules));
             digest.add(u64::from(mended.wrong_format_modules));
             for changed in &mended.changed {
@@ -178,7 +180,7 @@ fn smudge(alloc: Global, symbol: &Symbol, random: &mut Random) -> Result<Matrix,
     Ok(unknown)
 }
 
-/// Symbols of versions 2 to 10, and every sixteenth of 40-H, mended: sound, with a wrong codeword in each block, with as
+/// Symbols of versions 2 to 13, and every sixteenth of 40-H, mended: sound, with a wrong codeword in each block, with as
 /// many as can be mended, smudged, and with one more than can be mended.
 pub fn mend(alloc: Global, count: u64, seed: u64, digest: &mut Digest) -> Result<(), AllocError> {
     let mut random = Random::new(seed);

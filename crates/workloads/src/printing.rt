@@ -71,7 +71,7 @@ pub fn labels(alloc: Global, count: u64, seed: u64, digest: &mut Digest) -> Resu
     Ok(())
 }
 
-// A text of one of five kinds that fits versions 20 to 40.
+// A text of one of five kinds that takes versions 18 to 40.
 fn large_text(
     alloc: Global,
     random: &mut Random,
@@ -96,7 +96,7 @@ fn large_text(
     Ok(text)
 }
 
-/// Symbols of versions 20 to 40, at all levels, in all drawings, with margins from 0 to 10.
+/// Symbols of versions 18 to 40, at all levels, in all drawings, with margins from 0 to 10.
 pub fn large(alloc: Global, count: u64, seed: u64, digest: &mut Digest) -> Result<(), AllocError> {
     let mut random = Random::new(seed);
     for turn in 0..count {

@@ -29,7 +29,7 @@ impl Random {
         (self.number() % end as u64) as usize
     }
 
-    /// Returns a number from `least` to `most`, or `least` if that is more.
+    /// Returns a number from `least` on and below `most`, or `least` if there is none.
     pub fn between(&mut self, least: usize, most: usize) -> usize {
         if most <= least {
             return least;

@@ -19,7 +19,7 @@ static WORDS: [&str; 24] = [
     "Thanks",
 ];
 
-/// Returns a text that is added to piece by piece.
+/// A text that is added to piece by piece.
 #[derive(Drop)]
 pub struct Text {
     bytes: Vec<u8>,
@@ -62,7 +62,7 @@ impl Text {
         self.put_of(random, &DIGITS, 3)
     }
 
-    /// A serial number, of 12 to 40 digits and capitals.
+    /// A serial number, of 12 to 37 digits and capitals.
     pub fn put_serial(&mut self, random: &mut Random) -> Result<(), AllocError> {
         let count = random.between(6, 20);
         self.put_of(random, &CAPITALS, count)?;
@@ -92,7 +92,7 @@ impl Text {
         self.put(";;")
     }
 
-    /// A person to call, of 130 to 250 bytes.
+    /// A person to call, of 120 to 220 bytes.
     pub fn put_contact(&mut self, random: &mut Random) -> Result<(), AllocError> {
         self.put("BEGIN:VCARD\nVERSION:3.0\nFN:")?;
         let count = random.between(10, 30);
@@ -110,8 +110,9 @@ impl Text {
 
     /// At least `count` bytes of words.
     pub fn put_prose(&mut self, random: &mut Random, count: usize) -> Result<(), AllocError> {
+        let end = self.bytes.len().saturating_add(count);
         for _ in 0..count {
-            if self.bytes.len() >= count {
+            if self.bytes.len() >= end {
                 return Ok(());
             }
             self.put(WORDS[random.below(24)])?;
@@ -120,7 +121,7 @@ impl Text {
         Ok(())
     }
 
-    /// At least `count` bytes of JSON records.
+    /// JSON records, up to at least `count` bytes of text.
     pub fn put_records(&mut self, random: &mut Random, count: usize) -> Result<(), AllocError> {
         for _ in 0..count {
             if self.bytes.len() >= count {
@@ -164,7 +165,7 @@ impl Text {
         Ok(())
     }
 
-    /// At least `count` bytes in runs of digits, capitals and letters, of lengths at which a segment of its own just
+    /// Text up to at least `count` bytes, in runs of digits, capitals and letters, of lengths at which a segment of its own just
     /// pays or just does not.
     pub fn put_runs(&mut self, random: &mut Random, count: usize) -> Result<(), AllocError> {
         for _ in 0..count {
