@@ -1,33 +1,30 @@
 //! Mends damaged blocks: computes a candidate from the syndromes, and takes it only if it is a block and differs in few
-//! enough codewords. The syndromes are those of a remainder, which is short.
+//! enough codewords. The syndromes are those of a remainder, which is short, and are computed as they are needed.
 
 ghost use Rattle.std.specs.Prelude.{◌≡◌, ℕ, ◌*◌, ◌≤◌, List, length, IfSome, IfNone};
-ghost use Rattle.std.specs.Bool.{Decides};
+ghost use Rattle.std.specs.Bool.{Decides, OnTrue, OnFalse};
 ghost use Rattle.arrayvec.specs.ArrayVec.{array_vec_len};
 ghost use Rattle.qr_field.specs.{Distance.{differences}, Polynomial.{plus}};
 ghost use Rattle.qr_mending.specs.Block.{IsBlock, IsMended};
-ghost use Rattle.qr_mending.specs.Steps.Sums.{HasSameValues};
+ghost use Rattle.qr_mending.specs.Steps.{Sums.{HasSameValues}, Polynomial.{IsProgress}};
 
 use crate::errors::without_errors;
-use crate::locator::locator;
-use crate::sums::syndromes;
+use crate::locator::Progress;
 use arrayvec::ArrayVec;
 use qr_field::Divisor;
 
-// The mended block, or if `damaged` cannot be mended, a list that the caller has to refuse.
-fn candidate(remainder: &[u8], t: usize, damaged: &[u8]) -> ArrayVec<u8, 255>
-    requires most { length remainder.now ≤ 30 }
-    requires half { 2 * t ≤ length remainder.now }
+// The mended block, if all syndromes were taken in and `damaged` can be mended; otherwise a list that may be no block.
+fn candidate(progress: &Progress, t: usize, remainder: &[u8], damaged: &[u8]) -> ArrayVec<u8, 255>
+    requires progress { IsProgress t remainder.now progress.now }
     requires fits { length damaged.now ≤ 255 }
+    requires half { 2 * t ≤ length remainder.now }
     requires same { HasSameValues remainder.now damaged.now }
     ensures long { length result.items ≡ length damaged.now }
-    ensures mended { (n : ℕ) (mended : List ℕ) → n ≡ length remainder.now → IsMended n t damaged.now mended →
-        result.items ≡ mended }
+    ensures mended { array_vec_len progress.now.syndromes ≡ 2 * t → (mended : List ℕ) →
+        IsMended (length remainder.now) t damaged.now mended → result.items ≡ mended }
 {
-    let first = syndromes(remainder);
-    let polynomial = locator(first.as_slice(), t);
-    let coefficients = polynomial.coefficients();
-    without_errors(coefficients, first.as_slice(), damaged)
+    let best = progress.search.best;
+    without_errors(best.coefficients(), progress.syndromes.as_slice(), damaged)
 }
 
 fn count_differences(xs: &[u8], ys: &[u8]) -> usize
@@ -81,6 +78,52 @@ pub(crate) fn remainder(divisor: &Divisor, codewords: &[u8]) -> Option<ArrayVec<
     Some(sum(&codewords[start..], correction.as_slice()))
 }
 
+fn is_mended(divisor: &Divisor, t: usize, damaged: &[u8], mended: &[u8]) -> bool
+    requires least { divisor.now ≤ length damaged.now }
+    requires long { length mended.now ≡ length damaged.now }
+    ensures yes { OnTrue result (IsMended divisor.now t damaged.now mended.now) }
+    ensures no { OnFalse result (IsMended divisor.now t damaged.now mended.now → ⊥) }
+{
+    count_differences(damaged, mended) <= t && is_block(divisor, mended)
+}
+
+// Mends codewords that are no block. Most damaged blocks have few wrong codewords, for which the first syndromes suffice.
+fn mended_block(
+    divisor: &Divisor,
+    t: usize,
+    remainder: &[u8],
+    damaged: &[u8],
+) -> Option<ArrayVec<u8, 255>>
+    requires half { 2 * t ≤ divisor.now }
+    requires least { divisor.now ≤ length damaged.now }
+    requires most { length damaged.now ≤ 255 }
+    requires few { divisor.now ≤ 30 }
+    requires count { length remainder.now ≡ divisor.now }
+    requires same { HasSameValues remainder.now damaged.now }
+    ensures mended { IfSome result (λ block. IsMended divisor.now t damaged.now block.items) }
+    ensures refused { IfNone result ((mended : List ℕ) → IsMended divisor.now t damaged.now mended → ⊥) }
+{
+    let mut progress = Progress::new();
+    if !progress.advance(remainder, t, true) {
+        return None;
+    }
+    let early = candidate(&progress, t, remainder, damaged);
+    if is_mended(divisor, t, damaged, early.as_slice()) {
+        return Some(early);
+    }
+    if progress.syndromes.len() == 2 * t {
+        return None;
+    }
+    if !progress.advance(remainder, t, false) {
+        return None;
+    }
+    let block = candidate(&progress, t, remainder, damaged);
+    if !is_mended(divisor, t, damaged, block.as_slice()) {
+        return None;
+    }
+    Some(block)
+}
+
 /// Mends a damaged block of at most 255 codewords: replaces `codewords` by the block that differs from them in at most
 /// `t`, and returns in how many. Returns `None` and changes nothing if there is no such block (ISO/IEC 18004:2015,
 /// 7.5.1 and Annex B). `divisor` determines the number of error correction codewords, which must be at least twice `t`.
@@ -99,11 +142,10 @@ pub fn mend(divisor: &Divisor, t: usize, codewords: &mut [u8]) -> Option<usize>
     let Some(remainder) = remainder(divisor, codewords) else {
         return Some(0);
     };
-    let mended = candidate(remainder.as_slice(), t, codewords);
-    let changed = count_differences(codewords, mended.as_slice());
-    if changed > t || !is_block(divisor, mended.as_slice()) {
+    let Some(mended) = mended_block(divisor, t, remainder.as_slice(), codewords) else {
         return None;
-    }
+    };
+    let changed = count_differences(codewords, mended.as_slice());
     codewords.copy_from_slice(mended.as_slice());
     Some(changed)
 }

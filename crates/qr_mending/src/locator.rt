@@ -7,20 +7,39 @@
 //! multiple of an earlier polynomial is added, and if need be its degree rises. The degree is never higher than the
 //! number of misread codewords.
 
-ghost use Rattle.std.specs.Prelude.{◌≡◌, ◌≢◌, ℕ, ◌+◌, ◌*◌, ◌<◌, ◌≤◌, List, length, IfSome, IfNone};
-ghost use Rattle.qr_mending.specs.Steps.Polynomial.{all_of, IsMonic, IsSearch};
-ghost use Rattle.qr_mending.specs.Steps.Errors.{AreFewErrors, IsLocated};
+ghost use Rattle.std.specs.Prelude.{◌≡◌, ◌≢◌, ℕ, ◌+◌, ◌*◌, ◌<◌, ◌≤◌, List, false, length, IfSome, IfNone};
+ghost use Rattle.std.specs.Bool.{OnTrue, OnFalse};
+ghost use Rattle.arrayvec.specs.ArrayVec.{array_vec_len};
+ghost use Rattle.qr_mending.specs.Steps.Polynomial.{all_of, IsMonic, IsSearch, IsProgress};
+ghost use Rattle.qr_mending.specs.Steps.Errors.{AreFewErrors, AreFewErrorsOf, IsLocated};
 
 use crate::polynomial::Polynomial;
+use crate::sums::syndrome;
+use arrayvec::ArrayVec;
 use qr_field::div;
 
 // `best` solves the equations of the syndromes that were taken in. `earlier` was the best before the degree last rose;
 // `miss` is its sum for the first equation that it does not solve.
 #[derive(Clone, Copy)]
-struct Search {
-    best: Polynomial,
+pub(crate) struct Search {
+    pub(crate) best: Polynomial,
     earlier: Polynomial,
     miss: u8,
+}
+
+impl Search {
+    // Before the first syndrome.
+    fn new() -> Search
+        ensures search { (syndromes : List ℕ) → IsSearch 0 syndromes result }
+        ensures degree { result.best.degree ≡ 0 }
+    {
+        let one = Polynomial::one();
+        Search {
+            best: one,
+            earlier: one,
+            miss: 1,
+        }
+    }
 }
 
 // Takes in syndrome `i`. Returns `None` if the degree would rise above `t`: then over `t` codewords are misread.
@@ -66,12 +85,7 @@ pub(crate) fn locator(syndromes: &[u8], t: usize) -> Polynomial
     ensures monic { IsMonic result }
     ensures located { (errors : List ℕ) → AreFewErrors t syndromes.now errors → IsLocated (all_of result) errors }
 {
-    let one = Polynomial::one();
-    let mut search = Search {
-        best: one,
-        earlier: one,
-        miss: 1,
-    };
+    let mut search = Search::new();
     for i in 0..2 * t {
         let Some(found) = next(&search, syndromes, i, t) else {
             return search.best;
@@ -79,4 +93,45 @@ pub(crate) fn locator(syndromes: &[u8], t: usize) -> Polynomial
         search = found;
     }
     search.best
+}
+
+// The first syndromes of a block, and the search after them.
+#[derive(Drop)]
+pub(crate) struct Progress {
+    pub(crate) syndromes: ArrayVec<u8, 30>,
+    pub(crate) search: Search,
+}
+
+impl Progress {
+    pub(crate) fn new() -> Progress
+        ensures { (t : ℕ) (remainder : List ℕ) → IsProgress t remainder result }
+    {
+        Progress {
+            syndromes: ArrayVec::new(),
+            search: Search::new(),
+        }
+    }
+
+    // Takes in further syndromes, up to `2 * t`. If `early`, stops once `best` solves two equations more than its degree:
+    // then it seldom changes any more. Returns false if over `t` codewords are misread.
+    pub(crate) fn advance(&mut self, remainder: &[u8], t: usize, early: bool) -> bool
+        requires progress { IsProgress t remainder.now self.old }
+        requires small { t ≤ 15 }
+        requires long { 2 * t ≤ length remainder.now }
+        ensures progress { OnTrue result (IsProgress t remainder.now self.new) }
+        ensures all { OnTrue result (early ≡ false → array_vec_len self.new.syndromes ≡ 2 * t) }
+        ensures beyond { OnFalse result ((errors : List ℕ) → AreFewErrorsOf t remainder.now errors → ⊥) }
+    {
+        for i in self.syndromes.len()..2 * t {
+            self.syndromes.push(syndrome(remainder, i as u8));
+            let Some(found) = next(&self.search, self.syndromes.as_slice(), i, t) else {
+                return false;
+            };
+            self.search = found;
+            if early && i + 1 == 2 * found.best.degree + 2 {
+                return true;
+            }
+        }
+        true
+    }
 }

@@ -56,7 +56,7 @@ fn in_blocks(alloc: Global, blocks: Blocks, interleaved: &[u8]) -> Result<InBloc
     Ok(InBlocks { data, checks })
 }
 
-// One block, or its marks: data codewords, then error correction codewords.
+// One block: data codewords, then error correction codewords.
 fn block_of(
     alloc: Global,
     blocks: Blocks,
@@ -78,13 +78,34 @@ fn block_of(
     Ok(codewords)
 }
 
-fn erased_of(alloc: Global, marks: &[u8]) -> Result<Vec<bool>, AllocError>
-    ensures { IfOk result (λ erased. erased.items ≡ map (λ mark. not (mark == 0)) marks.now) }
+// Appends for each mark whether it is not 0.
+fn push_erased(erased: &mut Vec<bool>, marks: &[u8]) -> Result<(), AllocError>
+    ensures { IfOk result (λ _. erased.new.items ≡ erased.old.items ++ map (λ mark. not (mark == 0)) marks.now) }
 {
-    let mut erased = Vec::with_capacity(alloc, marks.len())?;
     for i in 0..marks.len() {
         erased.push(marks[i] != 0)?;
     }
+    Ok(())
+}
+
+// Which codewords of one block are erased.
+fn erased_of(
+    alloc: Global,
+    blocks: Blocks,
+    marks: &InBlocks,
+    block: usize,
+) -> Result<Vec<bool>, AllocError>
+    requires within { block < block_count (data_sizes blocks) }
+    requires data { length marks.now.data.items ≡ codeword_count (data_sizes blocks) }
+    requires checks { length marks.now.checks.items ≡ codeword_count (correction_sizes blocks) }
+    ensures { IfOk result (λ erased. erased.items ≡
+        map (λ mark. not (mark == 0)) (received blocks marks.now.data.items marks.now.checks.items block)) }
+{
+    let data = BlockSizes::of_data(blocks).part(&marks.data, block);
+    let checks = BlockSizes::of_corrections(blocks).part(&marks.checks, block);
+    let mut erased = Vec::with_capacity(alloc, data.len() + checks.len())?;
+    push_erased(&mut erased, data)?;
+    push_erased(&mut erased, checks)?;
     Ok(erased)
 }
 
@@ -162,7 +183,7 @@ fn mend_next(
     ensures fault { IfErr result (λ e. (e ≡ ReadFault.Memory) ⊎ (e ≡ ReadFault.Check)) }
 {
     let codewords = block_of(alloc, blocks, received, block)?;
-    let erased = erased_of(alloc, &block_of(alloc, blocks, marks, block)?)?;
+    let erased = erased_of(alloc, blocks, marks, block)?;
     let Some(mended) = mend_block(divisor, spare, &erased, codewords) else {
         return Err(ReadFault::Check);
     };

@@ -37,7 +37,7 @@ pub(crate) fn value(terms: &[u8], x: u8) -> u8
 
 // The value at 2^`exponent` of the polynomial whose coefficients are `block`, that of the highest power first.
 #[tactic(auto, using(crate::proofs::Named::value_facts))]
-fn syndrome(block: &[u8], exponent: u8) -> u8
+pub(crate) fn syndrome(block: &[u8], exponent: u8) -> u8
     requires { exponent < 255 }
     ensures { result ≡ value_at exponent block.now }
 {

@@ -5,7 +5,7 @@ use Rattle.std.specs.Prelude.{◌≡◌, ℕ, ◌<◌, ◌≤◌, ◌==◌, if�
 use Rattle.std.specs.List.{All}
 use Rattle.qr_field.specs.Galois.{product}
 use Rattle.qr_field.specs.{Polynomial.{IsByte, power, zeros}, Distance.{differences}}
-use Rattle.qr_mending.specs.Steps.Sums.{eval, HasValues}
+use Rattle.qr_mending.specs.Steps.Sums.{eval, HasValues, HasSameValues}
 
 -- The coefficient of x^m.
 abbrev pub coefficient : ℕ → List ℕ → ℕ
@@ -30,3 +30,10 @@ pub record AreFewErrors (t : ℕ) (s e : List ℕ) : Type 0 where
   pub most : length e ≤ 255
   pub few : differences e (zeros (length e)) ≤ t
   pub values : HasValues s e
+
+-- At most `t` of the errors are not 0, and `r` is the remainder of their block.
+pub record AreFewErrorsOf (t : ℕ) (r e : List ℕ) : Type 0 where
+  pub bytes : All IsByte e
+  pub most : length e ≤ 255
+  pub few : differences e (zeros (length e)) ≤ t
+  pub values : HasSameValues r e

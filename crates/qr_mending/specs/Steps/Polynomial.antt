@@ -1,12 +1,13 @@
 -- Polynomials with the leading coefficient 1, and the search for the error locator polynomial. A polynomial solves the
 -- equation of a list `window` if the sum of its coefficients, each multiplied by the item at its index, is 0; equation
 -- j has as its window the syndromes from index j on.
-use Rattle.std.specs.Prelude.{◌≡◌, ℕ, ◌+◌, ◌<◌, ◌≤◌, List, take, drop, length, slice_index}
+use Rattle.std.specs.Prelude.{◌≡◌, ℕ, ◌+◌, ◌*◌, ◌<◌, ◌≤◌, List, take, drop, length, slice_index}
 use Rattle.std.specs.List.{All}
 use Rattle.qr_field.specs.Polynomial.{IsByte}
 use Rattle.qr_mending.specs.declared.polynomial.Polynomial.{Polynomial}
 use Rattle.qr_mending.specs.declared.locator.Search.{Search}
-use Rattle.qr_mending.specs.Steps.Sums.{dot_of}
+use Rattle.qr_mending.specs.declared.locator.Progress.{Progress}
+use Rattle.qr_mending.specs.Steps.Sums.{dot_of, HasValues}
 
 -- The coefficients, that of the lowest power first.
 abbrev pub all_of : Polynomial → List ℕ
@@ -37,3 +38,11 @@ pub record IsSearch (i : ℕ) (s : List ℕ) (search : Search) : Type 0 where
   pub room : search.best.degree + search.earlier.degree ≤ i
   pub before : (j : ℕ) → j + 1 < search.best.degree → miss_of search.earlier (drop j s) ≡ 0
   pub last : (j : ℕ) → j + 1 ≡ search.best.degree → miss_of search.earlier (drop j s) ≡ search.miss
+
+-- Of a block with the remainder `r`, the first syndromes, at most 2`t`, were taken in, and `best` has at most the degree
+-- `t`.
+pub record IsProgress (t : ℕ) (r : List ℕ) (progress : Progress) : Type 0 where
+  pub values : HasValues progress.syndromes.items r
+  pub search : IsSearch (length progress.syndromes.items) progress.syndromes.items progress.search
+  pub degree : progress.search.best.degree ≤ t
+  pub count : length progress.syndromes.items ≤ 2 * t

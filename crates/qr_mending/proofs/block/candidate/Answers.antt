@@ -1,18 +1,24 @@
-use Rattle.std.proofs.{Common.arith, lemmas.List.Elements.All-from_get_or}
+use Rattle.std.proofs.Common.{◌≤◌, length, refl, arith}
+use Rattle.std.proofs.lemmas.List.{Elements.All-from_get_or}
 use Rattle.qr_field.specs.Polynomial.{IsByte}
-use Rattle.qr_mending.proofs.lemmas.block.BlockLemmas.{errors-leave, same-values}
+use Rattle.qr_mending.specs.Steps.Polynomial.{all_of}
+use Rattle.qr_mending.proofs.lemmas.{block.BlockLemmas.{all-leading, errors-leave}, locator.SearchLemmas.{search-locates}}
 use Rattle.qr_mending.proofs.block.candidate.Goals as goal
 
+pub without_errors-requires-clause-leading : goal.without_errors-requires-clause-leading
+without_errors-requires-clause-leading c =
+    rw c.coefficients.ensures.value
+    (all-leading c.args.progress.now.search.best c.requires.progress.search.best.monic c.coefficients.ensures.terms)
+
 pub returns-clause-mended : goal.returns-clause-mended
-returns-clause-mended c =
-    let first = c.syndromes-first.result.items in
-    λ n mended count.
-    errors-leave n c.args.t c.args.damaged.now first c.coefficients-coefficients.result.now
+returns-clause-mended c = λ full mended m.
+    let h = c.requires.progress in
+    let search = c.args.progress.now.search in
+    let s = c.args.progress.now.syndromes.items in
+    let short : length s ≤ length c.args.remainder.now = omega (arith, h.count, c.requires.half) in
+    errors-leave (length c.args.remainder.now) c.args.t c.args.damaged.now c.args.remainder.now (all_of search.best) s
     c.without_errors.result.items c.requires.fits
     (All-from_get_or IsByte c.args.damaged.now 0 (λ i l. omega (arith, c.type_inv.damaged i)))
-    (same-values first c.args.remainder.now c.args.damaged.now c.syndromes-first.ensures.values c.requires.same
-    (omega (arith, c.syndromes-first.ensures.count)))
-    (omega (arith, count, c.syndromes-first.ensures.count))
-    (rw (c.as_slice.ensures.value, ← c.coefficients-coefficients.ensures.value) at c.locator-polynomial.ensures.located)
-    (rw c.as_slice-2.ensures.value at c.without_errors.ensures.sum)
-    mended
+    c.requires.same refl h.values short
+    (λ e few. search-locates c.args.t (length s) search s e h.search (omega (arith, full)) (omega arith) h.degree few)
+    (rw (c.coefficients.ensures.value, c.as_slice.ensures.value) at c.without_errors.ensures.sum) mended m

@@ -1,4 +1,4 @@
-use Rattle.std.proofs.Common.{◌∙◌, ap, length, sym, arith}
+use Rattle.std.proofs.Common.{◌∙◌, sym}
 use Rattle.qr_mending.proofs.lemmas.block.BlockLemmas.{mended-same, mended-one}
 use Rattle.qr_mending.proofs.block.mend.Goals as goal
 
@@ -10,6 +10,6 @@ returns-in_default-clause-only c = λ mended h.
 
 pub returns-clause-only : goal.returns-clause-only
 returns-clause-only c = λ mended h.
-    let found = c.candidate-mended.ensures.mended c.args.divisor.now mended
-    (omega (arith, ap length c.as_slice.ensures.value, c.in-Some.ensures.count)) h in
-    sym (c.copy_from_slice.ensures.after ∙ (c.as_slice-3.ensures.value ∙ found))
+    mended-one c.args.divisor.now c.args.t c.args.codewords.now mended c.in-Some-mended_block.mended.items c.requires.most
+    c.requires.half h c.in-Some-mended_block.ensures.mended
+    ∙ sym (c.copy_from_slice.ensures.after ∙ c.as_slice-3.ensures.value)

@@ -11,8 +11,8 @@ use Rattle.qr_field.proofs.lemmas.laws.ValueLemmas.{value-lt, value-plus, value-
 use Rattle.qr_field.proofs.lemmas.laws.DistanceLemmas.{weight-plus, difference-same, unambiguous-known, erasures-read, errors-read}
 use Rattle.qr_mending.specs.{Block.{IsBlock, IsMended}, Steps.Polynomial.{all_of, IsMonic}}
 use Rattle.qr_mending.specs.{Erasures.IsMendedWithErasures, declared.polynomial.Polynomial.Polynomial}
-use Rattle.qr_mending.specs.Steps.{Sums.{HasValues, HasSameValues}, Roots.HasLeadingOne, Errors.{AreFewErrors, IsLocated}}
-use Rattle.qr_mending.proofs.lemmas.locator.SearchLemmas.{weight-zeros}
+use Rattle.qr_mending.specs.Steps.{Sums.{HasValues, HasSameValues}, Roots.HasLeadingOne, Errors.{AreFewErrors, AreFewErrorsOf, IsLocated}}
+use Rattle.qr_mending.proofs.lemmas.locator.SearchLemmas.{weight-zeros, few-values}
 
 -- ---- blocks
 
@@ -96,22 +96,32 @@ plus-cancel (x ∷ xs) (y ∷ ys) h = cc (xor-cancel x y, plus-cancel xs ys (ome
 
 -- ---- the whole list
 
--- the damaged codewords without their located errors are the true block
-pub errors-leave : (n t : ℕ) (damaged first q items : List ℕ) → length damaged ≤ 255 → All IsByte damaged →
-    HasValues first damaged → length first ≡ n → ((e : List ℕ) → AreFewErrors t first e → IsLocated q e) →
-    ((e : List ℕ) → length e ≡ length damaged → IsLocated q e → HasValues first e → items ≡ plus damaged e) →
-    (b : List ℕ) → IsMended n t damaged b → items ≡ b
-errors-leave n t damaged first q items most a h l located sum b m =
+-- the errors have the remainder of the damaged block
+pub errors-few : (n t : ℕ) (r damaged b : List ℕ) → length damaged ≤ 255 → All IsByte damaged → HasSameValues r damaged →
+    length r ≡ n → IsMended n t damaged b → AreFewErrorsOf t r (plus damaged b)
+errors-few n t r damaged b most a same l m =
     let e = plus damaged b in
     let count : length e ≡ length b = length-plus damaged b (omega (arith, m.long)) in
-    let ve = errors-values n damaged b first m.block m.long a h l in
-    let few : AreFewErrors t first e = record {
+    record {
       bytes = bytes-plus damaged b a (bytes-block n b m.block);
       most = omega (arith, count, m.long);
       few = omega (arith, weight-zeros e, weight-plus damaged b (sym m.long), m.near);
-      values = ve;
-    } in
-    sum e (omega (arith, count, m.long)) (located e few) ve ∙ plus-cancel damaged b (sym m.long)
+      values = record {
+        each = λ k g. same.each k g ∙ sym (errors-value n damaged b m.block m.long a k (omega (arith, g, l)));
+      };
+    }
+
+-- the damaged codewords without their located errors are the true block
+pub errors-leave : (n t : ℕ) (damaged r q s items : List ℕ) → length damaged ≤ 255 → All IsByte damaged →
+    HasSameValues r damaged → length r ≡ n → HasValues s r → length s ≤ length r →
+    ((e : List ℕ) → AreFewErrors t s e → IsLocated q e) →
+    ((e : List ℕ) → length e ≡ length damaged → IsLocated q e → HasValues s e → items ≡ plus damaged e) →
+    (b : List ℕ) → IsMended n t damaged b → items ≡ b
+errors-leave n t damaged r q s items most a same l values short located sum b m =
+    let e = plus damaged b in
+    let count : length e ≡ length b = length-plus damaged b (omega (arith, m.long)) in
+    let few = few-values t r s e values short (errors-few n t r damaged b most a same l m) in
+    sum e (omega (arith, count, m.long)) (located e few) few.values ∙ plus-cancel damaged b (sym m.long)
 
 -- ---- the checks
 

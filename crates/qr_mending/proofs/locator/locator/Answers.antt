@@ -1,9 +1,9 @@
 use Rattle.std.proofs.Common.{arith}
-use Rattle.qr_mending.proofs.lemmas.locator.SearchLemmas.{search-begins, search-locates}
+use Rattle.qr_mending.proofs.lemmas.locator.SearchLemmas.{search-locates}
 use Rattle.qr_mending.proofs.locator.locator.Goals as goal
 
 pub loop-i-init : goal.loop-i-init
-loop-i-init c = (search-begins c.args.syndromes.now c.one-one.result c.one-one.ensures.degree c.one-one.ensures.monic c.one-one.ensures.terms, omega (arith, c.one-one.ensures.degree))
+loop-i-init c = (c.new-search.ensures.search c.args.syndromes.now, omega (arith, c.new-search.ensures.degree))
 
 pub returns-clause-located : goal.returns-clause-located
 returns-clause-located c = λ errors few.

@@ -1,0 +1,5 @@
+use Rattle.qr_mending.proofs.lemmas.locator.SearchLemmas.{progress-begins}
+use Rattle.qr_mending.proofs.locator.Progress.new.Goals as goal
+
+pub returns : goal.returns
+returns c = λ t remainder. progress-begins t remainder _ c.new.ensures c.new-2.ensures.search c.new-2.ensures.degree

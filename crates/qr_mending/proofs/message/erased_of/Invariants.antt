@@ -1,5 +1,0 @@
-use Rattle.std.proofs.Common.{◌≡◌, ◌==◌, not, map, take}
-use Rattle.qr_mending.proofs.message.erased_of.Given as goal
-
-abbrev pub invariant-loop-i : goal.invariant-loop-i
-invariant-loop-i l = l.erased.items ≡ map (λ mark. not (mark == 0)) (take l.i l.marks)
