@@ -1,4 +1,4 @@
-//! Short texts in memory of a fixed size.
+//! Texts in memory of a fixed size.
 
 ghost use Rattle.std.specs.Prelude.{◌≡◌, ◌≤◌, ◌<◌, ◌+◌, ◌++◌, ◌∷◌, [], length, take};
 

@@ -4,7 +4,7 @@
 ghost use Rattle.std.specs.Prelude.{◌≡◌, ◌≤◌, ◌<◌, ◌+◌, ◌*◌, ◌++◌, ◌∷◌, [], ℕ, ◌/◌, ◌%◌, codes, decimal, length, map};
 ghost use Rattle.qr_drawing.specs.Drawing.{HaveOneSide};
 ghost use Rattle.qr_drawing.specs.Steps.Pen.{Puts};
-ghost use Rattle.qr_drawing.specs.Steps.Svg.{head, width_path};
+ghost use Rattle.qr_drawing.specs.Steps.Svg.{head, tail, width_path};
 ghost use Rattle.qr_drawing.specs.Svg.{background, box_path, numbered, opening, row_path, stack_path, svg_document, symbol_path};
 
 use crate::drawing::{HasSquare, raster_width};
@@ -23,7 +23,8 @@ const HEAD_MAX: usize = 300;
 // The number of bytes after the last box.
 const TAIL: usize = 11;
 
-// The numbers of the path are appended digit by digit, which takes fewer instructions than the crate `itoa`.
+// The row of a box, and a width of ten modules or more, are appended digit by digit, which takes fewer instructions than
+// the crate `itoa`.
 fn push_digit<const CAP: usize>(text: &mut Piece<CAP>, digit: u16)
     requires digit { digit < 10 }
     requires room { length text.old < CAP }
@@ -219,6 +220,15 @@ fn push_head(text: &mut Piece<1208>, width: u16, height: u16)
     text.push_all(b"<path fill=\"#000000\" d=\"");
 }
 
+// Appends all that comes after the last box.
+#[tactic(auto, unfolding(crate::specs::Steps::Svg::tail, crate::specs::Svg::closing))]
+fn push_tail(text: &mut Piece<1208>)
+    requires room { length text.old + 11 ≤ 1200 }
+    ensures { text.new ≡ text.old ++ tail }
+{
+    text.push_all(b"\"/>\n</svg>\n");
+}
+
 fn put_row<W: Sink>(
     pen: &mut Pen,
     out: &mut W,
@@ -303,6 +313,6 @@ pub(crate) fn put_document<S: HasSquare, W: Sink>(
     push_head(&mut pen.piece, width, height);
     put_stack(pen, out, symbols, margin)?;
     pen.reserve(out, TAIL)?;
-    pen.piece.push_all(b"\"/>\n</svg>\n");
+    push_tail(&mut pen.piece);
     Ok(())
 }

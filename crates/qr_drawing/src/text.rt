@@ -180,7 +180,7 @@ static HALF_BLOCK_PAIRS: [([u8; 8], usize); 16] = [
     (*b"        ", 2),
 ];
 
-// Appends two characters. Eight bytes are copied whatever their number is, since that takes one instruction.
+// Appends two characters. Eight bytes are copied whatever their number is.
 #[inline(always)]
 fn push_half_block_pair(text: &mut Piece<1208>, pair: u8)
     requires small { pair < 16 }

@@ -278,7 +278,7 @@ pub(crate) fn top_of(v: Version, strip: Strip, passed: u8) -> u8
 }
 
 // As `draw_rows`, but for four rows, and at once if both columns have the same rows in the region, as everywhere but
-// beside alignment patterns.
+// beside alignment patterns and version information.
 #[inline(never)]
 fn draw_part_of_four(
     columns: &mut Columns,

@@ -32,4 +32,4 @@ returns g c =
     (rw (c.square.ensures, c.index-symbols-0.is) at c.raster_width-width.ensures.value) refl in
     rw parts (writes_on _ _ _ _ _ _ held _ _ _ _ (writes_on _ _ _ _ _ _ held _ _ _ _
     (formed _ _ _ _ held _ _ _ c.in_ok-reserve.ensures.writes c.push_head.ensures) c.in_ok-put_stack.ensures)
-    (formed _ _ _ _ _ _ _ tail c.in_ok-reserve-2.ensures.writes c.push_all.ensures.items))
+    (formed _ _ _ _ _ _ _ tail c.in_ok-reserve-2.ensures.writes c.push_tail.ensures))

@@ -124,26 +124,6 @@ pub eval-lt : (x : ℕ) (p : List ℕ) → x < 256 → All IsByte p → eval x p
 eval-lt x [] l a = lit< tt
 eval-lt x (c ∷ p) l a = xor_of_8 c (product x (eval x p)) (All-head IsByte c p a) (product-lt x (eval x p) l)
 
--- the sum of products for a list that ends with a leading 1
-pub blend-push : (p : List ℕ) (i : ℕ) (e : List ℕ) → All IsByte e →
-    blend (p ++ 1 ∷ []) i e ≡ bit_xor (blend p i e) (value_at (i + length p) e)
-blend-push [] i e a =
-    let same : i + 0 ≡ i = omega arith in
-    cc (
-      same,
-      xor_zero_r (product 1 (value_at i e)),
-      product-of_one (value_at i e) (value-lt i e a),
-      xor_zero_l (value_at i e),
-    )
-blend-push (b ∷ p) i e a =
-    let same : i + 1 + length p ≡ i + length (b ∷ p) = omega arith in
-    cc (
-      blend-push p (i + 1) e a,
-      xor_assoc (product b (value_at i e)) (blend p (i + 1) e)
-          (value_at (i + 1 + length p) e),
-      same,
-    )
-
 -- an empty list contains the first values of every list
 pub values-none : (s e : List ℕ) → s ≡ [] → HasValues s e
 values-none s e h = record { each = λ k l. absurd (omega (arith, l, ap length h)) }

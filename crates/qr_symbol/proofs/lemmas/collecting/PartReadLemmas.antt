@@ -53,40 +53,9 @@ pub part-below : (u rows a b : ℕ) → u < 2 → rows < 16 → a < 16 → b < 1
 unfolding is-part
 part-below u rows a b k l m n = ltb-true _ _ (&&-right _ _ (part-at u rows a b k l m n))
 
--- at most eight bits, computed
-all-few : all_below 16 (λ rows. leb (count-of rows) 8) ≡ true
-all-few = refl
-
-pub count-few : (rows : ℕ) → rows < 16 → count-of rows ≤ 8
-count-few rows l = small (count-of rows) (below-at 16 (λ rows. leb (count-of rows) 8) all-few rows l)
-  where
-    small : (n : ℕ) → leb n 8 ≡ true → n ≤ 8
-    small n e = grind (arith, nat_tests)
-
 -- each entry is small, computed
 all-small : all_below 2 (λ u. all_below 16 (λ rows. all_below 16 (λ a. ltb (part u rows a) 86))) ≡ true
 all-small = refl
 
 pub part-small : (u rows a : ℕ) → u < 2 → rows < 16 → a < 16 → part u rows a < 86
 part-small u rows a k l m = ltb-true _ _ (below-at 16 (λ a. ltb (part u rows a) 86) (below-at 16 (λ rows. all_below 16 (λ a. ltb (part u rows a) 86)) (below-at 2 (λ u. all_below 16 (λ rows. all_below 16 (λ a. ltb (part u rows a) 86))) all-small u k) rows l) a m)
-
--- ---- the rows
-
--- four rows, by their bits of numbers
-pub part-read : (s : ℕ) (x : Strip) (r y : Columns) (k top rows a b : ℕ) → k + 4 ≤ s → top ≡ cond x.upward (s - 4 - k) k
-    → ((j : ℕ) → j < 4 → has_bit rows j ≡ has r.right (top + j)) → ((j : ℕ) → j < 4 → has_bit rows j ≡ has r.left (top + j))
-    → ((j : ℕ) → j < 4 → has_bit a j ≡ has y.right (top + j)) → ((j : ℕ) → j < 4 → has_bit b j ≡ has y.left (top + j))
-    → bits_in_four x.upward rows a b ≡ bits_in_rows s x r y k 4
-part-read s x r y k top rows a b room is-top p q t u =
-    let up = x.upward in
-    let row : (i : ℕ) → i < 4 → top + rank_of up i ≡ row_of s x (k + i) = λ i l. ap (λ z. z + rank_of up i) is-top ∙ row-of-rank up s k i room l in
-    let one : (i : ℕ) → i < 4 → bits_in_one up rows a b i ≡ bits_in_row r y (row_of s x (k + i)) = λ i l.
-    let small = rank-in up i l in
-    cc (row i l, p (rank_of up i) small, q (rank_of up i) small, t (rank_of up i) small, u (rank_of up i) small) in
-    let e0 : k + 0 ≡ k = omega arith in
-    let e2 : k + 1 + 1 ≡ k + 2 = omega arith in
-    let e3 : k + 2 + 1 ≡ k + 3 = omega arith in
-    rw (e2, e3) (cc (one 0 (omega arith), one 1 (omega arith), one 2 (omega arith), one 3 (omega arith), e0))
-  where
-    rank-in : (up : Bool) (i : ℕ) → i < 4 → rank_of up i < 4
-    rank-in up i l = grind (arith, nat_tests)
