@@ -1,11 +1,10 @@
 -- Four rows of a strip of which both columns have the same ones in the encoding region, read at once.
 use borrow.Author.Tests.{ltb-true}
-use Rattle.{qr_bits.specs.Bits.field, qr_layout.specs.declared.strips.Strip.Strip}
-use Rattle.qr_matrix.{proofs.Facts.{below-at, same-same, &&-left, &&-right}, specs.{BitRow.{has, has_bit}, Grid.is_same, Sums.all_below}}
-use Rattle.qr_symbol.proofs.lemmas.{collecting.SpreadLemmas.row-of-rank, placement.ColumnLemmas.rank_of}
-use Rattle.qr_symbol.specs.{Steps.{Collecting.{bits_in_four, bits_in_one, bits_in_row, bits_in_rows}, Placement.row_of}, declared.{collecting.TheConstants.SPREAD_PARTS, placement.{Columns.Columns, TheConstants.ROW_COUNTS}}}
-use Rattle.std.proofs.Common.{◌≡◌, ℕ, ◌+◌, ◌-◌, ◌*◌, ◌^◌, ◌<◌, ◌≤◌, Bool, true, false, cond, ltb, leb, ◌&&◌, eqb, get_or, List, [], ◌∷◌, refl, ◌∙◌, ap, arith}
-use Rattle.std.proofs.lemmas.Bool.{both_ways, Decides.nat_tests}
+use Rattle.{qr_bits.specs.Bits.field}
+use Rattle.qr_matrix.{proofs.Facts.{below-at, same-same, &&-left, &&-right}, specs.{BitRow.{has_bit}, Grid.is_same, Sums.all_below}}
+use Rattle.qr_symbol.specs.{Steps.{Collecting.{bits_in_four}}, declared.{collecting.TheConstants.SPREAD_PARTS, placement.{TheConstants.ROW_COUNTS}}}
+use Rattle.std.proofs.Common.{◌≡◌, ℕ, ◌+◌, ◌*◌, ◌^◌, ◌<◌, Bool, true, false, ltb, ◌&&◌, eqb, get_or, List, [], ◌∷◌, refl}
+use Rattle.std.proofs.lemmas.Bool.{both_ways}
 
 -- ---- the table
 
