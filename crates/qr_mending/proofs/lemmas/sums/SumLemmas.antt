@@ -6,7 +6,7 @@ use Rattle.std.proofs.lemmas.List.Elements.{All-head, All-tail, All-take, All-fr
 use Rattle.std.specs.{List.All, Int.Bits.{xor_assoc, xor_zero_l, xor_zero_r}}
 use Rattle.qr_field.specs.{Galois.product, Steps.Polynomial.value_at, Polynomial.{IsByte, plus, scaled, power}}
 use Rattle.qr_field.proofs.lemmas.galois.{BitLemmas.xor-swap, ProductLemmas.{product-lt, product-xor}}
-use Rattle.qr_field.proofs.lemmas.galois.ByteLemmas.{product-by_zero, product-of_zero, product-by_one, product-of_one}
+use Rattle.qr_field.proofs.lemmas.galois.ByteLemmas.{product-by_zero, product-of_zero, product-by_one}
 use Rattle.qr_field.proofs.lemmas.{logarithm.PowerLemmas.{power-lt, power-add}, laws.ValueLemmas.value-lt}
 use Rattle.qr_field.proofs.lemmas.galois.FieldLemmas.{product-comm, product-assoc, product-front, product-by_sum}
 use Rattle.qr_mending.specs.Steps.Sums.{dot_of, eval, blend, HasValues}
