@@ -1,9 +1,10 @@
 -- Steps of the code: bit rows, dark runs, the modules that cost a point, and tiles, the parts of 64 by 64 modules by
 -- which a square is transposed.
-use Rattle.std.specs.Prelude.{◌≡◌, ℕ, ◌+◌, ◌-◌, ◌*◌, ◌%◌, ◌^◌, ◌<◌, ◌≤◌, ◌&&◌, ◌||◌, not, Bool, List, [], ◌∷◌, length, slice_index, nat_lt, if◌then◌else◌}
+use Rattle.std.specs.Prelude.{◌≡◌, ℕ, ◌+◌, ◌-◌, ◌*◌, ◌%◌, ◌^◌, ◌<◌, ◌≤◌, ◌&&◌, ◌||◌, not, Bool, List, [], ◌∷◌, length, slice_index, slice_index_or, map, nat_lt, if◌then◌else◌}
 use Rattle.std.specs.List.{filter, range_with_len}
 use Rattle.qr_matrix.specs.Grid.{is_same}
-use Rattle.qr_matrix.specs.Sums.{count_below}
+use Rattle.qr_matrix.specs.Sums.{count_below, places_passing}
+use Rattle.qr_matrix.specs.Penalty.{over_lines, run_cost, square_count, window_count}
 use Rattle.qr_matrix.specs.Runs.{begins_five}
 use Rattle.qr_matrix.specs.BitRow.{has, has_bit}
 use Rattle.qr_matrix.specs.declared.dark_runs.Run.{Run}
@@ -18,9 +19,33 @@ pub record NeedsWords (side words : ℕ) : Type 0 where
   pub most : side ≤ 64 * words
   pub three : words ≤ 3
 
+-- The number of columns of a bit row that pass the test
+unfoldable pub set_count : (ℕ → Bool) → ℕ
+set_count bit = count_below 192 bit
+
 -- The number of bits that are 1
-unfoldable pub size_of : List ℕ → ℕ
-size_of words = count_below 192 (has words)
+abbrev pub size_of : List ℕ → ℕ
+size_of words = set_count (has words)
+
+-- A word for each of two squares
+abbrev pub IsPair : List ℕ → Type 0
+IsPair words = (length words ≡ 2) × (slice_index words 0 < 2 ^ 64) × (slice_index words 1 < 2 ^ 64)
+
+-- The three words of the bit rows of two squares
+abbrev pub ArePairs : List (List ℕ) → Type 0
+ArePairs pairs = (length pairs ≡ 3) × IsPair (slice_index_or pairs 0 []) × IsPair (slice_index_or pairs 1 []) × IsPair (slice_index_or pairs 2 [])
+
+-- The word of the first square, or of the second
+abbrev pub word_of : List ℕ → Bool → ℕ
+word_of words second = slice_index words (if second then 1 else 0)
+
+-- The bit row of the first square, or of the second
+unfoldable pub lane : List (List ℕ) → Bool → List ℕ
+lane pairs second = word_of (slice_index_or pairs 0 []) second ∷ word_of (slice_index_or pairs 1 []) second ∷ word_of (slice_index_or pairs 2 []) second ∷ []
+
+-- The bit rows of the first square, or of the second, from the top down
+abbrev pub lanes : List (List (List ℕ)) → Bool → List (List ℕ)
+lanes rows second = map (λ pairs. lane pairs second) rows
 
 -- The columns from `k` to `k + n - 1` that pass the test `p`, from left to right
 unfoldable pub columns_passing : (ℕ → Bool) → ℕ → ℕ → List ℕ
@@ -59,3 +84,14 @@ exchanged s f r c =
     if nat_lt (r % (2 * s)) s
     then (if nat_lt (c % (2 * s)) s then f r c else f (r + s) (c - s))
     else (if nat_lt (c % (2 * s)) s then f (r - s) (c + s) else f r c)
+
+-- What is counted in a square: the points for runs, the squares of two by two modules, the windows, and the dark modules
+pub record IsCounted (s : ℕ) (dark : ℕ → ℕ → Bool) (runs squares windows darks : ℕ) : Type 0 where
+  pub runs_are : runs ≡ over_lines s dark (run_cost s)
+  pub squares_are : squares ≡ square_count s dark
+  pub windows_are : windows ≡ over_lines s dark (window_count s)
+  pub darks_are : darks ≡ places_passing s dark
+  pub runs_most : runs ≤ 384 * 177
+  pub squares_most : squares ≤ 192 * 177
+  pub windows_most : windows ≤ 384 * 177
+  pub darks_most : darks ≤ 192 * 177

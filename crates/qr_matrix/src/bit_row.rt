@@ -62,6 +62,18 @@ impl BitXor for BitRow {
 impl BitRow {
     pub(crate) const EMPTY: BitRow = BitRow([0; 3]);
 
+    pub(crate) fn of(words: [u64; 3]) -> BitRow
+        ensures { result ≡ words }
+    {
+        BitRow(words)
+    }
+
+    pub(crate) fn words(self) -> [u64; 3]
+        ensures { result ≡ self }
+    {
+        self.0
+    }
+
     pub(crate) fn below(n: u8) -> BitRow
         requires { n ≤ 192 }
         ensures { (c : ℕ) → has result c ≡ nat_lt c n }
@@ -139,16 +151,11 @@ impl BitRow {
         a[0].count_ones() + a[1].count_ones() + a[2].count_ones()
     }
 
-    /// As `count`, and faster if no bit is set.
-    pub(crate) fn count_unless_empty(self) -> u32
-        ensures value { result ≡ size_of self }
-        ensures bound { result ≤ 192 }
+    pub(crate) fn is_empty(self) -> bool
+        ensures { result ≡ true → (c : ℕ) → has self c ≡ false }
     {
         let a = self.0;
-        if a[0] == 0 && a[1] == 0 && a[2] == 0 {
-            return 0;
-        }
-        self.count()
+        a[0] | a[1] | a[2] == 0
     }
 
     /// Returns 192 if no bit is set.

@@ -7,6 +7,7 @@ ghost use Rattle.qr_matrix.specs.Runs.{IsRunEnd};
 ghost use Rattle.qr_matrix.specs.Steps.{NeedsWords, is_change};
 
 use crate::bit_row::BitRow;
+use crate::rows::words_for;
 use crate::transposition::set_transposed_band;
 use std::alloc::{AllocError, Global};
 use std::marker::Model;
@@ -134,12 +135,10 @@ impl Matrix {
         self.rows[row].word(number)
     }
 
-    // The functions of the penalty take this number as `words`: they are inlined once for each value, without the empty
-    // words.
     pub(crate) fn words(&self) -> u8
         ensures { NeedsWords self.now.side result }
     {
-        (self.side - 1) / 64 + 1
+        words_for(self.side)
     }
 
     // As `bit_row`, but the compiler sees that the words after the first `words` are 0.

@@ -1,13 +1,15 @@
 //! Computes the penalty of a symbol, by which its mask is chosen (ISO/IEC 18004:2015, 7.8.3).
 
-ghost use Rattle.std.specs.Prelude.{◌≡◌, ◌*◌, ◌/◌, ◌<◌, ◌≤◌};
+ghost use Rattle.std.specs.Prelude.{◌≡◌, ℕ, Bool, ◌*◌, ◌/◌, ◌<◌, ◌≤◌};
 ghost use Rattle.std.specs.Int.{abs_diff};
 ghost use Rattle.qr_matrix.specs.Grid.{colour};
 ghost use Rattle.qr_matrix.specs.Sums.{places_passing};
 ghost use Rattle.qr_matrix.specs.Penalty.{penalty_of};
-ghost use Rattle.qr_matrix.specs.Steps.{NeedsWords};
+ghost use Rattle.qr_matrix.specs.Steps.{IsCounted, NeedsWords};
 
 use crate::matrix::Matrix;
+use crate::matrix_pair::MatrixPair;
+use crate::rows::{Rows, Squares, words_for};
 use crate::runs::runs_and_squares;
 use crate::windows::window_count;
 
@@ -19,16 +21,15 @@ const WINDOW_POINTS: u32 = 40;
 // For each whole 5 % by which the share of dark modules differs from a half.
 const BALANCE_POINTS: u32 = 10;
 
-#[inline(always)]
-#[tactic(auto, using(crate::proofs::Named::sum_facts), unfolding(crate::specs::Sums::places_passing))]
-fn dark_count(matrix: &Matrix, words: u8) -> u32
-    requires width { NeedsWords matrix.now.side words }
-    ensures value { result ≡ places_passing matrix.now.side (colour matrix.now) }
-    ensures bound { result ≤ 192 * matrix.now.side }
+fn dark_count<S: Squares, const WORDS: u8>(squares: &S) -> <S::Row as Rows>::Counts
+    requires width { NeedsWords (S.size squares.now) WORDS }
+    ensures value { (second : Bool) → S.Row.number result second
+        ≡ places_passing (S.size squares.now) (S.dark squares.now second) }
+    ensures bound { (second : Bool) → S.Row.number result second ≤ 192 * 177 }
 {
-    let mut total = 0;
-    for row in 0..usize::from(matrix.side()) {
-        total += matrix.bit_row_in(row, words).count();
+    let mut total = S::Row::zeros();
+    for row in 0..usize::from(squares.side()) {
+        total = squares.row_in(row, WORDS).add_to(total);
     }
     total
 }
@@ -45,16 +46,57 @@ fn balance_cost(modules: u32, dark: u32) -> u32
     BALANCE_POINTS * (excess / modules)
 }
 
-#[inline(always)]
-fn penalty_in(m: &Matrix, words: u8) -> u32
-    requires width { NeedsWords m.now.side words }
-    ensures { result ≡ penalty_of m.now.side (colour m.now) }
+// What is counted in each square.
+#[derive(Drop)]
+pub(crate) struct Counted<N> {
+    pub runs: N,
+    pub squares: N,
+    pub windows: N,
+    pub dark: N,
+}
+
+fn count_in<S: Squares, const WORDS: u8>(squares: &S) -> Counted<<S::Row as Rows>::Counts>
+    requires width { NeedsWords (S.size squares.now) WORDS }
+    ensures { (second : Bool) → IsCounted (S.size squares.now) (S.dark squares.now second)
+        (S.Row.number result.runs second) (S.Row.number result.squares second)
+        (S.Row.number result.windows second) (S.Row.number result.dark second) }
 {
-    let modules = u32::from(m.side()) * u32::from(m.side());
-    let (runs, squares) = runs_and_squares(m, words);
-    runs + SQUARE_POINTS * squares
-        + WINDOW_POINTS * window_count(m, words)
-        + balance_cost(modules, dark_count(m, words))
+    let (runs, blocks) = runs_and_squares::<S, WORDS>(squares);
+    Counted {
+        runs,
+        squares: blocks,
+        windows: window_count::<S, WORDS>(squares),
+        dark: dark_count::<S, WORDS>(squares),
+    }
+}
+
+pub(crate) fn count_all<S: Squares>(squares: &S) -> Counted<<S::Row as Rows>::Counts>
+    ensures { (second : Bool) → IsCounted (S.size squares.now) (S.dark squares.now second)
+        (S.Row.number result.runs second) (S.Row.number result.squares second)
+        (S.Row.number result.windows second) (S.Row.number result.dark second) }
+{
+    match words_for(squares.side()) {
+        1 => count_in::<S, 1>(squares),
+        2 => count_in::<S, 2>(squares),
+        _ => count_in::<S, 3>(squares),
+    }
+}
+
+fn points(side: u8, counted: Counted<u32>) -> u32
+    requires least { 1 ≤ side }
+    requires most { side ≤ 177 }
+    requires runs { counted.runs ≤ 384 * 177 }
+    requires squares { counted.squares ≤ 192 * 177 }
+    requires windows { counted.windows ≤ 384 * 177 }
+    requires dark { counted.dark ≤ 192 * 177 }
+    ensures { (dark : ℕ → ℕ → Bool) → IsCounted side dark counted.runs counted.squares counted.windows counted.dark
+        → result ≡ penalty_of side dark }
+{
+    let modules = u32::from(side) * u32::from(side);
+    counted.runs
+        + SQUARE_POINTS * counted.squares
+        + WINDOW_POINTS * counted.windows
+        + balance_cost(modules, counted.dark)
 }
 
 /// Returns the penalty of a square: the points for runs of five or more modules of one colour, for two by two squares
@@ -63,9 +105,34 @@ fn penalty_in(m: &Matrix, words: u8) -> u32
 pub fn penalty(m: &Matrix) -> u32
     ensures { result ≡ penalty_of m.now.side (colour m.now) }
 {
-    match m.words() {
-        1 => penalty_in(m, 1),
-        2 => penalty_in(m, 2),
-        _ => penalty_in(m, 3),
+    points(m.side(), count_all(m))
+}
+
+impl MatrixPair {
+    /// Returns the penalties of both squares, as `penalty` does.
+    pub fn penalties(&self) -> (u32, u32)
+        ensures first { result.0 ≡ penalty_of self.now.first.side (colour self.now.first) }
+        ensures second { result.1 ≡ penalty_of self.now.second.side (colour self.now.second) }
+    {
+        let side = self.side();
+        let Counted {
+            runs,
+            squares,
+            windows,
+            dark,
+        } = count_all(self);
+        let first = Counted {
+            runs: runs.0,
+            squares: squares.0,
+            windows: windows.0,
+            dark: dark.0,
+        };
+        let second = Counted {
+            runs: runs.1,
+            squares: squares.1,
+            windows: windows.1,
+            dark: dark.1,
+        };
+        (points(side, first), points(side, second))
     }
 }

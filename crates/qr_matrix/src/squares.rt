@@ -1,14 +1,15 @@
 //! Finds two by two squares of one colour on bit rows (ISO/IEC 18004:2015, 7.8.3.1, Table 11).
 
-ghost use Rattle.std.specs.Prelude.{◌≡◌, ℕ, ◌+◌, ◌&&◌};
-ghost use Rattle.qr_matrix.specs.BitRow.{has};
+ghost use Rattle.std.specs.Prelude.{◌≡◌, ℕ, Bool, ◌+◌, ◌&&◌};
 
-use crate::bit_row::BitRow;
+use crate::rows::Rows;
 
 // The columns at which a square begins, if `joins` are those that have the colour of the next column, and `below` those
 // that have the colour of the next row.
-pub(crate) fn squares_at(joins: BitRow, below: BitRow) -> BitRow
-    ensures { (c : ℕ) → has result c ≡ ((has joins c && has below c) && has below (c + 1)) }
+#[inline(always)]
+pub(crate) fn squares_at<R: Rows>(joins: R, below: R) -> R
+    ensures { (second : Bool) (c : ℕ) → R.bit result second c
+        ≡ ((R.bit joins second c && R.bit below second c) && R.bit below second (c + 1)) }
 {
-    joins & below & below.shifted_left(1)
+    joins.and(below).and(below.shifted_left(1))
 }

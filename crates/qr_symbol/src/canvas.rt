@@ -1,18 +1,18 @@
 //! Draws symbols on a canvas, which all symbols of a series share (ISO/IEC 18004:2015, 7.7 and 7.8). Function patterns
 //! and version information are drawn once for a series, and codewords once for each symbol. The mask and the format
-//! information are drawn for each mask that is tried, and again for the best.
+//! information are drawn for each mask that is tried, for two at once, and again for the best.
 
-ghost use Rattle.std.specs.Prelude.{◌≡◌, ◌<◌, IfOk};
+ghost use Rattle.std.specs.Prelude.{◌≡◌, Bool, ◌<◌, if◌then◌else◌, IfOk};
 ghost use Rattle.qr_layout.specs.Version.{side_of};
-ghost use Rattle.qr_matrix.specs.Grid.{IsSquare};
+ghost use Rattle.qr_matrix.specs.Grid.{one_of, IsSquare};
 ghost use Rattle.qr_symbol.specs.Steps.Canvas.{HasPatterns};
 ghost use Rattle.qr_symbol.specs.Steps.Placement.{masked_grid, plain_grid, region_grid};
 
-use crate::mask::set_masked;
-use crate::patterns::{draw_fixed, draw_format, region_of};
+use crate::mask::{set_both_masked, set_masked};
+use crate::patterns::{draw_both_formats, draw_fixed, draw_format, region_of};
 use crate::placement::draw_codewords;
 use qr_layout::{Level, Version, format_word};
-use qr_matrix::Matrix;
+use qr_matrix::{Matrix, MatrixPair};
 use std::alloc::{AllocError, Global};
 use std::mem;
 
@@ -76,5 +76,18 @@ impl Canvas {
         set_masked(matrix, &self.plain, &self.region, mask);
         let format = u32::from(format_word(self.level, mask));
         draw_format(matrix, self.version, format);
+    }
+
+    // As `draw_masked`, but in two squares, each under a mask of its own.
+    pub(crate) fn draw_both_masked(&self, pair: &mut MatrixPair, masks: (u8, u8))
+        requires masks_in { (masks.0 < 8) × (masks.1 < 8) }
+        requires squares { (second : Bool) → IsSquare (side_of self.now.version) (one_of pair.old second) }
+        ensures { (second : Bool) → one_of pair.new second ≡ masked_grid self.now.version self.now.level
+            (if second then masks.1 else masks.0) self.now.region self.now.plain }
+    {
+        set_both_masked(pair, &self.plain, &self.region, masks);
+        let first = u32::from(format_word(self.level, masks.0));
+        let second = u32::from(format_word(self.level, masks.1));
+        draw_both_formats(pair, self.version, (first, second));
     }
 }

@@ -1,7 +1,7 @@
 //! Draws the function patterns, the format information and the version information, and the square in which only the
 //! region is dark (ISO/IEC 18004:2015, 6.3, 7.9 and 7.10). `format` is the format information as a number.
 
-ghost use Rattle.std.specs.Prelude.{◌≡◌, ℕ, ◌%◌, ◌+◌, ◌<◌, ◌≤◌, ◌==◌, ◌&&◌, not, if◌then◌else◌, nat_le, nat_lt, false, IfOk};
+ghost use Rattle.std.specs.Prelude.{◌≡◌, ℕ, Bool, ◌%◌, ◌+◌, ◌<◌, ◌≤◌, ◌==◌, ◌&&◌, not, if◌then◌else◌, nat_le, nat_lt, false, IfOk};
 ghost use Rattle.std.specs.List.{list_any, All};
 ghost use Rattle.qr_layout.specs.Version.{side_of};
 ghost use Rattle.qr_layout.specs.Alignment.{alignment_places, centres_of};
@@ -10,7 +10,7 @@ ghost use Rattle.qr_layout.specs.Rectangles.{is_in_rectangle};
 ghost use Rattle.qr_layout.specs.Steps.Rectangles.{IsInside, IsWithin};
 ghost use Rattle.qr_layout.specs.Role.{finder_ring, is_alignment_light, role_of};
 ghost use Rattle.qr_layout.specs.Format.{version_word_of};
-ghost use Rattle.qr_matrix.specs.Grid.{square, colour, IsSquare};
+ghost use Rattle.qr_matrix.specs.Grid.{square, colour, one_of, IsSquare};
 ghost use Rattle.qr_matrix.specs.BitRow.{has_bit};
 ghost use Rattle.qr_symbol.specs.Steps.Patterns.{fixed_colour, format_bits_or, format_or, is_dark_in_six, is_in_block, paint_of, IsOver};
 ghost use Rattle.qr_symbol.specs.Steps.Placement.{region_grid};
@@ -19,7 +19,7 @@ use qr_layout::{
     Module, Rectangle, Version, alignment_centres, fixed_rectangles, format_place,
     second_format_place,
 };
-use qr_matrix::Matrix;
+use qr_matrix::{Matrix, MatrixPair};
 use std::alloc::{AllocError, Global};
 
 // A `u32` cannot be shifted by 32 or more.
@@ -114,6 +114,36 @@ pub(crate) fn draw_format(matrix: &mut Matrix, v: Version, format: u32)
     draw_format_bits(matrix, v, format, 0, 6);
     draw_format_bits(matrix, v, format, 6, 9);
     draw_format_bits(matrix, v, format, 9, FORMAT_BITS);
+}
+
+#[inline(always)]
+fn draw_both_format_bits(pair: &mut MatrixPair, v: Version, formats: (u32, u32), first: u8, end: u8)
+    requires squares { (second : Bool) → IsSquare (side_of v) (one_of pair.old second) }
+    requires in_order { first ≤ end }
+    requires end_in { end ≤ 15 }
+    ensures { (second : Bool) → one_of pair.new second ≡ square (side_of v)
+        (λ r c. format_bits_or first end (if second then formats.1 else formats.0) (role_of v r c)
+        (colour (one_of pair.old second) r c)) }
+{
+    for bit in first..end {
+        let dark = (is_bit_set(formats.0, bit), is_bit_set(formats.1, bit));
+        let one = format_place(bit);
+        pair.set(one.row, one.col, dark);
+        let other = second_format_place(v, bit);
+        pair.set(other.row, other.col, dark);
+    }
+}
+
+// As `draw_format`, but in two squares, in each format information of its own.
+pub(crate) fn draw_both_formats(pair: &mut MatrixPair, v: Version, formats: (u32, u32))
+    requires { (second : Bool) → IsSquare (side_of v) (one_of pair.old second) }
+    ensures { (second : Bool) → one_of pair.new second ≡ square (side_of v)
+        (λ r c. format_or (if second then formats.1 else formats.0) (role_of v r c)
+        (colour (one_of pair.old second) r c)) }
+{
+    draw_both_format_bits(pair, v, formats, 0, 6);
+    draw_both_format_bits(pair, v, formats, 6, 9);
+    draw_both_format_bits(pair, v, formats, 9, FORMAT_BITS);
 }
 
 // Draws the three corners: the finder patterns, their separators, and beside them in row 8 and column 8 two modules of

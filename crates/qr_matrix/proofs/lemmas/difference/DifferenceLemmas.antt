@@ -27,7 +27,7 @@ pub row-differs : (g h : Grid) (r : ℕ) (d a b : List ℕ) → g.side ≤ 192 �
     ((c : ℕ) → has b c ≡ colour h r c) → ((c : ℕ) → g.side ≤ c → has a c ≡ false) →
     ((c : ℕ) → g.side ≤ c → has b c ≡ false) → size_of d ≡ count_below g.side (differs g h r)
 row-differs g h r d a b few x p q past beyond =
-    size-is g.side d (differs g h r) few
+    size-is g.side (has d) (differs g h r) few
     (λ c _. x c ∙ (ap (λ z. not (is_same z (has b c))) (p c) ∙ ap (λ z. not (is_same (colour g r c) z)) (q c)))
     (λ c k. differs-past (colour g r c) (colour h r c) (sym (p c) ∙ past c k) (sym (q c) ∙ beyond c k))
 

@@ -1,6 +1,6 @@
 -- Rows of words, seen as a square of colours: what reading and writing a bit row does to the colours.
-use Rattle.std.proofs.Common.{◌≡◌, ℕ, ◌<◌, ◌≤◌, Bool, true, false, not, ◌&&◌, ◌||◌, cond, eqb, ltb, leb, ◌+◌, List, [], ◌∷◌, length, get_or, set, replicate, ap, ◌∙◌, arith}
-use Rattle.std.proofs.lemmas.{Bool.Decides.nat_tests, Nat.Bits.bit_at-zero}
+use Rattle.std.proofs.Common.{◌≡◌, ℕ, ◌<◌, ◌≤◌, Bool, true, false, inl, inr, ◌⊎◌, sym, not, ◌&&◌, ◌||◌, cond, eqb, ltb, leb, ◌+◌, List, [], ◌∷◌, length, get_or, set, replicate, ap, ◌∙◌, arith}
+use Rattle.std.proofs.lemmas.{Bool.cases_lt, Bool.Decides.nat_tests, Nat.Bits.bit_at-zero}
 use Rattle.std.proofs.lemmas.List.{get_or_past, get_or_read, get_or-replicate, length-replicate, get_or-set_same, get_or-set_other}
 use Rattle.qr_matrix.specs.Grid.{Grid, square, colour, painted, with_row, with_rectangle, is_same}
 use Rattle.qr_matrix.specs.BitRow.{has, has_bit, bit_row_number, dark_in}
@@ -13,7 +13,7 @@ unfolding has has_bit bit_row_number
 has-none c = ap (λ z. eqb z 1) (bit_at-zero c)
 
 -- all places below the last row of `rows` are light
-dark-under : (rows : List (List ℕ)) (r c : ℕ) → length rows ≤ r → dark_in rows r c ≡ false
+pub dark-under : (rows : List (List ℕ)) (r c : ℕ) → length rows ≤ r → dark_in rows r c ≡ false
 unfolding dark_in
 dark-under rows r c l = ap (λ z. has z c) (get_or_past rows r [] l) ∙ has-none c
 
@@ -31,6 +31,16 @@ read-line rows row i words e l w = search (arith, get_or_read)
 pub row-read : (s row i : ℕ) (rows : List (List ℕ)) (words : List ℕ) (g : Grid) → square s (dark_in rows) ≡ g → i ≡ row → row < length rows → length rows ≡ s → ((r c : ℕ) → s ≤ c → dark_in rows r c ≡ false) → words ≡ get_or rows i words → (c : ℕ) → has words c ≡ colour g row c
 unfolding dark_in
 row-read s row i rows words g v e l q h w c = grind (arith, read-line, colour-is)
+
+-- the same for a row of the square, of which rows may follow more
+pub row-of-square : (s row i : ℕ) (rows : List (List ℕ)) (words : List ℕ) (g : Grid) → square s (dark_in rows) ≡ g → i ≡ row → row < length rows → row < s → ((r c : ℕ) → s ≤ c → dark_in rows r c ≡ false) → words ≡ get_or rows i words → (c : ℕ) → has words c ≡ colour g row c
+unfolding dark_in
+row-of-square s row i rows words g v e l q h w c =
+    ap (λ z. has z c) (read-line rows row i words e l w) ∙ (sym (inside (cases_lt c s)) ∙ ap (λ (z : Grid). colour z row c) v)
+  where
+    inside : (c < s) ⊎ (s ≤ c) → colour (square s (dark_in rows)) row c ≡ dark_in rows row c
+    inside (inl k) = colour-square s (dark_in rows) row c q k
+    inside (inr k) = colour-outside s (dark_in rows) row c (inr k) ∙ sym (h row c k)
 
 -- no bit from s on is set in the bit row that is read
 pub row-past : (s row i : ℕ) (rows : List (List ℕ)) (words : List ℕ) → i ≡ row → row < length rows → ((r c : ℕ) → s ≤ c → dark_in rows r c ≡ false) → words ≡ get_or rows i words → (c : ℕ) → s ≤ c → has words c ≡ false
@@ -127,3 +137,14 @@ dark-replicate n rows r c e = search (arith, get_or-replicate, has-nothing, rows
 -- the square of rows that are light everywhere is the light square
 pub light-square : (s : ℕ) (rows : List (List ℕ)) → ((r c : ℕ) → dark_in rows r c ≡ false) → square s (dark_in rows) ≡ square s (λ _ _. false)
 light-square s rows h = search (arith, square-same)
+
+-- a place past the words is past the side
+past-words : (s n k : ℕ) → s ≤ n → ltb k n ≡ false → s ≤ k
+past-words s n k l e = let m : n ≤ k = grind (arith, nat_tests) in omega arith
+
+-- a bit that is not set from the side s on stays if only the words of s are kept
+pub words-kept : (s n k : ℕ) (x : Bool) → s ≤ n → (s ≤ k → x ≡ false) → (x && ltb k n) ≡ x
+words-kept s n k x l h = passes x (ltb k n) (λ e. h (past-words s n k l e))
+  where
+    passes : (a b : Bool) → (b ≡ false → a ≡ false) → (a && b) ≡ a
+    passes a b h = grind (arith, nat_tests)

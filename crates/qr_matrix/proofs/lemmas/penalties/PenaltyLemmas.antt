@@ -1,11 +1,15 @@
 -- The penalty from its parts.
-use Rattle.std.{proofs.Common.{◌≡◌, ℕ, ◌+◌, ◌*◌, ◌/◌, Bool}, specs.Int.abs_diff}
-use Rattle.qr_matrix.specs.Sums.{places_passing}
-use Rattle.qr_matrix.specs.Penalty.{run_cost, square_count, window_count, over_lines, dark_cost, penalty_of}
+use Rattle.std.{proofs.Common.{◌≡◌, ◌≤◌, ℕ, ◌+◌, ◌*◌, ◌/◌, Bool, false, sym, ◌∙◌, arith}, specs.Int.abs_diff}
+use Rattle.qr_matrix.specs.{Sums.{count_below}, Steps.{IsCounted, set_count}}
+use Rattle.qr_matrix.specs.Penalty.{dark_cost, penalty_of}
+use Rattle.qr_matrix.proofs.lemmas.runs.RowLemmas.{size-is}
 
--- the penalty is the sum of its parts
-pub total-is : (s n a b w k d : ℕ) (dark : ℕ → ℕ → Bool) → n ≡ s * s → a ≡ over_lines s dark (run_cost s) → b ≡ square_count s dark → w ≡ over_lines s dark (window_count s) → k ≡ places_passing s dark
-    → d ≡ 10 * (abs_diff (20 * k) (10 * n) / n)
+-- the bits of a row are its dark modules
+pub row-count : (s w : ℕ) (bit line : ℕ → Bool) → s ≤ 64 * w → w ≤ 3 → ((c : ℕ) → bit c ≡ line c) → ((c : ℕ) → s ≤ c → bit c ≡ false) → set_count bit ≡ count_below s line
+row-count s w bit line h k e past = size-is s bit line (omega arith) (λ c _. e c) (λ c l. sym (e c) ∙ past c l)
+
+-- what is counted gives the penalty
+pub counted-is : (s x y a b w k d : ℕ) (dark : ℕ → ℕ → Bool) → x ≡ s → y ≡ s → d ≡ 10 * (abs_diff (20 * k) (10 * (x * y)) / (x * y)) → IsCounted s dark a b w k
     → a + 3 * b + 40 * w + d ≡ penalty_of s dark
 unfolding penalty_of dark_cost
-total-is s n a b w k d dark en ea eb ew ek ed = cc
+counted-is s x y a b w k d dark ex ey e i = cc (i.runs_are, i.squares_are, i.windows_are, i.darks_are)

@@ -1,7 +1,7 @@
 -- The modules that cost a point for a run are as many as the points that the runs cost.
-use Rattle.std.proofs.Common.{◌≡◌, ℕ, zero, suc, ◌+◌, ◌-◌, ◌*◌, ◌<◌, ◌≤◌, List, ltb, Bool, true, false, not, ◌&&◌, ◌||◌, cond, refl, ◌∙◌, arith}
+use Rattle.std.proofs.Common.{◌≡◌, ℕ, zero, suc, ◌+◌, ◌-◌, ◌*◌, ◌<◌, ◌≤◌, ltb, Bool, true, false, not, ◌&&◌, ◌||◌, cond, refl, ◌∙◌, arith}
 use Rattle.std.proofs.lemmas.Bool.Decides.{nat_tests}
-use Rattle.qr_matrix.specs.{BitRow.has, Sums.{count_below, sum_below}, Steps.{is_charged, size_of}}
+use Rattle.qr_matrix.specs.{Sums.{count_below, sum_below}, Steps.{is_charged, set_count}}
 use Rattle.qr_matrix.specs.Runs.{joins, begins_five, begins_long_run, place_cost}
 use Rattle.qr_matrix.proofs.lemmas.bit_row.{BoolLemmas.and-false, SumLemmas.sum_below-add, SumLemmas.sum_below-scale}
 use Rattle.qr_matrix.proofs.lemmas.runs.RowLemmas.{five-bit, five-past, size-is}
@@ -61,9 +61,9 @@ unfolding is_charged
 charged-past s line c h = search (arith, five-past, and-false)
 
 -- if j has the joins, f the places where four begin, and t those up to two after one of f, then t has the cost
-pub row_cost : (s : ℕ) (line : ℕ → Bool) (j f t : List ℕ) → s ≤ 192 → ((c : ℕ) → has j c ≡ joins s line c) → ((c : ℕ) → has f c ≡ ((has j c && has j (c + 1)) && (has j (c + 2) && has j (c + 3))))
-    → ((c : ℕ) → c < 192 → has t c ≡ ((has f c || (ltb 0 c && has f (c - 1))) || (ltb 1 c && has f (c - 2)))) → size_of t ≡ place_cost s line
+pub row_cost : (s : ℕ) (line : ℕ → Bool) (j f t : ℕ → Bool) → s ≤ 192 → ((c : ℕ) → j c ≡ joins s line c) → ((c : ℕ) → f c ≡ ((j c && j (c + 1)) && (j (c + 2) && j (c + 3))))
+    → ((c : ℕ) → c < 192 → t c ≡ ((f c || (ltb 0 c && f (c - 1))) || (ltb 1 c && f (c - 2)))) → set_count t ≡ place_cost s line
 unfolding is_charged
 row_cost s line j f t l hj hf ht =
-    let five : (c : ℕ) → has f c ≡ begins_five s line c = λ c. five-bit s line (has j) c (has f c) hj (hf c) in
+    let five : (c : ℕ) → f c ≡ begins_five s line c = λ c. five-bit s line j c (f c) hj (hf c) in
     size-is s t (is_charged s line) l (λ c k. ht c k ∙ (λ i. (five c i || (ltb 0 c && five (c - 1) i)) || (ltb 1 c && five (c - 2) i))) (charged-past s line) ∙ charged-cost s line

@@ -1,8 +1,8 @@
 -- Bit operations on neighbouring rows compute the tests of all columns at once.
-use Rattle.std.proofs.Common.{◌≡◌, ℕ, ◌+◌, ◌-◌, ◌<◌, ◌≤◌, List, [], ◌∷◌, eqb, ltb, Bool, true, false, not, ◌&&◌, ◌||◌, cond, ap, ◌∙◌, arith}
+use Rattle.std.proofs.Common.{◌≡◌, ℕ, ◌+◌, ◌-◌, ◌<◌, ◌≤◌, [], ◌∷◌, eqb, ltb, Bool, true, false, not, ◌&&◌, ◌||◌, cond, ap, ◌∙◌, arith}
 use Rattle.std.proofs.lemmas.{Bool.Decides.nat_tests, Nat.Bits.bit_at-zero}
 use Rattle.qr_matrix.specs.{BitRow.{has, has_bit, bit_row_number}, Runs.{joins, begins_five, place_cost}}
-use Rattle.qr_matrix.specs.{Steps.{is_charged, row_share, size_of}, Grid.is_same, Sums.{count_below, sum_below}}
+use Rattle.qr_matrix.specs.{Steps.{is_charged, row_share, set_count}, Grid.is_same, Sums.{count_below, sum_below}}
 use Rattle.qr_matrix.proofs.lemmas.bit_row.SumLemmas.{count_below-same, count_below-cut, sum_below-same, sum_below-swap}
 use Rattle.qr_matrix.proofs.lemmas.runs.{RowLemmas.joins-past, ChargeLemmas.charged-cost}
 use Rattle.qr_matrix.proofs.lemmas.bit_row.BoolLemmas.{and-false, not-not}
@@ -49,14 +49,14 @@ guarded-count s t p l h =
     ∙ count_below-same s (λ c. ltb c s && p c) p (λ c k. let e : ltb c s ≡ true = grind (arith, nat_tests) in ap (λ z. z && p c) e)
 
 -- a bit row whose bits are such a test has as many set bits as numbers below s pass it
-pub guarded-size : (s : ℕ) (words : List ℕ) (p : ℕ → Bool) → s ≤ 192 → ((c : ℕ) → has words c ≡ (ltb c s && p c)) → size_of words ≡ count_below s p
-unfolding size_of
-guarded-size s words p l h = guarded-count s (has words) p l h
+pub guarded-size : (s : ℕ) (bit p : ℕ → Bool) → s ≤ 192 → ((c : ℕ) → bit c ≡ (ltb c s && p c)) → set_count bit ≡ count_below s p
+unfolding set_count
+guarded-size s bit p l h = guarded-count s bit p l h
 
 -- the bits where five of one colour begin in row r or the two above it are the row's share in the cost of all columns
-pub share-of : (s : ℕ) (dark : ℕ → ℕ → Bool) (r : ℕ) (t f a b : List ℕ) → s ≤ 192 → ((c : ℕ) → has t c ≡ ((has f c || has a c) || has b c))
-    → ((c : ℕ) → has f c ≡ (ltb c s && begins_five s (λ i. dark i c) r)) → ((c : ℕ) → has a c ≡ (ltb 0 r && (ltb c s && begins_five s (λ i. dark i c) (r - 1))))
-    → ((c : ℕ) → has b c ≡ (ltb 1 r && (ltb c s && begins_five s (λ i. dark i c) (r - 2)))) → size_of t ≡ row_share s dark r
+pub share-of : (s : ℕ) (dark : ℕ → ℕ → Bool) (r : ℕ) (t f a b : ℕ → Bool) → s ≤ 192 → ((c : ℕ) → t c ≡ ((f c || a c) || b c))
+    → ((c : ℕ) → f c ≡ (ltb c s && begins_five s (λ i. dark i c) r)) → ((c : ℕ) → a c ≡ (ltb 0 r && (ltb c s && begins_five s (λ i. dark i c) (r - 1))))
+    → ((c : ℕ) → b c ≡ (ltb 1 r && (ltb c s && begins_five s (λ i. dark i c) (r - 2)))) → set_count t ≡ row_share s dark r
 unfolding row_share is_charged
 share-of s dark r t f a b l ht hf ha hb = search (arith, guarded-size, guarded-three)
 

@@ -1,15 +1,15 @@
 -- Bit operations on a bit row compute the tests of a row. A module is joined if the module after it has its colour.
-use Rattle.std.proofs.Common.{◌≡◌, ℕ, ◌+◌, ◌-◌, ◌<◌, ◌≤◌, List, ltb, Bool, false, not, ◌&&◌, arith}
+use Rattle.std.proofs.Common.{◌≡◌, ℕ, ◌+◌, ◌-◌, ◌<◌, ◌≤◌, ltb, Bool, false, not, ◌&&◌, arith}
 use Rattle.std.proofs.lemmas.Bool.Decides.{nat_tests}
-use Rattle.qr_matrix.specs.{BitRow.has, Steps.size_of, Grid.is_same, Sums.count_below, Runs.joins, Runs.begins_five}
+use Rattle.qr_matrix.specs.{Steps.set_count, Grid.is_same, Sums.count_below, Runs.joins, Runs.begins_five}
 use Rattle.qr_matrix.proofs.lemmas.bit_row.{SumLemmas.count_below-cut, BoolLemmas.{and-false, false-and, not-not}}
 
 -- ---- the number of set bits
 
 -- a bit row whose bits pass a test that nothing from s on passes has as many set bits as numbers below s pass it
-pub size-is : (s : ℕ) (words : List ℕ) (q : ℕ → Bool) → s ≤ 192 → ((c : ℕ) → c < 192 → has words c ≡ q c) → ((c : ℕ) → s ≤ c → q c ≡ false) → size_of words ≡ count_below s q
-unfolding size_of
-size-is s words q l e f = count_below-cut 192 s (has words) q l e f
+pub size-is : (s : ℕ) (bit q : ℕ → Bool) → s ≤ 192 → ((c : ℕ) → c < 192 → bit c ≡ q c) → ((c : ℕ) → s ≤ c → q c ≡ false) → set_count bit ≡ count_below s q
+unfolding set_count
+size-is s bit q l e f = count_below-cut 192 s bit q l e f
 
 -- ---- neighbours of one colour
 

@@ -1,7 +1,7 @@
 -- Bit operations on two rows compute the test of a square of two by two modules.
-use Rattle.std.proofs.Common.{◌≡◌, ℕ, ◌+◌, ◌≤◌, List, ltb, Bool, true, false, ◌&&◌, refl, ap, ◌∙◌, arith}
+use Rattle.std.proofs.Common.{◌≡◌, ℕ, ◌+◌, ◌≤◌, ltb, Bool, true, false, ◌&&◌, refl, ap, ◌∙◌, arith}
 use Rattle.std.proofs.lemmas.Bool.Decides.{nat_tests}
-use Rattle.qr_matrix.specs.{BitRow.has, Steps.size_of, Grid.is_same, Sums.count_below, Penalty.is_square_of_two}
+use Rattle.qr_matrix.specs.{Steps.set_count, Grid.is_same, Sums.count_below, Penalty.is_square_of_two}
 use Rattle.qr_matrix.{specs.Runs.joins, proofs.lemmas.{runs.RowLemmas.size-is, bit_row.BoolLemmas.and-false}}
 
 -- four modules p, q, m and n are equal exactly if p is joined to q in its row, and p to m and q to n in their columns
@@ -25,5 +25,5 @@ square-past s dark r c h =
     ∙ ap (λ z. z && is_same (dark r c) (dark r (c + 1)) && is_same (dark r c) (dark (r + 1) c) && is_same (dark r c) (dark (r + 1) (c + 1))) (and-false (ltb (r + 1) s) false refl)
 
 -- a bit row whose bits are the places of row r where squares of two begin has as many set bits as squares begin there
-pub squares-row : (s : ℕ) (dark : ℕ → ℕ → Bool) (r : ℕ) (words : List ℕ) → s ≤ 192 → ((c : ℕ) → has words c ≡ is_square_of_two s dark r c) → size_of words ≡ count_below s (is_square_of_two s dark r)
-squares-row s dark r words l h = size-is s words (is_square_of_two s dark r) l (λ c k. h c) (λ c k. square-past s dark r c k)
+pub squares-row : (s : ℕ) (dark : ℕ → ℕ → Bool) (r : ℕ) (bit : ℕ → Bool) → s ≤ 192 → ((c : ℕ) → bit c ≡ is_square_of_two s dark r c) → set_count bit ≡ count_below s (is_square_of_two s dark r)
+squares-row s dark r bit l h = size-is s bit (is_square_of_two s dark r) l (λ c k. h c) (λ c k. square-past s dark r c k)

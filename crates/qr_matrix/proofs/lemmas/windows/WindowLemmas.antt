@@ -1,9 +1,9 @@
 -- The windows of rows and columns, found and counted on bit rows.
-use Rattle.std.proofs.Common.{◌≡◌, ℕ, ◌+◌, ◌<◌, ◌≤◌, List, ltb, leb, Bool, true, false, not, ◌&&◌, ◌||◌, cond, sym, ap, ◌∙◌, arith}
+use Rattle.std.proofs.Common.{◌≡◌, ℕ, ◌+◌, ◌<◌, ◌≤◌, ltb, leb, Bool, true, false, not, ◌&&◌, ◌||◌, cond, refl, sym, ap, ◌∙◌, arith}
 use Rattle.{std.proofs.lemmas.Bool.Decides.nat_tests, qr_matrix.proofs.lemmas.bit_row.BoolLemmas.{and-false, false-and}}
-use Rattle.qr_matrix.specs.{BitRow.has, Steps.size_of, Sums.count_below, Sums.sum_below}
+use Rattle.qr_matrix.specs.{Steps.set_count, Sums.count_below, Sums.sum_below}
 use Rattle.qr_matrix.specs.Penalty.{finder_ratio, four_light, reads, is_window, window_count}
-use Rattle.qr_matrix.proofs.lemmas.{bit_row.SumLemmas.sum_below-swap, runs.RowLemmas.size-is, runs.ColumnLemmas.guarded-size, windows.ReadingLemmas.window-is}
+use Rattle.qr_matrix.proofs.lemmas.{bit_row.SumLemmas.{count_below-cut, sum_below-swap}, runs.RowLemmas.size-is, runs.ColumnLemmas.guarded-size, windows.ReadingLemmas.window-is}
 
 -- in a row, the tests of the ratio before and after four light modules find the windows
 pub window-bit : (s : ℕ) (line core four : ℕ → Bool) (c : ℕ) → ((m : ℕ) → core m ≡ (leb (m + 7) s && reads line m finder_ratio))
@@ -28,9 +28,9 @@ unfolding is_window
 window-past s line c h = false-and (leb (c + 11) s) _ (grind (arith, nat_tests))
 
 -- a bit row that has a bit set just where a window begins has as many set bits as there are windows
-pub windows-row : (s : ℕ) (line : ℕ → Bool) (words : List ℕ) → s ≤ 192 → ((c : ℕ) → has words c ≡ is_window s line c) → size_of words ≡ window_count s line
+pub windows-row : (s : ℕ) (line : ℕ → Bool) (bit : ℕ → Bool) → s ≤ 192 → ((c : ℕ) → bit c ≡ is_window s line c) → set_count bit ≡ window_count s line
 unfolding window_count
-windows-row s line words l h = size-is s words (is_window s line) l (λ c k. h c) (λ c k. window-past s line c k)
+windows-row s line bit l h = size-is s bit (is_window s line) l (λ c k. h c) (λ c k. window-past s line c k)
 
 -- if eleven rows are left, the ratio before and after four light modules in a column is a window
 pub window-down-bit : (s : ℕ) (line : ℕ → Bool) (r : ℕ) (u : Bool) → r + 11 ≤ s
@@ -51,10 +51,28 @@ unfolding is_window
 window-down-none s line c r x h e = e ∙ sym (and-false (ltb c s) _ (false-and (leb (r + 11) s) _ (grind (arith, nat_tests))))
 
 -- a bit row with a bit set just where a window of a column begins in row r has as many set bits as windows begin there
-pub windows-down-row : (s : ℕ) (dark : ℕ → ℕ → Bool) (r : ℕ) (words : List ℕ) → s ≤ 192 → ((c : ℕ) → has words c ≡ (ltb c s && is_window s (λ i. dark i c) r)) → size_of words ≡ count_below s (λ c. is_window s (λ i. dark i c) r)
-windows-down-row s dark r words l h = guarded-size s words (λ c. is_window s (λ i. dark i c) r) l h
+pub windows-down-row : (s : ℕ) (dark : ℕ → ℕ → Bool) (r : ℕ) (bit : ℕ → Bool) → s ≤ 192 → ((c : ℕ) → bit c ≡ (ltb c s && is_window s (λ i. dark i c) r)) → set_count bit ≡ count_below s (λ c. is_window s (λ i. dark i c) r)
+windows-down-row s dark r bit l h = guarded-size s bit (λ c. is_window s (λ i. dark i c) r) l h
 
 -- the windows of columns, counted row by row, are those counted column by column
 pub windows-are-columns : (s : ℕ) (dark : ℕ → ℕ → Bool) → sum_below s (λ r. count_below s (λ c. is_window s (λ i. dark i c) r)) ≡ sum_below s (λ c. window_count s (λ r. dark r c))
 unfolding window_count
 windows-are-columns s dark = sum_below-swap s s (λ r c. cond (is_window s (λ i. dark i c) r) 1 0)
+
+-- a row without bits has none to count
+none-of : (bit : ℕ → Bool) → ((c : ℕ) → bit c ≡ false) → set_count bit ≡ 0
+unfolding set_count
+none-of bit h = count_below-cut 192 0 bit (λ _. false) (omega arith) (λ c _. h c) (λ _ _. refl)
+
+-- nor have two rows, if their union has none
+pub both-none : (e bit other : ℕ → Bool) → ((c : ℕ) → e c ≡ (bit c || other c)) → ((c : ℕ) → e c ≡ false) → set_count bit + set_count other ≡ 0
+both-none e bit other h n =
+    let p = none-of bit (λ c. first (bit c) (other c) (sym (h c) ∙ n c)) in
+    let q = none-of other (λ c. last (bit c) (other c) (sym (h c) ∙ n c)) in
+    omega arith
+  where
+    first : (a b : Bool) → (a || b) ≡ false → a ≡ false
+    first a b e = grind (arith, nat_tests)
+
+    last : (a b : Bool) → (a || b) ≡ false → b ≡ false
+    last a b e = grind (arith, nat_tests)

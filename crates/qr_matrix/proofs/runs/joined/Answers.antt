@@ -1,10 +1,10 @@
-use Rattle.std.proofs.Common.{◌+◌, ◌-◌, not, ltb, ap, ◌∙◌, arith}
-use Rattle.qr_matrix.{specs.{Grid.{colour, is_same}, BitRow.has}, proofs.lemmas.runs.RowLemmas.joins-bit}
+use Rattle.std.proofs.Common.{◌+◌, not, ap, ◌∙◌, arith}
+use Rattle.qr_matrix.{specs.Grid.is_same, proofs.lemmas.runs.RowLemmas.joins-bit}
 use Rattle.qr_matrix.proofs.runs.joined.Goals as goal
 
 pub returns : goal.returns
-returns c = λ k.
-    let m = c.args.matrix.now in
-    joins-bit m.side (colour m c.args.row) k (has c.and_not.result k) (has c.below_in.result k) (has c.bitxor.result k) (has c.shifted_left.result k) (omega arith) (c.and_not.ensures k)
-    (c.below_in.ensures k ∙ ap (λ z. ltb k (z - 1)) c.side.ensures.value)
-    (c.bitxor.ensures k ∙ ap (λ z. not (is_same z (has c.shifted_left.result k))) (c.bit_row_in-bits.ensures.colours k)) (c.shifted_left.ensures k ∙ c.bit_row_in-bits.ensures.colours (k + 1))
+returns g c = λ b k.
+    let m = c.args.squares.now in
+    let bit = g.S.Row.Rows.bit in
+    joins-bit (g.S.Squares.size m) (g.S.Squares.dark m b c.args.row) k (bit c.and_not.result b k) (bit c.args.before_last b k) (bit c.xor.result b k) (bit c.shifted_left.result b k) (omega (arith, c.requires.row_in)) (c.and_not.ensures b k) (c.requires.before_last b k)
+    (c.xor.ensures b k ∙ ap (λ z. not (is_same z (bit c.shifted_left.result b k))) (c.row_in-bits.ensures.colours b k)) (c.shifted_left.ensures b k ∙ c.row_in-bits.ensures.colours b (k + 1))

@@ -1,15 +1,16 @@
-use Rattle.{std.proofs.Common.{not, ltb, ap, ◌∙◌, arith}, qr_matrix.specs.{Grid.{colour, is_same}, BitRow.has}}
-use Rattle.qr_matrix.proofs.lemmas.runs.ColumnLemmas.{has-nothing, joins-down-bit, joins-down-none}
+use Rattle.{std.proofs.Common.{not, ap, ◌∙◌, arith}, qr_matrix.specs.Grid.is_same}
+use Rattle.qr_matrix.proofs.lemmas.runs.ColumnLemmas.{joins-down-bit, joins-down-none}
 use Rattle.qr_matrix.proofs.runs.joined_in_column.Goals as goal
 
 pub returns-then-row-from : goal.returns-then-row-from
-returns-then-row-from c = λ k.
-    let m = c.args.matrix.now in
-    joins-down-bit m.side (λ i. colour m i k) k c.args.row (has c.and_not.result k) (has c.below_in.result k) (has c.bitxor.result k) (omega arith) (c.and_not.ensures k)
-    (c.below_in.ensures k ∙ ap (ltb k) c.side-side.ensures.value)
-    (c.bitxor.ensures k ∙ (ap (λ z. not (is_same z (has c.bit_row_in-then-row-from.result k))) (c.bit_row_in.ensures.colours k) ∙ ap (λ z. not (is_same (colour m c.args.row k) z)) (c.bit_row_in-then-row-from.ensures.colours k)))
+returns-then-row-from g c = λ b k.
+    let m = c.args.squares.now in
+    let bit = g.S.Row.Rows.bit in
+    joins-down-bit (g.S.Squares.size m) (λ i. g.S.Squares.dark m b i k) k c.args.row (bit c.and_not.result b k) (bit c.args.columns b k) (bit c.xor.result b k) (omega (arith, c.side-side.ensures.least, c.side-side.ensures.value, c.if-row-from.true)) (c.and_not.ensures b k)
+    (c.requires.columns b k)
+    (c.xor.ensures b k ∙ (ap (λ z. not (is_same z (bit c.row_in-then-row-from.result b k))) (c.row_in.ensures.colours b k) ∙ ap (λ z. not (is_same (g.S.Squares.dark m b c.args.row k) z)) (c.row_in-then-row-from.ensures.colours b k)))
 
 pub returns-else-row-from : goal.returns-else-row-from
-returns-else-row-from c = λ k.
-    let m = c.args.matrix.now in
-    joins-down-none m.side (λ i. colour m i k) k c.args.row _ (omega arith) (has-nothing k)
+returns-else-row-from g c = λ b k.
+    let m = c.args.squares.now in
+    joins-down-none (g.S.Squares.size m) (λ i. g.S.Squares.dark m b i k) k c.args.row _ (omega (arith, c.side-side.ensures.least, c.side-side.ensures.value, c.if-row-from.false)) (c.empty.ensures b k)

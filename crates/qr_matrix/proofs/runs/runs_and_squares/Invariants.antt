@@ -1,19 +1,21 @@
-use Rattle.std.proofs.Common.{◌≡◌, ℕ, ◌+◌, ◌-◌, ◌*◌, ◌≤◌, ◌&&◌, ltb}
-use Rattle.qr_matrix.specs.{Grid.colour, BitRow.has, Sums.count_below, Sums.sum_below, Penalty.is_square_of_two}
+use Rattle.std.proofs.Common.{◌≡◌, ℕ, ◌+◌, ◌-◌, ◌*◌, ◌≤◌, Bool, ◌&&◌, ltb}
+use Rattle.qr_matrix.specs.{Sums.count_below, Sums.sum_below, Penalty.is_square_of_two}
 use Rattle.qr_matrix.specs.{Runs.{begins_five, joins, place_cost}, Steps.row_share}
 use Rattle.qr_matrix.proofs.runs.runs_and_squares.Given as goal
 
 abbrev pub invariant-loop-row : goal.invariant-loop-row
-invariant-loop-row l = record {
-  rows : l.rows ≡ sum_below l.row (λ r. place_cost l.matrix.side (colour l.matrix r));
-  rows_small : l.rows ≤ 192 * l.row;
-  columns : l.columns ≡ sum_below l.row (row_share l.matrix.side (colour l.matrix));
-  columns_small : l.columns ≤ 192 * l.row;
-  squares : l.squares ≡ sum_below l.row (λ r. count_below l.matrix.side (is_square_of_two l.matrix.side (colour l.matrix) r));
-  squares_small : l.squares ≤ 192 * l.row;
-  above : (c : ℕ) → has l.above c ≡ (ltb 0 l.row && (ltb c l.matrix.side && begins_five l.matrix.side (λ i. colour l.matrix i c) (l.row - 1)));
-  second_above : (c : ℕ) → has l.second_above c ≡ (ltb 1 l.row && (ltb c l.matrix.side && begins_five l.matrix.side (λ i. colour l.matrix i c) (l.row - 2)));
-  first : (c : ℕ) → has l.first c ≡ (ltb c l.matrix.side && joins l.matrix.side (λ i. colour l.matrix i c) l.row);
-  second : (c : ℕ) → has l.second c ≡ (ltb c l.matrix.side && joins l.matrix.side (λ i. colour l.matrix i c) (l.row + 1));
-  third : (c : ℕ) → has l.third c ≡ (ltb c l.matrix.side && joins l.matrix.side (λ i. colour l.matrix i c) (l.row + 2));
-}
+invariant-loop-row g l =
+    let s = g.S.Squares.size l.squares in
+    let dark = g.S.Squares.dark l.squares in
+    let bit = g.S.Row.Rows.bit in
+    record {
+      runs : (b : Bool) → g.S.Row.Rows.number l.runs b ≡ sum_below l.row (λ r. place_cost s (dark b r)) + sum_below l.row (row_share s (dark b));
+      runs_small : (b : Bool) → g.S.Row.Rows.number l.runs b ≤ 384 * l.row;
+      squares : (b : Bool) → g.S.Row.Rows.number l.blocks b ≡ sum_below l.row (λ r. count_below s (is_square_of_two s (dark b) r));
+      squares_small : (b : Bool) → g.S.Row.Rows.number l.blocks b ≤ 192 * l.row;
+      above : (b : Bool) (c : ℕ) → bit l.above b c ≡ (ltb 0 l.row && (ltb c s && begins_five s (λ i. dark b i c) (l.row - 1)));
+      second_above : (b : Bool) (c : ℕ) → bit l.second_above b c ≡ (ltb 1 l.row && (ltb c s && begins_five s (λ i. dark b i c) (l.row - 2)));
+      first : (b : Bool) (c : ℕ) → bit l.first b c ≡ (ltb c s && joins s (λ i. dark b i c) l.row);
+      second : (b : Bool) (c : ℕ) → bit l.second b c ≡ (ltb c s && joins s (λ i. dark b i c) (l.row + 1));
+      third : (b : Bool) (c : ℕ) → bit l.third b c ≡ (ltb c s && joins s (λ i. dark b i c) (l.row + 2));
+    }

@@ -1,14 +1,14 @@
-use Rattle.qr_matrix.{specs.Grid.colour, proofs.lemmas.windows.ReadingLemmas.dark-read}
+use Rattle.qr_matrix.proofs.lemmas.windows.ReadingLemmas.{dark-read}
 use Rattle.qr_matrix.proofs.windows.dark_of_four.Goals as goal
 
 pub returns : goal.returns
-returns c = λ k.
-    let l0 = c.bit_row_in.ensures.colours k in
-    let l1 = c.bit_row_in-2.ensures.colours k in
-    let l2 = c.bit_row_in-3.ensures.colours k in
-    let l3 = c.bit_row_in-4.ensures.colours k in
-    let h0 = c.bitor-upper.ensures k in
-    let h1 = c.bitor.ensures k in
-    let h2 = c.bitor-2.ensures k in
-    let read = dark-read (λ i. colour c.args.matrix.now i k) c.args.row in
+returns g c = λ b k.
+    let l0 = c.row_in.ensures.colours b k in
+    let l1 = c.row_in-2.ensures.colours b k in
+    let l2 = c.row_in-3.ensures.colours b k in
+    let l3 = c.row_in-4.ensures.colours b k in
+    let h0 = c.or-upper.ensures b k in
+    let h1 = c.or.ensures b k in
+    let h2 = c.or-2.ensures b k in
+    let read = dark-read (λ i. g.S.Squares.dark c.args.squares.now b i k) c.args.row in
     cc

@@ -1,33 +1,27 @@
-use Rattle.std.proofs.Common.{◌≤◌, ◌<◌, ℕ, ◌+◌, sym, ◌∙◌, ap, subst, arith}
-use Rattle.qr_symbol.proofs.choice.best_mask.Goals.{then-cost-least, else-cost-least}
-use Rattle.qr_symbol.proofs.lemmas.choice.ChoiceLemmas.{least-start, least-better, least-kept}
+use Rattle.std.proofs.Common.{◌≡◌, ◌+◌, ◌*◌, ℕ, Bool, false, ◌∙◌, ap, refl, subst, arith}
+use Rattle.qr_matrix.specs.Grid.{light}
+use Rattle.qr_symbol.proofs.lemmas.{choice.ChoiceLemmas.least-start, placement.PlacementLemmas.square-is}
 use Rattle.qr_symbol.specs.{Choice.IsFirstLeast, Steps.Placement.masked_penalty}
 use Rattle.qr_symbol.proofs.choice.best_mask.Goals as goal
 
-pub loop-mask-init : goal.loop-mask-init
-loop-mask-init c = record {
-  square = c.mask_penalty-least.ensures.square;
-  best = least-start _;
-  least = c.mask_penalty-least.ensures.value;
-}
+pub mask_penalties-first-requires-clause-squares : goal.mask_penalties-first-requires-clause-squares
+mask_penalties-first-requires-clause-squares c = λ s. square-is _ (λ _ _. false) _ (c.new-pair.ensures s ∙ ap light c.side.ensures.value)
 
-pub loop-mask-preserved : goal.loop-mask-preserved
-loop-mask-preserved c =
-    let f = masked_penalty c.args.canvas.now.version c.args.canvas.now.level c.args.canvas.now.region c.args.canvas.now.plain in
-    let i = c.loop-mask.invariant in record {
-      square = c.mask_penalty-cost.ensures.square;
-      best = elim c.if-cost-least.branch [
-        | then-cost-least w ↦ (let l : c.mask_penalty-cost.result < c.loop-mask.least = w.if-cost-least.true in subst (IsFirstLeast (c.loop-mask.mask + 1) f) (sym w.best-is) (least-better c.loop-mask.mask f c.loop-mask.best i.best (omega arith)))
-        | else-cost-least w ↦ (let l : c.loop-mask.least ≤ c.mask_penalty-cost.result = w.if-cost-least.false in subst (IsFirstLeast (c.loop-mask.mask + 1) f) (sym w.best-is) (least-kept c.loop-mask.mask f c.loop-mask.best i.best (omega arith)))
-      ];
-      least = elim c.if-cost-least.branch [
-        | then-cost-least w ↦ w.least-is ∙ (c.mask_penalty-cost.ensures.value ∙ ap f (sym w.best-is))
-        | else-cost-least w ↦ w.least-is ∙ (i.least ∙ ap f (sym w.best-is))
-      ];
-    }
+pub loop-half-init : goal.loop-half-init
+loop-half-init c =
+    let k = c.args.canvas.now in
+    let f = masked_penalty k.version k.level k.region k.plain in
+    let m = c.mask_penalties-first.ensures in
+    let b = c.better-best.ensures f (least-start f) m.first m.second in
+    record { squares = m.squares; best = b.0; least = b.1 }
 
-pub returns : goal.returns
-returns c = record {
-  square = c.loop-mask.invariant.square;
-  best = subst (λ (n : ℕ). IsFirstLeast n (masked_penalty c.args.canvas.now.version c.args.canvas.now.level c.args.canvas.now.region c.args.canvas.now.plain) c.loop-mask.best) (omega arith) c.loop-mask.invariant.best;
-}
+pub loop-half-preserved : goal.loop-half-preserved
+loop-half-preserved c =
+    let k = c.args.canvas.now in
+    let f = masked_penalty k.version k.level k.region k.plain in
+    let m = c.mask_penalties-first-in-loop-half.ensures in
+    let i = c.loop-half.invariant in
+    let b = c.better-best-in-loop-half.ensures f i.best i.least m.first in
+    let d = c.better-best-in-loop-half-2.ensures f b.0 b.1 m.second in
+    let e : 2 * c.loop-half.half + 1 + 1 ≡ 2 * (c.loop-half.half + 1) = omega arith in
+    record { squares = m.squares; best = subst (λ (n : ℕ). IsFirstLeast n f c.better-best-in-loop-half-2.result.mask) e d.0; least = d.1 }

@@ -1,10 +1,12 @@
-use Rattle.{qr_layout.specs.Version.side_of, qr_matrix.specs.Grid.IsSquare}
-use Rattle.{qr_symbol.specs.{Choice.IsFirstLeast, Steps.Placement.masked_penalty}, std.proofs.Common.◌≡◌}
+use Rattle.{qr_layout.specs.Version.side_of, qr_matrix.specs.Grid.{one_of, IsSquare}}
+use Rattle.{qr_symbol.specs.{Choice.IsFirstLeast, Steps.Placement.masked_penalty}, std.proofs.Common.{◌≡◌, ◌*◌, Bool}}
 use Rattle.qr_symbol.proofs.choice.best_mask.Given as goal
 
-abbrev pub invariant-loop-mask : goal.invariant-loop-mask
-invariant-loop-mask l = record {
-  square : IsSquare (side_of l.canvas.version) l.matrix;
-  best : IsFirstLeast l.mask (masked_penalty l.canvas.version l.canvas.level l.canvas.region l.canvas.plain) l.best;
-  least : l.least ≡ masked_penalty l.canvas.version l.canvas.level l.canvas.region l.canvas.plain l.best;
-}
+abbrev pub invariant-loop-half : goal.invariant-loop-half
+invariant-loop-half l =
+    let f = masked_penalty l.canvas.version l.canvas.level l.canvas.region l.canvas.plain in
+    record {
+      squares : (s : Bool) → IsSquare (side_of l.canvas.version) (one_of l.pair s);
+      best : IsFirstLeast (2 * l.half) f l.best.mask;
+      least : l.best.penalty ≡ f l.best.mask;
+    }

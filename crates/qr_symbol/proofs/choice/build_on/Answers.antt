@@ -8,7 +8,7 @@ draw_data-requires c = square-is _ (λ _ _. false) _ (c.in_ok-matrix.ensures ∙
 
 pub returns-clause-mask : goal.returns-clause-mask
 returns-clause-mask c = let d = c.draw_data in
-    canvas-mask _ _ _ d.new.self _ (omega arith) d.ensures.version d.ensures.level d.ensures.plain c.best_mask-mask.ensures.best
+    canvas-mask _ _ _ d.new.self _ (omega arith) d.ensures.version d.ensures.level d.ensures.plain c.best_mask-mask.ensures
 
 pub returns-clause-matrix : goal.returns-clause-matrix
 returns-clause-matrix c = let d = c.draw_data in

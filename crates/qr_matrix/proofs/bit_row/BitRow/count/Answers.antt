@@ -1,10 +1,10 @@
 use Rattle.std.proofs.{Common.{get_or, ◌∙◌, arith}, lemmas.Nat.ones-le}
-use Rattle.qr_matrix.specs.{BitRow.has, BitRow.bit_row_number, Steps.size_of}
+use Rattle.qr_matrix.specs.{BitRow.has, BitRow.bit_row_number, Steps.set_count}
 use Rattle.qr_matrix.proofs.lemmas.bit_row.{WordLemmas.three-ones, WordLemmas.three-below, PlaceLemmas.ones-count}
 use Rattle.qr_matrix.proofs.bit_row.BitRow.count.Goals as goal
 
 pub returns-clause-value : goal.returns-clause-value
-unfolding size_of has bit_row_number
+unfolding set_count has bit_row_number
 returns-clause-value c =
     let a = c.self.inside.0 in
     rw (← c.self.view_is) (three-ones (get_or a 0 0) (get_or a 1 0) (get_or a 2 0) (omega arith) (omega arith) ∙ ones-count 192 (bit_row_number a) (three-below (get_or a 0 0) (get_or a 1 0) (get_or a 2 0) (omega arith) (omega arith) (omega arith)))

@@ -1,0 +1,2 @@
+-- Lemmas on the bit rows of two squares.
+pub mod PairLemmas

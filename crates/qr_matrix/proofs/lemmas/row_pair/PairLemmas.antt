@@ -1,0 +1,366 @@
+-- Operations on the words of two bit rows at once.
+use Rattle.std.proofs.Common.{◌≡◌, ◌≢◌, ◌⊎◌, inl, inr, w64, ℕ, ◌+◌, ◌-◌, ◌*◌, ◌/◌, ◌%◌, ◌^◌, ◌<◌, ◌≤◌, List, [], ◌∷◌, length, get_or, set, replicate, Bool, true, false, not, ◌&&◌, ◌||◌, cond, ltb, eqb, bit_and, bit_or, bit_xor, refl, sym, ap, ◌∙◌, arith}
+use Rattle.std.proofs.lemmas.Nat.{or_lt, xor_lt, le_or_l, le_or_r}
+use Rattle.std.proofs.Math.Nat.{div-le_self}
+use Rattle.std.proofs.lemmas.List.{get_or-map, get_or-replicate, length-map, length-replicate, map-set}
+use Rattle.qr_matrix.proofs.lemmas.matrix.MatrixLemmas.{dark-under}
+use Rattle.std.proofs.lemmas.Nat.Bits.{bit_at_above, bit_at-zero, bit_at_set_same, bit_at_set_other, bit_at_clear_same, bit_at_clear_other}
+use Rattle.std.proofs.lemmas.Bool.{cases_eq, cases_lt}
+use Rattle.std.proofs.lemmas.Bool.Decides.{nat_tests}
+use Rattle.std.specs.Int.{bit_at}
+use Rattle.std.specs.Int.Bits.{or_zero_r}
+use Rattle.std.proofs.lemmas.Simd.{length-zip2, get_or-zip2}
+use lib.Lanes.{zip2}
+use mir.Val.{bool_byte}
+use Rattle.qr_matrix.proofs.lemmas.runs.ColumnLemmas.{has-nothing}
+use Rattle.qr_matrix.specs.{Grid.{Grid, GridPair, is_same, one_of, square}, Steps.{IsPair, lane, lanes, set_count, size_of, word_of}, BitRow.{has, has_bit, bit_row_number, dark_in}}
+use Rattle.qr_matrix.proofs.lemmas.bit_row.{SumLemmas.count_below-same, WordLemmas.{three-and, three-or, three-xor, three-down, three-up}, PlaceLemmas.{has_bit-low, has_bit-middle, has_bit-high, and-small, has_bit-and, has_bit-or, has_bit-xor, has_bit-shr, has_bit-up}}
+
+-- ---- one operation on two words
+
+-- each word of a pair is a word
+pub word-small : (a : List ℕ) (s : Bool) → IsPair a → word_of a s < 2 ^ 64
+word-small a false p = p.1
+word-small a true p = p.2
+
+-- an operation on two pairs is the operation on their words
+pub zip-word : (f : ℕ → ℕ → ℕ) (a b : List ℕ) (s : Bool) → length a ≡ 2 → length b ≡ 2 → word_of (zip2 f a b) s ≡ f (word_of a s) (word_of b s)
+zip-word f a b false l m = get_or-zip2 f a b 0 0 0 0 (omega arith) (omega arith)
+zip-word f a b true l m = get_or-zip2 f a b 1 0 0 0 (omega arith) (omega arith)
+
+-- it is a pair, if the operation makes words
+pub zip-pair : (f : ℕ → ℕ → ℕ) (a b : List ℕ) → length a ≡ 2 → length b ≡ 2 → ((s : Bool) → f (word_of a s) (word_of b s) < 2 ^ 64) → IsPair (zip2 f a b)
+zip-pair f a b l m h =
+    let first = zip-word f a b false l m in
+    let second = zip-word f a b true l m in
+    let p = h false in
+    let q = h true in
+    (length-zip2 f a b (l ∙ sym m) ∙ l, omega arith, omega arith)
+
+pub and-pair : (a b : List ℕ) → IsPair a → IsPair b → IsPair (zip2 bit_and a b)
+and-pair a b p q = zip-pair bit_and a b p.0 q.0 (λ s. and-small (word_of a s) (word_of b s) (word-small a s p))
+
+pub or-pair : (a b : List ℕ) → IsPair a → IsPair b → IsPair (zip2 bit_or a b)
+or-pair a b p q = zip-pair bit_or a b p.0 q.0 (λ s. or_lt 64 _ _ (word-small a s p) (word-small b s q))
+
+pub xor-pair : (a b : List ℕ) → IsPair a → IsPair b → IsPair (zip2 bit_xor a b)
+xor-pair a b p q = zip-pair bit_xor a b p.0 q.0 (λ s. xor_lt 64 _ _ (word-small a s p) (word-small b s q))
+
+-- ---- operations on two rows
+
+module _ (a b d : List ℕ) (s : Bool) (pa : IsPair a) (pb : IsPair b) (pd : IsPair d) where
+  module _ (e f g : List ℕ) (pe : IsPair e) (pf : IsPair f) (pg : IsPair g) where
+    pub lane-and : (c : ℕ) → has (lane (zip2 bit_and a e ∷ zip2 bit_and b f ∷ zip2 bit_and d g ∷ []) s) c ≡ (has (lane (a ∷ b ∷ d ∷ []) s) c && has (lane (e ∷ f ∷ g ∷ []) s) c)
+    unfolding has bit_row_number lane
+    lane-and c = cc (zip-word bit_and a e s pa.0 pe.0, zip-word bit_and b f s pb.0 pf.0, zip-word bit_and d g s pd.0 pg.0, three-and (word_of a s) (word_of b s) (word_of d s) (word_of e s) (word_of f s) (word_of g s) (word-small a s pa) (word-small b s pb) (word-small e s pe) (word-small f s pf), has_bit-and (bit_row_number (lane (a ∷ b ∷ d ∷ []) s)) (bit_row_number (lane (e ∷ f ∷ g ∷ []) s)) c)
+
+    pub lane-or : (c : ℕ) → has (lane (zip2 bit_or a e ∷ zip2 bit_or b f ∷ zip2 bit_or d g ∷ []) s) c ≡ (has (lane (a ∷ b ∷ d ∷ []) s) c || has (lane (e ∷ f ∷ g ∷ []) s) c)
+    unfolding has bit_row_number lane
+    lane-or c = cc (zip-word bit_or a e s pa.0 pe.0, zip-word bit_or b f s pb.0 pf.0, zip-word bit_or d g s pd.0 pg.0, three-or (word_of a s) (word_of b s) (word_of d s) (word_of e s) (word_of f s) (word_of g s) (word-small a s pa) (word-small b s pb) (word-small e s pe) (word-small f s pf), has_bit-or (bit_row_number (lane (a ∷ b ∷ d ∷ []) s)) (bit_row_number (lane (e ∷ f ∷ g ∷ []) s)) c)
+
+    pub lane-xor : (c : ℕ) → has (lane (zip2 bit_xor a e ∷ zip2 bit_xor b f ∷ zip2 bit_xor d g ∷ []) s) c ≡ not (is_same (has (lane (a ∷ b ∷ d ∷ []) s) c) (has (lane (e ∷ f ∷ g ∷ []) s) c))
+    unfolding has bit_row_number lane
+    lane-xor c = cc (zip-word bit_xor a e s pa.0 pe.0, zip-word bit_xor b f s pb.0 pf.0, zip-word bit_xor d g s pd.0 pg.0, three-xor (word_of a s) (word_of b s) (word_of d s) (word_of e s) (word_of f s) (word_of g s) (word-small a s pa) (word-small b s pb) (word-small e s pe) (word-small f s pf), has_bit-xor (bit_row_number (lane (a ∷ b ∷ d ∷ []) s)) (bit_row_number (lane (e ∷ f ∷ g ∷ []) s)) c)
+
+-- ---- shifts
+
+-- what a shift by k down, or up, does to a word
+abbrev pub down : ℕ → ℕ → ℕ
+down x k = x / 2 ^ k
+
+abbrev pub up : ℕ → ℕ → ℕ
+up x k = x * 2 ^ k % 2 ^ 64
+
+-- each of two words shifted by k
+shifted-word : (f : ℕ → ℕ → ℕ) (a : List ℕ) (k : ℕ) (s : Bool) → IsPair a → word_of (zip2 f a (k ∷ k ∷ [])) s ≡ f (word_of a s) k
+shifted-word f a k false p = zip-word f a (k ∷ k ∷ []) false p.0 refl
+shifted-word f a k true p = zip-word f a (k ∷ k ∷ []) true p.0 refl
+
+down-pair : (a : List ℕ) (k : ℕ) → IsPair a → IsPair (zip2 down a (k ∷ k ∷ []))
+down-pair a k p = zip-pair down a (k ∷ k ∷ []) p.0 refl (elim [
+  | false ↦ (let l = p.1 in small (get_or a 0 0) l)
+  | true ↦ (let l = p.2 in small (get_or a 1 0) l)
+])
+  where
+    small : (x : ℕ) → x < 2 ^ 64 → x / 2 ^ k < 2 ^ 64
+    small x l = omega (arith, div-le_self x (2 ^ k))
+
+up-pair : (a : List ℕ) (k : ℕ) → IsPair a → IsPair (zip2 up a (k ∷ k ∷ []))
+up-pair a k p = zip-pair up a (k ∷ k ∷ []) p.0 refl (elim [ false ↦ omega arith | true ↦ omega arith ])
+
+-- the bits of a shifted word, and those that come into it from another
+both-pair : (f g : ℕ → ℕ → ℕ) (a b : List ℕ) (k j : ℕ) → IsPair (zip2 f a (k ∷ k ∷ [])) → IsPair (zip2 g b (j ∷ j ∷ [])) → IsPair (zip2 bit_or (zip2 f a (k ∷ k ∷ [])) (zip2 g b (j ∷ j ∷ [])))
+both-pair f g a b k j p q = or-pair (zip2 f a (k ∷ k ∷ [])) (zip2 g b (j ∷ j ∷ [])) p q
+
+both-word : (f g : ℕ → ℕ → ℕ) (a b : List ℕ) (k j : ℕ) (s : Bool) → IsPair a → IsPair b → IsPair (zip2 f a (k ∷ k ∷ [])) → IsPair (zip2 g b (j ∷ j ∷ []))
+    → word_of (zip2 bit_or (zip2 f a (k ∷ k ∷ [])) (zip2 g b (j ∷ j ∷ []))) s ≡ bit_or (f (word_of a s) k) (g (word_of b s) j)
+both-word f g a b k j s pa pb p q =
+    zip-word bit_or (zip2 f a (k ∷ k ∷ [])) (zip2 g b (j ∷ j ∷ [])) s p.0 q.0
+    ∙ (λ i. bit_or (shifted-word f a k s pa i) (shifted-word g b j s pb i))
+
+pub into-down : (a b : List ℕ) (k j : ℕ) → IsPair a → IsPair b → IsPair (zip2 bit_or (zip2 down a (k ∷ k ∷ [])) (zip2 up b (j ∷ j ∷ [])))
+into-down a b k j p q = both-pair down up a b k j (down-pair a k p) (up-pair b j q)
+
+pub into-up : (a b : List ℕ) (k j : ℕ) → IsPair a → IsPair b → IsPair (zip2 bit_or (zip2 up a (k ∷ k ∷ [])) (zip2 down b (j ∷ j ∷ [])))
+into-up a b k j p q = both-pair up down a b k j (up-pair a k p) (down-pair b j q)
+
+pub last-down : (a : List ℕ) (k : ℕ) → IsPair a → IsPair (zip2 down a (k ∷ k ∷ []))
+last-down a k p = down-pair a k p
+
+pub first-up : (a : List ℕ) (k : ℕ) → IsPair a → IsPair (zip2 up a (k ∷ k ∷ []))
+first-up a k p = up-pair a k p
+
+module _ (a b d : List ℕ) (s : Bool) (pa : IsPair a) (pb : IsPair b) (pd : IsPair d) where
+  pub lane-down : (k j c : ℕ) → k < 64 → j ≡ 64 - k
+      → has (lane (zip2 bit_or (zip2 down a (k ∷ k ∷ [])) (zip2 up b (j ∷ j ∷ [])) ∷ zip2 bit_or (zip2 down b (k ∷ k ∷ [])) (zip2 up d (j ∷ j ∷ [])) ∷ zip2 down d (k ∷ k ∷ []) ∷ []) s) c
+      ≡ has (lane (a ∷ b ∷ d ∷ []) s) (c + k)
+  unfolding has bit_row_number lane
+  lane-down k j c l e = cc (both-word down up a b k j s pa pb (down-pair a k pa) (up-pair b j pb), both-word down up b d k j s pb pd (down-pair b k pb) (up-pair d j pd), shifted-word down d k s pd, three-down (word_of a s) (word_of b s) (word_of d s) k l (word-small a s pa) (word-small b s pb), has_bit-shr (bit_row_number (lane (a ∷ b ∷ d ∷ []) s)) k c)
+
+  pub lane-up : (c : ℕ) → c < 192
+      → has (lane (zip2 up a (1 ∷ 1 ∷ []) ∷ zip2 bit_or (zip2 up b (1 ∷ 1 ∷ [])) (zip2 down a (63 ∷ 63 ∷ [])) ∷ zip2 bit_or (zip2 up d (1 ∷ 1 ∷ [])) (zip2 down b (63 ∷ 63 ∷ [])) ∷ []) s) c
+      ≡ (ltb 0 c && has (lane (a ∷ b ∷ d ∷ []) s) (c - 1))
+  unfolding has bit_row_number lane
+  lane-up c l = cc (shifted-word up a 1 s pa, both-word up down b a 1 63 s pb pa (up-pair b 1 pb) (down-pair a 63 pa), both-word up down d b 1 63 s pd pb (up-pair d 1 pd) (down-pair b 63 pb), three-up (word_of a s) (word_of b s) (word_of d s) (word-small a s pa) (word-small b s pb) (word-small d s pd), has_bit-up (bit_row_number (lane (a ∷ b ∷ d ∷ []) s)) c l)
+
+-- ---- counts
+
+-- a bit row has as many bits as a test that its bits are passes
+pub count-same : (words : List ℕ) (bit : ℕ → Bool) → ((c : ℕ) → has words c ≡ bit c) → size_of words ≡ set_count bit
+unfolding set_count
+count-same words bit h = count_below-same 192 (has words) bit (λ c _. h c)
+
+-- ---- one bit of each word
+
+-- a word n in which bit `at` is cleared, and then set if d is 1
+abbrev pub written : ℕ → ℕ → ℕ → ℕ
+written n at d = bit_or (bit_and n (2 ^ 64 - 1 - 1 * 2 ^ at % 2 ^ 64)) (d * 2 ^ at % 2 ^ 64)
+
+bit-written : (n at i d : ℕ) (b : Bool) → at < 64 → i < 64 → d ≡ bool_byte b → has_bit (written n at d) i ≡ cond (eqb i at) b (has_bit n i)
+unfolding has_bit
+bit-written n at i d b ha hi e = elim (cases_eq i at) [
+  | inl same ↦ rw (same, e) (here b ∙ ap (λ z. cond z b (eqb (bit_at n at) 1)) (sym (eqb-refl at)))
+  | inr other ↦ rw (e) (there b other ∙ ap (λ z. cond z b (eqb (bit_at n i) 1)) (sym (eqb-other i at other)))
+]
+  where
+    nothing : 0 * 2 ^ at % 2 ^ 64 ≡ 0
+    nothing = omega arith
+
+    here : (b : Bool) → eqb (bit_at (written n at (bool_byte b)) at) 1 ≡ b
+    here true = ap (λ z. eqb z 1) (bit_at_set_same w64 (bit_and n (2 ^ 64 - 1 - 1 * 2 ^ at % 2 ^ 64)) at ha)
+    here false = ap (λ z. eqb (bit_at (bit_or (bit_and n (2 ^ 64 - 1 - 1 * 2 ^ at % 2 ^ 64)) z) at) 1) nothing ∙ ap (λ z. eqb (bit_at z at) 1) (or_zero_r (bit_and n (2 ^ 64 - 1 - 1 * 2 ^ at % 2 ^ 64))) ∙ ap (λ z. eqb z 1) (bit_at_clear_same w64 n at ha)
+
+    there : (b : Bool) → i ≢ at → eqb (bit_at (written n at (bool_byte b)) i) 1 ≡ eqb (bit_at n i) 1
+    there true o = ap (λ z. eqb z 1) (bit_at_set_other w64 (bit_and n (2 ^ 64 - 1 - 1 * 2 ^ at % 2 ^ 64)) at ha i o ∙ bit_at_clear_other w64 n at ha i hi o)
+    there false o = ap (λ z. eqb (bit_at (bit_or (bit_and n (2 ^ 64 - 1 - 1 * 2 ^ at % 2 ^ 64)) z) i) 1) nothing ∙ ap (λ z. eqb (bit_at z i) 1) (or_zero_r (bit_and n (2 ^ 64 - 1 - 1 * 2 ^ at % 2 ^ 64))) ∙ ap (λ z. eqb z 1) (bit_at_clear_other w64 n at ha i hi o)
+
+    eqb-refl : (k : ℕ) → eqb k k ≡ true
+    eqb-refl k = grind (arith, nat_tests)
+
+    eqb-other : (k j : ℕ) → k ≢ j → eqb k j ≡ false
+    eqb-other k j o = grind (arith, nat_tests)
+
+-- the words of two squares in which this is done
+abbrev pub both-written : List ℕ → ℕ → ℕ → ℕ → List ℕ
+both-written words at d e =
+    let kept = 2 ^ 64 - 1 - 1 * 2 ^ at % 2 ^ 64 in
+    zip2 bit_or (zip2 bit_and words (kept ∷ kept ∷ [])) (d * 2 ^ at % 2 ^ 64 ∷ e * 2 ^ at % 2 ^ 64 ∷ [])
+
+pub written-word : (words : List ℕ) (at d e : ℕ) (s : Bool) → IsPair words → word_of (both-written words at d e) s ≡ written (word_of words s) at (cond s e d)
+written-word words at d e s p =
+    let kept = 2 ^ 64 - 1 - 1 * 2 ^ at % 2 ^ 64 in
+    let l : length (zip2 bit_and words (kept ∷ kept ∷ [])) ≡ 2 = length-zip2 bit_and words (kept ∷ kept ∷ []) p.0 ∙ p.0 in
+    zip-word bit_or (zip2 bit_and words (kept ∷ kept ∷ [])) (d * 2 ^ at % 2 ^ 64 ∷ e * 2 ^ at % 2 ^ 64 ∷ []) s l refl
+    ∙ ends s
+  where
+    ends : (s : Bool) → bit_or (word_of (zip2 bit_and words ((2 ^ 64 - 1 - 1 * 2 ^ at % 2 ^ 64) ∷ (2 ^ 64 - 1 - 1 * 2 ^ at % 2 ^ 64) ∷ [])) s) (word_of (d * 2 ^ at % 2 ^ 64 ∷ e * 2 ^ at % 2 ^ 64 ∷ []) s) ≡ written (word_of words s) at (cond s e d)
+    ends false = ap (λ z. bit_or z (d * 2 ^ at % 2 ^ 64)) (shifted-word bit_and words (2 ^ 64 - 1 - 1 * 2 ^ at % 2 ^ 64) false p)
+    ends true = ap (λ z. bit_or z (e * 2 ^ at % 2 ^ 64)) (shifted-word bit_and words (2 ^ 64 - 1 - 1 * 2 ^ at % 2 ^ 64) true p)
+
+pub written-pair : (words : List ℕ) (at d e : ℕ) → IsPair words → IsPair (both-written words at d e)
+written-pair words at d e p =
+    let kept = 2 ^ 64 - 1 - 1 * 2 ^ at % 2 ^ 64 in
+    or-pair (zip2 bit_and words (kept ∷ kept ∷ [])) (d * 2 ^ at % 2 ^ 64 ∷ e * 2 ^ at % 2 ^ 64 ∷ [])
+    (zip-pair bit_and words (kept ∷ kept ∷ []) p.0 refl (λ s. and-small (word_of words s) (word_of (kept ∷ kept ∷ []) s) (word-small words s p)))
+    (refl, omega arith, omega arith)
+
+pub written-bits : (words : List ℕ) (at d e : ℕ) (f g : Bool) → IsPair words → at < 64 → d ≡ bool_byte f → e ≡ bool_byte g
+    → (s : Bool) (i : ℕ) → i < 64 → has_bit (word_of (both-written words at d e) s) i ≡ cond (eqb i at) (cond s g f) (has_bit (word_of words s) i)
+written-bits words at d e f g p l hd he false i k = ap (λ z. has_bit z i) (written-word words at d e false p) ∙ bit-written (word_of words false) at i d f l k hd
+written-bits words at d e f g p l hd he true i k = ap (λ z. has_bit z i) (written-word words at d e true p) ∙ bit-written (word_of words true) at i e g l k he
+
+-- ---- one bit of each row
+
+module _ (a b d : List ℕ) (s : Bool) (pa : IsPair a) (pb : IsPair b) where
+  -- the bits of a row by its words
+  low-bit : (i : ℕ) → i < 64 → has (lane (a ∷ b ∷ d ∷ []) s) i ≡ has_bit (word_of a s) i
+  unfolding has bit_row_number lane
+  low-bit i l = has_bit-low (word_of a s) (word_of b s) (word_of d s) i l
+
+  middle-bit : (i : ℕ) → 64 ≤ i → i < 128 → has (lane (a ∷ b ∷ d ∷ []) s) i ≡ has_bit (word_of b s) (i - 64)
+  unfolding has bit_row_number lane
+  middle-bit i k l = has_bit-middle (word_of a s) (word_of b s) (word_of d s) i (word-small a s pa) k l
+
+  high-bit : (i : ℕ) → 128 ≤ i → has (lane (a ∷ b ∷ d ∷ []) s) i ≡ has_bit (word_of d s) (i - 128)
+  unfolding has bit_row_number lane
+  high-bit i k = has_bit-high (word_of a s) (word_of b s) (word_of d s) i (word-small a s pa) (word-small b s pb) k
+
+-- if bit `at` of one word is set to x, and no other, the row changes in this bit alone
+module _ (a b d w : List ℕ) (s x : Bool) (at : ℕ) (pa : IsPair a) (pb : IsPair b) (pw : IsPair w) where
+  pub put-low : at < 64 → ((i : ℕ) → i < 64 → has_bit (word_of w s) i ≡ cond (eqb i at) x (has_bit (word_of a s) i))
+      → (i : ℕ) → has (lane (w ∷ b ∷ d ∷ []) s) i ≡ cond (eqb i at) x (has (lane (a ∷ b ∷ d ∷ []) s) i)
+  put-low l h i = elim (cases_lt i 64) [
+    | inl k ↦ low-bit w b d s pw pb i k ∙ (h i k ∙ ap (cond (eqb i at) x) (sym (low-bit a b d s pa pb i k)))
+    | inr k ↦ (let o : eqb i at ≡ false = grind (arith, nat_tests) in same o k (cases_lt i 128))
+  ]
+    where
+      same : eqb i at ≡ false → 64 ≤ i → (i < 128) ⊎ (128 ≤ i) → has (lane (w ∷ b ∷ d ∷ []) s) i ≡ cond (eqb i at) x (has (lane (a ∷ b ∷ d ∷ []) s) i)
+      same o k (inl m) = middle-bit w b d s pw pb i k m ∙ (sym (middle-bit a b d s pa pb i k m) ∙ ap (λ z. cond z x (has (lane (a ∷ b ∷ d ∷ []) s) i)) (sym o))
+      same o k (inr m) = high-bit w b d s pw pb i m ∙ (sym (high-bit a b d s pa pb i m) ∙ ap (λ z. cond z x (has (lane (a ∷ b ∷ d ∷ []) s) i)) (sym o))
+
+-- the same for a bit of the middle word
+module _ (a b d w : List ℕ) (s x : Bool) (at : ℕ) (pa : IsPair a) (pb : IsPair b) (pw : IsPair w) where
+  pub put-middle : 64 ≤ at → at < 128 → ((i : ℕ) → i < 64 → has_bit (word_of w s) i ≡ cond (eqb i (at - 64)) x (has_bit (word_of b s) i))
+      → (i : ℕ) → has (lane (a ∷ w ∷ d ∷ []) s) i ≡ cond (eqb i at) x (has (lane (a ∷ b ∷ d ∷ []) s) i)
+  put-middle l m h i = by-word (cases_lt i 64) (cases_lt i 128)
+    where
+      kept : eqb i at ≡ false → has (lane (a ∷ w ∷ d ∷ []) s) i ≡ has (lane (a ∷ b ∷ d ∷ []) s) i → has (lane (a ∷ w ∷ d ∷ []) s) i ≡ cond (eqb i at) x (has (lane (a ∷ b ∷ d ∷ []) s) i)
+      kept o e = e ∙ ap (λ z. cond z x (has (lane (a ∷ b ∷ d ∷ []) s) i)) (sym o)
+
+      by-word : (i < 64) ⊎ (64 ≤ i) → (i < 128) ⊎ (128 ≤ i) → has (lane (a ∷ w ∷ d ∷ []) s) i ≡ cond (eqb i at) x (has (lane (a ∷ b ∷ d ∷ []) s) i)
+      by-word (inl k) n = kept (grind (arith, nat_tests)) (low-bit a w d s pa pw i k ∙ sym (low-bit a b d s pa pb i k))
+      by-word (inr k) (inl n) =
+          let e : eqb (i - 64) (at - 64) ≡ eqb i at = grind (arith, nat_tests) in
+          middle-bit a w d s pa pw i k n ∙ (h (i - 64) (omega arith) ∙ (ap (λ z. cond z x (has_bit (word_of b s) (i - 64))) e ∙ ap (cond (eqb i at) x) (sym (middle-bit a b d s pa pb i k n))))
+      by-word (inr k) (inr n) = kept (grind (arith, nat_tests)) (high-bit a w d s pa pw i n ∙ sym (high-bit a b d s pa pb i n))
+
+-- a word has no bit from 64 on
+beyond : (y : ℕ) → y < 2 ^ 64 → (j : ℕ) → 64 ≤ j → has_bit y j ≡ false
+unfolding has_bit
+beyond y k j n = ap (λ z. eqb z 1) (bit_at_above y 64 j k n)
+
+-- the same for a bit of the high word
+module _ (a b d w : List ℕ) (s x : Bool) (at : ℕ) (pa : IsPair a) (pb : IsPair b) where
+  pub put-high : 128 ≤ at → at < 192 → ((i : ℕ) → i < 64 → has_bit (word_of w s) i ≡ cond (eqb i (at - 128)) x (has_bit (word_of d s) i)) → IsPair d → IsPair w
+      → (i : ℕ) → has (lane (a ∷ b ∷ w ∷ []) s) i ≡ cond (eqb i at) x (has (lane (a ∷ b ∷ d ∷ []) s) i)
+  put-high l m h pd pw i = by-word (cases_lt i 64) (cases_lt i 128)
+    where
+      kept : eqb i at ≡ false → has (lane (a ∷ b ∷ w ∷ []) s) i ≡ has (lane (a ∷ b ∷ d ∷ []) s) i → has (lane (a ∷ b ∷ w ∷ []) s) i ≡ cond (eqb i at) x (has (lane (a ∷ b ∷ d ∷ []) s) i)
+      kept o e = e ∙ ap (λ z. cond z x (has (lane (a ∷ b ∷ d ∷ []) s) i)) (sym o)
+
+      by-word : (i < 64) ⊎ (64 ≤ i) → (i < 128) ⊎ (128 ≤ i) → has (lane (a ∷ b ∷ w ∷ []) s) i ≡ cond (eqb i at) x (has (lane (a ∷ b ∷ d ∷ []) s) i)
+      by-word (inl k) n = kept (grind (arith, nat_tests)) (low-bit a b w s pa pb i k ∙ sym (low-bit a b d s pa pb i k))
+      by-word (inr k) (inl n) = kept (grind (arith, nat_tests)) (middle-bit a b w s pa pb i k n ∙ sym (middle-bit a b d s pa pb i k n))
+      by-word (inr k) (inr n) =
+          high-bit a b w s pa pb i n ∙ elim (cases_lt i 192) [
+            | inl o ↦ (let e : eqb (i - 128) (at - 128) ≡ eqb i at = grind (arith, nat_tests) in h (i - 128) (omega arith) ∙ (ap (λ z. cond z x (has_bit (word_of d s) (i - 128))) e ∙ ap (cond (eqb i at) x) (sym (high-bit a b d s pa pb i n))))
+            | inr o ↦ (let e : eqb i at ≡ false = grind (arith, nat_tests) in
+                beyond (word_of w s) (word-small w s pw) (i - 128) (omega arith) ∙ (sym (beyond (word_of d s) (word-small d s pd) (i - 128) (omega arith))
+                ∙ (sym (high-bit a b d s pa pb i n) ∙ ap (λ z. cond z x (has (lane (a ∷ b ∷ d ∷ []) s) i)) (sym e))))
+          ]
+
+-- ---- no bits
+
+-- a number is 0 if a bitwise disjunction with it is
+pub or-zero : (x y : ℕ) → bit_or x y ≡ 0 → (x ≡ 0) × (y ≡ 0)
+or-zero x y e = let l = le_or_l x y in let m = le_or_r x y in (omega arith, omega arith)
+
+pub no-bits : (a b d : List ℕ) → IsPair a → IsPair b → IsPair d → eqb (bit_or (get_or (zip2 bit_or (zip2 bit_or a b) d) 0 0) (get_or (zip2 bit_or (zip2 bit_or a b) d) 1 0)) 0 ≡ true
+    → (s : Bool) (c : ℕ) → has (lane (a ∷ b ∷ d ∷ []) s) c ≡ false
+unfolding has bit_row_number lane
+no-bits a b d pa pb pd e s c =
+    let all = zip2 bit_or (zip2 bit_or a b) d in
+    let p = or-zero (get_or all 0 0) (get_or all 1 0) (grind (arith, nat_tests)) in
+    let w : word_of all s ≡ 0 = each s p in
+    let ab = or-pair a b pa pb in
+    let q = or-zero (word_of (zip2 bit_or a b) s) (word_of d s) (sym (zip-word bit_or (zip2 bit_or a b) d s ab.0 pd.0) ∙ w) in
+    let r = or-zero (word_of a s) (word_of b s) (sym (zip-word bit_or a b s pa.0 pb.0) ∙ q.0) in
+    (λ i. has_bit ((q.1 i * 2 ^ 64 + r.1 i) * 2 ^ 64 + r.0 i) c) ∙ has-nothing c
+  where
+    each : (s : Bool) → (get_or (zip2 bit_or (zip2 bit_or a b) d) 0 0 ≡ 0) × (get_or (zip2 bit_or (zip2 bit_or a b) d) 1 0 ≡ 0) → word_of (zip2 bit_or (zip2 bit_or a b) d) s ≡ 0
+    each false p = p.0
+    each true p = p.1
+
+-- ---- the rows of two squares
+
+pub lanes-long : (rows : List (List (List ℕ))) (s : Bool) → length (lanes rows s) ≡ length rows
+lanes-long rows s = length-map rows (λ pairs. lane pairs s)
+
+-- the row of a square is read from the rows of both
+pub lane-read : (rows : List (List (List ℕ))) (i : ℕ) (pairs : List (List ℕ)) (s : Bool) → i < length rows → pairs ≡ get_or rows i pairs → lane pairs s ≡ get_or (lanes rows s) i (lane pairs s)
+lane-read rows i pairs s l e = ap (λ z. lane z s) e ∙ sym (get_or-map (λ z. lane z s) rows i pairs (lane pairs s) l)
+
+pub lanes-set : (rows : List (List (List ℕ))) (i : ℕ) (pairs : List (List ℕ)) (s : Bool) → lanes (set rows i pairs) s ≡ set (lanes rows s) i (lane pairs s)
+lanes-set rows i pairs s = map-set (λ z. lane z s) rows i pairs
+
+-- a square is drawn from its rows
+pub square-of : (side : ℕ) (rows : List (List (List ℕ))) (g : GridPair) → record { first = square side (dark_in (lanes rows false)); second = square side (dark_in (lanes rows true)) } ≡ g
+    → (s : Bool) → square side (dark_in (lanes rows s)) ≡ one_of g s
+square-of side rows g e false = ap (λ (p : GridPair). p.first) e
+square-of side rows g e true = ap (λ (p : GridPair). p.second) e
+
+pub side-of : (side : ℕ) (rows : List (List (List ℕ))) (g : GridPair) → record { first = square side (dark_in (lanes rows false)); second = square side (dark_in (lanes rows true)) } ≡ g
+    → (s : Bool) → side ≡ (one_of g s).side
+side-of side rows g e s = ap (λ (h : Grid). h.side) (square-of side rows g e s)
+
+-- equal rows without a bit are light
+pub dark-lanes : (n : ℕ) (rows : List (List (List ℕ))) (pairs : List (List ℕ)) (s : Bool) → rows ≡ replicate n pairs → ((c : ℕ) → has (lane pairs s) c ≡ false) → (r c : ℕ) → dark_in (lanes rows s) r c ≡ false
+unfolding dark_in
+dark-lanes n rows pairs s e h r c = elim (cases_lt r n) [
+  | inl l ↦ (
+      let k : r < length rows = omega (arith, ap length e, length-replicate n pairs) in
+      ap (λ z. has z c) (get_or-map (λ z. lane z s) rows r pairs [] k ∙ ap (λ z. lane z s) (ap (λ z. get_or z r pairs) e ∙ get_or-replicate n r pairs pairs l)) ∙ h c
+      )
+  | inr l ↦ dark-under (lanes rows s) r c (omega (arith, ap length e, length-replicate n pairs, lanes-long rows s))
+]
+
+-- what two squares are seen as
+pub one-view : (side : ℕ) (rows : List (List (List ℕ))) (s : Bool) → one_of (record { first = square side (dark_in (lanes rows false)); second = square side (dark_in (lanes rows true)) }) s ≡ square side (dark_in (lanes rows s))
+one-view side rows false = refl
+one-view side rows true = refl
+
+-- ---- the first words
+
+-- no word
+abbrev pub nothing-of : List ℕ
+nothing-of = 0 ∷ 0 ∷ []
+
+pub nothing-pair : IsPair nothing-of
+nothing-pair = (refl, omega arith, omega arith)
+
+none-set : (s : Bool) (j : ℕ) → has_bit (word_of nothing-of s) j ≡ false
+unfolding has_bit
+none-set false j = ap (λ z. eqb z 1) (bit_at-zero j)
+none-set true j = ap (λ z. eqb z 1) (bit_at-zero j)
+
+-- a test that holds, and one that fails
+in-front : (x : Bool) (n k : ℕ) → k < n → x ≡ (x && ltb k n)
+in-front x n k l = grind (arith, nat_tests)
+
+beyond-front : (x : Bool) (n k : ℕ) → n ≤ k → false ≡ (x && ltb k n)
+beyond-front x n k l = grind (arith, nat_tests)
+
+pub one-word : (a b d : List ℕ) (s : Bool) → IsPair a → IsPair b → (c : ℕ) → has (lane (a ∷ nothing-of ∷ nothing-of ∷ []) s) c ≡ (has (lane (a ∷ b ∷ d ∷ []) s) c && ltb c 64)
+one-word a b d s pa pb c = elim (cases_lt c 64) [
+  | inl k ↦ low-bit a nothing-of nothing-of s pa nothing-pair c k ∙ (sym (low-bit a b d s pa pb c k) ∙ in-front (has (lane (a ∷ b ∷ d ∷ []) s) c) 64 c k)
+  | inr k ↦ elim (cases_lt c 128) [
+    | inl n ↦ middle-bit a nothing-of nothing-of s pa nothing-pair c k n ∙ (none-set s (c - 64) ∙ beyond-front (has (lane (a ∷ b ∷ d ∷ []) s) c) 64 c k)
+    | inr n ↦ high-bit a nothing-of nothing-of s pa nothing-pair c n ∙ (none-set s (c - 128) ∙ beyond-front (has (lane (a ∷ b ∷ d ∷ []) s) c) 64 c k)
+  ]
+]
+
+pub two-words : (a b d : List ℕ) (s : Bool) → IsPair a → IsPair b → (c : ℕ) → has (lane (a ∷ b ∷ nothing-of ∷ []) s) c ≡ (has (lane (a ∷ b ∷ d ∷ []) s) c && ltb c 128)
+two-words a b d s pa pb c = elim (cases_lt c 128) [
+  | inl n ↦ same (cases_lt c 64) n ∙ in-front (has (lane (a ∷ b ∷ d ∷ []) s) c) 128 c n
+  | inr n ↦ high-bit a b nothing-of s pa pb c n ∙ (none-set s (c - 128) ∙ beyond-front (has (lane (a ∷ b ∷ d ∷ []) s) c) 128 c n)
+]
+  where
+    same : (c < 64) ⊎ (64 ≤ c) → c < 128 → has (lane (a ∷ b ∷ nothing-of ∷ []) s) c ≡ has (lane (a ∷ b ∷ d ∷ []) s) c
+    same (inl k) n = low-bit a b nothing-of s pa pb c k ∙ sym (low-bit a b d s pa pb c k)
+    same (inr k) n = middle-bit a b nothing-of s pa pb c k n ∙ sym (middle-bit a b d s pa pb c k n)
+
+pub three-words : (a b d : List ℕ) (s : Bool) → IsPair a → IsPair b → IsPair d → (c : ℕ) → has (lane (a ∷ b ∷ d ∷ []) s) c ≡ (has (lane (a ∷ b ∷ d ∷ []) s) c && ltb c 192)
+three-words a b d s pa pb pd c = elim (cases_lt c 192) [
+  | inl k ↦ in-front (has (lane (a ∷ b ∷ d ∷ []) s) c) 192 c k
+  | inr k ↦ (let e = high-bit a b d s pa pb c (omega arith) ∙ beyond (word_of d s) (word-small d s pd) (c - 128) (omega arith) in e ∙ beyond-front (has (lane (a ∷ b ∷ d ∷ []) s) c) 192 c k)
+]

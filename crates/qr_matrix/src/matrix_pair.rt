@@ -1,0 +1,154 @@
+//! Two squares of one side, on whose modules one operation works at once.
+
+ghost use Rattle.std.specs.Prelude.{◌≡◌, ℕ, Bool, ◌%◌, ◌<◌, ◌≤◌, ◌&&◌, not, true, false, length, if◌then◌else◌};
+ghost use Rattle.qr_matrix.specs.Grid.{colour, light, one_of, painted, with_row};
+ghost use Rattle.qr_matrix.specs.BitRow.{dark_in, has, has_bit};
+ghost use Rattle.qr_matrix.specs.Steps.{lane, lanes, NeedsWords};
+
+use crate::bit_row::BitRow;
+use crate::matrix::Matrix;
+use crate::row_pair::RowPair;
+use crate::rows::{Rows, Squares, words_for};
+use std::marker::Model;
+
+const MOST_ROWS: usize = 177;
+
+/// Two squares of 1 to 177 modules on a side, in 8.5 KB. Contracts see them as two grids.
+#[derive(Drop)]
+pub struct MatrixPair {
+    side: u8,
+    // From the top down; those after row `side - 1` are not used. In the others no bit outside the squares is set.
+    rows: [RowPair; MOST_ROWS],
+}
+
+impl Model for MatrixPair {
+    ghost use Rattle.std.specs.Prelude.{◌≡◌, ℕ, Bool, ◌≤◌, true, false, length};
+    ghost use Rattle.qr_matrix.specs.Grid.{GridPair, square};
+    ghost use Rattle.qr_matrix.specs.BitRow.{dark_in};
+    ghost use Rattle.qr_matrix.specs.Steps.{lanes};
+
+    ghost Value = { GridPair };
+
+    ghost view = { λ p. record {
+      first = square p.side (dark_in (lanes p.rows false));
+      second = square p.side (dark_in (lanes p.rows true));
+    } };
+
+    ghost invariant = { λ p. (1 ≤ p.side) × (p.side ≤ 177) × (length p.rows ≡ 177)
+        × ((second : Bool) (r c : ℕ) → p.side ≤ c → dark_in (lanes p.rows second) r c ≡ false) };
+}
+
+fn light_rows() -> [RowPair; MOST_ROWS]
+    ensures long { length result ≡ 177 }
+    ensures light { (second : Bool) (r c : ℕ) → dark_in (lanes result second) r c ≡ false }
+{
+    [<RowPair as Rows>::empty(); MOST_ROWS]
+}
+
+impl MatrixPair {
+    /// Returns two squares of light modules.
+    pub fn new(side: u8) -> MatrixPair
+        requires least { 1 ≤ side }
+        requires most { side ≤ 177 }
+        ensures { (second : Bool) → one_of result second ≡ light side }
+    {
+        MatrixPair {
+            side,
+            rows: light_rows(),
+        }
+    }
+
+    /// Returns the number of modules on a side, from 1 to 177.
+    pub fn side(&self) -> u8
+        ensures first { result ≡ self.now.first.side }
+        ensures second { result ≡ self.now.second.side }
+        ensures least { 1 ≤ result }
+        ensures most { result ≤ 177 }
+    {
+        self.side
+    }
+
+    // Replaces row `row` of both squares.
+    fn set_rows(&mut self, row: u8, bits: RowPair)
+        requires row_in { row < self.old.first.side }
+        requires past { (second : Bool) (c : ℕ) → self.old.first.side ≤ c → has (lane bits second) c ≡ false }
+        ensures { (second : Bool) → one_of self.new second
+            ≡ with_row (one_of self.old second) row (has (lane bits second)) }
+    {
+        self.rows[usize::from(row)] = bits;
+    }
+
+    /// Makes the module in row `row` and column `col` of each square dark if its part of `dark` is true, and light
+    /// otherwise.
+    pub fn set(&mut self, row: u8, col: u8, dark: (bool, bool))
+        requires row_in { row < self.old.first.side }
+        requires col_in { col < self.old.first.side }
+        ensures { (second : Bool) → one_of self.new second
+            ≡ painted (one_of self.old second) row col (if second then dark.1 else dark.0) }
+    {
+        self.rows[usize::from(row)].put(col, dark);
+    }
+
+    #[inline(always)]
+    fn set_row_masked_in(
+        &mut self,
+        row: u8,
+        plain: &Matrix,
+        within: &Matrix,
+        patterns: (u8, u8),
+        words: u8,
+    )
+        requires row_in { row < self.old.first.side }
+        requires plain_side { plain.now.side ≡ self.old.first.side }
+        requires within_side { within.now.side ≡ self.old.first.side }
+        requires patterns_in { (patterns.0 < 64) × (patterns.1 < 64) }
+        requires width { NeedsWords self.old.first.side words }
+        ensures { (second : Bool) → one_of self.new second ≡ with_row (one_of self.old second) row
+            (λ c. if colour within.now row c && has_bit (if second then patterns.1 else patterns.0) (c % 6)
+            then not (colour plain.now row c) else colour plain.now row c) }
+    {
+        let index = usize::from(row);
+        let plain = plain.bit_row_in(index, words);
+        let within = within.bit_row_in(index, words);
+        let inverted = RowPair::of(within, within).and(RowPair::of(
+            BitRow::repeated(patterns.0),
+            BitRow::repeated(patterns.1),
+        ));
+        self.set_rows(row, RowPair::of(plain, plain).xor(inverted));
+    }
+
+    /// Sets row `row` of each square as `Matrix::set_row_masked` does, by its part of `patterns`.
+    pub fn set_row_masked(&mut self, row: u8, plain: &Matrix, within: &Matrix, patterns: (u8, u8))
+        requires row_in { row < self.old.first.side }
+        requires plain_side { plain.now.side ≡ self.old.first.side }
+        requires within_side { within.now.side ≡ self.old.first.side }
+        requires patterns_in { (patterns.0 < 64) × (patterns.1 < 64) }
+        ensures { (second : Bool) → one_of self.new second ≡ with_row (one_of self.old second) row
+            (λ c. if colour within.now row c && has_bit (if second then patterns.1 else patterns.0) (c % 6)
+            then not (colour plain.now row c) else colour plain.now row c) }
+    {
+        match words_for(self.side) {
+            1 => self.set_row_masked_in(row, plain, within, patterns, 1),
+            2 => self.set_row_masked_in(row, plain, within, patterns, 2),
+            _ => self.set_row_masked_in(row, plain, within, patterns, 3),
+        }
+    }
+}
+
+impl Squares for MatrixPair {
+    type Row = RowPair;
+
+    ghost size = { λ pair. pair.first.side };
+
+    ghost dark = { λ pair second. colour (one_of pair second) };
+
+    #[inline(always)]
+    fn side(&self) -> u8 {
+        MatrixPair::side(self)
+    }
+
+    #[inline(always)]
+    fn row_in(&self, row: usize, words: u8) -> RowPair {
+        self.rows[row].in_words(words)
+    }
+}

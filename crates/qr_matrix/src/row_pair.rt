@@ -1,0 +1,206 @@
+//! The bit rows of two squares, side by side in vectors, on which one operation works on 64 modules of each square.
+
+ghost use Rattle.std.specs.Prelude.{◌≡◌, ℕ, Bool, List, ◌+◌, ◌-◌, ◌*◌, ◌/◌, ◌%◌, ◌<◌, ◌≤◌, ◌&&◌, ◌||◌, ◌==◌, not, true, false, nat_lt, if◌then◌else◌};
+ghost use Rattle.qr_matrix.specs.Grid.{is_same};
+ghost use Rattle.qr_matrix.specs.BitRow.{has, has_bit};
+ghost use Rattle.qr_matrix.specs.Steps.{lane, word_of, IsPair};
+
+use crate::bit_row::BitRow;
+use crate::rows::Rows;
+use std::marker::Model;
+use std::simd::prelude::*;
+
+/// Two rows of 192 bits in three words of 64 bits, the lowest first; a vector has one word of each row.
+#[derive(Clone, Copy)]
+pub(crate) struct RowPair {
+    low: u64x2,
+    middle: u64x2,
+    high: u64x2,
+}
+
+impl Model for RowPair {
+    ghost use Rattle.std.specs.Prelude.{ℕ, List, [], ◌∷◌, slice_index_or};
+    ghost use Rattle.qr_matrix.specs.Steps.{IsPair};
+
+    ghost Value = { List (List ℕ) };
+
+    ghost view = { λ r. r.low ∷ r.middle ∷ r.high ∷ [] };
+
+    ghost invariant = { λ r. IsPair r.low × IsPair r.middle × IsPair r.high };
+
+    ghost inverse = { λ pairs. record {
+      low = slice_index_or pairs 0 [];
+      middle = slice_index_or pairs 1 [];
+      high = slice_index_or pairs 2 [];
+    } };
+}
+
+impl RowPair {
+    #[inline(always)]
+    pub(crate) fn of(first: BitRow, second: BitRow) -> RowPair
+        ensures first { (c : ℕ) → has (lane result false) c ≡ has first c }
+        ensures second { (c : ℕ) → has (lane result true) c ≡ has second c }
+    {
+        let (a, b) = (first.words(), second.words());
+        RowPair {
+            low: u64x2::from_array([a[0], b[0]]),
+            middle: u64x2::from_array([a[1], b[1]]),
+            high: u64x2::from_array([a[2], b[2]]),
+        }
+    }
+
+    // Keeps the first `words` words of each row.
+    #[inline(always)]
+    pub(crate) fn in_words(self, words: u8) -> RowPair
+        requires some { 1 ≤ words }
+        requires three { words ≤ 3 }
+        ensures { (second : Bool) (c : ℕ) → has (lane result second) c
+            ≡ (has (lane self second) c && nat_lt c (64 * words)) }
+    {
+        let none = u64x2::splat(0);
+        match words {
+            1 => RowPair {
+                low: self.low,
+                middle: none,
+                high: none,
+            },
+            2 => RowPair {
+                low: self.low,
+                middle: self.middle,
+                high: none,
+            },
+            _ => self,
+        }
+    }
+
+    #[inline(always)]
+    fn parts(self) -> (BitRow, BitRow)
+        ensures first { (c : ℕ) → has result.0 c ≡ has (lane self false) c }
+        ensures second { (c : ℕ) → has result.1 c ≡ has (lane self true) c }
+    {
+        let a = self.low.to_array();
+        let b = self.middle.to_array();
+        let c = self.high.to_array();
+        (
+            BitRow::of([a[0], b[0], c[0]]),
+            BitRow::of([a[1], b[1], c[1]]),
+        )
+    }
+
+    // Sets bit `index` of each row, or clears it.
+    #[inline(always)]
+    pub(crate) fn put(&mut self, index: u8, dark: (bool, bool))
+        requires { index < 192 }
+        ensures { (second : Bool) (i : ℕ) → has (lane self.new second) i
+            ≡ (if i == index then (if second then dark.1 else dark.0) else has (lane self.old second) i) }
+    {
+        if index < 64 {
+            self.low = with_bit(self.low, index, dark);
+        } else if index < 128 {
+            self.middle = with_bit(self.middle, index - 64, dark);
+        } else {
+            self.high = with_bit(self.high, index - 128, dark);
+        }
+    }
+}
+
+// Sets bit `at` of each word, or clears it.
+#[inline(always)]
+fn with_bit(words: u64x2, at: u8, dark: (bool, bool)) -> u64x2
+    requires in_word { at < 64 }
+    requires pair { IsPair words }
+    ensures pair { IsPair result }
+    ensures bits { (second : Bool) (i : ℕ) → i < 64 → has_bit (word_of result second) i
+        ≡ (if i == at then (if second then dark.1 else dark.0) else has_bit (word_of words second) i) }
+{
+    let bits = u64x2::from_array([u64::from(dark.0) << at, u64::from(dark.1) << at]);
+    words & u64x2::splat(!(1u64 << at)) | bits
+}
+
+impl Rows for RowPair {
+    type Counts = (u32, u32);
+
+    ghost bit = { λ pairs second. has (lane pairs second) };
+
+    ghost number = { λ counts second. if second then counts.1 else counts.0 };
+
+    #[inline(always)]
+    fn empty() -> RowPair {
+        RowPair::of(BitRow::EMPTY, BitRow::EMPTY)
+    }
+
+    #[inline(always)]
+    fn below_in(n: u8, words: u8) -> RowPair {
+        let row = BitRow::below_in(n, words);
+        RowPair::of(row, row)
+    }
+
+    #[inline(always)]
+    fn and(self, other: RowPair) -> RowPair {
+        RowPair {
+            low: self.low & other.low,
+            middle: self.middle & other.middle,
+            high: self.high & other.high,
+        }
+    }
+
+    #[inline(always)]
+    fn or(self, other: RowPair) -> RowPair {
+        RowPair {
+            low: self.low | other.low,
+            middle: self.middle | other.middle,
+            high: self.high | other.high,
+        }
+    }
+
+    #[inline(always)]
+    fn xor(self, other: RowPair) -> RowPair {
+        RowPair {
+            low: self.low ^ other.low,
+            middle: self.middle ^ other.middle,
+            high: self.high ^ other.high,
+        }
+    }
+
+    #[inline(always)]
+    fn and_not(self, other: RowPair) -> RowPair {
+        self.xor(self.and(other))
+    }
+
+    #[inline(always)]
+    fn shifted_left(self, steps: u32) -> RowPair {
+        let down = u64x2::splat(u64::from(steps));
+        let up = u64x2::splat(u64::from(64 - steps));
+        RowPair {
+            low: self.low >> down | self.middle << up,
+            middle: self.middle >> down | self.high << up,
+            high: self.high >> down,
+        }
+    }
+
+    #[inline(always)]
+    fn shifted_right(self) -> RowPair {
+        RowPair {
+            low: self.low << 1,
+            middle: self.middle << 1 | self.low >> 63,
+            high: self.high << 1 | self.middle >> 63,
+        }
+    }
+
+    #[inline(always)]
+    fn is_empty(self) -> bool {
+        let words = (self.low | self.middle | self.high).to_array();
+        words[0] | words[1] == 0
+    }
+
+    #[inline(always)]
+    fn zeros() -> (u32, u32) {
+        (0, 0)
+    }
+
+    #[inline(always)]
+    fn add_to(self, counts: (u32, u32)) -> (u32, u32) {
+        let (first, second) = self.parts();
+        (counts.0 + first.count(), counts.1 + second.count())
+    }
+}
