@@ -14,7 +14,7 @@ ghost use Rattle.qr_mending.specs.Steps.Polynomial.{all_of, IsMonic, IsSearch, I
 ghost use Rattle.qr_mending.specs.Steps.Errors.{AreFewErrors, AreFewErrorsOf, IsLocated};
 
 use crate::polynomial::Polynomial;
-use crate::sums::syndrome;
+use crate::sums::next_syndrome;
 use arrayvec::ArrayVec;
 use qr_field::div;
 
@@ -122,8 +122,10 @@ impl Progress {
         ensures all { OnTrue result (early ≡ false → array_vec_len self.new.syndromes ≡ 2 * t) }
         ensures beyond { OnFalse result ((errors : List ℕ) → AreFewErrorsOf t remainder.now errors → ⊥) }
     {
+        let mut later = None;
         for i in self.syndromes.len()..2 * t {
-            self.syndromes.push(syndrome(remainder, i as u8));
+            let syndrome = next_syndrome(remainder, i as u8, &mut later);
+            self.syndromes.push(syndrome);
             let Some(found) = next(&self.search, self.syndromes.as_slice(), i, t) else {
                 return false;
             };

@@ -1,6 +1,6 @@
 //! Values of polynomials and sums of products over the field of 256 elements.
 
-ghost use Rattle.std.specs.Prelude.{◌≡◌, ◌<◌, ◌≤◌, length};
+ghost use Rattle.std.specs.Prelude.{◌≡◌, ◌+◌, ◌<◌, ◌≤◌, length, IfSome};
 ghost use Rattle.arrayvec.specs.ArrayVec.{array_vec_len};
 ghost use Rattle.std.specs.List.{All};
 ghost use Rattle.qr_field.specs.Polynomial.{IsByte};
@@ -35,18 +35,37 @@ pub(crate) fn value(terms: &[u8], x: u8) -> u8
     value
 }
 
-// The value at 2^`exponent` of the polynomial whose coefficients are `block`, that of the highest power first.
+// The values of the polynomial whose coefficients are `block`, that of the highest power first, at 2^`exponent` and at
+// the next power of 2. Each step waits for the one before it, so that two values take hardly longer than one.
 #[tactic(auto, using(crate::proofs::Named::value_facts))]
-pub(crate) fn syndrome(block: &[u8], exponent: u8) -> u8
-    requires { exponent < 255 }
-    ensures { result ≡ value_at exponent block.now }
+fn two_syndromes(block: &[u8], exponent: u8) -> (u8, u8)
+    requires { exponent < 254 }
+    ensures first { result.0 ≡ value_at exponent block.now }
+    ensures second { result.1 ≡ value_at (exponent + 1) block.now }
 {
     let x = power_of(exponent);
-    let mut value = 0;
+    let y = power_of(exponent + 1);
+    let (mut first, mut second) = (0, 0);
     for codeword in block {
-        value = mul(value, x) ^ *codeword;
+        first = mul(first, x) ^ *codeword;
+        second = mul(second, y) ^ *codeword;
     }
-    value
+    (first, second)
+}
+
+// The first of these values, which is taken out of `later` if it is there; if not, the second is left there.
+pub(crate) fn next_syndrome(block: &[u8], exponent: u8, later: &mut Option<u8>) -> u8
+    requires small { exponent < 254 }
+    requires later { IfSome later.old (λ v. v ≡ value_at exponent block.now) }
+    ensures value { result ≡ value_at exponent block.now }
+    ensures later { IfSome later.new (λ v. v ≡ value_at (exponent + 1) block.now) }
+{
+    if let Some(value) = later.take() {
+        return value;
+    }
+    let (first, second) = two_syndromes(block, exponent);
+    *later = Some(second);
+    first
 }
 
 // The syndromes for the exponents 0 to `n` - 1, where `n` is the number of coefficients of `remainder`.
@@ -57,8 +76,9 @@ pub(crate) fn syndromes(remainder: &[u8]) -> ArrayVec<u8, 30>
     ensures values { HasValues result.items remainder.now }
 {
     let mut syndromes = ArrayVec::new();
+    let mut later = None;
     for exponent in 0..remainder.len() {
-        syndromes.push(syndrome(remainder, exponent as u8));
+        syndromes.push(next_syndrome(remainder, exponent as u8, &mut later));
     }
     syndromes
 }
