@@ -109,24 +109,17 @@ fn a_light_row_is_one_run(rt: HostRuntime) -> Result<(), Fail> {
 }
 
 #[test]
-fn four_bits_are_set(rt: HostRuntime) -> Result<(), Fail> {
-    for (place, bits) in [(0u8, 0b0001u8), (60, 0b0110), (64, 0b1011), (188, 0b1111)] {
-        assert!(rt; place <= 188 && place % 4 == 0 && bits < 16);
-        let mut row = Matrix::new(rt.alloc(), 1)?.bit_row(0);
-        row.set_four(place, bits);
-        assert_eq!(rt; row.four(place), bits, "bits from {place} on");
-        for other in 0..192u8 {
-            if other < place || place + 4 <= other {
-                assert!(rt; !row.at(other), "bit {other}, not from {place} on");
-            }
-        }
-        row.set_four(place, 0b1000);
-        assert_eq!(rt;
-            row.four(place),
-            bits | 0b1000,
-            "one bit more from {place} on"
-        );
+fn bits_are_set(rt: HostRuntime) -> Result<(), Fail> {
+    let mut row = Matrix::new(rt.alloc(), 1)?.bit_row(0);
+    row.set_bits(60, 0b1110);
+    row.set_bits(64, 0b1011);
+    for index in 0..192u8 {
+        let is_set = matches!(index, 61 | 62 | 63 | 64 | 65 | 67);
+        assert_eq!(rt; row.at(index), is_set, "bit {index}");
     }
+    assert_eq!(rt; row.set_from(61), 3, "up to the end of the word");
+    assert_eq!(rt; row.set_down_from(65), 2, "down to the end of the word");
+    assert_eq!(rt; (!row).set_from(0), 61, "bits that are not set");
     Ok(())
 }
 
