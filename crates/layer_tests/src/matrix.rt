@@ -131,6 +131,21 @@ fn four_bits_are_set(rt: HostRuntime) -> Result<(), Fail> {
 }
 
 #[test]
+fn bits_are_set(rt: HostRuntime) -> Result<(), Fail> {
+    let mut row = Matrix::new(rt.alloc(), 1)?.bit_row(0);
+    row.set_bits(60, 0b1110);
+    row.set_bits(64, 0b1011);
+    for index in 0..192u8 {
+        let is_set = matches!(index, 61 | 62 | 63 | 64 | 65 | 67);
+        assert_eq!(rt; row.at(index), is_set, "bit {index}");
+    }
+    assert_eq!(rt; row.set_from(61), 3, "up to the end of the word");
+    assert_eq!(rt; row.set_down_from(65), 2, "down to the end of the word");
+    assert_eq!(rt; (!row).set_from(0), 61, "bits that are not set");
+    Ok(())
+}
+
+#[test]
 fn runs_over_the_border_of_words(rt: HostRuntime) -> Result<(), Fail> {
     let mut matrix = Matrix::new(rt.alloc(), 132)?;
     matrix.fill(3, 4, 0, 2, true);

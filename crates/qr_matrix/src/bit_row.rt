@@ -7,7 +7,7 @@ ghost use Rattle.qr_matrix.specs.BitRow.{has, has_bit};
 ghost use Rattle.qr_matrix.specs.Steps.{set_bits, size_of};
 
 use std::marker::Model;
-use std::ops::{BitAnd, BitOr, BitXor};
+use std::ops::{BitAnd, BitOr, BitXor, Not};
 
 /// A row of 192 bits in three words of 64 bits; bit 0 is the lowest bit of the first word.
 #[derive(Clone, Copy)]
@@ -56,6 +56,17 @@ impl BitXor for BitRow {
     fn bitxor(self, rhs: BitRow) -> BitRow {
         let (a, b) = (self.0, rhs.0);
         BitRow([a[0] ^ b[0], a[1] ^ b[1], a[2] ^ b[2]])
+    }
+}
+
+impl Not for BitRow {
+    type Output = BitRow;
+
+    ghost not_gives = { λ a r. (c : ℕ) → c < 192 → has r c ≡ not (has a c) };
+
+    fn not(self) -> BitRow {
+        let a = self.0;
+        BitRow([!a[0], !a[1], !a[2]])
     }
 }
 
@@ -272,6 +283,16 @@ impl BitRow {
         self.0[number] = word;
     }
 
+    /// Sets bit `index + k` for each bit `k` of `bits` that is 1, and changes no other bit. They are all in one word.
+    #[inline(always)]
+    pub fn set_bits(&mut self, index: u8, bits: u64)
+        requires index_in { index < 192 }
+        requires fits { (k : ℕ) → 64 ≤ index % 64 + k → has_bit bits k ≡ false }
+        ensures { (i : ℕ) → has self.new i ≡ (has self.old i || nat_le index i && has_bit bits (i - index)) }
+    {
+        self.0[usize::from(index / 64)] |= bits << (index % 64);
+    }
+
     /// Sets bit `index + k` for each bit `k` of `bits` that is 1, and changes no other bit.
     pub fn set_four(&mut self, index: u8, bits: u8)
         requires index_in { index < 192 }
@@ -280,8 +301,27 @@ impl BitRow {
         ensures { (i : ℕ) → has self.new i
             ≡ (has self.old i || nat_le index i && nat_lt i (index + 4) && has_bit bits (i - index)) }
     {
-        let set = u64::from(bits) << (index % 64);
-        self.0[usize::from(index / 64)] |= set;
+        self.set_bits(index, u64::from(bits));
+    }
+
+    /// Returns how many bits from bit `index` up are set before the first one that is not, or before the word ends.
+    #[inline(always)]
+    pub fn set_from(&self, index: u8) -> u8
+        requires { index < 192 }
+        ensures few { index % 64 + result ≤ 64 }
+        ensures set { (k : ℕ) → k < result → has self.now (index + k) ≡ true }
+    {
+        (self.0[usize::from(index / 64)] >> (index % 64)).trailing_ones() as u8
+    }
+
+    /// As `set_from`, but from bit `index` down.
+    #[inline(always)]
+    pub fn set_down_from(&self, index: u8) -> u8
+        requires { index < 192 }
+        ensures few { result ≤ index % 64 + 1 }
+        ensures set { (k : ℕ) → k < result → has self.now (index - k) ≡ true }
+    {
+        (self.0[usize::from(index / 64)] << (63 - index % 64)).leading_ones() as u8
     }
 }
 

@@ -3,12 +3,15 @@ use Rattle.{qr_layout.proofs.Facts.blocks-sound, std.proofs.lemmas.Bool.Decides.
 use Rattle.qr_symbol.proofs.lemmas.interleaving.{CheckLemmas.slice-in, MessageLemmas.data-sizes-whole}
 use Rattle.qr_symbol.proofs.lemmas.interleaving.PositionLemmas.{start-next, start-none}
 use Rattle.qr_symbol.proofs.lemmas.{laws.DistanceLemmas.messages-apart}
-use Rattle.qr_symbol.proofs.lemmas.placement.{BitLemmas.{eight-bits, one-bit, word-past}, LightLemmas.cleared}
+use Rattle.qr_symbol.proofs.lemmas.placement.{BitLemmas.word-past, LightLemmas.cleared, SplitLemmas.{all-exchanged-bit, exchanged-bit}}
 use Rattle.qr_symbol.proofs.lemmas.{placement.PlacementLemmas.square-is, reading.ReadLemmas.read-grid}
 use Rattle.qr_symbol.proofs.lemmas.series.{PartExistenceLemmas.parts-there, PartLemmas.part-least}
 
 -- Bits of words and of codewords.
-pub ruleset word_bits = (nat_tests, word-past, eight-bits, one-bit)
+pub ruleset word_bits = (nat_tests, word-past)
+
+-- Bits of a word that are exchanged.
+pub ruleset exchanges = (exchanged-bit, all-exchanged-bit)
 
 -- The columns of a strip.
 pub ruleset strips = (cleared)

@@ -14,7 +14,7 @@ ghost use Rattle.qr_symbol.specs.Reading.{IsReadUnmasked};
 ghost use Rattle.qr_symbol.specs.Steps.Collecting.{bit_if, bits_in_four, bits_in_rows, colour_across, Appends, HasCollected};
 ghost use Rattle.qr_symbol.specs.Steps.Placement.{region_grid};
 
-use crate::placement::{Columns, ROW_COUNTS, columns_of, row_at, top_of};
+use crate::placement::{Columns, columns_of, row_at};
 use qr_layout::{Strip, Version, all_strips};
 use qr_matrix::{BitRow, Matrix};
 use std::alloc::{AllocError, Global};
@@ -204,6 +204,23 @@ static SPREAD_PARTS: [[[u8; 16]; 16]; 2] = [
         [0, 1, 4, 5, 16, 17, 20, 21, 64, 65, 68, 69, 80, 81, 84, 85],
     ],
 ];
+
+// How many of four rows are in the region.
+static ROW_COUNTS: [u8; 16] = [0, 1, 1, 2, 1, 2, 2, 3, 1, 2, 2, 3, 2, 3, 3, 4];
+
+// The topmost of four rows of a strip.
+#[inline(always)]
+fn top_of(v: Version, strip: Strip, passed: u8) -> u8
+    requires { passed + 4 ≤ side_of v }
+    ensures top { result ≡ (if strip.upward then side_of v - 4 - passed else passed) }
+    ensures most { result + 4 ≤ side_of v }
+{
+    if strip.upward {
+        v.side() - 4 - passed
+    } else {
+        passed
+    }
+}
 
 // The bits of those of four rows that are in the region, the first as the highest, and how many they are. The lowest bit
 // of `rows`, `right` and `left` is the topmost row.

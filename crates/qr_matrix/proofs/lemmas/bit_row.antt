@@ -10,3 +10,4 @@ pub mod PlaceLemmas
 pub mod FirstLemmas
 -- A pattern of six bits, repeated over three words.
 pub mod RepeatLemmas
+pub mod SetLemmas

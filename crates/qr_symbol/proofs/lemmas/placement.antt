@@ -10,9 +10,7 @@ pub mod WalkLemmas
 pub mod ColumnLemmas
 -- Drawing in the transposed square, where the two columns of a strip are rows.
 pub mod AcrossLemmas
--- The table that splits eight bits into those of the two columns of a strip.
+-- Bits that are exchanged, reversed and divided between the two columns of a strip.
 pub mod SplitLemmas
 -- The modules of a strip that are still to be drawn, which are light.
 pub mod LightLemmas
--- Four rows of a strip of which both columns have the same ones in the encoding region.
-pub mod PartLemmas

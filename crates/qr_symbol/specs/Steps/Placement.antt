@@ -4,7 +4,7 @@
 -- `x`, `y`, `region`, `before` and `after`, where they are columns, are the two columns of a strip, as rows of a
 -- transposed square. Exactly the bits of the region are set in `region`. `s` is the side, and the rows of a strip are
 -- counted in the direction in which it is filled.
-use Rattle.std.specs.Prelude.{◌≡◌, ◌<◌, ◌≤◌, ℕ, ◌+◌, ◌-◌, ◌&&◌, Bool, false, if◌then◌else◌, List}
+use Rattle.std.specs.Prelude.{◌≡◌, ◌<◌, ◌≤◌, ℕ, ◌+◌, ◌-◌, ◌&&◌, ◌||◌, Bool, false, true, not, nat_le, if◌then◌else◌, List}
 use Prim.Native.Nat.{zero, suc}
 use Rattle.qr_layout.specs.declared.level.Level.{Level}
 use Rattle.qr_layout.specs.declared.strips.Strip.{Strip}
@@ -14,10 +14,9 @@ use Rattle.qr_layout.specs.Order.{number_of}
 use Rattle.qr_layout.specs.Region.{is_in_region}
 use Rattle.qr_layout.specs.Role.{role_of}
 use Rattle.qr_bits.specs.Bits.{codeword_bit}
-use Rattle.qr_matrix.specs.Grid.{Grid, square, colour, IsSquare}
-use Rattle.qr_matrix.specs.BitRow.{has, has_bit}
-use Rattle.qr_symbol.specs.declared.placement.CodewordBits.{CodewordBits}
-use Rattle.qr_symbol.specs.declared.placement.Columns.{Columns}
+use Rattle.qr_matrix.specs.Grid.{is_same, Grid, square, colour, IsSquare}
+use Rattle.qr_matrix.specs.{BitRow.{has, has_bit}, Sums.all_below}
+use Rattle.qr_symbol.specs.declared.placement.{Columns.Columns, RegionRows.RegionRows}
 use Rattle.qr_symbol.specs.Mask.{inverts, inverted}
 use Rattle.qr_symbol.specs.Steps.Patterns.{format_or, paint_of, symmetric_format}
 use Rattle.qr_matrix.specs.Penalty.{penalty_of}
@@ -46,13 +45,29 @@ number_at v x first zero = first
 number_at v x first (suc k) =
     number_after (is_in_region v (row_of (side_of v) x k) (x.right - 1)) (number_after (is_in_region v (row_of (side_of v) x k) x.right) (number_at v x first k))
 
--- `w.bits` has the 64 bits from `w.first` on, the first as the highest.
-abbrev pub IsCodewordBits : List ℕ → CodewordBits → Type 0
-IsCodewordBits cw w = (k : ℕ) → k < 64 → has_bit w.bits (63 - k) ≡ codeword_bit cw (w.first + k)
-
--- `bits` has the eight bits from `number` on, the first as the highest.
+-- `bits` has the 64 bits from `number` on, the first as the highest.
 abbrev pub AreNext : List ℕ → ℕ → ℕ → Type 0
-AreNext cw number bits = (k : ℕ) → k < 8 → has_bit bits (7 - k) ≡ codeword_bit cw (number + k)
+AreNext cw number bits = (k : ℕ) → k < 64 → has_bit bits (63 - k) ≡ codeword_bit cw (number + k)
+
+-- The place with which bit `i` is exchanged, if each bit that is set in `mask` is exchanged with the one `steps` above.
+abbrev pub partner : ℕ → ℕ → ℕ → ℕ
+partner steps mask i = if has_bit mask i then i + steps else if nat_le steps i && has_bit mask (i - steps) then i - steps else i
+
+-- No bit of the mask has another one `steps` above it.
+unfoldable pub are_pairs : ℕ → ℕ → Bool
+are_pairs steps mask = all_below 64 (λ i. not (has_bit mask i && has_bit mask (i + steps)))
+
+-- Each bit of a word is in the mask, or is `steps` above one that is, and none is both.
+unfoldable pub are_halves : ℕ → ℕ → Bool
+are_halves steps mask = all_below 64 (λ i. not (is_same (has_bit mask i) (nat_le steps i && has_bit mask (i - steps))))
+
+-- The rank, within `n` rows of a strip, of row `j` counted from the top.
+abbrev pub rank_in : ℕ → Bool → ℕ → ℕ
+rank_in n upward j = if upward then n - 1 - j else j
+
+-- The topmost of the `n` rows of the strip from row `k` on.
+abbrev pub top_row : ℕ → Strip → ℕ → ℕ → ℕ
+top_row s x k n = if x.upward then s - n - k else k
 
 -- No bit outside the square is set.
 abbrev pub AreWithin : ℕ → Columns → Type 0
@@ -62,6 +77,20 @@ AreWithin s x = (row : ℕ) → s ≤ row → (has x.right row ≡ false) × (ha
 abbrev pub AreLight : ℕ → Strip → ℕ → Columns → Columns → Type 0
 AreLight s x k region y = (rank : ℕ) → k ≤ rank → rank < s
     → ((has region.right (row_of s x rank) && has y.right (row_of s x rank)) ≡ false) × ((has region.left (row_of s x rank) && has y.left (row_of s x rank)) ≡ false)
+
+-- In the `n` rows of the strip from row `k` on, the columns `y` are light.
+abbrev pub AreLightRows : ℕ → Strip → ℕ → ℕ → Columns → Type 0
+AreLightRows s x k n y = (j : ℕ) → k ≤ j → j < k + n → (has y.right (row_of s x j) ≡ false) × (has y.left (row_of s x j) ≡ false)
+
+-- All modules of the `n` rows of the strip from row `k` on are in the region.
+abbrev pub AreWhole : ℕ → Strip → ℕ → ℕ → Type 0
+AreWhole v x k n = (j : ℕ) → k ≤ j → j < k + n
+    → (is_in_region v (row_of (side_of v) x j) x.right ≡ true) × (is_in_region v (row_of (side_of v) x j) (x.right - 1) ≡ true)
+
+-- The rows that are set in both columns of the region, and those that are set in neither.
+abbrev pub AreRegionRows : Columns → RegionRows → Type 0
+AreRegionRows region rows = ((row : ℕ) → has rows.both row ≡ (has region.right row && has region.left row))
+    × ((row : ℕ) → row < 192 → has rows.neither row ≡ not (has region.right row || has region.left row))
 
 -- In the strip with the right column `right`, exactly the bits of the region are set in `x`.
 abbrev pub IsRegion : ℕ → ℕ → Columns → Type 0

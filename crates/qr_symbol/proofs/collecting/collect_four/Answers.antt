@@ -1,6 +1,6 @@
 use Rattle.{qr_bits.proofs.Facts.bool_byte-bit, qr_layout.specs.Version.side_of}
 use Rattle.qr_matrix.{proofs.Facts.{&&-left, &&-right}, specs.BitRow.{has, has_bit}}
-use Rattle.qr_symbol.proofs.lemmas.{collecting.SpreadLemmas.{four-read, joined-small}, placement.LightLemmas.four-set}
+use Rattle.qr_symbol.proofs.lemmas.collecting.SpreadLemmas.{four-read, four-set, joined-small}
 use Rattle.{std.proofs.Common.{◌≡◌, ◌+◌, ◌<◌, ℕ, true, eqb, ◌&&◌, ap, sym, subst, ◌∙◌, arith}, qr_symbol.specs.Steps.Collecting.Appends}
 use Rattle.qr_symbol.proofs.collecting.collect_four.Goals as goal
 

@@ -2,7 +2,7 @@
 use borrow.Author.Tests.{ltb-true}
 use Rattle.{qr_bits.specs.Bits.field}
 use Rattle.qr_matrix.{proofs.Facts.{below-at, same-same, &&-left, &&-right}, specs.{BitRow.{has_bit}, Grid.is_same, Sums.all_below}}
-use Rattle.qr_symbol.specs.{Steps.{Collecting.{bits_in_four}}, declared.{collecting.TheConstants.SPREAD_PARTS, placement.{TheConstants.ROW_COUNTS}}}
+use Rattle.qr_symbol.specs.{Steps.{Collecting.{bits_in_four}}, declared.{collecting.TheConstants.{ROW_COUNTS, SPREAD_PARTS}}}
 use Rattle.std.proofs.Common.{◌≡◌, ℕ, ◌+◌, ◌*◌, ◌^◌, ◌<◌, Bool, true, false, ltb, ◌&&◌, eqb, get_or, List, [], ◌∷◌, refl}
 use Rattle.std.proofs.lemmas.Bool.{both_ways}
 

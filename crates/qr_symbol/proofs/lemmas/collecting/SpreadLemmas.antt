@@ -1,11 +1,19 @@
 -- The tables that spread the four modules of a column over a byte.
 use borrow.Author.Tests.{ltb-true}
 use Rattle.{qr_bits.specs.Bits.field, qr_layout.specs.declared.strips.Strip.Strip}
-use Rattle.qr_matrix.{proofs.Facts.{below-at, same-same, &&-left, &&-right}, specs.BitRow.{has, has_bit}}
-use Rattle.{qr_matrix.specs.{Grid.is_same, Sums.all_below}, qr_symbol.proofs.lemmas.placement.ColumnLemmas.rank_of}
+use Rattle.qr_matrix.{proofs.Facts.{below-at, has_bit-ones, same-same, &&-left, &&-right}, specs.BitRow.{has, has_bit}}
+use Rattle.qr_matrix.specs.{Grid.is_same, Sums.all_below}
 use Rattle.{qr_symbol.specs.Steps.{Collecting.bits_in_rows, Placement.row_of}, std.proofs.lemmas.Bool.Decides.nat_tests}
 use Rattle.qr_symbol.specs.declared.{collecting.TheConstants.SPREADS, placement.Columns.Columns}
 use Rattle.std.proofs.Common.{◌≡◌, ℕ, ◌+◌, ◌-◌, ◌*◌, ◌/◌, ◌%◌, ◌^◌, ◌<◌, ◌≤◌, Bool, true, cond, ltb, ◌&&◌, ◌==◌, eqb, get_or, List, [], ◌∷◌, ◌++◌, refl, sym, ◌∙◌, ap, arith}
+
+-- the rank, within four rows of a strip, of row j counted from the top
+abbrev pub rank_of : Bool → ℕ → ℕ
+rank_of upward j = cond upward (3 - j) j
+
+-- all four bits of the number 15 are 1
+pub four-set : (n j : ℕ) → n ≡ 15 → j < 4 → has_bit n j ≡ true
+four-set n j e l = ap (λ z. has_bit z j) e ∙ (has_bit-ones 4 j ∙ (grind (arith, nat_tests)))
 
 -- the table's entry for a direction and four modules
 abbrev pub spread : ℕ → ℕ → ℕ

@@ -37,10 +37,6 @@ number-whole v x first k (suc m) w =
 
 -- ---- drawn rows
 
--- the rank, within four rows of a strip, of row j counted from the top
-abbrev pub rank_of : Bool → ℕ → ℕ
-rank_of upward j = cond upward (3 - j) j
-
 -- if no row is drawn, the columns stay the same
 pub rows-none : {v : ℕ} {cw : List ℕ} {x : Strip} {first k n : ℕ} {p : Columns} → n ≡ 0 → AreDrawn v cw x first k n p p
 rows-none e = search arith
@@ -79,9 +75,9 @@ eqb-same n = grind (arith, nat_tests)
 pub row-drawn : {v : ℕ} {cw : List ℕ} {x : Strip} {first k : ℕ} {old new : Columns} (row n taken one bits : ℕ)
     (t u : Bool) → row ≡ row_of (side_of v) x k → t ≡ is_in_region v row x.right →
     u ≡ is_in_region v row (x.right - 1) → number_at v x first k ≡ n + taken → one ≡ number_after t taken →
-    taken < 8 → one < 8 → AreNext cw n bits →
-    ((i : ℕ) → has new.right i ≡ cond (t && eqb i row) (has_bit bits (7 - taken)) (has old.right i)) →
-    ((i : ℕ) → has new.left i ≡ cond (u && eqb i row) (has_bit bits (7 - one)) (has old.left i)) →
+    taken < 64 → one < 64 → AreNext cw n bits →
+    ((i : ℕ) → has new.right i ≡ cond (t && eqb i row) (has_bit bits (63 - taken)) (has old.right i)) →
+    ((i : ℕ) → has new.left i ≡ cond (u && eqb i row) (has_bit bits (63 - one)) (has old.left i)) →
     AreDrawn v cw x first k 1 old new
 row-drawn {x = x} {k = k} row n taken one bits t u r p q m o l1 l2 next right left = record {
   drawn = λ j a b.

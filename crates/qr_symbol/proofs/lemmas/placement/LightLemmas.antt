@@ -1,11 +1,11 @@
--- The modules of a strip that are still to be drawn, which are light.
-use Rattle.std.proofs.Common.{◌≡◌, ℕ, ◌+◌, ◌-◌, ◌*◌, ◌<◌, ◌≤◌, Bool, true, false, not, cond, leb, ltb, ◌&&◌, ◌||◌, List, refl, sym, ◌∙◌, ap, arith}
+-- The modules of a strip that are still to be drawn, which are light, and rows of a strip that are drawn at once.
+use Rattle.std.proofs.Common.{◌≡◌, ℕ, zero, suc, ◌+◌, ◌-◌, ◌*◌, ◌%◌, ◌<◌, ◌≤◌, Bool, true, false, not, leb, ltb, ◌&&◌, ◌||◌, List, refl, sym, ◌∙◌, ap, arith}
 use Rattle.{std.proofs.lemmas.Bool.Decides.nat_tests, qr_symbol.specs.declared.placement.Columns.Columns}
 use Rattle.qr_bits.specs.Bits.{codeword_bit}
 use Rattle.qr_layout.specs.{Region.is_in_region, Version.side_of, declared.strips.Strip.Strip}
-use Rattle.qr_matrix.{proofs.Facts.has_bit-ones, specs.BitRow.has, specs.BitRow.has_bit, specs.Grid.is_same}
-use Rattle.qr_symbol.specs.Steps.Placement.{number_at, row_of, AreDrawn, AreLight, AreNext, AreWithin}
-use Rattle.qr_symbol.proofs.lemmas.placement.ColumnLemmas.{number-whole, rank_of, row-small, rows-apart}
+use Rattle.qr_matrix.{proofs.Facts.{&&-left, &&-right}, specs.{BitRow.has, BitRow.has_bit, Grid.is_same}}
+use Rattle.qr_symbol.specs.Steps.Placement.{number_at, rank_in, row_of, top_row, AreDrawn, AreLight, AreLightRows, AreNext, AreWhole, AreWithin, IsRegion}
+use Rattle.qr_symbol.proofs.lemmas.placement.ColumnLemmas.{number-whole, row-small, rows-apart}
 
 -- a bit that is unset where another bit is set
 pub cleared : (p q : Bool) → not (is_same p (p && q)) ≡ (p && not q)
@@ -31,75 +31,108 @@ kept-within {v} {x = x} d within row l =
     let same = d.kept row (λ j a b e. let small = (row-small x (side_of v) j (omega arith)).0 in omega arith) in
     (same.0 ∙ (within row l).0, same.1 ∙ (within row l).1)
 
--- ---- four rows at once
+-- ---- rows that are drawn at once
 
--- row m of four rows, by its index from the top
-pub four-row : (x : Strip) (s k top m : ℕ) → k + 4 ≤ s → top ≡ cond x.upward (s - 4 - k) k → m < 4
-    → (row_of s x (k + m) ≡ top + rank_of x.upward m) × (rank_of x.upward m < 4) × (rank_of x.upward (rank_of x.upward m) ≡ m)
-four-row x s k top m room e l = (grind (arith, nat_tests), grind (arith, nat_tests), grind (arith, nat_tests))
+-- row m of n rows, by its index from the top
+run-row : (x : Strip) (s k n m : ℕ) → k + n ≤ s → m < n
+    → (row_of s x (k + m) ≡ top_row s x k n + rank_in n x.upward m) × (rank_in n x.upward m < n) × (rank_in n x.upward (rank_in n x.upward m) ≡ m)
+run-row x s k n m room l = (grind (arith, nat_tests), grind (arith, nat_tests), grind (arith, nat_tests))
 
 -- a row between these, by its rank
-pub from-top : (x : Strip) (s k top i : ℕ) → k + 4 ≤ s → top ≡ cond x.upward (s - 4 - k) k → top ≤ i
-    → i < top + 4 → (row_of s x (k + rank_of x.upward (i - top)) ≡ i) × (rank_of x.upward (i - top) < 4)
-from-top x s k top i room e l m =
-    let w = four-row x s k top (i - top) room e (omega arith) in
-    (omega (arith, (four-row x s k top _ room e w.1).0, w.2), w.1)
+run-from : (x : Strip) (s k n i : ℕ) → k + n ≤ s → top_row s x k n ≤ i → i < top_row s x k n + n
+    → (row_of s x (k + rank_in n x.upward (i - top_row s x k n)) ≡ i) × (rank_in n x.upward (i - top_row s x k n) < n)
+run-from x s k n i room l m =
+    let w = run-row x s k n (i - top_row s x k n) room (omega arith) in
+    (omega (arith, (run-row x s k n _ room w.1).0, w.2), w.1)
 
--- a row that is not one of these
-pub outside : (top i : ℕ) → (top ≤ i → i < top + 4 → ⊥) → (leb top i && ltb i (top + 4)) ≡ false
-outside top i n = grind (arith, nat_tests)
+-- a row that is one of these gets its bit, if it was light
+here-set : (top r n : ℕ) (old new bit set : Bool) → new ≡ (old || leb top (top + r) && set) → set ≡ (ltb r n && bit) → r < n → old ≡ false → new ≡ bit
+here-set top r n old new bit set e f l g = grind (arith, nat_tests)
 
--- if all modules of four rows are in the region, the rows take eight bits
-pub four-region : (v : ℕ) (x : Strip) (k top : ℕ) → k + 4 ≤ side_of v → top ≡ cond x.upward (side_of v - 4 -
-    k) k → ((j : ℕ) → j < 4 → (is_in_region v (top + j) x.right ≡ true) × (is_in_region v (top + j) (x.right
-    - 1) ≡ true)) → (j : ℕ) → k ≤ j → j < k + 4 → (is_in_region v (row_of (side_of v) x j) x.right ≡
-    true) × (is_in_region v (row_of (side_of v) x j) (x.right - 1) ≡ true)
-four-region v x k top room e whole j a b =
-    let w = four-row x _ k top (j - k) room e (omega arith) in
-    let f : k + (j - k) ≡ j = omega arith in rw (← f, w.0) (whole (rank_of _ (j - k)) w.1)
+-- another row keeps its colour
+there-kept : (top i n : ℕ) (old new bit set : Bool) → new ≡ (old || leb top i && set) → set ≡ (ltb (i - top) n && bit) → (top ≤ i → i < top + n → ⊥) → new ≡ old
+there-kept top i n old new bit set e f out = grind (arith, nat_tests)
 
--- one of four rows is among them
-pub in-four : (top i : ℕ) → i < 4 → (leb top (top + i) && ltb (top + i) (top + 4)) ≡ true
-in-four top i l = grind (arith, nat_tests)
+-- no bit is set that belongs to a row after the n rows
+pub past-rows : (n top i : ℕ) (bit set : Bool) → set ≡ (ltb i n && bit) → top % 64 + n ≤ 64 → 64 ≤ top % 64 + i → set ≡ false
+past-rows n top i bit set e l m = grind (arith, nat_tests)
 
--- four rows of a strip are drawn at once, if all their modules are in the region
-pub four-drawn : {v : ℕ} {cw : List ℕ} {x : Strip} {first : ℕ} {old new : Columns} (k top bits r l : ℕ)
-    → k + 4 ≤ side_of v → top ≡ cond x.upward (side_of v - 4 - k) k
-    → ((j : ℕ) → j < 4 → (is_in_region v (top + j) x.right ≡ true) × (is_in_region v (top + j) (x.right - 1) ≡ true))
-    → ((j : ℕ) → j < 4 → (has_bit r j ≡ has_bit bits (7 - 2 * rank_of x.upward j)) × (has_bit l j ≡ has_bit bits (6 - 2 * rank_of x.upward j)))
-    → ((i : ℕ) → has new.right i ≡ cond (leb top i && ltb i (top + 4)) (has_bit r (i - top)) (has old.right i))
-    → ((i : ℕ) → has new.left i ≡ cond (leb top i && ltb i (top + 4)) (has_bit l (i - top)) (has old.left i))
-    → AreNext cw (number_at v x first k) bits → AreDrawn v cw x first k 4 old new
-four-drawn {v} {cw} {x} {first} {old} {new} k top bits r l room e whole split right left next = record {
+-- rows of a strip are drawn at once, if all their modules are in the region and light
+pub run-drawn : {v : ℕ} {cw : List ℕ} {x : Strip} {first : ℕ} {old new : Columns} (k n bits r l : ℕ)
+    → k + n ≤ side_of v → n ≤ 32 → AreWhole v x k n → AreLightRows (side_of v) x k n old
+    → ((i : ℕ) → has_bit r i ≡ (ltb i n && has_bit bits (63 - 2 * rank_in n x.upward i)))
+    → ((i : ℕ) → has_bit l i ≡ (ltb i n && has_bit bits (62 - 2 * rank_in n x.upward i)))
+    → ((i : ℕ) → has new.right i ≡ (has old.right i || leb (top_row (side_of v) x k n) i && has_bit r (i - top_row (side_of v) x k n)))
+    → ((i : ℕ) → has new.left i ≡ (has old.left i || leb (top_row (side_of v) x k n) i && has_bit l (i - top_row (side_of v) x k n)))
+    → AreNext cw (number_at v x first k) bits → AreDrawn v cw x first k n old new
+run-drawn {v} {cw} {x} {first} {old} {new} k n bits r l room few whole light rights lefts right left next = record {
   drawn = λ j a b.
+      let s = side_of v in let top = top_row s x k n in
       let m = j - k in let f : k + m ≡ j = omega arith in
-      let w = four-row x _ k top m room e (omega arith) in let i = rank_of x.upward m in
-      let within : (leb top (top + i) && ltb (top + i) (top + 4)) ≡ true = in-four top i w.1 in
-      let back : top + i - top ≡ i = omega arith in let six : 6 - 2 * m ≡ 7 - (2 * m + 1) = omega arith in
-      let bit = split i w.1 in
-      rw (← f, w.0, (whole i w.1).0, (whole i w.1).1, (number-whole v x _ k m (λ h c d. four-region v x k top room e whole h c (omega arith)))) (
-        right (top + i) ∙ rw (within, back, bit.0, w.2) (next (2 * m) (omega arith)),
-        left (top + i) ∙ rw (within, back, bit.1, w.2, six) ((next (2 * m + 1) (omega arith)) ∙ ap (codeword_bit cw) (omega arith)),
+      let w = run-row x s k n m room (omega arith) in let i = rank_in n x.upward m in
+      let back : top + i - top ≡ i = omega arith in let six : 62 - 2 * m ≡ 63 - (2 * m + 1) = omega arith in
+      let dark = light j a b in let here = whole j a b in
+      let row : row_of s x j ≡ top + i = ap (row_of s x) (sym f) ∙ w.0 in
+      let number : number_at v x first j ≡ number_at v x first k + 2 * m = ap (number_at v x first) (sym f) ∙ number-whole v x first k m (λ h c d. whole h c (omega arith)) in
+      rw (here.0, here.1, number) (
+        ap (has new.right) row ∙ (here-set top i n _ _ _ _ (right (top + i)) (ap (has_bit r) back ∙ rights i) w.1 (ap (has old.right) (sym row) ∙ dark.0) ∙ (ap (λ z. has_bit bits (63 - 2 * z)) w.2 ∙ next (2 * m) (omega arith))),
+        ap (has new.left) row ∙ (here-set top i n _ _ _ _ (left (top + i)) (ap (has_bit l) back ∙ lefts i) w.1 (ap (has old.left) (sym row) ∙ dark.1) ∙ (ap (λ z. has_bit bits (62 - 2 * z)) w.2 ∙ (ap (has_bit bits) six ∙ (next (2 * m + 1) (omega arith) ∙ ap (codeword_bit cw) (omega arith))))),
       );
   kept = λ i apart.
-      let out = outside top i (λ c d. let w = from-top x _ k top i room e c d in apart (k + rank_of x.upward _) (omega arith) (omega (arith, w.1)) w.0) in
-      (right i ∙ rw out refl, left i ∙ rw out refl);
+      let s = side_of v in let top = top_row s x k n in
+      let out : top ≤ i → i < top + n → ⊥ = λ c d. let w = run-from x s k n i room c d in apart (k + rank_in n x.upward (i - top)) (omega arith) (omega (arith, w.1)) w.0 in
+      (there-kept top i n _ _ _ _ (right i) (rights (i - top)) out, there-kept top i n _ _ _ _ (left i) (lefts (i - top)) out);
 }
 
--- all four bits of the number 15 are 1
-pub four-set : (n j : ℕ) → n ≡ 15 → j < 4 → has_bit n j ≡ true
-four-set n j e l = (ap (λ z. has_bit z j) e ∙ (has_bit-ones 4 j ∙ (grind (arith, nat_tests))))
+-- ---- rows by the region's bits
 
--- setting four unset bits gives them their values
-pub column-set : (x : Strip) (s k top bits : ℕ) (q p z : ℕ → Bool) → k + 4 ≤ s
-    → top ≡ cond x.upward (s - 4 - k) k → ((j : ℕ) → j < 4 → q (top + j) ≡ true)
-    → ((j : ℕ) → k ≤ j → j < s → (q (row_of s x j) && p (row_of s x j)) ≡ false)
-    → ((i : ℕ) → z i ≡ (p i || leb top i && ltb i (top + 4) && has_bit bits (i - top))) → (i : ℕ)
-    → z i ≡ cond (leb top i && ltb i (top + 4)) (has_bit bits (i - top)) (p i)
-column-set x s k top bits q p z room e whole light is i = is i ∙ set-replaces _ _ i (λ l m.
-    let w = from-top x s k top i room e l m in let f : top + (i - top) ≡ i = omega arith in
-    rw (rw f at (whole (i - top) (omega arith))) at (rw w.0 at (light (k + rank_of x.upward (i - top)) (omega arith) (omega (arith, w.1)))))
-  where
-    set-replaces : (p h : Bool) (i : ℕ) → (top ≤ i → i < top + 4 → p ≡ false)
-        → (p || leb top i && ltb i (top + 4) && h) ≡ cond (leb top i && ltb i (top + 4)) h p
-    set-replaces p h i f = grind (arith, nat_tests)
+not-dark : (p q : Bool) → p ≡ true → (p && q) ≡ false → q ≡ false
+not-dark p q e f = grind (arith, nat_tests)
+
+neither : (p q : Bool) → not (p || q) ≡ true → (p ≡ false) × (q ≡ false)
+neither p q e = (grind (arith, nat_tests), grind (arith, nat_tests))
+
+-- rows of which both modules are in the region
+pub rows-whole : (v : ℕ) (x : Strip) (k n : ℕ) (region : Columns) (both : ℕ → Bool) → k + n ≤ side_of v → IsRegion v x.right region
+    → ((row : ℕ) → both row ≡ (has region.right row && has region.left row))
+    → ((j : ℕ) → k ≤ j → j < k + n → both (row_of (side_of v) x j) ≡ true) → AreWhole v x k n
+rows-whole v x k n region both room is b set j l m =
+    let row = row_of (side_of v) x j in let t = sym (b row) ∙ set j l m in
+    let r = is row (row-small x (side_of v) j (omega arith)).0 in
+    (sym r.0 ∙ &&-left (has region.right row) (has region.left row) t, sym r.1 ∙ &&-right (has region.right row) (has region.left row) t)
+
+-- these rows are light, if the region is
+pub rows-light : (s : ℕ) (x : Strip) (k n : ℕ) (region y : Columns) (both : ℕ → Bool) → k + n ≤ s
+    → ((row : ℕ) → both row ≡ (has region.right row && has region.left row))
+    → ((j : ℕ) → k ≤ j → j < k + n → both (row_of s x j) ≡ true) → AreLight s x k region y → AreLightRows s x k n y
+rows-light s x k n region y both room b set light j l m =
+    let row = row_of s x j in let t = sym (b row) ∙ set j l m in let r = light j l (omega arith) in
+    (not-dark (has region.right row) (has y.right row) (&&-left (has region.right row) (has region.left row) t) r.0, not-dark (has region.left row) (has y.left row) (&&-right (has region.right row) (has region.left row) t) r.1)
+
+-- rows of which no module is in the region
+pub rows-outside : (v : ℕ) (x : Strip) (k n : ℕ) (region : Columns) (outside : ℕ → Bool) → k + n ≤ side_of v → side_of v ≤ 177 → IsRegion v x.right region
+    → ((row : ℕ) → row < 192 → outside row ≡ not (has region.right row || has region.left row))
+    → ((j : ℕ) → k ≤ j → j < k + n → outside (row_of (side_of v) x j) ≡ true)
+    → (j : ℕ) → k ≤ j → j < k + n → (is_in_region v (row_of (side_of v) x j) x.right ≡ false) × (is_in_region v (row_of (side_of v) x j) (x.right - 1) ≡ false)
+rows-outside v x k n region outside room most is b set j l m =
+    let row = row_of (side_of v) x j in let small = (row-small x (side_of v) j (omega arith)).0 in
+    let t = neither (has region.right row) (has region.left row) (sym (b row (omega arith)) ∙ set j l m) in let r = is row small in
+    (sym r.0 ∙ t.0, sym r.1 ∙ t.1)
+
+-- if no module of m rows is in the region, these rows take no bits
+pub number-none : (v : ℕ) (x : Strip) (first k m : ℕ) → ((j : ℕ) → k ≤ j → j < k + m → (is_in_region v
+    (row_of (side_of v) x j) x.right ≡ false) × (is_in_region v (row_of (side_of v) x j) (x.right - 1) ≡ false)) →
+    number_at v x first (k + m) ≡ number_at v x first k + 0
+number-none v x first k zero w = (let e : k + 0 ≡ k = omega arith in rw e (omega arith))
+number-none v x first k (suc m) w =
+    let e : k + suc m ≡ suc (k + m) = omega arith in let here = w (k + m) (omega arith) (omega arith) in
+    let before = number-none v x first k m (λ j a b. w j a (omega arith)) in rw (e, here.0, here.1) before
+
+-- these rows are drawn if they stay as they are
+pub none-drawn : {v : ℕ} {cw : List ℕ} {x : Strip} {first : ℕ} (k n : ℕ) (p : Columns) → ((j : ℕ) → k ≤ j → j < k + n → (is_in_region v
+    (row_of (side_of v) x j) x.right ≡ false) × (is_in_region v (row_of (side_of v) x j) (x.right - 1) ≡ false)) →
+    AreDrawn v cw x first k n p p
+none-drawn k n p w = record {
+  drawn = λ j a b. let here = w j a b in rw (here.0, here.1) (refl, refl);
+  kept = λ row apart. (refl, refl);
+}

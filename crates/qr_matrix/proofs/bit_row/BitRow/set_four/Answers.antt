@@ -1,10 +1,26 @@
-use Rattle.std.proofs.{Common.arith, lemmas.Nat.or_lt}
-use Rattle.qr_matrix.proofs.lemmas.{bit_row.PlaceLemmas.{words-small, set-words}, matrix.FourLemmas.four-set}
+use Rattle.std.proofs.Common.{◌≡◌, ◌+◌, ◌-◌, ◌<◌, ℕ, Bool, true, false, ◌&&◌, ◌||◌, leb, ltb, inl, inr, ap, ◌∙◌, arith}
+use Rattle.std.proofs.lemmas.{Bool.cases_lt, Bool.Decides.nat_tests}
+use Rattle.qr_matrix.specs.BitRow.{has, has_bit}
+use Rattle.qr_matrix.proofs.lemmas.bit_row.SetLemmas.{unset-above}
 use Rattle.qr_matrix.proofs.bit_row.BitRow.set_four.Goals as goal
 
-pub returns : goal.returns
-returns c = rw (← c.self.view_is) (four-set c.self.inside.0 c.args.index c.from-2.result c.from.result c.args.bits c.self.invariant.0 (words-small c.self.inside.0 c.self.invariant) c.requires.index_in c.requires.whole c.from-2.ensures c.from.ensures c.requires.bits)
+pub set_bits-requires-clause-fits : goal.set_bits-requires-clause-fits
+set_bits-requires-clause-fits c = λ k l. unset-above c.from.result 4 k (omega (arith, c.from.ensures)) (omega arith)
 
-pub invariant_of-self : goal.invariant_of-self
-invariant_of-self c =
-    set-words c.self.inside.0 c.from-2.result _ (omega arith) (or_lt 64 _ _ (words-small c.self.inside.0 c.self.invariant c.from-2.result) (omega arith)) c.self.invariant
+-- the bits of a number below 16 are the first four
+four : (n i b : ℕ) → n < 16 → (leb i b && has_bit n (b - i)) ≡ (leb i b && ltb b (i + 4) && has_bit n (b - i))
+four n i b l = elim (cases_lt (b - i) 4) [
+  | inl k ↦ kept (leb i b) (ltb b (i + 4)) (has_bit n (b - i)) (grind (arith, nat_tests))
+  | inr k ↦ (let e = unset-above n 4 (b - i) l k in none (leb i b) (ltb b (i + 4)) (has_bit n (b - i)) e)
+]
+  where
+    kept : (a d e : Bool) → d ≡ true → (a && e) ≡ (a && d && e)
+    kept a d e h = grind (arith, nat_tests)
+
+    none : (a d e : Bool) → e ≡ false → (a && e) ≡ (a && d && e)
+    none a d e h = grind (arith, nat_tests)
+
+pub returns : goal.returns
+returns c = λ i.
+    c.set_bits.ensures i ∙ ap (λ z. has c.args.self.now i || z)
+    ((λ j. leb c.args.index i && has_bit (c.from.ensures j) (i - c.args.index)) ∙ four c.args.bits c.args.index i c.requires.bits)
