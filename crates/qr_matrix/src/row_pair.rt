@@ -10,7 +10,7 @@ use crate::rows::Rows;
 use std::marker::Model;
 use std::simd::prelude::*;
 
-/// Two rows of 192 bits in three words of 64 bits, the lowest first; a vector has one word of each row.
+// Two rows of 192 bits in three words of 64 bits, the lowest first; a vector has one word of each row.
 #[derive(Clone, Copy)]
 pub(crate) struct RowPair {
     low: u64x2,
