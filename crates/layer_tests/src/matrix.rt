@@ -139,9 +139,9 @@ fn bits_are_set(rt: HostRuntime) -> Result<(), Fail> {
         let is_set = matches!(index, 61 | 62 | 63 | 64 | 65 | 67);
         assert_eq!(rt; row.at(index), is_set, "bit {index}");
     }
-    assert_eq!(rt; row.set_from(61), 3, "up to the end of the word");
-    assert_eq!(rt; row.set_down_from(65), 2, "down to the end of the word");
-    assert_eq!(rt; (!row).set_from(0), 61, "bits that are not set");
+    assert_eq!(rt; row.ones_from(61), 3, "up to the end of the word");
+    assert_eq!(rt; row.ones_down_from(65), 2, "down to the end of the word");
+    assert_eq!(rt; (!row).ones_from(0), 61, "bits that are not set");
     Ok(())
 }
 

@@ -1,5 +1,5 @@
--- Steps of the code: bit rows, dark runs, the modules that cost a point, and tiles, the parts of 64 by 64 modules by
--- which a square is transposed.
+-- Steps of the code: bit rows, those of two squares side by side, dark runs, the modules that cost a point, what the
+-- penalty counts, and tiles, the parts of 64 by 64 modules by which a square is transposed.
 use Rattle.std.specs.Prelude.{◌≡◌, ℕ, ◌+◌, ◌-◌, ◌*◌, ◌%◌, ◌^◌, ◌<◌, ◌≤◌, ◌&&◌, ◌||◌, not, Bool, List, [], ◌∷◌, length, slice_index, slice_index_or, map, nat_lt, if◌then◌else◌}
 use Rattle.std.specs.List.{filter, range_with_len}
 use Rattle.qr_matrix.specs.Grid.{is_same}
@@ -30,10 +30,6 @@ size_of words = set_count (has words)
 -- A word for each of two squares
 abbrev pub IsPair : List ℕ → Type 0
 IsPair words = (length words ≡ 2) × (slice_index words 0 < 2 ^ 64) × (slice_index words 1 < 2 ^ 64)
-
--- The three words of the bit rows of two squares
-abbrev pub ArePairs : List (List ℕ) → Type 0
-ArePairs pairs = (length pairs ≡ 3) × IsPair (slice_index_or pairs 0 []) × IsPair (slice_index_or pairs 1 []) × IsPair (slice_index_or pairs 2 [])
 
 -- The word of the first square, or of the second
 abbrev pub word_of : List ℕ → Bool → ℕ

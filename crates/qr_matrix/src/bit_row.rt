@@ -306,20 +306,22 @@ impl BitRow {
 
     /// Returns how many bits from bit `index` up are set before the first one that is not, or before the word ends.
     #[inline(always)]
-    pub fn set_from(&self, index: u8) -> u8
+    pub fn ones_from(&self, index: u8) -> u8
         requires { index < 192 }
         ensures few { index % 64 + result ≤ 64 }
         ensures set { (k : ℕ) → k < result → has self.now (index + k) ≡ true }
+        ensures ends { index % 64 + result < 64 → has self.now (index + result) ≡ false }
     {
         (self.0[usize::from(index / 64)] >> (index % 64)).trailing_ones() as u8
     }
 
-    /// As `set_from`, but from bit `index` down.
+    /// As `ones_from`, but from bit `index` down.
     #[inline(always)]
-    pub fn set_down_from(&self, index: u8) -> u8
+    pub fn ones_down_from(&self, index: u8) -> u8
         requires { index < 192 }
         ensures few { result ≤ index % 64 + 1 }
         ensures set { (k : ℕ) → k < result → has self.now (index - k) ≡ true }
+        ensures ends { result ≤ index % 64 → has self.now (index - result) ≡ false }
     {
         (self.0[usize::from(index / 64)] << (63 - index % 64)).leading_ones() as u8
     }

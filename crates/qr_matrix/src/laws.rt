@@ -11,7 +11,8 @@ ghost use Rattle.qr_matrix.specs.Laws.{all_dark, all_light, chequered, ratio_in_
 use crate::bit_row::BitRow;
 use crate::dark_runs::Run;
 use crate::matrix::Matrix;
-use crate::penalties::count_all;
+use crate::runs::runs_and_squares_of;
+use crate::windows::window_count_of;
 use std::alloc::AllocError;
 
 /// For some squares, the definition of the penalty gives the points that were counted by hand from Table 11; it finds
@@ -38,21 +39,21 @@ pub fn runs_cost_by_places()
 pub fn runs_on_words(m: &Matrix) -> u32
     ensures { result ≡ over_lines m.now.side (colour m.now) (run_cost m.now.side) }
 {
-    count_all(m).runs
+    runs_and_squares_of(m).0
 }
 
 /// Returns the number of two by two squares of one colour: counted 64 modules at a time, it is that of the definition.
 pub fn squares_on_words(m: &Matrix) -> u32
     ensures { result ≡ square_count m.now.side (colour m.now) }
 {
-    count_all(m).squares
+    runs_and_squares_of(m).1
 }
 
 /// Returns the number of windows in all rows and columns: counted 64 modules at a time, it is that of the definition.
 pub fn windows_on_words(m: &Matrix) -> u32
     ensures { result ≡ over_lines m.now.side (colour m.now) (window_count m.now.side) }
 {
-    count_all(m).windows
+    window_count_of(m)
 }
 
 /// The number of differences, `difference_count`, is 0 exactly if two squares have the same colours in all places of

@@ -69,7 +69,7 @@ impl MatrixPair {
     }
 
     // Replaces row `row` of both squares.
-    fn set_rows(&mut self, row: u8, bits: RowPair)
+    fn set_row(&mut self, row: u8, bits: RowPair)
         requires row_in { row < self.old.first.side }
         requires past { (second : Bool) (c : ℕ) → self.old.first.side ≤ c → has (lane bits second) c ≡ false }
         ensures { (second : Bool) → one_of self.new second
@@ -114,7 +114,7 @@ impl MatrixPair {
             BitRow::repeated(patterns.0),
             BitRow::repeated(patterns.1),
         ));
-        self.set_rows(row, RowPair::of(plain, plain).xor(inverted));
+        self.set_row(row, RowPair::of(plain, plain).xor(inverted));
     }
 
     /// Sets row `row` of each square as `Matrix::set_row_masked` does, by its part of `patterns`.

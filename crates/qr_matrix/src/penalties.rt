@@ -48,11 +48,11 @@ fn balance_cost(modules: u32, dark: u32) -> u32
 
 // What is counted in each square.
 #[derive(Drop)]
-pub(crate) struct Counted<N> {
-    pub runs: N,
-    pub squares: N,
-    pub windows: N,
-    pub dark: N,
+struct Counted<N> {
+    runs: N,
+    squares: N,
+    windows: N,
+    dark: N,
 }
 
 fn count_in<S: Squares, const WORDS: u8>(squares: &S) -> Counted<<S::Row as Rows>::Counts>
@@ -61,16 +61,16 @@ fn count_in<S: Squares, const WORDS: u8>(squares: &S) -> Counted<<S::Row as Rows
         (S.Row.number result.runs second) (S.Row.number result.squares second)
         (S.Row.number result.windows second) (S.Row.number result.dark second) }
 {
-    let (runs, blocks) = runs_and_squares::<S, WORDS>(squares);
+    let (runs, of_two) = runs_and_squares::<S, WORDS>(squares);
     Counted {
         runs,
-        squares: blocks,
+        squares: of_two,
         windows: window_count::<S, WORDS>(squares),
         dark: dark_count::<S, WORDS>(squares),
     }
 }
 
-pub(crate) fn count_all<S: Squares>(squares: &S) -> Counted<<S::Row as Rows>::Counts>
+fn count_all<S: Squares>(squares: &S) -> Counted<<S::Row as Rows>::Counts>
     ensures { (second : Bool) → IsCounted (S.size squares.now) (S.dark squares.now second)
         (S.Row.number result.runs second) (S.Row.number result.squares second)
         (S.Row.number result.windows second) (S.Row.number result.dark second) }

@@ -84,7 +84,7 @@ pub(crate) trait Squares {
         ensures past { (second : Bool) (c : ℕ) → size self.now ≤ c → Self.Row.bit result second c ≡ false };
 }
 
-// The functions of the penalty take this number as `words`: they are inlined once for each value, without the empty
+// How many words a row of `side` modules takes. Loops over rows are compiled once for each number, without the empty
 // words.
 pub(crate) fn words_for(side: u8) -> u8
     requires least { 1 ≤ side }

@@ -53,7 +53,8 @@ fn two_syndromes(block: &[u8], exponent: u8) -> (u8, u8)
     (first, second)
 }
 
-// The first of these values, which is taken out of `later` if it is there; if not, the second is left there.
+// The value at 2^`exponent`: `later`, if the call before computed it. If not, computes both, and leaves the second in
+// `later`.
 pub(crate) fn next_syndrome(block: &[u8], exponent: u8, later: &mut Option<u8>) -> u8
     requires small { exponent < 254 }
     requires later { IfSome later.old (λ v. v ≡ value_at exponent block.now) }

@@ -66,7 +66,8 @@ fn bits_at(codewords: &[u8], number: usize) -> u64
     bits << skipped | ninth >> (8 - skipped)
 }
 
-// Exchanges each bit that is set in `mask` with the bit `steps` above it, which is not: inverts both if they differ.
+// Exchanges each bit that is set in `mask` with the bit `steps` above it, which is not in `mask`: inverts both if they
+// differ.
 #[inline(always)]
 #[tactic(auto, using(crate::proofs::Named::exchanges))]
 fn exchange_bits(bits: u64, steps: u32, mask: u64) -> u64
@@ -102,7 +103,7 @@ fn exchange_all(bits: u64, steps: u32, mask: u64) -> u64
     bits >> steps & mask | (bits & mask) << steps
 }
 
-// As `u64::reverse_bits`, which is compiled to a loop over the bits. LLVM makes few instructions of this form.
+// As `u64::reverse_bits`, which is compiled to a loop over the bits. LLVM makes one instruction of the last three steps.
 #[inline(always)]
 fn reversed(bits: u64) -> u64
     ensures { (i : ℕ) → i < 64 → has_bit result i ≡ has_bit bits (63 - i) }
@@ -247,9 +248,9 @@ fn rows_set(rows: &BitRow, strip: Strip, passed: u8, side: u8) -> u8
     ensures set { (j : ℕ) → passed ≤ j → j < passed + result → has rows.now (row_of side strip j) ≡ true }
 {
     if strip.upward {
-        rows.set_down_from(side - 1 - passed).min(32)
+        rows.ones_down_from(side - 1 - passed).min(32)
     } else {
-        rows.set_from(passed).min(side - passed).min(32)
+        rows.ones_from(passed).min(side - passed).min(32)
     }
 }
 

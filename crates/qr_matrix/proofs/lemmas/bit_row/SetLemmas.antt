@@ -1,8 +1,9 @@
 -- Bits of a bit row that are set at once, and bits that are set one after the other.
 use Rattle.std.proofs.Common.{List, [], ◌∷◌, length, get_or, set, ◌≡◌, ℕ, zero, suc, ◌+◌, ◌-◌, ◌*◌, ◌/◌, ◌%◌, ◌^◌, ◌<◌, ◌≤◌, eqb, leb, Bool, true, false, not, ◌&&◌, ◌||◌, bit_or, refl, sym, ap, ◌∙◌, inl, inr, w64, subst, arith}
-use Rattle.std.proofs.lemmas.Nat.{or_lt, trailing_le, leading_le, leading_top, mod_below, pow_pos, shr_below}
+use Rattle.std.proofs.lemmas.Nat.{le-div, or_lt, trailing_le, leading_le, leading_top, mod_below, pow_pos, shr_below}
 use Rattle.std.proofs.lemmas.Nat.Bits.{bit_at_above, bit_at_not, bit_at_ones, bit_at-lt, bit_at-trailing_ones}
 use Rattle.{std.proofs.lemmas.Bool.{cases_lt, false≢true, Decides.nat_tests}, qr_matrix.specs.BitRow.{has, has_bit}}
+use lib.Count.{count_trailing_zeros, count_leading_zeros}
 use Rattle.std.proofs.Math.Nat.{div-le_self}
 use Rattle.std.specs.Int.{bit_at, bit_not, trailing_ones, leading_ones}
 use Rattle.qr_matrix.proofs.lemmas.bit_row.PlaceLemmas.{has-place, has_bit-or, has_bit-shr, low-bits, word-step, words-small, has_bit-shl-low, has_bit-shl-high}
@@ -50,6 +51,17 @@ trailing-set a k l m = elim (cases_lt (a + 1) (2 ^ 64)) [
       ap (λ z. eqb (bit_at z k) 1) e ∙ ap (λ z. eqb z 1) (bit_at_ones 64 k (omega (arith, trailing_le 64 (bit_not w64 a))))
 ]
 
+-- the bit after the trailing ones of a word is not set
+trailing-ends : (a : ℕ) → a < 2 ^ 64 → trailing_ones w64 a < 64 → has_bit a (trailing_ones w64 a) ≡ false
+unfolding has_bit count_trailing_zeros
+trailing-ends a l m = elim (cases_lt (a + 1) (2 ^ 64)) [
+  | inl h ↦ ap (λ z. eqb z 1) (bit_at-trailing_ones w64 a h).1
+  | inr h ↦
+      let e : a ≡ 2 ^ 64 - 1 = omega arith in
+      let all : trailing_ones w64 a ≡ 64 = ap (trailing_ones w64) e in
+      absurd (omega arith)
+]
+
 -- no bit of a number below 2 ^ n is set from bit n on
 pub unset-above : (a n k : ℕ) → a < 2 ^ n → n ≤ k → has_bit a k ≡ false
 unfolding has_bit
@@ -76,6 +88,29 @@ leading-set a k l m = elim (cases_lt 0 (bit_not w64 a)) [
       ap (λ z. eqb (bit_at z (63 - k)) 1) e ∙ ap (λ z. eqb z 1) (bit_at_ones 64 (63 - k) (omega arith))
 ]
 
+-- the bit below the leading ones of a word is not set
+leading-ends : (a : ℕ) → a < 2 ^ 64 → leading_ones w64 a < 64 → has_bit a (63 - leading_ones w64 a) ≡ false
+unfolding has_bit count_leading_zeros
+leading-ends a l m = elim (cases_lt 0 (bit_not w64 a)) [
+  | inl h ↦
+      let top = leading_top 64 (bit_not w64 a) h (omega arith) in
+      let k : 63 - leading_ones w64 a ≡ top.0 = omega (arith, top.1) in
+      let one_bit : bit_at (bit_not w64 a) top.0 ≡ 1 = top-bit (bit_not w64 a) top.0 top.2 top.3 in
+      let zero_bit : bit_at a top.0 ≡ 0 = omega (arith, one_bit, bit_at_not w64 a top.0 l (omega (arith, top.1)), bit_at-lt a top.0) in
+      ap (λ z. eqb (bit_at a z) 1) k ∙ ap (λ z. eqb z 1) zero_bit
+  | inr h ↦
+      let e : a ≡ 2 ^ 64 - 1 = omega arith in
+      let all : leading_ones w64 a ≡ 64 = ap (leading_ones w64) e in
+      absurd (omega arith)
+]
+  where
+    top-bit : (n j : ℕ) → 2 ^ j ≤ n → n < 2 ^ suc j → bit_at n j ≡ 1
+    top-bit n j p q =
+        let least : 1 ≤ n / 2 ^ j = le-div 1 n (2 ^ j) (pow_pos j) (omega arith) in
+        let more : suc j ≡ 1 + j = omega arith in
+        let most : n / 2 ^ j < 2 = shr_below n 1 j (subst (λ z. n < 2 ^ z) more q) in
+        omega arith
+
 -- a word that is shifted up by 63 - s has at most s + 1 leading ones
 leading-few : (x s : ℕ) → s < 64 → leading_ones w64 (x * 2 ^ (63 - s) % 2 ^ 64) ≤ s + 1
 leading-few x s h = let a = x * 2 ^ (63 - s) % 2 ^ 64 in elim (cases_lt (s + 1) (leading_ones w64 a)) [
@@ -89,6 +124,7 @@ leading-few x s h = let a = x * 2 ^ (63 - s) % 2 ^ 64 in elim (cases_lt (s + 1) 
 -- the bits from place c up that are read as set
 pub set-up : (ws : List ℕ) (c i : ℕ) → ((j : ℕ) → get_or ws j 0 < 2 ^ 64) → c < 192 → i ≡ c / 64
     → (c % 64 + trailing_ones w64 (get_or ws i 0 / 2 ^ (c % 64)) ≤ 64) × ((k : ℕ) → k < trailing_ones w64 (get_or ws i 0 / 2 ^ (c % 64)) → has ws (c + k) ≡ true)
+    × (c % 64 + trailing_ones w64 (get_or ws i 0 / 2 ^ (c % 64)) < 64 → has ws (c + trailing_ones w64 (get_or ws i 0 / 2 ^ (c % 64))) ≡ false)
 set-up ws c i w l e =
     let s = c % 64 in let a = get_or ws i 0 / 2 ^ s in
     let small : a < 2 ^ (64 - s) = shr-small (get_or ws i 0) s (omega arith) (w i) in
@@ -98,6 +134,10 @@ set-up ws c i w l e =
       λ k m.
           let p : (c + k) / 64 ≡ i = omega arith in let q : (c + k) % 64 ≡ k + s = omega arith in
           cc (has-place ws (c + k) w (omega arith), has_bit-shr (get_or ws i 0) s k, trailing-set a k word m),
+      λ m.
+          let k = trailing_ones w64 a in
+          let p : (c + k) / 64 ≡ i = omega arith in let q : (c + k) % 64 ≡ k + s = omega arith in
+          cc (has-place ws (c + k) w (omega arith), has_bit-shr (get_or ws i 0) s k, trailing-ends a word (omega arith)),
     )
   where
     shr-small : (n s : ℕ) → s ≤ 64 → n < 2 ^ 64 → n / 2 ^ s < 2 ^ (64 - s)
@@ -109,6 +149,7 @@ set-up ws c i w l e =
 -- the bits from place c down that are read as set
 pub set-down : (ws : List ℕ) (c i : ℕ) → ((j : ℕ) → get_or ws j 0 < 2 ^ 64) → c < 192 → i ≡ c / 64
     → (leading_ones w64 (get_or ws i 0 * 2 ^ (63 - c % 64) % 2 ^ 64) ≤ c % 64 + 1) × ((k : ℕ) → k < leading_ones w64 (get_or ws i 0 * 2 ^ (63 - c % 64) % 2 ^ 64) → has ws (c - k) ≡ true)
+    × (leading_ones w64 (get_or ws i 0 * 2 ^ (63 - c % 64) % 2 ^ 64) ≤ c % 64 → has ws (c - leading_ones w64 (get_or ws i 0 * 2 ^ (63 - c % 64) % 2 ^ 64)) ≡ false)
 set-down ws c i w l e =
     let s = c % 64 in let x = get_or ws i 0 in let few = leading-few x s (omega arith) in (
       few,
@@ -116,6 +157,12 @@ set-down ws c i w l e =
           let p : (c - k) / 64 ≡ i = omega arith in let q : (c - k) % 64 ≡ s - k = omega arith in
           let r : 63 - s + (s - k) ≡ 63 - k = omega arith in
           let bit = leading-set (x * 2 ^ (63 - s) % 2 ^ 64) k (mod_below _ (2 ^ 64) (pow_pos 64)) m in
+          cc (has-place ws (c - k) w (omega arith), low-bits 64 (x * 2 ^ (63 - s)) (63 - k) (omega arith), has_bit-shl-high x (63 - s) (s - k), bit),
+      λ m.
+          let k = leading_ones w64 (x * 2 ^ (63 - s) % 2 ^ 64) in
+          let p : (c - k) / 64 ≡ i = omega arith in let q : (c - k) % 64 ≡ s - k = omega arith in
+          let r : 63 - s + (s - k) ≡ 63 - k = omega arith in
+          let bit = leading-ends (x * 2 ^ (63 - s) % 2 ^ 64) (mod_below _ (2 ^ 64) (pow_pos 64)) (omega arith) in
           cc (has-place ws (c - k) w (omega arith), low-bits 64 (x * 2 ^ (63 - s)) (63 - k) (omega arith), has_bit-shl-high x (63 - s) (s - k), bit),
     )
 

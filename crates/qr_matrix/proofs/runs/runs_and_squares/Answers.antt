@@ -13,8 +13,8 @@ pub loop-row-init : goal.loop-row-init
 loop-row-init g c = record {
   runs = c.zeros-runs.ensures;
   runs_small = λ b. omega (arith, c.zeros-runs.ensures b);
-  squares = c.zeros-blocks.ensures;
-  squares_small = λ b. omega (arith, c.zeros-blocks.ensures b);
+  squares = c.zeros-of_two.ensures;
+  squares_small = λ b. omega (arith, c.zeros-of_two.ensures b);
   above = c.empty-above.ensures;
   second_above = c.empty-second_above.ensures;
   first = c.joined_in_column-first.ensures;
@@ -70,8 +70,8 @@ loop-row-preserved g c =
           (c.add_to-runs.ensures.value b ∙ ap (λ z. g.S.Row.Rows.number c.loop-row.runs b + z) (row_cost s (d b r) (bit c.joined-joins.result b) (bit c.fours.result b) (bit c.costing.result b) few (c.joined-joins.ensures b) (c.fours.ensures b) (c.costing.ensures b)))
           (c.add_to-runs-in-loop-row.ensures.value b ∙ ap (λ z. g.S.Row.Rows.number c.add_to-runs.result b + z) (share-of s (d b) r (bit c.or-in-loop-row.result b) (bit c.and-fives.result b) (bit c.loop-row.above b) (bit c.loop-row.second_above b) few (three b) (five b) (i.above b) (i.second_above b)));
       runs_small = λ b. let p = i.runs_small b in let q = c.add_to-runs.ensures.bound b in let t = c.add_to-runs-in-loop-row.ensures.bound b in omega arith;
-      squares = λ b. sum_below-more r _ _ _ (λ r. count_below s (is_square_of_two s (d b) r)) (i.squares b) (squares-row s (d b) r (bit c.squares_at.result b) few (square b)) (c.add_to-blocks.ensures.value b);
-      squares_small = λ b. let p = i.squares_small b in let q = c.add_to-blocks.ensures.bound b in omega arith;
+      squares = λ b. sum_below-more r _ _ _ (λ r. count_below s (is_square_of_two s (d b) r)) (i.squares b) (squares-row s (d b) r (bit c.squares_at.result b) few (square b)) (c.add_to-of_two.ensures.value b);
+      squares_small = λ b. let p = i.squares_small b in let q = c.add_to-of_two.ensures.bound b in omega arith;
       above = λ b k. five b k ∙ sym (λ i. positive r i && (ltb k s && begins_five s (λ i. d b i k) (before r i)));
       second_above = λ b k. i.above b k ∙ sym (λ i. above_one r i && (ltb k s && begins_five s (λ i. d b i k) (second_before r i)));
       first = i.second;

@@ -11,8 +11,8 @@ invariant-loop-row g l =
     record {
       runs : (b : Bool) → g.S.Row.Rows.number l.runs b ≡ sum_below l.row (λ r. place_cost s (dark b r)) + sum_below l.row (row_share s (dark b));
       runs_small : (b : Bool) → g.S.Row.Rows.number l.runs b ≤ 384 * l.row;
-      squares : (b : Bool) → g.S.Row.Rows.number l.blocks b ≡ sum_below l.row (λ r. count_below s (is_square_of_two s (dark b) r));
-      squares_small : (b : Bool) → g.S.Row.Rows.number l.blocks b ≤ 192 * l.row;
+      squares : (b : Bool) → g.S.Row.Rows.number l.of_two b ≡ sum_below l.row (λ r. count_below s (is_square_of_two s (dark b) r));
+      squares_small : (b : Bool) → g.S.Row.Rows.number l.of_two b ≤ 192 * l.row;
       above : (b : Bool) (c : ℕ) → bit l.above b c ≡ (ltb 0 l.row && (ltb c s && begins_five s (λ i. dark b i c) (l.row - 1)));
       second_above : (b : Bool) (c : ℕ) → bit l.second_above b c ≡ (ltb 1 l.row && (ltb c s && begins_five s (λ i. dark b i c) (l.row - 2)));
       first : (b : Bool) (c : ℕ) → bit l.first b c ≡ (ltb c s && joins s (λ i. dark b i c) l.row);

@@ -1,7 +1,7 @@
 use Rattle.qr_layout.specs.{Role.role_of, Version.side_of}
 use Rattle.qr_matrix.{proofs.Facts.{square-same, colour-square}, specs.Grid.{Grid, colour, one_of}}
 use Rattle.qr_symbol.proofs.lemmas.{patterns.FormatDrawingLemmas.three-parts, placement.PlacementLemmas.square-is}
-use Rattle.{qr_symbol.specs.Steps.Patterns.{format_bits_or, format_or}, std.proofs.Common.{ℕ, Bool, cond, ◌∙◌, ap}}
+use Rattle.{qr_symbol.specs.Steps.Patterns.{format_bits_or, format_or}, std.proofs.Common.{ℕ, cond, ◌∙◌, ap}}
 use Rattle.qr_symbol.proofs.patterns.draw_both_formats.Goals as goal
 
 pub draw_both_format_bits-requires-2-clause-squares : goal.draw_both_format_bits-requires-2-clause-squares

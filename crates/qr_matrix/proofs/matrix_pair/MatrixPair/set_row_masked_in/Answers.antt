@@ -9,8 +9,8 @@ both : (a : List (List ℕ)) (b : List ℕ) (s : Bool) → ((c : ℕ) → has (l
 both a b false p q = p
 both a b true p q = q
 
-pub set_rows-requires-clause-past : goal.set_rows-requires-clause-past
-set_rows-requires-clause-past c = λ s k l.
+pub set_row-requires-clause-past : goal.set_row-requires-clause-past
+set_row-requires-clause-past c = λ s k l.
     let plain = c.of-3.result in
     let p = both c.of-3.result c.bit_row_in-plain.result s c.of-3.ensures.first c.of-3.ensures.second k ∙ c.bit_row_in-plain.ensures.past k (omega (arith, c.requires.plain_side)) in
     let w = both c.of.result c.bit_row_in-within.result s c.of.ensures.first c.of.ensures.second k ∙ c.bit_row_in-within.ensures.past k (omega (arith, c.requires.within_side)) in
@@ -35,7 +35,7 @@ pub returns : goal.returns
 returns c = λ s.
     let g = one_of c.args.self.now s in
     let row = c.args.row in
-    c.set_rows.ensures s ∙ with_row-same g row (has (lane c.xor.result s)) _ (λ k l.
+    c.set_row.ensures s ∙ with_row-same g row (has (lane c.xor.result s)) _ (λ k l.
     let p = both c.of-3.result c.bit_row_in-plain.result s c.of-3.ensures.first c.of-3.ensures.second k ∙ (c.bit_row_in-plain.ensures.colours k ∙ ap (λ z. colour c.args.plain.now z k) c.from-index.ensures) in
     let e = c.bit_row_in-within.ensures.colours k ∙ ap (λ z. colour c.args.within.now z k) c.from-index.ensures in
     let w = both c.of.result c.bit_row_in-within.result s c.of.ensures.first c.of.ensures.second k ∙ e in

@@ -3,7 +3,7 @@ use Rattle.qr_layout.specs.declared.level.Level.{Level}
 use Rattle.qr_matrix.{proofs.Facts.{square-same, colour-square}, specs.Grid.{Grid, square, colour, one_of, IsSquare}}
 use Rattle.qr_symbol.proofs.lemmas.placement.PlacementLemmas.{square-is}
 use Rattle.qr_symbol.specs.{Mask.{inverts, inverted}, Steps.{Patterns.format_or, Placement.masked_colour}}
-use Rattle.std.proofs.Common.{rules, ◌≡◌, ℕ, Bool, false, true, cond, ◌&&◌, ◌∙◌, ap, sym, subst}
+use Rattle.std.proofs.Common.{rules, ◌≡◌, ℕ, Bool, false, true, cond, ◌&&◌, ◌∙◌, ap, subst}
 use Rattle.qr_symbol.proofs.canvas.Canvas.draw_both_masked.Goals as goal
 
 -- the format information of each of two masks

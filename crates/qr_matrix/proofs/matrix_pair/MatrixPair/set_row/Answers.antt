@@ -1,7 +1,7 @@
 use Rattle.std.proofs.{Common.{◌∙◌, ap, set, refl, false, arith}, Math.ListN.length-set}
 use Rattle.qr_matrix.specs.{Grid.one_of, BitRow.{has, dark_in}, Steps.{lane, lanes}}
 use Rattle.qr_matrix.proofs.lemmas.{matrix.MatrixLemmas.{line-set, line-inside, line-write}, row_pair.PairLemmas.{lanes-long, lanes-set, one-view, side-of, square-of}}
-use Rattle.qr_matrix.proofs.matrix_pair.MatrixPair.set_rows.Goals as goal
+use Rattle.qr_matrix.proofs.matrix_pair.MatrixPair.set_row.Goals as goal
 
 pub invariant_of-self : goal.invariant_of-self
 invariant_of-self c =
