@@ -139,6 +139,8 @@ fn bits_are_set(rt: HostRuntime) -> Result<(), Fail> {
         let is_set = matches!(index, 61 | 62 | 63 | 64 | 65 | 67);
         assert_eq!(rt; row.at(index), is_set, "bit {index}");
     }
+    assert_eq!(rt; row.bits_from(61), 0b111, "the bits of one word");
+    assert_eq!(rt; row.bits_from(64), 0b1011, "the bits of the next word");
     assert_eq!(rt; row.ones_from(61), 3, "up to the end of the word");
     assert_eq!(rt; row.ones_down_from(65), 2, "down to the end of the word");
     assert_eq!(rt; (!row).ones_from(0), 61, "bits that are not set");

@@ -304,6 +304,16 @@ impl BitRow {
         self.set_bits(index, u64::from(bits));
     }
 
+    /// Returns the bits from bit `index` to the end of its word as a number, of which bit `index` is the lowest bit.
+    #[inline(always)]
+    pub fn bits_from(&self, index: u8) -> u64
+        requires { index < 192 }
+        ensures { (k : ℕ) → index % 64 + k < 64 → has_bit result k ≡ has self.now (index + k) }
+    {
+        let word = self.0[usize::from(index / 64)];
+        word >> (index % 64)
+    }
+
     /// Returns how many bits from bit `index` up are set before the first one that is not, or before the word ends.
     #[inline(always)]
     pub fn ones_from(&self, index: u8) -> u8

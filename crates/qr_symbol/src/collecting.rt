@@ -1,20 +1,23 @@
 //! Collects the codewords from the region, strip by strip (ISO/IEC 18004:2015, 7.7.3 and 12), and so undoes
 //! `draw_codewords`. Squares are transposed: the two columns of a strip are rows. Exactly the region is dark in
-//! `region`, and transposing does not change it. `passed` counts the rows of a strip that come earlier in its order.
+//! `region`, and transposing does not change it. `passed` counts the rows of a strip that come earlier in its
+//! order. Rows of which both modules are in the region are collected up to 32 at a time.
 
-ghost use Rattle.std.specs.Prelude.{◌≡◌, ℕ, Bool, List, [], ◌∷◌, ◌++◌, ◌*◌, ◌%◌, ◌+◌, ◌-◌, ◌^◌, ◌<◌, ◌≤◌, ◌&&◌, if◌then◌else◌, map, length, Some, IfOk};
+ghost use Rattle.std.specs.Prelude.{◌≡◌, ℕ, Bool, List, [], ◌∷◌, ◌++◌, ◌*◌, ◌/◌, ◌%◌, ◌+◌, ◌-◌, ◌^◌, ◌<◌, ◌≤◌, ◌&&◌, if◌then◌else◌, map, length, Some, IfOk};
 ghost use Rattle.std.specs.List.{All};
 ghost use Rattle.qr_layout.specs.Version.{side_of, total_codewords_of};
 ghost use Rattle.qr_layout.specs.Order.{in_region_of};
 ghost use Rattle.qr_layout.specs.Strips.{both_of, rows_from};
 ghost use Rattle.qr_bits.specs.Bits.{bits_of, field};
 ghost use Rattle.qr_matrix.specs.Grid.{transposed};
-ghost use Rattle.qr_matrix.specs.BitRow.{has};
+ghost use Rattle.qr_matrix.specs.BitRow.{has, has_bit};
 ghost use Rattle.qr_symbol.specs.Reading.{IsReadUnmasked};
-ghost use Rattle.qr_symbol.specs.Steps.Collecting.{bit_if, bits_in_four, bits_in_rows, colour_across, Appends, HasCollected};
-ghost use Rattle.qr_symbol.specs.Steps.Placement.{region_grid};
+ghost use Rattle.qr_symbol.specs.Steps.Collecting.{bit_if, bits_in_rows, colour_across, Appends, AreWholeRows, HasCollected};
+ghost use Rattle.qr_symbol.specs.Steps.Placement.{rank_in, region_grid, top_row, AreRegionRows};
 
-use crate::placement::{Columns, columns_of, row_at};
+use crate::placement::{
+    Columns, RegionRows, columns_of, exchange_bits, region_rows, reversed, row_at, rows_set, top_of,
+};
 use qr_layout::{Strip, Version, all_strips};
 use qr_matrix::{BitRow, Matrix};
 use std::alloc::{AllocError, Global};
@@ -82,8 +85,9 @@ impl Collector {
         self.rest = (bits % size) as u8;
     }
 
-    // The `count` lowest bits of `bits`, the highest first; the others are 0.
-    fn push_bits(&mut self, bits: u8, count: u8)
+    // As `push_bits`, but for at most eight bits, and the others are 0.
+    #[inline(always)]
+    fn push_few(&mut self, bits: u8, count: u8)
         requires few { count ≤ 8 }
         requires small { bits < 2 ^ count }
         ensures { Appends (field count bits) self.old self.new }
@@ -99,6 +103,20 @@ impl Collector {
             self.rest = (all % (1 << left)) as u8;
             self.width = left;
         }
+    }
+
+    // The `count` lowest bits of `bits`, the highest first.
+    #[inline(always)]
+    fn push_bits(&mut self, bits: u64, count: u8)
+        requires { count ≤ 64 }
+        ensures { Appends (field count bits) self.old self.new }
+    {
+        let mut left = count;
+        while left >= 8 {
+            left -= 8;
+            self.push_byte(((bits >> left) % 256) as u8);
+        }
+        self.push_few((bits % (1 << left)) as u8, left);
     }
 
     // Loses the bits after the last whole codeword: the remainder bits, of which there are at most seven.
@@ -128,169 +146,137 @@ fn collect_module(bits: &mut Collector, column: &BitRow, region: &BitRow, row: u
     }
 }
 
-// Collects module by module, which `collect_four` avoids for most rows of a large symbol.
-#[inline(never)]
-fn collect_rows(
+// Collects module by module.
+#[inline(always)]
+fn collect_row(
     bits: &mut Collector,
     columns: &Columns,
     v: Version,
     region: &Columns,
+    strip: Strip,
+    passed: u8,
+)
+    requires { passed < side_of v }
+    ensures { Appends (bits_in_rows (side_of v) strip region.now columns.now passed 1) bits.old bits.new }
+{
+    let row = row_at(strip, passed, v.side() - 1);
+    collect_module(bits, &columns.right, &region.right, row);
+    collect_module(bits, &columns.left, &region.left, row);
+}
+
+// The inverse of `unshuffled`: moves the upper half of the word to every second bit, from bit 1 on, and the lower half to
+// the others.
+#[inline(always)]
+fn shuffled(bits: u64) -> u64
+    ensures { (i : ℕ) → i < 64 → has_bit result i ≡ has_bit bits (32 * (i % 2) + i / 2) }
+{
+    let bits = exchange_bits(bits, 16, 0x0000_0000_FFFF_0000);
+    let bits = exchange_bits(bits, 8, 0x0000_FF00_0000_FF00);
+    let bits = exchange_bits(bits, 4, 0x00F0_00F0_00F0_00F0);
+    let bits = exchange_bits(bits, 2, 0x0C0C_0C0C_0C0C_0C0C);
+    exchange_bits(bits, 1, 0x2222_2222_2222_2222)
+}
+
+// The 32 lowest bits of both numbers in turn, that of `even` as the lowest.
+#[inline(always)]
+fn interleaved(odd: u64, even: u64) -> u64
+    ensures odd { (i : ℕ) → i < 32 → has_bit result (2 * i + 1) ≡ has_bit odd i }
+    ensures even { (i : ℕ) → i < 32 → has_bit result (2 * i) ≡ has_bit even i }
+{
+    shuffled(odd << 32 | even & 0xFFFF_FFFF)
+}
+
+// The inverse of `split`: the bits of `count` rows in the order in which they are filled, the last as the lowest. The
+// lowest bits of `right` and `left` are for the topmost row.
+#[inline(always)]
+fn joined(right: u64, left: u64, upward: bool, count: u8) -> u64
+    requires some { 1 ≤ count }
+    requires few { count ≤ 32 }
+    ensures right { (j : ℕ) → j < count
+        → has_bit result (2 * (count - 1 - j) + 1) ≡ has_bit right (rank_in count upward j) }
+    ensures left { (j : ℕ) → j < count
+        → has_bit result (2 * (count - 1 - j)) ≡ has_bit left (rank_in count upward j) }
+{
+    if upward {
+        interleaved(right, left)
+    } else {
+        reversed(interleaved(left, right)) >> (64 - 2 * count)
+    }
+}
+
+// Collects rows of which all modules are in the region.
+#[inline(always)]
+fn collect_run(
+    bits: &mut Collector,
+    columns: &Columns,
+    v: Version,
     strip: Strip,
     passed: u8,
     count: u8,
 )
-    requires { passed + count ≤ side_of v }
-    ensures { Appends (bits_in_rows (side_of v) strip region.now columns.now passed count) bits.old bits.new }
+    requires some { 1 ≤ count }
+    requires few { count ≤ 32 }
+    requires rows_in { passed + count ≤ side_of v }
+    requires word { top_row (side_of v) strip passed count % 64 + count ≤ 64 }
+    ensures { (region : Columns) → AreWholeRows (side_of v) strip passed count region
+        → Appends (bits_in_rows (side_of v) strip region columns.now passed count) bits.old bits.new }
 {
-    let last = v.side() - 1;
-    for rank in passed..passed + count {
-        let row = row_at(strip, rank, last);
-        collect_module(bits, &columns.right, &region.right, row);
-        collect_module(bits, &columns.left, &region.left, row);
-    }
+    let top = top_of(strip, passed, count, v.side());
+    let right = columns.right.bits_from(top);
+    let left = columns.left.bits_from(top);
+    bits.push_bits(joined(right, left, strip.upward, count), 2 * count);
 }
 
-// Spread the four modules of a column over every second bit of a byte: bit 6 for the module that is filled first, bit 0
-// for the last. The lowest bit of the index is the topmost module. The first table is for strips that are filled
-// downward, the second for upward ones.
-static SPREADS: [[u8; 16]; 2] = [
-    [
-        0x00, 0x40, 0x10, 0x50, 0x04, 0x44, 0x14, 0x54, 0x01, 0x41, 0x11, 0x51, 0x05, 0x45, 0x15,
-        0x55,
-    ],
-    [
-        0x00, 0x01, 0x04, 0x05, 0x10, 0x11, 0x14, 0x15, 0x40, 0x41, 0x44, 0x45, 0x50, 0x51, 0x54,
-        0x55,
-    ],
-];
-
-// As `SPREADS`, but for those of the four modules whose rows are in the region; bit 0 is for the last of them. The second
-// index has these rows.
-static SPREAD_PARTS: [[[u8; 16]; 16]; 2] = [
-    [
-        [0, 0, 0, 0, 0, 0, 0, 0, 0, 0, 0, 0, 0, 0, 0, 0],
-        [0, 1, 0, 1, 0, 1, 0, 1, 0, 1, 0, 1, 0, 1, 0, 1],
-        [0, 0, 1, 1, 0, 0, 1, 1, 0, 0, 1, 1, 0, 0, 1, 1],
-        [0, 4, 1, 5, 0, 4, 1, 5, 0, 4, 1, 5, 0, 4, 1, 5],
-        [0, 0, 0, 0, 1, 1, 1, 1, 0, 0, 0, 0, 1, 1, 1, 1],
-        [0, 4, 0, 4, 1, 5, 1, 5, 0, 4, 0, 4, 1, 5, 1, 5],
-        [0, 0, 4, 4, 1, 1, 5, 5, 0, 0, 4, 4, 1, 1, 5, 5],
-        [0, 16, 4, 20, 1, 17, 5, 21, 0, 16, 4, 20, 1, 17, 5, 21],
-        [0, 0, 0, 0, 0, 0, 0, 0, 1, 1, 1, 1, 1, 1, 1, 1],
-        [0, 4, 0, 4, 0, 4, 0, 4, 1, 5, 1, 5, 1, 5, 1, 5],
-        [0, 0, 4, 4, 0, 0, 4, 4, 1, 1, 5, 5, 1, 1, 5, 5],
-        [0, 16, 4, 20, 0, 16, 4, 20, 1, 17, 5, 21, 1, 17, 5, 21],
-        [0, 0, 0, 0, 4, 4, 4, 4, 1, 1, 1, 1, 5, 5, 5, 5],
-        [0, 16, 0, 16, 4, 20, 4, 20, 1, 17, 1, 17, 5, 21, 5, 21],
-        [0, 0, 16, 16, 4, 4, 20, 20, 1, 1, 17, 17, 5, 5, 21, 21],
-        [0, 64, 16, 80, 4, 68, 20, 84, 1, 65, 17, 81, 5, 69, 21, 85],
-    ],
-    [
-        [0, 0, 0, 0, 0, 0, 0, 0, 0, 0, 0, 0, 0, 0, 0, 0],
-        [0, 1, 0, 1, 0, 1, 0, 1, 0, 1, 0, 1, 0, 1, 0, 1],
-        [0, 0, 1, 1, 0, 0, 1, 1, 0, 0, 1, 1, 0, 0, 1, 1],
-        [0, 1, 4, 5, 0, 1, 4, 5, 0, 1, 4, 5, 0, 1, 4, 5],
-        [0, 0, 0, 0, 1, 1, 1, 1, 0, 0, 0, 0, 1, 1, 1, 1],
-        [0, 1, 0, 1, 4, 5, 4, 5, 0, 1, 0, 1, 4, 5, 4, 5],
-        [0, 0, 1, 1, 4, 4, 5, 5, 0, 0, 1, 1, 4, 4, 5, 5],
-        [0, 1, 4, 5, 16, 17, 20, 21, 0, 1, 4, 5, 16, 17, 20, 21],
-        [0, 0, 0, 0, 0, 0, 0, 0, 1, 1, 1, 1, 1, 1, 1, 1],
-        [0, 1, 0, 1, 0, 1, 0, 1, 4, 5, 4, 5, 4, 5, 4, 5],
-        [0, 0, 1, 1, 0, 0, 1, 1, 4, 4, 5, 5, 4, 4, 5, 5],
-        [0, 1, 4, 5, 0, 1, 4, 5, 16, 17, 20, 21, 16, 17, 20, 21],
-        [0, 0, 0, 0, 1, 1, 1, 1, 4, 4, 4, 4, 5, 5, 5, 5],
-        [0, 1, 0, 1, 4, 5, 4, 5, 16, 17, 16, 17, 20, 21, 20, 21],
-        [0, 0, 1, 1, 4, 4, 5, 5, 16, 16, 17, 17, 20, 20, 21, 21],
-        [0, 1, 4, 5, 16, 17, 20, 21, 64, 65, 68, 69, 80, 81, 84, 85],
-    ],
-];
-
-// How many of four rows are in the region.
-static ROW_COUNTS: [u8; 16] = [0, 1, 1, 2, 1, 2, 2, 3, 1, 2, 2, 3, 2, 3, 3, 4];
-
-// The topmost of four rows of a strip.
+// Collects the rows that come next: those that are wholly in the region, or else those that are wholly outside, or else
+// one row. Returns how many rows.
 #[inline(always)]
-fn top_of(v: Version, strip: Strip, passed: u8) -> u8
-    requires { passed + 4 ≤ side_of v }
-    ensures top { result ≡ (if strip.upward then side_of v - 4 - passed else passed) }
-    ensures most { result + 4 ≤ side_of v }
+fn collect_next(
+    bits: &mut Collector,
+    columns: &Columns,
+    v: Version,
+    region: &Columns,
+    rows: &RegionRows,
+    strip: Strip,
+    passed: u8,
+) -> u8
+    requires rows { AreRegionRows region.now rows.now }
+    requires row_in { passed < side_of v }
+    ensures some { 1 ≤ result }
+    ensures rows_in { passed + result ≤ side_of v }
+    ensures bits { Appends (bits_in_rows (side_of v) strip region.now columns.now passed result) bits.old bits.new }
 {
-    if strip.upward {
-        v.side() - 4 - passed
-    } else {
-        passed
+    let side = v.side();
+    let count = rows_set(&rows.both, strip, passed, side);
+    if count > 0 {
+        collect_run(bits, columns, v, strip, passed, count);
+        return count;
     }
+    let outside = rows_set(&rows.neither, strip, passed, side);
+    if outside > 0 {
+        return outside;
+    }
+    collect_row(bits, columns, v, region, strip, passed);
+    1
 }
 
-// The bits of those of four rows that are in the region, the first as the highest, and how many they are. The lowest bit
-// of `rows`, `right` and `left` is the topmost row.
-fn bits_of_part(upward: bool, rows: u8, right: u8, left: u8) -> (u8, u8)
-    requires rows { rows < 16 }
-    requires right { right < 16 }
-    requires left { left < 16 }
-    ensures few { result.1 ≤ 8 }
-    ensures small { result.0 < 2 ^ result.1 }
-    ensures bits { field result.1 result.0 ≡ bits_in_four upward rows right left }
-{
-    let spread = &SPREAD_PARTS[usize::from(upward)][usize::from(rows)];
-    let bits = 2 * spread[usize::from(right)] + spread[usize::from(left)];
-    (bits, 2 * ROW_COUNTS[usize::from(rows)])
-}
-
-// Collects four rows at once if both columns have the same rows in the region, and otherwise module by module.
-#[inline(never)]
-fn collect_part_of_four(
+#[inline(always)]
+fn collect_columns(
     bits: &mut Collector,
     columns: &Columns,
     v: Version,
     region: &Columns,
     strip: Strip,
-    passed: u8,
 )
-    requires rows_in { passed + 4 ≤ side_of v }
-    requires whole { passed % 4 ≡ (if strip.upward then 1 else 0) }
-    ensures { Appends (bits_in_rows (side_of v) strip region.now columns.now passed 4) bits.old bits.new }
+    ensures { Appends (bits_in_rows (side_of v) strip region.now columns.now 0 (side_of v)) bits.old bits.new }
 {
-    let top = top_of(v, strip, passed);
-    let rows = region.right.four(top);
-    if rows != region.left.four(top) {
-        collect_rows(bits, columns, v, region, strip, passed, 4);
-        return;
-    }
-    let right = columns.right.four(top);
-    let left = columns.left.four(top);
-    let (part, count) = bits_of_part(strip.upward, rows, right, left);
-    bits.push_bits(part, count);
-}
-
-// Collects four rows at once if all their eight modules are in the region.
-#[inline(always)]
-fn collect_four(
-    bits: &mut Collector,
-    columns: &Columns,
-    v: Version,
-    region: &Columns,
-    both: &BitRow,
-    strip: Strip,
-    passed: u8,
-)
-    requires rows_in { passed + 4 ≤ side_of v }
-    requires whole { passed % 4 ≡ (if strip.upward then 1 else 0) }
-    requires both { (row : ℕ) → has both.now row ≡ (has region.now.right row && has region.now.left row) }
-    ensures { Appends (bits_in_rows (side_of v) strip region.now columns.now passed 4) bits.old bits.new }
-{
-    let top = top_of(v, strip, passed);
-    if both.four(top) == 15 {
-        let spread = SPREADS[usize::from(strip.upward)];
-        let right = spread[usize::from(columns.right.four(top))];
-        let left = spread[usize::from(columns.left.four(top))];
-        bits.push_byte(2 * right + left);
-    } else {
-        collect_part_of_four(bits, columns, v, region, strip, passed);
+    let rows = region_rows(region);
+    let mut passed = 0;
+    while passed < v.side() {
+        passed += collect_next(bits, columns, v, region, &rows, strip, passed);
     }
 }
 
-// The number of rows is one more than a multiple of four, so the bottom row is read alone and the others in fours.
+// `collect_columns` is called in two places, so that each direction is compiled for itself.
 fn collect_strip(bits: &mut Collector, across: &Matrix, v: Version, region: &Matrix, strip: Strip)
     requires side { across.now.side ≡ side_of v }
     requires region { region.now ≡ region_grid v }
@@ -299,17 +285,22 @@ fn collect_strip(bits: &mut Collector, across: &Matrix, v: Version, region: &Mat
     ensures { Appends (map (colour_across across.now) (in_region_of v (both_of (rows_from (side_of v) strip 0
         (side_of v))))) bits.old bits.new }
 {
-    let columns = columns_of(across, strip.right);
-    let within = columns_of(region, strip.right);
-    let last = v.side() - 1;
-    let before = u8::from(strip.upward);
-    let both = within.right & within.left;
-    collect_rows(bits, &columns, v, &within, strip, 0, before);
-    for group in 0..last / 4 {
-        let passed = before + 4 * group;
-        collect_four(bits, &columns, v, &within, &both, strip, passed);
+    let Strip { right, upward } = strip;
+    let columns = columns_of(across, right);
+    let within = columns_of(region, right);
+    if upward {
+        let strip = Strip {
+            right,
+            upward: true,
+        };
+        collect_columns(bits, &columns, v, &within, strip);
+    } else {
+        let strip = Strip {
+            right,
+            upward: false,
+        };
+        collect_columns(bits, &columns, v, &within, strip);
     }
-    collect_rows(bits, &columns, v, &within, strip, before + last, 1 - before);
 }
 
 pub(crate) fn collect_codewords(

@@ -70,7 +70,7 @@ fn bits_at(codewords: &[u8], number: usize) -> u64
 // differ.
 #[inline(always)]
 #[tactic(auto, using(crate::proofs::Named::exchanges))]
-fn exchange_bits(bits: u64, steps: u32, mask: u64) -> u64
+pub(crate) fn exchange_bits(bits: u64, steps: u32, mask: u64) -> u64
     requires few { steps < 64 }
     requires pairs { IsTrue (are_pairs steps mask) }
     ensures { (i : ℕ) → i < 64 → has_bit result i ≡ has_bit bits (partner steps mask i) }
@@ -105,7 +105,7 @@ fn exchange_all(bits: u64, steps: u32, mask: u64) -> u64
 
 // As `u64::reverse_bits`, which is compiled to a loop over the bits. LLVM makes one instruction of the last three steps.
 #[inline(always)]
-fn reversed(bits: u64) -> u64
+pub(crate) fn reversed(bits: u64) -> u64
     ensures { (i : ℕ) → i < 64 → has_bit result i ≡ has_bit bits (63 - i) }
 {
     let bits = exchange_all(bits, 1, 0x5555_5555_5555_5555);
@@ -239,7 +239,7 @@ fn draw_row(
 
 // How many rows of the strip from `passed` on, without a gap, are set in `rows`; at most 32, and only those of one word.
 #[inline(always)]
-fn rows_set(rows: &BitRow, strip: Strip, passed: u8, side: u8) -> u8
+pub(crate) fn rows_set(rows: &BitRow, strip: Strip, passed: u8, side: u8) -> u8
     requires passed { passed < side }
     requires side { side ≤ 177 }
     ensures few { result ≤ 32 }
@@ -256,7 +256,7 @@ fn rows_set(rows: &BitRow, strip: Strip, passed: u8, side: u8) -> u8
 
 // The topmost of `count` rows of a strip, where the square has `side` rows.
 #[inline(always)]
-fn top_of(strip: Strip, passed: u8, count: u8, side: u8) -> u8
+pub(crate) fn top_of(strip: Strip, passed: u8, count: u8, side: u8) -> u8
     requires { passed + count ≤ side }
     ensures { result ≡ top_row side strip passed count }
 {
@@ -288,12 +288,12 @@ fn draw_run(columns: &mut Columns, v: Version, bits: u64, strip: Strip, passed: 
 
 // The rows of a strip of which both modules are in the region, and those of which none is.
 #[derive(Clone, Copy)]
-struct RegionRows {
-    both: BitRow,
-    neither: BitRow,
+pub(crate) struct RegionRows {
+    pub both: BitRow,
+    pub neither: BitRow,
 }
 
-fn region_rows(region: &Columns) -> RegionRows
+pub(crate) fn region_rows(region: &Columns) -> RegionRows
     ensures both { (row : ℕ) → has result.both row ≡ (has region.now.right row && has region.now.left row) }
     ensures neither { (row : ℕ) → row < 192
         → has result.neither row ≡ not (has region.now.right row || has region.now.left row) }

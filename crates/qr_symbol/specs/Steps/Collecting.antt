@@ -1,10 +1,10 @@
 -- Which bits are read from the columns `x` of a strip; exactly the bits of the region are set in the columns `region`.
-use Rattle.std.specs.Prelude.{◌≡◌, ℕ, ◌+◌, ◌-◌, Bool, if◌then◌else◌, Option, List, [], ◌∷◌, ◌++◌}
+use Rattle.std.specs.Prelude.{◌≡◌, ◌<◌, ◌≤◌, ℕ, ◌+◌, Bool, true, if◌then◌else◌, Option, List, [], ◌∷◌, ◌++◌}
 use Rattle.std.specs.Option.{IfSome}
 use Prim.Native.Nat.{zero, suc}
 use Rattle.qr_layout.specs.declared.region.Module.{Module}
 use Rattle.qr_layout.specs.declared.strips.Strip.{Strip}
-use Rattle.qr_matrix.specs.BitRow.{has, has_bit}
+use Rattle.qr_matrix.specs.BitRow.{has}
 use Rattle.qr_matrix.specs.Grid.{Grid, colour}
 use Rattle.qr_symbol.specs.declared.placement.Columns.{Columns}
 use Rattle.qr_symbol.specs.Steps.Placement.{row_of}
@@ -23,17 +23,10 @@ abbrev pub bits_in_rows : ℕ → Strip → Columns → Columns → ℕ → ℕ 
 bits_in_rows s strip region x k zero = []
 bits_in_rows s strip region x k (suc n) = bits_in_row region x (row_of s strip k) ++ bits_in_rows s strip region x (k + 1) n
 
--- The bits of a row of four that is in the region, if its bit of `rows` is set: `i` counts the rows in the direction in
--- which they are filled, and the lowest bits of `rows`, `right` and `left` are for the topmost row.
-abbrev pub bits_in_one : Bool → (rows right left : ℕ) → ℕ → List Bool
-bits_in_one upward rows right left i =
-    bit_if (has_bit rows (if upward then 3 - i else i)) (has_bit right (if upward then 3 - i else i))
-    ++ bit_if (has_bit rows (if upward then 3 - i else i)) (has_bit left (if upward then 3 - i else i))
-
--- The bits of all four rows.
-abbrev pub bits_in_four : Bool → (rows right left : ℕ) → List Bool
-bits_in_four upward rows right left =
-    bits_in_one upward rows right left 0 ++ (bits_in_one upward rows right left 1 ++ (bits_in_one upward rows right left 2 ++ (bits_in_one upward rows right left 3 ++ [])))
+-- All modules of the `n` rows of the strip from row `k` on are in the region.
+abbrev pub AreWholeRows : ℕ → Strip → ℕ → ℕ → Columns → Type 0
+AreWholeRows s strip k n region = (j : ℕ) → k ≤ j → j < k + n
+    → (has region.right (row_of s strip j) ≡ true) × (has region.left (row_of s strip j) ≡ true)
 
 -- The colour of module `m` of the symbol, where `g` is its transposed square.
 abbrev pub colour_across : Grid → Module → Bool

@@ -1,25 +1,24 @@
-use Rattle.{qr_bits.proofs.Facts.bool_byte-bit, qr_layout.specs.Version.side_of}
-use Rattle.qr_symbol.proofs.lemmas.{collecting.CollectingLemmas.{rows-read, strip-bits}, placement.AcrossLemmas.region-across}
-use Rattle.qr_symbol.specs.Steps.Collecting.{bits_in_rows, Appends}
-use Rattle.std.proofs.Common.{◌+◌, ◌-◌, ◌*◌, ◌≤◌, ◌∙◌, subst, arith}
+use Rattle.qr_layout.specs.{Version.side_of}
+use Rattle.qr_symbol.proofs.lemmas.{collecting.CollectingLemmas.strip-bits, placement.AcrossLemmas.region-across}
+use Rattle.qr_symbol.proofs.collecting.collect_strip.Goals.{After-columns_of-within}
+use Rattle.qr_symbol.specs.Steps.Collecting.{bits_in_rows, colour_across, Appends, Bits}
+use Rattle.qr_layout.specs.{Order.in_region_of, Strips.{both_of, rows_from}}
+use Rattle.std.proofs.Common.{◌≡◌, ◌∙◌, Bool, map, sym, subst, arith}
 use Rattle.qr_symbol.proofs.collecting.collect_strip.Goals as goal
 
-pub loop-group-init : goal.loop-group-init
-loop-group-init c = record {
-  bits = subst (λ z. Appends (bits_in_rows (side_of c.args.v) c.args.strip c.columns_of-within.result c.columns_of-columns.result 0 z) c.args.bits.now c.collect_rows.new.bits) (omega arith) c.collect_rows.ensures;
-}
-
-pub loop-group-preserved : goal.loop-group-preserved
-loop-group-preserved c = let k = c.from-before.result + 4 * c.loop-group.group in record {
-  bits = rows-read (side_of c.args.v) c.args.strip c.columns_of-within.result c.columns_of-columns.result 0 k 4 k (c.from-before.result + 4 * (c.loop-group.group + 1)) c.args.bits.now c.loop-group.bits c.collect_four.new.bits (omega arith) (omega arith) c.loop-group.invariant.bits c.collect_four.ensures;
-}
-
-pub returns : goal.returns
-returns c =
+-- the bits of the columns, read in the direction of the strip, are those of the strip
+strip : (c : After-columns_of-within) (up : Bool) (b : Bits) → up ≡ c.args.strip.upward
+    → Appends (bits_in_rows (side_of c.args.v) (record { right = c.args.strip.right; upward = up }) c.columns_of-within.result c.columns_of-columns.result 0 (side_of c.args.v)) c.args.bits.now b
+    → Appends (map (colour_across c.args.across.now) (in_region_of c.args.v (both_of (rows_from (side_of c.args.v) c.args.strip 0 (side_of c.args.v))))) c.args.bits.now b
+strip c up b e read =
     let s = side_of c.args.v in let x = c.args.strip in
-    let b = c.from-before.result in let k = b + 4 * c.loop-group.group in
-    let small : b ≤ 1 = omega (arith, c.from-before.ensures, (bool_byte-bit x.upward).0) in
     let w = c.columns_of-within in let y = c.columns_of-columns in
-    subst (λ z. Appends z c.args.bits.now c.collect_rows-2.new.bits)
+    subst (λ z. Appends z c.args.bits.now b)
     (strip-bits c.args.v s c.args.across.now x w.result y.result 0 s (omega arith) (λ row l. w.ensures.right row ∙ region-across _ _ row _ c.requires.region l c.requires.right_in) (λ row l. w.ensures.left row ∙ region-across _ _ row _ c.requires.region l (omega (arith, c.requires.right_in))) y.ensures.right y.ensures.left)
-    (rows-read s x w.result y.result 0 k (1 - b) (b + (c.side-last.result - 1)) s c.args.bits.now c.loop-group.bits c.collect_rows-2.new.bits (omega (arith, c.side-last.ensures.value)) (omega arith) c.loop-group.invariant.bits c.collect_rows-2.ensures)
+    (subst (λ z. Appends (bits_in_rows s (record { right = x.right; upward = z }) w.result y.result 0 s) c.args.bits.now b) e read)
+
+pub returns-then-upward : goal.returns-then-upward
+returns-then-upward c = strip (goal.at.returns-then-upward c).After-columns_of-within _ c.collect_columns.new.bits (sym c.if-upward.true) c.collect_columns.ensures
+
+pub returns-else-upward : goal.returns-else-upward
+returns-else-upward c = strip (goal.at.returns-else-upward c).After-columns_of-within _ c.collect_columns-else-upward.new.bits (sym c.if-upward.false) c.collect_columns-else-upward.ensures

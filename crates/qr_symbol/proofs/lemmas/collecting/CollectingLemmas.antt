@@ -34,7 +34,7 @@ push-fits true xs ys x e a l = rw e (All-push (λ z. z < 256) xs x a l)
 push-fits false xs ys x e a l = rw e a
 
 -- bits and then further bits are added
-both-added : (a b c : Bits) (more further all : List Bool) → all ≡ more ++ further → Appends more a b → Appends further b c → Appends all a c
+pub both-added : (a b c : Bits) (more further all : List Bool) → all ≡ more ++ further → Appends more a b → Appends further b c → Appends all a c
 both-added a b c more further all e p q xs i = subst (λ zs. HasCollected zs c) (append_assoc xs more further ∙ ap (λ zs. xs ++ zs) (sym e)) (q _ (p xs i))
 
 -- after n rows, m more rows are read
@@ -47,9 +47,18 @@ pub row-read : (s : ℕ) (x : Strip) (r y : Columns) (k row : ℕ) (a b c : Bits
     → Appends (bits_in_rows s x r y k 1) a c
 row-read s x r y k row a b c e p q = both-added a b c _ _ _ (rw (← e) (append-nil _)) p q
 
--- no row is read
-pub none-read : (s : ℕ) (x : Strip) (r y : Columns) (k n : ℕ) (a : Bits) → n ≡ 0 → Appends (bits_in_rows s x r y k n) a a
-none-read s x r y k n a e xs i = rw (e, append-nil) i
+-- rows outside the region have no bits
+outside-bits : (s : ℕ) (x : Strip) (r y : Columns) (k n : ℕ)
+    → ((j : ℕ) → k ≤ j → j < k + n → (has r.right (row_of s x j) ≡ false) × (has r.left (row_of s x j) ≡ false)) → bits_in_rows s x r y k n ≡ []
+outside-bits s x r y k zero out = refl
+outside-bits s x r y k (suc n) out =
+    let here = out k (omega arith) (omega arith) in
+    rw (here.0, here.1) (outside-bits s x r y (k + 1) n (λ j a b. out j (omega arith) (omega arith)))
+
+-- they are read if nothing is done
+pub outside-read : (s : ℕ) (x : Strip) (r y : Columns) (k n : ℕ) (a : Bits)
+    → ((j : ℕ) → k ≤ j → j < k + n → (has r.right (row_of s x j) ≡ false) × (has r.left (row_of s x j) ≡ false)) → Appends (bits_in_rows s x r y k n) a a
+outside-read s x r y k n a out xs i = rw (outside-bits s x r y k n out, append-nil) i
 
 -- the bits of a place and of further places
 kept-bit : (t : Bool) (f : Module → Bool) (m : Module) (ms : List Module) → map f (cond t (m ∷ ms) ms) ≡ bit_if t (f m) ++ map f ms

@@ -1,6 +1,6 @@
 -- Further bits after the bits of a number.
-use Rattle.std.proofs.Common.{◌≡◌, ℕ, zero, suc, ◌+◌, ◌*◌, ◌/◌, ◌%◌, ◌^◌, ◌<◌, ◌≤◌, ◌==◌, List, [], ◌∷◌, ◌++◌, refl, sym, ◌∙◌, ap, append_assoc, append-nil, arith}
-use Rattle.std.proofs.{lemmas.{Bool.Decides.nat_tests, Nat.{div_below, pow_pos, shr_split}}, Math.Nat.{mod-eq_of_lt, mod-lt, pow-le-pow_right, pow-suc}}
+use Rattle.std.proofs.Common.{◌≡◌, ℕ, zero, suc, ◌+◌, ◌-◌, ◌*◌, ◌/◌, ◌%◌, ◌^◌, ◌<◌, ◌≤◌, ◌==◌, List, [], ◌∷◌, ◌++◌, refl, sym, ◌∙◌, ap, append_assoc, append-nil, arith}
+use Rattle.std.proofs.{lemmas.{Bool.Decides.nat_tests, Nat.{div_below, pow_pos, shr-shr, shr_split}}, Math.Nat.{mod-eq_of_lt, mod-lt, pow-le-pow_right, pow-suc}}
 use Rattle.qr_bits.{proofs.Facts.field-more, specs.Bits.{bits_of, field}}
 use mir.Val.{bool_byte}
 
@@ -54,6 +54,20 @@ field-join a (suc b) q r h =
     ∙ (ap (λ z. z ++ bit ∷ []) (field-join a b q (r / 2) small) ∙ (append_assoc (field a q) (field b (r / 2)) (bit ∷ [])
     ∙ ap (λ z. field a q ++ z) (sym (ap (λ z. field z r) one ∙ (ap (λ z. field (b + 1) z) m ∙ field-more [] b (r / 2) (r % 2) bit (odd-bit r))))))))
 
+-- the bits of a number are those before its last b bits, followed by these
+pub field-cut : (a b n : ℕ) → field (a + b) n ≡ field a (n / 2 ^ b) ++ field b (n % 2 ^ b)
+field-cut a b n = ap (λ z. field (a + b) z) (sym (shr_split n b)) ∙ field-join a b (n / 2 ^ b) (n % 2 ^ b) (mod-lt n (pow_pos b))
+
+-- the same, where i bits of c are left
+pub field-left : (c i n : ℕ) → i ≤ c → field c n ≡ field (c - i) (n / 2 ^ i) ++ field i (n % 2 ^ i)
+field-left c i n l = let e : c ≡ c - i + i = omega arith in ap (λ z. field z n) e ∙ field-cut (c - i) i n
+
+-- of c bits, those before the last i are those before the eight bits that come before these, followed by these eight
+pub field-byte : (c i n : ℕ) → i + 8 ≤ c → field (c - i) (n / 2 ^ i) ≡ field (c - (i + 8)) (n / 2 ^ (i + 8)) ++ field 8 (n / 2 ^ i % 256)
+field-byte c i n l =
+    let e : c - i ≡ c - (i + 8) + 8 = omega arith in
+    ap (λ z. field z (n / 2 ^ i)) e ∙ (field-cut (c - (i + 8)) 8 (n / 2 ^ i) ∙ ap (λ z. field (c - (i + 8)) z ++ field 8 (n / 2 ^ i % 256)) (shr-shr n i 8))
+
 -- one more byte
 bits-push : (xs : List ℕ) (q : ℕ) → bits_of (xs ++ q ∷ []) ≡ bits_of xs ++ field 8 q
 unfolding bits_of
@@ -69,5 +83,5 @@ pub byte-joined : (xs : List ℕ) (w c r b k n : ℕ) → b < 2 ^ c → w + c �
     → bits_of (xs ++ n / 2 ^ k ∷ []) ++ field k (n % 2 ^ k) ≡ (bits_of xs ++ field w r) ++ field c b
 byte-joined xs w c r b k n l e m =
     ap (λ z. z ++ field k (n % 2 ^ k)) (bits-push xs (n / 2 ^ k)) ∙ (append_assoc (bits_of xs) (field 8 (n / 2 ^ k)) (field k (n % 2 ^ k))
-    ∙ (ap (λ z. bits_of xs ++ z) (sym (field-join 8 k (n / 2 ^ k) (n % 2 ^ k) (mod-lt n (pow_pos k))) ∙ (ap (λ z. field (8 + k) z) (shr_split n k) ∙ (ap (λ z. field z n) (sym e) ∙ ap (λ z. field (w + c) z) m)))
+    ∙ (ap (λ z. bits_of xs ++ z) (sym (field-cut 8 k n) ∙ (ap (λ z. field z n) (sym e) ∙ ap (λ z. field (w + c) z) m))
     ∙ bits-joined xs w c r b l))

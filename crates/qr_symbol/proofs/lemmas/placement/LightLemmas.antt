@@ -34,7 +34,7 @@ kept-within {v} {x = x} d within row l =
 -- ---- rows that are drawn at once
 
 -- row m of n rows, by its index from the top
-run-row : (x : Strip) (s k n m : ℕ) → k + n ≤ s → m < n
+pub run-row : (x : Strip) (s k n m : ℕ) → k + n ≤ s → m < n
     → (row_of s x (k + m) ≡ top_row s x k n + rank_in n x.upward m) × (rank_in n x.upward m < n) × (rank_in n x.upward (rank_in n x.upward m) ≡ m)
 run-row x s k n m room l = (grind (arith, nat_tests), grind (arith, nat_tests), grind (arith, nat_tests))
 
@@ -93,30 +93,44 @@ neither : (p q : Bool) → not (p || q) ≡ true → (p ≡ false) × (q ≡ fal
 neither p q e = (grind (arith, nat_tests), grind (arith, nat_tests))
 
 -- rows of which both modules are in the region
+pub rows-both : (s : ℕ) (x : Strip) (k n : ℕ) (region : Columns) (both : ℕ → Bool)
+    → ((row : ℕ) → both row ≡ (has region.right row && has region.left row))
+    → ((j : ℕ) → k ≤ j → j < k + n → both (row_of s x j) ≡ true)
+    → (j : ℕ) → k ≤ j → j < k + n → (has region.right (row_of s x j) ≡ true) × (has region.left (row_of s x j) ≡ true)
+rows-both s x k n region both b set j l m =
+    let row = row_of s x j in let t = sym (b row) ∙ set j l m in
+    (&&-left (has region.right row) (has region.left row) t, &&-right (has region.right row) (has region.left row) t)
+
 pub rows-whole : (v : ℕ) (x : Strip) (k n : ℕ) (region : Columns) (both : ℕ → Bool) → k + n ≤ side_of v → IsRegion v x.right region
     → ((row : ℕ) → both row ≡ (has region.right row && has region.left row))
     → ((j : ℕ) → k ≤ j → j < k + n → both (row_of (side_of v) x j) ≡ true) → AreWhole v x k n
 rows-whole v x k n region both room is b set j l m =
-    let row = row_of (side_of v) x j in let t = sym (b row) ∙ set j l m in
-    let r = is row (row-small x (side_of v) j (omega arith)).0 in
-    (sym r.0 ∙ &&-left (has region.right row) (has region.left row) t, sym r.1 ∙ &&-right (has region.right row) (has region.left row) t)
+    let t = rows-both (side_of v) x k n region both b set j l m in let r = is (row_of (side_of v) x j) (row-small x (side_of v) j (omega arith)).0 in
+    (sym r.0 ∙ t.0, sym r.1 ∙ t.1)
 
 -- these rows are light, if the region is
 pub rows-light : (s : ℕ) (x : Strip) (k n : ℕ) (region y : Columns) (both : ℕ → Bool) → k + n ≤ s
     → ((row : ℕ) → both row ≡ (has region.right row && has region.left row))
     → ((j : ℕ) → k ≤ j → j < k + n → both (row_of s x j) ≡ true) → AreLight s x k region y → AreLightRows s x k n y
 rows-light s x k n region y both room b set light j l m =
-    let row = row_of s x j in let t = sym (b row) ∙ set j l m in let r = light j l (omega arith) in
-    (not-dark (has region.right row) (has y.right row) (&&-left (has region.right row) (has region.left row) t) r.0, not-dark (has region.left row) (has y.left row) (&&-right (has region.right row) (has region.left row) t) r.1)
+    let row = row_of s x j in let t = rows-both s x k n region both b set j l m in let r = light j l (omega arith) in
+    (not-dark (has region.right row) (has y.right row) t.0 r.0, not-dark (has region.left row) (has y.left row) t.1 r.1)
 
 -- rows of which no module is in the region
+pub rows-neither : (s : ℕ) (x : Strip) (k n : ℕ) (region : Columns) (outside : ℕ → Bool) → k + n ≤ s → s ≤ 177
+    → ((row : ℕ) → row < 192 → outside row ≡ not (has region.right row || has region.left row))
+    → ((j : ℕ) → k ≤ j → j < k + n → outside (row_of s x j) ≡ true)
+    → (j : ℕ) → k ≤ j → j < k + n → (has region.right (row_of s x j) ≡ false) × (has region.left (row_of s x j) ≡ false)
+rows-neither s x k n region outside room most b set j l m =
+    let row = row_of s x j in let small = (row-small x s j (omega arith)).0 in
+    neither (has region.right row) (has region.left row) (sym (b row (omega arith)) ∙ set j l m)
+
 pub rows-outside : (v : ℕ) (x : Strip) (k n : ℕ) (region : Columns) (outside : ℕ → Bool) → k + n ≤ side_of v → side_of v ≤ 177 → IsRegion v x.right region
     → ((row : ℕ) → row < 192 → outside row ≡ not (has region.right row || has region.left row))
     → ((j : ℕ) → k ≤ j → j < k + n → outside (row_of (side_of v) x j) ≡ true)
     → (j : ℕ) → k ≤ j → j < k + n → (is_in_region v (row_of (side_of v) x j) x.right ≡ false) × (is_in_region v (row_of (side_of v) x j) (x.right - 1) ≡ false)
 rows-outside v x k n region outside room most is b set j l m =
-    let row = row_of (side_of v) x j in let small = (row-small x (side_of v) j (omega arith)).0 in
-    let t = neither (has region.right row) (has region.left row) (sym (b row (omega arith)) ∙ set j l m) in let r = is row small in
+    let t = rows-neither (side_of v) x k n region outside room most b set j l m in let r = is (row_of (side_of v) x j) (row-small x (side_of v) j (omega arith)).0 in
     (sym r.0 ∙ t.0, sym r.1 ∙ t.1)
 
 -- if no module of m rows is in the region, these rows take no bits

@@ -58,36 +58,39 @@ exchanged-bit n s m i e l =
 
 -- ---- the two halves
 
--- the places from which bit i comes, back through the five exchanges
-abbrev after4 : ℕ → ℕ
-after4 i = partner 16 0xFFFF0000 i
-
-abbrev after3 : ℕ → ℕ
-after3 i = partner 8 0xFF000000FF00 (after4 i)
-
-abbrev after2 : ℕ → ℕ
-after2 i = partner 4 0xF000F000F000F0 (after3 i)
-
-abbrev after1 : ℕ → ℕ
-after1 i = partner 2 0xC0C0C0C0C0C0C0C (after2 i)
-
-abbrev source : ℕ → ℕ
-source i = partner 1 0x2222222222222222 (after1 i)
-
--- the test that these are places in the word, and that the bit comes from its place in the pairs
-is-unshuffled : ℕ → Bool
-is-unshuffled i = (ltb (after4 i) 64 && ltb (after3 i) 64) && ((ltb (after2 i) 64 && ltb (after1 i) 64) && eqb (source i) (2 * (i % 32) + i / 32))
-
--- each place passes the test, computed
-all-unshuffled : all_below 64 is-unshuffled ≡ true
-unfolding is-unshuffled has_bit
-all-unshuffled = refl
-
 is-below : (a b : ℕ) → ltb a b ≡ true → a < b
 is-below a b e = grind (arith, nat_tests)
 
 is-number : (a b : ℕ) → eqb a b ≡ true → a ≡ b
 is-number a b e = grind (arith, nat_tests)
+
+-- the test that a bit, back through five exchanges, comes from places in the word, and in the end from the place `from i`
+is-moved : (p q r s t from : ℕ → ℕ) → ℕ → Bool
+is-moved p q r s t from i = (ltb (t i) 64 && ltb (s (t i)) 64) && ((ltb (r (s (t i))) 64 && ltb (q (r (s (t i)))) 64) && eqb (p (q (r (s (t i))))) (from i))
+
+-- five exchanges bring each bit from this place, if all bits pass the test
+moved-bit : (p q r s t from : ℕ → ℕ) (a b c d e f : ℕ) → all_below 64 (is-moved p q r s t from) ≡ true
+    → ((i : ℕ) → i < 64 → has_bit b i ≡ has_bit a (p i))
+    → ((i : ℕ) → i < 64 → has_bit c i ≡ has_bit b (q i))
+    → ((i : ℕ) → i < 64 → has_bit d i ≡ has_bit c (r i))
+    → ((i : ℕ) → i < 64 → has_bit e i ≡ has_bit d (s i))
+    → ((i : ℕ) → i < 64 → has_bit f i ≡ has_bit e (t i))
+    → (i : ℕ) → i < 64 → has_bit f i ≡ has_bit a (from i)
+unfolding is-moved
+moved-bit p q r s t from a b c d e f all k l m n o i small =
+    let test = below-at 64 (is-moved p q r s t from) all i small in
+    let first = &&-left _ _ test in let later = &&-right _ _ test in
+    let second = &&-left _ _ later in
+    o i small ∙ (n (t i) (is-below _ _ (&&-left _ _ first)) ∙ (m (s (t i)) (is-below _ _ (&&-right _ _ first)) ∙ (l (r (s (t i))) (is-below _ _ (&&-left _ _ second)) ∙ (k (q (r (s (t i)))) (is-below _ _ (&&-right _ _ second)) ∙ ap (has_bit a) (is-number _ _ (&&-right _ _ later))))))
+
+-- each bit passes the test, computed
+all-unshuffled : all_below 64 (is-moved (partner 1 0x2222222222222222) (partner 2 0xC0C0C0C0C0C0C0C) (partner 4 0xF000F000F000F0) (partner 8 0xFF000000FF00) (partner 16 0xFFFF0000) (λ i. 2 * (i % 32) + i / 32)) ≡ true
+unfolding is-moved has_bit
+all-unshuffled = refl
+
+all-shuffled : all_below 64 (is-moved (partner 16 0xFFFF0000) (partner 8 0xFF000000FF00) (partner 4 0xF000F000F000F0) (partner 2 0xC0C0C0C0C0C0C0C) (partner 1 0x2222222222222222) (λ i. 32 * (i % 2) + i / 2)) ≡ true
+unfolding is-moved has_bit
+all-shuffled = refl
 
 -- five exchanges divide the bits between the two halves
 pub unshuffled-bit : (a b c d e f : ℕ)
@@ -97,12 +100,17 @@ pub unshuffled-bit : (a b c d e f : ℕ)
     → ((i : ℕ) → i < 64 → has_bit e i ≡ has_bit d (partner 8 0xFF000000FF00 i))
     → ((i : ℕ) → i < 64 → has_bit f i ≡ has_bit e (partner 16 0xFFFF0000 i))
     → (i : ℕ) → i < 64 → has_bit f i ≡ has_bit a (2 * (i % 32) + i / 32)
-unfolding is-unshuffled
-unshuffled-bit a b c d e f p q r s t i l =
-    let test = below-at 64 is-unshuffled all-unshuffled i l in
-    let first = &&-left _ _ test in let later = &&-right _ _ test in
-    let second = &&-left _ _ later in
-    t i l ∙ (s (after4 i) (is-below _ _ (&&-left _ _ first)) ∙ (r (after3 i) (is-below _ _ (&&-right _ _ first)) ∙ (q (after2 i) (is-below _ _ (&&-left _ _ second)) ∙ (p (after1 i) (is-below _ _ (&&-right _ _ second)) ∙ ap (has_bit a) (is-number _ _ (&&-right _ _ later))))))
+unshuffled-bit a b c d e f p q r s t = moved-bit (partner 1 0x2222222222222222) (partner 2 0xC0C0C0C0C0C0C0C) (partner 4 0xF000F000F000F0) (partner 8 0xFF000000FF00) (partner 16 0xFFFF0000) (λ i. 2 * (i % 32) + i / 32) a b c d e f all-unshuffled p q r s t
+
+-- the same exchanges in the opposite order bring them back
+pub shuffled-bit : (a b c d e f : ℕ)
+    → ((i : ℕ) → i < 64 → has_bit b i ≡ has_bit a (partner 16 0xFFFF0000 i))
+    → ((i : ℕ) → i < 64 → has_bit c i ≡ has_bit b (partner 8 0xFF000000FF00 i))
+    → ((i : ℕ) → i < 64 → has_bit d i ≡ has_bit c (partner 4 0xF000F000F000F0 i))
+    → ((i : ℕ) → i < 64 → has_bit e i ≡ has_bit d (partner 2 0xC0C0C0C0C0C0C0C i))
+    → ((i : ℕ) → i < 64 → has_bit f i ≡ has_bit e (partner 1 0x2222222222222222 i))
+    → (i : ℕ) → i < 64 → has_bit f i ≡ has_bit a (32 * (i % 2) + i / 2)
+shuffled-bit a b c d e f p q r s t = moved-bit (partner 16 0xFFFF0000) (partner 8 0xFF000000FF00) (partner 4 0xF000F000F000F0) (partner 2 0xC0C0C0C0C0C0C0C) (partner 1 0x2222222222222222) (λ i. 32 * (i % 2) + i / 2) a b c d e f all-shuffled p q r s t
 
 -- ---- bits in the other order
 
