@@ -3,7 +3,7 @@ pub use Rattle.qr_layout.proofs.Facts.{Mem-of-Contains}
 pub use Rattle.qr_symbol.proofs.lemmas.interleaving.CheckLemmas.{check-len, checks-push, map-each}
 pub use Rattle.qr_symbol.proofs.lemmas.laws.DistanceLemmas.{messages-apart, parts-same}
 pub use Rattle.qr_symbol.proofs.lemmas.reading.FormatLemmas.{format-read, level-one, level-small}
-pub use Rattle.qr_symbol.proofs.lemmas.interleaving.GatherLemmas.{gather-some, positions-many}
+pub use Rattle.qr_symbol.proofs.lemmas.interleaving.OrderLemmas.{gather-some, positions-many}
 pub use Rattle.qr_symbol.proofs.lemmas.joining.JoiningLemmas.{joined-refused, joining-one, readings-next, readings-none, unjoined-next, unjoined-one}
 pub use Rattle.qr_symbol.proofs.lemmas.interleaving.MessageLemmas.{checks-one, sizes-whole, data-sizes-whole, final-one, ok-also}
 pub use Rattle.qr_symbol.proofs.lemmas.interleaving.RankLemmas.{map-at, position-of, positions-one}

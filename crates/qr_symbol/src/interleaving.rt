@@ -7,7 +7,7 @@ ghost use Rattle.qr_layout.specs.Blocks.{data_codewords_of};
 ghost use Rattle.qr_layout.specs.Version.{total_codewords_of};
 ghost use Rattle.qr_symbol.specs.declared.fault.ReadFault.{ReadFault};
 ghost use Rattle.qr_symbol.specs.Interleaving.{block_count, block_len, start_of, codeword_count, data_sizes, correction_sizes, IsFinalMessage, IsGathered, IsInterleaved, part_of};
-ghost use Rattle.qr_symbol.specs.Steps.Interleaving.{AppendsInterleaved, IsChecks};
+ghost use Rattle.qr_symbol.specs.Steps.Interleaving.{IsChecks};
 
 use crate::fault::ReadFault;
 use qr_field::Divisor;
@@ -95,31 +95,32 @@ impl BlockSizes {
         ensures { IfOk result (λ d. IsGathered self codewords.now d.items) }
     {
         let mut gathered = vec![in alloc; 0u8; self.start(self.count())]?;
-        deinterleave_into(&mut gathered, self, codewords);
+        deinterleave_into(gathered.as_mut_slice(), self, codewords);
         Ok(gathered)
     }
 }
 
-fn interleave_into(
-    interleaved: &mut Vec<u8>,
-    sizes: BlockSizes,
-    codewords: &[u8],
-) -> Result<(), AllocError>
-    requires { length codewords.now ≡ codeword_count sizes }
-    ensures { IfOk result (λ _. AppendsInterleaved sizes codewords.now interleaved.old.items interleaved.new.items) }
+// Puts the codewords of all blocks in interleaved order, block by block. Those of a block are as far apart as there are
+// blocks, but for the last of a long block.
+fn interleave_into(interleaved: &mut [u8], sizes: BlockSizes, codewords: &[u8])
+    requires room { length interleaved.old ≡ codeword_count sizes }
+    requires whole { length codewords.now ≡ codeword_count sizes }
+    ensures long { length interleaved.new ≡ codeword_count sizes }
+    ensures gathered { IsGathered sizes interleaved.new codewords.now }
 {
     let blocks = sizes.count();
-    for place in 0..usize::from(sizes.short_len) + 1 {
-        let mut at = place;
-        for block in 0..blocks {
-            let len = sizes.len(block);
-            if place < len {
-                interleaved.push(codewords[at])?;
-            }
-            at += len;
+    let short = usize::from(sizes.short);
+    let short_len = usize::from(sizes.short_len);
+    for block in 0..blocks {
+        let start = sizes.start(block);
+        for place in 0..short_len {
+            interleaved[blocks * place + block] = codewords[start + place];
+        }
+        if block >= short {
+            let rank = short_len * blocks + (block - short);
+            interleaved[rank] = codewords[start + short_len];
         }
     }
-    Ok(())
 }
 
 fn corrections(alloc: Global, blocks: Blocks, message: &[u8]) -> Result<Vec<u8>, AllocError>
@@ -146,13 +147,10 @@ fn interleave_blocks(alloc: Global, blocks: Blocks, message: &[u8]) -> Result<Ve
     ensures { IfOk result (λ cw. IsFinalMessage blocks message.now cw.items) }
 {
     let corrections = corrections(alloc, blocks, message)?;
-    let mut interleaved = Vec::with_capacity(alloc, message.len() + corrections.len())?;
-    interleave_into(&mut interleaved, BlockSizes::of_data(blocks), message)?;
-    interleave_into(
-        &mut interleaved,
-        BlockSizes::of_corrections(blocks),
-        &corrections,
-    )?;
+    let mut interleaved = vec![in alloc; 0u8; message.len() + corrections.len()]?;
+    let (data, checks) = interleaved.split_at_mut(message.len());
+    interleave_into(data, BlockSizes::of_data(blocks), message);
+    interleave_into(checks, BlockSizes::of_corrections(blocks), &corrections);
     Ok(interleaved)
 }
 
@@ -175,19 +173,23 @@ pub fn interleave(
     interleave_blocks(alloc, version.blocks(level), message)
 }
 
-fn deinterleave_into(message: &mut Vec<u8>, sizes: BlockSizes, codewords: &[u8])
-    requires room { length message.old.items ≡ codeword_count sizes }
+// Undoes `interleave_into`.
+fn deinterleave_into(message: &mut [u8], sizes: BlockSizes, codewords: &[u8])
+    requires room { length message.old ≡ codeword_count sizes }
     requires interleaved { codeword_count sizes ≤ length codewords.now }
-    ensures { IsGathered sizes codewords.now message.new.items }
+    ensures { IsGathered sizes codewords.now message.new }
 {
     let blocks = sizes.count();
-    let mut next = 0;
-    for place in 0..usize::from(sizes.short_len) + 1 {
-        for block in 0..blocks {
-            if place < sizes.len(block) {
-                message[sizes.start(block) + place] = codewords[next];
-                next += 1;
-            }
+    let short = usize::from(sizes.short);
+    let short_len = usize::from(sizes.short_len);
+    for block in 0..blocks {
+        let start = sizes.start(block);
+        for place in 0..short_len {
+            message[start + place] = codewords[blocks * place + block];
+        }
+        if block >= short {
+            let rank = short_len * blocks + (block - short);
+            message[start + short_len] = codewords[rank];
         }
     }
 }

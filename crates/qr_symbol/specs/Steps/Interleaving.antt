@@ -1,15 +1,9 @@
--- What a list contains after each step of interleaving.
-use Rattle.std.specs.Prelude.{◌≡◌, ℕ, ◌<◌, List, [], ◌++◌, map, length, slice_index_or}
+-- What a list contains after each block of error correction.
+use Rattle.std.specs.Prelude.{◌≡◌, ℕ, ◌<◌, List, [], length, slice_index_or}
 use Rattle.qr_field.specs.Polynomial.{IsCorrection}
 use Rattle.qr_layout.specs.declared.blocks.Blocks.{Blocks}
 use Rattle.qr_symbol.specs.declared.interleaving.BlockSizes.{BlockSizes}
-use Rattle.qr_symbol.specs.Interleaving.{Position, IsPosition, IsPositionOrder, start_of, correction_sizes, codeword_at, block_of, check_at}
-
--- The list `after` is `before` and then the codewords `d` of all blocks, interleaved; `c` are the block sizes.
-pub record AppendsInterleaved (c : BlockSizes) (d before after : List ℕ) : Type 0 where
-  pub positions : List Position
-  pub order : IsPositionOrder c positions
-  pub interleaved : after ≡ before ++ map (codeword_at c d) positions
+use Rattle.qr_symbol.specs.Interleaving.{Position, IsPosition, start_of, correction_sizes, codeword_at, block_of, check_at}
 
 -- The error correction codewords of the first `blocks` blocks, one block after the other, for the data codewords `d`.
 pub record IsChecks (b : Blocks) (d : List ℕ) (blocks : ℕ) (xs : List ℕ) : Type 0 where

@@ -1,41 +1,43 @@
-use Rattle.{std.proofs.Common.{ℕ, ◌+◌, Vec, Global, sym, ap, subst, arith}, qr_symbol.specs.Interleaving.IsPosition}
-use Rattle.qr_symbol.proofs.lemmas.interleaving.{PositionLemmas.{position, position-in}, RankLemmas.rank-in}
-use Rattle.qr_symbol.proofs.lemmas.interleaving.GatherLemmas.{GatheredBefore, gather-push, gather-pass, gather-row, gather-end}
+use Rattle.std.proofs.{Common.{◌≡◌, ℕ, ◌+◌, ◌*◌, ◌-◌, List, length, get_or, sym, ◌∙◌, ap, subst, arith}, lemmas.List.length-set}
+use Rattle.std.proofs.lemmas.Bool.{Decides.nat_tests}
+use Rattle.qr_symbol.specs.Interleaving.{block_count, start_of}
+use Rattle.qr_symbol.proofs.lemmas.interleaving.{OrderLemmas.{IsPlaced, placed-block, placed-end, placed-gathered}, PositionLemmas.{len-most, position-in}, RankLemmas.{in-row, in-last-row}}
+use Rattle.qr_symbol.proofs.interleaving.deinterleave_into.Goals.{then-block-short, else-block-short}
 use Rattle.qr_symbol.proofs.interleaving.deinterleave_into.Goals as goal
-use Rattle.qr_symbol.proofs.interleaving.deinterleave_into.Goals.{then-place-len, else-place-len}
 
-pub bounds-codewords-next : goal.bounds-codewords-next
-bounds-codewords-next c =
-    let k = rank-in c.args.sizes c.loop-place.place c.loop-block.block (omega arith, omega arith) in omega arith
+pub bounds-message-start : goal.bounds-message-start
+bounds-message-start c =
+    let w = in-row c.args.sizes c.loop-place.place c.loop-block.block (omega arith) (omega arith) in
+    let k = position-in c.args.sizes c.loop-place.place c.loop-block.block w.0 in omega (arith, k, c.start-start.ensures, c.loop-place.invariant.long)
+
+pub loop-place-preserved : goal.loop-place-preserved
+loop-place-preserved c =
+    let sizes = c.args.sizes in let p = c.loop-place.place in
+    let b = c.loop-block.block in let h = c.loop-place.invariant in let w = in-row sizes p b (omega arith) (omega arith) in
+    let rank = ap (λ (n : ℕ). n * p + b) c.count-blocks.ensures ∙ w.1 in record {
+      long = length-set c.loop-place.message _ _ ∙ h.long;
+      placed = placed-gathered sizes b p c.args.codewords.now c.loop-place.message _ _ h.long w.0 (ap (λ (z : ℕ). z + p) c.start-start.ensures) (ap (λ (z : ℕ). get_or c.args.codewords.now z 0) rank) h.placed;
+    }
 
 pub loop-block-preserved : goal.loop-block-preserved
 loop-block-preserved c =
-    let sizes = c.args.sizes in let interleaved = c.args.codewords.now in
-    let p = c.loop-place.place in let i = c.loop-block.block in
-    let xs = c.loop-block.message.items in record {
-      blocks = c.loop-block.invariant.blocks;
-      so_far = elim c.if-place-len.branch [
-        | then-place-len w ↦
-            let t : IsPosition sizes (position p i) = (omega arith, omega arith) in
-            subst (λ (n : ℕ). GatheredBefore sizes interleaved p (i + 1) c.if-place-len.message.items n) (sym w.next-is)
-            (gather-push _ _ xs _ p i _ _ c.requires.interleaved c.loop-block.invariant.so_far t (ap (λ (z : ℕ). z + p) w.start.ensures) (ap (λ (s : Vec ℕ Global). s.items) w.message-is))
-        | else-place-len w ↦
-            subst (λ (n : ℕ). GatheredBefore sizes interleaved p (i + 1) c.if-place-len.message.items n) (sym w.next-is)
-            (subst (λ (s : Vec ℕ Global). GatheredBefore sizes interleaved p (i + 1) s.items c.loop-block.next) (sym w.message-is)
-            (gather-pass _ _ xs p i _ (omega arith) (omega arith) c.loop-block.invariant.so_far (λ t. absurd (omega arith))))
+    let sizes = c.args.sizes in let b = c.loop-block.block in let h = c.loop-place.invariant in
+    let e : c.loop-place.place ≡ sizes.short_len = omega arith in
+    let all = subst (λ (p : ℕ). IsPlaced sizes b p c.args.codewords.now c.loop-place.message) e h.placed in record {
+      long = elim c.if-block-short.branch [
+        | then-block-short w ↦ ap length w.message-is ∙ (length-set c.loop-place.message _ _ ∙ h.long)
+        | else-block-short w ↦ ap length w.message-is ∙ h.long
+      ];
+      placed = elim c.if-block-short.branch [
+        | then-block-short w ↦
+            let v = in-last-row sizes b (omega arith) (omega arith) in
+            let rank : c.from-short_len.result * c.count-blocks.result + (b - c.from-short.result) ≡ sizes.short_len * block_count sizes + (b - sizes.short) = cc in
+            let at : c.start-start.result + c.from-short_len.result ≡ start_of sizes b + sizes.short_len = cc in
+            subst (λ (xs : List ℕ). IsPlaced sizes (b + 1) 0 c.args.codewords.now xs) (sym w.message-is) (placed-block sizes b (sizes.short_len + 1) _ _ (len-most sizes b) (placed-gathered sizes b sizes.short_len c.args.codewords.now _ _ _ h.long v.0 at (ap (λ (z : ℕ). get_or c.args.codewords.now z 0) (rank ∙ v.1)) all))
+        | else-block-short w ↦
+            subst (λ (xs : List ℕ). IsPlaced sizes (b + 1) 0 c.args.codewords.now xs) (sym w.message-is) (placed-block sizes b sizes.short_len _ _ (search (arith, nat_tests)) all)
       ];
     }
 
-pub loop-place-preserved : goal.loop-place-preserved
-loop-place-preserved c = record {
-  blocks = c.loop-block.invariant.blocks;
-  so_far = gather-row _ _ _ _ _ _ (omega arith) (omega arith) c.loop-block.invariant.so_far;
-}
-
 pub returns : goal.returns
-returns c = gather-end _ _ _ _ _ c.requires.interleaved (omega arith) c.loop-place.invariant.so_far
-
-pub index_mut-requires : goal.index_mut-requires
-index_mut-requires c =
-    let k = position-in c.args.sizes c.loop-place.place c.loop-block.block (omega arith, omega arith) in
-    omega (arith, k, c.start.ensures, c.loop-block.invariant.so_far.long)
+returns c = placed-end c.args.sizes c.loop-block.block c.args.codewords.now c.loop-block.message c.loop-block.invariant.long c.requires.interleaved (omega arith) c.loop-block.invariant.placed

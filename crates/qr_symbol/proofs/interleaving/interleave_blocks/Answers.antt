@@ -1,23 +1,13 @@
-use Rattle.std.proofs.{Common.{◌∙◌, ap, sym, arith}, lemmas.Result.IfOk-from_err}
-use Rattle.qr_symbol.{specs.Interleaving.codeword_count, proofs.lemmas.interleaving.CheckLemmas.both-interleaved}
+use Rattle.std.proofs.Common.{◌+◌, ◌≡◌, ◌++◌, length, length-append, sym, ◌∙◌, subst, arith}
+use Rattle.qr_symbol.specs.Interleaving.{IsFinalMessage}
+use Rattle.qr_symbol.proofs.lemmas.interleaving.{CheckLemmas.both-interleaved, MessageLemmas.take-front}
 use Rattle.qr_symbol.proofs.interleaving.interleave_blocks.Goals as goal
 
 pub returns : goal.returns
 returns c =
-    both-interleaved _ _ _ _ _ c.in_ok-corrections.ensures (rw (c.of_data.ensures, c.in_ok-interleaved.ensures.items) at c.in_ok-interleave_into.ensures)
-    (rw (c.of_corrections.ensures, c.deref.ensures.value) at c.in_ok-interleave_into-2.ensures)
-
-pub interleave_into-requires : goal.interleave_into-requires
-interleave_into-requires c = c.requires.whole ∙ ap codeword_count (sym c.of_data.ensures)
-
-pub interleave_into-requires-2 : goal.interleave_into-requires-2
-interleave_into-requires-2 c = rw (c.deref.ensures.value, c.of_corrections.ensures) (omega (arith, c.in_ok-corrections.ensures.long))
-
-pub returns-in_err-interleaved : goal.returns-in_err-interleaved
-returns-in_err-interleaved c = IfOk-from_err _ _ c.from_residual-in_err-interleaved.ensures.0
-
-pub returns-in_err-interleave_into : goal.returns-in_err-interleave_into
-returns-in_err-interleave_into c = IfOk-from_err _ _ c.from_residual-in_err-interleave_into.ensures.0
-
-pub returns-in_err-interleave_into-2 : goal.returns-in_err-interleave_into-2
-returns-in_err-interleave_into-2 c = IfOk-from_err _ _ c.from_residual-in_err-interleave_into-2.ensures.0
+    let first = rw c.of_data.ensures at c.interleave_into.ensures in
+    let checks = rw (c.of_corrections.ensures, c.deref.ensures.value) at c.interleave_into-2.ensures in
+    let all = c.interleave_into.new.interleaved ++ c.interleave_into-2.new.interleaved in
+    let len : length all ≡ c.in_ok-interleaved.interleaved.len = length-append c.interleave_into.new.interleaved c.interleave_into-2.new.interleaved ∙ omega (arith, first.long, checks.long, c.requires.whole, c.in_ok-corrections.ensures.long, c.in_ok-interleaved.ensures.len, c.len.ensures) in
+    subst (IsFinalMessage c.args.blocks c.args.message.now) (sym (take-front c.in_ok-interleaved.interleaved.len all _ len))
+    (both-interleaved _ _ _ _ _ c.in_ok-corrections.ensures first.long checks.long first.gathered checks.gathered)

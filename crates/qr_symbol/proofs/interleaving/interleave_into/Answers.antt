@@ -1,48 +1,38 @@
-use Rattle.std.proofs.Common.{ℕ, ◌+◌, [], ◌∷◌, ◌++◌, get_or, Vec, Global, refl, sym, ◌∙◌, ap, subst, arith}
-use Rattle.qr_symbol.specs.Interleaving.{IsPosition, block_count}
-use Rattle.qr_symbol.proofs.lemmas.interleaving.PositionLemmas.{InterleavedBefore, start-first, start-most, start-next, position, position-in, interleaved-push, interleaved-pass, interleaved-row, interleaved-end}
-use Rattle.qr_symbol.proofs.interleaving.interleave_into.Goals.{then-place-len+in_ok-push, else-place-len}
+use Rattle.std.proofs.{Common.{◌≡◌, ℕ, ◌+◌, ◌*◌, ◌-◌, List, length, get_or, sym, ◌∙◌, ap, subst, arith}, lemmas.List.length-set}
+use Rattle.std.proofs.lemmas.Bool.{Decides.nat_tests}
+use Rattle.qr_symbol.specs.Interleaving.{block_count, start_of}
+use Rattle.qr_symbol.proofs.lemmas.interleaving.{OrderLemmas.{IsPlaced, placed-block, placed-end, placed-interleaved}, PositionLemmas.len-most, RankLemmas.{in-row, in-last-row}}
+use Rattle.qr_symbol.proofs.interleaving.interleave_into.Goals.{then-block-short, else-block-short}
 use Rattle.qr_symbol.proofs.interleaving.interleave_into.Goals as goal
 
-pub bounds-codewords-at : goal.bounds-codewords-at
-bounds-codewords-at c =
-    let t : IsPosition c.args.sizes (position c.loop-place.place c.loop-block.block) = (omega arith, omega arith) in
-    omega (arith, position-in _ _ _ t, c.loop-block.invariant.at)
-
-pub overflow_add-at : goal.overflow_add-at
-overflow_add-at c =
-    omega (arith, (start-most c.args.sizes c.loop-block.block (block_count c.args.sizes) (omega arith)), c.loop-block.invariant.at, c.len-len.ensures.most)
-
-pub loop-block-init : goal.loop-block-init
-loop-block-init c = record {
-  blocks = c.loop-place.invariant.blocks;
-  at = start-first c.args.sizes _;
-  so_far = c.loop-place.invariant.so_far;
-}
+pub loop-place-preserved : goal.loop-place-preserved
+loop-place-preserved c =
+    let sizes = c.args.sizes in let p = c.loop-place.place in
+    let b = c.loop-block.block in let h = c.loop-place.invariant in let w = in-row sizes p b (omega arith) (omega arith) in
+    let rank = ap (λ (n : ℕ). n * p + b) c.count-blocks.ensures ∙ w.1 in record {
+      long = length-set c.loop-place.interleaved _ _ ∙ h.long;
+      placed = placed-interleaved sizes b p c.loop-place.interleaved c.args.codewords.now _ _ (omega (arith, h.long)) w.0 rank (ap (λ (z : ℕ). get_or c.args.codewords.now (z + p) 0) c.start-start.ensures) h.placed;
+    }
 
 pub loop-block-preserved : goal.loop-block-preserved
 loop-block-preserved c =
-    let sizes = c.args.sizes in let bytes = c.args.codewords.now in
-    let p = c.loop-place.place in let i = c.loop-block.block in
-    let place = c.loop-block.invariant.at in record {
-      blocks = c.loop-block.invariant.blocks;
-      at = omega (arith, start-next sizes i, place, c.len-len.ensures.value);
-      so_far = elim c.if-place-len.branch [
-        | then-place-len+in_ok-push w ↦
-            let t : IsPosition sizes (position p i) = (omega arith, omega arith) in
-            interleaved-push _ _ p i _ _ _ _ c.loop-block.invariant.so_far t refl
-            (ap (λ (s : Vec ℕ Global). s.items) w.interleaved-is ∙ (w.in_ok-push.ensures.items ∙ ap (λ (k : ℕ). c.loop-block.interleaved.items ++ get_or bytes k 0 ∷ []) place))
-        | else-place-len w ↦
-            subst (λ (s : Vec ℕ Global). InterleavedBefore sizes bytes p (i + 1) c.args.interleaved.now.items s.items) (sym w.interleaved-is)
-            (interleaved-pass _ _ p i _ _ c.loop-block.invariant.so_far (λ t. absurd (omega arith)))
+    let sizes = c.args.sizes in let b = c.loop-block.block in let h = c.loop-place.invariant in
+    let e : c.loop-place.place ≡ sizes.short_len = omega arith in
+    let all = subst (λ (p : ℕ). IsPlaced sizes b p c.loop-place.interleaved c.args.codewords.now) e h.placed in record {
+      long = elim c.if-block-short.branch [
+        | then-block-short w ↦ ap length w.interleaved-is ∙ (length-set c.loop-place.interleaved _ _ ∙ h.long)
+        | else-block-short w ↦ ap length w.interleaved-is ∙ h.long
+      ];
+      placed = elim c.if-block-short.branch [
+        | then-block-short w ↦
+            let v = in-last-row sizes b (omega arith) (omega arith) in
+            let rank : c.from-short_len.result * c.count-blocks.result + (b - c.from-short.result) ≡ sizes.short_len * block_count sizes + (b - sizes.short) = cc in
+            let at : get_or c.args.codewords.now (c.start-start.result + c.from-short_len.result) 0 ≡ get_or c.args.codewords.now (start_of sizes b + sizes.short_len) 0 = cc in
+            subst (λ (xs : List ℕ). IsPlaced sizes (b + 1) 0 xs c.args.codewords.now) (sym w.interleaved-is) (placed-block sizes b (sizes.short_len + 1) _ _ (len-most sizes b) (placed-interleaved sizes b sizes.short_len _ c.args.codewords.now _ _ (omega (arith, h.long)) v.0 (rank ∙ v.1) at all))
+        | else-block-short w ↦
+            subst (λ (xs : List ℕ). IsPlaced sizes (b + 1) 0 xs c.args.codewords.now) (sym w.interleaved-is) (placed-block sizes b sizes.short_len _ _ (search (arith, nat_tests)) all)
       ];
     }
 
-pub loop-place-preserved : goal.loop-place-preserved
-loop-place-preserved c = record {
-  blocks = c.loop-block.invariant.blocks;
-  so_far = interleaved-row _ _ _ _ _ _ (omega arith) c.loop-block.invariant.so_far;
-}
-
-pub returns : goal.returns
-returns c = interleaved-end _ _ _ _ _ (omega arith) c.loop-place.invariant.so_far
+pub returns-clause-gathered : goal.returns-clause-gathered
+returns-clause-gathered c = placed-end c.args.sizes c.loop-block.block c.loop-block.interleaved c.args.codewords.now c.requires.whole (omega (arith, c.loop-block.invariant.long)) (omega arith) c.loop-block.invariant.placed

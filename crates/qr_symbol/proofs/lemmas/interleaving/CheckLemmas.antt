@@ -1,11 +1,11 @@
 -- The error correction codewords of all blocks, block after block, and the whole final sequence.
 use Rattle.{qr_field.specs.Polynomial.IsCorrection, qr_layout.specs.declared.blocks.Blocks.Blocks, std.specs.List.All}
 use Rattle.qr_symbol.proofs.lemmas.interleaving.PositionLemmas.{start-next, start-most}
-use Rattle.qr_symbol.specs.Interleaving.{block_count, block_len, start_of, codeword_at, data_sizes, correction_sizes, block_of, part_of, IsFinalMessage}
-use Rattle.qr_symbol.specs.Steps.Interleaving.{AppendsInterleaved, IsChecks}
+use Rattle.qr_symbol.specs.Interleaving.{block_count, block_len, start_of, codeword_count, codeword_at, data_sizes, correction_sizes, block_of, part_of, IsFinalMessage, IsGathered}
+use Rattle.qr_symbol.specs.Steps.Interleaving.{IsChecks}
 use Rattle.qr_symbol.specs.declared.interleaving.BlockSizes.{BlockSizes}
-use Rattle.std.proofs.Common.{◌≡◌, ℕ, suc, ◌+◌, ◌-◌, ◌<◌, ◌≤◌, List, [], ◌∷◌, ◌++◌, map, length-append, get_or, refl, ◌∙◌, ap, inl, inr, arith}
-use Rattle.std.proofs.lemmas.{Bool.{cases_lt, Decides.nat_tests}, List.{get_or_append_left, get_or-append_right}}
+use Rattle.std.proofs.Common.{◌≡◌, ℕ, suc, ◌+◌, ◌-◌, ◌<◌, ◌≤◌, List, [], ◌∷◌, ◌++◌, map, length, length-append, get_or, refl, sym, ◌∙◌, ap, inl, inr, arith}
+use Rattle.std.proofs.lemmas.{Bool.{cases_lt, Decides.nat_tests}, List.{get_or_append_left, get_or-append_right, take_all}}
 
 -- each block has the same number of error correction codewords
 pub check-len : (b : Blocks) (k : ℕ) → k < block_count (data_sizes b) → block_len (correction_sizes b) k ≡ b.ec_len
@@ -33,9 +33,13 @@ pub map-each : {X Y : Type 0} (P : X → Type 0) (f g : X → Y) (xs : List X) �
 map-each P f g [] a e = refl
 map-each P f g (x ∷ xs) a e = λ i. (e x (a 0 x (omega arith))) i ∷ (map-each P f g xs (λ k d l. a (suc k) d (omega arith)) e) i
 
--- the data codewords and then the error correction codewords were appended
-pub both-interleaved : (b : Blocks) (d es first second : List ℕ) → IsChecks b d (block_count (data_sizes b)) es → AppendsInterleaved (data_sizes b) d [] first → AppendsInterleaved (correction_sizes b) es first second → IsFinalMessage b d second
-both-interleaved b d es first second h s t = record {
+-- a list is the codewords of all blocks in interleaved order
+interleaved-is : (c : BlockSizes) (xs interleaved : List ℕ) → length interleaved ≡ codeword_count c → (g : IsGathered c interleaved xs) → interleaved ≡ map (codeword_at c xs) g.positions
+interleaved-is c xs interleaved n g = sym (g.same ∙ take_all (codeword_count c) interleaved (omega arith))
+
+-- the data codewords and then the error correction codewords were interleaved
+pub both-interleaved : (b : Blocks) (d es first checks : List ℕ) → IsChecks b d (block_count (data_sizes b)) es → length first ≡ codeword_count (data_sizes b) → length checks ≡ codeword_count (correction_sizes b) → IsGathered (data_sizes b) first d → IsGathered (correction_sizes b) checks es → IsFinalMessage b d (first ++ checks)
+both-interleaved b d es first checks h m n s t = record {
   data_positions = s.positions;
   data_order = s.order;
   corrections = h.corrections;
@@ -43,7 +47,7 @@ both-interleaved b d es first second h s t = record {
   each = h.each;
   check_positions = t.positions;
   check_order = t.order;
-  whole = t.interleaved ∙ (ap (λ (xs : List ℕ). xs ++ map (codeword_at (correction_sizes b) es) t.positions) s.interleaved ∙ ap (λ (xs : List ℕ). map (codeword_at (data_sizes b) d) s.positions ++ xs) (map-each _ _ _ _ t.order.in_blocks (λ u i. h.same u (omega arith) i)));
+  whole = ap (λ (xs : List ℕ). xs ++ checks) (interleaved-is _ d first m s) ∙ ap (λ (xs : List ℕ). map (codeword_at (data_sizes b) d) s.positions ++ xs) (interleaved-is _ es checks n t ∙ map-each _ _ _ _ t.order.in_blocks (λ u i. h.same u (omega arith) i));
 }
 
 -- a block is inside the data codewords

@@ -2,7 +2,7 @@
 use Rattle.qr_field.{proofs.Facts.correction-one, specs.Polynomial.IsCorrection}
 use Rattle.qr_layout.{proofs.Facts.{Mem-of-Contains, blocks-sound}, specs.Blocks.{data_codewords_of, blocks_of}}
 use Rattle.qr_layout.specs.{Version.total_codewords_of, declared.{blocks.Blocks.Blocks, level.Level.Level}}
-use Rattle.{qr_symbol.proofs.lemmas.interleaving.GatherLemmas.positions-many, std.specs.Prelude.{Result, Ok, Err, IfOk}}
+use Rattle.{qr_symbol.proofs.lemmas.interleaving.OrderLemmas.positions-many, std.specs.Prelude.{Result, Ok, Err, IfOk}}
 use Rattle.qr_symbol.proofs.lemmas.interleaving.RankLemmas.{positions-one, position-of, map-at}
 use Rattle.qr_symbol.specs.Interleaving.{block_count, codeword_count, codeword_at, data_sizes, correction_sizes, block_of, check_at, IsFinalMessage, IsGathered}
 use Rattle.std.proofs.Common.{◌≡◌, ℕ, ◌+◌, ◌-◌, ◌*◌, ◌<◌, ◌≤◌, List, [], ◌∷◌, ◌++◌, map, length, length-append, get_or, refl, sym, ◌∙◌, ap, subst, arith, take}
@@ -79,7 +79,7 @@ ok-also P Q (Err e) h f = tt
 -- ---- one message at most
 
 -- the prefix of two joined lists that has the length of the first list is the first list
-take-front : {X : Type 0} (n : ℕ) (xs ys : List X) → length xs ≡ n → take n (xs ++ ys) ≡ xs
+pub take-front : {X : Type 0} (n : ℕ) (xs ys : List X) → length xs ≡ n → take n (xs ++ ys) ≡ xs
 take-front n xs ys e = rw (← e) (take-append_seam xs ys)
 
 -- the gathered codewords are the message, if the sequence is the final sequence of a message

@@ -1,9 +1,9 @@
--- The interleaving loop appends the codewords of all positions, in their order.
+-- The positions of all codewords, in their order, and where blocks begin.
 use Rattle.qr_layout.proofs.Facts.{Mem, Rises, All-of-Mem}
-use Rattle.qr_symbol.specs.Interleaving.{Position, ComesBefore, block_count, block_len, start_of, IsPosition, IsPositionOrder, codeword_count, codeword_at}
-use Rattle.qr_symbol.specs.{Steps.Interleaving.AppendsInterleaved, declared.interleaving.BlockSizes.BlockSizes}
-use Rattle.std.proofs.Common.{◌≡◌, ℕ, zero, suc, ◌+◌, ◌<◌, ◌≤◌, List, [], ◌∷◌, ◌++◌, map, refl, subst, inl, inr, ◌⊎◌, append_assoc, arith}
-use Rattle.std.proofs.{Math.Nat.{mul-suc, mul-le-mul_left}, lemmas.{Bool.Decides.nat_tests, List.map-append}}
+use Rattle.qr_symbol.specs.Interleaving.{Position, ComesBefore, block_count, block_len, start_of, IsPosition, IsPositionOrder, codeword_count}
+use Rattle.qr_symbol.specs.declared.interleaving.BlockSizes.{BlockSizes}
+use Rattle.std.proofs.Common.{◌≡◌, ℕ, zero, suc, ◌+◌, ◌<◌, ◌≤◌, List, [], ◌∷◌, ◌++◌, refl, inl, inr, ◌⊎◌, arith}
+use Rattle.std.proofs.{Math.Nat.{mul-suc, mul-le-mul_left}, lemmas.Bool.Decides.nat_tests}
 use Rattle.std.{proofs.lemmas.List.Kept.AllPairs-cons, specs.List.{All, AllPairs, AllByRecursion, Contains}}
 
 -- the position with index p in block b
@@ -100,34 +100,6 @@ positions-end c ts h = record {
   complete = search (arith, Contains-of-Mem, len-most);
   rising = pairs-of-Rises _ ts h.rises;
 }
-
--- ---- what has been appended
-
--- the codewords with the positions before the position (p, b) have been appended
-pub record InterleavedBefore (c : BlockSizes) (d : List ℕ) (p b : ℕ) (before now : List ℕ) : Type 0 where
-  pub positions : List Position
-  pub order : PositionsBefore c p b positions
-  pub interleaved : now ≡ before ++ map (codeword_at c d) positions
-
--- one codeword more is appended
-pub interleaved-push : (c : BlockSizes) (d : List ℕ) (p b : ℕ) (before now later : List ℕ) (x : ℕ) → InterleavedBefore c d p b before now → IsPosition c (position p b) → x ≡ codeword_at c d (position p b) → later ≡ now ++ x ∷ [] → InterleavedBefore c d p (b + 1) before later
-interleaved-push c d p b before now later x h i e k = record {
-  positions = h.positions ++ position p b ∷ [];
-  order = positions-push c p b h.positions i h.order;
-  interleaved = search (arith, append_assoc, map-append);
-}
-
--- block b has no codeword with index p, so nothing is appended
-pub interleaved-pass : (c : BlockSizes) (d : List ℕ) (p b : ℕ) (before now : List ℕ) → InterleavedBefore c d p b before now → (IsPosition c (position p b) → ⊥) → InterleavedBefore c d p (b + 1) before now
-interleaved-pass c d p b before now h n = search (arith, positions-pass)
-
--- after the last block, the step goes on to the next index
-pub interleaved-row : (c : BlockSizes) (d : List ℕ) (p b : ℕ) (before now : List ℕ) → b ≡ block_count c → InterleavedBefore c d p b before now → InterleavedBefore c d (p + 1) 0 before now
-interleaved-row c d p b before now e h = record { positions = h.positions; order = search (arith, positions-row); interleaved = h.interleaved }
-
--- after the last index, all codewords have been appended
-pub interleaved-end : (c : BlockSizes) (d : List ℕ) (p : ℕ) (before now : List ℕ) → p ≡ c.short_len + 1 → InterleavedBefore c d p 0 before now → AppendsInterleaved c d before now
-interleaved-end c d p before now e h = record { positions = h.positions; order = positions-end c h.positions (subst (λ (k : ℕ). PositionsBefore c k 0 h.positions) e h.order); interleaved = h.interleaved }
 
 -- ---- where blocks begin
 

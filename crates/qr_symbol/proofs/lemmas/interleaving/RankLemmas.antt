@@ -3,7 +3,7 @@ use Rattle.qr_layout.proofs.Facts.{All-rec, Mem, Mem-at, Mem-of-Contains, Rises-
 use Rattle.qr_symbol.proofs.lemmas.interleaving.PositionLemmas.{position, start-next, start-most}
 use Rattle.qr_symbol.specs.Interleaving.{Position, ComesBefore, block_count, start_of, codeword_count, IsPosition, IsPositionOrder}
 use Rattle.qr_symbol.specs.declared.interleaving.BlockSizes.{BlockSizes}
-use Rattle.std.proofs.Common.{◌≡◌, ℕ, zero, suc, ◌+◌, ◌-◌, ◌*◌, ◌<◌, ◌≤◌, cond, eqb, ltb, List, [], ◌∷◌, map, sym, ◌∙◌, ap, inl, inr, ◌⊎◌, arith}
+use Rattle.std.proofs.Common.{◌≡◌, ℕ, zero, suc, ◌+◌, ◌-◌, ◌*◌, ◌<◌, ◌≤◌, cond, eqb, ltb, List, [], ◌∷◌, map, sym, ◌∙◌, ap, subst, inl, inr, ◌⊎◌, arith}
 use Rattle.std.proofs.{Math.Nat.{mul-suc, mul-le-mul_left, mul_comm}, lemmas.Bool.{cases_lt, Decides.nat_tests}}
 
 -- two positions of codewords at the same index of the message are equal
@@ -41,6 +41,39 @@ rank-in c p b i = elim (position-cases c p b i) [
   | inr w ↦ search (arith, nat_tests)
 ]
 
+-- an index that all blocks have, or that of the last codeword of a long block
+abbrev IsRow : BlockSizes → Position → Type 0
+IsRow c t = (t.place < c.short_len) ⊎ ((t.place ≡ c.short_len) × (c.short ≤ t.block))
+
+-- before a position with a smaller index there are fewer positions
+rank-below : (c : BlockSizes) (t u : Position) → t.block < block_count c → IsRow c t → IsRow c u → t.place < u.place → rank_of c t.place t.block < rank_of c u.place u.block
+rank-below c t u i (inl l) (inl m) k = let z : block_count c * (t.place + 1) ≤ block_count c * u.place = mul-le-mul_left (block_count c) (omega arith) in search (arith, nat_tests)
+rank-below c t u i (inl l) (inr m) k = let z : block_count c * (t.place + 1) ≤ block_count c * c.short_len = mul-le-mul_left (block_count c) (omega arith) in search (arith, mul_comm, nat_tests)
+rank-below c t u i (inr l) (inl m) k = absurd (let e = l.0 in omega arith)
+rank-below c t u i (inr l) (inr m) k = absurd (let e = l.0 in let f = m.0 in omega arith)
+
+-- among positions with the same index, those of equal rank are in the same block
+rank-across : (c : BlockSizes) (p a b : ℕ) → (p < c.short_len) ⊎ ((p ≡ c.short_len) × (c.short ≤ a)) → (p < c.short_len) ⊎ ((p ≡ c.short_len) × (c.short ≤ b)) → rank_of c p a ≡ rank_of c p b → a ≡ b
+rank-across c p a b (inl l) w e = search (arith, nat_tests)
+rank-across c p a b (inr l) (inl m) e = absurd (let f = l.0 in omega arith)
+rank-across c p a b (inr l) (inr m) e = search (arith, nat_tests)
+
+-- two positions of equal rank are equal
+pub rank-one : (c : BlockSizes) (t u : Position) → IsPosition c t → IsPosition c u → rank_of c t.place t.block ≡ rank_of c u.place u.block → (t.place ≡ u.place) × (t.block ≡ u.block)
+rank-one c t u i j e =
+    let v = position-cases c t.place t.block i in
+    let w = position-cases c u.place u.block j in elim (cases_lt t.place u.place) [
+      | inl k ↦ absurd (let z = rank-below c t u i.0 v w k in omega arith)
+      | inr k ↦ elim (cases_lt u.place t.place) [
+        | inl n ↦ absurd (let z = rank-below c u t j.0 w v n in omega arith)
+        | inr n ↦
+            let q : u.place ≡ t.place = omega arith in
+            let same : rank_of c t.place t.block ≡ rank_of c t.place u.block = e ∙ ap (λ (p : ℕ). rank_of c p u.block) q in
+            let x = subst (λ (p : ℕ). (p < c.short_len) ⊎ ((p ≡ c.short_len) × (c.short ≤ u.block))) q w in
+            (sym q, rank-across c t.place t.block u.block v x same)
+      ]
+    ]
+
 -- block b has no codeword with index p, so the number stays the same
 pub rank-pass : (c : BlockSizes) (p b : ℕ) → p ≤ c.short_len → b < block_count c → (IsPosition c (position p b) → ⊥) → rank_of c p (b + 1) ≡ rank_of c p b
 rank-pass c p b l m n = search (arith, nat_tests)
@@ -56,6 +89,14 @@ rank-start c = grind (arith, nat_tests)
 -- after the last index, the number is that of all codewords
 pub rank-end : (c : BlockSizes) → rank_of c (c.short_len + 1) 0 ≡ codeword_count c
 rank-end c = grind (arith, nat_tests)
+
+-- each block has a codeword at an index that all blocks have, and its rank follows from whole rows
+pub in-row : (c : BlockSizes) (p b : ℕ) → p < c.short_len → b < block_count c → IsPosition c (position p b) × (block_count c * p + b ≡ rank_of c p b)
+in-row c p b l m = search (arith, nat_tests)
+
+-- each long block has one codeword more, and its rank follows from the rows of all blocks
+pub in-last-row : (c : BlockSizes) (b : ℕ) → c.short ≤ b → b < block_count c → IsPosition c (position c.short_len b) × (c.short_len * block_count c + (b - c.short) ≡ rank_of c c.short_len b)
+in-last-row c b l m = search (arith, nat_tests)
 
 -- ---- only one order
 
