@@ -1,4 +1,4 @@
-use Rattle.std.proofs.Common.{◌+◌, ◌≡◌, ◌++◌, length, length-append, sym, ◌∙◌, subst, arith}
+use Rattle.std.proofs.Common.{◌≡◌, ◌++◌, length, length-append, sym, ◌∙◌, subst, arith}
 use Rattle.qr_symbol.specs.Interleaving.{IsFinalMessage}
 use Rattle.qr_symbol.proofs.lemmas.interleaving.{CheckLemmas.both-interleaved, MessageLemmas.take-front}
 use Rattle.qr_symbol.proofs.interleaving.interleave_blocks.Goals as goal

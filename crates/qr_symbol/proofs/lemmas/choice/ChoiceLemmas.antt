@@ -3,19 +3,11 @@ use Rattle.{qr_layout.specs.declared.level.Level.Level, qr_matrix.specs.Grid.Gri
 use Rattle.qr_symbol.{proofs.lemmas.placement.PlacementLemmas.masked-all, specs.Choice.{IsFirstLeast, IsMask}}
 use Rattle.qr_symbol.specs.Steps.Placement.{masked_grid, masked_penalty, region_grid, plain_grid}
 use Rattle.qr_symbol.specs.{Symbol.grid_of, declared.canvas.Canvas.Canvas}
-use Rattle.std.proofs.Common.{◌≡◌, ℕ, ◌+◌, ◌<◌, ◌≤◌, ◌∙◌, List, ap, subst, arith}
+use Rattle.std.proofs.Common.{◌≡◌, ℕ, ◌≤◌, ◌∙◌, List, ap, subst, arith}
 
 -- of the numbers below 1, the one with the least value is 0
 pub least-start : (f : ℕ → ℕ) → IsFirstLeast 1 f 0
 least-start f = search arith
-
--- if n has a smaller value than all numbers below n, it is the one with the least value of those up to n
-pub least-better : (n : ℕ) (f : ℕ → ℕ) (m : ℕ) → IsFirstLeast n f m → f n < f m → IsFirstLeast (n + 1) f n
-least-better n f m h b = search arith
-
--- if n has no smaller value, the number with the least value stays
-pub least-kept : (n : ℕ) (f : ℕ → ℕ) (m : ℕ) → IsFirstLeast n f m → f m ≤ f n → IsFirstLeast (n + 1) f m
-least-kept n f m h b = search arith
 
 -- functions with equal values have the same number of the least value
 least-same : (n : ℕ) (f g : ℕ → ℕ) (m : ℕ) → ((k : ℕ) → f k ≡ g k) → IsFirstLeast n f m → IsFirstLeast n g m

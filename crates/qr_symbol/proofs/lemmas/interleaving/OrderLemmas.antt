@@ -61,11 +61,6 @@ ordered-down c interleaved (suc p) n l =
 abbrev pub IsPlaced : BlockSizes → ℕ → ℕ → List ℕ → List ℕ → Type 0
 IsPlaced c b p interleaved xs = (t : Position) → IsPosition c t → (t.block < b) ⊎ ((t.block ≡ b) × (t.place < p)) → item_at c interleaved t ≡ codeword_at c xs t
 
--- before the first block
-pub placed-none : (c : BlockSizes) (interleaved xs : List ℕ) → IsPlaced c 0 0 interleaved xs
-placed-none c interleaved xs t i (inl l) = absurd (omega arith)
-placed-none c interleaved xs t i (inr w) = absurd (let l = w.1 in omega arith)
-
 -- after the last codeword of a block, the next block begins
 pub placed-block : (c : BlockSizes) (b p : ℕ) (interleaved xs : List ℕ) → block_len c b ≤ p → IsPlaced c b p interleaved xs → IsPlaced c (b + 1) 0 interleaved xs
 placed-block c b p interleaved xs l h t i (inl k) = elim (cases_lt t.block b) [

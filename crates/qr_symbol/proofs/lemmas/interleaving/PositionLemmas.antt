@@ -111,10 +111,6 @@ start-none c = omega arith
 pub start-next : (c : BlockSizes) (i : ℕ) → start_of c (i + 1) ≡ start_of c i + block_len c i
 start-next c i = search (arith, mul-suc, nat_tests)
 
--- before the first block there is no codeword
-pub start-first : (c : BlockSizes) (p : ℕ) → p ≡ start_of c 0 + p
-start-first c p = omega arith
-
 -- a later block does not begin before an earlier one
 pub start-most : (c : BlockSizes) (i j : ℕ) → i ≤ j → start_of c i ≤ start_of c j
 start-most c i j l = let m = mul-le-mul_left c.short_len l in omega arith

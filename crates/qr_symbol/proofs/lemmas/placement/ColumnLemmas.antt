@@ -37,10 +37,6 @@ number-whole v x first k (suc m) w =
 
 -- ---- drawn rows
 
--- if no row is drawn, the columns stay the same
-pub rows-none : {v : ℕ} {cw : List ℕ} {x : Strip} {first k n : ℕ} {p : Columns} → n ≡ 0 → AreDrawn v cw x first k n p p
-rows-none e = search arith
-
 -- rows that are drawn after other rows are drawn together with them
 pub rows-drawn : {v : ℕ} {cw : List ℕ} {x : Strip} {first k n i m t : ℕ} {p q r : Columns}
     → AreDrawn v cw x first k n p q → AreDrawn v cw x first i m q r → i ≡ k + n → t ≡ n + m

@@ -1,11 +1,11 @@
 -- The modules of a strip that are still to be drawn, which are light, and rows of a strip that are drawn at once.
-use Rattle.std.proofs.Common.{◌≡◌, ℕ, zero, suc, ◌+◌, ◌-◌, ◌*◌, ◌%◌, ◌<◌, ◌≤◌, Bool, true, false, not, leb, ltb, ◌&&◌, ◌||◌, List, refl, sym, ◌∙◌, ap, arith}
+use Rattle.std.proofs.Common.{◌≡◌, ℕ, zero, suc, ◌+◌, ◌-◌, ◌*◌, ◌<◌, ◌≤◌, Bool, true, false, not, leb, ltb, ◌&&◌, ◌||◌, List, sym, ◌∙◌, ap, arith}
 use Rattle.{std.proofs.lemmas.Bool.Decides.nat_tests, qr_symbol.specs.declared.placement.Columns.Columns}
 use Rattle.qr_bits.specs.Bits.{codeword_bit}
 use Rattle.qr_layout.specs.{Region.is_in_region, Version.side_of, declared.strips.Strip.Strip}
 use Rattle.qr_matrix.{proofs.Facts.{&&-left, &&-right}, specs.{BitRow.has, BitRow.has_bit, Grid.is_same}}
-use Rattle.qr_symbol.specs.Steps.Placement.{number_at, rank_in, row_of, top_row, AreDrawn, AreLight, AreLightRows, AreNext, AreWhole, AreWithin, IsRegion}
-use Rattle.qr_symbol.proofs.lemmas.placement.ColumnLemmas.{number-whole, row-small, rows-apart}
+use Rattle.qr_symbol.specs.Steps.Placement.{number_at, rank_in, row_of, top_row, AreDrawn, AreLightRows, AreNext, AreWhole, IsRegion}
+use Rattle.qr_symbol.proofs.lemmas.placement.ColumnLemmas.{number-whole, row-small}
 
 -- a bit that is unset where another bit is set
 pub cleared : (p q : Bool) → not (is_same p (p && q)) ≡ (p && not q)
@@ -16,20 +16,6 @@ pub cleared-light : (p q z : Bool) → z ≡ (p && not q) → (q && z) ≡ false
 cleared-light p q z e = grind (arith, nat_tests)
 
 -- ---- rows that are still to be drawn
-
--- the rows after those that are drawn stay light
-pub kept-light : {v : ℕ} {cw : List ℕ} {x : Strip} {first k : ℕ} {p q : Columns} (region : Columns)
-    → AreDrawn v cw x first 0 k p q → AreLight (side_of v) x 0 region p → AreLight (side_of v) x k region q
-kept-light {v} {x = x} region d light j l m =
-    let same = d.kept (row_of (side_of v) x j) (λ i a b e. rows-apart x (side_of v) j i m (omega arith) (sym e)) in
-    rw same.0 (rw same.1 (light j (omega arith) m))
-
--- the bits outside the square stay unset
-pub kept-within : {v : ℕ} {cw : List ℕ} {x : Strip} {first : ℕ} {p q : Columns}
-    → AreDrawn v cw x first 0 (side_of v) p q → AreWithin (side_of v) p → AreWithin (side_of v) q
-kept-within {v} {x = x} d within row l =
-    let same = d.kept row (λ j a b e. let small = (row-small x (side_of v) j (omega arith)).0 in omega arith) in
-    (same.0 ∙ (within row l).0, same.1 ∙ (within row l).1)
 
 -- ---- rows that are drawn at once
 
@@ -52,10 +38,6 @@ here-set top r n old new bit set e f l g = grind (arith, nat_tests)
 -- another row keeps its colour
 there-kept : (top i n : ℕ) (old new bit set : Bool) → new ≡ (old || leb top i && set) → set ≡ (ltb (i - top) n && bit) → (top ≤ i → i < top + n → ⊥) → new ≡ old
 there-kept top i n old new bit set e f out = grind (arith, nat_tests)
-
--- no bit is set that belongs to a row after the n rows
-pub past-rows : (n top i : ℕ) (bit set : Bool) → set ≡ (ltb i n && bit) → top % 64 + n ≤ 64 → 64 ≤ top % 64 + i → set ≡ false
-past-rows n top i bit set e l m = grind (arith, nat_tests)
 
 -- rows of a strip are drawn at once, if all their modules are in the region and light
 pub run-drawn : {v : ℕ} {cw : List ℕ} {x : Strip} {first : ℕ} {old new : Columns} (k n bits r l : ℕ)
@@ -86,9 +68,6 @@ run-drawn {v} {cw} {x} {first} {old} {new} k n bits r l room few whole light rig
 
 -- ---- rows by the region's bits
 
-not-dark : (p q : Bool) → p ≡ true → (p && q) ≡ false → q ≡ false
-not-dark p q e f = grind (arith, nat_tests)
-
 neither : (p q : Bool) → not (p || q) ≡ true → (p ≡ false) × (q ≡ false)
 neither p q e = (grind (arith, nat_tests), grind (arith, nat_tests))
 
@@ -107,14 +86,6 @@ pub rows-whole : (v : ℕ) (x : Strip) (k n : ℕ) (region : Columns) (both : �
 rows-whole v x k n region both room is b set j l m =
     let t = rows-both (side_of v) x k n region both b set j l m in let r = is (row_of (side_of v) x j) (row-small x (side_of v) j (omega arith)).0 in
     (sym r.0 ∙ t.0, sym r.1 ∙ t.1)
-
--- these rows are light, if the region is
-pub rows-light : (s : ℕ) (x : Strip) (k n : ℕ) (region y : Columns) (both : ℕ → Bool) → k + n ≤ s
-    → ((row : ℕ) → both row ≡ (has region.right row && has region.left row))
-    → ((j : ℕ) → k ≤ j → j < k + n → both (row_of s x j) ≡ true) → AreLight s x k region y → AreLightRows s x k n y
-rows-light s x k n region y both room b set light j l m =
-    let row = row_of s x j in let t = rows-both s x k n region both b set j l m in let r = light j l (omega arith) in
-    (not-dark (has region.right row) (has y.right row) t.0 r.0, not-dark (has region.left row) (has y.left row) t.1 r.1)
 
 -- rows of which no module is in the region
 pub rows-neither : (s : ℕ) (x : Strip) (k n : ℕ) (region : Columns) (outside : ℕ → Bool) → k + n ≤ s → s ≤ 177
@@ -141,12 +112,3 @@ number-none v x first k zero w = (let e : k + 0 ≡ k = omega arith in rw e (ome
 number-none v x first k (suc m) w =
     let e : k + suc m ≡ suc (k + m) = omega arith in let here = w (k + m) (omega arith) (omega arith) in
     let before = number-none v x first k m (λ j a b. w j a (omega arith)) in rw (e, here.0, here.1) before
-
--- these rows are drawn if they stay as they are
-pub none-drawn : {v : ℕ} {cw : List ℕ} {x : Strip} {first : ℕ} (k n : ℕ) (p : Columns) → ((j : ℕ) → k ≤ j → j < k + n → (is_in_region v
-    (row_of (side_of v) x j) x.right ≡ false) × (is_in_region v (row_of (side_of v) x j) (x.right - 1) ≡ false)) →
-    AreDrawn v cw x first k n p p
-none-drawn k n p w = record {
-  drawn = λ j a b. let here = w j a b in rw (here.0, here.1) (refl, refl);
-  kept = λ row apart. (refl, refl);
-}
