@@ -1,10 +1,11 @@
 -- Coefficients packed into one number, and a register of them.
-use Rattle.std.proofs.Common.{◌≡◌, ℕ, zero, suc, ◌+◌, ◌*◌, ◌/◌, ◌%◌, ◌^◌, ◌<◌, ◌≤◌, List, [], ◌∷◌, ◌++◌, length, drop, get_or, refl, sym, ap, arith, bit_xor, bit_or}
-use Rattle.std.proofs.lemmas.Nat.{or_shifted, xor_block, mod_low, shr_high}
-use Rattle.std.proofs.{lemmas.List.Elements.All-head, lemmas.List.Elements.All-tail, Math.Nat.pow-suc}
-use Rattle.std.specs.{List.All, Int.Bits.xor_zero_l, Int.Bits.xor_zero_r}
-use Rattle.qr_field.specs.{Polynomial.{IsByte, plus, scaled}, Steps.Register.{packed, unpacked}}
-use Rattle.qr_field.proofs.lemmas.galois.ByteLemmas.{product-of_zero}
+use Rattle.std.proofs.Common.{◌≡◌, ℕ, zero, suc, ◌+◌, ◌*◌, ◌/◌, ◌%◌, ◌^◌, ◌<◌, ◌≤◌, List, [], ◌∷◌, ◌++◌, length, drop, get_or, refl, sym, ap, ◌∙◌, arith, bit_xor, bit_or, bit_and}
+use Rattle.std.proofs.lemmas.Nat.{or_shifted, xor_block, and_block, and_mask, mod_low, shr_high}
+use Rattle.std.proofs.{lemmas.List.Elements.All-head, lemmas.List.Elements.All-tail, Math.Nat.pow-suc, Math.Nat.mul_assoc}
+use Rattle.std.proofs.lemmas.List.Elements.{All-nil, All-cons}
+use Rattle.std.specs.{List.All, Int.Bits.xor_zero_l, Int.Bits.xor_zero_r, Int.Bits.xor_self, Int.Bits.and_zero_r}
+use Rattle.qr_field.specs.{Galois.product, Polynomial.{IsByte, plus, scaled}, Steps.Register.{packed, unpacked}}
+use Rattle.qr_field.proofs.lemmas.galois.ByteLemmas.{product-of_zero, product-by_zero, product-of_two}
 
 -- ---- two halves of a register
 
@@ -53,11 +54,32 @@ packed-rest xs l a = grind arith
 
 -- packed coefficients that are unpacked are the same coefficients
 pub unpacked-packed : (n : ℕ) (xs : List ℕ) → length xs ≡ n → All IsByte xs → unpacked n (packed xs) ≡ xs
+unfolding unpacked
 unpacked-packed zero [] e a = refl
 unpacked-packed zero (x ∷ xs) e a = absurd (omega arith)
 unpacked-packed (suc n) [] e a = absurd (omega arith)
 unpacked-packed (suc n) (x ∷ xs) e a =
     search (arith, All-head, mod_low, shr_high, All-tail, unpacked-packed n xs (omega arith) (All-tail IsByte x xs a))
+
+-- what is unpacked are bytes
+pub bytes-unpacked : (n v : ℕ) → All IsByte (unpacked n v)
+unfolding unpacked
+bytes-unpacked zero v = All-nil IsByte
+bytes-unpacked (suc n) v = All-cons IsByte (v % 2 ^ 8) (unpacked n (v / 2 ^ 8)) (omega arith) (bytes-unpacked n (v / 2 ^ 8))
+
+-- how many coefficients are unpacked
+pub length-unpacked : (n v : ℕ) → length (unpacked n v) ≡ n
+unfolding unpacked
+length-unpacked zero v = refl
+length-unpacked (suc n) v = ap suc (length-unpacked n (v / 2 ^ 8))
+
+-- coefficients that are unpacked and packed are the same number
+pub packed-unpacked : (n v : ℕ) → v < 256 ^ n → packed (unpacked n v) ≡ v
+unfolding unpacked
+packed-unpacked zero v l = omega arith
+packed-unpacked (suc n) v l =
+    let less : v / 2 ^ 8 < 256 ^ n = omega (arith, pow-suc 256 n) in
+    omega (arith, packed-unpacked n (v / 2 ^ 8) less)
 
 -- how large packed coefficients are
 packed-lt : (k : ℕ) (xs : List ℕ) → length xs ≤ k → All IsByte xs → packed xs < 256 ^ k
@@ -75,3 +97,67 @@ packed-room xs l a = let e = packed-lt 31 xs l a in e
 pub packed-none : (g : List ℕ) → All IsByte g → packed (scaled 0 g) ≡ 0
 packed-none [] a = refl
 packed-none (x ∷ g) a = search (arith, product-of_zero, All-head, All-tail, packed-none g (All-tail IsByte x g a))
+
+-- ---- doubled coefficients
+
+-- the byte b in each of k bytes
+abbrev pub repeated : ℕ → ℕ → ℕ
+repeated zero b = 0
+repeated (suc k) b = repeated k b * 2 ^ 8 + b
+
+-- the coefficients of x, doubled all at once
+pub doubled-packed : (k x : ℕ) →
+    bit_xor (bit_and x (repeated k 127) * 2) (bit_and (x / 2 ^ 7) (repeated k 1) * 29) ≡ packed (scaled 2 (unpacked k x))
+unfolding unpacked
+doubled-packed zero x = cc (and_zero_r x, and_zero_r (x / 2 ^ 7), xor_self 0)
+doubled-packed (suc k) x =
+    let p = x / 2 ^ 8 in
+    let b = x % 2 ^ 8 in
+    let r = x / 2 ^ 7 % 2 ^ 8 in
+    let low = bit_and p (repeated k 127) in
+    let top = bit_and (p / 2 ^ 7) (repeated k 1) in
+    let small : b < 256 = omega arith in
+    let whole : x ≡ p * 2 ^ 8 + b = omega arith in
+    let moved : x / 2 ^ 7 ≡ p / 2 ^ 7 * 2 ^ 8 + r = omega arith in
+    let others : bit_and x (repeated (suc k) 127) ≡ low * 2 ^ 8 + b % 2 ^ 7 =
+    cc (whole, and_block 8 p (repeated k 127) b 127 (omega arith) (omega arith), and_mask b 7) in
+    let last : r % 2 ^ 1 ≡ b / 2 ^ 7 = omega arith in
+    let highest : bit_and (x / 2 ^ 7) (repeated (suc k) 1) ≡ top * 2 ^ 8 + b / 2 ^ 7 =
+    cc (moved, and_block 8 (p / 2 ^ 7) (repeated k 1) r 1 (omega arith) (omega arith), and_mask r 1) in
+    let l : (low * 2 ^ 8 + b % 2 ^ 7) * 2 ≡ low * 2 * 2 ^ 8 + b % 2 ^ 7 * 2 = omega arith in
+    let h : (top * 2 ^ 8 + b / 2 ^ 7) * 29 ≡ top * 29 * 2 ^ 8 + b / 2 ^ 7 * 29 = omega arith in
+    let sum = xor_block 8 (low * 2) (top * 29) (b % 2 ^ 7 * 2) (b / 2 ^ 7 * 29) (omega arith) (omega arith) in
+    cc (others, highest, l, h, sum, product-of_two b small, doubled-packed k p)
+
+-- doubled halves are halves of doubled coefficients
+pub doubled-halves : (k m h l : ℕ) → l < 256 ^ k →
+    packed (scaled 2 (unpacked m h)) * 256 ^ k + packed (scaled 2 (unpacked k l))
+    ≡ packed (scaled 2 (unpacked (k + m) (h * 256 ^ k + l)))
+unfolding unpacked
+doubled-halves zero m h l s =
+    let e : h * 256 ^ 0 + l ≡ h = omega arith in
+    search (arith, e)
+doubled-halves (suc k) m h l s =
+    let q = 256 ^ k in
+    let v = h * q + l / 2 ^ 8 in
+    let x = h * 256 ^ suc k + l in
+    let above = packed (scaled 2 (unpacked m h)) in
+    let below = packed (scaled 2 (unpacked k (l / 2 ^ 8))) in
+    let next = product 2 (l % 2 ^ 8) in
+    let more : (y : ℕ) → y * 256 ^ suc k ≡ y * q * 256 = λ y. ap (λ t. y * t) (pow-suc 256 k) ∙ sym (mul_assoc y q 256) in
+    let less : l / 2 ^ 8 < q = omega (arith, pow-suc 256 k) in
+    let first : x % 2 ^ 8 ≡ l % 2 ^ 8 = omega (arith, more h) in
+    let rest : x / 2 ^ 8 ≡ v = omega (arith, more h) in
+    let sum : above * 256 ^ suc k + (below * 2 ^ 8 + next) ≡ (above * q + below) * 2 ^ 8 + next = omega (arith, more above) in
+    let count : suc k + m ≡ suc (k + m) = omega arith in
+    cc (count, sum, first, rest, doubled-halves k m h (l / 2 ^ 8) less)
+
+-- coefficients that are packed and unpacked have the same multiples
+pub scaled-unpacked : (f n : ℕ) (xs : List ℕ) → f < 256 → length xs ≤ n → All IsByte xs →
+    packed (scaled f (unpacked n (packed xs))) ≡ packed (scaled f xs)
+unfolding unpacked
+scaled-unpacked f zero [] m l a = refl
+scaled-unpacked f zero (x ∷ xs) m l a = absurd (omega arith)
+scaled-unpacked f (suc n) [] m l a = cc (product-by_zero f m, scaled-unpacked f n [] m (omega arith) a)
+scaled-unpacked f (suc n) (x ∷ xs) m l a =
+    cc (mod_low (packed xs) 8 x (All-head IsByte x xs a), shr_high (packed xs) 8 x (All-head IsByte x xs a), scaled-unpacked f n xs m (omega arith) (All-tail IsByte x xs a))
