@@ -1,7 +1,10 @@
 -- Coefficients packed into one number, and a register of them.
-use Rattle.std.proofs.Common.{◌≡◌, ℕ, zero, suc, ◌+◌, ◌*◌, ◌/◌, ◌%◌, ◌^◌, ◌<◌, ◌≤◌, List, [], ◌∷◌, ◌++◌, length, drop, get_or, refl, sym, ap, ◌∙◌, arith, bit_xor, bit_or, bit_and}
+use Rattle.std.proofs.Common.{◌≡◌, ℕ, zero, suc, ◌+◌, ◌-◌, ◌*◌, ◌/◌, ◌%◌, ◌^◌, ◌<◌, ◌≤◌, List, [], ◌∷◌, ◌++◌, length, take, drop, get_or, refl, sym, ap, ◌∙◌, arith, bit_xor, bit_or, bit_and, min}
 use Rattle.std.proofs.lemmas.Nat.{or_shifted, xor_block, and_block, and_mask, mod_low, shr_high}
-use Rattle.std.proofs.{lemmas.List.Elements.All-head, lemmas.List.Elements.All-tail, Math.Nat.pow-suc, Math.Nat.mul_assoc}
+use Rattle.std.proofs.{lemmas.List.Elements.All-head, lemmas.List.Elements.All-tail, Math.Nat.pow-suc, Math.Nat.mul_assoc, Math.Nat.div-div-eq-div-mul}
+use Rattle.std.proofs.lemmas.List.{append-nil, drop_all, length-append, length-drop, length-map, map-append, take_at}
+use borrow.Rule.Slice.PartMut.{put_mid}
+use Rattle.std.specs.Int.{byte_at, bytes_low_first, to_le_bytes, w64}
 use Rattle.std.proofs.lemmas.List.Elements.{All-nil, All-cons}
 use Rattle.std.specs.{List.All, Int.Bits.xor_zero_l, Int.Bits.xor_zero_r, Int.Bits.xor_self, Int.Bits.and_zero_r}
 use Rattle.qr_field.specs.{Galois.product, Polynomial.{IsByte, plus, scaled}, Steps.Register.{packed, unpacked}}
@@ -81,6 +84,77 @@ packed-unpacked (suc n) v l =
     let less : v / 2 ^ 8 < 256 ^ n = omega (arith, pow-suc 256 n) in
     omega (arith, packed-unpacked n (v / 2 ^ 8) less)
 
+-- packed coefficients after others
+packed-append : (xs ys : List ℕ) → packed (xs ++ ys) ≡ packed ys * 256 ^ length xs + packed xs
+packed-append [] ys = omega arith
+packed-append (x ∷ xs) ys =
+    let q = 256 ^ length xs in
+    let more : packed ys * 256 ^ suc (length xs) ≡ packed ys * q * 256 =
+    ap (λ t. packed ys * t) (pow-suc 256 (length xs)) ∙ sym (mul_assoc (packed ys) q 256) in
+    omega (arith, more, packed-append xs ys)
+
+-- the first n coefficients are in the lower half of k coefficients, and the others in the upper
+pub unpacked-halves : (n k h l : ℕ) → l < 256 ^ k →
+    unpacked (min n k) l ++ unpacked (n - min n k) h ≡ unpacked n (h * 256 ^ k + l)
+unfolding unpacked
+unpacked-halves zero k h l s =
+    let few : min 0 k ≡ 0 = omega arith in
+    cc few
+unpacked-halves (suc n) zero h l s =
+    let few : min (suc n) 0 ≡ 0 = omega arith in
+    let others : suc n - min (suc n) 0 ≡ suc n = omega arith in
+    let whole : h * 256 ^ 0 + l ≡ h = omega arith in
+    cc (few, others, whole)
+unpacked-halves (suc n) (suc k) h l s =
+    let few : min (suc n) (suc k) ≡ suc (min n k) = omega arith in
+    let others : suc n - min (suc n) (suc k) ≡ n - min n k = omega arith in
+    let q = 256 ^ k in
+    let more : h * 256 ^ suc k ≡ h * q * 256 = ap (λ t. h * t) (pow-suc 256 k) ∙ sym (mul_assoc h q 256) in
+    let less : l / 2 ^ 8 < q = omega (arith, pow-suc 256 k) in
+    let first : (h * 256 ^ suc k + l) % 2 ^ 8 ≡ l % 2 ^ 8 = omega (arith, more) in
+    let rest : (h * 256 ^ suc k + l) / 2 ^ 8 ≡ h * q + l / 2 ^ 8 = omega (arith, more) in
+    cc (few, others, first, rest, unpacked-halves n k h (l / 2 ^ 8) less)
+
+-- the bytes of a number are its coefficients
+bytes-of : (i k v : ℕ) → bytes_low_first i k v ≡ unpacked k (v / 256 ^ i)
+unfolding unpacked
+bytes-of i zero v = refl
+bytes-of i (suc k) v =
+    let more : v / 256 ^ suc i ≡ v / 256 ^ i / 2 ^ 8 =
+    ap (λ t. v / t) (pow-suc 256 i) ∙ sym (div-div-eq-div-mul v (256 ^ i) 256) in
+    cc (byte-is i v, more, bytes-of (suc i) k v)
+  where
+    byte-is : (i v : ℕ) → byte_at i v ≡ v / 256 ^ i % 2 ^ 8
+    byte-is zero v = omega arith
+    byte-is (suc i) v = refl
+
+-- the first of some coefficients
+pub take-unpacked : (n k v : ℕ) → n ≤ k → take n (unpacked k v) ≡ unpacked n v
+unfolding unpacked
+take-unpacked zero k v l = refl
+take-unpacked (suc n) zero v l = absurd (omega arith)
+take-unpacked (suc n) (suc k) v l = ap (λ t. v % 2 ^ 8 ∷ t) (take-unpacked n k (v / 2 ^ 8) (omega arith))
+
+-- the bytes of a word
+pub word-bytes : (v : ℕ) → to_le_bytes w64 v ≡ unpacked 8 v
+word-bytes v =
+    let one : v / 256 ^ 0 ≡ v = omega arith in
+    bytes-of 0 8 v ∙ ap (unpacked 8) one
+
+-- the coefficients of an upper half are written after those of the lower half, in place of other numbers
+pub joined-halves : (k h l : ℕ) (lower upper others : List ℕ) → l < 256 ^ k → lower ≡ unpacked k l → upper ≡ unpacked k h →
+    length others ≡ k → put_mid k k (lower ++ others) upper ≡ unpacked (k + k) (h * 256 ^ k + l)
+joined-halves k h l lower upper others s el eu n =
+    let count : length lower ≡ k = ap length el ∙ length-unpacked k l in
+    let first : take k (lower ++ others) ≡ lower = take_at lower others k count in
+    let rest : drop k (drop k (lower ++ others)) ≡ [] =
+    drop_all k (drop k (lower ++ others)) (omega (arith, length-drop k (lower ++ others), length-append lower others, count, n)) in
+    let whole : put_mid k k (lower ++ others) upper ≡ lower ++ upper =
+    rw first (ap (λ t. lower ++ (upper ++ t)) rest ∙ ap (λ t. lower ++ t) (append-nil upper)) in
+    let few : min (k + k) k ≡ k = omega arith in
+    let more : k + k - min (k + k) k ≡ k = omega arith in
+    cc (whole, el, eu, few, more, unpacked-halves (k + k) k h l s)
+
 -- how large packed coefficients are
 packed-lt : (k : ℕ) (xs : List ℕ) → length xs ≤ k → All IsByte xs → packed xs < 256 ^ k
 packed-lt zero [] l a = omega arith
@@ -130,27 +204,14 @@ doubled-packed (suc k) x =
     cc (others, highest, l, h, sum, product-of_two b small, doubled-packed k p)
 
 -- doubled halves are halves of doubled coefficients
-pub doubled-halves : (k m h l : ℕ) → l < 256 ^ k →
-    packed (scaled 2 (unpacked m h)) * 256 ^ k + packed (scaled 2 (unpacked k l))
-    ≡ packed (scaled 2 (unpacked (k + m) (h * 256 ^ k + l)))
-unfolding unpacked
-doubled-halves zero m h l s =
-    let e : h * 256 ^ 0 + l ≡ h = omega arith in
-    search (arith, e)
-doubled-halves (suc k) m h l s =
-    let q = 256 ^ k in
-    let v = h * q + l / 2 ^ 8 in
-    let x = h * 256 ^ suc k + l in
-    let above = packed (scaled 2 (unpacked m h)) in
-    let below = packed (scaled 2 (unpacked k (l / 2 ^ 8))) in
-    let next = product 2 (l % 2 ^ 8) in
-    let more : (y : ℕ) → y * 256 ^ suc k ≡ y * q * 256 = λ y. ap (λ t. y * t) (pow-suc 256 k) ∙ sym (mul_assoc y q 256) in
-    let less : l / 2 ^ 8 < q = omega (arith, pow-suc 256 k) in
-    let first : x % 2 ^ 8 ≡ l % 2 ^ 8 = omega (arith, more h) in
-    let rest : x / 2 ^ 8 ≡ v = omega (arith, more h) in
-    let sum : above * 256 ^ suc k + (below * 2 ^ 8 + next) ≡ (above * q + below) * 2 ^ 8 + next = omega (arith, more above) in
-    let count : suc k + m ≡ suc (k + m) = omega arith in
-    cc (count, sum, first, rest, doubled-halves k m h (l / 2 ^ 8) less)
+pub doubled-halves : (h l : ℕ) → l < 2 ^ 128 →
+    packed (scaled 2 (unpacked 16 h)) * 2 ^ 128 + packed (scaled 2 (unpacked 16 l))
+    ≡ packed (scaled 2 (unpacked 32 (h * 2 ^ 128 + l)))
+doubled-halves h l s =
+    let whole : unpacked 16 l ++ unpacked 16 h ≡ unpacked 32 (h * 2 ^ 128 + l) = unpacked-halves 32 16 h l s in
+    let count : length (scaled 2 (unpacked 16 l)) ≡ 16 = length-map (unpacked 16 l) (product 2) ∙ length-unpacked 16 l in
+    let sum = packed-append (scaled 2 (unpacked 16 l)) (scaled 2 (unpacked 16 h)) in
+    cc (sym whole, map-append (product 2) (unpacked 16 l) (unpacked 16 h), count, sum)
 
 -- coefficients that are packed and unpacked have the same multiples
 pub scaled-unpacked : (f n : ℕ) (xs : List ℕ) → f < 256 → length xs ≤ n → All IsByte xs →
