@@ -1,5 +1,5 @@
 -- The multiples of a divisor, and the division by them.
-use Rattle.std.proofs.Common.{◌≡◌, ◌≢◌, ℕ, zero, suc, ◌+◌, ◌*◌, ◌/◌, ◌%◌, ◌^◌, ◌<◌, ◌≤◌, List, [], ◌∷◌, ◌++◌, length, take, drop, get_or, set, refl, sym, ap, ◌∙◌, subst, inl, inr, arith, bit_xor, lit<}
+use Rattle.std.proofs.Common.{◌≡◌, ◌≢◌, ℕ, ◌+◌, ◌*◌, ◌/◌, ◌%◌, ◌^◌, ◌<◌, ◌≤◌, List, [], ◌∷◌, ◌++◌, length, take, drop, get_or, set, refl, sym, ap, ◌∙◌, subst, inl, inr, arith, bit_xor, lit<}
 use Rattle.std.proofs.lemmas.{Bool.cases_lt, Nat.{xor_comm, xor_of_8}, List.Elements.{All-drop, All-push, All-head, All-tail}}
 use Rattle.std.proofs.lemmas.List.{get_or-replicate, get_or-set_same, get_or-set_other, length-map, length-set, length-replicate}
 use Rattle.std.{proofs.Math.Nat.{pow-le-pow_right}, specs.List.All}
@@ -12,7 +12,7 @@ use Rattle.qr_field.proofs.lemmas.galois.{BitLemmas.digits, FieldLemmas.product-
 use Rattle.qr_field.proofs.lemmas.galois.ByteLemmas.{product-by_sixteen, product-of_one, product-of_two_small}
 use Rattle.qr_field.proofs.lemmas.{polynomial.ListLemmas.bytes-scaled, galois.ProductLemmas.product-xor}
 use Rattle.qr_field.proofs.lemmas.polynomial.PolynomialLemmas.{correction-start, correction-step, generator-is}
-use Rattle.qr_field.proofs.lemmas.register.RegisterLemmas.{scaled-unpacked, packed-unpacked, bytes-unpacked, packed-plus, packed-none, packed-zero_last, packed-first, packed-rest, unpacked-packed}
+use Rattle.qr_field.proofs.lemmas.register.RegisterLemmas.{scaled-unpacked, packed-unpacked, bytes-unpacked, packed-plus, packed-none, packed-zeros, packed-zero_last, packed-first, packed-rest, unpacked-packed}
 
 -- a sum of multiples
 scaled-xor : (a b : ℕ) (g : List ℕ) → a < 256 → b < 256 → plus (scaled a g) (scaled b g) ≡ scaled (bit_xor a b) g
@@ -145,11 +145,6 @@ multiple-of_halves g low high f l a b =
     ∙ (ap packed (scaled-xor x y g lx ly) ∙ ap (λ t. packed (scaled t g)) joined)))
 
 -- ---- division
-
--- zeros are packed into 0
-packed-zeros : (n : ℕ) → 0 ≡ packed (zeros n)
-packed-zeros zero = refl
-packed-zeros (suc n) = ap (λ t. t * 2 ^ 8 + 0) (packed-zeros n)
 
 -- the register of no codewords
 pub held-start : (n : ℕ) → IsHeld [] n 0

@@ -1,13 +1,13 @@
 -- Coefficients packed into one number, and a register of them.
-use Rattle.std.proofs.Common.{◌≡◌, ℕ, zero, suc, ◌+◌, ◌-◌, ◌*◌, ◌/◌, ◌%◌, ◌^◌, ◌<◌, ◌≤◌, List, [], ◌∷◌, ◌++◌, length, take, drop, get_or, refl, sym, ap, ◌∙◌, arith, bit_xor, bit_or, bit_and, min}
+use Rattle.std.proofs.Common.{◌≡◌, ℕ, zero, suc, ◌+◌, ◌*◌, ◌/◌, ◌%◌, ◌^◌, ◌<◌, ◌≤◌, List, [], ◌∷◌, ◌++◌, length, take, drop, get_or, refl, sym, ap, ◌∙◌, arith, bit_xor, bit_or, bit_and}
 use Rattle.std.proofs.lemmas.Nat.{or_shifted, xor_block, and_block, and_mask, mod_low, shr_high}
-use Rattle.std.proofs.{lemmas.List.Elements.All-head, lemmas.List.Elements.All-tail, Math.Nat.pow-suc, Math.Nat.mul_assoc, Math.Nat.div-div-eq-div-mul}
-use Rattle.std.proofs.lemmas.List.{append-nil, drop_all, length-append, length-drop, length-map, map-append, take_at}
+use Rattle.std.proofs.Math.Nat.{pow-suc, mul_assoc, div-div-eq-div-mul}
+use Rattle.std.proofs.lemmas.List.{append-nil, drop_all, length-append, length-drop, length-map, length-take, map-append, take-append-drop, take_at}
+use Rattle.std.proofs.lemmas.List.Elements.{All-nil, All-cons, All-head, All-tail}
+use Rattle.std.specs.{List.All, Int.{byte_at, bytes_low_first, to_le_bytes, w64}}
+use Rattle.std.specs.Int.Bits.{xor_zero_l, xor_zero_r, xor_self, and_zero_r}
 use borrow.Rule.Slice.PartMut.{put_mid}
-use Rattle.std.specs.Int.{byte_at, bytes_low_first, to_le_bytes, w64}
-use Rattle.std.proofs.lemmas.List.Elements.{All-nil, All-cons}
-use Rattle.std.specs.{List.All, Int.Bits.xor_zero_l, Int.Bits.xor_zero_r, Int.Bits.xor_self, Int.Bits.and_zero_r}
-use Rattle.qr_field.specs.{Galois.product, Polynomial.{IsByte, plus, scaled}, Steps.Register.{packed, unpacked}}
+use Rattle.qr_field.specs.{Galois.product, Polynomial.{IsByte, plus, scaled, zeros}, Steps.Register.{packed, unpacked}}
 use Rattle.qr_field.proofs.lemmas.galois.ByteLemmas.{product-of_zero, product-by_zero, product-of_two}
 
 -- ---- two halves of a register
@@ -17,19 +17,6 @@ pub halves-rest : (low high : ℕ) → low < 2 ^ 128 → high < 2 ^ 128 →
     high / 2 ^ 8 * 2 ^ 128 + bit_or ((high * 2 ^ 120) % 2 ^ 128) (low / 2 ^ 8) ≡ (high * 2 ^ 128 + low) / 2 ^ 8
 halves-rest low high l h = let e = or_shifted (high % 2 ^ 8) 120 (low / 2 ^ 8) (omega arith) in
     search arith
-
--- the register moved up by one byte
-pub halves-after : (low high first : ℕ) → low < 2 ^ 128 → high < 2 ^ 120 → first < 2 ^ 8 →
-    bit_or ((high * 2 ^ 8) % 2 ^ 128) (low / 2 ^ 120) * 2 ^ 128 + bit_or ((low * 2 ^ 8) % 2 ^ 128) first
-    ≡ (high * 2 ^ 128 + low) * 2 ^ 8 + first
-halves-after low high first l h k =
-    let m : (low * 2 ^ 8) % 2 ^ 128 ≡ (low % 2 ^ 120) * 2 ^ 8 = omega arith in
-    let n : (high * 2 ^ 8) % 2 ^ 128 ≡ high * 2 ^ 8 = omega arith in
-    let e : bit_or ((low * 2 ^ 8) % 2 ^ 128) first ≡ (low % 2 ^ 120) * 2 ^ 8 + first =
-    cc (or_shifted (low % 2 ^ 120) 8 first k) in
-    let f : bit_or ((high * 2 ^ 8) % 2 ^ 128) (low / 2 ^ 120) ≡ high * 2 ^ 8 + low / 2 ^ 120 =
-    cc (or_shifted high 8 (low / 2 ^ 120) (omega arith)) in
-    omega (arith, e, f)
 
 -- ---- packed coefficients
 
@@ -93,27 +80,21 @@ packed-append (x ∷ xs) ys =
     ap (λ t. packed ys * t) (pow-suc 256 (length xs)) ∙ sym (mul_assoc (packed ys) q 256) in
     omega (arith, more, packed-append xs ys)
 
--- the first n coefficients are in the lower half of k coefficients, and the others in the upper
-pub unpacked-halves : (n k h l : ℕ) → l < 256 ^ k →
-    unpacked (min n k) l ++ unpacked (n - min n k) h ≡ unpacked n (h * 256 ^ k + l)
+-- the coefficients of a lower half, and after them those of an upper half
+unpacked-halves : (k m h l : ℕ) → l < 256 ^ k → unpacked k l ++ unpacked m h ≡ unpacked (k + m) (h * 256 ^ k + l)
 unfolding unpacked
-unpacked-halves zero k h l s =
-    let few : min 0 k ≡ 0 = omega arith in
-    cc few
-unpacked-halves (suc n) zero h l s =
-    let few : min (suc n) 0 ≡ 0 = omega arith in
-    let others : suc n - min (suc n) 0 ≡ suc n = omega arith in
+unpacked-halves zero m h l s =
+    let count : 0 + m ≡ m = omega arith in
     let whole : h * 256 ^ 0 + l ≡ h = omega arith in
-    cc (few, others, whole)
-unpacked-halves (suc n) (suc k) h l s =
-    let few : min (suc n) (suc k) ≡ suc (min n k) = omega arith in
-    let others : suc n - min (suc n) (suc k) ≡ n - min n k = omega arith in
+    cc (count, whole)
+unpacked-halves (suc k) m h l s =
+    let count : suc k + m ≡ suc (k + m) = omega arith in
     let q = 256 ^ k in
     let more : h * 256 ^ suc k ≡ h * q * 256 = ap (λ t. h * t) (pow-suc 256 k) ∙ sym (mul_assoc h q 256) in
     let less : l / 2 ^ 8 < q = omega (arith, pow-suc 256 k) in
     let first : (h * 256 ^ suc k + l) % 2 ^ 8 ≡ l % 2 ^ 8 = omega (arith, more) in
     let rest : (h * 256 ^ suc k + l) / 2 ^ 8 ≡ h * q + l / 2 ^ 8 = omega (arith, more) in
-    cc (few, others, first, rest, unpacked-halves n k h (l / 2 ^ 8) less)
+    cc (count, first, rest, unpacked-halves k m h (l / 2 ^ 8) less)
 
 -- the bytes of a number are its coefficients
 bytes-of : (i k v : ℕ) → bytes_low_first i k v ≡ unpacked k (v / 256 ^ i)
@@ -151,21 +132,31 @@ joined-halves k h l lower upper others s el eu n =
     drop_all k (drop k (lower ++ others)) (omega (arith, length-drop k (lower ++ others), length-append lower others, count, n)) in
     let whole : put_mid k k (lower ++ others) upper ≡ lower ++ upper =
     rw first (ap (λ t. lower ++ (upper ++ t)) rest ∙ ap (λ t. lower ++ t) (append-nil upper)) in
-    let few : min (k + k) k ≡ k = omega arith in
-    let more : k + k - min (k + k) k ≡ k = omega arith in
-    cc (whole, el, eu, few, more, unpacked-halves (k + k) k h l s)
+    cc (whole, el, eu, unpacked-halves k k h l s)
 
--- how large packed coefficients are
-packed-lt : (k : ℕ) (xs : List ℕ) → length xs ≤ k → All IsByte xs → packed xs < 256 ^ k
-packed-lt zero [] l a = omega arith
-packed-lt zero (x ∷ xs) l a = absurd (omega arith)
-packed-lt (suc k) [] l a = search (arith, pow-suc, packed-lt k [] (omega arith) a)
-packed-lt (suc k) (x ∷ xs) l a =
-    search (arith, All-tail, All-head, pow-suc, packed-lt k xs (omega arith) (All-tail IsByte x xs a))
+-- the coefficients of an upper half, packed after those of the lower half
+pub packed-halves : (k : ℕ) (bs : List ℕ) → k ≤ length bs →
+    packed (drop k bs) * 256 ^ k + packed (take k bs) ≡ packed bs
+packed-halves k bs l =
+    let count : length (take k bs) ≡ k = omega (arith, length-take k bs) in
+    cc (packed-append (take k bs) (drop k bs), take-append-drop k bs, count)
 
--- 31 of them leave room for one more
-pub packed-room : (xs : List ℕ) → length xs ≤ 31 → All IsByte xs → packed xs < 2 ^ 248
-packed-room xs l a = let e = packed-lt 31 xs l a in e
+-- zeros are packed into 0
+pub packed-zeros : (n : ℕ) → 0 ≡ packed (zeros n)
+packed-zeros zero = refl
+packed-zeros (suc n) = ap (λ t. t * 2 ^ 8 + 0) (packed-zeros n)
+
+-- zeros after coefficients
+pub packed-filled : (xs : List ℕ) (n k : ℕ) → packed (xs ++ drop n (zeros k)) ≡ packed xs
+packed-filled xs n k =
+    let q = 256 ^ length xs in
+    let none : 0 * q + packed xs ≡ packed xs = omega arith in
+    packed-append xs (drop n (zeros k)) ∙ (ap (λ t. t * q + packed xs) (dropped n k) ∙ none)
+  where
+    dropped : (n k : ℕ) → packed (drop n (zeros k)) ≡ 0
+    dropped zero k = sym (packed-zeros k)
+    dropped (suc n) zero = refl
+    dropped (suc n) (suc k) = dropped n k
 
 -- a multiple by 0
 pub packed-none : (g : List ℕ) → All IsByte g → packed (scaled 0 g) ≡ 0
@@ -208,7 +199,7 @@ pub doubled-halves : (h l : ℕ) → l < 2 ^ 128 →
     packed (scaled 2 (unpacked 16 h)) * 2 ^ 128 + packed (scaled 2 (unpacked 16 l))
     ≡ packed (scaled 2 (unpacked 32 (h * 2 ^ 128 + l)))
 doubled-halves h l s =
-    let whole : unpacked 16 l ++ unpacked 16 h ≡ unpacked 32 (h * 2 ^ 128 + l) = unpacked-halves 32 16 h l s in
+    let whole : unpacked 16 l ++ unpacked 16 h ≡ unpacked 32 (h * 2 ^ 128 + l) = unpacked-halves 16 16 h l s in
     let count : length (scaled 2 (unpacked 16 l)) ≡ 16 = length-map (unpacked 16 l) (product 2) ∙ length-unpacked 16 l in
     let sum = packed-append (scaled 2 (unpacked 16 l)) (scaled 2 (unpacked 16 h)) in
     cc (sym whole, map-append (product 2) (unpacked 16 l) (unpacked 16 h), count, sum)
