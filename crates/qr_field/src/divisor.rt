@@ -1,8 +1,8 @@
 //! The division by a generator polynomial, a codeword at a time (ISO/IEC 18004:2015, 7.5.2). Multiples of the
 //! polynomial are computed once: the multiple by a codeword is the sum of those by its low and by its high four bits.
 
-ghost use Rattle.std.specs.Prelude.{◌≡◌, ◌≤◌, ℕ, List, length};
-ghost use Rattle.qr_field.specs.Steps.Register.{HasMultiples, divisor_of, packed, value_of};
+ghost use Rattle.std.specs.Prelude.{◌≡◌, ◌≤◌, ℕ, List};
+ghost use Rattle.qr_field.specs.Steps.Register.{HasMultiples, divisor_of, packed, unpacked, value_of};
 ghost use Rattle.qr_field.specs.Polynomial.{IsCorrection, scaled};
 
 use crate::polynomial::generator;
@@ -33,19 +33,18 @@ impl Model for Divisor {
         × HasMultiples (divisor_of d.count) 4 16 d.high };
 }
 
-// Only the entries 1, 2, 4 and 8 are computed as products; the others are sums of them.
-fn multiples(terms: &[u8], shift: u8) -> [Register; 16]
-    requires long { length terms.now ≤ 30 }
-    requires small { shift ≤ 4 }
-    ensures { HasMultiples terms.now shift 16 result }
+// Each multiple of `by_one` is a sum of those by 1, 2, 4 and 8.
+fn multiples(by_one: Register) -> [Register; 16]
+    ensures { HasMultiples (unpacked 32 (value_of by_one)) 0 16 result }
 {
     let mut multiples = [Register::BLANK; 16];
+    let mut by_bit = by_one;
     for exponent in 0..4u8 {
-        let by_bit = Register::multiple(1 << (shift + exponent), terms);
         let bit = 1usize << exponent;
         for rest in 0..bit {
             multiples[bit + rest] = multiples[rest].plus(by_bit);
         }
+        by_bit = by_bit.doubled();
     }
     multiples
 }
@@ -57,11 +56,12 @@ impl Divisor {
         requires most { n ≤ 30 }
         ensures { result ≡ n }
     {
-        let divisor = generator(n);
+        let by_one = Register::new(generator(n).as_slice());
+        let by_sixteen = by_one.doubled().doubled().doubled().doubled();
         Divisor {
             count: n,
-            low: multiples(divisor.as_slice(), 0),
-            high: multiples(divisor.as_slice(), 4),
+            low: multiples(by_one),
+            high: multiples(by_sixteen),
         }
     }
 

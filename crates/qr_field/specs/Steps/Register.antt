@@ -10,7 +10,7 @@ packed [] = 0
 packed (b ∷ bs) = packed bs * 2 ^ 8 + b
 
 -- The first n coefficients in v
-abbrev pub unpacked : ℕ → ℕ → List ℕ
+unfoldable pub unpacked : ℕ → ℕ → List ℕ
 unpacked zero v = []
 unpacked (suc n) v = v % 2 ^ 8 ∷ unpacked n (v / 2 ^ 8)
 

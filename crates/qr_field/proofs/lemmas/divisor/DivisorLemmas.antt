@@ -1,63 +1,94 @@
 -- The multiples of a divisor, and the division by them.
-use Rattle.std.proofs.Common.{◌≡◌, ◌≢◌, ℕ, zero, suc, ◌+◌, ◌*◌, ◌/◌, ◌%◌, ◌^◌, ◌<◌, ◌≤◌, List, [], ◌∷◌, ◌++◌, length, take, drop, get_or, set, refl, sym, ap, ◌∙◌, subst, inl, inr, arith, bit_xor, lit<}
-use Rattle.std.proofs.lemmas.{Bool.cases_lt, Nat.{pow_pos, xor_comm, xor_of_8}, List.Elements.{All-drop, All-push}}
-use Rattle.std.proofs.lemmas.List.{get_or-replicate, get_or-set_same, get_or-set_other, length-set, length-replicate}
-use Rattle.std.{proofs.Math.Nat.{pow-le-pow_right, mul-lt-mul_of_pos_right}, specs.List.All}
+use Rattle.std.proofs.Common.{◌≡◌, ◌≢◌, ℕ, ◌+◌, ◌*◌, ◌/◌, ◌%◌, ◌^◌, ◌<◌, ◌≤◌, List, [], ◌∷◌, ◌++◌, length, take, drop, get_or, set, refl, sym, ap, ◌∙◌, subst, inl, inr, arith, bit_xor, lit<}
+use Rattle.std.proofs.lemmas.{Bool.cases_lt, Nat.{xor_comm, xor_of_8}, List.Elements.{All-drop, All-push, All-head, All-tail}}
+use Rattle.std.proofs.lemmas.List.{get_or-replicate, get_or-set_same, get_or-set_other, length-map, length-set, length-replicate}
+use Rattle.std.{proofs.Math.Nat.{pow-le-pow_right}, specs.List.All}
 use lib.ListN.{replicate}
 use Rattle.qr_field.specs.declared.register.Register.{Register}
+use Rattle.qr_field.specs.Galois.{product}
 use Rattle.qr_field.specs.Polynomial.{IsByte, plus, zeros, scaled, generator_of, IsCorrection}
 use Rattle.qr_field.specs.Steps.Register.{packed, unpacked, value_of, zero_register, divisor_of, HasMultiples, IsHeld}
-use Rattle.qr_field.proofs.lemmas.galois.BitLemmas.{digits, xor-shift, zero-times}
+use Rattle.qr_field.proofs.lemmas.galois.{BitLemmas.digits, FieldLemmas.product-assoc}
+use Rattle.qr_field.proofs.lemmas.galois.ByteLemmas.{product-by_sixteen, product-of_one, product-of_two_small}
 use Rattle.qr_field.proofs.lemmas.{polynomial.ListLemmas.bytes-scaled, galois.ProductLemmas.product-xor}
 use Rattle.qr_field.proofs.lemmas.polynomial.PolynomialLemmas.{correction-start, correction-step, generator-is}
-use Rattle.qr_field.proofs.lemmas.register.RegisterLemmas.{packed-plus, packed-none, packed-zero_last, packed-first, packed-rest, unpacked-packed}
+use Rattle.qr_field.proofs.lemmas.register.RegisterLemmas.{scaled-unpacked, packed-unpacked, bytes-unpacked, packed-plus, packed-none, packed-zeros, packed-zero_last, packed-first, packed-rest, unpacked-packed}
 
 -- a sum of multiples
 scaled-xor : (a b : ℕ) (g : List ℕ) → a < 256 → b < 256 → plus (scaled a g) (scaled b g) ≡ scaled (bit_xor a b) g
 scaled-xor a b [] l m = refl
 scaled-xor a b (x ∷ g) l m = cc (product-xor a b x l m, scaled-xor a b g l m)
 
+-- a multiple of a multiple
+scaled-scaled : (a b : ℕ) (g : List ℕ) → a < 256 → b < 256 → All IsByte g → scaled a (scaled b g) ≡ scaled (product a b) g
+scaled-scaled a b [] l m h = refl
+scaled-scaled a b (x ∷ g) l m h =
+    cc (product-assoc a b x l m (All-head IsByte x g h), scaled-scaled a b g l m (All-tail IsByte x g h))
+
+-- the multiple by 1
+scaled-one : (g : List ℕ) → All IsByte g → scaled 1 g ≡ g
+scaled-one [] h = refl
+scaled-one (x ∷ g) h = cc (product-of_one x (All-head IsByte x g h), scaled-one g (All-tail IsByte x g h))
+
+-- a multiple of a multiple that is packed
+packed-scaled : (a b : ℕ) (g : List ℕ) (v : ℕ) → a < 256 → b < 256 → length g ≤ 32 → All IsByte g →
+    v ≡ packed (scaled b g) → packed (scaled a (unpacked 32 v)) ≡ packed (scaled (product a b) g)
+packed-scaled a b g v l m n h e =
+    let count : length (scaled b g) ≤ 32 = omega (arith, length-map g (product b)) in
+    cc (e, scaled-unpacked a 32 (scaled b g) l count (bytes-scaled b g m), scaled-scaled a b g l m h)
+
+-- twice a multiple that is packed
+pub packed-double : (b : ℕ) (g : List ℕ) (v : ℕ) → b < 128 → length g ≤ 32 → All IsByte g →
+    v ≡ packed (scaled b g) → packed (scaled 2 (unpacked 32 v)) ≡ packed (scaled (b * 2) g)
+packed-double b g v l n h e =
+    cc (packed-scaled 2 b g v (lit< tt) (omega arith) n h e, product-of_two_small b l)
+
+-- what is packed is the multiple by 1
+pub packed-one : (v : ℕ) → v < 2 ^ 256 → v ≡ packed (scaled 1 (unpacked 32 v))
+packed-one v l = cc (packed-unpacked 32 v l, scaled-one (unpacked 32 v) (bytes-unpacked 32 v))
+
+-- what is doubled four times is the multiple by 16
+pub packed-sixteen : (g : List ℕ) (a b c d e : ℕ) → length g ≤ 32 → All IsByte g → a ≡ packed g →
+    b ≡ packed (scaled 2 (unpacked 32 a)) → c ≡ packed (scaled 2 (unpacked 32 b)) →
+    d ≡ packed (scaled 2 (unpacked 32 c)) → e ≡ packed (scaled 2 (unpacked 32 d)) → e ≡ packed (scaled 16 g)
+packed-sixteen g a b c d e n h is ib ic id ie =
+    let one : a ≡ packed (scaled 1 g) = cc (is, scaled-one g h) in
+    let two : b ≡ packed (scaled 2 g) = ib ∙ packed-double 1 g a (lit< tt) n h one in
+    let four : c ≡ packed (scaled 4 g) = ic ∙ packed-double 2 g b (lit< tt) n h two in
+    let eight : d ≡ packed (scaled 8 g) = id ∙ packed-double 4 g c (lit< tt) n h four in
+    ie ∙ packed-double 8 g d (lit< tt) n h eight
+
 -- a power of 2 below 16
 pub power-small : (i : ℕ) → i < 4 → 2 ^ i ≤ 8
 power-small i l = let e : 2 ^ i ≤ 2 ^ 3 = pow-le-pow_right {n = 2} (lit< tt) {i = i} {j = 3} (omega arith) in e
 
--- four bits moved up by at most four are a byte
-shifted-lt : (f s : ℕ) → f < 16 → s ≤ 4 → f * 2 ^ s < 256
-shifted-lt f s l m =
-    let e : 2 ^ s ≤ 2 ^ 4 = pow-le-pow_right {n = 2} (lit< tt) {i = s} {j = 4} m in
-    let h : 0 < 2 ^ s = pow_pos s in
-    let k : f * 2 ^ s < 16 * 2 ^ s = mul-lt-mul_of_pos_right l h in
-    omega (arith, e, k)
-
 -- the multiple by 0 alone
-pub multiples-start : (g : List ℕ) (s : ℕ) → All IsByte g → HasMultiples g s 1 (replicate 16 zero_register)
-multiples-start g s a =
+pub multiples-start : (g : List ℕ) → All IsByte g → HasMultiples g 0 1 (replicate 16 zero_register)
+multiples-start g a =
     record {
       many = length-replicate 16 zero_register;
       each = λ f l.
-          let e : f ≡ 0 = omega arith in
-          cc (zero-times (2 ^ s), get_or-replicate 16 f zero_register zero_register (omega arith), packed-none g a);
+          let e : f * 2 ^ 0 ≡ 0 = omega arith in
+          cc (e, get_or-replicate 16 f zero_register zero_register (omega arith), packed-none g a);
     }
 
 -- one multiple more
-pub multiples-more : (g : List ℕ) (rows : List Register) (s i r : ℕ) (row by_bit : Register) → All IsByte g →
-    s ≤ 4 → i < 4 → r < 2 ^ i → value_of row ≡ bit_xor (value_of (get_or rows r zero_register)) (value_of by_bit) →
-    value_of by_bit ≡ packed (scaled (2 ^ i * 2 ^ s) g) → HasMultiples g s (2 ^ i + r) rows →
-    HasMultiples g s (2 ^ i + (r + 1)) (set rows (2 ^ i + r) row)
-multiples-more g rows s i r row by_bit a ls li l sum by h =
+pub multiples-more : (g : List ℕ) (rows : List Register) (i r : ℕ) (row by_bit : Register) → i < 4 → r < 2 ^ i →
+    value_of row ≡ bit_xor (value_of (get_or rows r zero_register)) (value_of by_bit) →
+    value_of by_bit ≡ packed (scaled (2 ^ i) g) → HasMultiples g 0 (2 ^ i + r) rows →
+    HasMultiples g 0 (2 ^ i + (r + 1)) (set rows (2 ^ i + r) row)
+multiples-more g rows i r row by_bit li l sum by h =
     let bit = 2 ^ i in
     let small : bit ≤ 8 = power-small i li in
     let one : bit ≡ 1 * bit = omega arith in
     let joined : bit_xor r bit ≡ bit + r = cc (xor_comm r bit, digits i 1 r l) in
-    let factor : bit_xor (r * 2 ^ s) (bit * 2 ^ s) ≡ (bit + r) * 2 ^ s =
-    xor-shift s r bit ∙ ap (λ t. t * 2 ^ s) joined in
-    let read = h.each r (omega arith) in
-    let rl = shifted-lt r s (omega arith) ls in
-    let bl = shifted-lt bit s (omega (arith, small)) ls in
-    let ra = bytes-scaled (r * 2 ^ s) g rl in
-    let ba = bytes-scaled (bit * 2 ^ s) g bl in
-    let is : value_of row ≡ packed (scaled ((bit + r) * 2 ^ s) g) =
-    cc (packed-plus (scaled (r * 2 ^ s) g) (scaled (bit * 2 ^ s) g) ra ba, scaled-xor (r * 2 ^ s) (bit * 2 ^ s) g rl bl) in
+    let same : r * 2 ^ 0 ≡ r = omega arith in
+    let read : value_of (get_or rows r zero_register) ≡ packed (scaled r g) =
+    h.each r (omega arith) ∙ ap (λ t. packed (scaled t g)) same in
+    let rl : r < 256 = omega (arith, small) in
+    let bl : bit < 256 = omega (arith, small) in
+    let is : value_of row ≡ packed (scaled (bit + r) g) =
+    cc (sum, read, by, packed-plus (scaled r g) (scaled bit g) (bytes-scaled r g rl) (bytes-scaled bit g bl), scaled-xor r bit g rl bl, joined) in
     record {
       many = length-set rows (bit + r) row ∙ h.many;
       each = λ f m. elim (cases_lt f (bit + r)) [
@@ -66,9 +97,32 @@ multiples-more g rows s i r row by_bit a ls li l sum by h =
             ap value_of (get_or-set_other rows (bit + r) f row zero_register other) ∙ h.each f n
         | inr n ↦
             let e : f ≡ bit + r = omega arith in
+            let last : f * 2 ^ 0 ≡ bit + r = omega arith in
             let inside : bit + r < length rows = omega (arith, h.many, small) in
-            cc (get_or-set_same rows (bit + r) row zero_register inside)
+            cc (e, last, is, get_or-set_same rows (bit + r) row zero_register inside)
       ];
+    }
+
+-- the multiples of what is packed are those of its coefficients
+pub multiples-packed : (g : List ℕ) (v : ℕ) (rows : List Register) → length g ≤ 32 → All IsByte g →
+    v ≡ packed g → HasMultiples (unpacked 32 v) 0 16 rows → HasMultiples g 0 16 rows
+multiples-packed g v rows n a e h =
+    record {
+      many = h.many;
+      each = λ f l.
+          let low : f * 2 ^ 0 < 256 = omega arith in
+          cc (h.each f l, e, scaled-unpacked (f * 2 ^ 0) 32 g low n a);
+    }
+
+-- the multiples of what is 16 times packed
+pub multiples-sixteen : (g : List ℕ) (v : ℕ) (rows : List Register) → length g ≤ 32 → All IsByte g →
+    v ≡ packed (scaled 16 g) → HasMultiples (unpacked 32 v) 0 16 rows → HasMultiples g 4 16 rows
+multiples-sixteen g v rows n a e h =
+    record {
+      many = h.many;
+      each = λ f l.
+          let same : f * 2 ^ 0 ≡ f = omega arith in
+          cc (h.each f l, same, packed-scaled f 16 g v (omega arith) (lit< tt) n a e, product-by_sixteen f l);
     }
 
 -- a multiple is the sum of those by the low four bits and by the high four
@@ -91,11 +145,6 @@ multiple-of_halves g low high f l a b =
     ∙ (ap packed (scaled-xor x y g lx ly) ∙ ap (λ t. packed (scaled t g)) joined)))
 
 -- ---- division
-
--- zeros are packed into 0
-packed-zeros : (n : ℕ) → 0 ≡ packed (zeros n)
-packed-zeros zero = refl
-packed-zeros (suc n) = ap (λ t. t * 2 ^ 8 + 0) (packed-zeros n)
 
 -- the register of no codewords
 pub held-start : (n : ℕ) → IsHeld [] n 0

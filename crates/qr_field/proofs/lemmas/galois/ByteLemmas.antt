@@ -1,6 +1,7 @@
 -- Facts that are computed for each number below a bound, and what they say about products of bytes.
-use Rattle.std.proofs.Common.{◌≡◌, ℕ, zero, suc, ◌*◌, ◌<◌, Bool, true, ◌&&◌, eqb, refl, subst, inl, inr, arith}
+use Rattle.std.proofs.Common.{◌≡◌, ℕ, zero, suc, ◌*◌, ◌/◌, ◌%◌, ◌^◌, ◌<◌, Bool, true, ◌&&◌, eqb, refl, subst, inl, inr, arith, bit_xor}
 use Rattle.std.proofs.lemmas.Bool.{cases_lt, and_parts, eqb-true}
+use Rattle.std.specs.Int.Bits.{xor_zero_r}
 use Rattle.qr_field.specs.Galois.{carryless, product, remainder_of}
 
 -- a test at each number below n
@@ -47,6 +48,16 @@ doubles : below 256 (λ a. eqb (carryless 8 2 a) (2 * a)) ≡ true
 unfolding carryless
 doubles = refl
 
+-- products of 2, computed
+left-two : below 256 (λ a. eqb (bit_xor (a % 2 ^ 7 * 2) (a / 2 ^ 7 * 29)) (product 2 a)) ≡ true
+unfolding carryless product remainder_of
+left-two = refl
+
+-- products by 16, computed
+right-sixteen : below 16 (λ a. eqb (product a 16) (a * 16)) ≡ true
+unfolding carryless product remainder_of
+right-sixteen = refl
+
 -- 1 is the unit
 pub product-by_one : (a : ℕ) → a < 256 → product a 1 ≡ a
 product-by_one = same-below 256 (λ a. product a 1) (λ a. a) right-unit
@@ -66,3 +77,18 @@ product-of_zero = same-below 256 (λ a. product 0 a) (λ a. 0) left-zero
 -- a carryless product by 2 is a shift
 pub carryless-two : (a : ℕ) → a < 256 → carryless 8 2 a ≡ 2 * a
 carryless-two = same-below 256 (λ a. carryless 8 2 a) (λ a. 2 * a) doubles
+
+-- a product of 2 is a shift by one bit, and where that loses the highest bit, the rest of the prime modulus polynomial is added
+pub product-of_two : (a : ℕ) → a < 256 → bit_xor (a % 2 ^ 7 * 2) (a / 2 ^ 7 * 29) ≡ product 2 a
+product-of_two = same-below 256 (λ a. bit_xor (a % 2 ^ 7 * 2) (a / 2 ^ 7 * 29)) (λ a. product 2 a) left-two
+
+-- a product of 2 is twice an element that is below 128
+pub product-of_two_small : (a : ℕ) → a < 128 → product 2 a ≡ a * 2
+product-of_two_small a l =
+    let low : a % 2 ^ 7 ≡ a = omega arith in
+    let top : a / 2 ^ 7 * 29 ≡ 0 = omega arith in
+    cc (product-of_two a (omega arith), low, top, xor_zero_r (a * 2))
+
+-- a product by 16 is 16 times an element that is below 16
+pub product-by_sixteen : (a : ℕ) → a < 16 → product a 16 ≡ a * 16
+product-by_sixteen = same-below 16 (λ a. product a 16) (λ a. a * 16) right-sixteen

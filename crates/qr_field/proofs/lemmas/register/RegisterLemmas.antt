@@ -1,10 +1,14 @@
 -- Coefficients packed into one number, and a register of them.
-use Rattle.std.proofs.Common.{◌≡◌, ℕ, zero, suc, ◌+◌, ◌*◌, ◌/◌, ◌%◌, ◌^◌, ◌<◌, ◌≤◌, List, [], ◌∷◌, ◌++◌, length, drop, get_or, refl, sym, ap, arith, bit_xor, bit_or}
-use Rattle.std.proofs.lemmas.Nat.{or_shifted, xor_block, mod_low, shr_high}
-use Rattle.std.proofs.{lemmas.List.Elements.All-head, lemmas.List.Elements.All-tail, Math.Nat.pow-suc}
-use Rattle.std.specs.{List.All, Int.Bits.xor_zero_l, Int.Bits.xor_zero_r}
-use Rattle.qr_field.specs.{Polynomial.{IsByte, plus, scaled}, Steps.Register.{packed, unpacked}}
-use Rattle.qr_field.proofs.lemmas.galois.ByteLemmas.{product-of_zero}
+use Rattle.std.proofs.Common.{◌≡◌, ℕ, zero, suc, ◌+◌, ◌*◌, ◌/◌, ◌%◌, ◌^◌, ◌<◌, ◌≤◌, List, [], ◌∷◌, ◌++◌, length, take, drop, get_or, refl, sym, ap, ◌∙◌, arith, bit_xor, bit_or, bit_and}
+use Rattle.std.proofs.lemmas.Nat.{or_shifted, xor_block, and_block, and_mask, mod_low, shr_high}
+use Rattle.std.proofs.Math.Nat.{pow-suc, mul_assoc, div-div-eq-div-mul}
+use Rattle.std.proofs.lemmas.List.{append-nil, drop_all, length-append, length-drop, length-map, length-take, map-append, take-append-drop, take_at}
+use Rattle.std.proofs.lemmas.List.Elements.{All-nil, All-cons, All-head, All-tail}
+use Rattle.std.specs.{List.All, Int.{byte_at, bytes_low_first, to_le_bytes, w64}}
+use Rattle.std.specs.Int.Bits.{xor_zero_l, xor_zero_r, xor_self, and_zero_r}
+use borrow.Rule.Slice.PartMut.{put_mid}
+use Rattle.qr_field.specs.{Galois.product, Polynomial.{IsByte, plus, scaled, zeros}, Steps.Register.{packed, unpacked}}
+use Rattle.qr_field.proofs.lemmas.galois.ByteLemmas.{product-of_zero, product-by_zero, product-of_two}
 
 -- ---- two halves of a register
 
@@ -13,19 +17,6 @@ pub halves-rest : (low high : ℕ) → low < 2 ^ 128 → high < 2 ^ 128 →
     high / 2 ^ 8 * 2 ^ 128 + bit_or ((high * 2 ^ 120) % 2 ^ 128) (low / 2 ^ 8) ≡ (high * 2 ^ 128 + low) / 2 ^ 8
 halves-rest low high l h = let e = or_shifted (high % 2 ^ 8) 120 (low / 2 ^ 8) (omega arith) in
     search arith
-
--- the register moved up by one byte
-pub halves-after : (low high first : ℕ) → low < 2 ^ 128 → high < 2 ^ 120 → first < 2 ^ 8 →
-    bit_or ((high * 2 ^ 8) % 2 ^ 128) (low / 2 ^ 120) * 2 ^ 128 + bit_or ((low * 2 ^ 8) % 2 ^ 128) first
-    ≡ (high * 2 ^ 128 + low) * 2 ^ 8 + first
-halves-after low high first l h k =
-    let m : (low * 2 ^ 8) % 2 ^ 128 ≡ (low % 2 ^ 120) * 2 ^ 8 = omega arith in
-    let n : (high * 2 ^ 8) % 2 ^ 128 ≡ high * 2 ^ 8 = omega arith in
-    let e : bit_or ((low * 2 ^ 8) % 2 ^ 128) first ≡ (low % 2 ^ 120) * 2 ^ 8 + first =
-    cc (or_shifted (low % 2 ^ 120) 8 first k) in
-    let f : bit_or ((high * 2 ^ 8) % 2 ^ 128) (low / 2 ^ 120) ≡ high * 2 ^ 8 + low / 2 ^ 120 =
-    cc (or_shifted high 8 (low / 2 ^ 120) (omega arith)) in
-    omega (arith, e, f)
 
 -- ---- packed coefficients
 
@@ -53,25 +44,172 @@ packed-rest xs l a = grind arith
 
 -- packed coefficients that are unpacked are the same coefficients
 pub unpacked-packed : (n : ℕ) (xs : List ℕ) → length xs ≡ n → All IsByte xs → unpacked n (packed xs) ≡ xs
+unfolding unpacked
 unpacked-packed zero [] e a = refl
 unpacked-packed zero (x ∷ xs) e a = absurd (omega arith)
 unpacked-packed (suc n) [] e a = absurd (omega arith)
 unpacked-packed (suc n) (x ∷ xs) e a =
     search (arith, All-head, mod_low, shr_high, All-tail, unpacked-packed n xs (omega arith) (All-tail IsByte x xs a))
 
--- how large packed coefficients are
-packed-lt : (k : ℕ) (xs : List ℕ) → length xs ≤ k → All IsByte xs → packed xs < 256 ^ k
-packed-lt zero [] l a = omega arith
-packed-lt zero (x ∷ xs) l a = absurd (omega arith)
-packed-lt (suc k) [] l a = search (arith, pow-suc, packed-lt k [] (omega arith) a)
-packed-lt (suc k) (x ∷ xs) l a =
-    search (arith, All-tail, All-head, pow-suc, packed-lt k xs (omega arith) (All-tail IsByte x xs a))
+-- what is unpacked are bytes
+pub bytes-unpacked : (n v : ℕ) → All IsByte (unpacked n v)
+unfolding unpacked
+bytes-unpacked zero v = All-nil IsByte
+bytes-unpacked (suc n) v = All-cons IsByte (v % 2 ^ 8) (unpacked n (v / 2 ^ 8)) (omega arith) (bytes-unpacked n (v / 2 ^ 8))
 
--- 31 of them leave room for one more
-pub packed-room : (xs : List ℕ) → length xs ≤ 31 → All IsByte xs → packed xs < 2 ^ 248
-packed-room xs l a = let e = packed-lt 31 xs l a in e
+-- how many coefficients are unpacked
+pub length-unpacked : (n v : ℕ) → length (unpacked n v) ≡ n
+unfolding unpacked
+length-unpacked zero v = refl
+length-unpacked (suc n) v = ap suc (length-unpacked n (v / 2 ^ 8))
+
+-- coefficients that are unpacked and packed are the same number
+pub packed-unpacked : (n v : ℕ) → v < 256 ^ n → packed (unpacked n v) ≡ v
+unfolding unpacked
+packed-unpacked zero v l = omega arith
+packed-unpacked (suc n) v l =
+    let less : v / 2 ^ 8 < 256 ^ n = omega (arith, pow-suc 256 n) in
+    omega (arith, packed-unpacked n (v / 2 ^ 8) less)
+
+-- packed coefficients after others
+packed-append : (xs ys : List ℕ) → packed (xs ++ ys) ≡ packed ys * 256 ^ length xs + packed xs
+packed-append [] ys = omega arith
+packed-append (x ∷ xs) ys =
+    let q = 256 ^ length xs in
+    let more : packed ys * 256 ^ suc (length xs) ≡ packed ys * q * 256 =
+    ap (λ t. packed ys * t) (pow-suc 256 (length xs)) ∙ sym (mul_assoc (packed ys) q 256) in
+    omega (arith, more, packed-append xs ys)
+
+-- the coefficients of a lower half, and after them those of an upper half
+unpacked-halves : (k m h l : ℕ) → l < 256 ^ k → unpacked k l ++ unpacked m h ≡ unpacked (k + m) (h * 256 ^ k + l)
+unfolding unpacked
+unpacked-halves zero m h l s =
+    let count : 0 + m ≡ m = omega arith in
+    let whole : h * 256 ^ 0 + l ≡ h = omega arith in
+    cc (count, whole)
+unpacked-halves (suc k) m h l s =
+    let count : suc k + m ≡ suc (k + m) = omega arith in
+    let q = 256 ^ k in
+    let more : h * 256 ^ suc k ≡ h * q * 256 = ap (λ t. h * t) (pow-suc 256 k) ∙ sym (mul_assoc h q 256) in
+    let less : l / 2 ^ 8 < q = omega (arith, pow-suc 256 k) in
+    let first : (h * 256 ^ suc k + l) % 2 ^ 8 ≡ l % 2 ^ 8 = omega (arith, more) in
+    let rest : (h * 256 ^ suc k + l) / 2 ^ 8 ≡ h * q + l / 2 ^ 8 = omega (arith, more) in
+    cc (count, first, rest, unpacked-halves k m h (l / 2 ^ 8) less)
+
+-- the bytes of a number are its coefficients
+bytes-of : (i k v : ℕ) → bytes_low_first i k v ≡ unpacked k (v / 256 ^ i)
+unfolding unpacked
+bytes-of i zero v = refl
+bytes-of i (suc k) v =
+    let more : v / 256 ^ suc i ≡ v / 256 ^ i / 2 ^ 8 =
+    ap (λ t. v / t) (pow-suc 256 i) ∙ sym (div-div-eq-div-mul v (256 ^ i) 256) in
+    cc (byte-is i v, more, bytes-of (suc i) k v)
+  where
+    byte-is : (i v : ℕ) → byte_at i v ≡ v / 256 ^ i % 2 ^ 8
+    byte-is zero v = omega arith
+    byte-is (suc i) v = refl
+
+-- the first of some coefficients
+pub take-unpacked : (n k v : ℕ) → n ≤ k → take n (unpacked k v) ≡ unpacked n v
+unfolding unpacked
+take-unpacked zero k v l = refl
+take-unpacked (suc n) zero v l = absurd (omega arith)
+take-unpacked (suc n) (suc k) v l = ap (λ t. v % 2 ^ 8 ∷ t) (take-unpacked n k (v / 2 ^ 8) (omega arith))
+
+-- the bytes of a word
+pub word-bytes : (v : ℕ) → to_le_bytes w64 v ≡ unpacked 8 v
+word-bytes v =
+    let one : v / 256 ^ 0 ≡ v = omega arith in
+    bytes-of 0 8 v ∙ ap (unpacked 8) one
+
+-- the coefficients of an upper half are written after those of the lower half, in place of other numbers
+pub joined-halves : (k h l : ℕ) (lower upper others : List ℕ) → l < 256 ^ k → lower ≡ unpacked k l → upper ≡ unpacked k h →
+    length others ≡ k → put_mid k k (lower ++ others) upper ≡ unpacked (k + k) (h * 256 ^ k + l)
+joined-halves k h l lower upper others s el eu n =
+    let count : length lower ≡ k = ap length el ∙ length-unpacked k l in
+    let first : take k (lower ++ others) ≡ lower = take_at lower others k count in
+    let rest : drop k (drop k (lower ++ others)) ≡ [] =
+    drop_all k (drop k (lower ++ others)) (omega (arith, length-drop k (lower ++ others), length-append lower others, count, n)) in
+    let whole : put_mid k k (lower ++ others) upper ≡ lower ++ upper =
+    rw first (ap (λ t. lower ++ (upper ++ t)) rest ∙ ap (λ t. lower ++ t) (append-nil upper)) in
+    cc (whole, el, eu, unpacked-halves k k h l s)
+
+-- the coefficients of an upper half, packed after those of the lower half
+pub packed-halves : (k : ℕ) (bs : List ℕ) → k ≤ length bs →
+    packed (drop k bs) * 256 ^ k + packed (take k bs) ≡ packed bs
+packed-halves k bs l =
+    let count : length (take k bs) ≡ k = omega (arith, length-take k bs) in
+    cc (packed-append (take k bs) (drop k bs), take-append-drop k bs, count)
+
+-- zeros are packed into 0
+pub packed-zeros : (n : ℕ) → 0 ≡ packed (zeros n)
+packed-zeros zero = refl
+packed-zeros (suc n) = ap (λ t. t * 2 ^ 8 + 0) (packed-zeros n)
+
+-- zeros after coefficients
+pub packed-filled : (xs : List ℕ) (n k : ℕ) → packed (xs ++ drop n (zeros k)) ≡ packed xs
+packed-filled xs n k =
+    let q = 256 ^ length xs in
+    let none : 0 * q + packed xs ≡ packed xs = omega arith in
+    packed-append xs (drop n (zeros k)) ∙ (ap (λ t. t * q + packed xs) (dropped n k) ∙ none)
+  where
+    dropped : (n k : ℕ) → packed (drop n (zeros k)) ≡ 0
+    dropped zero k = sym (packed-zeros k)
+    dropped (suc n) zero = refl
+    dropped (suc n) (suc k) = dropped n k
 
 -- a multiple by 0
 pub packed-none : (g : List ℕ) → All IsByte g → packed (scaled 0 g) ≡ 0
 packed-none [] a = refl
 packed-none (x ∷ g) a = search (arith, product-of_zero, All-head, All-tail, packed-none g (All-tail IsByte x g a))
+
+-- ---- doubled coefficients
+
+-- the byte b in each of k bytes
+abbrev pub repeated : ℕ → ℕ → ℕ
+repeated zero b = 0
+repeated (suc k) b = repeated k b * 2 ^ 8 + b
+
+-- the coefficients of x, doubled all at once
+pub doubled-packed : (k x : ℕ) →
+    bit_xor (bit_and x (repeated k 127) * 2) (bit_and (x / 2 ^ 7) (repeated k 1) * 29) ≡ packed (scaled 2 (unpacked k x))
+unfolding unpacked
+doubled-packed zero x = cc (and_zero_r x, and_zero_r (x / 2 ^ 7), xor_self 0)
+doubled-packed (suc k) x =
+    let p = x / 2 ^ 8 in
+    let b = x % 2 ^ 8 in
+    let r = x / 2 ^ 7 % 2 ^ 8 in
+    let low = bit_and p (repeated k 127) in
+    let top = bit_and (p / 2 ^ 7) (repeated k 1) in
+    let small : b < 256 = omega arith in
+    let whole : x ≡ p * 2 ^ 8 + b = omega arith in
+    let moved : x / 2 ^ 7 ≡ p / 2 ^ 7 * 2 ^ 8 + r = omega arith in
+    let others : bit_and x (repeated (suc k) 127) ≡ low * 2 ^ 8 + b % 2 ^ 7 =
+    cc (whole, and_block 8 p (repeated k 127) b 127 (omega arith) (omega arith), and_mask b 7) in
+    let last : r % 2 ^ 1 ≡ b / 2 ^ 7 = omega arith in
+    let highest : bit_and (x / 2 ^ 7) (repeated (suc k) 1) ≡ top * 2 ^ 8 + b / 2 ^ 7 =
+    cc (moved, and_block 8 (p / 2 ^ 7) (repeated k 1) r 1 (omega arith) (omega arith), and_mask r 1) in
+    let l : (low * 2 ^ 8 + b % 2 ^ 7) * 2 ≡ low * 2 * 2 ^ 8 + b % 2 ^ 7 * 2 = omega arith in
+    let h : (top * 2 ^ 8 + b / 2 ^ 7) * 29 ≡ top * 29 * 2 ^ 8 + b / 2 ^ 7 * 29 = omega arith in
+    let sum = xor_block 8 (low * 2) (top * 29) (b % 2 ^ 7 * 2) (b / 2 ^ 7 * 29) (omega arith) (omega arith) in
+    cc (others, highest, l, h, sum, product-of_two b small, doubled-packed k p)
+
+-- doubled halves are halves of doubled coefficients
+pub doubled-halves : (h l : ℕ) → l < 2 ^ 128 →
+    packed (scaled 2 (unpacked 16 h)) * 2 ^ 128 + packed (scaled 2 (unpacked 16 l))
+    ≡ packed (scaled 2 (unpacked 32 (h * 2 ^ 128 + l)))
+doubled-halves h l s =
+    let whole : unpacked 16 l ++ unpacked 16 h ≡ unpacked 32 (h * 2 ^ 128 + l) = unpacked-halves 16 16 h l s in
+    let count : length (scaled 2 (unpacked 16 l)) ≡ 16 = length-map (unpacked 16 l) (product 2) ∙ length-unpacked 16 l in
+    let sum = packed-append (scaled 2 (unpacked 16 l)) (scaled 2 (unpacked 16 h)) in
+    cc (sym whole, map-append (product 2) (unpacked 16 l) (unpacked 16 h), count, sum)
+
+-- coefficients that are packed and unpacked have the same multiples
+pub scaled-unpacked : (f n : ℕ) (xs : List ℕ) → f < 256 → length xs ≤ n → All IsByte xs →
+    packed (scaled f (unpacked n (packed xs))) ≡ packed (scaled f xs)
+unfolding unpacked
+scaled-unpacked f zero [] m l a = refl
+scaled-unpacked f zero (x ∷ xs) m l a = absurd (omega arith)
+scaled-unpacked f (suc n) [] m l a = cc (product-by_zero f m, scaled-unpacked f n [] m (omega arith) a)
+scaled-unpacked f (suc n) (x ∷ xs) m l a =
+    cc (mod_low (packed xs) 8 x (All-head IsByte x xs a), shr_high (packed xs) 8 x (All-head IsByte x xs a), scaled-unpacked f n xs m (omega arith) (All-tail IsByte x xs a))
