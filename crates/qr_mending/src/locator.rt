@@ -10,11 +10,12 @@
 ghost use Rattle.std.specs.Prelude.{◌≡◌, ℕ, ◌+◌, ◌*◌, ◌<◌, ◌≤◌, List, false, length, IfSome, IfNone};
 ghost use Rattle.std.specs.Bool.{OnTrue, OnFalse};
 ghost use Rattle.arrayvec.specs.ArrayVec.{array_vec_len};
+ghost use Rattle.qr_mending.specs.Steps.Sums.{HasValues};
 ghost use Rattle.qr_mending.specs.Steps.Polynomial.{all_of, IsMonic, IsSearch, IsProgress};
 ghost use Rattle.qr_mending.specs.Steps.Errors.{AreFewErrors, AreFewErrorsOf, IsLocated};
 
 use crate::polynomial::Polynomial;
-use crate::sums::next_syndrome;
+use crate::sums::push_syndromes;
 use arrayvec::ArrayVec;
 use qr_field::div;
 
@@ -95,10 +96,11 @@ pub(crate) fn locator(syndromes: &[u8], t: usize) -> Polynomial
     search.best
 }
 
-// The first syndromes of a block, and the search after them.
+// The first syndromes of a block, and the search after `taken` of them.
 #[derive(Drop)]
 pub(crate) struct Progress {
     pub(crate) syndromes: ArrayVec<u8, 30>,
+    pub(crate) taken: usize,
     pub(crate) search: Search,
 }
 
@@ -108,7 +110,23 @@ impl Progress {
     {
         Progress {
             syndromes: ArrayVec::new(),
+            taken: 0,
             search: Search::new(),
+        }
+    }
+
+    // Computes further syndromes if all were taken in.
+    fn prepare(&mut self, remainder: &[u8])
+        requires few { length remainder.now ≤ 30 }
+        requires left { self.old.taken < length remainder.now }
+        requires within { self.old.taken ≤ array_vec_len self.old.syndromes }
+        requires values { HasValues self.old.syndromes.items remainder.now }
+        ensures next { self.new.taken < array_vec_len self.new.syndromes }
+        ensures taken { self.new.taken ≡ self.old.taken }
+        ensures progress { (t : ℕ) → IsProgress t remainder.now self.old → IsProgress t remainder.now self.new }
+    {
+        if self.taken == self.syndromes.len() {
+            push_syndromes(&mut self.syndromes, remainder);
         }
     }
 
@@ -118,18 +136,18 @@ impl Progress {
         requires progress { IsProgress t remainder.now self.old }
         requires small { t ≤ 15 }
         requires long { 2 * t ≤ length remainder.now }
+        requires few { length remainder.now ≤ 30 }
         ensures progress { OnTrue result (IsProgress t remainder.now self.new) }
-        ensures all { OnTrue result (early ≡ false → array_vec_len self.new.syndromes ≡ 2 * t) }
+        ensures all { OnTrue result (early ≡ false → self.new.taken ≡ 2 * t) }
         ensures beyond { OnFalse result ((errors : List ℕ) → AreFewErrorsOf t remainder.now errors → ⊥) }
     {
-        let mut later = None;
-        for i in self.syndromes.len()..2 * t {
-            let syndrome = next_syndrome(remainder, i as u8, &mut later);
-            self.syndromes.push(syndrome);
+        for i in self.taken..2 * t {
+            self.prepare(remainder);
             let Some(found) = next(&self.search, self.syndromes.as_slice(), i, t) else {
                 return false;
             };
             self.search = found;
+            self.taken = i + 1;
             if early && i + 1 == 2 * found.best.degree + 2 {
                 return true;
             }

@@ -1,13 +1,13 @@
 -- Values of polynomials, and sums of products of their coefficients with the items of a list.
-use Rattle.std.proofs.Common.{◌≡◌, ℕ, ◌+◌, ◌*◌, ◌<◌, ◌≤◌, List, [], ◌∷◌, ◌++◌, length, take, drop, get_or, refl, sym, ap, ◌∙◌, inl, inr, arith, lit<, bit_xor}
+use Rattle.std.proofs.Common.{◌≡◌, ℕ, ◌+◌, ◌-◌, ◌*◌, ◌%◌, ◌<◌, ◌≤◌, List, [], ◌∷◌, ◌++◌, length, drop, get_or, refl, sym, ap, ◌∙◌, inl, inr, arith, lit<, bit_xor, length-drop}
 use Rattle.std.proofs.lemmas.{Nat.xor_of_8, Nat.xor_comm, Bool.cases_lt}
-use Rattle.std.proofs.lemmas.List.{length_push, get_or_push, get_or_append_left, drop_more, take_more}
-use Rattle.std.proofs.lemmas.List.Elements.{All-head, All-tail, All-take, All-from_get_or}
-use Rattle.std.specs.{List.All, Int.Bits.{xor_assoc, xor_zero_l, xor_zero_r}}
+use Rattle.std.proofs.lemmas.List.{length_push, get_or_push, get_or_append_left, drop_more}
+use Rattle.std.proofs.lemmas.List.Elements.{All-head, All-tail}
+use Rattle.std.specs.{List.All, Int.Bits.{xor_assoc, xor_zero_l}}
 use Rattle.qr_field.specs.{Galois.product, Steps.Polynomial.value_at, Polynomial.{IsByte, plus, scaled, power}}
 use Rattle.qr_field.proofs.lemmas.galois.{BitLemmas.xor-swap, ProductLemmas.{product-lt, product-xor}}
-use Rattle.qr_field.proofs.lemmas.galois.ByteLemmas.{product-by_zero, product-of_zero, product-by_one}
-use Rattle.qr_field.proofs.lemmas.{logarithm.PowerLemmas.{power-lt, power-add}, laws.ValueLemmas.value-lt}
+use Rattle.qr_field.proofs.lemmas.galois.ByteLemmas.{product-by_zero, product-of_zero}
+use Rattle.qr_field.proofs.lemmas.{logarithm.PowerLemmas.{power-lt, power-add, power-mod}}
 use Rattle.qr_field.proofs.lemmas.galois.FieldLemmas.{product-comm, product-assoc, product-front, product-by_sum}
 use Rattle.qr_mending.specs.Steps.Sums.{dot_of, eval, blend, HasValues}
 
@@ -33,42 +33,44 @@ pub ruleset field_laws = (
 pub power-next : (i m : ℕ) → power ((i + 1) * m) ≡ product (power m) (power (i * m))
 power-next i m = rw (← power-add m (i * m)) (ap power (omega arith))
 
+-- the product of two powers, by an exponent below 255
+pub exponent-sum : (i j k : ℕ) → k ≡ (i + j) % 255 → power k ≡ product (power i) (power j)
+exponent-sum i j k e = cc (power-mod (i + j), power-add i j)
+
+-- the first multiple of an element, by the exponent of the element
+pub multiple-first : (element l first step e : ℕ) → power l ≡ element → e ≡ (l + first * step) % 255 →
+    power e ≡ product element (power ((first + 0) * step))
+multiple-first element l first step e log h =
+    let none : (first + 0) * step ≡ first * step = omega arith in
+    cc (power-mod (l + first * step), power-add l (first * step), none)
+
+-- the next multiple
+pub multiple-next : (element first k step e s : ℕ) → element < 256 →
+    power e ≡ product element (power ((first + k) * step)) → power s ≡ product (power e) (power step) →
+    power s ≡ product element (power ((first + (k + 1)) * step))
+multiple-next element first k step e s l now next =
+    let exponent : (first + (k + 1)) * step ≡ (first + k) * step + step = omega arith in
+    cc (
+      exponent,
+      power-add ((first + k) * step) step,
+      product-assoc element (power ((first + k) * step)) (power step) l (power-lt ((first + k) * step)) (power-lt step),
+    )
+
 -- ---- values
 
--- the value of a list with one coefficient more at its end
-value-push : (i : ℕ) (p : List ℕ) (c : ℕ) → All IsByte p → c < 256 →
-    value_at i (p ++ c ∷ []) ≡ bit_xor (product (value_at i p) (power i)) c
-value-push i [] c a l =
-    let none : i * 0 ≡ 0 = omega arith in
-    cc (
-      none,
-      xor_zero_r (product c (power 0)),
-      product-by_one c l,
-      product-of_zero (power i) (power-lt i),
-      xor_zero_l c,
-    )
-value-push i (b ∷ p) c a l =
-    let lb = All-head IsByte b p a in
-    let lp = All-tail IsByte b p a in
-    let place = power (i * length p) in
-    let exponent : i * (length p + 1) ≡ i * length p + i = omega arith in
-    cc (
-      length_push p c,
-      exponent,
-      power-add (i * length p) i,
-      product-assoc b place (power i) lb (power-lt (i * length p)) (power-lt i),
-      value-push i p c lp l,
-      xor_assoc (product (product b place) (power i)) (product (value_at i p) (power i)) c,
-      product-xor (product b place) (value_at i p) (power i) (product-lt b place lb) (value-lt i p lp),
-    )
+-- the value of the coefficients from index k - 1 on
+pub value-more : (i k : ℕ) (p : List ℕ) → 0 < k → k ≤ length p →
+    value_at i (drop (k - 1) p) ≡ bit_xor (product (get_or p (k - 1) 0) (power (i * (length p - k)))) (value_at i (drop k p))
+value-more i k p some l =
+    let next : k - 1 + 1 ≡ k = omega (arith, some) in
+    cc (drop_more p (k - 1) 0 (omega (arith, some, l)), next, length-drop k p)
 
--- the value of a block with one codeword more
-pub value-more : (i k v x w : ℕ) (block : List ℕ) → k < length block →
-    ((j : ℕ) → get_or block j 0 < 256) → x ≡ power i → v ≡ value_at i (take k block) →
-    w ≡ product v x → bit_xor w (get_or block k 0) ≡ value_at i (take (k + 1) block)
-value-more i k v x w block l b ex ev ew =
-    let bytes = All-take IsByte k block (All-from_get_or IsByte block 0 (λ j m. b j)) in
-    cc (value-push i (take k block) (get_or block k 0) bytes (b k), take_more block k 0 l)
+-- a coefficient of 0 does not change the value
+pub value-skip : (i k : ℕ) (p : List ℕ) → 0 < k → k ≤ length p → get_or p (k - 1) 0 ≡ 0 →
+    value_at i (drop (k - 1) p) ≡ value_at i (drop k p)
+value-skip i k p some l none =
+    let place = power (i * (length p - k)) in
+    cc (value-more i k p some l, none, product-of_zero place (power-lt (i * (length p - k))), xor_zero_l (value_at i (drop k p)))
 
 -- a list of values with one value more
 pub values-more : (s : List ℕ) (k v : ℕ) (e : List ℕ) → length s ≡ k → HasValues s e →
