@@ -64,6 +64,21 @@ pub(crate) fn add_multiples(sums: &mut [u8], element: u8, first: u8, step: u8)
     }
 }
 
+// The values at 2 to the powers `first` to `first` + 15 of the polynomial whose coefficients are `terms`, that of the
+// lowest power first.
+pub(crate) fn sixteen_values(terms: &[u8], first: u8) -> [u8; 16]
+    requires { length terms.now ≤ 255 }
+    ensures { (k : ℕ) → k < 16 → slice_index result k ≡ eval (power (first + k)) terms.now }
+{
+    let mut values = [0; 16];
+    for j in (0..terms.len()).rev() {
+        if terms[j] != 0 {
+            add_multiples(&mut values[..], terms[j], first, j as u8);
+        }
+    }
+    values
+}
+
 // The values of the polynomial whose coefficients are `remainder`, that of the highest power first, at 2 to the powers
 // `first` to `first` + 3.
 fn four_syndromes(remainder: &[u8], first: u8) -> [u8; 4]

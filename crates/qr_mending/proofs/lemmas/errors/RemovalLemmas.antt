@@ -1,14 +1,15 @@
 -- The errors are found one at a time. A polynomial that has a root for each later error, but none for this one, leaves
 -- of the products of all errors only that of this one.
-use Rattle.std.proofs.Common.{◌≡◌, ℕ, zero, suc, ◌+◌, ◌*◌, ◌<◌, ◌≤◌, List, [], ◌∷◌, ◌++◌, length, take, drop, get_or, refl, sym, ap, ◌∙◌, length-drop, arith, bit_xor}
+use Rattle.std.proofs.Common.{◌≡◌, ℕ, zero, suc, ◌+◌, ◌-◌, ◌*◌, ◌/◌, ◌%◌, ◌<◌, ◌≤◌, List, [], ◌∷◌, ◌++◌, length, take, drop, get_or, set, refl, sym, ap, ◌∙◌, length-drop, arith, bit_xor}
+use Rattle.std.proofs.Math.Numerals.{suc-eq-add-one}
 use Rattle.std.proofs.lemmas.{Nat.xor_of_8, Nat.xor_comm, List.{length_push, take-append-drop, take_more, drop_all, append-nil, take_all}, List.Elements.{All-head, All-tail}}
 use Rattle.std.specs.{List.{All, refill}, Int.Bits.{xor_zero_r, xor_self}}
 use Rattle.qr_field.specs.{Galois.product, Polynomial.{IsByte, plus, power}, Steps.Polynomial.value_at}
 use Rattle.qr_field.proofs.lemmas.galois.{BitLemmas.xor-cancel, ByteLemmas.{product-by_zero, product-by_one}, ProductLemmas.{product-lt, product-xor}}
-use Rattle.qr_field.proofs.lemmas.galois.FieldLemmas.{product-assoc, product-factor, sum-none}
-use Rattle.qr_field.proofs.lemmas.{logarithm.PowerLemmas.{power-lt, power-add, powers-apart}, laws.ValueLemmas.{value-zero}}
+use Rattle.qr_field.proofs.lemmas.galois.FieldLemmas.{product-factor, sum-none}
+use Rattle.qr_field.proofs.lemmas.{logarithm.PowerLemmas.{power-lt, powers-apart}, laws.ValueLemmas.{value-zero}}
 use Rattle.qr_field.proofs.lemmas.polynomial.ListLemmas.{length-plus}
-use Rattle.qr_mending.specs.Steps.{Sums.{dot_of, eval, HasValues}, Roots.HasLeadingOne, Errors.{weighted, IsLocated}}
+use Rattle.qr_mending.specs.Steps.{Sums.{dot_of, eval, HasValues}, Roots.HasLeadingOne, Errors.{weighted, IsLocated, ShowRoots, ShowErrors}}
 use Rattle.qr_mending.proofs.lemmas.sums.SumLemmas.{dot-blend}
 use Rattle.qr_mending.proofs.lemmas.errors.WeightLemmas.{coefficient-head, coefficient-tail, root-blends, weighted-value}
 
@@ -78,20 +79,6 @@ values-rest s t e c h long each = record {
       );
 }
 
--- the term of the next syndrome
-pub term-next : (error place k term root m : ℕ) → error < 256 → root ≡ power place →
-    term ≡ product error (power (k * place)) → m ≡ product term root → m ≡ product error (power ((k + 1) * place))
-term-next error place k term root m le er et em =
-    let exponent : (k + 1) * place ≡ k * place + place = omega arith in
-    cc (
-      er,
-      et,
-      em,
-      exponent,
-      power-add (k * place) place,
-      product-assoc error (power (k * place)) (power place) le (power-lt (k * place)) (power-lt place),
-    )
-
 -- a list that is overwritten with a list of the same length becomes the second list
 pub refill-same : (xs ws : List ℕ) (n : ℕ) → n ≡ length xs → length ws ≡ length xs → refill n xs ws ≡ ws
 refill-same xs ws n l e = search (arith, drop_all, append-nil, take_all)
@@ -148,12 +135,84 @@ drop-plus (suc k) [] (y ∷ ys) l = absurd (omega arith)
 drop-plus (suc k) (x ∷ xs) [] l = absurd (omega arith)
 drop-plus (suc k) (x ∷ xs) (y ∷ ys) l = drop-plus k xs ys (omega (arith, l))
 
+-- the codewords after one without an error
+keep-sum : (xs e : List ℕ) (k : ℕ) → k < length xs → k < length e → get_or e k 0 ≡ 0 →
+    take k (plus xs e) ++ drop k xs ≡ take (suc k) (plus xs e) ++ drop (suc k) xs
+keep-sum [] e k l m z = absurd (omega arith)
+keep-sum (x ∷ xs) [] k l m z = absurd (omega arith)
+keep-sum (x ∷ xs) (c ∷ e) zero l m z = ap (λ t. t ∷ xs) (sym (ap (bit_xor x) z ∙ xor_zero_r x))
+keep-sum (x ∷ xs) (c ∷ e) (suc k) l m z = ap (λ t. bit_xor x c ∷ t) (keep-sum xs e k (omega arith) (omega arith) z)
+
+pub sum-kept : (xs e items : List ℕ) (k : ℕ) → length e ≡ length xs → k < length xs → get_or e k 0 ≡ 0 →
+    items ≡ take k (plus xs e) ++ drop k xs → items ≡ take (k + 1) (plus xs e) ++ drop (k + 1) xs
+sum-kept xs e items k long l none same = cc (same, keep-sum xs e k l (omega (arith, long, l)) none, suc-eq-add-one k)
+
+-- the codewords after one from which the error is taken
+set-sum : (xs e : List ℕ) (k : ℕ) → k < length xs → k < length e →
+    set (take k (plus xs e) ++ drop k xs) k (bit_xor (get_or xs k 0) (get_or e k 0))
+    ≡ take (suc k) (plus xs e) ++ drop (suc k) xs
+set-sum [] e k l m = absurd (omega arith)
+set-sum (x ∷ xs) [] k l m = absurd (omega arith)
+set-sum (x ∷ xs) (c ∷ e) zero l m = refl
+set-sum (x ∷ xs) (c ∷ e) (suc k) l m = ap (λ t. bit_xor x c ∷ t) (set-sum xs e k (omega arith) (omega arith))
+
+pub sum-set : (xs e items : List ℕ) (k error : ℕ) → length e ≡ length xs → k < length xs → error ≡ get_or e k 0 →
+    items ≡ take k (plus xs e) ++ drop k xs →
+    set items k (bit_xor (get_or xs k 0) error) ≡ take (k + 1) (plus xs e) ++ drop (k + 1) xs
+sum-set xs e items k error long l found same = cc (same, found, set-sum xs e k l (omega (arith, long, l)), suc-eq-add-one k)
+
 -- the codewords so far and those after them, if no error is left
-pub sum-rest : (xs errors items new p : List ℕ) (k : ℕ) → length errors ≡ length xs → k ≤ length xs →
-    items ≡ take k (plus xs errors) → HasLeadingOne p → length p ≡ 1 → IsLocated p (drop k errors) →
-    new ≡ items ++ drop k xs → new ≡ plus xs errors
-sum-rest xs errors items new p k long l same leading alone located push =
+pub sum-rest : (xs e p : List ℕ) (k : ℕ) → length e ≡ length xs → k ≤ length xs → HasLeadingOne p → length p ≡ 1 →
+    IsLocated p (drop k e) → take k (plus xs e) ++ drop k xs ≡ plus xs e
+sum-rest xs e p k long l leading alone located =
     let one : p ≡ 1 ∷ [] = leading-alone p leading alone in
-    let rest = none-left (drop k xs) (drop k errors)
-    (omega (arith, length-drop k xs, length-drop k errors, long)) (rw one at located) in
-    cc (push, same, rest, drop-plus k xs errors (sym long), take-append-drop k (plus xs errors))
+    let rest = none-left (drop k xs) (drop k e) (omega (arith, length-drop k xs, length-drop k e, long)) (rw one at located) in
+    cc (rest, drop-plus k xs e (sym long), take-append-drop k (plus xs e))
+
+-- ---- groups of sixteen places
+
+-- the place in a group
+group-place : (place m : ℕ) → m / 16 ≡ place / 16 → place - place % 16 + m % 16 ≡ m
+group-place place m g = omega (arith, g)
+
+-- values of the locator show its roots
+pub roots-shown : (values p : List ℕ) (place end : ℕ) →
+    ((i : ℕ) → i < 16 → get_or values i 0 ≡ eval (power (place - place % 16 + i)) p) →
+    ShowRoots values p end (place / 16)
+roots-shown values p place end h m l g z =
+    ap (λ t. eval (power t) p) (sym (group-place place m g)) ∙ (sym (h (m % 16) (omega arith)) ∙ z)
+
+-- and where there is no error
+pub errors-shown : (values p e : List ℕ) (place end : ℕ) →
+    ((i : ℕ) → i < 16 → get_or values i 0 ≡ eval (power (place - place % 16 + i)) p) → length e ≡ end →
+    IsLocated p e → ShowErrors values e end (place / 16)
+errors-shown values p e place end h long located m l g n =
+    located.roots m (omega (arith, l, long))
+    (λ z. n (h (m % 16) (omega arith) ∙ (ap (λ t. eval (power t) p) (group-place place m g) ∙ z)))
+
+-- the roots at lower places
+pub roots-below : (values p : List ℕ) (place end next : ℕ) → end ≡ place + 1 → next ≡ place →
+    ShowRoots values p end (place / 16) → ShowRoots values p next (next / 16)
+roots-below values p place end next e n h m l g z = h m (omega (arith, l, e, n)) (g ∙ ap (λ t. t / 16) n) z
+
+-- the roots that are left after a division
+pub roots-left : (values p q : List ℕ) (place end next : ℕ) → end ≡ place + 1 → next ≡ place → place < 255 →
+    ((y : ℕ) → y < 256 → (y ≡ power place → ⊥) → eval y p ≡ 0 → eval y q ≡ 0) →
+    ShowRoots values p end (place / 16) → ShowRoots values q next (next / 16)
+roots-left values p q place end next e n small others h m l g z =
+    others (power m) (power-lt m)
+    (λ s. omega (arith, l, n, powers-apart m place (omega (arith, l, n, small)) small s))
+    (h m (omega (arith, l, e, n)) (g ∙ ap (λ t. t / 16) n) z)
+
+-- the errors after the first
+pub errors-below : (values e : List ℕ) (c place end next : ℕ) → end ≡ place + 1 → next ≡ place → length e ≡ place →
+    ShowErrors values (c ∷ e) end (place / 16) → ShowErrors values e next (next / 16)
+errors-below values e c place end next f n long h m l g some =
+    sym (coefficient-tail m c e (λ s. omega (arith, s, l, n, long)))
+    ∙ h m (omega (arith, l, f, n)) (g ∙ ap (λ t. t / 16) n) some
+
+-- the first error, if it is shown that there is none
+pub errors-none : (values e : List ℕ) (c place end : ℕ) → end ≡ place + 1 → length e ≡ place →
+    ShowErrors values (c ∷ e) end (place / 16) → (get_or values (place % 16) 0 ≡ 0 → ⊥) → c ≡ 0
+errors-none values e c place end f long h n =
+    sym (coefficient-head place c e (sym long)) ∙ h place (omega (arith, f)) refl n

@@ -1,12 +1,12 @@
 -- Values of polynomials, and sums of products of their coefficients with the items of a list.
 use Rattle.std.proofs.Common.{◌≡◌, ℕ, ◌+◌, ◌-◌, ◌*◌, ◌%◌, ◌<◌, ◌≤◌, List, [], ◌∷◌, ◌++◌, length, drop, get_or, refl, sym, ap, ◌∙◌, inl, inr, arith, lit<, bit_xor, length-drop}
 use Rattle.std.proofs.lemmas.{Nat.xor_of_8, Nat.xor_comm, Bool.cases_lt}
-use Rattle.std.proofs.lemmas.List.{length_push, get_or_push, get_or_append_left, drop_more}
-use Rattle.std.proofs.lemmas.List.Elements.{All-head, All-tail}
+use Rattle.std.proofs.lemmas.List.{length_push, get_or_push, get_or_append_left, drop_more, drop_all}
+use Rattle.std.proofs.lemmas.List.Elements.{All-drop, All-get_or, All-head, All-tail}
 use Rattle.std.specs.{List.All, Int.Bits.{xor_assoc, xor_zero_l}}
 use Rattle.qr_field.specs.{Galois.product, Steps.Polynomial.value_at, Polynomial.{IsByte, plus, scaled, power}}
 use Rattle.qr_field.proofs.lemmas.galois.{BitLemmas.xor-swap, ProductLemmas.{product-lt, product-xor}}
-use Rattle.qr_field.proofs.lemmas.galois.ByteLemmas.{product-by_zero, product-of_zero}
+use Rattle.qr_field.proofs.lemmas.galois.ByteLemmas.{product-by_zero, product-of_zero, product-of_one}
 use Rattle.qr_field.proofs.lemmas.{logarithm.PowerLemmas.{power-lt, power-add, power-mod}}
 use Rattle.qr_field.proofs.lemmas.galois.FieldLemmas.{product-comm, product-assoc, product-front, product-by_sum}
 use Rattle.qr_mending.specs.Steps.Sums.{dot_of, eval, blend, HasValues}
@@ -129,3 +129,49 @@ eval-lt x (c ∷ p) l a = xor_of_8 c (product x (eval x p)) (All-head IsByte c p
 -- an empty list contains the first values of every list
 pub values-none : (s e : List ℕ) → s ≡ [] → HasValues s e
 values-none s e h = record { each = λ k l. absurd (omega (arith, l, ap length h)) }
+
+-- no terms of the whole polynomial
+pub eval-start : (m k : ℕ) (p : List ℕ) → length p ≤ k → 0 ≡ product (power (m * k)) (eval (power m) (drop k p))
+eval-start m k p l =
+    let place = power (m * k) in
+    sym (ap (λ t. product place (eval (power m) t)) (drop_all k p l) ∙ product-by_zero place (power-lt (m * k)))
+
+-- the value at 2 to the power m of the coefficients from index k - 1 on, as terms of the whole polynomial
+pub eval-more : (m k : ℕ) (p : List ℕ) → All IsByte p → 0 < k → k ≤ length p →
+    product (power (m * (k - 1))) (eval (power m) (drop (k - 1) p))
+    ≡ bit_xor (product (get_or p (k - 1) 0) (power (m * (k - 1)))) (product (power (m * k)) (eval (power m) (drop k p)))
+eval-more m k p lp some l =
+    let i = k - 1 in
+    let next : i + 1 ≡ k = omega (arith, some) in
+    let a = get_or p i 0 in
+    let rest = eval (power m) (drop k p) in
+    let la = All-get_or IsByte p i 0 (omega (arith, some, l)) lp in
+    let lr = eval-lt (power m) (drop k p) (power-lt m) (All-drop IsByte k p lp) in
+    let exponent : m * (i + 1) ≡ m * i + m = omega arith in
+    cc (
+      drop_more p i 0 (omega (arith, some, l)),
+      next,
+      exponent,
+      power-add (m * i) m,
+      product-assoc (power (m * i)) (power m) rest (power-lt (m * i)) (power-lt m) lr,
+      product-by_sum (power (m * i)) a (product (power m) rest) (power-lt (m * i)) la (product-lt (power m) rest (power-lt m)),
+      product-comm (power (m * i)) a (power-lt (m * i)) la,
+    )
+
+-- a coefficient of 0 does not change them
+pub eval-skip : (m k : ℕ) (p : List ℕ) → All IsByte p → 0 < k → k ≤ length p → get_or p (k - 1) 0 ≡ 0 →
+    product (power (m * (k - 1))) (eval (power m) (drop (k - 1) p)) ≡ product (power (m * k)) (eval (power m) (drop k p))
+eval-skip m k p lp some l none =
+    let place = power (m * (k - 1)) in
+    cc (
+      eval-more m k p lp some l,
+      none,
+      product-of_zero place (power-lt (m * (k - 1))),
+      xor_zero_l (product (power (m * k)) (eval (power m) (drop k p))),
+    )
+
+-- once all coefficients are terms
+pub eval-all : (m : ℕ) (p : List ℕ) → All IsByte p → product (power (m * 0)) (eval (power m) (drop 0 p)) ≡ eval (power m) p
+eval-all m p lp =
+    let none : m * 0 ≡ 0 = omega arith in
+    cc (none, product-of_one (eval (power m) p) (eval-lt (power m) p (power-lt m) lp))
