@@ -7,18 +7,18 @@
 //! syndrome at its index, is this error times the value of the locator at its root. The error then goes out of the
 //! syndromes.
 
-ghost use Rattle.std.specs.Prelude.{◌≡◌, ◌≢◌, ℕ, ◌+◌, ◌*◌, ◌<◌, ◌≤◌, List, ◌∷◌, length, bit_xor, slice_index};
+ghost use Rattle.std.specs.Prelude.{◌≡◌, ◌≢◌, ℕ, ◌+◌, ◌*◌, ◌<◌, ◌≤◌, List, [], ◌∷◌, ◌++◌, length, bit_xor, slice_index};
 ghost use Rattle.std.specs.List.{All};
 ghost use Rattle.arrayvec.specs.ArrayVec.{array_vec_len};
 ghost use Rattle.qr_field.specs.Galois.{product};
-ghost use Rattle.qr_field.specs.Polynomial.{IsByte, plus, power};
+ghost use Rattle.qr_field.specs.{Polynomial.{IsByte, plus, power}, Steps.Polynomial.{value_at}};
 ghost use Rattle.qr_mending.specs.Steps.Sums.{eval, HasValues};
 ghost use Rattle.qr_mending.specs.Steps.Roots.{quotient, HasLeadingOne};
 ghost use Rattle.qr_mending.specs.Steps.Errors.{IsLocated};
 
 use crate::sums::{add_multiples, dot, sixteen_values, value};
 use arrayvec::ArrayVec;
-use qr_field::{div, mul, power_of};
+use qr_field::{div, exponent_of, mul, power_of};
 
 // Divides a polynomial by x + `root` by Horner's rule. The quotient has a coefficient less, so the last becomes 0; the
 // remainder is left out.
@@ -92,8 +92,27 @@ fn error(locator: &mut ArrayVec<u8, 31>, syndromes: &mut ArrayVec<u8, 30>, place
     error
 }
 
-// To add the errors removes them, since equal elements of the field add up to 0. None is left once the locator is 1. The
-// values of the locator are computed for sixteen places at once; they still show the roots that are left after a division.
+// Adds `error` to the codeword that is located by x + `root`, if it is one of the last `end`.
+fn remove_last(codewords: &mut [u8], root: u8, error: u8, end: usize)
+    requires within { end ≤ length codewords.old }
+    ensures long { length codewords.new ≡ length codewords.old }
+    ensures sum { (before xs errors : List ℕ) → codewords.old ≡ before ++ xs → length xs ≡ end →
+        length errors ≡ end → IsLocated (root ∷ 1 ∷ []) errors → error ≡ value_at 0 errors →
+        codewords.new ≡ before ++ plus xs errors }
+{
+    if root == 0 {
+        return;
+    }
+    let place = usize::from(exponent_of(root));
+    if place < end {
+        let last = codewords.len() - 1;
+        codewords[last - place] ^= error;
+    }
+}
+
+// To add the errors removes them, since equal elements of the field add up to 0. None is left once the locator is 1. Once
+// it is x + r, the logarithm of r is the place of the last error, and the first syndrome is this error. The values of the
+// locator are computed for sixteen places at once; they still show the roots that are left after a division.
 pub(crate) fn without_errors(locator: &[u8], syndromes: &[u8], damaged: &[u8]) -> ArrayVec<u8, 255>
     requires leading { HasLeadingOne locator.now }
     requires most { length syndromes.now ≤ 30 }
@@ -112,6 +131,16 @@ pub(crate) fn without_errors(locator: &[u8], syndromes: &[u8], damaged: &[u8]) -
     let mut values = [0; 16];
     for k in 0..damaged.len() {
         if locator_left.len() == 1 {
+            return codewords;
+        }
+        if locator_left.len() == 2 {
+            let left = damaged.len() - k;
+            remove_last(
+                codewords.as_mut_slice(),
+                locator_left[0],
+                syndromes_left[0],
+                left,
+            );
             return codewords;
         }
         let place = (damaged.len() - 1 - k) as u8;

@@ -1,8 +1,8 @@
-use Rattle.std.proofs.Common.{◌≡◌, ℕ, ◌+◌, ◌-◌, ◌/◌, ◌<◌, List, ◌∙◌, ◌∷◌, ap, refl, length, drop, get_or, set, bit_xor, length-drop, arith}
+use Rattle.std.proofs.Common.{◌≡◌, ℕ, ◌+◌, ◌-◌, ◌/◌, ◌<◌, List, ◌∙◌, ◌∷◌, ap, refl, length, drop, get_or, set, bit_xor, length-drop, arith, take, subst}
 use Rattle.std.proofs.lemmas.List.{take_all, drop_all, drop_more, length-set, append-nil}
 use Rattle.qr_field.{specs.Polynomial.{plus}, proofs.lemmas.polynomial.ListLemmas.{length-plus}}
 use Rattle.qr_mending.specs.Steps.{Sums.{HasValues}, Errors.{IsLocated, ShowRoots, ShowErrors}}
-use Rattle.qr_mending.proofs.lemmas.errors.RemovalLemmas.{located-rest, values-same, refill-same, sum-kept, sum-set, sum-rest, roots-shown, errors-shown, roots-below, roots-left, errors-below, errors-none}
+use Rattle.qr_mending.proofs.lemmas.errors.RemovalLemmas.{located-rest, values-same, refill-same, sum-kept, sum-set, sum-rest, sum-last, leading-two, roots-shown, errors-shown, roots-below, roots-left, errors-below, errors-none}
 use Rattle.qr_mending.proofs.errors.without_errors.Goals as goal
 use Rattle.qr_mending.proofs.errors.without_errors.Goals.{After-from, then-k-eq0, else-k-eq0+else-place-eq15}
 
@@ -130,6 +130,26 @@ returns-then-len-eq1-clause-sum c = λ errors long located values.
     kept.5 errors long located values
     ∙ sum-rest c.args.damaged.now errors c.loop-k.locator_left.items c.loop-k.k long (omega arith) kept.1 (omega arith)
     (kept.3 errors long located values)
+
+pub returns-then-len-eq2-clause-sum : goal.returns-then-len-eq2-clause-sum
+returns-then-len-eq2-clause-sum c = λ errors long located values.
+    let kept = c.loop-k.invariant in
+    let k = c.loop-k.k in
+    let damaged = c.args.damaged.now in
+    let items = c.loop-k.codewords.items in
+    let p = c.loop-k.locator_left.items in
+    let new = c.remove_last.new.codewords in
+    let two = leading-two p kept.1 (omega arith) in
+    let rest = drop k errors in
+    let count : length rest ≡ length damaged - k = omega (arith, long, length-drop k errors) in
+    let same = c.as_mut_slice.ensures.value in
+    let first = (kept.4 errors long located values).each 0 (omega arith) in
+    let sum = c.remove_last.ensures.sum (take k (plus damaged errors)) (drop k damaged) rest
+    (same ∙ kept.5 errors long located values) (length-drop k damaged) count
+    (rw c.deref.ensures.0 (subst (λ (t : List ℕ). IsLocated t rest) two (kept.3 errors long located values)))
+    (rw c.deref-then-len-eq2.ensures.0 first) in
+    refill-same items new (length items) refl (omega (arith, ap length same))
+    ∙ sum-last damaged errors new k long sum
 
 pub returns-clause-sum : goal.returns-clause-sum
 returns-clause-sum c = λ errors long located values.
