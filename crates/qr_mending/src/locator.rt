@@ -7,7 +7,7 @@
 //! multiple of an earlier polynomial is added, and if need be its degree rises. The degree is never higher than the
 //! number of misread codewords.
 
-ghost use Rattle.std.specs.Prelude.{◌≡◌, ℕ, ◌+◌, ◌*◌, ◌<◌, ◌≤◌, List, false, length, IfSome, IfNone};
+ghost use Rattle.std.specs.Prelude.{◌≡◌, ℕ, ◌+◌, ◌*◌, ◌<◌, ◌≤◌, List, false, length};
 ghost use Rattle.std.specs.Bool.{OnTrue, OnFalse};
 ghost use Rattle.arrayvec.specs.ArrayVec.{array_vec_len};
 ghost use Rattle.qr_mending.specs.Steps.Sums.{HasValues};
@@ -41,41 +41,39 @@ impl Search {
             miss: 1,
         }
     }
-}
 
-// Takes in syndrome `i`. Returns `None` if the degree would rise above `t`: then over `t` codewords are misread.
-fn next(search: &Search, syndromes: &[u8], i: usize, t: usize) -> Option<Search>
-    requires search { IsSearch i syndromes.now search.now }
-    requires degree { search.now.best.degree ≤ t }
-    requires small { t ≤ 15 }
-    requires within { i < length syndromes.now }
-    ensures search { IfSome result (λ next. IsSearch (i + 1) syndromes.now next) }
-    ensures degree { IfSome result (λ next. next.best.degree ≤ t) }
-    ensures beyond { IfNone result ((errors : List ℕ) → AreFewErrors t syndromes.now errors → ⊥) }
-{
-    let best = search.best;
-    let miss = best.miss(&syndromes[i - best.degree..]);
-    if miss == 0 {
-        return Some(*search);
+    // Takes in syndrome `i`. Returns false, and changes nothing, if the degree would rise above `t`: then over `t` codewords
+    // are misread.
+    fn take_in(&mut self, syndromes: &[u8], i: usize, t: usize) -> bool
+        requires search { IsSearch i syndromes.now self.old }
+        requires degree { self.old.best.degree ≤ t }
+        requires small { t ≤ 15 }
+        requires within { i < length syndromes.now }
+        ensures search { OnTrue result (IsSearch (i + 1) syndromes.now self.new) }
+        ensures degree { OnTrue result (self.new.best.degree ≤ t) }
+        ensures beyond { OnFalse result ((errors : List ℕ) → AreFewErrors t syndromes.now errors → ⊥) }
+        ensures same { OnFalse result (self.new ≡ self.old) }
+    {
+        let degree = self.best.degree;
+        let miss = self.best.miss(&syndromes[i - degree..]);
+        if miss == 0 {
+            return true;
+        }
+        let factor = div(miss, self.miss);
+        if 2 * degree > i {
+            self.best.add(factor, &self.earlier, 2 * degree - i - 1);
+            return true;
+        }
+        if i + 1 - degree > t {
+            return false;
+        }
+        let mut raised = self.best.shifted(i + 1 - 2 * degree);
+        raised.add(factor, &self.earlier, 0);
+        self.earlier = self.best;
+        self.best = raised;
+        self.miss = miss;
+        true
     }
-    let factor = div(miss, search.miss);
-    if 2 * best.degree > i {
-        let added = search.earlier.shifted(2 * best.degree - i - 1);
-        return Some(Search {
-            best: best.plus(factor, &added),
-            earlier: search.earlier,
-            miss: search.miss,
-        });
-    }
-    if i + 1 - best.degree > t {
-        return None;
-    }
-    let raised = best.shifted(i + 1 - 2 * best.degree);
-    Some(Search {
-        best: raised.plus(factor, &search.earlier),
-        earlier: best,
-        miss,
-    })
 }
 
 // If over `t` codewords are misread, any polynomial.
@@ -88,10 +86,9 @@ pub(crate) fn locator(syndromes: &[u8], t: usize) -> Polynomial
 {
     let mut search = Search::new();
     for i in 0..2 * t {
-        let Some(found) = next(&search, syndromes, i, t) else {
+        if !search.take_in(syndromes, i, t) {
             return search.best;
-        };
-        search = found;
+        }
     }
     search.best
 }
@@ -143,12 +140,11 @@ impl Progress {
     {
         for i in self.taken..2 * t {
             self.prepare(remainder);
-            let Some(found) = next(&self.search, self.syndromes.as_slice(), i, t) else {
+            if !self.search.take_in(self.syndromes.as_slice(), i, t) {
                 return false;
-            };
-            self.search = found;
+            }
             self.taken = i + 1;
-            if early && i + 1 == 2 * found.best.degree + 2 {
+            if early && i + 1 == 2 * self.search.best.degree + 2 {
                 return true;
             }
         }

@@ -36,7 +36,7 @@ pub(crate) fn value(terms: &[u8], x: u8) -> u8
 }
 
 // The exponent of the product of 2 to the power `i` and 2 to the power `j`.
-fn exponent_sum(i: u8, j: u8) -> u8
+pub(crate) fn exponent_sum(i: u8, j: u8) -> u8
     requires first { i < 255 }
     requires second { j < 255 }
     ensures small { result < 255 }

@@ -1,10 +1,10 @@
 -- The search for the locator: what adding a multiple of a shifted polynomial does, and that its degree stays below the
 -- number of errors.
 use Rattle.std.proofs.Common.{◌≡◌, ℕ, zero, suc, ◌+◌, ◌-◌, ◌*◌, ◌<◌, ◌≤◌, List, [], ◌∷◌, ◌++◌, length, take, drop, get_or, set, refl, sym, ap, ◌∙◌, subst, inl, inr, arith, lit<, bit_xor, append_assoc, length-append}
-use Rattle.std.proofs.{lemmas.Bool.cases_lt, Math.Numerals.suc-eq-add-one}
+use Rattle.std.proofs.{lemmas.{Bool.cases_lt, Nat.xor_comm, List.set-get_or}, Math.Seq.take-append-add}
 use Rattle.std.proofs.lemmas.List.{length-take, length-map, take_all, get_or-take, get_or-append-add, drop-drop, take_more_set, take_more, length-replicate}
 use Rattle.std.proofs.lemmas.List.Elements.{All-nil, All-cons, All-head, All-tail, All-drop}
-use Rattle.std.specs.{List.All, Int.Bits.{xor_zero_l, xor_self}}
+use Rattle.std.specs.{List.All, Int.Bits.{xor_zero_l, xor_zero_r, xor_self}}
 use Rattle.qr_field.specs.{Galois.product}
 use Rattle.qr_field.specs.{Polynomial.{IsByte, plus, scaled, zeros}, Distance.{differences}}
 use Rattle.qr_field.proofs.lemmas.{galois.ByteLemmas.{product-by_zero, product-of_zero}, polynomial.ListLemmas.{take-plus, length-plus, bytes-plus, bytes-scaled}}
@@ -25,12 +25,6 @@ plus-set f (x ∷ o) [] j l h = absurd (omega arith)
 plus-set f (x ∷ o) (y ∷ t) zero l h = refl
 plus-set f (x ∷ o) (y ∷ t) (suc j) l h = cc (plus-set f o t j (omega arith) (omega arith))
 
--- one coefficient more, stated with the variables of the loop
-pub plus-more : (f : ℕ) (o t now : List ℕ) (j m : ℕ) → j < length o → j < length t →
-    now ≡ plus (scaled f (take j o)) t → m ≡ product f (get_or o j 0) →
-    set now j (bit_xor m (get_or t j 0)) ≡ plus (scaled f (take (j + 1) o)) t
-plus-more f o t now j m l h e g = cc (plus-set f o t j l h, suc-eq-add-one j)
-
 -- the items after the end of the shorter list stay the same
 plus-beyond : (xs ys : List ℕ) (k : ℕ) → length xs ≤ k → get_or (plus xs ys) k 0 ≡ get_or ys k 0
 plus-beyond [] ys k l = refl
@@ -44,19 +38,77 @@ plus-beyond (x ∷ xs) [] (suc k) l = past xs k (omega arith)
 plus-beyond (x ∷ xs) (y ∷ ys) zero l = absurd (omega arith)
 plus-beyond (x ∷ xs) (y ∷ ys) (suc k) l = plus-beyond xs ys k (omega arith)
 
--- a multiple of the first j coefficients has at most j coefficients
-length-multiple : (f j : ℕ) (o : List ℕ) → length (scaled f (take j o)) ≤ j
-length-multiple f j o = search (arith, length-map, length-take)
+-- a multiple of the first k coefficients, shifted by a, has at most a + k coefficients
+length-multiple : (f a k : ℕ) (p : List ℕ) → length (scaled f (zeros a ++ take k p)) ≤ a + k
+length-multiple f a k p = omega (
+  arith,
+  length-map (zeros a ++ take k p) (product f),
+  length-append (zeros a) (take k p),
+  length-replicate {A = ℕ} a 0,
+  length-take k p,
+)
+
+-- before the first coefficient of the multiple
+pub add-begins : (f a : ℕ) (p t : List ℕ) → f < 256 → a ≤ length t → t ≡ plus (scaled f (zeros a ++ take 0 p)) t
+add-begins f zero p t lf l = refl
+add-begins f (suc a) p [] lf l = absurd (omega arith)
+add-begins f (suc a) p (x ∷ t) lf l = cc (product-by_zero f lf, xor_zero_l x, add-begins f a p t lf (omega arith))
+
+-- the coefficients of the multiple at their places
+first-multiples : (a k : ℕ) (p : List ℕ) → take (a + k) (zeros a ++ p) ≡ zeros a ++ take k p
+first-multiples a k p =
+    ap (λ n. take (n + k) (zeros a ++ p)) (sym (length-replicate {A = ℕ} a 0)) ∙ take-append-add (zeros a) p k
+
+multiple-at : (a k : ℕ) (p : List ℕ) → get_or (zeros a ++ p) (a + k) 0 ≡ get_or p k 0
+multiple-at a k p =
+    ap (λ n. get_or (zeros a ++ p) (n + k) 0) (sym (length-replicate {A = ℕ} a 0)) ∙ get_or-append-add (zeros a) p k 0
+
+-- one coefficient of the multiple more
+pub add-more : (f a k m : ℕ) (p t now : List ℕ) → k < length p → a + k < length t →
+    now ≡ plus (scaled f (zeros a ++ take k p)) t → m ≡ product f (get_or p k 0) →
+    set now (a + k) (bit_xor (get_or now (a + k) 0) m) ≡ plus (scaled f (zeros a ++ take (k + 1) p)) t
+add-more f a k m p t now l h same value =
+    let o = zeros a ++ p in
+    let long : a + k < length o = omega (arith, l, length-append (zeros a) p, length-replicate {A = ℕ} a 0) in
+    let next : a + (k + 1) ≡ suc (a + k) = omega arith in
+    cc (
+      same,
+      value,
+      plus-beyond (scaled f (zeros a ++ take k p)) t (a + k) (length-multiple f a k p),
+      xor_comm (get_or t (a + k) 0) m,
+      multiple-at a k p,
+      first-multiples a k p,
+      first-multiples a (k + 1) p,
+      next,
+      plus-set f o t (a + k) long h,
+    )
+
+-- a coefficient of 0 adds nothing
+pub add-skip : (f a k : ℕ) (p t now : List ℕ) → f < 256 → k < length p → a + k < length t → get_or p k 0 ≡ 0 →
+    now ≡ plus (scaled f (zeros a ++ take k p)) t → now ≡ plus (scaled f (zeros a ++ take (k + 1) p)) t
+add-skip f a k p t now lf l h none same =
+    let here = get_or now (a + k) 0 in
+    sym (set-get_or now (a + k) 0)
+    ∙ (ap (set now (a + k)) (sym (xor_zero_r here))
+    ∙ add-more f a k 0 p t now l h same (sym (ap (product f) none ∙ product-by_zero f lf)))
 
 -- the leading coefficient stays the same
-pub leading-stays : (f j d : ℕ) (o t now : List ℕ) → j ≤ d → now ≡ plus (scaled f (take j o)) t →
+pub add-leading : (f a k d : ℕ) (p t now : List ℕ) → a + k ≤ d → now ≡ plus (scaled f (zeros a ++ take k p)) t →
     get_or t d 0 ≡ 1 → get_or now d 0 ≡ 1
-leading-stays f j d o t now l e h = search (arith, plus-beyond, length-multiple)
+add-leading f a k d p t now l same one =
+    cc (same, plus-beyond (scaled f (zeros a ++ take k p)) t d (omega (arith, length-multiple f a k p, l)), one)
 
 -- the sum with all coefficients of the multiple
-pub sum-all : (f j k d : ℕ) (o t now : List ℕ) → j ≡ k + 1 → k < d →
-    now ≡ plus (scaled f (take j o)) t → take (d + 1) now ≡ plus (scaled f (take (k + 1) o)) (take (d + 1) t)
-sum-all f j k d o t now s l e = search (arith, take-plus, take_all, length-multiple)
+pub add-all : (f a k d : ℕ) (p t now : List ℕ) → a + k ≤ d → now ≡ plus (scaled f (zeros a ++ take k p)) t →
+    take (d + 1) now ≡ plus (scaled f (zeros a ++ take k p)) (take (d + 1) t)
+add-all f a k d p t now l same =
+    let multiple = scaled f (zeros a ++ take k p) in
+    cc (same, take-plus (d + 1) multiple t, take_all (d + 1) multiple (omega (arith, length-multiple f a k p, l)))
+
+-- a quotient that is not 0 has a dividend that is not 0
+pub factor-some : (f s d : ℕ) → s < 256 → product f s ≡ d → (d ≡ 0 → ⊥) → 1 ≤ f
+factor-some zero s d l e n = absurd (n (sym e ∙ product-of_zero s l))
+factor-some (suc f) s d l e n = omega arith
 
 -- ---- shifted polynomials
 
