@@ -23,10 +23,6 @@ located-rest p e c h = record {
   roots = λ m l n. sym (coefficient-tail m c e (λ s. omega (arith, s, l))) ∙ h.roots m (omega (arith, l)) n;
 }
 
--- where the locator has no root, there is no error
-pub located-none : (p e : List ℕ) (c : ℕ) → IsLocated p (c ∷ e) → (eval (power (length e)) p ≡ 0 → ⊥) → c ≡ 0
-located-none p e c h n = sym (coefficient-head (length e) c e refl) ∙ h.roots (length e) (omega arith) n
-
 -- a locator may lose the root of the error before those that it locates
 pub located-divided : (p q e : List ℕ) → length e < 255 → IsLocated p e →
     ((y : ℕ) → y < 256 → (y ≡ power (length e) → ⊥) → eval y p ≡ 0 → eval y q ≡ 0) → IsLocated q e

@@ -18,7 +18,7 @@ use Rattle.qr_mending.proofs.lemmas.errors.WeightLemmas.{weighted-none, weighted
 -- ---- sums of a polynomial and a multiple
 
 -- one coefficient more
-pub plus-set : (f : ℕ) (o t : List ℕ) (j : ℕ) → j < length o → j < length t →
+plus-set : (f : ℕ) (o t : List ℕ) (j : ℕ) → j < length o → j < length t →
     set (plus (scaled f (take j o)) t) j (bit_xor (product f (get_or o j 0)) (get_or t j 0)) ≡ plus (scaled f (take (suc j) o)) t
 plus-set f [] t j l h = absurd (omega arith)
 plus-set f (x ∷ o) [] j l h = absurd (omega arith)
