@@ -1,6 +1,6 @@
 //! Tests of the field of 256 elements, and of error correction codewords.
 
-use qr_field::{Divisor, div, generator, mul, power_of, remainder};
+use qr_field::{Divisor, div, exponent_of, generator, mul, power_of, remainder};
 
 #[test]
 fn products(rt: HostRuntime) {
@@ -40,6 +40,20 @@ fn first_powers(rt: HostRuntime) {
         );
     }
     assert_eq!(rt; power_of(254), 0x8E, "the inverse of 2");
+}
+
+#[test]
+fn exponents(rt: HostRuntime) {
+    let rows = [
+        ("1", 1u8, 0u8),
+        ("2", 2, 1),
+        ("the last power that is not reduced", 0x80, 7),
+        ("the first power that is reduced", 0x1D, 8),
+        ("the inverse of 2", 0x8E, 254),
+    ];
+    for (name, element, exponent) in rows {
+        assert_eq!(rt; exponent_of(element), exponent, "{name}");
+    }
 }
 
 #[test]

@@ -5,7 +5,7 @@
 ghost use Rattle.std.specs.Prelude.{◌≡◌, ◌≤◌, ℕ};
 ghost use Rattle.qr_field.specs.Galois.{IsProduct, product};
 
-use crate::logarithm::{logarithm, power_of};
+use crate::logarithm::{exponent_of, power_of};
 
 /// Returns the product of two elements: their product as polynomials over bits, less a multiple of the prime modulus
 /// polynomial (ISO/IEC 18004:2015, 7.5.2).
@@ -17,7 +17,7 @@ pub fn mul(a: u8, b: u8) -> u8
     if a == 0 || b == 0 {
         return 0;
     }
-    let sum = u16::from(logarithm(a)) + u16::from(logarithm(b));
+    let sum = u16::from(exponent_of(a)) + u16::from(exponent_of(b));
     let exponent = if sum < 255 { sum } else { sum - 255 };
     power_of(exponent as u8)
 }
@@ -31,7 +31,7 @@ pub fn div(a: u8, b: u8) -> u8
     if a == 0 {
         return 0;
     }
-    let rest = u16::from(logarithm(a)) + (255 - u16::from(logarithm(b)));
+    let rest = u16::from(exponent_of(a)) + (255 - u16::from(exponent_of(b)));
     let exponent = if rest < 255 { rest } else { rest - 255 };
     power_of(exponent as u8)
 }

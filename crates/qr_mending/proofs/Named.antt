@@ -4,15 +4,13 @@ use Rattle.qr_mending.proofs.lemmas.block.BlockLemmas.{erasures-one, differences
 use Rattle.qr_mending.proofs.lemmas.erasures.ErasureLemmas.{errors-more, modified-more, erasures-marked, length-read, errors-self}
 use Rattle.qr_mending.proofs.lemmas.{format.FormatLemmas.{near-one, near-two}, mending.MendingLemmas.unmended-one}
 use Rattle.qr_mending.proofs.lemmas.laws.{DistanceLemmas.symbols-apart, WeakerLemmas.weaker-block}
-use Rattle.qr_mending.proofs.lemmas.locator.SearchLemmas.{leading-stays, plus-more, sum-all, shift-more, shift-leading}
+use Rattle.qr_mending.proofs.lemmas.locator.SearchLemmas.{shift-more, shift-leading}
 use Rattle.qr_mending.proofs.lemmas.roots.RootLemmas.{length-rooted, length-rooted_rest, divided-more, value-more_divided}
-use Rattle.qr_mending.proofs.lemmas.sums.SumLemmas.{value-more, values-more, values-none}
+use Rattle.qr_mending.proofs.lemmas.sums.SumLemmas.{values-none}
 use Rattle.qr_symbol.proofs.Facts.{data-sizes-whole, readings-none, sizes-whole, unjoined-next}
 use Rattle.std.proofs.lemmas.{List.take_rest, List.take-replicate, List.Elements.All-from_get_or, Result.err_from_is_err_and}
 
-pub ruleset value_facts = (All-from_get_or, value-more, values-more, values-none)
-
-pub ruleset polynomial_facts = (leading-stays, plus-more, sum-all)
+pub ruleset value_facts = (All-from_get_or, values-none)
 
 pub ruleset shift_facts = (shift-more, shift-leading, take-replicate)
 

@@ -20,7 +20,7 @@ fn candidate(progress: &Progress, t: usize, remainder: &[u8], damaged: &[u8]) ->
     requires half { 2 * t ≤ length remainder.now }
     requires same { HasSameValues remainder.now damaged.now }
     ensures long { length result.items ≡ length damaged.now }
-    ensures mended { array_vec_len progress.now.syndromes ≡ 2 * t → (mended : List ℕ) →
+    ensures mended { progress.now.taken ≡ 2 * t → (mended : List ℕ) →
         IsMended (length remainder.now) t damaged.now mended → result.items ≡ mended }
 {
     let best = progress.search.best;
@@ -111,7 +111,7 @@ fn mended_block(
     if is_mended(divisor, t, damaged, early.as_slice()) {
         return Some(early);
     }
-    if progress.syndromes.len() == 2 * t {
+    if progress.taken == 2 * t {
         return None;
     }
     if !progress.advance(remainder, t, false) {

@@ -7,18 +7,18 @@
 //! syndrome at its index, is this error times the value of the locator at its root. The error then goes out of the
 //! syndromes.
 
-ghost use Rattle.std.specs.Prelude.{◌≡◌, ◌≢◌, ℕ, ◌+◌, ◌*◌, ◌<◌, ◌≤◌, List, ◌∷◌, length, bit_xor, slice_index};
+ghost use Rattle.std.specs.Prelude.{◌≡◌, ◌≢◌, ℕ, ◌+◌, ◌*◌, ◌<◌, ◌≤◌, List, [], ◌∷◌, ◌++◌, length, bit_xor, slice_index};
 ghost use Rattle.std.specs.List.{All};
 ghost use Rattle.arrayvec.specs.ArrayVec.{array_vec_len};
 ghost use Rattle.qr_field.specs.Galois.{product};
-ghost use Rattle.qr_field.specs.Polynomial.{IsByte, plus, power};
+ghost use Rattle.qr_field.specs.{Polynomial.{IsByte, plus, power}, Steps.Polynomial.{value_at}};
 ghost use Rattle.qr_mending.specs.Steps.Sums.{eval, HasValues};
 ghost use Rattle.qr_mending.specs.Steps.Roots.{quotient, HasLeadingOne};
 ghost use Rattle.qr_mending.specs.Steps.Errors.{IsLocated};
 
-use crate::sums::{dot, value};
+use crate::sums::{add_multiples, dot, sixteen_values, value};
 use arrayvec::ArrayVec;
-use qr_field::{div, mul, power_of};
+use qr_field::{div, exponent_of, mul, power_of};
 
 // Divides a polynomial by x + `root` by Horner's rule. The quotient has a coefficient less, so the last becomes 0; the
 // remainder is left out.
@@ -61,21 +61,21 @@ fn remove(syndromes: &mut [u8], error: u8, place: u8)
     ensures each { (k : ℕ) → k < length syndromes.old → slice_index syndromes.new k ≡
         bit_xor (slice_index syndromes.old k) (product error (power (k * place))) }
 {
-    let root = power_of(place);
-    let mut term = error;
-    for k in 0..syndromes.len() {
-        syndromes[k] ^= term;
-        term = mul(term, root);
+    if error != 0 {
+        add_multiples(syndromes, error, 0, place);
     }
 }
 
-// The error of the codeword that has `place` codewords after it. `locator` and `syndromes` are then those of the errors
-// after it.
+// The error of the codeword that has `place` codewords after it, where the locator has a root. `locator` and `syndromes`
+// are then those of the errors after it.
 fn error(locator: &mut ArrayVec<u8, 31>, syndromes: &mut ArrayVec<u8, 30>, place: u8) -> u8
     requires leading { HasLeadingOne locator.old.items }
     requires long { array_vec_len locator.old ≤ array_vec_len syndromes.old + 1 }
     requires place { place < 255 }
+    requires root { eval (power place) locator.old.items ≡ 0 }
     ensures leading { HasLeadingOne locator.new.items }
+    ensures others { (y : ℕ) → IsByte y → y ≢ power place → eval y locator.old.items ≡ 0 →
+        eval y locator.new.items ≡ 0 }
     ensures long { array_vec_len locator.new ≤ array_vec_len syndromes.new + 1 }
     ensures error { (c : ℕ) (errors : List ℕ) → length errors ≡ place → IsLocated locator.old.items (c ∷ errors) →
         HasValues syndromes.old.items (c ∷ errors) → result ≡ c }
@@ -85,9 +85,6 @@ fn error(locator: &mut ArrayVec<u8, 31>, syndromes: &mut ArrayVec<u8, 30>, place
         HasValues syndromes.old.items (c ∷ errors) → HasValues syndromes.new.items errors }
 {
     let root = power_of(place);
-    if value(locator.as_slice(), root) != 0 {
-        return 0;
-    }
     let rest = divide_out(locator, root);
     let error = div(dot(locator.as_slice(), syndromes.as_slice()), rest);
     syndromes.truncate(locator.len() - 1);
@@ -95,7 +92,27 @@ fn error(locator: &mut ArrayVec<u8, 31>, syndromes: &mut ArrayVec<u8, 30>, place
     error
 }
 
-// To add the errors removes them, since equal elements of the field add up to 0. None is left once the locator is 1.
+// Adds `error` to the codeword that is located by x + `root`, if it is one of the last `end`.
+fn remove_last(codewords: &mut [u8], root: u8, error: u8, end: usize)
+    requires within { end ≤ length codewords.old }
+    ensures long { length codewords.new ≡ length codewords.old }
+    ensures sum { (before xs errors : List ℕ) → codewords.old ≡ before ++ xs → length xs ≡ end →
+        length errors ≡ end → IsLocated (root ∷ 1 ∷ []) errors → error ≡ value_at 0 errors →
+        codewords.new ≡ before ++ plus xs errors }
+{
+    if root == 0 {
+        return;
+    }
+    let place = usize::from(exponent_of(root));
+    if place < end {
+        let last = codewords.len() - 1;
+        codewords[last - place] ^= error;
+    }
+}
+
+// To add the errors removes them, since equal elements of the field add up to 0. None is left once the locator is 1. Once
+// it is x + r, the logarithm of r is the place of the last error, and the first syndrome is this error. The values of the
+// locator are computed for sixteen places at once; they still show the roots that are left after a division.
 pub(crate) fn without_errors(locator: &[u8], syndromes: &[u8], damaged: &[u8]) -> ArrayVec<u8, 255>
     requires leading { HasLeadingOne locator.now }
     requires most { length syndromes.now ≤ 30 }
@@ -110,13 +127,31 @@ pub(crate) fn without_errors(locator: &[u8], syndromes: &[u8], damaged: &[u8]) -
     let mut syndromes_left = ArrayVec::new();
     let _ = syndromes_left.try_extend_from_slice(syndromes);
     let mut codewords = ArrayVec::new();
+    let _ = codewords.try_extend_from_slice(damaged);
+    let mut values = [0; 16];
     for k in 0..damaged.len() {
         if locator_left.len() == 1 {
-            let _ = codewords.try_extend_from_slice(&damaged[k..]);
+            return codewords;
+        }
+        if locator_left.len() == 2 {
+            let left = damaged.len() - k;
+            remove_last(
+                codewords.as_mut_slice(),
+                locator_left[0],
+                syndromes_left[0],
+                left,
+            );
             return codewords;
         }
         let place = (damaged.len() - 1 - k) as u8;
-        codewords.push(damaged[k] ^ error(&mut locator_left, &mut syndromes_left, place));
+        if k == 0 || place % 16 == 15 {
+            values = sixteen_values(locator_left.as_slice(), place - place % 16);
+        }
+        if values[usize::from(place % 16)] != 0 {
+            continue;
+        }
+        let error = error(&mut locator_left, &mut syndromes_left, place);
+        codewords[k] = damaged[k] ^ error;
     }
     codewords
 }

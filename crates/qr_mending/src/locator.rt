@@ -7,14 +7,15 @@
 //! multiple of an earlier polynomial is added, and if need be its degree rises. The degree is never higher than the
 //! number of misread codewords.
 
-ghost use Rattle.std.specs.Prelude.{◌≡◌, ℕ, ◌+◌, ◌*◌, ◌<◌, ◌≤◌, List, false, length, IfSome, IfNone};
+ghost use Rattle.std.specs.Prelude.{◌≡◌, ℕ, ◌+◌, ◌*◌, ◌<◌, ◌≤◌, List, false, length};
 ghost use Rattle.std.specs.Bool.{OnTrue, OnFalse};
 ghost use Rattle.arrayvec.specs.ArrayVec.{array_vec_len};
+ghost use Rattle.qr_mending.specs.Steps.Sums.{HasValues};
 ghost use Rattle.qr_mending.specs.Steps.Polynomial.{all_of, IsMonic, IsSearch, IsProgress};
 ghost use Rattle.qr_mending.specs.Steps.Errors.{AreFewErrors, AreFewErrorsOf, IsLocated};
 
 use crate::polynomial::Polynomial;
-use crate::sums::next_syndrome;
+use crate::sums::push_syndromes;
 use arrayvec::ArrayVec;
 use qr_field::div;
 
@@ -40,41 +41,39 @@ impl Search {
             miss: 1,
         }
     }
-}
 
-// Takes in syndrome `i`. Returns `None` if the degree would rise above `t`: then over `t` codewords are misread.
-fn next(search: &Search, syndromes: &[u8], i: usize, t: usize) -> Option<Search>
-    requires search { IsSearch i syndromes.now search.now }
-    requires degree { search.now.best.degree ≤ t }
-    requires small { t ≤ 15 }
-    requires within { i < length syndromes.now }
-    ensures search { IfSome result (λ next. IsSearch (i + 1) syndromes.now next) }
-    ensures degree { IfSome result (λ next. next.best.degree ≤ t) }
-    ensures beyond { IfNone result ((errors : List ℕ) → AreFewErrors t syndromes.now errors → ⊥) }
-{
-    let best = search.best;
-    let miss = best.miss(&syndromes[i - best.degree..]);
-    if miss == 0 {
-        return Some(*search);
+    // Takes in syndrome `i`. Returns false, and changes nothing, if the degree would rise above `t`: then over `t` codewords
+    // are misread.
+    fn take_in(&mut self, syndromes: &[u8], i: usize, t: usize) -> bool
+        requires search { IsSearch i syndromes.now self.old }
+        requires degree { self.old.best.degree ≤ t }
+        requires small { t ≤ 15 }
+        requires within { i < length syndromes.now }
+        ensures search { OnTrue result (IsSearch (i + 1) syndromes.now self.new) }
+        ensures degree { OnTrue result (self.new.best.degree ≤ t) }
+        ensures beyond { OnFalse result ((errors : List ℕ) → AreFewErrors t syndromes.now errors → ⊥) }
+        ensures same { OnFalse result (self.new ≡ self.old) }
+    {
+        let degree = self.best.degree;
+        let miss = self.best.miss(&syndromes[i - degree..]);
+        if miss == 0 {
+            return true;
+        }
+        let factor = div(miss, self.miss);
+        if 2 * degree > i {
+            self.best.add(factor, &self.earlier, 2 * degree - i - 1);
+            return true;
+        }
+        if i + 1 - degree > t {
+            return false;
+        }
+        let mut raised = self.best.shifted(i + 1 - 2 * degree);
+        raised.add(factor, &self.earlier, 0);
+        self.earlier = self.best;
+        self.best = raised;
+        self.miss = miss;
+        true
     }
-    let factor = div(miss, search.miss);
-    if 2 * best.degree > i {
-        let added = search.earlier.shifted(2 * best.degree - i - 1);
-        return Some(Search {
-            best: best.plus(factor, &added),
-            earlier: search.earlier,
-            miss: search.miss,
-        });
-    }
-    if i + 1 - best.degree > t {
-        return None;
-    }
-    let raised = best.shifted(i + 1 - 2 * best.degree);
-    Some(Search {
-        best: raised.plus(factor, &search.earlier),
-        earlier: best,
-        miss,
-    })
 }
 
 // If over `t` codewords are misread, any polynomial.
@@ -87,18 +86,18 @@ pub(crate) fn locator(syndromes: &[u8], t: usize) -> Polynomial
 {
     let mut search = Search::new();
     for i in 0..2 * t {
-        let Some(found) = next(&search, syndromes, i, t) else {
+        if !search.take_in(syndromes, i, t) {
             return search.best;
-        };
-        search = found;
+        }
     }
     search.best
 }
 
-// The first syndromes of a block, and the search after them.
+// The first syndromes of a block, and the search after `taken` of them.
 #[derive(Drop)]
 pub(crate) struct Progress {
     pub(crate) syndromes: ArrayVec<u8, 30>,
+    pub(crate) taken: usize,
     pub(crate) search: Search,
 }
 
@@ -108,7 +107,23 @@ impl Progress {
     {
         Progress {
             syndromes: ArrayVec::new(),
+            taken: 0,
             search: Search::new(),
+        }
+    }
+
+    // Computes further syndromes if all were taken in.
+    fn prepare(&mut self, remainder: &[u8])
+        requires few { length remainder.now ≤ 30 }
+        requires left { self.old.taken < length remainder.now }
+        requires within { self.old.taken ≤ array_vec_len self.old.syndromes }
+        requires values { HasValues self.old.syndromes.items remainder.now }
+        ensures next { self.new.taken < array_vec_len self.new.syndromes }
+        ensures taken { self.new.taken ≡ self.old.taken }
+        ensures progress { (t : ℕ) → IsProgress t remainder.now self.old → IsProgress t remainder.now self.new }
+    {
+        if self.taken == self.syndromes.len() {
+            push_syndromes(&mut self.syndromes, remainder);
         }
     }
 
@@ -118,19 +133,18 @@ impl Progress {
         requires progress { IsProgress t remainder.now self.old }
         requires small { t ≤ 15 }
         requires long { 2 * t ≤ length remainder.now }
+        requires few { length remainder.now ≤ 30 }
         ensures progress { OnTrue result (IsProgress t remainder.now self.new) }
-        ensures all { OnTrue result (early ≡ false → array_vec_len self.new.syndromes ≡ 2 * t) }
+        ensures all { OnTrue result (early ≡ false → self.new.taken ≡ 2 * t) }
         ensures beyond { OnFalse result ((errors : List ℕ) → AreFewErrorsOf t remainder.now errors → ⊥) }
     {
-        let mut later = None;
-        for i in self.syndromes.len()..2 * t {
-            let syndrome = next_syndrome(remainder, i as u8, &mut later);
-            self.syndromes.push(syndrome);
-            let Some(found) = next(&self.search, self.syndromes.as_slice(), i, t) else {
+        for i in self.taken..2 * t {
+            self.prepare(remainder);
+            if !self.search.take_in(self.syndromes.as_slice(), i, t) {
                 return false;
-            };
-            self.search = found;
-            if early && i + 1 == 2 * found.best.degree + 2 {
+            }
+            self.taken = i + 1;
+            if early && i + 1 == 2 * self.search.best.degree + 2 {
                 return true;
             }
         }

@@ -1,13 +1,13 @@
 //! Polynomials over the field of 256 elements with the leading coefficient 1. Coefficients begin with that of the
 //! lowest power.
 
-ghost use Rattle.std.specs.Prelude.{◌≡◌, ◌+◌, ◌<◌, ◌++◌, [], ◌∷◌, length};
+ghost use Rattle.std.specs.Prelude.{◌≡◌, ◌+◌, ◌<◌, ◌≤◌, ◌++◌, [], ◌∷◌, length};
 ghost use Rattle.std.specs.List.{All};
 ghost use Rattle.qr_field.specs.Polynomial.{IsByte, plus, scaled, zeros};
 ghost use Rattle.qr_mending.specs.Steps.Polynomial.{all_of, IsMonic, miss_of};
 
-use crate::sums::dot;
-use qr_field::mul;
+use crate::sums::{dot, exponent_sum};
+use qr_field::{exponent_of, power_of};
 
 // The coefficients are `terms` up to index `degree`; later items are not used.
 #[derive(Clone, Copy)]
@@ -48,22 +48,23 @@ impl Polynomial {
         dot(self.coefficients(), window)
     }
 
-    // Degree and leading coefficient stay, since `other` has a lower degree.
-    #[tactic(auto, using(crate::proofs::Named::polynomial_facts))]
-    pub(crate) fn plus(&self, factor: u8, other: &Polynomial) -> Polynomial
-        requires lower { other.now.degree < self.now.degree }
-        requires fits { self.now.degree < 16 }
-        ensures degree { result.degree ≡ self.now.degree }
-        ensures monic { IsMonic self.now → IsMonic result }
-        ensures sum { all_of result ≡ plus (scaled factor (all_of other.now)) (all_of self.now) }
+    // Adds the product of `other`, `factor` and x^`shift`. Degree and leading coefficient stay, since this product has a
+    // lower degree.
+    pub(crate) fn add(&mut self, factor: u8, other: &Polynomial, shift: usize)
+        requires some { 1 ≤ factor }
+        requires lower { other.now.degree + shift < self.old.degree }
+        requires fits { self.old.degree < 16 }
+        ensures degree { self.new.degree ≡ self.old.degree }
+        ensures monic { IsMonic self.old → IsMonic self.new }
+        ensures sum { all_of self.new ≡ plus (scaled factor (zeros shift ++ all_of other.now)) (all_of self.old) }
     {
-        let mut terms = self.terms;
+        let exponent = exponent_of(factor);
         for j in 0..other.degree + 1 {
-            terms[j] = mul(factor, other.terms[j]) ^ self.terms[j];
-        }
-        Polynomial {
-            degree: self.degree,
-            terms,
+            if other.terms[j] == 0 {
+                continue;
+            }
+            let sum = exponent_sum(exponent, exponent_of(other.terms[j]));
+            self.terms[shift + j] ^= power_of(sum);
         }
     }
 

@@ -39,10 +39,12 @@ pub record IsSearch (i : ℕ) (s : List ℕ) (search : Search) : Type 0 where
   pub before : (j : ℕ) → j + 1 < search.best.degree → miss_of search.earlier (drop j s) ≡ 0
   pub last : (j : ℕ) → j + 1 ≡ search.best.degree → miss_of search.earlier (drop j s) ≡ search.miss
 
--- Of a block with the remainder `r`, the first syndromes, at most 2`t`, were taken in, and `best` has at most the degree
--- `t`.
+-- The first syndromes of a block with the remainder `r`, of which the search took in `taken`, at most 2`t`; `best` has at
+-- most the degree `t`.
 pub record IsProgress (t : ℕ) (r : List ℕ) (progress : Progress) : Type 0 where
   pub values : HasValues progress.syndromes.items r
-  pub search : IsSearch (length progress.syndromes.items) progress.syndromes.items progress.search
+  pub count : length progress.syndromes.items ≤ length r
+  pub search : IsSearch progress.taken progress.syndromes.items progress.search
   pub degree : progress.search.best.degree ≤ t
-  pub count : length progress.syndromes.items ≤ 2 * t
+  pub within : progress.taken ≤ length progress.syndromes.items
+  pub most : progress.taken ≤ 2 * t

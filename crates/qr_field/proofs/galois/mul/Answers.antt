@@ -20,10 +20,10 @@ pub returns : goal.returns
 returns c =
     let a = c.args.a in
     let b = c.args.b in
-    let i = c.logarithm.result in
-    let j = c.logarithm-2.result in
-    let first = c.logarithm.ensures in
-    let second = c.logarithm-2.ensures in
+    let i = c.exponent_of.result in
+    let j = c.exponent_of-2.result in
+    let first = c.exponent_of.ensures in
+    let second = c.exponent_of-2.ensures in
     let k : c.if-sum-lt255.exponent ≡ (i + j) % 255 = elim c.if-sum-lt255.branch [
       | then-sum-lt255 w ↦ omega (arith, w.exponent-is)
       | else-sum-lt255 w ↦ omega (arith, w.exponent-is)

@@ -1,5 +1,5 @@
 -- Powers of 2 in the field, and the tables of powers and logarithms.
-use Rattle.std.proofs.Common.{◌≡◌, ℕ, zero, suc, ◌+◌, ◌-◌, ◌%◌, ◌<◌, ◌≤◌, true, eqb, ltb, get_or, refl, sym, ap, ◌∙◌, inl, inr, arith, lit<}
+use Rattle.std.proofs.Common.{◌≡◌, ℕ, zero, suc, ◌+◌, ◌-◌, ◌*◌, ◌/◌, ◌%◌, ◌<◌, ◌≤◌, true, eqb, ltb, get_or, refl, sym, ap, ◌∙◌, inl, inr, arith, lit<}
 use Rattle.{std.proofs.lemmas.Bool.cases_lt, qr_field.specs.declared.logarithm.TheConstants.{POWERS, LOGARITHMS}}
 use borrow.Author.Tests.{ltb-true}
 use Rattle.qr_field.specs.{Galois.{carryless, product, remainder_of}, Polynomial.power}
@@ -25,22 +25,26 @@ pub power-round : power 255 ≡ 1
 unfolding product remainder_of carryless
 power-round = refl
 
--- the power of 2 to k is the power to k modulo 255, for k below 510
-pub power-mod : (k : ℕ) → k < 510 → power (k % 255) ≡ power k
-power-mod k l = elim (cases_lt k 255) [
-  | inl m ↦ let e : k % 255 ≡ k = omega arith in ap power e
-  | inr m ↦
-      let rest = k % 255 in
-      let e : k ≡ 255 + rest = omega arith in
-      let round : product (power 255) (power rest) ≡ power rest =
-      ap (λ t. product t (power rest)) power-round ∙ product-of_one (power rest) (power-lt rest) in
-      sym (ap power e ∙ (power-add 255 rest ∙ round))
-]
+-- the powers of 2 repeat after 255
+power-rounds : (q r : ℕ) → power (q * 255 + r) ≡ power r
+power-rounds zero r = let e : zero * 255 + r ≡ r = omega arith in ap power e
+power-rounds (suc q) r =
+    let rest = q * 255 + r in
+    let e : suc q * 255 + r ≡ 255 + rest = omega arith in
+    let round : product (power 255) (power rest) ≡ power rest =
+    ap (λ t. product t (power rest)) power-round ∙ product-of_one (power rest) (power-lt rest) in
+    ap power e ∙ (power-add 255 rest ∙ (round ∙ power-rounds q r))
+
+-- the power of 2 to k is the power to k modulo 255
+pub power-mod : (k : ℕ) → power (k % 255) ≡ power k
+power-mod k =
+    let e : k ≡ k / 255 * 255 + k % 255 = omega arith in
+    sym (ap power e ∙ power-rounds (k / 255) (k % 255))
 
 -- the product of two powers is the power to the sum of their exponents modulo 255
 pub product-of_powers : (a b i j k : ℕ) → i < 255 → power i ≡ a → j < 255 → power j ≡ b →
     k ≡ (i + j) % 255 → power k ≡ product a b
-product-of_powers a b i j k li ei lj ej e = cc (power-mod (i + j) (omega arith), power-add i j)
+product-of_powers a b i j k li ei lj ej e = cc (power-mod (i + j), power-add i j)
 
 -- ---- the tables
 

@@ -1,21 +1,9 @@
-use Rattle.std.proofs.Common.{◌≡◌, ◌-◌, ap, length, sym, arith}
+use Rattle.std.proofs.Common.{◌≡◌, ◌-◌, ap, length, arith}
 use Rattle.std.proofs.lemmas.List.{get_or-take, Elements.All-head}
 use Rattle.arrayvec.specs.ArrayVec.{array_vec_len}
 use Rattle.qr_field.specs.Polynomial.{IsByte}
-use Rattle.qr_mending.proofs.lemmas.errors.RemovalLemmas.{located-rest, located-none, located-divided, error-sum, factor-one, values-rest, values-same, refill-same}
+use Rattle.qr_mending.proofs.lemmas.errors.RemovalLemmas.{located-rest, located-divided, error-sum, factor-one, values-rest, refill-same}
 use Rattle.qr_mending.proofs.errors.error.Goals as goal
-
-pub returns-then-value-ne0-clause-error : goal.returns-then-value-ne0-clause-error
-returns-then-value-ne0-clause-error c = λ first errors long located values.
-    sym (located-none c.args.locator.now.items errors first located (λ z. c.if-value-ne0.true (cc)))
-
-pub returns-then-value-ne0-clause-located : goal.returns-then-value-ne0-clause-located
-returns-then-value-ne0-clause-located c = λ first errors long located values. located-rest c.args.locator.now.items errors first located
-
-pub returns-then-value-ne0-clause-values : goal.returns-then-value-ne0-clause-values
-returns-then-value-ne0-clause-values c = λ first errors long located values.
-    let none = located-none c.args.locator.now.items errors first located (λ z. c.if-value-ne0.true (cc)) in
-    values-same c.args.syndromes.now.items errors (rw none at values)
 
 pub returns-clause-error : goal.returns-clause-error
 returns-clause-error c = λ first errors long located values.
@@ -24,7 +12,7 @@ returns-clause-error c = λ first errors long located values.
     let new = c.divide_out-rest.new.locator.items in
     let rest = located-rest old errors first located in
     let left = located-divided old new errors (omega (arith, long)) rest (rw (c.power_of-root.ensures, ← long) at c.divide_out-rest.ensures.others) in
-    let sum = error-sum new c.args.syndromes.now.items errors first (rw c.as_slice-2.ensures.value at c.dot.ensures.bytes)
+    let sum = error-sum new c.args.syndromes.now.items errors first (rw c.as_slice.ensures.value at c.dot.ensures.bytes)
     located.bytes left values (omega arith) in
     factor-one c.div-error.result first c.divide_out-rest.result (omega arith) (All-head IsByte first errors located.bytes)
     (omega arith) (λ z. omega (arith, z)) (cc)

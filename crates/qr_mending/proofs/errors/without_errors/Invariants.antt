@@ -1,11 +1,11 @@
-use Rattle.std.proofs.Common.{◌≡◌, ℕ, ◌+◌, ◌≤◌, List, take, drop, length}
+use Rattle.std.proofs.Common.{◌≡◌, ℕ, ◌+◌, ◌-◌, ◌/◌, ◌<◌, ◌≤◌, ◌++◌, List, take, drop, length}
 use Rattle.{arrayvec.specs.ArrayVec.array_vec_len, qr_field.specs.Polynomial.plus}
-use Rattle.qr_mending.specs.Steps.{Sums.HasValues, Roots.HasLeadingOne, Errors.IsLocated}
+use Rattle.qr_mending.specs.Steps.{Sums.HasValues, Roots.HasLeadingOne, Errors.{IsLocated, ShowRoots, ShowErrors}}
 use Rattle.qr_mending.proofs.errors.without_errors.Given as goal
 
 abbrev pub invariant-loop-k : goal.invariant-loop-k
 invariant-loop-k l =
-    (length l.codewords.items ≡ l.k)
+    (array_vec_len l.codewords ≡ length l.damaged)
     × HasLeadingOne l.locator_left.items
     × (array_vec_len l.locator_left ≤ array_vec_len l.syndromes_left + 1)
     × ((errors : List ℕ) → length errors ≡ length l.damaged → IsLocated l.locator errors → HasValues l.syndromes errors →
@@ -13,4 +13,7 @@ invariant-loop-k l =
     × ((errors : List ℕ) → length errors ≡ length l.damaged → IsLocated l.locator errors → HasValues l.syndromes errors →
     HasValues l.syndromes_left.items (drop l.k errors))
     × ((errors : List ℕ) → length errors ≡ length l.damaged → IsLocated l.locator errors → HasValues l.syndromes errors →
-    l.codewords.items ≡ take l.k (plus l.damaged errors))
+    l.codewords.items ≡ take l.k (plus l.damaged errors) ++ drop l.k l.damaged)
+    × (0 < l.k → ShowRoots l.values l.locator_left.items (length l.damaged - l.k) ((length l.damaged - l.k) / 16))
+    × ((errors : List ℕ) → length errors ≡ length l.damaged → IsLocated l.locator errors → HasValues l.syndromes errors →
+    0 < l.k → ShowErrors l.values (drop l.k errors) (length l.damaged - l.k) ((length l.damaged - l.k) / 16))

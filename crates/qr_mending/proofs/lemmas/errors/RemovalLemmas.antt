@@ -1,14 +1,15 @@
 -- The errors are found one at a time. A polynomial that has a root for each later error, but none for this one, leaves
 -- of the products of all errors only that of this one.
-use Rattle.std.proofs.Common.{◌≡◌, ℕ, zero, suc, ◌+◌, ◌*◌, ◌<◌, ◌≤◌, List, [], ◌∷◌, ◌++◌, length, take, drop, get_or, refl, sym, ap, ◌∙◌, length-drop, arith, bit_xor}
-use Rattle.std.proofs.lemmas.{Nat.xor_of_8, Nat.xor_comm, List.{length_push, take-append-drop, take_more, drop_all, append-nil, take_all}, List.Elements.{All-head, All-tail}}
+use Rattle.std.proofs.Common.{◌≡◌, ℕ, zero, suc, ◌+◌, ◌-◌, ◌*◌, ◌/◌, ◌%◌, ◌<◌, ◌≤◌, List, [], ◌∷◌, ◌++◌, length, take, drop, get_or, set, refl, sym, ap, ◌∙◌, inl, inr, length-append, length-drop, arith, bit_xor}
+use Rattle.std.proofs.Math.Numerals.{suc-eq-add-one}
+use Rattle.std.proofs.lemmas.{Nat.xor_of_8, Nat.xor_comm, List.{length_push, take-append-drop, take_more, drop_all, append-nil, take_all, get_or-append-add, set-append_right}, Bool.cases_eq, List.Elements.{All-head, All-tail}}
 use Rattle.std.specs.{List.{All, refill}, Int.Bits.{xor_zero_r, xor_self}}
 use Rattle.qr_field.specs.{Galois.product, Polynomial.{IsByte, plus, power}, Steps.Polynomial.value_at}
-use Rattle.qr_field.proofs.lemmas.galois.{BitLemmas.xor-cancel, ByteLemmas.{product-by_zero, product-by_one}, ProductLemmas.{product-lt, product-xor}}
-use Rattle.qr_field.proofs.lemmas.galois.FieldLemmas.{product-assoc, product-factor, sum-none}
-use Rattle.qr_field.proofs.lemmas.{logarithm.PowerLemmas.{power-lt, power-add, powers-apart}, laws.ValueLemmas.{value-zero}}
+use Rattle.qr_field.proofs.lemmas.galois.{BitLemmas.xor-cancel, ByteLemmas.{product-by_zero, product-of_zero, product-by_one}, ProductLemmas.{product-lt, product-xor}}
+use Rattle.qr_field.proofs.lemmas.galois.FieldLemmas.{product-factor, sum-none}
+use Rattle.qr_field.proofs.lemmas.{logarithm.PowerLemmas.{power-lt, power-add, power-round, powers-apart}, laws.ValueLemmas.{value-zero}}
 use Rattle.qr_field.proofs.lemmas.polynomial.ListLemmas.{length-plus}
-use Rattle.qr_mending.specs.Steps.{Sums.{dot_of, eval, HasValues}, Roots.HasLeadingOne, Errors.{weighted, IsLocated}}
+use Rattle.qr_mending.specs.Steps.{Sums.{dot_of, eval, HasValues}, Roots.HasLeadingOne, Errors.{coefficient, weighted, IsLocated, ShowRoots, ShowErrors}}
 use Rattle.qr_mending.proofs.lemmas.sums.SumLemmas.{dot-blend}
 use Rattle.qr_mending.proofs.lemmas.errors.WeightLemmas.{coefficient-head, coefficient-tail, root-blends, weighted-value}
 
@@ -21,10 +22,6 @@ located-rest p e c h = record {
   most = omega (arith, h.most);
   roots = λ m l n. sym (coefficient-tail m c e (λ s. omega (arith, s, l))) ∙ h.roots m (omega (arith, l)) n;
 }
-
--- where the locator has no root, there is no error
-pub located-none : (p e : List ℕ) (c : ℕ) → IsLocated p (c ∷ e) → (eval (power (length e)) p ≡ 0 → ⊥) → c ≡ 0
-located-none p e c h n = sym (coefficient-head (length e) c e refl) ∙ h.roots (length e) (omega arith) n
 
 -- a locator may lose the root of the error before those that it locates
 pub located-divided : (p q e : List ℕ) → length e < 255 → IsLocated p e →
@@ -78,20 +75,6 @@ values-rest s t e c h long each = record {
       );
 }
 
--- the term of the next syndrome
-pub term-next : (error place k term root m : ℕ) → error < 256 → root ≡ power place →
-    term ≡ product error (power (k * place)) → m ≡ product term root → m ≡ product error (power ((k + 1) * place))
-term-next error place k term root m le er et em =
-    let exponent : (k + 1) * place ≡ k * place + place = omega arith in
-    cc (
-      er,
-      et,
-      em,
-      exponent,
-      power-add (k * place) place,
-      product-assoc error (power (k * place)) (power place) le (power-lt (k * place)) (power-lt place),
-    )
-
 -- a list that is overwritten with a list of the same length becomes the second list
 pub refill-same : (xs ws : List ℕ) (n : ℕ) → n ≡ length xs → length ws ≡ length xs → refill n xs ws ≡ ws
 refill-same xs ws n l e = search (arith, drop_all, append-nil, take_all)
@@ -121,16 +104,111 @@ sum-more xs errors items new k long l same push =
       take_more (plus xs errors) k 0 (omega (arith, l, long, count)),
     )
 
+-- no error
+no-errors : (xs e : List ℕ) → length e ≡ length xs → ((m : ℕ) → m < length e → coefficient m e ≡ 0) →
+    (plus xs e ≡ xs) × (value_at 0 e ≡ 0)
+no-errors [] [] l h = (refl, refl)
+no-errors [] (c ∷ e) l h = absurd (omega arith)
+no-errors (x ∷ xs) [] l h = absurd (omega arith)
+no-errors (x ∷ xs) (c ∷ e) l h =
+    let none : c ≡ 0 = sym (coefficient-head (length e) c e refl) ∙ h (length e) (omega arith) in
+    let rest = no-errors xs e (omega (arith, l))
+    (λ m n. sym (coefficient-tail m c e (λ s. omega (arith, s, n))) ∙ h m (omega (arith, n))) in
+    (cc (none, xor_zero_r x, rest.0), cc (none, value-zero 0 e, rest.1))
+
 -- where the locator is 1, there is no error
 none-left : (xs e : List ℕ) → length e ≡ length xs → IsLocated (1 ∷ []) e → plus xs e ≡ xs
-none-left [] [] l h = refl
-none-left [] (c ∷ e) l h = absurd (omega arith)
-none-left (x ∷ xs) [] l h = absurd (omega arith)
-none-left (x ∷ xs) (c ∷ e) l h =
-    let y = power (length e) in
-    let one : eval y (1 ∷ []) ≡ 1 = let none = product-by_zero y (power-lt (length e)) in cc (none, xor_zero_r 1) in
-    let none : c ≡ 0 = located-none (1 ∷ []) e c h (λ z. omega (arith, one, z)) in
-    cc (none, xor_zero_r x, none-left xs e (omega (arith, l)) (located-rest (1 ∷ []) e c h))
+none-left xs e l h =
+    let all = no-errors xs e l (λ m n.
+    let one : eval (power m) (1 ∷ []) ≡ 1 = let none = product-by_zero (power m) (power-lt m) in cc (none, xor_zero_r 1) in
+    h.roots m n (λ z. omega (arith, one, z))) in
+    all.0
+
+-- the first codeword is the one with an error
+first-sum : (x v i : ℕ) (xs : List ℕ) → i ≡ 0 → set (x ∷ xs) i (bit_xor (get_or (x ∷ xs) i 0) v) ≡ bit_xor x v ∷ xs
+first-sum x v i xs e = rw e refl
+
+-- one with an error comes later
+later-sum : (x v i j : ℕ) (xs : List ℕ) → i ≡ suc j →
+    set (x ∷ xs) i (bit_xor (get_or (x ∷ xs) i 0) v) ≡ x ∷ set xs j (bit_xor (get_or xs j 0) v)
+later-sum x v i j xs e = rw e refl
+
+-- one error, which is the sum of all
+one-error : (xs e : List ℕ) (p : ℕ) → length e ≡ length xs → p < length e → All IsByte e →
+    ((m : ℕ) → m < length e → (m ≡ p → ⊥) → coefficient m e ≡ 0) →
+    set xs (length xs - 1 - p) (bit_xor (get_or xs (length xs - 1 - p) 0) (value_at 0 e)) ≡ plus xs e
+one-error xs [] p l within le h = absurd (omega arith)
+one-error [] (c ∷ e) p l within le h = absurd (omega arith)
+one-error (x ∷ xs) (c ∷ e) p l within le h = elim (cases_eq (length e) p) [
+  | inl s ↦
+      let rest = no-errors xs e (omega (arith, l)) (λ m n.
+      sym (coefficient-tail m c e (λ t. omega (arith, t, n))) ∙ h m (omega (arith, n)) (λ t. omega (arith, t, n, s))) in
+      let place : 0 * length e ≡ 0 = omega arith in
+      let value : value_at 0 (c ∷ e) ≡ c =
+      cc (place, product-by_one c (All-head IsByte c e le), rest.1, xor_zero_r c) in
+      first-sum x (value_at 0 (c ∷ e)) (length (x ∷ xs) - 1 - p) xs (omega (arith, s, l)) ∙ cc (value, rest.0)
+  | inr o ↦
+      let none : c ≡ 0 = sym (coefficient-head (length e) c e refl) ∙ h (length e) (omega arith) o in
+      let rest = one-error xs e p (omega (arith, l)) (omega (arith, o, within)) (All-tail IsByte c e le) (λ m n t.
+      sym (coefficient-tail m c e (λ u. omega (arith, u, n))) ∙ h m (omega (arith, n)) t) in
+      let value : value_at 0 (c ∷ e) ≡ value_at 0 e = cc (none, value-zero 0 e) in
+      later-sum x (value_at 0 (c ∷ e)) (length (x ∷ xs) - 1 - p) (length xs - 1 - p) xs (omega (arith, o, within, l))
+      ∙ cc (none, value, xor_zero_r x, rest)
+]
+
+-- where the locator is x + root, an error is at its root alone
+elsewhere-none : (root m : ℕ) (e : List ℕ) → IsLocated (root ∷ 1 ∷ []) e → m < length e → (power m ≡ root → ⊥) →
+    coefficient m e ≡ 0
+elsewhere-none root m e h l n =
+    let y = power m in
+    let none = product-by_zero y (power-lt m) in
+    let value : eval y (root ∷ 1 ∷ []) ≡ bit_xor root y = cc (none, xor_zero_r 1, product-by_one y (power-lt m)) in
+    h.roots m l (λ z. n (sym (sum-none root y (sym value ∙ z))))
+
+-- no power of 2 is 0
+pub power-some : (m : ℕ) → m < 255 → power m ≡ 0 → ⊥
+power-some m l e =
+    let whole : m + (255 - m) ≡ 255 = omega arith in
+    let one : product (power m) (power (255 - m)) ≡ 1 = cc (power-add m (255 - m), power-round) in
+    let none : product (power m) (power (255 - m)) ≡ 0 = cc (product-of_zero (power (255 - m)) (power-lt (255 - m))) in
+    omega (arith, one, none)
+
+-- the codewords, if no place has the root
+pub last-none : (before xs e : List ℕ) (root : ℕ) → length e ≡ length xs → IsLocated (root ∷ 1 ∷ []) e →
+    ((m : ℕ) → m < length e → power m ≡ root → ⊥) → before ++ xs ≡ before ++ plus xs e
+last-none before xs e root l h none =
+    let all = no-errors xs e l (λ m n. elsewhere-none root m e h n (none m n)) in
+    ap (λ t. before ++ t) (sym all.0)
+
+-- the codewords without the last error
+pub last-sum : (before xs e old : List ℕ) (root p at error : ℕ) → old ≡ before ++ xs → length e ≡ length xs →
+    IsLocated (root ∷ 1 ∷ []) e → power p ≡ root → p < 255 → p < length e → error ≡ value_at 0 e →
+    at ≡ length old - 1 - p → set old at (bit_xor (get_or old at 0) error) ≡ before ++ plus xs e
+last-sum before xs e old root p at error same l h log small within value place =
+    let n = length before in
+    let j = length xs - 1 - p in
+    let split : at ≡ n + j = omega (arith, place, ap length same, length-append before xs, l, within) in
+    let back : n + j - n ≡ j = omega arith in
+    let one = one-error xs e p l within h.bytes (λ m k o. elsewhere-none root m e h k
+    (λ s. o (powers-apart m p (omega (arith, k, h.most)) small (s ∙ sym log)))) in
+    cc (
+      same,
+      split,
+      value,
+      get_or-append-add before xs j 0,
+      set-append_right before xs n (n + j) (bit_xor (get_or xs j 0) (value_at 0 e)) refl (omega arith),
+      back,
+      one,
+    )
+
+-- a polynomial with a leading 1 and one other coefficient
+pub leading-two : (p : List ℕ) → HasLeadingOne p → length p ≡ 2 → p ≡ get_or p 0 0 ∷ 1 ∷ []
+leading-two p h l = go h.others h.whole
+  where
+    go : (v : List ℕ) → p ≡ v ++ 1 ∷ [] → p ≡ get_or p 0 0 ∷ 1 ∷ []
+    go [] e = absurd (omega (arith, ap length e, l))
+    go (x ∷ []) e = e ∙ ap (λ (t : List ℕ). get_or t 0 0 ∷ 1 ∷ []) (sym e)
+    go (x ∷ y ∷ v) e = absurd (omega (arith, ap length e, length_push (x ∷ y ∷ v) 1, l))
 
 -- a leading 1 with no other coefficient
 leading-alone : (p : List ℕ) → HasLeadingOne p → length p ≡ 1 → p ≡ 1 ∷ []
@@ -148,12 +226,89 @@ drop-plus (suc k) [] (y ∷ ys) l = absurd (omega arith)
 drop-plus (suc k) (x ∷ xs) [] l = absurd (omega arith)
 drop-plus (suc k) (x ∷ xs) (y ∷ ys) l = drop-plus k xs ys (omega (arith, l))
 
+-- the codewords after one without an error
+keep-sum : (xs e : List ℕ) (k : ℕ) → k < length xs → k < length e → get_or e k 0 ≡ 0 →
+    take k (plus xs e) ++ drop k xs ≡ take (suc k) (plus xs e) ++ drop (suc k) xs
+keep-sum [] e k l m z = absurd (omega arith)
+keep-sum (x ∷ xs) [] k l m z = absurd (omega arith)
+keep-sum (x ∷ xs) (c ∷ e) zero l m z = ap (λ t. t ∷ xs) (sym (ap (bit_xor x) z ∙ xor_zero_r x))
+keep-sum (x ∷ xs) (c ∷ e) (suc k) l m z = ap (λ t. bit_xor x c ∷ t) (keep-sum xs e k (omega arith) (omega arith) z)
+
+pub sum-kept : (xs e items : List ℕ) (k : ℕ) → length e ≡ length xs → k < length xs → get_or e k 0 ≡ 0 →
+    items ≡ take k (plus xs e) ++ drop k xs → items ≡ take (k + 1) (plus xs e) ++ drop (k + 1) xs
+sum-kept xs e items k long l none same = cc (same, keep-sum xs e k l (omega (arith, long, l)) none, suc-eq-add-one k)
+
+-- the codewords after one from which the error is taken
+set-sum : (xs e : List ℕ) (k : ℕ) → k < length xs → k < length e →
+    set (take k (plus xs e) ++ drop k xs) k (bit_xor (get_or xs k 0) (get_or e k 0))
+    ≡ take (suc k) (plus xs e) ++ drop (suc k) xs
+set-sum [] e k l m = absurd (omega arith)
+set-sum (x ∷ xs) [] k l m = absurd (omega arith)
+set-sum (x ∷ xs) (c ∷ e) zero l m = refl
+set-sum (x ∷ xs) (c ∷ e) (suc k) l m = ap (λ t. bit_xor x c ∷ t) (set-sum xs e k (omega arith) (omega arith))
+
+pub sum-set : (xs e items : List ℕ) (k error : ℕ) → length e ≡ length xs → k < length xs → error ≡ get_or e k 0 →
+    items ≡ take k (plus xs e) ++ drop k xs →
+    set items k (bit_xor (get_or xs k 0) error) ≡ take (k + 1) (plus xs e) ++ drop (k + 1) xs
+sum-set xs e items k error long l found same = cc (same, found, set-sum xs e k l (omega (arith, long, l)), suc-eq-add-one k)
+
 -- the codewords so far and those after them, if no error is left
-pub sum-rest : (xs errors items new p : List ℕ) (k : ℕ) → length errors ≡ length xs → k ≤ length xs →
-    items ≡ take k (plus xs errors) → HasLeadingOne p → length p ≡ 1 → IsLocated p (drop k errors) →
-    new ≡ items ++ drop k xs → new ≡ plus xs errors
-sum-rest xs errors items new p k long l same leading alone located push =
+pub sum-rest : (xs e p : List ℕ) (k : ℕ) → length e ≡ length xs → k ≤ length xs → HasLeadingOne p → length p ≡ 1 →
+    IsLocated p (drop k e) → take k (plus xs e) ++ drop k xs ≡ plus xs e
+sum-rest xs e p k long l leading alone located =
     let one : p ≡ 1 ∷ [] = leading-alone p leading alone in
-    let rest = none-left (drop k xs) (drop k errors)
-    (omega (arith, length-drop k xs, length-drop k errors, long)) (rw one at located) in
-    cc (push, same, rest, drop-plus k xs errors (sym long), take-append-drop k (plus xs errors))
+    let rest = none-left (drop k xs) (drop k e) (omega (arith, length-drop k xs, length-drop k e, long)) (rw one at located) in
+    cc (rest, drop-plus k xs e (sym long), take-append-drop k (plus xs e))
+
+-- the codewords so far and those after them, without the errors of these
+pub sum-last : (xs e new : List ℕ) (k : ℕ) → length e ≡ length xs → new ≡ take k (plus xs e) ++ plus (drop k xs) (drop k e) →
+    new ≡ plus xs e
+sum-last xs e new k long same = cc (same, drop-plus k xs e (sym long), take-append-drop k (plus xs e))
+
+-- ---- groups of sixteen places
+
+-- the place in a group
+group-place : (place m : ℕ) → m / 16 ≡ place / 16 → place - place % 16 + m % 16 ≡ m
+group-place place m g = omega (arith, g)
+
+-- values of the locator show its roots
+pub roots-shown : (values p : List ℕ) (place end : ℕ) →
+    ((i : ℕ) → i < 16 → get_or values i 0 ≡ eval (power (place - place % 16 + i)) p) →
+    ShowRoots values p end (place / 16)
+roots-shown values p place end h m l g z =
+    ap (λ t. eval (power t) p) (sym (group-place place m g)) ∙ (sym (h (m % 16) (omega arith)) ∙ z)
+
+-- and where there is no error
+pub errors-shown : (values p e : List ℕ) (place end : ℕ) →
+    ((i : ℕ) → i < 16 → get_or values i 0 ≡ eval (power (place - place % 16 + i)) p) → length e ≡ end →
+    IsLocated p e → ShowErrors values e end (place / 16)
+errors-shown values p e place end h long located m l g n =
+    located.roots m (omega (arith, l, long))
+    (λ z. n (h (m % 16) (omega arith) ∙ (ap (λ t. eval (power t) p) (group-place place m g) ∙ z)))
+
+-- the roots at lower places
+pub roots-below : (values p : List ℕ) (place end next : ℕ) → end ≡ place + 1 → next ≡ place →
+    ShowRoots values p end (place / 16) → ShowRoots values p next (next / 16)
+roots-below values p place end next e n h m l g z = h m (omega (arith, l, e, n)) (g ∙ ap (λ t. t / 16) n) z
+
+-- the roots that are left after a division
+pub roots-left : (values p q : List ℕ) (place end next : ℕ) → end ≡ place + 1 → next ≡ place → place < 255 →
+    ((y : ℕ) → y < 256 → (y ≡ power place → ⊥) → eval y p ≡ 0 → eval y q ≡ 0) →
+    ShowRoots values p end (place / 16) → ShowRoots values q next (next / 16)
+roots-left values p q place end next e n small others h m l g z =
+    others (power m) (power-lt m)
+    (λ s. omega (arith, l, n, powers-apart m place (omega (arith, l, n, small)) small s))
+    (h m (omega (arith, l, e, n)) (g ∙ ap (λ t. t / 16) n) z)
+
+-- the errors after the first
+pub errors-below : (values e : List ℕ) (c place end next : ℕ) → end ≡ place + 1 → next ≡ place → length e ≡ place →
+    ShowErrors values (c ∷ e) end (place / 16) → ShowErrors values e next (next / 16)
+errors-below values e c place end next f n long h m l g some =
+    sym (coefficient-tail m c e (λ s. omega (arith, s, l, n, long)))
+    ∙ h m (omega (arith, l, f, n)) (g ∙ ap (λ t. t / 16) n) some
+
+-- the first error, if it is shown that there is none
+pub errors-none : (values e : List ℕ) (c place end : ℕ) → end ≡ place + 1 → length e ≡ place →
+    ShowErrors values (c ∷ e) end (place / 16) → (get_or values (place % 16) 0 ≡ 0 → ⊥) → c ≡ 0
+errors-none values e c place end f long h n =
+    sym (coefficient-head place c e (sym long)) ∙ h place (omega (arith, f)) refl n

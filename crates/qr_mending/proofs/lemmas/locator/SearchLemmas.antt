@@ -1,35 +1,29 @@
 -- The search for the locator: what adding a multiple of a shifted polynomial does, and that its degree stays below the
 -- number of errors.
-use Rattle.std.proofs.Common.{◌≡◌, ℕ, zero, suc, ◌+◌, ◌-◌, ◌*◌, ◌<◌, ◌≤◌, List, [], ◌∷◌, ◌++◌, length, take, drop, get_or, set, refl, sym, ap, ◌∙◌, subst, inl, inr, arith, lit<, bit_xor, append_assoc, length-append, length-drop}
-use Rattle.std.proofs.{lemmas.Bool.cases_lt, Math.Numerals.suc-eq-add-one}
-use Rattle.std.proofs.lemmas.List.{length_push, drop-append-le, length-take, length-map, take_all, get_or-take, get_or-append-add, drop-drop, take_more_set, take_more, length-replicate}
+use Rattle.std.proofs.Common.{◌≡◌, ℕ, zero, suc, ◌+◌, ◌-◌, ◌*◌, ◌<◌, ◌≤◌, List, [], ◌∷◌, ◌++◌, length, take, drop, get_or, set, refl, sym, ap, ◌∙◌, subst, inl, inr, arith, lit<, bit_xor, append_assoc, length-append}
+use Rattle.std.proofs.{lemmas.{Bool.cases_lt, Nat.xor_comm, List.set-get_or}, Math.Seq.take-append-add}
+use Rattle.std.proofs.lemmas.List.{length-take, length-map, take_all, get_or-take, get_or-append-add, drop-drop, take_more_set, take_more, length-replicate}
 use Rattle.std.proofs.lemmas.List.Elements.{All-nil, All-cons, All-head, All-tail, All-drop}
-use Rattle.std.specs.{List.All, Int.Bits.{xor_zero_l, xor_self}}
-use Rattle.qr_field.specs.{Galois.product, Steps.Polynomial.value_at}
+use Rattle.std.specs.{List.All, Int.Bits.{xor_zero_l, xor_zero_r, xor_self}}
+use Rattle.qr_field.specs.{Galois.product}
 use Rattle.qr_field.specs.{Polynomial.{IsByte, plus, scaled, zeros}, Distance.{differences}}
 use Rattle.qr_field.proofs.lemmas.{galois.ByteLemmas.{product-by_zero, product-of_zero}, polynomial.ListLemmas.{take-plus, length-plus, bytes-plus, bytes-scaled}}
 use Rattle.qr_field.proofs.lemmas.laws.DistanceLemmas.{weight, value-none}
 use Rattle.qr_mending.specs.declared.{polynomial.Polynomial.Polynomial, locator.Search.Search, locator.Progress.Progress}
 use Rattle.qr_mending.specs.Steps.Polynomial.{all_of, IsMonic, miss_of, IsBest, IsSearch, IsProgress}
 use Rattle.qr_mending.specs.Steps.{Sums.{dot_of, blend, HasValues}, Errors.{weighted, AreFewErrors, AreFewErrorsOf, IsLocated}}
-use Rattle.qr_mending.proofs.lemmas.sums.SumLemmas.{dot-plus, dot-blend, values-more, values-none}
+use Rattle.qr_mending.proofs.lemmas.sums.SumLemmas.{dot-plus, dot-blend, values-none}
 use Rattle.qr_mending.proofs.lemmas.errors.WeightLemmas.{weighted-none, weighted-value, errors-root}
 
 -- ---- sums of a polynomial and a multiple
 
 -- one coefficient more
-pub plus-set : (f : ℕ) (o t : List ℕ) (j : ℕ) → j < length o → j < length t →
+plus-set : (f : ℕ) (o t : List ℕ) (j : ℕ) → j < length o → j < length t →
     set (plus (scaled f (take j o)) t) j (bit_xor (product f (get_or o j 0)) (get_or t j 0)) ≡ plus (scaled f (take (suc j) o)) t
 plus-set f [] t j l h = absurd (omega arith)
 plus-set f (x ∷ o) [] j l h = absurd (omega arith)
 plus-set f (x ∷ o) (y ∷ t) zero l h = refl
 plus-set f (x ∷ o) (y ∷ t) (suc j) l h = cc (plus-set f o t j (omega arith) (omega arith))
-
--- one coefficient more, stated with the variables of the loop
-pub plus-more : (f : ℕ) (o t now : List ℕ) (j m : ℕ) → j < length o → j < length t →
-    now ≡ plus (scaled f (take j o)) t → m ≡ product f (get_or o j 0) →
-    set now j (bit_xor m (get_or t j 0)) ≡ plus (scaled f (take (j + 1) o)) t
-plus-more f o t now j m l h e g = cc (plus-set f o t j l h, suc-eq-add-one j)
 
 -- the items after the end of the shorter list stay the same
 plus-beyond : (xs ys : List ℕ) (k : ℕ) → length xs ≤ k → get_or (plus xs ys) k 0 ≡ get_or ys k 0
@@ -44,19 +38,77 @@ plus-beyond (x ∷ xs) [] (suc k) l = past xs k (omega arith)
 plus-beyond (x ∷ xs) (y ∷ ys) zero l = absurd (omega arith)
 plus-beyond (x ∷ xs) (y ∷ ys) (suc k) l = plus-beyond xs ys k (omega arith)
 
--- a multiple of the first j coefficients has at most j coefficients
-length-multiple : (f j : ℕ) (o : List ℕ) → length (scaled f (take j o)) ≤ j
-length-multiple f j o = search (arith, length-map, length-take)
+-- a multiple of the first k coefficients, shifted by a, has at most a + k coefficients
+length-multiple : (f a k : ℕ) (p : List ℕ) → length (scaled f (zeros a ++ take k p)) ≤ a + k
+length-multiple f a k p = omega (
+  arith,
+  length-map (zeros a ++ take k p) (product f),
+  length-append (zeros a) (take k p),
+  length-replicate {A = ℕ} a 0,
+  length-take k p,
+)
+
+-- before the first coefficient of the multiple
+pub add-begins : (f a : ℕ) (p t : List ℕ) → f < 256 → a ≤ length t → t ≡ plus (scaled f (zeros a ++ take 0 p)) t
+add-begins f zero p t lf l = refl
+add-begins f (suc a) p [] lf l = absurd (omega arith)
+add-begins f (suc a) p (x ∷ t) lf l = cc (product-by_zero f lf, xor_zero_l x, add-begins f a p t lf (omega arith))
+
+-- the coefficients of the multiple at their places
+first-multiples : (a k : ℕ) (p : List ℕ) → take (a + k) (zeros a ++ p) ≡ zeros a ++ take k p
+first-multiples a k p =
+    ap (λ n. take (n + k) (zeros a ++ p)) (sym (length-replicate {A = ℕ} a 0)) ∙ take-append-add (zeros a) p k
+
+multiple-at : (a k : ℕ) (p : List ℕ) → get_or (zeros a ++ p) (a + k) 0 ≡ get_or p k 0
+multiple-at a k p =
+    ap (λ n. get_or (zeros a ++ p) (n + k) 0) (sym (length-replicate {A = ℕ} a 0)) ∙ get_or-append-add (zeros a) p k 0
+
+-- one coefficient of the multiple more
+pub add-more : (f a k m : ℕ) (p t now : List ℕ) → k < length p → a + k < length t →
+    now ≡ plus (scaled f (zeros a ++ take k p)) t → m ≡ product f (get_or p k 0) →
+    set now (a + k) (bit_xor (get_or now (a + k) 0) m) ≡ plus (scaled f (zeros a ++ take (k + 1) p)) t
+add-more f a k m p t now l h same value =
+    let o = zeros a ++ p in
+    let long : a + k < length o = omega (arith, l, length-append (zeros a) p, length-replicate {A = ℕ} a 0) in
+    let next : a + (k + 1) ≡ suc (a + k) = omega arith in
+    cc (
+      same,
+      value,
+      plus-beyond (scaled f (zeros a ++ take k p)) t (a + k) (length-multiple f a k p),
+      xor_comm (get_or t (a + k) 0) m,
+      multiple-at a k p,
+      first-multiples a k p,
+      first-multiples a (k + 1) p,
+      next,
+      plus-set f o t (a + k) long h,
+    )
+
+-- a coefficient of 0 adds nothing
+pub add-skip : (f a k : ℕ) (p t now : List ℕ) → f < 256 → k < length p → a + k < length t → get_or p k 0 ≡ 0 →
+    now ≡ plus (scaled f (zeros a ++ take k p)) t → now ≡ plus (scaled f (zeros a ++ take (k + 1) p)) t
+add-skip f a k p t now lf l h none same =
+    let here = get_or now (a + k) 0 in
+    sym (set-get_or now (a + k) 0)
+    ∙ (ap (set now (a + k)) (sym (xor_zero_r here))
+    ∙ add-more f a k 0 p t now l h same (sym (ap (product f) none ∙ product-by_zero f lf)))
 
 -- the leading coefficient stays the same
-pub leading-stays : (f j d : ℕ) (o t now : List ℕ) → j ≤ d → now ≡ plus (scaled f (take j o)) t →
+pub add-leading : (f a k d : ℕ) (p t now : List ℕ) → a + k ≤ d → now ≡ plus (scaled f (zeros a ++ take k p)) t →
     get_or t d 0 ≡ 1 → get_or now d 0 ≡ 1
-leading-stays f j d o t now l e h = search (arith, plus-beyond, length-multiple)
+add-leading f a k d p t now l same one =
+    cc (same, plus-beyond (scaled f (zeros a ++ take k p)) t d (omega (arith, length-multiple f a k p, l)), one)
 
 -- the sum with all coefficients of the multiple
-pub sum-all : (f j k d : ℕ) (o t now : List ℕ) → j ≡ k + 1 → k < d →
-    now ≡ plus (scaled f (take j o)) t → take (d + 1) now ≡ plus (scaled f (take (k + 1) o)) (take (d + 1) t)
-sum-all f j k d o t now s l e = search (arith, take-plus, take_all, length-multiple)
+pub add-all : (f a k d : ℕ) (p t now : List ℕ) → a + k ≤ d → now ≡ plus (scaled f (zeros a ++ take k p)) t →
+    take (d + 1) now ≡ plus (scaled f (zeros a ++ take k p)) (take (d + 1) t)
+add-all f a k d p t now l same =
+    let multiple = scaled f (zeros a ++ take k p) in
+    cc (same, take-plus (d + 1) multiple t, take_all (d + 1) multiple (omega (arith, length-multiple f a k p, l)))
+
+-- a quotient that is not 0 has a dividend that is not 0
+pub factor-some : (f s d : ℕ) → s < 256 → product f s ≡ d → (d ≡ 0 → ⊥) → 1 ≤ f
+factor-some zero s d l e n = absurd (n (sym e ∙ product-of_zero s l))
+factor-some (suc f) s d l e n = omega arith
 
 -- ---- shifted polynomials
 
@@ -226,59 +278,75 @@ search-begins s p degree monic terms =
 
 -- ---- one syndrome more
 
--- items after those that the coefficients meet have no effect
-dot-longer : (p w v : List ℕ) → length p ≤ length w → dot_of p (w ++ v) ≡ dot_of p w
-dot-longer [] w v l = refl
-dot-longer (a ∷ p) [] v l = absurd (omega arith)
-dot-longer (a ∷ p) (b ∷ w) v l = ap (bit_xor (product a b)) (dot-longer p w v (omega arith))
+-- a sum whose window lies within two lists of the same values
+miss-same : (p : Polynomial) (j : ℕ) (s u r : List ℕ) → HasValues s r → HasValues u r → j + p.degree < length s →
+    j + p.degree < length u → miss_of p (drop j u) ≡ miss_of p (drop j s)
+miss-same p j s u r hs hu ls lu =
+    let count = length-take (p.degree + 1) p.terms in
+    dot-blend (all_of p) j u r hu (omega (arith, lu, count)) ∙ sym (dot-blend (all_of p) j s r hs (omega (arith, ls, count)))
 
--- a sum whose window lies within the syndromes so far stays the same
-miss-longer : (p : Polynomial) (j : ℕ) (s v : List ℕ) → j + p.degree < length s →
-    miss_of p (drop j (s ++ v)) ≡ miss_of p (drop j s)
-miss-longer p j s v l =
-    ap (dot_of (all_of p)) (drop-append-le j s v (omega (arith, l)))
-    ∙ dot-longer (all_of p) (drop j s) v (omega (arith, length-take (p.degree + 1) p.terms, length-drop j s, l))
-
--- the search does not change before the new syndrome is taken in
-pub search-longer : (i : ℕ) (search : Search) (s v : List ℕ) → length s ≡ i → IsSearch (length s) s search →
-    IsSearch i (s ++ v) search
-search-longer i search s v count h = subst (λ (k : ℕ). IsSearch k (s ++ v) search) count (record {
+-- the search depends only on the syndromes that it took in
+search-same : (i : ℕ) (search : Search) (s u r : List ℕ) → HasValues s r → HasValues u r → i ≤ length s → i ≤ length u →
+    IsSearch i s search → IsSearch i u search
+search-same i search s u r hs hu ls lu h = record {
   best = record {
     bytes = h.best.bytes;
     count = h.best.count;
     monic = h.best.monic;
-    solved = λ j g. miss-longer search.best j s v g ∙ h.best.solved j g;
+    solved = λ j g. miss-same search.best j s u r hs hu (omega (arith, g, ls)) (omega (arith, g, lu)) ∙ h.best.solved j g;
   };
   bytes = h.bytes;
   some = h.some;
   room = h.room;
-  before = λ j g. miss-longer search.earlier j s v (omega (arith, g, h.room)) ∙ h.before j g;
-  last = λ j g. miss-longer search.earlier j s v (omega (arith, g, h.room)) ∙ h.last j g;
-})
-
--- before the first syndrome is taken in
-pub progress-begins : (t : ℕ) (r : List ℕ) (progress : Progress) → progress.syndromes.items ≡ [] →
-    ((s : List ℕ) → IsSearch 0 s progress.search) → progress.search.best.degree ≡ 0 → IsProgress t r progress
-progress-begins t r progress none search degree = record {
-  values = values-none progress.syndromes.items r none;
-  search = subst (λ (l : List ℕ). IsSearch (length l) l progress.search) (sym none) (search []);
-  degree = omega (arith, degree);
-  count = omega (arith, ap length none);
+  before = λ j g.
+      miss-same search.earlier j s u r hs hu (omega (arith, g, h.room, ls)) (omega (arith, g, h.room, lu)) ∙ h.before j g;
+  last = λ j g.
+      miss-same search.earlier j s u r hs hu (omega (arith, g, h.room, ls)) (omega (arith, g, h.room, lu)) ∙ h.last j g;
 }
 
--- after the new syndrome is taken in
-pub progress-next : (t i v : ℕ) (r : List ℕ) (before after : Progress) → length before.syndromes.items ≡ i →
-    IsProgress t r before → after.syndromes.items ≡ before.syndromes.items ++ v ∷ [] → v ≡ value_at i r →
-    IsSearch (i + 1) after.syndromes.items after.search → after.search.best.degree ≤ t → i < 2 * t → IsProgress t r after
-progress-next t i v r before after count h push value search degree within =
-    let items = after.syndromes.items in
-    let long : length items ≡ i + 1 = omega (arith, ap length push, length_push before.syndromes.items v, count) in
+-- before the first syndrome is taken in
+pub progress-begins : (t : ℕ) (r : List ℕ) (progress : Progress) → progress.syndromes.items ≡ [] → progress.taken ≡ 0 →
+    ((s : List ℕ) → IsSearch 0 s progress.search) → progress.search.best.degree ≡ 0 → IsProgress t r progress
+progress-begins t r progress none start search degree =
+    let items = progress.syndromes.items in
     record {
-      values = subst (λ (l : List ℕ). HasValues l r) (sym push) (values-more before.syndromes.items i v r count h.values value);
-      search = subst (λ (k : ℕ). IsSearch k items after.search) (sym long) search;
-      degree = degree;
-      count = omega (arith, long, within);
+      values = values-none items r none;
+      count = omega (arith, ap length none);
+      search = subst (λ (k : ℕ). IsSearch k items progress.search) (sym start) (search items);
+      degree = omega (arith, degree);
+      within = omega (arith, start);
+      most = omega (arith, start);
     }
+
+-- after further syndromes are computed
+pub progress-longer : (t : ℕ) (r : List ℕ) (before after : Progress) → IsProgress t r before →
+    HasValues after.syndromes.items r → length before.syndromes.items ≤ length after.syndromes.items →
+    length after.syndromes.items ≤ length r → after.taken ≡ before.taken → after.search ≡ before.search → IsProgress t r after
+progress-longer t r before after h values longer count taken search =
+    let same : IsSearch before.taken after.syndromes.items before.search = search-same before.taken before.search
+    before.syndromes.items after.syndromes.items r h.values values h.within (omega (arith, h.within, longer)) h.search in
+    record {
+      values = values;
+      count = count;
+      search = rw (taken, search) same;
+      degree = rw search h.degree;
+      within = omega (arith, taken, longer, h.within);
+      most = omega (arith, taken, h.most);
+    }
+
+-- after the next syndrome is taken in
+pub progress-next : (t : ℕ) (r : List ℕ) (before after : Progress) → IsProgress t r before →
+    after.syndromes ≡ before.syndromes → after.taken ≡ before.taken + 1 →
+    before.taken < length before.syndromes.items → before.taken < 2 * t →
+    IsSearch (before.taken + 1) before.syndromes.items after.search → after.search.best.degree ≤ t → IsProgress t r after
+progress-next t r before after h same taken within most search degree = record {
+  values = rw same h.values;
+  count = rw same h.count;
+  search = rw (same, taken) search;
+  degree = degree;
+  within = rw (same, taken) (omega (arith, within));
+  most = omega (arith, taken, most);
+}
 
 -- errors with the same remainder have the syndromes that were taken in
 pub few-values : (t : ℕ) (r s e : List ℕ) → HasValues s r → length s ≤ length r → AreFewErrorsOf t r e → AreFewErrors t s e

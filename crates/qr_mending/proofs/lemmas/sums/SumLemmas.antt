@@ -1,13 +1,13 @@
 -- Values of polynomials, and sums of products of their coefficients with the items of a list.
-use Rattle.std.proofs.Common.{◌≡◌, ℕ, ◌+◌, ◌*◌, ◌<◌, ◌≤◌, List, [], ◌∷◌, ◌++◌, length, take, drop, get_or, refl, sym, ap, ◌∙◌, inl, inr, arith, lit<, bit_xor}
+use Rattle.std.proofs.Common.{◌≡◌, ℕ, ◌+◌, ◌-◌, ◌*◌, ◌%◌, ◌<◌, ◌≤◌, List, [], ◌∷◌, ◌++◌, length, drop, get_or, refl, sym, ap, ◌∙◌, inl, inr, arith, lit<, bit_xor, length-drop}
 use Rattle.std.proofs.lemmas.{Nat.xor_of_8, Nat.xor_comm, Bool.cases_lt}
-use Rattle.std.proofs.lemmas.List.{length_push, get_or_push, get_or_append_left, drop_more, take_more}
-use Rattle.std.proofs.lemmas.List.Elements.{All-head, All-tail, All-take, All-from_get_or}
-use Rattle.std.specs.{List.All, Int.Bits.{xor_assoc, xor_zero_l, xor_zero_r}}
+use Rattle.std.proofs.lemmas.List.{length_push, get_or_push, get_or_append_left, drop_more, drop_all}
+use Rattle.std.proofs.lemmas.List.Elements.{All-drop, All-get_or, All-head, All-tail}
+use Rattle.std.specs.{List.All, Int.Bits.{xor_assoc, xor_zero_l}}
 use Rattle.qr_field.specs.{Galois.product, Steps.Polynomial.value_at, Polynomial.{IsByte, plus, scaled, power}}
 use Rattle.qr_field.proofs.lemmas.galois.{BitLemmas.xor-swap, ProductLemmas.{product-lt, product-xor}}
-use Rattle.qr_field.proofs.lemmas.galois.ByteLemmas.{product-by_zero, product-of_zero, product-by_one}
-use Rattle.qr_field.proofs.lemmas.{logarithm.PowerLemmas.{power-lt, power-add}, laws.ValueLemmas.value-lt}
+use Rattle.qr_field.proofs.lemmas.galois.ByteLemmas.{product-by_zero, product-of_zero, product-of_one}
+use Rattle.qr_field.proofs.lemmas.{logarithm.PowerLemmas.{power-lt, power-add, power-mod}}
 use Rattle.qr_field.proofs.lemmas.galois.FieldLemmas.{product-comm, product-assoc, product-front, product-by_sum}
 use Rattle.qr_mending.specs.Steps.Sums.{dot_of, eval, blend, HasValues}
 
@@ -33,42 +33,44 @@ pub ruleset field_laws = (
 pub power-next : (i m : ℕ) → power ((i + 1) * m) ≡ product (power m) (power (i * m))
 power-next i m = rw (← power-add m (i * m)) (ap power (omega arith))
 
+-- the product of two powers, by an exponent below 255
+pub exponent-sum : (i j k : ℕ) → k ≡ (i + j) % 255 → power k ≡ product (power i) (power j)
+exponent-sum i j k e = cc (power-mod (i + j), power-add i j)
+
+-- the first multiple of an element, by the exponent of the element
+pub multiple-first : (element l first step e : ℕ) → power l ≡ element → e ≡ (l + first * step) % 255 →
+    power e ≡ product element (power ((first + 0) * step))
+multiple-first element l first step e log h =
+    let none : (first + 0) * step ≡ first * step = omega arith in
+    cc (power-mod (l + first * step), power-add l (first * step), none)
+
+-- the next multiple
+pub multiple-next : (element first k step e s : ℕ) → element < 256 →
+    power e ≡ product element (power ((first + k) * step)) → power s ≡ product (power e) (power step) →
+    power s ≡ product element (power ((first + (k + 1)) * step))
+multiple-next element first k step e s l now next =
+    let exponent : (first + (k + 1)) * step ≡ (first + k) * step + step = omega arith in
+    cc (
+      exponent,
+      power-add ((first + k) * step) step,
+      product-assoc element (power ((first + k) * step)) (power step) l (power-lt ((first + k) * step)) (power-lt step),
+    )
+
 -- ---- values
 
--- the value of a list with one coefficient more at its end
-value-push : (i : ℕ) (p : List ℕ) (c : ℕ) → All IsByte p → c < 256 →
-    value_at i (p ++ c ∷ []) ≡ bit_xor (product (value_at i p) (power i)) c
-value-push i [] c a l =
-    let none : i * 0 ≡ 0 = omega arith in
-    cc (
-      none,
-      xor_zero_r (product c (power 0)),
-      product-by_one c l,
-      product-of_zero (power i) (power-lt i),
-      xor_zero_l c,
-    )
-value-push i (b ∷ p) c a l =
-    let lb = All-head IsByte b p a in
-    let lp = All-tail IsByte b p a in
-    let place = power (i * length p) in
-    let exponent : i * (length p + 1) ≡ i * length p + i = omega arith in
-    cc (
-      length_push p c,
-      exponent,
-      power-add (i * length p) i,
-      product-assoc b place (power i) lb (power-lt (i * length p)) (power-lt i),
-      value-push i p c lp l,
-      xor_assoc (product (product b place) (power i)) (product (value_at i p) (power i)) c,
-      product-xor (product b place) (value_at i p) (power i) (product-lt b place lb) (value-lt i p lp),
-    )
+-- the value of the coefficients from index k - 1 on
+pub value-more : (i k : ℕ) (p : List ℕ) → 0 < k → k ≤ length p →
+    value_at i (drop (k - 1) p) ≡ bit_xor (product (get_or p (k - 1) 0) (power (i * (length p - k)))) (value_at i (drop k p))
+value-more i k p some l =
+    let next : k - 1 + 1 ≡ k = omega (arith, some) in
+    cc (drop_more p (k - 1) 0 (omega (arith, some, l)), next, length-drop k p)
 
--- the value of a block with one codeword more
-pub value-more : (i k v x w : ℕ) (block : List ℕ) → k < length block →
-    ((j : ℕ) → get_or block j 0 < 256) → x ≡ power i → v ≡ value_at i (take k block) →
-    w ≡ product v x → bit_xor w (get_or block k 0) ≡ value_at i (take (k + 1) block)
-value-more i k v x w block l b ex ev ew =
-    let bytes = All-take IsByte k block (All-from_get_or IsByte block 0 (λ j m. b j)) in
-    cc (value-push i (take k block) (get_or block k 0) bytes (b k), take_more block k 0 l)
+-- a coefficient of 0 does not change the value
+pub value-skip : (i k : ℕ) (p : List ℕ) → 0 < k → k ≤ length p → get_or p (k - 1) 0 ≡ 0 →
+    value_at i (drop (k - 1) p) ≡ value_at i (drop k p)
+value-skip i k p some l none =
+    let place = power (i * (length p - k)) in
+    cc (value-more i k p some l, none, product-of_zero place (power-lt (i * (length p - k))), xor_zero_l (value_at i (drop k p)))
 
 -- a list of values with one value more
 pub values-more : (s : List ℕ) (k v : ℕ) (e : List ℕ) → length s ≡ k → HasValues s e →
@@ -127,3 +129,49 @@ eval-lt x (c ∷ p) l a = xor_of_8 c (product x (eval x p)) (All-head IsByte c p
 -- an empty list contains the first values of every list
 pub values-none : (s e : List ℕ) → s ≡ [] → HasValues s e
 values-none s e h = record { each = λ k l. absurd (omega (arith, l, ap length h)) }
+
+-- no terms of the whole polynomial
+pub eval-start : (m k : ℕ) (p : List ℕ) → length p ≤ k → 0 ≡ product (power (m * k)) (eval (power m) (drop k p))
+eval-start m k p l =
+    let place = power (m * k) in
+    sym (ap (λ t. product place (eval (power m) t)) (drop_all k p l) ∙ product-by_zero place (power-lt (m * k)))
+
+-- the value at 2 to the power m of the coefficients from index k - 1 on, as terms of the whole polynomial
+pub eval-more : (m k : ℕ) (p : List ℕ) → All IsByte p → 0 < k → k ≤ length p →
+    product (power (m * (k - 1))) (eval (power m) (drop (k - 1) p))
+    ≡ bit_xor (product (get_or p (k - 1) 0) (power (m * (k - 1)))) (product (power (m * k)) (eval (power m) (drop k p)))
+eval-more m k p lp some l =
+    let i = k - 1 in
+    let next : i + 1 ≡ k = omega (arith, some) in
+    let a = get_or p i 0 in
+    let rest = eval (power m) (drop k p) in
+    let la = All-get_or IsByte p i 0 (omega (arith, some, l)) lp in
+    let lr = eval-lt (power m) (drop k p) (power-lt m) (All-drop IsByte k p lp) in
+    let exponent : m * (i + 1) ≡ m * i + m = omega arith in
+    cc (
+      drop_more p i 0 (omega (arith, some, l)),
+      next,
+      exponent,
+      power-add (m * i) m,
+      product-assoc (power (m * i)) (power m) rest (power-lt (m * i)) (power-lt m) lr,
+      product-by_sum (power (m * i)) a (product (power m) rest) (power-lt (m * i)) la (product-lt (power m) rest (power-lt m)),
+      product-comm (power (m * i)) a (power-lt (m * i)) la,
+    )
+
+-- a coefficient of 0 does not change them
+pub eval-skip : (m k : ℕ) (p : List ℕ) → All IsByte p → 0 < k → k ≤ length p → get_or p (k - 1) 0 ≡ 0 →
+    product (power (m * (k - 1))) (eval (power m) (drop (k - 1) p)) ≡ product (power (m * k)) (eval (power m) (drop k p))
+eval-skip m k p lp some l none =
+    let place = power (m * (k - 1)) in
+    cc (
+      eval-more m k p lp some l,
+      none,
+      product-of_zero place (power-lt (m * (k - 1))),
+      xor_zero_l (product (power (m * k)) (eval (power m) (drop k p))),
+    )
+
+-- once all coefficients are terms
+pub eval-all : (m : ℕ) (p : List ℕ) → All IsByte p → product (power (m * 0)) (eval (power m) (drop 0 p)) ≡ eval (power m) p
+eval-all m p lp =
+    let none : m * 0 ≡ 0 = omega arith in
+    cc (none, product-of_one (eval (power m) p) (eval-lt (power m) p (power-lt m) lp))

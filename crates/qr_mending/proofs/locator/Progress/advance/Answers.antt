@@ -1,22 +1,35 @@
-use Rattle.std.proofs.Common.{◌∷◌, [], arith}
-use Rattle.qr_mending.proofs.lemmas.locator.SearchLemmas.{search-longer, progress-next}
+use Rattle.std.proofs.Common.{refl, ◌∙◌, arith}
+use Rattle.qr_mending.proofs.lemmas.locator.SearchLemmas.{few-values, progress-next}
 use Rattle.qr_mending.proofs.locator.Progress.advance.Goals as goal
 
-pub next-requires-clause-search : goal.next-requires-clause-search
-next-requires-clause-search c =
-    let s = c.loop-i.self.syndromes.items in
-    rw (c.as_slice.ensures.value, c.push.ensures.items)
-    (search-longer c.loop-i.i c.loop-i.self.search s (c.next_syndrome-syndrome.result ∷ []) c.loop-i.invariant.0
-    c.loop-i.invariant.1.search)
+pub take_in-requires-clause-search : goal.take_in-requires-clause-search
+take_in-requires-clause-search c =
+    let progress = c.prepare.ensures.progress c.args.t c.loop-i.invariant.1 in
+    rw c.as_slice.ensures.value (rw (c.prepare.ensures.taken, c.loop-i.invariant.0) at progress.search)
+
+pub take_in-requires-clause-degree : goal.take_in-requires-clause-degree
+take_in-requires-clause-degree c =
+    let progress = c.prepare.ensures.progress c.args.t c.loop-i.invariant.1 in progress.degree
+
+pub returns-then-not-take_in-clause-beyond : goal.returns-then-not-take_in-clause-beyond
+returns-then-not-take_in-clause-beyond c = λ errors few.
+    let progress = c.prepare.ensures.progress c.args.t c.loop-i.invariant.1 in
+    c.if-not-take_in.ensures.beyond errors
+    (rw c.as_slice.ensures.value
+    (few-values c.args.t c.args.remainder.now c.prepare.new.self.syndromes.items errors progress.values progress.count few))
+
+pub returns-then-i-self-clause-progress : goal.returns-then-i-self-clause-progress
+returns-then-i-self-clause-progress c =
+    let now = c.prepare.ensures.taken ∙ c.loop-i.invariant.0 in
+    progress-next c.args.t c.args.remainder.now c.prepare.new.self _ (c.prepare.ensures.progress c.args.t c.loop-i.invariant.1)
+    refl (omega (arith, now)) c.prepare.ensures.next (omega (arith, now))
+    (rw (c.as_slice.ensures.value, ← now) at c.if-not-take_in.ensures.search) c.if-not-take_in.ensures.degree
 
 pub loop-i-preserved : goal.loop-i-preserved
-loop-i-preserved c = (
-  omega (arith, c.push.ensures.len, c.loop-i.invariant.0),
-  progress-next c.args.t c.loop-i.i c.next_syndrome-syndrome.result c.args.remainder.now c.loop-i.self
-      (record { syndromes = c.push.new.self; search = c.in-Some.found })
-      c.loop-i.invariant.0 c.loop-i.invariant.1 c.push.ensures.items c.next_syndrome-syndrome.ensures.value
-      (rw c.as_slice.ensures.value at c.in-Some.ensures.search)
-      c.in-Some.ensures.degree
-      (omega arith),
-  c.next_syndrome-syndrome.ensures.later,
-)
+loop-i-preserved c =
+    let now = c.prepare.ensures.taken ∙ c.loop-i.invariant.0 in (
+      refl,
+      progress-next c.args.t c.args.remainder.now c.prepare.new.self _ (c.prepare.ensures.progress c.args.t c.loop-i.invariant.1)
+          refl (omega (arith, now)) c.prepare.ensures.next (omega (arith, now))
+          (rw (c.as_slice.ensures.value, ← now) at c.if-not-take_in.ensures.search) c.if-not-take_in.ensures.degree,
+    )
