@@ -1,7 +1,7 @@
 //! Collects the codewords from the region, strip by strip (ISO/IEC 18004:2015, 7.7.3 and 12), and so undoes
 //! `draw_codewords`. Squares are transposed: the two columns of a strip are rows. Exactly the region is dark in
 //! `region`, and transposing does not change it. `passed` counts the rows of a strip that come earlier in its
-//! order. Rows of which both modules are in the region are collected up to 32 at a time.
+//! order. Rows of which both modules are in the region are collected up to 28 at a time.
 
 ghost use Rattle.std.specs.Prelude.{◌≡◌, ℕ, Bool, List, [], ◌∷◌, ◌++◌, ◌*◌, ◌/◌, ◌%◌, ◌+◌, ◌-◌, ◌^◌, ◌<◌, ◌≤◌, ◌&&◌, if◌then◌else◌, map, length, Some, IfOk};
 ghost use Rattle.std.specs.List.{All};
@@ -75,48 +75,24 @@ impl Collector {
         }
     }
 
-    #[inline(always)]
-    fn push_byte(&mut self, byte: u8)
-        ensures { Appends (field 8 byte) self.old self.new }
-    {
-        let size = 1u16 << self.width;
-        let bits = 256 * u16::from(self.rest) + u16::from(byte);
-        self.is_refused |= self.whole.push((bits >> self.width) as u8).is_err();
-        self.rest = (bits % size) as u8;
-    }
-
-    // As `push_bits`, but for at most eight bits, and the others are 0.
-    #[inline(always)]
-    fn push_few(&mut self, bits: u8, count: u8)
-        requires few { count ≤ 8 }
-        requires small { bits < 2 ^ count }
-        ensures { Appends (field count bits) self.old self.new }
-    {
-        let all = (u16::from(self.rest) << count) + u16::from(bits);
-        let width = self.width + count;
-        if width < 8 {
-            self.rest = all as u8;
-            self.width = width;
-        } else {
-            let left = width - 8;
-            self.is_refused |= self.whole.push((all >> left) as u8).is_err();
-            self.rest = (all % (1 << left)) as u8;
-            self.width = left;
-        }
-    }
-
-    // The `count` lowest bits of `bits`, the highest first.
+    // The `count` lowest bits of `bits`, the highest first. With those that are left from before they begin a word, whose
+    // bytes are codewords as far as the bits reach.
     #[inline(always)]
     fn push_bits(&mut self, bits: u64, count: u8)
-        requires { count ≤ 64 }
+        requires some { 1 ≤ count }
+        requires few { count ≤ 56 }
         ensures { Appends (field count bits) self.old self.new }
     {
-        let mut left = count;
-        while left >= 8 {
-            left -= 8;
-            self.push_byte(((bits >> left) % 256) as u8);
-        }
-        self.push_few((bits % (1 << left)) as u8, left);
+        let all = (u64::from(self.rest) << count) + bits % (1 << count);
+        let width = self.width + count;
+        let left = width % 8;
+        let codewords = (all << (64 - width)).to_be_bytes();
+        self.is_refused |= self
+            .whole
+            .extend_from_slice(&codewords[..usize::from(width / 8)])
+            .is_err();
+        self.rest = (all % (1 << left)) as u8;
+        self.width = left;
     }
 
     // Loses the bits after the last whole codeword: the remainder bits, of which there are at most seven.
@@ -204,6 +180,9 @@ fn joined(right: u64, left: u64, upward: bool, count: u8) -> u64
     }
 }
 
+// The most rows that are collected at once: their bits and up to seven from before fit a word.
+const RUN_MAX: u8 = 28;
+
 // Collects rows of which all modules are in the region.
 #[inline(always)]
 fn collect_run(
@@ -215,7 +194,7 @@ fn collect_run(
     count: u8,
 )
     requires some { 1 ≤ count }
-    requires few { count ≤ 32 }
+    requires few { count ≤ 28 }
     requires rows_in { passed + count ≤ side_of v }
     requires word { top_row (side_of v) strip passed count % 64 + count ≤ 64 }
     ensures { (region : Columns) → AreWholeRows (side_of v) strip passed count region
@@ -246,7 +225,7 @@ fn collect_next(
     ensures bits { Appends (bits_in_rows (side_of v) strip region.now columns.now passed result) bits.old bits.new }
 {
     let side = v.side();
-    let count = rows_set(&rows.both, strip, passed, side);
+    let count = rows_set(&rows.both, strip, passed, side).min(RUN_MAX);
     if count > 0 {
         collect_run(bits, columns, v, strip, passed, count);
         return count;

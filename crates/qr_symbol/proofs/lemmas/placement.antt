@@ -12,5 +12,5 @@ pub mod ColumnLemmas
 pub mod AcrossLemmas
 -- Bits that are exchanged, reversed and divided between the two columns of a strip.
 pub mod SplitLemmas
--- The modules of a strip that are still to be drawn, which are light.
+-- The region made light, and rows of a strip that are drawn at once.
 pub mod LightLemmas

@@ -1,4 +1,4 @@
--- What a list contains after each block of error correction.
+-- What a list contains after the error correction codewords of each block.
 use Rattle.std.specs.Prelude.{◌≡◌, ℕ, ◌<◌, List, [], length, slice_index_or}
 use Rattle.qr_field.specs.Polynomial.{IsCorrection}
 use Rattle.qr_layout.specs.declared.blocks.Blocks.{Blocks}

@@ -5,8 +5,9 @@ use Rattle.qr_symbol.proofs.collecting.collect_next.Goals as goal
 
 pub returns-then-count-gt0-clause-bits : goal.returns-then-count-gt0-clause-bits
 returns-then-count-gt0-clause-bits c =
-    let s = side_of c.args.v in let x = c.args.strip in let k = c.args.passed in let n = c.rows_set-count.result in
-    let set : (j : ℕ) → k ≤ j → j < k + n → has c.args.rows.now.both (row_of s x j) ≡ true = rw (← c.side-side.ensures.value) c.rows_set-count.ensures.set in
+    let s = side_of c.args.v in let x = c.args.strip in let k = c.args.passed in let n = c.min-count.result in
+    let set : (j : ℕ) → k ≤ j → j < k + n → has c.args.rows.now.both (row_of s x j) ≡ true =
+    rw (← c.side-side.ensures.value) (λ j l m. c.rows_set.ensures.set j l (omega arith)) in
     c.collect_run.ensures c.args.region.now (rows-both s x k n c.args.region.now (has c.args.rows.now.both) c.requires.rows.0 set)
 
 pub returns-then-outside-gt0-clause-bits : goal.returns-then-outside-gt0-clause-bits

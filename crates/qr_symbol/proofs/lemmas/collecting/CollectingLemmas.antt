@@ -1,6 +1,6 @@
 -- The bits of a strip, row by row, are those of the strip's places in the encoding region, in their order.
 use Rattle.qr_layout.specs.{Order.in_region_of, Region.is_in_region, Strips.{both_of, rows_from, places_of}}
-use Rattle.{qr_layout.specs.declared.{region.Module.Module, strips.Strip.Strip}, std.{proofs.lemmas.List.{map-append, Elements.All-push}, specs.List.All}}
+use Rattle.{qr_layout.specs.declared.{region.Module.Module, strips.Strip.Strip}, std.{proofs.lemmas.List.{map-append}}}
 use Rattle.{qr_matrix.specs.{BitRow.has, Grid.{Grid, colour}}, qr_symbol.specs.declared.placement.Columns.Columns}
 use Rattle.qr_symbol.proofs.lemmas.placement.{KeptPlaceLemmas.{kept-append, places-push}, PlacementLemmas.at}
 use Rattle.qr_symbol.specs.Steps.{Collecting.{bit_if, bits_in_row, bits_in_rows, colour_across, Appends, Bits, HasCollected}, Placement.row_of}
@@ -27,11 +27,6 @@ pushed false false _ _ more e _ i = e refl ∙ ap (λ zs. zs ++ more) i
 -- the codewords after a push that is not refused
 pub push-made : (xs ys zs : List ℕ) (ok failed : Bool) → zs ≡ cond ok ys xs → ok ≡ not failed → failed ≡ false → zs ≡ ys
 push-made _ _ _ _ _ e d f = rw (d, f) at e
-
--- the codewords fit a byte after a push, refused or not
-pub push-fits : (ok : Bool) (xs ys : List ℕ) (x : ℕ) → ys ≡ cond ok (xs ++ x ∷ []) xs → All (λ z. z < 256) xs → x < 256 → All (λ z. z < 256) ys
-push-fits true xs ys x e a l = rw e (All-push (λ z. z < 256) xs x a l)
-push-fits false xs ys x e a l = rw e a
 
 -- bits and then further bits are added
 pub both-added : (a b c : Bits) (more further all : List Bool) → all ≡ more ++ further → Appends more a b → Appends further b c → Appends all a c

@@ -1,6 +1,7 @@
 -- Further bits after the bits of a number.
-use Rattle.std.proofs.Common.{◌≡◌, ℕ, zero, suc, ◌+◌, ◌-◌, ◌*◌, ◌/◌, ◌%◌, ◌^◌, ◌<◌, ◌≤◌, ◌==◌, List, [], ◌∷◌, ◌++◌, refl, sym, ◌∙◌, ap, append_assoc, append-nil, arith}
-use Rattle.std.proofs.{lemmas.{Bool.Decides.nat_tests, Nat.{div_below, pow_pos, shr-shr, shr_split}}, Math.Nat.{mod-eq_of_lt, mod-lt, pow-le-pow_right, pow-suc}}
+use Rattle.std.proofs.Common.{◌≡◌, ℕ, zero, suc, ◌+◌, ◌-◌, ◌*◌, ◌/◌, ◌%◌, ◌^◌, ◌<◌, ◌≤◌, ◌==◌, Bool, true, false, cond, List, [], ◌∷◌, ◌++◌, take, refl, sym, ◌∙◌, ap, append_assoc, append-nil, arith}
+use Rattle.std.proofs.{lemmas.{Bool.Decides.nat_tests, List.Elements.{All-append, All-cons, All-take}, Nat.{pow-add, pow_pos, shr-shr, shr_split}}, Math.Nat.{div-div-eq-div-mul, mod-eq_of_lt, mod-lt, mul-div_cancel, pow-le-pow_right, pow-suc}}
+use Rattle.std.specs.{Int.{byte_at, bytes_high_first, to_be_bytes, w64}, List.All}
 use Rattle.qr_bits.{proofs.Facts.field-more, specs.Bits.{bits_of, field}}
 use mir.Val.{bool_byte}
 
@@ -20,17 +21,9 @@ joined-below w (suc c) r b h l =
 pub joined-small : (w c r b k : ℕ) → r < 2 ^ w → b < 2 ^ c → w + c ≤ k → r * 2 ^ c + b < 2 ^ k
 joined-small w c r b k h l m = omega (arith, joined-below w c r b h l, pow-le-pow_right {n = 2} (omega arith) m)
 
--- shifting a number of less than eight bits by at most eight loses no bit of sixteen
-pub joined-whole : (w c r : ℕ) → r < 2 ^ w → w < 8 → c ≤ 8 → r * 2 ^ c % 65536 ≡ r * 2 ^ c
-joined-whole w c r h l m = mod-eq_of_lt (omega (arith, joined-small w c r 0 15 h (pow_pos c) (omega arith)))
-
-eight-more : (k : ℕ) → 2 ^ (8 + k) ≡ 256 * 2 ^ k
-eight-more zero = refl
-eight-more (suc k) = let e : 8 + suc k ≡ suc (8 + k) = omega arith in rw e (omega (arith, pow-suc 2 (8 + k), pow-suc 2 k, eight-more k))
-
--- the first eight of these bits are a byte
-pub first-byte : (w c r b k : ℕ) → r < 2 ^ w → b < 2 ^ c → w + c ≡ 8 + k → (r * 2 ^ c + b) / 2 ^ k < 256
-first-byte w c r b k h l e = div_below _ _ 256 (pow_pos k) (omega (arith, joined-small w c r b (8 + k) h l (omega arith), eight-more k))
+-- shifting a number of less than eight bits by at most 56 loses no bit of 64
+pub joined-whole : (w c r : ℕ) → r < 2 ^ w → w < 8 → c ≤ 56 → r * 2 ^ c % 18446744073709551616 ≡ r * 2 ^ c
+joined-whole w c r h l m = mod-eq_of_lt (omega (arith, joined-small w c r 0 63 h (pow_pos c) (omega arith)))
 
 -- ---- bits
 
@@ -58,30 +51,90 @@ field-join a (suc b) q r h =
 pub field-cut : (a b n : ℕ) → field (a + b) n ≡ field a (n / 2 ^ b) ++ field b (n % 2 ^ b)
 field-cut a b n = ap (λ z. field (a + b) z) (sym (shr_split n b)) ∙ field-join a b (n / 2 ^ b) (n % 2 ^ b) (mod-lt n (pow_pos b))
 
--- the same, where i bits of c are left
-pub field-left : (c i n : ℕ) → i ≤ c → field c n ≡ field (c - i) (n / 2 ^ i) ++ field i (n % 2 ^ i)
-field-left c i n l = let e : c ≡ c - i + i = omega arith in ap (λ z. field z n) e ∙ field-cut (c - i) i n
+-- the bits of a number are those of its last b bits
+field-low : (b n : ℕ) → field b n ≡ field b (n % 2 ^ b)
+unfolding field
+field-low b n = let e : 0 + b ≡ b = omega arith in ap (λ z. field z n) (sym e) ∙ field-cut 0 b n
 
--- of c bits, those before the last i are those before the eight bits that come before these, followed by these eight
-pub field-byte : (c i n : ℕ) → i + 8 ≤ c → field (c - i) (n / 2 ^ i) ≡ field (c - (i + 8)) (n / 2 ^ (i + 8)) ++ field 8 (n / 2 ^ i % 256)
-field-byte c i n l =
-    let e : c - i ≡ c - (i + 8) + 8 = omega arith in
-    ap (λ z. field z (n / 2 ^ i)) e ∙ (field-cut (c - (i + 8)) 8 (n / 2 ^ i) ∙ ap (λ z. field (c - (i + 8)) z ++ field 8 (n / 2 ^ i % 256)) (shr-shr n i 8))
-
--- one more byte
-bits-push : (xs : List ℕ) (q : ℕ) → bits_of (xs ++ q ∷ []) ≡ bits_of xs ++ field 8 q
+-- bits of bytes after bytes
+bits-append : (xs ys : List ℕ) → bits_of (xs ++ ys) ≡ bits_of xs ++ bits_of ys
 unfolding bits_of
-bits-push [] q = append-nil (field 8 q)
-bits-push (x ∷ xs) q = ap (λ z. field 8 x ++ z) (bits-push xs q) ∙ sym (append_assoc (field 8 x) (bits_of xs) (field 8 q))
+bits-append [] ys = refl
+bits-append (x ∷ xs) ys = ap (λ z. field 8 x ++ z) (bits-append xs ys) ∙ sym (append_assoc (field 8 x) (bits_of xs) (bits_of ys))
 
--- further bits that fill no byte
-pub bits-joined : (xs : List ℕ) (w c r b : ℕ) → b < 2 ^ c → bits_of xs ++ field (w + c) (r * 2 ^ c + b) ≡ (bits_of xs ++ field w r) ++ field c b
-bits-joined xs w c r b l = ap (λ z. bits_of xs ++ z) (field-join w c r b l) ∙ sym (append_assoc (bits_of xs) (field w r) (field c b))
+-- ---- the bytes of a word
 
--- further bits that fill a byte and leave k bits
-pub byte-joined : (xs : List ℕ) (w c r b k n : ℕ) → b < 2 ^ c → w + c ≡ 8 + k → n ≡ r * 2 ^ c + b
-    → bits_of (xs ++ n / 2 ^ k ∷ []) ++ field k (n % 2 ^ k) ≡ (bits_of xs ++ field w r) ++ field c b
-byte-joined xs w c r b k n l e m =
-    ap (λ z. z ++ field k (n % 2 ^ k)) (bits-push xs (n / 2 ^ k)) ∙ (append_assoc (bits_of xs) (field 8 (n / 2 ^ k)) (field k (n % 2 ^ k))
-    ∙ (ap (λ z. bits_of xs ++ z) (sym (field-cut 8 k n) ∙ (ap (λ z. field z n) (sym e) ∙ ap (λ z. field (w + c) z) m))
-    ∙ bits-joined xs w c r b l))
+-- the numbers that k bytes can have are as many as those of their bits
+pow-mul : (k : ℕ) → 256 ^ k ≡ 2 ^ (8 * k)
+pow-mul zero = refl
+pow-mul (suc k) =
+    let f : 8 * suc k ≡ 8 + 8 * k = omega arith in
+    pow-suc 256 k ∙ (ap (λ z. z * 256) (pow-mul k) ∙ (omega (arith, pow-add 2 8 (8 * k)) ∙ ap (λ z. 2 ^ z) (sym f)))
+
+byte-is : (i v : ℕ) → byte_at i v ≡ v / 256 ^ i % 256
+byte-is zero v = omega arith
+byte-is (suc i) v = refl
+
+-- bytes are below 256
+bytes-small : (k v : ℕ) → All (λ x. x < 256) (bytes_high_first k v)
+bytes-small zero v = λ i d l. absurd (omega arith)
+bytes-small (suc k) v = All-cons (λ x. x < 256) _ _ (rw (byte-is k v) (omega arith)) (bytes-small k v)
+
+-- the bits of the first n bytes are those of the number before the k bytes after them
+first-bytes : (n k v : ℕ) → bits_of (take n (bytes_high_first (n + k) v)) ≡ field (8 * n) (v / 256 ^ k)
+unfolding bits_of field
+first-bytes zero k v = refl
+first-bytes (suc n) k v =
+    let y = v / 256 ^ k in
+    let e : suc n + k ≡ suc (n + k) = omega arith in
+    let f : 8 * suc n ≡ 8 + 8 * n = omega arith in
+    let g : k + n ≡ n + k = omega arith in
+    let pow : 2 ^ (8 * n) ≡ 256 ^ n = sym (pow-mul n) in
+    let high : y / 2 ^ (8 * n) ≡ v / 256 ^ (n + k) =
+    ap (λ z. y / z) pow ∙ (div-div-eq-div-mul v (256 ^ k) (256 ^ n) ∙ (ap (λ z. v / z) (sym (pow-add 256 k n)) ∙ ap (λ z. v / 256 ^ z) g)) in
+    let byte : field 8 (byte_at (n + k) v) ≡ field 8 (y / 2 ^ (8 * n)) =
+    ap (field 8) (byte-is (n + k) v) ∙ (sym (field-low 8 (v / 256 ^ (n + k))) ∙ ap (field 8) (sym high)) in
+    let rest = first-bytes n k v ∙ field-low (8 * n) y in
+    ap (λ z. bits_of (take (suc n) (bytes_high_first z v))) e
+    ∙ (ap (λ z. z ++ bits_of (take n (bytes_high_first (n + k) v))) byte
+    ∙ (ap (λ z. field 8 (y / 2 ^ (8 * n)) ++ z) rest
+    ∙ (sym (field-cut 8 (8 * n) y) ∙ ap (λ z. field z y) (sym f))))
+
+-- a number of w bits that is shifted to the upper end of a word
+shifted-whole : (w x : ℕ) → x < 2 ^ w → w ≤ 64 → x * 2 ^ (64 - w) % 18446744073709551616 ≡ x * 2 ^ (64 - w)
+shifted-whole w x h l = mod-eq_of_lt (omega (arith, joined-small w (64 - w) x 0 64 h (pow_pos (64 - w)) (omega arith)))
+
+-- of this word the first bytes have all bits of the number but the last that fill no byte
+first-codewords : (w x : ℕ) → x < 2 ^ w → w ≤ 64 → bits_of (take (w / 8) (to_be_bytes w64 (x * 2 ^ (64 - w) % 18446744073709551616))) ++ field (w % 8) (x % 2 ^ (w % 8)) ≡ field w x
+first-codewords w x h l =
+    let n = w / 8 in let k = 8 - n in let left = w % 8 in
+    let e : 8 ≡ n + k = omega arith in
+    let f : 8 * k ≡ 64 - w + left = omega arith in
+    let g : 8 * n + left ≡ w = omega arith in
+    let v = x * 2 ^ (64 - w) in
+    let cut : v / 256 ^ k ≡ x / 2 ^ left =
+    ap (λ z. v / z) (pow-mul k) ∙ (ap (λ z. v / 2 ^ z) f ∙ (sym (shr-shr v (64 - w) left) ∙ ap (λ z. z / 2 ^ left) (mul-div_cancel x (pow_pos (64 - w))))) in
+    ap (λ z. bits_of (take n (bytes_high_first 8 z)) ++ field left (x % 2 ^ left)) (shifted-whole w x h l)
+    ∙ (ap (λ z. bits_of (take n (bytes_high_first z v)) ++ field left (x % 2 ^ left)) e
+    ∙ (ap (λ z. z ++ field left (x % 2 ^ left)) (first-bytes n k v ∙ ap (field (8 * n)) cut)
+    ∙ (sym (field-cut (8 * n) left x) ∙ ap (λ z. field z x) g)))
+
+-- the codewords that further bits fill, and the bits after them, are the bits before and the further ones
+pub codewords-joined : (xs : List ℕ) (w c r b : ℕ) → r < 2 ^ w → w < 8 → c ≤ 56 → let x = r * 2 ^ c + b % 2 ^ c in
+    bits_of (xs ++ take ((w + c) / 8) (to_be_bytes w64 (x * 2 ^ (64 - (w + c)) % 18446744073709551616))) ++ field ((w + c) % 8) (x % 2 ^ ((w + c) % 8))
+    ≡ (bits_of xs ++ field w r) ++ field c b
+codewords-joined xs w c r b h l m =
+    let low : b % 2 ^ c < 2 ^ c = mod-lt b (pow_pos c) in
+    let x = r * 2 ^ c + b % 2 ^ c in
+    let new = take ((w + c) / 8) (to_be_bytes w64 (x * 2 ^ (64 - (w + c)) % 18446744073709551616)) in
+    let left = field ((w + c) % 8) (x % 2 ^ ((w + c) % 8)) in
+    ap (λ z. z ++ left) (bits-append xs new)
+    ∙ (append_assoc (bits_of xs) (bits_of new) left
+    ∙ (ap (λ z. bits_of xs ++ z) (first-codewords (w + c) x (joined-below w c r (b % 2 ^ c) h low) (omega arith) ∙ field-join w c r (b % 2 ^ c) low)
+    ∙ (sym (append_assoc (bits_of xs) (field w r) (field c (b % 2 ^ c)))
+    ∙ ap (λ z. (bits_of xs ++ field w r) ++ z) (sym (field-low c b)))))
+
+-- these codewords are bytes
+pub codewords-small : (ok : Bool) (xs ys bytes : List ℕ) (n v : ℕ) → bytes ≡ to_be_bytes w64 v → ys ≡ cond ok (xs ++ take n bytes) xs → All (λ x. x < 256) xs → All (λ x. x < 256) ys
+codewords-small true xs ys bytes n v b e a = rw (e, b) (All-append (λ x. x < 256) xs _ a (All-take (λ x. x < 256) n _ (bytes-small 8 v)))
+codewords-small false xs ys bytes n v b e a = rw e a

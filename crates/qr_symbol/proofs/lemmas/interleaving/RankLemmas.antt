@@ -42,18 +42,18 @@ rank-in c p b i = elim (position-cases c p b i) [
 ]
 
 -- an index that all blocks have, or that of the last codeword of a long block
-abbrev IsRow : BlockSizes → Position → Type 0
-IsRow c t = (t.place < c.short_len) ⊎ ((t.place ≡ c.short_len) × (c.short ≤ t.block))
+abbrev IsRow : BlockSizes → ℕ → ℕ → Type 0
+IsRow c p b = (p < c.short_len) ⊎ ((p ≡ c.short_len) × (c.short ≤ b))
 
 -- before a position with a smaller index there are fewer positions
-rank-below : (c : BlockSizes) (t u : Position) → t.block < block_count c → IsRow c t → IsRow c u → t.place < u.place → rank_of c t.place t.block < rank_of c u.place u.block
+rank-below : (c : BlockSizes) (t u : Position) → t.block < block_count c → IsRow c t.place t.block → IsRow c u.place u.block → t.place < u.place → rank_of c t.place t.block < rank_of c u.place u.block
 rank-below c t u i (inl l) (inl m) k = let z : block_count c * (t.place + 1) ≤ block_count c * u.place = mul-le-mul_left (block_count c) (omega arith) in search (arith, nat_tests)
 rank-below c t u i (inl l) (inr m) k = let z : block_count c * (t.place + 1) ≤ block_count c * c.short_len = mul-le-mul_left (block_count c) (omega arith) in search (arith, mul_comm, nat_tests)
 rank-below c t u i (inr l) (inl m) k = absurd (let e = l.0 in omega arith)
 rank-below c t u i (inr l) (inr m) k = absurd (let e = l.0 in let f = m.0 in omega arith)
 
 -- among positions with the same index, those of equal rank are in the same block
-rank-across : (c : BlockSizes) (p a b : ℕ) → (p < c.short_len) ⊎ ((p ≡ c.short_len) × (c.short ≤ a)) → (p < c.short_len) ⊎ ((p ≡ c.short_len) × (c.short ≤ b)) → rank_of c p a ≡ rank_of c p b → a ≡ b
+rank-across : (c : BlockSizes) (p a b : ℕ) → IsRow c p a → IsRow c p b → rank_of c p a ≡ rank_of c p b → a ≡ b
 rank-across c p a b (inl l) w e = search (arith, nat_tests)
 rank-across c p a b (inr l) (inl m) e = absurd (let f = l.0 in omega arith)
 rank-across c p a b (inr l) (inr m) e = search (arith, nat_tests)
@@ -69,7 +69,7 @@ rank-one c t u i j e =
         | inr n ↦
             let q : u.place ≡ t.place = omega arith in
             let same : rank_of c t.place t.block ≡ rank_of c t.place u.block = e ∙ ap (λ (p : ℕ). rank_of c p u.block) q in
-            let x = subst (λ (p : ℕ). (p < c.short_len) ⊎ ((p ≡ c.short_len) × (c.short ≤ u.block))) q w in
+            let x = subst (λ (p : ℕ). IsRow c p u.block) q w in
             (sym q, rank-across c t.place t.block u.block v x same)
       ]
     ]

@@ -1,4 +1,4 @@
--- The modules of a strip that are still to be drawn, which are light, and rows of a strip that are drawn at once.
+-- The region made light, and rows of a strip that are drawn at once.
 use Rattle.std.proofs.Common.{◌≡◌, ℕ, zero, suc, ◌+◌, ◌-◌, ◌*◌, ◌<◌, ◌≤◌, Bool, true, false, not, leb, ltb, ◌&&◌, ◌||◌, List, sym, ◌∙◌, ap, arith}
 use Rattle.{std.proofs.lemmas.Bool.Decides.nat_tests, qr_symbol.specs.declared.placement.Columns.Columns}
 use Rattle.qr_bits.specs.Bits.{codeword_bit}
@@ -14,8 +14,6 @@ cleared p q = grind (arith, nat_tests)
 -- a module of the region is light after the region was made light
 pub cleared-light : (p q z : Bool) → z ≡ (p && not q) → (q && z) ≡ false
 cleared-light p q z e = grind (arith, nat_tests)
-
--- ---- rows that are still to be drawn
 
 -- ---- rows that are drawn at once
 

@@ -1,23 +1,31 @@
-use Rattle.qr_bits.{proofs.Facts.power-fits, specs.Bits.field}
-use Rattle.qr_symbol.proofs.lemmas.collecting.{CollectingLemmas.{both-added}, JoinLemmas.{field-byte, field-left}}
-use Rattle.std.proofs.Common.{◌≡◌, ◌+◌, ◌-◌, append-nil, arith}
+use Rattle.qr_bits.{proofs.Facts.power-fits}
+use Rattle.qr_symbol.proofs.lemmas.collecting.{CollectingLemmas.{push-made, pushed}, JoinLemmas.{codewords-joined, codewords-small, joined-small, joined-whole}}
+use Rattle.std.proofs.{Common.{◌≡◌, ◌+◌, ◌*◌, ◌%◌, ◌^◌, arith, refl}, Math.Nat.mod-lt, lemmas.Nat.pow_pos}
+use Rattle.qr_symbol.proofs.collecting.Collector.push_bits.Goals.{After-from}
 use Rattle.qr_symbol.proofs.collecting.Collector.push_bits.Goals as goal
 
-pub loop-left-init : goal.loop-left-init
-unfolding field
-loop-left-init c = record {
-  few = omega arith;
-  bits = λ xs i. let none : c.args.count - c.args.count ≡ 0 = omega arith in rw (none, append-nil) i;
-}
+-- the bits before and the new ones, as a number
+whole : (c : After-from) → c.from.result * 2 ^ c.args.count % 18446744073709551616 + c.args.bits % (1 * 2 ^ c.args.count % 18446744073709551616)
+    ≡ c.self.inside.rest * 2 ^ c.args.count + c.args.bits % 2 ^ c.args.count
+whole c = rw (c.from.ensures, power-fits c.args.count 56 18446744073709551616 c.requires.few (omega arith), joined-whole c.self.inside.width c.args.count c.self.inside.rest c.self.invariant.1 c.self.invariant.0 c.requires.few) refl
 
-pub loop-left-preserved : goal.loop-left-preserved
-loop-left-preserved c =
-    let i = c.loop-left.invariant in let n = c.args.bits in let left = c.loop-left.left in
-    let e : left - 8 + 8 ≡ left = omega (arith, c.loop-left-test.true) in record {
-      few = omega (arith, i.few);
-      bits = both-added c.args.self.now c.loop-left.self c.push_byte.new.self _ _ _ (rw e at (field-byte c.args.count (left - 8) n (omega (arith, i.few)))) i.bits c.push_byte.ensures;
-    }
+pub overflow_add-all : goal.overflow_add-all
+overflow_add-all c =
+    let w = c.self.inside in let n = c.args.count in
+    rw (whole (goal.at.overflow_add-all c).After-from) (record { fits = omega (arith, joined-small w.width n w.rest (c.args.bits % 2 ^ n) 64 c.self.invariant.1 (mod-lt c.args.bits (pow_pos n)) (omega (arith, c.self.invariant.0, c.requires.few))) })
+
+pub invariant_of-self : goal.invariant_of-self
+invariant_of-self c =
+    let w = c.self.inside in let left = (w.width + c.args.count) % 8 in
+    rw (power-fits left 7 18446744073709551616 (omega arith) (omega arith)) (
+      omega arith,
+      mod-lt _ (pow_pos left),
+      codewords-small _ w.whole.items _ _ _ _ c.to_be_bytes-codewords.ensures c.extend_from_slice.ensures.items c.self.invariant.2,
+    )
 
 pub returns : goal.returns
-returns c = both-added c.args.self.now c.loop-left.self c.push_few.new.self _ _ _ (field-left c.args.count c.loop-left.left c.args.bits c.loop-left.invariant.few) c.loop-left.invariant.bits
-    (rw (power-fits c.loop-left.left 7 18446744073709551616 (omega (arith, c.loop-left-test.false)) (omega arith)) at c.push_few.ensures)
+returns c =
+    let w = c.self.inside in let n = c.args.count in let left = (w.width + n) % 8 in
+    rw (power-fits left 7 18446744073709551616 (omega arith) (omega arith))
+    (rw (← c.self.view_is) (pushed _ _ _ _ _ (λ e. rw (push-made _ _ _ _ _ c.extend_from_slice.ensures.items c.is_err.ensures.negation e, c.from-2.ensures, c.to_be_bytes-codewords.ensures, whole (goal.at.returns c).After-from)
+    (codewords-joined w.whole.items w.width n w.rest c.args.bits c.self.invariant.1 c.self.invariant.0 c.requires.few))))
