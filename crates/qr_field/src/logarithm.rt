@@ -50,7 +50,7 @@ pub fn power_of(exponent: u8) -> u8
     POWERS[usize::from(exponent)]
 }
 
-/// Returns the exponent below 255 to which 2 has the power `element`, which is not 0 (ISO/IEC 18004:2015, 7.5.2).
+/// Returns the exponent below 255 whose power of 2 is `element`, which is not 0 (ISO/IEC 18004:2015, 7.5.2).
 pub fn exponent_of(element: u8) -> u8
     requires { 1 ≤ element }
     ensures exponent { result < 255 }

@@ -92,19 +92,19 @@ fn error(locator: &mut ArrayVec<u8, 31>, syndromes: &mut ArrayVec<u8, 30>, place
     error
 }
 
-// Adds `error` to the codeword that is located by x + `root`, if it is one of the last `end`.
-fn remove_last(codewords: &mut [u8], root: u8, error: u8, end: usize)
-    requires within { end ≤ length codewords.old }
+// Adds `error` to the codeword that is located by x + `root`, if it is one of the last `left`.
+fn remove_last(codewords: &mut [u8], root: u8, error: u8, left: usize)
+    requires within { left ≤ length codewords.old }
     ensures long { length codewords.new ≡ length codewords.old }
-    ensures sum { (before xs errors : List ℕ) → codewords.old ≡ before ++ xs → length xs ≡ end →
-        length errors ≡ end → IsLocated (root ∷ 1 ∷ []) errors → error ≡ value_at 0 errors →
+    ensures sum { (before xs errors : List ℕ) → codewords.old ≡ before ++ xs → length xs ≡ left →
+        length errors ≡ left → IsLocated (root ∷ 1 ∷ []) errors → error ≡ value_at 0 errors →
         codewords.new ≡ before ++ plus xs errors }
 {
     if root == 0 {
         return;
     }
     let place = usize::from(exponent_of(root));
-    if place < end {
+    if place < left {
         let last = codewords.len() - 1;
         codewords[last - place] ^= error;
     }

@@ -21,7 +21,7 @@ use qr_field::div;
 
 // `best` solves the equations of the syndromes that were taken in. `earlier` was the best before the degree last rose;
 // `miss` is its sum for the first equation that it does not solve.
-#[derive(Clone, Copy)]
+#[derive(Drop)]
 pub(crate) struct Search {
     pub(crate) best: Polynomial,
     earlier: Polynomial,

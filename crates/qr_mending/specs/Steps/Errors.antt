@@ -1,7 +1,7 @@
 -- How the errors `e` of a damaged block are found. They are the differences of its codewords from the right ones, and
 -- the coefficients of the error polynomial, that of the highest power first. In a polynomial `p` the coefficient of the
 -- lowest power comes first.
-use Rattle.std.specs.Prelude.{◌≡◌, ℕ, ◌/◌, ◌%◌, ◌<◌, ◌≤◌, ◌==◌, if◌then◌else◌, List, [], ◌∷◌, length, slice_index}
+use Rattle.std.specs.Prelude.{◌≡◌, ℕ, ◌<◌, ◌≤◌, ◌==◌, if◌then◌else◌, List, [], ◌∷◌, length}
 use Rattle.std.specs.List.{All}
 use Rattle.qr_field.specs.Galois.{product}
 use Rattle.qr_field.specs.{Polynomial.{IsByte, power, zeros}, Distance.{differences}}
@@ -23,16 +23,6 @@ pub record IsLocated (p e : List ℕ) : Type 0 where
   pub bytes : All IsByte e
   pub most : length e ≤ 255
   pub roots : (m : ℕ) → m < length e → (eval (power m) p ≡ 0 → ⊥) → coefficient m e ≡ 0
-
--- At the places m below `end` in a group of sixteen, item m % 16 of `values` is 0 only if 2^m is a root of `p`.
-abbrev pub ShowRoots : List ℕ → List ℕ → ℕ → ℕ → Type 0
-ShowRoots values p end group =
-    (m : ℕ) → m < end → m / 16 ≡ group → slice_index values (m % 16) ≡ 0 → eval (power m) p ≡ 0
-
--- At the places m below `end` in a group of sixteen, item m % 16 of `values` is not 0 only if there is no error.
-abbrev pub ShowErrors : List ℕ → List ℕ → ℕ → ℕ → Type 0
-ShowErrors values e end group =
-    (m : ℕ) → m < end → m / 16 ≡ group → (slice_index values (m % 16) ≡ 0 → ⊥) → coefficient m e ≡ 0
 
 -- At most `t` of the errors are not 0, and `s` has their first values.
 pub record AreFewErrors (t : ℕ) (s e : List ℕ) : Type 0 where

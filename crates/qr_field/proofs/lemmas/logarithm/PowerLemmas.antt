@@ -1,6 +1,6 @@
 -- Powers of 2 in the field, and the tables of powers and logarithms.
-use Rattle.std.proofs.Common.{◌≡◌, ℕ, zero, suc, ◌+◌, ◌-◌, ◌*◌, ◌/◌, ◌%◌, ◌<◌, ◌≤◌, true, eqb, ltb, get_or, refl, sym, ap, ◌∙◌, inl, inr, arith, lit<}
-use Rattle.{std.proofs.lemmas.Bool.cases_lt, qr_field.specs.declared.logarithm.TheConstants.{POWERS, LOGARITHMS}}
+use Rattle.std.proofs.Common.{◌≡◌, ℕ, zero, suc, ◌+◌, ◌-◌, ◌*◌, ◌/◌, ◌%◌, ◌<◌, ◌≤◌, true, eqb, ltb, get_or, refl, sym, ap, ◌∙◌, arith, lit<}
+use Rattle.qr_field.specs.declared.logarithm.TheConstants.{POWERS, LOGARITHMS}
 use borrow.Author.Tests.{ltb-true}
 use Rattle.qr_field.specs.{Galois.{carryless, product, remainder_of}, Polynomial.power}
 use Rattle.qr_field.proofs.lemmas.galois.ByteLemmas.{below, below-at, same-below, product-of_one}

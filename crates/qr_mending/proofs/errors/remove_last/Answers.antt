@@ -8,13 +8,13 @@ returns-then-root-eq0-clause-sum c = λ before xs errors same long count located
     same ∙ last-none before xs errors c.args.root (omega (arith, long, count)) located
     (λ m l e. power-some m (omega (arith, l, located.most)) (omega (arith, e)))
 
-pub returns-then-place-end-clause-sum : goal.returns-then-place-end-clause-sum
-returns-then-place-end-clause-sum c = λ before xs errors same long count located value.
+pub returns-then-place-left-clause-sum : goal.returns-then-place-left-clause-sum
+returns-then-place-left-clause-sum c = λ before xs errors same long count located value.
     last-sum before xs errors c.args.codewords.now c.args.root c.from-place.result _ c.args.error same (omega (arith, long, count))
     located (cc (c.from-place.ensures, c.exponent_of.ensures.element)) (omega arith) (omega (arith, count)) value (omega arith)
 
-pub returns-else-place-end-clause-sum : goal.returns-else-place-end-clause-sum
-returns-else-place-end-clause-sum c = λ before xs errors same long count located value.
+pub returns-else-place-left-clause-sum : goal.returns-else-place-left-clause-sum
+returns-else-place-left-clause-sum c = λ before xs errors same long count located value.
     same ∙ last-none before xs errors c.args.root (omega (arith, long, count)) located
     (λ m l e. omega (
       arith,

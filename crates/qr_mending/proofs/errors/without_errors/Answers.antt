@@ -1,8 +1,8 @@
 use Rattle.std.proofs.Common.{◌≡◌, ℕ, ◌+◌, ◌-◌, ◌/◌, ◌<◌, List, ◌∙◌, ◌∷◌, ap, refl, length, drop, get_or, set, bit_xor, length-drop, arith, take, subst}
 use Rattle.std.proofs.lemmas.List.{take_all, drop_all, drop_more, length-set, append-nil}
 use Rattle.qr_field.{specs.Polynomial.{plus}, proofs.lemmas.polynomial.ListLemmas.{length-plus}}
-use Rattle.qr_mending.specs.Steps.{Sums.{HasValues}, Errors.{IsLocated, ShowRoots, ShowErrors}}
-use Rattle.qr_mending.proofs.lemmas.errors.RemovalLemmas.{located-rest, values-same, refill-same, sum-kept, sum-set, sum-rest, sum-last, leading-two, roots-shown, errors-shown, roots-below, roots-left, errors-below, errors-none}
+use Rattle.qr_mending.specs.Steps.{Sums.{HasValues}, Errors.{IsLocated}}
+use Rattle.qr_mending.proofs.lemmas.errors.RemovalLemmas.{ShowRoots, ShowErrors, located-rest, values-same, refill-same, sum-kept, sum-set, sum-rest, sum-last, leading-two, roots-shown, errors-shown, roots-below, roots-left, errors-below, errors-none}
 use Rattle.qr_mending.proofs.errors.without_errors.Goals as goal
 use Rattle.qr_mending.proofs.errors.without_errors.Goals.{After-from, then-k-eq0, else-k-eq0+else-place-eq15}
 

@@ -1,6 +1,7 @@
 use Rattle.std.proofs.Common.{◌≡◌, ℕ, ◌+◌, ◌-◌, ◌/◌, ◌<◌, ◌≤◌, ◌++◌, List, take, drop, length}
 use Rattle.{arrayvec.specs.ArrayVec.array_vec_len, qr_field.specs.Polynomial.plus}
-use Rattle.qr_mending.specs.Steps.{Sums.HasValues, Roots.HasLeadingOne, Errors.{IsLocated, ShowRoots, ShowErrors}}
+use Rattle.qr_mending.specs.Steps.{Sums.HasValues, Roots.HasLeadingOne, Errors.IsLocated}
+use Rattle.qr_mending.proofs.lemmas.errors.RemovalLemmas.{ShowRoots, ShowErrors}
 use Rattle.qr_mending.proofs.errors.without_errors.Given as goal
 
 abbrev pub invariant-loop-k : goal.invariant-loop-k

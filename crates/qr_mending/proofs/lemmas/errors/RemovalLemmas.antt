@@ -9,7 +9,7 @@ use Rattle.qr_field.proofs.lemmas.galois.{BitLemmas.xor-cancel, ByteLemmas.{prod
 use Rattle.qr_field.proofs.lemmas.galois.FieldLemmas.{product-factor, sum-none}
 use Rattle.qr_field.proofs.lemmas.{logarithm.PowerLemmas.{power-lt, power-add, power-round, powers-apart}, laws.ValueLemmas.{value-zero}}
 use Rattle.qr_field.proofs.lemmas.polynomial.ListLemmas.{length-plus}
-use Rattle.qr_mending.specs.Steps.{Sums.{dot_of, eval, HasValues}, Roots.HasLeadingOne, Errors.{coefficient, weighted, IsLocated, ShowRoots, ShowErrors}}
+use Rattle.qr_mending.specs.Steps.{Sums.{dot_of, eval, HasValues}, Roots.HasLeadingOne, Errors.{coefficient, weighted, IsLocated}}
 use Rattle.qr_mending.proofs.lemmas.sums.SumLemmas.{dot-blend}
 use Rattle.qr_mending.proofs.lemmas.errors.WeightLemmas.{coefficient-head, coefficient-tail, root-blends, weighted-value}
 
@@ -266,6 +266,15 @@ pub sum-last : (xs e new : List ℕ) (k : ℕ) → length e ≡ length xs → ne
 sum-last xs e new k long same = cc (same, drop-plus k xs e (sym long), take-append-drop k (plus xs e))
 
 -- ---- groups of sixteen places
+
+-- at the places m below `end` in a group, item m % 16 of `values` is 0 only if 2^m is a root of `p`
+abbrev pub ShowRoots : List ℕ → List ℕ → ℕ → ℕ → Type 0
+ShowRoots values p end group = (m : ℕ) → m < end → m / 16 ≡ group → get_or values (m % 16) 0 ≡ 0 → eval (power m) p ≡ 0
+
+-- at the places m below `end` in a group, item m % 16 of `values` is not 0 only if there is no error
+abbrev pub ShowErrors : List ℕ → List ℕ → ℕ → ℕ → Type 0
+ShowErrors values e end group =
+    (m : ℕ) → m < end → m / 16 ≡ group → (get_or values (m % 16) 0 ≡ 0 → ⊥) → coefficient m e ≡ 0
 
 -- the place in a group
 group-place : (place m : ℕ) → m / 16 ≡ place / 16 → place - place % 16 + m % 16 ≡ m

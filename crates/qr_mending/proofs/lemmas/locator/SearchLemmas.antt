@@ -105,7 +105,7 @@ add-all f a k d p t now l same =
     let multiple = scaled f (zeros a ++ take k p) in
     cc (same, take-plus (d + 1) multiple t, take_all (d + 1) multiple (omega (arith, length-multiple f a k p, l)))
 
--- a quotient that is not 0 has a dividend that is not 0
+-- the quotient of a dividend that is not 0 is not 0
 pub factor-some : (f s d : ℕ) → s < 256 → product f s ≡ d → (d ≡ 0 → ⊥) → 1 ≤ f
 factor-some zero s d l e n = absurd (n (sym e ∙ product-of_zero s l))
 factor-some (suc f) s d l e n = omega arith

@@ -33,10 +33,6 @@ pub ruleset field_laws = (
 pub power-next : (i m : ℕ) → power ((i + 1) * m) ≡ product (power m) (power (i * m))
 power-next i m = rw (← power-add m (i * m)) (ap power (omega arith))
 
--- the product of two powers, by an exponent below 255
-pub exponent-sum : (i j k : ℕ) → k ≡ (i + j) % 255 → power k ≡ product (power i) (power j)
-exponent-sum i j k e = cc (power-mod (i + j), power-add i j)
-
 -- the first multiple of an element, by the exponent of the element
 pub multiple-first : (element l first step e : ℕ) → power l ≡ element → e ≡ (l + first * step) % 255 →
     power e ≡ product element (power ((first + 0) * step))

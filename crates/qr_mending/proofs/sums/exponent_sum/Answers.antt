@@ -1,5 +1,5 @@
-use Rattle.std.proofs.Common.{◌≡◌, ◌+◌, ◌%◌, arith}
-use Rattle.qr_mending.proofs.lemmas.sums.SumLemmas.{exponent-sum}
+use Rattle.std.proofs.Common.{◌≡◌, ◌+◌, ◌%◌, refl, arith}
+use Rattle.qr_field.{specs.Polynomial.power, proofs.lemmas.logarithm.PowerLemmas.product-of_powers}
 use Rattle.qr_mending.proofs.sums.exponent_sum.Goals as goal
 use Rattle.qr_mending.proofs.sums.exponent_sum.Goals.{then-sum-lt255, else-sum-lt255}
 
@@ -9,4 +9,6 @@ returns-clause-power c =
       | then-sum-lt255 w ↦ omega (arith, w.exponent-is)
       | else-sum-lt255 w ↦ omega (arith, w.exponent-is)
     ] in
-    exponent-sum c.args.i c.args.j c.if-sum-lt255.exponent k
+    let i = c.args.i in
+    let j = c.args.j in
+    product-of_powers (power i) (power j) i j c.if-sum-lt255.exponent (omega arith) refl (omega arith) refl k
