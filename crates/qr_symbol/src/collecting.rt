@@ -3,7 +3,7 @@
 //! `region`, and transposing does not change it. `passed` counts the rows of a strip that come earlier in its
 //! order. Rows of which both modules are in the region are collected up to 28 at a time.
 
-ghost use Rattle.std.specs.Prelude.{◌≡◌, ℕ, Bool, List, [], ◌∷◌, ◌++◌, ◌*◌, ◌/◌, ◌%◌, ◌+◌, ◌-◌, ◌^◌, ◌<◌, ◌≤◌, ◌&&◌, if◌then◌else◌, map, length, Some, IfOk};
+ghost use Rattle.std.specs.Prelude.{◌≡◌, ℕ, [], ◌∷◌, ◌++◌, ◌*◌, ◌/◌, ◌%◌, ◌+◌, ◌-◌, ◌<◌, ◌≤◌, map, length, Some, IfOk};
 ghost use Rattle.std.specs.List.{All};
 ghost use Rattle.qr_layout.specs.Version.{side_of, total_codewords_of};
 ghost use Rattle.qr_layout.specs.Order.{in_region_of};
@@ -75,7 +75,7 @@ impl Collector {
         }
     }
 
-    // The `count` lowest bits of `bits`, the highest first. With those that are left from before they begin a word, whose
+    // Appends the `count` lowest bits of `bits`, the highest first. With up to seven from before they begin a word, whose
     // bytes are codewords as far as the bits reach.
     #[inline(always)]
     fn push_bits(&mut self, bits: u64, count: u8)
@@ -180,10 +180,10 @@ fn joined(right: u64, left: u64, upward: bool, count: u8) -> u64
     }
 }
 
-// The most rows that are collected at once: their bits and up to seven from before fit a word.
-const RUN_MAX: u8 = 28;
+// The most rows that are collected at once: their 56 bits and up to seven from before fit a word.
+const ROWS_MAX: u8 = 28;
 
-// Collects rows of which all modules are in the region.
+// Collects up to `ROWS_MAX` rows of which all modules are in the region.
 #[inline(always)]
 fn collect_run(
     bits: &mut Collector,
@@ -225,7 +225,7 @@ fn collect_next(
     ensures bits { Appends (bits_in_rows (side_of v) strip region.now columns.now passed result) bits.old bits.new }
 {
     let side = v.side();
-    let count = rows_set(&rows.both, strip, passed, side).min(RUN_MAX);
+    let count = rows_set(&rows.both, strip, passed, side).min(ROWS_MAX);
     if count > 0 {
         collect_run(bits, columns, v, strip, passed, count);
         return count;

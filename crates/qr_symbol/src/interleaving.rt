@@ -101,7 +101,7 @@ impl BlockSizes {
 }
 
 // Puts the codewords of all blocks in interleaved order, block by block. Those of a block are as far apart as there are
-// blocks; behind them come the last codewords of the long blocks, one after the other.
+// blocks; after all of these come the last codewords of the long blocks, one after the other.
 fn interleave_into(interleaved: &mut [u8], sizes: BlockSizes, codewords: &[u8])
     requires room { length interleaved.old ≡ codeword_count sizes }
     requires whole { length codewords.now ≡ codeword_count sizes }

@@ -18,7 +18,7 @@ pub added : (was : Bool) (old new more : List Bool) → new ≡ old ++ more → 
 added true _ _ _ e _ i = tt
 added false _ _ more e _ i = e ∙ ap (λ zs. zs ++ more) i
 
--- a codeword is added, if memory for it is not refused
+-- codewords are added, if memory for them is not refused
 pub pushed : (was failed : Bool) (old new more : List Bool) → (failed ≡ false → new ≡ old ++ more) → Appends more (cond was None (Some old)) (cond (was || failed) None (Some new))
 pushed true _ _ _ _ e _ i = tt
 pushed false true _ _ _ e _ i = tt

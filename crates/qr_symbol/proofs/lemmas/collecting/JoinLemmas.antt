@@ -1,4 +1,4 @@
--- Further bits after the bits of a number.
+-- Further bits after the bits of a number, and the codewords that they fill.
 use Rattle.std.proofs.Common.{◌≡◌, ℕ, zero, suc, ◌+◌, ◌-◌, ◌*◌, ◌/◌, ◌%◌, ◌^◌, ◌<◌, ◌≤◌, ◌==◌, Bool, true, false, cond, List, [], ◌∷◌, ◌++◌, take, refl, sym, ◌∙◌, ap, append_assoc, append-nil, arith}
 use Rattle.std.proofs.{lemmas.{Bool.Decides.nat_tests, List.Elements.{All-append, All-cons, All-take}, Nat.{pow-add, pow_pos, shr-shr, shr_split}}, Math.Nat.{div-div-eq-div-mul, mod-eq_of_lt, mod-lt, mul-div_cancel, pow-le-pow_right, pow-suc}}
 use Rattle.std.specs.{Int.{byte_at, bytes_high_first, to_be_bytes, w64}, List.All}
@@ -48,10 +48,10 @@ field-join a (suc b) q r h =
     ∙ ap (λ z. field a q ++ z) (sym (ap (λ z. field z r) one ∙ (ap (λ z. field (b + 1) z) m ∙ field-more [] b (r / 2) (r % 2) bit (odd-bit r))))))))
 
 -- the bits of a number are those before its last b bits, followed by these
-pub field-cut : (a b n : ℕ) → field (a + b) n ≡ field a (n / 2 ^ b) ++ field b (n % 2 ^ b)
+field-cut : (a b n : ℕ) → field (a + b) n ≡ field a (n / 2 ^ b) ++ field b (n % 2 ^ b)
 field-cut a b n = ap (λ z. field (a + b) z) (sym (shr_split n b)) ∙ field-join a b (n / 2 ^ b) (n % 2 ^ b) (mod-lt n (pow_pos b))
 
--- the bits of a number are those of its last b bits
+-- b bits of a number are those of its last b bits
 field-low : (b n : ℕ) → field b n ≡ field b (n % 2 ^ b)
 unfolding field
 field-low b n = let e : 0 + b ≡ b = omega arith in ap (λ z. field z n) (sym e) ∙ field-cut 0 b n
