@@ -195,14 +195,14 @@ doubled-packed (suc k) x =
     cc (others, highest, l, h, sum, product-of_two b small, doubled-packed k p)
 
 -- doubled halves are halves of doubled coefficients
-pub doubled-halves : (h l : ℕ) → l < 2 ^ 128 →
-    packed (scaled 2 (unpacked 16 h)) * 2 ^ 128 + packed (scaled 2 (unpacked 16 l))
-    ≡ packed (scaled 2 (unpacked 32 (h * 2 ^ 128 + l)))
-doubled-halves h l s =
-    let whole : unpacked 16 l ++ unpacked 16 h ≡ unpacked 32 (h * 2 ^ 128 + l) = unpacked-halves 16 16 h l s in
-    let count : length (scaled 2 (unpacked 16 l)) ≡ 16 = length-map (unpacked 16 l) (product 2) ∙ length-unpacked 16 l in
-    let sum = packed-append (scaled 2 (unpacked 16 l)) (scaled 2 (unpacked 16 h)) in
-    cc (sym whole, map-append (product 2) (unpacked 16 l) (unpacked 16 h), count, sum)
+pub doubled-halves : (k h l : ℕ) → l < 256 ^ k →
+    packed (scaled 2 (unpacked k h)) * 256 ^ k + packed (scaled 2 (unpacked k l))
+    ≡ packed (scaled 2 (unpacked (k + k) (h * 256 ^ k + l)))
+doubled-halves k h l s =
+    let whole : unpacked k l ++ unpacked k h ≡ unpacked (k + k) (h * 256 ^ k + l) = unpacked-halves k k h l s in
+    let count : length (scaled 2 (unpacked k l)) ≡ k = length-map (unpacked k l) (product 2) ∙ length-unpacked k l in
+    let sum = packed-append (scaled 2 (unpacked k l)) (scaled 2 (unpacked k h)) in
+    cc (sym whole, map-append (product 2) (unpacked k l) (unpacked k h), count, sum)
 
 -- coefficients that are packed and unpacked have the same multiples
 pub scaled-unpacked : (f n : ℕ) (xs : List ℕ) → f < 256 → length xs ≤ n → All IsByte xs →

@@ -1,10 +1,16 @@
-use Rattle.std.proofs.Common.{◌≡◌, ◌*◌, ◌%◌, ◌^◌, arith, bit_and}
-use Rattle.{std.proofs.lemmas.Nat.and_le_r, qr_field.proofs.lemmas.register.RegisterLemmas.doubled-packed}
+use Rattle.std.proofs.Common.{◌≡◌, ◌+◌, ◌*◌, ◌/◌, ◌%◌, ◌^◌, ◌∙◌, ap, arith}
+use Rattle.std.proofs.lemmas.Nat.{and_mask, or_shifted}
+use Rattle.qr_field.specs.{Polynomial.scaled, Steps.Register.{packed, unpacked}}
+use Rattle.qr_field.proofs.lemmas.register.RegisterLemmas.{doubled-halves}
 use Rattle.qr_field.proofs.register.doubled_half.Goals as goal
 
 pub returns : goal.returns
 returns c =
-    let half = c.args.half in
-    let others = bit_and half 0x7F7F7F7F7F7F7F7F7F7F7F7F7F7F7F7F in
-    let moved : others * 2 % 2 ^ 128 ≡ others * 2 = omega (arith, and_le_r half 0x7F7F7F7F7F7F7F7F7F7F7F7F7F7F7F7F) in
-    cc (moved, doubled-packed 16 half)
+    let half = c.args.half in let h = half / 2 ^ 64 in let l = half % 2 ^ 64 in
+    let lower : c.from-2.result ≡ packed (scaled 2 (unpacked 8 l)) =
+    c.from-2.ensures ∙ (c.doubled_word-low.ensures ∙ ap (λ v. packed (scaled 2 (unpacked 8 v))) (and_mask half 64)) in
+    let upper : c.from.result ≡ packed (scaled 2 (unpacked 8 h)) = c.from.ensures ∙ c.doubled_word-high.ensures in
+    let moved : c.from.result * 2 ^ 64 % 2 ^ 128 ≡ c.from.result * 2 ^ 64 = omega (arith, c.from.ensures, c.doubled_word-high.type_inv) in
+    let both = or_shifted c.from.result 64 c.from-2.result (omega (arith, c.from-2.ensures, c.doubled_word-low.type_inv)) in
+    let whole : h * 256 ^ 8 + l ≡ half = omega arith in
+    cc (moved, both, lower, upper, doubled-halves 8 h l (omega arith), whole)
