@@ -1,8 +1,8 @@
-/* Measures what a call of the library takes of the stack and of the heap, for bench/memory: memory_of_calls CALL NUMBER LEVEL
+/* Measures what a call of the library takes of the stack and of the heap, for bench/memory: memory_of_calls CALL NUMBER LEVEL RULE
  *
  * CALL is encode, encode_series, read, mend or draw; standard input is the input, or the modules; NUMBER is a version or a side;
- * for draw LEVEL is the type of drawing. Prints the bytes of stack, the most bytes of the heap at a time, and the number of
- * calls of malloc and realloc. */
+ * for draw LEVEL is the type of drawing. Prints the bytes of stack, the most bytes of the heap at a time, the number of calls of
+ * malloc and realloc, and the call's status. */
 #define _GNU_SOURCE
 #include "qrproved.h"
 #include <malloc.h>
@@ -47,7 +47,7 @@ void free(void *block)
 
 static uint8_t input[600000], out[10000000];
 static size_t input_len, deepest;
-static uint8_t number, level, status;
+static uint8_t number, level, rule, status;
 static const char *call;
 
 /* Marks the stack below, so that what a call wrote of it can be seen. The least that is measured is its frame above the array. */
@@ -66,9 +66,9 @@ static __attribute__((noinline)) void make(void)
 	struct qrproved_mended mended;
 	size_t written;
 	if (!strcmp(call, "encode"))
-		status = qrproved_encode(input, input_len, number, level, QRPROVED_RULE_AUTO, out, sizeof out, &symbol);
+		status = qrproved_encode(input, input_len, number, level, rule, out, sizeof out, &symbol);
 	else if (!strcmp(call, "encode_series"))
-		status = qrproved_encode_series(input, input_len, number, level, QRPROVED_RULE_AUTO, out, sizeof out, &series);
+		status = qrproved_encode_series(input, input_len, number, level, rule, out, sizeof out, &series);
 	else if (!strcmp(call, "read"))
 		status = qrproved_read(input, input_len, number, out, sizeof out, &content);
 	else if (!strcmp(call, "draw"))
@@ -93,13 +93,13 @@ int main(int argc, char **argv)
 {
 	pthread_attr_t how;
 	pthread_t thread;
-	if (argc != 4)
+	if (argc != 5)
 		return 2;
-	call = argv[1], number = (uint8_t)atoi(argv[2]), level = (uint8_t)atoi(argv[3]);
+	call = argv[1], number = (uint8_t)atoi(argv[2]), level = (uint8_t)atoi(argv[3]), rule = (uint8_t)atoi(argv[4]);
 	input_len = fread(input, 1, sizeof input, stdin);
 	if (pthread_attr_init(&how) || pthread_attr_setstacksize(&how, 2 * STACK) || pthread_create(&thread, &how, measured, NULL))
 		return 2;
 	pthread_join(thread, NULL);
-	printf("%zu %zu %zu\n", deepest, most, calls);
-	return status;
+	printf("%zu %zu %zu %d\n", deepest, most, calls, status);
+	return 0;
 }

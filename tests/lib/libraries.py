@@ -1,6 +1,7 @@
 """The library for C, built by both compilers and called from Python, and the counts of what was checked."""
 import ctypes
 import os
+import re
 import shutil
 import subprocess
 
@@ -34,6 +35,13 @@ def said(*words, given=b"", env=None):
     """Returns what a program writes, or why there is no output to check."""
     ran = subprocess.run(words, input=given, capture_output=True, timeout=300, env=env)
     return ran.stdout.decode(errors="replace") if ran.returncode == 0 else f"status {ran.returncode}: {ran.stderr[-300:]!r}"
+
+
+def is_newer():
+    """Returns whether this processor has what x86-64-v2 asks for."""
+    with open("/proc/cpuinfo", encoding="utf-8") as it:
+        flags = set(re.search(r"^flags\s*: (.*)$", it.read(), re.MULTILINE).group(1).split())
+    return {"cx16", "lahf_lm", "popcnt", "sse4_1", "sse4_2", "ssse3"} <= flags
 
 
 def built(name, room):

@@ -1,0 +1,160 @@
+/* Makes calls of the library in threads with the smallest stack that glibc gives, for tests/library: small_stack WHAT
+ *
+ * WHAT is a call, which is then the first of the process, in which the loader also looks up the names that it uses; standard input
+ * has the modules that it reads, mends or draws. Or it is `all`: every call in all versions, levels and rules, on symbols sound and
+ * damaged, up to damage that is refused. A thread whose stack is too small ends the process by a signal. */
+#include "qrproved.h"
+#include <pthread.h>
+#include <stdio.h>
+#include <stdlib.h>
+#include <string.h>
+
+enum { STACK = 16384, VERSIONS = 40, LEVELS = 4, RULES = 3, DRAWINGS = 4 };
+
+/* Digits, capitals, small letters and characters of kanji mode in turn. */
+static const char MIXED[] = "31415926aeiouaAEIOU$%\x93\x5f\xe4\xaa";
+
+/* What the calls take and write. Nothing of it is on the stack. */
+static uint8_t input[QRPROVED_BYTES_MAX * 4], modules[QRPROVED_SERIES_MAX], bytes[QRPROVED_BYTES_MAX], text[10000000];
+static size_t input_len, written;
+static uint32_t version, level, rule, side, count, drawing;
+static struct qrproved_symbol symbol;
+static struct qrproved_series series;
+static struct qrproved_content content;
+static struct qrproved_mended mended;
+static uint8_t status;
+static unsigned calls;
+
+static void *encode(void *none)
+{
+	status = qrproved_encode(input, input_len, version, level, rule, modules, sizeof modules, &symbol);
+	return none;
+}
+
+static void *encode_series(void *none)
+{
+	status = qrproved_encode_series(input, input_len, version, level, rule, modules, sizeof modules, &series);
+	return none;
+}
+
+static void *read_symbol(void *none)
+{
+	status = qrproved_read(modules, (size_t)side * side, side, bytes, sizeof bytes, &content);
+	return none;
+}
+
+static void *mend(void *none)
+{
+	status = qrproved_mend(modules, (size_t)side * side, side, bytes, sizeof bytes, &mended);
+	return none;
+}
+
+static void *draw(void *none)
+{
+	status = qrproved_draw(modules, (size_t)side * side * count, side, count, drawing, 4, text, sizeof text, &written);
+	return none;
+}
+
+/* Makes a call in a thread of its own, and returns its status. */
+static uint8_t in_small_stack(void *(*call)(void *))
+{
+	pthread_attr_t how;
+	pthread_t thread;
+	if (pthread_attr_init(&how) || pthread_attr_setstacksize(&how, STACK) || pthread_create(&thread, &how, call, NULL)) {
+		puts("no thread");
+		exit(2);
+	}
+	pthread_join(thread, NULL);
+	pthread_attr_destroy(&how);
+	calls += 1;
+	return status;
+}
+
+static void want(const char *name, uint8_t got, uint8_t wanted)
+{
+	if (got != wanted) {
+		printf("%s, version %u, level %u, rule %u: status %u, and not %u\n", name, version, level, rule, got, wanted);
+		exit(1);
+	}
+}
+
+/* Encodes the longest input that fits the version, and looks for its length by halves. */
+static void encode_longest(void)
+{
+	size_t fits = 0, too_long = QRPROVED_BYTES_MAX + 1;
+	while (too_long - fits > 1) {
+		input_len = fits + (too_long - fits) / 2;
+		if (in_small_stack(encode) == QRPROVED_DONE && symbol.version == version)
+			fits = input_len;
+		else
+			too_long = input_len;
+	}
+	input_len = fits;
+	want("encode", in_small_stack(encode), QRPROVED_DONE);
+	side = symbol.side;
+}
+
+/* Mends the symbol as it is, and then with twice as many modules inverted, or not known, each time, until it is refused. */
+static void mend_until_refused(int is_known)
+{
+	static uint8_t sound[QRPROVED_SYMBOL_MAX];
+	memcpy(sound, modules, sizeof sound);
+	want("mend", in_small_stack(mend), QRPROVED_DONE);
+	for (unsigned damaged = 1; status == QRPROVED_DONE; damaged *= 2) {
+		memcpy(modules, sound, sizeof sound);
+		for (unsigned i = 0; i < damaged; i++) {
+			size_t place = (size_t)rand() % ((size_t)side * side);
+			modules[place] = is_known ? !modules[place] : 2;
+		}
+		in_small_stack(mend);
+	}
+	memcpy(modules, sound, sizeof sound);
+}
+
+static void all(void)
+{
+	for (version = 1; version <= VERSIONS; version++)
+		for (level = 0; level < LEVELS; level++)
+			for (rule = 0; rule < RULES; rule++) {
+				encode_longest();
+				want("read", in_small_stack(read_symbol), QRPROVED_DONE);
+				mend_until_refused(1);
+				mend_until_refused(0);
+				for (drawing = 0, count = 1; drawing < DRAWINGS; drawing++)
+					want("draw", in_small_stack(draw), QRPROVED_DONE);
+				input_len *= 3;
+				want("encode_series", in_small_stack(encode_series), QRPROVED_DONE);
+				count = series.count;
+				for (drawing = 0; drawing < DRAWINGS; drawing++)
+					want("draw a series", in_small_stack(draw), QRPROVED_DONE);
+			}
+}
+
+static int once(const char *name)
+{
+	static const struct { const char *name; void *(*call)(void *); } CALLS[] = {
+		{"encode", encode}, {"encode_series", encode_series}, {"read", read_symbol}, {"mend", mend}, {"draw", draw}};
+	size_t len = fread(modules, 1, sizeof modules, stdin);
+	while (side * side < len)
+		side++;
+	version = 40, count = 1, drawing = QRPROVED_SVG, input_len = 2000;
+	for (size_t i = 0; i < sizeof CALLS / sizeof *CALLS; i++)
+		if (!strcmp(name, CALLS[i].name)) {
+			want(name, in_small_stack(CALLS[i].call), QRPROVED_DONE);
+			return 1;
+		}
+	return 0;
+}
+
+int main(int argc, char **argv)
+{
+	const char *what = argc == 2 ? argv[1] : "";
+	for (size_t i = 0; i < sizeof input; i++)
+		input[i] = (uint8_t)MIXED[i % (sizeof MIXED - 1)];
+	if (!strcmp(what, "all"))
+		all();
+	else if (!once(what))
+		return 2;
+	printf("%s: %u calls\n", what, calls);
+	return 0;
+}
