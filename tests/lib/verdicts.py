@@ -3,9 +3,11 @@ import os
 import re
 
 # Said where a proof rests on something that is not proved, and so nothing of the function itself.
-RESTS = re.compile(r"was not admitted|is not proved\b.*\bcalls|waits for|wait for a callee")
-# Said where a proof names what a change took away, which says little of the contract.
-NAMES = re.compile(r"(?:note: )?(?:\./)?proofs/.*(has no field|is not in scope|has no `)")
+RESTS = re.compile(r"was not admitted|which was rejected|is not proved\b.*\bcalls|waits for|wait for a callee")
+# Said where a proof names what a change took away, which says nothing of the contract.
+NAMES = re.compile(r"(?:\./)?(?:proofs|specs)/\S+: error: (?:`[^`]*`|\([^)]*\)|[^`.;(])*?\b(?:has no field `|has no `|is not in scope)")
+# Said where a goal is refused, or a proof cannot be read.
+REFUSES = re.compile(r"(?:\./)?(?:proofs|specs)/\S+:\d+:\d+: error|note: \S+?:\d+:\d+: (?:it is not proved that|`search` found no proof)")
 # A verdict on a function that is not only of what it calls.
 ITSELF = re.compile(r"not proved$|not proved; (?!it (calls|waits))|no proof: (?!it calls)|could not tell")
 VERDICT = re.compile(r"(fn|impl|struct|enum|trait|law|const|static) (\S+): (.*)")
@@ -22,11 +24,23 @@ def is_unread(line, changed):
     return not at[2] or bool(re.search(r"is not in scope|has no field|is no name|operand is missing|expected the end|cannot continue", text))
 
 
+def messages_of(lines):
+    """Returns the messages of a check, each in one line: the prover breaks those that are long, and indents what follows."""
+    found = []
+    for line in lines:
+        if line.startswith("  ") and found:
+            found[-1] += " " + line.strip()
+        else:
+            found.append(line)
+    return found
+
+
 class Said:
     """The output of a check, and its status."""
 
     def __init__(self, status, output):
         self.status, self.output, self.lines = status, output, output.rstrip("\n").split("\n")
+        self.messages = messages_of(self.lines)
         self.verdicts = {}
         for line in self.lines:
             of = VERDICT.match(line)
@@ -46,6 +60,11 @@ class Said:
 
     def is_at_limit(self):
         return self.status == 3 and bool(LIMITS.search(self.output))
+
+    def only_name(self):
+        """Returns the first message of a name that a change took away, if nothing else refuses anything."""
+        found = [it for it in self.messages if REFUSES.match(it) and not RESTS.search(it)]
+        return found[0] if found and all(map(NAMES.match, found)) else None
 
     def itself(self):
         """Returns the names of what is refused, and not only since it calls what is."""
@@ -72,30 +91,35 @@ def names_of(crate, item, verdicts):
 
 
 def goals_refused(item, said):
-    """Returns the lines that refuse goals of a function: errors in its proof, or notes in its lines that something is not
+    """Returns the messages that refuse goals of a function: errors in its proof, or notes in its lines that something is not
     proved."""
     found = []
-    for line in said.lines:
-        if RESTS.search(line):
+    for message in said.messages:
+        if RESTS.search(message):
             continue
-        at = re.match(r"note: (?:\./)?(\S+?):(\d+):\d+: (it is not proved that|`search` found no proof)", line)
+        at = re.match(r"note: (?:\./)?(\S+?):(\d+):\d+: (it is not proved that|`search` found no proof)", message)
         is_here = at and at[1] == item.path and item.first <= int(at[2]) - 1 <= item.last
-        proof = re.match(r"(?:\./)?proofs/(\S+)/\w+\.antt:\d+:\d+: error: ", line)
+        proof = re.match(r"(?:\./)?proofs/(\S+)/\w+\.antt:\d+:\d+: error: ", message)
         if is_here or proof and proof[1] in item.places:
-            found.append(line)
+            found.append(message)
     return found
 
 
 def refusal(crate, edit, said):
-    """Returns the first function of a wrong body of which a goal is refused, with what is said of it, or None."""
+    """Returns whether a goal of a function of a wrong body is refused, and not only a name, with what is said of the function;
+    or None if the function is not refused."""
+    by_name = None
     for item in edit.touched + edit.callers:
-        lines = goals_refused(item, said)
-        for name in names_of(crate, item, said.verdicts) if lines else ():
+        messages = goals_refused(item, said)
+        for name in names_of(crate, item, said.verdicts) if messages else ():
             verdict = said.verdicts[name]
             if verdict != "proved" and not verdict.startswith("could not tell"):
-                first = next((it for it in lines if not NAMES.match(it)), "(only since a proof names what was taken away) " + lines[0])
-                return f"{name}: {re.split('[:;]', verdict)[0]}: {first[:160]}"
-    return None
+                at_goal = [it for it in messages if not NAMES.match(it)]
+                why = f"{name}: {re.split('[:;]', verdict)[0]}: {[*at_goal, *messages][0][:160]}"
+                if at_goal:
+                    return True, why
+                by_name = by_name or (False, why)
+    return by_name
 
 
 def refused_beside(items, group, said):

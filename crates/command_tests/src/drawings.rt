@@ -4,6 +4,7 @@ ghost use Rattle.std.specs.Prelude.{◌≡◌, IfOk};
 
 use crate::runs::{Devices, run_with};
 use qr_layout::{Level, Version};
+use qr_matrix::Matrix;
 use qr_symbol::{Symbol, build_masked};
 use qrencode_cli::{Drawing, Faults, Trial, draw};
 use std::alloc::Global;
@@ -232,6 +233,78 @@ fn writers_fail_in_turn(rt: HostRuntime) -> Result<(), Fail> {
             last = drawn.is_ok();
         }
         assert!(rt; last, "{kind:?}: the last call succeeds");
+    }
+    Ok(())
+}
+
+// A square as large as a symbol of version 3, with the colours of a chessboard; the first module is dark.
+fn chessboard(alloc: Global) -> Result<Matrix, Fail> {
+    let mut square = Matrix::new(alloc, 29)?;
+    for row in 0..29u8 {
+        for col in 0..29u8 {
+            if row < square.side() && col < square.side() {
+                square.set(row, col, (row + col) % 2 == 0);
+            }
+        }
+    }
+    Ok(square)
+}
+
+// The sizes of the writes of its drawing: a writer that fails from call `call` on has what the calls before it wrote.
+fn sizes_of_writes(alloc: Global, kind: Drawing, margin: u8) -> Result<Vec<usize>, Fail> {
+    let symbols = [chessboard(alloc)?];
+    let mut sizes = Vec::new(alloc);
+    let mut before = 0;
+    for call in 1..20u64 {
+        let faults = Faults {
+            fails_from: call,
+            ..Faults::NONE
+        };
+        let mut out = Trial::writer(alloc, 8000, faults)?;
+        let drawn = draw(&symbols, kind, margin, &mut out);
+        let taken = out.bytes().len();
+        sizes.push(taken.saturating_sub(before))?;
+        if drawn.is_ok() {
+            break;
+        }
+        before = taken;
+    }
+    Ok(sizes)
+}
+
+// A drawing is made in parts, and all that is not yet written is written before a part for which 1,200 bytes might have
+// no room. A line of text has three parts: the left margin; the columns of the symbol, but for those after the last
+// whole four; these with the right margin and the newline. Two bytes show a module in ASCII, and at most three in UTF-8.
+// An SVG document has a part of at most 300 bytes, one of at most 32 for each dark run, and one of 11. A script computed
+// the sizes from these rules. By it, at some of these margins they are others if a part waits that would just fit, or if
+// the 32 is 31 or 33.
+#[test]
+fn sizes_of_single_writes(rt: HostRuntime) -> Result<(), Fail> {
+    let ascii = [
+        (2, [1143usize, 1068].as_slice()),
+        (3, [1198, 1151, 136].as_slice()),
+        (4, [1200, 1200, 375].as_slice()),
+    ];
+    let half_blocks = [
+        (2, [1200usize, 500].as_slice()),
+        (3, [1175, 733].as_slice()),
+        (4, [1132, 996].as_slice()),
+    ];
+    let svg = [
+        (2, [1178usize, 1179, 1181, 1181, 1179].as_slice()),
+        (3, [1180, 1170, 1171, 1169, 1169, 67].as_slice()),
+        (4, [1171, 1174, 1172, 1172, 1172, 95].as_slice()),
+    ];
+    for (kind, rows) in [
+        (Drawing::Ascii, ascii),
+        (Drawing::AsciiInverse, ascii),
+        (Drawing::Utf8, half_blocks),
+        (Drawing::Svg, svg),
+    ] {
+        for (margin, sizes) in rows {
+            let found = sizes_of_writes(rt.alloc(), kind, margin)?;
+            assert_eq!(rt; found.as_slice(), sizes, "{kind:?}, margin {margin}");
+        }
     }
     Ok(())
 }
