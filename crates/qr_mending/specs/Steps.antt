@@ -4,3 +4,4 @@ pub mod Polynomial
 pub mod Errors
 pub mod Roots
 pub mod Message
+pub mod Mending

@@ -2,7 +2,8 @@
 //! module of `matrix` was not read. `marks` has a byte for each codeword, which is 0 exactly if all its modules were
 //! read. A level and a mask are near to a copy of the format information if its cost with them is at most 6.
 
-ghost use Rattle.std.specs.Prelude.{◌≡◌, ◌<◌, length, IfErr, IfOk, Some, MatchOption, MatchResult};
+ghost use Rattle.std.specs.Prelude.{◌≡◌, ◌<◌, length, IfErr, IfOk, IfSome, Some, MatchOption, MatchResult};
+ghost use Rattle.std.specs.Bool.{OnTrue};
 ghost use Rattle.qr_layout.specs.Blocks.{data_codewords_of};
 ghost use Rattle.qr_layout.specs.Version.{side_of, total_codewords_of};
 ghost use Rattle.qr_matrix.specs.Grid.{light};
@@ -10,6 +11,7 @@ ghost use Rattle.qr_symbol.specs.declared.fault.ReadFault.{ReadFault};
 ghost use Rattle.qr_symbol.specs.Reading.{IsOfVersion, IsReadUnmasked};
 ghost use Rattle.qr_mending.specs.declared.format.FormatCopy.{FormatCopy};
 ghost use Rattle.qr_mending.specs.Format.{format_cost, IsNearFormat};
+ghost use Rattle.qr_mending.specs.Steps.Mending.{HoldsNone};
 ghost use Rattle.qr_mending.specs.Mending.{wrong_format_modules, wrong_modules, DiffersFromSymbol, HasFormat, HasWrongModules, HoldsDamaged, IsMendedReading, IsOfNoUse, IsUnmended};
 
 use crate::format::{
@@ -34,26 +36,26 @@ struct MendedSquare {
     changed: Vec<usize>,
 }
 
-// Returns `None` if no level and mask are near to the copy, or if those that are do not mend every block.
-fn mend_by(
+// Returns `None` if there is no level and mask, or if a block cannot be mended with these.
+fn mend_with(
     alloc: Global,
     version: Version,
-    copy: FormatCopy,
+    near: Option<(Level, u8)>,
     matrix: &Matrix,
     unknown: &Matrix,
     marks: &[u8],
 ) -> Result<Option<MendedSquare>, ReadFault>
+    requires mask_in { IfSome near (λ f. f.1 < 8) }
     requires side { matrix.now.side ≡ side_of version }
-    requires unknown_side { unknown.now.side ≡ side_of version }
     requires marks { length marks.now ≡ total_codewords_of version }
     requires erased { IsReadUnmasked version unknown.now marks.now }
-    ensures mended { IfOk result (λ o. MatchOption o (IsOfNoUse unknown.now copy version matrix.now)
-        (λ m. IsNearFormat unknown.now copy matrix.now m.level m.mask
+    ensures mended { IfOk result (λ o. MatchOption o (IfSome near (λ f. HoldsNone unknown.now version f.0 f.1 matrix.now))
+        (λ m. (near ≡ Some (m.level, m.mask))
         × HoldsDamaged unknown.now version m.level m.mask matrix.now m.message.items m.changed.items
         × (length m.message.items ≡ data_codewords_of version m.level))) }
     ensures fault { IfErr result (λ e. e ≡ ReadFault.Memory) }
 {
-    let Some((level, mask)) = near_format_of(matrix, unknown, version, copy) else {
+    let Some((level, mask)) = near else {
         return Ok(None);
     };
     let codewords = read_codewords(alloc, version, mask, matrix)?;
@@ -67,6 +69,45 @@ fn mend_by(
         Err(ReadFault::Check) => Ok(None),
         Err(fault) => Err(fault),
     }
+}
+
+fn is_same_format(a: Option<(Level, u8)>, b: Option<(Level, u8)>) -> bool
+    ensures { OnTrue result (a ≡ b) }
+{
+    match (a, b) {
+        (Some((level, mask)), Some((other, number))) => level == other && mask == number,
+        (None, None) => true,
+        _ => false,
+    }
+}
+
+// Returns `None` if no level and mask are near to the copy, or if those that are do not mend every block. `useless` are a
+// level and a mask that do not, so they are not tried again.
+fn mend_by(
+    alloc: Global,
+    version: Version,
+    copy: FormatCopy,
+    useless: Option<(Level, u8)>,
+    matrix: &Matrix,
+    unknown: &Matrix,
+    marks: &[u8],
+) -> Result<Option<MendedSquare>, ReadFault>
+    requires side { matrix.now.side ≡ side_of version }
+    requires unknown_side { unknown.now.side ≡ side_of version }
+    requires marks { length marks.now ≡ total_codewords_of version }
+    requires erased { IsReadUnmasked version unknown.now marks.now }
+    requires useless { IfSome useless (λ f. HoldsNone unknown.now version f.0 f.1 matrix.now) }
+    ensures mended { IfOk result (λ o. MatchOption o (IsOfNoUse unknown.now copy version matrix.now)
+        (λ m. IsNearFormat unknown.now copy matrix.now m.level m.mask
+        × HoldsDamaged unknown.now version m.level m.mask matrix.now m.message.items m.changed.items
+        × (length m.message.items ≡ data_codewords_of version m.level))) }
+    ensures fault { IfErr result (λ e. e ≡ ReadFault.Memory) }
+{
+    let near = near_format_of(matrix, unknown, version, copy);
+    if is_same_format(near, useless) {
+        return Ok(None);
+    }
+    mend_with(alloc, version, near, matrix, unknown, marks)
 }
 
 fn cost_of(matrix: &Matrix, unknown: &Matrix, version: Version, mended: &MendedSquare) -> u8
@@ -98,14 +139,32 @@ fn mend_by_either(
         × (length m.message.items ≡ data_codewords_of version m.level))) }
     ensures fault { IfErr result (λ e. e ≡ ReadFault.Memory) }
 {
-    let Some(first) = mend_by(alloc, version, FormatCopy::First, matrix, unknown, marks)? else {
-        return mend_by(alloc, version, FormatCopy::Second, matrix, unknown, marks);
+    let near = near_format_of(matrix, unknown, version, FormatCopy::First);
+    let Some(first) = mend_with(alloc, version, near, matrix, unknown, marks)? else {
+        return mend_by(
+            alloc,
+            version,
+            FormatCopy::Second,
+            near,
+            matrix,
+            unknown,
+            marks,
+        );
     };
     let cost = cost_of(matrix, unknown, version, &first);
     if cost <= COST_CERTAIN {
         return Ok(Some(first));
     }
-    let Some(second) = mend_by(alloc, version, FormatCopy::Second, matrix, unknown, marks)? else {
+    let Some(second) = mend_by(
+        alloc,
+        version,
+        FormatCopy::Second,
+        None,
+        matrix,
+        unknown,
+        marks,
+    )?
+    else {
         return Ok(Some(first));
     };
     if cost_of(matrix, unknown, version, &second) < cost {

@@ -1,5 +1,5 @@
 -- A square with damage is read as at most one content, and then it is not refused.
-use Rattle.std.{proofs.lemmas.Bool.cases_lt, specs.Prelude.{Option, None, Some, Result, Ok, Err, IfOk, MatchOption}}
+use Rattle.std.{proofs.lemmas.Bool.cases_lt, specs.Prelude.{Option, None, Some, Result, Ok, Err, IfOk, IfSome, MatchOption}}
 use Rattle.std.proofs.Common.{◌≡◌, ◌⊎◌, ℕ, ◌<◌, ◌≤◌, List, refl, inl, inr, arith}
 use Rattle.qr_layout.{specs.declared.level.Level.Level, proofs.Facts.laws-of}
 use Rattle.qr_bits.specs.{declared.fault.ParseFault.ParseFault, Bits.bits_of, Parsing.{Content, parse, IsResultOf}}
@@ -10,6 +10,7 @@ use Rattle.qr_symbol.specs.declared.fault.ReadFault.TheVariants as fault
 use Rattle.qr_mending.specs.declared.format.FormatCopy.{FormatCopy, TheVariants.First, TheVariants.Second}
 use Rattle.qr_mending.specs.{Format.{copy_cost, format_cost, IsNearFormat}, Message.IsMendedIn}
 use Rattle.qr_mending.specs.Mending.{rank_of, HasFormat, HoldsDamaged, IsBeyondMending, IsDamagedForm, IsMendedAs, IsMendedReading, IsOfNoUse, IsUnmended}
+use Rattle.qr_mending.specs.Steps.Mending.{HoldsNone}
 use Rattle.{qr_symbol.proofs.Facts.read-one, qr_mending.proofs.lemmas.message.UnreadLemmas.beside-one}
 use Rattle.qr_mending.proofs.lemmas.format.FormatLemmas.{near-one, each-copy, sure-one}
 
@@ -132,13 +133,34 @@ module _ (unknown g : Grid) where
   mended-unparsed v l mask message changed unparsed.BadValue h k =
       ((λ m. cc), v, l, mask, changed, record { message = message; form = h; parsed = fault-read unparsed.BadValue _ (λ m. cc) k })
 
-  -- a copy is of no use if, under the level and mask that it is near to, the codewords are a damaged form of no message
-  pub no-use : (copy : FormatCopy) (v : ℕ) (l : Level) (m : ℕ) (cw : List ℕ) → IsNearFormat unknown copy g l m →
-      IsRead v m g cw → ((message changed : List ℕ) → IsMendedIn unknown v l cw message changed → ⊥) → IsOfNoUse unknown copy v g
-  no-use copy v l m cw f r none = λ k n h message changed d.
-      let e = near-one unknown copy g k l n m h f in
-      let here = rw (e.0, e.1) at d in
-      none message changed (rw (read-one v m g here.codewords cw here.held r) at here.mended)
+  -- not all blocks can be mended with a level and a mask if the codewords, read with these, are a damaged form of no message
+  pub holds-none : (v : ℕ) (l : Level) (m : ℕ) (cw : List ℕ) → IsRead v m g cw →
+      ((message changed : List ℕ) → IsMendedIn unknown v l cw message changed → ⊥) → HoldsNone unknown v l m g
+  holds-none v l m cw r none = λ message changed d.
+      none message changed (rw (read-one v m g d.codewords cw d.held r) at d.mended)
+
+  -- what `near_format_of` says of the level and mask of a copy
+  abbrev pub NearOf : FormatCopy → Option (Level × ℕ) → Type 0
+  NearOf copy near = MatchOption near ((l : Level) (mask : ℕ) → IsNearFormat unknown copy g l mask → ⊥)
+      (λ f. IsNearFormat unknown copy g f.0 f.1)
+
+  -- a copy is of no use if not all blocks can be mended with the level and mask that are near to it
+  pub no-use : (copy : FormatCopy) (v : ℕ) (near : Option (Level × ℕ)) → NearOf copy near →
+      IfSome near (λ f. HoldsNone unknown v f.0 f.1 g) → IsOfNoUse unknown copy v g
+  no-use copy v None far none = λ k n h message changed d. far k n h
+  no-use copy v (Some f) near none = λ k n h message changed d.
+      let e = near-one unknown copy g k f.0 n f.1 h near in none message changed (rw (e.0, e.1) at d)
+
+  -- what is mended with the level and mask that are near to a copy, or that the copy is of no use
+  pub by-near : {T : Type 0} (copy : FormatCopy) (v : ℕ) (level : T → Level) (mask : T → ℕ) (Held Long : T → Type 0)
+      (near : Option (Level × ℕ)) (r : Result (Option T) ReadFault) → NearOf copy near →
+      IfOk r (λ o. MatchOption o (IfSome near (λ f. HoldsNone unknown v f.0 f.1 g))
+      (λ m. (near ≡ Some (level m, mask m)) × Held m × Long m)) →
+      IfOk r (λ o. MatchOption o (IsOfNoUse unknown copy v g)
+      (λ m. IsNearFormat unknown copy g (level m) (mask m) × Held m × Long m))
+  by-near copy v level mask Held Long near (Err e) n h = tt
+  by-near copy v level mask Held Long near (Ok None) n h = no-use copy v near n h
+  by-near copy v level mask Held Long near (Ok (Some m)) n h = (rw h.0 at n, h.1, h.2)
 
   -- ---- the level and the mask of the least rank
 

@@ -1,30 +1,20 @@
-use Rattle.{std.proofs.Common.{Err, ap, arith}, qr_symbol.specs.declared.fault.ReadFault.ReadFault}
-use Rattle.qr_mending.proofs.lemmas.{mending.MendingLemmas.no-use, message.MarkLemmas.{by-marks, of-marks}}
+use Rattle.std.proofs.Common.{◌≡◌, length}
+use Rattle.{qr_layout.specs.Blocks.{data_codewords_of}, qr_mending.specs.Mending.{HoldsDamaged}}
+use Rattle.qr_mending.proofs.lemmas.mending.MendingLemmas.{by-near, no-use}
 use Rattle.qr_mending.proofs.mending.mend_by.Goals as goal
 
-pub returns-in-Ok-clause-mended : goal.returns-in-Ok-clause-mended
-returns-in-Ok-clause-mended c =
-    let m = c.in-Ok.field-0 in
-    let mended = rw c.in-Ok.field-0-is at c.in-Ok.ensures.mended in
-    let many = rw (← c.deref.ensures.value) at c.in_ok-codewords.ensures.many in (
-      c.in-Some.ensures,
-      record {
-        codewords = c.deref.result.now;
-        held = rw c.deref.ensures.value c.in_ok-codewords.ensures.read;
-        mended = of-marks c.args.version c.in-Some.level c.args.unknown.now c.deref.result.now c.args.marks.now
-            m.message.items m.changed.items
-            (omega arith) (omega arith) many c.requires.erased mended;
-      },
-      rw c.in-Ok.field-0-is at c.in-Ok.ensures.many,
-    )
+pub returns-then-is_same_format-clause-mended : goal.returns-then-is_same_format-clause-mended
+returns-then-is_same_format-clause-mended c =
+    let same = rw c.if-is_same_format.true at c.is_same_format.ensures in
+    no-use c.args.unknown.now c.args.matrix.now c.args.copy c.args.version c.near_format_of-near.result
+    c.near_format_of-near.ensures (rw same c.requires.useless)
 
-pub returns-in-Err-Check-clause-mended : goal.returns-in-Err-Check-clause-mended
-returns-in-Err-Check-clause-mended c =
-    let u = c.args.unknown.now in
+pub returns-clause-mended : goal.returns-clause-mended
+returns-clause-mended c =
     let v = c.args.version in
-    let value = c.deref.ensures.value in
-    no-use u c.args.matrix.now c.args.copy v c.in-Some.level c.in-Some.mask c.deref.result.now c.in-Some.ensures
-    (rw value c.in_ok-codewords.ensures.read) (λ message misread h.
-    c.in-Err-Check.ensures.refused (ap (λ (f : ReadFault). Err f) c.in-Err-Check.field-0-is) message misread
-    (by-marks v c.in-Some.level u c.deref.result.now c.args.marks.now message misread (omega arith) (omega arith)
-    (rw (← value) at c.in_ok-codewords.ensures.many) c.requires.erased h))
+    let g = c.args.matrix.now in
+    let u = c.args.unknown.now in
+    by-near u g c.args.copy v (λ m. m.level) (λ m. m.mask)
+    (λ m. HoldsDamaged u v m.level m.mask g m.message.items m.changed.items)
+    (λ m. length m.message.items ≡ data_codewords_of v m.level)
+    c.near_format_of-near.result c.mend_with.result c.near_format_of-near.ensures c.mend_with.ensures.mended
