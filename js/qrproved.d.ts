@@ -7,11 +7,11 @@
 export type Level = 'L' | 'M' | 'Q' | 'H';
 
 /**
- * The modes that the segments of an input may have. 'auto': numeric, alphanumeric and byte mode, mixed so that the number of bits
- * is least. 'byte': the whole input in byte mode. 'kanji': the modes of 'auto', and kanji mode for pairs of bytes that are Shift
- * JIS characters.
+ * Which modes the segments of an input may have. 'auto': numeric, alphanumeric and byte mode, mixed so that the number of bits is
+ * least. 'bytes_only': the whole input in byte mode. 'with_kanji': the modes of 'auto', and kanji mode for pairs of bytes that are
+ * Shift JIS characters. A string has none, since it is encoded as UTF-8: pass its Shift JIS as a Uint8Array.
  */
-export type Mode = 'auto' | 'byte' | 'kanji';
+export type Rule = 'auto' | 'bytes_only' | 'with_kanji';
 
 /**
  * The type of a drawing, as the command `qrencode -t` has it. 'ASCII': two # for a dark module and two spaces for a light one.
@@ -30,7 +30,7 @@ export interface Options {
    */
   version?: number;
   /** 'auto' unless given. */
-  mode?: Mode;
+  rule?: Rule;
 }
 
 /**

@@ -13,7 +13,7 @@ export {
 } from './errors.js';
 
 const LEVELS = ['L', 'M', 'Q', 'H'];
-const MODES = ['auto', 'byte', 'kanji'];
+const RULES = ['auto', 'bytes_only', 'with_kanji'];
 const DRAWINGS = ['ASCII', 'ASCIIi', 'UTF8', 'SVG'];
 const SIDE_MAX = 177;
 const COUNT_MAX = 16;
@@ -52,10 +52,10 @@ function bytesOf(input) {
   return new TextEncoder().encode(input);
 }
 
-const SETTINGS = { level: 'L', version: 1, mode: 'auto' };
+const SETTINGS = { level: 'L', version: 1, rule: 'auto' };
 
-function settings({ level, version, mode }) {
-  return [whole('version', version, 1, 40), named('level', level, LEVELS), named('mode', mode, MODES)];
+function settings({ level, version, rule }) {
+  return [whole('version', version, 1, 40), named('level', level, LEVELS), named('rule', rule, RULES)];
 }
 
 export class QRSymbol {

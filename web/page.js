@@ -2,7 +2,7 @@
 import {
   CheckError, FormatError, QRError, TooLongError, TooManyError, draw, encode, encodeSeries, mend,
 } from '../out/npm/package/qrproved.js';
-import { squareIn } from './drawings.js';
+import { squaresInText } from './drawings.js';
 
 const on = (id) => document.getElementById(id);
 const MOST_SHOWN = 200; // characters of a text in a name for screen readers
@@ -44,8 +44,8 @@ function lengthOf(text) {
 }
 
 function sentenceOf(error, text) {
-  const has = `The text has ${lengthOf(text)} and`;
-  if (error instanceof TooLongError) return `${has} does not fit one symbol at this level. Choose a lower level, or a series.`;
+  const has = `The text has ${lengthOf(text)} and`, choice = on('level').value === 'L' ? 'a series' : 'a lower level, or a series';
+  if (error instanceof TooLongError) return `${has} does not fit one symbol at this level. Choose ${choice}.`;
   if (error instanceof TooManyError) return `${has} takes more than 16 symbols of this version. Choose a larger one.`;
   return `No symbol: ${error.message}.`;
 }
@@ -182,28 +182,43 @@ function spentOf(found, modules) {
   return [`${percent} % in the most damaged block: ${found.changedMost} of ${found.changedAllowed} codewords.${more}`, meter];
 }
 
-function showFound() {
-  const drawing = on('pasted').value, square = squareIn(drawing);
-  on('found-drawing').replaceChildren();
-  if (drawing.trim() === '') return say(on('found'), 'Paste a drawing.');
-  if (square === null) return say(on('found'), 'There is no square with 21, 25, and so on to 177 modules on a side.', 'fault');
-  on('found-drawing').append(figureOf(picture(square), 'the drawing', ''));
+/** Returns what a square contains, as an element: a list, or a paragraph that says why it cannot be read. */
+function contentOf({ modules }) {
   try {
-    const found = mend(square.modules), { header } = found;
+    const found = mend(modules), { header } = found;
     const place = header ? `, ${header.position + 1} of ${header.last + 1} of a series` : '';
     const rows = [
       ['Contains', [textOf(found)]],
       ['Symbol', [`Version ${found.version}-${found.level}, mask ${found.mask}${place}`]],
-      ['Damage', [damageOf(found, square.modules)]],
-      ['Spent', spentOf(found, square.modules)],
+      ['Damage', [damageOf(found, modules)]],
+      ['Spent', spentOf(found, modules)],
     ];
-    say(on('found'), '', found.isSound ? 'good' : '');
-    return on('found').append(made('dl', ...rows.flatMap(([name, inside]) => [made('dt', name), made('dd', ...inside)])));
+    const list = made('dl', ...rows.flatMap(([name, inside]) => [made('dt', name), made('dd', ...inside)]));
+    if (found.isSound) list.className = 'good';
+    return list;
   } catch (error) {
     if (!(error instanceof QRError)) throw error;
     const [, reason] = REASONS.find(([kind]) => error instanceof kind) ?? [null, 'what it says cannot be parsed.'];
-    return say(on('found'), `Not readable: ${reason}`, 'fault');
+    const paragraph = made('p', `Not readable: ${reason}`);
+    paragraph.className = 'fault';
+    return paragraph;
   }
+}
+
+/** Shows squares that were found, and what each contains. */
+function showSquares(squares) {
+  const caption = (k) => (squares.length > 1 ? `${k + 1} of ${squares.length}` : '');
+  on('found-drawing').replaceChildren(...squares.map((square, k) => figureOf(picture(square), 'what was found', caption(k))));
+  on('found-drawing').classList.toggle('many', squares.length > 1);
+  say(on('found'), '');
+  on('found').append(...squares.flatMap((square, k) => [...(squares.length > 1 ? [made('h2', caption(k))] : []), contentOf(square)]));
+}
+
+function showFound() {
+  const drawing = on('pasted').value, squares = squaresInText(drawing);
+  showSquares(squares);
+  if (drawing.trim() === '') say(on('found'), 'Paste a drawing.');
+  else if (squares.length === 0) say(on('found'), 'There is no square with 21, 25, and so on to 177 modules on a side.', 'fault');
 }
 
 /** Returns a drawing of a square in which unknown modules are grey. */

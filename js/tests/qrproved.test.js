@@ -87,13 +87,13 @@ test('inputs: strings as UTF-8, bytes as they are', () => {
 test('settings', () => {
   assert.equal(encode('a', { version: 7, level: 'h' }).version, 7);
   assert.equal(encode('a', { version: undefined, level: undefined }).level, 'L');
-  assert.ok(encode('1'.repeat(100)).version < encode('1'.repeat(100), { mode: 'byte' }).version);
+  assert.ok(encode('1'.repeat(100)).version < encode('1'.repeat(100), { rule: 'bytes_only' }).version);
   const kanji = Uint8Array.from({ length: 60 }, (_, k) => (k % 2 ? 0x5F : 0x93));
-  assert.ok(encode(kanji, { mode: 'kanji' }).version < encode(kanji).version);
-  for (const wrong of [{ version: 0 }, { version: 41 }, { version: 1.5 }, { version: NaN }, { level: 'X' }, { mode: 'numeric' }]) {
+  assert.ok(encode(kanji, { rule: 'with_kanji' }).version < encode(kanji).version);
+  for (const wrong of [{ version: 0 }, { version: 41 }, { version: 1.5 }, { version: NaN }, { level: 'X' }, { rule: 'numeric' }]) {
     assert.throws(() => encode('a', wrong), refused('SettingsError', 5, 'SETTINGS'), JSON.stringify(wrong));
   }
-  for (const wrong of [{ errorCorrectionLevel: 'H' }, { version: '7' }, { level: 1 }, { mode: null }, null, 'H', 7]) {
+  for (const wrong of [{ errorCorrectionLevel: 'H' }, { version: '7' }, { level: 1 }, { rule: null }, null, 'H', 7]) {
     assert.throws(() => encode('a', wrong), TypeError, JSON.stringify(wrong));
   }
 });
@@ -116,6 +116,30 @@ test('refusals', () => {
   assert.throws(() => read(inverted(symbol, 20 * 21 + 20)), refused('CheckError', 9, 'CHECK'));
   assert.throws(() => mend(symbol.modules.map((it, k) => (k % 21 > 8 && k > 189 ? 1 - it : it))), refused('CheckError', 9, 'CHECK'));
   for (const wrong of [undefined, 'text', [1], new ArrayBuffer(441)]) assert.throws(() => read(wrong), TypeError);
+});
+
+test('a refusal says how many bytes there were, and how many fit', () => {
+  const bytes3000 = 'the input has 3,000 bytes and does not fit a symbol: version 40-';
+  const wanted = [
+    [{}, 'L holds 2,953 bytes, 4,296 alphanumeric characters or 7,089 digits'],
+    [{ level: 'M', rule: 'bytes_only' }, 'M holds 2,331 bytes'],
+    [{ level: 'Q', rule: 'with_kanji' }, 'Q holds 1,663 bytes, 2,420 alphanumeric characters, 3,993 digits or 1,024 kanji'],
+    [{ level: 'H', version: 7 }, 'H holds 1,273 bytes, 1,852 alphanumeric characters or 3,057 digits'],
+  ];
+  for (const [options, text] of wanted) assert.throws(() => encode('x'.repeat(3000), options), { message: bytes3000 + text });
+  assert.throws(() => encodeSeries('x'.repeat(1000), { version: 1, level: 'H' }),
+    { message: 'the input has 1,000 bytes and takes more than 16 symbols of version 1-H' });
+});
+
+test('an engine that does not compile the module', () => {
+  const script = `const { load, encode } = await import(${JSON.stringify(at)});
+    WebAssembly.Module = function () { throw new WebAssembly.CompileError('refused'); };
+    WebAssembly.instantiate = async () => { throw new WebAssembly.CompileError('refused'); };
+    try { encode('a'); } catch (error) { console.log(error.message, error.cause.name); }
+    await load().catch((error) => console.log(error.message, error.cause.name));`;
+  const lines = execFileSync(process.execPath, ['--input-type=module', '-e', script], { encoding: 'utf8' }).trim().split('\n');
+  assert.equal(lines.length, 2);
+  for (const line of lines) assert.match(line, /does not compile .*\(refused\): .*'wasm-unsafe-eval'.* CompileError$/);
 });
 
 test('series', () => {
@@ -182,7 +206,7 @@ function chunks(png) {
 test('PNG images have the modules, and lines with their filter byte', () => {
   const cases = [[1, 1, 0], [1, 8, 4], [2, 3, 4], [5, 7, 1], [7, 16, 4], [10, 100, 0], [20, 2, 9], [40, 1, 4], [40, 5, 4], [40, 24, 100]];
   for (const [version, scale, margin] of cases) {
-    const symbol = encode(bytes(16 * version, version), { version, level: 'L', mode: 'byte' }), { side } = symbol;
+    const symbol = encode(bytes(16 * version, version), { version, level: 'L', rule: 'bytes_only' }), { side } = symbol;
     const [[first, head], [second, data], ...rest] = chunks(symbol.png({ scale, margin })), pixels = (side + 2 * margin) * scale;
     assert.deepEqual([first, second, ...rest.map(([name]) => name)], ['IHDR', 'IDAT', 'IEND']);
     assert.deepEqual([...head], [0, 0, pixels >> 8, pixels & 255, 0, 0, pixels >> 8, pixels & 255, 1, 0, 0, 0, 0]);

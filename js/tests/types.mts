@@ -2,7 +2,7 @@
 import { draw, encode, encodeSeries, load, mend, read, QRSymbol, TooLongError, QRError, type Header, type Level } from 'qrproved';
 
 await load();
-const symbol: QRSymbol = encode('a', { level: 'q', mode: 'kanji' });
+const symbol: QRSymbol = encode('a', { level: 'q', rule: 'with_kanji' });
 const level: Level = symbol.level;
 const series: QRSymbol[] = encodeSeries(new Uint8Array(3), { version: 3 });
 const header: Header | null = read(series[0]).header;

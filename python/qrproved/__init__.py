@@ -21,7 +21,7 @@ from typing import TYPE_CHECKING, NamedTuple, NoReturn, Optional, Union
 from . import _library, _png
 from ._drawings import parse_drawing
 from ._errors import (CheckError, EmptyError, Error, FormatError, OutOfMemoryError, RoomError, SegmentsError, SettingsError,
-                      SideError, TooLongError, TooManyError, raise_for)
+                      SideError, TooLongError, TooManyError, raise_for, too_long)
 from ._library import BYTES_MAX, COUNT_MAX, MARGIN_MAX, SERIES_MAX, SIDE_MAX, SYMBOL_MAX
 
 if TYPE_CHECKING:
@@ -313,7 +313,10 @@ def encode(data: Input, *wrong: NoReturn, version: int = 1, level: Name = Level.
     _no_more("encode", "data, ", wrong, "version", "level", "rule")
     settings, given = _settings(version, level, rule), _input(data)
     modules, symbol = (ctypes.c_uint8 * SYMBOL_MAX)(), _library.Symbol()
-    raise_for(_calls.qrproved_encode(given, len(given), *settings, modules, SYMBOL_MAX, ctypes.byref(symbol)))
+    status = _calls.qrproved_encode(given, len(given), *settings, modules, SYMBOL_MAX, ctypes.byref(symbol))
+    if status == TooLongError.status:
+        raise too_long(len(given), *settings[1:])
+    raise_for(status)
     return Symbol(symbol.version, symbol.side, symbol.mask, _first(modules, symbol.side ** 2), Level(settings[1]))
 
 
@@ -329,7 +332,11 @@ def encode_series(data: Input, *wrong: NoReturn, version: Optional[int] = None, 
         raise TypeError("encode_series: the version of all symbols has to be given: encode_series(data, version=5)")
     settings, given = _settings(version, level, rule), _input(data)
     modules, series = (ctypes.c_uint8 * SERIES_MAX)(), _library.Series()
-    raise_for(_calls.qrproved_encode_series(given, len(given), *settings, modules, SERIES_MAX, ctypes.byref(series)))
+    status = _calls.qrproved_encode_series(given, len(given), *settings, modules, SERIES_MAX, ctypes.byref(series))
+    if status == TooManyError.status:
+        symbols = f"{COUNT_MAX} symbols of version {settings[0]}-{Level(settings[1]).name}"
+        raise TooManyError(f"the input has {len(given):,} bytes and takes more than {symbols}")
+    raise_for(status)
     area = series.side ** 2
     written = _first(modules, series.count * area)
     level_of_all = Level(settings[1])

@@ -74,6 +74,9 @@ def verdict(modules: bytes, side: int) -> int:
     print(f"{state}: {it.content.version}-{it.level.name}, mask {it.mask}")
     if it.content.header:
         print(f"symbol {it.content.header.position + 1} of {it.content.header.last + 1} of its series")
+    unknown = modules.count(2)
+    if unknown:
+        print(f"{unknown} {'module is' if unknown == 1 else 'modules are'} not known, and their codewords not counted")
     try:
         shown = it.content.data.decode()
         if not shown.isprintable():
@@ -90,8 +93,12 @@ def check(words: list[str]) -> int:
                                      " status is 0 if each is sound, 1 if each can be read, and 2 otherwise.")
     parser.add_argument("file", nargs="?", default="-", help="a text file with the drawing; without it, standard input")
     given = parser.parse_args(words)
-    with sys.stdin.buffer if given.file == "-" else open(given.file, "rb") as source:
-        text = source.read()
+    try:
+        with sys.stdin.buffer if given.file == "-" else open(given.file, "rb") as source:
+            text = source.read()
+    except OSError as fault:
+        say(str(fault))
+        return NOT_READABLE
     try:
         squares = qrproved.parse_drawing(text.decode())
     except ValueError as fault:

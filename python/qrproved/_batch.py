@@ -15,6 +15,7 @@ DRAWINGS = {"utf8": Drawing.UTF8, "ascii": Drawing.ASCII, "asciii": Drawing.ASCI
 # FEW labels are written without a pool of processes, which takes a tenth of a second to start. A process takes PART at once.
 FEW, PART = 3000, 500
 NAME_MAX = 80
+DIGITS = 5  # at least, of a file that is named by its line
 
 
 class Settings(NamedTuple):
@@ -69,7 +70,7 @@ def name_of(text: bytes) -> str:
 def labels_of(lines: list[bytes], folder: str, suffix: str, by_text: bool) -> list[tuple[int, str, bytes]]:
     """Returns the lines that are not empty, each with its number and the path of its file. Two files never have one name, also
     where capitals do not count."""
-    width, taken, labels = len(str(len(lines))), set(), []
+    width, taken, labels = max(DIGITS, len(str(len(lines)))), set(), []
     for number, line in enumerate(lines, 1):
         if not line:
             continue

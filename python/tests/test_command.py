@@ -50,8 +50,9 @@ class Command(unittest.TestCase):
         lines = b"Shelf 1\r\nShelf 2\n\nShelf/2\nshelf 2\n" + b"a" * 3000 + b"\nlast"
         (self.room / "labels").write_bytes(lines)
         out, said = run("--batch", self.room / "labels", "-o", self.room / "numbers", status=1)
-        self.assertEqual((out, said), (b"", "qrproved: line 6: the input does not fit a symbol\n"))
-        wanted = {"1.png": b"Shelf 1", "2.png": b"Shelf 2", "4.png": b"Shelf/2", "5.png": b"shelf 2", "7.png": b"last"}
+        self.assertEqual((out, said), (b"", "qrproved: line 6: the input has 3,000 bytes and does not fit a symbol: version 40-L holds"
+                         " 2,953 bytes, 4,296 alphanumeric characters or 7,089 digits\n"))
+        wanted = {"00001.png": b"Shelf 1", "00002.png": b"Shelf 2", "00004.png": b"Shelf/2", "00005.png": b"shelf 2", "00007.png": b"last"}
         got = {it.name: it.read_bytes() for it in (self.room / "numbers").iterdir()}
         self.assertEqual(got, {name: qrproved.encode(data).png() for name, data in wanted.items()})
         run("--batch", "-", "--names", "text", "-t", "svg", "-o", self.room / "texts", given=lines.replace(b"a" * 3000, b"../../x"))
@@ -62,7 +63,7 @@ class Command(unittest.TestCase):
         run("--batch", "-", "--jobs", "2", "-o", self.room / "many", "-s", "1", given=b"".join(b"%d\n" % k for k in range(3600)))
         self.assertEqual(len(list((self.room / "many").iterdir())), 3600)
         for k in (0, 499, 500, 3599):
-            self.assertEqual((self.room / f"many/{k + 1:04}.png").read_bytes(), qrproved.encode(str(k)).png(scale=1))
+            self.assertEqual((self.room / f"many/{k + 1:05}.png").read_bytes(), qrproved.encode(str(k)).png(scale=1))
 
     def test_check(self):
         symbol = qrproved.encode("Shelf 12", level="h")
@@ -79,8 +80,26 @@ class Command(unittest.TestCase):
             modules[k] ^= 1
         spoilt = qrproved.Symbol(symbol.version, symbol.side, 0, bytes(modules))
         self.assertTrue(run("check", given=str(spoilt).encode(), status=2)[0].startswith(b"not readable: "))
-        self.assertEqual(run("check", given=b"hello", status=2)[0], b"not readable: the drawing is of other characters than '#' and spaces, or"
-                         b" half blocks and spaces\n")
+        self.assertEqual(run("check", given=b"hello", status=2)[0], b"not readable: the drawing is of other characters than '#', '?' and spaces,"
+                         b" or half blocks and spaces\n")
+
+    def test_check_of_modules_that_are_not_known(self):
+        symbol = qrproved.encode("Shelf 12", level="h")
+        lines = symbol.text(drawing="ascii").split("\n")
+        lines[20] = lines[20][:40] + "??????" + lines[20][46:]
+        self.assertEqual(run("check", given="\n".join(lines).encode(), status=1)[0],
+                         f"readable, 0 % of its correction spent: {symbol.version}-H, mask {symbol.mask}\n"
+                         "3 modules are not known, and their codewords not counted\ncontains Shelf 12\n".encode())
+
+    def test_check_of_several_symbols(self):
+        symbols = qrproved.encode_series("Shelf 12 " * 40, version=3)
+        said = run("check", given=qrproved.draw(symbols, drawing="ascii"))[0].decode()
+        self.assertEqual([said.count("sound: 3-L"), said.count(f"of {len(symbols)} of its series")], [len(symbols)] * 2)
+
+    def test_a_file_that_cannot_be_read_is_not_readable(self):
+        for path in (self.room / "nofile", self.room):
+            out, said = run("check", path, status=2)
+            self.assertEqual((out, said.startswith("qrproved: "), str(path) in said), (b"", True, True))
 
 
 if __name__ == "__main__":
