@@ -108,7 +108,7 @@ export function encodedSeries(input, version, level, rule) {
 function content(at, bytes, version) {
   const [has, position, last, parity] = [1, 2, 3, 4].map((k) => at.getUint8(version + k));
   const header = has ? { position, last, parity } : null;
-  return { bytes: copied(bytes, Number(at.getBigUint64(0, true))), version: at.getUint8(version), header };
+  return { data: copied(bytes, Number(at.getBigUint64(0, true))), version: at.getUint8(version), header };
 }
 
 export function readOf(modules, side) {

@@ -64,6 +64,8 @@ export class QRSymbol {
   dataURL(options?: { type?: 'png' | 'svg'; scale?: number; margin?: number }): string;
   /** Returns the drawing of type 'UTF8'. */
   toString(): string;
+  /** What JSON.stringify writes: each row of modules as a string, in which '1' is dark. */
+  toJSON(): { version: number; side: number; mask: number | null; level: Level; rows: string[] };
 }
 
 /** What a symbol of a series says about its series. */
@@ -79,17 +81,20 @@ export interface Header {
 /** What a symbol contains. */
 export class Content {
   protected constructor();
-  readonly bytes: Uint8Array;
+  readonly data: Uint8Array;
   readonly version: number;
   /** null unless it is a symbol of a series. */
   readonly header: Header | null;
-  /** Returns the bytes as text. Throws a TypeError if they are no UTF-8. */
+  /** Returns the data as text. Throws a TypeError if it is no UTF-8. */
   text(): string;
+  /** What JSON.stringify writes: the data as an array of numbers. */
+  toJSON(): { data: number[]; version: number; header: Header | null };
 }
 
 /** What a damaged symbol contains, and its damage. */
-export class Mended extends Content {
+export class Mended {
   private constructor();
+  readonly content: Content;
   readonly level: Level;
   /** From 0 to 7. */
   readonly mask: number;

@@ -91,22 +91,31 @@ export class QRSymbol {
   toString() {
     return this.text();
   }
+
+  toJSON() {
+    const { version, side, mask, level, modules } = this;
+    const rows = Array.from({ length: side }, (_, row) => modules.subarray(row * side, (row + 1) * side).join(''));
+    return { version, side, mask, level, rows };
+  }
 }
 
 export class Content {
-  constructor({ bytes, version, header }) {
-    Object.assign(this, { bytes, version, header });
+  constructor({ data, version, header }) {
+    Object.assign(this, { data, version, header });
   }
 
   text() {
-    return new TextDecoder('utf-8', { fatal: true, ignoreBOM: true }).decode(this.bytes);
+    return new TextDecoder('utf-8', { fatal: true, ignoreBOM: true }).decode(this.data);
+  }
+
+  toJSON() {
+    return { ...this, data: [...this.data] };
   }
 }
 
-export class Mended extends Content {
+export class Mended {
   constructor({ level, mask, wrongModules, wrongFormatModules, changedMost, changedAllowed, ...content }) {
-    super(content);
-    Object.assign(this, { level: LEVELS[level], mask, wrongModules, wrongFormatModules, changedMost, changedAllowed });
+    Object.assign(this, { content: new Content(content), level: LEVELS[level], mask, wrongModules, wrongFormatModules, changedMost, changedAllowed });
   }
 
   get isSound() {

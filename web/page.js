@@ -72,6 +72,7 @@ function show() {
     if (!(error instanceof QRError || error instanceof TypeError)) throw error;
     say(on('facts'), sentenceOf(error, text), 'fault');
   }
+  on('letters').hidden = /^[\0-\x7f]*$/.test(text);
   on('version-name').textContent = on('series').checked ? 'Version of each' : 'Version, at least';
   const caption = (k) => (symbols.length > 1 ? `${k + 1} of ${symbols.length}` : '');
   on('drawing').replaceChildren(...symbols.map((it, k) => figureOf(it.svg({ margin }), text, caption(k))));
@@ -160,9 +161,9 @@ const REASONS = [
 
 function textOf(found) {
   try {
-    return found.text();
+    return found.content.text();
   } catch {
-    return `${Array.from(found.bytes, (byte) => byte.toString(16).padStart(2, '0')).join(' ')} (bytes that are no UTF-8)`;
+    return `${Array.from(found.content.data, (byte) => byte.toString(16).padStart(2, '0')).join(' ')} (bytes that are no UTF-8)`;
   }
 }
 
@@ -185,11 +186,11 @@ function spentOf(found, modules) {
 /** Returns what a square contains, as an element: a list, or a paragraph that says why it cannot be read. */
 function contentOf({ modules }) {
   try {
-    const found = mend(modules), { header } = found;
+    const found = mend(modules), { version, header } = found.content;
     const place = header ? `, ${header.position + 1} of ${header.last + 1} of a series` : '';
     const rows = [
       ['Contains', [textOf(found)]],
-      ['Symbol', [`Version ${found.version}-${found.level}, mask ${found.mask}${place}`]],
+      ['Symbol', [`Version ${version}-${found.level}, mask ${found.mask}${place}`]],
       ['Damage', [damageOf(found, modules)]],
       ['Spent', spentOf(found, modules)],
     ];

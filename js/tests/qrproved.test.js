@@ -56,7 +56,7 @@ test('eight digits at 1-M', () => {
   assert.equal(read(symbol).text(), '01234567');
   assert.equal(read(EIGHT_DIGITS).text(), '01234567');
   const mended = mend(EIGHT_DIGITS);
-  assert.deepEqual([mended.text(), mended.level, mended.mask, mended.isSound], ['01234567', 'M', 0, true]);
+  assert.deepEqual([mended.content.text(), mended.level, mended.mask, mended.isSound], ['01234567', 'M', 0, true]);
   // the finder patterns, the dark module and a separator
   for (let k = 0; k < 7; k++) assert.ok(symbol.dark(0, k) && symbol.dark(k, 0) && symbol.dark(20, k) && symbol.dark(k, 20));
   assert.ok(symbol.dark(13, 8) && !symbol.dark(7, 7));
@@ -76,7 +76,7 @@ test('inputs: strings as UTF-8, bytes as they are', () => {
   const text = 'Zażółć ✓ 🙂';
   assert.equal(read(encode(text)).text(), text);
   assert.deepEqual(encode(text).modules, encode(new TextEncoder().encode(text)).modules);
-  assert.deepEqual(read(encode(bytes(256))).bytes, bytes(256));
+  assert.deepEqual(read(encode(bytes(256))).data, bytes(256));
   assert.deepEqual(read(encode(Buffer.from('buffer'))).text(), 'buffer');
   assert.throws(() => read(encode(Uint8Array.of(255))).text(), TypeError);
   assert.equal(read(encode('\ufeffmarked')).text(), '\ufeffmarked');
@@ -96,6 +96,15 @@ test('settings', () => {
   for (const wrong of [{ errorCorrectionLevel: 'H' }, { version: '7' }, { level: 1 }, { rule: null }, null, 'H', 7]) {
     assert.throws(() => encode('a', wrong), TypeError, JSON.stringify(wrong));
   }
+});
+
+test('JSON', () => {
+  const symbol = encode('01234567', { level: 'M' }), rows = Array.from({ length: 21 }, (_, row) => symbol.modules.slice(21 * row, 21 * row + 21).join(''));
+  assert.deepEqual(JSON.parse(JSON.stringify(symbol)), { version: 1, side: 21, mask: symbol.mask, level: 'M', rows });
+  assert.equal(rows[0].slice(0, 7) + rows[20].slice(0, 7), '1'.repeat(14));
+  const content = { data: [65, 255], version: 1, header: null }, mended = mend(encode(Uint8Array.of(65, 255)));
+  assert.deepEqual(JSON.parse(JSON.stringify(mended.content)), content);
+  assert.deepEqual(JSON.parse(JSON.stringify(mended)).content, content);
 });
 
 test('refusals', () => {
@@ -147,7 +156,7 @@ test('series', () => {
   const read16 = symbols.map(read), parity = input.reduce((sum, byte) => sum ^ byte, 0);
   assert.ok(symbols.length > 1 && symbols.every((it) => it.version === 2 && it.side === 25 && it.mask === null && it.level === 'Q'));
   assert.deepEqual(read16.map((it) => it.header), symbols.map((_, k) => ({ position: k, last: symbols.length - 1, parity })));
-  assert.deepEqual(Uint8Array.from(read16.flatMap((it) => [...it.bytes])), input);
+  assert.deepEqual(Uint8Array.from(read16.flatMap((it) => [...it.data])), input);
   assert.equal(encodeSeries('short', { version: 2 }).length, 1);
   assert.equal(read(encodeSeries('short', { version: 2 })[0]).header, null);
   assert.equal(draw(symbols, { type: 'ASCII' }), symbols.map((it) => it.text({ type: 'ASCII' })).join(''));
@@ -159,13 +168,13 @@ test('series', () => {
 
 test('mending', () => {
   const symbol = encode('Shelf 12', { level: 'M' }), sound = mend(symbol), corner = 20 * 21 + 20;
-  assert.deepEqual([sound.text(), sound.level, sound.mask, sound.version], ['Shelf 12', 'M', symbol.mask, 1]);
+  assert.deepEqual([sound.content.text(), sound.level, sound.mask, sound.content.version], ['Shelf 12', 'M', symbol.mask, 1]);
   assert.deepEqual([sound.isSound, sound.spent], [true, 0]);
   const one = mend(inverted(symbol, corner));
-  assert.deepEqual([one.text(), one.isSound, one.wrongModules], ['Shelf 12', false, 1]);
+  assert.deepEqual([one.content.text(), one.isSound, one.wrongModules], ['Shelf 12', false, 1]);
   assert.deepEqual([one.changedMost, one.changedAllowed, one.spent], [1, 4, 0.25]);
   const unknown = symbol.modules.slice().fill(2, corner - 5);
-  assert.deepEqual([mend(unknown).text(), mend(unknown).wrongModules, mend(unknown).changedMost], ['Shelf 12', 6, 0]);
+  assert.deepEqual([mend(unknown).content.text(), mend(unknown).wrongModules, mend(unknown).changedMost], ['Shelf 12', 6, 0]);
   assert.equal(mend(inverted(symbol, 8)).wrongFormatModules, 1);
 });
 

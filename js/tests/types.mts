@@ -7,7 +7,7 @@ const level: Level = symbol.level;
 const series: QRSymbol[] = encodeSeries(new Uint8Array(3), { version: 3 });
 const header: Header | null = read(series[0]).header;
 const image: Uint8Array = symbol.png({ scale: 3 });
-const text: string = read(symbol).text() + mend(symbol.modules).level + draw(series, { type: 'SVG' }) + symbol.dataURL({ type: 'svg' });
+const text: string = read(symbol).text() + mend(symbol.modules).content.text() + symbol.toJSON().rows[0] + draw(series, { type: 'SVG' }) + symbol.dataURL({ type: 'svg' });
 try {
   console.log(level, header, image, text);
 } catch (error) {

@@ -159,6 +159,12 @@ class Symbol:
             return self.text(margin=margin).encode()
         raise SettingsError(f"the name of the file ends in .png, .svg or .txt, and not in {suffix!r}")
 
+    def to_dict(self) -> dict[str, object]:
+        """Returns the symbol as json.dumps takes it: each row of modules is a string, in which '1' is dark."""
+        rows = ["".join("1" if it else "0" for it in row) for row in self.rows()]
+        level = None if self.level is None else self.level.name
+        return {"version": self.version, "side": self.side, "mask": self.mask, "level": level, "rows": rows}
+
     def _repr_png_(self) -> bytes:
         return self.png(scale=4)
 
@@ -190,6 +196,15 @@ class Content:
     """From 1 to 40."""
     header: Optional[Header]
     """None if it is a plain symbol and not one of a series."""
+
+    def text(self) -> str:
+        """Returns the data as text. Raises UnicodeDecodeError, which is a ValueError, if it is no UTF-8."""
+        return self.data.decode()
+
+    def to_dict(self) -> dict[str, object]:
+        """Returns the content as json.dumps takes it: the data as a list of numbers."""
+        header = None if self.header is None else self.header._asdict()
+        return {"data": list(self.data), "version": self.version, "header": header}
 
 
 @dataclass(frozen=True)

@@ -1,4 +1,4 @@
-"""python -m qrproved: writes symbols as PNG, as SVG or as text, one or one for each line of a file, and checks drawings."""
+"""The command qrproved, or python -m qrproved: writes symbols as PNG, as SVG or as text, one or one for each line of a file, and checks drawings."""
 from __future__ import annotations
 
 import argparse
@@ -11,7 +11,7 @@ import qrproved
 from qrproved import Error, Level, Rule
 from qrproved._batch import PART, Part, Settings, labels_of, processors, written
 
-PROGRAM = "python -m qrproved"
+PROGRAM = "qrproved" if os.path.splitext(os.path.basename(sys.argv[0]))[0] == "qrproved" else "python -m qrproved"
 SOUND, READABLE, NOT_READABLE = range(3)
 KINDS = {".png": "png", ".svg": "svg", ".txt": "utf8"}
 SUFFIXES = {"png": ".png", "svg": ".svg", **dict.fromkeys(("utf8", "ascii", "asciii"), ".txt")}

@@ -37,6 +37,12 @@ class Command(unittest.TestCase):
         self.assertEqual(run("-8", given=b"A\xff\n")[0], qrproved.encode(b"A\xff\n", rule="bytes_only").text().encode())
         self.assertEqual(run("-k", given=b"\x93\x5f")[0], qrproved.encode(b"\x93\x5f", rule="with_kanji").text().encode())
 
+    def test_the_help_names_the_command_as_it_was_called(self):
+        self.assertIn("usage: python -m qrproved ", run("-h")[0].decode())
+        call = "import sys; sys.argv[:] = ['/usr/bin/qrproved', '-h']; from qrproved.__main__ import main; main()"
+        ran = subprocess.run([sys.executable, "-B", "-c", call], capture_output=True, text=True)
+        self.assertIn("usage: qrproved ", ran.stdout)
+
     def test_the_text_check(self):
         self.assertEqual(run("--", "check")[0], qrproved.encode("check").text().encode())
 
