@@ -25,13 +25,26 @@ class Command(unittest.TestCase):
 
     def test_one_label(self):
         symbol = qrproved.encode("Shelf 12", level="q", version=3)
-        words = ["Shelf 12", "-l", "q", "-v", "3", "-m", "2"]
+        words = ["Shelf 12", "-l", "q", "-v", "3", "-m", "2", "-q"]
         for name, wanted in {"a.png": symbol.png(scale=5, margin=2), "a.svg": symbol.svg(margin=2), "a.txt": symbol.text(margin=2).encode()}.items():
             self.assertEqual(run(*words, "-s", "5", "-o", self.room / name), (b"", ""))
             self.assertEqual((self.room / name).read_bytes(), wanted)
         self.assertEqual(run(*words)[0], symbol.text(margin=2).encode())
         self.assertEqual(run(*words, "-t", "ASCII")[0], symbol.text(margin=2, drawing="ascii").encode())
+        self.assertEqual(run(*words, "-t", "txt")[0], symbol.text(margin=2).encode())
         self.assertEqual(run(*words, "-t", "png")[0], symbol.png(margin=2))
+
+    def test_sizes_and_warnings(self):
+        symbol = qrproved.encode("Shelf 12")
+        for name, words, wanted in (("a.png", ["--dpi", "600"], symbol.png(dpi=600)), ("b.png", ["--mm", "29"], symbol.png(mm=29)), ("a.svg", ["--mm", "29"], symbol.svg(mm=29))):
+            self.assertEqual(run("Shelf 12", "-o", self.room / name, *words), (b"", ""))
+            self.assertEqual((self.room / name).read_bytes(), wanted)
+        self.assertEqual(run("A", "-o", self.room / "a.png", "-m", "1")[1], "qrproved: a margin of 1 module: scanners need 4\n")
+        self.assertEqual(run("A", "-o", self.room / "a.png", "--mm", "5")[1], "qrproved: modules of 0.172 mm: under 0.25 mm few scanners read them\n")
+        self.assertEqual(run("A", "-o", self.room / "a.png", "--mm", "5", "-q")[1], "")
+        self.assertEqual(run("--batch", "-", "-o", self.room / "few", "-m", "0", given=b"1\n2\n3\n")[1], "qrproved: a margin of 0 modules: scanners need 4\n")
+        for words in (["--mm", "5", "--dpi", "300", "-t", "png"], ["--mm", "5"], ["--dpi", "300", "-t", "svg"]):
+            self.assertIn("--mm" if "--mm" in words else "--dpi", run("A", *words, status=2)[1])
 
     def test_standard_input_is_bytes(self):
         self.assertEqual(run("-8", given=b"A\xff\n")[0], qrproved.encode(b"A\xff\n", rule="bytes_only").text().encode())
@@ -96,6 +109,16 @@ class Command(unittest.TestCase):
         self.assertEqual(run("check", given="\n".join(lines).encode(), status=1)[0],
                          f"readable, 0 % of its correction spent: {symbol.version}-H, mask {symbol.mask}\n"
                          "3 modules are not known, and their codewords not counted\ncontains Shelf 12\n".encode())
+
+    def test_check_of_pictures(self):
+        symbol = qrproved.encode("Shelf 12", level="h")
+        for name in ("a.png", "a.svg"):
+            run("Shelf 12", "-l", "h", "-o", self.room / name)
+            self.assertEqual(run("check", self.room / name)[0], f"sound: {symbol.version}-H, mask {symbol.mask}\ncontains Shelf 12\n".encode())
+        turned = qrproved.Symbol(symbol.version, symbol.side, symbol.mask, symbol.modules[::-1])
+        self.assertIn(b"not readable: a symbol of the picture is not upright", run("check", given=turned.png(), status=2)[0])
+        self.assertEqual(run("check", given=b"\xff\xd8\xff\xe0", status=2)[0],
+                         b"not readable: it is no PNG picture, no SVG document and no text in UTF-8\n")
 
     def test_check_of_several_symbols(self):
         symbols = qrproved.encode_series("Shelf 12 " * 40, version=3)
