@@ -60,6 +60,14 @@ export class SegmentsError extends QRError {
   constructor(message = 'the data codewords cannot be parsed') { super(message, 10, 'SEGMENTS'); }
 }
 
+/** No upright symbol is found in a picture. It is no refusal of the library, which reads modules alone. */
+export class PictureError extends Error {
+  constructor(message) {
+    super(message);
+    this.name = 'PictureError';
+  }
+}
+
 // What a symbol of version 40 holds at each level, from L to H: bytes, alphanumeric characters, digits, and kanji of two bytes each
 // (ISO/IEC 18004:2015, Table 7).
 const MOST = [[2953, 4296, 7089, 1817], [2331, 3391, 5596, 1435], [1663, 2420, 3993, 1024], [1273, 1852, 3057, 784]];

@@ -8,7 +8,7 @@ import { inflateSync } from 'node:zlib';
 
 const folder = process.env.QRPROVED ?? new URL('../../out/npm/package', import.meta.url).pathname;
 const at = pathToFileURL(resolve(folder, 'qrproved.js')).href;
-const { draw, encode, encodeSeries, load, mend, read, ...errors } = await import(at);
+const { draw, encode, encodeSeries, load, mend, parsePicture, read, ...errors } = await import(at);
 
 // The memory of the module, which the package keeps to itself.
 let memory;
@@ -232,6 +232,93 @@ test('PNG images have the modules, and lines with their filter byte', () => {
     }
     assert.equal(wrong, 0, `version ${version}, scale ${scale}, margin ${margin}`);
   }
+});
+
+/**
+ * Returns an image of symbols beside each other, in colours of red, green, blue and alpha. `turn` says for a place of the image where
+ * it comes from.
+ */
+function imageOf(symbols, { scale = 3, margin = 4, dark = [0, 0, 0, 255], light = [255, 255, 255, 255], turn = (x, y) => [x, y] } = {}) {
+  const side = (Math.max(...symbols.map((it) => it.side)) + 2 * margin) * scale, size = Math.floor(side);
+  const data = new Uint8ClampedArray(4 * size * size * symbols.length), width = size * symbols.length;
+  for (let place = 0; place < width * size; place++) {
+    const [x, y] = turn(place % width, Math.floor(place / width), size), symbol = symbols[Math.floor(x / size)];
+    const [column, row] = [x % size, y].map((it) => Math.floor(it / scale) - margin), isInside = [row, column].every((it) => it >= 0 && it < symbol.side);
+    data.set(isInside && symbol.dark(row, column) ? dark : light, 4 * place);
+  }
+  return { data, width, height: size };
+}
+
+const GREEN = [0, 90, 0, 255], YELLOW = [255, 255, 160, 255], CLEAR = [0, 0, 0, 0], WHITE = [255, 255, 255, 255];
+
+test('symbols in images', () => {
+  for (const [version, scale, margin] of [[1, 1, 0], [1, 1, 10], [2, 12, 3], [5, 2.5, 4], [7, 3.3, 4], [20, 2, 2], [40, 1, 4], [40, 2.2, 1]]) {
+    const symbol = encode(`version ${version}`, { version });
+    for (const [dark, light] of [[GREEN, YELLOW], [YELLOW, GREEN], [GREEN, CLEAR], [WHITE, CLEAR]]) {
+      assert.deepEqual(parsePicture(imageOf([symbol], { scale, margin, dark, light })), [symbol.modules], `${version} ${scale} ${margin} ${dark} ${light}`);
+    }
+  }
+  const two = [encode('one', { level: 'H' }), encode('two', { version: 1 })];
+  assert.deepEqual(parsePicture(imageOf(two)), two.map((it) => it.modules));
+});
+
+test('modules of an image between dark and light are not known', () => {
+  const symbol = encode('Shelf 12', { level: 'H' }), image = imageOf([symbol], { scale: 4, margin: 4 }), wanted = symbol.modules.slice();
+  for (const [row, column] of [[15, 15], [15, 16], [16, 15]]) {
+    wanted[row * symbol.side + column] = 2;
+    for (let y = 4 * (row + 4); y < 4 * (row + 5); y++) {
+      for (let x = 4 * (column + 4); x < 4 * (column + 5); x++) image.data.set([128, 128, 128, 255], 4 * (y * image.width + x));
+    }
+  }
+  const [modules] = parsePicture(image);
+  assert.deepEqual(modules, wanted);
+  assert.deepEqual([mend(modules).content.text(), mend(modules).wrongModules], ['Shelf 12', 3]);
+});
+
+test('images without an upright symbol', () => {
+  const symbol = encode('Shelf 12', { version: 2 }), refused = (why) => (error) => error instanceof errors.PictureError && why.test(error.message);
+  for (const turn of [(x, y, size) => [y, size - 1 - x], (x, y, size) => [size - 1 - x, size - 1 - y], (x, y, size) => [size - 1 - y, x]]) {
+    assert.throws(() => parsePicture(imageOf([symbol], { turn })), refused(/not upright/));
+  }
+  const slanted = (x, y, size) => [(x + y) % size, (y - x + size) % size];
+  assert.throws(() => parsePicture(imageOf([symbol], { turn: slanted })), refused(/no upright symbol/));
+  assert.throws(() => parsePicture(imageOf([symbol], { scale: 1.6 })), refused(/less than two pixels/));
+  assert.throws(() => parsePicture({ data: new Uint8ClampedArray(400).fill(255), width: 10, height: 10 }), refused(/no upright symbol/));
+  for (const wrong of [undefined, null, {}, symbol, { data: new Uint8Array(3), width: 1, height: 1 }, { data: [0, 0, 0, 0], width: 1, height: 1 }]) {
+    assert.throws(() => parsePicture(wrong), TypeError);
+  }
+});
+
+test('sizes in millimetres and pixels of an inch', () => {
+  const symbol = encode('A'), plain = symbol.svg(); // 29 modules wide with its margin, and 232 pixels
+  assert.equal(symbol.svg({ mm: 14.5 }), plain.replace('<svg ', '<svg width="14.5mm" height="14.5mm" '));
+  for (const [options, wanted] of [[{ dpi: 300 }, 11811], [{ dpi: 203.2 }, 8000], [{ mm: 29 }, 8000], [{ mm: 14.5 }, 16000]]) {
+    const found = chunks(symbol.png(options)), [, data] = found[1], view = new DataView(data.buffer, data.byteOffset);
+    assert.deepEqual(found.map(([name]) => name), ['IHDR', 'pHYs', 'IDAT', 'IEND']);
+    assert.deepEqual([view.getUint32(0), view.getUint32(4), data[8], data.length], [wanted, wanted, 1, 9]);
+  }
+  assert.throws(() => symbol.png({ mm: 20, dpi: 300 }), TypeError);
+  for (const wrong of [0, -1, NaN, 100001]) {
+    assert.throws(() => symbol.svg({ mm: wrong }), refused('SettingsError', 5, 'SETTINGS'));
+    assert.throws(() => symbol.png({ dpi: wrong }), refused('SettingsError', 5, 'SETTINGS'));
+  }
+  assert.throws(() => symbol.png({ mm: '20' }), TypeError);
+});
+
+test('small margins and modules are warned of, each once', () => {
+  const symbol = encode('A'), said = [], { warn } = console;
+  console.warn = (text) => said.push(text);
+  try {
+    symbol.png({ mm: 5, quiet: true });
+    symbol.dataURL({ type: 'svg', mm: 7.25 });
+    for (let k = 0; k < 3; k++) {
+      symbol.png({ scale: 2, dpi: 300, margin: 4 });
+      symbol.svg({ mm: 7.2 });
+    }
+  } finally {
+    console.warn = warn;
+  }
+  assert.deepEqual(said.map((it) => it.slice(0, 31)), ['qrproved: modules of 0.169 mm: ', 'qrproved: modules of 0.248 mm: ']);
 });
 
 test('many calls take no more memory than one', () => {
