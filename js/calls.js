@@ -13,9 +13,8 @@ function code() {
 
 /** Returns the error of a module that the engine does not compile, with what helps: browsers name the policy each in other words. */
 function refused(cause) {
-  const policy = "a page with a content security policy has to allow it by script-src 'wasm-unsafe-eval'";
-  return new Error(`the engine does not compile the WebAssembly module (${cause.message}): ${policy}, and an older browser needs await load()`,
-    { cause });
+  const help = "a page with a content security policy has to allow it by script-src 'wasm-unsafe-eval', and an older browser needs await load()";
+  return new Error(`the engine does not compile the WebAssembly module (${cause.message}): ${help}`, { cause });
 }
 
 /** Compiles the module before the first call, without blocking: older browsers refuse to compile it in a call. */

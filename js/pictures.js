@@ -64,8 +64,9 @@ function runsOf(places, first, step, count) {
 function* middles(starts) {
   for (let k = 0; k + 5 < starts.length; k++) {
     const [first, one, two, three, four, last] = starts.slice(k, k + 6), unit = (four - one) / 5;
-    const isInner = Math.abs(two - one - unit) < unit / 2 && Math.abs(four - three - unit) < unit / 2 && Math.abs(three - two - 3 * unit) < unit;
-    if (isInner && one - first > unit / 2 && last - four > unit / 2) yield { start: one - unit, size: 7 * unit, run: k };
+    const isUnit = (length) => Math.abs(length - unit) < unit / 2, isThree = Math.abs(three - two - 3 * unit) < unit;
+    const isEdged = one - first > unit / 2 && last - four > unit / 2;
+    if (isUnit(two - one) && isThree && isUnit(four - three) && isEdged) yield { start: one - unit, size: 7 * unit, run: k };
   }
 }
 
@@ -85,7 +86,8 @@ function likenessAt(picture, left, top, unit, isInverse) {
 function finderAt(picture, { start, size }, y, isInverse) {
   for (const { start: top, size: height } of middles(picture.column(Math.floor(start + size / 2)))) {
     const isHere = top < y && y < top + height && Math.abs(height - size) <= Math.max(1, size / 7);
-    if (isHere && likenessAt(picture, start, top, size / 7, isInverse) >= LIKE_MIN) return { left: start, top, size: (size + height) / 2, isInverse };
+    const isLike = isHere && likenessAt(picture, start, top, size / 7, isInverse) >= LIKE_MIN;
+    if (isLike) return { left: start, top, size: (size + height) / 2, isInverse };
   }
   return null;
 }
@@ -93,7 +95,8 @@ function finderAt(picture, { start, size }, y, isInverse) {
 function findersOf(picture) {
   const found = [], isInside = (start, size, at) => start < at && at < start + size;
   for (let row = 0; row < picture.height; row++) {
-    const starts = runsOf(picture.places, row * picture.width, 1, picture.width), isFirstDark = picture.places[row * picture.width] === 1, y = row + 0.5;
+    const first = row * picture.width, isFirstDark = picture.places[first] === 1, y = row + 0.5;
+    const starts = runsOf(picture.places, first, 1, picture.width);
     for (const across of middles(starts)) {
       const x = across.start + across.size / 2;
       if (found.some(({ left, top, size }) => isInside(left, size, x) && isInside(top, size, y))) continue;
@@ -106,11 +109,17 @@ function findersOf(picture) {
 
 /** Yields the squares that have two finder patterns in their corners: at the top, at the left, or in the other two corners. */
 function* squaresOfTwo(one, two) {
-  const near = Math.max(1, (one.size + two.size) / 14), across = two.left + two.size - one.left, down = two.top + two.size - one.top;
-  if (Math.abs(one.top - two.top) <= near && across > one.size) yield { left: one.left, top: (one.top + two.top) / 2, width: across, height: across };
-  if (Math.abs(one.left - two.left) <= near && down > one.size) yield { left: (one.left + two.left) / 2, top: one.top, width: down, height: down };
-  const back = one.left + one.size - two.left;
-  if (back > one.size && down > one.size && Math.abs(back - down) <= 2 * near) yield { left: two.left, top: one.top, width: back, height: down };
+  const near = Math.max(1, (one.size + two.size) / 14), down = two.top + two.size - one.top;
+  const across = two.left + two.size - one.left, back = one.left + one.size - two.left;
+  if (Math.abs(one.top - two.top) <= near && across > one.size) {
+    yield { left: one.left, top: (one.top + two.top) / 2, width: across, height: across };
+  }
+  if (Math.abs(one.left - two.left) <= near && down > one.size) {
+    yield { left: (one.left + two.left) / 2, top: one.top, width: down, height: down };
+  }
+  if (back > one.size && down > one.size && Math.abs(back - down) <= 2 * near) {
+    yield { left: two.left, top: one.top, width: back, height: down };
+  }
 }
 
 const cornersOf = (side) => [[0, 0], [0, side - 7], [side - 7, 0]];
@@ -141,6 +150,11 @@ function overlap(one, two) {
     && one.top + one.height > two.top + unit && two.top + two.height > one.top + unit;
 }
 
+/** Returns the sides that a symbol of about some modules may have. */
+function sidesNear(modules) {
+  return Array.from({ length: 40 }, (_, k) => 21 + 4 * k).filter((side) => Math.abs(modules - side) <= 1 + side / 16);
+}
+
 /** Returns the squares that have the patterns of a symbol; of those that overlap, the one that is most like it. */
 function boxesOf(picture, finders) {
   const found = [];
@@ -149,10 +163,9 @@ function boxesOf(picture, finders) {
       if (one === two || one.isInverse !== two.isInverse || Math.abs(one.size - two.size) > Math.max(1, one.size / 7)) continue;
       const unit = (one.size + two.size) / 14, { isInverse } = one;
       for (const box of squaresOfTwo(one, two)) {
-        if (box.left < -unit || box.top < -unit || box.left + box.width > picture.width + unit || box.top + box.height > picture.height + unit) continue;
-        for (let side = 21; side <= 177; side += 4) {
-          if (Math.abs(box.width / unit - side) <= 1 + side / 16) found.push({ ...box, side, isInverse, share: shareOf(picture, box, side, isInverse) });
-        }
+        const isInside = (start, size, limit) => start >= -unit && start + size <= limit + unit;
+        if (!isInside(box.left, box.width, picture.width) || !isInside(box.top, box.height, picture.height)) continue;
+        for (const side of sidesNear(box.width / unit)) found.push({ ...box, side, isInverse, share: shareOf(picture, box, side, isInverse) });
       }
     }
   }
@@ -219,7 +232,8 @@ export function squaresIn(image) {
   for (const ground of [255, 0]) {
     const picture = new Picture(image, ground), boxes = picture.hasContrast ? boxesOf(picture, findersOf(picture)) : [];
     if (boxes.some((box) => isTurned(picture, box))) {
-      throw new PictureError('a symbol of the picture is not upright: its three finder patterns are not at the top left, top right and bottom left');
+      throw new PictureError('a symbol of the picture is not upright: its three finder patterns are not at the top left, top right and'
+        + ' bottom left');
     }
     if (boxes.some(isCoarse)) throw new PictureError('the modules of a symbol are less than two pixels wide: take a larger picture');
     if (boxes.length) return boxes.map((box) => modulesOf(picture, box));

@@ -9,8 +9,8 @@ import { imageOf } from './png.js';
 
 export { load } from './calls.js';
 export {
-  CheckError, EmptyError, FormatError, OutOfMemoryError, PictureError, QRError, RoomError, SegmentsError, SettingsError, SideError, TooLongError,
-  TooManyError,
+  CheckError, EmptyError, FormatError, OutOfMemoryError, PictureError, QRError, RoomError, SegmentsError, SettingsError, SideError,
+  TooLongError, TooManyError,
 } from './errors.js';
 
 const LEVELS = ['L', 'M', 'Q', 'H'];
@@ -148,8 +148,8 @@ export class Content {
 }
 
 export class Mended {
-  constructor({ level, mask, wrongModules, wrongFormatModules, changedMost, changedAllowed, ...content }) {
-    Object.assign(this, { content: new Content(content), level: LEVELS[level], mask, wrongModules, wrongFormatModules, changedMost, changedAllowed });
+  constructor({ data, version, header, level, ...others }) {
+    Object.assign(this, { content: new Content({ data, version, header }), level: LEVELS[level], ...others });
   }
 
   get isSound() {
@@ -195,8 +195,8 @@ export function mend(square) {
 
 export function parsePicture(image) {
   const { data, width, height } = image ?? {};
-  const isImage = (data instanceof Uint8ClampedArray || data instanceof Uint8Array) && width > 0 && height > 0 && data.length === 4 * width * height;
-  if (!isImage) throw new TypeError('an image has width, height and, as its data, four bytes for each pixel, as a canvas has them');
+  const isOfBytes = data instanceof Uint8ClampedArray || data instanceof Uint8Array;
+  if (!(isOfBytes && width > 0 && height > 0 && data.length === 4 * width * height)) throw new TypeError('an image has width, height and, as its data, four bytes for each pixel, as a canvas has them');
   return squaresIn(image);
 }
 

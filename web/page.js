@@ -56,12 +56,14 @@ function factsOf(text, margin) {
   const [{ version, side, mask, level }] = symbols;
   const what = symbols.length > 1 ? `${symbols.length} symbols of version ${version}-${level}` : `Version ${version}-${level}`;
   const facts = [what, `${side} × ${side} modules`, ...(mask === null ? [] : [`mask ${mask}`]), lengthOf(text)];
-  return [`${facts.join(', ')}.`, ...(margin < 4 ? ['Scanners need a margin of 4 modules.'] : []), ...smallOf(numberIn('mm') / (side + 2 * margin))].join(' ');
+  const ofMargin = margin < 4 ? ['Scanners need a margin of 4 modules.'] : [];
+  return [`${facts.join(', ')}.`, ...ofMargin, ...smallOf(numberIn('mm') / (side + 2 * margin))].join(' ');
 }
 
 /** Returns what is to be said of the width of a module in millimetres; 0 is not known. */
 function smallOf(module) {
-  return module > 0 && module < MODULE_LEAST ? [`A module is ${module.toFixed(2)} mm wide: under ${MODULE_LEAST} mm few scanners read it.`] : [];
+  const isSmall = module > 0 && module < MODULE_LEAST;
+  return isSmall ? [`A module is ${module.toFixed(2)} mm wide: under ${MODULE_LEAST} mm few scanners read it.`] : [];
 }
 
 /** Draws the symbol of the text that is in the field now. */
@@ -111,7 +113,8 @@ function saveDocument() {
 function pngs() {
   const scale = numberIn('scale');
   if (scale === null) say(on('facts'), 'A module has from 1 to 100 pixels on a side.', 'fault');
-  return scale === null ? [] : symbols.map((it) => it.png({ scale, margin: numberIn('margin'), mm: numberIn('mm') ?? undefined, quiet: true }));
+  const margin = numberIn('margin'), mm = numberIn('mm') ?? undefined;
+  return scale === null ? [] : symbols.map((it) => it.png({ scale, margin, mm, quiet: true }));
 }
 
 function saveImages() {
@@ -179,8 +182,8 @@ function saveAll() {
   const scale = numberIn('scale') ?? 8, level = on('sheet-level').value, width = numberIn('width') ?? undefined;
   const files = on('lines').value.split('\n').flatMap((line, k) => {
     try {
-      const [text] = partsOf(line);
-      return text.trim() === '' ? [] : [{ name: `${String(k + 1).padStart(5, '0')}.png`, content: encode(text, { level }).png({ scale, mm: width, quiet: true }) }];
+      const [text] = partsOf(line), name = `${String(k + 1).padStart(5, '0')}.png`;
+      return text.trim() === '' ? [] : [{ name, content: encode(text, { level }).png({ scale, mm: width, quiet: true }) }];
     } catch (error) {
       if (!(error instanceof QRError || error instanceof TypeError)) throw error;
       return []; // showSheet has said so

@@ -99,7 +99,8 @@ test('settings', () => {
 });
 
 test('JSON', () => {
-  const symbol = encode('01234567', { level: 'M' }), rows = Array.from({ length: 21 }, (_, row) => symbol.modules.slice(21 * row, 21 * row + 21).join(''));
+  const symbol = encode('01234567', { level: 'M' });
+  const rows = Array.from({ length: 21 }, (_, row) => symbol.modules.slice(21 * row, 21 * row + 21).join(''));
   assert.deepEqual(JSON.parse(JSON.stringify(symbol)), { version: 1, side: 21, mask: symbol.mask, level: 'M', rows });
   assert.equal(rows[0].slice(0, 7) + rows[20].slice(0, 7), '1'.repeat(14));
   const content = { data: [65, 255], version: 1, header: null }, mended = mend(encode(Uint8Array.of(65, 255)));
@@ -243,7 +244,8 @@ function imageOf(symbols, { scale = 3, margin = 4, dark = [0, 0, 0, 255], light 
   const data = new Uint8ClampedArray(4 * size * size * symbols.length), width = size * symbols.length;
   for (let place = 0; place < width * size; place++) {
     const [x, y] = turn(place % width, Math.floor(place / width), size), symbol = symbols[Math.floor(x / size)];
-    const [column, row] = [x % size, y].map((it) => Math.floor(it / scale) - margin), isInside = [row, column].every((it) => it >= 0 && it < symbol.side);
+    const [column, row] = [x % size, y].map((it) => Math.floor(it / scale) - margin);
+    const isInside = [row, column].every((it) => it >= 0 && it < symbol.side);
     data.set(isInside && symbol.dark(row, column) ? dark : light, 4 * place);
   }
   return { data, width, height: size };
@@ -255,7 +257,8 @@ test('symbols in images', () => {
   for (const [version, scale, margin] of [[1, 1, 0], [1, 1, 10], [2, 12, 3], [5, 2.5, 4], [7, 3.3, 4], [20, 2, 2], [40, 1, 4], [40, 2.2, 1]]) {
     const symbol = encode(`version ${version}`, { version });
     for (const [dark, light] of [[GREEN, YELLOW], [YELLOW, GREEN], [GREEN, CLEAR], [WHITE, CLEAR]]) {
-      assert.deepEqual(parsePicture(imageOf([symbol], { scale, margin, dark, light })), [symbol.modules], `${version} ${scale} ${margin} ${dark} ${light}`);
+      const found = parsePicture(imageOf([symbol], { scale, margin, dark, light }));
+      assert.deepEqual(found, [symbol.modules], `${version} ${scale} ${margin} ${dark} ${light}`);
     }
   }
   const two = [encode('one', { level: 'H' }), encode('two', { version: 1 })];
@@ -276,7 +279,8 @@ test('modules of an image between dark and light are not known', () => {
 });
 
 test('images without an upright symbol', () => {
-  const symbol = encode('Shelf 12', { version: 2 }), refused = (why) => (error) => error instanceof errors.PictureError && why.test(error.message);
+  const symbol = encode('Shelf 12', { version: 2 });
+  const refused = (why) => (error) => error instanceof errors.PictureError && why.test(error.message);
   for (const turn of [(x, y, size) => [y, size - 1 - x], (x, y, size) => [size - 1 - x, size - 1 - y], (x, y, size) => [size - 1 - y, x]]) {
     assert.throws(() => parsePicture(imageOf([symbol], { turn })), refused(/not upright/));
   }
@@ -284,7 +288,8 @@ test('images without an upright symbol', () => {
   assert.throws(() => parsePicture(imageOf([symbol], { turn: slanted })), refused(/no upright symbol/));
   assert.throws(() => parsePicture(imageOf([symbol], { scale: 1.6 })), refused(/less than two pixels/));
   assert.throws(() => parsePicture({ data: new Uint8ClampedArray(400).fill(255), width: 10, height: 10 }), refused(/no upright symbol/));
-  for (const wrong of [undefined, null, {}, symbol, { data: new Uint8Array(3), width: 1, height: 1 }, { data: [0, 0, 0, 0], width: 1, height: 1 }]) {
+  const sized = { width: 1, height: 1 };
+  for (const wrong of [undefined, null, {}, symbol, { data: new Uint8Array(3), ...sized }, { data: [0, 0, 0, 0], ...sized }]) {
     assert.throws(() => parsePicture(wrong), TypeError);
   }
 });

@@ -2,8 +2,8 @@
 
 encode returns the symbol of a text or of bytes, encode_series the symbols of a series. A Symbol is drawn by its methods as PNG,
 as SVG or as text. read reads a symbol that is as it was drawn; mend reads a damaged one, and says how damaged it is.
-parse_drawing finds the modules of a drawing as text, parse_picture those of a PNG picture or an SVG document. Modules are bytes, row by row from the top left, without the quiet zone of four
-light modules that a drawing needs on each side.
+parse_drawing finds the modules of a drawing as text, parse_picture those of a PNG picture or an SVG document. Modules are bytes,
+row by row from the top left, without the quiet zone of four light modules that a drawing needs on each side.
 
 Each refusal is an exception of the class Error, also where a number is out of range or a name is not known. A number that is no
 integer, as a bool or a float, is a TypeError. Calls may run side by side in any number of threads.
@@ -145,8 +145,8 @@ class Symbol:
         _no_more("text", "", wrong, "drawing", "margin")
         return draw([self], drawing=drawing, margin=margin).decode()
 
-    def save(self, path: Union[str, os.PathLike[str], BinaryIO], *wrong: NoReturn, kind: Optional[str] = None, scale: int = 8, margin: int = 4,
-             mm: Optional[float] = None, dpi: Optional[float] = None) -> None:
+    def save(self, path: Union[str, os.PathLike[str], BinaryIO], *wrong: NoReturn, kind: Optional[str] = None, scale: int = 8,
+             margin: int = 4, mm: Optional[float] = None, dpi: Optional[float] = None) -> None:
         """Writes the drawing to a file, or to an object with a method `write` that takes bytes.
 
         kind    'png', 'svg' or 'txt'; unless it is given, the end of the file's name, or 'png' for an object

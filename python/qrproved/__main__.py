@@ -1,4 +1,5 @@
-"""The command qrproved, or python -m qrproved: writes symbols as PNG, as SVG or as text, one or one for each line of a file, and checks drawings."""
+"""The command qrproved, or python -m qrproved: writes symbols as PNG, as SVG or as text, one or one for each line of a file, and
+checks pictures and drawings."""
 from __future__ import annotations
 
 import argparse
@@ -121,8 +122,8 @@ def parsed(words: list[str]) -> argparse.Namespace:
     """Returns the arguments, or ends the program with their fault."""
     parser = argparse.ArgumentParser(
         prog=PROGRAM, description="Writes the QR Code symbol of a text as PNG, as SVG or as text.",
-        epilog=f"'{PROGRAM} check [FILE]' checks a picture or a drawing. To encode a text that begins with a hyphen, or the text 'check', write"
-        " -- before it.")
+        epilog=f"'{PROGRAM} check [FILE]' checks a picture or a drawing. To encode a text that begins with a hyphen, or the text"
+        " 'check', write -- before it.")
     parser.add_argument("text", nargs="?", help="the text to encode; without it, the bytes of standard input")
     parser.add_argument("-o", "--output", metavar="FILE", help="the file to write, .png, .svg or .txt; with --batch a folder")
     parser.add_argument("-t", "--type", choices=sorted(SUFFIXES), type=str.lower, help="the type of the drawing, if the file does not tell")

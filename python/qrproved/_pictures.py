@@ -217,7 +217,8 @@ def _symbols(rows: Rows) -> list[tuple[bytes, int]]:
         return []
     boxes = _boxes(picture, _finders(picture))
     if any(_is_turned(picture, box) for box in boxes):
-        raise ValueError("a symbol of the picture is not upright: its three finder patterns are not at the top left, top right and bottom left")
+        raise ValueError("a symbol of the picture is not upright: its three finder patterns are not at the top left, top right and"
+                         " bottom left")
     if any(map(_is_coarse, boxes)):
         raise ValueError("the modules of a symbol are less than two pixels wide: take a larger picture")
     return [(_modules(picture, box), box.side) for box in boxes]

@@ -36,13 +36,17 @@ class Command(unittest.TestCase):
 
     def test_sizes_and_warnings(self):
         symbol = qrproved.encode("Shelf 12")
-        for name, words, wanted in (("a.png", ["--dpi", "600"], symbol.png(dpi=600)), ("b.png", ["--mm", "29"], symbol.png(mm=29)), ("a.svg", ["--mm", "29"], symbol.svg(mm=29))):
+        cases = {"a.png": (["--dpi", "600"], symbol.png(dpi=600)), "b.png": (["--mm", "29"], symbol.png(mm=29)),
+                 "a.svg": (["--mm", "29"], symbol.svg(mm=29))}
+        for name, (words, wanted) in cases.items():
             self.assertEqual(run("Shelf 12", "-o", self.room / name, *words), (b"", ""))
             self.assertEqual((self.room / name).read_bytes(), wanted)
-        self.assertEqual(run("A", "-o", self.room / "a.png", "-m", "1")[1], "qrproved: a margin of 1 module: scanners need 4\n")
-        self.assertEqual(run("A", "-o", self.room / "a.png", "--mm", "5")[1], "qrproved: modules of 0.172 mm: under 0.25 mm few scanners read them\n")
+        of_margin, of_module = "scanners need 4\n", "qrproved: modules of 0.172 mm: under 0.25 mm few scanners read them\n"
+        self.assertEqual(run("A", "-o", self.room / "a.png", "-m", "1")[1], f"qrproved: a margin of 1 module: {of_margin}")
+        self.assertEqual(run("A", "-o", self.room / "a.png", "--mm", "5")[1], of_module)
         self.assertEqual(run("A", "-o", self.room / "a.png", "--mm", "5", "-q")[1], "")
-        self.assertEqual(run("--batch", "-", "-o", self.room / "few", "-m", "0", given=b"1\n2\n3\n")[1], "qrproved: a margin of 0 modules: scanners need 4\n")
+        said = run("--batch", "-", "-o", self.room / "few", "-m", "0", given=b"1\n2\n3\n")[1]
+        self.assertEqual(said, f"qrproved: a margin of 0 modules: {of_margin}")
         for words in (["--mm", "5", "--dpi", "300", "-t", "png"], ["--mm", "5"], ["--dpi", "300", "-t", "svg"]):
             self.assertIn("--mm" if "--mm" in words else "--dpi", run("A", *words, status=2)[1])
 

@@ -9,6 +9,8 @@ import tempfile
 import unittest
 
 import qrproved
+from qrproved import _png
+from test_reading import GREY, png_of
 
 try:
     import segno
@@ -56,8 +58,23 @@ class Others(unittest.TestCase):
         for scale, margin, is_inverse, text in self.cases():
             for suffix in ("png", *(["svg"] if scale < 4 else [])):
                 path = self.room / f"a.{suffix}"
-                self.made_by("zint", "-b", 58, "--scale", scale / 2, "-w", margin, "--vwhitesp", margin, *(["-r"] if is_inverse else []), "-d", text, "-o", path)
+                margins, inverse = ["-w", margin, "--vwhitesp", margin], ["-r"] if is_inverse else []
+                self.made_by("zint", "-b", 58, "--scale", scale / 2, *margins, *inverse, "-d", text, "-o", path)
                 self.is_read(path.read_bytes(), text.encode(), (suffix, scale, margin, is_inverse))
+
+    @unittest.skipUnless(shutil.which("qrencode") and shutil.which("zint"), "there is no qrencode or no zint")
+    def test_two_symbols_of_two_programs(self):
+        for scale, margin in ((1, 4), (3, 0), (5, 2)):
+            one, two = self.room / "one.png", self.room / "two.png"
+            self.made_by("qrencode", "-s", scale, "-m", margin, "-v", 3, "-o", one, "one")
+            self.made_by("zint", "-b", 58, "--scale", 1.5, "-w", margin, "--vwhitesp", margin, "-d", "two", "-o", two)
+            left, right = (_png.pixels(it.read_bytes(), 255) for it in (one, two))
+            rows = itertools.zip_longest(left, right, fillvalue=b"")
+            pixels = [[[it] for it in a.ljust(len(left[0]), b"\xff") + b"\xff" * 3 + b.ljust(len(right[0]), b"\xff")] for a, b in rows]
+            found = qrproved.parse_picture(png_of(pixels, 8, GREY))
+            mended = [qrproved.mend(*it) for it in found]
+            self.assertEqual(sorted(it.content.text() for it in mended), ["one", "two"], (scale, margin))
+            self.assertTrue(all(it.is_sound for it in mended))
 
     @unittest.skipUnless(segno, "there is no segno")
     def test_segno(self):
