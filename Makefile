@@ -72,8 +72,8 @@ endif
 
 # What proves needs the kit.
 need-rt:
-	@command -v rt >/dev/null 2>&1 || { echo "make: the program or the library is to be built, and the command 'rt' of the" \
-	    "Rattle kit is not here" >&2; exit 1; }
+	@command -v rt >/dev/null 2>&1 || { echo "make: what is to be built, tested or packed needs the command 'rt' of the Rattle kit," \
+	    "which is not here" >&2; exit 1; }
 
 # Proves the program for another target. The kit has no linker for it, and so ends by an error; but it writes an object file,
 # and only of a program that is proved.
@@ -92,11 +92,11 @@ static: all
 	$(CC) -O2 -static -o $(PROGRAM)-static $(OUT)/qrencode.o $(GLUE)
 
 # The gate.
-check:
+check: need-rt
 	@tests/all
 
 # The gate without wrong bodies, and with proofs only of what the tests are built of.
-test:
+test: need-rt
 	@tests/all --test
 
 # Each wrong body by itself, those of must-fail/ too.
@@ -119,8 +119,12 @@ install: $(if $(STATIC),static,all)
 uninstall:
 	rm -f "$(BINARY)" "$(MANUAL)" "$(DESTDIR)$(BASHDIR)/$(NAME)" "$(DESTDIR)$(ZSHDIR)/_$(NAME)"
 
+# Removes what was built, and with it the proofs that were kept: the next build takes as long as the first.
+clean:
+	rm -rf out python/out rust/qrproved/target crates/*/out
+
 # What runs without the kit, with the commit and the kit that it is of. The tree has to have no changes since its commit.
-dist:
+dist: need-rt
 	tools/dist "$(DIST)"
 
 .PHONY: dist need-rt prove-hwcaps
@@ -207,5 +211,5 @@ bench: all lib
 	bench/library
 	bench/memory
 
-.PHONY: all bench build-wasm check check-each cross install install-lib lib npm page print-pc prove-lib static test uninstall \
+.PHONY: all bench build-wasm check check-each clean cross install install-lib lib npm page print-pc prove-lib static test uninstall \
     uninstall-lib wasm wheel

@@ -2,7 +2,7 @@
  * The calls of the module, as include/qrproved.h states them. A pointer, a length and a size is a BigInt there, and a struct lies
  * in memory as in C. Before each call the heap is given back, so no block of an earlier call may be used.
  */
-import { OutOfMemoryError, throwFor } from './errors.js';
+import { OutOfMemoryError, throwFor, tooLong, tooMany } from './errors.js';
 import { base64 } from './module.js';
 
 let library; // what the module exports, from the first call on
@@ -11,9 +11,28 @@ function code() {
   return Uint8Array.from(atob(base64), (character) => character.charCodeAt(0));
 }
 
+/** Returns the error of a module that the engine does not compile, with what helps: browsers name the policy each in other words. */
+function refused(cause) {
+  const help = "a page with a content security policy has to allow it by script-src 'wasm-unsafe-eval', and an older browser needs await load()";
+  return new Error(`the engine does not compile the WebAssembly module (${cause.message}): ${help}`, { cause });
+}
+
 /** Compiles the module before the first call, without blocking: older browsers refuse to compile it in a call. */
 export async function load() {
-  library ??= (await WebAssembly.instantiate(code(), {})).instance.exports;
+  try {
+    library ??= (await WebAssembly.instantiate(code(), {})).instance.exports;
+  } catch (error) {
+    throw refused(error);
+  }
+}
+
+/** Compiles the module at once. */
+function loaded() {
+  try {
+    return new WebAssembly.Instance(new WebAssembly.Module(code()), {}).exports;
+  } catch (error) {
+    throw refused(error);
+  }
 }
 
 /** Returns the address of a new buffer. */
@@ -45,7 +64,7 @@ function call(name, ...words) {
 
 /** Runs a function that takes buffers and calls the module. After an error other than a refusal no part of the module is kept. */
 function run(calls) {
-  library ??= new WebAssembly.Instance(new WebAssembly.Module(code()), {}).exports;
+  library ??= loaded();
   library.heap_reset();
   try {
     return calls();
@@ -58,12 +77,15 @@ function run(calls) {
 const SYMBOL_MAX = 31329;
 const SERIES_MAX = 501264;
 const BYTES_MAX = 7089;
+const TOO_LONG = 2, TOO_MANY = 3, ROOM = 6; // statuses
 
 export function encoded(input, version, level, rule) {
   return run(() => {
     const from = put(input), to = take(SYMBOL_MAX), told = take(3);
-    throwFor(call('qrproved_encode', BigInt(from), BigInt(input.length), version, level, rule, BigInt(to), BigInt(SYMBOL_MAX),
-      BigInt(told)));
+    const status = call('qrproved_encode', BigInt(from), BigInt(input.length), version, level, rule, BigInt(to), BigInt(SYMBOL_MAX),
+      BigInt(told));
+    if (status === TOO_LONG) throw tooLong(input.length, level, rule);
+    throwFor(status);
     const [chosen, side, mask] = copied(told, 3);
     return { version: chosen, side, mask, modules: copied(to, side * side) };
   });
@@ -72,8 +94,10 @@ export function encoded(input, version, level, rule) {
 export function encodedSeries(input, version, level, rule) {
   return run(() => {
     const from = put(input), to = take(SERIES_MAX), told = take(2);
-    throwFor(call('qrproved_encode_series', BigInt(from), BigInt(input.length), version, level, rule, BigInt(to), BigInt(SERIES_MAX),
-      BigInt(told)));
+    const status = call('qrproved_encode_series', BigInt(from), BigInt(input.length), version, level, rule, BigInt(to), BigInt(SERIES_MAX),
+      BigInt(told));
+    if (status === TOO_MANY) throw tooMany(input.length, version, level);
+    throwFor(status);
     const [count, side] = copied(told, 2);
     return { side, squares: Array.from({ length: count }, (_, k) => copied(to + k * side * side, side * side)) };
   });
@@ -83,7 +107,7 @@ export function encodedSeries(input, version, level, rule) {
 function content(at, bytes, version) {
   const [has, position, last, parity] = [1, 2, 3, 4].map((k) => at.getUint8(version + k));
   const header = has ? { position, last, parity } : null;
-  return { bytes: copied(bytes, Number(at.getBigUint64(0, true))), version: at.getUint8(version), header };
+  return { data: copied(bytes, Number(at.getBigUint64(0, true))), version: at.getUint8(version), header };
 }
 
 export function readOf(modules, side) {
@@ -112,7 +136,7 @@ export function drawn(modules, side, count, drawing, margin) {
     const length = () => Number(struct(written, 8).getBigUint64(0, true));
     // The first call only returns the length.
     const status = draw(0, 0);
-    if (status !== 6) throwFor(status);
+    if (status !== ROOM) throwFor(status);
     const room = length(), text = take(room);
     throwFor(draw(text, room));
     return new TextDecoder().decode(copied(text, room));

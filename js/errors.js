@@ -60,6 +60,36 @@ export class SegmentsError extends QRError {
   constructor(message = 'the data codewords cannot be parsed') { super(message, 10, 'SEGMENTS'); }
 }
 
+/** No upright symbol is found in a picture. It is no refusal of the library, which reads modules alone. */
+export class PictureError extends Error {
+  constructor(message) {
+    super(message);
+    this.name = 'PictureError';
+  }
+}
+
+// What a symbol of version 40 holds at each level, from L to H: bytes, alphanumeric characters, digits, and kanji of two bytes each
+// (ISO/IEC 18004:2015, Table 7).
+const MOST = [[2953, 4296, 7089, 1817], [2331, 3391, 5596, 1435], [1663, 2420, 3993, 1024], [1273, 1852, 3057, 784]];
+
+/** Returns a number with commas between thousands. */
+function counted(number) {
+  return String(number).replace(/\B(?=(\d{3})+$)/g, ',');
+}
+
+/** Returns the refusal of `count` bytes, which says how many would fit. The rule, 0, 1 or 2, decides which modes there are. */
+export function tooLong(count, level, rule) {
+  const names = ['bytes', 'alphanumeric characters', 'digits', 'kanji'].slice(0, [3, 1, 4][rule]);
+  const [last, ...first] = names.map((name, k) => `${counted(MOST[level][k])} ${name}`).reverse();
+  const holds = first.length ? `${first.reverse().join(', ')} or ${last}` : last;
+  return new TooLongError(`the input has ${counted(count)} bytes and does not fit a symbol: version 40-${'LMQH'[level]} holds ${holds}`);
+}
+
+/** Returns the refusal of a series of `count` bytes. */
+export function tooMany(count, version, level) {
+  return new TooManyError(`the input has ${counted(count)} bytes and takes more than 16 symbols of version ${version}-${'LMQH'[level]}`);
+}
+
 const CLASSES = [undefined, EmptyError, TooLongError, TooManyError, OutOfMemoryError, SettingsError, RoomError, SideError, FormatError,
   CheckError, SegmentsError];
 

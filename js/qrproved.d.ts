@@ -7,11 +7,11 @@
 export type Level = 'L' | 'M' | 'Q' | 'H';
 
 /**
- * The modes that the segments of an input may have. 'auto': numeric, alphanumeric and byte mode, mixed so that the number of bits
- * is least. 'byte': the whole input in byte mode. 'kanji': the modes of 'auto', and kanji mode for pairs of bytes that are Shift
- * JIS characters.
+ * Which modes the segments of an input may have. 'auto': numeric, alphanumeric and byte mode, mixed so that the number of bits is
+ * least. 'bytes_only': the whole input in byte mode. 'with_kanji': the modes of 'auto', and kanji mode for pairs of bytes that are
+ * Shift JIS characters. A string has none, since it is encoded as UTF-8: pass its Shift JIS as a Uint8Array.
  */
-export type Mode = 'auto' | 'byte' | 'kanji';
+export type Rule = 'auto' | 'bytes_only' | 'with_kanji';
 
 /**
  * The type of a drawing, as the command `qrencode -t` has it. 'ASCII': two # for a dark module and two spaces for a light one.
@@ -30,12 +30,13 @@ export interface Options {
    */
   version?: number;
   /** 'auto' unless given. */
-  mode?: Mode;
+  rule?: Rule;
 }
 
 /**
  * A symbol that encode or encodeSeries made. A margin is from 0 to 100 modules: 4 unless given, which a scanner needs. Each
- * drawing throws SettingsError if a value is out of its range.
+ * drawing throws SettingsError if a value is out of its range. A margin under 4 modules and modules under 0.25 mm are warned of in the
+ * console, each once, unless `quiet` is true.
  */
 export class QRSymbol {
   private constructor();
@@ -52,18 +53,22 @@ export class QRSymbol {
    * Returns whether a module is dark; both numbers are from 0 to side - 1, from the top left. Throws SettingsError for others.
    */
   dark(row: number, column: number): boolean;
-  /** Returns an SVG document, in which a module is one unit wide. */
-  svg(options?: { margin?: number }): string;
+  /** Returns an SVG document, in which a module is one unit wide. `mm` is its width with the margin, in millimetres. */
+  svg(options?: { margin?: number; mm?: number; quiet?: boolean }): string;
   /** Returns a drawing as text, of type 'UTF8' unless given. */
   text(options?: { margin?: number; type?: Drawing }): string;
   /**
    * Returns a PNG image of one bit a pixel. `scale` is the number of pixels of a module on a side, from 1 to 100: 8 unless given.
+   * `mm` is the width of the image with its margin, in millimetres; in its place, `dpi` is the number of pixels of an inch. Throws a
+   * TypeError for both.
    */
-  png(options?: { scale?: number; margin?: number }): Uint8Array;
+  png(options?: { scale?: number; margin?: number; mm?: number; dpi?: number; quiet?: boolean }): Uint8Array;
   /** Returns a URL that contains the image, a PNG unless the type is 'svg'. */
-  dataURL(options?: { type?: 'png' | 'svg'; scale?: number; margin?: number }): string;
+  dataURL(options?: { type?: 'png' | 'svg'; scale?: number; margin?: number; mm?: number; quiet?: boolean }): string;
   /** Returns the drawing of type 'UTF8'. */
   toString(): string;
+  /** What JSON.stringify writes: each row of modules as a string, in which '1' is dark. */
+  toJSON(): { version: number; side: number; mask: number | null; level: Level; rows: string[] };
 }
 
 /** What a symbol of a series says about its series. */
@@ -79,17 +84,20 @@ export interface Header {
 /** What a symbol contains. */
 export class Content {
   protected constructor();
-  readonly bytes: Uint8Array;
+  readonly data: Uint8Array;
   readonly version: number;
   /** null unless it is a symbol of a series. */
   readonly header: Header | null;
-  /** Returns the bytes as text. Throws a TypeError if they are no UTF-8. */
+  /** Returns the data as text. Throws a TypeError if it is no UTF-8. */
   text(): string;
+  /** What JSON.stringify writes: the data as an array of numbers. */
+  toJSON(): { data: number[]; version: number; header: Header | null };
 }
 
 /** What a damaged symbol contains, and its damage. */
-export class Mended extends Content {
+export class Mended {
   private constructor();
+  readonly content: Content;
   readonly level: Level;
   /** From 0 to 7. */
   readonly mask: number;
@@ -134,6 +142,21 @@ export function read(square: QRSymbol | Uint8Array): Content;
  */
 export function mend(square: QRSymbol | Uint8Array): Mended;
 
+/** An image of RGBA pixels, as a canvas returns it by getImageData. */
+export interface Picture {
+  readonly data: Uint8ClampedArray | Uint8Array;
+  readonly width: number;
+  readonly height: number;
+}
+
+/**
+ * Returns the squares of the symbols in an image, those above and at the left first, as mend takes them: a module between dark and
+ * light is 2, not known. Symbols are upright, dark on light or light on dark, of any margin, and of any scale from 2.2 pixels a module
+ * on, or 1 or 2. It is no reader of photographs: a label has to lie straight, in even light. Throws PictureError if it finds no
+ * upright symbol, or too small a one.
+ */
+export function parsePicture(image: Picture): Uint8Array[];
+
 /**
  * Returns the drawing of symbols of one side, at most 16, byte for byte as the command `qrencode` draws them: texts one after the
  * other, or one document with one below the other. The type is 'UTF8' and the margin 4 unless given. Throws SettingsError if
@@ -163,5 +186,9 @@ export class SettingsError extends QRError {}
 export class RoomError extends QRError {}
 export class SideError extends QRError {}
 export class FormatError extends QRError {}
+/** No upright symbol is found in a picture. It is no refusal of the library, which reads modules alone. */
+export class PictureError extends Error {
+  protected constructor();
+}
 export class CheckError extends QRError {}
 export class SegmentsError extends QRError {}

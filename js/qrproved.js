@@ -4,20 +4,24 @@
  */
 import { drawn, encoded, encodedSeries, mendedOf, readOf } from './calls.js';
 import { SettingsError, SideError } from './errors.js';
+import { squaresIn } from './pictures.js';
 import { imageOf } from './png.js';
 
 export { load } from './calls.js';
 export {
-  CheckError, EmptyError, FormatError, OutOfMemoryError, QRError, RoomError, SegmentsError, SettingsError, SideError, TooLongError,
-  TooManyError,
+  CheckError, EmptyError, FormatError, OutOfMemoryError, PictureError, QRError, RoomError, SegmentsError, SettingsError, SideError,
+  TooLongError, TooManyError,
 } from './errors.js';
 
 const LEVELS = ['L', 'M', 'Q', 'H'];
-const MODES = ['auto', 'byte', 'kanji'];
+const RULES = ['auto', 'bytes_only', 'with_kanji'];
 const DRAWINGS = ['ASCII', 'ASCIIi', 'UTF8', 'SVG'];
 const SIDE_MAX = 177;
 const COUNT_MAX = 16;
 const SCALE_MAX = 100;
+const SIZE_MAX = 100000; // of mm and dpi
+const MM_OF_INCH = 25.4;
+const MODULE_MIN = 0.25; // mm
 
 /** Returns each option as it is given, or its default. An option of another name would do nothing, and so is refused. */
 function chosen(given, defaults) {
@@ -36,6 +40,28 @@ function whole(name, value, least, most) {
   return value;
 }
 
+/** Returns a length or a resolution. */
+function length(name, value) {
+  if (typeof value !== 'number') throw new TypeError(`${name} is a number, and not of type ${typeof value}`);
+  if (!(value > 0 && value <= SIZE_MAX)) throw new SettingsError(`${name} is more than 0 and at most ${SIZE_MAX}, and not ${value}`);
+  return value;
+}
+
+const warned = new Set(); // each is said once
+
+/** Warns of what scanners may not read: a margin, and the width of a module in millimetres. */
+function warn(quiet, margin, module) {
+  if (quiet) return;
+  const faults = [
+    ...(margin < 4 ? [`a margin of ${margin} ${margin === 1 ? 'module' : 'modules'}: scanners need 4`] : []),
+    ...(module < MODULE_MIN ? [`modules of ${module.toPrecision(3)} mm: under ${MODULE_MIN} mm few scanners read them`] : []),
+  ];
+  for (const fault of faults.filter((it) => !warned.has(it))) {
+    warned.add(fault);
+    console.warn(`qrproved: ${fault} (quiet: true switches this off)`);
+  }
+}
+
 /** Returns the place of a name in a list, in capitals or small letters. */
 function named(name, value, list) {
   if (typeof value !== 'string') throw new TypeError(`${name} is a string: ${list.join(', ')}`);
@@ -52,10 +78,10 @@ function bytesOf(input) {
   return new TextEncoder().encode(input);
 }
 
-const SETTINGS = { level: 'L', version: 1, mode: 'auto' };
+const SETTINGS = { level: 'L', version: 1, rule: 'auto' };
 
-function settings({ level, version, mode }) {
-  return [whole('version', version, 1, 40), named('level', level, LEVELS), named('mode', mode, MODES)];
+function settings({ level, version, rule }) {
+  return [whole('version', version, 1, 40), named('level', level, LEVELS), named('rule', rule, RULES)];
 }
 
 export class QRSymbol {
@@ -70,7 +96,11 @@ export class QRSymbol {
   }
 
   svg(options = {}) {
-    return draw(this, { ...chosen(options, { margin: 4 }), type: 'SVG' });
+    const { margin, mm, quiet } = chosen(options, { margin: 4, mm: undefined, quiet: false });
+    const document = draw(this, { margin, type: 'SVG' });
+    if (mm !== undefined) length('mm', mm);
+    warn(quiet, margin, mm === undefined ? Infinity : mm / (this.side + 2 * margin));
+    return mm === undefined ? document : document.replace('<svg ', `<svg width="${mm}mm" height="${mm}mm" `);
   }
 
   text(options = {}) {
@@ -78,35 +108,48 @@ export class QRSymbol {
   }
 
   png(options = {}) {
-    const { scale, margin } = chosen(options, { scale: 8, margin: 4 });
-    return imageOf(this.modules, this.side, whole('scale', scale, 1, SCALE_MAX), whole('margin', margin, 0, 100));
+    const { scale, margin, mm, dpi, quiet } = chosen(options, { scale: 8, margin: 4, mm: undefined, dpi: undefined, quiet: false });
+    const modules = this.side + 2 * whole('margin', margin, 0, 100), pixels = modules * whole('scale', scale, 1, SCALE_MAX);
+    if (mm !== undefined && dpi !== undefined) throw new TypeError('mm and dpi both say how large the image is: one of them is given');
+    const size = mm !== undefined ? length('mm', mm) : dpi !== undefined ? MM_OF_INCH * pixels / length('dpi', dpi) : Infinity;
+    warn(quiet, margin, size / modules);
+    return imageOf(this.modules, this.side, scale, margin, Math.round(1000 * pixels / size));
   }
 
   dataURL(options = {}) {
-    const { type, scale, margin } = chosen(options, { type: 'png', scale: 8, margin: 4 });
-    if (named('type', type, ['png', 'svg']) === 1) return `data:image/svg+xml,${encodeURIComponent(this.svg({ margin }))}`;
-    return `data:image/png;base64,${btoa(Array.from(this.png({ scale, margin }), (byte) => String.fromCharCode(byte)).join(''))}`;
+    const { type, scale, ...others } = chosen(options, { type: 'png', scale: 8, margin: 4, mm: undefined, quiet: false });
+    if (named('type', type, ['png', 'svg']) === 1) return `data:image/svg+xml,${encodeURIComponent(this.svg(others))}`;
+    return `data:image/png;base64,${btoa(Array.from(this.png({ scale, ...others }), (byte) => String.fromCharCode(byte)).join(''))}`;
   }
 
   toString() {
     return this.text();
   }
+
+  toJSON() {
+    const { version, side, mask, level, modules } = this;
+    const rows = Array.from({ length: side }, (_, row) => modules.subarray(row * side, (row + 1) * side).join(''));
+    return { version, side, mask, level, rows };
+  }
 }
 
 export class Content {
-  constructor({ bytes, version, header }) {
-    Object.assign(this, { bytes, version, header });
+  constructor({ data, version, header }) {
+    Object.assign(this, { data, version, header });
   }
 
   text() {
-    return new TextDecoder('utf-8', { fatal: true, ignoreBOM: true }).decode(this.bytes);
+    return new TextDecoder('utf-8', { fatal: true, ignoreBOM: true }).decode(this.data);
+  }
+
+  toJSON() {
+    return { ...this, data: [...this.data] };
   }
 }
 
-export class Mended extends Content {
-  constructor({ level, mask, wrongModules, wrongFormatModules, changedMost, changedAllowed, ...content }) {
-    super(content);
-    Object.assign(this, { level: LEVELS[level], mask, wrongModules, wrongFormatModules, changedMost, changedAllowed });
+export class Mended {
+  constructor({ data, version, header, level, ...others }) {
+    Object.assign(this, { content: new Content({ data, version, header }), level: LEVELS[level], ...others });
   }
 
   get isSound() {
@@ -148,6 +191,13 @@ export function read(square) {
 
 export function mend(square) {
   return new Mended(mendedOf(...squareOf(square)));
+}
+
+export function parsePicture(image) {
+  const { data, width, height } = image ?? {};
+  const isOfBytes = data instanceof Uint8ClampedArray || data instanceof Uint8Array;
+  if (!(isOfBytes && width > 0 && height > 0 && data.length === 4 * width * height)) throw new TypeError('an image has width, height and, as its data, four bytes for each pixel, as a canvas has them');
+  return squaresIn(image);
 }
 
 export function draw(symbols, options = {}) {

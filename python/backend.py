@@ -22,10 +22,10 @@ MACHINES = {"Advanced Micro Devices X86-64": ("x86_64", (2, 5)), "AArch64": ("aa
 DATE = (1980, 1, 1, 0, 0, 0)  # of all files, so that a wheel is the same wherever it is made
 
 
-def project():
-    """Returns the names and texts of the section [project]; tomllib is newer than Python 3.9."""
-    section = (HERE / "pyproject.toml").read_text(encoding="utf-8").split("[project]")[1]
-    return dict(re.findall(r'^([a-z-]+) = "(.*)"$', section, re.MULTILINE))
+def section_of_project(section):
+    """Returns the names and texts of a section of pyproject.toml; tomllib is newer than Python 3.9."""
+    after = (HERE / "pyproject.toml").read_text(encoding="utf-8").split(f"[{section}]\n")[1]
+    return dict(re.findall(r'^([a-z-]+) = "(.*)"$', after.split("\n[")[0], re.MULTILINE))
 
 
 def tag_of(library):
@@ -52,7 +52,7 @@ def make(library, folder):
     """Writes the wheel into a folder, and returns its name."""
     if not library.is_file():
         sys.exit(f"backend.py: there is no library at {library}: run make lib")
-    it, tag = project(), tag_of(library)
+    it, tag = section_of_project("project"), tag_of(library)
     info = f"{it['name']}-{it['version']}.dist-info"
     described = (HERE / it["readme"]).read_text(encoding="utf-8")
     metadata = (f"Metadata-Version: 2.1\nName: {it['name']}\nVersion: {it['version']}\nSummary: {it['description']}\n"
@@ -61,6 +61,8 @@ def make(library, folder):
              for path in sorted((HERE / "qrproved").iterdir()) if path.suffix == ".py" or path.name == "py.typed"}
     files[IN_PACKAGE] = library.read_bytes()
     files[f"{info}/METADATA"] = metadata.encode()
+    commands = "".join(f"{name} = {call}\n" for name, call in section_of_project("project.scripts").items())
+    files[f"{info}/entry_points.txt"] = f"[console_scripts]\n{commands}".encode()
     files[f"{info}/WHEEL"] = f"Wheel-Version: 1.0\nGenerator: qrproved\nRoot-Is-Purelib: false\nTag: {tag}\n".encode()
     record = "".join(row_of_record(name, content) for name, content in files.items()) + f"{info}/RECORD,,\n"
     files[f"{info}/RECORD"] = record.encode()

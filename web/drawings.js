@@ -1,7 +1,8 @@
-/** Drawings as text, read back: those of type ASCII, ASCIIi and UTF8, with any margin, or copied by hand. */
+/** Drawings as text, read back: those of type ASCII, ASCIIi and UTF8, with any margin, or copied by hand; of one symbol or more. */
 
 const HALVES = { ' ': [1, 1], '\u2580': [0, 1], '\u2584': [1, 0], '\u2588': [0, 0] };
 const UNKNOWN = 2;
+const COUNT_LIMIT = 16; // symbols of a series
 
 /** Returns the rows of a drawing in half blocks, two for each line. A filled half is light. */
 function rowsOfBlocks(texts) {
@@ -13,13 +14,25 @@ function rowsOfPairs(texts) {
   return texts.map((text) => text.match(/../gu).map((pair) => ({ '##': 1, '  ': 0 })[pair] ?? UNKNOWN));
 }
 
-/** Returns the square around all modules that are not light; or null if it is none of a symbol. */
-function cut(rows) {
+/** Returns the rows of the least rectangle with all modules that are not light. */
+function boxOf(rows) {
   const used = [...rows.keys()].filter((row) => rows[row].some((module) => module !== 0));
-  const columns = rows.length ? [...rows[0].keys()].filter((column) => rows.some((row) => row[column] !== 0)) : [];
-  const side = used.length ? used.at(-1) - used[0] + 1 : 0;
-  if (side < 21 || side > 177 || side % 4 !== 1 || columns.at(-1) - columns[0] + 1 !== side) return null;
-  return { side, modules: Uint8Array.from(rows.slice(used[0], used[0] + side).flatMap((row) => row.slice(columns[0], columns[0] + side))) };
+  if (used.length === 0) return [];
+  const columns = [...rows[0].keys()].filter((column) => rows.some((row) => row[column] !== 0));
+  return rows.slice(used[0], used.at(-1) + 1).map((row) => row.slice(columns[0], columns.at(-1) + 1));
+}
+
+/** Returns each way to cut a rectangle into squares that are as wide as it, with gaps of one height between them. */
+function cutsOf(box) {
+  const side = box.length ? box[0].length : 0, ways = [];
+  if (side < 21 || side > 177 || side % 4 !== 1) return ways;
+  for (let count = 1; count <= COUNT_LIMIT; count++) {
+    const rest = box.length - count * side, gap = count === 1 ? 0 : rest / (count - 1);
+    if (rest < 0 || (count === 1 && rest > 0) || !Number.isInteger(gap)) continue;
+    const square = (_, k) => ({ side, modules: Uint8Array.from(box.slice(k * (side + gap), k * (side + gap) + side).flat()) });
+    ways.push(Array.from({ length: count }, square));
+  }
+  return ways;
 }
 
 /** Returns how many modules of the three finder patterns are right. */
@@ -34,8 +47,13 @@ function likeness({ side, modules }) {
   return right;
 }
 
-/** Returns the square that a text draws, dark on light or light on dark; or null. */
-export function squareIn(drawing) {
+/** Returns the mean likeness of squares. */
+function likenessOfAll(squares) {
+  return squares.reduce((sum, square) => sum + likeness(square), 0) / squares.length;
+}
+
+/** Returns the squares that a text draws, dark on light or light on dark; none if it draws no symbol. */
+export function squaresInText(drawing) {
   const texts = drawing.replaceAll('\r', '').replaceAll('\u00a0', ' ').split('\n');
   while (texts.length && !texts[0].trim()) texts.shift();
   while (texts.length && !texts.at(-1).trim()) texts.pop();
@@ -44,6 +62,7 @@ export function squareIn(drawing) {
   const full = texts.map((text) => text + ' '.repeat(width + (isBlocks ? 0 : width % 2) - [...text].length));
   const rows = width === 0 ? [] : isBlocks ? rowsOfBlocks(full) : rowsOfPairs(full);
   const inverse = rows.map((row) => row.map((module) => (module === UNKNOWN ? UNKNOWN : 1 - module)));
-  const squares = [cut(rows), cut(inverse)].filter((square) => square !== null);
-  return squares.sort((one, other) => likeness(other) - likeness(one))[0] ?? null;
+  // Of ways that are equally like, the one with more symbols: the gap of one symbol less might hold it by chance.
+  const ways = [rows, inverse].flatMap((it) => cutsOf(boxOf(it)));
+  return ways.sort((one, other) => likenessOfAll(other) - likenessOfAll(one) || other.length - one.length)[0] ?? [];
 }

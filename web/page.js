@@ -1,11 +1,13 @@
 /** The page: draws each symbol as its text is typed, a sheet of labels, and what a drawing contains. */
 import {
-  CheckError, FormatError, QRError, TooLongError, TooManyError, draw, encode, encodeSeries, mend,
+  CheckError, FormatError, PictureError, QRError, TooLongError, TooManyError, draw, encode, encodeSeries, mend, parsePicture,
 } from '../out/npm/package/qrproved.js';
-import { squareIn } from './drawings.js';
+import { squaresInText } from './drawings.js';
+import { zipOf } from './zip.js';
 
 const on = (id) => document.getElementById(id);
 const MOST_SHOWN = 200; // characters of a text in a name for screen readers
+const MODULE_LEAST = 0.25; // mm
 
 /** Returns a new element with a text or with elements in it. */
 function made(tag, ...inside) {
@@ -44,8 +46,8 @@ function lengthOf(text) {
 }
 
 function sentenceOf(error, text) {
-  const has = `The text has ${lengthOf(text)} and`;
-  if (error instanceof TooLongError) return `${has} does not fit one symbol at this level. Choose a lower level, or a series.`;
+  const has = `The text has ${lengthOf(text)} and`, choice = on('level').value === 'L' ? 'a series' : 'a lower level, or a series';
+  if (error instanceof TooLongError) return `${has} does not fit one symbol at this level. Choose ${choice}.`;
   if (error instanceof TooManyError) return `${has} takes more than 16 symbols of this version. Choose a larger one.`;
   return `No symbol: ${error.message}.`;
 }
@@ -54,7 +56,14 @@ function factsOf(text, margin) {
   const [{ version, side, mask, level }] = symbols;
   const what = symbols.length > 1 ? `${symbols.length} symbols of version ${version}-${level}` : `Version ${version}-${level}`;
   const facts = [what, `${side} × ${side} modules`, ...(mask === null ? [] : [`mask ${mask}`]), lengthOf(text)];
-  return facts.join(', ') + (margin < 4 ? '. Scanners need a margin of 4 modules.' : '.');
+  const ofMargin = margin < 4 ? ['Scanners need a margin of 4 modules.'] : [];
+  return [`${facts.join(', ')}.`, ...ofMargin, ...smallOf(numberIn('mm') / (side + 2 * margin))].join(' ');
+}
+
+/** Returns what is to be said of the width of a module in millimetres; 0 is not known. */
+function smallOf(module) {
+  const isSmall = module > 0 && module < MODULE_LEAST;
+  return isSmall ? [`A module is ${module.toFixed(2)} mm wide: under ${MODULE_LEAST} mm few scanners read it.`] : [];
 }
 
 /** Draws the symbol of the text that is in the field now. */
@@ -72,31 +81,40 @@ function show() {
     if (!(error instanceof QRError || error instanceof TypeError)) throw error;
     say(on('facts'), sentenceOf(error, text), 'fault');
   }
+  on('letters').hidden = /^[\0-\x7f]*$/.test(text);
   on('version-name').textContent = on('series').checked ? 'Version of each' : 'Version, at least';
   const caption = (k) => (symbols.length > 1 ? `${k + 1} of ${symbols.length}` : '');
-  on('drawing').replaceChildren(...symbols.map((it, k) => figureOf(it.svg({ margin }), text, caption(k))));
+  on('drawing').replaceChildren(...symbols.map((it, k) => figureOf(it.svg({ margin, quiet: true }), text, caption(k))));
+  on('drawing').style.setProperty('--mm', `${numberIn('mm') ?? 60}mm`);
   on('drawing').classList.toggle('many', symbols.length > 1);
   for (const id of ['save-svg', 'save-png', 'copy', 'print-symbol']) on(id).disabled = symbols.length === 0;
   on('copy').disabled ||= symbols.length > 1;
 }
 
 /** Saves bytes or a text as a file. */
-function save(name, type, content) {
+function save(name, type, ...content) {
   const link = document.createElement('a');
-  link.href = URL.createObjectURL(new Blob([content], { type }));
+  link.href = URL.createObjectURL(new Blob(content, { type }));
   link.download = name;
   link.click();
   setTimeout(() => URL.revokeObjectURL(link.href), 60000);
 }
 
+/** Returns the document of all symbols, one below the other, with the width that is wanted. */
+function documentOf() {
+  const mm = numberIn('mm'), drawn = draw(symbols, { type: 'SVG', margin: numberIn('margin') });
+  return mm === null ? drawn : drawn.replace('<svg ', `<svg width="${mm}mm" height="${mm * symbols.length}mm" `);
+}
+
 function saveDocument() {
-  save('symbol.svg', 'image/svg+xml', draw(symbols, { type: 'SVG', margin: numberIn('margin') }));
+  save('symbol.svg', 'image/svg+xml', documentOf());
 }
 
 function pngs() {
   const scale = numberIn('scale');
   if (scale === null) say(on('facts'), 'A module has from 1 to 100 pixels on a side.', 'fault');
-  return scale === null ? [] : symbols.map((it) => it.png({ scale, margin: numberIn('margin') }));
+  const margin = numberIn('margin'), mm = numberIn('mm') ?? undefined;
+  return scale === null ? [] : symbols.map((it) => it.png({ scale, margin, mm, quiet: true }));
 }
 
 function saveImages() {
@@ -111,7 +129,7 @@ async function copy() {
     await navigator.clipboard.write([new ClipboardItem({ 'image/png': new Blob([png], { type: 'image/png' }) })]);
     say(on('facts'), 'The image is in the clipboard.', 'good');
   } catch {
-    await navigator.clipboard?.writeText(symbols[0].svg({ margin: numberIn('margin') })).then(
+    await navigator.clipboard?.writeText(documentOf()).then(
       () => say(on('facts'), 'The SVG document is in the clipboard, as a text.', 'good'),
       () => say(on('facts'), 'This browser lets no page copy: download the image.', 'fault'));
   }
@@ -121,19 +139,64 @@ async function copy() {
 
 let labels = new Map(); // the figures that are shown, by their level and line
 
+/** Returns the text of a line, and its caption: what stands after a tab, or the text. */
+function partsOf(line) {
+  const [text, ...caption] = line.split('\t');
+  return [text, caption.length ? caption.join(' ') : text];
+}
+
 /** Returns the figure of a line: one that was shown before, if there is one. */
 function labelOf(line, level, before) {
-  const key = `${level} ${line}`, figure = before.get(key)?.pop() ?? figureOf(encode(line, { level }).svg(), line, line);
+  const key = `${level} ${line}`, [text, caption] = partsOf(line);
+  const figure = before.get(key)?.pop() ?? figureOf(encode(text, { level }).svg(), text, caption);
   if (!labels.has(key)) labels.set(key, []);
   labels.get(key).push(figure);
   return figure;
+}
+
+const SIZES = ['columns', 'rows', 'across', 'down', 'left', 'top']; // of label paper
+
+/** Returns sheets of label paper with figures; or null if a size of the paper is out of range. */
+function papersOf(figures) {
+  const [columns, rows, ...lengths] = SIZES.map(numberIn);
+  if ([columns, rows, ...lengths].includes(null)) return null;
+  const papers = [];
+  for (let k = 0; k < figures.length; k += columns * rows) {
+    const paper = made('div', ...figures.slice(k, k + columns * rows));
+    paper.className = 'paper';
+    paper.style.setProperty('--columns', columns);
+    SIZES.slice(2).forEach((name, at) => paper.style.setProperty(`--${name}`, `${lengths[at]}mm`));
+    papers.push(paper);
+  }
+  return papers;
+}
+
+/** Returns what is to be said of the narrowest modules of figures that are `width` mm wide. */
+function smallestOf(figures, width) {
+  const modules = figures.map((figure) => figure.firstElementChild.viewBox.baseVal.width);
+  return smallOf(width / modules.reduce((most, it) => Math.max(most, it), 0));
+}
+
+/** Saves the images of all lines that fit a symbol, each named by its line. */
+function saveAll() {
+  const scale = numberIn('scale') ?? 8, level = on('sheet-level').value, width = numberIn('width') ?? undefined;
+  const files = on('lines').value.split('\n').flatMap((line, k) => {
+    try {
+      const [text] = partsOf(line), name = `${String(k + 1).padStart(5, '0')}.png`;
+      return text.trim() === '' ? [] : [{ name, content: encode(text, { level }).png({ scale, mm: width, quiet: true }) }];
+    } catch (error) {
+      if (!(error instanceof QRError || error instanceof TypeError)) throw error;
+      return []; // showSheet has said so
+    }
+  });
+  save('labels.zip', 'application/zip', ...zipOf(files));
 }
 
 function showSheet() {
   const width = numberIn('width'), level = on('sheet-level').value, refused = [], before = labels;
   labels = new Map();
   const figures = on('lines').value.split('\n').flatMap((line, k) => {
-    if (line.trim() === '') return [];
+    if (partsOf(line)[0].trim() === '') return [];
     try {
       return [labelOf(line, level, before)];
     } catch (error) {
@@ -143,10 +206,14 @@ function showSheet() {
     }
   });
   if (width !== null) on('sheet').style.setProperty('--width', `${width}mm`);
-  on('sheet').replaceChildren(...figures);
-  on('print-sheet').disabled = figures.length === 0;
-  const count = `${figures.length} ${figures.length === 1 ? 'label' : 'labels'}.`;
-  if (width === null) say(on('sheet-facts'), 'A label is from 10 to 180 mm wide.', 'wide fault');
+  const papers = on('paper').checked ? papersOf(figures) : figures;
+  on('paper-sizes').hidden = !on('paper').checked;
+  on('sheet').classList.toggle('on-paper', on('paper').checked);
+  on('sheet').replaceChildren(...papers ?? figures);
+  on('print-sheet').disabled = on('save-zip').disabled = figures.length === 0;
+  const count = [`${figures.length} ${figures.length === 1 ? 'label' : 'labels'}.`, ...smallestOf(figures, width)].join(' ');
+  if (width === null) say(on('sheet-facts'), 'A symbol is from 10 to 180 mm wide.', 'wide fault');
+  else if (papers === null) say(on('sheet-facts'), 'A size of the label paper is out of range.', 'wide fault');
   else if (refused.length) say(on('sheet-facts'), `${count} Too long at this level: line ${refused.join(', ')}.`, 'wide fault');
   else say(on('sheet-facts'), count, 'wide');
 }
@@ -160,9 +227,9 @@ const REASONS = [
 
 function textOf(found) {
   try {
-    return found.text();
+    return found.content.text();
   } catch {
-    return `${Array.from(found.bytes, (byte) => byte.toString(16).padStart(2, '0')).join(' ')} (bytes that are no UTF-8)`;
+    return `${Array.from(found.content.data, (byte) => byte.toString(16).padStart(2, '0')).join(' ')} (bytes that are no UTF-8)`;
   }
 }
 
@@ -182,28 +249,93 @@ function spentOf(found, modules) {
   return [`${percent} % in the most damaged block: ${found.changedMost} of ${found.changedAllowed} codewords.${more}`, meter];
 }
 
-function showFound() {
-  const drawing = on('pasted').value, square = squareIn(drawing);
-  on('found-drawing').replaceChildren();
-  if (drawing.trim() === '') return say(on('found'), 'Paste a drawing.');
-  if (square === null) return say(on('found'), 'There is no square with 21, 25, and so on to 177 modules on a side.', 'fault');
-  on('found-drawing').append(figureOf(picture(square), 'the drawing', ''));
+/** Returns what a square contains, as an element: a list, or a paragraph that says why it cannot be read. */
+function contentOf({ modules }) {
   try {
-    const found = mend(square.modules), { header } = found;
+    const found = mend(modules), { version, header } = found.content;
     const place = header ? `, ${header.position + 1} of ${header.last + 1} of a series` : '';
     const rows = [
       ['Contains', [textOf(found)]],
-      ['Symbol', [`Version ${found.version}-${found.level}, mask ${found.mask}${place}`]],
-      ['Damage', [damageOf(found, square.modules)]],
-      ['Spent', spentOf(found, square.modules)],
+      ['Symbol', [`Version ${version}-${found.level}, mask ${found.mask}${place}`]],
+      ['Damage', [damageOf(found, modules)]],
+      ['Spent', spentOf(found, modules)],
     ];
-    say(on('found'), '', found.isSound ? 'good' : '');
-    return on('found').append(made('dl', ...rows.flatMap(([name, inside]) => [made('dt', name), made('dd', ...inside)])));
+    const list = made('dl', ...rows.flatMap(([name, inside]) => [made('dt', name), made('dd', ...inside)]));
+    if (found.isSound) list.className = 'good';
+    return list;
   } catch (error) {
     if (!(error instanceof QRError)) throw error;
     const [, reason] = REASONS.find(([kind]) => error instanceof kind) ?? [null, 'what it says cannot be parsed.'];
-    return say(on('found'), `Not readable: ${reason}`, 'fault');
+    const paragraph = made('p', `Not readable: ${reason}`);
+    paragraph.className = 'fault';
+    return paragraph;
   }
+}
+
+/** Shows squares that were found, and what each contains. */
+function showSquares(squares) {
+  const caption = (k) => (squares.length > 1 ? `${k + 1} of ${squares.length}` : '');
+  on('found-drawing').replaceChildren(...squares.map((square, k) => figureOf(picture(square), 'what was found', caption(k))));
+  on('found-drawing').classList.toggle('many', squares.length > 1);
+  say(on('found'), '');
+  on('found').append(...squares.flatMap((square, k) => [...(squares.length > 1 ? [made('h2', caption(k))] : []), contentOf(square)]));
+}
+
+function showFound() {
+  const drawing = on('pasted').value, squares = squaresInText(drawing);
+  showSquares(squares);
+  if (drawing.trim() === '') say(on('found'), 'Paste a drawing.');
+  else if (squares.length === 0) say(on('found'), 'There is no square with 21, 25, and so on to 177 modules on a side.', 'fault');
+}
+
+// ---- an image
+
+const PIXELS_MAX = 4000; // on a side of an image; a larger one is made smaller
+const SVG_PIXELS = 1600; // of the width of an SVG document, which may have no size
+
+/** Returns an image element of an SVG document. */
+async function imageOfDocument(file) {
+  const image = new Image();
+  image.src = `data:image/svg+xml,${encodeURIComponent(await file.text())}`;
+  await image.decode();
+  return image;
+}
+
+/** Returns the pixels of a file. */
+async function pixelsOf(file) {
+  const isDocument = file.type === 'image/svg+xml', image = await (isDocument ? imageOfDocument(file) : createImageBitmap(file));
+  const size = [image.naturalWidth ?? image.width, image.naturalHeight ?? image.height].map((it) => it || SVG_PIXELS);
+  const scale = Math.min(isDocument ? SVG_PIXELS / size[0] : 1, PIXELS_MAX / Math.max(...size));
+  const [width, height] = size.map((it) => Math.max(1, Math.round(it * scale)));
+  const context = Object.assign(document.createElement('canvas'), { width, height }).getContext('2d');
+  context.drawImage(image, 0, 0, width, height);
+  return context.getImageData(0, 0, width, height);
+}
+
+/** Shows what the symbols of an image contain. */
+async function showImage(file) {
+  if (!file) return;
+  let pixels;
+  showSquares([]);
+  try {
+    pixels = await pixelsOf(file);
+  } catch {
+    return say(on('found'), 'Not readable: this browser cannot open the file as an image.', 'fault');
+  }
+  try {
+    return showSquares(parsePicture(pixels).map((modules) => ({ modules, side: Math.sqrt(modules.length) })));
+  } catch (error) {
+    if (!(error instanceof PictureError)) throw error;
+    return say(on('found'), `Not readable: ${error.message}.`, 'fault');
+  }
+}
+
+/** Takes an image that is dropped or pasted, while labels are checked. */
+function takeImage(event, given) {
+  const file = [...given?.files ?? []].find((it) => it.type.startsWith('image/'));
+  if (!file || on('check').hidden) return;
+  event.preventDefault();
+  showImage(file);
 }
 
 /** Returns a drawing of a square in which unknown modules are grey. */
@@ -238,9 +370,9 @@ function choose(tab) {
 for (const tab of TABS) {
   tab.addEventListener('click', () => choose(tab));
   tab.addEventListener('keydown', ({ key }) => {
-    const step = { ArrowRight: 1, ArrowLeft: -1 }[key];
-    if (!step) return;
-    const next = TABS[(TABS.indexOf(tab) + step + TABS.length) % TABS.length];
+    const at = TABS.indexOf(tab), places = { ArrowRight: (at + 1) % TABS.length, ArrowLeft: at - 1, Home: 0, End: -1 };
+    if (!Object.hasOwn(places, key)) return;
+    const next = TABS.at(places[key]);
     choose(next);
     next.focus();
   });
@@ -250,13 +382,21 @@ for (let version = 1; version <= 40; version++) {
   const side = 17 + 4 * version;
   on('version').append(new Option(`${version}, ${side} × ${side}`, version));
 }
-for (const id of ['text', 'level', 'version', 'margin', 'series']) on(id).addEventListener('input', show);
-for (const id of ['lines', 'sheet-level', 'width']) on(id).addEventListener('input', showSheet);
+// The address may have the text, as in index.html#text=Shelf%2012, which no server is told.
+const given = new URLSearchParams(location.hash.slice(1)).get('text') ?? new URLSearchParams(location.search).get('text');
+if (given !== null) on('text').value = given;
+for (const id of ['text', 'level', 'version', 'margin', 'mm', 'series']) on(id).addEventListener('input', show);
+for (const id of ['lines', 'sheet-level', 'width', 'paper', ...SIZES]) on(id).addEventListener('input', showSheet);
 for (const form of document.forms) form.addEventListener('submit', (event) => event.preventDefault());
 on('pasted').addEventListener('input', showFound);
 on('paste-sample').addEventListener('click', pasteSample);
+on('image').addEventListener('change', () => showImage(on('image').files[0]));
+document.addEventListener('dragover', (event) => event.preventDefault());
+document.addEventListener('drop', (event) => takeImage(event, event.dataTransfer));
+document.addEventListener('paste', (event) => takeImage(event, event.clipboardData));
 on('save-svg').addEventListener('click', saveDocument);
 on('save-png').addEventListener('click', saveImages);
+on('save-zip').addEventListener('click', saveAll);
 on('copy').addEventListener('click', copy);
 for (const id of ['print-symbol', 'print-sheet']) on(id).addEventListener('click', () => print());
 show();

@@ -8,7 +8,7 @@ import { inflateSync } from 'node:zlib';
 
 const folder = process.env.QRPROVED ?? new URL('../../out/npm/package', import.meta.url).pathname;
 const at = pathToFileURL(resolve(folder, 'qrproved.js')).href;
-const { draw, encode, encodeSeries, load, mend, read, ...errors } = await import(at);
+const { draw, encode, encodeSeries, load, mend, parsePicture, read, ...errors } = await import(at);
 
 // The memory of the module, which the package keeps to itself.
 let memory;
@@ -56,7 +56,7 @@ test('eight digits at 1-M', () => {
   assert.equal(read(symbol).text(), '01234567');
   assert.equal(read(EIGHT_DIGITS).text(), '01234567');
   const mended = mend(EIGHT_DIGITS);
-  assert.deepEqual([mended.text(), mended.level, mended.mask, mended.isSound], ['01234567', 'M', 0, true]);
+  assert.deepEqual([mended.content.text(), mended.level, mended.mask, mended.isSound], ['01234567', 'M', 0, true]);
   // the finder patterns, the dark module and a separator
   for (let k = 0; k < 7; k++) assert.ok(symbol.dark(0, k) && symbol.dark(k, 0) && symbol.dark(20, k) && symbol.dark(k, 20));
   assert.ok(symbol.dark(13, 8) && !symbol.dark(7, 7));
@@ -76,7 +76,7 @@ test('inputs: strings as UTF-8, bytes as they are', () => {
   const text = 'Zażółć ✓ 🙂';
   assert.equal(read(encode(text)).text(), text);
   assert.deepEqual(encode(text).modules, encode(new TextEncoder().encode(text)).modules);
-  assert.deepEqual(read(encode(bytes(256))).bytes, bytes(256));
+  assert.deepEqual(read(encode(bytes(256))).data, bytes(256));
   assert.deepEqual(read(encode(Buffer.from('buffer'))).text(), 'buffer');
   assert.throws(() => read(encode(Uint8Array.of(255))).text(), TypeError);
   assert.equal(read(encode('\ufeffmarked')).text(), '\ufeffmarked');
@@ -87,15 +87,25 @@ test('inputs: strings as UTF-8, bytes as they are', () => {
 test('settings', () => {
   assert.equal(encode('a', { version: 7, level: 'h' }).version, 7);
   assert.equal(encode('a', { version: undefined, level: undefined }).level, 'L');
-  assert.ok(encode('1'.repeat(100)).version < encode('1'.repeat(100), { mode: 'byte' }).version);
+  assert.ok(encode('1'.repeat(100)).version < encode('1'.repeat(100), { rule: 'bytes_only' }).version);
   const kanji = Uint8Array.from({ length: 60 }, (_, k) => (k % 2 ? 0x5F : 0x93));
-  assert.ok(encode(kanji, { mode: 'kanji' }).version < encode(kanji).version);
-  for (const wrong of [{ version: 0 }, { version: 41 }, { version: 1.5 }, { version: NaN }, { level: 'X' }, { mode: 'numeric' }]) {
+  assert.ok(encode(kanji, { rule: 'with_kanji' }).version < encode(kanji).version);
+  for (const wrong of [{ version: 0 }, { version: 41 }, { version: 1.5 }, { version: NaN }, { level: 'X' }, { rule: 'numeric' }]) {
     assert.throws(() => encode('a', wrong), refused('SettingsError', 5, 'SETTINGS'), JSON.stringify(wrong));
   }
-  for (const wrong of [{ errorCorrectionLevel: 'H' }, { version: '7' }, { level: 1 }, { mode: null }, null, 'H', 7]) {
+  for (const wrong of [{ errorCorrectionLevel: 'H' }, { version: '7' }, { level: 1 }, { rule: null }, null, 'H', 7]) {
     assert.throws(() => encode('a', wrong), TypeError, JSON.stringify(wrong));
   }
+});
+
+test('JSON', () => {
+  const symbol = encode('01234567', { level: 'M' });
+  const rows = Array.from({ length: 21 }, (_, row) => symbol.modules.slice(21 * row, 21 * row + 21).join(''));
+  assert.deepEqual(JSON.parse(JSON.stringify(symbol)), { version: 1, side: 21, mask: symbol.mask, level: 'M', rows });
+  assert.equal(rows[0].slice(0, 7) + rows[20].slice(0, 7), '1'.repeat(14));
+  const content = { data: [65, 255], version: 1, header: null }, mended = mend(encode(Uint8Array.of(65, 255)));
+  assert.deepEqual(JSON.parse(JSON.stringify(mended.content)), content);
+  assert.deepEqual(JSON.parse(JSON.stringify(mended)).content, content);
 });
 
 test('refusals', () => {
@@ -118,12 +128,36 @@ test('refusals', () => {
   for (const wrong of [undefined, 'text', [1], new ArrayBuffer(441)]) assert.throws(() => read(wrong), TypeError);
 });
 
+test('a refusal says how many bytes there were, and how many fit', () => {
+  const bytes3000 = 'the input has 3,000 bytes and does not fit a symbol: version 40-';
+  const wanted = [
+    [{}, 'L holds 2,953 bytes, 4,296 alphanumeric characters or 7,089 digits'],
+    [{ level: 'M', rule: 'bytes_only' }, 'M holds 2,331 bytes'],
+    [{ level: 'Q', rule: 'with_kanji' }, 'Q holds 1,663 bytes, 2,420 alphanumeric characters, 3,993 digits or 1,024 kanji'],
+    [{ level: 'H', version: 7 }, 'H holds 1,273 bytes, 1,852 alphanumeric characters or 3,057 digits'],
+  ];
+  for (const [options, text] of wanted) assert.throws(() => encode('x'.repeat(3000), options), { message: bytes3000 + text });
+  assert.throws(() => encodeSeries('x'.repeat(1000), { version: 1, level: 'H' }),
+    { message: 'the input has 1,000 bytes and takes more than 16 symbols of version 1-H' });
+});
+
+test('an engine that does not compile the module', () => {
+  const script = `const { load, encode } = await import(${JSON.stringify(at)});
+    WebAssembly.Module = function () { throw new WebAssembly.CompileError('refused'); };
+    WebAssembly.instantiate = async () => { throw new WebAssembly.CompileError('refused'); };
+    try { encode('a'); } catch (error) { console.log(error.message, error.cause.name); }
+    await load().catch((error) => console.log(error.message, error.cause.name));`;
+  const lines = execFileSync(process.execPath, ['--input-type=module', '-e', script], { encoding: 'utf8' }).trim().split('\n');
+  assert.equal(lines.length, 2);
+  for (const line of lines) assert.match(line, /does not compile .*\(refused\): .*'wasm-unsafe-eval'.* CompileError$/);
+});
+
 test('series', () => {
   const input = bytes(100), symbols = encodeSeries(input, { version: 2, level: 'Q' });
   const read16 = symbols.map(read), parity = input.reduce((sum, byte) => sum ^ byte, 0);
   assert.ok(symbols.length > 1 && symbols.every((it) => it.version === 2 && it.side === 25 && it.mask === null && it.level === 'Q'));
   assert.deepEqual(read16.map((it) => it.header), symbols.map((_, k) => ({ position: k, last: symbols.length - 1, parity })));
-  assert.deepEqual(Uint8Array.from(read16.flatMap((it) => [...it.bytes])), input);
+  assert.deepEqual(Uint8Array.from(read16.flatMap((it) => [...it.data])), input);
   assert.equal(encodeSeries('short', { version: 2 }).length, 1);
   assert.equal(read(encodeSeries('short', { version: 2 })[0]).header, null);
   assert.equal(draw(symbols, { type: 'ASCII' }), symbols.map((it) => it.text({ type: 'ASCII' })).join(''));
@@ -135,13 +169,13 @@ test('series', () => {
 
 test('mending', () => {
   const symbol = encode('Shelf 12', { level: 'M' }), sound = mend(symbol), corner = 20 * 21 + 20;
-  assert.deepEqual([sound.text(), sound.level, sound.mask, sound.version], ['Shelf 12', 'M', symbol.mask, 1]);
+  assert.deepEqual([sound.content.text(), sound.level, sound.mask, sound.content.version], ['Shelf 12', 'M', symbol.mask, 1]);
   assert.deepEqual([sound.isSound, sound.spent], [true, 0]);
   const one = mend(inverted(symbol, corner));
-  assert.deepEqual([one.text(), one.isSound, one.wrongModules], ['Shelf 12', false, 1]);
+  assert.deepEqual([one.content.text(), one.isSound, one.wrongModules], ['Shelf 12', false, 1]);
   assert.deepEqual([one.changedMost, one.changedAllowed, one.spent], [1, 4, 0.25]);
   const unknown = symbol.modules.slice().fill(2, corner - 5);
-  assert.deepEqual([mend(unknown).text(), mend(unknown).wrongModules, mend(unknown).changedMost], ['Shelf 12', 6, 0]);
+  assert.deepEqual([mend(unknown).content.text(), mend(unknown).wrongModules, mend(unknown).changedMost], ['Shelf 12', 6, 0]);
   assert.equal(mend(inverted(symbol, 8)).wrongFormatModules, 1);
 });
 
@@ -182,7 +216,7 @@ function chunks(png) {
 test('PNG images have the modules, and lines with their filter byte', () => {
   const cases = [[1, 1, 0], [1, 8, 4], [2, 3, 4], [5, 7, 1], [7, 16, 4], [10, 100, 0], [20, 2, 9], [40, 1, 4], [40, 5, 4], [40, 24, 100]];
   for (const [version, scale, margin] of cases) {
-    const symbol = encode(bytes(16 * version, version), { version, level: 'L', mode: 'byte' }), { side } = symbol;
+    const symbol = encode(bytes(16 * version, version), { version, level: 'L', rule: 'bytes_only' }), { side } = symbol;
     const [[first, head], [second, data], ...rest] = chunks(symbol.png({ scale, margin })), pixels = (side + 2 * margin) * scale;
     assert.deepEqual([first, second, ...rest.map(([name]) => name)], ['IHDR', 'IDAT', 'IEND']);
     assert.deepEqual([...head], [0, 0, pixels >> 8, pixels & 255, 0, 0, pixels >> 8, pixels & 255, 1, 0, 0, 0, 0]);
@@ -199,6 +233,97 @@ test('PNG images have the modules, and lines with their filter byte', () => {
     }
     assert.equal(wrong, 0, `version ${version}, scale ${scale}, margin ${margin}`);
   }
+});
+
+/**
+ * Returns an image of symbols beside each other, in colours of red, green, blue and alpha. `turn` says for a place of the image where
+ * it comes from.
+ */
+function imageOf(symbols, { scale = 3, margin = 4, dark = [0, 0, 0, 255], light = [255, 255, 255, 255], turn = (x, y) => [x, y] } = {}) {
+  const side = (Math.max(...symbols.map((it) => it.side)) + 2 * margin) * scale, size = Math.floor(side);
+  const data = new Uint8ClampedArray(4 * size * size * symbols.length), width = size * symbols.length;
+  for (let place = 0; place < width * size; place++) {
+    const [x, y] = turn(place % width, Math.floor(place / width), size), symbol = symbols[Math.floor(x / size)];
+    const [column, row] = [x % size, y].map((it) => Math.floor(it / scale) - margin);
+    const isInside = [row, column].every((it) => it >= 0 && it < symbol.side);
+    data.set(isInside && symbol.dark(row, column) ? dark : light, 4 * place);
+  }
+  return { data, width, height: size };
+}
+
+const GREEN = [0, 90, 0, 255], YELLOW = [255, 255, 160, 255], CLEAR = [0, 0, 0, 0], WHITE = [255, 255, 255, 255];
+
+test('symbols in images', () => {
+  for (const [version, scale, margin] of [[1, 1, 0], [1, 1, 10], [2, 12, 3], [5, 2.5, 4], [7, 3.3, 4], [20, 2, 2], [40, 1, 4], [40, 2.2, 1]]) {
+    const symbol = encode(`version ${version}`, { version });
+    for (const [dark, light] of [[GREEN, YELLOW], [YELLOW, GREEN], [GREEN, CLEAR], [WHITE, CLEAR]]) {
+      const found = parsePicture(imageOf([symbol], { scale, margin, dark, light }));
+      assert.deepEqual(found, [symbol.modules], `${version} ${scale} ${margin} ${dark} ${light}`);
+    }
+  }
+  const two = [encode('one', { level: 'H' }), encode('two', { version: 1 })];
+  assert.deepEqual(parsePicture(imageOf(two)), two.map((it) => it.modules));
+});
+
+test('modules of an image between dark and light are not known', () => {
+  const symbol = encode('Shelf 12', { level: 'H' }), image = imageOf([symbol], { scale: 4, margin: 4 }), wanted = symbol.modules.slice();
+  for (const [row, column] of [[15, 15], [15, 16], [16, 15]]) {
+    wanted[row * symbol.side + column] = 2;
+    for (let y = 4 * (row + 4); y < 4 * (row + 5); y++) {
+      for (let x = 4 * (column + 4); x < 4 * (column + 5); x++) image.data.set([128, 128, 128, 255], 4 * (y * image.width + x));
+    }
+  }
+  const [modules] = parsePicture(image);
+  assert.deepEqual(modules, wanted);
+  assert.deepEqual([mend(modules).content.text(), mend(modules).wrongModules], ['Shelf 12', 3]);
+});
+
+test('images without an upright symbol', () => {
+  const symbol = encode('Shelf 12', { version: 2 });
+  const refused = (why) => (error) => error instanceof errors.PictureError && why.test(error.message);
+  for (const turn of [(x, y, size) => [y, size - 1 - x], (x, y, size) => [size - 1 - x, size - 1 - y], (x, y, size) => [size - 1 - y, x]]) {
+    assert.throws(() => parsePicture(imageOf([symbol], { turn })), refused(/not upright/));
+  }
+  const slanted = (x, y, size) => [(x + y) % size, (y - x + size) % size];
+  assert.throws(() => parsePicture(imageOf([symbol], { turn: slanted })), refused(/no upright symbol/));
+  assert.throws(() => parsePicture(imageOf([symbol], { scale: 1.6 })), refused(/less than two pixels/));
+  assert.throws(() => parsePicture({ data: new Uint8ClampedArray(400).fill(255), width: 10, height: 10 }), refused(/no upright symbol/));
+  const sized = { width: 1, height: 1 };
+  for (const wrong of [undefined, null, {}, symbol, { data: new Uint8Array(3), ...sized }, { data: [0, 0, 0, 0], ...sized }]) {
+    assert.throws(() => parsePicture(wrong), TypeError);
+  }
+});
+
+test('sizes in millimetres and pixels of an inch', () => {
+  const symbol = encode('A'), plain = symbol.svg(); // 29 modules wide with its margin, and 232 pixels
+  assert.equal(symbol.svg({ mm: 14.5 }), plain.replace('<svg ', '<svg width="14.5mm" height="14.5mm" '));
+  for (const [options, wanted] of [[{ dpi: 300 }, 11811], [{ dpi: 203.2 }, 8000], [{ mm: 29 }, 8000], [{ mm: 14.5 }, 16000]]) {
+    const found = chunks(symbol.png(options)), [, data] = found[1], view = new DataView(data.buffer, data.byteOffset);
+    assert.deepEqual(found.map(([name]) => name), ['IHDR', 'pHYs', 'IDAT', 'IEND']);
+    assert.deepEqual([view.getUint32(0), view.getUint32(4), data[8], data.length], [wanted, wanted, 1, 9]);
+  }
+  assert.throws(() => symbol.png({ mm: 20, dpi: 300 }), TypeError);
+  for (const wrong of [0, -1, NaN, 100001]) {
+    assert.throws(() => symbol.svg({ mm: wrong }), refused('SettingsError', 5, 'SETTINGS'));
+    assert.throws(() => symbol.png({ dpi: wrong }), refused('SettingsError', 5, 'SETTINGS'));
+  }
+  assert.throws(() => symbol.png({ mm: '20' }), TypeError);
+});
+
+test('small margins and modules are warned of, each once', () => {
+  const symbol = encode('A'), said = [], { warn } = console;
+  console.warn = (text) => said.push(text);
+  try {
+    symbol.png({ mm: 5, quiet: true });
+    symbol.dataURL({ type: 'svg', mm: 7.25 });
+    for (let k = 0; k < 3; k++) {
+      symbol.png({ scale: 2, dpi: 300, margin: 4 });
+      symbol.svg({ mm: 7.2 });
+    }
+  } finally {
+    console.warn = warn;
+  }
+  assert.deepEqual(said.map((it) => it.slice(0, 31)), ['qrproved: modules of 0.169 mm: ', 'qrproved: modules of 0.248 mm: ']);
 });
 
 test('many calls take no more memory than one', () => {

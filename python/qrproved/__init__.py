@@ -2,8 +2,8 @@
 
 encode returns the symbol of a text or of bytes, encode_series the symbols of a series. A Symbol is drawn by its methods as PNG,
 as SVG or as text. read reads a symbol that is as it was drawn; mend reads a damaged one, and says how damaged it is.
-parse_drawing finds the modules of a drawing. Modules are bytes, row by row from the top left, without the quiet zone of four
-light modules that a drawing needs on each side.
+parse_drawing finds the modules of a drawing as text, parse_picture those of a PNG picture or an SVG document. Modules are bytes,
+row by row from the top left, without the quiet zone of four light modules that a drawing needs on each side.
 
 Each refusal is an exception of the class Error, also where a number is out of range or a name is not known. A number that is no
 integer, as a bool or a float, is a TypeError. Calls may run side by side in any number of threads.
@@ -14,14 +14,17 @@ import base64
 import ctypes
 import operator
 import os
+import sys
+import warnings
 from dataclasses import dataclass
 from enum import IntEnum
-from typing import TYPE_CHECKING, NamedTuple, NoReturn, Optional, Union
+from typing import TYPE_CHECKING, BinaryIO, NamedTuple, NoReturn, Optional, Union
 
 from . import _library, _png
 from ._drawings import parse_drawing
+from ._pictures import parse_picture
 from ._errors import (CheckError, EmptyError, Error, FormatError, OutOfMemoryError, RoomError, SegmentsError, SettingsError,
-                      SideError, TooLongError, TooManyError, raise_for)
+                      SideError, TooLongError, TooManyError, raise_for, too_long)
 from ._library import BYTES_MAX, COUNT_MAX, MARGIN_MAX, SERIES_MAX, SIDE_MAX, SYMBOL_MAX
 
 if TYPE_CHECKING:
@@ -32,12 +35,20 @@ if TYPE_CHECKING:
     Name = Union[int, str]
 
 __all__ = ["BYTES_MAX", "COUNT_MAX", "MARGIN_MAX", "SCALE_MAX", "SERIES_MAX", "SIDE_MAX", "SYMBOL_MAX", "CheckError", "Content", "Drawing",
-           "EmptyError", "Error", "FormatError", "Header", "Level", "Mended", "OutOfMemoryError", "RoomError", "Rule",
+           "EmptyError", "Error", "FormatError", "Header", "Level", "Mended", "OutOfMemoryError", "PrintWarning", "RoomError", "Rule",
            "SegmentsError", "SettingsError", "SideError", "Symbol", "TooLongError", "TooManyError", "draw", "encode",
-           "encode_series", "mend", "parse_drawing", "read"]
+           "encode_series", "mend", "parse_drawing", "parse_picture", "read"]
 
 _calls = _library.load()
 SCALE_MAX = 100
+SIZE_MAX = 100_000  # of mm and dpi
+MM_OF_INCH = 25.4
+MARGIN_WANTED, MODULE_MIN = 4, 0.25  # modules, and millimetres
+
+
+class PrintWarning(UserWarning):
+    """Scanners may not read what is drawn: the margin is under 4 modules, or a module is under 0.25 mm wide. To have no such
+    warnings: warnings.simplefilter("ignore", qrproved.PrintWarning)."""
 
 
 class Level(IntEnum):
@@ -108,65 +119,103 @@ class Symbol:
         starts = range(0, len(self.modules), self.side)
         return [[module != 0 for module in self.modules[start:start + self.side]] for start in starts]
 
-    def png(self, *wrong: NoReturn, scale: int = 8, margin: int = 4) -> bytes:
+    def png(self, *wrong: NoReturn, scale: int = 8, margin: int = 4, mm: Optional[float] = None, dpi: Optional[float] = None) -> bytes:
         """Returns the drawing as a PNG picture of black and white.
 
         scale   the pixels of a module on each side, from 1 to SCALE_MAX
         margin  light modules on each side, from 0 to MARGIN_MAX; a scanner needs 4
+        mm      the width of the picture with its margin, in millimetres
+        dpi     in place of mm, the pixels of an inch
 
-        Raises SettingsError if a number is out of range, and RoomError if there are too few modules.
+        Without mm and dpi the picture does not say how large it is. Raises SettingsError if a number is out of range, TypeError for
+        both mm and dpi, and RoomError if there are too few modules. Warns by PrintWarning of what scanners may not read.
         """
-        _no_more("png", "", wrong, "scale", "margin")
-        pixels, light = _setting("scale", scale, 1, SCALE_MAX), _setting("margin", margin, 0, MARGIN_MAX)
-        if len(self.modules) < self.side * self.side:
-            raise RoomError("a symbol has side * side modules")
-        return _png.png(self.modules, self.side, pixels, light)
+        _no_more("png", "", wrong, "scale", "margin", "mm", "dpi")
+        return self._png(scale, margin, mm, dpi)
 
-    def svg(self, *wrong: NoReturn, margin: int = 4) -> bytes:
-        """Returns the drawing as an SVG document, with `margin` light modules on each side. Raises as draw does."""
-        _no_more("svg", "", wrong, "margin")
-        return draw([self], drawing=Drawing.SVG, margin=margin)
+    def svg(self, *wrong: NoReturn, margin: int = 4, mm: Optional[float] = None) -> bytes:
+        """Returns the drawing as an SVG document, with `margin` light modules on each side. `mm` is its width with the margin, in
+        millimetres; without it a module is one unit wide, and each program chooses a size. Raises as draw does, and warns by
+        PrintWarning of what scanners may not read."""
+        _no_more("svg", "", wrong, "margin", "mm")
+        return self._svg(margin, mm)
 
     def text(self, *wrong: NoReturn, drawing: Name = Drawing.UTF8, margin: int = 4) -> str:
         """Returns the drawing as text, with `margin` light modules on each side. Raises as draw does."""
         _no_more("text", "", wrong, "drawing", "margin")
         return draw([self], drawing=drawing, margin=margin).decode()
 
-    def save(self, path: Union[str, os.PathLike[str]], *wrong: NoReturn, scale: int = 8, margin: int = 4) -> None:
-        """Writes the drawing to a file whose name ends in .png, .svg or .txt; `scale` is that of a PNG picture alone. Raises as
-        png and draw do, and SettingsError for another ending."""
-        _no_more("save", "path, ", wrong, "scale", "margin")
-        suffix = os.path.splitext(os.fspath(path))[1].lower()
-        drawing = self._drawn(suffix, scale, margin)
-        with open(path, "wb") as file:
+    def save(self, path: Union[str, os.PathLike[str], BinaryIO], *wrong: NoReturn, kind: Optional[str] = None, scale: int = 8,
+             margin: int = 4, mm: Optional[float] = None, dpi: Optional[float] = None) -> None:
+        """Writes the drawing to a file, or to an object with a method `write` that takes bytes.
+
+        kind    'png', 'svg' or 'txt'; unless it is given, the end of the file's name, or 'png' for an object
+        scale, mm, dpi
+                those of png; an SVG document has no scale and no dpi, and a text none of them
+
+        Raises as png and draw do, and SettingsError for another kind or ending. Warns as png does.
+        """
+        _no_more("save", "path, ", wrong, "scale", "margin", "mm", "dpi", "kind")
+        write = getattr(path, "write", None)
+        ending = kind or ("png" if write else os.path.splitext(os.fspath(path))[1].lower()[1:])  # type: ignore[arg-type]
+        drawing = self._drawn(ending, scale, margin, mm, dpi)
+        if write:
+            write(drawing)
+            return
+        with open(path, "wb") as file:  # type: ignore[arg-type]
             file.write(drawing)
 
-    def data_uri(self, *wrong: NoReturn, kind: str = "png", scale: int = 8, margin: int = 4) -> str:
-        """Returns the drawing as a URI that holds it, as for the attribute src of an image: `kind` is 'png' or 'svg'. Raises as
-        png and draw do, and SettingsError for another kind."""
-        _no_more("data_uri", "", wrong, "kind", "scale", "margin")
+    def data_uri(self, *wrong: NoReturn, kind: str = "png", scale: int = 8, margin: int = 4, mm: Optional[float] = None) -> str:
+        """Returns the drawing as a URI that holds it, as for the attribute src of an image: `kind` is 'png' or 'svg'. Raises and
+        warns as png does, and raises SettingsError for another kind."""
+        _no_more("data_uri", "", wrong, "kind", "scale", "margin", "mm")
         if kind not in ("png", "svg"):
             raise SettingsError(f"kind is 'png' or 'svg', and not {kind!r}")
         media = {"png": "image/png", "svg": "image/svg+xml"}[kind]
-        return f"data:{media};base64,{base64.b64encode(self._drawn('.' + kind, scale, margin)).decode()}"
+        return f"data:{media};base64,{base64.b64encode(self._drawn(kind, scale, margin, mm, None)).decode()}"
 
-    def _drawn(self, suffix: str, scale: int, margin: int) -> bytes:
-        if suffix == ".png":
-            return self.png(scale=scale, margin=margin)
-        if suffix == ".svg":
-            return self.svg(margin=margin)
-        if suffix == ".txt":
+    def _png(self, scale: int, margin: int, mm: Optional[float], dpi: Optional[float]) -> bytes:
+        pixels, light = _setting("scale", scale, 1, SCALE_MAX), _setting("margin", margin, 0, MARGIN_MAX)
+        if mm is not None and dpi is not None:
+            raise TypeError("png: mm and dpi both say how large the picture is: one of them is given")
+        if len(self.modules) < self.side * self.side:
+            raise RoomError("a symbol has side * side modules")
+        width = pixels * (self.side + 2 * light)
+        size = None if mm is None else _size("mm", mm)
+        if dpi is not None:
+            size = MM_OF_INCH * width / _size("dpi", dpi)
+        _warn(light, None if size is None else size / (self.side + 2 * light))
+        return _png.png(self.modules, self.side, pixels, light, 0 if size is None else round(1000 * width / size))
+
+    def _svg(self, margin: int, mm: Optional[float]) -> bytes:
+        document = draw([self], drawing=Drawing.SVG, margin=margin)
+        size = None if mm is None else _size("mm", mm)
+        _warn(margin, None if size is None else size / (self.side + 2 * margin))
+        return document if size is None else _sized(document, f"{size:.9g}mm")
+
+    def _drawn(self, kind: str, scale: int, margin: int, mm: Optional[float], dpi: Optional[float]) -> bytes:
+        if kind == "png":
+            return self._png(scale, margin, mm, dpi)
+        if kind == "svg":
+            if dpi is not None:
+                raise TypeError("an SVG document has no pixels, and so no dpi: its size is given by mm")
+            return self._svg(margin, mm)
+        if kind == "txt":
             return self.text(margin=margin).encode()
-        raise SettingsError(f"the name of the file ends in .png, .svg or .txt, and not in {suffix!r}")
+        raise SettingsError(f"the name of the file ends in .png, .svg or .txt, or kind is one of these, and not {kind!r}")
+
+    def to_dict(self) -> dict[str, object]:
+        """Returns the symbol as json.dumps takes it: each row of modules is a string, in which '1' is dark."""
+        rows = ["".join("1" if it else "0" for it in row) for row in self.rows()]
+        level = None if self.level is None else self.level.name
+        return {"version": self.version, "side": self.side, "mask": self.mask, "level": level, "rows": rows}
 
     def _repr_png_(self) -> bytes:
         return self.png(scale=4)
 
     def _repr_svg_(self) -> str:
         """Returns the SVG drawing with a size, four pixels a module, and without the line that makes it a document."""
-        width = 4 * (self.side + 8)
-        element = self.svg().decode().split("?>\n", 1)[-1]
-        return element.replace("<svg ", f'<svg width="{width}" height="{width}" ', 1)
+        return _sized(self.svg(), str(4 * (self.side + 8))).decode().split("?>\n", 1)[-1]
 
 
 class Header(NamedTuple):
@@ -190,6 +239,15 @@ class Content:
     """From 1 to 40."""
     header: Optional[Header]
     """None if it is a plain symbol and not one of a series."""
+
+    def text(self) -> str:
+        """Returns the data as text. Raises UnicodeDecodeError, which is a ValueError, if it is no UTF-8."""
+        return self.data.decode()
+
+    def to_dict(self) -> dict[str, object]:
+        """Returns the content as json.dumps takes it: the data as a list of numbers."""
+        header = None if self.header is None else self.header._asdict()
+        return {"data": list(self.data), "version": self.version, "header": header}
 
 
 @dataclass(frozen=True)
@@ -236,6 +294,32 @@ def _setting(name: str, value: int, least: int, most: int) -> int:
     if not least <= number <= most:
         raise SettingsError(f"{name} is from {least} to {most}, and not {number}")
     return number
+
+
+def _size(name: str, value: float) -> float:
+    """Returns a length or a resolution. A bool is none."""
+    if isinstance(value, bool) or not isinstance(value, (int, float)):
+        raise TypeError(f"{name} is a number, and not of type {type(value).__name__}")
+    if not 0 < value <= SIZE_MAX:
+        raise SettingsError(f"{name} is more than 0 and at most {SIZE_MAX:,}, and not {value}")
+    return float(value)
+
+
+def _sized(document: bytes, width: str) -> bytes:
+    """Returns an SVG document of one symbol with a width and a height."""
+    return document.replace(b"<svg ", f'<svg width="{width}" height="{width}" '.encode(), 1)
+
+
+def _warn(margin: int, module: Optional[float]) -> None:
+    """Warns of a margin and of a module's width in millimetres, at the line that called the package."""
+    faults = [f"a margin of {margin} module{'s' * (margin != 1)}: scanners need {MARGIN_WANTED}"] if margin < MARGIN_WANTED else []
+    if module is not None and module < MODULE_MIN:
+        faults.append(f"modules of {module:.3g} mm: under {MODULE_MIN} mm few scanners read them")
+    level, frame = 1, sys._getframe()
+    while frame.f_back is not None and frame.f_globals.get("__name__") == __name__:
+        level, frame = level + 1, frame.f_back
+    for fault in faults:
+        warnings.warn(fault, PrintWarning, stacklevel=level)
 
 
 def _named(name: str, kind: type[IntEnum], value: Name) -> int:
@@ -313,7 +397,10 @@ def encode(data: Input, *wrong: NoReturn, version: int = 1, level: Name = Level.
     _no_more("encode", "data, ", wrong, "version", "level", "rule")
     settings, given = _settings(version, level, rule), _input(data)
     modules, symbol = (ctypes.c_uint8 * SYMBOL_MAX)(), _library.Symbol()
-    raise_for(_calls.qrproved_encode(given, len(given), *settings, modules, SYMBOL_MAX, ctypes.byref(symbol)))
+    status = _calls.qrproved_encode(given, len(given), *settings, modules, SYMBOL_MAX, ctypes.byref(symbol))
+    if status == TooLongError.status:
+        raise too_long(len(given), *settings[1:])
+    raise_for(status)
     return Symbol(symbol.version, symbol.side, symbol.mask, _first(modules, symbol.side ** 2), Level(settings[1]))
 
 
@@ -329,7 +416,11 @@ def encode_series(data: Input, *wrong: NoReturn, version: Optional[int] = None, 
         raise TypeError("encode_series: the version of all symbols has to be given: encode_series(data, version=5)")
     settings, given = _settings(version, level, rule), _input(data)
     modules, series = (ctypes.c_uint8 * SERIES_MAX)(), _library.Series()
-    raise_for(_calls.qrproved_encode_series(given, len(given), *settings, modules, SERIES_MAX, ctypes.byref(series)))
+    status = _calls.qrproved_encode_series(given, len(given), *settings, modules, SERIES_MAX, ctypes.byref(series))
+    if status == TooManyError.status:
+        symbols = f"{COUNT_MAX} symbols of version {settings[0]}-{Level(settings[1]).name}"
+        raise TooManyError(f"the input has {len(given):,} bytes and takes more than {symbols}")
+    raise_for(status)
     area = series.side ** 2
     written = _first(modules, series.count * area)
     level_of_all = Level(settings[1])

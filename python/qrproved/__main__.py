@@ -1,20 +1,23 @@
-"""python -m qrproved: writes symbols as PNG, as SVG or as text, one or one for each line of a file, and checks drawings."""
+"""The command qrproved, or python -m qrproved: writes symbols as PNG, as SVG or as text, one or one for each line of a file, and
+checks pictures and drawings."""
 from __future__ import annotations
 
 import argparse
 import os
 import sys
 import time
+import warnings
 from typing import Optional
 
 import qrproved
 from qrproved import Error, Level, Rule
 from qrproved._batch import PART, Part, Settings, labels_of, processors, written
+from qrproved._pictures import is_picture
 
-PROGRAM = "python -m qrproved"
+PROGRAM = "qrproved" if os.path.splitext(os.path.basename(sys.argv[0]))[0] == "qrproved" else "python -m qrproved"
 SOUND, READABLE, NOT_READABLE = range(3)
 KINDS = {".png": "png", ".svg": "svg", ".txt": "utf8"}
-SUFFIXES = {"png": ".png", "svg": ".svg", **dict.fromkeys(("utf8", "ascii", "asciii"), ".txt")}
+SUFFIXES = {"png": ".png", "svg": ".svg", **dict.fromkeys(("txt", "utf8", "ascii", "asciii"), ".txt")}
 
 
 def say(text: str) -> None:
@@ -63,10 +66,12 @@ def one(given: argparse.Namespace, settings: Settings) -> int:
 
 def verdict(modules: bytes, side: int) -> int:
     """Prints what a symbol contains and how much of its correction is spent, and returns the status."""
+    unknown = modules.count(2)
+    of_unknown = f"{unknown} {'module is' if unknown == 1 else 'modules are'} not known"
     try:
         it = qrproved.mend(modules, side)
     except Error as fault:
-        print(f"not readable: {fault}")
+        print(f"not readable: {fault}" + (f"; {of_unknown}" if unknown else ""))
         return NOT_READABLE
     # rounded up, so that 100 % says that all is spent
     share = -(-100 * it.changed_most // it.changed_allowed)
@@ -74,6 +79,8 @@ def verdict(modules: bytes, side: int) -> int:
     print(f"{state}: {it.content.version}-{it.level.name}, mask {it.mask}")
     if it.content.header:
         print(f"symbol {it.content.header.position + 1} of {it.content.header.last + 1} of its series")
+    if unknown:
+        print(f"{of_unknown}, and their codewords not counted")
     try:
         shown = it.content.data.decode()
         if not shown.isprintable():
@@ -84,18 +91,29 @@ def verdict(modules: bytes, side: int) -> int:
     return SOUND if it.is_sound else READABLE
 
 
+def squares_of(data: bytes) -> list[tuple[bytes, int]]:
+    """Returns the modules and the side of each symbol of a picture or of a drawing as text. Raises ValueError if there is none."""
+    if is_picture(data):
+        return qrproved.parse_picture(data)
+    try:
+        return qrproved.parse_drawing(data.decode())
+    except UnicodeDecodeError:
+        raise ValueError("it is no PNG picture, no SVG document and no text in UTF-8") from None
+
+
 def check(words: list[str]) -> int:
-    """Checks the symbols of a drawing as text, and returns the status."""
-    parser = argparse.ArgumentParser(prog=f"{PROGRAM} check", description="Checks the symbols of a drawing in ASCII or in UTF8. The"
-                                     " status is 0 if each is sound, 1 if each can be read, and 2 otherwise.")
-    parser.add_argument("file", nargs="?", default="-", help="a text file with the drawing; without it, standard input")
+    """Checks the symbols of a picture or of a drawing as text, and returns the status."""
+    parser = argparse.ArgumentParser(prog=f"{PROGRAM} check", description="Checks the symbols of a PNG picture, of an SVG document or of a"
+                                     " drawing in ASCII or in UTF8. They are upright; photographs are not read. The status is 0 if each is"
+                                     " sound, 1 if each can be read, and 2 otherwise.")
+    parser.add_argument("file", nargs="?", default="-", help="a file with the picture or the drawing; without it, standard input")
     given = parser.parse_args(words)
     with sys.stdin.buffer if given.file == "-" else open(given.file, "rb") as source:
-        text = source.read()
+        data = source.read()
     try:
-        squares = qrproved.parse_drawing(text.decode())
+        squares = squares_of(data)
     except ValueError as fault:
-        print(f"not readable: {'the drawing is no UTF-8' if isinstance(fault, UnicodeDecodeError) else fault}")
+        print(f"not readable: {fault}")
         return NOT_READABLE
     return max(verdict(*square) for square in squares)
 
@@ -104,8 +122,8 @@ def parsed(words: list[str]) -> argparse.Namespace:
     """Returns the arguments, or ends the program with their fault."""
     parser = argparse.ArgumentParser(
         prog=PROGRAM, description="Writes the QR Code symbol of a text as PNG, as SVG or as text.",
-        epilog=f"'{PROGRAM} check [FILE]' checks a drawing. To encode a text that begins with a hyphen, or the text 'check', write"
-        " -- before it.")
+        epilog=f"'{PROGRAM} check [FILE]' checks a picture or a drawing. To encode a text that begins with a hyphen, or the text"
+        " 'check', write -- before it.")
     parser.add_argument("text", nargs="?", help="the text to encode; without it, the bytes of standard input")
     parser.add_argument("-o", "--output", metavar="FILE", help="the file to write, .png, .svg or .txt; with --batch a folder")
     parser.add_argument("-t", "--type", choices=sorted(SUFFIXES), type=str.lower, help="the type of the drawing, if the file does not tell")
@@ -113,6 +131,9 @@ def parsed(words: list[str]) -> argparse.Namespace:
     parser.add_argument("-v", "--version", type=int, default=1, metavar="N", help="the least version, from 1 to 40; 1")
     parser.add_argument("-m", "--margin", type=int, default=4, metavar="N", help="light modules on each side, from 0 to 100; 4")
     parser.add_argument("-s", "--scale", type=int, default=8, metavar="N", help="pixels of a module of a PNG, from 1 to 100; 8")
+    parser.add_argument("--mm", type=float, metavar="N", help="the width of a PNG or an SVG with its margin, in millimetres")
+    parser.add_argument("--dpi", type=float, metavar="N", help="in place of --mm, the pixels of an inch of a PNG")
+    parser.add_argument("-q", "--quiet", action="store_true", help="do not warn of small margins and modules")
     parser.add_argument("-8", "--bytes", action="store_true", help="encode the whole input in byte mode")
     parser.add_argument("-k", "--kanji", action="store_true", help="allow kanji segments too")
     parser.add_argument("--batch", metavar="FILE", help="write a symbol for each line of a file; - is standard input")
@@ -126,17 +147,24 @@ def parsed(words: list[str]) -> argparse.Namespace:
         if given.batch is None and given.output not in (None, "-") and suffix not in KINDS:
             parser.error(f"{given.output} does not end in .png, .svg or .txt: name the type by -t")
         given.type = "png" if given.batch is not None else KINDS.get(suffix, "utf8")
+    if given.mm is not None and (given.dpi is not None or given.type not in ("png", "svg")):
+        parser.error("--mm is the width of a PNG or of an SVG, and --dpi stands in its place")
+    if given.dpi is not None and given.type != "png":
+        parser.error("--dpi is of a PNG alone")
     return given
 
 
 def main(words: Optional[list[str]] = None) -> int:
     words = sys.argv[1:] if words is None else words
+    is_check = words[:1] == ["check"]
     try:
-        if words[:1] == ["check"]:
+        if is_check:
             return check(words[1:])
         given = parsed(words)
         rule = Rule.BYTES_ONLY if given.bytes else Rule.WITH_KANJI if given.kanji else Rule.AUTO
-        settings = Settings(given.type, given.version, Level[given.level], rule, given.margin, given.scale)
+        settings = Settings(given.type, given.version, Level[given.level], rule, given.margin, given.scale, given.mm, given.dpi)
+        warnings.showwarning = lambda message, *_: say(str(message))
+        warnings.simplefilter("ignore" if given.quiet else "always", qrproved.PrintWarning)
         if given.batch is None:
             return one(given, settings)
         # so that a setting that is out of range is told once, and not for each label
@@ -144,7 +172,7 @@ def main(words: Optional[list[str]] = None) -> int:
         return batch(given, settings)
     except (Error, OSError) as fault:
         say(str(fault))
-        return 1
+        return NOT_READABLE if is_check else 1
 
 
 if __name__ == "__main__":

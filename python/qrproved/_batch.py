@@ -5,16 +5,18 @@ from __future__ import annotations
 import multiprocessing
 import os
 import re
+import warnings
 from collections.abc import Iterator
-from typing import NamedTuple
+from typing import NamedTuple, Optional
 
 import qrproved
-from qrproved import Drawing, Error
+from qrproved import Drawing, Error, PrintWarning
 
-DRAWINGS = {"utf8": Drawing.UTF8, "ascii": Drawing.ASCII, "asciii": Drawing.ASCII_INVERSE, "svg": Drawing.SVG}
+DRAWINGS = {"txt": Drawing.UTF8, "utf8": Drawing.UTF8, "ascii": Drawing.ASCII, "asciii": Drawing.ASCII_INVERSE}
 # FEW labels are written without a pool of processes, which takes a tenth of a second to start. A process takes PART at once.
 FEW, PART = 3000, 500
 NAME_MAX = 80
+DIGITS = 5  # at least, of a file that is named by its line
 
 
 class Settings(NamedTuple):
@@ -26,12 +28,16 @@ class Settings(NamedTuple):
     rule: int
     margin: int
     scale: int
+    mm: Optional[float] = None
+    dpi: Optional[float] = None
 
     def drawn(self, data: bytes) -> bytes:
         """Returns the drawing of the symbol of some bytes."""
         symbol = qrproved.encode(data, version=self.version, level=self.level, rule=self.rule)
         if self.kind == "png":
-            return symbol.png(scale=self.scale, margin=self.margin)
+            return symbol.png(scale=self.scale, margin=self.margin, mm=self.mm, dpi=self.dpi)
+        if self.kind == "svg":
+            return symbol.svg(margin=self.margin, mm=self.mm)
         return qrproved.draw([symbol], drawing=DRAWINGS[self.kind], margin=self.margin)
 
 
@@ -45,6 +51,7 @@ class Part(NamedTuple):
 def write(part: Part) -> tuple[int, list[str]]:
     """Writes the labels of a part; returns how many there were, and why some could not be written."""
     faults = []
+    warnings.simplefilter("ignore", PrintWarning)  # of one label the command has warned before
     for number, path, data in part.labels:
         try:
             drawing = part.settings.drawn(data)
@@ -69,7 +76,7 @@ def name_of(text: bytes) -> str:
 def labels_of(lines: list[bytes], folder: str, suffix: str, by_text: bool) -> list[tuple[int, str, bytes]]:
     """Returns the lines that are not empty, each with its number and the path of its file. Two files never have one name, also
     where capitals do not count."""
-    width, taken, labels = len(str(len(lines))), set(), []
+    width, taken, labels = max(DIGITS, len(str(len(lines)))), set(), []
     for number, line in enumerate(lines, 1):
         if not line:
             continue

@@ -1,20 +1,23 @@
 """Finds the modules of symbols that are drawn as text, as the command draws them: by two characters a module, '##' for a dark
-one or for a light one, or by half blocks, light on a dark terminal."""
+one or for a light one, or by half blocks, light on a dark terminal. In a drawing that was copied by hand '??' is a module that
+cannot be read."""
 from __future__ import annotations
 
 import textwrap
 
-# What a character of half blocks shows above and below: True is ink.
-HALVES = {" ": (False, False), "\u2580": (True, False), "\u2584": (False, True), "\u2588": (True, True)}
+NO_INK, INK, UNKNOWN = range(3)
+# What a character shows, and what a character of half blocks shows above and below.
+CHARACTERS = {" ": NO_INK, "#": INK, "?": UNKNOWN}
+HALVES = {" ": (NO_INK, NO_INK), "\u2580": (INK, NO_INK), "\u2584": (NO_INK, INK), "\u2588": (INK, INK)}
 FINDER = ["1111111", "1000001", "1011101", "1011101", "1011101", "1000001", "1111111"]
 SIDES = range(21, 178, 4)
 COUNT_MAX = 16
 
-Grid = list  # of rows of bools
+Grid = list  # of rows of numbers: without ink, with ink, or not known
 
 
 def _grid(text: str) -> Grid:
-    """Returns the rows of a text's modules, all of one length; True is ink."""
+    """Returns the rows of a text's modules, all of one length."""
     lines = textwrap.dedent(text.replace("\r\n", "\n").replace("\ufeff", "")).split("\n")
     lines = [line.rstrip(" ") for line in lines]
     while lines and not lines[0]:
@@ -25,16 +28,16 @@ def _grid(text: str) -> Grid:
         raise ValueError("there is no drawing")
     width = max(map(len, lines))
     characters = set("".join(lines))
-    if characters <= {"#", " "}:
+    if characters <= set(CHARACTERS):
         width += width % 2
         padded = [line.ljust(width) for line in lines]
         if any(line[k] != line[k + 1] for line in padded for k in range(0, width, 2)):
             raise ValueError("a module of the drawing is two characters that differ")
-        return [[line[k] == "#" for k in range(0, width, 2)] for line in padded]
+        return [[CHARACTERS[line[k]] for k in range(0, width, 2)] for line in padded]
     if characters <= set(HALVES):
         padded = [line.ljust(width) for line in lines]
         return [[HALVES[it][half] for it in line] for line in padded for half in (0, 1)]
-    raise ValueError("the drawing is of other characters than '#' and spaces, or half blocks and spaces")
+    raise ValueError("the drawing is of other characters than '#', '?' and spaces, or half blocks and spaces")
 
 
 def _cut(grid: Grid) -> list[tuple[int, int, int]]:
@@ -59,7 +62,7 @@ def _strangers(rows: Grid) -> int:
 
 
 def _box(grid: Grid) -> Grid:
-    """Returns the least rectangle with all dark modules; none if there is no dark module."""
+    """Returns the least rectangle with all modules that are not light; none if all are."""
     rows = [y for y, row in enumerate(grid) if any(row)]
     columns = [x for x in range(len(grid[0])) if any(row[x] for row in grid)]
     if not rows:
@@ -70,15 +73,15 @@ def _box(grid: Grid) -> Grid:
 def parse_drawing(text: str) -> list[tuple[bytes, int]]:
     """Returns the modules and the side of each symbol of a drawing as text, of one symbol or of a series.
 
-    text  of '##' and two spaces, either of them dark, or of half blocks. Spaces at the end of a line may be missing, and the
-          whole drawing may be indented.
+    text  of '##' and two spaces, either of them dark, or of half blocks; '??' is a module that is not known, which becomes 2.
+          Spaces at the end of a line may be missing, and the whole drawing may be indented.
 
     Raises ValueError if it is empty, has other characters or a module of two that differ, or has no square of a symbol: the
-    first and the last row and column of a symbol each need a dark module.
+    first and the last row and column of a symbol each need a module that is not light.
     """
     grid, found = _grid(text), []
     for is_inverse in (False, True):
-        box = _box([[it != is_inverse for it in row] for row in grid])
+        box = _box([[it if it == UNKNOWN else it ^ is_inverse for it in row] for row in grid])
         for side, count, gap in _cut(box):
             starts = [k * (side + gap) for k in range(count)]
             squares = [box[start:start + side] for start in starts]

@@ -84,6 +84,20 @@ class SegmentsError(Error, ValueError):
     text = "the data codewords cannot be parsed"
 
 
+# What a symbol of version 40 holds at each level, from L to H: bytes, alphanumeric characters, digits, and kanji of two bytes each
+# (ISO/IEC 18004:2015, Table 7).
+MOST = [(2953, 4296, 7089, 1817), (2331, 3391, 5596, 1435), (1663, 2420, 3993, 1024), (1273, 1852, 3057, 784)]
+
+
+def too_long(count: int, level: int, rule: int) -> TooLongError:
+    """Returns the refusal of `count` bytes, which says how many would fit. The rule, 0, 1 or 2, decides which modes there are."""
+    data, alphanumeric, digits, kanji = MOST[level]
+    modes = [f"{data:,} bytes", f"{alphanumeric:,} alphanumeric characters", f"{digits:,} digits", f"{kanji:,} kanji"]
+    *first, last = modes[:(3, 1, 4)[rule]]
+    holds = f"{', '.join(first)} or {last}" if first else last
+    return TooLongError(f"the input has {count:,} bytes and does not fit a symbol: version 40-{'LMQH'[level]} holds {holds}")
+
+
 BY_STATUS = {kind.status: kind for kind in (EmptyError, TooLongError, TooManyError, OutOfMemoryError, SettingsError, RoomError,
                                             SideError, FormatError, CheckError, SegmentsError)}
 

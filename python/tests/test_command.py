@@ -25,17 +25,40 @@ class Command(unittest.TestCase):
 
     def test_one_label(self):
         symbol = qrproved.encode("Shelf 12", level="q", version=3)
-        words = ["Shelf 12", "-l", "q", "-v", "3", "-m", "2"]
+        words = ["Shelf 12", "-l", "q", "-v", "3", "-m", "2", "-q"]
         for name, wanted in {"a.png": symbol.png(scale=5, margin=2), "a.svg": symbol.svg(margin=2), "a.txt": symbol.text(margin=2).encode()}.items():
             self.assertEqual(run(*words, "-s", "5", "-o", self.room / name), (b"", ""))
             self.assertEqual((self.room / name).read_bytes(), wanted)
         self.assertEqual(run(*words)[0], symbol.text(margin=2).encode())
         self.assertEqual(run(*words, "-t", "ASCII")[0], symbol.text(margin=2, drawing="ascii").encode())
+        self.assertEqual(run(*words, "-t", "txt")[0], symbol.text(margin=2).encode())
         self.assertEqual(run(*words, "-t", "png")[0], symbol.png(margin=2))
+
+    def test_sizes_and_warnings(self):
+        symbol = qrproved.encode("Shelf 12")
+        cases = {"a.png": (["--dpi", "600"], symbol.png(dpi=600)), "b.png": (["--mm", "29"], symbol.png(mm=29)),
+                 "a.svg": (["--mm", "29"], symbol.svg(mm=29))}
+        for name, (words, wanted) in cases.items():
+            self.assertEqual(run("Shelf 12", "-o", self.room / name, *words), (b"", ""))
+            self.assertEqual((self.room / name).read_bytes(), wanted)
+        of_margin, of_module = "scanners need 4\n", "qrproved: modules of 0.172 mm: under 0.25 mm few scanners read them\n"
+        self.assertEqual(run("A", "-o", self.room / "a.png", "-m", "1")[1], f"qrproved: a margin of 1 module: {of_margin}")
+        self.assertEqual(run("A", "-o", self.room / "a.png", "--mm", "5")[1], of_module)
+        self.assertEqual(run("A", "-o", self.room / "a.png", "--mm", "5", "-q")[1], "")
+        said = run("--batch", "-", "-o", self.room / "few", "-m", "0", given=b"1\n2\n3\n")[1]
+        self.assertEqual(said, f"qrproved: a margin of 0 modules: {of_margin}")
+        for words in (["--mm", "5", "--dpi", "300", "-t", "png"], ["--mm", "5"], ["--dpi", "300", "-t", "svg"]):
+            self.assertIn("--mm" if "--mm" in words else "--dpi", run("A", *words, status=2)[1])
 
     def test_standard_input_is_bytes(self):
         self.assertEqual(run("-8", given=b"A\xff\n")[0], qrproved.encode(b"A\xff\n", rule="bytes_only").text().encode())
         self.assertEqual(run("-k", given=b"\x93\x5f")[0], qrproved.encode(b"\x93\x5f", rule="with_kanji").text().encode())
+
+    def test_the_help_names_the_command_as_it_was_called(self):
+        self.assertIn("usage: python -m qrproved ", run("-h")[0].decode())
+        call = "import sys; sys.argv[:] = ['/usr/bin/qrproved', '-h']; from qrproved.__main__ import main; main()"
+        ran = subprocess.run([sys.executable, "-B", "-c", call], capture_output=True, text=True)
+        self.assertIn("usage: qrproved ", ran.stdout)
 
     def test_the_text_check(self):
         self.assertEqual(run("--", "check")[0], qrproved.encode("check").text().encode())
@@ -50,8 +73,9 @@ class Command(unittest.TestCase):
         lines = b"Shelf 1\r\nShelf 2\n\nShelf/2\nshelf 2\n" + b"a" * 3000 + b"\nlast"
         (self.room / "labels").write_bytes(lines)
         out, said = run("--batch", self.room / "labels", "-o", self.room / "numbers", status=1)
-        self.assertEqual((out, said), (b"", "qrproved: line 6: the input does not fit a symbol\n"))
-        wanted = {"1.png": b"Shelf 1", "2.png": b"Shelf 2", "4.png": b"Shelf/2", "5.png": b"shelf 2", "7.png": b"last"}
+        self.assertEqual((out, said), (b"", "qrproved: line 6: the input has 3,000 bytes and does not fit a symbol: version 40-L holds"
+                         " 2,953 bytes, 4,296 alphanumeric characters or 7,089 digits\n"))
+        wanted = {"00001.png": b"Shelf 1", "00002.png": b"Shelf 2", "00004.png": b"Shelf/2", "00005.png": b"shelf 2", "00007.png": b"last"}
         got = {it.name: it.read_bytes() for it in (self.room / "numbers").iterdir()}
         self.assertEqual(got, {name: qrproved.encode(data).png() for name, data in wanted.items()})
         run("--batch", "-", "--names", "text", "-t", "svg", "-o", self.room / "texts", given=lines.replace(b"a" * 3000, b"../../x"))
@@ -62,7 +86,7 @@ class Command(unittest.TestCase):
         run("--batch", "-", "--jobs", "2", "-o", self.room / "many", "-s", "1", given=b"".join(b"%d\n" % k for k in range(3600)))
         self.assertEqual(len(list((self.room / "many").iterdir())), 3600)
         for k in (0, 499, 500, 3599):
-            self.assertEqual((self.room / f"many/{k + 1:04}.png").read_bytes(), qrproved.encode(str(k)).png(scale=1))
+            self.assertEqual((self.room / f"many/{k + 1:05}.png").read_bytes(), qrproved.encode(str(k)).png(scale=1))
 
     def test_check(self):
         symbol = qrproved.encode("Shelf 12", level="h")
@@ -79,8 +103,36 @@ class Command(unittest.TestCase):
             modules[k] ^= 1
         spoilt = qrproved.Symbol(symbol.version, symbol.side, 0, bytes(modules))
         self.assertTrue(run("check", given=str(spoilt).encode(), status=2)[0].startswith(b"not readable: "))
-        self.assertEqual(run("check", given=b"hello", status=2)[0], b"not readable: the drawing is of other characters than '#' and spaces, or"
-                         b" half blocks and spaces\n")
+        self.assertEqual(run("check", given=b"hello", status=2)[0], b"not readable: the drawing is of other characters than '#', '?' and spaces,"
+                         b" or half blocks and spaces\n")
+
+    def test_check_of_modules_that_are_not_known(self):
+        symbol = qrproved.encode("Shelf 12", level="h")
+        lines = symbol.text(drawing="ascii").split("\n")
+        lines[20] = lines[20][:40] + "??????" + lines[20][46:]
+        self.assertEqual(run("check", given="\n".join(lines).encode(), status=1)[0],
+                         f"readable, 0 % of its correction spent: {symbol.version}-H, mask {symbol.mask}\n"
+                         "3 modules are not known, and their codewords not counted\ncontains Shelf 12\n".encode())
+
+    def test_check_of_pictures(self):
+        symbol = qrproved.encode("Shelf 12", level="h")
+        for name in ("a.png", "a.svg"):
+            run("Shelf 12", "-l", "h", "-o", self.room / name)
+            self.assertEqual(run("check", self.room / name)[0], f"sound: {symbol.version}-H, mask {symbol.mask}\ncontains Shelf 12\n".encode())
+        turned = qrproved.Symbol(symbol.version, symbol.side, symbol.mask, symbol.modules[::-1])
+        self.assertIn(b"not readable: a symbol of the picture is not upright", run("check", given=turned.png(), status=2)[0])
+        self.assertEqual(run("check", given=b"\xff\xd8\xff\xe0", status=2)[0],
+                         b"not readable: it is no PNG picture, no SVG document and no text in UTF-8\n")
+
+    def test_check_of_several_symbols(self):
+        symbols = qrproved.encode_series("Shelf 12 " * 40, version=3)
+        said = run("check", given=qrproved.draw(symbols, drawing="ascii"))[0].decode()
+        self.assertEqual([said.count("sound: 3-L"), said.count(f"of {len(symbols)} of its series")], [len(symbols)] * 2)
+
+    def test_a_file_that_cannot_be_read_is_not_readable(self):
+        for path in (self.room / "nofile", self.room):
+            out, said = run("check", path, status=2)
+            self.assertEqual((out, said.startswith("qrproved: "), str(path) in said), (b"", True, True))
 
 
 if __name__ == "__main__":

@@ -1,6 +1,7 @@
 """What the package adds to the library: its types, its checks of arguments, and its refusals. The symbols themselves are
 compared by tests/library."""
 import array
+import json
 import re
 import unittest
 from xml.etree import ElementTree
@@ -105,6 +106,34 @@ class Calls(unittest.TestCase):
         self.assertEqual(repr(qrproved.encode_series("A", version=2, level="q")[0]), "<Symbol 2-Q>")
         self.assertEqual(repr(qrproved.Symbol(1, 21, 0, EIGHT_DIGITS)), "<Symbol 1, mask 0>")
         self.assertEqual(str(symbol) + "\n", symbol.text())
+
+    def test_a_symbol_and_its_content_as_json(self):
+        symbol = qrproved.Symbol(1, 21, 0, EIGHT_DIGITS, Level.M)
+        written = json.loads(json.dumps(symbol.to_dict()))
+        self.assertEqual(written, {"version": 1, "side": 21, "mask": 0, "level": "M", "rows": written["rows"]})
+        self.assertEqual("".join(written["rows"]), "".join(map(str, EIGHT_DIGITS)))
+        self.assertEqual(written["rows"][0], "111111100011101111111")
+        series = qrproved.encode_series(b"ab" * 20, version=1)
+        self.assertEqual(json.loads(json.dumps(qrproved.read(series[0]).to_dict()))["header"], {"position": 0, "last": len(series) - 1, "parity": 0})
+        self.assertEqual(qrproved.read(qrproved.encode(b"A\xff")).to_dict(), {"data": [65, 255], "version": 1, "header": None})
+
+    def test_content_as_text(self):
+        self.assertEqual(qrproved.mend(qrproved.encode("Gr\u00fc\u00dfe")).content.text(), "Gr\u00fc\u00dfe")
+        with self.assertRaises(UnicodeDecodeError):
+            qrproved.read(qrproved.encode(b"A\xff")).text()
+
+    def test_a_refusal_says_how_many_bytes_there_were_and_fit(self):
+        head = "the input has 3,000 bytes and does not fit a symbol: version 40-"
+        for named, tail in (({}, "L holds 2,953 bytes, 4,296 alphanumeric characters or 7,089 digits"),
+                            ({"level": "M", "rule": "bytes_only"}, "M holds 2,331 bytes"),
+                            ({"level": "Q", "rule": "with_kanji"}, "Q holds 1,663 bytes, 2,420 alphanumeric characters, 3,993 digits or 1,024 kanji"),
+                            ({"level": "H", "version": 7}, "H holds 1,273 bytes, 1,852 alphanumeric characters or 3,057 digits")):
+            with self.assertRaises(qrproved.TooLongError) as refused:
+                qrproved.encode("x" * 3000, **named)
+            self.assertEqual(str(refused.exception), head + tail)
+        with self.assertRaises(qrproved.TooManyError) as refused:
+            qrproved.encode_series("x" * 1000, version=1, level="H")
+        self.assertEqual(str(refused.exception), "the input has 1,000 bytes and takes more than 16 symbols of version 1-H")
 
     def test_a_symbol_is_read_with_its_own_side(self):
         symbol = qrproved.encode("A", version=3)
