@@ -249,8 +249,20 @@ function spentOf(found, modules) {
   return [`${percent} % in the most damaged block: ${found.changedMost} of ${found.changedAllowed} codewords.${more}`, meter];
 }
 
+/** Returns whether a square that cannot be read is that of a symbol with rows and columns exchanged. */
+function isMirrored({ modules, side }) {
+  try {
+    mend(modules.map((_, place) => modules[place % side * side + Math.floor(place / side)]));
+    return true;
+  } catch (error) {
+    if (!(error instanceof QRError)) throw error;
+    return false;
+  }
+}
+
 /** Returns what a square contains, as an element: a list, or a paragraph that says why it cannot be read. */
-function contentOf({ modules }) {
+function contentOf(square) {
+  const { modules } = square;
   try {
     const found = mend(modules), { version, header } = found.content;
     const place = header ? `, ${header.position + 1} of ${header.last + 1} of a series` : '';
@@ -266,7 +278,7 @@ function contentOf({ modules }) {
   } catch (error) {
     if (!(error instanceof QRError)) throw error;
     const [, reason] = REASONS.find(([kind]) => error instanceof kind) ?? [null, 'what it says cannot be parsed.'];
-    const paragraph = made('p', `Not readable: ${reason}`);
+    const paragraph = made('p', `Not readable: ${isMirrored(square) ? 'the symbol is mirrored.' : reason}`);
     paragraph.className = 'fault';
     return paragraph;
   }

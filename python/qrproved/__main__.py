@@ -64,6 +64,15 @@ def one(given: argparse.Namespace, settings: Settings) -> int:
     return 0
 
 
+def is_mirrored(modules: bytes, side: int) -> bool:
+    """Whether a square that cannot be read is that of a symbol with rows and columns exchanged, whose finder patterns are in place."""
+    try:
+        qrproved.mend(b"".join(modules[column:side * side:side] for column in range(side)), side)
+    except Error:
+        return False
+    return True
+
+
 def verdict(modules: bytes, side: int) -> int:
     """Prints what a symbol contains and how much of its correction is spent, and returns the status."""
     unknown = modules.count(2)
@@ -71,7 +80,8 @@ def verdict(modules: bytes, side: int) -> int:
     try:
         it = qrproved.mend(modules, side)
     except Error as fault:
-        print(f"not readable: {fault}" + (f"; {of_unknown}" if unknown else ""))
+        why = "the symbol is mirrored" if is_mirrored(modules, side) else fault
+        print(f"not readable: {why}" + (f"; {of_unknown}" if unknown else ""))
         return NOT_READABLE
     # rounded up, so that 100 % says that all is spent
     share = -(-100 * it.changed_most // it.changed_allowed)

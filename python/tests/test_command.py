@@ -121,6 +121,10 @@ class Command(unittest.TestCase):
             self.assertEqual(run("check", self.room / name)[0], f"sound: {symbol.version}-H, mask {symbol.mask}\ncontains Shelf 12\n".encode())
         turned = qrproved.Symbol(symbol.version, symbol.side, symbol.mask, symbol.modules[::-1])
         self.assertIn(b"not readable: a symbol of the picture is not upright", run("check", given=turned.png(), status=2)[0])
+        exchanged = bytes(symbol[x, y] for y in range(symbol.side) for x in range(symbol.side))
+        mirrored = qrproved.Symbol(symbol.version, symbol.side, symbol.mask, exchanged)
+        for picture in (mirrored.png(), str(mirrored).encode()):
+            self.assertEqual(run("check", given=picture, status=2)[0], b"not readable: the symbol is mirrored\n")
         self.assertEqual(run("check", given=b"\xff\xd8\xff\xe0", status=2)[0],
                          b"not readable: it is no PNG picture, no SVG document and no text in UTF-8\n")
 
