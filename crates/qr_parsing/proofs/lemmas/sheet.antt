@@ -1,0 +1,2 @@
+-- A sheet shows one margin and one list of squares at most.
+pub mod SheetLemmas

@@ -1,0 +1,142 @@
+//! Sheets, in which the modules of all types of drawing are read alike. The bytes of a sheet show the modules of all
+//! rasters of a drawing, from the first raster on row by row. `k` is the index of a raster, and `y` and `x` are a row and
+//! a column of it.
+
+ghost use Rattle.std.specs.Prelude.{◌≡◌, ℕ, ◌<◌, ◌≤◌, ◌+◌, false, true, map, IfOk};
+ghost use Rattle.std.specs.List.{range_with_len};
+ghost use Rattle.qr_matrix.specs.Grid.{square};
+ghost use Rattle.qr_parsing.specs.Steps.Sheet.{is_dark_byte, is_dark_on, place_of};
+
+use qr_drawing::Drawing;
+use qr_symbol::Matrix;
+use std::alloc::{AllocError, Global};
+
+/// The side of the smallest squares that are parsed.
+pub(crate) const SIDE_MIN: usize = 8;
+
+/// The greatest number of rasters of a drawing.
+pub(crate) const COUNT_MAX: usize = 16;
+
+/// The greatest width of a raster: 177 modules with a margin of 255 on each side.
+pub(crate) const WIDTH_MAX: usize = 687;
+
+#[derive(Drop)]
+pub(crate) struct Sheet<'a> {
+    pub(crate) kind: Drawing,
+    /// The width of a raster in modules.
+    pub(crate) width: usize,
+    /// The number of rasters.
+    pub(crate) count: usize,
+    /// In the ASCII types two bytes show a module, in UTF8 one byte shows two, and in SVG one byte shows one. Each line of
+    /// text ends with a newline.
+    pub(crate) bytes: &'a [u8],
+    ghost wide: { width ≤ 687 },
+}
+
+// The index of the byte that shows a module; in the ASCII types the first of the two.
+#[tactic(auto, using(crate::proofs::Named::place_facts))]
+fn place_of(kind: Drawing, width: usize, k: usize, y: usize, x: usize) -> usize
+    requires width_in { width < 1000 }
+    requires k_in { k < 16 }
+    requires y_in { y < 1000 }
+    requires x_in { x < 1000 }
+    ensures { result ≡ place_of kind width k y x }
+{
+    match kind {
+        Drawing::Ascii | Drawing::AsciiInverse => (k * width + y) * (2 * width + 1) + 2 * x,
+        Drawing::Utf8 => (k * width.div_ceil(2) + y / 2) * (width + 1) + x,
+        Drawing::Svg => (k * width + y) * width + x,
+    }
+}
+
+// In UTF8 the module of an even row is the upper one of its character.
+fn is_dark_byte(kind: Drawing, y: usize, byte: u8) -> bool
+    ensures { result ≡ is_dark_byte kind y byte }
+{
+    match kind {
+        Drawing::Ascii => byte == b'#',
+        Drawing::AsciiInverse => byte == b' ',
+        Drawing::Utf8 => byte == b' ' || byte == if y % 2 == 0 { 0x84 } else { 0x80 },
+        Drawing::Svg => byte == 1,
+    }
+}
+
+// Places after the end are light, as in a drawing that is cut off.
+#[tactic(auto, unfolding(crate::specs::Steps::Sheet::is_dark_on))]
+fn is_dark(sheet: &Sheet, k: usize, y: usize, x: usize) -> bool
+    requires k_in { k < 16 }
+    requires y_in { y < 1000 }
+    requires x_in { x < 1000 }
+    ensures { result ≡ is_dark_on sheet.now.kind sheet.now.width sheet.now.bytes.now k y x }
+{
+    let place = place_of(sheet.kind, sheet.width, k, y, x);
+    let byte = sheet.bytes.get(place).copied().unwrap_or(0);
+    is_dark_byte(sheet.kind, y, byte)
+}
+
+/// Returns the number of light modules on the diagonal of the first raster before the first dark one. It is the margin if
+/// the square has a dark module at the top left.
+pub(crate) fn margin_of(sheet: &Sheet) -> usize
+    ensures most { result ≤ sheet.now.width }
+    ensures light { (i : ℕ) → i < result
+        → is_dark_on sheet.now.kind sheet.now.width sheet.now.bytes.now 0 i i ≡ false }
+    ensures dark { result < sheet.now.width
+        → is_dark_on sheet.now.kind sheet.now.width sheet.now.bytes.now 0 result result ≡ true }
+{
+    for i in 0..sheet.width {
+        if is_dark(sheet, 0, i, i) {
+            return i;
+        }
+    }
+    sheet.width
+}
+
+fn square_of(
+    alloc: Global,
+    sheet: &Sheet,
+    margin: usize,
+    side: u8,
+    k: usize,
+) -> Result<Matrix, AllocError>
+    requires least { 1 ≤ side }
+    requires most { side ≤ 177 }
+    requires margin_in { margin ≤ 255 }
+    requires k_in { k < 16 }
+    ensures { IfOk result (λ m. m ≡ square side
+        (λ r c. is_dark_on sheet.now.kind sheet.now.width sheet.now.bytes.now k (margin + r) (margin + c))) }
+{
+    let mut matrix = Matrix::new(alloc, side)?;
+    for row in 0..side {
+        for col in 0..side {
+            let dark = is_dark(
+                sheet,
+                k,
+                margin + usize::from(row),
+                margin + usize::from(col),
+            );
+            matrix.set(row, col, dark);
+        }
+    }
+    Ok(matrix)
+}
+
+pub(crate) fn squares_of(
+    alloc: Global,
+    sheet: &Sheet,
+    margin: usize,
+    side: u8,
+) -> Result<Vec<Matrix>, AllocError>
+    requires least { 1 ≤ side }
+    requires most { side ≤ 177 }
+    requires margin_in { margin ≤ 255 }
+    requires few { sheet.now.count ≤ 16 }
+    ensures { IfOk result (λ squares. squares.items ≡ map (λ k. square side
+        (λ r c. is_dark_on sheet.now.kind sheet.now.width sheet.now.bytes.now k (margin + r) (margin + c)))
+        (range_with_len 0 sheet.now.count)) }
+{
+    let mut squares = Vec::with_capacity(alloc, sheet.count)?;
+    for k in 0..sheet.count {
+        squares.push(square_of(alloc, sheet, margin, side, k)?)?;
+    }
+    Ok(squares)
+}
