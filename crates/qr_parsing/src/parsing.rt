@@ -11,7 +11,7 @@ ghost use Rattle.qr_parsing.specs.Steps.Parsing.{CanBeDrawn, IsGuess};
 ghost use Rattle.qr_parsing.specs.Steps.Sheet.{IsSheetOf, kind_in};
 
 use crate::sheet::{COUNT_MAX, SIDE_MIN, Sheet, margin_of, squares_of};
-use crate::svg::{canvas_of, numbers_in, size_in};
+use crate::svg::{canvas_of, size_in};
 use crate::text::{ascii_sheet, cell_sheet, cells_in, kind_in};
 use qr_devices::Counted;
 use qr_drawing::{Drawing, draw};
@@ -102,11 +102,10 @@ fn guess_document(alloc: Global, text: &[u8]) -> Result<Option<Drawn>, AllocErro
     ensures { IfOk result (λ found. MatchOption found (IsNoDrawing text.now)
         (λ d. IsGuess d.kind d.margin d.squares.items text.now)) }
 {
-    let numbers = numbers_in(alloc, text)?;
-    let Some(size) = size_in(&numbers) else {
+    let Some(size) = size_in(text) else {
         return Ok(None);
     };
-    let canvas = canvas_of(alloc, size.width, size.height, &numbers)?;
+    let canvas = canvas_of(alloc, size.width, size.height, text)?;
     let sheet = Sheet {
         kind: Drawing::Svg,
         width: size.width,

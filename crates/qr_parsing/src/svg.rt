@@ -1,9 +1,10 @@
 //! The sheets of SVG documents, from the numbers in them. Those of the boxes come last: five for each, which are its
-//! column, its row, its number of modules, its height of 1 and the number of modules again.
+//! column, its row, its number of modules, its height of 1 and the number of modules again. The numbers are read where they
+//! are needed, and never stored.
 
-ghost use Rattle.std.specs.Prelude.{◌≡◌, ℕ, ◌<◌, ◌≤◌, ◌+◌, ◌*◌, ◌/◌, ◌%◌, ◌^◌, ◌==◌, ◌&&◌, ◌++◌, ◌∷◌, List, drop, nat_le, nat_lt, if◌then◌else◌, length, slice_index_or, IfOk, IfSome, MatchOption};
+ghost use Rattle.std.specs.Prelude.{◌≡◌, ℕ, ◌<◌, ◌≤◌, ◌+◌, ◌*◌, ◌/◌, ◌%◌, ◌^◌, ◌==◌, ◌&&◌, ◌∷◌, [], List, drop, nat_le, nat_lt, if◌then◌else◌, length, slice_index_or, IfOk, IfSome, MatchOption};
 ghost use Rattle.qr_parsing.specs.Steps.Sheet.{HasNoSheet, count_in, kind_in, width_in};
-ghost use Rattle.qr_parsing.specs.Steps.Svg.{canvas_of, is_in_boxes, numbers_after, numbers_in};
+ghost use Rattle.qr_parsing.specs.Steps.Svg.{canvas_of, is_in_boxes, numbers_in};
 ghost use Rattle.qr_drawing.specs.declared.drawing.Drawing.TheVariants.{Svg};
 
 use crate::sheet::{COUNT_MAX, SIDE_MIN, WIDTH_MAX};
@@ -19,66 +20,71 @@ const BOXES: usize = 16;
 // Greater numbers are read as this one, which no drawing has.
 const NUMBER_MAX: u32 = 99_999;
 
-// Reads one byte more after the digits of `number`, if there were any just before it. The result is the number and
-// whether there were any digits just before the byte after this one.
+// Returns the first decimal number in a text that another byte follows, and what follows that byte.
 #[tactic(auto, unfolding(crate::specs::Steps::Svg::numbers_after))]
-fn read_byte(
-    numbers: &mut Vec<u32>,
-    number: u32,
-    inside: bool,
-    byte: u8,
-) -> Result<(u32, bool), AllocError>
-    requires { number ≤ 99999 }
-    ensures small { IfOk result (λ s. s.0 ≤ 99999) }
-    ensures reads { IfOk result (λ s. (rest : List ℕ) → numbers.old.items ++ numbers_after number inside (byte ∷ rest)
-        ≡ numbers.new.items ++ numbers_after s.0 s.1 rest) }
+fn next_number(text: &[u8]) -> Option<(u32, &[u8])>
+    ensures small { IfSome result (λ s. s.0 ≤ 99999) }
+    ensures shorter { IfSome result (λ s. length s.1.now < length text.now) }
+    ensures reads { MatchOption result (numbers_in text.now ≡ [])
+        (λ s. numbers_in text.now ≡ s.0 ∷ numbers_in s.1.now) }
 {
-    if byte >= b'0' && byte <= b'9' {
-        let longer = number * 10 + u32::from(byte - b'0');
-        return Ok((longer.min(NUMBER_MAX), true));
-    }
-    if inside {
-        numbers.push(number)?;
-    }
-    Ok((0, false))
-}
-
-/// Returns the decimal numbers in a text.
-pub(crate) fn numbers_in(alloc: Global, text: &[u8]) -> Result<Vec<u32>, AllocError>
-    ensures { IfOk result (λ numbers. numbers.items ≡ numbers_in text.now) }
-{
-    let mut numbers = Vec::new(alloc);
+    let mut rest = text;
     let mut number = 0;
     let mut inside = false;
-    for byte in text {
-        (number, inside) = read_byte(&mut numbers, number, inside, *byte)?;
+    'bytes: while let Some((byte, after)) = rest.split_first() {
+        rest = after;
+        if *byte >= b'0' && *byte <= b'9' {
+            number = (number * 10 + u32::from(*byte - b'0')).min(NUMBER_MAX);
+            inside = true;
+        } else if inside {
+            return Some((number, rest));
+        }
     }
-    Ok(numbers)
+    None
 }
 
-fn number_at(numbers: &[u32], index: usize) -> usize
-    ensures { result ≡ slice_index_or numbers.now index 0 }
+// Returns what follows the first `count` numbers, or nothing that has a number if there are fewer.
+fn after_numbers(text: &[u8], count: usize) -> &[u8]
+    ensures { numbers_in result.now ≡ drop count (numbers_in text.now) }
 {
-    numbers.get(index).copied().unwrap_or(0) as usize
+    let mut rest = text;
+    for _ in 0..count {
+        let Some((_, after)) = next_number(rest) else {
+            return &[];
+        };
+        rest = after;
+    }
+    rest
 }
 
-/// A document's width in modules, and its number of rasters.
+// Returns 0 if there is no such number.
+fn number_at(text: &[u8], index: usize) -> usize
+    ensures { result ≡ slice_index_or (numbers_in text.now) index 0 }
+{
+    match next_number(after_numbers(text, index)) {
+        Some((number, _)) => number as usize,
+        None => 0,
+    }
+}
+
+/// A document's width and height in modules, and its number of rasters.
 #[derive(Drop)]
 pub(crate) struct Size {
     pub(crate) width: usize,
-    pub(crate) count: usize,
     pub(crate) height: usize,
+    pub(crate) count: usize,
 }
 
-/// Returns the size of a document from its numbers.
-pub(crate) fn size_in(numbers: &[u32]) -> Option<Size>
+/// Returns the size of a document, if a drawing can have it.
+pub(crate) fn size_in(text: &[u8]) -> Option<Size>
+    requires { kind_in text.now ≡ Svg }
     ensures small { IfSome result (λ s. (8 ≤ s.width) × (s.width ≤ 687) × (s.height < 17 * 687)) }
-    ensures size { (text : List ℕ) → kind_in text ≡ Svg → numbers.now ≡ numbers_in text
-        → MatchOption result (HasNoSheet text) (λ s. (s.width ≡ width_in Svg text) × (s.count ≡ count_in Svg text)
-        × (s.height ≡ slice_index_or (numbers_in text) 10 0)) }
+    ensures size { MatchOption result (HasNoSheet text.now)
+        (λ s. (s.width ≡ width_in Svg text.now) × (s.count ≡ count_in Svg text.now)
+        × (s.height ≡ slice_index_or (numbers_in text.now) 10 0)) }
 {
-    let width = number_at(numbers, WIDTH);
-    let height = number_at(numbers, WIDTH + 1);
+    let width = number_at(text, WIDTH);
+    let height = number_at(text, WIDTH + 1);
     if width < SIDE_MIN || width > WIDTH_MAX {
         return None;
     }
@@ -88,9 +94,31 @@ pub(crate) fn size_in(numbers: &[u32]) -> Option<Size>
     }
     Some(Size {
         width,
-        count,
         height,
+        count,
     })
+}
+
+#[derive(Clone, Copy)]
+struct DarkBox {
+    x: u32,
+    y: u32,
+    modules: u32,
+}
+
+// Returns the box with which the numbers of a text begin, and what follows it.
+fn next_box(text: &[u8]) -> Option<(DarkBox, &[u8])>
+    ensures shorter { IfSome result (λ s. length s.1.now < length text.now) }
+    ensures none { MatchOption result (length (numbers_in text.now) < 5)
+        (λ s. (high : ℕ) × (back : ℕ) × (numbers_in text.now
+        ≡ s.0.x ∷ s.0.y ∷ s.0.modules ∷ high ∷ back ∷ numbers_in s.1.now)) }
+{
+    let (x, rest) = next_number(text)?;
+    let (y, rest) = next_number(rest)?;
+    let (modules, rest) = next_number(rest)?;
+    let (_, rest) = next_number(rest)?;
+    let (_, rest) = next_number(rest)?;
+    Some((DarkBox { x, y, modules }, rest))
 }
 
 // Makes the modules of a box dark, as far as they are on the canvas.
@@ -114,29 +142,26 @@ fn paint(bytes: &mut [u8], width: usize, height: usize, x: usize, y: usize, modu
 }
 
 // Makes the modules of all boxes dark.
-fn paint_all(bytes: &mut [u8], width: usize, height: usize, numbers: &[u32])
+fn paint_all(bytes: &mut [u8], width: usize, height: usize, boxes: &[u8])
     requires area { length bytes.old ≡ width * height }
     requires some { 0 < width }
     requires wide { width ≤ 687 }
     requires high { height ≤ 99999 }
     ensures { (i : ℕ) → i < length bytes.old → slice_index_or bytes.new i 0
-        ≡ (if is_in_boxes numbers.now (i / width) (i % width) then 1 else slice_index_or bytes.old i 0) }
+        ≡ (if is_in_boxes (numbers_in boxes.now) (i / width) (i % width) then 1 else slice_index_or bytes.old i 0) }
 {
-    let mut rest = numbers;
-    'boxes: while rest.len() >= 5 {
-        let (x, y, modules) = (rest[0] as usize, rest[1] as usize, rest[2] as usize);
-        paint(bytes, width, height, x, y, modules);
-        rest = rest.split_at(5).1;
+    let mut rest = boxes;
+    'boxes: while let Some((dark, after)) = next_box(rest) {
+        paint(
+            bytes,
+            width,
+            height,
+            dark.x as usize,
+            dark.y as usize,
+            dark.modules as usize,
+        );
+        rest = after;
     }
-}
-
-fn boxes_in(numbers: &[u32]) -> &[u32]
-    ensures { result.now ≡ drop 16 numbers.now }
-{
-    if numbers.len() < BOXES {
-        return &[];
-    }
-    numbers.split_at(BOXES).1
 }
 
 /// Returns the canvas of a document: a byte for each of its modules, 1 for a dark one.
@@ -144,14 +169,14 @@ pub(crate) fn canvas_of(
     alloc: Global,
     width: usize,
     height: usize,
-    numbers: &[u32],
+    text: &[u8],
 ) -> Result<Vec<u8>, AllocError>
     requires some { 0 < width }
     requires wide { width ≤ 687 }
     requires high { height ≤ 99999 }
-    ensures { IfOk result (λ bytes. bytes.items ≡ canvas_of width height (drop 16 numbers.now)) }
+    ensures { IfOk result (λ bytes. bytes.items ≡ canvas_of width height (drop 16 (numbers_in text.now))) }
 {
     let mut bytes = vec![in alloc; 0u8; width * height]?;
-    paint_all(&mut bytes, width, height, boxes_in(numbers));
+    paint_all(&mut bytes, width, height, after_numbers(text, BOXES));
     Ok(bytes)
 }
