@@ -22,9 +22,17 @@ is_dark_byte AsciiInverse y byte = byte == 32
 is_dark_byte Utf8 y byte = byte == 32 || byte == (if y % 2 == 0 then 0x84 else 0x80)
 is_dark_byte Svg y byte = byte == 1
 
+-- The byte is one of two signs
+abbrev pub is_sign : ℕ × ℕ → ℕ → Bool
+is_sign signs byte = byte == signs.0 || byte == signs.1
+
 -- The sheet shows a dark module there
 unfoldable pub is_dark_on : Drawing → ℕ → List ℕ → ℕ → ℕ → ℕ → Bool
 is_dark_on kind width bytes k y x = is_dark_byte kind y (slice_index_or bytes (place_of kind width k y x) 0)
+
+-- Each module of the sheet has a byte
+abbrev pub HasPlaces : Drawing → ℕ → ℕ → List ℕ → Type 0
+HasPlaces kind width count bytes = (k y x : ℕ) → k < count → y < width → x < width → place_of kind width k y x < length bytes
 
 -- The sheet shows the rasters of these squares
 pub record ShowsOn (kind : Drawing) (width count : ℕ) (bytes : List ℕ) (margin : ℕ) (squares : List Grid) : Type 0 where

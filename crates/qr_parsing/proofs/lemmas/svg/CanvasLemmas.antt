@@ -4,6 +4,7 @@ use Rattle.std.proofs.lemmas.{Bool.cases_lt, Bool.Decides.nat_tests, Nat.div-mul
 use Rattle.std.proofs.lemmas.List.{get_or-set_same, get_or-set_other, FromFn.fill_by_all, get_or-replicate, length-replicate}
 use Rattle.std.proofs.Math.Seq.{take-append_seam}
 use Rattle.qr_parsing.specs.Steps.Svg.{canvas_of, is_in_boxes}
+use Rattle.qr_parsing.proofs.lemmas.text.PlaceLemmas.{place-in}
 
 -- a place by its row and column
 pub split-place : (i w : ℕ) → 0 < w → i / w * w + i % w ≡ i
@@ -73,3 +74,10 @@ canvas-is w h n bytes new numbers e f g painted =
     let long : length bytes ≡ w * h = ap length e ∙ length-replicate (w * h) 0 in
     let none : get_or bytes i 0 ≡ 0 = ap (λ l. get_or l i 0) e ∙ get_or-replicate (w * h) i 0 0 lt in
     painted i (omega arith) ∙ ap (λ z. cond (is_in_boxes numbers (i / w) (i % w)) 1 z) none))
+
+-- the bytes of whole rasters are on the canvas
+pub canvas-inside : (w high count k y x : ℕ) → 8 ≤ w → count ≡ high / w → k < count → y < w → x < w → (k * w + y) * w + x < w * high
+canvas-inside w high count k y x wide e a b c =
+    let all : count * w ≤ high = omega (arith, ap (λ n. n * w) e) in
+    let line = place-in count w k y a b in
+    omega (arith, place-in high w (k * w + y) x (omega arith) c)

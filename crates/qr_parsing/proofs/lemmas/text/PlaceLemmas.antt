@@ -1,5 +1,5 @@
 -- The bytes of texts by their index. A text consists of the texts of places, or of lines of cells.
-use Rattle.std.proofs.Common.{◌≡◌, ◌≤◌, ◌<◌, ◌+◌, ◌-◌, ◌*◌, ◌∙◌, ◌++◌, ℕ, zero, suc, Bool, true, false, eqb, List, [], ◌∷◌, length, get_or, refl, sym, ap, arith, inl, inr, length-append}
+use Rattle.std.proofs.Common.{◌≡◌, ◌≤◌, ◌<◌, ◌+◌, ◌-◌, ◌*◌, ◌/◌, ◌∙◌, ◌++◌, ℕ, zero, suc, Bool, true, false, eqb, List, [], ◌∷◌, length, get_or, refl, sym, ap, arith, inl, inr, length-append}
 use Rattle.std.proofs.{Math.Nat.suc-mul, Math.Nat.mul-le-mul_right, lemmas.Bool.cases_lt}
 use Rattle.std.proofs.lemmas.List.{get_or_append_left, get_or-append-add, get_or-append_right, Sums.{fails_before_first, position_or_len_is}, Elements.filter-append}
 use Rattle.std.specs.List.{filter, flat_map, position_or_len, range_with_len}
@@ -223,3 +223,13 @@ cells-filter p count lines width cell end =
   where
     kept : filter p (10 ∷ []) ≡ 10 ∷ []
     kept = rw end refl
+
+-- the bytes of whole squares are in the cells
+pub cell-inside : (len w lines count k y x : ℕ) → lines ≡ (w + 1) / 2 → count ≡ len / (lines * (w + 1)) → 8 ≤ w → k < count → y < w → x < w
+    → (k * ((w + 1) / 2) + y / 2) * (w + 1) + x < len
+cell-inside len w lines count k y x e f wide a b c =
+    let some : 0 < lines * (w + 1) = omega (arith, mul-le-mul_right {m = 1} {n = lines} (w + 1) (omega arith)) in
+    let all : count * (lines * (w + 1)) ≤ len = omega (arith, ap (λ n. n * (lines * (w + 1))) f) in
+    let line = place-in count lines k (y / 2) a (omega arith) in
+    let p = place-in (count * lines) (w + 1) (k * lines + y / 2) x line (omega arith) in
+    omega (arith, p, ap (λ n. (k * n + y / 2) * (w + 1)) e)

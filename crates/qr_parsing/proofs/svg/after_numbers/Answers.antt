@@ -1,4 +1,4 @@
-use Rattle.std.proofs.Common.{◌≡◌, ◌≤◌, ◌∙◌, ◌+◌, ◌-◌, ◌∷◌, [], List, ℕ, ap, sym, drop, length, arith}
+use Rattle.std.proofs.Common.{◌≡◌, ◌∙◌, [], ap, sym, drop, length, arith}
 use Rattle.std.proofs.lemmas.List.{drop_all, drop-drop, length-drop}
 use Rattle.qr_parsing.specs.Steps.Svg.{numbers_after, numbers_in}
 use Rattle.qr_parsing.proofs.svg.after_numbers.Goals as goal
