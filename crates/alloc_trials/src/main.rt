@@ -9,6 +9,7 @@
 mod answer;
 mod bits;
 mod command;
+mod drawings;
 mod symbols;
 
 use crate::answer::Answer;
@@ -17,7 +18,7 @@ use std::env;
 use std::process::ExitCode;
 
 // The trials, those of a crate after those of the crates that it uses.
-static NAMES: [&str; 30] = [
+static NAMES: [&str; 33] = [
     "Matrix::new",
     "segments",
     "longest_fit",
@@ -43,6 +44,9 @@ static NAMES: [&str; 30] = [
     "label",
     "Trial::reader",
     "Trial::writer",
+    "parse_drawing of ASCII",
+    "parse_drawing of UTF8",
+    "parse_drawing of SVG",
     "options",
     "run_series",
     "run_empty",
@@ -78,6 +82,9 @@ fn trial(alloc: Global, name: &str) -> Result<Answer, AllocError> {
         "label" => symbols::labelled(alloc),
         "Trial::reader" => command::reader(alloc),
         "Trial::writer" => Ok(command::writer(alloc)),
+        "parse_drawing of ASCII" => drawings::ascii(alloc),
+        "parse_drawing of UTF8" => drawings::utf8(alloc),
+        "parse_drawing of SVG" => drawings::svg(alloc),
         "options" => command::settings(alloc),
         "run_series" => command::run_of_a_series(alloc),
         "run_empty" => command::run_of_no_byte(alloc),

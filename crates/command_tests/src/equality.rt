@@ -2,6 +2,7 @@
 
 use qr_bits::{BitFault, Header, Mode, ParseFault, Rule, Segment};
 use qr_layout::{Level, Module, Role, Strip, Version};
+use qr_parsing::DrawingFault;
 use qr_symbol::{EncodeFault, ReadFault};
 use qrencode_cli::{DrawFault, Drawing, Faults, ReadCounts, Trouble, WriteCounts};
 use std::test::Fail;
@@ -83,6 +84,9 @@ fn of_faults(rt: HostRuntime) -> Result<(), Fail> {
         EncodeFault::Empty == EncodeFault::Empty && EncodeFault::Empty != EncodeFault::TooLong
     );
     assert_eq!(rt; EncodeFault::TooLong.clone()?, EncodeFault::TooLong);
+    let (other, memory) = (DrawingFault::NotADrawing, DrawingFault::Memory);
+    assert!(rt; other == other && other != memory);
+    assert_eq!(rt; memory.clone()?, memory);
     assert!(rt; DrawFault::Write == DrawFault::Write);
     assert_eq!(rt; DrawFault::Write.clone()?, DrawFault::Write);
     Ok(())

@@ -3,6 +3,7 @@
 use crate::runs::{Devices, run_with};
 use qr_bits::laws::{bit_fault_numbers, parse_fault_numbers};
 use qr_bits::{BitFault, ParseFault};
+use qr_parsing::DrawingFault;
 use qr_symbol::{EncodeFault, ReadFault};
 use qrencode_cli::{DrawFault, UsageFault};
 use std::test::Fail;
@@ -24,6 +25,10 @@ fn numbers_of_faults(rt: HostRuntime) {
         (3, 4)
     );
     assert_eq!(rt; DrawFault::Write as u8, 1);
+    assert_eq!(rt;
+        (DrawingFault::NotADrawing as u8, DrawingFault::Memory as u8),
+        (1, 2)
+    );
     let faults = [
         ReadFault::Memory,
         ReadFault::Side,
@@ -111,5 +116,11 @@ fn messages_are_the_texts_of_lines(rt: HostRuntime) -> Result<(), Fail> {
     }
     let memory = format!(in rt.alloc(); "{} {}", UsageFault::Memory, EncodeFault::Memory)?;
     assert_eq!(rt; memory.as_str(), "out of memory out of memory");
+    let parsing = format!(in rt.alloc();
+        "{}, {}",
+        DrawingFault::NotADrawing,
+        DrawingFault::Memory
+    )?;
+    assert_eq!(rt; parsing.as_str(), "not a drawing of symbols, out of memory");
     Ok(())
 }

@@ -19,6 +19,8 @@ mod folding;
 #[cfg(test)]
 mod letter_a;
 #[cfg(test)]
+mod parsing;
+#[cfg(test)]
 mod runs;
 #[cfg(test)]
 mod series;

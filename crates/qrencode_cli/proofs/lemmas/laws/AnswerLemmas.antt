@@ -104,7 +104,7 @@ checked-have P (Some l) None f h s e = absurd (err-ok unknown_type s e)
 checked-have P (Some l) (Some k) f h s e = search (arith, series-checked)
 
 -- a property of all settings with a level and a type holds of the settings of a command line
-taken-have : (P : SettingsView → Type 0) (well : Bool) (rows : List Row) → ((l : Level) (k : Drawing) → P (settings_with rows l k))
+pub taken-have : (P : SettingsView → Type 0) (well : Bool) (rows : List Row) → ((l : Level) (k : Drawing) → P (settings_with rows l k))
     → (s : SettingsView) → cond well (settings_of rows) (Err refused_by_clap) ≡ Ok s → P s
 taken-have P true rows h s e = checked-have P (option_map_or level_named (first_of (codes "level") rows) (Some level.L)) (option_and_then drawing_named (first_of (codes "type") rows)) (settings_with rows) h s e
 taken-have P false rows h s e = absurd (err-ok refused_by_clap s e)
@@ -117,7 +117,7 @@ version-most n = by-test (leb 1 n) (leb n 40) (leb-true n 40)
     by-test a b h = grind arith
 
 -- the smallest version of settings is at most 40
-smallest-most : (words : List Text) (s : SettingsView) → settings_for words ≡ Ok s → smallest_of s ≤ 40
+pub smallest-most : (words : List Text) (s : SettingsView) → settings_for words ≡ Ok s → smallest_of s ≤ 40
 smallest-most words s e =
     taken-have (λ s. smallest_of s ≤ 40) (length (faults_for words) == 0) (rows_for words) (λ l k. version-most (number_or 0 (one_of (codes "version") (rows_for words)))) s e
 

@@ -1,0 +1,221 @@
+//! Tests of parsing: drawings of the command are parsed, read and joined; drawings typed by hand; texts that are changed.
+
+use crate::runs::{Devices, run_with};
+use qr_devices::Counted;
+use qr_parsing::{DrawingFault, Drawn, parse_drawing};
+use qr_symbol::{Matrix, join, read_symbol};
+use qrencode_cli::{Drawing, draw};
+use std::alloc::Global;
+use std::test::Fail;
+
+static KINDS: [(&str, Drawing); 4] = [
+    ("ASCII", Drawing::Ascii),
+    ("ASCIIi", Drawing::AsciiInverse),
+    ("UTF8", Drawing::Utf8),
+    ("SVG", Drawing::Svg),
+];
+
+// The bytes that the squares contain.
+fn bytes_of(alloc: Global, squares: &[Matrix]) -> Result<Vec<u8>, Fail> {
+    let mut contents = Vec::new(alloc);
+    for square in squares {
+        contents.push(read_symbol(alloc, square)?)?;
+    }
+    Ok(join(alloc, &contents)?)
+}
+
+// Whether the drawing of `input` that the command makes with `words` shows the type and the margin, and `count` squares
+// that contain `input`.
+fn reads_back(
+    alloc: Global,
+    words: &[&str],
+    input: &[u8],
+    shown: (Drawing, u8, usize),
+) -> Result<bool, Fail> {
+    let devices = Devices {
+        out_room: 2_000_000,
+        ..Devices::WITHOUT_FAULTS
+    };
+    let r = run_with(alloc, words, input, devices)?;
+    let drawn = parse_drawing(alloc, r.out.bytes())?;
+    let bytes = bytes_of(alloc, &drawn.squares)?;
+    Ok(
+        r.status == 0
+            && (drawn.kind, drawn.margin, drawn.squares.len()) == shown
+            && bytes.as_slice() == input,
+    )
+}
+
+#[test]
+fn drawings_of_one_symbol(rt: HostRuntime) -> Result<(), Fail> {
+    for (name, kind) in KINDS {
+        for version in ["1", "2", "7", "40"] {
+            for (number, margin) in [("0", 0u8), ("1", 1), ("4", 4), ("100", 100)] {
+                let words = ["-8", "-v", version, "-t", name, "-m", number];
+                assert!(rt;
+                    reads_back(rt.alloc(), &words, b"A", (kind, margin, 1))?,
+                    "{name}, version {version}, margin {margin}"
+                );
+            }
+        }
+    }
+    Ok(())
+}
+
+#[test]
+fn drawings_of_series(rt: HostRuntime) -> Result<(), Fail> {
+    let input = [b'a'; 80];
+    for (name, kind) in KINDS {
+        for (len, count) in [(8usize, 2usize), (80, 16)] {
+            for (number, margin) in [("0", 0u8), ("3", 3)] {
+                let words = ["-S", "-8", "-v", "1", "-l", "H", "-t", name, "-m", number];
+                assert!(rt; len <= 80);
+                assert!(rt;
+                    reads_back(rt.alloc(), &words, &input[..len], (kind, margin, count))?,
+                    "{name}, {count} symbols, margin {margin}"
+                );
+            }
+        }
+    }
+    Ok(())
+}
+
+// The rows of a square, which the drawings typed by hand show: `#` is dark.
+static ROWS: [&[u8]; 8] = [
+    b"#######.",
+    b"#.....#.",
+    b"#.###.#.",
+    b"#.###.##",
+    b"#.###.#.",
+    b"#.....##",
+    b"#######.",
+    b"........",
+];
+
+fn shows_rows(drawn: &Drawn) -> bool {
+    let Some(square) = drawn.squares.first() else {
+        return false;
+    };
+    if square.side() != 8 {
+        return false;
+    }
+    for row in 0..8u8 {
+        for col in 0..8u8 {
+            let sign = ROWS[usize::from(row)].get(usize::from(col)).copied();
+            if square.dark(row, col) != (sign == Some(b'#')) {
+                return false;
+            }
+        }
+    }
+    true
+}
+
+#[test]
+fn drawings_typed_by_hand(rt: HostRuntime) -> Result<(), Fail> {
+    let ascii = b"##############  \n##          ##  \n##  ######  ##  \n##  ######  ####\n\
+        ##  ######  ##  \n##          ####\n##############  \n                \n";
+    let inverse =
+        b"####################\n##              ####\n##  ##########  ####\n##  ##      ##  ####\n\
+        ##  ##      ##    ##\n##  ##      ##  ####\n##  ##########    ##\n##              ####\n\
+        ####################\n####################\n";
+    let half_blocks = " ▄▄▄▄▄ █\n █   █ ▀\n █▄▄▄█ ▀\n▄▄▄▄▄▄▄█\n".as_bytes();
+    let rows = [
+        (&ascii[..], Drawing::Ascii, 0u8),
+        (&inverse[..], Drawing::AsciiInverse, 1),
+        (half_blocks, Drawing::Utf8, 0),
+    ];
+    for (text, kind, margin) in rows {
+        let drawn = parse_drawing(rt.alloc(), text)?;
+        assert!(rt; (drawn.kind, drawn.margin, drawn.squares.len()) == (kind, margin, 1));
+        assert!(rt; shows_rows(&drawn));
+    }
+    Ok(())
+}
+
+// SplitMix64, a generator of numbers that look random.
+fn next(state: &mut u64) -> u64 {
+    *state = state.wrapping_add(0x9E37_79B9_7F4A_7C15);
+    let first = (*state ^ (*state >> 30)).wrapping_mul(0xBF58_476D_1CE4_E5B9);
+    let second = (first ^ (first >> 27)).wrapping_mul(0x94D0_49BB_1331_11EB);
+    second ^ (second >> 31)
+}
+
+fn below(state: &mut u64, end: usize) -> usize {
+    (next(state) % (end.max(1) as u64)) as usize
+}
+
+static SIGNS: [u8; 26] = *b" #\n\xE2\x96\x84\x80\x88M0123456789hvz-\"<x";
+
+// Changes the text in one to four places: replaces, removes or inserts a byte, or cuts the text off.
+fn changed(alloc: Global, text: &[u8], state: &mut u64) -> Result<Vec<u8>, Fail> {
+    let mut changed = Vec::from_slice(alloc, text)?;
+    for _ in 0..1 + below(state, 4) % 4 {
+        let at = below(state, changed.len());
+        if at < changed.len() {
+            let sign = SIGNS[below(state, 26) % 26];
+            match below(state, 7) {
+                0 | 1 | 2 => changed[at] = sign,
+                3 | 4 => {
+                    changed.remove(at);
+                }
+                5 => changed.insert(at, sign)?,
+                _ => changed.truncate(at),
+            }
+        }
+    }
+    Ok(changed)
+}
+
+// A changed text is refused, or it is the drawing of what is returned.
+#[test]
+fn changed_drawings(rt: HostRuntime) -> Result<(), Fail> {
+    let alloc = rt.alloc();
+    let mut state = 7;
+    let mut refused = 0u32;
+    for (name, _) in KINDS {
+        let words = ["-S", "-8", "-v", "1", "-l", "H", "-m", "2", "-t", name];
+        let devices = Devices {
+            out_room: 20_000,
+            ..Devices::WITHOUT_FAULTS
+        };
+        let r = run_with(alloc, &words, b"ABCDEFGH", devices)?;
+        for _ in 0..250 {
+            let text = changed(alloc, r.out.bytes(), &mut state)?;
+            match parse_drawing(alloc, &text) {
+                Err(DrawingFault::NotADrawing) => refused = refused.saturating_add(1),
+                Err(DrawingFault::Memory) => return Err("memory".into()),
+                Ok(found) => {
+                    let mut again = Counted::new(Vec::new(alloc));
+                    draw(&found.squares, found.kind, found.margin, &mut again)?;
+                    assert!(rt; again.into_inner().as_slice() == text.as_slice());
+                }
+            }
+        }
+    }
+    assert!(rt; refused > 900, "{refused} of 1,000 are refused");
+    Ok(())
+}
+
+#[test]
+fn no_drawings(rt: HostRuntime) -> Result<(), Fail> {
+    let texts = [
+        &b""[..],
+        b"\n",
+        b"#",
+        b"##\n",
+        b"<svg>",
+        b"<9 9 9 9 9 9 9 9 9 9 9999999999999999999999 9 9 9 9 9 9 9 9",
+        b"<0 0 0 0 0 0 0 0 0 687 10993 0 0 0 0 0 ",
+        b"                                          \n",
+        b"\xE2\x96\x84\n",
+    ];
+    for text in texts {
+        assert!(rt;
+            matches!(
+                parse_drawing(rt.alloc(), text),
+                Err(DrawingFault::NotADrawing)
+            )
+        );
+    }
+    Ok(())
+}

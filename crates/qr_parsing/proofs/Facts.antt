@@ -1,0 +1,2 @@
+-- The lemmas that other crates use.
+pub use Rattle.qr_parsing.proofs.lemmas.laws.LawLemmas.{one-drawing, series-drawing, symbol-drawing}

@@ -1,0 +1,6 @@
+-- Lemmas, in folders by the file of src that they serve, in the order in which they are read.
+pub mod sheet
+pub mod text
+pub mod svg
+pub mod parsing
+pub mod laws

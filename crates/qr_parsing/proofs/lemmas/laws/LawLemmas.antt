@@ -1,0 +1,102 @@
+-- A text is one drawing at most, and those of symbols are parsed.
+use Rattle.std.proofs.Common.{◌≡◌, ◌≤◌, ◌<◌, ◌+◌, ◌∙◌, ℕ, true, false, List, [], ◌∷◌, length, refl, sym, subst, arith, inl, inr, Option, None}
+use Rattle.std.proofs.lemmas.List.{length-map, Elements.{All-cons, All-nil}}
+use Rattle.std.specs.List.{All}
+use Rattle.qr_layout.specs.{Version.side_of, Role.{finder_ring, pattern_colour, role_of}, declared.level.Level.Level}
+use Rattle.qr_bits.specs.{declared.header.Header.Header, declared.modes.Rule.Rule}
+use Rattle.qr_matrix.specs.Grid.{Grid, colour, light}
+use Rattle.qr_matrix.proofs.Facts.{colour-square, square-same}
+use Rattle.qr_symbol.specs.{Encoding.{IsSymbol, IsSymbolAt}, Series.{AreSymbolsFrom, IsSeries, squares_of}, Symbol.{colour_of, grid_of}, declared.symbol.Symbol.Symbol}
+use Rattle.qr_symbol.proofs.Facts.{series-few, series-side, series-some}
+use Rattle.qr_drawing.specs.{Drawing.{HaveOneSide, drawn}, declared.drawing.Drawing.Drawing}
+use Rattle.qr_parsing.specs.{Parsing.{BeginsAsSymbol, IsDrawingOf}, Steps.Sheet.{ShowsOn, bytes_in, count_in, width_in}}
+use Rattle.qr_parsing.proofs.lemmas.{parsing.GuessLemmas.{kind-shown, sheet-shown}, sheet.SheetLemmas.one-sheet}
+
+-- two drawings that are one text are of one type, margin and list of squares
+pub one-drawing : (kind other : Drawing) (margin last : ℕ) (squares others : List Grid) (text : List ℕ)
+    → IsDrawingOf kind margin squares text → IsDrawingOf other last others text
+    → (kind ≡ other) × (margin ≡ last) × (squares ≡ others)
+one-drawing kind other margin last squares others text g h =
+    let e : kind ≡ other = sym (kind-shown kind margin squares text g) ∙ kind-shown other last others text h in
+    let P : Drawing → Type 0 = λ k. ShowsOn k (width_in k text) (count_in k text) (bytes_in k text) last others in
+    let shown : P kind = subst P (sym e) (sheet-shown other last others text h) in
+    let one = one-sheet kind (width_in kind text) (count_in kind text) (bytes_in kind text) margin last squares others
+    g.some h.some g.one_side h.one_side g.begin h.begin (sheet-shown kind margin squares text g) shown in
+    (e, one.0, one.1)
+
+-- ---- symbols
+
+-- the corner of a finder pattern is dark
+corner : (v mask : ℕ) (l : Level) (cw : List ℕ) → 1 ≤ v → colour_of v l mask cw 0 0 ≡ true
+unfolding colour_of role_of pattern_colour
+corner v mask l cw some = let e : finder_ring (side_of v) 0 0 ≡ 3 = omega arith in rw e refl
+
+-- column 7 is in its separator
+separator : (v mask : ℕ) (l : Level) (cw : List ℕ) → 1 ≤ v → colour_of v l mask cw 0 7 ≡ false
+unfolding colour_of role_of pattern_colour
+separator v mask l cw some = let e : finder_ring (side_of v) 0 7 ≡ 4 = omega arith in rw e refl
+
+-- the square that codewords make
+begins : (v mask : ℕ) (l : Level) (cw : List ℕ) → 1 ≤ v → v ≤ 40 → BeginsAsSymbol (grid_of v l mask cw)
+begins v mask l cw some most = record {
+  least = omega arith;
+  most = omega arith;
+  whole = square-same (side_of v) (colour_of v l mask cw) (colour (grid_of v l mask cw)) (λ r c a b. sym (colour-square (side_of v) (colour_of v l mask cw) r c a b));
+  corner = colour-square (side_of v) (colour_of v l mask cw) 0 0 (omega arith) (omega arith) ∙ corner v mask l cw some;
+  separator = colour-square (side_of v) (colour_of v l mask cw) 0 7 (omega arith) (omega arith) ∙ separator v mask l cw some;
+}
+
+-- that of a symbol of an input
+begins-symbol : (v : ℕ) (l : Level) (rule : Rule) (x : List ℕ) (h : Option Header) (mask : ℕ) (g : Grid) → 1 ≤ v → v ≤ 40 → IsSymbolAt v l rule x h mask g → BeginsAsSymbol g
+begins-symbol v l rule x h mask g some most made = subst BeginsAsSymbol (sym made.drawn) (begins v mask l made.codewords some most)
+
+-- the squares of the symbols of parts
+begin-parts : (v : ℕ) (l : Level) (rule : Rule) (last parity k : ℕ) (ps : List (List ℕ)) (ss : List Symbol) → 1 ≤ v → v ≤ 40 → AreSymbolsFrom v l rule last parity k ps ss → All BeginsAsSymbol (squares_of ss)
+unfolding AreSymbolsFrom
+begin-parts v l rule last parity k [] [] some most h = All-nil BeginsAsSymbol
+begin-parts v l rule last parity k [] (s ∷ ss) some most h = absurd h
+begin-parts v l rule last parity k (p ∷ ps) [] some most h = absurd h
+begin-parts v l rule last parity k (p ∷ ps) (s ∷ ss) some most h =
+    All-cons BeginsAsSymbol s.matrix (squares_of ss) (begins-symbol v l rule p _ s.mask s.matrix some most h.0.made) (begin-parts v l rule last parity (k + 1) ps ss some most h.1)
+
+-- the squares of a series
+begin-series : (v : ℕ) (l : Level) (rule : Rule) (x : List ℕ) (ss : List Symbol) → 1 ≤ v → v ≤ 40 → IsSeries v l rule x ss → All BeginsAsSymbol (squares_of ss)
+begin-series v l rule x ss some most (inl h) =
+    let P : List Symbol → Type 0 = λ ts. All BeginsAsSymbol (squares_of ts) in
+    subst P (sym h.alone) (All-cons BeginsAsSymbol h.symbol.matrix [] (begins-symbol v l rule x None h.symbol.mask h.symbol.matrix some most h.made.made) (All-nil BeginsAsSymbol))
+begin-series v l rule x ss some most (inr h) = begin-parts v l rule _ _ 0 h.parts ss some most h.made
+
+-- squares that all have this side
+one-side : (side : ℕ) (squares : List Grid) → 0 < length squares → All (λ g. g.side ≡ side) squares → HaveOneSide squares
+one-side side squares some all k d lt = all k d lt ∙ sym (all 0 (light 0) some)
+
+-- the drawings of a symbol
+pub symbol-drawing : (kind : Drawing) (margin smallest : ℕ) (l : Level) (rule : Rule) (x : List ℕ) (v mask : ℕ) (g : Grid)
+    → margin ≤ 255 → 1 ≤ smallest → IsSymbol smallest l rule x v mask g → IsDrawingOf kind margin (g ∷ []) (drawn kind margin (g ∷ []))
+symbol-drawing kind margin smallest l rule x v mask g m some h =
+    let least = h.version.least in
+    let most = h.version.most in
+    record {
+      some = omega arith;
+      few = omega arith;
+      margin_in = m;
+      one_side = one-side g.side (g ∷ []) (omega arith) (All-cons (λ z. z.side ≡ g.side) g [] refl (All-nil (λ z. z.side ≡ g.side)));
+      begin = All-cons BeginsAsSymbol g [] (begins-symbol v l rule x None mask g (omega arith) most h.made) (All-nil BeginsAsSymbol);
+      is_drawn = refl;
+    }
+
+-- those of a series
+pub series-drawing : (kind : Drawing) (margin v : ℕ) (l : Level) (rule : Rule) (x : List ℕ) (symbols : List Symbol)
+    → margin ≤ 255 → 1 ≤ v → v ≤ 40 → IsSeries v l rule x symbols → IsDrawingOf kind margin (squares_of symbols) (drawn kind margin (squares_of symbols))
+series-drawing kind margin v l rule x symbols m some most h =
+    let n = length-map symbols (λ (s : Symbol). s.matrix) in
+    let a = series-some x l rule v symbols h in
+    let b = series-few x l rule v symbols h in
+    record {
+      some = omega arith;
+      few = omega arith;
+      margin_in = m;
+      one_side = one-side (side_of v) (squares_of symbols) (omega arith) (series-side x l rule v symbols h);
+      begin = begin-series v l rule x symbols some most h;
+      is_drawn = refl;
+    }

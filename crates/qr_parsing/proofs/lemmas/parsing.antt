@@ -1,0 +1,2 @@
+-- What the code finds is all that a text can show.
+pub mod GuessLemmas

@@ -1,0 +1,114 @@
+-- What the code finds is all that a text can show.
+use Rattle.std.proofs.Common.{◌≡◌, ◌≤◌, ◌<◌, ◌+◌, ◌-◌, ◌*◌, ◌/◌, ◌∙◌, ℕ, Bool, true, false, List, length, map, get_or, refl, sym, ap, subst, arith, inl, inr, ◌⊎◌}
+use Rattle.std.proofs.lemmas.List.FromFn.{fill_by_all, get_or-map-range_with_len, length-map-range_with_len}
+use Rattle.std.specs.List.{range_with_len}
+use Rattle.qr_matrix.specs.Grid.{Grid, IsSquare, colour, light, square}
+use Rattle.qr_matrix.proofs.Facts.{colour-square, square-same}
+use Rattle.qr_drawing.specs.declared.drawing.Drawing.{Drawing}
+use Rattle.qr_drawing.specs.declared.drawing.Drawing.TheVariants.{Ascii, AsciiInverse, Utf8, Svg}
+use Rattle.qr_parsing.specs.{Parsing.{IsDrawingOf, IsNoDrawing}, Steps.Parsing.CanBeDrawn, Steps.Sheet.{HasNoSheet, IsSheetOf, ShowsOn, bytes_in, count_in, is_dark_on, kind_in, width_in}, Steps.Text.cells_in}
+use Rattle.qr_parsing.proofs.lemmas.{sheet.SheetLemmas.{begins-at, corner-dark, diagonal-light, shows-by, square-on}, svg.DocumentLemmas.{svg-kind, svg-sheet}}
+use Rattle.qr_parsing.proofs.lemmas.text.{AsciiLemmas.{inverse-kind, inverse-sheet, plain-kind, plain-sheet}, HalfBlockLemmas.{block-kind, block-sheet}}
+
+-- the type of drawing that a text can be
+pub kind-shown : (kind : Drawing) (margin : ℕ) (squares : List Grid) (text : List ℕ) → IsDrawingOf kind margin squares text → kind_in text ≡ kind
+kind-shown Ascii margin squares text h = plain-kind margin squares text h
+kind-shown AsciiInverse margin squares text h = inverse-kind margin squares text h
+kind-shown Utf8 margin squares text h = block-kind margin squares text h
+kind-shown Svg margin squares text h = svg-kind margin squares text h
+
+-- the sheet of a drawing shows its squares
+pub sheet-shown : (kind : Drawing) (margin : ℕ) (squares : List Grid) (text : List ℕ) → IsDrawingOf kind margin squares text
+    → ShowsOn kind (width_in kind text) (count_in kind text) (bytes_in kind text) margin squares
+sheet-shown Ascii margin squares text h = plain-sheet margin squares text h
+sheet-shown AsciiInverse margin squares text h = inverse-sheet margin squares text h
+sheet-shown Utf8 margin squares text h = block-sheet margin squares text h
+sheet-shown Svg margin squares text h = svg-sheet margin squares text h
+
+-- a text that is too narrow or too wide
+pub too-wide : (text : List ℕ) (kind : Drawing) (width : ℕ) → kind_in text ≡ kind → width ≡ width_in kind text → (width < 8) ⊎ (687 < width) → HasNoSheet text
+too-wide text kind width e f h =
+    let P : Drawing → Type 0 = λ k. ((width_in k text < 8) ⊎ (687 < width_in k text)) ⊎ (16 < count_in k text) in
+    let Q : ℕ → Type 0 = λ w. (w < 8) ⊎ (687 < w) in
+    subst P (sym e) (inl (subst Q f h))
+
+-- a document of too many
+pub too-high : (text : List ℕ) (kind : Drawing) (count : ℕ) → kind_in text ≡ kind → count ≡ count_in kind text → 16 < count → HasNoSheet text
+too-high text kind count e f h =
+    let P : Drawing → Type 0 = λ k. ((width_in k text < 8) ⊎ (687 < width_in k text)) ⊎ (16 < count_in k text) in
+    subst P (sym e) (inr (omega arith))
+
+-- the number of squares in half blocks
+pub block-count : (len lines width : ℕ) (bytes text : List ℕ) → len ≡ length bytes → lines ≡ (width + 1) / 2 → width ≡ width_in Utf8 text → bytes ≡ cells_in text
+    → len / (lines * (width + 1)) ≡ count_in Utf8 text
+block-count len lines width bytes text e f g h =
+    (λ i. (e ∙ ap length h) i / (f i * (width + 1))) ∙ ap (λ w. length (cells_in text) / ((w + 1) / 2 * (w + 1))) g
+
+-- it is no drawing
+pub none-wide : (text : List ℕ) → HasNoSheet text → IsNoDrawing text
+none-wide text wide kind margin squares h =
+    let b = begins-at squares 0 h.begin h.some in
+    let P : Drawing → Type 0 = λ k. ((width_in k text < 8) ⊎ (687 < width_in k text)) ⊎ (16 < count_in k text) in
+    let shown = sheet-shown kind margin squares text h in
+    let w = shown.width_is in
+    let n = shown.count_is in
+    let m = h.margin_in in
+    let few = h.few in
+    elim (subst P (kind-shown kind margin squares text h) wide) [
+      | inl bad ↦ elim bad [ inl lt ↦ omega (arith, b.least) | inr gt ↦ omega (arith, b.most) ]
+      | inr many ↦ omega arith
+    ]
+
+-- what the code guessed
+pub record Guessed (kind : Drawing) (width count : ℕ) (bytes : List ℕ) (margin : ℕ) (k : Drawing) (m : ℕ) (s : List Grid) : Type 0 where
+  pub kind_is : k ≡ kind
+  pub margin_is : m ≡ margin
+  pub margin_most : m ≤ 255
+  pub least : 2 * m + 8 ≤ width
+  pub most : width ≤ 2 * m + 177
+  pub some : 0 < count
+  pub few : count ≤ 16
+  pub squares_are : s ≡ map (λ k. square (width - 2 * margin) (λ r c. is_dark_on kind width bytes k (margin + r) (margin + c))) (range_with_len 0 count)
+
+pub guessed : (kind : Drawing) (width count : ℕ) (bytes : List ℕ) (margin : ℕ) (text : List ℕ) → IsSheetOf kind width count bytes text
+    → ((i : ℕ) → i < margin → is_dark_on kind width bytes 0 i i ≡ false) → (margin < width → is_dark_on kind width bytes 0 margin margin ≡ true)
+    → (k : Drawing) (m : ℕ) (s : List Grid) → IsDrawingOf k m s text → Guessed kind width count bytes margin k m s
+guessed kind width count bytes margin text is light_before dark k m s h =
+    let e : k ≡ kind = sym (kind-shown k m s text h) ∙ sym is.kind_is in
+    let P : Drawing → Type 0 = λ z. ShowsOn z (width_in z text) (count_in z text) (bytes_in z text) m s in
+    let at_kind : P kind = subst P e (sheet-shown k m s text h) in
+    let shows = shows-by kind (width_in kind text) width (count_in kind text) count (bytes_in kind text) bytes m s (sym is.width_is) (sym is.count_is) (sym is.bytes_is) at_kind in
+    let b = begins-at s 0 h.begin h.some in
+    let w = shows.width_is in
+    let n = shows.count_is in
+    let below : m < margin → ⊥ = λ lt. let x : true ≡ false = sym (corner-dark kind width count bytes m s h.some h.one_side h.begin shows) ∙ light_before m lt in no x in
+    let above : margin < m → ⊥ = λ lt. let x : true ≡ false = sym (dark (omega (arith, b.least))) ∙ diagonal-light kind width count bytes m s h.some h.one_side h.begin shows margin lt in no x in
+    let f : m ≡ margin = omega (arith, below, above) in
+    record {
+      kind_is = e;
+      margin_is = f;
+      margin_most = h.margin_in;
+      least = omega (arith, b.least);
+      most = omega (arith, b.most);
+      some = omega (arith, h.some);
+      few = omega (arith, h.few);
+      squares_are = fill_by_all (λ k. square (width - 2 * margin) (λ r c. is_dark_on kind width bytes k (margin + r) (margin + c))) s count (light 0) (sym n)
+          (λ i lt. square-on kind width count bytes m s h.some h.one_side h.begin shows i (omega arith)
+          ∙ ap (λ z. square (width - 2 * z) (λ r c. is_dark_on kind width bytes i (z + r) (z + c))) f);
+    }
+  where
+    no : true ≡ false → ⊥
+    no x = cc
+
+-- squares of one side can be drawn
+pub can-be-drawn : (side count : ℕ) (f : ℕ → ℕ → ℕ → Bool) (squares : List Grid) → squares ≡ map (λ k. square side (f k)) (range_with_len 0 count) → 0 < count → count ≤ 16 → CanBeDrawn squares
+can-be-drawn side count f squares e some few =
+    let P : List Grid → Type 0 = CanBeDrawn in
+    let n = length-map-range_with_len (λ k. square side (f k)) 0 count in
+    let at : (k : ℕ) (d : Grid) → k < count → get_or (map (λ k. square side (f k)) (range_with_len 0 count)) k d ≡ square side (f k) = λ k d lt. get_or-map-range_with_len (λ k. square side (f k)) 0 count k k d lt (omega arith) in
+    subst P (sym e) (record {
+      some = omega arith;
+      few = omega arith;
+      one_side = λ k d lt. ap (λ g. g.side) (at k d (omega arith) ∙ refl) ∙ sym (ap (λ g. g.side) (at 0 (light 0) some));
+      whole = λ k d lt. let Q : Grid → Type 0 = λ g. IsSquare g.side g in subst Q (sym (at k d (omega arith))) (square-same side (f k) (colour (square side (f k))) (λ r c l m. sym (colour-square side (f k) r c l m)));
+    })

@@ -1,0 +1,113 @@
+-- A sheet shows one margin and one list of squares at most.
+use Rattle.std.proofs.Common.{◌≡◌, ◌≤◌, ◌<◌, ◌+◌, ◌-◌, ◌*◌, ◌∙◌, ℕ, zero, suc, true, false, List, length, sym, ap, subst, arith}
+use Rattle.std.proofs.{Math.Nat.mul-le-mul, lemmas.{List.ext_get_or, List.Elements.All-get_or}}
+use Rattle.std.specs.List.{All}
+use Rattle.qr_matrix.specs.Grid.{Grid, colour, light, square}
+use Rattle.qr_matrix.proofs.Facts.{square-same}
+use Rattle.qr_drawing.specs.{Drawing.HaveOneSide, Raster.{is_dark_at, raster_width}, Svg.square_at}
+use Rattle.qr_drawing.specs.declared.drawing.Drawing.{Drawing}
+use Rattle.qr_drawing.proofs.Facts.{is_dark_at_above, is_dark_at_inside}
+use Rattle.qr_parsing.specs.{Parsing.{BeginsAsSymbol, IsDrawingOf}, Steps.Sheet.{ShowsOn, is_dark_on}}
+
+-- a product of numbers that are at most a and b
+pub small : (x y a b : ℕ) → x ≤ a → y ≤ b → x * y ≤ a * b
+small x y a b l m = mul-le-mul l m
+
+-- each square begins as a symbol
+pub begins-at : (squares : List Grid) (k : ℕ) → All BeginsAsSymbol squares → k < length squares → BeginsAsSymbol (square_at squares k)
+begins-at squares k all lt = All-get_or BeginsAsSymbol squares k (light 0) lt all
+
+-- the rasters of squares of one side are equally wide
+pub one-width : (margin k : ℕ) (squares : List Grid) → HaveOneSide squares → k < length squares
+    → raster_width margin (square_at squares k) ≡ raster_width margin (square_at squares 0)
+one-width margin k squares one lt =
+    ap (λ n. 2 * margin + n) (All-get_or (λ g. g.side ≡ (square_at squares 0).side) squares k (light 0) lt one)
+
+-- in this module, `text` is a drawing
+module _ (kind : Drawing) (margin : ℕ) (squares : List Grid) (text : List ℕ) (h : IsDrawingOf kind margin squares text) where
+  -- how wide the raster of the first square is
+  pub raster-wide : (8 ≤ raster_width margin (square_at squares 0)) × (raster_width margin (square_at squares 0) ≤ 687)
+  raster-wide = let f = begins-at squares 0 h.begin h.some in let m = h.margin_in in (omega (arith, f.least), omega (arith, f.most))
+
+  -- the module after the margin on its diagonal is dark
+  pub corner-at : is_dark_at margin (square_at squares 0) margin margin ≡ true
+  corner-at =
+      let f = begins-at squares 0 h.begin h.some in
+      let e : margin ≡ margin + 0 = omega arith in
+      ap (λ z. is_dark_at margin (square_at squares 0) z z) e
+      ∙ (is_dark_at_inside margin 0 0 (square_at squares 0) (omega (arith, f.least)) (omega (arith, f.least)) ∙ f.corner)
+
+-- column 7 of row 0 of the first raster is light
+pub separator-light : (margin : ℕ) (squares : List Grid) (kind : Drawing) (text : List ℕ) → IsDrawingOf kind margin squares text
+    → is_dark_at margin (square_at squares 0) 0 7 ≡ false
+separator-light zero squares kind text h =
+    let b = begins-at squares 0 h.begin h.some in
+    is_dark_at_inside 0 0 7 (square_at squares 0) (omega (arith, b.least)) (omega (arith, b.least)) ∙ b.separator
+separator-light (suc margin) squares kind text h = is_dark_at_above (suc margin) 0 7 (square_at squares 0) (omega arith)
+
+-- a sheet by its parts
+pub shows-by : (kind : Drawing) (w v n m : ℕ) (a b : List ℕ) (margin : ℕ) (squares : List Grid) → w ≡ v → n ≡ m → a ≡ b
+    → ShowsOn kind w n a margin squares → ShowsOn kind v m b margin squares
+shows-by kind w v n m a b margin squares e f g h =
+    let P : ℕ → Type 0 = λ z. ShowsOn kind z n a margin squares in
+    let Q : ℕ → Type 0 = λ z. ShowsOn kind v z a margin squares in
+    let R : List ℕ → Type 0 = λ z. ShowsOn kind v m z margin squares in
+    subst R g (subst Q f (subst P e h))
+
+-- in this module, the sheet shows these squares
+module _ (kind : Drawing) (width count : ℕ) (bytes : List ℕ) (margin : ℕ) (squares : List Grid)
+    (some : 0 < length squares) (one : HaveOneSide squares) (begin : All BeginsAsSymbol squares)
+    (shows : ShowsOn kind width count bytes margin squares) where
+  -- the module after the margin on the diagonal is dark
+  pub corner-dark : is_dark_on kind width bytes 0 margin margin ≡ true
+  corner-dark =
+      let f = begins-at squares 0 begin some in
+      let w = shows.width_is in
+      let n = shows.count_is in
+      let e : margin + 0 ≡ margin = omega arith in
+      shows.places 0 margin margin (omega arith) (omega (arith, f.least)) (omega (arith, f.least))
+      ∙ (ap (λ z. is_dark_at margin (square_at squares 0) z z) (sym e) ∙ (is_dark_at_inside margin 0 0 (square_at squares 0) (omega (arith, f.least)) (omega (arith, f.least)) ∙ f.corner))
+
+  -- those before it are light
+  pub diagonal-light : (i : ℕ) → i < margin → is_dark_on kind width bytes 0 i i ≡ false
+  diagonal-light i lt =
+      let f = begins-at squares 0 begin some in
+      let w = shows.width_is in
+      let n = shows.count_is in
+      shows.places 0 i i (omega arith) (omega arith) (omega arith) ∙ is_dark_at_above margin i i (square_at squares 0) lt
+
+  -- each square by the sheet
+  pub square-on : (k : ℕ) → k < length squares → square_at squares k ≡ square (width - 2 * margin) (λ r c. is_dark_on kind width bytes k (margin + r) (margin + c))
+  square-on k lt =
+      let g = square_at squares k in
+      let b = begins-at squares k begin lt in
+      let w = shows.width_is in
+      let n = shows.count_is in
+      let same : g.side ≡ (square_at squares 0).side = All-get_or (λ g. g.side ≡ (square_at squares 0).side) squares k (light 0) lt one in
+      let side : width - 2 * margin ≡ g.side = omega arith in
+      b.whole ∙ (ap (λ s. square s (colour g)) (sym side)
+      ∙ square-same (width - 2 * margin) (colour g) (λ r c. is_dark_on kind width bytes k (margin + r) (margin + c))
+      (λ r c l m. sym (shows.places k (margin + r) (margin + c) (omega arith) (omega arith) (omega arith) ∙ is_dark_at_inside margin r c g (omega arith) (omega arith))))
+
+-- two margins that a sheet shows are one
+pub one-margin : (kind : Drawing) (width count : ℕ) (bytes : List ℕ) (m n : ℕ) (s t : List Grid)
+    → 0 < length s → 0 < length t → HaveOneSide s → HaveOneSide t → All BeginsAsSymbol s → All BeginsAsSymbol t
+    → ShowsOn kind width count bytes m s → ShowsOn kind width count bytes n t → (m < n → ⊥)
+one-margin kind width count bytes m n s t a b o p x y f g lt =
+    let e : true ≡ false = sym (corner-dark kind width count bytes m s a o x f) ∙ diagonal-light kind width count bytes n t b p y g m lt in
+    cc
+
+-- two lists of squares that a sheet shows are one
+pub one-sheet : (kind : Drawing) (width count : ℕ) (bytes : List ℕ) (m n : ℕ) (s t : List Grid)
+    → 0 < length s → 0 < length t → HaveOneSide s → HaveOneSide t → All BeginsAsSymbol s → All BeginsAsSymbol t
+    → ShowsOn kind width count bytes m s → ShowsOn kind width count bytes n t → (m ≡ n) × (s ≡ t)
+one-sheet kind width count bytes m n s t a b o p x y f g =
+    let lt = one-margin kind width count bytes m n s t a b o p x y f g in
+    let gt = one-margin kind width count bytes n m t s b a p o y x g f in
+    let e : m ≡ n = omega (arith, lt, gt) in
+    let len : length s ≡ length t = sym f.count_is ∙ g.count_is in (
+      e,
+      ext_get_or (light 0) s t len (λ i l. square-on kind width count bytes m s a o x f i l
+          ∙ (ap (λ z. square (width - 2 * z) (λ r c. is_dark_on kind width bytes i (z + r) (z + c))) e
+          ∙ sym (square-on kind width count bytes n t b p y g i (omega arith)))),
+    )

@@ -1,0 +1,83 @@
+-- The canvas of an SVG document while it is painted.
+use Rattle.std.proofs.Common.{◌≡◌, ◌≤◌, ◌<◌, ◌≢◌, ◌+◌, ◌*◌, ◌/◌, ◌%◌, ◌∙◌, ◌++◌, ◌&&◌, ◌||◌, leb, ltb, ℕ, Bool, true, false, cond, eqb, List, ◌∷◌, length, drop, take, get_or, set, replicate, refl, sym, ap, subst, arith, inl, inr}
+use Rattle.std.proofs.lemmas.{Bool.cases_lt, Bool.Decides.nat_tests, Nat.div-mul-add, Nat.mod-mul-add}
+use Rattle.std.proofs.lemmas.List.{get_or-set_same, get_or-set_other, FromFn.fill_by_all, get_or-replicate, length-replicate}
+use Rattle.std.proofs.Math.Seq.{take-append_seam}
+use Rattle.qr_parsing.specs.Steps.Svg.{canvas_of, is_in_boxes}
+use Rattle.qr_parsing.proofs.lemmas.text.PlaceLemmas.{place-in}
+
+-- a place by its row and column
+pub split-place : (i w : ℕ) → 0 < w → i / w * w + i % w ≡ i
+split-place i w some = omega arith
+
+-- a byte that is painted
+painted-same : (w y x col : ℕ) (bytes old : List ℕ) → col < w → x ≤ col → y * w + col < length bytes
+    → get_or (set bytes (y * w + col) 1) (y * w + col) 0 ≡ cond (eqb ((y * w + col) / w) y && (leb x ((y * w + col) % w) && ltb ((y * w + col) % w) (col + 1))) 1 (get_or old (y * w + col) 0)
+painted-same w y x col bytes old lt le fits =
+    let a : (y * w + col) / w ≡ y = div-mul-add y w col lt in
+    let b : (y * w + col) % w ≡ col = mod-mul-add y w col lt in
+    let test : (eqb y y && (leb x col && ltb col (col + 1))) ≡ true = grind (arith, nat_tests) in
+    get_or-set_same bytes (y * w + col) 1 0 fits ∙ sym (rw (a, b, test) refl)
+
+-- whether a place other than the painted one is in the box
+same-test : (w y x col i : ℕ) → 0 < w → i ≢ y * w + col → (eqb (i / w) y && (leb x (i % w) && ltb (i % w) (col + 1))) ≡ (eqb (i / w) y && (leb x (i % w) && ltb (i % w) col))
+same-test w y x col i some other =
+    let e = split-place i w some in
+    let out : i / w ≡ y → i % w ≡ col → ⊥ = λ f g. other (sym e ∙ (λ t. f t * w + g t)) in
+    grind (arith, nat_tests, out)
+
+-- one module more is painted
+pub painted : (w h y x col : ℕ) (bytes old : List ℕ) → 0 < w → col < w → x ≤ col → y * w + col < length bytes
+    → ((i : ℕ) → i < length bytes → get_or bytes i 0 ≡ cond (eqb (i / w) y && (leb x (i % w) && ltb (i % w) col)) 1 (get_or old i 0))
+    → (i : ℕ) → i < length bytes → get_or (set bytes (y * w + col) 1) i 0 ≡ cond (eqb (i / w) y && (leb x (i % w) && ltb (i % w) (col + 1))) 1 (get_or old i 0)
+painted w h y x col bytes old some lt le fits before i in_i = elim (cases_lt i (y * w + col)) [
+  | inl l ↦ other (omega arith)
+  | inr g ↦ elim (cases_lt (y * w + col) i) [
+    | inl l ↦ other (omega arith)
+    | inr m ↦ let e : y * w + col ≡ i = omega arith in
+        let P : ℕ → Type 0 = λ i. get_or (set bytes (y * w + col) 1) i 0 ≡ cond (eqb (i / w) y && (leb x (i % w) && ltb (i % w) (col + 1))) 1 (get_or old i 0) in
+        subst P e (painted-same w y x col bytes old lt le fits)
+  ]
+]
+  where
+    other : i ≢ y * w + col → get_or (set bytes (y * w + col) 1) i 0 ≡ cond (eqb (i / w) y && (leb x (i % w) && ltb (i % w) (col + 1))) 1 (get_or old i 0)
+    other ne = rw (same-test w y x col i some ne) (get_or-set_other bytes (y * w + col) i 1 0 ne ∙ before i in_i)
+
+-- one box more is painted
+pub painted-box : (rest : List ℕ) (r c old byte new : ℕ) (all : Bool) → 5 ≤ length rest
+    → cond all 1 old ≡ cond (is_in_boxes rest r c) 1 byte
+    → new ≡ cond (eqb r (get_or rest 1 0) && (leb (get_or rest 0 0) c && ltb c (get_or rest 0 0 + get_or rest 2 0))) 1 byte
+    → cond all 1 old ≡ cond (is_in_boxes (drop 5 rest) r c) 1 new
+painted-box (x ∷ y ∷ modules ∷ high ∷ back ∷ rest) r c old byte new all long e f = e ∙ (swap ∙ sym (ap (λ z. cond (is_in_boxes rest r c) 1 z) f))
+  where
+    either : (a b : Bool) → cond (a || b) 1 byte ≡ cond b 1 (cond a 1 byte)
+    either true true = refl
+    either true false = refl
+    either false true = refl
+    either false false = refl
+
+    turned : eqb y r ≡ eqb r y
+    turned = grind (arith, nat_tests)
+
+    swap : cond ((eqb y r && (leb x c && ltb c (x + modules))) || is_in_boxes rest r c) 1 byte ≡ cond (is_in_boxes rest r c) 1 (cond (eqb r y && (leb x c && ltb c (x + modules))) 1 byte)
+    swap = rw turned (either (eqb r y && (leb x c && ltb c (x + modules))) (is_in_boxes rest r c))
+painted-box rest r c old byte new all long e f = absurd (omega arith)
+
+-- the whole canvas
+pub canvas-is : (w h n : ℕ) (bytes new numbers : List ℕ) → bytes ≡ replicate (w * h) 0 → n ≡ w * h → length new ≡ w * h
+    → ((i : ℕ) → i < length bytes → get_or new i 0 ≡ cond (is_in_boxes numbers (i / w) (i % w)) 1 (get_or bytes i 0))
+    → take n (new ++ drop (length new) bytes) ≡ canvas_of w h numbers
+canvas-is w h n bytes new numbers e f g painted =
+    let k : n ≡ length new = f ∙ sym g in
+    ap (λ z. take z (new ++ drop (length new) bytes)) k ∙ (take-append_seam new (drop (length new) bytes)
+    ∙ fill_by_all (λ i. cond (is_in_boxes numbers (i / w) (i % w)) 1 0) new (w * h) 0 g (λ i lt.
+    let long : length bytes ≡ w * h = ap length e ∙ length-replicate (w * h) 0 in
+    let none : get_or bytes i 0 ≡ 0 = ap (λ l. get_or l i 0) e ∙ get_or-replicate (w * h) i 0 0 lt in
+    painted i (omega arith) ∙ ap (λ z. cond (is_in_boxes numbers (i / w) (i % w)) 1 z) none))
+
+-- the bytes of whole rasters are on the canvas
+pub canvas-inside : (w high count k y x : ℕ) → 8 ≤ w → count ≡ high / w → k < count → y < w → x < w → (k * w + y) * w + x < w * high
+canvas-inside w high count k y x wide e a b c =
+    let all : count * w ≤ high = omega (arith, ap (λ n. n * w) e) in
+    let line = place-in count w k y a b in
+    omega (arith, place-in high w (k * w + y) x (omega arith) c)

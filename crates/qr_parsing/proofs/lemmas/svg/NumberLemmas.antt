@@ -1,0 +1,110 @@
+-- The numbers of texts, and which places are in boxes.
+use Rattle.std.proofs.Common.{◌≡◌, ◌≤◌, ◌<◌, ◌+◌, ◌-◌, ◌*◌, ◌/◌, ◌%◌, ◌∙◌, ◌++◌, ◌||◌, ℕ, zero, suc, min, Bool, true, false, List, [], ◌∷◌, refl, sym, ap, arith, inl, inr, append_assoc}
+use Rattle.std.{proofs.{lemmas.Fmt.{decimal_digit, decimal_step}, lemmas.Bool.cases_lt, lemmas.Bool.Decides.nat_tests}, specs.Prelude.{codes, decimal}}
+use Rattle.qr_drawing.specs.Raster.{texts_below}
+use Rattle.qr_drawing.specs.Svg.{box_path, numbered}
+use Rattle.qr_drawing.proofs.Facts.{no-texts}
+use Rattle.qr_parsing.specs.Steps.Svg.{is_digit, is_in_boxes, numbers_after}
+use Rattle.qr_parsing.proofs.lemmas.text.PlaceLemmas.{texts-first}
+
+-- one more digit
+digit-read : (m d : ℕ) (inside : Bool) (rest : List ℕ) → d < 10 → m * 10 + d ≤ 99999 → numbers_after m inside ((48 + d) ∷ rest) ≡ numbers_after (m * 10 + d) true rest
+unfolding numbers_after
+digit-read m d inside rest lt le =
+    let e : is_digit (48 + d) ≡ true = grind (arith, nat_tests) in
+    let f : min (m * 10 + (48 + d - 48)) 99999 ≡ m * 10 + d = omega arith in
+    rw (e, f) refl
+
+-- the digits of a number
+decimal-read : (f n : ℕ) (rest : List ℕ) → n < f → n ≤ 99999 → numbers_after 0 false (decimal n ++ rest) ≡ numbers_after n true rest
+decimal-read zero n rest lt le = absurd (omega arith)
+decimal-read (suc f) n rest lt le = elim (cases_lt n 10) [
+  | inl l ↦
+      let e : 0 * 10 + n ≡ n = omega arith in
+      ap (λ t. numbers_after 0 false (t ++ rest)) (decimal_digit n l) ∙ (digit-read 0 n false rest l (omega arith) ∙ ap (λ z. numbers_after z true rest) e)
+  | inr g ↦
+      let e : n / 10 * 10 + n % 10 ≡ n = omega arith in
+      ap (λ t. numbers_after 0 false (t ++ rest)) (decimal_step n g (omega arith))
+      ∙ (ap (numbers_after 0 false) (append_assoc (decimal (n / 10)) ((48 + n % 10) ∷ []) rest)
+      ∙ (decimal-read f (n / 10) ((48 + n % 10) ∷ rest) (omega arith) (omega arith)
+      ∙ (digit-read (n / 10) (n % 10) true rest (omega arith) (omega arith) ∙ ap (λ z. numbers_after z true rest) e)))
+]
+
+-- a number, and a byte after it that is no digit
+pub number-read : (n b : ℕ) (rest : List ℕ) → n ≤ 99999 → is_digit b ≡ false → numbers_after 0 false (decimal n ++ (b ∷ rest)) ≡ n ∷ numbers_after 0 false rest
+unfolding numbers_after
+number-read n b rest le e = decimal-read (suc n) n (b ∷ rest) (omega arith) le ∙ rw e refl
+
+-- the five numbers of a box
+unfoldable pub box_numbers : ℕ → ℕ → ℕ → List ℕ
+box_numbers x y n = x ∷ y ∷ n ∷ 1 ∷ n ∷ []
+
+-- a box by its parts, and what follows
+box-split : (x y n : ℕ) (rest : List ℕ) → box_path x y n ++ rest
+    ≡ 77 ∷ (decimal x ++ (32 ∷ (decimal y ++ (104 ∷ (decimal n ++ (118 ∷ 49 ∷ 104 ∷ 45 ∷ (decimal n ++ (122 ∷ rest))))))))
+unfolding box_path numbered
+box-split x y n rest = regroup (codes "M") (decimal x) (codes " ") (decimal y) (codes "h") (decimal n) (codes "v1h-") (decimal n) (codes "z") rest
+  where
+    regroup : (a b c d e f g h i rest : List ℕ) → ((a ++ b) ++ (c ++ d) ++ (e ++ f) ++ (g ++ h) ++ i) ++ rest ≡ a ++ (b ++ (c ++ (d ++ (e ++ (f ++ (g ++ (h ++ (i ++ rest))))))))
+    regroup a b c d e f g h i rest = simp append_assoc
+
+-- the numbers of a box
+pub box-read : (x y n : ℕ) (rest : List ℕ) → x ≤ 99999 → y ≤ 99999 → n ≤ 99999
+    → numbers_after 0 false (box_path x y n ++ rest) ≡ box_numbers x y n ++ numbers_after 0 false rest
+unfolding box_numbers numbers_after
+box-read x y n rest a b c =
+    ap (numbers_after 0 false) (box-split x y n rest)
+    ∙ (number-read x 32 (decimal y ++ (104 ∷ (decimal n ++ (118 ∷ 49 ∷ 104 ∷ 45 ∷ (decimal n ++ (122 ∷ rest)))))) a refl
+    ∙ ap (λ l. x ∷ l) (number-read y 104 (decimal n ++ (118 ∷ 49 ∷ 104 ∷ 45 ∷ (decimal n ++ (122 ∷ rest)))) b refl
+    ∙ ap (λ l. y ∷ l) (number-read n 118 (49 ∷ 104 ∷ 45 ∷ (decimal n ++ (122 ∷ rest))) c refl
+    ∙ ap (λ l. n ∷ l) (ap (λ l. 1 ∷ l) (number-read n 122 rest c refl)))))
+
+-- the numbers of texts, if those of each are known
+pub texts-read : (n : ℕ) (f g : ℕ → List ℕ) → ((k : ℕ) → k < n → (rest : List ℕ) → numbers_after 0 false (f k ++ rest) ≡ g k ++ numbers_after 0 false rest)
+    → (rest : List ℕ) → numbers_after 0 false (texts_below n f ++ rest) ≡ texts_below n g ++ numbers_after 0 false rest
+texts-read zero f g h rest = ap (λ t. numbers_after 0 false (t ++ rest)) (no-texts f) ∙ ap (λ t. t ++ numbers_after 0 false rest) (sym (no-texts g))
+texts-read (suc n) f g h rest =
+    let more = texts_below n (λ i. f (suc i)) in
+    ap (λ t. numbers_after 0 false (t ++ rest)) (texts-first n f)
+    ∙ (ap (numbers_after 0 false) (append_assoc (f 0) more rest)
+    ∙ (h 0 (omega arith) (more ++ rest)
+    ∙ (ap (λ t. g 0 ++ t) (texts-read n (λ i. f (suc i)) (λ i. g (suc i)) (λ k lt. h (suc k) (omega arith)) rest)
+    ∙ (sym (append_assoc (g 0) (texts_below n (λ i. g (suc i))) (numbers_after 0 false rest))
+    ∙ ap (λ t. t ++ numbers_after 0 false rest) (sym (texts-first n g))))))
+
+-- ---- places in boxes
+
+-- some number below n passes
+unfoldable pub any_below : ℕ → (ℕ → Bool) → Bool
+any_below zero p = false
+any_below (suc n) p = p 0 || any_below n (λ k. p (suc k))
+
+-- a number that passes
+pub any-true : (n k : ℕ) (p : ℕ → Bool) → k < n → p k ≡ true → any_below n p ≡ true
+unfolding any_below
+any-true zero k p lt e = absurd (omega arith)
+any-true (suc n) zero p lt e = rw e refl
+any-true (suc n) (suc k) p lt e = let h = any-true n k (λ k. p (suc k)) (omega arith) e in rw h (grind (arith, nat_tests))
+
+-- no number passes
+pub any-false : (n : ℕ) (p : ℕ → Bool) → ((k : ℕ) → k < n → p k ≡ false) → any_below n p ≡ false
+unfolding any_below
+any-false zero p h = refl
+any-false (suc n) p h = rw (h 0 (omega arith)) (any-false n (λ k. p (suc k)) (λ k lt. h (suc k) (omega arith)))
+
+-- the places in the boxes of texts of numbers
+pub texts-boxes : (r c n : ℕ) (g : ℕ → List ℕ) (p : ℕ → Bool) → ((k : ℕ) → k < n → (rest : List ℕ) → is_in_boxes (g k ++ rest) r c ≡ (p k || is_in_boxes rest r c))
+    → (rest : List ℕ) → is_in_boxes (texts_below n g ++ rest) r c ≡ (any_below n p || is_in_boxes rest r c)
+unfolding any_below
+texts-boxes r c zero g p h rest = ap (λ t. is_in_boxes (t ++ rest) r c) (no-texts g)
+texts-boxes r c (suc n) g p h rest =
+    let more = texts_below n (λ i. g (suc i)) in
+    ap (λ t. is_in_boxes (t ++ rest) r c) (texts-first n g)
+    ∙ (ap (λ t. is_in_boxes t r c) (append_assoc (g 0) more rest)
+    ∙ (h 0 (omega arith) (more ++ rest)
+    ∙ (ap (λ b. p 0 || b) (texts-boxes r c n (λ i. g (suc i)) (λ i. p (suc i)) (λ k lt. h (suc k) (omega arith)) rest)
+    ∙ or (p 0) (any_below n (λ k. p (suc k))) (is_in_boxes rest r c))))
+  where
+    or : (a b d : Bool) → (a || (b || d)) ≡ ((a || b) || d)
+    or true b d = refl
+    or false b d = refl

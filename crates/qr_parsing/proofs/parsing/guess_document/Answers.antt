@@ -1,0 +1,19 @@
+use Rattle.std.proofs.Common.{◌≡◌, ◌*◌, ◌/◌, ◌%◌, ◌∙◌, ℕ, cond, drop, length, ap, sym, arith}
+use Rattle.std.proofs.lemmas.List.FromFn.{length-map-range_with_len}
+use Rattle.qr_parsing.specs.Steps.Svg.{is_in_boxes, numbers_in}
+use Rattle.qr_parsing.proofs.lemmas.svg.CanvasLemmas.{canvas-inside}
+use Rattle.qr_parsing.proofs.lemmas.parsing.GuessLemmas.{none-wide}
+use Rattle.qr_parsing.proofs.parsing.guess_document.Goals as goal
+
+pub returns-in_default : goal.returns-in_default
+returns-in_default c = none-wide c.args.text.now c.in_default.ensures.size
+
+pub invariant_of-sheet-clause-whole : goal.invariant_of-sheet-clause-whole
+invariant_of-sheet-clause-whole c = λ k y x a b l.
+    let s = c.in-Some.ensures.size in
+    let w = c.in-Some.size.width in
+    let h = c.in-Some.size.height in
+    let boxes = drop 16 (numbers_in c.args.text.now) in
+    let count : c.in-Some.size.count ≡ h / w = s.1 ∙ (λ i. sym s.2 i / sym s.0 i) in
+    let long = ap length (c.deref.ensures.value ∙ c.in_ok-canvas.ensures) ∙ length-map-range_with_len (λ i. cond {A = ℕ} (is_in_boxes boxes (i / w) (i % w)) 1 0) 0 (w * h) in
+    omega (arith, long, canvas-inside w h c.in-Some.size.count k y x (omega arith) count a b l)

@@ -1,0 +1,7 @@
+use Rattle.std.proofs.Common.{◌≡◌, drop}
+use Rattle.qr_parsing.specs.Steps.Svg.{numbers_in}
+use Rattle.qr_parsing.proofs.svg.after_numbers.Given as goal
+
+-- the numbers that are left
+abbrev pub invariant-loop : goal.invariant-loop
+invariant-loop l = numbers_in l.rest ≡ drop l.counter (numbers_in l.text)

@@ -1,0 +1,26 @@
+use Rattle.std.proofs.Common.{◌∙◌, ap, sym, inl, inr, arith}
+use Rattle.qr_drawing.specs.declared.drawing.Drawing.TheVariants.{Utf8}
+use Rattle.qr_parsing.specs.Steps.Text.{first_line}
+use Rattle.qr_parsing.proofs.lemmas.parsing.GuessLemmas.{block-count, too-wide}
+use Rattle.qr_parsing.proofs.lemmas.text.PlaceLemmas.{cell-inside}
+use Rattle.qr_parsing.proofs.text.cell_sheet.Goals as goal
+use Rattle.qr_parsing.proofs.text.cell_sheet.Goals.{then-width-lt-SIDE_MIN-via-then-width-lt-SIDE_MIN, then-width-lt-SIDE_MIN-via-else-width-lt-SIDE_MIN+then-width-gt-WIDTH_MAX}
+
+pub returns-then-width-lt-SIDE_MIN : goal.returns-then-width-lt-SIDE_MIN
+returns-then-width-lt-SIDE_MIN c text kind cells =
+    too-wide text Utf8 c.position_of-width.result kind (c.position_of-width.ensures ∙ ap first_line cells)
+    (elim c.then-width-lt-SIDE_MIN.branch [ then-width-lt-SIDE_MIN-via-then-width-lt-SIDE_MIN w ↦ inl w.if-width-lt-SIDE_MIN.true | then-width-lt-SIDE_MIN-via-else-width-lt-SIDE_MIN+then-width-gt-WIDTH_MAX w ↦ inr w.if-width-gt-WIDTH_MAX.true ])
+
+pub invariant_of-result-clause-whole : goal.invariant_of-result-clause-whole
+invariant_of-result-clause-whole c = λ k y x a b l.
+    cell-inside _ c.position_of-width.result c.div_ceil.result _ k y x (omega arith) (omega arith) (omega arith) a b l
+
+pub returns : goal.returns
+returns c text kind cells =
+    let w = c.position_of-width.ensures ∙ ap first_line cells in
+    record {
+      kind_is = sym kind;
+      width_is = w;
+      count_is = block-count _ c.div_ceil.result c.position_of-width.result c.args.cells.now text (omega arith) (omega arith) w cells;
+      bytes_is = cells;
+    }

@@ -1,0 +1,29 @@
+-- What the laws of parsing state.
+use Rattle.std.specs.Prelude.{◌≡◌, ◌≤◌, ℕ, List, [], ◌∷◌}
+use Rattle.qr_layout.specs.declared.level.Level.{Level}
+use Rattle.qr_bits.specs.declared.modes.Rule.{Rule}
+use Rattle.qr_matrix.specs.Grid.{Grid}
+use Rattle.qr_symbol.specs.declared.symbol.Symbol.{Symbol}
+use Rattle.qr_symbol.specs.Encoding.{IsSymbol}
+use Rattle.qr_symbol.specs.Series.{IsSeries, squares_of}
+use Rattle.qr_drawing.specs.Drawing.{drawn}
+use Rattle.qr_drawing.specs.declared.drawing.Drawing.{Drawing}
+use Rattle.qr_parsing.specs.Parsing.{IsDrawingOf}
+
+-- A text is the drawing of at most one type, margin and list of squares [own]
+abbrev pub DrawingsAreOne : Type 0
+DrawingsAreOne = (kind other : Drawing) (margin last : ℕ) (squares others : List Grid) (text : List ℕ)
+    → IsDrawingOf kind margin squares text → IsDrawingOf other last others text
+    → (kind ≡ other) × (margin ≡ last) × (squares ≡ others)
+
+-- The symbol of an input has a drawing that is parsed, of each type and with each margin of at most 255 modules [own]
+abbrev pub SymbolsAreDrawings : Type 0
+SymbolsAreDrawings = (kind : Drawing) (margin smallest : ℕ) (l : Level) (rule : Rule) (x : List ℕ) (v mask : ℕ) (g : Grid)
+    → margin ≤ 255 → 1 ≤ smallest → IsSymbol smallest l rule x v mask g
+    → IsDrawingOf kind margin (g ∷ []) (drawn kind margin (g ∷ []))
+
+-- So have the symbols of the series of an input [own]
+abbrev pub SeriesAreDrawings : Type 0
+SeriesAreDrawings = (kind : Drawing) (margin v : ℕ) (l : Level) (rule : Rule) (x : List ℕ) (symbols : List Symbol)
+    → margin ≤ 255 → 1 ≤ v → v ≤ 40 → IsSeries v l rule x symbols
+    → IsDrawingOf kind margin (squares_of symbols) (drawn kind margin (squares_of symbols))

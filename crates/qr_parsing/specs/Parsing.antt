@@ -1,0 +1,28 @@
+-- Which texts are drawings of squares that begin as symbols do.
+use Rattle.std.specs.Prelude.{◌≡◌, ℕ, ◌<◌, ◌≤◌, List, length, true, false}
+use Rattle.std.specs.List.{All}
+use Rattle.qr_matrix.specs.Grid.{Grid, IsSquare, colour}
+use Rattle.qr_drawing.specs.Drawing.{HaveOneSide, drawn}
+use Rattle.qr_drawing.specs.declared.drawing.Drawing.{Drawing}
+
+-- A square of 8 to 177 modules on a side with two modules that every symbol has: the dark one at the top left, of a
+-- finder pattern, and the light one in column 7 of row 0, of its separator (ISO/IEC 18004:2015, 6.3.3, 6.3.4)
+pub record BeginsAsSymbol (g : Grid) : Type 0 where
+  pub least : 8 ≤ g.side
+  pub most : g.side ≤ 177
+  pub whole : IsSquare g.side g
+  pub corner : colour g 0 0 ≡ true
+  pub separator : colour g 0 7 ≡ false
+
+-- `text` is the drawing of this type, with a margin of at most 255 modules, of 1 to 16 such squares of one side [own]
+pub record IsDrawingOf (kind : Drawing) (margin : ℕ) (squares : List Grid) (text : List ℕ) : Type 0 where
+  pub some : 0 < length squares
+  pub few : length squares ≤ 16
+  pub margin_in : margin ≤ 255
+  pub one_side : HaveOneSide squares
+  pub begin : All BeginsAsSymbol squares
+  pub is_drawn : text ≡ drawn kind margin squares
+
+-- No type, margin and squares have the drawing `text` [own]
+abbrev pub IsNoDrawing : List ℕ → Type 0
+IsNoDrawing text = (kind : Drawing) (margin : ℕ) (squares : List Grid) → IsDrawingOf kind margin squares text → ⊥

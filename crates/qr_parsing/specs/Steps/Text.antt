@@ -1,0 +1,19 @@
+-- The bytes of texts, in which each character has its own byte.
+use Rattle.std.specs.Prelude.{ℕ, ◌==◌, not, ◌||◌, nat_lt, Bool, List, length, take}
+use Rattle.std.specs.List.{filter, position_or_len}
+
+-- The byte is not one of the two with which each block character begins
+abbrev pub is_cell : ℕ → Bool
+is_cell byte = not (byte == 0xE2 || byte == 0x96)
+
+-- One of the first 22 bytes is the first of a block character
+abbrev pub has_block : List ℕ → Bool
+has_block text = nat_lt (position_or_len (λ byte. byte == 0xE2) (take 22 text)) (length (take 22 text))
+
+-- The last bytes of the block characters, the spaces and the newlines
+abbrev pub cells_in : List ℕ → List ℕ
+cells_in text = filter is_cell text
+
+-- The number of bytes before the first newline
+abbrev pub first_line : List ℕ → ℕ
+first_line bytes = position_or_len (λ byte. byte == 10) bytes

@@ -1,0 +1,41 @@
+//! Laws of parsing. The contract of each function is the law; those that have code say what the code returns.
+
+ghost use Rattle.std.specs.Prelude.{◌≡◌, ◌↔◌, IfOk, IsTrue};
+ghost use Rattle.qr_parsing.specs.Laws.{DrawingsAreOne, SeriesAreDrawings, SymbolsAreDrawings};
+
+use crate::parsing::DrawingFault;
+use std::alloc::AllocError;
+
+/// A text is the drawing of at most one type, margin and list of squares.
+pub fn drawings_are_one()
+    ensures { DrawingsAreOne }
+{}
+
+/// `parse_drawing` accepts every drawing of the symbol of an input, or of its series, with a margin of at most 255
+/// modules. By `drawings_are_one` it then returns the squares that were drawn.
+pub fn drawings_read_back()
+    ensures symbol { SymbolsAreDrawings }
+    ensures series { SeriesAreDrawings }
+{}
+
+/// Returns the number of a fault: 1 for `NotADrawing`, 2 for `Memory`.
+pub fn drawing_fault_numbers(fault: DrawingFault) -> u8
+    ensures not_a_drawing { fault ≡ DrawingFault.NotADrawing → result ≡ 1 }
+    ensures memory { fault ≡ DrawingFault.Memory → result ≡ 2 }
+{
+    fault as u8
+}
+
+/// `==` says whether the two are the same `DrawingFault`.
+pub fn drawing_faults_are_equal(a: DrawingFault, b: DrawingFault) -> bool
+    ensures { IsTrue result ↔ (a ≡ b) }
+{
+    a == b
+}
+
+/// A clone of a `DrawingFault` is equal to it.
+pub fn drawing_fault_clones(a: DrawingFault) -> Result<DrawingFault, AllocError>
+    ensures { IfOk result (λ b. b ≡ a) }
+{
+    a.clone()
+}

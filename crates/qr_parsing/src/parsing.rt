@@ -1,0 +1,196 @@
+//! The parse of a drawing.
+
+ghost use Rattle.std.specs.Prelude.{◌≡◌, ◌⊎◌, ℕ, List, IfOk, IfErr, MatchOption};
+ghost use Rattle.std.specs.Bool.{Decides};
+ghost use Rattle.std.specs.List.{All};
+ghost use Rattle.qr_matrix.specs.Grid.{IsSquare};
+ghost use Rattle.qr_drawing.specs.Drawing.{drawn};
+ghost use Rattle.qr_drawing.specs.declared.drawing.Drawing.TheVariants.{Svg, Utf8};
+ghost use Rattle.qr_parsing.specs.Parsing.{BeginsAsSymbol, IsDrawingOf, IsNoDrawing};
+ghost use Rattle.qr_parsing.specs.Steps.Parsing.{CanBeDrawn, IsGuess};
+ghost use Rattle.qr_parsing.specs.Steps.Sheet.{IsSheetOf, kind_in};
+
+use crate::sheet::{COUNT_MAX, SIDE_MIN, Sheet, margin_of, squares_of};
+use crate::svg::{canvas_of, size_in};
+use crate::text::{ascii_sheet, cell_sheet, cells_in, kind_in};
+use qr_devices::Counted;
+use qr_drawing::{Drawing, draw};
+use qr_symbol::Matrix;
+use std::alloc::{AllocError, Global};
+use thiserror::Error;
+
+/// Why a text is not parsed.
+#[derive(Clone, Copy, Debug, PartialEq, Eq, Error)]
+pub enum DrawingFault {
+    /// The text is no drawing of squares that begin as symbols do.
+    #[error("not a drawing of symbols")]
+    NotADrawing = 1,
+    /// Memory was refused.
+    #[error("out of memory")]
+    Memory = 2,
+}
+
+impl From<AllocError> for DrawingFault {
+    ghost use Rattle.std.specs.Prelude.{◌≡◌};
+    ghost use Rattle.qr_parsing.specs.declared.parsing.DrawingFault.{DrawingFault};
+
+    ghost from_gives = { λ _ e. e ≡ DrawingFault.Memory };
+
+    fn from(_: AllocError) -> Self {
+        DrawingFault::Memory
+    }
+}
+
+/// What a drawing shows.
+#[derive(Drop)]
+pub struct Drawn {
+    pub kind: Drawing,
+    /// The number of light modules on each side of a square.
+    pub margin: u8,
+    /// 1 to 16 squares of one side, in the order in which they were drawn.
+    pub squares: Vec<Matrix>,
+}
+
+// What the sheet shows, if it has 1 to 16 squares of 8 to 177 modules on a side.
+fn drawn_of(alloc: Global, sheet: &Sheet) -> Result<Option<Drawn>, AllocError>
+    ensures { (text : List ℕ)
+        → IsSheetOf sheet.now.kind sheet.now.width sheet.now.count sheet.now.bytes.now text
+        → IfOk result (λ found. MatchOption found (IsNoDrawing text) (λ d. IsGuess d.kind d.margin d.squares.items text)) }
+{
+    let margin = margin_of(sheet);
+    if margin > 255 || sheet.width < 2 * margin + SIDE_MIN || sheet.width - 2 * margin > 177 {
+        return Ok(None);
+    }
+    if sheet.count == 0 || sheet.count > COUNT_MAX {
+        return Ok(None);
+    }
+    let side = (sheet.width - 2 * margin) as u8;
+    let squares = squares_of(alloc, sheet, margin, side)?;
+    Ok(Some(Drawn {
+        kind: sheet.kind,
+        margin: margin as u8,
+        squares,
+    }))
+}
+
+fn guess_ascii(alloc: Global, text: &[u8], kind: Drawing) -> Result<Option<Drawn>, AllocError>
+    requires ascii { (kind ≡ Drawing.Ascii) ⊎ (kind ≡ Drawing.AsciiInverse) }
+    requires kind { kind ≡ kind_in text.now }
+    ensures { IfOk result (λ found. MatchOption found (IsNoDrawing text.now)
+        (λ d. IsGuess d.kind d.margin d.squares.items text.now)) }
+{
+    let Some(sheet) = ascii_sheet(text, kind) else {
+        return Ok(None);
+    };
+    drawn_of(alloc, &sheet)
+}
+
+fn guess_half_blocks(alloc: Global, text: &[u8]) -> Result<Option<Drawn>, AllocError>
+    requires { kind_in text.now ≡ Utf8 }
+    ensures { IfOk result (λ found. MatchOption found (IsNoDrawing text.now)
+        (λ d. IsGuess d.kind d.margin d.squares.items text.now)) }
+{
+    let cells = cells_in(alloc, text)?;
+    let Some(sheet) = cell_sheet(&cells) else {
+        return Ok(None);
+    };
+    drawn_of(alloc, &sheet)
+}
+
+fn guess_document(alloc: Global, text: &[u8]) -> Result<Option<Drawn>, AllocError>
+    requires { kind_in text.now ≡ Svg }
+    ensures { IfOk result (λ found. MatchOption found (IsNoDrawing text.now)
+        (λ d. IsGuess d.kind d.margin d.squares.items text.now)) }
+{
+    let Some(size) = size_in(text) else {
+        return Ok(None);
+    };
+    let canvas = canvas_of(alloc, size.width, size.height, text)?;
+    let sheet = Sheet {
+        kind: Drawing::Svg,
+        width: size.width,
+        count: size.count,
+        bytes: &canvas,
+    };
+    drawn_of(alloc, &sheet)
+}
+
+// If `text` is a drawing, it is this one.
+fn guess(alloc: Global, text: &[u8]) -> Result<Option<Drawn>, AllocError>
+    ensures { IfOk result (λ found. MatchOption found (IsNoDrawing text.now)
+        (λ d. IsGuess d.kind d.margin d.squares.items text.now)) }
+{
+    match kind_in(text) {
+        Drawing::Svg => guess_document(alloc, text),
+        Drawing::Utf8 => guess_half_blocks(alloc, text),
+        Drawing::Ascii => guess_ascii(alloc, text, Drawing::Ascii),
+        Drawing::AsciiInverse => guess_ascii(alloc, text, Drawing::AsciiInverse),
+    }
+}
+
+fn begins_as_symbol(square: &Matrix) -> bool
+    requires { IsSquare square.now.side square.now }
+    ensures { Decides result (BeginsAsSymbol square.now) }
+{
+    square.side() >= 8 && square.dark(0, 0) && !square.dark(0, 7)
+}
+
+fn all_begin(squares: &[Matrix]) -> bool
+    requires { All (λ g. IsSquare g.side g) squares.now }
+    ensures { Decides result (All BeginsAsSymbol squares.now) }
+{
+    for square in squares {
+        if !begins_as_symbol(square) {
+            return false;
+        }
+    }
+    true
+}
+
+// Each fault of drawing is lack of memory, since a `Vec` fails as a writer only if it cannot grow.
+fn redrawn(alloc: Global, shown: &Drawn, room: usize) -> Result<Vec<u8>, AllocError>
+    requires { CanBeDrawn shown.now.squares.items }
+    ensures { IfOk result (λ text. text.items ≡ drawn shown.now.kind shown.now.margin shown.now.squares.items) }
+{
+    let mut text = Counted::new(Vec::with_capacity(alloc, room)?);
+    match draw(&shown.squares, shown.kind, shown.margin, &mut text) {
+        Ok(()) => Ok(text.into_inner()),
+        Err(_) => Err(AllocError),
+    }
+}
+
+fn is_drawing_of(alloc: Global, text: &[u8], shown: &Drawn) -> Result<bool, AllocError>
+    requires { CanBeDrawn shown.now.squares.items }
+    ensures { IfOk result (λ b. Decides b (IsDrawingOf shown.now.kind shown.now.margin shown.now.squares.items text.now)) }
+{
+    if !all_begin(&shown.squares) {
+        return Ok(false);
+    }
+    // Only for the prover, which then knows that the margin is at most 255.
+    let _margin = shown.margin;
+    let again = redrawn(alloc, shown, text.len())?;
+    Ok(again.as_slice() == text)
+}
+
+/// Returns what the drawing `text` shows.
+///
+/// It accepts the drawings that `qr_drawing::draw` makes, of each type, with a margin of 0 to 255 modules, of 1 to 16
+/// squares of one side from 8 to 177 that begin as every symbol does: the module at the top left is dark, and column 7 of
+/// row 0 is light (ISO/IEC 18004:2015, 6.3.3, 6.3.4). Each is the drawing of one type, margin and list of squares only.
+///
+/// # Errors
+///
+/// `NotADrawing`, only if `text` is no such drawing. `Memory`, only if memory is refused.
+pub fn parse_drawing(alloc: Global, text: &[u8]) -> Result<Drawn, DrawingFault>
+    ensures ok { IfOk result (λ d. IsDrawingOf d.kind d.margin d.squares.items text.now) }
+    ensures err { IfErr result (λ e. e ≡ DrawingFault.NotADrawing → IsNoDrawing text.now) }
+{
+    let Some(drawn) = guess(alloc, text)? else {
+        return Err(DrawingFault::NotADrawing);
+    };
+    if is_drawing_of(alloc, text, &drawn)? {
+        Ok(drawn)
+    } else {
+        Err(DrawingFault::NotADrawing)
+    }
+}

@@ -1,0 +1,217 @@
+//! Sheets, in which the modules of all types of drawing are read alike. The bytes of a sheet show the modules of all
+//! rasters of a drawing, from the first raster on row by row. `k` is the index of a raster, and `y` and `x` are a row and
+//! a column of it.
+
+ghost use Rattle.std.specs.Prelude.{◌≡◌, ℕ, ◌<◌, ◌≤◌, ◌+◌, ◌*◌, ◌&&◌, nat_lt, false, true, length, slice_index_or, map, IfOk};
+ghost use Rattle.std.specs.List.{range_with_len};
+ghost use Rattle.qr_matrix.specs.Grid.{square};
+ghost use Rattle.qr_matrix.specs.BitRow.{has, has_bit};
+ghost use Rattle.qr_parsing.specs.Steps.Sheet.{HasPlaces, is_dark_byte, is_dark_on, is_sign, place_of};
+
+use qr_drawing::Drawing;
+use qr_matrix::BitRow;
+use qr_symbol::Matrix;
+use std::alloc::{AllocError, Global};
+
+/// The side of the smallest squares that are parsed.
+pub(crate) const SIDE_MIN: usize = 8;
+
+/// The greatest number of rasters of a drawing.
+pub(crate) const COUNT_MAX: usize = 16;
+
+/// The greatest width of a raster: 177 modules with a margin of 255 on each side.
+pub(crate) const WIDTH_MAX: usize = 687;
+
+#[derive(Drop)]
+pub(crate) struct Sheet<'a> {
+    pub(crate) kind: Drawing,
+    /// The width of a raster in modules.
+    pub(crate) width: usize,
+    /// The number of rasters.
+    pub(crate) count: usize,
+    /// In the ASCII types two bytes show a module, in UTF8 one byte shows two, and in SVG one byte shows one. Each line of
+    /// text ends with a newline.
+    pub(crate) bytes: &'a [u8],
+    ghost wide: { width ≤ 687 },
+    ghost whole: { HasPlaces kind width count bytes.now },
+}
+
+// The index of the byte that shows a module; in the ASCII types the first of the two.
+#[tactic(auto, using(crate::proofs::Named::place_facts))]
+fn place_of(kind: Drawing, width: usize, k: usize, y: usize, x: usize) -> usize
+    requires width_in { width < 1000 }
+    requires k_in { k < 16 }
+    requires y_in { y < 1000 }
+    requires x_in { x < 1000 }
+    ensures { result ≡ place_of kind width k y x }
+{
+    match kind {
+        Drawing::Ascii | Drawing::AsciiInverse => (k * width + y) * (2 * width + 1) + 2 * x,
+        Drawing::Utf8 => (k * width.div_ceil(2) + y / 2) * (width + 1) + x,
+        Drawing::Svg => (k * width + y) * width + x,
+    }
+}
+
+// In UTF8 the module of an even row is the upper one of its character.
+fn is_dark_byte(kind: Drawing, y: usize, byte: u8) -> bool
+    ensures { result ≡ is_dark_byte kind y byte }
+{
+    match kind {
+        Drawing::Ascii => byte == b'#',
+        Drawing::AsciiInverse => byte == b' ',
+        Drawing::Utf8 => byte == b' ' || byte == if y % 2 == 0 { 0x84 } else { 0x80 },
+        Drawing::Svg => byte == 1,
+    }
+}
+
+// Places after the end are light, as in a drawing that is cut off.
+#[tactic(auto, unfolding(crate::specs::Steps::Sheet::is_dark_on))]
+fn is_dark(sheet: &Sheet, k: usize, y: usize, x: usize) -> bool
+    requires k_in { k < 16 }
+    requires y_in { y < 1000 }
+    requires x_in { x < 1000 }
+    ensures { result ≡ is_dark_on sheet.now.kind sheet.now.width sheet.now.bytes.now k y x }
+{
+    let place = place_of(sheet.kind, sheet.width, k, y, x);
+    let byte = sheet.bytes.get(place).copied().unwrap_or(0);
+    is_dark_byte(sheet.kind, y, byte)
+}
+
+/// Returns the number of light modules on the diagonal of the first raster before the first dark one. It is the margin if
+/// the square has a dark module at the top left.
+pub(crate) fn margin_of(sheet: &Sheet) -> usize
+    ensures most { result ≤ sheet.now.width }
+    ensures light { (i : ℕ) → i < result
+        → is_dark_on sheet.now.kind sheet.now.width sheet.now.bytes.now 0 i i ≡ false }
+    ensures dark { result < sheet.now.width
+        → is_dark_on sheet.now.kind sheet.now.width sheet.now.bytes.now 0 result result ≡ true }
+{
+    for i in 0..sheet.width {
+        if is_dark(sheet, 0, i, i) {
+            return i;
+        }
+    }
+    sheet.width
+}
+
+#[inline(always)]
+fn is_sign(signs: (u8, u8), byte: u8) -> bool
+    ensures { result ≡ is_sign signs byte }
+{
+    byte == signs.0 || byte == signs.1
+}
+
+// The modules of a word: bit `i` is set if byte `first + step * i` is one of the signs.
+#[inline(always)]
+fn word_of(bytes: &[u8], first: usize, step: usize, signs: (u8, u8), count: u8) -> u64
+    requires few { count ≤ 64 }
+    requires step_in { step ≤ 2 }
+    requires inside { (i : ℕ) → i < count → first + step * i < length bytes.now }
+    ensures { (i : ℕ) → has_bit result i
+        ≡ (nat_lt i count && is_sign signs (slice_index_or bytes.now (first + step * i) 0)) }
+{
+    let mut word = 0u64;
+    for i in 0..count {
+        let byte = bytes[first + step * usize::from(i)];
+        word |= u64::from(is_sign(signs, byte)) << i;
+    }
+    word
+}
+
+// Appends the modules of a row to an empty bit row, 64 at a time. Inlined once for each type of drawing, so that `step` and
+// the signs are constants there.
+#[inline(always)]
+fn row_by(
+    empty: BitRow,
+    bytes: &[u8],
+    first: usize,
+    step: usize,
+    signs: (u8, u8),
+    side: u8,
+) -> BitRow
+    requires empty { (c : ℕ) → has empty c ≡ false }
+    requires most { side ≤ 177 }
+    requires step_in { step ≤ 2 }
+    requires inside { (i : ℕ) → i < side → first + step * i < length bytes.now }
+    ensures { (c : ℕ) → has result c
+        ≡ (nat_lt c side && is_sign signs (slice_index_or bytes.now (first + step * c) 0)) }
+{
+    let mut row = empty;
+    let mut col = 0;
+    'words: while col < side {
+        let count = (side - col).min(64);
+        let start = first + step * usize::from(col);
+        row.set_bits(col, word_of(bytes, start, step, signs, count));
+        col += 64;
+    }
+    row
+}
+
+// The row `y` of the raster `k`, without the margin.
+fn row_of(empty: BitRow, sheet: &Sheet, margin: usize, side: u8, k: usize, y: usize) -> BitRow
+    requires empty { (c : ℕ) → has empty c ≡ false }
+    requires most { side ≤ 177 }
+    requires k_in { k < sheet.now.count }
+    requires few { sheet.now.count ≤ 16 }
+    requires y_in { y < sheet.now.width }
+    requires x_in { margin + side ≤ sheet.now.width }
+    ensures { (c : ℕ) → has result c ≡ (nat_lt c side
+        && is_dark_on sheet.now.kind sheet.now.width sheet.now.bytes.now k y (margin + c)) }
+{
+    let first = place_of(sheet.kind, sheet.width, k, y, margin);
+    let bytes = sheet.bytes;
+    match sheet.kind {
+        Drawing::Ascii => row_by(empty, bytes, first, 2, (b'#', b'#'), side),
+        Drawing::AsciiInverse => row_by(empty, bytes, first, 2, (b' ', b' '), side),
+        Drawing::Utf8 => {
+            let half = if y % 2 == 0 { 0x84 } else { 0x80 };
+            row_by(empty, bytes, first, 1, (b' ', half), side)
+        }
+        Drawing::Svg => row_by(empty, bytes, first, 1, (1, 1), side),
+    }
+}
+
+fn square_of(
+    alloc: Global,
+    sheet: &Sheet,
+    margin: usize,
+    side: u8,
+    k: usize,
+) -> Result<Matrix, AllocError>
+    requires least { 1 ≤ side }
+    requires most { side ≤ 177 }
+    requires k_in { k < sheet.now.count }
+    requires few { sheet.now.count ≤ 16 }
+    requires fits { margin + side ≤ sheet.now.width }
+    ensures { IfOk result (λ m. m ≡ square side
+        (λ r c. is_dark_on sheet.now.kind sheet.now.width sheet.now.bytes.now k (margin + r) (margin + c))) }
+{
+    let mut matrix = Matrix::new(alloc, side)?;
+    let empty = matrix.bit_row(0);
+    for row in 0..side {
+        let bits = row_of(empty, sheet, margin, side, k, margin + usize::from(row));
+        matrix.set_bit_row(row, bits);
+    }
+    Ok(matrix)
+}
+
+pub(crate) fn squares_of(
+    alloc: Global,
+    sheet: &Sheet,
+    margin: usize,
+    side: u8,
+) -> Result<Vec<Matrix>, AllocError>
+    requires least { 1 ≤ side }
+    requires most { side ≤ 177 }
+    requires few { sheet.now.count ≤ 16 }
+    requires fits { margin + side ≤ sheet.now.width }
+    ensures { IfOk result (λ squares. squares.items ≡ map (λ k. square side
+        (λ r c. is_dark_on sheet.now.kind sheet.now.width sheet.now.bytes.now k (margin + r) (margin + c)))
+        (range_with_len 0 sheet.now.count)) }
+{
+    let mut squares = Vec::with_capacity(alloc, sheet.count)?;
+    for k in 0..sheet.count {
+        squares.push(square_of(alloc, sheet, margin, side, k)?)?;
+    }
+    Ok(squares)
+}

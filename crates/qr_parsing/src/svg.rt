@@ -1,0 +1,182 @@
+//! The sheets of SVG documents, from the numbers in them. Those of the boxes come last: five for each, which are its
+//! column, its row, its number of modules, its height of 1 and the number of modules again. The numbers are read where they
+//! are needed, and never stored.
+
+ghost use Rattle.std.specs.Prelude.{◌≡◌, ℕ, ◌<◌, ◌≤◌, ◌+◌, ◌*◌, ◌/◌, ◌%◌, ◌^◌, ◌==◌, ◌&&◌, ◌∷◌, [], List, drop, nat_le, nat_lt, if◌then◌else◌, length, slice_index_or, IfOk, IfSome, MatchOption};
+ghost use Rattle.qr_parsing.specs.Steps.Sheet.{HasNoSheet, count_in, kind_in, width_in};
+ghost use Rattle.qr_parsing.specs.Steps.Svg.{canvas_of, is_in_boxes, numbers_in};
+ghost use Rattle.qr_drawing.specs.declared.drawing.Drawing.TheVariants.{Svg};
+
+use crate::sheet::{COUNT_MAX, SIDE_MIN, WIDTH_MAX};
+use std::alloc::{AllocError, Global};
+
+// The index of the document's width among the numbers. Before it are those of the version of XML (1, 0), its encoding
+// (8), the name of SVG (3, 2000), its version (1, 1) and the corner of the document (0, 0); its height follows.
+const WIDTH: usize = 9;
+
+// The index of the first number of a box. Before it are those of the background (0, 0, width, height) and of black (0).
+const BOXES: usize = 16;
+
+// Greater numbers are read as this one, which no drawing has.
+const NUMBER_MAX: u32 = 99_999;
+
+// Returns the first decimal number in a text that another byte follows, and what follows that byte.
+#[tactic(auto, unfolding(crate::specs::Steps::Svg::numbers_after))]
+fn next_number(text: &[u8]) -> Option<(u32, &[u8])>
+    ensures small { IfSome result (λ s. s.0 ≤ 99999) }
+    ensures shorter { IfSome result (λ s. length s.1.now < length text.now) }
+    ensures reads { MatchOption result (numbers_in text.now ≡ [])
+        (λ s. numbers_in text.now ≡ s.0 ∷ numbers_in s.1.now) }
+{
+    let mut rest = text;
+    let mut number = 0;
+    let mut inside = false;
+    'bytes: while let Some((byte, after)) = rest.split_first() {
+        rest = after;
+        if *byte >= b'0' && *byte <= b'9' {
+            number = (number * 10 + u32::from(*byte - b'0')).min(NUMBER_MAX);
+            inside = true;
+        } else if inside {
+            return Some((number, rest));
+        }
+    }
+    None
+}
+
+// Returns what follows the first `count` numbers, or nothing that has a number if there are fewer.
+fn after_numbers(text: &[u8], count: usize) -> &[u8]
+    ensures { numbers_in result.now ≡ drop count (numbers_in text.now) }
+{
+    let mut rest = text;
+    for _ in 0..count {
+        let Some((_, after)) = next_number(rest) else {
+            return &[];
+        };
+        rest = after;
+    }
+    rest
+}
+
+// Returns 0 if there is no such number.
+fn number_at(text: &[u8], index: usize) -> usize
+    ensures { result ≡ slice_index_or (numbers_in text.now) index 0 }
+{
+    match next_number(after_numbers(text, index)) {
+        Some((number, _)) => number as usize,
+        None => 0,
+    }
+}
+
+/// A document's width and height in modules, and its number of rasters.
+#[derive(Drop)]
+pub(crate) struct Size {
+    pub(crate) width: usize,
+    pub(crate) height: usize,
+    pub(crate) count: usize,
+}
+
+/// Returns the size of a document, if a drawing can have it.
+pub(crate) fn size_in(text: &[u8]) -> Option<Size>
+    requires { kind_in text.now ≡ Svg }
+    ensures small { IfSome result (λ s. (8 ≤ s.width) × (s.width ≤ 687) × (s.height < 17 * 687)) }
+    ensures size { MatchOption result (HasNoSheet text.now)
+        (λ s. (s.width ≡ width_in Svg text.now) × (s.count ≡ count_in Svg text.now)
+        × (s.height ≡ slice_index_or (numbers_in text.now) 10 0)) }
+{
+    let width = number_at(text, WIDTH);
+    let height = number_at(text, WIDTH + 1);
+    if width < SIDE_MIN || width > WIDTH_MAX {
+        return None;
+    }
+    let count = height / width;
+    if count > COUNT_MAX {
+        return None;
+    }
+    Some(Size {
+        width,
+        height,
+        count,
+    })
+}
+
+#[derive(Clone, Copy)]
+struct DarkBox {
+    x: u32,
+    y: u32,
+    modules: u32,
+}
+
+// Returns the box with which the numbers of a text begin, and what follows it.
+fn next_box(text: &[u8]) -> Option<(DarkBox, &[u8])>
+    ensures shorter { IfSome result (λ s. length s.1.now < length text.now) }
+    ensures none { MatchOption result (length (numbers_in text.now) < 5)
+        (λ s. (high : ℕ) × (back : ℕ) × (numbers_in text.now
+        ≡ s.0.x ∷ s.0.y ∷ s.0.modules ∷ high ∷ back ∷ numbers_in s.1.now)) }
+{
+    let (x, rest) = next_number(text)?;
+    let (y, rest) = next_number(rest)?;
+    let (modules, rest) = next_number(rest)?;
+    let (_, rest) = next_number(rest)?;
+    let (_, rest) = next_number(rest)?;
+    Some((DarkBox { x, y, modules }, rest))
+}
+
+// Makes the modules of a box dark, as far as they are on the canvas.
+fn paint(bytes: &mut [u8], width: usize, height: usize, x: usize, y: usize, modules: usize)
+    requires area { length bytes.old ≡ width * height }
+    requires some { 0 < width }
+    requires wide { width ≤ 687 }
+    requires high { height ≤ 99999 }
+    requires x_in { x < 2 ^ 32 }
+    requires modules_in { modules < 2 ^ 32 }
+    ensures { (i : ℕ) → i < length bytes.old → slice_index_or bytes.new i 0
+        ≡ (if i / width == y && (nat_le x (i % width) && nat_lt (i % width) (x + modules)) then 1
+        else slice_index_or bytes.old i 0) }
+{
+    if y < height {
+        let end = (x + modules).min(width);
+        for col in x..end {
+            bytes[y * width + col] = 1;
+        }
+    }
+}
+
+// Makes the modules of all boxes dark.
+fn paint_all(bytes: &mut [u8], width: usize, height: usize, boxes: &[u8])
+    requires area { length bytes.old ≡ width * height }
+    requires some { 0 < width }
+    requires wide { width ≤ 687 }
+    requires high { height ≤ 99999 }
+    ensures { (i : ℕ) → i < length bytes.old → slice_index_or bytes.new i 0
+        ≡ (if is_in_boxes (numbers_in boxes.now) (i / width) (i % width) then 1 else slice_index_or bytes.old i 0) }
+{
+    let mut rest = boxes;
+    'boxes: while let Some((dark, after)) = next_box(rest) {
+        paint(
+            bytes,
+            width,
+            height,
+            dark.x as usize,
+            dark.y as usize,
+            dark.modules as usize,
+        );
+        rest = after;
+    }
+}
+
+/// Returns the canvas of a document: a byte for each of its modules, 1 for a dark one.
+pub(crate) fn canvas_of(
+    alloc: Global,
+    width: usize,
+    height: usize,
+    text: &[u8],
+) -> Result<Vec<u8>, AllocError>
+    requires some { 0 < width }
+    requires wide { width ≤ 687 }
+    requires high { height ≤ 99999 }
+    ensures { IfOk result (λ bytes. bytes.items ≡ canvas_of width height (drop 16 (numbers_in text.now))) }
+{
+    let mut bytes = vec![in alloc; 0u8; width * height]?;
+    paint_all(&mut bytes, width, height, after_numbers(text, BOXES));
+    Ok(bytes)
+}

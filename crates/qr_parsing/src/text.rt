@@ -1,0 +1,101 @@
+//! The sheets of texts.
+
+ghost use Rattle.std.specs.Prelude.{◌≡◌, ℕ, ◌<◌, ◌==◌, ◌⊎◌, List, length, IfOk, MatchOption};
+ghost use Rattle.std.specs.List.{position_or_len};
+ghost use Rattle.qr_parsing.specs.Steps.Sheet.{IsSheetOf, HasNoSheet, kind_in};
+ghost use Rattle.qr_parsing.specs.Steps.Text.{cells_in, has_block};
+
+use crate::sheet::{SIDE_MIN, Sheet, WIDTH_MAX};
+use qr_drawing::Drawing;
+use std::alloc::{AllocError, Global};
+
+// How many bytes of a UTF8 drawing surely have the first byte of a block character. Column 7 of its first row is light,
+// and the seven characters before it have three bytes each at most.
+const BLOCK_WITHIN: usize = 22;
+
+// The index of the first byte that is `sign`, or the length if there is none.
+fn position_of(bytes: &[u8], sign: u8) -> usize
+    ensures { result ≡ position_or_len (λ byte. byte == sign) bytes.now }
+{
+    for (i, byte) in bytes.iter().enumerate() {
+        if *byte == sign {
+            return i;
+        }
+    }
+    bytes.len()
+}
+
+fn has_block(text: &[u8]) -> bool
+    ensures { result ≡ has_block text.now }
+{
+    let first = text.split_at(BLOCK_WITHIN.min(text.len())).0;
+    position_of(first, 0xE2) < first.len()
+}
+
+/// Returns the only type of drawing that `text` can be. In the ASCII types column 7 of the first row is light, whether it
+/// is in the margin or in the square, and so byte 14 says which sign is light.
+pub(crate) fn kind_in(text: &[u8]) -> Drawing
+    ensures { result ≡ kind_in text.now }
+{
+    if text.first().copied().unwrap_or(0) == b'<' {
+        return Drawing::Svg;
+    }
+    if has_block(text) {
+        return Drawing::Utf8;
+    }
+    if text.get(14).copied().unwrap_or(0) == b' ' {
+        return Drawing::Ascii;
+    }
+    Drawing::AsciiInverse
+}
+
+/// Returns the sheet of a text of an ASCII type, whose bytes are the text.
+pub(crate) fn ascii_sheet(text: &[u8], kind: Drawing) -> Option<Sheet<'_>>
+    requires ascii { (kind ≡ Drawing.Ascii) ⊎ (kind ≡ Drawing.AsciiInverse) }
+    requires kind { kind ≡ kind_in text.now }
+    ensures { MatchOption result (HasNoSheet text.now)
+        (λ s. IsSheetOf s.kind s.width s.count s.bytes.now text.now) }
+{
+    let width = position_of(text, b'\n') / 2;
+    if width < SIDE_MIN || width > WIDTH_MAX {
+        return None;
+    }
+    let count = text.len() / (width * (2 * width + 1));
+    Some(Sheet {
+        kind,
+        width,
+        count,
+        bytes: text,
+    })
+}
+
+/// Returns a text without the bytes E2 and 96, with which each block character begins. Then each character is one byte.
+pub(crate) fn cells_in(alloc: Global, text: &[u8]) -> Result<Vec<u8>, AllocError>
+    ensures { IfOk result (λ cells. cells.items ≡ cells_in text.now) }
+{
+    let mut cells = Vec::with_capacity(alloc, text.len())?;
+    for byte in text {
+        if *byte != 0xE2 && *byte != 0x96 {
+            cells.push(*byte)?;
+        }
+    }
+    Ok(cells)
+}
+
+/// Returns the sheet of a UTF8 text from the bytes that `cells_in` returned.
+pub(crate) fn cell_sheet(cells: &[u8]) -> Option<Sheet<'_>>
+    ensures { (text : List ℕ) → kind_in text ≡ Drawing.Utf8 → cells.now ≡ cells_in text
+        → MatchOption result (HasNoSheet text) (λ s. IsSheetOf s.kind s.width s.count s.bytes.now text) }
+{
+    let width = position_of(cells, b'\n');
+    if width < SIDE_MIN || width > WIDTH_MAX {
+        return None;
+    }
+    let count = cells.len() / (width.div_ceil(2) * (width + 1));
+    Some(Sheet {
+        kind: Drawing::Utf8,
+        width,
+        count,
+        bytes: cells,
+    })
+}

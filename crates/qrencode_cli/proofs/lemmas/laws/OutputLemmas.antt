@@ -1,0 +1,85 @@
+-- What the drawing that a run writes shows by itself.
+use Rattle.std.proofs.Common.{◌≡◌, ◌≤◌, ◌&&◌, ◌==◌, inl, inr, ℕ, Bool, true, cond, leb, List, length, Option, Some, None, unwrap_or, codes, Result, Ok, Err, sym, subst, arith}
+use Rattle.std.proofs.lemmas.Bool.Decides.{nat_tests}
+use Rattle.clap.specs.{Words.one_of, Walk.Text}
+use Rattle.qr_matrix.specs.Grid.{Grid}
+use Rattle.qr_drawing.specs.{Drawing.drawn}
+use Rattle.qr_parsing.specs.Parsing.{IsDrawingOf}
+use Rattle.qr_parsing.proofs.Facts.{one-drawing, series-drawing, symbol-drawing}
+use Rattle.qrencode_cli.specs.Arguments.{faults_for, rows_for}
+use Rattle.qr_devices.specs.Device.{Reader, Writer}
+use Rattle.qrencode_cli.specs.Command.{DrawnWhole, HasSettingsWith, IsDrawing, Runs, held, input_for}
+use Rattle.qrencode_cli.specs.Input.{IsInputOf}
+use Rattle.qrencode_cli.specs.Laws.{OutputsReadBack, ShowsInput}
+use Rattle.qrencode_cli.specs.Settings.{SettingsView, number_or, rule_for, settings_for}
+use Rattle.qrencode_cli.specs.Symbols.{AreSymbols, smallest_of}
+use Rattle.qrencode_cli.specs.declared.fault.Fault.{Fault}
+use Rattle.qrencode_cli.proofs.lemmas.laws.AnswerLemmas.{smallest-most, taken-have}
+
+-- a number of an option is at most 255
+number-most : (o : Option Text) → number_or 4 o ≤ 255
+number-most None = omega arith
+number-most (Some text) = grind (arith, nat_tests)
+
+-- the margin of settings is at most 255
+margin-most : (words : List Text) (s : SettingsView) → settings_for words ≡ Ok s → s.margin ≤ 255
+margin-most words s e =
+    taken-have (λ s. s.margin ≤ 255) (length (faults_for words) == 0) (rows_for words) (λ l k. number-most (one_of (codes "margin") (rows_for words))) s e
+
+-- a version of -v is at least 1
+version-least : (n : ℕ) → 1 ≤ unwrap_or (cond (leb 1 n && leb n 40) (Some n) None) 1
+version-least n = by-test (leb 1 n) (leb n 40) (λ e. grind (arith, nat_tests))
+  where
+    by-test : (a b : Bool) → (a ≡ true → 1 ≤ n) → 1 ≤ unwrap_or (cond (a && b) (Some n) None) 1
+    by-test a b h = grind arith
+
+-- the smallest version of settings is at least 1
+smallest-least : (words : List Text) (s : SettingsView) → settings_for words ≡ Ok s → 1 ≤ smallest_of s
+smallest-least words s e =
+    taken-have (λ s. 1 ≤ smallest_of s) (length (faults_for words) == 0) (rows_for words) (λ l k. version-least (number_or 0 (one_of (codes "version") (rows_for words)))) s e
+
+-- the squares that the settings ask for have a drawing that can be parsed
+asked-drawing : (s : SettingsView) (input : List ℕ) (squares : List Grid) → s.margin ≤ 255 → 1 ≤ smallest_of s → smallest_of s ≤ 40 → AreSymbols s input squares
+    → IsDrawingOf s.kind s.margin squares (drawn s.kind s.margin squares)
+asked-drawing s input squares m least most (inl h) =
+    let P : List Grid → Type 0 = λ g. IsDrawingOf s.kind s.margin g (drawn s.kind s.margin g) in
+    subst P (sym h.3) (series-drawing s.kind s.margin (smallest_of s) s.level (rule_for s) input h.1 m least most h.2)
+asked-drawing s input squares m least most (inr h) =
+    let P : List Grid → Type 0 = λ g. IsDrawingOf s.kind s.margin g (drawn s.kind s.margin g) in
+    subst P (sym h.5) (symbol-drawing s.kind s.margin (smallest_of s) s.level (rule_for s) input h.1 h.2 h.3 m least h.4)
+
+-- the drawing that the settings ask for
+shows-input : (words : List Text) (s : SettingsView) (input drawing : List ℕ) → settings_for words ≡ Ok s → IsDrawing s input drawing → ShowsInput s input drawing
+shows-input words s input drawing taken h =
+    let P : List ℕ → Type 0 = IsDrawingOf s.kind s.margin h.squares in
+    let asked : IsDrawingOf s.kind s.margin h.squares drawing =
+    subst P (sym h.is_drawn) (asked-drawing s input h.squares (margin-most words s taken) (smallest-least words s taken) (smallest-most words s taken) h.symbols) in
+    record {
+      squares = h.squares;
+      symbols = h.symbols;
+      joined = h.joined;
+      shown = asked;
+      only = λ kind margin others other. one-drawing kind s.kind margin s.margin others h.squares drawing other asked;
+    }
+
+-- a run whose status is 0 has no fault
+of-outcome : (words : List Text) (in0 in1 : Reader) (out0 out1 err0 err1 : Writer) (outcome : Result (Unit {0}) Fault)
+    → Runs words in0 in1 out0 out1 err0 err1 outcome 0
+    → (given : List ℕ) × (drawing : List ℕ) × IsInputOf in0.remaining given × DrawnWhole true out0 out1 drawing
+    × HasSettingsWith words (λ s. ShowsInput s (held s (input_for s given)) drawing)
+of-outcome words in0 in1 out0 out1 err0 err1 (Ok t) run =
+    let has = run.shows.1 in (
+      run.given,
+      run.shows.0,
+      run.is_input,
+      run.shows.2,
+      record {
+        settings = has.settings;
+        taken = has.taken;
+        holds = shows-input words has.settings (held has.settings (input_for has.settings run.given)) run.shows.0 has.taken has.holds;
+      },
+    )
+of-outcome words in0 in1 out0 out1 err0 err1 (Err f) run = absurd (omega (arith, run.status_is))
+
+pub outputs-read-back : OutputsReadBack
+outputs-read-back words in0 in1 out0 out1 err0 err1 run = of-outcome words in0 in1 out0 out1 err0 err1 run.0 run.1
