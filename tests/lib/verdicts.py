@@ -6,6 +6,10 @@ import re
 RESTS = re.compile(r"was not admitted|which was rejected|is not proved\b.*\bcalls|waits for|wait for a callee")
 # Said where a proof names what a change took away, which says nothing of the contract.
 NAMES = re.compile(r"(?:\./)?(?:proofs|specs)/\S+: error: (?:`[^`]*`|\([^)]*\)|[^`.;(])*?\b(?:has no field `|has no `|is not in scope)")
+# Said where a stored proof is of a goal that a change gave another name, as it does with a changed condition. The goal that came
+# in its place has no stored proof, so that it is not proved says nothing either, unless the prover knows that it is false.
+RENAMED = re.compile(r"\S+: error: `[^`]*`: `goal\.[^`]*`: module `[^`]*` has no `")
+IS_FALSE = "allow values at which this goal is false"
 # Said where a goal is refused, or a proof cannot be read.
 REFUSES = re.compile(r"(?:\./)?(?:proofs|specs)/\S+:\d+:\d+: error|note: \S+?:\d+:\d+: (?:it is not proved that|`search` found no proof)")
 # A verdict on a function that is not only of what it calls.
@@ -61,11 +65,6 @@ class Said:
     def is_at_limit(self):
         return self.status == 3 and bool(LIMITS.search(self.output))
 
-    def only_name(self):
-        """Returns the first message of a name that a change took away, if nothing else refuses anything."""
-        found = [it for it in self.messages if REFUSES.match(it) and not RESTS.search(it)]
-        return found[0] if found and all(map(NAMES.match, found)) else None
-
     def itself(self):
         """Returns the names of what is refused, and not only since it calls what is."""
         return [name for name, verdict in self.verdicts.items() if ITSELF.match(verdict)]
@@ -105,6 +104,12 @@ def goals_refused(item, said):
     return found
 
 
+def at_goals(messages):
+    """Returns those of a function's messages that refuse a goal, and not only a name."""
+    renamed = any(map(RENAMED.match, messages))
+    return [it for it in messages if not NAMES.match(it) and (not renamed or not it.startswith("note: ") or IS_FALSE in it)]
+
+
 def refusal(crate, edit, said):
     """Returns whether a goal of a function of a wrong body is refused, and not only a name, with what is said of the function;
     or None if the function is not refused."""
@@ -114,12 +119,21 @@ def refusal(crate, edit, said):
         for name in names_of(crate, item, said.verdicts) if messages else ():
             verdict = said.verdicts[name]
             if verdict != "proved" and not verdict.startswith("could not tell"):
-                at_goal = [it for it in messages if not NAMES.match(it)]
-                why = f"{name}: {re.split('[:;]', verdict)[0]}: {[*at_goal, *messages][0][:160]}"
-                if at_goal:
+                why = f"{name}: {re.split('[:;]', verdict)[0]}: {[*at_goals(messages), *messages][0][:160]}"
+                if at_goals(messages):
                     return True, why
                 by_name = by_name or (False, why)
     return by_name
+
+
+def only_name(items, said):
+    """Returns the first message of a name, if nothing else is refused anywhere."""
+    of_functions = [goals_refused(it, said) for it in items.all if it.is_function]
+    known = {message for messages in of_functions for message in messages}
+    others = [it for it in said.messages if REFUSES.match(it) and not RESTS.search(it) and it not in known]
+    if any(map(at_goals, of_functions)) or at_goals(others):
+        return None
+    return next((it for it in [*known, *others] if NAMES.match(it)), None)
 
 
 def refused_beside(items, group, said):

@@ -14,7 +14,8 @@ use itoa::Buffer;
 use qr_devices::Sink;
 use qr_symbol::Matrix;
 
-// The greatest number of bytes of a box.
+// The room that is made for a box, which needs at most 24 bytes. It stays 32, since it decides which bytes are in one
+// write (`sizes_of_single_writes` in `command_tests`).
 const BOX_MAX: usize = 32;
 
 // The greatest number of bytes before the first box.

@@ -106,6 +106,7 @@ impl Collector {
             ..
         } = self;
         if is_refused {
+            // for the error of an earlier call, which it could not return
             Err(AllocError)
         } else {
             Ok(whole)
