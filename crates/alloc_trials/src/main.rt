@@ -17,8 +17,10 @@ use std::env;
 use std::process::ExitCode;
 
 // The trials, those of a crate after those of the crates that it uses.
-static NAMES: [&str; 30] = [
+static NAMES: [&str; 32] = [
     "Matrix::new",
+    "matrix_of_bytes",
+    "matrices_of_bytes",
     "segments",
     "longest_fit",
     "fold",
@@ -54,6 +56,8 @@ static NAMES: [&str; 30] = [
 fn trial(alloc: Global, name: &str) -> Result<Answer, AllocError> {
     match name {
         "Matrix::new" => Ok(symbols::matrix(alloc)),
+        "matrix_of_bytes" => Ok(symbols::matrix_read(alloc)),
+        "matrices_of_bytes" => Ok(symbols::matrices_read(alloc)),
         "segments" => bits::segmented(alloc),
         "longest_fit" => bits::longest(alloc),
         "fold" => bits::folded(alloc),

@@ -1,6 +1,6 @@
 use Rattle.{std.proofs.Common.{◌≡◌, sym, ap, arith}, qr_matrix.specs.BitRow.has_bit}
-use Rattle.qrproved.specs.Steps.Modules.{four_bytes}
-use Rattle.qrproved.proofs.modules.four_bytes.Goals as goal
+use Rattle.qr_matrix.specs.Steps.{four_bytes}
+use Rattle.qr_matrix.proofs.bytes.four_bytes.Goals as goal
 
 pub returns-in-0 : goal.returns-in-0
 unfolding has_bit

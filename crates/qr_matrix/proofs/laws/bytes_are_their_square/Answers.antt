@@ -1,6 +1,6 @@
 use Rattle.std.proofs.Common.{◌≡◌, ◌*◌, ◌+◌, ◌==◌, ℕ, Bool, not, slice_index_or, ap, ◌∙◌, arith}
-use Rattle.{qr_matrix.{proofs.Facts.colour-square, specs.Grid.colour}, qrproved.specs.Modules.byte_of}
-use Rattle.qrproved.proofs.laws.bytes_are_their_square.Goals as goal
+use Rattle.qr_matrix.{proofs.lemmas.matrix.GridLemmas.colour-square, specs.{Grid.colour, Bytes.byte_of}}
+use Rattle.qr_matrix.proofs.laws.bytes_are_their_square.Goals as goal
 
 -- the byte of a colour is read as the colour
 read-back : (b : Bool) → not (byte_of b == 0) ≡ b

@@ -1,9 +1,9 @@
 use Rattle.std.proofs.Common.{◌≡◌, ◌≤◌, ◌+◌, ◌-◌, length, slice_index_or, ap, ◌∙◌, inl, inr, arith}
 use Rattle.{std.proofs.lemmas.Bool.cases_lt, qr_matrix.specs.Grid.colour}
 use borrow.Rule.Slice.PartMut.{put_mid}
-use Rattle.qrproved.specs.{Modules.byte_of, Steps.Modules.four_bytes}
-use Rattle.qrproved.proofs.lemmas.modules.ModuleLemmas.{part-long, part-here, part-others, four-each}
-use Rattle.qrproved.proofs.modules.write_row.Goals as goal
+use Rattle.qr_matrix.specs.{Bytes.byte_of, Steps.four_bytes}
+use Rattle.qr_matrix.proofs.lemmas.bytes.PartLemmas.{part-long, part-here, part-others, four-each}
+use Rattle.qr_matrix.proofs.bytes.write_row.Goals as goal
 
 pub cols-preserved-then-col-side : goal.cols-preserved-then-col-side
 cols-preserved-then-col-side c =
@@ -13,7 +13,7 @@ cols-preserved-then-col-side c =
     let from : c.from.result ≡ k = c.from.ensures in
     let a = s + c.from.result in
     let w = a + 4 - a in
-    let xs = c.cols.modules in
+    let xs = c.cols.bytes in
     let ys = c.copy_from_slice.new.self in
     let bits = c.four.result in
     let held : ys ≡ four_bytes bits = c.copy_from_slice.ensures.after ∙ c.four_bytes.ensures in

@@ -1,0 +1,2 @@
+-- Four bytes of a buffer that are written at once.
+pub mod PartLemmas
