@@ -1,5 +1,5 @@
 -- Steps of the code: bit rows, those of two squares side by side, dark runs, the modules that cost a point, what the
--- penalty counts, tiles, the parts of 64 by 64 modules by which a square is transposed, and the bytes of four modules.
+-- penalty counts, and tiles, the parts of 64 by 64 modules by which a square is transposed.
 use Rattle.std.specs.Prelude.{◌≡◌, ℕ, ◌+◌, ◌-◌, ◌*◌, ◌%◌, ◌^◌, ◌<◌, ◌≤◌, ◌&&◌, ◌||◌, not, Bool, List, [], ◌∷◌, length, slice_index, slice_index_or, map, nat_lt, if◌then◌else◌}
 use Rattle.std.specs.List.{filter, range_with_len}
 use Rattle.qr_matrix.specs.Grid.{is_same}
@@ -7,7 +7,6 @@ use Rattle.qr_matrix.specs.Sums.{count_below, places_passing}
 use Rattle.qr_matrix.specs.Penalty.{over_lines, run_cost, square_count, window_count}
 use Rattle.qr_matrix.specs.Runs.{begins_five}
 use Rattle.qr_matrix.specs.BitRow.{has, has_bit}
-use Rattle.qr_matrix.specs.Bytes.{byte_of}
 use Rattle.qr_matrix.specs.declared.dark_runs.Run.{Run}
 
 -- Three words of at most 64 bits
@@ -92,7 +91,3 @@ pub record IsCounted (s : ℕ) (dark : ℕ → ℕ → Bool) (runs squares windo
   pub squares_most : squares ≤ 192 * 177
   pub windows_most : windows ≤ 384 * 177
   pub darks_most : darks ≤ 192 * 177
-
--- The bytes of the modules in the four lowest bits, of which the lowest is the first
-abbrev pub four_bytes : ℕ → List ℕ
-four_bytes bits = byte_of (has_bit bits 0) ∷ byte_of (has_bit bits 1) ∷ byte_of (has_bit bits 2) ∷ byte_of (has_bit bits 3) ∷ []

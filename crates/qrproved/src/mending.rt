@@ -57,26 +57,17 @@ pub struct QrprovedMended {
 
 const NOT_KNOWN: u8 = 2;
 
-// The loop does not end at the first byte of more than 1, so that many bytes are compared at once.
-fn are_known(modules: &[u8]) -> bool
-    ensures { result ≡ true → All (λ b. b < 2) modules.now }
-{
-    let mut known = true;
-    for module in modules {
-        if *module >= NOT_KNOWN {
-            known = false;
-        }
-    }
-    known
-}
-
+// The loop does not end at the first byte of more than 2, so that many bytes are compared at once.
 fn are_modules(modules: &[u8]) -> bool
     ensures { MatchBool result (All (λ b. b ≤ 2) modules.now) (Any (λ b. 2 < b) modules.now) }
 {
-    if are_known(modules) {
-        return true;
+    let mut are_modules = true;
+    for module in modules {
+        if *module > NOT_KNOWN {
+            are_modules = false;
+        }
     }
-    modules.iter().all(|module| *module <= NOT_KNOWN)
+    are_modules
 }
 
 fn mend_modules(alloc: Global, modules: &[u8], side: u8) -> Result<Mended, ReadFault>

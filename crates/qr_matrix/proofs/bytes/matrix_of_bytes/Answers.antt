@@ -1,23 +1,21 @@
-use Rattle.std.proofs.Common.{◌≡◌, ◌+◌, ◌*◌, ◌==◌, not, false, ℕ, slice_index_or, ap, ◌∙◌, arith}
-use Rattle.qr_matrix.proofs.lemmas.matrix.GridLemmas.{filled, fill-step, fill-row, fill-all}
+use Rattle.std.proofs.Common.{◌≡◌, ℕ, ◌+◌, ◌*◌, ◌==◌, not, false, slice_index_or, ap, ◌∙◌, arith}
+use Rattle.qr_matrix.{specs.BitRow.has, proofs.lemmas.{bytes.ReadLemmas.read-there, matrix.GridLemmas.{filled, fill-line, fill-all}}}
 use Rattle.qr_matrix.proofs.bytes.matrix_of_bytes.Goals as goal
-
-pub loop-col-preserved : goal.loop-col-preserved
-loop-col-preserved c =
-    let f = λ (row col : ℕ). not (slice_index_or c.args.bytes.now (row * c.args.side + col) 0 == 0) in
-    let place : c.loop-row.start + c.from.result ≡ c.loop-row.row * c.args.side + c.loop-col.col = omega (arith, c.from.ensures, c.loop-col.invariant.start) in
-    record {
-      start = c.loop-col.invariant.start;
-      matrix = c.set.ensures ∙ fill-step c.args.side f (λ _ _. false) c.loop-row.row c.loop-col.col _ c.loop-col.matrix c.loop-col.invariant.matrix (ap (λ (n : ℕ). not (slice_index_or c.args.bytes.now n 0 == 0)) place);
-    }
 
 pub loop-row-preserved : goal.loop-row-preserved
 loop-row-preserved c =
-    let f = λ (row col : ℕ). not (slice_index_or c.args.bytes.now (row * c.args.side + col) 0 == 0) in
-    let end : c.loop-col.col ≡ c.args.side = omega arith in
+    let i = c.loop-row.invariant in
+    let xs = c.args.bytes.now in
+    let s = c.args.side in
+    let f = λ (row col : ℕ). not (slice_index_or xs (row * s + col) 0 == 0) in
     record {
-      start = omega (arith, c.from-start.ensures, c.loop-row.invariant.start);
-      matrix = c.loop-col.invariant.matrix ∙ (ap (λ (n : ℕ). filled c.args.side f (λ _ _. false) c.loop-row.row n) end ∙ fill-row c.args.side f (λ _ _. false) c.loop-row.row);
+      end = i.end;
+      start = omega (arith, i.start);
+      matrix =
+          c.set_bit_row.ensures
+          ∙ fill-line s f (λ _ _. false) c.loop-row.row (has c.dark_row_of.result) c.loop-row.matrix i.matrix (λ n l.
+          read-there n s _ (not (slice_index_or xs (c.loop-row.start + n) 0 == 0)) l (c.dark_row_of.ensures n)
+          ∙ ap (λ (z : ℕ). not (slice_index_or xs (z + n) 0 == 0)) i.start);
     }
 
 pub returns : goal.returns

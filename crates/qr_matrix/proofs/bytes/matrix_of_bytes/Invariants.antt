@@ -5,13 +5,7 @@ use Rattle.qr_matrix.proofs.bytes.matrix_of_bytes.Given as goal
 -- the rows before the current one have been read
 abbrev pub invariant-loop-row : goal.invariant-loop-row
 invariant-loop-row l = record {
+  end : l.end ≡ l.side * l.side;
   start : l.start ≡ l.row * l.side;
   matrix : l.matrix ≡ filled l.side (λ row col. not (slice_index_or l.bytes (row * l.side + col) 0 == 0)) (λ _ _. false) l.row 0;
-}
-
--- the modules of the row before the current one have been read
-abbrev pub invariant-loop-col : goal.invariant-loop-col
-invariant-loop-col l = record {
-  start : l.start ≡ l.row * l.side;
-  matrix : l.matrix ≡ filled l.side (λ row col. not (slice_index_or l.bytes (row * l.side + col) 0 == 0)) (λ _ _. false) l.row l.col;
 }
