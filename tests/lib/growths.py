@@ -16,9 +16,7 @@ def build_trials():
     if "TRIALS" in os.environ:
         return None if os.access(TRIALS, os.X_OK) else f"{TRIALS} is no program"
     repository, made = Repository(TOP), [TRIALS, f"{TRIALS}.o"]
-    files = [it for name in ["alloc_trials", *repository.below("alloc_trials")] for it in repository.files(name) if "/proofs/" not in it]
-    newest = max(map(os.path.getmtime, files))
-    if all(os.path.exists(it) and os.path.getmtime(it) >= newest for it in made):
+    if not repository.is_old("alloc_trials", made):
         return None
     print("crates/alloc_trials is proved and built", flush=True)
     ran = subprocess.run(["rt", "run", "--cpu", "x86-64", "--", "nothing"], cwd=repository.folder("alloc_trials"), capture_output=True, text=True)

@@ -37,6 +37,13 @@ class Repository:
         files = [it for part in PARTS for it in glob.glob(f"{self.folder(name)}/{part}/**/*", recursive=True)]
         return sorted(it for it in files if os.path.isfile(it))
 
+    def is_old(self, name, made):
+        """Returns whether one of the files that were built of a crate is missing, or older than a source of the crate or of one
+        that it uses. (A proof is no source: another one makes no other program.)"""
+        files = [it for used in [name, *self.below(name)] for it in self.files(used) if "/proofs/" not in it]
+        newest = max(map(os.path.getmtime, files))
+        return not all(os.path.exists(it) and os.path.getmtime(it) >= newest for it in made)
+
     def is_built(self, name):
         return os.path.exists(f"{self.rlib(name)}/format")
 

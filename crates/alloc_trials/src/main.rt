@@ -18,8 +18,10 @@ use std::env;
 use std::process::ExitCode;
 
 // The trials, those of a crate after those of the crates that it uses.
-static NAMES: [&str; 33] = [
+static NAMES: [&str; 35] = [
     "Matrix::new",
+    "matrix_of_bytes",
+    "matrices_of_bytes",
     "segments",
     "longest_fit",
     "fold",
@@ -58,6 +60,8 @@ static NAMES: [&str; 33] = [
 fn trial(alloc: Global, name: &str) -> Result<Answer, AllocError> {
     match name {
         "Matrix::new" => Ok(symbols::matrix(alloc)),
+        "matrix_of_bytes" => Ok(symbols::matrix_read(alloc)),
+        "matrices_of_bytes" => Ok(symbols::matrices_read(alloc)),
         "segments" => bits::segmented(alloc),
         "longest_fit" => bits::longest(alloc),
         "fold" => bits::folded(alloc),

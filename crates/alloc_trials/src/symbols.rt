@@ -6,6 +6,7 @@ use crate::bits::{DATA, HELLO_WORLD};
 use example_label::label;
 use qr_bits::Rule;
 use qr_layout::{Level, Version};
+use qr_matrix::{matrices_of_bytes, matrix_of_bytes};
 use qr_mending::{mend_series, mend_symbol, mend_symbol_without};
 use qr_symbol::{
     BlockSizes, EncodeFault, Matrix, ReadFault, Symbol, build, build_masked, deinterleave,
@@ -19,6 +20,9 @@ static SENT: [u8; 26] = [
     0x20, 0x5B, 0x0B, 0x78, 0xD1, 0x72, 0xDC, 0x4D, 0x43, 0x40, 0xEC, 0x11, 0xEC, 0x11, 0xEC, 0x11,
     0xC4, 0x23, 0x27, 0x77, 0xEB, 0xD7, 0xE7, 0xE2, 0x5D, 0x17,
 ];
+
+// A dark module and a light one; below them one that is not known and a dark one.
+static BYTES: [u8; 4] = [1, 0, 2, 1];
 
 static LETTERS: [u8; 8] = *b"ABCDEFGH";
 
@@ -58,6 +62,20 @@ fn hello(alloc: Global) -> Result<Symbol, AllocError> {
 pub fn matrix(alloc: Global) -> Answer {
     match Matrix::new(alloc, 21) {
         Ok(matrix) => Answer::of(matrix.side() == 21),
+        Err(_) => ALLOC_OUT,
+    }
+}
+
+pub fn matrix_read(alloc: Global) -> Answer {
+    match matrix_of_bytes(alloc, &BYTES, 2) {
+        Ok(matrix) => Answer::of(matrix.dark(0, 0) && !matrix.dark(0, 1)),
+        Err(_) => ALLOC_OUT,
+    }
+}
+
+pub fn matrices_read(alloc: Global) -> Answer {
+    match matrices_of_bytes(alloc, &BYTES, 2) {
+        Ok((dark, unknown)) => Answer::of(dark.dark(1, 0) && unknown.dark(1, 0)),
         Err(_) => ALLOC_OUT,
     }
 }

@@ -1,6 +1,6 @@
 //! Tests of `Matrix`: modules that are read and set, runs, transposed squares, and differences.
 
-use qr_matrix::{Matrix, differences};
+use qr_matrix::{Matrix, differences, matrices_of_bytes, matrix_of_bytes, write_square};
 use std::test::Fail;
 
 #[test]
@@ -191,6 +191,76 @@ fn differences_are_counted(rt: HostRuntime) -> Result<(), Fail> {
         }
         assert!(rt; a.side() == b.side());
         assert_eq!(rt; differences(&a, &b), wanted, "{name}");
+    }
+    Ok(())
+}
+
+// Sides at which sixteen, 64 or 128 modules end, or nearly so, and some of versions.
+static SIDES: [u8; 9] = [1, 15, 16, 17, 21, 33, 65, 128, 177];
+
+// In turn a dark module, from 3 on, a light one, and one that is not known.
+fn byte_at(place: usize) -> u8 {
+    match place % 3 {
+        0 => (place % 251) as u8 + 3,
+        1 => 0,
+        _ => 2,
+    }
+}
+
+#[test]
+fn squares_are_read_from_bytes(rt: HostRuntime) -> Result<(), Fail> {
+    for side in SIDES {
+        let area = usize::from(side) * usize::from(side);
+        let mut bytes = vec![in rt.alloc(); 0u8; area + 7]?;
+        for place in 0..area {
+            bytes[place] = byte_at(place);
+        }
+        let matrix = matrix_of_bytes(rt.alloc(), &bytes, side)?;
+        let (dark, unknown) = matrices_of_bytes(rt.alloc(), &bytes, side)?;
+        for row in 0..side {
+            for col in 0..side {
+                let place = usize::from(row) * usize::from(side) + usize::from(col);
+                let is_dark = place % 3 != 1;
+                assert_eq!(rt;
+                    matrix.dark(row, col),
+                    is_dark,
+                    "side {side}, row {row}, column {col}"
+                );
+                assert_eq!(rt;
+                    dark.dark(row, col),
+                    is_dark,
+                    "side {side}, row {row}, column {col}"
+                );
+                assert_eq!(rt;
+                    unknown.dark(row, col),
+                    place % 3 == 2,
+                    "side {side}, row {row}, column {col}"
+                );
+            }
+        }
+    }
+    Ok(())
+}
+
+#[test]
+fn squares_are_written_as_bytes(rt: HostRuntime) -> Result<(), Fail> {
+    for side in SIDES {
+        let area = usize::from(side) * usize::from(side);
+        let mut bytes = vec![in rt.alloc(); 0u8; area]?;
+        for place in 0..area {
+            bytes[place] = byte_at(place);
+        }
+        let matrix = matrix_of_bytes(rt.alloc(), &bytes, side)?;
+        let mut written = vec![in rt.alloc(); 9u8; area + 7]?;
+        write_square(&matrix, 3, &mut written);
+        for place in 0..area + 7 {
+            let wanted = if place < 3 || place >= area + 3 {
+                9
+            } else {
+                u8::from((place - 3) % 3 != 1)
+            };
+            assert_eq!(rt; written[place], wanted, "side {side}, byte {place}");
+        }
     }
     Ok(())
 }

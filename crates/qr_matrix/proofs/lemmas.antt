@@ -1,6 +1,7 @@
 -- Lemmas, in folders by the file of src that they serve, in the order in which they are read.
 pub mod bit_row
 pub mod matrix
+pub mod bytes
 pub mod row_pair
 pub mod dark_runs
 pub mod transposition

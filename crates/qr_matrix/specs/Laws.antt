@@ -1,5 +1,8 @@
--- Squares whose penalties were counted by hand, each as the colour of the module in row `r` and column `c`.
-use Rattle.std.specs.Prelude.{ℕ, ◌+◌, ◌%◌, ◌&&◌, ◌||◌, ◌==◌, nat_le, Bool, true, false}
+-- Squares whose penalties were counted by hand, each as the colour of the module in row `r` and column `c`, and a law of
+-- squares whose modules are written as bytes.
+use Rattle.std.specs.Prelude.{◌≡◌, ℕ, ◌+◌, ◌*◌, ◌<◌, ◌%◌, ◌&&◌, ◌||◌, ◌==◌, nat_le, Bool, true, false, List, slice_index_or}
+use Rattle.qr_matrix.specs.Grid.{Grid, colour}
+use Rattle.qr_matrix.specs.Bytes.{byte_of, square_of_bytes}
 
 -- Dark everywhere [own]
 abbrev pub all_dark : ℕ → ℕ → Bool
@@ -24,3 +27,9 @@ ratio_in_a_row k r c = r == 0 && ratio_from k c
 -- All light but for the ratio in column 10, from row `k` on [own]
 abbrev pub ratio_in_a_column : ℕ → ℕ → ℕ → Bool
 ratio_in_a_column k r c = c == 10 && ratio_from k r
+
+-- A square whose modules are written as bytes, row by row, is read with the same colours [own]
+abbrev pub BytesAreTheirSquare : Type 0
+BytesAreTheirSquare = (side : ℕ) (g : Grid) (bytes : List ℕ)
+    → ((row col : ℕ) → row < side → col < side → slice_index_or bytes (row * side + col) 0 ≡ byte_of (colour g row col))
+    → (row col : ℕ) → row < side → col < side → colour (square_of_bytes side bytes) row col ≡ colour g row col

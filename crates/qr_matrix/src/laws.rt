@@ -1,4 +1,4 @@
-//! Laws of the penalty (ISO/IEC 18004:2015, 7.8.3.1, Table 11), of differences and of clones. A function without a
+//! Laws of the penalty (ISO/IEC 18004:2015, 7.8.3.1, Table 11), of differences, of bytes and of clones. A function without a
 //! parameter does nothing: its contract is the law.
 
 ghost use Rattle.std.specs.Prelude.{◌≡◌, ◌↔◌, ◌<◌, ℕ, Bool, IfOk};
@@ -6,7 +6,7 @@ ghost use Rattle.qr_matrix.specs.Penalty.{over_lines, run_cost, square_count, wi
 ghost use Rattle.qr_matrix.specs.Runs.{place_cost};
 ghost use Rattle.qr_matrix.specs.Grid.{colour, Grid};
 ghost use Rattle.qr_matrix.specs.Difference.{difference_count};
-ghost use Rattle.qr_matrix.specs.Laws.{all_dark, all_light, chequered, ratio_in_a_row, ratio_in_a_column};
+ghost use Rattle.qr_matrix.specs.Laws.{all_dark, all_light, chequered, ratio_in_a_row, ratio_in_a_column, BytesAreTheirSquare};
 
 use crate::bit_row::BitRow;
 use crate::dark_runs::Run;
@@ -61,6 +61,11 @@ pub fn windows_on_words(m: &Matrix) -> u32
 pub fn differences_tell_squares_apart()
     ensures { (g h : Grid) → (difference_count g h ≡ 0)
         ↔ ((r c : ℕ) → r < g.side → c < g.side → colour g r c ≡ colour h r c) }
+{}
+
+/// A square that is written as bytes is read as the same square.
+pub fn bytes_are_their_square()
+    ensures { BytesAreTheirSquare }
 {}
 
 /// A clone of a `BitRow` is equal to it.

@@ -6,4 +6,3 @@ pub mod Series
 pub mod Reading
 pub mod Mending
 pub mod Drawing
-pub mod Laws

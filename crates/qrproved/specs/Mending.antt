@@ -1,11 +1,11 @@
 -- What `qrproved_mend` writes for a damaged symbol, and when it writes nothing. The square has `side` rows, and
 -- `modules` begins with its modules, row by row; the byte 2 is a module that is not known. `changed` lists for each
 -- block how many codewords were corrected, without those with a module that is not known.
-use Rattle.std.specs.Prelude.{◌≡◌, ℕ, ◌+◌, ◌*◌, ◌<◌, ◌≤◌, ◌==◌, List, ◌++◌, drop, length, slice_index_or, take}
+use Rattle.std.specs.Prelude.{◌≡◌, ℕ, ◌*◌, ◌<◌, ◌≤◌, List, ◌++◌, drop, length, take}
 use Rattle.std.specs.List.{All, Any, Contains}
 use Rattle.qr_layout.specs.declared.level.Level.{Level}
 use Rattle.qr_bits.specs.Parsing.{Content}
-use Rattle.qr_matrix.specs.Grid.{Grid, square}
+pub use Rattle.qr_matrix.specs.Bytes.{square_of_unknown}
 use Rattle.qr_symbol.specs.declared.fault.ReadFault.{ReadFault}
 use Rattle.qr_mending.specs.Mending.{wrong_format_modules, HasWrongModules, IsMendedReading, IsUnmended}
 use Rattle.qr_mending.specs.Message.{tolerance_of}
@@ -13,10 +13,6 @@ use Rattle.qrproved.specs.declared.mending.QrprovedMended.{QrprovedMended}
 use Rattle.qrproved.specs.Modules.{square_of_bytes}
 use Rattle.qrproved.specs.Reading.{HasMoreBytesBy, TellsHeader}
 use Rattle.qrproved.specs.Settings.{level_of}
-
--- The square in which exactly the modules that are not known are dark [own]
-abbrev pub square_of_unknown : ℕ → List ℕ → Grid
-square_of_unknown side bytes = square side (λ row col. slice_index_or bytes (row * side + col) 0 == 2)
 
 -- Each byte of the square is 0, 1 or 2 [own]
 pub record AreModules (modules : List ℕ) (side : ℕ) : Type 0 where

@@ -1,3 +1,2 @@
 -- Steps of the code. Only private contracts use them.
 pub mod Status
-pub mod Modules

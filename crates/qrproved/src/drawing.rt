@@ -4,12 +4,12 @@ ghost use Rattle.std.specs.Prelude.{◌≡◌, ◌≢◌, ◌*◌, ◌<◌, ◌�
 ghost use Rattle.qr_drawing.specs.Drawing.{drawn};
 ghost use Rattle.qrproved.specs.Drawing.{AreDrawingSettings, HasFewModules, HasNoTextRoom, HoldsText, drawing_of, drawing_of_bytes, squares_of_bytes};
 
-use crate::modules::{area, matrix_of};
+use crate::modules::area;
 use crate::settings::between;
 use crate::status::{DONE, MEMORY, ROOM, SETTINGS};
 use qr_devices::Counted;
 use qr_drawing::{Drawing, draw};
-use qr_symbol::Matrix;
+use qr_matrix::{Matrix, matrix_of_bytes};
 use std::alloc::{AllocError, Global};
 
 // The numbers of a caller, after they were checked.
@@ -56,7 +56,7 @@ fn squares_of(alloc: Global, modules: &[u8], side: u8, count: u8) -> Result<Vec<
     let mut squares = Vec::with_capacity(alloc, usize::from(count))?;
     let mut rest = modules;
     for _ in 0..count {
-        squares.push(matrix_of(alloc, rest, side)?)?;
+        squares.push(matrix_of_bytes(alloc, rest, side)?)?;
         rest = rest.split_at(area(side)).1;
     }
     Ok(squares)

@@ -3,7 +3,6 @@
 ghost use Rattle.std.specs.Prelude.{◌≡◌, ◌≤◌, ℕ, [], ◌∷◌, map, true, false, IfOk};
 ghost use Rattle.qr_layout.specs.declared.level.Level.{Level};
 ghost use Rattle.qr_bits.specs.declared.modes.Rule.{Rule};
-ghost use Rattle.qrproved.specs.Laws.{BytesAreTheirSquare};
 ghost use Rattle.qrproved.specs.Modules.{byte_of};
 ghost use Rattle.qrproved.specs.Drawing.{drawing_of, AreDrawingSettings};
 ghost use Rattle.qrproved.specs.Mending.{square_of_unknown};
@@ -54,11 +53,6 @@ pub fn numbers()
         → (side ≤ 177) × (count ≤ 16) × (drawing ≤ 3) × (margin ≤ 100) }
     ensures unknown { colour (square_of_unknown 2 (0 ∷ 2 ∷ 0 ∷ 0 ∷ [])) 0 1 ≡ true }
     ensures known { colour (square_of_unknown 2 (0 ∷ 2 ∷ 1 ∷ 3 ∷ [])) 1 1 ≡ false }
-{}
-
-/// A square that is written as bytes is read as the same square.
-pub fn bytes_are_their_square()
-    ensures { BytesAreTheirSquare }
 {}
 
 /// A clone of a `QrprovedSymbol` is equal to it.

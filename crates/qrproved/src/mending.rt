@@ -11,17 +11,18 @@ ghost use Rattle.qrproved.specs.Reading.{IsSide, TellsHeader};
 ghost use Rattle.qrproved.specs.Mending.{square_of_unknown, HasMoreMendedBytes, HasOtherByte, IsGivenMended, IsGreatest, IsUnmendedAt};
 ghost use Rattle.qrproved.specs.Settings.{level_of};
 
-use crate::modules::{area, matrix_of};
+use crate::modules::area;
 use crate::reading::{content_of, version_of_side};
 use crate::settings::number_of;
 use crate::status::{CHECK, DONE, FORMAT, MEMORY, ROOM, SEGMENTS, SETTINGS, SIDE, read_status};
+use qr_matrix::matrices_of_bytes;
 use qr_mending::laws::{
     changes_are_bounded, mended_readings_are_not_refused, mended_readings_are_one,
     mending_refusals_are_one,
 };
 use qr_mending::{Mended, changed_max, mend_symbol_without};
-use qr_symbol::{Matrix, ReadFault};
-use std::alloc::{AllocError, Global};
+use qr_symbol::ReadFault;
+use std::alloc::Global;
 
 /// What was read from a damaged symbol, besides its bytes, and its damage.
 #[repr(C)]
@@ -56,47 +57,17 @@ pub struct QrprovedMended {
 
 const NOT_KNOWN: u8 = 2;
 
-// The loop does not end at the first byte of more than 1, so that many bytes are compared at once.
-fn are_known(modules: &[u8]) -> bool
-    ensures { result ≡ true → All (λ b. b < 2) modules.now }
-{
-    let mut known = true;
-    for module in modules {
-        if *module >= NOT_KNOWN {
-            known = false;
-        }
-    }
-    known
-}
-
+// The loop does not end at the first byte of more than 2, so that many bytes are compared at once.
 fn are_modules(modules: &[u8]) -> bool
     ensures { MatchBool result (All (λ b. b ≤ 2) modules.now) (Any (λ b. 2 < b) modules.now) }
 {
-    if are_known(modules) {
-        return true;
-    }
-    modules.iter().all(|module| *module <= NOT_KNOWN)
-}
-
-fn unknown_of(alloc: Global, modules: &[u8], side: u8) -> Result<Matrix, AllocError>
-    requires least { 1 ≤ side }
-    requires most { side ≤ 177 }
-    requires room { side * side ≤ length modules.now }
-    ensures { IfOk result (λ m. m ≡ square_of_unknown side modules.now) }
-{
-    let mut unknown = Matrix::new(alloc, side)?;
-    if are_known(modules) {
-        return Ok(unknown);
-    }
-    let mut start = 0;
-    for row in 0..side {
-        for col in 0..side {
-            let module = modules[start + usize::from(col)];
-            unknown.set(row, col, module == NOT_KNOWN);
+    let mut are_modules = true;
+    for module in modules {
+        if *module > NOT_KNOWN {
+            are_modules = false;
         }
-        start += usize::from(side);
     }
-    Ok(unknown)
+    are_modules
 }
 
 fn mend_modules(alloc: Global, modules: &[u8], side: u8) -> Result<Mended, ReadFault>
@@ -112,8 +83,7 @@ fn mend_modules(alloc: Global, modules: &[u8], side: u8) -> Result<Mended, ReadF
     ensures modules { IfOk result (λ m. HasWrongModules (square_of_unknown side modules.now)
         (square_of_bytes side modules.now) m.version m.level m.mask m.changed.items m.wrong_modules) }
 {
-    let matrix = matrix_of(alloc, modules, side)?;
-    let unknown = unknown_of(alloc, modules, side)?;
+    let (matrix, unknown) = matrices_of_bytes(alloc, modules, side)?;
     mend_symbol_without(alloc, &matrix, &unknown)
 }
 

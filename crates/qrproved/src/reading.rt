@@ -6,11 +6,12 @@ ghost use Rattle.qr_bits.specs.declared.fault.ParseFault.{ParseFault};
 ghost use Rattle.qr_symbol.specs.declared.fault.ReadFault.{ReadFault};
 ghost use Rattle.qrproved.specs.Reading.{HasMoreBytes, IsGiven, IsSide, IsUnreadAt, TellsHeader};
 
-use crate::modules::{area, matrix_of};
+use crate::modules::area;
 use crate::settings::between;
 use crate::status::{CHECK, DONE, FORMAT, MEMORY, ROOM, SEGMENTS, SIDE, read_status};
 use qr_bits::Header;
 use qr_layout::Version;
+use qr_matrix::matrix_of_bytes;
 use qr_symbol::laws::{contents_are_one, refusals_are_one};
 use qr_symbol::read_symbol;
 use std::alloc::Global;
@@ -103,7 +104,7 @@ pub extern "C" fn qrproved_read(
     if modules.len() < area(side) {
         return ROOM;
     }
-    let Ok(matrix) = matrix_of(alloc, modules, side) else {
+    let Ok(matrix) = matrix_of_bytes(alloc, modules, side) else {
         return MEMORY;
     };
     contents_are_one();

@@ -1,9 +1,9 @@
 //! Symbols for the tests, as a byte for each module.
 
 use crate::encoding::{QrprovedSymbol, qrproved_encode};
-use crate::modules::write_square;
 use crate::status::DONE;
 use qr_layout::{Level, Version};
+use qr_matrix::write_square;
 use qr_symbol::{build_masked, interleave};
 use std::test::Fail;
 

@@ -9,10 +9,10 @@ use qr_mending::{Mended, changed_max, mend_symbol, mend_symbol_without};
 use qr_symbol::{INPUT_MAX, Level, Matrix, ReadFault, Rule, Symbol, Version, encode, read_symbol};
 use std::alloc::{AllocError, Global};
 
-static LEVELS: [Level; 4] = [Level::L, Level::M, Level::Q, Level::H];
+pub static LEVELS: [Level; 4] = [Level::L, Level::M, Level::Q, Level::H];
 
 // `None` if the text fits no symbol.
-fn symbol_of(
+pub fn symbol_of(
     alloc: Global,
     text: &Text,
     level: Level,
@@ -39,10 +39,10 @@ fn add_fault(fault: &ReadFault, digest: &mut Digest) {
     });
 }
 
-fn add_reading(alloc: Global, matrix: &Matrix, digest: &mut Digest) {
-    match read_symbol(alloc, matrix) {
-        Ok(parsed) => add_parsed(&parsed, digest),
-        Err(fault) => add_fault(&fault, digest),
+pub fn add_read(outcome: &Result<Parsed, ReadFault>, digest: &mut Digest) {
+    match outcome {
+        Ok(parsed) => add_parsed(parsed, digest),
+        Err(fault) => add_fault(fault, digest),
     }
 }
 
@@ -70,13 +70,13 @@ pub fn proofread(
         let level = LEVELS[random.below(4)];
         if let Some(symbol) = symbol_of(alloc, &text, level, Version::FIRST)? {
             digest.add(u64::from(symbol.mask));
-            add_reading(alloc, &symbol.matrix, digest);
+            add_read(&read_symbol(alloc, &symbol.matrix), digest);
         }
     }
     Ok(())
 }
 
-fn add_mended(outcome: &Result<Mended, ReadFault>, digest: &mut Digest) {
+pub fn add_mended(outcome: &Result<Mended, ReadFault>, digest: &mut Digest) {
     match outcome {
         Ok(mended) => {
             add_parsed(&mended.parsed, digest);

@@ -5,6 +5,7 @@
 
 mod checking;
 mod digest;
+mod library;
 mod printing;
 mod random;
 mod texts;
@@ -14,7 +15,15 @@ use std::alloc::{AllocError, Global};
 use std::env;
 use std::process::ExitCode;
 
-static NAMES: [&str; 6] = ["labels", "large", "series", "awkward", "proofread", "mend"];
+static NAMES: [&str; 7] = [
+    "labels",
+    "large",
+    "series",
+    "awkward",
+    "proofread",
+    "mend",
+    "library",
+];
 
 // `None` if there is no job of this name.
 fn job(
@@ -31,6 +40,7 @@ fn job(
         "awkward" => Some(printing::awkward(alloc, count, seed, digest)),
         "proofread" => Some(checking::proofread(alloc, count, seed, digest)),
         "mend" => Some(checking::mend(alloc, count, seed, digest)),
+        "library" => Some(library::library(alloc, count, seed, digest)),
         _ => None,
     }
 }

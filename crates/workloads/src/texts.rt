@@ -19,6 +19,26 @@ static WORDS: [&str; 24] = [
     "Thanks",
 ];
 
+// Words with bytes above 7F, in UTF-8.
+static FOREIGN: [&str; 16] = [
+    "Grüße",
+    "für",
+    "Straße",
+    "naïve",
+    "déjà",
+    "Žluťoučký",
+    "kůň",
+    "Łódź",
+    "señor",
+    "Привет",
+    "Москва",
+    "Αθήνα",
+    "東京",
+    "価格",
+    "서울",
+    "12,50 €",
+];
+
 /// A text that is added to piece by piece.
 #[derive(Drop)]
 pub struct Text {
@@ -117,6 +137,19 @@ impl Text {
             }
             self.put(WORDS[random.below(24)])?;
             self.put(if random.below(8) == 0 { ". " } else { " " })?;
+        }
+        Ok(())
+    }
+
+    /// At least `count` bytes of words, most with bytes above 7F.
+    pub fn put_foreign(&mut self, random: &mut Random, count: usize) -> Result<(), AllocError> {
+        let end = self.bytes.len().saturating_add(count);
+        for _ in 0..count {
+            if self.bytes.len() >= end {
+                return Ok(());
+            }
+            self.put(FOREIGN[random.below(16)])?;
+            self.put(" ")?;
         }
         Ok(())
     }

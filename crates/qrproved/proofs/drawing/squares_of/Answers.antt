@@ -11,7 +11,7 @@ loop-preserved c =
     let one = ap (λ m. m * area) next ∙ suc-mul n area in
     record {
       room = rw (c.split_at.ensures.back, c.area.ensures) (omega (arith, rest, one, c.loop.invariant.room));
-      squares = rw (c.in_ok-push.ensures.items, c.split_at.ensures.back, c.area.ensures, c.in_ok-matrix_of.ensures)
+      squares = rw (c.in_ok-push.ensures.items, c.split_at.ensures.back, c.area.ensures, c.in_ok-matrix_of_bytes.ensures)
           (one-more c.args.side (c.args.count - c.loop.counter) n c.loop.squares.items c.loop.rest.now next ∙ c.loop.invariant.squares);
     }
 

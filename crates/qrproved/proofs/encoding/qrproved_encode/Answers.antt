@@ -74,7 +74,7 @@ returns-else-modules-area-clause-done c _ =
           version is;
       read = subst (λ (v : ℕ). IsReadBack v rule c.args.input.now m.matrix) version read;
       side = c.side-side.ensures.value;
-      holds = one-held c.side-side.result m.matrix c.args.modules.now c.write_square.new.modules c.side-side.ensures.value
+      holds = one-held c.side-side.result m.matrix c.args.modules.now c.write_square.new.bytes c.side-side.ensures.value
           (omega (arith, c.area.ensures)) (search rules) c.write_square.ensures.modules c.write_square.ensures.others;
     }
 

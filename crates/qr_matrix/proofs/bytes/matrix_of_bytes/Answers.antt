@@ -1,0 +1,25 @@
+use Rattle.std.proofs.Common.{◌≡◌, ℕ, ◌+◌, ◌*◌, ◌==◌, not, false, slice_index_or, ap, ◌∙◌, arith}
+use Rattle.qr_matrix.{specs.BitRow.has, proofs.lemmas.{bytes.ReadLemmas.read-there, matrix.GridLemmas.{filled, fill-line, fill-all}}}
+use Rattle.qr_matrix.proofs.bytes.matrix_of_bytes.Goals as goal
+
+pub loop-row-preserved : goal.loop-row-preserved
+loop-row-preserved c =
+    let i = c.loop-row.invariant in
+    let xs = c.args.bytes.now in
+    let s = c.args.side in
+    let f = λ (row col : ℕ). not (slice_index_or xs (row * s + col) 0 == 0) in
+    record {
+      end = i.end;
+      start = omega (arith, i.start);
+      matrix =
+          c.set_bit_row.ensures
+          ∙ fill-line s f (λ _ _. false) c.loop-row.row (has c.dark_row_of.result) c.loop-row.matrix i.matrix (λ n l.
+          read-there n s _ (not (slice_index_or xs (c.loop-row.start + n) 0 == 0)) l (c.dark_row_of.ensures n)
+          ∙ ap (λ (z : ℕ). not (slice_index_or xs (z + n) 0 == 0)) i.start);
+    }
+
+pub returns : goal.returns
+returns c =
+    let f = λ (row col : ℕ). not (slice_index_or c.args.bytes.now (row * c.args.side + col) 0 == 0) in
+    let end : c.loop-row.row ≡ c.args.side = omega arith in
+    c.loop-row.invariant.matrix ∙ (ap (λ (n : ℕ). filled c.args.side f (λ _ _. false) n 0) end ∙ fill-all c.args.side f (λ _ _. false))

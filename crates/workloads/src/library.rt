@@ -1,0 +1,324 @@
+//! The job of those who call the library with a byte for each module: symbols that are encoded, drawn, read and mended.
+
+ghost use Rattle.std.specs.Prelude.{◌≡◌, ◌*◌, ◌≤◌};
+
+use crate::checking::{LEVELS, add_mended, add_read, symbol_of};
+use crate::digest::Digest;
+use crate::random::Random;
+use crate::texts::Text;
+use qr_devices::Counted;
+use qr_drawing::{Drawing, draw};
+use qr_layout::walk;
+use qr_matrix::{matrices_of_bytes, matrix_of_bytes, write_square};
+use qr_mending::{changed_max, mend_symbol_without};
+use qr_symbol::{Level, Symbol, Version, read_symbol};
+use std::alloc::{AllocError, Global};
+
+// The modules of version 40.
+const AREA_MAX: usize = 177 * 177;
+
+const MARGIN: u8 = 4;
+
+const NOT_KNOWN: u8 = 2;
+
+// The most bytes in byte mode of version 13, by level.
+static BYTES: [usize; 4] = [425, 331, 241, 177];
+
+// A symbol of version 1 to 13.
+fn small_symbol(
+    alloc: Global,
+    turn: u64,
+    random: &mut Random,
+) -> Result<Option<Symbol>, AllocError> {
+    let mut text = Text::new(alloc);
+    match turn % 8 {
+        0 | 4 => text.put_link(random)?,
+        1 => text.put_serial(random)?,
+        2 => text.put_contact(random)?,
+        3 => text.put_network(random)?,
+        5 => text.put_gtin(random)?,
+        _ => {
+            let count = random.between(20, 240);
+            text.put_foreign(random, count)?;
+        }
+    }
+    let level = random.below(4);
+    text.cut(BYTES[level]);
+    symbol_of(alloc, &text, LEVELS[level], Version::FIRST)
+}
+
+// A symbol of version 20 to 40 that is full.
+fn large_symbol(
+    alloc: Global,
+    turn: u64,
+    random: &mut Random,
+) -> Result<Option<Symbol>, AllocError> {
+    let level = LEVELS[random.below(4)];
+    let version = Version::new(random.byte_between(20, 41)).unwrap_or(Version::FIRST);
+    // The mode indicator and the count take three bytes.
+    let count = usize::from(version.data_codewords(level)).saturating_sub(3);
+    let mut text = Text::new(alloc);
+    if turn % 32 < 16 {
+        text.put_base64(random, count)?;
+    } else {
+        text.put_foreign(random, count)?;
+    }
+    text.cut(count);
+    symbol_of(alloc, &text, level, version)
+}
+
+// What becomes of a codeword.
+#[derive(Clone, Copy)]
+struct Change {
+    // The bits that are inverted, none if it stays as it is.
+    bits: u8,
+    // 1 for the first codeword of its block that was drawn, 2 for the second.
+    rank: u8,
+}
+
+// The index in the final sequence of codeword `at` of a block: the blocks have their data codewords in turn, then their
+// error correction codewords.
+fn index_of(version: Version, level: Level, block: usize, at: usize) -> usize {
+    let sizes = version.blocks(level);
+    let (short, short_len) = (usize::from(sizes.short), usize::from(sizes.short_len));
+    let blocks = short + usize::from(sizes.long);
+    let data_len = short_len + usize::from(block >= short);
+    if at < short_len {
+        return at.saturating_mul(blocks).saturating_add(block);
+    }
+    if at < data_len {
+        let shorter = short_len.saturating_mul(blocks);
+        return shorter.saturating_add(block.saturating_sub(short));
+    }
+    let data = usize::from(version.data_codewords(level));
+    let before = (at - data_len).saturating_mul(blocks);
+    data.saturating_add(before).saturating_add(block)
+}
+
+// What becomes of each codeword of the final sequence, if as many of each block as can be mended are wrong. They are
+// drawn among all codewords of their block.
+fn changes(
+    alloc: Global,
+    version: Version,
+    level: Level,
+    random: &mut Random,
+) -> Result<Vec<Change>, AllocError> {
+    let none = Change { bits: 0, rank: 0 };
+    let mut changes = vec![in alloc; none; usize::from(version.total_codewords())]?;
+    let sizes = version.blocks(level);
+    let bound = changed_max(version, level);
+    for block in 0..usize::from(sizes.short) + usize::from(sizes.long) {
+        let is_long = block >= usize::from(sizes.short);
+        let len = usize::from(sizes.short_len) + usize::from(is_long) + usize::from(sizes.ec_len);
+        let mut rank = 1u8;
+        // A codeword that was drawn before is drawn anew. So many tries are never needed.
+        for _ in 0..1000 {
+            if rank > bound {
+                break;
+            }
+            let index = index_of(version, level, block, random.between(0, len));
+            let bits = random.byte_between(1, 255);
+            if index < changes.len() && changes[index].rank == 0 {
+                changes[index] = Change { bits, rank };
+                rank = rank.saturating_add(1);
+            }
+        }
+    }
+    Ok(changes)
+}
+
+// The buffers of a caller, each with the modules of one symbol at its beginning.
+#[derive(Drop)]
+struct Buffers {
+    sound: Vec<u8>,
+    // A wrong codeword in each block, half as many as can be mended, and as many.
+    one: Vec<u8>,
+    half: Vec<u8>,
+    bound: Vec<u8>,
+    // Modules that are not known: they count as dark, so that some are wrong too.
+    smudged: Vec<u8>,
+}
+
+impl Buffers {
+    fn new(alloc: Global) -> Result<Buffers, AllocError> {
+        Ok(Buffers {
+            sound: vec![in alloc; 0u8; AREA_MAX]?,
+            one: vec![in alloc; 0u8; AREA_MAX]?,
+            half: vec![in alloc; 0u8; AREA_MAX]?,
+            bound: vec![in alloc; 0u8; AREA_MAX]?,
+            smudged: vec![in alloc; 0u8; AREA_MAX]?,
+        })
+    }
+}
+
+// Does nothing if the buffers have other lengths.
+fn copy(from: &[u8], to: &mut [u8]) {
+    if from.len() == to.len() {
+        to.copy_from_slice(from);
+    }
+}
+
+fn invert(modules: &mut [u8], at: usize) {
+    if at < modules.len() {
+        modules[at] = 1 - modules[at].min(1);
+    }
+}
+
+// A smudge covers a seventh of the side, to the right of and below the first finder pattern.
+fn smudge(modules: &mut [u8], side: u8, random: &mut Random) {
+    let width = side / 7;
+    let top = random.byte_between(9, side.saturating_sub(width));
+    let left = random.byte_between(9, side.saturating_sub(width));
+    for row in top..top.saturating_add(width) {
+        for col in left..left.saturating_add(width) {
+            let at = usize::from(row) * usize::from(side) + usize::from(col);
+            if at < modules.len() {
+                modules[at] = NOT_KNOWN;
+            }
+        }
+    }
+}
+
+// Damages the symbol that is in the first buffer, and writes it to the others.
+fn damage(
+    alloc: Global,
+    version: Version,
+    level: Level,
+    random: &mut Random,
+    buffers: &mut Buffers,
+) -> Result<(), AllocError> {
+    copy(&buffers.sound, &mut buffers.one);
+    copy(&buffers.sound, &mut buffers.half);
+    copy(&buffers.sound, &mut buffers.bound);
+    copy(&buffers.sound, &mut buffers.smudged);
+    let side = version.side();
+    smudge(&mut buffers.smudged, side, random);
+    let changes = changes(alloc, version, level, random)?;
+    let half = changed_max(version, level) / 2;
+    let mut number = 0usize;
+    for module in walk(version) {
+        let codeword = number / 8;
+        if codeword >= changes.len() {
+            break;
+        }
+        let change = changes[codeword];
+        if change.bits >> (number % 8) & 1 == 1 {
+            let at = usize::from(module.row) * usize::from(side) + usize::from(module.col);
+            if change.rank == 1 {
+                invert(&mut buffers.one, at);
+            }
+            if change.rank <= half {
+                invert(&mut buffers.half, at);
+            }
+            invert(&mut buffers.bound, at);
+        }
+        number = number.saturating_add(1);
+    }
+    Ok(())
+}
+
+fn area(side: u8) -> usize
+    ensures { result ≡ side * side }
+{
+    usize::from(side) * usize::from(side)
+}
+
+fn add_drawing(
+    alloc: Global,
+    modules: &[u8],
+    side: u8,
+    kind: Drawing,
+    digest: &mut Digest,
+) -> Result<(), AllocError>
+    requires least { 1 ≤ side }
+    requires most { side ≤ 177 }
+{
+    if modules.len() < area(side) {
+        return Ok(());
+    }
+    let squares = [matrix_of_bytes(alloc, modules, side)?];
+    let mut text = Counted::new(Vec::new(alloc));
+    let is_drawn = draw(&squares, kind, MARGIN, &mut text).is_ok();
+    digest.add(u64::from(is_drawn));
+    digest.add_bytes(&text.into_inner());
+    Ok(())
+}
+
+fn add_reading(
+    alloc: Global,
+    modules: &[u8],
+    side: u8,
+    digest: &mut Digest,
+) -> Result<(), AllocError>
+    requires least { 1 ≤ side }
+    requires most { side ≤ 177 }
+{
+    if modules.len() < area(side) {
+        return Ok(());
+    }
+    let matrix = matrix_of_bytes(alloc, modules, side)?;
+    add_read(&read_symbol(alloc, &matrix), digest);
+    Ok(())
+}
+
+fn add_mending(
+    alloc: Global,
+    modules: &[u8],
+    side: u8,
+    digest: &mut Digest,
+) -> Result<(), AllocError>
+    requires least { 1 ≤ side }
+    requires most { side ≤ 177 }
+{
+    if modules.len() < area(side) {
+        return Ok(());
+    }
+    let (dark, unknown) = matrices_of_bytes(alloc, modules, side)?;
+    add_mended(&mend_symbol_without(alloc, &dark, &unknown), digest);
+    Ok(())
+}
+
+/// Symbols of versions 1 to 13, and every sixteenth of 20 to 40 and full: encoded, written as bytes, drawn as SVG and as
+/// UTF8, read, and mended with one wrong codeword in each block, half as many as can be mended, as many, and a smudge.
+/// Each call begins with bytes and ends with bytes.
+pub fn library(
+    alloc: Global,
+    count: u64,
+    seed: u64,
+    digest: &mut Digest,
+) -> Result<(), AllocError> {
+    let mut random = Random::new(seed);
+    let mut buffers = Buffers::new(alloc)?;
+    for turn in 0..count {
+        let made = if turn % 16 == 7 {
+            large_symbol(alloc, turn, &mut random)?
+        } else {
+            small_symbol(alloc, turn, &mut random)?
+        };
+        let Some(symbol) = made else {
+            continue;
+        };
+        let side = symbol.matrix.side();
+        if buffers.sound.len() < area(side) {
+            continue;
+        }
+        write_square(&symbol.matrix, 0, &mut buffers.sound);
+        digest.add(u64::from(symbol.mask));
+        digest.add_bytes(&buffers.sound[..area(side)]);
+        add_drawing(alloc, &buffers.sound, side, Drawing::Svg, digest)?;
+        add_drawing(alloc, &buffers.sound, side, Drawing::Utf8, digest)?;
+        add_reading(alloc, &buffers.sound, side, digest)?;
+        damage(
+            alloc,
+            symbol.version,
+            symbol.level,
+            &mut random,
+            &mut buffers,
+        )?;
+        add_mending(alloc, &buffers.one, side, digest)?;
+        add_mending(alloc, &buffers.half, side, digest)?;
+        add_mending(alloc, &buffers.bound, side, digest)?;
+        add_mending(alloc, &buffers.smudged, side, digest)?;
+    }
+    Ok(())
+}
