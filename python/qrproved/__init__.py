@@ -39,6 +39,7 @@ __all__ = ["BYTES_MAX", "COUNT_MAX", "MARGIN_MAX", "SCALE_MAX", "SERIES_MAX", "S
            "SegmentsError", "SettingsError", "SideError", "Symbol", "TooLongError", "TooManyError", "draw", "encode",
            "encode_series", "mend", "parse_drawing", "parse_picture", "read"]
 
+__version__ = "0.1.0"
 _calls = _library.load()
 SCALE_MAX = 100
 SIZE_MAX = 100_000  # of mm and dpi
