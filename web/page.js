@@ -74,6 +74,7 @@ function show() {
   try {
     if (text === '') say(on('facts'), 'Type a text.');
     else if (margin === null) say(on('facts'), 'The margin is a number from 0 to 100.', 'fault');
+    else if (!on('mm').validity.valid) say(on('facts'), 'The width is a number from 1 to 1000.', 'fault');
     else {
       symbols = on('series').checked ? encodeSeries(text, { version, level }) : [encode(text, { version, level })];
       say(on('facts'), factsOf(text, margin));
