@@ -370,7 +370,10 @@ def _copied(data: Bytes) -> bytes:
 
 def _input(data: Input) -> bytes:
     """Returns the bytes of an input: those of a text are its UTF-8."""
-    return data.encode() if isinstance(data, str) else _copied(data)
+    try:
+        return data.encode() if isinstance(data, str) else _copied(data)
+    except TypeError:
+        raise TypeError(f"the input is a text or bytes, and not of type {type(data).__name__}") from None
 
 
 def _square(modules: Union[Symbol, Bytes], side: Optional[int]) -> tuple[Bytes, int]:
