@@ -1,6 +1,26 @@
 # Builds the proved program and the library for C, tests them, counts their instructions, installs them under PREFIX, the program
 # by the name NAME, and makes packages of them. STRIP=1 leaves the names of functions out of what is installed, and STATIC=1
 # installs the program that holds its C library.
+#
+# What `make help` prints:
+## make                proves and builds the program (15 to 20 minutes at first)
+## make lib            proves and builds the library for C
+## make static         the program with the C library inside
+## make install        installs the program, its manual page and completions: PREFIX=/usr/local NAME=qrencode
+## make install-lib    installs what make lib built
+## make uninstall      removes what make install installed, by the same PREFIX and NAME
+## make uninstall-lib  removes what make install-lib installed
+## make wheel          the package for Python, in python/out
+## make wasm           the library as WebAssembly, in out/wasm (needs binaryen)
+## make npm            the package for JavaScript, in out/npm
+## make page           the web page, in out/web
+## make dist           archives and packages of all of them, in out/dist
+## make test           runs the tests without proof (20 minutes after make all lib)
+## make check          the gate (an hour)
+## make check-each     tries each wrong body by itself
+## make bench          counts instructions and memory
+## make clean          removes what was built, the kept proofs too
+
 VERSION := $(shell cat VERSION)
 PREFIX = /usr/local
 BINDIR = $(PREFIX)/bin
@@ -69,6 +89,9 @@ all:
 else
 all: $(if $(call is_old,$(PROGRAM)),cross)
 endif
+
+help:
+	@sed -n 's/^## //p' '$(firstword $(MAKEFILE_LIST))'
 
 # What proves needs the kit.
 need-rt:
@@ -211,5 +234,5 @@ bench: all lib
 	bench/library
 	bench/memory
 
-.PHONY: all bench build-wasm check check-each clean cross install install-lib lib npm page print-pc prove-lib static test uninstall \
+.PHONY: all bench build-wasm check check-each clean cross help install install-lib lib npm page print-pc prove-lib static test uninstall \
     uninstall-lib wasm wheel

@@ -1,7 +1,8 @@
 /* Says whether the symbol of a drawing is sound: qrencode -t ASCII ... | check
  *
- * Reads a drawing in ASCII from standard input: two characters a module, '##' for a dark one and two spaces for a light one,
- * with any margin. The first and the last row and column of the symbol each need a dark module, and the margin none.
+ * Reads a drawing in ASCII from standard input: two characters a module, '##' for a dark one, two spaces for a light one, and two
+ * question marks for one that is not known, with any margin. The first and the last row and column of the symbol each need a dark
+ * module, and the margin none.
  * Prints one line, and ends with a status:
  *
  *   0  sound                                     each module is that of the symbol
@@ -9,17 +10,19 @@
  *   2  not readable: ...                         and why
  *
  * What is spent is that of the block with the most wrong codewords. It is 0 % if only modules outside the codewords are wrong:
- * function patterns, format and version information, remainder bits. It is 100 % if no more can be mended. */
+ * function patterns, format and version information, remainder bits. It is 100 % if no more can be mended. Codewords with a module
+ * that is not known do not count in it. */
 #include "qrproved.h"
 #include <stdio.h>
 #include <string.h>
 
 enum { SOUND, READABLE, NOT_READABLE };
+enum { LIGHT, DARK, UNKNOWN };
 enum { LINES_MAX = 512, LINE_MAX_LEN = 2 * LINES_MAX + 3 };
 
 /* The modules of a drawing, and the first and the last row and column with a dark one. */
 struct drawing {
-	uint8_t dark[LINES_MAX][LINES_MAX];
+	uint8_t modules[LINES_MAX][LINES_MAX];
 	int top, bottom, left, right;
 };
 
@@ -50,11 +53,11 @@ static int take_line(const char *line, int row, int is_last)
 		return 0;
 	for (int col = 0; 2 * col < len; col++) {
 		char first = line[2 * col], second = 2 * col + 1 < len ? line[2 * col + 1] : ' ';
-		if (first != second || (first != '#' && first != ' '))
+		if (first != second || (first != '#' && first != ' ' && first != '?'))
 			return 0;
-		if (first == ' ')
+		drawing.modules[row][col] = first == '?' ? UNKNOWN : first == '#' ? DARK : LIGHT;
+		if (first != '#')
 			continue;
-		drawing.dark[row][col] = 1;
 		drawing.top = least(drawing.top, row), drawing.bottom = most(drawing.bottom, row);
 		drawing.left = least(drawing.left, col), drawing.right = most(drawing.right, col);
 	}
@@ -80,7 +83,7 @@ static int copy_square(void)
 	if (side < 1 || side > QRPROVED_SIDE_MAX || side != drawing.right - drawing.left + 1)
 		return 0;
 	for (int row = 0; row < side; row++)
-		memcpy(modules + row * side, drawing.dark[drawing.top + row] + drawing.left, (size_t)side);
+		memcpy(modules + row * side, drawing.modules[drawing.top + row] + drawing.left, (size_t)side);
 	return side;
 }
 
@@ -110,7 +113,7 @@ int main(void)
 {
 	int status;
 	if (!take_drawing(stdin))
-		status = not_readable("the drawing is not of '##' and two spaces");
+		status = not_readable("the drawing is not of '##', '?\?' and two spaces");
 	else
 		status = judge(copy_square());
 	return fflush(stdout) == 0 && !ferror(stdout) ? status : NOT_READABLE;

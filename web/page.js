@@ -57,7 +57,8 @@ function factsOf(text, margin) {
   const what = symbols.length > 1 ? `${symbols.length} symbols of version ${version}-${level}` : `Version ${version}-${level}`;
   const facts = [what, `${side} × ${side} modules`, ...(mask === null ? [] : [`mask ${mask}`]), lengthOf(text)];
   const ofMargin = margin < 4 ? ['Scanners need a margin of 4 modules.'] : [];
-  return [`${facts.join(', ')}.`, ...ofMargin, ...smallOf(numberIn('mm') / (side + 2 * margin))].join(' ');
+  const warnings = on('warn').checked ? [...ofMargin, ...smallOf(numberIn('mm') / (side + 2 * margin))] : [];
+  return [`${facts.join(', ')}.`, ...warnings].join(' ');
 }
 
 /** Returns what is to be said of the width of a module in millimetres; 0 is not known. */
@@ -73,6 +74,7 @@ function show() {
   try {
     if (text === '') say(on('facts'), 'Type a text.');
     else if (margin === null) say(on('facts'), 'The margin is a number from 0 to 100.', 'fault');
+    else if (!on('mm').validity.valid) say(on('facts'), 'The width is a number from 1 to 1000.', 'fault');
     else {
       symbols = on('series').checked ? encodeSeries(text, { version, level }) : [encode(text, { version, level })];
       say(on('facts'), factsOf(text, margin));
@@ -211,7 +213,8 @@ function showSheet() {
   on('sheet').classList.toggle('on-paper', on('paper').checked);
   on('sheet').replaceChildren(...papers ?? figures);
   on('print-sheet').disabled = on('save-zip').disabled = figures.length === 0;
-  const count = [`${figures.length} ${figures.length === 1 ? 'label' : 'labels'}.`, ...smallestOf(figures, width)].join(' ');
+  const warnings = on('sheet-warn').checked ? smallestOf(figures, width) : [];
+  const count = [`${figures.length} ${figures.length === 1 ? 'label' : 'labels'}.`, ...warnings].join(' ');
   if (width === null) say(on('sheet-facts'), 'A symbol is from 10 to 180 mm wide.', 'wide fault');
   else if (papers === null) say(on('sheet-facts'), 'A size of the label paper is out of range.', 'wide fault');
   else if (refused.length) say(on('sheet-facts'), `${count} Too long at this level: line ${refused.join(', ')}.`, 'wide fault');
@@ -397,8 +400,8 @@ for (let version = 1; version <= 40; version++) {
 // The address may have the text, as in index.html#text=Shelf%2012, which no server is told.
 const given = new URLSearchParams(location.hash.slice(1)).get('text') ?? new URLSearchParams(location.search).get('text');
 if (given !== null) on('text').value = given;
-for (const id of ['text', 'level', 'version', 'margin', 'mm', 'series']) on(id).addEventListener('input', show);
-for (const id of ['lines', 'sheet-level', 'width', 'paper', ...SIZES]) on(id).addEventListener('input', showSheet);
+for (const id of ['text', 'level', 'version', 'margin', 'mm', 'series', 'warn']) on(id).addEventListener('input', show);
+for (const id of ['lines', 'sheet-level', 'width', 'sheet-warn', 'paper', ...SIZES]) on(id).addEventListener('input', showSheet);
 for (const form of document.forms) form.addEventListener('submit', (event) => event.preventDefault());
 on('pasted').addEventListener('input', showFound);
 on('paste-sample').addEventListener('click', pasteSample);

@@ -39,6 +39,7 @@ __all__ = ["BYTES_MAX", "COUNT_MAX", "MARGIN_MAX", "SCALE_MAX", "SERIES_MAX", "S
            "SegmentsError", "SettingsError", "SideError", "Symbol", "TooLongError", "TooManyError", "draw", "encode",
            "encode_series", "mend", "parse_drawing", "parse_picture", "read"]
 
+__version__ = "0.1.0"
 _calls = _library.load()
 SCALE_MAX = 100
 SIZE_MAX = 100_000  # of mm and dpi
@@ -369,7 +370,10 @@ def _copied(data: Bytes) -> bytes:
 
 def _input(data: Input) -> bytes:
     """Returns the bytes of an input: those of a text are its UTF-8."""
-    return data.encode() if isinstance(data, str) else _copied(data)
+    try:
+        return data.encode() if isinstance(data, str) else _copied(data)
+    except TypeError:
+        raise TypeError(f"the input is a text or bytes, and not of type {type(data).__name__}") from None
 
 
 def _square(modules: Union[Symbol, Bytes], side: Optional[int]) -> tuple[Bytes, int]:

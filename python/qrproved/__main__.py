@@ -133,7 +133,7 @@ def parsed(words: list[str]) -> argparse.Namespace:
     parser = argparse.ArgumentParser(
         prog=PROGRAM, description="Writes the QR Code symbol of a text as PNG, as SVG or as text.",
         epilog=f"'{PROGRAM} check [FILE]' checks a picture or a drawing. To encode a text that begins with a hyphen, or the text"
-        " 'check', write -- before it.")
+        " 'check', write -- before it. '--version' alone prints which version of the package this is.")
     parser.add_argument("text", nargs="?", help="the text to encode; without it, the bytes of standard input")
     parser.add_argument("-o", "--output", metavar="FILE", help="the file to write, .png, .svg or .txt; with --batch a folder")
     parser.add_argument("-t", "--type", choices=sorted(SUFFIXES), type=str.lower, help="the type of the drawing, if the file does not tell")
@@ -166,6 +166,9 @@ def parsed(words: list[str]) -> argparse.Namespace:
 
 def main(words: Optional[list[str]] = None) -> int:
     words = sys.argv[1:] if words is None else words
+    if words == ["--version"]:
+        print(f"qrproved {qrproved.__version__}")
+        return 0
     is_check = words[:1] == ["check"]
     try:
         if is_check:

@@ -60,6 +60,12 @@ class Command(unittest.TestCase):
         ran = subprocess.run([sys.executable, "-B", "-c", call], capture_output=True, text=True)
         self.assertIn("usage: qrproved ", ran.stdout)
 
+    def test_the_version(self):
+        version = pathlib.Path(__file__).resolve().parents[2].joinpath("VERSION").read_text().strip()
+        self.assertEqual(run("--version")[0].decode().split(), ["qrproved", version])
+        self.assertEqual(run("A", "--version", "7")[0], qrproved.encode("A", version=7).text().encode())
+        self.assertIn("expected one argument", run("A", "--version", status=2)[1])
+
     def test_the_text_check(self):
         self.assertEqual(run("--", "check")[0], qrproved.encode("check").text().encode())
 

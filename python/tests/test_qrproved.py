@@ -261,7 +261,7 @@ class Refusals(unittest.TestCase):
 
     def test_what_is_no_bytes(self):
         for other in (5, None, [1, 2]):
-            with self.assertRaises(TypeError):
+            with self.assertRaisesRegex(TypeError, f"^the input is a text or bytes, and not of type {type(other).__name__}$"):
                 qrproved.encode(other)
         for other in ("A", 5, None, [1, 2]):
             with self.assertRaises(TypeError):

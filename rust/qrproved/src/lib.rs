@@ -388,6 +388,32 @@ pub fn draw(symbols: &[Symbol], drawing: Drawing, margin: u8) -> Result<Vec<u8>,
     }
 }
 
+/// Returns the SVG document of symbols of one version, as [`draw`] does, with a size: it is `mm` millimetres wide with its margin.
+/// Few scanners read modules under 0.25 mm.
+///
+/// # Errors
+///
+/// As [`draw`]; [`Error::Settings`] also if `mm` is not above 0 and at most 100,000.
+pub fn draw_svg(symbols: &[Symbol], margin: u8, mm: f64) -> Result<Vec<u8>, Error> {
+    if !(mm > 0.0 && mm <= MM_MAX) {
+        return Err(Error::Settings);
+    }
+    let document = draw(symbols, Drawing::Svg, margin)?;
+    let place = document
+        .windows(SVG_START.len())
+        .position(|it| it == SVG_START)
+        .expect("a document of the library has an svg element");
+    let (before, after) = document.split_at(place + SVG_START.len());
+    let height = mm * symbols.len() as f64;
+    let size = format!("width=\"{mm}mm\" height=\"{height}mm\" ");
+    Ok([before, size.as_bytes(), after].concat())
+}
+
+/// The greatest width in millimetres.
+const MM_MAX: f64 = 100_000.0;
+/// How the element of an SVG document begins, before its attributes.
+const SVG_START: &[u8] = b"<svg ";
+
 /// Makes a call with a buffer, and returns what the call wrote to it, or its status.
 fn filled(room: usize, call: impl FnOnce(*mut u8, usize) -> (u8, usize)) -> Result<Vec<u8>, Error> {
     let mut buffer = Vec::new();

@@ -1,6 +1,7 @@
 //! What the crate adds to the library: its types, and its refusals. The symbols themselves are compared by tests/library.
 use qrproved::{
-    draw, encode, encode_series, mend, read, Content, Drawing, Error, Header, Level, Rule, Version,
+    draw, draw_svg, encode, encode_series, mend, read, Content, Drawing, Error, Header, Level,
+    Rule, Version,
 };
 
 /// The symbol of 01234567 of version 1 and level M under mask 0 (ISO/IEC 18004:2015, Annex I).
@@ -253,4 +254,25 @@ fn symbols_are_drawn() {
         Err(Error::Settings)
     );
     assert_eq!(draw(&[symbol], Drawing::Utf8, 101), Err(Error::Settings));
+}
+
+#[test]
+fn a_document_has_a_size() {
+    let symbols = vec![encode(b"A", Version::MIN, Level::L, Rule::Auto).unwrap(); 2];
+    for (count, mm, size) in [
+        (1, 29.0, "width=\"29mm\" height=\"29mm\""),
+        (2, 12.5, "width=\"12.5mm\" height=\"25mm\""),
+    ] {
+        let plain = draw(&symbols[..count], Drawing::Svg, 4).unwrap();
+        let sized = draw_svg(&symbols[..count], 4, mm).unwrap();
+        let wanted = String::from_utf8(plain)
+            .unwrap()
+            .replace("<svg ", &format!("<svg {size} "));
+        assert_eq!(String::from_utf8(sized).unwrap(), wanted);
+    }
+    for mm in [0.0, -1.0, 100_001.0, f64::INFINITY, f64::NAN] {
+        assert_eq!(draw_svg(&symbols, 4, mm), Err(Error::Settings));
+    }
+    assert_eq!(draw_svg(&[], 4, 29.0), Err(Error::Settings));
+    assert_eq!(draw_svg(&symbols, 101, 29.0), Err(Error::Settings));
 }
