@@ -1,10 +1,11 @@
 //! The modules of a square as bytes, row by row. A dark module is written as 1 and a light one as 0; when they are read,
 //! every byte but 0 is dark, and 2 is also a module that is not known.
 //!
-//! 64 modules are read at once, and eight are written at once. At the end of a row this reads and writes beyond it, in
-//! the rows that follow, so the last rows are read and written module by module.
+//! Eight modules are read or written at once, as one number of 64 bits: no vectors, which WebAssembly does not have. At
+//! the end of a row this goes on in the rows that follow, so the last rows go module by module, as do rows that have
+//! other bytes than 0 and 1.
 
-ghost use Rattle.std.specs.Prelude.{◌≡◌, ℕ, ◌+◌, ◌*◌, ◌<◌, ◌≤◌, ◌⊎◌, ◌&&◌, ◌==◌, not, nat_lt, length, slice_index_or, IfOk};
+ghost use Rattle.std.specs.Prelude.{◌≡◌, ℕ, ◌+◌, ◌*◌, ◌<◌, ◌≤◌, ◌⊎◌, ◌&&◌, ◌==◌, not, false, nat_lt, length, slice_index_or, IfOk, IfSome};
 ghost use Rattle.qr_matrix.specs.Grid.{colour};
 ghost use Rattle.qr_matrix.specs.BitRow.{has, has_bit};
 ghost use Rattle.qr_matrix.specs.Bytes.{byte_of, square_of_bytes, square_of_unknown};
@@ -13,50 +14,80 @@ use crate::bit_row::BitRow;
 use crate::matrix::Matrix;
 use crate::rows::words_for;
 use std::alloc::{AllocError, Global};
-use std::simd::prelude::*;
 
 const LIGHT: u8 = 0;
 
 const NOT_KNOWN: u8 = 2;
 
-// Bit `k` of the result is 1 if byte `start + k` is `byte`, for 16 bytes.
+// The bits that only bytes of more than 1 have.
+const MORE: u64 = 0xFEFE_FEFE_FEFE_FEFE;
+
+// A product with it moves the lowest bit of byte `k` to bit `k` of the highest byte. If each byte is 0 or 1, nothing is
+// carried there.
+const GATHER: u64 = 0x0102_0408_1020_4080;
+
+// The bits of eight bytes, the first lowest, if each is 0 or 1.
 #[inline(always)]
-fn sixteen_of(bytes: &[u8], start: usize, byte: u8) -> u64
-    requires { start + 16 ≤ length bytes.now }
-    ensures { (k : ℕ) → has_bit result k ≡ (nat_lt k 16 && slice_index_or bytes.now (start + k) 0 == byte) }
+fn eight_bits(bytes: &[u8], at: usize) -> Option<u64>
+    requires { at + 8 ≤ length bytes.now }
+    ensures small { IfSome result (λ bits. bits < 256) }
+    ensures bits { IfSome result (λ bits. (k : ℕ) → k < 8
+        → slice_index_or bytes.now (at + k) 0 ≡ byte_of (has_bit bits k)) }
 {
-    u8x16::from_slice(&bytes[start..])
-        .simd_eq(u8x16::splat(byte))
-        .to_bitmask()
+    let eight = u64::from_le_bytes([
+        bytes[at],
+        bytes[at + 1],
+        bytes[at + 2],
+        bytes[at + 3],
+        bytes[at + 4],
+        bytes[at + 5],
+        bytes[at + 6],
+        bytes[at + 7],
+    ]);
+    if eight & MORE != 0 {
+        return None;
+    }
+    Some(eight.wrapping_mul(GATHER) >> 56)
 }
 
-// The same for 64 bytes. Where there are no vectors, a loop is a fourth of the code of a vector of 64 bytes.
-fn word_of(bytes: &[u8], start: usize, byte: u8) -> u64
+// The bits of 64 bytes, if each is 0 or 1.
+fn word_of(bytes: &[u8], start: usize) -> Option<u64>
     requires { start + 64 ≤ length bytes.now }
-    ensures { (k : ℕ) → k < 64 → has_bit result k ≡ (slice_index_or bytes.now (start + k) 0 == byte) }
+    ensures { IfSome result (λ word. (k : ℕ) → k < 64
+        → slice_index_or bytes.now (start + k) 0 ≡ byte_of (has_bit word k)) }
 {
     let mut word = 0;
-    for part in 0..4usize {
-        word |= sixteen_of(bytes, start + 16 * part, byte) << (16 * part);
+    for part in 0..8usize {
+        word |= eight_bits(bytes, start + 8 * part)? << (8 * part);
     }
-    word
+    Some(word)
 }
 
-// Reads words that may end beyond the row.
+// The row of `side` modules from byte `start` on, if it and the bytes after it up to whole words are before byte `end`,
+// and each of them is 0 or 1.
 #[inline(always)]
-fn whole_words_of(bytes: &[u8], start: usize, words: u8, byte: u8) -> BitRow
-    requires room { start + 64 * words ≤ length bytes.now }
-    requires three { words ≤ 3 }
-    ensures { (c : ℕ) → c < 64 * words → has result c ≡ (slice_index_or bytes.now (start + c) 0 == byte) }
+fn plain_row_of(bytes: &[u8], start: usize, end: usize, side: u8) -> Option<BitRow>
+    requires least { 1 ≤ side }
+    requires most { side ≤ 177 }
+    requires room { start + side ≤ end }
+    requires end_in { end ≤ length bytes.now }
+    ensures bits { IfSome result (λ row. (c : ℕ) → c < side
+        → slice_index_or bytes.now (start + c) 0 ≡ byte_of (has row c)) }
+    ensures past { IfSome result (λ row. (c : ℕ) → side ≤ c → has row c ≡ false) }
 {
-    let mut row = BitRow::EMPTY;
-    for number in 0..usize::from(words) {
-        row.put_word(number, word_of(bytes, start + 64 * number, byte));
+    let words = usize::from(words_for(side));
+    if end - start < 64 * words {
+        return None;
     }
-    row
+    let mut row = BitRow::EMPTY;
+    for number in 0..words {
+        row.put_word(number, word_of(bytes, start + 64 * number)?);
+    }
+    Some(row & BitRow::below(side))
 }
 
-// Reads module by module.
+// Reads module by module. Not inlined, since few rows need it: WebAssembly is sent over the network.
+#[inline(never)]
 fn modules_of(bytes: &[u8], start: usize, side: u8, byte: u8) -> BitRow
     requires room { start + side ≤ length bytes.now }
     requires most { side ≤ 177 }
@@ -69,32 +100,24 @@ fn modules_of(bytes: &[u8], start: usize, side: u8, byte: u8) -> BitRow
     row
 }
 
-// The columns in which the row from byte `start` on has `byte`. Bytes from `end` on are not read.
+// The dark modules of the row from byte `start` on, and those that are not known. Bytes from `end` on are not read.
 #[inline(always)]
-fn row_of(bytes: &[u8], start: usize, end: usize, side: u8, byte: u8) -> BitRow
+fn rows_of(bytes: &[u8], start: usize, end: usize, side: u8) -> (BitRow, BitRow)
     requires least { 1 ≤ side }
     requires most { side ≤ 177 }
     requires room { start + side ≤ end }
     requires end_in { end ≤ length bytes.now }
-    ensures { (c : ℕ) → has result c ≡ (nat_lt c side && slice_index_or bytes.now (start + c) 0 == byte) }
+    ensures dark { (c : ℕ) → has result.0 c ≡ (nat_lt c side && not (slice_index_or bytes.now (start + c) 0 == 0)) }
+    ensures unknown { (c : ℕ) → has result.1 c ≡ (nat_lt c side && slice_index_or bytes.now (start + c) 0 == 2) }
 {
-    let words = words_for(side);
-    if end - start < 64 * usize::from(words) {
-        return modules_of(bytes, start, side, byte);
+    match plain_row_of(bytes, start, end, side) {
+        Some(row) => (row, BitRow::EMPTY),
+        None => {
+            let light = modules_of(bytes, start, side, LIGHT);
+            let unknown = modules_of(bytes, start, side, NOT_KNOWN);
+            (BitRow::below(side).and_not(light), unknown)
+        }
     }
-    whole_words_of(bytes, start, words, byte) & BitRow::below(side)
-}
-
-// The columns in which the row from byte `start` on is dark.
-#[inline(always)]
-fn dark_row_of(bytes: &[u8], start: usize, end: usize, side: u8) -> BitRow
-    requires least { 1 ≤ side }
-    requires most { side ≤ 177 }
-    requires room { start + side ≤ end }
-    requires end_in { end ≤ length bytes.now }
-    ensures { (c : ℕ) → has result c ≡ (nat_lt c side && not (slice_index_or bytes.now (start + c) 0 == 0)) }
-{
-    BitRow::below(side).and_not(row_of(bytes, start, end, side, LIGHT))
 }
 
 /// Returns the square that `bytes` begins with. Bytes after the square are not read.
@@ -112,7 +135,8 @@ pub fn matrix_of_bytes(alloc: Global, bytes: &[u8], side: u8) -> Result<Matrix, 
     let end = usize::from(side) * usize::from(side);
     let mut start = 0;
     for row in 0..side {
-        matrix.set_bit_row(row, dark_row_of(bytes, start, end, side));
+        let (dark, _) = rows_of(bytes, start, end, side);
+        matrix.set_bit_row(row, dark);
         start += usize::from(side);
     }
     Ok(matrix)
@@ -140,8 +164,9 @@ pub fn matrices_of_bytes(
     let end = usize::from(side) * usize::from(side);
     let mut start = 0;
     for row in 0..side {
-        matrix.set_bit_row(row, dark_row_of(bytes, start, end, side));
-        unknown.set_bit_row(row, row_of(bytes, start, end, side, NOT_KNOWN));
+        let (dark, not_known) = rows_of(bytes, start, end, side);
+        matrix.set_bit_row(row, dark);
+        unknown.set_bit_row(row, not_known);
         start += usize::from(side);
     }
     Ok((matrix, unknown))
@@ -198,6 +223,7 @@ fn write_words(matrix: &Matrix, row: usize, start: usize, bytes: &mut [u8])
 }
 
 // Writes a row module by module.
+#[inline(never)]
 fn write_modules(matrix: &Matrix, row: u8, start: usize, bytes: &mut [u8])
     requires row_in { row < matrix.now.side }
     requires room { start + matrix.now.side ≤ length bytes.old }

@@ -15,13 +15,13 @@ loop-row-preserved c =
       start = omega (arith, i.start);
       matrix =
           c.set_bit_row.ensures
-          ∙ fill-line s dark (λ _ _. false) c.loop-row.row (has c.dark_row_of.result) c.loop-row.matrix i.matrix (λ n l.
-          read-there n s _ (not (slice_index_or xs (start + n) 0 == 0)) l (c.dark_row_of.ensures n)
+          ∙ fill-line s dark (λ _ _. false) c.loop-row.row (has c.rows_of-dark.result.0) c.loop-row.matrix i.matrix (λ n l.
+          read-there n s _ (not (slice_index_or xs (start + n) 0 == 0)) l (c.rows_of-dark.ensures.dark n)
           ∙ ap (λ (z : ℕ). not (slice_index_or xs (z + n) 0 == 0)) i.start);
       unknown =
           c.set_bit_row-in-loop-row.ensures
-          ∙ fill-line s unknown (λ _ _. false) c.loop-row.row (has c.row_of.result) c.loop-row.unknown i.unknown (λ n l.
-          read-there n s _ (slice_index_or xs (start + n) 0 == 2) l (c.row_of.ensures n)
+          ∙ fill-line s unknown (λ _ _. false) c.loop-row.row (has c.rows_of-dark.result.1) c.loop-row.unknown i.unknown (λ n l.
+          read-there n s _ (slice_index_or xs (start + n) 0 == 2) l (c.rows_of-dark.ensures.unknown n)
           ∙ ap (λ (z : ℕ). slice_index_or xs (z + n) 0 == 2) i.start);
     }
 

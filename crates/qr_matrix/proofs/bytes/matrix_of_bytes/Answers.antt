@@ -13,8 +13,8 @@ loop-row-preserved c =
       start = omega (arith, i.start);
       matrix =
           c.set_bit_row.ensures
-          ∙ fill-line s f (λ _ _. false) c.loop-row.row (has c.dark_row_of.result) c.loop-row.matrix i.matrix (λ n l.
-          read-there n s _ (not (slice_index_or xs (c.loop-row.start + n) 0 == 0)) l (c.dark_row_of.ensures n)
+          ∙ fill-line s f (λ _ _. false) c.loop-row.row (has c.rows_of-dark.result.0) c.loop-row.matrix i.matrix (λ n l.
+          read-there n s _ (not (slice_index_or xs (c.loop-row.start + n) 0 == 0)) l (c.rows_of-dark.ensures.dark n)
           ∙ ap (λ (z : ℕ). not (slice_index_or xs (z + n) 0 == 0)) i.start);
     }
 

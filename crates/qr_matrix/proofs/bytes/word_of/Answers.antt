@@ -1,20 +1,30 @@
-use Rattle.std.proofs.Common.{◌≡◌, ℕ, ◌+◌, ◌-◌, ◌*◌, ◌&&◌, ◌==◌, eqb, nat_lt, slice_index_or, ap, ◌∙◌, arith}
-use Rattle.{std.proofs.lemmas.Nat.Bits.bit_at-zero, qr_matrix.specs.BitRow.has_bit}
-use Rattle.qr_matrix.proofs.lemmas.bytes.ReadLemmas.{more-read, none-read, put-bits}
+use Rattle.std.proofs.Common.{◌≡◌, ◌+◌, ◌-◌, ◌*◌, ◌≤◌, eqb, slice_index_or, ap, sym, ◌∙◌, inl, inr, arith}
+use Rattle.std.proofs.lemmas.{Bool.cases_lt, Nat.Bits.bit_at-zero}
+use Rattle.qr_matrix.specs.{BitRow.has_bit, Bytes.byte_of}
+use Rattle.qr_matrix.proofs.lemmas.bytes.ReadLemmas.{bit-after, bit-before, past-eight, put-bits}
 use Rattle.qr_matrix.proofs.bytes.word_of.Goals as goal
 
 pub loop-part-init : goal.loop-part-init
 unfolding has_bit
-loop-part-init c = λ k l. none-read k _ _ (ap (λ z. eqb z 1) (bit_at-zero k))
+loop-part-init c = record { read = λ k l. absurd (omega (arith, l)); rest = λ k l m. ap (λ z. eqb z 1) (bit_at-zero k) }
 
 pub loop-part-preserved : goal.loop-part-preserved
-loop-part-preserved c = λ k l.
-    let xs = c.args.bytes.now in
+loop-part-preserved c =
+    let i = c.loop-part.invariant in
     let s = c.args.start in
-    let test = λ (z : ℕ). slice_index_or xs (s + z) 0 == c.args.byte in
-    let first = 16 * c.loop-part.part in
-    let next : first + 16 ≡ 16 * (c.loop-part.part + 1) = omega arith in
-    more-read test first 16 k _ _ _ (c.loop-part.invariant k l) (put-bits c.loop-part.word c.sixteen_of.result first k l) (λ m.
-    let e : s + first + (k - first) ≡ s + k = omega arith in
-    c.sixteen_of.ensures (k - first) ∙ ap (λ z. nat_lt (k - first) 16 && slice_index_or xs z 0 == c.args.byte) e)
-    ∙ ap (λ z. nat_lt k z && test k) next
+    let p = 8 * c.loop-part.part in
+    let w = c.loop-part.word in
+    let n = c.in_ok-word.field-0 in
+    record {
+      read = λ k l. elim (cases_lt k p) [
+        | inl m ↦ i.read k m ∙ ap byte_of (sym (bit-before p k (has_bit w k) _ (has_bit n (k - p)) m (put-bits w n p k (omega arith))))
+        | inr m ↦
+            let e : s + k ≡ s + p + (k - p) = omega arith in
+            ap (λ z. slice_index_or c.args.bytes.now z 0) e
+            ∙ (c.in_ok-word.ensures.bits (k - p) (omega arith)
+            ∙ ap byte_of (sym (bit-after p k (has_bit w k) _ (has_bit n (k - p)) m (i.rest k (omega arith) m) (put-bits w n p k (omega arith)))))
+      ];
+      rest = λ k l m.
+          let first : p ≤ k = omega arith in
+          bit-after p k (has_bit w k) _ (has_bit n (k - p)) first (i.rest k l first) (put-bits w n p k l) ∙ past-eight n (k - p) c.in_ok-word.ensures.small (omega arith);
+    }

@@ -1,68 +1,133 @@
--- Bits that are read from bytes, 64 at a time.
-use Rattle.std.proofs.Common.{◌≡◌, ℕ, ◌+◌, ◌-◌, ◌*◌, ◌%◌, ◌^◌, ◌<◌, ◌≤◌, List, length, get_or, map, Bool, true, false, ◌&&◌, ◌||◌, cond, eqb, leb, ltb, bit_or, ap, ◌∙◌, inl, inr, arith}
-use Rattle.std.proofs.lemmas.{Bool.Decides.nat_tests, Simd.bit_mask_l, Simd.get_or-chunk, Simd.length-chunk}
-use Rattle.std.proofs.lemmas.{Bool.cases_lt, List.{get_or-map, get_or_past, length-map}}
-use Rattle.qr_matrix.proofs.lemmas.bit_row.{PlaceLemmas.{has_bit-or, low-bits}, SetLemmas.shl-bit}
-use lib.Lanes.{chunk, mask_l}
-use Rattle.qr_matrix.specs.{BitRow.has_bit}
+-- Bits that are gathered from bytes of 0 and 1, eight at a time.
+use Rattle.std.proofs.Common.{◌≡◌, ℕ, ◌+◌, ◌-◌, ◌*◌, ◌/◌, ◌%◌, ◌^◌, ◌<◌, ◌≤◌, [], ◌∷◌, List, get_or, Bool, true, false, not, ◌&&◌, ◌||◌, eqb, leb, ltb, bit_and, bit_or, refl, sym, ap, ◌∙◌, inl, inr, arith}
+use Rattle.std.proofs.lemmas.{Bool.{cases_lt, Decides.nat_tests}, Nat.and_block}
+use Rattle.qr_matrix.specs.{BitRow.has_bit, Bytes.byte_of, Grid.is_same, Sums.all_below}
+use Rattle.qr_matrix.proofs.lemmas.bit_row.{PlaceLemmas.{has_bit-or, low-bits}, RepeatLemmas.{below-at, same-same}, SetLemmas.{shl-bit, unset-above}}
 
--- a bit of the mask of some tests is the test itself
-pub mask-bit : (ms : List Bool) (k : ℕ) → has_bit (mask_l ms) k ≡ get_or ms k false
-unfolding has_bit
-mask-bit ms k = ap (λ n. eqb n 1) (bit_mask_l ms k) ∙ tested (get_or ms k false)
+-- ---- eight bytes
+
+-- the number of eight bytes, the first lowest
+abbrev pub joined : (ℕ → ℕ) → ℕ
+joined f = ((((((f 7 * 2 ^ 8 + f 6) * 2 ^ 8 + f 5) * 2 ^ 8 + f 4) * 2 ^ 8 + f 3) * 2 ^ 8 + f 2) * 2 ^ 8 + f 1) * 2 ^ 8 + f 0
+
+-- a byte that is 0 or 1 has none of the bits of 254, computed
+plain-at : ℕ → Bool
+plain-at a = ltb a 2 || not (eqb (bit_and a 254) 0)
+
+all-plain : all_below 256 plain-at ≡ true
+unfolding plain-at
+all-plain = refl
+
+plain-byte : (a : ℕ) → a < 256 → bit_and a 254 ≡ 0 → a < 2
+unfolding plain-at
+plain-byte a l e = let h = below-at 256 plain-at all-plain a l in grind (arith, nat_tests)
+
+-- the lowest byte and the others
+peel : (a r b : ℕ) → r < 256 → bit_and (a * 2 ^ 8 + r) (b * 2 ^ 8 + 254) ≡ 0 → (bit_and a b ≡ 0) × (r < 2)
+peel a r b l e =
+    let both = and_block 8 a b r 254 l (omega arith) in
+    let low : bit_and r 254 ≡ 0 = omega (arith, both, e) in
+    let high : bit_and a b ≡ 0 = omega (arith, both, e) in
+    (high, plain-byte r l low)
+
+-- eight bytes of which none has a bit of 254 are 0 or 1
+pub plain-bytes : (f : ℕ → ℕ) → ((k : ℕ) → f k < 256) → bit_and (joined f) 0xFEFEFEFEFEFEFEFE ≡ 0
+    → (f 0 < 2) × (f 1 < 2) × (f 2 < 2) × (f 3 < 2) × (f 4 < 2) × (f 5 < 2) × (f 6 < 2) × (f 7 < 2)
+plain-bytes f l e =
+    let p0 = peel ((((((f 7 * 2 ^ 8 + f 6) * 2 ^ 8 + f 5) * 2 ^ 8 + f 4) * 2 ^ 8 + f 3) * 2 ^ 8 + f 2) * 2 ^ 8 + f 1) (f 0) 0xFEFEFEFEFEFEFE (l 0) e in
+    let p1 = peel (((((f 7 * 2 ^ 8 + f 6) * 2 ^ 8 + f 5) * 2 ^ 8 + f 4) * 2 ^ 8 + f 3) * 2 ^ 8 + f 2) (f 1) 0xFEFEFEFEFEFE (l 1) p0.0 in
+    let p2 = peel ((((f 7 * 2 ^ 8 + f 6) * 2 ^ 8 + f 5) * 2 ^ 8 + f 4) * 2 ^ 8 + f 3) (f 2) 0xFEFEFEFEFE (l 2) p1.0 in
+    let p3 = peel (((f 7 * 2 ^ 8 + f 6) * 2 ^ 8 + f 5) * 2 ^ 8 + f 4) (f 3) 0xFEFEFEFE (l 3) p2.0 in
+    let p4 = peel ((f 7 * 2 ^ 8 + f 6) * 2 ^ 8 + f 5) (f 4) 0xFEFEFE (l 4) p3.0 in
+    let p5 = peel (f 7 * 2 ^ 8 + f 6) (f 5) 0xFEFE (l 5) p4.0 in
+    let p6 = peel (f 7) (f 6) 254 (l 6) p5.0 in
+    (p0.1, p1.1, p2.1, p3.1, p4.1, p5.1, p6.1, plain-byte (f 7) (l 7) p6.0)
+
+-- ---- their bits
+
+-- bit k of b as a number
+digit : ℕ → ℕ → ℕ
+digit b k = b / 2 ^ k % 2
+
+-- the highest byte of the product
+abbrev pub gathered : ℕ → ℕ
+gathered n = n * 0x0102040810204080 % 2 ^ 64 / 2 ^ 56
+
+-- it has the bits of b, if byte k is bit k of b
+gather-at : ℕ → ℕ → Bool
+gather-at b k = is_same (has_bit (gathered (joined (digit b))) k) (eqb (digit b k) 1)
+
+-- for all bits, computed
+all-gather : all_below 256 (λ b. all_below 8 (gather-at b)) ≡ true
+unfolding gather-at has_bit digit
+all-gather = refl
+
+-- an item of a list of eight
+item : (f : ℕ → ℕ) (k : ℕ) → k < 8 → get_or (f 0 ∷ f 1 ∷ f 2 ∷ f 3 ∷ f 4 ∷ f 5 ∷ f 6 ∷ f 7 ∷ []) k 0 ≡ f k
+item f k l = grind arith
+
+-- each byte is that of its bit
+pub gathered-bits : (f : ℕ → ℕ) → (f 0 < 2) × (f 1 < 2) × (f 2 < 2) × (f 3 < 2) × (f 4 < 2) × (f 5 < 2) × (f 6 < 2) × (f 7 < 2)
+    → (k : ℕ) → k < 8 → f k ≡ byte_of (has_bit (gathered (joined f)) k)
+unfolding gather-at digit
+gathered-bits f s k l =
+    let b = f 0 + 2 * f 1 + 4 * f 2 + 8 * f 3 + 16 * f 4 + 32 * f 5 + 64 * f 6 + 128 * f 7 in
+    let small : b < 256 = omega (arith, s) in
+    let e0 : digit b 0 ≡ f 0 = omega (arith, s) in
+    let e1 : digit b 1 ≡ f 1 = omega (arith, s) in
+    let e2 : digit b 2 ≡ f 2 = omega (arith, s) in
+    let e3 : digit b 3 ≡ f 3 = omega (arith, s) in
+    let e4 : digit b 4 ≡ f 4 = omega (arith, s) in
+    let e5 : digit b 5 ≡ f 5 = omega (arith, s) in
+    let e6 : digit b 6 ≡ f 6 = omega (arith, s) in
+    let e7 : digit b 7 ≡ f 7 = omega (arith, s) in
+    let whole : joined (digit b) ≡ joined f = omega (arith, e0, e1, e2, e3, e4, e5, e6, e7) in
+    let one : digit b k ≡ f k =
+    sym (item (digit b) k l) ∙ (ap (λ (xs : List ℕ). get_or xs k 0) (λ i. e0 i ∷ e1 i ∷ e2 i ∷ e3 i ∷ e4 i ∷ e5 i ∷ e6 i ∷ e7 i ∷ []) ∙ item f k l) in
+    let bit = same-same (has_bit (gathered (joined (digit b))) k) (eqb (digit b k) 1) (below-at 8 (gather-at b) (below-at 256 (λ b. all_below 8 (gather-at b)) all-gather b small) k l) in
+    sym one ∙ (binary (digit b k) (omega arith) ∙ ap byte_of (sym bit ∙ ap (λ n. has_bit (gathered n) k) whole))
   where
-    tested : (b : Bool) → eqb (cond b 1 0) 1 ≡ b
-    tested b = grind (arith, nat_tests)
+    binary : (n : ℕ) → n < 2 → n ≡ byte_of (eqb n 1)
+    binary n l = grind (arith, nat_tests)
 
--- the tests of n elements from a on, and false after them
-pub chunk-test : (p : ℕ → Bool) (a n : ℕ) (xs : List ℕ) (k : ℕ) → a + n ≤ length xs → get_or (map p (chunk a n xs)) k false ≡ (ltb k n && p (get_or xs (a + k) 0))
-chunk-test p a n xs k room =
-    let long = length-chunk a n xs room in
-    elim (cases_lt k n) [
-      | inl l ↦
-          let t : ltb k n ≡ true = grind (arith, nat_tests) in
-          get_or-map p (chunk a n xs) k 0 false (omega arith) ∙ (ap p (get_or-chunk a n xs k 0 l) ∙ here (ltb k n) (p (get_or xs (a + k) 0)) t)
-      | inr l ↦
-          let t : ltb k n ≡ false = grind (arith, nat_tests) in
-          get_or_past (map p (chunk a n xs)) k false (omega (arith, length-map (chunk a n xs) p)) ∙ none (ltb k n) (p (get_or xs (a + k) 0)) t
-    ]
-  where
-    here : (t b : Bool) → t ≡ true → b ≡ (t && b)
-    here t b e = grind arith
-
-    none : (t b : Bool) → t ≡ false → false ≡ (t && b)
-    none t b e = grind arith
-
--- a word whose first c bits are read, and then n more, has its first c + n bits read
-pub more-read : (test : ℕ → Bool) (c n i : ℕ) (old new bit : Bool) → old ≡ (ltb i c && test i) → new ≡ (old || leb c i && bit) → (c ≤ i → bit ≡ (ltb (i - c) n && test i)) → new ≡ (ltb i (c + n) && test i)
-more-read test c n i old new bit e f g = elim (cases_lt i c) [
-  | inl l ↦
-      let t : leb c i ≡ false = grind (arith, nat_tests) in
-      let u : ltb i c ≡ true = grind (arith, nat_tests) in
-      let v : ltb i (c + n) ≡ true = grind (arith, nat_tests) in
-      before (leb c i) (ltb i c) (ltb i (c + n)) old new bit (test i) e f t u v
-  | inr l ↦
-      let t : leb c i ≡ true = grind (arith, nat_tests) in
-      let u : ltb i c ≡ false = grind (arith, nat_tests) in
-      let v : ltb (i - c) n ≡ ltb i (c + n) = grind (arith, nat_tests) in
-      after (leb c i) (ltb i c) (ltb i (c + n)) (ltb (i - c) n) old new bit (test i) e f (g l) t u v
-]
-  where
-    before : (t u v old new bit d : Bool) → old ≡ (u && d) → new ≡ (old || t && bit) → t ≡ false → u ≡ true → v ≡ true → new ≡ (v && d)
-    before t u v old new bit d e f g h i = grind arith
-
-    after : (t u v w old new bit d : Bool) → old ≡ (u && d) → new ≡ (old || t && bit) → bit ≡ (w && d) → t ≡ true → u ≡ false → w ≡ v → new ≡ (v && d)
-    after t u v w old new bit d e f g h i j = grind arith
+-- ---- words
 
 -- the bits of n that are put into a word from bit c on
 pub put-bits : (word n c k : ℕ) → k < 64 → has_bit (bit_or word (n * 2 ^ c % 2 ^ 64)) k ≡ (has_bit word k || leb c k && has_bit n (k - c))
 put-bits word n c k l =
     has_bit-or word (n * 2 ^ c % 2 ^ 64) k ∙ ap (λ z. has_bit word k || z) (low-bits 64 (n * 2 ^ c) k l ∙ shl-bit n c k)
 
+-- a bit before those that are put stays
+pub bit-before : (c k : ℕ) (old new put : Bool) → k < c → new ≡ (old || leb c k && put) → new ≡ old
+bit-before c k old new put l e = grind (arith, nat_tests)
+
+-- from bit c on, where none was set, the bits are those that are put
+pub bit-after : (c k : ℕ) (old new put : Bool) → c ≤ k → old ≡ false → new ≡ (old || leb c k && put) → new ≡ put
+bit-after c k old new put l e f = grind (arith, nat_tests)
+
+-- a number of eight bits has none from bit 8 on
+pub past-eight : (n k : ℕ) → n < 256 → 8 ≤ k → has_bit n k ≡ false
+past-eight n k l m = unset-above n 8 k l m
+
+-- ---- rows
+
 -- a bit of a row before its first column
 pub none-read : (i : ℕ) (old dark : Bool) → old ≡ false → old ≡ (ltb i 0 && dark)
 none-read i old dark e = grind (arith, nat_tests)
 
--- a module of the row that passes a test
+-- a test in a column of the row
 pub read-there : (c side : ℕ) (read test : Bool) → c < side → read ≡ (ltb c side && test) → read ≡ test
 read-there c side read test l e = grind (arith, nat_tests)
+
+-- a module whose byte is 0 or 1 is known
+pub known-module : (c side byte : ℕ) (bit : Bool) → (c < side → byte ≡ byte_of bit) → false ≡ (ltb c side && eqb byte 2)
+known-module c side byte bit e = elim (cases_lt c side) [
+  | inl l ↦ let g = e l in inside (ltb c side) byte bit g
+  | inr l ↦ let t : ltb c side ≡ false = grind (arith, nat_tests) in outside (ltb c side) (eqb byte 2) t
+]
+  where
+    inside : (t : Bool) (byte : ℕ) (bit : Bool) → byte ≡ byte_of bit → false ≡ (t && eqb byte 2)
+    inside t byte bit e = grind (arith, nat_tests)
+
+    outside : (t test : Bool) → t ≡ false → false ≡ (t && test)
+    outside t test e = grind arith

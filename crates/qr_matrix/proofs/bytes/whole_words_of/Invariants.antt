@@ -1,7 +1,0 @@
-use Rattle.std.proofs.Common.{◌≡◌, ℕ, ◌+◌, ◌*◌, ◌<◌, ◌==◌, slice_index_or}
-use Rattle.qr_matrix.specs.BitRow.{has}
-use Rattle.qr_matrix.proofs.bytes.whole_words_of.Given as goal
-
--- the words before the current one have been read
-abbrev pub invariant-loop-number : goal.invariant-loop-number
-invariant-loop-number l = (c : ℕ) → c < 64 * l.number → has l.row c ≡ (slice_index_or l.bytes (l.start + c) 0 == l.byte)
