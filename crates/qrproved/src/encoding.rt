@@ -5,11 +5,10 @@ ghost use Rattle.qr_symbol.specs.VersionChoice.{HasNoVersion};
 ghost use Rattle.qrproved.specs.Settings.{AreSettings, level_of, rule_of};
 ghost use Rattle.qrproved.specs.Encoding.{HasNoRoom, IsWritten};
 
-use crate::modules::area;
+use crate::modules::{area, write_square};
 use crate::settings::settings_of;
 use crate::status::{DONE, EMPTY, MEMORY, ROOM, SETTINGS, TOO_LONG, encode_status};
 use qr_bits::INPUT_MAX;
-use qr_matrix::write_square;
 use qr_symbol::encode;
 use qr_symbol::laws::long_inputs_have_none;
 use std::alloc::Global;

@@ -1,17 +1,32 @@
 //! Squares of modules as bytes of a buffer: one square after the other, without a quiet zone.
 
-ghost use Rattle.std.specs.Prelude.{◌≡◌, ◌*◌, ◌≤◌, length};
+ghost use Rattle.std.specs.Prelude.{◌≡◌, ℕ, ◌+◌, ◌*◌, ◌<◌, ◌≤◌, ◌⊎◌, length, slice_index_or};
 ghost use Rattle.std.specs.List.{All};
+ghost use Rattle.qr_matrix.specs.Grid.{colour};
+ghost use Rattle.qr_matrix.specs.Bytes.{byte_of};
 ghost use Rattle.qr_symbol.specs.Series.{squares_of};
 ghost use Rattle.qrproved.specs.Modules.{HoldsSquares};
 
-use qr_matrix::write_square;
+use qr_matrix::Matrix;
 use qr_symbol::Symbol;
 
 pub(crate) fn area(side: u8) -> usize
     ensures { result ≡ side * side }
 {
     usize::from(side) * usize::from(side)
+}
+
+// As `qr_matrix::write_square`, but out of line, so that what it keeps on the stack does not lie under an encoding.
+#[inline(never)]
+pub(crate) fn write_square(matrix: &Matrix, start: usize, bytes: &mut [u8])
+    requires { start + matrix.now.side * matrix.now.side ≤ length bytes.old }
+    ensures modules { (row col : ℕ) → row < matrix.now.side → col < matrix.now.side
+        → slice_index_or bytes.new (start + (row * matrix.now.side + col)) 0
+        ≡ byte_of (colour matrix.now row col) }
+    ensures others { (i : ℕ) → (i < start) ⊎ (start + matrix.now.side * matrix.now.side ≤ i)
+        → slice_index_or bytes.new i 0 ≡ slice_index_or bytes.old i 0 }
+{
+    qr_matrix::write_square(matrix, start, bytes);
 }
 
 pub(crate) fn write_squares(symbols: &[Symbol], side: u8, modules: &mut [u8])
