@@ -19,8 +19,6 @@ mod folding;
 #[cfg(test)]
 mod letter_a;
 #[cfg(test)]
-mod parsing;
-#[cfg(test)]
 mod runs;
 #[cfg(test)]
 mod series;

@@ -1,10 +1,9 @@
-//! Tests of parsing: drawings of the command are parsed, read and joined; drawings typed by hand; texts that are changed.
+//! The squares of a drawing that is parsed, the drawing that they make again, and what they contain.
 
-use crate::runs::{Devices, run_with};
 use qr_devices::Counted;
 use qr_parsing::{DrawingFault, Drawn, parse_drawing};
 use qr_symbol::{Matrix, join, read_symbol};
-use qrencode_cli::{Drawing, draw};
+use qrencode_cli::{Drawing, Faults, Trial, draw, run};
 use std::alloc::Global;
 use std::test::Fail;
 
@@ -14,6 +13,21 @@ static KINDS: [(&str, Drawing); 4] = [
     ("UTF8", Drawing::Utf8),
     ("SVG", Drawing::Svg),
 ];
+
+// The drawing of `input` that the command makes with `words`.
+fn drawing_of(alloc: Global, words: &[&str], input: &[u8]) -> Result<Trial, Fail> {
+    let mut line = vec![in alloc; String::from_str(alloc, "qrencode")?]?;
+    for word in words {
+        line.push(String::from_str(alloc, word)?)?;
+    }
+    let mut source = Trial::reader(alloc, input, Faults::NONE)?;
+    let mut out = Trial::writer(alloc, 2_000_000, Faults::NONE)?;
+    let mut err = Trial::writer(alloc, 4000, Faults::NONE)?;
+    match run(alloc, line.as_slice(), &mut source, &mut out, &mut err) {
+        0 => Ok(out),
+        _ => Err("no drawing".into()),
+    }
+}
 
 // The bytes that the squares contain.
 fn bytes_of(alloc: Global, squares: &[Matrix]) -> Result<Vec<u8>, Fail> {
@@ -32,18 +46,10 @@ fn reads_back(
     input: &[u8],
     shown: (Drawing, u8, usize),
 ) -> Result<bool, Fail> {
-    let devices = Devices {
-        out_room: 2_000_000,
-        ..Devices::WITHOUT_FAULTS
-    };
-    let r = run_with(alloc, words, input, devices)?;
-    let drawn = parse_drawing(alloc, r.out.bytes())?;
+    let drawing = drawing_of(alloc, words, input)?;
+    let drawn = parse_drawing(alloc, drawing.bytes())?;
     let bytes = bytes_of(alloc, &drawn.squares)?;
-    Ok(
-        r.status == 0
-            && (drawn.kind, drawn.margin, drawn.squares.len()) == shown
-            && bytes.as_slice() == input,
-    )
+    Ok((drawn.kind, drawn.margin, drawn.squares.len()) == shown && bytes.as_slice() == input)
 }
 
 #[test]
@@ -174,13 +180,9 @@ fn changed_drawings(rt: HostRuntime) -> Result<(), Fail> {
     let mut refused = 0u32;
     for (name, _) in KINDS {
         let words = ["-S", "-8", "-v", "1", "-l", "H", "-m", "2", "-t", name];
-        let devices = Devices {
-            out_room: 20_000,
-            ..Devices::WITHOUT_FAULTS
-        };
-        let r = run_with(alloc, &words, b"ABCDEFGH", devices)?;
+        let drawing = drawing_of(alloc, &words, b"ABCDEFGH")?;
         for _ in 0..250 {
-            let text = changed(alloc, r.out.bytes(), &mut state)?;
+            let text = changed(alloc, drawing.bytes(), &mut state)?;
             match parse_drawing(alloc, &text) {
                 Err(DrawingFault::NotADrawing) => refused = refused.saturating_add(1),
                 Err(DrawingFault::Memory) => return Err("memory".into()),
