@@ -1,7 +1,7 @@
 /* Measures what a call of the library takes of the stack and of the heap, for bench/memory: memory_of_calls CALL NUMBER LEVEL RULE
  *
- * CALL is encode, encode_series, read, mend or draw; standard input is the input, or the modules; NUMBER is a version or a side;
- * for draw LEVEL is the type of drawing. Prints the bytes of stack, the most bytes of the heap at a time, the number of calls of
+ * CALL is encode, encode_series, read, mend, draw or parse_drawing; standard input is the input, the modules or the drawing;
+ * NUMBER is a version or a side; for draw LEVEL is the type of drawing. Prints the bytes of stack, the most bytes of the heap at a time, the number of calls of
  * malloc and realloc, and the call's status. */
 #define _GNU_SOURCE
 #include "qrproved.h"
@@ -45,7 +45,7 @@ void free(void *block)
 	__libc_free(block);
 }
 
-static uint8_t input[600000], out[10000000];
+static uint8_t input[6000000], out[10000000];
 static size_t input_len, deepest;
 static uint8_t number, level, rule, status;
 static const char *call;
@@ -64,6 +64,7 @@ static __attribute__((noinline)) void make(void)
 	struct qrproved_series series;
 	struct qrproved_content content;
 	struct qrproved_mended mended;
+	struct qrproved_drawn drawn;
 	size_t written;
 	if (!strcmp(call, "encode"))
 		status = qrproved_encode(input, input_len, number, level, rule, out, sizeof out, &symbol);
@@ -73,6 +74,8 @@ static __attribute__((noinline)) void make(void)
 		status = qrproved_read(input, input_len, number, out, sizeof out, &content);
 	else if (!strcmp(call, "draw"))
 		status = qrproved_draw(input, input_len, number, (uint32_t)(input_len / number / number), level, 4, out, sizeof out, &written);
+	else if (!strcmp(call, "parse_drawing"))
+		status = qrproved_parse_drawing(input, input_len, out, sizeof out, &drawn);
 	else
 		status = qrproved_mend(input, input_len, number, out, sizeof out, &mended);
 }

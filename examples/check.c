@@ -1,9 +1,11 @@
-/* Says whether the symbol of a drawing is sound: qrencode -t ASCII ... | check
+/* Says whether the symbols of a drawing are sound: qrencode ... | check
  *
- * Reads a drawing in ASCII from standard input: two characters a module, '##' for a dark one, two spaces for a light one, and two
- * question marks for one that is not known, with any margin. The first and the last row and column of the symbol each need a dark
- * module, and the margin none.
- * Prints one line, and ends with a status:
+ * Reads a drawing from standard input: one of qrencode, of any type and of one symbol or of a series, as it was written or after
+ * pasting changed its line ends, spaces at the ends of lines and indentation, or put empty lines between symbols. qrproved_parse_drawing
+ * then says what it shows. A drawing that is damaged is looked at otherwise: one symbol in ASCII, two characters a module, '##' for a
+ * dark one, two spaces for a light one, and two question marks for one that is not known, with any margin. The first and the last row
+ * and column of the symbol each need a dark module, and the margin none.
+ * Prints a line for each symbol, and another if the drawing is damaged but can be read; ends with the greatest status of a symbol:
  *
  *   0  sound                                     each module is that of the symbol
  *   1  readable, 40 % of its correction spent    some modules are wrong, but it can be read
@@ -18,7 +20,7 @@
 
 enum { SOUND, READABLE, NOT_READABLE };
 enum { LIGHT, DARK, UNKNOWN };
-enum { LINES_MAX = 512, LINE_MAX_LEN = 2 * LINES_MAX + 3 };
+enum { LINES_MAX = 512, TEXT_MAX = 10000000 };
 
 /* The modules of a drawing, and the first and the last row and column with a dark one. */
 struct drawing {
@@ -27,7 +29,8 @@ struct drawing {
 };
 
 static struct drawing drawing;
-static uint8_t modules[QRPROVED_SYMBOL_MAX], bytes[QRPROVED_BYTES_MAX];
+static uint8_t text[TEXT_MAX], lines[TEXT_MAX], modules[QRPROVED_SERIES_MAX], bytes[QRPROVED_BYTES_MAX];
+static size_t text_len;
 
 static int not_readable(const char *reason)
 {
@@ -46,13 +49,12 @@ static int most(int a, int b)
 }
 
 /* Takes a line of the drawing; 0 if it is no such line. Spaces at its end may be missing. */
-static int take_line(const char *line, int row, int is_last)
+static int take_line(const uint8_t *line, int len, int row)
 {
-	int len = (int)strcspn(line, "\r\n");
-	if (row >= LINES_MAX || len > 2 * LINES_MAX || (line[len] == '\0' && !is_last))
+	if (row >= LINES_MAX || len > 2 * LINES_MAX)
 		return 0;
 	for (int col = 0; 2 * col < len; col++) {
-		char first = line[2 * col], second = 2 * col + 1 < len ? line[2 * col + 1] : ' ';
+		uint8_t first = line[2 * col], second = 2 * col + 1 < len ? line[2 * col + 1] : ' ';
 		if (first != second || (first != '#' && first != ' ' && first != '?'))
 			return 0;
 		drawing.modules[row][col] = first == '?' ? UNKNOWN : first == '#' ? DARK : LIGHT;
@@ -64,16 +66,23 @@ static int take_line(const char *line, int row, int is_last)
 	return 1;
 }
 
-/* Takes the drawing; 0 if it is no drawing in ASCII. */
-static int take_drawing(FILE *from)
+/* The number of bytes from a place of the text on that are before the end of the line. */
+static size_t line_len(size_t from)
 {
-	char line[LINE_MAX_LEN];
+	const uint8_t *end = memchr(text + from, '\n', text_len - from);
+	return end ? (size_t)(end - text) - from : text_len - from;
+}
+
+/* Takes the text as a damaged drawing; 0 if it is no drawing in ASCII. */
+static int take_drawing(void)
+{
+	int row = 0;
 	drawing.top = drawing.left = LINES_MAX;
 	drawing.bottom = drawing.right = -1;
-	for (int row = 0; fgets(line, sizeof line, from); row++)
-		if (!take_line(line, row, feof(from)))
+	for (size_t from = 0; from < text_len; from += line_len(from) + 1)
+		if (line_len(from) > TEXT_MAX / 2 || !take_line(text + from, (int)line_len(from), row++))
 			return 0;
-	return !ferror(from);
+	return 1;
 }
 
 /* The side of the square from the first to the last dark module, whose modules it copies; 0 if there is no such square. */
@@ -87,11 +96,74 @@ static int copy_square(void)
 	return side;
 }
 
-/* Prints the line of the square, and returns the status. The share that is spent is rounded up. */
-static int judge(int side)
+/* Takes away what programs add to a text that is pasted, in place: a byte order mark, line ends of two bytes, no-break spaces. */
+static void clean(void)
+{
+	size_t len = 0;
+	for (size_t i = 0; i < text_len; i++) {
+		if (text_len - i >= 3 && !memcmp(text + i, "\xEF\xBB\xBF", 3))
+			i += 2;
+		else if (text_len - i >= 2 && !memcmp(text + i, "\xC2\xA0", 2))
+			text[len++] = ' ', i += 1;
+		else if (text[i] != '\r' || i + 1 == text_len || text[i + 1] != '\n')
+			text[len++] = text[i];
+	}
+	if (len > 0 && len < TEXT_MAX && text[len - 1] != '\n')
+		text[len++] = '\n';
+	text_len = len;
+}
+
+/* The length of a line without the spaces at its end. */
+static size_t filled_len(size_t from)
+{
+	size_t len = line_len(from);
+	while (len > 0 && text[from + len - 1] == ' ')
+		len--;
+	return len;
+}
+
+/* The number of characters, of which each has one byte that is no later byte of a character in UTF-8. */
+static size_t characters(size_t from, size_t len)
+{
+	size_t count = 0;
+	for (size_t i = 0; i < len; i++)
+		count += (text[from + i] & 0xC0) != 0x80;
+	return count;
+}
+
+/* Copies the lines from the first to the last that is not empty, without their indentation, and with spaces up to one width. Other
+ * empty lines are copied only if `with_empty`, as a row of light modules may be one. Returns the length. */
+static size_t copy_lines(int with_empty)
+{
+	size_t indent = TEXT_MAX, width = 0, first = text_len, end = 0, len = 0;
+	for (size_t from = 0; from < text_len; from += line_len(from) + 1) {
+		size_t filled = filled_len(from), spaces = strspn((const char *)text + from, " ");
+		if (filled == 0)
+			continue;
+		first = from < first ? from : first, end = from + filled;
+		indent = spaces < indent ? spaces : indent;
+		width = characters(from, filled) > width ? characters(from, filled) : width;
+	}
+	for (size_t from = first; from < end; from += line_len(from) + 1) {
+		size_t filled = filled_len(from), start = filled > 0 ? indent : 0;
+		if (filled == 0 && !with_empty)
+			continue;
+		size_t spaces = filled > 0 ? width - characters(from, filled) : width - indent;
+		if (filled - start + spaces + 1 > sizeof lines - len)
+			return 0;
+		memcpy(lines + len, text + from + start, filled - start);
+		memset(lines + len + filled - start, ' ', spaces);
+		len += filled - start + spaces;
+		lines[len++] = '\n';
+	}
+	return len;
+}
+
+/* Prints the line of the square that `modules` begins with, and returns the status. The share that is spent is rounded up. */
+static int judge(const uint8_t *modules, int side)
 {
 	struct qrproved_mended mended;
-	switch (qrproved_mend(modules, sizeof modules, (uint32_t)side, bytes, sizeof bytes, &mended)) {
+	switch (qrproved_mend(modules, (size_t)(side * side), (uint32_t)side, bytes, sizeof bytes, &mended)) {
 	case QRPROVED_DONE: break;
 	case QRPROVED_SIDE: return not_readable("there is no square of a symbol");
 	case QRPROVED_FORMAT: return not_readable("the format information is lost");
@@ -109,12 +181,37 @@ static int judge(int side)
 	return READABLE;
 }
 
+/* Judges each square of the text, if it is exactly a drawing; else returns -1. */
+static int judge_drawing(const uint8_t *from, size_t len)
+{
+	struct qrproved_drawn drawn;
+	int status = SOUND;
+	if (qrproved_parse_drawing(from, len, modules, sizeof modules, &drawn) != QRPROVED_DONE)
+		return -1;
+	for (int k = 0; k < drawn.count; k++)
+		status = most(status, judge(modules + k * drawn.side * drawn.side, drawn.side));
+	return status;
+}
+
+/* Judges what a damaged drawing shows. */
+static int judge_damaged(void)
+{
+	if (!take_drawing())
+		return not_readable("the drawing is none of qrencode, and not of '##', '?\?' and two spaces");
+	int status = judge(modules, copy_square());
+	if (status != NOT_READABLE)
+		puts("the drawing is damaged, or another program drew it");
+	return status;
+}
+
 int main(void)
 {
-	int status;
-	if (!take_drawing(stdin))
-		status = not_readable("the drawing is not of '##', '?\?' and two spaces");
-	else
-		status = judge(copy_square());
-	return fflush(stdout) == 0 && !ferror(stdout) ? status : NOT_READABLE;
+	text_len = fread(text, 1, sizeof text - 1, stdin);
+	clean();
+	int status = judge_drawing(text, text_len);
+	for (int with_empty = 1; status < 0 && with_empty >= 0; with_empty--)
+		status = judge_drawing(lines, copy_lines(with_empty));
+	if (status < 0)
+		status = judge_damaged();
+	return fflush(stdout) == 0 && !ferror(stdin) && !ferror(stdout) ? status : NOT_READABLE;
 }

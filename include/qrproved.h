@@ -1,5 +1,5 @@
 /* QR Code symbols (ISO/IEC 18004:2015, QR Code Model 2): calls that encode an input as a symbol or as a series of symbols,
- * draw symbols as text or as SVG, read them, and mend damaged ones. The calls are proved to meet their contracts, which are
+ * draw symbols as text or as SVG, parse such drawings, read symbols, and mend damaged ones. The calls are proved to meet their contracts, which are
  * in crates/qrproved; docs/LIBRARY.md says what these mean for a caller. tests/library compares this file with the exports
  * of the library.
  *
@@ -71,6 +71,7 @@ extern "C" {
 #define QRPROVED_FORMAT 8   /* the format information belongs to no level and mask, or in qrproved_mend is too damaged */
 #define QRPROVED_CHECK 9    /* a block does not match its error correction codewords, or in qrproved_mend is too damaged */
 #define QRPROVED_SEGMENTS 10 /* the data codewords cannot be parsed */
+#define QRPROVED_NO_DRAWING 11 /* the text is no drawing of squares that begin as symbols do */
 
 /* The version, the size and the mask of a symbol that was encoded. */
 struct qrproved_symbol {
@@ -112,6 +113,14 @@ struct qrproved_mended {
 	uint8_t changed_allowed;      /* number of codewords that may be wrong in each block, from 2 to 15 */
 };
 
+/* What a drawing that was parsed shows, besides the modules. */
+struct qrproved_drawn {
+	uint8_t drawing; /* QRPROVED_ASCII to QRPROVED_SVG */
+	uint8_t margin;  /* number of light modules on each side of a square, from 0 to 255 */
+	uint8_t count;   /* number of squares, from 1 to 16 */
+	uint8_t side;    /* modules on a side of each square, from 8 to 177 */
+};
+
 /* Checks of the sizes and offsets of the structs, on which the compiled calls depend. */
 #if defined(__cplusplus) && __cplusplus >= 201103L
 #define QRPROVED_HOLDS(fact) static_assert(fact, #fact)
@@ -148,6 +157,11 @@ QRPROVED_HOLDS(offsetof(struct qrproved_mended, mask) == 18);
 QRPROVED_HOLDS(offsetof(struct qrproved_mended, wrong_format_modules) == 19);
 QRPROVED_HOLDS(offsetof(struct qrproved_mended, changed_most) == 20);
 QRPROVED_HOLDS(offsetof(struct qrproved_mended, changed_allowed) == 21);
+QRPROVED_HOLDS(sizeof(struct qrproved_drawn) == 4);
+QRPROVED_HOLDS(offsetof(struct qrproved_drawn, drawing) == 0);
+QRPROVED_HOLDS(offsetof(struct qrproved_drawn, margin) == 1);
+QRPROVED_HOLDS(offsetof(struct qrproved_drawn, count) == 2);
+QRPROVED_HOLDS(offsetof(struct qrproved_drawn, side) == 3);
 #undef QRPROVED_HOLDS
 
 /* The caller has to check the result of a call, and may not pass NULL as the pointer to a struct or to a number. Compilers
@@ -297,6 +311,29 @@ uint8_t qrproved_mend(const uint8_t *modules, size_t modules_len, uint32_t side,
 QRPROVED_CALL(9)
 uint8_t qrproved_draw(const uint8_t *modules, size_t modules_len, uint32_t side, uint32_t count, uint32_t drawing,
                       uint32_t margin, uint8_t *text, size_t text_len, size_t *written);
+
+/* Parses a drawing, and writes the modules of its squares: modules[(k * side + row) * side + column] is the module of square
+ * k, from 0, in this row and column, as qrproved_read, qrproved_mend and qrproved_draw take them. Bytes of the buffer after
+ * the last module are unchanged.
+ *
+ * A text is a drawing if qrproved_draw, or qrencode, would write exactly it for 1 to 16 squares of one side from 8 to 177,
+ * with a margin of 0 to 255 modules. Each square has to begin as every symbol does: the module in row 0 and column 0 is dark,
+ * and that in column 7 of row 0 is light. A text is the drawing of one type, margin and list of squares only. Whether a
+ * square is a symbol, qrproved_read and qrproved_mend say. A text that was changed by a byte, as a line end of two bytes
+ * does, is no drawing.
+ *
+ * text     the drawing; no byte 0 follows it
+ * modules  the buffer for the modules; QRPROVED_SERIES_MAX bytes suffice for any drawing
+ *
+ * Returns one of these statuses:
+ *   NO_DRAWING  the text is no drawing
+ *   ROOM        modules_len is less than the number of modules of all squares
+ *   DONE        the call succeeded
+ * If memory is refused, the call returns MEMORY in place of any of these.
+ */
+QRPROVED_CALL(5)
+uint8_t qrproved_parse_drawing(const uint8_t *text, size_t text_len, uint8_t *modules, size_t modules_len,
+                               struct qrproved_drawn *drawn);
 
 #undef QRPROVED_CALL
 

@@ -77,7 +77,7 @@ function run(calls) {
 const SYMBOL_MAX = 31329;
 const SERIES_MAX = 501264;
 const BYTES_MAX = 7089;
-const TOO_LONG = 2, TOO_MANY = 3, ROOM = 6; // statuses
+const TOO_LONG = 2, TOO_MANY = 3, ROOM = 6, NO_DRAWING = 11; // statuses
 
 export function encoded(input, version, level, rule) {
   return run(() => {
@@ -125,6 +125,18 @@ export function mendedOf(modules, side) {
     const at = struct(told, 24);
     const [level, mask, wrongFormatModules, changedMost, changedAllowed] = [17, 18, 19, 20, 21].map((k) => at.getUint8(k));
     return { ...content(at, to, 12), wrongModules: at.getUint32(8, true), level, mask, wrongFormatModules, changedMost, changedAllowed };
+  });
+}
+
+/** Returns what a text is the drawing of; or null. */
+export function parsedOf(text) {
+  return run(() => {
+    const from = put(text), to = take(SERIES_MAX), told = take(4);
+    const status = call('qrproved_parse_drawing', BigInt(from), BigInt(text.length), BigInt(to), BigInt(SERIES_MAX), BigInt(told));
+    if (status === NO_DRAWING) return null;
+    throwFor(status);
+    const [drawing, margin, count, side] = copied(told, 4);
+    return { drawing, margin, squares: Array.from({ length: count }, (_, k) => copied(to + k * side * side, side * side)) };
   });
 }
 

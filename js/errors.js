@@ -60,6 +60,11 @@ export class SegmentsError extends QRError {
   constructor(message = 'the data codewords cannot be parsed') { super(message, 10, 'SEGMENTS'); }
 }
 
+/** The text is no drawing of symbols. */
+export class NoDrawingError extends QRError {
+  constructor(message = 'the text is no drawing of symbols') { super(message, 11, 'NO_DRAWING'); }
+}
+
 /** No upright symbol is found in a picture. It is no refusal of the library, which reads modules alone. */
 export class PictureError extends Error {
   constructor(message) {
@@ -91,7 +96,7 @@ export function tooMany(count, version, level) {
 }
 
 const CLASSES = [undefined, EmptyError, TooLongError, TooManyError, OutOfMemoryError, SettingsError, RoomError, SideError, FormatError,
-  CheckError, SegmentsError];
+  CheckError, SegmentsError, NoDrawingError];
 
 /** Throws the error of a status, and returns for 0. */
 export function throwFor(status) {

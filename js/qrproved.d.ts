@@ -142,6 +142,23 @@ export function read(square: QRSymbol | Uint8Array): Content;
  */
 export function mend(square: QRSymbol | Uint8Array): Mended;
 
+/** What a drawing shows. */
+export interface Drawn {
+  readonly type: Drawing;
+  /** Light modules on each side of a square, from 0 to 255; 0 if they were lost with the spaces of the text. */
+  readonly margin: number;
+  /** The modules of 1 to 16 squares of one side, as read and mend take them. */
+  readonly squares: Uint8Array[];
+}
+
+/**
+ * Returns what a drawing shows, of any type: the text, once what pasting changes is undone, is the drawing of these squares and of
+ * nothing else, as draw makes it. Undone are line ends of two characters, a byte order mark, no-break spaces, an indentation, lost spaces
+ * at the ends of lines, empty lines between symbols, the size of an SVG document, and the margin of the half blocks of qrencode
+ * 4.1.1. Throws NoDrawingError if it is no such drawing; whether a square is a symbol, read and mend say.
+ */
+export function parseDrawing(text: string): Drawn;
+
 /** An image of RGBA pixels, as a canvas returns it by getImageData. */
 export interface Picture {
   readonly data: Uint8ClampedArray | Uint8Array;
@@ -192,3 +209,4 @@ export class PictureError extends Error {
 }
 export class CheckError extends QRError {}
 export class SegmentsError extends QRError {}
+export class NoDrawingError extends QRError {}

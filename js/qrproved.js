@@ -2,15 +2,16 @@
  * QR Code symbols (ISO/IEC 18004:2015, QR Code Model 2) by the library libqrproved as WebAssembly, whose calls are proved to meet
  * their contracts. README.md shows the calls; qrproved.d.ts describes each.
  */
-import { drawn, encoded, encodedSeries, mendedOf, readOf } from './calls.js';
-import { SettingsError, SideError } from './errors.js';
+import { drawn, encoded, encodedSeries, mendedOf, parsedOf, readOf } from './calls.js';
+import { NoDrawingError, SettingsError, SideError } from './errors.js';
+import { undone } from './pasted.js';
 import { squaresIn } from './pictures.js';
 import { imageOf } from './png.js';
 
 export { load } from './calls.js';
 export {
-  CheckError, EmptyError, FormatError, OutOfMemoryError, PictureError, QRError, RoomError, SegmentsError, SettingsError, SideError,
-  TooLongError, TooManyError,
+  CheckError, EmptyError, FormatError, NoDrawingError, OutOfMemoryError, PictureError, QRError, RoomError, SegmentsError, SettingsError,
+  SideError, TooLongError, TooManyError,
 } from './errors.js';
 
 const LEVELS = ['L', 'M', 'Q', 'H'];
@@ -191,6 +192,15 @@ export function read(square) {
 
 export function mend(square) {
   return new Mended(mendedOf(...squareOf(square)));
+}
+
+export function parseDrawing(text) {
+  if (typeof text !== 'string') throw new TypeError('a drawing is a string');
+  for (const drawing of undone(text)) {
+    const found = parsedOf(new TextEncoder().encode(drawing));
+    if (found) return { type: DRAWINGS[found.drawing], margin: found.margin, squares: found.squares };
+  }
+  throw new NoDrawingError();
 }
 
 export function parsePicture(image) {

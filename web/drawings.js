@@ -1,4 +1,4 @@
-/** Drawings as text, read back: those of type ASCII, ASCIIi and UTF8, with any margin, or copied by hand; of one symbol or more. */
+/** Drawings as text that are damaged, drawn by another program or copied by hand: the squares of symbols, found by their look. */
 
 const HALVES = { ' ': [1, 1], '\u2580': [0, 1], '\u2584': [1, 0], '\u2588': [0, 0] };
 const UNKNOWN = 2;

@@ -1,6 +1,7 @@
 /** The page: draws each symbol as its text is typed, a sheet of labels, and what a drawing contains. */
 import {
-  CheckError, FormatError, PictureError, QRError, TooLongError, TooManyError, draw, encode, encodeSeries, mend, parsePicture,
+  CheckError, FormatError, NoDrawingError, PictureError, QRError, SideError, TooLongError, TooManyError, draw, encode, encodeSeries, mend,
+  parseDrawing, parsePicture,
 } from '../out/npm/package/qrproved.js';
 import { squaresInText } from './drawings.js';
 import { zipOf } from './zip.js';
@@ -226,6 +227,7 @@ function showSheet() {
 const REASONS = [
   [CheckError, 'some block has more damage than can be mended.'],
   [FormatError, 'the format information is lost.'],
+  [SideError, 'no symbol has as many modules on a side.'],
 ];
 
 function textOf(found) {
@@ -296,9 +298,20 @@ function showSquares(squares) {
   on('found').append(...squares.flatMap((square, k) => [...(squares.length > 1 ? [made('h2', caption(k))] : []), contentOf(square)]));
 }
 
+/** Returns the squares of which a text is exactly the drawing; or null. */
+function squaresOfDrawing(text) {
+  try {
+    return parseDrawing(text).squares.map((modules) => ({ modules, side: Math.sqrt(modules.length) }));
+  } catch (error) {
+    if (!(error instanceof NoDrawingError)) throw error;
+    return null;
+  }
+}
+
 function showFound() {
-  const drawing = on('pasted').value, squares = squaresInText(drawing);
+  const drawing = on('pasted').value, exact = squaresOfDrawing(drawing), squares = exact ?? squaresInText(drawing);
   showSquares(squares);
+  if (!exact) on('found').append(made('p', 'Found by its look: the text is damaged, or another program drew it.'));
   if (drawing.trim() === '') say(on('found'), 'Paste a drawing.');
   else if (squares.length === 0) say(on('found'), 'There is no square with 21, 25, and so on to 177 modules on a side.', 'fault');
 }
@@ -332,6 +345,9 @@ async function showImage(file) {
   if (!file) return;
   let pixels;
   showSquares([]);
+  // A document of ours is parsed; others are read as images.
+  const exact = file.type === 'image/svg+xml' ? squaresOfDrawing(await file.text()) : null;
+  if (exact) return showSquares(exact);
   try {
     pixels = await pixelsOf(file);
   } catch {

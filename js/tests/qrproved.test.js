@@ -8,7 +8,7 @@ import { inflateSync } from 'node:zlib';
 
 const folder = process.env.QRPROVED ?? new URL('../../out/npm/package', import.meta.url).pathname;
 const at = pathToFileURL(resolve(folder, 'qrproved.js')).href;
-const { draw, encode, encodeSeries, load, mend, parsePicture, read, ...errors } = await import(at);
+const { draw, encode, encodeSeries, load, mend, parseDrawing, parsePicture, read, ...errors } = await import(at);
 
 // The memory of the module, which the package keeps to itself.
 let memory;
@@ -340,4 +340,52 @@ test('load, before the first call and after it', async () => {
   const first = `const { load, encode, read } = await import(${JSON.stringify(at)}); await load(); await load();
     delete WebAssembly.Instance; console.log(read(encode('first')).text());`;
   assert.equal(execFileSync(process.execPath, ['--input-type=module', '-e', first], { encoding: 'utf8' }), 'first\n');
+});
+
+test('drawings are parsed', () => {
+  const series = encodeSeries('Shelf 12 '.repeat(20), { version: 3 });
+  for (const symbols of [[encode('Shelf 12')], series]) {
+    for (const type of ['ASCII', 'ASCIIi', 'UTF8', 'SVG']) {
+      for (const margin of [0, 1, 4, 100]) {
+        const found = parseDrawing(draw(symbols, { type, margin }));
+        assert.deepEqual([found.type, found.margin], [type, margin]);
+        assert.deepEqual(found.squares, symbols.map((it) => it.modules));
+      }
+    }
+  }
+  assert.equal(read(parseDrawing(encode('A').text()).squares[0]).text(), 'A');
+});
+
+test('pasted drawings are parsed', () => {
+  const symbol = encode('Shelf 12');
+  for (const type of ['ASCII', 'ASCIIi', 'UTF8']) {
+    for (const margin of [0, 3, 4]) {
+      const text = draw([symbol, symbol], { type, margin }), lines = text.split('\n');
+      const pasted = {
+        'other spaces': `\ufeff${text.replaceAll(' ', '\u00a0')}`,
+        'other line ends': text.replaceAll('\n', '\r\n'),
+        'no spaces at line ends': lines.map((line) => line.trimEnd()).join('\n'),
+        'an indentation': lines.map((line) => `   ${line}`).join('\n'),
+        'empty lines': `\n\n${lines.slice(0, lines.length / 2).join('\n')}\n\n\n${lines.slice(lines.length / 2).join('\n')}`,
+      };
+      for (const [name, given] of Object.entries(pasted)) {
+        const found = parseDrawing(given);
+        assert.deepEqual([found.type, found.squares], [type, [symbol.modules, symbol.modules]], `${name}, ${type}, margin ${margin}`);
+      }
+    }
+  }
+  for (const margin of [1, 3, 7]) {
+    const light = Array(Math.floor(margin / 2)).fill('\u2588'.repeat(symbol.side + 2 * margin)), side = '\u2588'.repeat(margin);
+    const lines = symbol.text({ margin: 0 }).split('\n').slice(0, -1).map((line) => side + line + side);
+    assert.deepEqual(parseDrawing([...light, ...lines, ...light].join('\n')).squares, [symbol.modules], `half blocks of another program, ${margin}`);
+  }
+  assert.deepEqual(parseDrawing(` ${symbol.svg({ mm: 30 }).replaceAll('\n', '\r\n')}`).squares, [symbol.modules]);
+});
+
+test('other texts are no drawings', () => {
+  const text = encode('Shelf 12').text({ type: 'ASCII' });
+  for (const given of ['', '\n', 'hello', text.replace('##', '# '), text.replace('##', '??'), '<svg></svg>']) {
+    assert.throws(() => parseDrawing(given), refused('NoDrawingError', 11, 'NO_DRAWING'));
+  }
+  assert.throws(() => parseDrawing(new Uint8Array(3)), TypeError);
 });

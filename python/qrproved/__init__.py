@@ -2,8 +2,8 @@
 
 encode returns the symbol of a text or of bytes, encode_series the symbols of a series. A Symbol is drawn by its methods as PNG,
 as SVG or as text. read reads a symbol that is as it was drawn; mend reads a damaged one, and says how damaged it is.
-parse_drawing finds the modules of a drawing as text, parse_picture those of a PNG picture or an SVG document. Modules are bytes,
-row by row from the top left, without the quiet zone of four light modules that a drawing needs on each side.
+parse_drawing finds the modules of a drawing, parse_picture those of a PNG picture or of any SVG document. Modules are bytes, row by
+row from the top left, without the quiet zone of four light modules that a drawing needs on each side.
 
 Each refusal is an exception of the class Error, also where a number is out of range or a name is not known. A number that is no
 integer, as a bool or a float, is a TypeError. Calls may run side by side in any number of threads.
@@ -18,24 +18,24 @@ import sys
 import warnings
 from dataclasses import dataclass
 from enum import IntEnum
-from typing import TYPE_CHECKING, BinaryIO, NamedTuple, NoReturn, Optional, Union
+from typing import TYPE_CHECKING, BinaryIO, List, NamedTuple, NoReturn, Optional, Tuple, Union
 
 from . import _library, _png
-from ._drawings import parse_drawing
+from ._drawings import found_by_look, undone
 from ._pictures import parse_picture
-from ._errors import (CheckError, EmptyError, Error, FormatError, OutOfMemoryError, RoomError, SegmentsError, SettingsError,
-                      SideError, TooLongError, TooManyError, raise_for, too_long)
+from ._errors import (CheckError, EmptyError, Error, FormatError, NoDrawingError, OutOfMemoryError, RoomError, SegmentsError,
+                      SettingsError, SideError, TooLongError, TooManyError, raise_for, too_long)
 from ._library import BYTES_MAX, COUNT_MAX, MARGIN_MAX, SERIES_MAX, SIDE_MAX, SYMBOL_MAX
 
 if TYPE_CHECKING:
-    from collections.abc import Sequence
+    from collections.abc import Iterable, Sequence
 
     Bytes = Union[bytes, bytearray, memoryview]
     Input = Union[str, bytes, bytearray, memoryview]
     Name = Union[int, str]
 
 __all__ = ["BYTES_MAX", "COUNT_MAX", "MARGIN_MAX", "SCALE_MAX", "SERIES_MAX", "SIDE_MAX", "SYMBOL_MAX", "CheckError", "Content", "Drawing",
-           "EmptyError", "Error", "FormatError", "Header", "Level", "Mended", "OutOfMemoryError", "PrintWarning", "RoomError", "Rule",
+           "Drawn", "EmptyError", "Error", "FormatError", "Header", "Level", "Mended", "NoDrawingError", "OutOfMemoryError", "PrintWarning", "RoomError", "Rule",
            "SegmentsError", "SettingsError", "SideError", "Symbol", "TooLongError", "TooManyError", "draw", "encode",
            "encode_series", "mend", "parse_drawing", "parse_picture", "read"]
 
@@ -217,6 +217,16 @@ class Symbol:
     def _repr_svg_(self) -> str:
         """Returns the SVG drawing with a size, four pixels a module, and without the line that makes it a document."""
         return _sized(self.svg(), str(4 * (self.side + 8))).decode().split("?>\n", 1)[-1]
+
+
+class Drawn(List[Tuple[bytes, int]]):
+    """The squares of a drawing, each as its modules and its side. If the text is exactly their drawing, once what pasting changes is
+    undone, `drawing` is its type and `margin` its margin, as the proved call found. Otherwise both are None: the text is damaged or
+    was drawn by another program, and the squares are those that look most like symbols."""
+
+    def __init__(self, squares: Iterable[tuple[bytes, int]], drawing: Optional[Drawing] = None, margin: Optional[int] = None) -> None:
+        super().__init__(squares)
+        self.drawing, self.margin = drawing, margin
 
 
 class Header(NamedTuple):
@@ -499,6 +509,41 @@ def draw(symbols: Sequence[Symbol], *wrong: NoReturn, drawing: Name = Drawing.UT
     text = (ctypes.c_uint8 * written.value)()
     raise_for(_calls.qrproved_draw(*asked, text, written.value, ctypes.byref(written)))
     return _first(text, written.value)
+
+
+def _exactly(text: bytes) -> Optional[Drawn]:
+    """Returns what the text is the drawing of, by the proved call; None if it is none."""
+    modules, told = (ctypes.c_uint8 * SERIES_MAX)(), _library.Drawn()
+    status = _calls.qrproved_parse_drawing(text, len(text), modules, SERIES_MAX, ctypes.byref(told))
+    if status == NoDrawingError.status:
+        return None
+    raise_for(status)
+    area = told.side ** 2
+    written = _first(modules, told.count * area)
+    return Drawn([(written[k * area:(k + 1) * area], told.side) for k in range(told.count)], Drawing(told.drawing), told.margin)
+
+
+def parse_drawing(text: Union[str, Bytes]) -> Drawn:
+    """Returns the modules and the side of each square of a drawing, of one symbol or of a series.
+
+    text  of '##' and two spaces, either of them dark, of half blocks, or an SVG document as draw writes it, also with a size. It may
+          have been pasted: line ends of two characters, an indentation, lost spaces at the ends of lines, empty lines between
+          symbols and the half blocks of qrencode 4.1.1 are undone. In a text that is no such drawing '??' is a module that is not
+          known, which becomes 2.
+
+    The result says by its `drawing` and its `margin` whether the text is exactly the drawing of these squares, or whether they
+    were found by their look. The margin is 0 if it was lost with the spaces of the text.
+
+    Raises NoDrawingError, which is a ValueError, if it is empty, has other characters or a module of two that differ, or has no
+    square of a symbol: the first and the last row and column of a symbol each need a module that is not light. Raises
+    UnicodeDecodeError for bytes that are no UTF-8, and OutOfMemoryError.
+    """
+    given = text if isinstance(text, str) else _copied(text).decode()
+    for drawing in undone(given):
+        found = _exactly(drawing.encode())
+        if found is not None:
+            return found
+    return Drawn(found_by_look(given))
 
 
 def _content_of(it: Union[_library.Content, _library.Mended], data: ctypes.Array[ctypes.c_uint8]) -> Content:

@@ -102,12 +102,14 @@ def verdict(modules: bytes, side: int) -> int:
 
 
 def squares_of(data: bytes) -> list[tuple[bytes, int]]:
-    """Returns the modules and the side of each symbol of a picture or of a drawing as text. Raises ValueError if there is none."""
-    if is_picture(data):
-        return qrproved.parse_picture(data)
+    """Returns the modules and the side of each symbol of a drawing or of a picture. Raises ValueError if there is none."""
     try:
-        return qrproved.parse_drawing(data.decode())
-    except UnicodeDecodeError:
+        return qrproved.parse_drawing(data)
+    except ValueError as fault:
+        if is_picture(data):
+            return qrproved.parse_picture(data)
+        if not isinstance(fault, UnicodeDecodeError):
+            raise
         raise ValueError("it is no PNG picture, no SVG document and no text in UTF-8") from None
 
 
@@ -125,7 +127,10 @@ def check(words: list[str]) -> int:
     except ValueError as fault:
         print(f"not readable: {fault}")
         return NOT_READABLE
-    return max(verdict(*square) for square in squares)
+    status = max(verdict(*square) for square in squares)
+    if isinstance(squares, qrproved.Drawn) and squares.drawing is None:
+        print("found by its look: the text is damaged, or another program drew it")
+    return status
 
 
 def parsed(words: list[str]) -> argparse.Namespace:

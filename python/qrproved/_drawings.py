@@ -1,9 +1,13 @@
-"""Finds the modules of symbols that are drawn as text, as the command draws them: by two characters a module, '##' for a dark
-one or for a light one, or by half blocks, light on a dark terminal. In a drawing that was copied by hand '??' is a module that
-cannot be read."""
+"""Drawings that were pasted. What pasting changes is undone, so that the library can parse the text. In a text that is damaged, or
+drawn by another program, the modules of symbols are found by their look: two characters a module, '##' for a dark one or for a
+light one, or half blocks, light on a dark terminal. In a drawing that was copied by hand '??' is a module that cannot be read."""
 from __future__ import annotations
 
+import re
 import textwrap
+from collections.abc import Iterator
+
+from ._errors import NoDrawingError
 
 NO_INK, INK, UNKNOWN = range(3)
 # What a character shows, and what a character of half blocks shows above and below.
@@ -13,31 +17,71 @@ FINDER = ["1111111", "1000001", "1011101", "1011101", "1011101", "1000001", "111
 SIDES = range(21, 178, 4)
 COUNT_MAX = 16
 
+SIZE = re.compile(r'<svg width="[^"]*" height="[^"]*" ')
+FULL = "\u2588"  # two light modules
+
 Grid = list  # of rows of numbers: without ink, with ink, or not known
+
+
+def _clean(text: str) -> str:
+    return text.replace("\r\n", "\n").replace("\ufeff", "").replace("\u00a0", " ")
+
+
+def _padded(lines: list[str]) -> str:
+    """Returns lines of one length, each with its end. Spaces at the ends of lines are often lost."""
+    width = max(map(len, lines))
+    return "".join(line.ljust(width) + "\n" for line in lines)
+
+
+def _inner(lines: list[str]) -> list[str]:
+    """Returns the half blocks within the light margin. If the margin is odd, qrencode 4.1.1 draws a row less of it above and below."""
+    rows = [line for line in lines if line.strip(FULL)]
+    left = min((len(row) - len(row.lstrip(FULL)) for row in rows), default=0)
+    right = min((len(row) - len(row.rstrip(FULL)) for row in rows), default=0)
+    return [row[left:len(row) - right] for row in rows]
+
+
+def undone(text: str) -> Iterator[str]:
+    """Yields the drawings that a pasted text may have been, from the likeliest on: with other signs for line ends and spaces; with an
+    indentation, or without spaces at line ends; with empty lines between symbols; or half blocks of qrencode 4.1.1. Of an SVG
+    document, the one without a size."""
+    clean = _clean(text)
+    if clean.lstrip().startswith("<"):
+        yield SIZE.sub("<svg ", clean.strip() + "\n", count=1)
+        return
+    yield clean if clean.endswith("\n") else clean + "\n"
+    lines = [line.rstrip(" ") for line in textwrap.dedent(clean).strip("\n").split("\n")]
+    yield _padded(lines)
+    filled = [line for line in lines if line]
+    if filled:
+        yield _padded(filled)
+        inner = _inner(_padded(filled).splitlines())
+        if inner:
+            yield _padded(inner)
 
 
 def _grid(text: str) -> Grid:
     """Returns the rows of a text's modules, all of one length."""
-    lines = textwrap.dedent(text.replace("\r\n", "\n").replace("\ufeff", "")).split("\n")
+    lines = textwrap.dedent(_clean(text)).split("\n")
     lines = [line.rstrip(" ") for line in lines]
     while lines and not lines[0]:
         lines.pop(0)
     while lines and not lines[-1]:
         lines.pop()
     if not lines:
-        raise ValueError("there is no drawing")
+        raise NoDrawingError("there is no drawing")
     width = max(map(len, lines))
     characters = set("".join(lines))
     if characters <= set(CHARACTERS):
         width += width % 2
         padded = [line.ljust(width) for line in lines]
         if any(line[k] != line[k + 1] for line in padded for k in range(0, width, 2)):
-            raise ValueError("a module of the drawing is two characters that differ")
+            raise NoDrawingError("a module of the drawing is two characters that differ")
         return [[CHARACTERS[line[k]] for k in range(0, width, 2)] for line in padded]
     if characters <= set(HALVES):
         padded = [line.ljust(width) for line in lines]
         return [[HALVES[it][half] for it in line] for line in padded for half in (0, 1)]
-    raise ValueError("the drawing is of other characters than '#', '?' and spaces, or half blocks and spaces")
+    raise NoDrawingError("the drawing is of other characters than '#', '?' and spaces, or half blocks and spaces")
 
 
 def _cut(grid: Grid) -> list[tuple[int, int, int]]:
@@ -70,15 +114,10 @@ def _box(grid: Grid) -> Grid:
     return [row[columns[0]:columns[-1] + 1] for row in grid[rows[0]:rows[-1] + 1]]
 
 
-def parse_drawing(text: str) -> list[tuple[bytes, int]]:
-    """Returns the modules and the side of each symbol of a drawing as text, of one symbol or of a series.
-
-    text  of '##' and two spaces, either of them dark, or of half blocks; '??' is a module that is not known, which becomes 2.
-          Spaces at the end of a line may be missing, and the whole drawing may be indented.
-
-    Raises ValueError if it is empty, has other characters or a module of two that differ, or has no square of a symbol: the
-    first and the last row and column of a symbol each need a module that is not light.
-    """
+def found_by_look(text: str) -> list[tuple[bytes, int]]:
+    """Returns the modules and the side of each symbol of a drawing as text, of one symbol or of a series. Raises NoDrawingError if it
+    is empty, has other characters or a module of two that differ, or has no square of a symbol: the first and the last row and
+    column of a symbol each need a module that is not light."""
     grid, found = _grid(text), []
     for is_inverse in (False, True):
         box = _box([[it if it == UNKNOWN else it ^ is_inverse for it in row] for row in grid])
@@ -87,6 +126,6 @@ def parse_drawing(text: str) -> list[tuple[bytes, int]]:
             squares = [box[start:start + side] for start in starts]
             found.append((sum(map(_strangers, squares)) / count, -count, squares))
     if not found:
-        raise ValueError("there is no square of a symbol")
+        raise NoDrawingError("there is no square of a symbol")
     _, _, squares = min(found, key=lambda it: it[:2])
     return [(bytes(module for row in square for module in row), len(square)) for square in squares]

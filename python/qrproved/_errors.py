@@ -84,6 +84,13 @@ class SegmentsError(Error, ValueError):
     text = "the data codewords cannot be parsed"
 
 
+class NoDrawingError(Error, ValueError):
+    """The text is no drawing of symbols."""
+
+    status = 11
+    text = "the text is no drawing of symbols"
+
+
 # What a symbol of version 40 holds at each level, from L to H: bytes, alphanumeric characters, digits, and kanji of two bytes each
 # (ISO/IEC 18004:2015, Table 7).
 MOST = [(2953, 4296, 7089, 1817), (2331, 3391, 5596, 1435), (1663, 2420, 3993, 1024), (1273, 1852, 3057, 784)]
@@ -99,7 +106,7 @@ def too_long(count: int, level: int, rule: int) -> TooLongError:
 
 
 BY_STATUS = {kind.status: kind for kind in (EmptyError, TooLongError, TooManyError, OutOfMemoryError, SettingsError, RoomError,
-                                            SideError, FormatError, CheckError, SegmentsError)}
+                                            SideError, FormatError, CheckError, SegmentsError, NoDrawingError)}
 
 
 def raise_for(status: int) -> None:

@@ -37,6 +37,10 @@ class Mended(ctypes.Structure):
                 ("wrong_format_modules", c_uint8), ("changed_most", c_uint8), ("changed_allowed", c_uint8)]
 
 
+class Drawn(ctypes.Structure):
+    _fields_ = [("drawing", c_uint8), ("margin", c_uint8), ("count", c_uint8), ("side", c_uint8)]
+
+
 # A version, a level, a rule, a side or another number of 32 bits. ctypes cuts a larger one, so callers check it first.
 SETTING = c_uint32
 BYTES = [ctypes.c_char_p, c_size_t]
@@ -47,6 +51,7 @@ PARAMETERS = {
     "qrproved_read": [*BYTES, SETTING, *BUFFER, ctypes.POINTER(Content)],
     "qrproved_mend": [*BYTES, SETTING, *BUFFER, ctypes.POINTER(Mended)],
     "qrproved_draw": [*BYTES, SETTING, SETTING, SETTING, SETTING, *BUFFER, ctypes.POINTER(c_size_t)],
+    "qrproved_parse_drawing": [*BYTES, *BUFFER, ctypes.POINTER(Drawn)],
 }
 
 

@@ -118,11 +118,12 @@ class Command(unittest.TestCase):
         lines[20] = lines[20][:40] + "??????" + lines[20][46:]
         self.assertEqual(run("check", given="\n".join(lines).encode(), status=1)[0],
                          f"readable, 0 % of its correction spent: {symbol.version}-H, mask {symbol.mask}\n"
-                         "3 modules are not known, and their codewords not counted\ncontains Shelf 12\n".encode())
+                         "3 modules are not known, and their codewords not counted\ncontains Shelf 12\n"
+                         "found by its look: the text is damaged, or another program drew it\n".encode())
 
     def test_check_of_pictures(self):
         symbol = qrproved.encode("Shelf 12", level="h")
-        for name in ("a.png", "a.svg"):
+        for name in ("a.png", "a.svg"):  # the document is parsed
             run("Shelf 12", "-l", "h", "-o", self.room / name)
             self.assertEqual(run("check", self.room / name)[0], f"sound: {symbol.version}-H, mask {symbol.mask}\ncontains Shelf 12\n".encode())
         turned = qrproved.Symbol(symbol.version, symbol.side, symbol.mask, symbol.modules[::-1])

@@ -279,7 +279,7 @@ class Refusals(unittest.TestCase):
 
     def test_each_status_has_an_exception(self):
         kinds = [kind for kind in vars(qrproved).values() if isinstance(kind, type) and issubclass(kind, qrproved.Error)]
-        self.assertEqual(sorted(kind.status for kind in kinds), list(range(11)))
+        self.assertEqual(sorted(kind.status for kind in kinds), list(range(12)))
 
 
 if __name__ == "__main__":

@@ -13,7 +13,8 @@ BUILDS = {"LLVM": [], "Rattle's own compiler": ["LIBRARY_FLAGS=--cpu x86-64 --ba
 LONG = 7200  # seconds: what stands below the library is proved again if no earlier run kept it
 MARGIN = 4
 LEVELS = "LMQH"
-STATUSES = ["DONE", "EMPTY", "TOO_LONG", "TOO_MANY", "MEMORY", "SETTINGS", "ROOM", "SIDE", "FORMAT", "CHECK", "SEGMENTS"]
+STATUSES = ["DONE", "EMPTY", "TOO_LONG", "TOO_MANY", "MEMORY", "SETTINGS", "ROOM", "SIDE", "FORMAT", "CHECK", "SEGMENTS",
+            "NO_DRAWING"]
 MARK = 7  # what a buffer or a struct contains before a call
 
 counts = {"passed": 0, "failed": 0, "skipped": 0}
@@ -90,6 +91,10 @@ class Mended(ctypes.Structure):
                 *bytes_of(*HEADED, "level", "mask", "wrong_format_modules", "changed_most", "changed_allowed")]
 
 
+class Drawn(ctypes.Structure):
+    _fields_ = bytes_of("drawing", "margin", "count", "side")
+
+
 POINTER, BUFFER = [ctypes.c_void_p], [ctypes.c_void_p, ctypes.c_size_t]
 INPUT, NUMBER = [ctypes.c_char_p, ctypes.c_size_t], [ctypes.c_uint32]
 PARAMETERS = {
@@ -98,6 +103,7 @@ PARAMETERS = {
     "qrproved_read": BUFFER + NUMBER + BUFFER + POINTER,
     "qrproved_mend": BUFFER + NUMBER + BUFFER + POINTER,
     "qrproved_draw": BUFFER + NUMBER * 4 + BUFFER + POINTER,
+    "qrproved_parse_drawing": INPUT + BUFFER + POINTER,
 }
 
 
@@ -150,6 +156,17 @@ class Library:
         if self.drawn(*asked, text, needed) != ("DONE", needed) or text[needed] != MARK:
             return "not drawn, or past the end"
         return bytes(text[:needed])
+
+    def parsed(self, text):
+        """Returns the squares, their side, the number of the type and the margin; or the name of the status, and what the call
+        should have left as it was."""
+        drawn = Drawn(*[MARK] * 4)
+        status = self.library.qrproved_parse_drawing(text, len(text), self.modules, len(self.modules), ctypes.byref(drawn))
+        if status:
+            return STATUSES[status] + ("" if bytes(drawn).count(MARK) == 4 else ", struct changed")
+        area = drawn.side ** 2
+        modules = bytes(memoryview(self.modules)[:drawn.count * area])
+        return [modules[k * area:(k + 1) * area] for k in range(drawn.count)], drawn.side, drawn.drawing, drawn.margin
 
     def read(self, modules, side):
         content = Content()

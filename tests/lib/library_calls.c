@@ -1,6 +1,6 @@
 /* Calls the library for tests/library: library_calls WHAT
  *
- * encode, encode_series, read, mend, draw: one call, of which a growth of memory may be refused; says what came of it
+ * encode, encode_series, read, mend, draw, parse_drawing: one call, of which a growth of memory may be refused; says what came of it
  * edges: lengths of 0, and buffers that are just large enough
  * threads: eight threads, each with the answers of one thread */
 #include "qrproved.h"
@@ -91,6 +91,23 @@ static int draw(void)
 	return 0;
 }
 
+static int parse_drawing(void)
+{
+	static uint8_t text[20000];
+	struct qrproved_symbol symbol;
+	struct qrproved_drawn drawn;
+	size_t written;
+	if (qrproved_encode(TEXT, sizeof TEXT - 1, 1, 0, 0, modules, sizeof modules, &symbol)
+	    || qrproved_draw(modules, sizeof modules, symbol.side, 1, QRPROVED_SVG, 4, text, sizeof text, &written)) {
+		puts("parse_drawing: not prepared");
+		return 0;
+	}
+	memset(modules, MARK, sizeof modules), memset(&drawn, MARK, sizeof drawn);
+	uint8_t status = qrproved_parse_drawing(text, written, modules, sizeof modules, &drawn);
+	tell("parse_drawing", status, modules, sizeof modules, &drawn, sizeof drawn);
+	return 0;
+}
+
 static int wrong;
 
 static void want(const char *name, int is_so)
@@ -157,6 +174,20 @@ static int edges(void)
 	want("two squares", qrproved_draw(modules, 882, 21, 2, QRPROVED_ASCII, 0, bytes, 1806, &written) == QRPROVED_DONE && written == 1806);
 	want("no more is drawn", bytes[1805] == '\n' && is_marked(bytes, 1806, sizeof bytes));
 	want("a single dark module", qrproved_draw((const uint8_t *)"\xC8", 1, 1, 1, QRPROVED_ASCII, 0, bytes, 3, &written) == QRPROVED_DONE && !memcmp(bytes, "##\n", 3));
+	struct qrproved_drawn drawn;
+	static uint8_t text[2000], parsed[QRPROVED_SERIES_MAX];
+	memset(parsed, MARK, sizeof parsed), memset(&drawn, MARK, sizeof drawn);
+	want("no text", qrproved_parse_drawing(NULL, 0, parsed, sizeof parsed, &drawn) == QRPROVED_NO_DRAWING);
+	want("two squares to parse", qrproved_draw(modules, 882, 21, 2, QRPROVED_ASCII, 0, text, sizeof text, &written) == QRPROVED_DONE && written == 1806);
+	want("a byte less", qrproved_parse_drawing(text, 1805, parsed, sizeof parsed, &drawn) == QRPROVED_NO_DRAWING);
+	want("a byte more", qrproved_parse_drawing(text, 1807, parsed, sizeof parsed, &drawn) == QRPROVED_NO_DRAWING);
+	want("no room for squares", qrproved_parse_drawing(text, 1806, NULL, 0, &drawn) == QRPROVED_ROOM);
+	want("881 bytes for squares", qrproved_parse_drawing(text, 1806, parsed, 881, &drawn) == QRPROVED_ROOM);
+	want("nothing is parsed", is_marked(parsed, 0, sizeof parsed) && is_marked(&drawn, 0, sizeof drawn));
+	want("two squares are parsed", qrproved_parse_drawing(text, 1806, parsed, 882, &drawn) == QRPROVED_DONE && !memcmp(parsed, modules, 882));
+	want("what they are", drawn.drawing == QRPROVED_ASCII && drawn.margin == 0 && drawn.count == 2 && drawn.side == 21);
+	want("no more is written for them", is_marked(parsed, 882, sizeof parsed));
+	want("one of them", qrproved_parse_drawing(text, 903, parsed, 441, &drawn) == QRPROVED_DONE && drawn.count == 1);
 	want("numbers above 255", qrproved_encode(TEXT, 5, 257, 0, 0, modules, 441, &symbol) == QRPROVED_SETTINGS
 	     && qrproved_encode(TEXT, 5, 1, 256, 0, modules, 441, &symbol) == QRPROVED_SETTINGS
 	     && qrproved_encode(TEXT, 5, 1, 0, 256, modules, 441, &symbol) == QRPROVED_SETTINGS
@@ -228,6 +259,8 @@ int main(int argc, char **argv)
 		return mend_symbol();
 	if (!strcmp(what, "draw"))
 		return draw();
+	if (!strcmp(what, "parse_drawing"))
+		return parse_drawing();
 	if (!strcmp(what, "edges"))
 		return edges();
 	if (!strcmp(what, "threads"))

@@ -1,7 +1,7 @@
 /* Makes calls of the library in threads with the smallest stack that glibc gives, for tests/library: small_stack WHAT
  *
  * WHAT is a call, which is then the first of the process, in which the loader also looks up the names that it uses; standard input
- * has the modules that it reads, mends or draws. Or it is `all`: every call in all versions, levels and rules, on symbols sound and
+ * has the modules that it reads, mends or draws, or the drawing that it parses. Or it is `all`: every call in all versions, levels and rules, on symbols sound and
  * damaged, up to damage that is refused. A thread whose stack is too small ends the process by a signal. */
 #include "qrproved.h"
 #include <pthread.h>
@@ -22,6 +22,7 @@ static struct qrproved_symbol symbol;
 static struct qrproved_series series;
 static struct qrproved_content content;
 static struct qrproved_mended mended;
+static struct qrproved_drawn drawn;
 static uint8_t status;
 static unsigned calls;
 
@@ -52,6 +53,13 @@ static void *mend(void *none)
 static void *draw(void *none)
 {
 	status = qrproved_draw(modules, (size_t)side * side * count, side, count, drawing, 4, text, sizeof text, &written);
+	return none;
+}
+
+static void *parse_drawing(void *none)
+{
+	static uint8_t shown[QRPROVED_SERIES_MAX];
+	status = qrproved_parse_drawing(text, written, shown, sizeof shown, &drawn);
 	return none;
 }
 
@@ -120,22 +128,28 @@ static void all(void)
 				want("read", in_small_stack(read_symbol), QRPROVED_DONE);
 				mend_until_refused(1);
 				mend_until_refused(0);
-				for (drawing = 0, count = 1; drawing < DRAWINGS; drawing++)
+				for (drawing = 0, count = 1; drawing < DRAWINGS; drawing++) {
 					want("draw", in_small_stack(draw), QRPROVED_DONE);
+					want("parse", in_small_stack(parse_drawing), QRPROVED_DONE);
+				}
 				input_len *= 3;
 				want("encode_series", in_small_stack(encode_series), QRPROVED_DONE);
 				count = series.count;
-				for (drawing = 0; drawing < DRAWINGS; drawing++)
+				for (drawing = 0; drawing < DRAWINGS; drawing++) {
 					want("draw a series", in_small_stack(draw), QRPROVED_DONE);
+					want("parse a series", in_small_stack(parse_drawing), QRPROVED_DONE);
+				}
 			}
 }
 
 static int once(const char *name)
 {
 	static const struct { const char *name; void *(*call)(void *); } CALLS[] = {
-		{"encode", encode}, {"encode_series", encode_series}, {"read", read_symbol}, {"mend", mend}, {"draw", draw}};
-	size_t len = fread(modules, 1, sizeof modules, stdin);
-	while (side * side < len)
+		{"encode", encode}, {"encode_series", encode_series}, {"read", read_symbol}, {"mend", mend}, {"draw", draw},
+		{"parse_drawing", parse_drawing}};
+	written = fread(text, 1, sizeof text, stdin);
+	memcpy(modules, text, written < sizeof modules ? written : sizeof modules);
+	while (side * side < written)
 		side++;
 	version = 40, count = 1, drawing = QRPROVED_SVG, input_len = 2000;
 	for (size_t i = 0; i < sizeof CALLS / sizeof *CALLS; i++)

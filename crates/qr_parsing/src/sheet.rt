@@ -2,14 +2,14 @@
 //! rasters of a drawing, from the first raster on row by row. `k` is the index of a raster, and `y` and `x` are a row and
 //! a column of it.
 
-ghost use Rattle.std.specs.Prelude.{◌≡◌, ℕ, ◌<◌, ◌≤◌, ◌+◌, ◌*◌, ◌&&◌, nat_lt, false, true, length, slice_index_or, map, IfOk};
+ghost use Rattle.std.specs.Prelude.{◌≡◌, ℕ, ◌<◌, ◌≤◌, ◌+◌, ◌*◌, ◌⊎◌, false, true, length, slice_index_or, map, IfOk};
 ghost use Rattle.std.specs.List.{range_with_len};
 ghost use Rattle.qr_matrix.specs.Grid.{square};
-ghost use Rattle.qr_matrix.specs.BitRow.{has, has_bit};
+ghost use Rattle.qr_matrix.specs.Bytes.{byte_of};
 ghost use Rattle.qr_parsing.specs.Steps.Sheet.{HasPlaces, is_dark_byte, is_dark_on, is_sign, place_of};
 
 use qr_drawing::Drawing;
-use qr_matrix::BitRow;
+use qr_matrix::matrix_of_bytes;
 use qr_symbol::Matrix;
 use std::alloc::{AllocError, Global};
 
@@ -101,73 +101,80 @@ fn is_sign(signs: (u8, u8), byte: u8) -> bool
     byte == signs.0 || byte == signs.1
 }
 
-// The modules of a word: bit `i` is set if byte `first + step * i` is one of the signs.
+// Writes the modules of a row from byte `start` on, and no other bytes. Inlined once for each type of drawing, so that
+// `step` and the signs are constants there, and many bytes are compared at once.
 #[inline(always)]
-fn word_of(bytes: &[u8], first: usize, step: usize, signs: (u8, u8), count: u8) -> u64
-    requires few { count ≤ 64 }
-    requires step_in { step ≤ 2 }
-    requires inside { (i : ℕ) → i < count → first + step * i < length bytes.now }
-    ensures { (i : ℕ) → has_bit result i
-        ≡ (nat_lt i count && is_sign signs (slice_index_or bytes.now (first + step * i) 0)) }
-{
-    let mut word = 0u64;
-    for i in 0..count {
-        let byte = bytes[first + step * usize::from(i)];
-        word |= u64::from(is_sign(signs, byte)) << i;
-    }
-    word
-}
-
-// Appends the modules of a row to an empty bit row, 64 at a time. Inlined once for each type of drawing, so that `step` and
-// the signs are constants there.
-#[inline(always)]
-fn row_by(
-    empty: BitRow,
+fn write_by(
     bytes: &[u8],
     first: usize,
     step: usize,
     signs: (u8, u8),
     side: u8,
-) -> BitRow
-    requires empty { (c : ℕ) → has empty c ≡ false }
-    requires most { side ≤ 177 }
+    start: usize,
+    modules: &mut [u8],
+)
     requires step_in { step ≤ 2 }
     requires inside { (i : ℕ) → i < side → first + step * i < length bytes.now }
-    ensures { (c : ℕ) → has result c
-        ≡ (nat_lt c side && is_sign signs (slice_index_or bytes.now (first + step * c) 0)) }
+    requires room { start + side ≤ length modules.old }
+    ensures row { (i : ℕ) → i < side → slice_index_or modules.new (start + i) 0
+        ≡ byte_of (is_sign signs (slice_index_or bytes.now (first + step * i) 0)) }
+    ensures others { (i : ℕ) → (i < start) ⊎ (start + side ≤ i)
+        → slice_index_or modules.new i 0 ≡ slice_index_or modules.old i 0 }
 {
-    let mut row = empty;
-    let mut col = 0;
-    'words: while col < side {
-        let count = (side - col).min(64);
-        let start = first + step * usize::from(col);
-        row.set_bits(col, word_of(bytes, start, step, signs, count));
-        col += 64;
+    for i in 0..usize::from(side) {
+        modules[start + i] = u8::from(is_sign(signs, bytes[first + step * i]));
     }
-    row
 }
 
-// The row `y` of the raster `k`, without the margin.
-fn row_of(empty: BitRow, sheet: &Sheet, margin: usize, side: u8, k: usize, y: usize) -> BitRow
-    requires empty { (c : ℕ) → has empty c ≡ false }
+// Writes the row `y` of the raster `k`, without the margin, from byte `start` on, and no other bytes.
+fn write_row(
+    sheet: &Sheet,
+    margin: usize,
+    side: u8,
+    k: usize,
+    y: usize,
+    start: usize,
+    modules: &mut [u8],
+)
     requires most { side ≤ 177 }
     requires k_in { k < sheet.now.count }
     requires few { sheet.now.count ≤ 16 }
     requires y_in { y < sheet.now.width }
     requires x_in { margin + side ≤ sheet.now.width }
-    ensures { (c : ℕ) → has result c ≡ (nat_lt c side
-        && is_dark_on sheet.now.kind sheet.now.width sheet.now.bytes.now k y (margin + c)) }
+    requires room { start + side ≤ length modules.old }
+    ensures row { (c : ℕ) → c < side → slice_index_or modules.new (start + c) 0
+        ≡ byte_of (is_dark_on sheet.now.kind sheet.now.width sheet.now.bytes.now k y (margin + c)) }
+    ensures others { (i : ℕ) → (i < start) ⊎ (start + side ≤ i)
+        → slice_index_or modules.new i 0 ≡ slice_index_or modules.old i 0 }
 {
     let first = place_of(sheet.kind, sheet.width, k, y, margin);
     let bytes = sheet.bytes;
     match sheet.kind {
-        Drawing::Ascii => row_by(empty, bytes, first, 2, (b'#', b'#'), side),
-        Drawing::AsciiInverse => row_by(empty, bytes, first, 2, (b' ', b' '), side),
+        Drawing::Ascii => write_by(bytes, first, 2, (b'#', b'#'), side, start, modules),
+        Drawing::AsciiInverse => write_by(bytes, first, 2, (b' ', b' '), side, start, modules),
         Drawing::Utf8 => {
             let half = if y % 2 == 0 { 0x84 } else { 0x80 };
-            row_by(empty, bytes, first, 1, (b' ', half), side)
+            write_by(bytes, first, 1, (b' ', half), side, start, modules);
         }
-        Drawing::Svg => row_by(empty, bytes, first, 1, (1, 1), side),
+        Drawing::Svg => write_by(bytes, first, 1, (1, 1), side, start, modules),
+    }
+}
+
+// Writes the square of the raster `k`, row by row.
+fn write_modules(sheet: &Sheet, margin: usize, side: u8, k: usize, modules: &mut [u8])
+    requires most { side ≤ 177 }
+    requires k_in { k < sheet.now.count }
+    requires few { sheet.now.count ≤ 16 }
+    requires fits { margin + side ≤ sheet.now.width }
+    requires room { side * side ≤ length modules.old }
+    ensures { (r c : ℕ) → r < side → c < side → slice_index_or modules.new (r * side + c) 0
+        ≡ byte_of (is_dark_on sheet.now.kind sheet.now.width sheet.now.bytes.now k (margin + r) (margin + c)) }
+{
+    let mut start = 0;
+    for row in 0..side {
+        let y = margin + usize::from(row);
+        write_row(sheet, margin, side, k, y, start, modules);
+        start += usize::from(side);
     }
 }
 
@@ -186,13 +193,10 @@ fn square_of(
     ensures { IfOk result (λ m. m ≡ square side
         (λ r c. is_dark_on sheet.now.kind sheet.now.width sheet.now.bytes.now k (margin + r) (margin + c))) }
 {
-    let mut matrix = Matrix::new(alloc, side)?;
-    let empty = matrix.bit_row(0);
-    for row in 0..side {
-        let bits = row_of(empty, sheet, margin, side, k, margin + usize::from(row));
-        matrix.set_bit_row(row, bits);
-    }
-    Ok(matrix)
+    let area = usize::from(side) * usize::from(side);
+    let mut modules = vec![in alloc; 0u8; area]?;
+    write_modules(sheet, margin, side, k, &mut modules);
+    matrix_of_bytes(alloc, &modules, side)
 }
 
 pub(crate) fn squares_of(

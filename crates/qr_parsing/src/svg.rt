@@ -1,21 +1,19 @@
-//! The sheets of SVG documents, from the numbers in them. Those of the boxes come last: five for each, which are its
-//! column, its row, its number of modules, its height of 1 and the number of modules again. The numbers are read where they
-//! are needed, and never stored.
+//! The sheets of SVG documents. The size of a document is among the numbers in its text. The boxes are painted on a canvas: the
+//! path begins at the first `M`, and a box is `M`, its column, its row, `h`, its number of modules, `v1h-`, the number of modules
+//! again and `z`. Only the first three numbers of a box are read; drawing again checks all other bytes.
 
-ghost use Rattle.std.specs.Prelude.{◌≡◌, ℕ, ◌<◌, ◌≤◌, ◌+◌, ◌*◌, ◌/◌, ◌%◌, ◌^◌, ◌==◌, ◌&&◌, ◌∷◌, [], List, drop, nat_le, nat_lt, if◌then◌else◌, length, slice_index_or, IfOk, IfSome, MatchOption};
+ghost use Rattle.std.specs.Prelude.{◌≡◌, ℕ, ◌<◌, ◌≤◌, ◌+◌, ◌*◌, ◌/◌, ◌%◌, ◌^◌, ◌==◌, ◌&&◌, ◌∷◌, ◌++◌, [], List, false, decimal, drop, nat_le, nat_lt, if◌then◌else◌, length, slice_index_or, IfOk, IfSome, MatchOption};
 ghost use Rattle.qr_parsing.specs.Steps.Sheet.{HasNoSheet, count_in, kind_in, width_in};
-ghost use Rattle.qr_parsing.specs.Steps.Svg.{canvas_of, is_in_boxes, numbers_in};
+ghost use Rattle.qr_parsing.specs.Steps.Svg.{IsPath, canvas_of, is_digit, is_in_boxes, numbers_in, path_in};
 ghost use Rattle.qr_drawing.specs.declared.drawing.Drawing.TheVariants.{Svg};
 
 use crate::sheet::{COUNT_MAX, SIDE_MIN, WIDTH_MAX};
+use crate::text::position_of;
 use std::alloc::{AllocError, Global};
 
 // The index of the document's width among the numbers. Before it are those of the version of XML (1, 0), its encoding
 // (8), the name of SVG (3, 2000), its version (1, 1) and the corner of the document (0, 0); its height follows.
 const WIDTH: usize = 9;
-
-// The index of the first number of a box. Before it are those of the background (0, 0, width, height) and of black (0).
-const BOXES: usize = 16;
 
 // Greater numbers are read as this one, which no drawing has.
 const NUMBER_MAX: u32 = 99_999;
@@ -99,6 +97,27 @@ pub(crate) fn size_in(text: &[u8]) -> Option<Size>
     })
 }
 
+// Returns the number of at most five digits at an index, and the index after the byte that follows it.
+#[inline(always)]
+fn number_after(text: &[u8], at: usize) -> Option<(u32, usize)>
+    requires { at + 6 ≤ length text.now }
+    ensures within { IfSome result (λ s. (at < s.1) × (s.1 ≤ length text.now)) }
+    ensures reads { (n byte : ℕ) (rest : List ℕ) → n ≤ 99999 → is_digit byte ≡ false → 4 ≤ length rest
+        → drop at text.now ≡ decimal n ++ byte ∷ rest
+        → MatchOption result ⊥ (λ s. (s.0 ≡ n) × (drop s.1 text.now ≡ rest)) }
+{
+    let mut number = 0;
+    for i in 0..6usize {
+        // above 9 if the byte is no digit
+        let digit = text[at + i].wrapping_sub(b'0');
+        if digit > 9 {
+            return Some((number, at + i + 1));
+        }
+        number = number * 10 + u32::from(digit);
+    }
+    None
+}
+
 #[derive(Clone, Copy)]
 struct DarkBox {
     x: u32,
@@ -106,19 +125,44 @@ struct DarkBox {
     modules: u32,
 }
 
-// Returns the box with which the numbers of a text begin, and what follows it.
-fn next_box(text: &[u8]) -> Option<(DarkBox, &[u8])>
-    ensures shorter { IfSome result (λ s. length s.1.now < length text.now) }
-    ensures none { MatchOption result (length (numbers_in text.now) < 5)
-        (λ s. (high : ℕ) × (back : ℕ) × (numbers_in text.now
-        ≡ s.0.x ∷ s.0.y ∷ s.0.modules ∷ high ∷ back ∷ numbers_in s.1.now)) }
+// Returns the box at an index, and the index after it.
+fn box_at(text: &[u8], at: usize) -> Option<(DarkBox, usize)>
+    requires { at ≤ length text.now }
+    ensures within { IfSome result (λ s. (at < s.1) × (s.1 ≤ length text.now)) }
+    ensures reads { (numbers : List ℕ) → IsPath numbers (drop at text.now)
+        → MatchOption result (numbers ≡ []) (λ s. (high back : ℕ) × (more : List ℕ)
+        × (numbers ≡ s.0.x ∷ s.0.y ∷ s.0.modules ∷ high ∷ back ∷ more) × IsPath more (drop s.1 text.now)) }
 {
-    let (x, rest) = next_number(text)?;
-    let (y, rest) = next_number(rest)?;
-    let (modules, rest) = next_number(rest)?;
-    let (_, rest) = next_number(rest)?;
-    let (_, rest) = next_number(rest)?;
-    Some((DarkBox { x, y, modules }, rest))
+    if at + 7 > text.len() || text[at] != b'M' {
+        return None;
+    }
+    let Some((x, after_x)) = number_after(text, at + 1) else {
+        return None;
+    };
+    if after_x + 6 > text.len() {
+        return None;
+    }
+    let Some((y, after_y)) = number_after(text, after_x) else {
+        return None;
+    };
+    if after_y + 6 > text.len() {
+        return None;
+    }
+    let Some((modules, after_modules)) = number_after(text, after_y) else {
+        return None;
+    };
+    // `1h-`, the number of modules again, and `z`
+    let back = if modules < 10 {
+        5
+    } else if modules < 100 {
+        6
+    } else {
+        7
+    };
+    if after_modules + back > text.len() {
+        return None;
+    }
+    Some((DarkBox { x, y, modules }, after_modules + back))
 }
 
 // Makes the modules of a box dark, as far as they are on the canvas.
@@ -135,23 +179,31 @@ fn paint(bytes: &mut [u8], width: usize, height: usize, x: usize, y: usize, modu
 {
     if y < height {
         let end = (x + modules).min(width);
-        for col in x..end {
-            bytes[y * width + col] = 1;
+        // Three of four runs have one module or two, for which no memory is filled by a call.
+        if x < end {
+            bytes[y * width + x] = 1;
+            if x + 1 < end {
+                bytes[y * width + (x + 1)] = 1;
+                for col in x + 2..end {
+                    bytes[y * width + col] = 1;
+                }
+            }
         }
     }
 }
 
 // Makes the modules of all boxes dark.
-fn paint_all(bytes: &mut [u8], width: usize, height: usize, boxes: &[u8])
+fn paint_all(bytes: &mut [u8], width: usize, height: usize, text: &[u8])
     requires area { length bytes.old ≡ width * height }
     requires some { 0 < width }
     requires wide { width ≤ 687 }
     requires high { height ≤ 99999 }
-    ensures { (i : ℕ) → i < length bytes.old → slice_index_or bytes.new i 0
-        ≡ (if is_in_boxes (numbers_in boxes.now) (i / width) (i % width) then 1 else slice_index_or bytes.old i 0) }
+    ensures { (numbers : List ℕ) → IsPath numbers (path_in text.now) → (i : ℕ) → i < length bytes.old
+        → slice_index_or bytes.new i 0
+        ≡ (if is_in_boxes numbers (i / width) (i % width) then 1 else slice_index_or bytes.old i 0) }
 {
-    let mut rest = boxes;
-    'boxes: while let Some((dark, after)) = next_box(rest) {
+    let mut at = position_of(text, b'M');
+    'boxes: while let Some((dark, after)) = box_at(text, at) {
         paint(
             bytes,
             width,
@@ -160,7 +212,7 @@ fn paint_all(bytes: &mut [u8], width: usize, height: usize, boxes: &[u8])
             dark.y as usize,
             dark.modules as usize,
         );
-        rest = after;
+        at = after;
     }
 }
 
@@ -174,9 +226,11 @@ pub(crate) fn canvas_of(
     requires some { 0 < width }
     requires wide { width ≤ 687 }
     requires high { height ≤ 99999 }
-    ensures { IfOk result (λ bytes. bytes.items ≡ canvas_of width height (drop 16 (numbers_in text.now))) }
+    ensures area { IfOk result (λ bytes. length bytes.items ≡ width * height) }
+    ensures painted { (numbers : List ℕ) → IsPath numbers (path_in text.now)
+        → IfOk result (λ bytes. bytes.items ≡ canvas_of width height numbers) }
 {
     let mut bytes = vec![in alloc; 0u8; width * height]?;
-    paint_all(&mut bytes, width, height, after_numbers(text, BOXES));
+    paint_all(&mut bytes, width, height, text);
     Ok(bytes)
 }

@@ -1,6 +1,6 @@
 //! The sheets of texts.
 
-ghost use Rattle.std.specs.Prelude.{◌≡◌, ℕ, ◌<◌, ◌==◌, ◌⊎◌, List, length, IfOk, MatchOption};
+ghost use Rattle.std.specs.Prelude.{◌≡◌, ℕ, ◌<◌, ◌≤◌, ◌==◌, ◌⊎◌, List, length, take, IfOk, MatchOption};
 ghost use Rattle.std.specs.List.{position_or_len};
 ghost use Rattle.qr_parsing.specs.Steps.Sheet.{IsSheetOf, HasNoSheet, kind_in};
 ghost use Rattle.qr_parsing.specs.Steps.Text.{cells_in, has_block};
@@ -14,7 +14,7 @@ use std::alloc::{AllocError, Global};
 const BLOCK_WITHIN: usize = 22;
 
 // The index of the first byte that is `sign`, or the length if there is none.
-fn position_of(bytes: &[u8], sign: u8) -> usize
+pub(crate) fn position_of(bytes: &[u8], sign: u8) -> usize
     ensures { result ≡ position_or_len (λ byte. byte == sign) bytes.now }
 {
     for (i, byte) in bytes.iter().enumerate() {
@@ -69,16 +69,29 @@ pub(crate) fn ascii_sheet(text: &[u8], kind: Drawing) -> Option<Sheet<'_>>
     })
 }
 
+// Writes the bytes of a text but E2 and 96 to the beginning of `cells`, and returns how many they are.
+fn write_cells(text: &[u8], cells: &mut [u8]) -> usize
+    requires { length cells.old ≡ length text.now }
+    ensures most { result ≤ length text.now }
+    ensures cells { take result cells.new ≡ cells_in text.now }
+{
+    let mut count = 0;
+    for byte in text {
+        if *byte != 0xE2 && *byte != 0x96 {
+            cells[count] = *byte;
+            count += 1;
+        }
+    }
+    count
+}
+
 /// Returns a text without the bytes E2 and 96, with which each block character begins. Then each character is one byte.
 pub(crate) fn cells_in(alloc: Global, text: &[u8]) -> Result<Vec<u8>, AllocError>
     ensures { IfOk result (λ cells. cells.items ≡ cells_in text.now) }
 {
-    let mut cells = Vec::with_capacity(alloc, text.len())?;
-    for byte in text {
-        if *byte != 0xE2 && *byte != 0x96 {
-            cells.push(*byte)?;
-        }
-    }
+    let mut cells = vec![in alloc; 0u8; text.len()]?;
+    let count = write_cells(text, &mut cells);
+    cells.truncate(count);
     Ok(cells)
 }
 

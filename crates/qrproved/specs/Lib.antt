@@ -6,3 +6,4 @@ pub mod Series
 pub mod Reading
 pub mod Mending
 pub mod Drawing
+pub mod Parsing

@@ -12,14 +12,16 @@ ghost use Rattle.qrproved.specs.Settings.{level_of, rule_of};
 
 use crate::encoding::QrprovedSymbol;
 use crate::mending::QrprovedMended;
+use crate::parsing::QrprovedDrawn;
 use crate::reading::QrprovedContent;
 use crate::series::QrprovedSeries;
 use crate::status::{
-    CHECK, DONE, EMPTY, FORMAT, MEMORY, ROOM, SEGMENTS, SETTINGS, SIDE, TOO_LONG, TOO_MANY,
+    CHECK, DONE, EMPTY, FORMAT, MEMORY, NO_DRAWING, ROOM, SEGMENTS, SETTINGS, SIDE, TOO_LONG,
+    TOO_MANY,
 };
 use std::alloc::AllocError;
 
-/// The statuses have the numbers 0 to 10, as `include/qrproved.h` lists them.
+/// The statuses have the numbers 0 to 11, as `include/qrproved.h` lists them.
 ///
 /// # Notes
 ///
@@ -36,6 +38,7 @@ pub fn statuses()
     ensures format { FORMAT ≡ 8 }
     ensures check { CHECK ≡ 9 }
     ensures segments { SEGMENTS ≡ 10 }
+    ensures no_drawing { NO_DRAWING ≡ 11 }
 {}
 
 /// In calls, 0 to 3 are the levels L, M, Q and H; 0 to 2 are the rules `Auto`, `BytesOnly` and `WithKanji`; 0 to 3 are
@@ -78,6 +81,13 @@ pub fn content_clones(a: QrprovedContent) -> Result<QrprovedContent, AllocError>
 
 /// A clone of a `QrprovedMended` is equal to it.
 pub fn mended_clones(a: QrprovedMended) -> Result<QrprovedMended, AllocError>
+    ensures { IfOk result (λ b. b ≡ a) }
+{
+    a.clone()
+}
+
+/// A clone of a `QrprovedDrawn` is equal to it.
+pub fn drawn_clones(a: QrprovedDrawn) -> Result<QrprovedDrawn, AllocError>
     ensures { IfOk result (λ b. b ≡ a) }
 {
     a.clone()

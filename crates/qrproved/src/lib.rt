@@ -1,6 +1,6 @@
 //! A library for C, and for each language that can call C functions. Its functions, the calls, are declared in
-//! `include/qrproved.h`: they encode an input as a symbol or a series, read symbols, mend damaged ones, and draw
-//! squares of modules. Modules, bytes and texts go to a buffer of the caller, numbers to a struct of the caller. A call
+//! `include/qrproved.h`: they encode an input as a symbol or a series, read symbols, mend damaged ones, draw squares of
+//! modules, and parse drawings. Modules, bytes and texts go to a buffer of the caller, numbers to a struct of the caller. A call
 //! keeps no memory, so there is nothing to free.
 //!
 //! The promises hold if the caller fulfils the conditions under 'What the caller owes' in `docs/LIBRARY.md`. Bytes of a
@@ -17,6 +17,7 @@ mod encoding;
 pub mod laws;
 mod mending;
 mod modules;
+mod parsing;
 mod reading;
 #[cfg(test)]
 mod samples;
@@ -28,6 +29,7 @@ mod version;
 pub use drawing::qrproved_draw;
 pub use encoding::{QrprovedSymbol, qrproved_encode};
 pub use mending::{QrprovedMended, qrproved_mend};
+pub use parsing::{QrprovedDrawn, qrproved_parse_drawing};
 pub use reading::{QrprovedContent, qrproved_read};
 pub use series::{QrprovedSeries, qrproved_encode_series};
 pub use version::qrproved_version;

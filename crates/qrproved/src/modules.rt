@@ -1,14 +1,13 @@
 //! Squares of modules as bytes of a buffer: one square after the other, without a quiet zone.
 
-ghost use Rattle.std.specs.Prelude.{◌≡◌, ℕ, ◌+◌, ◌*◌, ◌<◌, ◌≤◌, ◌⊎◌, length, slice_index_or};
+ghost use Rattle.std.specs.Prelude.{◌≡◌, ℕ, ◌+◌, ◌*◌, ◌<◌, ◌≤◌, ◌⊎◌, length, map, slice_index_or};
 ghost use Rattle.std.specs.List.{All};
 ghost use Rattle.qr_matrix.specs.Grid.{colour};
 ghost use Rattle.qr_matrix.specs.Bytes.{byte_of};
-ghost use Rattle.qr_symbol.specs.Series.{squares_of};
 ghost use Rattle.qrproved.specs.Modules.{HoldsSquares};
 
+use qr_drawing::HasSquare;
 use qr_matrix::Matrix;
-use qr_symbol::Symbol;
 
 pub(crate) fn area(side: u8) -> usize
     ensures { result ≡ side * side }
@@ -29,15 +28,15 @@ pub(crate) fn write_square(matrix: &Matrix, start: usize, bytes: &mut [u8])
     qr_matrix::write_square(matrix, start, bytes);
 }
 
-pub(crate) fn write_squares(symbols: &[Symbol], side: u8, modules: &mut [u8])
-    requires sides { All (λ g. g.side ≡ side) (squares_of symbols.now) }
-    requires room { length symbols.now * (side * side) ≤ length modules.old }
-    ensures { HoldsSquares side (squares_of symbols.now) modules.old modules.new }
+pub(crate) fn write_squares<S: HasSquare>(squares: &[S], side: u8, modules: &mut [u8])
+    requires sides { All (λ g. g.side ≡ side) (map S.grid squares.now) }
+    requires room { length squares.now * (side * side) ≤ length modules.old }
+    ensures { HoldsSquares side (map S.grid squares.now) modules.old modules.new }
 {
     let area = area(side);
     let mut start = 0;
-    for symbol in symbols {
-        write_square(&symbol.matrix, start, modules);
+    for item in squares {
+        write_square(item.square(), start, modules);
         start += area;
     }
 }

@@ -1,8 +1,9 @@
 //! The statuses that calls return. Each number means the same in all calls.
 
 ghost use Rattle.std.specs.Prelude.{◌≡◌};
-ghost use Rattle.qrproved.specs.Steps.Status.{encode_status, read_status};
+ghost use Rattle.qrproved.specs.Steps.Status.{drawing_status, encode_status, read_status};
 
+use qr_parsing::DrawingFault;
 use qr_symbol::{EncodeFault, ReadFault};
 
 /// The whole result is written.
@@ -38,6 +39,9 @@ pub(crate) const CHECK: u8 = 9;
 /// The data codewords cannot be parsed.
 pub(crate) const SEGMENTS: u8 = 10;
 
+/// The text is no drawing of squares that begin as symbols do.
+pub(crate) const NO_DRAWING: u8 = 11;
+
 pub(crate) fn encode_status(fault: EncodeFault) -> u8
     ensures { result ≡ encode_status fault }
 {
@@ -59,5 +63,14 @@ pub(crate) fn read_status(fault: ReadFault) -> u8
         ReadFault::Format => FORMAT,
         ReadFault::Check => CHECK,
         ReadFault::Segments(_) | ReadFault::Series => SEGMENTS,
+    }
+}
+
+pub(crate) fn drawing_status(fault: DrawingFault) -> u8
+    ensures { result ≡ drawing_status fault }
+{
+    match fault {
+        DrawingFault::NotADrawing => NO_DRAWING,
+        DrawingFault::Memory => MEMORY,
     }
 }

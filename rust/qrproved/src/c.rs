@@ -5,6 +5,7 @@ use std::os::raw::c_uchar;
 pub type Setting = u32;
 
 pub const SYMBOL_MAX: usize = 31329;
+pub const SERIES_MAX: usize = 501264;
 pub const BYTES_MAX: usize = 7089;
 
 #[repr(C)]
@@ -48,6 +49,15 @@ pub struct Mended {
     pub wrong_format_modules: u8,
     pub changed_most: u8,
     pub changed_allowed: u8,
+}
+
+#[repr(C)]
+#[derive(Default)]
+pub struct Drawn {
+    pub drawing: u8,
+    pub margin: u8,
+    pub count: u8,
+    pub side: u8,
 }
 
 extern "C" {
@@ -101,5 +111,13 @@ extern "C" {
         text: *mut c_uchar,
         text_len: usize,
         written: *mut usize,
+    ) -> u8;
+
+    pub fn qrproved_parse_drawing(
+        text: *const c_uchar,
+        text_len: usize,
+        modules: *mut c_uchar,
+        modules_len: usize,
+        drawn: *mut Drawn,
     ) -> u8;
 }

@@ -24,10 +24,12 @@ pub enum Error {
     Check = 9,
     /// The data codewords cannot be parsed.
     Segments = 10,
+    /// The text is no drawing of squares that begin as symbols do.
+    NoDrawing = 11,
 }
 
 impl Error {
-    const ALL: [Error; 10] = [
+    const ALL: [Error; 11] = [
         Error::Empty,
         Error::TooLong,
         Error::TooMany,
@@ -38,6 +40,7 @@ impl Error {
         Error::Format,
         Error::Check,
         Error::Segments,
+        Error::NoDrawing,
     ];
 
     /// Returns the error of a status; `None` for 0.
@@ -73,6 +76,7 @@ impl fmt::Display for Error {
             Error::Format => "the format information cannot be read",
             Error::Check => "a block is damaged",
             Error::Segments => "the data codewords cannot be parsed",
+            Error::NoDrawing => "the text is no drawing of symbols",
         })
     }
 }
@@ -86,7 +90,7 @@ mod tests {
     #[test]
     fn each_error_has_its_status() {
         assert_eq!(Error::of_status(0), None);
-        for status in 1..=10 {
+        for status in 1..=11 {
             assert_eq!(Error::of_status(status).map(Error::status), Some(status));
         }
     }

@@ -99,6 +99,15 @@ pub enum Drawing {
     Svg,
 }
 
+impl Drawing {
+    const ALL: [Drawing; 4] = [
+        Drawing::Ascii,
+        Drawing::AsciiInverse,
+        Drawing::Utf8,
+        Drawing::Svg,
+    ];
+}
+
 /// A symbol: its version and its modules.
 #[derive(Clone, Debug, PartialEq, Eq, Hash)]
 pub struct Symbol {
@@ -177,6 +186,18 @@ pub struct Mended {
     pub changed_most: u8,
     /// How many may be wrong in each block, from 2 to 15.
     pub changed_allowed: u8,
+}
+
+/// What a drawing shows.
+#[derive(Clone, Debug, PartialEq, Eq, Hash)]
+pub struct Drawn {
+    pub drawing: Drawing,
+    /// The light modules on each side of a square.
+    pub margin: u8,
+    /// The modules on a side of each square, from 8 to 177.
+    pub side: usize,
+    /// The modules of 1 to 16 squares, as [`read`] and [`mend`] take them.
+    pub squares: Vec<Vec<u8>>,
 }
 
 impl Mended {
@@ -386,6 +407,34 @@ pub fn draw(symbols: &[Symbol], drawing: Drawing, margin: u8) -> Result<Vec<u8>,
         (status, needed) if status == Error::Room.status() => filled(needed, call),
         (status, _) => Err(Error::of_status(status).unwrap_or(Error::Settings)),
     }
+}
+
+/// Returns what a drawing shows, of any type: the one list of squares of which `text` is the drawing, byte for byte as [`draw`] and
+/// the command draw symbols, with any margin. It does not look whether a square is a symbol, as [`read`] does.
+///
+/// # Errors
+///
+/// [`Error::NoDrawing`] if `text` is no such drawing, as after a change of its line ends; [`Error::Memory`].
+pub fn parse_drawing(text: &[u8]) -> Result<Drawn, Error> {
+    let mut drawn = c::Drawn::default();
+    let modules = filled(c::SERIES_MAX, |modules, len| {
+        // SAFETY: each pointer is to as many bytes as the length beside it, and the struct is C's.
+        let status = unsafe {
+            c::qrproved_parse_drawing(text.as_ptr(), text.len(), modules, len, &mut drawn)
+        };
+        let area = usize::from(drawn.side).pow(2);
+        (status, usize::from(drawn.count) * area)
+    })?;
+    let side = usize::from(drawn.side);
+    Ok(Drawn {
+        drawing: Drawing::ALL[usize::from(drawn.drawing)],
+        margin: drawn.margin,
+        side,
+        squares: modules
+            .chunks_exact(side * side)
+            .map(<[u8]>::to_vec)
+            .collect(),
+    })
 }
 
 /// Returns the SVG document of symbols of one version, as [`draw`] does, with a size: it is `mm` millimetres wide with its margin.

@@ -1,7 +1,7 @@
 //! What the crate adds to the library: its types, and its refusals. The symbols themselves are compared by tests/library.
 use qrproved::{
-    draw, draw_svg, encode, encode_series, mend, read, Content, Drawing, Error, Header, Level,
-    Rule, Version,
+    draw, draw_svg, encode, encode_series, mend, parse_drawing, read, Content, Drawing, Error,
+    Header, Level, Rule, Version,
 };
 
 /// The symbol of 01234567 of version 1 and level M under mask 0 (ISO/IEC 18004:2015, Annex I).
@@ -275,4 +275,33 @@ fn a_document_has_a_size() {
     }
     assert_eq!(draw_svg(&[], 4, 29.0), Err(Error::Settings));
     assert_eq!(draw_svg(&symbols, 101, 29.0), Err(Error::Settings));
+}
+
+#[test]
+fn drawings_are_parsed() {
+    let symbols = encode_series(b"ABCDEFGH", Version::MIN, Level::H, Rule::BytesOnly).unwrap();
+    assert_eq!(symbols.len(), 2);
+    for drawing in [
+        Drawing::Ascii,
+        Drawing::AsciiInverse,
+        Drawing::Utf8,
+        Drawing::Svg,
+    ] {
+        for margin in [0, 3, 100] {
+            let text = draw(&symbols, drawing, margin).unwrap();
+            let drawn = parse_drawing(&text).unwrap();
+            assert_eq!(
+                (drawn.drawing, drawn.margin, drawn.side),
+                (drawing, margin, 21)
+            );
+            let contents: Vec<Vec<u8>> = drawn
+                .squares
+                .iter()
+                .map(|modules| read(modules, drawn.side).unwrap().data)
+                .collect();
+            assert_eq!(contents.concat(), b"ABCDEFGH");
+            assert_eq!(parse_drawing(&text[1..]), Err(Error::NoDrawing));
+        }
+    }
+    assert_eq!(parse_drawing(b""), Err(Error::NoDrawing));
 }

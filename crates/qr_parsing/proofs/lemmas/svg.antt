@@ -1,5 +1,7 @@
 -- The numbers of texts, and which places are in boxes.
 pub mod NumberLemmas
+-- The boxes of a path.
+pub mod PathLemmas
 -- Which boxes a document has.
 pub mod BoxLemmas
 -- The canvas while it is painted.

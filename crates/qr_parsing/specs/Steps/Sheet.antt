@@ -6,6 +6,7 @@ use Rattle.qr_drawing.specs.Raster.{is_dark_at, raster_width}
 use Rattle.qr_drawing.specs.Svg.{square_at}
 use Rattle.qr_drawing.specs.declared.drawing.Drawing.{Drawing}
 use Rattle.qr_drawing.specs.declared.drawing.Drawing.TheVariants.{Ascii, AsciiInverse, Utf8, Svg}
+use Rattle.qr_parsing.specs.Parsing.{IsDrawingOf}
 use Rattle.qr_parsing.specs.Steps.{Svg.{canvas_of, numbers_in}, Text.{cells_in, first_line, has_block}}
 
 -- The index of the byte that shows a module
@@ -69,12 +70,12 @@ count_in AsciiInverse text = length text / (width_in AsciiInverse text * (2 * wi
 count_in Utf8 text = length (cells_in text) / ((width_in Utf8 text + 1) / 2 * (width_in Utf8 text + 1))
 count_in Svg text = slice_index_or (numbers_in text) 10 0 / width_in Svg text
 
--- The sheet of a text
+-- The sheet of a text. If the text is no drawing, its bytes may be any
 pub record IsSheetOf (kind : Drawing) (width count : ℕ) (bytes text : List ℕ) : Type 0 where
   pub kind_is : kind ≡ kind_in text
   pub width_is : width ≡ width_in kind text
   pub count_is : count ≡ count_in kind text
-  pub bytes_is : bytes ≡ bytes_in kind text
+  pub bytes_is : (k : Drawing) (margin : ℕ) (squares : List Grid) → IsDrawingOf k margin squares text → bytes ≡ bytes_in kind text
 
 -- No drawing is as wide, or has as many rasters, as this text would
 abbrev pub HasNoSheet : List ℕ → Type 0

@@ -1,6 +1,7 @@
 -- The numbers in an SVG document, and the canvas that they say.
-use Rattle.std.specs.Prelude.{ℕ, ◌+◌, ◌*◌, ◌/◌, ◌%◌, ◌==◌, ◌-◌, Bool, true, false, ◌&&◌, ◌||◌, nat_le, nat_lt, min, if◌then◌else◌, List, [], ◌∷◌, map}
+use Rattle.std.specs.Prelude.{◌≡◌, ℕ, ◌+◌, ◌*◌, ◌/◌, ◌%◌, ◌==◌, ◌-◌, ◌≤◌, Bool, true, false, ◌&&◌, ◌||◌, nat_le, nat_lt, min, if◌then◌else◌, List, [], ◌∷◌, ◌++◌, map}
 use Rattle.std.specs.List.{range_with_len}
+use Rattle.qr_drawing.specs.Svg.{box_path}
 
 -- The byte is a decimal digit
 abbrev pub is_digit : ℕ → Bool
@@ -27,3 +28,21 @@ is_in_boxes numbers r c = false
 -- A byte for each module of a document, row by row: 1 for those in boxes, 0 for the others
 abbrev pub canvas_of : ℕ → ℕ → List ℕ → List ℕ
 canvas_of width height numbers = map (λ i. if is_in_boxes numbers (i / width) (i % width) then 1 else 0) (range_with_len 0 (width * height))
+
+-- The decimal number with which a text begins, if `number` is that of the digits just before it, and what follows the byte
+-- after it
+unfoldable pub leading : ℕ → List ℕ → ℕ × List ℕ
+leading number [] = (number, [])
+leading number (byte ∷ bytes) = if is_digit byte then leading (number * 10 + (byte - 48)) bytes else (number, bytes)
+
+-- The text from its first `M` on
+abbrev pub path_in : List ℕ → List ℕ
+path_in [] = []
+path_in (byte ∷ bytes) = if byte == 77 then byte ∷ bytes else path_in bytes
+
+-- The text is a path of boxes with these numbers, five for each, and no other box follows
+abbrev pub IsPath : List ℕ → List ℕ → Type 0
+IsPath [] text = path_in text ≡ []
+IsPath (x ∷ y ∷ modules ∷ high ∷ back ∷ numbers) text =
+    (rest : List ℕ) × (x ≤ 999) × (y ≤ 99999) × (modules ≤ 999) × (text ≡ box_path x y modules ++ rest) × IsPath numbers rest
+IsPath numbers text = ⊥

@@ -4,6 +4,8 @@ use Rattle.qr_symbol.specs.declared.fault.EncodeFault.{EncodeFault}
 use Rattle.qr_symbol.specs.declared.fault.EncodeFault.TheVariants as fault
 use Rattle.qr_symbol.specs.declared.fault.ReadFault.{ReadFault}
 use Rattle.qr_symbol.specs.declared.fault.ReadFault.TheVariants as unread
+use Rattle.qr_parsing.specs.declared.parsing.DrawingFault.{DrawingFault}
+use Rattle.qr_parsing.specs.declared.parsing.DrawingFault.TheVariants as undrawn
 
 -- The status for an input that is not encoded
 abbrev pub encode_status : EncodeFault → ℕ
@@ -20,3 +22,8 @@ read_status unread.Format = 8
 read_status unread.Check = 9
 read_status (unread.Segments why) = 10
 read_status unread.Series = 10
+
+-- The status for a text that is not parsed
+abbrev pub drawing_status : DrawingFault → ℕ
+drawing_status undrawn.NotADrawing = 11
+drawing_status undrawn.Memory = 4

@@ -1,82 +1,25 @@
--- Rows of a sheet, whose modules are read as the bits of words.
-use Rattle.std.proofs.Common.{◌≡◌, ◌≤◌, ◌<◌, ◌+◌, ◌-◌, ◌*◌, ◌^◌, ◌%◌, ◌∙◌, ◌&&◌, ◌||◌, leb, ltb, eqb, ℕ, Bool, true, false, cond, min, bit_or, List, get_or, length, refl, sym, ap, subst, arith, inl, inr}
+-- Rows of a sheet, whose modules are written as bytes.
+use Rattle.std.proofs.Common.{◌≡◌, ◌≤◌, ◌<◌, ◌+◌, ◌*◌, ◌%◌, ◌∙◌, ◌||◌, not, eqb, ℕ, Bool, true, false, cond, List, get_or, length, refl, sym, ap, subst, arith}
 use mir.Val.{bool_byte}
-use Rattle.std.proofs.lemmas.{Bool.cases_lt, Bool.Decides.nat_tests}
-use Rattle.qr_matrix.specs.BitRow.{has_bit}
+use Rattle.std.proofs.Math.Nat.{mul-le-mul_right}
+use Rattle.qr_matrix.specs.Bytes.{byte_of}
 use Rattle.qr_drawing.specs.declared.drawing.Drawing.{Drawing}
 use Rattle.qr_drawing.specs.declared.drawing.Drawing.TheVariants.{Ascii, AsciiInverse, Utf8, Svg}
 use Rattle.qr_parsing.specs.Steps.Sheet.{HasPlaces, is_dark_byte, is_dark_on, is_sign, place_of}
-use Rattle.qr_matrix.proofs.Facts.{has_bit-or, low-bits, shl-bit, unset-above}
 
--- no bit of 0 is set
-pub first-bit : (k : ℕ) (b : Bool) → has_bit 0 k ≡ (ltb k 0 && b)
-first-bit k b = let e : (ltb k 0 && b) ≡ false = grind (arith, nat_tests) in unset-above 0 0 k (omega arith) (omega arith) ∙ sym e
+-- the number of a test is the byte of a module
+pub test-byte : (b : Bool) → bool_byte b ≡ byte_of b
+test-byte true = refl
+test-byte false = refl
 
--- the bits of a number that is 1 if a test holds, and else 0
-one-bit : (b : Bool) (j : ℕ) → has_bit (cond b 1 0) j ≡ (eqb j 0 && b)
-unfolding has_bit
-one-bit true j = elim (cases_lt 0 j) [
-  | inl l ↦ let e : (eqb j 0 && true) ≡ false = grind (arith, nat_tests) in unset-above 1 1 j (omega arith) l ∙ sym e
-  | inr g ↦ let e : j ≡ 0 = omega arith in rw e refl
-]
-one-bit false j = let e : (eqb j 0 && false) ≡ false = grind (arith, nat_tests) in unset-above 0 0 j (omega arith) (omega arith) ∙ sym e
+-- a row is before the rows after it
+pub row-within : (r row side : ℕ) → r < row → r * side + side ≤ row * side
+row-within r row side lt = search (arith, mul-le-mul_right)
 
--- one place more is looked at
-next-place : (k i : ℕ) (dark here : Bool) → (k ≡ i → here ≡ dark)
-    → ((ltb k i && dark) || (leb i k && (eqb (k - i) 0 && here))) ≡ (ltb k (i + 1) && dark)
-next-place k i dark here same = elim (cases_lt k i) [
-  | inl l ↦ grind (arith, nat_tests)
-  | inr g ↦ elim (cases_lt i k) [ inl l ↦ grind (arith, nat_tests) | inr m ↦ let e = same (omega arith) in grind (arith, nat_tests) ]
-]
-
--- a test as a number
-pub test-number : (a b : Bool) → a ≡ b → bool_byte a ≡ cond b 1 0
-test-number a b e = ap bool_byte e ∙ each b
-  where
-    each : (b : Bool) → bool_byte b ≡ cond b 1 0
-    each true = refl
-    each false = refl
-
--- one bit more of a word is set if its test holds
-pub next-bit : (dark : ℕ → Bool) (i word bit k : ℕ) → i < 64 → bit ≡ cond (dark i) 1 0
-    → ((k : ℕ) → has_bit word k ≡ (ltb k i && dark k)) → has_bit (bit_or word (bit * 2 ^ i % 2 ^ 64)) k ≡ (ltb k (i + 1) && dark k)
-next-bit dark i word bit k lt e before =
-    has_bit-or word (bit * 2 ^ i % 2 ^ 64) k ∙ ((λ z. before k z || added z) ∙ next-place k i (dark k) (dark i) (λ f. ap dark (sym f)))
-  where
-    shifted : has_bit (bit * 2 ^ i) k ≡ (leb i k && (eqb (k - i) 0 && dark i))
-    shifted = shl-bit bit i k ∙ ap (λ b. leb i k && b) (ap (λ n. has_bit n (k - i)) e ∙ one-bit (dark i) (k - i))
-
-    added : has_bit (bit * 2 ^ i % 2 ^ 64) k ≡ (leb i k && (eqb (k - i) 0 && dark i))
-    added = elim (cases_lt k 64) [
-      | inl l ↦ low-bits 64 (bit * 2 ^ i) k l ∙ shifted
-      | inr g ↦
-          let f : (leb i k && (eqb (k - i) 0 && dark i)) ≡ false = grind (arith, nat_tests) in
-          unset-above (bit * 2 ^ i % 2 ^ 64) 64 k (omega arith) g ∙ sym f
-    ]
-
--- a word more of a row is read
-pub next-word : (dark : ℕ → Bool) (side col n c : ℕ) (old new bit : Bool) → n ≡ min (side - col) 64 → col < side
-    → old ≡ (ltb c col && (ltb c side && dark c)) → new ≡ (old || leb col c && bit) → (col ≤ c → bit ≡ (ltb (c - col) n && dark c))
-    → new ≡ (ltb c (col + 64) && (ltb c side && dark c))
-next-word dark side col n c old new bit is lt e f g = elim (cases_lt c col) [
-  | inl l ↦ f ∙ (ap (λ b. b || leb col c && bit) e ∙ before (dark c) bit l)
-  | inr m ↦ f ∙ ((λ z. e z || leb col c && g m z) ∙ after (dark c) m)
-]
-  where
-    before : (d b : Bool) → c < col → ((ltb c col && (ltb c side && d)) || leb col c && b) ≡ (ltb c (col + 64) && (ltb c side && d))
-    before d b l = grind (arith, nat_tests)
-
-    after : (d : Bool) → col ≤ c → ((ltb c col && (ltb c side && d)) || leb col c && (ltb (c - col) n && d)) ≡ (ltb c (col + 64) && (ltb c side && d))
-    after true m = grind (arith, nat_tests)
-    after false m = grind (arith, nat_tests)
-
--- bits past the end of a word are not set
-pub past-word : (k n : ℕ) (b : Bool) → n ≤ 64 → 64 ≤ k → (ltb k n && b) ≡ false
-past-word k n b m l = grind (arith, nat_tests)
-
--- the places of a row after its words
-pub whole-row : (c col side : ℕ) (b : Bool) → side ≤ col → (ltb c col && (ltb c side && b)) ≡ (ltb c side && b)
-whole-row c col side b m = grind (arith, nat_tests)
+-- a byte of a module says its colour
+pub byte-dark : (b : Bool) (n : ℕ) → n ≡ byte_of b → not (eqb n 0) ≡ b
+byte-dark true n e = rw e refl
+byte-dark false n e = rw e refl
 
 -- ---- rows by types of drawing
 
@@ -111,7 +54,7 @@ module _ (kind : Drawing) (step y : ℕ) (signs : ℕ × ℕ) (reads : ReadsBy k
   row-inside count side whole a b c i l = let p = whole k y (m + i) a b (omega arith) in omega (arith, place-is i)
 
   -- they have the colours of the sheet
-  pub row-dark : (side : ℕ) (line : ℕ → Bool) → ((c : ℕ) → line c ≡ (ltb c side && is_sign signs (get_or bytes (first + step * c) 0)))
-      → (c : ℕ) → line c ≡ (ltb c side && is_dark_on kind w bytes k y (m + c))
+  pub row-dark : (side start : ℕ) (modules : List ℕ) → ((c : ℕ) → c < side → get_or modules (start + c) 0 ≡ byte_of (is_sign signs (get_or bytes (first + step * c) 0)))
+      → (c : ℕ) → c < side → get_or modules (start + c) 0 ≡ byte_of (is_dark_on kind w bytes k y (m + c))
   unfolding is_dark_on
-  row-dark side line has c = has c ∙ ap (λ b. ltb c side && b) (reads.dark (get_or bytes (first + step * c) 0) ∙ ap (λ z. is_dark_byte kind y (get_or bytes z 0)) (place-is c))
+  row-dark side start modules has c l = has c l ∙ ap byte_of (reads.dark (get_or bytes (first + step * c) 0) ∙ ap (λ z. is_dark_byte kind y (get_or bytes z 0)) (place-is c))

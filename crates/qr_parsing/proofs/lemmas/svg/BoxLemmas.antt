@@ -1,5 +1,5 @@
 -- The boxes of an SVG document are at its dark modules: each box is a run, and each dark module is in one.
-use Rattle.std.proofs.Common.{◌≡◌, ◌≤◌, ◌<◌, ◌+◌, ◌-◌, ◌*◌, ◌∙◌, ◌++◌, ◌&&◌, ◌||◌, leb, ltb, ℕ, zero, suc, Bool, true, false, cond, eqb, List, [], length, refl, sym, ap, arith, inl, inr, append-nil}
+use Rattle.std.proofs.Common.{◌≡◌, ◌≤◌, ◌<◌, ◌+◌, ◌-◌, ◌*◌, ◌∙◌, ◌++◌, ◌&&◌, ◌||◌, leb, ltb, ℕ, zero, suc, Bool, true, false, cond, eqb, List, [], ◌∷◌, length, refl, sym, ap, subst, arith, inl, inr, append-nil}
 use Rattle.std.proofs.{lemmas.Bool.{cases_lt, eqb-true}, lemmas.Bool.Decides.nat_tests}
 use Rattle.std.proofs.lemmas.{Nat.same_from_place, List.Sums.{prefix_len-le-length, prefix_len_passes}, List.FromFn.{get_or-range_with_len, length-range_with_len}}
 use Rattle.std.specs.List.{prefix_len, range_with_len}
@@ -7,7 +7,8 @@ use Rattle.qr_matrix.specs.Grid.{Grid}
 use Rattle.qr_matrix.proofs.Facts.{&&-left, &&-right}
 use Rattle.qr_drawing.specs.Raster.{is_dark_at, raster_width, texts_below}
 use Rattle.qr_drawing.specs.Svg.{begins_run, box_path, row_path, run_length, run_path, square_at, stack_path, symbol_path}
-use Rattle.qr_parsing.specs.Steps.Svg.{is_in_boxes, numbers_after}
+use Rattle.qr_parsing.specs.Steps.Svg.{IsPath, is_in_boxes, numbers_after}
+use Rattle.qr_parsing.proofs.lemmas.svg.PathLemmas.{texts-path}
 use Rattle.qr_parsing.proofs.lemmas.svg.NumberLemmas.{any-false, any-true, any_below, box-read, box_numbers, texts-boxes, texts-read}
 
 -- ---- runs
@@ -118,6 +119,33 @@ stack-read margin squares rest wide few =
     (λ y in_y. texts-read (raster_width margin g) (run_path (k * raster_width margin g) margin g y) (run_numbers (k * raster_width margin g) margin g y)
     (λ x in_x rest. run-read (k * raster_width margin g) margin g y x rest (let top : k * raster_width margin g ≤ 16 * 687 = small k (raster_width margin g) (omega arith) w in omega arith) (omega arith) (omega arith))))
     rest
+  where
+    small : (k w : ℕ) → k ≤ 16 → w ≤ 687 → k * w ≤ 16 * 687
+    small k w a b = grind arith
+
+-- the box that begins here, before a path
+run-path : (top margin : ℕ) (g : Grid) (y x : ℕ) (numbers bytes : List ℕ) → top + y ≤ 99999 → x ≤ 687 → raster_width margin g ≤ 687 → IsPath numbers bytes
+    → IsPath (run_numbers top margin g y x ++ numbers) (run_path top margin g y x ++ bytes)
+unfolding run_path run_numbers box_numbers
+run-path top margin g y x numbers bytes a b w path =
+    let s = run-short margin g y x in
+    elim (begins_run margin g y x) as (λ d. IsPath (cond d (x ∷ (top + y) ∷ run_length margin g y x ∷ 1 ∷ run_length margin g y x ∷ []) [] ++ numbers) (cond d (box_path x (top + y) (run_length margin g y x)) [] ++ bytes))
+    [ true ↦ (bytes, omega arith, a, omega arith, refl, path) | false ↦ path ]
+
+-- the path of all boxes
+pub stack-is-path : (margin : ℕ) (squares : List Grid) (bytes : List ℕ) → ((k : ℕ) → k < length squares → raster_width margin (square_at squares k) ≤ 687) → length squares ≤ 16
+    → IsPath [] bytes → IsPath (all_numbers margin squares) (stack_path margin squares ++ bytes)
+unfolding stack_path symbol_path row_path all_numbers
+stack-is-path margin squares bytes wide few path =
+    subst (λ n. IsPath n (stack_path margin squares ++ bytes)) (append-nil (all_numbers margin squares))
+    (texts-path (length squares)
+    (λ k. texts_below (raster_width margin (square_at squares k)) (λ y. texts_below (raster_width margin (square_at squares k)) (run_path (k * raster_width margin (square_at squares k)) margin (square_at squares k) y)))
+    (λ k. texts_below (raster_width margin (square_at squares k)) (λ y. texts_below (raster_width margin (square_at squares k)) (run_numbers (k * raster_width margin (square_at squares k)) margin (square_at squares k) y)))
+    (λ k lt. let g = square_at squares k in let w = wide k lt in
+    texts-path (raster_width margin g) (λ y. texts_below (raster_width margin g) (run_path (k * raster_width margin g) margin g y)) (λ y. texts_below (raster_width margin g) (run_numbers (k * raster_width margin g) margin g y))
+    (λ y in_y. texts-path (raster_width margin g) (run_path (k * raster_width margin g) margin g y) (run_numbers (k * raster_width margin g) margin g y)
+    (λ x in_x numbers rest p. run-path (k * raster_width margin g) margin g y x numbers rest (let top : k * raster_width margin g ≤ 16 * 687 = small k (raster_width margin g) (omega arith) w in omega arith) (omega arith) w p)))
+    [] bytes path)
   where
     small : (k w : ℕ) → k ≤ 16 → w ≤ 687 → k * w ≤ 16 * 687
     small k w a b = grind arith

@@ -1,7 +1,7 @@
 -- The canvas of an SVG document while it is painted.
 use Rattle.std.proofs.Common.{◌≡◌, ◌≤◌, ◌<◌, ◌≢◌, ◌+◌, ◌*◌, ◌/◌, ◌%◌, ◌∙◌, ◌++◌, ◌&&◌, ◌||◌, leb, ltb, ℕ, Bool, true, false, cond, eqb, List, ◌∷◌, length, drop, take, get_or, set, replicate, refl, sym, ap, subst, arith, inl, inr}
 use Rattle.std.proofs.lemmas.{Bool.cases_lt, Bool.Decides.nat_tests, Nat.div-mul-add, Nat.mod-mul-add}
-use Rattle.std.proofs.lemmas.List.{get_or-set_same, get_or-set_other, FromFn.fill_by_all, get_or-replicate, length-replicate}
+use Rattle.std.proofs.lemmas.List.{length-set, get_or-set_same, get_or-set_other, FromFn.fill_by_all, get_or-replicate, length-replicate}
 use Rattle.std.proofs.Math.Seq.{take-append_seam}
 use Rattle.qr_parsing.specs.Steps.Svg.{canvas_of, is_in_boxes}
 use Rattle.qr_parsing.proofs.lemmas.text.PlaceLemmas.{place-in}
@@ -43,12 +43,27 @@ painted w h y x col bytes old some lt le fits before i in_i = elim (cases_lt i (
     other : i ≢ y * w + col → get_or (set bytes (y * w + col) 1) i 0 ≡ cond (eqb (i / w) y && (leb x (i % w) && ltb (i % w) (col + 1))) 1 (get_or old i 0)
     other ne = rw (same-test w y x col i some ne) (get_or-set_other bytes (y * w + col) i 1 0 ne ∙ before i in_i)
 
+-- the first two modules are painted
+pub painted-two : (w h y x : ℕ) (old : List ℕ) → length old ≡ w * h → 0 < w → y < h → x + 1 < w
+    → (i : ℕ) → i < length old → get_or (set (set old (y * w + x) 1) (y * w + (x + 1)) 1) i 0 ≡ cond (eqb (i / w) y && (leb x (i % w) && ltb (i % w) (x + 2))) 1 (get_or old i 0)
+painted-two w h y x old area some in_y in_x i in_i =
+    let one = place-in h w y x in_y (omega arith) in
+    let two = place-in h w y (x + 1) in_y in_x in
+    let long = length-set old (y * w + x) 1 in
+    let first = painted w h y x x old old some (omega arith) (omega arith) (omega (arith, one)) (λ i l. none i) in
+    let e : x + 1 + 1 ≡ x + 2 = omega arith in
+    painted w h y x (x + 1) (set old (y * w + x) 1) old some in_x (omega arith) (omega (arith, two, long)) (λ i l. first i (omega (arith, long))) i (omega (arith, long))
+    ∙ ap (λ n. cond (eqb (i / w) y && (leb x (i % w) && ltb (i % w) n)) 1 (get_or old i 0)) e
+  where
+    none : (i : ℕ) → get_or old i 0 ≡ cond (eqb (i / w) y && (leb x (i % w) && ltb (i % w) x)) 1 (get_or old i 0)
+    none i = let f : (eqb (i / w) y && (leb x (i % w) && ltb (i % w) x)) ≡ false = grind (arith, nat_tests) in rw f refl
+
 -- one box more is painted
-pub painted-box : (rest : List ℕ) (r c old byte new : ℕ) (all : Bool) → 5 ≤ length rest
-    → cond all 1 old ≡ cond (is_in_boxes rest r c) 1 byte
-    → new ≡ cond (eqb r (get_or rest 1 0) && (leb (get_or rest 0 0) c && ltb c (get_or rest 0 0 + get_or rest 2 0))) 1 byte
-    → cond all 1 old ≡ cond (is_in_boxes (drop 5 rest) r c) 1 new
-painted-box (x ∷ y ∷ modules ∷ high ∷ back ∷ rest) r c old byte new all long e f = e ∙ (swap ∙ sym (ap (λ z. cond (is_in_boxes rest r c) 1 z) f))
+pub painted-box : (x y n high back : ℕ) (more : List ℕ) (r c old byte new : ℕ) (all : Bool)
+    → cond all 1 old ≡ cond (is_in_boxes (x ∷ y ∷ n ∷ high ∷ back ∷ more) r c) 1 byte
+    → new ≡ cond (eqb r y && (leb x c && ltb c (x + n))) 1 byte
+    → cond all 1 old ≡ cond (is_in_boxes more r c) 1 new
+painted-box x y n high back more r c old byte new all e f = e ∙ (swap ∙ sym (ap (λ z. cond (is_in_boxes more r c) 1 z) f))
   where
     either : (a b : Bool) → cond (a || b) 1 byte ≡ cond b 1 (cond a 1 byte)
     either true true = refl
@@ -59,9 +74,8 @@ painted-box (x ∷ y ∷ modules ∷ high ∷ back ∷ rest) r c old byte new al
     turned : eqb y r ≡ eqb r y
     turned = grind (arith, nat_tests)
 
-    swap : cond ((eqb y r && (leb x c && ltb c (x + modules))) || is_in_boxes rest r c) 1 byte ≡ cond (is_in_boxes rest r c) 1 (cond (eqb r y && (leb x c && ltb c (x + modules))) 1 byte)
-    swap = rw turned (either (eqb r y && (leb x c && ltb c (x + modules))) (is_in_boxes rest r c))
-painted-box rest r c old byte new all long e f = absurd (omega arith)
+    swap : cond ((eqb y r && (leb x c && ltb c (x + n))) || is_in_boxes more r c) 1 byte ≡ cond (is_in_boxes more r c) 1 (cond (eqb r y && (leb x c && ltb c (x + n))) 1 byte)
+    swap = rw turned (either (eqb r y && (leb x c && ltb c (x + n))) (is_in_boxes more r c))
 
 -- the whole canvas
 pub canvas-is : (w h n : ℕ) (bytes new numbers : List ℕ) → bytes ≡ replicate (w * h) 0 → n ≡ w * h → length new ≡ w * h

@@ -1,12 +1,12 @@
 -- The sheet of an SVG document.
-use Rattle.std.proofs.Common.{◌≡◌, ◌≤◌, ◌<◌, ◌+◌, ◌*◌, ◌/◌, ◌%◌, ◌∙◌, ◌++◌, ℕ, true, false, cond, List, ◌∷◌, length, get_or, drop, refl, sym, ap, arith, append_assoc, append-nil}
+use Rattle.std.proofs.Common.{◌≡◌, ◌≤◌, ◌<◌, ◌+◌, ◌*◌, ◌/◌, ◌%◌, ◌∙◌, ◌++◌, ℕ, true, false, cond, List, ◌∷◌, suc, length, get_or, drop, refl, sym, ap, subst, arith, append_assoc, append-nil}
 use Rattle.std.proofs.{Math.Nat.mul-div_cancel_left, lemmas.Nat.{div-mul-add, mod-mul-add}, lemmas.List.FromFn.get_or-map-range_with_len}
 use Rattle.std.specs.Prelude.{codes, decimal}
 use Rattle.qr_matrix.specs.Grid.{Grid}
 use Rattle.qr_drawing.specs.{Raster.{is_dark_at, raster_width}, Svg.{background, closing, declaration, foreground, numbered, opening, square_at, stack_path, svg_document}}
 use Rattle.qr_drawing.specs.declared.drawing.Drawing.TheVariants.{Svg}
-use Rattle.qr_parsing.specs.{Parsing.IsDrawingOf, Steps.Sheet.{ShowsOn, bytes_in, count_in, is_dark_byte, is_dark_on, kind_in, width_in}, Steps.Svg.{canvas_of, is_in_boxes, numbers_after, numbers_in}}
-use Rattle.qr_parsing.proofs.lemmas.{sheet.SheetLemmas.{one-width, raster-wide, shows-by}, svg.BoxLemmas.{all_numbers, boxes-dark, stack-read}, svg.NumberLemmas.number-read, text.PlaceLemmas.place-in}
+use Rattle.qr_parsing.specs.{Parsing.IsDrawingOf, Steps.Sheet.{ShowsOn, bytes_in, count_in, is_dark_byte, is_dark_on, kind_in, width_in}, Steps.Svg.{IsPath, canvas_of, is_in_boxes, numbers_after, numbers_in, path_in}}
+use Rattle.qr_parsing.proofs.lemmas.{sheet.SheetLemmas.{one-width, raster-wide, shows-by}, svg.BoxLemmas.{all_numbers, boxes-dark, stack-is-path, stack-read}, svg.NumberLemmas.number-read, svg.PathLemmas.{decimal-passed, path-from}, text.PlaceLemmas.place-in}
 
 -- the numbers before the boxes
 head_numbers : ℕ → ℕ → List ℕ → List ℕ
@@ -45,6 +45,20 @@ document-read w h path numbers a b read =
     ∙ ap (λ l. h ∷ 0 ∷ 0 ∷ l) (number-read w 34 _ a refl
     ∙ ap (some w) (number-read h 34 _ b refl
     ∙ ap (λ l. h ∷ 0 ∷ l) (read end ∙ append-nil numbers)))))
+
+-- the path of a document is from its first `M` on
+document-path : (w h : ℕ) (path : List ℕ) → w ≤ 99999 → h ≤ 99999
+    → path_in (declaration ++ opening w h ++ background w h ++ (codes "<path fill=\"#000000\" d=\"" ++ path ++ codes "\"/>\n") ++ closing) ≡ path_in (path ++ (codes "\"/>\n" ++ codes "</svg>\n"))
+document-path w h path a b =
+    let boxes = path ++ (codes "\"/>\n" ++ codes "</svg>\n") in
+    let last = decimal h ++ ((codes "\" fill=\"#ffffff\"/>\n" ++ codes "<path fill=\"#000000\" d=\"") ++ boxes) in
+    let back = decimal w ++ (codes "\" height=\"" ++ last) in
+    let second = decimal h ++ ((codes "\" shape-rendering=\"crispEdges\">\n" ++ codes "<rect x=\"0\" y=\"0\" width=\"") ++ back) in
+    ap path_in (document-split w h path)
+    ∙ (decimal-passed (suc w) w (codes " " ++ second) (omega arith) a
+    ∙ (decimal-passed (suc h) h ((codes "\" shape-rendering=\"crispEdges\">\n" ++ codes "<rect x=\"0\" y=\"0\" width=\"") ++ back) (omega arith) b
+    ∙ (decimal-passed (suc w) w (codes "\" height=\"" ++ last) (omega arith) a
+    ∙ decimal-passed (suc h) h ((codes "\" fill=\"#ffffff\"/>\n" ++ codes "<path fill=\"#000000\" d=\"") ++ boxes) (omega arith) b)))
 
 -- in this module, `text` is a drawing
 module _ (margin : ℕ) (squares : List Grid) (text : List ℕ) (h : IsDrawingOf Svg margin squares text) where
@@ -125,6 +139,22 @@ module _ (margin : ℕ) (squares : List Grid) (text : List ℕ) (h : IsDrawingOf
 
   pub svg-sheet : ShowsOn Svg (width_in Svg text) (count_in Svg text) (bytes_in Svg text) margin squares
   svg-sheet = shows-by Svg wide (width_in Svg text) (length squares) (count_in Svg text) canvas (bytes_in Svg text) margin squares width-is count-is bytes-are shows
+
+  -- its path
+  pub svg-path : IsPath (drop 16 (numbers_in text)) (path_in text)
+  unfolding head_numbers wide high svg_document foreground
+  svg-path =
+      let w = wide-in in
+      let few = h.few in
+      let end = codes "\"/>\n" ++ codes "</svg>\n" in
+      let bound : wide * length squares ≤ 687 * 16 = product wide (length squares) w.1 few in
+      let is : path_in text ≡ path_in (stack_path margin squares ++ end) = ap path_in h.is_drawn ∙ document-path wide high (stack_path margin squares) (omega (arith, w.1)) (omega arith) in
+      let path = stack-is-path margin squares end (λ k lt. let e = one-width margin k squares h.one_side lt in omega (arith, w.1)) few refl in
+      let nums : all_numbers margin squares ≡ drop 16 (numbers_in text) = sym (ap (drop 16) numbers) in
+      subst (λ n. IsPath n (path_in text)) nums (subst (IsPath (all_numbers margin squares)) (sym is) (path-from (all_numbers margin squares) (stack_path margin squares ++ end) path))
+    where
+      product : (a b : ℕ) → a ≤ 687 → b ≤ 16 → a * b ≤ 687 * 16
+      product a b l m = grind arith
 
   pub svg-kind : kind_in text ≡ Svg
   unfolding svg_document declaration

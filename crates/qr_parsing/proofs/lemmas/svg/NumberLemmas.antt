@@ -1,10 +1,11 @@
 -- The numbers of texts, and which places are in boxes.
-use Rattle.std.proofs.Common.{◌≡◌, ◌≤◌, ◌<◌, ◌+◌, ◌-◌, ◌*◌, ◌/◌, ◌%◌, ◌∙◌, ◌++◌, ◌||◌, ℕ, zero, suc, min, Bool, true, false, List, [], ◌∷◌, refl, sym, ap, arith, inl, inr, append_assoc}
+use Rattle.std.proofs.Common.{◌≡◌, ◌≤◌, ◌<◌, ◌+◌, ◌-◌, ◌*◌, ◌/◌, ◌%◌, ◌∙◌, ◌++◌, ◌||◌, ℕ, zero, suc, min, cond, ◌^◌, Bool, true, false, List, [], ◌∷◌, length, drop, get_or, refl, sym, ap, arith, inl, inr, add-one, append_assoc, drop-cons, length-append}
+use Rattle.std.proofs.Math.Nat.{pow-suc}
 use Rattle.std.{proofs.{lemmas.Fmt.{decimal_digit, decimal_step}, lemmas.Bool.cases_lt, lemmas.Bool.Decides.nat_tests}, specs.Prelude.{codes, decimal}}
 use Rattle.qr_drawing.specs.Raster.{texts_below}
 use Rattle.qr_drawing.specs.Svg.{box_path, numbered}
 use Rattle.qr_drawing.proofs.Facts.{no-texts}
-use Rattle.qr_parsing.specs.Steps.Svg.{is_digit, is_in_boxes, numbers_after}
+use Rattle.qr_parsing.specs.Steps.Svg.{is_digit, is_in_boxes, leading, numbers_after}
 use Rattle.qr_parsing.proofs.lemmas.text.PlaceLemmas.{texts-first}
 
 -- one more digit
@@ -40,7 +41,7 @@ unfoldable pub box_numbers : ℕ → ℕ → ℕ → List ℕ
 box_numbers x y n = x ∷ y ∷ n ∷ 1 ∷ n ∷ []
 
 -- a box by its parts, and what follows
-box-split : (x y n : ℕ) (rest : List ℕ) → box_path x y n ++ rest
+pub box-split : (x y n : ℕ) (rest : List ℕ) → box_path x y n ++ rest
     ≡ 77 ∷ (decimal x ++ (32 ∷ (decimal y ++ (104 ∷ (decimal n ++ (118 ∷ 49 ∷ 104 ∷ 45 ∷ (decimal n ++ (122 ∷ rest))))))))
 unfolding box_path numbered
 box-split x y n rest = regroup (codes "M") (decimal x) (codes " ") (decimal y) (codes "h") (decimal n) (codes "v1h-") (decimal n) (codes "z") rest
@@ -71,6 +72,89 @@ texts-read (suc n) f g h rest =
     ∙ (ap (λ t. g 0 ++ t) (texts-read n (λ i. f (suc i)) (λ i. g (suc i)) (λ k lt. h (suc k) (omega arith)) rest)
     ∙ (sym (append_assoc (g 0) (texts_below n (λ i. g (suc i))) (numbers_after 0 false rest))
     ∙ ap (λ t. t ++ numbers_after 0 false rest) (sym (texts-first n g))))))
+
+-- ---- numbers and boxes that a text begins with
+
+-- one more digit
+leading-digit : (m d : ℕ) (rest : List ℕ) → d < 10 → leading m ((48 + d) ∷ rest) ≡ leading (m * 10 + d) rest
+unfolding leading
+leading-digit m d rest lt =
+    let e : is_digit (48 + d) ≡ true = grind (arith, nat_tests) in
+    let f : m * 10 + (48 + d - 48) ≡ m * 10 + d = omega arith in
+    rw (e, f) refl
+
+-- the digits of a number
+leading-decimal : (f n : ℕ) (rest : List ℕ) → n < f → n ≤ 99999 → leading 0 (decimal n ++ rest) ≡ leading n rest
+leading-decimal zero n rest lt le = absurd (omega arith)
+leading-decimal (suc f) n rest lt le = elim (cases_lt n 10) [
+  | inl l ↦
+      let e : 0 * 10 + n ≡ n = omega arith in
+      ap (λ t. leading 0 (t ++ rest)) (decimal_digit n l) ∙ (leading-digit 0 n rest l ∙ ap (λ z. leading z rest) e)
+  | inr g ↦
+      let e : n / 10 * 10 + n % 10 ≡ n = omega arith in
+      ap (λ t. leading 0 (t ++ rest)) (decimal_step n g (omega arith))
+      ∙ (ap (leading 0) (append_assoc (decimal (n / 10)) ((48 + n % 10) ∷ []) rest)
+      ∙ (leading-decimal f (n / 10) ((48 + n % 10) ∷ rest) (omega arith) (omega arith)
+      ∙ (leading-digit (n / 10) (n % 10) rest (omega arith) ∙ ap (λ z. leading z rest) e)))
+]
+
+-- a number, and a byte after it that is no digit
+pub leading-read : (n b : ℕ) (rest : List ℕ) → n ≤ 99999 → is_digit b ≡ false → leading 0 (decimal n ++ (b ∷ rest)) ≡ (n, rest)
+unfolding leading
+leading-read n b rest le e = leading-decimal (suc n) n (b ∷ rest) (omega arith) le ∙ rw e refl
+
+-- a digit is a byte that is at most 9 more than `0`
+pub digit-by : (b : ℕ) → b < 256 → (b + 208) % 256 ≤ 9 → is_digit b ≡ true
+digit-by b lt le =
+    let low : 48 ≤ b = omega arith in
+    let high : b < 58 = omega arith in
+    grind (arith, nat_tests)
+
+pub no-digit-by : (b : ℕ) → b < 256 → 9 < (b + 208) % 256 → is_digit b ≡ false
+no-digit-by b lt gt = elim (cases_lt b 48) [
+  | inl l ↦ grind (arith, nat_tests)
+  | inr g ↦ let high : 58 ≤ b = omega arith in grind (arith, nat_tests)
+]
+
+-- a byte that is no digit ends a number
+pub leading-stop : (m b : ℕ) (bytes : List ℕ) → is_digit b ≡ false → leading m (b ∷ bytes) ≡ (m, bytes)
+unfolding leading
+leading-stop m b bytes e = rw e refl
+
+-- a digit does not
+pub leading-more : (m b : ℕ) (bytes : List ℕ) → is_digit b ≡ true → leading m (b ∷ bytes) ≡ leading (m * 10 + (b - 48)) bytes
+unfolding leading
+leading-more m b bytes e = rw e refl
+
+-- what follows a number is shorter
+pub leading-shorter : (m : ℕ) (bytes : List ℕ) → length (leading m bytes).1 ≤ length bytes - 1
+unfolding leading
+leading-shorter m [] = omega arith
+leading-shorter m (b ∷ bytes) =
+    let h = leading-shorter (m * 10 + (b - 48)) bytes in
+    elim (is_digit b) as (λ d. length (cond d (leading (m * 10 + (b - 48)) bytes) (m, bytes)).1 ≤ suc (length bytes) - 1) [ true ↦ omega arith | false ↦ omega arith ]
+
+-- the bytes from an index on
+pub drop-one : (bytes : List ℕ) (j : ℕ) → j < length bytes → drop j bytes ≡ get_or bytes j 0 ∷ drop (j + 1) bytes
+drop-one bytes j lt = rw add-one (drop-cons bytes j 0 lt)
+
+-- a number with one digit more
+pub one-digit-more : (n d i : ℕ) → n < 10 ^ i → d < 10 → n * 10 + d < 10 ^ (i + 1)
+one-digit-more n d i lt small = let e : 10 ^ (i + 1) ≡ 10 ^ i * 10 = rw add-one (pow-suc 10 i) in omega (arith, e)
+
+-- numbers of one digit, of two and of three
+pub digits-one : (n : ℕ) → n < 10 → length (decimal n) ≡ 1
+digits-one n lt = ap length (decimal_digit n lt)
+
+pub digits-two : (n : ℕ) → 10 ≤ n → n < 100 → length (decimal n) ≡ 2
+digits-two n le lt =
+    let more = ap length (decimal_step n le (omega arith)) ∙ length-append (decimal (n / 10)) ((48 + n % 10) ∷ []) in
+    omega (arith, more, digits-one (n / 10) (omega arith))
+
+pub digits-three : (n : ℕ) → 100 ≤ n → n ≤ 999 → length (decimal n) ≡ 3
+digits-three n le lt =
+    let more = ap length (decimal_step n (omega arith) (omega arith)) ∙ length-append (decimal (n / 10)) ((48 + n % 10) ∷ []) in
+    omega (arith, more, digits-two (n / 10) (omega arith) (omega arith))
 
 -- ---- places in boxes
 

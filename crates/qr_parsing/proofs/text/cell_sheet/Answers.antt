@@ -22,5 +22,5 @@ returns c text kind cells =
       kind_is = sym kind;
       width_is = w;
       count_is = block-count _ c.div_ceil.result c.position_of-width.result c.args.cells.now text (omega arith) (omega arith) w cells;
-      bytes_is = cells;
+      bytes_is = λ k m s h. cells;
     }

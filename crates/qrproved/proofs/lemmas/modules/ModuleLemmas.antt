@@ -1,8 +1,6 @@
 -- Where rows and squares of modules are among bytes: as blocks of the same length, one block after another.
-use Rattle.std.proofs.Common.{◌≡◌, ℕ, ◌+◌, ◌*◌, ◌<◌, ◌≤◌, ◌⊎◌, List, [], ◌∷◌, length, get_or, slice_index_or, arith}
-use Rattle.{std.proofs.Math.Nat.mul-le-mul_right, qr_matrix.specs.Grid.{Grid, colour, light}}
-use Rattle.std.proofs.lemmas.List.{get_or-map}
-use Rattle.qr_symbol.specs.{declared.symbol.Symbol.Symbol, Series.squares_of}
+use Rattle.std.proofs.Common.{◌≡◌, ℕ, ◌+◌, ◌*◌, ◌<◌, ◌≤◌, ◌⊎◌, List, [], ◌∷◌, length, slice_index_or, arith}
+use Rattle.{std.proofs.Math.Nat.mul-le-mul_right, qr_matrix.specs.Grid.{Grid, colour}}
 use Rattle.qrproved.specs.{Modules.HoldsSquares, Modules.byte_of}
 
 -- a block ends before the later ones begin
@@ -12,10 +10,6 @@ block-end s k n l = search (arith, mul-le-mul_right)
 -- an index inside a block is inside all blocks together
 pub place-in : (s k c n : ℕ) → k < n → c < s → k * s + c < n * s
 place-in s k c n l m = let h = block-end s k n l in omega (arith, h)
-
--- the square of the symbol with index k in a list
-pub item-square : (ss : List Symbol) (i : ℕ) (s : Symbol) → i < length ss → s ≡ get_or ss i s → get_or (squares_of ss) i (light 0) ≡ s.matrix
-item-square ss i s l is = search (arith, get_or-map)
 
 -- the bytes of one square are those of a list with this square alone
 pub one-held : (side : ℕ) (g : Grid) (before after : List ℕ) → side ≡ g.side → side * side ≤ length before → length after ≡ length before

@@ -1,0 +1,153 @@
+-- The boxes of a path, one after the other.
+use Rattle.std.proofs.Common.{zero, suc, ◌≡◌, ◌≢◌, ◌≤◌, ◌<◌, ◌+◌, ◌/◌, ◌%◌, ◌∙◌, ◌++◌, ◌⊎◌, ℕ, eqb, not, cond, true, false, List, [], ◌∷◌, length, drop, get_or, decimal, refl, sym, ap, subst, arith, inl, inr, append_assoc, length-append}
+use Rattle.std.proofs.{Math.Seq.drop-append-add, lemmas.{Bool.cases_lt, Bool.Decides.nat_tests, Fmt.{decimal_digit, decimal_nonempty, decimal_step}, List.drop-drop}}
+use Rattle.std.specs.List.{position_or_len}
+use Rattle.qr_drawing.specs.Raster.{texts_below}
+use Rattle.qr_drawing.proofs.Facts.{no-texts}
+use Rattle.qr_parsing.proofs.lemmas.text.PlaceLemmas.{texts-first}
+use Rattle.qr_parsing.specs.Steps.Svg.{IsPath, path_in}
+use Rattle.qr_parsing.proofs.lemmas.svg.NumberLemmas.{box-split}
+
+-- what follows the number of modules of a box, its row and its column
+unfoldable pub after_modules : ℕ → List ℕ → List ℕ
+after_modules n rest = 49 ∷ 104 ∷ 45 ∷ (decimal n ++ (122 ∷ rest))
+
+unfoldable pub after_row : ℕ → List ℕ → List ℕ
+after_row n rest = decimal n ++ (118 ∷ after_modules n rest)
+
+unfoldable pub after_column : ℕ → ℕ → List ℕ → List ℕ
+after_column y n rest = decimal y ++ (104 ∷ after_row n rest)
+
+-- each is long enough for a number to be read before it
+pub modules-long : (n : ℕ) (rest : List ℕ) → length (after_modules n rest) ≡ 4 + length (decimal n) + length rest
+unfolding after_modules
+modules-long n rest = omega (arith, length-append (decimal n) (122 ∷ rest))
+
+pub row-long : (n : ℕ) (rest : List ℕ) → n ≤ 999 → 6 ≤ length (after_row n rest)
+unfolding after_row
+row-long n rest le = omega (arith, length-append (decimal n) (118 ∷ after_modules n rest), modules-long n rest, decimal_nonempty n (omega arith))
+
+pub column-long : (y n : ℕ) (rest : List ℕ) → n ≤ 999 → 6 ≤ length (after_column y n rest)
+unfolding after_column
+column-long y n rest le = omega (arith, length-append (decimal y) (104 ∷ after_row n rest), row-long n rest le)
+
+-- the first box of a path
+pub record FirstBox (numbers bytes : List ℕ) : Type 0 where
+  pub x : ℕ
+  pub y : ℕ
+  pub modules : ℕ
+  pub high : ℕ
+  pub back : ℕ
+  pub more : List ℕ
+  pub rest : List ℕ
+  pub numbers_are : numbers ≡ x ∷ y ∷ modules ∷ high ∷ back ∷ more
+  pub x_in : x ≤ 999
+  pub y_in : y ≤ 99999
+  pub modules_in : modules ≤ 999
+  pub bytes_are : bytes ≡ 77 ∷ (decimal x ++ (32 ∷ after_column y modules rest))
+  pub path : IsPath more rest
+
+-- a path that begins with `M` has one
+pub first-box : (numbers bytes : List ℕ) → IsPath numbers bytes → 0 < length bytes → get_or bytes 0 0 ≡ 77 → FirstBox numbers bytes
+unfolding after_column after_row after_modules
+first-box [] [] h some m = absurd (omega arith)
+first-box [] (b ∷ bytes) h some m =
+    let e : path_in (b ∷ bytes) ≡ 77 ∷ bytes = rw m refl in
+    let no : ◌≡◌ {A = List ℕ} (77 ∷ bytes) [] = sym e ∙ h in
+    absurd (cc no)
+first-box (x ∷ y ∷ n ∷ high ∷ back ∷ more) bytes h some m = record {
+  x = x;
+  y = y;
+  modules = n;
+  high = high;
+  back = back;
+  more = more;
+  rest = h.0;
+  numbers_are = refl;
+  x_in = h.1;
+  y_in = h.2;
+  modules_in = h.3;
+  bytes_are = h.4 ∙ box-split x y n h.0;
+  path = h.5;
+}
+first-box (x ∷ []) bytes h some m = absurd h
+first-box (x ∷ y ∷ []) bytes h some m = absurd h
+first-box (x ∷ y ∷ n ∷ []) bytes h some m = absurd h
+first-box (x ∷ y ∷ n ∷ high ∷ []) bytes h some m = absurd h
+
+-- another path has no box
+pub no-box : (numbers bytes : List ℕ) → IsPath numbers bytes → (length bytes < 7) ⊎ (get_or bytes 0 0 ≢ 77) → numbers ≡ []
+unfolding after_column after_row after_modules
+no-box [] bytes h none = refl
+no-box (x ∷ y ∷ n ∷ high ∷ back ∷ more) bytes h none =
+    let e = h.4 ∙ box-split x y n h.0 in
+    let long = length-append (decimal x) (32 ∷ after_column y n h.0) in
+    absurd (elim none [ inl z ↦ omega (arith, ap length e, long, column-long y n h.0 h.3, decimal_nonempty x (omega (arith, h.1))) | inr o ↦ o (ap (λ l. get_or l 0 0) e) ])
+no-box (x ∷ []) bytes h none = absurd h
+no-box (x ∷ y ∷ []) bytes h none = absurd h
+no-box (x ∷ y ∷ n ∷ []) bytes h none = absurd h
+no-box (x ∷ y ∷ n ∷ high ∷ []) bytes h none = absurd h
+
+-- the path of a text by its index
+pub path-start : (text : List ℕ) → drop (position_or_len (λ byte. eqb byte 77) text) text ≡ path_in text
+path-start [] = refl
+path-start (b ∷ bytes) =
+    let h = path-start bytes in
+    elim (eqb b 77) as (λ d. drop (cond (not d) (1 + position_or_len (λ byte. eqb byte 77) bytes) 0) (b ∷ bytes) ≡ cond d (b ∷ bytes) (path_in bytes)) [
+      | true ↦ refl
+      | false ↦ let e : 1 + position_or_len (λ byte. eqb byte 77) bytes ≡ suc (position_or_len (λ byte. eqb byte 77) bytes) = omega arith in ap (λ n. drop n (b ∷ bytes)) e ∙ h
+    ]
+
+-- the path of a text is behind a digit
+digit-passed : (d : ℕ) (rest : List ℕ) → d < 10 → path_in ((48 + d) ∷ rest) ≡ path_in rest
+digit-passed d rest lt = let e : eqb (48 + d) 77 ≡ false = grind (arith, nat_tests) in rw e refl
+
+-- and behind a number
+pub decimal-passed : (f n : ℕ) (rest : List ℕ) → n < f → n ≤ 99999 → path_in (decimal n ++ rest) ≡ path_in rest
+decimal-passed zero n rest lt le = absurd (omega arith)
+decimal-passed (suc f) n rest lt le = elim (cases_lt n 10) [
+  | inl l ↦ ap (λ t. path_in (t ++ rest)) (decimal_digit n l) ∙ digit-passed n rest l
+  | inr g ↦
+      ap (λ t. path_in (t ++ rest)) (decimal_step n g (omega arith))
+      ∙ (ap path_in (append_assoc (decimal (n / 10)) ((48 + n % 10) ∷ []) rest)
+      ∙ (decimal-passed f (n / 10) ((48 + n % 10) ∷ rest) (omega arith) (omega arith) ∙ digit-passed (n % 10) rest (omega arith)))
+]
+
+-- a path is from its `M` on
+pub path-from : (numbers bytes : List ℕ) → IsPath numbers bytes → IsPath numbers (path_in bytes)
+path-from [] bytes h = ap path_in h
+path-from (x ∷ y ∷ n ∷ high ∷ back ∷ more) bytes h =
+    let e = h.4 ∙ box-split x y n h.0 in
+    let f : path_in bytes ≡ bytes = rw e refl in
+    subst (IsPath (x ∷ y ∷ n ∷ high ∷ back ∷ more)) (sym f) h
+path-from (x ∷ []) bytes h = absurd h
+path-from (x ∷ y ∷ []) bytes h = absurd h
+path-from (x ∷ y ∷ n ∷ []) bytes h = absurd h
+path-from (x ∷ y ∷ n ∷ high ∷ []) bytes h = absurd h
+
+-- the paths of texts, if those of each are known
+pub texts-path : (n : ℕ) (f g : ℕ → List ℕ) → ((k : ℕ) → k < n → (numbers bytes : List ℕ) → IsPath numbers bytes → IsPath (g k ++ numbers) (f k ++ bytes))
+    → (numbers bytes : List ℕ) → IsPath numbers bytes → IsPath (texts_below n g ++ numbers) (texts_below n f ++ bytes)
+texts-path zero f g h numbers bytes path =
+    let P : List ℕ → List ℕ → Type 0 = λ a b. IsPath (a ++ numbers) (b ++ bytes) in
+    subst (λ a. P a (texts_below 0 f)) (sym (no-texts g)) (subst (P []) (sym (no-texts f)) path)
+texts-path (suc n) f g h numbers bytes path =
+    let more = texts_below n (λ i. f (suc i)) in
+    let others = texts_below n (λ i. g (suc i)) in
+    let tail = texts-path n (λ i. f (suc i)) (λ i. g (suc i)) (λ k lt. h (suc k) (omega arith)) numbers bytes path in
+    let all = h 0 (omega arith) (others ++ numbers) (more ++ bytes) tail in
+    let e : texts_below (suc n) g ++ numbers ≡ g 0 ++ (others ++ numbers) = ap (λ t. t ++ numbers) (texts-first n g) ∙ append_assoc (g 0) others numbers in
+    let d : texts_below (suc n) f ++ bytes ≡ f 0 ++ (more ++ bytes) = ap (λ t. t ++ bytes) (texts-first n f) ∙ append_assoc (f 0) more bytes in
+    subst (λ a. IsPath a (texts_below (suc n) f ++ bytes)) (sym e) (subst (IsPath (g 0 ++ (others ++ numbers))) (sym d) all)
+
+-- what follows the `M`
+pub after-m : (text rest : List ℕ) (at : ℕ) → drop at text ≡ 77 ∷ rest → drop (at + 1) text ≡ rest
+after-m text rest at e = sym (drop-drop 1 at text) ∙ ap (drop 1) e
+
+-- what follows the box
+pub after-box : (text rest : List ℕ) (at n back : ℕ) → drop at text ≡ after_modules n rest → back ≡ 4 + length (decimal n) → drop (at + back) text ≡ rest
+unfolding after_modules
+after-box text rest at n back e f =
+    let long : back ≡ suc (suc (suc (length (decimal n) + 1))) = omega arith in
+    sym (drop-drop back at text) ∙ (ap (drop back) e ∙ ap (λ b. drop b (49 ∷ 104 ∷ 45 ∷ (decimal n ++ (122 ∷ rest)))) long
+    ∙ drop-append-add (decimal n) (122 ∷ rest) 1)

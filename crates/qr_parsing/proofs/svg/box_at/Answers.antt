@@ -1,0 +1,122 @@
+use Rattle.std.proofs.Common.{◌≡◌, ◌<◌, ◌+◌, ◌∙◌, ◌∷◌, ℕ, List, decimal, drop, length, get_or, refl, sym, ap, subst, arith, inl, inr, length-drop}
+use Rattle.std.proofs.lemmas.List.{get_or-drop}
+use Rattle.qr_parsing.specs.Steps.Svg.{IsPath}
+use Rattle.qr_parsing.proofs.lemmas.svg.NumberLemmas.{digits-one, digits-two, digits-three}
+use Rattle.qr_parsing.proofs.lemmas.svg.PathLemmas.{FirstBox, after-box, after-m, after_column, after_modules, after_row, column-long, first-box, modules-long, no-box, row-long}
+use Rattle.qr_parsing.proofs.svg.box_at.Goals as goal
+use Rattle.qr_parsing.proofs.svg.box_at.Goals.{then-at-text-via-then-at-text, then-at-text-via-else-at-text+then-text-at-ne77, then-modules-lt10, else-modules-lt10+then-modules-lt100, else-modules-lt10+else-modules-lt100}
+
+-- the box at an `M`
+found : (text numbers : List ℕ) (at : ℕ) → IsPath numbers (drop at text) → at < length text → get_or text at 0 ≡ 77 → FirstBox numbers (drop at text)
+found text numbers at path lt m =
+    let e : at + 0 ≡ at = omega arith in
+    first-box numbers (drop at text) path (omega (arith, length-drop at text)) (get_or-drop at text 0 0 ∙ ap (λ n. get_or text n 0) e ∙ m)
+
+pub returns-then-at-text-clause-reads : goal.returns-then-at-text-clause-reads
+returns-then-at-text-clause-reads c numbers path =
+    let text = c.args.text.now in
+    let at = c.args.at in
+    no-box numbers (drop at text) path (elim c.then-at-text.branch [
+      | then-at-text-via-then-at-text w ↦ let short = w.if-at-text.true in inl (omega (arith, length-drop at text))
+      | then-at-text-via-else-at-text+then-text-at-ne77 w ↦
+          let ne = w.if-text-at-ne77.true in
+          let e : at + 0 ≡ at = omega arith in
+          inr (λ m. ne (sym (get_or-drop at text 0 0 ∙ ap (λ n. get_or text n 0) e) ∙ m))
+    ])
+
+pub returns-in_default-clause-reads : goal.returns-in_default-clause-reads
+returns-in_default-clause-reads c numbers path =
+    let text = c.args.text.now in
+    let b = found text numbers c.args.at path (omega arith) c.if-text-at-ne77.false in
+    absurd (c.in_default.ensures.reads b.x 32 (after_column b.y b.modules b.rest) (omega (arith, b.x_in)) refl (omega (arith, column-long b.y b.modules b.rest b.modules_in))
+    (after-m text _ c.args.at b.bytes_are))
+
+pub returns-then-after_x-text-clause-reads : goal.returns-then-after_x-text-clause-reads
+unfolding after_column after_row after_modules
+returns-then-after_x-text-clause-reads c numbers path =
+    let text = c.args.text.now in
+    let b = found text numbers c.args.at path (omega arith) c.if-text-at-ne77.false in
+    let x : (c.in-Some.x ≡ b.x) × (drop c.in-Some.after_x text ≡ after_column b.y b.modules b.rest) =
+    c.in-Some.ensures.reads b.x 32 (after_column b.y b.modules b.rest) (omega (arith, b.x_in)) refl (omega (arith, column-long b.y b.modules b.rest b.modules_in)) (after-m text _ c.args.at b.bytes_are) in
+    absurd (omega (arith, c.if-after_x-text.true, ap length x.1, length-drop c.in-Some.after_x text, column-long b.y b.modules b.rest b.modules_in))
+
+pub returns-in_default-number_after-clause-reads : goal.returns-in_default-number_after-clause-reads
+unfolding after_column after_row after_modules
+returns-in_default-number_after-clause-reads c numbers path =
+    let text = c.args.text.now in
+    let b = found text numbers c.args.at path (omega arith) c.if-text-at-ne77.false in
+    let x : (c.in-Some.x ≡ b.x) × (drop c.in-Some.after_x text ≡ after_column b.y b.modules b.rest) =
+    c.in-Some.ensures.reads b.x 32 (after_column b.y b.modules b.rest) (omega (arith, b.x_in)) refl (omega (arith, column-long b.y b.modules b.rest b.modules_in)) (after-m text _ c.args.at b.bytes_are) in
+    absurd (c.in_default-number_after.ensures.reads b.y 104 (after_row b.modules b.rest) b.y_in refl (omega (arith, row-long b.modules b.rest b.modules_in)) x.1)
+
+pub returns-then-after_y-text-clause-reads : goal.returns-then-after_y-text-clause-reads
+unfolding after_column after_row after_modules
+returns-then-after_y-text-clause-reads c numbers path =
+    let text = c.args.text.now in
+    let b = found text numbers c.args.at path (omega arith) c.if-text-at-ne77.false in
+    let x : (c.in-Some.x ≡ b.x) × (drop c.in-Some.after_x text ≡ after_column b.y b.modules b.rest) =
+    c.in-Some.ensures.reads b.x 32 (after_column b.y b.modules b.rest) (omega (arith, b.x_in)) refl (omega (arith, column-long b.y b.modules b.rest b.modules_in)) (after-m text _ c.args.at b.bytes_are) in
+    let y : (c.in-Some-number_after.y ≡ b.y) × (drop c.in-Some-number_after.after_y text ≡ after_row b.modules b.rest) =
+    c.in-Some-number_after.ensures.reads b.y 104 (after_row b.modules b.rest) b.y_in refl (omega (arith, row-long b.modules b.rest b.modules_in)) x.1 in
+    absurd (omega (arith, c.if-after_y-text.true, ap length y.1, length-drop c.in-Some-number_after.after_y text, row-long b.modules b.rest b.modules_in))
+
+pub returns-in_default-number_after-2-clause-reads : goal.returns-in_default-number_after-2-clause-reads
+unfolding after_column after_row after_modules
+returns-in_default-number_after-2-clause-reads c numbers path =
+    let text = c.args.text.now in
+    let b = found text numbers c.args.at path (omega arith) c.if-text-at-ne77.false in
+    let x : (c.in-Some.x ≡ b.x) × (drop c.in-Some.after_x text ≡ after_column b.y b.modules b.rest) =
+    c.in-Some.ensures.reads b.x 32 (after_column b.y b.modules b.rest) (omega (arith, b.x_in)) refl (omega (arith, column-long b.y b.modules b.rest b.modules_in)) (after-m text _ c.args.at b.bytes_are) in
+    let y : (c.in-Some-number_after.y ≡ b.y) × (drop c.in-Some-number_after.after_y text ≡ after_row b.modules b.rest) =
+    c.in-Some-number_after.ensures.reads b.y 104 (after_row b.modules b.rest) b.y_in refl (omega (arith, row-long b.modules b.rest b.modules_in)) x.1 in
+    absurd (c.in_default-number_after-2.ensures.reads b.modules 118 (after_modules b.modules b.rest) (omega (arith, b.modules_in)) refl (omega (arith, modules-long b.modules b.rest)) y.1)
+
+pub returns-then-after_modules-back-clause-reads : goal.returns-then-after_modules-back-clause-reads
+unfolding after_column after_row after_modules
+returns-then-after_modules-back-clause-reads c numbers path =
+    let text = c.args.text.now in
+    let b = found text numbers c.args.at path (omega arith) c.if-text-at-ne77.false in
+    let x : (c.in-Some.x ≡ b.x) × (drop c.in-Some.after_x text ≡ after_column b.y b.modules b.rest) =
+    c.in-Some.ensures.reads b.x 32 (after_column b.y b.modules b.rest) (omega (arith, b.x_in)) refl (omega (arith, column-long b.y b.modules b.rest b.modules_in)) (after-m text _ c.args.at b.bytes_are) in
+    let y : (c.in-Some-number_after.y ≡ b.y) × (drop c.in-Some-number_after.after_y text ≡ after_row b.modules b.rest) =
+    c.in-Some-number_after.ensures.reads b.y 104 (after_row b.modules b.rest) b.y_in refl (omega (arith, row-long b.modules b.rest b.modules_in)) x.1 in
+    let n : (c.in-Some-number_after-2.modules ≡ b.modules) × (drop c.in-Some-number_after-2.after_modules text ≡ after_modules b.modules b.rest) =
+    c.in-Some-number_after-2.ensures.reads b.modules 118 (after_modules b.modules b.rest) (omega (arith, b.modules_in)) refl (omega (arith, modules-long b.modules b.rest)) y.1 in
+    let e = n.0 in
+    let many : c.if-modules-lt10.back ≡ 4 + length (decimal b.modules) = elim c.if-modules-lt10.branch [
+      | then-modules-lt10 w ↦ let lt = w.if-modules-lt10.true in omega (arith, w.back-is, digits-one b.modules (omega arith))
+      | else-modules-lt10+then-modules-lt100 w ↦
+          let le = w.if-modules-lt10.false in
+          let lt = w.if-modules-lt100.true in
+          omega (arith, w.back-is, digits-two b.modules (omega arith) (omega arith))
+      | else-modules-lt10+else-modules-lt100 w ↦ let le = w.if-modules-lt100.false in omega (arith, w.back-is, digits-three b.modules (omega arith) b.modules_in)
+    ] in
+    absurd (omega (arith, ap length n.1, length-drop c.in-Some-number_after-2.after_modules text, modules-long b.modules b.rest, many))
+
+pub returns-clause-reads : goal.returns-clause-reads
+unfolding after_column after_row after_modules
+returns-clause-reads c numbers path =
+    let text = c.args.text.now in
+    let b = found text numbers c.args.at path (omega arith) c.if-text-at-ne77.false in
+    let x : (c.in-Some.x ≡ b.x) × (drop c.in-Some.after_x text ≡ after_column b.y b.modules b.rest) =
+    c.in-Some.ensures.reads b.x 32 (after_column b.y b.modules b.rest) (omega (arith, b.x_in)) refl (omega (arith, column-long b.y b.modules b.rest b.modules_in)) (after-m text _ c.args.at b.bytes_are) in
+    let y : (c.in-Some-number_after.y ≡ b.y) × (drop c.in-Some-number_after.after_y text ≡ after_row b.modules b.rest) =
+    c.in-Some-number_after.ensures.reads b.y 104 (after_row b.modules b.rest) b.y_in refl (omega (arith, row-long b.modules b.rest b.modules_in)) x.1 in
+    let n : (c.in-Some-number_after-2.modules ≡ b.modules) × (drop c.in-Some-number_after-2.after_modules text ≡ after_modules b.modules b.rest) =
+    c.in-Some-number_after-2.ensures.reads b.modules 118 (after_modules b.modules b.rest) (omega (arith, b.modules_in)) refl (omega (arith, modules-long b.modules b.rest)) y.1 in
+    let e = n.0 in
+    let many : c.if-modules-lt10.back ≡ 4 + length (decimal b.modules) = elim c.if-modules-lt10.branch [
+      | then-modules-lt10 w ↦ let lt = w.if-modules-lt10.true in omega (arith, w.back-is, digits-one b.modules (omega arith))
+      | else-modules-lt10+then-modules-lt100 w ↦
+          let le = w.if-modules-lt10.false in
+          let lt = w.if-modules-lt100.true in
+          omega (arith, w.back-is, digits-two b.modules (omega arith) (omega arith))
+      | else-modules-lt10+else-modules-lt100 w ↦ let le = w.if-modules-lt100.false in omega (arith, w.back-is, digits-three b.modules (omega arith) b.modules_in)
+    ] in
+    let after = after-box text b.rest c.in-Some-number_after-2.after_modules b.modules c.if-modules-lt10.back n.1 many in (
+      b.high,
+      b.back,
+      b.more,
+      b.numbers_are ∙ (λ i. sym x.0 i ∷ sym y.0 i ∷ sym n.0 i ∷ b.high ∷ b.back ∷ b.more),
+      subst (IsPath b.more) (sym after) b.path,
+    )

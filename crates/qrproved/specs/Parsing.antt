@@ -1,0 +1,27 @@
+-- What `qrproved_parse_drawing` writes for a text, and when its buffer is too short.
+use Rattle.std.specs.Prelude.{◌≡◌, ℕ, ◌*◌, ◌<◌, List, length}
+use Rattle.qr_matrix.specs.Grid.{Grid}
+use Rattle.qr_drawing.specs.declared.drawing.Drawing.{Drawing}
+use Rattle.qr_drawing.specs.Svg.{square_at}
+use Rattle.qr_parsing.specs.Parsing.{IsDrawingOf}
+use Rattle.qrproved.specs.declared.parsing.QrprovedDrawn.{QrprovedDrawn}
+use Rattle.qrproved.specs.Drawing.{drawing_of}
+use Rattle.qrproved.specs.Modules.{HoldsSquares}
+
+-- The text is the drawing of squares whose modules were written to the buffer; their number and side, the type and the
+-- margin are in `d` [own]
+pub record IsGivenDrawing (text : List ℕ) (before after : List ℕ) (d : QrprovedDrawn) : Type 0 where
+  pub squares : List Grid
+  pub number : d.drawing < 4
+  pub drawing : IsDrawingOf (drawing_of d.drawing) d.margin squares text
+  pub count : d.count ≡ length squares
+  pub side : d.side ≡ (square_at squares 0).side
+  pub holds : HoldsSquares d.side squares before after
+
+-- The text is the drawing of squares that have more modules together than `buffer` has bytes [own]
+pub record HasMoreModules (text buffer : List ℕ) : Type 0 where
+  pub kind : Drawing
+  pub margin : ℕ
+  pub squares : List Grid
+  pub drawing : IsDrawingOf kind margin squares text
+  pub room : length buffer < length squares * ((square_at squares 0).side * (square_at squares 0).side)
