@@ -2,8 +2,8 @@
 
 use crate::answer::Answer;
 use qr_bits::{
-    BitFault, Mode, ParseFault, Rule, Segment, codewords, covers, fold, longest_fit, parse,
-    segments,
+    BitFault, Interpretation, Mode, ParseFault, Rule, Segment, codewords, covers, fold,
+    longest_fit, parse, segments,
 };
 use qr_layout::{Level, Version};
 use std::alloc::{AllocError, Global};
@@ -60,7 +60,15 @@ pub fn encoded(alloc: Global) -> Result<Answer, AllocError> {
     if !covers(&input, &segs) {
         return Ok(Answer::Other);
     }
-    let answer = match codewords(alloc, &input, &segs, None, Version::FIRST, Level::M) {
+    let answer = match codewords(
+        alloc,
+        &input,
+        &segs,
+        None,
+        Interpretation::Default,
+        Version::FIRST,
+        Level::M,
+    ) {
         Ok(data) => Answer::of(data.as_slice() == DATA.as_slice()),
         Err(BitFault::Memory) => BITS_OUT,
         Err(BitFault::TooLong) => Answer::Other,

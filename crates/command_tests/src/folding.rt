@@ -1,7 +1,7 @@
 //! Tests of the options `-i`, which folds small letters to capitals, and `-k`, which allows kanji mode.
 
 use crate::runs::{Devices, run_with};
-use qr_bits::{Mode, Rule, Segment};
+use qr_bits::{Item, Mode, Rule, Segment};
 use qr_layout::{Level, Version};
 use qr_symbol::{encode, read_symbol};
 use std::test::Fail;
@@ -67,8 +67,8 @@ fn kanji_are_read(rt: HostRuntime) -> Result<(), Fail> {
         mode: Mode::Kanji,
         len: 4,
     };
-    assert_eq!(rt; parsed.segments.len(), 1);
-    assert_eq!(rt; parsed.segments.first().copied(), Some(whole));
+    assert_eq!(rt; parsed.items.len(), 1);
+    assert_eq!(rt; parsed.items.first().copied(), Some(Item::Data(whole)));
     assert_eq!(rt; parsed.bytes.as_slice(), pairs.as_slice());
     Ok(())
 }

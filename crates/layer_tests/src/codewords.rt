@@ -5,7 +5,8 @@ ghost use Rattle.std.specs.Option.{ForSome};
 ghost use Rattle.qr_bits.specs.declared.modes.TheConstants.{INPUT_MAX};
 
 use qr_bits::{
-    BitFault, Header, INPUT_MAX, Mode, ParseFault, Segment, codewords, covers, parity, parse,
+    BitFault, EciChange, Header, INPUT_MAX, Interpretation, Item, Mode, ParseFault, Segment,
+    codewords, covers, parity, parse,
 };
 use qr_layout::{Level, Version};
 use std::test::Fail;
@@ -31,7 +32,15 @@ fn encode(
     if !covers(input, &segs) {
         return Err("the segment is not the input".into());
     }
-    Ok(codewords(rt.alloc(), input, &segs, header, version, level)?)
+    Ok(codewords(
+        rt.alloc(),
+        input,
+        &segs,
+        header,
+        Interpretation::Default,
+        version,
+        level,
+    )?)
 }
 
 #[test]
@@ -146,7 +155,15 @@ fn digits_that_fit(rt: HostRuntime) -> Result<(), Fail> {
     };
     let digits = [b'7'; 42];
     assert!(rt; covers(&digits, &[more]));
-    let data = codewords(rt.alloc(), &digits, &[more], None, version, Level::L);
+    let data = codewords(
+        rt.alloc(),
+        &digits,
+        &[more],
+        None,
+        Interpretation::Default,
+        version,
+        Level::L,
+    );
     assert_eq!(rt; data.err(), Some(BitFault::TooLong), "42 digits");
     Ok(())
 }
@@ -164,8 +181,8 @@ fn says(
     let parsed = parse(rt.alloc(), codewords, version)?;
     Ok(
         parsed.header == header
-            && parsed.segments.len() == usize::from(segment.is_some())
-            && parsed.segments.first().copied() == segment
+            && parsed.items.len() == usize::from(segment.is_some())
+            && parsed.items.first().copied() == segment.map(Item::Data)
             && parsed.bytes.as_slice() == bytes,
     )
 }
@@ -216,6 +233,51 @@ fn contents(rt: HostRuntime) -> Result<(), Fail> {
     Ok(())
 }
 
+// The bytes and the ECI headers with the number of bytes before each.
+fn means(
+    rt: &HostRuntime,
+    codewords: &[u8],
+    bytes: &[u8],
+    ecis: &[(u32, usize)],
+) -> Result<bool, Fail>
+    requires { length codewords.now ≤ 3706 }
+{
+    let parsed = parse(rt.alloc(), codewords, Version::FIRST)?;
+    let found = parsed.ecis.iter().map(|it| (it.number, it.begin));
+    Ok(parsed.bytes.as_slice() == bytes && found.eq(ecis.iter().copied()))
+}
+
+// The rows are of the standard (Greek letters, FNC1 in second position), or worked out by hand from its tables.
+#[test]
+fn interpretations(rt: HostRuntime) -> Result<(), Fail> {
+    let greek = [0x70, 0x94, 0x05, 0xA1, 0xA2, 0xA3, 0xA4, 0xA5, 0x00];
+    assert!(rt;
+        means(&rt, &greek, b"\xA1\xA2\xA3\xA4\xA5", &[(9, 0)])?,
+        "ECI 9 before five bytes"
+    );
+    let fields = [
+        0x52, 0x03, 0x1E, 0x84, 0x2B, 0xAE, 0x9C, 0x69, 0x00, 0x89, 0x49, 0x40,
+    ];
+    assert!(rt;
+        means(&rt, &fields, b"A\x1DB%C%%", &[(26, 5)])?,
+        "fields after FNC1, and two % in byte mode under ECI 26"
+    );
+    let application = [0x92, 0x52, 0x02, 0x1C, 0xC0, 0x5E, 0x00];
+    assert!(rt;
+        means(&rt, &application, b"AA12", &[])?,
+        "FNC1 in second position"
+    );
+    let parsed = parse(rt.alloc(), &application, Version::FIRST)?;
+    assert_eq!(rt; parsed.items.first().copied(), Some(Item::Fnc1Second(37)));
+    let change = EciChange {
+        number: 26,
+        begin: 5,
+    };
+    let parsed = parse(rt.alloc(), &fields, Version::FIRST)?;
+    assert_eq!(rt; parsed.ecis.first().copied(), Some(change));
+    Ok(())
+}
+
 #[test]
 fn faults(rt: HostRuntime) -> Result<(), Fail> {
     let bad_value = Some(ParseFault::BadValue);
@@ -255,7 +317,7 @@ fn faults(rt: HostRuntime) -> Result<(), Fail> {
         "half a header"
     );
     let bad_mode = Some(ParseFault::BadMode);
-    assert_eq!(rt; fault(&rt, &[0x70])?, bad_mode, "an indicator of no mode");
+    assert_eq!(rt; fault(&rt, &[0x60])?, bad_mode, "an indicator of no mode");
     assert_eq!(rt;
         fault(&rt, &[0x30, 0x10, 0x83])?,
         bad_mode,
@@ -264,21 +326,22 @@ fn faults(rt: HostRuntime) -> Result<(), Fail> {
     Ok(())
 }
 
-// All 65,536 pairs of codewords, counted by their fault. `BadValue` does not occur, since two codewords are too short
-// for the data of a segment.
+// All 65,536 pairs of codewords, counted by their fault. Two codewords are too short for the data of a segment, so
+// `BadValue` is the fault of an ECI designator or of an application indicator.
 #[test]
 fn all_pairs_of_codewords(rt: HostRuntime) -> Result<(), Fail> {
-    let (mut read, mut cut, mut no_mode) = (0u32, 0u32, 0u32);
+    let (mut read, mut cut, mut no_mode, mut bad_value) = (0u32, 0u32, 0u32, 0u32);
     for first in 0..=255u8 {
         for second in 0..=255u8 {
             match fault(&rt, &[first, second])? {
                 None => read = read.saturating_add(1),
                 Some(ParseFault::Cut) => cut = cut.saturating_add(1),
                 Some(ParseFault::BadMode) => no_mode = no_mode.saturating_add(1),
+                Some(ParseFault::BadValue) => bad_value = bad_value.saturating_add(1),
                 Some(other) => return Err(other.into()),
             }
         }
     }
-    assert_eq!(rt; (read, cut, no_mode), (4110, 20444, 40982));
+    assert_eq!(rt; (read, cut, no_mode, bad_value), (4904, 24628, 33796, 2208));
     Ok(())
 }

@@ -5,7 +5,7 @@ pub use Rattle.qr_bits.proofs.lemmas.best_modes.ChoiceLemmas.{byte_used}
 pub use Rattle.qr_bits.proofs.lemmas.segment.CoverLemmas.{from_turn, in_turn}
 pub use Rattle.qr_bits.proofs.lemmas.padding.CountLemmas.{capacity_26, capacity_least, capacity_nine, fitting_medium, fitting_short}
 unfoldable pub use Rattle.qr_bits.proofs.lemmas.segment.CoverLemmas.{CoversInTurn}
-pub use Rattle.qr_bits.proofs.lemmas.laws.DataLemmas.{data_again, data_one, length-data, length-stream}
+pub use Rattle.qr_bits.proofs.lemmas.laws.DataLemmas.{data_one, data_plain, length-data, length-stream}
 pub use Rattle.qr_bits.proofs.lemmas.longest_prefix.MirrorLemmas.{empty_fits}
 pub use Rattle.qr_bits.proofs.lemmas.parsing.ParsingLemmas.{fault-read}
 pub use Rattle.qr_bits.proofs.lemmas.laws.PieceLemmas.{piece_fits}

@@ -4,6 +4,7 @@ pub mod modes
 pub mod segment
 pub mod stream
 pub mod padding
+pub mod interpretation
 pub mod parsing
 pub mod run_state
 pub mod best_modes

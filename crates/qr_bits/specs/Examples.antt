@@ -4,6 +4,9 @@ use Rattle.qr_bits.specs.declared.modes.Mode.{Mode}
 use Rattle.qr_bits.specs.declared.modes.Mode.TheVariants.{Numeric, Alphanumeric, Byte, Kanji}
 use Rattle.qr_bits.specs.declared.segment.Segment.{Segment}
 use Rattle.qr_bits.specs.declared.header.Header.{Header}
+use Rattle.qr_bits.specs.declared.interpretation.EciChange.{EciChange}
+use Rattle.qr_bits.specs.declared.interpretation.Item.{Item}
+use Rattle.qr_bits.specs.declared.interpretation.Item.TheVariants.{Data, Eci, Fnc1First, Fnc1Second}
 use Rattle.qr_bits.specs.declared.fault.ParseFault.{ParseFault}
 use Rattle.qr_bits.specs.declared.fault.ParseFault.TheVariants.{BadMode, Cut, BadValue}
 
@@ -39,9 +42,47 @@ middle = record { position = 1; last = 2; parity = 0x48 }
 abbrev pub middle_data : List ℕ
 middle_data = 0x31 ∷ 0x24 ∷ 0x84 ∷ 0x03 ∷ 0x46 ∷ 0x47 ∷ 0x48 ∷ 0x00 ∷ 0xEC ∷ []
 
+-- Codewords of symbols with an ECI header or FNC1, with their items, ECIs and bytes: Greek letters after ECI 9, which the
+-- standard encodes; three ECI headers, of one, two and three bytes, around `A` and `B`; FNC1 in second position with the
+-- indicator 37 and `AA12`; FNC1 in first position before ECI 3, which others write; and the characters `A%B%%C` after
+-- FNC1, which are two fields, before two `%` in byte mode under ECI 26 [own]
+abbrev pub interpreted : List (List ℕ × List Item × List EciChange × List ℕ)
+interpreted = (
+  0x70 ∷ 0x94 ∷ 0x05 ∷ 0xA1 ∷ 0xA2 ∷ 0xA3 ∷ 0xA4 ∷ 0xA5 ∷ 0x00 ∷ [],
+  Eci (record { number = 9; codewords = 1 }) ∷ Data (record { mode = Byte; len = 5 }) ∷ [],
+  record { number = 9; begin = 0 } ∷ [],
+  0xA1 ∷ 0xA2 ∷ 0xA3 ∷ 0xA4 ∷ 0xA5 ∷ [],
+)
+    ∷ (
+      0x70 ∷ 0x34 ∷ 0x01 ∷ 0x41 ∷ 0x78 ∷ 0x01 ∷ 0xA4 ∷ 0x01 ∷ 0x42 ∷ 0x7C ∷ 0xF4 ∷ 0x23 ∷ 0xF0 ∷ [],
+      Eci (record { number = 3; codewords = 1 }) ∷ Data (record { mode = Byte; len = 1 }) ∷ Eci (record { number = 26; codewords = 2 }) ∷ Data (record { mode = Byte; len = 1 }) ∷ Eci (record { number = 999999; codewords = 3 }) ∷ [],
+      record { number = 3; begin = 0 } ∷ record { number = 26; begin = 1 } ∷ record { number = 999999; begin = 2 } ∷ [],
+      0x41 ∷ 0x42 ∷ [],
+    )
+    ∷ (
+      0x92 ∷ 0x52 ∷ 0x02 ∷ 0x1C ∷ 0xC0 ∷ 0x5E ∷ 0x00 ∷ [],
+      Fnc1Second 37 ∷ Data (record { mode = Alphanumeric; len = 4 }) ∷ [],
+      [],
+      0x41 ∷ 0x41 ∷ 0x31 ∷ 0x32 ∷ [],
+    )
+    ∷ (
+      0x57 ∷ 0x03 ∷ 0x40 ∷ 0x14 ∷ 0x10 ∷ [],
+      Fnc1First ∷ Eci (record { number = 3; codewords = 1 }) ∷ Data (record { mode = Byte; len = 1 }) ∷ [],
+      record { number = 3; begin = 0 } ∷ [],
+      0x41 ∷ [],
+    )
+    ∷ (
+      0x52 ∷ 0x03 ∷ 0x1E ∷ 0x84 ∷ 0x2B ∷ 0xAE ∷ 0x9C ∷ 0x69 ∷ 0x00 ∷ 0x89 ∷ 0x49 ∷ 0x40 ∷ [],
+      Fnc1First ∷ Data (record { mode = Alphanumeric; len = 6 }) ∷ Eci (record { number = 26; codewords = 1 }) ∷ Data (record { mode = Byte; len = 2 }) ∷ [],
+      record { number = 26; begin = 5 } ∷ [],
+      0x41 ∷ 0x1D ∷ 0x42 ∷ 0x25 ∷ 0x43 ∷ 0x25 ∷ 0x25 ∷ [],
+    ) ∷ []
+
 -- Codewords that cannot be read in version 1, with their fault. The first six have a number that is too large: 1000 for
 -- three digits, 100 for two, 10 for one, 2025 for two characters, 45 for one, and hexadecimal BD in kanji mode. Three
--- end within the data, the count and the header; one has an indicator of no mode, and the last a second header [own]
+-- end within the data, the count and the header; one has an indicator of no mode, one a second header. The last five have
+-- half a designator, a designator after 111, the number 1000000, the application indicator 100, and FNC1 after a segment
+-- [own]
 abbrev pub unreadable : List (List ℕ × ParseFault)
 unreadable =
     (0x10 ∷ 0x0F ∷ 0xE8 ∷ [], BadValue)
@@ -53,5 +94,10 @@ unreadable =
     ∷ (0x40 ∷ 0x20 ∷ 0x41 ∷ [], Cut)
     ∷ (0x10 ∷ [], Cut)
     ∷ (0x30 ∷ [], Cut)
-    ∷ (0x70 ∷ [], BadMode)
-    ∷ (0x30 ∷ 0x10 ∷ 0x83 ∷ [], BadMode) ∷ []
+    ∷ (0x60 ∷ [], BadMode)
+    ∷ (0x30 ∷ 0x10 ∷ 0x83 ∷ [], BadMode)
+    ∷ (0x78 ∷ [], Cut)
+    ∷ (0x7E ∷ 0x00 ∷ [], BadValue)
+    ∷ (0x7C ∷ 0xF4 ∷ 0x24 ∷ 0x00 ∷ [], BadValue)
+    ∷ (0x96 ∷ 0x40 ∷ [], BadValue)
+    ∷ (0x40 ∷ 0x15 ∷ 0x55 ∷ [], BadMode) ∷ []

@@ -1,5 +1,5 @@
 -- What follows from the definitions of this crate.
-use Rattle.std.specs.Prelude.{◌≡◌, ℕ, ◌+◌, ◌*◌, ◌<◌, ◌≤◌, ◌↔◌, Bool, true, false, List, ◌++◌, length, Option, Ok}
+use Rattle.std.specs.Prelude.{◌≡◌, ℕ, ◌+◌, ◌*◌, ◌<◌, ◌≤◌, ◌↔◌, Bool, true, false, List, ◌++◌, length, All, Option, Ok}
 use Rattle.std.specs.List.{slice_index_or}
 use Rattle.qr_layout.specs.declared.level.Level.{Level}
 use Rattle.qr_layout.specs.Blocks.{data_codewords_of}
@@ -10,48 +10,58 @@ use Rattle.qr_bits.specs.declared.header.Header.{Header}
 use Rattle.qr_bits.specs.Bits.{bits_of, codeword_bit}
 use Rattle.qr_bits.specs.Segmentation.{bits, Covers, IsLeastSegmentation, HasFit}
 use Rattle.qr_bits.specs.Modes.{may_use}
-use Rattle.qr_bits.specs.Stream.{CountsFit, IsStream, Suits}
+use Rattle.qr_bits.specs.Stream.{AreItems, items_stream, CountsFit, IsStream, Suits}
 use Rattle.qr_bits.specs.Padding.{capacity_of, IsData}
 use Rattle.qr_bits.specs.Header.{header_bits}
-use Rattle.qr_bits.specs.Parsing.{ends, parse}
+use Rattle.qr_bits.specs.Interpretation.{are_fields, escaped, separated, interpretation_bits, items_in}
+use Rattle.qr_bits.specs.declared.interpretation.Interpretation.{Interpretation}
+use Rattle.qr_bits.specs.declared.interpretation.Interpretation.TheVariants.{Default}
+use Rattle.qr_bits.specs.Parsing.{content_of, ends, items_of, parse, plain_content}
+use Rattle.qr_bits.specs.declared.interpretation.Item.{Item}
 
 -- Bits are read as a content exactly if they begin with its bit stream, and after it have at most three bits, or the
 -- terminator and any bits (ISO/IEC 18004:2015, 7.4.1, 7.4.9, 8.1)
 abbrev pub StreamsAreParsed : Type 0
 StreamsAreParsed =
     (v : ℕ) (bits : List Bool) (h : Option Header) (segs : List Segment) (xs : List ℕ) →
-    (parse v bits ≡ Ok (record { header = h; segments = segs; bytes = xs })) ↔
-    ((front : List Bool) × (tail : List Bool) × IsStream v xs segs h front × (bits ≡ front ++ tail) × (ends tail ≡ true))
+    (parse v bits ≡ Ok (plain_content h segs xs)) ↔
+    ((front : List Bool) × (tail : List Bool) × IsStream v xs segs h Default front × (bits ≡ front ++ tail) × (ends tail ≡ true))
 
 -- Data codewords are read as the header, segments and bytes that they were made from [own]
 abbrev pub DataAreParsed : Type 0
 DataAreParsed =
-    (v : ℕ) (l : Level) (xs : List ℕ) (segs : List Segment) (h : Option Header) (cw : List ℕ) → IsData v l xs segs h cw →
-    parse v (bits_of cw) ≡ Ok (record { header = h; segments = segs; bytes = xs })
+    (v : ℕ) (l : Level) (xs : List ℕ) (segs : List Segment) (h : Option Header) (i : Interpretation) (cw : List ℕ) → IsData v l xs segs h i cw →
+    parse v (bits_of cw) ≡ Ok (content_of h (items_in i segs) xs)
+
+-- As `DataAreParsed`, without an ECI header and FNC1 [own]
+abbrev pub PlainDataAreParsed : Type 0
+PlainDataAreParsed =
+    (v : ℕ) (l : Level) (xs : List ℕ) (segs : List Segment) (h : Option Header) (cw : List ℕ) → IsData v l xs segs h Default cw →
+    parse v (bits_of cw) ≡ Ok (plain_content h segs xs)
 
 -- A bit stream has as many bits as its header and its segments together [own]
 abbrev pub StreamsHaveTheirBits : Type 0
 StreamsHaveTheirBits =
-    (v : ℕ) (xs : List ℕ) (segs : List Segment) (h : Option Header) (stream : List Bool) → IsStream v xs segs h stream →
-    length stream ≡ header_bits h + bits v segs
+    (v : ℕ) (xs : List ℕ) (segs : List Segment) (h : Option Header) (i : Interpretation) (stream : List Bool) → IsStream v xs segs h i stream →
+    length stream ≡ header_bits h + interpretation_bits i + bits v segs
 
 -- A bit stream that is not longer than the capacity has data codewords [own]
 abbrev pub DataAreThere : Type 0
 DataAreThere =
-    (v : ℕ) (l : Level) (xs : List ℕ) (segs : List Segment) (h : Option Header) (stream : List Bool) → IsStream v xs segs h stream →
-    length stream ≤ capacity_of v l → (cw : List ℕ) × IsData v l xs segs h cw
+    (v : ℕ) (l : Level) (xs : List ℕ) (segs : List Segment) (h : Option Header) (i : Interpretation) (stream : List Bool) → IsStream v xs segs h i stream →
+    length stream ≤ capacity_of v l → (cw : List ℕ) × IsData v l xs segs h i cw
 
 -- Segments of given bytes, after a header if there is one, have at most one list of data codewords in a version at a
 -- level [own]
 abbrev pub DataAreOne : Type 0
 DataAreOne =
-    (v : ℕ) (l : Level) (xs : List ℕ) (segs : List Segment) (h : Option Header) (cw dw : List ℕ) →
-    IsData v l xs segs h cw → IsData v l xs segs h dw → cw ≡ dw
+    (v : ℕ) (l : Level) (xs : List ℕ) (segs : List Segment) (h : Option Header) (i : Interpretation) (cw dw : List ℕ) →
+    IsData v l xs segs h i cw → IsData v l xs segs h i dw → cw ≡ dw
 
 -- Data codewords are as many as the standard requires for version and level (ISO/IEC 18004:2015, 7.4.10)
 abbrev pub DataFillTheSymbol : Type 0
 DataFillTheSymbol =
-    (v : ℕ) (l : Level) (xs : List ℕ) (segs : List Segment) (h : Option Header) (cw : List ℕ) → IsData v l xs segs h cw →
+    (v : ℕ) (l : Level) (xs : List ℕ) (segs : List Segment) (h : Option Header) (i : Interpretation) (cw : List ℕ) → IsData v l xs segs h i cw →
     length cw ≡ data_codewords_of v l
 
 -- If the modes of segments suit their bytes, and their bits fit the capacity, each character count fits its indicator
@@ -81,3 +91,15 @@ PiecesNeedNoMore =
 abbrev pub BitsAreCodewordBits : Type 0
 BitsAreCodewordBits =
     (cw : List ℕ) (k : ℕ) → k < 8 * length cw → slice_index_or (bits_of cw) k false ≡ codeword_bit cw k
+
+-- What alphanumeric mode writes of fields after FNC1 is read as these bytes, and what is read is written as it was
+-- (ISO/IEC 18004:2015, 7.4.8.2)
+abbrev pub FieldsAreRead : Type 0
+FieldsAreRead = (xs : List ℕ) → are_fields xs ≡ true → separated (escaped xs) ≡ xs
+
+-- Bits are read as items exactly if they are the stream of these items, in an order that the standard allows, and then
+-- an end (ISO/IEC 18004:2015, 7.4.1, 7.4.2, 7.4.8, 7.4.9)
+abbrev pub ItemsAreParsed : Type 0
+ItemsAreParsed = (v : ℕ) (bits : List Bool) (items : List Item) (xs : List ℕ) →
+    (items_of v true bits ≡ Ok (items, xs)) ↔
+    ((tail : List Bool) × All (λ b. b < 256) xs × AreItems v true xs items × (bits ≡ items_stream v xs items ++ tail) × (ends tail ≡ true))

@@ -1,6 +1,7 @@
 pub mod Bits
 pub mod Modes
 pub mod Header
+pub mod Interpretation
 pub mod Segmentation
 pub mod Stream
 pub mod Padding

@@ -2,6 +2,7 @@
 use Rattle.std.specs.Prelude.{◌≡◌, ℕ, ◌*◌, ◌/◌, ◌%◌, ◌<◌, ◌≤◌, Bool, false, List, [], ◌∷◌, length, ◌-◌, ◌++◌, All, Option, zero, suc, min, replicate}
 use Rattle.qr_bits.specs.declared.segment.Segment.{Segment}
 use Rattle.qr_bits.specs.declared.header.Header.{Header}
+use Rattle.qr_bits.specs.declared.interpretation.Interpretation.{Interpretation}
 use Rattle.qr_bits.specs.Bits.{bits_of}
 use Rattle.qr_layout.specs.declared.level.Level.{Level}
 use Rattle.qr_layout.specs.Blocks.{data_codewords_of}
@@ -39,9 +40,9 @@ padded n stream =
 
 -- `cw` are the data codewords of the bytes `xs` in the segments `segs`, after the header `h` if there is one (ISO/IEC
 -- 18004:2015, 7.4.10)
-pub record IsData (v : ℕ) (l : Level) (xs : List ℕ) (segs : List Segment) (h : Option Header) (cw : List ℕ) : Type 0 where
+pub record IsData (v : ℕ) (l : Level) (xs : List ℕ) (segs : List Segment) (h : Option Header) (i : Interpretation) (cw : List ℕ) : Type 0 where
   pub stream : List Bool
-  pub is_stream : IsStream v xs segs h stream
+  pub is_stream : IsStream v xs segs h i stream
   pub fits : length stream ≤ capacity_of v l
   pub bytes : All (λ b. b < 256) cw
   pub codewords : bits_of cw ≡ padded (data_codewords_of v l) stream

@@ -1,11 +1,16 @@
 -- How the bits of data codewords are read: as an optional header, segments and bytes, or as a fault. `bits` are those
 -- that are not read yet, and a list of bits in a result those that are left then.
-use Rattle.std.specs.Prelude.{◌≡◌, ◌⊎◌, ℕ, zero, suc, ◌+◌, ◌*◌, ◌/◌, ◌%◌, Bool, ◌&&◌, ◌||◌, ◌==◌, nat_lt, nat_le, if◌then◌else◌, List, [], ◌∷◌, ◌++◌, length, take, drop, Result, Ok, Err, Option, Some, None}
+use Rattle.std.specs.Prelude.{◌≡◌, ◌⊎◌, ℕ, zero, suc, ◌+◌, ◌-◌, ◌*◌, ◌/◌, ◌%◌, Bool, ◌&&◌, ◌||◌, ◌==◌, nat_lt, nat_le, true, false, if◌then◌else◌, List, [], ◌∷◌, ◌++◌, length, take, drop, Result, Ok, Err, Option, Some, None}
 use Rattle.std.specs.List.{slice_index_or}
 use Rattle.qr_bits.specs.declared.modes.Mode.{Mode}
 use Rattle.qr_bits.specs.declared.modes.Mode.TheVariants.{Numeric, Alphanumeric, Byte, Kanji}
 use Rattle.qr_bits.specs.declared.segment.Segment.{Segment}
 use Rattle.qr_bits.specs.declared.header.Header.{Header}
+use Rattle.qr_bits.specs.declared.interpretation.Designator.{Designator}
+use Rattle.qr_bits.specs.declared.interpretation.EciChange.{EciChange}
+use Rattle.qr_bits.specs.declared.interpretation.Item.{Item}
+use Rattle.qr_bits.specs.declared.interpretation.Item.TheVariants.{Data, Eci, Fnc1First, Fnc1Second}
+use Rattle.qr_bits.specs.Interpretation.{eci_changes, eci_indicator, fnc1_first_indicator, fnc1_second_indicator, is_application_indicator, may_follow, meant_bytes, plain}
 use Rattle.qr_bits.specs.declared.fault.ParseFault.{ParseFault}
 use Rattle.qr_bits.specs.declared.fault.ParseFault.TheVariants.{Memory, BadMode, Cut, BadValue}
 use Rattle.qr_bits.specs.Bits.{value}
@@ -114,16 +119,41 @@ segment_at v bits =
     payload_at m n.0 n.1 >>= λ p.
     Ok (record { mode = m; len = byte_count m n.0 }, p.0, p.1)
 
--- At most `n` segments, with their bytes [own]
-unfoldable pub segments_at : ℕ → ℕ → List Bool → Result (List Segment × List ℕ) ParseFault
-segments_at zero v bits = Ok ([], [])
-segments_at (suc n) v bits =
-    if ends bits then Ok ([], []) else (segment_at v bits >>= λ s. segments_at n v s.2 >>= λ r. Ok (s.0 ∷ r.0, s.1 ++ r.1))
+-- An ECI designator: 7 bits of the number after 0, 14 after 10, or 21 after 110. `BadValue` after 111, and for a number
+-- of more than six digits (ISO/IEC 18004:2015, 7.4.2, Table 4)
+unfoldable pub designator_at : List Bool → Result (Designator × List Bool) ParseFault
+designator_at bits =
+    leading_number 8 bits >>= λ a.
+    if nat_lt a.0 128 then Ok (record { number = a.0; codewords = 1 }, a.1) else
+    (if nat_lt a.0 192 then (leading_number 8 a.1 >>= λ b. Ok (record { number = 256 * (a.0 - 128) + b.0; codewords = 2 }, b.1)) else
+    (if nat_le 224 a.0 then Err BadValue else
+    (leading_number 16 a.1 >>= λ b.
+    let number = 65536 * (a.0 - 192) + b.0 in
+    if nat_lt number 1000000 then Ok (record { number = number; codewords = 3 }, b.1) else Err BadValue)))
 
--- All segments up to the end, at most as many as there are bits, since each takes at least four of them (ISO/IEC
+-- An application indicator (ISO/IEC 18004:2015, 7.4.8.3)
+unfoldable pub application_at : List Bool → Result (ℕ × List Bool) ParseFault
+application_at bits = leading_number 8 bits >>= λ a. if is_application_indicator a.0 then Ok a else Err BadValue
+
+-- A segment, an ECI header, or FNC1; `may` says that FNC1 may stand here (ISO/IEC 18004:2015, 7.4.2, 7.4.8)
+unfoldable pub item_at : ℕ → Bool → List Bool → Result (Item × List ℕ × List Bool) ParseFault
+item_at v may bits =
+    let indicator = value (take 4 bits) in
+    if indicator == eci_indicator then (designator_at (drop 4 bits) >>= λ d. Ok (Eci d.0, [], d.1)) else
+    (if may && indicator == fnc1_first_indicator then Ok (Fnc1First, [], drop 4 bits) else
+    (if may && indicator == fnc1_second_indicator then (application_at (drop 4 bits) >>= λ a. Ok (Fnc1Second a.0, [], a.1)) else
+    (segment_at v bits >>= λ s. Ok (Data s.0, s.1, s.2))))
+
+-- At most `n` items, with their bytes [own]
+unfoldable pub items_at : ℕ → ℕ → Bool → List Bool → Result (List Item × List ℕ) ParseFault
+items_at zero v may bits = Ok ([], [])
+items_at (suc n) v may bits =
+    if ends bits then Ok ([], []) else (item_at v may bits >>= λ i. items_at n v (may_follow may i.0) i.2 >>= λ r. Ok (i.0 ∷ r.0, i.1 ++ r.1))
+
+-- All items up to the end, at most as many as there are bits, since each takes at least four of them (ISO/IEC
 -- 18004:2015, 7.4.1, 7.4.9)
-unfoldable pub segments_of : ℕ → List Bool → Result (List Segment × List ℕ) ParseFault
-segments_of v bits = segments_at (length bits) v bits
+unfoldable pub items_of : ℕ → Bool → List Bool → Result (List Item × List ℕ) ParseFault
+items_of v may bits = items_at (length bits) v may bits
 
 -- The mode indicator of structured append comes next (ISO/IEC 18004:2015, 8.1)
 unfoldable pub begins_header : List Bool → Bool
@@ -142,12 +172,22 @@ first_header bits = if begins_header bits then (header_at (drop 4 bits) >>= λ h
 -- What data codewords are read as [own]
 pub record Content : Type 0 where
   pub header : Option Header
-  pub segments : List Segment
+  pub items : List Item
+  pub ecis : List EciChange
   pub bytes : List ℕ
 
--- A header, if there is one, and the segments after it (ISO/IEC 18004:2015, 7.4.1, 8.1, 12)
+-- The content of items whose characters are `cs` (ISO/IEC 18004:2015, 7.4.2, 7.4.8)
+abbrev pub content_of : Option Header → List Item → List ℕ → Content
+content_of h items cs =
+    record { header = h; items = items; ecis = eci_changes false 0 items cs; bytes = meant_bytes false items cs }
+
+-- The content of segments alone, without ECI header and FNC1 [own]
+abbrev pub plain_content : Option Header → List Segment → List ℕ → Content
+plain_content h segs xs = record { header = h; items = plain segs; ecis = []; bytes = xs }
+
+-- A header, if there is one, and the items after it (ISO/IEC 18004:2015, 7.4.1, 8.1, 12)
 unfoldable pub parse : ℕ → List Bool → Result Content ParseFault
 parse v bits =
     first_header bits >>= λ h.
-    segments_of v h.1 >>= λ r.
-    Ok (record { header = h.0; segments = r.0; bytes = r.1 })
+    items_of v true h.1 >>= λ r.
+    Ok (content_of h.0 r.0 r.1)

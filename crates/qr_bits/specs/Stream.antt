@@ -1,5 +1,5 @@
 -- The bit stream of segments. Nothing here is used by `Parsing`, which reads it.
-use Rattle.std.specs.Prelude.{◌≡◌, ℕ, ◌+◌, ◌*◌, ◌<◌, ◌≤◌, Bool, List, [], ◌∷◌, length, take, drop, IsTrue, ◌-◌, ◌^◌, ◌++◌, All, Option}
+use Rattle.std.specs.Prelude.{◌≡◌, ◌⊎◌, ℕ, ◌+◌, ◌*◌, ◌/◌, ◌%◌, ◌<◌, ◌≤◌, Bool, true, false, ◌==◌, if◌then◌else◌, List, [], ◌∷◌, length, take, drop, IsTrue, ◌-◌, ◌^◌, ◌++◌, All, Option}
 use Rattle.qr_bits.specs.declared.modes.Mode.{Mode}
 use Rattle.qr_bits.specs.declared.modes.Mode.TheVariants.{Numeric, Alphanumeric, Byte, Kanji}
 use Rattle.qr_bits.specs.declared.segment.Segment.{Segment}
@@ -7,6 +7,11 @@ use Rattle.qr_bits.specs.declared.header.Header.{Header}
 use Rattle.qr_bits.specs.Bits.{field, bits_of}
 use Rattle.qr_bits.specs.Modes.{character_count, count_width, suits, indicator, character_value, kanji_value}
 use Rattle.qr_bits.specs.Header.{header_stream, HeaderFits}
+use Rattle.qr_bits.specs.declared.interpretation.Interpretation.{Interpretation}
+use Rattle.qr_bits.specs.declared.interpretation.Designator.{Designator}
+use Rattle.qr_bits.specs.declared.interpretation.Item.{Item}
+use Rattle.qr_bits.specs.declared.interpretation.Item.TheVariants.{Data, Eci, Fnc1First, Fnc1Second}
+use Rattle.qr_bits.specs.Interpretation.{eci_indicator, fnc1_first_indicator, fnc1_second_indicator, interpretation_stream, InterpretationFits, is_application_indicator}
 
 -- Numeric mode: three digits in 10 bits, two or one at the end in 7 or 4 (ISO/IEC 18004:2015, 7.4.3)
 unfoldable pub digit_bits : List ℕ → List Bool
@@ -55,9 +60,39 @@ CountsFit v (s ∷ ss) = (character_count s.mode s.len < 2 ^ count_width v s.mod
 
 -- `stream` is the bit stream of the bytes in the segments, after the header if there is one (ISO/IEC 18004:2015, 7.4.1,
 -- 8.1)
-pub record IsStream (v : ℕ) (xs : List ℕ) (segs : List Segment) (h : Option Header) (stream : List Bool) : Type 0 where
+pub record IsStream (v : ℕ) (xs : List ℕ) (segs : List Segment) (h : Option Header) (i : Interpretation) (stream : List Bool) : Type 0 where
   pub bytes : All (λ b. b < 256) xs
   pub suit : Suits xs segs
   pub counts : CountsFit v segs
   pub header : HeaderFits h
-  pub whole : stream ≡ header_stream h ++ segments_stream v xs segs
+  pub interpretation : InterpretationFits i
+  pub whole : stream ≡ (header_stream h ++ interpretation_stream i) ++ segments_stream v xs segs
+
+-- The number fits the codewords of its designator (ISO/IEC 18004:2015, 7.4.2, Table 4)
+abbrev pub DesignatorFits : Designator → Type 0
+DesignatorFits d =
+    ((d.codewords ≡ 1) × (d.number < 128)) ⊎ (((d.codewords ≡ 2) × (d.number < 16384)) ⊎ ((d.codewords ≡ 3) × (d.number < 1000000)))
+
+-- A designator in as many codewords (ISO/IEC 18004:2015, 7.4.2, Table 4)
+unfoldable pub designator_of : ℕ → ℕ → List Bool
+designator_of w n =
+    if w == 1 then field 8 n else
+    (if w == 2 then field 8 (128 + n / 256) ++ field 8 (n % 256) else field 8 (192 + n / 65536) ++ field 16 (n % 65536))
+
+-- The items one after the other, of which each segment takes the next bytes of `xs` (ISO/IEC 18004:2015, 7.4.1)
+unfoldable pub items_stream : ℕ → List ℕ → List Item → List Bool
+items_stream v xs [] = []
+items_stream v xs (Data s ∷ is) = segment_stream v s.mode (take s.len xs) ++ items_stream v (drop s.len xs) is
+items_stream v xs (Eci d ∷ is) = field 4 eci_indicator ++ (designator_of d.codewords d.number ++ items_stream v xs is)
+items_stream v xs (Fnc1First ∷ is) = field 4 fnc1_first_indicator ++ items_stream v xs is
+items_stream v xs (Fnc1Second a ∷ is) = field 4 fnc1_second_indicator ++ (field 8 a ++ items_stream v xs is)
+
+-- As `Suits` and `CountsFit`, for items; `may` says that FNC1 may stand before them (ISO/IEC 18004:2015, 7.4.8.2)
+unfoldable pub AreItems : ℕ → Bool → List ℕ → List Item → Type 0
+AreItems v may xs [] = xs ≡ []
+AreItems v may xs (Data s ∷ is) =
+    (s.len ≤ length xs) × IsTrue (suits s.mode (take s.len xs)) × (character_count s.mode s.len < 2 ^ count_width v s.mode)
+    × AreItems v false (drop s.len xs) is
+AreItems v may xs (Eci d ∷ is) = DesignatorFits d × AreItems v may xs is
+AreItems v may xs (Fnc1First ∷ is) = (may ≡ true) × AreItems v false xs is
+AreItems v may xs (Fnc1Second a ∷ is) = (may ≡ true) × IsTrue (is_application_indicator a) × AreItems v false xs is

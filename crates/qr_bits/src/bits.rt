@@ -231,7 +231,7 @@ impl<'a> BitReader<'a> {
     }
 
     /// The next four bits, which stay unread.
-    fn indicator(&self) -> u16
+    pub(crate) fn indicator(&self) -> u16
         requires { 4 ≤ length self.now }
         ensures { result ≡ value (take 4 self.now) }
     {

@@ -13,10 +13,10 @@ ghost use Rattle.qr_bits.specs.Padding.{capacity_of, padded, room_of};
 ghost use Rattle.qr_bits.specs.Folding.{folded};
 ghost use Rattle.qr_bits.specs.Segmentation.{IsLeastSegmentation, least_bits};
 ghost use Rattle.qr_bits.specs.Modes.{count_width, is_kanji_pair, character_value, kanji_value, may_use};
-ghost use Rattle.qr_bits.specs.Parsing.{kanji_pair, parse};
+ghost use Rattle.qr_bits.specs.Parsing.{kanji_pair, parse, plain_content};
 ghost use Rattle.qr_bits.specs.Stream.{character_bits, digit_bits, segments_stream};
-ghost use Rattle.qr_bits.specs.Laws.{BitsAreCodewordBits, CountsFitWhereBitsFit, DataAreOne, DataAreParsed, DataAreThere, DataFillTheSymbol, FittingInputsAreShort, LeastSegmentationsFit, PiecesNeedNoMore, StreamsAreParsed, StreamsHaveTheirBits};
-ghost use Rattle.qr_bits.specs.Examples.{all_modes, eight_digits, eleven_characters, middle, middle_data, one, two_kanji, two_kanji_data, unreadable};
+ghost use Rattle.qr_bits.specs.Laws.{BitsAreCodewordBits, CountsFitWhereBitsFit, DataAreOne, DataAreParsed, DataAreThere, DataFillTheSymbol, FieldsAreRead, FittingInputsAreShort, ItemsAreParsed, LeastSegmentationsFit, PiecesNeedNoMore, PlainDataAreParsed, StreamsAreParsed, StreamsHaveTheirBits};
+ghost use Rattle.qr_bits.specs.Examples.{all_modes, eight_digits, eleven_characters, interpreted, middle, middle_data, one, two_kanji, two_kanji_data, unreadable};
 
 use crate::fault::{BitFault, ParseFault};
 use crate::header::Header;
@@ -26,14 +26,26 @@ use std::alloc::AllocError;
 
 /// A parse succeeds exactly if the bits are a bit stream and then an end: fewer than four bits, or the terminator and
 /// anything after it. Segments may be empty, and need not take the fewest bits.
-#[tactic(auto, using(crate::proofs::lemmas::parsing::StreamReadingLemmas::parse_again, crate::proofs::lemmas::parsing::StreamReadingLemmas::parse_takes))]
+#[tactic(auto, using(crate::proofs::lemmas::parsing::StreamReadingLemmas::parse_plain, crate::proofs::lemmas::parsing::StreamReadingLemmas::parse_takes))]
 pub fn streams_are_parsed()
     ensures { StreamsAreParsed }
 {}
 
 /// A parse of data codewords returns the header, segments and bytes that they were made from.
 pub fn data_are_parsed()
-    ensures { DataAreParsed }
+    ensures whole { DataAreParsed }
+    ensures plain { PlainDataAreParsed }
+{}
+
+/// Bits are read as items exactly if they are the stream of these items and then an end.
+pub fn items_are_parsed()
+    ensures { ItemsAreParsed }
+{}
+
+/// Fields that alphanumeric mode writes after FNC1 are read back.
+#[tactic(auto, using(crate::proofs::lemmas::parsing::FieldLemmas::fields_again))]
+pub fn fields_are_read()
+    ensures { FieldsAreRead }
 {}
 
 /// A bit stream that is not longer than the capacity has exactly one list of data codewords, as many as the standard
@@ -129,11 +141,14 @@ pub fn streams_compute()
     ensures series { padded 9 (header_stream (Some middle) ++ segments_stream 1 (codes "FGH") (one Byte 3)) ≡ bits_of middle_data }
 {}
 
-/// What codewords of the second of three symbols contain, and the faults of eleven lists of codewords.
-#[tactic(auto, unfolding(crate::specs::Parsing::parse, crate::specs::Parsing::first_header, crate::specs::Parsing::begins_header, crate::specs::Parsing::header_at, crate::specs::Parsing::segments_of, crate::specs::Parsing::segments_at, crate::specs::Parsing::segment_at, crate::specs::Parsing::leading_number, crate::specs::Parsing::payload_at, crate::specs::Parsing::values_of, crate::specs::Parsing::digits_of, crate::specs::Parsing::characters_of, crate::specs::Parsing::character, crate::specs::Parsing::bytes_of, crate::specs::Parsing::pairs_of, crate::specs::Parsing::kanji_pair, crate::specs::Parsing::mode_of, crate::specs::Parsing::ends, crate::specs::Modes::characters, crate::specs::Bits::field, crate::specs::Bits::bits_of))]
+/// What codewords of the second of three symbols contain, and of five symbols with ECI headers or FNC1, and the
+/// faults of sixteen lists of codewords.
+#[tactic(auto, unfolding(crate::specs::Interpretation::separated, crate::specs::Interpretation::meant_bytes, crate::specs::Interpretation::eci_changes, crate::specs::Parsing::parse, crate::specs::Parsing::first_header, crate::specs::Parsing::begins_header, crate::specs::Parsing::header_at, crate::specs::Parsing::items_of, crate::specs::Parsing::items_at, crate::specs::Parsing::item_at, crate::specs::Parsing::designator_at, crate::specs::Parsing::application_at, crate::specs::Parsing::segment_at, crate::specs::Parsing::leading_number, crate::specs::Parsing::payload_at, crate::specs::Parsing::values_of, crate::specs::Parsing::digits_of, crate::specs::Parsing::characters_of, crate::specs::Parsing::character, crate::specs::Parsing::bytes_of, crate::specs::Parsing::pairs_of, crate::specs::Parsing::kanji_pair, crate::specs::Parsing::mode_of, crate::specs::Parsing::ends, crate::specs::Modes::characters, crate::specs::Bits::field, crate::specs::Bits::bits_of))]
 pub fn parses_compute()
     ensures series { parse 1 (bits_of middle_data)
-        ≡ Ok (record { header = Some middle; segments = one Byte 3; bytes = codes "FGH" }) }
+        ≡ Ok (plain_content (Some middle) (one Byte 3) (codes "FGH")) }
+    ensures interpreted { map (λ row. parse 1 (bits_of row.0)) interpreted
+        ≡ map (λ row. Ok (record { header = None; items = row.1; ecis = row.2; bytes = row.3 })) interpreted }
     ensures faults { map (λ row. parse 1 (bits_of row.0)) unreadable ≡ map (λ row. Err row.1) unreadable }
 {}
 

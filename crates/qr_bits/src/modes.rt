@@ -35,7 +35,7 @@ pub enum Rule {
     WithKanji,
 }
 
-// Mode indicators, with that of structured append, and the terminator (7.4.1, Table 2).
+// Mode indicators, with those of structured append, ECI and FNC1, and the terminator (7.4.1, Table 2).
 pub(crate) const TERMINATOR: u16 = 0b0000;
 
 const NUMERIC: u16 = 0b0001;
@@ -47,6 +47,12 @@ pub(crate) const STRUCTURED_APPEND: u16 = 0b0011;
 const BYTE: u16 = 0b0100;
 
 const KANJI: u16 = 0b1000;
+
+pub(crate) const ECI: u16 = 0b0111;
+
+pub(crate) const FNC1_FIRST: u16 = 0b0101;
+
+pub(crate) const FNC1_SECOND: u16 = 0b1001;
 
 pub(crate) fn indicator(mode: Mode) -> u16
     ensures { result ≡ indicator mode }

@@ -4,6 +4,7 @@ ghost use Rattle.std.specs.Prelude.{All, Err, IfOk, OnOk, length, min, vec_len, 
 ghost use Rattle.qr_bits.specs.Segmentation.{Covers, bits};
 ghost use Rattle.qr_bits.specs.Padding.{IsData, capacity_of, filled, pads};
 ghost use Rattle.qr_bits.specs.Header.{header_bits, header_stream};
+ghost use Rattle.qr_bits.specs.Interpretation.{interpretation_bits, interpretation_stream, InterpretationFits};
 ghost use Rattle.qr_bits.specs.Stream.{segments_stream};
 ghost use Rattle.qr_bits.specs.Bits.{field};
 ghost use Rattle.std.specs.Option.{ForSome};
@@ -11,9 +12,10 @@ ghost use Rattle.std.specs.Option.{ForSome};
 use crate::bits::BitWriter;
 use crate::fault::BitFault;
 use crate::header::{Header, header_bits};
+use crate::interpretation::{Interpretation, interpretation_bits};
 use crate::modes::INPUT_MAX;
 use crate::segment::{Segment, bit_len};
-use crate::stream::{put_header, put_segments};
+use crate::stream::{put_header, put_interpretation, put_segments};
 use qr_layout::{Level, Version};
 use std::alloc::{AllocError, Global};
 
@@ -44,24 +46,34 @@ pub fn codewords(
     input: &[u8],
     segs: &[Segment],
     header: Option<Header>,
+    interpretation: Interpretation,
     version: Version,
     level: Level,
 ) -> Result<Vec<u8>, BitFault>
     requires short { length input.now ≤ INPUT_MAX }
     requires covered { Covers input.now segs.now }
     requires in_range { ForSome header (λ h. (h.position < 16) × (h.last < 16)) }
-    ensures ok { IfOk result (λ cw. IsData version level input.now segs.now header cw.items) }
+    requires number { InterpretationFits interpretation }
+    ensures ok { IfOk result (λ cw. IsData version level input.now segs.now header interpretation cw.items) }
     ensures too_long { (result ≡ Err BitFault.TooLong)
-        ↔ (capacity_of version level < header_bits header + bits version segs.now) }
+        ↔ (capacity_of version level < header_bits header + interpretation_bits interpretation + bits version segs.now) }
 {
     let capacity = capacity(version, level);
-    let used = header_bits(header) + bit_len(segs, version);
+    let used = header_bits(header) + interpretation_bits(interpretation) + bit_len(segs, version);
     if used > capacity {
         return Err(BitFault::TooLong);
     }
     let len = usize::from(version.data_codewords(level));
     let mut writer = BitWriter::with_capacity(alloc, len)?;
-    put_all(&mut writer, input, segs, header, version, capacity - used)?;
+    put_all(
+        &mut writer,
+        input,
+        segs,
+        header,
+        interpretation,
+        version,
+        capacity - used,
+    )?;
     let mut codewords = writer.into_codewords();
     pad(&mut codewords, len)?;
     Ok(codewords)
@@ -74,16 +86,19 @@ fn put_all(
     input: &[u8],
     segs: &[Segment],
     header: Option<Header>,
+    interpretation: Interpretation,
     version: Version,
     left: u64,
 ) -> Result<(), AllocError>
     requires short { length input.now < 2 ^ 16 }
     requires covered { Covers input.now segs.now }
-    ensures { OnOk result ((writer.new ≡ filled (((writer.old ++ header_stream header)
+    requires number { InterpretationFits interpretation }
+    ensures { OnOk result ((writer.new ≡ filled ((((writer.old ++ header_stream header) ++ interpretation_stream interpretation)
         ++ segments_stream version input.now segs.now) ++ field (min 4 left) 0))
         × ForSome header (λ h. h.parity < 256)) }
 {
     put_header(writer, header)?;
+    put_interpretation(writer, interpretation)?;
     put_segments(writer, input, segs, version)?;
     writer.put(TERMINATOR_BITS.min(left) as u8, 0)?;
     writer.fill()

@@ -1,16 +1,20 @@
-//! Data codewords, parsed: an optional structured append header, segments and their bytes (ISO/IEC 18004:2015, 7.4.1 to
-//! 7.4.6, 8, 12).
+//! Data codewords, parsed: an optional structured append header, segments and their bytes, with ECI headers and FNC1
+//! (ISO/IEC 18004:2015, 7.4.1 to 7.4.9, 8, 12).
 
-ghost use Rattle.std.specs.Prelude.{Err, List, MatchResult, drop, length, take, ℕ, ◌%◌, ◌*◌, ◌++◌, ◌+◌, ◌<◌, ◌≡◌, ◌≤◌};
+ghost use Rattle.std.specs.Prelude.{Err, IfOk, List, MatchResult, drop, length, take, true, ℕ, ◌%◌, ◌*◌, ◌++◌, ◌+◌, ◌<◌, ◌^◌, ◌≡◌, ◌≤◌};
 ghost use Rattle.qr_bits.specs.Modes.{byte_count, payload_bits};
 ghost use Rattle.qr_bits.specs.Bits.{bits_of};
-ghost use Rattle.qr_bits.specs.Parsing.{IsResultOf, bytes_of, character, characters_of, digits_of, first_header, header_at, kanji_pair, pairs_of, parse, segment_at, segments_of, values_of};
+ghost use Rattle.qr_bits.specs.Parsing.{IsResultOf, bytes_of, character, characters_of, digits_of, first_header, header_at, application_at, designator_at, item_at, items_of, kanji_pair, leading_number, pairs_of, parse, segment_at, values_of};
+ghost use Rattle.qr_bits.specs.Interpretation.{fnc1_of, is_application_indicator, may_follow};
 ghost use Rattle.qr_bits.specs.Steps.Parsing.{IsFaultOf, IsReadOf, segment_of};
 
 use crate::bits::BitReader;
 use crate::fault::ParseFault;
 use crate::header::Header;
-use crate::modes::{CHARACTERS, Mode, byte_count, count_width, mode_of, payload_bits};
+use crate::interpretation::{Designator, EciChange, Fnc1, Item, fnc1_of, interpreted};
+use crate::modes::{
+    CHARACTERS, ECI, FNC1_FIRST, FNC1_SECOND, Mode, byte_count, count_width, mode_of, payload_bits,
+};
 use crate::segment::Segment;
 use qr_layout::Version;
 use std::alloc::Global;
@@ -31,11 +35,18 @@ const SINGLES: u16 = 45;
 // The greatest remainder that a division of a kanji pair's value by 0xC0 leaves (7.4.6).
 const LOW_MAX: u16 = 0xBC;
 
+// An ECI designator has a number of six digits (7.4.2).
+const NUMBERS: u32 = 1_000_000;
+
 /// What data codewords contain.
 #[derive(Debug, Drop)]
 pub struct Parsed {
     pub header: Option<Header>,
-    pub segments: Vec<Segment>,
+    /// The segments, ECI headers and FNC1 in order, as they are written.
+    pub items: Vec<Item>,
+    /// The ECI headers, each with the number of bytes before it.
+    pub ecis: Vec<EciChange>,
+    /// What the characters of the segments stand for.
     pub bytes: Vec<u8>,
 }
 
@@ -46,9 +57,19 @@ impl Model for Parsed {
 
     ghost view = { λ p. record {
       header = p.header;
-      segments = p.segments.items;
+      items = p.items.items;
+      ecis = p.ecis.items;
       bytes = p.bytes.items;
     } };
+}
+
+impl Parsed {
+    /// Returns the position of FNC1, if there is one.
+    pub fn fnc1(&self) -> Option<Fnc1>
+        ensures { result ≡ fnc1_of self.now.items }
+    {
+        fnc1_of(&self.items)
+    }
 }
 
 /// Parses data codewords up to a terminator, or to where fewer than four bits are left; what follows may be anything.
@@ -67,11 +88,13 @@ pub fn parse(alloc: Global, codewords: &[u8], version: Version) -> Result<Parsed
 {
     let mut reader = BitReader::new(codewords);
     let header = first_header(&mut reader)?;
-    let (segments, bytes) = segments(alloc, reader, version)?;
+    let (items, characters) = items(alloc, reader, version)?;
+    let meaning = interpreted(alloc, &items, characters)?;
     Ok(Parsed {
         header,
-        segments,
-        bytes,
+        items,
+        ecis: meaning.ecis,
+        bytes: meaning.bytes,
     })
 }
 
@@ -104,21 +127,125 @@ fn header(reader: &mut BitReader) -> Result<Header, ParseFault>
 }
 
 #[tactic(auto, using(crate::proofs::lemmas::parsing::ParsingLemmas::not_ended))]
-fn segments(
+fn items(
     alloc: Global,
     mut reader: BitReader,
     version: Version,
-) -> Result<(Vec<Segment>, Vec<u8>), ParseFault>
-    ensures { MatchResult result (λ r. segments_of version reader.entry ≡ Ok (r.0.items, r.1.items))
-        (λ e. IsFaultOf e (segments_of version reader.entry)) }
+) -> Result<(Vec<Item>, Vec<u8>), ParseFault>
+    ensures { MatchResult result (λ r. items_of version true reader.entry ≡ Ok (r.0.items, r.1.items))
+        (λ e. IsFaultOf e (items_of version true reader.entry)) }
 {
-    let mut segments = Vec::new(alloc);
-    let mut bytes = Vec::new(alloc);
+    let mut items = Vec::new(alloc);
+    let mut characters = Vec::new(alloc);
+    let mut may = true;
     while !reader.ends() {
-        let next = segment(&mut reader, version, &mut bytes)?;
-        segments.push(next)?;
+        let next = item(&mut reader, version, may, &mut characters)?;
+        may = may_follow(may, next);
+        items.push(next)?;
     }
-    Ok((segments, bytes))
+    Ok((items, characters))
+}
+
+// Whether FNC1 may come after the item, if `may` says whether it might before (7.4.8.2).
+fn may_follow(may: bool, item: Item) -> bool
+    ensures { result ≡ may_follow may item }
+{
+    match item {
+        Item::Eci(_) => may,
+        _ => false,
+    }
+}
+
+// Appends the bytes of a segment to `out`.
+#[tactic(auto, unfolding(crate::specs::Parsing::item_at))]
+fn item(
+    reader: &mut BitReader,
+    version: Version,
+    may: bool,
+    out: &mut Vec<u8>,
+) -> Result<Item, ParseFault>
+    requires { 4 ≤ length reader.old }
+    ensures { MatchResult result
+        (λ i. (xs : List ℕ) × (item_at version may reader.old ≡ Ok (i, xs, reader.new)) × (out.new.items ≡ out.old.items ++ xs))
+        (λ e. IsFaultOf e (item_at version may reader.old)) }
+{
+    let indicator = reader.indicator();
+    if indicator == ECI {
+        reader.take(4);
+        return Ok(Item::Eci(designator(reader)?));
+    }
+    if may && indicator == FNC1_FIRST {
+        reader.take(4);
+        return Ok(Item::Fnc1First);
+    }
+    if may && indicator == FNC1_SECOND {
+        reader.take(4);
+        return Ok(Item::Fnc1Second(application(reader)?));
+    }
+    Ok(Item::Data(segment(reader, version, out)?))
+}
+
+#[tactic(auto, unfolding(crate::specs::Parsing::leading_number))]
+fn number(reader: &mut BitReader, width: usize) -> Result<u16, ParseFault>
+    requires { width ≤ 16 }
+    ensures read { MatchResult result (λ n. leading_number width reader.old ≡ Ok (n, reader.new)) (λ e. leading_number width reader.old ≡ Err e) }
+    ensures small { IfOk result (λ n. n < 2 ^ width) }
+{
+    if reader.len() < width {
+        return Err(ParseFault::Cut);
+    }
+    Ok(reader.take(width))
+}
+
+// The mode indicator is already read (7.4.2, Table 4).
+#[tactic(auto, unfolding(crate::specs::Parsing::designator_at))]
+fn designator(reader: &mut BitReader) -> Result<Designator, ParseFault>
+    ensures { MatchResult result (λ d. designator_at reader.old ≡ Ok (d, reader.new)) (λ e. designator_at reader.old ≡ Err e) }
+{
+    let first = number(reader, 8)?;
+    if first < 128 {
+        return Ok(Designator {
+            number: u32::from(first),
+            codewords: 1,
+        });
+    }
+    if first < 192 {
+        let low = number(reader, 8)?;
+        return Ok(Designator {
+            number: u32::from(256 * (first - 128) + low),
+            codewords: 2,
+        });
+    }
+    if first >= 224 {
+        return Err(ParseFault::BadValue);
+    }
+    let low = number(reader, 16)?;
+    let number = 65536 * u32::from(first - 192) + u32::from(low);
+    if number >= NUMBERS {
+        return Err(ParseFault::BadValue);
+    }
+    Ok(Designator {
+        number,
+        codewords: 3,
+    })
+}
+
+// The mode indicator is already read (7.4.8.3).
+#[tactic(auto, unfolding(crate::specs::Parsing::application_at))]
+fn application(reader: &mut BitReader) -> Result<u8, ParseFault>
+    ensures { MatchResult result (λ a. application_at reader.old ≡ Ok (a, reader.new)) (λ e. application_at reader.old ≡ Err e) }
+{
+    let indicator = number(reader, 8)?;
+    if !is_application_indicator(indicator) {
+        return Err(ParseFault::BadValue);
+    }
+    Ok(indicator as u8)
+}
+
+fn is_application_indicator(number: u16) -> bool
+    ensures { result ≡ is_application_indicator number }
+{
+    number < 100 || 165 <= number && number <= 190 || 197 <= number && number <= 222
 }
 
 // Appends the bytes of the segment to `out`.

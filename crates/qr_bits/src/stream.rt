@@ -4,14 +4,17 @@ ghost use Rattle.std.specs.Prelude.{IsTrue, OnOk, length, ◌++◌, ◌+◌, ◌
 ghost use Rattle.qr_bits.specs.Modes.{characters, in_twos, is_alphanumeric, is_digit, is_kanji_pair, suits};
 ghost use Rattle.qr_bits.specs.Segmentation.{Covers};
 ghost use Rattle.qr_bits.specs.Header.{header_stream};
+ghost use Rattle.qr_bits.specs.Interpretation.{designator, interpretation_stream, InterpretationFits};
 ghost use Rattle.std.specs.List.{list_all};
 ghost use Rattle.std.specs.Option.{ForSome};
 ghost use Rattle.qr_bits.specs.Stream.{character_bits, digit_bits, kanji_bits, payload, segment_stream, segments_stream};
 
 use crate::bits::BitWriter;
 use crate::header::Header;
+use crate::interpretation::Interpretation;
 use crate::modes::{
-    Mode, STRUCTURED_APPEND, character_count, character_value, count_width, indicator, kanji_value,
+    ECI, FNC1_FIRST, Mode, STRUCTURED_APPEND, character_count, character_value, count_width,
+    indicator, kanji_value,
 };
 use crate::segment::Segment;
 use qr_layout::Version;
@@ -28,6 +31,41 @@ pub(crate) fn put_header(writer: &mut BitWriter, header: Option<Header>) -> Resu
     writer.put(4, u16::from(header.position))?;
     writer.put(4, u16::from(header.last))?;
     writer.put(8, u16::from(header.parity))
+}
+
+#[tactic(auto, unfolding(crate::specs::Interpretation::interpretation_stream))]
+pub(crate) fn put_interpretation(
+    writer: &mut BitWriter,
+    interpretation: Interpretation,
+) -> Result<(), AllocError>
+    requires { InterpretationFits interpretation }
+    ensures { OnOk result (writer.new ≡ writer.old ++ interpretation_stream interpretation) }
+{
+    match interpretation {
+        Interpretation::Default => Ok(()),
+        Interpretation::Eci(number) => {
+            writer.put(4, ECI)?;
+            put_designator(writer, number)
+        }
+        Interpretation::Gs1 => writer.put(4, FNC1_FIRST),
+    }
+}
+
+// (7.4.2, Table 4)
+#[tactic(auto, unfolding(crate::specs::Interpretation::designator))]
+fn put_designator(writer: &mut BitWriter, number: u32) -> Result<(), AllocError>
+    requires { number < 1000000 }
+    ensures { OnOk result (writer.new ≡ writer.old ++ designator number) }
+{
+    if number < 128 {
+        return writer.put(8, number as u16);
+    }
+    if number < 16384 {
+        writer.put(8, 128 + (number / 256) as u16)?;
+        return writer.put(8, (number % 256) as u16);
+    }
+    writer.put(8, 192 + (number / 65536) as u16)?;
+    writer.put(16, (number % 65536) as u16)
 }
 
 pub(crate) fn put_segments(

@@ -6,7 +6,7 @@ ghost use Rattle.std.specs.List.{All};
 ghost use Rattle.qr_layout.specs.declared.level.Level.{Level};
 ghost use Rattle.qr_layout.specs.Format.{format_word_of};
 ghost use Rattle.qr_bits.specs.declared.modes.Rule.{Rule};
-ghost use Rattle.qr_bits.specs.Parsing.{Content};
+ghost use Rattle.qr_bits.specs.Parsing.{Content, plain_content};
 ghost use Rattle.qr_matrix.specs.Grid.{Grid, IsSquare, light, square};
 ghost use Rattle.qr_symbol.specs.declared.fault.ReadFault.{ReadFault};
 ghost use Rattle.qr_symbol.specs.Distance.{blocks_in};
@@ -236,7 +236,7 @@ pub fn damaged_symbols_are_mended(
         → HoldsDamaged unknown.now v l mask damaged.now s.made.message misread
         → MatchResult result
         (λ m. (m.version ≡ v) × (m.level ≡ l) × (m.mask ≡ mask)
-        × (m.parsed ≡ record { header = None; segments = s.made.segments; bytes = x })
+        × (m.parsed ≡ plain_content None s.made.segments x)
         × (m.changed.items ≡ misread) × (m.wrong_modules ≡ wrong_modules unknown.now damaged.now g)
         × (m.wrong_format_modules ≡ wrong_format_modules unknown.now damaged.now l mask)) (λ e. e ≡ ReadFault.Memory) }
 {
@@ -251,7 +251,7 @@ pub fn few_wrong_modules_are_mended(alloc: Global, damaged: &Matrix) -> Result<M
         → (s : IsSymbol smallest l rule x v mask g) → damaged.now.side ≡ g.side → DifferInFewModules v l damaged.now g
         → MatchResult result
         (λ m. (m.version ≡ v) × (m.level ≡ l) × (m.mask ≡ mask)
-        × (m.parsed ≡ record { header = None; segments = s.made.segments; bytes = x })) (λ e. e ≡ ReadFault.Memory) }
+        × (m.parsed ≡ plain_content None s.made.segments x)) (λ e. e ≡ ReadFault.Memory) }
 {
     mend_symbol(alloc, damaged)
 }

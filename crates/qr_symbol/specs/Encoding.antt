@@ -6,6 +6,7 @@ use Rattle.qr_bits.specs.declared.segment.Segment.{Segment}
 use Rattle.qr_bits.specs.declared.header.Header.{Header}
 use Rattle.qr_bits.specs.Segmentation.{IsLeastSegmentation}
 use Rattle.qr_bits.specs.Padding.{IsData}
+use Rattle.qr_bits.specs.declared.interpretation.Interpretation.TheVariants.{Default}
 use Rattle.qr_matrix.specs.Grid.{Grid}
 use Rattle.qr_symbol.specs.Symbol.{grid_of}
 use Rattle.qr_symbol.specs.Interleaving.{IsInterleaved}
@@ -19,7 +20,7 @@ pub record IsSymbolAt (v : ℕ) (l : Level) (rule : Rule) (x : List ℕ) (h : Op
   pub segments : List Segment
   pub chosen : IsLeastSegmentation v rule x segments
   pub message : List ℕ
-  pub written : IsData v l x segments h message
+  pub written : IsData v l x segments h Default message
   pub codewords : List ℕ
   pub interleaved : IsInterleaved v l message codewords
   pub best : IsMask v l codewords mask

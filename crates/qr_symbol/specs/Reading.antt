@@ -13,7 +13,7 @@ use Rattle.qr_bits.specs.declared.modes.Rule.{Rule}
 use Rattle.qr_bits.specs.declared.segment.Segment.{Segment}
 use Rattle.qr_bits.specs.Segmentation.{IsLeastSegmentation}
 use Rattle.qr_bits.specs.Bits.{bits_of}
-use Rattle.qr_bits.specs.Parsing.{Content, parse}
+use Rattle.qr_bits.specs.Parsing.{Content, parse, plain_content}
 use Rattle.qr_bits.specs.declared.fault.ParseFault.{ParseFault}
 use Rattle.qr_bits.specs.declared.fault.ParseFault.TheVariants as unparsed
 use Rattle.qr_symbol.specs.declared.fault.ReadFault.{ReadFault}
@@ -88,7 +88,7 @@ IsReading g content = IsParsedAs g (Ok content)
 -- append header (ISO/IEC 18004:2015, 12)
 abbrev pub IsReadBack : ℕ → Rule → List ℕ → Grid → Type 0
 IsReadBack v rule x g = (segments : List Segment) × IsLeastSegmentation v rule x segments
-    × IsReading g (record { header = None; segments = segments; bytes = x })
+    × IsReading g (plain_content None segments x)
 
 -- Reading may fail with the fault: always with `Memory`, never with `Series`. Of the others one at most applies: `Side`
 -- if no version has this side; else `Format` if the format information belongs to no level and mask; else `Check` if

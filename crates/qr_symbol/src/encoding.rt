@@ -18,7 +18,7 @@ use crate::fault::EncodeFault;
 use crate::interleaving::interleave;
 use crate::symbol::Symbol;
 use crate::version_choice::least_fit;
-use qr_bits::{Header, INPUT_MAX, Rule, Segment, codewords};
+use qr_bits::{Header, INPUT_MAX, Interpretation, Rule, Segment, codewords};
 use qr_layout::{Level, Version};
 use std::alloc::Global;
 
@@ -114,7 +114,15 @@ pub(crate) fn symbol_on(
 {
     let version = canvas.version;
     let level = canvas.level;
-    let message = codewords(alloc, input, segments, header, version, level)?;
+    let message = codewords(
+        alloc,
+        input,
+        segments,
+        header,
+        Interpretation::Default,
+        version,
+        level,
+    )?;
     let interleaved = interleave(alloc, version, level, &message)?;
     build_on(alloc, canvas, &interleaved)
 }

@@ -11,7 +11,7 @@ ghost use Rattle.qr_bits.specs.declared.fault.ParseFault.{ParseFault};
 ghost use Rattle.qr_bits.specs.declared.modes.Mode.{Mode};
 ghost use Rattle.qr_bits.specs.Bits.{bits_of};
 ghost use Rattle.qr_bits.specs.Modes.{may_use};
-ghost use Rattle.qr_bits.specs.Parsing.{Content};
+ghost use Rattle.qr_bits.specs.Parsing.{Content, plain_content};
 ghost use Rattle.qr_symbol.specs.declared.fault.EncodeFault.{EncodeFault};
 ghost use Rattle.qr_symbol.specs.declared.fault.ReadFault.{ReadFault};
 ghost use Rattle.qr_symbol.specs.declared.symbol.Symbol.{Symbol};
@@ -192,7 +192,7 @@ pub fn symbols_are_one()
 pub fn symbols_are_read(smallest: Version)
     ensures { (x : List ℕ) (l : Level) (rule : Rule) (v mask : ℕ) (g : Grid)
         → (s : IsSymbol smallest l rule x v mask g)
-        → IsReading g (record { header = None; segments = s.made.segments; bytes = x }) }
+        → IsReading g (plain_content None s.made.segments x) }
 {}
 
 /// An input has at most one series for a version, a level and a rule.

@@ -3,6 +3,7 @@ pub mod Settings
 pub mod Modules
 pub mod Encoding
 pub mod Series
+pub mod Interpretation
 pub mod Reading
 pub mod Mending
 pub mod Drawing

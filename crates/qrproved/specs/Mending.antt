@@ -10,6 +10,8 @@ use Rattle.qr_symbol.specs.declared.fault.ReadFault.{ReadFault}
 use Rattle.qr_mending.specs.Mending.{wrong_format_modules, HasWrongModules, IsMendedReading, IsUnmended}
 use Rattle.qr_mending.specs.Message.{tolerance_of}
 use Rattle.qrproved.specs.declared.mending.QrprovedMended.{QrprovedMended}
+use Rattle.qrproved.specs.declared.interpretation.QrprovedEci.{QrprovedEci}
+use Rattle.qrproved.specs.Interpretation.{TellsInterpretation}
 use Rattle.qrproved.specs.Modules.{square_of_bytes}
 use Rattle.qrproved.specs.Reading.{HasMoreBytesBy, TellsHeader}
 use Rattle.qrproved.specs.Settings.{level_of}
@@ -37,9 +39,9 @@ pub record TellsDamage (m : QrprovedMended) (changed : List ℕ) (side : ℕ) (m
   pub most : IsGreatest changed m.changed_most
   pub allowed : m.changed_allowed ≡ tolerance_of m.version (level_of m.level)
 
--- The square is mended and read: the bytes of its content were written to the beginning of the buffer, and `m` has
--- their number, the version, level, mask, header and damage [own]
-pub record IsGivenMended (modules : List ℕ) (side : ℕ) (before after : List ℕ) (m : QrprovedMended) : Type 0 where
+-- The square is mended and read: the bytes and the ECI headers of its content were written to the beginning of their
+-- buffers, and `m` has their numbers, the version, level, mask, header, FNC1 and damage [own]
+pub record IsGivenMended (modules : List ℕ) (side : ℕ) (before after : List ℕ) (ecis_before ecis_after : List QrprovedEci) (m : QrprovedMended) : Type 0 where
   pub all_modules : AreModules modules side
   pub content : Content
   pub changed : List ℕ
@@ -49,6 +51,7 @@ pub record IsGivenMended (modules : List ℕ) (side : ℕ) (before after : List 
   pub holds : after ≡ content.bytes ++ drop (length content.bytes) before
   pub len : m.len ≡ length content.bytes
   pub header : TellsHeader content.header m.has_header m.position m.last m.parity
+  pub interpretation : TellsInterpretation content ecis_before ecis_after m.eci_count m.fnc1 m.application
   pub damage : TellsDamage m changed side modules
 
 -- The square is mended and read as more bytes than `buffer` has [own]

@@ -7,6 +7,8 @@ use Rattle.qr_bits.specs.Parsing.{Content}
 use Rattle.qr_symbol.specs.declared.fault.ReadFault.{ReadFault}
 use Rattle.qr_symbol.specs.Reading.{IsReading, IsUnread}
 use Rattle.qrproved.specs.declared.reading.QrprovedContent.{QrprovedContent}
+use Rattle.qrproved.specs.declared.interpretation.QrprovedEci.{QrprovedEci}
+use Rattle.qrproved.specs.Interpretation.{TellsInterpretation}
 use Rattle.qrproved.specs.Modules.{square_of_bytes}
 
 -- The symbols of some version have `side` rows (ISO/IEC 18004:2015, 6.3.2)
@@ -19,9 +21,9 @@ abbrev pub TellsHeader : Option Header → (has_header position last parity : �
 TellsHeader None has_header position last parity = (has_header ≡ 0) × (position ≡ 0) × (last ≡ 0) × (parity ≡ 0)
 TellsHeader (Some h) has_header position last parity = (has_header ≡ 1) × (position ≡ h.position) × (last ≡ h.last) × (parity ≡ h.parity)
 
--- The square is read: the bytes of its content were written to the beginning of the buffer, and their number, the
--- version and the header are in `c` [own]
-pub record IsGiven (modules : List ℕ) (side : ℕ) (before after : List ℕ) (c : QrprovedContent) : Type 0 where
+-- The square is read: the bytes and the ECI headers of its content were written to the beginning of their buffers, and
+-- `c` has their numbers, the version, the header and the FNC1 [own]
+pub record IsGiven (modules : List ℕ) (side : ℕ) (before after : List ℕ) (ecis_before ecis_after : List QrprovedEci) (c : QrprovedContent) : Type 0 where
   pub whole : side * side ≤ length modules
   pub content : Content
   pub read : IsReading (square_of_bytes side modules) content
@@ -30,6 +32,7 @@ pub record IsGiven (modules : List ℕ) (side : ℕ) (before after : List ℕ) (
   pub len : c.len ≡ length content.bytes
   pub version : side ≡ side_of c.version
   pub header : TellsHeader content.header c.has_header c.position c.last c.parity
+  pub interpretation : TellsInterpretation content ecis_before ecis_after c.eci_count c.fnc1 c.application
 
 -- A content for which `reads` holds has more bytes than `buffer` has [own]
 abbrev pub HasMoreBytesBy : (Content → Type 0) → List ℕ → Type 0

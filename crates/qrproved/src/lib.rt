@@ -14,6 +14,7 @@
 
 mod drawing;
 mod encoding;
+mod interpretation;
 pub mod laws;
 mod mending;
 mod modules;
@@ -28,6 +29,7 @@ mod version;
 
 pub use drawing::qrproved_draw;
 pub use encoding::{QrprovedSymbol, qrproved_encode};
+pub use interpretation::QrprovedEci;
 pub use mending::{QrprovedMended, qrproved_mend};
 pub use parsing::{QrprovedDrawn, qrproved_parse_drawing};
 pub use reading::{QrprovedContent, qrproved_read};

@@ -6,11 +6,14 @@ ghost use Rattle.qr_bits.specs.declared.fault.ParseFault.{ParseFault};
 ghost use Rattle.qr_symbol.specs.declared.fault.ReadFault.{ReadFault};
 ghost use Rattle.qr_mending.specs.Mending.{wrong_format_modules, HasWrongModules, IsMendedReading, IsUnmended};
 ghost use Rattle.qr_mending.specs.Message.{tolerance_of};
+ghost use Rattle.qr_bits.specs.Interpretation.{fnc1_of};
+ghost use Rattle.qrproved.specs.Interpretation.{TellsFnc1};
 ghost use Rattle.qrproved.specs.Modules.{square_of_bytes};
 ghost use Rattle.qrproved.specs.Reading.{IsSide, TellsHeader};
 ghost use Rattle.qrproved.specs.Mending.{square_of_unknown, HasMoreMendedBytes, HasOtherByte, IsGivenMended, IsGreatest, IsUnmendedAt};
 ghost use Rattle.qrproved.specs.Settings.{level_of};
 
+use crate::interpretation::{QrprovedEci, write_ecis};
 use crate::modules::area;
 use crate::reading::{content_of, version_of_side};
 use crate::settings::number_of;
@@ -30,6 +33,8 @@ use std::alloc::Global;
 pub struct QrprovedMended {
     /// How many bytes the symbol contains.
     pub len: usize,
+    /// How many ECI headers the symbol has.
+    pub eci_count: usize,
     /// The number of wrong modules of the whole square, unknown ones too: 0 exactly if it is the undamaged symbol and
     /// all its modules are known.
     pub wrong_modules: u32,
@@ -43,6 +48,10 @@ pub struct QrprovedMended {
     pub last: u8,
     /// The parity data of the whole input of the series.
     pub parity: u8,
+    /// 0 without FNC1, 1 for its first position, of GS1 data, 2 for its second.
+    pub fnc1: u8,
+    /// The application indicator after FNC1 in second position, and otherwise 0.
+    pub application: u8,
     /// The level, 0 to 3 for L, M, Q and H.
     pub level: u8,
     /// The mask, 0 to 7.
@@ -102,6 +111,8 @@ fn mended_of(len: usize, mended: &Mended) -> QrprovedMended
     ensures version { result.version ≡ mended.now.version }
     ensures header { TellsHeader mended.now.parsed.header result.has_header result.position result.last
         result.parity }
+    ensures count { result.eci_count ≡ length mended.now.parsed.ecis }
+    ensures position { TellsFnc1 (fnc1_of mended.now.parsed.items) result.fnc1 result.application }
     ensures number { result.level < 4 }
     ensures level { level_of result.level ≡ mended.now.level }
     ensures mask { result.mask ≡ mended.now.mask }
@@ -109,16 +120,19 @@ fn mended_of(len: usize, mended: &Mended) -> QrprovedMended
     ensures most { IsGreatest mended.now.changed.items result.changed_most }
     ensures allowed { result.changed_allowed ≡ tolerance_of mended.now.version mended.now.level }
 {
-    let content = content_of(len, mended.version, mended.parsed.header);
+    let content = content_of(len, mended.version, &mended.parsed);
     let most = greatest(&mended.changed);
     QrprovedMended {
         len: content.len,
+        eci_count: content.eci_count,
         wrong_modules: mended.wrong_modules,
         version: content.version,
         has_header: content.has_header,
         position: content.position,
         last: content.last,
         parity: content.parity,
+        fnc1: content.fnc1,
+        application: content.application,
         level: number_of(mended.level),
         mask: mended.mask,
         wrong_format_modules: mended.wrong_format_modules,
@@ -128,11 +142,11 @@ fn mended_of(len: usize, mended: &Mended) -> QrprovedMended
 }
 
 /// Reads the damaged symbol that `modules` begins with, in the order in which `qrproved_encode` writes it, corrects its
-/// errors, and writes the bytes that it contains to `bytes`. A module is 0 if it is light, 1 if it is dark, and 2 if it
+/// errors, and writes the bytes that it contains to `bytes`, and its ECI headers to `ecis`, as many as it has room for. A module is 0 if it is light, 1 if it is dark, and 2 if it
 /// is not known: its codeword then takes half as much error correction as a misread one.
 ///
-/// On status 0 the square is a damaged form of a symbol, `bytes` begins with the bytes of this symbol, and `mended`
-/// describes the symbol and its damage.
+/// On status 0 the square is a damaged form of a symbol, `bytes` and `ecis` begin with the bytes and the ECI headers of
+/// this symbol, and `mended` describes the symbol and its damage.
 ///
 /// # Errors
 ///
@@ -146,10 +160,12 @@ pub extern "C" fn qrproved_mend(
     modules: &[u8],
     side: u32,
     bytes: &mut [u8],
+    ecis: &mut [QrprovedEci],
     mended: &mut QrprovedMended,
 ) -> u8
-    ensures done { result ≡ DONE → IsGivenMended modules.now side bytes.old bytes.new mended.new }
-    ensures unchanged { result ≢ DONE → (bytes.new ≡ bytes.old) × (mended.new ≡ mended.old) }
+    ensures done { result ≡ DONE → IsGivenMended modules.now side bytes.old bytes.new ecis.old ecis.new mended.new }
+    ensures unchanged { result ≢ DONE
+        → (bytes.new ≡ bytes.old) × (ecis.new ≡ ecis.old) × (mended.new ≡ mended.old) }
     ensures side { (result ≡ SIDE) ↔ (IsSide side → ⊥) }
     ensures room { (result ≡ ROOM) ↔ (IsSide side × ((length modules.now < side * side)
         ⊎ ((result ≢ MEMORY) × HasMoreMendedBytes modules.now side bytes.old))) }
@@ -186,6 +202,7 @@ pub extern "C" fn qrproved_mend(
                 return ROOM;
             }
             bytes[..len].copy_from_slice(&found.parsed.bytes);
+            write_ecis(&found.parsed.ecis, ecis);
             *mended = mended_of(len, &found);
             DONE
         }
@@ -202,12 +219,15 @@ mod tests {
     fn nothing() -> QrprovedMended {
         QrprovedMended {
             len: 9,
+            eci_count: 9,
             wrong_modules: 99,
             version: 9,
             has_header: 9,
             position: 9,
             last: 9,
             parity: 9,
+            fnc1: 9,
+            application: 9,
             level: 9,
             mask: 9,
             wrong_format_modules: 9,
@@ -263,7 +283,7 @@ mod tests {
             let modules = inverted(drawn, places)?;
             let mut bytes = [7u8; 10];
             let mut mended = nothing();
-            let status = qrproved_mend(rt.alloc(), &modules, 21, &mut bytes, &mut mended);
+            let status = qrproved_mend(rt.alloc(), &modules, 21, &mut bytes, &mut [], &mut mended);
             assert_eq!(rt; status, DONE, "{name}");
             assert_eq!(rt; bytes, *b"01234567\x07\x07", "{name}");
             assert_eq!(rt;
@@ -321,7 +341,7 @@ mod tests {
             }
             let mut bytes = [7u8; 8];
             let mut mended = nothing();
-            let status = qrproved_mend(rt.alloc(), &modules, 21, &mut bytes, &mut mended);
+            let status = qrproved_mend(rt.alloc(), &modules, 21, &mut bytes, &mut [], &mut mended);
             assert_eq!(rt; status, wanted, "{name}");
             assert_eq!(rt; mended.wrong_modules, wrong, "{name}");
             assert_eq!(rt; mended.wrong_format_modules, wrong_format, "{name}");
@@ -348,7 +368,14 @@ mod tests {
         modules[881] = 1 - modules[881].min(1);
         let mut bytes = [7u8; 3];
         let mut mended = nothing();
-        let status = qrproved_mend(rt.alloc(), &modules[441..], 21, &mut bytes, &mut mended);
+        let status = qrproved_mend(
+            rt.alloc(),
+            &modules[441..],
+            21,
+            &mut bytes,
+            &mut [],
+            &mut mended,
+        );
         assert_eq!(rt; status, DONE);
         assert_eq!(rt; bytes, *b"FGH");
         assert_eq!(rt; (mended.len, mended.version, mended.level), (3, 1, 3));
@@ -389,7 +416,14 @@ mod tests {
             let mut bytes = [7u8; 8];
             let mut mended = nothing();
             assert!(rt; room <= bytes.len());
-            let status = qrproved_mend(rt.alloc(), modules, side, &mut bytes[..room], &mut mended);
+            let status = qrproved_mend(
+                rt.alloc(),
+                modules,
+                side,
+                &mut bytes[..room],
+                &mut [],
+                &mut mended,
+            );
             assert_eq!(rt; status, wanted, "{name}");
             assert_eq!(rt; bytes, [7u8; 8], "{name}");
             assert_eq!(rt; (mended.len, mended.wrong_modules), (9, 99), "{name}");

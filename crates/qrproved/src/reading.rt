@@ -4,12 +4,15 @@ ghost use Rattle.std.specs.Prelude.{◌≡◌, ◌≢◌, ◌*◌, ◌<◌, ◌�
 ghost use Rattle.qr_layout.specs.Version.{side_of};
 ghost use Rattle.qr_bits.specs.declared.fault.ParseFault.{ParseFault};
 ghost use Rattle.qr_symbol.specs.declared.fault.ReadFault.{ReadFault};
+ghost use Rattle.qr_bits.specs.Interpretation.{fnc1_of};
+ghost use Rattle.qrproved.specs.Interpretation.{TellsFnc1};
 ghost use Rattle.qrproved.specs.Reading.{HasMoreBytes, IsGiven, IsSide, IsUnreadAt, TellsHeader};
 
+use crate::interpretation::{QrprovedEci, fnc1_numbers, write_ecis};
 use crate::modules::area;
 use crate::settings::between;
 use crate::status::{CHECK, DONE, FORMAT, MEMORY, ROOM, SEGMENTS, SIDE, read_status};
-use qr_bits::Header;
+use qr_bits::{Header, Parsed};
 use qr_layout::Version;
 use qr_matrix::matrix_of_bytes;
 use qr_symbol::laws::{contents_are_one, refusals_are_one};
@@ -22,9 +25,11 @@ use std::alloc::Global;
 pub struct QrprovedContent {
     /// How many bytes the symbol contains.
     pub len: usize,
+    /// How many ECI headers the symbol has.
+    pub eci_count: usize,
     /// The version, 1 to 40.
     pub version: u8,
-    /// 1 for a symbol of a series, which has a structured append header; otherwise 0, and so are the fields below.
+    /// 1 for a symbol of a series, which has a structured append header; otherwise 0, and so are the next three fields.
     pub has_header: u8,
     /// The position in the series, 0 to 15.
     pub position: u8,
@@ -32,6 +37,10 @@ pub struct QrprovedContent {
     pub last: u8,
     /// The parity data of the whole input of the series.
     pub parity: u8,
+    /// 0 without FNC1, 1 for its first position, of GS1 data, 2 for its second.
+    pub fnc1: u8,
+    /// The application indicator after FNC1 in second position, and otherwise 0.
+    pub application: u8,
 }
 
 pub(crate) fn version_of_side(side: u32) -> Option<Version>
@@ -42,30 +51,37 @@ pub(crate) fn version_of_side(side: u32) -> Option<Version>
     Version::of_side(side)
 }
 
-pub(crate) fn content_of(len: usize, version: Version, header: Option<Header>) -> QrprovedContent
+pub(crate) fn content_of(len: usize, version: Version, parsed: &Parsed) -> QrprovedContent
     ensures len { result.len ≡ len }
     ensures version { result.version ≡ version }
-    ensures header { TellsHeader header result.has_header result.position result.last result.parity }
+    ensures header { TellsHeader parsed.now.header result.has_header result.position result.last result.parity }
+    ensures count { result.eci_count ≡ length parsed.now.ecis }
+    ensures position { TellsFnc1 (fnc1_of parsed.now.items) result.fnc1 result.application }
 {
-    let told = header.unwrap_or(Header {
+    let told = parsed.header.unwrap_or(Header {
         position: 0,
         last: 0,
         parity: 0,
     });
+    let (fnc1, application) = fnc1_numbers(parsed.fnc1());
     QrprovedContent {
         len,
+        eci_count: parsed.ecis.len(),
         version: version.number(),
-        has_header: u8::from(header.is_some()),
+        has_header: u8::from(parsed.header.is_some()),
         position: told.position,
         last: told.last,
         parity: told.parity,
+        fnc1,
+        application,
     }
 }
 
 /// Reads the symbol that `modules` begins with, in the order in which `qrproved_encode` writes it, and writes the bytes
-/// that it contains to `bytes`. Each byte of `modules` but 0 is a dark module. No error is corrected.
+/// that it contains to `bytes`, and its ECI headers to `ecis`, as many as it has room for. Each byte of `modules` but 0
+/// is a dark module. No error is corrected.
 ///
-/// On status 0 the bytes, and the version and header in `content`, are those of a symbol with the same codewords and
+/// On status 0 the bytes and ECI headers, and what `content` says, are those of a symbol with the same codewords and
 /// the same first copy of the format information. Nothing is promised of the function patterns, the dark module, the
 /// second copy, the version information and the remainder bits.
 ///
@@ -81,10 +97,12 @@ pub extern "C" fn qrproved_read(
     modules: &[u8],
     side: u32,
     bytes: &mut [u8],
+    ecis: &mut [QrprovedEci],
     content: &mut QrprovedContent,
 ) -> u8
-    ensures done { result ≡ DONE → IsGiven modules.now side bytes.old bytes.new content.new }
-    ensures unchanged { result ≢ DONE → (bytes.new ≡ bytes.old) × (content.new ≡ content.old) }
+    ensures done { result ≡ DONE → IsGiven modules.now side bytes.old bytes.new ecis.old ecis.new content.new }
+    ensures unchanged { result ≢ DONE
+        → (bytes.new ≡ bytes.old) × (ecis.new ≡ ecis.old) × (content.new ≡ content.old) }
     ensures side { (result ≡ SIDE) ↔ (IsSide side → ⊥) }
     ensures room { (result ≡ ROOM) ↔ (IsSide side × ((length modules.now < side * side)
         ⊎ ((result ≢ MEMORY) × HasMoreBytes modules.now side bytes.old))) }
@@ -117,7 +135,8 @@ pub extern "C" fn qrproved_read(
                 return ROOM;
             }
             bytes[..len].copy_from_slice(&parsed.bytes);
-            *content = content_of(len, version, parsed.header);
+            write_ecis(&parsed.ecis, ecis);
+            *content = content_of(len, version, &parsed);
             DONE
         }
     }
@@ -133,11 +152,14 @@ mod tests {
     fn nothing() -> QrprovedContent {
         QrprovedContent {
             len: 9,
+            eci_count: 9,
             version: 9,
             has_header: 9,
             position: 9,
             last: 9,
             parity: 9,
+            fnc1: 9,
+            application: 9,
         }
     }
 
@@ -150,7 +172,7 @@ mod tests {
         }
         let mut bytes = [7u8; 10];
         let mut content = nothing();
-        let status = qrproved_read(rt.alloc(), &modules, 21, &mut bytes, &mut content);
+        let status = qrproved_read(rt.alloc(), &modules, 21, &mut bytes, &mut [], &mut content);
         assert_eq!(rt; status, DONE);
         assert_eq!(rt; bytes, *b"01234567\x07\x07");
         assert_eq!(rt;
@@ -182,7 +204,7 @@ mod tests {
         for (position, square, part) in rows {
             let mut bytes = [7u8; 5];
             let mut content = nothing();
-            let status = qrproved_read(rt.alloc(), square, 21, &mut bytes, &mut content);
+            let status = qrproved_read(rt.alloc(), square, 21, &mut bytes, &mut [], &mut content);
             assert_eq!(rt; status, DONE);
             assert_eq!(rt; bytes.get(..part.len()), Some(part), "symbol {position}");
             assert_eq!(rt; content.len, part.len());
@@ -216,7 +238,14 @@ mod tests {
             let mut bytes = [7u8; 8];
             let mut content = nothing();
             assert!(rt; room <= bytes.len());
-            let status = qrproved_read(rt.alloc(), modules, side, &mut bytes[..room], &mut content);
+            let status = qrproved_read(
+                rt.alloc(),
+                modules,
+                side,
+                &mut bytes[..room],
+                &mut [],
+                &mut content,
+            );
             assert_eq!(rt; status, wanted, "{name}");
             assert_eq!(rt; bytes, [7u8; 8], "{name}");
             assert_eq!(rt;

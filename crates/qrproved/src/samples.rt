@@ -22,10 +22,10 @@ pub(crate) fn eight_digits(rt: &HostRuntime) -> Result<[u8; 441], Fail> {
     Ok(modules)
 }
 
-/// A symbol at 1-M whose data codewords begin with 0111, the mode indicator of no mode that is read.
+/// A symbol at 1-M whose data codewords begin with 0110, which is no mode indicator.
 pub(crate) fn another_mode(rt: &HostRuntime) -> Result<[u8; 441], Fail> {
     let version = Version::FIRST;
-    let message = [0x70u8; 16];
+    let message = [0x60u8; 16];
     if version.data_codewords(Level::M) != 16 {
         return Err("16 data codewords".into());
     }

@@ -1,7 +1,7 @@
 //! Tests of `read_symbol`.
 
 use crate::samples::{EIGHT_DIGITS, byte_symbol};
-use qr_bits::{Mode, Rule, Segment};
+use qr_bits::{Item, Mode, Rule, Segment};
 use qr_layout::{Level, Version, walk};
 use qr_matrix::Matrix;
 use qr_symbol::{ReadFault, build_masked, encode, read_symbol};
@@ -16,8 +16,8 @@ fn says(rt: &HostRuntime, matrix: &Matrix, mode: Mode, bytes: &[u8]) -> Result<b
     };
     Ok(
         parsed.header.is_none()
-            && parsed.segments.len() == 1
-            && parsed.segments.first().copied() == Some(segment)
+            && parsed.items.len() == 1
+            && parsed.items.first().copied() == Some(Item::Data(segment))
             && parsed.bytes.as_slice() == bytes,
     )
 }

@@ -4,7 +4,7 @@ ghost use Rattle.std.specs.Prelude.{◌<◌, ◌≤◌, length};
 ghost use Rattle.std.specs.Option.{ForSome};
 ghost use Rattle.qr_bits.specs.declared.modes.TheConstants.{INPUT_MAX};
 
-use qr_bits::{Header, INPUT_MAX, Mode, Segment, codewords, covers};
+use qr_bits::{Header, INPUT_MAX, Interpretation, Mode, Segment, codewords, covers};
 use qr_layout::{Level, Version};
 use qr_symbol::{Symbol, build, interleave};
 use std::test::Fail;
@@ -33,7 +33,15 @@ pub fn byte_codewords(
     if !covers(bytes, &[segment]) {
         return Err("the segment is not the bytes".into());
     }
-    Ok(codewords(rt.alloc(), bytes, &[segment], header, version, level)?)
+    Ok(codewords(
+        rt.alloc(),
+        bytes,
+        &[segment],
+        header,
+        Interpretation::Default,
+        version,
+        level,
+    )?)
 }
 
 /// As `byte_codewords`, but returns the symbol, with the mask of least penalty.

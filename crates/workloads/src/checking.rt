@@ -25,7 +25,7 @@ pub fn symbol_of(
 
 fn add_parsed(parsed: &Parsed, digest: &mut Digest) {
     digest.add_bytes(parsed.bytes.as_slice());
-    digest.add(parsed.segments.len() as u64);
+    digest.add(parsed.items.len() as u64);
 }
 
 fn add_fault(fault: &ReadFault, digest: &mut Digest) {

@@ -6,3 +6,7 @@ pub mod ParsingLemmas
 pub mod ValueLemmas
 -- A parse reads back every stream that is written, and what it reads is a stream.
 pub mod StreamReadingLemmas
+-- Fields that alphanumeric mode writes after FNC1 are read back.
+pub mod FieldLemmas
+-- A parse reads back every stream of items.
+pub mod ItemLemmas

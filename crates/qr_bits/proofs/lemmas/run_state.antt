@@ -4,3 +4,5 @@ pub mod BestLemmas
 pub mod CostLemmas
 -- An assignment is valid (`IsAssignment`) exactly if each of its modes is allowed after those before it (`allowed`).
 pub mod AssignmentLemmas
+-- A `%` that alphanumeric mode doubles takes two steps.
+pub mod DoubledLemmas

@@ -2,16 +2,20 @@
 use Rattle.std.proofs.Common.{◌≡◌, ℕ, zero, suc, ◌+◌, ◌-◌, ◌*◌, ◌/◌, ◌%◌, ◌<◌, ◌≤◌, min, Bool, true, false, All, List, [], ◌++◌, length, replicate, Ok, Option, refl, ap, ⊎_elim, arith, append_assoc, length-append, append-nil}
 use Rattle.std.proofs.lemmas.{Bool.lt-ltb, Bool.cases_lt, Bool.or_right, List.length-replicate, List.drop_all}
 use Rattle.qr_layout.specs.{declared.level.Level.Level, Blocks.data_codewords_of}
-use Rattle.qr_bits.specs.{declared.{segment.Segment.Segment, header.Header.Header}, Parsing.{ends, parse}}
+use Rattle.qr_bits.specs.{declared.{segment.Segment.Segment, header.Header.Header}, Parsing.{content_of, plain_content, ends, parse}}
 use Rattle.qr_bits.specs.{Bits.bits_of, Segmentation.bits, Header.header_bits, Stream.IsStream}
+use Rattle.qr_bits.specs.Interpretation.{interpretation_bits, items_in}
+use Rattle.qr_bits.specs.declared.interpretation.Interpretation.{Interpretation}
+use Rattle.qr_bits.specs.declared.interpretation.Interpretation.TheVariants.{Default}
+use Rattle.qr_bits.proofs.lemmas.interpretation.MeaningLemmas.{plain_meant}
 use Rattle.qr_bits.specs.Padding.{capacity_of, terminated, filled, pads, padded, IsData}
-use Rattle.qr_bits.proofs.lemmas.{bits.BitLemmas.length-bits_of, padding.PaddingLemmas.length-header_stream}
+use Rattle.qr_bits.proofs.lemmas.{bits.BitLemmas.length-bits_of, padding.PaddingLemmas.{length-header_stream, length-interpretation_stream}}
 use Rattle.qr_bits.proofs.lemmas.parsing.ValueLemmas.{bytes_again, bytes_takes}
 use Rattle.qr_bits.proofs.lemmas.{stream.WritingLemmas.length-segments_stream, parsing.StreamReadingLemmas.parse_again}
 
 -- The length of a stream is the number of bits of its header and its segments.
-pub length-stream : (v : ℕ) (xs : List ℕ) (segs : List Segment) (h : Option Header) (stream : List Bool) → IsStream v xs segs h stream → length stream ≡ header_bits h + bits v segs
-length-stream v xs segs h stream is = search (arith, length-append, length-header_stream, length-segments_stream)
+pub length-stream : (v : ℕ) (xs : List ℕ) (segs : List Segment) (h : Option Header) (i : Interpretation) (stream : List Bool) → IsStream v xs segs h i stream → length stream ≡ header_bits h + interpretation_bits i + bits v segs
+length-stream v xs segs h i stream is = search (arith, length-append, length-header_stream, length-interpretation_stream, length-segments_stream)
 
 length-pads : (n : ℕ) → length (pads n) ≡ n
 unfolding pads
@@ -39,16 +43,21 @@ tail_of n stream h =
     )
 
 -- A parse of data codewords returns what they were made of.
-pub data_again : (v : ℕ) (l : Level) (xs : List ℕ) (segs : List Segment) (h : Option Header) (cw : List ℕ) → IsData v l xs segs h cw
-    → parse v (bits_of cw) ≡ Ok (record { header = h; segments = segs; bytes = xs })
-data_again v l xs segs h cw d =
+pub data_again : (v : ℕ) (l : Level) (xs : List ℕ) (segs : List Segment) (h : Option Header) (i : Interpretation) (cw : List ℕ) → IsData v l xs segs h i cw
+    → parse v (bits_of cw) ≡ Ok (content_of h (items_in i segs) xs)
+data_again v l xs segs h i cw d =
     let t = tail_of (data_codewords_of v l) d.stream d.fits in
     search (arith, parse_again)
 
+-- As `data_again`, without an ECI header and FNC1.
+pub data_plain : (v : ℕ) (l : Level) (xs : List ℕ) (segs : List Segment) (h : Option Header) (cw : List ℕ) → IsData v l xs segs h Default cw
+    → parse v (bits_of cw) ≡ Ok (plain_content h segs xs)
+data_plain v l xs segs h cw d = cc (data_again v l xs segs h Default cw d, plain_meant h segs xs d.is_stream.suit)
+
 -- If a stream fits a symbol, there are data codewords.
-pub data_found : (v : ℕ) (l : Level) (xs : List ℕ) (segs : List Segment) (h : Option Header) (stream : List Bool) → IsStream v xs segs h stream → length stream ≤ capacity_of v l
-    → (cw : List ℕ) × IsData v l xs segs h cw
-data_found v l xs segs h stream is fits =
+pub data_found : (v : ℕ) (l : Level) (xs : List ℕ) (segs : List Segment) (h : Option Header) (i : Interpretation) (stream : List Bool) → IsStream v xs segs h i stream → length stream ≤ capacity_of v l
+    → (cw : List ℕ) × IsData v l xs segs h i cw
+data_found v l xs segs h i stream is fits =
     let n = data_codewords_of v l in
     let all = padded n stream in
     let len = length-padded n stream fits in
@@ -61,9 +70,9 @@ same_bytes xs ys a b e =
     cc (bytes_again xs [] a, bytes_again ys [] b)
 
 -- There is only one list of data codewords.
-pub data_one : (v : ℕ) (l : Level) (xs : List ℕ) (segs : List Segment) (h : Option Header) (cw dw : List ℕ) → IsData v l xs segs h cw → IsData v l xs segs h dw → cw ≡ dw
-data_one v l xs segs h cw dw a b = search (arith, same_bytes)
+pub data_one : (v : ℕ) (l : Level) (xs : List ℕ) (segs : List Segment) (h : Option Header) (i : Interpretation) (cw dw : List ℕ) → IsData v l xs segs h i cw → IsData v l xs segs h i dw → cw ≡ dw
+data_one v l xs segs h i cw dw a b = search (arith, same_bytes)
 
 -- there are as many data codewords as the symbol has
-pub length-data : (v : ℕ) (l : Level) (xs : List ℕ) (segs : List Segment) (h : Option Header) (cw : List ℕ) → IsData v l xs segs h cw → length cw ≡ data_codewords_of v l
-length-data v l xs segs h cw d = omega (arith, ap length d.codewords, length-padded (data_codewords_of v l) d.stream d.fits, length-bits_of cw)
+pub length-data : (v : ℕ) (l : Level) (xs : List ℕ) (segs : List Segment) (h : Option Header) (i : Interpretation) (cw : List ℕ) → IsData v l xs segs h i cw → length cw ≡ data_codewords_of v l
+length-data v l xs segs h i cw d = omega (arith, ap length d.codewords, length-padded (data_codewords_of v l) d.stream d.fits, length-bits_of cw)

@@ -1,9 +1,12 @@
 -- The terminator and the pad codewords.
-use Rattle.std.proofs.Common.{◌≡◌, ℕ, zero, suc, ◌+◌, ◌-◌, ◌%◌, ◌<◌, ◌≤◌, min, ◌==◌, Bool, cond, List, [], ◌∷◌, ◌++◌, length, length-append, refl, arith, All}
+use Rattle.std.proofs.Common.{◌≡◌, ℕ, zero, suc, ◌+◌, ◌-◌, ◌*◌, ◌%◌, ◌<◌, ◌≤◌, min, ◌==◌, Bool, cond, List, [], ◌∷◌, ◌++◌, length, length-append, refl, arith, All}
 use Rattle.{std.specs.Prelude.Option, qr_bits.specs.Padding.{capacity_of, filled, pads, padded, IsData}}
 use Rattle.qr_layout.specs.{declared.level.Level.Level, Blocks.data_codewords_of}
 use Rattle.qr_bits.specs.{declared.segment.Segment.Segment, declared.header.Header.Header, Bits.field, Bits.bits_of}
 use Rattle.qr_bits.specs.{Header.header_stream, Header.header_bits, Stream.IsStream}
+use Rattle.qr_bits.specs.declared.interpretation.Interpretation.{Interpretation}
+use Rattle.qr_bits.specs.declared.interpretation.Interpretation.TheVariants as written
+use Rattle.qr_bits.specs.Interpretation.{interpretation_stream, interpretation_bits, designator, designator_codewords}
 use Rattle.qr_bits.proofs.lemmas.bits.BitLemmas.{length-field, length-bits_of, bits_of-append, field-zero}
 
 pads-push : (n : ℕ) → pads (n + 1) ≡ pads n ++ cond (n % 2 == 0) 0xEC 0x11 ∷ []
@@ -28,15 +31,24 @@ unfolding pads
 pads-none n h = grind arith
 
 -- the whole codewords of the stream and its terminator, followed by pad codewords, are the data codewords
-pub is_data : (v : ℕ) (l : Level) (xs : List ℕ) (segs : List Segment) (h : Option Header) (stream : List Bool)
-    (used : ℕ) (whole cw : List ℕ) → IsStream v xs segs h stream → length stream ≡ used →
+pub is_data : (v : ℕ) (l : Level) (xs : List ℕ) (segs : List Segment) (h : Option Header) (i : Interpretation) (stream : List Bool)
+    (used : ℕ) (whole cw : List ℕ) → IsStream v xs segs h i stream → length stream ≡ used →
     used ≤ capacity_of v l → bits_of whole ≡ filled (stream ++ field (min 4 (capacity_of v l - used)) 0) →
-    cw ≡ whole ++ pads (data_codewords_of v l - length whole) → All (λ b. b < 256) cw → IsData v l xs segs h cw
+    cw ≡ whole ++ pads (data_codewords_of v l - length whole) → All (λ b. b < 256) cw → IsData v l xs segs h i cw
 unfolding padded
-is_data v l xs segs h stream used whole cw is len fits filling padding bytes =
+is_data v l xs segs h i stream used whole cw is len fits filling padding bytes =
     search (arith, bits_of, field-zero, length-bits_of, bits_of-append)
 
 -- the length of a header's bits
 pub length-header_stream : (h : Option Header) → length (header_stream h) ≡ header_bits h
 unfolding header_stream
 length-header_stream h = grind (arith, length-append, length-field)
+
+length-designator : (n : ℕ) → length (designator n) ≡ 8 * designator_codewords n
+unfolding designator
+length-designator n = grind (arith, length-append, length-field)
+
+-- the length of an ECI header or FNC1
+pub length-interpretation_stream : (i : Interpretation) → length (interpretation_stream i) ≡ interpretation_bits i
+unfolding interpretation_stream
+length-interpretation_stream i = grind (arith, length-append, length-field, length-designator)

@@ -1,10 +1,11 @@
 -- A parse, segment by segment.
-use Rattle.std.proofs.Common.{◌≡◌, ℕ, zero, suc, ◌+◌, ◌≤◌, Bool, true, false, cond, List, [], ◌∷◌, ◌++◌, length, take, drop, Result, Ok, Err, refl, ap, ⊎_elim, arith}
+use Rattle.std.proofs.Common.{◌≡◌, ℕ, zero, suc, ◌+◌, ◌≤◌, Bool, true, false, cond, List, [], ◌∷◌, ◌++◌, length, take, drop, Result, Ok, Err, refl, ap, ◌*◌, ◌-◌, ◌==◌, ◌&&◌, nat_lt, nat_le, ⊎_elim, arith}
 use Rattle.std.proofs.lemmas.Bool.{lt-ltb, le-ltb, ltb-false, or_parts, or_left, and_parts, cases_Bool}
 use Rattle.{std.proofs.lemmas.List.{append-nil, append_assoc, length-drop}, qr_bits.specs.Steps.Parsing.IsFaultOf}
-use Rattle.qr_bits.specs.declared.{modes.Mode.Mode, segment.Segment.Segment, fault.ParseFault.ParseFault}
-use Rattle.qr_bits.specs.{declared.fault.ParseFault.TheVariants.Memory, Bits.value, Modes.count_width}
-use Rattle.qr_bits.specs.Parsing.{◌>>=◌, IsResultOf, mode_of, ends, leading_number, payload_at, segment_at, segments_at, segments_of, begins_header, header_at}
+use Rattle.qr_bits.specs.declared.{modes.Mode.Mode, segment.Segment.Segment, interpretation.Designator.Designator, interpretation.Item.Item, fault.ParseFault.ParseFault}
+use Rattle.qr_bits.specs.Interpretation.{may_follow, is_application_indicator}
+use Rattle.qr_bits.specs.{declared.fault.ParseFault.TheVariants.{Memory, BadValue}, Bits.value, Modes.count_width}
+use Rattle.qr_bits.specs.Parsing.{◌>>=◌, IsResultOf, mode_of, ends, leading_number, payload_at, segment_at, designator_at, application_at, item_at, items_at, items_of, begins_header, header_at}
 use borrow.Author.Tests.{leb-true}
 
 -- if two parsers in turn succeed, the first one succeeds, and the second one succeeds on its result
@@ -51,62 +52,116 @@ pub ended_empty : (bits : List Bool) → length bits ≤ 0 → ends bits ≡ tru
 unfolding ends
 ended_empty bits h = search (arith, or_left, lt-ltb)
 
--- a segment, and then the rest
-abbrev pub step : Result (Segment × List ℕ × List Bool) ParseFault → (List Bool → Result (List Segment × List ℕ) ParseFault) → Result (List Segment × List ℕ) ParseFault
-step read next = read >>= λ s. next s.2 >>= λ r. Ok (s.0 ∷ r.0, s.1 ++ r.1)
+short_shorter : (a : ℕ × List Bool) (number : ℕ → ℕ) (n : ℕ) (d : Designator × List Bool) → (leading_number 8 a.1 >>= λ b. Ok (record { number = number b.0; codewords = n }, b.1)) ≡ Ok d → length d.1 ≤ length a.1
+short_shorter a number n d h =
+    let b = bind_ok (leading_number 8 a.1) _ d h in
+    omega (arith, number_shorter _ _ _ b.1, ap (λ (t : Designator × List Bool). length t.1) (same_ok _ _ b.2))
 
-same_rest : (read : Result (Segment × List ℕ × List Bool) ParseFault) (n m v : ℕ)
-    → ((s : Segment × List ℕ × List Bool) → read ≡ Ok s → segments_at n v s.2 ≡ segments_at m v s.2)
-    → step read (segments_at n v) ≡ step read (segments_at m v)
-same_rest read n m v h = grind arith
+designator_shorter : (bits : List Bool) (d : Designator × List Bool) → designator_at bits ≡ Ok d → length d.1 ≤ length bits
+unfolding designator_at
+designator_shorter bits d h =
+    let a = bind_ok (leading_number 8 bits) _ d h in
+    let less = number_shorter 8 bits a.0 a.1 in
+    ⊎_elim (λ (e : nat_lt a.0.0 128 ≡ true). let k = rw e at a.2 in omega (arith, less, ap (λ (t : Designator × List Bool). length t.1) (same_ok _ _ k)))
+    (λ (e : nat_lt a.0.0 128 ≡ false). let k = rw e at a.2 in
+    ⊎_elim (λ (f : nat_lt a.0.0 192 ≡ true). let m = rw f at k in omega (arith, less, short_shorter a.0 (λ n. 256 * (a.0.0 - 128) + n) 2 d m))
+    (λ (f : nat_lt a.0.0 192 ≡ false). let m = rw f at k in
+    let g = guard_ok (nat_le 224 a.0.0) BadValue _ d m in
+    let b = bind_ok (leading_number 16 a.0.1) _ d g.1 in
+    let last = number_shorter 16 a.0.1 b.0 b.1 in
+    ⊎_elim (λ (o : nat_lt (65536 * (a.0.0 - 192) + b.0.0) 1000000 ≡ true). let p = rw o at b.2 in omega (arith, less, last, ap (λ (t : Designator × List Bool). length t.1) (same_ok _ _ p)))
+    (λ (o : nat_lt (65536 * (a.0.0 - 192) + b.0.0) 1000000 ≡ false). let p = rw o at b.2 in grind arith)
+    (cases_Bool (nat_lt (65536 * (a.0.0 - 192) + b.0.0) 1000000)))
+    (cases_Bool (nat_lt a.0.0 192)))
+    (cases_Bool (nat_lt a.0.0 128))
 
-enough : (n m v : ℕ) (bits : List Bool) → length bits ≤ n → length bits ≤ m → segments_at n v bits ≡ segments_at m v bits
-unfolding segments_at
-enough zero zero v bits h k = refl
-enough zero (suc m) v bits h k = rw (ended_empty bits h) refl
-enough (suc n) zero v bits h k = rw (ended_empty bits k) refl
-enough (suc n) (suc m) v bits h k = ⊎_elim (λ (e : ends bits ≡ true). rw e refl)
-    (λ (e : ends bits ≡ false). rw e (same_rest (segment_at v bits) n m v
-    (λ s q. enough n m v s.2 (omega (arith, segment_shorter v bits s (not_ended bits e) q)) (omega (arith, segment_shorter v bits s (not_ended bits e) q)))))
+application_shorter : (bits : List Bool) (a : ℕ × List Bool) → application_at bits ≡ Ok a → length a.1 ≤ length bits
+unfolding application_at
+application_shorter bits a h =
+    let n = bind_ok (leading_number 8 bits) _ a h in
+    let less = number_shorter 8 bits n.0 n.1 in
+    ⊎_elim (λ (e : is_application_indicator n.0.0 ≡ true). let k = rw e at n.2 in omega (arith, less, ap (λ (t : ℕ × List Bool). length t.1) (same_ok _ _ k)))
+    (λ (e : is_application_indicator n.0.0 ≡ false). let k = rw e at n.2 in grind arith)
+    (cases_Bool (is_application_indicator n.0.0))
+
+-- an item has at least the four bits of its indicator
+pub item_shorter : (v : ℕ) (may : Bool) (bits : List Bool) (i : Item × List ℕ × List Bool) → 4 ≤ length bits → item_at v may bits ≡ Ok i → length i.2 + 4 ≤ length bits
+unfolding item_at
+item_shorter v may bits i four h =
+    let rest = length-drop 4 bits in
+    let n = value (take 4 bits) in
+    ⊎_elim (λ (e : (n == 7) ≡ true). let k = rw e at h in
+    let d = bind_ok (designator_at (drop 4 bits)) _ i k in
+    omega (arith, rest, designator_shorter _ _ d.1, ap (λ (t : Item × List ℕ × List Bool). length t.2) (same_ok _ _ d.2)))
+    (λ (e : (n == 7) ≡ false). let k = rw e at h in
+    ⊎_elim (λ (f : (may && n == 5) ≡ true). let m = rw f at k in omega (arith, rest, ap (λ (t : Item × List ℕ × List Bool). length t.2) (same_ok _ _ m)))
+    (λ (f : (may && n == 5) ≡ false). let m = rw f at k in
+    ⊎_elim (λ (g : (may && n == 9) ≡ true). let o = rw g at m in
+    let a = bind_ok (application_at (drop 4 bits)) _ i o in
+    omega (arith, rest, application_shorter _ _ a.1, ap (λ (t : Item × List ℕ × List Bool). length t.2) (same_ok _ _ a.2)))
+    (λ (g : (may && n == 9) ≡ false). let o = rw g at m in
+    let s = bind_ok (segment_at v bits) _ i o in
+    omega (arith, segment_shorter v bits s.0 four s.1, ap (λ (t : Item × List ℕ × List Bool). length t.2) (same_ok _ _ s.2)))
+    (cases_Bool (may && n == 9)))
+    (cases_Bool (may && n == 5)))
+    (cases_Bool (n == 7))
+
+-- an item, and then the rest
+abbrev pub step : Bool → Result (Item × List ℕ × List Bool) ParseFault → (Bool → List Bool → Result (List Item × List ℕ) ParseFault) → Result (List Item × List ℕ) ParseFault
+step may read next = read >>= λ i. next (may_follow may i.0) i.2 >>= λ r. Ok (i.0 ∷ r.0, i.1 ++ r.1)
+
+same_rest : (may : Bool) (read : Result (Item × List ℕ × List Bool) ParseFault) (n m v : ℕ)
+    → ((i : Item × List ℕ × List Bool) → read ≡ Ok i → items_at n v (may_follow may i.0) i.2 ≡ items_at m v (may_follow may i.0) i.2)
+    → step may read (items_at n v) ≡ step may read (items_at m v)
+same_rest may read n m v h = grind arith
+
+enough : (n m v : ℕ) (may : Bool) (bits : List Bool) → length bits ≤ n → length bits ≤ m → items_at n v may bits ≡ items_at m v may bits
+unfolding items_at
+enough zero zero v may bits h k = refl
+enough zero (suc m) v may bits h k = rw (ended_empty bits h) refl
+enough (suc n) zero v may bits h k = rw (ended_empty bits k) refl
+enough (suc n) (suc m) v may bits h k = ⊎_elim (λ (e : ends bits ≡ true). rw e refl)
+    (λ (e : ends bits ≡ false). rw e (same_rest may (item_at v may bits) n m v
+    (λ i q. enough n m v (may_follow may i.0) i.2 (omega (arith, item_shorter v may bits i (not_ended bits e) q)) (omega (arith, item_shorter v may bits i (not_ended bits e) q)))))
     (cases_Bool (ends bits))
 
--- at an end no segment is read
-pub segments_end : (v : ℕ) (bits : List Bool) → ends bits ≡ true → segments_of v bits ≡ Ok ([], [])
-unfolding segments_of segments_at
-segments_end v bits h = search (arith, enough)
+-- at an end no item is read
+pub items_end : (v : ℕ) (may : Bool) (bits : List Bool) → ends bits ≡ true → items_of v may bits ≡ Ok ([], [])
+unfolding items_of items_at
+items_end v may bits h = search (arith, enough)
 
--- if the data does not end here, a segment is read and then the rest
-pub segments_step : (v : ℕ) (bits : List Bool) → ends bits ≡ false
-    → segments_of v bits ≡ step (segment_at v bits) (segments_of v)
-unfolding segments_of segments_at
-segments_step v bits h = grind (arith, enough, segment_shorter, not_ended)
+-- if the data does not end here, an item is read and then the rest
+pub items_step : (v : ℕ) (may : Bool) (bits : List Bool) → ends bits ≡ false
+    → items_of v may bits ≡ step may (item_at v may bits) (items_of v)
+unfolding items_of items_at
+items_step v may bits h = grind (arith, enough, item_shorter, not_ended)
 
--- the result for the rest, with the segments and bytes that were read before it
-abbrev pub behind : List Segment → List ℕ → Result (List Segment × List ℕ) ParseFault → Result (List Segment × List ℕ) ParseFault
-behind segs xs read = read >>= λ r. Ok (segs ++ r.0, xs ++ r.1)
+-- the result for the rest, with the items and bytes that were read before it
+abbrev pub behind : List Item → List ℕ → Result (List Item × List ℕ) ParseFault → Result (List Item × List ℕ) ParseFault
+behind items xs read = read >>= λ r. Ok (items ++ r.0, xs ++ r.1)
 
-pub behind_none : (read : Result (List Segment × List ℕ) ParseFault) → behind [] [] read ≡ read
+pub behind_none : (read : Result (List Item × List ℕ) ParseFault) → behind [] [] read ≡ read
 behind_none (Ok r) = refl
 behind_none (Err e) = refl
 
--- one more segment is read
-pub behind_more : (v : ℕ) (bits rest : List Bool) (segs : List Segment) (xs ys : List ℕ) (s : Segment) → ends bits ≡ false → segment_at v bits ≡ Ok (s, ys, rest)
-    → behind segs xs (segments_of v bits) ≡ behind (segs ++ s ∷ []) (xs ++ ys) (segments_of v rest)
-behind_more v bits rest segs xs ys s e h = rw (segments_step v bits e, h) (grind (arith, append_assoc))
+-- one more item is read
+pub behind_more : (v : ℕ) (may : Bool) (bits rest : List Bool) (items : List Item) (xs ys : List ℕ) (i : Item) → ends bits ≡ false → item_at v may bits ≡ Ok (i, ys, rest)
+    → behind items xs (items_of v may bits) ≡ behind (items ++ i ∷ []) (xs ++ ys) (items_of v (may_follow may i) rest)
+behind_more v may bits rest items xs ys i e h = rw (items_step v may bits e, h) (grind (arith, append_assoc))
 
--- a fault of the next segment is the fault of the whole parse
-pub fault_all : (v : ℕ) (bits start : List Bool) (segs : List Segment) (xs : List ℕ) (f : ParseFault) → ends bits ≡ false → IsFaultOf f (segment_at v bits)
-    → behind segs xs (segments_of v bits) ≡ segments_of v start → IsFaultOf f (segments_of v start)
-fault_all v bits start segs xs f e h i = grind (arith, segments_step v bits e)
+-- a fault of the next item is the fault of the whole parse
+pub fault_all : (v : ℕ) (may : Bool) (bits start : List Bool) (items : List Item) (xs : List ℕ) (f : ParseFault) → ends bits ≡ false → IsFaultOf f (item_at v may bits)
+    → behind items xs (items_of v may bits) ≡ items_of v true start → IsFaultOf f (items_of v true start)
+fault_all v may bits start items xs f e h i = grind (arith, items_step v may bits e)
 
 -- a returned fault other than `Memory` is the fault of the definition
 pub fault-read : {A : Type 0} (e : ParseFault) (read : Result A ParseFault) → (e ≡ Memory → ⊥) → IsResultOf (Err e) read → read ≡ Err e
 fault-read e read other h = grind arith
 
--- at an end of the data, all segments are read
-pub end_all : (v : ℕ) (bits start : List Bool) (segs : List Segment) (xs : List ℕ) → ends bits ≡ true
-    → behind segs xs (segments_of v bits) ≡ segments_of v start → segments_of v start ≡ Ok (segs, xs)
-end_all v bits start segs xs e i = search (arith, segments_end, append-nil)
+-- at an end of the data, all items are read
+pub end_all : (v : ℕ) (may : Bool) (bits start : List Bool) (items : List Item) (xs : List ℕ) → ends bits ≡ true
+    → behind items xs (items_of v may bits) ≡ items_of v true start → items_of v true start ≡ Ok (items, xs)
+end_all v may bits start items xs e i = search (arith, items_end, append-nil)
 
 -- a header whose bits are all there
 pub header_whole : (bits : List Bool) → 16 ≤ length bits

@@ -1,26 +1,30 @@
 -- A parse reads back every stream that is written, and what it reads is a stream.
-use Rattle.std.proofs.Common.{◌≡◌, ℕ, zero, suc, ◌^◌, ◌<◌, ◌≤◌, Bool, true, false, ◌==◌, nat_le, All, List, [], ◌∷◌, ◌++◌, length, take, drop, Ok, Option, Some, refl, sym, ◌∙◌, ap, subst, ⊎_elim, arith, lit<, append_assoc, length-append}
-use Rattle.std.proofs.lemmas.Bool.{le-ltb, lt-leb, le-leb, ltb-false, cases_Bool, eqb-true, and_parts}
+use Rattle.std.proofs.Common.{◌≡◌, ℕ, zero, suc, ◌+◌, ◌-◌, ◌*◌, ◌/◌, ◌%◌, ◌^◌, ◌<◌, ◌≤◌, Bool, true, false, ◌==◌, nat_le, nat_lt, All, List, [], ◌∷◌, ◌++◌, length, take, drop, Ok, Option, Some, refl, sym, ◌∙◌, ap, subst, ⊎_elim, arith, lit<, append_assoc, length-append}
+use Rattle.std.proofs.lemmas.Bool.{le-ltb, lt-ltb, ltb-true, lt-leb, le-leb, ltb-false, cases_Bool, eqb-true, and_parts}
 use Rattle.std.proofs.lemmas.List.{length-take-le, length-drop, drop-drop, take-append-drop}
 use Rattle.std.proofs.lemmas.List.Elements.{All-nil, All-append, All-take, All-drop}
 use Rattle.std.proofs.Math.Seq.{take-append_seam, drop-append_seam}
 use borrow.Author.Tests.{leb-true}
 use Rattle.qr_bits.specs.declared.{modes.Mode.Mode, segment.Segment.Segment, header.Header.Header}
 use Rattle.qr_bits.specs.{Bits.{field, value}, Header.{header_indicator, header_stream, HeaderFits}}
+use Rattle.qr_bits.specs.declared.interpretation.{Interpretation.Interpretation, Item.Item, Item.TheVariants.{Data, Eci, Fnc1First}}
+use Rattle.qr_bits.specs.declared.interpretation.Interpretation.TheVariants as written
+use Rattle.qr_bits.specs.Interpretation.{plain, may_follow, meant_bytes, designator, designator_codewords, interpretation_stream, InterpretationFits, items_in}
 use Rattle.qr_bits.specs.Modes.{character_count, count_width, byte_count, payload_bits, suits, indicator}
 use Rattle.qr_bits.specs.Stream.{payload, segment_stream, segments_stream, Suits, CountsFit, IsStream}
-use Rattle.qr_bits.specs.Parsing.{values_of, mode_of, ends, leading_number, payload_at, segment_at, segments_at, segments_of, begins_header, header_at, first_header, Content, parse}
+use Rattle.qr_bits.specs.Parsing.{values_of, mode_of, ends, leading_number, payload_at, segment_at, designator_at, item_at, items_at, items_of, begins_header, header_at, first_header, content_of, plain_content, parse}
 use Rattle.qr_bits.proofs.lemmas.{bits.BitLemmas.length-field, parsing.PayloadLemmas.value_take_below}
-use Rattle.qr_bits.proofs.lemmas.parsing.ParsingLemmas.{bind_ok, guard_ok, same_ok, not_ended, ended_empty, segment_shorter, segments_end, segments_step, header_whole}
+use Rattle.qr_bits.proofs.lemmas.interpretation.MeaningLemmas.{meant-plain, plain_meant}
+use Rattle.qr_bits.proofs.lemmas.parsing.ParsingLemmas.{bind_ok, guard_ok, same_ok, not_ended, ended_empty, item_shorter, items_end, items_step, header_whole}
 use Rattle.qr_bits.proofs.lemmas.stream.StreamLemmas.{IsWritten, drop-field, read_field, field_read}
 use Rattle.qr_bits.proofs.lemmas.parsing.ValueLemmas.{values_again, values_takes}
 use Rattle.qr_bits.proofs.lemmas.stream.WritingLemmas.{in_twos-even, length-payload}
 
-number_again : (w n : ℕ) (rest : List Bool) → n < 2 ^ w → leading_number w (field w n ++ rest) ≡ Ok (n, rest)
+pub number_again : (w n : ℕ) (rest : List Bool) → n < 2 ^ w → leading_number w (field w n ++ rest) ≡ Ok (n, rest)
 unfolding leading_number
 number_again w n rest h = search (arith, length-append, length-field, le-ltb, read_field, drop-field)
 
-number_takes : (w : ℕ) (bits : List Bool) (n : ℕ × List Bool) → leading_number w bits ≡ Ok n → (n.0 < 2 ^ w) × (bits ≡ field w n.0 ++ n.1)
+pub number_takes : (w : ℕ) (bits : List Bool) (n : ℕ × List Bool) → leading_number w bits ≡ Ok n → (n.0 < 2 ^ w) × (bits ≡ field w n.0 ++ n.1)
 unfolding leading_number
 number_takes w bits n h = search (arith, guard_ok, same_ok, value_take_below, field_read, ltb-false, take-append-drop)
 
@@ -65,12 +69,12 @@ segment_again v m xs rest bytes suited fits =
     search (arith, append_assoc, read_field, indicator_most, mode_again, drop-field, number_again, payload_again, len_again)
 
 -- a segment that was read is the stream of these bytes, with the rest after it
-record IsSegment (v : ℕ) (bits : List Bool) (s : Segment) (xs : List ℕ) (rest : List Bool) : Type 0 where
-  long : length xs ≡ s.len
-  bytes : All (λ b. b < 256) xs
-  suited : suits s.mode xs ≡ true
-  fits : character_count s.mode s.len < 2 ^ count_width v s.mode
-  whole : bits ≡ segment_stream v s.mode xs ++ rest
+pub record IsSegment (v : ℕ) (bits : List Bool) (s : Segment) (xs : List ℕ) (rest : List Bool) : Type 0 where
+  pub long : length xs ≡ s.len
+  pub bytes : All (λ b. b < 256) xs
+  pub suited : suits s.mode xs ≡ true
+  pub fits : character_count s.mode s.len < 2 ^ count_width v s.mode
+  pub whole : bits ≡ segment_stream v s.mode xs ++ rest
 
 segment_from : (v : ℕ) (m : Mode) (bits : List Bool) (n : ℕ × List Bool) (p : List ℕ × List Bool) → 4 ≤ length bits → value (take 4 bits) ≡ indicator m
     → (n.0 < 2 ^ count_width v m) × (drop 4 bits ≡ field (count_width v m) n.0 ++ n.1) → IsWritten m n.0 n.1 p.0 × (p.1 ≡ drop (payload_bits m (byte_count m n.0)) n.1)
@@ -84,7 +88,7 @@ segment_from v m bits n p four e number said =
     let head : take 4 bits ≡ field 4 (indicator m) = sym (field_read 4 bits four) ∙ ap (field 4) e in
     grind (arith, append_assoc, take-append-drop)
 
-segment_takes : (v : ℕ) (bits : List Bool) (s : Segment × List ℕ × List Bool) → 4 ≤ length bits → segment_at v bits ≡ Ok s → IsSegment v bits s.0 s.1 s.2
+pub segment_takes : (v : ℕ) (bits : List Bool) (s : Segment × List ℕ × List Bool) → 4 ≤ length bits → segment_at v bits ≡ Ok s → IsSegment v bits s.0 s.1 s.2
 unfolding segment_at segment_stream
 segment_takes v bits s four h =
     let m = bind_ok (mode_of (value (take 4 bits))) _ s h in
@@ -93,19 +97,32 @@ segment_takes v bits s four h =
     subst (λ (t : Segment × List ℕ × List Bool). IsSegment v bits t.0 t.1 t.2) (same_ok _ _ p.2)
     (segment_from v m.0 bits n.0 p.0 four (mode_takes _ _ m.1) (number_takes _ _ _ n.1) (payload_takes _ _ _ _ p.1))
 
-opens : (v : ℕ) (m : Mode) (xs : List ℕ) (rest : List Bool) → ends (segment_stream v m xs ++ rest) ≡ false
+pub opens : (v : ℕ) (m : Mode) (xs : List ℕ) (rest : List Bool) → ends (segment_stream v m xs ++ rest) ≡ false
 unfolding ends
 opens v m xs rest = grind (arith, first_four, le-ltb)
 
-segments_again : (v : ℕ) (xs : List ℕ) (segs : List Segment) (tail : List Bool) → All (λ b. b < 256) xs → Suits xs segs → CountsFit v segs → ends tail ≡ true
-    → segments_of v (segments_stream v xs segs ++ tail) ≡ Ok (segs, xs)
+-- the indicator of a mode is that of no other item
+item_segment : (v : ℕ) (may : Bool) (bits : List Bool) (s : Segment × List ℕ × List Bool) → segment_at v bits ≡ Ok s → item_at v may bits ≡ Ok (Data s.0, s.1, s.2)
+unfolding item_at segment_at mode_of
+item_segment v may bits s h = grind (arith, eqb-true)
+
+item_is_segment : (v : ℕ) (may : Bool) (bits rest : List Bool) (s : Segment) (xs : List ℕ) → item_at v may bits ≡ Ok (Data s, xs, rest) → segment_at v bits ≡ Ok (s, xs, rest)
+unfolding item_at
+item_is_segment v may bits rest s xs h = grind arith
+
+pub item_again : (v : ℕ) (may : Bool) (m : Mode) (xs : List ℕ) (rest : List Bool) → All (λ b. b < 256) xs → suits m xs ≡ true → character_count m (length xs) < 2 ^ count_width v m
+    → item_at v may (segment_stream v m xs ++ rest) ≡ Ok (Data (record { mode = m; len = length xs }), xs, rest)
+item_again v may m xs rest bytes suited fits = item_segment v may _ _ (segment_again v m xs rest bytes suited fits)
+
+segments_again : (v : ℕ) (may : Bool) (xs : List ℕ) (segs : List Segment) (tail : List Bool) → All (λ b. b < 256) xs → Suits xs segs → CountsFit v segs → ends tail ≡ true
+    → items_of v may (segments_stream v xs segs ++ tail) ≡ Ok (plain segs, xs)
 unfolding segments_stream Suits CountsFit
-segments_again v xs [] tail bytes suit fits end = cc (segments_end v tail end)
-segments_again v xs (s ∷ ss) tail bytes suit fits end =
+segments_again v may xs [] tail bytes suit fits end = cc (items_end v may tail end)
+segments_again v may xs (s ∷ ss) tail bytes suit fits end =
     let part = take s.len xs in
     let len : length part ≡ s.len = length-take-le s.len xs suit.0 in
     let halves : All (λ b. b < 256) part × All (λ b. b < 256) (drop s.len xs) = search (arith, All-take, All-drop) in
-    search (arith, append_assoc, segment_again, segments_step, opens, take-append-drop, segments_again v (drop s.len xs) ss tail halves.1 suit.2 fits.1 end)
+    search (arith, append_assoc, item_again, items_step, opens, take-append-drop, segments_again v false (drop s.len xs) ss tail halves.1 suit.2 fits.1 end)
 
 -- segments that were read are their stream, and then an end
 pub record IsSegments (v : ℕ) (bits : List Bool) (segs : List Segment) (xs : List ℕ) : Type 0 where
@@ -134,16 +151,26 @@ segments_more v bits rest s ss ys zs one others =
       end = others.end;
     }
 
-segments_takes : (n v : ℕ) (bits : List Bool) (r : List Segment × List ℕ) → length bits ≤ n → segments_at n v bits ≡ Ok r → IsSegments v bits r.0 r.1
-unfolding segments_at
-segments_takes zero v bits r few h = search (arith, same_ok, segments_none, ended_empty)
-segments_takes (suc n) v bits r few h = ⊎_elim (search (arith, same_ok, segments_none)) (λ (e : ends bits ≡ false).
+segments_takes : (n v : ℕ) (may : Bool) (bits : List Bool) (segs : List Segment) (xs : List ℕ) → length bits ≤ n → items_at n v may bits ≡ Ok (plain segs, xs) → IsSegments v bits segs xs
+unfolding items_at
+segments_takes zero v may bits [] xs few h = search (arith, same_ok, segments_none, ended_empty)
+segments_takes zero v may bits (s ∷ ss) xs few h = grind arith
+segments_takes (suc n) v may bits [] xs few h = ⊎_elim (search (arith, same_ok, segments_none)) (λ (e : ends bits ≡ false).
+    let i = bind_ok (item_at v may bits) _ (plain [], xs) (rw e at h) in
+    let q = bind_ok (items_at n v (may_follow may i.0.0) i.0.2) _ (plain [], xs) i.2 in
+    grind arith)
+    (cases_Bool (ends bits))
+segments_takes (suc n) v may bits (s ∷ ss) xs few h = ⊎_elim (λ (e : ends bits ≡ true). let k = rw e at h in grind arith) (λ (e : ends bits ≡ false).
     let four = not_ended bits e in
-    let s = bind_ok (segment_at v bits) _ r (rw e at h) in
-    let q = bind_ok (segments_at n v s.0.2) _ r s.2 in
-    let less = segment_shorter v bits s.0 four s.1 in
-    subst (λ (t : List Segment × List ℕ). IsSegments v bits t.0 t.1) (same_ok _ _ q.2)
-    (segments_more v bits s.0.2 s.0.0 q.0.0 s.0.1 q.0.1 (segment_takes v bits s.0 four s.1) (segments_takes n v s.0.2 q.0 (omega arith) q.1)))
+    let i = bind_ok (item_at v may bits) _ (plain (s ∷ ss), xs) (rw e at h) in
+    let q = bind_ok (items_at n v (may_follow may i.0.0) i.0.2) _ (plain (s ∷ ss), xs) i.2 in
+    let less = item_shorter v may bits i.0 four i.1 in
+    let first : i.0.0 ≡ Data s = grind arith in
+    let rest : q.0.0 ≡ plain ss = grind arith in
+    let all : i.0.1 ++ q.0.1 ≡ xs = grind arith in
+    let segment : segment_at v bits ≡ Ok (s, i.0.1, i.0.2) = search (arith, item_is_segment) in
+    subst (λ (t : List ℕ). IsSegments v bits (s ∷ ss) t) all
+    (segments_more v bits i.0.2 s ss i.0.1 q.0.1 (segment_takes v bits (s, i.0.1, i.0.2) four segment) (segments_takes n v (may_follow may i.0.0) i.0.2 ss q.0.1 (omega arith) (search arith))))
     (cases_Bool (ends bits))
 
 starts : (rest : List Bool) → begins_header (field 4 header_indicator ++ rest) ≡ true
@@ -193,10 +220,71 @@ unfolding begins_header segments_stream ends
 none_begins v xs [] tail e = search (arith, lt-leb, eqb-true, le-ltb, le-leb)
 none_begins v xs (s ∷ ss) tail e = grind (arith, first_four, append_assoc, le-leb)
 
-first_again : (v : ℕ) (h : Option Header) (xs : List ℕ) (ss : List Segment) (tail : List Bool) → HeaderFits h → ends tail ≡ true
-    → first_header ((header_stream h ++ segments_stream v xs ss) ++ tail) ≡ Ok (h, segments_stream v xs ss ++ tail)
+first_again : (h : Option Header) (rest : List Bool) → HeaderFits h → begins_header rest ≡ false → first_header (header_stream h ++ rest) ≡ Ok (h, rest)
 unfolding first_header header_stream
-first_again v h xs ss tail fits e = grind (arith, none_begins, append_assoc, header_again)
+first_again h rest fits e = grind (arith, append_assoc, header_again)
+
+-- four bits that are no header's indicator
+other_begins : (n : ℕ) (rest : List Bool) → n < 2 ^ 4 → (n == 3) ≡ false → begins_header (field 4 n ++ rest) ≡ false
+unfolding begins_header
+other_begins n rest few other = grind (arith, read_field 4 n rest few)
+
+pub other_opens : (n : ℕ) (rest : List Bool) → n < 2 ^ 4 → (n == 0) ≡ false → ends (field 4 n ++ rest) ≡ false
+unfolding ends
+other_opens n rest few other = grind (arith, read_field 4 n rest few, length-append (field 4 n) rest, length-field 4 n, le-ltb)
+
+marked_begins : (v : ℕ) (i : Interpretation) (xs : List ℕ) (segs : List Segment) (tail : List Bool) → ends tail ≡ true
+    → begins_header (interpretation_stream i ++ (segments_stream v xs segs ++ tail)) ≡ false
+unfolding interpretation_stream
+marked_begins v written.Default xs segs tail e = none_begins v xs segs tail e
+marked_begins v (written.Eci n) xs segs tail e = rw (append_assoc (field 4 7) (designator n) (segments_stream v xs segs ++ tail)) (other_begins 7 _ (lit< tt) refl)
+marked_begins v written.Gs1 xs segs tail e = other_begins 5 _ (lit< tt) refl
+
+designator_again : (n : ℕ) (rest : List Bool) → n < 1000000 → designator_at (designator n ++ rest) ≡ Ok (record { number = n; codewords = designator_codewords n }, rest)
+unfolding designator_at designator
+designator_again n rest h = ⊎_elim (λ (e : nat_lt n 128 ≡ true).
+    let small = ltb-true n 128 e in
+    rw (e, number_again 8 n rest (omega arith), e) refl)
+    (λ (e : nat_lt n 128 ≡ false).
+    let large = ltb-false n 128 e in
+    ⊎_elim (λ (f : nat_lt n 16384 ≡ true).
+    let small = ltb-true n 16384 f in
+    let high : 128 + n / 256 < 2 ^ 8 = omega arith in
+    let a : nat_lt (128 + n / 256) 128 ≡ false = le-ltb _ _ (omega arith) in
+    let b : nat_lt (128 + n / 256) 192 ≡ true = lt-ltb _ _ (omega arith) in
+    let whole : 256 * (128 + n / 256 - 128) + n % 256 ≡ n = omega arith in
+    rw (e, f, append_assoc (field 8 (128 + n / 256)) (field 8 (n % 256)) rest, number_again 8 (128 + n / 256) (field 8 (n % 256) ++ rest) high, a, b, number_again 8 (n % 256) rest (omega arith), whole) refl)
+    (λ (f : nat_lt n 16384 ≡ false).
+    let more = ltb-false n 16384 f in
+    let high : 192 + n / 65536 < 2 ^ 8 = omega arith in
+    let a : nat_lt (192 + n / 65536) 128 ≡ false = le-ltb _ _ (omega arith) in
+    let b : nat_lt (192 + n / 65536) 192 ≡ false = le-ltb _ _ (omega arith) in
+    let d : nat_le 224 (192 + n / 65536) ≡ false = lt-leb _ _ (omega arith) in
+    let whole : 65536 * (192 + n / 65536 - 192) + n % 65536 ≡ n = omega arith in
+    let six : nat_lt n 1000000 ≡ true = lt-ltb _ _ h in
+    rw (e, f, append_assoc (field 8 (192 + n / 65536)) (field 16 (n % 65536)) rest, number_again 8 (192 + n / 65536) (field 16 (n % 65536) ++ rest) high, a, b, d, number_again 16 (n % 65536) rest (omega arith), whole, six) refl)
+    (cases_Bool (nat_lt n 16384)))
+    (cases_Bool (nat_lt n 128))
+
+eci_again : (v : ℕ) (may : Bool) (n : ℕ) (rest : List Bool) → n < 1000000
+    → item_at v may (field 4 7 ++ (designator n ++ rest)) ≡ Ok (Eci (record { number = n; codewords = designator_codewords n }), [], rest)
+unfolding item_at
+eci_again v may n rest h = rw (read_field 4 7 (designator n ++ rest) (lit< tt), drop-field 4 7 (designator n ++ rest), designator_again n rest h) refl
+
+gs1_again : (v : ℕ) (rest : List Bool) → item_at v true (field 4 5 ++ rest) ≡ Ok (Fnc1First, [], rest)
+unfolding item_at
+gs1_again v rest = rw (read_field 4 5 rest (lit< tt), drop-field 4 5 rest) refl
+
+marked_again : (v : ℕ) (i : Interpretation) (xs : List ℕ) (segs : List Segment) (tail : List Bool) → InterpretationFits i → All (λ b. b < 256) xs → Suits xs segs → CountsFit v segs → ends tail ≡ true
+    → items_of v true (interpretation_stream i ++ (segments_stream v xs segs ++ tail)) ≡ Ok (items_in i segs, xs)
+unfolding interpretation_stream
+marked_again v written.Default xs segs tail six bytes suit fits e = segments_again v true xs segs tail bytes suit fits e
+marked_again v (written.Eci n) xs segs tail six bytes suit fits e =
+    let rest = segments_stream v xs segs ++ tail in
+    rw (append_assoc (field 4 7) (designator n) rest, items_step v true (field 4 7 ++ (designator n ++ rest)) (other_opens 7 _ (lit< tt) refl), eci_again v true n rest six, segments_again v true xs segs tail bytes suit fits e) refl
+marked_again v written.Gs1 xs segs tail six bytes suit fits e =
+    let rest = segments_stream v xs segs ++ tail in
+    rw (items_step v true (field 4 5 ++ rest) (other_opens 5 _ (lit< tt) refl), gs1_again v rest, segments_again v false xs segs tail bytes suit fits e) refl
 
 fits_of : (h : Header) → h.position < 16 → h.last < 16 → h.parity < 256 → HeaderFits (Some h)
 fits_of h a b d = search arith
@@ -217,22 +305,34 @@ first_takes bits r h = ⊎_elim (λ (e : begins_header bits ≡ true).
     let w = header_takes (drop 4 bits) q.0 q.1 in
     search (arith, same_ok, append_assoc, started)) (search (arith, same_ok)) (cases_Bool (begins_header bits))
 
--- A stream followed by an end is parsed into its header, segments and bytes.
-pub parse_again : (v : ℕ) (xs : List ℕ) (segs : List Segment) (h : Option Header) (front tail : List Bool) → IsStream v xs segs h front → ends tail ≡ true
-    → parse v (front ++ tail) ≡ Ok (record { header = h; segments = segs; bytes = xs })
+-- A stream followed by an end is parsed into its header, items and bytes.
+pub parse_again : (v : ℕ) (xs : List ℕ) (segs : List Segment) (h : Option Header) (i : Interpretation) (front tail : List Bool) → IsStream v xs segs h i front → ends tail ≡ true
+    → parse v (front ++ tail) ≡ Ok (content_of h (items_in i segs) xs)
 unfolding parse
-parse_again v xs segs h front tail is e = search (arith, first_again, segments_again)
+parse_again v xs segs h i front tail is e =
+    let rest = interpretation_stream i ++ (segments_stream v xs segs ++ tail) in
+    let whole : front ++ tail ≡ header_stream h ++ rest = rw is.whole (search (arith, append_assoc)) in
+    rw (whole, first_again h rest is.header (marked_begins v i xs segs tail e), marked_again v i xs segs tail is.interpretation is.bytes is.suit is.counts e) refl
 
--- the bits are the stream of this content, and then an end
-abbrev Says : ℕ → List Bool → Content → Type 0
-Says v bits c = (front : List Bool) × (tail : List Bool) × IsStream v c.bytes c.segments c.header front × (bits ≡ front ++ tail) × (ends tail ≡ true)
+-- As `parse_again`, without an ECI header and FNC1.
+pub parse_plain : (v : ℕ) (xs : List ℕ) (segs : List Segment) (h : Option Header) (front tail : List Bool) → IsStream v xs segs h written.Default front → ends tail ≡ true
+    → parse v (front ++ tail) ≡ Ok (plain_content h segs xs)
+parse_plain v xs segs h front tail is e = cc (parse_again v xs segs h written.Default front tail is e, plain_meant h segs xs is.suit)
 
--- Bits that are parsed are a stream followed by an end.
-pub parse_takes : (v : ℕ) (bits : List Bool) (c : Content) → parse v bits ≡ Ok c → Says v bits c
-unfolding parse segments_of
-parse_takes v bits c e =
-    let h = bind_ok (first_header bits) _ c e in
-    let r = bind_ok (segments_at (length h.0.1) v h.0.1) _ c h.2 in
-    let first = first_takes bits h.0 h.1 in
-    let others = segments_takes (length h.0.1) v h.0.1 r.0 (omega arith) r.1 in
+-- the bits are the stream of these segments, and then an end
+abbrev Says : ℕ → List Bool → List ℕ → List Segment → Option Header → Type 0
+Says v bits xs segs h = (front : List Bool) × (tail : List Bool) × IsStream v xs segs h written.Default front × (bits ≡ front ++ tail) × (ends tail ≡ true)
+
+-- Bits that are parsed as segments alone are a stream followed by an end.
+pub parse_takes : (v : ℕ) (bits : List Bool) (h : Option Header) (segs : List Segment) (xs : List ℕ) → parse v bits ≡ Ok (plain_content h segs xs) → Says v bits xs segs h
+unfolding parse items_of interpretation_stream
+parse_takes v bits h segs xs e =
+    let a = bind_ok (first_header bits) _ _ e in
+    let r = bind_ok (items_at (length a.0.1) v true a.0.1) _ _ a.2 in
+    let first = first_takes bits a.0 a.1 in
+    let same : r.0.0 ≡ plain segs = grind arith in
+    let header : a.0.0 ≡ h = grind arith in
+    let others = segments_takes (length a.0.1) v true a.0.1 segs r.0.1 (omega arith) (search arith) in
+    let meant : meant_bytes false r.0.0 r.0.1 ≡ xs = grind arith in
+    let bytes : r.0.1 ≡ xs = cc (meant, same, meant-plain segs r.0.1 others.suit) in
     search (arith, same_ok, append_assoc)

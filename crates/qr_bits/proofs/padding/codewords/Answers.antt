@@ -1,16 +1,17 @@
 use Rattle.std.proofs.Common.{◌≡◌, ℕ, ◌+◌, ◌*◌, ◌^◌, ◌<◌, ◌≤◌, ◌++◌, refl, arith, length-append}
 use Rattle.std.proofs.lemmas.List.Elements.{All-from_get_or}
 use Rattle.qr_bits.specs.{Header.header_stream, Stream.segments_stream, Stream.IsStream}
+use Rattle.qr_bits.specs.Interpretation.{interpretation_stream}
 use Rattle.qr_bits.proofs.lemmas.segment.SegmentLemmas.{covers_all, bits_most, bits_least}
 use Rattle.qr_bits.proofs.lemmas.{stream.WritingLemmas.length-segments_stream, segment.CoverLemmas.covers_suits}
-use Rattle.qr_bits.proofs.lemmas.padding.PaddingLemmas.{is_data, length-header_stream}
+use Rattle.qr_bits.proofs.lemmas.padding.PaddingLemmas.{is_data, length-header_stream, length-interpretation_stream}
 use Rattle.qr_bits.proofs.lemmas.padding.CountLemmas.{capacity_most, counts_fit}
 use Rattle.qr_bits.proofs.padding.codewords.Goals as goal
 
 -- header and segments have at most as many bits as the data codewords, and the input is short
-room : (h b k head bits most : ℕ) → h ≡ head → b ≡ bits → k ≡ most → h + b ≤ k
-    → (h + b ≤ most) × (bits ≤ most) × (most < head + bits → ⊥) × ((n : ℕ) → 10 * n ≤ 3 * bits → most ≤ 23648 → n < 2 ^ 16)
-room h b k head bits most e f g l = (omega arith, omega arith, λ o. omega arith, λ n m c. omega arith)
+room : (h i b k head mark bits most : ℕ) → h ≡ head → i ≡ mark → b ≡ bits → k ≡ most → h + i + b ≤ k
+    → (h + i + b ≤ most) × (bits ≤ most) × (most < head + mark + bits → ⊥) × ((n : ℕ) → 10 * n ≤ 3 * bits → most ≤ 23648 → n < 2 ^ 16)
+room h i b k head mark bits most e j f g l = (omega arith, omega arith, λ o. omega arith, λ n m c. omega arith)
 
 pub bit_len-requires-clause-nonempty : goal.bit_len-requires-clause-nonempty
 bit_len-requires-clause-nonempty c = (covers_all c.args.input.now c.args.segs.now c.requires.covered).0
@@ -18,19 +19,19 @@ bit_len-requires-clause-nonempty c = (covers_all c.args.input.now c.args.segs.no
 pub bit_len-requires-clause-short : goal.bit_len-requires-clause-short
 bit_len-requires-clause-short c = rw (covers_all c.args.input.now c.args.segs.now c.requires.covered).1 c.requires.short
 
-pub overflow_add-used : goal.overflow_add-used
-overflow_add-used c =
+pub overflow_add-used-2 : goal.overflow_add-used-2
+overflow_add-used-2 c =
     let all = covers_all c.args.input.now c.args.segs.now c.requires.covered in
-    omega (arith, all.1, bits_most c.args.version c.args.segs.now all.0, c.requires.short, c.header_bits.ensures.most, c.bit_len.ensures)
+    omega (arith, all.1, bits_most c.args.version c.args.segs.now all.0, c.requires.short, c.header_bits.ensures.most, c.interpretation_bits.ensures.most, c.bit_len.ensures)
 
 pub returns-then-used-capacity-clause-too_long : goal.returns-then-used-capacity-clause-too_long
-returns-then-used-capacity-clause-too_long c = (λ e. rw (← c.capacity-capacity.ensures.value, ← c.header_bits.ensures.value, ← c.bit_len.ensures) c.if-used-capacity.true, λ h. refl)
+returns-then-used-capacity-clause-too_long c = (λ e. rw (← c.capacity-capacity.ensures.value, ← c.header_bits.ensures.value, ← c.interpretation_bits.ensures.value, ← c.bit_len.ensures) c.if-used-capacity.true, λ h. refl)
 
 pub put_all-requires-clause-short : goal.put_all-requires-clause-short
 put_all-requires-clause-short c =
     let least = bits_least c.args.version c.args.input.now c.args.segs.now (covers_suits c.args.input.now c.args.segs.now c.requires.covered) in
     let most = capacity_most c.args.version c.args.level c.capacity-capacity.ensures.first c.capacity-capacity.ensures.last in
-    (room _ _ _ _ _ _ c.header_bits.ensures.value c.bit_len.ensures c.capacity-capacity.ensures.value c.if-used-capacity.false).3 _ least most
+    (room _ _ _ _ _ _ _ _ c.header_bits.ensures.value c.interpretation_bits.ensures.value c.bit_len.ensures c.capacity-capacity.ensures.value c.if-used-capacity.false).3 _ least most
 
 pub returns-clause-ok : goal.returns-clause-ok
 returns-clause-ok c =
@@ -38,20 +39,21 @@ returns-clause-ok c =
     let segs = c.args.segs.now in
     let suit = covers_suits xs segs c.requires.covered in
     let k = c.capacity-capacity.ensures in
-    let left = room _ _ _ _ _ _ c.header_bits.ensures.value c.bit_len.ensures k.value c.if-used-capacity.false in
-    let is : IsStream c.args.version xs segs c.args.header (header_stream c.args.header ++ segments_stream c.args.version xs segs) = record {
+    let left = room _ _ _ _ _ _ _ _ c.header_bits.ensures.value c.interpretation_bits.ensures.value c.bit_len.ensures k.value c.if-used-capacity.false in
+    let is : IsStream c.args.version xs segs c.args.header c.args.interpretation ((header_stream c.args.header ++ interpretation_stream c.args.interpretation) ++ segments_stream c.args.version xs segs) = record {
       bytes = All-from_get_or (λ (b : ℕ). b < 256) xs 0 (λ i h. omega (arith, c.type_inv.input i));
       suit = suit;
       counts = counts_fit c.args.version c.args.level segs k.first k.last left.1;
       header = λ h e. let r = c.requires.in_range h e in (r.0, r.1, c.in_ok-put_all.ensures.1 h e);
+      interpretation = c.requires.number;
       whole = refl;
     } in
-    is_data c.args.version c.args.level xs segs c.args.header _ (c.header_bits.result + c.bit_len.result) c.into_codewords-codewords.result.items _ is
-    (rw (length-append (header_stream c.args.header) (segments_stream c.args.version xs segs), length-header_stream c.args.header, length-segments_stream c.args.version xs segs suit, c.header_bits.ensures.value, c.bit_len.ensures) refl)
+    is_data c.args.version c.args.level xs segs c.args.header c.args.interpretation _ (c.header_bits.result + c.interpretation_bits.result + c.bit_len.result) c.into_codewords-codewords.result.items _ is
+    (rw (length-append (header_stream c.args.header ++ interpretation_stream c.args.interpretation) (segments_stream c.args.version xs segs), length-append (header_stream c.args.header) (interpretation_stream c.args.interpretation), length-header_stream c.args.header, length-interpretation_stream c.args.interpretation, length-segments_stream c.args.version xs segs suit, c.header_bits.ensures.value, c.interpretation_bits.ensures.value, c.bit_len.ensures) refl)
     left.0
     (rw (c.into_codewords-codewords.ensures, c.in_ok-put_all.ensures.0, c.in_ok-writer.ensures, c.capacity-capacity.ensures.value))
     (search arith) c.in_ok-pad.ensures.1
 
 pub returns-clause-too_long : goal.returns-clause-too_long
 returns-clause-too_long c =
-    (λ e. cc, λ h. absurd ((room _ _ _ _ _ _ c.header_bits.ensures.value c.bit_len.ensures c.capacity-capacity.ensures.value c.if-used-capacity.false).2 h))
+    (λ e. cc, λ h. absurd ((room _ _ _ _ _ _ _ _ c.header_bits.ensures.value c.interpretation_bits.ensures.value c.bit_len.ensures c.capacity-capacity.ensures.value c.if-used-capacity.false).2 h))

@@ -1,3 +1,4 @@
+use Rattle.qr_bits.specs.Parsing.{plain_content}
 use Rattle.{std.{proofs.Common.arith, specs.Prelude.None}, qr_matrix.specs.Grid.light}
 use Rattle.qr_symbol.proofs.Facts.{symbol-format, symbol-holds}
 use Rattle.qr_mending.proofs.lemmas.laws.DamageLemmas.{symbol-mended, symbol-mended-as}
@@ -12,5 +13,5 @@ returns c = λ smallest l rule x v mask g least s side few.
     let u = light damaged.side in
     let f = few-format v l mask s.made.codewords damaged g (omega (arith, least, first)) w.most s.made.drawn (symbol-format v l rule x None mask g (omega (arith, least, first)) w.most s.made) few in
     let d = few-held v l mask damaged g s.made.message (omega (arith, least, first)) w.most (symbol-holds v l rule x None mask g (omega (arith, least, first)) w.most s.made) few in
-    symbol-mended-as u damaged v l mask (record { header = None; segments = s.made.segments; bytes = x }) d.0 c.mend_symbol.result
+    symbol-mended-as u damaged v l mask (plain_content None s.made.segments x) d.0 c.mend_symbol.result
     (symbol-mended u smallest l rule x v mask g damaged d.0 least s side f d.1) c.mend_symbol.ensures.mended

@@ -1,8 +1,10 @@
 -- A damaged symbol of an input is mended to the input.
+use Rattle.qr_bits.specs.declared.interpretation.Interpretation.TheVariants.{Default}
+use Rattle.qr_bits.specs.Parsing.{plain_content}
 use Rattle.std.proofs.Common.{◌≡◌, ℕ, ◌≤◌, List, refl, sym, ◌∙◌, ap, arith}
 use Rattle.std.specs.Prelude.{Result, Ok, Err, None, IfOk, MatchResult}
 use Rattle.{qr_layout.specs.declared.level.Level.Level, qr_matrix.specs.Grid.Grid}
-use Rattle.qr_bits.{specs.{declared.modes.Rule.Rule, Parsing.Content}, proofs.Facts.data_again}
+use Rattle.qr_bits.{specs.{declared.modes.Rule.Rule, Parsing.Content}, proofs.Facts.data_plain}
 use Rattle.qr_symbol.specs.{Symbol.grid_of, declared.fault.ReadFault.ReadFault, Encoding.IsSymbol}
 use Rattle.qr_symbol.specs.declared.fault.ReadFault.TheVariants as fault
 use Rattle.qr_mending.{specs.declared.mending.Mended.Mended, proofs.lemmas.laws.SoundnessLemmas.wrong-one}
@@ -39,15 +41,11 @@ module _ (unknown : Grid) (smallest : ℕ) (l : Level) (rule : Rule) (x : List �
   }
 
   -- a damaged symbol of an input can be read with its damage mended, as the input
-  pub symbol-mended : IsMendedReading unknown h v l mask (record {
-    header = None;
-    segments = s.made.segments;
-    bytes = x;
-  }) changed
+  pub symbol-mended : IsMendedReading unknown h v l mask (plain_content None s.made.segments x) changed
   symbol-mended = record {
     message = s.made.message;
     form = symbol-form;
-    parsed = data_again v l x s.made.segments None s.made.message s.made.written;
+    parsed = data_plain v l x s.made.segments None s.made.message s.made.written;
   }
 
   -- the same, with the numbers of changed codewords and wrong modules
@@ -56,7 +54,7 @@ module _ (unknown : Grid) (smallest : ℕ) (l : Level) (rule : Rule) (x : List �
       IfOk r (λ m. m.wrong_format_modules ≡ wrong_format_modules unknown h m.level m.mask) →
       IfOk r (λ m. HasWrongModules unknown h m.version m.level m.mask m.changed.items m.wrong_modules) →
       MatchResult r (λ m. (m.version ≡ v) × (m.level ≡ l) × (m.mask ≡ mask)
-      × (m.parsed ≡ record { header = None; segments = s.made.segments; bytes = x }) × (m.changed.items ≡ changed)
+      × (m.parsed ≡ plain_content None s.made.segments x) × (m.changed.items ≡ changed)
       × (m.wrong_modules ≡ wrong_modules unknown h g) × (m.wrong_format_modules ≡ wrong_format_modules unknown h l mask)) (λ e. e ≡ fault.Memory)
   symbol-counted (Ok m) k format modules =
       let w = mended-reading-one unknown h m.version v m.level l m.mask mask m.parsed _ m.changed.items changed k

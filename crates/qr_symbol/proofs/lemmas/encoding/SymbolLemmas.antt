@@ -1,4 +1,5 @@
 -- An input has only one symbol, since each step of making it has only one result.
+use Rattle.qr_bits.specs.declared.interpretation.Interpretation.TheVariants.{Default}
 use Rattle.qr_bits.proofs.Facts.{data_one, segmentation-one}
 use Rattle.qr_bits.specs.{Padding.IsData, declared.{header.Header.Header, modes.Rule.Rule, segment.Segment.Segment}}
 use Rattle.{qr_layout.specs.declared.level.Level.Level, qr_matrix.specs.Grid.Grid}
@@ -22,7 +23,7 @@ pub symbol-at-one : (v : ℕ) (l : Level) (rule : Rule) (xs : List ℕ) (head : 
 symbol-at-one v l rule xs head m n g h a b =
     let segments : a.segments ≡ b.segments = segmentation-one v _ xs _ _ a.chosen b.chosen in
     let codewords : a.codewords ≡ b.codewords = final-one _ _ _ _
-    (subst (λ (d : List ℕ). IsInterleaved v l d a.codewords) (data_one v l xs _ _ _ _ (subst (λ (ss : List Segment). IsData v l xs ss head a.message) segments a.written) b.written) a.interleaved) b.interleaved in
+    (subst (λ (d : List ℕ). IsInterleaved v l d a.codewords) (data_one v l xs _ _ _ _ _ (subst (λ (ss : List Segment). IsData v l xs ss head Default a.message) segments a.written) b.written) a.interleaved) b.interleaved in
     search (arith, least-one)
 
 -- An input has at most one symbol.

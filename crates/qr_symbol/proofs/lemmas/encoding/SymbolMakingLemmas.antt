@@ -1,4 +1,5 @@
 -- A symbol that is built from the codewords of an input is the symbol of this input.
+use Rattle.qr_bits.specs.declared.interpretation.Interpretation.TheVariants.{Default}
 use Rattle.qr_bits.{proofs.Facts.{capacity_least, length-stream, least_fits}, specs.Header.header_bits}
 use Rattle.qr_bits.specs.{Padding.{IsData, capacity_of, room_of}, Segmentation.{bits, HasFit, IsLeastSegmentation}}
 use Rattle.qr_bits.specs.declared.{header.Header.Header, modes.Rule.Rule, segment.Segment.Segment}
@@ -13,7 +14,7 @@ use Rattle.qr_symbol.specs.declared.fault.EncodeFault.TheVariants as fault
 
 -- a symbol that is built from the codewords of bytes is the symbol of these bytes
 pub symbol-built : (v : ℕ) (l : Level) (x : List ℕ) (h : Option Header) (segs : List Segment) (message passed codewords given : List ℕ)
-    (r : Result Symbol EncodeFault) → IsData v l x segs h message → passed ≡ message → IsInterleaved v l passed codewords
+    (r : Result Symbol EncodeFault) → IsData v l x segs h Default message → passed ≡ message → IsInterleaved v l passed codewords
     → given ≡ codewords → IfOk r (λ s. s.version ≡ v) → IfOk r (λ s. s.level ≡ l) → IfOk r (λ s. IsMask v l given s.mask)
     → IfOk r (λ s. s.matrix ≡ grid_of v l s.mask given) → IfErr r (λ e. e ≡ fault.Memory)
     → MatchResult r (λ s. (b : Rule) → IsLeastSegmentation v b x segs → IsSymbolOf v l b x h s)

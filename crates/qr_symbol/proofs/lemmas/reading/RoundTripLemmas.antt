@@ -1,5 +1,6 @@
 -- A symbol is read as its input.
-use Rattle.qr_bits.{proofs.Facts.{data_again, length-data}, specs.{Parsing.Content, declared.header.Header.Header}}
+use Rattle.qr_bits.specs.Parsing.{plain_content}
+use Rattle.qr_bits.{proofs.Facts.{data_plain, length-data}, specs.{Parsing.Content, declared.header.Header.Header}}
 use Rattle.{qr_bits.specs.declared.modes.Rule.Rule, qr_layout.specs.declared.{blocks.Blocks.Blocks, level.Level.Level}}
 use Rattle.{qr_matrix.specs.Grid.Grid, qr_symbol.proofs.lemmas.interleaving.MessageLemmas.final-whole}
 use Rattle.qr_symbol.proofs.lemmas.reading.FormatLemmas.{format-one, format-read}
@@ -23,14 +24,14 @@ final-bytes b d cw a h = subst (All (λ x. x < 256)) (sym h.whole) (All-append (
 -- the symbol of an input contains its message
 pub symbol-holds : (v : ℕ) (l : Level) (b : Rule) (x : List ℕ) (h : Option Header) (mask : ℕ) (g : Grid) → 1 ≤ v → v ≤ 40 → (s : IsSymbolAt v l b x h mask g) → IsMessage v l mask g s.message
 symbol-holds v l b x h mask g p q s =
-    subst (λ (z : Grid). IsMessage v l mask z s.message) (sym s.drawn) (message-read v l _ _ _ p q (final-whole v l _ _ p q s.interleaved) (final-bytes _ _ _ s.written.bytes s.interleaved) (length-data v l x _ h _ s.written) s.interleaved)
+    subst (λ (z : Grid). IsMessage v l mask z s.message) (sym s.drawn) (message-read v l _ _ _ p q (final-whole v l _ _ p q s.interleaved) (final-bytes _ _ _ s.written.bytes s.interleaved) (length-data v l x _ h _ _ s.written) s.interleaved)
 
 -- a symbol has the format information of its level and mask
 pub symbol-format : (v : ℕ) (l : Level) (b : Rule) (x : List ℕ) (h : Option Header) (mask : ℕ) (g : Grid) → 1 ≤ v → v ≤ 40 → IsSymbolAt v l b x h mask g → IsFormat g l mask
 symbol-format v l b x h mask g p q s = subst (λ (z : Grid). IsFormat z l mask) (sym s.drawn) (format-read v l _ _ p q s.best.in_range)
 
 -- the symbol of an input is read as its bytes, in its segments and after its header
-pub symbol-read : (v : ℕ) (l : Level) (b : Rule) (x : List ℕ) (h : Option Header) (mask : ℕ) (g : Grid) → 1 ≤ v → v ≤ 40 → (s : IsSymbolAt v l b x h mask g) → IsReading g (record { header = h; segments = s.segments; bytes = x })
+pub symbol-read : (v : ℕ) (l : Level) (b : Rule) (x : List ℕ) (h : Option Header) (mask : ℕ) (g : Grid) → 1 ≤ v → v ≤ 40 → (s : IsSymbolAt v l b x h mask g) → IsReading g (plain_content h s.segments x)
 symbol-read v l b x h mask g p q s = record {
   version = v;
   level = l;
@@ -39,7 +40,7 @@ symbol-read v l b x h mask g p q s = record {
   sized = record { least = p; most = q; side = ap (λ (z : Grid). z.side) s.drawn };
   format = symbol-format v l b x h _ g p q s;
   holds = symbol-holds v l b x h _ g p q s;
-  parsed = data_again v l x _ h _ s.written;
+  parsed = data_plain v l x _ h _ s.written;
 }
 
 -- a square is read as at most one content

@@ -1,4 +1,5 @@
 -- An input has only one series, which is read as the input; long inputs have no series.
+use Rattle.qr_bits.specs.Parsing.{plain_content}
 use Rattle.qr_bits.{proofs.Facts.{fitting_short, empty_fits}, specs.{Header.parity_of, Parsing.Content}}
 use Rattle.{qr_bits.specs.declared.{header.Header.Header, modes.Rule.Rule}, qr_layout.specs.declared.level.Level.Level}
 use Rattle.{qr_matrix.specs.Grid.Grid, qr_symbol.proofs.lemmas.encoding.SymbolLemmas.symbol-at-one}
@@ -61,7 +62,7 @@ symbols-read v l b last parity k x (p ∷ ps) [] i j cut h = absurd h
 symbols-read v l b last parity k x (p ∷ ps) (s ∷ ss) i j cut h =
     let rest = symbols-read v l b _ _ (k + 1) _ ps ss i j cut.4 h.1 in
     let made = h.0.made in record {
-      contents = (record { header = Some (record { position = k; last = last; parity = parity }); segments = made.segments; bytes = p }) ∷ rest.contents;
+      contents = (plain_content (Some (record { position = k; last = last; parity = parity })) made.segments p) ∷ rest.contents;
       read = search (arith, symbol-read);
       headers = (refl, rest.headers);
       many = ap suc rest.many;
@@ -72,7 +73,7 @@ symbols-read v l b last parity k x (p ∷ ps) (s ∷ ss) i j cut h =
 lone-joined : (x : List ℕ) (l : Level) (b : Rule) (v : ℕ) (ss : List Symbol) → 1 ≤ v → v ≤ 40 → IsPlainSymbol v l b x ss → IsJoined (squares_of ss) x
 unfolding AreReadBy
 lone-joined x l b v ss i j h =
-    let made = h.made.made in let content : Content = record { header = None; segments = made.segments; bytes = x } in
+    let made = h.made.made in let content : Content = plain_content None made.segments x in
     subst (λ (ts : List Symbol). IsJoined (squares_of ts) x) (sym h.alone) (record {
       contents = content ∷ [];
       read = (symbol-read v l b x None _ _ i j made, tt);

@@ -5,6 +5,8 @@ use Rattle.{qr_layout.specs.declared.level.Level.Level, qr_bits.specs.Parsing.Co
 use Rattle.qr_mending.specs.{declared.mending.Mended.Mended, Message.tolerance_of}
 use Rattle.qr_mending.specs.Mending.{wrong_format_modules, HasWrongModules, IsMendedReading}
 use Rattle.qrproved.specs.declared.mending.QrprovedMended.{QrprovedMended}
+use Rattle.qrproved.specs.declared.interpretation.QrprovedEci.{QrprovedEci}
+use Rattle.qrproved.specs.Interpretation.{TellsInterpretation}
 use Rattle.qrproved.specs.Mending.{square_of_unknown, AreModules, HasMoreMendedBytes, HasOtherByte, IsGivenMended, IsGreatest}
 use Rattle.qrproved.specs.{Modules.square_of_bytes, Reading.TellsHeader, Settings.level_of}
 
@@ -29,7 +31,7 @@ wrong-told : (u : Grid) (g : Grid) (v w : ℕ) (l k : Level) (m n : ℕ) (x : Li
 wrong-told u g v w l k m n x a b ev el em e r = search arith
 
 -- the struct contains what is read and the damage
-pub given-mended : (modules : List ℕ) (side : ℕ) (before put : List ℕ) (m : Mended) (t : QrprovedMended) (len : ℕ)
+pub given-mended : (modules : List ℕ) (side : ℕ) (before put : List ℕ) (ecis_before ecis_after : List QrprovedEci) (m : Mended) (t : QrprovedMended) (len : ℕ)
     → AreModules modules side
     → IsMendedReading (square_of_unknown side modules) (square_of_bytes side modules) m.version m.level m.mask m.parsed m.changed.items
     → m.wrong_format_modules ≡ wrong_format_modules (square_of_unknown side modules) (square_of_bytes side modules) m.level m.mask
@@ -39,8 +41,9 @@ pub given-mended : (modules : List ℕ) (side : ℕ) (before put : List ℕ) (m 
     → TellsHeader m.parsed.header t.has_header t.position t.last t.parity
     → t.level < 4 → level_of t.level ≡ m.level → t.mask ≡ m.mask → t.wrong_format_modules ≡ m.wrong_format_modules
     → IsGreatest m.changed.items t.changed_most → t.changed_allowed ≡ tolerance_of m.version m.level
-    → IsGivenMended modules side before (put ++ drop len before) t
-given-mended modules side before put m t len all r format whole long room same elen ewrong ev header small el em eformat most allowed =
+    → TellsInterpretation m.parsed ecis_before ecis_after t.eci_count t.fnc1 t.application
+    → IsGivenMended modules side before (put ++ drop len before) ecis_before ecis_after t
+given-mended modules side before put ecis_before ecis_after m t len all r format whole long room same elen ewrong ev header small el em eformat most allowed told =
     search (arith, read-told, wrong-told)
 
 -- a square that is mended to more bytes than the buffer has

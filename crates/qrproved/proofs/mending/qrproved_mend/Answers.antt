@@ -103,10 +103,15 @@ returns-else-bytes-len-clause-done c =
     let same-bytes = ap (λ (z : Mended). z.parsed.bytes) c.found.view_is in
     let put = c.copy_from_slice.ensures.after ∙ (c.deref.ensures.value ∙ same-bytes) in
     let t = c.mended_of.ensures in
-    λ _. given-mended c.args.modules.now c.args.side c.args.bytes.now c.copy_from_slice.new.self m c.mended_of.result
+    let same-ecis = ap (λ (z : Mended). z.parsed.ecis) c.found.view_is in
+    λ _. given-mended c.args.modules.now c.args.side c.args.bytes.now c.copy_from_slice.new.self c.args.ecis.now c.write_ecis.new.out m c.mended_of.result
     c.len-len.result (modules a) (found a) (rw same at c.in-Ok.ensures.format) (rw same at c.in-Ok.ensures.modules) long
     c.if-bytes-len.false put t.len t.wrong_modules t.version t.header t.number t.level t.mask t.wrong_format_modules
-    t.most t.allowed
+    t.most t.allowed (record {
+      ecis = search arith;
+      count = t.count;
+      position = t.position;
+    })
 
 pub returns-else-bytes-len-clause-room : goal.returns-else-bytes-len-clause-room
 returns-else-bytes-len-clause-room c =

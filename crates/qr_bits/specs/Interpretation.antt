@@ -1,0 +1,130 @@
+-- What stands between the segments: ECI headers and FNC1.
+use Rattle.std.specs.Prelude.{ℕ, ◌+◌, ◌*◌, ◌/◌, ◌%◌, ◌<◌, Bool, true, false, ◌&&◌, ◌||◌, nat_lt, nat_le, if◌then◌else◌, List, [], ◌∷◌, ◌++◌, map, take, drop, length, ◌==◌, Option, Some, None}
+use Rattle.qr_bits.specs.declared.segment.Segment.{Segment}
+use Rattle.std.specs.List.{flat_map}
+use Rattle.qr_bits.specs.declared.modes.Mode.{Mode}
+use Rattle.qr_bits.specs.declared.modes.Mode.TheVariants.{Numeric, Alphanumeric, Byte, Kanji}
+use Rattle.qr_bits.specs.Bits.{field}
+use Rattle.qr_bits.specs.declared.interpretation.Interpretation.{Interpretation}
+use Rattle.qr_bits.specs.declared.interpretation.Interpretation.TheVariants as written
+use Rattle.qr_bits.specs.declared.interpretation.EciChange.{EciChange}
+use Rattle.qr_bits.specs.declared.interpretation.Fnc1.{Fnc1}
+use Rattle.qr_bits.specs.declared.interpretation.Fnc1.TheVariants.{First, Second}
+use Rattle.qr_bits.specs.declared.interpretation.Item.{Item}
+use Rattle.qr_bits.specs.declared.interpretation.Item.TheVariants.{Data, Eci, Fnc1First, Fnc1Second}
+
+-- The mode indicator of an ECI header (ISO/IEC 18004:2015, 7.4.1, Table 2)
+abbrev pub eci_indicator : ℕ
+eci_indicator = 7
+
+-- The mode indicator of FNC1 in first position (ISO/IEC 18004:2015, 7.4.1, Table 2)
+abbrev pub fnc1_first_indicator : ℕ
+fnc1_first_indicator = 5
+
+-- The mode indicator of FNC1 in second position (ISO/IEC 18004:2015, 7.4.1, Table 2)
+abbrev pub fnc1_second_indicator : ℕ
+fnc1_second_indicator = 9
+
+-- Two digits as their number, or the ASCII code of a letter plus 100 (ISO/IEC 18004:2015, 7.4.8.3)
+abbrev pub is_application_indicator : ℕ → Bool
+is_application_indicator a = nat_lt a 100 || nat_le 165 a && nat_le a 190 || nat_le 197 a && nat_le a 222
+
+-- FNC1 may stand after the item if it might before: only ECI headers come before it (ISO/IEC 18004:2015, 7.4.8.2)
+abbrev pub may_follow : Bool → Item → Bool
+may_follow may (Eci d) = may
+may_follow may _ = false
+
+-- The items of segments alone [own]
+abbrev pub plain : List Segment → List Item
+plain segs = map (λ s. Data s) segs
+
+-- The number has six digits (ISO/IEC 18004:2015, 7.4.2)
+abbrev pub InterpretationFits : Interpretation → Type 0
+InterpretationFits (written.Eci n) = n < 1000000
+InterpretationFits _ = Unit {0}
+
+-- How many codewords an ECI designator has (ISO/IEC 18004:2015, 7.4.2, Table 4)
+abbrev pub designator_codewords : ℕ → ℕ
+designator_codewords n = if nat_lt n 128 then 1 else (if nat_lt n 16384 then 2 else 3)
+
+-- The shortest designator of the number (ISO/IEC 18004:2015, 7.4.2, Table 4)
+unfoldable pub designator : ℕ → List Bool
+designator n =
+    if nat_lt n 128 then field 8 n else
+    (if nat_lt n 16384 then field 8 (128 + n / 256) ++ field 8 (n % 256) else field 8 (192 + n / 65536) ++ field 16 (n % 65536))
+
+-- The ECI header, or the mode indicator of FNC1 in first position (ISO/IEC 18004:2015, 7.4.2, 7.4.8.2)
+unfoldable pub interpretation_stream : Interpretation → List Bool
+interpretation_stream written.Default = []
+interpretation_stream (written.Eci n) = field 4 eci_indicator ++ designator n
+interpretation_stream written.Gs1 = field 4 fnc1_first_indicator
+
+-- The length of `interpretation_stream` (ISO/IEC 18004:2015, 7.4.2, 7.4.8.2)
+abbrev pub interpretation_bits : Interpretation → ℕ
+interpretation_bits written.Default = 0
+interpretation_bits (written.Eci n) = 4 + 8 * designator_codewords n
+interpretation_bits written.Gs1 = 4
+
+-- The items as which these segments are read (ISO/IEC 18004:2015, 7.4.2, 7.4.8.2)
+abbrev pub items_in : Interpretation → List Segment → List Item
+items_in written.Default segs = plain segs
+items_in (written.Eci n) segs = Eci (record { number = n; codewords = designator_codewords n }) ∷ plain segs
+items_in written.Gs1 segs = Fnc1First ∷ plain segs
+
+-- `%`, and the character that separates fields (ISO/IEC 18004:2015, 7.4.8.2)
+abbrev pub percent : ℕ
+percent = 37
+
+abbrev pub separator : ℕ
+separator = 0x1D
+
+-- What the characters of a segment stand for, from the left: `%%` for `%`, another `%` for the separator (ISO/IEC
+-- 18004:2015, 7.4.8.2)
+unfoldable pub separated : List ℕ → List ℕ
+separated [] = []
+separated (x ∷ []) = if x == percent then separator ∷ [] else x ∷ []
+separated (x ∷ y ∷ xs) =
+    if x == percent then (if y == percent then percent ∷ separated xs else separator ∷ separated (y ∷ xs)) else x ∷ separated (y ∷ xs)
+
+-- How alphanumeric mode writes the bytes after FNC1: `%` as `%%`, the separator as `%` (ISO/IEC 18004:2015, 7.4.8.2)
+unfoldable pub escaped : List ℕ → List ℕ
+escaped [] = []
+escaped (x ∷ xs) = if x == percent then percent ∷ percent ∷ escaped xs else (if x == separator then percent ∷ escaped xs else x ∷ escaped xs)
+
+-- No separator comes before another or before `%`: else alphanumeric mode cannot write both in one segment [own]
+unfoldable pub are_fields : List ℕ → Bool
+are_fields [] = true
+are_fields (x ∷ []) = true
+are_fields (x ∷ y ∷ xs) = (if x == separator then (if y == separator then false else (if y == percent then false else true)) else true) && are_fields (y ∷ xs)
+
+-- The bytes that a segment stands for: in alphanumeric mode after FNC1 `%` has its own meaning (ISO/IEC 18004:2015,
+-- 7.4.8.2, 7.4.8.3)
+abbrev pub meant : Bool → Mode → List ℕ → List ℕ
+meant true Alphanumeric xs = separated xs
+meant _ _ xs = xs
+
+-- The bytes that the items stand for: each segment takes the next of the characters `xs`; `fnc1` says that FNC1 came
+-- before (ISO/IEC 18004:2015, 7.4.8.2, 7.4.8.3)
+unfoldable pub meant_bytes : Bool → List Item → List ℕ → List ℕ
+meant_bytes fnc1 [] xs = []
+meant_bytes fnc1 (Data s ∷ is) xs = meant fnc1 s.mode (take s.len xs) ++ meant_bytes fnc1 is (drop s.len xs)
+meant_bytes fnc1 (Eci d ∷ is) xs = meant_bytes fnc1 is xs
+meant_bytes fnc1 (Fnc1First ∷ is) xs = meant_bytes true is xs
+meant_bytes fnc1 (Fnc1Second a ∷ is) xs = meant_bytes true is xs
+
+-- The ECI headers among the items, each with the number of bytes before it, of which `n` come before the first item
+-- (ISO/IEC 18004:2015, 7.4.2.2)
+unfoldable pub eci_changes : Bool → ℕ → List Item → List ℕ → List EciChange
+eci_changes fnc1 n [] xs = []
+eci_changes fnc1 n (Data s ∷ is) xs = eci_changes fnc1 (n + length (meant fnc1 s.mode (take s.len xs))) is (drop s.len xs)
+eci_changes fnc1 n (Eci d ∷ is) xs = record { number = d.number; begin = n } ∷ eci_changes fnc1 n is xs
+eci_changes fnc1 n (Fnc1First ∷ is) xs = eci_changes true n is xs
+eci_changes fnc1 n (Fnc1Second a ∷ is) xs = eci_changes true n is xs
+
+-- The FNC1 among the items, of which only ECI headers come before it (ISO/IEC 18004:2015, 7.4.8)
+unfoldable pub fnc1_of : List Item → Option Fnc1
+fnc1_of [] = None
+fnc1_of (Data s ∷ is) = None
+fnc1_of (Eci d ∷ is) = fnc1_of is
+fnc1_of (Fnc1First ∷ is) = Some First
+fnc1_of (Fnc1Second a ∷ is) = Some (Second a)

@@ -1,0 +1,232 @@
+//! What stands between the segments and says how their bytes are to be interpreted: ECI headers, and FNC1 in first or
+//! second position (ISO/IEC 18004:2015, 7.4.2, 7.4.8).
+
+ghost use Rattle.std.specs.Prelude.{IfOk, List, OnOk, false, true, [], ◌∷◌, take, drop, length, ◌≡◌, ◌≤◌, ◌++◌};
+ghost use Rattle.qr_bits.specs.declared.interpretation.Item.{Item};
+ghost use Rattle.qr_bits.specs.Interpretation.{eci_changes, fnc1_of, interpretation_bits, meant, meant_bytes, separated};
+
+use crate::modes::Mode;
+use crate::segment::Segment;
+use std::alloc::{AllocError, Global};
+
+/// How the bytes of a symbol are to be interpreted.
+#[derive(Clone, Copy, Debug, PartialEq, Eq)]
+pub enum Interpretation {
+    /// Nothing is said of it.
+    Default,
+    /// All bytes have this ECI, from 0 to 999,999: 26 is UTF-8 (7.4.2).
+    Eci(u32),
+    /// GS1 data (7.4.8.2).
+    Gs1,
+}
+
+pub(crate) fn interpretation_bits(interpretation: Interpretation) -> u64
+    ensures value { result ≡ interpretation_bits interpretation }
+    ensures most { result ≤ 28 }
+{
+    match interpretation {
+        Interpretation::Default => 0,
+        Interpretation::Eci(number) => {
+            if number < 128 {
+                12
+            } else if number < 16384 {
+                20
+            } else {
+                28
+            }
+        }
+        Interpretation::Gs1 => 4,
+    }
+}
+
+/// The number of an interpretation, as an ECI header contains it (7.4.2).
+#[derive(Clone, Copy, Debug, PartialEq, Eq)]
+pub struct Designator {
+    /// From 0 to 999,999.
+    pub number: u32,
+    /// How many codewords contain the number: 1, 2 or 3, not always as few as possible.
+    pub codewords: u8,
+}
+
+/// A segment, or what stands before or between segments.
+#[derive(Clone, Copy, Debug, PartialEq, Eq)]
+pub enum Item {
+    Data(Segment),
+    /// The bytes of the segments up to the next ECI header have this interpretation.
+    Eci(Designator),
+    /// GS1 data.
+    Fnc1First,
+    /// Data of the application with this indicator.
+    Fnc1Second(u8),
+}
+
+/// The position of FNC1, which says what the bytes of a symbol are (7.4.8).
+#[derive(Clone, Copy, Debug, PartialEq, Eq)]
+pub enum Fnc1 {
+    /// GS1 data.
+    First,
+    /// Data of the application with this indicator: 0 to 99, or the ASCII code of a letter plus 100.
+    Second(u8),
+}
+
+/// From a byte of a symbol on, its bytes have this ECI (7.4.2.2).
+#[derive(Clone, Copy, Debug, PartialEq, Eq)]
+pub struct EciChange {
+    /// From 0 to 999,999: 26 is UTF-8.
+    pub number: u32,
+    /// How many bytes of the symbol come before.
+    pub begin: usize,
+}
+
+// The character that separates fields (7.4.8.2).
+const SEPARATOR: u8 = 0x1D;
+
+/// Appends what the characters of a segment after FNC1 stand for (7.4.8.2).
+#[tactic(auto, unfolding(crate::specs::Interpretation::separated))]
+pub(crate) fn separate(characters: &[u8], out: &mut Vec<u8>) -> Result<(), AllocError>
+    ensures { OnOk result (out.new.items ≡ out.old.items ++ separated characters.now) }
+{
+    let mut rest = characters;
+    while let [first, second, after @ ..] = rest {
+        if *first == b'%' && *second == b'%' {
+            out.push(b'%')?;
+            rest = after;
+        } else {
+            out.push(if *first == b'%' { SEPARATOR } else { *first })?;
+            rest = &rest[1..];
+        }
+    }
+    if let [last] = rest {
+        out.push(if *last == b'%' { SEPARATOR } else { *last })?;
+    }
+    Ok(())
+}
+
+// Appends what the characters of a segment stand for.
+fn append_meant(
+    fnc1: bool,
+    mode: Mode,
+    characters: &[u8],
+    out: &mut Vec<u8>,
+) -> Result<(), AllocError>
+    ensures { OnOk result (out.new.items ≡ out.old.items ++ meant fnc1 mode characters.now) }
+{
+    if fnc1 && mode == Mode::Alphanumeric {
+        separate(characters, out)
+    } else {
+        out.extend_from_slice(characters)
+    }
+}
+
+// The first `len` characters, or all if there are fewer, and the others.
+fn cut(characters: &[u8], len: usize) -> (&[u8], &[u8])
+    ensures front { result.0.now ≡ take len characters.now }
+    ensures back { result.1.now ≡ drop len characters.now }
+{
+    characters.split_at(len.min(characters.len()))
+}
+
+// Whether the items are segments that take all the characters. Then their bytes are these characters.
+fn is_plain(items: &[Item], characters: &[u8]) -> bool
+    ensures bytes { result ≡ true → meant_bytes false items.now characters.now ≡ characters.now }
+    ensures ecis { result ≡ true → eci_changes false 0 items.now characters.now ≡ [] }
+{
+    let mut rest = characters;
+    for item in items {
+        let Item::Data(segment) = *item else {
+            return false;
+        };
+        rest = cut(rest, segment.len).1;
+    }
+    rest.is_empty()
+}
+
+/// The bytes that items stand for, and their ECI headers.
+#[derive(Drop)]
+pub(crate) struct Meaning {
+    pub bytes: Vec<u8>,
+    pub ecis: Vec<EciChange>,
+}
+
+// Appends what the item stands for, of which a segment takes the next characters. Returns whether FNC1 came before the
+// next item, and the other characters.
+#[tactic(auto, unfolding(crate::specs::Interpretation::meant_bytes, crate::specs::Interpretation::eci_changes))]
+fn take_item<'a>(
+    item: Item,
+    fnc1: bool,
+    characters: &'a [u8],
+    meaning: &mut Meaning,
+) -> Result<(bool, &'a [u8]), AllocError>
+    ensures bytes { IfOk result (λ r. (is : List Item) → meaning.old.bytes.items ++ meant_bytes fnc1 (item ∷ is) characters.now
+        ≡ meaning.new.bytes.items ++ meant_bytes r.0 is r.1.now) }
+    ensures ecis { IfOk result (λ r. (is : List Item)
+        → meaning.old.ecis.items ++ eci_changes fnc1 (length meaning.old.bytes.items) (item ∷ is) characters.now
+        ≡ meaning.new.ecis.items ++ eci_changes r.0 (length meaning.new.bytes.items) is r.1.now) }
+{
+    match item {
+        Item::Data(segment) => {
+            let (own, rest) = cut(characters, segment.len);
+            append_meant(fnc1, segment.mode, own, &mut meaning.bytes)?;
+            Ok((fnc1, rest))
+        }
+        Item::Eci(designator) => {
+            let begin = meaning.bytes.len();
+            meaning.ecis.push(EciChange {
+                number: designator.number,
+                begin,
+            })?;
+            Ok((fnc1, characters))
+        }
+        Item::Fnc1First | Item::Fnc1Second(_) => Ok((true, characters)),
+    }
+}
+
+fn meaning_of(alloc: Global, items: &[Item], characters: &[u8]) -> Result<Meaning, AllocError>
+    ensures bytes { IfOk result (λ m. m.bytes.items ≡ meant_bytes false items.now characters.now) }
+    ensures ecis { IfOk result (λ m. m.ecis.items ≡ eci_changes false 0 items.now characters.now) }
+{
+    let mut meaning = Meaning {
+        bytes: Vec::new(alloc),
+        ecis: Vec::new(alloc),
+    };
+    let mut rest = characters;
+    let mut fnc1 = false;
+    for item in items {
+        (fnc1, rest) = take_item(*item, fnc1, rest, &mut meaning)?;
+    }
+    Ok(meaning)
+}
+
+/// Returns what the items stand for, of which the segments contain these characters.
+pub(crate) fn interpreted(
+    alloc: Global,
+    items: &[Item],
+    characters: Vec<u8>,
+) -> Result<Meaning, AllocError>
+    ensures bytes { IfOk result (λ m. m.bytes.items ≡ meant_bytes false items.now characters.items) }
+    ensures ecis { IfOk result (λ m. m.ecis.items ≡ eci_changes false 0 items.now characters.items) }
+{
+    if is_plain(items, &characters) {
+        return Ok(Meaning {
+            bytes: characters,
+            ecis: Vec::new(alloc),
+        });
+    }
+    meaning_of(alloc, items, &characters)
+}
+
+/// Returns the FNC1 among the items, of which only ECI headers come before it.
+#[tactic(auto, unfolding(crate::specs::Interpretation::fnc1_of), using(crate::proofs::lemmas::interpretation::MeaningLemmas::fnc1_next, crate::proofs::lemmas::interpretation::MeaningLemmas::fnc1_end))]
+pub(crate) fn fnc1_of(items: &[Item]) -> Option<Fnc1>
+    ensures { result ≡ fnc1_of items.now }
+{
+    for item in items {
+        match *item {
+            Item::Eci(_) => {}
+            Item::Data(_) => return None,
+            Item::Fnc1First => return Some(Fnc1::First),
+            Item::Fnc1Second(application) => return Some(Fnc1::Second(application)),
+        }
+    }
+    None
+}

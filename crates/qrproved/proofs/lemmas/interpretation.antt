@@ -1,0 +1,2 @@
+-- ECI headers are written one by one.
+pub mod EciLemmas

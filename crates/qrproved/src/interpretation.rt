@@ -1,0 +1,46 @@
+//! How the bytes of a symbol are to be interpreted: its ECI headers and its FNC1 (ISO/IEC 18004:2015, 7.4.2, 7.4.8).
+
+ghost use Rattle.std.specs.Prelude.{◌≡◌};
+ghost use Rattle.qrproved.specs.Interpretation.{HoldsEcis, TellsFnc1, told_eci};
+
+use qr_bits::{EciChange, Fnc1};
+
+/// An ECI header of a symbol that was read: from a byte of the content on, the bytes have this ECI.
+#[repr(C)]
+#[derive(Clone, Copy)]
+pub struct QrprovedEci {
+    /// How many bytes of the content come before.
+    pub begin: usize,
+    /// The number of the ECI, 0 to 999,999: 26 is UTF-8.
+    pub number: u32,
+}
+
+fn told_eci(change: EciChange) -> QrprovedEci
+    ensures { result ≡ told_eci change }
+{
+    QrprovedEci {
+        begin: change.begin,
+        number: change.number,
+    }
+}
+
+/// Writes the ECI headers to the start of the buffer, or as many as it has room for.
+pub(crate) fn write_ecis(changes: &[EciChange], out: &mut [QrprovedEci])
+    ensures { HoldsEcis changes.now out.old out.new }
+{
+    let count = changes.len().min(out.len());
+    for i in 0..count {
+        out[i] = told_eci(changes[i]);
+    }
+}
+
+/// Returns 0 and 0 without FNC1, 1 and 0 for its first position, and 2 and the application indicator for the second.
+pub(crate) fn fnc1_numbers(fnc1: Option<Fnc1>) -> (u8, u8)
+    ensures { TellsFnc1 fnc1 result.0 result.1 }
+{
+    match fnc1 {
+        None => (0, 0),
+        Some(Fnc1::First) => (1, 0),
+        Some(Fnc1::Second(application)) => (2, application),
+    }
+}
