@@ -71,13 +71,13 @@ static __attribute__((noinline)) void make(void)
 	else if (!strcmp(call, "encode_series"))
 		status = qrproved_encode_series(input, input_len, number, level, rule, out, sizeof out, &series);
 	else if (!strcmp(call, "read"))
-		status = qrproved_read(input, input_len, number, out, sizeof out, &content);
+		status = qrproved_read(input, input_len, number, out, sizeof out, NULL, 0, &content);
 	else if (!strcmp(call, "draw"))
 		status = qrproved_draw(input, input_len, number, (uint32_t)(input_len / number / number), level, 4, out, sizeof out, &written);
 	else if (!strcmp(call, "parse_drawing"))
 		status = qrproved_parse_drawing(input, input_len, out, sizeof out, &drawn);
 	else
-		status = qrproved_mend(input, input_len, number, out, sizeof out, &mended);
+		status = qrproved_mend(input, input_len, number, out, sizeof out, NULL, 0, &mended);
 }
 
 static void *measured(void *bottom)

@@ -19,8 +19,8 @@ static uint8_t call(const char *name)
 	if (!strcmp(name, "parse"))
 		return qrproved_parse_drawing(given, len, modules, sizeof modules, &drawn);
 	if (!strcmp(name, "mend"))
-		return qrproved_mend(given, len, side, bytes, sizeof bytes, &mended);
-	return qrproved_read(given, len, side, bytes, sizeof bytes, &content);
+		return qrproved_mend(given, len, side, bytes, sizeof bytes, NULL, 0, &mended);
+	return qrproved_read(given, len, side, bytes, sizeof bytes, NULL, 0, &content);
 }
 
 int main(int argc, char **argv)

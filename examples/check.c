@@ -163,7 +163,7 @@ static size_t copy_lines(int with_empty)
 static int judge(const uint8_t *modules, int side)
 {
 	struct qrproved_mended mended;
-	switch (qrproved_mend(modules, (size_t)(side * side), (uint32_t)side, bytes, sizeof bytes, &mended)) {
+	switch (qrproved_mend(modules, (size_t)(side * side), (uint32_t)side, bytes, sizeof bytes, NULL, 0, &mended)) {
 	case QRPROVED_DONE: break;
 	case QRPROVED_SIDE: return not_readable("there is no square of a symbol");
 	case QRPROVED_FORMAT: return not_readable("the format information is lost");

@@ -38,6 +38,7 @@ extern "C" {
 #define QRPROVED_COUNT_MAX 16      /* symbols in the longest series */
 #define QRPROVED_SERIES_MAX 501264 /* bytes that suffice for the modules of any series: 16 times 31,329 */
 #define QRPROVED_BYTES_MAX 7089    /* bytes that suffice for the content of any symbol: digits in version 40, level L */
+#define QRPROVED_ECIS_MAX 1970     /* ECI headers that suffice for any symbol: version 40, level L, has 23,648 bits, and each takes 12 */
 #define QRPROVED_MARGIN_MAX 100    /* the widest light margin on each side of a drawing, in modules */
 
 /* The levels of error correction, by which about 7, 15, 25 or 30 % of a symbol's codewords can be restored. */
@@ -50,6 +51,12 @@ extern "C" {
 #define QRPROVED_RULE_AUTO 0       /* numeric, alphanumeric and byte mode, mixed so that the number of bits is least */
 #define QRPROVED_RULE_BYTES_ONLY 1 /* the whole input in byte mode */
 #define QRPROVED_RULE_WITH_KANJI 2 /* the modes of AUTO, and kanji mode for pairs of bytes that are Shift JIS characters */
+
+/* Where a symbol has FNC1, which says what its bytes are. In both positions the byte 1D (hexadecimal) separates fields. */
+#define QRPROVED_FNC1_NONE 0   /* it has none */
+#define QRPROVED_FNC1_FIRST 1  /* in first position: GS1 data, element strings with their application identifiers */
+#define QRPROVED_FNC1_SECOND 2 /* in second position: data of the application with an application indicator of its own, which is
+                                * a number from 0 to 99, or the ASCII code of a letter plus 100 */
 
 /* The types of drawings. A drawing of each type is the same as that of the program qrencode. */
 #define QRPROVED_ASCII 0  /* text: two # for a dark module, two spaces for a light module */
@@ -86,25 +93,39 @@ struct qrproved_series {
 	uint8_t side;  /* modules on a side of each symbol */
 };
 
+/* An ECI header of a symbol (Extended Channel Interpretation): from a byte of the content on, the bytes have this ECI. Bytes
+ * before the first ECI header have none, and mean what their reader takes them for: ISO/IEC 8859-1 by the standard, and
+ * often UTF-8. */
+struct qrproved_eci {
+	size_t begin;    /* number of bytes of the content before */
+	uint32_t number; /* from 0 to 999,999: 26 is UTF-8, 20 is Shift JIS, 3 is ISO/IEC 8859-1 */
+};
+
 /* The content of a symbol that was read: its length, and its header if it has one. */
 struct qrproved_content {
-	size_t len;         /* number of bytes that the symbol contains */
-	uint8_t version;    /* from 1 to 40 */
-	uint8_t has_header; /* 1 for a symbol of a series; 0 for a plain symbol, and then the fields below are 0 */
-	uint8_t position;   /* position of the symbol in its series, from 0 to 15 */
-	uint8_t last;       /* number of symbols in the series less 1, from 0 to 15 */
-	uint8_t parity;     /* the exclusive or of all bytes of the input of the series */
+	size_t len;          /* number of bytes that the symbol contains */
+	size_t eci_count;    /* number of ECI headers of the symbol */
+	uint8_t version;     /* from 1 to 40 */
+	uint8_t has_header;  /* 1 for a symbol of a series; 0 for a plain symbol, and then the next three fields are 0 */
+	uint8_t position;    /* position of the symbol in its series, from 0 to 15 */
+	uint8_t last;        /* number of symbols in the series less 1, from 0 to 15 */
+	uint8_t parity;      /* the exclusive or of all bytes of the input of the series */
+	uint8_t fnc1;        /* QRPROVED_FNC1_NONE to QRPROVED_FNC1_SECOND */
+	uint8_t application; /* with QRPROVED_FNC1_SECOND the application indicator, otherwise 0 */
 };
 
 /* The content of a damaged symbol that was mended, and the counts of its damage. */
 struct qrproved_mended {
 	size_t len;                   /* number of bytes that the symbol contains */
+	size_t eci_count;             /* number of ECI headers of the symbol */
 	uint32_t wrong_modules;       /* number of modules that are wrong or not known; if 0, the square is the symbol */
 	uint8_t version;              /* from 1 to 40 */
 	uint8_t has_header;           /* 1 for a symbol of a series; 0 for a plain symbol, and then the next three fields are 0 */
 	uint8_t position;             /* position of the symbol in its series, from 0 to 15 */
 	uint8_t last;                 /* number of symbols in the series less 1, from 0 to 15 */
 	uint8_t parity;               /* the exclusive or of all bytes of the input of the series */
+	uint8_t fnc1;                 /* QRPROVED_FNC1_NONE to QRPROVED_FNC1_SECOND */
+	uint8_t application;          /* with QRPROVED_FNC1_SECOND the application indicator, otherwise 0 */
 	uint8_t level;                /* QRPROVED_LEVEL_L to QRPROVED_LEVEL_H */
 	uint8_t mask;                 /* from 0 to 7 */
 	uint8_t wrong_format_modules; /* number of the 30 modules of format information that are wrong or not known */
@@ -137,26 +158,35 @@ QRPROVED_HOLDS(offsetof(struct qrproved_symbol, mask) == 2);
 QRPROVED_HOLDS(sizeof(struct qrproved_series) == 2);
 QRPROVED_HOLDS(offsetof(struct qrproved_series, count) == 0);
 QRPROVED_HOLDS(offsetof(struct qrproved_series, side) == 1);
-QRPROVED_HOLDS(sizeof(struct qrproved_content) == 16);
+QRPROVED_HOLDS(sizeof(struct qrproved_eci) == 16);
+QRPROVED_HOLDS(offsetof(struct qrproved_eci, begin) == 0);
+QRPROVED_HOLDS(offsetof(struct qrproved_eci, number) == 8);
+QRPROVED_HOLDS(sizeof(struct qrproved_content) == 24);
 QRPROVED_HOLDS(offsetof(struct qrproved_content, len) == 0);
-QRPROVED_HOLDS(offsetof(struct qrproved_content, version) == 8);
-QRPROVED_HOLDS(offsetof(struct qrproved_content, has_header) == 9);
-QRPROVED_HOLDS(offsetof(struct qrproved_content, position) == 10);
-QRPROVED_HOLDS(offsetof(struct qrproved_content, last) == 11);
-QRPROVED_HOLDS(offsetof(struct qrproved_content, parity) == 12);
-QRPROVED_HOLDS(sizeof(struct qrproved_mended) == 24);
+QRPROVED_HOLDS(offsetof(struct qrproved_content, eci_count) == 8);
+QRPROVED_HOLDS(offsetof(struct qrproved_content, version) == 16);
+QRPROVED_HOLDS(offsetof(struct qrproved_content, has_header) == 17);
+QRPROVED_HOLDS(offsetof(struct qrproved_content, position) == 18);
+QRPROVED_HOLDS(offsetof(struct qrproved_content, last) == 19);
+QRPROVED_HOLDS(offsetof(struct qrproved_content, parity) == 20);
+QRPROVED_HOLDS(offsetof(struct qrproved_content, fnc1) == 21);
+QRPROVED_HOLDS(offsetof(struct qrproved_content, application) == 22);
+QRPROVED_HOLDS(sizeof(struct qrproved_mended) == 32);
 QRPROVED_HOLDS(offsetof(struct qrproved_mended, len) == 0);
-QRPROVED_HOLDS(offsetof(struct qrproved_mended, wrong_modules) == 8);
-QRPROVED_HOLDS(offsetof(struct qrproved_mended, version) == 12);
-QRPROVED_HOLDS(offsetof(struct qrproved_mended, has_header) == 13);
-QRPROVED_HOLDS(offsetof(struct qrproved_mended, position) == 14);
-QRPROVED_HOLDS(offsetof(struct qrproved_mended, last) == 15);
-QRPROVED_HOLDS(offsetof(struct qrproved_mended, parity) == 16);
-QRPROVED_HOLDS(offsetof(struct qrproved_mended, level) == 17);
-QRPROVED_HOLDS(offsetof(struct qrproved_mended, mask) == 18);
-QRPROVED_HOLDS(offsetof(struct qrproved_mended, wrong_format_modules) == 19);
-QRPROVED_HOLDS(offsetof(struct qrproved_mended, changed_most) == 20);
-QRPROVED_HOLDS(offsetof(struct qrproved_mended, changed_allowed) == 21);
+QRPROVED_HOLDS(offsetof(struct qrproved_mended, eci_count) == 8);
+QRPROVED_HOLDS(offsetof(struct qrproved_mended, wrong_modules) == 16);
+QRPROVED_HOLDS(offsetof(struct qrproved_mended, version) == 20);
+QRPROVED_HOLDS(offsetof(struct qrproved_mended, has_header) == 21);
+QRPROVED_HOLDS(offsetof(struct qrproved_mended, position) == 22);
+QRPROVED_HOLDS(offsetof(struct qrproved_mended, last) == 23);
+QRPROVED_HOLDS(offsetof(struct qrproved_mended, parity) == 24);
+QRPROVED_HOLDS(offsetof(struct qrproved_mended, fnc1) == 25);
+QRPROVED_HOLDS(offsetof(struct qrproved_mended, application) == 26);
+QRPROVED_HOLDS(offsetof(struct qrproved_mended, level) == 27);
+QRPROVED_HOLDS(offsetof(struct qrproved_mended, mask) == 28);
+QRPROVED_HOLDS(offsetof(struct qrproved_mended, wrong_format_modules) == 29);
+QRPROVED_HOLDS(offsetof(struct qrproved_mended, changed_most) == 30);
+QRPROVED_HOLDS(offsetof(struct qrproved_mended, changed_allowed) == 31);
 QRPROVED_HOLDS(sizeof(struct qrproved_drawn) == 4);
 QRPROVED_HOLDS(offsetof(struct qrproved_drawn, drawing) == 0);
 QRPROVED_HOLDS(offsetof(struct qrproved_drawn, margin) == 1);
@@ -218,10 +248,16 @@ uint8_t qrproved_encode_series(const uint8_t *input, size_t input_len, uint32_t 
 
 /* Reads a symbol. The first buffer contains its modules, in the order in which qrproved_encode writes them. Any byte but 0
  * is a dark module, and bytes after the last module are ignored. The call writes the content of the symbol to the start of
- * the second buffer, and leaves the rest unchanged. It corrects no errors: each codeword has to be as it was drawn.
+ * the second buffer, and its ECI headers to the start of the third; it leaves the rest of both unchanged. It corrects no
+ * errors: each codeword has to be as it was drawn.
  *
  * side   number of modules on a side: 21, 25, and so on to 177
  * bytes  the buffer for the content; QRPROVED_BYTES_MAX bytes suffice for any symbol
+ * ecis   the buffer for the ECI headers; if there are more than it has room for, the first of them are written.
+ *        QRPROVED_ECIS_MAX suffice for any symbol, and hardly any symbol has more than one
+ *
+ * The content is what the characters of the symbol stand for: after FNC1, in alphanumeric mode, % is the byte 1D
+ * (hexadecimal) and %% is %.
  *
  * The call reads the first copy of the format information, which is beside the top left finder pattern, and the codewords; it
  * parses the data codewords up to the terminator. It ignores all other modules: finder, alignment and timing patterns,
@@ -238,18 +274,19 @@ uint8_t qrproved_encode_series(const uint8_t *input, size_t input_len, uint32_t 
  *   DONE      the call succeeded
  * If memory is refused, the call returns MEMORY in place of any status after the first ROOM.
  */
-QRPROVED_CALL(6)
+QRPROVED_CALL(8)
 uint8_t qrproved_read(const uint8_t *modules, size_t modules_len, uint32_t side, uint8_t *bytes, size_t bytes_len,
-                      struct qrproved_content *content);
+                      struct qrproved_eci *ecis, size_t ecis_len, struct qrproved_content *content);
 
 /* Reads a damaged symbol, mends its damage, and measures it. The first buffer contains the modules of the symbol, in
  * the order in which qrproved_encode writes them: 0 is a light module, 1 is a dark module, and 2 is a module that is not
  * known, as under a smudge or a fold, or out of the camera's view. Bytes after the last module are ignored. The call writes
- * the content of the symbol to the start of the second buffer, and leaves the rest unchanged. If all modules are 0 or 1
- * and qrproved_read reads them, this call gives the same content.
+ * the content of the symbol to the start of the second buffer and its ECI headers to the start of the third, as
+ * qrproved_read does. If all modules are 0 or 1 and qrproved_read reads them, this call gives the same content.
  *
  * side   number of modules on a side: 21, 25, and so on to 177
  * bytes  the buffer for the content; QRPROVED_BYTES_MAX bytes suffice for any symbol
+ * ecis   the buffer for the ECI headers, as that of qrproved_read
  *
  * The format information is the level and the mask, and a symbol contains two copies of it, of 15 modules each. Beside a
  * level and a mask, a copy costs 1 for each module that is not known and 2 for each other module that is wrong. A level and a
@@ -283,9 +320,9 @@ uint8_t qrproved_read(const uint8_t *modules, size_t modules_len, uint32_t side,
  *   DONE      the call succeeded
  * If memory is refused, the call returns MEMORY in place of any status after SETTINGS.
  */
-QRPROVED_CALL(6)
+QRPROVED_CALL(8)
 uint8_t qrproved_mend(const uint8_t *modules, size_t modules_len, uint32_t side, uint8_t *bytes, size_t bytes_len,
-                      struct qrproved_mended *mended);
+                      struct qrproved_eci *ecis, size_t ecis_len, struct qrproved_mended *mended);
 
 /* Draws squares of modules, all of one side, and writes the drawing, byte for byte as qrencode draws symbols: as text one
  * after the other, as SVG one below the other in one document. The first buffer contains the modules, in the order in which

@@ -52,7 +52,7 @@ def input_of(version, level):
 
 def wanted_of(data, version, level, mask, **others):
     """Returns what is told of the sound symbol of an input, but for the fields that are given."""
-    fields = {"bytes": data, "len": len(data), "version": version, "level": LEVELS.index(level), "mask": mask, "has_header": 0,
+    fields = {"bytes": data, "len": len(data), "ecis": [], "eci_count": 0, "fnc1": 0, "application": 0, "version": version, "level": LEVELS.index(level), "mask": mask, "has_header": 0,
               "position": 0, "last": 0, "parity": 0, "wrong_modules": 0, "wrong_format_modules": 0, "changed_most": 0,
               "changed_allowed": allowed(version, level)}
     return {**fields, **others}
@@ -224,11 +224,10 @@ class Case:
                 wrong.update((i, 1 + self.numbers.below(255)) for i in self.numbers.some(block, self.bound))
         square = inverted(self.square, places_of(self.version, wrong) + self.numbers.some(self.first, 3))
         try:
-            text, header = squares.parsed(bytes(data), self.version)
+            said = squares.parsed(bytes(data), self.version)
         except Unparsed:
             return square, "SEGMENTS"
-        wanted = {**self.wanted, "bytes": text, "len": len(text), "wrong_format_modules": 3, "changed_most": self.bound,
-                  "has_header": int(header is not None), **dict(zip(("position", "last", "parity"), header or (0, 0, 0))),
+        wanted = {**self.wanted, **said.fields(), "wrong_format_modules": 3, "changed_most": self.bound,
                   "wrong_modules": differences(square, square_of(self.version, self.level, self.mask, other))}
         return square, wanted
 

@@ -79,15 +79,19 @@ class Series(ctypes.Structure):
     _fields_ = bytes_of("count", "side")
 
 
-HEADED = ("version", "has_header", "position", "last", "parity")
+HEADED = ("version", "has_header", "position", "last", "parity", "fnc1", "application")
+
+
+class Eci(ctypes.Structure):
+    _fields_ = [("begin", ctypes.c_size_t), ("number", ctypes.c_uint32)]
 
 
 class Content(ctypes.Structure):
-    _fields_ = [("len", ctypes.c_size_t), *bytes_of(*HEADED)]
+    _fields_ = [("len", ctypes.c_size_t), ("eci_count", ctypes.c_size_t), *bytes_of(*HEADED)]
 
 
 class Mended(ctypes.Structure):
-    _fields_ = [("len", ctypes.c_size_t), ("wrong_modules", ctypes.c_uint32),
+    _fields_ = [("len", ctypes.c_size_t), ("eci_count", ctypes.c_size_t), ("wrong_modules", ctypes.c_uint32),
                 *bytes_of(*HEADED, "level", "mask", "wrong_format_modules", "changed_most", "changed_allowed")]
 
 
@@ -100,8 +104,8 @@ INPUT, NUMBER = [ctypes.c_char_p, ctypes.c_size_t], [ctypes.c_uint32]
 PARAMETERS = {
     "qrproved_encode": INPUT + NUMBER * 3 + BUFFER + POINTER,
     "qrproved_encode_series": INPUT + NUMBER * 3 + BUFFER + POINTER,
-    "qrproved_read": BUFFER + NUMBER + BUFFER + POINTER,
-    "qrproved_mend": BUFFER + NUMBER + BUFFER + POINTER,
+    "qrproved_read": BUFFER + NUMBER + BUFFER * 2 + POINTER,
+    "qrproved_mend": BUFFER + NUMBER + BUFFER * 2 + POINTER,
     "qrproved_draw": BUFFER + NUMBER * 4 + BUFFER + POINTER,
     "qrproved_parse_drawing": INPUT + BUFFER + POINTER,
 }
@@ -112,7 +116,7 @@ class Library:
 
     def __init__(self, path):
         self.library = ctypes.CDLL(path)
-        self.modules, self.bytes = (ctypes.c_uint8 * 501264)(), (ctypes.c_uint8 * 7089)()
+        self.modules, self.bytes, self.ecis = (ctypes.c_uint8 * 501264)(), (ctypes.c_uint8 * 7089)(), (Eci * 4)()
         for name, listed in PARAMETERS.items():
             call = getattr(self.library, name)
             call.restype, call.argtypes = ctypes.c_uint8, listed
@@ -168,22 +172,31 @@ class Library:
         modules = bytes(memoryview(self.modules)[:drawn.count * area])
         return [modules[k * area:(k + 1) * area] for k in range(drawn.count)], drawn.side, drawn.drawing, drawn.margin
 
+    def told_ecis(self, count):
+        """Returns the ECI headers that a call wrote, each as the bytes before it and its number; or what it wrote too much."""
+        others = bytes(self.ecis)[count * ctypes.sizeof(Eci):]
+        return [(it.begin, it.number) for it in self.ecis[:count]] if others.count(MARK) == len(others) else "other ECI headers changed"
+
     def read(self, modules, side):
+        """Returns the bytes, the struct and the ECI headers, or a status."""
         content = Content()
-        status = self.library.qrproved_read(modules, len(modules), side, self.bytes, len(self.bytes), ctypes.byref(content))
-        return status or (bytes(self.bytes[:content.len]), content)
+        ctypes.memset(self.ecis, MARK, ctypes.sizeof(self.ecis))
+        status = self.library.qrproved_read(modules, len(modules), side, self.bytes, len(self.bytes), self.ecis, len(self.ecis),
+                                            ctypes.byref(content))
+        return status or (bytes(self.bytes[:content.len]), content, self.told_ecis(content.eci_count))
 
     def mended(self, modules, side, room=7089):
         """Returns the fields of the struct and the bytes; or the name of the status, and what the call should have left
         as it was."""
         mended = Mended()
         ctypes.memset(self.bytes, MARK, len(self.bytes))
+        ctypes.memset(self.ecis, MARK, ctypes.sizeof(self.ecis))
         ctypes.memset(ctypes.byref(mended), MARK, ctypes.sizeof(mended))
-        status = self.library.qrproved_mend(modules, len(modules), side, self.bytes, room, ctypes.byref(mended))
+        status = self.library.qrproved_mend(modules, len(modules), side, self.bytes, room, self.ecis, len(self.ecis), ctypes.byref(mended))
         used = 0 if status else mended.len
         others = "" if bytes(self.bytes[used:]).count(MARK) == len(self.bytes) - used else ", other bytes changed"
         if status:
-            is_unchanged = bytes(mended).count(MARK) == ctypes.sizeof(mended)
-            return STATUSES[status] + others + ("" if is_unchanged else ", struct changed")
-        fields = {name: getattr(mended, name) for name, _ in Mended._fields_}
+            is_unchanged = all(bytes(it).count(MARK) == ctypes.sizeof(it) for it in (mended, self.ecis))
+            return STATUSES[status] + others + ("" if is_unchanged else ", structs changed")
+        fields = {"ecis": self.told_ecis(mended.eci_count), **{name: getattr(mended, name) for name, _ in Mended._fields_}}
         return {"bytes": bytes(self.bytes[:used]), **fields} if not others else f"DONE{others}"

@@ -55,7 +55,7 @@ static int read_symbol(void)
 		return 0;
 	}
 	memset(bytes, MARK, sizeof bytes), memset(&content, MARK, sizeof content);
-	uint8_t status = qrproved_read(modules, sizeof modules, symbol.side, bytes, sizeof bytes, &content);
+	uint8_t status = qrproved_read(modules, sizeof modules, symbol.side, bytes, sizeof bytes, NULL, 0, &content);
 	tell("read", status, bytes, sizeof bytes, &content, sizeof content);
 	return 0;
 }
@@ -71,7 +71,7 @@ static int mend_symbol(void)
 	/* a codeword is wrong */
 	modules[symbol.side * symbol.side - 1] ^= 1;
 	memset(bytes, MARK, sizeof bytes), memset(&mended, MARK, sizeof mended);
-	uint8_t status = qrproved_mend(modules, sizeof modules, symbol.side, bytes, sizeof bytes, &mended);
+	uint8_t status = qrproved_mend(modules, sizeof modules, symbol.side, bytes, sizeof bytes, NULL, 0, &mended);
 	tell("mend", status, bytes, sizeof bytes, &mended, sizeof mended);
 	return 0;
 }
@@ -138,26 +138,26 @@ static int edges(void)
 	want("a series of 2", qrproved_encode_series(TEXT, 8, 1, 3, 1, modules, 882, &series) == QRPROVED_DONE);
 	want("no more is written for a series", series.count == 2 && series.side == 21 && is_marked(modules, 882, sizeof modules));
 	memset(bytes, MARK, sizeof bytes);
-	want("no modules", qrproved_read(NULL, 0, 21, bytes, sizeof bytes, &content) == QRPROVED_ROOM);
-	want("no room", qrproved_read(modules, 441, 21, NULL, 0, &content) == QRPROVED_ROOM);
-	want("side 0", qrproved_read(NULL, 0, 0, NULL, 0, &content) == QRPROVED_SIDE);
-	want("a part", qrproved_read(modules + 441, 441, 21, bytes, 3, &content) == QRPROVED_DONE);
+	want("no modules", qrproved_read(NULL, 0, 21, bytes, sizeof bytes, NULL, 0, &content) == QRPROVED_ROOM);
+	want("no room", qrproved_read(modules, 441, 21, NULL, 0, NULL, 0, &content) == QRPROVED_ROOM);
+	want("side 0", qrproved_read(NULL, 0, 0, NULL, 0, NULL, 0, &content) == QRPROVED_SIDE);
+	want("a part", qrproved_read(modules + 441, 441, 21, bytes, 3, NULL, 0, &content) == QRPROVED_DONE);
 	want("its bytes", content.len == 3 && !memcmp(bytes, TEXT + 5, 3) && is_marked(bytes, 3, sizeof bytes));
 	want("its header", content.version == 1 && content.has_header == 1 && content.position == 1 && content.last == 1);
 	memset(bytes, MARK, sizeof bytes), memset(&mended, MARK, sizeof mended);
-	want("no modules to mend", qrproved_mend(NULL, 0, 21, bytes, sizeof bytes, &mended) == QRPROVED_ROOM);
-	want("no room to mend", qrproved_mend(modules, 441, 21, NULL, 0, &mended) == QRPROVED_ROOM);
-	want("side 255 to mend", qrproved_mend(NULL, 0, 255, NULL, 0, &mended) == QRPROVED_SIDE);
-	want("too few modules before another byte", qrproved_mend(modules + 882, 440, 21, bytes, 3, &mended) == QRPROVED_ROOM);
-	want("a byte of no module", qrproved_mend(modules + 442, 441, 21, bytes, 3, &mended) == QRPROVED_SETTINGS);
+	want("no modules to mend", qrproved_mend(NULL, 0, 21, bytes, sizeof bytes, NULL, 0, &mended) == QRPROVED_ROOM);
+	want("no room to mend", qrproved_mend(modules, 441, 21, NULL, 0, NULL, 0, &mended) == QRPROVED_ROOM);
+	want("side 255 to mend", qrproved_mend(NULL, 0, 255, NULL, 0, NULL, 0, &mended) == QRPROVED_SIDE);
+	want("too few modules before another byte", qrproved_mend(modules + 882, 440, 21, bytes, 3, NULL, 0, &mended) == QRPROVED_ROOM);
+	want("a byte of no module", qrproved_mend(modules + 442, 441, 21, bytes, 3, NULL, 0, &mended) == QRPROVED_SETTINGS);
 	want("nothing is mended", is_marked(bytes, 0, sizeof bytes) && is_marked(&mended, 0, sizeof mended));
-	want("a part to mend", qrproved_mend(modules + 441, 441, 21, bytes, 3, &mended) == QRPROVED_DONE);
+	want("a part to mend", qrproved_mend(modules + 441, 441, 21, bytes, 3, NULL, 0, &mended) == QRPROVED_DONE);
 	want("its bytes, mended", mended.len == 3 && !memcmp(bytes, TEXT + 5, 3) && is_marked(bytes, 3, sizeof bytes));
 	want("its header, mended", mended.version == 1 && mended.has_header == 1 && mended.position == 1 && mended.last == 1);
 	want("it is sound", mended.wrong_modules == 0 && mended.wrong_format_modules == 0 && mended.changed_most == 0);
 	want("its level", mended.level == QRPROVED_LEVEL_H && mended.mask < 8 && mended.changed_allowed == 8);
 	modules[441 + 6 * 21 + 9] ^= 1;
-	want("a timing module", qrproved_mend(modules + 441, 441, 21, bytes, 3, &mended) == QRPROVED_DONE && mended.wrong_modules == 1);
+	want("a timing module", qrproved_mend(modules + 441, 441, 21, bytes, 3, NULL, 0, &mended) == QRPROVED_DONE && mended.wrong_modules == 1);
 	want("nothing else", mended.wrong_format_modules == 0 && mended.changed_most == 0);
 	size_t written = 5;
 	memset(bytes, MARK, sizeof bytes);
@@ -191,8 +191,8 @@ static int edges(void)
 	want("numbers above 255", qrproved_encode(TEXT, 5, 257, 0, 0, modules, 441, &symbol) == QRPROVED_SETTINGS
 	     && qrproved_encode(TEXT, 5, 1, 256, 0, modules, 441, &symbol) == QRPROVED_SETTINGS
 	     && qrproved_encode(TEXT, 5, 1, 0, 256, modules, 441, &symbol) == QRPROVED_SETTINGS
-	     && qrproved_read(modules, 441, 277, bytes, sizeof bytes, &content) == QRPROVED_SIDE
-	     && qrproved_mend(modules, 441, 277, bytes, sizeof bytes, &mended) == QRPROVED_SIDE);
+	     && qrproved_read(modules, 441, 277, bytes, sizeof bytes, NULL, 0, &content) == QRPROVED_SIDE
+	     && qrproved_mend(modules, 441, 277, bytes, sizeof bytes, NULL, 0, &mended) == QRPROVED_SIDE);
 	want("the version", qrproved_version() == QRPROVED_VERSION_NUMBER);
 	if (!wrong)
 		puts("edges: as wanted");
@@ -213,7 +213,7 @@ static uint64_t sum_of(int k)
 			input[i] = (uint8_t)(k * 31 + call + (int)i * 7);
 		if (qrproved_encode(input, len, (uint32_t)(1 + call % 12), (uint32_t)(call % 4), (uint32_t)(call % 3), drawn, sizeof drawn, &symbol))
 			return 0;
-		if (qrproved_read(drawn, sizeof drawn, symbol.side, said, sizeof said, &content) || content.len != len || memcmp(said, input, len))
+		if (qrproved_read(drawn, sizeof drawn, symbol.side, said, sizeof said, NULL, 0, &content) || content.len != len || memcmp(said, input, len))
 			return 0;
 		for (int i = 0; i < symbol.side * symbol.side; i++)
 			sum = sum * 31 + drawn[i] + symbol.mask;

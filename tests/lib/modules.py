@@ -5,15 +5,18 @@ import struct
 import subprocess
 
 from growths import TOP
-from libraries import PARAMETERS, Library
+from libraries import PARAMETERS, Eci, Library
 
 POINTERS, LENGTH = (ctypes.c_void_p, ctypes.c_char_p), ctypes.c_size_t
 
 
 def bytes_of(given, length):
-    """Returns what a pointer points to: a buffer of that length, or a struct or number passed by reference."""
+    """Returns what a pointer points to: a buffer of that length, structs of that number, or a struct or number passed by
+    reference."""
     if given is None:
         return b""
+    if isinstance(given, ctypes.Array):
+        return bytes(given)[:length * ctypes.sizeof(given._type_)]
     if isinstance(given, bytes):
         return given[:length]
     return bytes(memoryview(given).cast("B")[:length]) if length is not None else bytes(given._obj)
@@ -71,4 +74,4 @@ class Module(Library):
 
     def __init__(self, path, pages=None):
         self.library = Remote(path, pages)
-        self.modules, self.bytes = (ctypes.c_uint8 * 501264)(), (ctypes.c_uint8 * 7089)()
+        self.modules, self.bytes, self.ecis = (ctypes.c_uint8 * 501264)(), (ctypes.c_uint8 * 7089)(), (Eci * 4)()

@@ -40,13 +40,13 @@ static void *encode_series(void *none)
 
 static void *read_symbol(void *none)
 {
-	status = qrproved_read(modules, (size_t)side * side, side, bytes, sizeof bytes, &content);
+	status = qrproved_read(modules, (size_t)side * side, side, bytes, sizeof bytes, NULL, 0, &content);
 	return none;
 }
 
 static void *mend(void *none)
 {
-	status = qrproved_mend(modules, (size_t)side * side, side, bytes, sizeof bytes, &mended);
+	status = qrproved_mend(modules, (size_t)side * side, side, bytes, sizeof bytes, NULL, 0, &mended);
 	return none;
 }
 

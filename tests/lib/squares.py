@@ -5,6 +5,7 @@ module and 0 for a light one; a place is row times side plus column.
 The tables are typed from the standard. tests/mended checks them before it uses them."""
 import functools
 import operator
+from typing import NamedTuple, Optional
 
 from decoder import correction, mended
 
@@ -297,12 +298,64 @@ def payload_len(mode, count):
     return count * (8 if mode == 4 else 13)
 
 
+ECI, FNC1_FIRST, FNC1_SECOND = 7, 5, 9  # mode indicators
+
+
+def designator_of(bits):
+    """Returns the number of an ECI: 7, 14 or 21 bits after 0, 10 or 110, of at most six digits."""
+    first = bits.take(8)
+    if first < 0x80:
+        return first
+    if first < 0xC0:
+        return (first & 0x3F) << 8 | bits.take(8)
+    if first >= 0xE0:
+        raise Unparsed("value")
+    number = (first & 0x1F) << 16 | bits.take(16)
+    if number > 999999:
+        raise Unparsed("value")
+    return number
+
+
+def application_of(bits):
+    """Returns an application indicator: two digits, or a letter's ASCII code plus 100."""
+    number = bits.take(8)
+    if number >= 100 and not (number - 100 < 128 and chr(number - 100).isalpha()):
+        raise Unparsed("value")
+    return number
+
+
+def after_fnc1(text):
+    """Returns what characters after FNC1 stand for: %% is %, and another % separates fields."""
+    return text.replace(b"%%", b"\0").replace(b"%", b"\x1d").replace(b"\0", b"%")
+
+
+class Said(NamedTuple):
+    """What data codewords say: bytes, a header of position, symbols less 1 and parity, or None, the bytes before each ECI header
+    with its number, and the position of FNC1 with its application indicator, or zeros."""
+
+    text: bytes = b""
+    header: Optional[tuple] = None
+    ecis: tuple = ()
+    fnc1: tuple = (0, 0)
+
+    def fields(self):
+        """Returns them in the words of the library's struct."""
+        return {"bytes": self.text, "len": len(self.text), "ecis": list(self.ecis), "eci_count": len(self.ecis),
+                "has_header": int(self.header is not None), **dict(zip(("position", "last", "parity"), self.header or (0, 0, 0))),
+                **dict(zip(("fnc1", "application"), self.fnc1))}
+
+
 def parsed(data, version):
-    """Returns the bytes that data codewords say, and their header: position, symbols less 1 and parity, or None."""
-    bits, text, header, is_first = Bits(data), b"", None, True
+    """Returns what data codewords say."""
+    bits, text, header, ecis, fnc1 = Bits(data), b"", None, [], (0, 0)
+    before = set()  # the modes that came before
     while bits.left() >= 4 and (mode := bits.take(4)):
-        if mode == 3 and is_first:
+        if mode == 3 and not before:
             header = bits.take(4), bits.take(4), bits.take(8)
+        elif mode == ECI:
+            ecis.append((len(text), designator_of(bits)))
+        elif mode in (FNC1_FIRST, FNC1_SECOND) and before <= {3, ECI}:
+            fnc1 = (1, 0) if mode == FNC1_FIRST else (2, application_of(bits))
         elif mode in COUNT_WIDTHS:
             count = bits.take(width(version, COUNT_WIDTHS[mode]))
             if bits.left() < payload_len(mode, count):
@@ -310,11 +363,12 @@ def parsed(data, version):
             if mode == 4:
                 text += bits.take(8 * count).to_bytes(count, "big")
             else:
-                text += {1: digits_of, 2: characters_of, 8: pairs_of}[mode](bits, count)
+                part = {1: digits_of, 2: characters_of, 8: pairs_of}[mode](bits, count)
+                text += after_fnc1(part) if mode == 2 and fnc1 != (0, 0) else part
         else:
             raise Unparsed("mode")
-        is_first = False
-    return text, header
+        before.add(mode)
+    return Said(text, header, tuple(ecis), fnc1)
 
 
 # ---- the reading of a damaged square
@@ -380,14 +434,13 @@ def reading(given, version):
         return "CHECK"
     codewords, changed = found
     try:
-        text, header = parsed(data_of(version, level, codewords), version)
+        said = parsed(data_of(version, level, codewords), version)
     except Unparsed:
         return "SEGMENTS"
     whole = square_of(version, level, mask, codewords)
     formats = sum(layout(version).formats, [])
     return {
-        "bytes": text, "len": len(text), "version": version, "level": LEVELS.index(level), "mask": mask,
-        "has_header": int(header is not None), **dict(zip(("position", "last", "parity"), header or (0, 0, 0))),
+        **said.fields(), "version": version, "level": LEVELS.index(level), "mask": mask,
         "wrong_modules": differences(given, whole),
         "wrong_format_modules": sum(given[place] != whole[place] for place in formats),
         "changed_most": max(changed), "changed_allowed": allowed(version, level),
