@@ -1,8 +1,9 @@
 /* Calls the library for tests/library: library_calls WHAT
  *
  * encode, encode_series, read, mend, draw, parse_drawing: one call, of which a growth of memory may be refused; says what came of it
- * edges: lengths of 0, and buffers that are just large enough
+ * edges: lengths of 0, and buffers that are just large enough; symbols with ECI headers and of GS1
  * threads: eight threads, each with the answers of one thread */
+#include "labels.h"
 #include "qrproved.h"
 #include <pthread.h>
 #include <stdio.h>
@@ -118,6 +119,57 @@ static void want(const char *name, int is_so)
 	}
 }
 
+/* A symbol with two ECI headers, read with room for both, for one and for none. */
+static void two_ecis(void)
+{
+	static const char SAID[] = "0123456789ABC-123 %45";
+	static uint8_t label[QRPROVED_SYMBOL_MAX];
+	struct qrproved_eci ecis[3];
+	struct qrproved_content content;
+	struct qrproved_mended mended;
+	size_t side = TWO_ECIS.side;
+	put_label(&TWO_ECIS, label);
+	for (size_t room = 0; room <= 3; room++) {
+		memset(bytes, MARK, sizeof bytes), memset(ecis, MARK, sizeof ecis);
+		want("two ECI headers", qrproved_read(label, side * side, TWO_ECIS.side, bytes, sizeof bytes, room ? ecis : NULL, room, &content) == QRPROVED_DONE);
+		want("all are counted", content.eci_count == 2 && content.fnc1 == QRPROVED_FNC1_NONE && content.application == 0);
+		want("the bytes", content.len == 21 && !memcmp(bytes, SAID, 21) && is_marked(bytes, 21, sizeof bytes));
+		want("the first", room < 1 || (ecis[0].begin == 0 && ecis[0].number == 20));
+		want("the second", room < 2 || (ecis[1].begin == 10 && ecis[1].number == 899));
+		want("no more than there is room for", is_marked(ecis, (room < 2 ? room : 2) * sizeof *ecis, sizeof ecis));
+	}
+	label[side * side - 1] ^= 1;
+	memset(bytes, MARK, sizeof bytes), memset(ecis, MARK, sizeof ecis);
+	memset(&content, MARK, sizeof content), memset(&mended, MARK, sizeof mended);
+	want("a wrong codeword", qrproved_read(label, side * side, TWO_ECIS.side, bytes, sizeof bytes, ecis, 3, &content) == QRPROVED_CHECK);
+	want("20 bytes", qrproved_mend(label, side * side, TWO_ECIS.side, bytes, 20, ecis, 3, &mended) == QRPROVED_ROOM);
+	want("no ECI header is written", is_marked(bytes, 0, sizeof bytes) && is_marked(ecis, 0, sizeof ecis)
+	     && is_marked(&content, 0, sizeof content) && is_marked(&mended, 0, sizeof mended));
+	want("two ECI headers, mended", qrproved_mend(label, side * side, TWO_ECIS.side, bytes, 21, ecis, 1, &mended) == QRPROVED_DONE);
+	want("all are counted, mended", mended.eci_count == 2 && mended.len == 21 && !memcmp(bytes, SAID, 21) && mended.wrong_modules == 1);
+	want("one is written", ecis[0].begin == 0 && ecis[0].number == 20 && is_marked(ecis, sizeof *ecis, sizeof ecis));
+}
+
+/* A symbol of GS1 data: a batch number of four characters, which a separator ends, and a date and time. */
+static void fields(void)
+{
+	static const char SAID[] = "109NJY\x1D" "800837090120";
+	static uint8_t label[QRPROVED_SYMBOL_MAX];
+	struct qrproved_eci ecis[1];
+	struct qrproved_content content;
+	struct qrproved_mended mended;
+	size_t side = FIELDS.side;
+	put_label(&FIELDS, label);
+	memset(bytes, MARK, sizeof bytes), memset(ecis, MARK, sizeof ecis);
+	want("room for 18 bytes of GS1 data", qrproved_read(label, side * side, FIELDS.side, bytes, 18, ecis, 1, &content) == QRPROVED_ROOM);
+	want("GS1 data", qrproved_read(label, side * side, FIELDS.side, bytes, sizeof bytes, ecis, 1, &content) == QRPROVED_DONE);
+	want("its fields", content.len == 19 && !memcmp(bytes, SAID, 19) && content.fnc1 == QRPROVED_FNC1_FIRST && content.application == 0);
+	want("it has no ECI header", content.eci_count == 0 && is_marked(ecis, 0, sizeof ecis));
+	label[side * side - 1] = 2;
+	want("GS1 data, mended", qrproved_mend(label, side * side, FIELDS.side, bytes, sizeof bytes, ecis, 1, &mended) == QRPROVED_DONE);
+	want("its fields, mended", mended.len == 19 && !memcmp(bytes, SAID, 19) && mended.fnc1 == QRPROVED_FNC1_FIRST && mended.wrong_modules == 1);
+}
+
 static int edges(void)
 {
 	struct qrproved_symbol symbol;
@@ -193,6 +245,8 @@ static int edges(void)
 	     && qrproved_encode(TEXT, 5, 1, 0, 256, modules, 441, &symbol) == QRPROVED_SETTINGS
 	     && qrproved_read(modules, 441, 277, bytes, sizeof bytes, NULL, 0, &content) == QRPROVED_SIDE
 	     && qrproved_mend(modules, 441, 277, bytes, sizeof bytes, NULL, 0, &mended) == QRPROVED_SIDE);
+	two_ecis();
+	fields();
 	want("the version", qrproved_version() == QRPROVED_VERSION_NUMBER);
 	if (!wrong)
 		puts("edges: as wanted");

@@ -1,8 +1,10 @@
 /* Makes calls of the library in threads with the smallest stack that glibc gives, for tests/library: small_stack WHAT
  *
  * WHAT is a call, which is then the first of the process, in which the loader also looks up the names that it uses; standard input
- * has the modules that it reads, mends or draws, or the drawing that it parses. Or it is `all`: every call in all versions, levels and rules, on symbols sound and
- * damaged, up to damage that is refused. A thread whose stack is too small ends the process by a signal. */
+ * has the modules that it reads, mends or draws, or the drawing that it parses. Or it is `all`: every call in all versions, levels
+ * and rules, on symbols sound and damaged, up to damage that is refused, and reading and mending on symbols with ECI headers and
+ * of GS1. A thread whose stack is too small ends the process by a signal. */
+#include "labels.h"
 #include "qrproved.h"
 #include <pthread.h>
 #include <stdio.h>
@@ -20,6 +22,7 @@ static size_t input_len, written;
 static uint32_t version, level, rule, side, count, drawing;
 static struct qrproved_symbol symbol;
 static struct qrproved_series series;
+static struct qrproved_eci ecis[QRPROVED_ECIS_MAX];
 static struct qrproved_content content;
 static struct qrproved_mended mended;
 static struct qrproved_drawn drawn;
@@ -40,13 +43,13 @@ static void *encode_series(void *none)
 
 static void *read_symbol(void *none)
 {
-	status = qrproved_read(modules, (size_t)side * side, side, bytes, sizeof bytes, NULL, 0, &content);
+	status = qrproved_read(modules, (size_t)side * side, side, bytes, sizeof bytes, ecis, QRPROVED_ECIS_MAX, &content);
 	return none;
 }
 
 static void *mend(void *none)
 {
-	status = qrproved_mend(modules, (size_t)side * side, side, bytes, sizeof bytes, NULL, 0, &mended);
+	status = qrproved_mend(modules, (size_t)side * side, side, bytes, sizeof bytes, ecis, QRPROVED_ECIS_MAX, &mended);
 	return none;
 }
 
@@ -119,8 +122,20 @@ static void mend_until_refused(int is_known)
 	memcpy(modules, sound, sizeof sound);
 }
 
+/* Reads and mends a symbol of another program, with its interpretation. */
+static void interpret(const struct label *label)
+{
+	version = (label->side - 17) / 4, side = label->side;
+	put_label(label, modules);
+	want("read a label", in_small_stack(read_symbol), QRPROVED_DONE);
+	mend_until_refused(1);
+	mend_until_refused(0);
+}
+
 static void all(void)
 {
+	interpret(&TWO_ECIS);
+	interpret(&FIELDS);
 	for (version = 1; version <= VERSIONS; version++)
 		for (level = 0; level < LEVELS; level++)
 			for (rule = 0; rule < RULES; rule++) {
