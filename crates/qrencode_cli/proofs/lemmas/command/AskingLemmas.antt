@@ -4,7 +4,7 @@ use Rattle.std.proofs.lemmas.{Bool.{cases_lt, false≢true}, List.take_min, Grin
 use Rattle.std.{proofs.lemmas.List.Elements.{All-cons, All-head, All-nil}, specs.List.All}
 use Rattle.{qr_drawing.specs.Drawing.HaveOneSide, qr_bits.proofs.Facts.fitting_short}
 use Rattle.{clap.specs.Walk.Text, qr_matrix.specs.Grid.Grid}
-use Rattle.qr_bits.specs.{declared.modes.TheConstants.INPUT_MAX, declared.modes.Rule.Rule, Folding.folded}
+use Rattle.qr_bits.specs.{declared.modes.TheConstants.INPUT_MAX, declared.modes.Rule.Rule, Folding.folded, Parsing.plain_content}
 use Rattle.{qr_layout.specs.Version.side_of, qr_devices.specs.Device.Reader}
 use Rattle.qr_symbol.specs.declared.{fault.EncodeFault.EncodeFault, symbol.Symbol.Symbol}
 use Rattle.qr_symbol.specs.declared.fault.EncodeFault.TheVariants as encode
@@ -41,7 +41,7 @@ held-plain s input fold = rw fold refl
 joined-one : (input : List ℕ) (v : ℕ) (b : Rule) (g : Grid) → IsReadBack v b input g → IsJoined (g ∷ []) input
 unfolding AreReadBy
 joined-one input v b g h = record {
-  contents = record { header = None; segments = h.0; bytes = input } ∷ [];
+  contents = plain_content None h.0 input ∷ [];
   read = (h.2, tt);
   together = search arith;
   joined = sym (append-nil input);
