@@ -15,6 +15,7 @@ MARGIN = 4
 LEVELS = "LMQH"
 STATUSES = ["DONE", "EMPTY", "TOO_LONG", "TOO_MANY", "MEMORY", "SETTINGS", "ROOM", "SIDE", "FORMAT", "CHECK", "SEGMENTS",
             "NO_DRAWING"]
+ECI_ROOM = 8  # ECI headers: more than any symbol here has
 MARK = 7  # what a buffer or a struct contains before a call
 
 counts = {"passed": 0, "failed": 0, "skipped": 0}
@@ -116,7 +117,7 @@ class Library:
 
     def __init__(self, path):
         self.library = ctypes.CDLL(path)
-        self.modules, self.bytes, self.ecis = (ctypes.c_uint8 * 501264)(), (ctypes.c_uint8 * 7089)(), (Eci * 4)()
+        self.modules, self.bytes, self.ecis = (ctypes.c_uint8 * 501264)(), (ctypes.c_uint8 * 7089)(), (Eci * ECI_ROOM)()
         for name, listed in PARAMETERS.items():
             call = getattr(self.library, name)
             call.restype, call.argtypes = ctypes.c_uint8, listed
