@@ -11,6 +11,8 @@
  *   1  readable, 40 % of its correction spent    some modules are wrong, but it can be read
  *   2  not readable: ...                         and why
  *
+ * Symbols with ECI headers and FNC1 have further lines: 'ECI 26 from byte 0 on', 'GS1 data', 'data of the application 37'.
+ *
  * What is spent is that of the block with the most wrong codewords. It is 0 % if only modules outside the codewords are wrong:
  * function patterns, format and version information, remainder bits. It is 100 % if no more can be mended. Codewords with a module
  * that is not known do not count in it. */
@@ -30,6 +32,7 @@ struct drawing {
 
 static struct drawing drawing;
 static uint8_t text[TEXT_MAX], lines[TEXT_MAX], modules[QRPROVED_SERIES_MAX], bytes[QRPROVED_BYTES_MAX];
+static struct qrproved_eci ecis[QRPROVED_ECIS_MAX];
 static size_t text_len;
 
 static int not_readable(const char *reason)
@@ -159,11 +162,24 @@ static size_t copy_lines(int with_empty)
 	return len;
 }
 
+/* Prints how the bytes of a symbol are to be interpreted: a line for each ECI header, and one for FNC1. */
+static void tell_interpretation(const struct qrproved_mended *mended)
+{
+	for (size_t k = 0; k < mended->eci_count; k++)
+		printf("ECI %u from byte %zu on\n", (unsigned)ecis[k].number, ecis[k].begin);
+	if (mended->fnc1 == QRPROVED_FNC1_FIRST)
+		puts("GS1 data");
+	else if (mended->fnc1 == QRPROVED_FNC1_SECOND && mended->application < 100)
+		printf("data of the application %02d\n", mended->application);
+	else if (mended->fnc1 == QRPROVED_FNC1_SECOND)
+		printf("data of the application %c\n", mended->application - 100);
+}
+
 /* Prints the line of the square that `modules` begins with, and returns the status. The share that is spent is rounded up. */
 static int judge(const uint8_t *modules, int side)
 {
 	struct qrproved_mended mended;
-	switch (qrproved_mend(modules, (size_t)(side * side), (uint32_t)side, bytes, sizeof bytes, NULL, 0, &mended)) {
+	switch (qrproved_mend(modules, (size_t)(side * side), (uint32_t)side, bytes, sizeof bytes, ecis, QRPROVED_ECIS_MAX, &mended)) {
 	case QRPROVED_DONE: break;
 	case QRPROVED_SIDE: return not_readable("there is no square of a symbol");
 	case QRPROVED_FORMAT: return not_readable("the format information is lost");
@@ -172,13 +188,13 @@ static int judge(const uint8_t *modules, int side)
 	case QRPROVED_MEMORY: return not_readable("out of memory");
 	default: return not_readable("not checked");
 	}
-	if (mended.wrong_modules == 0) {
-		puts("sound");
-		return SOUND;
-	}
 	int share = (100 * mended.changed_most + mended.changed_allowed - 1) / mended.changed_allowed;
-	printf("readable, %d %% of its correction spent\n", share);
-	return READABLE;
+	if (mended.wrong_modules == 0)
+		puts("sound");
+	else
+		printf("readable, %d %% of its correction spent\n", share);
+	tell_interpretation(&mended);
+	return mended.wrong_modules == 0 ? SOUND : READABLE;
 }
 
 /* Judges each square of the text, if it is exactly a drawing; else returns -1. */

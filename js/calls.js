@@ -77,6 +77,8 @@ function run(calls) {
 const SYMBOL_MAX = 31329;
 const SERIES_MAX = 501264;
 const BYTES_MAX = 7089;
+const ECIS_MAX = 1970, ECI_SIZE = 16;
+const FNC1_FIRST = 1, FNC1_SECOND = 2;
 const TOO_LONG = 2, TOO_MANY = 3, ROOM = 6, NO_DRAWING = 11; // statuses
 
 export function encoded(input, version, level, rule) {
@@ -103,28 +105,44 @@ export function encodedSeries(input, version, level, rule) {
   });
 }
 
-/** Returns what the structs of reading and of mending share, with the bytes. */
-function content(at, bytes, version) {
-  const [has, position, last, parity] = [1, 2, 3, 4].map((k) => at.getUint8(version + k));
-  const header = has ? { position, last, parity } : null;
-  return { data: copied(bytes, Number(at.getBigUint64(0, true))), version: at.getUint8(version), header };
+/** Returns an application indicator as it is printed: two digits, or the letter whose code is 100 less. */
+function applicationOf(number) {
+  return number < 100 ? String(number).padStart(2, '0') : String.fromCharCode(number - 100);
+}
+
+/** Returns what the structs of reading and of mending share, with the bytes and the ECI headers; `version` is that field's offset. */
+function content(at, bytes, headers, version) {
+  const [has, position, last, parity, fnc1, application] = [1, 2, 3, 4, 5, 6].map((k) => at.getUint8(version + k));
+  const [length, count] = [0, 8].map((offset) => Number(at.getBigUint64(offset, true))), found = struct(headers, count * ECI_SIZE);
+  const ecis = Array.from({ length: count }, (_, k) => (
+    { begin: Number(found.getBigUint64(k * ECI_SIZE, true)), number: found.getUint32(k * ECI_SIZE + 8, true) }));
+  return {
+    data: copied(bytes, length),
+    version: at.getUint8(version),
+    header: has ? { position, last, parity } : null,
+    ecis,
+    gs1: fnc1 === FNC1_FIRST,
+    application: fnc1 === FNC1_SECOND ? applicationOf(application) : null,
+  };
+}
+
+/** Calls `name` with the modules and with buffers for the bytes, the ECI headers and a struct; returns the last three. */
+function readBy(name, modules, side, size) {
+  const from = put(modules), to = take(BYTES_MAX), headers = take(ECIS_MAX * ECI_SIZE), told = take(size);
+  throwFor(call(name, BigInt(from), BigInt(modules.length), side, BigInt(to), BigInt(BYTES_MAX), BigInt(headers), BigInt(ECIS_MAX),
+    BigInt(told)));
+  return [struct(told, size), to, headers];
 }
 
 export function readOf(modules, side) {
-  return run(() => {
-    const from = put(modules), to = take(BYTES_MAX), told = take(16);
-    throwFor(call('qrproved_read', BigInt(from), BigInt(modules.length), side, BigInt(to), BigInt(BYTES_MAX), BigInt(told)));
-    return content(struct(told, 16), to, 8);
-  });
+  return run(() => content(...readBy('qrproved_read', modules, side, 24), 16));
 }
 
 export function mendedOf(modules, side) {
   return run(() => {
-    const from = put(modules), to = take(BYTES_MAX), told = take(24);
-    throwFor(call('qrproved_mend', BigInt(from), BigInt(modules.length), side, BigInt(to), BigInt(BYTES_MAX), BigInt(told)));
-    const at = struct(told, 24);
-    const [level, mask, wrongFormatModules, changedMost, changedAllowed] = [17, 18, 19, 20, 21].map((k) => at.getUint8(k));
-    return { ...content(at, to, 12), wrongModules: at.getUint32(8, true), level, mask, wrongFormatModules, changedMost, changedAllowed };
+    const [at, to, headers] = readBy('qrproved_mend', modules, side, 32);
+    const [level, mask, wrongFormatModules, changedMost, changedAllowed] = [27, 28, 29, 30, 31].map((k) => at.getUint8(k));
+    return { ...content(at, to, headers, 20), wrongModules: at.getUint32(16, true), level, mask, wrongFormatModules, changedMost, changedAllowed };
   });
 }
 

@@ -73,6 +73,22 @@ export class PictureError extends Error {
   }
 }
 
+/** The bytes of an ECI are not read as characters. It is no refusal of the library. */
+export class EciError extends Error {
+  constructor(message) {
+    super(message);
+    this.name = 'EciError';
+  }
+}
+
+/** The data are no GS1 data: which field is wrong, and why. It is no refusal of the library. */
+export class Gs1Error extends Error {
+  constructor(message) {
+    super(message);
+    this.name = 'Gs1Error';
+  }
+}
+
 // What a symbol of version 40 holds at each level, from L to H: bytes, alphanumeric characters, digits, and kanji of two bytes each
 // (ISO/IEC 18004:2015, Table 7).
 const MOST = [[2953, 4296, 7089, 1817], [2331, 3391, 5596, 1435], [1663, 2420, 3993, 1024], [1273, 1852, 3057, 784]];

@@ -81,17 +81,40 @@ export interface Header {
   parity: number;
 }
 
+/** An ECI header (Extended Channel Interpretation): from a byte of the data on, the bytes have this ECI. */
+export interface Eci {
+  /** The number of bytes before it. */
+  begin: number;
+  /** From 0 to 999999: 26 is UTF-8, 20 is Shift JIS, 3 is ISO/IEC 8859-1. */
+  number: number;
+}
+
 /** What a symbol contains. */
 export class Content {
   protected constructor();
+  /** In GS1 data, and with an application indicator, the byte 1D separates fields. */
   readonly data: Uint8Array;
   readonly version: number;
   /** null unless it is a symbol of a series. */
   readonly header: Header | null;
-  /** Returns the data as text. Throws a TypeError if it is no UTF-8. */
+  /** The ECI headers, which say what the bytes mean as characters. Bytes before the first of them have none. */
+  readonly ecis: readonly Eci[];
+  /** True for GS1 data: FNC1 in first position. */
+  readonly gs1: boolean;
+  /** The application indicator, two digits or a letter, of data with FNC1 in second position; else null. */
+  readonly application: string | null;
+  /**
+   * Returns the data as text, each byte by the ECI in effect, and by UTF-8 where there is none. Throws EciError for an ECI whose
+   * characters are not known, or that means bytes, and a TypeError for bytes that are no characters.
+   */
   text(): string;
+  /**
+   * Returns the fields of GS1 data, each as its application identifier and its value. Throws Gs1Error if it is no GS1 data, for an
+   * identifier that is not known, and for a value with a wrong length, character, check digit or date.
+   */
+  fields(): [identifier: string, value: string][];
   /** What JSON.stringify writes: the data as an array of numbers. */
-  toJSON(): { data: number[]; version: number; header: Header | null };
+  toJSON(): { data: number[]; version: number; header: Header | null; ecis: Eci[]; gs1: boolean; application: string | null };
 }
 
 /** What a damaged symbol contains, and its damage. */
@@ -205,6 +228,14 @@ export class SideError extends QRError {}
 export class FormatError extends QRError {}
 /** No upright symbol is found in a picture. It is no refusal of the library, which reads modules alone. */
 export class PictureError extends Error {
+  protected constructor();
+}
+/** The bytes of an ECI are not read as characters. It is no refusal of the library. */
+export class EciError extends Error {
+  protected constructor();
+}
+/** The data are no GS1 data: which field is wrong, and why. It is no refusal of the library. */
+export class Gs1Error extends Error {
   protected constructor();
 }
 export class CheckError extends QRError {}

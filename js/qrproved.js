@@ -3,15 +3,17 @@
  * their contracts. README.md shows the calls; qrproved.d.ts describes each.
  */
 import { drawn, encoded, encodedSeries, mendedOf, parsedOf, readOf } from './calls.js';
-import { NoDrawingError, SettingsError, SideError } from './errors.js';
+import { Gs1Error, NoDrawingError, SettingsError, SideError } from './errors.js';
+import { fieldsOf } from './gs1.js';
+import { decodedText } from './interpretation.js';
 import { undone } from './pasted.js';
 import { squaresIn } from './pictures.js';
 import { imageOf } from './png.js';
 
 export { load } from './calls.js';
 export {
-  CheckError, EmptyError, FormatError, NoDrawingError, OutOfMemoryError, PictureError, QRError, RoomError, SegmentsError, SettingsError,
-  SideError, TooLongError, TooManyError,
+  CheckError, EciError, EmptyError, FormatError, Gs1Error, NoDrawingError, OutOfMemoryError, PictureError, QRError, RoomError, SegmentsError,
+  SettingsError, SideError, TooLongError, TooManyError,
 } from './errors.js';
 
 const LEVELS = ['L', 'M', 'Q', 'H'];
@@ -135,12 +137,17 @@ export class QRSymbol {
 }
 
 export class Content {
-  constructor({ data, version, header }) {
-    Object.assign(this, { data, version, header });
+  constructor({ data, version, header, ecis, gs1, application }) {
+    Object.assign(this, { data, version, header, ecis, gs1, application });
   }
 
   text() {
-    return new TextDecoder('utf-8', { fatal: true, ignoreBOM: true }).decode(this.data);
+    return decodedText(this.data, this.ecis);
+  }
+
+  fields() {
+    if (!this.gs1) throw new Gs1Error('the symbol does not say that its data are GS1 data');
+    return fieldsOf(this.data);
   }
 
   toJSON() {
@@ -149,8 +156,8 @@ export class Content {
 }
 
 export class Mended {
-  constructor({ data, version, header, level, ...others }) {
-    Object.assign(this, { content: new Content({ data, version, header }), level: LEVELS[level], ...others });
+  constructor({ data, version, header, ecis, gs1, application, level, ...others }) {
+    Object.assign(this, { content: new Content({ data, version, header, ecis, gs1, application }), level: LEVELS[level], ...others });
   }
 
   get isSound() {

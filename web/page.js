@@ -1,7 +1,7 @@
 /** The page: draws each symbol as its text is typed, a sheet of labels, and what a drawing contains. */
 import {
-  CheckError, FormatError, NoDrawingError, PictureError, QRError, SideError, TooLongError, TooManyError, draw, encode, encodeSeries, mend,
-  parseDrawing, parsePicture,
+  CheckError, EciError, FormatError, Gs1Error, NoDrawingError, PictureError, QRError, SideError, TooLongError, TooManyError, draw, encode,
+  encodeSeries, mend, parseDrawing, parsePicture,
 } from '../out/npm/package/qrproved.js';
 import { squaresInText } from './drawings.js';
 import { zipOf } from './zip.js';
@@ -230,12 +230,33 @@ const REASONS = [
   [SideError, 'no symbol has as many modules on a side.'],
 ];
 
-function textOf(found) {
+function textOf(content) {
   try {
-    return found.content.text();
-  } catch {
-    return `${Array.from(found.content.data, (byte) => byte.toString(16).padStart(2, '0')).join(' ')} (bytes that are no UTF-8)`;
+    return content.text();
+  } catch (error) {
+    const bytes = Array.from(content.data, (byte) => byte.toString(16).padStart(2, '0')).join(' ');
+    return `${bytes} (${error instanceof EciError ? error.message : `bytes that are no ${content.ecis.length ? 'characters of their ECI' : 'UTF-8'}`})`;
   }
+}
+
+/** Returns the fields of GS1 data, one a line, or why they are none. */
+function fieldsOfLabel(content) {
+  try {
+    return content.fields().map(([identifier, value]) => made('div', `(${identifier}) ${value}`));
+  } catch (error) {
+    if (!(error instanceof Gs1Error)) throw error;
+    return [`Not as GS1 has them: ${error.message}.`];
+  }
+}
+
+/** Returns rows that say how the bytes of a content are to be interpreted: none for most symbols. */
+function interpretationOf(content) {
+  const ecis = content.ecis.map(({ begin, number }) => (begin === 0 ? `${number}` : `${number} from byte ${begin} on`)).join(', ');
+  return [
+    ...(ecis ? [['ECI', [ecis]]] : []),
+    ...(content.gs1 ? [['GS1 fields', fieldsOfLabel(content)]] : []),
+    ...(content.application !== null ? [['Application', [content.application]]] : []),
+  ];
 }
 
 /** Returns the damage of a symbol in words. */
@@ -272,7 +293,8 @@ function contentOf(square) {
     const found = mend(modules), { version, header } = found.content;
     const place = header ? `, ${header.position + 1} of ${header.last + 1} of a series` : '';
     const rows = [
-      ['Contains', [textOf(found)]],
+      ['Contains', [textOf(found.content)]],
+      ...interpretationOf(found.content),
       ['Symbol', [`Version ${version}-${found.level}, mask ${found.mask}${place}`]],
       ['Damage', [damageOf(found, modules)]],
       ['Spent', spentOf(found, modules)],

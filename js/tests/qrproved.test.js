@@ -1,6 +1,7 @@
 /** The package as it is installed: node --test, with the folder of the package in the variable QRPROVED, or out/npm/package. */
 import assert from 'node:assert/strict';
 import { execFileSync } from 'node:child_process';
+import { readFileSync } from 'node:fs';
 import { pathToFileURL } from 'node:url';
 import { resolve } from 'node:path';
 import { test } from 'node:test';
@@ -103,7 +104,7 @@ test('JSON', () => {
   const rows = Array.from({ length: 21 }, (_, row) => symbol.modules.slice(21 * row, 21 * row + 21).join(''));
   assert.deepEqual(JSON.parse(JSON.stringify(symbol)), { version: 1, side: 21, mask: symbol.mask, level: 'M', rows });
   assert.equal(rows[0].slice(0, 7) + rows[20].slice(0, 7), '1'.repeat(14));
-  const content = { data: [65, 255], version: 1, header: null }, mended = mend(encode(Uint8Array.of(65, 255)));
+  const content = { data: [65, 255], version: 1, header: null, ecis: [], gs1: false, application: null }, mended = mend(encode(Uint8Array.of(65, 255)));
   assert.deepEqual(JSON.parse(JSON.stringify(mended.content)), content);
   assert.deepEqual(JSON.parse(JSON.stringify(mended)).content, content);
 });
@@ -388,4 +389,104 @@ test('other texts are no drawings', () => {
     assert.throws(() => parseDrawing(given), refused('NoDrawingError', 11, 'NO_DRAWING'));
   }
   assert.throws(() => parseDrawing(new Uint8Array(3)), TypeError);
+});
+
+// Symbols of zint and segno, each with the words that made it.
+const LABELS = readFileSync(new URL('../../tests/labels.jsonl', import.meta.url), 'utf8').trim().split('\n').map((line) => JSON.parse(line));
+
+const modulesOf = (rows, side = 21) => Uint8Array.from(BigInt(`0x${rows}`).toString(2).padStart(side * side, '0'), Number);
+
+/** Returns the content of the label that some words made. */
+function labelled(by) {
+  const { rows, side } = LABELS.find((it) => it.by === by);
+  return read(modulesOf(rows, side));
+}
+
+/** Returns a content with other data, for what no encoder at hand writes. */
+const contentOf = (data, others) => Object.assign(read(encode('A')), { data: Uint8Array.from(data), ...others });
+const named = (name, message) => (error) => error instanceof errors[name] && error instanceof Error && !(error instanceof errors.QRError)
+  && error.name === name && message.test(error.message);
+
+test('texts by their ECIs', () => {
+  const cases = [['zint --eci=3 -d Ünïcödé --secure=1', 3, 'Ünïcödé'], ['zint --eci=9 -d Ελληνικά --secure=2', 9, 'Ελληνικά'], ['segno 価格', 26, '価格']];
+  for (const [by, number, text] of cases) {
+    const content = labelled(by);
+    assert.deepEqual([content.ecis, content.text(), content.gs1, content.application], [[{ begin: 0, number }], text, false, null]);
+  }
+  const two = labelled('zint --eci=20 -d 0123456789 --secure=3 --seg1=899,ABC-123 %45');
+  assert.deepEqual(two.ecis, [{ begin: 0, number: 20 }, { begin: 10, number: 899 }]);
+  assert.throws(() => two.text(), named('EciError', /^ECI 899 means bytes/));
+  const words = LABELS.map(({ by }) => /^zint --eci=[0-9]+ -d (.*) --secure=[0-9]( --vers=[0-9]+)?$/.exec(by)).filter(Boolean);
+  assert.ok(words.length > 50);
+  for (const [by, text] of words) assert.equal(labelled(by).text(), text, by);
+});
+
+test('character sets of ECIs', () => {
+  const cases = [[0, [0x81, 0x84, 0xe1], 'üäß'], [1, [0xdc, 0x9d], 'Ü\x9d'], [2, [0x9b, 0xfe], '¢■'], [4, [0xb3, 0xf3, 0x64, 0xbc], 'łódź'],
+    [7, [0xbc, 0xd8, 0xe0], 'Мир'], [11, [0xdd, 0xfd, 0xf0], 'İığ'], [13, [0xa1, 0xd2], 'กา'], [17, [0xa4], '€'],
+    [20, [0x93, 0x5f, 0x83, 0x65, 0xb1], '点テｱ'], [22, [0xcf, 0xf0], 'Пр'], [23, [0x80], '€'], [25, [0x70, 0xb9, 0, 0x41], '点A'],
+    [27, [0x41, 0x7e], 'A~'], [28, [0xa4, 0xa4], '中'], [29, [0xd6, 0xd0], '中'], [30, [0xb0, 0xa1], '가']];
+  for (const [number, data, text] of cases) assert.equal(contentOf(data, { ecis: [{ begin: 0, number }] }).text(), text, `${number}`);
+  assert.equal(contentOf([0xc3, 0xa9, 0xe9, 0xc3, 0xa9], { ecis: [{ begin: 2, number: 3 }, { begin: 3, number: 26 }] }).text(), 'ééé');
+  assert.equal(contentOf([0x41], { ecis: [{ begin: 0, number: 26 }, { begin: 1, number: 811799 }] }).text(), 'A'); // of no byte
+  for (const [number, data] of [[26, [0xc3]], [27, [0x80]], [20, [0x93]]]) {
+    assert.throws(() => contentOf(data, { ecis: [{ begin: 0, number }] }).text(), TypeError);
+  }
+  for (const number of [14, 127, 128, 899, 16384, 999999]) {
+    assert.throws(() => contentOf([65], { ecis: [{ begin: 0, number }] }).text(), named('EciError', new RegExp(`ECI ${number} `)));
+  }
+});
+
+test('fields of GS1 data', () => {
+  const content = labelled('zint --gs1 -d [10]9NJY[8008]37090120 --secure=2');
+  assert.deepEqual([new TextDecoder().decode(content.data), content.gs1, content.ecis, content.application], ['109NJY\x1d800837090120', true, [], null]);
+  assert.deepEqual(content.fields(), [['10', '9NJY'], ['8008', '37090120']]);
+  const words = LABELS.map(({ by }) => /^zint --gs1 (?:--structapp=[^ ]+ )?-d ([^ ]+) --secure=[0-9]( --vers=[0-9]+)?$/.exec(by)).filter(Boolean);
+  assert.equal(words.length, LABELS.filter((it) => it.fnc1 === 'gs1').length);
+  for (const [by, data] of words) assert.deepEqual(labelled(by).fields(), Array.from(data.matchAll(/\[([0-9]+)\]([^[]+)/g), (it) => it.slice(1)), by);
+});
+
+const gs1 = (data) => contentOf(new TextEncoder().encode(data), { gs1: true });
+
+test('each application identifier', () => {
+  const cases = [
+    ['010401234567890110ABC123\x1d17261231', [['01', '04012345678901'], ['10', 'ABC123'], ['17', '261231']]],
+    ['00340123450000000000', [['00', '340123450000000000']]], ['31030012502001', [['3103', '001250'], ['20', '01']]],
+    ['3922199\x1d3712', [['3922', '199'], ['37', '12']]], ['3912978199', [['3912', '978199']]],
+    ['410401234500000921a%_', [['410', '4012345000009'], ['21', 'a%_']]], ['422276\x1d90x', [['422', '276'], ['90', 'x']]],
+    ['800304012345678901A1', [['8003', '04012345678901A1']]], ['800304012345678901', [['8003', '04012345678901']]],
+    ['8006040123456789010102', [['8006', '040123456789010102']]], ['80082612312359', [['8008', '2612312359']]],
+    ['17261200\x1d8020A1\x1d', [['17', '261200'], ['8020', 'A1']]], [`99${'z'.repeat(90)}`, [['99', 'z'.repeat(90)]]],
+  ];
+  for (const [data, fields] of cases) assert.deepEqual(gs1(data).fields(), fields, data);
+});
+
+test('wrong fields are named', () => {
+  const cases = [
+    ['0104012345678902', /^\(01\) its check digit is 2, and should be 1$/], ['010401234567890', /^\(01\) has 14 characters, and not 13$/],
+    [`00${'3'.repeat(17)}\x1d`, /^\(00\) has 18 characters, and not 17$/], [`10${'A'.repeat(21)}`, /^\(10\) has 1 to 20 characters, and not 21$/],
+    ['10\x1d17261231', /^\(10\) has 1 to 20 characters, and not 0$/], ['17261331', /^\(17\) 261331 is no date$/],
+    ['17260230', /^\(17\) 260230 is no date$/], ['3712A', /^\(37\) 'A' is not a digit$/], ['10A B', /^\(10\) ' ' is not a character of GS1's set 82$/],
+    ['8010a', /^\(8010\) 'a' is not a character of GS1's set 39$/], ['800826123124', /^\(8008\) 24 is no hour$/],
+    ['800826123123599', /^\(8008\) 599 is no time$/], ['3712\x1d\x1d2001', /begins '\\x1d200'$/], ['0512', /begins '0512'$/],
+    ['3106000000', /begins '3106'$/], ['', /no field/],
+  ];
+  for (const [data, why] of cases) assert.throws(() => gs1(data).fields(), named('Gs1Error', why), data);
+  assert.throws(() => read(encode('3712')).fields(), named('Gs1Error', /does not say/));
+});
+
+test('an application indicator, and JSON', () => {
+  // FNC1 in second position, and what is in byte and alphanumeric mode after it: codewords that were written by hand
+  const rows = [
+    ['1fc97f82ca0dd2576eb2bb7495d82ca0ff55fc01201f79aa0d892a334b3f3251bcd2400a94ff449209a4d75d26ba896dd44b20a255fd921', 'AA12', '37'],
+    ['1fc97f82ca0dd2576eb2bb7495d82ca0ff55fc01201f79aac9497b79493852482452c008927f64ba092557592eba8965d649e0a24dfd921', 'A\x1dB', 'a'],
+  ];
+  for (const [row, text, application] of rows) {
+    const { content } = mend(modulesOf(row));
+    assert.deepEqual([content.text(), content.application, content.gs1, content.ecis], [text, application, false, []]);
+  }
+  const wanted = { data: [65, 65, 49, 50], version: 1, header: null, ecis: [], gs1: false, application: '37' };
+  assert.deepEqual(JSON.parse(JSON.stringify(read(modulesOf(rows[0][0])))), wanted);
+  const label = labelled('zint --binary --eci=128 -d abc --secure=3');
+  assert.deepEqual(JSON.parse(JSON.stringify(label)), { ...wanted, data: [97, 98, 99], ecis: [{ begin: 0, number: 128 }], application: null });
 });

@@ -1,17 +1,19 @@
 // What the declarations allow and refuse, for the TypeScript compiler.
-import { draw, encode, encodeSeries, load, mend, parseDrawing, parsePicture, read, QRSymbol, NoDrawingError, TooLongError, QRError, type Header, type Level } from 'qrproved';
+import { draw, encode, encodeSeries, load, mend, parseDrawing, parsePicture, read, QRSymbol, NoDrawingError, TooLongError, QRError, type Eci, type Header, type Level } from 'qrproved';
 
 await load();
 const symbol: QRSymbol = encode('a', { level: 'q', rule: 'with_kanji' });
 const level: Level = symbol.level;
 const series: QRSymbol[] = encodeSeries(new Uint8Array(3), { version: 3 });
 const header: Header | null = read(series[0]).header;
+const ecis: readonly Eci[] = read(symbol).ecis;
+const fields: [string, string][] = read(symbol).gs1 ? read(symbol).fields() : [];
 const shown: Uint8Array[] = parseDrawing(draw(series)).squares;
 const squares: Uint8Array[] = parsePicture({ data: new Uint8ClampedArray(4), width: 1, height: 1 });
 const image: Uint8Array = symbol.png({ scale: 3 });
 const text: string = read(symbol).text() + mend(symbol.modules).content.text() + symbol.toJSON().rows[0] + draw(series, { type: 'SVG' }) + symbol.dataURL({ type: 'svg' });
 try {
-  console.log(level, header, image, text, squares, shown);
+  console.log(level, header, ecis, fields, image, text, squares, shown);
 } catch (error) {
   if (error instanceof TooLongError || error instanceof NoDrawingError) {
     const refusal: QRError = error, status: number = error.status;

@@ -22,10 +22,12 @@ from typing import TYPE_CHECKING, BinaryIO, List, NamedTuple, NoReturn, Optional
 
 from . import _library, _png
 from ._drawings import found_by_look, undone
+from ._gs1 import Gs1Error, fields_of
+from ._interpretation import Eci, EciError, text_of
 from ._pictures import parse_picture
 from ._errors import (CheckError, EmptyError, Error, FormatError, NoDrawingError, OutOfMemoryError, RoomError, SegmentsError,
                       SettingsError, SideError, TooLongError, TooManyError, raise_for, too_long)
-from ._library import BYTES_MAX, COUNT_MAX, MARGIN_MAX, SERIES_MAX, SIDE_MAX, SYMBOL_MAX
+from ._library import BYTES_MAX, COUNT_MAX, ECIS_MAX, MARGIN_MAX, SERIES_MAX, SIDE_MAX, SYMBOL_MAX
 
 if TYPE_CHECKING:
     from collections.abc import Iterable, Sequence
@@ -34,13 +36,15 @@ if TYPE_CHECKING:
     Input = Union[str, bytes, bytearray, memoryview]
     Name = Union[int, str]
 
-__all__ = ["BYTES_MAX", "COUNT_MAX", "MARGIN_MAX", "SCALE_MAX", "SERIES_MAX", "SIDE_MAX", "SYMBOL_MAX", "CheckError", "Content", "Drawing",
-           "Drawn", "EmptyError", "Error", "FormatError", "Header", "Level", "Mended", "NoDrawingError", "OutOfMemoryError", "PrintWarning", "RoomError", "Rule",
-           "SegmentsError", "SettingsError", "SideError", "Symbol", "TooLongError", "TooManyError", "draw", "encode",
-           "encode_series", "mend", "parse_drawing", "parse_picture", "read"]
+__all__ = ["BYTES_MAX", "COUNT_MAX", "MARGIN_MAX", "SCALE_MAX", "SERIES_MAX", "SIDE_MAX", "SYMBOL_MAX", "CheckError", "Content",
+           "Drawing", "Drawn", "Eci", "EciError", "EmptyError", "Error", "FormatError", "Gs1Error", "Header", "Level", "Mended",
+           "NoDrawingError", "OutOfMemoryError", "PrintWarning", "RoomError", "Rule", "SegmentsError", "SettingsError",
+           "SideError", "Symbol", "TooLongError", "TooManyError", "draw", "encode", "encode_series", "mend", "parse_drawing",
+           "parse_picture", "read"]
 
 __version__ = "0.1.0"
 _calls = _library.load()
+FNC1_FIRST, FNC1_SECOND = 1, 2
 SCALE_MAX = 100
 SIZE_MAX = 100_000  # of mm and dpi
 MM_OF_INCH = 25.4
@@ -245,20 +249,35 @@ class Content:
     """What a symbol says."""
 
     data: bytes
-    """At most BYTES_MAX bytes."""
+    """At most BYTES_MAX bytes. In GS1 data, and with an application indicator, the byte 1D separates fields."""
     version: int
     """From 1 to 40."""
     header: Optional[Header]
     """None if it is a plain symbol and not one of a series."""
+    ecis: Tuple[Eci, ...] = ()
+    """The ECI headers, which say what the bytes mean as characters. Bytes before the first of them have none."""
+    gs1: bool = False
+    """True for GS1 data: FNC1 in first position."""
+    application: Optional[str] = None
+    """The application indicator, two digits or a letter, of data with FNC1 in second position; else None."""
 
     def text(self) -> str:
-        """Returns the data as text. Raises UnicodeDecodeError, which is a ValueError, if it is no UTF-8."""
-        return self.data.decode()
+        """Returns the data as text, each byte by the ECI in effect, and by UTF-8 where there is none. Raises EciError for an ECI whose
+        characters are not known, or that means bytes, and UnicodeDecodeError for bytes that are no characters; both are
+        ValueErrors."""
+        return text_of(self.data, self.ecis)
+
+    def fields(self) -> list[tuple[str, str]]:
+        """Returns the fields of GS1 data, each as its application identifier and its value. Raises Gs1Error, which is a ValueError, if
+        it is no GS1 data, for an identifier that is not known, and for a value with a wrong length, character, check digit or date."""
+        if not self.gs1:
+            raise Gs1Error("the symbol does not say that its data are GS1 data")
+        return fields_of(self.data)
 
     def to_dict(self) -> dict[str, object]:
         """Returns the content as json.dumps takes it: the data as a list of numbers."""
-        header = None if self.header is None else self.header._asdict()
-        return {"data": list(self.data), "version": self.version, "header": header}
+        header, ecis = None if self.header is None else self.header._asdict(), [it._asdict() for it in self.ecis]
+        return {"data": list(self.data), "version": self.version, "header": header, "ecis": ecis, "gs1": self.gs1, "application": self.application}
 
 
 @dataclass(frozen=True)
@@ -456,9 +475,9 @@ def read(modules: Union[Symbol, Bytes], side: Optional[int] = None) -> Content:
     """
     square, checked = _square(modules, side)
     given = _copied(square)
-    data, content = (ctypes.c_uint8 * BYTES_MAX)(), _library.Content()
-    raise_for(_calls.qrproved_read(given, len(given), checked, data, BYTES_MAX, ctypes.byref(content)))
-    return _content_of(content, data)
+    data, ecis, content = (ctypes.c_uint8 * BYTES_MAX)(), (_library.Eci * ECIS_MAX)(), _library.Content()
+    raise_for(_calls.qrproved_read(given, len(given), checked, data, BYTES_MAX, ecis, ECIS_MAX, ctypes.byref(content)))
+    return _content_of(content, data, ecis)
 
 
 def mend(modules: Union[Symbol, Bytes], side: Optional[int] = None) -> Mended:
@@ -477,9 +496,9 @@ def mend(modules: Union[Symbol, Bytes], side: Optional[int] = None) -> Mended:
     """
     square, checked = _square(modules, side)
     given = _copied(square)
-    data, mended = (ctypes.c_uint8 * BYTES_MAX)(), _library.Mended()
-    raise_for(_calls.qrproved_mend(given, len(given), checked, data, BYTES_MAX, ctypes.byref(mended)))
-    return Mended(_content_of(mended, data), Level(mended.level), mended.mask, mended.wrong_modules, mended.wrong_format_modules,
+    data, ecis, mended = (ctypes.c_uint8 * BYTES_MAX)(), (_library.Eci * ECIS_MAX)(), _library.Mended()
+    raise_for(_calls.qrproved_mend(given, len(given), checked, data, BYTES_MAX, ecis, ECIS_MAX, ctypes.byref(mended)))
+    return Mended(_content_of(mended, data, ecis), Level(mended.level), mended.mask, mended.wrong_modules, mended.wrong_format_modules,
                   mended.changed_most, mended.changed_allowed)
 
 
@@ -546,6 +565,13 @@ def parse_drawing(text: Union[str, Bytes]) -> Drawn:
     return Drawn(found_by_look(given))
 
 
-def _content_of(it: Union[_library.Content, _library.Mended], data: ctypes.Array[ctypes.c_uint8]) -> Content:
+def _content_of(it: Union[_library.Content, _library.Mended], data: ctypes.Array[ctypes.c_uint8], ecis: ctypes.Array[_library.Eci]) -> Content:
     header = Header(it.position, it.last, it.parity) if it.has_header else None
-    return Content(_first(data, it.len), it.version, header)
+    application = _application_of(it.application) if it.fnc1 == FNC1_SECOND else None
+    found = tuple(Eci(eci.begin, eci.number) for eci in ecis[:it.eci_count])
+    return Content(_first(data, it.len), it.version, header, found, it.fnc1 == FNC1_FIRST, application)
+
+
+def _application_of(number: int) -> str:
+    """Returns an application indicator as it is printed: two digits, or the letter whose code is 100 less."""
+    return f"{number:02}" if number < 100 else chr(number - 100)

@@ -7,12 +7,15 @@ import os
 import sys
 import time
 import warnings
-from typing import Optional
+from typing import TYPE_CHECKING, Optional
 
 import qrproved
-from qrproved import Error, Level, Rule
+from qrproved import Content, Error, Gs1Error, Level, Rule
 from qrproved._batch import PART, Part, Settings, labels_of, processors, written
 from qrproved._pictures import is_picture
+
+if TYPE_CHECKING:
+    from collections.abc import Iterator
 
 PROGRAM = "qrproved" if os.path.splitext(os.path.basename(sys.argv[0]))[0] == "qrproved" else "python -m qrproved"
 SOUND, READABLE, NOT_READABLE = range(3)
@@ -73,6 +76,26 @@ def is_mirrored(modules: bytes, side: int) -> bool:
     return True
 
 
+def said_of(content: Content) -> Iterator[str]:
+    """Yields lines that say what a symbol contains, and how its bytes are to be interpreted."""
+    for eci in content.ecis:
+        yield f"ECI {eci.number} from byte {eci.begin} on"
+    if content.application is not None:
+        yield f"data of the application {content.application}"
+    if content.gs1:
+        try:
+            yield f"GS1 data {''.join(f'({name}){value}' for name, value in content.fields())}"
+        except Gs1Error as fault:
+            yield f"GS1 data, but {fault}"
+    try:
+        shown = content.text()
+        if not shown.isprintable():
+            shown = ascii(shown) if "'" in shown else repr(shown)
+    except ValueError:
+        shown = repr(content.data)
+    yield f"contains {shown}"
+
+
 def verdict(modules: bytes, side: int) -> int:
     """Prints what a symbol contains and how much of its correction is spent, and returns the status."""
     unknown = modules.count(2)
@@ -91,13 +114,8 @@ def verdict(modules: bytes, side: int) -> int:
         print(f"symbol {it.content.header.position + 1} of {it.content.header.last + 1} of its series")
     if unknown:
         print(f"{of_unknown}, and their codewords not counted")
-    try:
-        shown = it.content.data.decode()
-        if not shown.isprintable():
-            shown = ascii(shown) if "'" in shown else repr(shown)
-    except UnicodeDecodeError:
-        shown = repr(it.content.data)
-    print(f"contains {shown}")
+    for line in said_of(it.content):
+        print(line)
     return SOUND if it.is_sound else READABLE
 
 

@@ -15,6 +15,7 @@ SYMBOL_MAX = 31329
 COUNT_MAX = 16
 SERIES_MAX = 501264
 BYTES_MAX = 7089
+ECIS_MAX = 1970
 MARGIN_MAX = 100
 
 
@@ -26,14 +27,19 @@ class Series(ctypes.Structure):
     _fields_ = [("count", c_uint8), ("side", c_uint8)]
 
 
+class Eci(ctypes.Structure):
+    _fields_ = [("begin", c_size_t), ("number", c_uint32)]
+
+
+HEADED = [(name, c_uint8) for name in ("version", "has_header", "position", "last", "parity", "fnc1", "application")]
+
+
 class Content(ctypes.Structure):
-    _fields_ = [("len", c_size_t), ("version", c_uint8), ("has_header", c_uint8), ("position", c_uint8), ("last", c_uint8),
-                ("parity", c_uint8)]
+    _fields_ = [("len", c_size_t), ("eci_count", c_size_t), *HEADED]
 
 
 class Mended(ctypes.Structure):
-    _fields_ = [("len", c_size_t), ("wrong_modules", c_uint32), ("version", c_uint8), ("has_header", c_uint8),
-                ("position", c_uint8), ("last", c_uint8), ("parity", c_uint8), ("level", c_uint8), ("mask", c_uint8),
+    _fields_ = [("len", c_size_t), ("eci_count", c_size_t), ("wrong_modules", c_uint32), *HEADED, ("level", c_uint8), ("mask", c_uint8),
                 ("wrong_format_modules", c_uint8), ("changed_most", c_uint8), ("changed_allowed", c_uint8)]
 
 
@@ -48,8 +54,8 @@ BUFFER = [c_void_p, c_size_t]
 PARAMETERS = {
     "qrproved_encode": [*BYTES, SETTING, SETTING, SETTING, *BUFFER, ctypes.POINTER(Symbol)],
     "qrproved_encode_series": [*BYTES, SETTING, SETTING, SETTING, *BUFFER, ctypes.POINTER(Series)],
-    "qrproved_read": [*BYTES, SETTING, *BUFFER, ctypes.POINTER(Content)],
-    "qrproved_mend": [*BYTES, SETTING, *BUFFER, ctypes.POINTER(Mended)],
+    "qrproved_read": [*BYTES, SETTING, *BUFFER, *BUFFER, ctypes.POINTER(Content)],
+    "qrproved_mend": [*BYTES, SETTING, *BUFFER, *BUFFER, ctypes.POINTER(Mended)],
     "qrproved_draw": [*BYTES, SETTING, SETTING, SETTING, SETTING, *BUFFER, ctypes.POINTER(c_size_t)],
     "qrproved_parse_drawing": [*BYTES, *BUFFER, ctypes.POINTER(Drawn)],
 }

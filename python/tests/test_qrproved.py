@@ -115,7 +115,8 @@ class Calls(unittest.TestCase):
         self.assertEqual(written["rows"][0], "111111100011101111111")
         series = qrproved.encode_series(b"ab" * 20, version=1)
         self.assertEqual(json.loads(json.dumps(qrproved.read(series[0]).to_dict()))["header"], {"position": 0, "last": len(series) - 1, "parity": 0})
-        self.assertEqual(qrproved.read(qrproved.encode(b"A\xff")).to_dict(), {"data": [65, 255], "version": 1, "header": None})
+        self.assertEqual(qrproved.read(qrproved.encode(b"A\xff")).to_dict(),
+                         {"data": [65, 255], "version": 1, "header": None, "ecis": [], "gs1": False, "application": None})
 
     def test_content_as_text(self):
         self.assertEqual(qrproved.mend(qrproved.encode("Gr\u00fc\u00dfe")).content.text(), "Gr\u00fc\u00dfe")

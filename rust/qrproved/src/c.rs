@@ -7,6 +7,7 @@ pub type Setting = u32;
 pub const SYMBOL_MAX: usize = 31329;
 pub const SERIES_MAX: usize = 501264;
 pub const BYTES_MAX: usize = 7089;
+pub const ECIS_MAX: usize = 1970;
 
 #[repr(C)]
 #[derive(Default)]
@@ -24,26 +25,39 @@ pub struct Series {
 }
 
 #[repr(C)]
+#[derive(Clone, Default)]
+pub struct Eci {
+    pub begin: usize,
+    pub number: u32,
+}
+
+#[repr(C)]
 #[derive(Default)]
 pub struct Content {
     pub len: usize,
+    pub eci_count: usize,
     pub version: u8,
     pub has_header: u8,
     pub position: u8,
     pub last: u8,
     pub parity: u8,
+    pub fnc1: u8,
+    pub application: u8,
 }
 
 #[repr(C)]
 #[derive(Default)]
 pub struct Mended {
     pub len: usize,
+    pub eci_count: usize,
     pub wrong_modules: u32,
     pub version: u8,
     pub has_header: u8,
     pub position: u8,
     pub last: u8,
     pub parity: u8,
+    pub fnc1: u8,
+    pub application: u8,
     pub level: u8,
     pub mask: u8,
     pub wrong_format_modules: u8,
@@ -89,6 +103,8 @@ extern "C" {
         side: Setting,
         bytes: *mut c_uchar,
         bytes_len: usize,
+        ecis: *mut Eci,
+        ecis_len: usize,
         content: *mut Content,
     ) -> u8;
 
@@ -98,6 +114,8 @@ extern "C" {
         side: Setting,
         bytes: *mut c_uchar,
         bytes_len: usize,
+        ecis: *mut Eci,
+        ecis_len: usize,
         mended: *mut Mended,
     ) -> u8;
 

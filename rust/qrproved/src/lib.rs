@@ -24,8 +24,10 @@
 
 mod c;
 mod error;
+mod interpretation;
 
 pub use error::Error;
+pub use interpretation::{Eci, Fnc1, TextError};
 
 use std::fmt;
 
@@ -169,6 +171,10 @@ pub struct Content {
     pub version: Version,
     /// Which symbol of its series it is; `None` for a plain symbol.
     pub header: Option<Header>,
+    /// The ECI headers, which say what the bytes mean as characters. Bytes before the first of them have none.
+    pub ecis: Vec<Eci>,
+    /// Whether the data are GS1 data, or those of an application; `None` for others.
+    pub fnc1: Option<Fnc1>,
 }
 
 /// What a damaged symbol says, and how damaged it is.
@@ -297,6 +303,7 @@ pub fn encode_series(
 /// not match its error correction codewords, [`Error::Segments`] if the data codewords cannot be parsed, [`Error::Memory`].
 pub fn read(modules: &[u8], side: usize) -> Result<Content, Error> {
     let mut content = c::Content::default();
+    let mut ecis = buffer(c::ECIS_MAX)?;
     let side = setting(side)?;
     let data = filled(c::BYTES_MAX, |bytes, len| {
         // SAFETY: each pointer is to as many bytes as the length beside it, and the struct is C's.
@@ -307,22 +314,14 @@ pub fn read(modules: &[u8], side: usize) -> Result<Content, Error> {
                 side,
                 bytes,
                 len,
+                ecis.as_mut_ptr(),
+                ecis.len(),
                 &mut content,
             )
         };
         (status, content.len)
     })?;
-    let header = header(
-        content.has_header,
-        content.position,
-        content.last,
-        content.parity,
-    );
-    Ok(Content {
-        data,
-        version: Version(content.version),
-        header,
-    })
+    Ok(content_of(data, &ecis, &content))
 }
 
 /// Reads a symbol, mends its damage, and tells how damaged it is. Each module is 0 for light, 1 for dark, or 2 where it is not
@@ -335,6 +334,7 @@ pub fn read(modules: &[u8], side: usize) -> Result<Content, Error> {
 /// more damage than can be mended.
 pub fn mend(modules: &[u8], side: usize) -> Result<Mended, Error> {
     let mut mended = c::Mended::default();
+    let mut ecis = buffer(c::ECIS_MAX)?;
     let side = setting(side)?;
     let data = filled(c::BYTES_MAX, |bytes, len| {
         // SAFETY: each pointer is to as many bytes as the length beside it, and the struct is C's.
@@ -345,23 +345,26 @@ pub fn mend(modules: &[u8], side: usize) -> Result<Mended, Error> {
                 side,
                 bytes,
                 len,
+                ecis.as_mut_ptr(),
+                ecis.len(),
                 &mut mended,
             )
         };
         (status, mended.len)
     })?;
-    let header = header(
-        mended.has_header,
-        mended.position,
-        mended.last,
-        mended.parity,
-    );
+    let content = c::Content {
+        len: mended.len,
+        eci_count: mended.eci_count,
+        version: mended.version,
+        has_header: mended.has_header,
+        position: mended.position,
+        last: mended.last,
+        parity: mended.parity,
+        fnc1: mended.fnc1,
+        application: mended.application,
+    };
     Ok(Mended {
-        content: Content {
-            data,
-            version: Version(mended.version),
-            header,
-        },
+        content: content_of(data, &ecis, &content),
         level: Level::ALL[usize::from(mended.level)],
         mask: mended.mask,
         wrong_modules: mended.wrong_modules,
@@ -463,11 +466,17 @@ const MM_MAX: f64 = 100_000.0;
 /// How the element of an SVG document begins, before its attributes.
 const SVG_START: &[u8] = b"<svg ";
 
-/// Makes a call with a buffer, and returns what the call wrote to it, or its status.
-fn filled(room: usize, call: impl FnOnce(*mut u8, usize) -> (u8, usize)) -> Result<Vec<u8>, Error> {
+/// Returns a buffer for so many bytes or structs.
+fn buffer<T: Clone + Default>(room: usize) -> Result<Vec<T>, Error> {
     let mut buffer = Vec::new();
     buffer.try_reserve_exact(room).map_err(|_| Error::Memory)?;
-    buffer.resize(room, 0);
+    buffer.resize(room, T::default());
+    Ok(buffer)
+}
+
+/// Makes a call with a buffer, and returns what the call wrote to it, or its status.
+fn filled(room: usize, call: impl FnOnce(*mut u8, usize) -> (u8, usize)) -> Result<Vec<u8>, Error> {
+    let mut buffer = buffer(room)?;
     let (status, written) = call(buffer.as_mut_ptr(), room);
     match Error::of_status(status) {
         Some(error) => Err(error),
@@ -493,12 +502,29 @@ fn setting(side: usize) -> Result<c::Setting, Error> {
     side.try_into().map_err(|_| Error::Side)
 }
 
-fn header(has_header: u8, position: u8, last: u8, parity: u8) -> Option<Header> {
-    (has_header != 0).then_some(Header {
-        position,
-        count: last + 1,
-        parity,
-    })
+/// Returns a content as C tells it.
+fn content_of(data: Vec<u8>, ecis: &[c::Eci], told: &c::Content) -> Content {
+    Content {
+        data,
+        version: Version(told.version),
+        header: (told.has_header != 0).then_some(Header {
+            position: told.position,
+            count: told.last + 1,
+            parity: told.parity,
+        }),
+        ecis: ecis[..told.eci_count]
+            .iter()
+            .map(|it| Eci {
+                begin: it.begin,
+                number: it.number,
+            })
+            .collect(),
+        fnc1: match told.fnc1 {
+            1 => Some(Fnc1::Gs1),
+            2 => Some(Fnc1::Application(told.application)),
+            _ => None,
+        },
+    }
 }
 
 #[cfg(doctest)]

@@ -1,7 +1,7 @@
 //! What the crate adds to the library: its types, and its refusals. The symbols themselves are compared by tests/library.
 use qrproved::{
-    draw, draw_svg, encode, encode_series, mend, parse_drawing, read, Content, Drawing, Error,
-    Header, Level, Rule, Version,
+    draw, draw_svg, encode, encode_series, mend, parse_drawing, read, Content, Drawing, Eci, Error,
+    Fnc1, Header, Level, Rule, TextError, Version,
 };
 
 /// The symbol of 01234567 of version 1 and level M under mask 0 (ISO/IEC 18004:2015, Annex I).
@@ -41,7 +41,22 @@ fn plain(data: &[u8]) -> Content {
         data: data.to_vec(),
         version: Version::MIN,
         header: None,
+        ecis: Vec::new(),
+        fnc1: None,
     }
+}
+
+/// Returns the modules of a label: row by row as one number in hexadecimal, as tests/labels.jsonl has them.
+fn label(rows: &str, side: usize) -> Vec<u8> {
+    let mut modules: Vec<u8> = rows
+        .chars()
+        .rev()
+        .map(|digit| digit.to_digit(16).unwrap())
+        .flat_map(|digit| (0..4).map(move |bit| (digit >> bit & 1) as u8))
+        .take(side * side)
+        .collect();
+    modules.reverse();
+    modules
 }
 
 #[test]
@@ -54,6 +69,75 @@ fn a_symbol_of_the_standard_is_read() {
         (Level::M, 0, 4)
     );
     assert!(mended.is_sound());
+}
+
+/// zint --eci=3 -d Ünïcödé --secure=1
+const LATIN_1: &str = "1fcb7f82d20dd6576e94bb7515d829a0ff55fc03e01a6c76f4832db26b7e1d7ec59f5009107f50ea08f2b742f3bab0fdd04460a9cffdf32";
+/// zint --gs1 -d '[10]9NJY[8008]37090120' --secure=2
+const FIELDS: &str = "1fdd7f82220dd1976eb0bb7555d82d20ff55fc03601176f919efd1999c3a1c10745ca00e867f7ac208e3975a47ba1ad5d08420874dfd061";
+/// zint --eci=20 -d 0123456789 --secure=3 --seg1=899,'ABC-123 %45'
+const TWO_ECIS: &str = "1fc4b7f82fc20dd32576ebc8bb75dc5d823fa0ff555fc02ce00bdccda2d022c8b91d2cf4689f868f86b924fc752c2a6a30e9b3f8dff008688ff14d6e0b6a33756bfbbadc51dd13d4e0a3299fcb6e1";
+/// FNC1 in second position with the indicator 37, and AA12: codewords 92 52 02 1C C0 5E 00, written by hand.
+const APPLICATION: &str = "1fc97f82ca0dd2576eb2bb7495d82ca0ff55fc01201f79aa0d892a334b3f3251bcd2400a94ff449209a4d75d26ba896dd44b20a255fd921";
+
+#[test]
+fn labels_of_others_are_read() {
+    let content = read(&label(LATIN_1, 21), 21).unwrap();
+    let eci = |begin, number| Eci { begin, number };
+    assert_eq!(
+        (content.ecis.as_slice(), content.fnc1),
+        ([eci(0, 3)].as_slice(), None)
+    );
+    assert_eq!(content.text().as_deref(), Ok("Ünïcödé"));
+
+    let content = mend(&label(FIELDS, 21), 21).unwrap().content;
+    assert_eq!((content.ecis.len(), content.fnc1), (0, Some(Fnc1::Gs1)));
+    assert_eq!(
+        content.elements().collect::<Vec<_>>(),
+        [b"109NJY".as_slice(), b"800837090120"]
+    );
+
+    let content = read(&label(TWO_ECIS, 25), 25).unwrap();
+    assert_eq!(content.ecis, [eci(0, 20), eci(10, 899)]);
+    assert_eq!(content.text(), Err(TextError::Eci(20)));
+
+    let content = read(&label(APPLICATION, 21), 21).unwrap();
+    assert_eq!(
+        (content.data.as_slice(), content.fnc1),
+        (b"AA12".as_slice(), Some(Fnc1::Application(37)))
+    );
+}
+
+#[test]
+fn texts_by_their_ecis() {
+    let text = |data: &[u8], ecis: &[(usize, u32)]| {
+        let ecis = ecis
+            .iter()
+            .map(|&(begin, number)| Eci { begin, number })
+            .collect();
+        Content {
+            ecis,
+            ..plain(data)
+        }
+        .text()
+    };
+    assert_eq!(
+        text(
+            b"\xC3\xA9\xE9\xC3\xA9A",
+            &[(2, 3), (3, 26), (5, 27), (6, 899)]
+        )
+        .as_deref(),
+        Ok("éééA")
+    );
+    assert_eq!(text(b"\xE9", &[]), Err(TextError::Characters(None)));
+    assert_eq!(
+        text(b"\xE9", &[(0, 27)]),
+        Err(TextError::Characters(Some(27)))
+    );
+    assert_eq!(
+        text(b"A", &[(0, 899)]).unwrap_err().to_string(),
+        "the characters of ECI 899 are not read"
+    );
 }
 
 #[test]

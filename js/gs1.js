@@ -1,0 +1,120 @@
+/** GS1 data as fields: values with their application identifiers (GS1 General Specifications, 3 and 7.8). */
+import { Gs1Error } from './errors.js';
+
+// Application identifiers, and the parts of their values: digits (N), characters of GS1's set 82 (X) or of its set 39 (Y), so many of
+// them, or from 1 (or 0) to so many. The last digit of a part with `check` is its check digit, `date` is YYMMDD with day 00 for none,
+// `hour` is that and HH, and `time` is MM or MMSS. python/qrproved/_gs1.py has the same table.
+const IDENTIFIERS = String.raw`
+00                              N18:check
+0[12]                           N14:check
+10|2[12]                        X1..20
+1[1-35-7]                       N6:date
+20                              N2
+30|37                           N1..8
+3(1[0-6]|[246]\d|[35][0-7])[0-5]  N6
+39[02]\d                        N1..15
+39[13]\d                        N3 N1..15
+394[0-3]                        N4
+395[0-5]                        N6
+40[013]                         X1..30
+402                             N17:check
+41[0-7]                         N13:check
+420                             X1..20
+421                             N3 X1..9
+42[246]                         N3
+42[35]                          N3 N1..12
+427                             X1..3
+8003                            N14:check X0..16
+8004                            X1..30
+8005                            N6
+8006                            N14:check N4
+8007                            X1..34
+8008                            N8:hour N0..4:time
+8009                            X1..50
+8010                            Y1..30
+8011                            N1..12
+8012                            X1..20
+8013|8020                       X1..25
+801[78]                         N18:check
+8019                            N1..10
+90                              X1..30
+9[1-9]                          X1..90
+`;
+// Identifiers whose values have one length each, so that no separator comes after them, by their first two digits.
+const PREDEFINED = /^(0[0-4]|1[1-9]|20|3[1-6]|41)/;
+const CHARACTERS = { N: /[^0-9]/, X: /[^!"%-?A-Z_a-z]/, Y: /[^#\-/0-9A-Z]/ }; // what is none of them
+const NAMES = { N: 'a digit', X: "a character of GS1's set 82", Y: "a character of GS1's set 39" };
+const DAYS = [31, 29, 31, 30, 31, 30, 31, 31, 30, 31, 30, 31];
+const SEPARATOR = '\x1d';
+
+/** All digits, weighted 3 and 1 in turn from the check digit's neighbour on to the left, sum to a multiple of 10. */
+function checkFault(text) {
+  const sum = [...text.slice(0, -1)].reverse().reduce((all, digit, k) => all + Number(digit) * (k % 2 ? 1 : 3), 0);
+  const wanted = (10 - sum % 10) % 10;
+  return Number(text.at(-1)) === wanted ? null : `its check digit is ${text.at(-1)}, and should be ${wanted}`;
+}
+
+function dateFault(text) {
+  const month = Number(text.slice(2, 4)), day = Number(text.slice(4, 6));
+  return month >= 1 && month <= 12 && day <= DAYS[month - 1] ? null : `${text} is no date`;
+}
+
+function hourFault(text) {
+  return dateFault(text.slice(0, 6)) ?? (Number(text.slice(6)) < 24 ? null : `${text.slice(6)} is no hour`);
+}
+
+function timeFault(text) {
+  return /^([0-5][0-9]){0,2}$/.test(text) ? null : `${text} is no time`;
+}
+
+const PART_RULES = { check: checkFault, date: dateFault, hour: hourFault, time: timeFault };
+
+/** Returns a part of a value, as the table has it. */
+function partOf(text) {
+  const [, kind, least, most, rule] = /^([NXY])([0-9]+)(?:\.\.([0-9]+))?(?::([a-z]+))?$/.exec(text);
+  return { kind, least: Number(least), most: Number(most ?? least), rule };
+}
+
+const TABLE = IDENTIFIERS.trim().split('\n').map((row) => {
+  const [pattern, ...parts] = row.split(/\s+/);
+  return [new RegExp(`^(?:${pattern})`), parts.map(partOf)];
+});
+
+const sum = (numbers) => numbers.reduce((all, it) => all + it, 0);
+/** Returns a text as it is shown in a message. */
+const quoted = (text) => `'${text.replace(/[^ -~]/g, (it) => `\\x${it.charCodeAt(0).toString(16).padStart(2, '0')}`)}'`;
+
+/** Returns what is wrong with a value; or null. */
+function faultOf(value, parts) {
+  const least = sum(parts.map((it) => it.least)), most = sum(parts.map((it) => it.most));
+  if (value.length < least || value.length > most) return `has ${least === most ? least : `${least} to ${most}`} characters, and not ${value.length}`;
+  let at = 0;
+  for (const { kind, most: length, rule } of parts) {
+    const own = value.slice(at, at + length), other = CHARACTERS[kind].exec(own);
+    if (other) return `${quoted(other[0])} is not ${NAMES[kind]}`;
+    const fault = rule ? PART_RULES[rule](own) : null;
+    if (fault) return fault;
+    at += length;
+  }
+  return null;
+}
+
+/** Returns each application identifier with its value. */
+export function fieldsOf(data) {
+  let rest = Array.from(data, (byte) => String.fromCharCode(byte)).join('');
+  if (rest === '') throw new Gs1Error('the data have no field');
+  const found = [];
+  while (rest !== '') {
+    const [pattern, parts] = TABLE.find(([it]) => it.test(rest)) ?? [];
+    if (!pattern) throw new Gs1Error(`no application identifier that is known begins ${quoted(rest.slice(0, 4))}`);
+    const [name] = pattern.exec(rest);
+    rest = rest.slice(name.length);
+    const [value] = (PREDEFINED.test(name) ? rest.slice(0, sum(parts.map((it) => it.most))) : rest).split(SEPARATOR);
+    const fault = faultOf(value, parts);
+    if (fault) throw new Gs1Error(`(${name}) ${fault}`);
+    found.push([name, value]);
+    // (one more separator may come after a value of a predefined length, and after the last)
+    rest = rest.slice(value.length).replace(/^\x1d/, '');
+  }
+  return found;
+}

@@ -1,0 +1,63 @@
+/** What the bytes of a symbol mean as characters: its ECI headers (Extended Channel Interpretation; ISO/IEC 18004:2015, 7.4.2). */
+import { EciError } from './errors.js';
+
+// The upper half of code page 437.
+const CP437 = 'ÇüéâäàåçêëèïîìÄÅÉæÆôöòûùÿÖÜ¢£¥₧ƒáíóúñÑªº¿⌐¬½¼¡«»░▒▓│┤╡╢╖╕╣║╗╝╜╛┐└┴┬├─┼╞╟╚╔╩╦╠═╬╧╨╤╥╙╘╒╓╫╪┘┌█▄▌▐▀αßΓπΣσµτΦΘΩδ∞φε∩≡±≥≤⌠⌡÷≈°∙·√ⁿ²■\u00a0';
+// The characters of Windows-1252 from 80 on that ISO/IEC 8859-1 has not; a space for none.
+const CP1252 = '€ ‚ƒ„…†‡ˆ‰Š‹Œ Ž  ‘’“”•–—˜™š›œ žŸ';
+const LATIN5 = { 0xD0: 'Ğ', 0xDD: 'İ', 0xDE: 'Ş', 0xF0: 'ğ', 0xFD: 'ı', 0xFE: 'ş' }; // ISO/IEC 8859-9, where it is not 8859-1
+
+/** Returns the characters of bytes by a function that returns the character of a byte, or undefined. */
+function mapped(name, letter) {
+  return (data) => Array.from(data, (byte) => {
+    const found = byte < 128 ? String.fromCharCode(byte) : letter(byte);
+    if (found === undefined) throw new TypeError(`byte ${byte.toString(16).toUpperCase()} is no character of ${name}`);
+    return found;
+  }).join('');
+}
+
+/** Returns the characters of bytes by the engine. */
+function decoded(label) {
+  return (data) => new TextDecoder(label, { fatal: true, ignoreBOM: true }).decode(data);
+}
+
+// For these the names of TextDecoder mean other sets, those of Windows, or there is none; some engines read windows-1252 as ISO 8859-1.
+const cp437 = mapped('code page 437', (byte) => CP437[byte - 128]);
+const latin1 = mapped('ISO 8859-1', (byte) => String.fromCharCode(byte));
+const latin5 = mapped('ISO 8859-9', (byte) => LATIN5[byte] ?? String.fromCharCode(byte));
+const isThai = (byte) => byte < 0xA1 || byte < 0xDB || (byte > 0xDE && byte < 0xFC);
+const thai = mapped('ISO 8859-11', (byte) => (isThai(byte) ? String.fromCharCode(byte > 0xA0 ? byte + 0xD60 : byte) : undefined));
+const cp1252 = mapped('Windows-1252', (byte) => (CP1252[byte - 128] === ' ' ? undefined : CP1252[byte - 128] ?? String.fromCharCode(byte)));
+const ascii = mapped('ASCII', () => undefined);
+
+// The character sets of ECIs, as python/qrproved/_interpretation.py has them by Python's names.
+const CODECS = {
+  0: cp437, 1: latin1, 2: cp437, 3: latin1, 11: latin5, 13: thai, 23: cp1252, 27: ascii,
+  ...Object.fromEntries(Object.entries({
+    4: 'iso-8859-2', 5: 'iso-8859-3', 6: 'iso-8859-4', 7: 'iso-8859-5', 8: 'iso-8859-6', 9: 'iso-8859-7', 10: 'iso-8859-8',
+    12: 'iso-8859-10', 15: 'iso-8859-13', 16: 'iso-8859-14', 17: 'iso-8859-15', 18: 'iso-8859-16', 20: 'shift_jis', 21: 'windows-1250',
+    22: 'windows-1251', 24: 'windows-1256', 25: 'utf-16be', 26: 'utf-8', 28: 'big5', 29: 'gb18030', 30: 'euc-kr',
+    32: 'gb18030',
+  }).map(([number, label]) => [number, decoded(label)])),
+};
+const BYTES = 899;
+
+/** Returns the characters of bytes that have this ECI, or none. */
+function charactersOf(number, data) {
+  if (number === null) return decoded('utf-8')(data);
+  if (number === BYTES) throw new EciError(`ECI ${BYTES} means bytes, and no characters`);
+  if (!Object.hasOwn(CODECS, number)) throw new EciError(`the characters of ECI ${number} are not known`);
+  try {
+    return CODECS[number](data);
+  } catch (error) {
+    if (!(error instanceof RangeError)) throw error;
+    throw new EciError(`this engine has no decoder for the characters of ECI ${number}`);
+  }
+}
+
+/** Returns the characters: those without an ECI as UTF-8. */
+export function decodedText(data, ecis) {
+  const begins = [0, ...ecis.map((it) => it.begin), data.length], numbers = [null, ...ecis.map((it) => it.number)];
+  const parts = numbers.map((number, k) => [number, data.subarray(begins[k], begins[k + 1])]);
+  return parts.filter(([, part]) => part.length > 0).map(([number, part]) => charactersOf(number, part)).join('');
+}

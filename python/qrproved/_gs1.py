@@ -1,0 +1,135 @@
+"""GS1 data as fields: values with their application identifiers (GS1 General Specifications, 3 and 7.8)."""
+from __future__ import annotations
+
+import re
+
+# Application identifiers, and the parts of their values: digits (N), characters of GS1's set 82 (X) or of its set 39 (Y), so many of
+# them, or from 1 (or 0) to so many. The last digit of a part with `check` is its check digit, `date` is YYMMDD with day 00 for none,
+# `hour` is that and HH, and `time` is MM or MMSS. js/gs1.js has the same table.
+IDENTIFIERS = r"""
+00                              N18:check
+0[12]                           N14:check
+10|2[12]                        X1..20
+1[1-35-7]                       N6:date
+20                              N2
+30|37                           N1..8
+3(1[0-6]|[246]\d|[35][0-7])[0-5]  N6
+39[02]\d                        N1..15
+39[13]\d                        N3 N1..15
+394[0-3]                        N4
+395[0-5]                        N6
+40[013]                         X1..30
+402                             N17:check
+41[0-7]                         N13:check
+420                             X1..20
+421                             N3 X1..9
+42[246]                         N3
+42[35]                          N3 N1..12
+427                             X1..3
+8003                            N14:check X0..16
+8004                            X1..30
+8005                            N6
+8006                            N14:check N4
+8007                            X1..34
+8008                            N8:hour N0..4:time
+8009                            X1..50
+8010                            Y1..30
+8011                            N1..12
+8012                            X1..20
+8013|8020                       X1..25
+801[78]                         N18:check
+8019                            N1..10
+90                              X1..30
+9[1-9]                          X1..90
+"""
+# Identifiers whose values have one length each, so that no separator comes after them, by their first two digits.
+PREDEFINED = r"0[0-4]|1[1-9]|20|3[1-6]|41"
+CHARACTERS = {"N": r"\d", "X": r"[!\"%-?A-Z_a-z]", "Y": r"[#\-/\dA-Z]"}
+NAMES = {"N": "a digit", "X": "a character of GS1's set 82", "Y": "a character of GS1's set 39"}
+DAYS = [31, 29, 31, 30, 31, 30, 31, 31, 30, 31, 30, 31]
+SEPARATOR = "\x1d"
+
+
+class Gs1Error(ValueError):
+    """The data are no GS1 data: which field is wrong, and why."""
+
+
+class Part:
+    """A part of a value."""
+
+    def __init__(self, text: str) -> None:
+        kind, least, most, self.rule = re.fullmatch(r"([NXY])(\d+)(?:\.\.(\d+))?(?::(\w+))?", text).groups()  # type: ignore[union-attr]
+        self.kind, self.least, self.most = kind, int(least), int(most or least)
+
+    def fault(self, text: str) -> str | None:
+        """Returns what is wrong with the text of a part that has a right length."""
+        other = next((it for it in text if not re.fullmatch(CHARACTERS[self.kind], it, re.ASCII)), None)
+        if other is not None:
+            return f"{other!a} is not {NAMES[self.kind]}"
+        return RULES[self.rule](text) if self.rule else None
+
+
+def _check_fault(text: str) -> str | None:
+    """All digits, weighted 3 and 1 in turn from the check digit's neighbour on to the left, sum to a multiple of 10."""
+    wanted = -sum(int(digit) * (3, 1)[k % 2] for k, digit in enumerate(reversed(text[:-1]))) % 10
+    return None if int(text[-1]) == wanted else f"its check digit is {text[-1]}, and should be {wanted}"
+
+
+def _date_fault(text: str) -> str | None:
+    month, day = int(text[2:4]), int(text[4:6])
+    return None if 1 <= month <= 12 and day <= DAYS[month - 1] else f"{text} is no date"
+
+
+def _hour_fault(text: str) -> str | None:
+    return _date_fault(text[:6]) or (None if int(text[6:]) < 24 else f"{text[6:]} is no hour")
+
+
+def _time_fault(text: str) -> str | None:
+    parts = [text[:2], text[2:]] if len(text) > 2 else [text]
+    return None if text == "" or all(len(it) == 2 and int(it) < 60 for it in parts) else f"{text} is no time"
+
+
+RULES = {"check": _check_fault, "date": _date_fault, "hour": _hour_fault, "time": _time_fault}
+TABLE = [(re.compile(row.split()[0], re.ASCII), [Part(it) for it in row.split()[1:]]) for row in IDENTIFIERS.strip().split("\n")]
+
+
+def fields_of(data: bytes) -> list[tuple[str, str]]:
+    """Returns each application identifier with its value. Raises Gs1Error for an identifier that is not in the table, and for a value
+    that has a wrong length, a wrong character, a wrong check digit or no date."""
+    rest, found = data.decode("latin-1"), []
+    if not rest:
+        raise Gs1Error("the data have no field")
+    while rest:
+        name, parts = _identifier_of(rest)
+        rest, most = rest[len(name):], sum(it.most for it in parts)
+        value = rest[:most] if re.match(PREDEFINED, name) else rest
+        value = value.split(SEPARATOR)[0]
+        fault = _fault(value, parts)
+        if fault:
+            raise Gs1Error(f"({name}) {fault}")
+        found.append((name, value))
+        rest = rest[len(value):]
+        # (one more separator may come after a value of a predefined length, and after the last)
+        rest = rest[rest.startswith(SEPARATOR):]
+    return found
+
+
+def _identifier_of(rest: str) -> tuple[str, list[Part]]:
+    for pattern, parts in TABLE:
+        found = pattern.match(rest)
+        if found:
+            return found.group(), parts
+    raise Gs1Error(f"no application identifier that is known begins {rest[:4]!a}")
+
+
+def _fault(value: str, parts: list[Part]) -> str | None:
+    least, most = sum(it.least for it in parts), sum(it.most for it in parts)
+    if not least <= len(value) <= most:
+        wanted = f"{least}" if least == most else f"{least} to {most}"
+        return f"has {wanted} characters, and not {len(value)}"
+    for part in parts:
+        own, value = value[:part.most], value[part.most:]
+        fault = part.fault(own)
+        if fault:
+            return fault
+    return None

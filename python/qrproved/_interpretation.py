@@ -1,0 +1,55 @@
+"""What the bytes of a symbol mean as characters: its ECI headers (Extended Channel Interpretation; ISO/IEC 18004:2015, 7.4.2)."""
+from __future__ import annotations
+
+from typing import TYPE_CHECKING, NamedTuple
+
+if TYPE_CHECKING:
+    from collections.abc import Iterator, Sequence
+
+
+class Eci(NamedTuple):
+    """An ECI header: from a byte of the data on, the bytes have this ECI."""
+
+    begin: int
+    """The number of bytes before it."""
+    number: int
+    """From 0 to 999,999: 26 is UTF-8, 20 is Shift JIS, 3 is ISO/IEC 8859-1."""
+
+
+class EciError(ValueError):
+    """The bytes of an ECI are not read as characters."""
+
+
+# The character sets of ECIs by Python's names, as js/interpretation.js has them by those of browsers. For Chinese, Japanese and
+# Korean these are the larger sets that browsers decode.
+CODECS = {
+    0: "cp437", 1: "latin-1", 2: "cp437", 3: "latin-1", 4: "iso8859-2", 5: "iso8859-3", 6: "iso8859-4", 7: "iso8859-5", 8: "iso8859-6",
+    9: "iso8859-7", 10: "iso8859-8", 11: "iso8859-9", 12: "iso8859-10", 13: "iso8859-11", 15: "iso8859-13", 16: "iso8859-14",
+    17: "iso8859-15", 18: "iso8859-16", 20: "cp932", 21: "cp1250", 22: "cp1251", 23: "cp1252", 24: "cp1256", 25: "utf-16-be", 26: "utf-8",
+    27: "ascii", 28: "big5", 29: "gb18030", 30: "cp949", 32: "gb18030",
+}
+BYTES = 899
+
+
+def stretches(data: bytes, ecis: Sequence[Eci]) -> Iterator[tuple[int | None, bytes]]:
+    """Yields the ECI in effect, or None, and the bytes, for each stretch that no ECI header divides; empty ones are left out."""
+    begins, numbers = [0, *(it.begin for it in ecis)], [None, *(it.number for it in ecis)]
+    for number, begin, end in zip(numbers, begins, [*begins[1:], len(data)]):
+        if begin < end:
+            yield number, data[begin:end]
+
+
+def text_of(data: bytes, ecis: Sequence[Eci]) -> str:
+    """Returns the characters: those without an ECI as UTF-8. Raises EciError for an ECI that is not known or that means bytes, and
+    UnicodeDecodeError for bytes that are no characters."""
+    return "".join(part.decode(_codec(number)) for number, part in stretches(data, ecis))
+
+
+def _codec(number: int | None) -> str:
+    if number is None:
+        return "utf-8"
+    if number == BYTES:
+        raise EciError(f"ECI {BYTES} means bytes, and no characters")
+    if number not in CODECS:
+        raise EciError(f"the characters of ECI {number} are not known")
+    return CODECS[number]
