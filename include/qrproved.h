@@ -30,8 +30,8 @@
 extern "C" {
 #endif
 
-#define QRPROVED_VERSION "0.1.0"
-#define QRPROVED_VERSION_NUMBER 100 /* 10000 * major + 100 * minor + patch, for use in #if */
+#define QRPROVED_VERSION "0.2.0"
+#define QRPROVED_VERSION_NUMBER 200 /* 10000 * major + 100 * minor + patch, for use in #if */
 
 #define QRPROVED_SIDE_MAX 177      /* modules on a side of the largest symbol, which has version 40 */
 #define QRPROVED_SYMBOL_MAX 31329  /* bytes that suffice for the modules of any symbol: 177 times 177 */

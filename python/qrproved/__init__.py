@@ -42,7 +42,7 @@ __all__ = ["BYTES_MAX", "COUNT_MAX", "MARGIN_MAX", "SCALE_MAX", "SERIES_MAX", "S
            "SideError", "Symbol", "TooLongError", "TooManyError", "draw", "encode", "encode_series", "mend", "parse_drawing",
            "parse_picture", "read"]
 
-__version__ = "0.1.0"
+__version__ = "0.2.0"
 _calls = _library.load()
 FNC1_FIRST, FNC1_SECOND = 1, 2
 SCALE_MAX = 100

@@ -15,6 +15,60 @@ LABELS = [json.loads(line) for line in PATH.read_text("utf-8").splitlines()]
 # FNC1 in second position, and what is in byte and alphanumeric mode after it: application 37 with AA12, application a with A 1D B.
 APPLICATION_37 = "1fc97f82ca0dd2576eb2bb7495d82ca0ff55fc01201f79aa0d892a334b3f3251bcd2400a94ff449209a4d75d26ba896dd44b20a255fd921"
 APPLICATION_A = "1fc97f82ca0dd2576eb2bb7495d82ca0ff55fc01201f79aac9497b79493852482452c008927f64ba092557592eba8965d649e0a24dfd921"
+# An ECI, bytes, and their characters, by the tables of the character sets.
+SETS = [
+    (0, b"\x81\x84\xe1", "üäß"),
+    (1, b"\xdc\x9d", "Ü\x9d"),
+    (2, b"\x9b\xfe", "¢■"),
+    (4, b"\xb3\xf3d\xbc", "łódź"),
+    (7, b"\xbc\xd8\xe0", "Мир"),
+    (11, b"\xdd\xfd\xf0", "İığ"),
+    (13, b"\xa1\xd2", "กา"),
+    (17, b"\xa4", "€"),
+    (20, b"\x93\x5f\x83\x65\xb1", "点テｱ"),
+    (22, b"\xcf\xf0", "Пр"),
+    (23, b"\x80", "€"),
+    (25, b"\x70\xb9\x00A", "点A"),
+    (27, b"A~", "A~"),
+    (28, b"\xa4\xa4", "中"),
+    (29, b"\xd6\xd0", "中"),
+    (30, b"\xb0\xa1", "가"),
+]
+# GS1 data, and their fields.
+FIELDS = [
+    (b"0104012345678901" b"10ABC123\x1d17261231", [("01", "04012345678901"), ("10", "ABC123"), ("17", "261231")]),
+    (b"00340123450000000000", [("00", "340123450000000000")]),
+    (b"3103001250" b"20" b"01", [("3103", "001250"), ("20", "01")]),
+    (b"3922199\x1d37" b"12", [("3922", "199"), ("37", "12")]),
+    (b"3912978" b"199", [("3912", "978199")]),
+    (b"4104012345000009" b"21a%_", [("410", "4012345000009"), ("21", "a%_")]),
+    (b"422276\x1d" b"90x", [("422", "276"), ("90", "x")]),
+    (b"8003" b"04012345678901" b"A1", [("8003", "04012345678901A1")]),
+    (b"8003" b"04012345678901", [("8003", "04012345678901")]),
+    (b"8006" b"04012345678901" b"0102", [("8006", "040123456789010102")]),
+    (b"800826123123" b"59", [("8008", "2612312359")]),
+    (b"17261200" b"\x1d" b"8020A1\x1d", [("17", "261200"), ("8020", "A1")]),
+    (b"99" + b"z" * 90, [("99", "z" * 90)]),
+]
+# GS1 data with a wrong field, and what the error says.
+WRONG = [
+    (b"0104012345678902", r"^\(01\) its check digit is 2, and should be 1$"),
+    (b"010401234567890", r"^\(01\) has 14 characters, and not 13$"),
+    (b"00" + b"3" * 17 + b"\x1d", r"^\(00\) has 18 characters, and not 17$"),
+    (b"10" + b"A" * 21, r"^\(10\) has 1 to 20 characters, and not 21$"),
+    (b"10\x1d17261231", r"^\(10\) has 1 to 20 characters, and not 0$"),
+    (b"17261331", r"^\(17\) 261331 is no date$"),
+    (b"17260230", r"^\(17\) 260230 is no date$"),
+    (b"3712A", r"^\(37\) 'A' is not a digit$"),
+    (b"10A B", r"^\(10\) ' ' is not a character of GS1's set 82$"),
+    (b"8010a", r"^\(8010\) 'a' is not a character of GS1's set 39$"),
+    (b"8008261231" b"24", r"^\(8008\) 24 is no hour$"),
+    (b"8008261231" b"23599", r"^\(8008\) 599 is no time$"),
+    (b"37" b"12\x1d\x1d20" b"01", "begins '.x1d20"),
+    (b"0512", "begins '0512'$"),
+    (b"3106000000", "begins '3106'$"),
+    (b"", "no field"),
+]
 
 
 def modules_of(rows, side=21):
@@ -54,10 +108,7 @@ class Texts(unittest.TestCase):
         self.assertGreater(tried, 50)
 
     def test_character_sets(self):
-        for number, data, text in ((0, b"\x81\x84\xe1", "üäß"), (1, b"\xdc\x9d", "Ü\x9d"), (2, b"\x9b\xfe", "¢■"), (4, b"\xb3\xf3d\xbc", "łódź"),
-                                   (7, b"\xbc\xd8\xe0", "Мир"), (11, b"\xdd\xfd\xf0", "İığ"), (13, b"\xa1\xd2", "กา"), (17, b"\xa4", "€"),
-                                   (20, b"\x93\x5f\x83\x65\xb1", "点テｱ"), (22, b"\xcf\xf0", "Пр"), (23, b"\x80", "€"), (25, b"\x70\xb9\x00A", "点A"),
-                                   (27, b"A~", "A~"), (28, b"\xa4\xa4", "中"), (29, b"\xd6\xd0", "中"), (30, b"\xb0\xa1", "가")):
+        for number, data, text in SETS:
             self.assertEqual(Content(data, 1, None, (Eci(0, number),)).text(), text, number)
 
     def test_bytes_before_the_first_header_are_utf8(self):
@@ -90,23 +141,11 @@ class Fields(unittest.TestCase):
         self.assertEqual(tried, sum(row["fnc1"] == "gs1" for row in LABELS))
 
     def test_each_identifier(self):
-        for data, fields in ((b"0104012345678901" b"10ABC123\x1d17261231", [("01", "04012345678901"), ("10", "ABC123"), ("17", "261231")]),
-                             (b"00340123450000000000", [("00", "340123450000000000")]), (b"3103001250" b"20" b"01", [("3103", "001250"), ("20", "01")]),
-                             (b"3922199\x1d37" b"12", [("3922", "199"), ("37", "12")]), (b"3912978" b"199", [("3912", "978199")]),
-                             (b"4104012345000009" b"21a%_", [("410", "4012345000009"), ("21", "a%_")]), (b"422276\x1d" b"90x", [("422", "276"), ("90", "x")]),
-                             (b"8003" b"04012345678901" b"A1", [("8003", "04012345678901A1")]), (b"8003" b"04012345678901", [("8003", "04012345678901")]),
-                             (b"8006" b"04012345678901" b"0102", [("8006", "040123456789010102")]), (b"800826123123" b"59", [("8008", "2612312359")]),
-                             (b"17261200" b"\x1d" b"8020A1\x1d", [("17", "261200"), ("8020", "A1")]), (b"99" + b"z" * 90, [("99", "z" * 90)])):
+        for data, fields in FIELDS:
             self.assertEqual(gs1(data).fields(), fields, data)
 
     def test_wrong_fields_are_named(self):
-        for data, why in ((b"0104012345678902", r"^\(01\) its check digit is 2, and should be 1$"),
-                          (b"010401234567890", r"^\(01\) has 14 characters, and not 13$"), (b"00" + b"3" * 17 + b"\x1d", r"^\(00\) has 18 characters, and not 17$"),
-                          (b"10" + b"A" * 21, r"^\(10\) has 1 to 20 characters, and not 21$"), (b"10\x1d17261231", r"^\(10\) has 1 to 20 characters, and not 0$"),
-                          (b"17261331", r"^\(17\) 261331 is no date$"), (b"17260230", r"^\(17\) 260230 is no date$"), (b"3712A", r"^\(37\) 'A' is not a digit$"),
-                          (b"10A B", r"^\(10\) ' ' is not a character of GS1's set 82$"), (b"8010a", r"^\(8010\) 'a' is not a character of GS1's set 39$"),
-                          (b"8008261231" b"24", r"^\(8008\) 24 is no hour$"), (b"8008261231" b"23599", r"^\(8008\) 599 is no time$"),
-                          (b"37" b"12\x1d\x1d20" b"01", "begins '.x1d20"), (b"0512", "begins '0512'$"), (b"3106000000", "begins '3106'$"), (b"", "no field")):
+        for data, why in WRONG:
             with self.assertRaisesRegex(Gs1Error, why):
                 gs1(data).fields()
         with self.assertRaisesRegex(Gs1Error, "does not say"):

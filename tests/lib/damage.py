@@ -52,9 +52,8 @@ def input_of(version, level):
 
 def wanted_of(data, version, level, mask, **others):
     """Returns what is told of the sound symbol of an input, but for the fields that are given."""
-    fields = {"bytes": data, "len": len(data), "ecis": [], "eci_count": 0, "fnc1": 0, "application": 0, "version": version, "level": LEVELS.index(level), "mask": mask, "has_header": 0,
-              "position": 0, "last": 0, "parity": 0, "wrong_modules": 0, "wrong_format_modules": 0, "changed_most": 0,
-              "changed_allowed": allowed(version, level)}
+    fields = {**squares.Said(data).fields(), "version": version, "level": LEVELS.index(level), "mask": mask, "wrong_modules": 0,
+              "wrong_format_modules": 0, "changed_most": 0, "changed_allowed": allowed(version, level)}
     return {**fields, **others}
 
 

@@ -2,14 +2,14 @@
 
 ghost use Rattle.std.specs.Prelude.{◌≡◌};
 
-// Version 0.1.0.
-const VERSION: u32 = 100;
+// Version 0.2.0.
+const VERSION: u32 = 200;
 
 /// Returns the version of the library: 10,000 times the major number, plus 100 times the minor number, plus the patch
 /// number.
 #[unsafe(no_mangle)]
 pub extern "C" fn qrproved_version() -> u32
-    ensures { result ≡ 100 }
+    ensures { result ≡ 200 }
 {
     VERSION
 }
