@@ -110,7 +110,8 @@ def fields_of(data: bytes) -> list[tuple[str, str]]:
         found.append((name, value))
         rest = rest[len(value):]
         # (one more separator may come after a value of a predefined length, and after the last)
-        rest = rest[rest.startswith(SEPARATOR):]
+        if rest.startswith(SEPARATOR):
+            rest = rest[1:]
     return found
 
 
