@@ -62,7 +62,7 @@ fn remove(syndromes: &mut [u8], error: u8, place: u8)
         bit_xor (slice_index syndromes.old k) (product error (power (k * place))) }
 {
     if error != 0 {
-        add_multiples(syndromes, error, 0, place);
+        add_multiples(syndromes, error, place);
     }
 }
 
