@@ -7,6 +7,4 @@ returns-then-differences-eq0-clause-marks c =
     let u = c.args.unknown.now in
     let none = rw (c.in_ok-light.ensures, c.side.ensures.value) at
     (sym c.differences.ensures ∙ c.if-differences-eq0.true) in
-    let marks = no-marks c.args.version u (omega arith) (omega arith) c.requires
-    ((no-difference u (light u.side)).0 none) in
-    rw (c.in_ok-marks.ensures.items_if_clones_equal (λ y e. e), c.from.ensures, c.total_codewords.ensures) marks
+    no-marks c.args.version u (omega arith) (omega arith) c.requires ((no-difference u (light u.side)).0 none)
