@@ -155,17 +155,6 @@ pub(crate) fn dot(terms: &[u8], window: &[u8]) -> u8
     sum
 }
 
-// `terms` are the coefficients of a polynomial, that of the lowest power first.
-pub(crate) fn value(terms: &[u8], x: u8) -> u8
-    ensures { result ≡ eval x terms.now }
-{
-    let mut value = 0;
-    for j in (0..terms.len()).rev() {
-        value = terms[j] ^ mul(x, value);
-    }
-    value
-}
-
 // The exponent of the product of 2 to the power `i` and 2 to the power `j`.
 pub(crate) fn exponent_sum(i: u8, j: u8) -> u8
     requires first { i < 255 }

@@ -70,13 +70,6 @@ value-more i k p some l =
     let next : k - 1 + 1 ≡ k = omega (arith, some) in
     cc (drop_more p (k - 1) 0 (omega (arith, some, l)), next, length-drop k p)
 
--- a coefficient of 0 does not change the value
-pub value-skip : (i k : ℕ) (p : List ℕ) → 0 < k → k ≤ length p → get_or p (k - 1) 0 ≡ 0 →
-    value_at i (drop (k - 1) p) ≡ value_at i (drop k p)
-value-skip i k p some l none =
-    let place = power (i * (length p - k)) in
-    cc (value-more i k p some l, none, product-of_zero place (power-lt (i * (length p - k))), xor_zero_l (value_at i (drop k p)))
-
 -- a list of values with one value more
 pub values-more : (s : List ℕ) (k v : ℕ) (e : List ℕ) → length s ≡ k → HasValues s e →
     v ≡ value_at k e → HasValues (s ++ v ∷ []) e
@@ -161,18 +154,6 @@ eval-more m k p lp some l =
       product-assoc (power (m * i)) (power m) rest (power-lt (m * i)) (power-lt m) lr,
       product-by_sum (power (m * i)) a (product (power m) rest) (power-lt (m * i)) la (product-lt (power m) rest (power-lt m)),
       product-comm (power (m * i)) a (power-lt (m * i)) la,
-    )
-
--- a coefficient of 0 does not change them
-pub eval-skip : (m k : ℕ) (p : List ℕ) → All IsByte p → 0 < k → k ≤ length p → get_or p (k - 1) 0 ≡ 0 →
-    product (power (m * (k - 1))) (eval (power m) (drop (k - 1) p)) ≡ product (power (m * k)) (eval (power m) (drop k p))
-eval-skip m k p lp some l none =
-    let place = power (m * (k - 1)) in
-    cc (
-      eval-more m k p lp some l,
-      none,
-      product-of_zero place (power-lt (m * (k - 1))),
-      xor_zero_l (product (power (m * k)) (eval (power m) (drop k p))),
     )
 
 -- once all coefficients are terms
