@@ -1,10 +1,12 @@
 //! Mends the message of a damaged symbol block by block. A codeword is erased if one of its modules was not read
 //! (ISO/IEC 18004:2015, 7.5.1, 7.6 and 7.7.3).
 
-ghost use Rattle.std.specs.Prelude.{◌≡◌, ℕ, ◌+◌, ◌*◌, ◌<◌, ◌≤◌, ◌==◌, ◌⊎◌, ◌++◌, ◌∷◌, [], not, map, List, length, Err, IfOk, IfErr, IfSome, IfNone};
+ghost use Rattle.std.specs.Prelude.{◌≡◌, ℕ, ◌+◌, ◌*◌, ◌<◌, ◌≤◌, ◌==◌, ◌⊎◌, ◌++◌, ◌∷◌, [], false, not, map, List, length, Err, IfOk, IfErr, IfSome, IfNone};
+ghost use Rattle.std.specs.Bool.{OnTrue};
 ghost use Rattle.qr_field.specs.Distance.{errors};
 ghost use Rattle.qr_layout.specs.Blocks.{blocks_of, data_codewords_of};
 ghost use Rattle.qr_layout.specs.Version.{side_of, total_codewords_of};
+ghost use Rattle.qr_matrix.specs.Grid.{colour};
 ghost use Rattle.qr_symbol.specs.declared.fault.ReadFault.{ReadFault};
 ghost use Rattle.qr_symbol.specs.Interleaving.{block_count, block_len, codeword_count, data_sizes, correction_sizes};
 ghost use Rattle.qr_symbol.specs.Reading.{IsReadUnmasked};
@@ -16,7 +18,7 @@ use crate::block::mend;
 use crate::erasures::mend_with_erasures;
 use qr_field::Divisor;
 use qr_layout::{Blocks, Level, Version};
-use qr_matrix::{Matrix, differences};
+use qr_matrix::Matrix;
 use qr_symbol::{BlockSizes, ReadFault, read_unmasked};
 use std::alloc::{AllocError, Global};
 
@@ -26,6 +28,18 @@ use std::alloc::{AllocError, Global};
 pub(crate) enum Marks {
     AllZero,
     Each(Vec<u8>),
+}
+
+fn is_light(square: &Matrix) -> bool
+    ensures { OnTrue result ((r c : ℕ) → r < square.now.side → c < square.now.side → colour square.now r c ≡ false) }
+{
+    for row in 0..usize::from(square.side()) {
+        let bits = square.bit_row(row);
+        if bits.bits_from(0) != 0 || bits.bits_from(64) != 0 || bits.bits_from(128) != 0 {
+            return false;
+        }
+    }
+    true
 }
 
 // A module was not read if it is dark in `unknown`.
@@ -40,8 +54,7 @@ pub(crate) fn read_marks(
     ensures many { IfOk result
         (λ marks. length (list_of (total_codewords_of version) marks) ≡ total_codewords_of version) }
 {
-    let light = Matrix::new(alloc, unknown.side())?;
-    if differences(unknown, &light) == 0 {
+    if is_light(unknown) {
         return Ok(Marks::AllZero);
     }
     let marks = read_unmasked(alloc, version, unknown)?;
