@@ -5,4 +5,5 @@ pub mod Polynomial
 pub mod Errors
 pub mod Roots
 pub mod Message
+pub mod Format
 pub mod Mending
