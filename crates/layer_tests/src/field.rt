@@ -1,6 +1,6 @@
 //! Tests of the field of 256 elements, and of error correction codewords.
 
-use qr_field::{Divisor, div, exponent_of, generator, mul, power_of, remainder};
+use qr_field::{Divisor, div, doubled, exponent_of, generator, mul, power_of, remainder};
 
 #[test]
 fn products(rt: HostRuntime) {
@@ -11,6 +11,18 @@ fn products(rt: HostRuntime) {
     ];
     for (name, a, b, product) in rows {
         assert_eq!(rt; mul(a, b), product, "{name}");
+    }
+}
+
+#[test]
+fn doubled_elements(rt: HostRuntime) {
+    let rows = [
+        ("in the lowest byte", 1u128, 2u128),
+        ("in the highest byte", 0x80 << 120, 0x1D << 120),
+        ("side by side", 0x8E80_FF00_0180, 0x011D_E300_021D),
+    ];
+    for (name, elements, twice) in rows {
+        assert_eq!(rt; doubled(elements), twice, "{name}");
     }
 }
 

@@ -5,7 +5,7 @@ use Rattle.qr_mending.proofs.lemmas.erasures.ErasureLemmas.{errors-more, modifie
 use Rattle.qr_mending.proofs.lemmas.{format.FormatLemmas.{near-one, near-two}, mending.MendingLemmas.unmended-one}
 use Rattle.qr_mending.proofs.lemmas.laws.{DistanceLemmas.symbols-apart, WeakerLemmas.weaker-block}
 use Rattle.qr_mending.proofs.lemmas.locator.SearchLemmas.{shift-more, shift-leading}
-use Rattle.qr_mending.proofs.lemmas.roots.RootLemmas.{length-rooted, length-rooted_rest, divided-more, value-more_divided}
+use Rattle.qr_mending.proofs.lemmas.roots.RootLemmas.{length-rooted, length-rooted_rest, divided-more, rest-more_divided, value-more_divided}
 use Rattle.qr_mending.proofs.lemmas.sums.SumLemmas.{values-none}
 use Rattle.qr_symbol.proofs.Facts.{data-sizes-whole, readings-none, sizes-whole, unjoined-next}
 use Rattle.std.proofs.lemmas.{List.take_rest, List.take-replicate, List.Elements.All-from_get_or, Result.err_from_is_err_and}
@@ -16,7 +16,7 @@ pub ruleset shift_facts = (shift-more, shift-leading, take-replicate)
 
 pub ruleset root_facts = (All-from_get_or, length-rooted, length-rooted_rest)
 
-pub ruleset division_facts = (All-from_get_or, divided-more, value-more_divided)
+pub ruleset division_facts = (All-from_get_or, divided-more, rest-more_divided, value-more_divided)
 
 pub ruleset block_facts = (differences-same, mended-same)
 

@@ -16,23 +16,27 @@ ghost use Rattle.qr_mending.specs.Steps.Sums.{eval, HasValues};
 ghost use Rattle.qr_mending.specs.Steps.Roots.{quotient, HasLeadingOne};
 ghost use Rattle.qr_mending.specs.Steps.Errors.{IsLocated};
 
-use crate::sums::{add_multiples, dot, sixteen_values, value};
+use crate::sums::{add_multiples, dot, sixteen_values};
 use arrayvec::ArrayVec;
 use qr_field::{div, exponent_of, mul, power_of};
 
-// Divides a polynomial by x + `root` by Horner's rule. The quotient has a coefficient less, so the last becomes 0; the
-// remainder is left out.
+// Divides a polynomial by x + `root` by Horner's rule, and returns the value of the quotient at `root`. The quotient has a
+// coefficient less, so the last becomes 0; the remainder is left out.
 #[tactic(auto, using(crate::proofs::Named::division_facts))]
-fn divide(terms: &mut [u8], root: u8)
+fn divide(terms: &mut [u8], root: u8) -> u8
     ensures quotient { terms.new ≡ quotient root terms.old }
+    ensures value { result ≡ eval root (quotient root terms.old) }
     ensures bytes { All IsByte terms.old }
 {
     let mut value = 0;
+    let mut rest = 0;
     for j in (0..terms.len()).rev() {
         let next = terms[j] ^ mul(root, value);
         terms[j] = value;
+        rest = value ^ mul(root, rest);
         value = next;
     }
+    rest
 }
 
 // Divides `locator` by x + `root` until `root` is no root of it, and returns its value there.
@@ -47,9 +51,8 @@ fn divide_out(locator: &mut ArrayVec<u8, 31>, root: u8) -> u8
 {
     let mut rest = 0;
     while rest == 0 {
-        divide(locator.as_mut_slice(), root);
+        rest = divide(locator.as_mut_slice(), root);
         locator.pop();
-        rest = value(locator.as_slice(), root);
     }
     rest
 }
@@ -62,7 +65,7 @@ fn remove(syndromes: &mut [u8], error: u8, place: u8)
         bit_xor (slice_index syndromes.old k) (product error (power (k * place))) }
 {
     if error != 0 {
-        add_multiples(syndromes, error, 0, place);
+        add_multiples(syndromes, error, place);
     }
 }
 

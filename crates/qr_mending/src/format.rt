@@ -1,13 +1,13 @@
 //! Finds the level and the mask of a damaged symbol by the two copies of its format information
 //! (ISO/IEC 18004:2015, 7.9.1 and Annex C). The square `unknown` is dark where a module of `matrix` was not read.
 
-ghost use Rattle.std.specs.Prelude.{◌≡◌, ℕ, ◌+◌, ◌*◌, ◌<◌, ◌≤◌, ◌&&◌, not, if◌then◌else◌, Some, MatchOption};
+ghost use Rattle.std.specs.Prelude.{◌≡◌, ℕ, ◌+◌, ◌*◌, ◌<◌, ◌≤◌, MatchOption};
 ghost use Rattle.qr_layout.specs.declared.level.Level.{Level};
 ghost use Rattle.qr_layout.specs.Version.{side_of};
-ghost use Rattle.qr_matrix.specs.Grid.{is_same};
-ghost use Rattle.qr_matrix.specs.BitRow.{has_bit};
+ghost use Rattle.qr_matrix.specs.{BitRow.{has_bit}, Grid.{Grid}, Sums.{count_below}};
 ghost use Rattle.qr_mending.specs.declared.format.FormatCopy.{FormatCopy};
 ghost use Rattle.qr_mending.specs.Format.{copy_place, format_cost, misread_bits, unread_bits, IsNearFormat};
+ghost use Rattle.qr_mending.specs.Steps.Format.{AreBitsOf};
 ghost use Rattle.qr_mending.specs.Mending.{wrong_format_modules};
 
 use qr_layout::{Level, Module, Version, format_place, format_word, second_format_place};
@@ -15,6 +15,9 @@ use qr_matrix::Matrix;
 
 // The number of modules of one copy.
 const FORMAT_BITS: u8 = 15;
+
+// A number of so many bits that are all 1.
+const ALL_BITS: u16 = 0x7FFF;
 
 // The most that a copy may cost with a level and a mask that are near to it: three misread modules, or six that were
 // not read.
@@ -44,22 +47,23 @@ impl FormatCopy {
 
 // Bit 0 is the lowest.
 #[tactic(auto, unfolding(qr_matrix::specs::BitRow::has_bit))]
-fn is_bit_set(word: u32, i: u8) -> bool
-    requires { i < 32 }
+fn is_bit_set(word: u16, i: u8) -> bool
+    requires { i < 16 }
     ensures { result ≡ has_bit word i }
 {
     word >> i & 1 == 1
 }
 
-// A module that was not read does not count as misread.
-fn misread_bit(is_unknown: bool, dark: bool, wanted: bool) -> u8
-    ensures value { result ≡ (if not is_unknown && not (is_same dark wanted) then 1 else 0) }
-    ensures most { result ≤ 1 }
+// How many of the bits of a copy are 1.
+fn count_bits(word: u16) -> u8
+    ensures value { result ≡ count_below 15 (has_bit word) }
+    ensures most { result ≤ 15 }
 {
-    if is_unknown {
-        return 0;
+    let mut count = 0u8;
+    for i in 0..FORMAT_BITS {
+        count += u8::from(is_bit_set(word, i));
     }
-    u8::from(dark != wanted)
+    count
 }
 
 // How many modules of a copy were not read, and how many are misread.
@@ -69,30 +73,51 @@ struct CopyDamage {
     misread: u8,
 }
 
-// `word` is the format information that the copy should show.
-fn copy_damage(
-    matrix: &Matrix,
-    unknown: &Matrix,
-    version: Version,
-    copy: FormatCopy,
-    word: u32,
-) -> CopyDamage
-    requires side { matrix.now.side ≡ side_of version }
-    requires unknown_side { unknown.now.side ≡ side_of version }
-    ensures unread { result.unread ≡ unread_bits unknown.now copy }
-    ensures misread { result.misread ≡ misread_bits unknown.now copy matrix.now word }
-    ensures few { (result.unread ≤ 15) × (result.misread ≤ 15) }
-{
-    let mut unread = 0u8;
-    let mut misread = 0u8;
-    for i in 0..FORMAT_BITS {
-        let place = copy.place(version, i);
-        let is_unknown = unknown.dark(place.row, place.col);
-        let dark = matrix.dark(place.row, place.col);
-        unread += u8::from(is_unknown);
-        misread += misread_bit(is_unknown, dark, is_bit_set(word, i));
+// A copy as two numbers: module i is bit i, the lowest being bit 0. It is 1 in `dark` if the module is dark, and in
+// `unread` if it was not read.
+#[derive(Clone, Copy)]
+pub(crate) struct CopyBits {
+    pub(crate) dark: u16,
+    pub(crate) unread: u16,
+}
+
+impl CopyBits {
+    fn read(matrix: &Matrix, unknown: &Matrix, version: Version, copy: FormatCopy) -> CopyBits
+        requires side { matrix.now.side ≡ side_of version }
+        requires unknown_side { unknown.now.side ≡ side_of version }
+        ensures { AreBitsOf unknown.now copy matrix.now result }
+    {
+        let mut dark = 0u16;
+        let mut unread = 0u16;
+        for i in (0..FORMAT_BITS).rev() {
+            let place = copy.place(version, i);
+            dark = 2 * dark + u16::from(matrix.dark(place.row, place.col));
+            unread = 2 * unread + u16::from(unknown.dark(place.row, place.col));
+        }
+        CopyBits { dark, unread }
     }
-    CopyDamage { unread, misread }
+
+    // `word` is the format information that the copy should show. A module that was not read does not count as misread.
+    fn damage(self, word: u16) -> CopyDamage
+        ensures unread { (u g : Grid) (copy : FormatCopy) → AreBitsOf u copy g self → result.unread ≡ unread_bits u copy }
+        ensures misread { (u g : Grid) (copy : FormatCopy) → AreBitsOf u copy g self
+            → result.misread ≡ misread_bits u copy g word }
+        ensures few { (result.unread ≤ 15) × (result.misread ≤ 15) }
+    {
+        CopyDamage {
+            unread: count_bits(self.unread),
+            misread: count_bits((self.dark ^ word) & (ALL_BITS ^ self.unread)),
+        }
+    }
+
+    fn cost(self, word: u16) -> u8
+        ensures value { (u g : Grid) (copy : FormatCopy) → AreBitsOf u copy g self
+            → result ≡ unread_bits u copy + 2 * misread_bits u copy g word }
+        ensures most { result ≤ 45 }
+    {
+        let damage = self.damage(word);
+        damage.unread + 2 * damage.misread
+    }
 }
 
 fn wrong_bits(
@@ -100,25 +125,24 @@ fn wrong_bits(
     unknown: &Matrix,
     version: Version,
     copy: FormatCopy,
-    word: u32,
+    word: u16,
 ) -> u8
     requires side { matrix.now.side ≡ side_of version }
     requires unknown_side { unknown.now.side ≡ side_of version }
     ensures value { result ≡ unread_bits unknown.now copy + misread_bits unknown.now copy matrix.now word }
     ensures most { result ≤ 30 }
 {
-    let damage = copy_damage(matrix, unknown, version, copy, word);
+    let damage = CopyBits::read(matrix, unknown, version, copy).damage(word);
     damage.unread + damage.misread
 }
 
-fn copy_cost(matrix: &Matrix, unknown: &Matrix, version: Version, copy: FormatCopy, word: u32) -> u8
+fn copy_cost(matrix: &Matrix, unknown: &Matrix, version: Version, copy: FormatCopy, word: u16) -> u8
     requires side { matrix.now.side ≡ side_of version }
     requires unknown_side { unknown.now.side ≡ side_of version }
     ensures value { result ≡ unread_bits unknown.now copy + 2 * misread_bits unknown.now copy matrix.now word }
     ensures most { result ≤ 45 }
 {
-    let damage = copy_damage(matrix, unknown, version, copy, word);
-    damage.unread + 2 * damage.misread
+    CopyBits::read(matrix, unknown, version, copy).cost(word)
 }
 
 // Counts over the 30 modules of both copies.
@@ -134,7 +158,7 @@ pub(crate) fn wrong_format_modules(
     requires mask_in { mask < 8 }
     ensures { result ≡ wrong_format_modules unknown.now matrix.now level mask }
 {
-    let word = u32::from(format_word(level, mask));
+    let word = format_word(level, mask);
     let first = wrong_bits(matrix, unknown, version, FormatCopy::First, word);
     first + wrong_bits(matrix, unknown, version, FormatCopy::Second, word)
 }
@@ -152,27 +176,17 @@ pub(crate) fn format_cost(
     requires mask_in { mask < 8 }
     ensures { result ≡ format_cost unknown.now matrix.now level mask }
 {
-    let word = u32::from(format_word(level, mask));
+    let word = format_word(level, mask);
     let first = copy_cost(matrix, unknown, version, FormatCopy::First, word);
     first + copy_cost(matrix, unknown, version, FormatCopy::Second, word)
 }
 
-fn near_mask_of(
-    matrix: &Matrix,
-    unknown: &Matrix,
-    version: Version,
-    copy: FormatCopy,
-    level: Level,
-) -> Option<u8>
-    requires side { matrix.now.side ≡ side_of version }
-    requires unknown_side { unknown.now.side ≡ side_of version }
-    ensures { MatchOption result
-        ((mask : ℕ) → IsNearFormat unknown.now copy matrix.now level mask → ⊥)
-        (λ mask. IsNearFormat unknown.now copy matrix.now level mask) }
+fn near_mask_of(bits: CopyBits, level: Level) -> Option<u8>
+    ensures { (u g : Grid) (copy : FormatCopy) → AreBitsOf u copy g bits → MatchOption result
+        ((mask : ℕ) → IsNearFormat u copy g level mask → ⊥) (λ mask. IsNearFormat u copy g level mask) }
 {
     for mask in 0..8 {
-        let word = u32::from(format_word(level, mask));
-        if copy_cost(matrix, unknown, version, copy, word) <= COST_MAX {
+        if bits.cost(format_word(level, mask)) <= COST_MAX {
             return Some(mask);
         }
     }
@@ -193,8 +207,9 @@ pub(crate) fn near_format_of(
         ((l : Level) (mask : ℕ) → IsNearFormat unknown.now copy matrix.now l mask → ⊥)
         (λ f. IsNearFormat unknown.now copy matrix.now f.0 f.1) }
 {
+    let bits = CopyBits::read(matrix, unknown, version, copy);
     for level in [Level::L, Level::M, Level::Q, Level::H] {
-        if let Some(mask) = near_mask_of(matrix, unknown, version, copy, level) {
+        if let Some(mask) = near_mask_of(bits, level) {
             return Some((level, mask));
         }
     }

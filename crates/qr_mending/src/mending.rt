@@ -1,6 +1,6 @@
 //! Mends and reads damaged symbols (ISO/IEC 18004:2015, 7.5.1, 7.9.1 and 12). The square `unknown` is dark where a
-//! module of `matrix` was not read. `marks` has a byte for each codeword, which is 0 exactly if all its modules were
-//! read. A level and a mask are near to a copy of the format information if its cost with them is at most 6.
+//! module of `matrix` was not read. The mark of a codeword, in `marks`, is 0 exactly if all its modules were read. A level
+//! and a mask are near to a copy of the format information if its cost with them is at most 6.
 
 ghost use Rattle.std.specs.Prelude.{◌≡◌, ◌<◌, length, IfErr, IfOk, IfSome, Some, MatchOption, MatchResult};
 ghost use Rattle.std.specs.Bool.{OnTrue};
@@ -11,13 +11,13 @@ ghost use Rattle.qr_symbol.specs.declared.fault.ReadFault.{ReadFault};
 ghost use Rattle.qr_symbol.specs.Reading.{IsOfVersion, IsReadUnmasked};
 ghost use Rattle.qr_mending.specs.declared.format.FormatCopy.{FormatCopy};
 ghost use Rattle.qr_mending.specs.Format.{format_cost, IsNearFormat};
-ghost use Rattle.qr_mending.specs.Steps.Mending.{HoldsNone};
+ghost use Rattle.qr_mending.specs.Steps.{Mending.{HoldsNone}, Message.{list_of}};
 ghost use Rattle.qr_mending.specs.Mending.{wrong_format_modules, wrong_modules, DiffersFromSymbol, HasFormat, HasWrongModules, HoldsDamaged, IsMendedReading, IsOfNoUse, IsUnmended};
 
 use crate::format::{
     FormatCopy, format_cost, near_format_of, near_format_of_either, wrong_format_modules,
 };
-use crate::message::{MendedMessage, mend_message, read_marks};
+use crate::message::{Marks, MendedMessage, mend_message, read_marks};
 use qr_bits::{Parsed, parse};
 use qr_layout::{Level, Version};
 use qr_matrix::{Matrix, differences};
@@ -43,12 +43,12 @@ fn mend_with(
     near: Option<(Level, u8)>,
     matrix: &Matrix,
     unknown: &Matrix,
-    marks: &[u8],
+    marks: &Marks,
 ) -> Result<Option<MendedSquare>, ReadFault>
     requires mask_in { IfSome near (λ f. f.1 < 8) }
     requires side { matrix.now.side ≡ side_of version }
-    requires marks { length marks.now ≡ total_codewords_of version }
-    requires erased { IsReadUnmasked version unknown.now marks.now }
+    requires marks { length (list_of (total_codewords_of version) marks.now) ≡ total_codewords_of version }
+    requires erased { IsReadUnmasked version unknown.now (list_of (total_codewords_of version) marks.now) }
     ensures mended { IfOk result (λ o. MatchOption o (IfSome near (λ f. HoldsNone unknown.now version f.0 f.1 matrix.now))
         (λ m. (near ≡ Some (m.level, m.mask))
         × HoldsDamaged unknown.now version m.level m.mask matrix.now m.message.items m.changed.items
@@ -90,12 +90,12 @@ fn mend_by(
     useless: Option<(Level, u8)>,
     matrix: &Matrix,
     unknown: &Matrix,
-    marks: &[u8],
+    marks: &Marks,
 ) -> Result<Option<MendedSquare>, ReadFault>
     requires side { matrix.now.side ≡ side_of version }
     requires unknown_side { unknown.now.side ≡ side_of version }
-    requires marks { length marks.now ≡ total_codewords_of version }
-    requires erased { IsReadUnmasked version unknown.now marks.now }
+    requires marks { length (list_of (total_codewords_of version) marks.now) ≡ total_codewords_of version }
+    requires erased { IsReadUnmasked version unknown.now (list_of (total_codewords_of version) marks.now) }
     requires useless { IfSome useless (λ f. HoldsNone unknown.now version f.0 f.1 matrix.now) }
     ensures mended { IfOk result (λ o. MatchOption o (IsOfNoUse unknown.now copy version matrix.now)
         (λ m. IsNearFormat unknown.now copy matrix.now m.level m.mask
@@ -127,12 +127,12 @@ fn mend_by_either(
     version: Version,
     matrix: &Matrix,
     unknown: &Matrix,
-    marks: &[u8],
+    marks: &Marks,
 ) -> Result<Option<MendedSquare>, ReadFault>
     requires side { matrix.now.side ≡ side_of version }
     requires unknown_side { unknown.now.side ≡ side_of version }
-    requires marks { length marks.now ≡ total_codewords_of version }
-    requires erased { IsReadUnmasked version unknown.now marks.now }
+    requires marks { length (list_of (total_codewords_of version) marks.now) ≡ total_codewords_of version }
+    requires erased { IsReadUnmasked version unknown.now (list_of (total_codewords_of version) marks.now) }
     ensures mended { IfOk result (λ o. MatchOption o ((any : FormatCopy) → IsOfNoUse unknown.now any version matrix.now)
         (λ m. HasFormat unknown.now version matrix.now m.level m.mask
         × HoldsDamaged unknown.now version m.level m.mask matrix.now m.message.items m.changed.items

@@ -1,42 +1,64 @@
 //! Mends the message of a damaged symbol block by block. A codeword is erased if one of its modules was not read
 //! (ISO/IEC 18004:2015, 7.5.1, 7.6 and 7.7.3).
 
-ghost use Rattle.std.specs.Prelude.{◌≡◌, ℕ, ◌+◌, ◌*◌, ◌<◌, ◌≤◌, ◌==◌, ◌⊎◌, ◌++◌, ◌∷◌, [], not, map, List, length, Err, IfOk, IfErr, IfSome, IfNone};
-ghost use Rattle.qr_field.specs.Polynomial.{IsCorrection};
-ghost use Rattle.qr_field.specs.Distance.{erasures, errors};
+ghost use Rattle.std.specs.Prelude.{◌≡◌, ℕ, ◌+◌, ◌*◌, ◌<◌, ◌≤◌, ◌==◌, ◌⊎◌, ◌++◌, ◌∷◌, [], false, not, map, List, length, Err, IfOk, IfErr, IfSome, IfNone};
+ghost use Rattle.std.specs.Bool.{OnTrue};
+ghost use Rattle.qr_field.specs.Distance.{errors};
 ghost use Rattle.qr_layout.specs.Blocks.{blocks_of, data_codewords_of};
 ghost use Rattle.qr_layout.specs.Version.{side_of, total_codewords_of};
+ghost use Rattle.qr_matrix.specs.Grid.{colour};
 ghost use Rattle.qr_symbol.specs.declared.fault.ReadFault.{ReadFault};
 ghost use Rattle.qr_symbol.specs.Interleaving.{block_count, block_len, codeword_count, data_sizes, correction_sizes};
 ghost use Rattle.qr_symbol.specs.Reading.{IsReadUnmasked};
-ghost use Rattle.qr_mending.specs.Erasures.{read_of};
+ghost use Rattle.qr_mending.specs.Erasures.{IsMendedWithErasures};
 ghost use Rattle.qr_mending.specs.Message.{received, protection_of, spare_of, tolerance_of, AreInBlocks};
-ghost use Rattle.qr_mending.specs.Steps.Message.{AreMended, IsMendedMessage};
+ghost use Rattle.qr_mending.specs.Steps.Message.{list_of, marks_at, read_by, AreMarksInBlocks, AreMended, AreWhole, IsMendedMessage};
 
+use crate::block::mend;
 use crate::erasures::mend_with_erasures;
 use qr_field::Divisor;
 use qr_layout::{Blocks, Level, Version};
-use qr_matrix::{Matrix, differences};
+use qr_matrix::Matrix;
 use qr_symbol::{BlockSizes, ReadFault, read_unmasked};
 use std::alloc::{AllocError, Global};
 
-// A mark for each codeword of a symbol: a byte with a bit for each of its modules, which is 1 if the module was not
-// read, that is, dark in `unknown`. If all of `unknown` is light, all marks are 0 and need not be read.
+// A mark for each codeword of a symbol: a byte with a bit for each of its modules, which is 1 if the module was not read.
+// Most symbols are read whole.
+#[derive(Drop)]
+pub(crate) enum Marks {
+    AllZero,
+    Each(Vec<u8>),
+}
+
+fn is_light(square: &Matrix) -> bool
+    ensures { OnTrue result ((r c : ℕ) → r < square.now.side → c < square.now.side → colour square.now r c ≡ false) }
+{
+    for row in 0..usize::from(square.side()) {
+        let bits = square.bit_row(row);
+        if bits.bits_from(0) != 0 || bits.bits_from(64) != 0 || bits.bits_from(128) != 0 {
+            return false;
+        }
+    }
+    true
+}
+
+// A module was not read if it is dark in `unknown`.
 pub(crate) fn read_marks(
     alloc: Global,
     version: Version,
     unknown: &Matrix,
-) -> Result<Vec<u8>, AllocError>
+) -> Result<Marks, AllocError>
     requires { unknown.now.side ≡ side_of version }
-    ensures marks { IfOk result (λ marks. IsReadUnmasked version unknown.now marks.items) }
-    ensures many { IfOk result (λ marks. length marks.items ≡ total_codewords_of version) }
+    ensures marks { IfOk result
+        (λ marks. IsReadUnmasked version unknown.now (list_of (total_codewords_of version) marks)) }
+    ensures many { IfOk result
+        (λ marks. length (list_of (total_codewords_of version) marks) ≡ total_codewords_of version) }
 {
-    let light = Matrix::new(alloc, unknown.side())?;
-    if differences(unknown, &light) == 0 {
-        let marks = vec![in alloc; 0u8; usize::from(version.total_codewords())]?;
-        return Ok(marks);
+    if is_light(unknown) {
+        return Ok(Marks::AllZero);
     }
-    read_unmasked(alloc, version, unknown)
+    let marks = read_unmasked(alloc, version, unknown)?;
+    Ok(Marks::Each(marks))
 }
 
 // Codewords, or their marks, in the order of the blocks; `checks` has those of the error correction codewords.
@@ -54,6 +76,31 @@ fn in_blocks(alloc: Global, blocks: Blocks, interleaved: &[u8]) -> Result<InBloc
     let data = BlockSizes::of_data(blocks).gather(alloc, interleaved)?;
     let checks = BlockSizes::of_corrections(blocks).gather(alloc, &interleaved[data.len()..])?;
     Ok(InBlocks { data, checks })
+}
+
+// As `Marks`, in the order of the blocks.
+#[derive(Drop)]
+enum MarksInBlocks {
+    AllZero,
+    Each(InBlocks),
+}
+
+fn marks_in_blocks(
+    alloc: Global,
+    blocks: Blocks,
+    marks: &Marks,
+) -> Result<MarksInBlocks, AllocError>
+    requires { length (list_of (codeword_count (data_sizes blocks) + codeword_count (correction_sizes blocks)) marks.now)
+        ≡ codeword_count (data_sizes blocks) + codeword_count (correction_sizes blocks) }
+    ensures { IfOk result (AreMarksInBlocks blocks marks.now) }
+{
+    match marks {
+        Marks::AllZero => Ok(MarksInBlocks::AllZero),
+        Marks::Each(each) => {
+            let parts = in_blocks(alloc, blocks, each)?;
+            Ok(MarksInBlocks::Each(parts))
+        }
+    }
 }
 
 // One block: data codewords, then error correction codewords.
@@ -123,71 +170,84 @@ pub(crate) struct MendedMessage {
     pub changed: Vec<usize>,
 }
 
-// Mends the block in place, and then cuts it to its data codewords.
-fn mend_block(
+// Mends the codewords of one block, and returns how many were misread. Returns `None` if that cannot be done.
+fn mend_marked(
+    alloc: Global,
+    blocks: Blocks,
     divisor: &Divisor,
     spare: usize,
-    erased: &[bool],
-    mut codewords: Vec<u8>,
-) -> Option<MendedBlock>
+    marks: &MarksInBlocks,
+    block: usize,
+    codewords: &mut [u8],
+) -> Result<Option<usize>, AllocError>
+    requires within { block < block_count (data_sizes blocks) }
+    requires marks { AreWhole blocks marks.now }
     requires spare { spare ≤ divisor.now }
-    requires least { divisor.now ≤ length codewords.items }
-    requires most { length codewords.items ≤ 255 }
-    requires marks { length erased.now ≡ length codewords.items }
-    ensures long { IfSome result (λ m. length m.message.items + divisor.now ≡ length codewords.items) }
-    ensures near { IfSome result (λ m. erasures (read_of codewords.items erased.now) + 2 * m.changed ≤ spare) }
-    ensures mended { IfSome result (λ m. (e : List ℕ) × IsCorrection m.message.items divisor.now e
-        × (m.changed ≡ errors (read_of codewords.items erased.now) (m.message.items ++ e))) }
-    ensures refused { IfNone result ((d e : List ℕ) → length d + divisor.now ≡ length codewords.items
-        → IsCorrection d divisor.now e
-        → erasures (read_of codewords.items erased.now) + 2 * errors (read_of codewords.items erased.now) (d ++ e) ≤ spare
-        → ⊥) }
+    requires least { divisor.now ≤ length codewords.old }
+    requires most { length codewords.old ≤ 255 }
+    requires long { length codewords.old ≡ block_len (data_sizes blocks) block + blocks.ec_len }
+    ensures long { length codewords.new ≡ length codewords.old }
+    ensures mended { IfOk result (λ o. IfSome o (λ misread.
+        IsMendedWithErasures divisor.now spare (read_by codewords.old (marks_at blocks marks.now block)) codewords.new
+        × (misread ≡ errors (read_by codewords.old (marks_at blocks marks.now block)) codewords.new))) }
+    ensures refused { IfOk result (λ o. IfNone o ((mended : List ℕ)
+        → IsMendedWithErasures divisor.now spare (read_by codewords.old (marks_at blocks marks.now block)) mended → ⊥)) }
 {
-    let len = codewords.len() - divisor.count();
-    let Some(changed) = mend_with_erasures(divisor, spare, erased, codewords.as_mut_slice()) else {
-        return None;
-    };
-    codewords.truncate(len);
-    Some(MendedBlock {
-        message: codewords,
-        changed,
-    })
+    match marks {
+        MarksInBlocks::AllZero => Ok(mend(divisor, spare / 2, codewords)),
+        MarksInBlocks::Each(marks) => {
+            let erased = erased_of(alloc, blocks, marks, block)?;
+            Ok(mend_with_erasures(divisor, spare, &erased, codewords))
+        }
+    }
 }
 
-// Mends one block. In the contract, `message` has the blocks before it, mended.
+// Mends one block, and then cuts it to its data codewords. In the contract, `message` has the blocks before it, mended.
 fn mend_next(
     alloc: Global,
     blocks: Blocks,
     divisor: &Divisor,
     spare: usize,
     received: &InBlocks,
-    marks: &InBlocks,
+    marks: &MarksInBlocks,
     block: usize,
 ) -> Result<MendedBlock, ReadFault>
     requires codewords { length received.now.data.items ≡ codeword_count (data_sizes blocks) }
     requires checks { length received.now.checks.items ≡ codeword_count (correction_sizes blocks) }
-    requires marks { length marks.now.data.items ≡ codeword_count (data_sizes blocks) }
-    requires check_marks { length marks.now.checks.items ≡ codeword_count (correction_sizes blocks) }
+    requires marks { AreWhole blocks marks.now }
     requires few { blocks.short_len + 1 + blocks.ec_len ≤ 255 }
     requires spare { spare ≤ blocks.ec_len }
     requires divisor { divisor.now ≡ blocks.ec_len }
     requires within { block < block_count (data_sizes blocks) }
     ensures mended { IfOk result (λ m. (message misread : List ℕ)
-        → AreMended blocks spare received.now.data.items received.now.checks.items
-        marks.now.data.items marks.now.checks.items block message misread
-        → AreMended blocks spare received.now.data.items received.now.checks.items
-        marks.now.data.items marks.now.checks.items (block + 1) (message ++ m.message.items) (misread ++ m.changed ∷ [])) }
+        → AreMended blocks spare received.now.data.items received.now.checks.items (marks_at blocks marks.now)
+        block message misread
+        → AreMended blocks spare received.now.data.items received.now.checks.items (marks_at blocks marks.now)
+        (block + 1) (message ++ m.message.items) (misread ++ m.changed ∷ [])) }
     ensures refused { result ≡ Err ReadFault.Check → (message misread : List ℕ)
-        → AreMended blocks spare received.now.data.items received.now.checks.items
-        marks.now.data.items marks.now.checks.items (block_count (data_sizes blocks)) message misread → ⊥ }
+        → AreMended blocks spare received.now.data.items received.now.checks.items (marks_at blocks marks.now)
+        (block_count (data_sizes blocks)) message misread → ⊥ }
     ensures fault { IfErr result (λ e. (e ≡ ReadFault.Memory) ⊎ (e ≡ ReadFault.Check)) }
 {
-    let codewords = block_of(alloc, blocks, received, block)?;
-    let erased = erased_of(alloc, blocks, marks, block)?;
-    let Some(mended) = mend_block(divisor, spare, &erased, codewords) else {
+    let mut codewords = block_of(alloc, blocks, received, block)?;
+    let len = codewords.len() - divisor.count();
+    let Some(changed) = mend_marked(
+        alloc,
+        blocks,
+        divisor,
+        spare,
+        marks,
+        block,
+        codewords.as_mut_slice(),
+    )?
+    else {
         return Err(ReadFault::Check);
     };
-    Ok(mended)
+    codewords.truncate(len);
+    Ok(MendedBlock {
+        message: codewords,
+        changed,
+    })
 }
 
 // Ends at the first block that cannot be mended.
@@ -196,21 +256,20 @@ fn mend_parts(
     blocks: Blocks,
     spare: usize,
     received: &InBlocks,
-    marks: &InBlocks,
+    marks: &MarksInBlocks,
 ) -> Result<MendedMessage, ReadFault>
     requires codewords { length received.now.data.items ≡ codeword_count (data_sizes blocks) }
     requires checks { length received.now.checks.items ≡ codeword_count (correction_sizes blocks) }
-    requires marks { length marks.now.data.items ≡ codeword_count (data_sizes blocks) }
-    requires check_marks { length marks.now.checks.items ≡ codeword_count (correction_sizes blocks) }
+    requires marks { AreWhole blocks marks.now }
     requires least { 1 ≤ blocks.ec_len }
     requires most { blocks.ec_len ≤ 30 }
     requires few { blocks.short_len + 1 + blocks.ec_len ≤ 255 }
     requires spare { spare ≤ blocks.ec_len }
     ensures mended { IfOk result (λ m. AreMended blocks spare received.now.data.items received.now.checks.items
-        marks.now.data.items marks.now.checks.items (block_count (data_sizes blocks)) m.message.items m.changed.items) }
+        (marks_at blocks marks.now) (block_count (data_sizes blocks)) m.message.items m.changed.items) }
     ensures refused { result ≡ Err ReadFault.Check → (message misread : List ℕ)
         → AreMended blocks spare received.now.data.items received.now.checks.items
-        marks.now.data.items marks.now.checks.items (block_count (data_sizes blocks)) message misread → ⊥ }
+        (marks_at blocks marks.now) (block_count (data_sizes blocks)) message misread → ⊥ }
     ensures fault { IfErr result (λ e. (e ≡ ReadFault.Memory) ⊎ (e ≡ ReadFault.Check)) }
 {
     let count = BlockSizes::of_data(blocks).count();
@@ -231,21 +290,22 @@ fn mend_blocks(
     blocks: Blocks,
     spare: usize,
     codewords: &[u8],
-    marks: &[u8],
+    marks: &Marks,
 ) -> Result<MendedMessage, ReadFault>
     requires whole { length codewords.now ≡ codeword_count (data_sizes blocks) + codeword_count (correction_sizes blocks) }
-    requires marks { length marks.now ≡ codeword_count (data_sizes blocks) + codeword_count (correction_sizes blocks) }
+    requires marks { length (list_of (length codewords.now) marks.now) ≡ length codewords.now }
     requires least { 1 ≤ blocks.ec_len }
     requires most { blocks.ec_len ≤ 30 }
     requires few { blocks.short_len + 1 + blocks.ec_len ≤ 255 }
     requires spare { spare ≤ blocks.ec_len }
-    ensures mended { IfOk result (λ m. IsMendedMessage blocks spare codewords.now marks.now m.message.items m.changed.items) }
+    ensures mended { IfOk result (λ m. IsMendedMessage blocks spare codewords.now
+        (list_of (length codewords.now) marks.now) m.message.items m.changed.items) }
     ensures refused { result ≡ Err ReadFault.Check → (message misread : List ℕ)
-        → IsMendedMessage blocks spare codewords.now marks.now message misread → ⊥ }
+        → IsMendedMessage blocks spare codewords.now (list_of (length codewords.now) marks.now) message misread → ⊥ }
     ensures fault { IfErr result (λ e. (e ≡ ReadFault.Memory) ⊎ (e ≡ ReadFault.Check)) }
 {
     let received = in_blocks(alloc, blocks, codewords)?;
-    let unread = in_blocks(alloc, blocks, marks)?;
+    let unread = marks_in_blocks(alloc, blocks, marks)?;
     mend_parts(alloc, blocks, spare, &received, &unread)
 }
 
@@ -285,15 +345,16 @@ pub(crate) fn mend_message(
     version: Version,
     level: Level,
     codewords: &[u8],
-    marks: &[u8],
+    marks: &Marks,
 ) -> Result<MendedMessage, ReadFault>
     requires codewords { length codewords.now ≡ total_codewords_of version }
-    requires marks { length marks.now ≡ total_codewords_of version }
+    requires marks { length (list_of (total_codewords_of version) marks.now) ≡ total_codewords_of version }
     ensures mended { IfOk result (λ m. IsMendedMessage (blocks_of version level) (spare_of version level)
-        codewords.now marks.now m.message.items m.changed.items) }
+        codewords.now (list_of (total_codewords_of version) marks.now) m.message.items m.changed.items) }
     ensures many { IfOk result (λ m. length m.message.items ≡ data_codewords_of version level) }
     ensures refused { result ≡ Err ReadFault.Check → (message misread : List ℕ)
-        → IsMendedMessage (blocks_of version level) (spare_of version level) codewords.now marks.now message misread
+        → IsMendedMessage (blocks_of version level) (spare_of version level) codewords.now
+        (list_of (total_codewords_of version) marks.now) message misread
         → ⊥ }
     ensures fault { IfErr result (λ e. (e ≡ ReadFault.Memory) ⊎ (e ≡ ReadFault.Check)) }
 {

@@ -1,10 +1,14 @@
 -- How the program mends the blocks of a symbol. Each codeword has a mark, a byte with a bit for each of its modules
 -- that is 1 if the module was not read; so a mark is 0 exactly if its codeword is not erased. `b` has the sizes of the
--- blocks. `d` and `e` list the data codewords and the error correction codewords as they were read, and `u` and `w`
--- their marks, all in the order of the blocks.
-use Rattle.std.specs.Prelude.{◌≡◌, ℕ, ◌<◌, ◌==◌, not, Option, List, map, length, slice_index}
+-- blocks. `d` and `e` list the data codewords and the error correction codewords as they were read, in the order of the
+-- blocks.
+use Rattle.std.specs.Prelude.{◌≡◌, ℕ, ◌<◌, ◌==◌, not, Option, List, [], map, length, slice_index}
 use Rattle.qr_layout.specs.declared.blocks.Blocks.{Blocks}
-use Rattle.qr_symbol.specs.Interleaving.{block_count, start_of, data_sizes}
+use Rattle.qr_field.specs.Polynomial.{zeros}
+use Rattle.qr_symbol.specs.Interleaving.{block_count, codeword_count, correction_sizes, start_of, data_sizes}
+use Rattle.qr_mending.specs.declared.message.{Marks.{Marks}, MarksInBlocks.{MarksInBlocks}}
+use Rattle.qr_mending.specs.declared.message.Marks.TheVariants as interleaved
+use Rattle.qr_mending.specs.declared.message.MarksInBlocks.TheVariants as parted
 use Rattle.qr_mending.specs.Erasures.{read_of}
 use Rattle.qr_mending.specs.Message.{received, AreInBlocks, IsMendedBlock}
 
@@ -12,13 +16,36 @@ use Rattle.qr_mending.specs.Message.{received, AreInBlocks, IsMendedBlock}
 abbrev pub read_by : List ℕ → List ℕ → List (Option ℕ)
 read_by codewords marks = read_of codewords (map (λ mark. not (mark == 0)) marks)
 
+-- The `n` marks of a symbol
+abbrev pub list_of : ℕ → Marks → List ℕ
+list_of n interleaved.AllZero = zeros n
+list_of n (interleaved.Each marks) = marks.items
+
+-- `parts` has the marks of a symbol in the order of the blocks
+abbrev pub AreMarksInBlocks : Blocks → Marks → MarksInBlocks → Type 0
+AreMarksInBlocks b interleaved.AllZero parted.AllZero = Unit {0}
+AreMarksInBlocks b interleaved.AllZero (parted.Each parts) = ⊥
+AreMarksInBlocks b (interleaved.Each marks) parted.AllZero = ⊥
+AreMarksInBlocks b (interleaved.Each marks) (parted.Each parts) =
+    AreInBlocks b marks.items parts.data.items parts.checks.items
+
+-- There is a mark for each codeword, if any
+abbrev pub AreWhole : Blocks → MarksInBlocks → Type 0
+AreWhole b parted.AllZero = Unit {0}
+AreWhole b (parted.Each parts) = (length parts.data.items ≡ codeword_count (data_sizes b))
+    × (length parts.checks.items ≡ codeword_count (correction_sizes b))
+
+-- The marks of block `i`, or none if all are 0: codewords past the end of their marks count as read
+abbrev pub marks_at : Blocks → MarksInBlocks → ℕ → List ℕ
+marks_at b parted.AllZero i = []
+marks_at b (parted.Each parts) i = received b parts.data.items parts.checks.items i
+
 -- `message` has the data codewords of the first `n` blocks, mended, and item i of `misread` is the number of misread
--- codewords of block i
-pub record AreMended (b : Blocks) (spare : ℕ) (d e u w : List ℕ) (n : ℕ) (message misread : List ℕ) : Type 0 where
+-- codewords of block i, of which `marks` has the marks
+pub record AreMended (b : Blocks) (spare : ℕ) (d e : List ℕ) (marks : ℕ → List ℕ) (n : ℕ) (message misread : List ℕ) : Type 0 where
   pub long : length message ≡ start_of (data_sizes b) n
   pub many : length misread ≡ n
-  pub each : (i : ℕ) → i < n → IsMendedBlock b spare (read_by (received b d e i) (received b u w i)) message
-      (slice_index misread i) i
+  pub each : (i : ℕ) → i < n → IsMendedBlock b spare (read_by (received b d e i) (marks i)) message (slice_index misread i) i
 
 -- The interleaved codewords `cw` with the marks `marks` can be mended to `message`
 pub record IsMendedMessage (b : Blocks) (spare : ℕ) (cw marks message misread : List ℕ) : Type 0 where
@@ -28,4 +55,4 @@ pub record IsMendedMessage (b : Blocks) (spare : ℕ) (cw marks message misread 
   pub unread_checks : List ℕ
   pub in_blocks : AreInBlocks b cw codewords checks
   pub marked : AreInBlocks b marks unread unread_checks
-  pub mended : AreMended b spare codewords checks unread unread_checks (block_count (data_sizes b)) message misread
+  pub mended : AreMended b spare codewords checks (received b unread unread_checks) (block_count (data_sizes b)) message misread

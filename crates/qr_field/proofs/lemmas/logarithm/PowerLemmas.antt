@@ -62,6 +62,13 @@ powers-at (suc i) l =
     ∙ (same-below 254 (λ k. get_or POWERS (k + 1) 0) (λ k. product 2 (get_or POWERS k 0)) powers-double i (omega arith)
     ∙ ap (product 2) (powers-at i (omega arith)))
 
+-- a power of 2 by the table, to be computed with
+abbrev pub entry : ℕ → ℕ
+entry e = get_or POWERS (e % 255) 0
+
+pub entry-is : (e : ℕ) → entry e ≡ power e
+entry-is e = powers-at (e % 255) (omega arith) ∙ power-mod e
+
 -- each entry of the table of logarithms is below 255, which is computed
 logarithms-small : below 255 (λ i. ltb (get_or LOGARITHMS i 0) 255) ≡ true
 logarithms-small = refl

@@ -1,14 +1,15 @@
 -- Coefficients packed into one number, and a register of them.
-use Rattle.std.proofs.Common.{◌≡◌, ℕ, zero, suc, ◌+◌, ◌*◌, ◌/◌, ◌%◌, ◌^◌, ◌<◌, ◌≤◌, List, [], ◌∷◌, ◌++◌, length, take, drop, get_or, refl, sym, ap, ◌∙◌, arith, bit_xor, bit_or, bit_and}
-use Rattle.std.proofs.lemmas.Nat.{or_shifted, xor_block, and_block, and_mask, mod_low, shr_high}
-use Rattle.std.proofs.Math.Nat.{pow-suc, mul_assoc, div-div-eq-div-mul}
-use Rattle.std.proofs.lemmas.List.{append-nil, drop_all, length-append, length-drop, length-map, length-take, map-append, take-append-drop, take_at}
+use Rattle.std.proofs.Common.{◌≡◌, ℕ, zero, suc, ◌+◌, ◌*◌, ◌/◌, ◌%◌, ◌^◌, ◌<◌, ◌≤◌, List, [], ◌∷◌, ◌++◌, length, take, drop, get_or, refl, sym, ap, ◌∙◌, arith, lit<, bit_xor, bit_or, bit_and}
+use Rattle.std.proofs.lemmas.Nat.{or_shifted, xor_block, xor_mod, xor_shr, and_block, and_mask, mod_low, shr_high}
+use Rattle.std.proofs.Math.Nat.{pow-suc, mul_assoc, mul_comm, div-div-eq-div-mul}
+use Rattle.std.proofs.lemmas.List.{append-nil, drop_all, get_or-map, length-append, length-drop, length-map, length-take, map-append, take-append-drop, take_at}
 use Rattle.std.proofs.lemmas.List.Elements.{All-nil, All-cons, All-head, All-tail}
-use Rattle.std.specs.{List.All, Int.{byte_at, bytes_low_first, to_le_bytes, w64}}
+use Rattle.std.specs.{List.All, Int.{byte_at, bytes_low_first, to_le_bytes, w64, w128}}
 use Rattle.std.specs.Int.Bits.{xor_zero_l, xor_zero_r, xor_self, and_zero_r}
 use borrow.Rule.Slice.PartMut.{put_mid}
 use Rattle.qr_field.specs.{Galois.product, Polynomial.{IsByte, plus, scaled, zeros}, Steps.Register.{packed, unpacked}}
 use Rattle.qr_field.proofs.lemmas.galois.ByteLemmas.{product-of_zero, product-by_zero, product-of_two}
+use Rattle.qr_field.proofs.lemmas.polynomial.ListLemmas.{bytes-scaled}
 
 -- ---- two halves of a register
 
@@ -213,3 +214,45 @@ scaled-unpacked f zero (x ∷ xs) m l a = absurd (omega arith)
 scaled-unpacked f (suc n) [] m l a = cc (product-by_zero f m, scaled-unpacked f n [] m (omega arith) a)
 scaled-unpacked f (suc n) (x ∷ xs) m l a =
     cc (mod_low (packed xs) 8 x (All-head IsByte x xs a), shr_high (packed xs) 8 x (All-head IsByte x xs a), scaled-unpacked f n xs m (omega arith) (All-tail IsByte x xs a))
+
+-- ---- bytes
+
+-- byte k + 1 is byte k of what is left without the lowest byte
+byte-next : (k n : ℕ) → byte_at (suc k) n ≡ byte_at k (n / 2 ^ 8)
+byte-next zero n = refl
+byte-next (suc k) n =
+    let q = 256 ^ suc k in
+    let more : n / 256 ^ suc (suc k) ≡ n / 256 / q =
+    ap (λ t. n / t) (pow-suc 256 (suc k) ∙ mul_comm q 256) ∙ sym (div-div-eq-div-mul n 256 q) in
+    ap (λ t. t % 256) more
+
+-- a byte of a sum
+pub byte-xor : (k a b : ℕ) → byte_at k (bit_xor a b) ≡ bit_xor (byte_at k a) (byte_at k b)
+byte-xor zero a b = xor_mod a b 8
+byte-xor (suc k) a b =
+    cc (byte-next k (bit_xor a b), xor_shr a b 8, byte-xor k (a / 2 ^ 8) (b / 2 ^ 8), byte-next k a, byte-next k b)
+
+-- what is unpacked are the bytes
+unpacked-at : (n k v : ℕ) → k < n → get_or (unpacked n v) k 0 ≡ byte_at k v
+unfolding unpacked
+unpacked-at zero k v l = absurd (omega arith)
+unpacked-at (suc n) zero v l = refl
+unpacked-at (suc n) (suc k) v l = unpacked-at n k (v / 2 ^ 8) (omega arith) ∙ sym (byte-next k v)
+
+-- the bytes of a word as a list
+pub word-byte : (k v : ℕ) → k < 16 → get_or (to_le_bytes w128 v) k 0 ≡ byte_at k v
+word-byte k v l =
+    let one : v / 256 ^ 0 ≡ v = omega arith in
+    let bytes : to_le_bytes w128 v ≡ unpacked 16 v = bytes-of 0 16 v ∙ ap (unpacked 16) one in
+    ap (λ t. get_or t k 0) bytes ∙ unpacked-at 16 k v l
+
+-- the bytes of doubled coefficients
+pub byte-doubled : (k v r : ℕ) → k < 16 → r ≡ packed (scaled 2 (unpacked 16 v)) → byte_at k r ≡ product 2 (byte_at k v)
+byte-doubled k v r l e =
+    let doubled = scaled 2 (unpacked 16 v) in
+    let count : length doubled ≡ 16 = length-map (unpacked 16 v) (product 2) ∙ length-unpacked 16 v in
+    let same : unpacked 16 r ≡ doubled =
+    ap (unpacked 16) e ∙ unpacked-packed 16 doubled count (bytes-scaled 2 (unpacked 16 v) (lit< tt)) in
+    let inside : k < length (unpacked 16 v) = omega (arith, l, length-unpacked 16 v) in
+    sym (unpacked-at 16 k r l) ∙ (ap (λ t. get_or t k 0) same
+    ∙ (get_or-map (product 2) (unpacked 16 v) k 0 0 inside ∙ ap (product 2) (unpacked-at 16 k v l)))

@@ -5,3 +5,4 @@ abbrev pub invariant-loop-j : goal.invariant-loop-j
 invariant-loop-j l =
     (l.terms ≡ take l.j l.initial.terms ++ quotient l.root (drop l.j l.initial.terms))
     × (l.value ≡ eval l.root (drop l.j l.initial.terms))
+    × (l.rest ≡ eval l.root (quotient l.root (drop l.j l.initial.terms)))

@@ -5,15 +5,15 @@ use Rattle.qr_mending.proofs.errors.divide_out.Goals as goal
 pub loop-rest-preserved : goal.loop-rest-preserved
 loop-rest-preserved c =
     let now = c.loop-rest.locator.items in
-    let q = c.divide.new.terms in
+    let q = c.divide-rest.new.terms in
     let n = c.pop.new.self.items in
     let same = c.as_mut_slice.ensures.value in
     let count : length q ≡ length now = omega (arith, ap length same) in
-    let d = divided c.args.root now q n (omega arith) (rw same at c.divide.ensures.bytes) c.loop-rest.invariant.0
-    (sym c.loop-rest.invariant.1 ∙ c.loop-rest-test.true) (rw same at c.divide.ensures.quotient)
+    let d = divided c.args.root now q n (omega arith) (rw same at c.divide-rest.ensures.bytes) c.loop-rest.invariant.0
+    (sym c.loop-rest.invariant.1 ∙ c.loop-rest-test.true) (rw same at c.divide-rest.ensures.quotient)
     (c.pop.ensures.rest ∙ ap (λ t. take (length t - 1) t) (refill-same now q (length now) refl count)) in (
       d.leading,
-      rw c.as_slice.ensures.value at c.value-rest.ensures,
+      rw same at c.divide-rest.ensures.value ∙ d.value,
       omega (arith, d.shorter, c.loop-rest.invariant.2),
       λ some. omega (arith, d.shorter, c.loop-rest.invariant.2),
       λ y l n z. d.others y l n (c.loop-rest.invariant.4 y l n z),

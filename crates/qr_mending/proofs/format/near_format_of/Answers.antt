@@ -16,11 +16,17 @@ every unknown copy g none Q = none 2 (omega arith)
 every unknown copy g none H = none 3 (omega arith)
 
 pub loop-level-preserved : goal.loop-level-preserved
-loop-level-preserved c = λ k less mask f.
+loop-level-preserved c = λ u g copy h k less mask f.
     elim (cases_lt k c.loop-level.level-index) [
-      | inl l ↦ c.loop-level.invariant k l mask f
-      | inr l ↦ let e : k ≡ c.loop-level.level-index = omega arith in c.in_default.ensures mask (rw e at f)
+      | inl l ↦ c.loop-level.invariant u g copy h k l mask f
+      | inr l ↦
+          let e : k ≡ c.loop-level.level-index = omega arith in
+          (rw c.in_default.is at c.near_mask_of.ensures) u g copy h mask (rw e at f)
     ]
 
 pub returns : goal.returns
-returns c = every c.args.unknown.now c.args.copy c.args.matrix.now (λ k l. c.loop-level.invariant k (omega (arith, c.loop-level-test.false)))
+returns c =
+    let u = c.args.unknown.now in
+    let g = c.args.matrix.now in
+    every u c.args.copy g
+    (λ k l. c.loop-level.invariant u g c.args.copy c.read-bits.ensures k (omega (arith, c.loop-level-test.false)))

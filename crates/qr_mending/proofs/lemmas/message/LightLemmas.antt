@@ -1,13 +1,14 @@
 -- A symbol of which all modules were read: its marks are 0, no codeword is erased, and its blocks are mended as blocks of
 -- which every codeword was read.
-use Rattle.std.proofs.Common.{◌≡◌, ◌||◌, Bool, false, ℕ, zero, suc, ◌*◌, ◌<◌, ◌≤◌, Some, List, [], ◌∷◌, ◌++◌, map, take, length, get_or, refl, sym, ◌∙◌, arith}
+use Rattle.std.proofs.Common.{◌≡◌, ◌||◌, Bool, false, ℕ, zero, suc, ◌==◌, ◌*◌, ◌+◌, ◌-◌, ◌%◌, ◌^◌, ◌<◌, ◌≤◌, inl, inr, Some, List, [], ◌∷◌, ◌++◌, map, take, length, get_or, refl, sym, ap, ◌∙◌, arith}
+use Rattle.std.proofs.{Math.Nat.zero-div, lemmas.Bool.cases_lt}
 use Rattle.std.proofs.lemmas.List.{length-map, length-replicate, length-take, Elements.{All-replicate, All-take}}
 use Rattle.std.specs.{Prelude.Option, List.list_any, List.range_with_len}
 use lib.ListN.{replicate}
 use Rattle.qr_field.specs.{Polynomial.IsCorrection, Distance.differences}
 use Rattle.qr_layout.specs.declared.{blocks.Blocks.Blocks, level.Level.Level, region.Module.Module}
 use Rattle.qr_layout.specs.{Blocks.blocks_of, Version.side_of, Version.total_codewords_of, Region.InRegion}
-use Rattle.{qr_layout.proofs.Facts.{col-in, order-length, row-in}, qr_matrix.specs.Grid.{Grid, colour, light, rows_of}}
+use Rattle.{qr_layout.proofs.Facts.{col-in, order-length, row-in}, qr_matrix.specs.{BitRow.has_bit, Grid.{Grid, colour, light, rows_of}}}
 use Rattle.qr_bits.{specs.Bits.{bits_of, field}, proofs.Facts.length-bits_of}
 use Rattle.qr_symbol.specs.Interleaving.{block_count, codeword_count, data_sizes, part_of}
 use Rattle.qr_symbol.{specs.Reading.{IsRead, IsReadUnmasked}, proofs.Facts.{map-each, read-some}}
@@ -58,9 +59,32 @@ colours-light : (s : ℕ) (ms : List Module) → AreLight (map (λ m. colour (li
 colours-light s [] = tt
 colours-light s (m ∷ ms) = (colour-light s m.row m.col, colours-light s ms)
 
+-- a bit of 0
+no-bit : (c : ℕ) → has_bit 0 c ≡ false
+unfolding has_bit
+no-bit c = ap (λ t. t % 2 == 1) (zero-div (2 ^ c))
+
+-- a bit of a row of which three words are 0
+pub row-light : (has : ℕ → Bool) (a b d : ℕ) → ((k : ℕ) → 0 % 64 + k < 64 → has_bit a k ≡ has (0 + k)) →
+    ((k : ℕ) → 64 % 64 + k < 64 → has_bit b k ≡ has (64 + k)) → ((k : ℕ) → 128 % 64 + k < 64 → has_bit d k ≡ has (128 + k)) →
+    a ≡ 0 → b ≡ 0 → d ≡ 0 → (c : ℕ) → c < 192 → has c ≡ false
+row-light has a b d ha hb hd ea eb ed c l = elim (cases_lt c 64) [
+  | inl m ↦
+      let at : 0 + c ≡ c = omega arith in
+      cc (at, ha c (omega (arith, m)), ea, no-bit c)
+  | inr m ↦ elim (cases_lt c 128) [
+    | inl n ↦
+        let at : 64 + (c - 64) ≡ c = omega (arith, m) in
+        cc (at, hb (c - 64) (omega (arith, n, m)), eb, no-bit (c - 64))
+    | inr n ↦
+        let at : 128 + (c - 128) ≡ c = omega (arith, n) in
+        cc (at, hd (c - 128) (omega (arith, n, l)), ed, no-bit (c - 128))
+  ]
+]
+
 -- the marks of a square with no dark module
 pub no-marks : (v : ℕ) (u : Grid) → 1 ≤ v → v ≤ 40 → u.side ≡ side_of v →
-    ((r c : ℕ) → r < u.side → c < u.side → colour u r c ≡ colour (light u.side) r c) →
+    ((r c : ℕ) → r < u.side → c < u.side → colour u r c ≡ false) →
     IsReadUnmasked v u (replicate (total_codewords_of v) 0)
 no-marks v u p q e h =
     let w = (read-some v 0 u p q).1 in
@@ -85,7 +109,8 @@ no-marks v u p q e h =
           ))
           ∙ map-each (InRegion v) plain (λ m. colour u m.row m.col) some
           (All-take (InRegion v) (8 * n) w.places w.order.in_region)
-          (λ t i. sym (h t.row t.col (omega (arith, row-in v t i, e)) (omega (arith, col-in v t i, e))));
+          (λ t i. colour-light u.side t.row t.col
+          ∙ sym (h t.row t.col (omega (arith, row-in v t i, e)) (omega (arith, col-in v t i, e))));
     }
 
 -- ---- what is read of a symbol of which all modules were read

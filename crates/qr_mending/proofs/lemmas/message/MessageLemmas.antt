@@ -68,19 +68,22 @@ items-in-blocks b n xs ks js e h =
     let all : map (item xs) indices ≡ xs = sym (fill_by_all (item xs) xs n 0 e (λ k l. refl)) in
     search (arith, drop-map, gathered-map)
 
+-- as many codewords as the blocks have can be put back into blocks
+pub in-blocks-some : (b : Blocks) (interleaved : List ℕ) →
+    length interleaved ≡ codeword_count (data_sizes b) + codeword_count (correction_sizes b) →
+    (ks : List ℕ) × (js : List ℕ) × AreInBlocks b interleaved ks js
+in-blocks-some b interleaved long =
+    let own = codeword_count (data_sizes b) in
+    let first = gather-some (data_sizes b) interleaved (omega (arith, long)) in
+    let second = gather-some (correction_sizes b) (drop own interleaved) (omega (arith, long, length-drop own interleaved)) in
+    search arith
+
 -- the indices of the codewords of a symbol can be put back into blocks
 pub indices-some : (v : ℕ) (l : Level) → 1 ≤ v → v ≤ 40 →
     (ks : List ℕ) × (js : List ℕ) × AreInBlocks (blocks_of v l) (range_with_len 0 (total_codewords_of v)) ks js
 indices-some v l p q =
-    let b = blocks_of v l in
-    let own = codeword_count (data_sizes b) in
-    let indices = range_with_len 0 (total_codewords_of v) in
-    let sum = sizes-whole v l p q in
-    let len = length-range_with_len 0 (total_codewords_of v) in
-    let first = gather-some (data_sizes b) indices (omega (arith, sum, len)) in
-    let second = gather-some (correction_sizes b) (drop own indices)
-    (omega (arith, sum, len, length-drop own indices)) in
-    search arith
+    in-blocks-some (blocks_of v l) (range_with_len 0 (total_codewords_of v))
+    (length-range_with_len 0 (total_codewords_of v) ∙ sym (sizes-whole v l p q))
 
 part-map : (c : BlockSizes) (f : ℕ → ℕ) (ks : List ℕ) (i : ℕ) → part_of c (map f ks) i ≡ map f (part_of c ks i)
 part-map c f ks i = search (arith, drop-map, take-map)
@@ -90,18 +93,24 @@ pub received-map : (b : Blocks) (f : ℕ → ℕ) (ks js : List ℕ) (i : ℕ) �
     received b (map f ks) (map f js) i ≡ map f (received b ks js i)
 received-map b f ks js i = search (arith, part-map, map-append)
 
+-- what holds of each codeword holds of those of a block
+pub received-each : (b : Blocks) (P : ℕ → Type 0) (interleaved ks js : List ℕ) (i : ℕ) → All P interleaved →
+    AreInBlocks b interleaved ks js → All P (received b ks js i)
+received-each b P interleaved ks js i all inside =
+    let c = data_sizes b in
+    let sizes = correction_sizes b in
+    search (arith, gathered-all, All-drop, All-append, All-take)
+
 -- what holds of the index of each codeword holds of those of a block
 pub received-all : (b : Blocks) (P : ℕ → Type 0) (n : ℕ) (ks js : List ℕ) (i : ℕ) →
     ((k : ℕ) → k < n → P k) → AreInBlocks b (range_with_len 0 n) ks js → All P (received b ks js i)
 received-all b P n ks js i h inside =
-    let c = data_sizes b in
-    let sizes = correction_sizes b in
     let indices = range_with_len 0 n in
     let len = length-range_with_len 0 n in
     let all : All P indices = All-from_get_or P indices 0 (λ k r.
     let here : k < n = omega (arith, r, len) in
     search (arith, get_or-range_with_len)) in
-    search (arith, gathered-all, All-drop, All-append, All-take)
+    received-each b P indices ks js i all inside
 
 -- ---- parts
 

@@ -1,38 +1,36 @@
 -- A message of which some codewords were erased is mended block by block, to at most one message.
-use Rattle.std.proofs.Common.{◌≡◌, ◌==◌, not, Bool, ℕ, ◌+◌, ◌-◌, ◌*◌, ◌/◌, ◌<◌, ◌≤◌, Option, List, [], ◌∷◌, ◌++◌, map, length, length-append, get_or, sym, ◌∙◌, subst, inl, inr, arith}
-use Rattle.std.proofs.lemmas.{Bool.cases_lt, List.{length_push, get_or_append_left, get_or_push, ext_get_or}}
-use Rattle.{std.specs.List.range_with_len, qr_matrix.specs.Grid.Grid}
+use Rattle.std.proofs.Common.{◌≡◌, ◌==◌, not, ℕ, Some, take, drop, refl, ap, ◌+◌, ◌-◌, ◌*◌, ◌/◌, ◌<◌, ◌≤◌, Option, List, [], ◌∷◌, ◌++◌, map, length, length-append, get_or, sym, ◌∙◌, subst, inl, inr, arith}
+use Rattle.std.proofs.lemmas.{Bool.cases_lt, List.{length_push, length-replicate, length-take-le, get_or_append_left, get_or_push, ext_get_or, take-append-drop}}
+use Rattle.std.proofs.lemmas.List.Elements.{All-head, All-tail, All-replicate}
+use Rattle.{std.specs.List.{range_with_len, All}, qr_matrix.specs.Grid.Grid}
 use Rattle.qr_field.specs.{Polynomial.IsCorrection, Distance.erasures, Distance.errors}
 use Rattle.qr_layout.specs.declared.{blocks.Blocks.Blocks, level.Level.Level}
 use Rattle.qr_layout.{specs.{Blocks.blocks_of, Version.total_codewords_of}, proofs.Facts.only_order}
-use Rattle.qr_symbol.specs.Interleaving.{block_count, block_len, codeword_count, data_sizes, part_of}
+use Rattle.qr_symbol.specs.Interleaving.{block_count, block_len, codeword_count, correction_sizes, data_sizes, part_of}
 use Rattle.qr_symbol.proofs.Facts.{len-most, parts-same, start-next}
 use Rattle.qr_field.proofs.{lemmas.laws.DistanceLemmas.unambiguous-known, Facts.correction-one}
-use Rattle.qr_mending.{specs.Erasures.{read_of, IsMendedWithErasures}, proofs.lemmas.erasures.ErasureLemmas.length-read}
+use Rattle.qr_mending.specs.Erasures.{IsMendedWithErasures}
+use Rattle.qr_mending.proofs.lemmas.{block.BlockLemmas.block-corrects, erasures.ErasureLemmas.{length-read, read-unmarked}}
 use Rattle.qr_mending.specs.Message.{read_at, received, spare_of, IsMendedIn, IsMendedBlock, AreInBlocks}
-use Rattle.qr_mending.specs.Steps.Message.{read_by, AreMended, IsMendedMessage}
-use Rattle.qr_mending.proofs.lemmas.message.MessageLemmas.{in-blocks-one, part-grown, part-last, part-len}
+use Rattle.qr_field.specs.Polynomial.{zeros}
+use Rattle.qr_mending.specs.declared.message.{Marks.{Marks}, MarksInBlocks.{MarksInBlocks}}
+use Rattle.qr_mending.specs.declared.message.Marks.TheVariants as interleaved
+use Rattle.qr_mending.specs.declared.message.MarksInBlocks.TheVariants as parted
+use Rattle.qr_mending.specs.Steps.Message.{list_of, marks_at, read_by, AreMarksInBlocks, AreMended, IsMendedMessage}
+use Rattle.qr_mending.proofs.lemmas.message.MessageLemmas.{in-blocks-one, in-blocks-some, part-grown, part-last, part-len, received-each}
 
 -- ---- blocks
 
--- if what was read is a damaged form of no block, no data codewords with their error correction codewords are near
--- enough to it
-pub none-erased : (n spare : ℕ) (codewords : List ℕ) (erased : List Bool) →
-    ((mended : List ℕ) → IsMendedWithErasures n spare (read_of codewords erased) mended → ⊥) →
-    (d e : List ℕ) → length d + n ≡ length codewords → IsCorrection d n e →
-    erasures (read_of codewords erased) + 2 * errors (read_of codewords erased) (d ++ e) ≤ spare → ⊥
-none-erased n spare codewords erased none d e long right near = search (arith, length-append, length-read)
-
 -- one block more
-unread-push : (b : Blocks) (spare : ℕ) (d e u w message misread es c : List ℕ) (n x : ℕ) →
-    n < block_count (data_sizes b) → AreMended b spare d e u w n message misread →
+unread-push : (b : Blocks) (spare : ℕ) (d e : List ℕ) (marks : ℕ → List ℕ) (message misread es c : List ℕ) (n x : ℕ) →
+    n < block_count (data_sizes b) → AreMended b spare d e marks n message misread →
     length es ≡ block_len (data_sizes b) n → IsCorrection es b.ec_len c →
-    x ≡ errors (read_by (received b d e n) (received b u w n)) (es ++ c) →
-    erasures (read_by (received b d e n) (received b u w n)) + 2 * x ≤ spare →
-    AreMended b spare d e u w (n + 1) (message ++ es) (misread ++ x ∷ [])
-unread-push b spare d e u w message misread es c n x l h len right count near =
+    x ≡ errors (read_by (received b d e n) (marks n)) (es ++ c) →
+    erasures (read_by (received b d e n) (marks n)) + 2 * x ≤ spare →
+    AreMended b spare d e marks (n + 1) (message ++ es) (misread ++ x ∷ [])
+unread-push b spare d e marks message misread es c n x l h len right count near =
     let sizes = data_sizes b in
-    let read : ℕ → List (Option ℕ) = λ i. read_by (received b d e i) (received b u w i) in
+    let read : ℕ → List (Option ℕ) = λ i. read_by (received b d e i) (marks i) in
     record {
       long = cc (length-append message es, start-next sizes n);
       many = omega (arith, length_push misread x, h.many);
@@ -95,40 +93,128 @@ beside-one unknown v l cw m n x y few g h =
 
 -- ---- the steps of the code
 
-module _ (b : Blocks) (spare : ℕ) (d e u w : List ℕ) (n k : ℕ) (codewords marks : List ℕ) (erased : List Bool)
-    (en : n ≡ b.ec_len)
-    (l : k < block_count (data_sizes b)) (ec : codewords ≡ received b d e k) (em : marks ≡ received b u w k)
-    (ee : erased ≡ map (λ mark. not (mark == 0)) marks) (long : length codewords
-    ≡ block_len (data_sizes b) k + b.ec_len) where
-  -- what was read of block k
-  read-same : read_of codewords erased ≡ read_by (received b d e k) (received b u w k)
-  read-same = rw (ee, em, ec)
+-- one block more, which the code mends in place and then cuts to its data codewords
+pub push-unread : (b : Blocks) (spare : ℕ) (d e : List ℕ) (marks : ℕ → List ℕ) (k n : ℕ) (codewords block : List ℕ) (x : ℕ) →
+    n ≡ b.ec_len → k < block_count (data_sizes b) → codewords ≡ received b d e k →
+    length codewords ≡ block_len (data_sizes b) k + b.ec_len →
+    IsMendedWithErasures n spare (read_by codewords (marks k)) block → x ≡ errors (read_by codewords (marks k)) block →
+    (message misread es : List ℕ) → es ≡ take (length block - n) block →
+    AreMended b spare d e marks k message misread →
+    AreMended b spare d e marks (k + 1) (message ++ es) (misread ++ x ∷ [])
+push-unread b spare d e marks k n codewords block x en l ec long m count message misread es cut h =
+    let near = (rw (en, ec) at m).near in
+    let s = length block - b.ec_len in
+    let corrects = block-corrects b.ec_len block (rw (en, ec) at m).block in
+    let many : length block ≡ length codewords = m.long ∙ length-read codewords (map (λ mark. not (mark == 0)) (marks k)) in
+    let same : es ≡ take s block = rw en at cut in
+    let whole : take s block ++ drop s block ≡ block = take-append-drop s block in
+    let right : x ≡ errors (read_by (received b d e k) (marks k)) block = rw ec at count in
+    let len : length (take s block) ≡ block_len (data_sizes b) k = omega (arith, length-take-le s block (omega arith), many, long) in
+    rw same (unread-push b spare d e marks message misread (take s block) (drop s block) k x l h len corrects (rw whole right)
+    (omega (arith, near, right)))
 
-  -- one block more, stated with the variables of the loop
-  pub push-unread : (x : ℕ) (message misread es more counts : List ℕ) →
-      AreMended b spare d e u w k message misread → length es + n ≡ length codewords →
-      ((c : List ℕ) × IsCorrection es n c × (x ≡ errors (read_of codewords erased) (es ++ c))) →
-      erasures (read_of codewords erased) + 2 * x ≤ spare → more ≡ message ++ es →
-      counts ≡ misread ++ x ∷ [] → AreMended b spare d e u w (k + 1) more counts
-  push-unread x message misread es more counts h le c near push count =
-      rw (push, count) (unread-push b spare d e u w message misread es c.0 k x l h (omega (arith, le, long, en))
-      (rw en at c.1) (rw read-same at c.2) (rw read-same at near))
+-- if a block cannot be mended, the codewords are a damaged form of no message
+pub none-unread : (b : Blocks) (spare : ℕ) (d e : List ℕ) (marks : ℕ → List ℕ) (k n : ℕ) (codewords : List ℕ) →
+    n ≡ b.ec_len → k < block_count (data_sizes b) → codewords ≡ received b d e k →
+    length codewords ≡ block_len (data_sizes b) k + b.ec_len →
+    ((mended : List ℕ) → IsMendedWithErasures n spare (read_by codewords (marks k)) mended → ⊥) →
+    (message misread : List ℕ) → AreMended b spare d e marks (block_count (data_sizes b)) message misread → ⊥
+none-unread b spare d e marks k n codewords en l ec long none message misread h =
+    let m = h.each k l in
+    let x = part_of (data_sizes b) message k in
+    let lx = part-len (data_sizes b) message k h.long l in
+    let count : length (x ++ m.correction) ≡ length codewords =
+    omega (arith, length-append x m.correction, lx, m.corrects.count, long) in
+    none (x ++ m.correction) (rw (en, ec) (record {
+      block = record { message = x; correction = m.correction; corrects = m.corrects; whole = refl };
+      long = omega (arith, count, ap length ec, length-read (received b d e k) (map (λ mark. not (mark == 0)) (marks k)));
+      near = omega (arith, m.near, m.count);
+    }))
 
-  -- if a block cannot be mended, the codewords are a damaged form of no message
-  pub none-unread : ((x c : List ℕ) → length x + n ≡ length codewords → IsCorrection x n c →
-      erasures (read_of codewords erased) + 2 * errors (read_of codewords erased) (x ++ c) ≤ spare → ⊥) →
-      (message misread : List ℕ) → AreMended b spare d e u w (block_count (data_sizes b)) message misread → ⊥
-  none-unread none message misread h =
-      let m = h.each k l in
-      let x = part_of (data_sizes b) message k in
-      none x m.correction (omega (arith, part-len (data_sizes b) message k h.long l, long, en)) (rw en m.corrects)
-      (rw read-same (omega (arith, m.near, m.count)))
+-- the same blocks by marks that say the same of each
+pub marks-alike : (b : Blocks) (spare : ℕ) (d e : List ℕ) (f g : ℕ → List ℕ) (n : ℕ) (message misread : List ℕ) →
+    ((i : ℕ) → read_by (received b d e i) (f i) ≡ read_by (received b d e i) (g i)) →
+    AreMended b spare d e f n message misread → AreMended b spare d e g n message misread
+marks-alike b spare d e f g n message misread same h = record {
+  long = h.long;
+  many = h.many;
+  each = λ i l. subst (λ (t : List (Option ℕ)). IsMendedBlock b spare t message (get_or misread i 0) i) (same i) (h.each i l);
+}
+
+-- the number of marks of a block
+pub marks-long : (b : Blocks) (u w : List ℕ) (i : ℕ) → length u ≡ codeword_count (data_sizes b) →
+    length w ≡ codeword_count (correction_sizes b) → i < block_count (data_sizes b) →
+    length (received b u w i) ≡ block_len (data_sizes b) i + b.ec_len
+marks-long b u w i lu lw l =
+    let inside : i < block_count (correction_sizes b) = search arith in
+    let len : block_len (correction_sizes b) i ≡ b.ec_len = search arith in
+    cc (
+      length-append (part_of (data_sizes b) u i) (part_of (correction_sizes b) w i),
+      part-len (data_sizes b) u i lu l,
+      part-len (correction_sizes b) w i lw inside,
+      len,
+    )
+
+-- without marks every codeword was read
+pub none-marked : (xs : List ℕ) → read_by xs [] ≡ map (λ x. Some x) xs
+none-marked xs = read-unmarked xs 0
+
+-- marks that are 0 say that every codeword was read
+zeros-read : (xs zs : List ℕ) → All (λ z. z ≡ 0) zs → read_by xs zs ≡ read_by xs []
+zeros-read [] zs a = refl
+zeros-read (x ∷ xs) [] a = refl
+zeros-read (x ∷ xs) (z ∷ zs) a = rw (All-head (λ z. z ≡ 0) z zs a)
+    (ap (λ t. Some x ∷ t) (zeros-read xs zs (All-tail (λ z. z ≡ 0) z zs a)))
+
+-- so it is if all marks of the symbol are
+zeros-alike : (b : Blocks) (n : ℕ) (d e u w : List ℕ) → AreInBlocks b (zeros n) u w → (i : ℕ) →
+    read_by (received b d e i) (received b u w i) ≡ read_by (received b d e i) []
+zeros-alike b n d e u w h i =
+    zeros-read (received b d e i) (received b u w i)
+    (received-each b (λ z. z ≡ 0) (zeros n) u w i (All-replicate (λ z. z ≡ 0) n 0 refl) h)
+
+-- what is mended by the blocks is mended by the symbol
+pub in-blocks-mended : (b : Blocks) (spare : ℕ) (cw d e message misread : List ℕ) (marks : Marks) (parts : MarksInBlocks) →
+    length cw ≡ codeword_count (data_sizes b) + codeword_count (correction_sizes b) → AreInBlocks b cw d e →
+    AreMarksInBlocks b marks parts → AreMended b spare d e (marks_at b parts) (block_count (data_sizes b)) message misread →
+    IsMendedMessage b spare cw (list_of (length cw) marks) message misread
+in-blocks-mended b spare cw d e message misread interleaved.AllZero parted.AllZero long h m a =
+    let some = in-blocks-some b (zeros (length cw)) (omega (arith, long, length-replicate {A = ℕ} (length cw) 0)) in
+    record {
+      codewords = d;
+      checks = e;
+      unread = some.0;
+      unread_checks = some.1;
+      in_blocks = h;
+      marked = some.2;
+      mended = marks-alike b spare d e (λ i. []) (received b some.0 some.1) (block_count (data_sizes b)) message misread
+          (λ i. sym {a = read_by (received b d e i) (received b some.0 some.1 i)} (zeros-alike b (length cw) d e some.0 some.1 some.2 i)) a;
+    }
+in-blocks-mended b spare cw d e message misread interleaved.AllZero (parted.Each parts) long h m a = absurd m
+in-blocks-mended b spare cw d e message misread (interleaved.Each marks) parted.AllZero long h m a = absurd m
+in-blocks-mended b spare cw d e message misread (interleaved.Each marks) (parted.Each parts) long h m a = record {
+  codewords = d;
+  checks = e;
+  unread = parts.data.items;
+  unread_checks = parts.checks.items;
+  in_blocks = h;
+  marked = m;
+  mended = a;
+}
 
 -- codewords that cannot be mended are a damaged form of no message
-pub none-in-blocks : (b : Blocks) (spare : ℕ) (cw marks d e u w : List ℕ) → AreInBlocks b cw d e → AreInBlocks b marks u w →
-    ((message misread : List ℕ) → AreMended b spare d e u w (block_count (data_sizes b)) message misread → ⊥) →
-    (message misread : List ℕ) → IsMendedMessage b spare cw marks message misread → ⊥
-none-in-blocks b spare cw marks d e u w g h none message misread m =
+pub none-in-blocks : (b : Blocks) (spare : ℕ) (cw d e : List ℕ) (marks : Marks) (parts : MarksInBlocks) →
+    AreInBlocks b cw d e → AreMarksInBlocks b marks parts →
+    ((message misread : List ℕ) → AreMended b spare d e (marks_at b parts) (block_count (data_sizes b)) message misread → ⊥) →
+    (message misread : List ℕ) → IsMendedMessage b spare cw (list_of (length cw) marks) message misread → ⊥
+none-in-blocks b spare cw d e interleaved.AllZero parted.AllZero g h none message misread m =
     let first = in-blocks-one b cw m.codewords m.checks d e m.in_blocks g in
-    let second = in-blocks-one b marks m.unread m.unread_checks u w m.marked h in
-    search arith
+    let mended = rw (first.0, first.1) at m.mended in
+    none message misread (marks-alike b spare d e (received b m.unread m.unread_checks) (λ i. []) (block_count (data_sizes b)) message misread
+    (zeros-alike b (length cw) d e m.unread m.unread_checks m.marked) mended)
+none-in-blocks b spare cw d e interleaved.AllZero (parted.Each parts) g h none message misread m = absurd h
+none-in-blocks b spare cw d e (interleaved.Each marks) parted.AllZero g h none message misread m = absurd h
+none-in-blocks b spare cw d e (interleaved.Each marks) (parted.Each parts) g h none message misread m =
+    let first = in-blocks-one b cw m.codewords m.checks d e m.in_blocks g in
+    let second = in-blocks-one b marks.items m.unread m.unread_checks parts.data.items parts.checks.items m.marked h in
+    none message misread (rw (first.0, first.1, second.0, second.1) at m.mended)

@@ -205,6 +205,7 @@ eval-blank y (a ∷ p) ly = ap (λ t. bit_xor a (product y t)) (eval-blank y p l
 pub record IsDivided (r : ℕ) (p n : List ℕ) : Type 0 where
   pub leading : HasLeadingOne n
   pub shorter : length n + 1 ≡ length p
+  pub value : eval r (quotient r p) ≡ eval r n
   pub others : (y : ℕ) → y < 256 → (y ≡ r → ⊥) → eval y p ≡ 0 → eval y n ≡ 0
 
 -- division, where the leading 1 is shown
@@ -228,6 +229,7 @@ divided-split r (a ∷ w) p n lr lp split root same =
     record {
       leading = record { others = v; whole = rest };
       shorter = omega (arith, ap length rest, count, long);
+      value = cc (rest, whole, eval-blank r (v ++ 1 ∷ []) lr);
       others = λ y ly n z.
           let value = eval y q in
           let lv = eval-lt y q ly lq in
@@ -293,3 +295,11 @@ value-more_divided r k v m old now some l same value product =
       drop_more old i 0 (omega (arith, some, l)),
       divided-get old (quotient r (drop k old)) i (omega (arith, some, l)),
     )
+
+-- one coefficient more of the value of the quotient
+pub rest-more_divided : (r k v m : ℕ) (old : List ℕ) → 0 < k → k ≤ length old → v ≡ eval r (drop k old) →
+    m ≡ product r (eval r (quotient r (drop k old))) → bit_xor v m ≡ eval r (quotient r (drop (k - 1) old))
+rest-more_divided r k v m old some l value product =
+    let i = k - 1 in
+    let other : i + 1 ≡ k = omega (arith, some) in
+    cc (value, product, other, drop_more old i 0 (omega (arith, some, l)))

@@ -6,7 +6,7 @@ use Rattle.std.proofs.lemmas.List.Elements.{All-drop, All-get_or, All-head, All-
 use Rattle.std.specs.{List.All, Int.Bits.{xor_assoc, xor_zero_l}}
 use Rattle.qr_field.specs.{Galois.product, Steps.Polynomial.value_at, Polynomial.{IsByte, plus, scaled, power}}
 use Rattle.qr_field.proofs.lemmas.galois.{BitLemmas.xor-swap, ProductLemmas.{product-lt, product-xor}}
-use Rattle.qr_field.proofs.lemmas.galois.ByteLemmas.{product-by_zero, product-of_zero, product-of_one}
+use Rattle.qr_field.proofs.lemmas.galois.ByteLemmas.{product-by_zero, product-by_one, product-of_zero, product-of_one}
 use Rattle.qr_field.proofs.lemmas.{logarithm.PowerLemmas.{power-lt, power-add, power-mod}}
 use Rattle.qr_field.proofs.lemmas.galois.FieldLemmas.{product-comm, product-assoc, product-front, product-by_sum}
 use Rattle.qr_mending.specs.Steps.Sums.{dot_of, eval, blend, HasValues}
@@ -33,23 +33,32 @@ pub ruleset field_laws = (
 pub power-next : (i m : ℕ) → power ((i + 1) * m) ≡ product (power m) (power (i * m))
 power-next i m = rw (← power-add m (i * m)) (ap power (omega arith))
 
--- the first multiple of an element, by the exponent of the element
-pub multiple-first : (element l first step e : ℕ) → power l ≡ element → e ≡ (l + first * step) % 255 →
-    power e ≡ product element (power ((first + 0) * step))
-multiple-first element l first step e log h =
-    let none : (first + 0) * step ≡ first * step = omega arith in
-    cc (power-mod (l + first * step), power-add l (first * step), none)
+-- an element times a power, by the exponent of the element
+pub multiple-is : (element l i j e : ℕ) → power l ≡ element → e ≡ (l + i * j) % 255 → power e ≡ product element (power (i * j))
+multiple-is element l i j e log h = cc (power-mod (l + i * j), power-add l (i * j))
+
+-- 0 times a power
+pub multiple-none : (element e : ℕ) → element ≡ 0 → element ≡ product element (power e)
+multiple-none element e h = h ∙ sym (ap (λ t. product t (power e)) h ∙ product-of_zero (power e) (power-lt e))
+
+-- an element times the first power
+pub multiple-same : (element e : ℕ) → element < 256 → e ≡ 0 → element ≡ product element (power e)
+multiple-same element e l h = sym (ap (λ t. product element (power t)) h ∙ product-by_one element l)
+
+-- the first multiple of an element
+pub multiple-first : (element step : ℕ) → element < 256 → element ≡ product element (power (0 * step))
+multiple-first element step l = multiple-same element (0 * step) l (omega arith)
 
 -- the next multiple
-pub multiple-next : (element first k step e s : ℕ) → element < 256 →
-    power e ≡ product element (power ((first + k) * step)) → power s ≡ product (power e) (power step) →
-    power s ≡ product element (power ((first + (k + 1)) * step))
-multiple-next element first k step e s l now next =
-    let exponent : (first + (k + 1)) * step ≡ (first + k) * step + step = omega arith in
+pub multiple-next : (element k step e s : ℕ) → element < 256 →
+    power e ≡ product element (power (k * step)) → power s ≡ product (power e) (power step) →
+    power s ≡ product element (power ((k + 1) * step))
+multiple-next element k step e s l now next =
+    let exponent : (k + 1) * step ≡ k * step + step = omega arith in
     cc (
       exponent,
-      power-add ((first + k) * step) step,
-      product-assoc element (power ((first + k) * step)) (power step) l (power-lt ((first + k) * step)) (power-lt step),
+      power-add (k * step) step,
+      product-assoc element (power (k * step)) (power step) l (power-lt (k * step)) (power-lt step),
     )
 
 -- ---- values
@@ -60,13 +69,6 @@ pub value-more : (i k : ℕ) (p : List ℕ) → 0 < k → k ≤ length p →
 value-more i k p some l =
     let next : k - 1 + 1 ≡ k = omega (arith, some) in
     cc (drop_more p (k - 1) 0 (omega (arith, some, l)), next, length-drop k p)
-
--- a coefficient of 0 does not change the value
-pub value-skip : (i k : ℕ) (p : List ℕ) → 0 < k → k ≤ length p → get_or p (k - 1) 0 ≡ 0 →
-    value_at i (drop (k - 1) p) ≡ value_at i (drop k p)
-value-skip i k p some l none =
-    let place = power (i * (length p - k)) in
-    cc (value-more i k p some l, none, product-of_zero place (power-lt (i * (length p - k))), xor_zero_l (value_at i (drop k p)))
 
 -- a list of values with one value more
 pub values-more : (s : List ℕ) (k v : ℕ) (e : List ℕ) → length s ≡ k → HasValues s e →
@@ -152,18 +154,6 @@ eval-more m k p lp some l =
       product-assoc (power (m * i)) (power m) rest (power-lt (m * i)) (power-lt m) lr,
       product-by_sum (power (m * i)) a (product (power m) rest) (power-lt (m * i)) la (product-lt (power m) rest (power-lt m)),
       product-comm (power (m * i)) a (power-lt (m * i)) la,
-    )
-
--- a coefficient of 0 does not change them
-pub eval-skip : (m k : ℕ) (p : List ℕ) → All IsByte p → 0 < k → k ≤ length p → get_or p (k - 1) 0 ≡ 0 →
-    product (power (m * (k - 1))) (eval (power m) (drop (k - 1) p)) ≡ product (power (m * k)) (eval (power m) (drop k p))
-eval-skip m k p lp some l none =
-    let place = power (m * (k - 1)) in
-    cc (
-      eval-more m k p lp some l,
-      none,
-      product-of_zero place (power-lt (m * (k - 1))),
-      xor_zero_l (product (power (m * k)) (eval (power m) (drop k p))),
     )
 
 -- once all coefficients are terms

@@ -1,5 +1,6 @@
 use Rattle.{std.proofs.Common.{Err, ap, arith}, qr_symbol.specs.declared.fault.ReadFault.ReadFault}
 use Rattle.qr_mending.proofs.lemmas.{mending.MendingLemmas.holds-none, message.MarkLemmas.{by-marks, of-marks}}
+use Rattle.{qr_layout.specs.Version.total_codewords_of, qr_mending.specs.Steps.Message.list_of}
 use Rattle.qr_mending.proofs.mending.mend_with.Goals as goal
 
 pub returns-in-Ok-clause-mended : goal.returns-in-Ok-clause-mended
@@ -11,7 +12,7 @@ returns-in-Ok-clause-mended c =
       record {
         codewords = c.deref.result.now;
         held = rw c.deref.ensures.value c.in_ok-codewords.ensures.read;
-        mended = of-marks c.args.version c.in-Some.level c.args.unknown.now c.deref.result.now c.args.marks.now
+        mended = of-marks c.args.version c.in-Some.level c.args.unknown.now c.deref.result.now (list_of (total_codewords_of c.args.version) c.args.marks.now)
             m.message.items m.changed.items
             (omega arith) (omega arith) many c.requires.erased mended;
       },
@@ -26,6 +27,6 @@ returns-in-Err-Check-clause-mended c =
     let none = holds-none u c.args.matrix.now v c.in-Some.level c.in-Some.mask c.deref.result.now
     (rw value c.in_ok-codewords.ensures.read) (λ message misread h.
     c.in-Err-Check.ensures.refused (ap (λ (f : ReadFault). Err f) c.in-Err-Check.field-0-is) message misread
-    (by-marks v c.in-Some.level u c.deref.result.now c.args.marks.now message misread (omega arith) (omega arith)
+    (by-marks v c.in-Some.level u c.deref.result.now (list_of (total_codewords_of c.args.version) c.args.marks.now) message misread (omega arith) (omega arith)
     (rw (← value) at c.in_ok-codewords.ensures.many) c.requires.erased h)) in
     rw c.in-Some.is none

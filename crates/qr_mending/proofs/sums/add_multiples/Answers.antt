@@ -1,25 +1,23 @@
-use Rattle.std.proofs.Common.{◌≡◌, ◌*◌, get_or, bit_xor, refl, inl, inr, ◌∙◌, arith}
+use Rattle.std.proofs.Common.{◌≡◌, get_or, bit_xor, refl, inl, inr, ◌∙◌, arith}
 use Rattle.std.proofs.lemmas.{Bool.cases_lt, List.{get_or-set_same, get_or-set_other, length-set}}
 use Rattle.qr_mending.proofs.lemmas.sums.SumLemmas.{multiple-first, multiple-next}
 use Rattle.qr_mending.proofs.sums.add_multiples.Goals as goal
 
 pub loop-k-init : goal.loop-k-init
-loop-k-init c =
-    let start : c.from-2.result * c.from-3.result ≡ c.args.first * c.args.step = cc (c.from-2.ensures, c.from-3.ensures) in (
-      omega arith,
-      multiple-first c.args.element c.exponent_of.result c.args.first c.args.step _ c.exponent_of.ensures.element
-          (omega (arith, start)),
-      refl,
-      λ j l. absurd (omega arith),
-      λ j l. refl,
-    )
+loop-k-init c = (
+  c.exponent_of-exponent.ensures.exponent,
+  c.exponent_of-exponent.ensures.element ∙ multiple-first c.args.element c.args.step (omega (arith, c.ranges.element)),
+  refl,
+  λ j l. absurd (omega arith),
+  λ j l. refl,
+)
 
 pub loop-k-preserved : goal.loop-k-preserved
 loop-k-preserved c =
     let k = c.loop-k.k in
     let now = c.loop-k.sums in (
       c.exponent_sum-exponent.ensures.small,
-      multiple-next c.args.element c.args.first k c.args.step c.loop-k.exponent c.exponent_sum-exponent.result (omega arith)
+      multiple-next c.args.element k c.args.step c.loop-k.exponent c.exponent_sum-exponent.result (omega arith)
           c.loop-k.invariant.1 c.exponent_sum-exponent.ensures.power,
       length-set now k (bit_xor (get_or now k 0) c.power_of.result) ∙ c.loop-k.invariant.2,
       λ j l. elim (cases_lt j k) [

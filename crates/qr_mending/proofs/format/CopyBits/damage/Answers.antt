@@ -1,0 +1,12 @@
+use Rattle.qr_mending.specs.Format.{copy_bit}
+use Rattle.qr_mending.proofs.lemmas.format.FormatLemmas.{bits-counted, misread-counted}
+use Rattle.qr_mending.proofs.format.CopyBits.damage.Goals as goal
+
+pub returns-clause-unread : goal.returns-clause-unread
+returns-clause-unread c = λ u g copy h.
+    bits-counted c.args.self.unread c.count_bits.result (copy_bit copy u) c.count_bits.ensures.value h.unread
+
+pub returns-clause-misread : goal.returns-clause-misread
+returns-clause-misread c = λ u g copy h.
+    misread-counted c.args.self.dark c.args.word c.args.self.unread c.count_bits-2.result (copy_bit copy g) (copy_bit copy u)
+    c.count_bits-2.ensures.value h.dark h.unread
