@@ -2,6 +2,7 @@
 //! modules in which two squares differ.
 #![tactic(auto)]
 
+mod adders;
 mod bit_row;
 mod bytes;
 mod dark_runs;

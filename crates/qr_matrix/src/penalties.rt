@@ -121,6 +121,8 @@ impl MatrixPair {
             windows,
             dark,
         } = count_all(self);
+        let (runs, squares) = (runs.parts(), squares.parts());
+        let (windows, dark) = (windows.parts(), dark.parts());
         let first = Counted {
             runs: runs.0,
             squares: squares.0,
