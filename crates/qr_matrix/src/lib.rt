@@ -2,6 +2,7 @@
 //! modules in which two squares differ.
 #![tactic(auto)]
 
+mod adders;
 mod bit_row;
 mod bytes;
 mod dark_runs;
@@ -22,5 +23,6 @@ pub use bytes::{matrices_of_bytes, matrix_of_bytes, write_square};
 pub use dark_runs::{DarkRuns, Run};
 pub use difference::differences;
 pub use matrix::Matrix;
-pub use matrix_pair::MatrixPair;
+pub use matrix_pair::{MatrixPair, light_rows};
 pub use penalties::penalty;
+pub use row_pair::RowPair;

@@ -1,7 +1,7 @@
 //! Two squares of one side, on whose modules one operation works at once.
 
-ghost use Rattle.std.specs.Prelude.{◌≡◌, ℕ, Bool, ◌%◌, ◌<◌, ◌≤◌, ◌&&◌, not, true, false, length, if◌then◌else◌};
-ghost use Rattle.qr_matrix.specs.Grid.{colour, light, one_of, painted, with_row};
+ghost use Rattle.std.specs.Prelude.{◌≡◌, ℕ, Bool, ◌%◌, ◌<◌, ◌≤◌, ◌&&◌, ◌==◌, not, true, false, length, if◌then◌else◌};
+ghost use Rattle.qr_matrix.specs.Grid.{colour, light, one_of, painted, square, with_row, IsSquare};
 ghost use Rattle.qr_matrix.specs.BitRow.{dark_in, has, has_bit};
 ghost use Rattle.qr_matrix.specs.Steps.{lane, lanes, NeedsWords};
 
@@ -11,17 +11,15 @@ use crate::row_pair::RowPair;
 use crate::rows::{Rows, Squares, words_for};
 use std::marker::Model;
 
-const MOST_ROWS: usize = 177;
-
-/// Two squares of 1 to 177 modules on a side, in 8.5 KB. Contracts see them as two grids.
+/// Two squares of 1 to 177 modules on a side, in rows that the caller lends. Contracts see them as two grids.
 #[derive(Drop)]
-pub struct MatrixPair {
+pub struct MatrixPair<'a> {
     side: u8,
     // From the top down; those after row `side - 1` are not used. In the others no bit outside the squares is set.
-    rows: [RowPair; MOST_ROWS],
+    rows: &'a mut [RowPair],
 }
 
-impl Model for MatrixPair {
+impl<'a> Model for MatrixPair<'a> {
     ghost use Rattle.std.specs.Prelude.{◌≡◌, ℕ, Bool, ◌≤◌, true, false, length};
     ghost use Rattle.qr_matrix.specs.Grid.{GridPair, square};
     ghost use Rattle.qr_matrix.specs.BitRow.{dark_in};
@@ -30,32 +28,33 @@ impl Model for MatrixPair {
     ghost Value = { GridPair };
 
     ghost view = { λ p. record {
-      first = square p.side (dark_in (lanes p.rows false));
-      second = square p.side (dark_in (lanes p.rows true));
+      first = square p.side (dark_in (lanes p.rows.now false));
+      second = square p.side (dark_in (lanes p.rows.now true));
     } };
 
-    ghost invariant = { λ p. (1 ≤ p.side) × (p.side ≤ 177) × (length p.rows ≡ 177)
-        × ((second : Bool) (r c : ℕ) → p.side ≤ c → dark_in (lanes p.rows second) r c ≡ false) };
+    ghost invariant = { λ p. (1 ≤ p.side) × (p.side ≤ 177) × (p.side ≤ length p.rows.now) × (length p.rows.now ≤ 177)
+        × ((second : Bool) (r c : ℕ) → p.side ≤ c → dark_in (lanes p.rows.now second) r c ≡ false) };
 }
 
-fn light_rows() -> [RowPair; MOST_ROWS]
-    ensures long { length result ≡ 177 }
+/// Returns rows of light modules, for a `MatrixPair` of at most `ROWS` modules on a side.
+pub fn light_rows<const ROWS: usize>() -> [RowPair; ROWS]
+    ensures long { length result ≡ ROWS }
     ensures light { (second : Bool) (r c : ℕ) → dark_in (lanes result second) r c ≡ false }
 {
-    [<RowPair as Rows>::empty(); MOST_ROWS]
+    [<RowPair as Rows>::empty(); ROWS]
 }
 
-impl MatrixPair {
-    /// Returns two squares of light modules.
-    pub fn new(side: u8) -> MatrixPair
+impl<'a> MatrixPair<'a> {
+    /// Returns two squares of light modules in `rows`, which `light_rows` returns.
+    pub fn new(side: u8, rows: &'a mut [RowPair]) -> MatrixPair<'a>
         requires least { 1 ≤ side }
         requires most { side ≤ 177 }
+        requires room { side ≤ length rows.old }
+        requires most_rows { length rows.old ≤ 177 }
+        requires light { (second : Bool) (r c : ℕ) → dark_in (lanes rows.old second) r c ≡ false }
         ensures { (second : Bool) → one_of result second ≡ light side }
     {
-        MatrixPair {
-            side,
-            rows: light_rows(),
-        }
+        MatrixPair { side, rows }
     }
 
     /// Returns the number of modules on a side, from 1 to 177.
@@ -90,52 +89,89 @@ impl MatrixPair {
     }
 
     #[inline(always)]
-    fn set_row_masked_in(
+    fn set_row_masked(
         &mut self,
         row: u8,
         plain: &Matrix,
         within: &Matrix,
-        patterns: (u8, u8),
+        pattern: RowPair,
         words: u8,
     )
         requires row_in { row < self.old.first.side }
         requires plain_side { plain.now.side ≡ self.old.first.side }
         requires within_side { within.now.side ≡ self.old.first.side }
-        requires patterns_in { (patterns.0 < 64) × (patterns.1 < 64) }
         requires width { NeedsWords self.old.first.side words }
         ensures { (second : Bool) → one_of self.new second ≡ with_row (one_of self.old second) row
-            (λ c. if colour within.now row c && has_bit (if second then patterns.1 else patterns.0) (c % 6)
+            (λ c. if colour within.now row c && has (lane pattern second) c
             then not (colour plain.now row c) else colour plain.now row c) }
     {
         let index = usize::from(row);
         let plain = plain.bit_row_in(index, words);
         let within = within.bit_row_in(index, words);
-        let inverted = RowPair::of(within, within).and(RowPair::of(
-            BitRow::repeated(patterns.0),
-            BitRow::repeated(patterns.1),
-        ));
+        let inverted = RowPair::of(within, within).and(pattern);
         self.set_row(row, RowPair::of(plain, plain).xor(inverted));
     }
 
-    /// Sets row `row` of each square as `Matrix::set_row_masked` does, by its part of `patterns`.
-    pub fn set_row_masked(&mut self, row: u8, plain: &Matrix, within: &Matrix, patterns: (u8, u8))
-        requires row_in { row < self.old.first.side }
+    #[inline(always)]
+    fn set_rows_masked_in(
+        &mut self,
+        first: u8,
+        plain: &Matrix,
+        within: &Matrix,
+        patterns: (u8, u8),
+        words: u8,
+    )
+        requires first_in { first < 12 }
+        requires squares { (second : Bool) → IsSquare self.old.first.side (one_of self.old second) }
         requires plain_side { plain.now.side ≡ self.old.first.side }
         requires within_side { within.now.side ≡ self.old.first.side }
         requires patterns_in { (patterns.0 < 64) × (patterns.1 < 64) }
-        ensures { (second : Bool) → one_of self.new second ≡ with_row (one_of self.old second) row
-            (λ c. if colour within.now row c && has_bit (if second then patterns.1 else patterns.0) (c % 6)
-            then not (colour plain.now row c) else colour plain.now row c) }
+        requires width { NeedsWords self.old.first.side words }
+        ensures { (second : Bool) → one_of self.new second ≡ square self.old.first.side
+            (λ r c. if r % 12 == first then (if colour within.now r c
+            && has_bit (if second then patterns.1 else patterns.0) (c % 6)
+            then not (colour plain.now r c) else colour plain.now r c) else colour (one_of self.old second) r c) }
+    {
+        let pattern = RowPair::of(
+            BitRow::repeated(patterns.0),
+            BitRow::repeated(patterns.1),
+        );
+        let side = self.side();
+        let mut row = first;
+        while row < side {
+            self.set_row_masked(row, plain, within, pattern, words);
+            row += 12;
+        }
+    }
+
+    /// Sets every twelfth row from row `first` on, in each square as `Matrix::set_row_masked` does, by its part of
+    /// `patterns`.
+    pub fn set_rows_masked(
+        &mut self,
+        first: u8,
+        plain: &Matrix,
+        within: &Matrix,
+        patterns: (u8, u8),
+    )
+        requires first_in { first < 12 }
+        requires squares { (second : Bool) → IsSquare self.old.first.side (one_of self.old second) }
+        requires plain_side { plain.now.side ≡ self.old.first.side }
+        requires within_side { within.now.side ≡ self.old.first.side }
+        requires patterns_in { (patterns.0 < 64) × (patterns.1 < 64) }
+        ensures { (second : Bool) → one_of self.new second ≡ square self.old.first.side
+            (λ r c. if r % 12 == first then (if colour within.now r c
+            && has_bit (if second then patterns.1 else patterns.0) (c % 6)
+            then not (colour plain.now r c) else colour plain.now r c) else colour (one_of self.old second) r c) }
     {
         match words_for(self.side) {
-            1 => self.set_row_masked_in(row, plain, within, patterns, 1),
-            2 => self.set_row_masked_in(row, plain, within, patterns, 2),
-            _ => self.set_row_masked_in(row, plain, within, patterns, 3),
+            1 => self.set_rows_masked_in(first, plain, within, patterns, 1),
+            2 => self.set_rows_masked_in(first, plain, within, patterns, 2),
+            _ => self.set_rows_masked_in(first, plain, within, patterns, 3),
         }
     }
 }
 
-impl Squares for MatrixPair {
+impl<'a> Squares for MatrixPair<'a> {
     type Row = RowPair;
 
     ghost size = { λ pair. pair.first.side };

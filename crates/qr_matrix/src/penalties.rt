@@ -108,7 +108,7 @@ pub fn penalty(m: &Matrix) -> u32
     points(m.side(), count_all(m))
 }
 
-impl MatrixPair {
+impl<'a> MatrixPair<'a> {
     /// Returns the penalties of both squares, as `penalty` does.
     pub fn penalties(&self) -> (u32, u32)
         ensures first { result.0 ≡ penalty_of self.now.first.side (colour self.now.first) }
@@ -121,6 +121,8 @@ impl MatrixPair {
             windows,
             dark,
         } = count_all(self);
+        let (runs, squares) = (runs.parts(), squares.parts());
+        let (windows, dark) = (windows.parts(), dark.parts());
         let first = Counted {
             runs: runs.0,
             squares: squares.0,

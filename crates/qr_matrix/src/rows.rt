@@ -56,6 +56,10 @@ pub(crate) trait Rows: Copy {
     fn zeros() -> Self::Counts
         ensures { (second : Bool) → number result second ≡ 0 };
 
+    fn doubled(counts: Self::Counts) -> Self::Counts
+        requires { (second : Bool) → number counts second ≤ 1000000 }
+        ensures { (second : Bool) → number result second ≡ 2 * number counts second };
+
     // Adds to `counts` how many bits are set.
     fn add_to(self, counts: Self::Counts) -> Self::Counts
         requires { (second : Bool) → number counts second ≤ 1000000 }
@@ -149,6 +153,11 @@ impl Rows for BitRow {
     #[inline(always)]
     fn zeros() -> u32 {
         0
+    }
+
+    #[inline(always)]
+    fn doubled(counts: u32) -> u32 {
+        2 * counts
     }
 
     #[inline(always)]

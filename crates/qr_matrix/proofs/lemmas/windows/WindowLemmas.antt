@@ -1,9 +1,9 @@
 -- The windows of rows and columns, found and counted on bit rows.
-use Rattle.std.proofs.Common.{◌≡◌, ℕ, ◌+◌, ◌<◌, ◌≤◌, ltb, leb, Bool, true, false, not, ◌&&◌, ◌||◌, cond, refl, sym, ap, ◌∙◌, arith}
+use Rattle.std.proofs.Common.{◌≡◌, ℕ, ◌+◌, ◌<◌, ◌≤◌, ltb, leb, Bool, true, false, not, ◌&&◌, ◌||◌, cond, sym, ap, ◌∙◌, arith}
 use Rattle.{std.proofs.lemmas.Bool.Decides.nat_tests, qr_matrix.proofs.lemmas.bit_row.BoolLemmas.{and-false, false-and}}
 use Rattle.qr_matrix.specs.{Steps.set_count, Sums.count_below, Sums.sum_below}
 use Rattle.qr_matrix.specs.Penalty.{finder_ratio, four_light, reads, is_window, window_count}
-use Rattle.qr_matrix.proofs.lemmas.{bit_row.SumLemmas.{count_below-cut, sum_below-swap}, runs.RowLemmas.size-is, runs.ColumnLemmas.guarded-size, windows.ReadingLemmas.window-is}
+use Rattle.qr_matrix.proofs.lemmas.{bit_row.SumLemmas.{sum_below-swap}, runs.RowLemmas.size-is, runs.ColumnLemmas.guarded-size, windows.ReadingLemmas.window-is}
 
 -- in a row, the tests of the ratio before and after four light modules find the windows
 pub window-bit : (s : ℕ) (line core four : ℕ → Bool) (c : ℕ) → ((m : ℕ) → core m ≡ (leb (m + 7) s && reads line m finder_ratio))
@@ -58,21 +58,3 @@ windows-down-row s dark r bit l h = guarded-size s bit (λ c. is_window s (λ i.
 pub windows-are-columns : (s : ℕ) (dark : ℕ → ℕ → Bool) → sum_below s (λ r. count_below s (λ c. is_window s (λ i. dark i c) r)) ≡ sum_below s (λ c. window_count s (λ r. dark r c))
 unfolding window_count
 windows-are-columns s dark = sum_below-swap s s (λ r c. cond (is_window s (λ i. dark i c) r) 1 0)
-
--- a row without bits has none to count
-none-of : (bit : ℕ → Bool) → ((c : ℕ) → bit c ≡ false) → set_count bit ≡ 0
-unfolding set_count
-none-of bit h = count_below-cut 192 0 bit (λ _. false) (omega arith) (λ c _. h c) (λ _ _. refl)
-
--- nor have two rows, if their union has none
-pub both-none : (e bit other : ℕ → Bool) → ((c : ℕ) → e c ≡ (bit c || other c)) → ((c : ℕ) → e c ≡ false) → set_count bit + set_count other ≡ 0
-both-none e bit other h n =
-    let p = none-of bit (λ c. first (bit c) (other c) (sym (h c) ∙ n c)) in
-    let q = none-of other (λ c. last (bit c) (other c) (sym (h c) ∙ n c)) in
-    omega arith
-  where
-    first : (a b : Bool) → (a || b) ≡ false → a ≡ false
-    first a b e = grind (arith, nat_tests)
-
-    last : (a b : Bool) → (a || b) ≡ false → b ≡ false
-    last a b e = grind (arith, nat_tests)

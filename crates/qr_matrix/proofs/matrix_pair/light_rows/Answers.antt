@@ -3,4 +3,4 @@ use Rattle.qr_matrix.proofs.lemmas.row_pair.PairLemmas.{dark-lanes}
 use Rattle.qr_matrix.proofs.matrix_pair.light_rows.Goals as goal
 
 pub returns-clause-light : goal.returns-clause-light
-returns-clause-light c = λ s. dark-lanes 177 _ c.empty.result s refl (c.empty.ensures s)
+returns-clause-light g c = λ s. dark-lanes g.row.ROWS _ c.empty.result s refl (c.empty.ensures s)

@@ -15,7 +15,7 @@ loop-row-preserved c =
     let i = c.loop-row.invariant in record {
       last = i.last;
       side = ap (λ (g : Grid). g.side) c.set_row_masked.ensures ∙ i.side;
-      so_far = c.set_row_masked.ensures ∙ fill-line _ (λ (r k : ℕ). inverted (colour _ r k && inverts _ r k) (colour _ r k)) _ row _ _ i.so_far (λ k l. ap (λ (z : Bool). inverted (colour c.args.region.now row k && z) (colour c.args.plain.now row k)) (c.pattern.ensures.value k));
+      so_far = c.set_row_masked.ensures ∙ fill-line _ (λ (r k : ℕ). inverted (colour _ r k && inverts _ r k) (colour _ r k)) _ row _ _ i.so_far (λ k l. ap (λ (z : Bool). inverted (colour c.args.region.now row k && z) (colour c.args.plain.now row k)) (c.pattern.ensures.value row k refl));
     }
 
 pub returns : goal.returns

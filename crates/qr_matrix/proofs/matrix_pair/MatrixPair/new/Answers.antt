@@ -5,5 +5,5 @@ use Rattle.qr_matrix.proofs.matrix_pair.MatrixPair.new.Goals as goal
 
 pub returns : goal.returns
 returns c = λ s.
-    let rows = c.light_rows.result in
-    one-view c.args.side rows s ∙ light-square c.args.side (lanes rows s) (c.light_rows.ensures.light s)
+    let rows = c.args.rows.now in
+    one-view c.args.side rows s ∙ light-square c.args.side (lanes rows s) (c.requires.light s)

@@ -2,17 +2,17 @@ use Rattle.std.proofs.Common.{◌≡◌, ◌+◌, ◌*◌, ℕ, false, ◌∙◌
 use Rattle.qr_matrix.specs.Grid.{light}
 use Rattle.qr_symbol.proofs.lemmas.{choice.ChoiceLemmas.least-start, placement.PlacementLemmas.square-is}
 use Rattle.qr_symbol.specs.{Choice.IsFirstLeast, Steps.Placement.masked_penalty}
-use Rattle.qr_symbol.proofs.choice.best_mask.Goals as goal
+use Rattle.qr_symbol.proofs.choice.best_mask_in.Goals as goal
 
 pub try_masks-requires-clause-squares : goal.try_masks-requires-clause-squares
-try_masks-requires-clause-squares c = λ s. square-is _ (λ _ _. false) _ (c.new-pair.ensures s ∙ ap light c.side.ensures.value)
+try_masks-requires-clause-squares g c = λ s. square-is _ (λ _ _. false) _ (c.new-pair.ensures s ∙ ap light c.side.ensures.value)
 
 -- a candidate has the penalty of its mask
 own : (f : ℕ → ℕ) (m n p : ℕ) → m ≡ n → p ≡ f n → p ≡ f m
 own f m n p e h = h ∙ ap f (sym e)
 
 pub loop-half-init : goal.loop-half-init
-loop-half-init c =
+loop-half-init g c =
     let k = c.args.canvas.now in
     let f = masked_penalty k.version k.level k.region k.plain in
     let m = c.try_masks.ensures in
@@ -21,7 +21,7 @@ loop-half-init c =
     record { squares = m.squares; best = subst (λ n. IsFirstLeast (n + 1) f c.better-best.result.mask) m.masks.1 b.0; least = b.1 }
 
 pub loop-half-preserved : goal.loop-half-preserved
-loop-half-preserved c =
+loop-half-preserved g c =
     let k = c.args.canvas.now in
     let f = masked_penalty k.version k.level k.region k.plain in
     let m = c.try_masks-in-loop-half.ensures in

@@ -1,0 +1,2 @@
+-- Full adders on bit rows.
+pub mod AdderLemmas

@@ -1,0 +1,29 @@
+//! Adds bit rows column by column, as full adders do, so that one count stands for the bits of several rows.
+
+ghost use Rattle.std.specs.Prelude.{◌≡◌, ℕ, Bool, ◌+◌, ◌*◌, ◌≤◌};
+ghost use Rattle.qr_matrix.specs.Steps.{set_count};
+
+use crate::rows::Rows;
+
+// A full adder for each column: the bits of three rows are as many as those of the first returned row and twice those of
+// the second.
+#[inline(always)]
+pub(crate) fn added<R: Rows>(a: R, b: R, c: R) -> (R, R)
+    ensures { (second : Bool) → set_count (R.bit a second) + set_count (R.bit b second) + set_count (R.bit c second)
+        ≡ set_count (R.bit result.0 second) + 2 * set_count (R.bit result.1 second) }
+{
+    let either = a.xor(b);
+    (either.xor(c), a.and(b).or(either.and(c)))
+}
+
+// As `Rows::add_to`, for a row that mostly is empty, so that one test takes less than the count.
+#[inline(always)]
+pub(crate) fn add_rare<R: Rows>(row: R, counts: R::Counts) -> R::Counts
+    requires { (second : Bool) → R.number counts second ≤ 1000000 }
+    ensures { (second : Bool) → R.number result second ≡ R.number counts second + set_count (R.bit row second) }
+{
+    if row.is_empty() {
+        return counts;
+    }
+    row.add_to(counts)
+}
