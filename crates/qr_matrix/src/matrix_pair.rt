@@ -132,10 +132,7 @@ impl<'a> MatrixPair<'a> {
             && has_bit (if second then patterns.1 else patterns.0) (c % 6)
             then not (colour plain.now r c) else colour plain.now r c) else colour (one_of self.old second) r c) }
     {
-        let pattern = RowPair::of(
-            BitRow::repeated(patterns.0),
-            BitRow::repeated(patterns.1),
-        );
+        let pattern = RowPair::of(BitRow::repeated(patterns.0), BitRow::repeated(patterns.1));
         let side = self.side();
         let mut row = first;
         while row < side {

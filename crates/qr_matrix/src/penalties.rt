@@ -7,6 +7,7 @@ ghost use Rattle.qr_matrix.specs.Sums.{places_passing};
 ghost use Rattle.qr_matrix.specs.Penalty.{penalty_of};
 ghost use Rattle.qr_matrix.specs.Steps.{IsCounted, NeedsWords};
 
+use crate::adders::added;
 use crate::matrix::Matrix;
 use crate::matrix_pair::MatrixPair;
 use crate::rows::{Rows, Squares, words_for};
@@ -21,14 +22,34 @@ const WINDOW_POINTS: u32 = 40;
 // For each whole 5 % by which the share of dark modules differs from a half.
 const BALANCE_POINTS: u32 = 10;
 
+// Four rows are added before they are counted, and those that are left are counted one by one.
+#[inline(never)]
 fn dark_count<S: Squares, const WORDS: u8>(squares: &S) -> <S::Row as Rows>::Counts
     requires width { NeedsWords (S.size squares.now) WORDS }
     ensures value { (second : Bool) → S.Row.number result second
         ≡ places_passing (S.size squares.now) (S.dark squares.now second) }
     ensures bound { (second : Bool) → S.Row.number result second ≤ 192 * 177 }
 {
-    let mut total = S::Row::zeros();
-    for row in 0..usize::from(squares.side()) {
+    let side = usize::from(squares.side());
+    let (mut ones, mut twos) = (S::Row::empty(), S::Row::empty());
+    let mut fours = S::Row::zeros();
+    for quarter in 0..side / 4 {
+        let row = 4 * quarter;
+        let (a, b) = (squares.row_in(row, WORDS), squares.row_in(row + 1, WORDS));
+        let (upper, carry) = added(a, b, ones);
+        let (a, b) = (
+            squares.row_in(row + 2, WORDS),
+            squares.row_in(row + 3, WORDS),
+        );
+        let (lower, other) = added(a, b, upper);
+        let (sum, carries) = added(carry, other, twos);
+        ones = lower;
+        twos = sum;
+        fours = carries.add_to(fours);
+    }
+    let pairs = twos.add_to(S::Row::doubled(fours));
+    let mut total = ones.add_to(S::Row::doubled(pairs));
+    for row in side / 4 * 4..side {
         total = squares.row_in(row, WORDS).add_to(total);
     }
     total
@@ -121,8 +142,6 @@ impl<'a> MatrixPair<'a> {
             windows,
             dark,
         } = count_all(self);
-        let (runs, squares) = (runs.parts(), squares.parts());
-        let (windows, dark) = (windows.parts(), dark.parts());
         let first = Counted {
             runs: runs.0,
             squares: squares.0,

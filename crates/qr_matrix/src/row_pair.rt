@@ -1,7 +1,6 @@
 //! The bit rows of two squares, side by side in vectors, on which one operation works on 64 modules of each square.
 
-ghost use Rattle.std.specs.Prelude.{◌≡◌, ℕ, Bool, List, ◌+◌, ◌-◌, ◌*◌, ◌/◌, ◌%◌, ◌<◌, ◌≤◌, ◌&&◌, ◌||◌, ◌==◌, not, true, false, nat_lt, if◌then◌else◌, map};
-ghost use Rattle.std.specs.Int.RustNames.{count_ones};
+ghost use Rattle.std.specs.Prelude.{◌≡◌, ℕ, Bool, List, ◌+◌, ◌-◌, ◌*◌, ◌/◌, ◌%◌, ◌<◌, ◌≤◌, ◌&&◌, ◌||◌, ◌==◌, not, true, false, nat_lt, if◌then◌else◌};
 ghost use Rattle.qr_matrix.specs.Grid.{is_same};
 ghost use Rattle.qr_matrix.specs.BitRow.{has, has_bit};
 ghost use Rattle.qr_matrix.specs.Steps.{lane, word_of, IsPair};
@@ -75,6 +74,20 @@ impl RowPair {
         }
     }
 
+    #[inline(always)]
+    fn parts(self) -> (BitRow, BitRow)
+        ensures first { (c : ℕ) → has result.0 c ≡ has (lane self false) c }
+        ensures second { (c : ℕ) → has result.1 c ≡ has (lane self true) c }
+    {
+        let a = self.low.to_array();
+        let b = self.middle.to_array();
+        let c = self.high.to_array();
+        (
+            BitRow::of([a[0], b[0], c[0]]),
+            BitRow::of([a[1], b[1], c[1]]),
+        )
+    }
+
     // Sets bit `index` of each row, or clears it.
     #[inline(always)]
     pub(crate) fn put(&mut self, index: u8, dark: (bool, bool))
@@ -105,51 +118,12 @@ fn with_bit(words: u64x2, at: u8, dark: (bool, bool)) -> u64x2
     words & u64x2::splat(!(1u64 << at)) | bits
 }
 
-// How many bits of each word are set.
-#[inline(always)]
-fn ones_of(words: u64x2) -> u64x2
-    ensures { result ≡ map count_ones words }
-{
-    words.count_ones()
-}
-
-// A number for each of two squares.
-#[derive(Clone, Copy)]
-pub(crate) struct PairCounts {
-    both: u64x2,
-}
-
-impl Model for PairCounts {
-    ghost use Rattle.std.specs.Prelude.{ℕ, List};
-    ghost use Rattle.qr_matrix.specs.Steps.{IsPair};
-
-    ghost Value = { List ℕ };
-
-    ghost view = { λ counts. counts.both };
-
-    ghost invariant = { λ counts. IsPair counts.both };
-
-    ghost inverse = { λ words. record { both = words } };
-}
-
-impl PairCounts {
-    #[inline(always)]
-    pub(crate) fn parts(self) -> (u32, u32)
-        requires { (second : Bool) → word_of self second ≤ 1000000 }
-        ensures first { result.0 ≡ word_of self false }
-        ensures second { result.1 ≡ word_of self true }
-    {
-        let counts = self.both.to_array();
-        (counts[0] as u32, counts[1] as u32)
-    }
-}
-
 impl Rows for RowPair {
-    type Counts = PairCounts;
+    type Counts = (u32, u32);
 
     ghost bit = { λ pairs second. has (lane pairs second) };
 
-    ghost number = { λ counts second. word_of counts second };
+    ghost number = { λ counts second. if second then counts.1 else counts.0 };
 
     #[inline(always)]
     fn empty() -> RowPair {
@@ -221,26 +195,18 @@ impl Rows for RowPair {
     }
 
     #[inline(always)]
-    fn zeros() -> PairCounts {
-        PairCounts {
-            both: u64x2::splat(0),
-        }
+    fn zeros() -> (u32, u32) {
+        (0, 0)
     }
 
     #[inline(always)]
-    fn doubled(counts: PairCounts) -> PairCounts {
-        PairCounts {
-            both: counts.both + counts.both,
-        }
+    fn doubled(counts: (u32, u32)) -> (u32, u32) {
+        (2 * counts.0, 2 * counts.1)
     }
 
-    // Counts in vectors: processors without an instruction that counts bits have to add parts of words, which takes no
-    // more for two words than for one.
     #[inline(always)]
-    fn add_to(self, counts: PairCounts) -> PairCounts {
-        let ones = ones_of(self.low) + ones_of(self.middle) + ones_of(self.high);
-        PairCounts {
-            both: counts.both + ones,
-        }
+    fn add_to(self, counts: (u32, u32)) -> (u32, u32) {
+        let (first, second) = self.parts();
+        (counts.0 + first.count(), counts.1 + second.count())
     }
 }

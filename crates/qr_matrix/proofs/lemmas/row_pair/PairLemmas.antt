@@ -1,6 +1,6 @@
 -- Operations on the words of two bit rows at once.
-use Rattle.std.proofs.Common.{◌≡◌, ◌≢◌, ◌⊎◌, inl, inr, w64, ℕ, ◌+◌, ◌-◌, ◌*◌, ◌/◌, ◌%◌, ◌^◌, ◌<◌, ◌≤◌, List, [], ◌∷◌, length, get_or, set, replicate, Bool, true, false, not, ◌&&◌, ◌||◌, cond, ltb, eqb, bit_and, bit_or, bit_xor, count_ones, map, refl, sym, ap, ◌∙◌, arith}
-use Rattle.std.proofs.lemmas.Nat.{or_lt, xor_lt, le_or_l, le_or_r, ones-le}
+use Rattle.std.proofs.Common.{◌≡◌, ◌≢◌, ◌⊎◌, inl, inr, w64, ℕ, ◌+◌, ◌-◌, ◌*◌, ◌/◌, ◌%◌, ◌^◌, ◌<◌, ◌≤◌, List, [], ◌∷◌, length, get_or, set, replicate, Bool, true, false, not, ◌&&◌, ◌||◌, cond, ltb, eqb, bit_and, bit_or, bit_xor, refl, sym, ap, ◌∙◌, arith}
+use Rattle.std.proofs.lemmas.Nat.{or_lt, xor_lt, le_or_l, le_or_r}
 use Rattle.std.proofs.Math.Nat.{div-le_self}
 use Rattle.std.proofs.lemmas.List.{get_or-map, get_or-replicate, length-map, length-replicate, map-set}
 use Rattle.qr_matrix.proofs.lemmas.matrix.MatrixLemmas.{dark-under}
@@ -14,7 +14,7 @@ use lib.Lanes.{zip2}
 use mir.Val.{bool_byte}
 use Rattle.qr_matrix.proofs.lemmas.runs.ColumnLemmas.{has-nothing}
 use Rattle.qr_matrix.specs.{Grid.{Grid, GridPair, is_same, one_of, square}, Steps.{IsPair, lane, lanes, set_count, size_of, word_of}, BitRow.{has, has_bit, bit_row_number, dark_in}}
-use Rattle.qr_matrix.proofs.lemmas.bit_row.{WordLemmas.{three-and, three-or, three-xor, three-down, three-up, three-ones, three-below}, PlaceLemmas.{has_bit-low, has_bit-middle, has_bit-high, and-small, has_bit-and, has_bit-or, has_bit-xor, has_bit-shr, has_bit-up, ones-count}}
+use Rattle.qr_matrix.proofs.lemmas.bit_row.{SumLemmas.count_below-same, WordLemmas.{three-and, three-or, three-xor, three-down, three-up}, PlaceLemmas.{has_bit-low, has_bit-middle, has_bit-high, and-small, has_bit-and, has_bit-or, has_bit-xor, has_bit-shr, has_bit-up}}
 
 -- ---- one operation on two words
 
@@ -125,45 +125,10 @@ module _ (a b d : List ℕ) (s : Bool) (pa : IsPair a) (pb : IsPair b) (pd : IsP
 
 -- ---- counts
 
--- the bits of each word of a pair, counted
-ones-word : (a : List ℕ) (s : Bool) → length a ≡ 2 → word_of (map count_ones a) s ≡ count_ones (word_of a s)
-ones-word a false l = get_or-map count_ones a 0 0 0 (omega arith)
-ones-word a true l = get_or-map count_ones a 1 0 0 (omega arith)
-
--- a sum that wraps
-abbrev pub wrapped : ℕ → ℕ → ℕ
-wrapped x y = (x + y) % 2 ^ 64
-
-pub wrapped-pair : (a b : List ℕ) → length a ≡ 2 → length b ≡ 2 → IsPair (zip2 wrapped a b)
-wrapped-pair a b l m = zip-pair wrapped a b l m (λ s. small (word_of a s + word_of b s))
-  where
-    small : (n : ℕ) → n % 2 ^ 64 < 2 ^ 64
-    small n = omega arith
-
--- the counts of the words of two rows, and of the words of each row together
-abbrev pub counts-of : List ℕ → List ℕ → List ℕ → List ℕ
-counts-of a b d = zip2 wrapped (zip2 wrapped (map count_ones a) (map count_ones b)) (map count_ones d)
-
-pub counts-pair : (a b d : List ℕ) → IsPair a → IsPair b → IsPair d → IsPair (counts-of a b d)
-counts-pair a b d pa pb pd =
-    let e = wrapped-pair (map count_ones a) (map count_ones b) (length-map a count_ones ∙ pa.0) (length-map b count_ones ∙ pb.0) in
-    wrapped-pair _ (map count_ones d) e.0 (length-map d count_ones ∙ pd.0)
-
-pub counts-word : (n a b d : List ℕ) (s : Bool) → length n ≡ 2 → IsPair a → IsPair b → IsPair d → word_of n s ≤ 1000000
-    → word_of (zip2 wrapped n (counts-of a b d)) s ≡ word_of n s + size_of (lane (a ∷ b ∷ d ∷ []) s)
-unfolding set_count has bit_row_number lane
-counts-word n a b d s l pa pb pd few =
-    let p = counts-pair a b d pa pb pd in
-    let q = wrapped-pair (map count_ones a) (map count_ones b) (length-map a count_ones ∙ pa.0) (length-map b count_ones ∙ pb.0) in
-    let e = zip-word wrapped n (counts-of a b d) s l p.0 in
-    let f = zip-word wrapped (zip2 wrapped (map count_ones a) (map count_ones b)) (map count_ones d) s q.0 (length-map d count_ones ∙ pd.0) in
-    let h = zip-word wrapped (map count_ones a) (map count_ones b) s (length-map a count_ones ∙ pa.0) (length-map b count_ones ∙ pb.0) in
-    let i = no-wrap (word_of n s) _ _ _ _ _ (ones-le 64 (word_of a s) (word-small a s pa)) (ones-le 64 (word_of b s) (word-small b s pb)) (ones-le 64 (word_of d s) (word-small d s pd)) few (h ∙ (λ j. wrapped (ones-word a s pa.0 j) (ones-word b s pb.0 j))) (f ∙ ap (wrapped _) (ones-word d s pd.0)) in
-    e ∙ (i ∙ ap (λ z. word_of n s + z) (three-ones (word_of a s) (word_of b s) (word_of d s) (word-small a s pa) (word-small b s pb)
-    ∙ ones-count 192 (bit_row_number (lane (a ∷ b ∷ d ∷ []) s)) (three-below (word_of a s) (word_of b s) (word_of d s) (word-small a s pa) (word-small b s pb) (word-small d s pd))))
-  where
-    no-wrap : (n x y z u v : ℕ) → x ≤ 64 → y ≤ 64 → z ≤ 64 → n ≤ 1000000 → u ≡ wrapped x y → v ≡ wrapped u z → wrapped n v ≡ n + (x + y + z)
-    no-wrap n x y z u v lx ly lz ln e f = omega arith
+-- a bit row has as many bits as a test that its bits are passes
+pub count-same : (words : List ℕ) (bit : ℕ → Bool) → ((c : ℕ) → has words c ≡ bit c) → size_of words ≡ set_count bit
+unfolding set_count
+count-same words bit h = count_below-same 192 (has words) bit (λ c _. h c)
 
 -- ---- one bit of each word
 

@@ -8,7 +8,7 @@ invariant-loop-row g l =
     let dark = g.S.Squares.dark l.squares in
     let bit = g.S.Row.Rows.bit in
     record {
-      counted : (b : Bool) → 4 * g.S.Row.Rows.number l.fours b + 2 * set_count (bit l.twos b) + set_count (bit l.ones b)
+      counted : (b : Bool) → 2 * g.S.Row.Rows.number l.twos b + set_count (bit l.ones b)
           ≡ sum_below l.row (λ r. window_count s (dark b r)) + sum_below l.row (λ r. count_below s (λ c. is_window s (λ i. dark b i c) r));
-      small : (b : Bool) → 4 * g.S.Row.Rows.number l.fours b + 2 * set_count (bit l.twos b) + set_count (bit l.ones b) ≤ 384 * l.row;
+      small : (b : Bool) → 2 * g.S.Row.Rows.number l.twos b + set_count (bit l.ones b) ≤ 384 * l.row;
     }

@@ -1,9 +1,9 @@
 use Rattle.{qr_layout.specs.Version.side_of, qr_matrix.specs.Grid.{one_of, IsSquare}}
 use Rattle.{qr_symbol.specs.{Choice.IsFirstLeast, Steps.Placement.masked_penalty}, std.proofs.Common.{◌≡◌, ◌*◌, Bool}}
-use Rattle.qr_symbol.proofs.choice.best_mask_in.Given as goal
+use Rattle.qr_symbol.proofs.choice.best_of.Given as goal
 
 abbrev pub invariant-loop-half : goal.invariant-loop-half
-invariant-loop-half g l =
+invariant-loop-half l =
     let f = masked_penalty l.canvas.version l.canvas.level l.canvas.region l.canvas.plain in
     record {
       squares : (s : Bool) → IsSquare (side_of l.canvas.version) (one_of l.pair s);
