@@ -2,10 +2,10 @@
 //! are the coefficients of the error polynomial. `syndromes` lists the values of this polynomial at 2^0, 2^1 and so on.
 //! The locator is a polynomial with a root for each misread or erased codeword.
 //!
-//! The codewords are taken in their order. At a root of the locator, the locator is divided by the factor of this root.
-//! It then has a root for each error that is left but this one, so the sum of its coefficients, each multiplied by the
-//! syndrome at its index, is this error times the value of the locator at its root. The error then goes out of the
-//! syndromes.
+//! The codewords are taken in their order, which is Chien's search. At a root of the locator, the locator is divided by
+//! the factor of this root. It then has a root for each error that is left but this one, so the sum of its coefficients,
+//! each multiplied by the syndrome at its index, is this error times the value of the locator at its root: a form of
+//! Forney's formula. The error then goes out of the syndromes.
 
 ghost use Rattle.std.specs.Prelude.{◌≡◌, ◌≢◌, ℕ, ◌+◌, ◌*◌, ◌<◌, ◌≤◌, List, [], ◌∷◌, ◌++◌, length, bit_xor, slice_index};
 ghost use Rattle.std.specs.List.{All};

@@ -20,7 +20,7 @@ use arrayvec::ArrayVec;
 use qr_field::div;
 
 // `best` solves the equations of the syndromes that were taken in. `earlier` was the best before the degree last rose;
-// `miss` is its sum for the first equation that it does not solve.
+// `miss` is its discrepancy, the sum for the first equation that it does not solve.
 #[derive(Drop)]
 pub(crate) struct Search {
     pub(crate) best: Polynomial,

@@ -36,7 +36,7 @@ impl Polynomial {
         &self.terms[..self.degree + 1]
     }
 
-    // The sum of the coefficients, each multiplied by the item of `window` at its index. If this sum is 0, the
+    // The discrepancy: the sum of the coefficients, each multiplied by the item of `window` at its index. If it is 0, the
     // polynomial solves the equation of `window`.
     pub(crate) fn miss(&self, window: &[u8]) -> u8
         requires fits { self.now.degree < 16 }
