@@ -97,9 +97,7 @@ fn first_with_room(level: Level, first: Version, last: u8, bits: u64) -> Option<
     None
 }
 
-// Takes the ranges in turn, until a version of one has room for the segments. Out of line, so that nothing of it is on the
-// stack while the symbol is drawn.
-#[inline(never)]
+// Takes the ranges in turn, until a version of one has room for the segments.
 pub(crate) fn least_fit(
     alloc: Global,
     input: &[u8],

@@ -5,10 +5,6 @@ use Rattle.qr_symbol.specs.Steps.Placement.{masked_grid, masked_penalty, region_
 use Rattle.qr_symbol.specs.{Symbol.grid_of, declared.canvas.Canvas.Canvas}
 use Rattle.std.proofs.Common.{◌≡◌, ℕ, ◌≤◌, ◌∙◌, List, ap, subst, arith}
 
--- of the numbers below 1, the one with the least value is 0
-pub least-start : (f : ℕ → ℕ) → IsFirstLeast 1 f 0
-least-start f = search arith
-
 -- functions with equal values have the same number of the least value
 least-same : (n : ℕ) (f g : ℕ → ℕ) (m : ℕ) → ((k : ℕ) → f k ≡ g k) → IsFirstLeast n f m → IsFirstLeast n g m
 least-same n f g m e h = search arith
