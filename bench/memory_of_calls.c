@@ -1,7 +1,8 @@
 /* Measures what a call of the library takes of the stack and of the heap, for bench/memory: memory_of_calls CALL NUMBER LEVEL RULE
  *
- * CALL is encode, encode_series, read, mend, draw or parse_drawing; standard input is the input, the modules or the drawing;
- * NUMBER is a version or a side; for draw LEVEL is the type of drawing. Prints the bytes of stack, the most bytes of the heap at a time, the number of calls of
+ * CALL is encode, encode_series, read, mend, draw or parse_drawing. Standard input is the input, the modules or the drawing.
+ * NUMBER is a version for the calls that encode, and a side for the others; parse_drawing does not use it. LEVEL is the level,
+ * and for draw the type of the drawing. Prints the bytes of stack, the most bytes of the heap at a time, the number of calls of
  * malloc and realloc, and the call's status. */
 #define _GNU_SOURCE
 #include "qrproved.h"

@@ -1,7 +1,7 @@
-/* Reads the modules of standard input as a symbol, or parses it as a drawing, again and again, for bench/library:
- * reading_instructions CALL SIDE TIMES
+/* Reads or mends the modules of standard input as a symbol, or parses standard input as a drawing, again and again, for
+ * bench/library: reading_instructions CALL SIDE TIMES
  *
- * CALL is read, mend or parse, for which the side is not used. */
+ * CALL is read, mend or parse; parse does not use the side. */
 #include "qrproved.h"
 #include <stdio.h>
 #include <stdlib.h>

@@ -1,7 +1,7 @@
 /* QR Code symbols (ISO/IEC 18004:2015, QR Code Model 2): calls that encode an input as a symbol or as a series of symbols,
- * draw symbols as text or as SVG, parse such drawings, read symbols, and mend damaged ones. The calls are proved to meet their contracts, which are
- * in crates/qrproved; docs/LIBRARY.md says what these mean for a caller. tests/library compares this file with the exports
- * of the library.
+ * draw symbols as text or as SVG, parse such drawings, read symbols, and mend damaged ones. The calls are proved to meet
+ * their contracts, which are in crates/qrproved; docs/LIBRARY.md says what these mean for a caller. tests/library compares
+ * this file with the exports of the library.
  *
  * A module is a byte in a buffer of the caller, in which the modules are row by row, from the top left. The buffer does not
  * contain the quiet zone, which is the four light modules that a drawing needs on each side; qrproved_draw adds a margin of
@@ -9,8 +9,8 @@
  * malloc and realloc, and frees all of it before it returns.
  *
  * At each call the caller has to meet these conditions:
- * - each pointer points to as many bytes as the length beside it says, or to a struct or a number; a pointer with the length
- *   0 is not used;
+ * - each pointer with a length beside it points to as many bytes as the length says, and `ecis` to as many structs; each
+ *   other pointer points to a struct or a number; a pointer with the length 0 is not used;
  * - no two of the buffers and the struct overlap;
  * - during the call nothing else writes to the buffers or the struct, and nothing else reads a buffer or a struct to which
  *   the call writes;
@@ -18,7 +18,7 @@
  *   as the C standard requires;
  * - no call is made from a signal handler, or in the forked child of a process with threads, since malloc may not be
  *   called there.
- * Calls may run at the same time in any threads, each with its own buffers and its own struct.
+ * Calls may run at the same time in any number of threads, each with its own buffers and its own struct.
  */
 #ifndef QRPROVED_H
 #define QRPROVED_H
@@ -36,9 +36,10 @@ extern "C" {
 #define QRPROVED_SIDE_MAX 177      /* modules on a side of the largest symbol, which has version 40 */
 #define QRPROVED_SYMBOL_MAX 31329  /* bytes that suffice for the modules of any symbol: 177 times 177 */
 #define QRPROVED_COUNT_MAX 16      /* symbols in the longest series */
-#define QRPROVED_SERIES_MAX 501264 /* bytes that suffice for the modules of any series: 16 times 31,329 */
+#define QRPROVED_SERIES_MAX 501264 /* bytes that suffice for the modules of any series or drawing: 16 times 31,329 */
 #define QRPROVED_BYTES_MAX 7089    /* bytes that suffice for the content of any symbol: digits in version 40, level L */
-#define QRPROVED_ECIS_MAX 1970     /* ECI headers that suffice for any symbol: version 40, level L, has 23,648 bits, and each takes 12 */
+#define QRPROVED_ECIS_MAX 1970     /* structs that suffice for the ECI headers of any symbol: in version 40, level L, 23,648
+                                    * bits of data, of which each header takes at least 12 */
 #define QRPROVED_MARGIN_MAX 100    /* the widest light margin on each side of a drawing, in modules */
 
 /* The levels of error correction, by which about 7, 15, 25 or 30 % of a symbol's codewords can be restored. */
@@ -52,11 +53,12 @@ extern "C" {
 #define QRPROVED_RULE_BYTES_ONLY 1 /* the whole input in byte mode */
 #define QRPROVED_RULE_WITH_KANJI 2 /* the modes of AUTO, and kanji mode for pairs of bytes that are Shift JIS characters */
 
-/* Where a symbol has FNC1, which says what its bytes are. In both positions the byte 1D (hexadecimal) separates fields. */
-#define QRPROVED_FNC1_NONE 0   /* it has none */
-#define QRPROVED_FNC1_FIRST 1  /* in first position: GS1 data, element strings with their application identifiers */
-#define QRPROVED_FNC1_SECOND 2 /* in second position: data of the application with an application indicator of its own, which is
-                                * a number from 0 to 99, or the ASCII code of a letter plus 100 */
+/* The position of FNC1 in a symbol, which says what the content is. After FNC1 in either position the byte 1D (hexadecimal)
+ * separates fields. */
+#define QRPROVED_FNC1_NONE 0   /* the symbol has no FNC1 */
+#define QRPROVED_FNC1_FIRST 1  /* first position: the content is GS1 data, values with their application identifiers */
+#define QRPROVED_FNC1_SECOND 2 /* second position: the content follows the rules of the application that the application
+                                * indicator names */
 
 /* The types of drawings. A drawing of each type is the same as that of the program qrencode. */
 #define QRPROVED_ASCII 0  /* text: two # for a dark module, two spaces for a light module */
@@ -65,20 +67,20 @@ extern "C" {
 #define QRPROVED_SVG 3    /* a whole SVG document, in which a module is one unit wide */
 
 /* What each call but qrproved_version returns; beside each call are its exact causes, in the order in which it checks them.
- * On every status but 0 the caller's buffer and struct are unchanged. Later versions may add statuses, and do not change the
+ * On every status but 0 the caller's buffers and struct are unchanged. Later versions may add statuses, and do not change the
  * meaning of these. */
-#define QRPROVED_DONE 0     /* the buffer and the struct are written */
+#define QRPROVED_DONE 0     /* the result is written */
 #define QRPROVED_EMPTY 1    /* the input has no byte */
 #define QRPROVED_TOO_LONG 2 /* the input fits no version from the smallest allowed version on */
 #define QRPROVED_TOO_MANY 3 /* the input takes more than 16 symbols of the version */
 #define QRPROVED_MEMORY 4   /* malloc or realloc refused memory */
 #define QRPROVED_SETTINGS 5 /* a number is out of its range, or in qrproved_mend the byte of a module is more than 2 */
-#define QRPROVED_ROOM 6     /* a buffer is too short */
+#define QRPROVED_ROOM 6     /* a buffer is too short, but not that of the ECI headers */
 #define QRPROVED_SIDE 7     /* no version has this side */
 #define QRPROVED_FORMAT 8   /* the format information belongs to no level and mask, or in qrproved_mend is too damaged */
 #define QRPROVED_CHECK 9    /* a block does not match its error correction codewords, or in qrproved_mend is too damaged */
 #define QRPROVED_SEGMENTS 10 /* the data codewords cannot be parsed */
-#define QRPROVED_NO_DRAWING 11 /* the text is no drawing of squares that begin as symbols do */
+#define QRPROVED_NO_DRAWING 11 /* the text is no drawing, or one of squares that do not begin as symbols do */
 
 /* The version, the size and the mask of a symbol that was encoded. */
 struct qrproved_symbol {
@@ -93,31 +95,34 @@ struct qrproved_series {
 	uint8_t side;  /* modules on a side of each symbol */
 };
 
-/* An ECI header of a symbol (Extended Channel Interpretation): from a byte of the content on, the bytes have this ECI. Bytes
- * before the first ECI header have none, and mean what their reader takes them for: ISO/IEC 8859-1 by the standard, and
- * often UTF-8. */
+/* An ECI header of a symbol (Extended Channel Interpretation). Its number says what the bytes after it mean, up to the next
+ * ECI header. Bytes before the first ECI header have none: the standard takes them for ISO/IEC 8859-1, and many readers take
+ * them for UTF-8. */
 struct qrproved_eci {
-	size_t begin;    /* number of bytes of the content before */
+	size_t begin;    /* number of bytes of the content before the header */
 	uint32_t number; /* from 0 to 999,999: 26 is UTF-8, 20 is Shift JIS, 3 is ISO/IEC 8859-1 */
 };
 
-/* The content of a symbol that was read: its length, and its header if it has one. */
+/* What a symbol that was read contains, besides its bytes and its ECI headers. The header of has_header is the structured
+ * append header. */
 struct qrproved_content {
-	size_t len;          /* number of bytes that the symbol contains */
-	size_t eci_count;    /* number of ECI headers of the symbol */
+	size_t len;          /* number of bytes of the content */
+	size_t eci_count;    /* number of ECI headers of the symbol, also of those that were not written for lack of room */
 	uint8_t version;     /* from 1 to 40 */
 	uint8_t has_header;  /* 1 for a symbol of a series; 0 for a plain symbol, and then the next three fields are 0 */
 	uint8_t position;    /* position of the symbol in its series, from 0 to 15 */
 	uint8_t last;        /* number of symbols in the series less 1, from 0 to 15 */
 	uint8_t parity;      /* the exclusive or of all bytes of the input of the series */
 	uint8_t fnc1;        /* QRPROVED_FNC1_NONE to QRPROVED_FNC1_SECOND */
-	uint8_t application; /* with QRPROVED_FNC1_SECOND the application indicator, otherwise 0 */
+	uint8_t application; /* with QRPROVED_FNC1_SECOND the application indicator: a number from 0 to 99, or the ASCII code of a
+	                      * letter plus 100; otherwise 0 */
 };
 
-/* The content of a damaged symbol that was mended, and the counts of its damage. */
+/* What a damaged symbol that was mended contains, besides its bytes and its ECI headers, and the counts of its damage. The
+ * fields that qrproved_content has too mean the same. */
 struct qrproved_mended {
-	size_t len;                   /* number of bytes that the symbol contains */
-	size_t eci_count;             /* number of ECI headers of the symbol */
+	size_t len;                   /* number of bytes of the content */
+	size_t eci_count;             /* number of ECI headers of the symbol, also of those that were not written */
 	uint32_t wrong_modules;       /* number of modules that are wrong or not known; if 0, the square is the symbol */
 	uint8_t version;              /* from 1 to 40 */
 	uint8_t has_header;           /* 1 for a symbol of a series; 0 for a plain symbol, and then the next three fields are 0 */
@@ -137,7 +142,7 @@ struct qrproved_mended {
 /* What a drawing that was parsed shows, besides the modules. */
 struct qrproved_drawn {
 	uint8_t drawing; /* QRPROVED_ASCII to QRPROVED_SVG */
-	uint8_t margin;  /* number of light modules on each side of a square, from 0 to 255 */
+	uint8_t margin;  /* number of light modules on each side of each square, from 0 to 255 */
 	uint8_t count;   /* number of squares, from 1 to 16 */
 	uint8_t side;    /* modules on a side of each square, from 8 to 177 */
 };
@@ -248,16 +253,16 @@ uint8_t qrproved_encode_series(const uint8_t *input, size_t input_len, uint32_t 
 
 /* Reads a symbol. The first buffer contains its modules, in the order in which qrproved_encode writes them. Any byte but 0
  * is a dark module, and bytes after the last module are ignored. The call writes the content of the symbol to the start of
- * the second buffer, and its ECI headers to the start of the third; it leaves the rest of both unchanged. It corrects no
- * errors: each codeword has to be as it was drawn.
+ * the second buffer, and its ECI headers to the start of the third, in their order; it leaves the rest of both unchanged. It
+ * corrects no errors: each codeword has to be as it was drawn.
  *
  * side   number of modules on a side: 21, 25, and so on to 177
  * bytes  the buffer for the content; QRPROVED_BYTES_MAX bytes suffice for any symbol
- * ecis   the buffer for the ECI headers; if there are more than it has room for, the first of them are written.
- *        QRPROVED_ECIS_MAX suffice for any symbol, and hardly any symbol has more than one
+ * ecis   the buffer for the ECI headers; if the symbol has more than ecis_len, the first of them are written, and the call
+ *        still succeeds. QRPROVED_ECIS_MAX structs suffice for any symbol, and hardly any symbol has more than one header
  *
- * The content is what the characters of the symbol stand for: after FNC1, in alphanumeric mode, % is the byte 1D
- * (hexadecimal) and %% is %.
+ * The content is what the characters of the symbol stand for. After FNC1, in alphanumeric mode, % stands for the byte 1D
+ * (hexadecimal) and %% for %; in the other modes % is itself.
  *
  * The call reads the first copy of the format information, which is beside the top left finder pattern, and the codewords; it
  * parses the data codewords up to the terminator. It ignores all other modules: finder, alignment and timing patterns,
@@ -286,7 +291,7 @@ uint8_t qrproved_read(const uint8_t *modules, size_t modules_len, uint32_t side,
  *
  * side   number of modules on a side: 21, 25, and so on to 177
  * bytes  the buffer for the content; QRPROVED_BYTES_MAX bytes suffice for any symbol
- * ecis   the buffer for the ECI headers, as that of qrproved_read
+ * ecis   the buffer for the ECI headers, as in qrproved_read
  *
  * The format information is the level and the mask, and a symbol contains two copies of it, of 15 modules each. Beside a
  * level and a mask, a copy costs 1 for each module that is not known and 2 for each other module that is wrong. A level and a
@@ -302,8 +307,8 @@ uint8_t qrproved_read(const uint8_t *modules, size_t modules_len, uint32_t side,
  *
  * If wrong_modules is 0, the square is, module by module, the symbol that the standard defines for its data codewords in its
  * version, level and mask. If all modules are known, changed_most divided by changed_allowed is the share of the error
- * correction that is spent, in the block with the most wrong codewords. How labels are checked by these, and what they do
- * not say of a print, is in docs/LIBRARY.md.
+ * correction that is spent, in the block with the most wrong codewords. docs/LIBRARY.md says how labels are checked by these
+ * counts, and what they do not say of a print.
  *
  * Damage beyond these bounds may change a symbol so much that it is within the bounds of another symbol. The call then
  * reads the other symbol, as any reader may.
@@ -353,11 +358,12 @@ uint8_t qrproved_draw(const uint8_t *modules, size_t modules_len, uint32_t side,
  * k, from 0, in this row and column, as qrproved_read, qrproved_mend and qrproved_draw take them. Bytes of the buffer after
  * the last module are unchanged.
  *
- * A text is a drawing if qrproved_draw, or qrencode, would write exactly it for 1 to 16 squares of one side from 8 to 177,
- * with a margin of 0 to 255 modules. Each square has to begin as every symbol does: the module in row 0 and column 0 is dark,
- * and that in column 7 of row 0 is light. A text is the drawing of one type, margin and list of squares only. Whether a
- * square is a symbol, qrproved_read and qrproved_mend say. A text that was changed by a byte, as a line end of two bytes
- * does, is no drawing.
+ * A text is a drawing if it is, byte for byte, what qrproved_draw and qrencode write for 1 to 16 squares of one side from 8 to
+ * 177, with a margin of 0 to 255 modules, although these two refuse a margin above QRPROVED_MARGIN_MAX. Each square has to
+ * begin as every symbol does: the module in row 0 and column 0 is dark, and that in column 7 of row 0 is light. A text is the
+ * drawing of one type, margin and list of squares only. The call does not say whether a square is a symbol; qrproved_read and
+ * qrproved_mend do. Line ends of two bytes, spaces that are lost at line ends or a byte order mark make a drawing a text that
+ * is none.
  *
  * text     the drawing; no byte 0 follows it
  * modules  the buffer for the modules; QRPROVED_SERIES_MAX bytes suffice for any drawing
