@@ -384,6 +384,28 @@ test('pasted drawings are parsed', () => {
   assert.deepEqual(parseDrawing(` ${symbol.svg({ mm: 30 }).replaceAll('\n', '\r\n')}`).squares, [symbol.modules]);
 });
 
+test('a light row is no empty line between symbols', () => {
+  const all = Array.from({ length: 200 }, (_, number) => encode(`${number}`));
+  const symbols = all.filter((it) => !it.modules.subarray(7 * 21, 8 * 21).includes(1)).slice(0, 2);
+  for (const margin of [0, 1, 4]) {
+    for (const [gap, ending] of [['', '\n'], ['\n', '\n'], ['\r\n\r\n', '\r\n'], ['', '\n\n'], ['', '\r\n\r\n']]) {
+      const linesOf = (it) => it.text({ margin, type: 'ASCII' }).split('\n').slice(0, -1);
+      const text = symbols.map((it) => linesOf(it).map((line) => line.trimEnd() + ending).join('')).join(gap);
+      for (const pasted of [text, text.split('\n').map((line) => `\t${line}`).join('\n')]) {
+        const found = parseDrawing(pasted);
+        assert.deepEqual([found.type, found.squares], ['ASCII', symbols.map((it) => it.modules)], JSON.stringify([margin, gap, ending]));
+      }
+    }
+  }
+});
+
+test('texts of many lines and of long lines are no drawings', () => {
+  const long = `x${' '.repeat(300000)}y`;
+  for (const given of ['a\n'.repeat(300000), `${'x'.repeat(1e6)}\n${'y\n'.repeat(1e5)}`, long, 'A\nB', '\u2588\n\u2588']) {
+    assert.throws(() => parseDrawing(given), refused('NoDrawingError', 11, 'NO_DRAWING'));
+  }
+});
+
 test('other texts are no drawings', () => {
   const text = encode('Shelf 12').text({ type: 'ASCII' });
   for (const given of ['', '\n', 'hello', text.replace('##', '# '), text.replace('##', '??'), '<svg></svg>']) {

@@ -2,6 +2,7 @@
 which the words that made them explain, and some whose codewords were written by hand."""
 import hashlib
 import json
+import os
 import pathlib
 import re
 import subprocess
@@ -198,6 +199,12 @@ class Others(unittest.TestCase):
             symbol = qrproved.Symbol(row["version"], row["side"], None, modules_of(row["rows"], row["side"]))
             ran = subprocess.run([sys.executable, "-B", "-m", "qrproved", "check"], input=symbol.png(), capture_output=True, timeout=60)
             self.assertEqual(ran.stdout.decode().split("\n", 1)[1], said)
+
+    def test_check_writes_what_the_encoding_of_the_terminal_has_not(self):
+        environment = {**os.environ, "PYTHONIOENCODING": "ascii"}
+        ran = subprocess.run([sys.executable, "-B", "-m", "qrproved", "check"], input=qrproved.encode("点é").png(), capture_output=True,
+                             timeout=60, env=environment)
+        self.assertEqual((ran.returncode, ran.stdout.decode().split("\n", 1)[1], ran.stderr), (0, "contains \\u70b9\\xe9\n", b""))
 
 
 if __name__ == "__main__":
