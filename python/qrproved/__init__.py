@@ -559,7 +559,8 @@ def parse_drawing(text: Union[str, Bytes]) -> Drawn:
     """
     given = text if isinstance(text, str) else _copied(text).decode()
     for drawing in undone(given):
-        found = _exactly(drawing.encode())
+        # (half a surrogate pair is in no drawing)
+        found = _exactly(drawing.encode(errors="surrogatepass"))
         if found is not None:
             return found
     return Drawn(found_by_look(given))
