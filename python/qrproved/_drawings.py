@@ -73,7 +73,7 @@ def undone(text: str) -> Iterator[str]:
         for some in [lines] if any(lines[1::2]) else [lines, lines[::2]]:
             yield _padded(_squares(some))
         yield _padded(filled)
-        inner = _inner(_padded(filled).splitlines())
+        inner = _inner(_padded(filled).split("\n")[:-1])
         if inner:
             yield _padded(inner)
 
