@@ -94,8 +94,14 @@ const TABLE = IDENTIFIERS.trim().split('\n').map((row) => {
 });
 
 const sum = (numbers) => numbers.reduce((all, it) => all + it, 0);
-/** Returns a text as it is shown in a message. */
-const quoted = (text) => `'${text.replace(/[^ -~]/g, (it) => `\\x${it.charCodeAt(0).toString(16).padStart(2, '0')}`)}'`;
+
+const ESCAPES = { '\t': '\\t', '\n': '\\n', '\r': '\\r', '\\': '\\\\' };
+
+/** Returns a text as it is shown in a message, as Python shows it. */
+function quoted(text) {
+  const shown = text.replace(/[^ -[\]-~]/g, (it) => ESCAPES[it] ?? `\\x${it.charCodeAt(0).toString(16).padStart(2, '0')}`);
+  return shown.includes("'") && !shown.includes('"') ? `"${shown}"` : `'${shown.replaceAll("'", "\\'")}'`;
+}
 
 /** Returns what is wrong with a value; or null. */
 function faultOf(value, parts) {

@@ -525,7 +525,8 @@ test('wrong fields are named', () => {
     ['17260230', /^\(17\) 260230 is no date$/], ['3712A', /^\(37\) 'A' is not a digit$/], ['10A B', /^\(10\) ' ' is not a character of GS1's set 82$/],
     ['8010a', /^\(8010\) 'a' is not a character of GS1's set 39$/], ['800826123124', /^\(8008\) 24 is no hour$/],
     ['800826123123599', /^\(8008\) 599 is no time$/], ['3712\x1d\x1d2001', /begins '\\x1d200'$/], ['0512', /begins '0512'$/],
-    ['3106000000', /begins '3106'$/], ['', /no field/], ['17270229', /^\(17\) 270229 is no date$/],
+    ['3106000000', /begins '3106'$/], ['', /no field/], ['37\'', /^\(37\) "'" is not a digit$/], ['37\\', /^\(37\) '\\\\' is not a digit$/],
+    ['17270229', /^\(17\) 270229 is no date$/],
     ['800826120012', /^\(8008\) 261200 is no date$/], ['4230560', /^\(423\) 0560 is not of codes of three digits$/],
     ['42305', /^\(423\) has 3 to 15 characters, and not 2$/], ['800314012345678908', /^\(8003\) its first digit is 1, and should be 0$/],
   ];
