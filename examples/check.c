@@ -22,6 +22,7 @@
 
 enum { SOUND, READABLE, NOT_READABLE };
 enum { LIGHT, DARK, UNKNOWN };
+enum empty_lines { KEPT, IN_SQUARES, LEFT_OUT };
 enum { LINES_MAX = 512, TEXT_MAX = 10000000 };
 
 /* The modules of a drawing, and the first and the last row and column with a dark one. */
@@ -135,10 +136,11 @@ static size_t characters(size_t from, size_t len)
 }
 
 /* Copies the lines from the first to the last that is not empty, without their indentation, and with spaces up to one width. Other
- * empty lines are copied only if `with_empty`, as a row of light modules may be one. Returns the length. */
-static size_t copy_lines(int with_empty)
+ * empty lines are copied if `empty` says so: one may be a row of light modules. Of the squares in ASCII, a line is high and two
+ * characters are wide for each module. Returns the length. */
+static size_t copy_lines(enum empty_lines empty)
 {
-	size_t indent = TEXT_MAX, width = 0, first = text_len, end = 0, len = 0;
+	size_t indent = TEXT_MAX, width = 0, first = text_len, end = 0, len = 0, of_square = 0;
 	for (size_t from = 0; from < text_len; from += line_len(from) + 1) {
 		size_t filled = filled_len(from), spaces = strspn((const char *)text + from, " ");
 		if (filled == 0)
@@ -149,8 +151,9 @@ static size_t copy_lines(int with_empty)
 	}
 	for (size_t from = first; from < end; from += line_len(from) + 1) {
 		size_t filled = filled_len(from), start = filled > 0 ? indent : 0;
-		if (filled == 0 && !with_empty)
+		if (filled == 0 && (empty == LEFT_OUT || (empty == IN_SQUARES && of_square == 0)))
 			continue;
+		of_square = (of_square > 0 ? of_square : (width - indent) / 2) - 1;
 		size_t spaces = filled > 0 ? width - characters(from, filled) : width - indent;
 		if (filled - start + spaces + 1 > sizeof lines - len)
 			return 0;
@@ -225,8 +228,8 @@ int main(void)
 	text_len = fread(text, 1, sizeof text - 1, stdin);
 	clean();
 	int status = judge_drawing(text, text_len);
-	for (int with_empty = 1; status < 0 && with_empty >= 0; with_empty--)
-		status = judge_drawing(lines, copy_lines(with_empty));
+	for (int empty = KEPT; status < 0 && empty <= LEFT_OUT; empty++)
+		status = judge_drawing(lines, copy_lines((enum empty_lines)empty));
 	if (status < 0)
 		status = judge_damaged();
 	return fflush(stdout) == 0 && !ferror(stdin) && !ferror(stdout) ? status : NOT_READABLE;

@@ -2,8 +2,9 @@
 import { Gs1Error } from './errors.js';
 
 // Application identifiers, and the parts of their values: digits (N), characters of GS1's set 82 (X) or of its set 39 (Y), so many of
-// them, or from 1 (or 0) to so many. The last digit of a part with `check` is its check digit, `date` is YYMMDD with day 00 for none,
-// `hour` is that and HH, and `time` is MM or MMSS. python/qrproved/_gs1.py has the same table.
+// them, or from 1 (or 0) to so many. The last digit of a part with `check` is its check digit, `zero` is the digit 0, `date` is YYMMDD
+// with day 00 for none, `hour` is YYMMDDHH, `time` is MM or MMSS, and `countries` are codes of three digits each.
+// python/qrproved/_gs1.py has the same table.
 const IDENTIFIERS = String.raw`
 00                              N18:check
 0[12]                           N14:check
@@ -22,9 +23,9 @@ const IDENTIFIERS = String.raw`
 420                             X1..20
 421                             N3 X1..9
 42[246]                         N3
-42[35]                          N3 N1..12
+42[35]                          N3..15:countries
 427                             X1..3
-8003                            N14:check X0..16
+8003                            N1:zero N13:check X0..16
 8004                            X1..30
 8005                            N6
 8006                            N14:check N4
@@ -54,12 +55,20 @@ function checkFault(text) {
   return Number(text.at(-1)) === wanted ? null : `its check digit is ${text.at(-1)}, and should be ${wanted}`;
 }
 
-function dateFault(text) {
-  const month = Number(text.slice(2, 4)), day = Number(text.slice(4, 6));
-  return month >= 1 && month <= 12 && day <= DAYS[month - 1] ? null : `${text} is no date`;
+function zeroFault(text) {
+  return text === '0' ? null : `its first digit is ${text}, and should be 0`;
 }
 
+/** Of the years that two digits may stand for, each that is a multiple of 4 is a leap year. */
+function dateFault(text) {
+  const [year, month, day] = [0, 2, 4].map((at) => Number(text.slice(at, at + 2)));
+  const isDate = month >= 1 && month <= 12 && day <= DAYS[month - 1] && (month !== 2 || day < 29 || year % 4 === 0);
+  return isDate ? null : `${text} is no date`;
+}
+
+/** Of an hour the day has to be said. */
 function hourFault(text) {
+  if (text.slice(4, 6) === '00') return `${text.slice(0, 6)} is no date`;
   return dateFault(text.slice(0, 6)) ?? (Number(text.slice(6)) < 24 ? null : `${text.slice(6)} is no hour`);
 }
 
@@ -67,7 +76,11 @@ function timeFault(text) {
   return /^([0-5][0-9]){0,2}$/.test(text) ? null : `${text} is no time`;
 }
 
-const PART_RULES = { check: checkFault, date: dateFault, hour: hourFault, time: timeFault };
+function countriesFault(text) {
+  return text.length % 3 === 0 ? null : `${text} is not of codes of three digits`;
+}
+
+const PART_RULES = { check: checkFault, zero: zeroFault, date: dateFault, hour: hourFault, time: timeFault, countries: countriesFault };
 
 /** Returns a part of a value, as the table has it. */
 function partOf(text) {
@@ -81,8 +94,14 @@ const TABLE = IDENTIFIERS.trim().split('\n').map((row) => {
 });
 
 const sum = (numbers) => numbers.reduce((all, it) => all + it, 0);
-/** Returns a text as it is shown in a message. */
-const quoted = (text) => `'${text.replace(/[^ -~]/g, (it) => `\\x${it.charCodeAt(0).toString(16).padStart(2, '0')}`)}'`;
+
+const ESCAPES = { '\t': '\\t', '\n': '\\n', '\r': '\\r', '\\': '\\\\' };
+
+/** Returns a text as it is shown in a message, as Python shows it. */
+function quoted(text) {
+  const shown = text.replace(/[^ -[\]-~]/g, (it) => ESCAPES[it] ?? `\\x${it.charCodeAt(0).toString(16).padStart(2, '0')}`);
+  return shown.includes("'") && !shown.includes('"') ? `"${shown}"` : `'${shown.replaceAll("'", "\\'")}'`;
+}
 
 /** Returns what is wrong with a value; or null. */
 function faultOf(value, parts) {

@@ -5,6 +5,8 @@ import { EciError } from './errors.js';
 const CP437 = 'ÇüéâäàåçêëèïîìÄÅÉæÆôöòûùÿÖÜ¢£¥₧ƒáíóúñÑªº¿⌐¬½¼¡«»░▒▓│┤╡╢╖╕╣║╗╝╜╛┐└┴┬├─┼╞╟╚╔╩╦╠═╬╧╨╤╥╙╘╒╓╫╪┘┌█▄▌▐▀αßΓπΣσµτΦΘΩδ∞φε∩≡±≥≤⌠⌡÷≈°∙·√ⁿ²■\u00a0';
 // The characters of Windows-1252 from 80 on that ISO/IEC 8859-1 has not; a space for none.
 const CP1252 = '€ ‚ƒ„…†‡ˆ‰Š‹Œ Ž  ‘’“”•–—˜™š›œ žŸ';
+// ISO/IEC 8859-16 from A1 on, which some engines do not have.
+const LATIN10 = 'ĄąŁ€„Š§š©Ș«Ź\u00adźŻ°±ČłŽ”¶·žčș»ŒœŸżÀÁÂĂÄĆÆÇÈÉÊËÌÍÎÏĐŃÒÓÔŐÖŚŰÙÚÛÜĘȚßàáâăäćæçèéêëìíîïđńòóôőöśűùúûüęțÿ';
 const LATIN5 = { 0xD0: 'Ğ', 0xDD: 'İ', 0xDE: 'Ş', 0xF0: 'ğ', 0xFD: 'ı', 0xFE: 'ş' }; // ISO/IEC 8859-9, where it is not 8859-1
 
 /** Returns the characters of bytes by a function that returns the character of a byte, or undefined. */
@@ -21,6 +23,30 @@ function decoded(label) {
   return (data) => new TextDecoder(label, { fatal: true, ignoreBOM: true }).decode(data);
 }
 
+const CONTROLS = /[\x80-\x9f]/u, CONTROLS_AND_PRIVATE = /[\x80-\x9f\ue000-\uf8ff]/u;
+
+/** Returns the characters of bytes by the engine, which has characters of the pattern `none` for bytes that are no characters. */
+function decodedBut(label, none) {
+  return (data) => {
+    const text = decoded(label)(data);
+    if (none.test(text)) throw new TypeError(`the bytes are no characters of ${label}`);
+    return text;
+  };
+}
+
+/**
+ * Returns the characters of bytes of which those over 7F, with what belongs to them, are the pattern `others`. Only these are decoded by the
+ * engine: that of Node exchanges three controls of ASCII in Shift JIS, and all have a character for a byte that stands alone.
+ */
+function decodedBeyond(label, others, ofOthers = decoded(label)) {
+  const parts = new RegExp(`[\\0-\\x7f]+|((?:${others})+)|[^]`, 'g');
+  return (data) => latin1(data).replace(parts, (part, bytes) => {
+    if (bytes !== undefined) return ofOthers(Uint8Array.from(bytes, (it) => it.charCodeAt(0)));
+    if (part > '\x7f') throw new TypeError(`byte ${part.charCodeAt(0).toString(16).toUpperCase()} is no character of ${label}`);
+    return part;
+  });
+}
+
 // For these the names of TextDecoder mean other sets, those of Windows, or there is none; some engines read windows-1252 as ISO 8859-1.
 const cp437 = mapped('code page 437', (byte) => CP437[byte - 128]);
 const latin1 = mapped('ISO 8859-1', (byte) => String.fromCharCode(byte));
@@ -28,16 +54,21 @@ const latin5 = mapped('ISO 8859-9', (byte) => LATIN5[byte] ?? String.fromCharCod
 const isThai = (byte) => byte < 0xA1 || byte < 0xDB || (byte > 0xDE && byte < 0xFC);
 const thai = mapped('ISO 8859-11', (byte) => (isThai(byte) ? String.fromCharCode(byte > 0xA0 ? byte + 0xD60 : byte) : undefined));
 const cp1252 = mapped('Windows-1252', (byte) => (CP1252[byte - 128] === ' ' ? undefined : CP1252[byte - 128] ?? String.fromCharCode(byte)));
+const latin10 = mapped('ISO 8859-16', (byte) => LATIN10[byte - 0xA1] ?? String.fromCharCode(byte));
 const ascii = mapped('ASCII', () => undefined);
+const shiftJis = decodedBeyond('shift_jis', '[\\x81-\\x9f\\xe0-\\xfc][\\x40-\\xfc]|[\\xa1-\\xdf]');
+const big5 = decodedBeyond('big5', '[\\x81-\\xfe][\\x40-\\xfe]', decodedBut('big5', CONTROLS_AND_PRIVATE));
+const gb18030 = decodedBeyond('gb18030', '[\\x81-\\xfe](?:[\\x40-\\xfe]|[0-9][\\x81-\\xfe][0-9])');
+const korean = decodedBeyond('euc-kr', '[\\x81-\\xfe][\\x41-\\xfe]', decodedBut('euc-kr', CONTROLS_AND_PRIVATE));
 
-// The character sets of ECIs, as python/qrproved/_interpretation.py has them by Python's names.
+// The character sets of ECIs, as python/qrproved/_interpretation.py has them by Python's names. Of Big5 and of Korean some engines have
+// more characters than others: Node has those of KS X 1001, and browsers all Hangul.
 const CODECS = {
-  0: cp437, 1: latin1, 2: cp437, 3: latin1, 11: latin5, 13: thai, 23: cp1252, 27: ascii,
+  0: cp437, 1: latin1, 2: cp437, 3: latin1, 11: latin5, 13: thai, 18: latin10, 20: shiftJis, 21: decodedBut('windows-1250', CONTROLS),
+  22: decodedBut('windows-1251', CONTROLS), 23: cp1252, 27: ascii, 28: big5, 29: gb18030, 30: korean, 32: gb18030,
   ...Object.fromEntries(Object.entries({
     4: 'iso-8859-2', 5: 'iso-8859-3', 6: 'iso-8859-4', 7: 'iso-8859-5', 8: 'iso-8859-6', 9: 'iso-8859-7', 10: 'iso-8859-8',
-    12: 'iso-8859-10', 15: 'iso-8859-13', 16: 'iso-8859-14', 17: 'iso-8859-15', 18: 'iso-8859-16', 20: 'shift_jis', 21: 'windows-1250',
-    22: 'windows-1251', 24: 'windows-1256', 25: 'utf-16be', 26: 'utf-8', 28: 'big5', 29: 'gb18030', 30: 'euc-kr',
-    32: 'gb18030',
+    12: 'iso-8859-10', 15: 'iso-8859-13', 16: 'iso-8859-14', 17: 'iso-8859-15', 24: 'windows-1256', 25: 'utf-16be', 26: 'utf-8',
   }).map(([number, label]) => [number, decoded(label)])),
 };
 const BYTES = 899;

@@ -105,12 +105,14 @@ export class Content {
   readonly application: string | null;
   /**
    * Returns the data as text, each byte by the ECI in effect, and by UTF-8 where there is none. Throws EciError for an ECI whose
-   * characters are not known, or that means bytes, and a TypeError for bytes that are no characters.
+   * characters are not known, or that means bytes, and a TypeError for bytes that are no characters. A symbol of a series may begin or
+   * end within a character.
    */
   text(): string;
   /**
    * Returns the fields of GS1 data, each as its application identifier and its value. Throws Gs1Error if it is no GS1 data, for an
-   * identifier that is not known, and for a value with a wrong length, character, check digit or date.
+   * identifier that is not known, and for a value with a wrong length, character, check digit, first digit or date. A symbol of
+   * a series may begin or end within a value.
    */
   fields(): [identifier: string, value: string][];
   /** What JSON.stringify writes: the data as an array of numbers. */
@@ -177,8 +179,8 @@ export interface Drawn {
 /**
  * Returns what a drawing shows, of any type: the text, once what pasting changes is undone, is the drawing of these squares and of
  * nothing else, as draw makes it. Undone are line ends of two characters, a byte order mark, no-break spaces, an indentation, lost spaces
- * at the ends of lines, empty lines between symbols, the size of an SVG document, and the margin of the half blocks of qrencode
- * 4.1.1. Throws NoDrawingError if it is no such drawing; whether a square is a symbol, read and mend say.
+ * at the ends of lines, empty lines between symbols or after each line, the size of an SVG document, and the margin of the half blocks of
+ * qrencode 4.1.1. Throws NoDrawingError if it is no such drawing; whether a square is a symbol, read and mend say.
  */
 export function parseDrawing(text: string): Drawn;
 

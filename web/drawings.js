@@ -3,6 +3,7 @@
 const HALVES = { ' ': [1, 1], '\u2580': [0, 1], '\u2584': [1, 0], '\u2588': [0, 0] };
 const UNKNOWN = 2;
 const COUNT_LIMIT = 16; // symbols of a series
+const PLACES_LIMIT = 5000000; // characters of all lines: 16 of the largest symbols, each with as much around it
 
 /** Returns the rows of a drawing in half blocks, two for each line. A filled half is light. */
 function rowsOfBlocks(texts) {
@@ -58,6 +59,7 @@ export function squaresInText(drawing) {
   while (texts.length && !texts[0].trim()) texts.shift();
   while (texts.length && !texts.at(-1).trim()) texts.pop();
   const width = texts.reduce((most, text) => Math.max(most, [...text].length), 0), isBlocks = /[\u2580\u2584\u2588]/u.test(drawing);
+  if (width * texts.length > PLACES_LIMIT) return [];
   // Spaces at the ends of lines are often lost.
   const full = texts.map((text) => text + ' '.repeat(width + (isBlocks ? 0 : width % 2) - [...text].length));
   const rows = width === 0 ? [] : isBlocks ? rowsOfBlocks(full) : rowsOfPairs(full);

@@ -1,6 +1,7 @@
 /** The package as it is installed: node --test, with the folder of the package in the variable QRPROVED, or out/npm/package. */
 import assert from 'node:assert/strict';
 import { execFileSync } from 'node:child_process';
+import { createHash } from 'node:crypto';
 import { readFileSync } from 'node:fs';
 import { pathToFileURL } from 'node:url';
 import { resolve } from 'node:path';
@@ -383,6 +384,28 @@ test('pasted drawings are parsed', () => {
   assert.deepEqual(parseDrawing(` ${symbol.svg({ mm: 30 }).replaceAll('\n', '\r\n')}`).squares, [symbol.modules]);
 });
 
+test('a light row is no empty line between symbols', () => {
+  const all = Array.from({ length: 200 }, (_, number) => encode(`${number}`));
+  const symbols = all.filter((it) => !it.modules.subarray(7 * 21, 8 * 21).includes(1)).slice(0, 2);
+  for (const margin of [0, 1, 4]) {
+    for (const [gap, ending] of [['', '\n'], ['\n', '\n'], ['\r\n\r\n', '\r\n'], ['', '\n\n'], ['', '\r\n\r\n']]) {
+      const linesOf = (it) => it.text({ margin, type: 'ASCII' }).split('\n').slice(0, -1);
+      const text = symbols.map((it) => linesOf(it).map((line) => line.trimEnd() + ending).join('')).join(gap);
+      for (const pasted of [text, text.split('\n').map((line) => `\t${line}`).join('\n')]) {
+        const found = parseDrawing(pasted);
+        assert.deepEqual([found.type, found.squares], ['ASCII', symbols.map((it) => it.modules)], JSON.stringify([margin, gap, ending]));
+      }
+    }
+  }
+});
+
+test('texts of many lines and of long lines are no drawings', () => {
+  const long = `x${' '.repeat(300000)}y`;
+  for (const given of ['a\n'.repeat(300000), `${'x'.repeat(1e6)}\n${'y\n'.repeat(1e5)}`, long, 'A\nB', '\u2588\n\u2588']) {
+    assert.throws(() => parseDrawing(given), refused('NoDrawingError', 11, 'NO_DRAWING'));
+  }
+});
+
 test('other texts are no drawings', () => {
   const text = encode('Shelf 12').text({ type: 'ASCII' });
   for (const given of ['', '\n', 'hello', text.replace('##', '# '), text.replace('##', '??'), '<svg></svg>']) {
@@ -437,6 +460,37 @@ test('character sets of ECIs', () => {
   }
 });
 
+test('each byte of each character set', () => {
+  // SHA-256 of the character of each byte in each set, with U+FFFD for none; python/tests/test_labels.py has the same
+  const wanted = '2e4d953e822aa78687c03e4c764715542b1cae556d237905f22a7de38e10f7b7';
+  const numbers = Array.from({ length: 33 }, (_, number) => number).filter((it) => ![14, 19, 31].includes(it));
+  const character = (number, byte) => {
+    try {
+      return contentOf([byte], { ecis: [{ begin: 0, number }] }).text();
+    } catch (error) {
+      if (!(error instanceof TypeError)) throw error;
+      return '\ufffd';
+    }
+  };
+  const said = numbers.map((number) => Array.from({ length: 256 }, (_, byte) => character(number, byte)).join('')).join('');
+  assert.equal(createHash('sha256').update(said).digest('hex'), wanted);
+});
+
+test('characters of several bytes', () => {
+  const text = (number, ...data) => contentOf(data, { ecis: [{ begin: 0, number }] }).text();
+  assert.equal(text(20, 0x1c, 0x93, 0x5f, 0x41, 0xb1, 0x1a, 0x7f), '\x1c点Aｱ\x1a\x7f');
+  assert.equal(text(29, 0x41, 0xd6, 0xd0, 0x81, 0x30, 0x81, 0x30, 0x31), 'A中\x801');
+  // a syllable beyond KS X 1001: some engines have it, the others know it for none
+  try {
+    assert.equal(text(30, 0x81, 0x41), '갂');
+  } catch (error) {
+    assert.ok(error instanceof TypeError);
+  }
+  for (const [number, ...data] of [[20, 0x93, 0x7f], [20, 0xb1, 0xfd], [28, 0xa4], [29, 0x81, 0x30, 0x81], [30, 0xb0, 0x40]]) {
+    assert.throws(() => text(number, ...data), TypeError);
+  }
+});
+
 test('fields of GS1 data', () => {
   const content = labelled('zint --gs1 -d [10]9NJY[8008]37090120 --secure=2');
   assert.deepEqual([new TextDecoder().decode(content.data), content.gs1, content.ecis, content.application], ['109NJY\x1d800837090120', true, [], null]);
@@ -457,6 +511,8 @@ test('each application identifier', () => {
     ['800304012345678901A1', [['8003', '04012345678901A1']]], ['800304012345678901', [['8003', '04012345678901']]],
     ['8006040123456789010102', [['8006', '040123456789010102']]], ['80082612312359', [['8008', '2612312359']]],
     ['17261200\x1d8020A1\x1d', [['17', '261200'], ['8020', 'A1']]], [`99${'z'.repeat(90)}`, [['99', 'z'.repeat(90)]]],
+    ['423056\x1d425056276', [['423', '056'], ['425', '056276']]],
+    ['172802291100022915270200', [['17', '280229'], ['11', '000229'], ['15', '270200']]],
   ];
   for (const [data, fields] of cases) assert.deepEqual(gs1(data).fields(), fields, data);
 });
@@ -469,7 +525,10 @@ test('wrong fields are named', () => {
     ['17260230', /^\(17\) 260230 is no date$/], ['3712A', /^\(37\) 'A' is not a digit$/], ['10A B', /^\(10\) ' ' is not a character of GS1's set 82$/],
     ['8010a', /^\(8010\) 'a' is not a character of GS1's set 39$/], ['800826123124', /^\(8008\) 24 is no hour$/],
     ['800826123123599', /^\(8008\) 599 is no time$/], ['3712\x1d\x1d2001', /begins '\\x1d200'$/], ['0512', /begins '0512'$/],
-    ['3106000000', /begins '3106'$/], ['', /no field/],
+    ['3106000000', /begins '3106'$/], ['', /no field/], ['37\'', /^\(37\) "'" is not a digit$/], ['37\\', /^\(37\) '\\\\' is not a digit$/],
+    ['17270229', /^\(17\) 270229 is no date$/],
+    ['800826120012', /^\(8008\) 261200 is no date$/], ['4230560', /^\(423\) 0560 is not of codes of three digits$/],
+    ['42305', /^\(423\) has 3 to 15 characters, and not 2$/], ['800314012345678908', /^\(8003\) its first digit is 1, and should be 0$/],
   ];
   for (const [data, why] of cases) assert.throws(() => gs1(data).fields(), named('Gs1Error', why), data);
   assert.throws(() => read(encode('3712')).fields(), named('Gs1Error', /does not say/));

@@ -264,12 +264,13 @@ class Content:
     def text(self) -> str:
         """Returns the data as text, each byte by the ECI in effect, and by UTF-8 where there is none. Raises EciError for an ECI whose
         characters are not known, or that means bytes, and UnicodeDecodeError for bytes that are no characters; both are
-        ValueErrors."""
+        ValueErrors. A symbol of a series may begin or end within a character."""
         return text_of(self.data, self.ecis)
 
     def fields(self) -> list[tuple[str, str]]:
         """Returns the fields of GS1 data, each as its application identifier and its value. Raises Gs1Error, which is a ValueError, if
-        it is no GS1 data, for an identifier that is not known, and for a value with a wrong length, character, check digit or date."""
+        it is no GS1 data, for an identifier that is not known, and for a value with a wrong length, character, check digit,
+        first digit or date. A symbol of a series may begin or end within a value."""
         if not self.gs1:
             raise Gs1Error("the symbol does not say that its data are GS1 data")
         return fields_of(self.data)
@@ -547,8 +548,8 @@ def parse_drawing(text: Union[str, Bytes]) -> Drawn:
 
     text  of '##' and two spaces, either of them dark, of half blocks, or an SVG document as draw writes it, also with a size. It may
           have been pasted: line ends of two characters, an indentation, lost spaces at the ends of lines, empty lines between
-          symbols and the half blocks of qrencode 4.1.1 are undone. In a text that is no such drawing '??' is a module that is not
-          known, which becomes 2.
+          symbols or after each line, and the half blocks of qrencode 4.1.1 are undone. In a text that is no such drawing '??' is a
+          module that is not known, which becomes 2.
 
     The result says by its `drawing` and its `margin` whether the text is exactly the drawing of these squares, or whether they
     were found by their look. The margin is 0 if it was lost with the spaces of the text.
@@ -559,7 +560,8 @@ def parse_drawing(text: Union[str, Bytes]) -> Drawn:
     """
     given = text if isinstance(text, str) else _copied(text).decode()
     for drawing in undone(given):
-        found = _exactly(drawing.encode())
+        # (half a surrogate pair is in no drawing)
+        found = _exactly(drawing.encode(errors="surrogatepass"))
         if found is not None:
             return found
     return Drawn(found_by_look(given))

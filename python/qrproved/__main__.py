@@ -3,6 +3,7 @@ checks pictures and drawings."""
 from __future__ import annotations
 
 import argparse
+import io
 import os
 import sys
 import time
@@ -138,6 +139,8 @@ def check(words: list[str]) -> int:
                                      " sound, 1 if each can be read, and 2 otherwise.")
     parser.add_argument("file", nargs="?", default="-", help="a file with the picture or the drawing; without it, standard input")
     given = parser.parse_args(words)
+    if isinstance(sys.stdout, io.TextIOWrapper):
+        sys.stdout.reconfigure(errors="backslashreplace")  # of characters that the terminal's encoding has not
     with sys.stdin.buffer if given.file == "-" else open(given.file, "rb") as source:
         data = source.read()
     try:

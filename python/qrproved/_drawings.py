@@ -16,6 +16,9 @@ HALVES = {" ": (NO_INK, NO_INK), "\u2580": (INK, NO_INK), "\u2584": (NO_INK, INK
 FINDER = ["1111111", "1000001", "1011101", "1011101", "1011101", "1000001", "1111111"]
 SIDES = range(21, 178, 4)
 COUNT_MAX = 16
+MARGIN_MAX = 255  # of a drawing that is parsed
+WIDTH_MAX = 2 * (SIDES[-1] + 2 * MARGIN_MAX)
+LINES_MAX = COUNT_MAX * WIDTH_MAX  # an empty line may follow each
 
 SIZE = re.compile(r'<svg width="[^"]*" height="[^"]*" ')
 FULL = "\u2588"  # two light modules
@@ -41,21 +44,36 @@ def _inner(lines: list[str]) -> list[str]:
     return [row[left:len(row) - right] for row in rows]
 
 
+def _squares(lines: list[str]) -> list[str]:
+    """Returns the lines of squares in ASCII, which are two characters wide for each line that they are high, without the empty lines
+    around them. A row of a symbol may be light, and so empty without the margin: of small versions the one below the upper finder
+    patterns often is."""
+    side, found, k = max(map(len, lines)) // 2 or 1, [], 0
+    while k < len(lines):
+        found += lines[k:k + side] if lines[k] else []
+        k += side if lines[k] else 1
+    return found
+
+
 def undone(text: str) -> Iterator[str]:
     """Yields the drawings that a pasted text may have been, from the likeliest on: with other signs for line ends and spaces; with an
-    indentation, or without spaces at line ends; with empty lines between symbols; or half blocks of qrencode 4.1.1. Of an SVG
-    document, the one without a size."""
+    indentation, or without spaces at line ends; with empty lines between symbols, or after each line; or half blocks of qrencode
+    4.1.1. Of an SVG document, the one without a size."""
     clean = _clean(text)
     if clean.lstrip().startswith("<"):
         yield SIZE.sub("<svg ", clean.strip() + "\n", count=1)
         return
     yield clean if clean.endswith("\n") else clean + "\n"
     lines = [line.rstrip(" ") for line in textwrap.dedent(clean).strip("\n").split("\n")]
+    if len(lines) > LINES_MAX or max(map(len, lines)) > WIDTH_MAX:
+        return
     yield _padded(lines)
     filled = [line for line in lines if line]
-    if filled:
+    if len(filled) > 1:
+        for some in [lines] if any(lines[1::2]) else [lines, lines[::2]]:
+            yield _padded(_squares(some))
         yield _padded(filled)
-        inner = _inner(_padded(filled).splitlines())
+        inner = _inner(_padded(filled).split("\n")[:-1])
         if inner:
             yield _padded(inner)
 

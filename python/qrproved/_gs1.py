@@ -4,8 +4,9 @@ from __future__ import annotations
 import re
 
 # Application identifiers, and the parts of their values: digits (N), characters of GS1's set 82 (X) or of its set 39 (Y), so many of
-# them, or from 1 (or 0) to so many. The last digit of a part with `check` is its check digit, `date` is YYMMDD with day 00 for none,
-# `hour` is that and HH, and `time` is MM or MMSS. js/gs1.js has the same table.
+# them, or from 1 (or 0) to so many. The last digit of a part with `check` is its check digit, `zero` is the digit 0, `date` is YYMMDD
+# with day 00 for none, `hour` is YYMMDDHH, `time` is MM or MMSS, and `countries` are codes of three digits each. js/gs1.js has the
+# same table.
 IDENTIFIERS = r"""
 00                              N18:check
 0[12]                           N14:check
@@ -24,9 +25,9 @@ IDENTIFIERS = r"""
 420                             X1..20
 421                             N3 X1..9
 42[246]                         N3
-42[35]                          N3 N1..12
+42[35]                          N3..15:countries
 427                             X1..3
-8003                            N14:check X0..16
+8003                            N1:zero N13:check X0..16
 8004                            X1..30
 8005                            N6
 8006                            N14:check N4
@@ -75,12 +76,21 @@ def _check_fault(text: str) -> str | None:
     return None if int(text[-1]) == wanted else f"its check digit is {text[-1]}, and should be {wanted}"
 
 
+def _zero_fault(text: str) -> str | None:
+    return None if text == "0" else f"its first digit is {text}, and should be 0"
+
+
 def _date_fault(text: str) -> str | None:
-    month, day = int(text[2:4]), int(text[4:6])
-    return None if 1 <= month <= 12 and day <= DAYS[month - 1] else f"{text} is no date"
+    """Of the years that two digits may stand for, each that is a multiple of 4 is a leap year."""
+    year, month, day = int(text[:2]), int(text[2:4]), int(text[4:6])
+    is_date = 1 <= month <= 12 and day <= DAYS[month - 1] and (month != 2 or day < 29 or year % 4 == 0)
+    return None if is_date else f"{text} is no date"
 
 
 def _hour_fault(text: str) -> str | None:
+    """Of an hour the day has to be said."""
+    if text[4:6] == "00":
+        return f"{text[:6]} is no date"
     return _date_fault(text[:6]) or (None if int(text[6:]) < 24 else f"{text[6:]} is no hour")
 
 
@@ -89,7 +99,11 @@ def _time_fault(text: str) -> str | None:
     return None if text == "" or all(len(it) == 2 and int(it) < 60 for it in parts) else f"{text} is no time"
 
 
-RULES = {"check": _check_fault, "date": _date_fault, "hour": _hour_fault, "time": _time_fault}
+def _countries_fault(text: str) -> str | None:
+    return None if len(text) % 3 == 0 else f"{text} is not of codes of three digits"
+
+
+RULES = {"check": _check_fault, "zero": _zero_fault, "date": _date_fault, "hour": _hour_fault, "time": _time_fault, "countries": _countries_fault}
 TABLE = [(re.compile(row.split()[0], re.ASCII), [Part(it) for it in row.split()[1:]]) for row in IDENTIFIERS.strip().split("\n")]
 
 

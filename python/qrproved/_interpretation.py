@@ -1,6 +1,7 @@
 """What the bytes of a symbol mean as characters: its ECI headers (Extended Channel Interpretation; ISO/IEC 18004:2015, 7.4.2)."""
 from __future__ import annotations
 
+import re
 from typing import TYPE_CHECKING, NamedTuple
 
 if TYPE_CHECKING:
@@ -20,8 +21,8 @@ class EciError(ValueError):
     """The bytes of an ECI are not read as characters."""
 
 
-# The character sets of ECIs by Python's names, as js/interpretation.js has them by those of browsers. For Chinese, Japanese and
-# Korean these are the larger sets that browsers decode.
+# The character sets of ECIs by Python's names, as js/interpretation.js has them by those of browsers. For 20, 29, 30 and 32 these are
+# the larger sets that browsers decode.
 CODECS = {
     0: "cp437", 1: "latin-1", 2: "cp437", 3: "latin-1", 4: "iso8859-2", 5: "iso8859-3", 6: "iso8859-4", 7: "iso8859-5", 8: "iso8859-6",
     9: "iso8859-7", 10: "iso8859-8", 11: "iso8859-9", 12: "iso8859-10", 13: "iso8859-11", 15: "iso8859-13", 16: "iso8859-14",
@@ -29,6 +30,8 @@ CODECS = {
     27: "ascii", 28: "big5", 29: "gb18030", 30: "cp949", 32: "gb18030",
 }
 BYTES = 899
+# What Python has for bytes that are no characters of the set: 80, A0 and FD to FF.
+NO_CHARACTERS = {"cp932": re.compile("[\x80\uf8f0-\uf8f3]")}
 
 
 def stretches(data: bytes, ecis: Sequence[Eci]) -> Iterator[tuple[int | None, bytes]]:
@@ -42,7 +45,16 @@ def stretches(data: bytes, ecis: Sequence[Eci]) -> Iterator[tuple[int | None, by
 def text_of(data: bytes, ecis: Sequence[Eci]) -> str:
     """Returns the characters: those without an ECI as UTF-8. Raises EciError for an ECI that is not known or that means bytes, and
     UnicodeDecodeError for bytes that are no characters."""
-    return "".join(part.decode(_codec(number)) for number, part in stretches(data, ecis))
+    return "".join(_decoded(part, _codec(number)) for number, part in stretches(data, ecis))
+
+
+def _decoded(data: bytes, codec: str) -> str:
+    text = data.decode(codec)
+    fault = codec in NO_CHARACTERS and NO_CHARACTERS[codec].search(text)
+    if fault:
+        start = len(text[:fault.start()].encode(codec))
+        raise UnicodeDecodeError(codec, data, start, start + 1, "illegal byte")
+    return text
 
 
 def _codec(number: int | None) -> str:

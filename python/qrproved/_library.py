@@ -10,6 +10,8 @@ from pathlib import Path
 VARIABLE = "QRPROVED_LIBRARY"
 FILE = "libqrproved.so.0"
 
+VERSION_NUMBER = 200  # the structs and the calls may change with each version
+
 SIDE_MAX = 177
 SYMBOL_MAX = 31329
 COUNT_MAX = 16
@@ -77,13 +79,22 @@ def path_of_library() -> str:
 
 
 def load() -> ctypes.CDLL:
-    """Returns the library with the types of its calls. Raises ImportError if it is missing or lacks a call."""
+    """Returns the library with the types of its calls. Raises ImportError if it is missing, lacks a call or has another version."""
     path = path_of_library()
     try:
         library = ctypes.CDLL(path)
+        library.qrproved_version.argtypes, library.qrproved_version.restype = [], c_uint32
+        version = library.qrproved_version()
+        if version != VERSION_NUMBER:
+            raise ImportError(f"{path} cannot be used: its version is {_named(version)}, and that of the package {_named(VERSION_NUMBER)}")
         for name, parameters in PARAMETERS.items():
             call = getattr(library, name)
             call.argtypes, call.restype = parameters, c_uint8
     except (OSError, AttributeError) as fault:
         raise ImportError(f"{path} cannot be used: {fault}") from fault
     return library
+
+
+def _named(number: int) -> str:
+    """Returns the version of a number, as include/qrproved.h makes it."""
+    return f"{number // 10000}.{number // 100 % 100}.{number % 100}"

@@ -57,6 +57,10 @@ def _number(text: Optional[str], default: float) -> float:
     return float(found.group(1))
 
 
+def _opacity(text: Optional[str], default: float) -> float:
+    return min(1.0, max(0.0, _number(text, default)))
+
+
 def _brightness(colour: str, alpha: float, ground: int) -> Optional[int]:
     """Returns the brightness of a colour over a ground; None if nothing is drawn."""
     text = colour.strip().lower()
@@ -79,11 +83,11 @@ def _styled(element: ElementTree.Element, style: Style) -> Style:
     given = dict(element.attrib)
     given.update(pair.strip().split(":", 1) for pair in given.get("style", "").split(";") if ":" in pair)
     given = {name.strip(): value.strip() for name, value in given.items()}
-    alpha = _number(given.get("opacity"), 1)
+    alpha = _opacity(given.get("opacity"), 1)
     style = style._replace(fill=given.get("fill", style.fill), stroke=given.get("stroke", style.stroke),
                            width=_number(given.get("stroke-width"), style.width),
-                           fill_alpha=_number(given.get("fill-opacity"), style.fill_alpha) * alpha,
-                           stroke_alpha=_number(given.get("stroke-opacity"), style.stroke_alpha) * alpha)
+                           fill_alpha=_opacity(given.get("fill-opacity"), style.fill_alpha) * alpha,
+                           stroke_alpha=_opacity(given.get("stroke-opacity"), style.stroke_alpha) * alpha)
     rest = given.get("transform", "")
     for name, words in re.findall(r"(\w+)\s*\(([^)]*)\)", rest):
         numbers = [float(it) for it in re.findall(NUMBER, words)]
@@ -130,8 +134,8 @@ def _subpaths(data: str) -> Iterator[list[tuple[float, float]]]:
             if points:
                 points.append(points[0])
                 x, y = points[0]
+                yield points
             command = ""
-            yield points
             points = [(x, y)]
             continue
         base_x, base_y = (x, y) if command.islower() else (0.0, 0.0)
@@ -213,11 +217,14 @@ def pixels(document: bytes, ground: int) -> list[bytes]:
     white. Rows that are alike are one object. Raises ValueError if it is no such document."""
     try:
         root = ElementTree.fromstring(document)
-    except ElementTree.ParseError as fault:
+    except (ElementTree.ParseError, LookupError) as fault:  # (an encoding that is not known)
         raise ValueError(f"the SVG document cannot be parsed: {fault}") from None
     if root.tag.rsplit("}", 1)[-1] != "svg":
         raise ValueError("the document is not SVG")
-    drawn = [Rectangle(*(round(FINE * edge) for edge in it[:4]), it.brightness) for it in _rectangles(root, Style(), ground)]
+    try:
+        drawn = [Rectangle(*(round(FINE * edge) for edge in it[:4]), it.brightness) for it in _rectangles(root, Style(), ground)]
+    except (OverflowError, RecursionError):
+        raise ValueError("the SVG document has too large a number, or an element within too many others") from None
     drawn = [it for it in drawn if it.left < it.right and it.top < it.bottom]
     if not drawn:
         raise ValueError("the SVG document draws nothing")

@@ -1,6 +1,8 @@
 """Symbols with ECI headers and FNC1: the text and the fields of what others encoded. The symbols are those of tests/labels.jsonl,
 which the words that made them explain, and some whose codewords were written by hand."""
+import hashlib
 import json
+import os
 import pathlib
 import re
 import subprocess
@@ -34,6 +36,9 @@ SETS = [
     (29, b"\xd6\xd0", "中"),
     (30, b"\xb0\xa1", "가"),
 ]
+# SHA-256 of the character of each byte in each of these sets, with U+FFFD for none; js/tests/qrproved.test.js has the same.
+SINGLE_BYTES = "2e4d953e822aa78687c03e4c764715542b1cae556d237905f22a7de38e10f7b7"
+NUMBERS = [*range(14), *range(15, 19), *range(20, 31), 32]
 # GS1 data, and their fields.
 FIELDS = [
     (b"0104012345678901" b"10ABC123\x1d17261231", [("01", "04012345678901"), ("10", "ABC123"), ("17", "261231")]),
@@ -49,6 +54,8 @@ FIELDS = [
     (b"800826123123" b"59", [("8008", "2612312359")]),
     (b"17261200" b"\x1d" b"8020A1\x1d", [("17", "261200"), ("8020", "A1")]),
     (b"99" + b"z" * 90, [("99", "z" * 90)]),
+    (b"423056\x1d" b"425056276", [("423", "056"), ("425", "056276")]),
+    (b"17280229" b"11000229" b"15270200", [("17", "280229"), ("11", "000229"), ("15", "270200")]),
 ]
 # GS1 data with a wrong field, and what the error says.
 WRONG = [
@@ -59,6 +66,11 @@ WRONG = [
     (b"10\x1d17261231", r"^\(10\) has 1 to 20 characters, and not 0$"),
     (b"17261331", r"^\(17\) 261331 is no date$"),
     (b"17260230", r"^\(17\) 260230 is no date$"),
+    (b"17270229", r"^\(17\) 270229 is no date$"),
+    (b"800826120012", r"^\(8008\) 261200 is no date$"),
+    (b"4230560", r"^\(423\) 0560 is not of codes of three digits$"),
+    (b"42305", r"^\(423\) has 3 to 15 characters, and not 2$"),
+    (b"800314012345678908", r"^\(8003\) its first digit is 1, and should be 0$"),
     (b"3712A", r"^\(37\) 'A' is not a digit$"),
     (b"10A B", r"^\(10\) ' ' is not a character of GS1's set 82$"),
     (b"8010a", r"^\(8010\) 'a' is not a character of GS1's set 39$"),
@@ -110,6 +122,21 @@ class Texts(unittest.TestCase):
     def test_character_sets(self):
         for number, data, text in SETS:
             self.assertEqual(Content(data, 1, None, (Eci(0, number),)).text(), text, number)
+
+    def test_each_byte_of_each_character_set(self):
+        def character(number, byte):
+            try:
+                return Content(bytes([byte]), 1, None, (Eci(0, number),)).text()
+            except UnicodeDecodeError:
+                return "\ufffd"
+        said = "".join(character(number, byte) for number in NUMBERS for byte in range(256))
+        self.assertEqual(hashlib.sha256(said.encode()).hexdigest(), SINGLE_BYTES)
+
+    def test_where_bytes_are_no_characters_is_said(self):
+        for data, start in ((b"\x80", 0), (b"A\x93\x5f\xb1\xfdB", 4)):
+            with self.assertRaises(UnicodeDecodeError) as refused:
+                Content(data, 1, None, (Eci(0, 20),)).text()
+            self.assertEqual((refused.exception.object, refused.exception.start, refused.exception.end), (data, start, start + 1))
 
     def test_bytes_before_the_first_header_are_utf8(self):
         content = Content("é".encode() + b"\xe9" + "é".encode(), 1, None, (Eci(2, 3), Eci(3, 26)))
@@ -172,6 +199,12 @@ class Others(unittest.TestCase):
             symbol = qrproved.Symbol(row["version"], row["side"], None, modules_of(row["rows"], row["side"]))
             ran = subprocess.run([sys.executable, "-B", "-m", "qrproved", "check"], input=symbol.png(), capture_output=True, timeout=60)
             self.assertEqual(ran.stdout.decode().split("\n", 1)[1], said)
+
+    def test_check_writes_what_the_encoding_of_the_terminal_has_not(self):
+        environment = {**os.environ, "PYTHONIOENCODING": "ascii"}
+        ran = subprocess.run([sys.executable, "-B", "-m", "qrproved", "check"], input=qrproved.encode("点é").png(), capture_output=True,
+                             timeout=60, env=environment)
+        self.assertEqual((ran.returncode, ran.stdout.decode().split("\n", 1)[1], ran.stderr), (0, "contains \\u70b9\\xe9\n", b""))
 
 
 if __name__ == "__main__":

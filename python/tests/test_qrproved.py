@@ -4,6 +4,7 @@ import array
 import json
 import re
 import unittest
+import unittest.mock
 from xml.etree import ElementTree
 
 import qrproved
@@ -277,6 +278,11 @@ class Refusals(unittest.TestCase):
         self.refused(qrproved.CheckError, 9, qrproved.read, inverted(EIGHT_DIGITS, 440), 21)
         region = range(9 * 21 + 9, 16 * 21)
         self.refused(qrproved.CheckError, 9, qrproved.mend, inverted(EIGHT_DIGITS, *region), 21)
+
+    def test_a_library_of_another_version_is_refused(self):
+        with unittest.mock.patch.object(qrproved._library, "VERSION_NUMBER", 12345):
+            with self.assertRaisesRegex(ImportError, r"its version is \d+\.\d+\.\d+, and that of the package 1\.23\.45$"):
+                qrproved._library.load()
 
     def test_each_status_has_an_exception(self):
         kinds = [kind for kind in vars(qrproved).values() if isinstance(kind, type) and issubclass(kind, qrproved.Error)]

@@ -40,10 +40,11 @@ fn main() {
     println!("cargo:root={folder}");
 }
 
-/// Returns the folder of the installed library. Ends the build if there is none of this version or a later one.
+/// Returns the folder of the installed library. Ends the build if there is none of this version: structs and calls may change with
+/// each.
 fn folder_of_pkg_config() -> String {
     let command = env::var(PKG_CONFIG).unwrap_or_else(|_| "pkg-config".to_string());
-    let wanted = concat!("qrproved >= ", env!("CARGO_PKG_VERSION"));
+    let wanted = concat!("qrproved = ", env!("CARGO_PKG_VERSION"));
     let said = Command::new(&command)
         .args(["--print-errors", "--variable=libdir", wanted])
         .output();
