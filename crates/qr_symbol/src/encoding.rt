@@ -1,14 +1,16 @@
 //! Encodes an input as one symbol (ISO/IEC 18004:2015, 7.1).
 
-ghost use Rattle.std.specs.Prelude.{◌≡◌, ◌≢◌, ◌+◌, ◌<◌, ◌≤◌, ◌↔◌, ◌⊎◌, [], length, Err, IfOk, IfErr, MatchResult};
+ghost use Rattle.std.specs.Prelude.{◌≡◌, ◌≢◌, ◌+◌, ◌<◌, ◌≤◌, ◌↔◌, ◌⊎◌, ℕ, List, [], length, Err, IfOk, IfErr, MatchResult};
 ghost use Rattle.std.specs.Option.{ForSome};
 ghost use Rattle.qr_bits.specs.declared.modes.Rule.{Rule};
 ghost use Rattle.qr_bits.specs.Segmentation.{bits, Covers, IsLeastSegmentation};
-ghost use Rattle.qr_bits.specs.Padding.{capacity_of};
+ghost use Rattle.qr_bits.specs.Padding.{IsData, capacity_of};
+ghost use Rattle.qr_bits.specs.declared.interpretation.Interpretation.{Interpretation};
 ghost use Rattle.qr_bits.specs.Header.{header_bits};
 ghost use Rattle.qr_symbol.specs.declared.fault.EncodeFault.{EncodeFault};
 ghost use Rattle.qr_symbol.specs.Reading.{IsReadBack};
 ghost use Rattle.qr_symbol.specs.Encoding.{IsSymbol};
+ghost use Rattle.qr_symbol.specs.Interleaving.{IsInterleaved};
 ghost use Rattle.qr_symbol.specs.VersionChoice.{HasNoVersion};
 ghost use Rattle.qr_symbol.specs.Series.{IsSymbolOf};
 
@@ -92,6 +94,38 @@ pub(crate) fn symbol_at(
     symbol_on(alloc, &mut canvas, input, segments, header)
 }
 
+// The final sequence of the input in these segments (7.4 to 7.6). Out of line, so that the data codewords are gone, and not on
+// the stack, when the symbol is drawn.
+#[inline(never)]
+fn final_codewords(
+    alloc: Global,
+    input: &[u8],
+    segments: &[Segment],
+    header: Option<Header>,
+    version: Version,
+    level: Level,
+) -> Result<Vec<u8>, EncodeFault>
+    requires short { length input.now ≤ INPUT_MAX }
+    requires covered { Covers input.now segments.now }
+    requires in_range { ForSome header (λ h. (h.position < 16) × (h.last < 16)) }
+    ensures { MatchResult result
+        (λ cw. (message : List ℕ) × IsData version level input.now segments.now header Interpretation.Default message
+        × IsInterleaved version level message cw.items)
+        (λ e. (e ≡ EncodeFault.Memory) ⊎ ((e ≡ EncodeFault.TooLong)
+        × (capacity_of version level < header_bits header + bits version segments.now))) }
+{
+    let message = codewords(
+        alloc,
+        input,
+        segments,
+        header,
+        Interpretation::Default,
+        version,
+        level,
+    )?;
+    Ok(interleave(alloc, version, level, &message)?)
+}
+
 // As `symbol_at`, but on the given canvas, with its version and level.
 pub(crate) fn symbol_on(
     alloc: Global,
@@ -112,17 +146,7 @@ pub(crate) fn symbol_on(
         × (capacity_of canvas.old.version canvas.old.level
         < header_bits header + bits canvas.old.version segments.now))) }
 {
-    let version = canvas.version;
-    let level = canvas.level;
-    let message = codewords(
-        alloc,
-        input,
-        segments,
-        header,
-        Interpretation::Default,
-        version,
-        level,
-    )?;
-    let interleaved = interleave(alloc, version, level, &message)?;
-    build_on(alloc, canvas, &interleaved)
+    let (version, level) = (canvas.version, canvas.level);
+    let codewords = final_codewords(alloc, input, segments, header, version, level)?;
+    build_on(alloc, canvas, &codewords)
 }
