@@ -90,5 +90,5 @@ fn a_bounded_writer_takes_what_it_has_room_for(rt: HostRuntime) {
     assert_eq!(rt; device.write(b"cd"), Ok(1));
     assert_eq!(rt; device.write(b"e"), Ok(0));
     assert_eq!(rt; device.flush(), Ok(()));
-    assert!(rt; device.into_inner().bytes.as_slice() == b"abc");
+    assert!(rt; device.into_inner().bytes.as_slice() == b"abc".as_slice());
 }

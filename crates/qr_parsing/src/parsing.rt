@@ -147,8 +147,8 @@ fn all_begin(squares: &[Matrix]) -> bool
     true
 }
 
-// Draws what is shown and compares it with `text`. No more than one byte after the length of `text` is drawn, so that a
-// text for which a longer drawing is made requests no more memory than a drawing of its own length.
+// Draws what is shown and compares it with `text`. There is room for one byte more than `text` has, since a longer drawing
+// is another one. So no more memory is requested than for a drawing of this length.
 fn is_drawn(alloc: Global, shown: &Drawn, text: &[u8]) -> Result<bool, AllocError>
     requires { CanBeDrawn shown.now.squares.items }
     ensures { IfOk result (λ b. Decides b (text.now ≡ drawn shown.now.kind shown.now.margin shown.now.squares.items)) }
@@ -161,7 +161,7 @@ fn is_drawn(alloc: Global, shown: &Drawn, text: &[u8]) -> Result<bool, AllocErro
     match drawing {
         Ok(()) => Ok(text == again.as_slice()),
         Err(_) if again.len() > text.len() => Ok(false),
-        // `draw` fails only where the drawing is longer, but no contract says so.
+        // `draw` fails only where the room ends, but its contract does not say so.
         Err(_) => Err(AllocError),
     }
 }

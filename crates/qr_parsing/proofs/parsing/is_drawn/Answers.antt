@@ -4,6 +4,7 @@ use Rattle.std.specs.Bool.{Decides}
 use Rattle.qr_drawing.specs.Drawing.{drawn}
 use Rattle.qr_parsing.proofs.parsing.is_drawn.Goals as goal
 
+-- what was drawn is the whole drawing, and `==` compares it with the text
 pub returns-in-Ok : goal.returns-in-Ok
 returns-in-Ok c =
     let s = c.args.shown.now in
