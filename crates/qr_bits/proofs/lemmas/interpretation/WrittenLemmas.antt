@@ -1,10 +1,11 @@
 -- The characters that are written for bytes, and their modes.
-use Rattle.std.proofs.Common.{◌≡◌, ℕ, zero, suc, ◌+◌, ◌≤◌, List, [], ◌∷◌, length, take, drop, replicate, sum_by, refl, ap, arith}
+use Rattle.std.proofs.Common.{◌≡◌, ℕ, zero, suc, ◌+◌, ◌*◌, ◌≤◌, List, [], ◌∷◌, length, take, drop, replicate, sum_by, refl, ap, arith}
 use Rattle.std.proofs.lemmas.{Bool.cond_both, List.Sums.sum_by-cons}
 use Rattle.qr_bits.specs.declared.modes.Mode.{Mode, TheVariants.{Numeric, Byte}}
 use Rattle.qr_bits.specs.declared.interpretation.Interpretation.{Interpretation, TheVariants.{Default, Gs1, Eci}}
 use Rattle.qr_bits.specs.Interpretation.{is_doubled, character_for, doubled_gs1, characters_gs1, doubled, characters_in, MayWrite}
-use Rattle.qr_bits.specs.Segmentation.{least_sixths}
+use Rattle.qr_bits.specs.declared.{modes.Rule.Rule, segment.Segment.Segment}
+use Rattle.qr_bits.specs.Segmentation.{least_sixths, IsLeastSegmentation}
 
 gs1-length : (xs : List ℕ) (ms : List Mode) → length (characters_gs1 xs ms) + length ms ≡ length (doubled_gs1 xs ms) + length xs
 unfolding characters_gs1 doubled_gs1
@@ -29,6 +30,22 @@ pub characters-longer : (i : Interpretation) (xs : List ℕ) (ms : List Mode) �
 characters-longer Default xs ms = omega arith
 characters-longer (Eci n) xs ms = omega arith
 characters-longer Gs1 xs ms = gs1-longer xs ms
+
+gs1-most : (xs : List ℕ) (ms : List Mode) → length (characters_gs1 xs ms) ≤ 2 * length xs
+unfolding characters_gs1
+gs1-most [] ms = omega arith
+gs1-most (x ∷ xs) [] = omega arith
+gs1-most (x ∷ xs) (m ∷ ms) = search (arith, cond_both, gs1-most xs ms)
+
+-- each byte is at most two characters
+pub characters-most : (i : Interpretation) (xs : List ℕ) (ms : List Mode) → length (characters_in i xs ms) ≤ 2 * length xs
+characters-most Default xs ms = omega arith
+characters-most (Eci n) xs ms = omega arith
+characters-most Gs1 xs ms = gs1-most xs ms
+
+-- the least segmentation has at most twice as many characters as the input has bytes
+pub least-most : (i : Interpretation) (v : ℕ) (r : Rule) (xs ys : List ℕ) (segs : List Segment) → IsLeastSegmentation i v r xs ys segs → length ys ≤ 2 * length xs
+least-most i v r xs ys segs h = rw h.3 (characters-most i xs h.0)
 
 character-sixths : (x : ℕ) (m : Mode) → least_sixths x ≤ least_sixths (character_for Gs1 x m)
 character-sixths x m = grind arith
