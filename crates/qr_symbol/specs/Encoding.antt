@@ -11,7 +11,7 @@ use Rattle.qr_matrix.specs.Grid.{Grid}
 use Rattle.qr_symbol.specs.Symbol.{grid_of}
 use Rattle.qr_symbol.specs.Interleaving.{IsInterleaved}
 use Rattle.qr_symbol.specs.Choice.{IsMask}
-use Rattle.qr_symbol.specs.VersionChoice.{IsVersion}
+use Rattle.qr_symbol.specs.VersionChoice.{IsHighestLevel, IsVersion}
 
 -- The symbol of version `v` that contains the optional header `h` and then `x`: the segments of fewest bits are written
 -- as data codewords, and their final sequence is drawn under the mask with the least penalty (ISO/IEC 18004:2015, 7.1,
@@ -31,8 +31,21 @@ pub record IsSymbol (smallest : ℕ) (l : Level) (rule : Rule) (x : List ℕ) (v
   pub version : IsVersion smallest l rule x v
   pub made : IsSymbolAt v l rule x None mask g
 
+-- The symbol without a header, of the least version `v`, from `smallest` on, that `x` fits at level `l`, and of the
+-- highest level `k` at which `x` fits this version [own]
+pub record IsBoostedSymbol (smallest : ℕ) (l : Level) (rule : Rule) (x : List ℕ) (v : ℕ) (k : Level) (mask : ℕ) (g : Grid) : Type 0 where
+  pub version : IsVersion smallest l rule x v
+  pub level : IsHighestLevel v l rule x k
+  pub made : IsSymbolAt v k rule x None mask g
+
 -- For a level, a smallest version and a rule, an input has at most one version, mask and square [own]
 abbrev pub SymbolsAreOne : Type 0
 SymbolsAreOne = (x : List ℕ) (l : Level) (smallest : ℕ) (rule : Rule) (v w m n : ℕ) (g h : Grid)
     → IsSymbol smallest l rule x v m g → IsSymbol smallest l rule x w n h
     → (v ≡ w) × (m ≡ n) × (g ≡ h)
+
+-- As `SymbolsAreOne`, for symbols of the highest level, which is one too [own]
+abbrev pub BoostedSymbolsAreOne : Type 0
+BoostedSymbolsAreOne = (x : List ℕ) (l : Level) (smallest : ℕ) (rule : Rule) (v w : ℕ) (k j : Level) (m n : ℕ) (g h : Grid)
+    → IsBoostedSymbol smallest l rule x v k m g → IsBoostedSymbol smallest l rule x w j n h
+    → (v ≡ w) × (k ≡ j) × (m ≡ n) × (g ≡ h)

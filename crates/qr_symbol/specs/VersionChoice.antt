@@ -1,6 +1,7 @@
--- The version that is chosen for the bytes `x` at level `l`; `rule` determines the allowed modes.
+-- The version and the level that are chosen for the bytes `x` at level `l`; `rule` determines the allowed modes.
 use Rattle.std.specs.Prelude.{ℕ, ◌<◌, ◌≤◌, List}
 use Rattle.qr_layout.specs.declared.level.Level.{Level}
+use Rattle.qr_layout.specs.declared.level.Level.TheVariants.{L, M, Q, H}
 use Rattle.qr_bits.specs.declared.modes.Rule.{Rule}
 use Rattle.qr_bits.specs.Segmentation.{HasFit}
 use Rattle.qr_bits.specs.Padding.{capacity_of}
@@ -19,3 +20,16 @@ pub record IsVersion (smallest : ℕ) (l : Level) (rule : Rule) (x : List ℕ) (
 -- `x` fits no version from `smallest` to 40 (ISO/IEC 18004:2015, 7.1)
 abbrev pub HasNoVersion : ℕ → Level → Rule → List ℕ → Type 0
 HasNoVersion smallest l rule x = (v : ℕ) → smallest ≤ v → v ≤ 40 → FitsVersion v l rule x → ⊥
+
+-- The order of levels: a higher one corrects more (ISO/IEC 18004:2015, 7.5.1)
+abbrev pub level_rank : Level → ℕ
+level_rank L = 0
+level_rank M = 1
+level_rank Q = 2
+level_rank H = 3
+
+-- Of the levels from `l` on, `k` is the highest at which `x` fits version `v` [own]
+pub record IsHighestLevel (v : ℕ) (l : Level) (rule : Rule) (x : List ℕ) (k : Level) : Type 0 where
+  pub least : level_rank l ≤ level_rank k
+  pub fits : FitsVersion v k rule x
+  pub highest : (m : Level) → level_rank k < level_rank m → FitsVersion v m rule x → ⊥

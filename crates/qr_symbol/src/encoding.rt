@@ -9,18 +9,19 @@ ghost use Rattle.qr_bits.specs.declared.interpretation.Interpretation.{Interpret
 ghost use Rattle.qr_bits.specs.Header.{header_bits};
 ghost use Rattle.qr_symbol.specs.declared.fault.EncodeFault.{EncodeFault};
 ghost use Rattle.qr_symbol.specs.Reading.{IsReadBack};
-ghost use Rattle.qr_symbol.specs.Encoding.{IsSymbol};
+ghost use Rattle.qr_symbol.specs.Encoding.{IsBoostedSymbol, IsSymbol};
 ghost use Rattle.qr_symbol.specs.Interleaving.{IsInterleaved};
 ghost use Rattle.qr_symbol.specs.VersionChoice.{HasNoVersion};
 ghost use Rattle.qr_symbol.specs.Series.{IsSymbolOf};
+ghost use Rattle.qr_symbol.specs.Steps.Encoding.{IsFit, IsRefusedExactly};
 
 use crate::canvas::Canvas;
 use crate::choice::build_on;
 use crate::fault::EncodeFault;
 use crate::interleaving::interleave;
 use crate::symbol::Symbol;
-use crate::version_choice::least_fit;
-use qr_bits::{Header, INPUT_MAX, Interpretation, Rule, Segment, codewords};
+use crate::version_choice::{Fit, highest_with_room, least_fit};
+use qr_bits::{Header, INPUT_MAX, Interpretation, Rule, Segment, bit_len, codewords};
 use qr_layout::{Level, Version};
 use std::alloc::Global;
 
@@ -62,14 +63,78 @@ pub fn encode(
     ensures fault { IfErr result (λ e. (e ≡ EncodeFault.Empty) ⊎ (e ≡ EncodeFault.TooLong)
         ⊎ (e ≡ EncodeFault.Memory)) }
 {
+    let fit = fit_of(alloc, input, level, smallest, rule)?;
+    fitting_symbol(alloc, input, &fit.segments, fit.version, level)
+}
+
+/// As `encode`, but `level` is the lowest that the symbol may have. The version is that of `encode`, and the level is
+/// the highest at which the input fits this version. So the symbol has no more modules than that of `encode`, and as
+/// much error correction as there is room for.
+///
+/// # Errors
+///
+/// Returns the same faults as `encode`.
+pub fn encode_boosted(
+    alloc: Global,
+    input: &[u8],
+    level: Level,
+    smallest: Version,
+    rule: Rule,
+) -> Result<Symbol, EncodeFault>
+    requires { length input.now ≤ INPUT_MAX }
+    ensures symbol { IfOk result (λ s. IsBoostedSymbol smallest level rule input.now
+        s.version s.level s.mask s.matrix) }
+    ensures read { IfOk result (λ s. IsReadBack s.version rule input.now s.matrix) }
+    ensures empty { (result ≡ Err EncodeFault.Empty) ↔ (input.now ≡ []) }
+    ensures too_long { (result ≡ Err EncodeFault.TooLong)
+        ↔ ((result ≢ Err EncodeFault.Memory) × HasNoVersion smallest level rule input.now) }
+    ensures long { 7089 < length input.now → result ≡ Err EncodeFault.TooLong }
+    ensures fault { IfErr result (λ e. (e ≡ EncodeFault.Empty) ⊎ (e ≡ EncodeFault.TooLong)
+        ⊎ (e ≡ EncodeFault.Memory)) }
+{
+    let fit = fit_of(alloc, input, level, smallest, rule)?;
+    let highest = highest_with_room(fit.version, level, bit_len(&fit.segments, fit.version));
+    fitting_symbol(alloc, input, &fit.segments, fit.version, highest)
+}
+
+// The least version that the input fits, with its segments there.
+fn fit_of(
+    alloc: Global,
+    input: &[u8],
+    level: Level,
+    smallest: Version,
+    rule: Rule,
+) -> Result<Fit, EncodeFault>
+    requires { length input.now ≤ INPUT_MAX }
+    ensures fit { IfOk result (λ f. IsFit smallest level rule input.now f.version f.segments.items) }
+    ensures refused { IsRefusedExactly smallest level rule input.now result }
+{
     if input.is_empty() {
         return Err(EncodeFault::Empty);
     }
     if input.len() > SYMBOL_BYTES_MAX {
         return Err(EncodeFault::TooLong);
     }
-    let fit = least_fit(alloc, input, level, smallest, rule)?;
-    symbol_at(alloc, input, &fit.segments, None, fit.version, level)
+    Ok(least_fit(alloc, input, level, smallest, rule)?)
+}
+
+// The plain symbol of an input that fits.
+fn fitting_symbol(
+    alloc: Global,
+    input: &[u8],
+    segments: &[Segment],
+    version: Version,
+    level: Level,
+) -> Result<Symbol, EncodeFault>
+    requires short { length input.now ≤ INPUT_MAX }
+    requires covered { Covers input.now segments.now }
+    requires room { bits version segments.now ≤ capacity_of version level }
+    ensures { MatchResult result
+        (λ s. (r : Rule) → IsLeastSegmentation version r input.now segments.now
+        → IsSymbolOf version level r input.now None s)
+        (λ e. e ≡ EncodeFault.Memory) }
+{
+    symbol_at(alloc, input, segments, None, version, level)
 }
 
 // Draws the symbol on a canvas of its own (7.1, 8.1).

@@ -21,7 +21,7 @@ ghost use Rattle.qr_symbol.specs.Fault.{read_fault_number};
 ghost use Rattle.qr_symbol.specs.Mask.{inverts};
 ghost use Rattle.qr_symbol.specs.Symbol.{colour_by, grid_of};
 ghost use Rattle.qr_symbol.specs.Reading.{read_bits, IsRead, IsMessage, IsFormat, IsReading, IsUnread};
-ghost use Rattle.qr_symbol.specs.Encoding.{IsSymbol, SymbolsAreOne};
+ghost use Rattle.qr_symbol.specs.Encoding.{BoostedSymbolsAreOne, IsSymbol, SymbolsAreOne};
 ghost use Rattle.qr_symbol.specs.VersionChoice.{FitsVersion, HasNoVersion, IsVersion};
 ghost use Rattle.qr_symbol.specs.Series.{squares_of, AreParts, FitParts, NeedsParts, IsSeries, HasNoSeries};
 ghost use Rattle.qr_symbol.specs.Joining.{IsJoined, IsUnjoined};
@@ -186,6 +186,11 @@ pub fn joinings_are_refused_exactly(alloc: Global, symbols: &[Symbol]) -> Result
 /// An input has at most one symbol for a level, a rule and a smallest version.
 pub fn symbols_are_one()
     ensures { SymbolsAreOne }
+{}
+
+/// An input has at most one symbol of the highest level for a lowest level, a rule and a smallest version.
+pub fn boosted_symbols_are_one()
+    ensures { BoostedSymbolsAreOne }
 {}
 
 /// Reading the symbol of an input yields its bytes, the segments of fewest bits, and no structured append header.

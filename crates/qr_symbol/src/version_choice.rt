@@ -1,4 +1,5 @@
-//! Finds the least version that an input fits, and its segments there (ISO/IEC 18004:2015, 7.1 and 7.4.1).
+//! Finds the least version that an input fits, its segments there, and the highest level at which it fits this version
+//! (ISO/IEC 18004:2015, 7.1 and 7.4.1).
 //!
 //! The bits of a segment depend on the version only by the width of the character count indicator, which changes only
 //! after versions 9 and 26. So an input is cut into segments at most once for each of the ranges 1 to 9, 10 to 26 and
@@ -12,7 +13,7 @@ ghost use Rattle.qr_bits.specs.Modes.{count_width};
 ghost use Rattle.qr_bits.specs.Segmentation.{IsLeastSegmentation};
 ghost use Rattle.qr_bits.specs.Padding.{capacity_of};
 ghost use Rattle.qr_layout.specs.declared.level.Level.{Level};
-ghost use Rattle.qr_symbol.specs.VersionChoice.{FitsVersion, IsVersion, HasNoVersion};
+ghost use Rattle.qr_symbol.specs.VersionChoice.{FitsVersion, IsVersion, HasNoVersion, level_rank};
 
 use qr_bits::{BitFault, INPUT_MAX, Rule, Segment, bit_len, least_bits, segments};
 use qr_layout::{Level, Version};
@@ -124,4 +125,19 @@ pub(crate) fn least_fit(
             None => return Err(BitFault::TooLong),
         }
     }
+}
+
+// The highest level, from `level` on, that has room for the bits.
+pub(crate) fn highest_with_room(version: Version, level: Level, bits: u64) -> Level
+    requires { bits ≤ capacity_of version level }
+    ensures least { level_rank level ≤ level_rank result }
+    ensures room { bits ≤ capacity_of version result }
+    ensures highest { (m : Level) → level_rank result < level_rank m → capacity_of version m < bits }
+{
+    for candidate in [Level::H, Level::Q, Level::M] {
+        if candidate == level || bits <= room_in(version.number(), candidate) {
+            return candidate;
+        }
+    }
+    level
 }

@@ -4,7 +4,8 @@ use Rattle.qr_bits.proofs.Facts.{data_one, segmentation-one}
 use Rattle.qr_bits.specs.{Padding.IsData, declared.{header.Header.Header, modes.Rule.Rule, segment.Segment.Segment}}
 use Rattle.{qr_layout.specs.declared.level.Level.Level, qr_matrix.specs.Grid.Grid}
 use Rattle.qr_symbol.{proofs.lemmas.interleaving.MessageLemmas.final-one, specs.Choice.IsFirstLeast}
-use Rattle.qr_symbol.specs.{Encoding.{IsSymbolAt, SymbolsAreOne}, Interleaving.IsInterleaved, VersionChoice.IsVersion}
+use Rattle.qr_symbol.specs.{Encoding.{BoostedSymbolsAreOne, IsSymbolAt, SymbolsAreOne}, Interleaving.IsInterleaved}
+use Rattle.qr_symbol.specs.VersionChoice.{IsHighestLevel, IsVersion, level_rank}
 use Rattle.std.proofs.{Common.{◌≡◌, ℕ, inl, inr, List, Option, subst, arith}, lemmas.Bool.cases_lt}
 
 -- Two first numbers of the least value are equal.
@@ -31,3 +32,21 @@ pub symbol-one : SymbolsAreOne
 symbol-one xs l least rule v w m n g h a b =
     let version : v ≡ w = version-one xs l _ _ v w a.version b.version in
     let rest = symbol-at-one w l _ xs _ m n g h (search arith) b.made in (version, rest.0, rest.1)
+
+-- levels of one rank are equal
+rank-one : (k j : Level) → level_rank k ≡ level_rank j → k ≡ j
+rank-one k j e = grind arith
+
+-- two highest levels are equal
+highest-one : (v : ℕ) (l : Level) (rule : Rule) (xs : List ℕ) (k j : Level) → IsHighestLevel v l rule xs k → IsHighestLevel v l rule xs j → k ≡ j
+highest-one v l rule xs k j a b = elim (cases_lt (level_rank k) (level_rank j)) [
+  | inl i ↦ absurd (a.highest j i b.fits)
+  | inr i ↦ elim (cases_lt (level_rank j) (level_rank k)) [ inl n ↦ absurd (b.highest k n a.fits) | inr n ↦ rank-one k j (omega arith) ]
+]
+
+-- An input has at most one boosted symbol.
+pub boosted-one : BoostedSymbolsAreOne
+boosted-one xs l least rule v w k j m n g h a b =
+    let version : v ≡ w = version-one xs l _ _ v w a.version b.version in
+    let level : k ≡ j = highest-one w l rule xs k j (search arith) b.level in
+    let rest = symbol-at-one w j _ xs _ m n g h (search arith) b.made in (version, level, rest.0, rest.1)

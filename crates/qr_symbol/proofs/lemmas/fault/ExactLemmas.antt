@@ -1,6 +1,6 @@
 -- A call is refused for a fault exactly if the fault is there, unless memory is refused.
 use Rattle.qr_bits.{proofs.Facts.{empty_fits, fitting_short}, specs.{Padding.capacity_of, declared.modes.Rule.Rule}}
-use Rattle.{qr_layout.specs.declared.level.Level.Level, qr_symbol.specs.Encoding.IsSymbol}
+use Rattle.{qr_layout.specs.declared.level.Level.Level}
 use Rattle.qr_symbol.specs.{Series.{IsSeries, HasNoSeries}, VersionChoice.{FitsVersion, HasNoVersion}}
 use Rattle.qr_symbol.specs.declared.{fault.{EncodeFault.EncodeFault, ReadFault.ReadFault}, symbol.Symbol.Symbol}
 use Rattle.std.proofs.Common.{◌≡◌, ◌≢◌, ◌<◌, ◌≤◌, ◌↔◌, ◌⊎◌, inl, inr, ℕ, List, [], length, Result, Ok, Err, Vec, Global, sym, ap, subst, arith}
@@ -17,7 +17,7 @@ pub err-same : {X E : Type 0} (r : Result X E) (e f : E) → r ≡ Err e → r �
 err-same r e f h k = cc
 
 -- what makes it, if with the fact no value is returned, and no other fault than e and lack of memory
-exactly : {X E : Type 0} (r : Result X E) (e memory : E) (P : Type 0) → (e ≡ memory → ⊥) → (r ≡ Err e → P)
+pub exactly : {X E : Type 0} (r : Result X E) (e memory : E) (P : Type 0) → (e ≡ memory → ⊥) → (r ≡ Err e → P)
     → IfOk r (λ _. P → ⊥) → IfErr r (λ g. (P → g ≡ e) ⊎ (g ≡ memory)) → Refused r e memory P
 exactly {X = X} {E = E} r e memory P other f none told = (λ h. (λ m. other (err-same r e _ h m), f h), λ w. back r none told w.0 w.1)
   where
@@ -26,14 +26,6 @@ exactly {X = X} {E = E} r e memory P other f none told = (λ h. (λ m. other (er
     back (Ok x) none _ m p = absurd (none p)
     back _ _ (inl h) m p = ap (λ f. Err f) (h p)
     back _ _ (inr h) m p = absurd (m (ap (λ f. Err f) h))
-
--- `TooLong` is returned exactly if the input, which is not empty, fits no version, unless memory was refused
-pub too-long-exactly : (x : List ℕ) (l : Level) (smallest : ℕ) (b : Rule) (r : Result Symbol EncodeFault)
-    → (r ≡ Err fault.TooLong → HasNoVersion smallest l b x)
-    → IfOk r (λ s. IsSymbol smallest l b x s.version s.mask s.matrix) → IfErr r (λ e. (e ≡ fault.TooLong) ⊎ (e ≡ fault.Memory))
-    → Refused r fault.TooLong fault.Memory (HasNoVersion smallest l b x)
-too-long-exactly x l smallest b (Ok s) long made told = exactly _ _ _ _ (λ e. cc) long (λ none. none s.version made.version.least made.version.most made.version.fits) tt
-too-long-exactly x l smallest b (Err e) long made told = exactly _ _ _ _ (λ e. cc) long tt (elim told [ inl h ↦ inl (λ _. h) | inr h ↦ inr h ])
 
 -- `TooMany` is returned exactly if the input has no series, unless memory was refused
 pub too-many-exactly : (x : List ℕ) (l : Level) (b : Rule) (v : ℕ) (r : Result (Vec Symbol Global) EncodeFault) → MatchResult r
