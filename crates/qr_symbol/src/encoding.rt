@@ -22,8 +22,8 @@ use crate::choice::build_on;
 use crate::fault::EncodeFault;
 use crate::interleaving::interleave;
 use crate::symbol::Symbol;
-use crate::version_choice::{Fit, highest_with_room, least_fit};
-use qr_bits::{Header, INPUT_MAX, Interpretation, Rule, Segmented, bit_len, codewords, interpretation_bits};
+use crate::version_choice::{Fit, highest_with_room, least_fit, needed_bits};
+use qr_bits::{Header, INPUT_MAX, Interpretation, Rule, Segmented, codewords};
 use qr_layout::{Level, Version};
 use std::alloc::Global;
 
@@ -105,8 +105,7 @@ pub fn encode_boosted(
         ⊎ (e ≡ EncodeFault.Memory)) }
 {
     let fit = fit_of(alloc, input, level, smallest, rule, interpretation)?;
-    let segments = &fit.segmented.segments;
-    let bits = interpretation_bits(interpretation) + bit_len(segments, fit.version);
+    let bits = needed_bits(&fit.segmented, interpretation, fit.version);
     let highest = highest_with_room(fit.version, level, bits);
     fitting_symbol(alloc, &fit.segmented, interpretation, fit.version, highest)
 }
@@ -201,6 +200,8 @@ fn final_codewords(
         × IsInterleaved version level message cw.items)
         (λ e. e ≡ EncodeFault.Memory) }
 {
+    // Only for the prover: no symbol contains more than 7,089 characters.
+    prove!(version.number() <= 40);
     let message = codewords(
         alloc,
         &segmented.characters,

@@ -5,15 +5,15 @@
 //! after versions 9 and 26. So an input is cut into segments at most once for each of the ranges 1 to 9, 10 to 26 and
 //! 27 to 40.
 
-ghost use Rattle.std.specs.Prelude.{◌≡◌, ◌≤◌, ◌<◌, ℕ, length, IfOk, MatchOption};
+ghost use Rattle.std.specs.Prelude.{◌≡◌, ◌≤◌, ◌<◌, ◌+◌, ℕ, length, IfOk, MatchOption};
 ghost use Rattle.std.specs.Cow.{cow_slice_items};
 ghost use Rattle.qr_bits.specs.declared.modes.Rule.{Rule};
 ghost use Rattle.qr_bits.specs.declared.interpretation.Interpretation.{Interpretation};
-ghost use Rattle.qr_bits.specs.Interpretation.{MayWrite};
+ghost use Rattle.qr_bits.specs.Interpretation.{interpretation_bits, MayWrite};
 ghost use Rattle.qr_bits.specs.declared.fault.BitFault.{BitFault};
 ghost use Rattle.qr_bits.specs.declared.modes.Mode.{Mode};
 ghost use Rattle.qr_bits.specs.Modes.{count_width};
-ghost use Rattle.qr_bits.specs.Segmentation.{IsLeastSegmentation};
+ghost use Rattle.qr_bits.specs.Segmentation.{bits, Covers, IsLeastSegmentation};
 ghost use Rattle.qr_bits.specs.Padding.{capacity_of};
 ghost use Rattle.qr_layout.specs.declared.level.Level.{Level};
 ghost use Rattle.qr_symbol.specs.VersionChoice.{FitsVersion, IsVersion, HasNoVersion, level_rank};
@@ -49,6 +49,19 @@ fn last_of_width(version: Version) -> u8
         10..=26 => 26,
         _ => 40,
     }
+}
+
+// How many bits the segments take with what says the interpretation.
+pub(crate) fn needed_bits(
+    segmented: &Segmented<'_>,
+    interpretation: Interpretation,
+    version: Version,
+) -> u64
+    requires covered { Covers (cow_slice_items segmented.now.characters) segmented.now.segments.items }
+    requires short { length (cow_slice_items segmented.now.characters) ≤ INPUT_MAX }
+    ensures { result ≡ interpretation_bits interpretation + bits version segmented.now.segments.items }
+{
+    interpretation_bits(interpretation) + bit_len(&segmented.segments, version)
 }
 
 // How many bits all data codewords of this version and level have.
@@ -124,7 +137,7 @@ pub(crate) fn least_fit<'a>(
     loop {
         let last = last_of_width(first);
         let segmented = segments(alloc, input, first, rule, interpretation)?;
-        let bits = interpretation_bits(interpretation) + bit_len(&segmented.segments, first);
+        let bits = needed_bits(&segmented, interpretation, first);
         if let Some(version) = first_with_room(level, first, last, bits) {
             return Ok(Fit { version, segmented });
         }

@@ -1,5 +1,5 @@
 -- The characters that are written for bytes, and their modes.
-use Rattle.std.proofs.Common.{◌≡◌, ℕ, zero, suc, ◌+◌, ◌≤◌, List, [], ◌∷◌, length, take, drop, replicate, sum_by, refl, ap, arith}
+use Rattle.std.proofs.Common.{◌≡◌, ℕ, zero, suc, ◌+◌, ◌*◌, ◌≤◌, List, [], ◌∷◌, length, take, drop, replicate, sum_by, refl, ap, arith}
 use Rattle.std.proofs.lemmas.{Bool.cond_both, List.Sums.sum_by-cons}
 use Rattle.qr_bits.specs.declared.modes.Mode.{Mode, TheVariants.{Numeric, Byte}}
 use Rattle.qr_bits.specs.declared.interpretation.Interpretation.{Interpretation, TheVariants.{Default, Gs1, Eci}}
@@ -29,6 +29,18 @@ pub characters-longer : (i : Interpretation) (xs : List ℕ) (ms : List Mode) �
 characters-longer Default xs ms = omega arith
 characters-longer (Eci n) xs ms = omega arith
 characters-longer Gs1 xs ms = gs1-longer xs ms
+
+gs1-most : (xs : List ℕ) (ms : List Mode) → length (characters_gs1 xs ms) ≤ 2 * length xs
+unfolding characters_gs1
+gs1-most [] ms = omega arith
+gs1-most (x ∷ xs) [] = omega arith
+gs1-most (x ∷ xs) (m ∷ ms) = search (arith, cond_both, gs1-most xs ms)
+
+-- a byte is at most two characters
+pub characters-most : (i : Interpretation) (xs : List ℕ) (ms : List Mode) → length (characters_in i xs ms) ≤ 2 * length xs
+characters-most Default xs ms = omega arith
+characters-most (Eci n) xs ms = omega arith
+characters-most Gs1 xs ms = gs1-most xs ms
 
 character-sixths : (x : ℕ) (m : Mode) → least_sixths x ≤ least_sixths (character_for Gs1 x m)
 character-sixths x m = grind arith

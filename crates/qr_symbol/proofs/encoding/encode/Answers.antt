@@ -6,7 +6,7 @@ use Rattle.qr_symbol.proofs.encoding.encode.Goals as goal
 pub returns-in_err-fit : goal.returns-in_err-fit
 returns-in_err-fit c =
     let p = err_from_is_err_and c.from_residual.result c.from_residual.ensures.1 in
-    let told = refused-again _ _ _ _ _ c.in_err-fit.ensures.refused in rw (p.1, p.2) (record {
+    let told = refused-again _ _ _ _ _ _ c.in_err-fit.ensures.refused in rw (p.1, p.2) (record {
       symbol = tt;
       level = tt;
       read = tt;
@@ -18,19 +18,18 @@ returns-in_err-fit c =
 
 pub fitting_symbol-requires-clause-room : goal.fitting_symbol-requires-clause-room
 fitting_symbol-requires-clause-room c = let fit = c.in_ok-fit.ensures.fit in
-    rw c.deref.ensures.value (version-fits _ _ _ _ _ fit.chosen fit.version.fits)
+    version-fits _ _ _ _ _ _ _ (omega arith) fit.version.most fit.chosen fit.version.fits
 
 pub returns : goal.returns
 returns c =
     let fit = c.in_ok-fit.ensures.fit in
-    let chosen = rw (← c.deref.ensures.value) at fit.chosen in
     let r = c.fitting_symbol.result in
-    let made = MatchResult-weaker r c.fitting_symbol.ensures (λ s of_rule. of_rule c.args.rule chosen) (λ e _. tt) in
+    let made = MatchResult-weaker r c.fitting_symbol.ensures (λ s of_rule. of_rule c.args.rule c.args.input.now fit.chosen) (λ e _. tt) in
     let refused = MatchResult-weaker r c.fitting_symbol.ensures (λ s _. tt) (λ e memory. memory) in
-    let told = refused-only _ _ _ _ _ _ r c.in_ok-fit.ensures.refused fit.version refused in record {
-      symbol = symbol-found _ _ _ _ _ _ fit.version made;
+    let told = refused-only _ _ _ _ _ _ _ r c.in_ok-fit.ensures.refused fit.version refused in record {
+      symbol = symbol-found _ _ _ _ _ _ _ fit.version made;
       level = IfOk-weaker r _ _ (λ s is. is.level) made;
-      read = symbol-back _ _ _ _ _ (omega arith) fit.version.most made;
+      read = symbol-back _ _ _ _ _ _ (omega arith) fit.version.most c.requires.written made;
       empty = told.empty;
       too_long = told.too_long;
       long = told.long;

@@ -30,7 +30,7 @@ returns-then-is_empty c =
       fit = tt;
       refused = record {
         empty = (λ _. none, λ _. refl);
-        too_long = (λ e. absurd (empty-long e), λ w. absurd (empty-has-version _ _ _ _ (omega arith) none w.1));
+        too_long = (λ e. absurd (empty-long e), λ w. absurd (empty-has-version _ _ _ _ _ (omega arith) none w.1));
         long = λ l. absurd (empty-short _ none l);
         fault = inl refl;
       };
@@ -41,7 +41,7 @@ returns-then-input-gt-SYMBOL_BYTES_MAX c = let long = c.if-input-gt-SYMBOL_BYTES
   fit = tt;
   refused = record {
     empty = (λ e. absurd (empty-long (sym e)), λ none. absurd (empty-short _ none long));
-    too_long = exactly _ _ _ _ (λ e. cc) (λ _. long-has-no-version _ _ _ c.args.smallest (omega arith) long) tt (inl (λ _. refl));
+    too_long = exactly _ _ _ _ (λ e. cc) (λ _. long-has-no-version _ _ _ _ c.args.smallest (omega arith) long) tt (inl (λ _. refl));
     long = λ _. refl;
     fault = inr (inl refl);
   };
