@@ -21,7 +21,7 @@ ghost use Rattle.qr_symbol.specs.Fault.{read_fault_number};
 ghost use Rattle.qr_symbol.specs.Mask.{inverts};
 ghost use Rattle.qr_symbol.specs.Symbol.{colour_by, grid_of};
 ghost use Rattle.qr_symbol.specs.Reading.{read_bits, interpreted_content, IsRead, IsMessage, IsFormat, IsReading, IsUnread};
-ghost use Rattle.qr_symbol.specs.Encoding.{BoostedSymbolsAreOne, IsSymbol, SymbolsAreOne};
+ghost use Rattle.qr_symbol.specs.Encoding.{BoostedSymbolsAreOne, IsBoostedSymbol, IsSymbol, SymbolsAreOne};
 ghost use Rattle.qr_symbol.specs.VersionChoice.{FitsVersion, HasNoVersion, IsVersion};
 ghost use Rattle.qr_symbol.specs.Series.{squares_of, AreParts, FitParts, NeedsParts, IsSeries, HasNoSeries};
 ghost use Rattle.qr_symbol.specs.Joining.{IsJoined, IsUnjoined};
@@ -194,6 +194,13 @@ pub fn symbols_are_one()
 /// version.
 pub fn boosted_symbols_are_one()
     ensures { BoostedSymbolsAreOne }
+{}
+
+/// A symbol of the highest level is the symbol of its input for this level, from its version on. So what holds of
+/// symbols holds of it.
+pub fn boosted_symbols_are_symbols()
+    ensures { (x : List ℕ) (l k : Level) (smallest : ℕ) (rule : Rule) (i : Interpretation) (v mask : ℕ) (g : Grid)
+        → IsBoostedSymbol smallest l rule i x v k mask g → IsSymbol v k rule i x v mask g }
 {}
 
 /// Reading the symbol of an input yields its bytes, its interpretation, the segments of fewest bits, and no structured

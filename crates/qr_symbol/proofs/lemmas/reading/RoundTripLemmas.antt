@@ -1,7 +1,7 @@
 -- A symbol is read as its input.
 use Rattle.qr_bits.specs.declared.interpretation.Interpretation.{Interpretation}
 use Rattle.qr_bits.specs.Interpretation.{MayWrite}
-use Rattle.qr_bits.{proofs.Facts.{data_again, least_meant, length-data}, specs.{Parsing.Content, declared.header.Header.Header}}
+use Rattle.qr_bits.{proofs.Facts.{data_again, least_meant, length-data}, specs.{Bits.bits_of, Parsing.{Content, parse}, declared.header.Header.Header}}
 use Rattle.{qr_bits.specs.declared.modes.Rule.Rule, qr_layout.specs.declared.{blocks.Blocks.Blocks, level.Level.Level}}
 use Rattle.{qr_matrix.specs.Grid.Grid, qr_symbol.proofs.lemmas.interleaving.MessageLemmas.final-whole}
 use Rattle.qr_symbol.proofs.lemmas.reading.FormatLemmas.{format-one, format-read}
@@ -31,6 +31,11 @@ symbol-holds v l b how x h mask g p q s =
 pub symbol-format : (v : ℕ) (l : Level) (b : Rule) (how : Interpretation) (x : List ℕ) (h : Option Header) (mask : ℕ) (g : Grid) → 1 ≤ v → v ≤ 40 → IsSymbolAt v l b how x h mask g → IsFormat g l mask
 symbol-format v l b how x h mask g p q s = subst (λ (z : Grid). IsFormat z l mask) (sym s.drawn) (format-read v l _ _ p q s.best.in_range)
 
+-- the data codewords of a symbol are parsed as its bytes, in its segments and after its header, with its interpretation
+pub symbol-parsed : (v : ℕ) (l : Level) (b : Rule) (how : Interpretation) (x : List ℕ) (h : Option Header) (mask : ℕ) (g : Grid) → MayWrite how x
+    → (s : IsSymbolAt v l b how x h mask g) → parse v (bits_of s.message) ≡ Ok (interpreted_content how h s.segments x)
+symbol-parsed v l b how x h mask g w s = data_again v l _ _ h how _ s.written ∙ ap (λ (c : Content). Ok c) (least_meant how v b x _ _ h w s.chosen).0
+
 -- the symbol of an input is read as its bytes, in its segments and after its header, with its interpretation
 pub symbol-read : (v : ℕ) (l : Level) (b : Rule) (how : Interpretation) (x : List ℕ) (h : Option Header) (mask : ℕ) (g : Grid) → 1 ≤ v → v ≤ 40 → MayWrite how x
     → (s : IsSymbolAt v l b how x h mask g) → IsReading g (interpreted_content how h s.segments x)
@@ -42,7 +47,7 @@ symbol-read v l b how x h mask g p q w s = record {
   sized = record { least = p; most = q; side = ap (λ (z : Grid). z.side) s.drawn };
   format = symbol-format v l b how x h _ g p q s;
   holds = symbol-holds v l b how x h _ g p q s;
-  parsed = data_again v l _ _ h how _ s.written ∙ ap (λ (c : Content). Ok c) (least_meant how v b x _ _ h w s.chosen).0;
+  parsed = symbol-parsed v l b how x h mask g w s;
 }
 
 -- a square is read as at most one content
