@@ -1,4 +1,4 @@
-use Rattle.std.proofs.Common.{◌≡◌, ◌*◌, ◌+◌, ◌≤◌, arith}
+use Rattle.std.proofs.Common.{arith}
 use Rattle.qr_bits.proofs.Facts.{least-most, least_fits}
 use Rattle.qr_symbol.proofs.lemmas.encoding.SymbolMakingLemmas.{version-fits}
 use Rattle.qr_symbol.proofs.series.plain_symbol.Goals as goal

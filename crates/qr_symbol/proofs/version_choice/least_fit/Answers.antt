@@ -1,7 +1,6 @@
-use Rattle.std.specs.Cow.{cow_slice_items}
-use Rattle.std.proofs.Common.{◌≡◌, ◌≤◌, ◌<◌, ◌*◌, ℕ, Option, inl, inr, sym, ◌∙◌, ap, subst, ◌+◌, arith}
+use Rattle.std.proofs.Common.{◌≡◌, ◌≤◌, ◌<◌, ℕ, Option, inl, inr, sym, subst, ◌+◌, arith}
 use Rattle.{std.{proofs.lemmas.Bool.cases_lt, specs.Option.SomeIff}, qr_layout.specs.declared.version.Version.Version}
-use Rattle.qr_bits.{proofs.Facts.{covers_all, least-most, least_fits}, specs.{Interpretation.interpretation_bits, Segmentation.bits}}
+use Rattle.qr_bits.{proofs.Facts.{least-most, least_fits}}
 use Rattle.qr_symbol.proofs.lemmas.version_choice.FitLemmas.{segmentation-same, version-found, none-fits}
 use Rattle.qr_symbol.proofs.version_choice.least_fit.Goals as goal
 use Rattle.qr_symbol.proofs.version_choice.least_fit.Goals.{In-Some-new}
