@@ -14,3 +14,4 @@ pub use Rattle.qr_symbol.proofs.lemmas.series.SeriesLemmas.{long-has-no-series, 
 pub use Rattle.qr_symbol.proofs.lemmas.series.SizeLemmas.{series-few, series-side, series-some}
 pub use Rattle.qr_symbol.proofs.lemmas.encoding.SymbolLemmas.{boosted-one, symbol-one, version-one}
 pub use Rattle.qr_symbol.proofs.lemmas.interleaving.PositionLemmas.{len-most, start-most, start-next, start-none, position, position-in}
+pub use Rattle.qr_symbol.proofs.lemmas.version_choice.FitLemmas.{version-short}

@@ -22,7 +22,10 @@ use crate::fault::EncodeFault;
 use crate::symbol::Symbol;
 use crate::version_choice::needed_bits;
 use arrayvec::ArrayVec;
-use qr_bits::{Header, INPUT_MAX, Interpretation, Rule, interpretation_bits, least_bits, longest_fit, parity, segments};
+use qr_bits::{
+    Header, INPUT_MAX, Interpretation, Rule, interpretation_bits, least_bits, longest_fit, parity,
+    segments,
+};
 use qr_layout::{Level, Version};
 use std::alloc::Global;
 
@@ -93,7 +96,14 @@ fn series_of(
     }
     let lengths = part_lengths(alloc, input, version, level, rule, interpretation)?;
     let mut canvas = Canvas::new(alloc, version, level)?;
-    symbols_on(alloc, &mut canvas, input, lengths.as_slice(), rule, interpretation)
+    symbols_on(
+        alloc,
+        &mut canvas,
+        input,
+        lengths.as_slice(),
+        rule,
+        interpretation,
+    )
 }
 
 // Whether a bound shows that the input does not fit, so that it need not be cut into segments. With byte mode alone the
@@ -137,8 +147,8 @@ fn plain_symbol(
         return Ok(None);
     }
     let segmented = segments(alloc, input, version, rule, interpretation)?;
-    if needed_bits(&segmented, interpretation, version)
-        > 8 * u64::from(version.data_codewords(level)) {
+    let room = 8 * u64::from(version.data_codewords(level));
+    if needed_bits(&segmented, interpretation, version) > room {
         return Ok(None);
     }
     let symbol = symbol_at(alloc, &segmented, None, interpretation, version, level)?;

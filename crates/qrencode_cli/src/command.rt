@@ -23,12 +23,13 @@ fn symbols_for(alloc: Global, input: &[u8], settings: &Settings) -> Result<Vec<S
         (IsInputFault settings.now input.now) }
 {
     let version = settings.smallest.unwrap_or(Version::FIRST);
+    let level = settings.level;
     let rule = settings.rule();
     if settings.structured {
-        let symbols = encode_series(alloc, input, version, settings.level, rule, Interpretation::Default)?;
+        let symbols = encode_series(alloc, input, version, level, rule, Interpretation::Default)?;
         return Ok(symbols);
     }
-    let symbol = encode(alloc, input, settings.level, version, rule, Interpretation::Default)?;
+    let symbol = encode(alloc, input, level, version, rule, Interpretation::Default)?;
     let symbols = Vec::from_array(alloc, [symbol])?;
     Ok(symbols)
 }

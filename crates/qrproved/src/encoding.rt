@@ -217,7 +217,10 @@ mod tests {
             &mut symbol,
         );
         assert_eq!(rt; status, DONE);
-        assert_eq!(rt; (symbol.version, symbol.side, symbol.level, symbol.mask), (1, 21, 0, 0));
+        assert_eq!(rt;
+            (symbol.version, symbol.side, symbol.level, symbol.mask),
+            (1, 21, 0, 0)
+        );
         for row in 0..21u8 {
             for col in 0..21u8 {
                 let byte = modules.get(21 * usize::from(row) + usize::from(col));
@@ -450,7 +453,14 @@ mod tests {
     #[test]
     fn interpretations_refused(rt: HostRuntime) -> Result<(), Fail> {
         let rows = [
-            ("ECI 1,000,002", &b"a"[..], 0u32, 1_000_002u32, 0u32, SETTINGS),
+            (
+                "ECI 1,000,002",
+                &b"a"[..],
+                0u32,
+                1_000_002u32,
+                0u32,
+                SETTINGS,
+            ),
             ("boost 2", &b"a"[..], 0, 26, 2, SETTINGS),
             ("boost 257", &b"a"[..], 0, 26, 257, SETTINGS),
             ("kanji as UTF-8", &b"a"[..], 2, 26, 0, SETTINGS),
@@ -458,11 +468,39 @@ mod tests {
             ("kanji in GS1 data", &b"a"[..], 2, 1_000_001, 0, DONE),
             ("no byte as UTF-8", &b""[..], 0, 26, 0, EMPTY),
             ("no GS1 data", &b""[..], 0, 1_000_001, 0, EMPTY),
-            ("two separators", &b"10a\x1D\x1D17261231"[..], 0, 1_000_001, 0, FIELDS),
-            ("a field that begins with %", &b"10a\x1D%"[..], 0, 1_000_001, 0, FIELDS),
-            ("two separators as bytes", &b"10a\x1D\x1D17"[..], 1, 1_000_001, 0, FIELDS),
+            (
+                "two separators",
+                &b"10a\x1D\x1D17261231"[..],
+                0,
+                1_000_001,
+                0,
+                FIELDS,
+            ),
+            (
+                "a field that begins with %",
+                &b"10a\x1D%"[..],
+                0,
+                1_000_001,
+                0,
+                FIELDS,
+            ),
+            (
+                "two separators as bytes",
+                &b"10a\x1D\x1D17"[..],
+                1,
+                1_000_001,
+                0,
+                FIELDS,
+            ),
             ("two separators as UTF-8", &b"\x1D\x1D"[..], 0, 26, 0, DONE),
-            ("two fields", &b"10a%\x1D17261231"[..], 0, 1_000_001, 0, DONE),
+            (
+                "two fields",
+                &b"10a%\x1D17261231"[..],
+                0,
+                1_000_001,
+                0,
+                DONE,
+            ),
         ];
         for (name, input, rule, interpretation, boost, wanted) in rows {
             let mut modules = [7u8; 625];
@@ -479,7 +517,10 @@ mod tests {
                 &mut symbol,
             );
             assert_eq!(rt; status, wanted, "{name}");
-            assert!(rt; status == DONE || modules.iter().all(|byte| *byte == 7), "{name}");
+            assert!(rt;
+                status == DONE || modules.iter().all(|byte| *byte == 7),
+                "{name}"
+            );
         }
         Ok(())
     }

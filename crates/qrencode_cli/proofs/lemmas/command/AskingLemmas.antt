@@ -3,14 +3,14 @@ use Rattle.qr_bits.specs.declared.interpretation.Interpretation.TheVariants.{Def
 use Rattle.std.proofs.Common.{◌≡◌, ◌∙◌, ◌≤◌, ℕ, true, false, List, [], ◌∷◌, take, Option, None, Some, Result, Ok, Err, refl, sym, min, length, append-nil, arith, inl, inr, ◌⊎◌}
 use Rattle.std.proofs.lemmas.{Bool.{cases_lt, false≢true}, List.take_min, Grind.common_steps}
 use Rattle.std.{proofs.lemmas.List.Elements.{All-cons, All-head, All-nil}, specs.List.All}
-use Rattle.{qr_drawing.specs.Drawing.HaveOneSide, qr_bits.proofs.Facts.fitting_short}
+use Rattle.qr_drawing.specs.Drawing.{HaveOneSide}
 use Rattle.{clap.specs.Walk.Text, qr_matrix.specs.Grid.Grid}
 use Rattle.qr_bits.specs.{declared.modes.TheConstants.INPUT_MAX, declared.modes.Rule.Rule, Folding.folded, Parsing.plain_content}
 use Rattle.{qr_layout.specs.Version.side_of, qr_devices.specs.Device.Reader}
 use Rattle.qr_symbol.specs.declared.{fault.EncodeFault.EncodeFault, symbol.Symbol.Symbol}
 use Rattle.qr_symbol.specs.declared.fault.EncodeFault.TheVariants as encode
 use Rattle.qr_symbol.specs.{Joining.AreReadBy, Joining.IsJoined, Reading.IsReadBack, Series.IsSeries, Series.squares_of, Encoding.IsSymbol, VersionChoice.HasNoVersion}
-use Rattle.qr_symbol.proofs.Facts.{long-has-no-series, series-few, series-side, series-some}
+use Rattle.qr_symbol.proofs.Facts.{long-has-no-series, series-few, series-side, series-some, version-short}
 use Rattle.qrencode_cli.specs.Command.{HasSettingsWith, ReadsInput, held, input_for}
 use Rattle.qrencode_cli.specs.Settings.{IsUsageFault, Reason, SettingsView, rule_for, settings_for}
 use Rattle.qrencode_cli.specs.Steps.Command.{AreDrawnFor, HasRead, IsInputFault, IsJobFor, IsJobGiven, Prepares, StopsReading}
@@ -59,7 +59,7 @@ pub drawn-for-one : (s : SettingsView) (rule : Rule) (input : List ℕ) (version
     → IsReadBack symbol.version rule Default input symbol.matrix → symbols ≡ symbol ∷ [] → AreDrawnFor s input symbols
 drawn-for-one s rule input version symbol symbols one least e same some made read alone =
     let from = made.version.least in
-    let few : length input ≤ 7089 = fitting_short Default symbol.version s.level rule input (omega arith) made.version.most made.version.fits in
+    let few : length input ≤ 7089 = version-short symbol.version s.level rule Default input (omega arith) made.version.most made.version.fits in
     rw alone (record {
       asked = search arith;
       joined = joined-one input symbol.version rule symbol.matrix read;

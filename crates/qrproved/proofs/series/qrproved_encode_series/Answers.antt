@@ -2,8 +2,13 @@ use Rattle.std.proofs.Common.{◌≡◌, ℕ, ◌*◌, ◌<◌, List, length, fa
 use Rattle.{qr_layout.specs.Version.side_of, qr_bits.specs.{declared.modes.Mode.TheVariants.Kanji, Modes.may_use}}
 use Rattle.qr_symbol.specs.{declared.symbol.Symbol.Symbol, Series.{squares_of, IsSeries, NeedsParts}}
 use Rattle.qr_symbol.specs.Joining.{AreInterpreted}
+use Rattle.qrproved.proofs.lemmas.encoding.EncodingLemmas.{refused-some}
 use Rattle.qrproved.specs.{declared.settings.Settings.Settings, Settings.{interpretation_of, level_of, rule_of}, Modules.HoldsSquares}
 use Rattle.qrproved.proofs.series.qrproved_encode_series.Goals as goal
+
+pub returns-then-not-may_write-clause-empty : goal.returns-then-not-may_write-clause-empty
+returns-then-not-may_write-clause-empty c =
+    (λ h. absurd (omega arith), λ w. absurd (refused-some c.in-Some.settings.interpretation c.args.input.now c.may_write.result c.may_write.ensures.1 c.if-not-may_write.true w.1))
 
 pub returns-then-input-gt-INPUT_MAX-clause-room : goal.returns-then-input-gt-INPUT_MAX-clause-room
 returns-then-input-gt-INPUT_MAX-clause-room c =
