@@ -21,7 +21,8 @@ pub enum Interpretation {
     Gs1,
 }
 
-pub(crate) fn interpretation_bits(interpretation: Interpretation) -> u64
+/// How many bits of a symbol say the interpretation (7.4.2, 7.4.8.2).
+pub fn interpretation_bits(interpretation: Interpretation) -> u64
     ensures value { result ≡ interpretation_bits interpretation }
     ensures most { result ≤ 28 }
 {

@@ -1,16 +1,21 @@
 //! The call that encodes an input as one symbol (ISO/IEC 18004:2015, 7.1).
 
-ghost use Rattle.std.specs.Prelude.{◌≡◌, ◌≢◌, ◌<◌, ◌↔◌, ◌⊎◌, [], length};
-ghost use Rattle.qr_symbol.specs.VersionChoice.{HasNoVersion};
-ghost use Rattle.qrproved.specs.Settings.{AreSettings, level_of, rule_of};
+ghost use Rattle.std.specs.Prelude.{◌≡◌, ◌≢◌, ◌<◌, ◌≤◌, ◌↔◌, ◌⊎◌, [], length, true, false, Err, IfOk, IfErr};
+ghost use Rattle.qr_bits.specs.Interpretation.{InterpretationFits, MayWrite};
+ghost use Rattle.qr_layout.specs.Version.{side_of};
+ghost use Rattle.qr_symbol.specs.declared.fault.EncodeFault.{EncodeFault};
+ghost use Rattle.qr_symbol.specs.Encoding.{IsBoostedSymbol, IsSymbol};
+ghost use Rattle.qr_symbol.specs.Reading.{IsReadBack};
+ghost use Rattle.qr_symbol.specs.VersionChoice.{HasNoVersion, IsVersion};
+ghost use Rattle.qrproved.specs.Settings.{AreSymbolSettings, interpretation_of, level_of, rule_of};
 ghost use Rattle.qrproved.specs.Encoding.{HasNoRoom, IsWritten};
 
 use crate::modules::{area, write_square};
-use crate::settings::settings_of;
-use crate::status::{DONE, EMPTY, MEMORY, ROOM, SETTINGS, TOO_LONG, encode_status};
-use qr_bits::INPUT_MAX;
-use qr_symbol::encode;
+use crate::settings::{Settings, number_of, settings_of};
+use crate::status::{DONE, EMPTY, FIELDS, MEMORY, ROOM, SETTINGS, TOO_LONG, encode_status};
+use qr_bits::{INPUT_MAX, may_write};
 use qr_symbol::laws::long_inputs_have_none;
+use qr_symbol::{EncodeFault, Symbol, encode, encode_boosted};
 use std::alloc::Global;
 
 /// What `qrproved_encode` tells about a symbol, besides its modules.
@@ -21,22 +26,75 @@ pub struct QrprovedSymbol {
     pub version: u8,
     /// The number of rows and columns, 21 to 177.
     pub side: u8,
+    /// The level, 0 to 3 for L, M, Q and H.
+    pub level: u8,
     /// The mask, 0 to 7.
     pub mask: u8,
 }
 
+// The symbol that the settings ask for.
+fn symbol_of(
+    alloc: Global,
+    input: &[u8],
+    settings: &Settings,
+    boost: bool,
+) -> Result<Symbol, EncodeFault>
+    requires short { length input.now ≤ INPUT_MAX }
+    requires number { InterpretationFits settings.now.interpretation }
+    requires written { MayWrite settings.now.interpretation input.now }
+    ensures version { IfOk result (λ s. IsVersion settings.now.version settings.now.level settings.now.rule
+        settings.now.interpretation input.now s.version) }
+    ensures made { IfOk result (λ s. boost ≡ false → (s.level ≡ settings.now.level)
+        × IsSymbol settings.now.version settings.now.level settings.now.rule settings.now.interpretation input.now
+        s.version s.mask s.matrix) }
+    ensures boosted { IfOk result (λ s. boost ≡ true
+        → IsBoostedSymbol settings.now.version settings.now.level settings.now.rule settings.now.interpretation input.now
+        s.version s.level s.mask s.matrix) }
+    ensures side { IfOk result (λ s. s.matrix.side ≡ side_of s.version) }
+    ensures read { IfOk result (λ s. IsReadBack s.version settings.now.rule settings.now.interpretation
+        input.now s.matrix) }
+    ensures empty { (result ≡ Err EncodeFault.Empty) ↔ (input.now ≡ []) }
+    ensures too_long { (result ≡ Err EncodeFault.TooLong) ↔ ((result ≢ Err EncodeFault.Memory)
+        × HasNoVersion settings.now.version settings.now.level settings.now.rule settings.now.interpretation input.now) }
+    ensures long { 7089 < length input.now → result ≡ Err EncodeFault.TooLong }
+    ensures fault { IfErr result (λ e. (e ≡ EncodeFault.Empty) ⊎ (e ≡ EncodeFault.TooLong)
+        ⊎ (e ≡ EncodeFault.Memory)) }
+{
+    if boost {
+        return encode_boosted(
+            alloc,
+            input,
+            settings.level,
+            settings.version,
+            settings.rule,
+            settings.interpretation,
+        );
+    }
+    encode(
+        alloc,
+        input,
+        settings.level,
+        settings.version,
+        settings.rule,
+        settings.interpretation,
+    )
+}
+
 /// Encodes `input` as one symbol of the least version, from `version` on, that it fits, and writes the modules: the one
 /// in a row and a column is at index `row * side + column` of `modules`. `level` is 0 to 3 for L, M, Q and H. `rule` is
-/// 0 for all modes but kanji mode, 1 for byte mode alone, and 2 for all modes.
+/// 0 for all modes but kanji mode, 1 for byte mode alone, and 2 for all modes. `interpretation` is the number of an ECI,
+/// or 1,000,000 for none, or 1,000,001 for GS1 data, in which the byte 1D (hexadecimal) separates fields. With `boost` 1
+/// the symbol gets the highest level, from `level` on, at which the input fits this version, and with 0 it gets `level`.
 ///
-/// On status 0 the buffer begins with exactly the modules of the symbol, which is read as the input, and `symbol` has
-/// its version, side and mask.
+/// On status 0 the buffer begins with exactly the modules of the symbol, which is read as the input with its
+/// interpretation, and `symbol` has its version, side, level and mask.
 ///
 /// # Errors
 ///
-/// The first that applies of `SETTINGS` (a number is out of range), `EMPTY`, `TOO_LONG` (the input fits no allowed
-/// version) and `ROOM` (`modules` is too short); or `MEMORY` if memory is refused. `SETTINGS`, `EMPTY`, and `TOO_LONG`
-/// for more than 7,089 bytes, are found before memory is requested.
+/// The first that applies of `SETTINGS` (a number is out of range, or `rule` is 2 with another ECI than 20, which is
+/// Shift JIS), `EMPTY`, `FIELDS` (in GS1 data a byte 1D comes directly before another or before `%`), `TOO_LONG` (the
+/// input fits no allowed version) and `ROOM` (`modules` is too short); or `MEMORY` if memory is refused. `SETTINGS`,
+/// `EMPTY`, `FIELDS`, and `TOO_LONG` for more than 7,089 bytes, are found before memory is requested.
 #[unsafe(no_mangle)]
 pub extern "C" fn qrproved_encode(
     alloc: Global,
@@ -44,39 +102,47 @@ pub extern "C" fn qrproved_encode(
     version: u32,
     level: u32,
     rule: u32,
+    interpretation: u32,
+    boost: u32,
     modules: &mut [u8],
     symbol: &mut QrprovedSymbol,
 ) -> u8
     ensures done { result ≡ DONE
-        → IsWritten input.now version level rule modules.old modules.new symbol.new }
+        → IsWritten input.now version level rule interpretation boost modules.old modules.new symbol.new }
     ensures unchanged { result ≢ DONE
         → (modules.new ≡ modules.old) × (symbol.new ≡ symbol.old) }
-    ensures settings { (result ≡ SETTINGS) ↔ (AreSettings version level rule → ⊥) }
-    ensures empty { (result ≡ EMPTY) ↔ (AreSettings version level rule × (input.now ≡ [])) }
+    ensures settings { (result ≡ SETTINGS) ↔ (AreSymbolSettings version level rule interpretation boost → ⊥) }
+    ensures empty { (result ≡ EMPTY)
+        ↔ (AreSymbolSettings version level rule interpretation boost × (input.now ≡ [])) }
+    ensures fields { (result ≡ FIELDS) ↔ (AreSymbolSettings version level rule interpretation boost
+        × (MayWrite (interpretation_of interpretation) input.now → ⊥)) }
     ensures too_long { (result ≡ TOO_LONG) ↔ ((result ≢ MEMORY)
-        × AreSettings version level rule
-        × HasNoVersion version (level_of level) (rule_of rule) input.now) }
-    ensures long { AreSettings version level rule → 7089 < length input.now
-        → result ≡ TOO_LONG }
-    ensures room { (result ≡ ROOM) ↔ ((result ≢ MEMORY) × AreSettings version level rule
-        × (input.now ≢ []) × HasNoRoom input.now version level rule modules.old) }
-    ensures status { (result ≡ DONE) ⊎ (result ≡ EMPTY) ⊎ (result ≡ TOO_LONG)
+        × AreSymbolSettings version level rule interpretation boost
+        × MayWrite (interpretation_of interpretation) input.now
+        × HasNoVersion version (level_of level) (rule_of rule) (interpretation_of interpretation) input.now) }
+    ensures long { AreSymbolSettings version level rule interpretation boost
+        → MayWrite (interpretation_of interpretation) input.now → 7089 < length input.now → result ≡ TOO_LONG }
+    ensures room { (result ≡ ROOM) ↔ ((result ≢ MEMORY)
+        × AreSymbolSettings version level rule interpretation boost
+        × (input.now ≢ []) × MayWrite (interpretation_of interpretation) input.now
+        × HasNoRoom input.now version level rule interpretation modules.old) }
+    ensures status { (result ≡ DONE) ⊎ (result ≡ EMPTY) ⊎ (result ≡ FIELDS) ⊎ (result ≡ TOO_LONG)
         ⊎ (result ≡ MEMORY) ⊎ (result ≡ SETTINGS) ⊎ (result ≡ ROOM) }
 {
-    let Some(settings) = settings_of(version, level, rule) else {
+    let Some(settings) = settings_of(version, level, rule, interpretation) else {
         return SETTINGS;
     };
+    if boost > 1 {
+        return SETTINGS;
+    }
+    if !may_write(input, settings.interpretation) {
+        return FIELDS;
+    }
     if input.len() > INPUT_MAX {
         long_inputs_have_none(settings.version);
         return TOO_LONG;
     }
-    match encode(
-        alloc,
-        input,
-        settings.level,
-        settings.version,
-        settings.rule,
-    ) {
+    match symbol_of(alloc, input, &settings, boost == 1) {
         Err(fault) => encode_status(fault),
         Ok(made) => {
             let side = made.matrix.side();
@@ -86,6 +152,7 @@ pub extern "C" fn qrproved_encode(
             write_square(&made.matrix, 0, modules);
             symbol.version = made.version.number();
             symbol.side = side;
+            symbol.level = number_of(made.level);
             symbol.mask = made.mask;
             DONE
         }
@@ -122,10 +189,14 @@ mod tests {
         0b111111101110101010111,
     ];
 
+    // No interpretation.
+    const NONE: u32 = 1_000_000;
+
     fn nothing() -> QrprovedSymbol {
         QrprovedSymbol {
             version: 9,
             side: 9,
+            level: 9,
             mask: 9,
         }
     }
@@ -134,9 +205,22 @@ mod tests {
     fn a_letter_at_1_l(rt: HostRuntime) -> Result<(), Fail> {
         let mut modules = [7u8; 443];
         let mut symbol = nothing();
-        let status = qrproved_encode(rt.alloc(), b"A", 1, 0, 1, &mut modules, &mut symbol);
+        let status = qrproved_encode(
+            rt.alloc(),
+            b"A",
+            1,
+            0,
+            1,
+            NONE,
+            0,
+            &mut modules,
+            &mut symbol,
+        );
         assert_eq!(rt; status, DONE);
-        assert_eq!(rt; (symbol.version, symbol.side, symbol.mask), (1, 21, 0));
+        assert_eq!(rt;
+            (symbol.version, symbol.side, symbol.level, symbol.mask),
+            (1, 21, 0, 0)
+        );
         for row in 0..21u8 {
             for col in 0..21u8 {
                 let byte = modules.get(21 * usize::from(row) + usize::from(col));
@@ -173,6 +257,8 @@ mod tests {
                 version,
                 level,
                 rule,
+                NONE,
+                0,
                 &mut modules,
                 &mut symbol,
             );
@@ -201,6 +287,8 @@ mod tests {
                 1,
                 level,
                 rule,
+                NONE,
+                0,
                 &mut modules,
                 &mut symbol,
             );
@@ -217,7 +305,17 @@ mod tests {
         for (rule, version) in [(0u32, 2u8), (1, 2), (2, 1)] {
             let mut modules = [7u8; 625];
             let mut symbol = nothing();
-            let status = qrproved_encode(rt.alloc(), &kanji, 1, 0, rule, &mut modules, &mut symbol);
+            let status = qrproved_encode(
+                rt.alloc(),
+                &kanji,
+                1,
+                0,
+                rule,
+                NONE,
+                0,
+                &mut modules,
+                &mut symbol,
+            );
             assert_eq!(rt; status, DONE, "rule {rule}");
             assert_eq!(rt; symbol.version, version, "rule {rule}");
         }
@@ -260,14 +358,167 @@ mod tests {
                 version,
                 level,
                 rule,
+                NONE,
+                0,
                 &mut modules[..room],
                 &mut symbol,
             );
             assert_eq!(rt; status, wanted, "{name}");
             assert!(rt; modules.iter().all(|byte| *byte == 7), "{name}");
             assert_eq!(rt;
-                (symbol.version, symbol.side, symbol.mask),
-                (9, 9, 9),
+                (symbol.version, symbol.side, symbol.level, symbol.mask),
+                (9, 9, 9, 9),
+                "{name}"
+            );
+        }
+        Ok(())
+    }
+
+    // Each input with the level that is asked for, and the version and the level that it gets (Table 7).
+    #[test]
+    fn boost(rt: HostRuntime) -> Result<(), Fail> {
+        let digits = [b'7'; 42];
+        let rows = [
+            ("17 digits", &digits[..17], 0u32, 1u8, 3u8),
+            ("18 digits", &digits[..18], 0, 1, 2),
+            ("27 digits", &digits[..27], 0, 1, 2),
+            ("28 digits", &digits[..28], 0, 1, 1),
+            ("34 digits", &digits[..34], 1, 1, 1),
+            ("35 digits", &digits[..35], 0, 1, 0),
+            ("35 digits at M", &digits[..35], 1, 2, 2),
+            ("42 digits", &digits[..], 0, 2, 2),
+            ("17 digits at H", &digits[..17], 3, 1, 3),
+        ];
+        for (name, input, level, version, used) in rows {
+            let mut modules = [7u8; 625];
+            let mut symbol = nothing();
+            let status = qrproved_encode(
+                rt.alloc(),
+                input,
+                1,
+                level,
+                0,
+                NONE,
+                1,
+                &mut modules,
+                &mut symbol,
+            );
+            assert_eq!(rt; status, DONE, "{name}");
+            assert_eq!(rt; (symbol.version, symbol.level), (version, used), "{name}");
+        }
+        Ok(())
+    }
+
+    // What says the interpretation takes 12, 20 or 28 bits for an ECI and 4 for GS1 data. Version 1 has 152 bits at L;
+    // 17 bytes in byte mode take 148, 16 take 140, 15 take 132, and 41 digits 151.
+    #[test]
+    fn interpretations_take_room(rt: HostRuntime) -> Result<(), Fail> {
+        let letters = [b'a'; 18];
+        let digits = [b'7'; 41];
+        let rows = [
+            ("17 letters", &letters[..17], NONE, 1u8),
+            ("16 letters as UTF-8", &letters[..16], 26, 1),
+            ("17 letters as UTF-8", &letters[..17], 26, 2),
+            ("16 letters with ECI 127", &letters[..16], 127, 1),
+            ("16 letters with ECI 128", &letters[..16], 128, 2),
+            ("15 letters with ECI 16,383", &letters[..15], 16383, 1),
+            ("15 letters with ECI 16,384", &letters[..15], 16384, 2),
+            ("14 letters with ECI 999,999", &letters[..14], 999_999, 1),
+            ("17 letters as GS1 data", &letters[..17], 1_000_001, 1),
+            ("41 digits", &digits[..], NONE, 1),
+            ("40 digits as GS1 data", &digits[..40], 1_000_001, 1),
+            ("41 digits as GS1 data", &digits[..], 1_000_001, 2),
+        ];
+        for (name, input, interpretation, version) in rows {
+            let mut modules = [7u8; 625];
+            let mut symbol = nothing();
+            let status = qrproved_encode(
+                rt.alloc(),
+                input,
+                1,
+                0,
+                0,
+                interpretation,
+                0,
+                &mut modules,
+                &mut symbol,
+            );
+            assert_eq!(rt; status, DONE, "{name}");
+            assert_eq!(rt; symbol.version, version, "{name}");
+        }
+        Ok(())
+    }
+
+    // A separator of fields is 1D (hexadecimal).
+    #[test]
+    fn interpretations_refused(rt: HostRuntime) -> Result<(), Fail> {
+        let rows = [
+            (
+                "ECI 1,000,002",
+                &b"a"[..],
+                0u32,
+                1_000_002u32,
+                0u32,
+                SETTINGS,
+            ),
+            ("boost 2", &b"a"[..], 0, 26, 2, SETTINGS),
+            ("boost 257", &b"a"[..], 0, 26, 257, SETTINGS),
+            ("kanji as UTF-8", &b"a"[..], 2, 26, 0, SETTINGS),
+            ("kanji as Shift JIS", &b"a"[..], 2, 20, 0, DONE),
+            ("kanji in GS1 data", &b"a"[..], 2, 1_000_001, 0, DONE),
+            ("no byte as UTF-8", &b""[..], 0, 26, 0, EMPTY),
+            ("no GS1 data", &b""[..], 0, 1_000_001, 0, EMPTY),
+            (
+                "two separators",
+                &b"10a\x1D\x1D17261231"[..],
+                0,
+                1_000_001,
+                0,
+                FIELDS,
+            ),
+            (
+                "a field that begins with %",
+                &b"10a\x1D%"[..],
+                0,
+                1_000_001,
+                0,
+                FIELDS,
+            ),
+            (
+                "two separators as bytes",
+                &b"10a\x1D\x1D17"[..],
+                1,
+                1_000_001,
+                0,
+                FIELDS,
+            ),
+            ("two separators as UTF-8", &b"\x1D\x1D"[..], 0, 26, 0, DONE),
+            (
+                "two fields",
+                &b"10a%\x1D17261231"[..],
+                0,
+                1_000_001,
+                0,
+                DONE,
+            ),
+        ];
+        for (name, input, rule, interpretation, boost, wanted) in rows {
+            let mut modules = [7u8; 625];
+            let mut symbol = nothing();
+            let status = qrproved_encode(
+                rt.alloc(),
+                input,
+                1,
+                0,
+                rule,
+                interpretation,
+                boost,
+                &mut modules,
+                &mut symbol,
+            );
+            assert_eq!(rt; status, wanted, "{name}");
+            assert!(rt;
+                status == DONE || modules.iter().all(|byte| *byte == 7),
                 "{name}"
             );
         }

@@ -234,6 +234,13 @@ may_write-take Default n xs h = h
 may_write-take (Eci k) n xs h = h
 may_write-take Gs1 n xs h = fields-take n xs h
 
+-- No byte may always be written.
+pub may_write-none : (i : Interpretation) → MayWrite i []
+unfolding are_fields
+may_write-none Default = tt
+may_write-none (Eci k) = tt
+may_write-none Gs1 = refl
+
 pub may_write-drop : (i : Interpretation) (n : ℕ) (xs : List ℕ) → MayWrite i xs → MayWrite i (drop n xs)
 may_write-drop Default n xs h = h
 may_write-drop (Eci k) n xs h = h

@@ -60,7 +60,8 @@ short_large v xs [] h c few = omega (arith, ap length c)
 short_large v xs (s ∷ ss) h c few =
     omega (arith, segment_least v s, head_least v s.mode h, bits_least v (drop s.len xs) ss (covers_suits (drop s.len xs) ss (by_covers _ _ c.3)), length-drop s.len xs, c.1)
 
-covered_short : (v : ℕ) (l : Level) (ys : List ℕ) (segs : List Segment) → 1 ≤ v → v ≤ 40 → Covers ys segs → bits v segs ≤ capacity_of v l → length ys ≤ 7089
+-- If segments fit a symbol, they contain at most 7,089 characters.
+pub covered_short : (v : ℕ) (l : Level) (ys : List ℕ) (segs : List Segment) → 1 ≤ v → v ≤ 40 → Covers ys segs → bits v segs ≤ capacity_of v l → length ys ≤ 7089
 covered_short v l ys segs a b c few =
     search (arith, data_range, groups, bits_least, covers_suits, short_large, covers_by, capacity_most)
 
