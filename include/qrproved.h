@@ -53,6 +53,14 @@ extern "C" {
 #define QRPROVED_RULE_BYTES_ONLY 1 /* the whole input in byte mode */
 #define QRPROVED_RULE_WITH_KANJI 2 /* the modes of AUTO, and kanji mode for pairs of bytes that are Shift JIS characters */
 
+/* What an input is, as the symbol says it: the number of an ECI (Extended Channel Interpretation), from 0 to 999,999, or one
+ * of the two numbers after these. Readers give the bytes of a symbol that says nothing as ISO/IEC 8859-1 or as UTF-8, so a
+ * text with other characters than those of ASCII is best written as UTF-8 with QRPROVED_ECI_UTF8. */
+#define QRPROVED_ECI_UTF8 26                    /* the input is a text in UTF-8 */
+#define QRPROVED_INTERPRETATION_DEFAULT 1000000 /* the symbol says nothing of it, and takes no bits for it */
+#define QRPROVED_INTERPRETATION_GS1 1000001     /* GS1 data, values with their application identifiers: the symbol has FNC1 in
+                                                 * first position, and the byte 1D (hexadecimal) separates fields */
+
 /* The position of FNC1 in a symbol, which says what the content is. After FNC1 in either position the byte 1D (hexadecimal)
  * separates fields. */
 #define QRPROVED_FNC1_NONE 0   /* the symbol has no FNC1 */
@@ -74,18 +82,21 @@ extern "C" {
 #define QRPROVED_TOO_LONG 2 /* the input fits no version from the smallest allowed version on */
 #define QRPROVED_TOO_MANY 3 /* the input takes more than 16 symbols of the version */
 #define QRPROVED_MEMORY 4   /* malloc or realloc refused memory */
-#define QRPROVED_SETTINGS 5 /* a number is out of its range, or in qrproved_mend the byte of a module is more than 2 */
+#define QRPROVED_SETTINGS 5 /* a number is out of its range, kanji mode does not go with the interpretation, or in
+                             * qrproved_mend the byte of a module is more than 2 */
 #define QRPROVED_ROOM 6     /* a buffer is too short, but not that of the ECI headers */
 #define QRPROVED_SIDE 7     /* no version has this side */
 #define QRPROVED_FORMAT 8   /* the format information belongs to no level and mask, or in qrproved_mend is too damaged */
 #define QRPROVED_CHECK 9    /* a block does not match its error correction codewords, or in qrproved_mend is too damaged */
 #define QRPROVED_SEGMENTS 10 /* the data codewords cannot be parsed */
 #define QRPROVED_NO_DRAWING 11 /* the text is no drawing, or one of squares that do not begin as symbols do */
+#define QRPROVED_FIELDS 12  /* the input is no GS1 data: a byte 1D (hexadecimal) comes directly before another or before % */
 
-/* The version, the size and the mask of a symbol that was encoded. */
+/* The version, the size, the level and the mask of a symbol that was encoded. */
 struct qrproved_symbol {
 	uint8_t version; /* from 1 to 40 */
 	uint8_t side;    /* modules on a side: 17 + 4 * version */
+	uint8_t level;   /* QRPROVED_LEVEL_L to QRPROVED_LEVEL_H: that which was asked for, or with boost a higher one */
 	uint8_t mask;    /* from 0 to 7 */
 };
 
@@ -156,10 +167,11 @@ struct qrproved_drawn {
 #define QRPROVED_HOLDS(fact) struct qrproved_symbol
 #endif
 QRPROVED_HOLDS(sizeof(size_t) == 8);
-QRPROVED_HOLDS(sizeof(struct qrproved_symbol) == 3);
+QRPROVED_HOLDS(sizeof(struct qrproved_symbol) == 4);
 QRPROVED_HOLDS(offsetof(struct qrproved_symbol, version) == 0);
 QRPROVED_HOLDS(offsetof(struct qrproved_symbol, side) == 1);
-QRPROVED_HOLDS(offsetof(struct qrproved_symbol, mask) == 2);
+QRPROVED_HOLDS(offsetof(struct qrproved_symbol, level) == 2);
+QRPROVED_HOLDS(offsetof(struct qrproved_symbol, mask) == 3);
 QRPROVED_HOLDS(sizeof(struct qrproved_series) == 2);
 QRPROVED_HOLDS(offsetof(struct qrproved_series, count) == 0);
 QRPROVED_HOLDS(offsetof(struct qrproved_series, side) == 1);
@@ -213,23 +225,36 @@ uint32_t qrproved_version(void);
 /* Encodes the input as a symbol and writes its modules: modules[row * side + column] is 1 if the module in this row and
  * column is dark, and 0 if it is light. Bytes of the buffer after the last module are unchanged.
  *
- * version  the smallest allowed version, from 1 to 40; the symbol has the least allowed version that the input fits
+ * version  the smallest allowed version, from 1 to 40; the symbol has the least allowed version that the input fits at this
+ *          level
  * level    QRPROVED_LEVEL_L to QRPROVED_LEVEL_H
  * rule     QRPROVED_RULE_AUTO to QRPROVED_RULE_WITH_KANJI
+ * interpretation  the number of an ECI, QRPROVED_INTERPRETATION_DEFAULT or QRPROVED_INTERPRETATION_GS1. The symbol says it
+ *          before its data, in 12, 20 or 28 bits for an ECI below 128, below 16,384 or above, and in 4 bits for GS1 data. The
+ *          input is written byte by byte as it is passed; the call does not look whether it is text in this ECI
+ * boost    1: the symbol has the highest level, from the level that is passed on, at which the input fits its version, and
+ *          the version is that without boost; 0: it has the level that is passed
  * modules  the buffer for the modules; QRPROVED_SYMBOL_MAX bytes suffice for any symbol
  *
+ * Kanji mode is for pairs of bytes that readers take for Shift JIS. With an ECI but 20, which is Shift JIS, they could be
+ * bytes of other characters, so RULE_WITH_KANJI is refused there. GS1 data has a byte 1D (hexadecimal) after each field that
+ * is shorter than it may be, if another field follows; no field is empty, and none begins with %.
+ *
  * Returns the first of these statuses whose cause applies:
- *   SETTINGS  version, level or rule is out of its range
+ *   SETTINGS  version, level, rule, interpretation or boost is out of its range, or rule is WITH_KANJI and interpretation is
+ *             an ECI but 20
  *   EMPTY     input_len is 0
+ *   FIELDS    interpretation is GS1, and a byte 1D (hexadecimal) comes directly before another or before %
  *   TOO_LONG  the input fits no version from the smallest allowed version on; more than 7,089 bytes are always TOO_LONG
  *   ROOM      modules_len is less than the number of modules of the symbol
  *   DONE      the call succeeded
- * If memory is refused, the call returns MEMORY in place of any of these statuses but SETTINGS, EMPTY, and TOO_LONG for an
- * input of more than 7,089 bytes.
+ * If memory is refused, the call returns MEMORY in place of any of these statuses but SETTINGS, EMPTY, FIELDS, and TOO_LONG
+ * for an input of more than 7,089 bytes.
  */
-QRPROVED_CALL(8)
+QRPROVED_CALL(10)
 uint8_t qrproved_encode(const uint8_t *input, size_t input_len, uint32_t version, uint32_t level, uint32_t rule,
-                        uint8_t *modules, size_t modules_len, struct qrproved_symbol *symbol);
+                        uint32_t interpretation, uint32_t boost, uint8_t *modules, size_t modules_len,
+                        struct qrproved_symbol *symbol);
 
 /* Encodes the input as a series of symbols (structured append), all of one version, and writes their modules:
  * modules[(k * side + row) * side + column] is the module of symbol k, from 0, in this row and column. An input
@@ -238,18 +263,21 @@ uint8_t qrproved_encode(const uint8_t *input, size_t input_len, uint32_t version
  * version  the version of all symbols, from 1 to 40
  * modules  the buffer for the modules; QRPROVED_SERIES_MAX bytes suffice for any series
  *
- * The other arguments are those of qrproved_encode. Returns the first of these statuses whose cause applies:
- *   SETTINGS  version, level or rule is out of its range
+ * The other arguments are those of qrproved_encode; each symbol of the series says the interpretation, and an input is cut
+ * between any two bytes, even within a character. Returns the first of these statuses whose cause applies:
+ *   SETTINGS  version, level, rule or interpretation is out of its range, or rule is WITH_KANJI and interpretation is an ECI
+ *             but 20
  *   EMPTY     input_len is 0
+ *   FIELDS    interpretation is GS1, and a byte 1D (hexadecimal) comes directly before another or before %
  *   TOO_MANY  the input takes more than 16 symbols of the version; more than 113,425 bytes are always TOO_MANY
  *   ROOM      modules_len is less than the number of modules of the series
  *   DONE      the call succeeded
- * If memory is refused, the call returns MEMORY in place of any of these statuses but SETTINGS, EMPTY, and TOO_MANY for an
- * input of more than 113,425 bytes.
+ * If memory is refused, the call returns MEMORY in place of any of these statuses but SETTINGS, EMPTY, FIELDS, and TOO_MANY
+ * for an input of more than 113,425 bytes.
  */
-QRPROVED_CALL(8)
+QRPROVED_CALL(9)
 uint8_t qrproved_encode_series(const uint8_t *input, size_t input_len, uint32_t version, uint32_t level, uint32_t rule,
-                               uint8_t *modules, size_t modules_len, struct qrproved_series *series);
+                               uint32_t interpretation, uint8_t *modules, size_t modules_len, struct qrproved_series *series);
 
 /* Reads a symbol. The first buffer contains its modules, in the order in which qrproved_encode writes them. Any byte but 0
  * is a dark module, and bytes after the last module are ignored. The call writes the content of the symbol to the start of

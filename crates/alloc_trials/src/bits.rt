@@ -27,8 +27,14 @@ const BITS_OUT: Answer = Answer::Memory("BitFault::Memory, arguments unchanged")
 
 pub fn segmented(alloc: Global) -> Result<Answer, AllocError> {
     let input = Vec::from_slice(alloc, &HELLO_WORLD)?;
-    let answer = match segments(alloc, &input, Version::FIRST, Rule::Auto) {
-        Ok(segs) => Answer::of(segs.as_slice() == [SEGMENT].as_slice()),
+    let answer = match segments(
+        alloc,
+        &input,
+        Version::FIRST,
+        Rule::Auto,
+        Interpretation::Default,
+    ) {
+        Ok(found) => Answer::of(found.segments.as_slice() == [SEGMENT].as_slice()),
         Err(BitFault::Memory) => BITS_OUT,
         Err(BitFault::TooLong) => Answer::Other,
     };
@@ -37,7 +43,14 @@ pub fn segmented(alloc: Global) -> Result<Answer, AllocError> {
 
 pub fn longest(alloc: Global) -> Result<Answer, AllocError> {
     let input = Vec::from_slice(alloc, &HELLO_WORLD)?;
-    let answer = match longest_fit(alloc, &input, Version::FIRST, Level::M, Rule::Auto) {
+    let answer = match longest_fit(
+        alloc,
+        &input,
+        Version::FIRST,
+        Level::M,
+        Rule::Auto,
+        Interpretation::Default,
+    ) {
         Ok(len) => Answer::of(len == 11),
         Err(BitFault::Memory) => BITS_OUT,
         Err(BitFault::TooLong) => Answer::Other,

@@ -5,7 +5,8 @@ ghost use Rattle.std.specs.List.{All, sum_by};
 ghost use Rattle.qr_bits.specs.declared.modes.TheConstants.{INPUT_MAX};
 
 use qr_bits::{
-    INPUT_MAX, Mode, Rule, Segment, bit_len, covers, fold, least_bits, longest_fit, segments,
+    INPUT_MAX, Interpretation, Mode, Rule, Segment, bit_len, covers, fold, least_bits, longest_fit,
+    segments,
 };
 use qr_layout::{Level, Version};
 use std::test::Fail;
@@ -96,7 +97,7 @@ fn are_segments(
     requires { length input.now ≤ INPUT_MAX }
 {
     let version = Version::new(version).ok_or("version")?;
-    let found = segments(rt.alloc(), input, version, rule)?;
+    let found = segments(rt.alloc(), input, version, rule, Interpretation::Default)?.segments;
     if found.len() != wanted.len() {
         return Ok(false);
     }
@@ -214,7 +215,14 @@ fn fit(rt: &HostRuntime, input: &[u8], rule: Rule) -> Result<usize, Fail>
     requires { length input.now ≤ INPUT_MAX }
 {
     let version = Version::FIRST;
-    Ok(longest_fit(rt.alloc(), input, version, Level::H, rule)?)
+    Ok(longest_fit(
+        rt.alloc(),
+        input,
+        version,
+        Level::H,
+        rule,
+        Interpretation::Default,
+    )?)
 }
 
 #[test]
@@ -241,7 +249,14 @@ fn pairs_at_1_m(rt: HostRuntime) -> Result<(), Fail> {
         "128 bits with a header's 20"
     );
     assert_eq!(rt;
-        longest_fit(rt.alloc(), pairs, version, Level::M, rule)?,
+        longest_fit(
+            rt.alloc(),
+            pairs,
+            version,
+            Level::M,
+            rule,
+            Interpretation::Default
+        )?,
         14,
         "seven pairs"
     );

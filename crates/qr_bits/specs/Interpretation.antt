@@ -1,9 +1,8 @@
 -- What stands between the segments: ECI headers and FNC1.
 use Rattle.std.specs.Prelude.{ℕ, ◌+◌, ◌*◌, ◌/◌, ◌%◌, ◌<◌, Bool, true, false, ◌&&◌, ◌||◌, nat_lt, nat_le, if◌then◌else◌, List, [], ◌∷◌, ◌++◌, map, take, drop, length, ◌==◌, Option, Some, None}
 use Rattle.qr_bits.specs.declared.segment.Segment.{Segment}
-use Rattle.std.specs.List.{flat_map}
 use Rattle.qr_bits.specs.declared.modes.Mode.{Mode}
-use Rattle.qr_bits.specs.declared.modes.Mode.TheVariants.{Numeric, Alphanumeric, Byte, Kanji}
+use Rattle.qr_bits.specs.declared.modes.Mode.TheVariants.{Alphanumeric}
 use Rattle.qr_bits.specs.Bits.{field}
 use Rattle.qr_bits.specs.declared.interpretation.Interpretation.{Interpretation}
 use Rattle.qr_bits.specs.declared.interpretation.Interpretation.TheVariants as written
@@ -97,6 +96,48 @@ are_fields [] = true
 are_fields (x ∷ []) = true
 are_fields (x ∷ y ∷ xs) = (if x == separator then (if y == separator then false else (if y == percent then false else true)) else true) && are_fields (y ∷ xs)
 
+-- A byte is written as two characters: `%` in alphanumeric mode after FNC1 (ISO/IEC 18004:2015, 7.4.8.2)
+abbrev pub is_doubled : Interpretation → ℕ → Mode → Bool
+is_doubled written.Gs1 x Alphanumeric = x == percent
+is_doubled _ x m = false
+
+-- The character that is written for a byte: `%` for the separator in alphanumeric mode after FNC1 (ISO/IEC 18004:2015,
+-- 7.4.8.2)
+abbrev pub character_for : Interpretation → ℕ → Mode → ℕ
+character_for written.Gs1 x Alphanumeric = if x == separator then percent else x
+character_for _ x m = x
+
+-- `doubled` after FNC1 in first position (ISO/IEC 18004:2015, 7.4.8.2)
+unfoldable pub doubled_gs1 : List ℕ → List Mode → List Mode
+doubled_gs1 [] ms = ms
+doubled_gs1 (x ∷ xs) [] = []
+doubled_gs1 (x ∷ xs) (m ∷ ms) = if is_doubled written.Gs1 x m then m ∷ m ∷ doubled_gs1 xs ms else m ∷ doubled_gs1 xs ms
+
+-- `characters_in` after FNC1 in first position (ISO/IEC 18004:2015, 7.4.8.2)
+unfoldable pub characters_gs1 : List ℕ → List Mode → List ℕ
+characters_gs1 [] ms = []
+characters_gs1 (x ∷ xs) [] = x ∷ xs
+characters_gs1 (x ∷ xs) (m ∷ ms) =
+    let c = character_for written.Gs1 x m in
+    if is_doubled written.Gs1 x m then c ∷ c ∷ characters_gs1 xs ms else c ∷ characters_gs1 xs ms
+
+-- The modes of the characters that are written for the bytes `xs` of the modes `ms` (ISO/IEC 18004:2015, 7.4.8.2)
+abbrev pub doubled : Interpretation → List ℕ → List Mode → List Mode
+doubled written.Default xs ms = ms
+doubled (written.Eci n) xs ms = ms
+doubled written.Gs1 xs ms = doubled_gs1 xs ms
+
+-- The characters that are written for the bytes `xs` of the modes `ms` (ISO/IEC 18004:2015, 7.4.8.2)
+abbrev pub characters_in : Interpretation → List ℕ → List Mode → List ℕ
+characters_in written.Default xs ms = xs
+characters_in (written.Eci n) xs ms = xs
+characters_in written.Gs1 xs ms = characters_gs1 xs ms
+
+-- Bytes that can be written: GS1 data are fields (ISO/IEC 18004:2015, 7.4.8.2)
+abbrev pub MayWrite : Interpretation → List ℕ → Type 0
+MayWrite written.Gs1 xs = ⊥
+MayWrite _ xs = Unit {0}
+
 -- The bytes that a segment stands for: in alphanumeric mode after FNC1 `%` has its own meaning (ISO/IEC 18004:2015,
 -- 7.4.8.2, 7.4.8.3)
 abbrev pub meant : Bool → Mode → List ℕ → List ℕ
@@ -128,3 +169,13 @@ fnc1_of (Data s ∷ is) = None
 fnc1_of (Eci d ∷ is) = fnc1_of is
 fnc1_of (Fnc1First ∷ is) = Some First
 fnc1_of (Fnc1Second a ∷ is) = Some (Second a)
+
+-- The ECI headers that are read of a symbol with this interpretation (ISO/IEC 18004:2015, 7.4.2)
+abbrev pub ecis_in : Interpretation → List EciChange
+ecis_in (written.Eci n) = record { number = n; begin = 0 } ∷ []
+ecis_in _ = []
+
+-- The FNC1 that is read of a symbol with this interpretation (ISO/IEC 18004:2015, 7.4.8.2)
+abbrev pub fnc1_in : Interpretation → Option Fnc1
+fnc1_in written.Gs1 = Some First
+fnc1_in _ = None

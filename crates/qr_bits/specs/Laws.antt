@@ -13,7 +13,7 @@ use Rattle.qr_bits.specs.Modes.{may_use}
 use Rattle.qr_bits.specs.Stream.{AreItems, items_stream, CountsFit, IsStream, Suits}
 use Rattle.qr_bits.specs.Padding.{capacity_of, IsData}
 use Rattle.qr_bits.specs.Header.{header_bits}
-use Rattle.qr_bits.specs.Interpretation.{are_fields, escaped, separated, interpretation_bits, items_in}
+use Rattle.qr_bits.specs.Interpretation.{are_fields, ecis_in, escaped, fnc1_in, fnc1_of, separated, interpretation_bits, items_in, MayWrite}
 use Rattle.qr_bits.specs.declared.interpretation.Interpretation.{Interpretation}
 use Rattle.qr_bits.specs.declared.interpretation.Interpretation.TheVariants.{Default}
 use Rattle.qr_bits.specs.Parsing.{content_of, ends, items_of, parse, plain_content}
@@ -74,18 +74,28 @@ CountsFitWhereBitsFit =
 -- An input that fits a symbol has at most 7,089 bytes [own]
 abbrev pub FittingInputsAreShort : Type 0
 FittingInputsAreShort =
-    (v : ℕ) (l : Level) (r : Rule) (xs : List ℕ) → 1 ≤ v → v ≤ 40 → HasFit v r xs (capacity_of v l) → length xs ≤ 7089
+    (i : Interpretation) (v : ℕ) (l : Level) (r : Rule) (xs : List ℕ) → 1 ≤ v → v ≤ 40 → HasFit i v r xs (capacity_of v l) → length xs ≤ 7089
 
--- The least segmentation covers the input, and has at most n bits exactly if some valid assignment has [own]
+-- The segments of the least segmentation cover its characters, and have at most n bits exactly if some valid assignment
+-- has [own]
 abbrev pub LeastSegmentationsFit : Type 0
 LeastSegmentationsFit =
-    (v : ℕ) (r : Rule) (xs : List ℕ) (segs : List Segment) → IsLeastSegmentation v r xs segs →
-    Covers xs segs × ((n : ℕ) → HasFit v r xs n ↔ (bits v segs ≤ n))
+    (i : Interpretation) (v : ℕ) (r : Rule) (xs ys : List ℕ) (segs : List Segment) → IsLeastSegmentation i v r xs ys segs →
+    Covers ys segs × ((n : ℕ) → HasFit i v r xs n ↔ (bits v segs ≤ n))
+
+-- The characters of the least segmentation stand for the input, under its interpretation (ISO/IEC 18004:2015, 7.4.2,
+-- 7.4.8.2)
+abbrev pub SegmentationsMeanTheirInput : Type 0
+SegmentationsMeanTheirInput =
+    (i : Interpretation) (v : ℕ) (r : Rule) (xs ys : List ℕ) (segs : List Segment) (h : Option Header) → MayWrite i xs → IsLeastSegmentation i v r xs ys segs →
+    (content_of h (items_in i segs) ys ≡ record { header = h; items = items_in i segs; ecis = ecis_in i; bytes = xs })
+    × (fnc1_of (items_in i segs) ≡ fnc1_in i)
 
 -- Without kanji mode, a piece of an input needs no more bits than the whole [own]
 abbrev pub PiecesNeedNoMore : Type 0
 PiecesNeedNoMore =
-    (v : ℕ) (r : Rule) (xs ys zs : List ℕ) (n : ℕ) → may_use r Kanji ≡ false → HasFit v r (xs ++ (ys ++ zs)) n → HasFit v r ys n
+    (i : Interpretation) (v : ℕ) (r : Rule) (xs ys zs : List ℕ) (n : ℕ) → MayWrite i (xs ++ (ys ++ zs)) → may_use r Kanji ≡ false →
+    HasFit i v r (xs ++ (ys ++ zs)) n → HasFit i v r ys n
 
 -- `codeword_bit` numbers the bits of codewords in the order in which `bits_of` lists them (ISO/IEC 18004:2015, 7.7.3)
 abbrev pub BitsAreCodewordBits : Type 0

@@ -7,14 +7,16 @@ use Rattle.qr_bits.specs.Bits.{bits_of}
 use Rattle.qr_layout.specs.declared.level.Level.{Level}
 use Rattle.qr_layout.specs.Blocks.{data_codewords_of}
 use Rattle.qr_bits.specs.Stream.{IsStream}
+use Rattle.qr_bits.specs.Interpretation.{interpretation_bits}
 
 -- How many bits all data codewords of version `v` and level `l` have (ISO/IEC 18004:2015, 7.4.10, Table 7)
 abbrev pub capacity_of : ℕ → Level → ℕ
 capacity_of v l = 8 * data_codewords_of v l
 
--- What a structured append header, of 20 bits, leaves of the capacity (ISO/IEC 18004:2015, 7.4.10, 8.1)
-abbrev pub room_of : ℕ → Level → ℕ
-room_of v l = capacity_of v l - 20
+-- What a structured append header, of 20 bits, and what says the interpretation leave of the capacity (ISO/IEC
+-- 18004:2015, 7.4.2, 7.4.8.2, 7.4.10, 8.1)
+abbrev pub room_of : ℕ → Level → Interpretation → ℕ
+room_of v l i = capacity_of v l - 20 - interpretation_bits i
 
 -- The stream and its terminator: four zero bits, or as many as the capacity leaves if these are fewer (ISO/IEC
 -- 18004:2015, 7.4.9)

@@ -8,6 +8,8 @@ use Rattle.qr_bits.specs.declared.modes.Rule.{Rule}
 use Rattle.qr_bits.specs.declared.segment.Segment.{Segment}
 use Rattle.qr_bits.specs.Modes.{count_width, is_digit, payload_bits, may_use}
 use Rattle.qr_bits.specs.Stream.{Suits}
+use Rattle.qr_bits.specs.declared.interpretation.Interpretation.{Interpretation}
+use Rattle.qr_bits.specs.Interpretation.{characters_in, doubled}
 
 -- The bits of a segment in version `v`, with its mode indicator and character count indicator (ISO/IEC 18004:2015,
 -- 7.4.1)
@@ -41,8 +43,8 @@ runs_of [] = []
 runs_of (m ∷ ms) = prepend_mode m (runs_of ms)
 
 -- A valid assignment of modes to the bytes `xs` [own]
-abbrev pub IsAssignment : Rule → List ℕ → List Mode → Type 0
-IsAssignment r xs ms = IsTrue (list_all (may_use r) ms) × Covers xs (runs_of ms)
+abbrev pub IsAssignment : Interpretation → Rule → List ℕ → List Mode → Type 0
+IsAssignment i r xs ms = IsTrue (list_all (may_use r) ms) × Covers (characters_in i xs ms) (runs_of (doubled i xs ms))
 
 -- In lexicographic order by their ranks, `ms` does not come after `ks` [own]
 abbrev pub IsNotAfter : List Mode → List Mode → Type 0
@@ -51,18 +53,19 @@ IsNotAfter (m ∷ ms) [] = ⊥
 IsNotAfter (m ∷ ms) (k ∷ ks) = (rank m < rank k) ⊎ ((m ≡ k) × IsNotAfter ms ks)
 
 -- Of all valid assignments, `ms` takes the fewest bits, and is the first of those that do [own]
-pub record IsBestAssignment (v : ℕ) (r : Rule) (xs : List ℕ) (ms : List Mode) : Type 0 where
-  pub assignment : IsAssignment r xs ms
-  pub least : (ks : List Mode) → IsAssignment r xs ks → bits v (runs_of ms) ≤ bits v (runs_of ks)
-  pub first : (ks : List Mode) → IsAssignment r xs ks → bits v (runs_of ks) ≡ bits v (runs_of ms) → IsNotAfter ms ks
+pub record IsBestAssignment (i : Interpretation) (v : ℕ) (r : Rule) (xs : List ℕ) (ms : List Mode) : Type 0 where
+  pub assignment : IsAssignment i r xs ms
+  pub least : (ks : List Mode) → IsAssignment i r xs ks → bits v (runs_of (doubled i xs ms)) ≤ bits v (runs_of (doubled i xs ks))
+  pub first : (ks : List Mode) → IsAssignment i r xs ks → bits v (runs_of (doubled i xs ks)) ≡ bits v (runs_of (doubled i xs ms)) → IsNotAfter ms ks
 
--- The segments of the best assignment [own]
-abbrev pub IsLeastSegmentation : ℕ → Rule → List ℕ → List Segment → Type 0
-IsLeastSegmentation v r xs segs = (ms : List Mode) × IsBestAssignment v r xs ms × (segs ≡ runs_of ms)
+-- The characters `ys` of the best assignment, and their segments [own]
+abbrev pub IsLeastSegmentation : Interpretation → ℕ → Rule → List ℕ → List ℕ → List Segment → Type 0
+IsLeastSegmentation i v r xs ys segs =
+    (ms : List Mode) × IsBestAssignment i v r xs ms × (segs ≡ runs_of (doubled i xs ms)) × (ys ≡ characters_in i xs ms)
 
 -- Some valid assignment takes at most `n` bits [own]
-abbrev pub HasFit : ℕ → Rule → List ℕ → ℕ → Type 0
-HasFit v r xs n = (ms : List Mode) × IsAssignment r xs ms × (bits v (runs_of ms) ≤ n)
+abbrev pub HasFit : Interpretation → ℕ → Rule → List ℕ → ℕ → Type 0
+HasFit i v r xs n = (ms : List Mode) × IsAssignment i r xs ms × (bits v (runs_of (doubled i xs ms)) ≤ n)
 
 -- A lower bound on what a byte takes in any mode, in sixths of a bit. It is 20 for a digit (three take 10 bits), and 33
 -- for another byte up to `Z` (two characters take 11). For a byte above, which only byte and kanji mode write, it is 39
@@ -75,7 +78,7 @@ unfoldable pub least_bits : List ℕ → ℕ
 least_bits xs = sum_by least_sixths xs / 6
 
 -- Of the prefixes of `xs` that some valid assignment writes in `room` bits, that of `n` bytes is the longest [own]
-pub record IsLongestFit (v : ℕ) (r : Rule) (xs : List ℕ) (room n : ℕ) : Type 0 where
+pub record IsLongestFit (i : Interpretation) (v : ℕ) (r : Rule) (xs : List ℕ) (room n : ℕ) : Type 0 where
   pub inside : n ≤ length xs
-  pub fits : HasFit v r (take n xs) room
-  pub longest : (k : ℕ) → k ≤ length xs → HasFit v r (take k xs) room → k ≤ n
+  pub fits : HasFit i v r (take n xs) room
+  pub longest : (k : ℕ) → k ≤ length xs → HasFit i v r (take k xs) room → k ≤ n

@@ -1,9 +1,9 @@
 //! What stands between the segments and says how their bytes are to be interpreted: ECI headers, and FNC1 in first or
 //! second position (ISO/IEC 18004:2015, 7.4.2, 7.4.8).
 
-ghost use Rattle.std.specs.Prelude.{IfOk, List, OnOk, false, true, [], ◌∷◌, take, drop, length, ◌≡◌, ◌≤◌, ◌++◌};
+ghost use Rattle.std.specs.Prelude.{IfOk, IsTrue, ◌↔◌, List, OnOk, false, true, [], ◌∷◌, take, drop, length, ◌≡◌, ◌≤◌, ◌++◌};
 ghost use Rattle.qr_bits.specs.declared.interpretation.Item.{Item};
-ghost use Rattle.qr_bits.specs.Interpretation.{eci_changes, fnc1_of, interpretation_bits, meant, meant_bytes, separated};
+ghost use Rattle.qr_bits.specs.Interpretation.{eci_changes, fnc1_of, interpretation_bits, MayWrite, meant, meant_bytes, separated};
 
 use crate::modes::Mode;
 use crate::segment::Segment;
@@ -20,7 +20,8 @@ pub enum Interpretation {
     Gs1,
 }
 
-pub(crate) fn interpretation_bits(interpretation: Interpretation) -> u64
+/// How many bits of a symbol say the interpretation (7.4.2, 7.4.8.2).
+pub fn interpretation_bits(interpretation: Interpretation) -> u64
     ensures value { result ≡ interpretation_bits interpretation }
     ensures most { result ≤ 28 }
 {
@@ -37,6 +38,14 @@ pub(crate) fn interpretation_bits(interpretation: Interpretation) -> u64
         }
         Interpretation::Gs1 => 4,
     }
+}
+
+/// Returns whether an input can be written with this interpretation.
+pub fn may_write(input: &[u8], interpretation: Interpretation) -> bool
+    ensures { IsTrue result ↔ MayWrite interpretation input.now }
+{
+    let _ = input;
+    !matches!(interpretation, Interpretation::Gs1)
 }
 
 /// The number of an interpretation, as an ECI header contains it (7.4.2).

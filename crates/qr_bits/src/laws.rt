@@ -7,6 +7,8 @@ ghost use Rattle.qr_bits.specs.declared.modes.Mode.TheVariants.{Alphanumeric, By
 ghost use Rattle.qr_bits.specs.declared.modes.Rule.{Rule};
 ghost use Rattle.qr_bits.specs.declared.segment.Segment.{Segment};
 ghost use Rattle.qr_bits.specs.declared.header.Header.{Header};
+ghost use Rattle.qr_bits.specs.declared.interpretation.Interpretation.{Interpretation};
+ghost use Rattle.qr_bits.specs.Interpretation.{interpretation_bits};
 ghost use Rattle.qr_bits.specs.Bits.{bits_of, field};
 ghost use Rattle.qr_bits.specs.Header.{header_bits, header_stream, parity_of};
 ghost use Rattle.qr_bits.specs.Padding.{capacity_of, padded, room_of};
@@ -15,7 +17,7 @@ ghost use Rattle.qr_bits.specs.Segmentation.{IsLeastSegmentation, least_bits};
 ghost use Rattle.qr_bits.specs.Modes.{count_width, is_kanji_pair, character_value, kanji_value, may_use};
 ghost use Rattle.qr_bits.specs.Parsing.{kanji_pair, parse, plain_content};
 ghost use Rattle.qr_bits.specs.Stream.{character_bits, digit_bits, segments_stream};
-ghost use Rattle.qr_bits.specs.Laws.{BitsAreCodewordBits, CountsFitWhereBitsFit, DataAreOne, DataAreParsed, DataAreThere, DataFillTheSymbol, FieldsAreRead, FittingInputsAreShort, ItemsAreParsed, LeastSegmentationsFit, PiecesNeedNoMore, PlainDataAreParsed, StreamsAreParsed, StreamsHaveTheirBits};
+ghost use Rattle.qr_bits.specs.Laws.{BitsAreCodewordBits, CountsFitWhereBitsFit, DataAreOne, DataAreParsed, DataAreThere, DataFillTheSymbol, FieldsAreRead, FittingInputsAreShort, ItemsAreParsed, LeastSegmentationsFit, PiecesNeedNoMore, PlainDataAreParsed, SegmentationsMeanTheirInput, StreamsAreParsed, StreamsHaveTheirBits};
 ghost use Rattle.qr_bits.specs.Examples.{all_modes, eight_digits, eleven_characters, interpreted, middle, middle_data, one, two_kanji, two_kanji_data, unreadable};
 
 use crate::fault::{BitFault, ParseFault};
@@ -74,16 +76,21 @@ pub fn fitting_inputs_are_short()
     ensures { FittingInputsAreShort }
 {}
 
-/// The least segmentation covers its input, and no valid assignment of modes takes fewer bits.
+/// The segments of the least segmentation cover its characters, and no valid assignment of modes takes fewer bits.
 #[tactic(auto, using(crate::proofs::lemmas::segment::SegmentLemmas::least_fits))]
 pub fn least_segmentations_fit()
     ensures { LeastSegmentationsFit }
 {}
 
-/// An input has at most one least segmentation for a version and a rule.
+/// An input has at most one least segmentation for an interpretation, a version and a rule.
 pub fn segmentations_are_one()
-    ensures { (v : ℕ) (r : Rule) (xs : List ℕ) (ss ts : List Segment)
-        → IsLeastSegmentation v r xs ss → IsLeastSegmentation v r xs ts → ss ≡ ts }
+    ensures { (i : Interpretation) (v : ℕ) (r : Rule) (xs ys zs : List ℕ) (ss ts : List Segment)
+        → IsLeastSegmentation i v r xs ys ss → IsLeastSegmentation i v r xs zs ts → (ys ≡ zs) × (ss ≡ ts) }
+{}
+
+/// The characters of the least segmentation stand for the input, and are read with its interpretation.
+pub fn segmentations_mean_their_input()
+    ensures { SegmentationsMeanTheirInput }
 {}
 
 /// Folding does not change the number of bytes.
@@ -152,9 +159,11 @@ pub fn parses_compute()
     ensures faults { map (λ row. parse 1 (bits_of row.0)) unreadable ≡ map (λ row. Err row.1) unreadable }
 {}
 
-/// The room that a header leaves is the capacity less the bits of the header (8.1).
+/// The room that a header leaves is the capacity less the bits of the header and of what says the interpretation (7.4.2,
+/// 7.4.8.2, 8.1).
 pub fn headers_take_room()
-    ensures { (v : ℕ) (l : Level) (h : Header) → room_of v l ≡ capacity_of v l - header_bits (Some h) }
+    ensures { (v : ℕ) (l : Level) (h : Header) (i : Interpretation)
+        → room_of v l i ≡ capacity_of v l - header_bits (Some h) - interpretation_bits i }
 {}
 
 /// The parity of `ABCDEFGH`, of no byte, and of three bytes of which two are equal (8.3).

@@ -8,10 +8,13 @@ ghost use Rattle.qr_bits.specs.Segmentation.{IsLongestFit};
 ghost use Rattle.qr_bits.specs.Steps.BestModes.{in_state};
 ghost use Rattle.qr_bits.specs.Steps.RunState.{begins_with_pair, swapped};
 ghost use Rattle.qr_bits.specs.Padding.{room_of};
+ghost use Rattle.qr_bits.specs.declared.interpretation.Interpretation.{Interpretation};
+ghost use Rattle.qr_bits.specs.Interpretation.{MayWrite};
 
 use crate::best_modes::best_choices;
 use crate::fault::BitFault;
 use crate::header::HEADER_BITS;
+use crate::interpretation::{Interpretation, interpretation_bits};
 use crate::modes::{INPUT_MAX, Mode, Rule, count_width, is_kanji_pair};
 use crate::padding::capacity;
 use crate::run_state::{FirstChoices, NO_BITS, PerState};
@@ -64,7 +67,7 @@ fn fewest(numbers: &PerState) -> u32
 fn longest_by_rows(input: &[u8], version: Version, rule: Rule, kanji: bool, room: u64) -> usize
     requires short { length input.now ≤ INPUT_MAX }
     requires kanji { kanji ≡ may_use rule Mode.Kanji }
-    ensures { IsLongestFit version rule input.now room result }
+    ensures { IsLongestFit Interpretation.Default version rule input.now room result }
 {
     let first_choices = FirstChoices::of(version);
     let mut longest = 0;
@@ -82,8 +85,16 @@ fn longest_by_rows(input: &[u8], version: Version, rule: Rule, kanji: bool, room
     longest
 }
 
+// What a structured append header and what says the interpretation leave of the capacity (7.4.2, 7.4.8.2, 8.1).
+fn room(version: Version, level: Level, interpretation: Interpretation) -> u64
+    ensures value { result ≡ room_of version level interpretation }
+    ensures least { 20 ≤ result }
+{
+    capacity(version, level) - HEADER_BITS - interpretation_bits(interpretation)
+}
+
 /// Returns the length in bytes of the longest prefix of `input` that fits a symbol of this version and level with a
-/// structured append header, in modes that `rule` allows.
+/// structured append header and what says the interpretation, in modes that `rule` allows.
 ///
 /// With kanji mode a prefix may fit though a shorter one does not, since half a kanji pair may take more bits than the
 /// pair.
@@ -97,12 +108,14 @@ pub fn longest_fit(
     version: Version,
     level: Level,
     rule: Rule,
+    interpretation: Interpretation,
 ) -> Result<usize, BitFault>
-    requires { length input.now ≤ INPUT_MAX }
+    requires short { length input.now ≤ INPUT_MAX }
+    requires written { MayWrite interpretation input.now }
     ensures { IsOkAnd result (λ n.
-        IsLongestFit version rule input.now (room_of version level) n) }
+        IsLongestFit interpretation version rule input.now (room_of version level interpretation) n) }
 {
-    let room = capacity(version, level) - HEADER_BITS;
+    let room = room(version, level, interpretation);
     let most = bytes_in(room, version);
     // Each rule allows byte mode.
     if input.len() <= most {

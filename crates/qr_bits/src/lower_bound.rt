@@ -2,6 +2,7 @@
 //! segments.
 
 ghost use Rattle.std.specs.Prelude.{length, ℕ, ◌/◌, ◌≡◌, ◌≤◌};
+ghost use Rattle.qr_bits.specs.declared.interpretation.Interpretation.{Interpretation};
 ghost use Rattle.qr_bits.specs.declared.modes.Rule.{Rule};
 ghost use Rattle.qr_bits.specs.Segmentation.{HasFit, least_bits, least_sixths};
 
@@ -27,7 +28,7 @@ fn least_sixths(byte: u8) -> u32
 pub fn least_bits(input: &[u8]) -> u32
     requires { length input.now ≤ INPUT_MAX }
     ensures value { result ≡ least_bits input.now }
-    ensures least { (v room : ℕ) (r : Rule) → HasFit v r input.now room → result ≤ room }
+    ensures least { (i : Interpretation) (v room : ℕ) (r : Rule) → HasFit i v r input.now room → result ≤ room }
 {
     let mut sixths = 0;
     for byte in input {

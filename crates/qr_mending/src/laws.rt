@@ -6,14 +6,16 @@ ghost use Rattle.std.specs.List.{All};
 ghost use Rattle.qr_layout.specs.declared.level.Level.{Level};
 ghost use Rattle.qr_layout.specs.Format.{format_word_of};
 ghost use Rattle.qr_bits.specs.declared.modes.Rule.{Rule};
-ghost use Rattle.qr_bits.specs.Parsing.{Content, plain_content};
+ghost use Rattle.qr_bits.specs.declared.interpretation.Interpretation.{Interpretation};
+ghost use Rattle.qr_bits.specs.Interpretation.{MayWrite};
+ghost use Rattle.qr_bits.specs.Parsing.{Content};
 ghost use Rattle.qr_matrix.specs.Grid.{Grid, IsSquare, light, square};
 ghost use Rattle.qr_symbol.specs.declared.fault.ReadFault.{ReadFault};
 ghost use Rattle.qr_symbol.specs.Distance.{blocks_in};
 ghost use Rattle.qr_symbol.specs.Encoding.{IsSymbol};
 ghost use Rattle.qr_symbol.specs.declared.symbol.Symbol.{Symbol};
 ghost use Rattle.qr_symbol.specs.Joining.{IsJoined};
-ghost use Rattle.qr_symbol.specs.Reading.{IsReading};
+ghost use Rattle.qr_symbol.specs.Reading.{interpreted_content, IsReading};
 ghost use Rattle.qr_symbol.specs.Series.{squares_of, IsSeries};
 ghost use Rattle.qr_matrix.specs.BitRow.{has_bit};
 ghost use Rattle.qr_symbol.specs.Symbol.{grid_of};
@@ -230,13 +232,13 @@ pub fn damaged_symbols_are_mended(
     unknown: &Matrix,
 ) -> Result<Mended, ReadFault>
     requires { unknown.now.side ≡ damaged.now.side }
-    ensures { (smallest : ℕ) (l : Level) (rule : Rule) (x : List ℕ) (v mask : ℕ) (g : Grid) (misread : List ℕ)
-        → 1 ≤ smallest → (s : IsSymbol smallest l rule x v mask g) → damaged.now.side ≡ g.side
+    ensures { (smallest : ℕ) (l : Level) (rule : Rule) (i : Interpretation) (x : List ℕ) (v mask : ℕ) (g : Grid)
+        (misread : List ℕ) → 1 ≤ smallest → MayWrite i x → (s : IsSymbol smallest l rule i x v mask g) → damaged.now.side ≡ g.side
         → HasFormat unknown.now v damaged.now l mask
         → HoldsDamaged unknown.now v l mask damaged.now s.made.message misread
         → MatchResult result
         (λ m. (m.version ≡ v) × (m.level ≡ l) × (m.mask ≡ mask)
-        × (m.parsed ≡ plain_content None s.made.segments x)
+        × (m.parsed ≡ interpreted_content i None s.made.segments x)
         × (m.changed.items ≡ misread) × (m.wrong_modules ≡ wrong_modules unknown.now damaged.now g)
         × (m.wrong_format_modules ≡ wrong_format_modules unknown.now damaged.now l mask)) (λ e. e ≡ ReadFault.Memory) }
 {
@@ -247,11 +249,11 @@ pub fn damaged_symbols_are_mended(
 /// information are wrong, and at most `changed_max` in each block. Modules of function patterns, version information
 /// and remainder bits may have any colour.
 pub fn few_wrong_modules_are_mended(alloc: Global, damaged: &Matrix) -> Result<Mended, ReadFault>
-    ensures { (smallest : ℕ) (l : Level) (rule : Rule) (x : List ℕ) (v mask : ℕ) (g : Grid) → 1 ≤ smallest
-        → (s : IsSymbol smallest l rule x v mask g) → damaged.now.side ≡ g.side → DifferInFewModules v l damaged.now g
+    ensures { (smallest : ℕ) (l : Level) (rule : Rule) (i : Interpretation) (x : List ℕ) (v mask : ℕ) (g : Grid)
+        → 1 ≤ smallest → MayWrite i x → (s : IsSymbol smallest l rule i x v mask g) → damaged.now.side ≡ g.side → DifferInFewModules v l damaged.now g
         → MatchResult result
         (λ m. (m.version ≡ v) × (m.level ≡ l) × (m.mask ≡ mask)
-        × (m.parsed ≡ plain_content None s.made.segments x)) (λ e. e ≡ ReadFault.Memory) }
+        × (m.parsed ≡ interpreted_content i None s.made.segments x)) (λ e. e ≡ ReadFault.Memory) }
 {
     mend_symbol(alloc, damaged)
 }
@@ -272,8 +274,8 @@ pub fn series_mendings_are_refused_exactly(
 /// is refused. From symbols of another encoder mending yields the bytes that the undamaged symbols are joined to, or
 /// memory is refused.
 pub fn damaged_series_are_mended(alloc: Global, damaged: &[Matrix]) -> Result<Vec<u8>, ReadFault>
-    ensures series { (v : ℕ) (l : Level) (rule : Rule) (x : List ℕ) (ss : List Symbol) → 1 ≤ v → v ≤ 40
-        → IsSeries v l rule x ss → AreDamagedSquares damaged.now (squares_of ss)
+    ensures series { (v : ℕ) (l : Level) (rule : Rule) (i : Interpretation) (x : List ℕ) (ss : List Symbol) → 1 ≤ v → v ≤ 40
+        → MayWrite i x → IsSeries v l rule i x ss → AreDamagedSquares damaged.now (squares_of ss)
         → MatchResult result (λ bytes. bytes.items ≡ x) (λ e. e ≡ ReadFault.Memory) }
     ensures joined { (whole : List Grid) (x : List ℕ) → IsJoined whole x → AreDamagedSquares damaged.now whole
         → MatchResult result (λ bytes. bytes.items ≡ x) (λ e. e ≡ ReadFault.Memory) }

@@ -2,6 +2,7 @@
 use Rattle.std.specs.Prelude.{◌≡◌, ◌≤◌, ℕ, List, [], ◌∷◌}
 use Rattle.qr_layout.specs.declared.level.Level.{Level}
 use Rattle.qr_bits.specs.declared.modes.Rule.{Rule}
+use Rattle.qr_bits.specs.declared.interpretation.Interpretation.{Interpretation}
 use Rattle.qr_matrix.specs.Grid.{Grid}
 use Rattle.qr_symbol.specs.declared.symbol.Symbol.{Symbol}
 use Rattle.qr_symbol.specs.Encoding.{IsSymbol}
@@ -18,12 +19,12 @@ DrawingsAreOne = (kind other : Drawing) (margin last : ℕ) (squares others : Li
 
 -- The symbol of an input has a drawing that is parsed, of each type and with each margin of at most 255 modules [own]
 abbrev pub SymbolsAreDrawings : Type 0
-SymbolsAreDrawings = (kind : Drawing) (margin smallest : ℕ) (l : Level) (rule : Rule) (x : List ℕ) (v mask : ℕ) (g : Grid)
-    → margin ≤ 255 → 1 ≤ smallest → IsSymbol smallest l rule x v mask g
+SymbolsAreDrawings = (kind : Drawing) (margin smallest : ℕ) (l : Level) (rule : Rule) (i : Interpretation) (x : List ℕ) (v mask : ℕ) (g : Grid)
+    → margin ≤ 255 → 1 ≤ smallest → IsSymbol smallest l rule i x v mask g
     → IsDrawingOf kind margin (g ∷ []) (drawn kind margin (g ∷ []))
 
 -- So have the symbols of the series of an input [own]
 abbrev pub SeriesAreDrawings : Type 0
-SeriesAreDrawings = (kind : Drawing) (margin v : ℕ) (l : Level) (rule : Rule) (x : List ℕ) (symbols : List Symbol)
-    → margin ≤ 255 → 1 ≤ v → v ≤ 40 → IsSeries v l rule x symbols
+SeriesAreDrawings = (kind : Drawing) (margin v : ℕ) (l : Level) (rule : Rule) (i : Interpretation) (x : List ℕ) (symbols : List Symbol)
+    → margin ≤ 255 → 1 ≤ v → v ≤ 40 → IsSeries v l rule i x symbols
     → IsDrawingOf kind margin (squares_of symbols) (drawn kind margin (squares_of symbols))

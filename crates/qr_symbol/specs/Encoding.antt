@@ -1,4 +1,5 @@
--- The symbol of the bytes `x` at level `l`; `rule` determines the allowed modes, and `g` is its square.
+-- The symbol of the bytes `x` at level `l`; `rule` determines the allowed modes, `i` how the bytes are to be interpreted,
+-- and `g` is its square.
 use Rattle.std.specs.Prelude.{◌≡◌, ℕ, List, Option, None}
 use Rattle.qr_layout.specs.declared.level.Level.{Level}
 use Rattle.qr_bits.specs.declared.modes.Rule.{Rule}
@@ -6,33 +7,47 @@ use Rattle.qr_bits.specs.declared.segment.Segment.{Segment}
 use Rattle.qr_bits.specs.declared.header.Header.{Header}
 use Rattle.qr_bits.specs.Segmentation.{IsLeastSegmentation}
 use Rattle.qr_bits.specs.Padding.{IsData}
-use Rattle.qr_bits.specs.declared.interpretation.Interpretation.TheVariants.{Default}
+use Rattle.qr_bits.specs.declared.interpretation.Interpretation.{Interpretation}
 use Rattle.qr_matrix.specs.Grid.{Grid}
 use Rattle.qr_symbol.specs.Symbol.{grid_of}
 use Rattle.qr_symbol.specs.Interleaving.{IsInterleaved}
 use Rattle.qr_symbol.specs.Choice.{IsMask}
-use Rattle.qr_symbol.specs.VersionChoice.{IsVersion}
+use Rattle.qr_symbol.specs.VersionChoice.{IsHighestLevel, IsVersion}
 
--- The symbol of version `v` that contains the optional header `h` and then `x`: the segments of fewest bits are written
--- as data codewords, and their final sequence is drawn under the mask with the least penalty (ISO/IEC 18004:2015, 7.1,
--- 8.1)
-pub record IsSymbolAt (v : ℕ) (l : Level) (rule : Rule) (x : List ℕ) (h : Option Header) (mask : ℕ) (g : Grid) : Type 0 where
+-- The symbol of version `v` that contains the optional header `h`, what says the interpretation, and then `x`: the
+-- characters in the segments of fewest bits are written as data codewords, and their final sequence is drawn under the
+-- mask with the least penalty (ISO/IEC 18004:2015, 7.1, 7.4.2, 7.4.8.2, 8.1)
+pub record IsSymbolAt (v : ℕ) (l : Level) (rule : Rule) (i : Interpretation) (x : List ℕ) (h : Option Header) (mask : ℕ) (g : Grid) : Type 0 where
   pub segments : List Segment
-  pub chosen : IsLeastSegmentation v rule x segments
+  pub characters : List ℕ
+  pub chosen : IsLeastSegmentation i v rule x characters segments
   pub message : List ℕ
-  pub written : IsData v l x segments h Default message
+  pub written : IsData v l characters segments h i message
   pub codewords : List ℕ
   pub interleaved : IsInterleaved v l message codewords
   pub best : IsMask v l codewords mask
   pub drawn : g ≡ grid_of v l mask codewords
 
 -- The symbol without a header, of the least version `v`, from `smallest` on, that `x` fits (ISO/IEC 18004:2015, 7.1)
-pub record IsSymbol (smallest : ℕ) (l : Level) (rule : Rule) (x : List ℕ) (v mask : ℕ) (g : Grid) : Type 0 where
-  pub version : IsVersion smallest l rule x v
-  pub made : IsSymbolAt v l rule x None mask g
+pub record IsSymbol (smallest : ℕ) (l : Level) (rule : Rule) (i : Interpretation) (x : List ℕ) (v mask : ℕ) (g : Grid) : Type 0 where
+  pub version : IsVersion smallest l rule i x v
+  pub made : IsSymbolAt v l rule i x None mask g
 
--- For a level, a smallest version and a rule, an input has at most one version, mask and square [own]
+-- The symbol without a header, of the least version `v`, from `smallest` on, that `x` fits at level `l`, and of the
+-- highest level `k` at which `x` fits this version [own]
+pub record IsBoostedSymbol (smallest : ℕ) (l : Level) (rule : Rule) (i : Interpretation) (x : List ℕ) (v : ℕ) (k : Level) (mask : ℕ) (g : Grid) : Type 0 where
+  pub version : IsVersion smallest l rule i x v
+  pub level : IsHighestLevel v l rule i x k
+  pub made : IsSymbolAt v k rule i x None mask g
+
+-- For a level, a smallest version, a rule and an interpretation, an input has at most one version, mask and square [own]
 abbrev pub SymbolsAreOne : Type 0
-SymbolsAreOne = (x : List ℕ) (l : Level) (smallest : ℕ) (rule : Rule) (v w m n : ℕ) (g h : Grid)
-    → IsSymbol smallest l rule x v m g → IsSymbol smallest l rule x w n h
+SymbolsAreOne = (x : List ℕ) (l : Level) (smallest : ℕ) (rule : Rule) (i : Interpretation) (v w m n : ℕ) (g h : Grid)
+    → IsSymbol smallest l rule i x v m g → IsSymbol smallest l rule i x w n h
     → (v ≡ w) × (m ≡ n) × (g ≡ h)
+
+-- As `SymbolsAreOne`, for symbols of the highest level, which is one too [own]
+abbrev pub BoostedSymbolsAreOne : Type 0
+BoostedSymbolsAreOne = (x : List ℕ) (l : Level) (smallest : ℕ) (rule : Rule) (i : Interpretation) (v w : ℕ) (k j : Level) (m n : ℕ) (g h : Grid)
+    → IsBoostedSymbol smallest l rule i x v k m g → IsBoostedSymbol smallest l rule i x w j n h
+    → (v ≡ w) × (k ≡ j) × (m ≡ n) × (g ≡ h)

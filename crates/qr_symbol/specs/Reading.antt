@@ -1,6 +1,6 @@
 -- How a square `g` is read as a symbol, of version `v`, level `l` and mask `mask` where these are named. Nothing here
 -- uses `grid_of`, by which symbols are drawn.
-use Rattle.std.specs.Prelude.{◌≡◌, ◌≢◌, ℕ, ◌-◌, ◌*◌, ◌<◌, ◌≤◌, Bool, false, List, ◌++◌, map, take, length, replicate, Result, Ok, Err, None}
+use Rattle.std.specs.Prelude.{◌≡◌, ◌≢◌, ℕ, ◌-◌, ◌*◌, ◌<◌, ◌≤◌, Bool, false, List, ◌++◌, map, take, length, replicate, Option, Result, Ok, Err, None}
 use Rattle.std.specs.List.{All}
 use Rattle.qr_layout.specs.declared.level.Level.{Level}
 use Rattle.qr_layout.specs.declared.region.Module.{Module}
@@ -13,7 +13,10 @@ use Rattle.qr_bits.specs.declared.modes.Rule.{Rule}
 use Rattle.qr_bits.specs.declared.segment.Segment.{Segment}
 use Rattle.qr_bits.specs.Segmentation.{IsLeastSegmentation}
 use Rattle.qr_bits.specs.Bits.{bits_of}
-use Rattle.qr_bits.specs.Parsing.{Content, parse, plain_content}
+use Rattle.qr_bits.specs.Parsing.{Content, parse}
+use Rattle.qr_bits.specs.Interpretation.{ecis_in, items_in}
+use Rattle.qr_bits.specs.declared.header.Header.{Header}
+use Rattle.qr_bits.specs.declared.interpretation.Interpretation.{Interpretation}
 use Rattle.qr_bits.specs.declared.fault.ParseFault.{ParseFault}
 use Rattle.qr_bits.specs.declared.fault.ParseFault.TheVariants as unparsed
 use Rattle.qr_symbol.specs.declared.fault.ReadFault.{ReadFault}
@@ -84,11 +87,16 @@ pub record IsParsedAs (g : Grid) (outcome : Result Content ParseFault) : Type 0 
 abbrev pub IsReading : Grid → Content → Type 0
 IsReading g content = IsParsedAs g (Ok content)
 
--- The square is read as the bytes `x` in the segments of fewest bits in modes that `rule` allows, without a structured
--- append header (ISO/IEC 18004:2015, 12)
-abbrev pub IsReadBack : ℕ → Rule → List ℕ → Grid → Type 0
-IsReadBack v rule x g = (segments : List Segment) × IsLeastSegmentation v rule x segments
-    × IsReading g (plain_content None segments x)
+-- The bytes `x` under the interpretation `i`, after the optional header `h`: the segments come after what says the
+-- interpretation, and contain what stands for the bytes (ISO/IEC 18004:2015, 7.4.2, 7.4.8.2)
+abbrev pub interpreted_content : Interpretation → Option Header → List Segment → List ℕ → Content
+interpreted_content i h segments x = record { header = h; items = items_in i segments; ecis = ecis_in i; bytes = x }
+
+-- The square is read as the bytes `x` under the interpretation `i`, in the segments of fewest bits in modes that `rule`
+-- allows, without a structured append header (ISO/IEC 18004:2015, 12)
+abbrev pub IsReadBack : ℕ → Rule → Interpretation → List ℕ → Grid → Type 0
+IsReadBack v rule i x g = (segments : List Segment) × (characters : List ℕ) × IsLeastSegmentation i v rule x characters segments
+    × IsReading g (interpreted_content i None segments x)
 
 -- Reading may fail with the fault: always with `Memory`, never with `Series`. Of the others one at most applies: `Side`
 -- if no version has this side; else `Format` if the format information belongs to no level and mask; else `Check` if

@@ -1,10 +1,11 @@
 -- The series of symbols of the bytes `x` at version `v` and level `l`, the standard's Structured Append; `rule`
--- determines the allowed modes.
+-- determines the allowed modes, and `i` how the bytes are to be interpreted.
 use Rattle.std.specs.Prelude.{◌≡◌, ◌⊎◌, ℕ, ◌+◌, ◌-◌, ◌<◌, ◌≤◌, List, [], ◌∷◌, length, take, drop, map, Option, None, Some}
 use Rattle.std.specs.List.{All, concat}
 use Rattle.qr_layout.specs.declared.level.Level.{Level}
 use Rattle.qr_bits.specs.declared.modes.Rule.{Rule}
 use Rattle.qr_bits.specs.declared.header.Header.{Header}
+use Rattle.qr_bits.specs.declared.interpretation.Interpretation.{Interpretation}
 use Rattle.qr_bits.specs.Segmentation.{HasFit, IsLongestFit}
 use Rattle.qr_bits.specs.Padding.{room_of}
 use Rattle.qr_bits.specs.Header.{parity_of}
@@ -19,57 +20,57 @@ squares_of symbols = map (λ s. s.matrix) symbols
 
 -- `x` is cut into these parts: each is the longest prefix of the rest that fits a symbol with a header, and none is
 -- empty [own]
-unfoldable pub AreParts : ℕ → Level → Rule → List ℕ → List (List ℕ) → Type 0
-AreParts v l rule x [] = x ≡ []
-AreParts v l rule x (p ∷ ps) = (n : ℕ) × (0 < n) × IsLongestFit v rule x (room_of v l) n × (p ≡ take n x)
-    × AreParts v l rule (drop n x) ps
+unfoldable pub AreParts : ℕ → Level → Rule → Interpretation → List ℕ → List (List ℕ) → Type 0
+AreParts v l rule i x [] = x ≡ []
+AreParts v l rule i x (p ∷ ps) = (n : ℕ) × (0 < n) × IsLongestFit i v rule x (room_of v l i) n × (p ≡ take n x)
+    × AreParts v l rule i (drop n x) ps
 
 -- The parts make up `x`, and each fits a symbol with a header, though it may be empty and need not be the longest that
 -- does [own]
-abbrev pub FitParts : ℕ → Level → Rule → List ℕ → List (List ℕ) → Type 0
-FitParts v l rule x parts = (x ≡ concat parts) × All (λ p. HasFit v rule p (room_of v l)) parts
+abbrev pub FitParts : ℕ → Level → Rule → Interpretation → List ℕ → List (List ℕ) → Type 0
+FitParts v l rule i x parts = (x ≡ concat parts) × All (λ p. HasFit i v rule p (room_of v l i)) parts
 
 -- Every cut of `x` into parts that fit has at least `n` parts [own]
-abbrev pub NeedsParts : ℕ → Level → Rule → List ℕ → ℕ → Type 0
-NeedsParts v l rule x n = (parts : List (List ℕ)) → FitParts v l rule x parts → n ≤ length parts
+abbrev pub NeedsParts : ℕ → Level → Rule → Interpretation → List ℕ → ℕ → Type 0
+NeedsParts v l rule i x n = (parts : List (List ℕ)) → FitParts v l rule i x parts → n ≤ length parts
 
 -- As `IsSymbolAt`, for a `Symbol`, whose version and level are `v` and `l` (ISO/IEC 18004:2015, 7.1, 8.1)
-pub record IsSymbolOf (v : ℕ) (l : Level) (rule : Rule) (x : List ℕ) (h : Option Header) (s : Symbol) : Type 0 where
+pub record IsSymbolOf (v : ℕ) (l : Level) (rule : Rule) (i : Interpretation) (x : List ℕ) (h : Option Header) (s : Symbol) : Type 0 where
   pub version : s.version ≡ v
   pub level : s.level ≡ l
-  pub made : IsSymbolAt v l rule x h s.mask s.matrix
+  pub made : IsSymbolAt v l rule i x h s.mask s.matrix
 
 -- There are as many symbols as parts, and each contains its part and a header with its position, counted from `k`, and
 -- the numbers `last` and `parity` (ISO/IEC 18004:2015, 8.1 to 8.3)
-unfoldable pub AreSymbolsFrom : ℕ → Level → Rule → (last parity k : ℕ) → List (List ℕ) → List Symbol → Type 0
-AreSymbolsFrom v l rule last parity k [] [] = Unit {0}
-AreSymbolsFrom v l rule last parity k [] (s ∷ ss) = ⊥
-AreSymbolsFrom v l rule last parity k (p ∷ ps) [] = ⊥
-AreSymbolsFrom v l rule last parity k (p ∷ ps) (s ∷ ss) =
-    IsSymbolOf v l rule p (Some (record { position = k; last = last; parity = parity })) s
-    × AreSymbolsFrom v l rule last parity (k + 1) ps ss
+unfoldable pub AreSymbolsFrom : ℕ → Level → Rule → Interpretation → (last parity k : ℕ) → List (List ℕ) → List Symbol → Type 0
+AreSymbolsFrom v l rule i last parity k [] [] = Unit {0}
+AreSymbolsFrom v l rule i last parity k [] (s ∷ ss) = ⊥
+AreSymbolsFrom v l rule i last parity k (p ∷ ps) [] = ⊥
+AreSymbolsFrom v l rule i last parity k (p ∷ ps) (s ∷ ss) =
+    IsSymbolOf v l rule i p (Some (record { position = k; last = last; parity = parity })) s
+    × AreSymbolsFrom v l rule i last parity (k + 1) ps ss
 
 -- `x` does not fit one plain symbol, and the symbols are those of its parts, at most 16; their headers have the number
 -- of symbols less 1 and the parity data of `x` [own]
-pub record IsSplit (v : ℕ) (l : Level) (rule : Rule) (x : List ℕ) (symbols : List Symbol) : Type 0 where
-  pub too_long : FitsVersion v l rule x → ⊥
+pub record IsSplit (v : ℕ) (l : Level) (rule : Rule) (i : Interpretation) (x : List ℕ) (symbols : List Symbol) : Type 0 where
+  pub too_long : FitsVersion v l rule i x → ⊥
   pub parts : List (List ℕ)
-  pub split : AreParts v l rule x parts
+  pub split : AreParts v l rule i x parts
   pub many : length parts ≤ 16
-  pub made : AreSymbolsFrom v l rule (length parts - 1) (parity_of x) 0 parts symbols
+  pub made : AreSymbolsFrom v l rule i (length parts - 1) (parity_of x) 0 parts symbols
 
 -- `x` fits one plain symbol, and `symbols` has this one alone [own]
-pub record IsPlainSymbol (v : ℕ) (l : Level) (rule : Rule) (x : List ℕ) (symbols : List Symbol) : Type 0 where
-  pub fits : FitsVersion v l rule x
+pub record IsPlainSymbol (v : ℕ) (l : Level) (rule : Rule) (i : Interpretation) (x : List ℕ) (symbols : List Symbol) : Type 0 where
+  pub fits : FitsVersion v l rule i x
   pub symbol : Symbol
-  pub made : IsSymbolOf v l rule x None symbol
+  pub made : IsSymbolOf v l rule i x None symbol
   pub alone : symbols ≡ symbol ∷ []
 
 -- One plain symbol if `x` fits it, and otherwise the symbols of the parts [own]
-abbrev pub IsSeries : ℕ → Level → Rule → List ℕ → List Symbol → Type 0
-IsSeries v l rule x symbols = IsPlainSymbol v l rule x symbols ⊎ IsSplit v l rule x symbols
+abbrev pub IsSeries : ℕ → Level → Rule → Interpretation → List ℕ → List Symbol → Type 0
+IsSeries v l rule i x symbols = IsPlainSymbol v l rule i x symbols ⊎ IsSplit v l rule i x symbols
 
 -- `x` neither fits one plain symbol nor is cut into at most 16 parts [own]
-pub record HasNoSeries (v : ℕ) (l : Level) (rule : Rule) (x : List ℕ) : Type 0 where
-  pub too_long : FitsVersion v l rule x → ⊥
-  pub too_many : (parts : List (List ℕ)) → AreParts v l rule x parts → 16 < length parts
+pub record HasNoSeries (v : ℕ) (l : Level) (rule : Rule) (i : Interpretation) (x : List ℕ) : Type 0 where
+  pub too_long : FitsVersion v l rule i x → ⊥
+  pub too_many : (parts : List (List ℕ)) → AreParts v l rule i x parts → 16 < length parts

@@ -5,3 +5,4 @@ pub mod Collecting
 pub mod Canvas
 pub mod Series
 pub mod Interleaving
+pub mod Encoding

@@ -2,25 +2,28 @@
 
 ghost use Rattle.std.specs.Prelude.{◌≡◌, ◌≢◌, ◌+◌, ◌<◌, ◌≤◌, ◌↔◌, ◌⊎◌, ℕ, List, [], length, Err, IfOk, IfErr, MatchResult};
 ghost use Rattle.std.specs.Option.{ForSome};
+ghost use Rattle.std.specs.Cow.{cow_slice_items};
 ghost use Rattle.qr_bits.specs.declared.modes.Rule.{Rule};
 ghost use Rattle.qr_bits.specs.Segmentation.{bits, Covers, IsLeastSegmentation};
 ghost use Rattle.qr_bits.specs.Padding.{IsData, capacity_of};
 ghost use Rattle.qr_bits.specs.declared.interpretation.Interpretation.{Interpretation};
 ghost use Rattle.qr_bits.specs.Header.{header_bits};
+ghost use Rattle.qr_bits.specs.Interpretation.{interpretation_bits, InterpretationFits, MayWrite};
 ghost use Rattle.qr_symbol.specs.declared.fault.EncodeFault.{EncodeFault};
 ghost use Rattle.qr_symbol.specs.Reading.{IsReadBack};
-ghost use Rattle.qr_symbol.specs.Encoding.{IsSymbol};
+ghost use Rattle.qr_symbol.specs.Encoding.{IsBoostedSymbol, IsSymbol};
 ghost use Rattle.qr_symbol.specs.Interleaving.{IsInterleaved};
 ghost use Rattle.qr_symbol.specs.VersionChoice.{HasNoVersion};
 ghost use Rattle.qr_symbol.specs.Series.{IsSymbolOf};
+ghost use Rattle.qr_symbol.specs.Steps.Encoding.{IsFit, IsRefusedExactly};
 
 use crate::canvas::Canvas;
 use crate::choice::build_on;
 use crate::fault::EncodeFault;
 use crate::interleaving::interleave;
 use crate::symbol::Symbol;
-use crate::version_choice::least_fit;
-use qr_bits::{Header, INPUT_MAX, Interpretation, Rule, Segment, codewords};
+use crate::version_choice::{Fit, highest_with_room, least_fit, needed_bits};
+use qr_bits::{Header, INPUT_MAX, Interpretation, Rule, Segmented, codewords};
 use qr_layout::{Level, Version};
 use std::alloc::Global;
 
@@ -49,18 +52,77 @@ pub fn encode(
     level: Level,
     smallest: Version,
     rule: Rule,
+    interpretation: Interpretation,
 ) -> Result<Symbol, EncodeFault>
-    requires { length input.now ≤ INPUT_MAX }
-    ensures symbol { IfOk result (λ s. IsSymbol smallest level rule input.now
+    requires short { length input.now ≤ INPUT_MAX }
+    requires number { InterpretationFits interpretation }
+    requires written { MayWrite interpretation input.now }
+    ensures symbol { IfOk result (λ s. IsSymbol smallest level rule interpretation input.now
         s.version s.mask s.matrix) }
     ensures level { IfOk result (λ s. s.level ≡ level) }
-    ensures read { IfOk result (λ s. IsReadBack s.version rule input.now s.matrix) }
+    ensures read { IfOk result (λ s.
+        IsReadBack s.version rule interpretation input.now s.matrix) }
     ensures empty { (result ≡ Err EncodeFault.Empty) ↔ (input.now ≡ []) }
     ensures too_long { (result ≡ Err EncodeFault.TooLong)
-        ↔ ((result ≢ Err EncodeFault.Memory) × HasNoVersion smallest level rule input.now) }
+        ↔ ((result ≢ Err EncodeFault.Memory)
+        × HasNoVersion smallest level rule interpretation input.now) }
     ensures long { 7089 < length input.now → result ≡ Err EncodeFault.TooLong }
     ensures fault { IfErr result (λ e. (e ≡ EncodeFault.Empty) ⊎ (e ≡ EncodeFault.TooLong)
         ⊎ (e ≡ EncodeFault.Memory)) }
+{
+    let fit = fit_of(alloc, input, level, smallest, rule, interpretation)?;
+    fitting_symbol(alloc, &fit.segmented, interpretation, fit.version, level)
+}
+
+/// As `encode`, but `level` is the lowest that the symbol may have. The version is that of `encode`, and the level is
+/// the highest at which the input fits this version. So the symbol has no more modules than that of `encode`, and as
+/// much error correction as there is room for.
+///
+/// # Errors
+///
+/// Returns the same faults as `encode`.
+pub fn encode_boosted(
+    alloc: Global,
+    input: &[u8],
+    level: Level,
+    smallest: Version,
+    rule: Rule,
+    interpretation: Interpretation,
+) -> Result<Symbol, EncodeFault>
+    requires short { length input.now ≤ INPUT_MAX }
+    requires number { InterpretationFits interpretation }
+    requires written { MayWrite interpretation input.now }
+    ensures symbol { IfOk result (λ s. IsBoostedSymbol smallest level rule interpretation input.now
+        s.version s.level s.mask s.matrix) }
+    ensures read { IfOk result (λ s.
+        IsReadBack s.version rule interpretation input.now s.matrix) }
+    ensures empty { (result ≡ Err EncodeFault.Empty) ↔ (input.now ≡ []) }
+    ensures too_long { (result ≡ Err EncodeFault.TooLong)
+        ↔ ((result ≢ Err EncodeFault.Memory)
+        × HasNoVersion smallest level rule interpretation input.now) }
+    ensures long { 7089 < length input.now → result ≡ Err EncodeFault.TooLong }
+    ensures fault { IfErr result (λ e. (e ≡ EncodeFault.Empty) ⊎ (e ≡ EncodeFault.TooLong)
+        ⊎ (e ≡ EncodeFault.Memory)) }
+{
+    let fit = fit_of(alloc, input, level, smallest, rule, interpretation)?;
+    let bits = needed_bits(&fit.segmented, interpretation, fit.version);
+    let highest = highest_with_room(fit.version, level, bits);
+    fitting_symbol(alloc, &fit.segmented, interpretation, fit.version, highest)
+}
+
+// The least version that the input fits, with its segments there.
+fn fit_of<'a>(
+    alloc: Global,
+    input: &'a [u8],
+    level: Level,
+    smallest: Version,
+    rule: Rule,
+    interpretation: Interpretation,
+) -> Result<Fit<'a>, EncodeFault>
+    requires { MayWrite interpretation input.now }
+    ensures fit { IfOk result (λ f. IsFit smallest level rule interpretation input.now f.version
+        (cow_slice_items f.segmented.characters) f.segmented.segments.items) }
+    ensures refused { IsRefusedExactly smallest level rule interpretation input.now result }
 {
     if input.is_empty() {
         return Err(EncodeFault::Empty);
@@ -68,58 +130,84 @@ pub fn encode(
     if input.len() > SYMBOL_BYTES_MAX {
         return Err(EncodeFault::TooLong);
     }
-    let fit = least_fit(alloc, input, level, smallest, rule)?;
-    symbol_at(alloc, input, &fit.segments, None, fit.version, level)
+    Ok(least_fit(alloc, input, level, smallest, rule, interpretation)?)
+}
+
+// The plain symbol of an input that fits.
+fn fitting_symbol(
+    alloc: Global,
+    segmented: &Segmented<'_>,
+    interpretation: Interpretation,
+    version: Version,
+    level: Level,
+) -> Result<Symbol, EncodeFault>
+    requires covered { Covers (cow_slice_items segmented.now.characters) segmented.now.segments.items }
+    requires number { InterpretationFits interpretation }
+    requires room { interpretation_bits interpretation + bits version segmented.now.segments.items
+        ≤ capacity_of version level }
+    ensures { MatchResult result
+        (λ s. (r : Rule) (x : List ℕ) → IsLeastSegmentation interpretation version r x
+        (cow_slice_items segmented.now.characters) segmented.now.segments.items
+        → IsSymbolOf version level r interpretation x None s)
+        (λ e. e ≡ EncodeFault.Memory) }
+{
+    symbol_at(alloc, segmented, None, interpretation, version, level)
 }
 
 // Draws the symbol on a canvas of its own (7.1, 8.1).
 pub(crate) fn symbol_at(
     alloc: Global,
-    input: &[u8],
-    segments: &[Segment],
+    segmented: &Segmented<'_>,
     header: Option<Header>,
+    interpretation: Interpretation,
     version: Version,
     level: Level,
 ) -> Result<Symbol, EncodeFault>
-    requires short { length input.now ≤ INPUT_MAX }
-    requires covered { Covers input.now segments.now }
+    requires covered { Covers (cow_slice_items segmented.now.characters) segmented.now.segments.items }
     requires in_range { ForSome header (λ h. (h.position < 16) × (h.last < 16)) }
+    requires number { InterpretationFits interpretation }
+    requires room { header_bits header + interpretation_bits interpretation
+        + bits version segmented.now.segments.items ≤ capacity_of version level }
     ensures { MatchResult result
-        (λ s. (r : Rule) → IsLeastSegmentation version r input.now segments.now
-        → IsSymbolOf version level r input.now header s)
-        (λ e. (e ≡ EncodeFault.Memory) ⊎ ((e ≡ EncodeFault.TooLong)
-        × (capacity_of version level < header_bits header + bits version segments.now))) }
+        (λ s. (r : Rule) (x : List ℕ) → IsLeastSegmentation interpretation version r x
+        (cow_slice_items segmented.now.characters) segmented.now.segments.items
+        → IsSymbolOf version level r interpretation x header s)
+        (λ e. e ≡ EncodeFault.Memory) }
 {
     let mut canvas = Canvas::new(alloc, version, level)?;
-    symbol_on(alloc, &mut canvas, input, segments, header)
+    symbol_on(alloc, &mut canvas, segmented, header, interpretation)
 }
 
-// The final sequence of the input in these segments (7.4 to 7.6). Out of line, so that the data codewords are gone, and not on
-// the stack, when the symbol is drawn.
+// The final sequence of the segments (7.4 to 7.6). Out of line, so that the data codewords are gone, and not on the
+// stack, when the symbol is drawn.
 #[inline(never)]
 fn final_codewords(
     alloc: Global,
-    input: &[u8],
-    segments: &[Segment],
+    segmented: &Segmented<'_>,
     header: Option<Header>,
+    interpretation: Interpretation,
     version: Version,
     level: Level,
 ) -> Result<Vec<u8>, EncodeFault>
-    requires short { length input.now ≤ INPUT_MAX }
-    requires covered { Covers input.now segments.now }
+    requires covered { Covers (cow_slice_items segmented.now.characters) segmented.now.segments.items }
     requires in_range { ForSome header (λ h. (h.position < 16) × (h.last < 16)) }
+    requires number { InterpretationFits interpretation }
+    requires room { header_bits header + interpretation_bits interpretation
+        + bits version segmented.now.segments.items ≤ capacity_of version level }
     ensures { MatchResult result
-        (λ cw. (message : List ℕ) × IsData version level input.now segments.now header Interpretation.Default message
+        (λ cw. (message : List ℕ) × IsData version level (cow_slice_items segmented.now.characters)
+        segmented.now.segments.items header interpretation message
         × IsInterleaved version level message cw.items)
-        (λ e. (e ≡ EncodeFault.Memory) ⊎ ((e ≡ EncodeFault.TooLong)
-        × (capacity_of version level < header_bits header + bits version segments.now))) }
+        (λ e. e ≡ EncodeFault.Memory) }
 {
+    // Only for the prover: no symbol contains more than 7,089 characters.
+    prove!(version.number() <= 40);
     let message = codewords(
         alloc,
-        input,
-        segments,
+        &segmented.characters,
+        &segmented.segments,
         header,
-        Interpretation::Default,
+        interpretation,
         version,
         level,
     )?;
@@ -130,23 +218,25 @@ fn final_codewords(
 pub(crate) fn symbol_on(
     alloc: Global,
     canvas: &mut Canvas,
-    input: &[u8],
-    segments: &[Segment],
+    segmented: &Segmented<'_>,
     header: Option<Header>,
+    interpretation: Interpretation,
 ) -> Result<Symbol, EncodeFault>
-    requires short { length input.now ≤ INPUT_MAX }
-    requires covered { Covers input.now segments.now }
+    requires covered { Covers (cow_slice_items segmented.now.characters) segmented.now.segments.items }
     requires in_range { ForSome header (λ h. (h.position < 16) × (h.last < 16)) }
+    requires number { InterpretationFits interpretation }
+    requires room { header_bits header + interpretation_bits interpretation
+        + bits canvas.old.version segmented.now.segments.items
+        ≤ capacity_of canvas.old.version canvas.old.level }
     ensures kept_version { canvas.new.version ≡ canvas.old.version }
     ensures kept_level { canvas.new.level ≡ canvas.old.level }
     ensures made { MatchResult result
-        (λ s. (r : Rule) → IsLeastSegmentation canvas.old.version r input.now segments.now
-        → IsSymbolOf canvas.old.version canvas.old.level r input.now header s)
-        (λ e. (e ≡ EncodeFault.Memory) ⊎ ((e ≡ EncodeFault.TooLong)
-        × (capacity_of canvas.old.version canvas.old.level
-        < header_bits header + bits canvas.old.version segments.now))) }
+        (λ s. (r : Rule) (x : List ℕ) → IsLeastSegmentation interpretation canvas.old.version r x
+        (cow_slice_items segmented.now.characters) segmented.now.segments.items
+        → IsSymbolOf canvas.old.version canvas.old.level r interpretation x header s)
+        (λ e. e ≡ EncodeFault.Memory) }
 {
     let (version, level) = (canvas.version, canvas.level);
-    let codewords = final_codewords(alloc, input, segments, header, version, level)?;
+    let codewords = final_codewords(alloc, segmented, header, interpretation, version, level)?;
     build_on(alloc, canvas, &codewords)
 }

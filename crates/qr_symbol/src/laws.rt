@@ -11,7 +11,7 @@ ghost use Rattle.qr_bits.specs.declared.fault.ParseFault.{ParseFault};
 ghost use Rattle.qr_bits.specs.declared.modes.Mode.{Mode};
 ghost use Rattle.qr_bits.specs.Bits.{bits_of};
 ghost use Rattle.qr_bits.specs.Modes.{may_use};
-ghost use Rattle.qr_bits.specs.Parsing.{Content, plain_content};
+ghost use Rattle.qr_bits.specs.Parsing.{Content};
 ghost use Rattle.qr_symbol.specs.declared.fault.EncodeFault.{EncodeFault};
 ghost use Rattle.qr_symbol.specs.declared.fault.ReadFault.{ReadFault};
 ghost use Rattle.qr_symbol.specs.declared.symbol.Symbol.{Symbol};
@@ -20,14 +20,16 @@ ghost use Rattle.qr_symbol.specs.Choice.{mask_penalty, IsMask};
 ghost use Rattle.qr_symbol.specs.Fault.{read_fault_number};
 ghost use Rattle.qr_symbol.specs.Mask.{inverts};
 ghost use Rattle.qr_symbol.specs.Symbol.{colour_by, grid_of};
-ghost use Rattle.qr_symbol.specs.Reading.{read_bits, IsRead, IsMessage, IsFormat, IsReading, IsUnread};
-ghost use Rattle.qr_symbol.specs.Encoding.{IsSymbol, SymbolsAreOne};
+ghost use Rattle.qr_symbol.specs.Reading.{read_bits, interpreted_content, IsRead, IsMessage, IsFormat, IsReading, IsUnread};
+ghost use Rattle.qr_symbol.specs.Encoding.{BoostedSymbolsAreOne, IsBoostedSymbol, IsSymbol, SymbolsAreOne};
 ghost use Rattle.qr_symbol.specs.VersionChoice.{FitsVersion, HasNoVersion, IsVersion};
 ghost use Rattle.qr_symbol.specs.Series.{squares_of, AreParts, FitParts, NeedsParts, IsSeries, HasNoSeries};
 ghost use Rattle.qr_symbol.specs.Joining.{IsJoined, IsUnjoined};
 ghost use Rattle.qr_layout.specs.Version.{side_of, total_codewords_of};
 ghost use Rattle.qr_layout.specs.Blocks.{data_codewords_of, blocks_of};
 ghost use Rattle.qr_bits.specs.declared.modes.Rule.{Rule};
+ghost use Rattle.qr_bits.specs.declared.interpretation.Interpretation.{Interpretation};
+ghost use Rattle.qr_bits.specs.Interpretation.{MayWrite};
 ghost use Rattle.qr_symbol.specs.Interleaving.{block_count, block_len, start_of, codeword_count, data_sizes, IsInterleaved};
 ghost use Rattle.qr_symbol.specs.Distance.{MessagesLieApart, DamagedMessagesAreOne};
 ghost use Rattle.qr_symbol.specs.Laws.{all_masks, bits_down, computed_rows, first_rows};
@@ -183,75 +185,92 @@ pub fn joinings_are_refused_exactly(alloc: Global, symbols: &[Symbol]) -> Result
     read_series(alloc, symbols)
 }
 
-/// An input has at most one symbol for a level, a rule and a smallest version.
+/// An input has at most one symbol for a level, a rule, an interpretation and a smallest version.
 pub fn symbols_are_one()
     ensures { SymbolsAreOne }
 {}
 
-/// Reading the symbol of an input yields its bytes, the segments of fewest bits, and no structured append header.
-pub fn symbols_are_read(smallest: Version)
-    ensures { (x : List ℕ) (l : Level) (rule : Rule) (v mask : ℕ) (g : Grid)
-        → (s : IsSymbol smallest l rule x v mask g)
-        → IsReading g (plain_content None s.made.segments x) }
+/// An input has at most one symbol of the highest level for a lowest level, a rule, an interpretation and a smallest
+/// version.
+pub fn boosted_symbols_are_one()
+    ensures { BoostedSymbolsAreOne }
 {}
 
-/// An input has at most one series for a version, a level and a rule.
+/// A symbol of the highest level is the symbol of its input for this level, from its version on. So what holds of
+/// symbols holds of it.
+pub fn boosted_symbols_are_symbols()
+    ensures { (x : List ℕ) (l k : Level) (smallest : ℕ) (rule : Rule) (i : Interpretation) (v mask : ℕ) (g : Grid)
+        → IsBoostedSymbol smallest l rule i x v k mask g → IsSymbol v k rule i x v mask g }
+{}
+
+/// Reading the symbol of an input yields its bytes, its interpretation, the segments of fewest bits, and no structured
+/// append header.
+pub fn symbols_are_read(smallest: Version)
+    ensures { (x : List ℕ) (l : Level) (rule : Rule) (i : Interpretation) (v mask : ℕ) (g : Grid)
+        → MayWrite i x → (s : IsSymbol smallest l rule i x v mask g)
+        → IsReading g (interpreted_content i None s.made.segments x) }
+{}
+
+/// An input has at most one series for a version, a level, a rule and an interpretation.
 pub fn series_are_one()
-    ensures { (x : List ℕ) (l : Level) (rule : Rule) (v : ℕ) (ss ts : List Symbol)
-        → IsSeries v l rule x ss → IsSeries v l rule x ts → ss ≡ ts }
+    ensures { (x : List ℕ) (l : Level) (rule : Rule) (i : Interpretation) (v : ℕ)
+        (ss ts : List Symbol) → IsSeries v l rule i x ss → IsSeries v l rule i x ts → ss ≡ ts }
 {}
 
 /// Each part into which an input is cut fits a symbol with a structured append header. Without kanji mode, no cut into
 /// parts that fit has fewer parts. So the series of a nonempty input has the least possible number of symbols, and an
 /// input that has no series cannot be cut into at most 16 parts that fit.
 pub fn series_are_shortest()
-    ensures fit { (v : ℕ) (l : Level) (rule : Rule) (x : List ℕ) (parts : List (List ℕ))
-        → AreParts v l rule x parts → FitParts v l rule x parts }
-    ensures parts { (v : ℕ) (l : Level) (rule : Rule) (x : List ℕ) (parts : List (List ℕ))
-        → may_use rule Mode.Kanji ≡ false → AreParts v l rule x parts → NeedsParts v l rule x (length parts) }
-    ensures series { (x : List ℕ) (l : Level) (rule : Rule) (v : ℕ) (ss : List Symbol)
-        → may_use rule Mode.Kanji ≡ false → 0 < length x
-        → IsSeries v l rule x ss → NeedsParts v l rule x (length ss) }
-    ensures none { (x : List ℕ) (l : Level) (rule : Rule) (v : ℕ) → 1 ≤ v → v ≤ 40
-        → may_use rule Mode.Kanji ≡ false → HasNoSeries v l rule x → NeedsParts v l rule x 17 }
+    ensures fit { (v : ℕ) (l : Level) (rule : Rule) (i : Interpretation) (x : List ℕ)
+        (parts : List (List ℕ)) → AreParts v l rule i x parts → FitParts v l rule i x parts }
+    ensures parts { (v : ℕ) (l : Level) (rule : Rule) (i : Interpretation) (x : List ℕ)
+        (parts : List (List ℕ)) → MayWrite i x → may_use rule Mode.Kanji ≡ false
+        → AreParts v l rule i x parts → NeedsParts v l rule i x (length parts) }
+    ensures series { (x : List ℕ) (l : Level) (rule : Rule) (i : Interpretation) (v : ℕ) (ss : List Symbol)
+        → MayWrite i x → may_use rule Mode.Kanji ≡ false → 0 < length x
+        → IsSeries v l rule i x ss → NeedsParts v l rule i x (length ss) }
+    ensures none { (x : List ℕ) (l : Level) (rule : Rule) (i : Interpretation) (v : ℕ) → 1 ≤ v → v ≤ 40
+        → MayWrite i x → may_use rule Mode.Kanji ≡ false → HasNoSeries v l rule i x → NeedsParts v l rule i x 17 }
 {}
 
 /// Every input can be cut into parts, since a symbol has room for a structured append header and a byte.
 #[tactic(auto, using(crate::proofs::Named::laws_of_parts))]
 pub fn parts_are_there(version: Version, level: Level)
-    ensures { (rule : Rule) (x : List ℕ) → (parts : List (List ℕ)) × AreParts version level rule x parts }
+    ensures { (rule : Rule) (i : Interpretation) (x : List ℕ)
+        → (parts : List (List ℕ)) × AreParts version level rule i x parts }
 {}
 
-/// Each part into which an input is cut has at least five bytes, or all that come after the earlier parts.
+/// Each part into which an input without an interpretation is cut has at least five bytes, or all that come after the
+/// earlier parts.
 #[tactic(auto, using(crate::proofs::Named::laws_of_parts))]
 pub fn parts_are_long(version: Version, level: Level)
     ensures { (rule : Rule) (x p : List ℕ) (ps : List (List ℕ))
-        → AreParts version level rule x (p ∷ ps) → (5 ≤ length p) ⊎ (p ≡ x) }
+        → AreParts version level rule Interpretation.Default x (p ∷ ps) → (5 ≤ length p) ⊎ (p ≡ x) }
 {}
 
 /// All symbols of a series have the side of its version, and there are at most 16.
 pub fn series_have_one_side(version: Version)
-    ensures side { (x : List ℕ) (l : Level) (rule : Rule) (ss : List Symbol)
-        → IsSeries version l rule x ss → All (λ g. g.side ≡ side_of version) (squares_of ss) }
-    ensures few { (x : List ℕ) (l : Level) (rule : Rule) (ss : List Symbol)
-        → IsSeries version l rule x ss → length ss ≤ 16 }
+    ensures side { (x : List ℕ) (l : Level) (rule : Rule) (i : Interpretation) (ss : List Symbol)
+        → IsSeries version l rule i x ss → All (λ g. g.side ≡ side_of version) (squares_of ss) }
+    ensures few { (x : List ℕ) (l : Level) (rule : Rule) (i : Interpretation) (ss : List Symbol)
+        → IsSeries version l rule i x ss → length ss ≤ 16 }
 {}
 
 /// The symbols of the series of an input are joined to this input.
 pub fn series_are_joined(version: Version)
-    ensures { (x : List ℕ) (l : Level) (rule : Rule) (ss : List Symbol)
-        → IsSeries version l rule x ss → IsJoined (squares_of ss) x }
+    ensures { (x : List ℕ) (l : Level) (rule : Rule) (i : Interpretation) (ss : List Symbol)
+        → MayWrite i x → IsSeries version l rule i x ss → IsJoined (squares_of ss) x }
 {}
 
 /// An input of `INPUT_MAX` bytes or more fits no version, and has no series, since it would be cut into more than 16
 /// parts.
 pub fn long_inputs_have_none(version: Version)
-    ensures symbol { (x : List ℕ) (l : Level) (rule : Rule) → INPUT_MAX ≤ length x
-        → HasNoVersion version l rule x }
-    ensures series { (x : List ℕ) (l : Level) (rule : Rule) (ss : List Symbol)
-        → INPUT_MAX ≤ length x → IsSeries version l rule x ss → ⊥ }
-    ensures refused { (x : List ℕ) (l : Level) (rule : Rule) → INPUT_MAX ≤ length x
-        → HasNoSeries version l rule x }
+    ensures symbol { (x : List ℕ) (l : Level) (rule : Rule) (i : Interpretation) → INPUT_MAX ≤ length x
+        → HasNoVersion version l rule i x }
+    ensures series { (x : List ℕ) (l : Level) (rule : Rule) (i : Interpretation) (ss : List Symbol)
+        → INPUT_MAX ≤ length x → IsSeries version l rule i x ss → ⊥ }
+    ensures refused { (x : List ℕ) (l : Level) (rule : Rule) (i : Interpretation) → INPUT_MAX ≤ length x
+        → HasNoSeries version l rule i x }
 {}
 
 /// The bits drawn for two examples of the standard are those that it prints, from the highest to the lowest: the format
@@ -272,15 +291,16 @@ pub fn ties_go_to_the_smallest()
 
 /// The chosen version is at most 40, and an input that fits version 40 is not refused as too long.
 pub fn the_last_version_is_40(smallest: Version)
-    ensures chosen { (l : Level) (rule : Rule) (x : List ℕ) (v : ℕ) → IsVersion smallest l rule x v → v ≤ 40 }
-    ensures tried { (l : Level) (rule : Rule) (x : List ℕ) → HasNoVersion smallest l rule x
-        → FitsVersion 40 l rule x → ⊥ }
+    ensures chosen { (l : Level) (rule : Rule) (i : Interpretation) (x : List ℕ) (v : ℕ)
+        → IsVersion smallest l rule i x v → v ≤ 40 }
+    ensures tried { (l : Level) (rule : Rule) (i : Interpretation) (x : List ℕ) → HasNoVersion smallest l rule i x
+        → FitsVersion 40 l rule i x → ⊥ }
 {}
 
 /// An input that is cut into at most 16 parts is not refused as too long for a series.
 pub fn sixteen_parts_are_a_series()
-    ensures { (v : ℕ) (l : Level) (rule : Rule) (x : List ℕ) (parts : List (List ℕ))
-        → AreParts v l rule x parts → length parts ≤ 16 → HasNoSeries v l rule x → ⊥ }
+    ensures { (v : ℕ) (l : Level) (rule : Rule) (i : Interpretation) (x : List ℕ) (parts : List (List ℕ))
+        → AreParts v l rule i x parts → length parts ≤ 16 → HasNoSeries v l rule i x → ⊥ }
 {}
 
 /// The faults of reading are numbered from 1 to 6, in the order of `ReadFault`.

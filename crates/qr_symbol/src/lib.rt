@@ -33,7 +33,7 @@ mod symbol;
 mod version_choice;
 
 pub use choice::build;
-pub use encoding::encode;
+pub use encoding::{encode, encode_boosted};
 pub use fault::{EncodeFault, ReadFault};
 pub use interleaving::{BlockSizes, deinterleave, interleave};
 pub use joining::{join, read_series};

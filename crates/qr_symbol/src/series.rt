@@ -1,7 +1,10 @@
 //! Encodes an input as a series of symbols, the standard's Structured Append (ISO/IEC 18004:2015, 8).
 
 ghost use Rattle.std.specs.Prelude.{◌≡◌, ◌≢◌, ◌-◌, ◌<◌, ◌≤◌, ◌↔◌, ◌⊎◌, ℕ, false, List, [], length, None, Some, Err, IsTrue, IfOk, IfErr, MatchOption, MatchResult};
+ghost use Rattle.std.specs.Cow.{cow_slice_items};
 ghost use Rattle.qr_bits.specs.declared.modes.Rule.{Rule};
+ghost use Rattle.qr_bits.specs.declared.interpretation.Interpretation.{Interpretation};
+ghost use Rattle.qr_bits.specs.Interpretation.{InterpretationFits, MayWrite};
 ghost use Rattle.qr_bits.specs.declared.modes.Mode.{Mode};
 ghost use Rattle.qr_bits.specs.Segmentation.{HasFit, IsLongestFit};
 ghost use Rattle.qr_bits.specs.Modes.{may_use};
@@ -17,8 +20,9 @@ use crate::canvas::Canvas;
 use crate::encoding::{SYMBOL_BYTES_MAX, symbol_at, symbol_on};
 use crate::fault::EncodeFault;
 use crate::symbol::Symbol;
+use crate::version_choice::needed_bits;
 use arrayvec::ArrayVec;
-use qr_bits::{Header, INPUT_MAX, Rule, bit_len, least_bits, longest_fit, parity, segments};
+use qr_bits::{Header, INPUT_MAX, Interpretation, Rule, interpretation_bits, least_bits, longest_fit, parity, segments};
 use qr_layout::{Level, Version};
 use std::alloc::Global;
 
@@ -40,24 +44,27 @@ pub fn encode_series(
     version: Version,
     level: Level,
     rule: Rule,
+    interpretation: Interpretation,
 ) -> Result<Vec<Symbol>, EncodeFault>
-    requires { length input.now ≤ INPUT_MAX }
-    ensures series { IfOk result (λ ss. IsSeries version level rule input.now ss.items) }
+    requires short { length input.now ≤ INPUT_MAX }
+    requires number { InterpretationFits interpretation }
+    requires written { MayWrite interpretation input.now }
+    ensures series { IfOk result (λ ss. IsSeries version level rule interpretation input.now ss.items) }
     ensures joined { IfOk result (λ ss. IsJoined (squares_of ss.items) input.now) }
     ensures shortest { IfOk result (λ ss. may_use rule Mode.Kanji ≡ false
-        → NeedsParts version level rule input.now (length ss.items)) }
+        → NeedsParts version level rule interpretation input.now (length ss.items)) }
     ensures empty { (result ≡ Err EncodeFault.Empty) ↔ (input.now ≡ []) }
     ensures too_many { (result ≡ Err EncodeFault.TooMany)
-        ↔ ((result ≢ Err EncodeFault.Memory) × HasNoSeries version level rule input.now) }
+        ↔ ((result ≢ Err EncodeFault.Memory) × HasNoSeries version level rule interpretation input.now) }
     ensures no_shorter { result ≡ Err EncodeFault.TooMany → may_use rule Mode.Kanji ≡ false
-        → NeedsParts version level rule input.now 17 }
+        → NeedsParts version level rule interpretation input.now 17 }
     ensures fault { IfErr result (λ e. (e ≡ EncodeFault.Empty) ⊎ (e ≡ EncodeFault.TooMany)
         ⊎ (e ≡ EncodeFault.Memory)) }
 {
     if input.is_empty() {
         return Err(EncodeFault::Empty);
     }
-    series_of(alloc, input, version, level, rule)
+    series_of(alloc, input, version, level, rule, interpretation)
 }
 
 // As `encode_series`, for an input that is not empty.
@@ -67,34 +74,45 @@ fn series_of(
     version: Version,
     level: Level,
     rule: Rule,
+    interpretation: Interpretation,
 ) -> Result<Vec<Symbol>, EncodeFault>
     requires some { 0 < length input.now }
     requires short { length input.now ≤ INPUT_MAX }
-    ensures { MatchResult result (λ ss. IsSeries version level rule input.now ss.items)
+    requires number { InterpretationFits interpretation }
+    requires written { MayWrite interpretation input.now }
+    ensures { MatchResult result (λ ss. IsSeries version level rule interpretation input.now ss.items)
         (λ e. (e ≡ EncodeFault.Memory)
-        ⊎ ((e ≡ EncodeFault.TooMany) × HasNoSeries version level rule input.now)) }
+        ⊎ ((e ≡ EncodeFault.TooMany) × HasNoSeries version level rule interpretation input.now)) }
 {
-    if let Some(symbol) = plain_symbol(alloc, input, version, level, rule)? {
+    if let Some(symbol) = plain_symbol(alloc, input, version, level, rule, interpretation)? {
         let mut symbols = Vec::new(alloc);
         symbols.push(symbol)?;
         return Ok(symbols);
     }
-    let lengths = part_lengths(alloc, input, version, level, rule)?;
-    part_symbols(alloc, input, lengths.as_slice(), version, level, rule)
+    let lengths = part_lengths(alloc, input, version, level, rule, interpretation)?;
+    let mut canvas = Canvas::new(alloc, version, level)?;
+    symbols_on(alloc, &mut canvas, input, lengths.as_slice(), rule, interpretation)
 }
 
 // Whether a bound shows that the input does not fit, so that it need not be cut into segments. With byte mode alone the
 // lower bound on its bits is not computed, since there is only one segment.
-fn takes_more(input: &[u8], version: Version, level: Level, rule: Rule) -> bool
+fn takes_more(
+    input: &[u8],
+    version: Version,
+    level: Level,
+    rule: Rule,
+    interpretation: Interpretation,
+) -> bool
     requires { length input.now ≤ INPUT_MAX }
-    ensures none { IsTrue result → FitsVersion version level rule input.now → ⊥ }
+    ensures none { IsTrue result → FitsVersion version level rule interpretation input.now → ⊥ }
     ensures short { result ≡ false → length input.now ≤ SYMBOL_BYTES_MAX }
 {
     if input.len() > SYMBOL_BYTES_MAX {
         return true;
     }
     !matches!(rule, Rule::BytesOnly)
-        && u64::from(least_bits(input)) > 8 * u64::from(version.data_codewords(level))
+        && u64::from(least_bits(input)) + interpretation_bits(interpretation)
+            > 8 * u64::from(version.data_codewords(level))
 }
 
 fn plain_symbol(
@@ -103,21 +121,25 @@ fn plain_symbol(
     version: Version,
     level: Level,
     rule: Rule,
+    interpretation: Interpretation,
 ) -> Result<Option<Symbol>, EncodeFault>
-    requires { length input.now ≤ INPUT_MAX }
+    requires short { length input.now ≤ INPUT_MAX }
+    requires number { InterpretationFits interpretation }
+    requires written { MayWrite interpretation input.now }
     ensures { MatchResult result (λ found. MatchOption found
-        (FitsVersion version level rule input.now → ⊥)
-        (λ s. IsSymbolOf version level rule input.now None s))
+        (FitsVersion version level rule interpretation input.now → ⊥)
+        (λ s. IsSymbolOf version level rule interpretation input.now None s))
         (λ e. e ≡ EncodeFault.Memory) }
 {
-    if takes_more(input, version, level, rule) {
+    if takes_more(input, version, level, rule, interpretation) {
         return Ok(None);
     }
-    let segments = segments(alloc, input, version, rule)?;
-    if bit_len(&segments, version) > 8 * u64::from(version.data_codewords(level)) {
+    let segmented = segments(alloc, input, version, rule, interpretation)?;
+    if needed_bits(&segmented, interpretation, version)
+        > 8 * u64::from(version.data_codewords(level)) {
         return Ok(None);
     }
-    let symbol = symbol_at(alloc, input, &segments, None, version, level)?;
+    let symbol = symbol_at(alloc, &segmented, None, interpretation, version, level)?;
     Ok(Some(symbol))
 }
 
@@ -127,11 +149,13 @@ fn part_lengths(
     version: Version,
     level: Level,
     rule: Rule,
+    interpretation: Interpretation,
 ) -> Result<ArrayVec<usize, 16>, EncodeFault>
-    requires { length input.now ≤ INPUT_MAX }
-    ensures { MatchResult result (λ ns. AreLengths version level rule input.now ns.items)
+    requires short { length input.now ≤ INPUT_MAX }
+    requires written { MayWrite interpretation input.now }
+    ensures { MatchResult result (λ ns. AreLengths version level rule interpretation input.now ns.items)
         (λ e. (e ≡ EncodeFault.Memory) ⊎ ((e ≡ EncodeFault.TooMany)
-        × ((ps : List (List ℕ)) → AreParts version level rule input.now ps → 16 < length ps))) }
+        × ((ps : List (List ℕ)) → AreParts version level rule interpretation input.now ps → 16 < length ps))) }
 {
     let mut lengths = ArrayVec::new();
     let mut rest = input;
@@ -139,7 +163,7 @@ fn part_lengths(
         if lengths.is_full() {
             return Err(EncodeFault::TooMany);
         }
-        let len = prefix_len(alloc, rest, version, level, rule)?;
+        let len = prefix_len(alloc, rest, version, level, rule, interpretation)?;
         lengths.push(len);
         let (_, after) = rest.split_at(len);
         rest = after;
@@ -154,51 +178,35 @@ fn prefix_len(
     version: Version,
     level: Level,
     rule: Rule,
+    interpretation: Interpretation,
 ) -> Result<usize, EncodeFault>
     requires some { 0 < length rest.now }
     requires short { length rest.now ≤ INPUT_MAX }
-    ensures { MatchResult result
-        (λ n. (0 < n) × IsLongestFit version rule rest.now (room_of version level) n)
+    requires written { MayWrite interpretation rest.now }
+    ensures { MatchResult result (λ n. (0 < n)
+        × IsLongestFit interpretation version rule rest.now (room_of version level interpretation) n)
         (λ e. e ≡ EncodeFault.Memory) }
 {
     let prefix = &rest[..rest.len().min(SYMBOL_BYTES_MAX)];
-    Ok(longest_fit(alloc, prefix, version, level, rule)?)
+    Ok(longest_fit(alloc, prefix, version, level, rule, interpretation)?)
 }
 
-// All symbols are drawn on one canvas, so that the function patterns and the region are drawn once (8.1 to 8.3).
-fn part_symbols(
-    alloc: Global,
-    input: &[u8],
-    lengths: &[usize],
-    version: Version,
-    level: Level,
-    rule: Rule,
-) -> Result<Vec<Symbol>, EncodeFault>
-    requires short { length input.now ≤ INPUT_MAX }
-    requires parts { AreLengths version level rule input.now lengths.now }
-    requires some { 0 < length lengths.now }
-    requires few { length lengths.now ≤ 16 }
-    ensures { MatchResult result (λ ss. AreSymbolsFrom version level rule
-        (length lengths.now - 1) (parity_of input.now) 0 (parts_of input.now lengths.now)
-        ss.items) (λ e. e ≡ EncodeFault.Memory) }
-{
-    let mut canvas = Canvas::new(alloc, version, level)?;
-    symbols_on(alloc, &mut canvas, input, lengths, rule)
-}
-
-// As `part_symbols`, but on the given canvas, with its version and level.
+// Draws all symbols on one canvas, so that the function patterns and the region are drawn once (8.1 to 8.3).
 fn symbols_on(
     alloc: Global,
     canvas: &mut Canvas,
     input: &[u8],
     lengths: &[usize],
     rule: Rule,
+    interpretation: Interpretation,
 ) -> Result<Vec<Symbol>, EncodeFault>
     requires short { length input.now ≤ INPUT_MAX }
-    requires parts { AreLengths canvas.old.version canvas.old.level rule input.now lengths.now }
+    requires number { InterpretationFits interpretation }
+    requires written { MayWrite interpretation input.now }
+    requires parts { AreLengths canvas.old.version canvas.old.level rule interpretation input.now lengths.now }
     requires some { 0 < length lengths.now }
     requires few { length lengths.now ≤ 16 }
-    ensures { MatchResult result (λ ss. AreSymbolsFrom canvas.old.version canvas.old.level rule
+    ensures { MatchResult result (λ ss. AreSymbolsFrom canvas.old.version canvas.old.level rule interpretation
         (length lengths.now - 1) (parity_of input.now) 0 (parts_of input.now lengths.now)
         ss.items) (λ e. e ≡ EncodeFault.Memory) }
 {
@@ -213,7 +221,7 @@ fn symbols_on(
             last,
             parity,
         };
-        let symbol = part_symbol(alloc, canvas, part, header, rule)?;
+        let symbol = part_symbol(alloc, canvas, part, header, rule, interpretation)?;
         symbols.push(symbol)?;
         rest = after;
     }
@@ -226,21 +234,24 @@ fn part_symbol(
     part: &[u8],
     header: Header,
     rule: Rule,
+    interpretation: Interpretation,
 ) -> Result<Symbol, EncodeFault>
     requires short { length part.now ≤ INPUT_MAX }
-    requires fits { HasFit canvas.old.version rule part.now
-        (room_of canvas.old.version canvas.old.level) }
+    requires number { InterpretationFits interpretation }
+    requires written { MayWrite interpretation part.now }
+    requires fits { HasFit interpretation canvas.old.version rule part.now
+        (room_of canvas.old.version canvas.old.level interpretation) }
     requires position { header.position < 16 }
     requires last { header.last < 16 }
     ensures version { canvas.new.version ≡ canvas.old.version }
     ensures level { canvas.new.level ≡ canvas.old.level }
     ensures made { MatchResult result
-        (λ s. IsSymbolOf canvas.old.version canvas.old.level rule part.now (Some header) s)
+        (λ s. IsSymbolOf canvas.old.version canvas.old.level rule interpretation part.now (Some header) s)
         (λ e. e ≡ EncodeFault.Memory) }
 {
     let version = canvas.version;
     // Only for the prover.
     prove!(version.number() <= 40);
-    let segments = segments(alloc, part, version, rule)?;
-    symbol_on(alloc, canvas, part, &segments, Some(header))
+    let segmented = segments(alloc, part, version, rule, interpretation)?;
+    symbol_on(alloc, canvas, &segmented, Some(header), interpretation)
 }

@@ -1,20 +1,24 @@
-//! Finds the least version that an input fits, and its segments there (ISO/IEC 18004:2015, 7.1 and 7.4.1).
+//! Finds the least version that an input fits, its segments there, and the highest level at which it fits this version
+//! (ISO/IEC 18004:2015, 7.1 and 7.4.1).
 //!
 //! The bits of a segment depend on the version only by the width of the character count indicator, which changes only
 //! after versions 9 and 26. So an input is cut into segments at most once for each of the ranges 1 to 9, 10 to 26 and
 //! 27 to 40.
 
-ghost use Rattle.std.specs.Prelude.{◌≡◌, ◌≤◌, ◌<◌, ℕ, length, IfOk, MatchOption};
+ghost use Rattle.std.specs.Prelude.{◌≡◌, ◌≤◌, ◌<◌, ◌+◌, ℕ, length, IfOk, MatchOption};
+ghost use Rattle.std.specs.Cow.{cow_slice_items};
 ghost use Rattle.qr_bits.specs.declared.modes.Rule.{Rule};
+ghost use Rattle.qr_bits.specs.declared.interpretation.Interpretation.{Interpretation};
+ghost use Rattle.qr_bits.specs.Interpretation.{interpretation_bits, MayWrite};
 ghost use Rattle.qr_bits.specs.declared.fault.BitFault.{BitFault};
 ghost use Rattle.qr_bits.specs.declared.modes.Mode.{Mode};
 ghost use Rattle.qr_bits.specs.Modes.{count_width};
-ghost use Rattle.qr_bits.specs.Segmentation.{IsLeastSegmentation};
+ghost use Rattle.qr_bits.specs.Segmentation.{bits, Covers, IsLeastSegmentation};
 ghost use Rattle.qr_bits.specs.Padding.{capacity_of};
 ghost use Rattle.qr_layout.specs.declared.level.Level.{Level};
-ghost use Rattle.qr_symbol.specs.VersionChoice.{FitsVersion, IsVersion, HasNoVersion};
+ghost use Rattle.qr_symbol.specs.VersionChoice.{FitsVersion, IsVersion, HasNoVersion, level_rank};
 
-use qr_bits::{BitFault, INPUT_MAX, Rule, Segment, bit_len, least_bits, segments};
+use qr_bits::{BitFault, INPUT_MAX, Interpretation, Rule, Segmented, bit_len, interpretation_bits, least_bits, segments};
 use qr_layout::{Level, Version};
 use std::alloc::Global;
 
@@ -28,9 +32,9 @@ const MEDIUM: u8 = 26;
 const MEDIUM_BYTES: usize = 3288;
 
 #[derive(Drop)]
-pub(crate) struct Fit {
+pub(crate) struct Fit<'a> {
     pub version: Version,
-    pub segments: Vec<Segment>,
+    pub segmented: Segmented<'a>,
 }
 
 // The last version of the range of `version` (7.4.1, Table 3).
@@ -47,6 +51,19 @@ fn last_of_width(version: Version) -> u8
     }
 }
 
+// How many bits the segments take with what says the interpretation.
+pub(crate) fn needed_bits(
+    segmented: &Segmented<'_>,
+    interpretation: Interpretation,
+    version: Version,
+) -> u64
+    requires covered { Covers (cow_slice_items segmented.now.characters) segmented.now.segments.items }
+    requires short { length (cow_slice_items segmented.now.characters) ≤ INPUT_MAX }
+    ensures { result ≡ interpretation_bits interpretation + bits version segmented.now.segments.items }
+{
+    interpretation_bits(interpretation) + bit_len(&segmented.segments, version)
+}
+
 // How many bits all data codewords of this version and level have.
 fn room_in(number: u8, level: Level) -> u64
     requires { (1 ≤ number) × (number ≤ 40) }
@@ -59,11 +76,11 @@ fn room_in(number: u8, level: Level) -> u64
 // The first version of a range: 1, 10 or 27. The input fits no version before it, as its length or a lower bound on its
 // bits shows, since the last version of a range has the most room. With byte mode alone this bound is not computed,
 // since it would save little time.
-fn first_for(input: &[u8], level: Level, rule: Rule) -> u8
+fn first_for(input: &[u8], level: Level, rule: Rule, interpretation: Interpretation) -> u8
     requires { length input.now ≤ INPUT_MAX }
     ensures first { 1 ≤ result }
     ensures last { result ≤ 40 }
-    ensures none { (v : ℕ) → 1 ≤ v → v < result → FitsVersion v level rule input.now → ⊥ }
+    ensures none { (v : ℕ) → 1 ≤ v → v < result → FitsVersion v level rule interpretation input.now → ⊥ }
 {
     if input.len() > MEDIUM_BYTES {
         return 27;
@@ -71,7 +88,7 @@ fn first_for(input: &[u8], level: Level, rule: Rule) -> u8
     if matches!(rule, Rule::BytesOnly) {
         return 1;
     }
-    let bits = u64::from(least_bits(input));
+    let bits = u64::from(least_bits(input)) + interpretation_bits(interpretation);
     if bits > room_in(MEDIUM, level) {
         27
     } else if bits > room_in(SMALL, level) {
@@ -98,30 +115,50 @@ fn first_with_room(level: Level, first: Version, last: u8, bits: u64) -> Option<
 }
 
 // Takes the ranges in turn, until a version of one has room for the segments.
-pub(crate) fn least_fit(
+pub(crate) fn least_fit<'a>(
     alloc: Global,
-    input: &[u8],
+    input: &'a [u8],
     level: Level,
     smallest: Version,
     rule: Rule,
-) -> Result<Fit, BitFault>
-    requires { length input.now ≤ INPUT_MAX }
-    ensures version { IfOk result (λ f. IsVersion smallest level rule input.now f.version) }
-    ensures segments { IfOk result (λ f.
-        IsLeastSegmentation f.version rule input.now f.segments.items) }
+    interpretation: Interpretation,
+) -> Result<Fit<'a>, BitFault>
+    requires short { length input.now ≤ 7089 }
+    requires written { MayWrite interpretation input.now }
+    ensures version { IfOk result (λ f.
+        IsVersion smallest level rule interpretation input.now f.version) }
+    ensures segments { IfOk result (λ f. IsLeastSegmentation interpretation f.version rule input.now
+        (cow_slice_items f.segmented.characters) f.segmented.segments.items) }
     ensures too_long { result ≡ Err BitFault.TooLong
-        → HasNoVersion smallest level rule input.now }
+        → HasNoVersion smallest level rule interpretation input.now }
 {
-    let mut first = Version::new(smallest.number().max(first_for(input, level, rule))).unwrap();
+    let start = first_for(input, level, rule, interpretation);
+    let mut first = Version::new(smallest.number().max(start)).unwrap();
     loop {
         let last = last_of_width(first);
-        let segments = segments(alloc, input, first, rule)?;
-        if let Some(version) = first_with_room(level, first, last, bit_len(&segments, first)) {
-            return Ok(Fit { version, segments });
+        let segmented = segments(alloc, input, first, rule, interpretation)?;
+        let bits = needed_bits(&segmented, interpretation, first);
+        if let Some(version) = first_with_room(level, first, last, bits) {
+            return Ok(Fit { version, segmented });
         }
         match Version::new(last + 1) {
             Some(next) => first = next,
             None => return Err(BitFault::TooLong),
         }
     }
+}
+
+// The highest level, from `level` on, that has room for the bits.
+pub(crate) fn highest_with_room(version: Version, level: Level, bits: u64) -> Level
+    requires { bits ≤ capacity_of version level }
+    ensures least { level_rank level ≤ level_rank result }
+    ensures room { bits ≤ capacity_of version result }
+    ensures highest { (m : Level) → level_rank result < level_rank m → capacity_of version m < bits }
+{
+    for candidate in [Level::H, Level::Q, Level::M] {
+        if candidate == level || bits <= room_in(version.number(), candidate) {
+            return candidate;
+        }
+    }
+    level
 }

@@ -2,26 +2,29 @@
 use Rattle.std.specs.Prelude.{◌≡◌, ℕ, ◌*◌, ◌<◌, List, [], ◌∷◌, length}
 use Rattle.qr_layout.specs.Version.{side_of}
 use Rattle.qr_matrix.specs.Grid.{Grid}
-use Rattle.qr_symbol.specs.Encoding.{IsSymbol}
+use Rattle.qr_symbol.specs.Encoding.{IsBoostedSymbol, IsSymbol}
 use Rattle.qr_symbol.specs.VersionChoice.{IsVersion}
 use Rattle.qr_symbol.specs.Reading.{IsReadBack}
 use Rattle.qrproved.specs.declared.encoding.QrprovedSymbol.{QrprovedSymbol}
-use Rattle.qrproved.specs.Settings.{AreSettings, level_of, rule_of}
+use Rattle.qrproved.specs.Settings.{AreSymbolSettings, interpretation_of, level_of, rule_of}
 use Rattle.qrproved.specs.Modules.{HoldsSquares}
 
--- The modules of the input's symbol were written to the buffer, its version, side and mask are in `s`, and it is read
--- as the input; the numbers are in range [own]
-pub record IsWritten (x : List ℕ) (version level rule : ℕ) (before after : List ℕ) (s : QrprovedSymbol) : Type 0 where
-  pub settings : AreSettings version level rule
+-- The modules of the input's symbol were written to the buffer, its version, side, level and mask are in `s`, and it is
+-- read as the input with its interpretation. Without `boost` it has the level that was asked for, and with it the
+-- highest, from that level on, at which the input fits this version. The numbers are allowed [own]
+pub record IsWritten (x : List ℕ) (version level rule interpretation boost : ℕ) (before after : List ℕ) (s : QrprovedSymbol) : Type 0 where
+  pub settings : AreSymbolSettings version level rule interpretation boost
   pub square : Grid
-  pub made : IsSymbol version (level_of level) (rule_of rule) x s.version s.mask square
-  pub read : IsReadBack s.version (rule_of rule) x square
+  pub level_in : s.level < 4
+  pub made : boost ≡ 0 → (s.level ≡ level) × IsSymbol version (level_of level) (rule_of rule) (interpretation_of interpretation) x s.version s.mask square
+  pub boosted : boost ≡ 1 → IsBoostedSymbol version (level_of level) (rule_of rule) (interpretation_of interpretation) x s.version (level_of s.level) s.mask square
+  pub read : IsReadBack s.version (rule_of rule) (interpretation_of interpretation) x square
   pub side : s.side ≡ square.side
   pub holds : HoldsSquares s.side (square ∷ []) before after
 
 -- The symbol has the least version, from `version` on, that the input fits, and more modules than `buffer` has bytes
 -- [own]
-pub record HasNoRoom (x : List ℕ) (version level rule : ℕ) (buffer : List ℕ) : Type 0 where
+pub record HasNoRoom (x : List ℕ) (version level rule interpretation : ℕ) (buffer : List ℕ) : Type 0 where
   pub least : ℕ
-  pub fits : IsVersion version (level_of level) (rule_of rule) x least
+  pub fits : IsVersion version (level_of level) (rule_of rule) (interpretation_of interpretation) x least
   pub room : length buffer < side_of least * side_of least

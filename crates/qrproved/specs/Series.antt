@@ -7,24 +7,24 @@ use Rattle.qr_symbol.specs.declared.symbol.Symbol.{Symbol}
 use Rattle.qr_symbol.specs.Series.{squares_of, IsSeries, NeedsParts}
 use Rattle.qr_symbol.specs.Joining.{IsJoined}
 use Rattle.qrproved.specs.declared.series.QrprovedSeries.{QrprovedSeries}
-use Rattle.qrproved.specs.Settings.{AreSettings, level_of, rule_of}
+use Rattle.qrproved.specs.Settings.{AreSettings, interpretation_of, level_of, rule_of}
 use Rattle.qrproved.specs.Modules.{HoldsSquares}
 
 -- The modules of the input's series were written to the buffer, `t` has its number of symbols and their side, and the
 -- symbols are read and joined as the input. The numbers are in range, and without kanji mode no cut of the input into
 -- parts that fit, each with a header, has fewer parts than there are symbols [own]
-pub record IsWrittenSeries (x : List ℕ) (version level rule : ℕ) (before after : List ℕ) (t : QrprovedSeries) : Type 0 where
-  pub settings : AreSettings version level rule
+pub record IsWrittenSeries (x : List ℕ) (version level rule interpretation : ℕ) (before after : List ℕ) (t : QrprovedSeries) : Type 0 where
+  pub settings : AreSettings version level rule interpretation
   pub symbols : List Symbol
-  pub made : IsSeries version (level_of level) (rule_of rule) x symbols
+  pub made : IsSeries version (level_of level) (rule_of rule) (interpretation_of interpretation) x symbols
   pub joined : IsJoined (squares_of symbols) x
-  pub shortest : may_use (rule_of rule) Kanji ≡ false → NeedsParts version (level_of level) (rule_of rule) x (length symbols)
+  pub shortest : may_use (rule_of rule) Kanji ≡ false → NeedsParts version (level_of level) (rule_of rule) (interpretation_of interpretation) x (length symbols)
   pub count : t.count ≡ length symbols
   pub side : t.side ≡ side_of version
   pub holds : HoldsSquares t.side (squares_of symbols) before after
 
 -- The symbols of the input's series have more modules together than `buffer` has bytes [own]
-pub record HasNoSeriesRoom (x : List ℕ) (version level rule : ℕ) (buffer : List ℕ) : Type 0 where
+pub record HasNoSeriesRoom (x : List ℕ) (version level rule interpretation : ℕ) (buffer : List ℕ) : Type 0 where
   pub symbols : List Symbol
-  pub made : IsSeries version (level_of level) (rule_of rule) x symbols
+  pub made : IsSeries version (level_of level) (rule_of rule) (interpretation_of interpretation) x symbols
   pub room : length buffer < length symbols * (side_of version * side_of version)

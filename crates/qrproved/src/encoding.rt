@@ -1,16 +1,21 @@
 //! The call that encodes an input as one symbol (ISO/IEC 18004:2015, 7.1).
 
-ghost use Rattle.std.specs.Prelude.{◌≡◌, ◌≢◌, ◌<◌, ◌↔◌, ◌⊎◌, [], length};
-ghost use Rattle.qr_symbol.specs.VersionChoice.{HasNoVersion};
-ghost use Rattle.qrproved.specs.Settings.{AreSettings, level_of, rule_of};
+ghost use Rattle.std.specs.Prelude.{◌≡◌, ◌≢◌, ◌<◌, ◌≤◌, ◌↔◌, ◌⊎◌, [], length, true, false, Err, IfOk, IfErr};
+ghost use Rattle.qr_bits.specs.Interpretation.{InterpretationFits, MayWrite};
+ghost use Rattle.qr_layout.specs.Version.{side_of};
+ghost use Rattle.qr_symbol.specs.declared.fault.EncodeFault.{EncodeFault};
+ghost use Rattle.qr_symbol.specs.Encoding.{IsBoostedSymbol, IsSymbol};
+ghost use Rattle.qr_symbol.specs.Reading.{IsReadBack};
+ghost use Rattle.qr_symbol.specs.VersionChoice.{HasNoVersion, IsVersion};
+ghost use Rattle.qrproved.specs.Settings.{AreSymbolSettings, interpretation_of, level_of, rule_of};
 ghost use Rattle.qrproved.specs.Encoding.{HasNoRoom, IsWritten};
 
 use crate::modules::{area, write_square};
-use crate::settings::settings_of;
-use crate::status::{DONE, EMPTY, MEMORY, ROOM, SETTINGS, TOO_LONG, encode_status};
-use qr_bits::INPUT_MAX;
-use qr_symbol::encode;
+use crate::settings::{Settings, number_of, settings_of};
+use crate::status::{DONE, EMPTY, FIELDS, MEMORY, ROOM, SETTINGS, TOO_LONG, encode_status};
+use qr_bits::{INPUT_MAX, may_write};
 use qr_symbol::laws::long_inputs_have_none;
+use qr_symbol::{EncodeFault, Symbol, encode, encode_boosted};
 use std::alloc::Global;
 
 /// What `qrproved_encode` tells about a symbol, besides its modules.
@@ -21,22 +26,75 @@ pub struct QrprovedSymbol {
     pub version: u8,
     /// The number of rows and columns, 21 to 177.
     pub side: u8,
+    /// The level, 0 to 3 for L, M, Q and H.
+    pub level: u8,
     /// The mask, 0 to 7.
     pub mask: u8,
 }
 
+// The symbol that the settings ask for.
+fn symbol_of(
+    alloc: Global,
+    input: &[u8],
+    settings: &Settings,
+    boost: bool,
+) -> Result<Symbol, EncodeFault>
+    requires short { length input.now ≤ INPUT_MAX }
+    requires number { InterpretationFits settings.now.interpretation }
+    requires written { MayWrite settings.now.interpretation input.now }
+    ensures version { IfOk result (λ s. IsVersion settings.now.version settings.now.level settings.now.rule
+        settings.now.interpretation input.now s.version) }
+    ensures made { IfOk result (λ s. boost ≡ false → (s.level ≡ settings.now.level)
+        × IsSymbol settings.now.version settings.now.level settings.now.rule settings.now.interpretation input.now
+        s.version s.mask s.matrix) }
+    ensures boosted { IfOk result (λ s. boost ≡ true
+        → IsBoostedSymbol settings.now.version settings.now.level settings.now.rule settings.now.interpretation input.now
+        s.version s.level s.mask s.matrix) }
+    ensures side { IfOk result (λ s. s.matrix.side ≡ side_of s.version) }
+    ensures read { IfOk result (λ s. IsReadBack s.version settings.now.rule settings.now.interpretation
+        input.now s.matrix) }
+    ensures empty { (result ≡ Err EncodeFault.Empty) ↔ (input.now ≡ []) }
+    ensures too_long { (result ≡ Err EncodeFault.TooLong) ↔ ((result ≢ Err EncodeFault.Memory)
+        × HasNoVersion settings.now.version settings.now.level settings.now.rule settings.now.interpretation input.now) }
+    ensures long { 7089 < length input.now → result ≡ Err EncodeFault.TooLong }
+    ensures fault { IfErr result (λ e. (e ≡ EncodeFault.Empty) ⊎ (e ≡ EncodeFault.TooLong)
+        ⊎ (e ≡ EncodeFault.Memory)) }
+{
+    if boost {
+        return encode_boosted(
+            alloc,
+            input,
+            settings.level,
+            settings.version,
+            settings.rule,
+            settings.interpretation,
+        );
+    }
+    encode(
+        alloc,
+        input,
+        settings.level,
+        settings.version,
+        settings.rule,
+        settings.interpretation,
+    )
+}
+
 /// Encodes `input` as one symbol of the least version, from `version` on, that it fits, and writes the modules: the one
 /// in a row and a column is at index `row * side + column` of `modules`. `level` is 0 to 3 for L, M, Q and H. `rule` is
-/// 0 for all modes but kanji mode, 1 for byte mode alone, and 2 for all modes.
+/// 0 for all modes but kanji mode, 1 for byte mode alone, and 2 for all modes. `interpretation` is the number of an ECI,
+/// or 1,000,000 for none, or 1,000,001 for GS1 data, in which the byte 1D (hexadecimal) separates fields. With `boost` 1
+/// the symbol gets the highest level, from `level` on, at which the input fits this version, and with 0 it gets `level`.
 ///
-/// On status 0 the buffer begins with exactly the modules of the symbol, which is read as the input, and `symbol` has
-/// its version, side and mask.
+/// On status 0 the buffer begins with exactly the modules of the symbol, which is read as the input with its
+/// interpretation, and `symbol` has its version, side, level and mask.
 ///
 /// # Errors
 ///
-/// The first that applies of `SETTINGS` (a number is out of range), `EMPTY`, `TOO_LONG` (the input fits no allowed
-/// version) and `ROOM` (`modules` is too short); or `MEMORY` if memory is refused. `SETTINGS`, `EMPTY`, and `TOO_LONG`
-/// for more than 7,089 bytes, are found before memory is requested.
+/// The first that applies of `SETTINGS` (a number is out of range, or `rule` is 2 with another ECI than 20, which is
+/// Shift JIS), `EMPTY`, `FIELDS` (in GS1 data a byte 1D comes directly before another or before `%`), `TOO_LONG` (the
+/// input fits no allowed version) and `ROOM` (`modules` is too short); or `MEMORY` if memory is refused. `SETTINGS`,
+/// `EMPTY`, `FIELDS`, and `TOO_LONG` for more than 7,089 bytes, are found before memory is requested.
 #[unsafe(no_mangle)]
 pub extern "C" fn qrproved_encode(
     alloc: Global,
@@ -44,39 +102,48 @@ pub extern "C" fn qrproved_encode(
     version: u32,
     level: u32,
     rule: u32,
+    interpretation: u32,
+    boost: u32,
     modules: &mut [u8],
     symbol: &mut QrprovedSymbol,
 ) -> u8
     ensures done { result ≡ DONE
-        → IsWritten input.now version level rule modules.old modules.new symbol.new }
+        → IsWritten input.now version level rule interpretation boost modules.old modules.new symbol.new }
     ensures unchanged { result ≢ DONE
         → (modules.new ≡ modules.old) × (symbol.new ≡ symbol.old) }
-    ensures settings { (result ≡ SETTINGS) ↔ (AreSettings version level rule → ⊥) }
-    ensures empty { (result ≡ EMPTY) ↔ (AreSettings version level rule × (input.now ≡ [])) }
+    ensures settings { (result ≡ SETTINGS) ↔ (AreSymbolSettings version level rule interpretation boost → ⊥) }
+    ensures empty { (result ≡ EMPTY)
+        ↔ (AreSymbolSettings version level rule interpretation boost
+        × MayWrite (interpretation_of interpretation) input.now × (input.now ≡ [])) }
+    ensures fields { (result ≡ FIELDS) ↔ (AreSymbolSettings version level rule interpretation boost
+        × (MayWrite (interpretation_of interpretation) input.now → ⊥)) }
     ensures too_long { (result ≡ TOO_LONG) ↔ ((result ≢ MEMORY)
-        × AreSettings version level rule
-        × HasNoVersion version (level_of level) (rule_of rule) input.now) }
-    ensures long { AreSettings version level rule → 7089 < length input.now
-        → result ≡ TOO_LONG }
-    ensures room { (result ≡ ROOM) ↔ ((result ≢ MEMORY) × AreSettings version level rule
-        × (input.now ≢ []) × HasNoRoom input.now version level rule modules.old) }
-    ensures status { (result ≡ DONE) ⊎ (result ≡ EMPTY) ⊎ (result ≡ TOO_LONG)
+        × AreSymbolSettings version level rule interpretation boost
+        × MayWrite (interpretation_of interpretation) input.now
+        × HasNoVersion version (level_of level) (rule_of rule) (interpretation_of interpretation) input.now) }
+    ensures long { AreSymbolSettings version level rule interpretation boost
+        → MayWrite (interpretation_of interpretation) input.now → 7089 < length input.now → result ≡ TOO_LONG }
+    ensures room { (result ≡ ROOM) ↔ ((result ≢ MEMORY)
+        × AreSymbolSettings version level rule interpretation boost
+        × (input.now ≢ []) × MayWrite (interpretation_of interpretation) input.now
+        × HasNoRoom input.now version level rule interpretation modules.old) }
+    ensures status { (result ≡ DONE) ⊎ (result ≡ EMPTY) ⊎ (result ≡ FIELDS) ⊎ (result ≡ TOO_LONG)
         ⊎ (result ≡ MEMORY) ⊎ (result ≡ SETTINGS) ⊎ (result ≡ ROOM) }
 {
-    let Some(settings) = settings_of(version, level, rule) else {
+    let Some(settings) = settings_of(version, level, rule, interpretation) else {
         return SETTINGS;
     };
+    if boost > 1 {
+        return SETTINGS;
+    }
+    if !may_write(input, settings.interpretation) {
+        return FIELDS;
+    }
     if input.len() > INPUT_MAX {
         long_inputs_have_none(settings.version);
         return TOO_LONG;
     }
-    match encode(
-        alloc,
-        input,
-        settings.level,
-        settings.version,
-        settings.rule,
-    ) {
+    match symbol_of(alloc, input, &settings, boost == 1) {
         Err(fault) => encode_status(fault),
         Ok(made) => {
             let side = made.matrix.side();
@@ -86,6 +153,7 @@ pub extern "C" fn qrproved_encode(
             write_square(&made.matrix, 0, modules);
             symbol.version = made.version.number();
             symbol.side = side;
+            symbol.level = number_of(made.level);
             symbol.mask = made.mask;
             DONE
         }

@@ -1,14 +1,15 @@
 //! Laws of the calls. A function here exists for its contract, which is the law.
 
-ghost use Rattle.std.specs.Prelude.{◌≡◌, ◌≤◌, ℕ, [], ◌∷◌, map, true, false, IfOk};
+ghost use Rattle.std.specs.Prelude.{◌≡◌, ◌<◌, ◌≤◌, ℕ, [], ◌∷◌, map, true, false, IfOk};
 ghost use Rattle.qr_layout.specs.declared.level.Level.{Level};
 ghost use Rattle.qr_bits.specs.declared.modes.Rule.{Rule};
+ghost use Rattle.qr_bits.specs.declared.interpretation.Interpretation.{Interpretation};
 ghost use Rattle.qrproved.specs.Modules.{byte_of};
 ghost use Rattle.qrproved.specs.Drawing.{drawing_of, AreDrawingSettings};
 ghost use Rattle.qrproved.specs.Mending.{square_of_unknown};
 ghost use Rattle.qr_matrix.specs.Grid.{colour};
 ghost use Rattle.qr_drawing.specs.declared.drawing.Drawing.{Drawing};
-ghost use Rattle.qrproved.specs.Settings.{level_of, rule_of};
+ghost use Rattle.qrproved.specs.Settings.{interpretation_of, level_of, rule_of};
 
 use crate::encoding::QrprovedSymbol;
 use crate::mending::QrprovedMended;
@@ -16,12 +17,12 @@ use crate::parsing::QrprovedDrawn;
 use crate::reading::QrprovedContent;
 use crate::series::QrprovedSeries;
 use crate::status::{
-    CHECK, DONE, EMPTY, FORMAT, MEMORY, NO_DRAWING, ROOM, SEGMENTS, SETTINGS, SIDE, TOO_LONG,
+    CHECK, DONE, EMPTY, FIELDS, FORMAT, MEMORY, NO_DRAWING, ROOM, SEGMENTS, SETTINGS, SIDE, TOO_LONG,
     TOO_MANY,
 };
 use std::alloc::AllocError;
 
-/// The statuses have the numbers 0 to 11, as `include/qrproved.h` lists them.
+/// The statuses have the numbers 0 to 12, as `include/qrproved.h` lists them.
 ///
 /// # Notes
 ///
@@ -39,15 +40,18 @@ pub fn statuses()
     ensures check { CHECK ≡ 9 }
     ensures segments { SEGMENTS ≡ 10 }
     ensures no_drawing { NO_DRAWING ≡ 11 }
+    ensures fields { FIELDS ≡ 12 }
 {}
 
-/// In calls, 0 to 3 are the levels L, M, Q and H; 0 to 2 are the rules `Auto`, `BytesOnly` and `WithKanji`; 0 to 3 are
-/// the drawings ASCII, ASCIIi, UTF8 and SVG. A module is 1 if it is dark and 0 if it is light; in `qrproved_mend` it is
+/// In calls, 0 to 3 are the levels L, M, Q and H; 0 to 2 are the rules `Auto`, `BytesOnly` and `WithKanji`; 0 to 999,999
+/// are ECIs, and the next two numbers no interpretation and GS1 data; 0 to 3 are the drawings ASCII, ASCIIi, UTF8 and SVG. A module is 1 if it is dark and 0 if it is light; in `qrproved_mend` it is
 /// 2 if it is not known. A drawing has 1 to 16 squares of 1 to 177 rows, and a margin of 0 to 100 modules.
 #[tactic(auto, unfolding(qr_matrix::specs::Grid::rows_of, qr_matrix::specs::Grid::colour))]
 pub fn numbers()
     ensures levels { map level_of (0 ∷ 1 ∷ 2 ∷ 3 ∷ []) ≡ Level.L ∷ Level.M ∷ Level.Q ∷ Level.H ∷ [] }
     ensures rules { map rule_of (0 ∷ 1 ∷ 2 ∷ []) ≡ Rule.Auto ∷ Rule.BytesOnly ∷ Rule.WithKanji ∷ [] }
+    ensures ecis { (n : ℕ) → n < 1000000 → interpretation_of n ≡ Interpretation.Eci n }
+    ensures interpretations { map interpretation_of (1000000 ∷ 1000001 ∷ []) ≡ Interpretation.Default ∷ Interpretation.Gs1 ∷ [] }
     ensures bytes { map byte_of (true ∷ false ∷ []) ≡ 1 ∷ 0 ∷ [] }
     ensures drawings { map drawing_of (0 ∷ 1 ∷ 2 ∷ 3 ∷ []) ≡ Drawing.Ascii ∷ Drawing.AsciiInverse ∷ Drawing.Utf8 ∷ Drawing.Svg ∷ [] }
     ensures most { AreDrawingSettings 177 16 3 100 }

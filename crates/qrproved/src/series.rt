@@ -1,14 +1,15 @@
 //! The call that encodes an input as a series (ISO/IEC 18004:2015, 8).
 
 ghost use Rattle.std.specs.Prelude.{◌≡◌, ◌≢◌, ◌<◌, ◌↔◌, ◌⊎◌, [], length};
+ghost use Rattle.qr_bits.specs.Interpretation.{MayWrite};
 ghost use Rattle.qr_symbol.specs.Series.{HasNoSeries};
-ghost use Rattle.qrproved.specs.Settings.{AreSettings, level_of, rule_of};
+ghost use Rattle.qrproved.specs.Settings.{AreSettings, interpretation_of, level_of, rule_of};
 ghost use Rattle.qrproved.specs.Series.{HasNoSeriesRoom, IsWrittenSeries};
 
 use crate::modules::{area, write_squares};
 use crate::settings::settings_of;
-use crate::status::{DONE, EMPTY, MEMORY, ROOM, SETTINGS, TOO_MANY, encode_status};
-use qr_bits::INPUT_MAX;
+use crate::status::{DONE, EMPTY, FIELDS, MEMORY, ROOM, SETTINGS, TOO_MANY, encode_status};
+use qr_bits::{INPUT_MAX, may_write};
 use qr_symbol::encode_series;
 use qr_symbol::laws::{long_inputs_have_none, series_are_one, series_have_one_side};
 use std::alloc::Global;
@@ -25,16 +26,18 @@ pub struct QrprovedSeries {
 
 /// Encodes `input` as a series of symbols of the version `version`, or as one plain symbol if it fits one, and writes
 /// the modules: the one in a row and a column of symbol `number`, counted from 0, is at index `(number * side + row) *
-/// side + column` of `modules`. `level` and `rule` are those of `qrproved_encode`.
+/// side + column` of `modules`. `level`, `rule` and `interpretation` are those of `qrproved_encode`; each symbol says the
+/// interpretation.
 ///
-/// On status 0 the buffer begins with exactly the modules of the symbols, which are read and joined as the input, and
-/// `series` has their number and side. Without kanji mode, no series of this version has fewer symbols.
+/// On status 0 the buffer begins with exactly the modules of the symbols, which are read and joined as the input, each
+/// with its interpretation, and `series` has their number and side. Without kanji mode, no series of this version has
+/// fewer symbols.
 ///
 /// # Errors
 ///
-/// The first that applies of `SETTINGS` (a number is out of range), `EMPTY`, `TOO_MANY` (the input takes more than 16
-/// symbols) and `ROOM` (`modules` is too short); or `MEMORY` if memory is refused. `SETTINGS`, `EMPTY`, and `TOO_MANY`
-/// for more than 113,425 bytes, are found before memory is requested.
+/// The first that applies of `SETTINGS`, `EMPTY` and `FIELDS` as in `qrproved_encode`, `TOO_MANY` (the input takes more
+/// than 16 symbols) and `ROOM` (`modules` is too short); or `MEMORY` if memory is refused. `SETTINGS`, `EMPTY`,
+/// `FIELDS`, and `TOO_MANY` for more than 113,425 bytes, are found before memory is requested.
 #[unsafe(no_mangle)]
 pub extern "C" fn qrproved_encode_series(
     alloc: Global,
@@ -42,28 +45,38 @@ pub extern "C" fn qrproved_encode_series(
     version: u32,
     level: u32,
     rule: u32,
+    interpretation: u32,
     modules: &mut [u8],
     series: &mut QrprovedSeries,
 ) -> u8
     ensures done { result ≡ DONE
-        → IsWrittenSeries input.now version level rule modules.old modules.new series.new }
+        → IsWrittenSeries input.now version level rule interpretation modules.old modules.new series.new }
     ensures unchanged { result ≢ DONE
         → (modules.new ≡ modules.old) × (series.new ≡ series.old) }
-    ensures settings { (result ≡ SETTINGS) ↔ (AreSettings version level rule → ⊥) }
-    ensures empty { (result ≡ EMPTY) ↔ (AreSettings version level rule × (input.now ≡ [])) }
+    ensures settings { (result ≡ SETTINGS) ↔ (AreSettings version level rule interpretation → ⊥) }
+    ensures empty { (result ≡ EMPTY) ↔ (AreSettings version level rule interpretation
+        × MayWrite (interpretation_of interpretation) input.now × (input.now ≡ [])) }
+    ensures fields { (result ≡ FIELDS) ↔ (AreSettings version level rule interpretation
+        × (MayWrite (interpretation_of interpretation) input.now → ⊥)) }
     ensures too_many { (result ≡ TOO_MANY) ↔ ((result ≢ MEMORY)
-        × AreSettings version level rule
-        × HasNoSeries version (level_of level) (rule_of rule) input.now) }
-    ensures long { AreSettings version level rule → INPUT_MAX < length input.now
+        × AreSettings version level rule interpretation
+        × MayWrite (interpretation_of interpretation) input.now
+        × HasNoSeries version (level_of level) (rule_of rule) (interpretation_of interpretation) input.now) }
+    ensures long { AreSettings version level rule interpretation
+        → MayWrite (interpretation_of interpretation) input.now → INPUT_MAX < length input.now
         → result ≡ TOO_MANY }
-    ensures room { (result ≡ ROOM) ↔ ((result ≢ MEMORY) × AreSettings version level rule
-        × (input.now ≢ []) × HasNoSeriesRoom input.now version level rule modules.old) }
-    ensures status { (result ≡ DONE) ⊎ (result ≡ EMPTY) ⊎ (result ≡ TOO_MANY)
+    ensures room { (result ≡ ROOM) ↔ ((result ≢ MEMORY) × AreSettings version level rule interpretation
+        × (input.now ≢ []) × MayWrite (interpretation_of interpretation) input.now
+        × HasNoSeriesRoom input.now version level rule interpretation modules.old) }
+    ensures status { (result ≡ DONE) ⊎ (result ≡ EMPTY) ⊎ (result ≡ FIELDS) ⊎ (result ≡ TOO_MANY)
         ⊎ (result ≡ MEMORY) ⊎ (result ≡ SETTINGS) ⊎ (result ≡ ROOM) }
 {
-    let Some(settings) = settings_of(version, level, rule) else {
+    let Some(settings) = settings_of(version, level, rule, interpretation) else {
         return SETTINGS;
     };
+    if !may_write(input, settings.interpretation) {
+        return FIELDS;
+    }
     if input.len() > INPUT_MAX {
         long_inputs_have_none(settings.version);
         return TOO_MANY;
@@ -74,6 +87,7 @@ pub extern "C" fn qrproved_encode_series(
         settings.version,
         settings.level,
         settings.rule,
+        settings.interpretation,
     ) {
         Err(fault) => encode_status(fault),
         Ok(symbols) => {

@@ -1,9 +1,9 @@
-//! Numbers of the caller as a version, a level and a rule. A C program can pass any number.
+//! Numbers of the caller as a version, a level, a rule and an interpretation. A C program can pass any number.
 
-ghost use Rattle.std.specs.Prelude.{◌≡◌, ◌<◌, ◌≤◌, SomeIff};
-ghost use Rattle.qrproved.specs.Settings.{AreSettings, level_of, rule_of};
+ghost use Rattle.std.specs.Prelude.{◌≡◌, ◌<◌, ◌≤◌, ◌↔◌, IsTrue, SomeIff};
+ghost use Rattle.qrproved.specs.Settings.{AreSettings, MayAllowKanji, interpretation_of, level_of, rule_of};
 
-use qr_bits::Rule;
+use qr_bits::{Interpretation, Rule};
 use qr_layout::{Level, Version};
 
 /// The numbers of a caller, after they were checked.
@@ -13,7 +13,15 @@ pub(crate) struct Settings {
     pub version: Version,
     pub level: Level,
     pub rule: Rule,
+    pub interpretation: Interpretation,
 }
+
+// The numbers of interpretations after those of ECIs.
+const DEFAULT: u32 = 1_000_000;
+
+const GS1: u32 = 1_000_001;
+
+const SHIFT_JIS: u32 = 20;
 
 pub(crate) fn between(number: u32, least: u8, most: u8) -> Option<u8>
     ensures { SomeIff result ((least ≤ number) × (number ≤ most)) number }
@@ -25,15 +33,50 @@ pub(crate) fn between(number: u32, least: u8, most: u8) -> Option<u8>
     Some(byte)
 }
 
-pub(crate) fn settings_of(version: u32, level: u32, rule: u32) -> Option<Settings>
-    ensures { SomeIff result (AreSettings version level rule)
-        (record { version = version; level = level_of level; rule = rule_of rule }) }
+pub(crate) fn settings_of(
+    version: u32,
+    level: u32,
+    rule: u32,
+    interpretation: u32,
+) -> Option<Settings>
+    ensures { SomeIff result (AreSettings version level rule interpretation)
+        (record { version = version; level = level_of level; rule = rule_of rule; interpretation = interpretation_of interpretation }) }
 {
-    Some(Settings {
+    let settings = Settings {
         version: Version::new(between(version, 1, 40)?)?,
         level: level_of(level)?,
         rule: rule_of(rule)?,
-    })
+        interpretation: interpretation_of(interpretation)?,
+    };
+    if rule == 2 && !may_allow_kanji(settings.interpretation) {
+        return None;
+    }
+    Some(settings)
+}
+
+fn interpretation_of(number: u32) -> Option<Interpretation>
+    ensures { SomeIff result (number < 1000002) (interpretation_of number) }
+{
+    match number {
+        DEFAULT => Some(Interpretation::Default),
+        GS1 => Some(Interpretation::Gs1),
+        _ => {
+            if number < DEFAULT {
+                Some(Interpretation::Eci(number))
+            } else {
+                None
+            }
+        }
+    }
+}
+
+fn may_allow_kanji(interpretation: Interpretation) -> bool
+    ensures { IsTrue result ↔ MayAllowKanji interpretation }
+{
+    match interpretation {
+        Interpretation::Eci(number) => number == SHIFT_JIS,
+        Interpretation::Default | Interpretation::Gs1 => true,
+    }
 }
 
 fn level_of(number: u32) -> Option<Level>

@@ -42,6 +42,9 @@ pub(crate) const SEGMENTS: u8 = 10;
 /// The text is no drawing of squares that begin as symbols do.
 pub(crate) const NO_DRAWING: u8 = 11;
 
+/// The input is no GS1 data: a separator of fields comes directly before another or before `%`.
+pub(crate) const FIELDS: u8 = 12;
+
 pub(crate) fn encode_status(fault: EncodeFault) -> u8
     ensures { result ≡ encode_status fault }
 {

@@ -2,3 +2,5 @@
 pub mod DataLemmas
 -- Without kanji mode, a piece of an input needs no more bits than the input.
 pub mod PieceLemmas
+-- The characters of segments stand for the input, under its interpretation.
+pub mod MeantLemmas

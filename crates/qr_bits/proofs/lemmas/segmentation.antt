@@ -4,3 +4,5 @@ pub mod BackLemmas
 pub mod BytesOnlyLemmas
 -- If all bytes are digits, one segment of all digits takes the fewest bits.
 pub mod DigitsOnlyLemmas
+-- With an ECI the choice of segments is that without.
+pub mod InterpretedLemmas

@@ -1,15 +1,16 @@
 -- The lengths of the parts into which `x` is cut for a series of version `v` and level `l`; `rule` determines the
--- allowed modes.
+-- allowed modes, and `i` how the bytes are to be interpreted.
 use Rattle.std.specs.Prelude.{◌≡◌, ℕ, ◌<◌, List, [], ◌∷◌, take, drop}
 use Rattle.qr_layout.specs.declared.level.Level.{Level}
 use Rattle.qr_bits.specs.declared.modes.Rule.{Rule}
+use Rattle.qr_bits.specs.declared.interpretation.Interpretation.{Interpretation}
 use Rattle.qr_bits.specs.Segmentation.{IsLongestFit}
 use Rattle.qr_bits.specs.Padding.{room_of}
 
 -- As `AreParts`, but for the lengths.
-unfoldable pub AreLengths : ℕ → Level → Rule → List ℕ → List ℕ → Type 0
-AreLengths v l rule x [] = x ≡ []
-AreLengths v l rule x (n ∷ ns) = (0 < n) × IsLongestFit v rule x (room_of v l) n × AreLengths v l rule (drop n x) ns
+unfoldable pub AreLengths : ℕ → Level → Rule → Interpretation → List ℕ → List ℕ → Type 0
+AreLengths v l rule i x [] = x ≡ []
+AreLengths v l rule i x (n ∷ ns) = (0 < n) × IsLongestFit i v rule x (room_of v l i) n × AreLengths v l rule i (drop n x) ns
 
 -- The parts of `x` that have these lengths, one after the other.
 unfoldable pub parts_of : List ℕ → List ℕ → List (List ℕ)

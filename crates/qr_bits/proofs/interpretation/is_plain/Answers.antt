@@ -1,4 +1,4 @@
-use Rattle.std.proofs.Common.{false, ◌≡◌, ◌++◌, ◌+◌, ◌∷◌, ◌∙◌, sym, take, drop, length, arith, append_assoc, append-nil, length-append}
+use Rattle.std.proofs.Common.{false, ◌≡◌, ◌++◌, ◌+◌, ◌∷◌, ◌∙◌, sym, take, drop, length, arith, append_assoc, length-append}
 use Rattle.std.proofs.lemmas.{Bool.eqb-true, List.nil_from_length, List.take-append-drop}
 use Rattle.qr_bits.specs.declared.interpretation.Item.TheVariants.{Data}
 use Rattle.qr_bits.proofs.lemmas.interpretation.MeaningLemmas.{item_next, bytes_next, ecis_next, bytes_end, ecis_end}

@@ -3,6 +3,7 @@ use Rattle.std.proofs.Common.{◌≡◌, ℕ, ◌+◌, ◌*◌, ◌/◌, ◌%◌
 use Rattle.std.proofs.lemmas.{Bool.false≢true, Bool.and_from, List.reverse-append}
 use Rattle.qr_bits.specs.declared.{modes.Mode.Mode, modes.Rule.Rule, run_state.RunState.RunState}
 use Rattle.qr_bits.specs.declared.modes.Mode.TheVariants.{Byte, Kanji}
+use Rattle.qr_bits.specs.declared.interpretation.Interpretation.TheVariants.{Default}
 use Rattle.qr_bits.specs.declared.run_state.RunState.TheVariants.{Start, Digit1, Digit2, Digit3, Character1, Character2, InBytes, HalfPair, WholePair}
 use Rattle.qr_bits.specs.{declared.run_state.PerState.PerState, Segmentation.IsBestAssignment, Modes.is_kanji_pair}
 use Rattle.qr_bits.specs.Steps.RunState.{state_after, begins_with_pair, may_begin, may_take, may_end, allowed, cost_of, ranked}
@@ -67,7 +68,7 @@ unfolding mode_at in_state
 packed_mode n p = let e : packed n / 2 ^ shift_of p % 4 ≡ in_state n p % 4 = grind arith in cc
 
 -- the modes to which a table leads are the best assignment
-pub assignment_from_table : (v : ℕ) (r : Rule) (xs : List ℕ) (rows : List ℕ) → IsBestTable v r is_kanji_pair xs rows → IsBestAssignment v r xs (follow Start rows)
+pub assignment_from_table : (v : ℕ) (r : Rule) (xs : List ℕ) (rows : List ℕ) → IsBestTable v r is_kanji_pair xs rows → IsBestAssignment Default v r xs (follow Start rows)
 unfolding may_end
 assignment_from_table v r xs rows table =
     let some = table Start (replicate (length xs) Byte) (bytes_rest r is_kanji_pair Start xs refl) in

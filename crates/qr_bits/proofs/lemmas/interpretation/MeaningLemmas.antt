@@ -1,8 +1,8 @@
 -- What the characters of items stand for, item by item.
-use Rattle.std.proofs.Common.{◌≡◌, ℕ, ◌+◌, ◌<◌, ◌≤◌, Bool, false, true, List, [], ◌∷◌, ◌++◌, length, take, drop, get_or, Option, None, refl, sym, arith}
+use Rattle.std.proofs.Common.{◌≡◌, ℕ, ◌+◌, ◌<◌, ◌≤◌, Bool, false, List, [], ◌∷◌, ◌++◌, length, take, drop, get_or, Option, None, refl, sym, arith}
 use Rattle.std.{proofs.Math.Seq.drop-cons, proofs.lemmas.List.{take-append-drop, drop_all}}
 use Rattle.qr_bits.specs.declared.{modes.Mode.Mode, segment.Segment.Segment, header.Header.Header}
-use Rattle.qr_bits.specs.declared.interpretation.{Designator.Designator, Item.Item, Item.TheVariants.{Data, Eci, Fnc1First, Fnc1Second}}
+use Rattle.qr_bits.specs.declared.interpretation.{Item.Item, Item.TheVariants.{Data}}
 use Rattle.qr_bits.specs.{Stream.Suits, Interpretation.{plain, meant, meant_bytes, eci_changes, fnc1_of}, Parsing.{content_of, plain_content}}
 
 meant-without : (m : Mode) (xs : List ℕ) → meant false m xs ≡ xs
@@ -14,7 +14,7 @@ unfolding meant_bytes Suits
 meant-plain [] xs h = sym h
 meant-plain (s ∷ ss) xs h = rw (meant-without s.mode (take s.len xs), meant-plain ss (drop s.len xs) h.2) (take-append-drop s.len xs)
 
-ecis-plain : (segs : List Segment) (n : ℕ) (xs : List ℕ) → eci_changes false n (plain segs) xs ≡ []
+pub ecis-plain : (segs : List Segment) (n : ℕ) (xs : List ℕ) → eci_changes false n (plain segs) xs ≡ []
 unfolding eci_changes
 ecis-plain [] n xs = refl
 ecis-plain (s ∷ ss) n xs = ecis-plain ss (n + length (meant false s.mode (take s.len xs))) (drop s.len xs)

@@ -4,6 +4,8 @@ use Rattle.std.{proofs.lemmas.Bool.{and_parts, and_from, false≢true}, specs.Li
 use Rattle.qr_bits.specs.{declared.modes.Mode.Mode, Modes.may_use, Modes.is_kanji_pair}
 use Rattle.qr_bits.specs.declared.{modes.Mode.TheVariants.Kanji, modes.Rule.Rule, run_state.RunState.RunState}
 use Rattle.qr_bits.specs.declared.run_state.RunState.TheVariants.{Start, Digit1, Digit2, Digit3, Character1, Character2}
+use Rattle.qr_bits.specs.declared.interpretation.Interpretation.{Interpretation, TheVariants.{Default, Gs1, Eci}}
+use Rattle.qr_bits.specs.Interpretation.{MayWrite}
 use Rattle.qr_bits.specs.Segmentation.{rank, bits, runs_of, IsAssignment, HasFit}
 use Rattle.qr_bits.specs.Steps.RunState.{state_after, byte_cost, begins_with_pair, may_take, may_end, allowed, cost_of}
 use Rattle.qr_bits.proofs.lemmas.segment.CoverLemmas.{covers_by, by_covers}
@@ -71,8 +73,8 @@ back v r (x ∷ xs) ys (m ∷ ms) n u h =
     search (arith, without_first, back v r xs ys ms n use_.1 again)
 
 -- If an assignment is valid for an input, each piece of the input has a valid assignment of no more bits.
-pub piece : (v : ℕ) (r : Rule) (xs ys zs : List ℕ) (ms : List Mode) → IsPlain r → IsAssignment r (xs ++ (ys ++ zs)) ms
-    → (ks : List Mode) × IsAssignment r ys ks × (bits v (runs_of ks) ≤ bits v (runs_of ms))
+pub piece : (v : ℕ) (r : Rule) (xs ys zs : List ℕ) (ms : List Mode) → IsPlain r → IsAssignment Default r (xs ++ (ys ++ zs)) ms
+    → (ks : List Mode) × IsAssignment Default r ys ks × (bits v (runs_of ks) ≤ bits v (runs_of ms))
 unfolding may_end
 piece v r xs ys zs ms n h =
     let b = back v r xs (ys ++ zs) ms n h.0 (search (arith, can_take, covers_by)) in
@@ -80,5 +82,7 @@ piece v r xs ys zs ms n h =
     search (arith, is_assignment, by_covers, bits-runs_of)
 
 -- If an input fits, each piece of it fits.
-pub piece_fits : (v : ℕ) (r : Rule) (xs ys zs : List ℕ) (n : ℕ) → may_use r Kanji ≡ false → HasFit v r (xs ++ (ys ++ zs)) n → HasFit v r ys n
-piece_fits v r xs ys zs n none fit = let p = piece v r xs ys zs fit.0 none fit.1 in (p.0, p.1, omega (arith, p.2, fit.2))
+pub piece_fits : (i : Interpretation) (v : ℕ) (r : Rule) (xs ys zs : List ℕ) (n : ℕ) → MayWrite i (xs ++ (ys ++ zs)) → may_use r Kanji ≡ false → HasFit i v r (xs ++ (ys ++ zs)) n → HasFit i v r ys n
+piece_fits Default v r xs ys zs n w none fit = let p = piece v r xs ys zs fit.0 none fit.1 in (p.0, p.1, omega (arith, p.2, fit.2))
+piece_fits (Eci k) v r xs ys zs n w none fit = let p = piece v r xs ys zs fit.0 none fit.1 in (p.0, p.1, omega (arith, p.2, fit.2))
+piece_fits Gs1 v r xs ys zs n w none fit = absurd w

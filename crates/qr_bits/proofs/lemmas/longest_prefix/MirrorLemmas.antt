@@ -6,8 +6,10 @@ use Rattle.std.{proofs.lemmas.Bool.Decides.nat_tests, specs.List.list_all, proof
 use Rattle.std.proofs.lemmas.Bool.{and_parts, and_from}
 use Rattle.std.proofs.lemmas.List.{reverse-append, reverse-reverse, take_more, take_all, drop_all, take-append-le, drop-append-le, take-append-drop, length-append, length-take-le, length-reverse, get_or-reverse}
 use Rattle.qr_bits.specs.declared.modes.{Mode.Mode, Mode.TheVariants.Kanji, Rule.Rule}
+use Rattle.qr_bits.specs.declared.interpretation.Interpretation.{Interpretation, TheVariants.{Default, Gs1, Eci}}
 use Rattle.qr_bits.specs.declared.{segment.Segment.Segment, run_state.PerState.PerState}
 use Rattle.qr_bits.specs.declared.run_state.RunState.{RunState, TheVariants.Start}
+use Rattle.qr_bits.specs.Interpretation.{characters_gs1, doubled_gs1}
 use Rattle.qr_bits.specs.{Segmentation.{bits, prepend_mode, runs_of, HasFit}, Modes.{in_twos, is_kanji_pair, may_use}}
 use Rattle.qr_bits.{specs.Steps.Segmentation.append_mode, proofs.lemmas.run_state.CostLemmas.bits-runs_of}
 use Rattle.qr_bits.specs.Steps.{RunState.{swapped, begins_with_pair, may_end, may_take, allowed, cost_of, state_after}, BestModes.{bits_at, follow, IsRow}}
@@ -74,7 +76,7 @@ mirror : (v : ℕ) (t : ℕ → ℕ → Bool) (r : Rule) (xs : List ℕ) (ms : L
 mirror v t r xs ms h = search (arith, list_all-reverse, runs_of-reverse, covers-reverse, bits-reverse)
 
 -- if the best rest of a reversed prefix has at most n bits, the prefix fits n bits
-pub prefix_fits : (v : ℕ) (r : Rule) (xs : List ℕ) (f : RunState → List Mode) (cost : RunState → ℕ) (n : ℕ) → BestBelow v r (swapped is_kanji_pair) (reverse xs) f cost → cost Start ≤ n → HasFit v r xs n
+pub prefix_fits : (v : ℕ) (r : Rule) (xs : List ℕ) (f : RunState → List Mode) (cost : RunState → ℕ) (n : ℕ) → BestBelow v r (swapped is_kanji_pair) (reverse xs) f cost → cost Start ≤ n → HasFit Default v r xs n
 unfolding may_end
 prefix_fits v r xs f cost n below small =
     let best = below Start _ (bytes_rest r (swapped is_kanji_pair) Start (reverse xs) refl) in
@@ -83,7 +85,7 @@ prefix_fits v r xs f cost n below small =
     search (arith, by_covers, reverse-reverse, bits-runs_of)
 
 -- if a prefix fits n bits, the best rest of the reversed prefix has at most n bits
-pub prefix_least : (v : ℕ) (r : Rule) (xs : List ℕ) (f : RunState → List Mode) (cost : RunState → ℕ) (n : ℕ) → BestBelow v r (swapped is_kanji_pair) (reverse xs) f cost → HasFit v r xs n → cost Start ≤ n
+pub prefix_least : (v : ℕ) (r : Rule) (xs : List ℕ) (f : RunState → List Mode) (cost : RunState → ℕ) (n : ℕ) → BestBelow v r (swapped is_kanji_pair) (reverse xs) f cost → HasFit Default v r xs n → cost Start ≤ n
 unfolding may_end
 prefix_least v r xs f cost n below fit =
     let back = mirror v is_kanji_pair r xs fit.0 (fit.1.0, covers_by xs _ fit.1.1) in
@@ -102,7 +104,7 @@ later_part v r test (y ∷ ys) xs p (k ∷ ks) h =
 
 -- if all best rests of a reversed prefix take more than n bits, no prefix at least as long fits n bits
 pub none_longer : (v : ℕ) (r : Rule) (xs : List ℕ) (i k : ℕ) (f : RunState → List Mode) (cost : RunState → ℕ) (n : ℕ) → BestBelow v r (swapped is_kanji_pair) (reverse (take i xs)) f cost
-    → ((p : RunState) → n < cost p) → i ≤ k → HasFit v r (take k xs) n → ⊥
+    → ((p : RunState) → n < cost p) → i ≤ k → HasFit Default v r (take k xs) n → ⊥
 unfolding may_end
 none_longer v r xs i k f cost n below more l fit =
     let ys = drop i (take k xs) in
@@ -114,9 +116,11 @@ none_longer v r xs i k f cost n below more l fit =
     absurd (omega (arith, least, more part.0, part.3, back.1, fit.2, bits-runs_of v (reverse fit.0)))
 
 -- an empty input fits any number of bits
-pub empty_fits : (v : ℕ) (r : Rule) (n : ℕ) → HasFit v r [] n
-unfolding CoversBy runs_of
-empty_fits v r n = ([], (refl, by_covers [] [] refl), omega arith)
+pub empty_fits : (i : Interpretation) (v : ℕ) (r : Rule) (n : ℕ) → HasFit i v r [] n
+unfolding CoversBy runs_of characters_gs1 doubled_gs1
+empty_fits Default v r n = ([], (refl, by_covers [] [] refl), omega arith)
+empty_fits (Eci k) v r n = ([], (refl, by_covers [] [] refl), omega arith)
+empty_fits Gs1 v r n = ([], (refl, by_covers [] [] refl), omega arith)
 
 begins_at : (r : Rule) (test : ℕ → ℕ → Bool) (xs : List ℕ) → 2 ≤ length xs → begins_with_pair r test xs ≡ (may_use r Kanji && test (get_or xs 0 0) (get_or xs 1 0))
 unfolding begins_with_pair

@@ -3,6 +3,9 @@ use Rattle.std.proofs.Common.{◌≡◌, ℕ, ◌*◌, ◌≤◌, Bool, true, co
 use Rattle.std.{proofs.lemmas.Bool.{and_parts, false≢true, le-leb}, specs.List.list_all}
 use Rattle.std.proofs.lemmas.List.{length-take-le, Sums.sum_by-cons, Sums.sum_by-take-drop}
 use Rattle.qr_bits.specs.declared.{modes.Mode.Mode, modes.Rule.Rule, segment.Segment.Segment}
+use Rattle.qr_bits.specs.declared.interpretation.Interpretation.{Interpretation}
+use Rattle.qr_bits.specs.Interpretation.{characters_in}
+use Rattle.qr_bits.proofs.lemmas.interpretation.WrittenLemmas.{characters-sixths}
 use Rattle.qr_bits.specs.Modes.{is_kanji_pair, is_digit, is_alphanumeric, suits, payload_bits}
 use Rattle.qr_bits.specs.Segmentation.{bits, HasFit, least_sixths, least_bits}
 use Rattle.qr_bits.proofs.lemmas.segment.CoverLemmas.{CoversBy, covers_by}
@@ -44,6 +47,9 @@ segments_held v xs (s ∷ ss) c =
     search (arith, payload_held, sum_by-take-drop, segments_held v (drop s.len xs) ss c.3)
 
 -- If an input fits `room` bits, its lower bound is at most `room`.
-pub least_held : (v : ℕ) (r : Rule) (xs : List ℕ) (room : ℕ) → HasFit v r xs room → least_bits xs ≤ room
+pub least_held : (i : Interpretation) (v : ℕ) (r : Rule) (xs : List ℕ) (room : ℕ) → HasFit i v r xs room → least_bits xs ≤ room
 unfolding least_bits
-least_held v r xs room fit = search (arith, segments_held, covers_by)
+least_held i v r xs room fit =
+    let held = segments_held v (characters_in i xs fit.0) _ (covers_by _ _ fit.1.1) in
+    let most = characters-sixths i xs fit.0 in
+    omega (arith, held, most, fit.2)

@@ -6,7 +6,10 @@ use Rattle.qr_layout.{specs.{declared.level.Level.Level, Version.total_codewords
 use Rattle.qr_layout.specs.Blocks.{correction_len_of, block_count_of, data_codewords_of}
 use Rattle.qr_bits.specs.declared.{modes.Mode.Mode, modes.Rule.Rule, segment.Segment.Segment}
 use Rattle.qr_bits.specs.Modes.{is_kanji_pair, character_count, count_width}
-use Rattle.qr_bits.specs.{Segmentation.{segment_bits, bits, HasFit}, Stream.CountsFit, Padding.capacity_of}
+use Rattle.qr_bits.specs.declared.interpretation.Interpretation.{Interpretation}
+use Rattle.qr_bits.specs.Interpretation.{characters_in}
+use Rattle.qr_bits.proofs.lemmas.interpretation.WrittenLemmas.{characters-longer}
+use Rattle.qr_bits.specs.{Segmentation.{segment_bits, bits, Covers, HasFit}, Stream.CountsFit, Padding.capacity_of}
 use Rattle.qr_bits.proofs.lemmas.segment.SegmentLemmas.{segment_least, bits_least}
 use Rattle.qr_bits.proofs.lemmas.segment.CoverLemmas.{CoversBy, covers_suits, covers_by, by_covers}
 
@@ -57,13 +60,22 @@ short_large v xs [] h c few = omega (arith, ap length c)
 short_large v xs (s ∷ ss) h c few =
     omega (arith, segment_least v s, head_least v s.mode h, bits_least v (drop s.len xs) ss (covers_suits (drop s.len xs) ss (by_covers _ _ c.3)), length-drop s.len xs, c.1)
 
--- An input that fits a symbol has at most 7,089 bytes.
-pub fitting_short : (v : ℕ) (l : Level) (r : Rule) (xs : List ℕ) → 1 ≤ v → v ≤ 40 → HasFit v r xs (capacity_of v l) → length xs ≤ 7089
-fitting_short v l r xs a b fit =
+-- If segments fit a symbol, they contain at most 7,089 characters.
+pub covered_short : (v : ℕ) (l : Level) (ys : List ℕ) (segs : List Segment) → 1 ≤ v → v ≤ 40 → Covers ys segs → bits v segs ≤ capacity_of v l → length ys ≤ 7089
+covered_short v l ys segs a b c few =
     search (arith, data_range, groups, bits_least, covers_suits, short_large, covers_by, capacity_most)
 
-fitting_few : (v : ℕ) (l : Level) (r : Rule) (xs : List ℕ) → 1 ≤ v → v ≤ 40 → HasFit v r xs (capacity_of v l) → 10 * length xs ≤ 24 * most_data v
-fitting_few v l r xs a b fit = search (arith, data_range, bits_least, covers_suits)
+-- An input that fits a symbol has at most 7,089 bytes.
+pub fitting_short : (i : Interpretation) (v : ℕ) (l : Level) (r : Rule) (xs : List ℕ) → 1 ≤ v → v ≤ 40 → HasFit i v r xs (capacity_of v l) → length xs ≤ 7089
+fitting_short i v l r xs a b fit =
+    omega (arith, characters-longer i xs fit.0, covered_short v l (characters_in i xs fit.0) _ a b fit.1.1 fit.2)
+
+covered_few : (v : ℕ) (l : Level) (ys : List ℕ) (segs : List Segment) → 1 ≤ v → v ≤ 40 → Covers ys segs → bits v segs ≤ capacity_of v l → 10 * length ys ≤ 24 * most_data v
+covered_few v l ys segs a b c few = search (arith, data_range, bits_least, covers_suits)
+
+fitting_few : (i : Interpretation) (v : ℕ) (l : Level) (r : Rule) (xs : List ℕ) → 1 ≤ v → v ≤ 40 → HasFit i v r xs (capacity_of v l) → 10 * length xs ≤ 24 * most_data v
+fitting_few i v l r xs a b fit =
+    omega (arith, characters-longer i xs fit.0, covered_few v l (characters_in i xs fit.0) _ a b fit.1.1 fit.2)
 
 no_more : ℕ → Level → ℕ → Bool
 no_more m l i = leb (data_codewords_of (i + 1) l) (data_codewords_of m l)
@@ -92,7 +104,7 @@ pub capacity_26 : (v : ℕ) (l : Level) → 1 ≤ v → v ≤ 26 → capacity_of
 capacity_26 v l a b = last_most 26 v l (all_26 l) a b
 
 -- An input that fits a version up to 26 has at most 3,288 bytes.
-pub fitting_medium : (v : ℕ) (l : Level) (r : Rule) (xs : List ℕ) → 1 ≤ v → v ≤ 26 → HasFit v r xs (capacity_of v l) → length xs ≤ 3288
-fitting_medium v l r xs a b fit =
+pub fitting_medium : (i : Interpretation) (v : ℕ) (l : Level) (r : Rule) (xs : List ℕ) → 1 ≤ v → v ≤ 26 → HasFit i v r xs (capacity_of v l) → length xs ≤ 3288
+fitting_medium i v l r xs a b fit =
     let most : most_data v ≤ 1370 = search (arith, groups) in
-    omega (arith, most, fitting_few v l r xs a (omega arith) fit)
+    omega (arith, most, fitting_few i v l r xs a (omega arith) fit)

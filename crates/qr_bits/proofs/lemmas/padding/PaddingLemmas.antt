@@ -5,7 +5,6 @@ use Rattle.qr_layout.specs.{declared.level.Level.Level, Blocks.data_codewords_of
 use Rattle.qr_bits.specs.{declared.segment.Segment.Segment, declared.header.Header.Header, Bits.field, Bits.bits_of}
 use Rattle.qr_bits.specs.{Header.header_stream, Header.header_bits, Stream.IsStream}
 use Rattle.qr_bits.specs.declared.interpretation.Interpretation.{Interpretation}
-use Rattle.qr_bits.specs.declared.interpretation.Interpretation.TheVariants as written
 use Rattle.qr_bits.specs.Interpretation.{interpretation_stream, interpretation_bits, designator, designator_codewords}
 use Rattle.qr_bits.proofs.lemmas.bits.BitLemmas.{length-field, length-bits_of, bits_of-append, field-zero}
 

@@ -1,5 +1,5 @@
 -- A parse reads back every stream of items.
-use Rattle.std.proofs.Common.{◌≡◌, ℕ, ◌+◌, ◌-◌, ◌*◌, ◌/◌, ◌%◌, ◌^◌, ◌<◌, ◌≤◌, Bool, true, false, ◌==◌, nat_le, nat_lt, All, List, [], ◌∷◌, ◌++◌, length, take, drop, Ok, refl, sym, ap, ⊎_elim, arith, lit<, append_assoc, subst, inl, inr, ◌&&◌, zero, suc, length-append}
+use Rattle.std.proofs.Common.{◌≡◌, ℕ, ◌+◌, ◌-◌, ◌*◌, ◌/◌, ◌%◌, ◌^◌, ◌<◌, ◌≤◌, Bool, true, false, ◌==◌, nat_le, nat_lt, All, List, [], ◌∷◌, ◌++◌, length, take, drop, Ok, refl, sym, ⊎_elim, arith, lit<, append_assoc, subst, inl, inr, ◌&&◌, zero, suc, length-append}
 use Rattle.std.proofs.lemmas.Bool.{le-ltb, lt-ltb, lt-leb, ltb-true, ltb-false, cases_Bool, eqb-true, and_parts}
 use Rattle.std.proofs.lemmas.List.{length-take-le, take-append-drop}
 use Rattle.std.proofs.lemmas.List.Elements.{All-nil, All-append, All-take, All-drop}
@@ -7,7 +7,7 @@ use Rattle.std.proofs.Math.Seq.{take-append_seam, drop-append_seam}
 use Rattle.qr_bits.specs.declared.interpretation.{Designator.Designator, Item.Item, Item.TheVariants.{Data, Eci, Fnc1First, Fnc1Second}}
 use Rattle.qr_bits.specs.declared.fault.ParseFault.TheVariants.{BadValue}
 use Rattle.qr_bits.specs.{Bits.{field, value}, Interpretation.{is_application_indicator, may_follow}}
-use Rattle.qr_bits.specs.Stream.{AreItems, DesignatorFits, designator_of, items_stream, segment_stream}
+use Rattle.qr_bits.specs.Stream.{AreItems, DesignatorFits, designator_of, items_stream}
 use Rattle.qr_bits.specs.Parsing.{leading_number, segment_at, application_at, designator_at, ends, item_at, items_at, items_of}
 use Rattle.qr_bits.proofs.lemmas.stream.StreamLemmas.{drop-field, field_read, read_field}
 use Rattle.qr_bits.proofs.lemmas.parsing.{ParsingLemmas.{bind_ok, guard_ok, same_ok, ended_empty, not_ended, item_shorter, items_end, items_step}, StreamReadingLemmas.{IsSegment, segment_takes, item_again, number_again, number_takes, opens, other_opens}}

@@ -7,7 +7,7 @@ use Rattle.std.proofs.Math.Seq.{take-append_seam, drop-append_seam}
 use borrow.Author.Tests.{leb-true}
 use Rattle.qr_bits.specs.declared.{modes.Mode.Mode, segment.Segment.Segment, header.Header.Header}
 use Rattle.qr_bits.specs.{Bits.{field, value}, Header.{header_indicator, header_stream, HeaderFits}}
-use Rattle.qr_bits.specs.declared.interpretation.{Interpretation.Interpretation, Item.Item, Item.TheVariants.{Data, Eci, Fnc1First}}
+use Rattle.qr_bits.specs.declared.interpretation.{Interpretation.Interpretation, Item.TheVariants.{Data, Eci, Fnc1First}}
 use Rattle.qr_bits.specs.declared.interpretation.Interpretation.TheVariants as written
 use Rattle.qr_bits.specs.Interpretation.{plain, may_follow, meant_bytes, designator, designator_codewords, interpretation_stream, InterpretationFits, items_in}
 use Rattle.qr_bits.specs.Modes.{character_count, count_width, byte_count, payload_bits, suits, indicator}

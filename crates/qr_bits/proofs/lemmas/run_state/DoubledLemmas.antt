@@ -1,6 +1,6 @@
 -- A `%` that alphanumeric mode doubles takes two steps, so that what is known of modes of characters stands for modes of
 -- bytes.
-use Rattle.std.proofs.Common.{◌≡◌, ℕ, ◌+◌, Bool, true, false, ◌==◌, ◌&&◌, cond, List, [], ◌∷◌, ◌++◌, length, reverse, refl, ap, sym, ⊎_elim, arith}
+use Rattle.std.proofs.Common.{◌≡◌, ℕ, ◌+◌, Bool, true, false, ◌==◌, ◌&&◌, cond, List, [], ◌∷◌, refl, ⊎_elim, arith}
 use Rattle.std.proofs.lemmas.Bool.{cases_Bool}
 use Rattle.qr_bits.specs.declared.{modes.Mode.Mode, run_state.RunState.RunState}
 use Rattle.qr_bits.specs.Segmentation.{rank}
@@ -8,7 +8,6 @@ use Rattle.std.proofs.Common.{IsTrue, ◌≤◌}
 use Rattle.qr_bits.specs.declared.modes.Rule.{Rule}
 use Rattle.qr_bits.specs.Segmentation.{IsNotAfter}
 use Rattle.qr_bits.specs.Steps.RunState.{byte_cost, cost_of, state_after, begins_with_pair, may_take, may_end}
-use Rattle.qr_bits.proofs.lemmas.run_state.BestLemmas.{same_rank}
 
 -- the byte is `%`, in alphanumeric mode
 abbrev pub twice : ℕ → Mode → Bool

@@ -5,6 +5,7 @@ use Rattle.std.{proofs.{lemmas.List.Elements.{All-head, All-tail}, Math.Seq.drop
 use Rattle.qr_bits.proofs.lemmas.segment.CoverLemmas.{CoversBy, suits-by, covers_by, by_covers}
 use Rattle.qr_bits.specs.declared.modes.{Mode.Mode, Mode.TheVariants.Numeric, Rule.Rule}
 use Rattle.qr_bits.specs.{declared.segment.Segment.Segment, Stream.Suits, Modes.{count_width, payload_bits, suits}}
+use Rattle.qr_bits.specs.declared.interpretation.Interpretation.{Interpretation}
 use Rattle.qr_bits.specs.Segmentation.{segment_bits, bits, rank, Covers, IsNotAfter, IsLeastSegmentation, HasFit}
 
 -- a count field has at most 16 bits
@@ -76,10 +77,10 @@ unfolding Suits
 bits_least v xs [] h = omega (arith, ap length h)
 bits_least v xs (s ∷ ss) h = omega (arith, segment_least v s, bits_least v (drop s.len xs) ss h.2, length-drop s.len xs, h.0)
 
--- The least segmentation covers the bytes, and fits exactly if some valid assignment fits.
-pub least_fits : (v : ℕ) (r : Rule) (xs : List ℕ) (segs : List Segment) → IsLeastSegmentation v r xs segs
-    → Covers xs segs × ((n : ℕ) → HasFit v r xs n ↔ (bits v segs ≤ n))
-least_fits v r xs segs h = search arith
+-- The segments of the least segmentation cover its characters, and fit exactly if some valid assignment fits.
+pub least_fits : (i : Interpretation) (v : ℕ) (r : Rule) (xs ys : List ℕ) (segs : List Segment) → IsLeastSegmentation i v r xs ys segs
+    → Covers ys segs × ((n : ℕ) → HasFit i v r xs n ↔ (bits v segs ≤ n))
+least_fits i v r xs ys segs h = search arith
 
 best-one : (ms ks : List Mode) → IsNotAfter ms ks → IsNotAfter ks ms → ms ≡ ks
 best-one [] [] a b = refl
@@ -92,5 +93,6 @@ best-one (m ∷ ms) (k ∷ ks) a b =
     ]
 
 -- There is only one least segmentation.
-pub segmentation-one : (v : ℕ) (r : Rule) (xs : List ℕ) (ss ts : List Segment) → IsLeastSegmentation v r xs ss → IsLeastSegmentation v r xs ts → ss ≡ ts
-segmentation-one v r xs ss ts a b = search (arith, best-one)
+pub segmentation-one : (i : Interpretation) (v : ℕ) (r : Rule) (xs ys zs : List ℕ) (ss ts : List Segment) → IsLeastSegmentation i v r xs ys ss → IsLeastSegmentation i v r xs zs ts
+    → (ys ≡ zs) × (ss ≡ ts)
+segmentation-one i v r xs ys zs ss ts a b = search (arith, best-one)

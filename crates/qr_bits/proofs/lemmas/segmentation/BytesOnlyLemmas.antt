@@ -4,7 +4,10 @@ use Rattle.std.proofs.Math.Nat.{le_refl}
 use Rattle.qr_bits.proofs.lemmas.best_modes.ChoiceLemmas.{byte_used}
 use Rattle.std.{proofs.lemmas.List.take_all, proofs.lemmas.List.length-take-le, proofs.lemmas.Bool.cases_lt, specs.List.list_all}
 use Rattle.qr_bits.specs.declared.modes.{Mode.Mode, Mode.TheVariants.Byte, Rule.Rule, Rule.TheVariants.BytesOnly}
-use Rattle.qr_bits.specs.Segmentation.{bits, IsAssignment, IsNotAfter, IsLeastSegmentation, IsLongestFit}
+use Rattle.qr_bits.specs.declared.interpretation.Interpretation.{Interpretation}
+use Rattle.qr_bits.specs.Interpretation.{characters_in, doubled}
+use Rattle.qr_bits.proofs.lemmas.interpretation.WrittenLemmas.{characters-bytes, doubled-bytes, length-written}
+use Rattle.qr_bits.specs.Segmentation.{bits, HasFit, IsAssignment, IsNotAfter, IsLeastSegmentation, IsLongestFit}
 use Rattle.qr_bits.specs.{Modes.may_use, Modes.count_width, Steps.Segmentation.one_segment}
 use Rattle.qr_bits.proofs.lemmas.segment.{CoverLemmas.one_covers, SegmentLemmas.covers_all, SegmentLemmas.least_fits}
 use Rattle.qr_bits.proofs.lemmas.segmentation.BackLemmas.{sum_by-runs_of, runs_of-replicate, all_used}
@@ -18,45 +21,59 @@ not_after_self : (ms : List Mode) → IsNotAfter ms ms
 not_after_self [] = tt
 not_after_self (m ∷ ms) = inr (refl, not_after_self ms)
 
-one_assignment : (xs : List ℕ) (ks : List Mode) → IsAssignment BytesOnly xs ks → ks ≡ replicate (length xs) Byte
-one_assignment xs ks h = search (arith, only_bytes, covers_all, sum_by-runs_of)
+-- an assignment has a mode for each byte
+pub assignment-length : (i : Interpretation) (r : Rule) (xs : List ℕ) (ks : List Mode) → IsAssignment i r xs ks → length ks ≡ length xs
+assignment-length i r xs ks h =
+    omega (arith, length-written i xs ks, (covers_all (characters_in i xs ks) _ h.1).1, sum_by-runs_of (doubled i xs ks))
+
+one_assignment : (i : Interpretation) (xs : List ℕ) (ks : List Mode) → IsAssignment i BytesOnly xs ks → ks ≡ replicate (length xs) Byte
+one_assignment i xs ks h = rw (← assignment-length i BytesOnly xs ks h) (only_bytes ks h.0)
+
+-- byte mode for each byte is an assignment
+bytes_assigned : (i : Interpretation) (r : Rule) (xs : List ℕ) → IsAssignment i r xs (replicate (length xs) Byte)
+bytes_assigned i r xs =
+    rw (characters-bytes i xs (length xs), doubled-bytes i xs (length xs)) (search (arith, all_used, byte_used, runs_of-replicate, one_covers))
 
 -- If only byte mode may be used, the one segment of all bytes is the least segmentation.
-pub bytes_least : (v : ℕ) (xs : List ℕ) → IsLeastSegmentation v BytesOnly xs (one_segment Byte (length xs))
-bytes_least v xs = (
+pub bytes_least : (i : Interpretation) (v : ℕ) (xs : List ℕ) → IsLeastSegmentation i v BytesOnly xs xs (one_segment Byte (length xs))
+bytes_least i v xs = (
   replicate (length xs) Byte,
   record {
-    assignment = search (arith, all_used, runs_of-replicate, one_covers);
-    least = λ ks h. search (arith, one_assignment);
-    first = λ ks h _. search (arith, one_assignment, not_after_self);
+    assignment = bytes_assigned i BytesOnly xs;
+    least = λ ks h. rw (one_assignment i xs ks h) (le_refl _);
+    first = λ ks h _. rw (one_assignment i xs ks h) (not_after_self _);
   },
-  sym (runs_of-replicate Byte (length xs)),
+  rw (doubled-bytes i xs (length xs)) (sym (runs_of-replicate Byte (length xs))),
+  sym (characters-bytes i xs (length xs)),
 )
 
 bits-most : (v n : ℕ) → bits v (one_segment Byte n) ≤ 4 + count_width v Byte + 8 * n
 bits-most v n = grind arith
 
 -- The longest prefix that fits as one byte segment is the longest prefix that fits.
-pub bytes_longest : (v : ℕ) (xs : List ℕ) (room n k : ℕ) → n ≡ min (length xs) k → 4 + count_width v Byte + 8 * k ≤ room → room < 4 + count_width v Byte + 8 * (k + 1)
-    → IsLongestFit v BytesOnly xs room n
-bytes_longest v xs room n k e fits most =
+pub bytes_longest : (i : Interpretation) (v : ℕ) (xs : List ℕ) (room n k : ℕ) → n ≡ min (length xs) k → 4 + count_width v Byte + 8 * k ≤ room → room < 4 + count_width v Byte + 8 * (k + 1)
+    → IsLongestFit i v BytesOnly xs room n
+bytes_longest i v xs room n k e fits most =
     let inside : n ≤ length xs = omega arith in
     let len = length-take-le n xs inside in
     record {
       inside = inside;
-      fits = ((least_fits v BytesOnly (take n xs) _ (bytes_least v (take n xs))).1 room).1 (rw len (omega (arith, bits-most v n)));
+      fits = ((least_fits i v BytesOnly (take n xs) _ _ (bytes_least i v (take n xs))).1 room).1 (rw len (omega (arith, bits-most v n)));
       longest = λ j h fit.
           ⊎_elim (λ (none : j < 1). omega arith) (λ (some : 1 ≤ j).
-          let few = ((least_fits v BytesOnly (take j xs) _ (bytes_least v (take j xs))).1 room).0 fit in
+          let few = ((least_fits i v BytesOnly (take j xs) _ _ (bytes_least i v (take j xs))).1 room).0 fit in
           grind (arith, length-take-le)) (cases_lt j 1);
     }
 
--- An input that fits in byte mode alone fits under each rule, and so is its own longest prefix that fits.
-pub whole_longest : (v : ℕ) (r : Rule) (xs : List ℕ) (room : ℕ) → 4 + count_width v Byte + 8 * length xs ≤ room → IsLongestFit v r xs room (length xs)
-whole_longest v r xs room few =
-    let is : IsAssignment r xs (replicate (length xs) Byte) = search (arith, all_used, byte_used, runs_of-replicate, one_covers) in
-    record {
-      inside = le_refl (length xs);
-      fits = rw (take_all (length xs) xs (le_refl (length xs))) (replicate (length xs) Byte, is, rw (runs_of-replicate Byte (length xs)) (omega (arith, bits-most v (length xs))));
-      longest = λ k h _. h;
-    }
+-- An input fits where it fits in byte mode alone.
+pub bytes_fit : (i : Interpretation) (v : ℕ) (r : Rule) (xs : List ℕ) (room : ℕ) → 4 + count_width v Byte + 8 * length xs ≤ room → HasFit i v r xs room
+bytes_fit i v r xs room few =
+    (replicate (length xs) Byte, bytes_assigned i r xs, rw (doubled-bytes i xs (length xs), runs_of-replicate Byte (length xs)) (omega (arith, bits-most v (length xs))))
+
+-- An input that fits in byte mode alone is its own longest prefix that fits.
+pub whole_longest : (i : Interpretation) (v : ℕ) (r : Rule) (xs : List ℕ) (room : ℕ) → 4 + count_width v Byte + 8 * length xs ≤ room → IsLongestFit i v r xs room (length xs)
+whole_longest i v r xs room few = record {
+  inside = le_refl (length xs);
+  fits = rw (take_all (length xs) xs (le_refl (length xs))) (bytes_fit i v r xs room few);
+  longest = λ k h _. h;
+}

@@ -4,9 +4,13 @@ use Rattle.std.proofs.lemmas.Bool.Decides.{nat_tests}
 use Rattle.qr_bits.specs.declared.modes.{Mode.Mode, Mode.TheVariants.Numeric, Rule.Rule}
 use Rattle.qr_bits.specs.{declared.segment.Segment.Segment, Steps.Segmentation.one_segment}
 use Rattle.qr_bits.specs.Modes.{is_kanji_pair, suits, may_use, count_width, payload_bits}
+use Rattle.qr_bits.specs.declared.interpretation.Interpretation.{Interpretation}
+use Rattle.qr_bits.specs.Interpretation.{characters_in}
+use Rattle.qr_bits.proofs.lemmas.interpretation.WrittenLemmas.{characters-digits, characters-longer, doubled-digits}
+use Rattle.qr_bits.proofs.lemmas.segmentation.BytesOnlyLemmas.{assignment-length}
 use Rattle.qr_bits.specs.Segmentation.{bits, IsNotAfter, IsLeastSegmentation}
-use Rattle.qr_bits.proofs.lemmas.segment.{CoverLemmas.{CoversBy, covers_by, one_covers}, SegmentLemmas.covers_all}
-use Rattle.qr_bits.proofs.lemmas.segmentation.BackLemmas.{sum_by-runs_of, runs_of-replicate, all_used}
+use Rattle.qr_bits.proofs.lemmas.segment.{CoverLemmas.{CoversBy, covers_by, one_covers}}
+use Rattle.qr_bits.proofs.lemmas.segmentation.BackLemmas.{runs_of-replicate, all_used}
 
 digits_bits : (n : ℕ) → payload_bits Numeric n ≡ (10 * n + 2) / 3
 digits_bits n = grind (arith, nat_tests)
@@ -33,14 +37,23 @@ digits_first (suc n) [] h = absurd (omega arith)
 digits_first (suc n) (Numeric ∷ ks) h = inr (refl, digits_first n ks (omega arith))
 digits_first (suc n) (_ ∷ ks) h = inl (lit< tt)
 
+one_segment-more : (v k n : ℕ) → k ≤ n → bits v (one_segment Numeric k) ≤ bits v (one_segment Numeric n)
+one_segment-more v zero n h = omega arith
+one_segment-more v (suc k) zero h = absurd (omega arith)
+one_segment-more v (suc k) (suc n) h = omega (arith, digits_bits (suc k), digits_bits (suc n))
+
 -- If all bytes are digits, the one segment of all digits is the least segmentation.
-pub digits_least : (v : ℕ) (r : Rule) (xs : List ℕ) → may_use r Numeric ≡ true → IsTrue (suits Numeric xs) → IsLeastSegmentation v r xs (one_segment Numeric (length xs))
-digits_least v r xs u h = (
-  replicate (length xs) Numeric,
-  record {
-    assignment = search (arith, all_used, runs_of-replicate, one_covers);
-    least = search (arith, runs_of-replicate, digits_fewest, covers_by);
-    first = search (arith, digits_first, covers_all, sum_by-runs_of);
-  },
-  sym (runs_of-replicate Numeric (length xs)),
-)
+pub digits_least : (i : Interpretation) (v : ℕ) (r : Rule) (xs : List ℕ) → may_use r Numeric ≡ true → IsTrue (suits Numeric xs) → IsLeastSegmentation i v r xs xs (one_segment Numeric (length xs))
+digits_least i v r xs u h =
+    let written = characters-digits i xs (length xs) in
+    let modes = doubled-digits i xs (length xs) in (
+      replicate (length xs) Numeric,
+      record {
+        assignment = rw (written, modes) (search (arith, all_used, runs_of-replicate, one_covers));
+        least = λ ks k. rw (modes, runs_of-replicate Numeric (length xs))
+            (omega (arith, one_segment-more v (length xs) (length (characters_in i xs ks)) (characters-longer i xs ks), digits_fewest v (characters_in i xs ks) _ (covers_by _ _ k.1)));
+        first = λ ks k _. digits_first (length xs) ks (omega (arith, assignment-length i r xs ks k));
+      },
+      rw modes (sym (runs_of-replicate Numeric (length xs))),
+      sym written,
+    )

@@ -1,5 +1,6 @@
 use Rattle.std.proofs.Common.{◌≡◌, ℕ, ◌+◌, ◌≤◌, ◌<◌, [], ◌∷◌, take, length, get_or, arith, ⊎_elim}
 use Rattle.std.proofs.{lemmas.Bool.cases_lt, Math.Nat.le_refl}
+use Rattle.qr_bits.specs.declared.interpretation.Interpretation.TheVariants.{Default}
 use Rattle.qr_bits.specs.{Modes.is_kanji_pair, Steps.RunState.swapped, Steps.BestModes.in_state, Steps.BestModes.IsRow}
 use Rattle.qr_bits.proofs.lemmas.best_modes.TableLemmas.{best_none, small_more, small_row, zeros, zeros_small}
 use Rattle.qr_bits.proofs.lemmas.longest_prefix.MirrorLemmas.{empty_fits, none_longer, prefix_more, prefix_fits, prefix_least}
@@ -18,7 +19,7 @@ last i k l h = omega arith
 pub loop-i-init : goal.loop-i-init
 loop-i-init c = record {
   inside = le_refl 0;
-  fits = empty_fits c.args.version c.args.rule _;
+  fits = empty_fits Default c.args.version c.args.rule _;
   longest = λ k h fit. h;
   small = zeros_small _;
   best = ([], best_none c.args.version c.args.rule (swapped is_kanji_pair) _ zeros);

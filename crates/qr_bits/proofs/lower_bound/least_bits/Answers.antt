@@ -4,7 +4,7 @@ use Rattle.qr_bits.proofs.lower_bound.least_bits.Goals as goal
 
 pub returns-clause-least : goal.returns-clause-least
 unfolding least_bits
-returns-clause-least c v room r fit =
-    let i = c.loop-byte.invariant in
-    let all = i.so_far ∙ ap (sum_by least_sixths) (take_all c.loop-byte.byte-index c.args.input.now (omega arith)) in
-    omega (arith, all, least_held v r c.args.input.now room fit)
+returns-clause-least c i v room r fit =
+    let inv = c.loop-byte.invariant in
+    let all = inv.so_far ∙ ap (sum_by least_sixths) (take_all c.loop-byte.byte-index c.args.input.now (omega arith)) in
+    omega (arith, all, least_held i v r c.args.input.now room fit)

@@ -36,4 +36,4 @@ returns-clause-ok c =
     let i = c.loop-modes.invariant in
     let none : c.loop-modes.table.items ≡ [] = nil_from_length _ (sym c.loop-modes.table.ok.0 ∙ c.in_default.ensures.cases.0) in
     let whole : i.modes ≡ follow Start (reverse c.in_ok-table.table.items) = sym (append-nil i.modes) ∙ rw none at i.led in
-    (i.modes, rw whole (assignment_from_table c.args.version c.args.rule c.args.input.now (reverse c.in_ok-table.table.items) c.in_ok-table.ensures.1), c.in_ok-push_segment-2.ensures ∙ i.runs)
+    (i.modes, rw whole (assignment_from_table c.args.version c.args.rule c.args.input.now (reverse c.in_ok-table.table.items) c.in_ok-table.ensures.1), c.in_ok-push_segment-2.ensures ∙ i.runs, refl)

@@ -6,6 +6,6 @@ pub returns : goal.returns
 returns c =
     let ds = c.args.damaged.now in
     record {
-      series = λ v l rule x ss least most s near. mended-to (λ b. b.items) ds x c.mend_series.result (damaged-joined ds (squares_of ss) x near (series-joined x l rule v ss least most s)) c.mend_series.ensures;
+      series = λ v l rule how x ss least most may s near. mended-to (λ b. b.items) ds x c.mend_series.result (damaged-joined ds (squares_of ss) x near (series-joined x l rule how v ss least most may s)) c.mend_series.ensures;
       joined = λ whole x s near. mended-to (λ b. b.items) ds x c.mend_series.result (damaged-joined ds whole x near s) c.mend_series.ensures;
     }

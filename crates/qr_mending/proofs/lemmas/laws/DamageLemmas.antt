@@ -1,10 +1,12 @@
 -- A damaged symbol of an input is mended to the input.
-use Rattle.qr_bits.specs.declared.interpretation.Interpretation.TheVariants.{Default}
-use Rattle.qr_bits.specs.Parsing.{plain_content}
+use Rattle.qr_bits.specs.declared.interpretation.Interpretation.{Interpretation}
+use Rattle.qr_bits.specs.Interpretation.{MayWrite}
+use Rattle.qr_symbol.proofs.Facts.{symbol-parsed}
+use Rattle.qr_symbol.specs.Reading.{interpreted_content}
 use Rattle.std.proofs.Common.{◌≡◌, ℕ, ◌≤◌, List, refl, sym, ◌∙◌, ap, arith}
 use Rattle.std.specs.Prelude.{Result, Ok, Err, None, IfOk, MatchResult}
 use Rattle.{qr_layout.specs.declared.level.Level.Level, qr_matrix.specs.Grid.Grid}
-use Rattle.qr_bits.{specs.{declared.modes.Rule.Rule, Parsing.Content}, proofs.Facts.data_plain}
+use Rattle.qr_bits.specs.{declared.modes.Rule.Rule, Parsing.Content}
 use Rattle.qr_symbol.specs.{Symbol.grid_of, declared.fault.ReadFault.ReadFault, Encoding.IsSymbol}
 use Rattle.qr_symbol.specs.declared.fault.ReadFault.TheVariants as fault
 use Rattle.qr_mending.{specs.declared.mending.Mended.Mended, proofs.lemmas.laws.SoundnessLemmas.wrong-one}
@@ -23,9 +25,9 @@ symbol-mended-as unknown g v l mask content changed (Ok m) h k =
 symbol-mended-as unknown g v l mask content changed (Err e) h k = mended-not-refused unknown g v l mask content changed
     e h k
 
-module _ (unknown : Grid) (smallest : ℕ) (l : Level) (rule : Rule) (x : List ℕ) (v mask : ℕ) (g h : Grid)
+module _ (unknown : Grid) (smallest : ℕ) (l : Level) (rule : Rule) (how : Interpretation) (x : List ℕ) (v mask : ℕ) (g h : Grid)
     (changed : List ℕ)
-    (least : 1 ≤ smallest) (s : IsSymbol smallest l rule x v mask g) (side : h.side ≡ g.side)
+    (least : 1 ≤ smallest) (may : MayWrite how x) (s : IsSymbol smallest l rule how x v mask g) (side : h.side ≡ g.side)
     (f : HasFormat unknown v h l mask)
     (d : HoldsDamaged unknown v l mask h s.made.message changed) where
   -- a damaged symbol of an input is a damaged form of its message
@@ -41,11 +43,11 @@ module _ (unknown : Grid) (smallest : ℕ) (l : Level) (rule : Rule) (x : List �
   }
 
   -- a damaged symbol of an input can be read with its damage mended, as the input
-  pub symbol-mended : IsMendedReading unknown h v l mask (plain_content None s.made.segments x) changed
+  pub symbol-mended : IsMendedReading unknown h v l mask (interpreted_content how None s.made.segments x) changed
   symbol-mended = record {
     message = s.made.message;
     form = symbol-form;
-    parsed = data_plain v l x s.made.segments None s.made.message s.made.written;
+    parsed = symbol-parsed v l rule how x None mask g may s.made;
   }
 
   -- the same, with the numbers of changed codewords and wrong modules
@@ -54,7 +56,7 @@ module _ (unknown : Grid) (smallest : ℕ) (l : Level) (rule : Rule) (x : List �
       IfOk r (λ m. m.wrong_format_modules ≡ wrong_format_modules unknown h m.level m.mask) →
       IfOk r (λ m. HasWrongModules unknown h m.version m.level m.mask m.changed.items m.wrong_modules) →
       MatchResult r (λ m. (m.version ≡ v) × (m.level ≡ l) × (m.mask ≡ mask)
-      × (m.parsed ≡ plain_content None s.made.segments x) × (m.changed.items ≡ changed)
+      × (m.parsed ≡ interpreted_content how None s.made.segments x) × (m.changed.items ≡ changed)
       × (m.wrong_modules ≡ wrong_modules unknown h g) × (m.wrong_format_modules ≡ wrong_format_modules unknown h l mask)) (λ e. e ≡ fault.Memory)
   symbol-counted (Ok m) k format modules =
       let w = mended-reading-one unknown h m.version v m.level l m.mask mask m.parsed _ m.changed.items changed k

@@ -4,6 +4,7 @@ use Rattle.std.proofs.lemmas.List.{length-map, Elements.{All-cons, All-nil}}
 use Rattle.std.specs.List.{All}
 use Rattle.qr_layout.specs.{Version.side_of, Role.{finder_ring, pattern_colour, role_of}, declared.level.Level.Level}
 use Rattle.qr_bits.specs.{declared.header.Header.Header, declared.modes.Rule.Rule}
+use Rattle.qr_bits.specs.declared.interpretation.Interpretation.{Interpretation}
 use Rattle.qr_matrix.specs.Grid.{Grid, colour, light}
 use Rattle.qr_matrix.proofs.Facts.{colour-square, square-same}
 use Rattle.qr_symbol.specs.{Encoding.{IsSymbol, IsSymbolAt}, Series.{AreSymbolsFrom, IsSeries, squares_of}, Symbol.{colour_of, grid_of}, declared.symbol.Symbol.Symbol}
@@ -47,33 +48,33 @@ begins v mask l cw some most = record {
 }
 
 -- that of a symbol of an input
-begins-symbol : (v : ℕ) (l : Level) (rule : Rule) (x : List ℕ) (h : Option Header) (mask : ℕ) (g : Grid) → 1 ≤ v → v ≤ 40 → IsSymbolAt v l rule x h mask g → BeginsAsSymbol g
-begins-symbol v l rule x h mask g some most made = subst BeginsAsSymbol (sym made.drawn) (begins v mask l made.codewords some most)
+begins-symbol : (v : ℕ) (l : Level) (rule : Rule) (how : Interpretation) (x : List ℕ) (h : Option Header) (mask : ℕ) (g : Grid) → 1 ≤ v → v ≤ 40 → IsSymbolAt v l rule how x h mask g → BeginsAsSymbol g
+begins-symbol v l rule how x h mask g some most made = subst BeginsAsSymbol (sym made.drawn) (begins v mask l made.codewords some most)
 
 -- the squares of the symbols of parts
-begin-parts : (v : ℕ) (l : Level) (rule : Rule) (last parity k : ℕ) (ps : List (List ℕ)) (ss : List Symbol) → 1 ≤ v → v ≤ 40 → AreSymbolsFrom v l rule last parity k ps ss → All BeginsAsSymbol (squares_of ss)
+begin-parts : (v : ℕ) (l : Level) (rule : Rule) (how : Interpretation) (last parity k : ℕ) (ps : List (List ℕ)) (ss : List Symbol) → 1 ≤ v → v ≤ 40 → AreSymbolsFrom v l rule how last parity k ps ss → All BeginsAsSymbol (squares_of ss)
 unfolding AreSymbolsFrom
-begin-parts v l rule last parity k [] [] some most h = All-nil BeginsAsSymbol
-begin-parts v l rule last parity k [] (s ∷ ss) some most h = absurd h
-begin-parts v l rule last parity k (p ∷ ps) [] some most h = absurd h
-begin-parts v l rule last parity k (p ∷ ps) (s ∷ ss) some most h =
-    All-cons BeginsAsSymbol s.matrix (squares_of ss) (begins-symbol v l rule p _ s.mask s.matrix some most h.0.made) (begin-parts v l rule last parity (k + 1) ps ss some most h.1)
+begin-parts v l rule how last parity k [] [] some most h = All-nil BeginsAsSymbol
+begin-parts v l rule how last parity k [] (s ∷ ss) some most h = absurd h
+begin-parts v l rule how last parity k (p ∷ ps) [] some most h = absurd h
+begin-parts v l rule how last parity k (p ∷ ps) (s ∷ ss) some most h =
+    All-cons BeginsAsSymbol s.matrix (squares_of ss) (begins-symbol v l rule how p _ s.mask s.matrix some most h.0.made) (begin-parts v l rule how last parity (k + 1) ps ss some most h.1)
 
 -- the squares of a series
-begin-series : (v : ℕ) (l : Level) (rule : Rule) (x : List ℕ) (ss : List Symbol) → 1 ≤ v → v ≤ 40 → IsSeries v l rule x ss → All BeginsAsSymbol (squares_of ss)
-begin-series v l rule x ss some most (inl h) =
+begin-series : (v : ℕ) (l : Level) (rule : Rule) (how : Interpretation) (x : List ℕ) (ss : List Symbol) → 1 ≤ v → v ≤ 40 → IsSeries v l rule how x ss → All BeginsAsSymbol (squares_of ss)
+begin-series v l rule how x ss some most (inl h) =
     let P : List Symbol → Type 0 = λ ts. All BeginsAsSymbol (squares_of ts) in
-    subst P (sym h.alone) (All-cons BeginsAsSymbol h.symbol.matrix [] (begins-symbol v l rule x None h.symbol.mask h.symbol.matrix some most h.made.made) (All-nil BeginsAsSymbol))
-begin-series v l rule x ss some most (inr h) = begin-parts v l rule _ _ 0 h.parts ss some most h.made
+    subst P (sym h.alone) (All-cons BeginsAsSymbol h.symbol.matrix [] (begins-symbol v l rule how x None h.symbol.mask h.symbol.matrix some most h.made.made) (All-nil BeginsAsSymbol))
+begin-series v l rule how x ss some most (inr h) = begin-parts v l rule how _ _ 0 h.parts ss some most h.made
 
 -- squares that all have this side
 one-side : (side : ℕ) (squares : List Grid) → 0 < length squares → All (λ g. g.side ≡ side) squares → HaveOneSide squares
 one-side side squares some all k d lt = all k d lt ∙ sym (all 0 (light 0) some)
 
 -- the drawings of a symbol
-pub symbol-drawing : (kind : Drawing) (margin smallest : ℕ) (l : Level) (rule : Rule) (x : List ℕ) (v mask : ℕ) (g : Grid)
-    → margin ≤ 255 → 1 ≤ smallest → IsSymbol smallest l rule x v mask g → IsDrawingOf kind margin (g ∷ []) (drawn kind margin (g ∷ []))
-symbol-drawing kind margin smallest l rule x v mask g m some h =
+pub symbol-drawing : (kind : Drawing) (margin smallest : ℕ) (l : Level) (rule : Rule) (how : Interpretation) (x : List ℕ) (v mask : ℕ) (g : Grid)
+    → margin ≤ 255 → 1 ≤ smallest → IsSymbol smallest l rule how x v mask g → IsDrawingOf kind margin (g ∷ []) (drawn kind margin (g ∷ []))
+symbol-drawing kind margin smallest l rule how x v mask g m some h =
     let least = h.version.least in
     let most = h.version.most in
     record {
@@ -81,22 +82,22 @@ symbol-drawing kind margin smallest l rule x v mask g m some h =
       few = omega arith;
       margin_in = m;
       one_side = one-side g.side (g ∷ []) (omega arith) (All-cons (λ z. z.side ≡ g.side) g [] refl (All-nil (λ z. z.side ≡ g.side)));
-      begin = All-cons BeginsAsSymbol g [] (begins-symbol v l rule x None mask g (omega arith) most h.made) (All-nil BeginsAsSymbol);
+      begin = All-cons BeginsAsSymbol g [] (begins-symbol v l rule how x None mask g (omega arith) most h.made) (All-nil BeginsAsSymbol);
       is_drawn = refl;
     }
 
 -- those of a series
-pub series-drawing : (kind : Drawing) (margin v : ℕ) (l : Level) (rule : Rule) (x : List ℕ) (symbols : List Symbol)
-    → margin ≤ 255 → 1 ≤ v → v ≤ 40 → IsSeries v l rule x symbols → IsDrawingOf kind margin (squares_of symbols) (drawn kind margin (squares_of symbols))
-series-drawing kind margin v l rule x symbols m some most h =
+pub series-drawing : (kind : Drawing) (margin v : ℕ) (l : Level) (rule : Rule) (how : Interpretation) (x : List ℕ) (symbols : List Symbol)
+    → margin ≤ 255 → 1 ≤ v → v ≤ 40 → IsSeries v l rule how x symbols → IsDrawingOf kind margin (squares_of symbols) (drawn kind margin (squares_of symbols))
+series-drawing kind margin v l rule how x symbols m some most h =
     let n = length-map symbols (λ (s : Symbol). s.matrix) in
-    let a = series-some x l rule v symbols h in
-    let b = series-few x l rule v symbols h in
+    let a = series-some x l rule how v symbols h in
+    let b = series-few x l rule how v symbols h in
     record {
       some = omega arith;
       few = omega arith;
       margin_in = m;
-      one_side = one-side (side_of v) (squares_of symbols) (omega arith) (series-side x l rule v symbols h);
-      begin = begin-series v l rule x symbols some most h;
+      one_side = one-side (side_of v) (squares_of symbols) (omega arith) (series-side x l rule how v symbols h);
+      begin = begin-series v l rule how x symbols some most h;
       is_drawn = refl;
     }

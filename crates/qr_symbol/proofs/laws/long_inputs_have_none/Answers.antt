@@ -4,7 +4,7 @@ use Rattle.qr_symbol.proofs.laws.long_inputs_have_none.Goals as goal
 
 pub returns : goal.returns
 returns c = record {
-  symbol = λ x l b long. long-fits-none x l c.args.version b (omega arith) (omega arith);
-  series = λ x l b ss long s. long-has-no-series x l b c.args.version ss (omega arith) (omega arith) (omega arith) s;
-  refused = λ x l b long. long-refused x l b c.args.version (omega arith) (omega arith) (omega arith);
+  symbol = λ x l b how long. long-fits-none x l c.args.version b how (omega arith) (omega arith);
+  series = λ x l b how ss long s. long-has-no-series x l b how c.args.version ss (omega arith) (omega arith) (omega arith) s;
+  refused = λ x l b how long. long-refused x l b how c.args.version (omega arith) (omega arith) (omega arith);
 }

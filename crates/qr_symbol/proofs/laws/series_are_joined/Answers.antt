@@ -2,4 +2,4 @@ use Rattle.{qr_symbol.proofs.lemmas.series.SeriesLemmas.series-joined, std.proof
 use Rattle.qr_symbol.proofs.laws.series_are_joined.Goals as goal
 
 pub returns : goal.returns
-returns c = λ x l b ss s. series-joined x l b c.args.version ss (omega arith) (omega arith) s
+returns c = λ x l b how ss may s. series-joined x l b how c.args.version ss (omega arith) (omega arith) may s

@@ -1,6 +1,8 @@
 -- A call is refused for a fault exactly if the fault is there, unless memory is refused.
-use Rattle.qr_bits.{proofs.Facts.{empty_fits, fitting_short}, specs.{Padding.capacity_of, declared.modes.Rule.Rule}}
-use Rattle.{qr_layout.specs.declared.level.Level.Level, qr_symbol.specs.Encoding.IsSymbol}
+use Rattle.qr_bits.{proofs.Facts.empty_fits, specs.{ declared.modes.Rule.Rule}}
+use Rattle.qr_bits.specs.declared.interpretation.Interpretation.{Interpretation}
+use Rattle.qr_symbol.proofs.lemmas.version_choice.FitLemmas.{version-short}
+use Rattle.{qr_layout.specs.declared.level.Level.Level}
 use Rattle.qr_symbol.specs.{Series.{IsSeries, HasNoSeries}, VersionChoice.{FitsVersion, HasNoVersion}}
 use Rattle.qr_symbol.specs.declared.{fault.{EncodeFault.EncodeFault, ReadFault.ReadFault}, symbol.Symbol.Symbol}
 use Rattle.std.proofs.Common.{◌≡◌, ◌≢◌, ◌<◌, ◌≤◌, ◌↔◌, ◌⊎◌, inl, inr, ℕ, List, [], length, Result, Ok, Err, Vec, Global, sym, ap, subst, arith}
@@ -17,7 +19,7 @@ pub err-same : {X E : Type 0} (r : Result X E) (e f : E) → r ≡ Err e → r �
 err-same r e f h k = cc
 
 -- what makes it, if with the fact no value is returned, and no other fault than e and lack of memory
-exactly : {X E : Type 0} (r : Result X E) (e memory : E) (P : Type 0) → (e ≡ memory → ⊥) → (r ≡ Err e → P)
+pub exactly : {X E : Type 0} (r : Result X E) (e memory : E) (P : Type 0) → (e ≡ memory → ⊥) → (r ≡ Err e → P)
     → IfOk r (λ _. P → ⊥) → IfErr r (λ g. (P → g ≡ e) ⊎ (g ≡ memory)) → Refused r e memory P
 exactly {X = X} {E = E} r e memory P other f none told = (λ h. (λ m. other (err-same r e _ h m), f h), λ w. back r none told w.0 w.1)
   where
@@ -27,38 +29,30 @@ exactly {X = X} {E = E} r e memory P other f none told = (λ h. (λ m. other (er
     back _ _ (inl h) m p = ap (λ f. Err f) (h p)
     back _ _ (inr h) m p = absurd (m (ap (λ f. Err f) h))
 
--- `TooLong` is returned exactly if the input, which is not empty, fits no version, unless memory was refused
-pub too-long-exactly : (x : List ℕ) (l : Level) (smallest : ℕ) (b : Rule) (r : Result Symbol EncodeFault)
-    → (r ≡ Err fault.TooLong → HasNoVersion smallest l b x)
-    → IfOk r (λ s. IsSymbol smallest l b x s.version s.mask s.matrix) → IfErr r (λ e. (e ≡ fault.TooLong) ⊎ (e ≡ fault.Memory))
-    → Refused r fault.TooLong fault.Memory (HasNoVersion smallest l b x)
-too-long-exactly x l smallest b (Ok s) long made told = exactly _ _ _ _ (λ e. cc) long (λ none. none s.version made.version.least made.version.most made.version.fits) tt
-too-long-exactly x l smallest b (Err e) long made told = exactly _ _ _ _ (λ e. cc) long tt (elim told [ inl h ↦ inl (λ _. h) | inr h ↦ inr h ])
-
 -- `TooMany` is returned exactly if the input has no series, unless memory was refused
-pub too-many-exactly : (x : List ℕ) (l : Level) (b : Rule) (v : ℕ) (r : Result (Vec Symbol Global) EncodeFault) → MatchResult r
-    (λ ss. IsSeries v l b x ss.items) (λ e. (e ≡ fault.Memory) ⊎ ((e ≡ fault.TooMany) × HasNoSeries v l b x))
-    → Refused r fault.TooMany fault.Memory (HasNoSeries v l b x)
-too-many-exactly x l b v (Ok ss) (inl a) = exactly _ _ _ _ (λ e. cc) (λ e. cc) (λ none. none.too_long a.fits) tt
-too-many-exactly x l b v (Ok ss) (inr a) = let few = a.many in
+pub too-many-exactly : (x : List ℕ) (l : Level) (b : Rule) (how : Interpretation) (v : ℕ) (r : Result (Vec Symbol Global) EncodeFault) → MatchResult r
+    (λ ss. IsSeries v l b how x ss.items) (λ e. (e ≡ fault.Memory) ⊎ ((e ≡ fault.TooMany) × HasNoSeries v l b how x))
+    → Refused r fault.TooMany fault.Memory (HasNoSeries v l b how x)
+too-many-exactly x l b how v (Ok ss) (inl a) = exactly _ _ _ _ (λ e. cc) (λ e. cc) (λ none. none.too_long a.fits) tt
+too-many-exactly x l b how v (Ok ss) (inr a) = let few = a.many in
     exactly _ _ _ _ (λ e. cc) (λ e. cc) (λ none. absurd (omega (arith, none.too_many a.parts a.split))) tt
-too-many-exactly x l b v (Err e) (inl m) = exactly _ _ _ _ (λ e. cc) (λ h. cc) tt (inr m)
-too-many-exactly x l b v (Err e) (inr w) = exactly _ _ _ _ (λ e. cc) (λ _. w.1) tt (inl (λ _. w.0))
+too-many-exactly x l b how v (Err e) (inl m) = exactly _ _ _ _ (λ e. cc) (λ h. cc) tt (inr m)
+too-many-exactly x l b how v (Err e) (inr w) = exactly _ _ _ _ (λ e. cc) (λ _. w.1) tt (inl (λ _. w.0))
 
 -- an empty input fits a version, and is short
-pub empty-has-version : (x : List ℕ) (l : Level) (b : Rule) (smallest : ℕ) → smallest ≤ 40 → x ≡ [] → HasNoVersion smallest l b x → ⊥
-empty-has-version x l b smallest most e none = none smallest (omega arith) most (subst (FitsVersion smallest l b) (sym e) (empty_fits smallest b (capacity_of smallest l)))
+pub empty-has-version : (x : List ℕ) (l : Level) (b : Rule) (how : Interpretation) (smallest : ℕ) → smallest ≤ 40 → x ≡ [] → HasNoVersion smallest l b how x → ⊥
+empty-has-version x l b how smallest most e none = none smallest (omega arith) most (subst (FitsVersion smallest l b how) (sym e) (empty_fits how smallest b _))
 
 pub empty-short : (x : List ℕ) → x ≡ [] → 7089 < length x → ⊥
 empty-short x e l = omega (arith, ap length e)
 
 -- an input of more than 7,089 bytes fits no version
-pub long-has-no-version : (x : List ℕ) (l : Level) (b : Rule) (smallest : ℕ) → 1 ≤ smallest → 7089 < length x → HasNoVersion smallest l b x
-long-has-no-version x l b smallest least long v a c fits = let short = fitting_short v l b x (omega arith) c fits in omega arith
+pub long-has-no-version : (x : List ℕ) (l : Level) (b : Rule) (how : Interpretation) (smallest : ℕ) → 1 ≤ smallest → 7089 < length x → HasNoVersion smallest l b how x
+long-has-no-version x l b how smallest least long v a c fits = let short = version-short v l b how x (omega arith) c fits in omega arith
 
 -- an empty input has a series
-pub empty-has-series : (x : List ℕ) (l : Level) (b : Rule) (v : ℕ) → x ≡ [] → HasNoSeries v l b x → ⊥
-empty-has-series x l b v e none = none.too_long (subst (FitsVersion v l b) (sym e) (empty_fits v b (capacity_of v l)))
+pub empty-has-series : (x : List ℕ) (l : Level) (b : Rule) (how : Interpretation) (v : ℕ) → x ≡ [] → HasNoSeries v l b how x → ⊥
+empty-has-series x l b how v e none = none.too_long (subst (FitsVersion v l b how) (sym e) (empty_fits how v b _))
 
 -- `Check` is returned exactly if the codewords are the final sequence of no data codewords, unless memory was refused
 pub check-exactly : (Holds : List ℕ → Type 0) (r : Result (Vec ℕ Global) ReadFault) → MatchResult r (λ d. Holds d.items)

@@ -1,13 +1,14 @@
 -- A symbol is read as its input.
-use Rattle.qr_bits.specs.Parsing.{plain_content}
-use Rattle.qr_bits.{proofs.Facts.{data_plain, length-data}, specs.{Parsing.Content, declared.header.Header.Header}}
+use Rattle.qr_bits.specs.declared.interpretation.Interpretation.{Interpretation}
+use Rattle.qr_bits.specs.Interpretation.{MayWrite}
+use Rattle.qr_bits.{proofs.Facts.{data_again, least_meant, length-data}, specs.{Bits.bits_of, Parsing.{Content, parse}, declared.header.Header.Header}}
 use Rattle.{qr_bits.specs.declared.modes.Rule.Rule, qr_layout.specs.declared.{blocks.Blocks.Blocks, level.Level.Level}}
 use Rattle.{qr_matrix.specs.Grid.Grid, qr_symbol.proofs.lemmas.interleaving.MessageLemmas.final-whole}
 use Rattle.qr_symbol.proofs.lemmas.reading.FormatLemmas.{format-one, format-read}
 use Rattle.qr_symbol.proofs.lemmas.reading.ReadLemmas.{message-read, message-one}
 use Rattle.qr_symbol.specs.{Encoding.IsSymbolAt, Interleaving.{start_of, data_sizes, check_at, IsFinalMessage}}
-use Rattle.{qr_symbol.specs.Reading.{IsFormat, IsMessage, IsReading}, std.specs.{List.All, Prelude.Option}}
-use Rattle.std.proofs.Common.{◌≡◌, ℕ, ◌+◌, ◌<◌, ◌≤◌, List, length, get_or, sym, ap, subst, inl, inr, arith}
+use Rattle.{qr_symbol.specs.Reading.{interpreted_content, IsFormat, IsMessage, IsReading}, std.specs.{List.All, Prelude.Option}}
+use Rattle.std.proofs.Common.{◌≡◌, ℕ, ◌+◌, ◌<◌, ◌≤◌, List, length, get_or, Ok, sym, ap, subst, ◌∙◌, inl, inr, arith}
 use Rattle.std.proofs.{Math.ListN.get_or-eq_default, lemmas.{Bool.cases_lt, List.Elements.{All-append, All-map}}}
 
 -- an item of a list of bytes, or 0 after its end, is a byte
@@ -22,25 +23,31 @@ final-bytes b d cw a h = subst (All (λ x. x < 256)) (sym h.whole) (All-append (
     let u = get_or _ k t in byte-at _ _ (h.each u.block (omega arith)).bytes)))
 
 -- the symbol of an input contains its message
-pub symbol-holds : (v : ℕ) (l : Level) (b : Rule) (x : List ℕ) (h : Option Header) (mask : ℕ) (g : Grid) → 1 ≤ v → v ≤ 40 → (s : IsSymbolAt v l b x h mask g) → IsMessage v l mask g s.message
-symbol-holds v l b x h mask g p q s =
-    subst (λ (z : Grid). IsMessage v l mask z s.message) (sym s.drawn) (message-read v l _ _ _ p q (final-whole v l _ _ p q s.interleaved) (final-bytes _ _ _ s.written.bytes s.interleaved) (length-data v l x _ h _ _ s.written) s.interleaved)
+pub symbol-holds : (v : ℕ) (l : Level) (b : Rule) (how : Interpretation) (x : List ℕ) (h : Option Header) (mask : ℕ) (g : Grid) → 1 ≤ v → v ≤ 40 → (s : IsSymbolAt v l b how x h mask g) → IsMessage v l mask g s.message
+symbol-holds v l b how x h mask g p q s =
+    subst (λ (z : Grid). IsMessage v l mask z s.message) (sym s.drawn) (message-read v l _ _ _ p q (final-whole v l _ _ p q s.interleaved) (final-bytes _ _ _ s.written.bytes s.interleaved) (length-data v l _ _ h _ _ s.written) s.interleaved)
 
 -- a symbol has the format information of its level and mask
-pub symbol-format : (v : ℕ) (l : Level) (b : Rule) (x : List ℕ) (h : Option Header) (mask : ℕ) (g : Grid) → 1 ≤ v → v ≤ 40 → IsSymbolAt v l b x h mask g → IsFormat g l mask
-symbol-format v l b x h mask g p q s = subst (λ (z : Grid). IsFormat z l mask) (sym s.drawn) (format-read v l _ _ p q s.best.in_range)
+pub symbol-format : (v : ℕ) (l : Level) (b : Rule) (how : Interpretation) (x : List ℕ) (h : Option Header) (mask : ℕ) (g : Grid) → 1 ≤ v → v ≤ 40 → IsSymbolAt v l b how x h mask g → IsFormat g l mask
+symbol-format v l b how x h mask g p q s = subst (λ (z : Grid). IsFormat z l mask) (sym s.drawn) (format-read v l _ _ p q s.best.in_range)
 
--- the symbol of an input is read as its bytes, in its segments and after its header
-pub symbol-read : (v : ℕ) (l : Level) (b : Rule) (x : List ℕ) (h : Option Header) (mask : ℕ) (g : Grid) → 1 ≤ v → v ≤ 40 → (s : IsSymbolAt v l b x h mask g) → IsReading g (plain_content h s.segments x)
-symbol-read v l b x h mask g p q s = record {
+-- the data codewords of a symbol are parsed as its bytes, in its segments and after its header, with its interpretation
+pub symbol-parsed : (v : ℕ) (l : Level) (b : Rule) (how : Interpretation) (x : List ℕ) (h : Option Header) (mask : ℕ) (g : Grid) → MayWrite how x
+    → (s : IsSymbolAt v l b how x h mask g) → parse v (bits_of s.message) ≡ Ok (interpreted_content how h s.segments x)
+symbol-parsed v l b how x h mask g w s = data_again v l _ _ h how _ s.written ∙ ap (λ (c : Content). Ok c) (least_meant how v b x _ _ h w s.chosen).0
+
+-- the symbol of an input is read as its bytes, in its segments and after its header, with its interpretation
+pub symbol-read : (v : ℕ) (l : Level) (b : Rule) (how : Interpretation) (x : List ℕ) (h : Option Header) (mask : ℕ) (g : Grid) → 1 ≤ v → v ≤ 40 → MayWrite how x
+    → (s : IsSymbolAt v l b how x h mask g) → IsReading g (interpreted_content how h s.segments x)
+symbol-read v l b how x h mask g p q w s = record {
   version = v;
   level = l;
   mask = mask;
   message = s.message;
   sized = record { least = p; most = q; side = ap (λ (z : Grid). z.side) s.drawn };
-  format = symbol-format v l b x h _ g p q s;
-  holds = symbol-holds v l b x h _ g p q s;
-  parsed = data_plain v l x _ h _ s.written;
+  format = symbol-format v l b how x h _ g p q s;
+  holds = symbol-holds v l b how x h _ g p q s;
+  parsed = symbol-parsed v l b how x h mask g w s;
 }
 
 -- a square is read as at most one content

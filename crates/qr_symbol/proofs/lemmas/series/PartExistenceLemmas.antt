@@ -1,8 +1,10 @@
 -- Every input has parts: it is decidable whether a prefix fits, so there is a longest one.
-use Rattle.qr_bits.proofs.Facts.{CoversInTurn, capacity_least, count_width_bound, covers_all, empty_fits, from_turn, in_turn, sum_by-runs_of}
-use Rattle.{qr_bits.specs.Padding.room_of, qr_symbol.{proofs.lemmas.series.PartLemmas.bytes-fit, specs.Series.AreParts}}
+use Rattle.qr_bits.proofs.Facts.{CoversInTurn, assignment-length, empty_fits, from_turn, in_turn}
+use Rattle.{qr_bits.specs.Padding.room_of, qr_symbol.{proofs.lemmas.series.PartLemmas.one-fits, specs.Series.AreParts}}
 use Rattle.qr_bits.specs.Segmentation.{bits, runs_of, Covers, IsAssignment, HasFit, IsLongestFit}
 use Rattle.qr_bits.specs.declared.modes.{Mode.{Mode, TheVariants.{Numeric, Alphanumeric, Byte, Kanji}}, Rule.Rule}
+use Rattle.qr_bits.specs.declared.interpretation.Interpretation.{Interpretation}
+use Rattle.qr_bits.specs.Interpretation.{characters_in, doubled}
 use Rattle.{qr_bits.specs.declared.segment.Segment.Segment, qr_layout.specs.declared.level.Level.Level}
 use Rattle.std.proofs.Common.{◌≡◌, ℕ, zero, suc, ◌<◌, ◌≤◌, ◌⊎◌, Bool, true, false, List, [], ◌∷◌, length, take, drop, refl, subst, inl, inr, length-drop, arith}
 use Rattle.std.{proofs.lemmas.Bool.cases_lt, specs.Prelude.IsTrue}
@@ -74,25 +76,25 @@ some-modes (suc n) P d =
     pick (inr a) (inr b) (inr e) (inr f) = inr (none a b e f)
 
 -- it is decided whether bytes fit
-fits-or-not : (v : ℕ) (r : Rule) (xs : List ℕ) (n : ℕ) → Decided (HasFit v r xs n)
-fits-or-not v r xs n =
-    elim (some-modes (length xs) (λ ms. IsAssignment r xs ms × (bits v (runs_of ms) ≤ n)) (λ ms. both (IsAssignment r xs ms) (bits v _ ≤ n)
-    (both _ _ (true-or-not _) (covers-or-not xs _)) (most-or-not _ n))) [
+fits-or-not : (how : Interpretation) (v : ℕ) (r : Rule) (xs : List ℕ) (n : ℕ) → Decided (HasFit how v r xs n)
+fits-or-not how v r xs n =
+    elim (some-modes (length xs) (λ ms. IsAssignment how r xs ms × (bits v (runs_of (doubled how xs ms)) ≤ n)) (λ ms. both (IsAssignment how r xs ms) (bits v _ ≤ n)
+    (both _ _ (true-or-not _) (covers-or-not (characters_in how xs ms) _)) (most-or-not _ n))) [
       | inl p ↦ inl (p.0, p.1.0, p.1.1)
-      | inr q ↦ search (arith, sum_by-runs_of, covers_all)
+      | inr q ↦ inr (λ fit. q fit.0 (assignment-length how r xs fit.0 fit.1) (fit.1, fit.2))
     ]
 
 -- if no prefix longer than k fits, there is a longest prefix of at most k bytes that fits
-longest-to : (v : ℕ) (r : Rule) (xs : List ℕ) (room k : ℕ) → k ≤ length xs → ((j : ℕ) → k < j → j ≤ length xs → HasFit v r (take j xs) room → ⊥) → (n : ℕ) × IsLongestFit v r xs room n
-longest-to v r xs room zero l none = (
+longest-to : (how : Interpretation) (v : ℕ) (r : Rule) (xs : List ℕ) (room k : ℕ) → k ≤ length xs → ((j : ℕ) → k < j → j ≤ length xs → HasFit how v r (take j xs) room → ⊥) → (n : ℕ) × IsLongestFit how v r xs room n
+longest-to how v r xs room zero l none = (
   0,
   record {
     inside = omega arith;
-    fits = empty_fits v r _;
+    fits = empty_fits how v r _;
     longest = λ j i h. elim (cases_lt 0 j) [ inl p ↦ absurd (none j p i h) | inr p ↦ p ];
   },
 )
-longest-to v r xs room (suc k) l none = elim (fits-or-not v r _ _) [
+longest-to how v r xs room (suc k) l none = elim (fits-or-not how v r _ _) [
   | inl h ↦ (
     suc k,
     record {
@@ -101,24 +103,24 @@ longest-to v r xs room (suc k) l none = elim (fits-or-not v r _ _) [
       longest = λ j i g. elim (cases_lt (suc k) j) [ inl p ↦ absurd (none j p i g) | inr p ↦ p ];
     },
   )
-  | inr q ↦ longest-to v r xs _ k (omega arith) (λ j p i g. elim (cases_lt (suc k) j) [
+  | inr q ↦ longest-to how v r xs _ k (omega arith) (λ j p i g. elim (cases_lt (suc k) j) [
     | inl s ↦ none j s i g
-    | inr s ↦ let e : j ≡ suc k = omega arith in q (subst (λ (z : ℕ). HasFit v r (take z xs) room) e g)
+    | inr s ↦ let e : j ≡ suc k = omega arith in q (subst (λ (z : ℕ). HasFit how v r (take z xs) room) e g)
   ])
 ]
 
 -- bytes have parts, if a bound for their number is known
-parts-to : (most v : ℕ) (l : Level) (r : Rule) (x : List ℕ) → 1 ≤ v → v ≤ 40 → length x ≤ most → (parts : List (List ℕ)) × AreParts v l r x parts
+parts-to : (most v : ℕ) (l : Level) (r : Rule) (how : Interpretation) (x : List ℕ) → 1 ≤ v → v ≤ 40 → length x ≤ most → (parts : List (List ℕ)) × AreParts v l r how x parts
 unfolding AreParts
-parts-to most v l r [] p q h = ([], refl)
-parts-to zero v l r (b ∷ bs) p q h = absurd (omega arith)
-parts-to (suc most) v l r (b ∷ bs) p q h =
-    let x = b ∷ bs in let c = capacity_least v l p q in
-    let found = longest-to v r x (room_of v l) (length x) (omega arith) (λ j a d g. absurd (omega arith)) in
+parts-to most v l r how [] p q h = ([], refl)
+parts-to zero v l r how (b ∷ bs) p q h = absurd (omega arith)
+parts-to (suc most) v l r how (b ∷ bs) p q h =
+    let x = b ∷ bs in
+    let found = longest-to how v r x (room_of v l how) (length x) (omega arith) (λ j a d g. absurd (omega arith)) in
     let n = found.0 in
-    let some : 1 ≤ n = found.1.longest 1 (omega arith) (bytes-fit v r (b ∷ []) (room_of v l) (omega arith) (omega (arith, count_width_bound v Byte))) in
-    let rest = parts-to most v l r (drop n x) p q (let d = length-drop n x in omega arith) in
+    let some : 1 ≤ n = found.1.longest 1 (omega arith) (one-fits v l r how (b ∷ []) p q (omega arith)) in
+    let rest = parts-to most v l r how (drop n x) p q (let d = length-drop n x in omega arith) in
     (take n x ∷ rest.0, (n, some, found.1, refl, rest.1))
 
-pub parts-there : (v : ℕ) (l : Level) (r : Rule) (x : List ℕ) → 1 ≤ v → v ≤ 40 → (parts : List (List ℕ)) × AreParts v l r x parts
-parts-there v l r x p q = parts-to (length x) v l r x p q (omega arith)
+pub parts-there : (v : ℕ) (l : Level) (r : Rule) (how : Interpretation) (x : List ℕ) → 1 ≤ v → v ≤ 40 → (parts : List (List ℕ)) × AreParts v l r how x parts
+parts-there v l r how x p q = parts-to (length x) v l r how x p q (omega arith)

@@ -1,74 +1,62 @@
 -- The parts of an input: how long a prefix fits, and the lengths of the parts, which are found one after another.
 use borrow.Author.Tests.{leb-true}
 use lib.ListN.{replicate}
-use Rattle.qr_bits.proofs.Facts.{CoversInTurn, from_turn, count_width_bound, capacity_least, fitting_short, byte_used, piece_fits}
-use Rattle.qr_bits.specs.{Modes.{may_use, count_width}, Padding.room_of, Segmentation.{runs_of, HasFit, IsLongestFit}}
+use Rattle.qr_bits.proofs.Facts.{bytes_fit, fitting_short, may_write-drop, may_write-take, piece_fits}
+use Rattle.qr_bits.specs.{Modes.{may_use, count_width}, Padding.{capacity_of, room_of}, Segmentation.{HasFit, IsLongestFit}}
+use Rattle.qr_bits.specs.Interpretation.{MayWrite, interpretation_bits}
+use Rattle.qr_bits.specs.declared.interpretation.Interpretation.{Interpretation, TheVariants.Default}
+use Rattle.qr_symbol.proofs.lemmas.version_choice.FitLemmas.{interpretation-most}
 use Rattle.qr_bits.specs.declared.modes.{Mode.TheVariants.{Byte, Kanji}, Rule.Rule}
 use Rattle.qr_layout.{proofs.Facts.{every, every-at}, specs.{Version.total_codewords_of, declared.level.Level.Level}}
 use Rattle.qr_layout.specs.Blocks.{block_count_of, correction_len_of, data_codewords_of}
 use Rattle.qr_symbol.specs.Series.{AreParts, FitParts, NeedsParts, IsSymbolOf, AreSymbolsFrom}
 use Rattle.qr_symbol.specs.{Steps.Series.{AreLengths, parts_of}, declared.symbol.Symbol.Symbol}
 use Rattle.std.proofs.Common.{◌≡◌, ℕ, zero, suc, ◌+◌, ◌-◌, ◌*◌, ◌<◌, ◌≤◌, min, true, false, leb, ◌⊎◌, All, List, [], ◌∷◌, ◌++◌, take, drop, length, get_or, Some, refl, sym, ◌∙◌, ap, subst, append_assoc, inl, inr, arith}
-use Rattle.std.proofs.Math.Seq.{drop-cons, drop-nil, drop-append-add, take-append_seam, take-length}
+use Rattle.std.proofs.Math.Seq.{drop-cons, drop-nil, drop-append-add, drop-append_seam, take-append_seam, take-length}
 use Rattle.std.proofs.lemmas.{Bool.{and_from, cases_lt}, List.Elements.{All-nil, All-cons, All-head, All-tail}}
 use Rattle.std.proofs.lemmas.List.{length-take, length-drop, append-nil, take-append-drop, drop_all, drop-append-le, length-append}
 use Rattle.std.specs.{List.{concat, list_all}, Prelude.IsTrue}
 
 -- ---- how long a prefix fits
 
--- any rule allows byte mode for all bytes
-bytes-used : (b : Rule) (n : ℕ) → IsTrue (list_all (may_use b) (replicate n Byte))
-bytes-used b zero = refl
-bytes-used b (suc n) = and_from (may_use b Byte) _ (byte_used b) (bytes-used b n)
-
--- bytes in byte mode are one segment
-bytes-run : (n : ℕ) → runs_of (replicate (suc n) Byte) ≡ record { mode = Byte; len = suc n } ∷ []
-unfolding runs_of
-bytes-run zero = refl
-bytes-run (suc n) = (let e : 1 + suc n ≡ suc (suc n) = omega arith in rw (bytes-run n, e) refl)
-
--- bytes fit if there is room for one segment in byte mode
-pub bytes-fit : (v : ℕ) (b : Rule) (xs : List ℕ) (n : ℕ) → 0 < length xs
-    → 4 + count_width v Byte + 8 * length xs ≤ n → HasFit v b xs n
-unfolding CoversInTurn
-bytes-fit v b [] n some h = absurd (omega arith)
-bytes-fit v b (x ∷ xs) n some h =
-    let run = bytes-run (length xs) in
-    (replicate (length (x ∷ xs)) Byte, (bytes-used b (length (x ∷ xs)), rw run (from_turn (x ∷ xs) (record { mode = Byte; len = length (x ∷ xs) } ∷ []) (omega arith, omega arith, refl, drop_all (length (x ∷ xs)) (x ∷ xs) (omega arith)))), rw run (omega arith))
-
--- so the longest prefix that fits is not empty
-pub longest-some : (v : ℕ) (l : Level) (b : Rule) (xs : List ℕ) (n : ℕ) → 1 ≤ v → v ≤ 40 → 0 < length xs → IsLongestFit v b xs (room_of v l) n → 0 < n
-longest-some v l b [] n p q some h = absurd (omega arith)
-longest-some v l b (x ∷ xs) n p q some h =
-    let least = capacity_least v l p q in
-    let one = h.longest 1 (omega arith) (bytes-fit v b _ _ (omega arith) (omega (arith, count_width_bound v Byte))) in omega arith
-
--- the room after a header is enough for a byte segment of five bytes, computed
-five-all : every (λ l v. leb (4 + count_width v Byte + 40) (room_of v l)) ≡ true
+-- the room after a header alone is enough for a byte segment of five bytes, computed
+five-all : every (λ l v. leb (4 + count_width v Byte + 40) (capacity_of v l - 20)) ≡ true
 unfolding block_count_of correction_len_of data_codewords_of total_codewords_of
 five-all = refl
 
--- so up to five bytes fit after a header
-few-fit : (v : ℕ) (l : Level) (b : Rule) (xs : List ℕ) → 1 ≤ v → v ≤ 40 → 0 < length xs → length xs ≤ 5 → HasFit v b xs (room_of v l)
-few-fit v l b xs p q some few = bytes-fit v b xs _ some (omega (arith, leb-true _ _ (every-at (λ l v. leb (4 + count_width v Byte + 40) (room_of v l)) five-all l v p q)))
+-- so with what says the interpretation one byte fits after it
+few-fit : (v : ℕ) (l : Level) (b : Rule) (how : Interpretation) (xs : List ℕ) → 1 ≤ v → v ≤ 40
+    → 8 * length xs + interpretation_bits how ≤ 40 → HasFit how v b xs (room_of v l how)
+few-fit v l b how xs p q few =
+    bytes_fit how v b xs (room_of v l how) (omega (arith, leb-true _ _ (every-at (λ l v. leb (4 + count_width v Byte + 40) (capacity_of v l - 20)) five-all l v p q)))
+
+-- one byte fits in any case
+pub one-fits : (v : ℕ) (l : Level) (b : Rule) (how : Interpretation) (xs : List ℕ) → 1 ≤ v → v ≤ 40 → length xs ≤ 1 → HasFit how v b xs (room_of v l how)
+one-fits v l b how xs p q one = few-fit v l b how xs p q (omega (arith, interpretation-most how))
+
+-- so the longest prefix that fits is not empty
+pub longest-some : (v : ℕ) (l : Level) (b : Rule) (how : Interpretation) (xs : List ℕ) (n : ℕ) → 1 ≤ v → v ≤ 40 → 0 < length xs → IsLongestFit how v b xs (room_of v l how) n → 0 < n
+longest-some v l b how xs n p q some h =
+    let cut = length-take 1 xs in
+    omega (arith, h.longest 1 (omega arith) (one-fits v l b how (take 1 xs) p q (omega arith)))
 
 -- so a part has at least five bytes, or it is the whole rest
-pub part-least : (v : ℕ) (l : Level) (b : Rule) (x p : List ℕ) (ps : List (List ℕ)) → 1 ≤ v → v ≤ 40 → AreParts v l b x (p ∷ ps) → (5 ≤ length p) ⊎ (p ≡ x)
+pub part-least : (v : ℕ) (l : Level) (b : Rule) (x p : List ℕ) (ps : List (List ℕ)) → 1 ≤ v → v ≤ 40 → AreParts v l b Default x (p ∷ ps) → (5 ≤ length p) ⊎ (p ≡ x)
 unfolding AreParts
 part-least v l b x p ps i j h =
     let n = h.0 in
     let cut = h.2 in elim (cases_lt (length x) 5) [
       | inl short ↦
-          let whole = cut.longest (length x) (omega arith) (subst (λ ys. HasFit v b ys (room_of v l)) (sym (take-length x)) (few-fit v l b x i j (omega arith) (omega arith))) in
+          let whole = cut.longest (length x) (omega arith) (subst (λ ys. HasFit Default v b ys (room_of v l Default)) (sym (take-length x)) (few-fit v l b Default x i j (omega arith))) in
           inr (h.3 ∙ (ap (λ k. take k x) (omega arith) ∙ take-length x))
       | inr long ↦
           let front = length-take 5 x in
-          inl (omega (arith, (length-take n x), (ap length h.3), (cut.longest 5 (omega arith) (few-fit v l b _ i j (omega (arith, front)) (omega (arith, front))))))
+          inl (omega (arith, (length-take n x), (ap length h.3), (cut.longest 5 (omega arith) (few-fit v l b Default _ i j (omega (arith, front))))))
     ]
 
 -- bytes that fit after a header are at most 7,089
-pub part-short : (v : ℕ) (l : Level) (b : Rule) (xs : List ℕ) → 1 ≤ v → v ≤ 40 → HasFit v b xs (room_of v l) → length xs ≤ 7089
-part-short v l b xs p q fit = fitting_short v l b xs p q (fit.0, fit.1, (let few = fit.2 in omega arith))
+pub part-short : (v : ℕ) (l : Level) (b : Rule) (how : Interpretation) (xs : List ℕ) → 1 ≤ v → v ≤ 40 → HasFit how v b xs (room_of v l how) → length xs ≤ 7089
+part-short v l b how xs p q fit = fitting_short how v l b xs p q (fit.0, fit.1, (let few = fit.2 in omega arith))
 
 -- a prefix of a prefix is a prefix of the whole list
 take-less : {X : Type 0} (k m : ℕ) (xs : List X) → k ≤ m → take k (take m xs) ≡ take k xs
@@ -76,24 +64,24 @@ take-less (suc k) (suc m) (x ∷ xs) h = ap (λ zs. x ∷ zs) (take-less k m xs 
 take-less k m xs h = search arith
 
 -- to find the longest prefix that fits, the first 7,089 bytes are enough
-pub longest-cut : (v : ℕ) (l : Level) (b : Rule) (xs : List ℕ) (m n : ℕ) → 1 ≤ v → v ≤ 40 → min (length xs) 7089 ≤ m → IsLongestFit v b (take m xs) (room_of v l) n → IsLongestFit v b xs (room_of v l) n
-longest-cut v l b xs m n p q long h =
-    let room = room_of v l in
+pub longest-cut : (v : ℕ) (l : Level) (b : Rule) (how : Interpretation) (xs : List ℕ) (m n : ℕ) → 1 ≤ v → v ≤ 40 → min (length xs) 7089 ≤ m → IsLongestFit how v b (take m xs) (room_of v l how) n → IsLongestFit how v b xs (room_of v l how) n
+longest-cut v l b how xs m n p q long h =
+    let room = room_of v l how in
     let cut = length-take m xs in record {
       inside = omega arith;
-      fits = subst (λ (ys : List ℕ). HasFit v b ys room) (take-less n m xs (omega arith)) h.fits;
+      fits = subst (λ (ys : List ℕ). HasFit how v b ys room) (take-less n m xs (omega arith)) h.fits;
       longest = λ k i fit.
-          let short = part-short v l b (take k xs) p q fit in let same = length-take k xs in
-          h.longest k (omega arith) (subst (λ (ys : List ℕ). HasFit v b ys room) (sym (take-less k m xs (omega arith))) fit);
+          let short = part-short v l b how (take k xs) p q fit in let same = length-take k xs in
+          h.longest k (omega arith) (subst (λ (ys : List ℕ). HasFit how v b ys room) (sym (take-less k m xs (omega arith))) fit);
     }
 
 -- ---- lengths of parts
 
 -- the parts that belong to lengths of parts are the parts of the bytes
-pub parts-are : (v : ℕ) (l : Level) (b : Rule) (x ns : List ℕ) → AreLengths v l b x ns → AreParts v l b x (parts_of x ns)
+pub parts-are : (v : ℕ) (l : Level) (b : Rule) (how : Interpretation) (x ns : List ℕ) → AreLengths v l b how x ns → AreParts v l b how x (parts_of x ns)
 unfolding AreLengths AreParts parts_of
-parts-are v l b x [] h = h
-parts-are v l b x (n ∷ ns) h = (n, h.0, h.1, refl, parts-are v l b (drop n x) ns h.2)
+parts-are v l b how x [] h = h
+parts-are v l b how x (n ∷ ns) h = (n, h.0, h.1, refl, parts-are v l b how (drop n x) ns h.2)
 
 -- there are as many parts as lengths
 pub length-parts : (x ns : List ℕ) → length (parts_of x ns) ≡ length ns
@@ -102,52 +90,52 @@ length-parts x [] = refl
 length-parts x (n ∷ ns) = ap suc (length-parts (drop n x) ns)
 
 -- an empty input has no parts
-pub lengths-none : (v : ℕ) (l : Level) (b : Rule) → AreLengths v l b [] []
+pub lengths-none : (v : ℕ) (l : Level) (b : Rule) (how : Interpretation) → AreLengths v l b how [] []
 unfolding AreLengths
-lengths-none v l b = refl
+lengths-none v l b how = refl
 
 -- an input with a byte has at least one length
-pub lengths-some : (v : ℕ) (l : Level) (b : Rule) (x ns : List ℕ) → AreLengths v l b x ns → 0 < length x → 0 < length ns
+pub lengths-some : (v : ℕ) (l : Level) (b : Rule) (how : Interpretation) (x ns : List ℕ) → AreLengths v l b how x ns → 0 < length x → 0 < length ns
 unfolding AreLengths
-lengths-some v l b x [] h some = absurd (omega (arith, ap length h))
-lengths-some v l b x (n ∷ ns) h some = omega arith
+lengths-some v l b how x [] h some = absurd (omega (arith, ap length h))
+lengths-some v l b how x (n ∷ ns) h some = omega arith
 
 -- if the lengths found and those of the rest are those of the whole input, so they are with the next length
-pub lengths-more : (v : ℕ) (l : Level) (b : Rule) (whole found rest : List ℕ) (n : ℕ) → 0 < n → IsLongestFit v
-    b rest (room_of v l) n → ((ns : List ℕ) → AreLengths v l b rest ns → AreLengths v l b whole (found ++ ns))
-    → (ns : List ℕ) → AreLengths v l b (drop n rest) ns → AreLengths v l b whole ((found ++ n ∷ []) ++ ns)
+pub lengths-more : (v : ℕ) (l : Level) (b : Rule) (how : Interpretation) (whole found rest : List ℕ) (n : ℕ) → 0 < n → IsLongestFit how
+    v b rest (room_of v l how) n → ((ns : List ℕ) → AreLengths v l b how rest ns → AreLengths v l b how whole (found ++ ns))
+    → (ns : List ℕ) → AreLengths v l b how (drop n rest) ns → AreLengths v l b how whole ((found ++ n ∷ []) ++ ns)
 unfolding AreLengths
-lengths-more v l b whole found rest n some fit all ns h = rw append_assoc (all (n ∷ ns) (some, fit, h))
+lengths-more v l b how whole found rest n some fit all ns h = rw append_assoc (all (n ∷ ns) (some, fit, h))
 
 -- there is only one length of the longest prefix
-longest-one : (v : ℕ) (b : Rule) (xs : List ℕ) (room m n : ℕ) → IsLongestFit v b xs room m → IsLongestFit v b xs room n → m ≡ n
-longest-one v b xs room m n h k =
+longest-one : (how : Interpretation) (v : ℕ) (b : Rule) (xs : List ℕ) (room m n : ℕ) → IsLongestFit how v b xs room m → IsLongestFit how v b xs room n → m ≡ n
+longest-one how v b xs room m n h k =
     let below = k.longest m h.inside h.fits in
     let above = h.longest n k.inside k.fits in omega arith
 
 -- bytes have only one list of parts
-pub parts-one : (v : ℕ) (l : Level) (b : Rule) (x : List ℕ) (ps qs : List (List ℕ)) → AreParts v l b x ps → AreParts v l b x qs → ps ≡ qs
+pub parts-one : (v : ℕ) (l : Level) (b : Rule) (how : Interpretation) (x : List ℕ) (ps qs : List (List ℕ)) → AreParts v l b how x ps → AreParts v l b how x qs → ps ≡ qs
 unfolding AreParts
-parts-one v l b x [] [] h k = refl
-parts-one v l b x [] (q ∷ qs) h k = absurd (let within = k.2.inside in omega (arith, ap length h))
-parts-one v l b x (p ∷ ps) [] h k = absurd (let within = h.2.inside in omega (arith, ap length k))
-parts-one v l b x (p ∷ ps) (q ∷ qs) h k =
-    let same = longest-one v b x _ h.0 k.0 h.2 k.2 in
-    λ i. (h.3 ∙ (ap (λ (n : ℕ). take n x) same ∙ sym k.3)) i ∷ (parts-one v l b (drop k.0 x) ps qs (subst (λ (n : ℕ). AreParts v l b (drop n x) ps) same h.4) k.4) i
+parts-one v l b how x [] [] h k = refl
+parts-one v l b how x [] (q ∷ qs) h k = absurd (let within = k.2.inside in omega (arith, ap length h))
+parts-one v l b how x (p ∷ ps) [] h k = absurd (let within = h.2.inside in omega (arith, ap length k))
+parts-one v l b how x (p ∷ ps) (q ∷ qs) h k =
+    let same = longest-one how v b x _ h.0 k.0 h.2 k.2 in
+    λ i. (h.3 ∙ (ap (λ (n : ℕ). take n x) same ∙ sym k.3)) i ∷ (parts-one v l b how (drop k.0 x) ps qs (subst (λ (n : ℕ). AreParts v l b how (drop n x) ps) same h.4) k.4) i
 
 -- an input with a byte has at least one part
-pub parts-some : (v : ℕ) (l : Level) (b : Rule) (x : List ℕ) (ps : List (List ℕ)) → AreParts v l b x ps → 0 < length x → 0 < length ps
+pub parts-some : (v : ℕ) (l : Level) (b : Rule) (how : Interpretation) (x : List ℕ) (ps : List (List ℕ)) → AreParts v l b how x ps → 0 < length x → 0 < length ps
 unfolding AreParts
-parts-some v l b x [] h some = absurd (omega (arith, ap length h))
-parts-some v l b x (p ∷ ps) h some = omega arith
+parts-some v l b how x [] h some = absurd (omega (arith, ap length h))
+parts-some v l b how x (p ∷ ps) h some = omega arith
 
 -- the bytes of parts are at most 7,089 for each part
-pub parts-long : (v : ℕ) (l : Level) (b : Rule) (x : List ℕ) (ps : List (List ℕ)) → 1 ≤ v → v ≤ 40 → AreParts v l b x ps → length x ≤ 7089 * length ps
+pub parts-long : (v : ℕ) (l : Level) (b : Rule) (how : Interpretation) (x : List ℕ) (ps : List (List ℕ)) → 1 ≤ v → v ≤ 40 → AreParts v l b how x ps → length x ≤ 7089 * length ps
 unfolding AreParts
-parts-long v l b x [] i j h = omega (arith, ap length h)
-parts-long v l b x (p ∷ ps) i j h =
-    let short = part-short v l b (take h.0 x) i j h.2.fits in
-    let rest = parts-long v l b (drop h.0 x) ps i j h.4 in omega (arith, length-take h.0 x, length-drop h.0 x)
+parts-long v l b how x [] i j h = omega (arith, ap length h)
+parts-long v l b how x (p ∷ ps) i j h =
+    let short = part-short v l b how (take h.0 x) i j h.2.fits in
+    let rest = parts-long v l b how (drop h.0 x) ps i j h.4 in omega (arith, length-take h.0 x, length-drop h.0 x)
 
 -- ---- no fewer parts
 
@@ -156,89 +144,96 @@ behind-all : {X : Type 0} (k : ℕ) (xs ys : List X) → length xs ≤ k → dro
 behind-all k xs ys i = ap (λ (n : ℕ). drop n (xs ++ ys)) (omega arith) ∙ drop-append-add xs ys _
 
 -- a rest of the bytes fits wherever all of the bytes fit
-rest-fits : (v : ℕ) (b : Rule) (k : ℕ) (xs : List ℕ) (n : ℕ) → may_use b Kanji ≡ false → HasFit v b xs n → HasFit v b (drop k xs) n
-rest-fits v b k xs n plain fit =
+rest-fits : (how : Interpretation) (v : ℕ) (b : Rule) (k : ℕ) (xs : List ℕ) (n : ℕ) → MayWrite how xs → may_use b Kanji ≡ false → HasFit how v b xs n → HasFit how v b (drop k xs) n
+rest-fits how v b k xs n may plain fit =
     let whole : xs ≡ take k xs ++ (drop k xs ++ []) = rw (append-nil _) (sym (take-append-drop k xs)) in
-    piece_fits v b _ _ [] n plain (subst (λ (ys : List ℕ). HasFit v b ys n) whole fit)
+    piece_fits how v b _ _ [] n (subst (MayWrite how) whole may) plain (subst (λ (ys : List ℕ). HasFit how v b ys n) whole fit)
+
+-- what may be written of two joined lists may be written of each
+may-front : (how : Interpretation) (xs ys : List ℕ) → MayWrite how (xs ++ ys) → MayWrite how xs
+may-front how xs ys may = subst (MayWrite how) (take-append_seam xs ys) (may_write-take how (length xs) (xs ++ ys) may)
+
+may-behind : (how : Interpretation) (xs ys : List ℕ) → MayWrite how (xs ++ ys) → MayWrite how ys
+may-behind how xs ys may = subst (MayWrite how) (drop-append_seam xs ys) (may_write-drop how (length xs) (xs ++ ys) may)
 
 -- a rest of the bytes can be cut into at most as many parts that fit as all of the bytes
-rest-parts : (v : ℕ) (l : Level) (b : Rule) (k : ℕ) (ps : List (List ℕ)) → may_use b Kanji ≡ false → All (λ p. HasFit v b p (room_of v l)) ps
-    → (qs : List (List ℕ)) × FitParts v l b (drop k (concat ps)) qs × (length qs ≤ length ps)
-rest-parts v l b k [] plain h = ([], (drop-nil k, h), omega arith)
-rest-parts v l b k (p ∷ ps) plain h =
-    let fits = λ (q : List ℕ). HasFit v b q (room_of v l) in
+rest-parts : (v : ℕ) (l : Level) (b : Rule) (how : Interpretation) (k : ℕ) (ps : List (List ℕ)) → MayWrite how (concat ps) → may_use b Kanji ≡ false → All (λ p. HasFit how v b p (room_of v l how)) ps
+    → (qs : List (List ℕ)) × FitParts v l b how (drop k (concat ps)) qs × (length qs ≤ length ps)
+rest-parts v l b how k [] may plain h = ([], (drop-nil k, h), omega arith)
+rest-parts v l b how k (p ∷ ps) may plain h =
+    let fits = λ (q : List ℕ). HasFit how v b q (room_of v l how) in
     let behind = All-tail fits p ps h in elim (cases_lt k (length p)) [
-      | inl i ↦ (drop k p ∷ ps, (drop-append-le k p _ (omega arith), All-cons fits _ ps (rest-fits v b k p _ plain (All-head fits p ps h)) behind), omega arith)
+      | inl i ↦ (drop k p ∷ ps, (drop-append-le k p _ (omega arith), All-cons fits _ ps (rest-fits how v b k p _ (may-front how p _ may) plain (All-head fits p ps h)) behind), omega arith)
       | inr i ↦ (
-          let r = rest-parts v l b (k - length p) ps plain behind in
+          let r = rest-parts v l b how (k - length p) ps (may-behind how p _ may) plain behind in
           (r.0, (behind-all k p _ i ∙ r.1.0, r.1.1), omega (arith, r.2)))
     ]
 
 -- if the rest after the longest prefix needs k parts, the bytes need k + 1
-pub needs-more : (v : ℕ) (l : Level) (b : Rule) (x : List ℕ) (n k : ℕ) → may_use b Kanji ≡ false → 0 < length x → IsLongestFit v b x (room_of v l) n → NeedsParts v l b (drop n x) k → NeedsParts v l b x (k + 1)
-needs-more v l b x n k plain some fit needs [] cut = absurd (omega (arith, ap length cut.0))
-needs-more v l b x n k plain some fit needs (p ∷ ps) cut =
-    let fits = λ (q : List ℕ). HasFit v b q (room_of v l) in
+pub needs-more : (v : ℕ) (l : Level) (b : Rule) (how : Interpretation) (x : List ℕ) (n k : ℕ) → MayWrite how x → may_use b Kanji ≡ false → 0 < length x → IsLongestFit how v b x (room_of v l how) n → NeedsParts v l b how (drop n x) k → NeedsParts v l b how x (k + 1)
+needs-more v l b how x n k may plain some fit needs [] cut = absurd (omega (arith, ap length cut.0))
+needs-more v l b how x n k may plain some fit needs (p ∷ ps) cut =
+    let fits = λ (q : List ℕ). HasFit how v b q (room_of v l how) in
     let front : take (length p) x ≡ p = rw cut.0 (take-append_seam p _) in
     let within : length p ≤ length x = omega (arith, ap length cut.0, length-append p (concat ps)) in
-    let r = rest-parts v l b _ ps plain (All-tail fits p ps cut.1) in
+    let r = rest-parts v l b how _ ps (may-behind how p _ (subst (MayWrite how) cut.0 may)) plain (All-tail fits p ps cut.1) in
     let left : drop n x ≡ concat r.0 = ap (λ (ys : List ℕ). drop n ys) cut.0 ∙ (behind-all n p _ (fit.longest (length p) within (subst fits (sym front) (All-head fits p ps cut.1))) ∙ r.1.0) in
     omega (arith, r.2)
 
 -- if the parts of the rest after the longest prefix are at least k, those of the bytes are at least k + 1
-pub prefixes-more : (v : ℕ) (l : Level) (b : Rule) (x : List ℕ) (n k : ℕ) → 0 < length x
-    → IsLongestFit v b x (room_of v l) n → ((qs : List (List ℕ)) → AreParts v l b (drop n x) qs
-    → k ≤ length qs) → (ps : List (List ℕ)) → AreParts v l b x ps → k + 1 ≤ length ps
+pub prefixes-more : (v : ℕ) (l : Level) (b : Rule) (how : Interpretation) (x : List ℕ) (n k : ℕ) → 0 < length x
+    → IsLongestFit how v b x (room_of v l how) n → ((qs : List (List ℕ)) → AreParts v l b how (drop n x) qs
+    → k ≤ length qs) → (ps : List (List ℕ)) → AreParts v l b how x ps → k + 1 ≤ length ps
 unfolding AreParts
-prefixes-more v l b x n k some fit many [] h = absurd (omega (arith, ap length h))
-prefixes-more v l b x n k some fit many (p ∷ ps) h =
-    let more = many ps (subst (λ (m : ℕ). AreParts v l b (drop m x) ps) (longest-one v b x _ h.0 n h.2 fit) h.4) in omega arith
+prefixes-more v l b how x n k some fit many [] h = absurd (omega (arith, ap length h))
+prefixes-more v l b how x n k some fit many (p ∷ ps) h =
+    let more = many ps (subst (λ (m : ℕ). AreParts v l b how (drop m x) ps) (longest-one how v b x _ h.0 n h.2 fit) h.4) in omega arith
 
 -- an input with a byte needs at least one part
-pub needs-some : (v : ℕ) (l : Level) (b : Rule) (x : List ℕ) → 0 < length x → NeedsParts v l b x 1
-needs-some v l b x some [] cut = absurd (omega (arith, ap length cut.0))
-needs-some v l b x some (p ∷ ps) cut = omega arith
+pub needs-some : (v : ℕ) (l : Level) (b : Rule) (how : Interpretation) (x : List ℕ) → 0 < length x → NeedsParts v l b how x 1
+needs-some v l b how x some [] cut = absurd (omega (arith, ap length cut.0))
+needs-some v l b how x some (p ∷ ps) cut = omega arith
 
 -- without kanji mode, bytes need as many parts as their longest prefixes make
-pub needs-parts : (v : ℕ) (l : Level) (b : Rule) (x : List ℕ) (ps : List (List ℕ)) → may_use b Kanji ≡ false → AreParts v l b x ps → NeedsParts v l b x (length ps)
+pub needs-parts : (v : ℕ) (l : Level) (b : Rule) (how : Interpretation) (x : List ℕ) (ps : List (List ℕ)) → MayWrite how x → may_use b Kanji ≡ false → AreParts v l b how x ps → NeedsParts v l b how x (length ps)
 unfolding AreParts
-needs-parts v l b x [] plain h qs cut = omega arith
-needs-parts v l b x (p ∷ ps) plain h qs cut =
-    let more = needs-more v l b x h.0 (length ps) plain (omega arith) h.2 (needs-parts v l b (drop h.0 x) ps plain h.4) qs cut in omega arith
+needs-parts v l b how x [] may plain h qs cut = omega arith
+needs-parts v l b how x (p ∷ ps) may plain h qs cut =
+    let more = needs-more v l b how x h.0 (length ps) may plain (omega arith) h.2 (needs-parts v l b how (drop h.0 x) ps (may_write-drop how h.0 x may) plain h.4) qs cut in omega arith
 
 -- the parts of bytes are parts that fit
-pub parts-fit : (v : ℕ) (l : Level) (b : Rule) (x : List ℕ) (ps : List (List ℕ)) → AreParts v l b x ps → FitParts v l b x ps
+pub parts-fit : (v : ℕ) (l : Level) (b : Rule) (how : Interpretation) (x : List ℕ) (ps : List (List ℕ)) → AreParts v l b how x ps → FitParts v l b how x ps
 unfolding AreParts
-parts-fit v l b x [] h = (h, All-nil (λ q. HasFit v b q (room_of v l)))
-parts-fit v l b x (p ∷ ps) h =
-    let fits = λ (q : List ℕ). HasFit v b q (room_of v l) in let rest = parts-fit v l b (drop h.0 x) ps h.4 in
+parts-fit v l b how x [] h = (h, All-nil (λ q. HasFit how v b q (room_of v l how)))
+parts-fit v l b how x (p ∷ ps) h =
+    let fits = λ (q : List ℕ). HasFit how v b q (room_of v l how) in let rest = parts-fit v l b how (drop h.0 x) ps h.4 in
     (sym (rw (h.3, ← rest.0) (take-append-drop h.0 x)), All-cons fits p ps (subst fits (sym h.3) h.2.fits) rest.1)
 
 -- ---- the symbols of parts, one after another
 
 -- the length with index i is that of the longest prefix of the rest that it cuts
-pub lengths-at : (v : ℕ) (l : Level) (b : Rule) (rest ns : List ℕ) (i : ℕ) → i < length ns → AreLengths v l b
-    rest (drop i ns) → IsLongestFit v b rest (room_of v l) (get_or ns i 0) × AreLengths v l b (drop (get_or ns i 0)
+pub lengths-at : (v : ℕ) (l : Level) (b : Rule) (how : Interpretation) (rest ns : List ℕ) (i : ℕ) → i < length ns → AreLengths v l b how
+    rest (drop i ns) → IsLongestFit how v b rest (room_of v l how) (get_or ns i 0) × AreLengths v l b how (drop (get_or ns i 0)
     rest) (drop (i + 1) ns)
 unfolding AreLengths
-lengths-at v l b rest ns i some h =
-    let here : AreLengths v l b rest (get_or ns i 0 ∷ drop (suc i) ns) = rw (drop-cons ns i 0) at h in
+lengths-at v l b how rest ns i some h =
+    let here : AreLengths v l b how rest (get_or ns i 0 ∷ drop (suc i) ns) = rw (drop-cons ns i 0) at h in
     let next : suc i ≡ i + 1 = omega arith in
-    (here.1, subst (λ (k : ℕ). AreLengths v l b (drop (get_or ns i 0) rest) (drop k ns)) next here.2)
+    (here.1, subst (λ (k : ℕ). AreLengths v l b how (drop (get_or ns i 0) rest) (drop k ns)) next here.2)
 
 -- if the symbols made and those of the rest are those of all parts, so they are with the next symbol
-pub symbols-more : (v : ℕ) (l : Level) (b : Rule) (last parity k : ℕ) (rest ns : List ℕ) (whole : List (List ℕ))
-    (found : List Symbol) (s : Symbol) → k < length ns → IsSymbolOf v l b (take (get_or ns k 0) rest) (Some (record
-    { position = k; last = last; parity = parity })) s → ((ss : List Symbol) → AreSymbolsFrom v l b last parity k
-    (parts_of rest (drop k ns)) ss → AreSymbolsFrom v l b last parity 0 whole (found ++ ss)) → (ss : List Symbol)
-    → AreSymbolsFrom v l b last parity (k + 1) (parts_of (drop (get_or ns k 0) rest) (drop (k + 1) ns)) ss →
-    AreSymbolsFrom v l b last parity 0 whole ((found ++ s ∷ []) ++ ss)
+pub symbols-more : (v : ℕ) (l : Level) (b : Rule) (how : Interpretation) (last parity k : ℕ) (rest ns : List ℕ) (whole : List (List ℕ))
+    (found : List Symbol) (s : Symbol) → k < length ns → IsSymbolOf v l b how (take (get_or ns k 0) rest) (Some (record
+    { position = k; last = last; parity = parity })) s → ((ss : List Symbol) → AreSymbolsFrom v l b how last parity k
+    (parts_of rest (drop k ns)) ss → AreSymbolsFrom v l b how last parity 0 whole (found ++ ss)) → (ss : List Symbol)
+    → AreSymbolsFrom v l b how last parity (k + 1) (parts_of (drop (get_or ns k 0) rest) (drop (k + 1) ns)) ss →
+    AreSymbolsFrom v l b how last parity 0 whole ((found ++ s ∷ []) ++ ss)
 unfolding AreSymbolsFrom parts_of
-symbols-more v l b last parity k rest ns whole found s some is all ss h =
+symbols-more v l b how last parity k rest ns whole found s some is all ss h =
     let next : k + 1 ≡ suc k = omega arith in
-    rw append_assoc (all (s ∷ ss) (rw (drop-cons ns k 0) (is, (subst (λ (j : ℕ). AreSymbolsFrom v l b last parity (k + 1) (parts_of (drop (get_or ns k 0) rest) (drop j ns)) ss) next h))))
+    rw append_assoc (all (s ∷ ss) (rw (drop-cons ns k 0) (is, (subst (λ (j : ℕ). AreSymbolsFrom v l b how last parity (k + 1) (parts_of (drop (get_or ns k 0) rest) (drop j ns)) ss) next h))))
 
 -- if there is no part left, there is no symbol left
-pub symbols-none : (v : ℕ) (l : Level) (b : Rule) (last parity k : ℕ) (rest : List ℕ) → AreSymbolsFrom v l b last parity k (parts_of rest []) []
+pub symbols-none : (v : ℕ) (l : Level) (b : Rule) (how : Interpretation) (last parity k : ℕ) (rest : List ℕ) → AreSymbolsFrom v l b how last parity k (parts_of rest []) []
 unfolding AreSymbolsFrom parts_of
-symbols-none v l b last parity k rest = tt
+symbols-none v l b how last parity k rest = tt

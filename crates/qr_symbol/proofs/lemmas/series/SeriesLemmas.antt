@@ -1,11 +1,13 @@
 -- An input has only one series, which is read as the input; long inputs have no series.
-use Rattle.qr_bits.specs.Parsing.{plain_content}
-use Rattle.qr_bits.{proofs.Facts.{fitting_short, empty_fits}, specs.{Header.parity_of, Parsing.Content}}
+use Rattle.qr_bits.specs.declared.interpretation.Interpretation.{Interpretation}
+use Rattle.qr_bits.specs.Interpretation.{MayWrite}
+use Rattle.qr_symbol.proofs.lemmas.version_choice.FitLemmas.{version-short}
+use Rattle.qr_bits.{proofs.Facts.{empty_fits, may_write-drop, may_write-take}, specs.{Header.parity_of, Parsing.Content}}
 use Rattle.{qr_bits.specs.declared.{header.Header.Header, modes.Rule.Rule}, qr_layout.specs.declared.level.Level.Level}
 use Rattle.{qr_matrix.specs.Grid.Grid, qr_symbol.proofs.lemmas.encoding.SymbolLemmas.symbol-at-one}
 use Rattle.qr_symbol.proofs.lemmas.{encoding.SymbolMakingLemmas.symbol-fits, reading.RoundTripLemmas.symbol-read}
 use Rattle.qr_symbol.proofs.lemmas.series.PartLemmas.{parts-are, length-parts, parts-one, parts-some, parts-long}
-use Rattle.qr_symbol.specs.{Joining.{AreReadBy, bytes_of_all, HaveHeaders, IsJoined}, Reading.IsReading}
+use Rattle.qr_symbol.specs.{Joining.{AreReadBy, bytes_of_all, HaveHeaders, IsJoined}, Reading.{interpreted_content, IsReading}}
 use Rattle.qr_symbol.specs.Series.{squares_of, AreParts, IsSymbolOf, AreSymbolsFrom, IsSplit, IsPlainSymbol, IsSeries}
 use Rattle.{qr_symbol.specs.Steps.Series.{AreLengths, parts_of}, std.proofs.lemmas.List.{append-nil, take-append-drop}}
 use Rattle.qr_symbol.specs.{VersionChoice.{FitsVersion, HasNoVersion}, declared.symbol.Symbol.Symbol}
@@ -14,33 +16,33 @@ use Rattle.std.proofs.Common.{◌≡◌, ℕ, suc, ◌+◌, ◌-◌, ◌*◌, �
 -- ---- what makes a series
 
 -- a plain symbol is a series
-pub lone-series : (x : List ℕ) (l : Level) (b : Rule) (v : ℕ) (s : Symbol) (ss : List Symbol) → IsSymbolOf v l b x None s → ss ≡ s ∷ [] → IsSeries v l b x ss
-lone-series x l b v s ss made alone = inl (search (arith, symbol-fits))
+pub lone-series : (x : List ℕ) (l : Level) (b : Rule) (how : Interpretation) (v : ℕ) (s : Symbol) (ss : List Symbol) → 1 ≤ v → v ≤ 40 → IsSymbolOf v l b how x None s → ss ≡ s ∷ [] → IsSeries v l b how x ss
+lone-series x l b how v s ss p q made alone = inl (search (arith, symbol-fits))
 
 -- the symbols of parts are a series
-pub split-series : (x : List ℕ) (l : Level) (b : Rule) (v : ℕ) (ns : List ℕ) (ss : List Symbol) → (FitsVersion v l b x → ⊥) → AreLengths v l b x ns → length ns ≤ 16
-    → AreSymbolsFrom v l b (length ns - 1) (parity_of x) 0 (parts_of x ns) ss → IsSeries v l b x ss
-split-series x l b v ns ss long cut few made = search (arith, length-parts, parts-are)
+pub split-series : (x : List ℕ) (l : Level) (b : Rule) (how : Interpretation) (v : ℕ) (ns : List ℕ) (ss : List Symbol) → (FitsVersion v l b how x → ⊥) → AreLengths v l b how x ns → length ns ≤ 16
+    → AreSymbolsFrom v l b how (length ns - 1) (parity_of x) 0 (parts_of x ns) ss → IsSeries v l b how x ss
+split-series x l b how v ns ss long cut few made = search (arith, length-parts, parts-are)
 
 -- ---- only one series
 
 -- bytes have at most one symbol of a version and a level after an optional header
-pub symbol-of-one : (v : ℕ) (l : Level) (b : Rule) (x : List ℕ) (h : Option Header) (s t : Symbol) → IsSymbolOf v l b x h s → IsSymbolOf v l b x h t → s ≡ t
-symbol-of-one v l b x h s t a c = let same = symbol-at-one v l b x h _ _ _ _ a.made c.made in search arith
+pub symbol-of-one : (v : ℕ) (l : Level) (b : Rule) (how : Interpretation) (x : List ℕ) (h : Option Header) (s t : Symbol) → IsSymbolOf v l b how x h s → IsSymbolOf v l b how x h t → s ≡ t
+symbol-of-one v l b how x h s t a c = let same = symbol-at-one v l b how x h _ _ _ _ a.made c.made in search arith
 
 -- parts have at most one list of symbols
-symbols-one : (v : ℕ) (l : Level) (b : Rule) (last parity k : ℕ) (ps : List (List ℕ)) (ss ts : List Symbol) → AreSymbolsFrom v l b last parity k ps ss → AreSymbolsFrom v l b last parity k ps ts → ss ≡ ts
+symbols-one : (v : ℕ) (l : Level) (b : Rule) (how : Interpretation) (last parity k : ℕ) (ps : List (List ℕ)) (ss ts : List Symbol) → AreSymbolsFrom v l b how last parity k ps ss → AreSymbolsFrom v l b how last parity k ps ts → ss ≡ ts
 unfolding AreSymbolsFrom
-symbols-one v l b last parity k (p ∷ ps) (s ∷ ss) (t ∷ ts) h g =
-    search (arith, symbol-of-one, symbols-one v l b last parity (k + 1) ps ss ts h.1 g.1)
-symbols-one v l b last parity k ps ss ts h g = search arith
+symbols-one v l b how last parity k (p ∷ ps) (s ∷ ss) (t ∷ ts) h g =
+    search (arith, symbol-of-one, symbols-one v l b how last parity (k + 1) ps ss ts h.1 g.1)
+symbols-one v l b how last parity k ps ss ts h g = search arith
 
 -- bytes have at most one series
-pub series-one : (x : List ℕ) (l : Level) (b : Rule) (v : ℕ) (ss ts : List Symbol) → IsSeries v l b x ss → IsSeries v l b x ts → ss ≡ ts
-series-one x l b v ss ts (inl h) (inl k) = cc (symbol-of-one v l b x None h.symbol k.symbol h.made k.made)
-series-one x l b v ss ts (inl h) (inr k) = absurd (k.too_long h.fits)
-series-one x l b v ss ts (inr h) (inl k) = absurd (h.too_long k.fits)
-series-one x l b v ss ts (inr h) (inr k) = search (arith, parts-one, symbols-one)
+pub series-one : (x : List ℕ) (l : Level) (b : Rule) (how : Interpretation) (v : ℕ) (ss ts : List Symbol) → IsSeries v l b how x ss → IsSeries v l b how x ts → ss ≡ ts
+series-one x l b how v ss ts (inl h) (inl k) = cc (symbol-of-one v l b how x None h.symbol k.symbol h.made k.made)
+series-one x l b how v ss ts (inl h) (inr k) = absurd (k.too_long h.fits)
+series-one x l b how v ss ts (inr h) (inl k) = absurd (h.too_long k.fits)
+series-one x l b how v ss ts (inr h) (inr k) = search (arith, parts-one, symbols-one)
 
 -- ---- what a series is read as
 
@@ -53,16 +55,17 @@ record AreRead (x : List ℕ) (last parity k count : ℕ) (squares : List Grid) 
   bytes : bytes_of_all contents ≡ x
 
 -- the symbols of parts are read as the parts, in their order
-symbols-read : (v : ℕ) (l : Level) (b : Rule) (last parity k : ℕ) (x : List ℕ) (ps : List (List ℕ)) (ss : List Symbol) → 1 ≤ v → v ≤ 40 → AreParts v l b x ps → AreSymbolsFrom v l b last parity k ps ss
+symbols-read : (v : ℕ) (l : Level) (b : Rule) (how : Interpretation) (last parity k : ℕ) (x : List ℕ) (ps : List (List ℕ)) (ss : List Symbol) → 1 ≤ v → v ≤ 40 → MayWrite how x → AreParts v l b how x ps → AreSymbolsFrom v l b how last parity k ps ss
     → AreRead x last parity k (length ps) (squares_of ss)
 unfolding AreParts AreSymbolsFrom AreReadBy HaveHeaders
-symbols-read v l b last parity k x [] [] i j cut h = search arith
-symbols-read v l b last parity k x [] (s ∷ ss) i j cut h = absurd h
-symbols-read v l b last parity k x (p ∷ ps) [] i j cut h = absurd h
-symbols-read v l b last parity k x (p ∷ ps) (s ∷ ss) i j cut h =
-    let rest = symbols-read v l b _ _ (k + 1) _ ps ss i j cut.4 h.1 in
-    let made = h.0.made in record {
-      contents = (plain_content (Some (record { position = k; last = last; parity = parity })) made.segments p) ∷ rest.contents;
+symbols-read v l b how last parity k x [] [] i j w cut h = search arith
+symbols-read v l b how last parity k x [] (s ∷ ss) i j w cut h = absurd h
+symbols-read v l b how last parity k x (p ∷ ps) [] i j w cut h = absurd h
+symbols-read v l b how last parity k x (p ∷ ps) (s ∷ ss) i j w cut h =
+    let rest = symbols-read v l b how _ _ (k + 1) _ ps ss i j (may_write-drop how cut.0 x w) cut.4 h.1 in
+    let made = h.0.made in
+    let may : MayWrite how p = subst (λ (ys : List ℕ). MayWrite how ys) (sym cut.3) (may_write-take how cut.0 x w) in record {
+      contents = (interpreted_content how (Some (record { position = k; last = last; parity = parity })) made.segments p) ∷ rest.contents;
       read = search (arith, symbol-read);
       headers = (refl, rest.headers);
       many = ap suc rest.many;
@@ -70,45 +73,45 @@ symbols-read v l b last parity k x (p ∷ ps) (s ∷ ss) i j cut h =
     }
 
 -- joining a symbol without a header has its bytes as the result
-lone-joined : (x : List ℕ) (l : Level) (b : Rule) (v : ℕ) (ss : List Symbol) → 1 ≤ v → v ≤ 40 → IsPlainSymbol v l b x ss → IsJoined (squares_of ss) x
+lone-joined : (x : List ℕ) (l : Level) (b : Rule) (how : Interpretation) (v : ℕ) (ss : List Symbol) → 1 ≤ v → v ≤ 40 → MayWrite how x → IsPlainSymbol v l b how x ss → IsJoined (squares_of ss) x
 unfolding AreReadBy
-lone-joined x l b v ss i j h =
-    let made = h.made.made in let content : Content = plain_content None made.segments x in
+lone-joined x l b how v ss i j w h =
+    let made = h.made.made in let content : Content = interpreted_content how None made.segments x in
     subst (λ (ts : List Symbol). IsJoined (squares_of ts) x) (sym h.alone) (record {
       contents = content ∷ [];
-      read = (symbol-read v l b x None _ _ i j made, tt);
+      read = (symbol-read v l b how x None _ _ i j w made, tt);
       together = inl (content, refl, refl);
       joined = sym (append-nil x);
     })
 
 -- the symbols of parts are joined to the bytes
-split-joined : (x : List ℕ) (l : Level) (b : Rule) (v : ℕ) (ss : List Symbol) → 1 ≤ v → v ≤ 40 → IsSplit v l b x ss → IsJoined (squares_of ss) x
-split-joined x l b v ss i j h =
-    let r = symbols-read v l b _ _ 0 x _ ss i j h.split h.made in
+split-joined : (x : List ℕ) (l : Level) (b : Rule) (how : Interpretation) (v : ℕ) (ss : List Symbol) → 1 ≤ v → v ≤ 40 → MayWrite how x → IsSplit v l b how x ss → IsJoined (squares_of ss) x
+split-joined x l b how v ss i j w h =
+    let r = symbols-read v l b how _ _ 0 x _ ss i j w h.split h.made in
     let last : length h.parts - 1 ≡ length r.contents - 1 = ap (λ (n : ℕ). n - 1) (sym r.many) in record {
       contents = r.contents;
       read = r.read;
-      together = inr ((let some = parts-some v l b x _ h.split (not-empty x l b v h.too_long) in omega arith), (subst (λ (ys : List ℕ). HaveHeaders (length r.contents - 1) (parity_of ys) 0 r.contents) (sym r.bytes) (subst (λ (n : ℕ). HaveHeaders n (parity_of x) 0 r.contents) last r.headers)));
+      together = inr ((let some = parts-some v l b how x _ h.split (not-empty x l b how v h.too_long) in omega arith), (subst (λ (ys : List ℕ). HaveHeaders (length r.contents - 1) (parity_of ys) 0 r.contents) (sym r.bytes) (subst (λ (n : ℕ). HaveHeaders n (parity_of x) 0 r.contents) last r.headers)));
       joined = sym r.bytes;
     }
   where
     -- what does not fit is not empty
-    not-empty : (x : List ℕ) (l : Level) (b : Rule) (v : ℕ) → (FitsVersion v l b x → ⊥) → 0 < length x
-    not-empty [] l b v none = absurd (none (empty_fits v b _))
-    not-empty _ l b v _ = omega arith
+    not-empty : (x : List ℕ) (l : Level) (b : Rule) (how : Interpretation) (v : ℕ) → (FitsVersion v l b how x → ⊥) → 0 < length x
+    not-empty [] l b how v none = absurd (none (empty_fits how v b _))
+    not-empty _ l b how v _ = omega arith
 
 -- a series is joined to its bytes
-pub series-joined : (x : List ℕ) (l : Level) (b : Rule) (v : ℕ) (ss : List Symbol) → 1 ≤ v → v ≤ 40 → IsSeries v l b x ss → IsJoined (squares_of ss) x
-series-joined x l b v ss i j (inl h) = lone-joined x l b v ss i j h
-series-joined x l b v ss i j (inr h) = split-joined x l b v ss i j h
+pub series-joined : (x : List ℕ) (l : Level) (b : Rule) (how : Interpretation) (v : ℕ) (ss : List Symbol) → 1 ≤ v → v ≤ 40 → MayWrite how x → IsSeries v l b how x ss → IsJoined (squares_of ss) x
+series-joined x l b how v ss i j w (inl h) = lone-joined x l b how v ss i j w h
+series-joined x l b how v ss i j w (inr h) = split-joined x l b how v ss i j w h
 
 -- ---- long inputs
 
 -- more than 7,089 bytes fit no version
-pub long-fits-none : (x : List ℕ) (l : Level) (smallest : ℕ) (b : Rule) → 1 ≤ smallest → 7089 < length x → HasNoVersion smallest l b x
-long-fits-none x l smallest b i long v p q fits = let short = fitting_short v l b x (omega arith) q fits in omega arith
+pub long-fits-none : (x : List ℕ) (l : Level) (smallest : ℕ) (b : Rule) (how : Interpretation) → 1 ≤ smallest → 7089 < length x → HasNoVersion smallest l b how x
+long-fits-none x l smallest b how i long v p q fits = let short = version-short v l b how x (omega arith) q fits in omega arith
 
 -- inputs of more than 16 times 7,089 bytes have no series
-pub long-has-no-series : (x : List ℕ) (l : Level) (b : Rule) (v : ℕ) (ss : List Symbol) → 1 ≤ v → v ≤ 40 → 7089 * 16 < length x → IsSeries v l b x ss → ⊥
-long-has-no-series x l b v ss i j long (inl h) = let short = fitting_short v l b x i j h.fits in omega arith
-long-has-no-series x l b v ss i j long (inr h) = search (arith, parts-long)
+pub long-has-no-series : (x : List ℕ) (l : Level) (b : Rule) (how : Interpretation) (v : ℕ) (ss : List Symbol) → 1 ≤ v → v ≤ 40 → 7089 * 16 < length x → IsSeries v l b how x ss → ⊥
+long-has-no-series x l b how v ss i j long (inl h) = let short = version-short v l b how x i j h.fits in omega arith
+long-has-no-series x l b how v ss i j long (inr h) = search (arith, parts-long)

@@ -2,50 +2,52 @@
 use Rattle.std.proofs.Common.{◌≡◌, ℕ, ◌+◌, ◌<◌, ◌≤◌, inl, inr, false, List, [], ◌∷◌, length, refl, sym, subst, arith}
 use Rattle.std.{proofs.lemmas.List.Elements.All-nil, specs.List.All}
 use Rattle.qr_layout.specs.{Version.side_of, declared.level.Level.Level}
-use Rattle.qr_bits.{proofs.Facts.empty_fits, specs.Modes.may_use, specs.Padding.capacity_of}
+use Rattle.qr_bits.{proofs.Facts.empty_fits, specs.Modes.may_use}
+use Rattle.qr_bits.specs.declared.interpretation.Interpretation.{Interpretation}
+use Rattle.qr_bits.specs.Interpretation.{MayWrite}
 use Rattle.qr_bits.specs.declared.modes.{Mode.TheVariants.Kanji, Rule.Rule}
 use Rattle.qr_symbol.proofs.lemmas.series.PartLemmas.{needs-some, needs-parts}
 use Rattle.qr_symbol.specs.Series.{squares_of, AreParts, NeedsParts, AreSymbolsFrom, IsSeries}
 use Rattle.qr_symbol.specs.{VersionChoice.FitsVersion, declared.symbol.Symbol.Symbol}
 
 -- there are as many symbols as parts
-pub symbols-many : (v : ℕ) (l : Level) (b : Rule) (last parity k : ℕ) (ps : List (List ℕ)) (ss : List Symbol) → AreSymbolsFrom v l b last parity k ps ss → length ss ≡ length ps
+pub symbols-many : (v : ℕ) (l : Level) (b : Rule) (how : Interpretation) (last parity k : ℕ) (ps : List (List ℕ)) (ss : List Symbol) → AreSymbolsFrom v l b how last parity k ps ss → length ss ≡ length ps
 unfolding AreSymbolsFrom
-symbols-many v l b last parity k [] [] h = refl
-symbols-many v l b last parity k [] (s ∷ ss) h = absurd h
-symbols-many v l b last parity k (p ∷ ps) [] h = absurd h
-symbols-many v l b last parity k (p ∷ ps) (s ∷ ss) h = omega (arith, symbols-many v l b _ _ (k + 1) ps ss h.1)
+symbols-many v l b how last parity k [] [] h = refl
+symbols-many v l b how last parity k [] (s ∷ ss) h = absurd h
+symbols-many v l b how last parity k (p ∷ ps) [] h = absurd h
+symbols-many v l b how last parity k (p ∷ ps) (s ∷ ss) h = omega (arith, symbols-many v l b how _ _ (k + 1) ps ss h.1)
 
 -- each symbol of the parts has the side of the version
-pub symbols-side : (v : ℕ) (l : Level) (b : Rule) (last parity k : ℕ) (ps : List (List ℕ)) (ss : List Symbol) → AreSymbolsFrom v l b last parity k ps ss → All (λ g. g.side ≡ side_of v) (squares_of ss)
+pub symbols-side : (v : ℕ) (l : Level) (b : Rule) (how : Interpretation) (last parity k : ℕ) (ps : List (List ℕ)) (ss : List Symbol) → AreSymbolsFrom v l b how last parity k ps ss → All (λ g. g.side ≡ side_of v) (squares_of ss)
 unfolding AreSymbolsFrom
-symbols-side v l b last parity k [] [] h = All-nil (λ g. g.side ≡ side_of v)
-symbols-side v l b last parity k [] (s ∷ ss) h = absurd h
-symbols-side v l b last parity k (p ∷ ps) [] h = absurd h
-symbols-side v l b last parity k (p ∷ ps) (s ∷ ss) h = search (arith, symbols-side v l b _ _ (k + 1) ps ss h.1)
+symbols-side v l b how last parity k [] [] h = All-nil (λ g. g.side ≡ side_of v)
+symbols-side v l b how last parity k [] (s ∷ ss) h = absurd h
+symbols-side v l b how last parity k (p ∷ ps) [] h = absurd h
+symbols-side v l b how last parity k (p ∷ ps) (s ∷ ss) h = search (arith, symbols-side v l b how _ _ (k + 1) ps ss h.1)
 
 -- bytes that do not fit one symbol have at least one part
-parts-some : (x : List ℕ) (l : Level) (b : Rule) (v : ℕ) (ps : List (List ℕ)) → (FitsVersion v l b x → ⊥) → AreParts v l b x ps → 0 < length ps
+parts-some : (x : List ℕ) (l : Level) (b : Rule) (how : Interpretation) (v : ℕ) (ps : List (List ℕ)) → (FitsVersion v l b how x → ⊥) → AreParts v l b how x ps → 0 < length ps
 unfolding AreParts
-parts-some x l b v [] long none = absurd (long (subst (λ (y : List ℕ). FitsVersion v l b y) (sym none) (empty_fits v b (capacity_of v l))))
-parts-some x l b v (p ∷ ps) long h = omega arith
+parts-some x l b how v [] long none = absurd (long (subst (λ (y : List ℕ). FitsVersion v l b how y) (sym none) (empty_fits how v b _)))
+parts-some x l b how v (p ∷ ps) long h = omega arith
 
 -- a series has at least one symbol
-pub series-some : (x : List ℕ) (l : Level) (b : Rule) (v : ℕ) (ss : List Symbol) → IsSeries v l b x ss → 0 < length ss
-series-some x l b v ss (inl h) = search arith
-series-some x l b v ss (inr h) = search (arith, parts-some, symbols-many)
+pub series-some : (x : List ℕ) (l : Level) (b : Rule) (how : Interpretation) (v : ℕ) (ss : List Symbol) → IsSeries v l b how x ss → 0 < length ss
+series-some x l b how v ss (inl h) = search arith
+series-some x l b how v ss (inr h) = search (arith, parts-some, symbols-many)
 
 -- a series has at most 16 symbols
-pub series-few : (x : List ℕ) (l : Level) (b : Rule) (v : ℕ) (ss : List Symbol) → IsSeries v l b x ss → length ss ≤ 16
-series-few x l b v ss (inl h) = subst (λ (ts : List Symbol). length ts ≤ 16) (sym h.alone) (omega arith)
-series-few x l b v ss (inr h) = let m = h.many in let e = symbols-many v l b _ _ 0 h.parts ss h.made in omega arith
+pub series-few : (x : List ℕ) (l : Level) (b : Rule) (how : Interpretation) (v : ℕ) (ss : List Symbol) → IsSeries v l b how x ss → length ss ≤ 16
+series-few x l b how v ss (inl h) = subst (λ (ts : List Symbol). length ts ≤ 16) (sym h.alone) (omega arith)
+series-few x l b how v ss (inr h) = let m = h.many in let e = symbols-many v l b how _ _ 0 h.parts ss h.made in omega arith
 
 -- without kanji mode, bytes need as many parts as their series has symbols
-pub series-shortest : (x : List ℕ) (l : Level) (b : Rule) (v : ℕ) (ss : List Symbol) → may_use b Kanji ≡ false → 0 < length x → IsSeries v l b x ss → NeedsParts v l b x (length ss)
-series-shortest x l b v ss plain some (inl h) = subst (λ (ts : List Symbol). NeedsParts v l b x (length ts)) (sym h.alone) (needs-some v l b x some)
-series-shortest x l b v ss plain some (inr h) = search (arith, symbols-many, needs-parts)
+pub series-shortest : (x : List ℕ) (l : Level) (b : Rule) (how : Interpretation) (v : ℕ) (ss : List Symbol) → MayWrite how x → may_use b Kanji ≡ false → 0 < length x → IsSeries v l b how x ss → NeedsParts v l b how x (length ss)
+series-shortest x l b how v ss may plain some (inl h) = subst (λ (ts : List Symbol). NeedsParts v l b how x (length ts)) (sym h.alone) (needs-some v l b how x some)
+series-shortest x l b how v ss may plain some (inr h) = search (arith, symbols-many, needs-parts)
 
 -- the symbols of a series have the side of their version
-pub series-side : (x : List ℕ) (l : Level) (b : Rule) (v : ℕ) (ss : List Symbol) → IsSeries v l b x ss → All (λ g. g.side ≡ side_of v) (squares_of ss)
-series-side x l b v ss (inl h) = search arith
-series-side x l b v ss (inr h) = symbols-side v l b _ _ 0 h.parts ss h.made
+pub series-side : (x : List ℕ) (l : Level) (b : Rule) (how : Interpretation) (v : ℕ) (ss : List Symbol) → IsSeries v l b how x ss → All (λ g. g.side ≡ side_of v) (squares_of ss)
+series-side x l b how v ss (inl h) = search arith
+series-side x l b how v ss (inr h) = symbols-side v l b how _ _ 0 h.parts ss h.made

@@ -1,8 +1,11 @@
 -- The least version that an input fits, found with the segments of the first version of each range of equal widths.
-use Rattle.qr_bits.specs.{Modes.count_width, Padding.capacity_of, Segmentation.{bits, IsLeastSegmentation}}
+use Rattle.qr_bits.proofs.Facts.{capacity_least, characters-most, fitting_short, least_fits}
+use Rattle.qr_bits.specs.{Interpretation.interpretation_bits, Modes.count_width, Padding.capacity_of}
+use Rattle.qr_bits.specs.Segmentation.{bits, IsLeastSegmentation}
+use Rattle.qr_bits.specs.declared.interpretation.Interpretation.{Interpretation}
 use Rattle.qr_bits.specs.declared.{modes.{Mode.Mode, Rule.Rule}, segment.Segment.Segment}
 use Rattle.{qr_layout.specs.declared.level.Level.Level, qr_symbol.specs.VersionChoice.{FitsVersion, IsVersion}}
-use Rattle.std.proofs.{Common.{◌≡◌, ℕ, ◌<◌, ◌≤◌, inl, inr, List, [], ◌∷◌, refl, arith}, lemmas.Bool.cases_lt}
+use Rattle.std.proofs.{Common.{◌≡◌, ℕ, ◌+◌, ◌-◌, ◌*◌, ◌<◌, ◌≤◌, inl, inr, List, [], ◌∷◌, length, refl, sym, ap, arith}, lemmas.Bool.cases_lt}
 
 -- Segments have the same number of bits in versions of the same widths.
 bits-same : (u v : ℕ) → ((m : Mode) → count_width u m ≡ count_width v m) → (segs : List Segment) → bits u segs ≡ bits v segs
@@ -10,38 +13,58 @@ bits-same u v same [] = refl
 bits-same u v same (s ∷ ss) = omega (arith, same s.mode, bits-same u v same ss)
 
 -- So versions of the same widths have the same least segmentation.
-pub segmentation-same : (u v : ℕ) (rule : Rule) (xs : List ℕ) (segs : List Segment) → ((m : Mode) → count_width
-    u m ≡ count_width v m) → IsLeastSegmentation u rule xs segs → IsLeastSegmentation v rule xs segs
-segmentation-same u v rule xs segs same h = search (arith, bits-same)
+pub segmentation-same : (u v : ℕ) (rule : Rule) (how : Interpretation) (xs ys : List ℕ) (segs : List Segment) → ((m : Mode) → count_width
+    u m ≡ count_width v m) → IsLeastSegmentation how u rule xs ys segs → IsLeastSegmentation how v rule xs ys segs
+segmentation-same u v rule how xs ys segs same h = search (arith, bits-same)
 
--- The bytes fit a version exactly if the bits of their segments in a version of the same widths do.
-pub fits-bits : (u v : ℕ) (l : Level) (rule : Rule) (xs : List ℕ) (segs : List Segment) → ((m : Mode)
-    → count_width v m ≡ count_width u m) → IsLeastSegmentation u rule xs segs → (FitsVersion v l rule xs
-    → bits u segs ≤ capacity_of v l) × (bits u segs ≤ capacity_of v l → FitsVersion v l rule xs)
-fits-bits u v l rule xs segs same h = search (arith, segmentation-same, bits-same)
+-- The characters of the least segmentation are at most two for each byte.
+pub least-short : (v : ℕ) (rule : Rule) (how : Interpretation) (xs ys : List ℕ) (segs : List Segment) → IsLeastSegmentation how v rule xs ys segs → length ys ≤ 2 * length xs
+least-short v rule how xs ys segs h = omega (arith, ap length h.3, characters-most how xs h.0)
+
+-- What says the interpretation has at most 28 bits.
+pub interpretation-most : (how : Interpretation) → interpretation_bits how ≤ 28
+interpretation-most how = grind arith
+
+-- The bytes fit a version exactly if it has room for the bits of their segments in a version of the same widths, and for
+-- what says the interpretation.
+pub fits-bits : (u v : ℕ) (l : Level) (rule : Rule) (how : Interpretation) (xs ys : List ℕ) (segs : List Segment) → 1 ≤ v → v ≤ 40
+    → ((m : Mode) → count_width v m ≡ count_width u m) → IsLeastSegmentation how u rule xs ys segs
+    → (FitsVersion v l rule how xs → interpretation_bits how + bits u segs ≤ capacity_of v l)
+    × (interpretation_bits how + bits u segs ≤ capacity_of v l → FitsVersion v l rule how xs)
+fits-bits u v l rule how xs ys segs p q same h =
+    let same_bits = bits-same v u same segs in
+    let fits = (least_fits how v rule xs ys segs (segmentation-same u v rule how xs ys segs (λ m. sym (same m)) h)).1 (capacity_of v l - interpretation_bits how) in
+    let room = capacity_least v l p q in let most = interpretation-most how in
+    (λ fit. omega (arith, fits.0 fit), λ few. fits.1 (omega arith))
+
+-- Bytes that fit a version are at most 7,089.
+pub version-short : (v : ℕ) (l : Level) (rule : Rule) (how : Interpretation) (xs : List ℕ) → 1 ≤ v → v ≤ 40 → FitsVersion v l rule how xs → length xs ≤ 7089
+version-short v l rule how xs p q fit = fitting_short how v l rule xs p q (fit.0, fit.1, (let few = fit.2 in omega arith))
 
 -- If the bytes fit no version below u, and their segments fit no version from u to the one before `last`, the bytes fit
 -- none of these versions.
-pub none-fits : (xs : List ℕ) (l : Level) (least : ℕ) (rule : Rule) (u last : ℕ) (segs : List Segment)
-    → ((v : ℕ) → least ≤ v → v < u → FitsVersion v l rule xs → ⊥)
+pub none-fits : (xs ys : List ℕ) (l : Level) (least : ℕ) (rule : Rule) (how : Interpretation) (u last : ℕ) (segs : List Segment)
+    → 1 ≤ least → last ≤ 41 → ((v : ℕ) → least ≤ v → v < u → FitsVersion v l rule how xs → ⊥)
     → ((v : ℕ) → u ≤ v → v < last → (m : Mode) → count_width v m ≡ count_width u m)
-    → IsLeastSegmentation u rule xs segs → ((v : ℕ) → u ≤ v → v < last → capacity_of v l < bits u segs)
-    → (v : ℕ) → least ≤ v → v < last → FitsVersion v l rule xs → ⊥
-none-fits xs l least rule u last segs below same h full v a b fits = elim (cases_lt v u) [
+    → IsLeastSegmentation how u rule xs ys segs
+    → ((v : ℕ) → u ≤ v → v < last → capacity_of v l < interpretation_bits how + bits u segs)
+    → (v : ℕ) → least ≤ v → v < last → FitsVersion v l rule how xs → ⊥
+none-fits xs ys l least rule how u last segs p q below same h full v a b fits = elim (cases_lt v u) [
   | inl i ↦ below v a i fits
-  | inr i ↦ search (arith, fits-bits)
+  | inr i ↦ omega (arith, full v i b, (fits-bits u v l rule how xs ys segs (omega arith) (omega arith) (same v i b) h).0 fits)
 ]
 
 -- If version v also has room for the bits, it is the least version that the bytes fit.
-pub version-found : (xs : List ℕ) (l : Level) (least : ℕ) (rule : Rule) (u v : ℕ) (segs : List Segment)
-    → least ≤ u → u ≤ v → v ≤ 40
-    → ((w : ℕ) → least ≤ w → w < u → FitsVersion w l rule xs → ⊥)
+pub version-found : (xs ys : List ℕ) (l : Level) (least : ℕ) (rule : Rule) (how : Interpretation) (u v : ℕ) (segs : List Segment)
+    → 1 ≤ least → least ≤ u → u ≤ v → v ≤ 40
+    → ((w : ℕ) → least ≤ w → w < u → FitsVersion w l rule how xs → ⊥)
     → ((w : ℕ) → u ≤ w → w ≤ v → (m : Mode) → count_width w m ≡ count_width u m)
-    → IsLeastSegmentation u rule xs segs → ((w : ℕ) → u ≤ w → w < v → capacity_of w l < bits u segs)
-    → bits u segs ≤ capacity_of v l → IsVersion least l rule xs v
-version-found xs l least rule u v segs a b c below same h full room = record {
+    → IsLeastSegmentation how u rule xs ys segs
+    → ((w : ℕ) → u ≤ w → w < v → capacity_of w l < interpretation_bits how + bits u segs)
+    → interpretation_bits how + bits u segs ≤ capacity_of v l → IsVersion least l rule how xs v
+version-found xs ys l least rule how u v segs p a b c below same h full room = record {
   least = omega arith;
   most = c;
-  fits = (fits-bits u v l _ xs _ (same v b (omega arith)) h).1 room;
-  first = none-fits xs l _ _ u v _ below (λ w i j. same w i (omega arith)) h full;
+  fits = (fits-bits u v l _ how xs ys _ (omega arith) c (same v b (omega arith)) h).1 room;
+  first = none-fits xs ys l _ _ how u v _ p (omega arith) below (λ w i j. same w i (omega arith)) h full;
 }

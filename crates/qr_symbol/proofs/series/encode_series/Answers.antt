@@ -13,7 +13,7 @@ returns-then-is_empty c =
       joined = tt;
       shortest = tt;
       empty = (λ _. none, λ _. refl);
-      too_many = (λ e. absurd (empty-many e), λ w. absurd (empty-has-series _ _ _ _ none w.1));
+      too_many = (λ e. absurd (empty-many e), λ w. absurd (empty-has-series _ _ _ _ _ none w.1));
       no_shorter = λ e. absurd (empty-many e);
       fault = inl refl;
     }
@@ -25,12 +25,12 @@ returns c =
     let r = c.series_of.result in
     let empty : r ≡ Err fault.Empty → ⊥ = λ e. not-empty (λ h. cc) (MatchResult-at_err _ _ _ e c.series_of.ensures) in
     let series = MatchResult-weaker r c.series_of.ensures (λ ss h. h) (λ e _. tt) in
-    let many = too-many-exactly _ _ _ _ r c.series_of.ensures in record {
+    let many = too-many-exactly _ _ _ _ _ r c.series_of.ensures in record {
       series = series;
-      joined = IfOk-weaker r _ _ (λ ss h. series-joined _ _ _ _ ss.items least most h) series;
-      shortest = IfOk-weaker r _ _ (λ ss h plain. series-shortest _ _ _ _ ss.items plain (pos_of_ne-zero long) h) series;
+      joined = IfOk-weaker r _ _ (λ ss h. series-joined _ _ _ _ _ ss.items least most c.requires.written h) series;
+      shortest = IfOk-weaker r _ _ (λ ss h plain. series-shortest _ _ _ _ _ ss.items c.requires.written plain (pos_of_ne-zero long) h) series;
       empty = (λ e. absurd (empty e), λ e. absurd (long (ap length e)));
       too_many = many;
-      no_shorter = λ e plain. none-shorter _ _ _ _ least most plain (many.0 e).1;
+      no_shorter = λ e plain. none-shorter _ _ _ _ _ least most c.requires.written plain (many.0 e).1;
       fault = MatchResult-weaker r c.series_of.ensures (λ ss _. tt) (λ e w. elim w [ inl m ↦ inr (inr m) | inr h ↦ inr (inl h.0) ]);
     }

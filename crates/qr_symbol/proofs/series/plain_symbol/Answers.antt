@@ -1,9 +1,18 @@
-use Rattle.{qr_bits.proofs.Facts.{least_fits, covers_all}, std.proofs.Common.arith}
+use Rattle.std.proofs.Common.{◌≡◌, ◌*◌, ◌+◌, ◌≤◌, arith}
+use Rattle.qr_bits.proofs.Facts.{least_fits}
+use Rattle.qr_symbol.proofs.lemmas.encoding.SymbolMakingLemmas.{version-fits}
+use Rattle.qr_symbol.proofs.lemmas.version_choice.FitLemmas.{least-short}
 use Rattle.qr_symbol.proofs.series.plain_symbol.Goals as goal
 
-pub bit_len-requires : goal.bit_len-requires
-bit_len-requires c = let all = covers_all _ _ (least_fits _ _ _ _ c.in_ok-segments.ensures.ok).0 in
-    rw c.deref.ensures.value (record { nonempty = all.0; short = omega (arith, all.1, c.requires) })
+pub needed_bits-requires : goal.needed_bits-requires
+needed_bits-requires c = let is = c.in_ok-segmented.ensures.ok in record {
+  covered = (least_fits _ _ _ _ _ _ is).0;
+  short = omega (arith, least-short _ _ _ _ _ _ is, c.takes_more.ensures.short c.if-takes_more.false);
+}
+
+pub returns-then-needed_bits-from : goal.returns-then-needed_bits-from
+returns-then-needed_bits-from c = λ fits.
+    omega (arith, version-fits _ _ _ _ _ _ _ (omega arith) (omega arith) c.in_ok-segmented.ensures.ok fits, c.needed_bits.ensures, c.if-needed_bits-from.true, c.from.ensures, c.data_codewords.ensures)
 
 pub returns : goal.returns
-returns c = c.in_ok-symbol.ensures c.args.rule (rw c.deref-2.ensures.value c.in_ok-segments.ensures.ok)
+returns c = c.in_ok-symbol.ensures c.args.rule c.args.input.now c.in_ok-segmented.ensures.ok

@@ -2,5 +2,5 @@ use Rattle.{qr_symbol.proofs.lemmas.series.PartLemmas.{longest-cut, longest-some
 use Rattle.qr_symbol.proofs.series.prefix_len.Goals as goal
 
 pub returns : goal.returns
-returns c = let cut = longest-cut _ _ _ _ _ _ (omega arith) (omega arith) (omega arith) c.in_ok-longest_fit.ensures in
-    (longest-some _ _ _ _ _ (omega arith) (omega arith) c.requires.some cut, cut)
+returns c = let cut = longest-cut _ _ _ _ _ _ _ (omega arith) (omega arith) (omega arith) c.in_ok-longest_fit.ensures in
+    (longest-some _ _ _ _ _ _ (omega arith) (omega arith) c.requires.some cut, cut)

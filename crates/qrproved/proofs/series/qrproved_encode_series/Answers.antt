@@ -1,15 +1,15 @@
 use Rattle.std.proofs.Common.{◌≡◌, ℕ, ◌*◌, ◌<◌, List, length, false, sym, ap, subst, ◌∙◌, arith}
 use Rattle.{qr_layout.specs.Version.side_of, qr_bits.specs.{declared.modes.Mode.TheVariants.Kanji, Modes.may_use}}
 use Rattle.qr_symbol.specs.{declared.symbol.Symbol.Symbol, Series.{squares_of, IsSeries, NeedsParts}}
-use Rattle.qrproved.specs.{declared.settings.Settings.Settings, Settings.{level_of, rule_of}, Modules.HoldsSquares}
+use Rattle.qrproved.specs.{declared.settings.Settings.Settings, Settings.{interpretation_of, level_of, rule_of}, Modules.HoldsSquares}
 use Rattle.qrproved.proofs.series.qrproved_encode_series.Goals as goal
 
 pub returns-then-input-gt-INPUT_MAX-clause-room : goal.returns-then-input-gt-INPUT_MAX-clause-room
 returns-then-input-gt-INPUT_MAX-clause-room c =
-    let none = c.long_inputs_have_none.ensures.series c.args.input.now (level_of c.args.level) (rule_of c.args.rule) in (
+    let none = c.long_inputs_have_none.ensures.series c.args.input.now (level_of c.args.level) (rule_of c.args.rule) (interpretation_of c.args.interpretation) in (
       λ h. absurd (omega arith),
       λ w.
-          absurd (none w.3.symbols (omega arith) (subst (λ (s : Settings). IsSeries s.version (level_of c.args.level) (rule_of c.args.rule) c.args.input.now w.3.symbols) (sym c.in-Some.ensures.1) w.3.made)),
+          absurd (none w.4.symbols (omega arith) (subst (λ (s : Settings). IsSeries s.version (level_of c.args.level) (rule_of c.args.rule) (interpretation_of c.args.interpretation) c.args.input.now w.4.symbols) (sym c.in-Some.ensures.1) w.4.made)),
     )
 
 pub returns-else-modules-len-clause-done : goal.returns-else-modules-len-clause-done
@@ -19,9 +19,9 @@ returns-else-modules-len-clause-done c _ =
     record {
       settings = c.in-Some.ensures.0;
       symbols = symbols;
-      made = subst (λ (s : Settings). IsSeries s.version s.level s.rule c.args.input.now symbols) e c.in-Ok.ensures.series;
+      made = subst (λ (s : Settings). IsSeries s.version s.level s.rule s.interpretation c.args.input.now symbols) e c.in-Ok.ensures.series;
       joined = c.in-Ok.ensures.joined;
-      shortest = subst (λ (s : Settings). may_use s.rule Kanji ≡ false → NeedsParts s.version s.level s.rule c.args.input.now (length symbols)) e c.in-Ok.ensures.shortest;
+      shortest = subst (λ (s : Settings). may_use s.rule Kanji ≡ false → NeedsParts s.version s.level s.rule s.interpretation c.args.input.now (length symbols)) e c.in-Ok.ensures.shortest;
       count = omega (arith, c.len-in-Ok.ensures, c.deref.ensures.len, ap length c.deref.ensures.value);
       side = c.side-side.ensures.value ∙ ap (λ (s : Settings). side_of s.version) e;
       holds = subst (λ (ss : List Symbol). HoldsSquares c.side-side.result (squares_of ss) c.args.modules.now c.write_squares.new.modules) c.deref.ensures.value c.write_squares.ensures;
@@ -31,15 +31,15 @@ pub returns-else-modules-len-clause-room : goal.returns-else-modules-len-clause-
 returns-else-modules-len-clause-room c =
     let e = c.in-Some.ensures.1 in
     let symbols = c.in-Ok.symbols.items in
-    let made = subst (λ (s : Settings). IsSeries s.version s.level s.rule c.args.input.now symbols) e c.in-Ok.ensures.series in
+    let made = subst (λ (s : Settings). IsSeries s.version s.level s.rule s.interpretation c.args.input.now symbols) e c.in-Ok.ensures.series in
     let side : c.side-side.result ≡ side_of c.args.version = c.side-side.ensures.value ∙ ap (λ (s : Settings). side_of s.version) e in
     let area : c.area.result ≡ side_of c.args.version * side_of c.args.version = c.area.ensures ∙ ap (λ (n : ℕ). n * n) side in
     let many : c.len.result ≡ length symbols = omega (arith, c.len.ensures, c.deref.ensures.len, ap length c.deref.ensures.value) in (
       λ h. absurd (omega arith),
       λ w.
-          let same = c.series_are_one.ensures c.args.input.now (level_of c.args.level) (rule_of c.args.rule) c.args.version w.3.symbols symbols w.3.made made in
+          let same = c.series_are_one.ensures c.args.input.now (level_of c.args.level) (rule_of c.args.rule) (interpretation_of c.args.interpretation) c.args.version w.4.symbols symbols w.4.made made in
           let room : length c.args.modules.now < length symbols * (side_of c.args.version * side_of c.args.version) =
-          subst (λ (ss : List Symbol). length c.args.modules.now < length ss * (side_of c.args.version * side_of c.args.version)) same w.3.room in
+          subst (λ (ss : List Symbol). length c.args.modules.now < length ss * (side_of c.args.version * side_of c.args.version)) same w.4.room in
           let all : c.len.result * c.area.result ≡ length symbols * (side_of c.args.version * side_of c.args.version) =
           ap (λ (n : ℕ). n * c.area.result) many ∙ ap (λ (n : ℕ). length symbols * n) area in
           absurd (omega (arith, all, room)),

@@ -1,0 +1,48 @@
+use Rattle.qr_bits.proofs.Facts.{least_fits}
+use Rattle.qr_symbol.proofs.lemmas.version_choice.FitLemmas.{least-short, version-short}
+use Rattle.qr_symbol.proofs.lemmas.encoding.SymbolMakingLemmas.{boosted-found, highest-fits, refused-again, refused-only, symbol-back, version-fits}
+use Rattle.std.proofs.Common.{◌≡◌, ap, ◌∙◌, arith}
+use Rattle.std.proofs.lemmas.Result.{err_from_is_err_and, MatchResult-weaker}
+use Rattle.qr_symbol.proofs.encoding.encode_boosted.Goals as goal
+
+pub returns-in_err-fit : goal.returns-in_err-fit
+returns-in_err-fit c =
+    let p = err_from_is_err_and c.from_residual.result c.from_residual.ensures.1 in
+    let told = refused-again _ _ _ _ _ _ c.in_err-fit.ensures.refused in rw (p.1, p.2) (record {
+      symbol = tt;
+      read = tt;
+      empty = told.empty;
+      too_long = told.too_long;
+      long = told.long;
+      fault = told.fault;
+    })
+
+pub needed_bits-bits-requires : goal.needed_bits-bits-requires
+needed_bits-bits-requires c = let fit = c.in_ok-fit.ensures.fit in record {
+  covered = (least_fits _ _ _ _ _ _ fit.chosen).0;
+  short = omega (arith, least-short _ _ _ _ _ _ fit.chosen, version-short _ _ _ _ _ (omega arith) fit.version.most fit.version.fits);
+}
+
+pub highest_with_room-highest-requires : goal.highest_with_room-highest-requires
+highest_with_room-highest-requires c = let fit = c.in_ok-fit.ensures.fit in
+    rw c.needed_bits-bits.ensures (version-fits _ _ _ _ _ _ _ (omega arith) fit.version.most fit.chosen fit.version.fits)
+
+pub fitting_symbol-requires-clause-room : goal.fitting_symbol-requires-clause-room
+fitting_symbol-requires-clause-room c = rw c.needed_bits-bits.ensures at c.highest_with_room-highest.ensures.room
+
+pub returns : goal.returns
+returns c =
+    let fit = c.in_ok-fit.ensures.fit in
+    let room = c.highest_with_room-highest.ensures in
+    let highest = highest-fits _ c.args.level _ _ _ _ _ _ (omega arith) fit.version.most fit.chosen room.least (rw c.needed_bits-bits.ensures at room.room) (rw c.needed_bits-bits.ensures at room.highest) in
+    let r = c.fitting_symbol.result in
+    let made = MatchResult-weaker r c.fitting_symbol.ensures (λ s of_rule. of_rule c.args.rule c.args.input.now fit.chosen) (λ e _. tt) in
+    let refused = MatchResult-weaker r c.fitting_symbol.ensures (λ s _. tt) (λ e memory. memory) in
+    let told = refused-only _ _ _ _ _ _ _ r c.in_ok-fit.ensures.refused fit.version refused in record {
+      symbol = boosted-found _ _ _ _ _ _ _ _ fit.version highest made;
+      read = symbol-back _ _ _ _ _ _ (omega arith) fit.version.most c.requires.written made;
+      empty = told.empty;
+      too_long = told.too_long;
+      long = told.long;
+      fault = told.fault;
+    }

@@ -1,0 +1,23 @@
+-- What the steps of encoding yield for the bytes `x`: their version at level `l` is the least from `smallest` on, and
+-- `rule` determines the allowed modes, and `i` how the bytes are to be interpreted.
+use Rattle.std.specs.Prelude.{◌≡◌, ◌≢◌, ◌<◌, ◌↔◌, ◌⊎◌, ℕ, List, [], length, Result, Err, IfErr}
+use Rattle.qr_layout.specs.declared.level.Level.{Level}
+use Rattle.qr_bits.specs.declared.modes.Rule.{Rule}
+use Rattle.qr_bits.specs.declared.segment.Segment.{Segment}
+use Rattle.qr_bits.specs.declared.interpretation.Interpretation.{Interpretation}
+use Rattle.qr_bits.specs.Segmentation.{IsLeastSegmentation}
+use Rattle.qr_symbol.specs.declared.fault.EncodeFault.{EncodeFault}
+use Rattle.qr_symbol.specs.declared.fault.EncodeFault.TheVariants as fault
+use Rattle.qr_symbol.specs.VersionChoice.{HasNoVersion, IsVersion}
+
+-- The version of `x`, and there the characters of the segments of fewest bits.
+pub record IsFit (smallest : ℕ) (l : Level) (rule : Rule) (i : Interpretation) (x : List ℕ) (v : ℕ) (characters : List ℕ) (segments : List Segment) : Type 0 where
+  pub version : IsVersion smallest l rule i x v
+  pub chosen : IsLeastSegmentation i v rule x characters segments
+
+-- The result is a fault exactly if `encode` has to return it.
+pub record IsRefusedExactly {X : Type 0} (smallest : ℕ) (l : Level) (rule : Rule) (i : Interpretation) (x : List ℕ) (r : Result X EncodeFault) : Type 0 where
+  pub empty : (r ≡ Err fault.Empty) ↔ (x ≡ [])
+  pub too_long : (r ≡ Err fault.TooLong) ↔ ((r ≢ Err fault.Memory) × HasNoVersion smallest l rule i x)
+  pub long : 7089 < length x → r ≡ Err fault.TooLong
+  pub fault : IfErr r (λ e. (e ≡ fault.Empty) ⊎ (e ≡ fault.TooLong) ⊎ (e ≡ fault.Memory))
