@@ -626,7 +626,7 @@ test('GS1 data are written and read', () => {
     if (!data.includes('(')) assert.deepEqual(encode({ gs1: text.replaceAll('[', '(').replaceAll(']', ')') }), symbol);
     assert.deepEqual(encode({ gs1: Uint8Array.from(utf8(data)) }), symbol);
   }
-  const symbols = encodeSeries({ gs1: `(90)${'Ab%'.repeat(10)}(91)${'Ab%'.repeat(30)}` }, { version: 3 });
+  const symbols = encodeSeries({ gs1: `(90)${'Ab%'.repeat(10)}(91)${'Ab%'.repeat(30)}(92)${'Ab%'.repeat(30)}` }, { version: 3 });
   assert.ok(symbols.length > 2 && symbols.every((it) => read(it).gs1));
 });
 

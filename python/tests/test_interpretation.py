@@ -102,12 +102,12 @@ class Gs1(unittest.TestCase):
         self.assertEqual(qrproved.read(qrproved.encode(gs1="[10]A(12)B%[21]%%")).fields(), [("10", "A(12)B%"), ("21", "%%")])
 
     def test_a_series(self):
-        text = "".join(f"({90 + k}){'Ab%' * 20}" for k in range(9))
+        text = "".join(f"({name}){'Ab%' * 20}" for name in range(91, 100))
         symbols = qrproved.encode_series(gs1=text, version=8)
         contents = [qrproved.read(it) for it in symbols]
         self.assertGreater(len(symbols), 2)
         self.assertEqual({it.gs1 for it in contents}, {True})
-        self.assertEqual(b"".join(it.data for it in contents), b"\x1d".join(b"%d%s" % (90 + k, b"Ab%" * 20) for k in range(9)))
+        self.assertEqual(b"".join(it.data for it in contents), b"\x1d".join(b"%d%s" % (name, b"Ab%" * 20) for name in range(91, 100)))
 
     def test_wrong_texts_are_named(self):
         for text, why in WRONG:
