@@ -428,7 +428,7 @@ def _given(data: Optional[Input], gs1: Optional[Input], eci: Optional[int], rule
             raise TypeError("GS1 data are given alone: data and eci are not given beside gs1")
         return _Given(data_of(gs1) if isinstance(gs1, str) else _bytes("gs1", gs1), _library.GS1)
     if rule == Rule.WITH_KANJI and number not in (None, SHIFT_JIS):
-        raise SettingsError(f"kanji mode is for Shift JIS: beside the rule 'with_kanji' eci is {SHIFT_JIS}, None or False, and not {number}")
+        raise SettingsError(f"kanji mode is for Shift JIS: beside the rule 'with_kanji' eci is {SHIFT_JIS} or False, and not {number}")
     if isinstance(data, str):
         if eci is None and rule != Rule.WITH_KANJI and not data.isascii():
             number = UTF_8

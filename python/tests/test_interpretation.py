@@ -87,7 +87,7 @@ class Texts(unittest.TestCase):
             with self.assertRaisesRegex(EciError, why):
                 qrproved.encode(text, rule="with_kanji")
         for data in ("\u70b9", b"\xe7\x82\xb9"):
-            with self.assertRaisesRegex(SettingsError, "eci is 20, None or False, and not 26$"):
+            with self.assertRaisesRegex(SettingsError, "eci is 20 or False, and not 26$"):
                 qrproved.encode(data, rule="with_kanji", eci=26)
 
 
