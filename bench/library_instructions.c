@@ -30,7 +30,8 @@ static int encode(const unsigned char *input, int len, int version, int level)
 {
 	static uint8_t modules[QRPROVED_SYMBOL_MAX];
 	struct qrproved_symbol symbol;
-	if (qrproved_encode(input, (size_t)len, (uint32_t)version, (uint32_t)level, QRPROVED_RULE_BYTES_ONLY, modules, sizeof modules, &symbol))
+	if (qrproved_encode(input, (size_t)len, (uint32_t)version, (uint32_t)level, QRPROVED_RULE_BYTES_ONLY, QRPROVED_INTERPRETATION_DEFAULT, 0, modules, sizeof modules,
+	                    &symbol))
 		return 0;
 	return symbol.side;
 }

@@ -1,4 +1,5 @@
-/* Measures what a call of the library takes of the stack and of the heap, for bench/memory: memory_of_calls CALL NUMBER LEVEL RULE
+/* Measures what a call of the library takes of the stack and of the heap, for bench/memory:
+ * memory_of_calls CALL NUMBER LEVEL RULE INTERPRETATION BOOST
  *
  * CALL is encode, encode_series, read, mend, draw or parse_drawing. Standard input is the input, the modules or the drawing.
  * NUMBER is a version for the calls that encode, and a side for the others; parse_drawing does not use it. LEVEL is the level,
@@ -48,7 +49,8 @@ void free(void *block)
 
 static uint8_t input[6000000], out[10000000];
 static size_t input_len, deepest;
-static uint8_t number, level, rule, status;
+static uint8_t number, level, rule, boost, status;
+static uint32_t interpretation;
 static const char *call;
 
 /* Marks the stack below, so that what a call wrote of it can be seen. The least that is measured is its frame above the array. */
@@ -68,9 +70,9 @@ static __attribute__((noinline)) void make(void)
 	struct qrproved_drawn drawn;
 	size_t written;
 	if (!strcmp(call, "encode"))
-		status = qrproved_encode(input, input_len, number, level, rule, out, sizeof out, &symbol);
+		status = qrproved_encode(input, input_len, number, level, rule, interpretation, boost, out, sizeof out, &symbol);
 	else if (!strcmp(call, "encode_series"))
-		status = qrproved_encode_series(input, input_len, number, level, rule, out, sizeof out, &series);
+		status = qrproved_encode_series(input, input_len, number, level, rule, interpretation, out, sizeof out, &series);
 	else if (!strcmp(call, "read"))
 		status = qrproved_read(input, input_len, number, out, sizeof out, NULL, 0, &content);
 	else if (!strcmp(call, "draw"))
@@ -97,9 +99,10 @@ int main(int argc, char **argv)
 {
 	pthread_attr_t how;
 	pthread_t thread;
-	if (argc != 5)
+	if (argc != 7)
 		return 2;
 	call = argv[1], number = (uint8_t)atoi(argv[2]), level = (uint8_t)atoi(argv[3]), rule = (uint8_t)atoi(argv[4]);
+	interpretation = (uint32_t)atoi(argv[5]), boost = (uint8_t)atoi(argv[6]);
 	input_len = fread(input, 1, sizeof input, stdin);
 	if (pthread_attr_init(&how) || pthread_attr_setstacksize(&how, 2 * STACK) || pthread_create(&thread, &how, measured, NULL))
 		return 2;

@@ -1,6 +1,6 @@
 /* Prints the symbol of its words as text, with the quiet zone: label [-a] WORD...
  *
- * By half blocks in UTF-8, light on a dark terminal, or with -a by two characters a module in ASCII. */
+ * The words are in UTF-8, which the symbol says if they have a character that is not in ASCII. By half blocks in UTF-8, light on a dark terminal, or with -a by two characters a module in ASCII. */
 #include "qrproved.h"
 #include <stdio.h>
 #include <string.h>
@@ -17,6 +17,15 @@ static const char *reason(uint8_t status)
 	case QRPROVED_MEMORY: return "out of memory";
 	default: return "not encoded";
 	}
+}
+
+/* Text of ASCII alone reads the same in every reader, so the symbol says nothing of it. */
+static uint32_t interpretation_of(const uint8_t *input, size_t len)
+{
+	for (size_t i = 0; i < len; i++)
+		if (input[i] > 0x7F)
+			return QRPROVED_ECI_UTF8;
+	return QRPROVED_INTERPRETATION_DEFAULT;
 }
 
 /* The words with a space between them, and how many bytes they are; bytes that find no place are only counted. */
@@ -42,7 +51,8 @@ int main(int argc, char **argv)
 	uint8_t status = QRPROVED_TOO_LONG;
 
 	if (len <= sizeof input)
-		status = qrproved_encode(input, len, 1, QRPROVED_LEVEL_M, QRPROVED_RULE_AUTO, modules, sizeof modules, &symbol);
+		status = qrproved_encode(input, len, 1, QRPROVED_LEVEL_M, QRPROVED_RULE_AUTO, interpretation_of(input, len), 0, modules,
+					 sizeof modules, &symbol);
 	if (status == QRPROVED_DONE)
 		status = qrproved_draw(modules, sizeof modules, symbol.side, 1, is_ascii ? QRPROVED_ASCII : QRPROVED_UTF8, QUIET_ZONE,
 				       text, sizeof text, &written);

@@ -20,6 +20,15 @@ static void print_words(const char *words)
 		}
 }
 
+/* Words of ASCII alone read the same in every reader; of others the symbol says that they are in UTF-8. */
+static uint32_t interpretation_of(const char *words)
+{
+	for (; *words; words++)
+		if ((unsigned char)*words > 0x7F)
+			return QRPROVED_ECI_UTF8;
+	return QRPROVED_INTERPRETATION_DEFAULT;
+}
+
 int main(int argc, char **argv)
 {
 	struct qrproved_symbol symbol;
@@ -30,7 +39,8 @@ int main(int argc, char **argv)
 		return 1;
 	}
 	const uint8_t *input = (const uint8_t *)argv[1];
-	uint8_t status = qrproved_encode(input, strlen(argv[1]), 1, QRPROVED_LEVEL_M, QRPROVED_RULE_AUTO, modules, sizeof modules, &symbol);
+	uint8_t status = qrproved_encode(input, strlen(argv[1]), 1, QRPROVED_LEVEL_M, QRPROVED_RULE_AUTO, interpretation_of(argv[1]), 0,
+					 modules, sizeof modules, &symbol);
 	if (status == QRPROVED_DONE)
 		status = qrproved_draw(modules, sizeof modules, symbol.side, 1, QRPROVED_SVG, MARGIN, text, sizeof text, &written);
 	if (status != QRPROVED_DONE) {

@@ -40,13 +40,13 @@ static uint8_t encode(uint32_t version, uint32_t level, int is_series)
 	for (uint32_t i = 0; i < len; i++)
 		input[i] = (uint8_t)below(256);
 	if (!is_series) {
-		uint8_t status = qrproved_encode(input, len, version, level, 0, modules, sizeof modules, &symbol);
+		uint8_t status = qrproved_encode(input, len, version, level, 0, QRPROVED_INTERPRETATION_DEFAULT, 0, modules, sizeof modules, &symbol);
 		side = symbol.side, count = 1;
 		return status;
 	}
 	uint8_t status = QRPROVED_TOO_MANY;
 	for (; status == QRPROVED_TOO_MANY; len = len * 7 / 8)
-		status = qrproved_encode_series(input, len, version, level, 0, modules, sizeof modules, &series);
+		status = qrproved_encode_series(input, len, version, level, 0, QRPROVED_INTERPRETATION_DEFAULT, modules, sizeof modules, &series);
 	side = series.side, count = series.count;
 	return status;
 }

@@ -14,7 +14,8 @@ LONG = 7200  # seconds: what stands below the library is proved again if no earl
 MARGIN = 4
 LEVELS = "LMQH"
 STATUSES = ["DONE", "EMPTY", "TOO_LONG", "TOO_MANY", "MEMORY", "SETTINGS", "ROOM", "SIDE", "FORMAT", "CHECK", "SEGMENTS",
-            "NO_DRAWING"]
+            "NO_DRAWING", "FIELDS"]
+ECI_UTF8, DEFAULT, GS1 = 26, 1_000_000, 1_000_001  # interpretations
 ECI_ROOM = 8  # ECI headers: more than any symbol here has
 MARK = 7  # what a buffer or a struct contains before a call
 
@@ -73,7 +74,7 @@ def bytes_of(*names):
 
 
 class Symbol(ctypes.Structure):
-    _fields_ = bytes_of("version", "side", "mask")
+    _fields_ = bytes_of("version", "side", "level", "mask")
 
 
 class Series(ctypes.Structure):
@@ -103,8 +104,8 @@ class Drawn(ctypes.Structure):
 POINTER, BUFFER = [ctypes.c_void_p], [ctypes.c_void_p, ctypes.c_size_t]
 INPUT, NUMBER = [ctypes.c_char_p, ctypes.c_size_t], [ctypes.c_uint32]
 PARAMETERS = {
-    "qrproved_encode": INPUT + NUMBER * 3 + BUFFER + POINTER,
-    "qrproved_encode_series": INPUT + NUMBER * 3 + BUFFER + POINTER,
+    "qrproved_encode": INPUT + NUMBER * 5 + BUFFER + POINTER,
+    "qrproved_encode_series": INPUT + NUMBER * 4 + BUFFER + POINTER,
     "qrproved_read": BUFFER + NUMBER + BUFFER * 2 + POINTER,
     "qrproved_mend": BUFFER + NUMBER + BUFFER * 2 + POINTER,
     "qrproved_draw": BUFFER + NUMBER * 4 + BUFFER + POINTER,
@@ -122,12 +123,12 @@ class Library:
             call = getattr(self.library, name)
             call.restype, call.argtypes = ctypes.c_uint8, listed
 
-    def symbol(self, case):
+    def symbol(self, case, interpretation=DEFAULT, boost=0):
         """Returns the symbol's modules and what the struct says of it, or a status."""
         data, version, level, rule = case
         symbol = Symbol()
-        status = self.library.qrproved_encode(data, len(data), version, LEVELS.index(level), rule, self.modules,
-                                              len(self.modules), ctypes.byref(symbol))
+        status = self.library.qrproved_encode(data, len(data), version, LEVELS.index(level), rule, interpretation, boost,
+                                              self.modules, len(self.modules), ctypes.byref(symbol))
         return status or (bytes(self.modules[:symbol.side ** 2]), symbol)
 
     def encoded(self, case):
@@ -135,11 +136,11 @@ class Library:
         got = self.symbol(case)
         return got if isinstance(got, int) else ([got[0]], got[1].side)
 
-    def encoded_series(self, case):
+    def encoded_series(self, case, interpretation=DEFAULT):
         data, version, level, rule = case
         series = Series()
-        status = self.library.qrproved_encode_series(data, len(data), version, LEVELS.index(level), rule, self.modules,
-                                                     len(self.modules), ctypes.byref(series))
+        status = self.library.qrproved_encode_series(data, len(data), version, LEVELS.index(level), rule, interpretation,
+                                                     self.modules, len(self.modules), ctypes.byref(series))
         area = series.side ** 2
         return status or ([bytes(self.modules[k * area:(k + 1) * area]) for k in range(series.count)], series.side)
 

@@ -9,7 +9,7 @@
 #include <stdio.h>
 #include <string.h>
 
-enum { THREADS = 8, CALLS = 40, MARK = 7 };
+enum { THREADS = 8, CALLS = 40, MARK = 7, NONE = QRPROVED_INTERPRETATION_DEFAULT };
 
 static const uint8_t TEXT[] = "0123456789ABCDEFGHabcdefgh,.0123456789ABCDEFGHabcdefgh,.0123456789ABCDEFGHabcdefgh,.";
 static uint8_t modules[QRPROVED_SERIES_MAX], bytes[QRPROVED_BYTES_MAX];
@@ -33,7 +33,7 @@ static int encode(void)
 {
 	struct qrproved_symbol symbol;
 	memset(modules, MARK, sizeof modules), memset(&symbol, MARK, sizeof symbol);
-	uint8_t status = qrproved_encode(TEXT, sizeof TEXT - 1, 1, 0, 0, modules, sizeof modules, &symbol);
+	uint8_t status = qrproved_encode(TEXT, sizeof TEXT - 1, 1, 0, 0, NONE, 0, modules, sizeof modules, &symbol);
 	tell("encode", status, modules, sizeof modules, &symbol, sizeof symbol);
 	return 0;
 }
@@ -42,7 +42,7 @@ static int encode_series(void)
 {
 	struct qrproved_series series;
 	memset(modules, MARK, sizeof modules), memset(&series, MARK, sizeof series);
-	uint8_t status = qrproved_encode_series(TEXT, sizeof TEXT - 1, 2, 1, 0, modules, sizeof modules, &series);
+	uint8_t status = qrproved_encode_series(TEXT, sizeof TEXT - 1, 2, 1, 0, NONE, modules, sizeof modules, &series);
 	tell("encode_series", status, modules, sizeof modules, &series, sizeof series);
 	return 0;
 }
@@ -51,7 +51,7 @@ static int read_symbol(void)
 {
 	struct qrproved_symbol symbol;
 	struct qrproved_content content;
-	if (qrproved_encode(TEXT, sizeof TEXT - 1, 1, 0, 0, modules, sizeof modules, &symbol)) {
+	if (qrproved_encode(TEXT, sizeof TEXT - 1, 1, 0, 0, NONE, 0, modules, sizeof modules, &symbol)) {
 		puts("read: not prepared");
 		return 0;
 	}
@@ -65,7 +65,7 @@ static int mend_symbol(void)
 {
 	struct qrproved_symbol symbol;
 	struct qrproved_mended mended;
-	if (qrproved_encode(TEXT, sizeof TEXT - 1, 1, 0, 0, modules, sizeof modules, &symbol)) {
+	if (qrproved_encode(TEXT, sizeof TEXT - 1, 1, 0, 0, NONE, 0, modules, sizeof modules, &symbol)) {
 		puts("mend: not prepared");
 		return 0;
 	}
@@ -82,7 +82,7 @@ static int draw(void)
 	static uint8_t text[20000];
 	struct qrproved_symbol symbol;
 	size_t written;
-	if (qrproved_encode(TEXT, sizeof TEXT - 1, 1, 0, 0, modules, sizeof modules, &symbol)) {
+	if (qrproved_encode(TEXT, sizeof TEXT - 1, 1, 0, 0, NONE, 0, modules, sizeof modules, &symbol)) {
 		puts("draw: not prepared");
 		return 0;
 	}
@@ -98,7 +98,7 @@ static int parse_drawing(void)
 	struct qrproved_symbol symbol;
 	struct qrproved_drawn drawn;
 	size_t written;
-	if (qrproved_encode(TEXT, sizeof TEXT - 1, 1, 0, 0, modules, sizeof modules, &symbol)
+	if (qrproved_encode(TEXT, sizeof TEXT - 1, 1, 0, 0, NONE, 0, modules, sizeof modules, &symbol)
 	    || qrproved_draw(modules, sizeof modules, symbol.side, 1, QRPROVED_SVG, 4, text, sizeof text, &written)) {
 		puts("parse_drawing: not prepared");
 		return 0;
@@ -170,6 +170,50 @@ static void fields(void)
 	want("its fields, mended", mended.len == 19 && !memcmp(bytes, SAID, 19) && mended.fnc1 == QRPROVED_FNC1_FIRST && mended.wrong_modules == 1);
 }
 
+/* Symbols and series that say what their input is, and symbols of a higher level than the one that was asked for. */
+static void interpretations(void)
+{
+	static const uint8_t WORD[] = {0x47, 0x72, 0xC3, 0xBC, 0xC3, 0x9F, 0x65};          /* UTF-8 */
+	static const uint8_t DATA[] = "0104012345678901" "10A%C-123\x1D" "17261231";
+	static const uint8_t NO_DATA[] = "10A\x1D%";
+	enum { UTF8 = QRPROVED_ECI_UTF8, GS1 = QRPROVED_INTERPRETATION_GS1, DATA_LEN = sizeof DATA - 1 };
+	struct qrproved_symbol symbol;
+	struct qrproved_series series;
+	struct qrproved_content content;
+	struct qrproved_eci ecis[2];
+	memset(modules, MARK, sizeof modules), memset(&symbol, MARK, sizeof symbol), memset(&series, MARK, sizeof series);
+	want("numbers of no interpretation", qrproved_encode(WORD, 7, 1, 0, 0, GS1 + 1, 0, modules, 441, &symbol) == QRPROVED_SETTINGS
+	     && qrproved_encode_series(WORD, 7, 1, 0, 0, GS1 + 1, modules, 441, &series) == QRPROVED_SETTINGS
+	     && qrproved_encode(WORD, 7, 1, 0, 0, 0xFFFFFFFF, 0, modules, 441, &symbol) == QRPROVED_SETTINGS);
+	want("boost 2", qrproved_encode(WORD, 7, 1, 0, 0, UTF8, 2, modules, 441, &symbol) == QRPROVED_SETTINGS);
+	want("kanji mode for UTF-8", qrproved_encode(WORD, 7, 1, 0, 2, UTF8, 0, modules, 441, &symbol) == QRPROVED_SETTINGS
+	     && qrproved_encode_series(WORD, 7, 1, 0, 2, UTF8, modules, 441, &series) == QRPROVED_SETTINGS);
+	want("no byte of GS1 data", qrproved_encode(NULL, 0, 1, 0, 0, GS1, 0, modules, 441, &symbol) == QRPROVED_EMPTY);
+	want("no GS1 data", qrproved_encode(NO_DATA, 5, 1, 0, 0, GS1, 0, modules, 0, &symbol) == QRPROVED_FIELDS
+	     && qrproved_encode_series(NO_DATA, 5, 1, 0, 0, GS1, modules, 0, &series) == QRPROVED_FIELDS);
+	want("nothing is written of them", is_marked(modules, 0, sizeof modules) && is_marked(&symbol, 0, sizeof symbol) && is_marked(&series, 0, sizeof series));
+	want("kanji mode for Shift JIS", qrproved_encode(WORD, 7, 1, 0, 2, 20, 0, modules, 441, &symbol) == QRPROVED_DONE);
+	want("UTF-8", qrproved_encode(WORD, 7, 1, 0, 0, UTF8, 0, modules, 441, &symbol) == QRPROVED_DONE && symbol.version == 1 && symbol.level == 0);
+	want("UTF-8 is read", qrproved_read(modules, 441, 21, bytes, sizeof bytes, ecis, 2, &content) == QRPROVED_DONE && content.len == 7
+	     && !memcmp(bytes, WORD, 7) && content.eci_count == 1 && ecis[0].begin == 0 && ecis[0].number == 26 && content.fnc1 == QRPROVED_FNC1_NONE);
+	/* 4 + 8 bits of the ECI header, and 4 + 8 + 7 * 8 of the bytes: 80 bits, of which level Q has 104, and level H 72 */
+	want("UTF-8 with boost", qrproved_encode(WORD, 7, 1, 0, 0, UTF8, 1, modules, 441, &symbol) == QRPROVED_DONE && symbol.version == 1 && symbol.level == 2);
+	want("the lowest level is the least", qrproved_encode(WORD, 7, 1, 3, 0, UTF8, 1, modules, 625, &symbol) == QRPROVED_DONE && symbol.version == 2
+	     && symbol.level == 3);
+	want("GS1 data are written", qrproved_encode(DATA, DATA_LEN, 1, 1, 0, GS1, 0, modules, sizeof modules, &symbol) == QRPROVED_DONE);
+	want("GS1 data are read", qrproved_read(modules, sizeof modules, symbol.side, bytes, sizeof bytes, ecis, 2, &content) == QRPROVED_DONE
+	     && content.len == DATA_LEN && !memcmp(bytes, DATA, DATA_LEN) && content.eci_count == 0 && content.fnc1 == QRPROVED_FNC1_FIRST);
+	want("a series of GS1 data", qrproved_encode_series(DATA, DATA_LEN, 1, 2, 0, GS1, modules, sizeof modules, &series) == QRPROVED_DONE && series.count > 1);
+	size_t joined = 0;
+	for (unsigned k = 0; k < series.count; k++) {
+		want("a part of GS1 data", qrproved_read(modules + 441 * k, 441, 21, bytes, sizeof bytes, ecis, 2, &content) == QRPROVED_DONE
+		     && content.fnc1 == QRPROVED_FNC1_FIRST && content.position == k && joined + content.len <= DATA_LEN
+		     && !memcmp(bytes, DATA + joined, content.len));
+		joined += content.len;
+	}
+	want("all parts of GS1 data", joined == DATA_LEN);
+}
+
 static int edges(void)
 {
 	struct qrproved_symbol symbol;
@@ -177,17 +221,17 @@ static int edges(void)
 	struct qrproved_content content;
 	struct qrproved_mended mended;
 	memset(modules, MARK, sizeof modules), memset(&symbol, MARK, sizeof symbol);
-	want("no input", qrproved_encode(NULL, 0, 1, 0, 0, modules, sizeof modules, &symbol) == QRPROVED_EMPTY);
-	want("no buffer", qrproved_encode(TEXT, 5, 1, 0, 0, NULL, 0, &symbol) == QRPROVED_ROOM);
-	want("numbers of 255", qrproved_encode(TEXT, 5, 255, 255, 255, modules, sizeof modules, &symbol) == QRPROVED_SETTINGS);
-	want("440 bytes", qrproved_encode(TEXT, 5, 1, 0, 0, modules, 440, &symbol) == QRPROVED_ROOM);
+	want("no input", qrproved_encode(NULL, 0, 1, 0, 0, NONE, 0, modules, sizeof modules, &symbol) == QRPROVED_EMPTY);
+	want("no buffer", qrproved_encode(TEXT, 5, 1, 0, 0, NONE, 0, NULL, 0, &symbol) == QRPROVED_ROOM);
+	want("numbers of 255", qrproved_encode(TEXT, 5, 255, 255, 255, NONE, 0, modules, sizeof modules, &symbol) == QRPROVED_SETTINGS);
+	want("440 bytes", qrproved_encode(TEXT, 5, 1, 0, 0, NONE, 0, modules, 440, &symbol) == QRPROVED_ROOM);
 	want("nothing is written", is_marked(modules, 0, sizeof modules) && is_marked(&symbol, 0, sizeof symbol));
-	want("441 bytes", qrproved_encode(TEXT, 5, 1, 0, 0, modules, 441, &symbol) == QRPROVED_DONE);
+	want("441 bytes", qrproved_encode(TEXT, 5, 1, 0, 0, NONE, 0, modules, 441, &symbol) == QRPROVED_DONE);
 	want("no more is written", symbol.side == 21 && is_marked(modules, 441, sizeof modules));
 	memset(modules, MARK, sizeof modules);
-	want("a long input", qrproved_encode(modules, 200000, 1, 0, 0, modules + 200000, 31329, &symbol) == QRPROVED_TOO_LONG);
-	want("a long series", qrproved_encode_series(modules, 200000, 40, 0, 0, modules + 200000, 31329, &series) == QRPROVED_TOO_MANY);
-	want("a series of 2", qrproved_encode_series(TEXT, 8, 1, 3, 1, modules, 882, &series) == QRPROVED_DONE);
+	want("a long input", qrproved_encode(modules, 200000, 1, 0, 0, NONE, 0, modules + 200000, 31329, &symbol) == QRPROVED_TOO_LONG);
+	want("a long series", qrproved_encode_series(modules, 200000, 40, 0, 0, NONE, modules + 200000, 31329, &series) == QRPROVED_TOO_MANY);
+	want("a series of 2", qrproved_encode_series(TEXT, 8, 1, 3, 1, NONE, modules, 882, &series) == QRPROVED_DONE);
 	want("no more is written for a series", series.count == 2 && series.side == 21 && is_marked(modules, 882, sizeof modules));
 	memset(bytes, MARK, sizeof bytes);
 	want("no modules", qrproved_read(NULL, 0, 21, bytes, sizeof bytes, NULL, 0, &content) == QRPROVED_ROOM);
@@ -240,13 +284,15 @@ static int edges(void)
 	want("what they are", drawn.drawing == QRPROVED_ASCII && drawn.margin == 0 && drawn.count == 2 && drawn.side == 21);
 	want("no more is written for them", is_marked(parsed, 882, sizeof parsed));
 	want("one of them", qrproved_parse_drawing(text, 903, parsed, 441, &drawn) == QRPROVED_DONE && drawn.count == 1);
-	want("numbers above 255", qrproved_encode(TEXT, 5, 257, 0, 0, modules, 441, &symbol) == QRPROVED_SETTINGS
-	     && qrproved_encode(TEXT, 5, 1, 256, 0, modules, 441, &symbol) == QRPROVED_SETTINGS
-	     && qrproved_encode(TEXT, 5, 1, 0, 256, modules, 441, &symbol) == QRPROVED_SETTINGS
+	want("numbers above 255", qrproved_encode(TEXT, 5, 257, 0, 0, NONE, 0, modules, 441, &symbol) == QRPROVED_SETTINGS
+	     && qrproved_encode(TEXT, 5, 1, 256, 0, NONE, 0, modules, 441, &symbol) == QRPROVED_SETTINGS
+	     && qrproved_encode(TEXT, 5, 1, 0, 256, NONE, 0, modules, 441, &symbol) == QRPROVED_SETTINGS
+	     && qrproved_encode(TEXT, 5, 1, 0, 0, NONE, 256, modules, 441, &symbol) == QRPROVED_SETTINGS
 	     && qrproved_read(modules, 441, 277, bytes, sizeof bytes, NULL, 0, &content) == QRPROVED_SIDE
 	     && qrproved_mend(modules, 441, 277, bytes, sizeof bytes, NULL, 0, &mended) == QRPROVED_SIDE);
 	two_ecis();
 	fields();
+	interpretations();
 	want("the version", qrproved_version() == QRPROVED_VERSION_NUMBER);
 	if (!wrong)
 		puts("edges: as wanted");
@@ -265,7 +311,7 @@ static uint64_t sum_of(int k)
 		size_t len = (size_t)(1 + (k * 37 + call * 7) % 299);
 		for (size_t i = 0; i < len; i++)
 			input[i] = (uint8_t)(k * 31 + call + (int)i * 7);
-		if (qrproved_encode(input, len, (uint32_t)(1 + call % 12), (uint32_t)(call % 4), (uint32_t)(call % 3), drawn, sizeof drawn, &symbol))
+		if (qrproved_encode(input, len, (uint32_t)(1 + call % 12), (uint32_t)(call % 4), (uint32_t)(call % 3), NONE, 0, drawn, sizeof drawn, &symbol))
 			return 0;
 		if (qrproved_read(drawn, sizeof drawn, symbol.side, said, sizeof said, NULL, 0, &content) || content.len != len || memcmp(said, input, len))
 			return 0;

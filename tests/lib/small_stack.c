@@ -2,8 +2,8 @@
  *
  * WHAT is a call, which is then the first of the process, in which the loader also looks up the names that it uses; standard input
  * has the modules that it reads, mends or draws, or the drawing that it parses. Or it is `all`: every call in all versions, levels
- * and rules, on symbols sound and damaged, up to damage that is refused, and reading and mending on symbols with ECI headers and
- * of GS1. A thread whose stack is too small ends the process by a signal. */
+ * and rules, on symbols sound and damaged, up to damage that is refused; encoding and reading with an ECI and of GS1 data, and with
+ * boost; and reading and mending on other programs' symbols with ECI headers and of GS1. A thread whose stack is too small ends the process by a signal. */
 #include "labels.h"
 #include "qrproved.h"
 #include <pthread.h>
@@ -13,13 +13,13 @@
 
 enum { STACK = 16384, VERSIONS = 40, LEVELS = 4, RULES = 3, DRAWINGS = 4 };
 
-/* Digits, capitals, small letters and characters of kanji mode in turn. */
-static const char MIXED[] = "31415926aeiouaAEIOU$%\x93\x5f\xe4\xaa";
+/* Digits, capitals, small letters and characters of kanji mode in turn, and the character that separates fields of GS1 data. */
+static const char MIXED[] = "31415926aeiouaAEIOU$%\x93\x5f\xe4\xaa\x1d";
 
 /* What the calls take and write. Nothing of it is on the stack. */
 static uint8_t input[QRPROVED_BYTES_MAX * 4], modules[QRPROVED_SERIES_MAX], bytes[QRPROVED_BYTES_MAX], text[10000000];
 static size_t input_len, written;
-static uint32_t version, level, rule, side, count, drawing;
+static uint32_t version, level, rule, interpretation = QRPROVED_INTERPRETATION_DEFAULT, boost, side, count, drawing;
 static struct qrproved_symbol symbol;
 static struct qrproved_series series;
 static struct qrproved_eci ecis[QRPROVED_ECIS_MAX];
@@ -31,13 +31,13 @@ static unsigned calls;
 
 static void *encode(void *none)
 {
-	status = qrproved_encode(input, input_len, version, level, rule, modules, sizeof modules, &symbol);
+	status = qrproved_encode(input, input_len, version, level, rule, interpretation, boost, modules, sizeof modules, &symbol);
 	return none;
 }
 
 static void *encode_series(void *none)
 {
-	status = qrproved_encode_series(input, input_len, version, level, rule, modules, sizeof modules, &series);
+	status = qrproved_encode_series(input, input_len, version, level, rule, interpretation, modules, sizeof modules, &series);
 	return none;
 }
 
@@ -84,7 +84,8 @@ static uint8_t in_small_stack(void *(*call)(void *))
 static void want(const char *name, uint8_t got, uint8_t wanted)
 {
 	if (got != wanted) {
-		printf("%s, version %u, level %u, rule %u: status %u, and not %u\n", name, version, level, rule, got, wanted);
+		printf("%s, version %u, level %u, rule %u, interpretation %u, boost %u: status %u, and not %u\n", name, version, level, rule,
+		       interpretation, boost, got, wanted);
 		exit(1);
 	}
 }
@@ -132,6 +133,22 @@ static void interpret(const struct label *label)
 	mend_until_refused(0);
 }
 
+/* Encodes the longest input with each kind of interpretation, also with boost, reads it, and encodes a series. */
+static void encode_interpreted(void)
+{
+	const uint32_t kinds[] = {rule == QRPROVED_RULE_WITH_KANJI ? 20 : QRPROVED_ECI_UTF8, QRPROVED_INTERPRETATION_GS1};
+	for (size_t i = 0; i < sizeof kinds / sizeof *kinds; i++) {
+		interpretation = kinds[i];
+		encode_longest();
+		want("read", in_small_stack(read_symbol), QRPROVED_DONE);
+		boost = 1;
+		want("encode", in_small_stack(encode), QRPROVED_DONE);
+		boost = 0, input_len *= 3;
+		want("encode_series", in_small_stack(encode_series), QRPROVED_DONE);
+	}
+	interpretation = QRPROVED_INTERPRETATION_DEFAULT;
+}
+
 static void all(void)
 {
 	interpret(&TWO_ECIS);
@@ -139,6 +156,7 @@ static void all(void)
 	for (version = 1; version <= VERSIONS; version++)
 		for (level = 0; level < LEVELS; level++)
 			for (rule = 0; rule < RULES; rule++) {
+				encode_interpreted();
 				encode_longest();
 				want("read", in_small_stack(read_symbol), QRPROVED_DONE);
 				mend_until_refused(1);

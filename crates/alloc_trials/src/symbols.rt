@@ -4,7 +4,7 @@
 use crate::answer::Answer;
 use crate::bits::{DATA, HELLO_WORLD};
 use example_label::label;
-use qr_bits::Rule;
+use qr_bits::{Interpretation, Rule};
 use qr_layout::{Level, Version};
 use qr_matrix::{matrices_of_bytes, matrix_of_bytes};
 use qr_mending::{mend_series, mend_symbol, mend_symbol_without};
@@ -56,7 +56,15 @@ fn are_equal_series(a: &[Symbol], b: &[Symbol]) -> bool {
 }
 
 fn hello(alloc: Global) -> Result<Symbol, AllocError> {
-    encode(alloc, &HELLO_WORLD, Level::M, Version::FIRST, Rule::Auto).map_err(|_| AllocError)
+    encode(
+        alloc,
+        &HELLO_WORLD,
+        Level::M,
+        Version::FIRST,
+        Rule::Auto,
+        Interpretation::Default,
+    )
+    .map_err(|_| AllocError)
 }
 
 pub fn matrix(alloc: Global) -> Answer {
@@ -173,7 +181,14 @@ pub fn built(alloc: Global) -> Result<Answer, AllocError> {
 
 pub fn encoded(alloc: Global) -> Result<Answer, AllocError> {
     let input = Vec::from_slice(alloc, &HELLO_WORLD)?;
-    let answer = match encode(alloc, &input, Level::M, Version::FIRST, Rule::Auto) {
+    let answer = match encode(
+        alloc,
+        &input,
+        Level::M,
+        Version::FIRST,
+        Rule::Auto,
+        Interpretation::Default,
+    ) {
         Ok(symbol) => Answer::of(symbol.version.number() == 1),
         Err(EncodeFault::Memory) => ENCODE_OUT,
         Err(_) => Answer::Other,
@@ -183,7 +198,14 @@ pub fn encoded(alloc: Global) -> Result<Answer, AllocError> {
 
 pub fn encoded_series(alloc: Global) -> Result<Answer, AllocError> {
     let input = Vec::from_slice(alloc, &LETTERS)?;
-    let answer = match encode_series(alloc, &input, Version::FIRST, Level::H, Rule::BytesOnly) {
+    let answer = match encode_series(
+        alloc,
+        &input,
+        Version::FIRST,
+        Level::H,
+        Rule::BytesOnly,
+        Interpretation::Default,
+    ) {
         Ok(symbols) => Answer::of(symbols.len() == 2),
         Err(EncodeFault::Memory) => ENCODE_OUT,
         Err(_) => Answer::Other,
@@ -266,9 +288,15 @@ pub fn mended_series(alloc: Global) -> Result<Answer, AllocError> {
 
 // Five letters are in the first symbol, and three in the second.
 fn series(alloc: Global) -> Result<Vec<Symbol>, AllocError> {
-    encode_series(alloc, &LETTERS, Version::FIRST, Level::H, Rule::BytesOnly).map_err(
-        |_| AllocError,
+    encode_series(
+        alloc,
+        &LETTERS,
+        Version::FIRST,
+        Level::H,
+        Rule::BytesOnly,
+        Interpretation::Default,
     )
+    .map_err(|_| AllocError)
 }
 
 pub fn read_whole_series(alloc: Global) -> Result<Answer, AllocError> {

@@ -1,7 +1,7 @@
 //! Tests of the options `-i`, which folds small letters to capitals, and `-k`, which allows kanji mode.
 
 use crate::runs::{Devices, run_with};
-use qr_bits::{Item, Mode, Rule, Segment};
+use qr_bits::{Interpretation, Item, Mode, Rule, Segment};
 use qr_layout::{Level, Version};
 use qr_symbol::{encode, read_symbol};
 use std::test::Fail;
@@ -61,7 +61,14 @@ fn kanji_by_an_option(rt: HostRuntime) -> Result<(), Fail> {
 fn kanji_are_read(rt: HostRuntime) -> Result<(), Fail> {
     let first = Version::FIRST;
     let pairs = b"\x93\x5F\xE4\xAA";
-    let symbol = encode(rt.alloc(), pairs, Level::L, first, Rule::WithKanji)?;
+    let symbol = encode(
+        rt.alloc(),
+        pairs,
+        Level::L,
+        first,
+        Rule::WithKanji,
+        Interpretation::Default,
+    )?;
     let parsed = read_symbol(rt.alloc(), &symbol.matrix)?;
     let whole = Segment {
         mode: Mode::Kanji,

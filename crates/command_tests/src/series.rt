@@ -1,7 +1,7 @@
 //! Tests of series: how many symbols the command draws, and the largest series, read and joined.
 
 use crate::runs::{Devices, run_with};
-use qr_bits::{INPUT_MAX, Rule};
+use qr_bits::{INPUT_MAX, Interpretation, Rule};
 use qr_layout::{Level, Version};
 use qr_symbol::{EncodeFault, encode_series, read_series};
 use std::test::Fail;
@@ -39,11 +39,25 @@ fn of_version_40_l(rt: HostRuntime) -> Result<(), Fail> {
     assert!(rt; letters.len() == 47_217 && letters.len() <= INPUT_MAX);
     let version = Version::new(40).ok_or("version 40")?;
     let whole = &letters[..47_216];
-    let symbols = encode_series(rt.alloc(), whole, version, Level::L, Rule::BytesOnly)?;
+    let symbols = encode_series(
+        rt.alloc(),
+        whole,
+        version,
+        Level::L,
+        Rule::BytesOnly,
+        Interpretation::Default,
+    )?;
     assert_eq!(rt; symbols.len(), 16);
     let bytes = read_series(rt.alloc(), symbols.as_slice())?;
     assert_eq!(rt; bytes.as_slice(), whole);
-    let fault = encode_series(rt.alloc(), letters, version, Level::L, Rule::BytesOnly);
+    let fault = encode_series(
+        rt.alloc(),
+        letters,
+        version,
+        Level::L,
+        Rule::BytesOnly,
+        Interpretation::Default,
+    );
     assert!(rt; matches!(fault, Err(EncodeFault::TooMany)));
     Ok(())
 }

@@ -3,6 +3,7 @@ use Rattle.std.specs.Prelude.{◌≡◌, ℕ, Bool, if◌then◌else◌, List, [
 use Rattle.std.specs.List.{flat_map, range_with_len}
 use Rattle.qr_layout.specs.declared.level.Level.{Level}
 use Rattle.qr_bits.specs.declared.modes.Rule.TheVariants.{Auto}
+use Rattle.qr_bits.specs.declared.interpretation.Interpretation.TheVariants.{Default}
 use Rattle.qr_matrix.specs.Grid.{Grid, colour}
 use Rattle.qr_symbol.specs.Encoding.{IsSymbol}
 
@@ -20,5 +21,5 @@ pub record IsLabel (words : List ℕ) (level : Level) (smallest : ℕ) (text : L
   pub version : ℕ
   pub mask : ℕ
   pub square : Grid
-  pub symbol : IsSymbol smallest level Auto words version mask square
+  pub symbol : IsSymbol smallest level Auto Default words version mask square
   pub drawn : text ≡ flat_map (line_of_row square) (range_with_len 0 square.side) ++ (words ++ 10 ∷ [])

@@ -4,11 +4,12 @@
 
 ghost use Rattle.std.specs.Prelude.{◌≡◌, ◌≢◌, ◌<◌, ◌≤◌, ◌↔◌, ◌⊎◌, ◌++◌, [], length, Err, IfErr, IfOk, IsOk};
 ghost use Rattle.qr_bits.specs.declared.modes.Rule.{Rule};
+ghost use Rattle.qr_bits.specs.declared.interpretation.Interpretation.{Interpretation};
 ghost use Rattle.qr_symbol.specs.declared.fault.EncodeFault.{EncodeFault};
 ghost use Rattle.qr_symbol.specs.VersionChoice.{HasNoVersion};
 ghost use Rattle.example_label.specs.Label.{IsLabel, character_of, line_of_row};
 
-use qr_symbol::{EncodeFault, INPUT_MAX, Level, Matrix, Rule, Version, encode};
+use qr_symbol::{EncodeFault, INPUT_MAX, Interpretation, Level, Matrix, Rule, Version, encode};
 use std::alloc::{AllocError, Global};
 
 /// Returns the label of `words`: a line of text for each row of modules, with `#` for a dark and a space for a light
@@ -28,12 +29,19 @@ pub fn label(
     ensures label { IfOk result (λ text. IsLabel words.now level smallest text.items) }
     ensures empty { (result ≡ Err EncodeFault.Empty) ↔ (words.now ≡ []) }
     ensures too_long { (result ≡ Err EncodeFault.TooLong)
-        ↔ ((result ≢ Err EncodeFault.Memory) × HasNoVersion smallest level Rule.Auto words.now) }
+        ↔ ((result ≢ Err EncodeFault.Memory) × HasNoVersion smallest level Rule.Auto Interpretation.Default words.now) }
     ensures long { 7089 < length words.now → result ≡ Err EncodeFault.TooLong }
     ensures fault { IfErr result (λ e. (e ≡ EncodeFault.Empty) ⊎ (e ≡ EncodeFault.TooLong)
         ⊎ (e ≡ EncodeFault.Memory)) }
 {
-    let symbol = encode(alloc, words, level, smallest, Rule::Auto)?;
+    let symbol = encode(
+        alloc,
+        words,
+        level,
+        smallest,
+        Rule::Auto,
+        Interpretation::Default,
+    )?;
     let mut text = Vec::new(alloc);
     for row in 0..symbol.matrix.side() {
         push_line(&mut text, &symbol.matrix, row)?;

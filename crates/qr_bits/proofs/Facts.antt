@@ -1,7 +1,7 @@
 -- The lemmas that other crates use.
 pub use Rattle.qr_bits.proofs.lemmas.bits.BitLemmas.{bits_at, bits_of-more, bool_byte-bit, byte-behind, field-more, length-bits_of, length-field, power-fits}
 pub use Rattle.qr_bits.proofs.lemmas.segmentation.{BackLemmas.sum_by-runs_of, BytesOnlyLemmas.{assignment-length, bytes_fit}}
-pub use Rattle.qr_bits.proofs.lemmas.interpretation.WrittenLemmas.{characters-bytes, characters-longer, characters-most, doubled-bytes, length-written, may_write-drop, may_write-take}
+pub use Rattle.qr_bits.proofs.lemmas.interpretation.WrittenLemmas.{characters-bytes, characters-longer, doubled-bytes, least-most, length-written, may_write-drop, may_write-none, may_write-take}
 pub use Rattle.qr_bits.proofs.lemmas.laws.MeantLemmas.{least_meant}
 pub use Rattle.qr_bits.proofs.lemmas.best_modes.ChoiceLemmas.{byte_used}
 pub use Rattle.qr_bits.proofs.lemmas.segment.CoverLemmas.{from_turn, in_turn}

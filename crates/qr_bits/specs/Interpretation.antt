@@ -1,5 +1,5 @@
 -- What stands between the segments: ECI headers and FNC1.
-use Rattle.std.specs.Prelude.{ℕ, ◌+◌, ◌*◌, ◌/◌, ◌%◌, ◌<◌, Bool, true, false, ◌&&◌, ◌||◌, nat_lt, nat_le, if◌then◌else◌, List, [], ◌∷◌, ◌++◌, map, take, drop, length, ◌==◌, Option, Some, None}
+use Rattle.std.specs.Prelude.{ℕ, ◌+◌, ◌*◌, ◌/◌, ◌%◌, ◌<◌, Bool, true, false, ◌&&◌, ◌||◌, nat_lt, nat_le, if◌then◌else◌, List, [], ◌∷◌, ◌++◌, map, take, drop, length, ◌==◌, Option, Some, None, IsTrue}
 use Rattle.qr_bits.specs.declared.segment.Segment.{Segment}
 use Rattle.qr_bits.specs.declared.modes.Mode.{Mode}
 use Rattle.qr_bits.specs.declared.modes.Mode.TheVariants.{Alphanumeric}
@@ -135,7 +135,7 @@ characters_in written.Gs1 xs ms = characters_gs1 xs ms
 
 -- Bytes that can be written: GS1 data are fields (ISO/IEC 18004:2015, 7.4.8.2)
 abbrev pub MayWrite : Interpretation → List ℕ → Type 0
-MayWrite written.Gs1 xs = ⊥
+MayWrite written.Gs1 xs = IsTrue (are_fields xs)
 MayWrite _ xs = Unit {0}
 
 -- The bytes that a segment stands for: in alphanumeric mode after FNC1 `%` has its own meaning (ISO/IEC 18004:2015,

@@ -13,9 +13,12 @@ ghost use Rattle.qr_bits.specs.declared.run_state.RunState.{RunState};
 ghost use Rattle.qr_bits.specs.Modes.{is_kanji_pair, may_use};
 ghost use Rattle.qr_bits.specs.Segmentation.{rank};
 ghost use Rattle.qr_bits.specs.declared.modes.Rule.{Rule};
-ghost use Rattle.qr_bits.specs.Steps.RunState.{begins_with_pair, may_begin, choice_number, ranked};
+ghost use Rattle.qr_bits.specs.declared.interpretation.Interpretation.{Interpretation};
+ghost use Rattle.qr_bits.specs.Interpretation.{percent};
+ghost use Rattle.qr_bits.specs.Steps.RunState.{begins_with_pair, is_gs1, may_begin, choice_number, ranked};
 ghost use Rattle.qr_bits.specs.Steps.BestModes.{in_state, mode_at, IsBestTable, IsRow, IsSmall, shift_of};
 
+use crate::interpretation::SEPARATOR;
 use crate::modes::{INPUT_MAX, Mode, Rule, is_alphanumeric, is_digit, is_kanji_pair, may_use};
 use crate::run_state::{FirstChoices, NO_BITS, PerState, RunState, number};
 use qr_layout::Version;
@@ -55,7 +58,7 @@ fn may_begin(rule: Rule, byte: u8, mode: Mode) -> bool
 // The mode of `rest` is left out.
 #[inline(always)]
 fn choice_if(may: bool, first: u32, rest: u32) -> u32
-    requires { (first ≤ 135) × (rest < 40000000) }
+    requires { (first ≤ 155) × (rest < 40000000) }
     ensures { (b : ℕ) (m : Mode) → first ≡ 4 * b + rank m → result ≡ choice_number may (b + rest / 4) m }
 {
     if may { first + rest / 4 * 4 } else { NO_CHOICE }
@@ -96,7 +99,7 @@ fn choices(
     requires { IsSmall rest.now }
     ensures { (r : Rule) (x : ℕ) → digit ≡ may_begin r x pair Mode.Numeric
         → character ≡ may_begin r x pair Mode.Alphanumeric
-        → IsRow first_choices.now.version r x pair rest.now result.0 result.1 }
+        → IsRow Interpretation.Default first_choices.now.version r x pair rest.now result.0 result.1 }
 {
     let digits = choice_if(digit, first_choices.numeric, rest.digit1);
     let characters = choice_if(character, first_choices.alphanumeric, rest.character1);
@@ -143,7 +146,7 @@ pub(crate) fn best_choices(
     rest: &PerState,
 ) -> (u32, PerState)
     requires { IsSmall rest.now }
-    ensures { IsRow first_choices.now.version rule byte pair rest.now result.0 result.1 }
+    ensures { IsRow Interpretation.Default first_choices.now.version rule byte pair rest.now result.0 result.1 }
 {
     // Where the flags are constants, the compiler can leave out cases of the inlined `choices`. Each digit is also a
     // character of alphanumeric mode.
@@ -157,6 +160,68 @@ pub(crate) fn best_choices(
         choices(first_choices, false, true, false, rest)
     } else {
         choices(first_choices, false, false, false, rest)
+    }
+}
+
+// As `best_choices`, for `%` in GS1 data: it is two characters of alphanumeric mode.
+fn percent_choices(
+    first_choices: &FirstChoices,
+    rule: Rule,
+    pair: bool,
+    rest: &PerState,
+) -> (u32, PerState)
+    requires { IsSmall rest.now }
+    ensures { IsRow Interpretation.Gs1 first_choices.now.version rule percent pair rest.now result.0 result.1 }
+{
+    let character = may_use(rule, Mode::Alphanumeric);
+    // The second of the two characters adds 5 bits to those of the first.
+    let first = first_choices.alphanumeric + 4 * 5;
+    let characters = choice_if(character, first, rest.character2);
+    let bytes = choice_if(true, first_choices.byte, rest.in_bytes);
+    let pairs = choice_if(pair, first_choices.kanji, rest.half_pair);
+    let others = bytes.min(pairs);
+    let start = characters.min(others);
+    let character1 = next_if(character, 11, Mode::Alphanumeric, rest.character1);
+    let character2 = next_if(character, 11, Mode::Alphanumeric, rest.character2);
+    let in_bytes = next_if(true, 8, Mode::Byte, rest.in_bytes);
+    let whole_pair = next_if(true, 0, Mode::Kanji, rest.whole_pair);
+    let half_pair = next_if(pair, 13, Mode::Kanji, rest.half_pair);
+    let numbers = PerState {
+        start,
+        digit1: start,
+        digit2: start,
+        digit3: start,
+        character1: character1.min(others),
+        character2: character2.min(others),
+        in_bytes: in_bytes.min(start),
+        half_pair: whole_pair,
+        whole_pair: half_pair.min(start),
+    };
+    (row_for(&numbers), numbers)
+}
+
+/// As `best_choices`; `gs1` says that the bytes are GS1 data. There the separator of fields is a `%` in alphanumeric
+/// mode, and `%` is two (7.4.8.2).
+#[inline(always)]
+pub(crate) fn row_of(
+    first_choices: &FirstChoices,
+    rule: Rule,
+    byte: u8,
+    pair: bool,
+    gs1: bool,
+    rest: &PerState,
+) -> (u32, PerState)
+    requires { IsSmall rest.now }
+    ensures { (i : Interpretation) → gs1 ≡ is_gs1 i
+        → IsRow i first_choices.now.version rule byte pair rest.now result.0 result.1 }
+{
+    if !gs1 {
+        best_choices(first_choices, rule, byte, pair, rest)
+    } else if byte == b'%' {
+        percent_choices(first_choices, rule, pair, rest)
+    } else {
+        let character = if byte == SEPARATOR { b'%' } else { byte };
+        best_choices(first_choices, rule, character, pair, rest)
     }
 }
 
@@ -190,17 +255,38 @@ pub(crate) fn best_modes(
 ) -> Result<Vec<u32>, AllocError>
     requires { length input.now ≤ INPUT_MAX }
     ensures { IfOk result (λ t. (vec_len t ≡ length input.now)
-        × IsBestTable version rule is_kanji_pair input.now (reverse t.items)) }
+        × IsBestTable Interpretation.Default version rule is_kanji_pair input.now (reverse t.items)) }
 {
     if may_use(rule, Mode::Kanji) {
-        best_rows(alloc, input, version, rule, true)
+        best_rows(alloc, input, version, rule, true, false)
     } else {
-        best_rows(alloc, input, version, rule, false)
+        best_rows(alloc, input, version, rule, false, false)
     }
 }
 
+/// As `best_modes`, for GS1 data.
+pub(crate) fn best_gs1_modes(
+    alloc: Global,
+    input: &[u8],
+    version: Version,
+    rule: Rule,
+) -> Result<Vec<u32>, AllocError>
+    requires { length input.now ≤ INPUT_MAX }
+    ensures { IfOk result (λ t. (vec_len t ≡ length input.now)
+        × IsBestTable Interpretation.Gs1 version rule is_kanji_pair input.now (reverse t.items)) }
+{
+    best_rows(
+        alloc,
+        input,
+        version,
+        rule,
+        may_use(rule, Mode::Kanji),
+        true,
+    )
+}
+
 // As `best_modes`. Where `kanji`, which says that the rule allows kanji mode, is constant, the compiler can leave out
-// the test for pairs.
+// the test for pairs; where `gs1`, which says that the input is GS1 data, is `false`, those for `%` and the separator.
 #[inline(always)]
 fn best_rows(
     alloc: Global,
@@ -208,18 +294,19 @@ fn best_rows(
     version: Version,
     rule: Rule,
     kanji: bool,
+    gs1: bool,
 ) -> Result<Vec<u32>, AllocError>
     requires short { length input.now ≤ INPUT_MAX }
     requires kanji { kanji ≡ may_use rule Mode.Kanji }
-    ensures { IfOk result (λ t. (vec_len t ≡ length input.now)
-        × IsBestTable version rule is_kanji_pair input.now (reverse t.items)) }
+    ensures { IfOk result (λ t. (vec_len t ≡ length input.now) × ((i : Interpretation) → gs1 ≡ is_gs1 i
+        → IsBestTable i version rule is_kanji_pair input.now (reverse t.items))) }
 {
     let first_choices = FirstChoices::of(version);
     let mut table = Vec::with_capacity(alloc, input.len())?;
     let mut rest = NO_BITS;
     for i in (0..input.len()).rev() {
         let pair = pair_at(kanji, rule, &input[i..]);
-        let (modes, numbers) = best_choices(&first_choices, rule, input[i], pair, &rest);
+        let (modes, numbers) = row_of(&first_choices, rule, input[i], pair, gs1, &rest);
         table.push(modes)?;
         rest = numbers;
     }

@@ -3,7 +3,8 @@
 
 ghost use Rattle.std.specs.Prelude.{IfOk, IsTrue, ◌↔◌, List, OnOk, false, true, [], ◌∷◌, take, drop, length, ◌≡◌, ◌≤◌, ◌++◌};
 ghost use Rattle.qr_bits.specs.declared.interpretation.Item.{Item};
-ghost use Rattle.qr_bits.specs.Interpretation.{eci_changes, fnc1_of, interpretation_bits, MayWrite, meant, meant_bytes, separated};
+ghost use Rattle.qr_bits.specs.Steps.RunState.{is_gs1};
+ghost use Rattle.qr_bits.specs.Interpretation.{are_fields, eci_changes, fnc1_of, interpretation_bits, MayWrite, meant, meant_bytes, separated};
 
 use crate::modes::Mode;
 use crate::segment::Segment;
@@ -40,12 +41,35 @@ pub fn interpretation_bits(interpretation: Interpretation) -> u64
     }
 }
 
+pub(crate) fn is_gs1(interpretation: Interpretation) -> bool
+    ensures { result ≡ is_gs1 interpretation }
+{
+    matches!(interpretation, Interpretation::Gs1)
+}
+
 /// Returns whether an input can be written with this interpretation.
 pub fn may_write(input: &[u8], interpretation: Interpretation) -> bool
     ensures { IsTrue result ↔ MayWrite interpretation input.now }
 {
-    let _ = input;
-    !matches!(interpretation, Interpretation::Gs1)
+    match interpretation {
+        Interpretation::Default | Interpretation::Eci(_) => true,
+        Interpretation::Gs1 => are_fields(input),
+    }
+}
+
+// Whether no separator comes before another or before `%`: one segment in alphanumeric mode cannot contain both.
+#[tactic(auto, unfolding(crate::specs::Interpretation::are_fields))]
+fn are_fields(bytes: &[u8]) -> bool
+    ensures { result ≡ are_fields bytes.now }
+{
+    let mut rest = bytes;
+    while let [first, second, ..] = rest {
+        if *first == SEPARATOR && (*second == SEPARATOR || *second == b'%') {
+            return false;
+        }
+        rest = &rest[1..];
+    }
+    true
 }
 
 /// The number of an interpretation, as an ECI header contains it (7.4.2).
@@ -88,7 +112,7 @@ pub struct EciChange {
 }
 
 // The character that separates fields (7.4.8.2).
-const SEPARATOR: u8 = 0x1D;
+pub(crate) const SEPARATOR: u8 = 0x1D;
 
 /// Appends what the characters of a segment after FNC1 stand for (7.4.8.2).
 #[tactic(auto, unfolding(crate::specs::Interpretation::separated))]

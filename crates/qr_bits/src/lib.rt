@@ -21,7 +21,9 @@ mod stream;
 pub use fault::{BitFault, ParseFault};
 pub use folding::fold;
 pub use header::{Header, parity};
-pub use interpretation::{Designator, EciChange, Fnc1, Interpretation, Item, interpretation_bits, may_write};
+pub use interpretation::{
+    Designator, EciChange, Fnc1, Interpretation, Item, interpretation_bits, may_write,
+};
 pub use longest_prefix::longest_fit;
 pub use lower_bound::least_bits;
 pub use modes::{INPUT_MAX, Mode, Rule};

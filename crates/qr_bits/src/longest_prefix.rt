@@ -6,15 +6,15 @@ ghost use Rattle.qr_bits.specs.declared.run_state.RunState.{RunState};
 ghost use Rattle.qr_bits.specs.Modes.{count_width, is_kanji_pair, may_use};
 ghost use Rattle.qr_bits.specs.Segmentation.{IsLongestFit};
 ghost use Rattle.qr_bits.specs.Steps.BestModes.{in_state};
-ghost use Rattle.qr_bits.specs.Steps.RunState.{begins_with_pair, swapped};
+ghost use Rattle.qr_bits.specs.Steps.RunState.{begins_with_pair, is_gs1, swapped};
 ghost use Rattle.qr_bits.specs.Padding.{room_of};
 ghost use Rattle.qr_bits.specs.declared.interpretation.Interpretation.{Interpretation};
 ghost use Rattle.qr_bits.specs.Interpretation.{MayWrite};
 
-use crate::best_modes::best_choices;
+use crate::best_modes::row_of;
 use crate::fault::BitFault;
 use crate::header::HEADER_BITS;
-use crate::interpretation::{Interpretation, interpretation_bits};
+use crate::interpretation::{Interpretation, interpretation_bits, is_gs1};
 use crate::modes::{INPUT_MAX, Mode, Rule, count_width, is_kanji_pair};
 use crate::padding::capacity;
 use crate::run_state::{FirstChoices, NO_BITS, PerState};
@@ -56,25 +56,32 @@ fn fewest(numbers: &PerState) -> u32
     digits.min(characters).min(pairs.min(others))
 }
 
-// `best_choices` adds a byte in front of the later ones. So each prefix is taken in reverse, which needs as many bits;
+// `row_of` adds a byte in front of the later ones. So each prefix is taken in reverse, which needs as many bits;
 // the second byte of a kanji pair then comes first. After the turn of `input[i]`, `rest.start / 4` is the least number
 // of bits of the prefix that ends with it. A longer prefix takes no fewer than the least of `rest`, since each byte only
 // adds to one of them. Not `rest.start` alone decides: half a kanji pair may take more bits than the pair.
 //
 // Where `kanji`, which says whether the rule allows kanji mode, is constant, the compiler can leave out the test for
-// pairs.
+// pairs; where `gs1`, which says that the input is GS1 data, is `false`, those for `%` and the separator.
 #[inline(always)]
-fn longest_by_rows(input: &[u8], version: Version, rule: Rule, kanji: bool, room: u64) -> usize
+fn longest_by_rows(
+    input: &[u8],
+    version: Version,
+    rule: Rule,
+    kanji: bool,
+    gs1: bool,
+    room: u64,
+) -> usize
     requires short { length input.now ≤ INPUT_MAX }
     requires kanji { kanji ≡ may_use rule Mode.Kanji }
-    ensures { IsLongestFit Interpretation.Default version rule input.now room result }
+    ensures { (i : Interpretation) → gs1 ≡ is_gs1 i → IsLongestFit i version rule input.now room result }
 {
     let first_choices = FirstChoices::of(version);
     let mut longest = 0;
     let mut rest = NO_BITS;
     for i in 0..input.len() {
         let pair = ends_with_pair(kanji, rule, &input[..i + 1]);
-        let (_, numbers) = best_choices(&first_choices, rule, input[i], pair, &rest);
+        let (_, numbers) = row_of(&first_choices, rule, input[i], pair, gs1, &rest);
         rest = numbers;
         if u64::from(rest.start / 4) <= room {
             longest = i + 1;
@@ -121,9 +128,12 @@ pub fn longest_fit(
     if input.len() <= most {
         return Ok(input.len());
     }
+    let gs1 = is_gs1(interpretation);
     match rule {
         Rule::BytesOnly => Ok(most),
-        Rule::Auto => Ok(longest_by_rows(input, version, rule, false, room)),
-        Rule::WithKanji => Ok(longest_by_rows(input, version, rule, true, room)),
+        Rule::Auto if gs1 => Ok(longest_by_rows(input, version, rule, false, true, room)),
+        Rule::WithKanji if gs1 => Ok(longest_by_rows(input, version, rule, true, true, room)),
+        Rule::Auto => Ok(longest_by_rows(input, version, rule, false, false, room)),
+        Rule::WithKanji => Ok(longest_by_rows(input, version, rule, true, false, room)),
     }
 }

@@ -1,6 +1,6 @@
 //! Data codewords: the bit stream, a terminator and padding (ISO/IEC 18004:2015, 7.4.9, 7.4.10).
 
-ghost use Rattle.std.specs.Prelude.{All, Err, IfOk, OnOk, length, min, vec_len, ◌++◌, ◌+◌, ◌-◌, ◌<◌, ◌^◌, ◌↔◌, ◌≡◌, ◌≤◌};
+ghost use Rattle.std.specs.Prelude.{All, Err, IfOk, OnOk, length, min, vec_len, ◌++◌, ◌+◌, ◌*◌, ◌-◌, ◌<◌, ◌^◌, ◌↔◌, ◌≡◌, ◌≤◌};
 ghost use Rattle.qr_bits.specs.Segmentation.{Covers, bits};
 ghost use Rattle.qr_bits.specs.Padding.{IsData, capacity_of, filled, pads};
 ghost use Rattle.qr_bits.specs.Header.{header_bits, header_stream};
@@ -50,7 +50,7 @@ pub fn codewords(
     version: Version,
     level: Level,
 ) -> Result<Vec<u8>, BitFault>
-    requires short { length input.now ≤ INPUT_MAX }
+    requires short { length input.now ≤ 2 * INPUT_MAX }
     requires covered { Covers input.now segs.now }
     requires in_range { ForSome header (λ h. (h.position < 16) × (h.last < 16)) }
     requires number { InterpretationFits interpretation }

@@ -1,6 +1,6 @@
 //! Segments, whether they cover an input, and their bits (ISO/IEC 18004:2015, 7.4.1).
 
-ghost use Rattle.std.specs.Prelude.{All, IsTrue, sum_by, ◌+◌, ◌<◌, ◌↔◌, ◌≡◌, ◌≤◌};
+ghost use Rattle.std.specs.Prelude.{All, IsTrue, sum_by, ◌*◌, ◌+◌, ◌<◌, ◌↔◌, ◌≡◌, ◌≤◌};
 ghost use Rattle.qr_bits.specs.Segmentation.{Covers, bits, segment_bits};
 
 use crate::modes::{INPUT_MAX, Mode, count_width, payload_bits, suits};
@@ -37,7 +37,7 @@ pub fn covers(input: &[u8], segs: &[Segment]) -> bool
 /// Returns how many bits `segs` take in this version, with their indicators and without a structured append header.
 pub fn bit_len(segs: &[Segment], version: Version) -> u64
     requires nonempty { All (λ s. 0 < s.len) segs.now }
-    requires short { sum_by (λ s. s.len) segs.now ≤ INPUT_MAX }
+    requires short { sum_by (λ s. s.len) segs.now ≤ 2 * INPUT_MAX }
     ensures { result ≡ bits version segs.now }
 {
     let mut bits = 0;
@@ -48,7 +48,7 @@ pub fn bit_len(segs: &[Segment], version: Version) -> u64
 }
 
 fn segment_bits(version: Version, segment: Segment) -> u64
-    requires { segment.len ≤ INPUT_MAX }
+    requires { segment.len ≤ 2 * INPUT_MAX }
     ensures { result ≡ segment_bits version segment }
 {
     let head = 4 + u64::from(count_width(version, segment.mode));

@@ -10,7 +10,8 @@ pub use Rattle.qr_symbol.proofs.lemmas.interleaving.RankLemmas.{map-at, position
 pub use Rattle.qr_symbol.proofs.lemmas.reading.ReadLemmas.{bits-one, message-one, read-one, read-some}
 pub use Rattle.qr_symbol.proofs.lemmas.reading.RefusalLemmas.{exactly, moved}
 pub use Rattle.qr_symbol.proofs.lemmas.reading.RoundTripLemmas.{symbol-format, symbol-holds, symbol-parsed}
-pub use Rattle.qr_symbol.proofs.lemmas.series.SeriesLemmas.{long-has-no-series, series-joined, series-one}
+pub use Rattle.qr_symbol.proofs.lemmas.series.SeriesLemmas.{long-has-no-series, series-interpreted, series-joined, series-one}
 pub use Rattle.qr_symbol.proofs.lemmas.series.SizeLemmas.{series-few, series-side, series-some}
 pub use Rattle.qr_symbol.proofs.lemmas.encoding.SymbolLemmas.{boosted-one, symbol-one, version-one}
 pub use Rattle.qr_symbol.proofs.lemmas.interleaving.PositionLemmas.{len-most, start-most, start-next, start-none, position, position-in}
+pub use Rattle.qr_symbol.proofs.lemmas.version_choice.FitLemmas.{version-short}

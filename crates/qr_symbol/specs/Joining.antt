@@ -1,17 +1,22 @@
 -- Which bytes the symbols of a series contain together. `reads g c` says that the square `g` is read as the content
 -- `c`, and `refuses g e` that it is refused for the fault `e`.
 use Rattle.std.specs.Prelude.{◌≡◌, ◌⊎◌, ℕ, ◌+◌, ◌-◌, ◌<◌, List, [], ◌∷◌, length, None, Some}
-use Rattle.std.specs.List.{AllZip, flat_map}
+use Rattle.std.specs.List.{All, AllZip, flat_map}
 use Rattle.qr_bits.specs.Parsing.{Content}
 use Rattle.qr_bits.specs.Header.{parity_of}
 use Rattle.qr_symbol.specs.declared.fault.ReadFault.{ReadFault}
 use Rattle.qr_symbol.specs.declared.fault.ReadFault.TheVariants as unread
 use Rattle.qr_matrix.specs.Grid.{Grid}
-use Rattle.qr_symbol.specs.Reading.{IsReading, IsUnread}
+use Rattle.qr_bits.specs.declared.interpretation.Interpretation.{Interpretation}
+use Rattle.qr_symbol.specs.Reading.{IsInterpreted, IsReading, IsUnread}
 
 -- There are as many contents as squares, and each square is read as its content (ISO/IEC 18004:2015, 12)
 unfoldable pub AreReadBy : (Grid → Content → Type 0) → List Grid → List Content → Type 0
 AreReadBy reads squares contents = AllZip reads squares contents
+
+-- Each square is read as a content with the interpretation `i` (ISO/IEC 18004:2015, 7.4.2, 7.4.8.2, 12)
+abbrev pub AreInterpreted : Interpretation → List Grid → Type 0
+AreInterpreted i squares = All (λ g. (c : Content) × IsReading g c × IsInterpreted i c) squares
 
 -- The bytes of all contents in turn [own]
 abbrev pub bytes_of_all : List Content → List ℕ

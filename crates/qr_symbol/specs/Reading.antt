@@ -14,7 +14,7 @@ use Rattle.qr_bits.specs.declared.segment.Segment.{Segment}
 use Rattle.qr_bits.specs.Segmentation.{IsLeastSegmentation}
 use Rattle.qr_bits.specs.Bits.{bits_of}
 use Rattle.qr_bits.specs.Parsing.{Content, parse}
-use Rattle.qr_bits.specs.Interpretation.{ecis_in, items_in}
+use Rattle.qr_bits.specs.Interpretation.{ecis_in, fnc1_in, fnc1_of, items_in}
 use Rattle.qr_bits.specs.declared.header.Header.{Header}
 use Rattle.qr_bits.specs.declared.interpretation.Interpretation.{Interpretation}
 use Rattle.qr_bits.specs.declared.fault.ParseFault.{ParseFault}
@@ -91,6 +91,10 @@ IsReading g content = IsParsedAs g (Ok content)
 -- interpretation, and contain what stands for the bytes (ISO/IEC 18004:2015, 7.4.2, 7.4.8.2)
 abbrev pub interpreted_content : Interpretation → Option Header → List Segment → List ℕ → Content
 interpreted_content i h segments x = record { header = h; items = items_in i segments; ecis = ecis_in i; bytes = x }
+
+-- The content has the interpretation `i`, and no other (ISO/IEC 18004:2015, 7.4.2, 7.4.8.2)
+abbrev pub IsInterpreted : Interpretation → Content → Type 0
+IsInterpreted i c = (c.ecis ≡ ecis_in i) × (fnc1_of c.items ≡ fnc1_in i)
 
 -- The square is read as the bytes `x` under the interpretation `i`, in the segments of fewest bits in modes that `rule`
 -- allows, without a structured append header (ISO/IEC 18004:2015, 12)

@@ -70,8 +70,14 @@ pub fn encode(
     ensures fault { IfErr result (λ e. (e ≡ EncodeFault.Empty) ⊎ (e ≡ EncodeFault.TooLong)
         ⊎ (e ≡ EncodeFault.Memory)) }
 {
-    let fit = fit_of(alloc, input, level, smallest, rule, interpretation)?;
-    fitting_symbol(alloc, &fit.segmented, interpretation, fit.version, level)
+    let found = fit_of(alloc, input, level, smallest, rule, interpretation)?;
+    fitting_symbol(
+        alloc,
+        &found.segmented,
+        interpretation,
+        found.version,
+        level,
+    )
 }
 
 /// As `encode`, but `level` is the lowest that the symbol may have. The version is that of `encode`, and the level is

@@ -24,7 +24,7 @@ ghost use Rattle.qr_symbol.specs.Reading.{read_bits, interpreted_content, IsRead
 ghost use Rattle.qr_symbol.specs.Encoding.{BoostedSymbolsAreOne, IsBoostedSymbol, IsSymbol, SymbolsAreOne};
 ghost use Rattle.qr_symbol.specs.VersionChoice.{FitsVersion, HasNoVersion, IsVersion};
 ghost use Rattle.qr_symbol.specs.Series.{squares_of, AreParts, FitParts, NeedsParts, IsSeries, HasNoSeries};
-ghost use Rattle.qr_symbol.specs.Joining.{IsJoined, IsUnjoined};
+ghost use Rattle.qr_symbol.specs.Joining.{AreInterpreted, IsJoined, IsUnjoined};
 ghost use Rattle.qr_layout.specs.Version.{side_of, total_codewords_of};
 ghost use Rattle.qr_layout.specs.Blocks.{data_codewords_of, blocks_of};
 ghost use Rattle.qr_bits.specs.declared.modes.Rule.{Rule};
@@ -260,6 +260,12 @@ pub fn series_have_one_side(version: Version)
 pub fn series_are_joined(version: Version)
     ensures { (x : List ℕ) (l : Level) (rule : Rule) (i : Interpretation) (ss : List Symbol)
         → MayWrite i x → IsSeries version l rule i x ss → IsJoined (squares_of ss) x }
+{}
+
+/// Each symbol of the series of an input is read with its interpretation.
+pub fn series_keep_their_interpretation(version: Version)
+    ensures { (x : List ℕ) (l : Level) (rule : Rule) (i : Interpretation) (ss : List Symbol)
+        → MayWrite i x → IsSeries version l rule i x ss → AreInterpreted i (squares_of ss) }
 {}
 
 /// An input of `INPUT_MAX` bytes or more fits no version, and has no series, since it would be cut into more than 16

@@ -3,7 +3,8 @@
 //! This code writes the modules of a symbol as text, with `#` for each dark one:
 //!
 //! ```text
-//! let symbol = encode(alloc, words, Level::M, Version::FIRST, Rule::Auto)?;
+//! let (first, plain) = (Version::FIRST, Interpretation::Default);
+//! let symbol = encode(alloc, words, Level::M, first, Rule::Auto, plain)?;
 //! for row in 0..symbol.matrix.side() {
 //!     for col in 0..symbol.matrix.side() {
 //!         text.push(if symbol.matrix.dark(row, col) { b'#' } else { b' ' })?;
@@ -37,7 +38,7 @@ pub use encoding::{encode, encode_boosted};
 pub use fault::{EncodeFault, ReadFault};
 pub use interleaving::{BlockSizes, deinterleave, interleave};
 pub use joining::{join, read_series};
-pub use qr_bits::{INPUT_MAX, Rule};
+pub use qr_bits::{INPUT_MAX, Interpretation, Rule, may_write};
 pub use qr_layout::{Level, Version};
 pub use qr_matrix::{Matrix, penalty};
 pub use reading::{read_codewords, read_symbol, read_unmasked};

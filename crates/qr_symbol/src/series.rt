@@ -13,7 +13,7 @@ ghost use Rattle.qr_bits.specs.Header.{parity_of};
 ghost use Rattle.qr_symbol.specs.declared.fault.EncodeFault.{EncodeFault};
 ghost use Rattle.qr_symbol.specs.VersionChoice.{FitsVersion};
 ghost use Rattle.qr_symbol.specs.Series.{squares_of, AreParts, NeedsParts, IsSymbolOf, AreSymbolsFrom, IsSeries, HasNoSeries};
-ghost use Rattle.qr_symbol.specs.Joining.{IsJoined};
+ghost use Rattle.qr_symbol.specs.Joining.{AreInterpreted, IsJoined};
 ghost use Rattle.qr_symbol.specs.Steps.Series.{AreLengths, parts_of};
 
 use crate::canvas::Canvas;
@@ -22,7 +22,10 @@ use crate::fault::EncodeFault;
 use crate::symbol::Symbol;
 use crate::version_choice::needed_bits;
 use arrayvec::ArrayVec;
-use qr_bits::{Header, INPUT_MAX, Interpretation, Rule, interpretation_bits, least_bits, longest_fit, parity, segments};
+use qr_bits::{
+    Header, INPUT_MAX, Interpretation, Rule, interpretation_bits, least_bits, longest_fit, parity,
+    segments,
+};
 use qr_layout::{Level, Version};
 use std::alloc::Global;
 
@@ -30,7 +33,8 @@ use std::alloc::Global;
 /// fits one symbol without a structured append header is encoded as this one symbol. Any other is cut into parts, each
 /// the longest prefix of the rest that fits a symbol with a header, even if some shorter prefix does not.
 ///
-/// The parity data in each header are of the whole input. The symbols, read and joined, yield exactly the input.
+/// The parity data in each header are of the whole input. The symbols, read and joined, yield exactly the input, and each
+/// is read with its interpretation.
 /// Without kanji mode the series is the shortest possible: no cut into parts that fit has fewer parts.
 ///
 /// # Errors
@@ -51,6 +55,7 @@ pub fn encode_series(
     requires written { MayWrite interpretation input.now }
     ensures series { IfOk result (λ ss. IsSeries version level rule interpretation input.now ss.items) }
     ensures joined { IfOk result (λ ss. IsJoined (squares_of ss.items) input.now) }
+    ensures interpreted { IfOk result (λ ss. AreInterpreted interpretation (squares_of ss.items)) }
     ensures shortest { IfOk result (λ ss. may_use rule Mode.Kanji ≡ false
         → NeedsParts version level rule interpretation input.now (length ss.items)) }
     ensures empty { (result ≡ Err EncodeFault.Empty) ↔ (input.now ≡ []) }
@@ -91,7 +96,14 @@ fn series_of(
     }
     let lengths = part_lengths(alloc, input, version, level, rule, interpretation)?;
     let mut canvas = Canvas::new(alloc, version, level)?;
-    symbols_on(alloc, &mut canvas, input, lengths.as_slice(), rule, interpretation)
+    symbols_on(
+        alloc,
+        &mut canvas,
+        input,
+        lengths.as_slice(),
+        rule,
+        interpretation,
+    )
 }
 
 // Whether a bound shows that the input does not fit, so that it need not be cut into segments. With byte mode alone the
@@ -135,8 +147,8 @@ fn plain_symbol(
         return Ok(None);
     }
     let segmented = segments(alloc, input, version, rule, interpretation)?;
-    if needed_bits(&segmented, interpretation, version)
-        > 8 * u64::from(version.data_codewords(level)) {
+    let room = 8 * u64::from(version.data_codewords(level));
+    if needed_bits(&segmented, interpretation, version) > room {
         return Ok(None);
     }
     let symbol = symbol_at(alloc, &segmented, None, interpretation, version, level)?;

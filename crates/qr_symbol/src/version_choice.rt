@@ -18,7 +18,10 @@ ghost use Rattle.qr_bits.specs.Padding.{capacity_of};
 ghost use Rattle.qr_layout.specs.declared.level.Level.{Level};
 ghost use Rattle.qr_symbol.specs.VersionChoice.{FitsVersion, IsVersion, HasNoVersion, level_rank};
 
-use qr_bits::{BitFault, INPUT_MAX, Interpretation, Rule, Segmented, bit_len, interpretation_bits, least_bits, segments};
+use qr_bits::{
+    BitFault, INPUT_MAX, Interpretation, Rule, Segmented, bit_len, interpretation_bits, least_bits,
+    segments,
+};
 use qr_layout::{Level, Version};
 use std::alloc::Global;
 

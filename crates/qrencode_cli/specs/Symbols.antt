@@ -1,6 +1,7 @@
 -- The symbols that the settings `s` ask for, as their squares of modules.
 use Rattle.std.specs.Prelude.{◌≡◌, ◌⊎◌, ℕ, true, false, List, [], ◌∷◌, unwrap_or}
 use Rattle.qr_symbol.specs.declared.symbol.Symbol.{Symbol}
+use Rattle.qr_bits.specs.declared.interpretation.Interpretation.TheVariants.{Default}
 use Rattle.qr_matrix.specs.Grid.{Grid}
 use Rattle.qr_symbol.specs.Encoding.{IsSymbol}
 use Rattle.qr_symbol.specs.VersionChoice.{HasNoVersion}
@@ -16,14 +17,14 @@ smallest_of s = unwrap_or s.smallest 1
 abbrev pub AreSymbols : SettingsView → List ℕ → List Grid → Type 0
 AreSymbols s input squares =
     ((s.structured ≡ true) × (symbols : List Symbol)
-    × IsSeries (smallest_of s) s.level (rule_for s) input symbols × (squares ≡ squares_of symbols))
+    × IsSeries (smallest_of s) s.level (rule_for s) Default input symbols × (squares ≡ squares_of symbols))
     ⊎ ((s.structured ≡ false) × (version mask : ℕ) × (square : Grid)
-    × IsSymbol (smallest_of s) s.level (rule_for s) input version mask square × (squares ≡ square ∷ []))
+    × IsSymbol (smallest_of s) s.level (rule_for s) Default input version mask square × (squares ≡ square ∷ []))
 
 -- One symbol is asked for, and `input` fits no version from the smallest on [own]
 abbrev pub IsTooLong : SettingsView → List ℕ → Type 0
-IsTooLong s input = (s.structured ≡ false) × HasNoVersion (smallest_of s) s.level (rule_for s) input
+IsTooLong s input = (s.structured ≡ false) × HasNoVersion (smallest_of s) s.level (rule_for s) Default input
 
 -- A series is asked for, and `input` has none of this version and level [own]
 abbrev pub IsTooMany : SettingsView → List ℕ → Type 0
-IsTooMany s input = (s.structured ≡ true) × HasNoSeries (smallest_of s) s.level (rule_for s) input
+IsTooMany s input = (s.structured ≡ true) × HasNoSeries (smallest_of s) s.level (rule_for s) Default input

@@ -9,7 +9,7 @@ use crate::drawing_job::DrawingJob;
 use crate::fault::Fault;
 use crate::input::read_input;
 use crate::settings::{Settings, options};
-use qr_bits::{INPUT_MAX, fold};
+use qr_bits::{INPUT_MAX, Interpretation, fold};
 use qr_devices::{Sink, Source};
 use qr_drawing::{draw, write_text};
 use qr_layout::Version;
@@ -23,12 +23,13 @@ fn symbols_for(alloc: Global, input: &[u8], settings: &Settings) -> Result<Vec<S
         (IsInputFault settings.now input.now) }
 {
     let version = settings.smallest.unwrap_or(Version::FIRST);
+    let level = settings.level;
     let rule = settings.rule();
     if settings.structured {
-        let symbols = encode_series(alloc, input, version, settings.level, rule)?;
+        let symbols = encode_series(alloc, input, version, level, rule, Interpretation::Default)?;
         return Ok(symbols);
     }
-    let symbol = encode(alloc, input, settings.level, version, rule)?;
+    let symbol = encode(alloc, input, level, version, rule, Interpretation::Default)?;
     let symbols = Vec::from_array(alloc, [symbol])?;
     Ok(symbols)
 }

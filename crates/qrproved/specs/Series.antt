@@ -5,19 +5,20 @@ use Rattle.qr_bits.specs.declared.modes.Mode.TheVariants.{Kanji}
 use Rattle.qr_bits.specs.Modes.{may_use}
 use Rattle.qr_symbol.specs.declared.symbol.Symbol.{Symbol}
 use Rattle.qr_symbol.specs.Series.{squares_of, IsSeries, NeedsParts}
-use Rattle.qr_symbol.specs.Joining.{IsJoined}
+use Rattle.qr_symbol.specs.Joining.{AreInterpreted, IsJoined}
 use Rattle.qrproved.specs.declared.series.QrprovedSeries.{QrprovedSeries}
 use Rattle.qrproved.specs.Settings.{AreSettings, interpretation_of, level_of, rule_of}
 use Rattle.qrproved.specs.Modules.{HoldsSquares}
 
 -- The modules of the input's series were written to the buffer, `t` has its number of symbols and their side, and the
--- symbols are read and joined as the input. The numbers are in range, and without kanji mode no cut of the input into
+-- symbols are read and joined as the input, each with its interpretation. The numbers are allowed, and without kanji mode no cut of the input into
 -- parts that fit, each with a header, has fewer parts than there are symbols [own]
 pub record IsWrittenSeries (x : List ℕ) (version level rule interpretation : ℕ) (before after : List ℕ) (t : QrprovedSeries) : Type 0 where
   pub settings : AreSettings version level rule interpretation
   pub symbols : List Symbol
   pub made : IsSeries version (level_of level) (rule_of rule) (interpretation_of interpretation) x symbols
   pub joined : IsJoined (squares_of symbols) x
+  pub interpreted : AreInterpreted (interpretation_of interpretation) (squares_of symbols)
   pub shortest : may_use (rule_of rule) Kanji ≡ false → NeedsParts version (level_of level) (rule_of rule) (interpretation_of interpretation) x (length symbols)
   pub count : t.count ≡ length symbols
   pub side : t.side ≡ side_of version

@@ -113,8 +113,7 @@ pub extern "C" fn qrproved_encode(
         → (modules.new ≡ modules.old) × (symbol.new ≡ symbol.old) }
     ensures settings { (result ≡ SETTINGS) ↔ (AreSymbolSettings version level rule interpretation boost → ⊥) }
     ensures empty { (result ≡ EMPTY)
-        ↔ (AreSymbolSettings version level rule interpretation boost
-        × MayWrite (interpretation_of interpretation) input.now × (input.now ≡ [])) }
+        ↔ (AreSymbolSettings version level rule interpretation boost × (input.now ≡ [])) }
     ensures fields { (result ≡ FIELDS) ↔ (AreSymbolSettings version level rule interpretation boost
         × (MayWrite (interpretation_of interpretation) input.now → ⊥)) }
     ensures too_long { (result ≡ TOO_LONG) ↔ ((result ≢ MEMORY)
@@ -190,10 +189,14 @@ mod tests {
         0b111111101110101010111,
     ];
 
+    // No interpretation.
+    const NONE: u32 = 1_000_000;
+
     fn nothing() -> QrprovedSymbol {
         QrprovedSymbol {
             version: 9,
             side: 9,
+            level: 9,
             mask: 9,
         }
     }
@@ -202,9 +205,22 @@ mod tests {
     fn a_letter_at_1_l(rt: HostRuntime) -> Result<(), Fail> {
         let mut modules = [7u8; 443];
         let mut symbol = nothing();
-        let status = qrproved_encode(rt.alloc(), b"A", 1, 0, 1, &mut modules, &mut symbol);
+        let status = qrproved_encode(
+            rt.alloc(),
+            b"A",
+            1,
+            0,
+            1,
+            NONE,
+            0,
+            &mut modules,
+            &mut symbol,
+        );
         assert_eq!(rt; status, DONE);
-        assert_eq!(rt; (symbol.version, symbol.side, symbol.mask), (1, 21, 0));
+        assert_eq!(rt;
+            (symbol.version, symbol.side, symbol.level, symbol.mask),
+            (1, 21, 0, 0)
+        );
         for row in 0..21u8 {
             for col in 0..21u8 {
                 let byte = modules.get(21 * usize::from(row) + usize::from(col));
@@ -241,6 +257,8 @@ mod tests {
                 version,
                 level,
                 rule,
+                NONE,
+                0,
                 &mut modules,
                 &mut symbol,
             );
@@ -269,6 +287,8 @@ mod tests {
                 1,
                 level,
                 rule,
+                NONE,
+                0,
                 &mut modules,
                 &mut symbol,
             );
@@ -285,7 +305,17 @@ mod tests {
         for (rule, version) in [(0u32, 2u8), (1, 2), (2, 1)] {
             let mut modules = [7u8; 625];
             let mut symbol = nothing();
-            let status = qrproved_encode(rt.alloc(), &kanji, 1, 0, rule, &mut modules, &mut symbol);
+            let status = qrproved_encode(
+                rt.alloc(),
+                &kanji,
+                1,
+                0,
+                rule,
+                NONE,
+                0,
+                &mut modules,
+                &mut symbol,
+            );
             assert_eq!(rt; status, DONE, "rule {rule}");
             assert_eq!(rt; symbol.version, version, "rule {rule}");
         }
@@ -328,14 +358,167 @@ mod tests {
                 version,
                 level,
                 rule,
+                NONE,
+                0,
                 &mut modules[..room],
                 &mut symbol,
             );
             assert_eq!(rt; status, wanted, "{name}");
             assert!(rt; modules.iter().all(|byte| *byte == 7), "{name}");
             assert_eq!(rt;
-                (symbol.version, symbol.side, symbol.mask),
-                (9, 9, 9),
+                (symbol.version, symbol.side, symbol.level, symbol.mask),
+                (9, 9, 9, 9),
+                "{name}"
+            );
+        }
+        Ok(())
+    }
+
+    // Each input with the level that is asked for, and the version and the level that it gets (Table 7).
+    #[test]
+    fn boost(rt: HostRuntime) -> Result<(), Fail> {
+        let digits = [b'7'; 42];
+        let rows = [
+            ("17 digits", &digits[..17], 0u32, 1u8, 3u8),
+            ("18 digits", &digits[..18], 0, 1, 2),
+            ("27 digits", &digits[..27], 0, 1, 2),
+            ("28 digits", &digits[..28], 0, 1, 1),
+            ("34 digits", &digits[..34], 1, 1, 1),
+            ("35 digits", &digits[..35], 0, 1, 0),
+            ("35 digits at M", &digits[..35], 1, 2, 2),
+            ("42 digits", &digits[..], 0, 2, 2),
+            ("17 digits at H", &digits[..17], 3, 1, 3),
+        ];
+        for (name, input, level, version, used) in rows {
+            let mut modules = [7u8; 625];
+            let mut symbol = nothing();
+            let status = qrproved_encode(
+                rt.alloc(),
+                input,
+                1,
+                level,
+                0,
+                NONE,
+                1,
+                &mut modules,
+                &mut symbol,
+            );
+            assert_eq!(rt; status, DONE, "{name}");
+            assert_eq!(rt; (symbol.version, symbol.level), (version, used), "{name}");
+        }
+        Ok(())
+    }
+
+    // What says the interpretation takes 12, 20 or 28 bits for an ECI and 4 for GS1 data. Version 1 has 152 bits at L;
+    // 17 bytes in byte mode take 148, 16 take 140, 15 take 132, and 41 digits 151.
+    #[test]
+    fn interpretations_take_room(rt: HostRuntime) -> Result<(), Fail> {
+        let letters = [b'a'; 18];
+        let digits = [b'7'; 41];
+        let rows = [
+            ("17 letters", &letters[..17], NONE, 1u8),
+            ("16 letters as UTF-8", &letters[..16], 26, 1),
+            ("17 letters as UTF-8", &letters[..17], 26, 2),
+            ("16 letters with ECI 127", &letters[..16], 127, 1),
+            ("16 letters with ECI 128", &letters[..16], 128, 2),
+            ("15 letters with ECI 16,383", &letters[..15], 16383, 1),
+            ("15 letters with ECI 16,384", &letters[..15], 16384, 2),
+            ("14 letters with ECI 999,999", &letters[..14], 999_999, 1),
+            ("17 letters as GS1 data", &letters[..17], 1_000_001, 1),
+            ("41 digits", &digits[..], NONE, 1),
+            ("40 digits as GS1 data", &digits[..40], 1_000_001, 1),
+            ("41 digits as GS1 data", &digits[..], 1_000_001, 2),
+        ];
+        for (name, input, interpretation, version) in rows {
+            let mut modules = [7u8; 625];
+            let mut symbol = nothing();
+            let status = qrproved_encode(
+                rt.alloc(),
+                input,
+                1,
+                0,
+                0,
+                interpretation,
+                0,
+                &mut modules,
+                &mut symbol,
+            );
+            assert_eq!(rt; status, DONE, "{name}");
+            assert_eq!(rt; symbol.version, version, "{name}");
+        }
+        Ok(())
+    }
+
+    // A separator of fields is 1D (hexadecimal).
+    #[test]
+    fn interpretations_refused(rt: HostRuntime) -> Result<(), Fail> {
+        let rows = [
+            (
+                "ECI 1,000,002",
+                &b"a"[..],
+                0u32,
+                1_000_002u32,
+                0u32,
+                SETTINGS,
+            ),
+            ("boost 2", &b"a"[..], 0, 26, 2, SETTINGS),
+            ("boost 257", &b"a"[..], 0, 26, 257, SETTINGS),
+            ("kanji as UTF-8", &b"a"[..], 2, 26, 0, SETTINGS),
+            ("kanji as Shift JIS", &b"a"[..], 2, 20, 0, DONE),
+            ("kanji in GS1 data", &b"a"[..], 2, 1_000_001, 0, DONE),
+            ("no byte as UTF-8", &b""[..], 0, 26, 0, EMPTY),
+            ("no GS1 data", &b""[..], 0, 1_000_001, 0, EMPTY),
+            (
+                "two separators",
+                &b"10a\x1D\x1D17261231"[..],
+                0,
+                1_000_001,
+                0,
+                FIELDS,
+            ),
+            (
+                "a field that begins with %",
+                &b"10a\x1D%"[..],
+                0,
+                1_000_001,
+                0,
+                FIELDS,
+            ),
+            (
+                "two separators as bytes",
+                &b"10a\x1D\x1D17"[..],
+                1,
+                1_000_001,
+                0,
+                FIELDS,
+            ),
+            ("two separators as UTF-8", &b"\x1D\x1D"[..], 0, 26, 0, DONE),
+            (
+                "two fields",
+                &b"10a%\x1D17261231"[..],
+                0,
+                1_000_001,
+                0,
+                DONE,
+            ),
+        ];
+        for (name, input, rule, interpretation, boost, wanted) in rows {
+            let mut modules = [7u8; 625];
+            let mut symbol = nothing();
+            let status = qrproved_encode(
+                rt.alloc(),
+                input,
+                1,
+                0,
+                rule,
+                interpretation,
+                boost,
+                &mut modules,
+                &mut symbol,
+            );
+            assert_eq!(rt; status, wanted, "{name}");
+            assert!(rt;
+                status == DONE || modules.iter().all(|byte| *byte == 7),
                 "{name}"
             );
         }

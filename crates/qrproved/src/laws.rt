@@ -17,8 +17,8 @@ use crate::parsing::QrprovedDrawn;
 use crate::reading::QrprovedContent;
 use crate::series::QrprovedSeries;
 use crate::status::{
-    CHECK, DONE, EMPTY, FIELDS, FORMAT, MEMORY, NO_DRAWING, ROOM, SEGMENTS, SETTINGS, SIDE, TOO_LONG,
-    TOO_MANY,
+    CHECK, DONE, EMPTY, FIELDS, FORMAT, MEMORY, NO_DRAWING, ROOM, SEGMENTS, SETTINGS, SIDE,
+    TOO_LONG, TOO_MANY,
 };
 use std::alloc::AllocError;
 

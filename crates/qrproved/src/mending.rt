@@ -360,6 +360,7 @@ mod tests {
             1,
             3,
             1,
+            1_000_000,
             &mut modules,
             &mut series,
         );

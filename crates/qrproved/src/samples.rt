@@ -13,9 +13,20 @@ pub(crate) fn eight_digits(rt: &HostRuntime) -> Result<[u8; 441], Fail> {
     let mut symbol = QrprovedSymbol {
         version: 0,
         side: 0,
+        level: 0,
         mask: 0,
     };
-    let status = qrproved_encode(rt.alloc(), b"01234567", 1, 1, 0, &mut modules, &mut symbol);
+    let status = qrproved_encode(
+        rt.alloc(),
+        b"01234567",
+        1,
+        1,
+        0,
+        1_000_000,
+        0,
+        &mut modules,
+        &mut symbol,
+    );
     if status != DONE {
         return Err("eight digits are not encoded".into());
     }

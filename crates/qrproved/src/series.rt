@@ -54,8 +54,7 @@ pub extern "C" fn qrproved_encode_series(
     ensures unchanged { result ≢ DONE
         → (modules.new ≡ modules.old) × (series.new ≡ series.old) }
     ensures settings { (result ≡ SETTINGS) ↔ (AreSettings version level rule interpretation → ⊥) }
-    ensures empty { (result ≡ EMPTY) ↔ (AreSettings version level rule interpretation
-        × MayWrite (interpretation_of interpretation) input.now × (input.now ≡ [])) }
+    ensures empty { (result ≡ EMPTY) ↔ (AreSettings version level rule interpretation × (input.now ≡ [])) }
     ensures fields { (result ≡ FIELDS) ↔ (AreSettings version level rule interpretation
         × (MayWrite (interpretation_of interpretation) input.now → ⊥)) }
     ensures too_many { (result ≡ TOO_MANY) ↔ ((result ≢ MEMORY)
@@ -121,6 +120,7 @@ mod tests {
             1,
             3,
             1,
+            1_000_000,
             &mut modules,
             &mut series,
         );
@@ -165,6 +165,7 @@ mod tests {
                 version,
                 level,
                 rule,
+                1_000_000,
                 &mut modules[..room],
                 &mut series,
             );

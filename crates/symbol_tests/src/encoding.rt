@@ -1,10 +1,12 @@
 //! Tests of the functions that make a symbol from an input or from codewords.
 
 use crate::samples::EIGHT_DIGITS;
-use qr_bits::{INPUT_MAX, Rule};
+use qr_bits::{INPUT_MAX, Interpretation, Rule};
 use qr_layout::{Level, Version};
 use qr_symbol::laws::plain_and_fast_symbols_are_one;
-use qr_symbol::{EncodeFault, build, build_masked, deinterleave, draw_symbol, encode, interleave};
+use qr_symbol::{
+    EncodeFault, build, build_masked, deinterleave, draw_symbol, encode, encode_boosted, interleave,
+};
 use std::test::Fail;
 
 #[test]
@@ -19,7 +21,14 @@ fn masks(rt: HostRuntime) -> Result<(), Fail> {
     let first = Version::FIRST;
     for (name, input, level, mask) in rows {
         assert!(rt; input.len() <= INPUT_MAX);
-        let symbol = encode(rt.alloc(), input, level, first, Rule::Auto)?;
+        let symbol = encode(
+            rt.alloc(),
+            input,
+            level,
+            first,
+            Rule::Auto,
+            Interpretation::Default,
+        )?;
         assert_eq!(rt; symbol.version, first, "{name}");
         assert_eq!(rt; symbol.mask, mask, "{name}");
     }
@@ -38,8 +47,39 @@ fn versions(rt: HostRuntime) -> Result<(), Fail> {
     for (name, len, smallest, version) in rows {
         let smallest = Version::new(smallest).ok_or("smallest version")?;
         assert!(rt; len <= digits.len());
-        let symbol = encode(rt.alloc(), &digits[..len], Level::L, smallest, Rule::Auto)?;
+        let symbol = encode(
+            rt.alloc(),
+            &digits[..len],
+            Level::L,
+            smallest,
+            Rule::Auto,
+            Interpretation::Default,
+        )?;
         assert_eq!(rt; symbol.version.number(), version, "{name}");
+    }
+    Ok(())
+}
+
+// Each input with the lowest level, and the version and the level that it gets (Table 7).
+#[test]
+fn highest_levels(rt: HostRuntime) -> Result<(), Fail> {
+    let digits = [b'7'; 7089];
+    let rows = [
+        ("17 digits at L", 17, Level::L, 1u8, Level::H),
+        ("18 digits at L", 18, Level::L, 1, Level::Q),
+        ("28 digits at L", 28, Level::L, 1, Level::M),
+        ("35 digits at L", 35, Level::L, 1, Level::L),
+        ("35 digits at M", 35, Level::M, 2, Level::Q),
+        ("7,089 digits at L", 7089, Level::L, 40, Level::L),
+    ];
+    let first = Version::FIRST;
+    for (name, len, lowest, version, level) in rows {
+        assert!(rt; len <= digits.len());
+        let input = &digits[..len];
+        let plain = Interpretation::Default;
+        let symbol = encode_boosted(rt.alloc(), input, lowest, first, Rule::Auto, plain)?;
+        assert_eq!(rt; symbol.version.number(), version, "{name}");
+        assert_eq!(rt; symbol.level, level, "{name}");
     }
     Ok(())
 }
@@ -47,13 +87,41 @@ fn versions(rt: HostRuntime) -> Result<(), Fail> {
 #[test]
 fn refusals(rt: HostRuntime) -> Result<(), Fail> {
     let first = Version::FIRST;
-    let fault = encode(rt.alloc(), b"", Level::L, first, Rule::Auto);
+    let fault = encode(
+        rt.alloc(),
+        b"",
+        Level::L,
+        first,
+        Rule::Auto,
+        Interpretation::Default,
+    );
     assert!(rt; matches!(fault, Err(EncodeFault::Empty)), "no byte");
-    let fault = encode(rt.alloc(), &[b'7'; 7090], Level::L, first, Rule::Auto);
+    let fault = encode(
+        rt.alloc(),
+        &[b'7'; 7090],
+        Level::L,
+        first,
+        Rule::Auto,
+        Interpretation::Default,
+    );
     assert!(rt; matches!(fault, Err(EncodeFault::TooLong)), "7,090 digits");
-    let fault = encode(rt.alloc(), &[b'a'; 2954], Level::L, first, Rule::Auto);
+    let fault = encode(
+        rt.alloc(),
+        &[b'a'; 2954],
+        Level::L,
+        first,
+        Rule::Auto,
+        Interpretation::Default,
+    );
     assert!(rt; matches!(fault, Err(EncodeFault::TooLong)), "2,954 bytes");
-    let fault = encode(rt.alloc(), &[b'7'; INPUT_MAX], Level::L, first, Rule::Auto);
+    let fault = encode(
+        rt.alloc(),
+        &[b'7'; INPUT_MAX],
+        Level::L,
+        first,
+        Rule::Auto,
+        Interpretation::Default,
+    );
     assert!(rt;
         matches!(fault, Err(EncodeFault::TooLong)),
         "the longest input"

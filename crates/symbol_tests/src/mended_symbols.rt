@@ -1,7 +1,7 @@
 //! Tests of damaged symbols and series.
 
 use crate::samples::EIGHT_DIGITS;
-use qr_bits::Rule;
+use qr_bits::{Interpretation, Rule};
 use qr_layout::{Level, Version};
 use qr_matrix::Matrix;
 use qr_mending::{mend_series, mend_symbol, mend_symbol_without};
@@ -182,6 +182,7 @@ fn damaged_parts(rt: &HostRuntime) -> Result<Vec<Matrix>, Fail> {
         Version::FIRST,
         Level::H,
         Rule::BytesOnly,
+        Interpretation::Default,
     )?;
     let mut parts = Vec::new(rt.alloc());
     for mut symbol in symbols {

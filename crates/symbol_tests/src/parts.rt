@@ -1,6 +1,6 @@
 //! Tests of `encode_series`.
 
-use qr_bits::{Header, INPUT_MAX, Rule};
+use qr_bits::{Header, INPUT_MAX, Interpretation, Rule};
 use qr_layout::{Level, Version};
 use qr_symbol::{EncodeFault, Symbol, encode_series, read_series, read_symbol};
 use std::test::Fail;
@@ -19,7 +19,14 @@ fn says(
 #[test]
 fn eight_letters_at_1_h(rt: HostRuntime) -> Result<(), Fail> {
     let version = Version::FIRST;
-    let symbols = encode_series(rt.alloc(), b"ABCDEFGH", version, Level::H, Rule::BytesOnly)?;
+    let symbols = encode_series(
+        rt.alloc(),
+        b"ABCDEFGH",
+        version,
+        Level::H,
+        Rule::BytesOnly,
+        Interpretation::Default,
+    )?;
     assert_eq!(rt; symbols.len(), 2);
     let parts = [(0, &b"ABCDE"[..]), (1, &b"FGH"[..])];
     for (symbol, (position, bytes)) in symbols.iter().zip(parts) {
@@ -41,7 +48,14 @@ fn eight_letters_at_1_h(rt: HostRuntime) -> Result<(), Fail> {
 #[test]
 fn a_plain_symbol_where_it_fits(rt: HostRuntime) -> Result<(), Fail> {
     let version = Version::FIRST;
-    let symbols = encode_series(rt.alloc(), b"ABCDEFG", version, Level::H, Rule::BytesOnly)?;
+    let symbols = encode_series(
+        rt.alloc(),
+        b"ABCDEFG",
+        version,
+        Level::H,
+        Rule::BytesOnly,
+        Interpretation::Default,
+    )?;
     assert_eq!(rt; symbols.len(), 1);
     assert!(rt; says(&rt, &symbols[0], None, b"ABCDEFG")?);
     Ok(())
@@ -79,7 +93,14 @@ fn numbers_of_symbols_at_1_h(rt: HostRuntime) -> Result<(), Fail> {
     let version = Version::FIRST;
     for (name, input, rule, count) in rows {
         assert!(rt; input.len() <= INPUT_MAX);
-        let symbols = encode_series(rt.alloc(), input, version, Level::H, rule);
+        let symbols = encode_series(
+            rt.alloc(),
+            input,
+            version,
+            Level::H,
+            rule,
+            Interpretation::Default,
+        );
         assert_eq!(rt; symbols.map(|symbols| symbols.len()), count, "{name}");
     }
     Ok(())
@@ -95,7 +116,14 @@ fn sixteen_full_parts_at_1_h(rt: HostRuntime) -> Result<(), Fail> {
     ];
     for (name, input, rule, len) in rows {
         assert!(rt; input.len() <= INPUT_MAX);
-        let symbols = encode_series(rt.alloc(), input, Version::FIRST, Level::H, rule)?;
+        let symbols = encode_series(
+            rt.alloc(),
+            input,
+            Version::FIRST,
+            Level::H,
+            rule,
+            Interpretation::Default,
+        )?;
         assert_eq!(rt; symbols.len(), 16, "{name}");
         for symbol in symbols.iter() {
             let part = read_symbol(rt.alloc(), &symbol.matrix)?;

@@ -1,7 +1,7 @@
 //! Tests of `read_symbol`.
 
 use crate::samples::{EIGHT_DIGITS, byte_symbol};
-use qr_bits::{Item, Mode, Rule, Segment};
+use qr_bits::{Interpretation, Item, Mode, Rule, Segment};
 use qr_layout::{Level, Version, walk};
 use qr_matrix::Matrix;
 use qr_symbol::{ReadFault, build_masked, encode, read_symbol};
@@ -101,7 +101,14 @@ fn each_module_inverted(rt: HostRuntime) -> Result<(), Fail> {
 #[test]
 fn remainder_bits_inverted(rt: HostRuntime) -> Result<(), Fail> {
     let version = Version::new(2).ok_or("version 2")?;
-    let mut symbol = encode(rt.alloc(), b"A", Level::L, version, Rule::Auto)?;
+    let mut symbol = encode(
+        rt.alloc(),
+        b"A",
+        Level::L,
+        version,
+        Rule::Auto,
+        Interpretation::Default,
+    )?;
     let mut inverted = 0u32;
     for module in walk(version).skip(8 * 44) {
         assert!(rt; module.row < symbol.matrix.side() && module.col < symbol.matrix.side());
@@ -145,7 +152,14 @@ fn a_letter_in_every_symbol(rt: HostRuntime) -> Result<(), Fail> {
     for number in 1..=40u8 {
         let version = Version::new(number).ok_or("no such version")?;
         for level in [Level::L, Level::M, Level::Q, Level::H] {
-            let symbol = encode(rt.alloc(), b"A", level, version, Rule::Auto)?;
+            let symbol = encode(
+                rt.alloc(),
+                b"A",
+                level,
+                version,
+                Rule::Auto,
+                Interpretation::Default,
+            )?;
             assert!(rt;
                 says(&rt, &symbol.matrix, Mode::Alphanumeric, b"A")?,
                 "version {number}, {level:?}"

@@ -6,7 +6,9 @@ use crate::texts::Text;
 use qr_bits::Parsed;
 use qr_layout::walk;
 use qr_mending::{Mended, changed_max, mend_symbol, mend_symbol_without};
-use qr_symbol::{INPUT_MAX, Level, Matrix, ReadFault, Rule, Symbol, Version, encode, read_symbol};
+use qr_symbol::{
+    INPUT_MAX, Interpretation, Level, Matrix, ReadFault, Rule, Symbol, Version, encode, read_symbol,
+};
 use std::alloc::{AllocError, Global};
 
 pub static LEVELS: [Level; 4] = [Level::L, Level::M, Level::Q, Level::H];
@@ -20,7 +22,15 @@ pub fn symbol_of(
 ) -> Result<Option<Symbol>, AllocError> {
     let bytes = text.bytes();
     let bytes = &bytes[..bytes.len().min(INPUT_MAX)];
-    Ok(encode(alloc, bytes, level, smallest, Rule::Auto).ok())
+    Ok(encode(
+        alloc,
+        bytes,
+        level,
+        smallest,
+        Rule::Auto,
+        Interpretation::Default,
+    )
+    .ok())
 }
 
 fn add_parsed(parsed: &Parsed, digest: &mut Digest) {

@@ -6,3 +6,5 @@ pub mod BytesOnlyLemmas
 pub mod DigitsOnlyLemmas
 -- With an ECI the choice of segments is that without.
 pub mod InterpretedLemmas
+-- An assignment to bytes is valid exactly if its modes are allowed, one after the other.
+pub mod AssignedLemmas

@@ -5,7 +5,8 @@ use Rattle.qr_bits.specs.declared.modes.Rule.{Rule}
 use Rattle.qr_bits.specs.declared.run_state.RunState.{RunState}
 use Rattle.qr_bits.specs.declared.run_state.RunState.TheVariants.{Start, Digit1, Digit2, Digit3, Character1, Character2, InBytes, HalfPair, WholePair}
 use Rattle.qr_bits.specs.declared.run_state.PerState.{PerState}
-use Rattle.qr_bits.specs.Steps.RunState.{state_after, allowed, ranked, IsBestRest, IsChoice}
+use Rattle.qr_bits.specs.declared.interpretation.Interpretation.{Interpretation}
+use Rattle.qr_bits.specs.Steps.RunState.{state_after, state_in, allowed_in, ranked, IsBestRest, IsChoice}
 
 -- The field of a state
 unfoldable pub in_state : PerState → RunState → ℕ
@@ -48,14 +49,20 @@ mode_at row p = ranked (row / 2 ^ shift_of p % 4)
 
 -- `numbers` are the choices of the byte `x` for each state before it, `row` has their modes, and `rest` are the choices
 -- of the later bytes
-abbrev pub IsRow : ℕ → Rule → ℕ → Bool → PerState → ℕ → PerState → Type 0
-IsRow v r x pair rest row numbers = (p : RunState) → IsChoice v r p x pair (bits_at rest) (mode_at row p) (bits_at numbers p)
+abbrev pub IsRow : Interpretation → ℕ → Rule → ℕ → Bool → PerState → ℕ → PerState → Type 0
+IsRow i v r x pair rest row numbers = (p : RunState) → IsChoice i v r p x pair (bits_at rest) (mode_at row p) (bits_at numbers p)
 
 -- The modes that are read from rows: each mode leads to the state for the next row
 unfoldable pub follow : RunState → List ℕ → List Mode
 follow p [] = []
 follow p (row ∷ rows) = mode_at row p ∷ follow (state_after p (mode_at row p)) rows
 
--- `follow` reads the best assignment to the bytes `xs` from the table, for each state after which there is one
-abbrev pub IsBestTable : ℕ → Rule → (ℕ → ℕ → Bool) → List ℕ → List ℕ → Type 0
-IsBestTable v r test xs rows = (p : RunState) (ks : List Mode) → IsTrue (allowed r test p xs ks) → (n : ℕ) × IsBestRest v r test p xs (follow p rows) n
+-- As `follow`, where the rows are those of the bytes `xs`, of which `%` may be two characters
+unfoldable pub follow_in : Interpretation → RunState → List ℕ → List ℕ → List Mode
+follow_in i p [] rows = []
+follow_in i p (x ∷ xs) [] = []
+follow_in i p (x ∷ xs) (row ∷ rows) = mode_at row p ∷ follow_in i (state_in i p x (mode_at row p)) xs rows
+
+-- `follow_in` reads the best assignment to the bytes `xs` from the table, for each state after which there is one
+abbrev pub IsBestTable : Interpretation → ℕ → Rule → (ℕ → ℕ → Bool) → List ℕ → List ℕ → Type 0
+IsBestTable i v r test xs rows = (p : RunState) (ks : List Mode) → IsTrue (allowed_in i r test p xs ks) → (n : ℕ) × IsBestRest i v r test p xs (follow_in i p xs rows) n

@@ -6,6 +6,9 @@ use Rattle.qr_bits.specs.declared.modes.Mode.TheVariants.{Numeric, Alphanumeric,
 use Rattle.qr_bits.specs.declared.modes.Rule.{Rule}
 use Rattle.qr_bits.specs.declared.run_state.RunState.{RunState}
 use Rattle.qr_bits.specs.declared.run_state.RunState.TheVariants.{Start, Digit1, Digit2, Digit3, Character1, Character2, InBytes, HalfPair, WholePair}
+use Rattle.qr_bits.specs.declared.interpretation.Interpretation.{Interpretation}
+use Rattle.qr_bits.specs.declared.interpretation.Interpretation.TheVariants as written
+use Rattle.qr_bits.specs.Interpretation.{character_for, is_doubled}
 use Rattle.qr_bits.specs.Modes.{count_width, is_digit, is_alphanumeric, may_use}
 use Rattle.qr_bits.specs.Segmentation.{rank, IsNotAfter}
 
@@ -87,21 +90,51 @@ unfoldable pub cost_of : ℕ → RunState → List Mode → ℕ
 cost_of v p [] = 0
 cost_of v p (m ∷ ms) = byte_cost v p m + cost_of v (state_after p m) ms
 
+-- GS1 data
+abbrev pub is_gs1 : Interpretation → Bool
+is_gs1 written.Gs1 = true
+is_gs1 _ = false
+
+-- The state after the characters of a byte `x` in the mode `m`
+abbrev pub state_in : Interpretation → RunState → ℕ → Mode → RunState
+state_in i p x m = if is_doubled i x m then state_after (state_after p m) m else state_after p m
+
+-- The bits that the characters of a byte add
+abbrev pub cost_in : Interpretation → ℕ → RunState → ℕ → Mode → ℕ
+cost_in i v p x m = if is_doubled i x m then byte_cost v p m + byte_cost v (state_after p m) m else byte_cost v p m
+
+-- As `may_take`, for the characters of a byte
+abbrev pub may_take_in : Interpretation → Rule → RunState → ℕ → Bool → Mode → Bool
+may_take_in i r p x pair m = may_take r p (character_for i x m) pair m
+
+-- As `allowed`, for the characters of bytes
+unfoldable pub allowed_in : Interpretation → Rule → (ℕ → ℕ → Bool) → RunState → List ℕ → List Mode → Bool
+allowed_in i r test p [] [] = may_end p
+allowed_in i r test p [] (m ∷ ms) = false
+allowed_in i r test p (x ∷ xs) [] = false
+allowed_in i r test p (x ∷ xs) (m ∷ ms) = may_take_in i r p x (begins_with_pair r test (x ∷ xs)) m && allowed_in i r test (state_in i p x m) xs ms
+
+-- As `cost_of`, for the characters of bytes
+unfoldable pub cost_of_all : Interpretation → ℕ → RunState → List ℕ → List Mode → ℕ
+cost_of_all i v p [] ms = cost_of v p ms
+cost_of_all i v p (x ∷ xs) [] = 0
+cost_of_all i v p (x ∷ xs) (m ∷ ms) = cost_in i v p x m + cost_of_all i v (state_in i p x m) xs ms
+
 -- Of the assignments to the bytes `xs` that are allowed, `ms` adds the fewest bits, `n`, and is the first of those that
 -- do
-pub record IsBestRest (v : ℕ) (r : Rule) (test : ℕ → ℕ → Bool) (p : RunState) (xs : List ℕ) (ms : List Mode) (n : ℕ) : Type 0 where
-  pub is_allowed : IsTrue (allowed r test p xs ms)
-  pub has_bits : cost_of v p ms ≡ n
-  pub least : (ks : List Mode) → IsTrue (allowed r test p xs ks) → n ≤ cost_of v p ks
-  pub first : (ks : List Mode) → IsTrue (allowed r test p xs ks) → cost_of v p ks ≡ n → IsNotAfter ms ks
+pub record IsBestRest (i : Interpretation) (v : ℕ) (r : Rule) (test : ℕ → ℕ → Bool) (p : RunState) (xs : List ℕ) (ms : List Mode) (n : ℕ) : Type 0 where
+  pub is_allowed : IsTrue (allowed_in i r test p xs ms)
+  pub has_bits : cost_of_all i v p xs ms ≡ n
+  pub least : (ks : List Mode) → IsTrue (allowed_in i r test p xs ks) → n ≤ cost_of_all i v p xs ks
+  pub first : (ks : List Mode) → IsTrue (allowed_in i r test p xs ks) → cost_of_all i v p xs ks ≡ n → IsNotAfter ms ks
 
 -- Of the modes that `x` may have, `m` leads to the fewest bits, `n`, and has the lowest rank of those that do. The
 -- later bytes add `cost q` bits if the state after `x` is `q`
-pub record IsChoice (v : ℕ) (r : Rule) (p : RunState) (x : ℕ) (pair : Bool) (cost : RunState → ℕ) (m : Mode) (n : ℕ) : Type 0 where
-  pub is_allowed : IsTrue (may_take r p x pair m)
-  pub has_bits : n ≡ byte_cost v p m + cost (state_after p m)
-  pub least : (k : Mode) → IsTrue (may_take r p x pair k) → n ≤ byte_cost v p k + cost (state_after p k)
-  pub first : (k : Mode) → IsTrue (may_take r p x pair k) → byte_cost v p k + cost (state_after p k) ≡ n → rank m ≤ rank k
+pub record IsChoice (i : Interpretation) (v : ℕ) (r : Rule) (p : RunState) (x : ℕ) (pair : Bool) (cost : RunState → ℕ) (m : Mode) (n : ℕ) : Type 0 where
+  pub is_allowed : IsTrue (may_take_in i r p x pair m)
+  pub has_bits : n ≡ cost_in i v p x m + cost (state_in i p x m)
+  pub least : (k : Mode) → IsTrue (may_take_in i r p x pair k) → n ≤ cost_in i v p x k + cost (state_in i p x k)
+  pub first : (k : Mode) → IsTrue (may_take_in i r p x pair k) → cost_in i v p x k + cost (state_in i p x k) ≡ n → rank m ≤ rank k
 
 -- A choice as a number: a choice of fewer bits, or of as many and of lower rank, has the smaller one. A choice that is
 -- not allowed has the greatest number of 32 bits, which no other reaches for inputs of at most `INPUT_MAX` bytes

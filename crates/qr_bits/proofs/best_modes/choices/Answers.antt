@@ -1,5 +1,6 @@
 use Rattle.std.proofs.{Common.◌≡◌, Common.◌+◌, Common.◌<◌, Common.◌≤◌, Common.ℕ, Common.min, Common.refl, Common.ap, Common.◌∙◌, Common.arith, Math.Nat.div-lt_iff_lt-mul, Math.Nat.min-eq_left, lemmas.Nat.pow_pos}
 use Rattle.qr_bits.specs.{declared.{modes.Mode.Mode, run_state.RunState.RunState}, Steps.BestModes.{in_state, bits_at}}
+use Rattle.qr_bits.specs.declared.interpretation.Interpretation.TheVariants.{Default}
 use Rattle.qr_bits.specs.declared.modes.Mode.TheVariants.{Numeric, Alphanumeric, Byte, Kanji}
 use Rattle.qr_bits.specs.declared.run_state.RunState.TheVariants.{Start, Digit1, Digit2, Digit3, Character1, Character2, InBytes, HalfPair, WholePair}
 use Rattle.qr_bits.specs.Steps.RunState.{state_after, byte_cost, may_begin, may_end, choice_number}
@@ -50,13 +51,13 @@ returns c = λ r x digit character.
     let m = minima (of Start Numeric) (of Start Alphanumeric) (of Start Byte) (of Start Kanji) (of Digit3 Numeric) (of Character1 Alphanumeric) (of Character2 Alphanumeric) (of InBytes Byte) (of WholePair Kanji)
     (number_less _ Numeric 4 _ _) (number_less _ Alphanumeric 6 _ _) (number_less _ Byte 8 _ _) (number_less _ Kanji 13 _ _) in
     elim [
-      | Start ↦ least_choice v r Start x t _ _ _ (c.row_for.ensures Start) refl s start
-      | Digit1 ↦ least_choice v r Digit1 x t _ _ _ (c.row_for.ensures Digit1) refl s (rw (d2, ab) at c.min.ensures)
-      | Digit2 ↦ least_choice v r Digit2 x t _ _ _ (c.row_for.ensures Digit2) refl s (rw (d3, ab) at c.min-2.ensures)
-      | Digit3 ↦ least_choice v r Digit3 x t _ _ _ (c.row_for.ensures Digit3) refl s ((rw (d1, start) at c.min-3.ensures) ∙ m.0)
-      | Character1 ↦ least_choice v r Character1 x t _ _ _ (c.row_for.ensures Character1) refl s ((rw (c2, nbk) at c.min-4.ensures) ∙ m.1)
-      | Character2 ↦ least_choice v r Character2 x t _ _ _ (c.row_for.ensures Character2) refl s ((rw (c1, start) at c.min-5.ensures) ∙ m.2)
-      | InBytes ↦ least_choice v r InBytes x t _ _ _ (c.row_for.ensures InBytes) refl s ((rw (b1, start) at c.min-6.ensures) ∙ m.3)
-      | HalfPair ↦ half_choice v r x t _ _ _ (c.row_for.ensures HalfPair) c.next_if-whole_pair.ensures
-      | WholePair ↦ least_choice v r WholePair x t _ _ _ (c.row_for.ensures WholePair) refl s ((rw (k1, start) at c.min-7.ensures) ∙ m.4)
+      | Start ↦ least_choice Default v r Start x t _ _ _ (c.row_for.ensures Start) refl s start
+      | Digit1 ↦ least_choice Default v r Digit1 x t _ _ _ (c.row_for.ensures Digit1) refl s (rw (d2, ab) at c.min.ensures)
+      | Digit2 ↦ least_choice Default v r Digit2 x t _ _ _ (c.row_for.ensures Digit2) refl s (rw (d3, ab) at c.min-2.ensures)
+      | Digit3 ↦ least_choice Default v r Digit3 x t _ _ _ (c.row_for.ensures Digit3) refl s ((rw (d1, start) at c.min-3.ensures) ∙ m.0)
+      | Character1 ↦ least_choice Default v r Character1 x t _ _ _ (c.row_for.ensures Character1) refl s ((rw (c2, nbk) at c.min-4.ensures) ∙ m.1)
+      | Character2 ↦ least_choice Default v r Character2 x t _ _ _ (c.row_for.ensures Character2) refl s ((rw (c1, start) at c.min-5.ensures) ∙ m.2)
+      | InBytes ↦ least_choice Default v r InBytes x t _ _ _ (c.row_for.ensures InBytes) refl s ((rw (b1, start) at c.min-6.ensures) ∙ m.3)
+      | HalfPair ↦ half_choice Default v r x t _ _ _ (c.row_for.ensures HalfPair) c.next_if-whole_pair.ensures
+      | WholePair ↦ least_choice Default v r WholePair x t _ _ _ (c.row_for.ensures WholePair) refl s ((rw (k1, start) at c.min-7.ensures) ∙ m.4)
     ]

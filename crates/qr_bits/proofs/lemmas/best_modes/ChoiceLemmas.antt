@@ -1,10 +1,13 @@
 -- The best mode for a byte is the one whose number is the least.
 use Rattle.std.proofs.Common.{◌≡◌, ℕ, ◌+◌, ◌*◌, ◌/◌, ◌%◌, ◌<◌, ◌≤◌, Bool, true, min, refl, sym, ◌∙◌, ⊎_elim, arith}
-use Rattle.std.proofs.lemmas.Bool.{cases_lt}
+use Rattle.std.proofs.lemmas.Bool.{cases_lt, cond_both}
+use Rattle.qr_bits.specs.declared.interpretation.Interpretation.{Interpretation}
+use Rattle.qr_bits.specs.Interpretation.{character_for, is_doubled}
+use Rattle.qr_bits.proofs.lemmas.interpretation.WrittenLemmas.{doubled-rank, single-byte}
 use Rattle.qr_bits.specs.{declared.modes.Mode.Mode, declared.modes.Rule.Rule, Segmentation.rank, Modes.may_use}
 use Rattle.qr_bits.specs.declared.modes.Mode.TheVariants.{Numeric, Alphanumeric, Byte, Kanji}
 use Rattle.qr_bits.specs.declared.run_state.RunState.{RunState, TheVariants.InBytes, TheVariants.HalfPair}
-use Rattle.qr_bits.specs.Steps.RunState.{state_after, state_on, byte_cost, may_begin, may_take, may_end, choice_number, ranked, IsChoice}
+use Rattle.qr_bits.specs.Steps.RunState.{state_after, state_in, state_on, byte_cost, cost_in, may_take_in, may_begin, may_take, may_end, choice_number, ranked, IsChoice}
 
 -- the least of the numbers of the four modes
 abbrev pub least_of : (Mode → Bool) → (Mode → ℕ) → ℕ
@@ -38,6 +41,10 @@ pub byte_cost_bound : (v : ℕ) (p : RunState) (m : Mode) → byte_cost v p m �
 unfolding byte_cost
 byte_cost_bound v p m = grind arith
 
+two_bound : (v : ℕ) (p : RunState) (m : Mode) → rank m ≡ 1 → byte_cost v p m + byte_cost v (state_after p m) m ≤ 33
+unfolding byte_cost state_after
+two_bound v p m h = grind arith
+
 -- each rule allows byte mode
 pub byte_used : (r : Rule) → may_use r Byte ≡ true
 byte_used r = grind arith
@@ -50,26 +57,41 @@ pub take_begin : (r : Rule) (p : RunState) (x : ℕ) (pair : Bool) (m : Mode) �
 unfolding may_end may_take
 take_begin r p x pair m e = grind arith
 
--- after half a pair, kanji mode is the choice
-pub half_choice : (v : ℕ) (r : Rule) (x : ℕ) (pair : Bool) (cost : RunState → ℕ) (c : ℕ) (m : Mode) → m ≡ ranked (c % 4)
-    → c ≡ choice_number true (byte_cost v HalfPair Kanji + cost (state_after HalfPair Kanji)) Kanji → IsChoice v r HalfPair x pair cost m (c / 4)
-unfolding may_take byte_cost state_after
-half_choice v r x pair cost c m chosen is = rw chosen (search (arith, ranked-number))
+-- a byte in kanji mode is one character
+pub kanji-in : (i : Interpretation) (v : ℕ) (p : RunState) (x : ℕ) → (cost_in i v p x Kanji ≡ byte_cost v p Kanji) × (state_in i p x Kanji ≡ state_after p Kanji)
+kanji-in i v p x = rw (single-byte i x).1 (refl, refl)
 
-state_after-byte : (p : RunState) → state_after p Byte ≡ InBytes
+-- a byte in byte mode is one character
+pub byte-in : (i : Interpretation) (p : RunState) (x : ℕ) → state_in i p x Byte ≡ InBytes
 unfolding state_after
-state_after-byte _ = refl
+byte-in i p x = rw (single-byte i x).0 refl
+
+-- the characters of a byte add at most 33 bits
+pub cost_in_bound : (i : Interpretation) (v : ℕ) (p : RunState) (x : ℕ) (m : Mode) → cost_in i v p x m ≤ 33
+unfolding byte_cost state_after
+cost_in_bound i v p x m = cond_both (is_doubled i x m) _ _ (λ (n : ℕ). n ≤ 33)
+    (λ e. let one = doubled-rank i x m e in two_bound v p m one)
+    (λ _. byte_cost_bound v p m)
+
+-- after half a pair, kanji mode is the choice
+pub half_choice : (i : Interpretation) (v : ℕ) (r : Rule) (x : ℕ) (pair : Bool) (cost : RunState → ℕ) (c : ℕ) (m : Mode) → m ≡ ranked (c % 4)
+    → c ≡ choice_number true (byte_cost v HalfPair Kanji + cost (state_after HalfPair Kanji)) Kanji → IsChoice i v r HalfPair x pair cost m (c / 4)
+unfolding may_take byte_cost state_after
+half_choice i v r x pair cost c m chosen is = rw chosen (search (arith, ranked-number, kanji-in))
 
 -- the least number is that of the mode of lowest rank among those that lead to the fewest bits
-pub least_choice : (v : ℕ) (r : Rule) (p : RunState) (x : ℕ) (q : Bool) (cost : RunState → ℕ) (c : ℕ) (n : Mode) → n ≡ ranked (c % 4) → may_end p ≡ true → cost InBytes < 10000000
-    → c ≡ least_of (may_begin r x q) (λ k. byte_cost v p k + cost (state_after p k)) → IsChoice v r p x q cost n (c / 4)
+pub least_choice : (i : Interpretation) (v : ℕ) (r : Rule) (p : RunState) (x : ℕ) (q : Bool) (cost : RunState → ℕ) (c : ℕ) (n : Mode) → n ≡ ranked (c % 4) → may_end p ≡ true → cost InBytes < 10000000
+    → c ≡ least_of (λ k. may_begin r (character_for i x k) q k) (λ k. cost_in i v p x k + cost (state_in i p x k)) → IsChoice i v r p x q cost n (c / 4)
 unfolding may_begin
-least_choice v r p x q cost c n chosen e small is =
-    let t : Mode → ℕ = λ k. byte_cost v p k + cost (state_after p k) in
-    let take : (k : Mode) → may_take r p x q k ≡ may_begin r x q k = λ k. take_begin r p x q k e in
-    let under : (k : Mode) → may_take r p x q k ≡ true → c ≤ 4 * t k + rank k = λ k ok. rw is (least_under (may_begin r x q) t k (sym (take k) ∙ ok)) in
-    let few : c < 4294967295 = search (arith, byte_used, byte_cost_bound, state_after-byte) in
-    let taken : IsTaken (may_begin r x q) t c = rw is (taken_least (may_begin r x q) t (rw is at few)) in
+least_choice i v r p x q cost c n chosen e small is =
+    let may : Mode → Bool = λ k. may_begin r (character_for i x k) q k in
+    let t : Mode → ℕ = λ k. cost_in i v p x k + cost (state_in i p x k) in
+    let take : (k : Mode) → may_take_in i r p x q k ≡ may k = λ k. take_begin r p (character_for i x k) q k e in
+    let under : (k : Mode) → may_take_in i r p x q k ≡ true → c ≤ 4 * t k + rank k = λ k ok. rw is (least_under may t k (sym (take k) ∙ ok)) in
+    let most : c ≤ 4 * t Byte + rank Byte = under Byte (take Byte ∙ byte_used r) in
+    let later : cost (state_in i p x Byte) < 10000000 = rw (byte-in i p x) small in
+    let few : c < 4294967295 = omega (arith, most, cost_in_bound i v p x Byte, later) in
+    let taken : IsTaken may t c = rw is (taken_least may t (rw is at few)) in
     let m = taken.0 in
     let bits : c / 4 ≡ t m = omega (arith, taken.2, rank_below m) in
     rw (chosen, ranked-number c (t m) m taken.2) (search (arith, rank_below))

@@ -1,49 +1,79 @@
 -- A table of best modes, filled from the last byte to the first.
-use Rattle.std.proofs.Common.{◌≡◌, ℕ, ◌+◌, ◌*◌, ◌/◌, ◌%◌, ◌^◌, ◌≤◌, Bool, true, List, [], ◌∷◌, ◌++◌, length, replicate, reverse, append_assoc, IsTrue, refl, arith, lit<}
-use Rattle.std.proofs.lemmas.{Bool.false≢true, Bool.and_from, List.reverse-append}
+use Rattle.std.proofs.Common.{◌≡◌, ℕ, ◌+◌, ◌*◌, ◌/◌, ◌%◌, ◌^◌, ◌≤◌, Bool, true, List, [], ◌∷◌, ◌++◌, length, replicate, reverse, append_assoc, IsTrue, refl, sym, ap, ◌∙◌, ◌<◌, false, arith, lit<}
+use Rattle.std.proofs.lemmas.{Bool.false≢true, Bool.and_from, Bool.cond_both, List.reverse-append}
 use Rattle.qr_bits.specs.declared.{modes.Mode.Mode, modes.Rule.Rule, run_state.RunState.RunState}
 use Rattle.qr_bits.specs.declared.modes.Mode.TheVariants.{Byte, Kanji}
-use Rattle.qr_bits.specs.declared.interpretation.Interpretation.TheVariants.{Default}
+use Rattle.qr_bits.specs.declared.interpretation.Interpretation.{Interpretation, TheVariants.{Default, Gs1}}
+use Rattle.qr_bits.specs.Interpretation.{is_doubled}
+use Rattle.qr_bits.specs.Segmentation.{rank}
 use Rattle.qr_bits.specs.declared.run_state.RunState.TheVariants.{Start, Digit1, Digit2, Digit3, Character1, Character2, InBytes, HalfPair, WholePair}
-use Rattle.qr_bits.specs.{declared.run_state.PerState.PerState, Segmentation.IsBestAssignment, Modes.is_kanji_pair}
-use Rattle.qr_bits.specs.Steps.RunState.{state_after, begins_with_pair, may_begin, may_take, may_end, allowed, cost_of, ranked}
-use Rattle.qr_bits.specs.Steps.BestModes.{in_state, bits_at, shift_of, mode_at, follow, IsBestTable, IsRow, IsSmall}
-use Rattle.qr_bits.proofs.lemmas.segment.CoverLemmas.{covers_by, by_covers}
-use Rattle.qr_bits.proofs.lemmas.run_state.{BestLemmas.BestBelow, BestLemmas.best_step, CostLemmas.bits-runs_of}
-use Rattle.qr_bits.proofs.lemmas.best_modes.ChoiceLemmas.{byte_used, byte_cost_bound, take_begin}
-use Rattle.qr_bits.proofs.lemmas.run_state.AssignmentLemmas.{can_take, is_assignment, may_end-after}
+use Rattle.qr_bits.specs.declared.run_state.PerState.{PerState}
+use Rattle.qr_bits.specs.Steps.RunState.{is_gs1, state_after, state_in, byte_cost, cost_in, may_take_in, begins_with_pair, may_begin, may_take, may_end, allowed_in, cost_of, cost_of_all, ranked}
+use Rattle.qr_bits.specs.Steps.BestModes.{in_state, bits_at, shift_of, mode_at, follow, follow_in, IsRow, IsSmall}
+use Rattle.qr_bits.proofs.lemmas.run_state.{BestLemmas.BestBelow, BestLemmas.best_step}
+use Rattle.qr_bits.proofs.lemmas.interpretation.WrittenLemmas.{single-byte}
+use Rattle.qr_bits.proofs.lemmas.best_modes.ChoiceLemmas.{byte_used, byte-in, cost_in_bound, take_begin}
+use Rattle.qr_bits.proofs.lemmas.run_state.AssignmentLemmas.{may_end-after}
+
+-- data of GS1 have an interpretation, and other data too
+pub some_interpretation : (g : Bool) → (i : Interpretation) × (g ≡ is_gs1 i)
+some_interpretation true = (Gs1, refl)
+some_interpretation false = (Default, refl)
 
 -- byte mode for each byte is an allowed rest if no half pair is open
-pub bytes_rest : (r : Rule) (test : ℕ → ℕ → Bool) (p : RunState) (xs : List ℕ) → may_end p ≡ true → allowed r test p xs (replicate (length xs) Byte) ≡ true
-unfolding allowed may_begin may_end state_after
-bytes_rest r test p [] e = e
-bytes_rest r test p (x ∷ xs) e = search (arith, and_from, take_begin, byte_used, bytes_rest r test InBytes xs refl)
+pub bytes_rest : (i : Interpretation) (r : Rule) (test : ℕ → ℕ → Bool) (p : RunState) (xs : List ℕ) → may_end p ≡ true → allowed_in i r test p xs (replicate (length xs) Byte) ≡ true
+unfolding allowed_in may_begin may_end
+bytes_rest i r test p [] e = e
+bytes_rest i r test p (x ∷ xs) e = rw (byte-in i p x) (search (arith, and_from, take_begin, byte_used, bytes_rest i r test InBytes xs refl))
 
-rest_after : (r : Rule) (t : ℕ → ℕ → Bool) (p : RunState) (x : ℕ) (xs : List ℕ) (m : Mode) → may_take r p x (begins_with_pair r t (x ∷ xs)) m ≡ true → (ks : List Mode) × IsTrue (allowed r t (state_after p m) xs ks)
-unfolding may_take may_begin begins_with_pair allowed state_after may_end
-rest_after r t HalfPair x xs Kanji h = (replicate (length xs) Byte, bytes_rest r t WholePair xs refl)
-rest_after r t _ x [] Kanji h = absurd (false≢true h)
-rest_after r t _ x (y ∷ xs) Kanji h = (Kanji ∷ replicate (length xs) Byte, bytes_rest r t WholePair xs refl)
-rest_after r t p x xs m h = (replicate (length xs) Byte, bytes_rest r t (state_after p m) xs (may_end-after p m (lit< tt)))
+-- no half pair is open after a byte that is not in kanji mode
+pub in_end : (i : Interpretation) (p : RunState) (x : ℕ) (m : Mode) → rank m < 3 → may_end (state_in i p x m) ≡ true
+in_end i p x m k =
+    cond_both (is_doubled i x m) _ _ (λ (q : RunState). may_end q ≡ true) (λ _. may_end-after (state_after p m) m k) (λ _. may_end-after p m k)
+
+rest_after : (i : Interpretation) (r : Rule) (t : ℕ → ℕ → Bool) (p : RunState) (x : ℕ) (xs : List ℕ) (m : Mode) → may_take_in i r p x (begins_with_pair r t (x ∷ xs)) m ≡ true
+    → (ks : List Mode) × IsTrue (allowed_in i r t (state_in i p x m) xs ks)
+unfolding may_take may_begin begins_with_pair allowed_in state_after may_end
+rest_after i r t HalfPair x xs Kanji h = (replicate (length xs) Byte, rw (single-byte i x).1 (bytes_rest i r t WholePair xs refl))
+rest_after i r t _ x [] Kanji h = absurd (false≢true h)
+rest_after i r t _ x (y ∷ xs) Kanji h =
+    (Kanji ∷ replicate (length xs) Byte, rw ((single-byte i x).1, (single-byte i y).1) (bytes_rest i r t WholePair xs refl))
+rest_after i r t p x xs m h = (replicate (length xs) Byte, bytes_rest i r t (state_in i p x m) xs (in_end i p x m (lit< tt)))
 
 -- the table without a row
-pub best_none : (v : ℕ) (r : Rule) (test : ℕ → ℕ → Bool) (cost : RunState → ℕ) → ((p : RunState) → cost p ≡ 0) → BestBelow v r test [] (λ p. follow p []) cost
-unfolding follow allowed cost_of
-best_none v r test cost zeros p ks h = grind (arith, zeros p)
+pub best_none : (i : Interpretation) (v : ℕ) (r : Rule) (test : ℕ → ℕ → Bool) (cost : RunState → ℕ) → ((p : RunState) → cost p ≡ 0) → BestBelow i v r test [] (λ p. follow_in i p [] []) cost
+unfolding follow_in allowed_in cost_of_all cost_of
+best_none i v r test cost zeros p ks h = grind (arith, zeros p)
 
 -- the table with one more row
-pub best_more : (v : ℕ) (r : Rule) (test : ℕ → ℕ → Bool) (x : ℕ) (xs rows : List ℕ) (row : ℕ) (rest numbers : PerState)
-    → BestBelow v r test xs (λ p. follow p rows) (bits_at rest)
-    → IsRow v r x (begins_with_pair r test (x ∷ xs)) rest row numbers
-    → BestBelow v r test (x ∷ xs) (λ p. follow p (row ∷ rows)) (bits_at numbers)
-unfolding follow
-best_more v r test x xs rows row rest numbers below choice p ks h =
-    best_step v r test p x xs _ (bits_at rest) _ _ below (choice p) (rest_after r test p x xs (mode_at row p) (choice p).is_allowed)
+pub best_more : (i : Interpretation) (v : ℕ) (r : Rule) (test : ℕ → ℕ → Bool) (x : ℕ) (xs rows : List ℕ) (row : ℕ) (rest numbers : PerState)
+    → BestBelow i v r test xs (λ p. follow_in i p xs rows) (bits_at rest)
+    → IsRow i v r x (begins_with_pair r test (x ∷ xs)) rest row numbers
+    → BestBelow i v r test (x ∷ xs) (λ p. follow_in i p (x ∷ xs) (row ∷ rows)) (bits_at numbers)
+unfolding follow_in
+best_more i v r test x xs rows row rest numbers below choice p ks h =
+    best_step i v r test p x xs _ (bits_at rest) _ _ below (choice p) (rest_after i r test p x xs (mode_at row p) (choice p).is_allowed)
 
 -- a byte adds at most 33 bits to the bits of a rest
-pub small_more : (v : ℕ) (r : Rule) (x : ℕ) (pair : Bool) (row : ℕ) (rest numbers : PerState) (n : ℕ)
-    → ((p : RunState) → bits_at rest p ≤ 33 * n) → IsRow v r x pair rest row numbers → (p : RunState) → bits_at numbers p ≤ 33 * (n + 1)
-small_more v r x pair row rest numbers n small choice p = search (arith, byte_cost_bound)
+pub small_more : (i : Interpretation) (v : ℕ) (r : Rule) (x : ℕ) (pair : Bool) (row : ℕ) (rest numbers : PerState) (n : ℕ)
+    → ((p : RunState) → bits_at rest p ≤ 33 * n) → IsRow i v r x pair rest row numbers → (p : RunState) → bits_at numbers p ≤ 33 * (n + 1)
+small_more i v r x pair row rest numbers n small choice p =
+    let c = choice p in
+    omega (arith, c.has_bits, cost_in_bound i v p x (mode_at row p), small (state_in i p x (mode_at row p)))
+
+-- the choices of a byte that is one character are those of that character
+pub row_single : (i : Interpretation) (v : ℕ) (r : Rule) (x c : ℕ) (pair : Bool) (rest : PerState) (row : ℕ) (numbers : PerState) → ((m : Mode) → is_doubled i x m ≡ false)
+    → ((p : RunState) (m : Mode) → may_take_in i r p x pair m ≡ may_take r p c pair m) → IsRow Default v r c pair rest row numbers → IsRow i v r x pair rest row numbers
+row_single i v r x c pair rest row numbers one same choice p =
+    let h = choice p in
+    let cost : (m : Mode) → cost_in i v p x m ≡ byte_cost v p m = λ m. rw (one m) refl in
+    let after : (m : Mode) → state_in i p x m ≡ state_after p m = λ m. rw (one m) refl in
+    record {
+      is_allowed = same p (mode_at row p) ∙ h.is_allowed;
+      has_bits = rw (cost (mode_at row p), after (mode_at row p)) h.has_bits;
+      least = λ k a. rw (cost k, after k) (h.least k (sym (same p k) ∙ a));
+      first = λ k a e. h.first k (sym (same p k) ∙ a) (rw (cost k, after k) at e);
+    }
 
 -- numbers of at most 33 bits for each byte are small
 pub small_row : (rest : PerState) (n : ℕ) → n ≤ 113425 → ((p : RunState) → bits_at rest p ≤ 33 * n) → IsSmall rest
@@ -67,15 +97,22 @@ pub packed_mode : (n : PerState) (p : RunState) → mode_at (packed n) p ≡ ran
 unfolding mode_at in_state
 packed_mode n p = let e : packed n / 2 ^ shift_of p % 4 ≡ in_state n p % 4 = grind arith in cc
 
--- the modes to which a table leads are the best assignment
-pub assignment_from_table : (v : ℕ) (r : Rule) (xs : List ℕ) (rows : List ℕ) → IsBestTable v r is_kanji_pair xs rows → IsBestAssignment Default v r xs (follow Start rows)
-unfolding may_end
-assignment_from_table v r xs rows table =
-    let some = table Start (replicate (length xs) Byte) (bytes_rest r is_kanji_pair Start xs refl) in
-    grind (arith, is_assignment, by_covers, bits-runs_of, can_take, covers_by)
+-- without FNC1 the rows are followed as they stand
+pub follow-default : (p : RunState) (xs rows : List ℕ) → length rows ≡ length xs → follow_in Default p xs rows ≡ follow p rows
+unfolding follow_in follow
+follow-default p [] [] h = refl
+follow-default p [] (row ∷ rows) h = absurd (omega arith)
+follow-default p (x ∷ xs) [] h = absurd (omega arith)
+follow-default p (x ∷ xs) (row ∷ rows) h = ap (λ (r : List Mode). mode_at row p ∷ r) (follow-default (state_after p (mode_at row p)) xs rows (omega arith))
 
 -- the modes found so far, the mode of one more row, and then the modes of the other rows
 pub led_on : (p : RunState) (items rows : List ℕ) (row : ℕ) (ms all : List Mode) (m : Mode) → items ≡ rows ++ row ∷ [] → m ≡ mode_at row p
     → ms ++ follow p (reverse items) ≡ all → (ms ++ m ∷ []) ++ follow (state_after p m) (reverse rows) ≡ all
 unfolding follow
 led_on p items rows row ms all m last is so_far = search (arith, reverse-append, append_assoc)
+
+-- as `led_on`, where the rows are those of bytes
+pub led_on_in : (i : Interpretation) (p : RunState) (x : ℕ) (xs items rows : List ℕ) (row : ℕ) (ms all : List Mode) (m : Mode) → items ≡ rows ++ row ∷ [] → m ≡ mode_at row p
+    → ms ++ follow_in i p (x ∷ xs) (reverse items) ≡ all → (ms ++ m ∷ []) ++ follow_in i (state_in i p x m) xs (reverse rows) ≡ all
+unfolding follow_in
+led_on_in i p x xs items rows row ms all m last is so_far = search (arith, reverse-append, append_assoc)

@@ -1,10 +1,108 @@
 -- The characters that are written for bytes, and their modes.
-use Rattle.std.proofs.Common.{◌≡◌, ℕ, zero, suc, ◌+◌, ◌*◌, ◌≤◌, List, [], ◌∷◌, length, take, drop, replicate, sum_by, refl, ap, arith}
-use Rattle.std.proofs.lemmas.{Bool.cond_both, List.Sums.sum_by-cons}
-use Rattle.qr_bits.specs.declared.modes.Mode.{Mode, TheVariants.{Numeric, Byte}}
+use Rattle.std.proofs.Common.{◌≡◌, ℕ, zero, suc, ◌+◌, ◌*◌, ◌≤◌, List, [], ◌∷◌, length, take, drop, replicate, sum_by, true, false, cond, reverse, ◌++◌, ⊎_elim, refl, sym, ap, arith}
+use Rattle.std.proofs.lemmas.{Bool.cond_both, Bool.and_parts, Bool.and_from, Bool.cases_Bool, List.{length-reverse, reverse-append}, List.Sums.sum_by-cons}
+use Rattle.qr_bits.specs.declared.modes.Mode.{Mode, TheVariants.{Numeric, Alphanumeric, Byte, Kanji}}
 use Rattle.qr_bits.specs.declared.interpretation.Interpretation.{Interpretation, TheVariants.{Default, Gs1, Eci}}
-use Rattle.qr_bits.specs.Interpretation.{is_doubled, character_for, doubled_gs1, characters_gs1, doubled, characters_in, MayWrite}
-use Rattle.qr_bits.specs.Segmentation.{least_sixths}
+use Rattle.qr_bits.specs.Interpretation.{is_doubled, character_for, doubled_gs1, characters_gs1, doubled, characters_in, are_fields, MayWrite}
+use Rattle.qr_bits.specs.declared.{modes.Rule.Rule, segment.Segment.Segment}
+use Rattle.qr_bits.specs.Segmentation.{rank, least_sixths, IsLeastSegmentation}
+
+-- the modes of the characters of one byte more
+pub doubled-step : (i : Interpretation) (x : ℕ) (xs : List ℕ) (m : Mode) (ms : List Mode)
+    → doubled i (x ∷ xs) (m ∷ ms) ≡ cond (is_doubled i x m) (m ∷ m ∷ doubled i xs ms) (m ∷ doubled i xs ms)
+unfolding doubled_gs1
+doubled-step Default x xs m ms = refl
+doubled-step (Eci n) x xs m ms = refl
+doubled-step Gs1 x xs m ms = refl
+
+pub characters-step : (i : Interpretation) (x : ℕ) (xs : List ℕ) (m : Mode) (ms : List Mode)
+    → characters_in i (x ∷ xs) (m ∷ ms) ≡ cond (is_doubled i x m) (character_for i x m ∷ character_for i x m ∷ characters_in i xs ms) (character_for i x m ∷ characters_in i xs ms)
+unfolding characters_gs1
+characters-step Default x xs m ms = refl
+characters-step (Eci n) x xs m ms = refl
+characters-step Gs1 x xs m ms = refl
+
+-- without a byte there is no character, and without a mode each byte is itself
+pub written-none : (i : Interpretation) (ms : List Mode) → (doubled i [] ms ≡ ms) × (characters_in i [] ms ≡ [])
+unfolding characters_gs1 doubled_gs1
+written-none Default ms = (refl, refl)
+written-none (Eci n) ms = (refl, refl)
+written-none Gs1 ms = (refl, refl)
+
+pub unwritten : (i : Interpretation) (x : ℕ) (xs : List ℕ) → (doubled i (x ∷ xs) [] ≡ []) × (characters_in i (x ∷ xs) [] ≡ x ∷ xs)
+unfolding characters_gs1 doubled_gs1
+unwritten Default x xs = (refl, refl)
+unwritten (Eci n) x xs = (refl, refl)
+unwritten Gs1 x xs = (refl, refl)
+
+-- only in alphanumeric mode a byte is doubled or another character
+pub single : (i : Interpretation) (x : ℕ) (m : Mode) → is_doubled i x Alphanumeric ≡ false → is_doubled i x m ≡ false
+single i x m h = grind arith
+
+pub single-byte : (i : Interpretation) (x : ℕ) → (is_doubled i x Byte ≡ false) × (is_doubled i x Kanji ≡ false)
+single-byte Default x = (refl, refl)
+single-byte (Eci n) x = (refl, refl)
+single-byte Gs1 x = (refl, refl)
+
+pub doubled-rank : (i : Interpretation) (x : ℕ) (m : Mode) → is_doubled i x m ≡ true → rank m ≡ 1
+doubled-rank i x m h = grind arith
+
+pub same_character : (i : Interpretation) (x : ℕ) → (character_for i x Byte ≡ x) × (character_for i x Kanji ≡ x)
+same_character Default x = (refl, refl)
+same_character (Eci n) x = (refl, refl)
+same_character Gs1 x = (refl, refl)
+
+-- the characters of bytes are those of the first and those of the others, and so are the modes
+pub doubled-append : (i : Interpretation) (xs ys : List ℕ) (ms ks : List Mode) → length xs ≡ length ms → doubled i (xs ++ ys) (ms ++ ks) ≡ doubled i xs ms ++ doubled i ys ks
+doubled-append i [] ys [] ks h = rw (written-none i []).0 refl
+doubled-append i [] ys (m ∷ ms) ks h = absurd (omega arith)
+doubled-append i (x ∷ xs) ys [] ks h = absurd (omega arith)
+doubled-append i (x ∷ xs) ys (m ∷ ms) ks h = ⊎_elim
+    (λ (e : is_doubled i x m ≡ true). rw (doubled-step i x (xs ++ ys) m (ms ++ ks), doubled-step i x xs m ms, e, doubled-append i xs ys ms ks (omega arith)) refl)
+    (λ (e : is_doubled i x m ≡ false). rw (doubled-step i x (xs ++ ys) m (ms ++ ks), doubled-step i x xs m ms, e, doubled-append i xs ys ms ks (omega arith)) refl)
+    (cases_Bool (is_doubled i x m))
+
+pub characters-append : (i : Interpretation) (xs ys : List ℕ) (ms ks : List Mode) → length xs ≡ length ms → characters_in i (xs ++ ys) (ms ++ ks) ≡ characters_in i xs ms ++ characters_in i ys ks
+characters-append i [] ys [] ks h = rw (written-none i []).1 refl
+characters-append i [] ys (m ∷ ms) ks h = absurd (omega arith)
+characters-append i (x ∷ xs) ys [] ks h = absurd (omega arith)
+characters-append i (x ∷ xs) ys (m ∷ ms) ks h = ⊎_elim
+    (λ (e : is_doubled i x m ≡ true). rw (characters-step i x (xs ++ ys) m (ms ++ ks), characters-step i x xs m ms, e, characters-append i xs ys ms ks (omega arith)) refl)
+    (λ (e : is_doubled i x m ≡ false). rw (characters-step i x (xs ++ ys) m (ms ++ ks), characters-step i x xs m ms, e, characters-append i xs ys ms ks (omega arith)) refl)
+    (cases_Bool (is_doubled i x m))
+
+-- one character, or two
+pub doubled-one : (i : Interpretation) (x : ℕ) (m : Mode) → doubled i (x ∷ []) (m ∷ []) ≡ cond (is_doubled i x m) (m ∷ m ∷ []) (m ∷ [])
+doubled-one i x m = rw (doubled-step i x [] m [], (written-none i []).0) refl
+
+pub characters-one : (i : Interpretation) (x : ℕ) (m : Mode) → characters_in i (x ∷ []) (m ∷ []) ≡ cond (is_doubled i x m) (character_for i x m ∷ character_for i x m ∷ []) (character_for i x m ∷ [])
+characters-one i x m = rw (characters-step i x [] m [], (written-none i []).1) refl
+
+-- bytes in reverse order are written as their characters in reverse order
+pub doubled-reverse : (i : Interpretation) (xs : List ℕ) (ms : List Mode) → length xs ≡ length ms → doubled i (reverse xs) (reverse ms) ≡ reverse (doubled i xs ms)
+doubled-reverse i [] [] h = rw (written-none i []).0 refl
+doubled-reverse i [] (m ∷ ms) h = absurd (omega arith)
+doubled-reverse i (x ∷ xs) [] h = absurd (omega arith)
+doubled-reverse i (x ∷ xs) (m ∷ ms) h =
+    let rest = doubled-reverse i xs ms (omega arith) in
+    let len : length (reverse xs) ≡ length (reverse ms) = rw (length-reverse xs, length-reverse ms) (omega arith) in
+    ⊎_elim
+    (λ (e : is_doubled i x m ≡ true). rw (reverse-append (x ∷ []) xs, reverse-append (m ∷ []) ms, doubled-append i (reverse xs) (x ∷ []) (reverse ms) (m ∷ []) len, doubled-one i x m, doubled-step i x xs m ms, e, rest) (sym (reverse-append (m ∷ m ∷ []) (doubled i xs ms))))
+    (λ (e : is_doubled i x m ≡ false). rw (reverse-append (x ∷ []) xs, reverse-append (m ∷ []) ms, doubled-append i (reverse xs) (x ∷ []) (reverse ms) (m ∷ []) len, doubled-one i x m, doubled-step i x xs m ms, e, rest) (sym (reverse-append (m ∷ []) (doubled i xs ms))))
+    (cases_Bool (is_doubled i x m))
+
+pub characters-reverse : (i : Interpretation) (xs : List ℕ) (ms : List Mode) → length xs ≡ length ms → characters_in i (reverse xs) (reverse ms) ≡ reverse (characters_in i xs ms)
+characters-reverse i [] [] h = rw (written-none i []).1 refl
+characters-reverse i [] (m ∷ ms) h = absurd (omega arith)
+characters-reverse i (x ∷ xs) [] h = absurd (omega arith)
+characters-reverse i (x ∷ xs) (m ∷ ms) h =
+    let rest = characters-reverse i xs ms (omega arith) in
+    let c = character_for i x m in
+    let len : length (reverse xs) ≡ length (reverse ms) = rw (length-reverse xs, length-reverse ms) (omega arith) in
+    ⊎_elim
+    (λ (e : is_doubled i x m ≡ true). rw (reverse-append (x ∷ []) xs, reverse-append (m ∷ []) ms, characters-append i (reverse xs) (x ∷ []) (reverse ms) (m ∷ []) len, characters-one i x m, characters-step i x xs m ms, e, rest) (sym (reverse-append (c ∷ c ∷ []) (characters_in i xs ms))))
+    (λ (e : is_doubled i x m ≡ false). rw (reverse-append (x ∷ []) xs, reverse-append (m ∷ []) ms, characters-append i (reverse xs) (x ∷ []) (reverse ms) (m ∷ []) len, characters-one i x m, characters-step i x xs m ms, e, rest) (sym (reverse-append (c ∷ []) (characters_in i xs ms))))
+    (cases_Bool (is_doubled i x m))
 
 gs1-length : (xs : List ℕ) (ms : List Mode) → length (characters_gs1 xs ms) + length ms ≡ length (doubled_gs1 xs ms) + length xs
 unfolding characters_gs1 doubled_gs1
@@ -36,11 +134,15 @@ gs1-most [] ms = omega arith
 gs1-most (x ∷ xs) [] = omega arith
 gs1-most (x ∷ xs) (m ∷ ms) = search (arith, cond_both, gs1-most xs ms)
 
--- a byte is at most two characters
+-- each byte is at most two characters
 pub characters-most : (i : Interpretation) (xs : List ℕ) (ms : List Mode) → length (characters_in i xs ms) ≤ 2 * length xs
 characters-most Default xs ms = omega arith
 characters-most (Eci n) xs ms = omega arith
 characters-most Gs1 xs ms = gs1-most xs ms
+
+-- the least segmentation has at most twice as many characters as the input has bytes
+pub least-most : (i : Interpretation) (v : ℕ) (r : Rule) (xs ys : List ℕ) (segs : List Segment) → IsLeastSegmentation i v r xs ys segs → length ys ≤ 2 * length xs
+least-most i v r xs ys segs h = rw h.3 (characters-most i xs h.0)
 
 character-sixths : (x : ℕ) (m : Mode) → least_sixths x ≤ least_sixths (character_for Gs1 x m)
 character-sixths x m = grind arith
@@ -105,13 +207,41 @@ doubled-digits Default xs n = refl
 doubled-digits (Eci k) xs n = refl
 doubled-digits Gs1 xs n = gs1-doubled-digits xs n
 
+fields-tail : (x : ℕ) (xs : List ℕ) → are_fields (x ∷ xs) ≡ true → are_fields xs ≡ true
+unfolding are_fields
+fields-tail x [] h = refl
+fields-tail x (y ∷ ys) h = (and_parts _ (are_fields (y ∷ ys)) h).1
+
+pub fields-drop : (n : ℕ) (xs : List ℕ) → are_fields xs ≡ true → are_fields (drop n xs) ≡ true
+unfolding are_fields
+fields-drop zero xs h = h
+fields-drop (suc n) [] h = refl
+fields-drop (suc n) (x ∷ xs) h = fields-drop n xs (fields-tail x xs h)
+
+pub fields-take : (n : ℕ) (xs : List ℕ) → are_fields xs ≡ true → are_fields (take n xs) ≡ true
+unfolding are_fields
+fields-take zero xs h = refl
+fields-take (suc n) [] h = refl
+fields-take (suc zero) (x ∷ xs) h = refl
+fields-take (suc (suc n)) (x ∷ []) h = refl
+fields-take (suc (suc n)) (x ∷ y ∷ ys) h =
+    let both = and_parts _ (are_fields (y ∷ ys)) h in
+    and_from _ _ both.0 (fields-take (suc n) (y ∷ ys) both.1)
+
 -- A prefix of what may be written may be written, and so may the rest.
 pub may_write-take : (i : Interpretation) (n : ℕ) (xs : List ℕ) → MayWrite i xs → MayWrite i (take n xs)
 may_write-take Default n xs h = h
 may_write-take (Eci k) n xs h = h
-may_write-take Gs1 n xs h = absurd h
+may_write-take Gs1 n xs h = fields-take n xs h
+
+-- No byte may always be written.
+pub may_write-none : (i : Interpretation) → MayWrite i []
+unfolding are_fields
+may_write-none Default = tt
+may_write-none (Eci k) = tt
+may_write-none Gs1 = refl
 
 pub may_write-drop : (i : Interpretation) (n : ℕ) (xs : List ℕ) → MayWrite i xs → MayWrite i (drop n xs)
 may_write-drop Default n xs h = h
 may_write-drop (Eci k) n xs h = h
-may_write-drop Gs1 n xs h = absurd h
+may_write-drop Gs1 n xs h = fields-drop n xs h

@@ -1,16 +1,18 @@
 -- Without kanji mode, a piece of an input needs no more bits than the input.
-use Rattle.std.proofs.Common.{◌≡◌, ℕ, ◌+◌, ◌<◌, ◌≤◌, true, false, List, [], ◌∷◌, ◌++◌, refl, arith}
-use Rattle.std.{proofs.lemmas.Bool.{and_parts, and_from, false≢true}, specs.List.list_all}
+use Rattle.std.proofs.Common.{◌≡◌, ℕ, ◌+◌, ◌<◌, ◌≤◌, true, false, List, [], ◌∷◌, ◌++◌, refl, sym, ◌∙◌, arith}
+use Rattle.std.{proofs.lemmas.Bool.{and_parts, and_from, cond_both, false≢true}, specs.List.list_all}
 use Rattle.qr_bits.specs.{declared.modes.Mode.Mode, Modes.may_use, Modes.is_kanji_pair}
 use Rattle.qr_bits.specs.declared.{modes.Mode.TheVariants.Kanji, modes.Rule.Rule, run_state.RunState.RunState}
 use Rattle.qr_bits.specs.declared.run_state.RunState.TheVariants.{Start, Digit1, Digit2, Digit3, Character1, Character2}
-use Rattle.qr_bits.specs.declared.interpretation.Interpretation.{Interpretation, TheVariants.{Default, Gs1, Eci}}
-use Rattle.qr_bits.specs.Interpretation.{MayWrite}
-use Rattle.qr_bits.specs.Segmentation.{rank, bits, runs_of, IsAssignment, HasFit}
-use Rattle.qr_bits.specs.Steps.RunState.{state_after, byte_cost, begins_with_pair, may_take, may_end, allowed, cost_of}
-use Rattle.qr_bits.proofs.lemmas.segment.CoverLemmas.{covers_by, by_covers}
-use Rattle.qr_bits.proofs.lemmas.{run_state.CostLemmas.bits-runs_of, best_modes.ChoiceLemmas.take_begin}
-use Rattle.qr_bits.proofs.lemmas.run_state.AssignmentLemmas.{may_end-after, begin_is, can_take, is_assignment}
+use Rattle.qr_bits.specs.declared.interpretation.Interpretation.{Interpretation}
+use Rattle.qr_bits.specs.Interpretation.{character_for, characters_in, doubled, is_doubled, MayWrite}
+use Rattle.qr_bits.specs.Segmentation.{rank, HasFit}
+use Rattle.qr_bits.specs.Steps.RunState.{state_after, state_in, byte_cost, begins_with_pair, may_take_in, may_end, allowed_in, cost_of, cost_of_all}
+use Rattle.qr_bits.proofs.lemmas.interpretation.WrittenLemmas.{doubled-step}
+use Rattle.qr_bits.proofs.lemmas.run_state.DoubledLemmas.{allowed-written, cost-written, take_other}
+use Rattle.qr_bits.proofs.lemmas.best_modes.TableLemmas.{in_end}
+use Rattle.qr_bits.proofs.lemmas.segmentation.AssignedLemmas.{allowed_assigned, assigned_allowed, bits-assigned}
+use Rattle.qr_bits.proofs.lemmas.run_state.AssignmentLemmas.{can_take, is_assignment}
 
 -- the state of a run after one more byte
 abbrev ahead : RunState → RunState
@@ -47,42 +49,52 @@ plain r m p h = grind arith
 abbrev CanUse : Rule → List Mode → Type 0
 CanUse r ms = list_all (may_use r) ms ≡ true
 
-front : (v : ℕ) (r : Rule) (p : RunState) (xs ys : List ℕ) (ms : List Mode) → IsPlain r → CanUse r ms →
-    may_end p ≡ true → allowed r is_kanji_pair p (xs ++ ys) ms ≡ true →
-    (ks : List Mode) × CanUse r ks × (allowed r is_kanji_pair p xs ks ≡ true) × (cost_of v p ks ≤ cost_of v p ms)
-unfolding allowed cost_of
-front v r p [] ys ms n u e h = ([], refl, e, omega arith)
-front v r p (x ∷ xs) ys [] n u e h = absurd (false≢true h)
-front v r p (x ∷ xs) ys (m ∷ ms) n u e h =
+front : (i : Interpretation) (v : ℕ) (r : Rule) (p : RunState) (xs ys : List ℕ) (ms : List Mode) → IsPlain r → CanUse r ms →
+    may_end p ≡ true → allowed_in i r is_kanji_pair p (xs ++ ys) ms ≡ true →
+    (ks : List Mode) × (allowed_in i r is_kanji_pair p xs ks ≡ true) × (cost_of_all i v p xs ks ≤ cost_of_all i v p (xs ++ ys) ms)
+unfolding allowed_in cost_of_all cost_of
+front i v r p [] ys ms n u e h = ([], e, omega arith)
+front i v r p (x ∷ xs) ys [] n u e h = absurd (false≢true h)
+front i v r p (x ∷ xs) ys (m ∷ ms) n u e h =
     let use_ = and_parts (may_use r m) (list_all (may_use r) ms) u in
     let low = plain r m n use_.0 in
-    let parts = and_parts (may_take r p x (begins_with_pair r is_kanji_pair (x ∷ (xs ++ ys))) m) _ h in
-    let rest = front v r (state_after p m) xs ys ms n use_.1 (may_end-after p m low) parts.1 in
-    (m ∷ rest.0, search (arith, and_from), search (arith, take_begin, begin_is is_kanji_pair, and_from), omega (arith, rest.3))
+    let parts = and_parts (may_take_in i r p x (begins_with_pair r is_kanji_pair (x ∷ (xs ++ ys))) m) _ h in
+    let rest = front i v r (state_in i p x m) xs ys ms n use_.1 (in_end i p x m low) parts.1 in (
+      m ∷ rest.0,
+      and_from _ _ (rw (take_other r p (character_for i x m) (begins_with_pair r is_kanji_pair (x ∷ xs)) (begins_with_pair r is_kanji_pair (x ∷ (xs ++ ys))) m low) parts.0) rest.1,
+      omega (arith, rest.2),
+    )
 
-back : (v : ℕ) (r : Rule) (xs ys : List ℕ) (ms : List Mode) → IsPlain r → CanUse r ms → allowed r is_kanji_pair Start (xs ++ ys) ms ≡ true
-    → (ks : List Mode) × CanUse r ks × (allowed r is_kanji_pair Start ys ks ≡ true) × (cost_of v Start ks ≤ cost_of v Start ms)
-unfolding allowed may_end
-back v r [] ys ms n u h = (ms, u, h, omega arith)
-back v r (x ∷ xs) ys [] n u h = absurd (false≢true h)
-back v r (x ∷ xs) ys (m ∷ ms) n u h =
-    let use_ = and_parts (may_use r m) (list_all (may_use r) ms) u in
-    let low = plain r m n use_.0 in
-    let parts = and_parts (may_take r Start x (begins_with_pair r is_kanji_pair (x ∷ (xs ++ ys))) m) _ h in
-    let again = can_take is_kanji_pair r (xs ++ ys) ms (search (arith, is_assignment, may_end-after)) Start refl in
-    search (arith, without_first, back v r xs ys ms n use_.1 again)
-
--- If an assignment is valid for an input, each piece of the input has a valid assignment of no more bits.
-pub piece : (v : ℕ) (r : Rule) (xs ys zs : List ℕ) (ms : List Mode) → IsPlain r → IsAssignment Default r (xs ++ (ys ++ zs)) ms
-    → (ks : List Mode) × IsAssignment Default r ys ks × (bits v (runs_of ks) ≤ bits v (runs_of ms))
+-- what is allowed after a state is allowed at the start, if no half pair is open
+from_start : (i : Interpretation) (r : Rule) (p : RunState) (xs : List ℕ) (ms : List Mode) → may_end p ≡ true → allowed_in i r is_kanji_pair p xs ms ≡ true → allowed_in i r is_kanji_pair Start xs ms ≡ true
 unfolding may_end
-piece v r xs ys zs ms n h =
-    let b = back v r xs (ys ++ zs) ms n h.0 (search (arith, can_take, covers_by)) in
-    let f = front v r Start ys zs b.0 n b.1 refl b.2 in
-    search (arith, is_assignment, by_covers, bits-runs_of)
+from_start i r p xs ms e h =
+    sym (allowed-written i r is_kanji_pair Start xs ms)
+    ∙ can_take is_kanji_pair r _ _ (is_assignment is_kanji_pair r (characters_in i xs ms) (doubled i xs ms) p e (allowed-written i r is_kanji_pair p xs ms ∙ h)) Start refl
+
+-- without the first byte there are no more bits
+without_byte : (i : Interpretation) (v : ℕ) (x : ℕ) (xs : List ℕ) (m : Mode) (ms : List Mode) → rank m < 3 → cost_of_all i v Start xs ms ≤ cost_of_all i v Start (x ∷ xs) (m ∷ ms)
+without_byte i v x xs m ms low =
+    let ks = doubled i xs ms in
+    rw (← cost-written i v Start xs ms, ← cost-written i v Start (x ∷ xs) (m ∷ ms), doubled-step i x xs m ms)
+    (cond_both (is_doubled i x m) _ _ (λ (qs : List Mode). cost_of v Start ks ≤ cost_of v Start qs) (λ _. omega (arith, without_first v m ks low, without_first v m (m ∷ ks) low)) (λ _. without_first v m ks low))
+
+back : (i : Interpretation) (v : ℕ) (r : Rule) (xs ys : List ℕ) (ms : List Mode) → IsPlain r → CanUse r ms → allowed_in i r is_kanji_pair Start (xs ++ ys) ms ≡ true
+    → (ks : List Mode) × CanUse r ks × (allowed_in i r is_kanji_pair Start ys ks ≡ true) × (cost_of_all i v Start ys ks ≤ cost_of_all i v Start (xs ++ ys) ms)
+unfolding allowed_in may_end
+back i v r [] ys ms n u h = (ms, u, h, omega arith)
+back i v r (x ∷ xs) ys [] n u h = absurd (false≢true h)
+back i v r (x ∷ xs) ys (m ∷ ms) n u h =
+    let use_ = and_parts (may_use r m) (list_all (may_use r) ms) u in
+    let low = plain r m n use_.0 in
+    let parts = and_parts (may_take_in i r Start x (begins_with_pair r is_kanji_pair (x ∷ (xs ++ ys))) m) _ h in
+    let rest = back i v r xs ys ms n use_.1 (from_start i r (state_in i Start x m) (xs ++ ys) ms (in_end i Start x m low) parts.1) in
+    (rest.0, rest.1, rest.2, omega (arith, rest.3, without_byte i v x (xs ++ ys) m ms low))
 
 -- If an input fits, each piece of it fits.
 pub piece_fits : (i : Interpretation) (v : ℕ) (r : Rule) (xs ys zs : List ℕ) (n : ℕ) → MayWrite i (xs ++ (ys ++ zs)) → may_use r Kanji ≡ false → HasFit i v r (xs ++ (ys ++ zs)) n → HasFit i v r ys n
-piece_fits Default v r xs ys zs n w none fit = let p = piece v r xs ys zs fit.0 none fit.1 in (p.0, p.1, omega (arith, p.2, fit.2))
-piece_fits (Eci k) v r xs ys zs n w none fit = let p = piece v r xs ys zs fit.0 none fit.1 in (p.0, p.1, omega (arith, p.2, fit.2))
-piece_fits Gs1 v r xs ys zs n w none fit = absurd w
+unfolding may_end
+piece_fits i v r xs ys zs n w none fit =
+    let b = back i v r xs (ys ++ zs) fit.0 none fit.1.0 (assigned_allowed i r (xs ++ (ys ++ zs)) fit.0 fit.1) in
+    let f = front i v r Start ys zs b.0 none b.1 refl b.2 in
+    (f.0, allowed_assigned i r ys f.0 f.1, omega (arith, bits-assigned i v ys f.0, f.2, b.3, bits-assigned i v (xs ++ (ys ++ zs)) fit.0, fit.2))

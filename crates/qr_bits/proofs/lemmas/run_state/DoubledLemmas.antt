@@ -1,73 +1,120 @@
--- A `%` that alphanumeric mode doubles takes two steps, so that what is known of modes of characters stands for modes of
+-- A `%` that alphanumeric mode doubles takes two steps, so that what is known of modes of characters holds for modes of
 -- bytes.
-use Rattle.std.proofs.Common.{◌≡◌, ℕ, ◌+◌, Bool, true, false, ◌==◌, ◌&&◌, cond, List, [], ◌∷◌, refl, ⊎_elim, arith}
-use Rattle.std.proofs.lemmas.Bool.{cases_Bool}
-use Rattle.qr_bits.specs.declared.{modes.Mode.Mode, run_state.RunState.RunState}
+use Rattle.std.proofs.Common.{◌≡◌, ℕ, ◌<◌, Bool, true, false, ◌&&◌, List, [], ◌∷◌, length, refl, ⊎_elim, arith, lit<}
+use Rattle.std.proofs.lemmas.Bool.{cases_Bool, and_parts, false≢true}
+use Rattle.std.specs.List.{list_all}
+use Rattle.qr_bits.specs.declared.{modes.Mode.Mode, modes.Rule.Rule, run_state.RunState.RunState}
+use Rattle.qr_bits.specs.declared.modes.Mode.TheVariants.{Numeric, Alphanumeric, Byte, Kanji}
+use Rattle.qr_bits.specs.declared.run_state.RunState.TheVariants.{HalfPair}
+use Rattle.qr_bits.specs.declared.interpretation.Interpretation.{Interpretation}
+use Rattle.qr_bits.specs.Interpretation.{is_doubled, character_for, doubled, characters_in}
+use Rattle.qr_bits.proofs.lemmas.interpretation.WrittenLemmas.{characters-step, doubled-rank, doubled-step, same_character, single-byte, unwritten, written-none}
 use Rattle.qr_bits.specs.Segmentation.{rank}
-use Rattle.std.proofs.Common.{IsTrue, ◌≤◌}
-use Rattle.qr_bits.specs.declared.modes.Rule.{Rule}
-use Rattle.qr_bits.specs.Segmentation.{IsNotAfter}
-use Rattle.qr_bits.specs.Steps.RunState.{byte_cost, cost_of, state_after, begins_with_pair, may_take, may_end}
-
--- the byte is `%`, in alphanumeric mode
-abbrev pub twice : ℕ → Mode → Bool
-twice x m = x == 37 && rank m == 1
-
--- the modes of the characters that are written for bytes of these modes
-unfoldable pub doubled : List ℕ → List Mode → List Mode
-doubled [] ms = []
-doubled (x ∷ xs) [] = []
-doubled (x ∷ xs) (m ∷ ms) = cond (twice x m) (m ∷ m ∷ doubled xs ms) (m ∷ doubled xs ms)
-
-abbrev pub state_in : ℕ → RunState → Mode → RunState
-state_in x p m = cond (twice x m) (state_after (state_after p m) m) (state_after p m)
-
-abbrev pub cost_in : ℕ → ℕ → RunState → Mode → ℕ
-cost_in v x p m = cond (twice x m) (byte_cost v p m + byte_cost v (state_after p m) m) (byte_cost v p m)
-
-unfoldable pub cost_of_all : ℕ → RunState → List ℕ → List Mode → ℕ
-cost_of_all v p [] ms = 0
-cost_of_all v p (x ∷ xs) [] = 0
-cost_of_all v p (x ∷ xs) (m ∷ ms) = cost_in v x p m + cost_of_all v (state_in x p m) xs ms
+use Rattle.qr_bits.specs.Steps.RunState.{cost_of, state_after, state_in, may_take_in, allowed, allowed_in, cost_of_all, begins_with_pair, may_begin, may_take}
 
 -- the bits that bytes add are those that their characters add
-pub cost_doubled : (v : ℕ) (p : RunState) (xs : List ℕ) (ms : List Mode) → cost_of_all v p xs ms ≡ cost_of v p (doubled xs ms)
-unfolding cost_of_all doubled cost_of
-cost_doubled v p [] ms = refl
-cost_doubled v p (x ∷ xs) [] = refl
-cost_doubled v p (x ∷ xs) (m ∷ ms) = ⊎_elim
-    (λ (e : twice x m ≡ true). rw (e, cost_doubled v (state_after (state_after p m) m) xs ms) (omega arith))
-    (λ (e : twice x m ≡ false). rw (e, cost_doubled v (state_after p m) xs ms) refl)
-    (cases_Bool (twice x m))
+pub cost-written : (i : Interpretation) (v : ℕ) (p : RunState) (xs : List ℕ) (ms : List Mode) → cost_of v p (doubled i xs ms) ≡ cost_of_all i v p xs ms
+unfolding cost_of_all cost_of
+cost-written i v p [] ms = rw (written-none i ms).0 refl
+cost-written i v p (x ∷ xs) [] = rw (unwritten i x xs).0 refl
+cost-written i v p (x ∷ xs) (m ∷ ms) = ⊎_elim
+    (λ (e : is_doubled i x m ≡ true). rw (doubled-step i x xs m ms, e, ← cost-written i v (state_after (state_after p m) m) xs ms) (omega arith))
+    (λ (e : is_doubled i x m ≡ false). rw (doubled-step i x xs m ms, e, ← cost-written i v (state_after p m) xs ms) refl)
+    (cases_Bool (is_doubled i x m))
 
--- the bytes may have these modes
-unfoldable pub allowed_in : Rule → (ℕ → ℕ → Bool) → RunState → List ℕ → List Mode → Bool
-allowed_in r test p [] [] = may_end p
-allowed_in r test p [] (m ∷ ms) = false
-allowed_in r test p (x ∷ xs) [] = false
-allowed_in r test p (x ∷ xs) (m ∷ ms) = may_take r p x (begins_with_pair r test (x ∷ xs)) m && allowed_in r test (state_in x p m) xs ms
+-- only kanji mode asks whether a pair begins
+pub take_other : (r : Rule) (p : RunState) (x : ℕ) (q t : Bool) (m : Mode) → rank m < 3 → may_take r p x q m ≡ may_take r p x t m
+unfolding may_take may_begin
+take_other r p x q t m h = grind arith
 
--- as `IsBestRest`, where `%` may be doubled
-pub record IsBestRestIn (v : ℕ) (r : Rule) (test : ℕ → ℕ → Bool) (p : RunState) (xs : List ℕ) (ms : List Mode) (n : ℕ) : Type 0 where
-  pub is_allowed : IsTrue (allowed_in r test p xs ms)
-  pub has_bits : cost_of_all v p xs ms ≡ n
-  pub least : (ks : List Mode) → IsTrue (allowed_in r test p xs ks) → n ≤ cost_of_all v p xs ks
-  pub first : (ks : List Mode) → IsTrue (allowed_in r test p xs ks) → cost_of_all v p xs ks ≡ n → IsNotAfter ms ks
+-- a character may be written twice
+take_again : (r : Rule) (p : RunState) (x : ℕ) (q t : Bool) (m : Mode) → rank m < 3 → may_take r p x q m ≡ true → may_take r (state_after p m) x t m ≡ true
+unfolding may_take may_begin state_after
+take_again r p x q t m h e = grind arith
 
--- as `IsChoice`, where `%` may be doubled
-pub record IsChoiceIn (v : ℕ) (r : Rule) (p : RunState) (x : ℕ) (pair : Bool) (cost : RunState → ℕ) (m : Mode) (n : ℕ) : Type 0 where
-  pub is_allowed : IsTrue (may_take r p x pair m)
-  pub has_bits : n ≡ cost_in v x p m + cost (state_in x p m)
-  pub least : (k : Mode) → IsTrue (may_take r p x pair k) → n ≤ cost_in v x p k + cost (state_in x p k)
-  pub first : (k : Mode) → IsTrue (may_take r p x pair k) → cost_in v x p k + cost (state_in x p k) ≡ n → rank m ≤ rank k
+-- what may be taken twice may be taken, and then again
+again_and : (a b c d : Bool) → (a ≡ true → b ≡ true) → c ≡ d → (a && (b && c)) ≡ (a && d)
+again_and a b c d h e = grind arith
 
-abbrev pub BestBelowIn : ℕ → Rule → (ℕ → ℕ → Bool) → List ℕ → (RunState → List Mode) → (RunState → ℕ) → Type 0
-BestBelowIn v r test xs f cost = (q : RunState) (ks : List Mode) → IsTrue (allowed_in r test q xs ks) → IsBestRestIn v r test q xs (f q) (cost q)
+none_both : (a b c d : Bool) → c ≡ d → d ≡ false → (a && c) ≡ (b && d)
+none_both a b c d e f = grind arith
 
--- the best rest: the best mode, and the best rest after it
-pub best_step_in : (v : ℕ) (r : Rule) (test : ℕ → ℕ → Bool) (p : RunState) (x : ℕ) (xs : List ℕ) (f : RunState → List Mode) (cost : RunState → ℕ) (m : Mode) (n : ℕ)
-    → BestBelowIn v r test xs f cost → IsChoiceIn v r p x (begins_with_pair r test (x ∷ xs)) cost m n
-    → ((ks : List Mode) × IsTrue (allowed_in r test (state_in x p m) xs ks))
-    → IsBestRestIn v r test p (x ∷ xs) (m ∷ f (state_in x p m)) n
-unfolding allowed_in cost_of_all
-best_step_in v r test p x xs f cost m n below choice some = search arith
+-- after half a pair no other mode is possible
+only_kanji : (i : Interpretation) (r : Rule) (test : ℕ → ℕ → Bool) (x : ℕ) (xs : List ℕ) (m : Mode) (ms : List Mode) → rank m < 3 → allowed_in i r test HalfPair (x ∷ xs) (m ∷ ms) ≡ false
+unfolding allowed_in may_take
+only_kanji i r test x xs Numeric ms h = refl
+only_kanji i r test x xs Alphanumeric ms h = refl
+only_kanji i r test x xs Byte ms h = refl
+only_kanji i r test x xs Kanji ms h = absurd (omega arith)
+
+-- a byte in kanji mode, whether it is seen to begin a pair or not, if what follows it is the same
+kanji_before : (i : Interpretation) (r : Rule) (test : ℕ → ℕ → Bool) (p : RunState) (x y : ℕ) (ys : List ℕ) (m : Mode) (ms : List Mode) (q t a : Bool) → rank m < 3
+    → a ≡ allowed_in i r test (state_after p Kanji) (y ∷ ys) (m ∷ ms)
+    → (may_take r p x q Kanji && a) ≡ (may_take r p x t Kanji && allowed_in i r test (state_after p Kanji) (y ∷ ys) (m ∷ ms))
+unfolding may_take state_after
+kanji_before i r test HalfPair x y ys m ms q t a k h = h
+kanji_before i r test p x y ys m ms q t a k h = none_both _ _ _ _ h (only_kanji i r test y ys m ms k)
+
+-- a byte in kanji mode is allowed before the characters of bytes as it is before the bytes
+kanji_same : (i : Interpretation) (r : Rule) (test : ℕ → ℕ → Bool) (p : RunState) (x : ℕ) (xs : List ℕ) (ms : List Mode)
+    → allowed r test (state_after p Kanji) (characters_in i xs ms) (doubled i xs ms) ≡ allowed_in i r test (state_after p Kanji) xs ms
+    → (may_take r p x (begins_with_pair r test (x ∷ characters_in i xs ms)) Kanji && allowed r test (state_after p Kanji) (characters_in i xs ms) (doubled i xs ms))
+    ≡ (may_take r p x (begins_with_pair r test (x ∷ xs)) Kanji && allowed_in i r test (state_after p Kanji) xs ms)
+unfolding begins_with_pair
+kanji_same i r test p x [] ms h = rw (h, (written-none i ms).1) refl
+kanji_same i r test p x (y ∷ ys) [] h = rw (h, (unwritten i y ys).1) refl
+kanji_same i r test p x (y ∷ ys) (Kanji ∷ ms) h = rw (h, characters-step i y ys Kanji ms, (single-byte i y).1, (same_character i y).1) refl
+kanji_same i r test p x (y ∷ ys) (m ∷ ms) h = kanji_before i r test p x y ys m ms _ _ _ (lit< tt) h
+
+step_one : (i : Interpretation) (r : Rule) (test : ℕ → ℕ → Bool) (p : RunState) (x : ℕ) (xs : List ℕ) (m : Mode) (ms : List Mode) → is_doubled i x m ≡ false
+    → allowed r test (state_after p m) (characters_in i xs ms) (doubled i xs ms) ≡ allowed_in i r test (state_after p m) xs ms
+    → allowed r test p (character_for i x m ∷ characters_in i xs ms) (m ∷ doubled i xs ms)
+    ≡ (may_take_in i r p x (begins_with_pair r test (x ∷ xs)) m && allowed_in i r test (state_after p m) xs ms)
+unfolding allowed
+step_one i r test p x xs Kanji ms e h = rw (same_character i x).1 (kanji_same i r test p x xs ms h)
+step_one i r test p x xs m ms e h = rw (h, take_other r p (character_for i x m) (begins_with_pair r test (character_for i x m ∷ characters_in i xs ms)) (begins_with_pair r test (x ∷ xs)) m (lit< tt)) refl
+
+step_two : (i : Interpretation) (r : Rule) (test : ℕ → ℕ → Bool) (p : RunState) (x : ℕ) (xs : List ℕ) (m : Mode) (ms : List Mode) → rank m < 3
+    → allowed r test (state_after (state_after p m) m) (characters_in i xs ms) (doubled i xs ms) ≡ allowed_in i r test (state_after (state_after p m) m) xs ms
+    → allowed r test p (character_for i x m ∷ character_for i x m ∷ characters_in i xs ms) (m ∷ m ∷ doubled i xs ms)
+    ≡ (may_take_in i r p x (begins_with_pair r test (x ∷ xs)) m && allowed_in i r test (state_after (state_after p m) m) xs ms)
+unfolding allowed
+step_two i r test p x xs m ms k h =
+    let c = character_for i x m in
+    let q = begins_with_pair r test (c ∷ c ∷ characters_in i xs ms) in
+    let t = begins_with_pair r test (c ∷ characters_in i xs ms) in
+    rw (take_other r p c q (begins_with_pair r test (x ∷ xs)) m k)
+    (again_and _ _ _ _ (take_again r p c (begins_with_pair r test (x ∷ xs)) t m k) h)
+
+-- the characters of bytes are allowed exactly if the bytes are
+pub allowed-written : (i : Interpretation) (r : Rule) (test : ℕ → ℕ → Bool) (p : RunState) (xs : List ℕ) (ms : List Mode)
+    → allowed r test p (characters_in i xs ms) (doubled i xs ms) ≡ allowed_in i r test p xs ms
+unfolding allowed_in allowed
+allowed-written i r test p [] [] = rw ((written-none i []).0, (written-none i []).1) refl
+allowed-written i r test p [] (m ∷ ms) = rw ((written-none i (m ∷ ms)).0, (written-none i (m ∷ ms)).1) refl
+allowed-written i r test p (x ∷ xs) [] = rw ((unwritten i x xs).0, (unwritten i x xs).1) refl
+allowed-written i r test p (x ∷ xs) (m ∷ ms) = ⊎_elim
+    (λ (e : is_doubled i x m ≡ true).
+    let low : rank m < 3 = omega (arith, doubled-rank i x m e) in
+    rw (doubled-step i x xs m ms, characters-step i x xs m ms, e) (step_two i r test p x xs m ms low (allowed-written i r test (state_after (state_after p m) m) xs ms)))
+    (λ (e : is_doubled i x m ≡ false).
+    rw (doubled-step i x xs m ms, characters-step i x xs m ms, e) (step_one i r test p x xs m ms e (allowed-written i r test (state_after p m) xs ms)))
+    (cases_Bool (is_doubled i x m))
+
+-- the rule allows the modes of the characters exactly if it allows those of the bytes
+pub list_all-doubled : (i : Interpretation) (f : Mode → Bool) (xs : List ℕ) (ms : List Mode) → list_all f (doubled i xs ms) ≡ list_all f ms
+list_all-doubled i f [] ms = rw (written-none i ms).0 refl
+list_all-doubled i f (x ∷ xs) [] = rw (unwritten i x xs).0 refl
+list_all-doubled i f (x ∷ xs) (m ∷ ms) = ⊎_elim
+    (λ (e : is_doubled i x m ≡ true). rw (doubled-step i x xs m ms, e) (search (arith, list_all-doubled i f xs ms)))
+    (λ (e : is_doubled i x m ≡ false). rw (doubled-step i x xs m ms, e) (search (arith, list_all-doubled i f xs ms)))
+    (cases_Bool (is_doubled i x m))
+
+-- modes that are allowed are as many as the bytes
+pub allowed-length : (i : Interpretation) (r : Rule) (test : ℕ → ℕ → Bool) (p : RunState) (xs : List ℕ) (ms : List Mode) → allowed_in i r test p xs ms ≡ true → length xs ≡ length ms
+unfolding allowed_in
+allowed-length i r test p [] [] h = refl
+allowed-length i r test p [] (m ∷ ms) h = absurd (false≢true h)
+allowed-length i r test p (x ∷ xs) [] h = absurd (false≢true h)
+allowed-length i r test p (x ∷ xs) (m ∷ ms) h =
+    omega (arith, allowed-length i r test (state_in i p x m) xs ms (and_parts (may_take_in i r p x (begins_with_pair r test (x ∷ xs)) m) _ h).1)

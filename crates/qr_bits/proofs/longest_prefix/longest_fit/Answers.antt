@@ -1,4 +1,4 @@
-use Rattle.{std.proofs.Common.{arith}, qr_bits.proofs.lemmas.segmentation.{BytesOnlyLemmas.{bytes_longest, whole_longest}, InterpretedLemmas.longest_interpreted}}
+use Rattle.{std.proofs.Common.{arith}, qr_bits.proofs.lemmas.segmentation.{BytesOnlyLemmas.{bytes_longest, whole_longest}}}
 use Rattle.qr_bits.proofs.longest_prefix.longest_fit.Goals as goal
 
 pub returns-then-input-most : goal.returns-then-input-most
@@ -10,11 +10,3 @@ pub returns-in-BytesOnly : goal.returns-in-BytesOnly
 returns-in-BytesOnly c =
     rw (c.in-BytesOnly.is, ← c.room-room.ensures.value)
     (bytes_longest c.args.interpretation c.args.version c.args.input.now c.room-room.result c.bytes_in-most.result c.bytes_in-most.result (omega (arith, c.if-input-most.false)) c.bytes_in-most.ensures.fits c.bytes_in-most.ensures.most)
-
-pub returns-in-Auto : goal.returns-in-Auto
-returns-in-Auto c =
-    rw (← c.room-room.ensures.value) (longest_interpreted c.args.interpretation c.args.version c.args.rule c.args.input.now c.room-room.result _ c.requires.written c.longest_by_rows.ensures)
-
-pub returns-in-WithKanji : goal.returns-in-WithKanji
-returns-in-WithKanji c =
-    rw (← c.room-room.ensures.value) (longest_interpreted c.args.interpretation c.args.version c.args.rule c.args.input.now c.room-room.result _ c.requires.written c.longest_by_rows-in-WithKanji.ensures)

@@ -1,8 +1,9 @@
-use Rattle.std.proofs.Common.{◌≡◌, [], reverse, inl, inr, refl, sym, ◌∙◌, arith}
-use Rattle.std.proofs.lemmas.List.{append-nil, nil_from_length}
+use Rattle.std.proofs.Common.{◌≡◌, [], length, reverse, inl, inr, refl, sym, ◌∙◌, arith}
+use Rattle.std.proofs.lemmas.List.{append-nil, length-reverse, nil_from_length}
 use Rattle.qr_bits.specs.{declared.run_state.RunState.TheVariants.Start, Segmentation.runs_of}
 use Rattle.qr_bits.specs.Steps.{RunState.state_after, RunState.state_on, BestModes.follow}
-use Rattle.qr_bits.proofs.lemmas.{segmentation.BackLemmas.{found_more, run_same, run_other, same_mode, other_mode}, best_modes.TableLemmas.assignment_from_table}
+use Rattle.qr_bits.proofs.lemmas.{segmentation.BackLemmas.{found_more, run_same, run_other, same_mode, other_mode}, best_modes.TableLemmas.follow-default, segmentation.AssignedLemmas.assignment_from_table}
+use Rattle.qr_bits.specs.declared.interpretation.Interpretation.TheVariants.{Default}
 use Rattle.qr_bits.proofs.segmentation.least_segments.Goals as goal
 
 pub loop-modes-init : goal.loop-modes-init
@@ -36,4 +37,8 @@ returns-clause-ok c =
     let i = c.loop-modes.invariant in
     let none : c.loop-modes.table.items ≡ [] = nil_from_length _ (sym c.loop-modes.table.ok.0 ∙ c.in_default.ensures.cases.0) in
     let whole : i.modes ≡ follow Start (reverse c.in_ok-table.table.items) = sym (append-nil i.modes) ∙ rw none at i.led in
-    (i.modes, rw whole (assignment_from_table c.args.version c.args.rule c.args.input.now (reverse c.in_ok-table.table.items) c.in_ok-table.ensures.1), c.in_ok-push_segment-2.ensures ∙ i.runs, refl)
+    let xs = c.args.input.now in
+    let rows = reverse c.in_ok-table.table.items in
+    let many : length rows ≡ length xs = length-reverse c.in_ok-table.table.items ∙ sym c.in_ok-table.table.ok.0 ∙ c.in_ok-table.ensures.0 in
+    let best = assignment_from_table Default c.args.version c.args.rule xs rows c.in_ok-table.ensures.1 in
+    (i.modes, rw (whole, ← follow-default Start xs rows many) best, c.in_ok-push_segment-2.ensures ∙ i.runs, refl)

@@ -3,10 +3,10 @@ use Rattle.std.proofs.Common.{arith}
 use Rattle.std.proofs.lemmas.Result.{err_from_is_err_and, IfOk-weaker, MatchResult-weaker}
 use Rattle.qr_symbol.proofs.encoding.encode.Goals as goal
 
-pub returns-in_err-fit : goal.returns-in_err-fit
-returns-in_err-fit c =
+pub returns-in_err-found : goal.returns-in_err-found
+returns-in_err-found c =
     let p = err_from_is_err_and c.from_residual.result c.from_residual.ensures.1 in
-    let told = refused-again _ _ _ _ _ _ c.in_err-fit.ensures.refused in rw (p.1, p.2) (record {
+    let told = refused-again _ _ _ _ _ _ c.in_err-found.ensures.refused in rw (p.1, p.2) (record {
       symbol = tt;
       level = tt;
       read = tt;
@@ -17,16 +17,16 @@ returns-in_err-fit c =
     })
 
 pub fitting_symbol-requires-clause-room : goal.fitting_symbol-requires-clause-room
-fitting_symbol-requires-clause-room c = let fit = c.in_ok-fit.ensures.fit in
+fitting_symbol-requires-clause-room c = let fit = c.in_ok-found.ensures.fit in
     version-fits _ _ _ _ _ _ _ (omega arith) fit.version.most fit.chosen fit.version.fits
 
 pub returns : goal.returns
 returns c =
-    let fit = c.in_ok-fit.ensures.fit in
+    let fit = c.in_ok-found.ensures.fit in
     let r = c.fitting_symbol.result in
     let made = MatchResult-weaker r c.fitting_symbol.ensures (λ s of_rule. of_rule c.args.rule c.args.input.now fit.chosen) (λ e _. tt) in
     let refused = MatchResult-weaker r c.fitting_symbol.ensures (λ s _. tt) (λ e memory. memory) in
-    let told = refused-only _ _ _ _ _ _ _ r c.in_ok-fit.ensures.refused fit.version refused in record {
+    let told = refused-only _ _ _ _ _ _ _ r c.in_ok-found.ensures.refused fit.version refused in record {
       symbol = symbol-found _ _ _ _ _ _ _ fit.version made;
       level = IfOk-weaker r _ _ (λ s is. is.level) made;
       read = symbol-back _ _ _ _ _ _ (omega arith) fit.version.most c.requires.written made;

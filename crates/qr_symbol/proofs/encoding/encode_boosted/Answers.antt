@@ -1,7 +1,7 @@
-use Rattle.qr_bits.proofs.Facts.{least_fits}
-use Rattle.qr_symbol.proofs.lemmas.version_choice.FitLemmas.{least-short, version-short}
+use Rattle.qr_bits.proofs.Facts.{least-most, least_fits}
+use Rattle.qr_symbol.proofs.lemmas.version_choice.FitLemmas.{version-short}
 use Rattle.qr_symbol.proofs.lemmas.encoding.SymbolMakingLemmas.{boosted-found, highest-fits, refused-again, refused-only, symbol-back, version-fits}
-use Rattle.std.proofs.Common.{◌≡◌, ap, ◌∙◌, arith}
+use Rattle.std.proofs.Common.{arith}
 use Rattle.std.proofs.lemmas.Result.{err_from_is_err_and, MatchResult-weaker}
 use Rattle.qr_symbol.proofs.encoding.encode_boosted.Goals as goal
 
@@ -20,7 +20,7 @@ returns-in_err-fit c =
 pub needed_bits-bits-requires : goal.needed_bits-bits-requires
 needed_bits-bits-requires c = let fit = c.in_ok-fit.ensures.fit in record {
   covered = (least_fits _ _ _ _ _ _ fit.chosen).0;
-  short = omega (arith, least-short _ _ _ _ _ _ fit.chosen, version-short _ _ _ _ _ (omega arith) fit.version.most fit.version.fits);
+  short = omega (arith, least-most _ _ _ _ _ _ fit.chosen, version-short _ _ _ _ _ (omega arith) fit.version.most fit.version.fits);
 }
 
 pub highest_with_room-highest-requires : goal.highest_with_room-highest-requires

@@ -2,7 +2,7 @@ use Rattle.qr_bits.proofs.Facts.{covered_short, length-data}
 use Rattle.qr_bits.specs.declared.fault.BitFault.{BitFault, TheVariants.{Memory, TooLong}}
 use Rattle.qr_symbol.specs.Fault.{fault_of}
 use Rattle.std.specs.Cow.{cow_slice_items}
-use Rattle.std.proofs.Common.{◌≡◌, ◌≤◌, ap, Err, refl, arith}
+use Rattle.std.proofs.Common.{◌≡◌, ap, Err, refl, arith}
 use Rattle.std.proofs.lemmas.Result.{err_from_is_err_and}
 use Rattle.qr_symbol.specs.declared.fault.EncodeFault.TheVariants as fault
 use Rattle.qr_symbol.proofs.encoding.final_codewords.Goals as goal

@@ -1,5 +1,5 @@
 -- A call is refused for a fault exactly if the fault is there, unless memory is refused.
-use Rattle.qr_bits.{proofs.Facts.empty_fits, specs.{ declared.modes.Rule.Rule}}
+use Rattle.qr_bits.{proofs.Facts.empty_fits, specs.{declared.modes.Rule.Rule}}
 use Rattle.qr_bits.specs.declared.interpretation.Interpretation.{Interpretation}
 use Rattle.qr_symbol.proofs.lemmas.version_choice.FitLemmas.{version-short}
 use Rattle.{qr_layout.specs.declared.level.Level.Level}

@@ -2,16 +2,17 @@
 use Rattle.qr_bits.specs.declared.interpretation.Interpretation.{Interpretation}
 use Rattle.qr_bits.specs.Interpretation.{MayWrite}
 use Rattle.qr_symbol.proofs.lemmas.version_choice.FitLemmas.{version-short}
-use Rattle.qr_bits.{proofs.Facts.{empty_fits, may_write-drop, may_write-take}, specs.{Header.parity_of, Parsing.Content}}
+use Rattle.qr_bits.{proofs.Facts.{empty_fits, least_meant, may_write-drop, may_write-take}, specs.{Header.parity_of, Parsing.Content}}
 use Rattle.{qr_bits.specs.declared.{header.Header.Header, modes.Rule.Rule}, qr_layout.specs.declared.level.Level.Level}
 use Rattle.{qr_matrix.specs.Grid.Grid, qr_symbol.proofs.lemmas.encoding.SymbolLemmas.symbol-at-one}
 use Rattle.qr_symbol.proofs.lemmas.{encoding.SymbolMakingLemmas.symbol-fits, reading.RoundTripLemmas.symbol-read}
 use Rattle.qr_symbol.proofs.lemmas.series.PartLemmas.{parts-are, length-parts, parts-one, parts-some, parts-long}
-use Rattle.qr_symbol.specs.{Joining.{AreReadBy, bytes_of_all, HaveHeaders, IsJoined}, Reading.{interpreted_content, IsReading}}
+use Rattle.qr_symbol.specs.{Joining.{AreInterpreted, AreReadBy, bytes_of_all, HaveHeaders, IsJoined}, Reading.{interpreted_content, IsInterpreted, IsReading}}
 use Rattle.qr_symbol.specs.Series.{squares_of, AreParts, IsSymbolOf, AreSymbolsFrom, IsSplit, IsPlainSymbol, IsSeries}
-use Rattle.{qr_symbol.specs.Steps.Series.{AreLengths, parts_of}, std.proofs.lemmas.List.{append-nil, take-append-drop}}
+use Rattle.{qr_symbol.specs.Steps.Series.{AreLengths, parts_of}, std.proofs.lemmas.List.{Elements.{All-cons, All-nil}, append-nil, take-append-drop}}
+use Rattle.qr_symbol.specs.Encoding.{IsSymbolAt}
 use Rattle.qr_symbol.specs.{VersionChoice.{FitsVersion, HasNoVersion}, declared.symbol.Symbol.Symbol}
-use Rattle.std.proofs.Common.{◌≡◌, ℕ, suc, ◌+◌, ◌-◌, ◌*◌, ◌<◌, ◌≤◌, List, [], ◌∷◌, length, None, Some, Option, refl, sym, ap, subst, arith, inl, inr}
+use Rattle.std.proofs.Common.{◌≡◌, ℕ, suc, ◌+◌, ◌-◌, ◌*◌, ◌<◌, ◌≤◌, List, [], ◌∷◌, length, drop, None, Some, Option, refl, sym, ap, subst, arith, inl, inr}
 
 -- ---- what makes a series
 
@@ -104,6 +105,37 @@ split-joined x l b how v ss i j w h =
 pub series-joined : (x : List ℕ) (l : Level) (b : Rule) (how : Interpretation) (v : ℕ) (ss : List Symbol) → 1 ≤ v → v ≤ 40 → MayWrite how x → IsSeries v l b how x ss → IsJoined (squares_of ss) x
 series-joined x l b how v ss i j w (inl h) = lone-joined x l b how v ss i j w h
 series-joined x l b how v ss i j w (inr h) = split-joined x l b how v ss i j w h
+
+-- ---- their interpretation
+
+-- a square has the interpretation
+abbrev HasInterpretation : Interpretation → Grid → Type 0
+HasInterpretation how g = (c : Content) × IsReading g c × IsInterpreted how c
+
+-- a symbol is read with its interpretation
+symbol-interpreted : (v : ℕ) (l : Level) (b : Rule) (how : Interpretation) (x : List ℕ) (h : Option Header) (mask : ℕ) (g : Grid) → 1 ≤ v → v ≤ 40 → MayWrite how x
+    → IsSymbolAt v l b how x h mask g → HasInterpretation how g
+symbol-interpreted v l b how x h mask g i j w s =
+    (interpreted_content how h s.segments x, symbol-read v l b how x h mask g i j w s, (refl, (least_meant how v b x s.characters s.segments h w s.chosen).1))
+
+-- the symbols of parts are read with the interpretation of the whole
+parts-interpreted : (v : ℕ) (l : Level) (b : Rule) (how : Interpretation) (last parity k : ℕ) (x : List ℕ) (ps : List (List ℕ)) (ss : List Symbol) → 1 ≤ v → v ≤ 40 → MayWrite how x → AreParts v l b how x ps
+    → AreSymbolsFrom v l b how last parity k ps ss → AreInterpreted how (squares_of ss)
+unfolding AreParts AreSymbolsFrom
+parts-interpreted v l b how last parity k x [] [] i j w cut h = All-nil (HasInterpretation how)
+parts-interpreted v l b how last parity k x [] (s ∷ ss) i j w cut h = absurd h
+parts-interpreted v l b how last parity k x (p ∷ ps) [] i j w cut h = absurd h
+parts-interpreted v l b how last parity k x (p ∷ ps) (s ∷ ss) i j w cut h =
+    let may : MayWrite how p = subst (λ (ys : List ℕ). MayWrite how ys) (sym cut.3) (may_write-take how cut.0 x w) in
+    All-cons (HasInterpretation how) s.matrix (squares_of ss) (symbol-interpreted v l b how p _ s.mask s.matrix i j may h.0.made)
+    (parts-interpreted v l b how last parity (k + 1) (drop cut.0 x) ps ss i j (may_write-drop how cut.0 x w) cut.4 h.1)
+
+-- the symbols of a series are read with its interpretation
+pub series-interpreted : (x : List ℕ) (l : Level) (b : Rule) (how : Interpretation) (v : ℕ) (ss : List Symbol) → 1 ≤ v → v ≤ 40 → MayWrite how x → IsSeries v l b how x ss → AreInterpreted how (squares_of ss)
+series-interpreted x l b how v ss i j w (inl h) =
+    subst (λ (ts : List Symbol). AreInterpreted how (squares_of ts)) (sym h.alone)
+    (All-cons (HasInterpretation how) h.symbol.matrix [] (symbol-interpreted v l b how x None h.symbol.mask h.symbol.matrix i j w h.made.made) (All-nil (HasInterpretation how)))
+series-interpreted x l b how v ss i j w (inr h) = parts-interpreted v l b how _ _ 0 x h.parts ss i j w h.split h.made
 
 -- ---- long inputs
 

@@ -1,11 +1,11 @@
 -- The least version that an input fits, found with the segments of the first version of each range of equal widths.
-use Rattle.qr_bits.proofs.Facts.{capacity_least, characters-most, fitting_short, least_fits}
+use Rattle.qr_bits.proofs.Facts.{capacity_least, fitting_short, least_fits}
 use Rattle.qr_bits.specs.{Interpretation.interpretation_bits, Modes.count_width, Padding.capacity_of}
 use Rattle.qr_bits.specs.Segmentation.{bits, IsLeastSegmentation}
 use Rattle.qr_bits.specs.declared.interpretation.Interpretation.{Interpretation}
 use Rattle.qr_bits.specs.declared.{modes.{Mode.Mode, Rule.Rule}, segment.Segment.Segment}
 use Rattle.{qr_layout.specs.declared.level.Level.Level, qr_symbol.specs.VersionChoice.{FitsVersion, IsVersion}}
-use Rattle.std.proofs.{Common.{◌≡◌, ℕ, ◌+◌, ◌-◌, ◌*◌, ◌<◌, ◌≤◌, inl, inr, List, [], ◌∷◌, length, refl, sym, ap, arith}, lemmas.Bool.cases_lt}
+use Rattle.std.proofs.{Common.{◌≡◌, ℕ, ◌+◌, ◌-◌, ◌<◌, ◌≤◌, inl, inr, List, [], ◌∷◌, length, refl, sym, arith}, lemmas.Bool.cases_lt}
 
 -- Segments have the same number of bits in versions of the same widths.
 bits-same : (u v : ℕ) → ((m : Mode) → count_width u m ≡ count_width v m) → (segs : List Segment) → bits u segs ≡ bits v segs
@@ -16,10 +16,6 @@ bits-same u v same (s ∷ ss) = omega (arith, same s.mode, bits-same u v same ss
 pub segmentation-same : (u v : ℕ) (rule : Rule) (how : Interpretation) (xs ys : List ℕ) (segs : List Segment) → ((m : Mode) → count_width
     u m ≡ count_width v m) → IsLeastSegmentation how u rule xs ys segs → IsLeastSegmentation how v rule xs ys segs
 segmentation-same u v rule how xs ys segs same h = search (arith, bits-same)
-
--- The characters of the least segmentation are at most two for each byte.
-pub least-short : (v : ℕ) (rule : Rule) (how : Interpretation) (xs ys : List ℕ) (segs : List Segment) → IsLeastSegmentation how v rule xs ys segs → length ys ≤ 2 * length xs
-least-short v rule how xs ys segs h = omega (arith, ap length h.3, characters-most how xs h.0)
 
 -- What says the interpretation has at most 28 bits.
 pub interpretation-most : (how : Interpretation) → interpretation_bits how ≤ 28

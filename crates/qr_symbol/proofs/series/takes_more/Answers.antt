@@ -8,5 +8,14 @@ returns-then-input-gt-SYMBOL_BYTES_MAX-clause-none c = λ _ fits.
 
 pub returns-then-not-matches-clause-none : goal.returns-then-not-matches-clause-none
 returns-then-not-matches-clause-none c = λ more fits.
-    omega (arith, ltb-true _ _ more, c.least_bits.ensures.least c.args.interpretation c.args.version (capacity_of c.args.version c.args.level - interpretation_bits c.args.interpretation) c.args.rule fits,
-    capacity_least c.args.version c.args.level (omega arith) (omega arith), interpretation-most c.args.interpretation, c.interpretation_bits.ensures.value, c.from.ensures, c.from-then-not-matches.ensures, c.data_codewords.ensures)
+    omega (
+      arith,
+      ltb-true _ _ more,
+      c.least_bits.ensures.least c.args.interpretation c.args.version (capacity_of c.args.version c.args.level - interpretation_bits c.args.interpretation) c.args.rule fits,
+      capacity_least c.args.version c.args.level (omega arith) (omega arith),
+      interpretation-most c.args.interpretation,
+      c.interpretation_bits.ensures.value,
+      c.from.ensures,
+      c.from-then-not-matches.ensures,
+      c.data_codewords.ensures,
+    )

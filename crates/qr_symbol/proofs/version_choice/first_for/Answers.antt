@@ -9,11 +9,21 @@ returns-then-input-gt-MEDIUM_BYTES-clause-none c v a b fit = let few = fit.2 in 
 pub returns-then-bits-room_in-clause-none : goal.returns-then-bits-room_in-clause-none
 returns-then-bits-room_in-clause-none c v a b fit =
     let l = c.args.level in
-    omega (arith, capacity_26 v l a (omega arith), capacity_least v l a (omega arith), interpretation-most c.args.interpretation,
-    c.least_bits.ensures.least c.args.interpretation v (capacity_of v l - interpretation_bits c.args.interpretation) c.args.rule fit)
+    omega (
+      arith,
+      capacity_26 v l a (omega arith),
+      capacity_least v l a (omega arith),
+      interpretation-most c.args.interpretation,
+      c.least_bits.ensures.least c.args.interpretation v (capacity_of v l - interpretation_bits c.args.interpretation) c.args.rule fit,
+    )
 
 pub returns-then-bits-room_in-2-clause-none : goal.returns-then-bits-room_in-2-clause-none
 returns-then-bits-room_in-2-clause-none c v a b fit =
     let l = c.args.level in
-    omega (arith, capacity_nine v l a (omega arith), capacity_least v l a (omega arith), interpretation-most c.args.interpretation,
-    c.least_bits.ensures.least c.args.interpretation v (capacity_of v l - interpretation_bits c.args.interpretation) c.args.rule fit)
+    omega (
+      arith,
+      capacity_nine v l a (omega arith),
+      capacity_least v l a (omega arith),
+      interpretation-most c.args.interpretation,
+      c.least_bits.ensures.least c.args.interpretation v (capacity_of v l - interpretation_bits c.args.interpretation) c.args.rule fit,
+    )

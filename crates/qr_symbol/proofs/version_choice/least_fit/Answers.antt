@@ -1,8 +1,7 @@
-use Rattle.std.specs.Cow.{cow_slice_items}
-use Rattle.std.proofs.Common.{◌≡◌, ◌≤◌, ◌<◌, ◌*◌, ℕ, Option, inl, inr, sym, ◌∙◌, ap, subst, ◌+◌, arith}
+use Rattle.std.proofs.Common.{◌≡◌, ◌≤◌, ◌<◌, ℕ, Option, inl, inr, sym, subst, ◌+◌, arith}
 use Rattle.{std.{proofs.lemmas.Bool.cases_lt, specs.Option.SomeIff}, qr_layout.specs.declared.version.Version.Version}
-use Rattle.qr_bits.{proofs.Facts.{characters-most, covers_all, least_fits}, specs.{Interpretation.interpretation_bits, Segmentation.bits}}
-use Rattle.qr_symbol.proofs.lemmas.version_choice.FitLemmas.{least-short, segmentation-same, version-found, none-fits}
+use Rattle.qr_bits.{proofs.Facts.{least-most, least_fits}}
+use Rattle.qr_symbol.proofs.lemmas.version_choice.FitLemmas.{segmentation-same, version-found, none-fits}
 use Rattle.qr_symbol.proofs.version_choice.least_fit.Goals as goal
 use Rattle.qr_symbol.proofs.version_choice.least_fit.Goals.{In-Some-new}
 use Rattle.qr_symbol.specs.VersionChoice.{FitsVersion}
@@ -19,7 +18,7 @@ loop-segmented-init c =
 pub needed_bits-bits-requires : goal.needed_bits-bits-requires
 needed_bits-bits-requires c = let is = c.in_ok-segmented.ensures.ok in record {
   covered = (least_fits _ _ _ _ _ _ is).0;
-  short = omega (arith, least-short _ _ _ _ _ _ is, c.requires.short);
+  short = omega (arith, least-most _ _ _ _ _ _ is, c.requires.short);
 }
 
 pub returns-in-Some-clause-version : goal.returns-in-Some-clause-version

@@ -1,5 +1,5 @@
 use Rattle.std.specs.Cow.{cow_slice_items}
-use Rattle.std.proofs.Common.{◌≡◌, ◌*◌, ◌+◌, ◌≤◌, ◌∙◌, ap, arith}
+use Rattle.std.proofs.Common.{◌∙◌, ap, arith}
 use Rattle.qr_bits.{proofs.Facts.{bits_most, covers_all}, specs.Segmentation.bits}
 use Rattle.qr_symbol.proofs.version_choice.needed_bits.Goals as goal
 

@@ -1,3 +1,4 @@
+use Rattle.qr_bits.specs.declared.interpretation.Interpretation.TheVariants.{Default}
 use Rattle.std.proofs.Common.{◌≡◌, ◌∙◌, ap, subst, sym, unwrap_or, arith, Err, Ok}
 use Rattle.std.proofs.lemmas.Result.{err_from_is_err_and}
 use Rattle.qr_symbol.specs.{declared.fault.EncodeFault.{EncodeFault, TheVariants.Empty}, VersionChoice.HasNoVersion}
@@ -22,7 +23,7 @@ returns-in_err-symbol c =
     let one = sym (ap (λ (s : SettingsView). s.structured) c.settings.view_is) ∙ c.if-settings.false in
     rw (p.1, p.2) (told-one c.args.settings.now c.args.input.now c.in_err-symbol.field-0.0 one
     (λ e. c.in_err-symbol.ensures.empty.0 (ap (λ (f : EncodeFault). Err f) e))
-    (λ e. subst (λ (s : SettingsView). HasNoVersion (smallest_of s) s.level (rule_for s) c.args.input.now) c.settings.view_is
+    (λ e. subst (λ (s : SettingsView). HasNoVersion (smallest_of s) s.level (rule_for s) Default c.args.input.now) c.settings.view_is
     (rw (← smallest, ← same) (c.in_err-symbol.ensures.too_long.0 (ap (λ (f : EncodeFault). Err f) e)).1))
     c.in_err-symbol.ensures.fault)
 

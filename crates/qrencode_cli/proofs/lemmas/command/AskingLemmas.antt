@@ -1,15 +1,16 @@
 -- The drawing that a command line and an input ask for, or the fault that occurs before any byte is written.
+use Rattle.qr_bits.specs.declared.interpretation.Interpretation.TheVariants.{Default}
 use Rattle.std.proofs.Common.{◌≡◌, ◌∙◌, ◌≤◌, ℕ, true, false, List, [], ◌∷◌, take, Option, None, Some, Result, Ok, Err, refl, sym, min, length, append-nil, arith, inl, inr, ◌⊎◌}
 use Rattle.std.proofs.lemmas.{Bool.{cases_lt, false≢true}, List.take_min, Grind.common_steps}
 use Rattle.std.{proofs.lemmas.List.Elements.{All-cons, All-head, All-nil}, specs.List.All}
-use Rattle.{qr_drawing.specs.Drawing.HaveOneSide, qr_bits.proofs.Facts.fitting_short}
+use Rattle.qr_drawing.specs.Drawing.{HaveOneSide}
 use Rattle.{clap.specs.Walk.Text, qr_matrix.specs.Grid.Grid}
 use Rattle.qr_bits.specs.{declared.modes.TheConstants.INPUT_MAX, declared.modes.Rule.Rule, Folding.folded, Parsing.plain_content}
 use Rattle.{qr_layout.specs.Version.side_of, qr_devices.specs.Device.Reader}
 use Rattle.qr_symbol.specs.declared.{fault.EncodeFault.EncodeFault, symbol.Symbol.Symbol}
 use Rattle.qr_symbol.specs.declared.fault.EncodeFault.TheVariants as encode
 use Rattle.qr_symbol.specs.{Joining.AreReadBy, Joining.IsJoined, Reading.IsReadBack, Series.IsSeries, Series.squares_of, Encoding.IsSymbol, VersionChoice.HasNoVersion}
-use Rattle.qr_symbol.proofs.Facts.{long-has-no-series, series-few, series-side, series-some}
+use Rattle.qr_symbol.proofs.Facts.{long-has-no-series, series-few, series-side, series-some, version-short}
 use Rattle.qrencode_cli.specs.Command.{HasSettingsWith, ReadsInput, held, input_for}
 use Rattle.qrencode_cli.specs.Settings.{IsUsageFault, Reason, SettingsView, rule_for, settings_for}
 use Rattle.qrencode_cli.specs.Steps.Command.{AreDrawnFor, HasRead, IsInputFault, IsJobFor, IsJobGiven, Prepares, StopsReading}
@@ -38,11 +39,11 @@ pub held-plain : (s : SettingsView) (input : List ℕ) → s.fold ≡ false → 
 held-plain s input fold = rw fold refl
 
 -- if a symbol is read as the input, joining it alone has the input as its result
-joined-one : (input : List ℕ) (v : ℕ) (b : Rule) (g : Grid) → IsReadBack v b input g → IsJoined (g ∷ []) input
+joined-one : (input : List ℕ) (v : ℕ) (b : Rule) (g : Grid) → IsReadBack v b Default input g → IsJoined (g ∷ []) input
 unfolding AreReadBy
 joined-one input v b g h = record {
   contents = plain_content None h.0 input ∷ [];
-  read = (h.2, tt);
+  read = (h.3, tt);
   together = search arith;
   joined = sym (append-nil input);
 }
@@ -54,11 +55,11 @@ one-side (g ∷ gs) side h = omega (arith, All-head)
 
 -- if a single symbol is asked for, the symbol of the input is what the settings ask for
 pub drawn-for-one : (s : SettingsView) (rule : Rule) (input : List ℕ) (version : ℕ) (symbol : Symbol) (symbols : List Symbol) → s.structured ≡ false → 1 ≤ version
-    → version ≡ smallest_of s → rule ≡ rule_for s → (input ≡ [] → ⊥) → IsSymbol version s.level rule input symbol.version symbol.mask symbol.matrix
-    → IsReadBack symbol.version rule input symbol.matrix → symbols ≡ symbol ∷ [] → AreDrawnFor s input symbols
+    → version ≡ smallest_of s → rule ≡ rule_for s → (input ≡ [] → ⊥) → IsSymbol version s.level rule Default input symbol.version symbol.mask symbol.matrix
+    → IsReadBack symbol.version rule Default input symbol.matrix → symbols ≡ symbol ∷ [] → AreDrawnFor s input symbols
 drawn-for-one s rule input version symbol symbols one least e same some made read alone =
     let from = made.version.least in
-    let few : length input ≤ 7089 = fitting_short symbol.version s.level rule input (omega arith) made.version.most made.version.fits in
+    let few : length input ≤ 7089 = version-short symbol.version s.level rule Default input (omega arith) made.version.most made.version.fits in
     rw alone (record {
       asked = search arith;
       joined = joined-one input symbol.version rule symbol.matrix read;
@@ -71,7 +72,7 @@ drawn-for-one s rule input version symbol symbols one least e same some made rea
 
 -- if a single symbol is asked for, a fault of `encode` is a correct reason why the input has no drawing
 pub told-one : (s : SettingsView) (input : List ℕ) (e : EncodeFault) → s.structured ≡ false → (e ≡ encode.Empty → input ≡ [])
-    → (e ≡ encode.TooLong → HasNoVersion (smallest_of s) s.level (rule_for s) input)
+    → (e ≡ encode.TooLong → HasNoVersion (smallest_of s) s.level (rule_for s) Default input)
     → (e ≡ encode.Empty) ⊎ ((e ≡ encode.TooLong) ⊎ (e ≡ encode.Memory)) → IsInputFault s input (fault_of_input e)
 told-one s input encode.Empty one empty long only = empty refl
 told-one s input encode.TooLong one empty long only = (one, long refl)
@@ -81,7 +82,7 @@ told-one s input encode.Memory one empty long only = tt
 -- if a series is asked for, the series of the input is what the settings ask for
 pub drawn-for-series : (s : SettingsView) (rule : Rule) (input : List ℕ) (version : ℕ) (symbols : List Symbol) →
     s.structured ≡ true → 1 ≤ version → version ≤ 40 → version ≡ smallest_of s → rule ≡ rule_for s →
-    (input ≡ [] → ⊥) → IsSeries version s.level rule input symbols → IsJoined (squares_of symbols) input →
+    (input ≡ [] → ⊥) → IsSeries version s.level rule Default input symbols → IsJoined (squares_of symbols) input →
     AreDrawnFor s input symbols
 drawn-for-series s rule input version symbols many least most e same some series joined = record {
   asked = inl (many, symbols, rw (← e, ← same) series, refl);
@@ -91,9 +92,9 @@ drawn-for-series s rule input version symbols many least most e same some series
     | inl i ↦ i
     | inr i ↦ search (arith, long-has-no-series)
   ];
-  some = series-some input s.level rule version symbols series;
-  few = series-few input s.level rule version symbols series;
-  one_side = one-side (squares_of symbols) (side_of version) (series-side input s.level rule version symbols series);
+  some = series-some input s.level rule Default version symbols series;
+  few = series-few input s.level rule Default version symbols series;
+  one_side = one-side (squares_of symbols) (side_of version) (series-side input s.level rule Default version symbols series);
 }
 
 -- the reader was not read: it need not be, or lack of memory ended the run

@@ -1,4 +1,5 @@
 -- A command line and an input have at most one drawing and at most one reason to be refused, and not both.
+use Rattle.qr_bits.specs.declared.interpretation.Interpretation.TheVariants.{Default}
 use Rattle.std.proofs.Common.{◌≡◌, ◌<◌, ◌≤◌, ◌∙◌, ◌&&◌, ◌==◌, inl, inr, ℕ, suc, Bool, true, false, cond, leb, List, [], length, Option, Some, None, unwrap_or, codes, Result, Ok, Err, refl, sym, subst, arith}
 use Rattle.std.specs.{Option.option_map_or, Prelude.option_and_then}
 use borrow.Author.Tests.{leb-true}
@@ -23,9 +24,9 @@ settings-one words s t a b = let e : Ok s ≡ Ok t = sym a ∙ b in cc
 
 -- the settings ask for at most one list of squares
 squares-one : (s : SettingsView) (input : List ℕ) (g h : List Grid) → AreSymbols s input g → AreSymbols s input h → g ≡ h
-squares-one s input g h (inl (a, ss, m, e)) (inl (b, ts, n, f)) = cc (series-one input s.level (rule_for s) (smallest_of s) ss ts m n)
+squares-one s input g h (inl (a, ss, m, e)) (inl (b, ts, n, f)) = cc (series-one input s.level (rule_for s) Default (smallest_of s) ss ts m n)
 squares-one s input g h (inr (a, v, mask, square, m, e)) (inr (b, w, other, grid, n, f)) =
-    let same = symbol-one input s.level (smallest_of s) (rule_for s) _ _ _ _ square grid m n in
+    let same = symbol-one input s.level (smallest_of s) (rule_for s) Default _ _ _ _ square grid m n in
     let k = same.2 in cc
 squares-one s input g h (inl a) (inr b) = let e : true ≡ false = sym a.0 ∙ b.0 in cc
 squares-one s input g h (inr a) (inl b) = let e : true ≡ false = sym b.0 ∙ a.0 in cc
@@ -124,12 +125,12 @@ smallest-most words s e =
 -- an empty input fits each version, so it is never too long
 empty-not-long : (words : List Text) (s : SettingsView) (input : List ℕ) → settings_for words ≡ Ok s → input ≡ [] → IsTooLong s input → ⊥
 empty-not-long words s input taken none long =
-    long.1 (smallest_of s) (omega arith) (smallest-most words s taken) (subst (λ (x : List ℕ). FitsVersion (smallest_of s) s.level (rule_for s) x) (sym none) (empty_fits (smallest_of s) (rule_for s) _))
+    long.1 (smallest_of s) (omega arith) (smallest-most words s taken) (subst (λ (x : List ℕ). FitsVersion (smallest_of s) s.level (rule_for s) Default x) (sym none) (empty_fits Default (smallest_of s) (rule_for s) _))
 
 -- so an empty input is never too long for a series
 empty-not-many : (s : SettingsView) (input : List ℕ) → input ≡ [] → IsTooMany s input → ⊥
 empty-not-many s input none many =
-    many.1.too_long (subst (λ (x : List ℕ). FitsVersion (smallest_of s) s.level (rule_for s) x) (sym none) (empty_fits (smallest_of s) (rule_for s) _))
+    many.1.too_long (subst (λ (x : List ℕ). FitsVersion (smallest_of s) s.level (rule_for s) Default x) (sym none) (empty_fits Default (smallest_of s) (rule_for s) _))
 
 -- settings do not ask for both one symbol and a series
 long-not-many : (s : SettingsView) (x y : List ℕ) → IsTooLong s x → IsTooMany s y → ⊥

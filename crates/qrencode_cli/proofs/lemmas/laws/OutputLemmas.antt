@@ -1,4 +1,5 @@
 -- What the drawing that a run writes shows by itself.
+use Rattle.qr_bits.specs.declared.interpretation.Interpretation.TheVariants.{Default}
 use Rattle.std.proofs.Common.{◌≡◌, ◌≤◌, ◌&&◌, ◌==◌, inl, inr, ℕ, Bool, true, cond, leb, List, length, Option, Some, None, unwrap_or, codes, Result, Ok, Err, sym, subst, arith}
 use Rattle.std.proofs.lemmas.Bool.Decides.{nat_tests}
 use Rattle.clap.specs.{Words.one_of, Walk.Text}
@@ -43,10 +44,10 @@ asked-drawing : (s : SettingsView) (input : List ℕ) (squares : List Grid) → 
     → IsDrawingOf s.kind s.margin squares (drawn s.kind s.margin squares)
 asked-drawing s input squares m least most (inl h) =
     let P : List Grid → Type 0 = λ g. IsDrawingOf s.kind s.margin g (drawn s.kind s.margin g) in
-    subst P (sym h.3) (series-drawing s.kind s.margin (smallest_of s) s.level (rule_for s) input h.1 m least most h.2)
+    subst P (sym h.3) (series-drawing s.kind s.margin (smallest_of s) s.level (rule_for s) Default input h.1 m least most h.2)
 asked-drawing s input squares m least most (inr h) =
     let P : List Grid → Type 0 = λ g. IsDrawingOf s.kind s.margin g (drawn s.kind s.margin g) in
-    subst P (sym h.5) (symbol-drawing s.kind s.margin (smallest_of s) s.level (rule_for s) input h.1 h.2 h.3 m least h.4)
+    subst P (sym h.5) (symbol-drawing s.kind s.margin (smallest_of s) s.level (rule_for s) Default input h.1 h.2 h.3 m least h.4)
 
 -- the drawing that the settings ask for
 shows-input : (words : List Text) (s : SettingsView) (input drawing : List ℕ) → settings_for words ≡ Ok s → IsDrawing s input drawing → ShowsInput s input drawing

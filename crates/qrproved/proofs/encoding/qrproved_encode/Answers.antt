@@ -4,7 +4,7 @@ use Rattle.qr_symbol.specs.declared.fault.EncodeFault.TheVariants as fault
 use Rattle.qr_symbol.specs.{Encoding.{IsBoostedSymbol, IsSymbol}, VersionChoice.{HasNoVersion, IsVersion}, Reading.IsReadBack}
 use Rattle.qrproved.specs.{declared.settings.Settings.Settings, Encoding.HasNoRoom}
 use Rattle.qrproved.{specs.Settings.{AreSymbolSettings, interpretation_of, level_of, rule_of}, proofs.lemmas.modules.ModuleLemmas.one-held}
-use Rattle.qrproved.proofs.lemmas.encoding.EncodingLemmas.{too-long-status, room-status}
+use Rattle.qrproved.proofs.lemmas.encoding.EncodingLemmas.{refused-some, room-status, too-long-status}
 use Rattle.qrproved.proofs.encoding.qrproved_encode.Goals as goal
 use Rattle.qrproved.proofs.encoding.qrproved_encode.Goals.{After-long_inputs_have_none, Else-not-may_write, In-Err, In-Ok}
 
@@ -14,6 +14,10 @@ allowed c = (c.in-Some.ensures.0, omega arith)
 
 may : (c : Else-not-may_write) → MayWrite (interpretation_of c.args.interpretation) c.args.input.now
 may c = subst (λ (s : Settings). MayWrite s.interpretation c.args.input.now) c.in-Some.ensures.1 (c.may_write.ensures.0 c.if-not-may_write.false)
+
+pub returns-then-not-may_write-clause-empty : goal.returns-then-not-may_write-clause-empty
+returns-then-not-may_write-clause-empty c =
+    (λ h. absurd (omega arith), λ w. absurd (refused-some c.in-Some.settings.interpretation c.args.input.now c.may_write.result c.may_write.ensures.1 c.if-not-may_write.true w.1))
 
 none : (c : After-long_inputs_have_none)
     → HasNoVersion c.args.version (level_of c.args.level) (rule_of c.args.rule) (interpretation_of c.args.interpretation) c.args.input.now
@@ -89,9 +93,10 @@ returns-else-modules-area-clause-done c _ =
       level_in = c.number_of-symbol.ensures.in_range;
       made = λ plain.
           let is = subst (λ (s : Settings). (m.level ≡ s.level) × IsSymbol s.version s.level s.rule s.interpretation x m.version m.mask m.matrix)
-          c.in-Some.ensures.1 (c.in-Ok.ensures.made (rw plain refl)) in
-          (number-one k c.args.level c.number_of-symbol.ensures.in_range c.in-Some.ensures.0.level_in (c.number_of-symbol.ensures.same ∙ is.0),
-          subst (λ (v : ℕ). IsSymbol c.args.version (level_of c.args.level) rule how x v m.mask m.matrix) version is.1);
+          c.in-Some.ensures.1 (c.in-Ok.ensures.made (rw plain refl)) in (
+            number-one k c.args.level c.number_of-symbol.ensures.in_range c.in-Some.ensures.0.level_in (c.number_of-symbol.ensures.same ∙ is.0),
+            subst (λ (v : ℕ). IsSymbol c.args.version (level_of c.args.level) rule how x v m.mask m.matrix) version is.1,
+          );
       boosted = λ boost.
           let is = subst (λ (s : Settings). IsBoostedSymbol s.version s.level s.rule s.interpretation x m.version m.level m.mask m.matrix)
           c.in-Some.ensures.1 (c.in-Ok.ensures.boosted (rw boost refl)) in

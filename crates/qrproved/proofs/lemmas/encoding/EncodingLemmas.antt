@@ -1,5 +1,7 @@
 -- What the statuses mean for an input that is not encoded.
-use Rattle.std.proofs.Common.{◌≡◌, ◌≢◌, ◌↔◌, ◌⊎◌, ℕ, List, [], Result, Err, arith}
+use Rattle.qr_bits.{proofs.Facts.may_write-none, specs.Interpretation.MayWrite}
+use Rattle.qr_bits.specs.declared.interpretation.Interpretation.{Interpretation}
+use Rattle.std.proofs.Common.{◌≡◌, ◌≢◌, ◌↔◌, ◌⊎◌, ℕ, Bool, true, false, List, [], Result, Err, subst, sym, arith}
 use Rattle.{qr_symbol.specs.declared.fault.EncodeFault.EncodeFault, qrproved.specs.Steps.Status.encode_status}
 use Rattle.qr_symbol.specs.declared.fault.EncodeFault.TheVariants as fault
 
@@ -17,3 +19,7 @@ pub room-status : {X : Type 0} (r : Result X EncodeFault) (f : EncodeFault) (x :
     (f ≡ fault.Empty) ⊎ (f ≡ fault.TooLong) ⊎ (f ≡ fault.Memory) →
     (encode_status f ≡ 6) ↔ ((encode_status f ≢ 4) × S × (x ≢ []) × W × R)
 room-status r f x S W P R is apart empty told kinds = grind arith
+
+-- an input that may not be written is not empty
+pub refused-some : (how : Interpretation) (x : List ℕ) (b : Bool) → (MayWrite how x → b ≡ true) → b ≡ false → x ≡ [] → ⊥
+refused-some how x b told refused e = let yes = told (subst (MayWrite how) (sym e) (may_write-none how)) in cc

@@ -1,8 +1,14 @@
 use Rattle.std.proofs.Common.{◌≡◌, ℕ, ◌*◌, ◌<◌, List, length, false, sym, ap, subst, ◌∙◌, arith}
 use Rattle.{qr_layout.specs.Version.side_of, qr_bits.specs.{declared.modes.Mode.TheVariants.Kanji, Modes.may_use}}
 use Rattle.qr_symbol.specs.{declared.symbol.Symbol.Symbol, Series.{squares_of, IsSeries, NeedsParts}}
+use Rattle.qr_symbol.specs.Joining.{AreInterpreted}
+use Rattle.qrproved.proofs.lemmas.encoding.EncodingLemmas.{refused-some}
 use Rattle.qrproved.specs.{declared.settings.Settings.Settings, Settings.{interpretation_of, level_of, rule_of}, Modules.HoldsSquares}
 use Rattle.qrproved.proofs.series.qrproved_encode_series.Goals as goal
+
+pub returns-then-not-may_write-clause-empty : goal.returns-then-not-may_write-clause-empty
+returns-then-not-may_write-clause-empty c =
+    (λ h. absurd (omega arith), λ w. absurd (refused-some c.in-Some.settings.interpretation c.args.input.now c.may_write.result c.may_write.ensures.1 c.if-not-may_write.true w.1))
 
 pub returns-then-input-gt-INPUT_MAX-clause-room : goal.returns-then-input-gt-INPUT_MAX-clause-room
 returns-then-input-gt-INPUT_MAX-clause-room c =
@@ -21,6 +27,7 @@ returns-else-modules-len-clause-done c _ =
       symbols = symbols;
       made = subst (λ (s : Settings). IsSeries s.version s.level s.rule s.interpretation c.args.input.now symbols) e c.in-Ok.ensures.series;
       joined = c.in-Ok.ensures.joined;
+      interpreted = subst (λ (s : Settings). AreInterpreted s.interpretation (squares_of symbols)) e c.in-Ok.ensures.interpreted;
       shortest = subst (λ (s : Settings). may_use s.rule Kanji ≡ false → NeedsParts s.version s.level s.rule s.interpretation c.args.input.now (length symbols)) e c.in-Ok.ensures.shortest;
       count = omega (arith, c.len-in-Ok.ensures, c.deref.ensures.len, ap length c.deref.ensures.value);
       side = c.side-side.ensures.value ∙ ap (λ (s : Settings). side_of s.version) e;

@@ -1,0 +1,12 @@
+use Rattle.std.proofs.Common.{◌≡◌, ℕ, ◌<◌, true, List, [], ◌∷◌, length, refl, sym, ◌∙◌, arith}
+use Rattle.qr_bits.specs.Interpretation.{are_fields}
+use Rattle.qr_bits.proofs.interpretation.are_fields.Goals as goal
+
+short_fields : (xs : List ℕ) → length xs < 2 → are_fields xs ≡ true
+unfolding are_fields
+short_fields [] h = refl
+short_fields (x ∷ []) h = refl
+short_fields (x ∷ y ∷ xs) h = absurd (omega arith)
+
+pub returns : goal.returns
+returns c = sym (short_fields c.loop-rest.rest.now c.in_default.len_below) ∙ c.loop-rest.invariant
