@@ -80,25 +80,33 @@ const BYTES_MAX = 7089;
 const ECIS_MAX = 1970, ECI_SIZE = 16;
 const FNC1_FIRST = 1, FNC1_SECOND = 2;
 const TOO_LONG = 2, TOO_MANY = 3, ROOM = 6, NO_DRAWING = 11; // statuses
+export const DEFAULT = 1000000, GS1 = 1000001; // interpretations; a smaller number is that of an ECI
 
-export function encoded(input, version, level, rule) {
+/** Returns the bits by which a symbol says an interpretation (ISO/IEC 18004:2015, 7.4.2 and 7.4.8). */
+function headerOf(interpretation) {
+  if (interpretation >= DEFAULT) return interpretation === GS1 ? 4 : 0;
+  return interpretation < 1 << 7 ? 12 : interpretation < 1 << 14 ? 20 : 28;
+}
+
+/** Encodes an input, of bytes and their interpretation. */
+export function encoded({ data, interpretation }, version, level, rule, boost) {
   return run(() => {
-    const from = put(input), to = take(SYMBOL_MAX), told = take(3);
-    const status = call('qrproved_encode', BigInt(from), BigInt(input.length), version, level, rule, BigInt(to), BigInt(SYMBOL_MAX),
-      BigInt(told));
-    if (status === TOO_LONG) throw tooLong(input.length, level, rule);
+    const from = put(data), to = take(SYMBOL_MAX), told = take(4);
+    const status = call('qrproved_encode', BigInt(from), BigInt(data.length), version, level, rule, interpretation, boost ? 1 : 0, BigInt(to),
+      BigInt(SYMBOL_MAX), BigInt(told));
+    if (status === TOO_LONG) throw tooLong(data.length, level, rule, headerOf(interpretation));
     throwFor(status);
-    const [chosen, side, mask] = copied(told, 3);
-    return { version: chosen, side, mask, modules: copied(to, side * side) };
+    const [chosen, side, used, mask] = copied(told, 4);
+    return { version: chosen, side, level: used, mask, modules: copied(to, side * side) };
   });
 }
 
-export function encodedSeries(input, version, level, rule) {
+export function encodedSeries({ data, interpretation }, version, level, rule) {
   return run(() => {
-    const from = put(input), to = take(SERIES_MAX), told = take(2);
-    const status = call('qrproved_encode_series', BigInt(from), BigInt(input.length), version, level, rule, BigInt(to), BigInt(SERIES_MAX),
-      BigInt(told));
-    if (status === TOO_MANY) throw tooMany(input.length, version, level);
+    const from = put(data), to = take(SERIES_MAX), told = take(2);
+    const status = call('qrproved_encode_series', BigInt(from), BigInt(data.length), version, level, rule, interpretation, BigInt(to),
+      BigInt(SERIES_MAX), BigInt(told));
+    if (status === TOO_MANY) throw tooMany(data.length, version, level);
     throwFor(status);
     const [count, side] = copied(told, 2);
     return { side, squares: Array.from({ length: count }, (_, k) => copied(to + k * side * side, side * side)) };

@@ -30,7 +30,10 @@ export class OutOfMemoryError extends QRError {
   constructor(message = 'out of memory') { super(message, 4, 'MEMORY'); }
 }
 
-/** A number is out of its range, a name is not known, symbols to draw have several sides, or a module to mend is more than 2. */
+/**
+ * A number is out of its range, a name is not known, settings exclude each other, symbols to draw have several sides, or a module to
+ * mend is more than 2.
+ */
 export class SettingsError extends QRError {
   constructor(message = 'a module is more than 2') { super(message, 5, 'SETTINGS'); }
 }
@@ -65,6 +68,11 @@ export class NoDrawingError extends QRError {
   constructor(message = 'the text is no drawing of symbols') { super(message, 11, 'NO_DRAWING'); }
 }
 
+/** The bytes are no GS1 data: a separator comes directly before another or before %. */
+export class FieldsError extends QRError {
+  constructor(message = 'a separator of GS1 data, the byte 1D, comes directly before another or before %') { super(message, 12, 'FIELDS'); }
+}
+
 /** No upright symbol is found in a picture. It is no refusal of the library, which reads modules alone. */
 export class PictureError extends Error {
   constructor(message) {
@@ -73,7 +81,10 @@ export class PictureError extends Error {
   }
 }
 
-/** The bytes of an ECI are not read as characters. It is no refusal of the library. */
+/**
+ * The bytes of an ECI are not read as characters, or a string has a character that its character set has not. It is no refusal of the
+ * library.
+ */
 export class EciError extends Error {
   constructor(message) {
     super(message);
@@ -89,19 +100,33 @@ export class Gs1Error extends Error {
   }
 }
 
-// What a symbol of version 40 holds at each level, from L to H: bytes, alphanumeric characters, digits, and kanji of two bytes each
-// (ISO/IEC 18004:2015, Table 7).
-const MOST = [[2953, 4296, 7089, 1817], [2331, 3391, 5596, 1435], [1663, 2420, 3993, 1024], [1273, 1852, 3057, 784]];
+// The data bits of a symbol of version 40 at each level, from L to H (ISO/IEC 18004:2015, Table 7).
+const DATA_BITS = [23648, 18672, 13328, 10208];
+const MODE_BITS = 4; // of a mode indicator, before the character count
+
+/** Returns how many bytes, alphanumeric characters, digits and kanji fit into so many bits at version 40 (ISO/IEC 18004:2015, 7.4.3 to 7.4.6). */
+function mostIn(room) {
+  const [data, alphanumeric, digits, kanji] = [16, 13, 14, 12].map((count) => room - MODE_BITS - count);
+  return [
+    Math.floor(data / 8),
+    2 * Math.floor(alphanumeric / 11) + (alphanumeric % 11 >= 6 ? 1 : 0),
+    3 * Math.floor(digits / 10) + (digits % 10 >= 7 ? 2 : digits % 10 >= 4 ? 1 : 0),
+    Math.floor(kanji / 13),
+  ];
+}
 
 /** Returns a number with commas between thousands. */
 function counted(number) {
   return String(number).replace(/\B(?=(\d{3})+$)/g, ',');
 }
 
-/** Returns the refusal of `count` bytes, which says how many would fit. The rule, 0, 1 or 2, decides which modes there are. */
-export function tooLong(count, level, rule) {
-  const names = ['bytes', 'alphanumeric characters', 'digits', 'kanji'].slice(0, [3, 1, 4][rule]);
-  const [last, ...first] = names.map((name, k) => `${counted(MOST[level][k])} ${name}`).reverse();
+/**
+ * Returns the refusal of `count` bytes, which says how many would fit beside a header of so many bits. The rule, 0, 1 or 2, decides which
+ * modes there are.
+ */
+export function tooLong(count, level, rule, header) {
+  const names = ['bytes', 'alphanumeric characters', 'digits', 'kanji'].slice(0, [3, 1, 4][rule]), fits = mostIn(DATA_BITS[level] - header);
+  const [last, ...first] = names.map((name, k) => `${counted(fits[k])} ${name}`).reverse();
   const holds = first.length ? `${first.reverse().join(', ')} or ${last}` : last;
   return new TooLongError(`the input has ${counted(count)} bytes and does not fit a symbol: version 40-${'LMQH'[level]} holds ${holds}`);
 }
@@ -112,7 +137,7 @@ export function tooMany(count, version, level) {
 }
 
 const CLASSES = [undefined, EmptyError, TooLongError, TooManyError, OutOfMemoryError, SettingsError, RoomError, SideError, FormatError,
-  CheckError, SegmentsError, NoDrawingError];
+  CheckError, SegmentsError, NoDrawingError, FieldsError];
 
 /** Throws the error of a status, and returns for 0. */
 export function throwFor(status) {

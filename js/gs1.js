@@ -1,4 +1,4 @@
-/** GS1 data as fields: values with their application identifiers (GS1 General Specifications, 3 and 7.8). */
+/** GS1 data, and their fields: values with their application identifiers (GS1 General Specifications, 3 and 7.8). */
 import { Gs1Error } from './errors.js';
 
 // Application identifiers, and the parts of their values: digits (N), characters of GS1's set 82 (X) or of its set 39 (Y), so many of
@@ -43,7 +43,7 @@ const IDENTIFIERS = String.raw`
 `;
 // Identifiers whose values have one length each, so that no separator comes after them, by their first two digits.
 const PREDEFINED = /^(0[0-4]|1[1-9]|20|3[1-6]|41)/;
-const CHARACTERS = { N: /[^0-9]/, X: /[^!"%-?A-Z_a-z]/, Y: /[^#\-/0-9A-Z]/ }; // what is none of them
+const CHARACTERS = { N: /[^0-9]/u, X: /[^!"%-?A-Z_a-z]/u, Y: /[^#\-/0-9A-Z]/u }; // what is none of them
 const NAMES = { N: 'a digit', X: "a character of GS1's set 82", Y: "a character of GS1's set 39" };
 const DAYS = [31, 29, 31, 30, 31, 30, 31, 31, 30, 31, 30, 31];
 const SEPARATOR = '\x1d';
@@ -90,16 +90,21 @@ function partOf(text) {
 
 const TABLE = IDENTIFIERS.trim().split('\n').map((row) => {
   const [pattern, ...parts] = row.split(/\s+/);
-  return [new RegExp(`^(?:${pattern})`), parts.map(partOf)];
+  return { begins: new RegExp(`^(?:${pattern})`), is: new RegExp(`^(?:${pattern})$`), parts: parts.map(partOf) };
 });
 
 const sum = (numbers) => numbers.reduce((all, it) => all + it, 0);
 
 const ESCAPES = { '\t': '\\t', '\n': '\\n', '\r': '\\r', '\\': '\\\\' };
 
+function escapeOf(code) {
+  const [kind, width] = code < 0x100 ? ['x', 2] : code < 0x10000 ? ['u', 4] : ['U', 8];
+  return `\\${kind}${code.toString(16).padStart(width, '0')}`;
+}
+
 /** Returns a text as it is shown in a message, as Python shows it. */
 function quoted(text) {
-  const shown = text.replace(/[^ -[\]-~]/g, (it) => ESCAPES[it] ?? `\\x${it.charCodeAt(0).toString(16).padStart(2, '0')}`);
+  const shown = text.replace(/[^ -[\]-~]/gu, (it) => ESCAPES[it] ?? escapeOf(it.codePointAt(0)));
   return shown.includes("'") && !shown.includes('"') ? `"${shown}"` : `'${shown.replaceAll("'", "\\'")}'`;
 }
 
@@ -124,9 +129,9 @@ export function fieldsOf(data) {
   if (rest === '') throw new Gs1Error('the data have no field');
   const found = [];
   while (rest !== '') {
-    const [pattern, parts] = TABLE.find(([it]) => it.test(rest)) ?? [];
-    if (!pattern) throw new Gs1Error(`no application identifier that is known begins ${quoted(rest.slice(0, 4))}`);
-    const [name] = pattern.exec(rest);
+    const { begins, parts } = TABLE.find((it) => it.begins.test(rest)) ?? {};
+    if (!begins) throw new Gs1Error(`no application identifier that is known begins ${quoted(rest.slice(0, 4))}`);
+    const [name] = begins.exec(rest);
     rest = rest.slice(name.length);
     const [value] = (PREDEFINED.test(name) ? rest.slice(0, sum(parts.map((it) => it.most))) : rest).split(SEPARATOR);
     const fault = faultOf(value, parts);
@@ -136,4 +141,26 @@ export function fieldsOf(data) {
     rest = rest.slice(value.length).replace(/^\x1d/, '');
   }
   return found;
+}
+
+// The application identifiers of a text, by the sign with which it begins.
+const WRITTEN = { '(': /\(([0-9]{2,4})\)/, '[': /\[([0-9]{2,4})\]/ };
+
+/**
+ * Returns the data of a text in which each application identifier is in parentheses or, as the first is, in brackets: the fields one
+ * after the other, with a separator between a value of no predefined length and the next identifier.
+ */
+export function dataOf(text) {
+  const [before, ...parts] = Object.hasOwn(WRITTEN, text.slice(0, 1)) ? text.split(WRITTEN[text[0]]) : [text];
+  if (before !== '' || parts.length === 0) {
+    throw new Gs1Error(`GS1 data begin with an application identifier, as (01) or [01], and not with ${quoted([...text].slice(0, 4).join(''))}`);
+  }
+  const fields = parts.filter((_, k) => k % 2 === 0).map((name, k) => [name, parts[2 * k + 1]]);
+  const written = fields.map(([name, value]) => {
+    const known = TABLE.find((it) => it.is.test(name));
+    const fault = known ? faultOf(value, known.parts) : 'is no application identifier that is known';
+    if (fault) throw new Gs1Error(`(${name}) ${fault}`);
+    return name + value + (PREDEFINED.test(name) ? '' : SEPARATOR);
+  });
+  return new TextEncoder().encode(written.join('').replace(/\x1d$/, ''));
 }

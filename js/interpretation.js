@@ -1,4 +1,7 @@
-/** What the bytes of a symbol mean as characters: its ECI headers (Extended Channel Interpretation; ISO/IEC 18004:2015, 7.4.2). */
+/**
+ * What the bytes of a symbol mean as characters, and the bytes of a string: ECI headers (Extended Channel Interpretation; ISO/IEC
+ * 18004:2015, 7.4.2).
+ */
 import { EciError } from './errors.js';
 
 // The upper half of code page 437.
@@ -71,15 +74,22 @@ const CODECS = {
     12: 'iso-8859-10', 15: 'iso-8859-13', 16: 'iso-8859-14', 17: 'iso-8859-15', 24: 'windows-1256', 25: 'utf-16be', 26: 'utf-8',
   }).map(([number, label]) => [number, decoded(label)])),
 };
-const BYTES = 899;
+const BYTES = 899, UTF_16 = 25;
+export const UTF_8 = 26, SHIFT_JIS = 20;
+const PAIRS = [28, 29, 30, 32]; // sets of characters of several bytes, which are read and not written
+
+function codecOf(number) {
+  if (number === BYTES) throw new EciError(`ECI ${BYTES} means bytes, and no characters`);
+  if (!Object.hasOwn(CODECS, number)) throw new EciError(`the characters of ECI ${number} are not known`);
+  return CODECS[number];
+}
 
 /** Returns the characters of bytes that have this ECI, or none. */
 function charactersOf(number, data) {
   if (number === null) return decoded('utf-8')(data);
-  if (number === BYTES) throw new EciError(`ECI ${BYTES} means bytes, and no characters`);
-  if (!Object.hasOwn(CODECS, number)) throw new EciError(`the characters of ECI ${number} are not known`);
+  const codec = codecOf(number);
   try {
-    return CODECS[number](data);
+    return codec(data);
   } catch (error) {
     if (!(error instanceof RangeError)) throw error;
     throw new EciError(`this engine has no decoder for the characters of ECI ${number}`);
@@ -91,4 +101,65 @@ export function decodedText(data, ecis) {
   const begins = [0, ...ecis.map((it) => it.begin), data.length], numbers = [null, ...ecis.map((it) => it.number)];
   const parts = numbers.map((number, k) => [number, data.subarray(begins[k], begins[k + 1])]);
   return parts.filter(([, part]) => part.length > 0).map(([number, part]) => charactersOf(number, part)).join('');
+}
+
+/** Returns the numbers from one to another. */
+const range = (first, last) => Array.from({ length: last - first + 1 }, (_, k) => first + k);
+
+/** Returns the bytes of each character of a set of single bytes, by its decoder. */
+function singleBytes(number) {
+  const table = new Map();
+  for (const byte of range(0, 255)) {
+    try {
+      table.set(charactersOf(number, Uint8Array.of(byte)), [byte]);
+    } catch (error) {
+      if (!(error instanceof TypeError)) throw error; // a byte that is no character
+    }
+  }
+  return table;
+}
+
+// First bytes of the characters of JIS X 0208 in Shift JIS; between them are characters of one system or another.
+const LEADS = [...range(0x81, 0x84), ...range(0x88, 0x9f), ...range(0xe0, 0xea)];
+const TRAILS = [...range(0x40, 0x7e), ...range(0x80, 0xfc)];
+// Characters of JIS X 0208 that engines and systems have by one code point or by another.
+const ALSO = ['〜～', '‖∥', '−－', '¢￠', '£￡', '¬￢', '―—'];
+
+/**
+ * Returns the bytes of each character that every reader of Shift JIS has: ASCII, katakana of half width and the characters of JIS X
+ * 0208. The engine decodes all pairs at once, with a line end after each.
+ */
+function shiftJisBytes() {
+  const single = range(0, 0x7f).map((byte) => [String.fromCharCode(byte), [byte]]);
+  const katakana = range(0xa1, 0xdf).map((byte) => [String.fromCharCode(0xfec0 + byte), [byte]]);
+  const pairs = LEADS.flatMap((lead) => TRAILS.map((trail) => [lead, trail]));
+  const characters = new TextDecoder('shift_jis').decode(Uint8Array.from(pairs.flatMap((pair) => [...pair, 0x0a]))).split('\n');
+  const double = characters.map((character, k) => [character, pairs[k]]).filter(([it]) => /^[^\ufffd\ue000-\uf8ff]$/.test(it));
+  const table = new Map([...single, ...katakana, ...double]);
+  for (const both of ALSO) {
+    const bytes = table.get(both[0]) ?? table.get(both[1]);
+    for (const character of both) table.set(character, bytes);
+  }
+  return table;
+}
+
+const tables = new Map(); // those that were needed before
+
+function tableOf(number) {
+  codecOf(number);
+  if (PAIRS.includes(number)) throw new EciError(`the package reads the characters of ECI ${number} and does not write them`);
+  if (!tables.has(number)) tables.set(number, number === SHIFT_JIS ? shiftJisBytes() : singleBytes(number));
+  return tables.get(number);
+}
+
+/** Returns the bytes of a string in the character set of an ECI; throws EciError for the first character that the set has not. */
+export function encodedText(text, number) {
+  if (number === UTF_8) return new TextEncoder().encode(text);
+  if (number === UTF_16) return Uint8Array.from(Array.from({ length: text.length }, (_, k) => [text.charCodeAt(k) >> 8, text.charCodeAt(k) & 255]).flat());
+  const table = tableOf(number);
+  return Uint8Array.from([...text].flatMap((character, k) => {
+    if (table.has(character)) return table.get(character);
+    const [code, set] = [character.codePointAt(0), number === SHIFT_JIS ? 'Shift JIS' : `the characters of ECI ${number}`];
+    throw new EciError(`'${character}' (U+${code.toString(16).toUpperCase().padStart(4, '0')}), character ${k + 1} of the text, is not in ${set}`);
+  }));
 }

@@ -8,8 +8,8 @@ export type Level = 'L' | 'M' | 'Q' | 'H';
 
 /**
  * Which modes the segments of an input may have. 'auto': numeric, alphanumeric and byte mode, mixed so that the number of bits is
- * least. 'bytes_only': the whole input in byte mode. 'with_kanji': the modes of 'auto', and kanji mode for pairs of bytes that are
- * Shift JIS characters. A string has none, since it is encoded as UTF-8: pass its Shift JIS as a Uint8Array.
+ * least. 'bytes_only': the whole input in byte mode. 'with_kanji': the modes of 'auto', and kanji mode for the characters of JIS X 0208:
+ * a string is encoded as Shift JIS, and of bytes each pair that is such a character in Shift JIS may have it.
  */
 export type Rule = 'auto' | 'bytes_only' | 'with_kanji';
 
@@ -19,11 +19,15 @@ export type Rule = 'auto' | 'bytes_only' | 'with_kanji';
  */
 export type Drawing = 'ASCII' | 'ASCIIi' | 'UTF8' | 'SVG';
 
-/** A string is encoded as UTF-8. */
-export type Input = string | Uint8Array;
+/**
+ * A text or bytes; or in place of them GS1 data, as a text like '(01)04012345678901(10)AB' or '[01]04012345678901[10]AB', or as bytes in
+ * which the byte 1D separates fields, which are not looked at. A string is encoded in the character set of its ECI, and else as UTF-8;
+ * under the rule 'with_kanji' as Shift JIS.
+ */
+export type Input = string | Uint8Array | { gs1: string | Uint8Array };
 
 export interface Options {
-  /** 'L' unless given; small letters are taken too. */
+  /** The least level of a symbol, and the level of a series. 'L' unless given; small letters are taken too. */
   level?: Level | Lowercase<Level>;
   /**
    * The smallest allowed version, from 1 to 40; 1 unless given. In a series the version of all symbols, which has to be given.
@@ -31,6 +35,12 @@ export interface Options {
   version?: number;
   /** 'auto' unless given. */
   rule?: Rule;
+  /**
+   * The number of an ECI header, which says what the bytes mean as characters, from 0 to 999999; or false for none. Unless it is given,
+   * a string with a character that is not ASCII has 26, for UTF-8, unless the rule is 'with_kanji', and bytes have none. GS1 data have
+   * none, and kanji mode is for ECI 20 or none.
+   */
+  eci?: number | false;
 }
 
 /**
@@ -46,6 +56,7 @@ export class QRSymbol {
   readonly side: number;
   /** From 0 to 7; null in a series. */
   readonly mask: number | null;
+  /** May be higher than the level that was asked for. */
   readonly level: Level;
   /** side * side bytes, row by row from the top left, without a margin: 1 is dark, 0 is light. */
   readonly modules: Uint8Array;
@@ -141,14 +152,16 @@ export class Mended {
 }
 
 /**
- * Returns the symbol of an input, of the least version from `version` on that it fits. Throws EmptyError if the input has no byte,
- * TooLongError if it fits none of these versions, and SettingsError if a value is out of its range.
+ * Returns the symbol of an input, of the least version from `version` on that it fits. It has the highest level from `level` on that fits
+ * this version; with `boost: false` it has `level`. Throws EmptyError if the input has no byte, TooLongError if it fits none of these
+ * versions, and SettingsError if a value is out of its range. Throws EciError for a character that the character set does not have, and
+ * for a string in a set that is not known; Gs1Error for a string that is no GS1 data, and FieldsError for such bytes.
  */
-export function encode(input: Input, options?: Options): QRSymbol;
+export function encode(input: Input, options?: Options & { boost?: boolean }): QRSymbol;
 
 /**
- * Returns the symbols of a series (structured append), all of one version: from 1 to 16. An input that fits one symbol is one
- * plain symbol. Throws as encode does, but TooManyError in place of TooLongError, if the input takes more than 16 symbols.
+ * Returns the symbols of a series (structured append), all of one version and level: from 1 to 16. An input that fits one symbol is one
+ * plain symbol. Each symbol has the ECI header, or says that its data are GS1 data. Throws as encode does, but TooManyError in place of TooLongError, if the input takes more than 16 symbols.
  */
 export function encodeSeries(input: Input, options: Options & { version: number }): QRSymbol[];
 
@@ -232,7 +245,10 @@ export class FormatError extends QRError {}
 export class PictureError extends Error {
   protected constructor();
 }
-/** The bytes of an ECI are not read as characters. It is no refusal of the library. */
+/**
+ * The bytes of an ECI are not read as characters, or a string has a character that its character set does not have. It is no refusal of the
+ * library.
+ */
 export class EciError extends Error {
   protected constructor();
 }
@@ -243,3 +259,5 @@ export class Gs1Error extends Error {
 export class CheckError extends QRError {}
 export class SegmentsError extends QRError {}
 export class NoDrawingError extends QRError {}
+/** The bytes are no GS1 data: the byte 1D comes directly before another or before %. */
+export class FieldsError extends QRError {}

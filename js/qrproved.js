@@ -2,17 +2,17 @@
  * QR Code symbols (ISO/IEC 18004:2015, QR Code Model 2) by the library libqrproved as WebAssembly, whose calls are proved to meet
  * their contracts. README.md shows the calls; qrproved.d.ts describes each.
  */
-import { drawn, encoded, encodedSeries, mendedOf, parsedOf, readOf } from './calls.js';
+import { DEFAULT, GS1, drawn, encoded, encodedSeries, mendedOf, parsedOf, readOf } from './calls.js';
 import { Gs1Error, NoDrawingError, SettingsError, SideError } from './errors.js';
-import { fieldsOf } from './gs1.js';
-import { decodedText } from './interpretation.js';
+import { dataOf, fieldsOf } from './gs1.js';
+import { SHIFT_JIS, UTF_8, decodedText, encodedText } from './interpretation.js';
 import { undone } from './pasted.js';
 import { squaresIn } from './pictures.js';
 import { imageOf } from './png.js';
 
 export { load } from './calls.js';
 export {
-  CheckError, EciError, EmptyError, FormatError, Gs1Error, NoDrawingError, OutOfMemoryError, PictureError, QRError, RoomError, SegmentsError,
+  CheckError, EciError, EmptyError, FieldsError, FormatError, Gs1Error, NoDrawingError, OutOfMemoryError, PictureError, QRError, RoomError, SegmentsError,
   SettingsError, SideError, TooLongError, TooManyError,
 } from './errors.js';
 
@@ -23,6 +23,7 @@ const SIDE_MAX = 177;
 const COUNT_MAX = 16;
 const SCALE_MAX = 100;
 const SIZE_MAX = 100000; // of mm and dpi
+const ECI_MAX = 999999;
 const MM_OF_INCH = 25.4;
 const MODULE_MIN = 0.25; // mm
 
@@ -73,15 +74,32 @@ function named(name, value, list) {
   return place;
 }
 
-/** Returns the bytes of an input: a string as UTF-8. */
-function bytesOf(input) {
+/** Returns a string or bytes. */
+function checked(input) {
   if (input instanceof Uint8Array) return input;
-  if (typeof input !== 'string') throw new TypeError('the input is a string or a Uint8Array');
+  if (typeof input !== 'string') throw new TypeError('the input is a string, a Uint8Array, or { gs1: … } with one of these');
   if (/\p{Surrogate}/u.test(input)) throw new TypeError('the string has half a surrogate pair, which is no character');
-  return new TextEncoder().encode(input);
+  return input;
 }
 
-const SETTINGS = { level: 'L', version: 1, rule: 'auto' };
+/** Returns the bytes of an input, and their interpretation. */
+function inputOf(input, eci, rule) {
+  const isKanji = RULES[rule] === 'with_kanji', number = eci === undefined || eci === false ? null : whole('eci', eci, 0, ECI_MAX);
+  if (input !== null && typeof input === 'object' && Object.hasOwn(input, 'gs1')) {
+    if (number !== null) throw new TypeError('GS1 data have no ECI header');
+    const data = checked(input.gs1);
+    return { data: typeof data === 'string' ? dataOf(data) : data, interpretation: GS1 };
+  }
+  if (isKanji && number !== null && number !== SHIFT_JIS) {
+    throw new SettingsError(`kanji mode is for Shift JIS: beside the rule 'with_kanji' eci is ${SHIFT_JIS} or false, and not ${number}`);
+  }
+  const data = checked(input);
+  if (typeof data !== 'string') return { data, interpretation: number ?? DEFAULT };
+  const isMarked = eci === undefined && !isKanji && /[^\0-\x7f]/.test(data);
+  return { data: encodedText(data, number ?? (isKanji ? SHIFT_JIS : UTF_8)), interpretation: number ?? (isMarked ? UTF_8 : DEFAULT) };
+}
+
+const SETTINGS = { level: 'L', version: 1, rule: 'auto', eci: undefined };
 
 function settings({ level, version, rule }) {
   return [whole('version', version, 1, 40), named('level', level, LEVELS), named('rule', rule, RULES)];
@@ -170,15 +188,17 @@ export class Mended {
 }
 
 export function encode(input, options = {}) {
-  const asked = chosen(options, SETTINGS), [version, level, rule] = settings(asked);
-  return new QRSymbol({ ...encoded(bytesOf(input), version, level, rule), level: LEVELS[level] });
+  const asked = chosen(options, { ...SETTINGS, boost: true }), [version, level, rule] = settings(asked);
+  if (typeof asked.boost !== 'boolean') throw new TypeError(`boost is true or false, and not of type ${typeof asked.boost}`);
+  const { level: used, ...symbol } = encoded(inputOf(input, asked.eci, rule), version, level, rule, asked.boost);
+  return new QRSymbol({ ...symbol, level: LEVELS[used] });
 }
 
 export function encodeSeries(input, options = {}) {
   const asked = chosen(options, { ...SETTINGS, version: undefined });
   if (asked.version === undefined) throw new TypeError('a series needs the version of its symbols, as in { version: 5 }');
   const [version, level, rule] = settings(asked);
-  const { side, squares } = encodedSeries(bytesOf(input), version, level, rule);
+  const { side, squares } = encodedSeries(inputOf(input, asked.eci, rule), version, level, rule);
   return squares.map((modules) => new QRSymbol({ version, side, mask: null, level: LEVELS[level], modules }));
 }
 

@@ -1,7 +1,7 @@
 /** The page: draws each symbol as its text is typed, a sheet of labels, and what a drawing contains. */
 import {
   CheckError, EciError, FormatError, Gs1Error, NoDrawingError, PictureError, QRError, SideError, TooLongError, TooManyError, draw, encode,
-  encodeSeries, mend, parseDrawing, parsePicture,
+  encodeSeries, mend, parseDrawing, parsePicture, read,
 } from '../out/npm/package/qrproved.js';
 import { squaresInText } from './drawings.js';
 import { zipOf } from './zip.js';
@@ -41,22 +41,32 @@ function numberIn(id) {
 
 let symbols = []; // those that are shown
 
-function lengthOf(text) {
-  const { length } = new TextEncoder().encode(text);
+/** Returns an input of a kind, and its rule, as encode takes them. */
+function askedOf(text, kind) {
+  return [kind === 'gs1' ? { gs1: text } : text, { rule: kind === 'kanji' ? 'with_kanji' : 'auto' }];
+}
+
+/** Returns whether an error says why a text has no symbol. */
+function isRefusal(error) {
+  return [QRError, TypeError, EciError, Gs1Error].some((kind) => error instanceof kind);
+}
+
+function lengthOf(length) {
   return `${length.toLocaleString('en')} ${length === 1 ? 'byte' : 'bytes'}`;
 }
 
 function sentenceOf(error, text) {
-  const has = `The text has ${lengthOf(text)} and`, choice = on('level').value === 'L' ? 'a series' : 'a lower level, or a series';
+  const isText = on('kind').value === 'text', choice = on('level').value === 'L' ? 'a series' : 'a lower level, or a series';
+  const has = isText ? `The text has ${lengthOf(new TextEncoder().encode(text).length)} and` : 'The input';
   if (error instanceof TooLongError) return `${has} does not fit one symbol at this level. Choose ${choice}.`;
   if (error instanceof TooManyError) return `${has} takes more than 16 symbols of this version. Choose a larger one.`;
   return `No symbol: ${error.message}.`;
 }
 
-function factsOf(text, margin) {
-  const [{ version, side, mask, level }] = symbols;
+function factsOf(margin) {
+  const [{ version, side, mask, level }] = symbols, length = symbols.reduce((sum, it) => sum + read(it).data.length, 0);
   const what = symbols.length > 1 ? `${symbols.length} symbols of version ${version}-${level}` : `Version ${version}-${level}`;
-  const facts = [what, `${side} × ${side} modules`, ...(mask === null ? [] : [`mask ${mask}`]), lengthOf(text)];
+  const facts = [what, `${side} × ${side} modules`, ...(mask === null ? [] : [`mask ${mask}`]), lengthOf(length)];
   const ofMargin = margin < 4 ? ['Scanners need a margin of 4 modules.'] : [];
   const warnings = on('warn').checked ? [...ofMargin, ...smallOf(numberIn('mm') / (side + 2 * margin))] : [];
   return [`${facts.join(', ')}.`, ...warnings].join(' ');
@@ -68,23 +78,34 @@ function smallOf(module) {
   return isSmall ? [`A module is ${module.toFixed(2)} mm wide: under ${MODULE_LEAST} mm few scanners read it.`] : [];
 }
 
+/** Returns what readers are told of the characters of a text; empty for ASCII and for GS1 data. */
+function ofCharacters(text, kind) {
+  if (kind === 'gs1' || /^[\0-\x7f]*$/.test(text)) return '';
+  return kind === 'text' ? 'The symbol says by an ECI header that the text is UTF-8. Old scanners may show other letters: try yours.'
+    : 'The text is in Shift JIS, and the symbol does not say so: scanners that do not expect it may show other letters.';
+}
+
 /** Draws the symbol of the text that is in the field now. */
 function show() {
   const text = on('text').value, level = on('level').value, version = Number(on('version').value), margin = numberIn('margin');
+  const [input, rule] = askedOf(text, on('kind').value);
   symbols = [];
   try {
     if (text === '') say(on('facts'), 'Type a text.');
     else if (margin === null) say(on('facts'), 'The margin is a number from 0 to 100.', 'fault');
     else if (!on('mm').validity.valid) say(on('facts'), 'The width is a number from 1 to 1000.', 'fault');
     else {
-      symbols = on('series').checked ? encodeSeries(text, { version, level }) : [encode(text, { version, level })];
-      say(on('facts'), factsOf(text, margin));
+      const boost = on('boost').checked;
+      symbols = on('series').checked ? encodeSeries(input, { version, level, ...rule }) : [encode(input, { version, level, boost, ...rule })];
+      say(on('facts'), factsOf(margin));
     }
   } catch (error) {
-    if (!(error instanceof QRError || error instanceof TypeError)) throw error;
+    if (!isRefusal(error)) throw error;
     say(on('facts'), sentenceOf(error, text), 'fault');
   }
-  on('letters').hidden = /^[\0-\x7f]*$/.test(text);
+  on('letters').textContent = ofCharacters(text, on('kind').value);
+  on('letters').hidden = on('letters').textContent === '';
+  on('boost').disabled = on('series').checked;
   on('version-name').textContent = on('series').checked ? 'Version of each' : 'Version, at least';
   const caption = (k) => (symbols.length > 1 ? `${k + 1} of ${symbols.length}` : '');
   on('drawing').replaceChildren(...symbols.map((it, k) => figureOf(it.svg({ margin, quiet: true }), text, caption(k))));
@@ -148,10 +169,17 @@ function partsOf(line) {
   return [text, caption.length ? caption.join(' ') : text];
 }
 
+/** Returns the symbol of a line's text, as the fields of the sheet ask for it. */
+function symbolOf(text) {
+  const [input, rule] = askedOf(text, on('sheet-kind').value);
+  return encode(input, { level: on('sheet-level').value, boost: on('sheet-boost').checked, ...rule });
+}
+
 /** Returns the figure of a line: one that was shown before, if there is one. */
-function labelOf(line, level, before) {
-  const key = `${level} ${line}`, [text, caption] = partsOf(line);
-  const figure = before.get(key)?.pop() ?? figureOf(encode(text, { level }).svg(), text, caption);
+function labelOf(line, before) {
+  const settings = ['sheet-level', 'sheet-kind'].map((id) => on(id).value), [text, caption] = partsOf(line);
+  const key = [...settings, on('sheet-boost').checked, line].join(' ');
+  const figure = before.get(key)?.pop() ?? figureOf(symbolOf(text).svg(), text, caption);
   if (!labels.has(key)) labels.set(key, []);
   labels.get(key).push(figure);
   return figure;
@@ -182,29 +210,36 @@ function smallestOf(figures, width) {
 
 /** Saves the images of all lines that fit a symbol, each named by its line. */
 function saveAll() {
-  const scale = numberIn('scale') ?? 8, level = on('sheet-level').value, width = numberIn('width') ?? undefined;
+  const scale = numberIn('scale') ?? 8, width = numberIn('width') ?? undefined;
   const files = on('lines').value.split('\n').flatMap((line, k) => {
     try {
       const [text] = partsOf(line), name = `${String(k + 1).padStart(5, '0')}.png`;
-      return text.trim() === '' ? [] : [{ name, content: encode(text, { level }).png({ scale, mm: width, quiet: true }) }];
+      return text.trim() === '' ? [] : [{ name, content: symbolOf(text).png({ scale, mm: width, quiet: true }) }];
     } catch (error) {
-      if (!(error instanceof QRError || error instanceof TypeError)) throw error;
+      if (!isRefusal(error)) throw error;
       return []; // showSheet has said so
     }
   });
   save('labels.zip', 'application/zip', ...zipOf(files));
 }
 
+/** Returns why lines have no symbol, in sentences. */
+function faultsOf(refused) {
+  const long = refused.filter(({ error }) => error instanceof TooLongError).map(({ line }) => line);
+  const others = refused.filter(({ line }) => !long.includes(line)).map(({ line, error }) => `Line ${line}: ${error.message}.`);
+  return [...(long.length ? [`Too long at this level: line ${long.join(', ')}.`] : []), ...others];
+}
+
 function showSheet() {
-  const width = numberIn('width'), level = on('sheet-level').value, refused = [], before = labels;
+  const width = numberIn('width'), refused = [], before = labels;
   labels = new Map();
   const figures = on('lines').value.split('\n').flatMap((line, k) => {
     if (partsOf(line)[0].trim() === '') return [];
     try {
-      return [labelOf(line, level, before)];
+      return [labelOf(line, before)];
     } catch (error) {
-      if (!(error instanceof QRError || error instanceof TypeError)) throw error;
-      refused.push(k + 1);
+      if (!isRefusal(error)) throw error;
+      refused.push({ line: k + 1, error });
       return [];
     }
   });
@@ -218,7 +253,7 @@ function showSheet() {
   const count = [`${figures.length} ${figures.length === 1 ? 'label' : 'labels'}.`, ...warnings].join(' ');
   if (width === null) say(on('sheet-facts'), 'A symbol is from 10 to 180 mm wide.', 'wide fault');
   else if (papers === null) say(on('sheet-facts'), 'A size of the label paper is out of range.', 'wide fault');
-  else if (refused.length) say(on('sheet-facts'), `${count} Too long at this level: line ${refused.join(', ')}.`, 'wide fault');
+  else if (refused.length) say(on('sheet-facts'), [count, ...faultsOf(refused)].join(' '), 'wide fault');
   else say(on('sheet-facts'), count, 'wide');
 }
 
@@ -401,7 +436,7 @@ function picture({ side, modules }) {
 
 /** Pastes the drawing of a label on which a spot is smudged and a corner is wrong. */
 function pasteSample() {
-  const lines = encode('Shelf 12, crate 7', { level: 'M' }).text({ type: 'ASCII' }).split('\n');
+  const lines = encode('Shelf 12, crate 7', { level: 'M', boost: false }).text({ type: 'ASCII' }).split('\n');
   const smudged = lines.map((line, row) => (row > 17 && row < 21 ? `${line.slice(0, 36)}??????${line.slice(42)}` : line));
   smudged[24] = `${smudged[24].slice(0, -10)}${smudged[24].slice(-10, -8) === '##' ? '  ' : '##'}        `;
   on('pasted').value = smudged.join('\n');
@@ -438,8 +473,8 @@ for (let version = 1; version <= 40; version++) {
 // The address may have the text, as in index.html#text=Shelf%2012, which no server is told.
 const given = new URLSearchParams(location.hash.slice(1)).get('text') ?? new URLSearchParams(location.search).get('text');
 if (given !== null) on('text').value = given;
-for (const id of ['text', 'level', 'version', 'margin', 'mm', 'series', 'warn']) on(id).addEventListener('input', show);
-for (const id of ['lines', 'sheet-level', 'width', 'sheet-warn', 'paper', ...SIZES]) on(id).addEventListener('input', showSheet);
+for (const id of ['text', 'kind', 'level', 'version', 'margin', 'mm', 'boost', 'series', 'warn']) on(id).addEventListener('input', show);
+for (const id of ['lines', 'sheet-kind', 'sheet-level', 'width', 'sheet-boost', 'sheet-warn', 'paper', ...SIZES]) on(id).addEventListener('input', showSheet);
 for (const form of document.forms) form.addEventListener('submit', (event) => event.preventDefault());
 on('pasted').addEventListener('input', showFound);
 on('paste-sample').addEventListener('click', pasteSample);

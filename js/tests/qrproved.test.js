@@ -53,7 +53,7 @@ const refused = (name, status, code) => (error) => [errors[name], errors.QRError
   && error.name === name && error.status === status && error.code === code && error.message !== '';
 
 test('eight digits at 1-M', () => {
-  const symbol = encode('01234567', { level: 'M' });
+  const symbol = encode('01234567', { level: 'M', boost: false });
   assert.deepEqual([symbol.version, symbol.side, symbol.level, symbol.modules.length], [1, 21, 'M', 441]);
   assert.equal(read(symbol).text(), '01234567');
   assert.equal(read(EIGHT_DIGITS).text(), '01234567');
@@ -65,7 +65,7 @@ test('eight digits at 1-M', () => {
 });
 
 test('defaults are those of the command', () => {
-  const symbol = encode('A');
+  const symbol = encode('A', { boost: false });
   assert.deepEqual([symbol.level, symbol.version], ['L', 1]);
   assert.equal(symbol.svg(), symbol.svg({ margin: 4 }));
   assert.match(symbol.svg(), /^<\?xml version="1\.0" encoding="UTF-8"\?>\n<svg [^>]*viewBox="0 0 29 29"/);
@@ -77,7 +77,7 @@ test('defaults are those of the command', () => {
 test('inputs: strings as UTF-8, bytes as they are', () => {
   const text = 'Zażółć ✓ 🙂';
   assert.equal(read(encode(text)).text(), text);
-  assert.deepEqual(encode(text).modules, encode(new TextEncoder().encode(text)).modules);
+  assert.deepEqual(encode(text, { eci: false }).modules, encode(new TextEncoder().encode(text)).modules);
   assert.deepEqual(read(encode(bytes(256))).data, bytes(256));
   assert.deepEqual(read(encode(Buffer.from('buffer'))).text(), 'buffer');
   assert.throws(() => read(encode(Uint8Array.of(255))).text(), TypeError);
@@ -88,20 +88,22 @@ test('inputs: strings as UTF-8, bytes as they are', () => {
 
 test('settings', () => {
   assert.equal(encode('a', { version: 7, level: 'h' }).version, 7);
-  assert.equal(encode('a', { version: undefined, level: undefined }).level, 'L');
+  assert.equal(encode('a', { version: undefined, level: undefined, boost: false }).level, 'L');
   assert.ok(encode('1'.repeat(100)).version < encode('1'.repeat(100), { rule: 'bytes_only' }).version);
   const kanji = Uint8Array.from({ length: 60 }, (_, k) => (k % 2 ? 0x5F : 0x93));
   assert.ok(encode(kanji, { rule: 'with_kanji' }).version < encode(kanji).version);
-  for (const wrong of [{ version: 0 }, { version: 41 }, { version: 1.5 }, { version: NaN }, { level: 'X' }, { rule: 'numeric' }]) {
+  for (const wrong of [{ version: 0 }, { version: 41 }, { version: 1.5 }, { version: NaN }, { level: 'X' }, { rule: 'numeric' }, { eci: -1 },
+    { eci: 1000000 }, { eci: 1000001 }, { eci: 26, rule: 'with_kanji' }]) {
     assert.throws(() => encode('a', wrong), refused('SettingsError', 5, 'SETTINGS'), JSON.stringify(wrong));
   }
-  for (const wrong of [{ errorCorrectionLevel: 'H' }, { version: '7' }, { level: 1 }, { rule: null }, null, 'H', 7]) {
+  for (const wrong of [{ errorCorrectionLevel: 'H' }, { version: '7' }, { level: 1 }, { rule: null }, { eci: true }, { eci: '26' }, { eci: null },
+    { boost: 1 }, { boost: null }, null, 'H', 7]) {
     assert.throws(() => encode('a', wrong), TypeError, JSON.stringify(wrong));
   }
 });
 
 test('JSON', () => {
-  const symbol = encode('01234567', { level: 'M' });
+  const symbol = encode('01234567', { level: 'M', boost: false });
   const rows = Array.from({ length: 21 }, (_, row) => symbol.modules.slice(21 * row, 21 * row + 21).join(''));
   assert.deepEqual(JSON.parse(JSON.stringify(symbol)), { version: 1, side: 21, mask: symbol.mask, level: 'M', rows });
   assert.equal(rows[0].slice(0, 7) + rows[20].slice(0, 7), '1'.repeat(14));
@@ -137,6 +139,9 @@ test('a refusal says how many bytes there were, and how many fit', () => {
     [{ level: 'M', rule: 'bytes_only' }, 'M holds 2,331 bytes'],
     [{ level: 'Q', rule: 'with_kanji' }, 'Q holds 1,663 bytes, 2,420 alphanumeric characters, 3,993 digits or 1,024 kanji'],
     [{ level: 'H', version: 7 }, 'H holds 1,273 bytes, 1,852 alphanumeric characters or 3,057 digits'],
+    // 23,648 bits, of which 12 and 28 are the header, and 20 the mode and the count of bytes
+    [{ eci: 26, rule: 'bytes_only' }, 'L holds 2,952 bytes'],
+    [{ eci: 3, rule: 'bytes_only' }, 'L holds 2,952 bytes'],
   ];
   for (const [options, text] of wanted) assert.throws(() => encode('x'.repeat(3000), options), { message: bytes3000 + text });
   assert.throws(() => encodeSeries('x'.repeat(1000), { version: 1, level: 'H' }),
@@ -170,7 +175,7 @@ test('series', () => {
 });
 
 test('mending', () => {
-  const symbol = encode('Shelf 12', { level: 'M' }), sound = mend(symbol), corner = 20 * 21 + 20;
+  const symbol = encode('Shelf 12', { level: 'M', boost: false }), sound = mend(symbol), corner = 20 * 21 + 20;
   assert.deepEqual([sound.content.text(), sound.level, sound.mask, sound.content.version], ['Shelf 12', 'M', symbol.mask, 1]);
   assert.deepEqual([sound.isSound, sound.spent], [true, 0]);
   const one = mend(inverted(symbol, corner));
@@ -532,6 +537,129 @@ test('wrong fields are named', () => {
   ];
   for (const [data, why] of cases) assert.throws(() => gs1(data).fields(), named('Gs1Error', why), data);
   assert.throws(() => read(encode('3712')).fields(), named('Gs1Error', /does not say/));
+});
+
+/** Returns the bytes of a symbol, the numbers of its ECI headers, and whether it says that it is GS1 data. */
+const said = (symbol) => {
+  const { data, ecis, gs1: isGs1 } = read(symbol);
+  return [[...data], ecis, isGs1];
+};
+const utf8 = (text) => [...new TextEncoder().encode(text)];
+
+test('a string that is not ASCII says that it is UTF-8', () => {
+  for (const text of ['Grüße aus Köln', '€', 'テ🙂', 'a\x80']) {
+    assert.deepEqual(said(encode(text)), [utf8(text), [{ begin: 0, number: 26 }], false]);
+    assert.equal(read(encode(text)).text(), text);
+    assert.deepEqual(said(encode(text, { eci: false })), [utf8(text), [], false]);
+    assert.deepEqual(said(encode(Uint8Array.from(utf8(text)))), [utf8(text), [], false]);
+    assert.deepEqual(said(encode(Uint8Array.from(utf8(text)), { eci: 26 })), [utf8(text), [{ begin: 0, number: 26 }], false]);
+  }
+  assert.deepEqual(said(encode('Shelf 12\x7f')), [utf8('Shelf 12\x7f'), [], false]);
+  assert.deepEqual(said(encode('Shelf 12', { eci: 26 })), [utf8('Shelf 12'), [{ begin: 0, number: 26 }], false]);
+  const text = 'Grüße aus Köln, '.repeat(12), symbols = encodeSeries(text, { version: 3 });
+  assert.ok(symbols.length > 2);
+  for (const symbol of symbols) assert.deepEqual(read(symbol).ecis, [{ begin: 0, number: 26 }]);
+  assert.deepEqual(symbols.flatMap((it) => [...read(it).data]), utf8(text));
+  for (const symbol of encodeSeries(text, { version: 3, eci: false })) assert.deepEqual(read(symbol).ecis, []);
+});
+
+test('a string is encoded in the set of its ECI', () => {
+  const cases = [[0, [0x81, 0x84, 0xe1], 'üäß'], [3, [0xdc, 0x6e], 'Ün'], [4, [0xb3, 0xf3, 0x64, 0xbc], 'łódź'], [7, [0xbc, 0xd8, 0xe0], 'Мир'],
+    [11, [0xdd, 0xfd, 0xf0], 'İığ'], [13, [0xa1, 0xd2], 'กา'], [17, [0xa4], '€'], [18, [0xde, 0xfe], 'Țț'],
+    [20, [0x93, 0x5f, 0x83, 0x65, 0xb1], '点テｱ'], [22, [0xcf, 0xf0], 'Пр'], [23, [0x80], '€'], [25, [0x70, 0xb9, 0, 0x41], '点A'],
+    [27, [0x41, 0x7e], 'A~']];
+  for (const [number, data, text] of cases) {
+    assert.deepEqual(said(encode(text, { eci: number })), [data, [{ begin: 0, number }], false], `${number}`);
+    assert.equal(read(encode(text, { eci: number })).text(), text, `${number}`);
+  }
+  for (const number of [127, 128, 899, 16383, 16384, 999999]) {
+    assert.deepEqual(said(encode(Uint8Array.of(65, 255), { eci: number })), [[65, 255], [{ begin: 0, number }], false]);
+    assert.throws(() => encode('A', { eci: number }), named('EciError', new RegExp(`ECI ${number} `)));
+  }
+  assert.throws(() => encode('中', { eci: 29 }), named('EciError', /ECI 29 and does not write them$/));
+  assert.throws(() => encode('12.5€', { eci: 3 }), named('EciError', /^'€' \(U\+20AC\), character 5 of the text, is not in the characters of ECI 3$/));
+});
+
+test('kanji', () => {
+  const cases = [['点茗', [0x93, 0x5f, 0xe4, 0xaa]], ['A点ｱ1', [0x41, 0x93, 0x5f, 0xb1, 0x31]], ['Shelf 12', utf8('Shelf 12')],
+    ['〜～−', [0x81, 0x60, 0x81, 0x60, 0x81, 0x7c]]];
+  for (const [text, data] of cases) {
+    assert.deepEqual(said(encode(text, { rule: 'with_kanji' })), [data, [], false]);
+    assert.deepEqual(said(encode(text, { rule: 'with_kanji', eci: false })), [data, [], false]);
+    assert.deepEqual(said(encode(text, { rule: 'with_kanji', eci: 20 })), [data, [{ begin: 0, number: 20 }], false]);
+  }
+  assert.deepEqual([10, 11].map((count) => encode('点'.repeat(count), { rule: 'with_kanji' }).version), [1, 2]); // Table 7
+  const wrong = [['点✓✓', /^'✓' \(U\+2713\), character 2 of the text, is not in Shift JIS$/], ['①', /Shift JIS$/], ['¥', /Shift JIS$/], ['Grüße', /character 3/]];
+  for (const [text, why] of wrong) assert.throws(() => encode(text, { rule: 'with_kanji' }), named('EciError', why));
+});
+
+test('each character of Shift JIS', () => {
+  // SHA-256 of the bytes that Python's codec 'shift_jis' has for the characters of JIS X 0208 in the order of Unicode, without the seven
+  // that systems have by two code points
+  const wanted = 'df7eccd481bff6acb6e07c10e9ef475ccb58a58485b2186890715c72d3ddae74', others = '〜～‖∥−－¢￠£￡¬￢―—', bytes = [];
+  let count = 0;
+  for (let code = 0x80; code < 0x10000; code++) {
+    const character = String.fromCharCode(code);
+    if ((code >= 0xd800 && code < 0xe000) || others.includes(character)) continue;
+    try {
+      bytes.push(...read(encode(character, { rule: 'with_kanji' })).data);
+      count += 1;
+    } catch (error) {
+      if (!(error instanceof errors.EciError)) throw error;
+    }
+  }
+  assert.equal(count, 63 + 6879 - 7);
+  assert.equal(createHash('sha256').update(Uint8Array.from(bytes)).digest('hex'), wanted);
+});
+
+test('GS1 data are written and read', () => {
+  const cases = [
+    [[['01', '04012345678901'], ['10', 'ABC123'], ['17', '261231']], '010401234567890110ABC123\x1d17261231'],
+    [[['00', '340123450000000000']], '00340123450000000000'], [[['3103', '001250'], ['20', '01']], '31030012502001'],
+    [[['3922', '199'], ['37', '12']], '3922199\x1d3712'], [[['410', '4012345000009'], ['21', 'a%_']], '410401234500000921a%_'],
+    [[['402', '12345678901234560'], ['10', 'A']], '40212345678901234560\x1d10A'], [[['10', 'A(12)B%'], ['21', '%%']], '10A(12)B%\x1d21%%'],
+  ];
+  for (const [fields, data] of cases) {
+    const text = fields.map(([name, value]) => `[${name}]${value}`).join(''), symbol = encode({ gs1: text });
+    assert.deepEqual(said(symbol), [utf8(data), [], true], text);
+    assert.deepEqual(read(symbol).fields(), fields, text);
+    if (!data.includes('(')) assert.deepEqual(encode({ gs1: text.replaceAll('[', '(').replaceAll(']', ')') }), symbol);
+    assert.deepEqual(encode({ gs1: Uint8Array.from(utf8(data)) }), symbol);
+  }
+  const symbols = encodeSeries({ gs1: `(90)${'Ab%'.repeat(10)}(91)${'Ab%'.repeat(30)}(92)${'Ab%'.repeat(30)}` }, { version: 3 });
+  assert.ok(symbols.length > 2 && symbols.every((it) => read(it).gs1));
+});
+
+test('GS1 data that are wrong', () => {
+  const wrong = [
+    ['(01)04012345678902', /^\(01\) its check digit is 2, and should be 1$/], ['[01]04012345678901[10]', /^\(10\) has 1 to 20 characters, and not 0$/],
+    ['(10)AB(17)261331', /^\(17\) 261331 is no date$/], ['(10)Grüße', /^\(10\) '\\xfc' is not a character of GS1's set 82$/],
+    ['(10)✓', /^\(10\) '\\u2713' is not/], ['(10)🙂', /^\(10\) '\\U0001f642' is not/], ['(10)A\x1dB', /^\(10\) '\\x1d' is not/],
+    ['(01)04012345678901(05)1', /^\(05\) is no application identifier that is known$/], ['(310)001250', /^\(310\) is no application identifier/],
+    ['(10)A(12)B', /^\(12\) has 6 characters, and not 1$/], ['0104012345678901', /^GS1 data begin with an .*, and not with '0104'$/], ['', /^GS1 data begin/],
+  ];
+  for (const [text, why] of wrong) assert.throws(() => encode({ gs1: text }), named('Gs1Error', why), text);
+  for (const data of ['A\x1d\x1dB', 'A\x1d%']) {
+    for (const call of [encode, encodeSeries]) {
+      assert.throws(() => call({ gs1: Uint8Array.from(utf8(data)) }, { version: 1 }), refused('FieldsError', 12, 'FIELDS'));
+    }
+  }
+  for (const other of [{ gs1: 1 }, { gs1: undefined }, { gs1: ['(20)01'] }, { others: '(20)01' }]) assert.throws(() => encode(other), TypeError);
+  assert.throws(() => encode({ gs1: '(20)01' }, { eci: 26 }), TypeError);
+});
+
+test('the highest level that fits the version', () => {
+  const fits = [17, 14, 11, 7]; // bytes, in version 1 (Table 7)
+  for (let count = 1; count <= 17; count++) {
+    const highest = 'LMQH'[fits.findLastIndex((most) => count <= most)];
+    for (const [k, level] of [...'LMQH'].entries()) {
+      const input = new Uint8Array(count).fill(97), symbol = encode(input, { level }), plain = encode(input, { level, boost: false });
+      assert.deepEqual([plain.level, symbol.version], [level, plain.version]);
+      if (count <= fits[k]) assert.deepEqual([symbol.level, mend(symbol).level], [highest, highest]);
+    }
+  }
+  assert.deepEqual(encodeSeries('A', { version: 40 }).map((it) => [it.level, mend(it).level]), [['L', 'L']]);
+  assert.throws(() => encodeSeries('A', { version: 40, boost: true }), TypeError);
 });
 
 test('an application indicator, and JSON', () => {

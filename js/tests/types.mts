@@ -1,8 +1,9 @@
 // What the declarations allow and refuse, for the TypeScript compiler.
-import { draw, encode, encodeSeries, load, mend, parseDrawing, parsePicture, read, QRSymbol, NoDrawingError, TooLongError, QRError, type Eci, type Header, type Level } from 'qrproved';
+import { draw, encode, encodeSeries, load, mend, parseDrawing, parsePicture, read, QRSymbol, NoDrawingError, TooLongError, FieldsError, QRError, type Eci, type Header, type Level } from 'qrproved';
 
 await load();
-const symbol: QRSymbol = encode('a', { level: 'q', rule: 'with_kanji' });
+const symbol: QRSymbol = encode('a', { level: 'q', rule: 'with_kanji', eci: 20, boost: false });
+const fieldsOfGs1: QRSymbol = encode({ gs1: '(20)01' }, { eci: false });
 const level: Level = symbol.level;
 const series: QRSymbol[] = encodeSeries(new Uint8Array(3), { version: 3 });
 const header: Header | null = read(series[0]).header;
@@ -13,15 +14,19 @@ const squares: Uint8Array[] = parsePicture({ data: new Uint8ClampedArray(4), wid
 const image: Uint8Array = symbol.png({ scale: 3 });
 const text: string = read(symbol).text() + mend(symbol.modules).content.text() + symbol.toJSON().rows[0] + draw(series, { type: 'SVG' }) + symbol.dataURL({ type: 'svg' });
 try {
-  console.log(level, header, ecis, fields, image, text, squares, shown);
+  console.log(level, header, fieldsOfGs1, ecis, fields, image, text, squares, shown);
 } catch (error) {
-  if (error instanceof TooLongError || error instanceof NoDrawingError) {
+  if (error instanceof TooLongError || error instanceof NoDrawingError || error instanceof FieldsError) {
     const refusal: QRError = error, status: number = error.status;
     console.log(refusal.code, status);
   }
 }
 // @ts-expect-error: a series needs its version
 encodeSeries('a', {});
+// @ts-expect-error: a series has the level that is asked for
+encodeSeries('a', { version: 1, boost: true });
+// @ts-expect-error: an ECI is a number, or false for none
+encode('a', { eci: true });
 // @ts-expect-error: there is no such option
 encode('a', { errorCorrectionLevel: 'L' });
 // @ts-expect-error: there is no such level

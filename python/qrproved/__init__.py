@@ -1,12 +1,13 @@
 """QR Code symbols (ISO/IEC 18004:2015, QR Code Model 2) by the library libqrproved.
 
-encode returns the symbol of a text or of bytes, encode_series the symbols of a series. A Symbol is drawn by its methods as PNG,
-as SVG or as text. read reads a symbol that is as it was drawn; mend reads a damaged one, and says how damaged it is.
+encode returns the symbol of a text, of bytes or of GS1 data, encode_series the symbols of a series. A Symbol is drawn by its methods
+as PNG, as SVG or as text. read reads a symbol that is as it was drawn; mend reads a damaged one, and says how damaged it is.
 parse_drawing finds the modules of a drawing, parse_picture those of a PNG picture or of any SVG document. Modules are bytes, row by
 row from the top left, without the quiet zone of four light modules that a drawing needs on each side.
 
-Each refusal is an exception of the class Error, also where a number is out of range or a name is not known. A number that is no
-integer, as a bool or a float, is a TypeError. Calls may run side by side in any number of threads.
+Each refusal is an exception of the class Error, also where a number is out of range or a name is not known; but a text that its
+character set does not have is an EciError, and one that is no GS1 data a Gs1Error. A number that is no integer, as a bool or a
+float, is a TypeError. Calls may run side by side in any number of threads.
 """
 from __future__ import annotations
 
@@ -22,11 +23,11 @@ from typing import TYPE_CHECKING, BinaryIO, List, NamedTuple, NoReturn, Optional
 
 from . import _library, _png
 from ._drawings import found_by_look, undone
-from ._gs1 import Gs1Error, fields_of
-from ._interpretation import Eci, EciError, text_of
+from ._gs1 import Gs1Error, data_of, fields_of
+from ._interpretation import SHIFT_JIS, UTF_8, Eci, EciError, encoded, text_of
 from ._pictures import parse_picture
-from ._errors import (CheckError, EmptyError, Error, FormatError, NoDrawingError, OutOfMemoryError, RoomError, SegmentsError,
-                      SettingsError, SideError, TooLongError, TooManyError, raise_for, too_long)
+from ._errors import (CheckError, EmptyError, Error, FieldsError, FormatError, NoDrawingError, OutOfMemoryError, RoomError,
+                      SegmentsError, SettingsError, SideError, TooLongError, TooManyError, raise_for, too_long)
 from ._library import BYTES_MAX, COUNT_MAX, ECIS_MAX, MARGIN_MAX, SERIES_MAX, SIDE_MAX, SYMBOL_MAX
 
 if TYPE_CHECKING:
@@ -36,9 +37,9 @@ if TYPE_CHECKING:
     Input = Union[str, bytes, bytearray, memoryview]
     Name = Union[int, str]
 
-__all__ = ["BYTES_MAX", "COUNT_MAX", "MARGIN_MAX", "SCALE_MAX", "SERIES_MAX", "SIDE_MAX", "SYMBOL_MAX", "CheckError", "Content",
-           "Drawing", "Drawn", "Eci", "EciError", "EmptyError", "Error", "FormatError", "Gs1Error", "Header", "Level", "Mended",
-           "NoDrawingError", "OutOfMemoryError", "PrintWarning", "RoomError", "Rule", "SegmentsError", "SettingsError",
+__all__ = ["BYTES_MAX", "COUNT_MAX", "ECI_MAX", "MARGIN_MAX", "SCALE_MAX", "SERIES_MAX", "SIDE_MAX", "SYMBOL_MAX", "CheckError", "Content",
+           "Drawing", "Drawn", "Eci", "EciError", "EmptyError", "Error", "FieldsError", "FormatError", "Gs1Error", "Header", "Level",
+           "Mended", "NoDrawingError", "OutOfMemoryError", "PrintWarning", "RoomError", "Rule", "SegmentsError", "SettingsError",
            "SideError", "Symbol", "TooLongError", "TooManyError", "draw", "encode", "encode_series", "mend", "parse_drawing",
            "parse_picture", "read"]
 
@@ -47,6 +48,7 @@ _calls = _library.load()
 FNC1_FIRST, FNC1_SECOND = 1, 2
 SCALE_MAX = 100
 SIZE_MAX = 100_000  # of mm and dpi
+ECI_MAX = 999_999
 MM_OF_INCH = 25.4
 MARGIN_WANTED, MODULE_MIN = 4, 0.25  # modules, and millimetres
 
@@ -73,7 +75,8 @@ class Rule(IntEnum):
     BYTES_ONLY = 1
     """The whole input in byte mode."""
     WITH_KANJI = 2
-    """Also kanji mode, for pairs of bytes that are Shift JIS characters."""
+    """Also kanji mode, for the characters of JIS X 0208: a text is encoded as Shift JIS, and of bytes each pair that is such a
+    character in Shift JIS may have it."""
 
 
 class Drawing(IntEnum):
@@ -103,7 +106,7 @@ class Symbol:
     modules: bytes
     """side * side bytes, row by row: 1 is dark, 0 is light."""
     level: Optional[Level] = None
-    """The level that it was encoded at; None if that was not said."""
+    """The level that it has, which may be higher than the one that was asked for; None if that was not said."""
 
     def __getitem__(self, place: tuple[int, int]) -> bool:
         row, column = place
@@ -327,6 +330,12 @@ def _setting(name: str, value: int, least: int, most: int) -> int:
     return number
 
 
+def _flag(name: str, value: bool) -> int:
+    if not isinstance(value, bool):
+        raise TypeError(f"{name} is True or False, and not of type {type(value).__name__}")
+    return int(value)
+
+
 def _size(name: str, value: float) -> float:
     """Returns a length or a resolution. A bool is none."""
     if isinstance(value, bool) or not isinstance(value, (int, float)):
@@ -398,12 +407,40 @@ def _copied(data: Bytes) -> bytes:
     return memoryview(data).tobytes()
 
 
-def _input(data: Input) -> bytes:
-    """Returns the bytes of an input: those of a text are its UTF-8."""
+class _Given(NamedTuple):
+    """An input as the library takes it: its bytes, and their interpretation."""
+
+    data: bytes
+    interpretation: int
+
+    def header(self) -> int:
+        """Returns the bits by which a symbol says the interpretation (ISO/IEC 18004:2015, 7.4.2 and 7.4.8)."""
+        if self.interpretation >= _library.DEFAULT:
+            return 4 if self.interpretation == _library.GS1 else 0
+        return 12 if self.interpretation < 1 << 7 else 20 if self.interpretation < 1 << 14 else 28
+
+
+def _given(data: Optional[Input], gs1: Optional[Input], eci: Optional[int], rule: int) -> _Given:
+    """Returns an input, one of the first two, as its bytes."""
+    number = None if eci is None or eci is False else _setting("eci", eci, 0, ECI_MAX)
+    if gs1 is not None:
+        if data is not None or number is not None:
+            raise TypeError("GS1 data are given alone: data and eci are not given beside gs1")
+        return _Given(data_of(gs1) if isinstance(gs1, str) else _bytes("gs1", gs1), _library.GS1)
+    if rule == Rule.WITH_KANJI and number not in (None, SHIFT_JIS):
+        raise SettingsError(f"kanji mode is for Shift JIS: beside the rule 'with_kanji' eci is {SHIFT_JIS} or False, and not {number}")
+    if isinstance(data, str):
+        if eci is None and rule != Rule.WITH_KANJI and not data.isascii():
+            number = UTF_8
+        data = encoded(data, number if number is not None else SHIFT_JIS if rule == Rule.WITH_KANJI else UTF_8)
+    return _Given(_bytes("the input", data), _library.DEFAULT if number is None else number)
+
+
+def _bytes(name: str, data: Optional[Bytes]) -> bytes:
     try:
-        return data.encode() if isinstance(data, str) else _copied(data)
+        return _copied(data)  # type: ignore[arg-type]
     except TypeError:
-        raise TypeError(f"the input is a text or bytes, and not of type {type(data).__name__}") from None
+        raise TypeError(f"{name} is a text or bytes, and not of type {type(data).__name__}") from None
 
 
 def _square(modules: Union[Symbol, Bytes], side: Optional[int]) -> tuple[Bytes, int]:
@@ -417,43 +454,59 @@ def _first(buffer: ctypes.Array[ctypes.c_uint8], length: int) -> bytes:
     return bytes(memoryview(buffer)[:length])
 
 
-def encode(data: Input, *wrong: NoReturn, version: int = 1, level: Name = Level.L, rule: Name = Rule.AUTO) -> Symbol:
-    """Returns the symbol of a text or of some bytes, of the least version from `version` on that holds them.
+def encode(data: Optional[Input] = None, *wrong: NoReturn, version: int = 1, level: Name = Level.L, rule: Name = Rule.AUTO,
+           eci: Optional[int] = None, gs1: Optional[Input] = None, boost: bool = True) -> Symbol:
+    """Returns the symbol of a text, of some bytes or of GS1 data, of the least version from `version` on that holds them.
 
-    data     a text, whose UTF-8 is encoded, or bytes; from 1 byte to BYTES_MAX
+    data     a text, or bytes; from 1 byte to BYTES_MAX
     version  the smallest version that may be taken, from 1 to 40
     level    a Level, its name ('Q' or 'q') or its number
     rule     a Rule, its name ('bytes_only') or its number
+    eci      the number of an ECI header, which says what the bytes mean as characters, from 0 to ECI_MAX; or False for none. Unless
+             it is given, a text with a character that is not ASCII has 26, for UTF-8, and bytes have none
+    gs1      in place of data, GS1 data as a text like '(01)04012345678901(10)AB', or in brackets like '[01]04012345678901[10]AB';
+             or their bytes, in which the byte 1D separates fields, which are not looked at
+    boost    take the highest level from `level` on that fits the same version
+
+    A text is encoded in the character set of its ECI, and else as UTF-8; under the rule 'with_kanji' as Shift JIS, without a header
+    unless eci is 20.
 
     Raises SettingsError if a number is out of range or a name is not known, EmptyError if there is no byte, TooLongError if no
-    version from `version` on holds the bytes, and OutOfMemoryError.
+    version from `version` on holds the bytes, and OutOfMemoryError. Raises EciError, which is a ValueError, for a character that the
+    character set has not, and for a text in a set that is not known; Gs1Error, which is one too, for a text that is no GS1 data, and
+    FieldsError for such bytes.
     """
-    _no_more("encode", "data, ", wrong, "version", "level", "rule")
-    settings, given = _settings(version, level, rule), _input(data)
+    _no_more("encode", "data, ", wrong, "version", "level", "rule", "eci", "gs1", "boost")
+    settings = _settings(version, level, rule)
+    given, is_boosted = _given(data, gs1, eci, settings[2]), _flag("boost", boost)
     modules, symbol = (ctypes.c_uint8 * SYMBOL_MAX)(), _library.Symbol()
-    status = _calls.qrproved_encode(given, len(given), *settings, modules, SYMBOL_MAX, ctypes.byref(symbol))
+    status = _calls.qrproved_encode(given.data, len(given.data), *settings, given.interpretation, is_boosted, modules, SYMBOL_MAX,
+                                    ctypes.byref(symbol))
     if status == TooLongError.status:
-        raise too_long(len(given), *settings[1:])
+        raise too_long(len(given.data), *settings[1:], given.header())
     raise_for(status)
-    return Symbol(symbol.version, symbol.side, symbol.mask, _first(modules, symbol.side ** 2), Level(settings[1]))
+    return Symbol(symbol.version, symbol.side, symbol.mask, _first(modules, symbol.side ** 2), Level(symbol.level))
 
 
-def encode_series(data: Input, *wrong: NoReturn, version: Optional[int] = None, level: Name = Level.L, rule: Name = Rule.AUTO) -> list[Symbol]:
-    """Returns the symbols of the series of a text or of some bytes, all of `version`, from 1 to COUNT_MAX of them.
+def encode_series(data: Optional[Input] = None, *wrong: NoReturn, version: Optional[int] = None, level: Name = Level.L,
+                  rule: Name = Rule.AUTO, eci: Optional[int] = None, gs1: Optional[Input] = None) -> list[Symbol]:
+    """Returns the symbols of the series of a text, of some bytes or of GS1 data, all of `version`, from 1 to COUNT_MAX of them.
 
-    Bytes that fit one symbol are one plain symbol. The arguments are those of encode, but `version` has to be given: without it
-    a TypeError is raised. Raises as encode does, but in place of TooLongError TooManyError, if the bytes take more than
-    COUNT_MAX symbols.
+    What fits one symbol is one plain symbol. Each symbol has the ECI header, or says that its data are GS1 data. The arguments are
+    those of encode, but `version` has to be given: without it a TypeError is raised. Raises as encode does, but in place of
+    TooLongError TooManyError, if the bytes take more than COUNT_MAX symbols.
     """
-    _no_more("encode_series", "data, ", wrong, "version", "level", "rule")
+    _no_more("encode_series", "data, ", wrong, "version", "level", "rule", "eci", "gs1")
     if version is None:
         raise TypeError("encode_series: the version of all symbols has to be given: encode_series(data, version=5)")
-    settings, given = _settings(version, level, rule), _input(data)
+    settings = _settings(version, level, rule)
+    given = _given(data, gs1, eci, settings[2])
     modules, series = (ctypes.c_uint8 * SERIES_MAX)(), _library.Series()
-    status = _calls.qrproved_encode_series(given, len(given), *settings, modules, SERIES_MAX, ctypes.byref(series))
+    status = _calls.qrproved_encode_series(given.data, len(given.data), *settings, given.interpretation, modules, SERIES_MAX,
+                                           ctypes.byref(series))
     if status == TooManyError.status:
         symbols = f"{COUNT_MAX} symbols of version {settings[0]}-{Level(settings[1]).name}"
-        raise TooManyError(f"the input has {len(given):,} bytes and takes more than {symbols}")
+        raise TooManyError(f"the input has {len(given.data):,} bytes and takes more than {symbols}")
     raise_for(status)
     area = series.side ** 2
     written = _first(modules, series.count * area)

@@ -11,8 +11,8 @@ import warnings
 from typing import TYPE_CHECKING, Optional
 
 import qrproved
-from qrproved import Content, Error, Gs1Error, Level, Rule
-from qrproved._batch import PART, Part, Settings, labels_of, processors, written
+from qrproved import Content, EciError, Error, Gs1Error, Level, Rule
+from qrproved._batch import PART, Part, Settings, gs1_text, labels_of, processors, text_of, written
 from qrproved._pictures import is_picture
 
 if TYPE_CHECKING:
@@ -56,7 +56,10 @@ def batch(given: argparse.Namespace, settings: Settings) -> int:
 def one(given: argparse.Namespace, settings: Settings) -> int:
     """Writes the symbol of the text, or of what standard input has."""
     data = sys.stdin.buffer.read() if given.text is None else os.fsencode(given.text)
-    drawing = settings.drawn(data)
+    if given.gs1:
+        drawing = settings.drawn(gs1_text(data.rstrip(b"\r\n")))
+    else:
+        drawing = settings.drawn(data if given.text is None else text_of(data))
     if given.output is None or given.output == "-":
         if settings.kind == "png" and sys.stdout.isatty():
             raise SystemExit("qrproved: a PNG picture is not written to a terminal: name a file by -o")
@@ -154,6 +157,11 @@ def check(words: list[str]) -> int:
     return status
 
 
+def eci(text: str) -> int:
+    """Returns the number of an ECI, or False for none."""
+    return False if text == "none" else int(text)
+
+
 def parsed(words: list[str]) -> argparse.Namespace:
     """Returns the arguments, or ends the program with their fault."""
     parser = argparse.ArgumentParser(
@@ -163,7 +171,8 @@ def parsed(words: list[str]) -> argparse.Namespace:
     parser.add_argument("text", nargs="?", help="the text to encode; without it, the bytes of standard input")
     parser.add_argument("-o", "--output", metavar="FILE", help="the file to write, .png, .svg or .txt; with --batch a folder")
     parser.add_argument("-t", "--type", choices=sorted(SUFFIXES), type=str.lower, help="the type of the drawing, if the file does not tell")
-    parser.add_argument("-l", "--level", choices=list(Level.__members__), type=str.upper, default="L", help="the level of error correction; L")
+    parser.add_argument("-l", "--level", choices=list(Level.__members__), type=str.upper, default="L", help="the least level of error correction; L")
+    parser.add_argument("--no-boost", dest="boost", action="store_false", help="take this level also where the version has room for a higher one")
     parser.add_argument("-v", "--version", type=int, default=1, metavar="N", help="the least version, from 1 to 40; 1")
     parser.add_argument("-m", "--margin", type=int, default=4, metavar="N", help="light modules on each side, from 0 to 100; 4")
     parser.add_argument("-s", "--scale", type=int, default=8, metavar="N", help="pixels of a module of a PNG, from 1 to 100; 8")
@@ -171,7 +180,10 @@ def parsed(words: list[str]) -> argparse.Namespace:
     parser.add_argument("--dpi", type=float, metavar="N", help="in place of --mm, the pixels of an inch of a PNG")
     parser.add_argument("-q", "--quiet", action="store_true", help="do not warn of small margins and modules")
     parser.add_argument("-8", "--bytes", action="store_true", help="encode the whole input in byte mode")
-    parser.add_argument("-k", "--kanji", action="store_true", help="allow kanji segments too")
+    parser.add_argument("-k", "--kanji", action="store_true", help="allow kanji mode too: texts are encoded as Shift JIS")
+    parser.add_argument("--eci", type=eci, metavar="N", help="the ECI header, from 0 to 999999, or 'none'; else a text that is not ASCII has 26,"
+                        " for UTF-8, and standard input has none")
+    parser.add_argument("--gs1", action="store_true", help="the text is GS1 data, as '(01)04012345678901(10)AB'")
     parser.add_argument("--batch", metavar="FILE", help="write a symbol for each line of a file; - is standard input")
     parser.add_argument("--names", choices=["number", "text"], default="number", help="how --batch names files: by number")
     parser.add_argument("--jobs", type=int, metavar="N", help="processes of --batch; one for each processor")
@@ -187,6 +199,8 @@ def parsed(words: list[str]) -> argparse.Namespace:
         parser.error("--mm is the width of a PNG or of an SVG, and --dpi stands in its place")
     if given.dpi is not None and given.type != "png":
         parser.error("--dpi is of a PNG alone")
+    if given.gs1 and given.eci is not None:
+        parser.error("GS1 data have no ECI header")
     return given
 
 
@@ -201,15 +215,16 @@ def main(words: Optional[list[str]] = None) -> int:
             return check(words[1:])
         given = parsed(words)
         rule = Rule.BYTES_ONLY if given.bytes else Rule.WITH_KANJI if given.kanji else Rule.AUTO
-        settings = Settings(given.type, given.version, Level[given.level], rule, given.margin, given.scale, given.mm, given.dpi)
+        settings = Settings(given.type, given.version, Level[given.level], rule, given.margin, given.scale, given.mm, given.dpi,
+                            given.eci, given.gs1, given.boost)
         warnings.showwarning = lambda message, *_: say(str(message))
         warnings.simplefilter("ignore" if given.quiet else "always", qrproved.PrintWarning)
         if given.batch is None:
             return one(given, settings)
         # so that a setting that is out of range is told once, and not for each label
-        settings.drawn(b"A")
+        settings.drawn("(20)01" if given.gs1 else "A")
         return batch(given, settings)
-    except (Error, OSError) as fault:
+    except (Error, EciError, Gs1Error, OSError) as fault:
         say(str(fault))
         return NOT_READABLE if is_check else 1
 

@@ -7,10 +7,10 @@ import os
 import re
 import warnings
 from collections.abc import Iterator
-from typing import NamedTuple, Optional
+from typing import NamedTuple, Optional, Union
 
 import qrproved
-from qrproved import Drawing, Error, PrintWarning
+from qrproved import Drawing, EciError, Error, Gs1Error, PrintWarning
 
 DRAWINGS = {"txt": Drawing.UTF8, "utf8": Drawing.UTF8, "ascii": Drawing.ASCII, "asciii": Drawing.ASCII_INVERSE}
 # FEW labels are written without a pool of processes, which takes a tenth of a second to start. A process takes PART at once.
@@ -30,10 +30,14 @@ class Settings(NamedTuple):
     scale: int
     mm: Optional[float] = None
     dpi: Optional[float] = None
+    eci: Optional[int] = None
+    is_gs1: bool = False
+    boost: bool = True
 
-    def drawn(self, data: bytes) -> bytes:
-        """Returns the drawing of the symbol of some bytes."""
-        symbol = qrproved.encode(data, version=self.version, level=self.level, rule=self.rule)
+    def drawn(self, data: Union[str, bytes]) -> bytes:
+        """Returns the drawing of the symbol of a text or of some bytes. GS1 data are a text."""
+        settings = {"version": self.version, "level": self.level, "rule": self.rule, "boost": self.boost}
+        symbol = qrproved.encode(gs1=data, **settings) if self.is_gs1 else qrproved.encode(data, eci=self.eci, **settings)
         if self.kind == "png":
             return symbol.png(scale=self.scale, margin=self.margin, mm=self.mm, dpi=self.dpi)
         if self.kind == "svg":
@@ -42,19 +46,33 @@ class Settings(NamedTuple):
 
 
 class Part(NamedTuple):
-    """Some labels of a batch: the number of the line, the path of the file and the bytes of each."""
+    """Some labels of a batch: the number of the line, the path of the file and the line of each."""
 
     settings: Settings
     labels: list[tuple[int, str, bytes]]
+
+
+def text_of(data: bytes) -> Union[str, bytes]:
+    """Returns bytes as text if they are UTF-8, and else as they are."""
+    try:
+        return data.decode()
+    except UnicodeDecodeError:
+        return data
+
+
+def gs1_text(data: bytes) -> str:
+    """Returns bytes as the text of GS1 data, which are ASCII: other bytes are refused with it."""
+    return data.decode("latin-1")
 
 
 def write(part: Part) -> tuple[int, list[str]]:
     """Writes the labels of a part; returns how many there were, and why some could not be written."""
     faults = []
     warnings.simplefilter("ignore", PrintWarning)  # of one label the command has warned before
+    text = gs1_text if part.settings.is_gs1 else text_of
     for number, path, data in part.labels:
         try:
-            drawing = part.settings.drawn(data)
+            drawing = part.settings.drawn(text(data))
             file = os.open(path, os.O_WRONLY | os.O_CREAT | os.O_TRUNC | getattr(os, "O_BINARY", 0), 0o666)
             try:
                 left = memoryview(drawing)
@@ -62,7 +80,7 @@ def write(part: Part) -> tuple[int, list[str]]:
                     left = left[os.write(file, left):]
             finally:
                 os.close(file)
-        except (Error, OSError) as fault:
+        except (Error, EciError, Gs1Error, OSError) as fault:
             faults.append(f"line {number}: {fault}")
     return len(part.labels), faults
 

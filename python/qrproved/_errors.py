@@ -43,7 +43,8 @@ class OutOfMemoryError(Error, MemoryError):
 
 
 class SettingsError(Error, ValueError):
-    """A number is out of range, a name is not known, symbols to draw have several sides, or a module to mend is more than 2."""
+    """A number is out of range, a name is not known, settings exclude each other, symbols to draw have several sides, or a module to
+    mend is more than 2."""
 
     status = 5
     text = "a module is more than 2"
@@ -91,22 +92,38 @@ class NoDrawingError(Error, ValueError):
     text = "the text is no drawing of symbols"
 
 
-# What a symbol of version 40 holds at each level, from L to H: bytes, alphanumeric characters, digits, and kanji of two bytes each
-# (ISO/IEC 18004:2015, Table 7).
-MOST = [(2953, 4296, 7089, 1817), (2331, 3391, 5596, 1435), (1663, 2420, 3993, 1024), (1273, 1852, 3057, 784)]
+class FieldsError(Error, ValueError):
+    """The bytes are no GS1 data: a separator comes directly before another or before %."""
+
+    status = 12
+    text = "a separator of GS1 data, the byte 1D, comes directly before another or before %"
 
 
-def too_long(count: int, level: int, rule: int) -> TooLongError:
-    """Returns the refusal of `count` bytes, which says how many would fit. The rule, 0, 1 or 2, decides which modes there are."""
-    data, alphanumeric, digits, kanji = MOST[level]
-    modes = [f"{data:,} bytes", f"{alphanumeric:,} alphanumeric characters", f"{digits:,} digits", f"{kanji:,} kanji"]
+# The data bits of a symbol of version 40 at each level, from L to H (ISO/IEC 18004:2015, Table 7).
+DATA_BITS = [23648, 18672, 13328, 10208]
+MODE_BITS = 4  # of a mode indicator, before the character count
+
+
+def _most(room: int) -> list[str]:
+    """Returns what fits into so many bits at version 40, by mode (ISO/IEC 18004:2015, 7.4.3 to 7.4.6)."""
+    data, kanji = (room - MODE_BITS - 16) // 8, (room - MODE_BITS - 12) // 13
+    pairs, rest = divmod(room - MODE_BITS - 13, 11)
+    triples, more = divmod(room - MODE_BITS - 14, 10)
+    digits = 3 * triples + (2 if more >= 7 else 1 if more >= 4 else 0)
+    return [f"{data:,} bytes", f"{2 * pairs + (rest >= 6):,} alphanumeric characters", f"{digits:,} digits", f"{kanji:,} kanji"]
+
+
+def too_long(count: int, level: int, rule: int, header: int) -> TooLongError:
+    """Returns the refusal of `count` bytes, which says how many would fit beside a header of so many bits. The rule, 0, 1 or 2, decides
+    which modes there are."""
+    modes = _most(DATA_BITS[level] - header)
     *first, last = modes[:(3, 1, 4)[rule]]
     holds = f"{', '.join(first)} or {last}" if first else last
     return TooLongError(f"the input has {count:,} bytes and does not fit a symbol: version 40-{'LMQH'[level]} holds {holds}")
 
 
 BY_STATUS = {kind.status: kind for kind in (EmptyError, TooLongError, TooManyError, OutOfMemoryError, SettingsError, RoomError,
-                                            SideError, FormatError, CheckError, SegmentsError, NoDrawingError)}
+                                            SideError, FormatError, CheckError, SegmentsError, NoDrawingError, FieldsError)}
 
 
 def raise_for(status: int) -> None:

@@ -1,4 +1,4 @@
-"""GS1 data as fields: values with their application identifiers (GS1 General Specifications, 3 and 7.8)."""
+"""GS1 data, and their fields: values with their application identifiers (GS1 General Specifications, 3 and 7.8)."""
 from __future__ import annotations
 
 import re
@@ -127,6 +127,28 @@ def fields_of(data: bytes) -> list[tuple[str, str]]:
         if rest.startswith(SEPARATOR):
             rest = rest[1:]
     return found
+
+
+# The application identifiers of a text, by the sign with which it begins.
+WRITTEN = {"(": re.compile(r"\(([0-9]{2,4})\)"), "[": re.compile(r"\[([0-9]{2,4})\]")}
+
+
+def data_of(text: str) -> bytes:
+    """Returns the data of a text in which each application identifier is in parentheses or, as the first is, in brackets: the fields one
+    after the other, with a separator between a value of no predefined length and the next identifier. Raises Gs1Error as fields_of
+    does."""
+    pattern = WRITTEN.get(text[:1])
+    before, *parts = pattern.split(text) if pattern else [text]
+    if before or not parts:
+        raise Gs1Error(f"GS1 data begin with an application identifier, as (01) or [01], and not with {text[:4]!a}")
+    fields, data = list(zip(parts[::2], parts[1::2])), ""
+    for name, value in fields:
+        known = next((it for pattern, it in TABLE if pattern.fullmatch(name)), None)
+        fault = _fault(value, known) if known else "is no application identifier that is known"
+        if fault:
+            raise Gs1Error(f"({name}) {fault}")
+        data += name + value + ("" if re.match(PREDEFINED, name) else SEPARATOR)
+    return data.rstrip(SEPARATOR).encode("ascii")
 
 
 def _identifier_of(rest: str) -> tuple[str, list[Part]]:

@@ -1,4 +1,5 @@
-"""What the bytes of a symbol mean as characters: its ECI headers (Extended Channel Interpretation; ISO/IEC 18004:2015, 7.4.2)."""
+"""What the bytes of a symbol mean as characters, and the bytes of a text: ECI headers (Extended Channel Interpretation; ISO/IEC
+18004:2015, 7.4.2)."""
 from __future__ import annotations
 
 import re
@@ -18,7 +19,7 @@ class Eci(NamedTuple):
 
 
 class EciError(ValueError):
-    """The bytes of an ECI are not read as characters."""
+    """The bytes of an ECI are not read as characters, or a text has a character that its character set has not."""
 
 
 # The character sets of ECIs by Python's names, as js/interpretation.js has them by those of browsers. For 20, 29, 30 and 32 these are
@@ -29,9 +30,25 @@ CODECS = {
     17: "iso8859-15", 18: "iso8859-16", 20: "cp932", 21: "cp1250", 22: "cp1251", 23: "cp1252", 24: "cp1256", 25: "utf-16-be", 26: "utf-8",
     27: "ascii", 28: "big5", 29: "gb18030", 30: "cp949", 32: "gb18030",
 }
-BYTES = 899
+BYTES, UTF_8, SHIFT_JIS = 899, 26, 20
 # What Python has for bytes that are no characters of the set: 80, A0 and FD to FF.
 NO_CHARACTERS = {"cp932": re.compile("[\x80\uf8f0-\uf8f3]")}
+
+# Characters of JIS X 0208 that some systems have by other code points. For the last two Python has the bytes of \ and ~, which are
+# read as these.
+IN_SHIFT_JIS = str.maketrans("～∥－￠￡￢—¥‾", "〜‖−¢£¬―\ufffd\ufffd")
+
+
+def encoded(text: str, number: int) -> bytes:
+    """Returns the bytes of a text in the character set of an ECI. Raises EciError for an ECI that is not known or that means bytes, and
+    for the first character that its set has not. For 20 the set is what every reader of Shift JIS has: ASCII, katakana of half width and
+    the characters of JIS X 0208."""
+    codec, wanted = ("shift_jis", text.translate(IN_SHIFT_JIS)) if number == SHIFT_JIS else (_codec(number), text)
+    try:
+        return wanted.encode(codec)
+    except UnicodeEncodeError as fault:
+        character, name = text[fault.start], "Shift JIS" if number == SHIFT_JIS else f"the characters of ECI {number}"
+        raise EciError(f"{character!r} (U+{ord(character):04X}), character {fault.start + 1:,} of the text, is not in {name}") from None
 
 
 def stretches(data: bytes, ecis: Sequence[Eci]) -> Iterator[tuple[int | None, bytes]]:

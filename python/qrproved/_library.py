@@ -20,9 +20,11 @@ BYTES_MAX = 7089
 ECIS_MAX = 1970
 MARGIN_MAX = 100
 
+DEFAULT, GS1 = 1_000_000, 1_000_001  # interpretations; a smaller number is that of an ECI
+
 
 class Symbol(ctypes.Structure):
-    _fields_ = [("version", c_uint8), ("side", c_uint8), ("mask", c_uint8)]
+    _fields_ = [("version", c_uint8), ("side", c_uint8), ("level", c_uint8), ("mask", c_uint8)]
 
 
 class Series(ctypes.Structure):
@@ -49,13 +51,13 @@ class Drawn(ctypes.Structure):
     _fields_ = [("drawing", c_uint8), ("margin", c_uint8), ("count", c_uint8), ("side", c_uint8)]
 
 
-# A version, a level, a rule, a side or another number of 32 bits. ctypes cuts a larger one, so callers check it first.
+# A version, a level, an interpretation, a side or another number of 32 bits. ctypes cuts a larger one, so callers check it first.
 SETTING = c_uint32
 BYTES = [ctypes.c_char_p, c_size_t]
 BUFFER = [c_void_p, c_size_t]
 PARAMETERS = {
-    "qrproved_encode": [*BYTES, SETTING, SETTING, SETTING, *BUFFER, ctypes.POINTER(Symbol)],
-    "qrproved_encode_series": [*BYTES, SETTING, SETTING, SETTING, *BUFFER, ctypes.POINTER(Series)],
+    "qrproved_encode": [*BYTES, SETTING, SETTING, SETTING, SETTING, SETTING, *BUFFER, ctypes.POINTER(Symbol)],
+    "qrproved_encode_series": [*BYTES, SETTING, SETTING, SETTING, SETTING, *BUFFER, ctypes.POINTER(Series)],
     "qrproved_read": [*BYTES, SETTING, *BUFFER, *BUFFER, ctypes.POINTER(Content)],
     "qrproved_mend": [*BYTES, SETTING, *BUFFER, *BUFFER, ctypes.POINTER(Mended)],
     "qrproved_draw": [*BYTES, SETTING, SETTING, SETTING, SETTING, *BUFFER, ctypes.POINTER(c_size_t)],

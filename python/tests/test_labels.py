@@ -202,7 +202,7 @@ class Others(unittest.TestCase):
 
     def test_check_writes_what_the_encoding_of_the_terminal_has_not(self):
         environment = {**os.environ, "PYTHONIOENCODING": "ascii"}
-        ran = subprocess.run([sys.executable, "-B", "-m", "qrproved", "check"], input=qrproved.encode("点é").png(), capture_output=True,
+        ran = subprocess.run([sys.executable, "-B", "-m", "qrproved", "check"], input=qrproved.encode("点é", eci=False).png(), capture_output=True,
                              timeout=60, env=environment)
         self.assertEqual((ran.returncode, ran.stdout.decode().split("\n", 1)[1], ran.stderr), (0, "contains \\u70b9\\xe9\n", b""))
 

@@ -68,13 +68,14 @@ class Calls(unittest.TestCase):
         self.assertEqual(qrproved.encode(b"7" * 18, level=Level.L, rule=Rule.BYTES_ONLY).version, 2)
         self.assertEqual(qrproved.encode(b"\x93\x5f" * 10, level=Level.L, rule=Rule.WITH_KANJI).version, 1)
         for level in Level:
-            symbol = qrproved.encode(b"A", level=level)
+            symbol = qrproved.encode(b"A", level=level, boost=False)
+            self.assertEqual(symbol.level, level)
             mended = qrproved.mend(symbol.modules, symbol.side)
             self.assertEqual((mended.level, mended.mask), (level, symbol.mask))
 
     def test_a_text_is_encoded_as_utf8(self):
         for text in ("Shelf 12", "Gr\u00fc\u00dfe", "\u30c6\U0001f600"):
-            symbol = qrproved.encode(text)
+            symbol = qrproved.encode(text, eci=False)
             self.assertEqual(symbol, qrproved.encode(text.encode()))
             self.assertEqual(qrproved.read(symbol).data.decode(), text)
             series = qrproved.encode_series(text * 20, version=1, level="L")
@@ -96,13 +97,13 @@ class Calls(unittest.TestCase):
                 qrproved.encode("A", level=name)
 
     def test_the_defaults_are_those_of_the_command(self):
-        symbol = qrproved.encode("A")
+        symbol = qrproved.encode("A", boost=False)
         self.assertEqual((symbol.level, qrproved.mend(symbol).level, symbol.version), (Level.L, Level.L, 1))
         self.assertEqual(symbol.text(), symbol.text(margin=4))
         self.assertEqual({it.level for it in qrproved.encode_series("A" * 100, version=1)}, {Level.L})
 
     def test_what_is_shown_of_a_symbol(self):
-        symbol = qrproved.encode("A", version=7, level="m")
+        symbol = qrproved.encode("A", version=7, level="m", boost=False)
         self.assertEqual(repr(symbol), f"<Symbol 7-M, mask {symbol.mask}>")
         self.assertEqual(repr(qrproved.encode_series("A", version=2, level="q")[0]), "<Symbol 2-Q>")
         self.assertEqual(repr(qrproved.Symbol(1, 21, 0, EIGHT_DIGITS)), "<Symbol 1, mask 0>")
@@ -129,9 +130,12 @@ class Calls(unittest.TestCase):
         for named, tail in (({}, "L holds 2,953 bytes, 4,296 alphanumeric characters or 7,089 digits"),
                             ({"level": "M", "rule": "bytes_only"}, "M holds 2,331 bytes"),
                             ({"level": "Q", "rule": "with_kanji"}, "Q holds 1,663 bytes, 2,420 alphanumeric characters, 3,993 digits or 1,024 kanji"),
-                            ({"level": "H", "version": 7}, "H holds 1,273 bytes, 1,852 alphanumeric characters or 3,057 digits")):
+                            ({"level": "H", "version": 7}, "H holds 1,273 bytes, 1,852 alphanumeric characters or 3,057 digits"),
+                            # 23,648 bits, of which 12 and 28 are the header, and 20 the mode and the count of bytes
+                            ({"eci": 26, "rule": "bytes_only"}, "L holds 2,952 bytes"),
+                            ({"eci": 999999, "rule": "bytes_only"}, "L holds 2,950 bytes")):
             with self.assertRaises(qrproved.TooLongError) as refused:
-                qrproved.encode("x" * 3000, **named)
+                qrproved.encode(b"x" * 3000, **named)
             self.assertEqual(str(refused.exception), head + tail)
         with self.assertRaises(qrproved.TooManyError) as refused:
             qrproved.encode_series("x" * 1000, version=1, level="H")
@@ -153,7 +157,7 @@ class Calls(unittest.TestCase):
 
     def test_one_plain_symbol_is_a_series(self):
         series = qrproved.encode_series(b"A", version=1, level=Level.L)
-        self.assertEqual([symbol.modules for symbol in series], [qrproved.encode(b"A", level=Level.L).modules])
+        self.assertEqual([symbol.modules for symbol in series], [qrproved.encode(b"A", level=Level.L, boost=False).modules])
 
     def test_a_sound_symbol(self):
         mended = qrproved.mend(EIGHT_DIGITS, 21)
@@ -210,7 +214,7 @@ class Refusals(unittest.TestCase):
         self.assertTrue(str(caught.exception))
 
     def test_settings_without_a_name(self):
-        symbol, listed = qrproved.encode("A"), "encode: version, level and rule are given by name: "
+        symbol, listed = qrproved.encode("A"), "encode: version, level, rule, eci, gs1 and boost are given by name: "
         rows = [(lambda: qrproved.encode("A", 7, "Q"), listed + "encode(data, version=7, level='Q')"),
                 (lambda: qrproved.encode("A", Level.Q), listed + "encode(data, level='Q')"),
                 (lambda: qrproved.encode("A", "q", 7, Rule.AUTO), listed + "encode(data, level='q', version=7, rule='AUTO')"),
@@ -230,11 +234,15 @@ class Refusals(unittest.TestCase):
         self.refused(qrproved.TooManyError, 3, qrproved.encode_series, b"a" * 1000, version=1)
 
     def test_numbers_out_of_range(self):
-        for name, numbers in {"version": (0, 41, -1, 256, 257, 1 << 64), "level": (-1, 4, 256, 1 << 32), "rule": (-1, 3, 257)}.items():
+        for name, numbers in {"version": (0, 41, -1, 256, 257, 1 << 64), "level": (-1, 4, 256, 1 << 32), "rule": (-1, 3, 257),
+                              "eci": (-1, 1_000_000, 1_000_001, 1 << 32)}.items():
             for number in numbers:
                 settings = {"version": 1, name: number}
                 self.refused(qrproved.SettingsError, 5, qrproved.encode, b"A", **settings)
                 self.refused(qrproved.SettingsError, 5, qrproved.encode_series, b"A", **settings)
+        for boost in (0, 1, None, "yes"):
+            with self.assertRaisesRegex(TypeError, "^boost is True or False"):
+                qrproved.encode(b"A", boost=boost)
         for side in (0, 17, 20, 22, 181, -21, 21 + 256, 1 << 64):
             self.refused(qrproved.SideError, 7, qrproved.read, EIGHT_DIGITS, side)
             self.refused(qrproved.SideError, 7, qrproved.mend, EIGHT_DIGITS, side)
@@ -251,8 +259,8 @@ class Refusals(unittest.TestCase):
 
     def test_what_is_no_number(self):
         for other in (True, 1.0, "1", None, b"1"):
-            for name in ("version", "level", "rule"):
-                kind = SettingsError if other == "1" and name != "version" else TypeError  # a name, but of none
+            for name in ("version", "level", "rule", *(["eci"] if other is not None else [])):
+                kind = SettingsError if other == "1" and name in ("level", "rule") else TypeError  # a name, but of none
                 with self.assertRaises(kind):
                     qrproved.encode(b"A", **{name: other})
                 with self.assertRaises(kind):
@@ -286,7 +294,7 @@ class Refusals(unittest.TestCase):
 
     def test_each_status_has_an_exception(self):
         kinds = [kind for kind in vars(qrproved).values() if isinstance(kind, type) and issubclass(kind, qrproved.Error)]
-        self.assertEqual(sorted(kind.status for kind in kinds), list(range(12)))
+        self.assertEqual(sorted(kind.status for kind in kinds), list(range(13)))
 
 
 if __name__ == "__main__":

@@ -84,8 +84,8 @@ def of_program(room, env):
         script = re.search(r"```rust,no_run\n(.*?)```", it.read(), re.DOTALL).group(1)
     files = {"Cargo.toml": '[package]\nname = "label"\nversion = "1.0.0"\nedition = "2021"\n[dependencies]\nqrproved = { path = "../crate" }\n',
              "build.rs": f"fn main() {{\n{script}}}\n",
-             "src/main.rs": 'use qrproved::{encode, Level, Rule, Version};\nfn main() {\n    println!("{}", encode(b"A", Version::MIN, Level::L,'
-                            ' Rule::Auto).unwrap().side());\n}\n'}
+             "src/main.rs": 'use qrproved::{encode, Level, Options, Version};\nfn main() {\n    println!("{}", encode(b"A", Version::MIN, Level::L,'
+                            ' &Options::default()).unwrap().side());\n}\n'}
     os.makedirs(f"{room}/label/src")
     for name, text in files.items():
         with open(f"{room}/label/{name}", "w", encoding="utf-8") as it:

@@ -1,7 +1,7 @@
 //! The calls of include/qrproved.h.
 use std::os::raw::c_uchar;
 
-/// What C takes for a version, a level, a rule, a side, and each other number of that kind.
+/// What C takes for a version, a level, an interpretation, a side, and each other number of that kind.
 pub type Setting = u32;
 
 pub const SYMBOL_MAX: usize = 31329;
@@ -9,11 +9,16 @@ pub const SERIES_MAX: usize = 501264;
 pub const BYTES_MAX: usize = 7089;
 pub const ECIS_MAX: usize = 1970;
 
+/// Interpretations; a smaller number is that of an ECI.
+pub const INTERPRETATION_DEFAULT: Setting = 1_000_000;
+pub const INTERPRETATION_GS1: Setting = 1_000_001;
+
 #[repr(C)]
 #[derive(Default)]
 pub struct Symbol {
     pub version: u8,
     pub side: u8,
+    pub level: u8,
     pub mask: u8,
 }
 
@@ -81,6 +86,8 @@ extern "C" {
         version: Setting,
         level: Setting,
         rule: Setting,
+        interpretation: Setting,
+        boost: Setting,
         modules: *mut c_uchar,
         modules_len: usize,
         symbol: *mut Symbol,
@@ -92,6 +99,7 @@ extern "C" {
         version: Setting,
         level: Setting,
         rule: Setting,
+        interpretation: Setting,
         modules: *mut c_uchar,
         modules_len: usize,
         series: *mut Series,

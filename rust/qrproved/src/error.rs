@@ -12,7 +12,8 @@ pub enum Error {
     TooMany = 3,
     /// Memory was refused.
     Memory = 4,
-    /// A number is out of its range, a module to mend is more than 2, or symbols to draw have several versions.
+    /// A number is out of its range, settings exclude each other, a module to mend is more than 2, or symbols to draw have several
+    /// versions.
     Settings = 5,
     /// There are fewer modules than the square has.
     Room = 6,
@@ -26,10 +27,12 @@ pub enum Error {
     Segments = 10,
     /// The text is no drawing of squares that begin as symbols do.
     NoDrawing = 11,
+    /// The input is no GS1 data: a byte 1D comes directly before another or before `%`.
+    Fields = 12,
 }
 
 impl Error {
-    const ALL: [Error; 11] = [
+    const ALL: [Error; 12] = [
         Error::Empty,
         Error::TooLong,
         Error::TooMany,
@@ -41,6 +44,7 @@ impl Error {
         Error::Check,
         Error::Segments,
         Error::NoDrawing,
+        Error::Fields,
     ];
 
     /// Returns the error of a status; `None` for 0.
@@ -70,13 +74,16 @@ impl fmt::Display for Error {
             Error::TooLong => "no version holds the input",
             Error::TooMany => "the input takes more than 16 symbols",
             Error::Memory => "memory was refused",
-            Error::Settings => "a number is out of range, or a byte is no module",
+            Error::Settings => {
+                "a number is out of range, settings exclude each other, or a byte is no module"
+            }
             Error::Room => "there are fewer modules than the square has",
             Error::Side => "no version has this side",
             Error::Format => "the format information cannot be read",
             Error::Check => "a block is damaged",
             Error::Segments => "the data codewords cannot be parsed",
             Error::NoDrawing => "the text is no drawing of symbols",
+            Error::Fields => "a byte 1D comes directly before another or before %",
         })
     }
 }
@@ -90,7 +97,7 @@ mod tests {
     #[test]
     fn each_error_has_its_status() {
         assert_eq!(Error::of_status(0), None);
-        for status in 1..=11 {
+        for status in 1..=12 {
             assert_eq!(Error::of_status(status).map(Error::status), Some(status));
         }
     }

@@ -1,5 +1,40 @@
-use crate::Content;
+use crate::{c, Content, Error};
 use std::fmt;
+
+/// What a symbol says of its bytes.
+#[derive(Clone, Copy, Debug, Default, PartialEq, Eq, Hash)]
+pub enum Interpretation {
+    /// Nothing.
+    #[default]
+    Default,
+    /// By an ECI header with this number, from 0 to 999,999, which characters they are: 26 is UTF-8, 20 is Shift JIS, 3 is
+    /// ISO/IEC 8859-1.
+    Eci(u32),
+    /// That they are GS1 data: fields with their application identifiers. The byte 1D separates a field of no predefined length
+    /// from the next one.
+    Gs1,
+}
+
+impl Interpretation {
+    /// Returns how the UTF-8 of a text is interpreted: by ECI 26, unless the text is ASCII.
+    pub fn of_text(text: &str) -> Interpretation {
+        if text.is_ascii() {
+            Interpretation::Default
+        } else {
+            Interpretation::Eci(UTF_8)
+        }
+    }
+
+    /// Returns the number that C has for it.
+    pub(crate) fn number(self) -> Result<c::Setting, Error> {
+        match self {
+            Interpretation::Default => Ok(c::INTERPRETATION_DEFAULT),
+            Interpretation::Eci(number) if number < c::INTERPRETATION_DEFAULT => Ok(number),
+            Interpretation::Eci(_) => Err(Error::Settings),
+            Interpretation::Gs1 => Ok(c::INTERPRETATION_GS1),
+        }
+    }
+}
 
 /// An ECI header (Extended Channel Interpretation): from a byte of the data on, the bytes have this ECI.
 #[derive(Clone, Copy, Debug, PartialEq, Eq, Hash)]
@@ -77,11 +112,13 @@ impl Content {
 
 /// The byte that separates fields.
 const SEPARATOR: u8 = 0x1D;
+/// The ECI of UTF-8.
+const UTF_8: u32 = 26;
 
 /// Returns the characters of bytes that have this ECI, or none.
 fn characters(number: Option<u32>, data: &[u8]) -> Result<String, TextError> {
     let is_right = match number {
-        None | Some(26) => true,
+        None | Some(UTF_8) => true,
         Some(1 | 3) => return Ok(data.iter().copied().map(char::from).collect()),
         Some(27) => data.is_ascii(),
         Some(other) => return Err(TextError::Eci(other)),

@@ -2,9 +2,9 @@
 //! contracts. This crate is not proved: it passes what it is given, and takes what comes back.
 //!
 //! ```
-//! use qrproved::{draw, encode, mend, Drawing, Level, Rule, Version};
+//! use qrproved::{draw, encode, mend, Drawing, Level, Options, Version};
 //!
-//! let symbol = encode(b"Shelf 12", Version::MIN, Level::M, Rule::Auto)?;
+//! let symbol = encode(b"Shelf 12", Version::MIN, Level::M, &Options::default())?;
 //! assert_eq!((symbol.version(), symbol.side()), (Version::MIN, 21));
 //! assert!(symbol.is_dark(0, 0)); // the corner of a finder pattern
 //!
@@ -27,7 +27,7 @@ mod error;
 mod interpretation;
 
 pub use error::Error;
-pub use interpretation::{Eci, Fnc1, TextError};
+pub use interpretation::{Eci, Fnc1, Interpretation, TextError};
 
 use std::fmt;
 
@@ -84,8 +84,38 @@ pub enum Rule {
     Auto,
     /// The whole input in byte mode.
     BytesOnly,
-    /// Also kanji mode, for pairs of bytes that are Shift JIS characters.
+    /// Also kanji mode, for pairs of bytes that are Shift JIS characters. An ECI beside it is 20, which is Shift JIS.
     WithKanji,
+}
+
+/// How an input is encoded, beside its version and level. `Options::default()` asks for `boost`, and for no more.
+#[derive(Clone, Copy, Debug, PartialEq, Eq, Hash)]
+pub struct Options {
+    pub rule: Rule,
+    pub interpretation: Interpretation,
+    /// Whether the symbol has the highest level, from the one that is asked for on, that fits the same version. A series has the
+    /// level that is asked for.
+    pub boost: bool,
+}
+
+impl Options {
+    /// Returns the default, by which a text that is not ASCII says that it is UTF-8.
+    pub fn of_text(text: &str) -> Options {
+        Options {
+            interpretation: Interpretation::of_text(text),
+            ..Options::default()
+        }
+    }
+}
+
+impl Default for Options {
+    fn default() -> Options {
+        Options {
+            rule: Rule::Auto,
+            interpretation: Interpretation::Default,
+            boost: true,
+        }
+    }
 }
 
 /// How modules are drawn, as the command `qrencode` draws them.
@@ -110,16 +140,22 @@ impl Drawing {
     ];
 }
 
-/// A symbol: its version and its modules.
+/// A symbol: its version, its level and its modules.
 #[derive(Clone, Debug, PartialEq, Eq, Hash)]
 pub struct Symbol {
     version: Version,
+    level: Level,
     modules: Vec<u8>,
 }
 
 impl Symbol {
     pub fn version(&self) -> Version {
         self.version
+    }
+
+    /// Returns the level that it has, which [`Options::boost`] may have made higher than the one that was asked for.
+    pub fn level(&self) -> Level {
+        self.level
     }
 
     /// Returns the modules on a side, from 21 to 177.
@@ -223,19 +259,28 @@ impl Mended {
 ///
 /// # Errors
 ///
-/// [`Error::Empty`] for no byte, [`Error::TooLong`] if no version from `smallest` on holds the input, [`Error::Memory`].
-pub fn encode(input: &[u8], smallest: Version, level: Level, rule: Rule) -> Result<Symbol, Error> {
+/// [`Error::Settings`] for an ECI above 999,999, and for one other than 20 beside [`Rule::WithKanji`]; [`Error::Empty`] for no byte;
+/// [`Error::Fields`] if the input should be GS1 data and has a byte 1D directly before another or before `%`; [`Error::TooLong`]
+/// if no version from `smallest` on holds the input; [`Error::Memory`].
+pub fn encode(
+    input: &[u8],
+    smallest: Version,
+    level: Level,
+    options: &Options,
+) -> Result<Symbol, Error> {
     let mut symbol = c::Symbol::default();
+    let interpretation = options.interpretation.number()?;
     let modules = filled(c::SYMBOL_MAX, |modules, len| {
-        let (version, level, rule) = settings(smallest, level, rule);
         // SAFETY: each pointer is to as many bytes as the length beside it, and the struct is C's.
         let status = unsafe {
             c::qrproved_encode(
                 input.as_ptr(),
                 input.len(),
-                version,
-                level,
-                rule,
+                c::Setting::from(smallest.0),
+                level as c::Setting,
+                options.rule as c::Setting,
+                interpretation,
+                c::Setting::from(options.boost),
                 modules,
                 len,
                 &mut symbol,
@@ -245,35 +290,37 @@ pub fn encode(input: &[u8], smallest: Version, level: Level, rule: Rule) -> Resu
     })?;
     Ok(Symbol {
         version: Version(symbol.version),
+        level: Level::ALL[usize::from(symbol.level)],
         modules,
     })
 }
 
-/// Encodes an input as a series of at most 16 symbols of one version, by structured append. An input that fits one symbol is
-/// one plain symbol.
+/// Encodes an input as a series of at most 16 symbols of one version and level, by structured append. An input that fits one
+/// symbol is one plain symbol. Each symbol says the interpretation.
 ///
 /// # Errors
 ///
-/// [`Error::Empty`] for no byte, [`Error::TooMany`] if the input takes more than 16 symbols, [`Error::Memory`].
+/// As [`encode`], but in place of [`Error::TooLong`] [`Error::TooMany`], if the input takes more than 16 symbols.
 pub fn encode_series(
     input: &[u8],
     version: Version,
     level: Level,
-    rule: Rule,
+    options: &Options,
 ) -> Result<Vec<Symbol>, Error> {
     let mut series = c::Series::default();
+    let interpretation = options.interpretation.number()?;
     // 16 symbols are the longest series.
     let most = 16 * version.side().pow(2);
     let modules = filled(most, |modules, len| {
-        let (version, level, rule) = settings(version, level, rule);
         // SAFETY: each pointer is to as many bytes as the length beside it, and the struct is C's.
         let status = unsafe {
             c::qrproved_encode_series(
                 input.as_ptr(),
                 input.len(),
-                version,
-                level,
-                rule,
+                c::Setting::from(version.0),
+                level as c::Setting,
+                options.rule as c::Setting,
+                interpretation,
                 modules,
                 len,
                 &mut series,
@@ -288,6 +335,7 @@ pub fn encode_series(
         .chunks_exact(version.side().pow(2))
         .map(|it| Symbol {
             version,
+            level,
             modules: it.to_vec(),
         })
         .collect())
@@ -486,15 +534,6 @@ fn filled(room: usize, call: impl FnOnce(*mut u8, usize) -> (u8, usize)) -> Resu
             Ok(buffer)
         }
     }
-}
-
-/// Returns a version, a level and a rule as C takes them.
-fn settings(version: Version, level: Level, rule: Rule) -> (c::Setting, c::Setting, c::Setting) {
-    (
-        version.0 as c::Setting,
-        level as c::Setting,
-        rule as c::Setting,
-    )
 }
 
 /// Returns a side as C takes it. One that is too large for C is that of no version.

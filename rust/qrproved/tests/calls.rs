@@ -1,8 +1,30 @@
 //! What the crate adds to the library: its types, and its refusals. The symbols themselves are compared by tests/library.
 use qrproved::{
     draw, draw_svg, encode, encode_series, mend, parse_drawing, read, Content, Drawing, Eci, Error,
-    Fnc1, Header, Level, Rule, TextError, Version,
+    Fnc1, Header, Interpretation, Level, Options, Rule, TextError, Version,
 };
+
+/// What the command has: the level that is asked for.
+const PLAIN: Options = Options {
+    rule: Rule::Auto,
+    interpretation: Interpretation::Default,
+    boost: false,
+};
+const BYTES_ONLY: Options = Options {
+    rule: Rule::BytesOnly,
+    ..PLAIN
+};
+const WITH_KANJI: Options = Options {
+    rule: Rule::WithKanji,
+    ..PLAIN
+};
+
+fn interpreted(interpretation: Interpretation) -> Options {
+    Options {
+        interpretation,
+        ..PLAIN
+    }
+}
 
 /// The symbol of 01234567 of version 1 and level M under mask 0 (ISO/IEC 18004:2015, Annex I).
 const EIGHT_DIGITS: &str = "
@@ -162,7 +184,7 @@ fn damage_is_measured() {
 
 #[test]
 fn a_symbol_has_rows_and_columns() {
-    let symbol = encode(b"01234567", Version::MIN, Level::M, Rule::Auto).unwrap();
+    let symbol = encode(b"01234567", Version::MIN, Level::M, &PLAIN).unwrap();
     assert_eq!(
         (symbol.version(), symbol.side(), symbol.modules().len()),
         (Version::MIN, 21, 441)
@@ -189,43 +211,165 @@ fn a_symbol_has_rows_and_columns() {
 #[test]
 #[should_panic(expected = "no module at row 0 and column 21")]
 fn a_column_past_the_side_is_none() {
-    encode(b"A", Version::MIN, Level::L, Rule::Auto)
+    encode(b"A", Version::MIN, Level::L, &PLAIN)
         .unwrap()
         .is_dark(0, 21);
 }
 
 #[test]
 fn version_level_and_rule_reach_the_library() {
-    let version_of = |input: &[u8], level, rule| {
-        encode(input, Version::MIN, level, rule)
+    let version_of = |input: &[u8], level, options| {
+        encode(input, Version::MIN, level, options)
             .unwrap()
             .version()
             .number()
     };
     assert_eq!(
-        encode(b"A", Version::new(7).unwrap(), Level::L, Rule::Auto)
+        encode(b"A", Version::new(7).unwrap(), Level::L, &PLAIN)
             .unwrap()
             .side(),
         45
     );
-    assert_eq!(version_of(&[b'7'; 7089], Level::L, Rule::Auto), 40);
-    assert_eq!(version_of(&[b'7'; 41], Level::L, Rule::Auto), 1); // Table 7
-    assert_eq!(version_of(&[b'7'; 42], Level::L, Rule::Auto), 2);
-    assert_eq!(version_of(&[b'7'; 18], Level::L, Rule::BytesOnly), 2);
+    assert_eq!(version_of(&[b'7'; 7089], Level::L, &PLAIN), 40);
+    assert_eq!(version_of(&[b'7'; 41], Level::L, &PLAIN), 1); // Table 7
+    assert_eq!(version_of(&[b'7'; 42], Level::L, &PLAIN), 2);
+    assert_eq!(version_of(&[b'7'; 18], Level::L, &BYTES_ONLY), 2);
     assert_eq!(
-        version_of(&b"\x93\x5f".repeat(10), Level::L, Rule::WithKanji),
+        version_of(&b"\x93\x5f".repeat(10), Level::L, &WITH_KANJI),
         1
     );
     for level in [Level::L, Level::M, Level::Q, Level::H] {
-        let symbol = encode(b"A", Version::MIN, level, Rule::Auto).unwrap();
-        assert_eq!(mend(symbol.modules(), symbol.side()).unwrap().level, level);
+        let symbol = encode(b"A", Version::MIN, level, &PLAIN).unwrap();
+        assert_eq!(
+            (
+                symbol.level(),
+                mend(symbol.modules(), symbol.side()).unwrap().level
+            ),
+            (level, level)
+        );
+    }
+}
+
+#[test]
+fn a_symbol_has_the_highest_level_that_fits_its_version() {
+    // Bytes that fit version 1 at the levels L, M, Q and H (ISO/IEC 18004:2015, Table 7).
+    let rows = [
+        (7, Level::H),
+        (8, Level::Q),
+        (11, Level::Q),
+        (12, Level::M),
+        (15, Level::L),
+    ];
+    for (count, level) in rows {
+        let options = Options::default();
+        let symbol = encode(&vec![b'a'; count], Version::MIN, Level::L, &options).unwrap();
+        let mended = mend(symbol.modules(), symbol.side()).unwrap();
+        assert_eq!(
+            (symbol.version(), symbol.level(), mended.level),
+            (Version::MIN, level, level)
+        );
+    }
+    let series = encode_series(b"A", Version::MAX, Level::L, &Options::default()).unwrap();
+    assert_eq!(
+        (
+            series[0].level(),
+            mend(series[0].modules(), 177).unwrap().level
+        ),
+        (Level::L, Level::L)
+    );
+}
+
+#[test]
+fn interpretations_are_written() {
+    let content_of = |input: &[u8], options: &Options| {
+        let symbol = encode(input, Version::MIN, Level::L, options).unwrap();
+        read(symbol.modules(), symbol.side()).unwrap()
+    };
+    for (text, ecis) in [
+        (
+            "Grüße",
+            vec![Eci {
+                begin: 0,
+                number: 26,
+            }],
+        ),
+        ("Shelf 12", vec![]),
+    ] {
+        let content = content_of(text.as_bytes(), &Options::of_text(text));
+        assert_eq!((content.text().as_deref(), content.ecis), (Ok(text), ecis));
+    }
+    for number in [0, 3, 127, 128, 16383, 16384, 999_999] {
+        let content = content_of(b"A\xFF", &interpreted(Interpretation::Eci(number)));
+        assert_eq!(
+            (content.data.as_slice(), content.ecis),
+            (b"A\xFF".as_slice(), vec![Eci { begin: 0, number }])
+        );
+    }
+    let content = content_of(b"10A%B\x1D2112", &interpreted(Interpretation::Gs1));
+    assert_eq!(
+        (content.data.as_slice(), content.fnc1),
+        (b"10A%B\x1D2112".as_slice(), Some(Fnc1::Gs1))
+    );
+    let shift_jis = Options {
+        interpretation: Interpretation::Eci(20),
+        ..WITH_KANJI
+    };
+    assert_eq!(
+        content_of(b"\x93\x5f", &shift_jis).ecis,
+        [Eci {
+            begin: 0,
+            number: 20
+        }]
+    );
+    let text = "Grüße aus Köln, ".repeat(12);
+    let version = Version::new(3).unwrap();
+    let series =
+        encode_series(text.as_bytes(), version, Level::L, &Options::of_text(&text)).unwrap();
+    assert!(series.len() > 2);
+    for symbol in series {
+        assert_eq!(
+            read(symbol.modules(), 29).unwrap().ecis,
+            [Eci {
+                begin: 0,
+                number: 26
+            }]
+        );
+    }
+}
+
+#[test]
+fn interpretations_are_refused() {
+    let refused = |input: &[u8], options: &Options| {
+        let one = encode(input, Version::MIN, Level::L, options).unwrap_err();
+        assert_eq!(
+            encode_series(input, Version::MIN, Level::L, options).unwrap_err(),
+            one
+        );
+        one
+    };
+    for number in [1_000_000, 1_000_001, u32::MAX] {
+        assert_eq!(
+            refused(b"A", &interpreted(Interpretation::Eci(number))),
+            Error::Settings
+        );
+    }
+    let utf_8 = Options {
+        interpretation: Interpretation::Eci(26),
+        ..WITH_KANJI
+    };
+    assert_eq!(refused(b"A", &utf_8), Error::Settings);
+    for input in [b"A\x1D\x1D".as_slice(), b"A\x1D%"] {
+        assert_eq!(
+            refused(input, &interpreted(Interpretation::Gs1)),
+            Error::Fields
+        );
     }
 }
 
 #[test]
 fn a_series_is_read_and_joined() {
     let data = b"ABCDEFGH".repeat(6);
-    let series = encode_series(&data, Version::MIN, Level::L, Rule::Auto).unwrap();
+    let series = encode_series(&data, Version::MIN, Level::L, &PLAIN).unwrap();
     let contents: Vec<_> = series
         .iter()
         .map(|it| read(it.modules(), it.side()).unwrap())
@@ -250,7 +394,7 @@ fn a_series_is_read_and_joined() {
         );
     }
     assert_eq!(
-        encode_series(b"A", Version::MAX, Level::H, Rule::Auto)
+        encode_series(b"A", Version::MAX, Level::H, &PLAIN)
             .unwrap()
             .len(),
         1
@@ -261,15 +405,15 @@ fn a_series_is_read_and_joined() {
 fn each_refusal_has_its_error() {
     let letters = |count| vec![b'a'; count];
     assert_eq!(
-        encode(b"", Version::MIN, Level::L, Rule::Auto),
+        encode(b"", Version::MIN, Level::L, &PLAIN),
         Err(Error::Empty)
     );
     assert_eq!(
-        encode(&letters(2954), Version::MIN, Level::L, Rule::BytesOnly),
+        encode(&letters(2954), Version::MIN, Level::L, &BYTES_ONLY),
         Err(Error::TooLong)
     );
     assert_eq!(
-        encode_series(&letters(81), Version::MIN, Level::H, Rule::BytesOnly),
+        encode_series(&letters(81), Version::MIN, Level::H, &BYTES_ONLY),
         Err(Error::TooMany)
     );
     assert_eq!(read(&eight_digits(), 22), Err(Error::Side));
@@ -288,12 +432,12 @@ fn each_refusal_has_its_error() {
 
 #[test]
 fn calls_run_side_by_side() {
-    let wanted = encode(b"Shelf 12", Version::MIN, Level::M, Rule::Auto).unwrap();
+    let wanted = encode(b"Shelf 12", Version::MIN, Level::M, &PLAIN).unwrap();
     std::thread::scope(|scope| {
         for _ in 0..8 {
             scope.spawn(|| {
                 assert_eq!(
-                    encode(b"Shelf 12", Version::MIN, Level::M, Rule::Auto).as_ref(),
+                    encode(b"Shelf 12", Version::MIN, Level::M, &PLAIN).as_ref(),
                     Ok(&wanted)
                 )
             });
@@ -303,7 +447,7 @@ fn calls_run_side_by_side() {
 
 #[test]
 fn symbols_are_drawn() {
-    let symbol = encode(b"A", Version::MIN, Level::L, Rule::Auto).unwrap();
+    let symbol = encode(b"A", Version::MIN, Level::L, &PLAIN).unwrap();
     let lines: String = symbol
         .rows()
         .map(|row| {
@@ -326,7 +470,7 @@ fn symbols_are_drawn() {
         .unwrap()
         .contains("viewBox=\"0 0 29 29\""));
 
-    let other = encode(b"A", Version::MAX, Level::L, Rule::Auto).unwrap();
+    let other = encode(b"A", Version::MAX, Level::L, &PLAIN).unwrap();
     let none: &[qrproved::Symbol] = &[];
     assert_eq!(draw(none, Drawing::Utf8, 4), Err(Error::Settings));
     assert_eq!(
@@ -342,7 +486,7 @@ fn symbols_are_drawn() {
 
 #[test]
 fn a_document_has_a_size() {
-    let symbols = vec![encode(b"A", Version::MIN, Level::L, Rule::Auto).unwrap(); 2];
+    let symbols = vec![encode(b"A", Version::MIN, Level::L, &PLAIN).unwrap(); 2];
     for (count, mm, size) in [
         (1, 29.0, "width=\"29mm\" height=\"29mm\""),
         (2, 12.5, "width=\"12.5mm\" height=\"25mm\""),
@@ -363,7 +507,7 @@ fn a_document_has_a_size() {
 
 #[test]
 fn drawings_are_parsed() {
-    let symbols = encode_series(b"ABCDEFGH", Version::MIN, Level::H, Rule::BytesOnly).unwrap();
+    let symbols = encode_series(b"ABCDEFGH", Version::MIN, Level::H, &BYTES_ONLY).unwrap();
     assert_eq!(symbols.len(), 2);
     for drawing in [
         Drawing::Ascii,
