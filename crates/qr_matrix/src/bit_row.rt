@@ -337,7 +337,7 @@ impl BitRow {
     }
 }
 
-fn low_bits(n: u32) -> u64
+pub(crate) fn low_bits(n: u32) -> u64
     requires { n ≤ 64 }
     ensures { result ≡ 2 ^ n - 1 }
 {

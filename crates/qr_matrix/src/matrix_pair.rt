@@ -1,6 +1,6 @@
 //! Two squares of one side, on whose modules one operation works at once.
 
-ghost use Rattle.std.specs.Prelude.{◌≡◌, ℕ, Bool, ◌%◌, ◌<◌, ◌≤◌, ◌&&◌, ◌==◌, not, true, false, length, if◌then◌else◌};
+ghost use Rattle.std.specs.Prelude.{◌≡◌, ℕ, Bool, ◌+◌, ◌-◌, ◌%◌, ◌<◌, ◌≤◌, ◌&&◌, ◌==◌, nat_le, nat_lt, not, true, false, length, if◌then◌else◌};
 ghost use Rattle.qr_matrix.specs.Grid.{colour, light, one_of, painted, square, with_row, IsSquare};
 ghost use Rattle.qr_matrix.specs.BitRow.{dark_in, has, has_bit};
 ghost use Rattle.qr_matrix.specs.Steps.{lane, lanes, NeedsWords};
@@ -86,6 +86,20 @@ impl<'a> MatrixPair<'a> {
             ≡ painted (one_of self.old second) row col (if second then dark.1 else dark.0) }
     {
         self.rows[usize::from(row)].put(col, dark);
+    }
+
+    /// Sets the `count` modules of row `row` from column `col` on: in each square the module in column `col + k` becomes
+    /// dark if bit `k` of its part of `bits` is 1, and light otherwise.
+    #[inline(always)]
+    pub fn set_columns(&mut self, row: u8, col: u8, count: u8, bits: (u64, u64))
+        requires row_in { row < self.old.first.side }
+        requires columns_in { col + count ≤ self.old.first.side }
+        requires few { count ≤ 64 }
+        ensures { (second : Bool) → one_of self.new second ≡ with_row (one_of self.old second) row
+            (λ c. if nat_le col c && nat_lt c (col + count) then has_bit (if second then bits.1 else bits.0) (c - col)
+            else colour (one_of self.old second) row c) }
+    {
+        self.rows[usize::from(row)].put_bits(col, count, bits);
     }
 
     #[inline(always)]

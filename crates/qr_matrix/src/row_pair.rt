@@ -1,11 +1,11 @@
 //! The bit rows of two squares, side by side in vectors, on which one operation works on 64 modules of each square.
 
-ghost use Rattle.std.specs.Prelude.{◌≡◌, ℕ, Bool, List, ◌+◌, ◌-◌, ◌*◌, ◌/◌, ◌%◌, ◌<◌, ◌≤◌, ◌&&◌, ◌||◌, ◌==◌, not, true, false, nat_lt, if◌then◌else◌};
+ghost use Rattle.std.specs.Prelude.{◌≡◌, ℕ, Bool, List, ◌+◌, ◌-◌, ◌*◌, ◌/◌, ◌%◌, ◌<◌, ◌≤◌, ◌&&◌, ◌||◌, ◌==◌, not, true, false, nat_le, nat_lt, if◌then◌else◌};
 ghost use Rattle.qr_matrix.specs.Grid.{is_same};
 ghost use Rattle.qr_matrix.specs.BitRow.{has, has_bit};
 ghost use Rattle.qr_matrix.specs.Steps.{lane, word_of, IsPair};
 
-use crate::bit_row::BitRow;
+use crate::bit_row::{BitRow, low_bits};
 use crate::rows::Rows;
 use std::marker::Model;
 use std::simd::prelude::*;
@@ -103,6 +103,42 @@ impl RowPair {
             self.high = with_bit(self.high, index - 128, dark);
         }
     }
+
+    // In word `number` of each row, gives the bits that are set in `mask` the values that they have in `bits`.
+    #[inline(always)]
+    fn put_in(&mut self, number: u8, mask: u64, bits: (u64, u64))
+        requires { number < 3 }
+        ensures { (second : Bool) (i : ℕ) → has (lane self.new second) i
+            ≡ (if i / 64 == number && has_bit mask (i % 64) then has_bit (if second then bits.1 else bits.0) (i % 64)
+            else has (lane self.old second) i) }
+    {
+        match number {
+            0 => self.low = with_bits(self.low, mask, bits),
+            1 => self.middle = with_bits(self.middle, mask, bits),
+            _ => self.high = with_bits(self.high, mask, bits),
+        }
+    }
+
+    // Gives the `count` bits from bit `index` on of each row the values of the lowest bits of its part of `bits`. They may
+    // be in two words.
+    #[inline(always)]
+    pub(crate) fn put_bits(&mut self, index: u8, count: u8, bits: (u64, u64))
+        requires few { count ≤ 64 }
+        requires index_in { index < 192 }
+        requires fits { index + count ≤ 192 }
+        ensures { (second : Bool) (i : ℕ) → has (lane self.new second) i
+            ≡ (if nat_le index i && nat_lt i (index + count) then has_bit (if second then bits.1 else bits.0) (i - index)
+            else has (lane self.old second) i) }
+    {
+        let number = index / 64;
+        let at = index % 64;
+        let mask = low_bits(u32::from(count));
+        self.put_in(number, mask << at, (bits.0 << at, bits.1 << at));
+        if at + count > 64 {
+            let rest = 64 - at;
+            self.put_in(number + 1, mask >> rest, (bits.0 >> rest, bits.1 >> rest));
+        }
+    }
 }
 
 // Sets bit `at` of each word, or clears it.
@@ -116,6 +152,17 @@ fn with_bit(words: u64x2, at: u8, dark: (bool, bool)) -> u64x2
 {
     let bits = u64x2::from_array([u64::from(dark.0) << at, u64::from(dark.1) << at]);
     words & u64x2::splat(!(1u64 << at)) | bits
+}
+
+// Gives the bits of each word that are set in `mask` the values that they have in its part of `bits`.
+#[inline(always)]
+fn with_bits(words: u64x2, mask: u64, bits: (u64, u64)) -> u64x2
+    requires { IsPair words }
+    ensures pair { IsPair result }
+    ensures bits { (second : Bool) (i : ℕ) → has_bit (word_of result second) i
+        ≡ (if has_bit mask i then has_bit (if second then bits.1 else bits.0) i else has_bit (word_of words second) i) }
+{
+    words ^ (words ^ u64x2::from_array([bits.0, bits.1])) & u64x2::splat(mask)
 }
 
 impl Rows for RowPair {

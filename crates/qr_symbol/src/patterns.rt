@@ -1,7 +1,7 @@
 //! Draws the function patterns, the format information and the version information, and the square in which only the
 //! region is dark (ISO/IEC 18004:2015, 6.3, 7.9 and 7.10). `format` is the format information as a number.
 
-ghost use Rattle.std.specs.Prelude.{◌≡◌, ℕ, Bool, ◌%◌, ◌+◌, ◌<◌, ◌≤◌, ◌==◌, ◌&&◌, not, if◌then◌else◌, nat_le, nat_lt, false, IfOk};
+ghost use Rattle.std.specs.Prelude.{◌≡◌, ℕ, Bool, ◌%◌, ◌+◌, ◌-◌, ◌<◌, ◌≤◌, ◌==◌, ◌&&◌, not, if◌then◌else◌, nat_le, nat_lt, false, IfOk};
 ghost use Rattle.std.specs.List.{list_any, All};
 ghost use Rattle.qr_layout.specs.Version.{side_of};
 ghost use Rattle.qr_layout.specs.Alignment.{alignment_places, centres_of};
@@ -15,6 +15,7 @@ ghost use Rattle.qr_matrix.specs.BitRow.{has_bit};
 ghost use Rattle.qr_symbol.specs.Steps.Patterns.{fixed_colour, format_bits_or, format_or, is_dark_in_six, is_in_block, paint_of, IsOver};
 ghost use Rattle.qr_symbol.specs.Steps.Placement.{region_grid};
 
+use crate::placement::reversed;
 use qr_layout::{
     Module, Rectangle, Version, alignment_centres, fixed_rectangles, format_place,
     second_format_place,
@@ -116,34 +117,66 @@ pub(crate) fn draw_format(matrix: &mut Matrix, v: Version, format: u32)
     draw_format_bits(matrix, v, format, 9, FORMAT_BITS);
 }
 
+// The bits of the format information from bit 14, as bit 0, down to bit 0: in this order row 8 has them from left to right.
 #[inline(always)]
-fn draw_both_format_bits(pair: &mut MatrixPair, v: Version, formats: (u32, u32), first: u8, end: u8)
-    requires squares { (second : Bool) → IsSquare (side_of v) (one_of pair.old second) }
-    requires in_order { first ≤ end }
-    requires end_in { end ≤ 15 }
-    ensures { (second : Bool) → one_of pair.new second ≡ square (side_of v)
-        (λ r c. format_bits_or first end (if second then formats.1 else formats.0) (role_of v r c)
-        (colour (one_of pair.old second) r c)) }
+fn reversed_format(format: u32) -> u64
+    ensures { (k : ℕ) → k < 15 → has_bit result k ≡ has_bit format (14 - k) }
 {
-    for bit in first..end {
-        let dark = (is_bit_set(formats.0, bit), is_bit_set(formats.1, bit));
-        let one = format_place(bit);
-        pair.set(one.row, one.col, dark);
-        let other = second_format_place(v, bit);
-        pair.set(other.row, other.col, dark);
+    reversed(u64::from(format)) >> 49
+}
+
+// Bit `bit` of each format information.
+#[inline(always)]
+fn both_bits(formats: (u32, u32), bit: u8) -> (bool, bool)
+    ensures { (second : Bool) → (if second then result.1 else result.0)
+        ≡ has_bit (if second then formats.1 else formats.0) bit }
+{
+    (is_bit_set(formats.0, bit), is_bit_set(formats.1, bit))
+}
+
+// Draws the bits that the copies have in column 8, but for row 8.
+#[inline(always)]
+fn draw_both_down(pair: &mut MatrixPair, v: Version, formats: (u32, u32))
+    requires { (second : Bool) → IsSquare (side_of v) (one_of pair.old second) }
+    ensures { (second : Bool) → one_of pair.new second ≡ square (side_of v)
+        (λ r c. if r == 8 then colour (one_of pair.old second) r c
+        else format_or (if second then formats.1 else formats.0) (role_of v r c) (colour (one_of pair.old second) r c)) }
+{
+    for bit in 0..7 {
+        let place = format_place(bit);
+        pair.set(place.row, place.col, both_bits(formats, bit));
+    }
+    for bit in 8..FORMAT_BITS {
+        let place = second_format_place(v, bit);
+        pair.set(place.row, place.col, both_bits(formats, bit));
     }
 }
 
-// As `draw_format`, but in two squares, in each format information of its own.
+// Draws the bits that the copies have in row 8. The first copy has bits 14 to 9 in columns 0 to 5, and after the timing
+// pattern bits 8 and 7. The second copy has bits 7 to 0 in the last eight columns.
+#[inline(always)]
+fn draw_both_across(pair: &mut MatrixPair, v: Version, formats: (u32, u32))
+    requires { (second : Bool) → IsSquare (side_of v) (one_of pair.old second) }
+    ensures { (second : Bool) → one_of pair.new second ≡ square (side_of v)
+        (λ r c. if r == 8 then format_or (if second then formats.1 else formats.0) (role_of v r c)
+        (colour (one_of pair.old second) r c) else colour (one_of pair.old second) r c) }
+{
+    let (first, second) = (reversed_format(formats.0), reversed_format(formats.1));
+    pair.set_columns(8, 0, 6, (first, second));
+    pair.set_columns(8, 7, 2, (first >> 6, second >> 6));
+    pair.set_columns(8, v.side() - 8, 8, (first >> 7, second >> 7));
+}
+
+// As `draw_format`, but in two squares, in each format information of its own. A write to a row waits for the write to the
+// same row before it, so the bits in row 8 are written several at a time.
 pub(crate) fn draw_both_formats(pair: &mut MatrixPair, v: Version, formats: (u32, u32))
     requires { (second : Bool) → IsSquare (side_of v) (one_of pair.old second) }
     ensures { (second : Bool) → one_of pair.new second ≡ square (side_of v)
         (λ r c. format_or (if second then formats.1 else formats.0) (role_of v r c)
         (colour (one_of pair.old second) r c)) }
 {
-    draw_both_format_bits(pair, v, formats, 0, 6);
-    draw_both_format_bits(pair, v, formats, 6, 9);
-    draw_both_format_bits(pair, v, formats, 9, FORMAT_BITS);
+    draw_both_down(pair, v, formats);
+    draw_both_across(pair, v, formats);
 }
 
 // Draws the three corners: the finder patterns, their separators, and beside them in row 8 and column 8 two modules of

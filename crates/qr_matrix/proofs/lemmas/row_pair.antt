@@ -1,4 +1,6 @@
 -- Lemmas on the bit rows of two squares.
 pub mod PairLemmas
+-- Neighbouring bits of the rows of two squares that are written at once.
+pub mod NeighbourLemmas
 -- Rows with one pattern, which are twelve rows apart.
 pub mod TurnLemmas
