@@ -23,6 +23,5 @@ pub use bytes::{matrices_of_bytes, matrix_of_bytes, write_square};
 pub use dark_runs::{DarkRuns, Run};
 pub use difference::differences;
 pub use matrix::Matrix;
-pub use matrix_pair::{MatrixPair, light_rows};
+pub use matrix_pair::MatrixPair;
 pub use penalties::penalty;
-pub use row_pair::RowPair;

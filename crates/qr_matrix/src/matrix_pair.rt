@@ -1,25 +1,26 @@
 //! Two squares of one side, on whose modules one operation works at once.
 
-ghost use Rattle.std.specs.Prelude.{◌≡◌, ℕ, Bool, ◌+◌, ◌-◌, ◌%◌, ◌<◌, ◌≤◌, ◌&&◌, ◌==◌, nat_le, nat_lt, not, true, false, length, if◌then◌else◌};
+ghost use Rattle.std.specs.Prelude.{◌≡◌, ℕ, Bool, ◌+◌, ◌-◌, ◌%◌, ◌<◌, ◌≤◌, ◌&&◌, ◌==◌, nat_le, nat_lt, not, true, false, if◌then◌else◌, IfOk};
 ghost use Rattle.qr_matrix.specs.Grid.{colour, light, one_of, painted, square, with_row, IsSquare};
-ghost use Rattle.qr_matrix.specs.BitRow.{dark_in, has, has_bit};
-ghost use Rattle.qr_matrix.specs.Steps.{lane, lanes, NeedsWords};
+ghost use Rattle.qr_matrix.specs.BitRow.{has, has_bit};
+ghost use Rattle.qr_matrix.specs.Steps.{lane, NeedsWords};
 
 use crate::bit_row::BitRow;
 use crate::matrix::Matrix;
 use crate::row_pair::RowPair;
 use crate::rows::{Rows, Squares, words_for};
+use std::alloc::{AllocError, Global};
 use std::marker::Model;
 
-/// Two squares of 1 to 177 modules on a side, in rows that the caller lends. Contracts see them as two grids.
+/// Two squares of 1 to 177 modules on a side. Contracts see them as two grids.
 #[derive(Drop)]
-pub struct MatrixPair<'a> {
+pub struct MatrixPair {
     side: u8,
-    // From the top down; those after row `side - 1` are not used. In the others no bit outside the squares is set.
-    rows: &'a mut [RowPair],
+    // From the top down. No bit outside the squares is set.
+    rows: Vec<RowPair>,
 }
 
-impl<'a> Model for MatrixPair<'a> {
+impl Model for MatrixPair {
     ghost use Rattle.std.specs.Prelude.{◌≡◌, ℕ, Bool, ◌≤◌, true, false, length};
     ghost use Rattle.qr_matrix.specs.Grid.{GridPair, square};
     ghost use Rattle.qr_matrix.specs.BitRow.{dark_in};
@@ -28,33 +29,27 @@ impl<'a> Model for MatrixPair<'a> {
     ghost Value = { GridPair };
 
     ghost view = { λ p. record {
-      first = square p.side (dark_in (lanes p.rows.now false));
-      second = square p.side (dark_in (lanes p.rows.now true));
+      first = square p.side (dark_in (lanes p.rows.items false));
+      second = square p.side (dark_in (lanes p.rows.items true));
     } };
 
-    ghost invariant = { λ p. (1 ≤ p.side) × (p.side ≤ 177) × (p.side ≤ length p.rows.now) × (length p.rows.now ≤ 177)
-        × ((second : Bool) (r c : ℕ) → p.side ≤ c → dark_in (lanes p.rows.now second) r c ≡ false) };
+    ghost invariant = { λ p. (1 ≤ p.side) × (p.side ≤ 177) × (length p.rows.items ≡ p.side)
+        × ((second : Bool) (r c : ℕ) → p.side ≤ c → dark_in (lanes p.rows.items second) r c ≡ false) };
 }
 
-/// Returns rows of light modules, for a `MatrixPair` of at most `ROWS` modules on a side.
-pub fn light_rows<const ROWS: usize>() -> [RowPair; ROWS]
-    ensures long { length result ≡ ROWS }
-    ensures light { (second : Bool) (r c : ℕ) → dark_in (lanes result second) r c ≡ false }
-{
-    [<RowPair as Rows>::empty(); ROWS]
-}
-
-impl<'a> MatrixPair<'a> {
-    /// Returns two squares of light modules in `rows`, which `light_rows` returns.
-    pub fn new(side: u8, rows: &'a mut [RowPair]) -> MatrixPair<'a>
+impl MatrixPair {
+    /// Returns two squares of light modules.
+    ///
+    /// # Errors
+    ///
+    /// `AllocError` if memory is refused.
+    pub fn new(alloc: Global, side: u8) -> Result<MatrixPair, AllocError>
         requires least { 1 ≤ side }
         requires most { side ≤ 177 }
-        requires room { side ≤ length rows.old }
-        requires most_rows { length rows.old ≤ 177 }
-        requires light { (second : Bool) (r c : ℕ) → dark_in (lanes rows.old second) r c ≡ false }
-        ensures { (second : Bool) → one_of result second ≡ light side }
+        ensures { IfOk result (λ pair. (second : Bool) → one_of pair second ≡ light side) }
     {
-        MatrixPair { side, rows }
+        let rows = vec![in alloc; <RowPair as Rows>::empty(); usize::from(side)]?;
+        Ok(MatrixPair { side, rows })
     }
 
     /// Returns the number of modules on a side, from 1 to 177.
@@ -182,7 +177,7 @@ impl<'a> MatrixPair<'a> {
     }
 }
 
-impl<'a> Squares for MatrixPair<'a> {
+impl Squares for MatrixPair {
     type Row = RowPair;
 
     ghost size = { λ pair. pair.first.side };

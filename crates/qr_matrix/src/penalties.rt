@@ -129,7 +129,7 @@ pub fn penalty(m: &Matrix) -> u32
     points(m.side(), count_all(m))
 }
 
-impl<'a> MatrixPair<'a> {
+impl MatrixPair {
     /// Returns the penalties of both squares, as `penalty` does.
     pub fn penalties(&self) -> (u32, u32)
         ensures first { result.0 ≡ penalty_of self.now.first.side (colour self.now.first) }

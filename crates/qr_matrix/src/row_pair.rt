@@ -10,10 +10,10 @@ use crate::rows::Rows;
 use std::marker::Model;
 use std::simd::prelude::*;
 
-/// A row of each of two squares.
-// Two rows of 192 bits in three words of 64 bits, the lowest first; a vector has one word of each row.
+// A row of each of two squares: two rows of 192 bits in three words of 64 bits, the lowest first. A vector has one word
+// of each row.
 #[derive(Clone, Copy)]
-pub struct RowPair {
+pub(crate) struct RowPair {
     low: u64x2,
     middle: u64x2,
     high: u64x2,

@@ -8,7 +8,7 @@ draw_data-requires c = square-is _ (λ _ _. false) _ (c.in_ok-matrix.ensures ∙
 
 pub returns-clause-mask : goal.returns-clause-mask
 returns-clause-mask c = let d = c.draw_data in
-    canvas-mask _ _ _ d.new.self _ (omega arith) d.ensures.version d.ensures.level d.ensures.plain c.best_mask-mask.ensures
+    canvas-mask _ _ _ d.new.self _ (omega arith) d.ensures.version d.ensures.level d.ensures.plain c.in_ok-mask.ensures
 
 pub returns-clause-matrix : goal.returns-clause-matrix
 returns-clause-matrix c = let d = c.draw_data in
@@ -17,3 +17,7 @@ returns-clause-matrix c = let d = c.draw_data in
 pub returns-in_err-matrix : goal.returns-in_err-matrix
 returns-in_err-matrix c = let p = err_from_is_err_and c.from_residual.result c.from_residual.ensures.1 in rw p.1
     (record { kept_version = refl; kept_level = refl; version = tt; level = tt; mask = tt; matrix = tt; fault = p.2 })
+
+pub returns-in_err-mask : goal.returns-in_err-mask
+returns-in_err-mask c = let p = err_from_is_err_and c.from_residual-in_err-mask.result c.from_residual-in_err-mask.ensures.1 in rw p.1
+    (record { kept_version = c.draw_data.ensures.version; kept_level = c.draw_data.ensures.level; version = tt; level = tt; mask = tt; matrix = tt; fault = p.2 })

@@ -1,4 +1,4 @@
-use Rattle.std.proofs.Common.{get_or, ◌<◌, length, ◌*◌, ap, ◌∙◌, false, refl, arith}
+use Rattle.std.proofs.Common.{◌<◌, length, ◌*◌, ◌∙◌, false, refl, arith}
 use Rattle.qr_matrix.specs.{Grid.one_of, BitRow.has, Steps.{lane, lanes}}
 use Rattle.qr_matrix.proofs.lemmas.{bit_row.BoolLemmas.false-and, matrix.MatrixLemmas.{row-of-square, row-past, words-kept}, row_pair.PairLemmas.{lane-read, lanes-long, side-of, square-of}}
 use Rattle.qr_matrix.proofs.matrix_pair.MatrixPairSquares.row_in.Goals as goal
@@ -6,19 +6,19 @@ use Rattle.qr_matrix.proofs.matrix_pair.MatrixPairSquares.row_in.Goals as goal
 pub returns-clause-colours : goal.returns-clause-colours
 returns-clause-colours c = λ s k.
     let m = c.self.inside in
-    let here = get_or m.rows.now c.args.row c.index-self-row.result in
+    let here = c.index.result.now in
     let row = lane here s in
-    let e = side-of m.side m.rows.now c.args.self.now c.self.view_is false in
-    let l = lane-read m.rows.now c.args.row here s (omega (arith, c.self.invariant.1, c.self.invariant.2, c.self.invariant.3)) (ap (get_or m.rows.now c.args.row) c.index-self-row.is) in
-    let long : c.args.row < length (lanes m.rows.now s) = omega (arith, lanes-long m.rows.now s, c.self.invariant.1, c.self.invariant.2, c.self.invariant.3) in
-    c.in_words.ensures s k ∙ (words-kept m.side (64 * c.args.words) k (has row k) (omega (arith, c.requires.width.most)) (λ n. row-past m.side c.args.row c.args.row (lanes m.rows.now s) row refl long (c.self.invariant.4 s) l k n)
-    ∙ row-of-square m.side c.args.row c.args.row (lanes m.rows.now s) row (one_of c.args.self.now s) (square-of m.side m.rows.now c.args.self.now c.self.view_is s) refl long (omega arith) (c.self.invariant.4 s) l k)
+    let e = side-of m.side m.rows.items c.args.self.now c.self.view_is false in
+    let l = lane-read m.rows.items c.args.row here s (omega (arith, c.self.invariant.1, c.self.invariant.2)) c.index.ensures in
+    let long : c.args.row < length (lanes m.rows.items s) = omega (arith, lanes-long m.rows.items s, c.self.invariant.1, c.self.invariant.2) in
+    c.in_words.ensures s k ∙ (words-kept m.side (64 * c.args.words) k (has row k) (omega (arith, c.requires.width.most)) (λ n. row-past m.side c.args.row c.args.row (lanes m.rows.items s) row refl long (c.self.invariant.3 s) l k n)
+    ∙ row-of-square m.side c.args.row c.args.row (lanes m.rows.items s) row (one_of c.args.self.now s) (square-of m.side m.rows.items c.args.self.now c.self.view_is s) refl long (omega arith) (c.self.invariant.3 s) l k)
 
 pub returns-clause-past : goal.returns-clause-past
 returns-clause-past c = λ s k n.
     let m = c.self.inside in
-    let here = get_or m.rows.now c.args.row c.index-self-row.result in
+    let here = c.index.result.now in
     let row = lane here s in
-    let e = side-of m.side m.rows.now c.args.self.now c.self.view_is false in
-    let l = lane-read m.rows.now c.args.row here s (omega (arith, c.self.invariant.1, c.self.invariant.2, c.self.invariant.3)) (ap (get_or m.rows.now c.args.row) c.index-self-row.is) in
-    c.in_words.ensures s k ∙ false-and (has row k) _ (row-past m.side c.args.row c.args.row (lanes m.rows.now s) row refl (omega (arith, lanes-long m.rows.now s, c.self.invariant.1, c.self.invariant.2, c.self.invariant.3)) (c.self.invariant.4 s) l k (omega arith))
+    let e = side-of m.side m.rows.items c.args.self.now c.self.view_is false in
+    let l = lane-read m.rows.items c.args.row here s (omega (arith, c.self.invariant.1, c.self.invariant.2)) c.index.ensures in
+    c.in_words.ensures s k ∙ false-and (has row k) _ (row-past m.side c.args.row c.args.row (lanes m.rows.items s) row refl (omega (arith, lanes-long m.rows.items s, c.self.invariant.1, c.self.invariant.2)) (c.self.invariant.3 s) l k (omega arith))
