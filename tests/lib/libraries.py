@@ -202,3 +202,15 @@ class Library:
             return STATUSES[status] + others + ("" if is_unchanged else ", structs changed")
         fields = {"ecis": self.told_ecis(mended.eci_count), **{name: getattr(mended, name) for name, _ in Mended._fields_}}
         return {"bytes": bytes(self.bytes[:used]), **fields} if not others else f"DONE{others}"
+
+
+def no_drawings(library):
+    """Returns texts that look like drawings and are none, each with the number of modules that it states, if it states any: drawings
+    of each type with a change, one of half blocks whose characters are shorter, the path of a document without what comes before
+    it, and a path on the largest canvas. Drawn again, that of half blocks and the path alone are longer."""
+    squares, side = library.encoded((b"7" * 7089, 40, "L", 0))
+    *texts, document = (library.drawing(squares * 16, side, drawing, MARGIN) for drawing in range(4))
+    width, path = side + 2 * MARGIN, document[document.index(b"M"):]
+    return [*((text[:-2] + b"-\n", 0) for text in texts), (document[:-2] + b"-\n", 16 * width * width),
+            (b"\xe2" + texts[2].replace(b"\xe2\x96", b""), 0), (b"<%s%d %d " % (b"0 " * 9, width, 16 * width) + path, 16 * width * width),
+            (b"<%s687 10992 " % (b"0 " * 9) + path, 687 * 10992)]

@@ -1,6 +1,7 @@
 //! Tests of `Counted`, which passes calls on to a `Read` or a `Write` of the standard library, and returns its errors
-//! as `Trouble`.
+//! as `Trouble`, and of `Bounded`, a writer in memory.
 
+use qr_devices::Bounded;
 use qrencode_cli::{Counted, Sink, Source, Trouble};
 use std::io::{self, ErrorKind, Read, Write};
 
@@ -77,4 +78,17 @@ fn writes_and_flushes_are_passed_on(rt: HostRuntime) {
     assert_eq!(rt; device.flush(), Ok(()));
     assert_eq!(rt; calls, 4);
     assert_eq!(rt; flushes, 2);
+}
+
+#[test]
+fn a_bounded_writer_takes_what_it_has_room_for(rt: HostRuntime) {
+    let mut device = Counted::new(Bounded {
+        bytes: Vec::new(rt.alloc()),
+        most: 3,
+    });
+    assert_eq!(rt; device.write(b"ab"), Ok(2));
+    assert_eq!(rt; device.write(b"cd"), Ok(1));
+    assert_eq!(rt; device.write(b"e"), Ok(0));
+    assert_eq!(rt; device.flush(), Ok(()));
+    assert!(rt; device.into_inner().bytes.as_slice() == b"abc".as_slice());
 }

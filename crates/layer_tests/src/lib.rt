@@ -7,6 +7,8 @@ mod codewords;
 #[cfg(test)]
 mod field;
 #[cfg(test)]
+mod gs1;
+#[cfg(test)]
 mod layout;
 #[cfg(test)]
 mod matrix;

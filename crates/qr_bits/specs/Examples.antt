@@ -1,5 +1,5 @@
 -- Values that the standard prints or that were worked out by hand. The laws compare the definitions with them.
-use Rattle.std.specs.Prelude.{ℕ, List, [], ◌∷◌}
+use Rattle.std.specs.Prelude.{ℕ, List, [], ◌∷◌, ◌++◌, codes}
 use Rattle.qr_bits.specs.declared.modes.Mode.{Mode}
 use Rattle.qr_bits.specs.declared.modes.Mode.TheVariants.{Numeric, Alphanumeric, Byte, Kanji}
 use Rattle.qr_bits.specs.declared.segment.Segment.{Segment}
@@ -101,3 +101,14 @@ unreadable =
     ∷ (0x7C ∷ 0xF4 ∷ 0x24 ∷ 0x00 ∷ [], BadValue)
     ∷ (0x96 ∷ 0x40 ∷ [], BadValue)
     ∷ (0x40 ∷ 0x15 ∷ 0x55 ∷ [], BadMode) ∷ []
+
+-- Three fields of GS1 data, the modes of their bytes, and the segments that are written for these: the second field is in
+-- alphanumeric mode, the third partly in byte mode [own]
+abbrev pub three_fields : List ℕ
+three_fields = codes "12A%B" ++ 0x1D ∷ codes "3C" ++ 0x1D ∷ codes "d%"
+
+abbrev pub modes_of_fields : List Mode
+modes_of_fields = Numeric ∷ Numeric ∷ Alphanumeric ∷ Alphanumeric ∷ Alphanumeric ∷ Alphanumeric ∷ Alphanumeric ∷ Alphanumeric ∷ Byte ∷ Byte ∷ Byte ∷ []
+
+abbrev pub segments_of_fields : List Segment
+segments_of_fields = record { mode = Numeric; len = 2 } ∷ record { mode = Alphanumeric; len = 7 } ∷ record { mode = Byte; len = 3 } ∷ []

@@ -200,8 +200,29 @@ fn percent_choices(
     (row_for(&numbers), numbers)
 }
 
-/// As `best_choices`; `gs1` says that the bytes are GS1 data. There the separator of fields is a `%` in alphanumeric
-/// mode, and `%` is two (7.4.8.2).
+// As `best_choices`, for GS1 data: in alphanumeric mode the separator of fields is a `%`, and `%` is two (7.4.8.2). In a
+// function of its own, so that the loops for other data stay as they are.
+#[inline(never)]
+fn gs1_choices(
+    first_choices: &FirstChoices,
+    rule: Rule,
+    byte: u8,
+    pair: bool,
+    rest: &PerState,
+) -> (u32, PerState)
+    requires { IsSmall rest.now }
+    ensures { IsRow Interpretation.Gs1 first_choices.now.version rule byte pair rest.now result.0 result.1 }
+{
+    if byte == b'%' {
+        percent_choices(first_choices, rule, pair, rest)
+    } else if byte == SEPARATOR {
+        best_choices(first_choices, rule, b'%', pair, rest)
+    } else {
+        best_choices(first_choices, rule, byte, pair, rest)
+    }
+}
+
+/// As `best_choices`; `gs1` says that the bytes are GS1 data.
 #[inline(always)]
 pub(crate) fn row_of(
     first_choices: &FirstChoices,
@@ -215,13 +236,10 @@ pub(crate) fn row_of(
     ensures { (i : Interpretation) → gs1 ≡ is_gs1 i
         → IsRow i first_choices.now.version rule byte pair rest.now result.0 result.1 }
 {
-    if !gs1 {
-        best_choices(first_choices, rule, byte, pair, rest)
-    } else if byte == b'%' {
-        percent_choices(first_choices, rule, pair, rest)
+    if gs1 {
+        gs1_choices(first_choices, rule, byte, pair, rest)
     } else {
-        let character = if byte == SEPARATOR { b'%' } else { byte };
-        best_choices(first_choices, rule, character, pair, rest)
+        best_choices(first_choices, rule, byte, pair, rest)
     }
 }
 

@@ -8,17 +8,17 @@ ghost use Rattle.qr_bits.specs.declared.modes.Rule.{Rule};
 ghost use Rattle.qr_bits.specs.declared.segment.Segment.{Segment};
 ghost use Rattle.qr_bits.specs.declared.header.Header.{Header};
 ghost use Rattle.qr_bits.specs.declared.interpretation.Interpretation.{Interpretation};
-ghost use Rattle.qr_bits.specs.Interpretation.{interpretation_bits};
+ghost use Rattle.qr_bits.specs.Interpretation.{are_fields, characters_in, doubled, interpretation_bits, items_in, meant_bytes};
 ghost use Rattle.qr_bits.specs.Bits.{bits_of, field};
 ghost use Rattle.qr_bits.specs.Header.{header_bits, header_stream, parity_of};
 ghost use Rattle.qr_bits.specs.Padding.{capacity_of, padded, room_of};
 ghost use Rattle.qr_bits.specs.Folding.{folded};
-ghost use Rattle.qr_bits.specs.Segmentation.{IsLeastSegmentation, least_bits};
+ghost use Rattle.qr_bits.specs.Segmentation.{IsLeastSegmentation, least_bits, runs_of};
 ghost use Rattle.qr_bits.specs.Modes.{count_width, is_kanji_pair, character_value, kanji_value, may_use};
 ghost use Rattle.qr_bits.specs.Parsing.{kanji_pair, parse, plain_content};
 ghost use Rattle.qr_bits.specs.Stream.{character_bits, digit_bits, segments_stream};
 ghost use Rattle.qr_bits.specs.Laws.{BitsAreCodewordBits, CountsFitWhereBitsFit, DataAreOne, DataAreParsed, DataAreThere, DataFillTheSymbol, FieldsAreRead, FittingInputsAreShort, ItemsAreParsed, LeastSegmentationsFit, PiecesNeedNoMore, PlainDataAreParsed, SegmentationsMeanTheirInput, StreamsAreParsed, StreamsHaveTheirBits};
-ghost use Rattle.qr_bits.specs.Examples.{all_modes, eight_digits, eleven_characters, interpreted, middle, middle_data, one, two_kanji, two_kanji_data, unreadable};
+ghost use Rattle.qr_bits.specs.Examples.{all_modes, eight_digits, eleven_characters, interpreted, middle, middle_data, one, modes_of_fields, segments_of_fields, three_fields, two_kanji, two_kanji_data, unreadable};
 
 use crate::fault::{BitFault, ParseFault};
 use crate::header::Header;
@@ -157,6 +157,20 @@ pub fn parses_compute()
     ensures interpreted { map (λ row. parse 1 (bits_of row.0)) interpreted
         ≡ map (λ row. Ok (record { header = None; items = row.1; ecis = row.2; bytes = row.3 })) interpreted }
     ensures faults { map (λ row. parse 1 (bits_of row.0)) unreadable ≡ map (λ row. Err row.1) unreadable }
+{}
+
+/// How fields of GS1 data are written: in alphanumeric mode `%` as two characters and the separator as `%`, in byte mode
+/// as they are. What is written stands for them again (7.4.8.2). Which data are fields: a separator may come after `%`,
+/// but neither before it nor before another.
+#[tactic(auto, unfolding(crate::specs::Interpretation::characters_gs1, crate::specs::Interpretation::doubled_gs1, crate::specs::Segmentation::runs_of, crate::specs::Interpretation::separated, crate::specs::Interpretation::meant_bytes, crate::specs::Interpretation::are_fields))]
+pub fn fields_compute()
+    ensures characters { characters_in Interpretation.Gs1 three_fields modes_of_fields
+        ≡ codes "12A%%B%3C" ++ 0x1D ∷ codes "d%" }
+    ensures segments { runs_of (doubled Interpretation.Gs1 three_fields modes_of_fields) ≡ segments_of_fields }
+    ensures meant { meant_bytes false (items_in Interpretation.Gs1 segments_of_fields) (codes "12A%%B%3C" ++ 0x1D ∷ codes "d%")
+        ≡ three_fields }
+    ensures fields { map are_fields (three_fields ∷ codes "%%" ∷ (codes "%" ++ 0x1D ∷ []) ∷ (0x1D ∷ 0x1D ∷ []) ∷ (0x1D ∷ codes "%") ∷ [])
+        ≡ true ∷ true ∷ true ∷ false ∷ false ∷ [] }
 {}
 
 /// The room that a header leaves is the capacity less the bits of the header and of what says the interpretation (7.4.2,

@@ -6,7 +6,7 @@ ghost use Rattle.qr_bits.specs.Segmentation.{Covers, bits, segment_bits};
 use crate::modes::{INPUT_MAX, Mode, count_width, payload_bits, suits};
 use qr_layout::Version;
 
-/// The next `len` bytes of the input, written in `mode`.
+/// The next `len` bytes of the input, or of what is written for it (`Segmented`), in `mode`.
 #[derive(Clone, Copy, Debug, PartialEq, Eq)]
 pub struct Segment {
     pub mode: Mode,

@@ -1,8 +1,8 @@
 //! The division by a generator polynomial, a codeword at a time (ISO/IEC 18004:2015, 7.5.2). Multiples of the
 //! polynomial are computed once: the multiple by a codeword is the sum of those by its low and by its high four bits.
 
-ghost use Rattle.std.specs.Prelude.{◌≡◌, ◌≤◌, ℕ, List};
-ghost use Rattle.qr_field.specs.Steps.Register.{HasMultiples, divisor_of, packed, unpacked, value_of};
+ghost use Rattle.std.specs.Prelude.{◌≡◌, ◌+◌, ◌<◌, ◌≤◌, ℕ, List, length, slice_index_or, take};
+ghost use Rattle.qr_field.specs.Steps.Register.{HasMultiples, IsHeld, divisor_of, packed, unpacked, value_of};
 ghost use Rattle.qr_field.specs.Polynomial.{IsCorrection, scaled};
 
 use crate::polynomial::generator;
@@ -81,18 +81,58 @@ impl Divisor {
         self.low[place & 0xF].plus(self.high[place >> 4])
     }
 
+    // The register after one more codeword, which is codeword `i` of `m`.
+    #[inline(always)]
+    fn step(&self, register: Register, codeword: u8) -> Register
+        ensures { (m : List ℕ) (i : ℕ) → i < length m → codeword ≡ slice_index_or m i 0
+            → IsHeld (take i m) self.now (value_of register)
+            → IsHeld (take (i + 1) m) self.now (value_of result) }
+    {
+        // Only for the prover.
+        prove!(self.count >= 1);
+        let factor = codeword ^ register.first();
+        register.rest().plus(self.multiple(factor))
+    }
+
+    // Ends a division, of which `register` is what the first `done` codewords leave.
+    #[inline(always)]
+    fn finished(&self, register: Register, message: &[u8], done: usize) -> ArrayVec<u8, 30>
+        requires done { done ≤ length message.now }
+        requires held { IsHeld (take done message.now) self.now (value_of register) }
+        ensures { IsCorrection message.now self.now result.items }
+    {
+        let mut register = register;
+        for index in done..message.len() {
+            register = self.step(register, message[index]);
+        }
+        register.coefficients(self.count)
+    }
+
     /// Returns the error correction codewords of a block with the data codewords `message`: the one list of `count`
     /// bytes that, appended to `message`, makes a multiple of the generator polynomial (ISO/IEC 18004:2015, 7.5.2).
     pub fn correction(&self, message: &[u8]) -> ArrayVec<u8, 30>
         ensures definition { IsCorrection message.now self.now result.items }
         ensures only { (e : List ℕ) → IsCorrection message.now self.now e → e ≡ result.items }
     {
-        let count = self.count;
-        let mut register = Register::BLANK;
-        for byte in message {
-            let factor = *byte ^ register.first();
-            register = register.rest().plus(self.multiple(factor));
+        self.finished(Register::BLANK, message, 0)
+    }
+
+    /// Returns the error correction codewords of two blocks, as `correction` does. Each step of a division waits for the
+    /// one before, and not for those of the other division, so both together take little longer than one.
+    pub fn corrections(&self, first: &[u8], second: &[u8]) -> (ArrayVec<u8, 30>, ArrayVec<u8, 30>)
+        ensures first { IsCorrection first.now self.now result.0.items }
+        ensures second { IsCorrection second.now self.now result.1.items }
+    {
+        let both = first.len().min(second.len());
+        let mut left = Register::BLANK;
+        let mut right = Register::BLANK;
+        for index in 0..both {
+            left = self.step(left, first[index]);
+            right = self.step(right, second[index]);
         }
-        register.coefficients(count)
+        (
+            self.finished(left, first, both),
+            self.finished(right, second, both),
+        )
     }
 }

@@ -13,7 +13,7 @@ ghost use Rattle.qr_parsing.specs.Steps.Sheet.{IsSheetOf, kind_in};
 use crate::sheet::{COUNT_MAX, SIDE_MIN, Sheet, margin_of, squares_of};
 use crate::svg::{canvas_of, size_in};
 use crate::text::{ascii_sheet, cell_sheet, cells_in, kind_in};
-use qr_devices::Counted;
+use qr_devices::{Bounded, Counted};
 use qr_drawing::{Drawing, draw};
 use qr_symbol::Matrix;
 use std::alloc::{AllocError, Global};
@@ -147,14 +147,21 @@ fn all_begin(squares: &[Matrix]) -> bool
     true
 }
 
-// Each fault of drawing is lack of memory, since a `Vec` fails as a writer only if it cannot grow.
-fn redrawn(alloc: Global, shown: &Drawn, room: usize) -> Result<Vec<u8>, AllocError>
+// Draws what is shown and compares it with `text`. There is room for one byte more than `text` has, since a longer drawing
+// is another one. So no more memory is requested than for a drawing of this length.
+fn is_drawn(alloc: Global, shown: &Drawn, text: &[u8]) -> Result<bool, AllocError>
     requires { CanBeDrawn shown.now.squares.items }
-    ensures { IfOk result (λ text. text.items ≡ drawn shown.now.kind shown.now.margin shown.now.squares.items) }
+    ensures { IfOk result (λ b. Decides b (text.now ≡ drawn shown.now.kind shown.now.margin shown.now.squares.items)) }
 {
-    let mut text = Counted::new(Vec::with_capacity(alloc, room)?);
-    match draw(&shown.squares, shown.kind, shown.margin, &mut text) {
-        Ok(()) => Ok(text.into_inner()),
+    let most = text.len() + 1;
+    let bytes = Vec::with_capacity(alloc, most)?;
+    let mut out = Counted::new(Bounded { bytes, most });
+    let drawing = draw(&shown.squares, shown.kind, shown.margin, &mut out);
+    let again = out.into_inner().bytes;
+    match drawing {
+        Ok(()) => Ok(text == again.as_slice()),
+        Err(_) if again.len() > text.len() => Ok(false),
+        // `draw` fails only where the room ends, but its contract does not say so.
         Err(_) => Err(AllocError),
     }
 }
@@ -168,8 +175,7 @@ fn is_drawing_of(alloc: Global, text: &[u8], shown: &Drawn) -> Result<bool, Allo
     }
     // Only for the prover, which then knows that the margin is at most 255.
     let _margin = shown.margin;
-    let again = redrawn(alloc, shown, text.len())?;
-    Ok(again.as_slice() == text)
+    is_drawn(alloc, shown, text)
 }
 
 /// Returns what the drawing `text` shows.

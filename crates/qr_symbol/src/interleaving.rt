@@ -123,6 +123,7 @@ fn interleave_into(interleaved: &mut [u8], sizes: BlockSizes, codewords: &[u8])
     }
 }
 
+// Takes two blocks at a time, since two divisions take little longer than one, and then the last if it is left.
 fn corrections(alloc: Global, blocks: Blocks, message: &[u8]) -> Result<Vec<u8>, AllocError>
     requires whole { length message.now ≡ codeword_count (data_sizes blocks) }
     requires least { 1 ≤ blocks.ec_len }
@@ -133,7 +134,14 @@ fn corrections(alloc: Global, blocks: Blocks, message: &[u8]) -> Result<Vec<u8>,
     let ec_len = usize::from(blocks.ec_len);
     let divisor = Divisor::new(ec_len);
     let mut corrections = Vec::with_capacity(alloc, sizes.count() * ec_len)?;
-    for block in 0..sizes.count() {
+    for pair in 0..sizes.count() / 2 {
+        let first = sizes.part(message, 2 * pair);
+        let second = sizes.part(message, 2 * pair + 1);
+        let (left, right) = divisor.corrections(first, second);
+        corrections.extend_from_slice(left.as_slice())?;
+        corrections.extend_from_slice(right.as_slice())?;
+    }
+    for block in sizes.count() / 2 * 2..sizes.count() {
         let check = divisor.correction(sizes.part(message, block));
         corrections.extend_from_slice(check.as_slice())?;
     }

@@ -7,7 +7,7 @@ ghost use Rattle.qrproved.specs.Drawing.{AreDrawingSettings, HasFewModules, HasN
 use crate::modules::area;
 use crate::settings::between;
 use crate::status::{DONE, MEMORY, ROOM, SETTINGS};
-use qr_devices::Counted;
+use qr_devices::{Bounded, Counted};
 use qr_drawing::{Drawing, draw};
 use qr_matrix::{Matrix, matrix_of_bytes};
 use std::alloc::{AllocError, Global};
@@ -62,8 +62,8 @@ fn squares_of(alloc: Global, modules: &[u8], side: u8, count: u8) -> Result<Vec<
     Ok(squares)
 }
 
-// Each fault of drawing is lack of memory: a `Vec` as the writer fails only if it cannot grow, and otherwise accepts
-// all bytes.
+// Each fault of drawing is lack of memory: the writer fails only if its `Vec` cannot grow, and otherwise accepts all
+// bytes. It is the writer of `parse_drawing`, so that the library contains the code of `draw` once.
 fn drawn(alloc: Global, modules: &[u8], asked: DrawingSettings) -> Result<Vec<u8>, AllocError>
     requires least { 1 ≤ asked.side }
     requires most { asked.side ≤ 177 }
@@ -74,9 +74,12 @@ fn drawn(alloc: Global, modules: &[u8], asked: DrawingSettings) -> Result<Vec<u8
         ≡ drawn asked.drawing asked.margin (squares_of_bytes asked.side asked.count modules.now)) }
 {
     let squares = squares_of(alloc, modules, asked.side, asked.count)?;
-    let mut text = Counted::new(Vec::new(alloc));
+    let mut text = Counted::new(Bounded {
+        bytes: Vec::new(alloc),
+        most: usize::MAX,
+    });
     match draw(&squares, asked.drawing, asked.margin, &mut text) {
-        Ok(()) => Ok(text.into_inner()),
+        Ok(()) => Ok(text.into_inner().bytes),
         Err(_) => Err(AllocError),
     }
 }

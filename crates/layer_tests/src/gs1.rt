@@ -1,0 +1,130 @@
+//! Tests of GS1 data and ECIs: their segments and characters, and the longest prefix that fits.
+
+ghost use Rattle.std.specs.Prelude.{◌≤◌, length};
+ghost use Rattle.qr_bits.specs.declared.modes.TheConstants.{INPUT_MAX};
+
+use qr_bits::{INPUT_MAX, Interpretation, Mode, Rule, Segment, longest_fit, may_write, segments};
+use qr_layout::{Level, Version};
+use std::test::Fail;
+
+#[test]
+fn fields(rt: HostRuntime) {
+    let gs1 = Interpretation::Gs1;
+    assert!(rt; may_write(b"", gs1), "no byte");
+    assert!(rt; may_write(b"10AB\x1D21%%\x1D", gs1), "two fields");
+    assert!(rt; may_write(b"%\x1D1", gs1), "a percent sign before it");
+    assert!(rt; !may_write(b"1\x1D\x1D2", gs1), "two separators");
+    assert!(rt; !may_write(b"1\x1D%", gs1), "a percent sign after it");
+    assert!(rt; may_write(b"\x1D\x1D%", Interpretation::Default), "no GS1");
+    assert!(rt; may_write(b"\x1D\x1D%", Interpretation::Eci(26)), "an ECI");
+}
+
+// Whether the segments at version 1 are these, and contain these characters.
+fn is_cut(
+    rt: &HostRuntime,
+    input: &[u8],
+    rule: Rule,
+    wanted: &[Segment],
+    characters: &[u8],
+) -> Result<bool, Fail>
+    requires { length input.now ≤ INPUT_MAX }
+{
+    if !may_write(input, Interpretation::Gs1) {
+        return Ok(false);
+    }
+    let found = segments(rt.alloc(), input, Version::FIRST, rule, Interpretation::Gs1)?;
+    Ok(found.segments.as_slice() == wanted && found.characters.as_slice() == characters)
+}
+
+const fn segment(mode: Mode, len: usize) -> Segment {
+    Segment { mode, len }
+}
+
+#[test]
+fn gs1_segments(rt: HostRuntime) -> Result<(), Fail> {
+    let auto = Rule::Auto;
+    let one = [segment(Mode::Alphanumeric, 4)];
+    assert!(rt;
+        is_cut(&rt, b"A%B", auto, &one, b"A%%B")?,
+        "35 bits, and 36 as bytes"
+    );
+    let one = [segment(Mode::Byte, 2)];
+    assert!(rt;
+        is_cut(&rt, b"%%", auto, &one, b"%%")?,
+        "28 bits, and 35 as characters"
+    );
+    let one = [segment(Mode::Alphanumeric, 3)];
+    assert!(rt; is_cut(&rt, b"A\x1DB", auto, &one, b"A%B")?, "a separator");
+    let one = [segment(Mode::Byte, 4)];
+    assert!(rt;
+        is_cut(&rt, b"a%\x1Db", auto, &one, b"a%\x1Db")?,
+        "small letters"
+    );
+    let bytes = Rule::BytesOnly;
+    assert!(rt;
+        is_cut(&rt, b"A%\x1DB", bytes, &one, b"A%\x1DB")?,
+        "bytes only"
+    );
+    let two = [segment(Mode::Numeric, 18), segment(Mode::Alphanumeric, 11)];
+    assert!(rt;
+        is_cut(
+            &rt,
+            b"010401234567890110ABC123\x1D2198",
+            auto,
+            &two,
+            b"010401234567890110ABC123%2198"
+        )?,
+        "148 bits"
+    );
+    let digits = [segment(Mode::Numeric, 4)];
+    assert!(rt; is_cut(&rt, b"0104", auto, &digits, b"0104")?, "digits");
+    assert!(rt; is_cut(&rt, b"", auto, &[], b"")?, "no byte");
+    Ok(())
+}
+
+fn fit(rt: &HostRuntime, input: &[u8], interpretation: Interpretation) -> Result<usize, Fail>
+    requires { length input.now ≤ INPUT_MAX }
+{
+    if !may_write(input, interpretation) {
+        return Ok(INPUT_MAX);
+    }
+    Ok(longest_fit(
+        rt.alloc(),
+        input,
+        Version::FIRST,
+        Level::H,
+        Rule::Auto,
+        interpretation,
+    )?)
+}
+
+// At 1-H a header leaves 52 bits, FNC1 48, ECI 26 40, and ECI 999999 24.
+#[test]
+fn prefixes_at_1_h(rt: HostRuntime) -> Result<(), Fail> {
+    assert_eq!(rt;
+        fit(&rt, b"A%A%A%A%", Interpretation::Default)?,
+        7,
+        "51 bits"
+    );
+    assert_eq!(rt;
+        fit(&rt, b"A%A%A%A%", Interpretation::Gs1)?,
+        4,
+        "44 bits as bytes"
+    );
+    assert_eq!(rt;
+        fit(&rt, b"AA%AA\x1DAA", Interpretation::Gs1)?,
+        5,
+        "46 bits"
+    );
+    assert_eq!(rt;
+        fit(&rt, b"AAAAAAAA", Interpretation::Eci(26))?,
+        4,
+        "35 bits"
+    );
+    assert_eq!(rt;
+        fit(&rt, b"AAAAAAAA", Interpretation::Eci(999_999))?,
+        2,
+        "24 bits"
+    );
+    Ok(())
+}
