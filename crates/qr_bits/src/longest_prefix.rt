@@ -1,6 +1,6 @@
 //! The longest prefix of an input that fits one symbol of a series.
 
-ghost use Rattle.std.specs.Prelude.{IsOkAnd, length, reverse, ◌+◌, ◌*◌, ◌<◌, ◌≡◌, ◌≤◌};
+ghost use Rattle.std.specs.Prelude.{IsOkAnd, length, reverse, true, ◌+◌, ◌*◌, ◌<◌, ◌≡◌, ◌≤◌};
 ghost use Rattle.qr_bits.specs.declared.modes.Mode.{Mode};
 ghost use Rattle.qr_bits.specs.declared.run_state.RunState.{RunState};
 ghost use Rattle.qr_bits.specs.Modes.{count_width, is_kanji_pair, may_use};
@@ -15,7 +15,7 @@ use crate::best_modes::row_of;
 use crate::fault::BitFault;
 use crate::header::HEADER_BITS;
 use crate::interpretation::{Interpretation, interpretation_bits, is_gs1};
-use crate::modes::{INPUT_MAX, Mode, Rule, count_width, is_kanji_pair};
+use crate::modes::{INPUT_MAX, Mode, Rule, count_width, is_kanji_pair, may_use};
 use crate::padding::capacity;
 use crate::run_state::{FirstChoices, NO_BITS, PerState};
 use qr_layout::{Level, Version};
@@ -100,6 +100,16 @@ fn room(version: Version, level: Level, interpretation: Interpretation) -> u64
     capacity(version, level) - HEADER_BITS - interpretation_bits(interpretation)
 }
 
+// As `longest_by_rows`, for GS1 data. In a function of its own, so that `longest_fit` stays as it is for other data.
+#[inline(never)]
+fn longest_gs1_prefix(input: &[u8], version: Version, rule: Rule, room: u64) -> usize
+    requires { length input.now ≤ INPUT_MAX }
+    ensures { (i : Interpretation) → true ≡ is_gs1 i → IsLongestFit i version rule input.now room result }
+{
+    let kanji = may_use(rule, Mode::Kanji);
+    longest_by_rows(input, version, rule, kanji, true, room)
+}
+
 /// Returns the length in bytes of the longest prefix of `input` that fits a symbol of this version and level with a
 /// structured append header and what says the interpretation, in modes that `rule` allows.
 ///
@@ -128,11 +138,9 @@ pub fn longest_fit(
     if input.len() <= most {
         return Ok(input.len());
     }
-    let gs1 = is_gs1(interpretation);
     match rule {
         Rule::BytesOnly => Ok(most),
-        Rule::Auto if gs1 => Ok(longest_by_rows(input, version, rule, false, true, room)),
-        Rule::WithKanji if gs1 => Ok(longest_by_rows(input, version, rule, true, true, room)),
+        _ if is_gs1(interpretation) => Ok(longest_gs1_prefix(input, version, rule, room)),
         Rule::Auto => Ok(longest_by_rows(input, version, rule, false, false, room)),
         Rule::WithKanji => Ok(longest_by_rows(input, version, rule, true, false, room)),
     }

@@ -1,7 +1,7 @@
 -- The characters that are written for bytes, and their modes.
-use Rattle.std.proofs.Common.{◌≡◌, ℕ, zero, suc, ◌+◌, ◌*◌, ◌≤◌, List, [], ◌∷◌, length, take, drop, replicate, sum_by, true, false, cond, reverse, ◌++◌, ⊎_elim, refl, sym, ap, arith}
+use Rattle.std.proofs.Common.{◌≡◌, ℕ, zero, suc, ◌+◌, ◌*◌, ◌≤◌, List, [], ◌∷◌, length, take, drop, replicate, sum_by, true, false, cond, reverse, ◌++◌, ⊎_elim, refl, sym, arith}
 use Rattle.std.proofs.lemmas.{Bool.cond_both, Bool.and_parts, Bool.and_from, Bool.cases_Bool, List.{length-reverse, reverse-append}, List.Sums.sum_by-cons}
-use Rattle.qr_bits.specs.declared.modes.Mode.{Mode, TheVariants.{Numeric, Alphanumeric, Byte, Kanji}}
+use Rattle.qr_bits.specs.declared.modes.Mode.{Mode, TheVariants.{Numeric, Byte, Kanji}}
 use Rattle.qr_bits.specs.declared.interpretation.Interpretation.{Interpretation, TheVariants.{Default, Gs1, Eci}}
 use Rattle.qr_bits.specs.Interpretation.{is_doubled, character_for, doubled_gs1, characters_gs1, doubled, characters_in, are_fields, MayWrite}
 use Rattle.qr_bits.specs.declared.{modes.Rule.Rule, segment.Segment.Segment}
@@ -35,15 +35,13 @@ unwritten Default x xs = (refl, refl)
 unwritten (Eci n) x xs = (refl, refl)
 unwritten Gs1 x xs = (refl, refl)
 
--- only in alphanumeric mode a byte is doubled or another character
-pub single : (i : Interpretation) (x : ℕ) (m : Mode) → is_doubled i x Alphanumeric ≡ false → is_doubled i x m ≡ false
-single i x m h = grind arith
-
+-- in byte mode and kanji mode no byte is doubled, or another character
 pub single-byte : (i : Interpretation) (x : ℕ) → (is_doubled i x Byte ≡ false) × (is_doubled i x Kanji ≡ false)
 single-byte Default x = (refl, refl)
 single-byte (Eci n) x = (refl, refl)
 single-byte Gs1 x = (refl, refl)
 
+-- only alphanumeric mode doubles
 pub doubled-rank : (i : Interpretation) (x : ℕ) (m : Mode) → is_doubled i x m ≡ true → rank m ≡ 1
 doubled-rank i x m h = grind arith
 
@@ -104,108 +102,81 @@ characters-reverse i (x ∷ xs) (m ∷ ms) h =
     (λ (e : is_doubled i x m ≡ false). rw (reverse-append (x ∷ []) xs, reverse-append (m ∷ []) ms, characters-append i (reverse xs) (x ∷ []) (reverse ms) (m ∷ []) len, characters-one i x m, characters-step i x xs m ms, e, rest) (sym (reverse-append (c ∷ []) (characters_in i xs ms))))
     (cases_Bool (is_doubled i x m))
 
-gs1-length : (xs : List ℕ) (ms : List Mode) → length (characters_gs1 xs ms) + length ms ≡ length (doubled_gs1 xs ms) + length xs
-unfolding characters_gs1 doubled_gs1
-gs1-length [] ms = omega arith
-gs1-length (x ∷ xs) [] = omega arith
-gs1-length (x ∷ xs) (m ∷ ms) = search (arith, cond_both, gs1-length xs ms)
-
 -- there are as many characters more than bytes as modes of characters more than modes of bytes
 pub length-written : (i : Interpretation) (xs : List ℕ) (ms : List Mode) → length (characters_in i xs ms) + length ms ≡ length (doubled i xs ms) + length xs
-length-written Default xs ms = omega arith
-length-written (Eci n) xs ms = omega arith
-length-written Gs1 xs ms = gs1-length xs ms
-
-gs1-longer : (xs : List ℕ) (ms : List Mode) → length xs ≤ length (characters_gs1 xs ms)
-unfolding characters_gs1
-gs1-longer [] ms = omega arith
-gs1-longer (x ∷ xs) [] = omega arith
-gs1-longer (x ∷ xs) (m ∷ ms) = search (arith, cond_both, gs1-longer xs ms)
+length-written i [] ms = rw ((written-none i ms).0, (written-none i ms).1) (omega arith)
+length-written i (x ∷ xs) [] = rw ((unwritten i x xs).0, (unwritten i x xs).1) (omega arith)
+length-written i (x ∷ xs) (m ∷ ms) = ⊎_elim
+    (λ (e : is_doubled i x m ≡ true). rw (doubled-step i x xs m ms, characters-step i x xs m ms, e) (omega (arith, length-written i xs ms)))
+    (λ (e : is_doubled i x m ≡ false). rw (doubled-step i x xs m ms, characters-step i x xs m ms, e) (omega (arith, length-written i xs ms)))
+    (cases_Bool (is_doubled i x m))
 
 -- no byte is left out
 pub characters-longer : (i : Interpretation) (xs : List ℕ) (ms : List Mode) → length xs ≤ length (characters_in i xs ms)
-characters-longer Default xs ms = omega arith
-characters-longer (Eci n) xs ms = omega arith
-characters-longer Gs1 xs ms = gs1-longer xs ms
-
-gs1-most : (xs : List ℕ) (ms : List Mode) → length (characters_gs1 xs ms) ≤ 2 * length xs
-unfolding characters_gs1
-gs1-most [] ms = omega arith
-gs1-most (x ∷ xs) [] = omega arith
-gs1-most (x ∷ xs) (m ∷ ms) = search (arith, cond_both, gs1-most xs ms)
+characters-longer i [] ms = omega arith
+characters-longer i (x ∷ xs) [] = rw (unwritten i x xs).1 (omega arith)
+characters-longer i (x ∷ xs) (m ∷ ms) =
+    rw (characters-step i x xs m ms)
+    (cond_both (is_doubled i x m) _ _ (λ (r : List ℕ). length (x ∷ xs) ≤ length r) (λ _. omega (arith, characters-longer i xs ms)) (λ _. omega (arith, characters-longer i xs ms)))
 
 -- each byte is at most two characters
 pub characters-most : (i : Interpretation) (xs : List ℕ) (ms : List Mode) → length (characters_in i xs ms) ≤ 2 * length xs
-characters-most Default xs ms = omega arith
-characters-most (Eci n) xs ms = omega arith
-characters-most Gs1 xs ms = gs1-most xs ms
+characters-most i [] ms = rw (written-none i ms).1 (omega arith)
+characters-most i (x ∷ xs) [] = rw (unwritten i x xs).1 (omega arith)
+characters-most i (x ∷ xs) (m ∷ ms) =
+    rw (characters-step i x xs m ms)
+    (cond_both (is_doubled i x m) _ _ (λ (r : List ℕ). length r ≤ 2 * length (x ∷ xs)) (λ _. omega (arith, characters-most i xs ms)) (λ _. omega (arith, characters-most i xs ms)))
 
 -- the least segmentation has at most twice as many characters as the input has bytes
 pub least-most : (i : Interpretation) (v : ℕ) (r : Rule) (xs ys : List ℕ) (segs : List Segment) → IsLeastSegmentation i v r xs ys segs → length ys ≤ 2 * length xs
 least-most i v r xs ys segs h = rw h.3 (characters-most i xs h.0)
 
-character-sixths : (x : ℕ) (m : Mode) → least_sixths x ≤ least_sixths (character_for Gs1 x m)
-character-sixths x m = grind arith
-
-gs1-sixths : (xs : List ℕ) (ms : List Mode) → sum_by least_sixths xs ≤ sum_by least_sixths (characters_gs1 xs ms)
-unfolding characters_gs1
-gs1-sixths [] ms = omega arith
-gs1-sixths (x ∷ xs) [] = omega arith
-gs1-sixths (x ∷ xs) (m ∷ ms) =
-    cond_both (is_doubled Gs1 x m) _ _ (λ (r : List ℕ). sum_by least_sixths (x ∷ xs) ≤ sum_by least_sixths r)
-    (λ _. omega (arith, sum_by-cons, character-sixths x m, gs1-sixths xs ms)) (λ _. omega (arith, sum_by-cons, character-sixths x m, gs1-sixths xs ms))
+character-sixths : (i : Interpretation) (x : ℕ) (m : Mode) → least_sixths x ≤ least_sixths (character_for i x m)
+character-sixths i x m = grind arith
 
 -- the characters take no less than the lower bound for the bytes
 pub characters-sixths : (i : Interpretation) (xs : List ℕ) (ms : List Mode) → sum_by least_sixths xs ≤ sum_by least_sixths (characters_in i xs ms)
-characters-sixths Default xs ms = omega arith
-characters-sixths (Eci n) xs ms = omega arith
-characters-sixths Gs1 xs ms = gs1-sixths xs ms
+characters-sixths i [] ms = omega arith
+characters-sixths i (x ∷ xs) [] = rw (unwritten i x xs).1 (omega arith)
+characters-sixths i (x ∷ xs) (m ∷ ms) =
+    rw (characters-step i x xs m ms)
+    (cond_both (is_doubled i x m) _ _ (λ (r : List ℕ). sum_by least_sixths (x ∷ xs) ≤ sum_by least_sixths r)
+    (λ _. omega (arith, sum_by-cons, character-sixths i x m, characters-sixths i xs ms)) (λ _. omega (arith, sum_by-cons, character-sixths i x m, characters-sixths i xs ms)))
 
-gs1-bytes : (xs : List ℕ) (n : ℕ) → characters_gs1 xs (replicate n Byte) ≡ xs
-unfolding characters_gs1
-gs1-bytes [] n = refl
-gs1-bytes (x ∷ xs) zero = refl
-gs1-bytes (x ∷ xs) (suc n) = ap (λ (r : List ℕ). x ∷ r) (gs1-bytes xs n)
+-- in this mode each byte is itself
+abbrev IsItself : Interpretation → Mode → Type 0
+IsItself i m = (x : ℕ) → (is_doubled i x m ≡ false) × (character_for i x m ≡ x)
 
--- in byte mode each byte is itself
+same_characters : (i : Interpretation) (m : Mode) (xs : List ℕ) (n : ℕ) → IsItself i m → characters_in i xs (replicate n m) ≡ xs
+same_characters i m [] n h = (written-none i (replicate n m)).1
+same_characters i m (x ∷ xs) zero h = (unwritten i x xs).1
+same_characters i m (x ∷ xs) (suc n) h = rw (characters-step i x xs m (replicate n m), (h x).0, (h x).1, same_characters i m xs n h) refl
+
+same_modes : (i : Interpretation) (m : Mode) (xs : List ℕ) (n : ℕ) → IsItself i m → doubled i xs (replicate n m) ≡ replicate n m
+same_modes i m [] n h = (written-none i (replicate n m)).0
+same_modes i m (x ∷ xs) zero h = (unwritten i x xs).0
+same_modes i m (x ∷ xs) (suc n) h = rw (doubled-step i x xs m (replicate n m), (h x).0, same_modes i m xs n h) refl
+
+itself-bytes : (i : Interpretation) → IsItself i Byte
+itself-bytes i x = ((single-byte i x).0, (same_character i x).0)
+
+itself-digits : (i : Interpretation) → IsItself i Numeric
+itself-digits Default x = (refl, refl)
+itself-digits (Eci n) x = (refl, refl)
+itself-digits Gs1 x = (refl, refl)
+
+-- in byte mode and in numeric mode each byte is itself
 pub characters-bytes : (i : Interpretation) (xs : List ℕ) (n : ℕ) → characters_in i xs (replicate n Byte) ≡ xs
-characters-bytes Default xs n = refl
-characters-bytes (Eci k) xs n = refl
-characters-bytes Gs1 xs n = gs1-bytes xs n
-
-gs1-doubled-bytes : (xs : List ℕ) (n : ℕ) → doubled_gs1 xs (replicate n Byte) ≡ replicate n Byte
-unfolding doubled_gs1
-gs1-doubled-bytes [] n = refl
-gs1-doubled-bytes (x ∷ xs) zero = refl
-gs1-doubled-bytes (x ∷ xs) (suc n) = ap (λ (r : List Mode). Byte ∷ r) (gs1-doubled-bytes xs n)
+characters-bytes i xs n = same_characters i Byte xs n (itself-bytes i)
 
 pub doubled-bytes : (i : Interpretation) (xs : List ℕ) (n : ℕ) → doubled i xs (replicate n Byte) ≡ replicate n Byte
-doubled-bytes Default xs n = refl
-doubled-bytes (Eci k) xs n = refl
-doubled-bytes Gs1 xs n = gs1-doubled-bytes xs n
+doubled-bytes i xs n = same_modes i Byte xs n (itself-bytes i)
 
-gs1-digits : (xs : List ℕ) (n : ℕ) → characters_gs1 xs (replicate n Numeric) ≡ xs
-unfolding characters_gs1
-gs1-digits [] n = refl
-gs1-digits (x ∷ xs) zero = refl
-gs1-digits (x ∷ xs) (suc n) = ap (λ (r : List ℕ). x ∷ r) (gs1-digits xs n)
-
--- in numeric mode each byte is itself
 pub characters-digits : (i : Interpretation) (xs : List ℕ) (n : ℕ) → characters_in i xs (replicate n Numeric) ≡ xs
-characters-digits Default xs n = refl
-characters-digits (Eci k) xs n = refl
-characters-digits Gs1 xs n = gs1-digits xs n
-
-gs1-doubled-digits : (xs : List ℕ) (n : ℕ) → doubled_gs1 xs (replicate n Numeric) ≡ replicate n Numeric
-unfolding doubled_gs1
-gs1-doubled-digits [] n = refl
-gs1-doubled-digits (x ∷ xs) zero = refl
-gs1-doubled-digits (x ∷ xs) (suc n) = ap (λ (r : List Mode). Numeric ∷ r) (gs1-doubled-digits xs n)
+characters-digits i xs n = same_characters i Numeric xs n (itself-digits i)
 
 pub doubled-digits : (i : Interpretation) (xs : List ℕ) (n : ℕ) → doubled i xs (replicate n Numeric) ≡ replicate n Numeric
-doubled-digits Default xs n = refl
-doubled-digits (Eci k) xs n = refl
-doubled-digits Gs1 xs n = gs1-doubled-digits xs n
+doubled-digits i xs n = same_modes i Numeric xs n (itself-digits i)
 
 fields-tail : (x : ℕ) (xs : List ℕ) → are_fields (x ∷ xs) ≡ true → are_fields xs ≡ true
 unfolding are_fields
