@@ -19,7 +19,7 @@ class Eci(NamedTuple):
 
 
 class EciError(ValueError):
-    """The bytes of an ECI are not read as characters, or a text has a character that its character set has not."""
+    """The bytes of an ECI are not read as characters, or a character of a text is not in its character set."""
 
 
 # The character sets of ECIs by Python's names, as js/interpretation.js has them by those of browsers. For 20, 29, 30 and 32 these are
@@ -41,7 +41,7 @@ IN_SHIFT_JIS = str.maketrans("～∥－￠￡￢—¥‾", "〜‖−¢£¬―\u
 
 def encoded(text: str, number: int) -> bytes:
     """Returns the bytes of a text in the character set of an ECI. Raises EciError for an ECI that is not known or that means bytes, and
-    for the first character that its set has not. For 20 the set is what every reader of Shift JIS has: ASCII, katakana of half width and
+    for the first character that is not in its set. For 20 the set is what every reader of Shift JIS has: ASCII, katakana of half width and
     the characters of JIS X 0208."""
     codec, wanted = ("shift_jis", text.translate(IN_SHIFT_JIS)) if number == SHIFT_JIS else (_codec(number), text)
     try:
