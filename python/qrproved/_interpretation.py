@@ -48,7 +48,7 @@ def encoded(text: str, number: int) -> bytes:
         return wanted.encode(codec)
     except UnicodeEncodeError as fault:
         character, name = text[fault.start], "Shift JIS" if number == SHIFT_JIS else f"the characters of ECI {number}"
-        raise EciError(f"{character!r} (U+{ord(character):04X}), character {fault.start + 1:,} of the text, is not in {name}") from None
+        raise EciError(f"{character!r} (U+{ord(character):04X}), character {fault.start + 1} of the text, is not in {name}") from None
 
 
 def stretches(data: bytes, ecis: Sequence[Eci]) -> Iterator[tuple[int | None, bytes]]:
