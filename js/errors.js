@@ -82,7 +82,7 @@ export class PictureError extends Error {
 }
 
 /**
- * The bytes of an ECI are not read as characters, or a string has a character that its character set has not. It is no refusal of the
+ * The bytes of an ECI are not read as characters, or a character of a string is not in its character set. It is no refusal of the
  * library.
  */
 export class EciError extends Error {

@@ -152,7 +152,7 @@ function tableOf(number) {
   return tables.get(number);
 }
 
-/** Returns the bytes of a string in the character set of an ECI; throws EciError for the first character that the set has not. */
+/** Returns the bytes of a string in the character set of an ECI; throws EciError for the first that is not in it. */
 export function encodedText(text, number) {
   if (number === UTF_8) return new TextEncoder().encode(text);
   if (number === UTF_16) return Uint8Array.from(Array.from({ length: text.length }, (_, k) => [text.charCodeAt(k) >> 8, text.charCodeAt(k) & 255]).flat());

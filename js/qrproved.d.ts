@@ -154,7 +154,7 @@ export class Mended {
 /**
  * Returns the symbol of an input, of the least version from `version` on that it fits. It has the highest level from `level` on that fits
  * this version; with `boost: false` it has `level`. Throws EmptyError if the input has no byte, TooLongError if it fits none of these
- * versions, and SettingsError if a value is out of its range. Throws EciError for a character that the character set does not have, and
+ * versions, and SettingsError if a value is out of its range. Throws EciError for a character that is not in the character set, and
  * for a string in a set that is not known; Gs1Error for a string that is no GS1 data, and FieldsError for such bytes.
  */
 export function encode(input: Input, options?: Options & { boost?: boolean }): QRSymbol;
@@ -246,7 +246,7 @@ export class PictureError extends Error {
   protected constructor();
 }
 /**
- * The bytes of an ECI are not read as characters, or a string has a character that its character set does not have. It is no refusal of the
+ * The bytes of an ECI are not read as characters, or a character of a string is not in its character set. It is no refusal of the
  * library.
  */
 export class EciError extends Error {

@@ -472,9 +472,9 @@ def encode(data: Optional[Input] = None, *wrong: NoReturn, version: int = 1, lev
     unless eci is 20.
 
     Raises SettingsError if a number is out of range or a name is not known, EmptyError if there is no byte, TooLongError if no
-    version from `version` on holds the bytes, and OutOfMemoryError. Raises EciError, which is a ValueError, for a character that the
-    character set has not, and for a text in a set that is not known; Gs1Error, which is one too, for a text that is no GS1 data, and
-    FieldsError for such bytes.
+    version from `version` on holds the bytes, and OutOfMemoryError. Raises EciError, which is a ValueError, for a character that is
+    not in the character set, and for a text in a set that is not known; Gs1Error, which is one too, for a text that is no GS1 data,
+    and FieldsError for such bytes.
     """
     _no_more("encode", "data, ", wrong, "version", "level", "rule", "eci", "gs1", "boost")
     settings = _settings(version, level, rule)

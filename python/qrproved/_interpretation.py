@@ -19,7 +19,7 @@ class Eci(NamedTuple):
 
 
 class EciError(ValueError):
-    """The bytes of an ECI are not read as characters, or a text has a character that its character set has not."""
+    """The bytes of an ECI are not read as characters, or a character of a text is not in its character set."""
 
 
 # The character sets of ECIs by Python's names, as js/interpretation.js has them by those of browsers. For 20, 29, 30 and 32 these are
@@ -41,14 +41,14 @@ IN_SHIFT_JIS = str.maketrans("～∥－￠￡￢—¥‾", "〜‖−¢£¬―\u
 
 def encoded(text: str, number: int) -> bytes:
     """Returns the bytes of a text in the character set of an ECI. Raises EciError for an ECI that is not known or that means bytes, and
-    for the first character that its set has not. For 20 the set is what every reader of Shift JIS has: ASCII, katakana of half width and
+    for the first character that is not in its set. For 20 the set is what every reader of Shift JIS has: ASCII, katakana of half width and
     the characters of JIS X 0208."""
     codec, wanted = ("shift_jis", text.translate(IN_SHIFT_JIS)) if number == SHIFT_JIS else (_codec(number), text)
     try:
         return wanted.encode(codec)
     except UnicodeEncodeError as fault:
         character, name = text[fault.start], "Shift JIS" if number == SHIFT_JIS else f"the characters of ECI {number}"
-        raise EciError(f"{character!r} (U+{ord(character):04X}), character {fault.start + 1:,} of the text, is not in {name}") from None
+        raise EciError(f"{character!r} (U+{ord(character):04X}), character {fault.start + 1} of the text, is not in {name}") from None
 
 
 def stretches(data: bytes, ecis: Sequence[Eci]) -> Iterator[tuple[int | None, bytes]]:
