@@ -1,5 +1,6 @@
 -- Which segments are chosen for an input. Neighbouring bytes to which an assignment gives the same mode are one
--- segment. An assignment is valid if the rule `r` allows its modes and the mode of each segment suits its bytes.
+-- segment. It contains the characters that are written for them, which are the bytes themselves but in GS1 data. An
+-- assignment is valid if the rule `r` allows its modes and the mode of each segment suits its characters.
 use Rattle.std.specs.Prelude.{◌≡◌, ℕ, ◌+◌, ◌/◌, ◌<◌, ◌≤◌, ◌⊎◌, if◌then◌else◌, ◌==◌, nat_le, List, [], ◌∷◌, length, take, All, IsTrue}
 use Rattle.std.specs.List.{list_all, sum_by}
 use Rattle.qr_bits.specs.declared.modes.Mode.{Mode}

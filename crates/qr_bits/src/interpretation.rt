@@ -17,7 +17,7 @@ pub enum Interpretation {
     Default,
     /// All bytes have this ECI, from 0 to 999,999: 26 is UTF-8 (7.4.2).
     Eci(u32),
-    /// GS1 data (7.4.8.2).
+    /// GS1 data, in which the byte 1D (hexadecimal) separates fields (7.4.8.2).
     Gs1,
 }
 
@@ -47,7 +47,8 @@ pub(crate) fn is_gs1(interpretation: Interpretation) -> bool
     matches!(interpretation, Interpretation::Gs1)
 }
 
-/// Returns whether an input can be written with this interpretation.
+/// Returns whether an input can be written with this interpretation: GS1 data unless a byte 1D (hexadecimal) comes
+/// directly before another or before `%`, and other data always.
 pub fn may_write(input: &[u8], interpretation: Interpretation) -> bool
     ensures { IsTrue result ↔ MayWrite interpretation input.now }
 {

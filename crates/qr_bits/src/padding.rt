@@ -34,8 +34,8 @@ pub(crate) fn capacity(version: Version, level: Level) -> u64
     8 * u64::from(version.data_codewords(level))
 }
 
-/// Returns the data codewords of this version and level that contain `input` in the segments `segs`, after the header
-/// if there is one. They are the bit stream and then, as far as the capacity allows, a terminator, zeros up to the end
+/// Returns the data codewords of this version and level that contain `input`, or what is written for it (`Segmented`), in
+/// the segments `segs`, after the header if there is one. They are the bit stream and then, as far as the capacity allows, a terminator, zeros up to the end
 /// of a codeword, and pad codewords (7.4.9, 7.4.10).
 ///
 /// # Errors
