@@ -1,4 +1,4 @@
-use Rattle.std.proofs.Common.{◌≡◌, ◌≤◌, ◌+◌, ◌*◌, ℕ, ◌∙◌, ap, sym, subst, inl, inr, refl, arith}
+use Rattle.std.proofs.Common.{◌≡◌, ◌+◌, ◌*◌, ℕ, ◌∙◌, ap, sym, subst, inl, inr, refl, arith}
 use Rattle.qr_symbol.specs.{Choice.IsFirstLeast, Steps.Placement.masked_penalty}
 use Rattle.qr_symbol.proofs.choice.best_of.Goals as goal
 

@@ -10,7 +10,7 @@ use Rattle.qr_symbol.{proofs.lemmas.{fault.ExactLemmas.exactly, reading.RoundTri
 use Rattle.qr_symbol.specs.{Encoding.{IsSymbolAt, IsBoostedSymbol, IsSymbol}, Interleaving.IsInterleaved, Reading.IsReadBack}
 use Rattle.qr_symbol.specs.{Series.IsSymbolOf, Steps.Encoding.IsRefusedExactly, Symbol.grid_of, VersionChoice.{FitsVersion, IsHighestLevel, IsVersion, level_rank}}
 use Rattle.qr_symbol.specs.declared.{fault.EncodeFault.EncodeFault, symbol.Symbol.Symbol}
-use Rattle.std.proofs.Common.{◌≡◌, ℕ, ◌+◌, ◌<◌, ◌≤◌, ◌⊎◌, List, Option, None, Some, Result, Ok, Err, inl, inr, refl, subst, sym, arith}
+use Rattle.std.proofs.Common.{◌≡◌, ℕ, ◌+◌, ◌<◌, ◌≤◌, List, Option, None, Some, Result, Ok, Err, inr, refl, subst, sym, arith}
 use Rattle.std.specs.Prelude.{IfOk, IfErr, MatchResult}
 use Rattle.qr_symbol.specs.declared.fault.EncodeFault.TheVariants as fault
 

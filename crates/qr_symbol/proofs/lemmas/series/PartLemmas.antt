@@ -1,6 +1,5 @@
 -- The parts of an input: how long a prefix fits, and the lengths of the parts, which are found one after another.
 use borrow.Author.Tests.{leb-true}
-use lib.ListN.{replicate}
 use Rattle.qr_bits.proofs.Facts.{bytes_fit, fitting_short, may_write-drop, may_write-take, piece_fits}
 use Rattle.qr_bits.specs.{Modes.{may_use, count_width}, Padding.{capacity_of, room_of}, Segmentation.{HasFit, IsLongestFit}}
 use Rattle.qr_bits.specs.Interpretation.{MayWrite, interpretation_bits}
@@ -11,11 +10,11 @@ use Rattle.qr_layout.{proofs.Facts.{every, every-at}, specs.{Version.total_codew
 use Rattle.qr_layout.specs.Blocks.{block_count_of, correction_len_of, data_codewords_of}
 use Rattle.qr_symbol.specs.Series.{AreParts, FitParts, NeedsParts, IsSymbolOf, AreSymbolsFrom}
 use Rattle.qr_symbol.specs.{Steps.Series.{AreLengths, parts_of}, declared.symbol.Symbol.Symbol}
-use Rattle.std.proofs.Common.{◌≡◌, ℕ, zero, suc, ◌+◌, ◌-◌, ◌*◌, ◌<◌, ◌≤◌, min, true, false, leb, ◌⊎◌, All, List, [], ◌∷◌, ◌++◌, take, drop, length, get_or, Some, refl, sym, ◌∙◌, ap, subst, append_assoc, inl, inr, arith}
+use Rattle.std.proofs.Common.{◌≡◌, ℕ, suc, ◌+◌, ◌-◌, ◌*◌, ◌<◌, ◌≤◌, min, true, false, leb, ◌⊎◌, All, List, [], ◌∷◌, ◌++◌, take, drop, length, get_or, Some, refl, sym, ◌∙◌, ap, subst, append_assoc, inl, inr, arith}
 use Rattle.std.proofs.Math.Seq.{drop-cons, drop-nil, drop-append-add, drop-append_seam, take-append_seam, take-length}
-use Rattle.std.proofs.lemmas.{Bool.{and_from, cases_lt}, List.Elements.{All-nil, All-cons, All-head, All-tail}}
-use Rattle.std.proofs.lemmas.List.{length-take, length-drop, append-nil, take-append-drop, drop_all, drop-append-le, length-append}
-use Rattle.std.specs.{List.{concat, list_all}, Prelude.IsTrue}
+use Rattle.std.proofs.lemmas.{Bool.{cases_lt}, List.Elements.{All-nil, All-cons, All-head, All-tail}}
+use Rattle.std.proofs.lemmas.List.{length-take, length-drop, append-nil, take-append-drop, drop-append-le, length-append}
+use Rattle.std.specs.{List.{concat}}
 
 -- ---- how long a prefix fits
 
