@@ -237,8 +237,8 @@ uint32_t qrproved_version(void);
  * modules  the buffer for the modules; QRPROVED_SYMBOL_MAX bytes suffice for any symbol
  *
  * Kanji mode is for pairs of bytes that readers take for Shift JIS. With an ECI but 20, which is Shift JIS, they could be
- * bytes of other characters, so RULE_WITH_KANJI is refused there. GS1 data has a byte 1D (hexadecimal) after each field that
- * is shorter than it may be, if another field follows; no field is empty, and none begins with %.
+ * bytes of other characters, so RULE_WITH_KANJI is refused there. GS1 data has a byte 1D (hexadecimal) after each field of
+ * variable length, if another field follows; no field is empty, and none begins with %.
  *
  * Returns the first of these statuses whose cause applies:
  *   SETTINGS  version, level, rule, interpretation or boost is out of its range, or rule is WITH_KANJI and interpretation is
