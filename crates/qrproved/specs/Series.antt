@@ -11,8 +11,8 @@ use Rattle.qrproved.specs.Settings.{AreSettings, interpretation_of, level_of, ru
 use Rattle.qrproved.specs.Modules.{HoldsSquares}
 
 -- The modules of the input's series were written to the buffer, `t` has its number of symbols and their side, and the
--- symbols are read and joined as the input, each with its interpretation. The numbers are allowed, and without kanji mode no cut of the input into
--- parts that fit, each with a header, has fewer parts than there are symbols [own]
+-- symbols are read and joined as the input, each with its interpretation. The numbers are allowed, and without kanji
+-- mode no cut of the input into parts that fit, each with a header, has fewer parts than there are symbols [own]
 pub record IsWrittenSeries (x : List ℕ) (version level rule interpretation : ℕ) (before after : List ℕ) (t : QrprovedSeries) : Type 0 where
   pub settings : AreSettings version level rule interpretation
   pub symbols : List Symbol

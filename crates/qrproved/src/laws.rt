@@ -44,8 +44,9 @@ pub fn statuses()
 {}
 
 /// In calls, 0 to 3 are the levels L, M, Q and H; 0 to 2 are the rules `Auto`, `BytesOnly` and `WithKanji`; 0 to 999,999
-/// are ECIs, and the next two numbers no interpretation and GS1 data; 0 to 3 are the drawings ASCII, ASCIIi, UTF8 and SVG. A module is 1 if it is dark and 0 if it is light; in `qrproved_mend` it is
-/// 2 if it is not known. A drawing has 1 to 16 squares of 1 to 177 rows, and a margin of 0 to 100 modules.
+/// are ECIs, and the next two numbers no interpretation and GS1 data; 0 to 3 are the drawings ASCII, ASCIIi, UTF8 and
+/// SVG. A module is 1 if it is dark and 0 if it is light; in `qrproved_mend` it is 2 if it is not known. A drawing has 1
+/// to 16 squares of 1 to 177 rows, and a margin of 0 to 100 modules.
 #[tactic(auto, unfolding(qr_matrix::specs::Grid::rows_of, qr_matrix::specs::Grid::colour))]
 pub fn numbers()
     ensures levels { map level_of (0 ∷ 1 ∷ 2 ∷ 3 ∷ []) ≡ Level.L ∷ Level.M ∷ Level.Q ∷ Level.H ∷ [] }
