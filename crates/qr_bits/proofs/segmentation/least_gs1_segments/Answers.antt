@@ -1,63 +1,68 @@
-use Rattle.std.proofs.Common.{◌≡◌, ℕ, suc, ◌+◌, [], ◌∷◌, ◌++◌, get_or, take, drop, reverse, refl, sym, ◌∙◌, arith}
-use Rattle.std.proofs.{Math.Seq.drop-cons, lemmas.List.{append-nil, drop_all, length-append, length-take-le, take_all, take_more}}
-use Rattle.qr_bits.specs.declared.{interpretation.Interpretation.TheVariants.Gs1, run_state.RunState.TheVariants.Start}
-use Rattle.qr_bits.specs.Interpretation.{characters_gs1, doubled, doubled_gs1}
-use Rattle.qr_bits.specs.{Segmentation.runs_of, Steps.BestModes.follow_in}
-use Rattle.qr_bits.proofs.lemmas.interpretation.WrittenLemmas.{characters-append, characters-most, length-written}
-use Rattle.qr_bits.proofs.lemmas.segmentation.{AssignedLemmas.assignment_from_table, BackLemmas.{runs-put, sum_by-runs_of}}
-use Rattle.qr_bits.proofs.lemmas.best_modes.TableLemmas.{led_on_in}
+use Rattle.std.proofs.Common.{◌≡◌, ℕ, suc, ◌+◌, ◌-◌, ◌<◌, List, [], ◌∷◌, ◌++◌, length, get_or, take, drop, append_assoc, refl, sym, ◌∙◌, arith}
+use Rattle.std.proofs.{Math.Seq.drop-cons, lemmas.List.{append-nil, drop_all, length-append, nil_from_length, Sums.sum_by-cons}}
+use Rattle.qr_bits.specs.declared.{segment.Segment.Segment, modes.Mode.TheVariants.Numeric, interpretation.Interpretation.TheVariants.Gs1}
+use Rattle.qr_bits.specs.{Interpretation.doubled_gs1, Segmentation.runs_of, Steps.Segmentation.written}
+use Rattle.qr_bits.proofs.lemmas.segmentation.{BackLemmas.sum_by-runs_of, BytesOnlyLemmas.assignment-length, RunLemmas.{characters_of, runs-written, segments_of}}
 use Rattle.qr_bits.proofs.segmentation.least_gs1_segments.Goals as goal
 
 next_suc : (n : ℕ) → n + 1 ≡ suc n
 next_suc n = omega arith
 
-pub loop-byte-init : goal.loop-byte-init
-unfolding runs_of doubled_gs1 characters_gs1
-loop-byte-init c = record {
-  count = omega (arith, c.in_ok-table.ensures.0);
-  modes = [];
-  each = refl;
-  segments = c.new.ensures.items;
-  characters = c.new-2.ensures.items;
-  led = refl;
-}
+run_next : (runs : List Segment) (i : ℕ) → i < length runs → drop i runs ≡ get_or runs i (record { mode = Numeric; len = 0 }) ∷ drop (i + 1) runs
+run_next runs i h = rw (next_suc i) (drop-cons runs i (record { mode = Numeric; len = 0 }) h)
 
-pub put_byte-requires : goal.put_byte-requires
-put_byte-requires c =
-    let inv = c.loop-byte.invariant in
-    let xs = take c.loop-byte.byte-index c.args.input.now in
-    rw inv.segments
-    (omega (arith, sum_by-runs_of (doubled Gs1 xs inv.modes), length-written Gs1 xs inv.modes, characters-most Gs1 xs inv.modes, inv.each, length-take-le c.loop-byte.byte-index c.args.input.now (omega (arith, c.loop-byte-test.true)), c.loop-byte-test.true, c.requires))
+-- how many characters were added
+added : (a b : List ℕ) (m n : ℕ) → m ≡ length a → n ≡ length (a ++ b) → n - m ≡ length b
+added a b m n e f = omega (arith, e, f, length-append a b)
 
-pub loop-byte-preserved : goal.loop-byte-preserved
-loop-byte-preserved c =
-    let inv = c.loop-byte.invariant in
-    let i = c.loop-byte.byte-index in
-    let input = c.args.input.now in
-    let xs = take i input in
-    let x = get_or input i 0 in
-    let ms = inv.modes in
-    let m = c.mode_at-mode.result in
-    let more : take (i + 1) input ≡ xs ++ x ∷ [] = take_more input i 0 c.loop-byte-test.true in
-    let next : drop i input ≡ x ∷ drop (i + 1) input = rw (next_suc i) (drop-cons input i 0 c.loop-byte-test.true) in
+pub loop-run-init : goal.loop-run-init
+loop-run-init c =
+    let found = c.in_ok-runs.ensures in
+    rw (c.deref-run-items.ensures.value, c.in_ok-segments.ensures.items, c.in_ok-characters.ensures.items) (record {
+      segments = refl;
+      characters = refl;
+      covered = rw found.2 (sum_by-runs_of found.0 ∙ assignment-length Gs1 c.args.rule c.args.input.now found.0 found.1.assignment);
+    })
+
+pub split_at-requires : goal.split_at-requires
+split_at-requires c =
+    let i = c.loop-run.run-index in
+    let runs = c.deref-run-items.result.now in
+    let covered = rw (run_next runs i c.loop-run-test.true) at c.loop-run.invariant.covered in
+    omega (arith, covered, sum_by-cons (λ (t : Segment). t.len) (get_or runs i (record { mode = Numeric; len = 0 })) (drop (i + 1) runs))
+
+pub loop-run-preserved : goal.loop-run-preserved
+unfolding segments_of characters_of
+loop-run-preserved c =
+    let inv = c.loop-run.invariant in
+    let i = c.loop-run.run-index in
+    let runs = c.deref-run-items.result.now in
+    let s = get_or runs i (record { mode = Numeric; len = 0 }) in
+    let ss = drop (i + 1) runs in
+    let xs = c.loop-run.rest.now in
+    let own = written s.mode (take s.len xs) in
+    let next = run_next runs i c.loop-run-test.true in
+    let put = rw c.split_at.ensures.front at c.in_ok-put_characters.ensures in
+    let len : c.len-in-loop-run.result - c.len-begin.result ≡ length own =
+    added c.loop-run.characters.items own _ _ (c.len-begin.ensures ∙ c.loop-run.characters.ok.0) (c.len-in-loop-run.ensures ∙ c.put_characters.new.out.ok.0 ∙ rw put refl) in
     record {
-      count = let u = c.unwrap-modes.ensures in omega (arith, rw u at c.pop.ensures.len, inv.count);
-      modes = ms ++ m ∷ [];
-      each = rw (more, length-append xs (x ∷ []), length-append ms (m ∷ [])) (omega (arith, inv.each));
-      segments = rw (more, runs-put Gs1 xs ms x m inv.each, ← inv.segments) c.in_ok-put_byte.ensures.segments;
-      characters = rw (more, characters-append Gs1 xs (x ∷ []) ms (m ∷ []) inv.each, ← inv.characters) c.in_ok-put_byte.ensures.characters;
-      led = rw c.in_ok-put_byte.ensures.state
-          (led_on_in Gs1 c.loop-byte.written.state x (drop (i + 1) input) c.loop-byte.table.items c.pop.new.self.items c.unwrap-modes.result ms _ m (rw c.unwrap-modes.ensures at c.pop.ensures.items) c.mode_at-mode.ensures (rw next at inv.led));
+      segments = rw (c.in_ok-push.ensures.items, len, c.split_at.ensures.back) (append_assoc c.loop-run.segments.items (record { mode = s.mode; len = length own } ∷ []) (segments_of (drop s.len xs) ss) ∙ (rw next at inv.segments));
+      characters = rw (put, c.split_at.ensures.back) (append_assoc c.loop-run.characters.items own (characters_of (drop s.len xs) ss) ∙ (rw next at inv.characters));
+      covered =
+          let covered = rw next at inv.covered in
+          omega (arith, covered, sum_by-cons (λ (t : Segment). t.len) s ss, c.split_at.ensures.back_len);
     }
 
 pub returns-clause-ok : goal.returns-clause-ok
-unfolding follow_in
+unfolding segments_of characters_of
 returns-clause-ok c =
-    let inv = c.loop-byte.invariant in
-    let i = c.loop-byte.byte-index in
-    let input = c.args.input.now in
-    let rows = reverse c.in_ok-table.table.items in
-    let all : take i input ≡ input = take_all i input (omega arith) in
-    let none : drop i input ≡ [] = drop_all i input (omega arith) in
-    let whole : inv.modes ≡ follow_in Gs1 Start input rows = sym (append-nil inv.modes) ∙ (rw none at inv.led) in
-    (inv.modes, rw whole (assignment_from_table Gs1 c.args.version c.args.rule input rows c.in_ok-table.ensures.1), rw all at inv.segments, rw all at inv.characters)
+    let inv = c.loop-run.invariant in
+    let found = c.in_ok-runs.ensures in
+    let xs = c.args.input.now in
+    let none : drop c.loop-run.run-index c.deref-run-items.result.now ≡ [] = drop_all c.loop-run.run-index c.deref-run-items.result.now (omega arith) in
+    let runs : c.deref-run-items.result.now ≡ runs_of found.0 = c.deref-run-items.ensures.value ∙ found.2 in
+    let rest : c.loop-run.rest.now ≡ [] = nil_from_length c.loop-run.rest.now (sym (rw none at inv.covered)) in
+    let w = runs-written xs found.0 (sym (assignment-length Gs1 c.args.rule xs found.0 found.1.assignment)) in
+    let segments = rw (none, runs) at inv.segments in
+    let characters = rw (none, rest, runs) at inv.characters in
+    (found.0, found.1, sym (append-nil c.loop-run.segments.items) ∙ segments ∙ sym w.1, sym (append-nil c.loop-run.characters.items) ∙ characters ∙ sym w.0)

@@ -1,15 +1,12 @@
-use Rattle.std.proofs.Common.{◌≡◌, ◌+◌, List, ◌++◌, length, reverse, take, drop, vec_len}
-use Rattle.qr_bits.specs.declared.{modes.Mode.Mode, interpretation.Interpretation.TheVariants.Gs1, run_state.RunState.TheVariants.Start}
-use Rattle.qr_bits.specs.{Interpretation.{characters_in, doubled}, Segmentation.runs_of, Steps.BestModes.follow_in}
+use Rattle.std.proofs.Common.{◌≡◌, ◌++◌, length, drop}
+use Rattle.std.specs.List.{sum_by}
+use Rattle.qr_bits.proofs.lemmas.segmentation.RunLemmas.{characters_of, segments_of}
 use Rattle.qr_bits.proofs.segmentation.least_gs1_segments.Given as goal
 
--- the modes of the bytes so far, whose characters are written, and then those to which the other rows lead
-abbrev pub invariant-loop-byte : goal.invariant-loop-byte
-invariant-loop-byte l = record {
-  count : vec_len l.table + l.byte-index ≡ length l.input;
-  modes : List Mode;
-  each : length (take l.byte-index l.input) ≡ length modes;
-  segments : l.written.segments.items ≡ runs_of (doubled Gs1 (take l.byte-index l.input) modes);
-  characters : l.written.characters.items ≡ characters_in Gs1 (take l.byte-index l.input) modes;
-  led : modes ++ follow_in Gs1 l.written.state (drop l.byte-index l.input) (reverse l.table.items) ≡ follow_in Gs1 Start l.input (reverse l.initial.table.items);
+-- what is written for the runs so far, and what the other runs add
+abbrev pub invariant-loop-run : goal.invariant-loop-run
+invariant-loop-run l = record {
+  segments : l.segments.items ++ segments_of l.rest (drop l.run-index l.run-items) ≡ segments_of l.input l.run-items;
+  characters : l.characters.items ++ characters_of l.rest (drop l.run-index l.run-items) ≡ characters_of l.input l.run-items;
+  covered : sum_by (λ s. s.len) (drop l.run-index l.run-items) ≡ length l.rest;
 }
