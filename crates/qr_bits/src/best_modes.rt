@@ -279,25 +279,22 @@ pub(crate) fn best_modes(
     }
 }
 
-/// As `best_modes`, for GS1 data.
+/// As `best_modes`, for GS1 data, of which not all is in byte mode.
 pub(crate) fn best_gs1_modes(
     alloc: Global,
     input: &[u8],
     version: Version,
     rule: Rule,
 ) -> Result<Vec<u32>, AllocError>
-    requires { length input.now ≤ INPUT_MAX }
+    requires short { length input.now ≤ INPUT_MAX }
+    requires mixed { rule ≡ Rule.BytesOnly → ⊥ }
     ensures { IfOk result (λ t. (vec_len t ≡ length input.now)
         × IsBestTable Interpretation.Gs1 version rule is_kanji_pair input.now (reverse t.items)) }
 {
-    best_rows(
-        alloc,
-        input,
-        version,
-        rule,
-        may_use(rule, Mode::Kanji),
-        true,
-    )
+    match rule {
+        Rule::WithKanji => best_rows(alloc, input, version, Rule::WithKanji, true, true),
+        _ => best_rows(alloc, input, version, Rule::Auto, false, true),
+    }
 }
 
 // As `best_modes`. Where `kanji`, which says that the rule allows kanji mode, is constant, the compiler can leave out

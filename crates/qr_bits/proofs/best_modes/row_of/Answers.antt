@@ -1,4 +1,4 @@
-use Rattle.std.proofs.Common.{◌≡◌, true, false, sym, ◌∙◌}
+use Rattle.std.proofs.Common.{true, false, sym, ◌∙◌}
 use Rattle.qr_bits.proofs.lemmas.best_modes.ChoiceLemmas.{digit_written, doubled_percent}
 use Rattle.qr_bits.proofs.best_modes.row_of.Goals as goal
 

@@ -1,17 +1,16 @@
 -- The characters of segments stand for the input, under its interpretation.
-use Rattle.std.proofs.Common.{◌≡◌, ℕ, ◌+◌, ◌≤◌, Bool, true, false, cond, ◌==◌, List, [], ◌∷◌, ◌++◌, length, take, drop, sum_by, Option, None, refl, sym, ap, ◌∙◌, ⊎_elim, arith, suc}
+use Rattle.std.proofs.Common.{◌≡◌, ℕ, ◌+◌, ◌≤◌, true, List, [], ◌∷◌, ◌++◌, length, take, drop, sum_by, Option, None, refl, sym, ap, ◌∙◌, arith}
 use Rattle.std.proofs.Math.Nat.{le_refl}
-use Rattle.std.proofs.lemmas.{List.Sums.sum_by-cons, List.nil_from_length, Bool.cases_Bool, Bool.cond_both, Bool.eqb-true, List.{take-append-drop, take-append-le, drop-append-le, take_all, drop_all, length-drop}}
+use Rattle.std.proofs.lemmas.{List.Sums.sum_by-cons, List.nil_from_length, List.{take-append-drop, take-append-le, drop-append-le, take_all, drop_all, length-drop}}
 use Rattle.qr_bits.specs.declared.{modes.Mode.Mode, modes.Rule.Rule, segment.Segment.Segment, header.Header.Header}
 use Rattle.qr_bits.specs.declared.modes.Mode.TheVariants.{Numeric, Alphanumeric, Byte, Kanji}
 use Rattle.qr_bits.specs.declared.interpretation.Interpretation.{Interpretation, TheVariants.{Default, Gs1, Eci}}
-use Rattle.qr_bits.specs.Interpretation.{plain, items_in, ecis_in, fnc1_in, fnc1_of, eci_changes, escaped, meant, meant_bytes, are_fields, is_doubled, character_for, characters_gs1, doubled_gs1, MayWrite}
+use Rattle.qr_bits.specs.Interpretation.{plain, items_in, ecis_in, fnc1_in, fnc1_of, eci_changes, meant, meant_bytes, are_fields, characters_gs1, doubled_gs1, MayWrite}
 use Rattle.qr_bits.specs.{Segmentation.{runs_of, IsLeastSegmentation}, Steps.Segmentation.written, Parsing.content_of}
 use Rattle.qr_bits.proofs.lemmas.segment.CoverLemmas.{covers_suits}
 use Rattle.qr_bits.proofs.lemmas.segmentation.{BackLemmas.sum_by-runs_of, BytesOnlyLemmas.assignment-length, RunLemmas.{characters_of, runs-written, segments_of}}
 use Rattle.qr_bits.proofs.lemmas.parsing.FieldLemmas.{fields_again}
 use Rattle.qr_bits.proofs.lemmas.interpretation.{MeaningLemmas.{meant-plain, ecis-plain}, WrittenLemmas.{fields-drop, fields-take}}
-use Rattle.qr_bits.proofs.lemmas.run_state.BestLemmas.{same_rank}
 
 fnc1-plain : (segs : List Segment) → fnc1_of (plain segs) ≡ None
 unfolding fnc1_of

@@ -1,4 +1,4 @@
-use Rattle.std.proofs.Common.{◌≡◌, ℕ, suc, ◌+◌, ◌<◌, true, [], ◌∷◌, ◌++◌, take, drop, length, get_or, append_assoc, append-nil, refl, sym, ap, ◌∙◌, arith}
+use Rattle.std.proofs.Common.{◌≡◌, ℕ, suc, ◌+◌, true, [], ◌∷◌, take, drop, get_or, append_assoc, append-nil, sym, ◌∙◌, arith}
 use Rattle.std.proofs.{Math.Seq.drop-cons, lemmas.List.{drop_all, take_all, take_more}}
 use Rattle.qr_bits.specs.{Interpretation.escaped, Steps.Segmentation.is_itself}
 use Rattle.qr_bits.proofs.lemmas.segmentation.RunLemmas.{escaped-itself}

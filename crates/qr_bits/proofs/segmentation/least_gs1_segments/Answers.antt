@@ -1,68 +1,99 @@
-use Rattle.std.proofs.Common.{◌≡◌, ℕ, suc, ◌+◌, ◌-◌, ◌<◌, List, [], ◌∷◌, ◌++◌, length, get_or, take, drop, append_assoc, refl, sym, ◌∙◌, arith}
-use Rattle.std.proofs.{Math.Seq.drop-cons, lemmas.List.{append-nil, drop_all, length-append, nil_from_length, Sums.sum_by-cons}}
-use Rattle.qr_bits.specs.declared.{segment.Segment.Segment, modes.Mode.TheVariants.Numeric, interpretation.Interpretation.TheVariants.Gs1}
-use Rattle.qr_bits.specs.{Interpretation.doubled_gs1, Segmentation.runs_of, Steps.Segmentation.written}
-use Rattle.qr_bits.proofs.lemmas.segmentation.{BackLemmas.sum_by-runs_of, BytesOnlyLemmas.assignment-length, RunLemmas.{characters_of, runs-written, segments_of}}
+use Rattle.std.proofs.Common.{◌≡◌, ℕ, suc, ◌+◌, ◌-◌, ◌≤◌, List, [], ◌∷◌, ◌++◌, length, get_or, take, drop, reverse, refl, sym, ap, ◌∙◌, arith}
+use Rattle.std.proofs.{Math.Seq.drop-cons, Math.Nat.le_refl, lemmas.List.{append-nil, drop_all}}
+use Rattle.qr_bits.specs.declared.{segment.Segment.Segment, interpretation.Interpretation.TheVariants.Gs1, run_state.RunState.TheVariants.Start}
+use Rattle.qr_bits.specs.{Segmentation.runs_of, Steps.BestModes.follow_in, Steps.Segmentation.{append_mode, one_segment, written}, Steps.RunState.{state_after, state_on}}
+use Rattle.qr_bits.proofs.lemmas.segmentation.{AssignedLemmas.assignment_from_table, BackLemmas.{other_mode, run_other, run_same, runs_of-push, same_mode}, BytesOnlyLemmas.assignment-length, RunLemmas.{characters_of, characters-put, runs-written, segments_of, segments-put}}
+use Rattle.qr_bits.proofs.lemmas.best_modes.{ChoiceLemmas.{on_in, on_past}, TableLemmas.{led_on_in}}
 use Rattle.qr_bits.proofs.segmentation.least_gs1_segments.Goals as goal
+use Rattle.qr_bits.proofs.segmentation.least_gs1_segments.Goals.{then-eq, else-eq+in_ok-put_run}
 
 next_suc : (n : ℕ) → n + 1 ≡ suc n
 next_suc n = omega arith
 
-run_next : (runs : List Segment) (i : ℕ) → i < length runs → drop i runs ≡ get_or runs i (record { mode = Numeric; len = 0 }) ∷ drop (i + 1) runs
-run_next runs i h = rw (next_suc i) (drop-cons runs i (record { mode = Numeric; len = 0 }) h)
+one_more : (b i : ℕ) → b ≤ i → (i + 1) - b ≡ (i - b) + 1
+one_more b i h = omega arith
 
--- how many characters were added
-added : (a b : List ℕ) (m n : ℕ) → m ≡ length a → n ≡ length (a ++ b) → n - m ≡ length b
-added a b m n e f = omega (arith, e, f, length-append a b)
+begun : (i : ℕ) → (i + 1) - i ≡ 1
+begun i = omega arith
 
-pub loop-run-init : goal.loop-run-init
-loop-run-init c =
-    let found = c.in_ok-runs.ensures in
-    rw (c.deref-run-items.ensures.value, c.in_ok-segments.ensures.items, c.in_ok-characters.ensures.items) (record {
-      segments = refl;
-      characters = refl;
-      covered = rw found.2 (sum_by-runs_of found.0 ∙ assignment-length Gs1 c.args.rule c.args.input.now found.0 found.1.assignment);
-    })
+pub loop-i-init : goal.loop-i-init
+unfolding runs_of state_on state_after
+loop-i-init c = record {
+  count = omega (arith, c.in_ok-table.ensures.0);
+  inside = omega arith;
+  modes = [];
+  runs = [];
+  whole = refl;
+  segments = λ later. rw c.new.ensures.items refl;
+  characters = λ later. rw c.in_ok-characters.ensures.items refl;
+  led = refl;
+  first = λ _. refl;
+  next = refl;
+}
 
-pub split_at-requires : goal.split_at-requires
-split_at-requires c =
-    let i = c.loop-run.run-index in
-    let runs = c.deref-run-items.result.now in
-    let covered = rw (run_next runs i c.loop-run-test.true) at c.loop-run.invariant.covered in
-    omega (arith, covered, sum_by-cons (λ (t : Segment). t.len) (get_or runs i (record { mode = Numeric; len = 0 })) (drop (i + 1) runs))
-
-pub loop-run-preserved : goal.loop-run-preserved
-unfolding segments_of characters_of
-loop-run-preserved c =
-    let inv = c.loop-run.invariant in
-    let i = c.loop-run.run-index in
-    let runs = c.deref-run-items.result.now in
-    let s = get_or runs i (record { mode = Numeric; len = 0 }) in
-    let ss = drop (i + 1) runs in
-    let xs = c.loop-run.rest.now in
-    let own = written s.mode (take s.len xs) in
-    let next = run_next runs i c.loop-run-test.true in
-    let put = rw c.split_at.ensures.front at c.in_ok-put_characters.ensures in
-    let len : c.len-in-loop-run.result - c.len-begin.result ≡ length own =
-    added c.loop-run.characters.items own _ _ (c.len-begin.ensures ∙ c.loop-run.characters.ok.0) (c.len-in-loop-run.ensures ∙ c.put_characters.new.out.ok.0 ∙ rw put refl) in
-    record {
-      segments = rw (c.in_ok-push.ensures.items, len, c.split_at.ensures.back) (append_assoc c.loop-run.segments.items (record { mode = s.mode; len = length own } ∷ []) (segments_of (drop s.len xs) ss) ∙ (rw next at inv.segments));
-      characters = rw (put, c.split_at.ensures.back) (append_assoc c.loop-run.characters.items own (characters_of (drop s.len xs) ss) ∙ (rw next at inv.characters));
-      covered =
-          let covered = rw next at inv.covered in
-          omega (arith, covered, sum_by-cons (λ (t : Segment). t.len) s ss, c.split_at.ensures.back_len);
-    }
+pub loop-i-preserved : goal.loop-i-preserved
+loop-i-preserved c =
+    let l = c.loop-i in
+    let inv = l.invariant in
+    let i = l.i in
+    let b = l.begin in
+    let input = c.args.input.now in
+    let x = get_or input i 0 in
+    let m = c.mode_at-next.result in
+    let next : drop i input ≡ x ∷ drop (i + 1) input = rw (next_suc i) (drop-cons input i 0 c.loop-i-test.true) in
+    let led = led_on_in Gs1 l.state x (drop (i + 1) input) l.table.items c.pop.new.self.items c.unwrap-modes.result inv.modes _ m (rw c.unwrap-modes.ensures at c.pop.ensures.items) c.mode_at-next.ensures (rw next at inv.led) in
+    elim c.if-eq.branch [
+      | then-eq w ↦
+          let same : m ≡ l.mode = same_mode m l.mode w.if-eq.ensures in
+          let state = (rw (c.is_doubled-doubled.ensures, w.state_on.ensures) at w.state_past-state.ensures) ∙ on_past Gs1 l.state _ x m (inv.next ∙ ap (state_after l.state) (sym same)) in
+          rw (w.written-is, w.state-is, w.mode-is, w.begin-is, state) (record {
+            count = let u = c.unwrap-modes.ensures in omega (arith, rw u at c.pop.ensures.len, inv.count);
+            inside = omega (arith, inv.inside);
+            modes = inv.modes ++ m ∷ [];
+            runs = inv.runs;
+            whole = rw (one_more b i inv.inside) (sym (run_same inv.runs l.mode (i - b) inv.first) ∙ ap (λ (r : List Segment). append_mode r l.mode) inv.whole ∙ rw same (sym (runs_of-push inv.modes l.mode)));
+            segments = inv.segments;
+            characters = inv.characters;
+            led = led;
+            first = λ z. absurd (omega (arith, inv.inside));
+            next = rw (← same) (on_in Gs1 l.state x m);
+          })
+      | else-eq+in_ok-put_run w ↦
+          let state = (rw (c.is_doubled-doubled.ensures, w.next_state.ensures) at w.state_past-state-else-eq.ensures) ∙ on_past Gs1 l.state _ x m refl in
+          rw (w.written-is, w.state-is, w.mode-is, w.begin-is, state) (record {
+            count = let u = c.unwrap-modes.ensures in omega (arith, rw u at c.pop.ensures.len, inv.count);
+            inside = omega arith;
+            modes = inv.modes ++ m ∷ [];
+            runs = inv.runs ++ one_segment l.mode (i - b);
+            whole = rw (begun i) (sym (run_other inv.runs l.mode m (i - b) inv.first (other_mode l.mode m w.if-eq.ensures)) ∙ ap (λ (r : List Segment). append_mode r m) inv.whole ∙ sym (runs_of-push inv.modes m));
+            segments = rw w.in_ok-put_run.ensures.segments (segments-put input inv.runs l.written.segments.items l.mode b i inv.inside (omega (arith, c.loop-i-test.true)) inv.segments);
+            characters = rw w.in_ok-put_run.ensures.characters (characters-put input inv.runs l.written.characters.items l.mode b i inv.inside inv.characters);
+            led = led;
+            first = λ z. absurd (omega arith);
+            next = on_in Gs1 l.state x m;
+          })
+    ]
 
 pub returns-clause-ok : goal.returns-clause-ok
-unfolding segments_of characters_of
+unfolding follow_in segments_of characters_of
 returns-clause-ok c =
-    let inv = c.loop-run.invariant in
-    let found = c.in_ok-runs.ensures in
-    let xs = c.args.input.now in
-    let none : drop c.loop-run.run-index c.deref-run-items.result.now ≡ [] = drop_all c.loop-run.run-index c.deref-run-items.result.now (omega arith) in
-    let runs : c.deref-run-items.result.now ≡ runs_of found.0 = c.deref-run-items.ensures.value ∙ found.2 in
-    let rest : c.loop-run.rest.now ≡ [] = nil_from_length c.loop-run.rest.now (sym (rw none at inv.covered)) in
-    let w = runs-written xs found.0 (sym (assignment-length Gs1 c.args.rule xs found.0 found.1.assignment)) in
-    let segments = rw (none, runs) at inv.segments in
-    let characters = rw (none, rest, runs) at inv.characters in
-    (found.0, found.1, sym (append-nil c.loop-run.segments.items) ∙ segments ∙ sym w.1, sym (append-nil c.loop-run.characters.items) ∙ characters ∙ sym w.0)
+    let l = c.loop-i in
+    let inv = l.invariant in
+    let input = c.args.input.now in
+    let rows = reverse c.in_ok-table.table.items in
+    let end : l.i ≡ length input = omega arith in
+    let none : drop (length input) input ≡ [] = drop_all (length input) input (le_refl (length input)) in
+    let all : inv.modes ≡ follow_in Gs1 Start input rows = sym (append-nil inv.modes) ∙ (rw (end, none) at inv.led) in
+    let best = rw (← all) at (assignment_from_table Gs1 c.args.version c.args.rule input rows c.in_ok-table.ensures.1) in
+    let w = runs-written input inv.modes (sym (assignment-length Gs1 c.args.rule input inv.modes best.assignment)) in
+    let last = length input - l.begin in
+    let run = take last (drop l.begin input) in
+    let whole : inv.runs ++ one_segment l.mode last ≡ runs_of inv.modes = rw end at inv.whole in
+    let inside : l.begin ≤ length input = omega (arith, inv.inside) in
+    let segments = rw (append-nil (inv.runs ++ one_segment l.mode last), whole) at (segments-put input inv.runs l.written.segments.items l.mode l.begin (length input) inside (le_refl (length input)) inv.segments []) in
+    let characters = rw (append-nil (inv.runs ++ one_segment l.mode last), whole, none) at (characters-put input inv.runs l.written.characters.items l.mode l.begin (length input) inside inv.characters []) in (
+      inv.modes,
+      best,
+      c.in_ok-put_run-2.ensures.segments ∙ sym (append-nil (l.written.segments.items ++ one_segment l.mode (length (written l.mode run)))) ∙ sym segments ∙ sym w.1,
+      c.in_ok-put_run-2.ensures.characters ∙ sym (append-nil (l.written.characters.items ++ written l.mode run)) ∙ sym characters ∙ sym w.0,
+    )
