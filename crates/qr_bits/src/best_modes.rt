@@ -14,7 +14,7 @@ ghost use Rattle.qr_bits.specs.Modes.{is_kanji_pair, may_use};
 ghost use Rattle.qr_bits.specs.Segmentation.{rank};
 ghost use Rattle.qr_bits.specs.declared.modes.Rule.{Rule};
 ghost use Rattle.qr_bits.specs.declared.interpretation.Interpretation.{Interpretation};
-ghost use Rattle.qr_bits.specs.Interpretation.{character_for, is_doubled, percent};
+ghost use Rattle.qr_bits.specs.Interpretation.{character_for, is_doubled};
 ghost use Rattle.qr_bits.specs.Steps.RunState.{begins_with_pair, is_gs1, may_begin, choice_number, ranked};
 ghost use Rattle.qr_bits.specs.Steps.BestModes.{AreCharacterChoices, in_state, mode_at, IsBestTable, IsRow, IsSmall, shift_of};
 
@@ -191,17 +191,6 @@ fn character_for(gs1: bool, byte: u8) -> u8
     if gs1 && byte == SEPARATOR { b'%' } else { byte }
 }
 
-// As `row_of`, for `%` in GS1 data. In a function of its own, since `%` is rare.
-#[inline(never)]
-fn percent_row(first_choices: &FirstChoices, rule: Rule, rest: &PerState) -> (u32, PerState)
-    requires { IsSmall rest.now }
-    ensures { IsRow Interpretation.Gs1 first_choices.now.version rule percent false rest.now result.0 result.1 }
-{
-    let may = may_begin(rule, b'%', Mode::Alphanumeric);
-    let characters = character_choices(first_choices, may, true, rest);
-    choices(first_choices, false, &characters, false, rest)
-}
-
 /// The row of a byte, and its best choice for each state before it. `pair` says that it may begin a kanji pair, and
 /// `gs1` that the bytes are GS1 data. `rest` has the best choices of the later bytes.
 #[inline(always)]
@@ -219,19 +208,18 @@ pub(crate) fn row_of(
 {
     // Where the flags are constants, the compiler can leave out cases of the inlined `choices`. Each digit is also a
     // character of alphanumeric mode.
-    if pair {
-        let digit = may_begin(rule, byte, Mode::Numeric);
-        let may = may_begin(rule, character_for(gs1, byte), Mode::Alphanumeric);
-        let characters = character_choices(first_choices, may, is_doubled(gs1, byte), rest);
-        choices(first_choices, digit, &characters, true, rest)
-    } else if may_begin(rule, byte, Mode::Numeric) {
+    let digit = may_begin(rule, byte, Mode::Numeric);
+    let doubled = is_doubled(gs1, byte);
+    if digit && !pair {
         let characters = character_choices(first_choices, true, false, rest);
-        choices(first_choices, true, &characters, false, rest)
-    } else if is_doubled(gs1, byte) {
-        // A copy, so that for all other bytes `rest` need not be in memory.
-        let rest = *rest;
-        percent_row(first_choices, rule, &rest)
-    } else if may_begin(rule, character_for(gs1, byte), Mode::Alphanumeric) {
+        return choices(first_choices, true, &characters, false, rest);
+    }
+    let may = may_begin(rule, character_for(gs1, byte), Mode::Alphanumeric);
+    if pair || doubled {
+        let characters = character_choices(first_choices, may, doubled, rest);
+        return choices(first_choices, digit, &characters, pair, rest);
+    }
+    if may {
         let characters = character_choices(first_choices, true, false, rest);
         choices(first_choices, false, &characters, false, rest)
     } else {

@@ -1,6 +1,6 @@
 -- The best mode for a byte is the one whose number is the least.
 use Rattle.std.proofs.Common.{◌≡◌, ℕ, ◌+◌, ◌*◌, ◌/◌, ◌%◌, ◌<◌, ◌≤◌, Bool, true, false, cond, min, refl, sym, ◌∙◌, ⊎_elim, arith}
-use Rattle.std.proofs.lemmas.Bool.{cases_Bool, cases_lt, cond_both, eqb-true, ne_eqb}
+use Rattle.std.proofs.lemmas.Bool.{cases_Bool, cases_lt, cond_both, ne_eqb}
 use Rattle.qr_bits.specs.declared.interpretation.Interpretation.{Interpretation, TheVariants.{Default, Gs1, Eci}}
 use Rattle.qr_bits.specs.Interpretation.{character_for, is_doubled}
 use Rattle.qr_bits.proofs.lemmas.interpretation.WrittenLemmas.{doubled-rank, single-byte}
@@ -133,10 +133,6 @@ pub digit_written : (i : Interpretation) (r : Rule) (x : ℕ) (q : Bool) → may
 digit_written Default r x q h = (refl, digit_character r x q h)
 digit_written (Eci k) r x q h = (refl, digit_character r x q h)
 digit_written Gs1 r x q h = let own = no_escape r x q h in (own.0, rw own.1 (digit_character r x q h))
-
--- only `%` in GS1 data is two characters
-pub doubled_percent : (i : Interpretation) (x : ℕ) → is_doubled i x Alphanumeric ≡ true → (i ≡ Gs1) × (x ≡ 37)
-doubled_percent i x h = grind (arith, eqb-true)
 
 -- a byte in kanji mode begins a pair if no half pair is open
 pub state_after-whole : (p : RunState) → may_end p ≡ true → state_after p Kanji ≡ HalfPair

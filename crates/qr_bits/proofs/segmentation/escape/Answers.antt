@@ -15,5 +15,5 @@ loop-len-preserved c =
     let e = cond (x == percent) (percent ∷ percent ∷ []) (percent ∷ []) in
     let own : escaped xs ≡ take n xs ++ (e ++ escaped zs) = first.1 ∙ rw next (ap (λ (r : List ℕ). take n xs ++ r) (escaped-other x zs first.2)) in
     let rest : take (length (x ∷ zs) - 1) zs ≡ zs = take_all _ zs (omega arith) in
-    rw (c.in_ok-extend_from_slice-2.ensures.items, c.escape_of.ensures, c.in_ok-extend_from_slice.ensures.items, c.split_at.ensures.front, c.split_at.ensures.back, next, rest)
+    rw (c.in_ok-put_escape.ensures, c.in_ok-extend_from_slice.ensures.items, c.split_at.ensures.front, c.split_at.ensures.back, next, rest)
     (append_assoc (c.loop-len.out.items ++ take n xs) e (escaped zs) ∙ append_assoc c.loop-len.out.items (take n xs) (e ++ escaped zs) ∙ (rw own at c.loop-len.invariant))

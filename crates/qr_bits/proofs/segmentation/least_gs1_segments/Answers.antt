@@ -45,7 +45,7 @@ loop-i-preserved c =
     elim c.if-eq.branch [
       | then-eq w ↦
           let same : m ≡ l.mode = same_mode m l.mode w.if-eq.ensures in
-          let state = (rw (c.is_doubled-doubled.ensures, w.state_on.ensures) at w.state_past-state.ensures) ∙ on_past Gs1 l.state _ x m (inv.next ∙ ap (state_after l.state) (sym same)) in
+          let state = (rw (w.state_on.ensures) at w.state_past-state.ensures) ∙ on_past Gs1 l.state _ x m (inv.next ∙ ap (state_after l.state) (sym same)) in
           rw (w.written-is, w.state-is, w.mode-is, w.begin-is, state) (record {
             count = let u = c.unwrap-modes.ensures in omega (arith, rw u at c.pop.ensures.len, inv.count);
             inside = omega (arith, inv.inside);
@@ -59,7 +59,7 @@ loop-i-preserved c =
             next = rw (← same) (on_in Gs1 l.state x m);
           })
       | else-eq+in_ok-put_run w ↦
-          let state = (rw (c.is_doubled-doubled.ensures, w.next_state.ensures) at w.state_past-state-else-eq.ensures) ∙ on_past Gs1 l.state _ x m refl in
+          let state = (rw (w.next_state.ensures) at w.state_past-state-else-eq.ensures) ∙ on_past Gs1 l.state _ x m refl in
           rw (w.written-is, w.state-is, w.mode-is, w.begin-is, state) (record {
             count = let u = c.unwrap-modes.ensures in omega (arith, rw u at c.pop.ensures.len, inv.count);
             inside = omega arith;
