@@ -267,7 +267,8 @@ pub(crate) fn best_modes(
     }
 }
 
-/// As `best_modes`, for GS1 data, of which not all is in byte mode.
+/// As `best_modes`, for GS1 data, of which not all is in byte mode. Out of line, so that the loop has all registers.
+#[inline(never)]
 pub(crate) fn best_gs1_modes(
     alloc: Global,
     input: &[u8],
