@@ -4,35 +4,36 @@
 
 ghost use Rattle.std.specs.Prelude.{◌≡◌, ◌<◌, length, IfErr, IfOk, IfSome, Some, MatchOption, MatchResult};
 ghost use Rattle.std.specs.Bool.{OnTrue};
-ghost use Rattle.qr_layout.specs.Blocks.{data_codewords_of};
 ghost use Rattle.qr_layout.specs.Version.{side_of, total_codewords_of};
 ghost use Rattle.qr_matrix.specs.Grid.{light};
 ghost use Rattle.qr_symbol.specs.declared.fault.ReadFault.{ReadFault};
 ghost use Rattle.qr_symbol.specs.Reading.{IsOfVersion, IsReadUnmasked};
 ghost use Rattle.qr_mending.specs.declared.format.FormatCopy.{FormatCopy};
 ghost use Rattle.qr_mending.specs.Format.{format_cost, IsNearFormat};
-ghost use Rattle.qr_mending.specs.Steps.{Mending.{HoldsNone}, Message.{list_of}};
+ghost use Rattle.qr_mending.specs.Steps.{Mending.{HoldsNone}, Message.{list_of, HasCorrections}};
 ghost use Rattle.qr_mending.specs.Mending.{wrong_format_modules, wrong_modules, DiffersFromSymbol, HasFormat, HasWrongModules, HoldsDamaged, IsMendedReading, IsOfNoUse, IsUnmended};
 
 use crate::format::{
     FormatCopy, format_cost, near_format_of, near_format_of_either, wrong_format_modules,
 };
-use crate::message::{Marks, MendedMessage, mend_message, read_marks};
+use crate::message::{Marks, MendedMessage, interleaved, mend_message, read_marks};
 use qr_bits::{Parsed, parse};
 use qr_layout::{Level, Version};
 use qr_matrix::{Matrix, differences};
-use qr_symbol::{ReadFault, draw_symbol, interleave, read_codewords};
+use qr_symbol::{ReadFault, draw_symbol, read_codewords};
 use std::alloc::{AllocError, Global};
 
 // If both copies together cost at most this with a level and a mask, they cost more with every other level and mask.
 const COST_CERTAIN: u8 = 13;
 
-// A symbol whose blocks were mended; `changed` has the number of misread codewords of each block.
+// A symbol whose blocks were mended: its data codewords and error correction codewords, block after block, and how many
+// codewords of each block were misread.
 #[derive(Drop)]
 struct MendedSquare {
     level: Level,
     mask: u8,
     message: Vec<u8>,
+    corrections: Vec<u8>,
     changed: Vec<usize>,
 }
 
@@ -52,7 +53,7 @@ fn mend_with(
     ensures mended { IfOk result (λ o. MatchOption o (IfSome near (λ f. HoldsNone unknown.now version f.0 f.1 matrix.now))
         (λ m. (near ≡ Some (m.level, m.mask))
         × HoldsDamaged unknown.now version m.level m.mask matrix.now m.message.items m.changed.items
-        × (length m.message.items ≡ data_codewords_of version m.level))) }
+        × HasCorrections version m.level m.message.items m.corrections.items)) }
     ensures fault { IfErr result (λ e. e ≡ ReadFault.Memory) }
 {
     let Some((level, mask)) = near else {
@@ -60,10 +61,17 @@ fn mend_with(
     };
     let codewords = read_codewords(alloc, version, mask, matrix)?;
     match mend_message(alloc, version, level, &codewords, marks) {
-        Ok(MendedMessage { message, changed }) => Ok(Some(MendedSquare {
+        Ok(
+            MendedMessage {
+                message,
+                corrections,
+                changed,
+            },
+        ) => Ok(Some(MendedSquare {
             level,
             mask,
             message,
+            corrections,
             changed,
         })),
         Err(ReadFault::Check) => Ok(None),
@@ -100,7 +108,7 @@ fn mend_by(
     ensures mended { IfOk result (λ o. MatchOption o (IsOfNoUse unknown.now copy version matrix.now)
         (λ m. IsNearFormat unknown.now copy matrix.now m.level m.mask
         × HoldsDamaged unknown.now version m.level m.mask matrix.now m.message.items m.changed.items
-        × (length m.message.items ≡ data_codewords_of version m.level))) }
+        × HasCorrections version m.level m.message.items m.corrections.items)) }
     ensures fault { IfErr result (λ e. e ≡ ReadFault.Memory) }
 {
     let near = near_format_of(matrix, unknown, version, copy);
@@ -136,7 +144,7 @@ fn mend_by_either(
     ensures mended { IfOk result (λ o. MatchOption o ((any : FormatCopy) → IsOfNoUse unknown.now any version matrix.now)
         (λ m. HasFormat unknown.now version matrix.now m.level m.mask
         × HoldsDamaged unknown.now version m.level m.mask matrix.now m.message.items m.changed.items
-        × (length m.message.items ≡ data_codewords_of version m.level))) }
+        × HasCorrections version m.level m.message.items m.corrections.items)) }
     ensures fault { IfErr result (λ e. e ≡ ReadFault.Memory) }
 {
     let near = near_format_of(matrix, unknown, version, FormatCopy::First);
@@ -184,7 +192,7 @@ fn mend_square(
     ensures mended { IfOk result (λ o. MatchOption o ((any : FormatCopy) → IsOfNoUse unknown.now any version matrix.now)
         (λ m. HasFormat unknown.now version matrix.now m.level m.mask
         × HoldsDamaged unknown.now version m.level m.mask matrix.now m.message.items m.changed.items
-        × (length m.message.items ≡ data_codewords_of version m.level))) }
+        × HasCorrections version m.level m.message.items m.corrections.items)) }
     ensures fault { IfErr result (λ e. e ≡ ReadFault.Memory) }
 {
     let marks = read_marks(alloc, version, unknown)?;
@@ -210,24 +218,24 @@ fn count_wrong(unknown: &Matrix, matrix: &Matrix, mut symbol: Matrix) -> u32
     differences(matrix, &symbol)
 }
 
-// Draws the undamaged symbol to compare the square with it.
+// Draws the undamaged symbol to compare the square with it. Mending has computed its error correction codewords already.
 fn count_wrong_modules(
     alloc: Global,
     version: Version,
-    level: Level,
-    mask: u8,
-    message: &[u8],
+    mended: &MendedSquare,
     matrix: &Matrix,
     unknown: &Matrix,
 ) -> Result<u32, AllocError>
-    requires whole { length message.now ≡ data_codewords_of version level }
-    requires mask_in { mask < 8 }
+    requires corrections { HasCorrections version mended.now.level mended.now.message.items mended.now.corrections.items }
+    requires mask_in { mended.now.mask < 8 }
     requires side { matrix.now.side ≡ side_of version }
     requires unknown_side { unknown.now.side ≡ side_of version }
-    ensures { IfOk result (DiffersFromSymbol unknown.now matrix.now version level mask message.now) }
+    ensures { IfOk result
+        (DiffersFromSymbol unknown.now matrix.now version mended.now.level mended.now.mask mended.now.message.items) }
 {
-    let codewords = interleave(alloc, version, level, message)?;
-    let symbol = draw_symbol(alloc, version, level, &codewords, mask)?;
+    let level = mended.level;
+    let codewords = interleaved(alloc, version, level, &mended.message, &mended.corrections)?;
+    let symbol = draw_symbol(alloc, version, level, &codewords, mended.mask)?;
     Ok(count_wrong(unknown, matrix, symbol))
 }
 
@@ -301,25 +309,23 @@ pub fn mend_symbol_without(
     let Some(mended) = mend_square(alloc, version, matrix, unknown)? else {
         return Err(refusal(version, matrix, unknown));
     };
-    let MendedSquare {
-        level,
-        mask,
-        message,
-        changed,
-    } = mended;
-    let parsed = parse(alloc, &message, version)?;
-    let wrong_format_modules = wrong_format_modules(matrix, unknown, version, level, mask);
-    let wrong_modules = count_wrong_modules(
-        alloc, version, level, mask, &message, matrix, unknown,
-    )?;
+    let parsed = parse(alloc, &mended.message, version)?;
+    let wrong_format_modules = wrong_format_modules(
+        matrix,
+        unknown,
+        version,
+        mended.level,
+        mended.mask,
+    );
+    let wrong_modules = count_wrong_modules(alloc, version, &mended, matrix, unknown)?;
     Ok(Mended {
         version,
-        level,
-        mask,
+        level: mended.level,
+        mask: mended.mask,
         parsed,
         wrong_format_modules,
         wrong_modules,
-        changed,
+        changed: mended.changed,
     })
 }
 

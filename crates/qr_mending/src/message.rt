@@ -1,18 +1,18 @@
 //! Mends the message of a damaged symbol block by block. A codeword is erased if one of its modules was not read
 //! (ISO/IEC 18004:2015, 7.5.1, 7.6 and 7.7.3).
 
-ghost use Rattle.std.specs.Prelude.{◌≡◌, ℕ, ◌+◌, ◌*◌, ◌<◌, ◌≤◌, ◌==◌, ◌⊎◌, ◌++◌, ◌∷◌, [], false, not, map, List, length, Err, IfOk, IfErr, IfSome, IfNone};
+ghost use Rattle.std.specs.Prelude.{◌≡◌, ℕ, ◌+◌, ◌*◌, ◌<◌, ◌≤◌, ◌==◌, ◌⊎◌, ◌++◌, ◌∷◌, [], false, not, map, take, drop, List, length, Err, IfOk, IfErr, IfSome, IfNone};
 ghost use Rattle.std.specs.Bool.{OnTrue};
-ghost use Rattle.qr_field.specs.Distance.{errors};
-ghost use Rattle.qr_layout.specs.Blocks.{blocks_of, data_codewords_of};
+ghost use Rattle.qr_field.specs.{Distance.{errors}, Polynomial.{IsCorrection}};
+ghost use Rattle.qr_layout.specs.Blocks.{blocks_of};
 ghost use Rattle.qr_layout.specs.Version.{side_of, total_codewords_of};
 ghost use Rattle.qr_matrix.specs.Grid.{colour};
 ghost use Rattle.qr_symbol.specs.declared.fault.ReadFault.{ReadFault};
-ghost use Rattle.qr_symbol.specs.Interleaving.{block_count, block_len, codeword_count, data_sizes, correction_sizes};
-ghost use Rattle.qr_symbol.specs.Reading.{IsReadUnmasked};
+ghost use Rattle.qr_symbol.specs.Interleaving.{block_count, block_len, codeword_count, data_sizes, correction_sizes, IsInterleaved};
+ghost use Rattle.qr_symbol.specs.{Reading.{IsReadUnmasked}, Steps.Interleaving.{IsChecks}};
 ghost use Rattle.qr_mending.specs.Erasures.{IsMendedWithErasures};
 ghost use Rattle.qr_mending.specs.Message.{received, protection_of, spare_of, tolerance_of, AreInBlocks};
-ghost use Rattle.qr_mending.specs.Steps.Message.{list_of, marks_at, read_by, AreMarksInBlocks, AreMended, AreWhole, IsMendedMessage};
+ghost use Rattle.qr_mending.specs.Steps.Message.{list_of, marks_at, read_by, AreMarksInBlocks, AreMended, AreWhole, HasCorrections, IsMendedMessage};
 
 use crate::block::mend;
 use crate::erasures::mend_with_erasures;
@@ -76,6 +76,26 @@ fn in_blocks(alloc: Global, blocks: Blocks, interleaved: &[u8]) -> Result<InBloc
     let data = BlockSizes::of_data(blocks).gather(alloc, interleaved)?;
     let checks = BlockSizes::of_corrections(blocks).gather(alloc, &interleaved[data.len()..])?;
     Ok(InBlocks { data, checks })
+}
+
+// The final sequence of mended codewords, whose error correction codewords need not be computed again.
+pub(crate) fn interleaved(
+    alloc: Global,
+    version: Version,
+    level: Level,
+    message: &[u8],
+    corrections: &[u8],
+) -> Result<Vec<u8>, AllocError>
+    requires { HasCorrections version level message.now corrections.now }
+    ensures interleaved { IfOk result (λ cw. IsInterleaved version level message.now cw.items) }
+    ensures many { IfOk result (λ cw. length cw.items ≡ total_codewords_of version) }
+{
+    let blocks = version.blocks(level);
+    let mut interleaved = vec![in alloc; 0u8; message.len() + corrections.len()]?;
+    let (data, checks) = interleaved.split_at_mut(message.len());
+    BlockSizes::of_data(blocks).scatter(message, data);
+    BlockSizes::of_corrections(blocks).scatter(corrections, checks);
+    Ok(interleaved)
 }
 
 // As `Marks`, in the order of the blocks.
@@ -156,17 +176,19 @@ fn erased_of(
     Ok(erased)
 }
 
-// The data codewords of a mended block, and how many of its codewords were misread.
+// The codewords of a mended block, data codewords first, and how many of them were misread.
 #[derive(Drop)]
 struct MendedBlock {
-    message: Vec<u8>,
+    codewords: Vec<u8>,
     changed: usize,
 }
 
-// As `MendedBlock`, for all blocks in their order.
+// The mended data codewords of all blocks, the error correction codewords that belong to them, and how many codewords of
+// each block were misread. In each list the blocks come in their order.
 #[derive(Drop)]
 pub(crate) struct MendedMessage {
     pub message: Vec<u8>,
+    pub corrections: Vec<u8>,
     pub changed: Vec<usize>,
 }
 
@@ -202,7 +224,7 @@ fn mend_marked(
     }
 }
 
-// Mends one block, and then cuts it to its data codewords. In the contract, `message` has the blocks before it, mended.
+// Mends one block. In the contract, `message` has the blocks before it, mended.
 fn mend_next(
     alloc: Global,
     blocks: Blocks,
@@ -223,14 +245,16 @@ fn mend_next(
         → AreMended blocks spare received.now.data.items received.now.checks.items (marks_at blocks marks.now)
         block message misread
         → AreMended blocks spare received.now.data.items received.now.checks.items (marks_at blocks marks.now)
-        (block + 1) (message ++ m.message.items) (misread ++ m.changed ∷ [])) }
+        (block + 1) (message ++ take (block_len (data_sizes blocks) block) m.codewords.items) (misread ++ m.changed ∷ [])) }
+    ensures corrects { IfOk result (λ m. IsCorrection (take (block_len (data_sizes blocks) block) m.codewords.items)
+        blocks.ec_len (drop (block_len (data_sizes blocks) block) m.codewords.items)) }
+    ensures long { IfOk result (λ m. length m.codewords.items ≡ block_len (data_sizes blocks) block + blocks.ec_len) }
     ensures refused { result ≡ Err ReadFault.Check → (message misread : List ℕ)
         → AreMended blocks spare received.now.data.items received.now.checks.items (marks_at blocks marks.now)
         (block_count (data_sizes blocks)) message misread → ⊥ }
     ensures fault { IfErr result (λ e. (e ≡ ReadFault.Memory) ⊎ (e ≡ ReadFault.Check)) }
 {
     let mut codewords = block_of(alloc, blocks, received, block)?;
-    let len = codewords.len() - divisor.count();
     let Some(changed) = mend_marked(
         alloc,
         blocks,
@@ -243,11 +267,7 @@ fn mend_next(
     else {
         return Err(ReadFault::Check);
     };
-    codewords.truncate(len);
-    Ok(MendedBlock {
-        message: codewords,
-        changed,
-    })
+    Ok(MendedBlock { codewords, changed })
 }
 
 // Ends at the first block that cannot be mended.
@@ -267,6 +287,8 @@ fn mend_parts(
     requires spare { spare ≤ blocks.ec_len }
     ensures mended { IfOk result (λ m. AreMended blocks spare received.now.data.items received.now.checks.items
         (marks_at blocks marks.now) (block_count (data_sizes blocks)) m.message.items m.changed.items) }
+    ensures corrections { IfOk result
+        (λ m. IsChecks blocks m.message.items (block_count (data_sizes blocks)) m.corrections.items) }
     ensures refused { result ≡ Err ReadFault.Check → (message misread : List ℕ)
         → AreMended blocks spare received.now.data.items received.now.checks.items
         (marks_at blocks marks.now) (block_count (data_sizes blocks)) message misread → ⊥ }
@@ -275,13 +297,21 @@ fn mend_parts(
     let count = BlockSizes::of_data(blocks).count();
     let divisor = Divisor::new(usize::from(blocks.ec_len));
     let mut message = Vec::with_capacity(alloc, received.data.len())?;
+    let mut corrections = Vec::with_capacity(alloc, received.checks.len())?;
     let mut changed = Vec::with_capacity(alloc, count)?;
     for block in 0..count {
         let mended = mend_next(alloc, blocks, &divisor, spare, received, marks, block)?;
-        message.extend_from_slice(&mended.message)?;
+        let len = mended.codewords.len() - divisor.count();
+        let (data, checks) = mended.codewords.split_at(len);
+        message.extend_from_slice(data)?;
+        corrections.extend_from_slice(checks)?;
         changed.push(mended.changed)?;
     }
-    Ok(MendedMessage { message, changed })
+    Ok(MendedMessage {
+        message,
+        corrections,
+        changed,
+    })
 }
 
 // As `mend_parts`, for codewords and marks that are interleaved.
@@ -300,6 +330,8 @@ fn mend_blocks(
     requires spare { spare ≤ blocks.ec_len }
     ensures mended { IfOk result (λ m. IsMendedMessage blocks spare codewords.now
         (list_of (length codewords.now) marks.now) m.message.items m.changed.items) }
+    ensures corrections { IfOk result
+        (λ m. IsChecks blocks m.message.items (block_count (data_sizes blocks)) m.corrections.items) }
     ensures refused { result ≡ Err ReadFault.Check → (message misread : List ℕ)
         → IsMendedMessage blocks spare codewords.now (list_of (length codewords.now) marks.now) message misread → ⊥ }
     ensures fault { IfErr result (λ e. (e ≡ ReadFault.Memory) ⊎ (e ≡ ReadFault.Check)) }
@@ -351,7 +383,7 @@ pub(crate) fn mend_message(
     requires marks { length (list_of (total_codewords_of version) marks.now) ≡ total_codewords_of version }
     ensures mended { IfOk result (λ m. IsMendedMessage (blocks_of version level) (spare_of version level)
         codewords.now (list_of (total_codewords_of version) marks.now) m.message.items m.changed.items) }
-    ensures many { IfOk result (λ m. length m.message.items ≡ data_codewords_of version level) }
+    ensures corrections { IfOk result (λ m. HasCorrections version level m.message.items m.corrections.items) }
     ensures refused { result ≡ Err ReadFault.Check → (message misread : List ℕ)
         → IsMendedMessage (blocks_of version level) (spare_of version level) codewords.now
         (list_of (total_codewords_of version) marks.now) message misread

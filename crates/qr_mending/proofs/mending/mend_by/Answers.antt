@@ -1,5 +1,4 @@
-use Rattle.std.proofs.Common.{◌≡◌, length}
-use Rattle.{qr_layout.specs.Blocks.{data_codewords_of}, qr_mending.specs.Mending.{HoldsDamaged}}
+use Rattle.qr_mending.specs.{Mending.{HoldsDamaged}, Steps.Message.{HasCorrections}}
 use Rattle.qr_mending.proofs.lemmas.mending.MendingLemmas.{by-near, no-use}
 use Rattle.qr_mending.proofs.mending.mend_by.Goals as goal
 
@@ -16,5 +15,5 @@ returns-clause-mended c =
     let u = c.args.unknown.now in
     by-near u g c.args.copy v (λ m. m.level) (λ m. m.mask)
     (λ m. HoldsDamaged u v m.level m.mask g m.message.items m.changed.items)
-    (λ m. length m.message.items ≡ data_codewords_of v m.level)
+    (λ m. HasCorrections v m.level m.message.items m.corrections.items)
     c.near_format_of-near.result c.mend_with.result c.near_format_of-near.ensures c.mend_with.ensures.mended

@@ -1,5 +1,5 @@
-use Rattle.std.proofs.Common.{◌≡◌, length, arith}
-use Rattle.qr_layout.specs.Blocks.{data_codewords_of}
+use Rattle.std.proofs.Common.{arith}
+use Rattle.qr_mending.specs.Steps.Message.{HasCorrections}
 use Rattle.qr_mending.specs.{declared.format.FormatCopy.TheVariants.{First, Second}, Mending.{HoldsDamaged, IsOfNoUse}}
 use Rattle.qr_mending.proofs.lemmas.mending.MendingLemmas.{best, best-of-two, no-use, second-alone, sure-first}
 use Rattle.qr_mending.proofs.mending.mend_by_either.Goals as goal
@@ -12,7 +12,7 @@ returns-in_default-clause-mended c =
     let near = c.near_format_of-near in
     second-alone u g v (λ m. m.level) (λ m. m.mask)
     (λ m. HoldsDamaged u v m.level m.mask g m.message.items m.changed.items)
-    (λ m. length m.message.items ≡ data_codewords_of v m.level)
+    (λ m. HasCorrections v m.level m.message.items m.corrections.items)
     c.mend_by.result (no-use u g First v near.result near.ensures (rw c.in_default.is at c.in_ok-first.ensures.mended))
     c.mend_by.ensures.mended
 

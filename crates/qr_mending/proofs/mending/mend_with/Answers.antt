@@ -16,7 +16,7 @@ returns-in-Ok-clause-mended c =
             m.message.items m.changed.items
             (omega arith) (omega arith) many c.requires.erased mended;
       },
-      rw c.in-Ok.field-0-is at c.in-Ok.ensures.many,
+      rw c.in-Ok.field-0-is at c.in-Ok.ensures.corrections,
     )
 
 pub returns-in-Err-Check-clause-mended : goal.returns-in-Err-Check-clause-mended
