@@ -7,16 +7,16 @@ ghost use Rattle.std.specs.Bool.{OnTrue};
 ghost use Rattle.qr_layout.specs.Version.{side_of, total_codewords_of};
 ghost use Rattle.qr_matrix.specs.Grid.{light};
 ghost use Rattle.qr_symbol.specs.declared.fault.ReadFault.{ReadFault};
-ghost use Rattle.qr_symbol.specs.Reading.{IsOfVersion, IsReadUnmasked};
+ghost use Rattle.qr_symbol.specs.{Reading.{IsOfVersion, IsReadUnmasked}, Symbol.{grid_of}};
 ghost use Rattle.qr_mending.specs.declared.format.FormatCopy.{FormatCopy};
 ghost use Rattle.qr_mending.specs.Format.{format_cost, IsNearFormat};
 ghost use Rattle.qr_mending.specs.Steps.{Mending.{HoldsNone}, Message.{list_of, HasCorrections}};
-ghost use Rattle.qr_mending.specs.Mending.{wrong_format_modules, wrong_modules, DiffersFromSymbol, HasFormat, HasWrongModules, HoldsDamaged, IsMendedReading, IsOfNoUse, IsUnmended};
+ghost use Rattle.qr_mending.specs.Mending.{wrong_format_modules, wrong_modules, HasFormat, HasWrongModules, HoldsDamaged, IsMendedReading, IsOfNoUse, IsUnmended};
 
 use crate::format::{
     FormatCopy, format_cost, near_format_of, near_format_of_either, wrong_format_modules,
 };
-use crate::message::{Marks, MendedMessage, interleaved, mend_message, read_marks};
+use crate::message::{Marks, MendedBlocks, interleaved, mend_blocks, read_marks};
 use qr_bits::{Parsed, parse};
 use qr_layout::{Level, Version};
 use qr_matrix::{Matrix, differences};
@@ -60,9 +60,9 @@ fn mend_with(
         return Ok(None);
     };
     let codewords = read_codewords(alloc, version, mask, matrix)?;
-    match mend_message(alloc, version, level, &codewords, marks) {
+    match mend_blocks(alloc, version, level, &codewords, marks) {
         Ok(
-            MendedMessage {
+            MendedBlocks {
                 message,
                 corrections,
                 changed,
@@ -218,24 +218,24 @@ fn count_wrong(unknown: &Matrix, matrix: &Matrix, mut symbol: Matrix) -> u32
     differences(matrix, &symbol)
 }
 
-// Draws the undamaged symbol to compare the square with it. Mending has computed its error correction codewords already.
+// Draws the undamaged symbol to compare the square with it. `codewords` is its final sequence.
 fn count_wrong_modules(
     alloc: Global,
     version: Version,
-    mended: &MendedSquare,
+    level: Level,
+    mask: u8,
+    codewords: &[u8],
     matrix: &Matrix,
     unknown: &Matrix,
 ) -> Result<u32, AllocError>
-    requires corrections { HasCorrections version mended.now.level mended.now.message.items mended.now.corrections.items }
-    requires mask_in { mended.now.mask < 8 }
+    requires whole { length codewords.now ≡ total_codewords_of version }
+    requires mask_in { mask < 8 }
     requires side { matrix.now.side ≡ side_of version }
     requires unknown_side { unknown.now.side ≡ side_of version }
     ensures { IfOk result
-        (DiffersFromSymbol unknown.now matrix.now version mended.now.level mended.now.mask mended.now.message.items) }
+        (λ wrong. wrong ≡ wrong_modules unknown.now matrix.now (grid_of version level mask codewords.now)) }
 {
-    let level = mended.level;
-    let codewords = interleaved(alloc, version, level, &mended.message, &mended.corrections)?;
-    let symbol = draw_symbol(alloc, version, level, &codewords, mended.mask)?;
+    let symbol = draw_symbol(alloc, version, level, codewords, mask)?;
     Ok(count_wrong(unknown, matrix, symbol))
 }
 
@@ -309,23 +309,27 @@ pub fn mend_symbol_without(
     let Some(mended) = mend_square(alloc, version, matrix, unknown)? else {
         return Err(refusal(version, matrix, unknown));
     };
-    let parsed = parse(alloc, &mended.message, version)?;
-    let wrong_format_modules = wrong_format_modules(
-        matrix,
-        unknown,
-        version,
-        mended.level,
-        mended.mask,
-    );
-    let wrong_modules = count_wrong_modules(alloc, version, &mended, matrix, unknown)?;
+    let MendedSquare {
+        level,
+        mask,
+        message,
+        corrections,
+        changed,
+    } = mended;
+    let parsed = parse(alloc, &message, version)?;
+    let wrong_format_modules = wrong_format_modules(matrix, unknown, version, level, mask);
+    let codewords = interleaved(alloc, version, level, message, corrections)?;
+    let wrong_modules = count_wrong_modules(
+        alloc, version, level, mask, &codewords, matrix, unknown,
+    )?;
     Ok(Mended {
         version,
-        level: mended.level,
-        mask: mended.mask,
+        level,
+        mask,
         parsed,
         wrong_format_modules,
         wrong_modules,
-        changed: mended.changed,
+        changed,
     })
 }
 

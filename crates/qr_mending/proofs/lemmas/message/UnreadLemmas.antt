@@ -1,6 +1,6 @@
 -- A message of which some codewords were erased is mended block by block, to at most one message.
-use Rattle.std.proofs.Common.{◌≡◌, ◌==◌, not, ℕ, Some, take, drop, refl, ap, ◌+◌, ◌-◌, ◌*◌, ◌/◌, ◌<◌, ◌≤◌, Option, List, [], ◌∷◌, ◌++◌, map, length, length-append, get_or, sym, ◌∙◌, subst, inl, inr, arith}
-use Rattle.std.proofs.lemmas.{Bool.cases_lt, List.{length_push, length-replicate, length-take-le, get_or_append_left, get_or_push, ext_get_or, take-append-drop}}
+use Rattle.std.proofs.Common.{◌≡◌, ◌==◌, ◌⊎◌, not, Bool, ℕ, Some, take, drop, refl, ap, ◌+◌, ◌-◌, ◌*◌, ◌/◌, ◌<◌, ◌≤◌, Option, List, [], ◌∷◌, ◌++◌, map, length, length-append, get_or, sym, ◌∙◌, subst, inl, inr, arith}
+use Rattle.std.proofs.lemmas.{Bool.cases_lt, List.{length_push, length-map, length-replicate, length-take-le, get_or_append_left, get_or_push, ext_get_or, take-append-drop}}
 use Rattle.std.proofs.lemmas.List.Elements.{All-head, All-tail, All-replicate}
 use Rattle.{std.specs.List.{range_with_len, All}, qr_matrix.specs.Grid.Grid}
 use Rattle.qr_field.specs.{Polynomial.IsCorrection, Distance.erasures, Distance.errors}
@@ -16,7 +16,7 @@ use Rattle.qr_field.specs.Polynomial.{zeros}
 use Rattle.qr_mending.specs.declared.message.{Marks.{Marks}, MarksInBlocks.{MarksInBlocks}}
 use Rattle.qr_mending.specs.declared.message.Marks.TheVariants as interleaved
 use Rattle.qr_mending.specs.declared.message.MarksInBlocks.TheVariants as parted
-use Rattle.qr_mending.specs.Steps.Message.{list_of, marks_at, read_by, AreMarksInBlocks, AreMended, IsMendedMessage}
+use Rattle.qr_mending.specs.Steps.Message.{list_of, marks_at, read_by, AreMarksInBlocks, AreMended, AreWhole, IsMendedMessage}
 use Rattle.qr_mending.proofs.lemmas.message.MessageLemmas.{in-blocks-one, in-blocks-some, received-each}
 
 -- ---- blocks
@@ -162,6 +162,23 @@ marks-long b u w i lu lw l =
       part-len (correction_sizes b) w i lw inside,
       len,
     )
+
+-- there is a mark for each codeword, if any
+pub marks-whole : (b : Blocks) (marks : Marks) (parts : MarksInBlocks) → AreMarksInBlocks b marks parts → AreWhole b parts
+marks-whole b interleaved.AllZero parted.AllZero h = tt
+marks-whole b interleaved.AllZero (parted.Each parts) h = absurd h
+marks-whole b (interleaved.Each marks) parted.AllZero h = absurd h
+marks-whole b (interleaved.Each marks) (parted.Each parts) h = (h.gathered.long, h.rest.long)
+
+-- a block has no marks, or one for each codeword
+pub marks-or-none : (b : Blocks) (parts : MarksInBlocks) (i : ℕ) (codewords : List ℕ) (erased : List Bool) → AreWhole b parts →
+    i < block_count (data_sizes b) → length codewords ≡ block_len (data_sizes b) i + b.ec_len →
+    erased ≡ map (λ mark. not (mark == 0)) (marks_at b parts i) → (erased ≡ []) ⊎ (length erased ≡ length codewords)
+marks-or-none b parted.AllZero i codewords erased h l n e = inl e
+marks-or-none b (parted.Each parts) i codewords erased h l n e =
+    let marks = received b parts.data.items parts.checks.items i in
+    inr (ap length e ∙ (length-map marks (λ mark. not (mark == 0))
+    ∙ (marks-long b parts.data.items parts.checks.items i h.0 h.1 l ∙ sym n)))
 
 -- without marks every codeword was read
 pub none-marked : (xs : List ℕ) → read_by xs [] ≡ map (λ x. Some x) xs
