@@ -29,7 +29,7 @@ ghost use Rattle.qr_mending.specs.Mending.{wrong_format_modules, wrong_modules, 
 ghost use Rattle.qr_mending.specs.Modules.{DifferInFewModules};
 ghost use Rattle.qr_mending.specs.Series.{AreDamagedSquares, IsUnmendedSeries};
 
-use crate::mending::{Mended, mend_symbol, mend_symbol_without};
+use crate::mending::{Mended, mend_symbol, mend_symbol_with_unknown};
 use crate::series::mend_series;
 use qr_bits::Rule;
 use qr_layout::{Level, Version};
@@ -188,7 +188,7 @@ pub fn mending_refusals_are_one()
         → (e ≡ ReadFault.Memory) ⊎ (f ≡ ReadFault.Memory) ⊎ (e ≡ f) }
 {}
 
-/// `IsUnmended` states the reason for each fault: `mend_symbol_without` returns a fault other than `Memory` exactly if
+/// `IsUnmended` states the reason for each fault: `mend_symbol_with_unknown` returns a fault other than `Memory` exactly if
 /// its reason holds and no allocation is refused.
 pub fn mendings_are_refused_exactly(
     alloc: Global,
@@ -199,7 +199,7 @@ pub fn mendings_are_refused_exactly(
     ensures { (e : ReadFault) → e ≢ ReadFault.Memory
         → (result ≡ Err e) ↔ ((result ≢ Err ReadFault.Memory) × IsUnmended unknown.now damaged.now e) }
 {
-    mend_symbol_without(alloc, damaged, unknown)
+    mend_symbol_with_unknown(alloc, damaged, unknown)
 }
 
 /// Take two symbols of one version with different data codewords or levels. They differ in at least seven modules of
@@ -242,7 +242,7 @@ pub fn damaged_symbols_are_mended(
         × (m.changed.items ≡ misread) × (m.wrong_modules ≡ wrong_modules unknown.now damaged.now g)
         × (m.wrong_format_modules ≡ wrong_format_modules unknown.now damaged.now l mask)) (λ e. e ≡ ReadFault.Memory) }
 {
-    mend_symbol_without(alloc, damaged, unknown)
+    mend_symbol_with_unknown(alloc, damaged, unknown)
 }
 
 /// A symbol is mended to exactly its input, unless memory is refused, if at most six of its 30 modules of format

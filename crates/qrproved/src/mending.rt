@@ -23,7 +23,7 @@ use qr_mending::laws::{
     changes_are_bounded, mended_readings_are_not_refused, mended_readings_are_one,
     mending_refusals_are_one,
 };
-use qr_mending::{Mended, changed_max, mend_symbol_without};
+use qr_mending::{Mended, changed_max, mend_symbol_with_unknown};
 use qr_symbol::ReadFault;
 use std::alloc::Global;
 
@@ -93,7 +93,7 @@ fn mend_modules(alloc: Global, modules: &[u8], side: u8) -> Result<Mended, ReadF
         (square_of_bytes side modules.now) m.version m.level m.mask m.changed.items m.wrong_modules) }
 {
     let (matrix, unknown) = matrices_of_bytes(alloc, modules, side)?;
-    mend_symbol_without(alloc, &matrix, &unknown)
+    mend_symbol_with_unknown(alloc, &matrix, &unknown)
 }
 
 fn greatest(numbers: &[usize]) -> usize

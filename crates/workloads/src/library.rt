@@ -10,7 +10,7 @@ use qr_devices::Counted;
 use qr_drawing::{Drawing, draw};
 use qr_layout::walk;
 use qr_matrix::{matrices_of_bytes, matrix_of_bytes, write_square};
-use qr_mending::{changed_max, mend_symbol_without};
+use qr_mending::{changed_max, mend_symbol_with_unknown};
 use qr_symbol::{Level, Symbol, Version, read_symbol};
 use std::alloc::{AllocError, Global};
 
@@ -274,7 +274,7 @@ fn add_mending(
         return Ok(());
     }
     let (dark, unknown) = matrices_of_bytes(alloc, modules, side)?;
-    add_mended(&mend_symbol_without(alloc, &dark, &unknown), digest);
+    add_mended(&mend_symbol_with_unknown(alloc, &dark, &unknown), digest);
     Ok(())
 }
 
