@@ -39,6 +39,9 @@ fn modified_syndromes(polynomial: &[u8], syndromes: &[u8]) -> ArrayVec<u8, 30>
 
 // The mended block, or if `damaged` cannot be mended, a list that the caller has to refuse. The erasure locator has a root
 // for each erased codeword, the error locator one for each misread codeword, and their product one for each of both.
+//
+// It is not inlined, so that its lists are on the stack only while it runs, and not while `mend` does.
+#[inline(never)]
 fn candidate(remainder: &[u8], spare: usize, erased: &[bool], damaged: &[u8]) -> ArrayVec<u8, 255>
     requires most { length remainder.now ≤ 30 }
     requires spare { spare ≤ length remainder.now }
@@ -80,7 +83,7 @@ fn count_misread(codewords: &[u8], erased: &[bool], mended: &[u8]) -> usize
 ///
 /// An erased codeword takes one error correction codeword, a misread one two. If more than `spare` are needed, returns
 /// `None` and changes nothing. `divisor` determines the number of error correction codewords of the block; in a symbol,
-/// `spare` is twice `changed_max`.
+/// `spare` is twice `correctable`.
 #[tactic(auto, using(crate::proofs::Named::mend_with_erasures_facts))]
 pub fn mend_with_erasures(
     divisor: &Divisor,

@@ -20,5 +20,5 @@ mod sums;
 pub use block::mend;
 pub use erasures::mend_with_erasures;
 pub use mending::{Mended, mend_symbol, mend_symbol_with_unknown};
-pub use message::changed_max;
+pub use message::correctable;
 pub use series::mend_series;

@@ -216,7 +216,7 @@ pub struct Mended {
 /// is dark in the square `unknown`, which has the side of `matrix`, and its codeword is called erased.
 ///
 /// A block is mended if the number of its erased codewords, plus twice that of its misread ones, is at most twice
-/// `changed_max`. The level and the mask are found by the two copies of the format information, of 15 modules each. A
+/// `correctable`. The level and the mask are found by the two copies of the format information, of 15 modules each. A
 /// copy admits a level and a mask if the number of its modules that were not read, plus twice that of misread ones, is
 /// at most 6; it admits at most one pair. Of the admitted pairs that mend every block, the one with the least such sum
 /// over both copies is taken. Of two with the same sum it is the one that the first copy admits.

@@ -11,7 +11,7 @@ ghost use Rattle.qr_symbol.specs.declared.fault.ReadFault.{ReadFault};
 ghost use Rattle.qr_symbol.specs.Interleaving.{block_count, block_len, codeword_count, data_sizes, correction_sizes, IsInterleaved};
 ghost use Rattle.qr_symbol.specs.{Reading.{IsReadUnmasked}, Steps.Interleaving.{IsChecks}};
 ghost use Rattle.qr_mending.specs.Erasures.{read_of, IsMendedWithErasures};
-ghost use Rattle.qr_mending.specs.Message.{received, protection_of, spare_of, tolerance_of, AreInBlocks};
+ghost use Rattle.qr_mending.specs.Message.{received, protection_of, spare_of, correctable_of, AreInBlocks};
 ghost use Rattle.qr_mending.specs.Steps.Message.{list_of, marks_at, read_by, AreMarksInBlocks, AreMended, AreWhole, HasCorrections, IsMendedMessage};
 
 use crate::block::mend;
@@ -234,8 +234,8 @@ fn spare(version: Version, level: Level) -> u8
 
 /// Returns how many misread codewords of a block without erased ones can be corrected, from 2 to 15: half the number of
 /// its error correction codewords, or less for some levels of versions 1 to 3 (ISO/IEC 18004:2015, 7.5.1, Table 9).
-pub fn changed_max(version: Version, level: Level) -> u8
-    ensures { result ≡ tolerance_of version level }
+pub fn correctable(version: Version, level: Level) -> u8
+    ensures { result ≡ correctable_of version level }
 {
     spare(version, level) / 2
 }
