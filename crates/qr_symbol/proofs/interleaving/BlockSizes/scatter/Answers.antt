@@ -2,12 +2,12 @@ use Rattle.std.proofs.{Common.{◌≡◌, ℕ, ◌+◌, ◌*◌, ◌-◌, List, 
 use Rattle.std.proofs.lemmas.Bool.{Decides.nat_tests}
 use Rattle.qr_symbol.specs.Interleaving.{block_count, start_of}
 use Rattle.qr_symbol.proofs.lemmas.interleaving.{OrderLemmas.{IsPlaced, placed-block, placed-end, placed-interleaved}, PositionLemmas.len-most, RankLemmas.{in-row, in-last-row}}
-use Rattle.qr_symbol.proofs.interleaving.interleave_into.Goals.{then-block-short, else-block-short}
-use Rattle.qr_symbol.proofs.interleaving.interleave_into.Goals as goal
+use Rattle.qr_symbol.proofs.interleaving.BlockSizes.scatter.Goals.{then-block-short, else-block-short}
+use Rattle.qr_symbol.proofs.interleaving.BlockSizes.scatter.Goals as goal
 
 pub loop-place-preserved : goal.loop-place-preserved
 loop-place-preserved c =
-    let sizes = c.args.sizes in let p = c.loop-place.place in
+    let sizes = c.args.self in let p = c.loop-place.place in
     let b = c.loop-block.block in let h = c.loop-place.invariant in let w = in-row sizes p b (omega arith) (omega arith) in
     let rank = ap (λ (n : ℕ). n * p + b) c.count-blocks.ensures ∙ w.1 in record {
       long = length-set c.loop-place.interleaved _ _ ∙ h.long;
@@ -16,7 +16,7 @@ loop-place-preserved c =
 
 pub loop-block-preserved : goal.loop-block-preserved
 loop-block-preserved c =
-    let sizes = c.args.sizes in let b = c.loop-block.block in let h = c.loop-place.invariant in
+    let sizes = c.args.self in let b = c.loop-block.block in let h = c.loop-place.invariant in
     let e : c.loop-place.place ≡ sizes.short_len = omega arith in
     let all = subst (λ (p : ℕ). IsPlaced sizes b p c.loop-place.interleaved c.args.codewords.now) e h.placed in record {
       long = elim c.if-block-short.branch [
@@ -35,4 +35,4 @@ loop-block-preserved c =
     }
 
 pub returns-clause-gathered : goal.returns-clause-gathered
-returns-clause-gathered c = placed-end c.args.sizes c.loop-block.block c.loop-block.interleaved c.args.codewords.now c.requires.whole (omega (arith, c.loop-block.invariant.long)) (omega arith) c.loop-block.invariant.placed
+returns-clause-gathered c = placed-end c.args.self c.loop-block.block c.loop-block.interleaved c.args.codewords.now c.requires.whole (omega (arith, c.loop-block.invariant.long)) (omega arith) c.loop-block.invariant.placed

@@ -1,6 +1,6 @@
 use Rattle.std.proofs.{Common.{sym, ◌∙◌}, lemmas.Result.err_from_is_err_and}
 use Rattle.qr_mending.proofs.lemmas.mending.MendingLemmas.{mended-unparsed}
-use Rattle.qr_mending.proofs.mending.mend_symbol_without.Goals as goal
+use Rattle.qr_mending.proofs.mending.mend_symbol_with_unknown.Goals as goal
 
 pub returns-in_default-clause-mended : goal.returns-in_default-clause-mended
 returns-in_default-clause-mended c = λ v s. c.in_default.ensures v s.least s.most (c.side.ensures.value ∙ s.side)
@@ -17,5 +17,5 @@ returns-in_err-parsed-clause-mended c =
     (rw c.deref.ensures.value (record {
       sized = record { least = found.0; most = found.1; side = sym c.side.ensures.value ∙ found.2 };
       format = mended.0;
-      damaged = mended.1;
+      damaged = mended.1.held;
     })) c.in_err-parsed.ensures)
