@@ -153,6 +153,8 @@ fn corrections(alloc: Global, blocks: Blocks, message: &[u8]) -> Result<Vec<u8>,
     Ok(corrections)
 }
 
+// Out of line: where LLVM knows how many blocks there can be, it multiplies for each codeword instead of adding.
+#[inline(never)]
 fn interleave_blocks(alloc: Global, blocks: Blocks, message: &[u8]) -> Result<Vec<u8>, AllocError>
     requires whole { length message.now ≡ codeword_count (data_sizes blocks) }
     requires least { 1 ≤ blocks.ec_len }
@@ -186,7 +188,8 @@ pub fn interleave(
     interleave_blocks(alloc, version.blocks(level), message)
 }
 
-// Undoes `scatter`.
+// Undoes `scatter`. It is out of line for the reason that `interleave_blocks` gives.
+#[inline(never)]
 fn deinterleave_into(message: &mut [u8], sizes: BlockSizes, codewords: &[u8])
     requires room { length message.old ≡ codeword_count sizes }
     requires interleaved { codeword_count sizes ≤ length codewords.now }
@@ -207,6 +210,7 @@ fn deinterleave_into(message: &mut [u8], sizes: BlockSizes, codewords: &[u8])
     }
 }
 
+// Compares the error correction codewords that were read with those of the message, block by block.
 fn deinterleave_blocks(
     alloc: Global,
     blocks: Blocks,
@@ -222,8 +226,10 @@ fn deinterleave_blocks(
         → (length d ≡ codeword_count (data_sizes blocks)) × IsFinalMessage blocks d codewords.now → ⊥))) }
 {
     let message = BlockSizes::of_data(blocks).gather(alloc, codewords)?;
-    let again = interleave_blocks(alloc, blocks, &message)?;
-    if again.as_slice() == codewords {
+    let checks = &codewords[message.len()..];
+    let read = BlockSizes::of_corrections(blocks).gather(alloc, checks)?;
+    let computed = corrections(alloc, blocks, &message)?;
+    if read.as_slice() == computed.as_slice() {
         Ok(message)
     } else {
         Err(ReadFault::Check)
