@@ -4,9 +4,9 @@ use Rattle.qr_layout.{proofs.Facts.{Mem-of-Contains, blocks-sound}, specs.Blocks
 use Rattle.qr_layout.specs.{Version.total_codewords_of, declared.{blocks.Blocks.Blocks, level.Level.Level}}
 use Rattle.{qr_symbol.proofs.lemmas.interleaving.OrderLemmas.positions-many, std.specs.Prelude.{Result, Ok, Err, IfOk}}
 use Rattle.qr_symbol.proofs.lemmas.interleaving.RankLemmas.{positions-one, position-of, map-at}
-use Rattle.qr_symbol.proofs.lemmas.interleaving.CheckLemmas.{both-interleaved}
+use Rattle.qr_symbol.proofs.lemmas.interleaving.{CheckLemmas.both-interleaved, PositionLemmas.part-at}
 use Rattle.qr_symbol.specs.{Steps.Interleaving.IsChecks, declared.interleaving.BlockSizes.BlockSizes}
-use Rattle.qr_symbol.specs.Interleaving.{block_count, codeword_count, codeword_at, data_sizes, correction_sizes, block_of, check_at, IsFinalMessage, IsGathered}
+use Rattle.qr_symbol.specs.Interleaving.{block_count, codeword_count, codeword_at, data_sizes, correction_sizes, block_of, check_at, part_of, IsFinalMessage, IsGathered}
 use Rattle.std.proofs.Common.{◌≡◌, ℕ, ◌+◌, ◌-◌, ◌*◌, ◌<◌, ◌≤◌, List, [], ◌∷◌, ◌++◌, map, length, length-append, get_or, refl, sym, ◌∙◌, ap, subst, arith, drop, take}
 use Rattle.std.proofs.{Math.Seq.{take-append_seam, drop-append_seam}, lemmas.List.{length-map, length-drop, length-take-le, ext_get_or, take-append-drop, take-take, take_all}}
 
@@ -110,10 +110,12 @@ checks-read b interleaved d xs es n e h g k =
     let many : length checks ≡ codeword_count c = length-map h.check_positions (check_at h.corrections) ∙ positions-many _ _ h.check_order in
     let all : take (codeword_count c) (drop n interleaved) ≡ checks = ap (take (codeword_count c)) rest ∙ take_all (codeword_count c) checks (omega arith) in
     let both : map (codeword_at c xs) g.positions ≡ map (check_at h.corrections) g.positions = g.same ∙ (all ∙ ap (map (check_at h.corrections)) (positions-one c _ _ h.check_order g.order)) in
-    let same = checks-one b d _ _ _ h.count k.count h.each k.each in ext_get_or 0 xs es (g.long ∙ omega (arith, k.long)) (λ j l.
+    ext_get_or 0 xs es (g.long ∙ omega (arith, k.long)) (λ j l.
     let w = position-of c (block_count c) j (omega arith) (omega (arith, g.long)) in
     let read = map-at _ _ _ w.0 both (Mem-of-Contains _ w.0 (g.order.complete w.0 w.1)) in
-    let computed = k.same w.0 (let i = w.1.0 in omega arith) w.1 in
+    let here : w.0.block < block_count (data_sizes b) = (let i = w.1.0 in omega arith) in
+    let same = correction-one (block_of b d w.0.block) b.ec_len _ (part_of c es w.0.block) (h.each w.0.block here) (k.each w.0.block here) in
+    let computed : codeword_at c es w.0 ≡ check_at h.corrections w.0 = part-at c es w.0 w.1 ∙ ap (λ (ys : List ℕ). get_or ys w.0.place 0) (sym same) in
     let place = w.2 in cc)
 
 -- ---- a sequence that is read
@@ -134,7 +136,7 @@ pub message-read : (b : Blocks) (interleaved d es : List ℕ) (n : ℕ) → n �
     → IsGathered (correction_sizes b) (drop n interleaved) es → IsChecks b d (block_count (data_sizes b)) es → IsFinalMessage b d interleaved
 message-read b interleaved d es n e l g h k =
     subst (IsFinalMessage b d) (take-append-drop n interleaved)
-    (both-interleaved b d es (take n interleaved) (drop n interleaved) k (omega (arith, length-take-le n interleaved)) (omega (arith, length-drop n interleaved)) (gathered-front _ _ _ n e g) h)
+    (both-interleaved b d es (take n interleaved) (drop n interleaved) k.each (omega (arith, length-take-le n interleaved)) (omega (arith, length-drop n interleaved)) (gathered-front _ _ _ n e g) h)
 
 -- otherwise it is the final sequence of no message
 pub none-fits : (b : Blocks) (interleaved xs es computed d : List ℕ) (n : ℕ) → n ≡ codeword_count (data_sizes b)
