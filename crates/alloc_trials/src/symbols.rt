@@ -7,7 +7,7 @@ use example_label::label;
 use qr_bits::{Interpretation, Rule};
 use qr_layout::{Level, Version};
 use qr_matrix::{matrices_of_bytes, matrix_of_bytes};
-use qr_mending::{mend_series, mend_symbol, mend_symbol_without};
+use qr_mending::{mend_series, mend_symbol, mend_symbol_with_unknown};
 use qr_symbol::{
     BlockSizes, EncodeFault, Matrix, ReadFault, Symbol, build, build_masked, deinterleave,
     draw_symbol, encode, encode_series, interleave, join, read_codewords, read_series, read_symbol,
@@ -261,11 +261,11 @@ pub fn mended(alloc: Global) -> Result<Answer, AllocError> {
     Ok(answer.given(are_equal(&symbol.matrix, &same.matrix)))
 }
 
-pub fn mended_without(alloc: Global) -> Result<Answer, AllocError> {
+pub fn mended_with_unknown(alloc: Global) -> Result<Answer, AllocError> {
     let (symbol, same) = (hello(alloc)?, hello(alloc)?);
     let mut unknown = Matrix::new(alloc, symbol.matrix.side())?;
     unknown.set(0, 0, true);
-    let answer = match mend_symbol_without(alloc, &symbol.matrix, &unknown) {
+    let answer = match mend_symbol_with_unknown(alloc, &symbol.matrix, &unknown) {
         Ok(mended) => Answer::of(
             mended.parsed.bytes.as_slice() == HELLO_WORLD.as_slice() && mended.wrong_modules == 1,
         ),

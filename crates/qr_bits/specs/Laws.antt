@@ -94,7 +94,7 @@ SegmentationsMeanTheirInput =
 -- Without kanji mode, a piece of an input needs no more bits than the whole [own]
 abbrev pub PiecesNeedNoMore : Type 0
 PiecesNeedNoMore =
-    (i : Interpretation) (v : ℕ) (r : Rule) (xs ys zs : List ℕ) (n : ℕ) → MayWrite i (xs ++ (ys ++ zs)) → may_use r Kanji ≡ false →
+    (i : Interpretation) (v : ℕ) (r : Rule) (xs ys zs : List ℕ) (n : ℕ) → may_use r Kanji ≡ false →
     HasFit i v r (xs ++ (ys ++ zs)) n → HasFit i v r ys n
 
 -- `codeword_bit` numbers the bits of codewords in the order in which `bits_of` lists them (ISO/IEC 18004:2015, 7.7.3)

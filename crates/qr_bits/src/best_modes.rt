@@ -14,9 +14,9 @@ ghost use Rattle.qr_bits.specs.Modes.{is_kanji_pair, may_use};
 ghost use Rattle.qr_bits.specs.Segmentation.{rank};
 ghost use Rattle.qr_bits.specs.declared.modes.Rule.{Rule};
 ghost use Rattle.qr_bits.specs.declared.interpretation.Interpretation.{Interpretation};
-ghost use Rattle.qr_bits.specs.Interpretation.{percent};
+ghost use Rattle.qr_bits.specs.Interpretation.{character_for, is_doubled};
 ghost use Rattle.qr_bits.specs.Steps.RunState.{begins_with_pair, is_gs1, may_begin, choice_number, ranked};
-ghost use Rattle.qr_bits.specs.Steps.BestModes.{in_state, mode_at, IsBestTable, IsRow, IsSmall, shift_of};
+ghost use Rattle.qr_bits.specs.Steps.BestModes.{AreCharacterChoices, in_state, mode_at, IsBestTable, IsRow, IsSmall, shift_of};
 
 use crate::interpretation::SEPARATOR;
 use crate::modes::{INPUT_MAX, Mode, Rule, is_alphanumeric, is_digit, is_kanji_pair, may_use};
@@ -85,28 +85,70 @@ fn row_for(numbers: &PerState) -> u32
     numbers.start % 4 + 4 * last
 }
 
+// The choices of alphanumeric mode for a byte, as numbers.
+#[derive(Clone, Copy)]
+struct CharacterChoices {
+    // the choice that begins a segment
+    first: u32,
+    // after `Character1`
+    second: u32,
+    // after `Character2`
+    next: u32,
+}
+
+// `may` says that the byte may be written in alphanumeric mode, and `doubled` that it is then two characters.
+#[tactic(auto, unfolding(crate::specs::Steps::RunState::byte_cost, crate::specs::Steps::RunState::state_after))]
+#[inline(always)]
+fn character_choices(
+    first_choices: &FirstChoices,
+    may: bool,
+    doubled: bool,
+    rest: &PerState,
+) -> CharacterChoices
+    requires { IsSmall rest.now }
+    ensures { (i : Interpretation) (r : Rule) (x : ℕ) (pair : Bool)
+        → may ≡ may_begin r (character_for i x Mode.Alphanumeric) pair Mode.Alphanumeric
+        → doubled ≡ is_doubled i x Mode.Alphanumeric
+        → AreCharacterChoices i first_choices.now.version r x pair rest.now result }
+{
+    if doubled {
+        // The second of the two characters adds 5 bits to those of the first.
+        let first = first_choices.alphanumeric + 4 * 5;
+        CharacterChoices {
+            first: choice_if(may, first, rest.character2),
+            second: next_if(may, 11, Mode::Alphanumeric, rest.character1),
+            next: next_if(may, 11, Mode::Alphanumeric, rest.character2),
+        }
+    } else {
+        CharacterChoices {
+            first: choice_if(may, first_choices.alphanumeric, rest.character1),
+            second: next_if(may, 5, Mode::Alphanumeric, rest.character2),
+            next: next_if(may, 6, Mode::Alphanumeric, rest.character1),
+        }
+    }
+}
+
 // The row of a byte, and its best choice for each state before it. `digit` says that the byte may be written in numeric
-// mode, `character` in alphanumeric mode, and `pair` that it may begin a kanji pair. `rest` has the best choices of the
-// later bytes.
+// mode, and `pair` that it may begin a kanji pair. `characters` are its choices of alphanumeric mode, and `rest` has the
+// best choices of the later bytes.
 #[inline(always)]
 fn choices(
     first_choices: &FirstChoices,
     digit: bool,
-    character: bool,
+    characters: &CharacterChoices,
     pair: bool,
     rest: &PerState,
 ) -> (u32, PerState)
     requires { IsSmall rest.now }
-    ensures { (r : Rule) (x : ℕ) → digit ≡ may_begin r x pair Mode.Numeric
-        → character ≡ may_begin r x pair Mode.Alphanumeric
-        → IsRow Interpretation.Default first_choices.now.version r x pair rest.now result.0 result.1 }
+    ensures { (i : Interpretation) (r : Rule) (x : ℕ) → digit ≡ may_begin r x pair Mode.Numeric
+        → AreCharacterChoices i first_choices.now.version r x pair rest.now characters.now
+        → IsRow i first_choices.now.version r x pair rest.now result.0 result.1 }
 {
     let digits = choice_if(digit, first_choices.numeric, rest.digit1);
-    let characters = choice_if(character, first_choices.alphanumeric, rest.character1);
     let bytes = choice_if(true, first_choices.byte, rest.in_bytes);
     let pairs = choice_if(pair, first_choices.kanji, rest.half_pair);
     let others = bytes.min(pairs);
-    let no_digits = characters.min(others);
+    let no_digits = characters.first.min(others);
     let no_characters = digits.min(others);
     let start = digits.min(no_digits);
     // After a whole group (`Digit3`, `Character2`, `InBytes`, `WholePair`) a segment of the same mode takes more bits
@@ -115,8 +157,6 @@ fn choices(
     let digit2 = next_if(digit, 3, Mode::Numeric, rest.digit2);
     let digit3 = next_if(digit, 3, Mode::Numeric, rest.digit3);
     let digit1 = next_if(digit, 4, Mode::Numeric, rest.digit1);
-    let character2 = next_if(character, 5, Mode::Alphanumeric, rest.character2);
-    let character1 = next_if(character, 6, Mode::Alphanumeric, rest.character1);
     let in_bytes = next_if(true, 8, Mode::Byte, rest.in_bytes);
     let whole_pair = next_if(true, 0, Mode::Kanji, rest.whole_pair);
     let half_pair = next_if(pair, 13, Mode::Kanji, rest.half_pair);
@@ -125,8 +165,8 @@ fn choices(
         digit1: digit2.min(no_digits),
         digit2: digit3.min(no_digits),
         digit3: digit1.min(start),
-        character1: character2.min(no_characters),
-        character2: character1.min(start),
+        character1: characters.second.min(no_characters),
+        character2: characters.next.min(start),
         in_bytes: in_bytes.min(start),
         // after half a pair only kanji mode is possible
         half_pair: whole_pair,
@@ -135,94 +175,24 @@ fn choices(
     (row_for(&numbers), numbers)
 }
 
-/// As `choices`, but `rule` and `byte` decide whether numeric and alphanumeric mode are allowed.
-#[tactic(auto, unfolding(crate::specs::Steps::RunState::may_begin))]
+// Whether a byte is two characters of alphanumeric mode: `%` in GS1 data is (7.4.8.2).
 #[inline(always)]
-pub(crate) fn best_choices(
-    first_choices: &FirstChoices,
-    rule: Rule,
-    byte: u8,
-    pair: bool,
-    rest: &PerState,
-) -> (u32, PerState)
-    requires { IsSmall rest.now }
-    ensures { IsRow Interpretation.Default first_choices.now.version rule byte pair rest.now result.0 result.1 }
+fn is_doubled(gs1: bool, byte: u8) -> bool
+    ensures { (i : Interpretation) → gs1 ≡ is_gs1 i → result ≡ is_doubled i byte Mode.Alphanumeric }
 {
-    // Where the flags are constants, the compiler can leave out cases of the inlined `choices`. Each digit is also a
-    // character of alphanumeric mode.
-    if pair {
-        let digit = may_begin(rule, byte, Mode::Numeric);
-        let character = may_begin(rule, byte, Mode::Alphanumeric);
-        choices(first_choices, digit, character, true, rest)
-    } else if may_begin(rule, byte, Mode::Numeric) {
-        choices(first_choices, true, true, false, rest)
-    } else if may_begin(rule, byte, Mode::Alphanumeric) {
-        choices(first_choices, false, true, false, rest)
-    } else {
-        choices(first_choices, false, false, false, rest)
-    }
+    gs1 && byte == b'%'
 }
 
-// As `best_choices`, for `%` in GS1 data: it is two characters of alphanumeric mode.
-fn percent_choices(
-    first_choices: &FirstChoices,
-    rule: Rule,
-    pair: bool,
-    rest: &PerState,
-) -> (u32, PerState)
-    requires { IsSmall rest.now }
-    ensures { IsRow Interpretation.Gs1 first_choices.now.version rule percent pair rest.now result.0 result.1 }
+// The character of alphanumeric mode that is written for a byte: in GS1 data `%` for the separator of fields (7.4.8.2).
+#[inline(always)]
+fn character_for(gs1: bool, byte: u8) -> u8
+    ensures { (i : Interpretation) → gs1 ≡ is_gs1 i → result ≡ character_for i byte Mode.Alphanumeric }
 {
-    let character = may_use(rule, Mode::Alphanumeric);
-    // The second of the two characters adds 5 bits to those of the first.
-    let first = first_choices.alphanumeric + 4 * 5;
-    let characters = choice_if(character, first, rest.character2);
-    let bytes = choice_if(true, first_choices.byte, rest.in_bytes);
-    let pairs = choice_if(pair, first_choices.kanji, rest.half_pair);
-    let others = bytes.min(pairs);
-    let start = characters.min(others);
-    let character1 = next_if(character, 11, Mode::Alphanumeric, rest.character1);
-    let character2 = next_if(character, 11, Mode::Alphanumeric, rest.character2);
-    let in_bytes = next_if(true, 8, Mode::Byte, rest.in_bytes);
-    let whole_pair = next_if(true, 0, Mode::Kanji, rest.whole_pair);
-    let half_pair = next_if(pair, 13, Mode::Kanji, rest.half_pair);
-    let numbers = PerState {
-        start,
-        digit1: start,
-        digit2: start,
-        digit3: start,
-        character1: character1.min(others),
-        character2: character2.min(others),
-        in_bytes: in_bytes.min(start),
-        half_pair: whole_pair,
-        whole_pair: half_pair.min(start),
-    };
-    (row_for(&numbers), numbers)
+    if gs1 && byte == SEPARATOR { b'%' } else { byte }
 }
 
-// As `best_choices`, for GS1 data: in alphanumeric mode the separator of fields is a `%`, and `%` is two (7.4.8.2). In a
-// function of its own, so that the loops for other data stay as they are.
-#[inline(never)]
-fn gs1_choices(
-    first_choices: &FirstChoices,
-    rule: Rule,
-    byte: u8,
-    pair: bool,
-    rest: &PerState,
-) -> (u32, PerState)
-    requires { IsSmall rest.now }
-    ensures { IsRow Interpretation.Gs1 first_choices.now.version rule byte pair rest.now result.0 result.1 }
-{
-    if byte == b'%' {
-        percent_choices(first_choices, rule, pair, rest)
-    } else if byte == SEPARATOR {
-        best_choices(first_choices, rule, b'%', pair, rest)
-    } else {
-        best_choices(first_choices, rule, byte, pair, rest)
-    }
-}
-
-/// As `best_choices`; `gs1` says that the bytes are GS1 data.
+/// The row of a byte, and its best choice for each state before it. `pair` says that it may begin a kanji pair, and
+/// `gs1` that the bytes are GS1 data. `rest` has the best choices of the later bytes.
 #[inline(always)]
 pub(crate) fn row_of(
     first_choices: &FirstChoices,
@@ -236,10 +206,25 @@ pub(crate) fn row_of(
     ensures { (i : Interpretation) → gs1 ≡ is_gs1 i
         → IsRow i first_choices.now.version rule byte pair rest.now result.0 result.1 }
 {
-    if gs1 {
-        gs1_choices(first_choices, rule, byte, pair, rest)
+    // Where the flags are constants, the compiler can leave out cases of the inlined `choices`. Each digit is also a
+    // character of alphanumeric mode.
+    let digit = may_begin(rule, byte, Mode::Numeric);
+    let doubled = is_doubled(gs1, byte);
+    if digit && !pair {
+        let characters = character_choices(first_choices, true, false, rest);
+        return choices(first_choices, true, &characters, false, rest);
+    }
+    let may = may_begin(rule, character_for(gs1, byte), Mode::Alphanumeric);
+    if pair || doubled {
+        let characters = character_choices(first_choices, may, doubled, rest);
+        return choices(first_choices, digit, &characters, pair, rest);
+    }
+    if may {
+        let characters = character_choices(first_choices, true, false, rest);
+        choices(first_choices, false, &characters, false, rest)
     } else {
-        best_choices(first_choices, rule, byte, pair, rest)
+        let characters = character_choices(first_choices, false, false, rest);
+        choices(first_choices, false, &characters, false, rest)
     }
 }
 
@@ -282,25 +267,23 @@ pub(crate) fn best_modes(
     }
 }
 
-/// As `best_modes`, for GS1 data.
+/// As `best_modes`, for GS1 data, of which not all is in byte mode. Out of line, so that the loop has all registers.
+#[inline(never)]
 pub(crate) fn best_gs1_modes(
     alloc: Global,
     input: &[u8],
     version: Version,
     rule: Rule,
 ) -> Result<Vec<u32>, AllocError>
-    requires { length input.now ≤ INPUT_MAX }
+    requires short { length input.now ≤ INPUT_MAX }
+    requires mixed { rule ≡ Rule.BytesOnly → ⊥ }
     ensures { IfOk result (λ t. (vec_len t ≡ length input.now)
         × IsBestTable Interpretation.Gs1 version rule is_kanji_pair input.now (reverse t.items)) }
 {
-    best_rows(
-        alloc,
-        input,
-        version,
-        rule,
-        may_use(rule, Mode::Kanji),
-        true,
-    )
+    match rule {
+        Rule::WithKanji => best_rows(alloc, input, version, Rule::WithKanji, true, true),
+        _ => best_rows(alloc, input, version, Rule::Auto, false, true),
+    }
 }
 
 // As `best_modes`. Where `kanji`, which says that the rule allows kanji mode, is constant, the compiler can leave out

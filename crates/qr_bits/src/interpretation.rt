@@ -1,10 +1,10 @@
 //! What stands between the segments and says how their bytes are to be interpreted: ECI headers, and FNC1 in first or
 //! second position (ISO/IEC 18004:2015, 7.4.2, 7.4.8).
 
-ghost use Rattle.std.specs.Prelude.{IfOk, IsTrue, ◌↔◌, List, OnOk, false, true, [], ◌∷◌, take, drop, length, ◌≡◌, ◌≤◌, ◌++◌};
+ghost use Rattle.std.specs.Prelude.{IfOk, IsTrue, ◌↔◌, List, OnOk, false, true, if◌then◌else◌, [], ◌∷◌, take, drop, length, ◌==◌, ◌≡◌, ◌≤◌, ◌++◌};
 ghost use Rattle.qr_bits.specs.declared.interpretation.Item.{Item};
 ghost use Rattle.qr_bits.specs.Steps.RunState.{is_gs1};
-ghost use Rattle.qr_bits.specs.Interpretation.{are_fields, eci_changes, fnc1_of, interpretation_bits, MayWrite, meant, meant_bytes, separated};
+ghost use Rattle.qr_bits.specs.Interpretation.{are_fields, eci_changes, fnc1_of, interpretation_bits, MayWrite, meant, meant_bytes, percent, separated, separator};
 
 use crate::modes::Mode;
 use crate::segment::Segment;
@@ -58,19 +58,27 @@ pub fn may_write(input: &[u8], interpretation: Interpretation) -> bool
     }
 }
 
-// Whether no separator comes before another or before `%`: one segment in alphanumeric mode cannot contain both.
+// Whether no separator comes before another or before `%`: one segment in alphanumeric mode cannot contain both. Without
+// an early exit, so that the loop takes many bytes at once.
 #[tactic(auto, unfolding(crate::specs::Interpretation::are_fields))]
+#[inline(never)]
 fn are_fields(bytes: &[u8]) -> bool
     ensures { result ≡ are_fields bytes.now }
 {
+    let mut fields = true;
     let mut rest = bytes;
     while let [first, second, ..] = rest {
-        if *first == SEPARATOR && (*second == SEPARATOR || *second == b'%') {
-            return false;
-        }
+        fields = fields & may_precede(*first, *second);
         rest = &rest[1..];
     }
-    true
+    fields
+}
+
+#[inline(always)]
+fn may_precede(first: u8, second: u8) -> bool
+    ensures { result ≡ (if first == separator then (if second == separator then false else (if second == percent then false else true)) else true) }
+{
+    (first != SEPARATOR) | ((second != SEPARATOR) & (second != b'%'))
 }
 
 /// The number of an interpretation, as an ECI header contains it (7.4.2).

@@ -7,7 +7,7 @@ use Rattle.qr_symbol.specs.Symbol.{grid_of}
 use Rattle.qr_symbol.specs.Distance.{HeldMessage, blocks_in, held_block}
 use Rattle.qr_mending.specs.declared.format.FormatCopy.{FormatCopy}
 use Rattle.qr_mending.specs.Format.{bit_differences, copy_bit}
-use Rattle.qr_mending.specs.Message.{tolerance_of}
+use Rattle.qr_mending.specs.Message.{correctable_of}
 
 -- The squares differ in at least seven modules of each copy of the format information (ISO/IEC 18004:2015, 7.9.1, Annex
 -- C)
@@ -17,7 +17,7 @@ FormatsLieApart g h = (copy : FormatCopy) → 7 ≤ bit_differences 15 (copy_bit
 -- In some block two symbols differ in more than twice as many codewords as can be corrected in a block of level `l`
 -- (ISO/IEC 18004:2015, 7.5.1)
 abbrev pub SomeBlockLiesApart : (v : ℕ) (l k : Level) → HeldMessage v l → HeldMessage v k → Type 0
-SomeBlockLiesApart v l k m n = (i : ℕ) × (i < blocks_in v l) × (2 * tolerance_of v l < differences (held_block v l m i) (held_block v k n i))
+SomeBlockLiesApart v l k m n = (i : ℕ) × (i < blocks_in v l) × (2 * correctable_of v l < differences (held_block v l m i) (held_block v k n i))
 
 -- Two symbols with different levels or data codewords have format information that lies apart, or else the same level
 -- and mask, and some block that lies apart [own]

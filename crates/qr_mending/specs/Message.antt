@@ -34,8 +34,8 @@ abbrev pub spare_of : ℕ → Level → ℕ
 spare_of v l = (blocks_of v l).ec_len - protection_of v l
 
 -- How many misread codewords can be corrected in a block without erased ones (ISO/IEC 18004:2015, 7.5.1, Table 9)
-abbrev pub tolerance_of : ℕ → Level → ℕ
-tolerance_of v l = spare_of v l / 2
+abbrev pub correctable_of : ℕ → Level → ℕ
+correctable_of v l = spare_of v l / 2
 
 -- The eight modules of codeword `k`, counted from 0 (ISO/IEC 18004:2015, 7.7.3)
 abbrev pub modules_of : List Module → ℕ → List Module

@@ -10,7 +10,7 @@ use Rattle.qr_matrix.specs.Grid.{Grid}
 use Rattle.qr_symbol.specs.Distance.{blocks_in}
 use Rattle.qr_mending.specs.declared.format.FormatCopy.TheVariants.{First, Second}
 use Rattle.qr_mending.specs.Format.{bit_differences, copy_bit}
-use Rattle.qr_mending.specs.Message.{modules_of, received, tolerance_of, AreIndices}
+use Rattle.qr_mending.specs.Message.{modules_of, received, correctable_of, AreIndices}
 
 -- How many modules of codeword `k` differ (ISO/IEC 18004:2015, 7.7.3)
 abbrev pub codeword_differences : Grid → Grid → List Module → ℕ → ℕ
@@ -26,4 +26,4 @@ pub record DifferInFewModules (v : ℕ) (l : Level) (g h : Grid) : Type 0 where
   pub checks : List ℕ
   pub inside : AreIndices v l indices checks
   pub few : (i : ℕ) → i < blocks_in v l
-      → sum_by (codeword_differences g h places) (received (blocks_of v l) indices checks i) ≤ tolerance_of v l
+      → sum_by (codeword_differences g h places) (received (blocks_of v l) indices checks i) ≤ correctable_of v l

@@ -13,20 +13,6 @@ use crate::locator::Progress;
 use arrayvec::ArrayVec;
 use qr_field::Divisor;
 
-// The mended block, if all syndromes were taken in and `damaged` can be mended; otherwise a list that may be no block.
-fn candidate(progress: &Progress, t: usize, remainder: &[u8], damaged: &[u8]) -> ArrayVec<u8, 255>
-    requires progress { IsProgress t remainder.now progress.now }
-    requires fits { length damaged.now ≤ 255 }
-    requires half { 2 * t ≤ length remainder.now }
-    requires same { HasSameValues remainder.now damaged.now }
-    ensures long { length result.items ≡ length damaged.now }
-    ensures mended { progress.now.taken ≡ 2 * t → (mended : List ℕ) →
-        IsMended (length remainder.now) t damaged.now mended → result.items ≡ mended }
-{
-    let best = progress.search.best;
-    without_errors(best.coefficients(), progress.syndromes.as_slice(), damaged)
-}
-
 fn count_differences(xs: &[u8], ys: &[u8]) -> usize
     requires { length xs.now ≡ length ys.now }
     ensures { result ≡ differences xs.now ys.now }
@@ -87,7 +73,8 @@ fn is_mended(divisor: &Divisor, t: usize, damaged: &[u8], mended: &[u8]) -> bool
     count_differences(damaged, mended) <= t && is_block(divisor, mended)
 }
 
-// Mends codewords that are no block. Most damaged blocks have few wrong codewords, for which the first syndromes suffice.
+// Mends codewords that are no block. Most damaged blocks have few wrong codewords, for which the first syndromes suffice:
+// the locator is tried early, and again once all syndromes were taken in.
 fn mended_block(
     divisor: &Divisor,
     t: usize,
@@ -107,7 +94,11 @@ fn mended_block(
     if !progress.advance(remainder, t, true) {
         return None;
     }
-    let early = candidate(&progress, t, remainder, damaged);
+    let early = without_errors(
+        progress.search.best.coefficients(),
+        progress.syndromes.as_slice(),
+        damaged,
+    );
     if is_mended(divisor, t, damaged, early.as_slice()) {
         return Some(early);
     }
@@ -117,7 +108,11 @@ fn mended_block(
     if !progress.advance(remainder, t, false) {
         return None;
     }
-    let block = candidate(&progress, t, remainder, damaged);
+    let block = without_errors(
+        progress.search.best.coefficients(),
+        progress.syndromes.as_slice(),
+        damaged,
+    );
     if !is_mended(divisor, t, damaged, block.as_slice()) {
         return None;
     }

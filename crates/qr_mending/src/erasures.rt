@@ -18,8 +18,9 @@ use crate::sums::{dot, syndromes};
 use arrayvec::ArrayVec;
 use qr_field::Divisor;
 
-// The syndromes of another error polynomial, in which each coefficient of x^m is multiplied by the value of
-// `polynomial` at 2^m. If `polynomial` has a root for each erased codeword, the errors of these are gone.
+// The modified syndromes, which are also called Forney's syndromes. They are the syndromes of another error polynomial, in
+// which each coefficient of x^m is multiplied by the value of `polynomial` at 2^m. If `polynomial` is the erasure locator,
+// the errors of the erased codewords are gone.
 #[tactic(auto, using(crate::proofs::Named::erasure_facts))]
 fn modified_syndromes(polynomial: &[u8], syndromes: &[u8]) -> ArrayVec<u8, 30>
     requires least { 1 ≤ length polynomial.now }
@@ -36,7 +37,11 @@ fn modified_syndromes(polynomial: &[u8], syndromes: &[u8]) -> ArrayVec<u8, 30>
     modified
 }
 
-// The mended block, or if `damaged` cannot be mended, a list that the caller has to refuse.
+// The mended block, or if `damaged` cannot be mended, a list that the caller has to refuse. The erasure locator has a root
+// for each erased codeword, the error locator one for each misread codeword, and their product one for each of both.
+//
+// It is not inlined, so that its lists are on the stack only while it runs, and not while `mend` does.
+#[inline(never)]
 fn candidate(remainder: &[u8], spare: usize, erased: &[bool], damaged: &[u8]) -> ArrayVec<u8, 255>
     requires most { length remainder.now ≤ 30 }
     requires spare { spare ≤ length remainder.now }
@@ -50,11 +55,11 @@ fn candidate(remainder: &[u8], spare: usize, erased: &[bool], damaged: &[u8]) ->
 {
     let t = (spare - count_erased(erased)) / 2;
     let first = syndromes(remainder);
-    let unread = with_roots(erased, &[1]);
-    let modified = modified_syndromes(unread.as_slice(), first.as_slice());
-    let misread = locator(modified.as_slice(), t);
-    let all = with_roots(erased, misread.coefficients());
-    without_errors(all.as_slice(), first.as_slice(), damaged)
+    let erasure_locator = with_roots(erased, &[1]);
+    let modified = modified_syndromes(erasure_locator.as_slice(), first.as_slice());
+    let error_locator = locator(modified.as_slice(), t);
+    let both = with_roots(erased, error_locator.coefficients());
+    without_errors(both.as_slice(), first.as_slice(), damaged)
 }
 
 #[tactic(auto, using(crate::proofs::Named::erasure_facts))]
@@ -78,7 +83,7 @@ fn count_misread(codewords: &[u8], erased: &[bool], mended: &[u8]) -> usize
 ///
 /// An erased codeword takes one error correction codeword, a misread one two. If more than `spare` are needed, returns
 /// `None` and changes nothing. `divisor` determines the number of error correction codewords of the block; in a symbol,
-/// `spare` is twice `changed_max`.
+/// `spare` is twice `correctable`.
 #[tactic(auto, using(crate::proofs::Named::mend_with_erasures_facts))]
 pub fn mend_with_erasures(
     divisor: &Divisor,
@@ -99,11 +104,11 @@ pub fn mend_with_erasures(
         → IsMendedWithErasures divisor.now spare (read_of codewords.old erased.now) mended → ⊥) }
     ensures same { IfNone result (codewords.new ≡ codewords.old) }
 {
-    let unread = count_erased(erased);
-    if unread > spare {
+    let erasures = count_erased(erased);
+    if erasures > spare {
         return None;
     }
-    if unread == 0 {
+    if erasures == 0 {
         return mend(divisor, spare / 2, codewords);
     }
     let Some(remainder) = remainder(divisor, codewords) else {
@@ -111,7 +116,7 @@ pub fn mend_with_erasures(
     };
     let mended = candidate(remainder.as_slice(), spare, erased, codewords);
     let misread = count_misread(codewords, erased, mended.as_slice());
-    if unread + 2 * misread > spare || !is_block(divisor, mended.as_slice()) {
+    if erasures + 2 * misread > spare || !is_block(divisor, mended.as_slice()) {
         return None;
     }
     codewords.copy_from_slice(mended.as_slice());

@@ -1,5 +1,5 @@
 //! Finds the level and the mask of a damaged symbol by the two copies of its format information
-//! (ISO/IEC 18004:2015, 7.9.1 and Annex C). The square `unknown` is dark where a module of `matrix` was not read.
+//! (ISO/IEC 18004:2015, 7.9.1 and Annex C).
 
 ghost use Rattle.std.specs.Prelude.{◌≡◌, ℕ, ◌+◌, ◌*◌, ◌<◌, ◌≤◌, MatchOption};
 ghost use Rattle.qr_layout.specs.declared.level.Level.{Level};
@@ -10,8 +10,8 @@ ghost use Rattle.qr_mending.specs.Format.{copy_place, format_cost, misread_bits,
 ghost use Rattle.qr_mending.specs.Steps.Format.{AreBitsOf};
 ghost use Rattle.qr_mending.specs.Mending.{wrong_format_modules};
 
+use crate::scan::Scan;
 use qr_layout::{Level, Module, Version, format_place, format_word, second_format_place};
-use qr_matrix::Matrix;
 
 // The number of modules of one copy.
 const FORMAT_BITS: u8 = 15;
@@ -82,17 +82,15 @@ pub(crate) struct CopyBits {
 }
 
 impl CopyBits {
-    fn read(matrix: &Matrix, unknown: &Matrix, version: Version, copy: FormatCopy) -> CopyBits
-        requires side { matrix.now.side ≡ side_of version }
-        requires unknown_side { unknown.now.side ≡ side_of version }
-        ensures { AreBitsOf unknown.now copy matrix.now result }
+    fn read(scan: &Scan, copy: FormatCopy) -> CopyBits
+        ensures { AreBitsOf scan.now.unknown.now copy scan.now.matrix.now result }
     {
         let mut dark = 0u16;
         let mut unread = 0u16;
         for i in (0..FORMAT_BITS).rev() {
-            let place = copy.place(version, i);
-            dark = 2 * dark + u16::from(matrix.dark(place.row, place.col));
-            unread = 2 * unread + u16::from(unknown.dark(place.row, place.col));
+            let place = copy.place(scan.version, i);
+            dark = 2 * dark + u16::from(scan.matrix.dark(place.row, place.col));
+            unread = 2 * unread + u16::from(scan.unknown.dark(place.row, place.col));
         }
         CopyBits { dark, unread }
     }
@@ -120,65 +118,39 @@ impl CopyBits {
     }
 }
 
-fn wrong_bits(
-    matrix: &Matrix,
-    unknown: &Matrix,
-    version: Version,
-    copy: FormatCopy,
-    word: u16,
-) -> u8
-    requires side { matrix.now.side ≡ side_of version }
-    requires unknown_side { unknown.now.side ≡ side_of version }
-    ensures value { result ≡ unread_bits unknown.now copy + misread_bits unknown.now copy matrix.now word }
+fn wrong_bits(scan: &Scan, copy: FormatCopy, word: u16) -> u8
+    ensures value { result ≡ unread_bits scan.now.unknown.now copy + misread_bits scan.now.unknown.now copy scan.now.matrix.now word }
     ensures most { result ≤ 30 }
 {
-    let damage = CopyBits::read(matrix, unknown, version, copy).damage(word);
+    let damage = CopyBits::read(scan, copy).damage(word);
     damage.unread + damage.misread
 }
 
-fn copy_cost(matrix: &Matrix, unknown: &Matrix, version: Version, copy: FormatCopy, word: u16) -> u8
-    requires side { matrix.now.side ≡ side_of version }
-    requires unknown_side { unknown.now.side ≡ side_of version }
-    ensures value { result ≡ unread_bits unknown.now copy + 2 * misread_bits unknown.now copy matrix.now word }
+fn copy_cost(scan: &Scan, copy: FormatCopy, word: u16) -> u8
+    ensures value { result ≡ unread_bits scan.now.unknown.now copy + 2 * misread_bits scan.now.unknown.now copy scan.now.matrix.now word }
     ensures most { result ≤ 45 }
 {
-    CopyBits::read(matrix, unknown, version, copy).cost(word)
+    CopyBits::read(scan, copy).cost(word)
 }
 
 // Counts over the 30 modules of both copies.
-pub(crate) fn wrong_format_modules(
-    matrix: &Matrix,
-    unknown: &Matrix,
-    version: Version,
-    level: Level,
-    mask: u8,
-) -> u8
-    requires side { matrix.now.side ≡ side_of version }
-    requires unknown_side { unknown.now.side ≡ side_of version }
+pub(crate) fn wrong_format_modules(scan: &Scan, level: Level, mask: u8) -> u8
     requires mask_in { mask < 8 }
-    ensures { result ≡ wrong_format_modules unknown.now matrix.now level mask }
+    ensures { result ≡ wrong_format_modules scan.now.unknown.now scan.now.matrix.now level mask }
 {
     let word = format_word(level, mask);
-    let first = wrong_bits(matrix, unknown, version, FormatCopy::First, word);
-    first + wrong_bits(matrix, unknown, version, FormatCopy::Second, word)
+    let first = wrong_bits(scan, FormatCopy::First, word);
+    first + wrong_bits(scan, FormatCopy::Second, word)
 }
 
 // The sum of the costs of both copies.
-pub(crate) fn format_cost(
-    matrix: &Matrix,
-    unknown: &Matrix,
-    version: Version,
-    level: Level,
-    mask: u8,
-) -> u8
-    requires side { matrix.now.side ≡ side_of version }
-    requires unknown_side { unknown.now.side ≡ side_of version }
+pub(crate) fn format_cost(scan: &Scan, level: Level, mask: u8) -> u8
     requires mask_in { mask < 8 }
-    ensures { result ≡ format_cost unknown.now matrix.now level mask }
+    ensures { result ≡ format_cost scan.now.unknown.now scan.now.matrix.now level mask }
 {
     let word = format_word(level, mask);
-    let first = copy_cost(matrix, unknown, version, FormatCopy::First, word);
-    first + copy_cost(matrix, unknown, version, FormatCopy::Second, word)
+    let first = copy_cost(scan, FormatCopy::First, word);
+    first + copy_cost(scan, FormatCopy::Second, word)
 }
 
 fn near_mask_of(bits: CopyBits, level: Level) -> Option<u8>
@@ -195,19 +167,12 @@ fn near_mask_of(bits: CopyBits, level: Level) -> Option<u8>
 
 // At most one pair of level and mask is near to a copy, since two words of format information differ in at least seven
 // bits: so the first pair that is found is the only one.
-pub(crate) fn near_format_of(
-    matrix: &Matrix,
-    unknown: &Matrix,
-    version: Version,
-    copy: FormatCopy,
-) -> Option<(Level, u8)>
-    requires side { matrix.now.side ≡ side_of version }
-    requires unknown_side { unknown.now.side ≡ side_of version }
+pub(crate) fn near_format_of(scan: &Scan, copy: FormatCopy) -> Option<(Level, u8)>
     ensures { MatchOption result
-        ((l : Level) (mask : ℕ) → IsNearFormat unknown.now copy matrix.now l mask → ⊥)
-        (λ f. IsNearFormat unknown.now copy matrix.now f.0 f.1) }
+        ((l : Level) (mask : ℕ) → IsNearFormat scan.now.unknown.now copy scan.now.matrix.now l mask → ⊥)
+        (λ f. IsNearFormat scan.now.unknown.now copy scan.now.matrix.now f.0 f.1) }
 {
-    let bits = CopyBits::read(matrix, unknown, version, copy);
+    let bits = CopyBits::read(scan, copy);
     for level in [Level::L, Level::M, Level::Q, Level::H] {
         if let Some(mask) = near_mask_of(bits, level) {
             return Some((level, mask));
@@ -217,19 +182,13 @@ pub(crate) fn near_format_of(
 }
 
 // The pair that is near to the first copy, or if there is none, the one that is near to the second.
-pub(crate) fn near_format_of_either(
-    matrix: &Matrix,
-    unknown: &Matrix,
-    version: Version,
-) -> Option<(Level, u8)>
-    requires side { matrix.now.side ≡ side_of version }
-    requires unknown_side { unknown.now.side ≡ side_of version }
+pub(crate) fn near_format_of_either(scan: &Scan) -> Option<(Level, u8)>
     ensures { MatchOption result
-        ((copy : FormatCopy) (l : Level) (mask : ℕ) → IsNearFormat unknown.now copy matrix.now l mask → ⊥)
-        (λ f. (copy : FormatCopy) × IsNearFormat unknown.now copy matrix.now f.0 f.1) }
+        ((copy : FormatCopy) (l : Level) (mask : ℕ) → IsNearFormat scan.now.unknown.now copy scan.now.matrix.now l mask → ⊥)
+        (λ f. (copy : FormatCopy) × IsNearFormat scan.now.unknown.now copy scan.now.matrix.now f.0 f.1) }
 {
-    match near_format_of(matrix, unknown, version, FormatCopy::First) {
+    match near_format_of(scan, FormatCopy::First) {
         Some(format) => Some(format),
-        None => near_format_of(matrix, unknown, version, FormatCopy::Second),
+        None => near_format_of(scan, FormatCopy::Second),
     }
 }

@@ -24,12 +24,12 @@ ghost use Rattle.qr_mending.specs.Erasures.{read_of, IsMendedWithErasures};
 ghost use Rattle.qr_mending.specs.Distance.{SymbolsLieApart};
 ghost use Rattle.qr_mending.specs.declared.format.FormatCopy.{FormatCopy};
 ghost use Rattle.qr_mending.specs.Format.{bit_differences, copy_cost, copy_place, format_cost, IsNearFormat};
-ghost use Rattle.qr_mending.specs.Message.{protection_of, spare_of, tolerance_of, IsMendedIn};
+ghost use Rattle.qr_mending.specs.Message.{protection_of, spare_of, correctable_of, IsMendedIn};
 ghost use Rattle.qr_mending.specs.Mending.{wrong_format_modules, wrong_modules, HasFormat, HasWrongModules, HoldsDamaged, IsMendedReading, IsUnmended};
 ghost use Rattle.qr_mending.specs.Modules.{DifferInFewModules};
 ghost use Rattle.qr_mending.specs.Series.{AreDamagedSquares, IsUnmendedSeries};
 
-use crate::mending::{Mended, mend_symbol, mend_symbol_without};
+use crate::mending::{Mended, mend_symbol, mend_symbol_with_unknown};
 use crate::series::mend_series;
 use qr_bits::Rule;
 use qr_layout::{Level, Version};
@@ -91,12 +91,12 @@ pub fn near_format_is_one()
 /// For seven pairs of version and level, the number of misread codewords that can be corrected in a block agrees with
 /// Table 9 of the standard. For six of them, so does the number of error correction codewords that only detect errors.
 #[tactic(auto, unfolding(qr_layout::specs::Blocks::correction_len_of))]
-pub fn tolerances_compute()
-    ensures one { tolerance_of 1 Level.L ≡ 2 × tolerance_of 1 Level.M ≡ 4 }
-    ensures one_more { tolerance_of 1 Level.Q ≡ 6 × tolerance_of 1 Level.H ≡ 8 }
-    ensures two { tolerance_of 2 Level.L ≡ 4 }
-    ensures three { tolerance_of 3 Level.L ≡ 7 }
-    ensures forty { tolerance_of 40 Level.L ≡ 15 }
+pub fn correctable_numbers_compute()
+    ensures one { correctable_of 1 Level.L ≡ 2 × correctable_of 1 Level.M ≡ 4 }
+    ensures one_more { correctable_of 1 Level.Q ≡ 6 × correctable_of 1 Level.H ≡ 8 }
+    ensures two { correctable_of 2 Level.L ≡ 4 }
+    ensures three { correctable_of 3 Level.L ≡ 7 }
+    ensures forty { correctable_of 40 Level.L ≡ 15 }
     ensures protection_one { protection_of 1 Level.L ≡ 3 × protection_of 1 Level.M ≡ 2 }
     ensures protection_one_more { protection_of 1 Level.Q ≡ 1 × protection_of 1 Level.H ≡ 1 }
     ensures protection_more { protection_of 2 Level.L ≡ 2 × protection_of 3 Level.L ≡ 1 }
@@ -165,13 +165,13 @@ pub fn readings_are_mended_readings()
 {}
 
 /// Mending yields a number of misread codewords for each block, and there is at least one block. None of the numbers is
-/// above `tolerance_of`, which is from 2 to 15 for every version and level.
+/// above `correctable_of`, which is from 2 to 15 for every version and level.
 pub fn changes_are_bounded()
     ensures some { (unknown : Grid) (g : Grid) (v : ℕ) (l : Level) (m : ℕ) (p : Content) (x : List ℕ)
         → IsMendedReading unknown g v l m p x → 1 ≤ length x }
     ensures few { (unknown : Grid) (g : Grid) (v : ℕ) (l : Level) (m : ℕ) (p : Content) (x : List ℕ)
-        → IsMendedReading unknown g v l m p x → All (λ n. n ≤ tolerance_of v l) x }
-    ensures tolerance { (v : ℕ) (l : Level) → 1 ≤ v → v ≤ 40 → (2 ≤ tolerance_of v l) × (tolerance_of v l ≤ 15) }
+        → IsMendedReading unknown g v l m p x → All (λ n. n ≤ correctable_of v l) x }
+    ensures correctable { (v : ℕ) (l : Level) → 1 ≤ v → v ≤ 40 → (2 ≤ correctable_of v l) × (correctable_of v l ≤ 15) }
 {}
 
 /// A damaged symbol that can be mended and read is refused only for lack of memory.
@@ -188,7 +188,7 @@ pub fn mending_refusals_are_one()
         → (e ≡ ReadFault.Memory) ⊎ (f ≡ ReadFault.Memory) ⊎ (e ≡ f) }
 {}
 
-/// `IsUnmended` states the reason for each fault: `mend_symbol_without` returns a fault other than `Memory` exactly if
+/// `IsUnmended` states the reason for each fault: `mend_symbol_with_unknown` returns a fault other than `Memory` exactly if
 /// its reason holds and no allocation is refused.
 pub fn mendings_are_refused_exactly(
     alloc: Global,
@@ -199,7 +199,7 @@ pub fn mendings_are_refused_exactly(
     ensures { (e : ReadFault) → e ≢ ReadFault.Memory
         → (result ≡ Err e) ↔ ((result ≢ Err ReadFault.Memory) × IsUnmended unknown.now damaged.now e) }
 {
-    mend_symbol_without(alloc, damaged, unknown)
+    mend_symbol_with_unknown(alloc, damaged, unknown)
 }
 
 /// Take two symbols of one version with different data codewords or levels. They differ in at least seven modules of
@@ -242,11 +242,11 @@ pub fn damaged_symbols_are_mended(
         × (m.changed.items ≡ misread) × (m.wrong_modules ≡ wrong_modules unknown.now damaged.now g)
         × (m.wrong_format_modules ≡ wrong_format_modules unknown.now damaged.now l mask)) (λ e. e ≡ ReadFault.Memory) }
 {
-    mend_symbol_without(alloc, damaged, unknown)
+    mend_symbol_with_unknown(alloc, damaged, unknown)
 }
 
 /// A symbol is mended to exactly its input, unless memory is refused, if at most six of its 30 modules of format
-/// information are wrong, and at most `changed_max` in each block. Modules of function patterns, version information
+/// information are wrong, and at most `correctable` in each block. Modules of function patterns, version information
 /// and remainder bits may have any colour.
 pub fn few_wrong_modules_are_mended(alloc: Global, damaged: &Matrix) -> Result<Mended, ReadFault>
     ensures { (smallest : ℕ) (l : Level) (rule : Rule) (i : Interpretation) (x : List ℕ) (v mask : ℕ) (g : Grid)

@@ -13,11 +13,12 @@ mod mending;
 mod message;
 mod polynomial;
 mod roots;
+mod scan;
 mod series;
 mod sums;
 
 pub use block::mend;
 pub use erasures::mend_with_erasures;
-pub use mending::{Mended, mend_symbol, mend_symbol_without};
-pub use message::changed_max;
+pub use mending::{Mended, mend_symbol, mend_symbol_with_unknown};
+pub use message::correctable;
 pub use series::mend_series;

@@ -19,13 +19,13 @@ use crate::sums::push_syndromes;
 use arrayvec::ArrayVec;
 use qr_field::div;
 
-// `best` solves the equations of the syndromes that were taken in. `earlier` was the best before the degree last rose;
-// `miss` is its discrepancy, the sum for the first equation that it does not solve.
+// `best` solves the equations of the syndromes that were taken in. `earlier` was the best before the degree last rose.
+// `discrepancy` is the sum that `earlier` has for the first equation that it does not solve.
 #[derive(Drop)]
 pub(crate) struct Search {
     pub(crate) best: Polynomial,
     earlier: Polynomial,
-    miss: u8,
+    discrepancy: u8,
 }
 
 impl Search {
@@ -38,12 +38,17 @@ impl Search {
         Search {
             best: one,
             earlier: one,
-            miss: 1,
+            discrepancy: 1,
         }
     }
 
     // Takes in syndrome `i`. Returns false, and changes nothing, if the degree would rise above `t`: then over `t` codewords
     // are misread.
+    //
+    // The new equation has the index `i - degree`. The first equation that `earlier` does not solve has the index
+    // `degree - 1`. A polynomial times x^s has for equation j the sum that it had for equation j + s. So a multiplication
+    // by a power of x brings the two discrepancies to one equation, where they cancel: `earlier` is multiplied, or if the
+    // new equation comes too late for that, `best`, whose degree then rises.
     fn take_in(&mut self, syndromes: &[u8], i: usize, t: usize) -> bool
         requires search { IsSearch i syndromes.now self.old }
         requires degree { self.old.best.degree ≤ t }
@@ -55,11 +60,11 @@ impl Search {
         ensures same { OnFalse result (self.new ≡ self.old) }
     {
         let degree = self.best.degree;
-        let miss = self.best.miss(&syndromes[i - degree..]);
-        if miss == 0 {
+        let discrepancy = self.best.discrepancy(&syndromes[i - degree..]);
+        if discrepancy == 0 {
             return true;
         }
-        let factor = div(miss, self.miss);
+        let factor = div(discrepancy, self.discrepancy);
         if 2 * degree > i {
             self.best.add(factor, &self.earlier, 2 * degree - i - 1);
             return true;
@@ -71,7 +76,7 @@ impl Search {
         raised.add(factor, &self.earlier, 0);
         self.earlier = self.best;
         self.best = raised;
-        self.miss = miss;
+        self.discrepancy = discrepancy;
         true
     }
 }

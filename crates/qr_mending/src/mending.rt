@@ -1,69 +1,72 @@
-//! Mends and reads damaged symbols (ISO/IEC 18004:2015, 7.5.1, 7.9.1 and 12). The square `unknown` is dark where a
-//! module of `matrix` was not read. The mark of a codeword, in `marks`, is 0 exactly if all its modules were read. A level
-//! and a mask are near to a copy of the format information if its cost with them is at most 6.
+//! Mends and reads damaged symbols (ISO/IEC 18004:2015, 7.5.1, 7.9.1 and 12). The mark of a codeword, in `marks`, is
+//! 0 exactly if all its modules were read. A level and a mask are near to a copy of the format information if its cost
+//! with them is at most 6.
 
-ghost use Rattle.std.specs.Prelude.{◌≡◌, ◌<◌, length, IfErr, IfOk, IfSome, Some, MatchOption, MatchResult};
+ghost use Rattle.std.specs.Prelude.{◌≡◌, ◌<◌, ◌≤◌, length, IfErr, IfOk, IfSome, MatchOption, MatchResult};
 ghost use Rattle.std.specs.Bool.{OnTrue};
-ghost use Rattle.qr_layout.specs.Blocks.{data_codewords_of};
-ghost use Rattle.qr_layout.specs.Version.{side_of, total_codewords_of};
+ghost use Rattle.qr_layout.specs.Version.{total_codewords_of};
 ghost use Rattle.qr_matrix.specs.Grid.{light};
 ghost use Rattle.qr_symbol.specs.declared.fault.ReadFault.{ReadFault};
-ghost use Rattle.qr_symbol.specs.Reading.{IsOfVersion, IsReadUnmasked};
+ghost use Rattle.qr_symbol.specs.{Reading.{IsOfVersion, IsReadUnmasked}, Symbol.{grid_of}};
 ghost use Rattle.qr_mending.specs.declared.format.FormatCopy.{FormatCopy};
-ghost use Rattle.qr_mending.specs.Format.{format_cost, IsNearFormat};
-ghost use Rattle.qr_mending.specs.Steps.{Mending.{HoldsNone}, Message.{list_of}};
-ghost use Rattle.qr_mending.specs.Mending.{wrong_format_modules, wrong_modules, DiffersFromSymbol, HasFormat, HasWrongModules, HoldsDamaged, IsMendedReading, IsOfNoUse, IsUnmended};
+ghost use Rattle.qr_mending.specs.Format.{format_cost};
+ghost use Rattle.qr_mending.specs.Steps.{Mending.{IsMendedBy, IsMendedByEither, IsMendedWith}, Message.{list_of}};
+ghost use Rattle.qr_mending.specs.Mending.{wrong_format_modules, wrong_modules, HasWrongModules, IsMendedReading, IsOfNoUse, IsUnmended};
 
 use crate::format::{
     FormatCopy, format_cost, near_format_of, near_format_of_either, wrong_format_modules,
 };
-use crate::message::{Marks, MendedMessage, mend_message, read_marks};
+use crate::message::{Marks, MendedBlocks, interleaved, mend_blocks, read_marks};
+use crate::scan::Scan;
 use qr_bits::{Parsed, parse};
 use qr_layout::{Level, Version};
 use qr_matrix::{Matrix, differences};
-use qr_symbol::{ReadFault, draw_symbol, interleave, read_codewords};
+use qr_symbol::{ReadFault, draw_symbol, read_codewords};
 use std::alloc::{AllocError, Global};
 
 // If both copies together cost at most this with a level and a mask, they cost more with every other level and mask.
 const COST_CERTAIN: u8 = 13;
 
-// A symbol whose blocks were mended; `changed` has the number of misread codewords of each block.
+// A symbol whose blocks were mended: its data codewords and error correction codewords, block after block, and how many
+// codewords of each block were misread.
 #[derive(Drop)]
-struct MendedSquare {
-    level: Level,
-    mask: u8,
-    message: Vec<u8>,
-    changed: Vec<usize>,
+pub(crate) struct MendedSquare {
+    pub(crate) level: Level,
+    pub(crate) mask: u8,
+    pub(crate) message: Vec<u8>,
+    pub(crate) corrections: Vec<u8>,
+    pub(crate) changed: Vec<usize>,
 }
 
 // Returns `None` if there is no level and mask, or if a block cannot be mended with these.
 fn mend_with(
     alloc: Global,
-    version: Version,
-    near: Option<(Level, u8)>,
-    matrix: &Matrix,
-    unknown: &Matrix,
+    scan: &Scan,
     marks: &Marks,
+    near: Option<(Level, u8)>,
 ) -> Result<Option<MendedSquare>, ReadFault>
+    requires marks { length (list_of (total_codewords_of scan.now.version) marks.now) ≡ total_codewords_of scan.now.version }
+    requires erased { IsReadUnmasked scan.now.version scan.now.unknown.now (list_of (total_codewords_of scan.now.version) marks.now) }
     requires mask_in { IfSome near (λ f. f.1 < 8) }
-    requires side { matrix.now.side ≡ side_of version }
-    requires marks { length (list_of (total_codewords_of version) marks.now) ≡ total_codewords_of version }
-    requires erased { IsReadUnmasked version unknown.now (list_of (total_codewords_of version) marks.now) }
-    ensures mended { IfOk result (λ o. MatchOption o (IfSome near (λ f. HoldsNone unknown.now version f.0 f.1 matrix.now))
-        (λ m. (near ≡ Some (m.level, m.mask))
-        × HoldsDamaged unknown.now version m.level m.mask matrix.now m.message.items m.changed.items
-        × (length m.message.items ≡ data_codewords_of version m.level))) }
+    ensures mended { IfOk result (IsMendedWith scan.now.unknown.now scan.now.version scan.now.matrix.now near) }
     ensures fault { IfErr result (λ e. e ≡ ReadFault.Memory) }
 {
     let Some((level, mask)) = near else {
         return Ok(None);
     };
-    let codewords = read_codewords(alloc, version, mask, matrix)?;
-    match mend_message(alloc, version, level, &codewords, marks) {
-        Ok(MendedMessage { message, changed }) => Ok(Some(MendedSquare {
+    let codewords = read_codewords(alloc, scan.version, mask, scan.matrix)?;
+    match mend_blocks(alloc, scan.version, level, &codewords, marks) {
+        Ok(
+            MendedBlocks {
+                message,
+                corrections,
+                changed,
+            },
+        ) => Ok(Some(MendedSquare {
             level,
             mask,
             message,
+            corrections,
             changed,
         })),
         Err(ReadFault::Check) => Ok(None),
@@ -81,163 +84,109 @@ fn is_same_format(a: Option<(Level, u8)>, b: Option<(Level, u8)>) -> bool
     }
 }
 
-// Returns `None` if no level and mask are near to the copy, or if those that are do not mend every block. `useless` are a
-// level and a mask that do not, so they are not tried again.
-fn mend_by(
-    alloc: Global,
-    version: Version,
-    copy: FormatCopy,
-    useless: Option<(Level, u8)>,
-    matrix: &Matrix,
-    unknown: &Matrix,
-    marks: &Marks,
-) -> Result<Option<MendedSquare>, ReadFault>
-    requires side { matrix.now.side ≡ side_of version }
-    requires unknown_side { unknown.now.side ≡ side_of version }
-    requires marks { length (list_of (total_codewords_of version) marks.now) ≡ total_codewords_of version }
-    requires erased { IsReadUnmasked version unknown.now (list_of (total_codewords_of version) marks.now) }
-    requires useless { IfSome useless (λ f. HoldsNone unknown.now version f.0 f.1 matrix.now) }
-    ensures mended { IfOk result (λ o. MatchOption o (IsOfNoUse unknown.now copy version matrix.now)
-        (λ m. IsNearFormat unknown.now copy matrix.now m.level m.mask
-        × HoldsDamaged unknown.now version m.level m.mask matrix.now m.message.items m.changed.items
-        × (length m.message.items ≡ data_codewords_of version m.level))) }
-    ensures fault { IfErr result (λ e. e ≡ ReadFault.Memory) }
+fn cost_of(scan: &Scan, mended: &MendedSquare) -> u8
+    requires { mended.now.mask < 8 }
+    ensures { result ≡ format_cost scan.now.unknown.now scan.now.matrix.now mended.now.level mended.now.mask }
 {
-    let near = near_format_of(matrix, unknown, version, copy);
-    if is_same_format(near, useless) {
-        return Ok(None);
-    }
-    mend_with(alloc, version, near, matrix, unknown, marks)
+    format_cost(scan, mended.level, mended.mask)
 }
 
-fn cost_of(matrix: &Matrix, unknown: &Matrix, version: Version, mended: &MendedSquare) -> u8
-    requires side { matrix.now.side ≡ side_of version }
-    requires unknown_side { unknown.now.side ≡ side_of version }
-    requires mask_in { mended.now.mask < 8 }
-    ensures { result ≡ format_cost unknown.now matrix.now mended.now.level mended.now.mask }
+// Whether there is a mended square, and its level and mask cost less than all others.
+fn is_certain(scan: &Scan, mended: &Option<MendedSquare>) -> bool
+    requires { IfSome mended.now (λ m. m.mask < 8) }
+    ensures { OnTrue result (MatchOption mended.now ⊥
+        (λ m. format_cost scan.now.unknown.now scan.now.matrix.now m.level m.mask ≤ 13)) }
 {
-    format_cost(matrix, unknown, version, mended.level, mended.mask)
+    match mended {
+        Some(mended) => cost_of(scan, mended) <= COST_CERTAIN,
+        None => false,
+    }
+}
+
+// The one of less cost, or if there is only one, this one.
+fn nearer(
+    scan: &Scan,
+    first: Option<MendedSquare>,
+    second: Option<MendedSquare>,
+) -> Option<MendedSquare>
+    requires first { IsMendedBy scan.now.unknown.now scan.now.version scan.now.matrix.now FormatCopy.First first }
+    requires second { IsMendedBy scan.now.unknown.now scan.now.version scan.now.matrix.now FormatCopy.Second second }
+    ensures { IsMendedByEither scan.now.unknown.now scan.now.version scan.now.matrix.now result }
+{
+    let Some(first) = first else {
+        return second;
+    };
+    let Some(second) = second else {
+        return Some(first);
+    };
+    if cost_of(scan, &second) < cost_of(scan, &first) {
+        return Some(second);
+    }
+    Some(first)
 }
 
 // Of the pairs of level and mask that are near to a copy and mend the symbol, takes the one with the least cost of both
 // copies. At equal costs it takes the one near to the first copy. The second copy is not tried if the pair near to the
-// first mends the symbol and costs at most `COST_CERTAIN`.
-fn mend_by_either(
-    alloc: Global,
-    version: Version,
-    matrix: &Matrix,
-    unknown: &Matrix,
-    marks: &Marks,
-) -> Result<Option<MendedSquare>, ReadFault>
-    requires side { matrix.now.side ≡ side_of version }
-    requires unknown_side { unknown.now.side ≡ side_of version }
-    requires marks { length (list_of (total_codewords_of version) marks.now) ≡ total_codewords_of version }
-    requires erased { IsReadUnmasked version unknown.now (list_of (total_codewords_of version) marks.now) }
-    ensures mended { IfOk result (λ o. MatchOption o ((any : FormatCopy) → IsOfNoUse unknown.now any version matrix.now)
-        (λ m. HasFormat unknown.now version matrix.now m.level m.mask
-        × HoldsDamaged unknown.now version m.level m.mask matrix.now m.message.items m.changed.items
-        × (length m.message.items ≡ data_codewords_of version m.level))) }
+// first mends the symbol and costs at most `COST_CERTAIN`, or if the same pair is near to both.
+fn mend_by_format(alloc: Global, scan: &Scan) -> Result<Option<MendedSquare>, ReadFault>
+    ensures mended { IfOk result (IsMendedByEither scan.now.unknown.now scan.now.version scan.now.matrix.now) }
     ensures fault { IfErr result (λ e. e ≡ ReadFault.Memory) }
 {
-    let near = near_format_of(matrix, unknown, version, FormatCopy::First);
-    let Some(first) = mend_with(alloc, version, near, matrix, unknown, marks)? else {
-        return mend_by(
-            alloc,
-            version,
-            FormatCopy::Second,
-            near,
-            matrix,
-            unknown,
-            marks,
-        );
-    };
-    let cost = cost_of(matrix, unknown, version, &first);
-    if cost <= COST_CERTAIN {
-        return Ok(Some(first));
+    let marks = read_marks(alloc, scan.version, scan.unknown)?;
+    let near = near_format_of(scan, FormatCopy::First);
+    let first = mend_with(alloc, scan, &marks, near)?;
+    if is_certain(scan, &first) {
+        return Ok(first);
     }
-    let Some(second) = mend_by(
-        alloc,
-        version,
-        FormatCopy::Second,
-        None,
-        matrix,
-        unknown,
-        marks,
-    )?
-    else {
-        return Ok(Some(first));
-    };
-    if cost_of(matrix, unknown, version, &second) < cost {
-        return Ok(Some(second));
+    let other = near_format_of(scan, FormatCopy::Second);
+    if is_same_format(near, other) {
+        return Ok(first);
     }
-    Ok(Some(first))
+    let second = mend_with(alloc, scan, &marks, other)?;
+    Ok(nearer(scan, first, second))
 }
 
-fn mend_square(
-    alloc: Global,
-    version: Version,
-    matrix: &Matrix,
-    unknown: &Matrix,
-) -> Result<Option<MendedSquare>, ReadFault>
-    requires side { matrix.now.side ≡ side_of version }
-    requires unknown_side { unknown.now.side ≡ side_of version }
-    ensures mended { IfOk result (λ o. MatchOption o ((any : FormatCopy) → IsOfNoUse unknown.now any version matrix.now)
-        (λ m. HasFormat unknown.now version matrix.now m.level m.mask
-        × HoldsDamaged unknown.now version m.level m.mask matrix.now m.message.items m.changed.items
-        × (length m.message.items ≡ data_codewords_of version m.level))) }
-    ensures fault { IfErr result (λ e. e ≡ ReadFault.Memory) }
-{
-    let marks = read_marks(alloc, version, unknown)?;
-    mend_by_either(alloc, version, matrix, unknown, &marks)
-}
-
-// Where a module was not read, `symbol` gets another colour than `matrix` has, so that the two differ exactly where a
+// Where a module was not read, `symbol` gets another colour than the square has, so that the two differ exactly where a
 // module is wrong.
-fn count_wrong(unknown: &Matrix, matrix: &Matrix, mut symbol: Matrix) -> u32
-    requires unknown_side { unknown.now.side ≡ matrix.now.side }
-    requires side { symbol.side ≡ matrix.now.side }
-    ensures { result ≡ wrong_modules unknown.now matrix.now symbol }
+fn count_wrong(scan: &Scan, mut symbol: Matrix) -> u32
+    requires { symbol.side ≡ scan.now.matrix.now.side }
+    ensures { result ≡ wrong_modules scan.now.unknown.now scan.now.matrix.now symbol }
 {
-    for row in 0..matrix.side() {
+    for row in 0..scan.matrix.side() {
         let at = usize::from(row);
-        let shown = matrix.bit_row(at);
+        let shown = scan.matrix.bit_row(at);
         let sent = symbol.bit_row(at);
-        let unread = unknown.bit_row(at);
+        let unread = scan.unknown.bit_row(at);
         let differing = shown ^ sent;
         let wrong = unread | differing;
         symbol.set_bit_row(row, shown ^ wrong);
     }
-    differences(matrix, &symbol)
+    differences(scan.matrix, &symbol)
 }
 
-// Draws the undamaged symbol to compare the square with it.
+// Draws the undamaged symbol to compare the square with it. `codewords` is its final sequence.
 fn count_wrong_modules(
     alloc: Global,
-    version: Version,
+    scan: &Scan,
     level: Level,
     mask: u8,
-    message: &[u8],
-    matrix: &Matrix,
-    unknown: &Matrix,
+    codewords: &[u8],
 ) -> Result<u32, AllocError>
-    requires whole { length message.now ≡ data_codewords_of version level }
+    requires whole { length codewords.now ≡ total_codewords_of scan.now.version }
     requires mask_in { mask < 8 }
-    requires side { matrix.now.side ≡ side_of version }
-    requires unknown_side { unknown.now.side ≡ side_of version }
-    ensures { IfOk result (DiffersFromSymbol unknown.now matrix.now version level mask message.now) }
+    ensures { IfOk result
+        (λ wrong. wrong ≡ wrong_modules scan.now.unknown.now scan.now.matrix.now (grid_of scan.now.version level mask codewords.now)) }
 {
-    let codewords = interleave(alloc, version, level, message)?;
-    let symbol = draw_symbol(alloc, version, level, &codewords, mask)?;
-    Ok(count_wrong(unknown, matrix, symbol))
+    let symbol = draw_symbol(alloc, scan.version, level, codewords, mask)?;
+    Ok(count_wrong(scan, symbol))
 }
 
-fn refusal(version: Version, matrix: &Matrix, unknown: &Matrix) -> ReadFault
-    requires sized { IsOfVersion matrix.now version }
-    requires unknown_side { unknown.now.side ≡ side_of version }
-    requires useless { (any : FormatCopy) → IsOfNoUse unknown.now any version matrix.now }
-    ensures { IsUnmended unknown.now matrix.now result }
+fn refusal(scan: &Scan) -> ReadFault
+    requires sized { IsOfVersion scan.now.matrix.now scan.now.version }
+    requires useless { (any : FormatCopy) → IsOfNoUse scan.now.unknown.now any scan.now.version scan.now.matrix.now }
+    ensures { IsUnmended scan.now.unknown.now scan.now.matrix.now result }
 {
-    match near_format_of_either(matrix, unknown, version) {
+    match near_format_of_either(scan) {
         Some(_) => ReadFault::Check,
         None => ReadFault::Format,
     }
@@ -267,7 +216,7 @@ pub struct Mended {
 /// is dark in the square `unknown`, which has the side of `matrix`, and its codeword is called erased.
 ///
 /// A block is mended if the number of its erased codewords, plus twice that of its misread ones, is at most twice
-/// `changed_max`. The level and the mask are found by the two copies of the format information, of 15 modules each. A
+/// `correctable`. The level and the mask are found by the two copies of the format information, of 15 modules each. A
 /// copy admits a level and a mask if the number of its modules that were not read, plus twice that of misread ones, is
 /// at most 6; it admits at most one pair. Of the admitted pairs that mend every block, the one with the least such sum
 /// over both copies is taken. Of two with the same sum it is the one that the first copy admits.
@@ -282,7 +231,7 @@ pub struct Mended {
 /// pair that a copy admits mends every block, `Segments` if the mended data codewords cannot be parsed, and `Memory` if
 /// memory is refused.
 #[tactic(auto, using(crate::proofs::Named::size_facts))]
-pub fn mend_symbol_without(
+pub fn mend_symbol_with_unknown(
     alloc: Global,
     matrix: &Matrix,
     unknown: &Matrix,
@@ -298,20 +247,25 @@ pub fn mend_symbol_without(
     let Some(version) = Version::of_side(matrix.side()) else {
         return Err(ReadFault::Side);
     };
-    let Some(mended) = mend_square(alloc, version, matrix, unknown)? else {
-        return Err(refusal(version, matrix, unknown));
+    let scan = Scan {
+        version,
+        matrix,
+        unknown,
+    };
+    let Some(mended) = mend_by_format(alloc, &scan)? else {
+        return Err(refusal(&scan));
     };
     let MendedSquare {
         level,
         mask,
         message,
+        corrections,
         changed,
     } = mended;
     let parsed = parse(alloc, &message, version)?;
-    let wrong_format_modules = wrong_format_modules(matrix, unknown, version, level, mask);
-    let wrong_modules = count_wrong_modules(
-        alloc, version, level, mask, &message, matrix, unknown,
-    )?;
+    let wrong_format_modules = wrong_format_modules(&scan, level, mask);
+    let codewords = interleaved(alloc, version, level, message, corrections)?;
+    let wrong_modules = count_wrong_modules(alloc, &scan, level, mask, &codewords)?;
     Ok(Mended {
         version,
         level,
@@ -323,11 +277,11 @@ pub fn mend_symbol_without(
     })
 }
 
-/// As `mend_symbol_without`, for a symbol of which every module was read.
+/// As `mend_symbol_with_unknown`, for a symbol of which every module was read.
 ///
 /// # Errors
 ///
-/// Those of `mend_symbol_without`.
+/// Those of `mend_symbol_with_unknown`.
 pub fn mend_symbol(alloc: Global, matrix: &Matrix) -> Result<Mended, ReadFault>
     ensures mended { MatchResult result
         (λ m. IsMendedReading (light matrix.now.side) matrix.now m.version m.level m.mask m.parsed m.changed.items)
@@ -338,5 +292,5 @@ pub fn mend_symbol(alloc: Global, matrix: &Matrix) -> Result<Mended, ReadFault>
         m.changed.items m.wrong_modules) }
 {
     let unknown = Matrix::new(alloc, matrix.side())?;
-    mend_symbol_without(alloc, matrix, &unknown)
+    mend_symbol_with_unknown(alloc, matrix, &unknown)
 }

@@ -1,18 +1,18 @@
 //! Mends the message of a damaged symbol block by block. A codeword is erased if one of its modules was not read
 //! (ISO/IEC 18004:2015, 7.5.1, 7.6 and 7.7.3).
 
-ghost use Rattle.std.specs.Prelude.{◌≡◌, ℕ, ◌+◌, ◌*◌, ◌<◌, ◌≤◌, ◌==◌, ◌⊎◌, ◌++◌, ◌∷◌, [], false, not, map, List, length, Err, IfOk, IfErr, IfSome, IfNone};
+ghost use Rattle.std.specs.Prelude.{◌≡◌, ℕ, ◌+◌, ◌*◌, ◌<◌, ◌≤◌, ◌==◌, ◌⊎◌, ◌++◌, ◌∷◌, [], false, not, map, take, drop, List, length, Err, IfOk, IfErr, IfSome, IfNone};
 ghost use Rattle.std.specs.Bool.{OnTrue};
-ghost use Rattle.qr_field.specs.Distance.{errors};
-ghost use Rattle.qr_layout.specs.Blocks.{blocks_of, data_codewords_of};
+ghost use Rattle.qr_field.specs.{Distance.{errors}, Polynomial.{IsCorrection}};
+ghost use Rattle.qr_layout.specs.Blocks.{blocks_of};
 ghost use Rattle.qr_layout.specs.Version.{side_of, total_codewords_of};
 ghost use Rattle.qr_matrix.specs.Grid.{colour};
 ghost use Rattle.qr_symbol.specs.declared.fault.ReadFault.{ReadFault};
-ghost use Rattle.qr_symbol.specs.Interleaving.{block_count, block_len, codeword_count, data_sizes, correction_sizes};
-ghost use Rattle.qr_symbol.specs.Reading.{IsReadUnmasked};
-ghost use Rattle.qr_mending.specs.Erasures.{IsMendedWithErasures};
-ghost use Rattle.qr_mending.specs.Message.{received, protection_of, spare_of, tolerance_of, AreInBlocks};
-ghost use Rattle.qr_mending.specs.Steps.Message.{list_of, marks_at, read_by, AreMarksInBlocks, AreMended, AreWhole, IsMendedMessage};
+ghost use Rattle.qr_symbol.specs.Interleaving.{block_count, block_len, codeword_count, data_sizes, correction_sizes, IsInterleaved};
+ghost use Rattle.qr_symbol.specs.{Reading.{IsReadUnmasked}, Steps.Interleaving.{IsChecks}};
+ghost use Rattle.qr_mending.specs.Erasures.{read_of, IsMendedWithErasures};
+ghost use Rattle.qr_mending.specs.Message.{received, protection_of, spare_of, correctable_of, AreInBlocks};
+ghost use Rattle.qr_mending.specs.Steps.Message.{list_of, marks_at, read_by, AreMarksInBlocks, AreMended, AreWhole, HasCorrections, IsMendedMessage};
 
 use crate::block::mend;
 use crate::erasures::mend_with_erasures;
@@ -78,6 +78,27 @@ fn in_blocks(alloc: Global, blocks: Blocks, interleaved: &[u8]) -> Result<InBloc
     Ok(InBlocks { data, checks })
 }
 
+// The final sequence of mended codewords, whose error correction codewords need not be computed again. The memory of both
+// lists is freed.
+pub(crate) fn interleaved(
+    alloc: Global,
+    version: Version,
+    level: Level,
+    message: Vec<u8>,
+    corrections: Vec<u8>,
+) -> Result<Vec<u8>, AllocError>
+    requires { HasCorrections version level message.items corrections.items }
+    ensures interleaved { IfOk result (λ cw. IsInterleaved version level message.items cw.items) }
+    ensures many { IfOk result (λ cw. length cw.items ≡ total_codewords_of version) }
+{
+    let blocks = version.blocks(level);
+    let mut interleaved = vec![in alloc; 0u8; message.len() + corrections.len()]?;
+    let (data, checks) = interleaved.split_at_mut(message.len());
+    BlockSizes::of_data(blocks).scatter(&message, data);
+    BlockSizes::of_corrections(blocks).scatter(&corrections, checks);
+    Ok(interleaved)
+}
+
 // As `Marks`, in the order of the blocks.
 #[derive(Drop)]
 enum MarksInBlocks {
@@ -135,19 +156,20 @@ fn push_erased(erased: &mut Vec<bool>, marks: &[u8]) -> Result<(), AllocError>
     Ok(())
 }
 
-// Which codewords of one block are erased.
+// Which codewords of one block are erased; an empty list if all codewords of the symbol were read.
 fn erased_of(
     alloc: Global,
     blocks: Blocks,
-    marks: &InBlocks,
+    marks: &MarksInBlocks,
     block: usize,
 ) -> Result<Vec<bool>, AllocError>
     requires within { block < block_count (data_sizes blocks) }
-    requires data { length marks.now.data.items ≡ codeword_count (data_sizes blocks) }
-    requires checks { length marks.now.checks.items ≡ codeword_count (correction_sizes blocks) }
-    ensures { IfOk result (λ erased. erased.items ≡
-        map (λ mark. not (mark == 0)) (received blocks marks.now.data.items marks.now.checks.items block)) }
+    requires whole { AreWhole blocks marks.now }
+    ensures { IfOk result (λ erased. erased.items ≡ map (λ mark. not (mark == 0)) (marks_at blocks marks.now block)) }
 {
+    let MarksInBlocks::Each(marks) = marks else {
+        return Ok(Vec::new(alloc));
+    };
     let data = BlockSizes::of_data(blocks).part(&marks.data, block);
     let checks = BlockSizes::of_corrections(blocks).part(&marks.checks, block);
     let mut erased = Vec::with_capacity(alloc, data.len() + checks.len())?;
@@ -156,157 +178,37 @@ fn erased_of(
     Ok(erased)
 }
 
-// The data codewords of a mended block, and how many of its codewords were misread.
-#[derive(Drop)]
-struct MendedBlock {
-    message: Vec<u8>,
-    changed: usize,
-}
-
-// As `MendedBlock`, for all blocks in their order.
-#[derive(Drop)]
-pub(crate) struct MendedMessage {
-    pub message: Vec<u8>,
-    pub changed: Vec<usize>,
-}
-
-// Mends the codewords of one block, and returns how many were misread. Returns `None` if that cannot be done.
-fn mend_marked(
-    alloc: Global,
-    blocks: Blocks,
+// Mends one block, and returns how many of its codewords were misread. Returns `None` if it cannot be mended. If `erased`
+// is empty, no codeword is erased.
+fn mend_block(
     divisor: &Divisor,
     spare: usize,
-    marks: &MarksInBlocks,
-    block: usize,
+    erased: &[bool],
     codewords: &mut [u8],
-) -> Result<Option<usize>, AllocError>
-    requires within { block < block_count (data_sizes blocks) }
-    requires marks { AreWhole blocks marks.now }
+) -> Option<usize>
     requires spare { spare ≤ divisor.now }
     requires least { divisor.now ≤ length codewords.old }
     requires most { length codewords.old ≤ 255 }
-    requires long { length codewords.old ≡ block_len (data_sizes blocks) block + blocks.ec_len }
-    ensures long { length codewords.new ≡ length codewords.old }
-    ensures mended { IfOk result (λ o. IfSome o (λ misread.
-        IsMendedWithErasures divisor.now spare (read_by codewords.old (marks_at blocks marks.now block)) codewords.new
-        × (misread ≡ errors (read_by codewords.old (marks_at blocks marks.now block)) codewords.new))) }
-    ensures refused { IfOk result (λ o. IfNone o ((mended : List ℕ)
-        → IsMendedWithErasures divisor.now spare (read_by codewords.old (marks_at blocks marks.now block)) mended → ⊥)) }
+    requires marks { (erased.now ≡ []) ⊎ (length erased.now ≡ length codewords.old) }
+    ensures mended { IfSome result (λ misread.
+        IsMendedWithErasures divisor.now spare (read_of codewords.old erased.now) codewords.new
+        × (misread ≡ errors (read_of codewords.old erased.now) codewords.new)) }
+    ensures refused { IfNone result ((mended : List ℕ)
+        → IsMendedWithErasures divisor.now spare (read_of codewords.old erased.now) mended → ⊥) }
 {
-    match marks {
-        MarksInBlocks::AllZero => Ok(mend(divisor, spare / 2, codewords)),
-        MarksInBlocks::Each(marks) => {
-            let erased = erased_of(alloc, blocks, marks, block)?;
-            Ok(mend_with_erasures(divisor, spare, &erased, codewords))
-        }
+    if erased.is_empty() {
+        return mend(divisor, spare / 2, codewords);
     }
+    mend_with_erasures(divisor, spare, erased, codewords)
 }
 
-// Mends one block, and then cuts it to its data codewords. In the contract, `message` has the blocks before it, mended.
-fn mend_next(
-    alloc: Global,
-    blocks: Blocks,
-    divisor: &Divisor,
-    spare: usize,
-    received: &InBlocks,
-    marks: &MarksInBlocks,
-    block: usize,
-) -> Result<MendedBlock, ReadFault>
-    requires codewords { length received.now.data.items ≡ codeword_count (data_sizes blocks) }
-    requires checks { length received.now.checks.items ≡ codeword_count (correction_sizes blocks) }
-    requires marks { AreWhole blocks marks.now }
-    requires few { blocks.short_len + 1 + blocks.ec_len ≤ 255 }
-    requires spare { spare ≤ blocks.ec_len }
-    requires divisor { divisor.now ≡ blocks.ec_len }
-    requires within { block < block_count (data_sizes blocks) }
-    ensures mended { IfOk result (λ m. (message misread : List ℕ)
-        → AreMended blocks spare received.now.data.items received.now.checks.items (marks_at blocks marks.now)
-        block message misread
-        → AreMended blocks spare received.now.data.items received.now.checks.items (marks_at blocks marks.now)
-        (block + 1) (message ++ m.message.items) (misread ++ m.changed ∷ [])) }
-    ensures refused { result ≡ Err ReadFault.Check → (message misread : List ℕ)
-        → AreMended blocks spare received.now.data.items received.now.checks.items (marks_at blocks marks.now)
-        (block_count (data_sizes blocks)) message misread → ⊥ }
-    ensures fault { IfErr result (λ e. (e ≡ ReadFault.Memory) ⊎ (e ≡ ReadFault.Check)) }
-{
-    let mut codewords = block_of(alloc, blocks, received, block)?;
-    let len = codewords.len() - divisor.count();
-    let Some(changed) = mend_marked(
-        alloc,
-        blocks,
-        divisor,
-        spare,
-        marks,
-        block,
-        codewords.as_mut_slice(),
-    )?
-    else {
-        return Err(ReadFault::Check);
-    };
-    codewords.truncate(len);
-    Ok(MendedBlock {
-        message: codewords,
-        changed,
-    })
-}
-
-// Ends at the first block that cannot be mended.
-fn mend_parts(
-    alloc: Global,
-    blocks: Blocks,
-    spare: usize,
-    received: &InBlocks,
-    marks: &MarksInBlocks,
-) -> Result<MendedMessage, ReadFault>
-    requires codewords { length received.now.data.items ≡ codeword_count (data_sizes blocks) }
-    requires checks { length received.now.checks.items ≡ codeword_count (correction_sizes blocks) }
-    requires marks { AreWhole blocks marks.now }
-    requires least { 1 ≤ blocks.ec_len }
-    requires most { blocks.ec_len ≤ 30 }
-    requires few { blocks.short_len + 1 + blocks.ec_len ≤ 255 }
-    requires spare { spare ≤ blocks.ec_len }
-    ensures mended { IfOk result (λ m. AreMended blocks spare received.now.data.items received.now.checks.items
-        (marks_at blocks marks.now) (block_count (data_sizes blocks)) m.message.items m.changed.items) }
-    ensures refused { result ≡ Err ReadFault.Check → (message misread : List ℕ)
-        → AreMended blocks spare received.now.data.items received.now.checks.items
-        (marks_at blocks marks.now) (block_count (data_sizes blocks)) message misread → ⊥ }
-    ensures fault { IfErr result (λ e. (e ≡ ReadFault.Memory) ⊎ (e ≡ ReadFault.Check)) }
-{
-    let count = BlockSizes::of_data(blocks).count();
-    let divisor = Divisor::new(usize::from(blocks.ec_len));
-    let mut message = Vec::with_capacity(alloc, received.data.len())?;
-    let mut changed = Vec::with_capacity(alloc, count)?;
-    for block in 0..count {
-        let mended = mend_next(alloc, blocks, &divisor, spare, received, marks, block)?;
-        message.extend_from_slice(&mended.message)?;
-        changed.push(mended.changed)?;
-    }
-    Ok(MendedMessage { message, changed })
-}
-
-// As `mend_parts`, for codewords and marks that are interleaved.
-fn mend_blocks(
-    alloc: Global,
-    blocks: Blocks,
-    spare: usize,
-    codewords: &[u8],
-    marks: &Marks,
-) -> Result<MendedMessage, ReadFault>
-    requires whole { length codewords.now ≡ codeword_count (data_sizes blocks) + codeword_count (correction_sizes blocks) }
-    requires marks { length (list_of (length codewords.now) marks.now) ≡ length codewords.now }
-    requires least { 1 ≤ blocks.ec_len }
-    requires most { blocks.ec_len ≤ 30 }
-    requires few { blocks.short_len + 1 + blocks.ec_len ≤ 255 }
-    requires spare { spare ≤ blocks.ec_len }
-    ensures mended { IfOk result (λ m. IsMendedMessage blocks spare codewords.now
-        (list_of (length codewords.now) marks.now) m.message.items m.changed.items) }
-    ensures refused { result ≡ Err ReadFault.Check → (message misread : List ℕ)
-        → IsMendedMessage blocks spare codewords.now (list_of (length codewords.now) marks.now) message misread → ⊥ }
-    ensures fault { IfErr result (λ e. (e ≡ ReadFault.Memory) ⊎ (e ≡ ReadFault.Check)) }
-{
-    let received = in_blocks(alloc, blocks, codewords)?;
-    let unread = marks_in_blocks(alloc, blocks, marks)?;
-    mend_parts(alloc, blocks, spare, &received, &unread)
+// The mended data codewords of all blocks, the error correction codewords that belong to them, and how many codewords of
+// each block were misread. In each list the blocks come in their order.
+#[derive(Drop)]
+pub(crate) struct MendedBlocks {
+    pub message: Vec<u8>,
+    pub corrections: Vec<u8>,
+    pub changed: Vec<usize>,
 }
 
 // How many error correction codewords of a block only detect errors, so that fewer blocks are mended to a wrong one
@@ -332,26 +234,26 @@ fn spare(version: Version, level: Level) -> u8
 
 /// Returns how many misread codewords of a block without erased ones can be corrected, from 2 to 15: half the number of
 /// its error correction codewords, or less for some levels of versions 1 to 3 (ISO/IEC 18004:2015, 7.5.1, Table 9).
-pub fn changed_max(version: Version, level: Level) -> u8
-    ensures { result ≡ tolerance_of version level }
+pub fn correctable(version: Version, level: Level) -> u8
+    ensures { result ≡ correctable_of version level }
 {
     spare(version, level) / 2
 }
 
-// Codewords and marks are interleaved.
+// Mends one block after the other, and ends at the first that cannot be mended. Codewords and marks are interleaved.
 #[tactic(auto, using(crate::proofs::Named::size_facts))]
-pub(crate) fn mend_message(
+pub(crate) fn mend_blocks(
     alloc: Global,
     version: Version,
     level: Level,
     codewords: &[u8],
     marks: &Marks,
-) -> Result<MendedMessage, ReadFault>
+) -> Result<MendedBlocks, ReadFault>
     requires codewords { length codewords.now ≡ total_codewords_of version }
     requires marks { length (list_of (total_codewords_of version) marks.now) ≡ total_codewords_of version }
     ensures mended { IfOk result (λ m. IsMendedMessage (blocks_of version level) (spare_of version level)
         codewords.now (list_of (total_codewords_of version) marks.now) m.message.items m.changed.items) }
-    ensures many { IfOk result (λ m. length m.message.items ≡ data_codewords_of version level) }
+    ensures corrections { IfOk result (λ m. HasCorrections version level m.message.items m.corrections.items) }
     ensures refused { result ≡ Err ReadFault.Check → (message misread : List ℕ)
         → IsMendedMessage (blocks_of version level) (spare_of version level) codewords.now
         (list_of (total_codewords_of version) marks.now) message misread
@@ -359,6 +261,28 @@ pub(crate) fn mend_message(
     ensures fault { IfErr result (λ e. (e ≡ ReadFault.Memory) ⊎ (e ≡ ReadFault.Check)) }
 {
     let blocks = version.blocks(level);
-    let most = usize::from(spare(version, level));
-    mend_blocks(alloc, blocks, most, codewords, marks)
+    let spare = usize::from(spare(version, level));
+    let received = in_blocks(alloc, blocks, codewords)?;
+    let unread = marks_in_blocks(alloc, blocks, marks)?;
+    let divisor = Divisor::new(usize::from(blocks.ec_len));
+    let count = BlockSizes::of_data(blocks).count();
+    let mut message = Vec::with_capacity(alloc, received.data.len())?;
+    let mut corrections = Vec::with_capacity(alloc, received.checks.len())?;
+    let mut changed = Vec::with_capacity(alloc, count)?;
+    for block in 0..count {
+        let mut mended = block_of(alloc, blocks, &received, block)?;
+        let erased = erased_of(alloc, blocks, &unread, block)?;
+        let Some(misread) = mend_block(&divisor, spare, &erased, mended.as_mut_slice()) else {
+            return Err(ReadFault::Check);
+        };
+        let (data, checks) = mended.split_at(mended.len() - divisor.count());
+        message.extend_from_slice(data)?;
+        corrections.extend_from_slice(checks)?;
+        changed.push(misread)?;
+    }
+    Ok(MendedBlocks {
+        message,
+        corrections,
+        changed,
+    })
 }

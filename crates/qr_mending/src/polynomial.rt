@@ -4,7 +4,7 @@
 ghost use Rattle.std.specs.Prelude.{◌≡◌, ◌+◌, ◌<◌, ◌≤◌, ◌++◌, [], ◌∷◌, length};
 ghost use Rattle.std.specs.List.{All};
 ghost use Rattle.qr_field.specs.Polynomial.{IsByte, plus, scaled, zeros};
-ghost use Rattle.qr_mending.specs.Steps.Polynomial.{all_of, IsMonic, miss_of};
+ghost use Rattle.qr_mending.specs.Steps.Polynomial.{all_of, IsMonic, discrepancy_of};
 
 use crate::sums::{dot, exponent_sum};
 use qr_field::{exponent_of, power_of};
@@ -38,10 +38,10 @@ impl Polynomial {
 
     // The discrepancy: the sum of the coefficients, each multiplied by the item of `window` at its index. If it is 0, the
     // polynomial solves the equation of `window`.
-    pub(crate) fn miss(&self, window: &[u8]) -> u8
+    pub(crate) fn discrepancy(&self, window: &[u8]) -> u8
         requires fits { self.now.degree < 16 }
         requires long { self.now.degree < length window.now }
-        ensures value { result ≡ miss_of self.now window.now }
+        ensures value { result ≡ discrepancy_of self.now window.now }
         ensures bytes { All IsByte (all_of self.now) }
         ensures terms { self.now.degree < length self.now.terms }
     {

@@ -250,7 +250,7 @@ impl Sums {
 }
 
 // The values at 2 to the powers `first` to `first` + 15 of the polynomial whose coefficients are `terms`, that of the
-// lowest power first.
+// lowest power first. Chien's search looks for those that are 0.
 pub(crate) fn sixteen_values(terms: &[u8], first: u8) -> [u8; 16]
     requires { length terms.now ≤ 31 }
     ensures { (k : ℕ) → k < 16 → slice_index result k ≡ eval (power (first + k)) terms.now }

@@ -3,7 +3,9 @@ use Rattle.{qr_layout.proofs.Facts.blocks-sound, std.proofs.lemmas.Bool.Decides.
 use Rattle.qr_symbol.proofs.lemmas.interleaving.{CheckLemmas.slice-in, MessageLemmas.data-sizes-whole}
 use Rattle.qr_symbol.proofs.lemmas.interleaving.PositionLemmas.{start-next, start-none}
 use Rattle.qr_symbol.proofs.lemmas.{laws.DistanceLemmas.messages-apart}
-use Rattle.qr_symbol.proofs.lemmas.placement.{BitLemmas.word-past, LightLemmas.cleared, SplitLemmas.{all-exchanged-bit, exchanged-bit}}
+use Rattle.qr_symbol.proofs.lemmas.placement.LightLemmas.{cleared}
+use Rattle.qr_symbol.proofs.lemmas.words.BitLemmas.{word-past}
+use Rattle.qr_symbol.proofs.lemmas.words.SplitLemmas.{all-exchanged-bit, exchanged-bit}
 use Rattle.qr_symbol.proofs.lemmas.{placement.PlacementLemmas.square-is, reading.ReadLemmas.read-grid}
 use Rattle.qr_symbol.proofs.lemmas.series.{PartExistenceLemmas.parts-there, PartLemmas.part-least}
 

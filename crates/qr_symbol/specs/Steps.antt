@@ -1,4 +1,6 @@
 -- Steps of the program, for contracts of private functions only.
+pub mod Words
+pub mod Spans
 pub mod Patterns
 pub mod Placement
 pub mod Collecting

@@ -98,27 +98,32 @@ impl BlockSizes {
         deinterleave_into(gathered.as_mut_slice(), self, codewords);
         Ok(gathered)
     }
-}
 
-// Puts the codewords of all blocks in interleaved order, block by block. Those of a block are as far apart as there are
-// blocks; after all of these come the last codewords of the long blocks, one after the other.
-fn interleave_into(interleaved: &mut [u8], sizes: BlockSizes, codewords: &[u8])
-    requires room { length interleaved.old ≡ codeword_count sizes }
-    requires whole { length codewords.now ≡ codeword_count sizes }
-    ensures long { length interleaved.new ≡ codeword_count sizes }
-    ensures gathered { IsGathered sizes interleaved.new codewords.now }
-{
-    let blocks = sizes.count();
-    let short = usize::from(sizes.short);
-    let short_len = usize::from(sizes.short_len);
-    for block in 0..blocks {
-        let start = sizes.start(block);
-        for place in 0..short_len {
-            interleaved[blocks * place + block] = codewords[start + place];
-        }
-        if block >= short {
-            let rank = short_len * blocks + (block - short);
-            interleaved[rank] = codewords[start + short_len];
+    /// Interleaves the codewords of all blocks, which come one block after the other, and writes them to `interleaved`: the
+    /// first of each block, then the second of each block, and so on (ISO/IEC 18004:2015, 7.6). `gather` undoes this.
+    ///
+    /// # Notes
+    ///
+    /// Goes through the codewords block by block. Those of a block are as far apart as there are blocks. After all of
+    /// these come the last codewords of the long blocks, one after the other.
+    pub fn scatter(self, codewords: &[u8], interleaved: &mut [u8])
+        requires whole { length codewords.now ≡ codeword_count self }
+        requires room { length interleaved.old ≡ codeword_count self }
+        ensures long { length interleaved.new ≡ codeword_count self }
+        ensures gathered { IsGathered self interleaved.new codewords.now }
+    {
+        let blocks = self.count();
+        let short = usize::from(self.short);
+        let short_len = usize::from(self.short_len);
+        for block in 0..blocks {
+            let start = self.start(block);
+            for place in 0..short_len {
+                interleaved[blocks * place + block] = codewords[start + place];
+            }
+            if block >= short {
+                let rank = short_len * blocks + (block - short);
+                interleaved[rank] = codewords[start + short_len];
+            }
         }
     }
 }
@@ -148,6 +153,8 @@ fn corrections(alloc: Global, blocks: Blocks, message: &[u8]) -> Result<Vec<u8>,
     Ok(corrections)
 }
 
+// Out of line: where LLVM knows how many blocks there can be, it multiplies for each codeword instead of adding.
+#[inline(never)]
 fn interleave_blocks(alloc: Global, blocks: Blocks, message: &[u8]) -> Result<Vec<u8>, AllocError>
     requires whole { length message.now ≡ codeword_count (data_sizes blocks) }
     requires least { 1 ≤ blocks.ec_len }
@@ -157,8 +164,8 @@ fn interleave_blocks(alloc: Global, blocks: Blocks, message: &[u8]) -> Result<Ve
     let corrections = corrections(alloc, blocks, message)?;
     let mut interleaved = vec![in alloc; 0u8; message.len() + corrections.len()]?;
     let (data, checks) = interleaved.split_at_mut(message.len());
-    interleave_into(data, BlockSizes::of_data(blocks), message);
-    interleave_into(checks, BlockSizes::of_corrections(blocks), &corrections);
+    BlockSizes::of_data(blocks).scatter(message, data);
+    BlockSizes::of_corrections(blocks).scatter(&corrections, checks);
     Ok(interleaved)
 }
 
@@ -181,7 +188,8 @@ pub fn interleave(
     interleave_blocks(alloc, version.blocks(level), message)
 }
 
-// Undoes `interleave_into`.
+// Undoes `scatter`. It is out of line for the reason that `interleave_blocks` gives.
+#[inline(never)]
 fn deinterleave_into(message: &mut [u8], sizes: BlockSizes, codewords: &[u8])
     requires room { length message.old ≡ codeword_count sizes }
     requires interleaved { codeword_count sizes ≤ length codewords.now }
@@ -202,6 +210,7 @@ fn deinterleave_into(message: &mut [u8], sizes: BlockSizes, codewords: &[u8])
     }
 }
 
+// Compares the error correction codewords that were read with those of the message, block by block.
 fn deinterleave_blocks(
     alloc: Global,
     blocks: Blocks,
@@ -217,8 +226,10 @@ fn deinterleave_blocks(
         → (length d ≡ codeword_count (data_sizes blocks)) × IsFinalMessage blocks d codewords.now → ⊥))) }
 {
     let message = BlockSizes::of_data(blocks).gather(alloc, codewords)?;
-    let again = interleave_blocks(alloc, blocks, &message)?;
-    if again.as_slice() == codewords {
+    let checks = &codewords[message.len()..];
+    let read = BlockSizes::of_corrections(blocks).gather(alloc, checks)?;
+    let computed = corrections(alloc, blocks, &message)?;
+    if read.as_slice() == computed.as_slice() {
         Ok(message)
     } else {
         Err(ReadFault::Check)

@@ -30,8 +30,10 @@ mod patterns;
 mod placement;
 mod reading;
 mod series;
+mod spans;
 mod symbol;
 mod version_choice;
+mod words;
 
 pub use choice::build;
 pub use encoding::{encode, encode_boosted};

@@ -1,7 +1,7 @@
 //! Draws the function patterns, the format information and the version information, and the square in which only the
 //! region is dark (ISO/IEC 18004:2015, 6.3, 7.9 and 7.10). `format` is the format information as a number.
 
-ghost use Rattle.std.specs.Prelude.{◌≡◌, ℕ, Bool, ◌%◌, ◌+◌, ◌-◌, ◌<◌, ◌≤◌, ◌==◌, ◌&&◌, not, if◌then◌else◌, nat_le, nat_lt, false, IfOk};
+ghost use Rattle.std.specs.Prelude.{◌≡◌, ℕ, Bool, ◌+◌, ◌-◌, ◌<◌, ◌≤◌, ◌==◌, if◌then◌else◌, nat_le, false, IfOk};
 ghost use Rattle.std.specs.List.{list_any, All};
 ghost use Rattle.qr_layout.specs.Version.{side_of};
 ghost use Rattle.qr_layout.specs.Alignment.{alignment_places, centres_of};
@@ -15,21 +15,13 @@ ghost use Rattle.qr_matrix.specs.BitRow.{has_bit};
 ghost use Rattle.qr_symbol.specs.Steps.Patterns.{fixed_colour, format_bits_or, format_or, is_dark_in_six, is_in_block, paint_of, IsOver};
 ghost use Rattle.qr_symbol.specs.Steps.Placement.{region_grid};
 
-use crate::placement::reversed;
+use crate::words::{is_bit_set, reversed};
 use qr_layout::{
     Module, Rectangle, Version, alignment_centres, fixed_rectangles, format_place,
     second_format_place,
 };
 use qr_matrix::{Matrix, MatrixPair};
 use std::alloc::{AllocError, Global};
-
-// A `u32` cannot be shifted by 32 or more.
-#[tactic(auto, unfolding(qr_matrix::specs::BitRow::has_bit), using(crate::proofs::Named::word_bits))]
-pub(crate) fn is_bit_set(word: u32, i: u8) -> bool
-    ensures { result ≡ has_bit word i }
-{
-    i < 32 && word >> i & 1 == 1
-}
 
 fn clear_rectangles(matrix: &mut Matrix, v: Version, rectangles: &[Rectangle])
     requires square { IsSquare (side_of v) matrix.old }

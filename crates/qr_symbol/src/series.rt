@@ -1,7 +1,6 @@
 //! Encodes an input as a series of symbols, the standard's Structured Append (ISO/IEC 18004:2015, 8).
 
 ghost use Rattle.std.specs.Prelude.{◌≡◌, ◌≢◌, ◌-◌, ◌<◌, ◌≤◌, ◌↔◌, ◌⊎◌, ℕ, false, List, [], length, None, Some, Err, IsTrue, IfOk, IfErr, MatchOption, MatchResult};
-ghost use Rattle.std.specs.Cow.{cow_slice_items};
 ghost use Rattle.qr_bits.specs.declared.modes.Rule.{Rule};
 ghost use Rattle.qr_bits.specs.declared.interpretation.Interpretation.{Interpretation};
 ghost use Rattle.qr_bits.specs.Interpretation.{InterpretationFits, MayWrite};

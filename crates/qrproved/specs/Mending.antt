@@ -8,7 +8,7 @@ use Rattle.qr_bits.specs.Parsing.{Content}
 pub use Rattle.qr_matrix.specs.Bytes.{square_of_unknown}
 use Rattle.qr_symbol.specs.declared.fault.ReadFault.{ReadFault}
 use Rattle.qr_mending.specs.Mending.{wrong_format_modules, HasWrongModules, IsMendedReading, IsUnmended}
-use Rattle.qr_mending.specs.Message.{tolerance_of}
+use Rattle.qr_mending.specs.Message.{correctable_of}
 use Rattle.qrproved.specs.declared.mending.QrprovedMended.{QrprovedMended}
 use Rattle.qrproved.specs.declared.interpretation.QrprovedEci.{QrprovedEci}
 use Rattle.qrproved.specs.Interpretation.{TellsInterpretation}
@@ -37,7 +37,7 @@ pub record TellsDamage (m : QrprovedMended) (changed : List ℕ) (side : ℕ) (m
   pub whole : HasWrongModules (square_of_unknown side modules) (square_of_bytes side modules) m.version (level_of m.level) m.mask changed m.wrong_modules
   pub format : m.wrong_format_modules ≡ wrong_format_modules (square_of_unknown side modules) (square_of_bytes side modules) (level_of m.level) m.mask
   pub most : IsGreatest changed m.changed_most
-  pub allowed : m.changed_allowed ≡ tolerance_of m.version (level_of m.level)
+  pub allowed : m.changed_allowed ≡ correctable_of m.version (level_of m.level)
 
 -- The square is mended and read: the bytes and the ECI headers of its content were written to the beginning of their
 -- buffers, and `m` has their numbers, the version, level, mask, header, FNC1 and damage [own]

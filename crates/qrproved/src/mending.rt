@@ -5,7 +5,7 @@ ghost use Rattle.std.specs.List.{All, Any};
 ghost use Rattle.qr_bits.specs.declared.fault.ParseFault.{ParseFault};
 ghost use Rattle.qr_symbol.specs.declared.fault.ReadFault.{ReadFault};
 ghost use Rattle.qr_mending.specs.Mending.{wrong_format_modules, HasWrongModules, IsMendedReading, IsUnmended};
-ghost use Rattle.qr_mending.specs.Message.{tolerance_of};
+ghost use Rattle.qr_mending.specs.Message.{correctable_of};
 ghost use Rattle.qr_bits.specs.Interpretation.{fnc1_of};
 ghost use Rattle.qrproved.specs.Interpretation.{TellsFnc1};
 ghost use Rattle.qrproved.specs.Modules.{square_of_bytes};
@@ -23,7 +23,7 @@ use qr_mending::laws::{
     changes_are_bounded, mended_readings_are_not_refused, mended_readings_are_one,
     mending_refusals_are_one,
 };
-use qr_mending::{Mended, changed_max, mend_symbol_without};
+use qr_mending::{Mended, correctable, mend_symbol_with_unknown};
 use qr_symbol::ReadFault;
 use std::alloc::Global;
 
@@ -93,7 +93,7 @@ fn mend_modules(alloc: Global, modules: &[u8], side: u8) -> Result<Mended, ReadF
         (square_of_bytes side modules.now) m.version m.level m.mask m.changed.items m.wrong_modules) }
 {
     let (matrix, unknown) = matrices_of_bytes(alloc, modules, side)?;
-    mend_symbol_without(alloc, &matrix, &unknown)
+    mend_symbol_with_unknown(alloc, &matrix, &unknown)
 }
 
 fn greatest(numbers: &[usize]) -> usize
@@ -118,7 +118,7 @@ fn mended_of(len: usize, mended: &Mended) -> QrprovedMended
     ensures mask { result.mask ≡ mended.now.mask }
     ensures wrong_format_modules { result.wrong_format_modules ≡ mended.now.wrong_format_modules }
     ensures most { IsGreatest mended.now.changed.items result.changed_most }
-    ensures allowed { result.changed_allowed ≡ tolerance_of mended.now.version mended.now.level }
+    ensures allowed { result.changed_allowed ≡ correctable_of mended.now.version mended.now.level }
 {
     let content = content_of(len, mended.version, &mended.parsed);
     let most = greatest(&mended.changed);
@@ -137,7 +137,7 @@ fn mended_of(len: usize, mended: &Mended) -> QrprovedMended
         mask: mended.mask,
         wrong_format_modules: mended.wrong_format_modules,
         changed_most: most as u8,
-        changed_allowed: changed_max(mended.version, mended.level),
+        changed_allowed: correctable(mended.version, mended.level),
     }
 }
 

@@ -4,7 +4,7 @@ use crate::samples::EIGHT_DIGITS;
 use qr_bits::{Interpretation, Rule};
 use qr_layout::{Level, Version};
 use qr_matrix::Matrix;
-use qr_mending::{mend_series, mend_symbol, mend_symbol_without};
+use qr_mending::{mend_series, mend_symbol, mend_symbol_with_unknown};
 use qr_symbol::{ReadFault, build_masked, encode_series};
 use std::test::Fail;
 
@@ -122,7 +122,7 @@ fn mend_inverted_without(
     if unknown.side() != symbol.matrix.side() {
         return Err("another side".into());
     }
-    match mend_symbol_without(rt.alloc(), &symbol.matrix, &unknown) {
+    match mend_symbol_with_unknown(rt.alloc(), &symbol.matrix, &unknown) {
         Err(fault) => Ok(Err(fault)),
         Ok(mended) => {
             if mended.parsed.bytes.as_slice() != b"01234567".as_slice() || mended.mask != 0 {

@@ -5,7 +5,7 @@ use crate::random::Random;
 use crate::texts::Text;
 use qr_bits::Parsed;
 use qr_layout::walk;
-use qr_mending::{Mended, changed_max, mend_symbol, mend_symbol_without};
+use qr_mending::{Mended, correctable, mend_symbol, mend_symbol_with_unknown};
 use qr_symbol::{
     INPUT_MAX, Interpretation, Level, Matrix, ReadFault, Rule, Symbol, Version, encode, read_symbol,
 };
@@ -140,7 +140,7 @@ struct Damaged {
 fn damage(alloc: Global, symbol: &Symbol, random: &mut Random) -> Result<Damaged, AllocError> {
     let sizes = symbol.version.blocks(symbol.level);
     let blocks = usize::from(sizes.short) + usize::from(sizes.long);
-    let codewords = usize::from(changed_max(symbol.version, symbol.level)) * blocks;
+    let codewords = usize::from(correctable(symbol.version, symbol.level)) * blocks;
     let across = exchanged(alloc, &symbol.matrix)?;
     let mut squares = Damaged {
         one: exchanged(alloc, &across)?,
@@ -219,7 +219,7 @@ pub fn mend(alloc: Global, count: u64, seed: u64, digest: &mut Digest) -> Result
         add_mended(&mend_symbol(alloc, &squares.bound), digest);
         add_mended(&mend_symbol(alloc, &squares.beyond), digest);
         if unknown.side() == symbol.matrix.side() {
-            let smudged = mend_symbol_without(alloc, &symbol.matrix, &unknown);
+            let smudged = mend_symbol_with_unknown(alloc, &symbol.matrix, &unknown);
             add_mended(&smudged, digest);
         }
     }

@@ -10,7 +10,7 @@ use qr_devices::Counted;
 use qr_drawing::{Drawing, draw};
 use qr_layout::walk;
 use qr_matrix::{matrices_of_bytes, matrix_of_bytes, write_square};
-use qr_mending::{changed_max, mend_symbol_without};
+use qr_mending::{correctable, mend_symbol_with_unknown};
 use qr_symbol::{Level, Symbol, Version, read_symbol};
 use std::alloc::{AllocError, Global};
 
@@ -106,7 +106,7 @@ fn changes(
     let none = Change { bits: 0, rank: 0 };
     let mut changes = vec![in alloc; none; usize::from(version.total_codewords())]?;
     let sizes = version.blocks(level);
-    let bound = changed_max(version, level);
+    let bound = correctable(version, level);
     for block in 0..usize::from(sizes.short) + usize::from(sizes.long) {
         let is_long = block >= usize::from(sizes.short);
         let len = usize::from(sizes.short_len) + usize::from(is_long) + usize::from(sizes.ec_len);
@@ -194,7 +194,7 @@ fn damage(
     let side = version.side();
     smudge(&mut buffers.smudged, side, random);
     let changes = changes(alloc, version, level, random)?;
-    let half = changed_max(version, level) / 2;
+    let half = correctable(version, level) / 2;
     let mut number = 0usize;
     for module in walk(version) {
         let codeword = number / 8;
@@ -274,7 +274,7 @@ fn add_mending(
         return Ok(());
     }
     let (dark, unknown) = matrices_of_bytes(alloc, modules, side)?;
-    add_mended(&mend_symbol_without(alloc, &dark, &unknown), digest);
+    add_mended(&mend_symbol_with_unknown(alloc, &dark, &unknown), digest);
     Ok(())
 }
 

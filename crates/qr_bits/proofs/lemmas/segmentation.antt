@@ -4,7 +4,9 @@ pub mod BackLemmas
 pub mod BytesOnlyLemmas
 -- If all bytes are digits, one segment of all digits takes the fewest bits.
 pub mod DigitsOnlyLemmas
--- With an ECI the choice of segments is that without.
+-- With an ECI the choice of segments is that without, and for GS1 data too if each byte is written as itself.
 pub mod InterpretedLemmas
+-- What is written for runs of bytes in GS1 data.
+pub mod RunLemmas
 -- An assignment to bytes is valid exactly if its modes are allowed, one after the other.
 pub mod AssignedLemmas

@@ -1,12 +1,15 @@
 -- The table of best modes: for each byte a row, which has the best mode of the byte for each state before it.
-use Rattle.std.specs.Prelude.{ℕ, ◌<◌, ◌/◌, ◌%◌, ◌^◌, Bool, List, [], ◌∷◌, IsTrue}
+use Rattle.std.specs.Prelude.{◌≡◌, ℕ, ◌+◌, ◌<◌, ◌/◌, ◌%◌, ◌^◌, Bool, List, [], ◌∷◌, IsTrue}
 use Rattle.qr_bits.specs.declared.modes.Mode.{Mode}
+use Rattle.qr_bits.specs.declared.modes.Mode.TheVariants.{Alphanumeric}
 use Rattle.qr_bits.specs.declared.modes.Rule.{Rule}
 use Rattle.qr_bits.specs.declared.run_state.RunState.{RunState}
 use Rattle.qr_bits.specs.declared.run_state.RunState.TheVariants.{Start, Digit1, Digit2, Digit3, Character1, Character2, InBytes, HalfPair, WholePair}
 use Rattle.qr_bits.specs.declared.run_state.PerState.{PerState}
+use Rattle.qr_bits.specs.declared.best_modes.CharacterChoices.{CharacterChoices}
 use Rattle.qr_bits.specs.declared.interpretation.Interpretation.{Interpretation}
-use Rattle.qr_bits.specs.Steps.RunState.{state_after, state_in, allowed_in, ranked, IsBestRest, IsChoice}
+use Rattle.qr_bits.specs.Interpretation.{character_for}
+use Rattle.qr_bits.specs.Steps.RunState.{state_after, state_in, cost_in, may_begin, allowed_in, choice_number, ranked, IsBestRest, IsChoice}
 
 -- The field of a state
 unfoldable pub in_state : PerState → RunState → ℕ
@@ -23,6 +26,16 @@ in_state b WholePair = b.whole_pair
 -- The bits of the best choice after the state `p`; `numbers` has the choice for each state, as a number
 abbrev pub bits_at : PerState → RunState → ℕ
 bits_at numbers p = in_state numbers p / 4
+
+-- The choice of alphanumeric mode for the byte `x` after the state `p`, as a number
+abbrev pub character_choice : Interpretation → ℕ → Rule → ℕ → Bool → PerState → RunState → ℕ
+character_choice i v r x pair rest p =
+    choice_number (may_begin r (character_for i x Alphanumeric) pair Alphanumeric) (cost_in i v p x Alphanumeric + bits_at rest (state_in i p x Alphanumeric)) Alphanumeric
+
+-- `c` has the choices of alphanumeric mode for the byte `x`
+abbrev pub AreCharacterChoices : Interpretation → ℕ → Rule → ℕ → Bool → PerState → CharacterChoices → Type 0
+AreCharacterChoices i v r x pair rest c =
+    (c.first ≡ character_choice i v r x pair rest Start) × (c.second ≡ character_choice i v r x pair rest Character1) × (c.next ≡ character_choice i v r x pair rest Character2)
 
 -- For inputs of at most `INPUT_MAX` bytes all choices stay below this bound, so that the bits of one byte more do not
 -- overflow 32 bits

@@ -1,4 +1,4 @@
--- The parts of a list of codewords, that a sequence is gathered in at most one way, and the indices of its codewords.
+-- A sequence is gathered in at most one way, also the indices of its codewords.
 pub mod MessageLemmas
 -- A mark is 0 exactly if its codeword is not erased. So to mend by marks is to mend without the modules that were not
 -- read.

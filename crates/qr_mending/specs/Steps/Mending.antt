@@ -1,10 +1,34 @@
 -- How the program mends a square. `g` is the square of modules as it was read, and `unknown` is dark where a module was
 -- not read.
-use Rattle.std.specs.Prelude.{ℕ, List}
+use Rattle.std.specs.Prelude.{◌≡◌, ℕ, List, Option, Some, IfSome, MatchOption}
 use Rattle.qr_layout.specs.declared.level.Level.{Level}
 use Rattle.qr_matrix.specs.Grid.{Grid}
-use Rattle.qr_mending.specs.Mending.{HoldsDamaged}
+use Rattle.qr_mending.specs.declared.format.FormatCopy.{FormatCopy}
+use Rattle.qr_mending.specs.declared.mending.MendedSquare.{MendedSquare}
+use Rattle.qr_mending.specs.Format.{IsNearFormat}
+use Rattle.qr_mending.specs.Mending.{HasFormat, HoldsDamaged, IsOfNoUse}
+use Rattle.qr_mending.specs.Steps.Message.{HasCorrections}
 
 -- With this level and mask not all blocks of the square can be mended.
 abbrev pub HoldsNone : Grid → ℕ → Level → ℕ → Grid → Type 0
 HoldsNone unknown v l mask g = (message changed : List ℕ) → HoldsDamaged unknown v l mask g message changed → ⊥
+
+-- `m` has the mended blocks of the square, by its own level and mask.
+pub record IsMendedSquare (unknown : Grid) (v : ℕ) (g : Grid) (m : MendedSquare) : Type 0 where
+  pub held : HoldsDamaged unknown v m.level m.mask g m.message.items m.changed.items
+  pub corrections : HasCorrections v m.level m.message.items m.corrections.items
+
+-- The square is mended with the level and the mask `near`, if there are any and all its blocks can be mended with them.
+abbrev pub IsMendedWith : Grid → ℕ → Grid → Option (Level × ℕ) → Option MendedSquare → Type 0
+IsMendedWith unknown v g near o = MatchOption o (IfSome near (λ f. HoldsNone unknown v f.0 f.1 g))
+    (λ m. (near ≡ Some (m.level, m.mask)) × IsMendedSquare unknown v g m)
+
+-- The square is mended with the level and the mask that are near to the copy, if the copy is of use.
+abbrev pub IsMendedBy : Grid → ℕ → Grid → FormatCopy → Option MendedSquare → Type 0
+IsMendedBy unknown v g copy o = MatchOption o (IsOfNoUse unknown copy v g)
+    (λ m. IsNearFormat unknown copy g m.level m.mask × IsMendedSquare unknown v g m)
+
+-- The square is mended with the level and the mask that have to be used, if a copy is of use.
+abbrev pub IsMendedByEither : Grid → ℕ → Grid → Option MendedSquare → Type 0
+IsMendedByEither unknown v g o = MatchOption o ((any : FormatCopy) → IsOfNoUse unknown any v g)
+    (λ m. HasFormat unknown v g m.level m.mask × IsMendedSquare unknown v g m)

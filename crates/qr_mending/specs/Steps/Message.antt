@@ -3,9 +3,11 @@
 -- blocks. `d` and `e` list the data codewords and the error correction codewords as they were read, in the order of the
 -- blocks.
 use Rattle.std.specs.Prelude.{◌≡◌, ℕ, ◌<◌, ◌==◌, not, Option, List, [], map, length, slice_index}
-use Rattle.qr_layout.specs.declared.blocks.Blocks.{Blocks}
+use Rattle.qr_layout.specs.declared.{blocks.Blocks.{Blocks}, level.Level.{Level}}
+use Rattle.qr_layout.specs.Blocks.{blocks_of, data_codewords_of}
 use Rattle.qr_field.specs.Polynomial.{zeros}
 use Rattle.qr_symbol.specs.Interleaving.{block_count, codeword_count, correction_sizes, start_of, data_sizes}
+use Rattle.qr_symbol.specs.Steps.Interleaving.{IsChecks}
 use Rattle.qr_mending.specs.declared.message.{Marks.{Marks}, MarksInBlocks.{MarksInBlocks}}
 use Rattle.qr_mending.specs.declared.message.Marks.TheVariants as interleaved
 use Rattle.qr_mending.specs.declared.message.MarksInBlocks.TheVariants as parted
@@ -56,3 +58,8 @@ pub record IsMendedMessage (b : Blocks) (spare : ℕ) (cw marks message misread 
   pub in_blocks : AreInBlocks b cw codewords checks
   pub marked : AreInBlocks b marks unread unread_checks
   pub mended : AreMended b spare codewords checks (received b unread unread_checks) (block_count (data_sizes b)) message misread
+
+-- `corrections` has the error correction codewords of all blocks of `message`
+pub record HasCorrections (v : ℕ) (l : Level) (message corrections : List ℕ) : Type 0 where
+  pub long : length message ≡ data_codewords_of v l
+  pub checks : IsChecks (blocks_of v l) message (block_count (data_sizes (blocks_of v l))) corrections

@@ -18,8 +18,8 @@ abbrev pub IsMonic : Polynomial → Type 0
 IsMonic p = slice_index p.terms p.degree ≡ 1
 
 -- The sum for the equation of `window`.
-abbrev pub miss_of : Polynomial → List ℕ → ℕ
-miss_of p window = dot_of (all_of p) window
+abbrev pub discrepancy_of : Polynomial → List ℕ → ℕ
+discrepancy_of p window = dot_of (all_of p) window
 
 -- `p` has the leading coefficient 1, and solves all equations whose windows are filled by the first `i` of the syndromes
 -- `s`.
@@ -27,17 +27,17 @@ pub record IsBest (i : ℕ) (s : List ℕ) (p : Polynomial) : Type 0 where
   pub bytes : All IsByte (all_of p)
   pub count : length (all_of p) ≡ p.degree + 1
   pub monic : IsMonic p
-  pub solved : (j : ℕ) → j + p.degree < i → miss_of p (drop j s) ≡ 0
+  pub solved : (j : ℕ) → j + p.degree < i → discrepancy_of p (drop j s) ≡ 0
 
 -- The search after the first `i` of the syndromes `s`. Of the equations with an index below the degree of `best`,
--- `earlier` solves all but the last, and `miss` is its sum for the last.
+-- `earlier` solves all but the last, and `discrepancy` is its sum for the last.
 pub record IsSearch (i : ℕ) (s : List ℕ) (search : Search) : Type 0 where
   pub best : IsBest i s search.best
   pub bytes : All IsByte (all_of search.earlier)
-  pub some : 1 ≤ search.miss
+  pub some : 1 ≤ search.discrepancy
   pub room : search.best.degree + search.earlier.degree ≤ i
-  pub before : (j : ℕ) → j + 1 < search.best.degree → miss_of search.earlier (drop j s) ≡ 0
-  pub last : (j : ℕ) → j + 1 ≡ search.best.degree → miss_of search.earlier (drop j s) ≡ search.miss
+  pub before : (j : ℕ) → j + 1 < search.best.degree → discrepancy_of search.earlier (drop j s) ≡ 0
+  pub last : (j : ℕ) → j + 1 ≡ search.best.degree → discrepancy_of search.earlier (drop j s) ≡ search.discrepancy
 
 -- The first syndromes of a block with the remainder `r`, of which the search took in `taken`, at most 2`t`; `best` has at
 -- most the degree `t`.

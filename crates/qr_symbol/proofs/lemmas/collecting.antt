@@ -1,6 +1,4 @@
 -- The bits of a strip, row by row, are those of the strip's places in the encoding region, in their order.
 pub mod CollectingLemmas
--- Further bits after the bits of a number, and the codewords that they fill.
-pub mod JoinLemmas
 -- Rows of a strip of which all modules are in the encoding region, read at once.
 pub mod RunLemmas

@@ -1,4 +1,4 @@
--- The positions of all codewords, in their order, and where blocks begin.
+-- The positions of all codewords, in their order, where blocks begin, and the codewords of one block.
 pub mod PositionLemmas
 -- The number of positions before a position, and that block sizes have only one order of positions.
 pub mod RankLemmas

@@ -1,5 +1,3 @@
--- Bits of codewords, and of words that hold several codewords.
-pub mod BitLemmas
 -- The places of the encoding region among all places of a walk.
 pub mod KeptPlaceLemmas
 -- Drawing along the walk: every place that the walk has passed, or never reaches, has its final colour.
@@ -10,7 +8,7 @@ pub mod WalkLemmas
 pub mod ColumnLemmas
 -- Drawing in the transposed square, where the two columns of a strip are rows.
 pub mod AcrossLemmas
--- Bits that are exchanged, reversed and divided between the two columns of a strip.
-pub mod SplitLemmas
 -- The region made light, and rows of a strip that are drawn at once.
 pub mod LightLemmas
+-- Spans of a strip that are drawn one after the other.
+pub mod SpanDrawnLemmas

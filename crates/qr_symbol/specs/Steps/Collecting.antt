@@ -1,13 +1,12 @@
 -- Which bits are read from the columns `x` of a strip; exactly the bits of the region are set in the columns `region`.
-use Rattle.std.specs.Prelude.{◌≡◌, ◌<◌, ◌≤◌, ℕ, ◌+◌, Bool, true, if◌then◌else◌, Option, List, [], ◌∷◌, ◌++◌}
-use Rattle.std.specs.Option.{IfSome}
+use Rattle.std.specs.Prelude.{ℕ, ◌+◌, Bool, if◌then◌else◌, List, [], ◌∷◌, ◌++◌}
 use Prim.Native.Nat.{zero, suc}
 use Rattle.qr_layout.specs.declared.region.Module.{Module}
 use Rattle.qr_layout.specs.declared.strips.Strip.{Strip}
 use Rattle.qr_matrix.specs.BitRow.{has}
 use Rattle.qr_matrix.specs.Grid.{Grid, colour}
-use Rattle.qr_symbol.specs.declared.placement.Columns.{Columns}
-use Rattle.qr_symbol.specs.Steps.Placement.{row_of}
+use Rattle.qr_symbol.specs.declared.spans.Columns.{Columns}
+use Rattle.qr_symbol.specs.Steps.Spans.{row_of}
 
 -- The bit of a module, if the module is in the region.
 abbrev pub bit_if : Bool → Bool → List Bool
@@ -23,23 +22,6 @@ abbrev pub bits_in_rows : ℕ → Strip → Columns → Columns → ℕ → ℕ 
 bits_in_rows s strip region x k zero = []
 bits_in_rows s strip region x k (suc n) = bits_in_row region x (row_of s strip k) ++ bits_in_rows s strip region x (k + 1) n
 
--- All modules of the `n` rows of the strip from row `k` on are in the region.
-abbrev pub AreWholeRows : ℕ → Strip → ℕ → ℕ → Columns → Type 0
-AreWholeRows s strip k n region = (j : ℕ) → k ≤ j → j < k + n
-    → (has region.right (row_of s strip j) ≡ true) × (has region.left (row_of s strip j) ≡ true)
-
 -- The colour of module `m` of the symbol, where `g` is its transposed square.
 abbrev pub colour_across : Grid → Module → Bool
 colour_across g m = colour g m.col m.row
-
--- The bits of a collector, unless an allocation was refused.
-abbrev pub Bits : Type 0
-Bits = Option (List Bool)
-
--- A collector has exactly the bits `xs`, if no allocation was refused.
-abbrev pub HasCollected : List Bool → Bits → Type 0
-HasCollected xs b = IfSome b (λ ys. ys ≡ xs)
-
--- The bits `more` come after those that the collector had.
-abbrev pub Appends : List Bool → Bits → Bits → Type 0
-Appends more before after = (xs : List Bool) → HasCollected xs before → HasCollected (xs ++ more) after

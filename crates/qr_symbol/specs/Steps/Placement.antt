@@ -4,7 +4,7 @@
 -- `x`, `y`, `region`, `before` and `after`, where they are columns, are the two columns of a strip, as rows of a
 -- transposed square. Exactly the bits of the region are set in `region`. `s` is the side, and the rows of a strip are
 -- counted in the direction in which it is filled.
-use Rattle.std.specs.Prelude.{◌≡◌, ◌<◌, ◌≤◌, ℕ, ◌+◌, ◌-◌, ◌&&◌, ◌||◌, Bool, false, true, not, nat_le, if◌then◌else◌, List}
+use Rattle.std.specs.Prelude.{◌≡◌, ◌<◌, ◌≤◌, ℕ, ◌+◌, ◌-◌, ◌&&◌, Bool, false, true, if◌then◌else◌, List}
 use Prim.Native.Nat.{zero, suc}
 use Rattle.qr_layout.specs.declared.level.Level.{Level}
 use Rattle.qr_layout.specs.declared.strips.Strip.{Strip}
@@ -14,11 +14,10 @@ use Rattle.qr_layout.specs.Order.{number_of}
 use Rattle.qr_layout.specs.Region.{is_in_region}
 use Rattle.qr_layout.specs.Role.{role_of}
 use Rattle.qr_bits.specs.Bits.{codeword_bit}
-use Rattle.qr_matrix.specs.Grid.{is_same, Grid, square, colour, IsSquare}
-use Rattle.qr_matrix.specs.{BitRow.{has, has_bit}, Sums.all_below}
-use Rattle.qr_symbol.specs.declared.placement.{Columns.Columns, RegionRows.RegionRows}
+use Rattle.qr_matrix.specs.{BitRow.has, Grid.{Grid, square, colour, IsSquare}}
+use Rattle.qr_symbol.specs.declared.spans.Columns.{Columns}
 use Rattle.qr_symbol.specs.Mask.{inverts, inverted}
-use Rattle.qr_symbol.specs.Steps.Patterns.{format_or, paint_of, symmetric_format}
+use Rattle.qr_symbol.specs.Steps.{Patterns.{format_or, paint_of, symmetric_format}, Spans.row_of}
 use Rattle.qr_matrix.specs.Penalty.{penalty_of}
 
 -- In the region the colour of the module's bit, elsewhere `other r c`.
@@ -35,43 +34,11 @@ walked_colour v cw mask other r c =
 abbrev pub number_after : Bool → ℕ → ℕ
 number_after is_in number = if is_in then number + 1 else number
 
--- The row of the symbol that has the index `rank` in the strip.
-abbrev pub row_of : ℕ → Strip → ℕ → ℕ
-row_of s x rank = if x.upward then s - 1 - rank else rank
-
 -- The number of the next bit after the first `k` rows of the strip, whose first bit has the number `first`.
 abbrev pub number_at : ℕ → Strip → ℕ → ℕ → ℕ
 number_at v x first zero = first
 number_at v x first (suc k) =
     number_after (is_in_region v (row_of (side_of v) x k) (x.right - 1)) (number_after (is_in_region v (row_of (side_of v) x k) x.right) (number_at v x first k))
-
--- `bits` has the 64 bits from `number` on, the first as the highest.
-abbrev pub AreNext : List ℕ → ℕ → ℕ → Type 0
-AreNext cw number bits = (k : ℕ) → k < 64 → has_bit bits (63 - k) ≡ codeword_bit cw (number + k)
-
--- The place with which bit `i` is exchanged, if each bit that is set in `mask` is exchanged with the one `steps` above.
-abbrev pub partner : ℕ → ℕ → ℕ → ℕ
-partner steps mask i = if has_bit mask i then i + steps else if nat_le steps i && has_bit mask (i - steps) then i - steps else i
-
--- No bit of the mask has another one `steps` above it.
-unfoldable pub are_pairs : ℕ → ℕ → Bool
-are_pairs steps mask = all_below 64 (λ i. not (has_bit mask i && has_bit mask (i + steps)))
-
--- Each bit of a word is in the mask, or is `steps` above one that is, and none is both.
-unfoldable pub are_halves : ℕ → ℕ → Bool
-are_halves steps mask = all_below 64 (λ i. not (is_same (has_bit mask i) (nat_le steps i && has_bit mask (i - steps))))
-
--- The rank, within `n` rows of a strip, of row `j` counted from the top.
-abbrev pub rank_in : ℕ → Bool → ℕ → ℕ
-rank_in n upward j = if upward then n - 1 - j else j
-
--- The topmost of the `n` rows of the strip from row `k` on.
-abbrev pub top_row : ℕ → Strip → ℕ → ℕ → ℕ
-top_row s x k n = if x.upward then s - n - k else k
-
--- No bit outside the square is set.
-abbrev pub AreWithin : ℕ → Columns → Type 0
-AreWithin s x = (row : ℕ) → s ≤ row → (has x.right row ≡ false) × (has x.left row ≡ false)
 
 -- From row `k` of the strip on, the region is light in the columns `y`.
 abbrev pub AreLight : ℕ → Strip → ℕ → Columns → Columns → Type 0
@@ -86,11 +53,6 @@ AreLightRows s x k n y = (j : ℕ) → k ≤ j → j < k + n → (has y.right (r
 abbrev pub AreWhole : ℕ → Strip → ℕ → ℕ → Type 0
 AreWhole v x k n = (j : ℕ) → k ≤ j → j < k + n
     → (is_in_region v (row_of (side_of v) x j) x.right ≡ true) × (is_in_region v (row_of (side_of v) x j) (x.right - 1) ≡ true)
-
--- The rows that are set in both columns of the region, and those that are set in neither.
-abbrev pub AreRegionRows : Columns → RegionRows → Type 0
-AreRegionRows region rows = ((row : ℕ) → has rows.both row ≡ (has region.right row && has region.left row))
-    × ((row : ℕ) → row < 192 → has rows.neither row ≡ not (has region.right row || has region.left row))
 
 -- In the strip with the right column `right`, exactly the bits of the region are set in `x`.
 abbrev pub IsRegion : ℕ → ℕ → Columns → Type 0

@@ -1,10 +1,9 @@
 use Rattle.std.proofs.{Common.◌≡◌, Common.◌+◌, Common.◌<◌, Common.◌≤◌, Common.ℕ, Common.min, Common.refl, Common.ap, Common.◌∙◌, Common.arith, Math.Nat.div-lt_iff_lt-mul, Math.Nat.min-eq_left, lemmas.Nat.pow_pos}
-use Rattle.qr_bits.specs.{declared.{modes.Mode.Mode, run_state.RunState.RunState}, Steps.BestModes.{in_state, bits_at}}
-use Rattle.qr_bits.specs.declared.interpretation.Interpretation.TheVariants.{Default}
-use Rattle.qr_bits.specs.declared.modes.Mode.TheVariants.{Numeric, Alphanumeric, Byte, Kanji}
+use Rattle.qr_bits.specs.{declared.{modes.Mode.Mode, run_state.RunState.RunState}, Steps.BestModes.{in_state, bits_at, character_choice}}
+use Rattle.qr_bits.specs.declared.modes.Mode.TheVariants.{Numeric, Byte, Kanji}
 use Rattle.qr_bits.specs.declared.run_state.RunState.TheVariants.{Start, Digit1, Digit2, Digit3, Character1, Character2, InBytes, HalfPair, WholePair}
 use Rattle.qr_bits.specs.Steps.RunState.{state_after, byte_cost, may_begin, may_end, choice_number}
-use Rattle.qr_bits.proofs.lemmas.best_modes.ChoiceLemmas.{byte_used, half_choice, least_choice, number_less}
+use Rattle.qr_bits.proofs.lemmas.best_modes.ChoiceLemmas.{byte_used, character_less, half_choice, number_less, row_choice}
 use Rattle.qr_bits.proofs.best_modes.choices.Goals as goal
 
 under : (a b n : ℕ) → a ≤ b → min a (min b n) ≡ min a n
@@ -26,38 +25,36 @@ minima n a b k d c2 c1 b1 k1 h i j l = (
 
 pub returns : goal.returns
 unfolding may_begin may_end byte_cost state_after in_state
-returns c = λ r x digit character.
+returns c = λ i r x digit characters.
     let h = c.args.first_choices.now in
     let v = h.version in
     let t = c.args.pair in
     let rest = c.args.rest.now in
     let of : RunState → Mode → ℕ = λ q k. choice_number (may_begin r x t k) (byte_cost v q k + bits_at rest (state_after q k)) k in
+    let written : RunState → ℕ = character_choice i v r x t rest in
     let s : bits_at rest InBytes < 10000000 = (div-lt_iff_lt-mul {k = 4} {x = rest.in_bytes} {y = 10000000} (pow_pos 2)).1 c.requires.6 in
     let n = rw digit at (c.choice_if-digits.ensures _ Numeric h.numeric_is) in
-    let a = rw character at (c.choice_if-characters.ensures _ Alphanumeric h.alphanumeric_is) in
     let b : c.choice_if-bytes.result ≡ of Start Byte = rw (byte_used r) (c.choice_if-bytes.ensures _ Byte h.byte_is) in
     let k = c.choice_if-pairs.ensures _ Kanji h.kanji_is in
     let d2 = rw digit at c.next_if-digit2.ensures in
     let d3 = rw digit at c.next_if-digit3.ensures in
     let d1 = rw digit at c.next_if-digit1.ensures in
-    let c2 = rw character at c.next_if-character2.ensures in
-    let c1 = rw character at c.next_if-character1.ensures in
     let b1 : c.next_if-in_bytes.result ≡ of InBytes Byte = rw (byte_used r) c.next_if-in_bytes.ensures in
     let k1 = c.next_if-half_pair.ensures in
     let bk = rw (b, k) at c.min-others.ensures in
-    let ab = rw (a, bk) at c.min-no_digits.ensures in
+    let ab = rw (characters.0, bk) at c.min-no_digits.ensures in
     let nbk = rw (n, bk) at c.min-no_characters.ensures in
     let start = rw (n, ab) at c.min-start.ensures in
-    let m = minima (of Start Numeric) (of Start Alphanumeric) (of Start Byte) (of Start Kanji) (of Digit3 Numeric) (of Character1 Alphanumeric) (of Character2 Alphanumeric) (of InBytes Byte) (of WholePair Kanji)
-    (number_less _ Numeric 4 _ _) (number_less _ Alphanumeric 6 _ _) (number_less _ Byte 8 _ _) (number_less _ Kanji 13 _ _) in
+    let m = minima (of Start Numeric) (written Start) (of Start Byte) (of Start Kanji) (of Digit3 Numeric) (written Character1) (written Character2) (of InBytes Byte) (of WholePair Kanji)
+    (number_less _ Numeric 4 _ _) (character_less i v r x t rest) (number_less _ Byte 8 _ _) (number_less _ Kanji 13 _ _) in
     elim [
-      | Start ↦ least_choice Default v r Start x t _ _ _ (c.row_for.ensures Start) refl s start
-      | Digit1 ↦ least_choice Default v r Digit1 x t _ _ _ (c.row_for.ensures Digit1) refl s (rw (d2, ab) at c.min.ensures)
-      | Digit2 ↦ least_choice Default v r Digit2 x t _ _ _ (c.row_for.ensures Digit2) refl s (rw (d3, ab) at c.min-2.ensures)
-      | Digit3 ↦ least_choice Default v r Digit3 x t _ _ _ (c.row_for.ensures Digit3) refl s ((rw (d1, start) at c.min-3.ensures) ∙ m.0)
-      | Character1 ↦ least_choice Default v r Character1 x t _ _ _ (c.row_for.ensures Character1) refl s ((rw (c2, nbk) at c.min-4.ensures) ∙ m.1)
-      | Character2 ↦ least_choice Default v r Character2 x t _ _ _ (c.row_for.ensures Character2) refl s ((rw (c1, start) at c.min-5.ensures) ∙ m.2)
-      | InBytes ↦ least_choice Default v r InBytes x t _ _ _ (c.row_for.ensures InBytes) refl s ((rw (b1, start) at c.min-6.ensures) ∙ m.3)
-      | HalfPair ↦ half_choice Default v r x t _ _ _ (c.row_for.ensures HalfPair) c.next_if-whole_pair.ensures
-      | WholePair ↦ least_choice Default v r WholePair x t _ _ _ (c.row_for.ensures WholePair) refl s ((rw (k1, start) at c.min-7.ensures) ∙ m.4)
+      | Start ↦ row_choice i v r Start x t rest _ _ (c.row_for.ensures Start) refl s start
+      | Digit1 ↦ row_choice i v r Digit1 x t rest _ _ (c.row_for.ensures Digit1) refl s (rw (d2, ab) at c.min.ensures)
+      | Digit2 ↦ row_choice i v r Digit2 x t rest _ _ (c.row_for.ensures Digit2) refl s (rw (d3, ab) at c.min-2.ensures)
+      | Digit3 ↦ row_choice i v r Digit3 x t rest _ _ (c.row_for.ensures Digit3) refl s ((rw (d1, start) at c.min-3.ensures) ∙ m.0)
+      | Character1 ↦ row_choice i v r Character1 x t rest _ _ (c.row_for.ensures Character1) refl s ((rw (characters.1, nbk) at c.min-4.ensures) ∙ m.1)
+      | Character2 ↦ row_choice i v r Character2 x t rest _ _ (c.row_for.ensures Character2) refl s ((rw (characters.2, start) at c.min-5.ensures) ∙ m.2)
+      | InBytes ↦ row_choice i v r InBytes x t rest _ _ (c.row_for.ensures InBytes) refl s ((rw (b1, start) at c.min-6.ensures) ∙ m.3)
+      | HalfPair ↦ half_choice i v r x t _ _ _ (c.row_for.ensures HalfPair) c.next_if-whole_pair.ensures
+      | WholePair ↦ row_choice i v r WholePair x t rest _ _ (c.row_for.ensures WholePair) refl s ((rw (k1, start) at c.min-7.ensures) ∙ m.4)
     ]

@@ -1,4 +1,4 @@
-use Rattle.std.proofs.Common.{◌≡◌, ℕ, ◌<◌, true, List, [], ◌∷◌, length, refl, sym, ◌∙◌, arith}
+use Rattle.std.proofs.Common.{◌≡◌, ℕ, ◌<◌, Bool, true, false, ◌&&◌, List, [], ◌∷◌, length, refl, ◌∙◌, arith}
 use Rattle.qr_bits.specs.Interpretation.{are_fields}
 use Rattle.qr_bits.proofs.interpretation.are_fields.Goals as goal
 
@@ -8,5 +8,9 @@ short_fields [] h = refl
 short_fields (x ∷ []) h = refl
 short_fields (x ∷ y ∷ xs) h = absurd (omega arith)
 
+alone : (b : Bool) → b ≡ (b && true)
+alone true = refl
+alone false = refl
+
 pub returns : goal.returns
-returns c = sym (short_fields c.loop-rest.rest.now c.in_default.len_below) ∙ c.loop-rest.invariant
+returns c = alone c.loop-rest.fields ∙ rw (short_fields c.loop-rest.rest.now c.in_default.len_below) at c.loop-rest.invariant

@@ -1,12 +1,14 @@
 -- The best mode for a byte is the one whose number is the least.
-use Rattle.std.proofs.Common.{◌≡◌, ℕ, ◌+◌, ◌*◌, ◌/◌, ◌%◌, ◌<◌, ◌≤◌, Bool, true, min, refl, sym, ◌∙◌, ⊎_elim, arith}
-use Rattle.std.proofs.lemmas.Bool.{cases_lt, cond_both}
-use Rattle.qr_bits.specs.declared.interpretation.Interpretation.{Interpretation}
+use Rattle.std.proofs.Common.{◌≡◌, ℕ, ◌+◌, ◌*◌, ◌/◌, ◌%◌, ◌<◌, ◌≤◌, Bool, true, false, cond, min, refl, sym, ◌∙◌, ⊎_elim, arith}
+use Rattle.std.proofs.lemmas.Bool.{cases_Bool, cases_lt, cond_both, ne_eqb}
+use Rattle.qr_bits.specs.declared.interpretation.Interpretation.{Interpretation, TheVariants.{Default, Gs1, Eci}}
 use Rattle.qr_bits.specs.Interpretation.{character_for, is_doubled}
 use Rattle.qr_bits.proofs.lemmas.interpretation.WrittenLemmas.{doubled-rank, single-byte}
 use Rattle.qr_bits.specs.{declared.modes.Mode.Mode, declared.modes.Rule.Rule, Segmentation.rank, Modes.may_use}
 use Rattle.qr_bits.specs.declared.modes.Mode.TheVariants.{Numeric, Alphanumeric, Byte, Kanji}
-use Rattle.qr_bits.specs.declared.run_state.RunState.{RunState, TheVariants.InBytes, TheVariants.HalfPair}
+use Rattle.qr_bits.specs.declared.run_state.{PerState.PerState, RunState.{RunState, TheVariants.{Start, Character2, InBytes, HalfPair}}}
+use Rattle.qr_bits.specs.Steps.BestModes.{bits_at, character_choice}
+use Rattle.qr_bits.proofs.lemmas.modes.CharacterLemmas.{digit_character}
 use Rattle.qr_bits.specs.Steps.RunState.{state_after, state_in, state_on, byte_cost, cost_in, may_take_in, may_begin, may_take, may_end, choice_number, ranked, IsChoice}
 
 -- the least of the numbers of the four modes
@@ -96,9 +98,41 @@ least_choice i v r p x q cost c n chosen e small is =
     let bits : c / 4 ≡ t m = omega (arith, taken.2, rank_below m) in
     rw (chosen, ranked-number c (t m) m taken.2) (search (arith, rank_below))
 
+-- As `least_choice`. What is written for the byte makes a difference in alphanumeric mode alone.
+pub row_choice : (i : Interpretation) (v : ℕ) (r : Rule) (p : RunState) (x : ℕ) (q : Bool) (rest : PerState) (c : ℕ) (n : Mode) → n ≡ ranked (c % 4) → may_end p ≡ true → bits_at rest InBytes < 10000000
+    → c ≡ min (choice_number (may_begin r x q Numeric) (byte_cost v p Numeric + bits_at rest (state_after p Numeric)) Numeric)
+    (min (character_choice i v r x q rest p)
+    (min (choice_number (may_begin r x q Byte) (byte_cost v p Byte + bits_at rest (state_after p Byte)) Byte) (choice_number (may_begin r x q Kanji) (byte_cost v p Kanji + bits_at rest (state_after p Kanji)) Kanji)))
+    → IsChoice i v r p x q (bits_at rest) n (c / 4)
+row_choice Default v r p x q rest c n chosen e small is = least_choice Default v r p x q (bits_at rest) c n chosen e small is
+row_choice (Eci k) v r p x q rest c n chosen e small is = least_choice (Eci k) v r p x q (bits_at rest) c n chosen e small is
+row_choice Gs1 v r p x q rest c n chosen e small is = least_choice Gs1 v r p x q (bits_at rest) c n chosen e small is
+
 -- without the bits of a segment's indicators the number is no larger
 pub number_less : (may : Bool) (m : Mode) (k w n : ℕ) → choice_number may (k + n) m ≤ choice_number may (4 + w + k + n) m
 number_less may m k w n = grind arith
+
+number_less-two : (may : Bool) (w n : ℕ) → choice_number may (6 + 5 + n) Alphanumeric ≤ choice_number may (4 + w + 6 + 5 + n) Alphanumeric
+number_less-two may w n = grind arith
+
+-- after a whole pair alphanumeric mode takes no more bits than at the start
+pub character_less : (i : Interpretation) (v : ℕ) (r : Rule) (x : ℕ) (q : Bool) (rest : PerState) → character_choice i v r x q rest Character2 ≤ character_choice i v r x q rest Start
+unfolding byte_cost state_after
+character_less i v r x q rest = ⊎_elim
+    (λ (e : is_doubled i x Alphanumeric ≡ true). rw e (number_less-two _ _ _))
+    (λ (e : is_doubled i x Alphanumeric ≡ false). rw e (number_less _ Alphanumeric 6 _ _))
+    (cases_Bool (is_doubled i x Alphanumeric))
+
+no_escape : (r : Rule) (x : ℕ) (q : Bool) → may_begin r x q Numeric ≡ true → (is_doubled Gs1 x Alphanumeric ≡ false) × (character_for Gs1 x Alphanumeric ≡ x)
+unfolding may_begin
+no_escape r x q h = grind (arith, ne_eqb)
+
+-- a digit is one character, and may be written in alphanumeric mode
+pub digit_written : (i : Interpretation) (r : Rule) (x : ℕ) (q : Bool) → may_begin r x q Numeric ≡ true
+    → (is_doubled i x Alphanumeric ≡ false) × (may_begin r (character_for i x Alphanumeric) q Alphanumeric ≡ true)
+digit_written Default r x q h = (refl, digit_character r x q h)
+digit_written (Eci k) r x q h = (refl, digit_character r x q h)
+digit_written Gs1 r x q h = let own = no_escape r x q h in (own.0, rw own.1 (digit_character r x q h))
 
 -- a byte in kanji mode begins a pair if no half pair is open
 pub state_after-whole : (p : RunState) → may_end p ≡ true → state_after p Kanji ≡ HalfPair
@@ -109,3 +143,12 @@ state_after-whole p e = grind arith
 pub on_after : (p : RunState) (m : Mode) → state_on (state_after p m) ≡ state_after (state_after p m) m
 unfolding state_on state_after
 on_after p m = grind arith
+
+-- as `on_after`, after the characters of a byte
+pub on_in : (i : Interpretation) (p : RunState) (x : ℕ) (m : Mode) → state_on (state_in i p x m) ≡ state_after (state_in i p x m) m
+on_in i p x m =
+    cond_both (is_doubled i x m) _ _ (λ (q : RunState). state_on q ≡ state_after q m) (λ _. on_after (state_after p m) m) (λ _. on_after p m)
+
+-- after the first character of a byte the other one, if there is one, goes on in its mode
+pub on_past : (i : Interpretation) (p q : RunState) (x : ℕ) (m : Mode) → q ≡ state_after p m → cond (is_doubled i x m) (state_on q) q ≡ state_in i p x m
+on_past i p q x m h = rw (h, on_after p m) refl

@@ -1,5 +1,5 @@
 -- A table of best modes, filled from the last byte to the first.
-use Rattle.std.proofs.Common.{◌≡◌, ℕ, ◌+◌, ◌*◌, ◌/◌, ◌%◌, ◌^◌, ◌≤◌, Bool, true, List, [], ◌∷◌, ◌++◌, length, replicate, reverse, append_assoc, IsTrue, refl, sym, ap, ◌∙◌, ◌<◌, false, arith, lit<}
+use Rattle.std.proofs.Common.{◌≡◌, ℕ, ◌+◌, ◌*◌, ◌/◌, ◌%◌, ◌^◌, ◌≤◌, Bool, true, List, [], ◌∷◌, ◌++◌, length, replicate, reverse, append_assoc, IsTrue, refl, ap, ◌<◌, false, arith, lit<}
 use Rattle.std.proofs.lemmas.{Bool.false≢true, Bool.and_from, Bool.cond_both, List.reverse-append}
 use Rattle.qr_bits.specs.declared.{modes.Mode.Mode, modes.Rule.Rule, run_state.RunState.RunState}
 use Rattle.qr_bits.specs.declared.modes.Mode.TheVariants.{Byte, Kanji}
@@ -8,7 +8,7 @@ use Rattle.qr_bits.specs.Interpretation.{is_doubled}
 use Rattle.qr_bits.specs.Segmentation.{rank}
 use Rattle.qr_bits.specs.declared.run_state.RunState.TheVariants.{Start, Digit1, Digit2, Digit3, Character1, Character2, InBytes, HalfPair, WholePair}
 use Rattle.qr_bits.specs.declared.run_state.PerState.{PerState}
-use Rattle.qr_bits.specs.Steps.RunState.{is_gs1, state_after, state_in, byte_cost, cost_in, may_take_in, begins_with_pair, may_begin, may_take, may_end, allowed_in, cost_of, cost_of_all, ranked}
+use Rattle.qr_bits.specs.Steps.RunState.{is_gs1, state_after, state_in, may_take_in, begins_with_pair, may_begin, may_take, may_end, allowed_in, cost_of, cost_of_all, ranked}
 use Rattle.qr_bits.specs.Steps.BestModes.{in_state, bits_at, shift_of, mode_at, follow, follow_in, IsRow, IsSmall}
 use Rattle.qr_bits.proofs.lemmas.run_state.{BestLemmas.BestBelow, BestLemmas.best_step}
 use Rattle.qr_bits.proofs.lemmas.interpretation.WrittenLemmas.{single-byte}
@@ -60,20 +60,6 @@ pub small_more : (i : Interpretation) (v : ℕ) (r : Rule) (x : ℕ) (pair : Boo
 small_more i v r x pair row rest numbers n small choice p =
     let c = choice p in
     omega (arith, c.has_bits, cost_in_bound i v p x (mode_at row p), small (state_in i p x (mode_at row p)))
-
--- the choices of a byte that is one character are those of that character
-pub row_single : (i : Interpretation) (v : ℕ) (r : Rule) (x c : ℕ) (pair : Bool) (rest : PerState) (row : ℕ) (numbers : PerState) → ((m : Mode) → is_doubled i x m ≡ false)
-    → ((p : RunState) (m : Mode) → may_take_in i r p x pair m ≡ may_take r p c pair m) → IsRow Default v r c pair rest row numbers → IsRow i v r x pair rest row numbers
-row_single i v r x c pair rest row numbers one same choice p =
-    let h = choice p in
-    let cost : (m : Mode) → cost_in i v p x m ≡ byte_cost v p m = λ m. rw (one m) refl in
-    let after : (m : Mode) → state_in i p x m ≡ state_after p m = λ m. rw (one m) refl in
-    record {
-      is_allowed = same p (mode_at row p) ∙ h.is_allowed;
-      has_bits = rw (cost (mode_at row p), after (mode_at row p)) h.has_bits;
-      least = λ k a. rw (cost k, after k) (h.least k (sym (same p k) ∙ a));
-      first = λ k a e. h.first k (sym (same p k) ∙ a) (rw (cost k, after k) at e);
-    }
 
 -- numbers of at most 33 bits for each byte are small
 pub small_row : (rest : PerState) (n : ℕ) → n ≤ 113425 → ((p : RunState) → bits_at rest p ≤ 33 * n) → IsSmall rest

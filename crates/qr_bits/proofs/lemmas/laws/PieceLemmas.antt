@@ -5,7 +5,7 @@ use Rattle.qr_bits.specs.{declared.modes.Mode.Mode, Modes.may_use, Modes.is_kanj
 use Rattle.qr_bits.specs.declared.{modes.Mode.TheVariants.Kanji, modes.Rule.Rule, run_state.RunState.RunState}
 use Rattle.qr_bits.specs.declared.run_state.RunState.TheVariants.{Start, Digit1, Digit2, Digit3, Character1, Character2}
 use Rattle.qr_bits.specs.declared.interpretation.Interpretation.{Interpretation}
-use Rattle.qr_bits.specs.Interpretation.{character_for, characters_in, doubled, is_doubled, MayWrite}
+use Rattle.qr_bits.specs.Interpretation.{character_for, characters_in, doubled, is_doubled}
 use Rattle.qr_bits.specs.Segmentation.{rank, HasFit}
 use Rattle.qr_bits.specs.Steps.RunState.{state_after, state_in, byte_cost, begins_with_pair, may_take_in, may_end, allowed_in, cost_of, cost_of_all}
 use Rattle.qr_bits.proofs.lemmas.interpretation.WrittenLemmas.{doubled-step}
@@ -92,9 +92,9 @@ back i v r (x ∷ xs) ys (m ∷ ms) n u h =
     (rest.0, rest.1, rest.2, omega (arith, rest.3, without_byte i v x (xs ++ ys) m ms low))
 
 -- If an input fits, each piece of it fits.
-pub piece_fits : (i : Interpretation) (v : ℕ) (r : Rule) (xs ys zs : List ℕ) (n : ℕ) → MayWrite i (xs ++ (ys ++ zs)) → may_use r Kanji ≡ false → HasFit i v r (xs ++ (ys ++ zs)) n → HasFit i v r ys n
+pub piece_fits : (i : Interpretation) (v : ℕ) (r : Rule) (xs ys zs : List ℕ) (n : ℕ) → may_use r Kanji ≡ false → HasFit i v r (xs ++ (ys ++ zs)) n → HasFit i v r ys n
 unfolding may_end
-piece_fits i v r xs ys zs n w none fit =
+piece_fits i v r xs ys zs n none fit =
     let b = back i v r xs (ys ++ zs) fit.0 none fit.1.0 (assigned_allowed i r (xs ++ (ys ++ zs)) fit.0 fit.1) in
     let f = front i v r Start ys zs b.0 none b.1 refl b.2 in
     (f.0, allowed_assigned i r ys f.0 f.1, omega (arith, bits-assigned i v ys f.0, f.2, b.3, bits-assigned i v (xs ++ (ys ++ zs)) fit.0, fit.2))

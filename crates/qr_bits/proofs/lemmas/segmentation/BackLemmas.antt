@@ -1,8 +1,5 @@
 -- Segments that grow at their end.
-use Rattle.qr_bits.specs.{declared.interpretation.Interpretation.Interpretation, Interpretation.{doubled, is_doubled}}
-use Rattle.qr_bits.proofs.lemmas.interpretation.WrittenLemmas.{doubled-append, doubled-one}
-use Rattle.std.proofs.lemmas.Bool.{cases_Bool}
-use Rattle.std.proofs.Common.{◌≡◌, ℕ, zero, suc, ◌+◌, true, cond, ⊎_elim, ◌==◌, false, ◌⊎◌, List, [], ◌∷◌, ◌++◌, ◌≤◌, length, replicate, reverse, refl, sym, ap, ◌∙◌, append_assoc, arith, rules}
+use Rattle.std.proofs.Common.{◌≡◌, ℕ, zero, suc, ◌+◌, true, ◌==◌, false, ◌⊎◌, List, [], ◌∷◌, ◌++◌, ◌≤◌, length, replicate, reverse, refl, sym, ap, ◌∙◌, append_assoc, arith, rules}
 use Rattle.std.proofs.lemmas.{Bool.Decides.nat_tests, List.Sums.sum_by-cons, Bool.and_from, Bool.cond_both, Bool.ne_eqb, Bool.false≢true}
 use Rattle.{qr_bits.specs.{declared.modes.Mode.Mode, contracts.modes.Mode.the_type}, std.specs.List.{list_all, sum_by}}
 use Rattle.qr_bits.specs.{declared.modes.Rule.Rule, declared.segment.Segment.Segment, Modes.may_use}
@@ -93,38 +90,3 @@ runs_of-replicate m (suc (suc n)) = search (arith, nat_tests, runs_of-replicate 
 pub all_used : (r : Rule) (m : Mode) (n : ℕ) → may_use r m ≡ true → list_all (may_use r) (replicate n m) ≡ true
 all_used r m zero u = refl
 all_used r m (suc n) u = search (arith, and_from, all_used r m n u)
-
--- one more byte after a last segment of its mode, or of another
-pub append-same : (ss : List Segment) (s : Segment) (m : Mode) → s.mode ≡ m → append_mode (ss ++ s ∷ []) m ≡ ss ++ record { mode = m; len = s.len + 1 } ∷ []
-unfolding append_mode
-append-same ss s m e = rw (append_mode-last ss s m) (grind (arith, nat_tests))
-
-pub append-other : (ss : List Segment) (s : Segment) (m : Mode) → (s.mode ≡ m → ⊥) → append_mode (ss ++ s ∷ []) m ≡ (ss ++ s ∷ []) ++ record { mode = m; len = 1 } ∷ []
-unfolding append_mode
-append-other ss s m e = rw (append_mode-last ss s m) (grind (arith, ne_eqb, same_rank, append_assoc))
-
--- no segment is longer than all together
-pub last_len : (ss : List Segment) (s : Segment) → s.len ≤ sum_by (λ t. t.len) (ss ++ s ∷ [])
-last_len [] s = omega (arith, sum_by-cons (λ (t : Segment). t.len) s [])
-last_len (t ∷ ss) s = omega (arith, last_len ss s, sum_by-cons (λ (t : Segment). t.len) t (ss ++ s ∷ []))
-
--- a byte more is a byte more in all segments together
-pub sum_by-append_mode : (ss : List Segment) (m : Mode) → sum_by (λ s. s.len) (append_mode ss m) ≡ sum_by (λ s. s.len) ss + 1
-unfolding append_mode
-sum_by-append_mode [] m = refl
-sum_by-append_mode (s ∷ []) m =
-    cond_both (rank s.mode == rank m) _ _ (λ (r : List Segment). sum_by (λ t. t.len) r ≡ sum_by (λ t. t.len) (s ∷ []) + 1)
-    (λ _. omega (arith, sum_by-cons)) (λ _. omega (arith, sum_by-cons))
-sum_by-append_mode (s ∷ t ∷ ss) m =
-    omega (arith, sum_by-append_mode (t ∷ ss) m, sum_by-cons (λ (u : Segment). u.len) s (append_mode (t ∷ ss) m), sum_by-cons (λ (u : Segment). u.len) s (t ∷ ss))
-
--- the segments of the characters of one more byte
-pub runs-put : (i : Interpretation) (xs : List ℕ) (ms : List Mode) (x : ℕ) (m : Mode) → length xs ≡ length ms
-    → runs_of (doubled i (xs ++ x ∷ []) (ms ++ m ∷ [])) ≡ cond (is_doubled i x m) (append_mode (append_mode (runs_of (doubled i xs ms)) m) m) (append_mode (runs_of (doubled i xs ms)) m)
-runs-put i xs ms x m h =
-    let ks = doubled i xs ms in
-    rw (doubled-append i xs (x ∷ []) ms (m ∷ []) h, doubled-one i x m)
-    (⊎_elim
-    (λ (e : is_doubled i x m ≡ true). rw (e, ← append_assoc ks (m ∷ []) (m ∷ []), runs_of-push (ks ++ m ∷ []) m, runs_of-push ks m) refl)
-    (λ (e : is_doubled i x m ≡ false). rw (e, runs_of-push ks m) refl)
-    (cases_Bool (is_doubled i x m)))

@@ -1,13 +1,44 @@
--- With an ECI the choice of segments is that without.
-use Rattle.std.proofs.Common.{◌≡◌, ℕ, List, false, sym}
-use Rattle.std.proofs.lemmas.Bool.{false≢true}
-use Rattle.qr_bits.specs.declared.{modes.Rule.Rule, segment.Segment.Segment}
+-- With an ECI the choice of segments is that without, and for GS1 data too if each byte is written as itself.
+use Rattle.std.proofs.Common.{◌≡◌, ℕ, true, false, not, ◌&&◌, List, [], ◌∷◌, refl, arith}
+use Rattle.std.proofs.lemmas.Bool.{and_parts}
+use Rattle.std.specs.List.{list_all}
+use Rattle.qr_bits.specs.declared.{modes.Mode.Mode, modes.Rule.Rule, segment.Segment.Segment}
 use Rattle.qr_bits.specs.declared.interpretation.Interpretation.{Interpretation, TheVariants.{Default, Gs1, Eci}}
+use Rattle.qr_bits.specs.Interpretation.{character_for, characters_gs1, doubled_gs1, is_doubled}
 use Rattle.qr_bits.specs.Segmentation.{IsLeastSegmentation}
-use Rattle.qr_bits.specs.Steps.RunState.{is_gs1}
+use Rattle.qr_bits.specs.Steps.{RunState.is_gs1, Segmentation.is_itself}
 
-pub least_interpreted : (i : Interpretation) (v : ℕ) (r : Rule) (xs : List ℕ) (segs : List Segment) → is_gs1 i ≡ false → IsLeastSegmentation Default v r xs xs segs → IsLeastSegmentation i v r xs xs segs
+-- a byte that is written as itself
+itself : (x : ℕ) (m : Mode) → is_itself x ≡ true → (is_doubled Gs1 x m ≡ false) × (character_for Gs1 x m ≡ x)
+itself x m h = grind arith
+
+-- The characters of bytes that are written as themselves are these bytes, and so are their modes.
+pub themselves : (xs : List ℕ) (ms : List Mode) → list_all is_itself xs ≡ true → (doubled_gs1 xs ms ≡ ms) × (characters_gs1 xs ms ≡ xs)
+unfolding doubled_gs1 characters_gs1
+themselves [] ms h = (refl, refl)
+themselves (x ∷ xs) [] h = (refl, refl)
+themselves (x ∷ xs) (m ∷ ms) h =
+    let parts = and_parts (is_itself x) (list_all is_itself xs) h in
+    let one = itself x m parts.0 in
+    let rest = themselves xs ms parts.1 in
+    (rw (one.0, rest.0) refl, rw (one.0, one.1, rest.1) refl)
+
+all_themselves : (xs : List ℕ) → not (list_all is_itself xs) ≡ false → list_all is_itself xs ≡ true
+all_themselves xs h = grind arith
+
+pub least_interpreted : (i : Interpretation) (v : ℕ) (r : Rule) (xs : List ℕ) (segs : List Segment) → (is_gs1 i && not (list_all is_itself xs)) ≡ false → IsLeastSegmentation Default v r xs xs segs → IsLeastSegmentation i v r xs xs segs
 least_interpreted Default v r xs segs w h = h
 least_interpreted (Eci n) v r xs segs w h =
     (h.0, record { assignment = h.1.assignment; least = h.1.least; first = h.1.first }, h.2, h.3)
-least_interpreted Gs1 v r xs segs w h = absurd (false≢true (sym w))
+least_interpreted Gs1 v r xs segs w h =
+    let all = all_themselves xs w in
+    let own = themselves xs h.0 all in (
+      h.0,
+      record {
+        assignment = rw (own.0, own.1) h.1.assignment;
+        least = λ ks k. let other = themselves xs ks all in rw (own.0, other.0) (h.1.least ks (rw (other.0, other.1) at k));
+        first = λ ks k e. let other = themselves xs ks all in h.1.first ks (rw (other.0, other.1) at k) (rw (own.0, other.0) at e);
+      },
+      rw own.0 h.2,
+      rw own.1 h.3,
+    )

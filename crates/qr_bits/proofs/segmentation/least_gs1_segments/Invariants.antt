@@ -1,15 +1,21 @@
-use Rattle.std.proofs.Common.{◌≡◌, ◌+◌, List, ◌++◌, length, reverse, take, drop, vec_len}
-use Rattle.qr_bits.specs.declared.{modes.Mode.Mode, interpretation.Interpretation.TheVariants.Gs1, run_state.RunState.TheVariants.Start}
-use Rattle.qr_bits.specs.{Interpretation.{characters_in, doubled}, Segmentation.runs_of, Steps.BestModes.follow_in}
+use Rattle.std.proofs.Common.{◌≡◌, ◌+◌, ◌-◌, ◌≤◌, List, [], ◌++◌, length, reverse, drop, vec_len}
+use Rattle.qr_bits.specs.declared.{modes.Mode.Mode, segment.Segment.Segment, interpretation.Interpretation.TheVariants.Gs1, run_state.RunState.TheVariants.Start}
+use Rattle.qr_bits.specs.{Segmentation.runs_of, Steps.BestModes.follow_in, Steps.Segmentation.one_segment, Steps.RunState.{state_after, state_on}}
+use Rattle.qr_bits.proofs.lemmas.segmentation.RunLemmas.{characters_of, segments_of}
 use Rattle.qr_bits.proofs.segmentation.least_gs1_segments.Given as goal
 
--- the modes of the bytes so far, whose characters are written, and then those to which the other rows lead
-abbrev pub invariant-loop-byte : goal.invariant-loop-byte
-invariant-loop-byte l = record {
-  count : vec_len l.table + l.byte-index ≡ length l.input;
+-- the modes of the bytes so far, and their runs, of which all but the last are written, and then the modes to which the
+-- other rows lead
+abbrev pub invariant-loop-i : goal.invariant-loop-i
+invariant-loop-i l = record {
+  count : vec_len l.table + l.i ≡ length l.input;
+  inside : l.begin ≤ l.i;
   modes : List Mode;
-  each : length (take l.byte-index l.input) ≡ length modes;
-  segments : l.written.segments.items ≡ runs_of (doubled Gs1 (take l.byte-index l.input) modes);
-  characters : l.written.characters.items ≡ characters_in Gs1 (take l.byte-index l.input) modes;
-  led : modes ++ follow_in Gs1 l.written.state (drop l.byte-index l.input) (reverse l.table.items) ≡ follow_in Gs1 Start l.input (reverse l.initial.table.items);
+  runs : List Segment;
+  whole : runs ++ one_segment l.mode (l.i - l.begin) ≡ runs_of modes;
+  segments : (later : List Segment) → segments_of l.input (runs ++ later) ≡ l.written.segments.items ++ segments_of (drop l.begin l.input) later;
+  characters : (later : List Segment) → characters_of l.input (runs ++ later) ≡ l.written.characters.items ++ characters_of (drop l.begin l.input) later;
+  led : modes ++ follow_in Gs1 l.state (drop l.i l.input) (reverse l.table.items) ≡ follow_in Gs1 Start l.input (reverse l.initial.table.items);
+  first : l.i - l.begin ≡ 0 → runs ≡ [];
+  next : state_on l.state ≡ state_after l.state l.mode;
 }

@@ -2,4 +2,7 @@ use Rattle.{std.proofs.Common.{◌≡◌, take}, arrayvec.specs.ArrayVec.array_v
 use Rattle.qr_mending.proofs.block.sum.Given as goal
 
 abbrev pub invariant-loop-k : goal.invariant-loop-k
-invariant-loop-k l = (array_vec_len l.sum ≡ l.k) × (l.sum.items ≡ take l.k (plus l.xs l.ys))
+invariant-loop-k l = record {
+  count : array_vec_len l.sum ≡ l.k;
+  value : l.sum.items ≡ take l.k (plus l.xs l.ys);
+}

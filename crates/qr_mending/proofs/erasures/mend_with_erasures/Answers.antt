@@ -4,27 +4,27 @@ use Rattle.qr_field.proofs.lemmas.laws.DistanceLemmas.{errors-read}
 use Rattle.qr_mending.proofs.lemmas.block.BlockLemmas.{read-mended, mended-read}
 use Rattle.qr_mending.proofs.lemmas.erasures.ErasureLemmas.{read-none, some-follows, none-follows, length-read, erasures-marked, errors-self}
 use Rattle.qr_mending.proofs.erasures.mend_with_erasures.Goals as goal
-use Rattle.qr_mending.proofs.erasures.mend_with_erasures.Goals.{then-unread-misread-via-then-unread-misread, then-unread-misread-via-else-unread-misread+then-not-is_block}
+use Rattle.qr_mending.proofs.erasures.mend_with_erasures.Goals.{then-erasures-misread-via-then-erasures-misread, then-erasures-misread-via-else-erasures-misread+then-not-is_block}
 
-pub returns-then-unread-eq0-clause-mended : goal.returns-then-unread-eq0-clause-mended
-returns-then-unread-eq0-clause-mended c =
+pub returns-then-erasures-eq0-clause-mended : goal.returns-then-erasures-eq0-clause-mended
+returns-then-erasures-eq0-clause-mended c =
     let old = c.args.codewords.now in
     let new = c.mend.new.codewords in
-    let same = read-none old c.args.erased.now c.requires.marks (omega (arith, c.count_erased-unread.ensures)) in
+    let same = read-none old c.args.erased.now c.requires.marks (omega (arith, c.count_erased-erasures.ensures)) in
     some-follows c.mend.result _ _ c.mend.ensures.mended
     (λ x h. rw same (read-mended c.args.divisor.now c.args.spare old new h.0, h.1 ∙ sym (errors-read old new)))
 
-pub returns-then-unread-eq0-clause-only : goal.returns-then-unread-eq0-clause-only
-returns-then-unread-eq0-clause-only c =
+pub returns-then-erasures-eq0-clause-only : goal.returns-then-erasures-eq0-clause-only
+returns-then-erasures-eq0-clause-only c =
     let old = c.args.codewords.now in
-    let same = read-none old c.args.erased.now c.requires.marks (omega (arith, c.count_erased-unread.ensures)) in
+    let same = read-none old c.args.erased.now c.requires.marks (omega (arith, c.count_erased-erasures.ensures)) in
     some-follows c.mend.result _ _ c.mend.ensures.only
     (λ x h mended m. h mended (mended-read c.args.divisor.now c.args.spare old mended (rw same at m)))
 
-pub returns-then-unread-eq0-clause-refused : goal.returns-then-unread-eq0-clause-refused
-returns-then-unread-eq0-clause-refused c =
+pub returns-then-erasures-eq0-clause-refused : goal.returns-then-erasures-eq0-clause-refused
+returns-then-erasures-eq0-clause-refused c =
     let old = c.args.codewords.now in
-    let same = read-none old c.args.erased.now c.requires.marks (omega (arith, c.count_erased-unread.ensures)) in
+    let same = read-none old c.args.erased.now c.requires.marks (omega (arith, c.count_erased-erasures.ensures)) in
     none-follows c.mend.result _ _ c.mend.ensures.refused
     (λ h mended m. h mended (mended-read c.args.divisor.now c.args.spare old mended (rw same at m)))
 
@@ -43,17 +43,17 @@ returns-clause-only c = λ mended h.
     (omega (arith, ap length c.as_slice.ensures.value, c.in-Some.ensures.count)) h in
     sym (c.copy_from_slice.ensures.after ∙ (c.as_slice-3.ensures.value ∙ found))
 
-pub returns-then-unread-misread-clause-refused : goal.returns-then-unread-misread-clause-refused
-returns-then-unread-misread-clause-refused c = λ mended h.
+pub returns-then-erasures-misread-clause-refused : goal.returns-then-erasures-misread-clause-refused
+returns-then-erasures-misread-clause-refused c = λ mended h.
     let read = read_of c.args.codewords.now c.args.erased.now in
     let marked = erasures-marked c.args.codewords.now c.args.erased.now c.requires.marks in
     let found = c.candidate-mended.ensures.mended c.args.divisor.now mended (omega (arith, ap length c.as_slice.ensures.value, c.in-Some.ensures.count)) h in
-    elim c.then-unread-misread.branch [
-      | then-unread-misread-via-then-unread-misread w ↦
+    elim c.then-erasures-misread.branch [
+      | then-erasures-misread-via-then-erasures-misread w ↦
           let same = ap (errors read) (c.as_slice-2.ensures.value ∙ found) in
-          omega (arith, h.near, marked, c.count_erased-unread.ensures, c.count_misread-misread.ensures.value, same)
-      | then-unread-misread-via-else-unread-misread+then-not-is_block w ↦
-          let same = w.as_slice-else-unread-misread.ensures.value ∙ found in
+          omega (arith, h.near, marked, c.count_erased-erasures.ensures, c.count_misread-misread.ensures.value, same)
+      | then-erasures-misread-via-else-erasures-misread+then-not-is_block w ↦
+          let same = w.as_slice-else-erasures-misread.ensures.value ∙ found in
           let passes = w.is_block.ensures.1 (rw same h.block) in
           cc
     ]
@@ -65,13 +65,13 @@ returns-clause-mended c =
     let after = c.copy_from_slice.ensures.after ∙ c.as_slice-3.ensures.value in
     let misread = rw (c.as_slice-2.ensures.value, ← after) at c.count_misread-misread.ensures.value in (
       record {
-        block = rw (c.as_slice-else-unread-misread.ensures.value, ← after) at
+        block = rw (c.as_slice-else-erasures-misread.ensures.value, ← after) at
             (c.is_block.ensures.0 c.if-not-is_block.false);
         long = omega (arith, ap length after, c.candidate-mended.ensures.long, length-read codewords c.args.erased.now);
         near = omega (
           arith,
           erasures-marked codewords c.args.erased.now c.requires.marks,
-          c.count_erased-unread.ensures,
+          c.count_erased-erasures.ensures,
           misread,
         );
       },

@@ -4,6 +4,7 @@ use Rattle.qr_mending.specs.Steps.{Sums.HasValues, Errors.weighted}
 use Rattle.qr_mending.proofs.erasures.modified_syndromes.Given as goal
 
 abbrev pub invariant-loop-i : goal.invariant-loop-i
-invariant-loop-i l =
-    (array_vec_len l.modified ≡ l.i)
-    × ((errors : List ℕ) → All IsByte errors → HasValues l.syndromes errors → HasValues l.modified.items (weighted l.polynomial errors))
+invariant-loop-i l = record {
+  count : array_vec_len l.modified ≡ l.i;
+  values : (errors : List ℕ) → All IsByte errors → HasValues l.syndromes errors → HasValues l.modified.items (weighted l.polynomial errors);
+}

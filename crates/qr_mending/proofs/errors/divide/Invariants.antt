@@ -2,7 +2,8 @@ use Rattle.{std.proofs.Common.{◌≡◌, ◌++◌, take, drop}, qr_mending.spec
 use Rattle.qr_mending.proofs.errors.divide.Given as goal
 
 abbrev pub invariant-loop-j : goal.invariant-loop-j
-invariant-loop-j l =
-    (l.terms ≡ take l.j l.initial.terms ++ quotient l.root (drop l.j l.initial.terms))
-    × (l.value ≡ eval l.root (drop l.j l.initial.terms))
-    × (l.rest ≡ eval l.root (quotient l.root (drop l.j l.initial.terms)))
+invariant-loop-j l = record {
+  terms : l.terms ≡ take l.j l.initial.terms ++ quotient l.root (drop l.j l.initial.terms);
+  value : l.value ≡ eval l.root (drop l.j l.initial.terms);
+  rest : l.rest ≡ eval l.root (quotient l.root (drop l.j l.initial.terms));
+}

@@ -9,12 +9,12 @@ loop-rest-preserved c =
     let n = c.pop.new.self.items in
     let same = c.as_mut_slice.ensures.value in
     let count : length q ≡ length now = omega (arith, ap length same) in
-    let d = divided c.args.root now q n (omega arith) (rw same at c.divide-rest.ensures.bytes) c.loop-rest.invariant.0
-    (sym c.loop-rest.invariant.1 ∙ c.loop-rest-test.true) (rw same at c.divide-rest.ensures.quotient)
-    (c.pop.ensures.rest ∙ ap (λ t. take (length t - 1) t) (refill-same now q (length now) refl count)) in (
-      d.leading,
-      rw same at c.divide-rest.ensures.value ∙ d.value,
-      omega (arith, d.shorter, c.loop-rest.invariant.2),
-      λ some. omega (arith, d.shorter, c.loop-rest.invariant.2),
-      λ y l n z. d.others y l n (c.loop-rest.invariant.4 y l n z),
-    )
+    let d = divided c.args.root now q n (omega arith) (rw same at c.divide-rest.ensures.bytes) c.loop-rest.invariant.leading
+    (sym c.loop-rest.invariant.value ∙ c.loop-rest-test.true) (rw same at c.divide-rest.ensures.quotient)
+    (c.pop.ensures.rest ∙ ap (λ t. take (length t - 1) t) (refill-same now q (length now) refl count)) in record {
+      leading = d.leading;
+      value = rw same at c.divide-rest.ensures.value ∙ d.value;
+      most = omega (arith, d.shorter, c.loop-rest.invariant.most);
+      shorter = λ some. omega (arith, d.shorter, c.loop-rest.invariant.most);
+      others = λ y l n z. d.others y l n (c.loop-rest.invariant.others y l n z);
+    }

@@ -3,12 +3,13 @@ use Rattle.{qr_field.specs.Polynomial.IsByte, qr_mending.specs.Steps.{Sums.eval,
 use Rattle.qr_mending.proofs.errors.divide_out.Given as goal
 
 abbrev pub invariant-loop-rest : goal.invariant-loop-rest
-invariant-loop-rest l =
-    HasLeadingOne l.locator.items
-    × (l.rest ≡ eval l.root l.locator.items)
-    × (length l.locator.items ≤ length l.initial.locator.items)
-    × (1 ≤ l.rest → length l.locator.items < length l.initial.locator.items)
-    × ((y : ℕ) → IsByte y → y ≢ l.root → eval y l.initial.locator.items ≡ 0 → eval y l.locator.items ≡ 0)
+invariant-loop-rest l = record {
+  leading : HasLeadingOne l.locator.items;
+  value : l.rest ≡ eval l.root l.locator.items;
+  most : length l.locator.items ≤ length l.initial.locator.items;
+  shorter : 1 ≤ l.rest → length l.locator.items < length l.initial.locator.items;
+  others : (y : ℕ) → IsByte y → y ≢ l.root → eval y l.initial.locator.items ≡ 0 → eval y l.locator.items ≡ 0;
+}
 
 abbrev pub decreases-loop-rest : goal.decreases-loop-rest
 decreases-loop-rest l = length l.locator.items

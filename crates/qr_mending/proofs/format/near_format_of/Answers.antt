@@ -26,7 +26,7 @@ loop-level-preserved c = λ u g copy h k less mask f.
 
 pub returns : goal.returns
 returns c =
-    let u = c.args.unknown.now in
-    let g = c.args.matrix.now in
+    let u = c.args.scan.now.unknown.now in
+    let g = c.args.scan.now.matrix.now in
     every u c.args.copy g
     (λ k l. c.loop-level.invariant u g c.args.copy c.read-bits.ensures k (omega (arith, c.loop-level-test.false)))

@@ -16,5 +16,5 @@ pub returns-in-Some : goal.returns-in-Some
 returns-in-Some c = (First, c.in-Some.ensures)
 
 pub returns-in-None : goal.returns-in-None
-returns-in-None c = second-alone c.args.unknown.now c.args.matrix.now c.near_format_of-in-None.result c.in-None.ensures
+returns-in-None c = second-alone c.args.scan.now.unknown.now c.args.scan.now.matrix.now c.near_format_of-in-None.result c.in-None.ensures
     c.near_format_of-in-None.ensures

@@ -9,10 +9,11 @@ use Rattle.qr_field.proofs.lemmas.galois.{BitLemmas.xor-cancel, ByteLemmas.produ
 use Rattle.qr_field.proofs.lemmas.polynomial.{ListLemmas.{length-plus, bytes-plus}, PolynomialLemmas.correction-one}
 use Rattle.qr_field.proofs.lemmas.laws.ValueLemmas.{value-lt, value-plus, value-zero, block-bytes, block-root}
 use Rattle.qr_field.proofs.lemmas.laws.DistanceLemmas.{weight-plus, difference-same, unambiguous-known, erasures-read, errors-read}
-use Rattle.qr_mending.specs.{Block.{IsBlock, IsMended}, Steps.Polynomial.{all_of, IsMonic}}
+use Rattle.qr_mending.specs.{Block.{IsBlock, IsMended}, Steps.Polynomial.{all_of, IsMonic, IsProgress}}
+use Rattle.qr_mending.specs.declared.locator.Progress.{Progress}
 use Rattle.qr_mending.specs.{Erasures.IsMendedWithErasures, declared.polynomial.Polynomial.Polynomial}
 use Rattle.qr_mending.specs.Steps.{Sums.{HasValues, HasSameValues}, Roots.HasLeadingOne, Errors.{AreFewErrors, AreFewErrorsOf, IsLocated}}
-use Rattle.qr_mending.proofs.lemmas.locator.SearchLemmas.{weight-zeros, few-values}
+use Rattle.qr_mending.proofs.lemmas.locator.SearchLemmas.{few-values, search-locates, weight-zeros}
 
 -- ---- blocks
 
@@ -122,6 +123,17 @@ errors-leave n t damaged r q s items most a same l values short located sum b m 
     let count : length e ≡ length b = length-plus damaged b (omega (arith, m.long)) in
     let few = few-values t r s e values short (errors-few n t r damaged b most a same l m) in
     sum e (omega (arith, count, m.long)) (located e few) few.values ∙ plus-cancel damaged b (sym m.long)
+
+-- once all syndromes were taken in, the codewords without the errors that the search located are the true block
+pub candidate-mended : (progress : Progress) (t : ℕ) (damaged r items : List ℕ) → length damaged ≤ 255 → All IsByte damaged →
+    HasSameValues r damaged → IsProgress t r progress → progress.taken ≡ 2 * t →
+    ((e : List ℕ) → length e ≡ length damaged → IsLocated (all_of progress.search.best) e →
+    HasValues progress.syndromes.items e → items ≡ plus damaged e) →
+    (b : List ℕ) → IsMended (length r) t damaged b → items ≡ b
+candidate-mended progress t damaged r items most a same h full sum b m =
+    let s = progress.syndromes.items in
+    errors-leave (length r) t damaged r (all_of progress.search.best) s items most a same refl h.values h.count
+    (λ e few. search-locates t progress.taken progress.search s e h.search (omega (arith, full)) h.within h.degree few) sum b m
 
 -- ---- the checks
 

@@ -5,17 +5,17 @@ use borrow.Author.Tests.{leb-true}
 use Rattle.qr_layout.specs.{declared.level.Level.Level, Blocks.correction_len_of}
 use Rattle.{qr_layout.proofs.Facts.{blocks-sound, every, every-at}, qr_bits.specs.Parsing.Content}
 use Rattle.qr_matrix.{specs.Grid.Grid, proofs.Facts.{&&-left, &&-right}}
-use Rattle.qr_mending.specs.{Message.tolerance_of, Mending.IsMendedReading}
+use Rattle.qr_mending.specs.{Message.correctable_of, Mending.IsMendedReading}
 
 -- in each version and level, from 2 to 15 codewords may be changed, computed
-tolerance-all : every (λ l v. leb 2 (tolerance_of v l) && leb (tolerance_of v l) 15) ≡ true
+correctable-all : every (λ l v. leb 2 (correctable_of v l) && leb (correctable_of v l) 15) ≡ true
 unfolding correction_len_of
-tolerance-all = refl
+correctable-all = refl
 
 -- the same bounds at one version and level
-pub tolerance-bounds : (v : ℕ) (l : Level) → 1 ≤ v → v ≤ 40 → (2 ≤ tolerance_of v l) × (tolerance_of v l ≤ 15)
-tolerance-bounds v l a b =
-    let t = every-at (λ l v. leb 2 (tolerance_of v l) && leb (tolerance_of v l) 15) tolerance-all l v a b in
+pub correctable-bounds : (v : ℕ) (l : Level) → 1 ≤ v → v ≤ 40 → (2 ≤ correctable_of v l) × (correctable_of v l ≤ 15)
+correctable-bounds v l a b =
+    let t = every-at (λ l v. leb 2 (correctable_of v l) && leb (correctable_of v l) 15) correctable-all l v a b in
     search (arith, leb-true, &&-left, &&-right)
 
 -- a mended square has at least one block
@@ -23,7 +23,7 @@ pub changes-some : (unknown : Grid) (g : Grid) (v : ℕ) (l : Level) (m : ℕ) (
 changes-some unknown g v l m p x h = search (arith, blocks-sound)
 
 -- in each block at most as many codewords were changed as may be changed
-pub changes-few : (unknown : Grid) (g : Grid) (v : ℕ) (l : Level) (m : ℕ) (p : Content) (x : List ℕ) → IsMendedReading unknown g v l m p x → All (λ n. n ≤ tolerance_of v l) x
+pub changes-few : (unknown : Grid) (g : Grid) (v : ℕ) (l : Level) (m : ℕ) (p : Content) (x : List ℕ) → IsMendedReading unknown g v l m p x → All (λ n. n ≤ correctable_of v l) x
 changes-few unknown g v l m p x h =
     let d = h.form.damaged.mended in
-    All-from_get_or (λ n. n ≤ tolerance_of v l) x 0 (λ i k. let b = d.each i (omega (arith, d.many)) in omega (arith, b.near))
+    All-from_get_or (λ n. n ≤ correctable_of v l) x 0 (λ i k. let b = d.each i (omega (arith, d.many)) in omega (arith, b.near))

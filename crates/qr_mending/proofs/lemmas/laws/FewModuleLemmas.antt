@@ -7,7 +7,7 @@ use Rattle.qr_layout.specs.{Blocks.blocks_of, Format.format_word_of, Version.tot
 use Rattle.qr_symbol.{specs.{Symbol.grid_of, Reading.{IsFormat, IsMessage}}, proofs.Facts.{data-sizes-whole, read-some}}
 use Rattle.qr_symbol.specs.Interleaving.{block_count, codeword_count, data_sizes, part_of}
 use Rattle.qr_mending.specs.declared.format.FormatCopy.TheVariants.{First, Second}
-use Rattle.qr_mending.specs.{Format.copy_bit, Message.{received, tolerance_of}, Mending.{HasFormat, HoldsDamaged}}
+use Rattle.qr_mending.specs.{Format.copy_bit, Message.{received, correctable_of}, Mending.{HasFormat, HoldsDamaged}}
 use Rattle.qr_mending.specs.Modules.{codeword_differences, DifferInFewModules}
 use Rattle.qr_mending.proofs.lemmas.{format.FormatLemmas.bits-alike, laws.DistanceLemmas.shown}
 use Rattle.qr_mending.proofs.lemmas.message.MessageLemmas.{in-blocks-one, item, items-in-blocks, received-all, received-map}
@@ -66,7 +66,7 @@ few-held v l mask g h d p q m w =
     let all = received-all b (λ k. difference (item cw k) (item sent k) ≤ codeword_differences g h w.places k) n ks js i
     (λ k r. interleaved-near v mask g h w.places cw sent k p q w.order read.1 m.read r) w.inside in
     search (arith, items-near) in
-    let each : (i : ℕ) → i < block_count own → IsPlainBlock b (tolerance_of v l) xs es d (count i) i =
+    let each : (i : ℕ) → i < block_count own → IsPlainBlock b (correctable_of v l) xs es d (count i) i =
     λ i r. record {
       correction = get_or checks i [];
       corrects = m.interleaved.each i r;

@@ -1,19 +1,20 @@
 -- A square that is read without mending is read as the same content with mending, and no codeword is changed.
-use Rattle.std.proofs.Common.{◌≡◌, ℕ, zero, suc, ◌+◌, ◌*◌, ◌<◌, ◌≤◌, Bool, false, cond, not, ◌&&◌, List, [], ◌++◌, map, drop, length, get_or, refl, ◌∙◌, arith}
-use Rattle.std.proofs.lemmas.List.{length-map, take_all, take_at, drop_at, get_or-take, get_or-drop, ext_get_or, length-replicate, get_or-replicate}
+use Rattle.std.proofs.Common.{◌≡◌, ℕ, zero, suc, ◌+◌, ◌*◌, ◌<◌, ◌≤◌, Bool, false, cond, not, ◌&&◌, List, [], ◌++◌, map, drop, length, get_or, refl, ap, ◌∙◌, arith}
+use Rattle.std.proofs.lemmas.List.{length-map, take_all, take_at, drop_at, length-replicate, get_or-replicate}
 use lib.ListN.{replicate}
 use Rattle.{qr_field.specs.Polynomial.IsCorrection, qr_bits.specs.Parsing.Content}
-use Rattle.qr_mending.proofs.lemmas.{block.BlockLemmas.differences-same, message.MessageLemmas.part-len}
+use Rattle.qr_mending.proofs.lemmas.block.BlockLemmas.{differences-same}
 use Rattle.qr_mending.proofs.lemmas.message.LightLemmas.{colour-light, light-mended}
 use Rattle.qr_mending.proofs.lemmas.{mending.MendingLemmas.best, format.FormatLemmas.bits-alike}
 use Rattle.qr_layout.specs.{declared.{blocks.Blocks.Blocks, level.Level.Level}, Blocks.blocks_of, Format.format_word_of}
 use Rattle.qr_matrix.specs.{Grid.{Grid, light, is_same}, BitRow.has_bit, Sums.count_below}
-use Rattle.qr_symbol.specs.Interleaving.{block_count, block_len, start_of, codeword_count, IsPosition, codeword_at, data_sizes, correction_sizes, block_of, check_at, IsFinalMessage, part_of}
+use Rattle.qr_symbol.specs.Interleaving.{block_count, codeword_count, IsPosition, codeword_at, data_sizes, correction_sizes, block_of, check_at, IsFinalMessage, part_of}
 use Rattle.qr_symbol.specs.{Steps.Interleaving.IsChecks, Distance.blocks_in, Reading.{IsFormat, IsRead, IsReading}}
 use Rattle.qr_mending.specs.declared.format.FormatCopy.{FormatCopy, TheVariants.First, TheVariants.Second}
 use Rattle.qr_mending.specs.Format.{bit_difference, bit_differences, copy_bit, copy_cost, IsNearFormat}
 use Rattle.qr_mending.specs.{Message.AreInBlocks, Message.IsMendedIn, Mending.HasFormat, Mending.IsMendedReading}
-use Rattle.qr_symbol.proofs.Facts.{start-none, position, positions-many, check-len, checks-push, map-each, checks-one, data-sizes-whole}
+use Rattle.qr_symbol.proofs.Facts.{start-none, part-at, positions-many, checks-push, map-each, data-sizes-whole}
+use Rattle.qr_field.proofs.Facts.{correction-one}
 
 -- ---- codewords
 
@@ -29,27 +30,6 @@ checks-some b d cs (suc k) l h =
     let next : k + 1 ≡ suc k = omega arith in
     (more, rw next at (checks-push b d before.0 more (get_or cs k []) k here before.1 (h k here) refl))
 
--- one block of these error correction codewords
-check-part : (b : Blocks) (d es : List ℕ) (cs : List (List ℕ)) →
-    (corrections : IsChecks b d (block_count (data_sizes b)) es) → corrections.corrections ≡ cs → (i : ℕ) →
-    i < block_count (data_sizes b) → IsCorrection (block_of b d i) b.ec_len (get_or cs i []) →
-    part_of (correction_sizes b) es i ≡ get_or cs i []
-check-part b d es cs h e i l c =
-    let sizes = correction_sizes b in
-    let n = check-len b i l in
-    let whole : length es ≡ codeword_count sizes = omega (arith, h.long) in
-    let within : i < block_count sizes = omega arith in
-    let long = part-len sizes es i whole within in
-    ext_get_or 0 (part_of sizes es i) (get_or cs i []) (omega (arith, long, n, c.count)) (λ k m.
-    let small : k < block_len sizes i = omega (arith, m, long) in
-    let rest = drop (start_of sizes i) es in
-    cc (
-      get_or-take (block_len sizes i) rest k 0 small,
-      get_or-drop (start_of sizes i) es k 0,
-      h.same (position k i) l (within, small),
-      e,
-    ))
-
 -- the data codewords and the error correction codewords of a final sequence, both gathered
 pub record FinalParts (b : Blocks) (d cw : List ℕ) (corrections : List (List ℕ)) : Type 0 where
   pub checks : List ℕ
@@ -63,15 +43,14 @@ final-parts b d cw n h =
     let sizes = correction_sizes b in
     let some = checks-some b d h.corrections (block_count own) (omega arith) h.each in
     let es = some.0 in
-    let ch = some.1 in
-    let same : ch.corrections ≡ h.corrections =
-    checks-one b d (block_count own) ch.corrections h.corrections ch.count h.count ch.each h.each in
+    let same : (i : ℕ) → i < block_count own → part_of sizes es i ≡ get_or h.corrections i [] =
+    λ i l. correction-one (block_of b d i) b.ec_len (part_of sizes es i) (get_or h.corrections i []) (some.1.each i l) (h.each i l) in
     let first = map (codeword_at own d) h.data_positions in
     let last = map (codeword_at sizes es) h.check_positions in
-    let each = map-each (IsPosition sizes) (codeword_at sizes es) (check_at ch.corrections) h.check_positions
+    let each = map-each (IsPosition sizes) (codeword_at sizes es) (check_at h.corrections) h.check_positions
     h.check_order.in_blocks
-    (λ u i. ch.same u (let l = i.0 in omega arith) i) in
-    let whole : cw ≡ first ++ last = cc (each, same, h.whole) in
+    (λ u i. part-at sizes es u i ∙ ap (λ (xs : List ℕ). get_or xs u.place 0) (same u.block (let l = i.0 in omega arith))) in
+    let whole : cw ≡ first ++ last = cc (each, h.whole) in
     let many = positions-many own h.data_positions h.data_order in
     let rest = positions-many sizes h.check_positions h.check_order in
     let front : length first ≡ codeword_count own = length-map h.data_positions (codeword_at own d) ∙ many in
@@ -80,7 +59,7 @@ final-parts b d cw n h =
     record {
       checks = es;
       inside = search (arith, take_at, take_all);
-      same = λ i l. check-part b d es h.corrections ch same i l (h.each i l);
+      same = same;
     }
 
 -- a final sequence is a damaged form of its message in which no codeword is changed

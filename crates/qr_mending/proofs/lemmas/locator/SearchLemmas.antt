@@ -10,7 +10,7 @@ use Rattle.qr_field.specs.{Polynomial.{IsByte, plus, scaled, zeros}, Distance.{d
 use Rattle.qr_field.proofs.lemmas.{galois.ByteLemmas.{product-by_zero, product-of_zero}, polynomial.ListLemmas.{take-plus, length-plus, bytes-plus, bytes-scaled}}
 use Rattle.qr_field.proofs.lemmas.laws.DistanceLemmas.{weight, value-none}
 use Rattle.qr_mending.specs.declared.{polynomial.Polynomial.Polynomial, locator.Search.Search, locator.Progress.Progress}
-use Rattle.qr_mending.specs.Steps.Polynomial.{all_of, IsMonic, miss_of, IsBest, IsSearch, IsProgress}
+use Rattle.qr_mending.specs.Steps.Polynomial.{all_of, IsMonic, discrepancy_of, IsBest, IsSearch, IsProgress}
 use Rattle.qr_mending.specs.Steps.{Sums.{dot_of, blend, HasValues}, Errors.{weighted, AreFewErrors, AreFewErrorsOf, IsLocated}}
 use Rattle.qr_mending.proofs.lemmas.sums.SumLemmas.{dot-plus, dot-blend, values-none}
 use Rattle.qr_mending.proofs.lemmas.errors.WeightLemmas.{weighted-none, weighted-value, errors-root}
@@ -162,10 +162,10 @@ bytes-zeros (suc a) p lp = All-cons IsByte 0 (zeros a ++ p) (lit< tt) (bytes-zer
 -- ---- the next polynomial
 
 -- the sum of the next polynomial for the equation of index j
-miss-next : (f a b j : ℕ) (p q s : List ℕ) → f < 256 → All IsByte p → All IsByte q → All IsByte s →
+discrepancy-next : (f a b j : ℕ) (p q s : List ℕ) → f < 256 → All IsByte p → All IsByte q → All IsByte s →
     length (zeros a ++ p) ≤ length (zeros b ++ q) →
     dot_of (plus (scaled f (zeros a ++ p)) (zeros b ++ q)) (drop j s) ≡ bit_xor (product f (dot_of p (drop (a + j) s))) (dot_of q (drop (b + j) s))
-miss-next f a b j p q s lf lp lq ls short =
+discrepancy-next f a b j p q s lf lp lq ls short =
     let w = drop j s in
     let lw = All-drop IsByte j s ls in
     let first : j + a ≡ a + j = omega arith in
@@ -185,13 +185,13 @@ solved-next : (i l m a b f d : ℕ) (search : Search) (r s : List ℕ) → f < 2
     IsSearch i s search → l ≡ search.best.degree → l ≤ m → a + (i + 1) ≡ l + m → b + l ≡ m →
     length (zeros a ++ all_of search.earlier) ≤ length (zeros b ++ all_of search.best) →
     r ≡ plus (scaled f (zeros a ++ all_of search.earlier)) (zeros b ++ all_of search.best) →
-    d ≡ miss_of search.best (drop (i - l) s) → product f search.miss ≡ d →
+    d ≡ discrepancy_of search.best (drop (i - l) s) → product f search.discrepancy ≡ d →
     (j : ℕ) → j + m < i + 1 → dot_of r (drop j s) ≡ 0
-solved-next i l m a b f d search r s lf ls h same up low high short sum miss factor j g =
+solved-next i l m a b f d search r s lf ls h same up low high short sum discrepancy factor j g =
     let p = all_of search.earlier in
     let q = all_of search.best in
     let start : dot_of r (drop j s) ≡ bit_xor (product f (dot_of p (drop (a + j) s))) (dot_of q (drop (b + j) s)) =
-    ap (λ t. dot_of t (drop j s)) sum ∙ miss-next f a b j p q s lf h.bytes h.best.bytes ls short in
+    ap (λ t. dot_of t (drop j s)) sum ∙ discrepancy-next f a b j p q s lf h.bytes h.best.bytes ls short in
     elim (cases_lt (j + m) i) [
       | inl k ↦
           let before = h.before (a + j) (omega (arith, k, low, same)) in
@@ -200,16 +200,16 @@ solved-next i l m a b f d search r s lf ls h same up low high short sum miss fac
       | inr k ↦
           let last = h.last (a + j) (omega (arith, k, g, low, same)) in
           let place : b + j ≡ i - l = omega (arith, k, g, high) in
-          cc (start, last, place, miss, factor, xor_self d)
+          cc (start, last, place, discrepancy, factor, xor_self d)
     ]
 
 -- the next polynomial
 pub best-next : (i l m a b f d : ℕ) (search : Search) (next : Polynomial) (s : List ℕ) → f < 256 → All IsByte s →
     IsSearch i s search → l ≡ search.best.degree → l ≤ m → a + (i + 1) ≡ l + m → b + l ≡ m →
     all_of next ≡ plus (scaled f (zeros a ++ all_of search.earlier)) (zeros b ++ all_of search.best) →
-    d ≡ miss_of search.best (drop (i - l) s) → product f search.miss ≡ d → next.degree ≡ m → IsMonic next →
+    d ≡ discrepancy_of search.best (drop (i - l) s) → product f search.discrepancy ≡ d → next.degree ≡ m → IsMonic next →
     IsBest (i + 1) s next
-best-next i l m a b f d search next s lf ls h same up low high sum miss factor degree monic =
+best-next i l m a b f d search next s lf ls h same up low high sum discrepancy factor degree monic =
     let p = zeros a ++ all_of search.earlier in
     let q = zeros b ++ all_of search.best in
     let lp = bytes-zeros a (all_of search.earlier) h.bytes in
@@ -231,7 +231,7 @@ best-next i l m a b f d search next s lf ls h same up low high sum miss factor d
       bytes = subst (λ (t : List ℕ). All IsByte t) (sym sum) (bytes-plus (scaled f p) q (bytes-scaled f p lf) lq);
       count = omega (arith, ap length sum, length-plus (scaled f p) q (omega (arith, count, short)), long, degree);
       monic = monic;
-      solved = λ j g. solved-next i l m a b f d search (all_of next) s lf ls h same up low high short sum miss factor j (omega (arith, g, degree));
+      solved = λ j g. solved-next i l m a b f d search (all_of next) s lf ls h same up low high short sum discrepancy factor j (omega (arith, g, degree));
     }
 
 -- ---- the bound of the degree
@@ -242,7 +242,7 @@ weight-zeros [] = refl
 weight-zeros (c ∷ e) = omega (arith, weight-zeros e)
 
 -- if an equation is not solved, the number of errors is above its index
-pub few-bound : (t i : ℕ) (search : Search) (s e : List ℕ) → IsSearch i s search → i < length s → AreFewErrors t s e → (miss_of search.best (drop (i - search.best.degree) s) ≡ 0 → ⊥) → i < t + search.best.degree
+pub few-bound : (t i : ℕ) (search : Search) (s e : List ℕ) → IsSearch i s search → i < length s → AreFewErrors t s e → (discrepancy_of search.best (drop (i - search.best.degree) s) ≡ 0 → ⊥) → i < t + search.best.degree
 few-bound t i search s e h within few some = elim (cases_lt i (t + search.best.degree)) [
   | inl g ↦ g
   | inr g ↦
@@ -259,7 +259,7 @@ few-bound t i search s e h within few some = elim (cases_lt i (t + search.best.d
 
 -- the polynomial 1, with which the search begins
 pub search-begins : (s : List ℕ) (p : Polynomial) → p.degree ≡ 0 → IsMonic p → all_of p ≡ 1 ∷ [] →
-    IsSearch 0 s (record { best = p; earlier = p; miss = 1 })
+    IsSearch 0 s (record { best = p; earlier = p; discrepancy = 1 })
 search-begins s p degree monic terms =
     let bytes = subst (λ (t : List ℕ). All IsByte t) (sym terms) (All-cons IsByte 1 [] (lit< tt) (All-nil IsByte)) in
     record {
@@ -279,9 +279,9 @@ search-begins s p degree monic terms =
 -- ---- one syndrome more
 
 -- a sum whose window lies within two lists of the same values
-miss-same : (p : Polynomial) (j : ℕ) (s u r : List ℕ) → HasValues s r → HasValues u r → j + p.degree < length s →
-    j + p.degree < length u → miss_of p (drop j u) ≡ miss_of p (drop j s)
-miss-same p j s u r hs hu ls lu =
+discrepancy-same : (p : Polynomial) (j : ℕ) (s u r : List ℕ) → HasValues s r → HasValues u r → j + p.degree < length s →
+    j + p.degree < length u → discrepancy_of p (drop j u) ≡ discrepancy_of p (drop j s)
+discrepancy-same p j s u r hs hu ls lu =
     let count = length-take (p.degree + 1) p.terms in
     dot-blend (all_of p) j u r hu (omega (arith, lu, count)) ∙ sym (dot-blend (all_of p) j s r hs (omega (arith, ls, count)))
 
@@ -293,15 +293,15 @@ search-same i search s u r hs hu ls lu h = record {
     bytes = h.best.bytes;
     count = h.best.count;
     monic = h.best.monic;
-    solved = λ j g. miss-same search.best j s u r hs hu (omega (arith, g, ls)) (omega (arith, g, lu)) ∙ h.best.solved j g;
+    solved = λ j g. discrepancy-same search.best j s u r hs hu (omega (arith, g, ls)) (omega (arith, g, lu)) ∙ h.best.solved j g;
   };
   bytes = h.bytes;
   some = h.some;
   room = h.room;
   before = λ j g.
-      miss-same search.earlier j s u r hs hu (omega (arith, g, h.room, ls)) (omega (arith, g, h.room, lu)) ∙ h.before j g;
+      discrepancy-same search.earlier j s u r hs hu (omega (arith, g, h.room, ls)) (omega (arith, g, h.room, lu)) ∙ h.before j g;
   last = λ j g.
-      miss-same search.earlier j s u r hs hu (omega (arith, g, h.room, ls)) (omega (arith, g, h.room, lu)) ∙ h.last j g;
+      discrepancy-same search.earlier j s u r hs hu (omega (arith, g, h.room, ls)) (omega (arith, g, h.room, lu)) ∙ h.last j g;
 }
 
 -- before the first syndrome is taken in

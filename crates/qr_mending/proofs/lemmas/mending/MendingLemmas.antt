@@ -1,5 +1,5 @@
 -- A square with damage is read as at most one content, and then it is not refused.
-use Rattle.std.{proofs.lemmas.Bool.cases_lt, specs.Prelude.{Option, None, Some, Result, Ok, Err, IfOk, IfSome, MatchOption}}
+use Rattle.std.{proofs.lemmas.Bool.cases_lt, specs.Prelude.{Option, None, Some, Result, Ok, Err, IfSome, MatchOption}}
 use Rattle.std.proofs.Common.{◌≡◌, ◌⊎◌, ℕ, ◌<◌, ◌≤◌, List, refl, inl, inr, arith}
 use Rattle.qr_layout.{specs.declared.level.Level.Level, proofs.Facts.laws-of}
 use Rattle.qr_bits.specs.{declared.fault.ParseFault.ParseFault, Bits.bits_of, Parsing.{Content, parse, IsResultOf}}
@@ -10,7 +10,8 @@ use Rattle.qr_symbol.specs.declared.fault.ReadFault.TheVariants as fault
 use Rattle.qr_mending.specs.declared.format.FormatCopy.{FormatCopy, TheVariants.First, TheVariants.Second}
 use Rattle.qr_mending.specs.{Format.{copy_cost, format_cost, IsNearFormat}, Message.IsMendedIn}
 use Rattle.qr_mending.specs.Mending.{rank_of, HasFormat, HoldsDamaged, IsBeyondMending, IsDamagedForm, IsMendedAs, IsMendedReading, IsOfNoUse, IsUnmended}
-use Rattle.qr_mending.specs.Steps.Mending.{HoldsNone}
+use Rattle.qr_mending.specs.declared.mending.MendedSquare.{MendedSquare}
+use Rattle.qr_mending.specs.Steps.Mending.{HoldsNone, IsMendedBy, IsMendedByEither, IsMendedWith}
 use Rattle.{qr_symbol.proofs.Facts.read-one, qr_mending.proofs.lemmas.message.UnreadLemmas.beside-one}
 use Rattle.qr_mending.proofs.lemmas.format.FormatLemmas.{near-one, each-copy, sure-one}
 
@@ -151,16 +152,11 @@ module _ (unknown g : Grid) where
   no-use copy v (Some f) near none = λ k n h message changed d.
       let e = near-one unknown copy g k f.0 n f.1 h near in none message changed (rw (e.0, e.1) at d)
 
-  -- what is mended with the level and mask that are near to a copy, or that the copy is of no use
-  pub by-near : {T : Type 0} (copy : FormatCopy) (v : ℕ) (level : T → Level) (mask : T → ℕ) (Held Long : T → Type 0)
-      (near : Option (Level × ℕ)) (r : Result (Option T) ReadFault) → NearOf copy near →
-      IfOk r (λ o. MatchOption o (IfSome near (λ f. HoldsNone unknown v f.0 f.1 g))
-      (λ m. (near ≡ Some (level m, mask m)) × Held m × Long m)) →
-      IfOk r (λ o. MatchOption o (IsOfNoUse unknown copy v g)
-      (λ m. IsNearFormat unknown copy g (level m) (mask m) × Held m × Long m))
-  by-near copy v level mask Held Long near (Err e) n h = tt
-  by-near copy v level mask Held Long near (Ok None) n h = no-use copy v near n h
-  by-near copy v level mask Held Long near (Ok (Some m)) n h = (rw h.0 at n, h.1, h.2)
+  -- what is mended with the level and mask that are near to a copy is mended by this copy
+  pub mended-by : (copy : FormatCopy) (v : ℕ) (near : Option (Level × ℕ)) (o : Option MendedSquare) → NearOf copy near →
+      IsMendedWith unknown v g near o → IsMendedBy unknown v g copy o
+  mended-by copy v near None n h = no-use copy v near n h
+  mended-by copy v near (Some m) n h = (rw h.0 at n, h.1)
 
   -- ---- the level and the mask of the least rank
 
@@ -190,19 +186,6 @@ module _ (unknown g : Grid) where
         (λ k n h p x d. omega (arith, rank-same Second l k m n f h));
   }
 
-  -- a result after the first copy was of no use
-  pub second-alone : {T : Type 0} (v : ℕ) (level : T → Level) (mask : T → ℕ) (Held Long : T → Type 0)
-      (r : Result (Option T) ReadFault) →
-      IsOfNoUse unknown First v g →
-      IfOk r (λ o. MatchOption o (IsOfNoUse unknown Second v g)
-      (λ m. IsNearFormat unknown Second g (level m) (mask m) × Held m × Long m)) →
-      IfOk r (λ o. MatchOption o ((any : FormatCopy) → IsOfNoUse unknown any v g)
-      (λ m. HasFormat unknown v g (level m) (mask m) × Held m × Long m))
-  second-alone v level mask Held Long (Err e) useless h = tt
-  second-alone v level mask Held Long (Ok None) useless h = each-copy (λ any. IsOfNoUse unknown any v g) useless h
-  second-alone v level mask Held Long (Ok (Some m)) useless h =
-      (best Second v (level m) (mask m) h.0 (λ k n f x y d. absurd (useless k n f x y d)), h.1, h.2)
-
   -- where both copies give a level and a mask that mend the square, the one of the less rank
   pub best-of-two : (copy : FormatCopy) (v : ℕ) (l k : Level) (m n : ℕ) → IsNearFormat unknown copy g l m →
       IsNearFormat unknown (beside copy) g k n →
@@ -210,6 +193,36 @@ module _ (unknown g : Grid) where
       HasFormat unknown v g l m
   best-of-two copy v l k m n f s less = best copy v l m f (λ j i h p x d.
       omega (arith, rank-same (beside copy) k j n i s h, less))
+
+  -- the first copy is of no use
+  pub second-alone : (v : ℕ) (o : Option MendedSquare) → IsOfNoUse unknown First v g → IsMendedBy unknown v g Second o →
+      IsMendedByEither unknown v g o
+  second-alone v None useless h = each-copy (λ any. IsOfNoUse unknown any v g) useless h
+  second-alone v (Some m) useless h =
+      (best Second v m.level m.mask h.0 (λ k n f x y d. absurd (useless k n f x y d)), h.1)
+
+  -- the second copy is of no use
+  pub first-alone : (v : ℕ) (m : MendedSquare) → IsMendedBy unknown v g First (Some m) → IsOfNoUse unknown Second v g →
+      IsMendedByEither unknown v g (Some m)
+  first-alone v m h useless = (best First v m.level m.mask h.0 (λ k n f x y d. absurd (useless k n f x y d)), h.1)
+
+  -- both copies yield the same
+  pub both-alike : (v : ℕ) (o : Option MendedSquare) → IsMendedBy unknown v g First o → IsMendedBy unknown v g Second o →
+      IsMendedByEither unknown v g o
+  both-alike v None h j = each-copy (λ any. IsOfNoUse unknown any v g) h j
+  both-alike v (Some m) h j = (best-of-two First v m.level m.level m.mask m.mask h.0 j.0 (omega arith), h.1)
+
+  -- the second copy yields a level and a mask of less cost
+  pub second-nearer : (v : ℕ) (m n : MendedSquare) → IsMendedBy unknown v g First (Some m) → IsMendedBy unknown v g Second (Some n) →
+      format_cost unknown g n.level n.mask < format_cost unknown g m.level m.mask → IsMendedByEither unknown v g (Some n)
+  second-nearer v m n h j less =
+      (best-of-two Second v n.level m.level n.mask m.mask j.0 h.0 (omega (arith, less)), j.1)
+
+  -- it does not
+  pub first-nearer : (v : ℕ) (m n : MendedSquare) → IsMendedBy unknown v g First (Some m) → IsMendedBy unknown v g Second (Some n) →
+      format_cost unknown g m.level m.mask ≤ format_cost unknown g n.level n.mask → IsMendedByEither unknown v g (Some m)
+  first-nearer v m n h j less =
+      (best-of-two First v m.level n.level m.mask n.mask h.0 j.0 (omega (arith, less)), h.1)
 
   -- ---- the promises
 
@@ -225,6 +238,12 @@ module _ (unknown g : Grid) where
   pub sure-first : (v : ℕ) (l : Level) (m : ℕ) → IsNearFormat unknown First g l m →
       format_cost unknown g l m ≤ 13 → HasFormat unknown v g l m
   sure-first v l m f h = best First v l m f (λ k n q x y d. omega (arith, sure-least l k m n f.in_range q.in_range h))
+
+  -- as `sure-first`, of a mended square
+  pub certain-first : (v : ℕ) (o : Option MendedSquare) → IsMendedBy unknown v g First o →
+      MatchOption o ⊥ (λ m. format_cost unknown g m.level m.mask ≤ 13) → IsMendedByEither unknown v g o
+  certain-first v None h c = absurd c
+  certain-first v (Some m) h c = (sure-first v m.level m.mask h.0 c, h.1)
 
   -- both copies cost at most 13
   pub sure-format : (v : ℕ) (l : Level) (m : ℕ) → m < 8 → format_cost unknown g l m ≤ 13 → HasFormat unknown v g l m

@@ -12,7 +12,7 @@ use Rattle.{qr_layout.proofs.Facts.{col-in, order-length, row-in}, qr_matrix.spe
 use Rattle.qr_bits.{specs.Bits.{bits_of, field}, proofs.Facts.length-bits_of}
 use Rattle.qr_symbol.specs.Interleaving.{block_count, codeword_count, data_sizes, part_of}
 use Rattle.qr_symbol.{specs.Reading.{IsRead, IsReadUnmasked}, proofs.Facts.{map-each, read-some}}
-use Rattle.qr_mending.specs.Message.{modules_of, read_at, received, spare_of, tolerance_of, IsMendedBlock, IsMendedIn, AreInBlocks}
+use Rattle.qr_mending.specs.Message.{modules_of, read_at, received, spare_of, correctable_of, IsMendedBlock, IsMendedIn, AreInBlocks}
 use Rattle.qr_field.proofs.lemmas.laws.DistanceLemmas.{erasures-read, errors-read}
 use Rattle.qr_mending.proofs.lemmas.message.MarkLemmas.{held-many}
 use Rattle.qr_mending.proofs.lemmas.message.MessageLemmas.{in-blocks-one, indices-some, item, items-in-blocks, received-map}
@@ -145,7 +145,7 @@ plain-block b t spare read d e message changed i enough same p = search (arith, 
 pub light-mended : (v mask s : ℕ) (l : Level) (g : Grid) (cw d e message changed : List ℕ) → 1 ≤ v → v ≤ 40 → IsRead v mask g cw →
     AreInBlocks (blocks_of v l) cw d e → length message ≡ codeword_count (data_sizes (blocks_of v l)) →
     length changed ≡ block_count (data_sizes (blocks_of v l)) →
-    ((i : ℕ) → i < block_count (data_sizes (blocks_of v l)) → IsPlainBlock (blocks_of v l) (tolerance_of v l) d e message (get_or changed i 0) i) →
+    ((i : ℕ) → i < block_count (data_sizes (blocks_of v l)) → IsPlainBlock (blocks_of v l) (correctable_of v l) d e message (get_or changed i 0) i) →
     IsMendedIn (light s) v l cw message changed
 light-mended v mask s l g cw d e message changed p q h inside long many each =
     let b = blocks_of v l in
@@ -167,7 +167,7 @@ light-mended v mask s l g cw d e message changed p q h inside long many each =
           let read = received b ks js i in
           let all : map (read_at (light s) h.places cw) read ≡ map (λ x. Some x) (received b d e i) =
           cc (all-read s h.places cw read, received-map b (item cw) ks js i, same.0, same.1) in
-          plain-block b (tolerance_of v l) (spare_of v l) (map (read_at (light s) h.places cw) read) d e message
+          plain-block b (correctable_of v l) (spare_of v l) (map (read_at (light s) h.places cw) read) d e message
           (get_or changed i 0) i
           (omega arith) all (each i r);
     }

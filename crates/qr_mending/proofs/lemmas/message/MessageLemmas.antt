@@ -1,14 +1,14 @@
--- The parts of a list of codewords, that a sequence is gathered in at most one way, and the indices of its codewords.
-use Rattle.std.proofs.Common.{◌≡◌, ℕ, ◌+◌, ◌<◌, ◌≤◌, List, ◌++◌, map, drop, length, length-drop, get_or, refl, sym, ◌∙◌, ap, subst, arith}
-use Rattle.std.proofs.lemmas.List.{length-map, length-take, take_all, take-map, drop_at, drop-map, take-append-le, drop-append-le, map-append, ext_get_or, get_or-map}
+-- A sequence is gathered in at most one way, also the indices of its codewords.
+use Rattle.std.proofs.Common.{◌≡◌, ℕ, ◌+◌, ◌<◌, ◌≤◌, List, map, drop, length, length-drop, get_or, refl, sym, ◌∙◌, ap, subst, arith}
+use Rattle.std.proofs.lemmas.List.{length-map, take-map, drop-map, map-append, ext_get_or, get_or-map}
 use Rattle.std.proofs.lemmas.List.Elements.{All-append, All-contains, All-drop, All-from_get_or, All-take}
 use Rattle.std.proofs.lemmas.{List.FromFn.{fill_by_all, get_or-range_with_len, length-range_with_len}, Simd.map-map}
 use Rattle.{std.specs.List.{range_with_len, All}, qr_mending.specs.Message.{received, AreInBlocks}}
 use Rattle.qr_layout.specs.declared.{blocks.Blocks.Blocks, level.Level.Level}
 use Rattle.qr_layout.specs.{Blocks.blocks_of, Version.total_codewords_of}
 use Rattle.qr_symbol.specs.declared.interleaving.BlockSizes.{BlockSizes}
-use Rattle.qr_symbol.specs.Interleaving.{Position, IsPosition, block_count, block_len, start_of, codeword_count, codeword_at, data_sizes, correction_sizes, IsGathered, part_of}
-use Rattle.qr_symbol.proofs.Facts.{start-next, start-most, position-in, positions-one, position-of, map-at, map-each, gather-some, sizes-whole, Mem-of-Contains}
+use Rattle.qr_symbol.specs.Interleaving.{Position, IsPosition, block_count, codeword_count, codeword_at, data_sizes, correction_sizes, IsGathered, part_of}
+use Rattle.qr_symbol.proofs.Facts.{position-in, positions-one, position-of, map-at, map-each, gather-some, sizes-whole, Mem-of-Contains}
 
 -- ---- one list of received codewords
 
@@ -111,21 +111,3 @@ received-all b P n ks js i h inside =
     let here : k < n = omega (arith, r, len) in
     search (arith, get_or-range_with_len)) in
     received-each b P indices ks js i all inside
-
--- ---- parts
-
--- the number of codewords in block i
-pub part-len : (c : BlockSizes) (d : List ℕ) (i : ℕ) → length d ≡ codeword_count c → i < block_count c → length (part_of c d i) ≡ block_len c i
-part-len c d i h l =
-    let m = start-most c (i + 1) (block_count c) (omega arith) in
-    search (arith, length-take, length-drop, start-next)
-
--- a block stays the same when other blocks are added after it
-pub part-grown : (c : BlockSizes) (xs es : List ℕ) (i k : ℕ) → length xs ≡ start_of c k → i < k →
-    part_of c (xs ++ es) i ≡ part_of c xs i
-part-grown c xs es i k h l = search (arith, start-next, start-most, drop-append-le, take-append-le, length-drop)
-
--- the block that was added last
-pub part-last : (c : BlockSizes) (xs es : List ℕ) (k : ℕ) → length xs ≡ start_of c k →
-    length es ≡ block_len c k → part_of c (xs ++ es) k ≡ es
-part-last c xs es k h l = search (arith, drop_at, take_all)

@@ -1,13 +1,13 @@
 -- A message of which some codewords were erased is mended block by block, to at most one message.
-use Rattle.std.proofs.Common.{◌≡◌, ◌==◌, not, ℕ, Some, take, drop, refl, ap, ◌+◌, ◌-◌, ◌*◌, ◌/◌, ◌<◌, ◌≤◌, Option, List, [], ◌∷◌, ◌++◌, map, length, length-append, get_or, sym, ◌∙◌, subst, inl, inr, arith}
-use Rattle.std.proofs.lemmas.{Bool.cases_lt, List.{length_push, length-replicate, length-take-le, get_or_append_left, get_or_push, ext_get_or, take-append-drop}}
+use Rattle.std.proofs.Common.{◌≡◌, ◌==◌, ◌⊎◌, not, Bool, ℕ, Some, take, drop, refl, ap, ◌+◌, ◌-◌, ◌*◌, ◌/◌, ◌<◌, ◌≤◌, Option, List, [], ◌∷◌, ◌++◌, map, length, length-append, get_or, sym, ◌∙◌, subst, inl, inr, arith}
+use Rattle.std.proofs.lemmas.{Bool.cases_lt, List.{length_push, length-map, length-replicate, length-take-le, get_or_append_left, get_or_push, ext_get_or, take-append-drop}}
 use Rattle.std.proofs.lemmas.List.Elements.{All-head, All-tail, All-replicate}
 use Rattle.{std.specs.List.{range_with_len, All}, qr_matrix.specs.Grid.Grid}
 use Rattle.qr_field.specs.{Polynomial.IsCorrection, Distance.erasures, Distance.errors}
 use Rattle.qr_layout.specs.declared.{blocks.Blocks.Blocks, level.Level.Level}
 use Rattle.qr_layout.{specs.{Blocks.blocks_of, Version.total_codewords_of}, proofs.Facts.only_order}
 use Rattle.qr_symbol.specs.Interleaving.{block_count, block_len, codeword_count, correction_sizes, data_sizes, part_of}
-use Rattle.qr_symbol.proofs.Facts.{len-most, parts-same, start-next}
+use Rattle.qr_symbol.proofs.Facts.{len-most, part-grown, part-last, part-len, parts-same, start-next}
 use Rattle.qr_field.proofs.{lemmas.laws.DistanceLemmas.unambiguous-known, Facts.correction-one}
 use Rattle.qr_mending.specs.Erasures.{IsMendedWithErasures}
 use Rattle.qr_mending.proofs.lemmas.{block.BlockLemmas.block-corrects, erasures.ErasureLemmas.{length-read, read-unmarked}}
@@ -16,8 +16,8 @@ use Rattle.qr_field.specs.Polynomial.{zeros}
 use Rattle.qr_mending.specs.declared.message.{Marks.{Marks}, MarksInBlocks.{MarksInBlocks}}
 use Rattle.qr_mending.specs.declared.message.Marks.TheVariants as interleaved
 use Rattle.qr_mending.specs.declared.message.MarksInBlocks.TheVariants as parted
-use Rattle.qr_mending.specs.Steps.Message.{list_of, marks_at, read_by, AreMarksInBlocks, AreMended, IsMendedMessage}
-use Rattle.qr_mending.proofs.lemmas.message.MessageLemmas.{in-blocks-one, in-blocks-some, part-grown, part-last, part-len, received-each}
+use Rattle.qr_mending.specs.Steps.Message.{list_of, marks_at, read_by, AreMarksInBlocks, AreMended, AreWhole, IsMendedMessage}
+use Rattle.qr_mending.proofs.lemmas.message.MessageLemmas.{in-blocks-one, in-blocks-some, received-each}
 
 -- ---- blocks
 
@@ -93,25 +93,33 @@ beside-one unknown v l cw m n x y few g h =
 
 -- ---- the steps of the code
 
--- one block more, which the code mends in place and then cuts to its data codewords
+-- a mended block has the error correction codewords of its data codewords
+pub mended-corrects : (b : Blocks) (spare k n : ℕ) (codewords marks block : List ℕ) → n ≡ b.ec_len →
+    length codewords ≡ block_len (data_sizes b) k + b.ec_len →
+    IsMendedWithErasures n spare (read_by codewords marks) block →
+    IsCorrection (take (block_len (data_sizes b) k) block) b.ec_len (drop (block_len (data_sizes b) k) block)
+mended-corrects b spare k n codewords marks block en long m =
+    let corrects = block-corrects b.ec_len block (rw en at m.block) in
+    let many : length block ≡ length codewords = m.long ∙ length-read codewords (map (λ mark. not (mark == 0)) marks) in
+    let s : length block - b.ec_len ≡ block_len (data_sizes b) k = omega (arith, many, long) in
+    rw s at corrects
+
+-- one block more, which the code mends in place
 pub push-unread : (b : Blocks) (spare : ℕ) (d e : List ℕ) (marks : ℕ → List ℕ) (k n : ℕ) (codewords block : List ℕ) (x : ℕ) →
     n ≡ b.ec_len → k < block_count (data_sizes b) → codewords ≡ received b d e k →
     length codewords ≡ block_len (data_sizes b) k + b.ec_len →
     IsMendedWithErasures n spare (read_by codewords (marks k)) block → x ≡ errors (read_by codewords (marks k)) block →
-    (message misread es : List ℕ) → es ≡ take (length block - n) block →
-    AreMended b spare d e marks k message misread →
-    AreMended b spare d e marks (k + 1) (message ++ es) (misread ++ x ∷ [])
-push-unread b spare d e marks k n codewords block x en l ec long m count message misread es cut h =
+    (message misread : List ℕ) → AreMended b spare d e marks k message misread →
+    AreMended b spare d e marks (k + 1) (message ++ take (block_len (data_sizes b) k) block) (misread ++ x ∷ [])
+push-unread b spare d e marks k n codewords block x en l ec long m count message misread h =
     let near = (rw (en, ec) at m).near in
-    let s = length block - b.ec_len in
-    let corrects = block-corrects b.ec_len block (rw (en, ec) at m).block in
+    let s = block_len (data_sizes b) k in
     let many : length block ≡ length codewords = m.long ∙ length-read codewords (map (λ mark. not (mark == 0)) (marks k)) in
-    let same : es ≡ take s block = rw en at cut in
     let whole : take s block ++ drop s block ≡ block = take-append-drop s block in
     let right : x ≡ errors (read_by (received b d e k) (marks k)) block = rw ec at count in
-    let len : length (take s block) ≡ block_len (data_sizes b) k = omega (arith, length-take-le s block (omega arith), many, long) in
-    rw same (unread-push b spare d e marks message misread (take s block) (drop s block) k x l h len corrects (rw whole right)
-    (omega (arith, near, right)))
+    let len : length (take s block) ≡ s = omega (arith, length-take-le s block (omega (arith, many, long))) in
+    unread-push b spare d e marks message misread (take s block) (drop s block) k x l h len
+    (mended-corrects b spare k n codewords (marks k) block en long m) (rw whole right) (omega (arith, near, right))
 
 -- if a block cannot be mended, the codewords are a damaged form of no message
 pub none-unread : (b : Blocks) (spare : ℕ) (d e : List ℕ) (marks : ℕ → List ℕ) (k n : ℕ) (codewords : List ℕ) →
@@ -154,6 +162,23 @@ marks-long b u w i lu lw l =
       part-len (correction_sizes b) w i lw inside,
       len,
     )
+
+-- there is a mark for each codeword, if any
+pub marks-whole : (b : Blocks) (marks : Marks) (parts : MarksInBlocks) → AreMarksInBlocks b marks parts → AreWhole b parts
+marks-whole b interleaved.AllZero parted.AllZero h = tt
+marks-whole b interleaved.AllZero (parted.Each parts) h = absurd h
+marks-whole b (interleaved.Each marks) parted.AllZero h = absurd h
+marks-whole b (interleaved.Each marks) (parted.Each parts) h = (h.gathered.long, h.rest.long)
+
+-- a block has no marks, or one for each codeword
+pub marks-or-none : (b : Blocks) (parts : MarksInBlocks) (i : ℕ) (codewords : List ℕ) (erased : List Bool) → AreWhole b parts →
+    i < block_count (data_sizes b) → length codewords ≡ block_len (data_sizes b) i + b.ec_len →
+    erased ≡ map (λ mark. not (mark == 0)) (marks_at b parts i) → (erased ≡ []) ⊎ (length erased ≡ length codewords)
+marks-or-none b parted.AllZero i codewords erased h l n e = inl e
+marks-or-none b (parted.Each parts) i codewords erased h l n e =
+    let marks = received b parts.data.items parts.checks.items i in
+    inr (ap length e ∙ (length-map marks (λ mark. not (mark == 0))
+    ∙ (marks-long b parts.data.items parts.checks.items i h.0 h.1 l ∙ sym n)))
 
 -- without marks every codeword was read
 pub none-marked : (xs : List ℕ) → read_by xs [] ≡ map (λ x. Some x) xs

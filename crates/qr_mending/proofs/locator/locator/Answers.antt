@@ -3,9 +3,9 @@ use Rattle.qr_mending.proofs.lemmas.locator.SearchLemmas.{search-locates}
 use Rattle.qr_mending.proofs.locator.locator.Goals as goal
 
 pub loop-i-init : goal.loop-i-init
-loop-i-init c = (c.new-search.ensures.search c.args.syndromes.now, omega (arith, c.new-search.ensures.degree))
+loop-i-init c = record { found = c.new-search.ensures.search c.args.syndromes.now; degree = omega (arith, c.new-search.ensures.degree) }
 
 pub returns-clause-located : goal.returns-clause-located
 returns-clause-located c = λ errors few.
-    search-locates c.args.t c.loop-i.i c.loop-i.search c.args.syndromes.now errors c.loop-i.invariant.0 (omega arith)
-    (omega arith) c.loop-i.invariant.1 few
+    search-locates c.args.t c.loop-i.i c.loop-i.search c.args.syndromes.now errors c.loop-i.invariant.found (omega arith)
+    (omega arith) c.loop-i.invariant.degree few

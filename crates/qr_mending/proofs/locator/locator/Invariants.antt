@@ -3,4 +3,7 @@ use Rattle.qr_mending.specs.Steps.Polynomial.{IsSearch}
 use Rattle.qr_mending.proofs.locator.locator.Given as goal
 
 abbrev pub invariant-loop-i : goal.invariant-loop-i
-invariant-loop-i l = IsSearch l.i l.syndromes l.search × (l.search.best.degree ≤ l.t)
+invariant-loop-i l = record {
+  found : IsSearch l.i l.syndromes l.search;
+  degree : l.search.best.degree ≤ l.t;
+}

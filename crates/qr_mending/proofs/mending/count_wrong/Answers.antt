@@ -21,8 +21,8 @@ off-row g h row f e r c other p q =
 
 pub loop-row-preserved : goal.loop-row-preserved
 loop-row-preserved c =
-    let g = c.args.matrix.now in
-    let u = c.args.unknown.now in
+    let g = c.args.scan.now.matrix.now in
+    let u = c.args.scan.now.unknown.now in
     let row = c.loop-row.row in
     let before = c.loop-row.symbol in
     let after = c.set_bit_row.new.self in
@@ -67,6 +67,6 @@ loop-row-preserved c =
 pub returns : goal.returns
 unfolding wrong_modules difference_count places_passing
 returns c =
-    let g = c.args.matrix.now in
+    let g = c.args.scan.now.matrix.now in
     c.differences.ensures
     ∙ sum-same g.side _ _ (λ r k. sum-same g.side _ _ (λ col l. ap (λ (z : Bool). cond {A = ℕ} z 1 0) (c.loop-row.invariant.done r col (omega arith) l)))

@@ -1,26 +1,86 @@
-use Rattle.std.proofs.Common.{length}
-use Rattle.qr_symbol.{specs.Interleaving.{block_count, data_sizes}, proofs.Facts.{ok-also}}
-use Rattle.qr_mending.specs.Steps.Message.{list_of, marks_at, AreMended, IsMendedMessage}
-use Rattle.qr_mending.proofs.lemmas.message.UnreadLemmas.{in-blocks-mended, none-in-blocks}
+use Rattle.std.proofs.Common.{◌≡◌, ◌++◌, ◌-◌, ◌<◌, ◌∙◌, length, take, drop, ap, sym, arith}
+use Rattle.std.proofs.lemmas.List.{length-take-le}
+use Rattle.{std.specs.List.refill}
+use Rattle.qr_symbol.specs.Interleaving.{block_count, block_len, data_sizes}
+use Rattle.qr_symbol.proofs.Facts.{checks-block, data-sizes-whole, sizes-whole}
+use Rattle.qr_mending.proofs.lemmas.errors.RemovalLemmas.{refill-same}
+use Rattle.qr_mending.proofs.lemmas.erasures.ErasureLemmas.{length-read}
+use Rattle.qr_mending.proofs.lemmas.message.UnreadLemmas.{in-blocks-mended, marks-or-none, marks-whole, mended-corrects, none-in-blocks, none-unread, push-unread}
 use Rattle.qr_mending.proofs.message.mend_blocks.Goals as goal
+
+pub erased_of-requires-clause-whole : goal.erased_of-requires-clause-whole
+erased_of-requires-clause-whole c = marks-whole _ _ _ c.loop-block.invariant.marks
+
+pub mend_block-requires-clause-marks : goal.mend_block-requires-clause-marks
+mend_block-requires-clause-marks c =
+    let b = c.blocks-blocks.result in
+    marks-or-none b _ c.loop-block.block c.as_mut_slice.result.now c.deref.result.now
+    (marks-whole b _ _ c.loop-block.invariant.marks) (omega (arith, ap block_count c.of_data.ensures))
+    (ap length c.as_mut_slice.ensures.value ∙ c.in_ok-mended.ensures.len) (c.deref.ensures.value ∙ c.in_ok-erased.ensures)
+
+pub loop-block-preserved : goal.loop-block-preserved
+loop-block-preserved c =
+    let i = c.loop-block.invariant in
+    let b = c.blocks-blocks.result in
+    let d = c.in_ok-received.received in
+    let k = c.loop-block.block in
+    let n = block_len (data_sizes b) k in
+    let old = c.in_ok-mended.mended.items in
+    let new = c.mend_block.new.codewords in
+    let within : k < block_count (data_sizes b) = omega (arith, ap block_count c.of_data.ensures) in
+    let mended = rw (c.as_mut_slice.ensures.value, c.deref.ensures.value, c.in_ok-erased.ensures) at c.in-Some.ensures.mended in
+    let long : length new ≡ length old = mended.0.long ∙ length-read old _ in
+    let same : refill c.in_ok-mended.mended.len old new ≡ new = refill-same old new c.in_ok-mended.mended.len (omega arith) long in
+    let cut : c.len-in-loop-block.result - c.count.result ≡ n =
+    omega (arith, c.in_ok-mended.ensures.len, c.len-in-loop-block.ensures, c.count.ensures.is, i.divisor) in
+    let es : c.split_at.result.0.now ≡ take n new = cc (c.split_at.ensures.front, cut, c.deref-in-loop-block.ensures.value, same) in
+    let cs : c.split_at.result.1.now ≡ drop n new = cc (c.split_at.ensures.back, cut, c.deref-in-loop-block.ensures.value, same) in
+    let front = c.in_ok-extend_from_slice.ensures.items ∙ ap (λ z. c.loop-block.message.items ++ z) es in
+    let back = c.in_ok-extend_from_slice-2.ensures.items ∙ ap (λ z. c.loop-block.corrections.items ++ z) cs in
+    record {
+      so_far = rw (front, c.in_ok-push.ensures.items) (push-unread b c.from-spare.result d.«data».items d.checks.items _ k
+          c.new-divisor.result old new c.in-Some.misread i.divisor within c.in_ok-mended.ensures.value c.in_ok-mended.ensures.len
+          mended.0 mended.1 c.loop-block.message.items c.loop-block.changed.items i.so_far);
+      checks = rw (front, back) (checks-block b c.loop-block.message.items c.loop-block.corrections.items (take n new) (drop n new)
+          k within i.so_far.long (length-take-le n new (omega (arith, long, c.in_ok-mended.ensures.len)))
+          (mended-corrects b c.from-spare.result k c.new-divisor.result old _ new i.divisor c.in_ok-mended.ensures.len mended.0) i.checks);
+      marks = i.marks;
+      divisor = i.divisor;
+    }
 
 pub returns-clause-mended : goal.returns-clause-mended
 returns-clause-mended c =
-    let b = c.args.blocks in
-    let cw = c.args.codewords.now in
-    let xs = c.in_ok-received.received in
-    let marks = c.args.marks.now in
-    let parts = c.in_ok-unread.unread in
-    ok-also (λ m. AreMended b c.args.spare xs.«data».items xs.checks.items (marks_at b parts) (block_count (data_sizes b))
-    m.message.items m.changed.items)
-    (λ m. IsMendedMessage b c.args.spare cw (list_of (length cw) marks) m.message.items m.changed.items)
-    c.mend_parts.result c.mend_parts.ensures.mended
-    (λ m h. in-blocks-mended b c.args.spare cw xs.«data».items xs.checks.items m.message.items m.changed.items marks parts
-    c.requires.whole c.in_ok-received.ensures c.in_ok-unread.ensures h)
+    let i = c.loop-block.invariant in
+    let b = c.blocks-blocks.result in
+    let d = c.in_ok-received.received in
+    let all : c.loop-block.block ≡ block_count (data_sizes b) = omega (arith, ap block_count c.of_data.ensures) in
+    rw (c.blocks-blocks.ensures, c.from-spare.ensures, c.spare.ensures, c.requires.codewords) at
+    (in-blocks-mended b c.from-spare.result c.args.codewords.now d.«data».items d.checks.items c.loop-block.message.items
+    c.loop-block.changed.items c.args.marks.now _
+    (rw c.blocks-blocks.ensures (c.requires.codewords ∙ sym (sizes-whole c.args.version c.args.level (omega arith) (omega arith))))
+    c.in_ok-received.ensures i.marks
+    (rw all at i.so_far))
 
-pub returns-clause-refused : goal.returns-clause-refused
-returns-clause-refused c =
-    let xs = c.in_ok-received.received in
-    λ e.
-    none-in-blocks c.args.blocks c.args.spare c.args.codewords.now xs.«data».items xs.checks.items c.args.marks.now c.in_ok-unread.unread
-    c.in_ok-received.ensures c.in_ok-unread.ensures (c.mend_parts.ensures.refused e)
+pub returns-clause-corrections : goal.returns-clause-corrections
+returns-clause-corrections c =
+    let i = c.loop-block.invariant in
+    let b = c.blocks-blocks.result in
+    let all : c.loop-block.block ≡ block_count (data_sizes b) = omega (arith, ap block_count c.of_data.ensures) in
+    record {
+      long = rw (all, c.blocks-blocks.ensures) at i.so_far.long ∙ data-sizes-whole c.args.version c.args.level (omega arith) (omega arith);
+      checks = rw (all, c.blocks-blocks.ensures) at i.checks;
+    }
+
+pub returns-in_default-clause-refused : goal.returns-in_default-clause-refused
+returns-in_default-clause-refused c = λ e message misread h.
+    let i = c.loop-block.invariant in
+    let b = c.blocks-blocks.result in
+    let d = c.in_ok-received.received in
+    let within : c.loop-block.block < block_count (data_sizes b) = omega (arith, ap block_count c.of_data.ensures) in
+    none-in-blocks b c.from-spare.result c.args.codewords.now d.«data».items d.checks.items c.args.marks.now _
+    c.in_ok-received.ensures i.marks
+    (none-unread b c.from-spare.result d.«data».items d.checks.items _ c.loop-block.block c.new-divisor.result
+    c.in_ok-mended.mended.items i.divisor within c.in_ok-mended.ensures.value c.in_ok-mended.ensures.len
+    (rw (c.as_mut_slice.ensures.value, c.deref.ensures.value, c.in_ok-erased.ensures) at c.in_default.ensures.refused))
+    message misread
+    (rw (← c.blocks-blocks.ensures, ← c.spare.ensures, ← c.from-spare.ensures, ← c.requires.codewords) at h)

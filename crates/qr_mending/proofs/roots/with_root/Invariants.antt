@@ -3,6 +3,7 @@ use Rattle.qr_mending.specs.Steps.Roots.{times_root}
 use Rattle.qr_mending.proofs.roots.with_root.Given as goal
 
 abbrev pub invariant-loop-coefficient : goal.invariant-loop-coefficient
-invariant-loop-coefficient l =
-    (array_vec_len l.product ≡ l.coefficient-index)
-    × (l.product.items ++ times_root l.root l.carry (drop l.coefficient-index l.polynomial) ≡ times_root l.root 0 l.polynomial)
+invariant-loop-coefficient l = record {
+  count : array_vec_len l.product ≡ l.coefficient-index;
+  product : l.product.items ++ times_root l.root l.carry (drop l.coefficient-index l.polynomial) ≡ times_root l.root 0 l.polynomial;
+}

@@ -1,12 +1,10 @@
-use Rattle.{qr_layout.specs.Version.side_of, qr_symbol.specs.Steps.Collecting.{bits_in_rows, Appends}}
-use Rattle.std.proofs.Common.{◌-◌, ◌≤◌}
+use Rattle.{qr_layout.specs.Version.side_of, qr_symbol.specs.Steps.{Collecting.bits_in_rows, Spans.AreSpansOf, Words.Appends}}
 use Rattle.qr_symbol.proofs.collecting.collect_columns.Given as goal
 
-abbrev pub invariant-loop-passed : goal.invariant-loop-passed
-invariant-loop-passed l = record {
-  rows_in : l.passed ≤ side_of l.v;
-  bits : Appends (bits_in_rows (side_of l.v) l.strip l.region l.columns 0 l.passed) l.fn.bits l.bits;
+abbrev pub invariant-loop-span : goal.invariant-loop-span
+invariant-loop-span l = record {
+  can_next : (goal.iterator-loop-span).can_next l.span-iterator;
+  is_finite : (goal.iterator-loop-span).is_finite l.span-iterator;
+  strip : AreSpansOf (side_of l.fn.v) l.fn.strip l.region 28 l.span-iterator;
+  bits : Appends (bits_in_rows (side_of l.fn.v) l.fn.strip l.region l.columns 0 l.span-iterator.passed) l.fn.bits l.bits;
 }
-
-abbrev pub decreases-loop-passed : goal.decreases-loop-passed
-decreases-loop-passed l = side_of l.v - l.passed

@@ -1,10 +1,14 @@
 -- The bits of a strip, row by row, are those of the strip's places in the encoding region, in their order.
 use Rattle.qr_layout.specs.{Order.in_region_of, Region.is_in_region, Strips.{both_of, rows_from, places_of}}
 use Rattle.{qr_layout.specs.declared.{region.Module.Module, strips.Strip.Strip}, std.{proofs.lemmas.List.{map-append}}}
-use Rattle.{qr_matrix.specs.{BitRow.has, Grid.{Grid, colour}}, qr_symbol.specs.declared.placement.Columns.Columns}
+use Rattle.qr_matrix.specs.BitRow.{has}
+use Rattle.qr_matrix.specs.Grid.{Grid, colour}
+use Rattle.qr_symbol.specs.declared.spans.Columns.{Columns}
 use Rattle.qr_symbol.proofs.lemmas.placement.{KeptPlaceLemmas.{kept-append, places-push}, PlacementLemmas.at}
-use Rattle.qr_symbol.specs.Steps.{Collecting.{bit_if, bits_in_row, bits_in_rows, colour_across, Appends, Bits, HasCollected}, Placement.row_of}
-use Rattle.std.proofs.Common.{◌≡◌, ℕ, zero, suc, ◌+◌, ◌-◌, ◌<◌, ◌≤◌, Bool, true, false, cond, not, ◌||◌, None, Some, List, [], ◌∷◌, ◌++◌, map, refl, sym, ◌∙◌, ap, subst, append_assoc, append-nil, arith}
+use Rattle.qr_symbol.specs.Steps.Collecting.{bit_if, bits_in_row, bits_in_rows, colour_across}
+use Rattle.qr_symbol.specs.Steps.Words.{Appends, Bits, HasCollected}
+use Rattle.qr_symbol.specs.Steps.Spans.{row_of, AreOutside}
+use Rattle.std.proofs.Common.{◌≡◌, ℕ, zero, suc, ◌+◌, ◌-◌, ◌<◌, ◌≤◌, Bool, true, false, cond, List, [], ◌∷◌, ◌++◌, map, refl, sym, ◌∙◌, ap, subst, append_assoc, append-nil, arith}
 
 -- the bits of n + m rows are those of the first n rows, followed by those of m more
 rows-append : (s : ℕ) (x : Strip) (r y : Columns) (k n m : ℕ) → bits_in_rows s x r y k (n + m) ≡ bits_in_rows s x r y k n ++ bits_in_rows s x r y (k + n) m
@@ -12,21 +16,6 @@ rows-append s x r y k zero m = let e : 0 + m ≡ m = omega arith in let f : k + 
 rows-append s x r y k (suc n) m =
     let e : suc n + m ≡ suc (n + m) = omega arith in let f : k + suc n ≡ k + 1 + n = omega arith in
     rw (e, f) (ap (λ z. bits_in_row r y (row_of s x k) ++ z) (rows-append s x r y (k + 1) n m) ∙ sym (append_assoc (bits_in_row r y (row_of s x k)) _ _))
-
--- bits are added to those of a collector
-pub added : (was : Bool) (old new more : List Bool) → new ≡ old ++ more → Appends more (cond was None (Some old)) (cond was None (Some new))
-added true _ _ _ e _ i = tt
-added false _ _ more e _ i = e ∙ ap (λ zs. zs ++ more) i
-
--- codewords are added, if memory for them is not refused
-pub pushed : (was failed : Bool) (old new more : List Bool) → (failed ≡ false → new ≡ old ++ more) → Appends more (cond was None (Some old)) (cond (was || failed) None (Some new))
-pushed true _ _ _ _ e _ i = tt
-pushed false true _ _ _ e _ i = tt
-pushed false false _ _ more e _ i = e refl ∙ ap (λ zs. zs ++ more) i
-
--- the codewords after a push that is not refused
-pub push-made : (xs ys zs : List ℕ) (ok failed : Bool) → zs ≡ cond ok ys xs → ok ≡ not failed → failed ≡ false → zs ≡ ys
-push-made _ _ _ _ _ e d f = rw (d, f) at e
 
 -- bits and then further bits are added
 pub both-added : (a b c : Bits) (more further all : List Bool) → all ≡ more ++ further → Appends more a b → Appends further b c → Appends all a c
@@ -37,14 +26,19 @@ pub rows-read : (s : ℕ) (x : Strip) (r y : Columns) (k n m h j : ℕ) (a b c :
     → Appends (bits_in_rows s x r y k j) a c
 rows-read s x r y k n m h j a b c e f p q = both-added a b c _ _ _ (rw (e, f) (rows-append s x r y k n m)) p q
 
--- one row is read, the module of the right column first
-pub row-read : (s : ℕ) (x : Strip) (r y : Columns) (k row : ℕ) (a b c : Bits) → row ≡ row_of s x k → Appends (bit_if (has r.right row) (has y.right row)) a b → Appends (bit_if (has r.left row) (has y.left row)) b c
-    → Appends (bits_in_rows s x r y k 1) a c
-row-read s x r y k row a b c e p q = both-added a b c _ _ _ (rw (← e) (append-nil _)) p q
+-- a row is read of which only the right module is in the region
+pub right-read : (s : ℕ) (x : Strip) (r y : Columns) (k row : ℕ) (dark : Bool) (a b : Bits) → row ≡ row_of s x k → has r.right row ≡ true → has r.left row ≡ false
+    → dark ≡ has y.right row → Appends (dark ∷ []) a b → Appends (bits_in_rows s x r y k 1) a b
+right-read s x r y k row dark a b e t u f p = rw (← e, t, u, ← f) p
+
+-- a row is read of which only the left module is in the region
+pub left-read : (s : ℕ) (x : Strip) (r y : Columns) (k row : ℕ) (dark : Bool) (a b : Bits) → row ≡ row_of s x k → has r.right row ≡ false → has r.left row ≡ true
+    → dark ≡ has y.left row → Appends (dark ∷ []) a b → Appends (bits_in_rows s x r y k 1) a b
+left-read s x r y k row dark a b e t u f p = rw (← e, t, u, ← f) p
 
 -- rows outside the region have no bits
 outside-bits : (s : ℕ) (x : Strip) (r y : Columns) (k n : ℕ)
-    → ((j : ℕ) → k ≤ j → j < k + n → (has r.right (row_of s x j) ≡ false) × (has r.left (row_of s x j) ≡ false)) → bits_in_rows s x r y k n ≡ []
+    → AreOutside s x k n r → bits_in_rows s x r y k n ≡ []
 outside-bits s x r y k zero out = refl
 outside-bits s x r y k (suc n) out =
     let here = out k (omega arith) (omega arith) in
@@ -52,7 +46,7 @@ outside-bits s x r y k (suc n) out =
 
 -- they are read if nothing is done
 pub outside-read : (s : ℕ) (x : Strip) (r y : Columns) (k n : ℕ) (a : Bits)
-    → ((j : ℕ) → k ≤ j → j < k + n → (has r.right (row_of s x j) ≡ false) × (has r.left (row_of s x j) ≡ false)) → Appends (bits_in_rows s x r y k n) a a
+    → AreOutside s x k n r → Appends (bits_in_rows s x r y k n) a a
 outside-read s x r y k n a out xs i = rw (outside-bits s x r y k n out, append-nil) i
 
 -- the bits of a place and of further places

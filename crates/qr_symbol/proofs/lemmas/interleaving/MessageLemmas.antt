@@ -4,9 +4,11 @@ use Rattle.qr_layout.{proofs.Facts.{Mem-of-Contains, blocks-sound}, specs.Blocks
 use Rattle.qr_layout.specs.{Version.total_codewords_of, declared.{blocks.Blocks.Blocks, level.Level.Level}}
 use Rattle.{qr_symbol.proofs.lemmas.interleaving.OrderLemmas.positions-many, std.specs.Prelude.{Result, Ok, Err, IfOk}}
 use Rattle.qr_symbol.proofs.lemmas.interleaving.RankLemmas.{positions-one, position-of, map-at}
-use Rattle.qr_symbol.specs.Interleaving.{block_count, codeword_count, codeword_at, data_sizes, correction_sizes, block_of, check_at, IsFinalMessage, IsGathered}
-use Rattle.std.proofs.Common.{◌≡◌, ℕ, ◌+◌, ◌-◌, ◌*◌, ◌<◌, ◌≤◌, List, [], ◌∷◌, ◌++◌, map, length, length-append, get_or, refl, sym, ◌∙◌, ap, subst, arith, take}
-use Rattle.std.proofs.{Math.Seq.take-append_seam, lemmas.List.{length-map, ext_get_or}}
+use Rattle.qr_symbol.proofs.lemmas.interleaving.{CheckLemmas.both-interleaved, PositionLemmas.part-at}
+use Rattle.qr_symbol.specs.{Steps.Interleaving.IsChecks, declared.interleaving.BlockSizes.BlockSizes}
+use Rattle.qr_symbol.specs.Interleaving.{block_count, codeword_count, codeword_at, data_sizes, correction_sizes, block_of, check_at, part_of, IsFinalMessage, IsGathered}
+use Rattle.std.proofs.Common.{◌≡◌, ℕ, ◌+◌, ◌-◌, ◌*◌, ◌<◌, ◌≤◌, List, [], ◌∷◌, ◌++◌, map, length, length-append, get_or, refl, sym, ◌∙◌, ap, subst, arith, drop, take}
+use Rattle.std.proofs.{Math.Seq.{take-append_seam, drop-append_seam}, lemmas.List.{length-map, length-drop, length-take-le, ext_get_or, take-append-drop, take-take, take_all}}
 
 -- ---- one final sequence
 
@@ -82,6 +84,10 @@ ok-also P Q (Err e) h f = tt
 pub take-front : {X : Type 0} (n : ℕ) (xs ys : List X) → length xs ≡ n → take n (xs ++ ys) ≡ xs
 take-front n xs ys e = rw (← e) (take-append_seam xs ys)
 
+-- what comes after this prefix is the second list
+drop-front : {X : Type 0} (n : ℕ) (xs ys : List X) → length xs ≡ n → drop n (xs ++ ys) ≡ ys
+drop-front n xs ys e = rw (← e) (drop-append_seam xs ys)
+
 -- the gathered codewords are the message, if the sequence is the final sequence of a message
 pub gathered-one : (b : Blocks) (interleaved xs d : List ℕ) → IsGathered (data_sizes b) interleaved xs
     → length d ≡ codeword_count (data_sizes b) → IsFinalMessage b d interleaved → xs ≡ d
@@ -92,9 +98,50 @@ gathered-one b interleaved xs d g n h =
     let w = position-of c (block_count c) j (omega arith) (omega arith) in
     let q = map-at _ _ _ w.0 (g.same ∙ first) (Mem-of-Contains _ w.0 (g.order.complete w.0 w.1)) in cc)
 
--- a sequence that differs from the final sequence of its gathered codewords is the final sequence of no message
-pub none-fits : (b : Blocks) (interleaved xs again d : List ℕ) → IsGathered (data_sizes b) interleaved xs
-    → IsFinalMessage b xs again → (again ≡ interleaved → ⊥) → length d ≡ codeword_count (data_sizes b)
+-- the error correction codewords that were gathered are those of the message, if the sequence is its final sequence
+checks-read : (b : Blocks) (interleaved d xs es : List ℕ) (n : ℕ) → n ≡ codeword_count (data_sizes b) → IsFinalMessage b d interleaved
+    → IsGathered (correction_sizes b) (drop n interleaved) xs → IsChecks b d (block_count (data_sizes b)) es → xs ≡ es
+checks-read b interleaved d xs es n e h g k =
+    let c = correction_sizes b in
+    let first = map (codeword_at (data_sizes b) d) h.data_positions in
+    let checks = map (check_at h.corrections) h.check_positions in
+    let long : length first ≡ n = length-map h.data_positions (codeword_at (data_sizes b) d) ∙ (positions-many _ _ h.data_order ∙ sym e) in
+    let rest : drop n interleaved ≡ checks = ap (drop n) h.whole ∙ drop-front n first checks long in
+    let many : length checks ≡ codeword_count c = length-map h.check_positions (check_at h.corrections) ∙ positions-many _ _ h.check_order in
+    let all : take (codeword_count c) (drop n interleaved) ≡ checks = ap (take (codeword_count c)) rest ∙ take_all (codeword_count c) checks (omega arith) in
+    let both : map (codeword_at c xs) g.positions ≡ map (check_at h.corrections) g.positions = g.same ∙ (all ∙ ap (map (check_at h.corrections)) (positions-one c _ _ h.check_order g.order)) in
+    ext_get_or 0 xs es (g.long ∙ omega (arith, k.long)) (λ j l.
+    let w = position-of c (block_count c) j (omega arith) (omega (arith, g.long)) in
+    let read = map-at _ _ _ w.0 both (Mem-of-Contains _ w.0 (g.order.complete w.0 w.1)) in
+    let here : w.0.block < block_count (data_sizes b) = (let i = w.1.0 in omega arith) in
+    let same = correction-one (block_of b d w.0.block) b.ec_len _ (part_of c es w.0.block) (h.each w.0.block here) (k.each w.0.block here) in
+    let computed : codeword_at c es w.0 ≡ check_at h.corrections w.0 = part-at c es w.0 w.1 ∙ ap (λ (ys : List ℕ). get_or ys w.0.place 0) (sym same) in
+    let place = w.2 in cc)
+
+-- ---- a sequence that is read
+
+-- the first codewords of a sequence are gathered as they are in the sequence
+gathered-front : (c : BlockSizes) (interleaved xs : List ℕ) (n : ℕ) → n ≡ codeword_count c → IsGathered c interleaved xs → IsGathered c (take n interleaved) xs
+gathered-front c interleaved xs n e g = record {
+  long = g.long;
+  positions = g.positions;
+  order = g.order;
+  many = g.many;
+  same = g.same ∙ sym (take-take (codeword_count c) n interleaved (omega arith));
+}
+
+-- a sequence is the final sequence of its gathered message, if its error correction codewords are those of the message
+pub message-read : (b : Blocks) (interleaved d es : List ℕ) (n : ℕ) → n ≡ codeword_count (data_sizes b)
+    → length interleaved ≡ codeword_count (data_sizes b) + codeword_count (correction_sizes b) → IsGathered (data_sizes b) interleaved d
+    → IsGathered (correction_sizes b) (drop n interleaved) es → IsChecks b d (block_count (data_sizes b)) es → IsFinalMessage b d interleaved
+message-read b interleaved d es n e l g h k =
+    subst (IsFinalMessage b d) (take-append-drop n interleaved)
+    (both-interleaved b d es (take n interleaved) (drop n interleaved) k.each (omega (arith, length-take-le n interleaved)) (omega (arith, length-drop n interleaved)) (gathered-front _ _ _ n e g) h)
+
+-- otherwise it is the final sequence of no message
+pub none-fits : (b : Blocks) (interleaved xs es computed d : List ℕ) (n : ℕ) → n ≡ codeword_count (data_sizes b)
+    → IsGathered (data_sizes b) interleaved xs → IsGathered (correction_sizes b) (drop n interleaved) es
+    → IsChecks b xs (block_count (data_sizes b)) computed → (es ≡ computed → ⊥) → length d ≡ codeword_count (data_sizes b)
     → IsFinalMessage b d interleaved → ⊥
-none-fits b interleaved xs again d g h n l k =
-    n (final-one b d _ _ (subst (λ (z : List ℕ). IsFinalMessage b z again) (gathered-one b _ xs d g l k) h) k)
+none-fits b interleaved xs es computed d n e g h k other l m =
+    other (checks-read b _ xs _ _ n e (subst (λ (z : List ℕ). IsFinalMessage b z interleaved) (sym (gathered-one b _ xs d g l m)) m) h k)

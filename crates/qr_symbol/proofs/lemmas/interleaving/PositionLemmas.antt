@@ -1,9 +1,10 @@
--- The positions of all codewords, in their order, and where blocks begin.
+-- The positions of all codewords, in their order, where blocks begin, and the codewords of one block.
 use Rattle.qr_layout.proofs.Facts.{Mem, Rises, All-of-Mem}
-use Rattle.qr_symbol.specs.Interleaving.{Position, ComesBefore, block_count, block_len, start_of, IsPosition, IsPositionOrder, codeword_count}
+use Rattle.qr_symbol.specs.Interleaving.{Position, ComesBefore, block_count, block_len, start_of, IsPosition, IsPositionOrder, codeword_at, codeword_count, part_of}
 use Rattle.qr_symbol.specs.declared.interleaving.BlockSizes.{BlockSizes}
-use Rattle.std.proofs.Common.{◌≡◌, ℕ, zero, suc, ◌+◌, ◌<◌, ◌≤◌, List, [], ◌∷◌, ◌++◌, refl, inl, inr, ◌⊎◌, arith}
+use Rattle.std.proofs.Common.{◌≡◌, ℕ, zero, suc, ◌+◌, ◌<◌, ◌≤◌, List, [], ◌∷◌, ◌++◌, length, length-drop, drop, get_or, refl, inl, inr, ◌⊎◌, arith}
 use Rattle.std.proofs.{Math.Nat.{mul-suc, mul-le-mul_left}, lemmas.Bool.Decides.nat_tests}
+use Rattle.std.proofs.lemmas.List.{drop-append-le, drop_at, get_or-drop, get_or-take, length-take, take-append-le, take_all}
 use Rattle.std.{proofs.lemmas.List.Kept.AllPairs-cons, specs.List.{All, AllPairs, AllByRecursion, Contains}}
 
 -- the position with index p in block b
@@ -118,3 +119,29 @@ start-most c i j l = let m = mul-le-mul_left c.short_len l in omega arith
 -- the codeword of a position is inside the message
 pub position-in : (c : BlockSizes) (p b : ℕ) → IsPosition c (position p b) → start_of c b + p < codeword_count c
 position-in c p b i = let e = start-next c b in let m = start-most c (b + 1) (block_count c) (let l = i.0 in omega arith) in let l = i.1 in omega arith
+
+-- ---- the codewords of one block
+
+-- the number of codewords in block i
+pub part-len : (c : BlockSizes) (d : List ℕ) (i : ℕ) → length d ≡ codeword_count c → i < block_count c → length (part_of c d i) ≡ block_len c i
+part-len c d i h l =
+    let m = start-most c (i + 1) (block_count c) (omega arith) in
+    search (arith, length-take, length-drop, start-next)
+
+-- a block stays the same when other blocks are added after it
+pub part-grown : (c : BlockSizes) (xs es : List ℕ) (i k : ℕ) → length xs ≡ start_of c k → i < k →
+    part_of c (xs ++ es) i ≡ part_of c xs i
+part-grown c xs es i k h l = search (arith, start-next, start-most, drop-append-le, take-append-le, length-drop)
+
+-- the block that was added last
+pub part-last : (c : BlockSizes) (xs es : List ℕ) (k : ℕ) → length xs ≡ start_of c k →
+    length es ≡ block_len c k → part_of c (xs ++ es) k ≡ es
+part-last c xs es k h l = search (arith, drop_at, take_all)
+
+-- the codeword at a position, in its block
+pub part-at : (c : BlockSizes) (d : List ℕ) (t : Position) → IsPosition c t → codeword_at c d t ≡ get_or (part_of c d t.block) t.place 0
+part-at c d t i =
+    let rest = drop (start_of c t.block) d in
+    let first = get_or-take (block_len c t.block) rest t.place 0 i.1 in
+    let second = get_or-drop (start_of c t.block) d t.place 0 in
+    cc

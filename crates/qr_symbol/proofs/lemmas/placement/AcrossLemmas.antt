@@ -2,9 +2,12 @@
 use Rattle.qr_layout.proofs.Facts.{region-symmetric}
 use Rattle.qr_layout.specs.{Region.is_in_region, Version.side_of, declared.strips.Strip.Strip}
 use Rattle.qr_matrix.{proofs.Facts.colour-square, specs.{BitRow.has, Grid.{Grid, square, colour, with_row, IsSquare}}}
-use Rattle.qr_symbol.proofs.lemmas.placement.{ColumnLemmas.row-small, PlacementLemmas.square-is}
-use Rattle.qr_symbol.specs.Steps.Placement.{number_at, region_grid, row_of, AreDrawn, IsStripDrawn}
-use Rattle.{qr_symbol.specs.declared.placement.Columns.Columns, std.proofs.lemmas.Bool.Decides.nat_tests}
+use Rattle.qr_symbol.proofs.lemmas.placement.PlacementLemmas.{square-is}
+use Rattle.qr_symbol.proofs.lemmas.spans.SpanLemmas.{row-small}
+use Rattle.qr_symbol.specs.Steps.Placement.{number_at, region_grid, AreDrawn, IsStripDrawn}
+use Rattle.qr_symbol.specs.Steps.Spans.{row_of}
+use Rattle.std.proofs.lemmas.Bool.Decides.{nat_tests}
+use Rattle.qr_symbol.specs.declared.spans.Columns.{Columns}
 use Rattle.std.proofs.Common.{◌≡◌, ℕ, ◌-◌, ◌<◌, ◌≤◌, Bool, not, cond, eqb, ◌&&◌, List, refl, ◌∙◌, ap, arith}
 
 -- the square of the encoding region, read with row and column exchanged, says whether a place is in the region

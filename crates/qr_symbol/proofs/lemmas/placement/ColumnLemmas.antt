@@ -1,19 +1,15 @@
 -- The columns of a strip, held apart from the square in which they are two rows.
 use Rattle.std.proofs.Common.{◌≡◌, ℕ, zero, suc, ◌+◌, ◌-◌, ◌*◌, ◌<◌, ◌≤◌, Bool, true, cond, eqb, ◌&&◌, List, sym, ◌∙◌, inl, inr, add-one, arith}
-use Rattle.{std.proofs.lemmas.Bool.{cases_lt, Decides.nat_tests}, qr_symbol.specs.declared.placement.Columns.Columns}
+use Rattle.std.proofs.lemmas.Bool.{cases_lt}
+use Rattle.std.proofs.lemmas.Bool.Decides.{nat_tests}
+use Rattle.qr_symbol.specs.declared.spans.Columns.{Columns}
 use Rattle.qr_layout.specs.{Region.is_in_region, Version.side_of, declared.strips.Strip.Strip}
 use Rattle.qr_matrix.specs.BitRow.{has, has_bit}
-use Rattle.qr_symbol.specs.Steps.Placement.{number_after, number_at, row_of, AreDrawn, AreNext}
+use Rattle.qr_symbol.specs.Steps.Placement.{number_after, number_at, AreDrawn}
+use Rattle.qr_symbol.{proofs.lemmas.spans.SpanLemmas.rows-apart, specs.Steps.Spans.row_of}
+use Rattle.qr_symbol.specs.Steps.Words.{AreNext}
 
 -- ---- rows and their numbers
-
--- two different indices are two different rows
-pub rows-apart : (x : Strip) (s j k : ℕ) → j < s → k < j → row_of s x j ≡ row_of s x k → ⊥
-rows-apart x s j k l m e = grind (arith, nat_tests)
-
--- a row of the strip is a row of the symbol, and has its own index as the row of that index
-pub row-small : (x : Strip) (s k : ℕ) → k < s → (row_of s x k < s) × (row_of s x (row_of s x k) ≡ k)
-row-small x s k l = (grind (arith, nat_tests), grind (arith, nat_tests))
 
 -- the number of the next bit after a module that may or may not be in the encoding region
 after-plus : (t : Bool) (n k m : ℕ) → m ≡ number_after t k → n + m ≡ number_after t (n + k)

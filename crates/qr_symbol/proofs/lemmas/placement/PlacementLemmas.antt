@@ -6,10 +6,12 @@ use Rattle.qr_layout.specs.{Order.{IsOrder, in_region_of, number_of}, Region.is_
 use Rattle.qr_layout.specs.{Strips.{both_of, rows_from}, Version.side_of, declared.level.Level.Level}
 use Rattle.qr_layout.specs.declared.{region.Module.Module, role.Role.{Role, TheVariants.Region}, strips.Strip.Strip}
 use Rattle.qr_matrix.proofs.Facts.{same-place, square-same, colour-square, colour-painted-here, colour-painted-there, colour-transposed}
-use Rattle.qr_symbol.proofs.lemmas.placement.{ColumnLemmas.row-small, KeptPlaceLemmas.{kept-append, kept-in, kept-out}}
+use Rattle.qr_symbol.proofs.lemmas.placement.KeptPlaceLemmas.{kept-append, kept-in, kept-out}
+use Rattle.qr_symbol.proofs.lemmas.spans.SpanLemmas.{row-small}
 use Rattle.qr_symbol.specs.{Mask.{inverts, inverted}, Symbol.{colour_by, colour_of, grid_of}}
 use Rattle.qr_symbol.specs.Steps.Patterns.{fixed_colour, format_or, paint_of, symmetric_format}
-use Rattle.qr_symbol.specs.Steps.Placement.{placed_colour, number_after, number_at, row_of, IsStripDrawn, masked_colour, masked_grid, region_grid, plain_grid}
+use Rattle.qr_symbol.specs.Steps.Placement.{placed_colour, number_after, number_at, IsStripDrawn, masked_colour, masked_grid, region_grid, plain_grid}
+use Rattle.qr_symbol.specs.Steps.Spans.{row_of}
 use Rattle.std.proofs.Common.{◌≡◌, ℕ, zero, suc, ◌+◌, ◌-◌, ◌⊎◌, ◌<◌, ◌≤◌, Bool, true, false, cond, nat_eq, ◌&&◌, List, [], ◌∷◌, ◌++◌, length, length-append, refl, sym, ◌∙◌, ap, inl, inr, subst, append_assoc, append-nil, arith}
 
 -- the module in a row and a column

@@ -6,7 +6,8 @@ use Rattle.qr_layout.specs.{Order.{IsOrder, number_of}, Region.is_in_region, Rol
 use Rattle.qr_layout.specs.declared.{level.Level.Level, region.Module.Module, role.Role.{Role, TheVariants.Region}}
 use Rattle.qr_matrix.proofs.Facts.{square-same, colour-square}
 use Rattle.qr_matrix.specs.Grid.{Grid, square, colour, light, painted, IsSquare}
-use Rattle.qr_symbol.{proofs.lemmas.placement.BitLemmas.differs-inverted, specs.Symbol.{colour_by, colour_of, grid_of}}
+use Rattle.qr_symbol.specs.Symbol.{colour_by, colour_of, grid_of}
+use Rattle.qr_symbol.proofs.lemmas.words.BitLemmas.{differs-inverted}
 use Rattle.qr_symbol.proofs.lemmas.placement.PlacementLemmas.{at, by_test, Done, done-start, done-step, done-end, next-number, painted-square, whole-next, whole-push, in-square}
 use Rattle.qr_symbol.specs.{Mask.{inverts, inverted}, Steps.{Patterns.fixed_colour, Placement.walked_colour}}
 use Rattle.std.proofs.Common.{◌≡◌, ℕ, ◌+◌, ◌<◌, ◌≤◌, Bool, true, false, cond, not, List, [], ◌∷◌, ◌++◌, length, length-append, refl, ◌∙◌, ap, sym, subst, arith}

@@ -1,8 +1,8 @@
 -- The parts of an input: how long a prefix fits, and the lengths of the parts, which are found one after another.
 use borrow.Author.Tests.{leb-true}
-use Rattle.qr_bits.proofs.Facts.{bytes_fit, fitting_short, may_write-drop, may_write-take, piece_fits}
+use Rattle.qr_bits.proofs.Facts.{bytes_fit, fitting_short, piece_fits}
 use Rattle.qr_bits.specs.{Modes.{may_use, count_width}, Padding.{capacity_of, room_of}, Segmentation.{HasFit, IsLongestFit}}
-use Rattle.qr_bits.specs.Interpretation.{MayWrite, interpretation_bits}
+use Rattle.qr_bits.specs.Interpretation.{interpretation_bits}
 use Rattle.qr_bits.specs.declared.interpretation.Interpretation.{Interpretation, TheVariants.Default}
 use Rattle.qr_symbol.proofs.lemmas.version_choice.FitLemmas.{interpretation-most}
 use Rattle.qr_bits.specs.declared.modes.{Mode.TheVariants.{Byte, Kanji}, Rule.Rule}
@@ -143,39 +143,32 @@ behind-all : {X : Type 0} (k : ℕ) (xs ys : List X) → length xs ≤ k → dro
 behind-all k xs ys i = ap (λ (n : ℕ). drop n (xs ++ ys)) (omega arith) ∙ drop-append-add xs ys _
 
 -- a rest of the bytes fits wherever all of the bytes fit
-rest-fits : (how : Interpretation) (v : ℕ) (b : Rule) (k : ℕ) (xs : List ℕ) (n : ℕ) → MayWrite how xs → may_use b Kanji ≡ false → HasFit how v b xs n → HasFit how v b (drop k xs) n
-rest-fits how v b k xs n may plain fit =
+rest-fits : (how : Interpretation) (v : ℕ) (b : Rule) (k : ℕ) (xs : List ℕ) (n : ℕ) → may_use b Kanji ≡ false → HasFit how v b xs n → HasFit how v b (drop k xs) n
+rest-fits how v b k xs n plain fit =
     let whole : xs ≡ take k xs ++ (drop k xs ++ []) = rw (append-nil _) (sym (take-append-drop k xs)) in
-    piece_fits how v b _ _ [] n (subst (MayWrite how) whole may) plain (subst (λ (ys : List ℕ). HasFit how v b ys n) whole fit)
-
--- what may be written of two joined lists may be written of each
-may-front : (how : Interpretation) (xs ys : List ℕ) → MayWrite how (xs ++ ys) → MayWrite how xs
-may-front how xs ys may = subst (MayWrite how) (take-append_seam xs ys) (may_write-take how (length xs) (xs ++ ys) may)
-
-may-behind : (how : Interpretation) (xs ys : List ℕ) → MayWrite how (xs ++ ys) → MayWrite how ys
-may-behind how xs ys may = subst (MayWrite how) (drop-append_seam xs ys) (may_write-drop how (length xs) (xs ++ ys) may)
+    piece_fits how v b _ _ [] n plain (subst (λ (ys : List ℕ). HasFit how v b ys n) whole fit)
 
 -- a rest of the bytes can be cut into at most as many parts that fit as all of the bytes
-rest-parts : (v : ℕ) (l : Level) (b : Rule) (how : Interpretation) (k : ℕ) (ps : List (List ℕ)) → MayWrite how (concat ps) → may_use b Kanji ≡ false → All (λ p. HasFit how v b p (room_of v l how)) ps
+rest-parts : (v : ℕ) (l : Level) (b : Rule) (how : Interpretation) (k : ℕ) (ps : List (List ℕ)) → may_use b Kanji ≡ false → All (λ p. HasFit how v b p (room_of v l how)) ps
     → (qs : List (List ℕ)) × FitParts v l b how (drop k (concat ps)) qs × (length qs ≤ length ps)
-rest-parts v l b how k [] may plain h = ([], (drop-nil k, h), omega arith)
-rest-parts v l b how k (p ∷ ps) may plain h =
+rest-parts v l b how k [] plain h = ([], (drop-nil k, h), omega arith)
+rest-parts v l b how k (p ∷ ps) plain h =
     let fits = λ (q : List ℕ). HasFit how v b q (room_of v l how) in
     let behind = All-tail fits p ps h in elim (cases_lt k (length p)) [
-      | inl i ↦ (drop k p ∷ ps, (drop-append-le k p _ (omega arith), All-cons fits _ ps (rest-fits how v b k p _ (may-front how p _ may) plain (All-head fits p ps h)) behind), omega arith)
+      | inl i ↦ (drop k p ∷ ps, (drop-append-le k p _ (omega arith), All-cons fits _ ps (rest-fits how v b k p _ plain (All-head fits p ps h)) behind), omega arith)
       | inr i ↦ (
-          let r = rest-parts v l b how (k - length p) ps (may-behind how p _ may) plain behind in
+          let r = rest-parts v l b how (k - length p) ps plain behind in
           (r.0, (behind-all k p _ i ∙ r.1.0, r.1.1), omega (arith, r.2)))
     ]
 
 -- if the rest after the longest prefix needs k parts, the bytes need k + 1
-pub needs-more : (v : ℕ) (l : Level) (b : Rule) (how : Interpretation) (x : List ℕ) (n k : ℕ) → MayWrite how x → may_use b Kanji ≡ false → 0 < length x → IsLongestFit how v b x (room_of v l how) n → NeedsParts v l b how (drop n x) k → NeedsParts v l b how x (k + 1)
-needs-more v l b how x n k may plain some fit needs [] cut = absurd (omega (arith, ap length cut.0))
-needs-more v l b how x n k may plain some fit needs (p ∷ ps) cut =
+pub needs-more : (v : ℕ) (l : Level) (b : Rule) (how : Interpretation) (x : List ℕ) (n k : ℕ) → may_use b Kanji ≡ false → 0 < length x → IsLongestFit how v b x (room_of v l how) n → NeedsParts v l b how (drop n x) k → NeedsParts v l b how x (k + 1)
+needs-more v l b how x n k plain some fit needs [] cut = absurd (omega (arith, ap length cut.0))
+needs-more v l b how x n k plain some fit needs (p ∷ ps) cut =
     let fits = λ (q : List ℕ). HasFit how v b q (room_of v l how) in
     let front : take (length p) x ≡ p = rw cut.0 (take-append_seam p _) in
     let within : length p ≤ length x = omega (arith, ap length cut.0, length-append p (concat ps)) in
-    let r = rest-parts v l b how _ ps (may-behind how p _ (subst (MayWrite how) cut.0 may)) plain (All-tail fits p ps cut.1) in
+    let r = rest-parts v l b how _ ps plain (All-tail fits p ps cut.1) in
     let left : drop n x ≡ concat r.0 = ap (λ (ys : List ℕ). drop n ys) cut.0 ∙ (behind-all n p _ (fit.longest (length p) within (subst fits (sym front) (All-head fits p ps cut.1))) ∙ r.1.0) in
     omega (arith, r.2)
 
@@ -194,11 +187,11 @@ needs-some v l b how x some [] cut = absurd (omega (arith, ap length cut.0))
 needs-some v l b how x some (p ∷ ps) cut = omega arith
 
 -- without kanji mode, bytes need as many parts as their longest prefixes make
-pub needs-parts : (v : ℕ) (l : Level) (b : Rule) (how : Interpretation) (x : List ℕ) (ps : List (List ℕ)) → MayWrite how x → may_use b Kanji ≡ false → AreParts v l b how x ps → NeedsParts v l b how x (length ps)
+pub needs-parts : (v : ℕ) (l : Level) (b : Rule) (how : Interpretation) (x : List ℕ) (ps : List (List ℕ)) → may_use b Kanji ≡ false → AreParts v l b how x ps → NeedsParts v l b how x (length ps)
 unfolding AreParts
-needs-parts v l b how x [] may plain h qs cut = omega arith
-needs-parts v l b how x (p ∷ ps) may plain h qs cut =
-    let more = needs-more v l b how x h.0 (length ps) may plain (omega arith) h.2 (needs-parts v l b how (drop h.0 x) ps (may_write-drop how h.0 x may) plain h.4) qs cut in omega arith
+needs-parts v l b how x [] plain h qs cut = omega arith
+needs-parts v l b how x (p ∷ ps) plain h qs cut =
+    let more = needs-more v l b how x h.0 (length ps) plain (omega arith) h.2 (needs-parts v l b how (drop h.0 x) ps plain h.4) qs cut in omega arith
 
 -- the parts of bytes are parts that fit
 pub parts-fit : (v : ℕ) (l : Level) (b : Rule) (how : Interpretation) (x : List ℕ) (ps : List (List ℕ)) → AreParts v l b how x ps → FitParts v l b how x ps

@@ -1,10 +1,50 @@
-use Rattle.{std.proofs.Common.{arith}, qr_symbol.proofs.lemmas.placement.ColumnLemmas.rows-drawn}
+use Rattle.{std.proofs.Common.{◌≡◌, ◌+◌, ◌≤◌, refl, arith}, qr_layout.specs.Version.side_of}
+use Rattle.qr_symbol.proofs.lemmas.placement.SpanDrawnLemmas.{both-drawn, left-drawn, light-later, outside-drawn, right-drawn, span-added}
 use Rattle.qr_symbol.proofs.placement.draw_columns.Goals as goal
 
-pub loop-passed-preserved : goal.loop-passed-preserved
-loop-passed-preserved c = let i = c.loop-passed.invariant in let next = c.draw_next-count.ensures in record {
-  rows_in = next.rows_in;
-  few = omega (arith, i.few, c.from-number.ensures, next.few);
-  number = omega (arith, i.number, c.from-number.ensures, next.number c.args.first);
-  drawn = rows-drawn i.drawn (next.drawn c.args.first i.number) (omega arith) (omega arith) next.rows_in;
-}
+pub loop-span-preserved-in-Both : goal.loop-span-preserved-in-Both
+loop-span-preserved-in-Both c =
+    let i = c.loop-span.invariant in let x = i.strip in let y = c.in-Some.ensures.steps in let next = c.in-Some.ensures.goes.keeps in
+    let is = rw (x.side, x.strip, x.region, x.most, c.in-Both.is) at y.is in let same = rw (x.side, x.strip, x.region, x.most) at y.same in
+    let end : c.next.new.self.passed ≡ c.loop-span.span-iterator.passed + c.in-Both.count = omega (arith, is.1, is.2.0) in
+    let room : c.next.new.self.passed ≤ side_of c.args.v = omega (arith, next.passed, same.side) in record {
+      can_next = next;
+      is_finite = tt;
+      strip = same;
+      drawn = rw c.from.ensures (span-added _ end room i.drawn (both-drawn c.args.region.now _ c.in-Both.count c.in-Both.top _ _ (omega (arith, end, room)) is.2.2 c.requires.region (light-later c.args.region.now c.requires.light i.drawn.drawn) is.2.5 is.2.3 i.drawn.next c.bits_at-bits.ensures c.draw_rows.ensures.right c.draw_rows.ensures.left));
+    }
+
+pub loop-span-preserved-in-Right : goal.loop-span-preserved-in-Right
+loop-span-preserved-in-Right c =
+    let i = c.loop-span.invariant in let x = i.strip in let y = c.in-Some.ensures.steps in let next = c.in-Some.ensures.goes.keeps in
+    let is = rw (x.side, x.strip, x.region, x.most, c.in-Right.is) at y.is in let same = rw (x.side, x.strip, x.region, x.most) at y.same in
+    let end : c.next.new.self.passed ≡ c.loop-span.span-iterator.passed + 1 = omega (arith, is.1, is.2.0) in
+    let room : c.next.new.self.passed ≤ side_of c.args.v = omega (arith, next.passed, same.side) in record {
+      can_next = next;
+      is_finite = tt;
+      strip = same;
+      drawn = span-added _ end room i.drawn (right-drawn c.args.region.now _ c.in-Right.row _ _ (omega (arith, end, room)) c.requires.region is.2.1 is.2.2 is.2.3 i.drawn.next c.bits_at.ensures c.draw_module.ensures (λ j. refl));
+    }
+
+pub loop-span-preserved-in-Left : goal.loop-span-preserved-in-Left
+loop-span-preserved-in-Left c =
+    let i = c.loop-span.invariant in let x = i.strip in let y = c.in-Some.ensures.steps in let next = c.in-Some.ensures.goes.keeps in
+    let is = rw (x.side, x.strip, x.region, x.most, c.in-Left.is) at y.is in let same = rw (x.side, x.strip, x.region, x.most) at y.same in
+    let end : c.next.new.self.passed ≡ c.loop-span.span-iterator.passed + 1 = omega (arith, is.1, is.2.0) in
+    let room : c.next.new.self.passed ≤ side_of c.args.v = omega (arith, next.passed, same.side) in record {
+      can_next = next;
+      is_finite = tt;
+      strip = same;
+      drawn = span-added _ end room i.drawn (left-drawn c.args.region.now _ c.in-Left.row _ _ (omega (arith, end, room)) c.requires.region is.2.1 is.2.2 is.2.3 i.drawn.next c.bits_at-in-Left.ensures (λ j. refl) c.draw_module-in-Left.ensures);
+    }
+
+pub loop-span-preserved : goal.loop-span-preserved
+loop-span-preserved c =
+    let i = c.loop-span.invariant in let x = i.strip in let y = c.in-Some.ensures.steps in let next = c.in-Some.ensures.goes.keeps in
+    let is = rw (x.side, x.strip, x.region, x.most, c.in-Outside.is) at y.is in let same = rw (x.side, x.strip, x.region, x.most) at y.same in
+    let room : c.next.new.self.passed ≤ side_of c.args.v = omega (arith, next.passed, same.side) in record {
+      can_next = next;
+      is_finite = tt;
+      strip = same;
+      drawn = span-added _ is.1 room i.drawn (outside-drawn c.args.region.now _ is.0 _ (omega (arith, is.1, room)) c.requires.region is.2.1 i.drawn.next);
+    }

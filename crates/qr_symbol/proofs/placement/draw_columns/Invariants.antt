@@ -1,14 +1,10 @@
-use Rattle.{std.proofs.Common.{◌≡◌, ◌+◌, ◌-◌, ◌*◌, ◌≤◌}, qr_layout.specs.Version.side_of}
-use Rattle.qr_symbol.specs.Steps.Placement.{number_at, AreDrawn}
+use Rattle.{qr_layout.specs.Version.side_of, qr_symbol.proofs.lemmas.placement.SpanDrawnLemmas.AreDrawnTo, qr_symbol.specs.Steps.Spans.AreSpansOf}
 use Rattle.qr_symbol.proofs.placement.draw_columns.Given as goal
 
-abbrev pub invariant-loop-passed : goal.invariant-loop-passed
-invariant-loop-passed l = record {
-  rows_in : l.passed ≤ side_of l.v;
-  few : l.number ≤ l.fn.first + 2 * l.passed;
-  number : l.number ≡ number_at l.v l.strip l.fn.first l.passed;
-  drawn : AreDrawn l.v l.codewords l.strip l.fn.first 0 l.passed l.fn.columns l.columns;
+abbrev pub invariant-loop-span : goal.invariant-loop-span
+invariant-loop-span l = record {
+  can_next : (goal.iterator-loop-span).can_next l.span-iterator;
+  is_finite : (goal.iterator-loop-span).is_finite l.span-iterator;
+  strip : AreSpansOf (side_of l.fn.v) l.fn.strip l.region 32 l.span-iterator;
+  drawn : AreDrawnTo l.fn.v l.codewords l.fn.strip l.fn.first l.span-iterator.passed l.number l.fn.columns l.columns;
 }
-
-abbrev pub decreases-loop-passed : goal.decreases-loop-passed
-decreases-loop-passed l = side_of l.v - l.passed

@@ -1,7 +1,8 @@
 use Rattle.{qr_layout.specs.Version.side_of, qr_matrix.specs.{BitRow.has, Grid.{Grid, with_row}}}
 use Rattle.qr_symbol.proofs.lemmas.placement.{AcrossLemmas.{region-across, strip-drawn}, LightLemmas.cleared-light}
 use Rattle.qr_symbol.proofs.placement.draw_strip.Goals.{then-upward, else-upward, After-with_light_region-columns}
-use Rattle.qr_symbol.specs.{Steps.Placement.{number_at, AreDrawn, IsRegion}, declared.placement.Columns.Columns}
+use Rattle.qr_symbol.specs.Steps.Placement.{number_at, AreDrawn, IsRegion}
+use Rattle.qr_symbol.specs.declared.spans.Columns.{Columns}
 use Rattle.std.proofs.Common.{ℕ, ◌≡◌, ◌-◌, Bool, ◌∙◌, ap, sym, subst, arith}
 use Rattle.qr_symbol.proofs.placement.draw_strip.Goals as goal
 

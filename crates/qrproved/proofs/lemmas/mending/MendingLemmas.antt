@@ -2,7 +2,7 @@
 use Rattle.std.proofs.Common.{◌≡◌, ℕ, ◌*◌, ◌<◌, ◌≤◌, List, ◌++◌, drop, length, take, arith}
 use Rattle.std.{proofs.lemmas.List.Elements.All-weaker, specs.List.All}
 use Rattle.{qr_layout.specs.declared.level.Level.Level, qr_bits.specs.Parsing.Content, qr_matrix.specs.Grid.Grid}
-use Rattle.qr_mending.specs.{declared.mending.Mended.Mended, Message.tolerance_of}
+use Rattle.qr_mending.specs.{declared.mending.Mended.Mended, Message.correctable_of}
 use Rattle.qr_mending.specs.Mending.{wrong_format_modules, HasWrongModules, IsMendedReading}
 use Rattle.qrproved.specs.declared.mending.QrprovedMended.{QrprovedMended}
 use Rattle.qrproved.specs.declared.interpretation.QrprovedEci.{QrprovedEci}
@@ -40,7 +40,7 @@ pub given-mended : (modules : List ℕ) (side : ℕ) (before put : List ℕ) (ec
     → t.len ≡ len → t.wrong_modules ≡ m.wrong_modules → t.version ≡ m.version
     → TellsHeader m.parsed.header t.has_header t.position t.last t.parity
     → t.level < 4 → level_of t.level ≡ m.level → t.mask ≡ m.mask → t.wrong_format_modules ≡ m.wrong_format_modules
-    → IsGreatest m.changed.items t.changed_most → t.changed_allowed ≡ tolerance_of m.version m.level
+    → IsGreatest m.changed.items t.changed_most → t.changed_allowed ≡ correctable_of m.version m.level
     → TellsInterpretation m.parsed ecis_before ecis_after t.eci_count t.fnc1 t.application
     → IsGivenMended modules side before (put ++ drop len before) ecis_before ecis_after t
 given-mended modules side before put ecis_before ecis_after m t len all r format whole long room same elen ewrong ev header small el em eformat most allowed told =

@@ -6,17 +6,17 @@ use Rattle.qrproved.proofs.mending.mend_modules.Goals as goal
 pub returns-clause-mended : goal.returns-clause-mended
 returns-clause-mended c =
     let g = square_of_bytes c.args.side c.args.modules.now in
-    subst (λ (z : Grid). MatchResult c.mend_symbol_without.result (λ m. IsMendedReading z g m.version m.level m.mask m.parsed m.changed.items) (IsUnmended z g)) c.in_ok-matrix.ensures.unknown
-    (subst (λ (z : Grid). MatchResult c.mend_symbol_without.result (λ m. IsMendedReading c.in_ok-matrix.unknown z m.version m.level m.mask m.parsed m.changed.items) (IsUnmended c.in_ok-matrix.unknown z)) c.in_ok-matrix.ensures.dark c.mend_symbol_without.ensures.mended)
+    subst (λ (z : Grid). MatchResult c.mend_symbol_with_unknown.result (λ m. IsMendedReading z g m.version m.level m.mask m.parsed m.changed.items) (IsUnmended z g)) c.in_ok-matrix.ensures.unknown
+    (subst (λ (z : Grid). MatchResult c.mend_symbol_with_unknown.result (λ m. IsMendedReading c.in_ok-matrix.unknown z m.version m.level m.mask m.parsed m.changed.items) (IsUnmended c.in_ok-matrix.unknown z)) c.in_ok-matrix.ensures.dark c.mend_symbol_with_unknown.ensures.mended)
 
 pub returns-clause-format : goal.returns-clause-format
 returns-clause-format c =
     let g = square_of_bytes c.args.side c.args.modules.now in
-    subst (λ (z : Grid). IfOk c.mend_symbol_without.result (λ m. m.wrong_format_modules ≡ wrong_format_modules z g m.level m.mask)) c.in_ok-matrix.ensures.unknown
-    (subst (λ (z : Grid). IfOk c.mend_symbol_without.result (λ m. m.wrong_format_modules ≡ wrong_format_modules c.in_ok-matrix.unknown z m.level m.mask)) c.in_ok-matrix.ensures.dark c.mend_symbol_without.ensures.format)
+    subst (λ (z : Grid). IfOk c.mend_symbol_with_unknown.result (λ m. m.wrong_format_modules ≡ wrong_format_modules z g m.level m.mask)) c.in_ok-matrix.ensures.unknown
+    (subst (λ (z : Grid). IfOk c.mend_symbol_with_unknown.result (λ m. m.wrong_format_modules ≡ wrong_format_modules c.in_ok-matrix.unknown z m.level m.mask)) c.in_ok-matrix.ensures.dark c.mend_symbol_with_unknown.ensures.format)
 
 pub returns-clause-modules : goal.returns-clause-modules
 returns-clause-modules c =
     let g = square_of_bytes c.args.side c.args.modules.now in
-    subst (λ (z : Grid). IfOk c.mend_symbol_without.result (λ m. HasWrongModules z g m.version m.level m.mask m.changed.items m.wrong_modules)) c.in_ok-matrix.ensures.unknown
-    (subst (λ (z : Grid). IfOk c.mend_symbol_without.result (λ m. HasWrongModules c.in_ok-matrix.unknown z m.version m.level m.mask m.changed.items m.wrong_modules)) c.in_ok-matrix.ensures.dark c.mend_symbol_without.ensures.modules)
+    subst (λ (z : Grid). IfOk c.mend_symbol_with_unknown.result (λ m. HasWrongModules z g m.version m.level m.mask m.changed.items m.wrong_modules)) c.in_ok-matrix.ensures.unknown
+    (subst (λ (z : Grid). IfOk c.mend_symbol_with_unknown.result (λ m. HasWrongModules c.in_ok-matrix.unknown z m.version m.level m.mask m.changed.items m.wrong_modules)) c.in_ok-matrix.ensures.dark c.mend_symbol_with_unknown.ensures.modules)

@@ -1,6 +1,6 @@
 use Rattle.std.proofs.Common.{◌≡◌, ℕ, ◌*◌, ◌<◌, ◌∙◌, length, ap, inl, inr, refl, arith, sym}
 use Rattle.{qr_bits.specs.Parsing.Content, qrproved.proofs.mending.qrproved_mend.Goals.{In-Err, In-Ok}}
-use Rattle.qr_mending.specs.{declared.mending.Mended.Mended, Mending.IsMendedReading, Message.tolerance_of}
+use Rattle.qr_mending.specs.{declared.mending.Mended.Mended, Mending.IsMendedReading, Message.correctable_of}
 use Rattle.qrproved.specs.{Modules.square_of_bytes, Reading.IsSide, Steps.Status.read_status}
 use Rattle.qrproved.specs.Mending.{square_of_unknown, AreModules, HasMoreMendedBytes, IsUnmendedAt}
 use Rattle.qrproved.proofs.lemmas.reading.ReadingLemmas.{TellsFaults, refused, read, side-status, room-status}
@@ -89,8 +89,8 @@ mended_of-requires-clause-few c =
     let m = c.in-Ok.found in
     let r = found (goal.at.mended_of-requires-clause-few c).In-Ok in
     let bounds = c.changes_are_bounded.ensures in
-    few-changes m.changed.items (tolerance_of m.version m.level)
-    (bounds.tolerance m.version m.level r.form.sized.least r.form.sized.most).1
+    few-changes m.changed.items (correctable_of m.version m.level)
+    (bounds.correctable m.version m.level r.form.sized.least r.form.sized.most).1
     (bounds.few _ _ m.version m.level m.mask m.parsed m.changed.items r)
 
 pub returns-else-bytes-len-clause-done : goal.returns-else-bytes-len-clause-done

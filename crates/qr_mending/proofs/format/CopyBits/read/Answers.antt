@@ -5,8 +5,8 @@ use Rattle.qr_mending.proofs.format.CopyBits.read.Goals as goal
 
 pub loop-i-preserved : goal.loop-i-preserved
 loop-i-preserved c =
-    let g = c.args.matrix.now in
-    let u = c.args.unknown.now in
+    let g = c.args.scan.now.matrix.now in
+    let u = c.args.scan.now.unknown.now in
     let i = c.loop-i.i in
     let copy = c.args.copy in
     let place = c.place-place.ensures.place in
@@ -14,9 +14,9 @@ loop-i-preserved c =
     let one = bool_byte-bit c.dark.result in
     let other = bool_byte-bit c.dark-in-loop-i.result in
     let dark : (c.from.result == 1) ≡ copy_bit copy g (i - 1) =
-    ap (λ t. t == 1) c.from.ensures ∙ (one.1 ∙ cc (c.dark.ensures, place, c.requires.side)) in
+    ap (λ t. t == 1) c.from.ensures ∙ (one.1 ∙ cc (c.dark.ensures, place, c.args.scan.now.side)) in
     let unread : (c.from-in-loop-i.result == 1) ≡ copy_bit copy u (i - 1) =
-    ap (λ t. t == 1) c.from-in-loop-i.ensures ∙ (other.1 ∙ cc (c.dark-in-loop-i.ensures, place, c.requires.unknown_side)) in
+    ap (λ t. t == 1) c.from-in-loop-i.ensures ∙ (other.1 ∙ cc (c.dark-in-loop-i.ensures, place, c.args.scan.now.unknown_side)) in
     record {
       few = bits-few c.loop-i.dark c.from.result i (omega (arith, c.from.ensures, one.0)) (omega arith) (omega arith) h.few;
       few_unread = bits-few c.loop-i.unread c.from-in-loop-i.result i (omega (arith, c.from-in-loop-i.ensures, other.0)) (omega arith) (omega arith) h.few_unread;

@@ -6,6 +6,6 @@ abbrev pub invariant-loop-i : goal.invariant-loop-i
 invariant-loop-i l = record {
   few : l.dark < 2 ^ (15 - l.i);
   few_unread : l.unread < 2 ^ (15 - l.i);
-  dark : (k : ℕ) → l.i + k < 15 → has_bit l.dark k ≡ copy_bit l.copy l.matrix (l.i + k);
-  unread : (k : ℕ) → l.i + k < 15 → has_bit l.unread k ≡ copy_bit l.copy l.unknown (l.i + k);
+  dark : (k : ℕ) → l.i + k < 15 → has_bit l.dark k ≡ copy_bit l.copy l.scan.matrix.now (l.i + k);
+  unread : (k : ℕ) → l.i + k < 15 → has_bit l.unread k ≡ copy_bit l.copy l.scan.unknown.now (l.i + k);
 }

@@ -4,32 +4,32 @@ use Rattle.qr_mending.proofs.locator.Progress.advance.Goals as goal
 
 pub take_in-requires-clause-search : goal.take_in-requires-clause-search
 take_in-requires-clause-search c =
-    let progress = c.prepare.ensures.progress c.args.t c.loop-i.invariant.1 in
-    rw c.as_slice.ensures.value (rw (c.prepare.ensures.taken, c.loop-i.invariant.0) at progress.search)
+    let progress = c.prepare.ensures.progress c.args.t c.loop-i.invariant.progress in
+    rw c.as_slice.ensures.value (rw (c.prepare.ensures.taken, c.loop-i.invariant.taken) at progress.search)
 
 pub take_in-requires-clause-degree : goal.take_in-requires-clause-degree
 take_in-requires-clause-degree c =
-    let progress = c.prepare.ensures.progress c.args.t c.loop-i.invariant.1 in progress.degree
+    let progress = c.prepare.ensures.progress c.args.t c.loop-i.invariant.progress in progress.degree
 
 pub returns-then-not-take_in-clause-beyond : goal.returns-then-not-take_in-clause-beyond
 returns-then-not-take_in-clause-beyond c = λ errors few.
-    let progress = c.prepare.ensures.progress c.args.t c.loop-i.invariant.1 in
+    let progress = c.prepare.ensures.progress c.args.t c.loop-i.invariant.progress in
     c.if-not-take_in.ensures.beyond errors
     (rw c.as_slice.ensures.value
     (few-values c.args.t c.args.remainder.now c.prepare.new.self.syndromes.items errors progress.values progress.count few))
 
 pub returns-then-i-self-clause-progress : goal.returns-then-i-self-clause-progress
 returns-then-i-self-clause-progress c =
-    let now = c.prepare.ensures.taken ∙ c.loop-i.invariant.0 in
-    progress-next c.args.t c.args.remainder.now c.prepare.new.self _ (c.prepare.ensures.progress c.args.t c.loop-i.invariant.1)
+    let now = c.prepare.ensures.taken ∙ c.loop-i.invariant.taken in
+    progress-next c.args.t c.args.remainder.now c.prepare.new.self _ (c.prepare.ensures.progress c.args.t c.loop-i.invariant.progress)
     refl (omega (arith, now)) c.prepare.ensures.next (omega (arith, now))
     (rw (c.as_slice.ensures.value, ← now) at c.if-not-take_in.ensures.search) c.if-not-take_in.ensures.degree
 
 pub loop-i-preserved : goal.loop-i-preserved
 loop-i-preserved c =
-    let now = c.prepare.ensures.taken ∙ c.loop-i.invariant.0 in (
-      refl,
-      progress-next c.args.t c.args.remainder.now c.prepare.new.self _ (c.prepare.ensures.progress c.args.t c.loop-i.invariant.1)
+    let now = c.prepare.ensures.taken ∙ c.loop-i.invariant.taken in record {
+      taken = refl;
+      progress = progress-next c.args.t c.args.remainder.now c.prepare.new.self _ (c.prepare.ensures.progress c.args.t c.loop-i.invariant.progress)
           refl (omega (arith, now)) c.prepare.ensures.next (omega (arith, now))
-          (rw (c.as_slice.ensures.value, ← now) at c.if-not-take_in.ensures.search) c.if-not-take_in.ensures.degree,
-    )
+          (rw (c.as_slice.ensures.value, ← now) at c.if-not-take_in.ensures.search) c.if-not-take_in.ensures.degree;
+    }

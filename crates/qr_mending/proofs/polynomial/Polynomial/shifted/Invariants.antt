@@ -2,6 +2,7 @@ use Rattle.{std.proofs.Common.{◌≡◌, ◌+◌, ◌++◌, length, take}, qr_f
 use Rattle.qr_mending.proofs.polynomial.Polynomial.shifted.Given as goal
 
 abbrev pub invariant-loop-k : goal.invariant-loop-k
-invariant-loop-k l =
-    (length l.terms ≡ 16)
-    × (take (l.count + l.k) l.terms ≡ zeros l.count ++ take l.k l.self.terms)
+invariant-loop-k l = record {
+  count : length l.terms ≡ 16;
+  terms : take (l.count + l.k) l.terms ≡ zeros l.count ++ take l.k l.self.terms;
+}

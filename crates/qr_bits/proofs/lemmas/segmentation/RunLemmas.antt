@@ -1,0 +1,163 @@
+-- What is written for runs of bytes in GS1 data.
+use Rattle.std.proofs.Common.{◌≡◌, ℕ, zero, ◌+◌, ◌-◌, ◌<◌, ◌≤◌, Bool, true, false, cond, ◌==◌, List, [], ◌∷◌, ◌++◌, length, take, drop, append_assoc, length-drop, refl, sym, ap, ◌∙◌, ⊎_elim, arith, suc}
+use Rattle.std.proofs.lemmas.{Bool.{cases_Bool, cond_both, eqb-true}, List.{drop-drop, length-take-le}}
+use Rattle.qr_bits.specs.declared.{modes.Mode.Mode, segment.Segment.Segment}
+use Rattle.qr_bits.specs.declared.interpretation.Interpretation.{TheVariants.{Gs1}}
+use Rattle.qr_bits.specs.Interpretation.{escaped, is_doubled, character_for, characters_gs1, doubled_gs1, percent}
+use Rattle.qr_bits.specs.{Segmentation.{rank, prepend_mode, runs_of}, Steps.Segmentation.{is_itself, one_segment, written}}
+use Rattle.qr_bits.proofs.lemmas.run_state.BestLemmas.{same_rank}
+
+-- a byte that alphanumeric mode writes as itself
+pub escaped-itself : (x : ℕ) (xs : List ℕ) → is_itself x ≡ true → escaped (x ∷ xs) ≡ x ∷ escaped xs
+unfolding escaped
+escaped-itself x xs h = grind arith
+
+-- `%` or the separator
+pub escaped-other : (x : ℕ) (xs : List ℕ) → is_itself x ≡ false → escaped (x ∷ xs) ≡ cond (x == percent) (percent ∷ percent ∷ []) (percent ∷ []) ++ escaped xs
+unfolding escaped
+escaped-other x xs h = grind (arith, eqb-true)
+
+-- the characters of segments of bytes, and these segments, of which the lengths count characters
+unfoldable pub characters_of : List ℕ → List Segment → List ℕ
+characters_of xs [] = xs
+characters_of xs (s ∷ ss) = written s.mode (take s.len xs) ++ characters_of (drop s.len xs) ss
+
+unfoldable pub segments_of : List ℕ → List Segment → List Segment
+segments_of xs [] = []
+segments_of xs (s ∷ ss) = record { mode = s.mode; len = length (written s.mode (take s.len xs)) } ∷ segments_of (drop s.len xs) ss
+
+written-more : (m : Mode) (x : ℕ) (xs : List ℕ)
+    → written m (x ∷ xs) ≡ cond (is_doubled Gs1 x m) (character_for Gs1 x m ∷ character_for Gs1 x m ∷ written m xs) (character_for Gs1 x m ∷ written m xs)
+unfolding escaped
+written-more m x xs = grind (arith, eqb-true)
+
+written-none : (m : Mode) → written m [] ≡ []
+unfolding escaped
+written-none m = grind arith
+
+one_suc : (n : ℕ) → 1 + n ≡ suc n
+one_suc n = omega arith
+
+written-one : (m : Mode) (x : ℕ) → written m (x ∷ []) ≡ cond (is_doubled Gs1 x m) (character_for Gs1 x m ∷ character_for Gs1 x m ∷ []) (character_for Gs1 x m ∷ [])
+written-one m x = rw (written-more m x [], written-none m) refl
+
+cond-append : (b : Bool) (c : ℕ) (ys zs : List ℕ) → cond b (c ∷ c ∷ ys) (c ∷ ys) ++ zs ≡ cond b (c ∷ c ∷ (ys ++ zs)) (c ∷ (ys ++ zs))
+cond-append true c ys zs = refl
+cond-append false c ys zs = refl
+
+cond-length : (b : Bool) (c : ℕ) (ys : List ℕ) (m : Mode) (ss : List Segment)
+    → (record { mode = m; len = length (cond b (c ∷ c ∷ ys) (c ∷ ys)) } ∷ ss) ≡ cond b (record { mode = m; len = 1 + (1 + length ys) } ∷ ss) (record { mode = m; len = 1 + length ys } ∷ ss)
+cond-length true c ys m ss = ap (λ (n : ℕ). record { mode = m; len = n } ∷ ss) (omega arith)
+cond-length false c ys m ss = ap (λ (n : ℕ). record { mode = m; len = n } ∷ ss) (omega arith)
+
+prepend-self : (m : Mode) (n : ℕ) (ss : List Segment) → prepend_mode m (record { mode = m; len = n } ∷ ss) ≡ record { mode = m; len = 1 + n } ∷ ss
+prepend-self m n ss = grind arith
+
+-- one more byte of the first segment, or before it
+characters-grown : (m : Mode) (x : ℕ) (xs : List ℕ) (n : ℕ) (ss : List Segment)
+    → characters_of (x ∷ xs) (record { mode = m; len = 1 + n } ∷ ss) ≡ cond (is_doubled Gs1 x m) (character_for Gs1 x m ∷ character_for Gs1 x m ∷ characters_of xs (record { mode = m; len = n } ∷ ss)) (character_for Gs1 x m ∷ characters_of xs (record { mode = m; len = n } ∷ ss))
+unfolding characters_of
+characters-grown m x xs n ss = rw (one_suc n, written-more m x (take n xs)) (cond-append (is_doubled Gs1 x m) (character_for Gs1 x m) (written m (take n xs)) (characters_of (drop n xs) ss))
+
+characters-begun : (m : Mode) (x : ℕ) (xs : List ℕ) (ss : List Segment)
+    → characters_of (x ∷ xs) (record { mode = m; len = 1 } ∷ ss) ≡ cond (is_doubled Gs1 x m) (character_for Gs1 x m ∷ character_for Gs1 x m ∷ characters_of xs ss) (character_for Gs1 x m ∷ characters_of xs ss)
+unfolding characters_of
+characters-begun m x xs ss = rw (written-one m x) (cond-append (is_doubled Gs1 x m) (character_for Gs1 x m) [] (characters_of xs ss))
+
+characters-prepend : (m : Mode) (x : ℕ) (xs : List ℕ) (segs : List Segment)
+    → characters_of (x ∷ xs) (prepend_mode m segs) ≡ cond (is_doubled Gs1 x m) (character_for Gs1 x m ∷ character_for Gs1 x m ∷ characters_of xs segs) (character_for Gs1 x m ∷ characters_of xs segs)
+characters-prepend m x xs [] = characters-begun m x xs []
+characters-prepend m x xs (s ∷ ss) =
+    let c = character_for Gs1 x m in
+    let rest = characters_of xs (s ∷ ss) in
+    cond_both (rank m == rank s.mode) _ _ (λ (r : List Segment). characters_of (x ∷ xs) r ≡ cond (is_doubled Gs1 x m) (c ∷ c ∷ rest) (c ∷ rest))
+    (λ e. rw (same_rank m s.mode (eqb-true _ _ e)) (characters-grown s.mode x xs s.len ss)) (λ _. characters-begun m x xs (s ∷ ss))
+
+segments-grown : (m : Mode) (x : ℕ) (xs : List ℕ) (n : ℕ) (ss : List Segment)
+    → segments_of (x ∷ xs) (record { mode = m; len = 1 + n } ∷ ss) ≡ cond (is_doubled Gs1 x m) (prepend_mode m (prepend_mode m (segments_of xs (record { mode = m; len = n } ∷ ss)))) (prepend_mode m (segments_of xs (record { mode = m; len = n } ∷ ss)))
+unfolding segments_of
+segments-grown m x xs n ss =
+    let l = length (written m (take n xs)) in
+    let later = segments_of (drop n xs) ss in
+    rw (one_suc n, written-more m x (take n xs), prepend-self m l later, prepend-self m (1 + l) later) (cond-length (is_doubled Gs1 x m) (character_for Gs1 x m) (written m (take n xs)) m later)
+
+segments-same : (m : Mode) (x : ℕ) (xs : List ℕ) (n : ℕ) (ss : List Segment)
+    → segments_of (x ∷ xs) (prepend_mode m (record { mode = m; len = n } ∷ ss)) ≡ cond (is_doubled Gs1 x m) (prepend_mode m (prepend_mode m (segments_of xs (record { mode = m; len = n } ∷ ss)))) (prepend_mode m (segments_of xs (record { mode = m; len = n } ∷ ss)))
+segments-same m x xs n ss = ap (segments_of (x ∷ xs)) (prepend-self m n ss) ∙ segments-grown m x xs n ss
+
+segments-begun : (m : Mode) (x : ℕ) (xs : List ℕ) (ss : List Segment)
+    → segments_of (x ∷ xs) (record { mode = m; len = 1 } ∷ ss) ≡ cond (is_doubled Gs1 x m) (prepend_mode m (record { mode = m; len = 1 } ∷ segments_of xs ss)) (record { mode = m; len = 1 } ∷ segments_of xs ss)
+unfolding segments_of
+segments-begun m x xs ss =
+    let later = segments_of xs ss in
+    rw (written-one m x, prepend-self m 1 later) (cond-length (is_doubled Gs1 x m) (character_for Gs1 x m) [] m later)
+
+segments-prepend : (m : Mode) (x : ℕ) (xs : List ℕ) (segs : List Segment)
+    → segments_of (x ∷ xs) (prepend_mode m segs) ≡ cond (is_doubled Gs1 x m) (prepend_mode m (prepend_mode m (segments_of xs segs))) (prepend_mode m (segments_of xs segs))
+unfolding segments_of
+segments-prepend m x xs [] = segments-begun m x xs []
+segments-prepend m x xs (s ∷ ss) =
+    let rest = segments_of xs (s ∷ ss) in ⊎_elim
+    (λ (e : (rank m == rank s.mode) ≡ true). rw (same_rank m s.mode (eqb-true _ _ e)) (segments-same s.mode x xs s.len ss))
+    (λ (e : (rank m == rank s.mode) ≡ false). rw e (segments-begun m x xs (s ∷ ss)))
+    (cases_Bool (rank m == rank s.mode))
+
+-- the characters and segments of an assignment are those of its runs of bytes
+pub runs-written : (xs : List ℕ) (ms : List Mode) → length xs ≡ length ms → (characters_gs1 xs ms ≡ characters_of xs (runs_of ms)) × (runs_of (doubled_gs1 xs ms) ≡ segments_of xs (runs_of ms))
+unfolding characters_gs1 doubled_gs1 runs_of characters_of segments_of
+runs-written [] [] h = (refl, refl)
+runs-written [] (m ∷ ms) h = absurd (omega arith)
+runs-written (x ∷ xs) [] h = absurd (omega arith)
+runs-written (x ∷ xs) (m ∷ ms) h =
+    let rest = runs-written xs ms (omega arith) in (
+      rw (rest.0) (sym (characters-prepend m x xs (runs_of ms))),
+      ⊎_elim
+          (λ (e : is_doubled Gs1 x m ≡ true). rw (e, rest.1) (sym (segments-prepend m x xs (runs_of ms) ∙ rw e refl)))
+          (λ (e : is_doubled Gs1 x m ≡ false). rw (e, rest.1) (sym (segments-prepend m x xs (runs_of ms) ∙ rw e refl)))
+          (cases_Bool (is_doubled Gs1 x m)),
+    )
+
+written-longer : (m : Mode) (xs : List ℕ) → length xs ≤ length (written m xs)
+written-longer m [] = omega arith
+written-longer m (x ∷ xs) =
+    rw (written-more m x xs)
+    (cond_both (is_doubled Gs1 x m) _ _ (λ (r : List ℕ). length (x ∷ xs) ≤ length r) (λ _. omega (arith, written-longer m xs)) (λ _. omega (arith, written-longer m xs)))
+
+some_segment : (m : Mode) (n : ℕ) → 0 < n → one_segment m n ≡ record { mode = m; len = n } ∷ []
+some_segment m zero h = absurd (omega arith)
+some_segment m (suc n) h = refl
+
+-- a run before the later ones
+segments-one : (m : Mode) (n : ℕ) (xs : List ℕ) (later : List Segment) → n ≤ length xs
+    → segments_of xs (one_segment m n ++ later) ≡ one_segment m (length (written m (take n xs))) ++ segments_of (drop n xs) later
+unfolding segments_of
+segments-one m zero xs later h = rw (written-none m) refl
+segments-one m (suc n) xs later h =
+    rw (some_segment m (length (written m (take (suc n) xs))) (omega (arith, written-longer m (take (suc n) xs), length-take-le (suc n) xs h))) refl
+
+characters-run : (m : Mode) (n : ℕ) (xs : List ℕ) (later : List Segment)
+    → characters_of xs (one_segment m n ++ later) ≡ written m (take n xs) ++ characters_of (drop n xs) later
+unfolding characters_of
+characters-run m zero xs later = rw (written-none m) refl
+characters-run m (suc n) xs later = refl
+
+behind : (b i : ℕ) (xs : List ℕ) → b ≤ i → drop (i - b) (drop b xs) ≡ drop i xs
+behind b i xs h = let e : b + (i - b) ≡ i = omega arith in rw (drop-drop (i - b) b xs, e) refl
+
+-- what is written after a run of the bytes from `b` to `i` too
+pub segments-put : (xs : List ℕ) (runs segs : List Segment) (m : Mode) (b i : ℕ) → b ≤ i → i ≤ length xs
+    → ((later : List Segment) → segments_of xs (runs ++ later) ≡ segs ++ segments_of (drop b xs) later)
+    → (later : List Segment) → segments_of xs ((runs ++ one_segment m (i - b)) ++ later) ≡ (segs ++ one_segment m (length (written m (take (i - b) (drop b xs))))) ++ segments_of (drop i xs) later
+segments-put xs runs segs m b i h l so_far later =
+    let one = one_segment m (i - b) in
+    let new = one_segment m (length (written m (take (i - b) (drop b xs)))) in
+    rw (append_assoc runs one later, so_far (one ++ later), segments-one m (i - b) (drop b xs) later (omega (arith, length-drop b xs)), behind b i xs h)
+    (sym (append_assoc segs new (segments_of (drop i xs) later)))
+
+pub characters-put : (xs : List ℕ) (runs : List Segment) (cs : List ℕ) (m : Mode) (b i : ℕ) → b ≤ i
+    → ((later : List Segment) → characters_of xs (runs ++ later) ≡ cs ++ characters_of (drop b xs) later)
+    → (later : List Segment) → characters_of xs ((runs ++ one_segment m (i - b)) ++ later) ≡ (cs ++ written m (take (i - b) (drop b xs))) ++ characters_of (drop i xs) later
+characters-put xs runs cs m b i h so_far later =
+    let one = one_segment m (i - b) in
+    rw (append_assoc runs one later, so_far (one ++ later), characters-run m (i - b) (drop b xs) later, behind b i xs h)
+    (sym (append_assoc cs (written m (take (i - b) (drop b xs))) (characters_of (drop i xs) later)))

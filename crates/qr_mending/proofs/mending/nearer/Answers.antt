@@ -1,0 +1,28 @@
+use Rattle.std.proofs.Common.{arith}
+use Rattle.qr_mending.proofs.lemmas.mending.MendingLemmas.{first-alone, first-nearer, second-alone, second-nearer}
+use Rattle.qr_mending.proofs.mending.nearer.Goals as goal
+
+pub returns-in_default : goal.returns-in_default
+returns-in_default c =
+    let scan = c.args.scan.now in
+    second-alone scan.unknown.now scan.matrix.now scan.version c.args.second (rw c.in_default.is at c.requires.first) c.requires.second
+
+pub returns-in_default-second : goal.returns-in_default-second
+returns-in_default-second c =
+    let scan = c.args.scan.now in
+    first-alone scan.unknown.now scan.matrix.now scan.version c.in-Some.first (rw c.in-Some.is at c.requires.first)
+    (rw c.in_default-second.is at c.requires.second)
+
+pub returns-then-cost_of : goal.returns-then-cost_of
+returns-then-cost_of c =
+    let scan = c.args.scan.now in
+    second-nearer scan.unknown.now scan.matrix.now scan.version c.in-Some.first c.in-Some-second.second
+    (rw c.in-Some.is at c.requires.first) (rw c.in-Some-second.is at c.requires.second)
+    (omega (arith, c.cost_of.ensures, c.cost_of-2.ensures))
+
+pub returns : goal.returns
+returns c =
+    let scan = c.args.scan.now in
+    first-nearer scan.unknown.now scan.matrix.now scan.version c.in-Some.first c.in-Some-second.second
+    (rw c.in-Some.is at c.requires.first) (rw c.in-Some-second.is at c.requires.second)
+    (omega (arith, c.cost_of.ensures, c.cost_of-2.ensures))

@@ -1,0 +1,9 @@
+use Rattle.std.proofs.Common.{◌≡◌, length}
+use Rattle.qr_symbol.{specs.Interleaving.codeword_count, proofs.lemmas.interleaving.OrderLemmas.IsPlaced}
+use Rattle.qr_symbol.proofs.interleaving.BlockSizes.scatter.Given as goal
+
+abbrev pub invariant-loop-block : goal.invariant-loop-block
+invariant-loop-block l = record { long : length l.interleaved ≡ codeword_count l.self; placed : IsPlaced l.self l.block 0 l.interleaved l.codewords }
+
+abbrev pub invariant-loop-place : goal.invariant-loop-place
+invariant-loop-place l = record { long : length l.interleaved ≡ codeword_count l.self; placed : IsPlaced l.self l.block l.place l.interleaved l.codewords }

@@ -1,9 +1,0 @@
-use Rattle.std.proofs.Common.{◌≡◌, length}
-use Rattle.qr_symbol.{specs.Interleaving.codeword_count, proofs.lemmas.interleaving.OrderLemmas.IsPlaced}
-use Rattle.qr_symbol.proofs.interleaving.interleave_into.Given as goal
-
-abbrev pub invariant-loop-block : goal.invariant-loop-block
-invariant-loop-block l = record { long : length l.interleaved ≡ codeword_count l.sizes; placed : IsPlaced l.sizes l.block 0 l.interleaved l.codewords }
-
-abbrev pub invariant-loop-place : goal.invariant-loop-place
-invariant-loop-place l = record { long : length l.interleaved ≡ codeword_count l.sizes; placed : IsPlaced l.sizes l.block l.place l.interleaved l.codewords }

@@ -1,0 +1,85 @@
+-- Bits of codewords, and of words that hold several codewords.
+use mathlib.Core.Bool.{beq}
+use Rattle.{qr_bits.specs.Bits.codeword_bit, qr_matrix.proofs.Facts.{has_bit-or, has_bit-shr, low-bits, shl-bit, unset-above}}
+use Rattle.{qr_matrix.specs.BitRow.has_bit, qr_symbol.specs.Mask.inverted}
+use Rattle.std.proofs.Common.{◌≡◌, ℕ, zero, suc, ◌+◌, ◌-◌, ◌*◌, ◌/◌, ◌%◌, ◌^◌, ◌<◌, ◌≤◌, Bool, true, false, not, cond, nat_eq, leb, ◌&&◌, ◌||◌, List, get_or, refl, ap, ◌∙◌, inl, inr, bit_or, arith}
+use Rattle.std.proofs.{Math.Pow.pow_mono, lemmas.Bool.{cases_lt, Decides.nat_tests}}
+use Rattle.std.proofs.lemmas.Nat.{pow-add, Bits.{bit_at_above, bit_at_cat_low, bit_at_cat_high}}
+
+-- a word of 32 bits has no bit from 32 on
+pub word-past : (word i : ℕ) → word < 2 ^ 32 → 32 ≤ i → false ≡ has_bit word i
+unfolding has_bit
+word-past word i l h = cc (bit_at_above word 32 i l h)
+
+-- testing whether a bit differs from `is_to_be` inverts the bit if `is_to_be` is true
+pub differs-inverted : (bit is_to_be : Bool) → not (beq bit is_to_be) ≡ inverted is_to_be bit
+differs-inverted bit is_to_be = grind (arith, nat_tests)
+
+-- ---- bits of codewords
+
+-- a bit of the number 256 a + b from bit 8 on is a bit of a
+codewords-high : (a b i : ℕ) → b < 256 → 8 ≤ i → has_bit (256 * a + b) i ≡ nat_eq (a / 2 ^ (i - 8) % 2) 1
+unfolding has_bit
+codewords-high a b i l m = let e : 256 * a + b ≡ a * 2 ^ 8 + b = omega arith in cc (bit_at_cat_high a 8 b i l m)
+
+-- a bit of the number 256 a + b below bit 8 is a bit of b
+codewords-low : (a b i : ℕ) → i < 8 → has_bit (256 * a + b) i ≡ nat_eq (b / 2 ^ i % 2) 1
+unfolding has_bit
+codewords-low a b i l = let e : 256 * a + b ≡ a * 2 ^ 8 + b = omega arith in cc (bit_at_cat_low a 8 b i l)
+
+-- the highest bit of a word, alone in a number
+pub highest-bit : (n k : ℕ) → n < 2 ^ 64 → has_bit (n / 2 ^ 63) k ≡ (nat_eq k 0 && has_bit n 63)
+highest-bit n zero small = has_bit-shr n 63 0
+highest-bit n (suc k) small = has_bit-shr n 63 (suc k) ∙ (unset-above n 64 (suc k + 63) small (omega arith) ∙ none (has_bit n 63))
+  where
+    none : (t : Bool) → false ≡ (nat_eq (suc k) 0 && t)
+    none t = grind (arith, nat_tests)
+
+-- it is set in a column from its row on, where the column was light
+pub module-set : (row i : ℕ) (here old new bit set : Bool) → here ≡ false → (i ≡ row → old ≡ here)
+    → set ≡ (nat_eq (i - row) 0 && bit) → new ≡ (old || leb row i && set) → new ≡ cond (nat_eq i row) bit old
+module-set row i here old new bit set dark same e f = grind (arith, nat_tests)
+
+-- a word with one more codeword contains eight more bits
+pub codewords-more : (cw : List ℕ) (p n w b : ℕ) → b ≡ get_or cw (p + n) 0 → b < 256 → ((j : ℕ) → j < 8 * n → has_bit w (8 * n - 1 - j) ≡ codeword_bit cw (8 * p + j)) → (j : ℕ) → j < 8 * (n + 1) → has_bit (256 * w + b) (8 * (n + 1) - 1 - j) ≡ codeword_bit cw (8 * p + j)
+unfolding has_bit
+codewords-more cw p n w b e s h j l = search (arith, codewords-high, codewords-low)
+
+-- appending a byte to a number makes it at most eight bits longer
+pub codewords-fits : (n w b : ℕ) → w < 2 ^ (8 * n) → b < 256 → 256 * w + b < 2 ^ (8 * (n + 1))
+codewords-fits n w b l m = let e : 8 * (n + 1) ≡ 8 * n + 8 = omega arith in search (arith, pow-add)
+
+-- a word of fewer than eight codewords has room for one more in 64 bits
+pub codewords-room : (n w : ℕ) → n < 8 → w < 2 ^ (8 * n) → w < 2 ^ 56
+codewords-room n w l m = let h : 8 * n ≤ 56 = omega arith in let k : 2 ^ (8 * n) ≤ 2 ^ 56 = pow_mono h in omega arith
+
+-- a bit of one codeword
+codeword-at : (cw : List ℕ) (p b d : ℕ) → b ≡ get_or cw p 0 → d < 8 → has_bit b (7 - d) ≡ codeword_bit cw (8 * p + d)
+unfolding has_bit
+codeword-at cw p b d is l = let e : (8 * p + d) / 8 ≡ p = omega arith in let f : (8 * p + d) % 8 ≡ d = omega arith in rw (e, f, is) refl
+
+-- the bits from bit s on of a word of codewords and of the codeword after it
+pub next-bit : (cw : List ℕ) (p s w b k : ℕ) → s < 8 → k < 64 → b ≡ get_or cw (p + 8) 0 → b < 256
+    → ((j : ℕ) → j < 64 → has_bit w (63 - j) ≡ codeword_bit cw (8 * p + j))
+    → has_bit (bit_or (w * 2 ^ s % 2 ^ 64) (b / 2 ^ (8 - s))) (63 - k) ≡ codeword_bit cw (8 * p + s + k)
+next-bit cw p s w b k few l is small held =
+    let i = 63 - k in
+    let high : has_bit (w * 2 ^ s % 2 ^ 64) i ≡ (leb s i && has_bit w (i - s)) = low-bits 64 (w * 2 ^ s) i (omega arith) ∙ shl-bit w s i in
+    let low : has_bit (b / 2 ^ (8 - s)) i ≡ has_bit b (i + (8 - s)) = has_bit-shr b (8 - s) i in
+    has_bit-or (w * 2 ^ s % 2 ^ 64) (b / 2 ^ (8 - s)) i ∙ (ap (λ z. z || has_bit (b / 2 ^ (8 - s)) i) high ∙ (ap (λ z. leb s i && has_bit w (i - s) || z) low ∙ elim (cases_lt (k + s) 64) [
+      | inl m ↦
+          let t : leb s i ≡ true = grind (arith, nat_tests) in
+          let e : i - s ≡ 63 - (k + s) = omega arith in
+          let f : 8 * p + (k + s) ≡ 8 * p + s + k = omega arith in
+          let none = unset-above b 8 (i + (8 - s)) small (omega arith) in
+          rw (t, none) (or-false (has_bit w (i - s)) ∙ (ap (has_bit w) e ∙ (held (k + s) m ∙ ap (codeword_bit cw) f)))
+      | inr m ↦
+          let t : leb s i ≡ false = grind (arith, nat_tests) in
+          let d = k + s - 64 in
+          let e : i + (8 - s) ≡ 7 - d = omega arith in
+          let f : 8 * (p + 8) + d ≡ 8 * p + s + k = omega arith in
+          rw (t, e) (codeword-at cw (p + 8) b d is (omega arith) ∙ ap (codeword_bit cw) f)
+    ]))
+  where
+    or-false : (t : Bool) → (t || false) ≡ t
+    or-false t = grind (arith, nat_tests)

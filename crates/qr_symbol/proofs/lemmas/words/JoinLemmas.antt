@@ -1,0 +1,158 @@
+-- Further bits after the bits of a number, and the codewords that they fill.
+use Rattle.std.proofs.Common.{◌≡◌, ℕ, zero, suc, ◌+◌, ◌-◌, ◌*◌, ◌/◌, ◌%◌, ◌^◌, ◌<◌, ◌≤◌, ◌==◌, Bool, true, false, cond, not, ◌||◌, None, Some, List, [], ◌∷◌, ◌++◌, take, refl, sym, ◌∙◌, ap, append_assoc, append-nil, arith}
+use Rattle.std.proofs.{lemmas.{Bool.Decides.nat_tests, List.Elements.{All-append, All-cons, All-take}, Nat.{pow-add, pow_pos, shr-shr, shr_split}}, Math.Nat.{div-div-eq-div-mul, mod-eq_of_lt, mod-lt, mul-div_cancel, pow-le-pow_right, pow-suc}}
+use Rattle.std.specs.{Int.{byte_at, bytes_high_first, to_be_bytes, w64}, List.All}
+use Rattle.qr_bits.{proofs.Facts.field-more, specs.Bits.{bits_of, field}}
+use Rattle.qr_symbol.specs.Steps.Words.{Appends}
+use mir.Val.{bool_byte}
+
+-- ---- numbers
+
+-- a number of w bits, and c bits after it, make a number of w + c bits
+joined-below : (w c r b : ℕ) → r < 2 ^ w → b < 2 ^ c → r * 2 ^ c + b < 2 ^ (w + c)
+joined-below w zero r b h l = let e : w + 0 ≡ w = omega arith in rw e (omega arith)
+joined-below w (suc c) r b h l =
+    let two : 2 ^ suc c ≡ 2 * 2 ^ c = omega (arith, pow-suc 2 c) in
+    let whole : r * 2 ^ suc c ≡ 2 * (r * 2 ^ c) = ap (λ (z : ℕ). r * z) two ∙ omega arith in
+    let e : w + suc c ≡ suc (w + c) = omega arith in
+    let more : 2 ^ suc (w + c) ≡ 2 * 2 ^ (w + c) = omega (arith, pow-suc 2 (w + c)) in
+    let half = joined-below w c r (b / 2) h (omega (arith, two, l)) in rw e (omega (arith, whole, more, half))
+
+-- the same, for at most k bits
+pub joined-small : (w c r b k : ℕ) → r < 2 ^ w → b < 2 ^ c → w + c ≤ k → r * 2 ^ c + b < 2 ^ k
+joined-small w c r b k h l m = omega (arith, joined-below w c r b h l, pow-le-pow_right {n = 2} (omega arith) m)
+
+-- shifting a number of less than eight bits by at most 56 loses no bit of 64
+pub joined-whole : (w c r : ℕ) → r < 2 ^ w → w < 8 → c ≤ 56 → r * 2 ^ c % 18446744073709551616 ≡ r * 2 ^ c
+joined-whole w c r h l m = mod-eq_of_lt (omega (arith, joined-small w c r 0 63 h (pow_pos c) (omega arith)))
+
+-- ---- bits
+
+odd-bit : (r : ℕ) → r % 2 ≡ bool_byte (r % 2 == 1)
+odd-bit r = grind (arith, nat_tests)
+
+-- the bits of a number, followed by further bits, are those of both
+field-join : (a b q r : ℕ) → r < 2 ^ b → field (a + b) (q * 2 ^ b + r) ≡ field a q ++ field b r
+unfolding field
+field-join a zero q r h = search (arith, append-nil)
+field-join a (suc b) q r h =
+    let two : 2 ^ suc b ≡ 2 * 2 ^ b = omega (arith, pow-suc 2 b) in
+    let whole : q * 2 ^ suc b ≡ 2 * (q * 2 ^ b) = ap (λ (z : ℕ). q * z) two ∙ omega arith in
+    let e : a + suc b ≡ a + b + 1 = omega arith in
+    let one : suc b ≡ b + 1 = omega arith in
+    let n : q * 2 ^ suc b + r ≡ 2 * (q * 2 ^ b + r / 2) + r % 2 = omega (arith, whole) in
+    let m : r ≡ 2 * (r / 2) + r % 2 = omega arith in
+    let small : r / 2 < 2 ^ b = omega (arith, two, h) in
+    let bit = r % 2 == 1 in
+    ap (λ z. field z (q * 2 ^ suc b + r)) e ∙ (ap (λ z. field (a + b + 1) z) n ∙ (field-more [] (a + b) (q * 2 ^ b + r / 2) (r % 2) bit (odd-bit r)
+    ∙ (ap (λ z. z ++ bit ∷ []) (field-join a b q (r / 2) small) ∙ (append_assoc (field a q) (field b (r / 2)) (bit ∷ [])
+    ∙ ap (λ z. field a q ++ z) (sym (ap (λ z. field z r) one ∙ (ap (λ z. field (b + 1) z) m ∙ field-more [] b (r / 2) (r % 2) bit (odd-bit r))))))))
+
+-- the bits of a number are those before its last b bits, followed by these
+field-cut : (a b n : ℕ) → field (a + b) n ≡ field a (n / 2 ^ b) ++ field b (n % 2 ^ b)
+field-cut a b n = ap (λ z. field (a + b) z) (sym (shr_split n b)) ∙ field-join a b (n / 2 ^ b) (n % 2 ^ b) (mod-lt n (pow_pos b))
+
+-- b bits of a number are those of its last b bits
+field-low : (b n : ℕ) → field b n ≡ field b (n % 2 ^ b)
+unfolding field
+field-low b n = let e : 0 + b ≡ b = omega arith in ap (λ z. field z n) (sym e) ∙ field-cut 0 b n
+
+-- bits of bytes after bytes
+bits-append : (xs ys : List ℕ) → bits_of (xs ++ ys) ≡ bits_of xs ++ bits_of ys
+unfolding bits_of
+bits-append [] ys = refl
+bits-append (x ∷ xs) ys = ap (λ z. field 8 x ++ z) (bits-append xs ys) ∙ sym (append_assoc (field 8 x) (bits_of xs) (bits_of ys))
+
+-- ---- the bytes of a word
+
+-- the numbers that k bytes can have are as many as those of their bits
+pow-mul : (k : ℕ) → 256 ^ k ≡ 2 ^ (8 * k)
+pow-mul zero = refl
+pow-mul (suc k) =
+    let f : 8 * suc k ≡ 8 + 8 * k = omega arith in
+    pow-suc 256 k ∙ (ap (λ z. z * 256) (pow-mul k) ∙ (omega (arith, pow-add 2 8 (8 * k)) ∙ ap (λ z. 2 ^ z) (sym f)))
+
+byte-is : (i v : ℕ) → byte_at i v ≡ v / 256 ^ i % 256
+byte-is zero v = omega arith
+byte-is (suc i) v = refl
+
+-- bytes are below 256
+bytes-small : (k v : ℕ) → All (λ x. x < 256) (bytes_high_first k v)
+bytes-small zero v = λ i d l. absurd (omega arith)
+bytes-small (suc k) v = All-cons (λ x. x < 256) _ _ (rw (byte-is k v) (omega arith)) (bytes-small k v)
+
+-- the bits of the first n bytes are those of the number before the k bytes after them
+first-bytes : (n k v : ℕ) → bits_of (take n (bytes_high_first (n + k) v)) ≡ field (8 * n) (v / 256 ^ k)
+unfolding bits_of field
+first-bytes zero k v = refl
+first-bytes (suc n) k v =
+    let y = v / 256 ^ k in
+    let e : suc n + k ≡ suc (n + k) = omega arith in
+    let f : 8 * suc n ≡ 8 + 8 * n = omega arith in
+    let g : k + n ≡ n + k = omega arith in
+    let pow : 2 ^ (8 * n) ≡ 256 ^ n = sym (pow-mul n) in
+    let high : y / 2 ^ (8 * n) ≡ v / 256 ^ (n + k) =
+    ap (λ z. y / z) pow ∙ (div-div-eq-div-mul v (256 ^ k) (256 ^ n) ∙ (ap (λ z. v / z) (sym (pow-add 256 k n)) ∙ ap (λ z. v / 256 ^ z) g)) in
+    let byte : field 8 (byte_at (n + k) v) ≡ field 8 (y / 2 ^ (8 * n)) =
+    ap (field 8) (byte-is (n + k) v) ∙ (sym (field-low 8 (v / 256 ^ (n + k))) ∙ ap (field 8) (sym high)) in
+    let rest = first-bytes n k v ∙ field-low (8 * n) y in
+    ap (λ z. bits_of (take (suc n) (bytes_high_first z v))) e
+    ∙ (ap (λ z. z ++ bits_of (take n (bytes_high_first (n + k) v))) byte
+    ∙ (ap (λ z. field 8 (y / 2 ^ (8 * n)) ++ z) rest
+    ∙ (sym (field-cut 8 (8 * n) y) ∙ ap (λ z. field z y) (sym f))))
+
+-- a number of w bits that is shifted to the upper end of a word
+shifted-whole : (w x : ℕ) → x < 2 ^ w → w ≤ 64 → x * 2 ^ (64 - w) % 18446744073709551616 ≡ x * 2 ^ (64 - w)
+shifted-whole w x h l = mod-eq_of_lt (omega (arith, joined-small w (64 - w) x 0 64 h (pow_pos (64 - w)) (omega arith)))
+
+-- of this word the first bytes have all bits of the number but the last that fill no byte
+first-codewords : (w x : ℕ) → x < 2 ^ w → w ≤ 64 → bits_of (take (w / 8) (to_be_bytes w64 (x * 2 ^ (64 - w) % 18446744073709551616))) ++ field (w % 8) (x % 2 ^ (w % 8)) ≡ field w x
+first-codewords w x h l =
+    let n = w / 8 in let k = 8 - n in let left = w % 8 in
+    let e : 8 ≡ n + k = omega arith in
+    let f : 8 * k ≡ 64 - w + left = omega arith in
+    let g : 8 * n + left ≡ w = omega arith in
+    let v = x * 2 ^ (64 - w) in
+    let cut : v / 256 ^ k ≡ x / 2 ^ left =
+    ap (λ z. v / z) (pow-mul k) ∙ (ap (λ z. v / 2 ^ z) f ∙ (sym (shr-shr v (64 - w) left) ∙ ap (λ z. z / 2 ^ left) (mul-div_cancel x (pow_pos (64 - w))))) in
+    ap (λ z. bits_of (take n (bytes_high_first 8 z)) ++ field left (x % 2 ^ left)) (shifted-whole w x h l)
+    ∙ (ap (λ z. bits_of (take n (bytes_high_first z v)) ++ field left (x % 2 ^ left)) e
+    ∙ (ap (λ z. z ++ field left (x % 2 ^ left)) (first-bytes n k v ∙ ap (field (8 * n)) cut)
+    ∙ (sym (field-cut (8 * n) left x) ∙ ap (λ z. field z x) g)))
+
+-- the codewords that further bits fill, and the bits after them, are the bits before and the further ones
+pub codewords-joined : (xs : List ℕ) (w c r b : ℕ) → r < 2 ^ w → w < 8 → c ≤ 56 → let x = r * 2 ^ c + b % 2 ^ c in
+    bits_of (xs ++ take ((w + c) / 8) (to_be_bytes w64 (x * 2 ^ (64 - (w + c)) % 18446744073709551616))) ++ field ((w + c) % 8) (x % 2 ^ ((w + c) % 8))
+    ≡ (bits_of xs ++ field w r) ++ field c b
+codewords-joined xs w c r b h l m =
+    let low : b % 2 ^ c < 2 ^ c = mod-lt b (pow_pos c) in
+    let x = r * 2 ^ c + b % 2 ^ c in
+    let new = take ((w + c) / 8) (to_be_bytes w64 (x * 2 ^ (64 - (w + c)) % 18446744073709551616)) in
+    let left = field ((w + c) % 8) (x % 2 ^ ((w + c) % 8)) in
+    ap (λ z. z ++ left) (bits-append xs new)
+    ∙ (append_assoc (bits_of xs) (bits_of new) left
+    ∙ (ap (λ z. bits_of xs ++ z) (first-codewords (w + c) x (joined-below w c r (b % 2 ^ c) h low) (omega arith) ∙ field-join w c r (b % 2 ^ c) low)
+    ∙ (sym (append_assoc (bits_of xs) (field w r) (field c (b % 2 ^ c)))
+    ∙ ap (λ z. (bits_of xs ++ field w r) ++ z) (sym (field-low c b)))))
+
+-- these codewords are bytes
+pub codewords-small : (ok : Bool) (xs ys bytes : List ℕ) (n v : ℕ) → bytes ≡ to_be_bytes w64 v → ys ≡ cond ok (xs ++ take n bytes) xs → All (λ x. x < 256) xs → All (λ x. x < 256) ys
+codewords-small true xs ys bytes n v b e a = rw (e, b) (All-append (λ x. x < 256) xs _ a (All-take (λ x. x < 256) n _ (bytes-small 8 v)))
+codewords-small false xs ys bytes n v b e a = rw e a
+
+-- ---- a collector
+
+-- bits are added to those of a collector
+pub added : (was : Bool) (old new more : List Bool) → new ≡ old ++ more → Appends more (cond was None (Some old)) (cond was None (Some new))
+added true _ _ _ e _ i = tt
+added false _ _ more e _ i = e ∙ ap (λ zs. zs ++ more) i
+
+-- codewords are added, if memory for them is not refused
+pub pushed : (was failed : Bool) (old new more : List Bool) → (failed ≡ false → new ≡ old ++ more) → Appends more (cond was None (Some old)) (cond (was || failed) None (Some new))
+pushed true _ _ _ _ e _ i = tt
+pushed false true _ _ _ e _ i = tt
+pushed false false _ _ more e _ i = e refl ∙ ap (λ zs. zs ++ more) i
+
+-- the codewords after a push that is not refused
+pub push-made : (xs ys zs : List ℕ) (ok failed : Bool) → zs ≡ cond ok ys xs → ok ≡ not failed → failed ≡ false → zs ≡ ys
+push-made _ _ _ _ _ e d f = rw (d, f) at e

@@ -1,0 +1,285 @@
+-- Bits that are exchanged, reversed and divided between the two columns of a strip.
+use Rattle.std.proofs.Common.{◌≡◌, ℕ, ◌+◌, ◌-◌, ◌*◌, ◌/◌, ◌%◌, ◌^◌, ◌<◌, ◌≤◌, Bool, true, false, not, cond, ◌&&◌, eqb, leb, ltb, ◌||◌, bit_and, bit_or, bit_xor, refl, sym, ◌∙◌, ap, inl, inr, arith}
+use Rattle.std.proofs.lemmas.{Bool.{cases_lt, Decides.nat_tests}}
+use Rattle.qr_matrix.proofs.Facts.{below-at, has_bit-and, has_bit-ones, has_bit-or, has_bit-shr, has_bit-xor, low-bits, shl-bit, unset-above, &&-left, &&-right}
+use Rattle.qr_matrix.specs.{BitRow.has_bit, Grid.is_same, Sums.all_below}
+use Rattle.qr_symbol.specs.Steps.Words.{are_halves, are_pairs, partner, rank_in}
+
+-- ---- bits that are exchanged
+
+-- a bit of the number that has the bits of a mask in which a number differs from itself, s bits further up
+difference-bit : (n s m i : ℕ) → has_bit (bit_and (bit_xor n (n / 2 ^ s)) m) i ≡ (not (is_same (has_bit n i) (has_bit n (i + s))) && has_bit m i)
+difference-bit n s m i = cc (has_bit-and (bit_xor n (n / 2 ^ s)) m i, has_bit-xor n (n / 2 ^ s) i, has_bit-shr n s i)
+
+-- two bits of the mask that are s apart are not both set
+pairs-at : (s m i : ℕ) → are_pairs s m ≡ true → i < 64 → (has_bit m i && has_bit m (i + s)) ≡ false
+unfolding are_pairs
+pairs-at s m i e l = is-false _ (below-at 64 (λ i. not (has_bit m i && has_bit m (i + s))) e i l)
+  where
+    is-false : (t : Bool) → not t ≡ true → t ≡ false
+    is-false t e = grind (arith, nat_tests)
+
+-- a bit at one of three places
+at-place : (n p q r : ℕ) (t u : Bool) → has_bit n (cond t p (cond u q r)) ≡ cond t (has_bit n p) (cond u (has_bit n q) (has_bit n r))
+at-place n p q r true u = refl
+at-place n p q r false true = refl
+at-place n p q r false false = refl
+
+-- a bit that is inverted where it differs from the one above or below
+swapped : (a up down t u : Bool) → (t && u) ≡ false
+    → not (is_same (not (is_same a (not (is_same a up) && t))) (not (is_same down a) && u)) ≡ cond t up (cond u down a)
+swapped a up down t u e = grind (arith, nat_tests)
+
+-- a test that passes only from s on
+from : (s i : ℕ) → leb s i ≡ true → i - s + s ≡ i
+from s i e = let l : s ≤ i = grind (arith, nat_tests) in omega arith
+
+moved-in : (t a b u : Bool) → (t ≡ true → a ≡ b) → (t && (a && u)) ≡ (b && (t && u))
+moved-in t a b u e = grind (arith, nat_tests)
+
+never-both : (t l u : Bool) → (l ≡ true → (u && t) ≡ false) → (t && (l && u)) ≡ false
+never-both t l u e = grind (arith, nat_tests)
+
+-- after each bit of a mask was exchanged with the one s above it, a bit is the one that was at its partner's place
+pub exchanged-bit : (n s m i : ℕ) → are_pairs s m ≡ true → i < 64
+    → has_bit (bit_xor (bit_xor n (bit_and (bit_xor n (n / 2 ^ s)) m)) (bit_and (bit_xor n (n / 2 ^ s)) m * 2 ^ s % 2 ^ 64)) i ≡ has_bit n (partner s m i)
+exchanged-bit n s m i e l =
+    let d = bit_and (bit_xor n (n / 2 ^ s)) m in let u = leb s i && has_bit m (i - s) in
+    let low : has_bit (d * 2 ^ s % 2 ^ 64) i ≡ (leb s i && has_bit d (i - s)) = low-bits 64 (d * 2 ^ s) i l ∙ shl-bit d s i in
+    let down : (leb s i && has_bit d (i - s)) ≡ (not (is_same (has_bit n (i - s)) (has_bit n i)) && u) =
+    ap (λ z. leb s i && z) (difference-bit n s m (i - s))
+    ∙ moved-in (leb s i) (not (is_same (has_bit n (i - s)) (has_bit n (i - s + s)))) (not (is_same (has_bit n (i - s)) (has_bit n i))) (has_bit m (i - s)) (λ t. ap (λ z. not (is_same (has_bit n (i - s)) (has_bit n z))) (from s i t)) in
+    let apart : (has_bit m i && u) ≡ false = never-both (has_bit m i) (leb s i) (has_bit m (i - s)) (λ t. ap (λ z. has_bit m (i - s) && has_bit m z) (sym (from s i t)) ∙ pairs-at s m (i - s) e (omega arith)) in
+    let upper = has_bit-xor n d i ∙ ap (λ z. not (is_same (has_bit n i) z)) (difference-bit n s m i) in
+    has_bit-xor (bit_xor n d) (d * 2 ^ s % 2 ^ 64) i
+    ∙ (ap (λ z. not (is_same z (has_bit (d * 2 ^ s % 2 ^ 64) i))) upper
+    ∙ (ap (λ z. not (is_same (not (is_same (has_bit n i) (not (is_same (has_bit n i) (has_bit n (i + s))) && has_bit m i))) z)) (low ∙ down)
+    ∙ (swapped (has_bit n i) (has_bit n (i + s)) (has_bit n (i - s)) (has_bit m i) u apart ∙ sym (at-place n (i + s) (i - s) i (has_bit m i) u))))
+
+-- ---- the two halves
+
+is-below : (a b : ℕ) → ltb a b ≡ true → a < b
+is-below a b e = grind (arith, nat_tests)
+
+is-number : (a b : ℕ) → eqb a b ≡ true → a ≡ b
+is-number a b e = grind (arith, nat_tests)
+
+-- the test that a bit, back through five exchanges, comes from places in the word, and in the end from the place `from i`
+is-moved : (p q r s t from : ℕ → ℕ) → ℕ → Bool
+is-moved p q r s t from i = (ltb (t i) 64 && ltb (s (t i)) 64) && ((ltb (r (s (t i))) 64 && ltb (q (r (s (t i)))) 64) && eqb (p (q (r (s (t i))))) (from i))
+
+-- five exchanges bring each bit from this place, if all bits pass the test
+moved-bit : (p q r s t from : ℕ → ℕ) (a b c d e f : ℕ) → all_below 64 (is-moved p q r s t from) ≡ true
+    → ((i : ℕ) → i < 64 → has_bit b i ≡ has_bit a (p i))
+    → ((i : ℕ) → i < 64 → has_bit c i ≡ has_bit b (q i))
+    → ((i : ℕ) → i < 64 → has_bit d i ≡ has_bit c (r i))
+    → ((i : ℕ) → i < 64 → has_bit e i ≡ has_bit d (s i))
+    → ((i : ℕ) → i < 64 → has_bit f i ≡ has_bit e (t i))
+    → (i : ℕ) → i < 64 → has_bit f i ≡ has_bit a (from i)
+unfolding is-moved
+moved-bit p q r s t from a b c d e f all k l m n o i small =
+    let test = below-at 64 (is-moved p q r s t from) all i small in
+    let first = &&-left _ _ test in let later = &&-right _ _ test in
+    let second = &&-left _ _ later in
+    o i small ∙ (n (t i) (is-below _ _ (&&-left _ _ first)) ∙ (m (s (t i)) (is-below _ _ (&&-right _ _ first)) ∙ (l (r (s (t i))) (is-below _ _ (&&-left _ _ second)) ∙ (k (q (r (s (t i)))) (is-below _ _ (&&-right _ _ second)) ∙ ap (has_bit a) (is-number _ _ (&&-right _ _ later))))))
+
+-- each bit passes the test, computed
+all-unshuffled : all_below 64 (is-moved (partner 1 0x2222222222222222) (partner 2 0xC0C0C0C0C0C0C0C) (partner 4 0xF000F000F000F0) (partner 8 0xFF000000FF00) (partner 16 0xFFFF0000) (λ i. 2 * (i % 32) + i / 32)) ≡ true
+unfolding is-moved has_bit
+all-unshuffled = refl
+
+all-shuffled : all_below 64 (is-moved (partner 16 0xFFFF0000) (partner 8 0xFF000000FF00) (partner 4 0xF000F000F000F0) (partner 2 0xC0C0C0C0C0C0C0C) (partner 1 0x2222222222222222) (λ i. 32 * (i % 2) + i / 2)) ≡ true
+unfolding is-moved has_bit
+all-shuffled = refl
+
+-- five exchanges divide the bits between the two halves
+pub unshuffled-bit : (a b c d e f : ℕ)
+    → ((i : ℕ) → i < 64 → has_bit b i ≡ has_bit a (partner 1 0x2222222222222222 i))
+    → ((i : ℕ) → i < 64 → has_bit c i ≡ has_bit b (partner 2 0xC0C0C0C0C0C0C0C i))
+    → ((i : ℕ) → i < 64 → has_bit d i ≡ has_bit c (partner 4 0xF000F000F000F0 i))
+    → ((i : ℕ) → i < 64 → has_bit e i ≡ has_bit d (partner 8 0xFF000000FF00 i))
+    → ((i : ℕ) → i < 64 → has_bit f i ≡ has_bit e (partner 16 0xFFFF0000 i))
+    → (i : ℕ) → i < 64 → has_bit f i ≡ has_bit a (2 * (i % 32) + i / 32)
+unshuffled-bit a b c d e f p q r s t = moved-bit (partner 1 0x2222222222222222) (partner 2 0xC0C0C0C0C0C0C0C) (partner 4 0xF000F000F000F0) (partner 8 0xFF000000FF00) (partner 16 0xFFFF0000) (λ i. 2 * (i % 32) + i / 32) a b c d e f all-unshuffled p q r s t
+
+-- the same exchanges in the opposite order bring them back
+pub shuffled-bit : (a b c d e f : ℕ)
+    → ((i : ℕ) → i < 64 → has_bit b i ≡ has_bit a (partner 16 0xFFFF0000 i))
+    → ((i : ℕ) → i < 64 → has_bit c i ≡ has_bit b (partner 8 0xFF000000FF00 i))
+    → ((i : ℕ) → i < 64 → has_bit d i ≡ has_bit c (partner 4 0xF000F000F000F0 i))
+    → ((i : ℕ) → i < 64 → has_bit e i ≡ has_bit d (partner 2 0xC0C0C0C0C0C0C0C i))
+    → ((i : ℕ) → i < 64 → has_bit f i ≡ has_bit e (partner 1 0x2222222222222222 i))
+    → (i : ℕ) → i < 64 → has_bit f i ≡ has_bit a (32 * (i % 2) + i / 2)
+shuffled-bit a b c d e f p q r s t = moved-bit (partner 16 0xFFFF0000) (partner 8 0xFF000000FF00) (partner 4 0xF000F000F000F0) (partner 2 0xC0C0C0C0C0C0C0C) (partner 1 0x2222222222222222) (λ i. 32 * (i % 2) + i / 2) a b c d e f all-shuffled p q r s t
+
+-- ---- bits in the other order
+
+halves-at : (s m i : ℕ) → are_halves s m ≡ true → i < 64 → not (is_same (has_bit m i) (leb s i && has_bit m (i - s))) ≡ true
+unfolding are_halves
+halves-at s m i e l = below-at 64 (λ i. not (is_same (has_bit m i) (leb s i && has_bit m (i - s)))) e i l
+
+-- of two bits that are exchanged, the one from above or the one from below
+either : (a up down t u l : Bool) → not (is_same t (l && u)) ≡ true → (up && t || l && (down && u)) ≡ cond t up (cond (l && u) down a)
+either a up down true true true e = grind (arith, nat_tests)
+either a up down t u l e = grind (arith, nat_tests)
+
+-- after all bits were exchanged in pairs, a bit is the one that was at its partner's place
+pub all-exchanged-bit : (n s m i : ℕ) → are_halves s m ≡ true → i < 64
+    → has_bit (bit_or (bit_and (n / 2 ^ s) m) (bit_and n m * 2 ^ s % 2 ^ 64)) i ≡ has_bit n (partner s m i)
+all-exchanged-bit n s m i e l =
+    let u = leb s i && has_bit m (i - s) in
+    let up : has_bit (bit_and (n / 2 ^ s) m) i ≡ (has_bit n (i + s) && has_bit m i) = has_bit-and (n / 2 ^ s) m i ∙ ap (λ z. z && has_bit m i) (has_bit-shr n s i) in
+    let down : has_bit (bit_and n m * 2 ^ s % 2 ^ 64) i ≡ (leb s i && (has_bit n (i - s) && has_bit m (i - s))) =
+    low-bits 64 (bit_and n m * 2 ^ s) i l ∙ (shl-bit (bit_and n m) s i ∙ ap (λ z. leb s i && z) (has_bit-and n m (i - s))) in
+    has_bit-or (bit_and (n / 2 ^ s) m) (bit_and n m * 2 ^ s % 2 ^ 64) i
+    ∙ (ap (λ z. z || has_bit (bit_and n m * 2 ^ s % 2 ^ 64) i) up ∙ (ap (λ z. has_bit n (i + s) && has_bit m i || z) down
+    ∙ (either (has_bit n i) (has_bit n (i + s)) (has_bit n (i - s)) (has_bit m i) (has_bit m (i - s)) (leb s i) (halves-at s m i e l) ∙ sym (at-place n (i + s) (i - s) i (has_bit m i) u))))
+
+-- the places from which bit i comes, back through the six exchanges
+abbrev back5 : ℕ → ℕ
+back5 i = partner 32 0xFFFFFFFF i
+
+abbrev back4 : ℕ → ℕ
+back4 i = partner 16 0xFFFF0000FFFF (back5 i)
+
+abbrev back3 : ℕ → ℕ
+back3 i = partner 8 0xFF00FF00FF00FF (back4 i)
+
+abbrev back2 : ℕ → ℕ
+back2 i = partner 4 0xF0F0F0F0F0F0F0F (back3 i)
+
+abbrev back1 : ℕ → ℕ
+back1 i = partner 2 0x3333333333333333 (back2 i)
+
+abbrev opposite : ℕ → ℕ
+opposite i = partner 1 0x5555555555555555 (back1 i)
+
+-- the test that these are places in the word, and that the bit comes from the place opposite to its own
+is-reversed : ℕ → Bool
+is-reversed i = (ltb (back5 i) 64 && (ltb (back4 i) 64 && ltb (back3 i) 64)) && ((ltb (back2 i) 64 && ltb (back1 i) 64) && eqb (opposite i) (63 - i))
+
+-- each place passes the test, computed
+all-reversed : all_below 64 is-reversed ≡ true
+unfolding is-reversed has_bit
+all-reversed = refl
+
+-- six exchanges reverse the order of the bits
+pub reversed-bit : (a b c d e f g : ℕ)
+    → ((i : ℕ) → i < 64 → has_bit b i ≡ has_bit a (partner 1 0x5555555555555555 i))
+    → ((i : ℕ) → i < 64 → has_bit c i ≡ has_bit b (partner 2 0x3333333333333333 i))
+    → ((i : ℕ) → i < 64 → has_bit d i ≡ has_bit c (partner 4 0xF0F0F0F0F0F0F0F i))
+    → ((i : ℕ) → i < 64 → has_bit e i ≡ has_bit d (partner 8 0xFF00FF00FF00FF i))
+    → ((i : ℕ) → i < 64 → has_bit f i ≡ has_bit e (partner 16 0xFFFF0000FFFF i))
+    → ((i : ℕ) → i < 64 → has_bit g i ≡ has_bit f (partner 32 0xFFFFFFFF i))
+    → (i : ℕ) → i < 64 → has_bit g i ≡ has_bit a (63 - i)
+unfolding is-reversed
+reversed-bit a b c d e f g p q r s t u i l =
+    let test = below-at 64 is-reversed all-reversed i l in
+    let first = &&-left _ _ test in let later = &&-right _ _ test in
+    let second = &&-right _ _ first in let third = &&-left _ _ later in
+    u i l ∙ (t (back5 i) (is-below _ _ (&&-left _ _ first)) ∙ (s (back4 i) (is-below _ _ (&&-left _ _ second)) ∙ (r (back3 i) (is-below _ _ (&&-right _ _ second)) ∙ (q (back2 i) (is-below _ _ (&&-left _ _ third)) ∙ (p (back1 i) (is-below _ _ (&&-right _ _ third)) ∙ ap (has_bit a) (is-number _ _ (&&-right _ _ later)))))))
+
+-- ---- the bits of some rows
+
+-- of the first bits of a word, those of rows that are filled upward
+pub upward-bit : (n c i : ℕ) → n < 2 ^ 64 → c ≤ 32 → has_bit (n / 2 ^ (64 - 2 * c)) i ≡ (ltb i (2 * c) && has_bit n (64 - 2 * c + i))
+upward-bit n c i small few =
+    let e : i + (64 - 2 * c) ≡ 64 - 2 * c + i = omega arith in
+    has_bit-shr n (64 - 2 * c) i ∙ (ap (has_bit n) e ∙ within (has_bit n (64 - 2 * c + i)) (λ l. unset-above n 64 (64 - 2 * c + i) small (omega arith)))
+  where
+    within : (t : Bool) → (2 * c ≤ i → t ≡ false) → t ≡ (ltb i (2 * c) && t)
+    within t e = grind (arith, nat_tests)
+
+-- those of rows that are filled downward
+pub downward-bit : (n r c i : ℕ) → n < 2 ^ 64 → c ≤ 32 → r < 2 ^ 64 → ((i : ℕ) → i < 64 → has_bit r i ≡ has_bit (n / 2 ^ (64 - 2 * c)) (63 - i)) → has_bit (r / 2 ^ (64 - 2 * c)) i ≡ (ltb i (2 * c) && has_bit n (63 - i))
+downward-bit n r c i small few fits is = has_bit-shr r (64 - 2 * c) i ∙ elim (cases_lt i (2 * c)) [
+  | inl l ↦
+      let j = i + (64 - 2 * c) in let t : ltb i (2 * c) ≡ true = grind (arith, nat_tests) in
+      let e : 63 - j + (64 - 2 * c) ≡ 63 - i = omega arith in
+      is j (omega arith) ∙ (has_bit-shr n (64 - 2 * c) (63 - j) ∙ (ap (has_bit n) e ∙ rw t refl))
+  | inr l ↦
+      let t : ltb i (2 * c) ≡ false = grind (arith, nat_tests) in
+      unset-above r 64 (i + (64 - 2 * c)) fits (omega arith) ∙ rw t refl
+]
+
+-- the bits of one of the columns, which are a half of the word
+half-bit : (n p c j k : ℕ) (up : Bool) (h b : ℕ) → c ≤ 32 → j < 32 → has_bit h k ≡ has_bit b p → has_bit b p ≡ (ltb p (2 * c) && has_bit n (cond up (64 - 2 * c + p) (63 - p)))
+    → 2 * j ≤ p → p ≤ 2 * j + 1 → has_bit h k ≡ (ltb j c && has_bit n (cond up (64 - 2 * c + p) (63 - p)))
+half-bit n p c j k up h b few l e f least most = e ∙ (f ∙ ap (λ z. z && has_bit n (cond up (64 - 2 * c + p) (63 - p))) (grind (arith, nat_tests)))
+
+-- the rank of a row, and the place of its bit
+right-place : (c j : ℕ) → j < c → c ≤ 32 → 64 - 2 * c + (2 * j + 1) ≡ 63 - 2 * (c - 1 - j)
+right-place c j l m = omega arith
+
+left-place : (c j : ℕ) → j < c → c ≤ 32 → 64 - 2 * c + 2 * j ≡ 62 - 2 * (c - 1 - j)
+left-place c j l m = omega arith
+
+same-where : (j c p q n : ℕ) → (j < c → p ≡ q) → (ltb j c && has_bit n p) ≡ (ltb j c && has_bit n q)
+same-where j c p q n e = elim (cases_lt j c) [
+  | inl l ↦ ap (λ z. ltb j c && has_bit n z) (e l)
+  | inr l ↦ (let f : ltb j c ≡ false = grind (arith, nat_tests) in rw f refl)
+]
+
+-- the upper half has the bits that come second, from the topmost row down, and the lower half those that come first
+pub halves : (n h b c : ℕ) (up : Bool) → c ≤ 32 → h < 2 ^ 64
+    → ((i : ℕ) → i < 64 → has_bit h i ≡ has_bit b (2 * (i % 32) + i / 32))
+    → ((i : ℕ) → has_bit b i ≡ (ltb i (2 * c) && has_bit n (cond up (64 - 2 * c + i) (63 - i))))
+    → (j : ℕ) → (has_bit (h / 2 ^ 32) j ≡ (ltb j c && has_bit n (cond up (64 - 2 * c + (2 * j + 1)) (63 - (2 * j + 1)))))
+    × (has_bit (bit_and h 4294967295) j ≡ (ltb j c && has_bit n (cond up (64 - 2 * c + 2 * j) (63 - 2 * j))))
+halves n h b c up few small whole first j = elim (cases_lt j 32) [
+  | inl l ↦
+      let e : 2 * ((j + 32) % 32) + (j + 32) / 32 ≡ 2 * j + 1 = omega arith in
+      let f : 2 * (j % 32) + j / 32 ≡ 2 * j = omega arith in
+      let t : ltb j 32 ≡ true = grind (arith, nat_tests) in (
+        has_bit-shr h 32 j ∙ half-bit n (2 * j + 1) c j (j + 32) up h b few l (whole (j + 32) (omega arith) ∙ ap (has_bit b) e) (first (2 * j + 1)) (omega arith) (omega arith),
+        has_bit-and h (2 ^ 32 - 1) j ∙ (ap (λ z. has_bit h j && z) (has_bit-ones 32 j ∙ t) ∙ (and-true (has_bit h j) ∙ half-bit n (2 * j) c j j up h b few l (whole j (omega arith) ∙ ap (has_bit b) f) (first (2 * j)) (omega arith) (omega arith))),
+      )
+  | inr l ↦
+      let t : ltb j c ≡ false = grind (arith, nat_tests) in
+      let u : ltb j 32 ≡ false = grind (arith, nat_tests) in (
+        has_bit-shr h 32 j ∙ (unset-above h 64 (j + 32) small (omega arith) ∙ rw t refl),
+        has_bit-and h (2 ^ 32 - 1) j ∙ (ap (λ z. has_bit h j && z) (has_bit-ones 32 j ∙ u) ∙ (and-false (has_bit h j) ∙ rw t refl)),
+      )
+]
+  where
+    and-true : (t : Bool) → (t && true) ≡ t
+    and-true t = grind (arith, nat_tests)
+
+    and-false : (t : Bool) → (t && false) ≡ false
+    and-false t = grind (arith, nat_tests)
+
+-- the bits of the right column, which are a half that depends on the direction, and those of the left one
+pub columns-bits : (n c j : ℕ) (up : Bool) (upper lower : Bool) → c ≤ 32
+    → upper ≡ (ltb j c && has_bit n (cond up (64 - 2 * c + (2 * j + 1)) (63 - (2 * j + 1))))
+    → lower ≡ (ltb j c && has_bit n (cond up (64 - 2 * c + 2 * j) (63 - 2 * j)))
+    → (cond up upper lower ≡ (ltb j c && has_bit n (63 - 2 * rank_in c up j))) × (cond up lower upper ≡ (ltb j c && has_bit n (62 - 2 * rank_in c up j)))
+columns-bits n c j true upper lower few e f = (
+  e ∙ same-where j c _ _ n (λ l. right-place c j l few),
+  f ∙ same-where j c _ _ n (λ l. left-place c j l few),
+)
+columns-bits n c j false upper lower few e f = (f, e ∙ same-where j c _ _ n (λ l. omega arith))
+
+-- ---- two words in one
+
+-- the word with the lowest 32 bits of a in its upper half, and those of b in its lower half
+abbrev pub word-of : ℕ → ℕ → ℕ
+word-of a b = bit_or (a * 2 ^ 32 % 2 ^ 64) (bit_and b 4294967295)
+
+-- one of its bits
+word-bit : (a b j : ℕ) → j < 64 → has_bit (word-of a b) j ≡ (leb 32 j && has_bit a (j - 32) || has_bit b j && ltb j 32)
+word-bit a b j l =
+    has_bit-or (a * 2 ^ 32 % 2 ^ 64) (bit_and b (2 ^ 32 - 1)) j
+    ∙ (ap (λ z. z || has_bit (bit_and b (2 ^ 32 - 1)) j) (low-bits 64 (a * 2 ^ 32) j l ∙ shl-bit a 32 j)
+    ∙ ap (λ z. leb 32 j && has_bit a (j - 32) || z) (has_bit-and b (2 ^ 32 - 1) j ∙ ap (λ z. has_bit b j && z) (has_bit-ones 32 j)))
+
+pub upper-bit : (a b j k : ℕ) → j ≡ 32 + k → k < 32 → has_bit (word-of a b) j ≡ has_bit a k
+upper-bit a b j k e l = let d : j - 32 ≡ k = omega arith in word-bit a b j (omega arith) ∙ (ap (λ z. leb 32 j && has_bit a z || has_bit b j && ltb j 32) d ∙ high (has_bit a k) (has_bit b j))
+  where
+    high : (t u : Bool) → (leb 32 j && t || u && ltb j 32) ≡ t
+    high t u = grind (arith, nat_tests)
+
+pub lower-bit : (a b j : ℕ) → j < 32 → has_bit (word-of a b) j ≡ has_bit b j
+lower-bit a b j l = word-bit a b j (omega arith) ∙ low (has_bit a (j - 32)) (has_bit b j)
+  where
+    low : (t u : Bool) → (leb 32 j && t || u && ltb j 32) ≡ u
+    low t u = grind (arith, nat_tests)

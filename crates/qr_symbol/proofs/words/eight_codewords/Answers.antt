@@ -1,0 +1,18 @@
+use Rattle.{std.proofs.Common.{ap, sym, ◌∙◌, arith}, qr_matrix.specs.BitRow.has_bit}
+use Rattle.qr_symbol.proofs.lemmas.words.BitLemmas.{codewords-more, codewords-fits, codewords-room}
+use Rattle.qr_symbol.proofs.words.eight_codewords.Goals as goal
+
+pub overflow_mul-bits : goal.overflow_mul-bits
+overflow_mul-bits c = omega (arith, codewords-room _ _ (omega arith) c.loop-next.invariant.small)
+
+pub overflow_add-bits : goal.overflow_add-bits
+overflow_add-bits c = omega (arith, codewords-room _ _ (omega arith) c.loop-next.invariant.small)
+
+pub loop-next-preserved : goal.loop-next-preserved
+loop-next-preserved c = let i = c.loop-next.invariant in record {
+  small = codewords-fits _ _ _ i.small (omega arith);
+  held = codewords-more _ _ _ _ _ c.from.ensures (omega arith) i.held;
+}
+
+pub returns : goal.returns
+returns c = λ k l. ap (has_bit _) (sym (omega arith)) ∙ c.loop-next.invariant.held k (omega arith)

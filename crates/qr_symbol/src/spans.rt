@@ -1,0 +1,170 @@
+//! The spans of a strip: rows that are drawn or read at once, in the direction in which the strip is filled (ISO/IEC
+//! 18004:2015, 7.7.3).
+//!
+//! The two columns of a strip are rows of the transposed square, of which a word holds 64 modules. Here are the numbers of
+//! the bits in a square of four by four modules that are all in the region. Its first strip has columns 3 and 2, and is
+//! filled upward; its second strip has columns 1 and 0, and is filled downward.
+//!
+//! ```text
+//! symbol            transposed
+//!  9  8  7  6        9 11 13 15   left column of the second strip
+//! 11 10  5  4        8 10 12 14   right column of the second strip
+//! 13 12  3  2        7  5  3  1   left column of the first strip
+//! 15 14  1  0        6  4  2  0   right column of the first strip
+//! ```
+
+ghost use Rattle.std.specs.Prelude.{◌≡◌, ℕ, ◌%◌, ◌+◌, ◌-◌, ◌<◌, ◌≤◌, false, true};
+ghost use Rattle.std.specs.Iterator.{at_most};
+ghost use Rattle.qr_matrix.specs.Grid.{colour};
+ghost use Rattle.qr_matrix.specs.BitRow.{has};
+ghost use Rattle.qr_symbol.specs.Steps.Spans.{row_of, top_row, AreRegionRows, AreSpans, AreSpansOf, AreWithin, YieldsSpan};
+
+use qr_layout::Strip;
+use qr_matrix::{BitRow, Matrix};
+
+// The columns of a strip, as rows of a transposed square.
+#[derive(Clone, Copy)]
+pub(crate) struct Columns {
+    pub right: BitRow,
+    pub left: BitRow,
+}
+
+pub(crate) fn columns_of(across: &Matrix, right: u8) -> Columns
+    requires left_in { 1 ≤ right }
+    requires right_in { right < across.now.side }
+    ensures right { (row : ℕ) → has result.right row ≡ colour across.now right row }
+    ensures left { (row : ℕ) → has result.left row ≡ colour across.now (right - 1) row }
+    ensures within { AreWithin across.now.side result }
+{
+    Columns {
+        right: across.bit_row(usize::from(right)),
+        left: across.bit_row(usize::from(right - 1)),
+    }
+}
+
+// The rows of a strip of which both modules are in the region, and those of which none is.
+#[derive(Clone, Copy)]
+pub(crate) struct RegionRows {
+    pub both: BitRow,
+    pub neither: BitRow,
+}
+
+fn region_rows(region: &Columns) -> RegionRows
+    ensures { AreRegionRows region.now result }
+{
+    RegionRows {
+        both: region.right & region.left,
+        neither: !(region.right | region.left),
+    }
+}
+
+#[derive(Clone, Copy)]
+pub(crate) enum Span {
+    // Rows of which both modules are in the region: the topmost of them, and how many they are.
+    Both { top: u8, count: u8 },
+    // A row of which only the right module is in the region.
+    Right { row: u8 },
+    // A row of which only the left module is in the region.
+    Left { row: u8 },
+    // Rows of which no module is in the region.
+    Outside,
+}
+
+// An iterator over the spans of a strip. Exactly the region is set in `region`.
+#[derive(Drop)]
+pub(crate) struct Spans {
+    region: Columns,
+    rows: RegionRows,
+    strip: Strip,
+    side: u8,
+    // The most rows of a span of which both modules are in the region.
+    most: u8,
+    // The number of rows in earlier spans.
+    passed: u8,
+}
+
+impl Spans {
+    #[inline(always)]
+    pub(crate) fn new(region: &Columns, strip: Strip, side: u8, most: u8) -> Spans
+        requires side { side ≤ 177 }
+        requires some { 1 ≤ most }
+        ensures spans { AreSpans result }
+        ensures strip { AreSpansOf side strip region.now most result }
+        ensures first { result.passed ≡ 0 }
+    {
+        Spans {
+            region: *region,
+            rows: region_rows(region),
+            strip,
+            side,
+            most,
+            passed: 0,
+        }
+    }
+
+    // How many of the next rows are set in `rows`, without a gap, and in one word.
+    #[inline(always)]
+    fn rows_set(&self, rows: &BitRow) -> u8
+        requires side { self.now.side ≤ 177 }
+        requires row_in { self.now.passed < self.now.side }
+        ensures rows_in { self.now.passed + result ≤ self.now.side }
+        ensures word { top_row self.now.side self.now.strip self.now.passed result % 64 + result ≤ 64 }
+        ensures set { (j : ℕ) → self.now.passed ≤ j → j < self.now.passed + result
+            → has rows.now (row_of self.now.side self.now.strip j) ≡ true }
+        ensures ends { result ≡ 0 → has rows.now (row_of self.now.side self.now.strip self.now.passed) ≡ false }
+    {
+        if self.strip.upward {
+            rows.ones_down_from(self.side - 1 - self.passed)
+        } else {
+            rows.ones_from(self.passed).min(self.side - self.passed)
+        }
+    }
+
+    // The topmost of the next `count` rows.
+    #[inline(always)]
+    fn top(&self, count: u8) -> u8
+        requires { self.now.passed + count ≤ self.now.side }
+        ensures { result ≡ top_row self.now.side self.now.strip self.now.passed count }
+    {
+        if self.strip.upward {
+            self.side - count - self.passed
+        } else {
+            self.passed
+        }
+    }
+}
+
+impl Iterator for Spans {
+    type Item = Span;
+
+    ghost can_next = { AreSpans };
+
+    ghost next_gives = { YieldsSpan };
+
+    ghost remaining = { λ s. at_most (s.side - s.passed) };
+
+    #[inline(always)]
+    fn next(&mut self) -> Option<Span> {
+        if self.passed == self.side {
+            return None;
+        }
+        let count = self.rows_set(&self.rows.both).min(self.most);
+        if count > 0 {
+            let top = self.top(count);
+            self.passed += count;
+            return Some(Span::Both { top, count });
+        }
+        let outside = self.rows_set(&self.rows.neither);
+        if outside > 0 {
+            self.passed += outside;
+            return Some(Span::Outside);
+        }
+        let row = self.top(1);
+        self.passed += 1;
+        if self.region.right.at(row) {
+            Some(Span::Right { row })
+        } else {
+            Some(Span::Left { row })
+        }
+    }
+}

@@ -1,0 +1,305 @@
+//! Bits of words, and of codewords as far as they are read and written many at a time (ISO/IEC 18004:2015, 7.7.2 and
+//! 7.7.3). A word has 64 bits, and bit 0 is the lowest. The bits of codewords are numbered through all codewords, and
+//! bit 0 is the highest of the first codeword.
+
+ghost use Rattle.std.specs.Prelude.{◌≡◌, ℕ, ◌*◌, ◌/◌, ◌%◌, ◌+◌, ◌-◌, ◌<◌, ◌≤◌, ◌&&◌, [], ◌∷◌, ◌++◌, if◌then◌else◌, nat_lt, length, slice_index, IsTrue, Some, IfOk};
+ghost use Rattle.std.specs.List.{All};
+ghost use Rattle.qr_bits.specs.Bits.{bits_of, codeword_bit, field};
+ghost use Rattle.qr_matrix.specs.BitRow.{has_bit};
+ghost use Rattle.qr_symbol.specs.Steps.Words.{are_halves, are_pairs, partner, rank_in, Appends, AreNext, HasCollected};
+
+use std::alloc::{AllocError, Global};
+use std::marker::Model;
+
+// A `u32` cannot be shifted by 32 or more.
+#[tactic(auto, unfolding(qr_matrix::specs::BitRow::has_bit), using(crate::proofs::Named::word_bits))]
+pub(crate) fn is_bit_set(word: u32, i: u8) -> bool
+    ensures { result ≡ has_bit word i }
+{
+    i < 32 && word >> i & 1 == 1
+}
+
+// The second quarter of each group of 4, 8, 16, 32 and 64 bits.
+const OF_4: u64 = 0x2222_2222_2222_2222;
+
+const OF_8: u64 = 0x0C0C_0C0C_0C0C_0C0C;
+
+const OF_16: u64 = 0x00F0_00F0_00F0_00F0;
+
+const OF_32: u64 = 0x0000_FF00_0000_FF00;
+
+const OF_64: u64 = 0x0000_0000_FFFF_0000;
+
+// Exchanges each bit that is set in `mask` with the bit `steps` above it, which is not in `mask`: inverts both if they
+// differ.
+#[inline(always)]
+#[tactic(auto, using(crate::proofs::Named::exchanges))]
+fn exchange_bits(bits: u64, steps: u32, mask: u64) -> u64
+    requires few { steps < 64 }
+    requires pairs { IsTrue (are_pairs steps mask) }
+    ensures { (i : ℕ) → i < 64 → has_bit result i ≡ has_bit bits (partner steps mask i) }
+{
+    let difference = (bits ^ bits >> steps) & mask;
+    bits ^ difference ^ difference << steps
+}
+
+// Moves every second bit, from bit 1 on, to the upper half of the word, and the others to the lower half: in each group
+// of 4, 8, 16, 32 and 64 bits in turn, exchanges the second quarter with the third.
+#[inline(always)]
+fn unshuffled(bits: u64) -> u64
+    ensures { (i : ℕ) → i < 64 → has_bit result i ≡ has_bit bits (2 * (i % 32) + i / 32) }
+{
+    let bits = exchange_bits(bits, 1, OF_4);
+    let bits = exchange_bits(bits, 2, OF_8);
+    let bits = exchange_bits(bits, 4, OF_16);
+    let bits = exchange_bits(bits, 8, OF_32);
+    exchange_bits(bits, 16, OF_64)
+}
+
+// The inverse of `unshuffled`: the same exchanges in the other order.
+#[inline(always)]
+fn shuffled(bits: u64) -> u64
+    ensures { (i : ℕ) → i < 64 → has_bit result i ≡ has_bit bits (32 * (i % 2) + i / 2) }
+{
+    let bits = exchange_bits(bits, 16, OF_64);
+    let bits = exchange_bits(bits, 8, OF_32);
+    let bits = exchange_bits(bits, 4, OF_16);
+    let bits = exchange_bits(bits, 2, OF_8);
+    exchange_bits(bits, 1, OF_4)
+}
+
+// The 32 lowest bits of both numbers in turn, that of `even` as the lowest.
+#[inline(always)]
+fn interleaved(odd: u64, even: u64) -> u64
+    ensures odd { (i : ℕ) → i < 32 → has_bit result (2 * i + 1) ≡ has_bit odd i }
+    ensures even { (i : ℕ) → i < 32 → has_bit result (2 * i) ≡ has_bit even i }
+{
+    shuffled(odd << 32 | even & 0xFFFF_FFFF)
+}
+
+// As `exchange_bits`, if every bit of the word is exchanged with another.
+#[inline(always)]
+#[tactic(auto, using(crate::proofs::Named::exchanges))]
+fn exchange_all(bits: u64, steps: u32, mask: u64) -> u64
+    requires few { steps < 64 }
+    requires halves { IsTrue (are_halves steps mask) }
+    ensures { (i : ℕ) → i < 64 → has_bit result i ≡ has_bit bits (partner steps mask i) }
+{
+    bits >> steps & mask | (bits & mask) << steps
+}
+
+// As `u64::reverse_bits`, which is compiled to a loop over the bits. LLVM makes one instruction of the last three steps.
+#[inline(always)]
+pub(crate) fn reversed(bits: u64) -> u64
+    ensures { (i : ℕ) → i < 64 → has_bit result i ≡ has_bit bits (63 - i) }
+{
+    let bits = exchange_all(bits, 1, 0x5555_5555_5555_5555);
+    let bits = exchange_all(bits, 2, 0x3333_3333_3333_3333);
+    let bits = exchange_all(bits, 4, 0x0F0F_0F0F_0F0F_0F0F);
+    let bits = exchange_all(bits, 8, 0x00FF_00FF_00FF_00FF);
+    let bits = exchange_all(bits, 16, 0x0000_FFFF_0000_FFFF);
+    exchange_all(bits, 32, 0x0000_0000_FFFF_FFFF)
+}
+
+// The first `2 * count` of `bits`, in the order of the rows from the top down: bit 0 belongs to the topmost row.
+#[inline(always)]
+fn bits_of_rows(bits: u64, upward: bool, count: u8) -> u64
+    requires some { 1 ≤ count }
+    requires few { count ≤ 32 }
+    ensures { (i : ℕ) → has_bit result i
+        ≡ (nat_lt i (2 * count) && has_bit bits (if upward then 64 - 2 * count + i else 63 - i)) }
+{
+    let others = 64 - 2 * count;
+    let first = bits >> others;
+    if upward {
+        first
+    } else {
+        reversed(first) >> others
+    }
+}
+
+// The first `2 * count` of `bits`, divided between the right and the left column of `count` rows. The bits belong to the
+// right and the left column in turn; in a column the lowest bit is that of the topmost row.
+#[inline(always)]
+pub(crate) fn split(bits: u64, upward: bool, count: u8) -> (u64, u64)
+    requires some { 1 ≤ count }
+    requires few { count ≤ 32 }
+    ensures right { (i : ℕ) → has_bit result.0 i
+        ≡ (nat_lt i count && has_bit bits (63 - 2 * rank_in count upward i)) }
+    ensures left { (i : ℕ) → has_bit result.1 i
+        ≡ (nat_lt i count && has_bit bits (62 - 2 * rank_in count upward i)) }
+{
+    let halves = unshuffled(bits_of_rows(bits, upward, count));
+    let upper = halves >> 32;
+    let lower = halves & 0xFFFF_FFFF;
+    if upward {
+        (upper, lower)
+    } else {
+        (lower, upper)
+    }
+}
+
+// The inverse of `split`: the bits of `count` rows in the order in which they are filled, the last as the lowest. The
+// lowest bits of `right` and `left` are for the topmost row.
+#[inline(always)]
+pub(crate) fn joined(right: u64, left: u64, upward: bool, count: u8) -> u64
+    requires some { 1 ≤ count }
+    requires few { count ≤ 32 }
+    ensures right { (j : ℕ) → j < count
+        → has_bit result (2 * (count - 1 - j) + 1) ≡ has_bit right (rank_in count upward j) }
+    ensures left { (j : ℕ) → j < count
+        → has_bit result (2 * (count - 1 - j)) ≡ has_bit left (rank_in count upward j) }
+{
+    if upward {
+        interleaved(right, left)
+    } else {
+        reversed(interleaved(left, right)) >> (64 - 2 * count)
+    }
+}
+
+// Returns 0 after the last codeword, so that the remainder bits are 0 before a mask is applied.
+fn codeword_at(codewords: &[u8], place: usize) -> u8
+    ensures { result ≡ slice_index codewords.now place }
+{
+    codewords.get(place).copied().unwrap_or(0)
+}
+
+fn eight_codewords(codewords: &[u8], place: usize) -> u64
+    requires { place + 8 ≤ length codewords.now }
+    ensures { (k : ℕ) → k < 64 → has_bit result (63 - k) ≡ codeword_bit codewords.now (8 * place + k) }
+{
+    let mut bits = 0u64;
+    for next in 0..8 {
+        bits = 256 * bits + u64::from(codewords[place + next]);
+    }
+    bits
+}
+
+// As `eight_codewords`, with zeros after the last codeword.
+#[inline(never)]
+fn last_codewords(codewords: &[u8], place: usize) -> u64
+    requires { place ≤ 5000 }
+    ensures { (k : ℕ) → k < 64 → has_bit result (63 - k) ≡ codeword_bit codewords.now (8 * place + k) }
+{
+    let mut bits = 0u64;
+    for next in 0..8 {
+        bits = 256 * bits + u64::from(codeword_at(codewords, place + next));
+    }
+    bits
+}
+
+// The bits from `number` on, the first as the highest.
+#[inline(always)]
+pub(crate) fn bits_at(codewords: &[u8], number: usize) -> u64
+    requires { number ≤ 40000 }
+    ensures { AreNext codewords.now number result }
+{
+    let place = number / 8;
+    let skipped = number % 8;
+    let bits = if place + 8 <= codewords.len() {
+        eight_codewords(codewords, place)
+    } else {
+        last_codewords(codewords, place)
+    };
+    let ninth = u64::from(codeword_at(codewords, place + 8));
+    bits << skipped | ninth >> (8 - skipped)
+}
+
+#[tactic(auto, unfolding(qr_matrix::specs::BitRow::has_bit))]
+pub(crate) fn bit_at(codewords: &[u8], number: usize) -> bool
+    ensures { result ≡ codeword_bit codewords.now number }
+{
+    let codeword = codeword_at(codewords, number / 8);
+    is_bit_set(u32::from(codeword), 7 - (number % 8) as u8)
+}
+
+// Collects bits into codewords, of which the highest bit is the first. It remembers that an allocation was refused, so
+// the functions that pass bits on return no error.
+#[derive(Drop)]
+pub(crate) struct Collector {
+    whole: Vec<u8>,
+    // The `width` bits after the last whole codeword, as a number.
+    rest: u8,
+    width: u8,
+    is_refused: bool,
+}
+
+impl Model for Collector {
+    ghost use Rattle.std.specs.Prelude.{Bool, List, Option, None, Some, if◌then◌else◌, ◌++◌, ◌<◌, ◌^◌};
+    ghost use Rattle.std.specs.List.{All};
+    ghost use Rattle.qr_bits.specs.Bits.{bits_of, field};
+
+    // The bits, if no allocation was refused.
+    ghost Value = { Option (List Bool) };
+
+    ghost view = { λ b. if b.is_refused then None else Some (bits_of b.whole.items ++ field b.width b.rest) };
+
+    ghost invariant = { λ b. (b.width < 8) × (b.rest < 2 ^ b.width) × All (λ x. x < 256) b.whole.items };
+}
+
+impl Collector {
+    // Takes the memory for `count` codewords at once.
+    #[tactic(auto, unfolding(qr_bits::specs::Bits::bits_of, qr_bits::specs::Bits::field))]
+    pub(crate) fn with_capacity(alloc: Global, count: usize) -> Result<Collector, AllocError>
+        ensures { IfOk result (HasCollected []) }
+    {
+        Ok(Collector {
+            whole: Vec::with_capacity(alloc, count)?,
+            rest: 0,
+            width: 0,
+            is_refused: false,
+        })
+    }
+
+    pub(crate) fn push_bit(&mut self, dark: bool)
+        ensures { Appends (dark ∷ []) self.old self.new }
+    {
+        let bits = 2 * self.rest + u8::from(dark);
+        if self.width < 7 {
+            self.rest = bits;
+            self.width += 1;
+        } else {
+            self.is_refused |= self.whole.push(bits).is_err();
+            self.rest = 0;
+            self.width = 0;
+        }
+    }
+
+    // Appends the `count` lowest bits of `bits`, the highest first. With up to seven from before they begin a word, whose
+    // bytes are codewords as far as the bits reach.
+    #[inline(always)]
+    pub(crate) fn push_bits(&mut self, bits: u64, count: u8)
+        requires some { 1 ≤ count }
+        requires few { count ≤ 56 }
+        ensures { Appends (field count bits) self.old self.new }
+    {
+        let all = (u64::from(self.rest) << count) + bits % (1 << count);
+        let width = self.width + count;
+        let left = width % 8;
+        let codewords = (all << (64 - width)).to_be_bytes();
+        self.is_refused |= self
+            .whole
+            .extend_from_slice(&codewords[..usize::from(width / 8)])
+            .is_err();
+        self.rest = (all % (1 << left)) as u8;
+        self.width = left;
+    }
+
+    // Loses the bits after the last whole codeword: the remainder bits, of which there are at most seven.
+    pub(crate) fn into_codewords(self) -> Result<Vec<u8>, AllocError>
+        ensures { IfOk result (λ cw. (w : ℕ) × (rest : ℕ) × (w < 8) × All (λ x. x < 256) cw.items
+            × (self ≡ Some (bits_of cw.items ++ field w rest))) }
+    {
+        let Collector {
+            whole,
+            is_refused,
+            ..
+        } = self;
+        if is_refused {
+            // for the error of an earlier call, which it could not return
+            Err(AllocError)
+        } else {
+            Ok(whole)
+        }
+    }
+}
