@@ -184,6 +184,40 @@ pub(crate) fn symbol_at(
     symbol_on(alloc, &mut canvas, segmented, header, interpretation)
 }
 
+// The data codewords of the segments (7.4). Out of line, so that what makes them is not on the stack while error
+// correction codewords are computed.
+#[inline(never)]
+fn data_codewords(
+    alloc: Global,
+    segmented: &Segmented<'_>,
+    header: Option<Header>,
+    interpretation: Interpretation,
+    version: Version,
+    level: Level,
+) -> Result<Vec<u8>, EncodeFault>
+    requires covered { Covers (cow_slice_items segmented.now.characters) segmented.now.segments.items }
+    requires in_range { ForSome header (λ h. (h.position < 16) × (h.last < 16)) }
+    requires number { InterpretationFits interpretation }
+    requires room { header_bits header + interpretation_bits interpretation
+        + bits version segmented.now.segments.items ≤ capacity_of version level }
+    ensures { MatchResult result
+        (λ message. IsData version level (cow_slice_items segmented.now.characters)
+        segmented.now.segments.items header interpretation message.items)
+        (λ e. e ≡ EncodeFault.Memory) }
+{
+    // Only for the prover: no symbol contains more than 7,089 characters.
+    prove!(version.number() <= 40);
+    Ok(codewords(
+        alloc,
+        &segmented.characters,
+        &segmented.segments,
+        header,
+        interpretation,
+        version,
+        level,
+    )?)
+}
+
 // The final sequence of the segments (7.4 to 7.6). Out of line, so that the data codewords are gone, and not on the
 // stack, when the symbol is drawn.
 #[inline(never)]
@@ -206,17 +240,7 @@ fn final_codewords(
         × IsInterleaved version level message cw.items)
         (λ e. e ≡ EncodeFault.Memory) }
 {
-    // Only for the prover: no symbol contains more than 7,089 characters.
-    prove!(version.number() <= 40);
-    let message = codewords(
-        alloc,
-        &segmented.characters,
-        &segmented.segments,
-        header,
-        interpretation,
-        version,
-        level,
-    )?;
+    let message = data_codewords(alloc, segmented, header, interpretation, version, level)?;
     Ok(interleave(alloc, version, level, &message)?)
 }
 

@@ -153,8 +153,28 @@ fn corrections(alloc: Global, blocks: Blocks, message: &[u8]) -> Result<Vec<u8>,
     Ok(corrections)
 }
 
-// Out of line: where LLVM knows how many blocks there can be, it multiplies for each codeword instead of adding.
+// Interleaves the codewords of both kinds. Out of line: where LLVM knows how many blocks there can be, it multiplies for each
+// codeword instead of adding. So it is not on the stack either while error correction codewords are computed.
 #[inline(never)]
+fn interleave_both(
+    alloc: Global,
+    blocks: Blocks,
+    message: &[u8],
+    corrections: &[u8],
+) -> Result<Vec<u8>, AllocError>
+    requires whole { length message.now ≡ codeword_count (data_sizes blocks) }
+    requires checks { IsChecks blocks message.now (block_count (data_sizes blocks)) corrections.now }
+    ensures { IfOk result (λ cw. IsFinalMessage blocks message.now cw.items) }
+{
+    let mut interleaved = vec![in alloc; 0u8; message.len() + corrections.len()]?;
+    let (data, checks) = interleaved.split_at_mut(message.len());
+    BlockSizes::of_data(blocks).scatter(message, data);
+    BlockSizes::of_corrections(blocks).scatter(corrections, checks);
+    Ok(interleaved)
+}
+
+// Inlined, so that it does not add to the stack while error correction codewords are computed.
+#[inline(always)]
 fn interleave_blocks(alloc: Global, blocks: Blocks, message: &[u8]) -> Result<Vec<u8>, AllocError>
     requires whole { length message.now ≡ codeword_count (data_sizes blocks) }
     requires least { 1 ≤ blocks.ec_len }
@@ -162,11 +182,7 @@ fn interleave_blocks(alloc: Global, blocks: Blocks, message: &[u8]) -> Result<Ve
     ensures { IfOk result (λ cw. IsFinalMessage blocks message.now cw.items) }
 {
     let corrections = corrections(alloc, blocks, message)?;
-    let mut interleaved = vec![in alloc; 0u8; message.len() + corrections.len()]?;
-    let (data, checks) = interleaved.split_at_mut(message.len());
-    BlockSizes::of_data(blocks).scatter(message, data);
-    BlockSizes::of_corrections(blocks).scatter(&corrections, checks);
-    Ok(interleaved)
+    interleave_both(alloc, blocks, message, &corrections)
 }
 
 /// Returns the final sequence of the data codewords `message`: the first data codeword of each block, then the second,
@@ -175,6 +191,7 @@ fn interleave_blocks(alloc: Global, blocks: Blocks, message: &[u8]) -> Result<Ve
 /// # Errors
 ///
 /// Returns an error if an allocation is refused.
+#[inline(always)]
 pub fn interleave(
     alloc: Global,
     version: Version,
@@ -188,7 +205,7 @@ pub fn interleave(
     interleave_blocks(alloc, version.blocks(level), message)
 }
 
-// Undoes `scatter`. It is out of line for the reason that `interleave_blocks` gives.
+// Undoes `scatter`. It is out of line for the first reason that `interleave_both` gives.
 #[inline(never)]
 fn deinterleave_into(message: &mut [u8], sizes: BlockSizes, codewords: &[u8])
     requires room { length message.old ≡ codeword_count sizes }
