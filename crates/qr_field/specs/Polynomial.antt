@@ -19,7 +19,7 @@ plus (x ∷ xs) (y ∷ ys) = bit_xor x y ∷ plus xs ys
 abbrev pub zeros : ℕ → List ℕ
 zeros k = replicate k 0
 
--- The product with the element a (ISO/IEC 18004:2015, 7.5.2)
+-- The product of a polynomial and the element a (ISO/IEC 18004:2015, 7.5.2)
 abbrev pub scaled : ℕ → List ℕ → List ℕ
 scaled a p = map (product a) p
 
