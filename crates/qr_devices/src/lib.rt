@@ -1,4 +1,5 @@
-//! Devices: readers and writers that count their calls and what came of them, over streams or, for tests, over memory.
+//! Devices are readers and writers that count their calls, and what came of each call. `Counted` is a device over a
+//! stream of the standard library, and `Trial` is one in memory, for tests.
 #![tactic(auto)]
 
 mod bounded;
