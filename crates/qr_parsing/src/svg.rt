@@ -1,7 +1,7 @@
-//! The sheets of SVG documents. The size of a document is among the numbers in its text. The boxes are painted on a
-//! canvas, which has a byte for each module and is the sheet. The path begins at the first `M`. A box is `M`, its
-//! column, its row, `h`, its number of modules, `v1h-`, the number of modules again, and `z`. Only the first three
-//! numbers of a box are read. All other bytes are checked when the drawing is made again.
+//! The sheets of SVG documents. The size of a document is among the numbers in its text. Its boxes are painted on a
+//! canvas, which has a byte for each module; these are the bytes of the sheet. The path begins at the first `M`. A box
+//! is `M`, its column, its row, `h`, its number of modules, `v1h-`, the number of modules again, and `z`. Only the
+//! first three numbers of a box are read. All other bytes are checked when the drawing is made again.
 
 ghost use Rattle.std.specs.Prelude.{◌≡◌, ℕ, ◌<◌, ◌≤◌, ◌+◌, ◌*◌, ◌/◌, ◌%◌, ◌^◌, ◌==◌, ◌&&◌, ◌∷◌, ◌++◌, [], List, false, decimal, drop, nat_le, nat_lt, if◌then◌else◌, length, slice_index_or, IfOk, IfSome, MatchOption};
 ghost use Rattle.qr_parsing.specs.Steps.Sheet.{HasNoSheet, count_in, kind_in, width_in};
