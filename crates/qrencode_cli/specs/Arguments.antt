@@ -16,7 +16,7 @@ text_rule id letter = record (new_rule id) { short = Some letter; value_names = 
 abbrev pub number_rule : Text → ℕ → ℤ → Rule
 number_rule id letter most = record (text_rule id letter) { parser = Some (parser.Signed (pos 0) most) }
 
--- As `text_rule`, but `clap` refuses arguments without this option [own]
+-- An option that takes a text, and without which `clap` refuses the arguments [own]
 abbrev pub required_rule : Text → ℕ → Rule
 required_rule id letter = record (text_rule id letter) { required = true }
 
