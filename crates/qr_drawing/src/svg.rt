@@ -27,7 +27,8 @@ const HEAD_MAX: usize = 300;
 const TAIL: usize = 11;
 
 // `push_digit` and the three functions after it append numbers digit by digit. The row of a box, and its width from ten
-// modules on, are appended by them, because they take fewer instructions than the crate `itoa`.
+// modules on, are appended by them, because they take fewer instructions than the crate `itoa`. The digits of a column,
+// and all of a smaller width, come from the tables below. `itoa` formats the numbers before the path.
 fn push_digit<const CAP: usize>(text: &mut Piece<CAP>, digit: u16)
     requires digit { digit < 10 }
     requires room { length text.old < CAP }

@@ -12,8 +12,8 @@ pub fn drawings_are_one()
     ensures { DrawingsAreOne }
 {}
 
-/// Every drawing of the symbol of an input, or of its series, with a margin of at most 255 modules is one that
-/// `parse_drawing` accepts. By `drawings_are_one` it then returns the squares that were drawn.
+/// `parse_drawing` accepts each drawing of the symbol or the series of an input, if the margin has at most 255 modules.
+/// By `drawings_are_one` it then returns the squares that were drawn.
 pub fn drawings_read_back()
     ensures symbol { SymbolsAreDrawings }
     ensures series { SeriesAreDrawings }

@@ -184,8 +184,8 @@ fn is_drawing_of(alloc: Global, text: &[u8], shown: &Drawn) -> Result<bool, Allo
 ///
 /// It accepts the drawings that `qr_drawing::draw` makes, of each type and with a margin of 0 to 255 modules, if they
 /// show 1 to 16 squares that begin as every symbol does. The squares have one side, of 8 to 177 modules. The module at
-/// the top left of each is dark, and the one in column 7 of row 0 is light (ISO/IEC 18004:2015, 6.3.3, 6.3.4). No two
-/// types, margins or lists of squares have the same drawing.
+/// the top left of each is dark, and the one in column 7 of row 0 is light (ISO/IEC 18004:2015, 6.3.3, 6.3.4). Such a
+/// drawing is that of one type, one margin and one list of squares only.
 ///
 /// # Errors
 ///

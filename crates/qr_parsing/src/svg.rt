@@ -76,7 +76,8 @@ pub(crate) struct Size {
     pub(crate) count: usize,
 }
 
-/// Returns the size of a document, if a drawing can have it.
+/// Returns the size of a document, if a drawing can have it. A drawing has at most 16 rasters, so its height is below
+/// 17 times its width.
 pub(crate) fn size_in(text: &[u8]) -> Option<Size>
     requires { kind_in text.now ≡ Svg }
     ensures small { IfSome result (λ s. (8 ≤ s.width) × (s.width ≤ 687) × (s.height < 17 * 687)) }

@@ -110,7 +110,7 @@ fn run_to_result<R: Source, W: Sink>(
 /// The input is the string among the arguments, or else all bytes of `input`. Of either, at most the first 113,425
 /// bytes are taken, which are one more than the most that 16 symbols can hold. `-8` encodes them in byte mode alone.
 /// Without `-8`, `-k` allows kanji mode. `-i` folds small letters to capitals. With `-k` it leaves kanji pairs
-/// unchanged, and with `-8` all bytes.
+/// unchanged, and with `-8` it leaves all bytes unchanged.
 ///
 /// A run that returns 0 has written the whole drawing to `out`, flushed it once after that, and written nothing to
 /// `err`. Reading the drawn symbols yields the whole input, folded if `-i` is given.

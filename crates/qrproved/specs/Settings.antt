@@ -15,8 +15,8 @@ level_of n = if n == 0 then level.L else (if n == 1 then level.M else (if n == 2
 abbrev pub rule_of : ℕ → Rule
 rule_of n = if n == 0 then rule.Auto else (if n == 1 then rule.BytesOnly else rule.WithKanji)
 
--- The interpretation that a caller means: a number of six digits is an ECI, 1000000 is no interpretation, and 1000001
--- is GS1 data (ISO/IEC 18004:2015, 7.4.2, 7.4.8.2)
+-- The interpretation that a caller means: a number below 1,000,000 is an ECI, 1,000,000 is no interpretation, and
+-- 1,000,001 is GS1 data (ISO/IEC 18004:2015, 7.4.2, 7.4.8.2)
 abbrev pub interpretation_of : ℕ → Interpretation
 interpretation_of n = if nat_lt n 1000000 then Eci n else (if n == 1000000 then Default else Gs1)
 

@@ -21,8 +21,8 @@ pub(crate) const TOO_MANY: u8 = 3;
 /// Memory was refused.
 pub(crate) const MEMORY: u8 = 4;
 
-/// A number is out of range, kanji mode is to be used with another ECI than that of Shift JIS, or a module is more than
-/// 2 in `qrproved_mend`.
+/// A number is out of range, kanji mode is allowed with another ECI than that of Shift JIS, or in `qrproved_mend` a
+/// module is more than 2.
 pub(crate) const SETTINGS: u8 = 5;
 
 /// A buffer is too short.

@@ -15,7 +15,7 @@ numbers_after number inside (byte ∷ bytes) =
     if is_digit byte then numbers_after (min (number * 10 + (byte - 48)) 99999) true bytes
     else (if inside then number ∷ numbers_after 0 false bytes else numbers_after 0 false bytes)
 
--- The decimal numbers in a text, without one that no other byte follows
+-- The decimal numbers in a text, without a number at its very end
 abbrev pub numbers_in : List ℕ → List ℕ
 numbers_in text = numbers_after 0 false text
 
