@@ -23,7 +23,7 @@ printed_exponents =
     (0 ∷ 168 ∷ 223 ∷ 200 ∷ 104 ∷ 224 ∷ 234 ∷ 108 ∷ 180 ∷ 110 ∷ 190 ∷ 195 ∷ 147 ∷ 205 ∷ 27 ∷ 232 ∷ 201 ∷ 21 ∷ 43 ∷ 245 ∷ 87 ∷ 42 ∷ 195 ∷ 212 ∷ 119 ∷ 242 ∷ 37 ∷ 9 ∷ 123 ∷ []) ∷
     (0 ∷ 41 ∷ 173 ∷ 145 ∷ 152 ∷ 216 ∷ 31 ∷ 179 ∷ 182 ∷ 50 ∷ 48 ∷ 110 ∷ 86 ∷ 239 ∷ 96 ∷ 222 ∷ 125 ∷ 42 ∷ 173 ∷ 226 ∷ 193 ∷ 224 ∷ 130 ∷ 156 ∷ 37 ∷ 251 ∷ 216 ∷ 238 ∷ 40 ∷ 192 ∷ 180 ∷ []) ∷ []
 
--- The data codewords of `01234567` in version 1-M [own]
+-- The data codewords of the input `01234567` at version 1 and level M [own]
 abbrev pub worked_data : List ℕ
 worked_data = 0x10 ∷ 0x20 ∷ 0x0C ∷ 0x56 ∷ 0x61 ∷ 0x80 ∷ 0xEC ∷ 0x11 ∷ 0xEC ∷ 0x11 ∷ 0xEC ∷ 0x11 ∷ 0xEC ∷ 0x11 ∷ 0xEC ∷ 0x11 ∷ []
 

@@ -22,7 +22,7 @@ pub fn correction_is_one()
     ensures only { (d e f : List ℕ) (n : ℕ) → IsCorrection d n e → IsCorrection d n f → e ≡ f }
 {}
 
-/// Entry i of `POWERS` is 2 to the power i, and entry a - 1 of `LOGARITHMS` the logarithm of a.
+/// Entry i of `POWERS` is 2 to the power i in the field, and entry a - 1 of `LOGARITHMS` is the logarithm of a.
 pub fn tables_are_powers()
     ensures power_count { length POWERS ≡ 255 }
     ensures powers { (i : ℕ) → i < 255 → slice_index POWERS i ≡ power i }
@@ -46,13 +46,13 @@ pub fn generators_compute()
     ensures printed { map generator_of lengths_in_use ≡ map (map power) printed_exponents }
 {}
 
-/// The error correction codewords of the input `01234567` in version 1-M.
+/// The error correction codewords of the input `01234567` at version 1 and level M, as an example.
 pub fn correction_computes()
     ensures { IsCorrection worked_data 10 worked_correction }
 {}
 
-/// Two blocks with different data codewords differ in more codewords than each has error correction codewords, if they
-/// have equally many data codewords and at most 255 codewords each.
+/// Two blocks with different data codewords differ in more codewords than each of them has error correction codewords,
+/// if they have equally many data codewords and at most 255 codewords each.
 pub fn blocks_lie_apart()
     ensures { BlocksLieApart }
 {}
