@@ -5,6 +5,9 @@
 //! Most cells are appended eight or four at a time, by copies from tables: the names have `eight` for eight
 //! neighbouring modules of a row, `quad` for four and `pair` for two. Their modules are the bits of a number. Bit 0 is
 //! the leftmost module, and a bit that is 1 is dark.
+//!
+//! A raster has fewer than 1,000 rows (`drawing.rt`), so a line has a number below 1,000, and the first of the rows
+//! that it shows one below 2,000.
 
 ghost use Rattle.std.specs.Prelude.{◌≡◌, ℕ, ◌≤◌, ◌<◌, ◌+◌, ◌-◌, ◌*◌, ◌/◌, ◌%◌, ◌++◌, ◌∷◌, [], false, length, map, IfSome};
 ghost use Rattle.std.specs.List.{flat_map};
