@@ -78,6 +78,6 @@ pub record IsSheetOf (kind : Drawing) (width count : ℕ) (bytes text : List ℕ
   pub count_is : count ≡ count_in kind text
   pub bytes_is : (k : Drawing) (margin : ℕ) (squares : List Grid) → IsDrawingOf k margin squares text → bytes ≡ bytes_in kind text
 
--- No drawing is as wide, or has as many rasters, as this text would
+-- If the text were a drawing, it would be narrower or wider than any drawing, or have more rasters
 abbrev pub HasNoSheet : List ℕ → Type 0
 HasNoSheet text = ((width_in (kind_in text) text < 8) ⊎ (687 < width_in (kind_in text) text)) ⊎ (16 < count_in (kind_in text) text)
