@@ -111,8 +111,8 @@ pub record InputConsumed {T : Type 0} (words : List Text) (old new : Reader) (gi
   pub unread : (ReadsInput words → ⊥) → new ≡ old
   pub read : ReadsInput words → AllRead old new given ⊎ IsErrOf outcome fault.Read ⊎ IsErrOf outcome fault.Memory
 
--- Standard error received the line, or a prefix of it if a write to it failed; it counts at most as many bytes as the
--- line has, and was not flushed [own]
+-- Standard error received the line, or a prefix of the line if a write failed, and so at most as many bytes as the line
+-- has, and no flush [own]
 abbrev pub ErrorHolds : Writer → Writer → List ℕ → Type 0
 ErrorHolds old new line = AppendsBeginning old.taken new.taken line
     × (old.counts ≡ no_writes → new.counts.taken ≤ counted (length line))

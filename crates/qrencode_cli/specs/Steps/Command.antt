@@ -55,7 +55,7 @@ IsInputFault s input (Encode TooMany) = IsTooMany s input
 IsInputFault s input Memory = Unit {0}
 IsInputFault s input _ = ⊥
 
--- The result is the drawing job of `input`, or a fault for which it has none
+-- The result is the drawing job of `input`, or the fault that is the reason why there is none
 abbrev pub IsJobFor : SettingsView → List ℕ → Result DrawingJob Fault → Type 0
 IsJobFor s input result = MatchResult result (λ p. IsDrawing s input (drawing_of_job p)) (IsInputFault s input)
 
@@ -79,7 +79,7 @@ pub record Prepares (words : List Text) (old new : Reader) (result : Result Draw
   pub read_fault : old.counts ≡ no_reads → IsErrOf result Read ↔ IsTrue (is_read_fault new.counts)
   pub within : old.counts ≡ no_reads → IsReadWithin new.counts
 
--- The drawing was written and flushed, or the writer was at fault
+-- The drawing was written and flushed, or the result is a fault of the writer
 pub record Draws (old new : Writer) (drawing : List ℕ) (result : Result (Unit {0}) Fault) : Type 0 where
   pub ok : OnOk result (DrawnWhole true old new drawing)
   pub err : IfErr result (λ f. (f ≡ Write) × DrawnInPart old new drawing)
