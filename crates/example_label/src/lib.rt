@@ -20,6 +20,7 @@ use std::alloc::{AllocError, Global};
 /// # Errors
 ///
 /// `Empty` if `words` is empty, `TooLong` if it fits no version from `smallest` on, and `Memory` if memory is refused.
+/// No version holds more than 7,089 bytes.
 pub fn label(
     alloc: Global,
     words: &[u8],
