@@ -15,7 +15,7 @@ pub enum Answer {
 }
 
 impl Answer {
-    /// The answer of a call that was refused no memory.
+    /// Returns the answer of a call that did not report lack of memory.
     pub fn of(is_worked: bool) -> Answer {
         if is_worked {
             Answer::Ordinary
@@ -24,12 +24,13 @@ impl Answer {
         }
     }
 
-    /// Changed arguments count more than any result.
+    /// Returns this answer if the arguments are the same as before, and otherwise `Changed`, whatever the call
+    /// returned.
     pub fn given(self, is_same: bool) -> Answer {
         if is_same { self } else { Answer::Changed }
     }
 
-    /// What is printed after the name of the trial.
+    /// Returns what is printed after the name of the trial.
     pub fn text(self) -> &'static str {
         match self {
             Answer::Ordinary => "as worked out, arguments unchanged",

@@ -1,4 +1,4 @@
-//! Trials of `qr_bits`, most with `HELLO WORLD`, which is one segment, at version 1 and level M (1-M).
+//! Trials of `qr_bits`. Most of them take `HELLO WORLD`, which is one segment, at version 1 and level M (1-M).
 
 use crate::answer::Answer;
 use qr_bits::{

@@ -1,4 +1,4 @@
-//! Trials of `qrencode_cli`, whose devices are in memory.
+//! Trials of `qrencode_cli`, with devices in memory.
 
 use crate::answer::Answer;
 use qrencode_cli::{Faults, Trial, UsageFault, options, run};
@@ -23,7 +23,7 @@ pub fn writer(alloc: Global) -> Answer {
     }
 }
 
-// The program's name, then `words`.
+// Returns the program's name, and then `words`.
 fn line(alloc: Global, words: &[&str]) -> Result<Vec<String>, AllocError> {
     let mut list = Vec::new(alloc);
     list.push(String::from_str(alloc, "qrencode")?)?;
@@ -33,7 +33,7 @@ fn line(alloc: Global, words: &[&str]) -> Result<Vec<String>, AllocError> {
     Ok(list)
 }
 
-// Whether the arguments after the program's name are still `words`.
+// Says whether the arguments after the program's name are still `words`.
 fn are(list: &[String], words: &[&str]) -> bool {
     list.iter()
         .skip(1)

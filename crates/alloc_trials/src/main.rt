@@ -1,9 +1,9 @@
 //! A program that calls the public functions that allocate memory, each in a trial of its own, and prints a line with
-//! the result. The argument is the name of a trial; without it, all are run. `tests/refused_growths` runs each trial
-//! many times, and refuses another request for memory each time.
+//! the result of each trial. Its argument is the name of a trial. Without an argument it runs all of them.
+//! `tests/refused_growths` runs each trial many times, and refuses another request for memory each time.
 //!
-//! A trial makes the arguments of its call before it, and checks afterwards that they are unchanged. 1-M stands for
-//! version 1 and level M.
+//! A trial makes the arguments first, then calls the function, and then checks that the arguments are unchanged. 1-M
+//! stands for version 1 and level M.
 #![tactic(auto)]
 
 mod answer;
@@ -56,7 +56,7 @@ static NAMES: [&str; 35] = [
     "run_kanji",
 ];
 
-// Fails if memory for the arguments of the call is refused.
+// Runs a trial. It fails if memory for the arguments of the call is refused.
 fn trial(alloc: Global, name: &str) -> Result<Answer, AllocError> {
     match name {
         "Matrix::new" => Ok(symbols::matrix(alloc)),
@@ -98,7 +98,7 @@ fn trial(alloc: Global, name: &str) -> Result<Answer, AllocError> {
     }
 }
 
-// Whether the line with the result could be printed.
+// Runs a trial, and says whether the line with its result could be printed.
 fn tell(rt: &HostRuntime, name: &str) -> bool {
     let text = match trial(rt.alloc(), name) {
         Ok(answer) => answer.text(),

@@ -1,5 +1,5 @@
-//! Trials of `qr_symbol` and `qr_mending`, and of `Matrix::new`, with `HELLO WORLD` at version 1 and level M (1-M), and
-//! the series of `ABCDEFGH` at 1-H in byte mode.
+//! Trials of `qr_symbol`, `qr_mending` and `qr_matrix`. They take `HELLO WORLD` at version 1 and level M (1-M), and the
+//! series of `ABCDEFGH` at 1-H in byte mode.
 
 use crate::answer::Answer;
 use crate::bits::{DATA, HELLO_WORLD};
@@ -47,7 +47,7 @@ fn are_equal(a: &Matrix, b: &Matrix) -> bool {
     true
 }
 
-// Whether the symbols of two series have the same modules.
+// Says whether the symbols of two series have the same modules.
 fn are_equal_series(a: &[Symbol], b: &[Symbol]) -> bool {
     a.len() == b.len()
         && a.iter()
@@ -286,7 +286,7 @@ pub fn mended_series(alloc: Global) -> Result<Answer, AllocError> {
     Ok(answer.given(are_equal(&squares[0], &same.matrix)))
 }
 
-// Five letters are in the first symbol, and three in the second.
+// Makes the series of `ABCDEFGH`. Five letters are in the first symbol, and three in the second.
 fn series(alloc: Global) -> Result<Vec<Symbol>, AllocError> {
     encode_series(
         alloc,

@@ -1,5 +1,5 @@
-//! Tests of `Counted`, which passes calls on to a `Read` or a `Write` of the standard library, and returns its errors
-//! as `Trouble`, and of `Bounded`, a writer in memory.
+//! Tests of `Counted` and of `Bounded`. `Counted` passes calls on to a `Read` or a `Write` of the standard library, and
+//! returns its errors as `Trouble`. `Bounded` is a writer in memory.
 
 use qr_devices::Bounded;
 use qrencode_cli::{Counted, Sink, Source, Trouble};

@@ -27,7 +27,7 @@ fn symbol(alloc: Global) -> Result<Symbol, Fail>
     Ok(build_masked(alloc, version, Level::M, &CODEWORDS, 0)?)
 }
 
-// Draws that symbol.
+// Draws the symbol of `symbol`.
 fn one(alloc: Global, kind: Drawing, margin: u8) -> Result<Trial, Fail> {
     let symbols = [symbol(alloc)?];
     let mut out = Trial::writer(alloc, 8000, Faults::NONE)?;
@@ -35,7 +35,7 @@ fn one(alloc: Global, kind: Drawing, margin: u8) -> Result<Trial, Fail> {
     Ok(out)
 }
 
-// Empty if there is no such line.
+// Returns a line of the text, or an empty one if there are fewer lines.
 fn line(text: &[u8], index: usize) -> &[u8] {
     text.split(|byte| *byte == b'\n').nth(index).unwrap_or(&[])
 }
@@ -149,7 +149,8 @@ fn svg_of_two_symbols(rt: HostRuntime) -> Result<(), Fail> {
     Ok(())
 }
 
-// The dark runs of two finder patterns, and the light run after the first: the column after the last module of each.
+// Two runs of the first row are the dark ones of finder patterns, and the other is the light one after the first. For
+// each of them `run_end` returns the column after its last module.
 #[test]
 fn runs_of_the_first_row(rt: HostRuntime) -> Result<(), Fail> {
     let symbol = symbol(rt.alloc())?;
@@ -200,8 +201,8 @@ fn by_words(rt: HostRuntime) -> Result<(), Fail> {
     Ok(())
 }
 
-// In trial `call` the writer takes at most 100 bytes a call and fails from call `call` on; in the last trial the
-// drawing needs fewer calls. The writer always has a prefix of the drawing.
+// In trial `call` the writer takes at most 100 bytes in a call, and fails from call `call` on. In the last trial the
+// drawing needs fewer calls, so it succeeds. The writer has always accepted a prefix of the drawing.
 #[test]
 fn writers_fail_in_turn(rt: HostRuntime) -> Result<(), Fail> {
     let symbols = [symbol(rt.alloc())?];
@@ -237,7 +238,7 @@ fn writers_fail_in_turn(rt: HostRuntime) -> Result<(), Fail> {
     Ok(())
 }
 
-// A square as large as a symbol of version 3, with the colours of a chessboard; the first module is dark.
+// Returns a square as large as a symbol of version 3, with the colours of a chessboard. The first module is dark.
 fn chessboard(alloc: Global) -> Result<Matrix, Fail> {
     let mut square = Matrix::new(alloc, 29)?;
     for row in 0..29u8 {
@@ -250,7 +251,8 @@ fn chessboard(alloc: Global) -> Result<Matrix, Fail> {
     Ok(square)
 }
 
-// The sizes of the writes of its drawing: a writer that fails from call `call` on has what the calls before it wrote.
+// Returns the sizes of the writes by which the chessboard is drawn. A writer that fails from call `call` on has
+// accepted what the calls before wrote, so one more such call shows the size of one more write.
 fn sizes_of_writes(alloc: Global, kind: Drawing, margin: u8) -> Result<Vec<usize>, Fail> {
     let symbols = [chessboard(alloc)?];
     let mut sizes = Vec::new(alloc);
@@ -272,12 +274,14 @@ fn sizes_of_writes(alloc: Global, kind: Drawing, margin: u8) -> Result<Vec<usize
     Ok(sizes)
 }
 
-// A drawing is made in parts, and all that is not yet written is written before a part for which 1,200 bytes might have
-// no room. A line of text has three parts: the left margin; the columns of the symbol, but for those after the last
-// whole four; these with the right margin and the newline. Two bytes show a module in ASCII, and at most three in UTF-8.
-// An SVG document has a part of at most 300 bytes, one of at most 32 for each dark run, and one of 11. A script computed
-// the sizes from these rules. By it, at some of these margins they are others if a part waits that would just fit, or if
-// the 32 is 31 or 33.
+// A drawing is made in parts. Before each part the pen is written if it might have no room for the part among its 1,200
+// bytes. A line of text has three parts. The first is the left margin. The second is the columns of the symbol, without
+// the last ones if these are fewer than four. The third is those last columns, the right margin and the newline. A cell
+// has two bytes in ASCII, and at most three in UTF-8. An SVG document has a part of at most 300 bytes, then one of at
+// most 32 for each dark run, and then one of 11.
+//
+// A script computed the sizes from these rules. At some of these margins it computes other sizes if the pen is written
+// before a part that would just fit, or if the 32 is 31 or 33.
 #[test]
 fn sizes_of_single_writes(rt: HostRuntime) -> Result<(), Fail> {
     let ascii = [

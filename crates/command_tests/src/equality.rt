@@ -1,4 +1,4 @@
-//! Tests of `==`, by which values differ if one field does, and of `clone`, which returns an equal value.
+//! Tests of `==`, by which two values differ if one of their fields does, and of `clone`, which returns an equal value.
 
 use qr_bits::{BitFault, Header, Mode, ParseFault, Rule, Segment};
 use qr_layout::{Level, Module, Role, Strip, Version};

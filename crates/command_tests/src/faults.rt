@@ -146,7 +146,7 @@ fn of_length(rt: HostRuntime) -> Result<(), Fail> {
     Ok(())
 }
 
-// As `of_length`, with capitals and with small letters at level L.
+// At level L the longest inputs of capitals and of small letters are drawn, and one letter more is refused.
 #[test]
 fn of_length_in_other_modes(rt: HostRuntime) -> Result<(), Fail> {
     for (byte, most) in [(b'A', 4296usize), (b'a', 2953)] {
@@ -169,7 +169,7 @@ fn of_length_in_other_modes(rt: HostRuntime) -> Result<(), Fail> {
     Ok(())
 }
 
-// Of a long input, `INPUT_MAX` bytes are read.
+// Only the first `INPUT_MAX` bytes of a long input are read.
 #[test]
 fn of_a_long_input(rt: HostRuntime) -> Result<(), Fail> {
     let input = vec![in rt.alloc(); b'0'; 200_000]?;
@@ -186,7 +186,7 @@ fn of_a_long_input(rt: HostRuntime) -> Result<(), Fail> {
     Ok(())
 }
 
-// Standard error that is full, or fails, has received a prefix of the line.
+// If standard error is full, or fails, it has received a prefix of the line.
 #[test]
 fn fault_line_on_a_full_device(rt: HostRuntime) -> Result<(), Fail> {
     let devices = Devices {

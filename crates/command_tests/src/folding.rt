@@ -6,7 +6,7 @@ use qr_layout::{Level, Version};
 use qr_symbol::{encode, read_symbol};
 use std::test::Fail;
 
-// Whether both command lines succeed with the same drawing of `input`.
+// Says whether both command lines succeed and draw the same for `input`.
 fn draw_alike(
     rt: &HostRuntime,
     words: &[&str],

@@ -1,4 +1,4 @@
-//! The drawing of `A` at 1-L with mask 0; another encoder made its modules.
+//! The drawing of `A` at 1-L with mask 0. Another encoder made its modules.
 
 use crate::runs::{DRAW, Devices, run_with};
 use std::alloc::{AllocError, Global};
@@ -29,7 +29,7 @@ static ROWS: [u32; 21] = [
     0b111111101110101010111,
 ];
 
-// Adds the line of a row, between margins of four modules.
+// Appends the line of a row, between margins of four modules.
 fn push_line(text: &mut Vec<u8>, modules: u32) -> Result<(), AllocError> {
     text.extend_from_slice(b"        ")?;
     for col in 0..21u32 {

@@ -1,4 +1,4 @@
-//! Tests of the command with devices in memory, of drawings and devices, and of what all public types do alike.
+//! Tests of the command with devices in memory, of drawings and devices, and of `==` and `clone` of all public types.
 //! 1-M stands for version 1 and level M.
 #![tactic(auto)]
 

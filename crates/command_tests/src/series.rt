@@ -6,7 +6,8 @@ use qr_layout::{Level, Version};
 use qr_symbol::{EncodeFault, encode_series, read_series};
 use std::test::Fail;
 
-// At 1-H, 7 bytes take one symbol, 8 take two, 80 take 16, and 81 more. A symbol is drawn in 29 lines of 58 characters.
+// At 1-H, 7 bytes take one symbol, 8 take two, 80 take 16, and 81 take more. A symbol is drawn in 29 lines of 58
+// characters.
 #[test]
 fn of_version_1_h(rt: HostRuntime) -> Result<(), Fail> {
     let words = ["-S", "-8", "-v", "1", "-l", "H", "-t", "ASCII"];

@@ -1,5 +1,3 @@
-//! Tests of the settings that arguments mean.
-
 use crate::runs::line_of;
 use qr_layout::{Level, Version};
 use qrencode_cli::{Drawing, options};

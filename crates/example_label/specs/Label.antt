@@ -7,7 +7,7 @@ use Rattle.qr_bits.specs.declared.interpretation.Interpretation.TheVariants.{Def
 use Rattle.qr_matrix.specs.Grid.{Grid, colour}
 use Rattle.qr_symbol.specs.Encoding.{IsSymbol}
 
--- `#` for a dark module, a space for a light one [own]
+-- The character of a module: `#` for a dark one, and a space for a light one [own]
 abbrev pub character_of : Bool → ℕ
 character_of dark = if dark then 35 else 32
 

@@ -1,4 +1,4 @@
-//! Tests of data codewords, made from segments and parsed.
+//! Tests of data codewords: they are made from segments, and parsed.
 
 ghost use Rattle.std.specs.Prelude.{◌<◌, ◌≤◌, length};
 ghost use Rattle.std.specs.Option.{ForSome};
@@ -233,7 +233,8 @@ fn contents(rt: HostRuntime) -> Result<(), Fail> {
     Ok(())
 }
 
-// The bytes and the ECI headers with the number of bytes before each.
+// Says whether the data codewords mean these bytes and these ECI headers, each with the number of bytes before it. A
+// symbol of version 40 has 3,706 codewords, and no symbol has more.
 fn means(
     rt: &HostRuntime,
     codewords: &[u8],
@@ -247,7 +248,8 @@ fn means(
     Ok(parsed.bytes.as_slice() == bytes && found.eq(ecis.iter().copied()))
 }
 
-// The rows are of the standard (Greek letters, FNC1 in second position), or worked out by hand from its tables.
+// The rows are examples of the standard (Greek letters, and FNC1 in second position), or were worked out by hand from
+// its tables.
 #[test]
 fn interpretations(rt: HostRuntime) -> Result<(), Fail> {
     let greek = [0x70, 0x94, 0x05, 0xA1, 0xA2, 0xA3, 0xA4, 0xA5, 0x00];
@@ -326,8 +328,8 @@ fn faults(rt: HostRuntime) -> Result<(), Fail> {
     Ok(())
 }
 
-// All 65,536 pairs of codewords, counted by their fault. Two codewords are too short for the data of a segment, so
-// `BadValue` is the fault of an ECI designator or of an application indicator.
+// All 65,536 pairs of codewords are parsed, and counted by their fault. Two codewords are too short for the data of a
+// segment, so `BadValue` can only be the fault of an ECI designator or of an application indicator.
 #[test]
 fn all_pairs_of_codewords(rt: HostRuntime) -> Result<(), Fail> {
     let (mut read, mut cut, mut no_mode, mut bad_value) = (0u32, 0u32, 0u32, 0u32);

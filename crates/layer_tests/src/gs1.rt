@@ -19,7 +19,7 @@ fn fields(rt: HostRuntime) {
     assert!(rt; may_write(b"\x1D\x1D%", Interpretation::Eci(26)), "an ECI");
 }
 
-// Whether the segments at version 1 are these, and contain these characters.
+// Says whether the input as GS1 data has these segments at version 1, and these characters in them.
 fn is_cut(
     rt: &HostRuntime,
     input: &[u8],
@@ -98,7 +98,8 @@ fn fit(rt: &HostRuntime, input: &[u8], interpretation: Interpretation) -> Result
     )?)
 }
 
-// At 1-H a header leaves 52 bits, FNC1 48, ECI 26 40, and ECI 999999 24.
+// At 1-H a structured append header leaves 52 bits. After FNC1 there are 48 left, after ECI 26 there are 40, and after
+// ECI 999,999 there are 24.
 #[test]
 fn prefixes_at_1_h(rt: HostRuntime) -> Result<(), Fail> {
     assert_eq!(rt;

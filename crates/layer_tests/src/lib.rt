@@ -1,5 +1,5 @@
-//! Tests of the public functions of the layout, the field, the square and the segments.
-//! 1-M stands for version 1 and level M.
+//! Tests of the public functions of `qr_layout`, `qr_field`, `qr_matrix` and `qr_bits`. 1-M stands for version 1 and
+//! level M.
 #![tactic(auto)]
 
 #[cfg(test)]

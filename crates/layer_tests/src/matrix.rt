@@ -62,7 +62,7 @@ fn a_row_is_masked_within(rt: HostRuntime) -> Result<(), Fail> {
     Ok(())
 }
 
-// A row takes one word of 64 bits in the first square, and three in the second.
+// A row takes one word of 64 bits in a square with a side of 21, and three in one with a side of 177.
 #[test]
 fn a_square_is_transposed(rt: HostRuntime) -> Result<(), Fail> {
     let places = [
@@ -164,7 +164,7 @@ fn runs_over_the_border_of_words(rt: HostRuntime) -> Result<(), Fail> {
     Ok(())
 }
 
-// Only the listed modules are dark, and a row takes three words.
+// Only the listed modules of two squares are dark, in which a row takes three words of 64 bits.
 #[test]
 fn differences_are_counted(rt: HostRuntime) -> Result<(), Fail> {
     let rows = [
@@ -195,10 +195,12 @@ fn differences_are_counted(rt: HostRuntime) -> Result<(), Fail> {
     Ok(())
 }
 
-// Sides at which sixteen, 64 or 128 modules end, or nearly so, and some of versions.
+// The least side, sides of 16 and of 128 modules or nearly so many, and sides of versions, of which 65 is one more than
+// a word of 64 bits.
 static SIDES: [u8; 9] = [1, 15, 16, 17, 21, 33, 65, 128, 177];
 
-// In turn a dark module, from 3 on, a light one, and one that is not known.
+// Returns in turn the byte of a dark module, which may be any number from 3 on, of a light one, and of one that is not
+// known.
 fn byte_at(place: usize) -> u8 {
     match place % 3 {
         0 => (place % 251) as u8 + 3,

@@ -193,8 +193,8 @@ fn kanji(rt: HostRuntime) -> Result<(), Fail> {
     Ok(())
 }
 
-// Worked out by hand: 10 bits for three digits, 11 for two other bytes up to `Z`, and 13 for two greater ones; the sum
-// is rounded down.
+// The numbers were worked out by hand. Three digits take at least 10 bits, two other bytes up to `Z` at least 11, and
+// two greater ones at least 13. The sum is rounded down.
 #[test]
 fn least_bits_of_inputs(rt: HostRuntime) -> Result<(), Fail> {
     let rows = [
@@ -238,7 +238,8 @@ fn prefixes_at_1_h(rt: HostRuntime) -> Result<(), Fail> {
     Ok(())
 }
 
-// At 1-M a header leaves 108 bits: seven kanji pairs take 103, but six and one more byte 110.
+// At 1-M a structured append header leaves 108 bits. Seven kanji pairs take 103 bits, but six pairs and one more byte
+// take 110.
 #[test]
 fn pairs_at_1_m(rt: HostRuntime) -> Result<(), Fail> {
     let pairs = b"\x93\x5F\x93\x5F\x93\x5F\x93\x5F\x93\x5F\x93\x5F\x93\x5F\x93\x5F";

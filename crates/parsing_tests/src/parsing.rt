@@ -1,4 +1,4 @@
-//! The squares of a drawing that is parsed, the drawing that they make again, and what they contain.
+//! Tests of `parse_drawing`: which squares it finds in a drawing, what these contain, and which texts it refuses.
 
 use qr_devices::Counted;
 use qr_parsing::{DrawingFault, Drawn, parse_drawing};
@@ -14,7 +14,7 @@ static KINDS: [(&str, Drawing); 4] = [
     ("SVG", Drawing::Svg),
 ];
 
-// The drawing of `input` that the command makes with `words`.
+// Returns the drawing of `input` that the command makes with the arguments `words`.
 fn drawing_of(alloc: Global, words: &[&str], input: &[u8]) -> Result<Trial, Fail> {
     let mut line = vec![in alloc; String::from_str(alloc, "qrencode")?]?;
     for word in words {
@@ -29,7 +29,7 @@ fn drawing_of(alloc: Global, words: &[&str], input: &[u8]) -> Result<Trial, Fail
     }
 }
 
-// The bytes that the squares contain.
+// Returns the bytes that the squares contain.
 fn bytes_of(alloc: Global, squares: &[Matrix]) -> Result<Vec<u8>, Fail> {
     let mut contents = Vec::new(alloc);
     for square in squares {
@@ -38,8 +38,8 @@ fn bytes_of(alloc: Global, squares: &[Matrix]) -> Result<Vec<u8>, Fail> {
     Ok(join(alloc, &contents)?)
 }
 
-// Whether the drawing of `input` that the command makes with `words` shows the type and the margin, and `count` squares
-// that contain `input`.
+// Says whether the drawing of `input` that the command makes with the arguments `words` shows this type, this margin,
+// and `count` squares that contain `input`.
 fn reads_back(
     alloc: Global,
     words: &[&str],
@@ -152,7 +152,8 @@ fn below(state: &mut u64, end: usize) -> usize {
 
 static SIGNS: [u8; 26] = *b" #\n\xE2\x96\x84\x80\x88M0123456789hvz-\"<x";
 
-// Changes the text in one to four places: replaces, removes or inserts a byte, or cuts the text off.
+// Changes the text one to four times: replaces, removes or inserts a byte, or cuts the text off. `% 4` and `% 26` are
+// for the prover.
 fn changed(alloc: Global, text: &[u8], state: &mut u64) -> Result<Vec<u8>, Fail> {
     let mut changed = Vec::from_slice(alloc, text)?;
     for _ in 0..1 + below(state, 4) % 4 {
@@ -172,7 +173,7 @@ fn changed(alloc: Global, text: &[u8], state: &mut u64) -> Result<Vec<u8>, Fail>
     Ok(changed)
 }
 
-// A changed text is refused, or it is the drawing of what is returned.
+// A changed text is either refused, or it is the drawing of what `parse_drawing` returns.
 #[test]
 fn changed_drawings(rt: HostRuntime) -> Result<(), Fail> {
     let alloc = rt.alloc();
@@ -210,7 +211,7 @@ fn no_drawings(rt: HostRuntime) -> Result<(), Fail> {
         b"<0 0 0 0 0 0 0 0 0 687 10993 0 0 0 0 0 ",
         b"                                          \n",
         b"\xE2\x96\x84\n",
-        // two whose drawing is longer
+        // From each of the last two a square is read whose drawing is longer than the text.
         b" \x84\x84\x84\x84\x84 \xE2\x88\n \x88   \x88 \x80\n \x88\x84\x84\x84\x88 \x80\n\x84\x84\x84\x84\x84\x84\x84\x88\n",
         b"<0 0 0 0 0 0 0 0 0 8 8 M0 0h7v1h-7zM0 1h1v1h-1z",
     ];

@@ -24,7 +24,8 @@ read_returned room (Ok n) c =
 read_returned room (Err Interrupted) c = record c { interrupted = counted (c.interrupted + 1) }
 read_returned room (Err Failed) c = record c { failed = counted (c.failed + 1) }
 
--- As `read_returned`, with the call counted too, also as one past the end if an earlier read reached the end [own]
+-- The counts after a read: the call is counted, also as one past the end if an earlier read reached the end, and then
+-- what `read_returned` adds [own]
 abbrev pub read_counted : ℕ → Result ℕ Trouble → ReadCounts → ReadCounts
 read_counted room returned c = read_returned room returned (record c {
   calls = counted (c.calls + 1);
@@ -52,7 +53,8 @@ write_returned len (Ok n) c =
 write_returned len (Err Interrupted) c = record c { interrupted = counted (c.interrupted + 1) }
 write_returned len (Err Failed) c = record c { failed = counted (c.failed + 1) }
 
--- As `write_returned`, with the call and the longest offer counted too; after a write the device is not settled [own]
+-- The counts after a write: the call and the longest offer are counted, and what `write_returned` adds; the device is
+-- not settled [own]
 abbrev pub write_counted : ℕ → Result ℕ Trouble → WriteCounts → WriteCounts
 write_counted len returned c =
     write_returned len returned (record c { calls = counted (c.calls + 1); offered = max c.offered len; settled = false })
@@ -66,11 +68,11 @@ flush_counted returned c = record c {
   settled = is_ok returned;
 }
 
--- The list `whole` begins with `prefix`, and may end with it [own]
+-- The list `whole` begins with `prefix`, and may be equal to it [own]
 abbrev pub IsBeginning : List ℕ → List ℕ → Type 0
 IsBeginning prefix whole = (rest : List ℕ) × (prefix ++ rest ≡ whole)
 
--- The device's bytes grew by a prefix of `whole`, if they are known [own]
+-- The bytes that the device accepted, if they are known, grew by a prefix of `whole` [own]
 abbrev pub AppendsBeginning : Option (List ℕ) → Option (List ℕ) → List ℕ → Type 0
 AppendsBeginning old new whole = (prefix : List ℕ) × IsBeginning prefix whole × Appends old new prefix
 

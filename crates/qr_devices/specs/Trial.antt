@@ -9,13 +9,13 @@ use Rattle.qr_devices.specs.declared.trial.Trial.{Trial}
 abbrev pub bytes_left : Trial → List ℕ
 bytes_left t = drop t.position t.bytes.items
 
--- All its bytes: of a reader, read or not; of a writer, those that it accepted [own]
+-- All bytes of a reader, read or not, or those that a writer accepted [own]
 abbrev pub bytes_held : Trial → List ℕ
 bytes_held t = t.bytes.items
 
--- What read or write number `call` returns with the faults `m`, if at most `there` bytes can be moved. Interruptions
--- come before failures; otherwise it is as many bytes as `there` and `at_most` allow, and an `at_most` of 0 counts as 1
--- [own]
+-- What read or write number `call` returns with the faults `m`, if at most `there` bytes can be moved: an interruption,
+-- or otherwise a failure, if the faults say so, or else as many bytes as `there` and `at_most` allow, where an
+-- `at_most` of 0 counts as 1 [own]
 abbrev pub moved : Faults → ℕ → ℕ → Result ℕ Trouble
 moved m call there =
     if nat_lt call m.interruptions then Err Interrupted else

@@ -1,4 +1,4 @@
-//! A writer in memory of a limited length.
+//! A writer in memory that accepts a limited number of bytes.
 
 ghost use Rattle.std.specs.Prelude.{◌≡◌, ◌+◌, ◌-◌, ◌≤◌, Some, length, min, IfOk, IfErr, IsOk};
 ghost use Rattle.std.specs.IoError.{error_kind};
@@ -8,8 +8,8 @@ ghost use Rattle.std.specs.declared.io.ErrorKind.{ErrorKind};
 
 use std::io::{self, Write};
 
-/// Bytes that were written, at most `most`. A write takes as many as there is room for. It requests no memory for bytes
-/// that the capacity of `bytes` has room for.
+/// A writer that appends to `bytes` until there are `most` bytes in all. A write takes as many bytes as there is room
+/// for, which may be none. It requests no memory for bytes that the capacity of `bytes` has room for.
 #[derive(Drop)]
 pub struct Bounded {
     pub bytes: Vec<u8>,

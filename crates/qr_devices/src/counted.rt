@@ -1,4 +1,4 @@
-//! Devices over what implements the standard library's `Read` or `Write`.
+//! Devices over types that implement the standard library's `Read` or `Write`.
 
 ghost use Rattle.std.specs.Prelude.{◌≡◌, ◌↔◌};
 ghost use Rattle.std.specs.IoError.{error_kind};
@@ -18,8 +18,8 @@ fn trouble_of(error: io::Error) -> Trouble
     }
 }
 
-/// Passes its calls on to `inner`, a reader or a writer, and counts them. Contracts know its bytes if they know those
-/// of `inner`: those in memory, but not those of a file, a pipe or a terminal.
+/// A device that passes its calls on to `inner`, a reader or a writer, and counts them. Contracts know its bytes if
+/// they know those of `inner`. They know the bytes in memory, but not those of a file, a pipe or a terminal.
 #[derive(Drop)]
 pub struct Counted<T> {
     inner: T,

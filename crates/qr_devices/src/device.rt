@@ -1,7 +1,7 @@
 //! What the command reads its input from (`Source`) and writes its output to (`Sink`).
 //!
-//! Contracts state the bytes of a device where they are known, as in memory. Its counts are always known, so a contract
-//! can state exactly when a device caused a fault.
+//! A contract can state the bytes of a device only if they are known, as those in memory are. The counts of a device
+//! are always known, so a contract can always state exactly when the device caused a fault.
 
 ghost use Rattle.std.specs.Prelude.{◌≡◌, ◌≤◌, IfOk, length};
 ghost use Rattle.std.specs.Io.KnownBytes.{Keeps, ReadConsumes, WriteAppends};
@@ -9,8 +9,8 @@ ghost use Rattle.qr_devices.specs.Device.{flush_counted, read_counted, write_cou
 ghost use Rattle.qr_devices.specs.declared.device.ReadCounts.{ReadCounts};
 ghost use Rattle.qr_devices.specs.declared.device.WriteCounts.{WriteCounts};
 
-/// How many interrupted calls (EINTR) are tried again, counted apart for each input that is read and each text that is
-/// written. One more is a fault.
+/// How many interrupted calls (EINTR) are tried again at most, while one input is read or one text is written. One more
+/// is a fault.
 pub const INTERRUPTIONS_MAX: u16 = 999;
 
 /// How a read, a write or a flush fails.
@@ -29,12 +29,13 @@ pub struct ReadCounts {
     pub calls: u64,
     /// Reads that failed, without those that were interrupted.
     pub failed: u64,
+    /// Interrupted reads.
     pub interrupted: u64,
     /// The bytes that all reads returned.
     pub given: u64,
     /// Reads that reached the end of the input: they returned 0 though their buffer was not empty.
     pub ends: u64,
-    /// Reads after one that reached the end, into an empty buffer too.
+    /// Reads after one that reached the end, also those into an empty buffer.
     pub past_end: u64,
 }
 
@@ -87,6 +88,7 @@ pub struct WriteCounts {
     pub offered: usize,
     /// Flushes, failed ones too.
     pub flushes: u64,
+    /// Whether the last call was a flush that succeeded.
     pub settled: bool,
 }
 
@@ -122,7 +124,7 @@ impl WriteCounts {
         }
     }
 
-    /// Counts a flush that returned `answer`; an interrupted one counts as failed, since it is not tried again.
+    /// Counts a flush that returned `answer`. An interrupted flush counts as failed, since it is not tried again.
     pub fn add_flush(&mut self, answer: Result<(), Trouble>)
         ensures { self.new ≡ flush_counted answer self.old }
     {
@@ -142,8 +144,8 @@ pub trait Source {
     // What contracts see of the device.
     ghost device: { Self → Reader };
 
-    /// Reads at most as many bytes as `buf` has room for, into the beginning of `buf`, and returns how many. Returns 0
-    /// only at the end of the input, or if `buf` is empty.
+    /// Reads at most as many bytes as `buf` has room for, into the beginning of `buf`, and returns how many it read. It
+    /// returns 0 only at the end of the input, or if `buf` is empty.
     fn read(&mut self, buf: &mut [u8]) -> Result<usize, Trouble>
         ensures bound { IfOk result (λ n. n ≤ length buf.new) }
         ensures bytes { ReadConsumes (device self.old).remaining (device self.new).remaining result buf.new }
@@ -154,15 +156,16 @@ pub trait Source {
 pub trait Sink {
     ghost use Rattle.qr_devices.specs.Device.{Writer};
 
+    // What contracts see of the device.
     ghost device: { Self → Writer };
 
-    /// Offers the bytes of `buf`, of which the device accepts a prefix, and returns how many it accepted.
+    /// Offers the bytes of `buf` to the device, which accepts a prefix of them. Returns how many it accepted.
     fn write(&mut self, buf: &[u8]) -> Result<usize, Trouble>
         ensures bound { IfOk result (λ n. n ≤ length buf.now) }
         ensures bytes { WriteAppends (device self.old).taken (device self.new).taken result buf.now }
         ensures counted { (device self.new).counts ≡ write_counted (length buf.now) result (device self.old).counts };
 
-    /// Makes the device pass on what it accepted.
+    /// Makes the device pass on all bytes that it has accepted.
     fn flush(&mut self) -> Result<(), Trouble>
         ensures bytes { Keeps (device self.old).taken (device self.new).taken }
         ensures counted { (device self.new).counts ≡ flush_counted result (device self.old).counts };

@@ -12,8 +12,7 @@ use crate::device::{ReadCounts, Trouble, WriteCounts};
 use crate::trial::Faults;
 use std::alloc::AllocError;
 
-/// Returns the `Faults` of a device without interruption or failure: a read or write moves all that buffer, bytes and
-/// room allow.
+/// Returns the `Faults` of a device without interruption or failure. It also never moves fewer bytes than it could.
 pub fn no_faults() -> Faults
     ensures at_most { result.at_most ≡ 2 ^ 64 - 1 }
     ensures interruptions { result.interruptions ≡ 0 }
@@ -24,12 +23,12 @@ pub fn no_faults() -> Faults
     Faults::NONE
 }
 
-/// At most 999 interrupted calls are tried again for one input or one text.
+/// At most 999 interrupted calls are tried again while one input is read or one text is written.
 pub fn interruptions_are_limited()
     ensures { INTERRUPTIONS_MAX ≡ 999 }
 {}
 
-/// Examples of counts, and of what a trial device returns, worked out by hand.
+/// Examples of counts, and of what a trial device returns, which were worked out by hand.
 pub fn counts_compute()
     ensures ends { (read_counted 4 (Ok 0) no_reads).ends ≡ 1 × (read_counted 0 (Ok 0) no_reads).ends ≡ 0 }
     ensures past { (read_counted 4 (Ok 3) (read_counted 4 (Ok 0) no_reads)).past_end ≡ 1 }

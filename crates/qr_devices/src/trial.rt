@@ -6,10 +6,11 @@ ghost use Rattle.std.specs.Vec.{vec_len, vec_capacity};
 use crate::device::{ReadCounts, Sink, Source, Trouble, WriteCounts};
 use std::alloc::{AllocError, Global};
 
-/// How a trial device misbehaves. Its reads are numbered from 0, its writes and flushes together from 0 too.
+/// How a trial device misbehaves. Its reads are numbered from 0 on. Its writes and flushes are numbered together, also
+/// from 0 on.
 #[derive(Clone, Copy, Debug, PartialEq, Eq)]
 pub struct Faults {
-    /// The most bytes that one read or write moves; 0 counts as 1.
+    /// The most bytes that one read or write moves. 0 counts as 1.
     pub at_most: usize,
     /// Reads and writes with a number below this are interrupted.
     pub interruptions: u64,
@@ -17,7 +18,7 @@ pub struct Faults {
     pub fails_from: u64,
     /// Writes from this number on return 0, unless they are interrupted or fail.
     pub stops_from: u64,
-    /// Whether every flush fails; none is interrupted.
+    /// Whether every flush fails. No flush is interrupted.
     pub flush_fails: bool,
 }
 
@@ -32,13 +33,15 @@ impl Faults {
     };
 }
 
-/// Bytes in memory that are read, or room for bytes that are written. A read or write moves as many bytes as the
-/// `Faults`, the buffer, and the bytes or the room that are left allow. It goes wrong exactly where the `Faults` say
-/// so. A write to a full device returns 0.
+/// A device with bytes in memory that are read, or with room for bytes that are written. A read or write moves as many
+/// bytes as three things allow: the `Faults`, the buffer, and what is left to read or to fill. It goes wrong exactly
+/// where the `Faults` say so. A write to a full device returns 0.
 #[derive(Drop)]
 pub struct Trial {
     bytes: Vec<u8>,
+    // The number of bytes that were read.
     position: usize,
+    // The number of bytes that can be written in all.
     room: usize,
     faults: Faults,
     reads: ReadCounts,
@@ -129,7 +132,8 @@ impl Trial {
         self.position = end;
     }
 
-    // `call` is the number of a read or write, and `there` the most bytes that buffer and device allow it to move.
+    // Returns what read or write number `call` returns, if the buffer and the device allow it to move at most `there`
+    // bytes.
     fn moved(&self, call: u64, there: usize) -> Result<usize, Trouble>
         ensures value { result ≡ moved self.now.faults call there }
         ensures bound { IfOk result (λ n. n ≤ there) }

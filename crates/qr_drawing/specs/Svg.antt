@@ -10,11 +10,12 @@ use Rattle.qr_drawing.specs.Raster.{is_dark_at, raster_width, texts_below}
 unfoldable pub numbered : List ℕ → ℕ → List ℕ
 numbered text number = text ++ decimal number
 
--- A run of dark modules begins here: the module is dark, and that to its left is light or outside the raster [own]
+-- A run of dark modules begins in row `y` and column `x`: the module there is dark, and the one to its left is light or
+-- outside the raster [own]
 unfoldable pub begins_run : ℕ → Grid → ℕ → ℕ → Bool
 begins_run margin g y x = is_dark_at margin g y x && (x == 0 || not (is_dark_at margin g y (x - 1)))
 
--- The number of dark modules side by side from column `x` on [own]
+-- The number of dark modules side by side in row `y` from column `x` on [own]
 unfoldable pub run_length : ℕ → Grid → ℕ → ℕ → ℕ
 run_length margin g y x = prefix_len (is_dark_at margin g y) (range_with_len x (raster_width margin g - x))
 
@@ -25,12 +26,12 @@ box_path x y modules =
     numbered (codes "M") x ++ numbered (codes " ") y ++ numbered (codes "h") modules ++ numbered (codes "v1h-") modules
     ++ codes "z"
 
--- The box around the run that begins here, or nothing if none does [own]
+-- The box around the run that begins in row `y` and column `x`, or nothing if no run begins there [own]
 unfoldable pub run_path : ℕ → ℕ → Grid → ℕ → ℕ → List ℕ
 run_path top margin g y x =
     if begins_run margin g y x then box_path x (top + y) (run_length margin g y x) else []
 
--- The boxes of a row, from left to right [own]
+-- The boxes of row `y`, from left to right [own]
 unfoldable pub row_path : ℕ → ℕ → Grid → ℕ → List ℕ
 row_path top margin g y = texts_below (raster_width margin g) (run_path top margin g y)
 
@@ -42,7 +43,8 @@ symbol_path top margin g = texts_below (raster_width margin g) (row_path top mar
 abbrev pub square_at : List Grid → ℕ → Grid
 square_at squares k = slice_index_or squares k (light 0)
 
--- The boxes of all symbols; all have one size, so `top` of the one with the index `k` is `k` times its width [own]
+-- The boxes of all symbols; these have one size, so the symbol with the index `k` has `k` times its raster's width as
+-- `top` [own]
 unfoldable pub stack_path : ℕ → List Grid → List ℕ
 stack_path margin squares =
     texts_below (length squares) (λ k. symbol_path (k * raster_width margin (square_at squares k)) margin (square_at squares k))

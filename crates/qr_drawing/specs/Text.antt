@@ -16,14 +16,15 @@ half_blocks upper lower =
     if upper then (if lower then 32 ∷ [] else 0xE2 ∷ 0x96 ∷ 0x84 ∷ [])
     else (if lower then 0xE2 ∷ 0x96 ∷ 0x80 ∷ [] else 0xE2 ∷ 0x96 ∷ 0x88 ∷ [])
 
--- The cell with the index `x` in line `y`, for which a module below the raster counts as light [own]
+-- The cell with the index `x` in line `y`; in the style `HalfBlocks` it may show a module below the raster, which is
+-- light [own]
 abbrev pub cell_of : TextStyle → ℕ → Grid → ℕ → ℕ → List ℕ
 cell_of Plain margin g y x = ascii_module (is_dark_at margin g y x)
 cell_of Inverse margin g y x = ascii_module (not (is_dark_at margin g y x))
 cell_of HalfBlocks margin g y x = half_blocks (is_dark_at margin g (2 * y) x) (is_dark_at margin g (2 * y + 1) x)
 
--- The number of lines that show `rows` rows of modules; in the style `HalfBlocks` each shows two, but the last one only
--- the last row if `rows` is odd [own]
+-- The number of lines that show `rows` rows of modules; in the style `HalfBlocks` each line shows two rows, except that
+-- the last line shows only one if `rows` is odd [own]
 abbrev pub line_count : TextStyle → ℕ → ℕ
 line_count Plain rows = rows
 line_count Inverse rows = rows

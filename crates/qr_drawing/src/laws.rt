@@ -1,5 +1,5 @@
 //! Laws of drawings: which characters show modules, what small squares look like, which texts make an SVG document, how
-//! many bytes one write offers, and the number of a fault.
+//! many bytes one write offers, and the number of a fault. The contract of a function with an empty body is the law.
 
 ghost use Rattle.std.specs.Prelude.{◌≡◌, ◌==◌, ◌+◌, ◌*◌, ◌++◌, ◌∷◌, [], ℕ, codes, decimal, ◌↔◌, IsTrue, IfOk};
 ghost use Rattle.qr_matrix.specs.Grid.{Grid, square};
@@ -13,8 +13,8 @@ use crate::drawing::Drawing;
 use crate::pen::DrawFault;
 use std::alloc::AllocError;
 
-/// `CharactersOfModules` lists the characters that show modules. In the style `Plain` two characters show one module;
-/// in the style `HalfBlocks` one shows two, one above the other, so that 29 rows of modules need 15 lines.
+/// `CharactersOfModules` lists the characters that show modules. In the style `Plain` two characters show one module.
+/// In the style `HalfBlocks` one character shows two modules, one above the other, so 29 rows of modules need 15 lines.
 pub fn characters_of_modules()
     ensures { CharactersOfModules }
 {}
@@ -25,7 +25,7 @@ pub fn pieces_are_limited()
 {}
 
 /// Drawings of squares of two by two modules, of which only the first row is dark, with a margin of one module or none.
-/// The last clause lists the parts of an SVG document of two equal squares of any size.
+/// The clause `document` lists the parts of an SVG document that shows a square of any size twice.
 #[tactic(auto, unfolding(crate::specs::Raster::texts_below, crate::specs::Raster::is_dark_at, crate::specs::Svg::begins_run, crate::specs::Svg::run_length, crate::specs::Svg::run_path, crate::specs::Svg::row_path, crate::specs::Svg::symbol_path, crate::specs::Svg::stack_path, crate::specs::Svg::declaration, crate::specs::Svg::foreground, crate::specs::Svg::closing, crate::specs::Svg::svg_document, qr_matrix::specs::Grid::rows_of, qr_matrix::specs::Grid::colour))]
 pub fn drawings_compute()
     ensures ascii { drawn Ascii 1 (square 2 (λ r c. r == 0) ∷ []) ≡ codes "        \n  ####  \n        \n        \n" }
@@ -36,7 +36,8 @@ pub fn drawings_compute()
     ensures document { (g : Grid) → svg_document 1 (g ∷ g ∷ []) ≡ declaration ++ opening (2 + g.side) ((2 + g.side) * 2) ++ background (2 + g.side) ((2 + g.side) * 2) ++ foreground 1 (g ∷ g ∷ []) ++ closing }
 {}
 
-/// The texts of an SVG document around its numbers.
+/// The parts of an SVG document that have numbers in them: a box, the line that opens the document, and the line that
+/// makes it white.
 #[tactic(auto, unfolding(crate::specs::Svg::numbered, crate::specs::Svg::box_path, crate::specs::Svg::opening, crate::specs::Svg::background))]
 pub fn svg_texts()
     ensures boxes { (x y n : ℕ) → box_path x y n ≡ (codes "M" ++ decimal x) ++ (codes " " ++ decimal y) ++ (codes "h" ++ decimal n) ++ (codes "v1h-" ++ decimal n) ++ codes "z" }

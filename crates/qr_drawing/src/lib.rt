@@ -1,5 +1,5 @@
 //! Draws symbols as ASCII text, as UTF-8 text with two modules in each character, or as a Scalable Vector Graphics
-//! document.
+//! document. The drawing is written to a device in pieces, and no memory is allocated for it.
 #![tactic(auto)]
 
 mod drawing;

@@ -1,4 +1,5 @@
-//! Writes a text in pieces of at most 1,200 bytes, without allocating memory.
+//! Writes a text in pieces of at most 1,200 bytes, without allocating memory. The pen is a buffer for such a piece.
+//! Whoever appends to it first calls `reserve`, which writes what the pen contains if the next bytes would not fit.
 
 ghost use Rattle.std.specs.Prelude.{◌≡◌, ◌+◌, ◌<◌, ◌≤◌, [], max, is_err, length, MatchResult, OnOk, OnErr};
 ghost use Rattle.std.specs.Io.KnownBytes.{Appends};
@@ -20,8 +21,9 @@ pub enum DrawFault {
     Write = 1,
 }
 
-/// The bytes of `piece` are not written yet, and `interrupted` is how many writes were interrupted so far. The pen
-/// contains at most 1,200 bytes: the other eight let a copy of eight bytes begin at each of them.
+/// A buffer for the bytes of `piece`, which are not written yet. `interrupted` is the number of writes that were
+/// interrupted so far. The pen contains at most 1,200 bytes. Its room is eight bytes larger, because a copy of eight
+/// bytes may append fewer, and reach beyond the 1,200 with the others (`Piece::push_first`).
 #[derive(Drop)]
 pub(crate) struct Pen {
     pub(crate) piece: Piece<1208>,
@@ -30,7 +32,7 @@ pub(crate) struct Pen {
 }
 
 // Offers `bytes` to the writer until it has accepted all of them. `interrupted` is the number of interrupted writes
-// before this call, and the result is this number after it.
+// before this call, and the result is this number after it. The label of the loop is for the prover.
 fn send<W: Sink>(out: &mut W, bytes: &[u8], interrupted: u16) -> Result<u16, DrawFault>
     requires { interrupted < 1000 }
     ensures writes { MatchResult result

@@ -1,11 +1,12 @@
-//! Texts in memory of a fixed size.
+//! Texts in memory of a fixed size, to which bytes are appended.
 
 ghost use Rattle.std.specs.Prelude.{◌≡◌, ◌≤◌, ◌<◌, ◌+◌, ◌++◌, ◌∷◌, [], length, take};
 
 use std::marker::Model;
 
-/// At most `CAP` bytes, the first `len` of `bytes`. What is after them means nothing, so that a text of few bytes can
-/// be appended by a copy of constant length, which takes an instruction or two.
+/// A text of at most `CAP` bytes: the first `len` of `bytes`. The bytes after these mean nothing. So a short text may
+/// be appended by a copy that is longer than the text, and always of the same length. Such a copy takes an instruction
+/// or two.
 #[derive(Drop)]
 pub(crate) struct Piece<const CAP: usize> {
     bytes: [u8; CAP],
@@ -76,7 +77,7 @@ impl<const CAP: usize> Piece<CAP> {
         self.len = start + bytes.len();
     }
 
-    /// Appends the first `count` bytes of `bytes`.
+    /// Appends the first `count` bytes of `bytes`, by a copy of all `N`.
     #[inline(always)]
     pub(crate) fn push_first<const N: usize>(&mut self, bytes: &[u8; N], count: usize)
         requires room { length self.old + N ≤ CAP }
@@ -90,7 +91,7 @@ impl<const CAP: usize> Piece<CAP> {
         self.len = start + count;
     }
 
-    /// Appends `short`. There must be room for all that it could contain.
+    /// Appends `short`, by a copy of all bytes that it could contain.
     #[inline(always)]
     pub(crate) fn push_piece<const N: usize>(&mut self, short: &Piece<N>)
         requires { length self.old + N ≤ CAP }

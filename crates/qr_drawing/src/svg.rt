@@ -1,5 +1,7 @@
 //! Draws symbols as a Scalable Vector Graphics document with one path, which has a box around each run of dark modules
-//! in a row. `top` is the number of rows of the document above a symbol and its margin.
+//! in a row. The box around seven modules from column 4 on in row 5 is `M4 5h7v1h-7z`: move there, go right by seven,
+//! down by one and left by seven, and close the path. `top` is the number of rows of the document above a symbol and
+//! its margin. At most 16 symbols are drawn, each with fewer than 1,000 rows.
 
 ghost use Rattle.std.specs.Prelude.{◌≡◌, ◌≤◌, ◌<◌, ◌+◌, ◌*◌, ◌++◌, ◌∷◌, [], ℕ, ◌/◌, ◌%◌, codes, decimal, length, map};
 ghost use Rattle.qr_drawing.specs.Drawing.{HaveOneSide};
@@ -14,18 +16,19 @@ use itoa::Buffer;
 use qr_devices::Sink;
 use qr_symbol::Matrix;
 
-// The room that is made for a box, which needs at most 24 bytes. It stays 32, since it decides which bytes are in one
-// write (`sizes_of_single_writes` in `command_tests`).
+// The room that is made for a box. A box has at most 22 bytes. The room stays 32, because it decides which bytes are in
+// one write (`sizes_of_single_writes` in `command_tests`).
 const BOX_MAX: usize = 32;
 
-// The greatest number of bytes before the first box.
+// The room that is made for all that comes before the first box.
 const HEAD_MAX: usize = 300;
 
 // The number of bytes after the last box.
 const TAIL: usize = 11;
 
-// The row of a box, and a width of ten modules or more, are appended digit by digit, which takes fewer instructions than
-// the crate `itoa`.
+// `push_digit` and the three functions after it append numbers digit by digit. The row of a box, and its width from ten
+// modules on, are appended by them, because they take fewer instructions than the crate `itoa`. The digits of a column,
+// and all of a smaller width, come from the tables below. `itoa` formats the numbers before the path.
 fn push_digit<const CAP: usize>(text: &mut Piece<CAP>, digit: u16)
     requires digit { digit < 10 }
     requires room { length text.old < CAP }
@@ -80,7 +83,7 @@ fn push_number<const CAP: usize>(text: &mut Piece<CAP>, number: u16)
     }
 }
 
-// The digits of the numbers below 100.
+// The two digits of each number below 100.
 static TWO_DIGITS: [[u8; 2]; 100] = [
     *b"00", *b"01", *b"02", *b"03", *b"04", *b"05", *b"06", *b"07", *b"08", *b"09", *b"10", *b"11",
     *b"12", *b"13", *b"14", *b"15", *b"16", *b"17", *b"18", *b"19", *b"20", *b"21", *b"22", *b"23",
@@ -100,7 +103,7 @@ fn two_digits(number: u16) -> &'static [u8; 2]
     &TWO_DIGITS[usize::from(number)]
 }
 
-// Appends the column of a box, where its path begins.
+// Appends the beginning of a box: `M` and its column.
 fn push_column(text: &mut Piece<1208>, x: u16)
     requires column { x < 1000 }
     requires room { length text.old + 4 ≤ 1200 }
@@ -118,7 +121,7 @@ fn push_column(text: &mut Piece<1208>, x: u16)
     }
 }
 
-// What follows the row of a box around fewer than ten modules, as almost all boxes are.
+// What follows the row of a box around as many modules as the index says. Almost all boxes have fewer than ten.
 static SHORT_RUNS: [[u8; 8]; 10] = [
     *b"h0v1h-0z",
     *b"h1v1h-1z",
@@ -132,7 +135,7 @@ static SHORT_RUNS: [[u8; 8]; 10] = [
     *b"h9v1h-9z",
 ];
 
-// Appends what follows the row of a box.
+// Appends what follows the row of a box around `modules` modules.
 #[tactic(auto, unfolding(crate::specs::Svg::numbered, crate::specs::Steps::Svg::width_path))]
 fn push_width(text: &mut Piece<1208>, modules: u16)
     requires modules { modules < 1000 }
@@ -151,8 +154,8 @@ fn push_width(text: &mut Piece<1208>, modules: u16)
     }
 }
 
-// Appends the box around `modules` dark modules, of which the first is in column `x` of the document, and in the row
-// whose text is `row`.
+// Appends the box around `modules` dark modules, of which the first is in column `x` of the document. `row` is the row
+// as a text, which `text_of_row` made.
 #[inline(always)]
 #[tactic(auto, unfolding(crate::specs::Svg::box_path, crate::specs::Svg::numbered, crate::specs::Steps::Svg::width_path))]
 fn push_box(text: &mut Piece<1208>, x: u16, row: &Piece<8>, modules: u16)
@@ -166,7 +169,8 @@ fn push_box(text: &mut Piece<1208>, x: u16, row: &Piece<8>, modules: u16)
     push_width(text, modules);
 }
 
-// The row of the boxes in row `y` of the document, which is the same in each.
+// Returns row `y` of the document as boxes have it: a space and the number. It is the same in all boxes of this row, so
+// it is made once.
 #[tactic(auto, unfolding(crate::specs::Svg::numbered))]
 fn text_of_row(y: u16) -> Piece<8>
     ensures { result ≡ numbered (codes " ") y }
@@ -230,6 +234,7 @@ fn push_tail(text: &mut Piece<1208>)
     text.push_all(b"\"/>\n</svg>\n");
 }
 
+// Writes the boxes of row `row` of the square.
 fn put_row<W: Sink>(
     pen: &mut Pen,
     out: &mut W,
@@ -275,7 +280,7 @@ fn put_symbol<W: Sink>(
     Ok(())
 }
 
-// Each symbol stands below the one before it.
+// Writes the boxes of all symbols. Each symbol stands below the one before it.
 fn put_stack<S: HasSquare, W: Sink>(
     pen: &mut Pen,
     out: &mut W,

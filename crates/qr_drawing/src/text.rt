@@ -1,6 +1,13 @@
-//! Draws symbols as lines of text, cell by cell. Where the bits of a number are modules, bit 0 is the leftmost, and a
-//! bit that is 1 is dark. In the style `HalfBlocks` a cell shows a module `upper` and the module `lower` below it, and
-//! in the others only `upper`.
+//! Draws symbols as lines of text. A line consists of cells. In the style `HalfBlocks` a cell is one character, which
+//! shows a module `upper` and the module `lower` below it. In the other styles it is two characters, which show only
+//! the module `upper`.
+//!
+//! Most cells are appended eight or four at a time, by copies from tables: the names have `eight` for eight
+//! neighbouring modules of a row, `quad` for four and `pair` for two. Their modules are the bits of a number. Bit 0 is
+//! the leftmost module, and a bit that is 1 is dark.
+//!
+//! A raster has fewer than 1,000 rows (`drawing.rt`), so a line has a number below 1,000, and the first of the rows
+//! that it shows one below 2,000.
 
 ghost use Rattle.std.specs.Prelude.{◌≡◌, ℕ, ◌≤◌, ◌<◌, ◌+◌, ◌-◌, ◌*◌, ◌/◌, ◌%◌, ◌++◌, ◌∷◌, [], false, length, map, IfSome};
 ghost use Rattle.std.specs.List.{flat_map};
@@ -27,7 +34,7 @@ pub(crate) enum TextStyle {
     HalfBlocks,
 }
 
-// The greatest number of bytes of `count` cells.
+// Returns the greatest number of bytes of `count` cells. Fewer than 400 cells of at most three bytes fit the pen.
 fn cells_room(style: TextStyle, count: u16) -> usize
     requires { count < 400 }
     ensures value { result ≡ count * cell_room style }
@@ -39,7 +46,7 @@ fn cells_room(style: TextStyle, count: u16) -> usize
     }
 }
 
-// The first row of modules that line `y` shows.
+// Returns the first row of modules that line `y` shows.
 fn top_row(style: TextStyle, y: u16) -> u16
     requires { y < 1000 }
     ensures value { result ≡ top_row style y }
@@ -51,7 +58,8 @@ fn top_row(style: TextStyle, y: u16) -> u16
     }
 }
 
-// If `rows` is odd, the last line of half blocks shows one row and light modules below it.
+// Returns the number of lines that show `rows` rows of modules. If `rows` is odd, the last line of half blocks shows
+// one row, and light modules below it.
 fn line_count(style: TextStyle, rows: u16) -> u16
     requires { rows < 1000 }
     ensures value { result ≡ line_count style rows }
@@ -102,7 +110,7 @@ fn push_cell(text: &mut Piece<1208>, style: TextStyle, upper: bool, lower: bool)
     }
 }
 
-// The row of `matrix` that row `row` of the raster shows, or `None` in the margin and below the raster.
+// Returns the row of `matrix` that row `row` of the raster shows, or `None` in the margin and below the raster.
 #[tactic(auto, using(crate::proofs::lemmas::svg::PathLemmas::is_dark_at_above, crate::proofs::lemmas::svg::PathLemmas::is_dark_at_below))]
 fn square_row(matrix: &Matrix, margin: u8, row: u16) -> Option<u8>
     ensures { ShowsRow margin matrix.now row result }
@@ -117,7 +125,7 @@ fn square_row(matrix: &Matrix, margin: u8, row: u16) -> Option<u8>
     Some((row - first) as u8)
 }
 
-// Eight modules of row `row` of `matrix`, from column `col` on; all are light if `row` is `None`.
+// Returns eight modules of row `row` of `matrix`, from column `col` on. All are light if `row` is `None`.
 #[inline(always)]
 #[tactic(auto, using(crate::proofs::lemmas::text::CellLemmas::dark_none))]
 fn dark_bits(matrix: &Matrix, row: Option<u8>, col: u8) -> u8
@@ -132,7 +140,7 @@ fn dark_bits(matrix: &Matrix, row: Option<u8>, col: u8) -> u8
     }
 }
 
-// The text of four modules in the style `Plain`, for each number of four bits.
+// The text of four modules in the style `Plain`. The index is the number whose bits are the modules.
 static ASCII_QUADS: [[u8; 8]; 16] = [
     *b"        ",
     *b"##      ",
@@ -159,8 +167,9 @@ fn ascii_quad(bits: u8) -> &'static [u8; 8]
     &ASCII_QUADS[usize::from(bits)]
 }
 
-// The text of two modules and of the two below them, for each number of four bits: bits 0 and 1 are the upper modules,
-// and bits 2 and 3 the lower. It is the first bytes of eight, as many as the number beside them says.
+// Two characters in the style `HalfBlocks`, which show two modules and the two below them. In the index, bits 0 and 1
+// are the upper modules, and bits 2 and 3 the lower. The characters have two, four or six bytes. They are the first of
+// the eight bytes of an entry, and the number beside these says how many.
 static HALF_BLOCK_PAIRS: [([u8; 8], usize); 16] = [
     (*b"\xE2\x96\x88\xE2\x96\x88  ", 6),
     (*b"\xE2\x96\x84\xE2\x96\x88  ", 6),
@@ -180,7 +189,7 @@ static HALF_BLOCK_PAIRS: [([u8; 8], usize); 16] = [
     (*b"        ", 2),
 ];
 
-// Appends two characters. Eight bytes are copied whatever their number is.
+// Appends two characters, by a copy of eight bytes, however many the characters have.
 #[inline(always)]
 fn push_half_block_pair(text: &mut Piece<1208>, pair: u8)
     requires small { pair < 16 }
@@ -191,7 +200,7 @@ fn push_half_block_pair(text: &mut Piece<1208>, pair: u8)
     text.push_first(&bytes, count);
 }
 
-// As `push_half_block_pair`, for four modules and the four below them.
+// Appends four characters, for the modules of bits 0 to 3 of `upper` and, below them, of `lower`.
 #[inline(always)]
 fn push_half_block_quad(text: &mut Piece<1208>, upper: u8, lower: u8)
     requires room { length text.old + 12 ≤ 1200 }
@@ -239,7 +248,7 @@ fn push_eight(text: &mut Piece<1208>, style: TextStyle, upper: u8, lower: u8)
     }
 }
 
-// Appends `count` times four light cells.
+// Appends `count` times four light cells. The name `done` is for the prover.
 #[inline(always)]
 fn push_light_quads(text: &mut Piece<1208>, style: TextStyle, count: u16)
     requires room { length text.old + count * 4 * cell_room style ≤ 1200 }
@@ -251,6 +260,7 @@ fn push_light_quads(text: &mut Piece<1208>, style: TextStyle, count: u16)
     }
 }
 
+// Appends `count` light cells. The name `done` is for the prover.
 #[inline(always)]
 fn push_light(text: &mut Piece<1208>, style: TextStyle, count: u16)
     requires room { length text.old + count * cell_room style ≤ 1200 }
@@ -263,7 +273,8 @@ fn push_light(text: &mut Piece<1208>, style: TextStyle, count: u16)
     }
 }
 
-// Appends cell by cell, for the last columns of a row, which are fewer than four.
+// Appends `count` cells from column `first` of the raster on, one by one. They are the last columns of the square,
+// which are fewer than four.
 #[inline(always)]
 fn push_cells(
     text: &mut Piece<1208>,
@@ -289,7 +300,8 @@ fn push_cells(
 }
 
 // Appends the cells of row `row` of the raster, without the margin: eight columns at a time, then four if as many are
-// left. The columns that then remain, fewer than four, are left out.
+// left. It leaves out the columns that then remain. They are fewer than four, and in a symbol one. The label of the
+// loop is for the prover.
 #[inline(always)]
 fn push_columns(text: &mut Piece<1208>, style: TextStyle, matrix: &Matrix, margin: u8, row: u16)
     requires row_in { row < 2000 }
@@ -314,7 +326,7 @@ fn push_columns(text: &mut Piece<1208>, style: TextStyle, matrix: &Matrix, margi
     }
 }
 
-// Appends the cells of the columns that `push_columns` leaves out, with the right margin and the newline.
+// Appends the cells of the columns that `push_columns` leaves out, and then the right margin and the newline.
 #[inline(always)]
 fn push_rest(text: &mut Piece<1208>, style: TextStyle, matrix: &Matrix, margin: u8, row: u16)
     requires row_in { row < 2000 }
@@ -338,7 +350,8 @@ fn push_rest(text: &mut Piece<1208>, style: TextStyle, matrix: &Matrix, margin: 
     text.push(b'\n');
 }
 
-// Writes line `y` in three parts: the left margin; the columns that `push_columns` appends; what `push_rest` appends.
+// Writes line `y` in three parts, because a whole line may be longer than the pen: the left margin, the columns that
+// `push_columns` appends, and what `push_rest` appends.
 #[inline(always)]
 fn put_line<W: Sink>(
     pen: &mut Pen,
@@ -382,7 +395,7 @@ fn put_lines<W: Sink>(
     }
 }
 
-// Inlined once for each style, so that no loop has to test the style.
+// Compiled once for each style, into the calls of `put_lines`, so that no loop has to test the style.
 #[inline(always)]
 fn put_lines_of<W: Sink>(
     pen: &mut Pen,
@@ -400,7 +413,7 @@ fn put_lines_of<W: Sink>(
     Ok(())
 }
 
-/// Nothing is written between two symbols.
+/// Writes the texts of all symbols, and nothing between two of them.
 pub(crate) fn put_texts<S: HasSquare, W: Sink>(
     pen: &mut Pen,
     out: &mut W,

@@ -3,7 +3,7 @@ use Rattle.std.specs.Prelude.{◌≡◌, ℕ, ◌+◌, ◌*◌, ◌^◌, ◌<◌
 use Prim.Native.Nat.{zero, suc}
 use Rattle.std.specs.Int.{bit_at}
 
--- The product of a and the low w bits of b (ISO/IEC 18004:2015, 7.5.2)
+-- The product, as polynomials over bits, of a and the low w bits of b (ISO/IEC 18004:2015, 7.5.2)
 unfoldable pub carryless : ℕ → ℕ → ℕ → ℕ
 carryless zero a b = 0
 carryless (suc w) a b = bit_xor (bit_at b w * (a * 2 ^ w)) (carryless w a b)

@@ -5,8 +5,8 @@ use Rattle.std.specs.Prelude.{ℕ, List, [], ◌∷◌}
 abbrev pub lengths_in_use : List ℕ
 lengths_in_use = 7 ∷ 10 ∷ 13 ∷ 15 ∷ 16 ∷ 17 ∷ 18 ∷ 20 ∷ 22 ∷ 24 ∷ 26 ∷ 28 ∷ 30 ∷ []
 
--- Their generator polynomials, each coefficient as the exponent of a power of 2, the highest power of x first (ISO/IEC
--- 18004:2015, Annex A)
+-- The generator polynomials for the numbers in `lengths_in_use`, as printed: of each coefficient, which is a power of
+-- 2, only the exponent, the coefficient of the highest power of x first (ISO/IEC 18004:2015, Annex A)
 abbrev pub printed_exponents : List (List ℕ)
 printed_exponents =
     (0 ∷ 87 ∷ 229 ∷ 146 ∷ 149 ∷ 238 ∷ 102 ∷ 21 ∷ []) ∷
@@ -23,10 +23,10 @@ printed_exponents =
     (0 ∷ 168 ∷ 223 ∷ 200 ∷ 104 ∷ 224 ∷ 234 ∷ 108 ∷ 180 ∷ 110 ∷ 190 ∷ 195 ∷ 147 ∷ 205 ∷ 27 ∷ 232 ∷ 201 ∷ 21 ∷ 43 ∷ 245 ∷ 87 ∷ 42 ∷ 195 ∷ 212 ∷ 119 ∷ 242 ∷ 37 ∷ 9 ∷ 123 ∷ []) ∷
     (0 ∷ 41 ∷ 173 ∷ 145 ∷ 152 ∷ 216 ∷ 31 ∷ 179 ∷ 182 ∷ 50 ∷ 48 ∷ 110 ∷ 86 ∷ 239 ∷ 96 ∷ 222 ∷ 125 ∷ 42 ∷ 173 ∷ 226 ∷ 193 ∷ 224 ∷ 130 ∷ 156 ∷ 37 ∷ 251 ∷ 216 ∷ 238 ∷ 40 ∷ 192 ∷ 180 ∷ []) ∷ []
 
--- The data codewords of `01234567` in version 1-M [own]
+-- The data codewords of the input `01234567` at version 1 and level M [own]
 abbrev pub worked_data : List ℕ
 worked_data = 0x10 ∷ 0x20 ∷ 0x0C ∷ 0x56 ∷ 0x61 ∷ 0x80 ∷ 0xEC ∷ 0x11 ∷ 0xEC ∷ 0x11 ∷ 0xEC ∷ 0x11 ∷ 0xEC ∷ 0x11 ∷ 0xEC ∷ 0x11 ∷ []
 
--- Their error correction codewords [own]
+-- The error correction codewords for `worked_data` [own]
 abbrev pub worked_correction : List ℕ
 worked_correction = 0xA5 ∷ 0x24 ∷ 0xD4 ∷ 0xC1 ∷ 0xED ∷ 0x36 ∷ 0xC7 ∷ 0x87 ∷ 0x2C ∷ 0x55 ∷ []

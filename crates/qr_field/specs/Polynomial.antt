@@ -19,7 +19,7 @@ plus (x ∷ xs) (y ∷ ys) = bit_xor x y ∷ plus xs ys
 abbrev pub zeros : ℕ → List ℕ
 zeros k = replicate k 0
 
--- The product with the element a (ISO/IEC 18004:2015, 7.5.2)
+-- The product of a polynomial and the element a (ISO/IEC 18004:2015, 7.5.2)
 abbrev pub scaled : ℕ → List ℕ → List ℕ
 scaled a p = map (product a) p
 
@@ -39,14 +39,14 @@ abbrev pub generator_of : ℕ → List ℕ
 generator_of zero = 1 ∷ []
 generator_of (suc n) = times (generator_of n) (1 ∷ power n ∷ [])
 
--- Division of p by g leaves no remainder (ISO/IEC 18004:2015, 7.5.2)
+-- The polynomial p is a multiple of g, so that division of p by g leaves no remainder (ISO/IEC 18004:2015, 7.5.2)
 pub record IsMultiple (g p : List ℕ) : Type 0 where
   pub quotient : List ℕ
   pub bytes : All IsByte quotient
   pub whole : times quotient g ≡ p
 
--- The n error correction codewords e of the data codewords d: after d, they make a multiple of the generator polynomial
--- (ISO/IEC 18004:2015, 7.5.2)
+-- The list e is the n error correction codewords of the data codewords d: appended to d, they make a multiple of the
+-- generator polynomial (ISO/IEC 18004:2015, 7.5.2)
 pub record IsCorrection (d : List ℕ) (n : ℕ) (e : List ℕ) : Type 0 where
   pub count : length e ≡ n
   pub bytes : All IsByte e

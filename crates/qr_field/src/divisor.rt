@@ -1,5 +1,7 @@
-//! The division by a generator polynomial, a codeword at a time (ISO/IEC 18004:2015, 7.5.2). Multiples of the
-//! polynomial are computed once: the multiple by a codeword is the sum of those by its low and by its high four bits.
+//! The division by a generator polynomial, as a shift register does it, one codeword at a time (ISO/IEC 18004:2015,
+//! 7.5.2). Each step shifts the register by one coefficient, and adds a multiple of the polynomial. The factor of this
+//! multiple can be any element. It is the sum of its low and of its high four bits, so two tables of 16 multiples each
+//! are enough. They are computed once for all blocks.
 
 ghost use Rattle.std.specs.Prelude.{◌≡◌, ◌+◌, ◌<◌, ◌≤◌, ℕ, List, length, slice_index_or, take};
 ghost use Rattle.qr_field.specs.Steps.Register.{HasMultiples, IsHeld, divisor_of, packed, unpacked, value_of};
@@ -10,13 +12,13 @@ use crate::register::Register;
 use arrayvec::ArrayVec;
 use std::marker::Model;
 
-/// A generator polynomial, with what is needed to divide any number of blocks by it. Contracts see it as the number of
-/// error correction codewords of a block.
+/// A generator polynomial, with the tables by which any number of blocks are divided by it. In contracts its value is
+/// the number of error correction codewords of a block.
 #[derive(Drop)]
 pub struct Divisor {
     count: usize,
-    // The coefficients after the leading 1, in `low` times each of 0 to 15, in `high` times each of these shifted left
-    // by four bits.
+    // At the index f, `low` has the product of f and the coefficients after the leading 1. `high` has there the product
+    // with f shifted left by four bits.
     low: [Register; 16],
     high: [Register; 16],
 }
@@ -33,7 +35,7 @@ impl Model for Divisor {
         × HasMultiples (divisor_of d.count) 4 16 d.high };
 }
 
-// Each multiple of `by_one` is a sum of those by 1, 2, 4 and 8.
+// Returns the multiples of `by_one` by the elements 0 to 15. Each is a sum of some of those by 1, 2, 4 and 8.
 fn multiples(by_one: Register) -> [Register; 16]
     ensures { HasMultiples (unpacked 32 (value_of by_one)) 0 16 result }
 {
@@ -50,7 +52,7 @@ fn multiples(by_one: Register) -> [Register; 16]
 }
 
 impl Divisor {
-    /// Returns the divisor for `n` error correction codewords a block, from 1 to 30.
+    /// Returns the divisor for blocks with `n` error correction codewords, where `n` is 1 to 30.
     pub fn new(n: usize) -> Divisor
         requires least { 1 ≤ n }
         requires most { n ≤ 30 }
@@ -65,7 +67,7 @@ impl Divisor {
         }
     }
 
-    /// Returns the number of error correction codewords a block, from 1 to 30.
+    /// Returns the number of error correction codewords of a block, which is 1 to 30.
     pub fn count(&self) -> usize
         ensures is { result ≡ self.now }
         ensures least { 1 ≤ result }
@@ -81,7 +83,8 @@ impl Divisor {
         self.low[place & 0xF].plus(self.high[place >> 4])
     }
 
-    // The register after one more codeword, which is codeword `i` of `m`.
+    // Returns the register after one more codeword. The contract calls the data codewords of the block `m`, and says
+    // that if the register held what the first `i` of them leave, it then holds what the first `i + 1` leave.
     #[inline(always)]
     fn step(&self, register: Register, codeword: u8) -> Register
         ensures { (m : List ℕ) (i : ℕ) → i < length m → codeword ≡ slice_index_or m i 0
@@ -94,7 +97,7 @@ impl Divisor {
         register.rest().plus(self.multiple(factor))
     }
 
-    // Ends a division, of which `register` is what the first `done` codewords leave.
+    // Ends a division. `register` holds what the first `done` codewords of `message` leave.
     #[inline(always)]
     fn finished(&self, register: Register, message: &[u8], done: usize) -> ArrayVec<u8, 30>
         requires done { done ≤ length message.now }
@@ -108,8 +111,9 @@ impl Divisor {
         register.coefficients(self.count)
     }
 
-    /// Returns the error correction codewords of a block with the data codewords `message`: the one list of `count`
-    /// bytes that, appended to `message`, makes a multiple of the generator polynomial (ISO/IEC 18004:2015, 7.5.2).
+    /// Returns the error correction codewords of a block with the data codewords `message`. They are the one list of
+    /// `count` bytes that, appended to `message`, makes a multiple of the generator polynomial (ISO/IEC 18004:2015,
+    /// 7.5.2).
     pub fn correction(&self, message: &[u8]) -> ArrayVec<u8, 30>
         ensures definition { IsCorrection message.now self.now result.items }
         ensures only { (e : List ℕ) → IsCorrection message.now self.now e → e ≡ result.items }
@@ -117,8 +121,13 @@ impl Divisor {
         self.finished(Register::BLANK, message, 0)
     }
 
-    /// Returns the error correction codewords of two blocks, as `correction` does. Each step of a division waits for the
-    /// one before, and not for those of the other division, so both together take little longer than one.
+    /// Returns the error correction codewords of two blocks, whose data codewords are `first` and `second`, as
+    /// `correction` does for one block (ISO/IEC 18004:2015, 7.5.2).
+    ///
+    /// # Notes
+    ///
+    /// The two divisions take little longer together than one alone. A step of a division has to wait for the step
+    /// before it, but not for those of the other division.
     pub fn corrections(&self, first: &[u8], second: &[u8]) -> (ArrayVec<u8, 30>, ArrayVec<u8, 30>)
         ensures first { IsCorrection first.now self.now result.0.items }
         ensures second { IsCorrection second.now self.now result.1.items }

@@ -1,14 +1,14 @@
 //! Products and quotients in the field of 256 elements (ISO/IEC 18004:2015, 7.5.2). An element is a byte, read as a
-//! polynomial whose coefficients are its bits; the sum of two is their exclusive or. Logarithms turn a product into a
-//! sum.
+//! polynomial whose coefficients are its bits, and the sum of two elements is their exclusive or. Elements are
+//! multiplied and divided by their logarithms, which are added or subtracted modulo 255.
 
 ghost use Rattle.std.specs.Prelude.{◌≡◌, ◌≤◌, ℕ};
 ghost use Rattle.qr_field.specs.Galois.{IsProduct, product};
 
 use crate::logarithm::{exponent_of, power_of};
 
-/// Returns the product of two elements: their product as polynomials over bits, less a multiple of the prime modulus
-/// polynomial (ISO/IEC 18004:2015, 7.5.2).
+/// Returns the product of two elements of the field. It is what division by the prime modulus polynomial leaves of
+/// their product as polynomials over bits (ISO/IEC 18004:2015, 7.5.2).
 pub fn mul(a: u8, b: u8) -> u8
     ensures definition { IsProduct a b result }
     ensures only { (p : ℕ) → IsProduct a b p → p ≡ result }
@@ -22,7 +22,8 @@ pub fn mul(a: u8, b: u8) -> u8
     power_of(exponent as u8)
 }
 
-/// Returns the element whose product with `b`, which is not 0, is `a` (ISO/IEC 18004:2015, 7.5.2).
+/// Returns the quotient of two elements of the field: the element whose product with `b` is `a`. `b` is not 0 (ISO/IEC
+/// 18004:2015, 7.5.2).
 #[tactic(auto, using(crate::proofs::Named::quotients))]
 pub fn div(a: u8, b: u8) -> u8
     requires { 1 ≤ b }

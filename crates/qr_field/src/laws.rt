@@ -1,6 +1,6 @@
-//! Laws of products, generator polynomials and error correction codewords (ISO/IEC 18004:2015, 7.5.2, Annex A): the
-//! functions do nothing, and their contracts are the laws. Those whose names end in `compute` or `computes` give
-//! examples that the standard prints or that were worked out by hand.
+//! Laws of products, generator polynomials and error correction codewords (ISO/IEC 18004:2015, 7.5.2, Annex A). The
+//! functions do nothing, and their contracts are the laws. A function whose name ends in `compute` or `computes` has
+//! examples that the standard prints, or that were worked out by hand.
 
 ghost use Rattle.std.specs.Prelude.{◌≡◌, ◌<◌, ◌≤◌, ℕ, ◌-◌, List, [], ◌∷◌, ◌++◌, All, map, length, slice_index, Some, None};
 ghost use Rattle.qr_field.specs.Galois.{IsProduct, product};
@@ -16,13 +16,13 @@ pub fn product_is_one()
     ensures only { (a b p q : ℕ) → IsProduct a b p → IsProduct a b q → p ≡ q }
 {}
 
-/// Data codewords have exactly one list of n error correction codewords, for each n but 0.
+/// For each n but 0, data codewords have exactly one list of n error correction codewords.
 pub fn correction_is_one()
     ensures some { (d : List ℕ) (n : ℕ) → 1 ≤ n → All IsByte d → HasCorrection d n }
     ensures only { (d e f : List ℕ) (n : ℕ) → IsCorrection d n e → IsCorrection d n f → e ≡ f }
 {}
 
-/// Entry i of `POWERS` is 2 to the power i, and entry a - 1 of `LOGARITHMS` the logarithm of a.
+/// Entry i of `POWERS` is 2 to the power i in the field, and entry a - 1 of `LOGARITHMS` is the logarithm of a.
 pub fn tables_are_powers()
     ensures power_count { length POWERS ≡ 255 }
     ensures powers { (i : ℕ) → i < 255 → slice_index POWERS i ≡ power i }
@@ -31,54 +31,57 @@ pub fn tables_are_powers()
     ensures logarithms { (a : ℕ) → 1 ≤ a → IsByte a → power (slice_index LOGARITHMS (a - 1)) ≡ a }
 {}
 
-/// Two products, one that is reduced by the modulus polynomial, and one with 0.
+/// Two products as examples. The first needs nine bits as a product of polynomials, so it is reduced by the prime
+/// modulus polynomial; the second has a factor 0.
 #[tactic(auto, unfolding(crate::specs::Galois::remainder_of, crate::specs::Galois::carryless, crate::specs::Galois::product))]
 pub fn products_compute()
     ensures reduced { product 0x80 2 ≡ 0x1D }
     ensures zero { product 0 0xFF ≡ 0 }
 {}
 
-/// The generator polynomial of degree 7, and all that Annex A prints for QR Code, there with powers of 2 as
-/// coefficients.
+/// The generator polynomial of degree 7 in bytes, and all that Annex A prints for QR Code. There each coefficient is
+/// printed as a power of 2.
 pub fn generators_compute()
     ensures seven { generator_of 7 ≡ 1 ∷ 0x7F ∷ 0x7A ∷ 0x9A ∷ 0xA4 ∷ 0x0B ∷ 0x44 ∷ 0x75 ∷ [] }
     ensures printed { map generator_of lengths_in_use ≡ map (map power) printed_exponents }
 {}
 
-/// The error correction codewords of the input `01234567` in version 1-M.
+/// The error correction codewords of the input `01234567` at version 1 and level M, as an example.
 pub fn correction_computes()
     ensures { IsCorrection worked_data 10 worked_correction }
 {}
 
-/// Two blocks with different data codewords differ in more codewords than each has error correction codewords, if they
-/// have equally many data codewords and at most 255 codewords each.
+/// Two blocks with different data codewords differ in more codewords than each of them has error correction codewords,
+/// if they have equally many data codewords and at most 255 codewords each.
 pub fn blocks_lie_apart()
     ensures { BlocksLieApart }
 {}
 
-/// In a block of at most 255 codewords, whose number of data codewords is known, k codewords were not read and at most
-/// t were misread. If it has at least k + 2t error correction codewords, what was read determines its data codewords.
+/// Suppose that a block has at most 255 codewords, that the number of its data codewords is known, that k codewords
+/// were not read, and that at most t were misread. If the block has at least k + 2t error correction codewords, then
+/// what was read determines its data codewords.
 pub fn erasures_are_unambiguous()
     ensures { ErasuresAreUnambiguous }
 {}
 
-/// Where all codewords were read, none is an erasure, and the misread ones are those that differ; so
-/// `erasures_are_unambiguous` also speaks of blocks that were read whole.
+/// If all codewords of a block were read, none is an erasure, and the misread ones are those that differ from the
+/// block. So `erasures_are_unambiguous` also speaks of blocks that were read whole.
 #[tactic(auto, using(crate::proofs::Named::damage))]
 pub fn damage_is_unambiguous()
     ensures read { (xs : List ℕ) → erasures (map (λ x. Some x) xs) ≡ 0 }
     ensures misread { (xs ys : List ℕ) → errors (map (λ x. Some x) xs) ys ≡ differences xs ys }
 {}
 
-/// Erasures, misread codewords and differences, counted in one example each; a codeword that only the longer list has
-/// counts as a difference.
+/// One example each of how erasures, misread codewords and differences are counted. A codeword that only the longer
+/// list has counts as misread, or as a difference.
 pub fn damage_computes()
     ensures erasures { erasures (None ∷ Some 7 ∷ None ∷ []) ≡ 2 }
     ensures errors { errors (Some 7 ∷ None ∷ Some 9 ∷ Some 4 ∷ []) (7 ∷ 8 ∷ 8 ∷ []) ≡ 2 }
     ensures differences { differences (7 ∷ 8 ∷ []) (7 ∷ 9 ∷ 1 ∷ []) ≡ 2 }
 {}
 
-/// Blocks of 256 codewords may lie nearer: these two have two error correction codewords each and differ in only two.
+/// Blocks of more than 255 codewords may lie nearer to each other than `blocks_lie_apart` says. The two blocks here
+/// have 256 codewords each, two of them for error correction, and differ in only two.
 pub fn longer_blocks_lie_nearer()
     ensures one { IsCorrection (1 ∷ zeros 253) 2 (0 ∷ 1 ∷ []) }
     ensures other { IsCorrection (zeros 254) 2 (zeros 2) }

@@ -1,10 +1,11 @@
 //! Powers of 2, and logarithms to the base 2, in the field of 256 elements (ISO/IEC 18004:2015, 7.5.2). The powers with
-//! the exponents 0 to 254 are all elements but 0, each once; the next is 1 again.
+//! the exponents 0 to 254 are the 255 elements other than 0, each of them once, and the power with the exponent 255 is
+//! 1 again. So each element but 0 has one logarithm below 255.
 
 ghost use Rattle.std.specs.Prelude.{◌≡◌, ◌<◌, ◌≤◌};
 ghost use Rattle.qr_field.specs.Polynomial.{power};
 
-// The index is the exponent.
+// The power with the exponent i is at the index i.
 pub(crate) static POWERS: [u8; 255] = [
     0x01, 0x02, 0x04, 0x08, 0x10, 0x20, 0x40, 0x80, 0x1D, 0x3A, 0x74, 0xE8, 0xCD, 0x87, 0x13, 0x26,
     0x4C, 0x98, 0x2D, 0x5A, 0xB4, 0x75, 0xEA, 0xC9, 0x8F, 0x03, 0x06, 0x0C, 0x18, 0x30, 0x60, 0xC0,
@@ -24,7 +25,7 @@ pub(crate) static POWERS: [u8; 255] = [
     0x2C, 0x58, 0xB0, 0x7D, 0xFA, 0xE9, 0xCF, 0x83, 0x1B, 0x36, 0x6C, 0xD8, 0xAD, 0x47, 0x8E,
 ];
 
-// The index is the element less 1, since 0 has no logarithm.
+// The logarithm of the element a is at the index a - 1, since 0 has none.
 pub(crate) static LOGARITHMS: [u8; 255] = [
     0, 1, 25, 2, 50, 26, 198, 3, 223, 51, 238, 27, 104, 199, 75, 4, 100, 224, 14, 52, 141, 239,
     129, 28, 193, 105, 248, 200, 8, 76, 113, 5, 138, 101, 47, 225, 36, 15, 33, 53, 147, 142, 218,
@@ -41,7 +42,7 @@ pub(crate) static LOGARITHMS: [u8; 255] = [
     214, 244, 234, 168, 80, 88, 175,
 ];
 
-/// Returns 2 to the power `exponent`, which is below 255 (ISO/IEC 18004:2015, 7.5.2).
+/// Returns 2 to the power `exponent` in the field. `exponent` is below 255 (ISO/IEC 18004:2015, 7.5.2).
 #[tactic(auto, using(crate::proofs::Named::powers))]
 pub fn power_of(exponent: u8) -> u8
     requires { exponent < 255 }
@@ -50,7 +51,8 @@ pub fn power_of(exponent: u8) -> u8
     POWERS[usize::from(exponent)]
 }
 
-/// Returns the exponent below 255 whose power of 2 is `element`, which is not 0 (ISO/IEC 18004:2015, 7.5.2).
+/// Returns the logarithm of `element`, which is not 0: the exponent below 255 for which 2 to this power is `element`
+/// (ISO/IEC 18004:2015, 7.5.2).
 pub fn exponent_of(element: u8) -> u8
     requires { 1 ≤ element }
     ensures exponent { result < 255 }

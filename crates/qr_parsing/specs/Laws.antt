@@ -11,7 +11,7 @@ use Rattle.qr_drawing.specs.Drawing.{drawn}
 use Rattle.qr_drawing.specs.declared.drawing.Drawing.{Drawing}
 use Rattle.qr_parsing.specs.Parsing.{IsDrawingOf}
 
--- A text is the drawing of at most one type, margin and list of squares [own]
+-- A text is the drawing of at most one type, one margin and one list of squares [own]
 abbrev pub DrawingsAreOne : Type 0
 DrawingsAreOne = (kind other : Drawing) (margin last : ℕ) (squares others : List Grid) (text : List ℕ)
     → IsDrawingOf kind margin squares text → IsDrawingOf other last others text
@@ -23,7 +23,7 @@ SymbolsAreDrawings = (kind : Drawing) (margin smallest : ℕ) (l : Level) (rule 
     → margin ≤ 255 → 1 ≤ smallest → IsSymbol smallest l rule i x v mask g
     → IsDrawingOf kind margin (g ∷ []) (drawn kind margin (g ∷ []))
 
--- So have the symbols of the series of an input [own]
+-- The series of an input has a drawing that is parsed, of each type and with each margin of at most 255 modules [own]
 abbrev pub SeriesAreDrawings : Type 0
 SeriesAreDrawings = (kind : Drawing) (margin v : ℕ) (l : Level) (rule : Rule) (i : Interpretation) (x : List ℕ) (symbols : List Symbol)
     → margin ≤ 255 → 1 ≤ v → v ≤ 40 → IsSeries v l rule i x symbols

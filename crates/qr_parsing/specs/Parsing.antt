@@ -14,7 +14,8 @@ pub record BeginsAsSymbol (g : Grid) : Type 0 where
   pub corner : colour g 0 0 ≡ true
   pub separator : colour g 0 7 ≡ false
 
--- `text` is the drawing of this type, with a margin of at most 255 modules, of 1 to 16 such squares of one side [own]
+-- `text` is the drawing, of this type and with this margin of at most 255 modules, of 1 to 16 squares of one side that
+-- begin as symbols do [own]
 pub record IsDrawingOf (kind : Drawing) (margin : ℕ) (squares : List Grid) (text : List ℕ) : Type 0 where
   pub some : 0 < length squares
   pub few : length squares ≤ 16

@@ -1,4 +1,5 @@
-//! Laws of parsing. The contract of each function is the law; those that have code say what the code returns.
+//! Laws of parsing. The contract of a function with an empty body is the law. The contracts of the others say what
+//! their code returns.
 
 ghost use Rattle.std.specs.Prelude.{◌≡◌, ◌↔◌, IfOk, IsTrue};
 ghost use Rattle.qr_parsing.specs.Laws.{DrawingsAreOne, SeriesAreDrawings, SymbolsAreDrawings};
@@ -6,13 +7,13 @@ ghost use Rattle.qr_parsing.specs.Laws.{DrawingsAreOne, SeriesAreDrawings, Symbo
 use crate::parsing::DrawingFault;
 use std::alloc::AllocError;
 
-/// A text is the drawing of at most one type, margin and list of squares.
+/// A text is the drawing of at most one type, one margin and one list of squares.
 pub fn drawings_are_one()
     ensures { DrawingsAreOne }
 {}
 
-/// `parse_drawing` accepts every drawing of the symbol of an input, or of its series, with a margin of at most 255
-/// modules. By `drawings_are_one` it then returns the squares that were drawn.
+/// `parse_drawing` accepts each drawing of the symbol or the series of an input, if the margin has at most 255 modules.
+/// By `drawings_are_one` it then returns the squares that were drawn.
 pub fn drawings_read_back()
     ensures symbol { SymbolsAreDrawings }
     ensures series { SeriesAreDrawings }

@@ -1,4 +1,5 @@
-//! The parse of a drawing.
+//! The parse of a drawing, in two steps. The first guesses the type, the margin and the squares of the only drawing
+//! that the text can be. The second draws them again, and compares the drawing with the text.
 
 ghost use Rattle.std.specs.Prelude.{◌≡◌, ◌⊎◌, ℕ, List, IfOk, IfErr, MatchOption};
 ghost use Rattle.std.specs.Bool.{Decides};
@@ -47,11 +48,12 @@ pub struct Drawn {
     pub kind: Drawing,
     /// The number of light modules on each side of a square.
     pub margin: u8,
-    /// 1 to 16 squares of one side, in the order in which they were drawn.
+    /// The 1 to 16 squares, all of one side, in the order in which they were drawn.
     pub squares: Vec<Matrix>,
 }
 
-// What the sheet shows, if it has 1 to 16 squares of 8 to 177 modules on a side.
+// Returns what the sheet shows, if it has 1 to 16 squares of 8 to 177 modules on a side. In the contract, `text` is a
+// text with this sheet.
 fn drawn_of(alloc: Global, sheet: &Sheet) -> Result<Option<Drawn>, AllocError>
     ensures { (text : List ℕ)
         → IsSheetOf sheet.now.kind sheet.now.width sheet.now.count sheet.now.bytes.now text
@@ -115,7 +117,7 @@ fn guess_document(alloc: Global, text: &[u8]) -> Result<Option<Drawn>, AllocErro
     drawn_of(alloc, &sheet)
 }
 
-// If `text` is a drawing, it is this one.
+// Returns the only drawing that `text` can be, or `None` if it can be none.
 fn guess(alloc: Global, text: &[u8]) -> Result<Option<Drawn>, AllocError>
     ensures { IfOk result (λ found. MatchOption found (IsNoDrawing text.now)
         (λ d. IsGuess d.kind d.margin d.squares.items text.now)) }
@@ -147,8 +149,8 @@ fn all_begin(squares: &[Matrix]) -> bool
     true
 }
 
-// Draws what is shown and compares it with `text`. There is room for one byte more than `text` has, since a longer drawing
-// is another one. So no more memory is requested than for a drawing of this length.
+// Draws what is shown again, and compares the drawing with `text`. The drawing has room for one byte more than `text`
+// has. If it needs that byte, it is not `text`, and the rest of it, however long, is not drawn.
 fn is_drawn(alloc: Global, shown: &Drawn, text: &[u8]) -> Result<bool, AllocError>
     requires { CanBeDrawn shown.now.squares.items }
     ensures { IfOk result (λ b. Decides b (text.now ≡ drawn shown.now.kind shown.now.margin shown.now.squares.items)) }
@@ -161,7 +163,7 @@ fn is_drawn(alloc: Global, shown: &Drawn, text: &[u8]) -> Result<bool, AllocErro
     match drawing {
         Ok(()) => Ok(text == again.as_slice()),
         Err(_) if again.len() > text.len() => Ok(false),
-        // `draw` fails only where the room ends, but its contract does not say so.
+        // This never happens, because `draw` fails only where the room ends. But its contract does not say so.
         Err(_) => Err(AllocError),
     }
 }
@@ -180,9 +182,10 @@ fn is_drawing_of(alloc: Global, text: &[u8], shown: &Drawn) -> Result<bool, Allo
 
 /// Returns what the drawing `text` shows.
 ///
-/// It accepts the drawings that `qr_drawing::draw` makes, of each type, with a margin of 0 to 255 modules, of 1 to 16
-/// squares of one side from 8 to 177 that begin as every symbol does: the module at the top left is dark, and column 7 of
-/// row 0 is light (ISO/IEC 18004:2015, 6.3.3, 6.3.4). Each is the drawing of one type, margin and list of squares only.
+/// It accepts the drawings that `qr_drawing::draw` makes, of each type and with a margin of 0 to 255 modules, if they
+/// show 1 to 16 squares that begin as every symbol does. The squares have one side, of 8 to 177 modules. The module at
+/// the top left of each is dark, and the one in column 7 of row 0 is light (ISO/IEC 18004:2015, 6.3.3, 6.3.4). Such a
+/// drawing is that of one type, one margin and one list of squares only.
 ///
 /// # Errors
 ///

@@ -1,6 +1,7 @@
-//! Sheets, in which the modules of all types of drawing are read alike. The bytes of a sheet show the modules of all
-//! rasters of a drawing, from the first raster on row by row. `k` is the index of a raster, and `y` and `x` are a row and
-//! a column of it.
+//! Sheets. A sheet is what a text or a document becomes before its modules are read, so that they are read alike in all
+//! types of drawing. Its bytes show the modules of all rasters of a drawing, raster after raster and row by row, and
+//! the index of the byte that shows a module can be computed. `k` is the index of a raster, and `y` and `x` are a row
+//! and a column of it. At most 687 modules are side by side, so rows and columns are below 1,000.
 
 ghost use Rattle.std.specs.Prelude.{◌≡◌, ℕ, ◌<◌, ◌≤◌, ◌+◌, ◌*◌, ◌⊎◌, false, true, length, slice_index_or, map, IfOk};
 ghost use Rattle.std.specs.List.{range_with_len};
@@ -13,7 +14,7 @@ use qr_matrix::matrix_of_bytes;
 use qr_symbol::Matrix;
 use std::alloc::{AllocError, Global};
 
-/// The side of the smallest squares that are parsed.
+/// The side of the smallest squares that are parsed, which have a column 7.
 pub(crate) const SIDE_MIN: usize = 8;
 
 /// The greatest number of rasters of a drawing.
@@ -29,14 +30,14 @@ pub(crate) struct Sheet<'a> {
     pub(crate) width: usize,
     /// The number of rasters.
     pub(crate) count: usize,
-    /// In the ASCII types two bytes show a module, in UTF8 one byte shows two, and in SVG one byte shows one. Each line of
-    /// text ends with a newline.
+    /// In the ASCII types two bytes show a module, in UTF8 one byte shows two, and in SVG one byte shows one. Each line
+    /// of text ends with a newline.
     pub(crate) bytes: &'a [u8],
     ghost wide: { width ≤ 687 },
     ghost whole: { HasPlaces kind width count bytes.now },
 }
 
-// The index of the byte that shows a module; in the ASCII types the first of the two.
+// Returns the index of the byte that shows a module. In the ASCII types it is the first of the two.
 #[tactic(auto, using(crate::proofs::Named::place_facts))]
 fn place_of(kind: Drawing, width: usize, k: usize, y: usize, x: usize) -> usize
     requires width_in { width < 1000 }
@@ -52,7 +53,8 @@ fn place_of(kind: Drawing, width: usize, k: usize, y: usize, x: usize) -> usize
     }
 }
 
-// In UTF8 the module of an even row is the upper one of its character.
+// Says whether a byte of the sheet shows a dark module of row `y`. In UTF8 the module of an even row is the upper one
+// of its character.
 fn is_dark_byte(kind: Drawing, y: usize, byte: u8) -> bool
     ensures { result ≡ is_dark_byte kind y byte }
 {
@@ -64,7 +66,8 @@ fn is_dark_byte(kind: Drawing, y: usize, byte: u8) -> bool
     }
 }
 
-// Places after the end are light, as in a drawing that is cut off.
+// Says whether the sheet shows a dark module. A module is light if the bytes end before it, as those of a drawing that
+// is cut off do.
 #[tactic(auto, unfolding(crate::specs::Steps::Sheet::is_dark_on))]
 fn is_dark(sheet: &Sheet, k: usize, y: usize, x: usize) -> bool
     requires k_in { k < 16 }
@@ -77,8 +80,8 @@ fn is_dark(sheet: &Sheet, k: usize, y: usize, x: usize) -> bool
     is_dark_byte(sheet.kind, y, byte)
 }
 
-/// Returns the number of light modules on the diagonal of the first raster before the first dark one. It is the margin if
-/// the square has a dark module at the top left.
+/// Returns the number of light modules on the diagonal of the first raster before the first dark one. It is the margin
+/// if the square has a dark module at the top left.
 pub(crate) fn margin_of(sheet: &Sheet) -> usize
     ensures most { result ≤ sheet.now.width }
     ensures light { (i : ℕ) → i < result
@@ -101,7 +104,9 @@ fn is_sign(signs: (u8, u8), byte: u8) -> bool
     byte == signs.0 || byte == signs.1
 }
 
-// Writes the modules of a row from byte `start` on, and no other bytes. Inlined once for each type of drawing, so that
+// Writes `side` modules of a row into the bytes of `modules` from the index `start` on, and changes no others. The
+// first module is shown by the byte of `bytes` at the index `first`, and each of the others by that `step` bytes
+// further. A byte shows a dark module if it is one of the two signs. Compiled once for each type of drawing, so that
 // `step` and the signs are constants there, and many bytes are compared at once.
 #[inline(always)]
 fn write_by(
@@ -126,7 +131,8 @@ fn write_by(
     }
 }
 
-// Writes the row `y` of the raster `k`, without the margin, from byte `start` on, and no other bytes.
+// Writes row `y` of raster `k`, without the margin, into the bytes of `modules` from the index `start` on, and changes
+// no others.
 fn write_row(
     sheet: &Sheet,
     margin: usize,
@@ -160,7 +166,7 @@ fn write_row(
     }
 }
 
-// Writes the square of the raster `k`, row by row.
+// Writes the square of raster `k` into `modules`, row by row.
 fn write_modules(sheet: &Sheet, margin: usize, side: u8, k: usize, modules: &mut [u8])
     requires most { side ≤ 177 }
     requires k_in { k < sheet.now.count }

@@ -1,6 +1,7 @@
-//! The sheets of SVG documents. The size of a document is among the numbers in its text. The boxes are painted on a canvas: the
-//! path begins at the first `M`, and a box is `M`, its column, its row, `h`, its number of modules, `v1h-`, the number of modules
-//! again and `z`. Only the first three numbers of a box are read; drawing again checks all other bytes.
+//! The sheets of SVG documents. The size of a document is among the numbers in its text. Its boxes are painted on a
+//! canvas, which has a byte for each module; these are the bytes of the sheet. The path begins at the first `M`. A box
+//! is `M`, its column, its row, `h`, its number of modules, `v1h-`, the number of modules again, and `z`. Only the
+//! first three numbers of a box are read. All other bytes are checked when the drawing is made again.
 
 ghost use Rattle.std.specs.Prelude.{◌≡◌, ℕ, ◌<◌, ◌≤◌, ◌+◌, ◌*◌, ◌/◌, ◌%◌, ◌^◌, ◌==◌, ◌&&◌, ◌∷◌, ◌++◌, [], List, false, decimal, drop, nat_le, nat_lt, if◌then◌else◌, length, slice_index_or, IfOk, IfSome, MatchOption};
 ghost use Rattle.qr_parsing.specs.Steps.Sheet.{HasNoSheet, count_in, kind_in, width_in};
@@ -11,14 +12,16 @@ use crate::sheet::{COUNT_MAX, SIDE_MIN, WIDTH_MAX};
 use crate::text::position_of;
 use std::alloc::{AllocError, Global};
 
-// The index of the document's width among the numbers. Before it are those of the version of XML (1, 0), its encoding
-// (8), the name of SVG (3, 2000), its version (1, 1) and the corner of the document (0, 0); its height follows.
+// The index of the document's width among the numbers. The numbers before it are of the version of XML (1, 0), its
+// encoding (8), the name of SVG (3, 2000), its version (1, 1) and the corner of the document (0, 0). Its height
+// follows.
 const WIDTH: usize = 9;
 
-// Greater numbers are read as this one, which no drawing has.
+// Each greater number is read as this one, which is in no drawing.
 const NUMBER_MAX: u32 = 99_999;
 
-// Returns the first decimal number in a text that another byte follows, and what follows that byte.
+// Returns the first decimal number in a text that another byte follows, and what follows that byte. The label of the
+// loop is for the prover.
 #[tactic(auto, unfolding(crate::specs::Steps::Svg::numbers_after))]
 fn next_number(text: &[u8]) -> Option<(u32, &[u8])>
     ensures small { IfSome result (λ s. s.0 ≤ 99999) }
@@ -41,7 +44,7 @@ fn next_number(text: &[u8]) -> Option<(u32, &[u8])>
     None
 }
 
-// Returns what follows the first `count` numbers, or nothing that has a number if there are fewer.
+// Returns what follows the first `count` numbers, or an empty text if there are fewer.
 fn after_numbers(text: &[u8], count: usize) -> &[u8]
     ensures { numbers_in result.now ≡ drop count (numbers_in text.now) }
 {
@@ -55,7 +58,7 @@ fn after_numbers(text: &[u8], count: usize) -> &[u8]
     rest
 }
 
-// Returns 0 if there is no such number.
+// Returns the number with this index among the numbers of a text, or 0 if there are fewer.
 fn number_at(text: &[u8], index: usize) -> usize
     ensures { result ≡ slice_index_or (numbers_in text.now) index 0 }
 {
@@ -73,7 +76,8 @@ pub(crate) struct Size {
     pub(crate) count: usize,
 }
 
-/// Returns the size of a document, if a drawing can have it.
+/// Returns the size of a document, if a drawing can have it. A drawing has at most 16 rasters, so its height is below
+/// 17 times its width.
 pub(crate) fn size_in(text: &[u8]) -> Option<Size>
     requires { kind_in text.now ≡ Svg }
     ensures small { IfSome result (λ s. (8 ≤ s.width) × (s.width ≤ 687) × (s.height < 17 * 687)) }
@@ -97,7 +101,7 @@ pub(crate) fn size_in(text: &[u8]) -> Option<Size>
     })
 }
 
-// Returns the number of at most five digits at an index, and the index after the byte that follows it.
+// Returns the number of at most five digits that begins at an index, and the index after the byte that follows it.
 #[inline(always)]
 fn number_after(text: &[u8], at: usize) -> Option<(u32, usize)>
     requires { at + 6 ≤ length text.now }
@@ -108,7 +112,7 @@ fn number_after(text: &[u8], at: usize) -> Option<(u32, usize)>
 {
     let mut number = 0;
     for i in 0..6usize {
-        // above 9 if the byte is no digit
+        // This is above 9 if the byte is no digit.
         let digit = text[at + i].wrapping_sub(b'0');
         if digit > 9 {
             return Some((number, at + i + 1));
@@ -125,7 +129,8 @@ struct DarkBox {
     modules: u32,
 }
 
-// Returns the box at an index, and the index after it.
+// Returns the box that begins at an index, and the index after it. A number is read only if six bytes are left for it,
+// and in a drawing at least as many are.
 fn box_at(text: &[u8], at: usize) -> Option<(DarkBox, usize)>
     requires { at ≤ length text.now }
     ensures within { IfSome result (λ s. (at < s.1) × (s.1 ≤ length text.now)) }
@@ -151,7 +156,7 @@ fn box_at(text: &[u8], at: usize) -> Option<(DarkBox, usize)>
     let Some((modules, after_modules)) = number_after(text, after_y) else {
         return None;
     };
-    // `1h-`, the number of modules again, and `z`
+    // `number_after` has passed the `v`. What is left of the box is `1h-`, the number of modules again, and `z`.
     let back = if modules < 10 {
         5
     } else if modules < 100 {
@@ -179,7 +184,8 @@ fn paint(bytes: &mut [u8], width: usize, height: usize, x: usize, y: usize, modu
 {
     if y < height {
         let end = (x + modules).min(width);
-        // Three of four runs have one module or two, for which no memory is filled by a call.
+        // Three of four runs have one module or two. They are written here without the call that fills memory, which
+        // the compiler makes of the loop.
         if x < end {
             bytes[y * width + x] = 1;
             if x + 1 < end {
@@ -192,7 +198,7 @@ fn paint(bytes: &mut [u8], width: usize, height: usize, x: usize, y: usize, modu
     }
 }
 
-// Makes the modules of all boxes dark.
+// Makes the modules of all boxes dark. The label of the loop is for the prover.
 fn paint_all(bytes: &mut [u8], width: usize, height: usize, text: &[u8])
     requires area { length bytes.old ≡ width * height }
     requires some { 0 < width }

@@ -1,4 +1,4 @@
-//! The sheets of texts.
+//! The type of drawing that a text can be, and the sheets of texts. (`sheet.rt` says what a sheet is.)
 
 ghost use Rattle.std.specs.Prelude.{◌≡◌, ℕ, ◌<◌, ◌≤◌, ◌==◌, ◌⊎◌, List, length, take, IfOk, MatchOption};
 ghost use Rattle.std.specs.List.{position_or_len};
@@ -9,11 +9,11 @@ use crate::sheet::{SIDE_MIN, Sheet, WIDTH_MAX};
 use qr_drawing::Drawing;
 use std::alloc::{AllocError, Global};
 
-// How many bytes of a UTF8 drawing surely have the first byte of a block character. Column 7 of its first row is light,
-// and the seven characters before it have three bytes each at most.
+// A UTF8 drawing has the first byte of a block character among so many bytes. Column 7 of its first row is light, so
+// its character is a block, and the seven characters before it have at most three bytes each.
 const BLOCK_WITHIN: usize = 22;
 
-// The index of the first byte that is `sign`, or the length if there is none.
+// Returns the index of the first byte that is `sign`, or the length if there is none.
 pub(crate) fn position_of(bytes: &[u8], sign: u8) -> usize
     ensures { result ≡ position_or_len (λ byte. byte == sign) bytes.now }
 {
@@ -32,8 +32,8 @@ fn has_block(text: &[u8]) -> bool
     position_of(first, 0xE2) < first.len()
 }
 
-/// Returns the only type of drawing that `text` can be. In the ASCII types column 7 of the first row is light, whether it
-/// is in the margin or in the square, and so byte 14 says which sign is light.
+/// Returns the only type of drawing that `text` can be. In the ASCII types a module is two bytes, and column 7 of the
+/// first row is light, whether it is in the margin or in the square. So byte 14 says which sign is light.
 pub(crate) fn kind_in(text: &[u8]) -> Drawing
     ensures { result ≡ kind_in text.now }
 {
@@ -49,7 +49,8 @@ pub(crate) fn kind_in(text: &[u8]) -> Drawing
     Drawing::AsciiInverse
 }
 
-/// Returns the sheet of a text of an ASCII type, whose bytes are the text.
+/// Returns the sheet of a text of an ASCII type. Its bytes are the text. Returns `None` only if no drawing is as wide
+/// as this text, or has as many rasters.
 pub(crate) fn ascii_sheet(text: &[u8], kind: Drawing) -> Option<Sheet<'_>>
     requires ascii { (kind ≡ Drawing.Ascii) ⊎ (kind ≡ Drawing.AsciiInverse) }
     requires kind { kind ≡ kind_in text.now }
@@ -69,7 +70,7 @@ pub(crate) fn ascii_sheet(text: &[u8], kind: Drawing) -> Option<Sheet<'_>>
     })
 }
 
-// Writes the bytes of a text but E2 and 96 to the beginning of `cells`, and returns how many they are.
+// Writes the bytes of a text except E2 and 96 to the beginning of `cells`, and returns how many they are.
 fn write_cells(text: &[u8], cells: &mut [u8]) -> usize
     requires { length cells.old ≡ length text.now }
     ensures most { result ≤ length text.now }
@@ -95,7 +96,7 @@ pub(crate) fn cells_in(alloc: Global, text: &[u8]) -> Result<Vec<u8>, AllocError
     Ok(cells)
 }
 
-/// Returns the sheet of a UTF8 text from the bytes that `cells_in` returned.
+/// Returns the sheet of a UTF8 text from the bytes that `cells_in` returned for it, or `None` as `ascii_sheet` does.
 pub(crate) fn cell_sheet(cells: &[u8]) -> Option<Sheet<'_>>
     ensures { (text : List ℕ) → kind_in text ≡ Drawing.Utf8 → cells.now ≡ cells_in text
         → MatchOption result (HasNoSheet text) (λ s. IsSheetOf s.kind s.width s.count s.bytes.now text) }

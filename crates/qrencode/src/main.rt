@@ -12,7 +12,7 @@ use std::alloc::Global;
 use std::env;
 use std::process::ExitCode;
 
-// The part of `main` that a contract can describe, since its devices are parameters.
+// The part of `main` that a contract can describe. Its devices are parameters, while `main` makes them itself.
 fn command<R: Source, W: Sink, E: Sink>(
     alloc: Global,
     words: &[String],
@@ -28,7 +28,7 @@ fn command<R: Source, W: Sink, E: Sink>(
     ExitCode::from(run(alloc, words, input, out, err))
 }
 
-// Writes nothing and returns 1 if memory for the arguments is refused, or if an argument is not valid UTF-8.
+// If memory for the arguments is refused, or an argument is not valid UTF-8, it writes nothing and exits with status 1.
 fn main(rt: HostRuntime) -> ExitCode {
     let words: Vec<String> = match env::args(&rt) {
         Ok(args) => match args.collect(rt.alloc()) {

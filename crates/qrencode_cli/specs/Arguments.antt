@@ -1,6 +1,6 @@
--- The command's arguments as rules of the crate `clap`, and what `clap` finds in a command line. `id` is the name of an
--- option or of the string in the code, `letter` the code of an option's letter; `words` is the command line, which
--- begins with the program's name.
+-- The command's arguments as rules of the crate `clap`, and what `clap` finds in a command line. `id` is the name by
+-- which the code knows an option or the string, and `letter` is the number of an option's letter as a character.
+-- `words` is the command line, which begins with the program's name.
 use Rattle.std.specs.Prelude.{ℕ, true, List, codes, Some, pos, slice_index, ℤ}
 use Rattle.clap.specs.Words.{Kinds, fault_of}
 use Rattle.clap.specs.Walk.{Row, Rule, Text}
@@ -16,7 +16,7 @@ text_rule id letter = record (new_rule id) { short = Some letter; value_names = 
 abbrev pub number_rule : Text → ℕ → ℤ → Rule
 number_rule id letter most = record (text_rule id letter) { parser = Some (parser.Signed (pos 0) most) }
 
--- As `text_rule`, but `clap` refuses arguments without this option [own]
+-- An option that takes a text, and without which `clap` refuses the arguments [own]
 abbrev pub required_rule : Text → ℕ → Rule
 required_rule id letter = record (text_rule id letter) { required = true }
 

@@ -26,7 +26,8 @@ use Rattle.qr_symbol.specs.declared.fault.EncodeFault.TheVariants as encode
 abbrev pub input_for : SettingsView → List ℕ → List ℕ
 input_for s given = option_map_or (λ text. take INPUT_MAX text) s.string given
 
--- What the symbols contain; folding follows the rule, so that kanji pairs stay with -k, and all bytes with -8 [own]
+-- What the symbols contain: the input, with -i folded as the rule of modes says, by which -k leaves kanji pairs
+-- unchanged, and -8 all bytes [own]
 abbrev pub held : SettingsView → List ℕ → List ℕ
 held s input = if s.fold then folded (rule_for s) input else input
 
@@ -76,15 +77,15 @@ IsFault words given fault.Memory = Unit {0}
 IsFault words given fault.Write = (drawing : List ℕ) × HasDrawing words given drawing
 IsFault words given refusal = IsRefusal words given refusal
 
--- The writer received the whole drawing and one flush more; it is settled if `settled` is true, and otherwise not [own]
+-- The writer received the whole drawing and one flush more, and `settled` says whether that flush succeeded [own]
 pub record DrawnWhole (settled : Bool) (old new : Writer) (drawing : List ℕ) : Type 0 where
   pub grows : Appends old.taken new.taken drawing
   pub many : old.counts ≡ no_writes → new.counts.taken ≡ counted (length drawing)
   pub flushed : new.counts.flushes ≡ counted (old.counts.flushes + 1)
   pub ended : new.counts.settled ≡ settled
 
--- The writer received a prefix of the drawing, no byte more and no flush; or all of it and one flush, without being
--- settled [own]
+-- The writer received a prefix of the drawing and no flush, or it received all of the drawing and one flush, which
+-- failed [own]
 abbrev pub DrawnInPart : Writer → Writer → List ℕ → Type 0
 DrawnInPart old new drawing =
     (AppendsBeginning old.taken new.taken drawing × (new.counts.flushes ≡ old.counts.flushes)
@@ -98,7 +99,7 @@ OutputHolds words given old new (Ok t) = (drawing : List ℕ) × HasDrawing word
 OutputHolds words given old new (Err fault.Write) = (drawing : List ℕ) × HasDrawing words given drawing × DrawnInPart old new drawing
 OutputHolds words given old new _ = new ≡ old
 
--- The reader returned exactly `given`: all up to its end, or `INPUT_MAX` bytes [own]
+-- The reader returned exactly the bytes `given`, and has either reached its end or returned `INPUT_MAX` bytes [own]
 abbrev pub AllRead : Reader → Reader → List ℕ → Type 0
 AllRead old new given = Consumes old.remaining new.remaining given
     × (old.counts ≡ no_reads → new.counts.given ≡ length given)
@@ -110,8 +111,8 @@ pub record InputConsumed {T : Type 0} (words : List Text) (old new : Reader) (gi
   pub unread : (ReadsInput words → ⊥) → new ≡ old
   pub read : ReadsInput words → AllRead old new given ⊎ IsErrOf outcome fault.Read ⊎ IsErrOf outcome fault.Memory
 
--- Standard error received the line, or a prefix of it if a write to it failed; it counts at most as many bytes as the
--- line has, and was not flushed [own]
+-- Standard error received the line, or a prefix of the line if a write failed, and so at most as many bytes as the line
+-- has, and no flush [own]
 abbrev pub ErrorHolds : Writer → Writer → List ℕ → Type 0
 ErrorHolds old new line = AppendsBeginning old.taken new.taken line
     × (old.counts ≡ no_writes → new.counts.taken ≤ counted (length line))

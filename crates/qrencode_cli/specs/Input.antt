@@ -4,8 +4,8 @@ use Rattle.qr_bits.specs.declared.modes.TheConstants.{INPUT_MAX}
 use Rattle.qr_devices.specs.declared.device.ReadCounts.{ReadCounts}
 use Rattle.qr_devices.specs.declared.device.TheConstants.{INTERRUPTIONS_MAX}
 
--- `input` is all bytes of the device, but at most the first `INPUT_MAX`; if its bytes are unknown, `input` can be any
--- [own]
+-- `input` is all bytes of the device, or the first `INPUT_MAX` if it has more; if the bytes of the device are not
+-- known, `input` can be any [own]
 abbrev pub IsInputOf : Option (List ℕ) → List ℕ → Type 0
 IsInputOf bytes input = IfSome bytes (λ all. input ≡ take INPUT_MAX all)
 

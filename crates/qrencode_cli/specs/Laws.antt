@@ -118,8 +118,8 @@ AreAlike r q = r ≡ q
 abbrev pub RefusalsAreOne : Type 0
 RefusalsAreOne = (words : List Text) (given : List ℕ) (r q : Fault) → IsRefusal words given r → IsRefusal words given q → AreAlike r q
 
--- `drawing` is a drawing of the squares that the settings ask for, and of nothing else: whatever type, margin and squares
--- have this drawing, they are these. The squares are read and joined as the input [own]
+-- `drawing` is a drawing of the squares that the settings ask for, and of nothing else: whatever type, margin and
+-- squares have this drawing, they are these. The squares are read and joined as the input [own]
 pub record ShowsInput (s : SettingsView) (input drawing : List ℕ) : Type 0 where
   pub squares : List Grid
   pub symbols : AreSymbols s input squares
@@ -128,7 +128,7 @@ pub record ShowsInput (s : SettingsView) (input drawing : List ℕ) : Type 0 whe
   pub only : (kind : Drawing) (margin : ℕ) (others : List Grid) → IsDrawingOf kind margin others drawing
       → (kind ≡ s.kind) × (margin ≡ s.margin) × (others ≡ squares)
 
--- A run whose status is 0 wrote a drawing that shows its input by itself [own]
+-- A run whose status is 0 wrote a drawing from which its input can be read, without anything else [own]
 abbrev pub OutputsReadBack : Type 0
 OutputsReadBack = (words : List Text) (in0 in1 : Reader) (out0 out1 err0 err1 : Writer)
     → RunsTo words in0 in1 out0 out1 err0 err1 0
@@ -141,8 +141,8 @@ pub record RulesOfModes : Type 0 where
   pub kanji : (s : SettingsView) → s.bytes_only ≡ false → s.kanji ≡ true → rule_for s ≡ WithKanji
   pub neither : (s : SettingsView) → s.bytes_only ≡ false → s.kanji ≡ false → rule_for s ≡ Auto
 
--- The input is folded exactly if -i is given; with -k a kanji pair stays unchanged even if its second byte is the code
--- of a small letter [own]
+-- With -i the input is folded as the rule of modes says, where with -k a kanji pair stays unchanged even if its second
+-- byte is the code of a small letter; without -i it stays as it is [own]
 pub record FoldingFollowsTheRule : Type 0 where
   pub folds : (s : SettingsView) (input : List ℕ) → s.fold ≡ true → held s input ≡ folded (rule_for s) input
   pub keeps : (s : SettingsView) (input : List ℕ) → s.fold ≡ false → held s input ≡ input
@@ -154,7 +154,7 @@ abbrev pub StatusesAreTwo : Type 0
 StatusesAreTwo = (words : List Text) (in0 in1 : Reader) (out0 out1 err0 err1 : Writer) (outcome : Result (Unit {0}) Fault) (status : ℕ)
     → Runs words in0 in1 out0 out1 err0 err1 outcome status → MatchResult outcome (λ _. status ≡ 0) (λ _. status ≡ 1)
 
--- The line of each fault, but for arguments that `clap` refuses [own]
+-- The line of each fault, except arguments that `clap` refuses [own]
 pub record LinesOfFaults : Type 0 where
   pub level : fault_line (fault.Usage usage.Level) ≡ codes "qrencode: unknown level\n"
   pub type : fault_line (fault.Usage usage.Kind) ≡ codes "qrencode: unknown type\n"

@@ -35,7 +35,8 @@ pub record SettingsView : Type 0 where
   pub structured : Bool
   pub string : Option Text
 
--- The option -8 overrides -k; without both, all modes but kanji mode are allowed [own]
+-- The rule is byte mode alone with -8, all modes with -k and without -8, and all modes but kanji mode without both
+-- [own]
 abbrev pub rule_for : SettingsView → Rule
 rule_for s = if s.bytes_only then BytesOnly else (if s.kanji then WithKanji else Auto)
 
@@ -68,8 +69,8 @@ version_at o = let n = number_or 0 o in if nat_le 1 n && nat_le n 40 then Some n
 abbrev pub flag_at : Option Text → Bool
 flag_at o = option_map_or (λ t. bytes_eq t (codes "true")) o false
 
--- The settings with this level and this type of drawing; the default margin is 4 modules, the quiet zone
--- (ISO/IEC 18004:2015, 6.3.8)
+-- The settings, of which level and type of drawing were found before; without -m the margin is 4 modules, which is the
+-- quiet zone (ISO/IEC 18004:2015, 6.3.8)
 abbrev pub settings_with : List Row → Level → Drawing → SettingsView
 settings_with rows level kind = record {
   level = level;
@@ -100,7 +101,7 @@ settings_of rows =
 abbrev pub settings_for : List Text → Result SettingsView Reason
 settings_for words = if length (faults_for words) == 0 then settings_of (rows_for words) else Err refused_by_clap
 
--- The fault is that of the reason in `o`, or lack of memory, which can always occur [own]
+-- The fault is the one for the reason in `o`, or it is lack of memory, which can always occur [own]
 abbrev pub IsUsageFault : Result SettingsView Reason → UsageFault → Type 0
 IsUsageFault o (usage.Words text) = o ≡ Err refused_by_clap
 IsUsageFault o usage.Level = o ≡ Err unknown_level

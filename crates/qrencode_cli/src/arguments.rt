@@ -1,4 +1,4 @@
-//! The command's arguments, declared for the crate `clap`, which parses them.
+//! The command's arguments, as they are declared for the crate `clap`, which parses them.
 
 ghost use Rattle.std.specs.Prelude.{◌≡◌, [], Err, IfErr, IfOk, Result, map, false, codes};
 ghost use Rattle.std.specs.String.{string_bytes};
@@ -15,7 +15,7 @@ use clap::error::{Error, ErrorKind};
 use clap::{Arg, ArgAction, ArgMatches, Command};
 use std::alloc::{AllocError, Global};
 
-// An option: its name in the code, its letter, and in the help text the name of its value and the line about it.
+// An option: its name in the code, its letter, and for the help text the name of its value and a line about the option.
 #[derive(Clone, Copy)]
 struct OptionText<'a> {
     id: &'a str,
@@ -143,7 +143,7 @@ fn command_line<'a>(alloc: Global) -> Result<Command<'a>, AllocError>
         ))
 }
 
-// The fault if `clap` refuses the arguments by `error`.
+// Returns the fault of arguments that `clap` refuses by `error`.
 fn refusal(alloc: Global, error: &Error) -> UsageFault
     ensures { (o : Result SettingsView Reason) → ((kind_of error.now ≡ OutOfMemory → ⊥) → o ≡ Err refused_by_clap) → IsUsageFault o result }
 {
@@ -160,7 +160,7 @@ fn refusal(alloc: Global, error: &Error) -> UsageFault
 ///
 /// # Errors
 ///
-/// `Words`, with the text of `clap`, if `clap` refuses the arguments; a request for help counts as refused, and its
+/// `Words`, with the text of `clap`, if `clap` refuses the arguments. A request for help counts as refused, and its
 /// text is the help. `Memory` if memory is refused.
 pub(crate) fn matches<'a>(alloc: Global, words: &'a [String]) -> Result<ArgMatches<'a>, UsageFault>
     ensures taken { IfOk result (λ m. faults_for (map string_bytes words.entry.now) ≡ []) }

@@ -1,4 +1,6 @@
-//! A run of the command: its settings, its input, its symbols, and their drawing or the line of a fault.
+//! A run of the command. It reads its settings from the arguments, gets its input, makes all symbols, and writes their
+//! drawing. If one of these steps fails, it writes the line of the fault. A drawing job is what the first three steps
+//! make and the last one draws: `job_for` gets the input, `make_job` folds it, and `job_of` makes the symbols.
 
 ghost use Rattle.std.specs.Prelude.{◌≤◌, MatchResult, length, map};
 ghost use Rattle.std.specs.String.{string_bytes};
@@ -16,7 +18,7 @@ use qr_layout::Version;
 use qr_symbol::{Symbol, encode, encode_series};
 use std::alloc::Global;
 
-// The symbols of `input`: one without `-S`; with it, one or a series.
+// Makes the symbols of `input`. Without `-S` it is one symbol, and with `-S` one symbol or a series.
 fn symbols_for(alloc: Global, input: &[u8], settings: &Settings) -> Result<Vec<Symbol>, Fault>
     requires { length input.now ≤ INPUT_MAX }
     ensures { MatchResult result (λ symbols. AreDrawnFor settings.now input.now symbols.items)
@@ -34,7 +36,7 @@ fn symbols_for(alloc: Global, input: &[u8], settings: &Settings) -> Result<Vec<S
     Ok(symbols)
 }
 
-// `input` are the bytes that the symbols contain.
+// Makes the drawing job of `input`, the bytes that the symbols contain.
 fn job_of(alloc: Global, input: &[u8], settings: &Settings) -> Result<DrawingJob, Fault>
     requires { length input.now ≤ INPUT_MAX }
     ensures { IsJobFor settings.now input.now result }
@@ -46,7 +48,7 @@ fn job_of(alloc: Global, input: &[u8], settings: &Settings) -> Result<DrawingJob
     })
 }
 
-// As `job_of`, but with `-i` the input is folded first.
+// Makes the drawing job of `input`, which with `-i` is folded first.
 fn make_job(alloc: Global, input: &[u8], settings: &Settings) -> Result<DrawingJob, Fault>
     requires { length input.now ≤ INPUT_MAX }
     ensures { IsJobFor settings.now (held settings.now input.now) result }
@@ -58,7 +60,8 @@ fn make_job(alloc: Global, input: &[u8], settings: &Settings) -> Result<DrawingJ
     job_of(alloc, input, settings)
 }
 
-// A string among the arguments is cut after `INPUT_MAX` bytes, which already fit no symbols.
+// Makes the drawing job that the arguments ask for. A string among them is cut after `INPUT_MAX` bytes, which are more
+// than any symbols hold.
 fn job_for<R: Source>(alloc: Global, words: &[String], input: &mut R) -> Result<DrawingJob, Fault>
     ensures { Prepares (map string_bytes words.now) (R.device input.old) (R.device input.new) result }
 {
@@ -75,7 +78,7 @@ fn job_for<R: Source>(alloc: Global, words: &[String], input: &mut R) -> Result<
     }
 }
 
-// A flush that fails is a write fault.
+// Writes the drawing, and then flushes the writer. A flush that fails is a write fault.
 fn write_drawing<W: Sink>(job: &DrawingJob, out: &mut W) -> Result<(), Fault>
     ensures { Draws (W.device out.old) (W.device out.new) (drawing_of_job job.now) result }
 {
@@ -104,28 +107,30 @@ fn run_to_result<R: Source, W: Sink>(
 /// Runs the command: reads the input that the arguments `words` ask for, and writes its drawing to `out`, or the line
 /// of a fault to `err`. Returns the exit status, 0 or 1. The first of `words` is the program's name.
 ///
-/// The input is the string among the arguments, or else all bytes of `input`; in both cases at most the first 113,425,
-/// more than any symbols hold. With `-i` small letters are folded to capitals, except that kanji pairs stay unchanged
-/// with `-k`, and all bytes with `-8`. `-8` encodes in byte mode alone; without it, `-k` allows kanji mode.
+/// The input is the string among the arguments, or else all bytes of `input`. Of either, at most the first 113,425
+/// bytes are taken, which are one more than the most that 16 symbols can hold. `-8` encodes them in byte mode alone.
+/// Without `-8`, `-k` allows kanji mode. `-i` folds small letters to capitals. With `-k` it leaves kanji pairs
+/// unchanged, and with `-8` it leaves all bytes unchanged.
 ///
 /// A run that returns 0 has written the whole drawing to `out`, flushed it once after that, and written nothing to
 /// `err`. Reading the drawn symbols yields the whole input, folded if `-i` is given.
 ///
-/// A run that returns 1 has written the line of the fault to `err`, or a prefix if `err` took no more. After a write
-/// fault, `out` has received a prefix of the drawing, or all of it if only the flush failed. After any other fault
-/// nothing was written to `out`, and it was not flushed.
+/// A run that returns 1 has written the line of the fault to `err`, or a prefix of the line if `err` took no more.
+/// After a write fault, `out` has received a prefix of the drawing, or all of it if only the flush failed. After any
+/// other fault nothing was written to `out`, and it was not flushed.
 ///
-/// A read fault is reported exactly if a read failed or 1,000 were interrupted. A write fault is reported exactly if a
-/// write of the drawing or the flush failed, a write took no byte, or 1,000 were interrupted. Until then interrupted
-/// reads and writes are tried again, counted apart for the input, the drawing and the line.
+/// A read fault is reported exactly if a read failed or 1,000 reads were interrupted. A write fault is reported exactly
+/// if a write of the drawing or the flush failed, a write took no byte, or 1,000 writes were interrupted. Until then
+/// interrupted reads and writes are tried again. They are counted apart for the input, the drawing and the line.
 ///
 /// An input is refused as too long only if its shortest encoding is too long for every allowed version. With `-S` it is
 /// refused for too many symbols only if it does not fit one and is cut into more than 16 parts.
 ///
-/// A run that reads `input` reads to its end or 113,425 bytes, unless a read fault or lack of memory ends it. It takes
-/// at most 114,424 reads, none after one that reached the end. After a write fault `out` has taken at most as many
-/// bytes as the drawing has, and just as many if only the flush failed. After any fault `err` has taken at most as many
-/// bytes as the line has. No write of the drawing offers more than 1,200 bytes.
+/// A run that reads `input` reads it to its end or to 113,425 bytes, unless a read fault or lack of memory ends the
+/// run. It makes at most 114,424 reads, one for each byte and 999 more, and none after one that reached the end. After
+/// a write fault `out` has taken at most as many bytes as the drawing has, and just as many if only the flush failed.
+/// After any fault `err` has taken at most as many bytes as the line has. No write of the drawing offers more than
+/// 1,200 bytes.
 ///
 /// What is said of bytes holds for devices whose bytes a contract can know. What is said of calls, faults and numbers
 /// of bytes holds for files, pipes and terminals too, if the counts of the device are 0 before the run.

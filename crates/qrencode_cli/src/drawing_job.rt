@@ -1,4 +1,4 @@
-//! What a run draws, and how.
+//! A drawing job: which symbols a run draws, and how.
 
 ghost use Rattle.std.specs.Prelude.{◌<◌, ◌≤◌, length};
 ghost use Rattle.qr_symbol.specs.Series.{squares_of};

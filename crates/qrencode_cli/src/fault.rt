@@ -8,7 +8,8 @@ use qr_drawing::DrawFault;
 use qr_symbol::EncodeFault;
 use std::alloc::{AllocError, AllocFailed};
 
-/// Lack of memory is always `Memory`, also while arguments are read or an input is encoded.
+/// Why a run failed. Lack of memory is always `Memory`, also while arguments are read or an input is encoded. The
+/// variants `Memory` of the two other types are turned into it.
 #[derive(Drop)]
 pub(crate) enum Fault {
     Usage(UsageFault),

@@ -1,4 +1,4 @@
-//! Reads the input, up to `INPUT_MAX` bytes, since no symbols contain as many.
+//! Reads the input to its end, or to `INPUT_MAX` bytes, which are more than any symbols hold.
 
 ghost use Rattle.std.specs.Prelude.{MatchResult};
 ghost use Rattle.qrencode_cli.specs.Steps.Command.{HasRead, StopsReading};
@@ -8,9 +8,11 @@ use qr_bits::INPUT_MAX;
 use qr_devices::{INTERRUPTIONS_MAX, Source, Trouble};
 use std::alloc::Global;
 
+// The most bytes that one read asks for.
 const CHUNK: usize = 4096;
 
-/// Interrupted reads are tried again, at most `INTERRUPTIONS_MAX` times in all.
+/// Returns the bytes that it has read. Interrupted reads are tried again, at most `INTERRUPTIONS_MAX` times in all. The
+/// label of the loop is for the prover.
 pub(crate) fn read_input<R: Source>(alloc: Global, input: &mut R) -> Result<Vec<u8>, Fault>
     ensures { MatchResult result (λ bytes. HasRead (R.device input.old) (R.device input.new) bytes.items)
         (StopsReading (R.device input.old) (R.device input.new)) }

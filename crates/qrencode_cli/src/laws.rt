@@ -20,7 +20,7 @@ pub fn limits()
 {}
 
 /// Arguments and an input have at most one drawing. If they have one, no refusal is correct, so only a device or lack
-/// of memory can make the run fail. At most one refusal is correct, all those by `clap` counted as one.
+/// of memory can make the run fail. At most one refusal is correct, if all refusals by `clap` count as one.
 pub fn answers_are_one()
     ensures drawing { AnswersAreOne }
     ensures refusal { RefusalsExcludeDrawings }
@@ -33,16 +33,17 @@ pub fn rules_of_modes()
     ensures { RulesOfModes }
 {}
 
-/// The input is folded exactly if `-i` is given. With `-k`, a kanji pair stays unchanged even if its second byte is the
-/// code of a small letter.
+/// With `-i` the input is folded as the rule of modes says, and without `-i` it stays as it is. For example, with `-k`
+/// a kanji pair stays unchanged even if its second byte is the code of a small letter.
 #[tactic(auto, unfolding(qr_bits::specs::Folding::folded_around_pairs, qr_bits::specs::Modes::is_kanji_pair))]
 pub fn folding_follows_the_rule()
     ensures { FoldingFollowsTheRule }
 {}
 
-/// A run that returns 0 wrote a drawing that shows the input by itself: the drawing of one type, margin and list of
-/// squares only, which are those of the settings and the symbols of the input. Read and joined, these are the input,
-/// folded if `-i` is given. `parse_drawing` of `qr_parsing` returns them.
+/// A run that returns 0 wrote a drawing from which its input can be read, without anything else. No other type, margin
+/// or list of squares has this drawing: its type and margin are those of the settings, and its squares are the symbols
+/// of the input. Read and joined, these symbols yield the input, folded if `-i` is given. `parse_drawing` of
+/// `qr_parsing` returns the squares.
 pub fn outputs_read_back()
     ensures { OutputsReadBack }
 {}
@@ -52,7 +53,7 @@ pub fn statuses_are_two()
     ensures { StatusesAreTwo }
 {}
 
-/// Each fault has the line that `LinesOfFaults` lists, but for arguments that `clap` refuses: their line is the text of
+/// Each fault has the line that `LinesOfFaults` lists, except arguments that `clap` refuses. Their line is the text of
 /// `clap`.
 pub fn lines_of_faults()
     ensures { LinesOfFaults }

@@ -1,4 +1,4 @@
-//! The settings of a run, read from what `clap` found in the arguments.
+//! The settings of a run, which are read from what `clap` found in the arguments.
 
 ghost use Rattle.std.specs.Prelude.{◌≡◌, ◌≢◌, ◌↔◌, String, Err, Ok, Some, IfOk, MatchResult, map, codes, option_and_then, option_map};
 ghost use Rattle.std.specs.Option.{option_map_or};
@@ -30,6 +30,7 @@ pub struct Settings {
     /// The smallest version of one symbol, or `None` if any may be chosen. A series needs a version, which all its
     /// symbols have.
     pub smallest: Option<Version>,
+    /// The type of drawing.
     pub kind: Drawing,
     /// The number of light modules on each side of a symbol, 0 to 100.
     pub margin: u8,
@@ -94,6 +95,7 @@ pub enum UsageFault {
     /// `-S` is given without `-v`, or with version 0.
     #[error("-S needs -v")]
     NeedsVersion,
+    /// Memory was refused.
     #[error("out of memory")]
     Memory,
 }
@@ -152,7 +154,7 @@ fn drawing_named(name: &str) -> Option<Drawing>
     }
 }
 
-// The level of `-l`, or L without `-l`; `None` if the level is unknown.
+// Returns the level of `-l`, or L without `-l`. Returns `None` if the level is unknown.
 fn level_in(matches: &ArgMatches<'_>) -> Option<Level>
     ensures { result ≡ option_map_or level_named (first_of (codes "level") (rows_of (found_of matches.now))) (Some Level.L) }
 {
@@ -175,21 +177,22 @@ fn level_named(name: &str) -> Option<Level>
     }
 }
 
-// The type of `-t`; `None` if it is unknown or missing.
+// Returns the type of `-t`, or `None` if it is unknown or missing.
 fn drawing_in(matches: &ArgMatches<'_>) -> Option<Drawing>
     ensures { result ≡ option_and_then drawing_named (first_of (codes "type") (rows_of (found_of matches.now))) }
 {
     text_in(matches, "type").and_then(drawing_named)
 }
 
-// Whether the option `id` is given: the contracts of `clap` describe every value as a text, and that of a given option
-// without a value is `true`.
+// Says whether the option `id`, which takes no value, is given. In the contracts of `clap` every value is a text, and
+// the value of such an option is `true` if it is given.
 fn flag_in(matches: &ArgMatches<'_>, id: &str) -> bool
     ensures { result ≡ flag_at (first_of id.now (rows_of (found_of matches.now))) }
 {
     text_in(matches, id) == Some("true")
 }
 
+// Returns the number of the option `id`, or `otherwise` if it is not given.
 fn number_in(matches: &ArgMatches<'_>, id: &str, otherwise: u8) -> u8
     ensures { result ≡ number_or otherwise (one_of id.now (rows_of (found_of matches.now))) }
 {
@@ -201,7 +204,7 @@ fn number_in(matches: &ArgMatches<'_>, id: &str, otherwise: u8) -> u8
     }
 }
 
-// The version of `-v`; `None` without it and for 0.
+// Returns the version of `-v`, or `None` without `-v` and for 0.
 fn version_in(matches: &ArgMatches<'_>) -> Option<Version>
     ensures { result ≡ version_at (one_of (codes "version") (rows_of (found_of matches.now))) }
 {
@@ -247,13 +250,17 @@ fn settings_in(alloc: Global, matches: &ArgMatches<'_>) -> Result<Settings, Usag
 }
 
 /// Returns the settings that the arguments `words` mean. The first of `words` is the program's name. `clap` decides
-/// which arguments and numbers are valid, by its contract for commands without subcommands; levels and types are looked
-/// up here.
+/// which options and numbers are valid. Levels and types are looked up here.
 ///
 /// # Errors
 ///
-/// The first that applies of `Words` (`clap` refuses the arguments), `Level`, `Kind` and `NeedsVersion`; or `Memory`,
-/// if memory is refused.
+/// The first of these that applies: `Words` if `clap` refuses the arguments or they ask for help, `Level` if the level
+/// is unknown, `Kind` if the type is unknown, and `NeedsVersion` if `-S` is given without a version. `Memory` if memory
+/// is refused.
+///
+/// # Notes
+///
+/// What `clap` decides is taken from its contract for commands without subcommands.
 pub fn options(alloc: Global, words: &[String]) -> Result<Settings, UsageFault>
     ensures settings { MatchResult result (λ s. settings_for (map string_bytes words.now) ≡ Ok s)
         (IsUsageFault (settings_for (map string_bytes words.now))) }

@@ -9,9 +9,10 @@ use Rattle.qrproved.specs.declared.encoding.QrprovedSymbol.{QrprovedSymbol}
 use Rattle.qrproved.specs.Settings.{AreSymbolSettings, interpretation_of, level_of, rule_of}
 use Rattle.qrproved.specs.Modules.{HoldsSquares}
 
--- The modules of the input's symbol were written to the buffer, its version, side, level and mask are in `s`, and it is
--- read as the input with its interpretation. Without `boost` it has the level that was asked for, and with it the
--- highest, from that level on, at which the input fits this version. The numbers are allowed [own]
+-- The numbers are allowed, the modules of the input's symbol were written to the buffer, and `s` has the symbol's
+-- version, side, level and mask. The symbol is read as the input with its interpretation. If `boost` is 0, it has the
+-- level that was asked for, and if `boost` is 1, the highest level, from that one on, at which the input fits its
+-- version [own]
 pub record IsWritten (x : List ℕ) (version level rule interpretation boost : ℕ) (before after : List ℕ) (s : QrprovedSymbol) : Type 0 where
   pub settings : AreSymbolSettings version level rule interpretation boost
   pub square : Grid
@@ -22,7 +23,7 @@ pub record IsWritten (x : List ℕ) (version level rule interpretation boost : �
   pub side : s.side ≡ square.side
   pub holds : HoldsSquares s.side (square ∷ []) before after
 
--- The symbol has the least version, from `version` on, that the input fits, and more modules than `buffer` has bytes
+-- The symbol of the least version, from `version` on, that the input fits has more modules than `buffer` has bytes
 -- [own]
 pub record HasNoRoom (x : List ℕ) (version level rule interpretation : ℕ) (buffer : List ℕ) : Type 0 where
   pub least : ℕ

@@ -60,6 +60,6 @@ HasMoreMendedBytes modules side buffer = AreModules modules side × HasMoreBytes
     (v : ℕ) × (l : Level) × (mask : ℕ) × (changed : List ℕ)
     × IsMendedReading (square_of_unknown side modules) (square_of_bytes side modules) v l mask content changed) buffer
 
--- Each byte of the square is 0, 1 or 2, and mending it may fail with `fault` [own]
+-- Each byte of the square is 0, 1 or 2, and mending the square may fail with `fault` [own]
 abbrev pub IsUnmendedAt : List ℕ → ℕ → ReadFault → Type 0
 IsUnmendedAt modules side fault = AreModules modules side × IsUnmended (square_of_unknown side modules) (square_of_bytes side modules) fault

@@ -10,9 +10,9 @@ use Rattle.qrproved.specs.declared.series.QrprovedSeries.{QrprovedSeries}
 use Rattle.qrproved.specs.Settings.{AreSettings, interpretation_of, level_of, rule_of}
 use Rattle.qrproved.specs.Modules.{HoldsSquares}
 
--- The modules of the input's series were written to the buffer, `t` has its number of symbols and their side, and the
--- symbols are read and joined as the input, each with its interpretation. The numbers are allowed, and without kanji
--- mode no cut of the input into parts that fit, each with a header, has fewer parts than there are symbols [own]
+-- The numbers are allowed, the modules of the input's series were written to the buffer, and `t` has its number of
+-- symbols and their side. The symbols are read and joined as the input, each with its interpretation. Without kanji
+-- mode, if the input is cut into parts that fit, each with a header, there are at least as many parts as symbols [own]
 pub record IsWrittenSeries (x : List ℕ) (version level rule interpretation : ℕ) (before after : List ℕ) (t : QrprovedSeries) : Type 0 where
   pub settings : AreSettings version level rule interpretation
   pub symbols : List Symbol

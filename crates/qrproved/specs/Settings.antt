@@ -7,7 +7,7 @@ use Rattle.qr_bits.specs.declared.modes.Rule.TheVariants as rule
 use Rattle.qr_bits.specs.declared.interpretation.Interpretation.{Interpretation}
 use Rattle.qr_bits.specs.declared.interpretation.Interpretation.TheVariants.{Default, Eci, Gs1}
 
--- The level that a caller means: a greater number corrects more [own]
+-- The level that a caller means, from 0 for the lowest to 3 for the highest; numbers above 3 are out of range [own]
 abbrev pub level_of : ℕ → Level
 level_of n = if n == 0 then level.L else (if n == 1 then level.M else (if n == 2 then level.Q else level.H))
 
@@ -15,19 +15,19 @@ level_of n = if n == 0 then level.L else (if n == 1 then level.M else (if n == 2
 abbrev pub rule_of : ℕ → Rule
 rule_of n = if n == 0 then rule.Auto else (if n == 1 then rule.BytesOnly else rule.WithKanji)
 
--- The interpretation that a caller means: a number of six digits is an ECI, 1000000 is no interpretation, and 1000001 is
--- GS1 data (ISO/IEC 18004:2015, 7.4.2, 7.4.8.2)
+-- The interpretation that a caller means: a number below 1,000,000 is an ECI, 1,000,000 is no interpretation, and
+-- 1,000,001 is GS1 data (ISO/IEC 18004:2015, 7.4.2, 7.4.8.2)
 abbrev pub interpretation_of : ℕ → Interpretation
 interpretation_of n = if nat_lt n 1000000 then Eci n else (if n == 1000000 then Default else Gs1)
 
--- Kanji mode may be allowed with this interpretation: readers take its pairs for Shift JIS, which is ECI 20. With
--- another ECI, two bytes that are not one character could look like a pair [own]
+-- Kanji mode may be allowed with this interpretation: not with an ECI other than 20, which is Shift JIS, because two
+-- bytes that are not one character could then look like a kanji pair, and readers take such pairs for Shift JIS [own]
 abbrev pub MayAllowKanji : Interpretation → Type 0
 MayAllowKanji (Eci n) = n ≡ 20
 MayAllowKanji _ = Unit {0}
 
--- The numbers are in range, and kanji mode is not allowed with an ECI but that of Shift JIS; unlike for the command, 0
--- is no version [own]
+-- The numbers are in range, and kanji mode is not allowed with another ECI than that of Shift JIS; 0 is no version
+-- here, although the command accepts it [own]
 pub record AreSettings (version level rule interpretation : ℕ) : Type 0 where
   pub first : 1 ≤ version
   pub last : version ≤ 40
@@ -36,6 +36,6 @@ pub record AreSettings (version level rule interpretation : ℕ) : Type 0 where
   pub interpretation_in : interpretation < 1000002
   pub kanji : rule ≡ 2 → MayAllowKanji (interpretation_of interpretation)
 
--- The numbers for one symbol: `boost` is 0 or 1 [own]
+-- The numbers for one symbol are allowed, among them `boost`, which is 0 or 1 [own]
 abbrev pub AreSymbolSettings : (version level rule interpretation boost : ℕ) → Type 0
 AreSymbolSettings version level rule interpretation boost = AreSettings version level rule interpretation × (boost < 2)

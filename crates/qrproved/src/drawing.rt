@@ -62,8 +62,9 @@ fn squares_of(alloc: Global, modules: &[u8], side: u8, count: u8) -> Result<Vec<
     Ok(squares)
 }
 
-// Each fault of drawing is lack of memory: the writer fails only if its `Vec` cannot grow, and otherwise accepts all
-// bytes. It is the writer of `parse_drawing`, so that the library contains the code of `draw` once.
+// Draws the squares into memory. Each fault of `draw` is then lack of memory, because the writer fails only if its
+// `Vec` cannot grow, and otherwise accepts all bytes. The writer has the type that it has in `parse_drawing`, so the
+// library contains the code of `draw` only once.
 fn drawn(alloc: Global, modules: &[u8], asked: DrawingSettings) -> Result<Vec<u8>, AllocError>
     requires least { 1 ≤ asked.side }
     requires most { asked.side ≤ 177 }
@@ -84,18 +85,19 @@ fn drawn(alloc: Global, modules: &[u8], asked: DrawingSettings) -> Result<Vec<u8
     }
 }
 
-/// Draws `count` squares of modules as the command draws symbols, and writes the drawing to `text`. All have `side`
-/// rows, and need not be symbols; `modules` has them one after the other, row by row, and each byte but 0 is dark.
-/// `drawing` is 0 to 3 for ASCII, ASCIIi, UTF8 and SVG, and `margin` is the number of light modules on each side.
+/// Draws `count` squares of modules as the command draws symbols, and writes the drawing to `text` (ISO/IEC 18004:2015,
+/// 6.3.8). The squares have `side` rows, and need not be symbols. `modules` begins with their modules, one square after
+/// the other and row by row. A module is light if it is 0, and otherwise dark. `drawing` is 0 to 3 for ASCII, ASCIIi,
+/// UTF8 and SVG, and `margin` is the number of light modules on each side of a square.
 ///
 /// On status 0 `text` begins with the drawing, and `written` is its length in bytes.
 ///
 /// # Errors
 ///
-/// The first that applies of `SETTINGS` (`side` is not 1 to 177, `count` not 1 to 16, `drawing` more than 3 or `margin`
-/// more than 100), `ROOM` with `written` 0 (`modules` is too short), and `ROOM` with the drawing's length in `written`
-/// (`text` is too short); or `MEMORY` if memory is refused. `SETTINGS` and the first `ROOM` are found before memory is
-/// requested.
+/// The first of these that applies: `SETTINGS` (`side` is not 1 to 177, `count` not 1 to 16, `drawing` more than 3 or
+/// `margin` more than 100), `ROOM` with `written` 0 (`modules` is too short), and `ROOM` with the drawing's length in
+/// `written` (`text` is too short). `MEMORY` if memory is refused. `SETTINGS` and the first `ROOM` are found before
+/// memory is requested.
 #[unsafe(no_mangle)]
 pub extern "C" fn qrproved_draw(
     alloc: Global,

@@ -32,7 +32,8 @@ pub struct QrprovedSymbol {
     pub mask: u8,
 }
 
-// The symbol that the settings ask for.
+// Makes the symbol that the settings ask for. With `boost` it gets the highest level at which the input fits its
+// version.
 fn symbol_of(
     alloc: Global,
     input: &[u8],
@@ -80,21 +81,25 @@ fn symbol_of(
     )
 }
 
-/// Encodes `input` as one symbol of the least version, from `version` on, that it fits, and writes the modules: the one
-/// in a row and a column is at index `row * side + column` of `modules`. `level` is 0 to 3 for L, M, Q and H. `rule` is
-/// 0 for all modes but kanji mode, 1 for byte mode alone, and 2 for all modes. `interpretation` is the number of an ECI,
-/// or 1,000,000 for none, or 1,000,001 for GS1 data, in which the byte 1D (hexadecimal) separates fields. With `boost` 1
-/// the symbol gets the highest level, from `level` on, at which the input fits this version, and with 0 it gets `level`.
+/// Encodes `input` as one symbol of the least version, from `version` on, that it fits, and writes the symbol's modules
+/// to `modules` (ISO/IEC 18004:2015, 7.1). The module in a row and a column is the byte with the index `row * side +
+/// column`, which is 1 if it is dark and 0 if it is light.
+///
+/// `version` is 1 to 40, and `level` is 0 to 3 for L, M, Q and H. `rule` is 0 for all modes but kanji mode, 1 for byte
+/// mode alone, and 2 for all modes. `interpretation` is the number of an ECI, 0 to 999,999, or 1,000,000 for none, or
+/// 1,000,001 for GS1 data, in which the byte 1D (hexadecimal) separates fields. If `boost` is 1, the symbol gets the
+/// highest level, from `level` on, at which the input fits its version. If `boost` is 0, it gets `level`.
 ///
 /// On status 0 the buffer begins with exactly the modules of the symbol, which is read as the input with its
 /// interpretation, and `symbol` has its version, side, level and mask.
 ///
 /// # Errors
 ///
-/// The first that applies of `SETTINGS` (a number is out of range, or `rule` is 2 with another ECI than 20, which is
-/// Shift JIS), `EMPTY`, `FIELDS` (in GS1 data a byte 1D comes directly before another or before `%`), `TOO_LONG` (the
-/// input fits no allowed version) and `ROOM` (`modules` is too short); or `MEMORY` if memory is refused. `SETTINGS`,
-/// `EMPTY`, `FIELDS`, and `TOO_LONG` for more than 7,089 bytes, are found before memory is requested.
+/// The first of these that applies: `SETTINGS` (a number is out of range, or `rule` is 2 with another ECI than 20,
+/// which is Shift JIS), `EMPTY` (`input` has no byte), `FIELDS` (in GS1 data a byte 1D comes directly before another or
+/// before `%`), `TOO_LONG` (the input fits no allowed version) and `ROOM` (`modules` is too short). `MEMORY` if memory
+/// is refused. `SETTINGS`, `EMPTY`, `FIELDS`, and `TOO_LONG` for more than 7,089 bytes, which is the most that a symbol
+/// holds, are found before memory is requested.
 #[unsafe(no_mangle)]
 pub extern "C" fn qrproved_encode(
     alloc: Global,
@@ -139,6 +144,7 @@ pub extern "C" fn qrproved_encode(
         return FIELDS;
     }
     if input.len() > INPUT_MAX {
+        // A law, which is called for the prover.
         long_inputs_have_none(settings.version);
         return TOO_LONG;
     }
@@ -409,8 +415,8 @@ mod tests {
         Ok(())
     }
 
-    // What says the interpretation takes 12, 20 or 28 bits for an ECI and 4 for GS1 data. Version 1 has 152 bits at L;
-    // 17 bytes in byte mode take 148, 16 take 140, 15 take 132, and 41 digits 151.
+    // An ECI header takes 12, 20 or 28 bits, and FNC1 for GS1 data takes 4. Version 1 has 152 bits at L. In byte mode
+    // 17 bytes take 148 of them, 16 take 140 and 15 take 132. In numeric mode 41 digits take 151.
     #[test]
     fn interpretations_take_room(rt: HostRuntime) -> Result<(), Fail> {
         let letters = [b'a'; 18];
@@ -449,7 +455,7 @@ mod tests {
         Ok(())
     }
 
-    // A separator of fields is 1D (hexadecimal).
+    // The separator of fields is the byte 1D (hexadecimal).
     #[test]
     fn interpretations_refused(rt: HostRuntime) -> Result<(), Fail> {
         let rows = [

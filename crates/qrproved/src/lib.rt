@@ -1,15 +1,15 @@
-//! A library for C, and for each language that can call C functions. Its functions, the calls, are declared in
-//! `include/qrproved.h`: they encode an input as a symbol or a series, read symbols, mend damaged ones, draw squares of
-//! modules, and parse drawings. Modules, bytes and texts go to a buffer of the caller, numbers to a struct of the caller. A call
-//! keeps no memory, so there is nothing to free.
+//! A library for C, and for each language that can call C functions. Its functions are named calls here, and are
+//! declared in `include/qrproved.h`. They encode an input as a symbol or a series, read symbols, mend damaged ones,
+//! draw squares of modules, and parse drawings. A call writes modules, bytes and texts to a buffer of the caller, and
+//! numbers to a struct of the caller. It keeps no memory, so there is nothing to free.
 //!
-//! The promises hold if the caller fulfils the conditions under 'What the caller owes' in `docs/LIBRARY.md`. Bytes of a
-//! buffer after the result stay as they are. On each status but 0 the buffer and the struct are unchanged; only
-//! `qrproved_draw` still sets `written` if a buffer is too short.
+//! The promises hold if the caller fulfils the conditions under 'What the caller owes' in `docs/LIBRARY.md`. If a
+//! buffer is longer than the result, the bytes after the result stay as they are. On each status but 0 the buffer and
+//! the struct are unchanged. There is one exception: if a buffer is too short, `qrproved_draw` still sets `written`.
 //!
-//! A call returns the status of the first cause that applies, in the order that its comment names, or that of lack of
-//! memory if memory is refused. The comment also names the causes that are found before any memory is requested, and so
-//! reported even if it is refused.
+//! If a call cannot do what it is asked for, it returns the status of the first cause that applies, in the order of its
+//! comment. If memory is refused, it returns `MEMORY`. The comment also names the causes that are found before memory
+//! is requested. These are reported even if memory would be refused.
 #![tactic(auto)]
 
 mod drawing;

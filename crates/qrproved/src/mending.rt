@@ -66,7 +66,8 @@ pub struct QrprovedMended {
 
 const NOT_KNOWN: u8 = 2;
 
-// The loop does not end at the first byte of more than 2, so that many bytes are compared at once.
+// Says whether no byte is more than 2. The loop does not end at the first byte that is, so that many bytes are compared
+// at once.
 fn are_modules(modules: &[u8]) -> bool
     ensures { MatchBool result (All (λ b. b ≤ 2) modules.now) (Any (λ b. 2 < b) modules.now) }
 {
@@ -141,18 +142,20 @@ fn mended_of(len: usize, mended: &Mended) -> QrprovedMended
     }
 }
 
-/// Reads the damaged symbol that `modules` begins with, in the order in which `qrproved_encode` writes it, corrects its
-/// errors, and writes the bytes that it contains to `bytes`, and its ECI headers to `ecis`, as many as it has room for. A module is 0 if it is light, 1 if it is dark, and 2 if it
-/// is not known: its codeword then takes half as much error correction as a misread one.
+/// Reads the damaged symbol that `modules` begins with, and corrects its errors (ISO/IEC 18004:2015, 7.5.1, 7.9.1 and
+/// 12). The symbol has `side` rows, and its modules stand in the order in which `qrproved_encode` writes them. A module
+/// is 0 if it is light, 1 if it is dark, and 2 if it is not known. A codeword with a module that is not known takes
+/// half as much error correction as a misread one. The bytes that the symbol contains are written to `bytes`, and as
+/// many of its ECI headers as there is room for to `ecis`.
 ///
 /// On status 0 the square is a damaged form of a symbol, `bytes` and `ecis` begin with the bytes and the ECI headers of
 /// this symbol, and `mended` describes the symbol and its damage.
 ///
 /// # Errors
 ///
-/// The first that applies of `SIDE` (no version has this side), `ROOM` (`modules` is too short), `SETTINGS` (a module
-/// is more than 2), `FORMAT` (the format information is damaged too much), `CHECK` (a block is damaged too much),
-/// `SEGMENTS` (the data codewords cannot be parsed) and `ROOM` (`bytes` is too short); or `MEMORY` if memory is
+/// The first of these that applies: `SIDE` (no version has this side), `ROOM` (`modules` is too short), `SETTINGS` (a
+/// module is more than 2), `FORMAT` (the format information is damaged too much), `CHECK` (a block is damaged too
+/// much), `SEGMENTS` (the data codewords cannot be parsed) and `ROOM` (`bytes` is too short). `MEMORY` if memory is
 /// refused. The first three are found before memory is requested.
 #[unsafe(no_mangle)]
 pub extern "C" fn qrproved_mend(
@@ -190,6 +193,7 @@ pub extern "C" fn qrproved_mend(
     if !are_modules(&modules[..area]) {
         return SETTINGS;
     }
+    // Laws, which are called for the prover.
     mended_readings_are_one();
     mended_readings_are_not_refused();
     mending_refusals_are_one();
@@ -236,6 +240,7 @@ mod tests {
         }
     }
 
+    // Inverts the modules in these rows and columns. `min` is for the prover.
     fn inverted(drawn: [u8; 441], places: &[(u8, u8)]) -> Result<[u8; 441], Fail> {
         let mut modules = drawn;
         for (row, col) in places {
@@ -365,7 +370,7 @@ mod tests {
             &mut series,
         );
         assert_eq!(rt; status, DONE);
-        // This module is a bit of the second symbol's first codeword.
+        // This module is a bit of the second symbol's first codeword. `min` is for the prover.
         modules[881] = 1 - modules[881].min(1);
         let mut bytes = [7u8; 3];
         let mut mended = nothing();

@@ -15,7 +15,8 @@ pub(crate) fn area(side: u8) -> usize
     usize::from(side) * usize::from(side)
 }
 
-// As `qr_matrix::write_square`, but out of line, so that what it keeps on the stack does not lie under an encoding.
+// Calls `qr_matrix::write_square`. It is not inlined, because the stack that it needs would then be taken by its caller
+// already while it encodes.
 #[inline(never)]
 pub(crate) fn write_square(matrix: &Matrix, start: usize, bytes: &mut [u8])
     requires { start + matrix.now.side * matrix.now.side ≤ length bytes.old }

@@ -38,16 +38,17 @@ fn number_of(drawing: Drawing) -> u8
     }
 }
 
-/// Parses the drawing `text`, and writes the modules of its squares to `modules`, one square after the other: 1 for a
-/// dark module, and 0 for a light one. It accepts exactly the drawings that `qrproved_draw` and the command make of 1 to
-/// 16 squares of one side that begin as every symbol does, with a margin of 0 to 255 modules; whether a square is a
-/// symbol, `qrproved_read` says.
+/// Parses the drawing `text`, and writes the modules of its squares to `modules`, one square after the other and row by
+/// row: 1 for a dark module, and 0 for a light one. It accepts exactly the drawings, as `qrproved_draw` and the command
+/// make them, of 1 to 16 squares of one side that begin as every symbol does, with a margin of 0 to 255 modules.
+/// Whether such a square is a symbol, `qrproved_read` finds out.
 ///
 /// On status 0 the text is the drawing of these squares, of this type and with this margin, and of nothing else.
 ///
 /// # Errors
 ///
-/// `NO_DRAWING` (`text` is no such drawing) or `ROOM` (`modules` is too short); or `MEMORY` if memory is refused.
+/// The first of these that applies: `NO_DRAWING` (`text` is no such drawing) and `ROOM` (`modules` is too short).
+/// `MEMORY` if memory is refused.
 #[unsafe(no_mangle)]
 pub extern "C" fn qrproved_parse_drawing(
     alloc: Global,
@@ -61,6 +62,7 @@ pub extern "C" fn qrproved_parse_drawing(
     ensures room { (result ≡ ROOM) ↔ ((result ≢ MEMORY) × HasMoreModules text.now modules.old) }
     ensures status { (result ≡ DONE) ⊎ (result ≡ MEMORY) ⊎ (result ≡ ROOM) ⊎ (result ≡ NO_DRAWING) }
 {
+    // A law, which is called for the prover.
     drawings_are_one();
     match parse_drawing(alloc, text) {
         Err(fault) => drawing_status(fault),
@@ -126,7 +128,7 @@ mod tests {
         Ok(())
     }
 
-    // Two squares are drawn in each type and parsed.
+    // Two squares are drawn in each type of drawing, and the drawing is parsed.
     #[test]
     fn two_squares_drawn(rt: HostRuntime) -> Result<(), Fail> {
         let mut squares = [0u8; 128];

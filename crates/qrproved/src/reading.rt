@@ -77,20 +77,21 @@ pub(crate) fn content_of(len: usize, version: Version, parsed: &Parsed) -> Qrpro
     }
 }
 
-/// Reads the symbol that `modules` begins with, in the order in which `qrproved_encode` writes it, and writes the bytes
-/// that it contains to `bytes`, and its ECI headers to `ecis`, as many as it has room for. Each byte of `modules` but 0
-/// is a dark module. No error is corrected.
+/// Reads the symbol that `modules` begins with, and corrects no error (ISO/IEC 18004:2015, 12). The symbol has `side`
+/// rows, and its modules stand in the order in which `qrproved_encode` writes them. A module is light if it is 0, and
+/// otherwise dark. The bytes that the symbol contains are written to `bytes`, and as many of its ECI headers as there
+/// is room for to `ecis`.
 ///
 /// On status 0 the bytes and ECI headers, and what `content` says, are those of a symbol with the same codewords and
-/// the same first copy of the format information. Nothing is promised of the function patterns, the dark module, the
-/// second copy, the version information and the remainder bits.
+/// the same first copy of the format information. Nothing is promised of the other modules: the function patterns, the
+/// dark module, the second copy, the version information and the remainder bits.
 ///
 /// # Errors
 ///
-/// The first that applies of `SIDE` (no version has this side), `ROOM` (`modules` is too short), `FORMAT` (the format
-/// information is wrong), `CHECK` (a block does not match its error correction codewords), `SEGMENTS` (the data
-/// codewords cannot be parsed) and `ROOM` (`bytes` is too short); or `MEMORY` if memory is refused. `SIDE` and the
-/// first `ROOM` are found before memory is requested.
+/// The first of these that applies: `SIDE` (no version has this side), `ROOM` (`modules` is too short), `FORMAT` (the
+/// format information is wrong), `CHECK` (a block does not match its error correction codewords), `SEGMENTS` (the data
+/// codewords cannot be parsed) and `ROOM` (`bytes` is too short). `MEMORY` if memory is refused. `SIDE` and the first
+/// `ROOM` are found before memory is requested.
 #[unsafe(no_mangle)]
 pub extern "C" fn qrproved_read(
     alloc: Global,
@@ -125,6 +126,7 @@ pub extern "C" fn qrproved_read(
     let Ok(matrix) = matrix_of_bytes(alloc, modules, side) else {
         return MEMORY;
     };
+    // Laws, which are called for the prover.
     contents_are_one();
     refusals_are_one();
     match read_symbol(alloc, &matrix) {
@@ -218,6 +220,7 @@ mod tests {
     #[test]
     fn refusals(rt: HostRuntime) -> Result<(), Fail> {
         let drawn = eight_digits(&rt)?;
+        // `min` is for the prover.
         let mut format = drawn;
         format[8] = 1 - format[8].min(1);
         let mut codeword = drawn;

@@ -25,9 +25,10 @@ pub struct QrprovedSeries {
 }
 
 /// Encodes `input` as a series of symbols of the version `version`, or as one plain symbol if it fits one, and writes
-/// the modules: the one in a row and a column of symbol `number`, counted from 0, is at index `(number * side + row) *
-/// side + column` of `modules`. `level`, `rule` and `interpretation` are those of `qrproved_encode`; each symbol says the
-/// interpretation.
+/// the modules to `modules`, one symbol after the other (ISO/IEC 18004:2015, 8). The module in a row and a column of
+/// symbol `number`, counted from 0, is the byte with the index `(number * side + row) * side + column`, which is 1 if
+/// it is dark and 0 if it is light. `level`, `rule` and `interpretation` mean what they mean in `qrproved_encode`, and
+/// each symbol has the interpretation.
 ///
 /// On status 0 the buffer begins with exactly the modules of the symbols, which are read and joined as the input, each
 /// with its interpretation, and `series` has their number and side. Without kanji mode, no series of this version has
@@ -35,8 +36,8 @@ pub struct QrprovedSeries {
 ///
 /// # Errors
 ///
-/// The first that applies of `SETTINGS`, `EMPTY` and `FIELDS` as in `qrproved_encode`, `TOO_MANY` (the input takes more
-/// than 16 symbols) and `ROOM` (`modules` is too short); or `MEMORY` if memory is refused. `SETTINGS`, `EMPTY`,
+/// The first of these that applies: `SETTINGS`, `EMPTY` and `FIELDS` as in `qrproved_encode`, `TOO_MANY` (the input
+/// takes more than 16 symbols) and `ROOM` (`modules` is too short). `MEMORY` if memory is refused. `SETTINGS`, `EMPTY`,
 /// `FIELDS`, and `TOO_MANY` for more than 113,425 bytes, are found before memory is requested.
 #[unsafe(no_mangle)]
 pub extern "C" fn qrproved_encode_series(
@@ -77,6 +78,7 @@ pub extern "C" fn qrproved_encode_series(
         return FIELDS;
     }
     if input.len() > INPUT_MAX {
+        // A law, which is called for the prover.
         long_inputs_have_none(settings.version);
         return TOO_MANY;
     }
@@ -90,6 +92,7 @@ pub extern "C" fn qrproved_encode_series(
     ) {
         Err(fault) => encode_status(fault),
         Ok(symbols) => {
+            // Laws, which are called for the prover.
             series_are_one();
             series_have_one_side(settings.version);
             let side = settings.version.side();

@@ -1,4 +1,5 @@
-//! Numbers of the caller as a version, a level, a rule and an interpretation. A C program can pass any number.
+//! Turns the numbers of a caller into a version, a level, a rule and an interpretation. A C program can pass any
+//! number, so each is checked.
 
 ghost use Rattle.std.specs.Prelude.{◌≡◌, ◌<◌, ◌≤◌, ◌↔◌, IsTrue, SomeIff};
 ghost use Rattle.qrproved.specs.Settings.{AreSettings, MayAllowKanji, interpretation_of, level_of, rule_of};
@@ -16,11 +17,12 @@ pub(crate) struct Settings {
     pub interpretation: Interpretation,
 }
 
-// The numbers of interpretations after those of ECIs.
+// The numbers of no interpretation and of GS1 data. They follow those of the ECIs.
 const DEFAULT: u32 = 1_000_000;
 
 const GS1: u32 = 1_000_001;
 
+// The ECI of Shift JIS.
 const SHIFT_JIS: u32 = 20;
 
 pub(crate) fn between(number: u32, least: u8, most: u8) -> Option<u8>
@@ -91,7 +93,7 @@ fn level_of(number: u32) -> Option<Level>
     }
 }
 
-/// The inverse of `level_of`.
+/// Returns the number that `level_of` turns into this level.
 pub(crate) fn number_of(level: Level) -> u8
     ensures in_range { result < 4 }
     ensures same { level_of result ≡ level }

@@ -18,9 +18,11 @@ pub(crate) const TOO_LONG: u8 = 2;
 /// The input takes more than 16 symbols of the version.
 pub(crate) const TOO_MANY: u8 = 3;
 
+/// Memory was refused.
 pub(crate) const MEMORY: u8 = 4;
 
-/// A number is out of range, or `qrproved_mend` read a module of more than 2.
+/// A number is out of range, kanji mode is allowed with another ECI than that of Shift JIS, or in `qrproved_mend` a
+/// module is more than 2.
 pub(crate) const SETTINGS: u8 = 5;
 
 /// A buffer is too short.
@@ -56,7 +58,7 @@ pub(crate) fn encode_status(fault: EncodeFault) -> u8
     }
 }
 
-// `Series` is a fault of reading several symbols, which no call does.
+// The fault `Series` never occurs here: it is one of reading several symbols, which no call does.
 pub(crate) fn read_status(fault: ReadFault) -> u8
     ensures { result ≡ read_status fault }
 {

@@ -1,4 +1,4 @@
-//! The version of the library.
+//! The version of the library, for programs that ask for it while they run.
 
 ghost use Rattle.std.specs.Prelude.{◌≡◌};
 

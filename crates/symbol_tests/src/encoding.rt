@@ -60,7 +60,7 @@ fn versions(rt: HostRuntime) -> Result<(), Fail> {
     Ok(())
 }
 
-// Each input with the lowest level, and the version and the level that it gets (Table 7).
+// Each row has an input, the lowest level that is allowed, and the version and the level that it gets (Table 7).
 #[test]
 fn highest_levels(rt: HostRuntime) -> Result<(), Fail> {
     let digits = [b'7'; 7089];
@@ -169,7 +169,7 @@ fn masks_of_least_penalty(rt: HostRuntime) -> Result<(), Fail> {
     Ok(())
 }
 
-// The rows of the symbol of `01234567` at 1-M with mask 0; a dark module is 1.
+// The rows of the symbol of `01234567` at 1-M with mask 0, from the top down. A dark module is 1.
 static ROWS: [u32; 21] = [
     0b111111100011101111111,
     0b100000101110001000001,
@@ -249,8 +249,8 @@ fn four_blocks_of_two_lengths(rt: HostRuntime) -> Result<(), Fail> {
     Ok(())
 }
 
-// `build` and `build_masked` make the same symbols. These versions have no, three, four or seven remainder bits, and
-// from 7 on version information.
+// `build` and `build_masked` make the same symbols. Among these versions are some with no, three, four and seven
+// remainder bits, and those from 7 on have version information.
 #[test]
 fn plain_and_fast_symbols(rt: HostRuntime) -> Result<(), Fail> {
     for number in [1, 2, 7, 14, 21, 40] {

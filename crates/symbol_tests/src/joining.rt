@@ -9,7 +9,7 @@ use qr_matrix::Matrix;
 use qr_symbol::{ReadFault, Symbol, read_series};
 use std::test::Fail;
 
-// A symbol of the series of `ABCDEFGH` at 1-H: at position 0 `ABCDE`, at position 1 `FGH`.
+// Returns a symbol of the series of `ABCDEFGH` at 1-H. At position 0 it contains `ABCDE`, and at position 1 `FGH`.
 fn part(rt: &HostRuntime, position: u8) -> Result<Symbol, Fail>
     requires { position < 2 }
 {
@@ -26,7 +26,7 @@ fn part(rt: &HostRuntime, position: u8) -> Result<Symbol, Fail>
     byte_symbol(rt, bytes, Some(header), Level::H)
 }
 
-// A symbol with light modules alone.
+// Returns a symbol that has light modules alone.
 fn light(rt: &HostRuntime, side: u8) -> Result<Symbol, Fail>
     requires least { 0 < side }
     requires most { side < 178 }

@@ -5,7 +5,7 @@ use qr_layout::{Level, Version};
 use qr_symbol::EncodeFault;
 use std::test::Fail;
 
-// 21 lines of modules, of which the first begins with a finder pattern, and then the line `A`.
+// The label has 21 lines of modules, of which the first begins with a finder pattern, and then the line `A`.
 #[test]
 fn a_letter_at_1_l(rt: HostRuntime) -> Result<(), Fail> {
     let version = Version::new(1).ok_or("version 1")?;

@@ -1,12 +1,10 @@
-//! Tests of damaged blocks.
-
 use crate::samples::EIGHT_DIGITS;
 use qr_field::Divisor;
 use qr_mending::{mend, mend_with_erasures};
 use std::process::Abort;
 
-// How many codewords are corrected, at most `t`, in the block of `01234567` with this damage; `None` if it cannot be
-// mended.
+// Mends the block of `01234567` at 1-M with this damage, of which at most `t` codewords may be corrected. Returns how
+// many were, or `None` if the block cannot be mended.
 fn mended_count(rt: &impl Abort, t: usize, damage: &[(usize, u8)]) -> Option<usize> {
     let mut damaged = EIGHT_DIGITS;
     for (place, codeword) in damage {
@@ -46,8 +44,9 @@ fn block_of_eight_digits_damaged(rt: HostRuntime) {
     }
 }
 
-// As `mended_count`, with the codewords in `unread` marked as erased, which are not counted. `spare` is the most that
-// erased ones and twice the misread ones may add up to.
+// Mends the same block with the codewords in `unread` marked as erased and those in `misread` changed. Returns how many
+// codewords were corrected that were not erased, or `None` if the block cannot be mended. It can be mended if the
+// number of erased codewords and twice the number of misread ones add up to at most `spare`.
 fn mended_with_erasures(
     rt: &impl Abort,
     spare: usize,
@@ -78,8 +77,8 @@ fn mended_with_erasures(
     None
 }
 
-// The results are those of a search that tried each set of positions, and solved the linear equations for its
-// codewords.
+// The results are those of another program, which tried each set of positions as those of the errors, and solved the
+// linear equations for the codewords there.
 #[test]
 fn block_of_eight_digits_with_erasures(rt: HostRuntime) {
     let unread = [

@@ -96,7 +96,7 @@ static CODEWORDS: [(u8, u8); 9] = [
     (12, 16),
 ];
 
-// As `mend_inverted`, with the first `unread` of the modules marked as not read.
+// Does the same as `mend_inverted`, but the first `unread` of the modules are marked as not known.
 fn mend_inverted_without(
     rt: &HostRuntime,
     modules: &[(u8, u8)],
@@ -173,8 +173,8 @@ fn eight_digits_with_unread_modules(rt: HostRuntime) -> Result<(), Fail> {
     Ok(())
 }
 
-// The two symbols of `ABCDEFGH` at 1-H, `ABCDE` and `FGH`, each with an inverted module. In a symbol 1-H eight misread
-// codewords can be corrected.
+// Returns the two symbols of `ABCDEFGH` at 1-H, which contain `ABCDE` and `FGH`, each with an inverted module. At 1-H
+// eight misread codewords can be corrected.
 fn damaged_parts(rt: &HostRuntime) -> Result<Vec<Matrix>, Fail> {
     let symbols = encode_series(
         rt.alloc(),

@@ -5,7 +5,7 @@ use qr_layout::{Level, Version};
 use qr_symbol::{EncodeFault, Symbol, encode_series, read_series, read_symbol};
 use std::test::Fail;
 
-// Whether `symbol` contains this header and these bytes.
+// Says whether `symbol` contains this header and these bytes.
 fn says(
     rt: &HostRuntime,
     symbol: &Symbol,
@@ -106,7 +106,7 @@ fn numbers_of_symbols_at_1_h(rt: HostRuntime) -> Result<(), Fail> {
     Ok(())
 }
 
-// The longest inputs of 16 symbols at 1-H, all of them full.
+// The longest inputs that 16 symbols at 1-H can hold. All symbols are full.
 #[test]
 fn sixteen_full_parts_at_1_h(rt: HostRuntime) -> Result<(), Fail> {
     let (letters, digits) = ([b'a'; 80], [b'7'; 176]);

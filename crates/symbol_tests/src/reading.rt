@@ -7,7 +7,7 @@ use qr_matrix::Matrix;
 use qr_symbol::{ReadFault, build_masked, encode, read_symbol};
 use std::test::Fail;
 
-// Whether the symbol is plain, and read as one segment of this mode with these bytes.
+// Says whether the symbol has no structured append header, and is read as one segment of this mode with these bytes.
 fn says(rt: &HostRuntime, matrix: &Matrix, mode: Mode, bytes: &[u8]) -> Result<bool, Fail> {
     let parsed = read_symbol(rt.alloc(), matrix)?;
     let segment = Segment {
@@ -66,8 +66,8 @@ fn eight_digits_with_a_module_inverted(rt: HostRuntime) -> Result<(), Fail> {
     Ok(())
 }
 
-// Each module of a symbol of version 1 inverted by itself: 15 are the first copy of the format information, 208 belong
-// to codewords, and all others are ignored.
+// Each module of a symbol of version 1 is inverted by itself. 15 modules are the first copy of the format information,
+// 208 belong to codewords, and all others are ignored.
 #[test]
 fn each_module_inverted(rt: HostRuntime) -> Result<(), Fail> {
     let version = Version::FIRST;

@@ -15,7 +15,7 @@ pub static EIGHT_DIGITS: [u8; 26] = [
     0xA5, 0x24, 0xD4, 0xC1, 0xED, 0x36, 0xC7, 0x87, 0x2C, 0x55,
 ];
 
-/// Returns the data codewords of an optional header and a segment in byte mode.
+/// Returns the data codewords of a header, if there is one, and a segment in byte mode.
 pub fn byte_codewords(
     rt: &HostRuntime,
     bytes: &[u8],
@@ -44,7 +44,7 @@ pub fn byte_codewords(
     )?)
 }
 
-/// As `byte_codewords`, but returns the symbol, with the mask of least penalty.
+/// Returns the symbol with the data codewords that `byte_codewords` returns, and with the mask of least penalty.
 pub fn byte_symbol(
     rt: &HostRuntime,
     bytes: &[u8],

@@ -1,4 +1,4 @@
-//! Jobs of the calls that read and mend symbols.
+//! The jobs that read and mend symbols.
 
 use crate::digest::Digest;
 use crate::random::Random;
@@ -13,7 +13,7 @@ use std::alloc::{AllocError, Global};
 
 pub static LEVELS: [Level; 4] = [Level::L, Level::M, Level::Q, Level::H];
 
-// `None` if the text fits no symbol.
+// Returns the symbol of the text, or `None` if it fits none.
 pub fn symbol_of(
     alloc: Global,
     text: &Text,
@@ -56,7 +56,7 @@ pub fn add_read(outcome: &Result<Parsed, ReadFault>, digest: &mut Digest) {
     }
 }
 
-/// Labels and large symbols that are made and read back.
+/// Makes labels and large symbols, and reads them back.
 pub fn proofread(
     alloc: Global,
     count: u64,
@@ -113,7 +113,7 @@ fn is_dark(matrix: &Matrix, row: u8, col: u8) -> bool {
     row < matrix.side() && col < matrix.side() && matrix.dark(row, col)
 }
 
-// The square with rows and columns exchanged.
+// Returns the square with rows and columns exchanged.
 fn exchanged(alloc: Global, matrix: &Matrix) -> Result<Matrix, AllocError> {
     let mut other = Matrix::new(alloc, matrix.side())?;
     if other.side() == matrix.side() {
@@ -127,7 +127,8 @@ fn invert(matrix: &mut Matrix, row: u8, col: u8) {
     set(matrix, row, col, !dark);
 }
 
-// The same symbol with a wrong codeword in each block, with as many as can be mended, and with one more in a block.
+// One symbol in three states: with one wrong codeword in each block, with as many in each block as can be mended, and
+// with one more than that in one block.
 #[derive(Drop)]
 struct Damaged {
     one: Matrix,
@@ -135,8 +136,9 @@ struct Damaged {
     beyond: Matrix,
 }
 
-// Codeword `i` of those that are interleaved belongs to block `i` modulo the number of blocks, at least among the first
-// of each block.
+// Damages the first codewords in the symbol. Interleaving takes one codeword of each block in turn, at least as long as
+// no block has ended. So the first codewords, as many as there are blocks, are one of each block, and the next as many
+// are again one of each.
 fn damage(alloc: Global, symbol: &Symbol, random: &mut Random) -> Result<Damaged, AllocError> {
     let sizes = symbol.version.blocks(symbol.level);
     let blocks = usize::from(sizes.short) + usize::from(sizes.long);
@@ -171,7 +173,8 @@ fn damage(alloc: Global, symbol: &Symbol, random: &mut Random) -> Result<Damaged
     Ok(squares)
 }
 
-// A square in which a smudge covers a seventh of the side.
+// Returns the modules that a smudge has made unknown, as the dark ones of a square. The smudge is as wide and as high
+// as a seventh of the side.
 fn smudge(alloc: Global, symbol: &Symbol, random: &mut Random) -> Result<Matrix, AllocError> {
     let side = symbol.version.side();
     let mut unknown = Matrix::new(alloc, side)?;
@@ -190,8 +193,9 @@ fn smudge(alloc: Global, symbol: &Symbol, random: &mut Random) -> Result<Matrix,
     Ok(unknown)
 }
 
-/// Symbols of versions 2 to 13, and every sixteenth of 40-H, mended: sound, with a wrong codeword in each block, with as
-/// many as can be mended, smudged, and with one more than can be mended.
+/// Mends symbols of versions 2 to 13, and every sixteenth time one of version 40 at level H. Each is mended in five
+/// states: sound, with a wrong codeword in each block, with as many as can be mended, smudged, and with one more than
+/// can be mended.
 pub fn mend(alloc: Global, count: u64, seed: u64, digest: &mut Digest) -> Result<(), AllocError> {
     let mut random = Random::new(seed);
     for turn in 0..count {

@@ -1,7 +1,7 @@
 //! A number that depends on all results of a job.
 
-/// Changes with each byte and each number that is added, and with their order. Eight bytes are added at once, so that
-/// the digest takes little beside what it is of.
+/// It changes with each byte and each number that is added, and with their order. Eight bytes are added at once, so
+/// that the digest takes little of a job's time.
 #[derive(Clone, Copy, Drop)]
 pub struct Digest {
     state: u64,
@@ -18,7 +18,7 @@ impl Digest {
             .rotate_left(23);
     }
 
-    /// Adds the bytes and their number.
+    /// Adds the number of bytes, and then the bytes.
     pub fn add_bytes(&mut self, bytes: &[u8]) {
         self.add(bytes.len() as u64);
         let words = bytes.len() / 8;

@@ -1,4 +1,4 @@
-//! The job of those who call the library with a byte for each module: symbols that are encoded, drawn, read and mended.
+//! The job of those who call the library, in which a module is a byte: symbols are encoded, drawn, read and mended.
 
 ghost use Rattle.std.specs.Prelude.{◌≡◌, ◌*◌, ◌≤◌};
 
@@ -14,17 +14,17 @@ use qr_mending::{correctable, mend_symbol_with_unknown};
 use qr_symbol::{Level, Symbol, Version, read_symbol};
 use std::alloc::{AllocError, Global};
 
-// The modules of version 40.
+// The number of modules of version 40, the most that a symbol has.
 const AREA_MAX: usize = 177 * 177;
 
 const MARGIN: u8 = 4;
 
 const NOT_KNOWN: u8 = 2;
 
-// The most bytes in byte mode of version 13, by level.
+// The most bytes that version 13 holds in byte mode, at the levels L, M, Q and H.
 static BYTES: [usize; 4] = [425, 331, 241, 177];
 
-// A symbol of version 1 to 13.
+// Makes a symbol of a version from 1 to 13.
 fn small_symbol(
     alloc: Global,
     turn: u64,
@@ -47,7 +47,7 @@ fn small_symbol(
     symbol_of(alloc, &text, LEVELS[level], Version::FIRST)
 }
 
-// A symbol of version 20 to 40 that is full.
+// Makes a symbol of a version from 20 to 40 that is full.
 fn large_symbol(
     alloc: Global,
     turn: u64,
@@ -70,14 +70,15 @@ fn large_symbol(
 // What becomes of a codeword.
 #[derive(Clone, Copy)]
 struct Change {
-    // The bits that are inverted, none if it stays as it is.
+    // The bits that are inverted; 0 if the codeword stays as it is.
     bits: u8,
-    // 1 for the first codeword of its block that was drawn, 2 for the second.
+    // 1 for the codeword of its block that was drawn by lot first, 2 for the second, and so on; 0 if it was not drawn.
     rank: u8,
 }
 
-// The index in the final sequence of codeword `at` of a block: the blocks have their data codewords in turn, then their
-// error correction codewords.
+// Returns the index in the final sequence of codeword `at` of a block. The sequence has the first data codeword of each
+// block, then the second of each, and so on, and then the error correction codewords in the same way. Long blocks have
+// one data codeword more.
 fn index_of(version: Version, level: Level, block: usize, at: usize) -> usize {
     let sizes = version.blocks(level);
     let (short, short_len) = (usize::from(sizes.short), usize::from(sizes.short_len));
@@ -95,8 +96,8 @@ fn index_of(version: Version, level: Level, block: usize, at: usize) -> usize {
     data.saturating_add(before).saturating_add(block)
 }
 
-// What becomes of each codeword of the final sequence, if as many of each block as can be mended are wrong. They are
-// drawn among all codewords of their block.
+// Returns what becomes of each codeword of the final sequence, if in each block as many are wrong as can be mended.
+// These are drawn by lot among all codewords of the block.
 fn changes(
     alloc: Global,
     version: Version,
@@ -111,7 +112,7 @@ fn changes(
         let is_long = block >= usize::from(sizes.short);
         let len = usize::from(sizes.short_len) + usize::from(is_long) + usize::from(sizes.ec_len);
         let mut rank = 1u8;
-        // A codeword that was drawn before is drawn anew. So many tries are never needed.
+        // If a codeword was drawn before, another is drawn. As many as 1,000 tries are never needed.
         for _ in 0..1000 {
             if rank > bound {
                 break;
@@ -131,11 +132,12 @@ fn changes(
 #[derive(Drop)]
 struct Buffers {
     sound: Vec<u8>,
-    // A wrong codeword in each block, half as many as can be mended, and as many.
+    // The next three have wrong codewords in each block: one, half as many as can be mended, and as many as can be
+    // mended.
     one: Vec<u8>,
     half: Vec<u8>,
     bound: Vec<u8>,
-    // Modules that are not known: they count as dark, so that some are wrong too.
+    // Here some modules are not known. They are read as dark, so that some of them also have the wrong colour.
     smudged: Vec<u8>,
 }
 
@@ -151,20 +153,22 @@ impl Buffers {
     }
 }
 
-// Does nothing if the buffers have other lengths.
+// Copies a buffer to another. Does nothing if their lengths differ.
 fn copy(from: &[u8], to: &mut [u8]) {
     if from.len() == to.len() {
         to.copy_from_slice(from);
     }
 }
 
+// Inverts a module. `min` is for the prover.
 fn invert(modules: &mut [u8], at: usize) {
     if at < modules.len() {
         modules[at] = 1 - modules[at].min(1);
     }
 }
 
-// A smudge covers a seventh of the side, to the right of and below the first finder pattern.
+// Marks the modules under a smudge as not known. The smudge is as wide and as high as a seventh of the side, and lies
+// to the right of the first finder pattern and below it.
 fn smudge(modules: &mut [u8], side: u8, random: &mut Random) {
     let width = side / 7;
     let top = random.byte_between(9, side.saturating_sub(width));
@@ -278,9 +282,10 @@ fn add_mending(
     Ok(())
 }
 
-/// Symbols of versions 1 to 13, and every sixteenth of 20 to 40 and full: encoded, written as bytes, drawn as SVG and as
-/// UTF8, read, and mended with one wrong codeword in each block, half as many as can be mended, as many, and a smudge.
-/// Each call begins with bytes and ends with bytes.
+/// Takes symbols of versions 1 to 13, and every sixteenth time one of version 20 to 40 that is full. Each is encoded,
+/// written as bytes, drawn as SVG and as UTF8, and read. It is mended with one wrong codeword in each block, with half
+/// as many as can be mended, with as many as can be mended, and with a smudge. Each call begins with bytes and ends
+/// with bytes.
 pub fn library(
     alloc: Global,
     count: u64,

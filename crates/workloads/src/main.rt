@@ -1,6 +1,7 @@
-//! The jobs that users wait for, on inputs that are made from a seed. The arguments are the name of a job, how many
-//! inputs it takes, and the seed; with the name `all`, each job takes as many. A line is printed for each job, with a
-//! digest of all its results. `bench/run` times it.
+//! A program that does the jobs that users wait for, on inputs that it makes from a seed. Its arguments are the name of
+//! a job, how many inputs the job takes, and the seed. With the name `all` it does each job, with as many inputs. It
+//! prints a line for each job, with a digest of all results of the job. `bench/run` measures how long it takes. Where a
+//! sum can never be so large, `saturating_add` and `saturating_mul` are for the prover.
 #![tactic(auto)]
 
 mod checking;
@@ -25,7 +26,7 @@ static NAMES: [&str; 7] = [
     "library",
 ];
 
-// `None` if there is no job of this name.
+// Does a job. Returns `None` if there is none of this name.
 fn job(
     alloc: Global,
     name: &str,
@@ -45,7 +46,7 @@ fn job(
     }
 }
 
-// Whether the job was done and its line printed.
+// Does a job and prints its line. Says whether both succeeded.
 fn tell(rt: &HostRuntime, name: &str, count: u64, seed: u64) -> bool {
     let mut digest = Digest::NONE;
     match job(rt.alloc(), name, count, seed, &mut digest) {

@@ -1,5 +1,5 @@
-//! Jobs of the command: labels, large symbols, series, and inputs that are awkward. Each run is one of
-//! `qrencode_cli::run` with devices in memory.
+//! The jobs of the command: labels, large symbols, series, and inputs that are awkward. For each input
+//! `qrencode_cli::run` is called with devices in memory.
 
 use crate::digest::Digest;
 use crate::random::Random;
@@ -13,13 +13,13 @@ static TYPES: [&str; 4] = ["SVG", "UTF8", "ASCII", "ASCIIi"];
 
 static NUMBERS: [&str; 11] = ["0", "1", "2", "3", "4", "5", "6", "7", "8", "9", "10"];
 
-// The most bytes in byte mode of versions 19 and 40, by level.
+// The most bytes that versions 19 and 40 hold in byte mode, at the levels L, M, Q and H.
 static BYTES: [(usize, usize); 4] = [(792, 2953), (624, 2331), (442, 1663), (338, 1273)];
 
-// The same for digits.
+// The most digits that these versions hold.
 static DIGITS: [(usize, usize); 4] = [(1903, 7089), (1500, 5596), (1063, 3993), (813, 3057)];
 
-// One byte too many for version 9 or 26 in byte mode, by level.
+// One byte more than version 9 or version 26 holds in byte mode, at these levels.
 static TOO_MANY: [(usize, usize); 4] = [(231, 1368), (181, 1060), (131, 752), (99, 594)];
 
 const LABEL_ROOM: usize = 120_000;
@@ -28,7 +28,7 @@ const SYMBOL_ROOM: usize = 400_000;
 
 const SERIES_ROOM: usize = 4_000_000;
 
-// Runs the command once, and adds its status and all that it wrote.
+// Runs the command once, and adds its status and all that it wrote to the digest.
 fn add_run(
     alloc: Global,
     words: &[&str],
@@ -51,8 +51,8 @@ fn add_run(
     Ok(())
 }
 
-/// Labels of versions 1 to 13: links, serial numbers, trade item numbers, networks and contacts, at levels M and Q,
-/// most as SVG.
+/// Draws labels of versions 1 to 13, most of them as SVG. They contain links, serial numbers, trade item numbers,
+/// networks and contacts, at the levels M and Q.
 pub fn labels(alloc: Global, count: u64, seed: u64, digest: &mut Digest) -> Result<(), AllocError> {
     let mut random = Random::new(seed);
     for turn in 0..count {
@@ -71,7 +71,7 @@ pub fn labels(alloc: Global, count: u64, seed: u64, digest: &mut Digest) -> Resu
     Ok(())
 }
 
-// A text of one of five kinds that takes versions 18 to 40.
+// Makes a text of one of five kinds, which takes a version from 18 to 40.
 fn large_text(
     alloc: Global,
     random: &mut Random,
@@ -96,7 +96,7 @@ fn large_text(
     Ok(text)
 }
 
-/// Symbols of versions 18 to 40, at all levels, in all drawings, with margins from 0 to 10.
+/// Draws symbols of versions 18 to 40, at all levels, in all types of drawing, with margins from 0 to 10.
 pub fn large(alloc: Global, count: u64, seed: u64, digest: &mut Digest) -> Result<(), AllocError> {
     let mut random = Random::new(seed);
     for turn in 0..count {
@@ -110,7 +110,7 @@ pub fn large(alloc: Global, count: u64, seed: u64, digest: &mut Digest) -> Resul
     Ok(())
 }
 
-/// Files of 1 to 44 kB as series of version 40, shorter ones in versions 5 to 10, and Japanese texts.
+/// Draws series: files of 1 to 44 kB in version 40, shorter ones in versions 5 to 10, and Japanese texts.
 pub fn series(alloc: Global, count: u64, seed: u64, digest: &mut Digest) -> Result<(), AllocError> {
     let mut random = Random::new(seed);
     for turn in 0..count {
@@ -157,8 +157,9 @@ pub fn series(alloc: Global, count: u64, seed: u64, digest: &mut Digest) -> Resu
     Ok(())
 }
 
-/// Modes that change just where a segment pays, Japanese pairs at odd places, a byte too many for a range of versions,
-/// series of version 1, and inputs of more than 16 symbols.
+/// Takes awkward inputs: some whose parts are as long as a segment of their own just pays, kanji pairs that begin after
+/// an odd number of bytes, inputs with one byte more than a range of versions holds, series of version 1, and inputs
+/// that would take more than 16 symbols.
 pub fn awkward(
     alloc: Global,
     count: u64,

@@ -9,7 +9,7 @@ pub struct Random {
 }
 
 impl Random {
-    /// Different seeds give different numbers.
+    /// Returns a generator. Different seeds give different numbers.
     pub fn new(seed: u64) -> Random {
         Random { state: seed }
     }
@@ -29,7 +29,7 @@ impl Random {
         (self.number() % end as u64) as usize
     }
 
-    /// Returns a number from `least` on and below `most`, or `least` if there is none.
+    /// Returns a number from `least` on and below `most`, or `least` if there is no such number.
     pub fn between(&mut self, least: usize, most: usize) -> usize {
         if most <= least {
             return least;

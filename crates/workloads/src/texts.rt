@@ -1,4 +1,4 @@
-//! The inputs of the jobs, of the kinds that shops, ticket desks and offices print.
+//! The inputs of the jobs. They are of the kinds that shops, ticket desks and offices print.
 
 use crate::random::Random;
 use std::alloc::{AllocError, Global};
@@ -39,7 +39,7 @@ static FOREIGN: [&str; 16] = [
     "12,50 €",
 ];
 
-/// A text that is added to piece by piece.
+/// A text, to which pieces are appended. A function `put_..` appends what its comment says.
 #[derive(Drop)]
 pub struct Text {
     bytes: Vec<u8>,
@@ -60,7 +60,7 @@ impl Text {
         self.bytes.extend_from_slice(text.as_bytes())
     }
 
-    // Appends `count` bytes, each of `alphabet`.
+    // Appends `count` bytes, each of which is one of `alphabet`.
     fn put_of(
         &mut self,
         random: &mut Random,
@@ -91,7 +91,7 @@ impl Text {
         self.put_of(random, &DIGITS, count)
     }
 
-    /// A Global Trade Item Number of 14 digits, or with a batch and a date 34.
+    /// A Global Trade Item Number of 14 digits, or one with a batch and a date, of 34 bytes.
     pub fn put_gtin(&mut self, random: &mut Random) -> Result<(), AllocError> {
         self.put_of(random, &DIGITS, 14)?;
         if random.below(2) == 0 {
@@ -101,7 +101,7 @@ impl Text {
         self.put_of(random, &DIGITS, 18)
     }
 
-    /// How to join a wireless network, of 100 to 140 bytes.
+    /// What a telephone needs to join a wireless network, of 100 to 140 bytes.
     pub fn put_network(&mut self, random: &mut Random) -> Result<(), AllocError> {
         self.put("WIFI:T:WPA;S:")?;
         let count = random.between(20, 30);
@@ -112,7 +112,7 @@ impl Text {
         self.put(";;")
     }
 
-    /// A person to call, of 120 to 220 bytes.
+    /// A contact (vCard), of 120 to 220 bytes.
     pub fn put_contact(&mut self, random: &mut Random) -> Result<(), AllocError> {
         self.put("BEGIN:VCARD\nVERSION:3.0\nFN:")?;
         let count = random.between(10, 30);
@@ -141,7 +141,7 @@ impl Text {
         Ok(())
     }
 
-    /// At least `count` bytes of words, most with bytes above 7F.
+    /// At least `count` bytes of words, most of which have bytes above 7F (hexadecimal).
     pub fn put_foreign(&mut self, random: &mut Random, count: usize) -> Result<(), AllocError> {
         let end = self.bytes.len().saturating_add(count);
         for _ in 0..count {
@@ -154,7 +154,7 @@ impl Text {
         Ok(())
     }
 
-    /// JSON records, up to at least `count` bytes of text.
+    /// JSON records, until the text has at least `count` bytes.
     pub fn put_records(&mut self, random: &mut Random, count: usize) -> Result<(), AllocError> {
         for _ in 0..count {
             if self.bytes.len() >= count {
@@ -181,7 +181,7 @@ impl Text {
         self.put_of(random, &DIGITS, count)
     }
 
-    /// `count` pairs of Shift JIS, Kana and Kanji, of which some stand after an odd number of bytes.
+    /// `count` pairs of bytes, which are Kana and Kanji in Shift JIS. Some begin after an odd number of bytes.
     pub fn put_pairs(&mut self, random: &mut Random, count: usize) -> Result<(), AllocError> {
         for _ in 0..count {
             let kind = random.below(16);
@@ -198,8 +198,8 @@ impl Text {
         Ok(())
     }
 
-    /// Text up to at least `count` bytes, in runs of digits, capitals and letters, of lengths at which a segment of its own just
-    /// pays or just does not.
+    /// Runs of digits, of capitals and of small letters, until the text has at least `count` bytes. The runs are so
+    /// long that a segment of its own just pays for a run, or just does not.
     pub fn put_runs(&mut self, random: &mut Random, count: usize) -> Result<(), AllocError> {
         for _ in 0..count {
             if self.bytes.len() >= count {

@@ -26,11 +26,11 @@ cell_text Plain upper lower = ascii_module upper
 cell_text Inverse upper lower = ascii_module (not upper)
 cell_text HalfBlocks upper lower = half_blocks upper lower
 
--- As `cell_text`, for the module in row `row` and column `x` of the raster
+-- The cell whose module `upper` is in row `row` and column `x` of the raster
 abbrev pub cell_at : TextStyle → ℕ → Grid → ℕ → ℕ → List ℕ
 cell_at style margin g row x = cell_text style (is_dark_at margin g row x) (is_dark_at margin g (row + 1) x)
 
--- The cells of the bits 0 to `n - 1`
+-- The cells of the modules that the bits 0 to `n - 1` of `upper` and `lower` are
 abbrev pub bits_text : ℕ → TextStyle → ℕ → ℕ → List ℕ
 bits_text n style upper lower = texts_below n (λ k. cell_text style (has_bit upper k) (has_bit lower k))
 

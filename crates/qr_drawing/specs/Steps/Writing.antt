@@ -18,16 +18,17 @@ pub record Sends (old new : Writer) (text held : List ℕ) : Type 0 where
   pub whole : sent ++ held ≡ text
   pub many : old.counts.taken < 2 ^ 64 → new.counts.taken ≡ counted (old.counts.taken + length sent)
 
--- As `Sends`, with `held` in the pen, no write of more than 1,200 bytes, and no flush; if `IsWell` held before with
--- `tried` interrupted writes, it holds afterwards with `tries`
+-- The writer accepted a prefix of `text`, and `held`, which is the rest, is in the pen. No write offered more than
+-- 1,200 bytes, and there was no flush. If there was no fault before, and `tried` interrupted writes, there is none
+-- afterwards, and `tries` interrupted writes
 pub record Writes (old new : Writer) (tried tries : ℕ) (text held : List ℕ) : Type 0 where
   pub sends : Sends old new text held
   pub well : IsWell old.counts tried → IsWell new.counts tries
   pub offered : new.counts.offered ≤ max old.counts.offered 1200
   pub flushes : new.counts.flushes ≡ old.counts.flushes
 
--- A fault of the writer ended the writing after a prefix of `text`, with no write of more than 1,200 bytes, and no
--- flush; if `IsWell` held before, the counts now show one call with a fault, or 1,000 interrupted writes
+-- A fault of the writer ended the writing after a prefix of `text`. No write offered more than 1,200 bytes, and there
+-- was no flush. If there was no fault before, the counts now show one call with a fault, or 1,000 interrupted writes
 pub record Stops (old new : Writer) (tried : ℕ) (text : List ℕ) : Type 0 where
   pub prefix : AppendsBeginning old.taken new.taken text
   pub most : old.counts.taken < 2 ^ 64 → new.counts.taken ≤ counted (old.counts.taken + length text)

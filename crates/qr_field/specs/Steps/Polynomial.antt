@@ -1,4 +1,4 @@
--- For the computation of generator polynomials, whose roots are powers of 2.
+-- How generator polynomials are computed: one factor x - root after the other, where the roots are powers of 2.
 use Rattle.std.specs.Prelude.{ℕ, ◌*◌, List, [], ◌∷◌, length, bit_xor}
 use Rattle.qr_field.specs.Galois.{product}
 use Rattle.qr_field.specs.Polynomial.{power}

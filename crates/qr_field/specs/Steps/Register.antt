@@ -1,4 +1,4 @@
--- How a register holds coefficients.
+-- How a register holds coefficients, and what it holds during a division.
 use Rattle.std.specs.Prelude.{◌≡◌, ℕ, ◌+◌, ◌*◌, ◌/◌, ◌%◌, ◌^◌, ◌<◌, List, [], ◌∷◌, drop, length, slice_index_or}
 use Prim.Native.Nat.{zero, suc}
 use Rattle.qr_field.specs.declared.register.Register.{Register}
@@ -9,7 +9,7 @@ abbrev pub packed : List ℕ → ℕ
 packed [] = 0
 packed (b ∷ bs) = packed bs * 2 ^ 8 + b
 
--- The first n coefficients in v
+-- The first n of the coefficients that are packed in v
 unfoldable pub unpacked : ℕ → ℕ → List ℕ
 unpacked zero v = []
 unpacked (suc n) v = v % 2 ^ 8 ∷ unpacked n (v / 2 ^ 8)
@@ -30,7 +30,7 @@ pub record HasMultiples (g : List ℕ) (shift bound : ℕ) (rows : List Register
   pub many : length rows ≡ 16
   pub each : (f : ℕ) → f < bound → value_of (slice_index_or rows f zero_register) ≡ packed (scaled (f * 2 ^ shift) g)
 
--- The n error correction codewords of d are packed in v
+-- The number v is the n error correction codewords of d, packed
 pub record IsHeld (d : List ℕ) (n v : ℕ) : Type 0 where
   pub items : List ℕ
   pub correction : IsCorrection d n items

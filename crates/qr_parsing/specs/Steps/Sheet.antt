@@ -27,7 +27,7 @@ is_dark_byte Svg y byte = byte == 1
 abbrev pub is_sign : ℕ × ℕ → ℕ → Bool
 is_sign signs byte = byte == signs.0 || byte == signs.1
 
--- The sheet shows a dark module there
+-- The sheet shows a dark module in row `y` and column `x` of raster `k`
 unfoldable pub is_dark_on : Drawing → ℕ → List ℕ → ℕ → ℕ → ℕ → Bool
 is_dark_on kind width bytes k y x = is_dark_byte kind y (slice_index_or bytes (place_of kind width k y x) 0)
 
@@ -56,7 +56,8 @@ width_in AsciiInverse text = first_line text / 2
 width_in Utf8 text = first_line (cells_in text)
 width_in Svg text = slice_index_or (numbers_in text) 9 0
 
--- The bytes of the sheet; the height of a document is the number with the index 10, and the boxes begin at 16
+-- The bytes of the sheet. Among the numbers of a document, the one with the index 10 is the height, and those of the
+-- boxes begin at the index 16
 abbrev pub bytes_in : Drawing → List ℕ → List ℕ
 bytes_in Ascii text = text
 bytes_in AsciiInverse text = text
@@ -77,6 +78,6 @@ pub record IsSheetOf (kind : Drawing) (width count : ℕ) (bytes text : List ℕ
   pub count_is : count ≡ count_in kind text
   pub bytes_is : (k : Drawing) (margin : ℕ) (squares : List Grid) → IsDrawingOf k margin squares text → bytes ≡ bytes_in kind text
 
--- No drawing is as wide, or has as many rasters, as this text would
+-- If the text were a drawing, it would be narrower or wider than any drawing, or have more rasters
 abbrev pub HasNoSheet : List ℕ → Type 0
 HasNoSheet text = ((width_in (kind_in text) text < 8) ⊎ (687 < width_in (kind_in text) text)) ⊎ (16 < count_in (kind_in text) text)

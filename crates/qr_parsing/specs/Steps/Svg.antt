@@ -1,4 +1,4 @@
--- The numbers in an SVG document, and the canvas that they say.
+-- The numbers in an SVG document, and the canvas on which its boxes are painted.
 use Rattle.std.specs.Prelude.{◌≡◌, ℕ, ◌+◌, ◌*◌, ◌/◌, ◌%◌, ◌==◌, ◌-◌, ◌≤◌, Bool, true, false, ◌&&◌, ◌||◌, nat_le, nat_lt, min, if◌then◌else◌, List, [], ◌∷◌, ◌++◌, map}
 use Rattle.std.specs.List.{range_with_len}
 use Rattle.qr_drawing.specs.Svg.{box_path}
@@ -7,20 +7,20 @@ use Rattle.qr_drawing.specs.Svg.{box_path}
 abbrev pub is_digit : ℕ → Bool
 is_digit byte = nat_le 48 byte && nat_lt byte 58
 
--- The decimal numbers in a text, at most 99,999 each, if `number` is that of the digits just before it, and `inside` says
--- whether there are any
+-- The decimal numbers in a text, where one above 99,999 counts as 99,999. `inside` says whether there are digits just
+-- before the text, which belong to its first number, and `number` is the number that they are
 unfoldable pub numbers_after : ℕ → Bool → List ℕ → List ℕ
 numbers_after number inside [] = []
 numbers_after number inside (byte ∷ bytes) =
     if is_digit byte then numbers_after (min (number * 10 + (byte - 48)) 99999) true bytes
     else (if inside then number ∷ numbers_after 0 false bytes else numbers_after 0 false bytes)
 
--- The decimal numbers in a text that ends with no digit
+-- The decimal numbers in a text, without a number at its very end
 abbrev pub numbers_in : List ℕ → List ℕ
 numbers_in text = numbers_after 0 false text
 
--- The numbers are those of boxes, five for each (column, row, width, height and again width), and the place in row `r` and
--- column `c` is in one
+-- The numbers are those of boxes, five for each (column, row, width, height and again width), and the place in row `r`
+-- and column `c` is in one
 abbrev pub is_in_boxes : List ℕ → ℕ → ℕ → Bool
 is_in_boxes (x ∷ y ∷ modules ∷ high ∷ back ∷ numbers) r c = (y == r && (nat_le x c && nat_lt c (x + modules))) || is_in_boxes numbers r c
 is_in_boxes numbers r c = false
@@ -29,8 +29,8 @@ is_in_boxes numbers r c = false
 abbrev pub canvas_of : ℕ → ℕ → List ℕ → List ℕ
 canvas_of width height numbers = map (λ i. if is_in_boxes numbers (i / width) (i % width) then 1 else 0) (range_with_len 0 (width * height))
 
--- The decimal number with which a text begins, if `number` is that of the digits just before it, and what follows the byte
--- after it
+-- The decimal number with which a text begins, and what follows the byte after it. `number` is that of the digits just
+-- before the text, which belong to it
 unfoldable pub leading : ℕ → List ℕ → ℕ × List ℕ
 leading number [] = (number, [])
 leading number (byte ∷ bytes) = if is_digit byte then leading (number * 10 + (byte - 48)) bytes else (number, bytes)

@@ -1,4 +1,4 @@
--- The bytes of texts, in which each character has its own byte.
+-- The cells of a UTF8 text, as one byte for each of its characters, and what tells such a text from others.
 use Rattle.std.specs.Prelude.{ℕ, ◌==◌, not, ◌||◌, nat_lt, Bool, List, length, take}
 use Rattle.std.specs.List.{filter, position_or_len}
 
@@ -10,7 +10,7 @@ is_cell byte = not (byte == 0xE2 || byte == 0x96)
 abbrev pub has_block : List ℕ → Bool
 has_block text = nat_lt (position_or_len (λ byte. byte == 0xE2) (take 22 text)) (length (take 22 text))
 
--- The last bytes of the block characters, the spaces and the newlines
+-- The text with the last byte of each block character in its place; spaces and newlines are one byte already
 abbrev pub cells_in : List ℕ → List ℕ
 cells_in text = filter is_cell text
 

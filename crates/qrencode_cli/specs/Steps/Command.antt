@@ -26,13 +26,13 @@ pub record HasRead (old new : Reader) (input : List ℕ) : Type 0 where
   pub well : old.counts ≡ no_reads → is_read_fault new.counts ≡ false
   pub within : old.counts ≡ no_reads → IsReadWithin new.counts
 
--- `f` ended the reading: a fault of the reader, which its counts show, or lack of memory
+-- `f` ended the reading. It is a fault of the reader, which the reader's counts show, or it is lack of memory
 pub record StopsReading (old new : Reader) (f : Fault) : Type 0 where
   pub only : (f ≡ Read) ⊎ (f ≡ Memory)
   pub read_fault : old.counts ≡ no_reads → (f ≡ Read) ↔ IsTrue (is_read_fault new.counts)
   pub within : old.counts ≡ no_reads → IsReadWithin new.counts
 
--- What is written if no write fails
+-- The drawing that is written if no write fails
 abbrev pub drawing_of_job : DrawingJob → List ℕ
 drawing_of_job job = drawn job.kind job.margin (squares_of job.symbols.items)
 
@@ -55,7 +55,7 @@ IsInputFault s input (Encode TooMany) = IsTooMany s input
 IsInputFault s input Memory = Unit {0}
 IsInputFault s input _ = ⊥
 
--- The result is the drawing job of `input`, or a fault for which it has none
+-- The result is the drawing job of `input`, or the fault that is the reason why there is none
 abbrev pub IsJobFor : SettingsView → List ℕ → Result DrawingJob Fault → Type 0
 IsJobFor s input result = MatchResult result (λ p. IsDrawing s input (drawing_of_job p)) (IsInputFault s input)
 
@@ -79,7 +79,7 @@ pub record Prepares (words : List Text) (old new : Reader) (result : Result Draw
   pub read_fault : old.counts ≡ no_reads → IsErrOf result Read ↔ IsTrue (is_read_fault new.counts)
   pub within : old.counts ≡ no_reads → IsReadWithin new.counts
 
--- The drawing was written and flushed, or the writer was at fault
+-- The drawing was written and flushed, or the result is a fault of the writer
 pub record Draws (old new : Writer) (drawing : List ℕ) (result : Result (Unit {0}) Fault) : Type 0 where
   pub ok : OnOk result (DrawnWhole true old new drawing)
   pub err : IfErr result (λ f. (f ≡ Write) × DrawnInPart old new drawing)
@@ -87,8 +87,8 @@ pub record Draws (old new : Writer) (drawing : List ℕ) (result : Result (Unit 
   pub within : old.counts ≡ no_writes → IsWrittenWithin new.counts
   pub offered : new.counts.offered ≤ max old.counts.offered WRITE_MAX
 
--- A run can have this result, before the line of a fault is written: a drawing job was made, and writing its drawing had
--- the result; or making it failed, and nothing was written
+-- A run can have this result, before the line of a fault is written: a drawing job was made, and writing its drawing
+-- had the result; or making it failed, and nothing was written
 abbrev pub Attempts : List Text → Reader → Reader → Writer → Writer → Result (Unit {0}) Fault → Type 0
 Attempts words in0 in1 out0 out1 result =
     ((job : DrawingJob) × Prepares words in0 in1 (Ok job) × Draws out0 out1 (drawing_of_job job) result)

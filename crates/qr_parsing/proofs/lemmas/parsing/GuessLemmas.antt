@@ -70,6 +70,7 @@ pub record Guessed (kind : Drawing) (width count : ℕ) (bytes : List ℕ) (marg
   pub few : count ≤ 16
   pub squares_are : s ≡ map (λ k. square (width - 2 * margin) (λ r c. is_dark_on kind width bytes k (margin + r) (margin + c))) (range_with_len 0 count)
 
+-- if the text is a drawing at all, its type, margin and squares are those that the code guessed
 pub guessed : (kind : Drawing) (width count : ℕ) (bytes : List ℕ) (margin : ℕ) (text : List ℕ) → IsSheetOf kind width count bytes text
     → ((i : ℕ) → i < margin → is_dark_on kind width bytes 0 i i ≡ false) → (margin < width → is_dark_on kind width bytes 0 margin margin ≡ true)
     → (k : Drawing) (m : ℕ) (s : List Grid) → IsDrawingOf k m s text → Guessed kind width count bytes margin k m s

@@ -25,6 +25,7 @@ record HasStatus (f : ReadFault) (status : ℕ) : Type 0 where
   check : status ≡ 9 → f ≡ unread.Check
   segments : status ≡ 10 → (f ≡ unread.Series → ⊥) → (why : ParseFault) × (f ≡ unread.Segments why)
 
+-- the status that a call returns for a fault tells which fault it is
 has-status : (f : ReadFault) → HasStatus f (read_status f)
 has-status unread.Memory = search arith
 has-status unread.Side = search arith
@@ -48,6 +49,7 @@ same-status At f e one u w other known = elim (one f e u w) [
   | inr (inr h) ↦ ap read_status h
 ]
 
+-- if reading the square failed with the fault f, the status of f tells the faults that the square has
 pub refused : (At : ReadFault → Type 0) (f : ReadFault) → FaultsAreOne At → (At unread.Series → ⊥) → At f
     → TellsFaults At (read_status f)
 refused At f one never u =
