@@ -1,10 +1,13 @@
 -- What is written for runs of bytes in GS1 data.
-use Rattle.std.proofs.Common.{◌≡◌, ℕ, zero, ◌+◌, ◌-◌, ◌<◌, ◌≤◌, Bool, true, false, cond, ◌==◌, List, [], ◌∷◌, ◌++◌, length, take, drop, append_assoc, length-drop, refl, sym, ap, ◌∙◌, ⊎_elim, arith, suc}
-use Rattle.std.proofs.lemmas.{Bool.{cases_Bool, cond_both, eqb-true}, List.{drop-drop, length-take-le}}
+use Rattle.std.proofs.Common.{◌≡◌, ℕ, zero, ◌+◌, ◌-◌, ◌<◌, ◌≤◌, Bool, true, false, cond, ◌==◌, List, [], ◌∷◌, ◌++◌, length, map, take, drop, append_assoc, length-drop, refl, sym, ap, ◌∙◌, ⊎_elim, arith, suc}
+use Rattle.std.proofs.lemmas.{Bool.{and_parts, cases_Bool, cond_both, eqb-true}, List.{append-nil, drop-drop, drop_all, length-append, length-map, length-take-le, take-append-le, take_all}}
+use Rattle.std.proofs.Math.Seq.{drop-append_seam, take-append_seam}
+use borrow.Rule.Slice.PartMut.{post_of, put_mid}
+use Rattle.std.specs.List.{list_all}
 use Rattle.qr_bits.specs.declared.{modes.Mode.Mode, segment.Segment.Segment}
 use Rattle.qr_bits.specs.declared.interpretation.Interpretation.{TheVariants.{Gs1}}
 use Rattle.qr_bits.specs.Interpretation.{escaped, is_doubled, character_for, characters_gs1, doubled_gs1, percent}
-use Rattle.qr_bits.specs.{Segmentation.{rank, prepend_mode, runs_of}, Steps.Segmentation.{is_itself, one_segment, written}}
+use Rattle.qr_bits.specs.{Segmentation.{rank, prepend_mode, runs_of}, Steps.Segmentation.{is_itself, is_single, marked, one_segment, written}}
 use Rattle.qr_bits.proofs.lemmas.run_state.BestLemmas.{same_rank}
 
 -- a byte that alphanumeric mode writes as itself
@@ -16,6 +19,28 @@ escaped-itself x xs h = grind arith
 pub escaped-other : (x : ℕ) (xs : List ℕ) → is_itself x ≡ false → escaped (x ∷ xs) ≡ cond (x == percent) (percent ∷ percent ∷ []) (percent ∷ []) ++ escaped xs
 unfolding escaped
 escaped-other x xs h = grind (arith, eqb-true)
+
+-- without `%` each byte is written as one character
+pub escaped-marked : (xs : List ℕ) → list_all is_single xs ≡ true → escaped xs ≡ map marked xs
+unfolding escaped
+escaped-marked [] h = refl
+escaped-marked (x ∷ xs) h =
+    let parts = and_parts (is_single x) (list_all is_single xs) h in
+    let rest : escaped xs ≡ map marked xs = escaped-marked xs parts.1 in
+    grind (arith, eqb-true)
+
+-- where `xs` were appended to `old` and then marked in place, the marked bytes stand behind `old`
+pub marked-behind : (old xs whole last : List ℕ) (n len : ℕ) → whole ≡ old ++ xs → n ≡ length old → len ≡ length whole → last ≡ map marked (take (length whole - n) (drop n whole))
+    → take len (put_mid n (length whole - n) whole last ++ drop (length (put_mid n (length whole - n) whole last)) whole) ≡ old ++ map marked xs
+marked-behind old xs whole last n len is at all new =
+    let back : drop n whole ≡ xs = rw (is, at) (drop-append_seam old xs) in
+    let front : take n whole ≡ old = rw (is, at) (take-append_seam old xs) in
+    let grown : length whole ≡ length old + length xs = rw is (length-append old xs) in
+    let mid : last ≡ map marked xs = new ∙ rw back (ap (λ (r : List ℕ). map marked r) (take_all (length whole - n) xs (omega (arith, grown, at)))) in
+    let none : post_of n (length whole - n) whole ≡ [] = rw back (drop_all (length whole - n) xs (omega (arith, grown, at))) in
+    let put : put_mid n (length whole - n) whole last ≡ old ++ map marked xs = rw (front, mid, none) (ap (λ (r : List ℕ). old ++ r) (append-nil (map marked xs))) in
+    let long : length (old ++ map marked xs) ≡ length whole = omega (arith, grown, length-append old (map marked xs), length-map xs marked) in
+    rw (put, drop_all (length (old ++ map marked xs)) whole (omega (arith, long))) (take-append-le len (old ++ map marked xs) [] (omega (arith, all, long)) ∙ take_all len (old ++ map marked xs) (omega (arith, all, long)))
 
 -- the characters of segments of bytes, and these segments, of which the lengths count characters
 unfoldable pub characters_of : List ℕ → List Segment → List ℕ
