@@ -1,4 +1,4 @@
--- How far symbols of version `v` lie apart
+-- How far symbols of version `v` lie apart: in how many modules or codewords they differ.
 use Rattle.std.specs.Prelude.{◌≡◌, ◌⊎◌, ℕ, ◌*◌, ◌<◌, ◌≤◌, List}
 use Rattle.qr_field.specs.Distance.{differences}
 use Rattle.qr_layout.specs.declared.level.Level.{Level}
@@ -19,8 +19,8 @@ FormatsLieApart g h = (copy : FormatCopy) → 7 ≤ bit_differences 15 (copy_bit
 abbrev pub SomeBlockLiesApart : (v : ℕ) (l k : Level) → HeldMessage v l → HeldMessage v k → Type 0
 SomeBlockLiesApart v l k m n = (i : ℕ) × (i < blocks_in v l) × (2 * correctable_of v l < differences (held_block v l m i) (held_block v k n i))
 
--- Two symbols with different levels or data codewords have format information that lies apart, or else the same level
--- and mask, and some block that lies apart [own]
+-- Two symbols with different levels or data codewords have format information that lies apart, or else they have the
+-- same level and mask, and some block lies apart [own]
 abbrev pub SymbolsLieApart : ℕ → Type 0
 SymbolsLieApart v =
     (l k : Level) (m : HeldMessage v l) (n : HeldMessage v k) (cw ds : List ℕ) → m.mask < 8 → n.mask < 8

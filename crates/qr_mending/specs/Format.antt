@@ -30,7 +30,8 @@ unread_bits unknown copy = count_below 15 (copy_bit copy unknown)
 abbrev pub misread_bits : Grid → FormatCopy → Grid → (word : ℕ) → ℕ
 misread_bits unknown copy g word = count_below 15 (λ i. not (copy_bit copy unknown i) && not (is_same (copy_bit copy g i) (has_bit word i)))
 
--- The cost of a copy: a misread module counts twice, since nothing shows that it is misread [own]
+-- The cost of a copy: 1 for each module that was not read, and 2 for each misread one, since nothing shows that it is
+-- misread [own]
 abbrev pub copy_cost : Grid → FormatCopy → Grid → Level → ℕ → ℕ
 copy_cost unknown copy g l mask = unread_bits unknown copy + 2 * misread_bits unknown copy g (format_word_of l mask)
 
@@ -38,8 +39,8 @@ copy_cost unknown copy g l mask = unread_bits unknown copy + 2 * misread_bits un
 abbrev pub format_cost : Grid → Grid → Level → ℕ → ℕ
 format_cost unknown g l mask = copy_cost unknown First g l mask + copy_cost unknown Second g l mask
 
--- The level and the mask are near to a copy; at most one pair is, since two words of format information differ in at
--- least seven bits (ISO/IEC 18004:2015, 7.9.1, Annex C)
+-- The copy costs at most 6 with the level and the mask, which are near to it then; at most one pair is, since two words
+-- of format information differ in at least seven bits (ISO/IEC 18004:2015, 7.9.1, Annex C)
 pub record IsNearFormat (unknown : Grid) (copy : FormatCopy) (g : Grid) (l : Level) (mask : ℕ) : Type 0 where
   pub in_range : mask < 8
   pub near : copy_cost unknown copy g l mask ≤ 6

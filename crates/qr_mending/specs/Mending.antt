@@ -40,8 +40,8 @@ abbrev pub rank_of : FormatCopy → ℕ → ℕ
 rank_of First cost = 2 * cost
 rank_of Second cost = 2 * cost + 1
 
--- If this level and mask mend the square, they have to be used: they are near to a copy, and no near pair that mends it
--- has a lower rank (ISO/IEC 18004:2015, 7.9.1, 12)
+-- The level and the mask by which the square has to be read: they are near to a copy, and no pair that is near to a
+-- copy and mends the square has a lower rank (ISO/IEC 18004:2015, 7.9.1, 12)
 pub record HasFormat (unknown : Grid) (v : ℕ) (g : Grid) (l : Level) (mask : ℕ) : Type 0 where
   pub copy : FormatCopy
   pub near : IsNearFormat unknown copy g l mask

@@ -57,8 +57,8 @@ pub record AreInBlocks (b : Blocks) (interleaved d e : List ℕ) : Type 0 where
 abbrev pub AreIndices : ℕ → Level → List ℕ → List ℕ → Type 0
 AreIndices v l indices checks = AreInBlocks (blocks_of v l) (range_with_len 0 (total_codewords_of v)) indices checks
 
--- Block `i`, read as `read`, can be mended to that of `message`: `misread` of its codewords are misread, and mending
--- takes at most `spare` error correction codewords (ISO/IEC 18004:2015, 7.5.1)
+-- Block `i`, of which `read` was read, can be mended to that of `message`: `misread` of its codewords are misread, and
+-- mending takes at most `spare` error correction codewords (ISO/IEC 18004:2015, 7.5.1)
 pub record IsMendedBlock (b : Blocks) (spare : ℕ) (read : List (Option ℕ)) (message : List ℕ) (misread i : ℕ) : Type 0 where
   pub correction : List ℕ
   pub corrects : IsCorrection (part_of (data_sizes b) message i) b.ec_len correction

@@ -23,8 +23,8 @@ IsMendedSeries squares bytes = IsJoinedBy IsMendedContent squares bytes
 abbrev pub IsUnmendedSeries : List Grid → ReadFault → Type 0
 IsUnmendedSeries squares e = IsUnjoinedBy IsMendedContent (λ g. IsUnmended (light g.side) g) squares e
 
--- `damaged`, of which all modules were read, is a damaged form of `whole`, whose level, mask and data codewords can be
--- read without mending (ISO/IEC 18004:2015, 7.5.1, 7.9.1, 12)
+-- The square `damaged`, of which all modules were read, is a damaged form of `whole`, and the level, the mask and the
+-- data codewords of `whole` can be read as they stand (ISO/IEC 18004:2015, 7.5.1, 7.9.1, 12)
 pub record IsDamagedSquare (damaged whole : Grid) : Type 0 where
   pub version : ℕ
   pub level : Level

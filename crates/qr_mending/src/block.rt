@@ -1,5 +1,14 @@
-//! Mends damaged blocks: computes a candidate from the syndromes, and takes it only if it is a block and differs in few
-//! enough codewords. The syndromes are those of a remainder, which is short, and are computed as they are needed.
+//! Mends damaged blocks (ISO/IEC 18004:2015, 7.5.1 and Annex B). The codewords of a block are the coefficients of a
+//! polynomial, that of the highest power first. They are a block of the code exactly if the generator polynomial
+//! divides this polynomial. Its syndromes are its values at 2^0, 2^1 and so on, as many as there are error correction
+//! codewords. The remainder of the division by the generator polynomial is shorter, and has the same syndromes, so they
+//! are computed from it, and only as they are needed.
+//!
+//! A candidate is computed from the syndromes. It is taken only if it is a block, and differs from the codewords that
+//! were read in few enough of them.
+//!
+//! A block has at most 255 codewords, since there are 255 different powers of 2. At most 30 of these are error
+//! correction codewords (Table 9), so at most 15 misread ones can be corrected.
 
 ghost use Rattle.std.specs.Prelude.{◌≡◌, ℕ, ◌*◌, ◌≤◌, List, length, IfSome, IfNone};
 ghost use Rattle.std.specs.Bool.{Decides, OnTrue, OnFalse};
@@ -13,6 +22,7 @@ use crate::locator::Progress;
 use arrayvec::ArrayVec;
 use qr_field::Divisor;
 
+// The loop runs backward for the prover.
 fn count_differences(xs: &[u8], ys: &[u8]) -> usize
     requires { length xs.now ≡ length ys.now }
     ensures { result ≡ differences xs.now ys.now }
@@ -48,8 +58,7 @@ fn sum(xs: &[u8], ys: &[u8]) -> ArrayVec<u8, 30>
     sum
 }
 
-// The remainder of the codewords, divided by the generator polynomial: it has the same syndromes as they and fewer
-// coefficients. Returns `None` if they are a block.
+// The remainder of the codewords, divided by the generator polynomial. Returns `None` if they are a block.
 pub(crate) fn remainder(divisor: &Divisor, codewords: &[u8]) -> Option<ArrayVec<u8, 30>>
     requires { divisor.now ≤ length codewords.now }
     ensures block { IfNone result (IsBlock divisor.now codewords.now) }
@@ -73,8 +82,9 @@ fn is_mended(divisor: &Divisor, t: usize, damaged: &[u8], mended: &[u8]) -> bool
     count_differences(damaged, mended) <= t && is_block(divisor, mended)
 }
 
-// Mends codewords that are no block. Most damaged blocks have few wrong codewords, for which the first syndromes suffice:
-// the locator is tried early, and again once all syndromes were taken in.
+// Mends codewords that are no block. Most damaged blocks have few wrong codewords, and then the first syndromes
+// suffice. So a first candidate is computed as soon as the locator seems to be found, and a second one, if the first is
+// no solution, after all syndromes were taken in.
 fn mended_block(
     divisor: &Divisor,
     t: usize,
@@ -120,8 +130,9 @@ fn mended_block(
 }
 
 /// Mends a damaged block of at most 255 codewords: replaces `codewords` by the block that differs from them in at most
-/// `t`, and returns in how many. Returns `None` and changes nothing if there is no such block (ISO/IEC 18004:2015,
-/// 7.5.1 and Annex B). `divisor` determines the number of error correction codewords, which must be at least twice `t`.
+/// `t` codewords, and returns the number of those that differ. Returns `None` and changes nothing if there is no such
+/// block (ISO/IEC 18004:2015, 7.5.1 and Annex B). `divisor` determines the number of error correction codewords, which
+/// must be at least twice `t`.
 #[tactic(auto, using(crate::proofs::Named::block_facts))]
 pub fn mend(divisor: &Divisor, t: usize, codewords: &mut [u8]) -> Option<usize>
     requires half { 2 * t ≤ divisor.now }

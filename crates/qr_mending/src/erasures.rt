@@ -1,5 +1,8 @@
-//! Mends damaged blocks of which some codewords are erased. The errors of the erased codewords are first taken out of
-//! the syndromes, so that the locator has to find only the misread codewords.
+//! Mends damaged blocks of which some codewords are erased, that is, known to be unreadable. The errors of the erased
+//! codewords are first taken out of the syndromes, so that the locator has to find only the misread codewords.
+//!
+//! The erasure locator is a polynomial with a root for each erased codeword, and the error locator one with a root for
+//! each misread codeword. The root of a codeword is 2^m, where m is the number of codewords after it in the block.
 
 ghost use Rattle.std.specs.Prelude.{◌≡◌, ℕ, ◌+◌, ◌≤◌, List, length, IfSome, IfNone};
 ghost use Rattle.std.specs.List.{All, count_by};
@@ -18,9 +21,9 @@ use crate::sums::{dot, syndromes};
 use arrayvec::ArrayVec;
 use qr_field::Divisor;
 
-// The modified syndromes, which are also called Forney's syndromes. They are the syndromes of another error polynomial, in
-// which each coefficient of x^m is multiplied by the value of `polynomial` at 2^m. If `polynomial` is the erasure locator,
-// the errors of the erased codewords are gone.
+// The modified syndromes, which are also called Forney's syndromes. They are the syndromes of another error polynomial,
+// in which each coefficient of x^m is multiplied by the value of `polynomial` at 2^m. If `polynomial` is the erasure
+// locator, this value is 0 for each erased codeword, so the errors of the erased codewords are gone.
 #[tactic(auto, using(crate::proofs::Named::erasure_facts))]
 fn modified_syndromes(polynomial: &[u8], syndromes: &[u8]) -> ArrayVec<u8, 30>
     requires least { 1 ≤ length polynomial.now }
@@ -37,8 +40,8 @@ fn modified_syndromes(polynomial: &[u8], syndromes: &[u8]) -> ArrayVec<u8, 30>
     modified
 }
 
-// The mended block, or if `damaged` cannot be mended, a list that the caller has to refuse. The erasure locator has a root
-// for each erased codeword, the error locator one for each misread codeword, and their product one for each of both.
+// The mended block, or if `damaged` cannot be mended, a list that the caller has to refuse. The product of the erasure
+// locator and the error locator has a root for each wrong codeword, erased or misread.
 //
 // It is not inlined, so that its lists are on the stack only while it runs, and not while `mend` does.
 #[inline(never)]
@@ -62,6 +65,7 @@ fn candidate(remainder: &[u8], spare: usize, erased: &[bool], damaged: &[u8]) ->
     without_errors(both.as_slice(), first.as_slice(), damaged)
 }
 
+// The loop runs backward for the prover.
 #[tactic(auto, using(crate::proofs::Named::erasure_facts))]
 fn count_misread(codewords: &[u8], erased: &[bool], mended: &[u8]) -> usize
     requires marks { length erased.now ≡ length codewords.now }
@@ -78,12 +82,13 @@ fn count_misread(codewords: &[u8], erased: &[bool], mended: &[u8]) -> usize
     count
 }
 
-/// Mends a damaged block of at most 255 codewords. A codeword is erased if `erased` is true at its index, and its value
-/// then has no effect. Returns how many of the other codewords were misread (ISO/IEC 18004:2015, 7.5.1 and Annex B).
+/// Mends a damaged block of at most 255 codewords, some of which are erased: known to be unreadable. A codeword is
+/// erased if `erased` is true at its index, and its value then has no effect. Returns how many of the other codewords
+/// were misread (ISO/IEC 18004:2015, 7.5.1 and Annex B).
 ///
-/// An erased codeword takes one error correction codeword, a misread one two. If more than `spare` are needed, returns
-/// `None` and changes nothing. `divisor` determines the number of error correction codewords of the block; in a symbol,
-/// `spare` is twice `correctable`.
+/// An erased codeword takes one error correction codeword, and a misread one takes two. If more than `spare` are
+/// needed, returns `None` and changes nothing. `divisor` determines the number of error correction codewords of the
+/// block. In a symbol, `spare` is twice `correctable`.
 #[tactic(auto, using(crate::proofs::Named::mend_with_erasures_facts))]
 pub fn mend_with_erasures(
     divisor: &Divisor,

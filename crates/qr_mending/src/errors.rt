@@ -1,11 +1,14 @@
-//! Removes the errors of a damaged block. The error of a codeword is its difference from the right one, and the errors
-//! are the coefficients of the error polynomial. `syndromes` lists the values of this polynomial at 2^0, 2^1 and so on.
-//! The locator is a polynomial with a root for each misread or erased codeword.
+//! Removes the errors of a damaged block. The error of a codeword is its difference from the right one. The place of a
+//! codeword is the number of codewords after it in the block, and its error is the coefficient of x^place in the error
+//! polynomial. `syndromes` lists the values of this polynomial at 2^0, 2^1 and so on. The locator is a polynomial with
+//! the root 2^place for each misread or erased codeword.
 //!
-//! The codewords are taken in their order, which is Chien's search. At a root of the locator, the locator is divided by
-//! the factor of this root. It then has a root for each error that is left but this one, so the sum of its coefficients,
-//! each multiplied by the syndrome at its index, is this error times the value of the locator at its root: a form of
-//! Forney's formula. The error then goes out of the syndromes.
+//! Codeword after codeword is looked at, the first of the block first, until all roots are found. This is Chien's
+//! search. When a root is found, the locator is divided by the factor of this root. The divided locator still has a
+//! root for each error that is to come. Now each of its coefficients is multiplied by the syndrome at the same index,
+//! and these products are added up. The errors to come contribute 0 to this sum, so it is the error at this place,
+//! multiplied by the value of the divided locator at 2^place. This is a form of Forney's formula. Last, the error that
+//! was found is taken out of the syndromes.
 
 ghost use Rattle.std.specs.Prelude.{◌≡◌, ◌≢◌, ℕ, ◌+◌, ◌*◌, ◌<◌, ◌≤◌, List, [], ◌∷◌, ◌++◌, length, bit_xor, slice_index};
 ghost use Rattle.std.specs.List.{All};
@@ -20,8 +23,8 @@ use crate::sums::{add_multiples, dot, sixteen_values};
 use arrayvec::ArrayVec;
 use qr_field::{div, exponent_of, mul, power_of};
 
-// Divides a polynomial by x + `root` by Horner's rule, and returns the value of the quotient at `root`. The quotient has a
-// coefficient less, so the last becomes 0; the remainder is left out.
+// Divides a polynomial by x + `root` by Horner's rule, and returns the value of the quotient at `root`. The quotient
+// has a coefficient less, so the last of `terms` becomes 0. The remainder is not computed.
 #[tactic(auto, using(crate::proofs::Named::division_facts))]
 fn divide(terms: &mut [u8], root: u8) -> u8
     ensures quotient { terms.new ≡ quotient root terms.old }
@@ -39,7 +42,8 @@ fn divide(terms: &mut [u8], root: u8) -> u8
     rest
 }
 
-// Divides `locator` by x + `root` until `root` is no root of it, and returns its value there.
+// Divides `locator` by x + `root` until `root` is no root of it any more, and returns the value that it then has at
+// `root`.
 fn divide_out(locator: &mut ArrayVec<u8, 31>, root: u8) -> u8
     requires leading { HasLeadingOne locator.old.items }
     requires root { eval root locator.old.items ≡ 0 }
@@ -57,7 +61,7 @@ fn divide_out(locator: &mut ArrayVec<u8, 31>, root: u8) -> u8
     rest
 }
 
-// Takes the error of the codeword that has `place` codewords after it out of the syndromes.
+// Takes the error of the codeword at `place` out of the syndromes.
 fn remove(syndromes: &mut [u8], error: u8, place: u8)
     requires { place < 255 }
     ensures long { length syndromes.new ≡ length syndromes.old }
@@ -69,8 +73,8 @@ fn remove(syndromes: &mut [u8], error: u8, place: u8)
     }
 }
 
-// The error of the codeword that has `place` codewords after it, where the locator has a root. `locator` and `syndromes`
-// are then those of the errors after it.
+// The error of the codeword at `place`, where the locator has a root. `locator` and `syndromes` become those of the
+// errors that are left, all of which are in later codewords.
 fn error(locator: &mut ArrayVec<u8, 31>, syndromes: &mut ArrayVec<u8, 30>, place: u8) -> u8
     requires leading { HasLeadingOne locator.old.items }
     requires long { array_vec_len locator.old ≤ array_vec_len syndromes.old + 1 }
@@ -95,7 +99,7 @@ fn error(locator: &mut ArrayVec<u8, 31>, syndromes: &mut ArrayVec<u8, 30>, place
     error
 }
 
-// Adds `error` to the codeword that is located by x + `root`, if it is one of the last `left`.
+// Adds `error` to the one codeword that the locator x + `root` locates, if it is one of the last `left` codewords.
 fn remove_last(codewords: &mut [u8], root: u8, error: u8, left: usize)
     requires within { left ≤ length codewords.old }
     ensures long { length codewords.new ≡ length codewords.old }
@@ -113,9 +117,14 @@ fn remove_last(codewords: &mut [u8], root: u8, error: u8, left: usize)
     }
 }
 
-// To add the errors removes them, since equal elements of the field add up to 0. None is left once the locator is 1. Once
-// it is x + r, the logarithm of r is the place of the last error, and the first syndrome is this error. The values of the
-// locator are computed for sixteen places at once; they still show the roots that are left after a division.
+// Adds the errors to the codewords, which removes them, since equal elements of the field add up to 0.
+//
+// The search ends before the last codeword if it can. Once the locator is 1, no error is left. Once it is x + r, one
+// error is left: its place is the logarithm of r, and its value is the first syndrome. The values of the locator are
+// computed for sixteen places at once. They need not be computed again after a division, since at the places to come
+// the divided locator is 0 where the locator was.
+//
+// The lists have room for what is copied into them, so `try_extend_from_slice` cannot fail.
 pub(crate) fn without_errors(locator: &[u8], syndromes: &[u8], damaged: &[u8]) -> ArrayVec<u8, 255>
     requires leading { HasLeadingOne locator.now }
     requires most { length syndromes.now ≤ 30 }

@@ -1,5 +1,7 @@
-//! Finds the level and the mask of a damaged symbol by the two copies of its format information
-//! (ISO/IEC 18004:2015, 7.9.1 and Annex C).
+//! Finds the level and the mask of a damaged symbol by the two copies of its format information (ISO/IEC 18004:2015,
+//! 7.9.1 and Annex C). The cost of a copy with a level and a mask is 1 for each of its modules that was not read, and 2
+//! for each that is misread if the symbol has this level and mask. A level and a mask are near to a copy if this cost
+//! is at most 6.
 
 ghost use Rattle.std.specs.Prelude.{◌≡◌, ℕ, ◌+◌, ◌*◌, ◌<◌, ◌≤◌, MatchOption};
 ghost use Rattle.qr_layout.specs.declared.level.Level.{Level};
@@ -16,11 +18,10 @@ use qr_layout::{Level, Module, Version, format_place, format_word, second_format
 // The number of modules of one copy.
 const FORMAT_BITS: u8 = 15;
 
-// A number of so many bits that are all 1.
+// The number of which the 15 lowest bits are 1, and all others 0.
 const ALL_BITS: u16 = 0x7FFF;
 
-// The most that a copy may cost with a level and a mask that are near to it: three misread modules, or six that were
-// not read.
+// The most that a copy may cost: three misread modules, or six that were not read.
 const COST_MAX: u8 = 6;
 
 #[derive(Clone, Copy)]
@@ -73,8 +74,8 @@ struct CopyDamage {
     misread: u8,
 }
 
-// A copy as two numbers: module i is bit i, the lowest being bit 0. It is 1 in `dark` if the module is dark, and in
-// `unread` if it was not read.
+// A copy as two numbers, whose bit i is module i of the copy; bit 0 is the lowest. In `dark` it is 1 if the module is
+// dark, and in `unread` if the module was not read.
 #[derive(Clone, Copy)]
 pub(crate) struct CopyBits {
     pub(crate) dark: u16,
@@ -108,6 +109,7 @@ impl CopyBits {
         }
     }
 
+    // The bound is loose, and for the prover: it counts each of the 15 modules as unread and as misread.
     fn cost(self, word: u16) -> u8
         ensures value { (u g : Grid) (copy : FormatCopy) → AreBitsOf u copy g self
             → result ≡ unread_bits u copy + 2 * misread_bits u copy g word }
@@ -118,6 +120,7 @@ impl CopyBits {
     }
 }
 
+// How many modules of a copy were not read or are misread. The bound is as loose as that of `cost`.
 fn wrong_bits(scan: &Scan, copy: FormatCopy, word: u16) -> u8
     ensures value { result ≡ unread_bits scan.now.unknown.now copy + misread_bits scan.now.unknown.now copy scan.now.matrix.now word }
     ensures most { result ≤ 30 }
@@ -133,7 +136,7 @@ fn copy_cost(scan: &Scan, copy: FormatCopy, word: u16) -> u8
     CopyBits::read(scan, copy).cost(word)
 }
 
-// Counts over the 30 modules of both copies.
+// How many of the 30 modules of both copies were not read or are misread.
 pub(crate) fn wrong_format_modules(scan: &Scan, level: Level, mask: u8) -> u8
     requires mask_in { mask < 8 }
     ensures { result ≡ wrong_format_modules scan.now.unknown.now scan.now.matrix.now level mask }
@@ -165,8 +168,8 @@ fn near_mask_of(bits: CopyBits, level: Level) -> Option<u8>
     None
 }
 
-// At most one pair of level and mask is near to a copy, since two words of format information differ in at least seven
-// bits: so the first pair that is found is the only one.
+// The first pair of level and mask that is found is the only one. For if two pairs are near to a copy, their words of
+// format information differ in at most six bits, but two such words differ in at least seven.
 pub(crate) fn near_format_of(scan: &Scan, copy: FormatCopy) -> Option<(Level, u8)>
     ensures { MatchOption result
         ((l : Level) (mask : ℕ) → IsNearFormat scan.now.unknown.now copy scan.now.matrix.now l mask → ⊥)

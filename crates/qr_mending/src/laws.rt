@@ -1,5 +1,10 @@
-//! Laws of mending. The contract of each function is the law; where a function has code, the law is about what this
+//! Laws of mending. The contract of each function is the law. Where a function has code, the law is about what this
 //! code returns.
+//!
+//! The cost of a copy of the format information with a level and a mask is 1 for each of its modules that was not read,
+//! and 2 for each that is misread if the symbol has this level and mask. A level and a mask are near to a copy if this
+//! cost is at most 6. A codeword is erased if it is known to be unreadable, and misread if it was read with a wrong
+//! value.
 
 ghost use Rattle.std.specs.Prelude.{◌≡◌, ◌≢◌, ◌↔◌, ◌⊎◌, Err, ℕ, ◌+◌, ◌*◌, ◌/◌, ◌<◌, ◌≤◌, ◌==◌, ◌&&◌, false, List, [], ◌∷◌, map, length, replicate, Option, None, MatchResult};
 ghost use Rattle.std.specs.List.{All};
@@ -37,28 +42,28 @@ use qr_matrix::Matrix;
 use qr_symbol::ReadFault;
 use std::alloc::Global;
 
-/// A damaged block of at most 255 codewords is mended to at most one block, if at most half as many misread codewords
-/// are allowed as it has error correction codewords.
+/// A damaged block of at most 255 codewords is mended to at most one block, if the number of misread codewords that are
+/// allowed is at most half the number of its error correction codewords.
 pub fn mended_blocks_are_one()
     ensures { (n t : ℕ) (damaged b c : List ℕ) → length damaged ≤ 255 → 2 * t ≤ n
         → IsMended n t damaged b → IsMended n t damaged c → b ≡ c }
 {}
 
-/// A damaged block of at most 255 codewords, some of them erased, is mended to at most one block, if its error
-/// correction codewords suffice: one for each erased codeword and two for each misread one.
+/// A damaged block of at most 255 codewords, some of them erased, is mended to at most one block if it has enough error
+/// correction codewords: one for each erased codeword and two for each misread one.
 pub fn blocks_mended_with_erasures_are_one()
     ensures { (n spare : ℕ) (read : List (Option ℕ)) (b c : List ℕ) → length read ≤ 255 → spare ≤ n
         → IsMendedWithErasures n spare read b → IsMendedWithErasures n spare read c → b ≡ c }
 {}
 
-/// Without erased codewords, mending by `spare` error correction codewords has the same results as mending at most
-/// `spare` / 2 misread codewords, rounded down.
+/// Without erased codewords, mending that takes at most `spare` error correction codewords has the same results as
+/// mending of at most `spare` / 2 misread codewords, rounded down.
 pub fn blocks_without_erasures_are_mended_alike()
     ensures { (n spare k : ℕ) (damaged mended : List ℕ)
         → IsMendedWithErasures n spare (read_of damaged (replicate k false)) mended ↔ IsMended n (spare / 2) damaged mended }
 {}
 
-/// A block of at most 255 codewords is also one with fewer error correction codewords, if at least one is left: the
+/// A block of at most 255 codewords is also a block with fewer error correction codewords, if at least one is left: the
 /// generator polynomial of fewer divides that of more. So where two levels of a version have the same number of blocks,
 /// only the format information says which is meant.
 #[tactic(auto, using(crate::proofs::Named::law_facts))]
@@ -67,8 +72,8 @@ pub fn blocks_are_those_of_weaker_levels()
 {}
 
 /// The format information of two different pairs of level and mask differs in at least seven of 15 bits, and for some
-/// pairs in just seven. So over both copies, whatever they show, two such pairs cost at least 28 together: if one costs
-/// at most 13, the other costs at least 15.
+/// pairs in just seven. So whatever the two copies show, the costs of two pairs over both copies add up to at least 28:
+/// if one costs at most 13, the other costs at least 15.
 pub fn format_words_lie_apart()
     ensures words { (l k : Level) (m n : ℕ) → m < 8 → n < 8 → ((l ≡ k) × (m ≡ n) → ⊥)
         → 7 ≤ bit_differences 15 (has_bit (format_word_of l m)) (has_bit (format_word_of k n)) }
@@ -78,7 +83,7 @@ pub fn format_words_lie_apart()
 {}
 
 /// At most one pair of level and mask is near to a copy of the format information, that is, the copy costs at most 6
-/// with it. So mending tries at most two pairs.
+/// with it. So at most two pairs are near to one of both copies, and mending tries at most two.
 #[tactic(auto, using(crate::proofs::Named::law_facts))]
 pub fn near_format_is_one()
     ensures one { (unknown : Grid) (copy : FormatCopy) (g : Grid) (l k : Level) (m n : ℕ) → IsNearFormat unknown copy g l m
@@ -103,10 +108,12 @@ pub fn correctable_numbers_compute()
 {}
 
 /// From version 4 on all error correction codewords correct errors, and in versions 2 and 3 those of the levels M, Q
-/// and H. In the cost of format information a module that was not read counts once and a misread one twice; as wrong
-/// modules both count once, and each copy is counted once. In the example, a light square, of which one module of the
-/// first copy was not read, is compared with level M and mask 0. A level and a mask are near to a copy at a cost of 6,
-/// and not at 7.
+/// and H.
+///
+/// In the cost of format information a module that was not read counts once and a misread one twice. As wrong modules
+/// both count once. Each copy is counted once. The example is a light square of which one module of the first copy was
+/// not read; it is compared with level M and mask 0. A level and a mask are near to a copy at a cost of 6, and not at
+/// 7.
 #[tactic(auto, unfolding(qr_layout::specs::Blocks::correction_len_of))]
 pub fn mending_numbers_compute()
     ensures protection { (v : ℕ) (l : Level) → 4 ≤ v → protection_of v l ≡ 0 }
@@ -137,8 +144,8 @@ pub fn mended_messages_are_one(version: Version, level: Level)
         → (m ≡ n) × (x ≡ y) }
 {}
 
-/// A damaged symbol, with or without unread modules, is read as at most one content, with one version, level and mask,
-/// and one number of misread codewords for each block.
+/// A damaged symbol, whether or not all its modules were read, is read as at most one content, with one version, level
+/// and mask, and one number of misread codewords for each block.
 pub fn mended_readings_are_one()
     ensures { (unknown : Grid) (g : Grid) (v w : ℕ) (l k : Level) (m n : ℕ) (p q : Content) (x y : List ℕ)
         → IsMendedReading unknown g v l m p x → IsMendedReading unknown g w k n q y
@@ -165,7 +172,7 @@ pub fn readings_are_mended_readings()
 {}
 
 /// Mending yields a number of misread codewords for each block, and there is at least one block. None of the numbers is
-/// above `correctable_of`, which is from 2 to 15 for every version and level.
+/// above `correctable`, which is from 2 to 15 for every version and level.
 pub fn changes_are_bounded()
     ensures some { (unknown : Grid) (g : Grid) (v : ℕ) (l : Level) (m : ℕ) (p : Content) (x : List ℕ)
         → IsMendedReading unknown g v l m p x → 1 ≤ length x }
@@ -203,16 +210,16 @@ pub fn mendings_are_refused_exactly(
 }
 
 /// Take two symbols of one version with different data codewords or levels. They differ in at least seven modules of
-/// each copy of the format information, or in more than twice as many codewords of some block as can be corrected
-/// there.
+/// each copy of the format information, or, in some block of which t codewords can be corrected, in more than 2t
+/// codewords.
 #[tactic(auto, using(crate::proofs::Named::distance_facts))]
 pub fn symbols_lie_apart(version: Version)
     ensures { SymbolsLieApart version }
 {}
 
-/// A level and a mask are those to read a damaged symbol with (`HasFormat`) if both copies together cost at most 13
-/// with them. So are a level and a mask that are near to one copy, whatever the other shows, if no other pair that is
-/// near to a copy mends the symbol.
+/// A damaged symbol has to be read with a level and a mask (`HasFormat`) if both copies together cost at most 13 with
+/// them. It also has to be read with a pair that is near to one copy, whatever the other shows, if no other pair that
+/// is near to a copy mends the symbol.
 pub fn formats_are_found()
     ensures sure { (unknown : Grid) (v : ℕ) (g : Grid) (l : Level) (mask : ℕ) → mask < 8 → format_cost unknown g l mask ≤ 13
         → HasFormat unknown v g l mask }
@@ -246,8 +253,8 @@ pub fn damaged_symbols_are_mended(
 }
 
 /// A symbol is mended to exactly its input, unless memory is refused, if at most six of its 30 modules of format
-/// information are wrong, and at most `correctable` in each block. Modules of function patterns, version information
-/// and remainder bits may have any colour.
+/// information are wrong, and in each block at most `correctable` modules. Modules of function patterns, version
+/// information and remainder bits may have any colour.
 pub fn few_wrong_modules_are_mended(alloc: Global, damaged: &Matrix) -> Result<Mended, ReadFault>
     ensures { (smallest : ℕ) (l : Level) (rule : Rule) (i : Interpretation) (x : List ℕ) (v mask : ℕ) (g : Grid)
         → 1 ≤ smallest → MayWrite i x → (s : IsSymbol smallest l rule i x v mask g) → damaged.now.side ≡ g.side → DifferInFewModules v l damaged.now g
@@ -271,8 +278,8 @@ pub fn series_mendings_are_refused_exactly(
 }
 
 /// If the symbols of a series are damaged, each within what can be mended, mending yields exactly the input, or memory
-/// is refused. From symbols of another encoder mending yields the bytes that the undamaged symbols are joined to, or
-/// memory is refused.
+/// is refused. The symbols may also be those of another encoder. Then mending yields the bytes to which the undamaged
+/// symbols are joined, or memory is refused.
 pub fn damaged_series_are_mended(alloc: Global, damaged: &[Matrix]) -> Result<Vec<u8>, ReadFault>
     ensures series { (v : ℕ) (l : Level) (rule : Rule) (i : Interpretation) (x : List ℕ) (ss : List Symbol) → 1 ≤ v → v ≤ 40
         → MayWrite i x → IsSeries v l rule i x ss → AreDamagedSquares damaged.now (squares_of ss)

@@ -1,6 +1,7 @@
-//! Reads damaged symbols, and corrects their errors (ISO/IEC 18004:2015, 7.5.1, 7.9.1 and 12, Annexes B and C). A block
-//! is mended if no more of its codewords are misread or erased than the standard allows. The level and the mask are
-//! found by the two copies of the format information, and are taken only if all blocks can be mended with them.
+//! Reads damaged symbols, and corrects their errors (ISO/IEC 18004:2015, 7.5.1, 7.9.1 and 12, Annexes B and C). A
+//! codeword is misread if it was read with a wrong value, and erased if it is known to be unreadable. A block is mended
+//! if no more of its codewords are misread or erased than the standard allows. The level and the mask are found by the
+//! two copies of the format information, and are taken only if all blocks can be mended with them.
 #![tactic(auto)]
 
 mod block;

@@ -1,11 +1,13 @@
 //! Finds the error locator polynomial of a damaged block by the algorithm of Berlekamp and Massey. The polynomial has a
 //! root for each misread codeword.
 //!
-//! A polynomial solves an equation if the sum of its coefficients, each multiplied by the item of `window` at its
-//! index, is 0; for equation `i` the window is the syndromes from index `i` on. The syndromes are taken in one by one.
-//! Each adds an equation: the last whose window has all terms of the polynomial. If the polynomial does not solve it, a
-//! multiple of an earlier polynomial is added, and if need be its degree rises. The degree is never higher than the
-//! number of misread codewords.
+//! Its coefficients solve equations, which the syndromes yield. For equation i the coefficient of x^k is multiplied by
+//! the syndrome at index i + k, for each k, and these products are added up. The polynomial solves the equation if this
+//! sum, the discrepancy, is 0. The window of equation i is the list of syndromes from index i on.
+//!
+//! The syndromes are taken in one by one. With each, the window of one more equation has as many items as the
+//! polynomial has coefficients. If the polynomial does not solve this equation, a multiple of an earlier polynomial is
+//! added, and if need be the degree rises. The degree is never higher than the number of misread codewords.
 
 ghost use Rattle.std.specs.Prelude.{◌≡◌, ℕ, ◌+◌, ◌*◌, ◌<◌, ◌≤◌, List, false, length};
 ghost use Rattle.std.specs.Bool.{OnTrue, OnFalse};
@@ -19,8 +21,8 @@ use crate::sums::push_syndromes;
 use arrayvec::ArrayVec;
 use qr_field::div;
 
-// `best` solves the equations of the syndromes that were taken in. `earlier` was the best before the degree last rose.
-// `discrepancy` is the sum that `earlier` has for the first equation that it does not solve.
+// `best` solves all equations for which enough syndromes were taken in. `earlier` was the best before the degree last
+// rose. `discrepancy` is the sum that `earlier` has for the first equation that it does not solve.
 #[derive(Drop)]
 pub(crate) struct Search {
     pub(crate) best: Polynomial,
@@ -42,13 +44,14 @@ impl Search {
         }
     }
 
-    // Takes in syndrome `i`. Returns false, and changes nothing, if the degree would rise above `t`: then over `t` codewords
-    // are misread.
+    // Takes in syndrome `i`. If the degree would rise above `t`, returns false and changes nothing; then over `t`
+    // codewords are misread.
     //
     // The new equation has the index `i - degree`. The first equation that `earlier` does not solve has the index
-    // `degree - 1`. A polynomial times x^s has for equation j the sum that it had for equation j + s. So a multiplication
-    // by a power of x brings the two discrepancies to one equation, where they cancel: `earlier` is multiplied, or if the
-    // new equation comes too late for that, `best`, whose degree then rises.
+    // `degree - 1`. If a polynomial is multiplied by x^s, its sum for equation j becomes the one that it had for
+    // equation j + s. So a multiplication by a power of x brings the two discrepancies to one equation, where they
+    // cancel. It is `earlier` that is multiplied if its equation comes after the new one, and otherwise `best`, whose
+    // degree then rises.
     fn take_in(&mut self, syndromes: &[u8], i: usize, t: usize) -> bool
         requires search { IsSearch i syndromes.now self.old }
         requires degree { self.old.best.degree ≤ t }
@@ -81,7 +84,7 @@ impl Search {
     }
 }
 
-// If over `t` codewords are misread, any polynomial.
+// If over `t` codewords are misread, the result may be any polynomial.
 pub(crate) fn locator(syndromes: &[u8], t: usize) -> Polynomial
     requires small { t ≤ 15 }
     requires long { 2 * t ≤ length syndromes.now }
@@ -117,7 +120,7 @@ impl Progress {
         }
     }
 
-    // Computes further syndromes if all were taken in.
+    // Computes further syndromes if all that are there were taken in.
     fn prepare(&mut self, remainder: &[u8])
         requires few { length remainder.now ≤ 30 }
         requires left { self.old.taken < length remainder.now }
@@ -132,8 +135,9 @@ impl Progress {
         }
     }
 
-    // Takes in further syndromes, up to `2 * t`. If `early`, stops once `best` solves two equations more than its degree:
-    // then it seldom changes any more. Returns false if over `t` codewords are misread.
+    // Takes in further syndromes, up to `2 * t`. If `early`, stops once `best` solves two equations more than its
+    // degree: then it seldom changes any more. If the degree would rise above `t`, returns false; then over `t`
+    // codewords are misread.
     pub(crate) fn advance(&mut self, remainder: &[u8], t: usize, early: bool) -> bool
         requires progress { IsProgress t remainder.now self.old }
         requires small { t ≤ 15 }

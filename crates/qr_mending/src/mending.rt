@@ -1,6 +1,9 @@
-//! Mends and reads damaged symbols (ISO/IEC 18004:2015, 7.5.1, 7.9.1 and 12). The mark of a codeword, in `marks`, is
-//! 0 exactly if all its modules were read. A level and a mask are near to a copy of the format information if its cost
-//! with them is at most 6.
+//! Mends and reads damaged symbols (ISO/IEC 18004:2015, 7.5.1, 7.9.1 and 12). A codeword is erased if one of its
+//! modules was not read. Its mark, in `marks`, is 0 exactly if it is not erased.
+//!
+//! The cost of a copy of the format information with a level and a mask is 1 for each of its modules that was not read,
+//! and 2 for each that is misread if the symbol has this level and mask. A level and a mask are near to a copy if this
+//! cost is at most 6.
 
 ghost use Rattle.std.specs.Prelude.{◌≡◌, ◌<◌, ◌≤◌, length, IfErr, IfOk, IfSome, MatchOption, MatchResult};
 ghost use Rattle.std.specs.Bool.{OnTrue};
@@ -24,7 +27,8 @@ use qr_matrix::{Matrix, differences};
 use qr_symbol::{ReadFault, draw_symbol, read_codewords};
 use std::alloc::{AllocError, Global};
 
-// If both copies together cost at most this with a level and a mask, they cost more with every other level and mask.
+// If both copies together cost at most this with a level and a mask, they cost more with every other. For two words of
+// format information differ in at least seven bits, so over both copies two pairs cost at least 28 together.
 const COST_CERTAIN: u8 = 13;
 
 // A symbol whose blocks were mended: its data codewords and error correction codewords, block after block, and how many
@@ -38,7 +42,7 @@ pub(crate) struct MendedSquare {
     pub(crate) changed: Vec<usize>,
 }
 
-// Returns `None` if there is no level and mask, or if a block cannot be mended with these.
+// Returns `None` if `near` is `None`, or if some block cannot be mended with this level and mask.
 fn mend_with(
     alloc: Global,
     scan: &Scan,
@@ -103,7 +107,8 @@ fn is_certain(scan: &Scan, mended: &Option<MendedSquare>) -> bool
     }
 }
 
-// The one of less cost, or if there is only one, this one.
+// The one whose level and mask cost less over both copies, or the first of equals. If there is only one, it is this
+// one.
 fn nearer(
     scan: &Scan,
     first: Option<MendedSquare>,
@@ -125,9 +130,10 @@ fn nearer(
     Some(first)
 }
 
-// Of the pairs of level and mask that are near to a copy and mend the symbol, takes the one with the least cost of both
-// copies. At equal costs it takes the one near to the first copy. The second copy is not tried if the pair near to the
-// first mends the symbol and costs at most `COST_CERTAIN`, or if the same pair is near to both.
+// Of the pairs of level and mask that are near to a copy and mend the symbol, takes the one with the least cost over
+// both copies. At equal costs it takes the one near to the first copy. The second copy is not tried in two cases: if
+// the pair near to the first copy mends the symbol and costs at most `COST_CERTAIN`, or if the same pair is near to
+// both.
 fn mend_by_format(alloc: Global, scan: &Scan) -> Result<Option<MendedSquare>, ReadFault>
     ensures mended { IfOk result (IsMendedByEither scan.now.unknown.now scan.now.version scan.now.matrix.now) }
     ensures fault { IfErr result (λ e. e ≡ ReadFault.Memory) }
@@ -146,8 +152,8 @@ fn mend_by_format(alloc: Global, scan: &Scan) -> Result<Option<MendedSquare>, Re
     Ok(nearer(scan, first, second))
 }
 
-// Where a module was not read, `symbol` gets another colour than the square has, so that the two differ exactly where a
-// module is wrong.
+// Compares the square with `symbol`, the undamaged symbol. Where a module was not read, `symbol` first gets another
+// colour than the square has, so that the two differ exactly where a module is wrong.
 fn count_wrong(scan: &Scan, mut symbol: Matrix) -> u32
     requires { symbol.side ≡ scan.now.matrix.now.side }
     ensures { result ≡ wrong_modules scan.now.unknown.now scan.now.matrix.now symbol }
@@ -164,7 +170,7 @@ fn count_wrong(scan: &Scan, mut symbol: Matrix) -> u32
     differences(scan.matrix, &symbol)
 }
 
-// Draws the undamaged symbol to compare the square with it. `codewords` is its final sequence.
+// Draws the undamaged symbol, whose final sequence is `codewords`, and compares the square with it.
 fn count_wrong_modules(
     alloc: Global,
     scan: &Scan,
@@ -181,6 +187,7 @@ fn count_wrong_modules(
     Ok(count_wrong(scan, symbol))
 }
 
+// The fault of a symbol that no near pair of level and mask mends.
 fn refusal(scan: &Scan) -> ReadFault
     requires sized { IsOfVersion scan.now.matrix.now scan.now.version }
     requires useless { (any : FormatCopy) → IsOfNoUse scan.now.unknown.now any scan.now.version scan.now.matrix.now }
@@ -205,15 +212,16 @@ pub struct Mended {
     pub parsed: Parsed,
     /// The number of wrong modules among the 30 of both copies of the format information.
     pub wrong_format_modules: u8,
-    /// The number of wrong modules of the whole symbol, with function patterns, version information and remainder bits.
-    /// Modules that were not read count too.
+    /// The number of wrong modules of the whole symbol, those of function patterns, version information and remainder
+    /// bits among them. Modules that were not read count too.
     pub wrong_modules: u32,
     /// For each block, the number of misread codewords. Erased ones do not count.
     pub changed: Vec<usize>,
 }
 
 /// Reads a damaged symbol and corrects its damage (ISO/IEC 18004:2015, 7.5.1, 7.9.1 and 12). A module that was not read
-/// is dark in the square `unknown`, which has the side of `matrix`, and its codeword is called erased.
+/// is dark in the square `unknown`, which has the side of `matrix`. A codeword with such a module is called erased, and
+/// any other whose value is wrong is called misread.
 ///
 /// A block is mended if the number of its erased codewords, plus twice that of its misread ones, is at most twice
 /// `correctable`. The level and the mask are found by the two copies of the format information, of 15 modules each. A
@@ -221,9 +229,10 @@ pub struct Mended {
 /// at most 6; it admits at most one pair. Of the admitted pairs that mend every block, the one with the least such sum
 /// over both copies is taken. Of two with the same sum it is the one that the first copy admits.
 ///
-/// So a symbol is mended to exactly itself if its blocks can be mended and that sum over both copies is at most 13.
-/// With any six wrong modules of format information it is at most 12. Function patterns, version information and
-/// remainder bits have no effect on the content; their wrong modules are counted in `Mended::wrong_modules`.
+/// So a symbol is mended to exactly itself if its blocks can be mended and that sum over both copies is at most 13. If
+/// six modules of format information are wrong, whichever they are, the sum is at most 12. Function patterns, version
+/// information and remainder bits have no effect on the content; their wrong modules are counted in
+/// `Mended::wrong_modules`.
 ///
 /// # Errors
 ///

@@ -1,5 +1,5 @@
-//! Mends the message of a damaged symbol block by block. A codeword is erased if one of its modules was not read
-//! (ISO/IEC 18004:2015, 7.5.1, 7.6 and 7.7.3).
+//! Mends the message of a damaged symbol, its data codewords, block by block (ISO/IEC 18004:2015, 7.5.1, 7.6 and
+//! 7.7.3). A codeword is erased if one of its modules was not read.
 
 ghost use Rattle.std.specs.Prelude.{◌≡◌, ℕ, ◌+◌, ◌*◌, ◌<◌, ◌≤◌, ◌==◌, ◌⊎◌, ◌++◌, ◌∷◌, [], false, not, map, take, drop, List, length, Err, IfOk, IfErr, IfSome, IfNone};
 ghost use Rattle.std.specs.Bool.{OnTrue};
@@ -22,8 +22,8 @@ use qr_matrix::Matrix;
 use qr_symbol::{BlockSizes, ReadFault, read_unmasked};
 use std::alloc::{AllocError, Global};
 
-// A mark for each codeword of a symbol: a byte with a bit for each of its modules, which is 1 if the module was not read.
-// Most symbols are read whole.
+// A mark for each codeword of a symbol: a byte with a bit for each of its modules, which is 1 if the module was not
+// read. Of most symbols all modules were read, so `AllZero` stands for a list of zeros.
 #[derive(Drop)]
 pub(crate) enum Marks {
     AllZero,
@@ -61,14 +61,15 @@ pub(crate) fn read_marks(
     Ok(Marks::Each(marks))
 }
 
-// Codewords, or their marks, in the order of the blocks; `checks` has those of the error correction codewords.
+// Codewords, or their marks, one block after the other. `data` has those of the data codewords, and `checks` those of
+// the error correction codewords.
 #[derive(Drop)]
 struct InBlocks {
     data: Vec<u8>,
     checks: Vec<u8>,
 }
 
-// Undoes the interleaving.
+// Undoes the interleaving of codewords or of their marks.
 fn in_blocks(alloc: Global, blocks: Blocks, interleaved: &[u8]) -> Result<InBlocks, AllocError>
     requires { length interleaved.now ≡ codeword_count (data_sizes blocks) + codeword_count (correction_sizes blocks) }
     ensures { IfOk result (λ b. AreInBlocks blocks interleaved.now b.data.items b.checks.items) }
@@ -78,8 +79,8 @@ fn in_blocks(alloc: Global, blocks: Blocks, interleaved: &[u8]) -> Result<InBloc
     Ok(InBlocks { data, checks })
 }
 
-// The final sequence of mended codewords, whose error correction codewords need not be computed again. The memory of both
-// lists is freed.
+// The final sequence of mended codewords. Their error correction codewords are known from mending, and are not computed
+// again. The memory of both lists is freed.
 pub(crate) fn interleaved(
     alloc: Global,
     version: Version,
@@ -99,7 +100,7 @@ pub(crate) fn interleaved(
     Ok(interleaved)
 }
 
-// As `Marks`, in the order of the blocks.
+// As `Marks`, but one block after the other.
 #[derive(Drop)]
 enum MarksInBlocks {
     AllZero,
@@ -146,7 +147,7 @@ fn block_of(
     Ok(codewords)
 }
 
-// Appends for each mark whether it is not 0.
+// Appends, for each mark, true if it is not 0: then its codeword is erased.
 fn push_erased(erased: &mut Vec<bool>, marks: &[u8]) -> Result<(), AllocError>
     ensures { IfOk result (λ _. erased.new.items ≡ erased.old.items ++ map (λ mark. not (mark == 0)) marks.now) }
 {
@@ -240,7 +241,8 @@ pub fn correctable(version: Version, level: Level) -> u8
     spare(version, level) / 2
 }
 
-// Mends one block after the other, and ends at the first that cannot be mended. Codewords and marks are interleaved.
+// Mends one block after the other, and ends at the first that cannot be mended. `codewords` and `marks` are still
+// interleaved.
 #[tactic(auto, using(crate::proofs::Named::size_facts))]
 pub(crate) fn mend_blocks(
     alloc: Global,

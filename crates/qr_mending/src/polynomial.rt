@@ -9,7 +9,7 @@ ghost use Rattle.qr_mending.specs.Steps.Polynomial.{all_of, IsMonic, discrepancy
 use crate::sums::{dot, exponent_sum};
 use qr_field::{exponent_of, power_of};
 
-// The coefficients are `terms` up to index `degree`; later items are not used.
+// `terms` has the coefficients up to index `degree`. Its later items are not used.
 #[derive(Clone, Copy)]
 pub(crate) struct Polynomial {
     pub(crate) degree: usize,
@@ -36,8 +36,7 @@ impl Polynomial {
         &self.terms[..self.degree + 1]
     }
 
-    // The discrepancy: the sum of the coefficients, each multiplied by the item of `window` at its index. If it is 0, the
-    // polynomial solves the equation of `window`.
+    // The sum of the coefficients, each multiplied by the item of `window` at its index.
     pub(crate) fn discrepancy(&self, window: &[u8]) -> u8
         requires fits { self.now.degree < 16 }
         requires long { self.now.degree < length window.now }
@@ -48,8 +47,8 @@ impl Polynomial {
         dot(self.coefficients(), window)
     }
 
-    // Adds the product of `other`, `factor` and x^`shift`. Degree and leading coefficient stay, since this product has a
-    // lower degree.
+    // Adds the product of `other`, `factor` and x^`shift`. The degree and the leading coefficient stay, since this
+    // product has a lower degree. Elements of the field are multiplied by adding their logarithms.
     pub(crate) fn add(&mut self, factor: u8, other: &Polynomial, shift: usize)
         requires some { 1 ≤ factor }
         requires lower { other.now.degree + shift < self.old.degree }

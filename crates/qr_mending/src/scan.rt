@@ -1,4 +1,4 @@
-//! What was read of a square of modules.
+//! What was read of a square of modules, some of which may be unknown.
 
 ghost use Rattle.std.specs.Prelude.{◌≡◌, ◌≤◌};
 ghost use Rattle.qr_layout.specs.Version.{side_of};

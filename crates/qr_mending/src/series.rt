@@ -1,4 +1,5 @@
-//! Damaged series: all symbols are mended before their headers are compared.
+//! Mends the symbols of a damaged series, and joins their bytes. All symbols are mended before their headers are
+//! compared.
 
 ghost use Rattle.std.specs.Prelude.{MatchResult};
 ghost use Rattle.qr_symbol.specs.Joining.{AreReadBy};
@@ -22,15 +23,15 @@ fn mend_all(alloc: Global, damaged: &[Matrix]) -> Result<Vec<Parsed>, ReadFault>
     Ok(contents)
 }
 
-/// Mends damaged symbols, and joins their bytes in order, if they are one plain symbol or a whole series (ISO/IEC
-/// 18004:2015, 8 and 12). A series is whole if each structured append header has the position of its symbol (from 0),
-/// the number of symbols less 1, and the parity data of all bytes.
+/// Mends damaged symbols, and joins their bytes in order, if they are one symbol without a structured append header, or
+/// a whole series (ISO/IEC 18004:2015, 8 and 12). A series is whole if each structured append header has the position
+/// of its symbol (from 0), the number of symbols less 1, and the parity data of all bytes.
 ///
 /// # Errors
 ///
-/// Returns the fault of the first symbol that cannot be mended, whatever the headers are. If all can, returns `Series`
-/// if the symbols are neither one plain symbol nor a whole series, also if there are none. Returns `Memory` if an
-/// allocation is refused.
+/// Returns the fault of the first symbol that cannot be mended, whatever the headers are. If all can be mended, returns
+/// `Series` if they are neither one symbol without a header nor a whole series, also if there are none. Returns
+/// `Memory` if an allocation is refused.
 ///
 /// # Notes
 ///

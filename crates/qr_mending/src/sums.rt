@@ -1,4 +1,5 @@
-//! Values of polynomials and sums of products over the field of 256 elements.
+//! Values of polynomials, and sums of products, over the field of 256 elements. The syndromes of a block are such
+//! values, and so is what Chien's search looks at. Sixteen of them are computed at once.
 
 ghost use Rattle.std.specs.Prelude.{◌≡◌, ℕ, ◌+◌, ◌*◌, ◌<◌, ◌≤◌, length, bit_xor, slice_index};
 ghost use Rattle.arrayvec.specs.ArrayVec.{array_vec_len};
@@ -12,8 +13,8 @@ ghost use Rattle.qr_mending.specs.Steps.Values.{sum_at};
 use arrayvec::ArrayVec;
 use qr_field::{doubled, exponent_of, mul, power_of};
 
-// The multiples by 0, 1, 2 and 3 of sixteen powers of 2, a byte each, the first in the lowest bits: item 4 * j + d has d
-// times 2 to the powers 0, j, 2 * j and so on up to 15 * j.
+// Item 4 * j + d has sixteen products, a byte each, the first in the lowest bits: d times 2 to the powers 0, j, 2 * j
+// and so on up to 15 * j. Here d is 0 to 3, and j is 0 to 30.
 static MULTIPLES: [u128; 124] = [
     0,
     0x01010101_01010101_01010101_01010101,
@@ -141,7 +142,8 @@ static MULTIPLES: [u128; 124] = [
     0xACAEE62E_115E6A74_EBA7FF4D_7CD6A003,
 ];
 
-// The sum of the products of items at equal indices; items of `window` past the end of `terms` are left out.
+// The sum of the products of items at equal indices. Items of `window` past the end of `terms` are left out. The loop
+// runs backward for the prover.
 #[tactic(auto, using(crate::proofs::Named::value_facts))]
 pub(crate) fn dot(terms: &[u8], window: &[u8]) -> u8
     requires { length terms.now ≤ length window.now }
@@ -155,7 +157,8 @@ pub(crate) fn dot(terms: &[u8], window: &[u8]) -> u8
     sum
 }
 
-// The exponent of the product of 2 to the power `i` and 2 to the power `j`.
+// The exponent of the product of 2 to the power `i` and 2 to the power `j`. It is below 255, since 2 to the power 255
+// is 1.
 pub(crate) fn exponent_sum(i: u8, j: u8) -> u8
     requires first { i < 255 }
     requires second { j < 255 }
@@ -167,8 +170,8 @@ pub(crate) fn exponent_sum(i: u8, j: u8) -> u8
     exponent as u8
 }
 
-// Adds a multiple of `element`, which is not 0, to each item of `sums`: to item k that by 2 to the power k * `step`. The
-// exponent grows by `step` from item to item, so that no product waits for the product before it.
+// Adds to item k of `sums`, for each k, the product of `element` and 2 to the power k * `step`. The exponent of this
+// product grows by `step` from item to item, so no product waits for the product before it.
 pub(crate) fn add_multiples(sums: &mut [u8], element: u8, step: u8)
     requires some { 1 ≤ element }
     requires small { step < 255 }
@@ -211,8 +214,9 @@ fn fourfold(elements: u128) -> u128
     doubled(doubled(elements))
 }
 
-// Sixteen sums of products, a byte each. A factor is 64, 16, 4 and 1 times its four digits to the base 4. The table has
-// the multiples by each digit, so those by digits of equal weight are added up first, and the weights come in at the end.
+// Sixteen sums of products, a byte each. A factor is cut into four digits to the base 4, which have the weights 64, 16,
+// 4 and 1, and the table has the multiples by each digit. The products by digits of one weight are added up by
+// themselves. Only at the end, in `values`, are these four sums multiplied by their weights, and added.
 #[derive(Clone, Copy)]
 pub(crate) struct Sums {
     pub(crate) ones: u128,
@@ -250,7 +254,7 @@ impl Sums {
 }
 
 // The values at 2 to the powers `first` to `first` + 15 of the polynomial whose coefficients are `terms`, that of the
-// lowest power first. Chien's search looks for those that are 0.
+// lowest power first. Chien's search looks for values that are 0. The loop runs backward for the prover.
 pub(crate) fn sixteen_values(terms: &[u8], first: u8) -> [u8; 16]
     requires { length terms.now ≤ 31 }
     ensures { (k : ℕ) → k < 16 → slice_index result k ≡ eval (power (first + k)) terms.now }
@@ -263,8 +267,8 @@ pub(crate) fn sixteen_values(terms: &[u8], first: u8) -> [u8; 16]
     sums.values()
 }
 
-// The values of the polynomial whose coefficients are `remainder`, that of the highest power first, at 2 to the powers
-// `first` to `first` + 15.
+// The values at 2 to the powers `first` to `first` + 15 of the polynomial whose coefficients are `remainder`, that of
+// the highest power first. The loop runs backward for the prover.
 fn sixteen_syndromes(remainder: &[u8], first: u8) -> [u8; 16]
     requires { length remainder.now ≤ 30 }
     ensures { (k : ℕ) → k < 16 → slice_index result k ≡ value_at (first + k) remainder.now }
@@ -277,7 +281,8 @@ fn sixteen_syndromes(remainder: &[u8], first: u8) -> [u8; 16]
     sums.values()
 }
 
-// Appends the next syndromes of a remainder: sixteen, or all that are left.
+// Appends the next syndromes of a remainder: sixteen, or all that are left. The list has room for them, so
+// `try_extend_from_slice` cannot fail.
 pub(crate) fn push_syndromes(syndromes: &mut ArrayVec<u8, 30>, remainder: &[u8])
     requires few { length remainder.now ≤ 30 }
     requires left { array_vec_len syndromes.old < length remainder.now }

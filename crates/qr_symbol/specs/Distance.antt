@@ -1,4 +1,4 @@
--- Laws about the distance between symbols of version `v` and level `l`
+-- Laws about the distance between symbols of version `v` and level `l`: in how many codewords of a block they differ.
 use Rattle.std.specs.Prelude.{◌≡◌, ℕ, ◌+◌, ◌*◌, ◌<◌, ◌≤◌, Option, List, [], ◌++◌, slice_index_or}
 use Rattle.qr_field.specs.Distance.{differences, erasures, errors}
 use Rattle.qr_layout.specs.declared.level.Level.{Level}
@@ -30,8 +30,9 @@ MessagesLieApart v l =
     (m n : HeldMessage v l) → (m.message ≡ n.message → ⊥)
     → (i : ℕ) × (i < blocks_in v l) × ((blocks_of v l).ec_len + 1 ≤ differences (held_block v l m i) (held_block v l n i))
 
--- The codewords `read` from a damaged symbol belong to one message at most, if in each block the number of erased ones
--- plus twice that of misread ones is at most that of error correction codewords (ISO/IEC 18004:2015, 7.5.1)
+-- The codewords `read` from the blocks of a damaged symbol belong to one message at most, if for each block the number
+-- of erased ones plus twice a bound `t` on the misread ones is at most that of error correction codewords (ISO/IEC
+-- 18004:2015, 7.5.1)
 abbrev pub DamagedMessagesAreOne : ℕ → Level → Type 0
 DamagedMessagesAreOne v l =
     (m n : HeldMessage v l) (read : ℕ → List (Option ℕ)) (t : ℕ → ℕ)

@@ -1,5 +1,5 @@
--- The symbol of the bytes `x` at level `l`; `rule` determines the allowed modes, `i` how the bytes are to be interpreted,
--- and `g` is its square.
+-- The symbol of the bytes `x` at level `l`, with the square `g`. `rule` determines the allowed modes, and `i` how the
+-- bytes are to be interpreted.
 use Rattle.std.specs.Prelude.{◌≡◌, ℕ, List, Option, None}
 use Rattle.qr_layout.specs.declared.level.Level.{Level}
 use Rattle.qr_bits.specs.declared.modes.Rule.{Rule}
@@ -14,9 +14,9 @@ use Rattle.qr_symbol.specs.Interleaving.{IsInterleaved}
 use Rattle.qr_symbol.specs.Choice.{IsMask}
 use Rattle.qr_symbol.specs.VersionChoice.{IsHighestLevel, IsVersion}
 
--- The symbol of version `v` that contains the optional header `h`, what says the interpretation, and then `x`: the
--- characters in the segments of fewest bits are written as data codewords, and their final sequence is drawn under the
--- mask with the least penalty (ISO/IEC 18004:2015, 7.1, 7.4.2, 7.4.8.2, 8.1)
+-- The symbol of version `v` that contains the optional header `h`, the ECI header or FNC1 of the interpretation, and
+-- then `x`: the characters in the segments of fewest bits are written as data codewords, and their final sequence is
+-- drawn under the mask with the least penalty (ISO/IEC 18004:2015, 7.1, 7.4.2, 7.4.8.2, 8.1)
 pub record IsSymbolAt (v : ℕ) (l : Level) (rule : Rule) (i : Interpretation) (x : List ℕ) (h : Option Header) (mask : ℕ) (g : Grid) : Type 0 where
   pub segments : List Segment
   pub characters : List ℕ
@@ -46,7 +46,8 @@ SymbolsAreOne = (x : List ℕ) (l : Level) (smallest : ℕ) (rule : Rule) (i : I
     → IsSymbol smallest l rule i x v m g → IsSymbol smallest l rule i x w n h
     → (v ≡ w) × (m ≡ n) × (g ≡ h)
 
--- As `SymbolsAreOne`, for symbols of the highest level, which is one too [own]
+-- For a lowest level, a smallest version, a rule and an interpretation, an input has at most one version, highest
+-- level, mask and square [own]
 abbrev pub BoostedSymbolsAreOne : Type 0
 BoostedSymbolsAreOne = (x : List ℕ) (l : Level) (smallest : ℕ) (rule : Rule) (i : Interpretation) (v w : ℕ) (k j : Level) (m n : ℕ) (g h : Grid)
     → IsBoostedSymbol smallest l rule i x v k m g → IsBoostedSymbol smallest l rule i x w j n h

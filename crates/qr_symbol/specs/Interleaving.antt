@@ -87,8 +87,8 @@ pub record IsFinalMessage (b : Blocks) (d cw : List ℕ) : Type 0 where
 abbrev pub IsInterleaved : ℕ → Level → List ℕ → List ℕ → Type 0
 IsInterleaved v l d cw = IsFinalMessage (blocks_of v l) d cw
 
--- `xs` are the first codewords of `interleaved`, as many as the blocks have, with one block after the other (ISO/IEC
--- 18004:2015, 7.6)
+-- `xs` lists, one block after the other, the codewords at the beginning of `interleaved`, as many as the blocks have
+-- (ISO/IEC 18004:2015, 7.6)
 pub record IsGathered (c : BlockSizes) (interleaved xs : List ℕ) : Type 0 where
   pub long : length xs ≡ codeword_count c
   pub positions : List Position

@@ -22,7 +22,7 @@ AreInterpreted i squares = All (λ g. (c : Content) × IsReading g c × IsInterp
 abbrev pub bytes_of_all : List Content → List ℕ
 bytes_of_all contents = flat_map (λ c. c.bytes) contents
 
--- One content alone, from a plain symbol [own]
+-- There is one content alone, and it has no header [own]
 abbrev pub IsPlain : List Content → Type 0
 IsPlain contents = (c : Content) × (contents ≡ c ∷ []) × (c.header ≡ None)
 
@@ -62,8 +62,9 @@ pub record IsNoSeries (reads : Grid → Content → Type 0) (squares : List Grid
   pub read : AreReadBy reads squares contents
   pub apart : BelongTogether contents → ⊥
 
--- Reading and joining may fail with the fault: `Memory` always, `Series` if all squares are read but their contents do
--- not belong together, and any other if the first square that cannot be read is refused for it [own]
+-- Reading and joining may fail with the fault: with `Memory` always, with `Series` if all squares are read but their
+-- contents do not belong together, and with any other fault if the first square that cannot be read is refused for it
+-- [own]
 abbrev pub IsUnjoinedBy : (Grid → Content → Type 0) → (Grid → ReadFault → Type 0) → List Grid → ReadFault → Type 0
 IsUnjoinedBy reads refuses squares unread.Memory = Unit {0}
 IsUnjoinedBy reads refuses squares unread.Series = IsNoSeries reads squares

@@ -87,8 +87,8 @@ pub record IsParsedAs (g : Grid) (outcome : Result Content ParseFault) : Type 0 
 abbrev pub IsReading : Grid → Content → Type 0
 IsReading g content = IsParsedAs g (Ok content)
 
--- The bytes `x` under the interpretation `i`, after the optional header `h`: the segments come after what says the
--- interpretation, and contain what stands for the bytes (ISO/IEC 18004:2015, 7.4.2, 7.4.8.2)
+-- What a symbol of the bytes `x` says under the interpretation `i`: the optional header `h`, the ECI header or FNC1 of
+-- the interpretation, then the segments, whose characters stand for the bytes (ISO/IEC 18004:2015, 7.4.2, 7.4.8.2)
 abbrev pub interpreted_content : Interpretation → Option Header → List Segment → List ℕ → Content
 interpreted_content i h segments x = record { header = h; items = items_in i segments; ecis = ecis_in i; bytes = x }
 

@@ -1,5 +1,5 @@
--- The version and the level that are chosen for the bytes `x` at level `l`; `rule` determines the
--- allowed modes, and `i` how the bytes are to be interpreted.
+-- The version that is chosen for the bytes `x` at level `l`, and the highest level from `l` on that has room for them
+-- in this version. `rule` determines the allowed modes, and `i` how the bytes are to be interpreted.
 use Rattle.std.specs.Prelude.{ℕ, ◌-◌, ◌<◌, ◌≤◌, List}
 use Rattle.qr_layout.specs.declared.level.Level.{Level}
 use Rattle.qr_layout.specs.declared.level.Level.TheVariants.{L, M, Q, H}
@@ -9,8 +9,8 @@ use Rattle.qr_bits.specs.Segmentation.{HasFit}
 use Rattle.qr_bits.specs.Padding.{capacity_of}
 use Rattle.qr_bits.specs.Interpretation.{interpretation_bits}
 
--- `x` fits a plain symbol of version `v`, whose room is the whole capacity but for what says the interpretation (ISO/IEC
--- 18004:2015, 7.4.2, 7.4.8.2, 7.4.10, Table 7)
+-- `x` fits a plain symbol of version `v`, which has the whole capacity for its segments, but for the bits of the ECI
+-- header or FNC1 of the interpretation (ISO/IEC 18004:2015, 7.4.2, 7.4.8.2, 7.4.10, Table 7)
 abbrev pub FitsVersion : ℕ → Level → Rule → Interpretation → List ℕ → Type 0
 FitsVersion v l rule i x = HasFit i v rule x (capacity_of v l - interpretation_bits i)
 

@@ -1,6 +1,6 @@
 //! Collects the codewords from the region, strip by strip (ISO/IEC 18004:2015, 7.7.3 and 12), and so undoes
-//! `draw_codewords`. Squares are transposed: the two columns of a strip are rows (`spans.rt`). Exactly the region is dark
-//! in `region`, and transposing does not change it.
+//! `draw_codewords`. `across` is a transposed square, in which the two columns of a strip are rows (`spans.rt`). In
+//! `region` exactly the region is dark; the region is symmetric, so transposing does not change it.
 
 ghost use Rattle.std.specs.Prelude.{◌≡◌, ℕ, ◌%◌, ◌+◌, ◌<◌, ◌≤◌, map, length, IfOk};
 ghost use Rattle.qr_layout.specs.Version.{side_of, total_codewords_of};
@@ -19,10 +19,11 @@ use qr_layout::{Strip, Version, all_strips};
 use qr_matrix::Matrix;
 use std::alloc::{AllocError, Global};
 
-// The most rows that are read at once: their 56 bits and up to seven from before fit a word.
+// The most rows that are read at once: their 56 bits fit a word beside up to seven that were collected before.
 const ROWS_MAX: u8 = 28;
 
-// Collects rows of which all modules are in the region.
+// Collects `count` rows, `top` and those below it, of which all modules are in the region. The bound on `top` is the
+// number of bits in a bit row.
 #[inline(always)]
 fn collect_rows(bits: &mut Collector, columns: &Columns, top: u8, count: u8, upward: bool)
     requires top_in { top < 192 }

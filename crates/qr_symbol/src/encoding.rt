@@ -1,4 +1,6 @@
-//! Encodes an input as one symbol (ISO/IEC 18004:2015, 7.1).
+//! Encodes an input as one symbol (ISO/IEC 18004:2015, 7.1): finds its version and segments (`version_choice.rt`),
+//! writes these as data codewords, interleaves them with the error correction codewords, and draws the symbol on a
+//! canvas (`canvas.rt`), the squares from which symbols are made.
 
 ghost use Rattle.std.specs.Prelude.{◌≡◌, ◌≢◌, ◌+◌, ◌<◌, ◌≤◌, ◌↔◌, ◌⊎◌, ℕ, List, [], length, Err, IfOk, IfErr, MatchResult};
 ghost use Rattle.std.specs.Option.{ForSome};
@@ -27,21 +29,22 @@ use qr_bits::{Header, INPUT_MAX, Interpretation, Rule, Segmented, codewords};
 use qr_layout::{Level, Version};
 use std::alloc::Global;
 
-// The most bytes that a symbol can contain: digits in version 40 at level L (7.4.10, Table 7).
+// The most bytes that a symbol can contain. So many fit version 40 at level L if they all are digits (7.4.10, Table 7).
 pub(crate) const SYMBOL_BYTES_MAX: usize = 7089;
 
 /// Encodes the input as one symbol of the least version, from `smallest` on, that it fits (ISO/IEC 18004:2015, 7.1).
-/// The segments are those of fewest bits in the modes that `rule` allows, and the codewords those that the standard
-/// requires for them. The mask is the one with the least penalty, the smallest of equals.
+/// The symbol says of its bytes what `interpretation` is: their ECI, that they are GS1 data, or nothing. The segments
+/// are those of fewest bits in the modes that `rule` allows, and the codewords are those that the standard requires for
+/// these segments. The mask is the one with the least penalty, the smallest of equals.
 ///
-/// The codewords in the standard's order, unmasked, deinterleaved and parsed, yield exactly the input and these
+/// Read in the standard's order, unmasked, deinterleaved and parsed, the symbol yields exactly the input and these
 /// segments.
 ///
 /// # Errors
 ///
-/// Returns `Empty` exactly if the input has no byte, `TooLong` if it fits no version from `smallest` on, and `Memory`
-/// if an allocation is refused, in which case `TooLong` is not returned. For more than 7,089 bytes `TooLong` is
-/// returned before any allocation.
+/// Returns `Empty` exactly if the input has no byte. Returns `TooLong` if it fits no version from `smallest` on, and
+/// `Memory` if an allocation is refused before this is known or while the symbol is made. For more than 7,089 bytes
+/// `TooLong` is returned before any allocation.
 ///
 /// # Notes
 ///
@@ -116,7 +119,7 @@ pub fn encode_boosted(
     fitting_symbol(alloc, &fit.segmented, interpretation, fit.version, highest)
 }
 
-// The least version that the input fits, with its segments there.
+// The least version that the input fits, and its segments in this version.
 fn fit_of<'a>(
     alloc: Global,
     input: &'a [u8],
@@ -139,7 +142,7 @@ fn fit_of<'a>(
     Ok(least_fit(alloc, input, level, smallest, rule, interpretation)?)
 }
 
-// The plain symbol of an input that fits.
+// As `symbol_at`, without a structured append header.
 fn fitting_symbol(
     alloc: Global,
     segmented: &Segmented<'_>,
@@ -160,7 +163,7 @@ fn fitting_symbol(
     symbol_at(alloc, segmented, None, interpretation, version, level)
 }
 
-// Draws the symbol on a canvas of its own (7.1, 8.1).
+// Makes the symbol of the segments on a canvas of its own. With a header it is a symbol of a series (7.1, 8.1).
 pub(crate) fn symbol_at(
     alloc: Global,
     segmented: &Segmented<'_>,
@@ -184,8 +187,8 @@ pub(crate) fn symbol_at(
     symbol_on(alloc, &mut canvas, segmented, header, interpretation)
 }
 
-// The data codewords of the segments (7.4). Out of line, so that what makes them is not on the stack while error
-// correction codewords are computed.
+// The data codewords of the segments (7.4). This function is not inlined, so that its variables are no longer on the
+// stack while error correction codewords are computed.
 #[inline(never)]
 fn data_codewords(
     alloc: Global,
@@ -205,7 +208,7 @@ fn data_codewords(
         segmented.now.segments.items header interpretation message.items)
         (λ e. e ≡ EncodeFault.Memory) }
 {
-    // Only for the prover: no symbol contains more than 7,089 characters.
+    // Only for the prover, which concludes that the symbol contains at most 7,089 characters.
     prove!(version.number() <= 40);
     Ok(codewords(
         alloc,
@@ -218,8 +221,8 @@ fn data_codewords(
     )?)
 }
 
-// The final sequence of the segments (7.4 to 7.6). Out of line, so that the data codewords are gone, and not on the
-// stack, when the symbol is drawn.
+// The final sequence of the segments (7.4 to 7.6). This function is not inlined, so that the data codewords are freed,
+// and its variables no longer on the stack, when the symbol is drawn.
 #[inline(never)]
 fn final_codewords(
     alloc: Global,
@@ -244,7 +247,7 @@ fn final_codewords(
     Ok(interleave(alloc, version, level, &message)?)
 }
 
-// As `symbol_at`, but on the given canvas, with its version and level.
+// As `symbol_at`, but on the given canvas, whose version and level the symbol gets.
 pub(crate) fn symbol_on(
     alloc: Global,
     canvas: &mut Canvas,

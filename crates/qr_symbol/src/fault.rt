@@ -6,13 +6,14 @@ use qr_bits::{BitFault, ParseFault};
 use std::alloc::{AllocError, AllocFailed};
 use thiserror::Error;
 
-/// Why an input is not encoded. `encode` checks for `Empty`, then for `TooLong`; `encode_series` checks for `Empty`,
-/// then for `TooMany`. Memory may be refused at any step after the check for `Empty`.
+/// Why an input is not encoded. `encode` looks for the cause of `Empty`, then for that of `TooLong`; `encode_series`
+/// looks for that of `Empty`, then for that of `TooMany`. Memory may be refused at any step after the check for
+/// `Empty`.
 #[derive(Clone, Copy, Debug, PartialEq, Eq, Error)]
 pub enum EncodeFault {
     #[error("input is empty")]
     Empty = 1,
-    /// The input fits no allowed version.
+    /// The input fits neither the smallest version that is allowed nor any above it.
     #[error("input does not fit")]
     TooLong = 2,
     #[error("more than 16 symbols")]
@@ -57,8 +58,9 @@ impl From<BitFault> for EncodeFault {
     }
 }
 
-/// Why symbols are not read or mended. For each symbol the faults from `Side` on are checked in this order, and
-/// `Series` after all symbols; memory may be refused at several steps.
+/// Why symbols are not read or mended. For each symbol the causes of `Side`, `Format`, `Check` and `Segments` are
+/// looked for in this order, and the cause of `Series` after all symbols were read. Memory may be refused at several
+/// steps.
 #[derive(Clone, Copy, Debug, PartialEq, Eq, Error)]
 pub enum ReadFault {
     #[error("out of memory")]
@@ -66,17 +68,18 @@ pub enum ReadFault {
     #[error("no version has this side")]
     Side,
     /// In reading, the copy of the format information beside the top left finder pattern belongs to no level and mask.
-    /// In mending, each copy costs more than 6 with every level and mask.
+    /// In mending, a module of a copy costs 1 if it was not read and 2 if it is misread, and with every level and mask
+    /// each copy costs more than 6.
     #[error("the format information is damaged")]
     Format,
-    /// The error correction codewords of a block do not belong to its data codewords, and in mending the block cannot
-    /// be mended.
+    /// In reading, the error correction codewords of some block do not belong to its data codewords. In mending, some
+    /// block has more damage than can be corrected, with each level and mask that the format information admits.
     #[error("a codeword is damaged")]
     Check,
     /// The data codewords cannot be parsed, for a reason other than `ParseFault::Memory`.
     #[error("the data codewords cannot be parsed: {0}")]
     Segments(ParseFault),
-    /// The symbols are neither one plain symbol nor a whole series.
+    /// The symbols are neither one symbol without a structured append header nor a whole series.
     #[error("the symbols do not form a series")]
     Series,
 }

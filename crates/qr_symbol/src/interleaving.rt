@@ -1,6 +1,16 @@
 //! Makes the final sequence of codewords from the data codewords, and undoes it (ISO/IEC 18004:2015, 7.5.2 and 7.6).
-//! Interleaved codewords come as the first of each block, then the second of each block, and so on; elsewhere the
-//! blocks come one after the other.
+//! Codewords of one kind, data or error correction, are listed in two ways: one block after the other, or interleaved.
+//! With three blocks, of which the last is long, the two lists are:
+//!
+//! ```text
+//! one block after the other      interleaved, row by row
+//! a0 a1 a2                       a0 b0 c0
+//! b0 b1 b2                       a1 b1 c1
+//! c0 c1 c2 c3                    a2 b2 c2
+//!                                      c3
+//! ```
+//!
+//! The final sequence has the interleaved data codewords, and after them the interleaved error correction codewords.
 
 ghost use Rattle.std.specs.Prelude.{◌≡◌, ◌≢◌, ◌↔◌, ℕ, ◌+◌, ◌<◌, ◌≤◌, ◌⊎◌, List, length, Err, IfOk, IfErr, MatchResult};
 ghost use Rattle.qr_layout.specs.Blocks.{data_codewords_of};
@@ -36,7 +46,8 @@ impl BlockSizes {
         }
     }
 
-    /// Returns the block sizes, counted in error correction codewords, of which all blocks have equally many.
+    /// Returns the block sizes, counted in error correction codewords. All blocks have equally many of these, so all
+    /// are short.
     pub fn of_corrections(blocks: Blocks) -> BlockSizes
         ensures { result ≡ correction_sizes blocks }
     {
@@ -72,7 +83,7 @@ impl BlockSizes {
         usize::from(self.short_len) * block + block.saturating_sub(usize::from(self.short))
     }
 
-    /// Returns the codewords of block `block`, counted from 0; in `codewords` the blocks come one after the other.
+    /// Returns the codewords of block `block`, counted from 0. In `codewords` the blocks come one after the other.
     #[tactic(auto, using(crate::proofs::Named::slices))]
     pub fn part(self, codewords: &[u8], block: usize) -> &[u8]
         requires within { block < block_count self }
@@ -99,13 +110,15 @@ impl BlockSizes {
         Ok(gathered)
     }
 
-    /// Interleaves the codewords of all blocks, which come one block after the other, and writes them to `interleaved`: the
-    /// first of each block, then the second of each block, and so on (ISO/IEC 18004:2015, 7.6). `gather` undoes this.
+    /// Interleaves the codewords of all blocks, which come one block after the other, and writes them to `interleaved`:
+    /// the first of each block, then the second of each block, and so on (ISO/IEC 18004:2015, 7.6). `gather` undoes
+    /// this.
     ///
     /// # Notes
     ///
-    /// Goes through the codewords block by block. Those of a block are as far apart as there are blocks. After all of
-    /// these come the last codewords of the long blocks, one after the other.
+    /// Goes through the codewords block by block. In `interleaved`, codewords that are neighbours in a block are as far
+    /// apart as there are blocks. The last codewords of the long blocks are the exception: they stand at the end, one
+    /// after the other.
     pub fn scatter(self, codewords: &[u8], interleaved: &mut [u8])
         requires whole { length codewords.now ≡ codeword_count self }
         requires room { length interleaved.old ≡ codeword_count self }
@@ -128,7 +141,9 @@ impl BlockSizes {
     }
 }
 
-// Takes two blocks at a time, since two divisions take little longer than one, and then the last if it is left.
+// The error correction codewords of all blocks, one block after the other. A block has at most 30 of them (Table 9).
+// Takes two blocks at a time, since two divisions take little longer than one. If the number of blocks is odd, the last
+// block is taken alone.
 fn corrections(alloc: Global, blocks: Blocks, message: &[u8]) -> Result<Vec<u8>, AllocError>
     requires whole { length message.now ≡ codeword_count (data_sizes blocks) }
     requires least { 1 ≤ blocks.ec_len }
@@ -153,8 +168,9 @@ fn corrections(alloc: Global, blocks: Blocks, message: &[u8]) -> Result<Vec<u8>,
     Ok(corrections)
 }
 
-// Interleaves the codewords of both kinds. Out of line: where LLVM knows how many blocks there can be, it multiplies for each
-// codeword instead of adding. So it is not on the stack either while error correction codewords are computed.
+// Interleaves the data codewords, and after them the error correction codewords. It is out of line for two reasons.
+// Where LLVM knows how many blocks there can be, it computes the index of each codeword by a multiplication instead of
+// an addition. And out of line its variables are not on the stack while error correction codewords are computed.
 #[inline(never)]
 fn interleave_both(
     alloc: Global,
@@ -173,7 +189,7 @@ fn interleave_both(
     Ok(interleaved)
 }
 
-// Inlined, so that it does not add to the stack while error correction codewords are computed.
+// Is inlined, so that it adds nothing to the stack while error correction codewords are computed.
 #[inline(always)]
 fn interleave_blocks(alloc: Global, blocks: Blocks, message: &[u8]) -> Result<Vec<u8>, AllocError>
     requires whole { length message.now ≡ codeword_count (data_sizes blocks) }
@@ -227,7 +243,7 @@ fn deinterleave_into(message: &mut [u8], sizes: BlockSizes, codewords: &[u8])
     }
 }
 
-// Compares the error correction codewords that were read with those of the message, block by block.
+// Computes the error correction codewords of the message, and compares them with those that were read.
 fn deinterleave_blocks(
     alloc: Global,
     blocks: Blocks,

@@ -1,5 +1,5 @@
-//! Laws of masks, interleaving, reading and series. The contract of each function is the law; where a function has
-//! code, it is about what the code returns.
+//! Laws of masks, interleaving, reading and series. The contract of each function is the law. Where a function has
+//! code, the law is about what this code returns.
 
 ghost use Rattle.std.specs.Prelude.{◌≡◌, ◌<◌, ◌≤◌, ◌+◌, ◌%◌, ◌⊎◌, ℕ, false, List, length, map, None, ◌∷◌, IfOk, IfErr, ◌≢◌, ◌↔◌, Err, IsTrue};
 ghost use Rattle.std.specs.List.{All};
@@ -108,14 +108,15 @@ pub fn messages_lie_apart(version: Version, level: Level)
     ensures { MessagesLieApart version level }
 {}
 
-/// At one version and level, the codewords of a damaged symbol belong to at most one message if the damage is limited.
-/// In each block, the number of erased codewords plus twice that of misread ones has to be at most that of error
-/// correction codewords.
+/// At one version and level, the codewords of a damaged symbol belong to at most one list of data codewords if the
+/// damage is limited. A codeword is misread if its value is wrong, and erased if it is known to be unreadable. In each
+/// block, the number of erased codewords plus twice that of misread ones has to be at most that of error correction
+/// codewords.
 pub fn damaged_messages_are_one(version: Version, level: Level)
     ensures { DamagedMessagesAreOne version level }
 {}
 
-/// Reading the codeword bits of a square yields the bits of the codewords from which it was drawn.
+/// Reading the codeword bits of a square yields the bits of the codewords from which the square was drawn.
 #[tactic(auto, using(crate::proofs::Named::laws_of_reading))]
 pub fn squares_give_their_bits(version: Version)
     ensures { (l : Level) (mask : ℕ) (cw : List ℕ) (ms : List Module) → IsOrder version ms
@@ -123,8 +124,8 @@ pub fn squares_give_their_bits(version: Version)
         → read_bits version mask (grid_of version l mask cw) ms ≡ bits_of cw }
 {}
 
-/// Exactly one list of codewords can be read from a square under a given mask, and at one level it is the final
-/// sequence of at most one list of data codewords.
+/// From a square and a mask exactly one list of codewords is read. At a given level it is the final sequence of at most
+/// one list of data codewords.
 pub fn reading_is_one(version: Version, level: Level)
     ensures some { (mask : ℕ) (g : Grid) → (cw : List ℕ) × IsRead version mask g cw }
     ensures codewords { (mask : ℕ) (g : Grid) (cw ds : List ℕ) → IsRead version mask g cw
@@ -139,7 +140,8 @@ pub fn format_is_one()
         → (l ≡ k) × (m ≡ n) }
 {}
 
-/// A square is read in at most one way: as one optional header, one list of segments and one list of bytes.
+/// A square is read as at most one content: an optional structured append header, the items (segments, ECI headers and
+/// FNC1), the bytes, and the ECI headers with the number of bytes before each.
 pub fn contents_are_one()
     ensures { (g : Grid) (p q : Content) → IsReading g p → IsReading g q → p ≡ q }
 {}
@@ -185,19 +187,19 @@ pub fn joinings_are_refused_exactly(alloc: Global, symbols: &[Symbol]) -> Result
     read_series(alloc, symbols)
 }
 
-/// An input has at most one symbol for a level, a rule, an interpretation and a smallest version.
+/// An input has at most one symbol if the level, the rule, the interpretation and the smallest version are given.
 pub fn symbols_are_one()
     ensures { SymbolsAreOne }
 {}
 
-/// An input has at most one symbol of the highest level for a lowest level, a rule, an interpretation and a smallest
-/// version.
+/// An input has at most one symbol of the kind that `encode_boosted` makes, of the highest level at which it fits, if
+/// the lowest level, the rule, the interpretation and the smallest version are given.
 pub fn boosted_symbols_are_one()
     ensures { BoostedSymbolsAreOne }
 {}
 
-/// A symbol of the highest level is the symbol of its input for this level, from its version on. So what holds of
-/// symbols holds of it.
+/// A symbol of the kind that `encode_boosted` makes is the one that `encode` makes of the same input if it is given the
+/// level of this symbol, and its version as the smallest. So the laws of the symbols of `encode` hold of it too.
 pub fn boosted_symbols_are_symbols()
     ensures { (x : List ℕ) (l k : Level) (smallest : ℕ) (rule : Rule) (i : Interpretation) (v mask : ℕ) (g : Grid)
         → IsBoostedSymbol smallest l rule i x v k mask g → IsSymbol v k rule i x v mask g }
@@ -211,7 +213,7 @@ pub fn symbols_are_read(smallest: Version)
         → IsReading g (interpreted_content i None s.made.segments x) }
 {}
 
-/// An input has at most one series for a version, a level, a rule and an interpretation.
+/// An input has at most one series if the version, the level, the rule and the interpretation are given.
 pub fn series_are_one()
     ensures { (x : List ℕ) (l : Level) (rule : Rule) (i : Interpretation) (v : ℕ)
         (ss ts : List Symbol) → IsSeries v l rule i x ss → IsSeries v l rule i x ts → ss ≡ ts }
@@ -233,15 +235,15 @@ pub fn series_are_shortest()
         → MayWrite i x → may_use rule Mode.Kanji ≡ false → HasNoSeries v l rule i x → NeedsParts v l rule i x 17 }
 {}
 
-/// Every input can be cut into parts, since a symbol has room for a structured append header and a byte.
+/// Every input can be cut into parts, since each symbol has room for a structured append header and at least one byte.
 #[tactic(auto, using(crate::proofs::Named::laws_of_parts))]
 pub fn parts_are_there(version: Version, level: Level)
     ensures { (rule : Rule) (i : Interpretation) (x : List ℕ)
         → (parts : List (List ℕ)) × AreParts version level rule i x parts }
 {}
 
-/// Each part into which an input without an interpretation is cut has at least five bytes, or all that come after the
-/// earlier parts.
+/// Take an input without an interpretation that is cut into parts. Each part has at least five bytes, or is all that is
+/// left after the earlier parts.
 #[tactic(auto, using(crate::proofs::Named::laws_of_parts))]
 pub fn parts_are_long(version: Version, level: Level)
     ensures { (rule : Rule) (x p : List ℕ) (ps : List (List ℕ))

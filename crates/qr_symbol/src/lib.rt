@@ -4,7 +4,7 @@
 //!
 //! ```text
 //! let (first, plain) = (Version::FIRST, Interpretation::Default);
-//! let symbol = encode(alloc, words, Level::M, first, Rule::Auto, plain)?;
+//! let symbol = encode(alloc, input, Level::M, first, Rule::Auto, plain)?;
 //! for row in 0..symbol.matrix.side() {
 //!     for col in 0..symbol.matrix.side() {
 //!         text.push(if symbol.matrix.dark(row, col) { b'#' } else { b' ' })?;
@@ -15,6 +15,10 @@
 //!
 //! The crate `example_label` has such a function with its contract. To be scanned, a symbol needs a quiet zone: a light
 //! margin of four modules on each side.
+//!
+//! In this crate the message is the data codewords of a symbol, and the final sequence is all its codewords,
+//! interleaved. The region is the encoding region: all modules outside the function patterns, the format information
+//! and the version information. A plain symbol is one without a structured append header.
 #![tactic(auto)]
 
 mod canvas;

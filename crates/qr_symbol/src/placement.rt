@@ -1,8 +1,9 @@
 //! Draws the codewords into the region in the standard's order (ISO/IEC 18004:2015, 7.7.2 and 7.7.3): `draw_codewords`
-//! strip by strip, `draw_along_walk` module by module.
+//! strip by strip, `draw_along_walk` module by module. The bits of the codewords are numbered through all codewords.
+//! Bit 0 is the highest of the first codeword, and the number of a bit is the number of its module in the order.
 //!
-//! `across` is a transposed square, in which the two columns of a strip are rows (`spans.rt`). Exactly the region is dark
-//! in `region`, and transposing does not change it.
+//! `across` is a transposed square, in which the two columns of a strip are rows (`spans.rt`). In `region` exactly the
+//! region is dark; the region is symmetric, so transposing does not change it.
 
 ghost use Rattle.std.specs.Prelude.{◌≡◌, ℕ, ◌*◌, ◌%◌, ◌+◌, ◌-◌, ◌<◌, ◌≤◌, ◌==◌, ◌&&◌, ◌||◌, if◌then◌else◌, nat_le, nat_lt, not, false};
 ghost use Rattle.qr_layout.specs.Version.{side_of};
@@ -29,11 +30,12 @@ fn with_light_region(columns: Columns, region: &Columns) -> Columns
     }
 }
 
-// The most rows that are drawn at once: a word has two bits for each.
+// The most rows that are drawn at once: a word of 64 bits has two bits for each row.
 const ROWS_MAX: u8 = 32;
 
-// Draws the first of `bits` into a row. The module is in the region, and light before; a branch on its bit would be
-// costly, since no processor can predict it.
+// Draws the first of `bits`, which is the highest, into a row of a column. The module is in the region, and light
+// before. A branch on the bit would be costly, since no processor can predict it. The bound on `row` is the number of
+// bits in a bit row.
 #[inline(always)]
 fn draw_module(column: &mut BitRow, row: u8, bits: u64)
     requires row_in { row < 192 }
@@ -43,8 +45,8 @@ fn draw_module(column: &mut BitRow, row: u8, bits: u64)
     column.set_bits(row, bits >> 63);
 }
 
-// Draws the first of `bits` into rows of which all modules are in the region, and light before, so only those whose bits
-// are 1 need to be made dark.
+// Draws the first of `bits` into `count` rows, `top` and those below it. All their modules are in the region, and light
+// before, so only those whose bits are 1 have to be made dark. The bound on `top` is the number of bits in a bit row.
 #[inline(always)]
 fn draw_rows(columns: &mut Columns, top: u8, count: u8, upward: bool, bits: u64)
     requires top_in { top < 192 }
@@ -61,7 +63,8 @@ fn draw_rows(columns: &mut Columns, top: u8, count: u8, upward: bool, bits: u64)
     columns.left.set_bits(top, left);
 }
 
-// Draws the columns of a strip, and returns the number of the next bit.
+// Draws the columns of a strip, whose first bit has the number `first`, and returns the number of the bit after the
+// strip. The 3,706 codewords of version 40 have 29,648 bits.
 #[inline(always)]
 fn draw_columns(
     columns: &mut Columns,
@@ -102,7 +105,7 @@ fn draw_columns(
 }
 
 // As `draw_columns`, but takes the columns from the square `across`, and puts them back. `draw_columns` is called in
-// two places, so that each direction is compiled for itself.
+// two places, so that each of the two directions is compiled for itself.
 fn draw_strip(
     across: &mut Matrix,
     v: Version,
@@ -139,6 +142,7 @@ fn draw_strip(
     next
 }
 
+// Draws all codewords into the transposed square. Outside the region its colours stay.
 pub(crate) fn draw_codewords(across: &mut Matrix, v: Version, region: &Matrix, codewords: &[u8])
     requires square { IsSquare (side_of v) across.old }
     requires region { region.now ≡ region_grid v }
@@ -152,7 +156,7 @@ pub(crate) fn draw_codewords(across: &mut Matrix, v: Version, region: &Matrix, c
     }
 }
 
-// The mask is applied to the remainder bits too.
+// The remainder bits are 0, and the mask is applied to them too.
 pub(crate) fn draw_along_walk(matrix: &mut Matrix, v: Version, codewords: &[u8], mask: u8)
     requires { IsSquare (side_of v) matrix.old }
     ensures { matrix.new ≡ square (side_of v) (walked_colour v codewords.now mask (colour matrix.old)) }

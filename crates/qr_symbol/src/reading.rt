@@ -1,4 +1,7 @@
-//! Reads one symbol (ISO/IEC 18004:2015, 12).
+//! Reads one symbol (ISO/IEC 18004:2015, 12). The side gives the version, and one copy of the format information the
+//! level and the mask. Then the mask is undone, the codewords are collected from the region and deinterleaved, and the
+//! data codewords are parsed. Errors are not corrected: if a codeword does not belong to the others of its block, the
+//! symbol is refused.
 
 ghost use Rattle.std.specs.Prelude.{◌≡◌, ℕ, ◌<◌, ◌≤◌, Err, length, IfOk, MatchOption, MatchResult};
 ghost use Rattle.std.specs.Bool.{Decides};
@@ -19,7 +22,7 @@ use qr_layout::{Level, Version, format_place, format_word};
 use qr_matrix::Matrix;
 use std::alloc::{AllocError, Global};
 
-// Compares the copy beside the top left finder pattern alone.
+// Looks only at the copy beside the top left finder pattern.
 fn has_format(matrix: &Matrix, level: Level, mask: u8) -> bool
     requires side { 21 ≤ matrix.now.side }
     requires mask_in { mask < 8 }
@@ -64,7 +67,8 @@ fn format_of(matrix: &Matrix) -> Option<(Level, u8)>
     None
 }
 
-// Transposes the square first: the columns of a strip are then rows, of which a word holds 64 modules.
+// Reads a square that has no mask, or of which the mask was undone. Transposes it first: the columns of a strip are
+// then rows, of which a word holds 64 modules.
 fn read_plain(
     alloc: Global,
     version: Version,
@@ -100,8 +104,8 @@ pub fn read_unmasked(
     read_plain(alloc, version, matrix, &region)
 }
 
-/// Reads the codewords from the region in the order of `qr_layout::walk`, with the mask undone. The remainder bits are
-/// ignored (ISO/IEC 18004:2015, 7.7.3 and 12), and a mask above 7 is taken as 7.
+/// Reads the codewords from the region in the order of `qr_layout::walk`, with the mask undone (ISO/IEC 18004:2015,
+/// 7.7.3 and 12). The remainder bits are ignored. A mask above 7 is taken as 7.
 ///
 /// # Errors
 ///
@@ -123,7 +127,7 @@ pub fn read_codewords(
     read_plain(alloc, version, &plain, &region)
 }
 
-// Reads a symbol of this version, level and mask.
+// Level and mask are those of the format information.
 fn read_with(
     alloc: Global,
     matrix: &Matrix,

@@ -1,4 +1,5 @@
-//! Encodes an input as a series of symbols, the standard's Structured Append (ISO/IEC 18004:2015, 8).
+//! Encodes an input as a series of symbols, the standard's Structured Append (ISO/IEC 18004:2015, 8). The input is cut
+//! into parts first, and then a symbol is made of each part.
 
 ghost use Rattle.std.specs.Prelude.{◌≡◌, ◌≢◌, ◌-◌, ◌<◌, ◌≤◌, ◌↔◌, ◌⊎◌, ℕ, false, List, [], length, None, Some, Err, IsTrue, IfOk, IfErr, MatchOption, MatchResult};
 ghost use Rattle.qr_bits.specs.declared.modes.Rule.{Rule};
@@ -30,17 +31,21 @@ use std::alloc::Global;
 
 /// Encodes the input as a series of at most 16 symbols of one version and level (ISO/IEC 18004:2015, 8). An input that
 /// fits one symbol without a structured append header is encoded as this one symbol. Any other is cut into parts, each
-/// the longest prefix of the rest that fits a symbol with a header, even if some shorter prefix does not.
+/// the longest prefix of the rest that fits a symbol with a header, even if some shorter prefix does not fit.
 ///
-/// The parity data in each header are of the whole input. The symbols, read and joined, yield exactly the input, and each
-/// is read with its interpretation.
-/// Without kanji mode the series is the shortest possible: no cut into parts that fit has fewer parts.
+/// The parity data in each header are of the whole input. The symbols, read and joined, yield exactly the input, and
+/// each is read with its interpretation. Without kanji mode the series is the shortest possible: no cut into parts that
+/// fit has fewer parts.
 ///
 /// # Errors
 ///
-/// Returns `Empty` exactly if the input has no byte, `TooMany` if it would be cut into more than 16 parts, and `Memory`
-/// if an allocation is refused, in which case `TooMany` is not returned. Without kanji mode `TooMany` means that there
-/// is no cut at all into at most 16 parts that fit.
+/// Returns `Empty` exactly if the input has no byte. Returns `TooMany` if the input would be cut into more than 16
+/// parts, and `Memory` if an allocation is refused before this is known or while symbols are made. Without kanji mode
+/// `TooMany` means that there is no cut at all into at most 16 parts that fit.
+///
+/// # Notes
+///
+/// A prefix that ends between the two bytes of a kanji may take more bits than a longer one.
 pub fn encode_series(
     alloc: Global,
     input: &[u8],
@@ -105,8 +110,8 @@ fn series_of(
     )
 }
 
-// Whether a bound shows that the input does not fit, so that it need not be cut into segments. With byte mode alone the
-// lower bound on its bits is not computed, since there is only one segment.
+// Whether a bound already shows that the input does not fit a plain symbol, so that it need not be cut into segments.
+// With byte mode alone only the number of bytes is looked at: there is one segment then, so to cut takes no time.
 fn takes_more(
     input: &[u8],
     version: Version,
@@ -182,7 +187,7 @@ fn part_lengths(
     Ok(lengths)
 }
 
-// No symbol contains more than 7,089 bytes, so no more of `rest` are read.
+// The length of the next part. No symbol contains more than 7,089 bytes, so only so many of `rest` are looked at.
 fn prefix_len(
     alloc: Global,
     rest: &[u8],
@@ -202,7 +207,8 @@ fn prefix_len(
     Ok(longest_fit(alloc, prefix, version, level, rule, interpretation)?)
 }
 
-// Draws all symbols on one canvas, so that the function patterns and the region are drawn once (8.1 to 8.3).
+// Draws the symbols of all parts on one canvas, so that the function patterns and the region are drawn once (8.1 to
+// 8.3). `lengths` are those of the parts.
 fn symbols_on(
     alloc: Global,
     canvas: &mut Canvas,

@@ -70,7 +70,8 @@ pub(crate) enum Span {
     Outside,
 }
 
-// An iterator over the spans of a strip. Exactly the region is set in `region`.
+// An iterator over the spans of a strip. In `region`, the columns of the strip, exactly the region is set. The side is
+// at most 177, that of version 40.
 #[derive(Drop)]
 pub(crate) struct Spans {
     region: Columns,
@@ -79,7 +80,7 @@ pub(crate) struct Spans {
     side: u8,
     // The most rows of a span of which both modules are in the region.
     most: u8,
-    // The number of rows in earlier spans.
+    // The number of rows in the spans that were already returned.
     passed: u8,
 }
 
@@ -102,7 +103,8 @@ impl Spans {
         }
     }
 
-    // How many of the next rows are set in `rows`, without a gap, and in one word.
+    // How many of the next rows are set in `rows`, counted up to the first that is not, or to the end of the word of 64
+    // bits.
     #[inline(always)]
     fn rows_set(&self, rows: &BitRow) -> u8
         requires side { self.now.side ≤ 177 }

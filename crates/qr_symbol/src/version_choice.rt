@@ -30,10 +30,11 @@ const SMALL: u8 = 9;
 
 const MEDIUM: u8 = 26;
 
-// An upper bound on the bytes of a symbol of versions 1 to 26: no bytes take fewer bits than digits, of which three
-// take ten (7.4.3).
+// An upper bound on the bytes of a symbol of versions 1 to 26. No bytes take fewer bits than digits, of which three
+// take ten (7.4.3), and version 26 at level L has 10,960 bits in data codewords.
 const MEDIUM_BYTES: usize = 3288;
 
+// A version that an input fits, and its segments there.
 #[derive(Drop)]
 pub(crate) struct Fit<'a> {
     pub version: Version,
@@ -54,7 +55,7 @@ fn last_of_width(version: Version) -> u8
     }
 }
 
-// How many bits the segments take with what says the interpretation.
+// How many bits the segments take, with the ECI header or FNC1 that says their interpretation.
 pub(crate) fn needed_bits(
     segmented: &Segmented<'_>,
     interpretation: Interpretation,
@@ -76,8 +77,9 @@ fn room_in(number: u8, level: Level) -> u64
     8 * u64::from(version.data_codewords(level))
 }
 
-// The first version of a range: 1, 10 or 27. The input fits no version before it, as its length or a lower bound on its
-// bits shows, since the last version of a range has the most room. With byte mode alone this bound is not computed,
+// The first version of a range, 1, 10 or 27, such that the input fits no version of the ranges before it. Its length or
+// a lower bound on its bits shows this, without a cut into segments. The bound is compared with the capacity of the
+// last version of a range, which is the greatest there. With byte mode alone the bound on its bits is not computed,
 // since it would save little time.
 fn first_for(input: &[u8], level: Level, rule: Rule, interpretation: Interpretation) -> u8
     requires { length input.now ≤ INPUT_MAX }
@@ -117,7 +119,8 @@ fn first_with_room(level: Level, first: Version, last: u8, bits: u64) -> Option<
     None
 }
 
-// Takes the ranges in turn, until a version of one has room for the segments.
+// Takes the ranges in turn, cuts the input into segments for each, and ends with the first version that has room for
+// them.
 pub(crate) fn least_fit<'a>(
     alloc: Global,
     input: &'a [u8],

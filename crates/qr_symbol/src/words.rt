@@ -1,6 +1,6 @@
-//! Bits of words, and of codewords as far as they are read and written many at a time (ISO/IEC 18004:2015, 7.7.2 and
-//! 7.7.3). A word has 64 bits, and bit 0 is the lowest. The bits of codewords are numbered through all codewords, and
-//! bit 0 is the highest of the first codeword.
+//! Moves bits within words of 64 bits, reads up to 64 bits of the codewords at once, and collects bits into codewords
+//! (ISO/IEC 18004:2015, 7.7.2 and 7.7.3). Bit 0 of a word is its lowest. The bits of codewords are numbered through all
+//! codewords, and bit 0 is the highest of the first codeword.
 
 ghost use Rattle.std.specs.Prelude.{◌≡◌, ℕ, ◌*◌, ◌/◌, ◌%◌, ◌+◌, ◌-◌, ◌<◌, ◌≤◌, ◌&&◌, [], ◌∷◌, ◌++◌, if◌then◌else◌, nat_lt, length, slice_index, IsTrue, Some, IfOk};
 ghost use Rattle.std.specs.List.{All};
@@ -19,7 +19,8 @@ pub(crate) fn is_bit_set(word: u32, i: u8) -> bool
     i < 32 && word >> i & 1 == 1
 }
 
-// The second quarter of each group of 4, 8, 16, 32 and 64 bits.
+// In these masks exactly the second quarter of each group is set. The groups have 4, 8, 16, 32 or 64 bits, and quarters
+// are counted from the lowest bit.
 const OF_4: u64 = 0x2222_2222_2222_2222;
 
 const OF_8: u64 = 0x0C0C_0C0C_0C0C_0C0C;
@@ -30,8 +31,8 @@ const OF_32: u64 = 0x0000_FF00_0000_FF00;
 
 const OF_64: u64 = 0x0000_0000_FFFF_0000;
 
-// Exchanges each bit that is set in `mask` with the bit `steps` above it, which is not in `mask`: inverts both if they
-// differ.
+// Exchanges each bit that is set in `mask` with the bit `steps` above it, which is not in `mask`. If the two differ,
+// both are inverted.
 #[inline(always)]
 #[tactic(auto, using(crate::proofs::Named::exchanges))]
 fn exchange_bits(bits: u64, steps: u32, mask: u64) -> u64
@@ -43,8 +44,15 @@ fn exchange_bits(bits: u64, steps: u32, mask: u64) -> u64
     bits ^ difference ^ difference << steps
 }
 
-// Moves every second bit, from bit 1 on, to the upper half of the word, and the others to the lower half: in each group
-// of 4, 8, 16, 32 and 64 bits in turn, exchanges the second quarter with the third.
+// Moves every second bit, from bit 1 on, to the upper half of the word, and the others to the lower half. For this it
+// exchanges the second quarter of each group with the third: first in groups of 4 bits, then of 8, 16, 32 and 64.
+// Groups of 4 and of 8 are enough for eight bits, of which o3 to o0 are to be in the upper half:
+//
+// ```text
+// o3 e3 o2 e2 o1 e1 o0 e0
+// o3 o2 e3 e2 o1 o0 e1 e0    after groups of 4
+// o3 o2 o1 o0 e3 e2 e1 e0    after the group of 8
+// ```
 #[inline(always)]
 fn unshuffled(bits: u64) -> u64
     ensures { (i : ℕ) → i < 64 → has_bit result i ≡ has_bit bits (2 * (i % 32) + i / 32) }
@@ -68,7 +76,7 @@ fn shuffled(bits: u64) -> u64
     exchange_bits(bits, 1, OF_4)
 }
 
-// The 32 lowest bits of both numbers in turn, that of `even` as the lowest.
+// The 32 lowest bits of both numbers in turn. Bit 0 of the result is that of `even`, and bit 1 is bit 0 of `odd`.
 #[inline(always)]
 fn interleaved(odd: u64, even: u64) -> u64
     ensures odd { (i : ℕ) → i < 32 → has_bit result (2 * i + 1) ≡ has_bit odd i }
@@ -77,7 +85,8 @@ fn interleaved(odd: u64, even: u64) -> u64
     shuffled(odd << 32 | even & 0xFFFF_FFFF)
 }
 
-// As `exchange_bits`, if every bit of the word is exchanged with another.
+// As `exchange_bits`, for a mask by which each bit of the word is exchanged with another: one half of the bits moves
+// down, and the other half up.
 #[inline(always)]
 #[tactic(auto, using(crate::proofs::Named::exchanges))]
 fn exchange_all(bits: u64, steps: u32, mask: u64) -> u64
@@ -88,7 +97,8 @@ fn exchange_all(bits: u64, steps: u32, mask: u64) -> u64
     bits >> steps & mask | (bits & mask) << steps
 }
 
-// As `u64::reverse_bits`, which is compiled to a loop over the bits. LLVM makes one instruction of the last three steps.
+// As `u64::reverse_bits`, which the kit compiles to a loop over the bits. Here LLVM makes one instruction of the last
+// three steps, which reverse the order of bytes.
 #[inline(always)]
 pub(crate) fn reversed(bits: u64) -> u64
     ensures { (i : ℕ) → i < 64 → has_bit result i ≡ has_bit bits (63 - i) }
@@ -101,7 +111,8 @@ pub(crate) fn reversed(bits: u64) -> u64
     exchange_all(bits, 32, 0x0000_0000_FFFF_FFFF)
 }
 
-// The first `2 * count` of `bits`, in the order of the rows from the top down: bit 0 belongs to the topmost row.
+// The first `2 * count` of `bits`, in the order of the rows from the top down: bit 0 belongs to the topmost row. In a
+// strip that is filled upward this row has the last of these bits, and in the other strips the first.
 #[inline(always)]
 fn bits_of_rows(bits: u64, upward: bool, count: u8) -> u64
     requires some { 1 ≤ count }
@@ -118,8 +129,8 @@ fn bits_of_rows(bits: u64, upward: bool, count: u8) -> u64
     }
 }
 
-// The first `2 * count` of `bits`, divided between the right and the left column of `count` rows. The bits belong to the
-// right and the left column in turn; in a column the lowest bit is that of the topmost row.
+// Divides the first `2 * count` of `bits` between the right and the left column of `count` rows. They belong to the
+// right and the left column in turn. In each of the two results the lowest bit is that of the topmost row.
 #[inline(always)]
 pub(crate) fn split(bits: u64, upward: bool, count: u8) -> (u64, u64)
     requires some { 1 ≤ count }
@@ -139,8 +150,8 @@ pub(crate) fn split(bits: u64, upward: bool, count: u8) -> (u64, u64)
     }
 }
 
-// The inverse of `split`: the bits of `count` rows in the order in which they are filled, the last as the lowest. The
-// lowest bits of `right` and `left` are for the topmost row.
+// The inverse of `split`: the bits of `count` rows in the order in which they are filled, the last of them as bit 0. In
+// `right` and `left` the lowest bit is that of the topmost row.
 #[inline(always)]
 pub(crate) fn joined(right: u64, left: u64, upward: bool, count: u8) -> u64
     requires some { 1 ≤ count }
@@ -157,13 +168,14 @@ pub(crate) fn joined(right: u64, left: u64, upward: bool, count: u8) -> u64
     }
 }
 
-// Returns 0 after the last codeword, so that the remainder bits are 0 before a mask is applied.
+// The codeword at index `place`. Returns 0 after the last, so that the remainder bits are 0 before a mask is applied.
 fn codeword_at(codewords: &[u8], place: usize) -> u8
     ensures { result ≡ slice_index codewords.now place }
 {
     codewords.get(place).copied().unwrap_or(0)
 }
 
+// The bits of the eight codewords from index `place` on, the first as the highest.
 fn eight_codewords(codewords: &[u8], place: usize) -> u64
     requires { place + 8 ≤ length codewords.now }
     ensures { (k : ℕ) → k < 64 → has_bit result (63 - k) ≡ codeword_bit codewords.now (8 * place + k) }
@@ -175,7 +187,8 @@ fn eight_codewords(codewords: &[u8], place: usize) -> u64
     bits
 }
 
-// As `eight_codewords`, with zeros after the last codeword.
+// As `eight_codewords`, but zeros stand for codewords after the last. The bound on `place` comes from that of
+// `bits_at`.
 #[inline(never)]
 fn last_codewords(codewords: &[u8], place: usize) -> u64
     requires { place ≤ 5000 }
@@ -188,7 +201,8 @@ fn last_codewords(codewords: &[u8], place: usize) -> u64
     bits
 }
 
-// The bits from `number` on, the first as the highest.
+// The 64 bits of the codewords from bit `number` on, the first as the highest. They may begin within a codeword, and
+// then lie in nine. The bound on `number` is for the prover, and loose: symbols have at most 29,648 bits in codewords.
 #[inline(always)]
 pub(crate) fn bits_at(codewords: &[u8], number: usize) -> u64
     requires { number ≤ 40000 }
@@ -213,8 +227,8 @@ pub(crate) fn bit_at(codewords: &[u8], number: usize) -> bool
     is_bit_set(u32::from(codeword), 7 - (number % 8) as u8)
 }
 
-// Collects bits into codewords, of which the highest bit is the first. It remembers that an allocation was refused, so
-// the functions that pass bits on return no error.
+// Collects bits into codewords, of which the highest bit is the first. If an allocation is refused, the collector
+// remembers it until `into_codewords`, so the functions that append bits return no error.
 #[derive(Drop)]
 pub(crate) struct Collector {
     whole: Vec<u8>,
@@ -238,7 +252,7 @@ impl Model for Collector {
 }
 
 impl Collector {
-    // Takes the memory for `count` codewords at once.
+    // Allocates the memory for `count` codewords, so that no later call needs more.
     #[tactic(auto, unfolding(qr_bits::specs::Bits::bits_of, qr_bits::specs::Bits::field))]
     pub(crate) fn with_capacity(alloc: Global, count: usize) -> Result<Collector, AllocError>
         ensures { IfOk result (HasCollected []) }
@@ -265,8 +279,8 @@ impl Collector {
         }
     }
 
-    // Appends the `count` lowest bits of `bits`, the highest first. With up to seven from before they begin a word, whose
-    // bytes are codewords as far as the bits reach.
+    // Appends the `count` lowest bits of `bits`, the highest first. They follow the up to seven bits of `rest`. All of
+    // these, at most 7 + 56, are moved to the top of a word, whose first bytes are then the next codewords.
     #[inline(always)]
     pub(crate) fn push_bits(&mut self, bits: u64, count: u8)
         requires some { 1 ≤ count }
@@ -285,7 +299,7 @@ impl Collector {
         self.width = left;
     }
 
-    // Loses the bits after the last whole codeword: the remainder bits, of which there are at most seven.
+    // Returns the whole codewords. The bits after the last are the remainder bits, at most seven, and are dropped.
     pub(crate) fn into_codewords(self) -> Result<Vec<u8>, AllocError>
         ensures { IfOk result (λ cw. (w : ℕ) × (rest : ℕ) × (w < 8) × All (λ x. x < 256) cw.items
             × (self ≡ Some (bits_of cw.items ++ field w rest))) }
@@ -296,7 +310,7 @@ impl Collector {
             ..
         } = self;
         if is_refused {
-            // for the error of an earlier call, which it could not return
+            // An earlier call met this error, and could not return it.
             Err(AllocError)
         } else {
             Ok(whole)

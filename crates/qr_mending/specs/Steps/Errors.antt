@@ -24,7 +24,7 @@ pub record IsLocated (p e : List ℕ) : Type 0 where
   pub most : length e ≤ 255
   pub roots : (m : ℕ) → m < length e → (eval (power m) p ≡ 0 → ⊥) → coefficient m e ≡ 0
 
--- At most `t` of the errors are not 0, and `s` has their first values.
+-- At most `t` of the errors are not 0, and `s` lists the first of their syndromes.
 pub record AreFewErrors (t : ℕ) (s e : List ℕ) : Type 0 where
   pub bytes : All IsByte e
   pub most : length e ≤ 255

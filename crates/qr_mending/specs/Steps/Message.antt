@@ -31,7 +31,7 @@ AreMarksInBlocks b (interleaved.Each marks) parted.AllZero = ⊥
 AreMarksInBlocks b (interleaved.Each marks) (parted.Each parts) =
     AreInBlocks b marks.items parts.data.items parts.checks.items
 
--- There is a mark for each codeword, if any
+-- There are no marks, or one for each codeword
 abbrev pub AreWhole : Blocks → MarksInBlocks → Type 0
 AreWhole b parted.AllZero = Unit {0}
 AreWhole b (parted.Each parts) = (length parts.data.items ≡ codeword_count (data_sizes b))

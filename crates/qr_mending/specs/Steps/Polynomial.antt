@@ -21,8 +21,7 @@ IsMonic p = slice_index p.terms p.degree ≡ 1
 abbrev pub discrepancy_of : Polynomial → List ℕ → ℕ
 discrepancy_of p window = dot_of (all_of p) window
 
--- `p` has the leading coefficient 1, and solves all equations whose windows are filled by the first `i` of the syndromes
--- `s`.
+-- `p` has the leading coefficient 1, and solves all equations for which the first `i` of the syndromes `s` are enough.
 pub record IsBest (i : ℕ) (s : List ℕ) (p : Polynomial) : Type 0 where
   pub bytes : All IsByte (all_of p)
   pub count : length (all_of p) ≡ p.degree + 1

@@ -1,4 +1,4 @@
--- What the steps of encoding yield for the bytes `x`: their version at level `l` is the least from `smallest` on, and
+-- What the steps of encoding yield for the bytes `x` at level `l`. `smallest` is the least version that is tried,
 -- `rule` determines the allowed modes, and `i` how the bytes are to be interpreted.
 use Rattle.std.specs.Prelude.{◌≡◌, ◌≢◌, ◌<◌, ◌↔◌, ◌⊎◌, ℕ, List, [], length, Result, Err, IfErr}
 use Rattle.qr_layout.specs.declared.level.Level.{Level}
@@ -10,7 +10,7 @@ use Rattle.qr_symbol.specs.declared.fault.EncodeFault.{EncodeFault}
 use Rattle.qr_symbol.specs.declared.fault.EncodeFault.TheVariants as fault
 use Rattle.qr_symbol.specs.VersionChoice.{HasNoVersion, IsVersion}
 
--- The version of `x`, and there the characters of the segments of fewest bits.
+-- The least version that `x` fits, and the characters and segments of fewest bits in this version.
 pub record IsFit (smallest : ℕ) (l : Level) (rule : Rule) (i : Interpretation) (x : List ℕ) (v : ℕ) (characters : List ℕ) (segments : List Segment) : Type 0 where
   pub version : IsVersion smallest l rule i x v
   pub chosen : IsLeastSegmentation i v rule x characters segments

@@ -1,4 +1,4 @@
--- What a list contains after the error correction codewords of each block.
+-- The list into which the error correction codewords are computed, block after block.
 use Rattle.std.specs.Prelude.{◌≡◌, ℕ, ◌<◌, List, length}
 use Rattle.qr_field.specs.Polynomial.{IsCorrection}
 use Rattle.qr_layout.specs.declared.blocks.Blocks.{Blocks}

@@ -1,9 +1,9 @@
 -- The colours after each step of drawing the codewords `cw` in version `v`. Their bits are numbered; bit 0 is the
 -- highest of the first codeword.
 --
--- `x`, `y`, `region`, `before` and `after`, where they are columns, are the two columns of a strip, as rows of a
--- transposed square. Exactly the bits of the region are set in `region`. `s` is the side, and the rows of a strip are
--- counted in the direction in which it is filled.
+-- `x` is a strip, and `first` the number of its first bit. Its rows are counted in the direction in which it is filled,
+-- and `s` is the side. `y` and `region` are its two columns, as rows of a transposed square, and so are `before` and
+-- `after` if they are no squares. In `region` exactly the region is set.
 use Rattle.std.specs.Prelude.{◌≡◌, ◌<◌, ◌≤◌, ℕ, ◌+◌, ◌-◌, ◌&&◌, Bool, false, true, if◌then◌else◌, List}
 use Prim.Native.Nat.{zero, suc}
 use Rattle.qr_layout.specs.declared.level.Level.{Level}
@@ -54,7 +54,7 @@ abbrev pub AreWhole : ℕ → Strip → ℕ → ℕ → Type 0
 AreWhole v x k n = (j : ℕ) → k ≤ j → j < k + n
     → (is_in_region v (row_of (side_of v) x j) x.right ≡ true) × (is_in_region v (row_of (side_of v) x j) (x.right - 1) ≡ true)
 
--- In the strip with the right column `right`, exactly the bits of the region are set in `x`.
+-- The columns `x` show where the region is, in the strip whose right column has the index `right`.
 abbrev pub IsRegion : ℕ → ℕ → Columns → Type 0
 IsRegion v right x = (row : ℕ) → row < side_of v → (has x.right row ≡ is_in_region v row right) × (has x.left row ≡ is_in_region v row (right - 1))
 
@@ -95,5 +95,6 @@ region_grid v = square (side_of v) (is_in_region v)
 abbrev pub plain_grid : ℕ → List ℕ → Grid
 plain_grid v cw = square (side_of v) (placed_colour v cw (paint_of v symmetric_format))
 
+-- The penalty of this square.
 abbrev pub masked_penalty : ℕ → Level → Grid → Grid → ℕ → ℕ
 masked_penalty v l region plain mask = penalty_of (side_of v) (colour (masked_grid v l mask region plain))

@@ -7,7 +7,7 @@ use Rattle.qr_bits.specs.declared.interpretation.Interpretation.{Interpretation}
 use Rattle.qr_bits.specs.Segmentation.{IsLongestFit}
 use Rattle.qr_bits.specs.Padding.{room_of}
 
--- As `AreParts`, but for the lengths.
+-- The lengths of the parts that `AreParts` describes.
 unfoldable pub AreLengths : ℕ → Level → Rule → Interpretation → List ℕ → List ℕ → Type 0
 AreLengths v l rule i x [] = x ≡ []
 AreLengths v l rule i x (n ∷ ns) = (0 < n) × IsLongestFit i v rule x (room_of v l i) n × AreLengths v l rule i (drop n x) ns

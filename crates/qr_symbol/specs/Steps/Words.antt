@@ -1,10 +1,11 @@
--- Bits of words that are moved, and of codewords that are read and written many at a time.
+-- Bits that are moved within words, and bits of codewords that are read and written many at a time.
 use Rattle.std.specs.Prelude.{◌≡◌, ◌<◌, ℕ, ◌+◌, ◌-◌, ◌&&◌, Bool, not, nat_le, if◌then◌else◌, List, ◌++◌, Option}
 use Rattle.std.specs.Option.{IfSome}
 use Rattle.qr_bits.specs.Bits.{codeword_bit}
 use Rattle.qr_matrix.specs.{BitRow.has_bit, Grid.is_same, Sums.all_below}
 
--- The place with which bit `i` is exchanged, if each bit that is set in `mask` is exchanged with the one `steps` above.
+-- The index of the bit with which bit `i` is exchanged, if each bit that is set in `mask` is exchanged with the one
+-- `steps` above. It is `i` if bit `i` stays.
 abbrev pub partner : ℕ → ℕ → ℕ → ℕ
 partner steps mask i = if has_bit mask i then i + steps else if nat_le steps i && has_bit mask (i - steps) then i - steps else i
 
@@ -16,7 +17,7 @@ are_pairs steps mask = all_below 64 (λ i. not (has_bit mask i && has_bit mask (
 unfoldable pub are_halves : ℕ → ℕ → Bool
 are_halves steps mask = all_below 64 (λ i. not (is_same (has_bit mask i) (nat_le steps i && has_bit mask (i - steps))))
 
--- The rank, within `n` rows of a strip, of row `j` counted from the top.
+-- Of `n` rows of a strip, row `j` from the top has this index in the direction in which the strip is filled.
 abbrev pub rank_in : ℕ → Bool → ℕ → ℕ
 rank_in n upward j = if upward then n - 1 - j else j
 

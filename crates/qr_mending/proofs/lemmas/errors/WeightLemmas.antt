@@ -53,6 +53,8 @@ step-terms : (a c x z place v w : ℕ) → a < 256 → c < 256 → x < 256 → z
     ≡ bit_xor (product a (bit_xor (product c place) v)) (bit_xor (product (product c z) (product x place)) w)
 step-terms a c x z place v w la lc lx lz lp lv = simp field_laws
 
+-- the value at 2^i of the errors that `a ∷ p` has multiplied: `a` times the value of the errors, plus the value at 2^(i
+-- + 1) of the errors that `p` has multiplied
 weighted-step : (a : ℕ) (p : List ℕ) (i : ℕ) (e : List ℕ) → a < 256 → All IsByte p → All IsByte e →
     value_at i (weighted (a ∷ p) e) ≡ bit_xor (product a (value_at i e)) (value_at (i + 1) (weighted p e))
 weighted-step a p i [] la lp le = cc (product-by_zero a la, xor_zero_l 0)

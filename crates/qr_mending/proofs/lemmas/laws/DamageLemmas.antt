@@ -25,6 +25,7 @@ symbol-mended-as unknown g v l mask content changed (Ok m) h k =
 symbol-mended-as unknown g v l mask content changed (Err e) h k = mended-not-refused unknown g v l mask content changed
     e h k
 
+-- `g` is the symbol of the input `x`, and `h` a damaged form of it
 module _ (unknown : Grid) (smallest : ℕ) (l : Level) (rule : Rule) (how : Interpretation) (x : List ℕ) (v mask : ℕ) (g h : Grid)
     (changed : List ℕ)
     (least : 1 ≤ smallest) (may : MayWrite how x) (s : IsSymbol smallest l rule how x v mask g) (side : h.side ≡ g.side)

@@ -36,6 +36,7 @@ pub record FinalParts (b : Blocks) (d cw : List ℕ) (corrections : List (List �
   pub inside : AreInBlocks b cw d checks
   pub same : (i : ℕ) → i < block_count (data_sizes b) → part_of (correction_sizes b) checks i ≡ get_or corrections i []
 
+-- from a final sequence its data codewords are gathered, and the error correction codewords of its blocks
 pub final-parts : (b : Blocks) (d cw : List ℕ) → length d ≡ codeword_count (data_sizes b) →
     (h : IsFinalMessage b d cw) → FinalParts b d cw h.corrections
 final-parts b d cw n h =

@@ -258,13 +258,14 @@ module _ (unknown g : Grid) where
         ])
   ]
 
-  -- no other level and mask near to a copy mend the square
+  -- a level and a mask near to the first copy have to be used if no other pair that is near to a copy mends the square
   alone-first : (v : ℕ) (l : Level) (m : ℕ) → IsNearFormat unknown First g l m →
       ((other : FormatCopy) (k : Level) (n : ℕ) → IsNearFormat unknown other g k n → (message changed : List ℕ) →
       HoldsDamaged unknown v k n g message changed → (k ≡ l) × (n ≡ m)) → HasFormat unknown v g l m
   alone-first v l m f alone = best First v l m f (λ k n h q x d.
       let e = alone Second k n h q x d in rw (e.0, e.1) (omega arith))
 
+  -- as `alone-first`, for a level and a mask that are near to either copy
   pub alone-format : (v : ℕ) (l : Level) (m : ℕ) (copy : FormatCopy) → IsNearFormat unknown copy g l m →
       ((other : FormatCopy) (k : Level) (n : ℕ) → IsNearFormat unknown other g k n → (message changed : List ℕ) →
       HoldsDamaged unknown v k n g message changed → (k ≡ l) × (n ≡ m)) → HasFormat unknown v g l m

@@ -119,6 +119,7 @@ none-unread : (s : ℕ) (ms : List Module) → list_any (λ m. colour (light s) 
 none-unread s [] = refl
 none-unread s (m ∷ ms) = λ i. colour-light s m.row m.col i || none-unread s ms i
 
+-- no codeword is erased
 all-read : (s : ℕ) (places : List Module) (cw ks : List ℕ) →
     map (read_at (light s) places cw) ks ≡ map (λ x. Some x) (map (item cw) ks)
 all-read s places cw [] = refl

@@ -101,6 +101,7 @@ abbrev AgreesAt : Grid → List Module → List ℕ → ℕ → Type 0
 AgreesAt unknown places marks k =
     list_any (λ m. colour unknown m.row m.col) (modules_of places k) ≡ not (get_or marks k 0 == 0)
 
+-- the marks agree with the square at each codeword of the symbol
 mark-agrees : (v : ℕ) (unknown : Grid) (marks : List ℕ) (k : ℕ) → 1 ≤ v → v ≤ 40 →
     (h : IsReadUnmasked v unknown marks) → k < total_codewords_of v → AgreesAt unknown h.places marks k
 unfolding is_marked
@@ -144,6 +145,7 @@ block-marked v l unknown cw marks ks js i p q h inside =
 
 -- ---- mending by marks is mending with the modules that were not read
 
+-- codewords that can be mended without the modules that were not read can be mended by their marks
 pub by-marks : (v : ℕ) (l : Level) (unknown : Grid) (cw marks message misread : List ℕ) → 1 ≤ v → v ≤ 40 →
     length cw ≡ total_codewords_of v → IsReadUnmasked v unknown marks → IsMendedIn unknown v l cw message misread →
     IsMendedMessage (blocks_of v l) (spare_of v l) cw marks message misread
@@ -170,6 +172,7 @@ by-marks v l unknown cw marks message misread p q long h m =
       };
     }
 
+-- codewords that can be mended by their marks can be mended without the modules that were not read
 pub of-marks : (v : ℕ) (l : Level) (unknown : Grid) (cw marks message misread : List ℕ) → 1 ≤ v → v ≤ 40 →
     length cw ≡ total_codewords_of v → IsReadUnmasked v unknown marks →
     IsMendedMessage (blocks_of v l) (spare_of v l) cw marks message misread → IsMendedIn unknown v l cw message misread

@@ -40,13 +40,14 @@ rows-two = refl
 rows-three : below 31 (λ j. eqb (get_or MULTIPLES (4 * j + 3) 0) (bit_xor (get_or MULTIPLES (4 * j + 1) 0) (get_or MULTIPLES (4 * j + 2) 0))) ≡ true
 rows-three = refl
 
--- the multiples by 1 and by 2
+-- the multiples by 1
 row-one : (j k : ℕ) → j < 31 → k < 16 → byte_at k (get_or MULTIPLES (4 * j + 1) 0) ≡ product 1 (power (k * j))
 row-one j k l m =
     let row = below-at 31 (λ i. below 16 (λ n. eqb (byte_at n (get_or MULTIPLES (4 * i + 1) 0)) (entry (n * i)))) rows-one j l in
     same-below 16 (λ n. byte_at n (get_or MULTIPLES (4 * j + 1) 0)) (λ n. entry (n * j)) row k m
     ∙ (entry-is (k * j) ∙ sym (product-of_one (power (k * j)) (power-lt (k * j))))
 
+-- the multiples by 2
 row-two : (j k : ℕ) → j < 31 → k < 16 → byte_at k (get_or MULTIPLES (4 * j + 2) 0) ≡ product 2 (power (k * j))
 row-two j k l m =
     let row = below-at 31 (λ i. below 16 (λ n. eqb (byte_at n (get_or MULTIPLES (4 * i + 2) 0)) (entry (n * i + 1)))) rows-two j l in
