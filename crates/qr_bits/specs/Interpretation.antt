@@ -29,8 +29,8 @@ fnc1_second_indicator = 9
 abbrev pub is_application_indicator : ℕ → Bool
 is_application_indicator a = nat_lt a 100 || nat_le 165 a && nat_le a 190 || nat_le 197 a && nat_le a 222
 
--- FNC1 may stand after an ECI header if it might have stood in its place, and after no other item (ISO/IEC 18004:2015,
--- 7.4.8.2)
+-- FNC1 may stand after an ECI header if it might have stood in the place of this header, and after no other item
+-- (ISO/IEC 18004:2015, 7.4.8.2)
 abbrev pub may_follow : Bool → Item → Bool
 may_follow may (Eci d) = may
 may_follow may _ = false
@@ -148,8 +148,8 @@ abbrev pub MayWrite : Interpretation → List ℕ → Type 0
 MayWrite written.Gs1 xs = IsTrue (are_fields xs)
 MayWrite _ xs = Unit {0}
 
--- The bytes that the characters of a segment stand for, which differ from these only in alphanumeric mode after FNC1
--- (ISO/IEC 18004:2015, 7.4.8.2, 7.4.8.3)
+-- The bytes that the characters of a segment stand for, which differ from the characters only in alphanumeric mode
+-- after FNC1 (ISO/IEC 18004:2015, 7.4.8.2, 7.4.8.3)
 abbrev pub meant : Bool → Mode → List ℕ → List ℕ
 meant true Alphanumeric xs = separated xs
 meant _ _ xs = xs

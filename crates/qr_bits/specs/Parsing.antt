@@ -1,5 +1,6 @@
--- How the bits of data codewords are read: as a header if there is one, items and bytes, or as a fault. `bits` are the
--- bits that are not read yet. A result that has a list of bits as its last part says by it which bits are left.
+-- How the bits of data codewords are read: as a header if there is one, items and the characters of their segments, or
+-- as a fault. `bits` are the bits that are not read yet. If the last part of a result is a list of bits, these are the
+-- bits that are left.
 use Rattle.std.specs.Prelude.{◌≡◌, ◌⊎◌, ℕ, zero, suc, ◌+◌, ◌-◌, ◌*◌, ◌/◌, ◌%◌, Bool, ◌&&◌, ◌||◌, ◌==◌, nat_lt, nat_le, true, false, if◌then◌else◌, List, [], ◌∷◌, ◌++◌, length, take, drop, Result, Ok, Err, Option, Some, None}
 use Rattle.std.specs.List.{slice_index_or}
 use Rattle.qr_bits.specs.declared.modes.Mode.{Mode}
@@ -111,8 +112,8 @@ unfoldable pub payload_at : Mode → ℕ → List Bool → Result (List ℕ × L
 payload_at m n bits =
     if nat_lt (length bits) (payload_bits m (byte_count m n)) then Err Cut else (values_of m n bits >>= λ xs. Ok (xs, drop (payload_bits m (byte_count m n)) bits))
 
--- A segment and its bytes: its mode indicator is read, then its character count indicator, then its data (ISO/IEC
--- 18004:2015, 7.4.1)
+-- A segment and its characters: the mode indicator is read first, then the character count indicator, then the data
+-- (ISO/IEC 18004:2015, 7.4.1)
 unfoldable pub segment_at : ℕ → List Bool → Result (Segment × List ℕ × List Bool) ParseFault
 segment_at v bits =
     mode_of (value (take 4 bits)) >>= λ m.
@@ -136,7 +137,7 @@ designator_at bits =
 unfoldable pub application_at : List Bool → Result (ℕ × List Bool) ParseFault
 application_at bits = leading_number 8 bits >>= λ a. if is_application_indicator a.0 then Ok a else Err BadValue
 
--- An item, with its bytes if it is a segment; `may` says whether it may be FNC1 (ISO/IEC 18004:2015, 7.4.2, 7.4.8)
+-- An item, and its characters if it is a segment; `may` says whether it may be FNC1 (ISO/IEC 18004:2015, 7.4.2, 7.4.8)
 unfoldable pub item_at : ℕ → Bool → List Bool → Result (Item × List ℕ × List Bool) ParseFault
 item_at v may bits =
     let indicator = value (take 4 bits) in
@@ -145,14 +146,14 @@ item_at v may bits =
     (if may && indicator == fnc1_second_indicator then (application_at (drop 4 bits) >>= λ a. Ok (Fnc1Second a.0, [], a.1)) else
     (segment_at v bits >>= λ s. Ok (Data s.0, s.1, s.2))))
 
--- The items up to the end, but at most `n`, and the bytes of all segments among them [own]
+-- The items up to the end, but at most `n`, and the characters of all segments among them [own]
 unfoldable pub items_at : ℕ → ℕ → Bool → List Bool → Result (List Item × List ℕ) ParseFault
 items_at zero v may bits = Ok ([], [])
 items_at (suc n) v may bits =
     if ends bits then Ok ([], []) else (item_at v may bits >>= λ i. items_at n v (may_follow may i.0) i.2 >>= λ r. Ok (i.0 ∷ r.0, i.1 ++ r.1))
 
--- All items up to the end, and the bytes of the segments; there are at most as many items as bits, since each takes at
--- least four (ISO/IEC 18004:2015, 7.4.1, 7.4.9)
+-- All items up to the end, and the characters of the segments; there are at most as many items as bits, since each
+-- takes at least four bits (ISO/IEC 18004:2015, 7.4.1, 7.4.9)
 unfoldable pub items_of : ℕ → Bool → List Bool → Result (List Item × List ℕ) ParseFault
 items_of v may bits = items_at (length bits) v may bits
 

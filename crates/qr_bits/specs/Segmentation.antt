@@ -49,7 +49,7 @@ runs_of (m ∷ ms) = prepend_mode m (runs_of ms)
 abbrev pub IsAssignment : Interpretation → Rule → List ℕ → List Mode → Type 0
 IsAssignment i r xs ms = IsTrue (list_all (may_use r) ms) × Covers (characters_in i xs ms) (runs_of (doubled i xs ms))
 
--- In lexicographic order by their ranks, `ms` does not come after `ks` [own]
+-- In the lexicographic order by the ranks of modes, `ms` does not come after `ks` [own]
 abbrev pub IsNotAfter : List Mode → List Mode → Type 0
 IsNotAfter [] ks = Unit {0}
 IsNotAfter (m ∷ ms) [] = ⊥

@@ -1,10 +1,10 @@
 //! The best mode of each byte, by dynamic programming: a table is filled from the last byte to the first. In a given
 //! version, how many bits a byte and all later ones take depends only on their modes and on the state before that byte
-//! (`RunState`). So the table has a row for each byte, with the best mode for each state. This is the mode for which
-//! the bits that the byte adds, and the fewest that the later bytes can then add, have the least sum.
+//! (`RunState`). So the table has a row for each byte, with the best mode for each state. The best mode is the one for
+//! which the bits that the byte adds, and the fewest that the later bytes can then add, have the least sum.
 //!
-//! A row has two bits for each state, which are the rank of its best mode. Modes are compared by their choices, which
-//! are numbers: the head of `run_state.rt` says how they are made.
+//! A row is a number with two bits for each state, which are the rank of the state's best mode. Modes are compared by
+//! their choices; a choice is a number, which the head of `run_state.rt` defines.
 //!
 //! In all functions `kanji` says that the rule allows kanji mode, `pair` that the byte may begin a kanji pair, and
 //! `gs1` that the bytes are GS1 data. The functions are inlined in the loops that call them. Where `kanji` is the
@@ -58,10 +58,11 @@ fn may_begin(rule: Rule, byte: u8, mode: Mode) -> bool
     }
 }
 
-// The choice of a mode for a byte, or `NO_CHOICE` if `may` is false. To `first`, the choice of the mode for the byte
-// alone, it adds the bits of `rest`, which is the best choice for the later bytes; `rest / 4 * 4` leaves out their
-// mode. 155 is the sum of 135, the greatest choice of a first byte, and 4 times the 5 bits of a second character. The
-// best choices of an input of at most `INPUT_MAX` bytes stay below 40,000,000, so the sum does not overflow.
+// The choice of a mode for a byte, or `NO_CHOICE` if `may` is false. It is the sum of `first`, the choice of the mode
+// for the byte alone, and the bits of `rest`, the best choice for the later bytes. `rest / 4 * 4` has these bits
+// without the mode. 155 is the sum of 135, the greatest choice of a first byte, and 4 times the 5 bits of a second
+// character. The best choices of an input of at most `INPUT_MAX` bytes stay below 40,000,000, so the sum does not
+// overflow.
 #[inline(always)]
 fn choice_if(may: bool, first: u32, rest: u32) -> u32
     requires { (first ≤ 155) × (rest < 40000000) }
@@ -70,7 +71,7 @@ fn choice_if(may: bool, first: u32, rest: u32) -> u32
     if may { first + rest / 4 * 4 } else { NO_CHOICE }
 }
 
-// As `choice_if`, for a byte that does not begin a segment, and adds `bits`.
+// As `choice_if`, for a byte that does not begin a segment and adds `bits`.
 #[inline(always)]
 fn next_if(may: bool, bits: u32, mode: Mode, rest: u32) -> u32
     requires { (bits ≤ 33) × (rest < 40000000) }
@@ -258,7 +259,8 @@ fn pair_at(kanji: bool, rule: Rule, bytes: &[u8]) -> bool
     kanji && begins_with_pair(rule, bytes)
 }
 
-// Returns the table: a row for each byte of `input`, that of the last byte first.
+// Returns the table: a row for each byte of `input`. That of the last byte is first, so `pop` takes the rows in the
+// order of the bytes.
 pub(crate) fn best_modes(
     alloc: Global,
     input: &[u8],

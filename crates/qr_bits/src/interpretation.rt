@@ -119,7 +119,8 @@ pub enum Fnc1 {
     Second(u8),
 }
 
-/// An ECI, and the first byte of the symbol that has it. It holds up to the next change (ISO/IEC 18004:2015, 7.4.2.2).
+/// An ECI, and where it begins among the bytes of a symbol. It ends where the next one begins (ISO/IEC 18004:2015,
+/// 7.4.2.2).
 #[derive(Clone, Copy, Debug, PartialEq, Eq)]
 pub struct EciChange {
     /// The number of the ECI, from 0 to 999,999; that of UTF-8 is 26.

@@ -1,5 +1,5 @@
-//! The longest prefix of an input that fits one symbol of a series. It is found as the least segmentation is, by the
-//! best choices of `best_modes.rt`, but no table is kept.
+//! The longest prefix of an input that fits one symbol of a series. It is found by the best choices of `best_modes.rt`,
+//! as the segments of an input are, but no table is kept.
 //!
 //! `row_of` adds a byte in front of the later ones, while a prefix grows at its end. So each prefix is taken in
 //! reverse, which needs as many bits; the second byte of a kanji pair then comes first.
@@ -65,8 +65,8 @@ fn fewest(numbers: &PerState) -> u32
 // The length of the longest prefix of `input` that takes at most `room` bits. After the turn of `input[i]`,
 // `rest.start / 4` is the least number of bits of the prefix that ends with this byte. If it is more than `room`, a
 // longer prefix may still fit, because the first byte of a kanji pair may take more bits in byte mode than the pair in
-// kanji mode. A longer prefix adds bits to those of one of the states in `rest`. So if these are too many for each
-// state, nothing longer fits.
+// kanji mode. The bits of a longer prefix are those that `rest` has for one of the states, and those that its further
+// bytes add. So if `rest` has too many bits for each state, no longer prefix fits.
 //
 // As in `best_modes.rt`, `kanji` says whether the rule allows kanji mode, and `gs1` whether the input is GS1 data.
 #[inline(always)]
@@ -108,8 +108,8 @@ fn room(version: Version, level: Level, interpretation: Interpretation) -> u64
     capacity(version, level) - HEADER_BITS - interpretation_bits(interpretation)
 }
 
-// As `longest_by_rows`, for GS1 data. It is a function of its own, so that the compiled code of `longest_fit` for other
-// data does not change.
+// As `longest_by_rows`, for GS1 data. It is not inlined, so that the compiled code of `longest_fit` for other data does
+// not depend on it.
 #[inline(never)]
 fn longest_gs1_prefix(input: &[u8], version: Version, rule: Rule, room: u64) -> usize
     requires { length input.now ≤ INPUT_MAX }

@@ -1,5 +1,5 @@
-//! A lower bound on the bits of an input, however it is cut into segments. It is computed faster than the segments. So
-//! the search for a version first skips all versions that have room for fewer bits.
+//! A lower bound on the bits of an input, however it is cut into segments. It is computed faster than the segments. If
+//! versions 1 to 9, or 1 to 26, have room for fewer bits than it, the search for a version skips them.
 
 ghost use Rattle.std.specs.Prelude.{length, ℕ, ◌/◌, ◌≡◌, ◌≤◌};
 ghost use Rattle.qr_bits.specs.declared.interpretation.Interpretation.{Interpretation};

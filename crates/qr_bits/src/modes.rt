@@ -24,8 +24,8 @@ pub enum Mode {
     Alphanumeric,
     /// Any bytes, of which each takes eight bits.
     Byte,
-    /// Characters of Shift JIS. Each is a pair of bytes, from 8140 to 9FFC or from E040 to EBBF (hexadecimal), and
-    /// takes thirteen bits.
+    /// Characters of Shift JIS, of which each takes thirteen bits. Each is a pair of bytes, from 8140 to 9FFC or from
+    /// E040 to EBBF, whose second byte is from 40 to FC (all hexadecimal).
     Kanji,
 }
 

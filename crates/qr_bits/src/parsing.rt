@@ -76,8 +76,8 @@ impl Parsed {
 }
 
 /// Parses data codewords up to a terminator, or to where fewer than four bits are left (ISO/IEC 18004:2015, 7.4.9).
-/// What follows may be anything. Segments may be empty, and need not take the fewest bits. There may be 3,706
-/// codewords, as many as a symbol has in all.
+/// What follows may be anything. Segments may be empty, and need not take the fewest bits. There are at most 3,706
+/// codewords, as many as the largest symbol has in all.
 ///
 /// # Errors
 ///

@@ -72,7 +72,7 @@ unfoldable pub follow : RunState → List ℕ → List Mode
 follow p [] = []
 follow p (row ∷ rows) = mode_at row p ∷ follow (state_after p (mode_at row p)) rows
 
--- As `follow`, where the rows are those of the bytes `xs`, for which one or two characters are written
+-- As `follow`, where the rows are those of the bytes `xs`, each of which is written as one or two characters
 unfoldable pub follow_in : Interpretation → RunState → List ℕ → List ℕ → List Mode
 follow_in i p [] rows = []
 follow_in i p (x ∷ xs) [] = []

@@ -88,7 +88,7 @@ allowed r test p [] (m ∷ ms) = false
 allowed r test p (x ∷ xs) [] = false
 allowed r test p (x ∷ xs) (m ∷ ms) = may_take r p x (begins_with_pair r test (x ∷ xs)) m && allowed r test (state_after p m) xs ms
 
--- How many bits bytes of these modes add together
+-- How many bits are added by bytes of these modes, the first after the state `p`
 unfoldable pub cost_of : ℕ → RunState → List Mode → ℕ
 cost_of v p [] = 0
 cost_of v p (m ∷ ms) = byte_cost v p m + cost_of v (state_after p m) ms
