@@ -2,18 +2,18 @@
 use Rattle.std.specs.Prelude.{ℕ, zero, suc, ◌+◌, ◌-◌, ◌*◌, ◌/◌, ◌%◌, ◌^◌, Bool, true, false, ◌==◌, List, [], ◌∷◌, ◌++◌}
 use Rattle.std.specs.List.{slice_index_or}
 
--- The lowest `w` bits of `n` (ISO/IEC 18004:2015, 7.4.1)
+-- The lowest `w` bits of the number `n` (ISO/IEC 18004:2015, 7.4.1)
 unfoldable pub field : ℕ → ℕ → List Bool
 field zero n = []
 field (suc w) n = (n / 2 ^ w % 2 == 1) ∷ field w n
 
--- The number whose binary digits are those of `a` and then `bs` [own]
+-- The number whose binary digits are those of the number `a`, and then the bits `bs` [own]
 abbrev pub value_from : ℕ → List Bool → ℕ
 value_from a [] = a
 value_from a (true ∷ bs) = value_from (2 * a + 1) bs
 value_from a (false ∷ bs) = value_from (2 * a) bs
 
--- The number whose binary digits are `bs` (ISO/IEC 18004:2015, 7.4.1)
+-- The number whose binary digits are the bits `bs` (ISO/IEC 18004:2015, 7.4.1)
 abbrev pub value : List Bool → ℕ
 value bs = value_from 0 bs
 

@@ -1,4 +1,5 @@
--- Values that the standard prints or that were worked out by hand. The laws compare the definitions with them.
+-- Values that the standard prints, or that were worked out by hand. Laws whose names end in `compute` compare what the
+-- definitions give with them.
 use Rattle.std.specs.Prelude.{ℕ, List, [], ◌∷◌, ◌++◌, codes}
 use Rattle.qr_bits.specs.declared.modes.Mode.{Mode}
 use Rattle.qr_bits.specs.declared.modes.Mode.TheVariants.{Numeric, Alphanumeric, Byte, Kanji}
@@ -30,7 +31,7 @@ eleven_characters = 0x20 ∷ 0x5B ∷ 0x0B ∷ 0x78 ∷ 0xD1 ∷ 0x72 ∷ 0xDC �
 abbrev pub two_kanji : List ℕ
 two_kanji = 0x93 ∷ 0x5F ∷ 0xE4 ∷ 0xAA ∷ []
 
--- Their data codewords in version 1-H, with three pad codewords [own]
+-- The data codewords of `two_kanji` in version 1-H, the last three of which are pad codewords [own]
 abbrev pub two_kanji_data : List ℕ
 two_kanji_data = 0x80 ∷ 0x26 ∷ 0xCF ∷ 0xEA ∷ 0xA8 ∷ 0x00 ∷ 0xEC ∷ 0x11 ∷ 0xEC ∷ []
 
@@ -38,14 +39,15 @@ two_kanji_data = 0x80 ∷ 0x26 ∷ 0xCF ∷ 0xEA ∷ 0xA8 ∷ 0x00 ∷ 0xEC ∷ 
 abbrev pub middle : Header
 middle = record { position = 1; last = 2; parity = 0x48 }
 
--- The data codewords in version 1-H of this header and `FGH` in byte mode [own]
+-- The data codewords in version 1-H of the header `middle` and of `FGH` in byte mode [own]
 abbrev pub middle_data : List ℕ
 middle_data = 0x31 ∷ 0x24 ∷ 0x84 ∷ 0x03 ∷ 0x46 ∷ 0x47 ∷ 0x48 ∷ 0x00 ∷ 0xEC ∷ []
 
--- Codewords of symbols with an ECI header or FNC1, with their items, ECIs and bytes: Greek letters after ECI 9, which the
--- standard encodes; three ECI headers, of one, two and three bytes, around `A` and `B`; FNC1 in second position with the
--- indicator 37 and `AA12`; FNC1 in first position before ECI 3, which others write; and the characters `A%B%%C` after
--- FNC1, which are two fields, before two `%` in byte mode under ECI 26 [own]
+-- Codewords of five symbols with ECI headers or FNC1, each with its items, its ECIs and its bytes. The first has Greek
+-- letters after ECI 9, which the standard encodes. The second has `A` and `B` among three ECI headers, whose
+-- designators have one, two and three codewords. The third has FNC1 in second position, with the application indicator
+-- 37, and `AA12`. The fourth has FNC1 in first position before ECI 3, as other encoders write it. The fifth has FNC1,
+-- the characters `A%B%%C`, which are two fields, and then two `%` in byte mode under ECI 26 [own]
 abbrev pub interpreted : List (List ℕ × List Item × List EciChange × List ℕ)
 interpreted = (
   0x70 ∷ 0x94 ∷ 0x05 ∷ 0xA1 ∷ 0xA2 ∷ 0xA3 ∷ 0xA4 ∷ 0xA5 ∷ 0x00 ∷ [],
@@ -78,11 +80,11 @@ interpreted = (
       0x41 ∷ 0x1D ∷ 0x42 ∷ 0x25 ∷ 0x43 ∷ 0x25 ∷ 0x25 ∷ [],
     ) ∷ []
 
--- Codewords that cannot be read in version 1, with their fault. The first six have a number that is too large: 1000 for
--- three digits, 100 for two, 10 for one, 2025 for two characters, 45 for one, and hexadecimal BD in kanji mode. Three
--- end within the data, the count and the header; one has an indicator of no mode, one a second header. The last five have
--- half a designator, a designator after 111, the number 1000000, the application indicator 100, and FNC1 after a segment
--- [own]
+-- Codewords that cannot be read in version 1, each with its fault. The first six have a number that is too large: 1000
+-- for three digits, 100 for two, 10 for one, 2025 for two characters, 45 for one, and hexadecimal BD in kanji mode. The
+-- next three end within the data, the count and the header. One has a mode indicator that is not defined, and one a
+-- second header. The last five have half a designator, a designator that begins with 111, the ECI number 1000000, the
+-- application indicator 100, and FNC1 after a segment [own]
 abbrev pub unreadable : List (List ℕ × ParseFault)
 unreadable =
     (0x10 ∷ 0x0F ∷ 0xE8 ∷ [], BadValue)
@@ -102,8 +104,8 @@ unreadable =
     ∷ (0x96 ∷ 0x40 ∷ [], BadValue)
     ∷ (0x40 ∷ 0x15 ∷ 0x55 ∷ [], BadMode) ∷ []
 
--- Three fields of GS1 data, the modes of their bytes, and the segments that are written for these: the second field is in
--- alphanumeric mode, the third partly in byte mode [own]
+-- Three fields of GS1 data, the modes of their bytes, and the segments that are written for them: the first field is
+-- partly in numeric mode, the second in alphanumeric mode, and the third in byte mode [own]
 abbrev pub three_fields : List ℕ
 three_fields = codes "12A%B" ++ 0x1D ∷ codes "3C" ++ 0x1D ∷ codes "d%"
 

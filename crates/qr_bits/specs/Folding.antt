@@ -8,7 +8,8 @@ use Rattle.qr_bits.specs.Modes.{is_kanji_pair}
 abbrev pub capital : ℕ → ℕ
 capital b = if nat_le 97 b && nat_le b 122 then b - 32 else b
 
--- The bytes are read from the left: a kanji pair stays as it is, any other byte becomes its capital [own]
+-- The bytes are read from the left: two that are a kanji pair stay as they are, and any other byte becomes its capital
+-- [own]
 unfoldable pub folded_around_pairs : List ℕ → List ℕ
 folded_around_pairs [] = []
 folded_around_pairs (x ∷ []) = capital x ∷ []

@@ -1,4 +1,5 @@
--- What stands between the segments: ECI headers and FNC1.
+-- How a symbol says what its bytes mean: by ECI headers and FNC1, which are items like the segments. A segment contains
+-- characters, and these stand for the bytes. They are the bytes themselves, except in alphanumeric mode after FNC1.
 use Rattle.std.specs.Prelude.{ℕ, ◌+◌, ◌*◌, ◌/◌, ◌%◌, ◌<◌, Bool, true, false, ◌&&◌, ◌||◌, nat_lt, nat_le, if◌then◌else◌, List, [], ◌∷◌, ◌++◌, map, take, drop, length, ◌==◌, Option, Some, None, IsTrue}
 use Rattle.qr_bits.specs.declared.segment.Segment.{Segment}
 use Rattle.qr_bits.specs.declared.modes.Mode.{Mode}
@@ -24,47 +25,49 @@ fnc1_first_indicator = 5
 abbrev pub fnc1_second_indicator : ℕ
 fnc1_second_indicator = 9
 
--- Two digits as their number, or the ASCII code of a letter plus 100 (ISO/IEC 18004:2015, 7.4.8.3)
+-- The number is that of two digits, or the ASCII code of a letter plus 100 (ISO/IEC 18004:2015, 7.4.8.3)
 abbrev pub is_application_indicator : ℕ → Bool
 is_application_indicator a = nat_lt a 100 || nat_le 165 a && nat_le a 190 || nat_le 197 a && nat_le a 222
 
--- FNC1 may stand after the item if it might before: only ECI headers come before it (ISO/IEC 18004:2015, 7.4.8.2)
+-- FNC1 may stand after an ECI header if it might have stood in the place of this header, and after no other item
+-- (ISO/IEC 18004:2015, 7.4.8.2)
 abbrev pub may_follow : Bool → Item → Bool
 may_follow may (Eci d) = may
 may_follow may _ = false
 
--- The items of segments alone [own]
+-- The items if there are only segments [own]
 abbrev pub plain : List Segment → List Item
 plain segs = map (λ s. Data s) segs
 
--- The number has six digits (ISO/IEC 18004:2015, 7.4.2)
+-- If an ECI is given, its number has at most six digits (ISO/IEC 18004:2015, 7.4.2)
 abbrev pub InterpretationFits : Interpretation → Type 0
 InterpretationFits (written.Eci n) = n < 1000000
 InterpretationFits _ = Unit {0}
 
--- How many codewords an ECI designator has (ISO/IEC 18004:2015, 7.4.2, Table 4)
+-- How many codewords the shortest designator of a number has (ISO/IEC 18004:2015, 7.4.2, Table 4)
 abbrev pub designator_codewords : ℕ → ℕ
 designator_codewords n = if nat_lt n 128 then 1 else (if nat_lt n 16384 then 2 else 3)
 
--- The shortest designator of the number (ISO/IEC 18004:2015, 7.4.2, Table 4)
+-- The bits of the shortest designator of a number (ISO/IEC 18004:2015, 7.4.2, Table 4)
 unfoldable pub designator : ℕ → List Bool
 designator n =
     if nat_lt n 128 then field 8 n else
     (if nat_lt n 16384 then field 8 (128 + n / 256) ++ field 8 (n % 256) else field 8 (192 + n / 65536) ++ field 16 (n % 65536))
 
--- The ECI header, or the mode indicator of FNC1 in first position (ISO/IEC 18004:2015, 7.4.2, 7.4.8.2)
+-- The bits that say the interpretation: an ECI header, the mode indicator of FNC1 in first position, or nothing
+-- (ISO/IEC 18004:2015, 7.4.2, 7.4.8.2)
 unfoldable pub interpretation_stream : Interpretation → List Bool
 interpretation_stream written.Default = []
 interpretation_stream (written.Eci n) = field 4 eci_indicator ++ designator n
 interpretation_stream written.Gs1 = field 4 fnc1_first_indicator
 
--- The length of `interpretation_stream` (ISO/IEC 18004:2015, 7.4.2, 7.4.8.2)
+-- How many bits say the interpretation (ISO/IEC 18004:2015, 7.4.2, 7.4.8.2)
 abbrev pub interpretation_bits : Interpretation → ℕ
 interpretation_bits written.Default = 0
 interpretation_bits (written.Eci n) = 4 + 8 * designator_codewords n
 interpretation_bits written.Gs1 = 4
 
--- The items as which these segments are read (ISO/IEC 18004:2015, 7.4.2, 7.4.8.2)
+-- The items of a symbol that has this interpretation and these segments (ISO/IEC 18004:2015, 7.4.2, 7.4.8.2)
 abbrev pub items_in : Interpretation → List Segment → List Item
 items_in written.Default segs = plain segs
 items_in (written.Eci n) segs = Eci (record { number = n; codewords = designator_codewords n }) ∷ plain segs
@@ -77,43 +80,47 @@ percent = 37
 abbrev pub separator : ℕ
 separator = 0x1D
 
--- What the characters of a segment stand for, from the left: `%%` for `%`, another `%` for the separator (ISO/IEC
--- 18004:2015, 7.4.8.2)
+-- The bytes that characters of alphanumeric mode stand for after FNC1: read from the left, `%%` stands for `%`, and any
+-- other `%` for the separator (ISO/IEC 18004:2015, 7.4.8.2)
 unfoldable pub separated : List ℕ → List ℕ
 separated [] = []
 separated (x ∷ []) = if x == percent then separator ∷ [] else x ∷ []
 separated (x ∷ y ∷ xs) =
     if x == percent then (if y == percent then percent ∷ separated xs else separator ∷ separated (y ∷ xs)) else x ∷ separated (y ∷ xs)
 
--- How alphanumeric mode writes the bytes after FNC1: `%` as `%%`, the separator as `%` (ISO/IEC 18004:2015, 7.4.8.2)
+-- The characters that alphanumeric mode writes for bytes after FNC1: `%%` for `%`, and `%` for the separator (ISO/IEC
+-- 18004:2015, 7.4.8.2)
 unfoldable pub escaped : List ℕ → List ℕ
 escaped [] = []
 escaped (x ∷ xs) = if x == percent then percent ∷ percent ∷ escaped xs else (if x == separator then percent ∷ escaped xs else x ∷ escaped xs)
 
--- No separator comes before another or before `%`: else alphanumeric mode cannot write both in one segment [own]
+-- No separator comes directly before another or before `%`, since alphanumeric mode could not write both in one segment
+-- [own]
 unfoldable pub are_fields : List ℕ → Bool
 are_fields [] = true
 are_fields (x ∷ []) = true
 are_fields (x ∷ y ∷ xs) = (if x == separator then (if y == separator then false else (if y == percent then false else true)) else true) && are_fields (y ∷ xs)
 
--- A byte is written as two characters: `%` in alphanumeric mode after FNC1 (ISO/IEC 18004:2015, 7.4.8.2)
+-- The byte is written as two characters, as only `%` is in alphanumeric mode after FNC1 (ISO/IEC 18004:2015, 7.4.8.2)
 abbrev pub is_doubled : Interpretation → ℕ → Mode → Bool
 is_doubled written.Gs1 x Alphanumeric = x == percent
 is_doubled _ x m = false
 
--- The character that is written for a byte: `%` for the separator in alphanumeric mode after FNC1 (ISO/IEC 18004:2015,
--- 7.4.8.2)
+-- The character that is written for a byte, once or twice: the byte itself, but `%` for the separator in alphanumeric
+-- mode after FNC1 (ISO/IEC 18004:2015, 7.4.8.2)
 abbrev pub character_for : Interpretation → ℕ → Mode → ℕ
 character_for written.Gs1 x Alphanumeric = if x == separator then percent else x
 character_for _ x m = x
 
--- `doubled` after FNC1 in first position (ISO/IEC 18004:2015, 7.4.8.2)
+-- The modes of the characters that are written for the bytes `xs` of the modes `ms` after FNC1 in first position: the
+-- mode of a byte that is written as two characters stands twice (ISO/IEC 18004:2015, 7.4.8.2)
 unfoldable pub doubled_gs1 : List ℕ → List Mode → List Mode
 doubled_gs1 [] ms = ms
 doubled_gs1 (x ∷ xs) [] = []
 doubled_gs1 (x ∷ xs) (m ∷ ms) = if is_doubled written.Gs1 x m then m ∷ m ∷ doubled_gs1 xs ms else m ∷ doubled_gs1 xs ms
 
--- `characters_in` after FNC1 in first position (ISO/IEC 18004:2015, 7.4.8.2)
+-- The characters that are written for the bytes `xs` of the modes `ms` after FNC1 in first position (ISO/IEC
+-- 18004:2015, 7.4.8.2)
 unfoldable pub characters_gs1 : List ℕ → List Mode → List ℕ
 characters_gs1 [] ms = []
 characters_gs1 (x ∷ xs) [] = x ∷ xs
@@ -121,31 +128,34 @@ characters_gs1 (x ∷ xs) (m ∷ ms) =
     let c = character_for written.Gs1 x m in
     if is_doubled written.Gs1 x m then c ∷ c ∷ characters_gs1 xs ms else c ∷ characters_gs1 xs ms
 
--- The modes of the characters that are written for the bytes `xs` of the modes `ms` (ISO/IEC 18004:2015, 7.4.8.2)
+-- The modes of the characters that are written for the bytes `xs` of the modes `ms`, under any interpretation (ISO/IEC
+-- 18004:2015, 7.4.8.2)
 abbrev pub doubled : Interpretation → List ℕ → List Mode → List Mode
 doubled written.Default xs ms = ms
 doubled (written.Eci n) xs ms = ms
 doubled written.Gs1 xs ms = doubled_gs1 xs ms
 
--- The characters that are written for the bytes `xs` of the modes `ms` (ISO/IEC 18004:2015, 7.4.8.2)
+-- The characters that are written for the bytes `xs` of the modes `ms`, under any interpretation (ISO/IEC 18004:2015,
+-- 7.4.8.2)
 abbrev pub characters_in : Interpretation → List ℕ → List Mode → List ℕ
 characters_in written.Default xs ms = xs
 characters_in (written.Eci n) xs ms = xs
 characters_in written.Gs1 xs ms = characters_gs1 xs ms
 
--- Bytes that can be written: GS1 data are fields (ISO/IEC 18004:2015, 7.4.8.2)
+-- The bytes can be written with this interpretation, which for GS1 data means that they are fields (ISO/IEC 18004:2015,
+-- 7.4.8.2)
 abbrev pub MayWrite : Interpretation → List ℕ → Type 0
 MayWrite written.Gs1 xs = IsTrue (are_fields xs)
 MayWrite _ xs = Unit {0}
 
--- The bytes that a segment stands for: in alphanumeric mode after FNC1 `%` has its own meaning (ISO/IEC 18004:2015,
--- 7.4.8.2, 7.4.8.3)
+-- The bytes that the characters of a segment stand for, which differ from the characters only in alphanumeric mode
+-- after FNC1 (ISO/IEC 18004:2015, 7.4.8.2, 7.4.8.3)
 abbrev pub meant : Bool → Mode → List ℕ → List ℕ
 meant true Alphanumeric xs = separated xs
 meant _ _ xs = xs
 
--- The bytes that the items stand for: each segment takes the next of the characters `xs`; `fnc1` says that FNC1 came
--- before (ISO/IEC 18004:2015, 7.4.8.2, 7.4.8.3)
+-- The bytes that the items stand for, where each segment takes the next of the characters `xs`, and `fnc1` says whether
+-- FNC1 came before the items (ISO/IEC 18004:2015, 7.4.8.2, 7.4.8.3)
 unfoldable pub meant_bytes : Bool → List Item → List ℕ → List ℕ
 meant_bytes fnc1 [] xs = []
 meant_bytes fnc1 (Data s ∷ is) xs = meant fnc1 s.mode (take s.len xs) ++ meant_bytes fnc1 is (drop s.len xs)
@@ -153,8 +163,8 @@ meant_bytes fnc1 (Eci d ∷ is) xs = meant_bytes fnc1 is xs
 meant_bytes fnc1 (Fnc1First ∷ is) xs = meant_bytes true is xs
 meant_bytes fnc1 (Fnc1Second a ∷ is) xs = meant_bytes true is xs
 
--- The ECI headers among the items, each with the number of bytes before it, of which `n` come before the first item
--- (ISO/IEC 18004:2015, 7.4.2.2)
+-- The ECI headers among the items, each with the number of bytes of the symbol before it; `n` bytes come before the
+-- first item (ISO/IEC 18004:2015, 7.4.2.2)
 unfoldable pub eci_changes : Bool → ℕ → List Item → List ℕ → List EciChange
 eci_changes fnc1 n [] xs = []
 eci_changes fnc1 n (Data s ∷ is) xs = eci_changes fnc1 (n + length (meant fnc1 s.mode (take s.len xs))) is (drop s.len xs)
@@ -162,7 +172,7 @@ eci_changes fnc1 n (Eci d ∷ is) xs = record { number = d.number; begin = n } �
 eci_changes fnc1 n (Fnc1First ∷ is) xs = eci_changes true n is xs
 eci_changes fnc1 n (Fnc1Second a ∷ is) xs = eci_changes true n is xs
 
--- The FNC1 among the items, of which only ECI headers come before it (ISO/IEC 18004:2015, 7.4.8)
+-- FNC1, if it is among the items and only ECI headers come before it (ISO/IEC 18004:2015, 7.4.8)
 unfoldable pub fnc1_of : List Item → Option Fnc1
 fnc1_of [] = None
 fnc1_of (Data s ∷ is) = None
@@ -170,12 +180,12 @@ fnc1_of (Eci d ∷ is) = fnc1_of is
 fnc1_of (Fnc1First ∷ is) = Some First
 fnc1_of (Fnc1Second a ∷ is) = Some (Second a)
 
--- The ECI headers that are read of a symbol with this interpretation (ISO/IEC 18004:2015, 7.4.2)
+-- The ECI headers that are read from a symbol with this interpretation (ISO/IEC 18004:2015, 7.4.2)
 abbrev pub ecis_in : Interpretation → List EciChange
 ecis_in (written.Eci n) = record { number = n; begin = 0 } ∷ []
 ecis_in _ = []
 
--- The FNC1 that is read of a symbol with this interpretation (ISO/IEC 18004:2015, 7.4.8.2)
+-- FNC1 as it is read from a symbol with this interpretation (ISO/IEC 18004:2015, 7.4.8.2)
 abbrev pub fnc1_in : Interpretation → Option Fnc1
 fnc1_in written.Gs1 = Some First
 fnc1_in _ = None

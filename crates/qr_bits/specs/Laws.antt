@@ -1,4 +1,4 @@
--- What follows from the definitions of this crate.
+-- What follows from the definitions of this crate. Functions of `laws.rt` have these laws as their contracts.
 use Rattle.std.specs.Prelude.{◌≡◌, ℕ, ◌+◌, ◌*◌, ◌<◌, ◌≤◌, ◌↔◌, Bool, true, false, List, ◌++◌, length, All, Option, Ok}
 use Rattle.std.specs.List.{slice_index_or}
 use Rattle.qr_layout.specs.declared.level.Level.{Level}
@@ -19,27 +19,29 @@ use Rattle.qr_bits.specs.declared.interpretation.Interpretation.TheVariants.{Def
 use Rattle.qr_bits.specs.Parsing.{content_of, ends, items_of, parse, plain_content}
 use Rattle.qr_bits.specs.declared.interpretation.Item.{Item}
 
--- Bits are read as a content exactly if they begin with its bit stream, and after it have at most three bits, or the
--- terminator and any bits (ISO/IEC 18004:2015, 7.4.1, 7.4.9, 8.1)
+-- Bits are read as segments alone, after a header if there is one, exactly if they begin with the bit stream of these,
+-- and then have at most three bits, or the terminator and any bits (ISO/IEC 18004:2015, 7.4.1, 7.4.9, 8.1)
 abbrev pub StreamsAreParsed : Type 0
 StreamsAreParsed =
     (v : ℕ) (bits : List Bool) (h : Option Header) (segs : List Segment) (xs : List ℕ) →
     (parse v bits ≡ Ok (plain_content h segs xs)) ↔
     ((front : List Bool) × (tail : List Bool) × IsStream v xs segs h Default front × (bits ≡ front ++ tail) × (ends tail ≡ true))
 
--- Data codewords are read as the header, segments and bytes that they were made from [own]
+-- Data codewords are read as the content that they were made from: the header, the interpretation, the segments, and
+-- the bytes that the characters of these stand for [own]
 abbrev pub DataAreParsed : Type 0
 DataAreParsed =
     (v : ℕ) (l : Level) (xs : List ℕ) (segs : List Segment) (h : Option Header) (i : Interpretation) (cw : List ℕ) → IsData v l xs segs h i cw →
     parse v (bits_of cw) ≡ Ok (content_of h (items_in i segs) xs)
 
--- As `DataAreParsed`, without an ECI header and FNC1 [own]
+-- Data codewords without an ECI header and FNC1 are read as the header, segments and bytes that they were made from
+-- [own]
 abbrev pub PlainDataAreParsed : Type 0
 PlainDataAreParsed =
     (v : ℕ) (l : Level) (xs : List ℕ) (segs : List Segment) (h : Option Header) (cw : List ℕ) → IsData v l xs segs h Default cw →
     parse v (bits_of cw) ≡ Ok (plain_content h segs xs)
 
--- A bit stream has as many bits as its header and its segments together [own]
+-- A bit stream has as many bits as its header, what says its interpretation, and its segments together [own]
 abbrev pub StreamsHaveTheirBits : Type 0
 StreamsHaveTheirBits =
     (v : ℕ) (xs : List ℕ) (segs : List Segment) (h : Option Header) (i : Interpretation) (stream : List Bool) → IsStream v xs segs h i stream →
@@ -51,21 +53,21 @@ DataAreThere =
     (v : ℕ) (l : Level) (xs : List ℕ) (segs : List Segment) (h : Option Header) (i : Interpretation) (stream : List Bool) → IsStream v xs segs h i stream →
     length stream ≤ capacity_of v l → (cw : List ℕ) × IsData v l xs segs h i cw
 
--- Segments of given bytes, after a header if there is one, have at most one list of data codewords in a version at a
--- level [own]
+-- A header if there is one, an interpretation and segments of given bytes have at most one list of data codewords in a
+-- version at a level [own]
 abbrev pub DataAreOne : Type 0
 DataAreOne =
     (v : ℕ) (l : Level) (xs : List ℕ) (segs : List Segment) (h : Option Header) (i : Interpretation) (cw dw : List ℕ) →
     IsData v l xs segs h i cw → IsData v l xs segs h i dw → cw ≡ dw
 
--- Data codewords are as many as the standard requires for version and level (ISO/IEC 18004:2015, 7.4.10)
+-- There are as many data codewords as the standard requires for the version and the level (ISO/IEC 18004:2015, 7.4.10)
 abbrev pub DataFillTheSymbol : Type 0
 DataFillTheSymbol =
     (v : ℕ) (l : Level) (xs : List ℕ) (segs : List Segment) (h : Option Header) (i : Interpretation) (cw : List ℕ) → IsData v l xs segs h i cw →
     length cw ≡ data_codewords_of v l
 
--- If the modes of segments suit their bytes, and their bits fit the capacity, each character count fits its indicator
--- [own]
+-- If the modes of segments suit their bytes, and the bits of all segments fit the capacity, the number of characters of
+-- each segment fits its character count indicator [own]
 abbrev pub CountsFitWhereBitsFit : Type 0
 CountsFitWhereBitsFit =
     (v : ℕ) (l : Level) (xs : List ℕ) (segs : List Segment) → 1 ≤ v → v ≤ 40 → Suits xs segs →
@@ -76,22 +78,22 @@ abbrev pub FittingInputsAreShort : Type 0
 FittingInputsAreShort =
     (i : Interpretation) (v : ℕ) (l : Level) (r : Rule) (xs : List ℕ) → 1 ≤ v → v ≤ 40 → HasFit i v r xs (capacity_of v l) → length xs ≤ 7089
 
--- The segments of the least segmentation cover its characters, and have at most n bits exactly if some valid assignment
--- has [own]
+-- The segments of the least segmentation cover its characters, and take at most n bits exactly if some valid assignment
+-- takes at most n [own]
 abbrev pub LeastSegmentationsFit : Type 0
 LeastSegmentationsFit =
     (i : Interpretation) (v : ℕ) (r : Rule) (xs ys : List ℕ) (segs : List Segment) → IsLeastSegmentation i v r xs ys segs →
     Covers ys segs × ((n : ℕ) → HasFit i v r xs n ↔ (bits v segs ≤ n))
 
--- The characters of the least segmentation stand for the input, under its interpretation (ISO/IEC 18004:2015, 7.4.2,
--- 7.4.8.2)
+-- If an input can be written with an interpretation, the characters of its least segmentation stand for the input, and
+-- are read with this interpretation (ISO/IEC 18004:2015, 7.4.2, 7.4.8.2)
 abbrev pub SegmentationsMeanTheirInput : Type 0
 SegmentationsMeanTheirInput =
     (i : Interpretation) (v : ℕ) (r : Rule) (xs ys : List ℕ) (segs : List Segment) (h : Option Header) → MayWrite i xs → IsLeastSegmentation i v r xs ys segs →
     (content_of h (items_in i segs) ys ≡ record { header = h; items = items_in i segs; ecis = ecis_in i; bytes = xs })
     × (fnc1_of (items_in i segs) ≡ fnc1_in i)
 
--- Without kanji mode, a piece of an input needs no more bits than the whole [own]
+-- Under a rule without kanji mode, a piece of an input needs no more bits than the whole input [own]
 abbrev pub PiecesNeedNoMore : Type 0
 PiecesNeedNoMore =
     (i : Interpretation) (v : ℕ) (r : Rule) (xs ys zs : List ℕ) (n : ℕ) → may_use r Kanji ≡ false →
@@ -102,8 +104,7 @@ abbrev pub BitsAreCodewordBits : Type 0
 BitsAreCodewordBits =
     (cw : List ℕ) (k : ℕ) → k < 8 * length cw → slice_index_or (bits_of cw) k false ≡ codeword_bit cw k
 
--- What alphanumeric mode writes of fields after FNC1 is read as these bytes, and what is read is written as it was
--- (ISO/IEC 18004:2015, 7.4.8.2)
+-- What alphanumeric mode writes after FNC1 for fields is read as these fields (ISO/IEC 18004:2015, 7.4.8.2)
 abbrev pub FieldsAreRead : Type 0
 FieldsAreRead = (xs : List ℕ) → are_fields xs ≡ true → separated (escaped xs) ≡ xs
 

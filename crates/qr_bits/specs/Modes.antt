@@ -1,4 +1,4 @@
--- The four modes: their indicators, which bytes suit them, and how many bits these take.
+-- The four modes: their indicators, which bytes each can write, and how many bits these take.
 use Rattle.std.specs.Prelude.{ℕ, ◌+◌, ◌*◌, ◌/◌, ◌%◌, Bool, true, false, ◌&&◌, ◌||◌, if◌then◌else◌, nat_le, ◌==◌, List, [], ◌∷◌, codes, ◌-◌}
 use Rattle.std.specs.List.{list_all, list_any, position_or_len}
 use Rattle.qr_bits.specs.declared.modes.Mode.{Mode}
@@ -13,7 +13,8 @@ indicator Alphanumeric = 2
 indicator Byte = 4
 indicator Kanji = 8
 
--- The four bits in the place of a further mode indicator (ISO/IEC 18004:2015, 7.4.1, Table 2)
+-- The four bits that stand in the place of the next mode indicator if nothing follows (ISO/IEC 18004:2015, 7.4.1, Table
+-- 2)
 abbrev pub terminator : ℕ
 terminator = 0
 
@@ -42,11 +43,11 @@ is_digit b = nat_le 48 b && nat_le b 57
 unfoldable pub characters : List ℕ
 characters = codes "0123456789ABCDEFGHIJKLMNOPQRSTUVWXYZ $%*+-./:"
 
--- One of these characters (ISO/IEC 18004:2015, 7.3.4)
+-- The byte is one of the 45 characters (ISO/IEC 18004:2015, 7.3.4)
 unfoldable pub is_alphanumeric : ℕ → Bool
 is_alphanumeric b = list_any (λ c. c == b) characters
 
--- The index of a character among them (ISO/IEC 18004:2015, 7.4.4, Table 5)
+-- The value of a character of alphanumeric mode, which is its index in Table 5 (ISO/IEC 18004:2015, 7.4.4, Table 5)
 unfoldable pub character_value : ℕ → ℕ
 character_value b = position_or_len (λ c. c == b) characters
 
@@ -57,30 +58,31 @@ is_kanji_pair high low =
     let pair = 256 * high + low in
     (nat_le 0x8140 pair && nat_le pair 0x9FFC || nat_le 0xE040 pair && nat_le pair 0xEBBF) && (nat_le 0x40 low && nat_le low 0xFC)
 
--- The bytes are even in number, and taken two by two they all pass `test` [own]
+-- The number of bytes is even, and each pair of them, when they are taken two by two, passes `test` [own]
 abbrev pub in_twos : (ℕ → ℕ → Bool) → List ℕ → Bool
 in_twos test [] = true
 in_twos test (x ∷ []) = false
 in_twos test (x ∷ y ∷ xs) = test x y && in_twos test xs
 
--- The 13 bits of a pair. 8140 is subtracted from a pair up to 9FFC, and C140 from any other; then C0 times the high
--- byte of the difference is added to its low byte, all hexadecimal (ISO/IEC 18004:2015, 7.4.6)
+-- The number of 13 bits that is written for a kanji pair. 8140 is subtracted from a pair up to 9FFC, and C140 from any
+-- other; then C0 times the high byte of the difference is added to its low byte, all hexadecimal (ISO/IEC 18004:2015,
+-- 7.4.6)
 unfoldable pub kanji_value : ℕ → ℕ → ℕ
 kanji_value high low =
     let pair = 256 * high + low in
     let rest = if nat_le pair 0x9FFC then pair - 0x8140 else pair - 0xC140 in
     0xC0 * (rest / 256) + rest % 256
 
--- The bytes are characters of the mode (ISO/IEC 18004:2015, 7.3.3 to 7.3.6)
+-- The mode can write the bytes: they are characters of it (ISO/IEC 18004:2015, 7.3.3 to 7.3.6)
 abbrev pub suits : Mode → List ℕ → Bool
 suits Numeric xs = list_all is_digit xs
 suits Alphanumeric xs = list_all is_alphanumeric xs
 suits Byte xs = true
 suits Kanji xs = in_twos is_kanji_pair xs
 
--- The data bits of `n` bytes: 10 for three digits, 7 or 4 for two or one at the end; 11 for two characters, 6 for one
--- at the end; 8 for a byte; 13 for a kanji pair. A byte without its pair, which no valid assignment has, counts as a
--- whole pair (ISO/IEC 18004:2015, 7.4.3 to 7.4.6)
+-- How many bits the data of `n` bytes take: 10 for three digits, 7 or 4 for two or one at the end; 11 for two
+-- characters, 6 for one at the end; 8 for a byte; 13 for a kanji pair. If `n` is odd in kanji mode, which no valid
+-- assignment has, the last byte counts as a whole pair (ISO/IEC 18004:2015, 7.4.3 to 7.4.6)
 abbrev pub payload_bits : Mode → ℕ → ℕ
 payload_bits Numeric n = 10 * (n / 3) + (if n % 3 == 0 then 0 else (if n % 3 == 1 then 4 else 7))
 payload_bits Alphanumeric n = 11 * (n / 2) + 6 * (n % 2)

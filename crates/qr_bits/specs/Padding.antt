@@ -9,12 +9,12 @@ use Rattle.qr_layout.specs.Blocks.{data_codewords_of}
 use Rattle.qr_bits.specs.Stream.{IsStream}
 use Rattle.qr_bits.specs.Interpretation.{interpretation_bits}
 
--- How many bits all data codewords of version `v` and level `l` have (ISO/IEC 18004:2015, 7.4.10, Table 7)
+-- How many bits the data codewords of version `v` and level `l` have together (ISO/IEC 18004:2015, 7.4.10, Table 7)
 abbrev pub capacity_of : ℕ → Level → ℕ
 capacity_of v l = 8 * data_codewords_of v l
 
--- What a structured append header, of 20 bits, and what says the interpretation leave of the capacity (ISO/IEC
--- 18004:2015, 7.4.2, 7.4.8.2, 7.4.10, 8.1)
+-- How many bits of the capacity are left after a structured append header, of 20 bits, and the ECI header or FNC1 of
+-- the interpretation (ISO/IEC 18004:2015, 7.4.2, 7.4.8.2, 7.4.10, 8.1)
 abbrev pub room_of : ℕ → Level → Interpretation → ℕ
 room_of v l i = capacity_of v l - 20 - interpretation_bits i
 
@@ -27,7 +27,7 @@ terminated capacity stream = stream ++ replicate (min 4 (capacity - length strea
 abbrev pub filled : List Bool → List Bool
 filled stream = stream ++ replicate ((8 - length stream % 8) % 8) false
 
--- Pad codewords: EC and 11 (hexadecimal) in turn (ISO/IEC 18004:2015, 7.4.10)
+-- A number of pad codewords, which are EC and 11 (hexadecimal) in turn (ISO/IEC 18004:2015, 7.4.10)
 unfoldable pub pads : ℕ → List ℕ
 pads zero = []
 pads (suc zero) = 0xEC ∷ []
@@ -40,8 +40,8 @@ padded n stream =
     let whole = filled (terminated (8 * n) stream) in
     whole ++ bits_of (pads (n - length whole / 8))
 
--- `cw` are the data codewords of the bytes `xs` in the segments `segs`, after the header `h` if there is one (ISO/IEC
--- 18004:2015, 7.4.10)
+-- `cw` are the data codewords of version `v` and level `l` with the header `h`, if there is one, the interpretation
+-- `i`, and the bytes `xs` in the segments `segs` (ISO/IEC 18004:2015, 7.4.10)
 pub record IsData (v : ℕ) (l : Level) (xs : List ℕ) (segs : List Segment) (h : Option Header) (i : Interpretation) (cw : List ℕ) : Type 0 where
   pub stream : List Bool
   pub is_stream : IsStream v xs segs h i stream

@@ -1,6 +1,7 @@
--- Which segments are chosen for an input. Neighbouring bytes to which an assignment gives the same mode are one
--- segment. It contains the characters that are written for them, which are the bytes themselves but in GS1 data. An
--- assignment is valid if the rule `r` allows its modes and the mode of each segment suits its characters.
+-- Which segments are chosen for an input. An assignment gives a mode to each byte, and neighbouring bytes with the same
+-- mode are one segment. The segment contains the characters that are written for these bytes, which are the bytes
+-- themselves, except in GS1 data. An assignment is valid if the rule `r` allows its modes, and the mode of each segment
+-- suits its characters.
 use Rattle.std.specs.Prelude.{◌≡◌, ℕ, ◌+◌, ◌/◌, ◌<◌, ◌≤◌, ◌⊎◌, if◌then◌else◌, ◌==◌, nat_le, List, [], ◌∷◌, length, take, All, IsTrue}
 use Rattle.std.specs.List.{list_all, sum_by}
 use Rattle.qr_bits.specs.declared.modes.Mode.{Mode}
@@ -12,17 +13,17 @@ use Rattle.qr_bits.specs.Stream.{Suits}
 use Rattle.qr_bits.specs.declared.interpretation.Interpretation.{Interpretation}
 use Rattle.qr_bits.specs.Interpretation.{characters_in, doubled}
 
--- The bits of a segment in version `v`, with its mode indicator and character count indicator (ISO/IEC 18004:2015,
--- 7.4.1)
+-- How many bits a segment takes in version `v`, with its mode indicator and character count indicator (ISO/IEC
+-- 18004:2015, 7.4.1)
 abbrev pub segment_bits : ℕ → Segment → ℕ
 segment_bits v s = 4 + count_width v s.mode + payload_bits s.mode s.len
 
--- The bits of all segments, without those of a header (ISO/IEC 18004:2015, 7.4.1)
+-- How many bits all segments take, without what comes before them (ISO/IEC 18004:2015, 7.4.1)
 abbrev pub bits : ℕ → List Segment → ℕ
 bits v [] = 0
 bits v (s ∷ ss) = segment_bits v s + bits v ss
 
--- As `Suits`, but no segment is empty [own]
+-- The segments contain exactly the bytes, each mode suits its bytes, and no segment is empty [own]
 unfoldable pub Covers : List ℕ → List Segment → Type 0
 Covers xs segs = All (λ s. 0 < s.len) segs × Suits xs segs
 
@@ -33,12 +34,13 @@ rank Alphanumeric = 1
 rank Byte = 2
 rank Kanji = 3
 
--- The segments with one byte of mode `m` before theirs [own]
+-- One byte of mode `m` is put before the segments: it joins the first segment if this has mode `m`, and else begins one
+-- [own]
 abbrev pub prepend_mode : Mode → List Segment → List Segment
 prepend_mode m [] = record { mode = m; len = 1 } ∷ []
 prepend_mode m (s ∷ ss) = if rank m == rank s.mode then record { mode = m; len = 1 + s.len } ∷ ss else record { mode = m; len = 1 } ∷ s ∷ ss
 
--- The segments of an assignment [own]
+-- The segments of an assignment: neighbouring bytes of the same mode are one segment [own]
 unfoldable pub runs_of : List Mode → List Segment
 runs_of [] = []
 runs_of (m ∷ ms) = prepend_mode m (runs_of ms)
@@ -47,7 +49,7 @@ runs_of (m ∷ ms) = prepend_mode m (runs_of ms)
 abbrev pub IsAssignment : Interpretation → Rule → List ℕ → List Mode → Type 0
 IsAssignment i r xs ms = IsTrue (list_all (may_use r) ms) × Covers (characters_in i xs ms) (runs_of (doubled i xs ms))
 
--- In lexicographic order by their ranks, `ms` does not come after `ks` [own]
+-- In the lexicographic order by the ranks of modes, `ms` does not come after `ks` [own]
 abbrev pub IsNotAfter : List Mode → List Mode → Type 0
 IsNotAfter [] ks = Unit {0}
 IsNotAfter (m ∷ ms) [] = ⊥
@@ -59,12 +61,12 @@ pub record IsBestAssignment (i : Interpretation) (v : ℕ) (r : Rule) (xs : List
   pub least : (ks : List Mode) → IsAssignment i r xs ks → bits v (runs_of (doubled i xs ms)) ≤ bits v (runs_of (doubled i xs ks))
   pub first : (ks : List Mode) → IsAssignment i r xs ks → bits v (runs_of (doubled i xs ks)) ≡ bits v (runs_of (doubled i xs ms)) → IsNotAfter ms ks
 
--- The characters `ys` of the best assignment, and their segments [own]
+-- `segs` are the segments of the best assignment, and `ys` the characters that they contain [own]
 abbrev pub IsLeastSegmentation : Interpretation → ℕ → Rule → List ℕ → List ℕ → List Segment → Type 0
 IsLeastSegmentation i v r xs ys segs =
     (ms : List Mode) × IsBestAssignment i v r xs ms × (segs ≡ runs_of (doubled i xs ms)) × (ys ≡ characters_in i xs ms)
 
--- Some valid assignment takes at most `n` bits [own]
+-- Some valid assignment to the bytes `xs` takes at most `n` bits [own]
 abbrev pub HasFit : Interpretation → ℕ → Rule → List ℕ → ℕ → Type 0
 HasFit i v r xs n = (ms : List Mode) × IsAssignment i r xs ms × (bits v (runs_of (doubled i xs ms)) ≤ n)
 
@@ -78,7 +80,7 @@ least_sixths b = if is_digit b then 20 else (if nat_le b 90 then 33 else 39)
 unfoldable pub least_bits : List ℕ → ℕ
 least_bits xs = sum_by least_sixths xs / 6
 
--- Of the prefixes of `xs` that some valid assignment writes in `room` bits, that of `n` bytes is the longest [own]
+-- `n` is the length of the longest prefix of `xs` for which some valid assignment takes at most `room` bits [own]
 pub record IsLongestFit (i : Interpretation) (v : ℕ) (r : Rule) (xs : List ℕ) (room n : ℕ) : Type 0 where
   pub inside : n ≤ length xs
   pub fits : HasFit i v r (take n xs) room

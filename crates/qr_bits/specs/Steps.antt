@@ -1,4 +1,4 @@
--- How the code computes its results, for private contracts alone.
+-- How the code computes its results. Only private contracts use these definitions.
 pub mod RunState
 pub mod BestModes
 pub mod Segmentation

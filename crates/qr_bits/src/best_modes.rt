@@ -1,11 +1,14 @@
-//! The best mode of each byte, by a table that is filled from the last byte to the first. In a given version, how many
-//! bits a byte and all later ones take depends only on their modes and on the state before that byte (`RunState`). So
-//! the row of a byte has the best mode for each state. With it, the bits that the byte adds and the fewest that the
-//! later ones can then add have the least sum.
+//! The best mode of each byte, by dynamic programming: a table is filled from the last byte to the first. In a given
+//! version, how many bits a byte and all later ones take depends only on their modes and on the state before that byte
+//! (`RunState`). So the table has a row for each byte, with the best mode for each state. The best mode is the one for
+//! which the bits that the byte adds, and the fewest that the later bytes can then add, have the least sum.
 //!
-//! A choice is a number, 4 times the bits of the byte and all later ones plus the rank of the mode. So the smallest has
-//! the fewest bits, and the lowest rank among choices of as many. A row has two bits for each state, the rank of its
-//! best mode.
+//! A row is a number with two bits for each state, which are the rank of the state's best mode. Modes are compared by
+//! their choices; a choice is a number, which the head of `run_state.rt` defines.
+//!
+//! In all functions `kanji` says that the rule allows kanji mode, `pair` that the byte may begin a kanji pair, and
+//! `gs1` that the bytes are GS1 data. The functions are inlined in the loops that call them. Where `kanji` is the
+//! constant `false`, the compiler leaves out the tests for pairs, and where `gs1` is, those for `%` and the separator.
 
 ghost use Rattle.std.specs.Prelude.{◌≡◌, ◌+◌, ◌*◌, ◌/◌, ◌%◌, ◌<◌, ◌≤◌, ℕ, Bool, true, false, length, reverse, IfOk, vec_len};
 ghost use Rattle.qr_bits.specs.declared.modes.Mode.{Mode};
@@ -24,7 +27,7 @@ use crate::run_state::{FirstChoices, NO_BITS, PerState, RunState, number};
 use qr_layout::Version;
 use std::alloc::{AllocError, Global};
 
-// Stands for a choice that is not allowed, and is greater than every other.
+// Stands for a choice that is not allowed. It is greater than every choice that is.
 const NO_CHOICE: u32 = u32::MAX;
 
 #[inline(always)]
@@ -39,7 +42,8 @@ fn ranked(rank: u32) -> Mode
     }
 }
 
-// Whether `byte` may have `mode` if it is not the second byte of a kanji pair.
+// Whether `byte` may have `mode` if it is not the second byte of a kanji pair. For kanji mode, whose rank is 3, the
+// byte alone does not decide, so the contract leaves it out.
 #[tactic(auto, unfolding(crate::specs::Steps::RunState::may_begin))]
 #[inline(always)]
 fn may_begin(rule: Rule, byte: u8, mode: Mode) -> bool
@@ -54,8 +58,11 @@ fn may_begin(rule: Rule, byte: u8, mode: Mode) -> bool
     }
 }
 
-// Adds the bits of `rest`, the best choice for the later bytes, to `first`, the choice of a mode for the byte alone.
-// The mode of `rest` is left out.
+// The choice of a mode for a byte, or `NO_CHOICE` if `may` is false. It is the sum of `first`, the choice of the mode
+// for the byte alone, and the bits of `rest`, the best choice for the later bytes. `rest / 4 * 4` has these bits
+// without the mode. 155 is the sum of 135, the greatest choice of a first byte, and 4 times the 5 bits of a second
+// character. The best choices of an input of at most `INPUT_MAX` bytes stay below 40,000,000, so the sum does not
+// overflow.
 #[inline(always)]
 fn choice_if(may: bool, first: u32, rest: u32) -> u32
     requires { (first ≤ 155) × (rest < 40000000) }
@@ -64,7 +71,7 @@ fn choice_if(may: bool, first: u32, rest: u32) -> u32
     if may { first + rest / 4 * 4 } else { NO_CHOICE }
 }
 
-// As `choice_if`, where `bits` are those of a byte that does not begin a segment.
+// As `choice_if`, for a byte that does not begin a segment and adds `bits`.
 #[inline(always)]
 fn next_if(may: bool, bits: u32, mode: Mode, rest: u32) -> u32
     requires { (bits ≤ 33) × (rest < 40000000) }
@@ -73,6 +80,7 @@ fn next_if(may: bool, bits: u32, mode: Mode, rest: u32) -> u32
     choice_if(may, number(bits, mode), rest)
 }
 
+// The row with the modes of these choices, two bits for each. Those of `start` are the lowest.
 #[tactic(auto, using(crate::proofs::lemmas::best_modes::TableLemmas::packed_mode))]
 #[inline(always)]
 fn row_for(numbers: &PerState) -> u32
@@ -85,14 +93,14 @@ fn row_for(numbers: &PerState) -> u32
     numbers.start % 4 + 4 * last
 }
 
-// The choices of alphanumeric mode for a byte, as numbers.
+// The choices of alphanumeric mode for a byte.
 #[derive(Clone, Copy)]
 struct CharacterChoices {
-    // the choice that begins a segment
+    // If the byte begins a segment.
     first: u32,
-    // after `Character1`
+    // If the state before it is `Character1`.
     second: u32,
-    // after `Character2`
+    // If the state before it is `Character2`.
     next: u32,
 }
 
@@ -112,7 +120,8 @@ fn character_choices(
         → AreCharacterChoices i first_choices.now.version r x pair rest.now result }
 {
     if doubled {
-        // The second of the two characters adds 5 bits to those of the first.
+        // One of the two characters adds 6 bits and the other one 5. The choice that begins a segment has the 6
+        // already.
         let first = first_choices.alphanumeric + 4 * 5;
         CharacterChoices {
             first: choice_if(may, first, rest.character2),
@@ -129,8 +138,7 @@ fn character_choices(
 }
 
 // The row of a byte, and its best choice for each state before it. `digit` says that the byte may be written in numeric
-// mode, and `pair` that it may begin a kanji pair. `characters` are its choices of alphanumeric mode, and `rest` has the
-// best choices of the later bytes.
+// mode. `characters` are its choices of alphanumeric mode, and `rest` has the best choices of the next byte.
 #[inline(always)]
 fn choices(
     first_choices: &FirstChoices,
@@ -151,9 +159,10 @@ fn choices(
     let no_digits = characters.first.min(others);
     let no_characters = digits.min(others);
     let start = digits.min(no_digits);
-    // After a whole group (`Digit3`, `Character2`, `InBytes`, `WholePair`) a segment of the same mode takes more bits
-    // to begin than to continue, and both lead to the same state. So there `start`, the best of all choices that begin
-    // a segment, can stand for those of the other modes.
+    // After a whole group (`Digit3`, `Character2`, `InBytes`, `WholePair`) it takes more bits to begin a segment of the
+    // same mode than to continue the last one, and both lead to the same state. So to begin one is never the best
+    // choice there. Then `start`, the best of all choices that begin a segment, can stand for those of the other modes
+    // alone.
     let digit2 = next_if(digit, 3, Mode::Numeric, rest.digit2);
     let digit3 = next_if(digit, 3, Mode::Numeric, rest.digit3);
     let digit1 = next_if(digit, 4, Mode::Numeric, rest.digit1);
@@ -168,14 +177,15 @@ fn choices(
         character1: characters.second.min(no_characters),
         character2: characters.next.min(start),
         in_bytes: in_bytes.min(start),
-        // after half a pair only kanji mode is possible
+        // After half a pair only kanji mode is possible.
         half_pair: whole_pair,
         whole_pair: half_pair.min(start),
     };
     (row_for(&numbers), numbers)
 }
 
-// Whether a byte is two characters of alphanumeric mode: `%` in GS1 data is (7.4.8.2).
+// Whether alphanumeric mode writes the byte as two characters, as it does with `%` in GS1 data (ISO/IEC 18004:2015,
+// 7.4.8.2).
 #[inline(always)]
 fn is_doubled(gs1: bool, byte: u8) -> bool
     ensures { (i : Interpretation) → gs1 ≡ is_gs1 i → result ≡ is_doubled i byte Mode.Alphanumeric }
@@ -183,7 +193,8 @@ fn is_doubled(gs1: bool, byte: u8) -> bool
     gs1 && byte == b'%'
 }
 
-// The character of alphanumeric mode that is written for a byte: in GS1 data `%` for the separator of fields (7.4.8.2).
+// The character that alphanumeric mode writes for a byte. In GS1 data it is `%` for the separator of fields (ISO/IEC
+// 18004:2015, 7.4.8.2).
 #[inline(always)]
 fn character_for(gs1: bool, byte: u8) -> u8
     ensures { (i : Interpretation) → gs1 ≡ is_gs1 i → result ≡ character_for i byte Mode.Alphanumeric }
@@ -191,8 +202,7 @@ fn character_for(gs1: bool, byte: u8) -> u8
     if gs1 && byte == SEPARATOR { b'%' } else { byte }
 }
 
-/// The row of a byte, and its best choice for each state before it. `pair` says that it may begin a kanji pair, and
-/// `gs1` that the bytes are GS1 data. `rest` has the best choices of the later bytes.
+// The row of a byte, and its best choice for each state before it. `rest` has the best choices of the next byte.
 #[inline(always)]
 pub(crate) fn row_of(
     first_choices: &FirstChoices,
@@ -206,8 +216,8 @@ pub(crate) fn row_of(
     ensures { (i : Interpretation) → gs1 ≡ is_gs1 i
         → IsRow i first_choices.now.version rule byte pair rest.now result.0 result.1 }
 {
-    // Where the flags are constants, the compiler can leave out cases of the inlined `choices`. Each digit is also a
-    // character of alphanumeric mode.
+    // `choices` is compiled into each of the places that call it. Where a flag is a constant, the compiler leaves out
+    // the cases that it excludes. A byte that may be written in numeric mode may be written in alphanumeric mode too.
     let digit = may_begin(rule, byte, Mode::Numeric);
     let doubled = is_doubled(gs1, byte);
     if digit && !pair {
@@ -228,7 +238,7 @@ pub(crate) fn row_of(
     }
 }
 
-// `false` unless the rule allows kanji mode.
+// Whether the first two bytes may be written in kanji mode, which the rule has to allow.
 #[tactic(auto, unfolding(crate::specs::Steps::RunState::begins_with_pair))]
 pub(crate) fn begins_with_pair(rule: Rule, bytes: &[u8]) -> bool
     ensures { result ≡ begins_with_pair rule is_kanji_pair bytes.now }
@@ -239,7 +249,7 @@ pub(crate) fn begins_with_pair(rule: Rule, bytes: &[u8]) -> bool
     }
 }
 
-// As `begins_with_pair`, where `kanji` says whether the rule allows kanji mode.
+// As `begins_with_pair`, with a test less where `kanji` is a constant.
 #[tactic(auto, unfolding(crate::specs::Steps::RunState::begins_with_pair))]
 #[inline(always)]
 fn pair_at(kanji: bool, rule: Rule, bytes: &[u8]) -> bool
@@ -249,7 +259,8 @@ fn pair_at(kanji: bool, rule: Rule, bytes: &[u8]) -> bool
     kanji && begins_with_pair(rule, bytes)
 }
 
-/// Returns the table: a row for each byte of `input`, that of the last byte first.
+// Returns the table: a row for each byte of `input`. That of the last byte is first, so `pop` takes the rows in the
+// order of the bytes.
 pub(crate) fn best_modes(
     alloc: Global,
     input: &[u8],
@@ -267,7 +278,8 @@ pub(crate) fn best_modes(
     }
 }
 
-/// As `best_modes`, for GS1 data, of which not all is in byte mode. Out of line, so that the loop has all registers.
+// As `best_modes`, for GS1 data, under a rule that allows more than byte mode. Out of line, so that the loop has all
+// registers to itself.
 #[inline(never)]
 pub(crate) fn best_gs1_modes(
     alloc: Global,
@@ -286,8 +298,7 @@ pub(crate) fn best_gs1_modes(
     }
 }
 
-// As `best_modes`. Where `kanji`, which says that the rule allows kanji mode, is constant, the compiler can leave out
-// the test for pairs; where `gs1`, which says that the input is GS1 data, is `false`, those for `%` and the separator.
+// As `best_modes`, and for GS1 data if `gs1` says so.
 #[inline(always)]
 fn best_rows(
     alloc: Global,

@@ -1,4 +1,5 @@
-//! Bits of codewords, written and read, the highest of each codeword first (ISO/IEC 18004:2015, 7.4.10).
+//! Bits that are written into codewords, and read from them. The most significant bit of each codeword is its first
+//! (ISO/IEC 18004:2015, 7.4.10).
 
 ghost use Rattle.std.specs.Prelude.{Bool, IfOk, List, OnOk, [], drop, length, take, ◌%◌, ◌*◌, ◌++◌, ◌+◌, ◌<◌, ◌^◌, ◌≡◌, ◌≤◌};
 ghost use Rattle.std.specs.List.{slice_index_or};
@@ -10,7 +11,7 @@ use crate::modes::{STRUCTURED_APPEND, TERMINATOR};
 use std::alloc::{AllocError, Global};
 use std::marker::Model;
 
-/// Collects bits into codewords. Contracts see it as the bits written so far.
+// Collects bits into codewords. In contracts its value is the list of the bits written so far.
 #[derive(Drop)]
 pub(crate) struct BitWriter {
     whole: Vec<u8>,
@@ -28,7 +29,7 @@ impl Model for BitWriter {
 }
 
 impl BitWriter {
-    /// Has room for `len` codewords, so that up to then no call allocates.
+    // Returns a writer with room for `len` codewords. Until there are more, no call allocates.
     #[tactic(auto, unfolding(crate::specs::Bits::bits_of, crate::specs::Bits::field))]
     pub(crate) fn with_capacity(alloc: Global, len: usize) -> Result<Self, AllocError>
         requires { len < 2 ^ 16 }
@@ -41,7 +42,7 @@ impl BitWriter {
         })
     }
 
-    /// Writes the lowest `width` bits of `number`, the most significant first; higher bits may have any value.
+    // Writes the lowest `width` bits of `number`, the most significant first. The higher bits may have any value.
     pub(crate) fn put(&mut self, width: u8, number: u16) -> Result<(), AllocError>
         requires { width ≤ 16 }
         ensures { OnOk result (self.new ≡ self.old ++ field width number) }
@@ -61,7 +62,7 @@ impl BitWriter {
         Ok(())
     }
 
-    /// Fills the last codeword with zeros, if it is not whole.
+    // Fills the last codeword with zeros, if it is not whole.
     #[tactic(auto, using(crate::proofs::Named::writing_bits))]
     pub(crate) fn fill(&mut self) -> Result<(), AllocError>
         ensures { OnOk result (self.new ≡ filled self.old) }
@@ -83,7 +84,8 @@ impl BitWriter {
     }
 }
 
-// Appends the whole bytes of the lowest `width` bits of `bits` to `whole`, and returns how many bits are left.
+// Appends the lowest `width` bits of `bits` to `whole`, as far as they make whole bytes, and returns how many of them
+// are left. 23 is the sum of 7 bits that were left before, at most, and at most 16 new ones.
 #[tactic(auto, using(crate::proofs::Named::writing_bits))]
 fn push_whole(whole: &mut Vec<u8>, bits: u32, width: u8) -> Result<u8, AllocError>
     requires { width ≤ 23 }
@@ -99,7 +101,7 @@ fn push_whole(whole: &mut Vec<u8>, bits: u32, width: u8) -> Result<u8, AllocErro
 }
 
 // Appends the `width` bits of `rest`, and then those of `bytes`, as far as they make whole bytes. Returns the bits that
-// are left, again `width` of them.
+// are left as a number. There are again `width` of them, because each byte adds eight.
 #[tactic(auto, unfolding(crate::specs::Bits::bits_of))]
 fn push_bytes(whole: &mut Vec<u8>, width: u8, mut rest: u8, bytes: &[u8]) -> Result<u8, AllocError>
     requires few { width < 8 }
@@ -130,7 +132,8 @@ fn byte_at(bytes: &[u8], i: usize) -> u32
     }
 }
 
-// The bytes from `at` on as a number of 24 bits, which contains any 16 bits that begin in the first of them.
+// The three bytes from the index `at` on, as a number of 24 bits. It contains any 16 bits that begin in the first of
+// the three. What the contract says of the second and the third byte is for the prover.
 #[inline(always)]
 fn three_bytes(bytes: &[u8], at: usize) -> u32
     requires { at ≤ length bytes.now }
@@ -142,7 +145,8 @@ fn three_bytes(bytes: &[u8], at: usize) -> u32
     65536 * byte_at(bytes, at) + 256 * byte_at(bytes, at + 1) + byte_at(bytes, at + 2)
 }
 
-// Appends the `count` bytes that begin at bit `at` of `bytes`, each a part of two of these.
+// Appends `count` bytes that are cut out of `bytes` from the bit `at` on. Each consists of the last bits of one byte
+// and the first bits of the next.
 fn push_bytes_at(out: &mut Vec<u8>, bytes: &[u8], at: usize, count: usize) -> Result<(), AllocError>
     requires { at + 8 * count ≤ 8 * length bytes.now }
     ensures { OnOk result (out.new.items ≡ out.old.items ++ bytes_of count (drop at (bits_of bytes.now))) }
@@ -159,10 +163,12 @@ fn push_bytes_at(out: &mut Vec<u8>, bytes: &[u8], at: usize, count: usize) -> Re
     Ok(())
 }
 
-/// Contracts see it as the bits of the codewords that are not read yet.
+// Reads bits from codewords, of which no symbol has more than 3,706. In contracts its value is the list of the bits
+// that are not read yet.
 #[derive(Drop)]
 pub(crate) struct BitReader<'a> {
     bytes: &'a [u8],
+    // The index of the next bit.
     at: usize,
 }
 
@@ -191,7 +197,7 @@ impl<'a> BitReader<'a> {
         8 * self.bytes.len() - self.at
     }
 
-    /// Reads `width` bits as a number, the most significant first.
+    // Reads `width` bits as a number, the most significant first.
     pub(crate) fn take(&mut self, width: usize) -> u16
         requires { (width ≤ length self.old) × (width ≤ 16) }
         ensures value { result ≡ value (take width self.old) }
@@ -204,7 +210,7 @@ impl<'a> BitReader<'a> {
         (bits % (1 << width)) as u16
     }
 
-    /// Reads `count` bytes and appends them to `out`.
+    // Reads `count` bytes and appends them to `out`.
     pub(crate) fn take_bytes(&mut self, count: usize, out: &mut Vec<u8>) -> Result<(), AllocError>
         requires { 8 * count ≤ length self.old }
         ensures { OnOk result ((out.new.items ≡ out.old.items ++ bytes_of count self.old)
@@ -215,7 +221,7 @@ impl<'a> BitReader<'a> {
         Ok(())
     }
 
-    /// Whether no segment follows (7.4.9).
+    // Whether nothing more is to be read: the terminator follows, or fewer than four bits (ISO/IEC 18004:2015, 7.4.9).
     #[tactic(auto, unfolding(crate::specs::Parsing::ends))]
     pub(crate) fn ends(&self) -> bool
         ensures { result ≡ ends self.now }
@@ -223,6 +229,7 @@ impl<'a> BitReader<'a> {
         self.len() < 4 || self.indicator() == TERMINATOR
     }
 
+    // Whether the mode indicator of structured append follows (ISO/IEC 18004:2015, 8.1).
     #[tactic(auto, unfolding(crate::specs::Parsing::begins_header))]
     pub(crate) fn begins_header(&self) -> bool
         ensures { result ≡ begins_header self.now }
@@ -230,7 +237,7 @@ impl<'a> BitReader<'a> {
         self.len() >= 4 && self.indicator() == STRUCTURED_APPEND
     }
 
-    /// The next four bits, which stay unread.
+    // The next four bits as a number, which is a mode indicator or the terminator. They stay unread.
     pub(crate) fn indicator(&self) -> u16
         requires { 4 ≤ length self.now }
         ensures { result ≡ value (take 4 self.now) }

@@ -1,4 +1,4 @@
-//! Folding: small letters become capitals, which alphanumeric mode can write.
+//! Folding: small letters become capitals, because alphanumeric mode has no small letters.
 
 ghost use Rattle.std.specs.Prelude.{◌≡◌, length, map, vec_len, IfOk};
 ghost use Rattle.qr_bits.specs.Folding.{folded, folded_around_pairs};
@@ -7,8 +7,9 @@ use crate::best_modes::begins_with_pair;
 use crate::modes::Rule;
 use std::alloc::{AllocError, Global};
 
-/// Returns `input` with the letters `a` to `z` as capitals; the number of bytes stays the same. Under `Rule::WithKanji`
-/// kanji pairs, found from the left, stay as they are, and under `Rule::BytesOnly` all bytes do.
+/// Returns `input` with capitals in the place of the letters `a` to `z`, so the number of bytes stays the same. Under
+/// `Rule::WithKanji` kanji pairs stay as they are; they are found from the left. Under `Rule::BytesOnly` all bytes stay
+/// as they are.
 ///
 /// # Errors
 ///

@@ -1,20 +1,21 @@
-//! The structured append header: the position of a symbol in its series, the number of symbols, and the parity data
-//! (ISO/IEC 18004:2015, 8).
+//! The structured append header, with which the data of each symbol of a series begin. It says which of the symbols
+//! this is, how many there are, and the parity data of the input, which are the same in all of them (ISO/IEC
+//! 18004:2015, 8).
 
 ghost use Rattle.std.specs.Prelude.{◌≡◌, ◌≤◌};
 ghost use Rattle.qr_bits.specs.Header.{header_bits, parity_of};
 
-// Mode indicator, `position` and `last` of 4 bits each, and `parity` of 8 (8.1).
+// The mode indicator, `position` and `last` have 4 bits each, and `parity` has 8 (ISO/IEC 18004:2015, 8.1 to 8.3).
 pub(crate) const HEADER_BITS: u64 = 20;
 
-/// What comes before the segments of each symbol of a series (8.1).
+/// The structured append header of a symbol (ISO/IEC 18004:2015, 8.1).
 #[derive(Clone, Copy, Debug, PartialEq, Eq)]
 pub struct Header {
-    /// The index of the symbol, from 0 to 15 (8.2).
+    /// The index of the symbol in its series, from 0 to 15 (ISO/IEC 18004:2015, 8.2).
     pub position: u8,
-    /// The number of symbols less 1, from 0 to 15 (8.2).
+    /// The number of symbols in the series less 1, from 0 to 15 (ISO/IEC 18004:2015, 8.2).
     pub last: u8,
-    /// The parity of the whole input of the series (8.3).
+    /// The parity data of the whole input of the series, as `parity` returns them (ISO/IEC 18004:2015, 8.3).
     pub parity: u8,
 }
 
@@ -28,7 +29,8 @@ pub(crate) fn header_bits(header: Option<Header>) -> u64
     }
 }
 
-/// Returns the exclusive or of all bytes: the parity data of a series that contains `input` (8.3).
+/// Returns the parity data of a series that contains `input`: the exclusive or of all its bytes, which is 0 if there
+/// are none (ISO/IEC 18004:2015, 8.3).
 pub fn parity(input: &[u8]) -> u8
     ensures { result ≡ parity_of input.now }
 {

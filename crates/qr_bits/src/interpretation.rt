@@ -1,5 +1,9 @@
-//! What stands between the segments and says how their bytes are to be interpreted: ECI headers, and FNC1 in first or
-//! second position (ISO/IEC 18004:2015, 7.4.2, 7.4.8).
+//! How a symbol says what its bytes mean: by ECI headers, and by FNC1 in first or second position (ISO/IEC 18004:2015,
+//! 7.4.2, 7.4.8). These and the segments are the items of a symbol.
+//!
+//! Segments contain characters, and these stand for the bytes of the symbol. The characters are the bytes themselves
+//! but for one case. In alphanumeric mode after FNC1 `%%` stands for `%`, and any other `%` for the byte 1D
+//! (hexadecimal), which separates fields.
 
 ghost use Rattle.std.specs.Prelude.{IfOk, IsTrue, ◌↔◌, List, OnOk, false, true, if◌then◌else◌, [], ◌∷◌, take, drop, length, ◌==◌, ◌≡◌, ◌≤◌, ◌++◌};
 ghost use Rattle.qr_bits.specs.declared.interpretation.Item.{Item};
@@ -13,15 +17,17 @@ use std::alloc::{AllocError, Global};
 /// How the bytes of a symbol are to be interpreted.
 #[derive(Clone, Copy, Debug, PartialEq, Eq)]
 pub enum Interpretation {
-    /// Nothing is said of it.
+    /// The symbol says nothing of it.
     Default,
-    /// All bytes have this ECI, from 0 to 999,999: 26 is UTF-8 (7.4.2).
+    /// All bytes have the ECI (extended channel interpretation) of this number, which is from 0 to 999,999. The number
+    /// of UTF-8 is 26 (ISO/IEC 18004:2015, 7.4.2).
     Eci(u32),
-    /// GS1 data, in which the byte 1D (hexadecimal) separates fields (7.4.8.2).
+    /// The bytes are GS1 data, in which the byte 1D (hexadecimal) separates fields (ISO/IEC 18004:2015, 7.4.8.2).
     Gs1,
 }
 
-/// How many bits of a symbol say the interpretation (7.4.2, 7.4.8.2).
+/// Returns how many bits the ECI header or FNC1 takes by which a symbol says this interpretation, and 0 for `Default`,
+/// for which it has neither (ISO/IEC 18004:2015, 7.4.2, 7.4.8.2).
 pub fn interpretation_bits(interpretation: Interpretation) -> u64
     ensures value { result ≡ interpretation_bits interpretation }
     ensures most { result ≤ 28 }
@@ -47,8 +53,8 @@ pub(crate) fn is_gs1(interpretation: Interpretation) -> bool
     matches!(interpretation, Interpretation::Gs1)
 }
 
-/// Returns whether an input can be written with this interpretation: GS1 data unless a byte 1D (hexadecimal) comes
-/// directly before another or before `%`, and other data always.
+/// Returns whether `input` can be written with this interpretation. GS1 data cannot if a byte 1D (hexadecimal), which
+/// separates fields, comes directly before another one or before `%`. All other data can (ISO/IEC 18004:2015, 7.4.8.2).
 pub fn may_write(input: &[u8], interpretation: Interpretation) -> bool
     ensures { IsTrue result ↔ MayWrite interpretation input.now }
 {
@@ -58,8 +64,9 @@ pub fn may_write(input: &[u8], interpretation: Interpretation) -> bool
     }
 }
 
-// Whether no separator comes before another or before `%`: one segment in alphanumeric mode cannot contain both. Without
-// an early exit, so that the loop takes many bytes at once.
+// Whether no separator comes directly before another or before `%`. One segment in alphanumeric mode cannot contain
+// both: it would write `%%` or `%%%` for them, of which the first two characters are read as `%`. The loop has no early
+// exit, so that the compiled code takes many bytes at once.
 #[tactic(auto, unfolding(crate::specs::Interpretation::are_fields))]
 #[inline(never)]
 fn are_fields(bytes: &[u8]) -> bool
@@ -81,49 +88,52 @@ fn may_precede(first: u8, second: u8) -> bool
     (first != SEPARATOR) | ((second != SEPARATOR) & (second != b'%'))
 }
 
-/// The number of an interpretation, as an ECI header contains it (7.4.2).
+/// The number of an ECI, as an ECI header contains it (ISO/IEC 18004:2015, 7.4.2).
 #[derive(Clone, Copy, Debug, PartialEq, Eq)]
 pub struct Designator {
     /// From 0 to 999,999.
     pub number: u32,
-    /// How many codewords contain the number: 1, 2 or 3, not always as few as possible.
+    /// In how many codewords the number is written: 1, 2 or 3. A symbol that is read may use more than are needed.
     pub codewords: u8,
 }
 
-/// A segment, or what stands before or between segments.
+/// What data codewords contain after the structured append header, if there is one: segments, ECI headers, and FNC1.
 #[derive(Clone, Copy, Debug, PartialEq, Eq)]
 pub enum Item {
     Data(Segment),
-    /// The bytes of the segments up to the next ECI header have this interpretation.
+    /// An ECI header: the bytes from here to the next ECI header have this ECI.
     Eci(Designator),
-    /// GS1 data.
+    /// FNC1 in first position: the bytes are GS1 data.
     Fnc1First,
-    /// Data of the application with this indicator.
+    /// FNC1 in second position: the bytes are data of the application with this indicator.
     Fnc1Second(u8),
 }
 
-/// The position of FNC1, which says what the bytes of a symbol are (7.4.8).
+/// FNC1, whose position says what the bytes of a symbol are (ISO/IEC 18004:2015, 7.4.8).
 #[derive(Clone, Copy, Debug, PartialEq, Eq)]
 pub enum Fnc1 {
-    /// GS1 data.
+    /// In first position: GS1 data.
     First,
-    /// Data of the application with this indicator: 0 to 99, or the ASCII code of a letter plus 100.
+    /// In second position: data of the application with this indicator, which is 0 to 99, or the ASCII code of a letter
+    /// plus 100.
     Second(u8),
 }
 
-/// From a byte of a symbol on, its bytes have this ECI (7.4.2.2).
+/// An ECI, and where it begins among the bytes of a symbol. It ends where the next one begins (ISO/IEC 18004:2015,
+/// 7.4.2.2).
 #[derive(Clone, Copy, Debug, PartialEq, Eq)]
 pub struct EciChange {
-    /// From 0 to 999,999: 26 is UTF-8.
+    /// The number of the ECI, from 0 to 999,999; that of UTF-8 is 26.
     pub number: u32,
-    /// How many bytes of the symbol come before.
+    /// How many bytes of the symbol come before the first that has this ECI.
     pub begin: usize,
 }
 
-// The character that separates fields (7.4.8.2).
+// The byte that separates fields (ISO/IEC 18004:2015, 7.4.8.2).
 pub(crate) const SEPARATOR: u8 = 0x1D;
 
-/// Appends what the characters of a segment after FNC1 stand for (7.4.8.2).
+// Appends the bytes that the characters of a segment in alphanumeric mode stand for after FNC1 (ISO/IEC 18004:2015,
+// 7.4.8.2).
 #[tactic(auto, unfolding(crate::specs::Interpretation::separated))]
 pub(crate) fn separate(characters: &[u8], out: &mut Vec<u8>) -> Result<(), AllocError>
     ensures { OnOk result (out.new.items ≡ out.old.items ++ separated characters.now) }
@@ -144,7 +154,7 @@ pub(crate) fn separate(characters: &[u8], out: &mut Vec<u8>) -> Result<(), Alloc
     Ok(())
 }
 
-// Appends what the characters of a segment stand for.
+// Appends the bytes that the characters of a segment stand for. `fnc1` says whether FNC1 came before.
 fn append_meant(
     fnc1: bool,
     mode: Mode,
@@ -160,7 +170,7 @@ fn append_meant(
     }
 }
 
-// The first `len` characters, or all if there are fewer, and the others.
+// The first `len` characters, or all of them if there are fewer, and those that are left.
 fn cut(characters: &[u8], len: usize) -> (&[u8], &[u8])
     ensures front { result.0.now ≡ take len characters.now }
     ensures back { result.1.now ≡ drop len characters.now }
@@ -168,7 +178,7 @@ fn cut(characters: &[u8], len: usize) -> (&[u8], &[u8])
     characters.split_at(len.min(characters.len()))
 }
 
-// Whether the items are segments that take all the characters. Then their bytes are these characters.
+// Whether all items are segments, and together take all the characters. Then the bytes are these characters.
 fn is_plain(items: &[Item], characters: &[u8]) -> bool
     ensures bytes { result ≡ true → meant_bytes false items.now characters.now ≡ characters.now }
     ensures ecis { result ≡ true → eci_changes false 0 items.now characters.now ≡ [] }
@@ -183,15 +193,16 @@ fn is_plain(items: &[Item], characters: &[u8]) -> bool
     rest.is_empty()
 }
 
-/// The bytes that items stand for, and their ECI headers.
+// The bytes that items stand for, and the ECI headers among the items.
 #[derive(Drop)]
 pub(crate) struct Meaning {
     pub bytes: Vec<u8>,
     pub ecis: Vec<EciChange>,
 }
 
-// Appends what the item stands for, of which a segment takes the next characters. Returns whether FNC1 came before the
-// next item, and the other characters.
+// Appends what the item stands for to `meaning`; a segment takes the first of `characters`. Returns whether FNC1 comes
+// before the next item, and the characters that are left. The contract compares what all items mean: this one and the
+// later ones, `is`, before the call, and `is` alone after it.
 #[tactic(auto, unfolding(crate::specs::Interpretation::meant_bytes, crate::specs::Interpretation::eci_changes))]
 fn take_item<'a>(
     item: Item,
@@ -239,7 +250,8 @@ fn meaning_of(alloc: Global, items: &[Item], characters: &[u8]) -> Result<Meanin
     Ok(meaning)
 }
 
-/// Returns what the items stand for, of which the segments contain these characters.
+// Returns what the items stand for, where `characters` are those of all segments. If the bytes are these characters, no
+// copy is made.
 pub(crate) fn interpreted(
     alloc: Global,
     items: &[Item],
@@ -257,7 +269,7 @@ pub(crate) fn interpreted(
     meaning_of(alloc, items, &characters)
 }
 
-/// Returns the FNC1 among the items, of which only ECI headers come before it.
+// Returns FNC1 if it is among the items. Only ECI headers come before it, so the search ends at the first segment.
 #[tactic(auto, unfolding(crate::specs::Interpretation::fnc1_of), using(crate::proofs::lemmas::interpretation::MeaningLemmas::fnc1_next, crate::proofs::lemmas::interpretation::MeaningLemmas::fnc1_end))]
 pub(crate) fn fnc1_of(items: &[Item]) -> Option<Fnc1>
     ensures { result ≡ fnc1_of items.now }

@@ -1,5 +1,8 @@
-//! Laws of this crate's definitions, and that `==` and clones are exact. Some hold for every input; the others compute
-//! examples that the standard prints or that were worked out by hand.
+//! Laws of this crate's definitions. A function with an empty body does nothing: its contract is the law. If its name
+//! ends in `compute`, the law has examples that the standard prints, or that were worked out by hand.
+//!
+//! The functions with a body are laws of the public types: which numbers the faults have, that `==` is true exactly of
+//! equal values, and that a clone is equal to its original.
 
 ghost use Rattle.std.specs.Prelude.{◌≡◌, ◌-◌, ◌/◌, ◌%◌, ℕ, List, [], ◌∷◌, ◌++◌, true, false, length, map, codes, ◌↔◌, IsTrue, IfOk};
 ghost use Rattle.qr_layout.specs.declared.level.Level.{Level};
@@ -26,46 +29,50 @@ use crate::modes::{INPUT_MAX, Mode, Rule};
 use crate::segment::Segment;
 use std::alloc::AllocError;
 
-/// A parse succeeds exactly if the bits are a bit stream and then an end: fewer than four bits, or the terminator and
-/// anything after it. Segments may be empty, and need not take the fewest bits.
+/// Bits are parsed as segments alone, after a structured append header if there is one, exactly if they are the bit
+/// stream of these and then an end. An end is fewer than four bits, or the terminator and anything after it. Segments
+/// may be empty, and need not take the fewest bits.
 #[tactic(auto, using(crate::proofs::lemmas::parsing::StreamReadingLemmas::parse_plain, crate::proofs::lemmas::parsing::StreamReadingLemmas::parse_takes))]
 pub fn streams_are_parsed()
     ensures { StreamsAreParsed }
 {}
 
-/// A parse of data codewords returns the header, segments and bytes that they were made from.
+/// Data codewords are parsed as the header, interpretation and segments that they were made from. Without an
+/// interpretation, the bytes are those that they were made from too.
 pub fn data_are_parsed()
     ensures whole { DataAreParsed }
     ensures plain { PlainDataAreParsed }
 {}
 
-/// Bits are read as items exactly if they are the stream of these items and then an end.
+/// Bits are read as items exactly if they are the stream of these items, in an order that the standard allows, and then
+/// an end.
 pub fn items_are_parsed()
     ensures { ItemsAreParsed }
 {}
 
-/// Fields that alphanumeric mode writes after FNC1 are read back.
+/// What alphanumeric mode writes after FNC1 for fields of GS1 data is read as these fields.
 #[tactic(auto, using(crate::proofs::lemmas::parsing::FieldLemmas::fields_again))]
 pub fn fields_are_read()
     ensures { FieldsAreRead }
 {}
 
-/// A bit stream that is not longer than the capacity has exactly one list of data codewords, as many as the standard
-/// requires.
+/// A bit stream that is not longer than the capacity has exactly one list of data codewords. There are as many of them
+/// as the standard requires for the version and the level.
 pub fn data_are_one()
     ensures there { DataAreThere }
     ensures one { DataAreOne }
     ensures full { DataFillTheSymbol }
 {}
 
-/// A bit stream has as many bits as its header and its segments together.
+/// A bit stream has as many bits as its header, the ECI header or FNC1 of its interpretation, and its segments
+/// together.
 #[tactic(auto, using(crate::proofs::Named::lengths))]
 pub fn streams_have_their_bits()
     ensures { StreamsHaveTheirBits }
 {}
 
-/// If the modes of segments suit their bytes, and their bits fit a symbol, each count fits its character count
-/// indicator.
+/// If the modes of segments suit their bytes, and the bits of all segments fit a symbol, then the number of characters
+/// of each segment fits its character count indicator.
 #[tactic(auto, using(crate::proofs::lemmas::padding::CountLemmas::counts_fit))]
 pub fn counts_fit_where_bits_fit()
     ensures { CountsFitWhereBitsFit }
@@ -88,7 +95,8 @@ pub fn segmentations_are_one()
         → IsLeastSegmentation i v r xs ys ss → IsLeastSegmentation i v r xs zs ts → (ys ≡ zs) × (ss ≡ ts) }
 {}
 
-/// The characters of the least segmentation stand for the input, and are read with its interpretation.
+/// If an input can be written with an interpretation, the characters of its least segmentation stand for the input, and
+/// are read with this interpretation.
 pub fn segmentations_mean_their_input()
     ensures { SegmentationsMeanTheirInput }
 {}
@@ -99,12 +107,12 @@ pub fn foldings_keep_lengths()
     ensures { (r : Rule) (xs : List ℕ) → length (folded r xs) ≡ length xs }
 {}
 
-/// Without kanji mode, a piece of an input needs no more bits than the whole.
+/// Under a rule without kanji mode, a piece of an input needs no more bits than the whole input.
 pub fn pieces_need_no_more()
     ensures { PiecesNeedNoMore }
 {}
 
-/// Bit k of the list of all bits of codewords is `codeword_bit` of k.
+/// In the list of all bits of codewords, the bit with the index k is the one that `codeword_bit` defines.
 #[tactic(auto, using(crate::proofs::lemmas::bits::BitLemmas::bits_at))]
 pub fn bits_are_codeword_bits()
     ensures { BitsAreCodewordBits }
@@ -115,7 +123,8 @@ pub fn limits()
     ensures { INPUT_MAX ≡ 113425 }
 {}
 
-/// The widths of character count indicators at both ends of the three ranges of versions (7.4.1, Table 3).
+/// The widths of character count indicators, at both ends of the three ranges of versions (ISO/IEC 18004:2015, 7.4.1,
+/// Table 3).
 pub fn widths_compute()
     ensures digits { map (λ v. count_width v Numeric) (1 ∷ 9 ∷ 10 ∷ 26 ∷ 27 ∷ 40 ∷ [])
         ≡ 10 ∷ 10 ∷ 12 ∷ 12 ∷ 14 ∷ 14 ∷ [] }
@@ -127,7 +136,8 @@ pub fn widths_compute()
         ≡ 8 ∷ 8 ∷ 10 ∷ 10 ∷ 12 ∷ 12 ∷ [] }
 {}
 
-/// Data bits of `01234567`, `AC-42` (7.4.3, 7.4.4) and `0123`, and the values of the last nine characters of Table 5.
+/// The data bits of `01234567` and `AC-42`, which the standard prints, and of `0123`, and the values of the last nine
+/// characters of Table 5 (ISO/IEC 18004:2015, 7.4.3, 7.4.4).
 #[tactic(auto, unfolding(crate::specs::Modes::characters, crate::specs::Stream::digit_bits, crate::specs::Modes::character_value, crate::specs::Stream::character_bits, crate::specs::Bits::field))]
 pub fn payloads_compute()
     ensures digits { digit_bits (codes "01234567") ≡ field 10 12 ++ (field 10 345 ++ field 7 67) }
@@ -138,8 +148,8 @@ pub fn payloads_compute()
         ≡ 36 ∷ 37 ∷ 38 ∷ 39 ∷ 40 ∷ 41 ∷ 42 ∷ 43 ∷ 44 ∷ [] }
 {}
 
-/// Data codewords in version 1: for digits, for characters, for kanji pairs, and in the second of three symbols (7.4.1
-/// to 7.4.10, 8.1).
+/// The data codewords of four symbols of version 1: of digits, of characters of alphanumeric mode, of kanji pairs, and
+/// of the second symbol in a series of three (ISO/IEC 18004:2015, 7.4.1 to 7.4.10, 8.1).
 #[tactic(auto, unfolding(crate::specs::Modes::characters, crate::specs::Modes::character_value, crate::specs::Modes::kanji_value, crate::specs::Stream::digit_bits, crate::specs::Stream::character_bits, crate::specs::Stream::kanji_bits, crate::specs::Stream::payload, crate::specs::Stream::segment_stream, crate::specs::Stream::segments_stream, crate::specs::Header::header_stream, crate::specs::Padding::padded, crate::specs::Padding::pads, crate::specs::Bits::field, crate::specs::Bits::bits_of))]
 pub fn streams_compute()
     ensures digits { padded 16 (segments_stream 1 (codes "01234567") (one Numeric 8)) ≡ bits_of eight_digits }
@@ -148,8 +158,8 @@ pub fn streams_compute()
     ensures series { padded 9 (header_stream (Some middle) ++ segments_stream 1 (codes "FGH") (one Byte 3)) ≡ bits_of middle_data }
 {}
 
-/// What codewords of the second of three symbols contain, and of five symbols with ECI headers or FNC1, and the
-/// faults of sixteen lists of codewords.
+/// How codewords are parsed: those of the second symbol in a series of three, and those of five symbols with ECI
+/// headers or FNC1. Sixteen lists of codewords cannot be parsed, each with its fault.
 #[tactic(auto, unfolding(crate::specs::Interpretation::separated, crate::specs::Interpretation::meant_bytes, crate::specs::Interpretation::eci_changes, crate::specs::Parsing::parse, crate::specs::Parsing::first_header, crate::specs::Parsing::begins_header, crate::specs::Parsing::header_at, crate::specs::Parsing::items_of, crate::specs::Parsing::items_at, crate::specs::Parsing::item_at, crate::specs::Parsing::designator_at, crate::specs::Parsing::application_at, crate::specs::Parsing::segment_at, crate::specs::Parsing::leading_number, crate::specs::Parsing::payload_at, crate::specs::Parsing::values_of, crate::specs::Parsing::digits_of, crate::specs::Parsing::characters_of, crate::specs::Parsing::character, crate::specs::Parsing::bytes_of, crate::specs::Parsing::pairs_of, crate::specs::Parsing::kanji_pair, crate::specs::Parsing::mode_of, crate::specs::Parsing::ends, crate::specs::Modes::characters, crate::specs::Bits::field, crate::specs::Bits::bits_of))]
 pub fn parses_compute()
     ensures series { parse 1 (bits_of middle_data)
@@ -159,9 +169,10 @@ pub fn parses_compute()
     ensures faults { map (λ row. parse 1 (bits_of row.0)) unreadable ≡ map (λ row. Err row.1) unreadable }
 {}
 
-/// How fields of GS1 data are written: in alphanumeric mode `%` as two characters and the separator as `%`, in byte mode
-/// as they are. What is written stands for them again (7.4.8.2). Which data are fields: a separator may come after `%`,
-/// but neither before it nor before another.
+/// How three fields of GS1 data are written: alphanumeric mode writes `%` as two characters and the separator as `%`,
+/// and byte mode each byte as itself. What is written stands for these fields (ISO/IEC 18004:2015, 7.4.8.2). The last
+/// clause says which of five inputs are fields: a separator may come after `%`, but neither before it nor before
+/// another one.
 #[tactic(auto, unfolding(crate::specs::Interpretation::characters_gs1, crate::specs::Interpretation::doubled_gs1, crate::specs::Segmentation::runs_of, crate::specs::Interpretation::separated, crate::specs::Interpretation::meant_bytes, crate::specs::Interpretation::are_fields))]
 pub fn fields_compute()
     ensures characters { characters_in Interpretation.Gs1 three_fields modes_of_fields
@@ -173,14 +184,14 @@ pub fn fields_compute()
         ≡ true ∷ true ∷ true ∷ false ∷ false ∷ [] }
 {}
 
-/// The room that a header leaves is the capacity less the bits of the header and of what says the interpretation (7.4.2,
-/// 7.4.8.2, 8.1).
+/// The room that a structured append header leaves is the capacity, less the bits of the header and of the ECI header
+/// or FNC1 of the interpretation (ISO/IEC 18004:2015, 7.4.2, 7.4.8.2, 8.1).
 pub fn headers_take_room()
     ensures { (v : ℕ) (l : Level) (h : Header) (i : Interpretation)
         → room_of v l i ≡ capacity_of v l - header_bits (Some h) - interpretation_bits i }
 {}
 
-/// The parity of `ABCDEFGH`, of no byte, and of three bytes of which two are equal (8.3).
+/// The parity data of `ABCDEFGH`, of no byte, and of three bytes of which two are equal (ISO/IEC 18004:2015, 8.3).
 pub fn parities_compute()
     ensures capitals { parity_of (codes "ABCDEFGH") ≡ 0x08 }
     ensures empty { parity_of [] ≡ 0 }
@@ -194,8 +205,8 @@ pub fn rules_compute()
     ensures kanji { map (may_use Rule.WithKanji) all_modes ≡ true ∷ true ∷ true ∷ true ∷ [] }
 {}
 
-/// Folding at both ends of the alphabet, under `Auto` and `BytesOnly`. Under `WithKanji` a kanji pair stays though its
-/// second byte is a small letter, and so does a last byte that could begin a pair.
+/// Folding at both ends of the alphabet, under `Auto` and `BytesOnly`. Under `WithKanji` a kanji pair stays as it is
+/// although its second byte is a small letter, and so does a last byte that could begin a pair.
 #[tactic(auto, unfolding(crate::specs::Folding::folded_around_pairs, crate::specs::Modes::is_kanji_pair))]
 pub fn foldings_compute()
     ensures auto { folded Rule.Auto (codes "@AZ[`az{") ≡ codes "@AZ[`AZ{" }
@@ -204,8 +215,8 @@ pub fn foldings_compute()
         ≡ 0x41 ∷ 0x93 ∷ 0x61 ∷ 0x41 ∷ 0x93 ∷ [] }
 {}
 
-/// The lower bound on the bits of five inputs, among them the bytes on both sides of each limit: of the digits, and of
-/// `Z`.
+/// The lower bounds on the bits of five inputs. These have the bytes on both sides of `0`, `9` and `Z`, where the bound
+/// for a byte changes.
 #[tactic(auto, unfolding(crate::specs::Segmentation::least_bits))]
 pub fn least_bits_compute()
     ensures { map least_bits (codes "012" ∷ codes "/9:" ∷ codes "AZ" ∷ codes "[z" ∷ codes "1A[" ∷ [])
@@ -230,8 +241,9 @@ pub fn parse_fault_numbers(fault: ParseFault) -> u8
     fault as u8
 }
 
-/// The values of the two kanji pairs that the standard encodes and of the greatest pair, and the pairs of these values
-/// (7.4.6). Which pairs of bytes, on both sides of each limit, are kanji pairs.
+/// The values of the two kanji pairs that the standard encodes and of the greatest pair, and the pairs that have these
+/// values (ISO/IEC 18004:2015, 7.4.6). The last two clauses say which pairs of bytes are kanji pairs and which are not,
+/// at both ends of each range.
 #[tactic(auto, unfolding(crate::specs::Modes::is_kanji_pair, crate::specs::Modes::kanji_value, crate::specs::Parsing::kanji_pair))]
 pub fn kanji_compute()
     ensures first { kanji_value 0x93 0x5F ≡ 0xD9F }

@@ -1,4 +1,6 @@
-//! Segments of an input, the data codewords that contain them, and the parsing of data codewords.
+//! From an input to data codewords, and back. An input is cut into segments, each of which is written in one mode. The
+//! data codewords of a symbol contain these segments as bits. Parsing finds the segments in data codewords, and the
+//! bytes that they stand for.
 #![tactic(auto)]
 
 mod best_modes;

@@ -1,4 +1,8 @@
-//! The longest prefix of an input that fits one symbol of a series.
+//! The longest prefix of an input that fits one symbol of a series. It is found by the best choices of `best_modes.rt`,
+//! as the segments of an input are, but no table is kept.
+//!
+//! `row_of` adds a byte in front of the later ones, while a prefix grows at its end. So each prefix is taken in
+//! reverse, which needs as many bits; the second byte of a kanji pair then comes first.
 
 ghost use Rattle.std.specs.Prelude.{IsOkAnd, length, reverse, true, ◌+◌, ◌*◌, ◌<◌, ◌≡◌, ◌≤◌};
 ghost use Rattle.qr_bits.specs.declared.modes.Mode.{Mode};
@@ -21,6 +25,7 @@ use crate::run_state::{FirstChoices, NO_BITS, PerState};
 use qr_layout::{Level, Version};
 use std::alloc::Global;
 
+// Whether the last two bytes may be written in kanji mode. `kanji` says whether the rule allows it.
 #[tactic(auto, using(crate::proofs::lemmas::longest_prefix::MirrorLemmas::ends_at, crate::proofs::lemmas::longest_prefix::MirrorLemmas::ends_short))]
 #[inline(always)]
 fn ends_with_pair(kanji: bool, rule: Rule, bytes: &[u8]) -> bool
@@ -34,7 +39,8 @@ fn ends_with_pair(kanji: bool, rule: Rule, bytes: &[u8]) -> bool
     kanji && is_kanji_pair(bytes[len - 2], bytes[len - 1])
 }
 
-// The most bytes that a segment in byte mode can have in `room` bits (7.4.5).
+// The most bytes that a segment in byte mode can have in `room` bits (ISO/IEC 18004:2015, 7.4.5). Its two indicators
+// take at most 20.
 fn bytes_in(room: u64, version: Version) -> usize
     requires { 20 ≤ room }
     ensures fits { 4 + count_width version Mode.Byte + 8 * result ≤ room }
@@ -56,13 +62,13 @@ fn fewest(numbers: &PerState) -> u32
     digits.min(characters).min(pairs.min(others))
 }
 
-// `row_of` adds a byte in front of the later ones. So each prefix is taken in reverse, which needs as many bits;
-// the second byte of a kanji pair then comes first. After the turn of `input[i]`, `rest.start / 4` is the least number
-// of bits of the prefix that ends with it. A longer prefix takes no fewer than the least of `rest`, since each byte only
-// adds to one of them. Not `rest.start` alone decides: half a kanji pair may take more bits than the pair.
+// The length of the longest prefix of `input` that takes at most `room` bits. After the turn of `input[i]`,
+// `rest.start / 4` is the least number of bits of the prefix that ends with this byte. If it is more than `room`, a
+// longer prefix may still fit, because the first byte of a kanji pair may take more bits in byte mode than the pair in
+// kanji mode. The bits of a longer prefix are those that `rest` has for one of the states, and those that its further
+// bytes add. So if `rest` has too many bits for each state, no longer prefix fits.
 //
-// Where `kanji`, which says whether the rule allows kanji mode, is constant, the compiler can leave out the test for
-// pairs; where `gs1`, which says that the input is GS1 data, is `false`, those for `%` and the separator.
+// As in `best_modes.rt`, `kanji` says whether the rule allows kanji mode, and `gs1` whether the input is GS1 data.
 #[inline(always)]
 fn longest_by_rows(
     input: &[u8],
@@ -92,7 +98,9 @@ fn longest_by_rows(
     longest
 }
 
-// What a structured append header and what says the interpretation leave of the capacity (7.4.2, 7.4.8.2, 8.1).
+// How many bits of the capacity are left after a structured append header and the ECI header or FNC1 of the
+// interpretation (ISO/IEC 18004:2015, 7.4.2, 7.4.8.2, 8.1). The capacity is at least 72 bits, of which these take at
+// most 20 and 28, so 20 are always left.
 fn room(version: Version, level: Level, interpretation: Interpretation) -> u64
     ensures value { result ≡ room_of version level interpretation }
     ensures least { 20 ≤ result }
@@ -100,7 +108,8 @@ fn room(version: Version, level: Level, interpretation: Interpretation) -> u64
     capacity(version, level) - HEADER_BITS - interpretation_bits(interpretation)
 }
 
-// As `longest_by_rows`, for GS1 data. In a function of its own, so that `longest_fit` stays as it is for other data.
+// As `longest_by_rows`, for GS1 data. It is not inlined, so that the compiled code of `longest_fit` for other data does
+// not depend on it.
 #[inline(never)]
 fn longest_gs1_prefix(input: &[u8], version: Version, rule: Rule, room: u64) -> usize
     requires { length input.now ≤ INPUT_MAX }
@@ -110,15 +119,18 @@ fn longest_gs1_prefix(input: &[u8], version: Version, rule: Rule, room: u64) -> 
     longest_by_rows(input, version, rule, kanji, true, room)
 }
 
-/// Returns the length in bytes of the longest prefix of `input` that fits a symbol of this version and level with a
-/// structured append header and what says the interpretation, in modes that `rule` allows.
+/// Returns the length in bytes of the longest prefix of `input` that fits one symbol of a series: in this version, at
+/// this level, in modes that `rule` allows, and after a structured append header and the ECI header or FNC1 of the
+/// interpretation (ISO/IEC 18004:2015, 7.4.2, 7.4.8.2, 8.1). `may_write` says which inputs can be written with the
+/// interpretation.
 ///
-/// With kanji mode a prefix may fit though a shorter one does not, since half a kanji pair may take more bits than the
-/// pair.
+/// If `rule` allows kanji mode, a prefix may fit although a shorter one does not. The first byte of a kanji pair may
+/// take more bits alone, in byte mode, than the pair takes in kanji mode.
 ///
 /// # Notes
 ///
-/// It takes an allocator and returns a `Result` as `segments` and `codewords` do, but never allocates and never fails.
+/// This function takes an allocator and returns a `Result`, as `segments` and `codewords` do. It never allocates and
+/// never fails.
 pub fn longest_fit(
     _alloc: Global,
     input: &[u8],
@@ -134,7 +146,7 @@ pub fn longest_fit(
 {
     let room = room(version, level, interpretation);
     let most = bytes_in(room, version);
-    // Each rule allows byte mode.
+    // Each rule allows byte mode, so this prefix fits.
     if input.len() <= most {
         return Ok(input.len());
     }

@@ -1,5 +1,5 @@
-//! A bound by which the search for a version skips versions that are too small for an input, however it is cut into
-//! segments.
+//! A lower bound on the bits of an input, however it is cut into segments. It is computed faster than the segments. If
+//! versions 1 to 9, or 1 to 26, have room for fewer bits than it, the search for a version skips them.
 
 ghost use Rattle.std.specs.Prelude.{length, ℕ, ◌/◌, ◌≡◌, ◌≤◌};
 ghost use Rattle.qr_bits.specs.declared.interpretation.Interpretation.{Interpretation};
@@ -8,7 +8,7 @@ ghost use Rattle.qr_bits.specs.Segmentation.{HasFit, least_bits, least_sixths};
 
 use crate::modes::INPUT_MAX;
 
-// A lower bound on what a byte takes in any mode, in sixths of a bit.
+// A lower bound on what a byte takes in any mode. It is in sixths of a bit, so that it is a whole number for each byte.
 fn least_sixths(byte: u8) -> u32
     ensures value { result ≡ least_sixths byte }
     ensures most { result ≤ 39 }
@@ -22,8 +22,9 @@ fn least_sixths(byte: u8) -> u32
     }
 }
 
-/// Returns a lower bound on the bits that `input` takes, without indicators: 10/3 for each digit, 11/2 for any other
-/// byte up to `Z`, 13/2 for each byte above. Only their sum is rounded down (ISO/IEC 18004:2015, 7.4.3 to 7.4.6).
+/// Returns a lower bound on the bits of `input`, for any segments, version, rule and interpretation. It is the sum of
+/// 10/3 bits for each digit, 11/2 for each other byte up to `Z`, and 13/2 for each byte above `Z`, rounded down
+/// (ISO/IEC 18004:2015, 7.4.3 to 7.4.6). The indicators of segments are not counted.
 #[tactic(auto, using(crate::proofs::Named::sums_of_sixths), unfolding(crate::specs::Segmentation::least_bits))]
 pub fn least_bits(input: &[u8]) -> u32
     requires { length input.now ≤ INPUT_MAX }

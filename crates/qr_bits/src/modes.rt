@@ -1,5 +1,7 @@
-//! The four modes: their indicators, the bytes that each can write, and the bits that these take (ISO/IEC 18004:2015,
-//! 7.3, 7.4.1 to 7.4.6).
+//! The four modes in which bytes are written: their indicators, the bytes that each can write, and the bits that these
+//! take (ISO/IEC 18004:2015, 7.3, 7.4.1 to 7.4.6). A segment begins with two indicators, and its data follow. The mode
+//! indicator has four bits. The character count indicator says how many characters follow, and its width depends on the
+//! mode and the version.
 
 ghost use Rattle.std.specs.Prelude.{IsTrue, ◌<◌, ◌==◌, ◌^◌, ◌≡◌, ◌≤◌};
 ghost use Rattle.qr_bits.specs.Modes.{character_value, characters, character_count, count_width, in_twos, indicator, is_alphanumeric, is_digit, is_kanji_pair, kanji_value, byte_count, may_use, payload_bits, suits};
@@ -9,20 +11,21 @@ ghost use Rattle.qr_bits.specs.Parsing.{character, mode_of};
 use crate::fault::ParseFault;
 use qr_layout::Version;
 
-/// The greatest length of an input, in bytes: one more than 16 symbols of at most 7,089 bytes can contain. So no series
-/// has room for an input of this length.
+/// The greatest length of an input, in bytes. It is one more than a series can contain, which has at most 16 symbols,
+/// of at most 7,089 bytes each. So an input of this length fits no series, and whatever is longer need not be read.
 pub const INPUT_MAX: usize = 113_425;
 
-/// How the bytes of a segment are written (7.3.3 to 7.3.6).
+/// How the bytes of a segment are written (ISO/IEC 18004:2015, 7.3.3 to 7.3.6).
 #[derive(Clone, Copy, Debug, PartialEq, Eq)]
 pub enum Mode {
-    /// Digits, three in ten bits.
+    /// Digits, of which three take ten bits.
     Numeric,
-    /// Digits, capital letters, space and `$%*+-./:`, two in eleven bits.
+    /// Digits, capital letters, space and `$%*+-./:`, of which two take eleven bits.
     Alphanumeric,
-    /// Any bytes, each in eight bits.
+    /// Any bytes, of which each takes eight bits.
     Byte,
-    /// Shift JIS pairs of bytes from 8140 to 9FFC and from E040 to EBBF (hexadecimal), each in thirteen bits.
+    /// Characters of Shift JIS, of which each takes thirteen bits. Each is a pair of bytes, from 8140 to 9FFC or from
+    /// E040 to EBBF, whose second byte is from 40 to FC (all hexadecimal).
     Kanji,
 }
 
@@ -31,11 +34,14 @@ pub enum Mode {
 pub enum Rule {
     /// All modes but kanji mode.
     Auto,
+    /// Byte mode alone.
     BytesOnly,
+    /// All four modes.
     WithKanji,
 }
 
-// Mode indicators, with those of structured append, ECI and FNC1, and the terminator (7.4.1, Table 2).
+// The mode indicators (ISO/IEC 18004:2015, 7.4.1, Table 2). Structured append, ECI and FNC1 have one like the modes.
+// The terminator stands where the next mode indicator would be.
 pub(crate) const TERMINATOR: u16 = 0b0000;
 
 const NUMERIC: u16 = 0b0001;
@@ -78,7 +84,7 @@ pub(crate) fn mode_of(indicator: u16) -> Result<Mode, ParseFault>
     }
 }
 
-// How many bits a character count indicator has (7.4.1, Table 3).
+// How many bits a character count indicator has (ISO/IEC 18004:2015, 7.4.1, Table 3).
 pub(crate) fn count_width(version: Version, mode: Mode) -> u8
     ensures value { result ≡ count_width version mode }
     ensures most { result ≤ 16 }
@@ -96,7 +102,8 @@ pub(crate) fn count_width(version: Version, mode: Mode) -> u8
     }
 }
 
-// (7.4.1)
+// The number in the character count indicator of `len` bytes: a kanji pair is one character (ISO/IEC 18004:2015,
+// 7.4.1).
 pub(crate) fn character_count(mode: Mode, len: usize) -> usize
     ensures { result ≡ character_count mode len }
 {
@@ -106,6 +113,7 @@ pub(crate) fn character_count(mode: Mode, len: usize) -> usize
     }
 }
 
+// The reverse of `character_count`. A character count indicator has at most 16 bits.
 pub(crate) fn byte_count(mode: Mode, count: usize) -> usize
     requires { count < 2 ^ 16 }
     ensures { result ≡ byte_count mode count }
@@ -116,7 +124,9 @@ pub(crate) fn byte_count(mode: Mode, count: usize) -> usize
     }
 }
 
-// Data bits, without indicators; half a kanji pair takes as many as a pair (7.4.3 to 7.4.6).
+// How many bits the data of `len` bytes take, without the indicators (ISO/IEC 18004:2015, 7.4.3 to 7.4.6). A byte that
+// lacks the other one of its kanji pair takes as many as a pair. No caller has more than 2 * INPUT_MAX bytes, which is
+// less than 2^20.
 pub(crate) fn payload_bits(mode: Mode, len: usize) -> usize
     requires { len < 2 ^ 20 }
     ensures { result ≡ payload_bits mode len }
@@ -136,7 +146,7 @@ pub(crate) fn payload_bits(mode: Mode, len: usize) -> usize
     }
 }
 
-// The index of a character is its value (7.4.4, Table 5).
+// The characters of alphanumeric mode. The index of a character is its value (ISO/IEC 18004:2015, 7.4.4, Table 5).
 pub(crate) const CHARACTERS: [u8; 45] = *b"0123456789ABCDEFGHIJKLMNOPQRSTUVWXYZ $%*+-./:";
 
 pub(crate) fn is_digit(byte: u8) -> bool
@@ -149,7 +159,7 @@ pub(crate) fn is_digit(byte: u8) -> bool
 pub(crate) fn is_alphanumeric(byte: u8) -> bool
     ensures { result ≡ is_alphanumeric byte }
 {
-    // No character of alphanumeric mode is greater than `Z`.
+    // No character of alphanumeric mode is greater than `Z`, so small letters need no search.
     if byte > b'Z' {
         return false;
     }
@@ -160,7 +170,7 @@ pub(crate) fn is_alphanumeric(byte: u8) -> bool
 pub(crate) fn is_kanji_pair(high: u8, low: u8) -> bool
     ensures { result ≡ is_kanji_pair high low }
 {
-    // No ASCII begins a pair.
+    // No ASCII character begins a pair, so most texts need only this test.
     if high < 0x81 {
         return false;
     }
@@ -184,7 +194,9 @@ fn place_of(character: u8) -> Option<usize>
     CHARACTERS.iter().position(|other| *other == character)
 }
 
-// The 13 bits of a kanji pair (7.4.6).
+// The number of 13 bits that is written for a kanji pair (ISO/IEC 18004:2015, 7.4.6). The subtraction brings the two
+// ranges of pairs together, and makes the low byte at most BC (hexadecimal). So C0 in place of 100 is a factor that is
+// great enough for the high byte.
 #[tactic(auto, unfolding(crate::specs::Modes::kanji_value), using(crate::proofs::lemmas::modes::KanjiLemmas::least_pair))]
 pub(crate) fn kanji_value(high: u8, low: u8) -> u16
     requires { IsTrue (is_kanji_pair high low) }

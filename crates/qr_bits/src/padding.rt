@@ -1,4 +1,5 @@
-//! Data codewords: the bit stream, a terminator and padding (ISO/IEC 18004:2015, 7.4.9, 7.4.10).
+//! The data codewords of a symbol: the bit stream, a terminator and padding (ISO/IEC 18004:2015, 7.4.9, 7.4.10). The
+//! padding fills the capacity, which is the number of bits of all data codewords.
 
 ghost use Rattle.std.specs.Prelude.{All, Err, IfOk, OnOk, length, min, vec_len, ◌++◌, ◌+◌, ◌*◌, ◌-◌, ◌<◌, ◌^◌, ◌↔◌, ◌≡◌, ◌≤◌};
 ghost use Rattle.qr_bits.specs.Segmentation.{Covers, bits};
@@ -19,9 +20,10 @@ use crate::stream::{put_header, put_interpretation, put_segments};
 use qr_layout::{Level, Version};
 use std::alloc::{AllocError, Global};
 
-// The terminator has fewer bits where less of the capacity is left (7.4.9).
+// How many bits the terminator has, unless fewer are left of the capacity (ISO/IEC 18004:2015, 7.4.9).
 const TERMINATOR_BITS: u64 = 4;
 
+// The capacity in bits. It is the least, 72, in version 1 at level H, which has 9 data codewords.
 #[tactic(auto, using(crate::proofs::lemmas::padding::CountLemmas::capacity_least))]
 pub(crate) fn capacity(version: Version, level: Level) -> u64
     ensures value { result ≡ capacity_of version level }
@@ -29,18 +31,23 @@ pub(crate) fn capacity(version: Version, level: Level) -> u64
     ensures last { version ≤ 40 }
     ensures least { 72 ≤ result }
 {
-    // Called for its contract: the version is from 1 to 40.
+    // For the prover: the contract of `number` says that the version is from 1 to 40.
     let _ = version.number();
     8 * u64::from(version.data_codewords(level))
 }
 
-/// Returns the data codewords of this version and level that contain `input`, or what is written for it (`Segmented`), in
-/// the segments `segs`, after the header if there is one. They are the bit stream and then, as far as the capacity allows, a terminator, zeros up to the end
-/// of a codeword, and pad codewords (7.4.9, 7.4.10).
+/// Returns the data codewords of a symbol of this version and level. They contain the header, if there is one, then the
+/// ECI header or FNC1 of the interpretation, and then `input` in the segments `segs`. As far as the capacity allows, a
+/// terminator, zeros up to the end of a codeword, and pad codewords follow (ISO/IEC 18004:2015, 7.4.9, 7.4.10).
+///
+/// `input` and `segs` are the characters and the segments that `segments` returns (`Segmented`), or any others for
+/// which `covers` is true. `input` may have up to twice `INPUT_MAX` bytes, because for a byte of GS1 data up to two
+/// characters are written.
 ///
 /// # Errors
 ///
-/// Returns `TooLong` if header and segments have more bits than the data codewords, and `Memory` if memory is refused.
+/// Returns `TooLong` if header, interpretation and segments together take more bits than the data codewords have, and
+/// `Memory` if memory is refused.
 pub fn codewords(
     alloc: Global,
     input: &[u8],
@@ -79,8 +86,8 @@ pub fn codewords(
     Ok(codewords)
 }
 
-// Writes header, segments, a terminator where `left` bits of the capacity are left for it, and zeros up to the end of a
-// codeword.
+// Writes the bit stream, a terminator, for which `left` bits of the capacity are left, and zeros up to the end of a
+// codeword. What the contract says of the parity is for the prover.
 fn put_all(
     writer: &mut BitWriter,
     input: &[u8],
@@ -104,7 +111,8 @@ fn put_all(
     writer.fill()
 }
 
-// Appends pad codewords, up to `len` codewords in all (7.4.10).
+// Appends pad codewords until there are `len` codewords in all (ISO/IEC 18004:2015, 7.4.10). What the contract says of
+// all codewords, that they are bytes, is for the prover.
 #[tactic(auto, using(crate::proofs::Named::pad_codewords))]
 fn pad(codewords: &mut Vec<u8>, len: usize) -> Result<(), AllocError>
     ensures { OnOk result ((codewords.new.items ≡ codewords.old.items ++ pads (len - vec_len codewords.old))

@@ -1,5 +1,6 @@
-//! Data codewords, parsed: an optional structured append header, segments and their bytes, with ECI headers and FNC1
-//! (ISO/IEC 18004:2015, 7.4.1 to 7.4.9, 8, 12).
+//! How data codewords are parsed: as a structured append header, if there is one, and then items, which are segments,
+//! ECI headers and FNC1 (ISO/IEC 18004:2015, 7.4.1 to 7.4.9, 8, 12). First all items are read, and the characters of
+//! all segments are appended to one list, `out`. Then `interpreted` returns the bytes that these characters stand for.
 
 ghost use Rattle.std.specs.Prelude.{Err, IfOk, List, MatchResult, drop, length, take, true, ℕ, ◌%◌, ◌*◌, ◌++◌, ◌+◌, ◌<◌, ◌^◌, ◌≡◌, ◌≤◌};
 ghost use Rattle.qr_bits.specs.Modes.{byte_count, payload_bits};
@@ -20,8 +21,8 @@ use qr_layout::Version;
 use std::alloc::Global;
 use std::marker::Model;
 
-// The number that is written for three, two or one digits, or for two or one characters, is below its limit (7.4.3,
-// 7.4.4).
+// The numbers that are written for three, two or one digits, and for two or one characters, are below these limits
+// (ISO/IEC 18004:2015, 7.4.3, 7.4.4).
 const THREE_DIGITS: u16 = 1000;
 
 const TWO_DIGITS: u16 = 100;
@@ -32,21 +33,23 @@ const PAIRS: u16 = 2025;
 
 const SINGLES: u16 = 45;
 
-// The greatest remainder that a division of a kanji pair's value by 0xC0 leaves (7.4.6).
+// The greatest remainder that the value of a kanji pair leaves when it is divided by 0xC0 (ISO/IEC 18004:2015, 7.4.6).
 const LOW_MAX: u16 = 0xBC;
 
-// An ECI designator has a number of six digits (7.4.2).
+// The number in an ECI designator has at most six digits, so it is below this limit (ISO/IEC 18004:2015, 7.4.2).
 const NUMBERS: u32 = 1_000_000;
 
 /// What data codewords contain.
 #[derive(Debug, Drop)]
 pub struct Parsed {
     pub header: Option<Header>,
-    /// The segments, ECI headers and FNC1 in order, as they are written.
+    /// The segments, ECI headers and FNC1, in the order in which they are written.
     pub items: Vec<Item>,
-    /// The ECI headers, each with the number of bytes before it.
+    /// The ECI headers, each with the number of `bytes` before it.
     pub ecis: Vec<EciChange>,
-    /// What the characters of the segments stand for.
+    /// The bytes that the characters of the segments stand for. They are these characters, except that in alphanumeric
+    /// mode after FNC1 `%%` stands for `%`, and any other `%` for the byte 1D (hexadecimal), which separates fields
+    /// (ISO/IEC 18004:2015, 7.4.8.2).
     pub bytes: Vec<u8>,
 }
 
@@ -64,7 +67,7 @@ impl Model for Parsed {
 }
 
 impl Parsed {
-    /// Returns the position of FNC1, if there is one.
+    /// Returns FNC1, in first or second position, if it is among the items (ISO/IEC 18004:2015, 7.4.8).
     pub fn fnc1(&self) -> Option<Fnc1>
         ensures { result ≡ fnc1_of self.now.items }
     {
@@ -72,15 +75,18 @@ impl Parsed {
     }
 }
 
-/// Parses data codewords up to a terminator, or to where fewer than four bits are left; what follows may be anything.
-/// Segments may be empty, and need not take the fewest bits.
+/// Parses data codewords up to a terminator, or to where fewer than four bits are left (ISO/IEC 18004:2015, 7.4.9).
+/// What follows may be anything. Segments may be empty, and need not take the fewest bits. There are at most 3,706
+/// codewords, as many as the largest symbol has in all.
 ///
 /// # Errors
 ///
-/// Returns the fault of the first header or segment that has one. `BadMode` stands for an indicator of none of the four
-/// modes, or of a header after the beginning. `Cut` stands for an end within a header, a count or data. `BadValue`
-/// stands for a number that is too large for its digits or characters, or a value that no kanji pair has, in data that
-/// are not cut. Returns `Memory` if memory is refused.
+/// Returns the fault of the first header or item that has one. `BadMode` stands for a mode indicator that is not
+/// defined, that of a structured append header after the beginning, or that of FNC1 after a segment or another FNC1.
+/// `Cut` stands for an end within a header, an application indicator, a character count indicator or data. `BadValue`
+/// stands for a number that is too large for its digits or characters, a value that no kanji pair has, or an ECI
+/// designator or application indicator that is not defined. If the data of a segment are cut, the fault is `Cut` even
+/// if a value among them is wrong. Returns `Memory` if memory is refused.
 #[tactic(auto, unfolding(crate::specs::Parsing::parse))]
 pub fn parse(alloc: Global, codewords: &[u8], version: Version) -> Result<Parsed, ParseFault>
     requires { length codewords.now ≤ 3706 }
@@ -98,7 +104,7 @@ pub fn parse(alloc: Global, codewords: &[u8], version: Version) -> Result<Parsed
     })
 }
 
-// A header begins with its mode indicator (8.1).
+// Reads the structured append header, if its mode indicator comes next (ISO/IEC 18004:2015, 8.1).
 #[tactic(auto, unfolding(crate::specs::Parsing::first_header), using(crate::proofs::lemmas::parsing::ParsingLemmas::begun))]
 fn first_header(reader: &mut BitReader) -> Result<Option<Header>, ParseFault>
     ensures { MatchResult result (λ h. first_header reader.old ≡ Ok (h, reader.new)) (λ e. first_header reader.old ≡ Err e) }
@@ -111,7 +117,7 @@ fn first_header(reader: &mut BitReader) -> Result<Option<Header>, ParseFault>
     Ok(Some(header))
 }
 
-// The mode indicator is already read (8.1).
+// Reads a header whose mode indicator was already read (ISO/IEC 18004:2015, 8.1 to 8.3).
 #[tactic(auto, unfolding(crate::specs::Parsing::header_at))]
 fn header(reader: &mut BitReader) -> Result<Header, ParseFault>
     ensures { MatchResult result (λ h. header_at reader.old ≡ Ok (h, reader.new)) (λ e. header_at reader.old ≡ Err e) }
@@ -126,6 +132,7 @@ fn header(reader: &mut BitReader) -> Result<Header, ParseFault>
     })
 }
 
+// Reads all items, and returns them with the characters of all segments. `may` says whether FNC1 may come next.
 #[tactic(auto, using(crate::proofs::lemmas::parsing::ParsingLemmas::not_ended))]
 fn items(
     alloc: Global,
@@ -146,7 +153,8 @@ fn items(
     Ok((items, characters))
 }
 
-// Whether FNC1 may come after the item, if `may` says whether it might before (7.4.8.2).
+// Whether FNC1 may come after `item`, where `may` says whether it might have come in its place. Only ECI headers may
+// come before FNC1 (ISO/IEC 18004:2015, 7.4.8.2).
 fn may_follow(may: bool, item: Item) -> bool
     ensures { result ≡ may_follow may item }
 {
@@ -156,7 +164,7 @@ fn may_follow(may: bool, item: Item) -> bool
     }
 }
 
-// Appends the bytes of a segment to `out`.
+// Reads an item. If it is a segment, its characters are appended to `out`.
 #[tactic(auto, unfolding(crate::specs::Parsing::item_at))]
 fn item(
     reader: &mut BitReader,
@@ -185,6 +193,7 @@ fn item(
     Ok(Item::Data(segment(reader, version, out)?))
 }
 
+// Reads the next `width` bits as a number.
 #[tactic(auto, unfolding(crate::specs::Parsing::leading_number))]
 fn number(reader: &mut BitReader, width: usize) -> Result<u16, ParseFault>
     requires { width ≤ 16 }
@@ -197,7 +206,8 @@ fn number(reader: &mut BitReader, width: usize) -> Result<u16, ParseFault>
     Ok(reader.take(width))
 }
 
-// The mode indicator is already read (7.4.2, Table 4).
+// Reads an ECI designator: 7 bits of the number after 0, 14 after 10, or 21 after 110 (ISO/IEC 18004:2015, 7.4.2, Table
+// 4). The mode indicator was already read.
 #[tactic(auto, unfolding(crate::specs::Parsing::designator_at))]
 fn designator(reader: &mut BitReader) -> Result<Designator, ParseFault>
     ensures { MatchResult result (λ d. designator_at reader.old ≡ Ok (d, reader.new)) (λ e. designator_at reader.old ≡ Err e) }
@@ -230,7 +240,7 @@ fn designator(reader: &mut BitReader) -> Result<Designator, ParseFault>
     })
 }
 
-// The mode indicator is already read (7.4.8.3).
+// Reads the application indicator of FNC1 in second position, after its mode indicator (ISO/IEC 18004:2015, 7.4.8.3).
 #[tactic(auto, unfolding(crate::specs::Parsing::application_at))]
 fn application(reader: &mut BitReader) -> Result<u8, ParseFault>
     ensures { MatchResult result (λ a. application_at reader.old ≡ Ok (a, reader.new)) (λ e. application_at reader.old ≡ Err e) }
@@ -242,13 +252,14 @@ fn application(reader: &mut BitReader) -> Result<u8, ParseFault>
     Ok(indicator as u8)
 }
 
+// Whether the number is that of two digits, or the ASCII code of a letter plus 100 (ISO/IEC 18004:2015, 7.4.8.3).
 fn is_application_indicator(number: u16) -> bool
     ensures { result ≡ is_application_indicator number }
 {
     number < 100 || 165 <= number && number <= 190 || 197 <= number && number <= 222
 }
 
-// Appends the bytes of the segment to `out`.
+// Reads a segment, and appends its characters to `out`.
 fn segment(
     reader: &mut BitReader,
     version: Version,
@@ -266,7 +277,7 @@ fn segment(
     Ok(Segment { mode, len })
 }
 
-// Reads the indicators of a segment, and checks that its data are complete.
+// Reads the two indicators of a segment, and checks that its data are complete.
 #[tactic(auto, unfolding(crate::specs::Parsing::segment_at, crate::specs::Parsing::leading_number, crate::specs::Parsing::payload_at))]
 fn segment_head(reader: &mut BitReader, version: Version) -> Result<(Mode, u16), ParseFault>
     requires { 4 ≤ length reader.old }
@@ -287,7 +298,8 @@ fn segment_head(reader: &mut BitReader, version: Version) -> Result<(Mode, u16),
     Ok((mode, count))
 }
 
-// The data are complete, as `segment_head` has checked, but may contain a `BadValue`.
+// Reads the data of a segment of `count` characters. They are complete, as `segment_head` has checked, but a value
+// among them may be wrong.
 #[tactic(auto, unfolding(crate::specs::Parsing::values_of))]
 fn values(
     reader: &mut BitReader,
@@ -324,7 +336,7 @@ fn digits(reader: &mut BitReader, count: usize, out: &mut Vec<u8>) -> Result<(),
     last_digits(reader, left, out)
 }
 
-// At most two digits, in seven or four bits (7.4.3).
+// Reads the digits after the last three: two in seven bits, one in four, or none (ISO/IEC 18004:2015, 7.4.3).
 #[tactic(auto, unfolding(crate::specs::Parsing::digits_of))]
 fn last_digits(reader: &mut BitReader, left: usize, out: &mut Vec<u8>) -> Result<(), ParseFault>
     requires few { left < 3 }
@@ -352,6 +364,7 @@ fn last_digits(reader: &mut BitReader, left: usize, out: &mut Vec<u8>) -> Result
     Ok(())
 }
 
+// The last decimal digit of the number, in ASCII.
 fn digit(number: u16) -> u8
     ensures { result ≡ 48 + number % 10 }
 {
@@ -419,7 +432,7 @@ fn kanji(reader: &mut BitReader, count: usize, out: &mut Vec<u8>) -> Result<(), 
     Ok(())
 }
 
-// The kanji pair of a value, with its first byte as the high one (7.4.6).
+// The kanji pair that has this value, as a number whose high byte is the first of the pair (ISO/IEC 18004:2015, 7.4.6).
 #[tactic(auto, unfolding(crate::specs::Parsing::kanji_pair))]
 fn kanji_pair(value: u16) -> u16
     requires { value < 8192 }

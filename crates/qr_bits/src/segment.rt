@@ -1,4 +1,5 @@
-//! Segments, whether they cover an input, and their bits (ISO/IEC 18004:2015, 7.4.1).
+//! Segments: which of them cover an input, and how many bits they take (ISO/IEC 18004:2015, 7.4.1). A segment has a
+//! mode and a number of bytes. It does not say which bytes these are, since each segment takes the next ones.
 
 ghost use Rattle.std.specs.Prelude.{All, IsTrue, sum_by, ◌*◌, ◌+◌, ◌<◌, ◌↔◌, ◌≡◌, ◌≤◌};
 ghost use Rattle.qr_bits.specs.Segmentation.{Covers, bits, segment_bits};
@@ -6,16 +7,17 @@ ghost use Rattle.qr_bits.specs.Segmentation.{Covers, bits, segment_bits};
 use crate::modes::{INPUT_MAX, Mode, count_width, payload_bits, suits};
 use qr_layout::Version;
 
-/// The next `len` bytes of the input, or of what is written for it (`Segmented`), in `mode`.
+/// A mode, and the number of bytes that are written in it. They are the next bytes of the input, or of the characters
+/// that are written for GS1 data (`Segmented`).
 #[derive(Clone, Copy, Debug, PartialEq, Eq)]
 pub struct Segment {
     pub mode: Mode,
-    /// In bytes; a character of kanji mode has two.
+    /// The number of bytes; a character of kanji mode has two.
     pub len: usize,
 }
 
-/// Returns whether `segs`, one after the other, contain exactly `input`, where no segment is empty and each mode can
-/// write its bytes.
+/// Returns whether `segs`, one after the other, cover `input`: no segment is empty, the mode of each can write its
+/// bytes, and in all they have as many bytes as `input` (ISO/IEC 18004:2015, 7.3.3 to 7.3.6).
 pub fn covers(input: &[u8], segs: &[Segment]) -> bool
     ensures { IsTrue result ↔ Covers input.now segs.now }
 {
@@ -34,7 +36,9 @@ pub fn covers(input: &[u8], segs: &[Segment]) -> bool
     rest.is_empty()
 }
 
-/// Returns how many bits `segs` take in this version, with their indicators and without a structured append header.
+/// Returns how many bits `segs` take in this version: the two indicators of each segment and its data, but nothing that
+/// comes before the segments (ISO/IEC 18004:2015, 7.4.1). Their lengths may add up to twice `INPUT_MAX`, because for a
+/// byte of GS1 data up to two characters are written.
 pub fn bit_len(segs: &[Segment], version: Version) -> u64
     requires nonempty { All (λ s. 0 < s.len) segs.now }
     requires short { sum_by (λ s. s.len) segs.now ≤ 2 * INPUT_MAX }

@@ -1,4 +1,6 @@
-//! The bit stream: an optional structured append header, then segments (ISO/IEC 18004:2015, 7.4.1 to 7.4.6, 8.1).
+//! How the bit stream of a symbol is written: a structured append header if there is one, the ECI header or FNC1 of the
+//! interpretation, and then the segments (ISO/IEC 18004:2015, 7.4.1 to 7.4.6, 7.4.8, 8.1). In contracts `writer.old`
+//! and `writer.new` are the bits that the writer has before and after the call.
 
 ghost use Rattle.std.specs.Prelude.{IsTrue, OnOk, length, ◌++◌, ◌+◌, ◌-◌, ◌<◌, ◌^◌, ◌≡◌, ◌≤◌};
 ghost use Rattle.qr_bits.specs.Modes.{characters, in_twos, is_alphanumeric, is_digit, is_kanji_pair, suits};
@@ -20,6 +22,7 @@ use crate::segment::Segment;
 use qr_layout::Version;
 use std::alloc::AllocError;
 
+// Writes the header. What the contract says of the parity, that it is a byte, is for the prover.
 #[tactic(auto, unfolding(crate::specs::Header::header_stream))]
 pub(crate) fn put_header(writer: &mut BitWriter, header: Option<Header>) -> Result<(), AllocError>
     ensures { OnOk result ((writer.new ≡ writer.old ++ header_stream header) × ForSome header (λ h. h.parity < 256)) }
@@ -51,7 +54,8 @@ pub(crate) fn put_interpretation(
     }
 }
 
-// (7.4.2, Table 4)
+// Writes the number of an ECI in as few codewords as it fits. The first bits of the first codeword say how many these
+// are: 0, 10 or 110 for one, two or three (ISO/IEC 18004:2015, 7.4.2, Table 4).
 #[tactic(auto, unfolding(crate::specs::Interpretation::designator))]
 fn put_designator(writer: &mut BitWriter, number: u32) -> Result<(), AllocError>
     requires { number < 1000000 }
@@ -68,6 +72,7 @@ fn put_designator(writer: &mut BitWriter, number: u32) -> Result<(), AllocError>
     writer.put(16, (number % 65536) as u16)
 }
 
+// Writes the segments, of which each takes the next bytes of `input`. No symbol has room for 2^16 bytes.
 pub(crate) fn put_segments(
     writer: &mut BitWriter,
     input: &[u8],
@@ -88,7 +93,7 @@ pub(crate) fn put_segments(
     Ok(())
 }
 
-// Two indicators come before the data (7.4.1).
+// Writes a segment: its two indicators, and then its data (ISO/IEC 18004:2015, 7.4.1).
 #[tactic(auto, unfolding(crate::specs::Stream::segment_stream))]
 fn put_segment(
     writer: &mut BitWriter,
@@ -121,7 +126,7 @@ fn put_payload(writer: &mut BitWriter, mode: Mode, bytes: &[u8]) -> Result<(), A
     }
 }
 
-// Three digits in ten bits, two or one at the end in seven or four (7.4.3).
+// Writes three digits in ten bits each time, and two or one at the end in seven or four (ISO/IEC 18004:2015, 7.4.3).
 #[tactic(auto, unfolding(crate::specs::Stream::digit_bits))]
 fn put_digits(writer: &mut BitWriter, digits: &[u8]) -> Result<(), AllocError>
     requires { IsTrue (list_all is_digit digits.now) }
@@ -148,7 +153,7 @@ fn digit_value(digit: u8) -> u16
     u16::from(digit - b'0')
 }
 
-// Two characters in eleven bits, one at the end in six (7.4.4).
+// Writes two characters in eleven bits each time, and one at the end in six (ISO/IEC 18004:2015, 7.4.4).
 #[tactic(auto, unfolding(crate::specs::Stream::character_bits))]
 fn put_characters(writer: &mut BitWriter, characters: &[u8]) -> Result<(), AllocError>
     requires { IsTrue (list_all is_alphanumeric characters.now) }
@@ -165,7 +170,7 @@ fn put_characters(writer: &mut BitWriter, characters: &[u8]) -> Result<(), Alloc
     }
 }
 
-// A pair in thirteen bits (7.4.6).
+// Writes each kanji pair in thirteen bits (ISO/IEC 18004:2015, 7.4.6).
 #[tactic(auto, unfolding(crate::specs::Stream::kanji_bits))]
 fn put_kanji(writer: &mut BitWriter, bytes: &[u8]) -> Result<(), AllocError>
     requires { IsTrue (in_twos is_kanji_pair bytes.now) }

@@ -1,4 +1,5 @@
--- The table of best modes: for each byte a row, which has the best mode of the byte for each state before it.
+-- The table of best modes. It has a row for each byte, with the best mode of the byte for each state before it. `rest`
+-- has the best choices of the next byte.
 use Rattle.std.specs.Prelude.{◌≡◌, ℕ, ◌+◌, ◌<◌, ◌/◌, ◌%◌, ◌^◌, Bool, List, [], ◌∷◌, IsTrue}
 use Rattle.qr_bits.specs.declared.modes.Mode.{Mode}
 use Rattle.qr_bits.specs.declared.modes.Mode.TheVariants.{Alphanumeric}
@@ -11,7 +12,7 @@ use Rattle.qr_bits.specs.declared.interpretation.Interpretation.{Interpretation}
 use Rattle.qr_bits.specs.Interpretation.{character_for}
 use Rattle.qr_bits.specs.Steps.RunState.{state_after, state_in, cost_in, may_begin, allowed_in, choice_number, ranked, IsBestRest, IsChoice}
 
--- The field of a state
+-- The choice for the state, as a number
 unfoldable pub in_state : PerState → RunState → ℕ
 in_state b Start = b.start
 in_state b Digit1 = b.digit1
@@ -23,7 +24,7 @@ in_state b InBytes = b.in_bytes
 in_state b HalfPair = b.half_pair
 in_state b WholePair = b.whole_pair
 
--- The bits of the best choice after the state `p`; `numbers` has the choice for each state, as a number
+-- The bits of the choice for the state `p`
 abbrev pub bits_at : PerState → RunState → ℕ
 bits_at numbers p = in_state numbers p / 4
 
@@ -32,13 +33,14 @@ abbrev pub character_choice : Interpretation → ℕ → Rule → ℕ → Bool �
 character_choice i v r x pair rest p =
     choice_number (may_begin r (character_for i x Alphanumeric) pair Alphanumeric) (cost_in i v p x Alphanumeric + bits_at rest (state_in i p x Alphanumeric)) Alphanumeric
 
--- `c` has the choices of alphanumeric mode for the byte `x`
+-- `c` has the choices of alphanumeric mode for the byte `x`, as numbers: if it begins a segment, and after one or two
+-- characters of a group
 abbrev pub AreCharacterChoices : Interpretation → ℕ → Rule → ℕ → Bool → PerState → CharacterChoices → Type 0
 AreCharacterChoices i v r x pair rest c =
     (c.first ≡ character_choice i v r x pair rest Start) × (c.second ≡ character_choice i v r x pair rest Character1) × (c.next ≡ character_choice i v r x pair rest Character2)
 
--- For inputs of at most `INPUT_MAX` bytes all choices stay below this bound, so that the bits of one byte more do not
--- overflow 32 bits
+-- All choices are below a bound that those of inputs of at most `INPUT_MAX` bytes do not reach, and to which the bits
+-- of one more byte can be added in 32 bits
 abbrev pub IsSmall : PerState → Type 0
 IsSmall n =
     (n.start < 40000000) × (n.digit1 < 40000000) × (n.digit2 < 40000000) × (n.digit3 < 40000000) × (n.character1 < 40000000)
@@ -56,26 +58,26 @@ shift_of InBytes = 12
 shift_of HalfPair = 14
 shift_of WholePair = 16
 
--- The mode in a row for a state
+-- The mode that the row has for the state `p`
 unfoldable pub mode_at : ℕ → RunState → Mode
 mode_at row p = ranked (row / 2 ^ shift_of p % 4)
 
--- `numbers` are the choices of the byte `x` for each state before it, `row` has their modes, and `rest` are the choices
--- of the later bytes
+-- For each state before the byte `x`, `numbers` has the best choice, and `row` its mode
 abbrev pub IsRow : Interpretation → ℕ → Rule → ℕ → Bool → PerState → ℕ → PerState → Type 0
 IsRow i v r x pair rest row numbers = (p : RunState) → IsChoice i v r p x pair (bits_at rest) (mode_at row p) (bits_at numbers p)
 
--- The modes that are read from rows: each mode leads to the state for the next row
+-- The modes that are read from rows, the first for the state `p`: each mode leads to the state for which the next row
+-- is read
 unfoldable pub follow : RunState → List ℕ → List Mode
 follow p [] = []
 follow p (row ∷ rows) = mode_at row p ∷ follow (state_after p (mode_at row p)) rows
 
--- As `follow`, where the rows are those of the bytes `xs`, of which `%` may be two characters
+-- As `follow`, where the rows are those of the bytes `xs`, each of which is written as one or two characters
 unfoldable pub follow_in : Interpretation → RunState → List ℕ → List ℕ → List Mode
 follow_in i p [] rows = []
 follow_in i p (x ∷ xs) [] = []
 follow_in i p (x ∷ xs) (row ∷ rows) = mode_at row p ∷ follow_in i (state_in i p x (mode_at row p)) xs rows
 
--- `follow_in` reads the best assignment to the bytes `xs` from the table, for each state after which there is one
+-- For each state after which some assignment to the bytes `xs` is allowed, `follow_in` reads the best one from the rows
 abbrev pub IsBestTable : Interpretation → ℕ → Rule → (ℕ → ℕ → Bool) → List ℕ → List ℕ → Type 0
 IsBestTable i v r test xs rows = (p : RunState) (ks : List Mode) → IsTrue (allowed_in i r test p xs ks) → (n : ℕ) × IsBestRest i v r test p xs (follow_in i p xs rows) n

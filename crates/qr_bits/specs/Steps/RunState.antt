@@ -1,5 +1,7 @@
 -- What the next byte adds to the bits of an input in each mode, after a state `p`, in version `v` and under the rule
--- `r`. Two bytes are a kanji pair if they pass `test`; `pair` says that a byte `x` may begin one.
+-- `r`. A state is the mode of the byte before, and how many bytes of its group (three digits, two characters, one byte,
+-- or a kanji pair) have come. Two bytes are a kanji pair if they pass `test`, and `pair` says that a byte `x` may begin
+-- one.
 use Rattle.std.specs.Prelude.{◌≡◌, ℕ, ◌+◌, ◌*◌, ◌≤◌, Bool, true, false, ◌&&◌, ◌==◌, if◌then◌else◌, List, [], ◌∷◌, IsTrue}
 use Rattle.qr_bits.specs.declared.modes.Mode.{Mode}
 use Rattle.qr_bits.specs.declared.modes.Mode.TheVariants.{Numeric, Alphanumeric, Byte, Kanji}
@@ -12,7 +14,7 @@ use Rattle.qr_bits.specs.Interpretation.{character_for, is_doubled}
 use Rattle.qr_bits.specs.Modes.{count_width, is_digit, is_alphanumeric, may_use}
 use Rattle.qr_bits.specs.Segmentation.{rank, IsNotAfter}
 
--- The state after a byte in the mode `m`
+-- The state after one more byte, which has the mode `m`
 unfoldable pub state_after : RunState → Mode → RunState
 state_after Digit1 Numeric = Digit2
 state_after Digit2 Numeric = Digit3
@@ -23,7 +25,7 @@ state_after _ Byte = InBytes
 state_after HalfPair Kanji = WholePair
 state_after _ Kanji = HalfPair
 
--- The state after a byte in the mode of the last, or in byte mode after `Start`
+-- The state after one more byte in the mode of the byte before; after `Start`, where there is none before, in byte mode
 unfoldable pub state_on : RunState → RunState
 state_on Start = InBytes
 state_on Digit1 = Digit2
@@ -35,8 +37,8 @@ state_on InBytes = InBytes
 state_on HalfPair = WholePair
 state_on WholePair = HalfPair
 
--- The first byte of a segment also adds the bits of the segment's indicators, and the first of a kanji pair all bits of
--- the pair
+-- The bits that a byte of the mode `m` adds after the state `p`. The first byte of a segment also adds those of the two
+-- indicators, and the first byte of a kanji pair adds all bits of the pair
 unfoldable pub byte_cost : ℕ → RunState → Mode → ℕ
 byte_cost v Digit1 Numeric = 3
 byte_cost v Digit2 Numeric = 3
@@ -51,7 +53,8 @@ byte_cost v HalfPair Kanji = 0
 byte_cost v WholePair Kanji = 13
 byte_cost v _ Kanji = 4 + count_width v Kanji + 13
 
--- The test for bytes that are taken from the last to the first: the second byte of a pair comes first
+-- The test for a kanji pair where bytes are taken from the last to the first, so that the second byte of a pair comes
+-- first
 abbrev pub swapped : (ℕ → ℕ → Bool) → ℕ → ℕ → Bool
 swapped test x y = test y x
 
@@ -61,14 +64,14 @@ begins_with_pair r test [] = false
 begins_with_pair r test (x ∷ []) = false
 begins_with_pair r test (x ∷ y ∷ xs) = may_use r Kanji && test x y
 
--- `x` may have the mode, where it is not the second byte of a kanji pair
+-- The byte `x` may have the mode if it is not the second byte of a kanji pair
 unfoldable pub may_begin : Rule → ℕ → Bool → Mode → Bool
 may_begin r x pair Numeric = may_use r Numeric && is_digit x
 may_begin r x pair Alphanumeric = may_use r Alphanumeric && is_alphanumeric x
 may_begin r x pair Byte = may_use r Byte
 may_begin r x pair Kanji = pair
 
--- After half a pair only kanji mode is possible
+-- The byte `x` may have the mode `m` after the state `p`; after half a kanji pair only kanji mode is possible
 unfoldable pub may_take : Rule → RunState → ℕ → Bool → Mode → Bool
 may_take r HalfPair x pair m = rank m == rank Kanji
 may_take r _ x pair m = may_begin r x pair m
@@ -78,69 +81,70 @@ unfoldable pub may_end : RunState → Bool
 may_end HalfPair = false
 may_end _ = true
 
--- The bytes may have these modes
+-- After the state `p` the bytes may have these modes, one mode for each byte
 unfoldable pub allowed : Rule → (ℕ → ℕ → Bool) → RunState → List ℕ → List Mode → Bool
 allowed r test p [] [] = may_end p
 allowed r test p [] (m ∷ ms) = false
 allowed r test p (x ∷ xs) [] = false
 allowed r test p (x ∷ xs) (m ∷ ms) = may_take r p x (begins_with_pair r test (x ∷ xs)) m && allowed r test (state_after p m) xs ms
 
--- The bits that bytes of these modes add
+-- How many bits are added by bytes of these modes, the first after the state `p`
 unfoldable pub cost_of : ℕ → RunState → List Mode → ℕ
 cost_of v p [] = 0
 cost_of v p (m ∷ ms) = byte_cost v p m + cost_of v (state_after p m) ms
 
--- GS1 data
+-- The bytes are GS1 data
 abbrev pub is_gs1 : Interpretation → Bool
 is_gs1 written.Gs1 = true
 is_gs1 _ = false
 
--- The state after the characters of a byte `x` in the mode `m`
+-- The state after the one or two characters that are written for the byte `x` in the mode `m`
 abbrev pub state_in : Interpretation → RunState → ℕ → Mode → RunState
 state_in i p x m = if is_doubled i x m then state_after (state_after p m) m else state_after p m
 
--- The bits that the characters of a byte add
+-- How many bits the characters that are written for the byte `x` add
 abbrev pub cost_in : Interpretation → ℕ → RunState → ℕ → Mode → ℕ
 cost_in i v p x m = if is_doubled i x m then byte_cost v p m + byte_cost v (state_after p m) m else byte_cost v p m
 
--- As `may_take`, for the characters of a byte
+-- As `may_take`, where the mode has to suit the character that is written for the byte `x`
 abbrev pub may_take_in : Interpretation → Rule → RunState → ℕ → Bool → Mode → Bool
 may_take_in i r p x pair m = may_take r p (character_for i x m) pair m
 
--- As `allowed`, for the characters of bytes
+-- As `allowed`, where the modes have to suit the characters that are written for the bytes
 unfoldable pub allowed_in : Interpretation → Rule → (ℕ → ℕ → Bool) → RunState → List ℕ → List Mode → Bool
 allowed_in i r test p [] [] = may_end p
 allowed_in i r test p [] (m ∷ ms) = false
 allowed_in i r test p (x ∷ xs) [] = false
 allowed_in i r test p (x ∷ xs) (m ∷ ms) = may_take_in i r p x (begins_with_pair r test (x ∷ xs)) m && allowed_in i r test (state_in i p x m) xs ms
 
--- As `cost_of`, for the characters of bytes
+-- As `cost_of`, for the characters that are written for the bytes
 unfoldable pub cost_of_all : Interpretation → ℕ → RunState → List ℕ → List Mode → ℕ
 cost_of_all i v p [] ms = cost_of v p ms
 cost_of_all i v p (x ∷ xs) [] = 0
 cost_of_all i v p (x ∷ xs) (m ∷ ms) = cost_in i v p x m + cost_of_all i v (state_in i p x m) xs ms
 
--- Of the assignments to the bytes `xs` that are allowed, `ms` adds the fewest bits, `n`, and is the first of those that
--- do
+-- Of the assignments to the bytes `xs` that are allowed after the state `p`, `ms` is the first in lexicographic order
+-- of those that add the fewest bits, and these are `n`
 pub record IsBestRest (i : Interpretation) (v : ℕ) (r : Rule) (test : ℕ → ℕ → Bool) (p : RunState) (xs : List ℕ) (ms : List Mode) (n : ℕ) : Type 0 where
   pub is_allowed : IsTrue (allowed_in i r test p xs ms)
   pub has_bits : cost_of_all i v p xs ms ≡ n
   pub least : (ks : List Mode) → IsTrue (allowed_in i r test p xs ks) → n ≤ cost_of_all i v p xs ks
   pub first : (ks : List Mode) → IsTrue (allowed_in i r test p xs ks) → cost_of_all i v p xs ks ≡ n → IsNotAfter ms ks
 
--- Of the modes that `x` may have, `m` leads to the fewest bits, `n`, and has the lowest rank of those that do. The
--- later bytes add `cost q` bits if the state after `x` is `q`
+-- Of the modes that the byte `x` may have after the state `p`, `m` has the lowest rank of those with which `x` and the
+-- later bytes add the fewest bits, and these are `n`. The later bytes add `cost q` bits if the state after `x` is `q`
 pub record IsChoice (i : Interpretation) (v : ℕ) (r : Rule) (p : RunState) (x : ℕ) (pair : Bool) (cost : RunState → ℕ) (m : Mode) (n : ℕ) : Type 0 where
   pub is_allowed : IsTrue (may_take_in i r p x pair m)
   pub has_bits : n ≡ cost_in i v p x m + cost (state_in i p x m)
   pub least : (k : Mode) → IsTrue (may_take_in i r p x pair k) → n ≤ cost_in i v p x k + cost (state_in i p x k)
   pub first : (k : Mode) → IsTrue (may_take_in i r p x pair k) → cost_in i v p x k + cost (state_in i p x k) ≡ n → rank m ≤ rank k
 
--- A choice as a number: a choice of fewer bits, or of as many and of lower rank, has the smaller one. A choice that is
--- not allowed has the greatest number of 32 bits, which no other reaches for inputs of at most `INPUT_MAX` bytes
+-- A choice, which is a mode and a number of bits, as one number. If a choice has fewer bits than another, or as many
+-- and a mode of lower rank, its number is smaller. A choice that is not allowed has the greatest number of 32 bits. For
+-- inputs of at most `INPUT_MAX` bytes no other choice reaches it
 abbrev pub choice_number : Bool → ℕ → Mode → ℕ
 choice_number may bits m = if may then 4 * bits + rank m else 4294967295
 
--- The reverse of `rank`
+-- The mode that has the rank `n`
 abbrev pub ranked : ℕ → Mode
 ranked n = if n == 0 then Numeric else (if n == 1 then Alphanumeric else (if n == 2 then Byte else Kanji))

@@ -31,6 +31,7 @@ pub in_end : (i : Interpretation) (p : RunState) (x : ℕ) (m : Mode) → rank m
 in_end i p x m k =
     cond_both (is_doubled i x m) _ _ (λ (q : RunState). may_end q ≡ true) (λ _. may_end-after (state_after p m) m k) (λ _. may_end-after p m k)
 
+-- after a mode that the byte `x` may have, some modes of the later bytes are allowed
 rest_after : (i : Interpretation) (r : Rule) (t : ℕ → ℕ → Bool) (p : RunState) (x : ℕ) (xs : List ℕ) (m : Mode) → may_take_in i r p x (begins_with_pair r t (x ∷ xs)) m ≡ true
     → (ks : List Mode) × IsTrue (allowed_in i r t (state_in i p x m) xs ks)
 unfolding may_take may_begin begins_with_pair allowed_in state_after may_end

@@ -29,6 +29,7 @@ three (a ∷ []) = (0 ∷ [], refl)
 three (a ∷ b ∷ []) = (0 ∷ 0 ∷ [], refl)
 three (a ∷ b ∷ c ∷ bs) = (bs ++ 0 ∷ 0 ∷ 0 ∷ [], refl)
 
+-- the bits of three bytes are those of one number of 24 bits
 three_bytes : (x y z : ℕ) (rest : List ℕ) → y < 256 → z < 256 → bits_of (x ∷ y ∷ z ∷ rest) ≡ field 24 (65536 * x + (256 * y + z)) ++ bits_of rest
 unfolding bits_of
 three_bytes x y z rest h k =
@@ -36,6 +37,7 @@ three_bytes x y z rest h k =
     let all : 65536 * x + (256 * y + z) ≡ x * 2 ^ 16 + (256 * y + z) = omega arith in
     cc (low, all, field-join 8 8 y z k, field-join 8 16 x (256 * y + z) (omega arith), append_assoc (field 8 x) (field 16 (256 * y + z)) (bits_of rest), append_assoc (field 8 y) (field 8 z) (bits_of rest))
 
+-- the `w` bits of a number that come before its last `c` bits are a remainder of a quotient
 window : (r w c n : ℕ) (rest : List Bool) → r + w + c ≡ 24 → value (take w (drop r (field 24 n ++ rest))) ≡ n / 2 ^ c % 2 ^ w
 window r w c n rest e =
     let m = n / 2 ^ c in

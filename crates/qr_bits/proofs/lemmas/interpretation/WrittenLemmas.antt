@@ -15,6 +15,7 @@ doubled-step Default x xs m ms = refl
 doubled-step (Eci n) x xs m ms = refl
 doubled-step Gs1 x xs m ms = refl
 
+-- one more byte adds its character once, or twice if it is doubled
 pub characters-step : (i : Interpretation) (x : ℕ) (xs : List ℕ) (m : Mode) (ms : List Mode)
     → characters_in i (x ∷ xs) (m ∷ ms) ≡ cond (is_doubled i x m) (character_for i x m ∷ character_for i x m ∷ characters_in i xs ms) (character_for i x m ∷ characters_in i xs ms)
 unfolding characters_gs1
@@ -60,6 +61,7 @@ doubled-append i (x ∷ xs) ys (m ∷ ms) ks h = ⊎_elim
     (λ (e : is_doubled i x m ≡ false). rw (doubled-step i x (xs ++ ys) m (ms ++ ks), doubled-step i x xs m ms, e, doubled-append i xs ys ms ks (omega arith)) refl)
     (cases_Bool (is_doubled i x m))
 
+-- the characters of two lists of bytes are written one after the other
 pub characters-append : (i : Interpretation) (xs ys : List ℕ) (ms ks : List Mode) → length xs ≡ length ms → characters_in i (xs ++ ys) (ms ++ ks) ≡ characters_in i xs ms ++ characters_in i ys ks
 characters-append i [] ys [] ks h = rw (written-none i []).1 refl
 characters-append i [] ys (m ∷ ms) ks h = absurd (omega arith)
@@ -89,6 +91,7 @@ doubled-reverse i (x ∷ xs) (m ∷ ms) h =
     (λ (e : is_doubled i x m ≡ false). rw (reverse-append (x ∷ []) xs, reverse-append (m ∷ []) ms, doubled-append i (reverse xs) (x ∷ []) (reverse ms) (m ∷ []) len, doubled-one i x m, doubled-step i x xs m ms, e, rest) (sym (reverse-append (m ∷ []) (doubled i xs ms))))
     (cases_Bool (is_doubled i x m))
 
+-- the characters of bytes in reverse order are their characters in reverse order
 pub characters-reverse : (i : Interpretation) (xs : List ℕ) (ms : List Mode) → length xs ≡ length ms → characters_in i (reverse xs) (reverse ms) ≡ reverse (characters_in i xs ms)
 characters-reverse i [] [] h = rw (written-none i []).1 refl
 characters-reverse i [] (m ∷ ms) h = absurd (omega arith)
@@ -189,6 +192,7 @@ fields-drop zero xs h = h
 fields-drop (suc n) [] h = refl
 fields-drop (suc n) (x ∷ xs) h = fields-drop n xs (fields-tail x xs h)
 
+-- the first `n` bytes of fields are fields too
 pub fields-take : (n : ℕ) (xs : List ℕ) → are_fields xs ≡ true → are_fields (take n xs) ≡ true
 unfolding are_fields
 fields-take zero xs h = refl

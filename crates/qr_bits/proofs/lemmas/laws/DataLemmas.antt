@@ -27,6 +27,7 @@ length-padded : (n : ℕ) (stream : List Bool) → length stream ≤ 8 * n → l
 unfolding padded
 length-padded n stream h = grind (arith, length-append, length-replicate, bits_of, length-bits_of, length-pads)
 
+-- what is appended to a stream to make data codewords of it is an end
 tail_of : (n : ℕ) (stream : List Bool) → length stream ≤ 8 * n → (tail : List Bool) × (padded n stream ≡ stream ++ tail) × (ends tail ≡ true)
 unfolding padded ends
 tail_of n stream h =

@@ -49,6 +49,7 @@ plain r m p h = grind arith
 abbrev CanUse : Rule → List Mode → Type 0
 CanUse r ms = list_all (may_use r) ms ≡ true
 
+-- if modes of `xs ++ ys` are allowed, some modes of `xs` are allowed too, and add no more bits
 front : (i : Interpretation) (v : ℕ) (r : Rule) (p : RunState) (xs ys : List ℕ) (ms : List Mode) → IsPlain r → CanUse r ms →
     may_end p ≡ true → allowed_in i r is_kanji_pair p (xs ++ ys) ms ≡ true →
     (ks : List Mode) × (allowed_in i r is_kanji_pair p xs ks ≡ true) × (cost_of_all i v p xs ks ≤ cost_of_all i v p (xs ++ ys) ms)
@@ -79,6 +80,7 @@ without_byte i v x xs m ms low =
     rw (← cost-written i v Start xs ms, ← cost-written i v Start (x ∷ xs) (m ∷ ms), doubled-step i x xs m ms)
     (cond_both (is_doubled i x m) _ _ (λ (qs : List Mode). cost_of v Start ks ≤ cost_of v Start qs) (λ _. omega (arith, without_first v m ks low, without_first v m (m ∷ ks) low)) (λ _. without_first v m ks low))
 
+-- if modes of `xs ++ ys` are allowed, some modes of `ys` are allowed too, and add no more bits
 back : (i : Interpretation) (v : ℕ) (r : Rule) (xs ys : List ℕ) (ms : List Mode) → IsPlain r → CanUse r ms → allowed_in i r is_kanji_pair Start (xs ++ ys) ms ≡ true
     → (ks : List Mode) × CanUse r ks × (allowed_in i r is_kanji_pair Start ys ks ≡ true) × (cost_of_all i v Start ys ks ≤ cost_of_all i v Start (xs ++ ys) ms)
 unfolding allowed_in may_end

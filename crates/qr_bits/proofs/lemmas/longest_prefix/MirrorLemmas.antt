@@ -47,6 +47,7 @@ covers-push p xs ys [] s a n h c = search (arith, take_all, drop_all)
 covers-push p xs ys (t ∷ ss) s a n h c =
     search (arith, length-append, take-append-le, drop-append-le, covers-push p (drop t.len xs) ys ss s a n h c.3)
 
+-- if segments cover bytes, the segments in reverse order cover the bytes in reverse order
 covers-reverse : (test : ℕ → ℕ → Bool) (xs : List ℕ) (ss : List Segment) → CoversBy test xs ss → CoversBy (swapped test) (reverse xs) (reverse ss)
 unfolding CoversBy
 covers-reverse test xs [] c = ap reverse c

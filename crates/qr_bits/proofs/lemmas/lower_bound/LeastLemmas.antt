@@ -39,6 +39,7 @@ digits_held (x ∷ xs) h =
 payload_held : (m : Mode) (xs : List ℕ) → IsTrue (suits m xs) → sum_by least_sixths xs ≤ 6 * payload_bits m (length xs)
 payload_held m xs h = grind (arith, digits_held, payload_least, characters_held, bytes_held)
 
+-- segments that cover bytes take at least the bits that `least_sixths` counts for the bytes
 segments_held : (v : ℕ) (xs : List ℕ) (segs : List Segment) → CoversBy is_kanji_pair xs segs → sum_by least_sixths xs ≤ 6 * bits v segs
 unfolding CoversBy
 segments_held v xs [] c = omega (arith, ap (sum_by least_sixths) c)

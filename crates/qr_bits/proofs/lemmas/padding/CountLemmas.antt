@@ -24,6 +24,7 @@ all_in_range : (l : Level) → below 40 (in_range l) ≡ true
 unfolding in_range data_codewords_of total_codewords_of block_count_of correction_len_of
 all_in_range l = grind arith
 
+-- there are at least 9 data codewords, and at most as many as `most_data` says
 data_range : (v : ℕ) (l : Level) → 1 ≤ v → v ≤ 40 → (9 ≤ data_codewords_of v l) × (data_codewords_of v l ≤ most_data v)
 unfolding in_range
 data_range v l a b =
@@ -88,6 +89,7 @@ all_26 : (l : Level) → below 26 (no_more 26 l) ≡ true
 unfolding no_more data_codewords_of total_codewords_of block_count_of correction_len_of
 all_26 l = grind arith
 
+-- no version up to `m` has a greater capacity than `m`, if this was computed for all of them
 last_most : (m v : ℕ) (l : Level) → below m (no_more m l) ≡ true → 1 ≤ v → v ≤ m → capacity_of v l ≤ capacity_of m l
 unfolding no_more
 last_most m v l all a b =

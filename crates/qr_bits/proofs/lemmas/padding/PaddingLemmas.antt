@@ -8,6 +8,7 @@ use Rattle.qr_bits.specs.declared.interpretation.Interpretation.{Interpretation}
 use Rattle.qr_bits.specs.Interpretation.{interpretation_stream, interpretation_bits, designator, designator_codewords}
 use Rattle.qr_bits.proofs.lemmas.bits.BitLemmas.{length-field, length-bits_of, bits_of-append, field-zero}
 
+-- one more pad codeword at the end is EC after an even number of them, and 11 after an odd one
 pads-push : (n : ℕ) → pads (n + 1) ≡ pads n ++ cond (n % 2 == 0) 0xEC 0x11 ∷ []
 unfolding pads
 pads-push zero = refl

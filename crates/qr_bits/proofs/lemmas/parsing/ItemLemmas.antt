@@ -121,6 +121,7 @@ IsItem v may bits (Eci d) ys rest = DesignatorFits d × (ys ≡ []) × (bits ≡
 IsItem v may bits Fnc1First ys rest = (may ≡ true) × (ys ≡ []) × (bits ≡ field 4 5 ++ rest)
 IsItem v may bits (Fnc1Second a) ys rest = (may ≡ true) × (is_application_indicator a ≡ true) × (ys ≡ []) × (bits ≡ field 4 9 ++ (field 8 a ++ rest))
 
+-- if an application indicator is read, it is a valid one, and its 8 bits are the first
 application_takes : (bits : List Bool) (a : ℕ × List Bool) → application_at bits ≡ Ok a → (is_application_indicator a.0 ≡ true) × (bits ≡ field 8 a.0 ++ a.1)
 unfolding application_at
 application_takes bits a h =
@@ -131,6 +132,7 @@ application_takes bits a h =
     (λ (e : is_application_indicator n.0.0 ≡ false). let k = rw e at n.2 in grind arith)
     (cases_Bool (is_application_indicator n.0.0))
 
+-- if an item is read, its stream comes first in the bits that were read
 item_takes : (v : ℕ) (may : Bool) (bits : List Bool) (i : Item × List ℕ × List Bool) → 4 ≤ length bits → item_at v may bits ≡ Ok i → IsItem v may bits i.0 i.1 i.2
 unfolding item_at
 item_takes v may bits i four h =
@@ -169,6 +171,7 @@ items_none : (v : ℕ) (may : Bool) (bits : List Bool) → ends bits ≡ true �
 unfolding items_stream AreItems
 items_none v may bits e = search (arith, All-nil)
 
+-- an item and the items that are read after it are items together
 items_more : (v : ℕ) (may : Bool) (bits rest : List Bool) (i : Item) (is : List Item) (ys zs : List ℕ) → IsItem v may bits i ys rest → IsItems v (may_follow may i) rest is zs → IsItems v may bits (i ∷ is) (ys ++ zs)
 unfolding items_stream AreItems
 items_more v may bits rest (Data s) is ys zs one others =
@@ -188,6 +191,7 @@ items_more v may bits rest Fnc1First is ys zs one others =
 items_more v may bits rest (Fnc1Second a) is ys zs one others =
     subst (λ (t : List ℕ). IsItems v may bits (Fnc1Second a ∷ is) (t ++ zs)) (sym one.2) (record { tail = others.tail; bytes = others.bytes; are = (one.0, one.1, others.are); whole = search (arith, append_assoc); end = others.end })
 
+-- if items are read from at most `n` bits, these bits are the stream of the items and then an end
 pub items_takes : (n v : ℕ) (may : Bool) (bits : List Bool) (r : List Item × List ℕ) → length bits ≤ n → items_at n v may bits ≡ Ok r → IsItems v may bits r.0 r.1
 unfolding items_at
 items_takes zero v may bits r few h = search (arith, same_ok, items_none, ended_empty)

@@ -57,6 +57,7 @@ short_shorter a number n d h =
     let b = bind_ok (leading_number 8 a.1) _ d h in
     omega (arith, number_shorter _ _ _ b.1, ap (λ (t : Designator × List Bool). length t.1) (same_ok _ _ b.2))
 
+-- reading a designator leaves no more bits than there were
 designator_shorter : (bits : List Bool) (d : Designator × List Bool) → designator_at bits ≡ Ok d → length d.1 ≤ length bits
 unfolding designator_at
 designator_shorter bits d h =
@@ -75,6 +76,7 @@ designator_shorter bits d h =
     (cases_Bool (nat_lt a.0.0 192)))
     (cases_Bool (nat_lt a.0.0 128))
 
+-- reading an application indicator leaves no more bits than there were
 application_shorter : (bits : List Bool) (a : ℕ × List Bool) → application_at bits ≡ Ok a → length a.1 ≤ length bits
 unfolding application_at
 application_shorter bits a h =
@@ -115,6 +117,7 @@ same_rest : (may : Bool) (read : Result (Item × List ℕ × List Bool) ParseFau
     → step may read (items_at n v) ≡ step may read (items_at m v)
 same_rest may read n m v h = grind arith
 
+-- two bounds on the number of items give the same result if both are at least the number of bits
 enough : (n m v : ℕ) (may : Bool) (bits : List Bool) → length bits ≤ n → length bits ≤ m → items_at n v may bits ≡ items_at m v may bits
 unfolding items_at
 enough zero zero v may bits h k = refl

@@ -36,6 +36,7 @@ unfolding payload_at
 payload_again m xs rest bytes h =
     search (arith, len_again, length-payload, length-append, drop-append_seam, le-ltb, values_again)
 
+-- if the data of a segment are read, they are written as the same bits
 payload_takes : (m : Mode) (n : ℕ) (bits : List Bool) (p : List ℕ × List Bool) → payload_at m n bits ≡ Ok p → IsWritten m n bits p.0 × (p.1 ≡ drop (payload_bits m (byte_count m n)) bits)
 unfolding payload_at
 payload_takes m n bits p h =
@@ -55,6 +56,7 @@ mode_takes n m h = grind (arith, eqb-true, same_ok)
 indicator_most : (m : Mode) → indicator m < 2 ^ 4
 indicator_most m = grind arith
 
+-- the stream of a segment begins with its mode indicator, of four bits
 first_four : (v : ℕ) (m : Mode) (xs : List ℕ) (rest : List Bool) → (value (take 4 (segment_stream v m xs ++ rest)) ≡ indicator m) × (4 ≤ length (segment_stream v m xs ++ rest))
 unfolding segment_stream
 first_four v m xs rest =
@@ -76,6 +78,7 @@ pub record IsSegment (v : ℕ) (bits : List Bool) (s : Segment) (xs : List ℕ) 
   pub fits : character_count s.mode s.len < 2 ^ count_width v s.mode
   pub whole : bits ≡ segment_stream v s.mode xs ++ rest
 
+-- if the indicators and the data of a segment were read, the segment was read
 segment_from : (v : ℕ) (m : Mode) (bits : List Bool) (n : ℕ × List Bool) (p : List ℕ × List Bool) → 4 ≤ length bits → value (take 4 bits) ≡ indicator m
     → (n.0 < 2 ^ count_width v m) × (drop 4 bits ≡ field (count_width v m) n.0 ++ n.1) → IsWritten m n.0 n.1 p.0 × (p.1 ≡ drop (payload_bits m (byte_count m n.0)) n.1)
     → IsSegment v bits (record { mode = m; len = byte_count m n.0 }) p.0 p.1
@@ -88,6 +91,7 @@ segment_from v m bits n p four e number said =
     let head : take 4 bits ≡ field 4 (indicator m) = sym (field_read 4 bits four) ∙ ap (field 4) e in
     grind (arith, append_assoc, take-append-drop)
 
+-- if a segment is read, its stream comes first in the bits that were read
 pub segment_takes : (v : ℕ) (bits : List Bool) (s : Segment × List ℕ × List Bool) → 4 ≤ length bits → segment_at v bits ≡ Ok s → IsSegment v bits s.0 s.1 s.2
 unfolding segment_at segment_stream
 segment_takes v bits s four h =
@@ -114,6 +118,7 @@ pub item_again : (v : ℕ) (may : Bool) (m : Mode) (xs : List ℕ) (rest : List 
     → item_at v may (segment_stream v m xs ++ rest) ≡ Ok (Data (record { mode = m; len = length xs }), xs, rest)
 item_again v may m xs rest bytes suited fits = item_segment v may _ _ (segment_again v m xs rest bytes suited fits)
 
+-- the stream of segments and an end after it are read as these segments
 segments_again : (v : ℕ) (may : Bool) (xs : List ℕ) (segs : List Segment) (tail : List Bool) → All (λ b. b < 256) xs → Suits xs segs → CountsFit v segs → ends tail ≡ true
     → items_of v may (segments_stream v xs segs ++ tail) ≡ Ok (plain segs, xs)
 unfolding segments_stream Suits CountsFit
@@ -137,6 +142,7 @@ segments_none : (v : ℕ) (bits : List Bool) → ends bits ≡ true → IsSegmen
 unfolding segments_stream Suits CountsFit
 segments_none v bits e = search (arith, All-nil)
 
+-- a segment and the segments that are read after it are segments together
 segments_more : (v : ℕ) (bits rest : List Bool) (s : Segment) (ss : List Segment) (ys zs : List ℕ) → IsSegment v bits s ys rest → IsSegments v rest ss zs → IsSegments v bits (s ∷ ss) (ys ++ zs)
 unfolding segments_stream Suits CountsFit
 segments_more v bits rest s ss ys zs one others =
@@ -151,6 +157,7 @@ segments_more v bits rest s ss ys zs one others =
       end = others.end;
     }
 
+-- if segments alone are read from at most `n` bits, these bits are their stream and then an end
 segments_takes : (n v : ℕ) (may : Bool) (bits : List Bool) (segs : List Segment) (xs : List ℕ) → length bits ≤ n → items_at n v may bits ≡ Ok (plain segs, xs) → IsSegments v bits segs xs
 unfolding items_at
 segments_takes zero v may bits [] xs few h = search (arith, same_ok, segments_none, ended_empty)
@@ -179,6 +186,7 @@ starts rest =
     let there : 4 ≤ length (field 4 header_indicator ++ rest) = search (arith, length-append, length-field) in
     rw (le-leb 4 (length (field 4 header_indicator ++ rest)) there, read_field 4 header_indicator rest (lit< tt)) refl
 
+-- if bits begin with the mode indicator of a header, they are its four bits and the others
 started : (bits : List Bool) → begins_header bits ≡ true → bits ≡ field 4 header_indicator ++ drop 4 bits
 unfolding begins_header
 started bits h =
@@ -186,6 +194,7 @@ started bits h =
     let four : 4 ≤ length bits = leb-true 4 (length bits) p.0 in
     cc (eqb-true _ 3 p.1, field_read 4 bits four, take-append-drop 4 bits)
 
+-- 16 bits at the beginning are three numbers, of 4, 4 and 8 bits
 header_parts : (bits : List Bool) → 16 ≤ length bits
     → bits ≡ (field 4 (value (take 4 bits)) ++ (field 4 (value (take 4 (drop 4 bits))) ++ field 8 (value (take 8 (drop 8 bits))))) ++ drop 16 bits
 header_parts bits long =
@@ -195,6 +204,7 @@ header_parts bits long =
     let last = take-append-drop 8 (drop 8 bits) in
     search (arith, drop-drop, take-append-drop, append_assoc)
 
+-- the stream of a header, with any bits after it, is read as this header
 header_again : (h : Header) (rest : List Bool) → HeaderFits (Some h) → first_header (header_stream (Some h) ++ rest) ≡ Ok (Some h, rest)
 unfolding first_header header_stream
 header_again h rest all_fit =
@@ -233,6 +243,7 @@ pub other_opens : (n : ℕ) (rest : List Bool) → n < 2 ^ 4 → (n == 0) ≡ fa
 unfolding ends
 other_opens n rest few other = grind (arith, read_field 4 n rest few, length-append (field 4 n) rest, length-field 4 n, le-ltb)
 
+-- the stream of an interpretation, segments and an end is not taken for a header
 marked_begins : (v : ℕ) (i : Interpretation) (xs : List ℕ) (segs : List Segment) (tail : List Bool) → ends tail ≡ true
     → begins_header (interpretation_stream i ++ (segments_stream v xs segs ++ tail)) ≡ false
 unfolding interpretation_stream
@@ -240,6 +251,7 @@ marked_begins v written.Default xs segs tail e = none_begins v xs segs tail e
 marked_begins v (written.Eci n) xs segs tail e = rw (append_assoc (field 4 7) (designator n) (segments_stream v xs segs ++ tail)) (other_begins 7 _ (lit< tt) refl)
 marked_begins v written.Gs1 xs segs tail e = other_begins 5 _ (lit< tt) refl
 
+-- the shortest designator of a number is read as this number
 designator_again : (n : ℕ) (rest : List Bool) → n < 1000000 → designator_at (designator n ++ rest) ≡ Ok (record { number = n; codewords = designator_codewords n }, rest)
 unfolding designator_at designator
 designator_again n rest h = ⊎_elim (λ (e : nat_lt n 128 ≡ true).
@@ -275,6 +287,7 @@ gs1_again : (v : ℕ) (rest : List Bool) → item_at v true (field 4 5 ++ rest) 
 unfolding item_at
 gs1_again v rest = rw (read_field 4 5 rest (lit< tt), drop-field 4 5 rest) refl
 
+-- the stream of an interpretation, segments and an end is read as the items of these
 marked_again : (v : ℕ) (i : Interpretation) (xs : List ℕ) (segs : List Segment) (tail : List Bool) → InterpretationFits i → All (λ b. b < 256) xs → Suits xs segs → CountsFit v segs → ends tail ≡ true
     → items_of v true (interpretation_stream i ++ (segments_stream v xs segs ++ tail)) ≡ Ok (items_in i segs, xs)
 unfolding interpretation_stream
@@ -289,6 +302,7 @@ marked_again v written.Gs1 xs segs tail six bytes suit fits e =
 fits_of : (h : Header) → h.position < 16 → h.last < 16 → h.parity < 256 → HeaderFits (Some h)
 fits_of h a b d = search arith
 
+-- if a header is read after its mode indicator, it is written as the same bits
 header_takes : (bits : List Bool) (r : Header × List Bool) → header_at bits ≡ Ok r → HeaderFits (Some r.0) × (bits ≡ (field 4 r.0.position ++ (field 4 r.0.last ++ field 8 r.0.parity)) ++ r.1)
 unfolding header_at
 header_takes bits r h =
@@ -298,6 +312,7 @@ header_takes bits r h =
     subst P (search (arith, same_ok))
     (fits_of _ (value_take_below 4 bits) (value_take_below 4 (drop 4 bits)) (value_take_below 8 (drop 8 bits)), header_parts bits long)
 
+-- if a header is read, or none, its stream comes first in the bits that were read
 first_takes : (bits : List Bool) (r : Option Header × List Bool) → first_header bits ≡ Ok r → HeaderFits r.0 × (bits ≡ header_stream r.0 ++ r.1)
 unfolding first_header header_stream
 first_takes bits r h = ⊎_elim (λ (e : begins_header bits ≡ true).

@@ -12,6 +12,7 @@ use Rattle.qr_bits.proofs.lemmas.modes.CharacterLemmas.{character_found, charact
 use Rattle.qr_bits.proofs.lemmas.parsing.{PayloadLemmas.value_take_below, ParsingLemmas.bind_ok, ParsingLemmas.same_ok}
 use Rattle.qr_bits.proofs.lemmas.stream.StreamLemmas.{more_written, drop-field, read_field, field_read, digits_again, digits_takes, are_digits, chosen_ok, IsWritten}
 
+-- the bits of characters of alphanumeric mode are read as these characters
 characters_again : (xs : List ℕ) (rest : List Bool) → list_all is_alphanumeric xs ≡ true → characters_of (length xs) (character_bits xs ++ rest) ≡ Ok xs
 unfolding characters_of character_bits
 characters_again [] rest h = refl
@@ -33,6 +34,7 @@ characters_again (a ∷ b ∷ xs) rest h =
     let d = drop-field 11 g (character_bits xs ++ rest) in
     search (arith, append_assoc, lt-ltb, character_again, characters_again xs rest q.1)
 
+-- if characters of alphanumeric mode are read, they are written as the same bits
 characters_takes : (n : ℕ) (xs : List ℕ) (bs : List Bool) → payload_bits Alphanumeric n ≤ length bs → characters_of n bs ≡ Ok xs → IsWritten Alphanumeric n bs xs
 unfolding characters_of character_bits payload
 characters_takes zero xs bs h e = search (arith, same_ok, All-nil)

@@ -35,6 +35,8 @@ drop_one : (t : ℕ → ℕ → Bool) (m : Mode) (x : ℕ) (xs : List ℕ) (segs
 unfolding CoversBy
 drop_one t m x xs segs k p c = grind arith
 
+-- if segments cover bytes and begin with two bytes in kanji mode, these two are a pair, and the segments without them
+-- cover the other bytes
 drop_pair : (test : ℕ → ℕ → Bool) (x y : ℕ) (xs : List ℕ) (segs : List Segment) → Positive segs → CoversBy test (x ∷ y ∷ xs) (prepend_mode Kanji (prepend_mode Kanji segs)) → (test x y ≡ true) × CoversBy test xs segs
 unfolding CoversBy
 drop_pair test x y xs [] p c = ((and_parts (test x y) true c.2).0, c.3)
@@ -71,6 +73,7 @@ unfolding allowed runs_of
 one_can test r m x xs ms k rest h p e =
     search (arith, and_parts, drop_one, Positive-runs_of, and_from, take_begin, begin_is test, may_end-after)
 
+-- the modes of a valid assignment can be taken one after the other
 pub can_take : (test : ℕ → ℕ → Bool) (r : Rule) (xs : List ℕ) (ms : List Mode) → IsAssignmentBy test r xs ms → CanTake test r xs ms
 unfolding CoversBy runs_of allowed may_take may_begin begins_with_pair state_after may_end
 can_take test r [] ms h p e = grind arith

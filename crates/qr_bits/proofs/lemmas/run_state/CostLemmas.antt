@@ -50,6 +50,7 @@ begins : (v : ℕ) (p : RunState) (m : Mode) → goes_on p m ≡ false
 unfolding state_after byte_cost
 begins v p m h = grind arith
 
+-- bytes that go on with a run add the data bits of the group with them, less those of the group without them
 run_bits : (v : ℕ) (p : RunState) (m : Mode) (n : ℕ) → goes_on p m ≡ true
     → cost_of v p (replicate n m) + payload_bits m (turn p) ≡ payload_bits m (turn p + n)
 unfolding cost_of
@@ -67,6 +68,7 @@ one_run : (v : ℕ) (p : RunState) (m : Mode) (n : ℕ)
 unfolding cost_of
 one_run v p m n = search (arith, cond_both, begins, run_bits, eq-eqb, state_rank-after)
 
+-- the bits of a byte and of the segments after it are those of the segments with the byte before them
 front : (v : ℕ) (p : RunState) (m : Mode) (segs : List Segment)
     → byte_cost v p m + rest_bits v (state_after p m) segs ≡ rest_bits v p (prepend_mode m segs)
 unfolding cost_of

@@ -66,6 +66,7 @@ kanji_same i r test p x (y ∷ ys) [] h = rw (h, (unwritten i y ys).1) refl
 kanji_same i r test p x (y ∷ ys) (Kanji ∷ ms) h = rw (h, characters-step i y ys Kanji ms, (single-byte i y).1, (same_character i y).1) refl
 kanji_same i r test p x (y ∷ ys) (m ∷ ms) h = kanji_before i r test p x y ys m ms _ _ _ (lit< tt) h
 
+-- a byte that is written once may have a mode exactly if its character may
 step_one : (i : Interpretation) (r : Rule) (test : ℕ → ℕ → Bool) (p : RunState) (x : ℕ) (xs : List ℕ) (m : Mode) (ms : List Mode) → is_doubled i x m ≡ false
     → allowed r test (state_after p m) (characters_in i xs ms) (doubled i xs ms) ≡ allowed_in i r test (state_after p m) xs ms
     → allowed r test p (character_for i x m ∷ characters_in i xs ms) (m ∷ doubled i xs ms)
@@ -74,6 +75,7 @@ unfolding allowed
 step_one i r test p x xs Kanji ms e h = rw (same_character i x).1 (kanji_same i r test p x xs ms h)
 step_one i r test p x xs m ms e h = rw (h, take_other r p (character_for i x m) (begins_with_pair r test (character_for i x m ∷ characters_in i xs ms)) (begins_with_pair r test (x ∷ xs)) m (lit< tt)) refl
 
+-- a byte that is written twice may have a mode exactly if its two characters may
 step_two : (i : Interpretation) (r : Rule) (test : ℕ → ℕ → Bool) (p : RunState) (x : ℕ) (xs : List ℕ) (m : Mode) (ms : List Mode) → rank m < 3
     → allowed r test (state_after (state_after p m) m) (characters_in i xs ms) (doubled i xs ms) ≡ allowed_in i r test (state_after (state_after p m) m) xs ms
     → allowed r test p (character_for i x m ∷ character_for i x m ∷ characters_in i xs ms) (m ∷ m ∷ doubled i xs ms)

@@ -82,6 +82,7 @@ pub least_fits : (i : Interpretation) (v : ℕ) (r : Rule) (xs ys : List ℕ) (s
     → Covers ys segs × ((n : ℕ) → HasFit i v r xs n ↔ (bits v segs ≤ n))
 least_fits i v r xs ys segs h = search arith
 
+-- two assignments of which neither comes after the other are the same
 best-one : (ms ks : List Mode) → IsNotAfter ms ks → IsNotAfter ks ms → ms ≡ ks
 best-one [] [] a b = refl
 best-one [] (k ∷ ks) a b = absurd b

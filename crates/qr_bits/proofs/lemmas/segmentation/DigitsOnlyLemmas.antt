@@ -18,6 +18,7 @@ digits_bits n = grind (arith, nat_tests)
 segment_more : (v : ℕ) (m : Mode) (n : ℕ) → 0 < n → 4 + count_width v Numeric + (10 * n + 2) / 3 ≤ 4 + count_width v m + payload_bits m n
 segment_more v m n h = grind (arith, nat_tests)
 
+-- any segments take at least as many bits as one segment in numeric mode that has a byte for each of theirs
 segments_more : (v : ℕ) (s : Segment) (ss : List Segment) (xs : List ℕ) → CoversBy is_kanji_pair xs (s ∷ ss) → 4 + count_width v Numeric + (10 * length xs + 2) / 3 ≤ bits v (s ∷ ss)
 unfolding CoversBy
 segments_more v s [] xs c =

@@ -26,6 +26,7 @@ themselves (x ∷ xs) (m ∷ ms) h =
 all_themselves : (xs : List ℕ) → not (list_all is_itself xs) ≡ false → list_all is_itself xs ≡ true
 all_themselves xs h = grind arith
 
+-- if each byte is written as itself, the least segmentation is the same as without an interpretation
 pub least_interpreted : (i : Interpretation) (v : ℕ) (r : Rule) (xs : List ℕ) (segs : List Segment) → (is_gs1 i && not (list_all is_itself xs)) ≡ false → IsLeastSegmentation Default v r xs xs segs → IsLeastSegmentation i v r xs xs segs
 least_interpreted Default v r xs segs w h = h
 least_interpreted (Eci n) v r xs segs w h =

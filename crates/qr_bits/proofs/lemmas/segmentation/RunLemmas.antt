@@ -89,6 +89,7 @@ characters-begun : (m : Mode) (x : ℕ) (xs : List ℕ) (ss : List Segment)
 unfolding characters_of
 characters-begun m x xs ss = rw (written-one m x) (cond-append (is_doubled Gs1 x m) (character_for Gs1 x m) [] (characters_of xs ss))
 
+-- one more byte before segments adds its character once, or twice if it is doubled
 characters-prepend : (m : Mode) (x : ℕ) (xs : List ℕ) (segs : List Segment)
     → characters_of (x ∷ xs) (prepend_mode m segs) ≡ cond (is_doubled Gs1 x m) (character_for Gs1 x m ∷ character_for Gs1 x m ∷ characters_of xs segs) (character_for Gs1 x m ∷ characters_of xs segs)
 characters-prepend m x xs [] = characters-begun m x xs []
@@ -98,6 +99,7 @@ characters-prepend m x xs (s ∷ ss) =
     cond_both (rank m == rank s.mode) _ _ (λ (r : List Segment). characters_of (x ∷ xs) r ≡ cond (is_doubled Gs1 x m) (c ∷ c ∷ rest) (c ∷ rest))
     (λ e. rw (same_rank m s.mode (eqb-true _ _ e)) (characters-grown s.mode x xs s.len ss)) (λ _. characters-begun m x xs (s ∷ ss))
 
+-- one more byte in the first segment adds one character to it, or two if the byte is doubled
 segments-grown : (m : Mode) (x : ℕ) (xs : List ℕ) (n : ℕ) (ss : List Segment)
     → segments_of (x ∷ xs) (record { mode = m; len = 1 + n } ∷ ss) ≡ cond (is_doubled Gs1 x m) (prepend_mode m (prepend_mode m (segments_of xs (record { mode = m; len = n } ∷ ss)))) (prepend_mode m (segments_of xs (record { mode = m; len = n } ∷ ss)))
 unfolding segments_of
@@ -110,6 +112,7 @@ segments-same : (m : Mode) (x : ℕ) (xs : List ℕ) (n : ℕ) (ss : List Segmen
     → segments_of (x ∷ xs) (prepend_mode m (record { mode = m; len = n } ∷ ss)) ≡ cond (is_doubled Gs1 x m) (prepend_mode m (prepend_mode m (segments_of xs (record { mode = m; len = n } ∷ ss)))) (prepend_mode m (segments_of xs (record { mode = m; len = n } ∷ ss)))
 segments-same m x xs n ss = ap (segments_of (x ∷ xs)) (prepend-self m n ss) ∙ segments-grown m x xs n ss
 
+-- a byte that begins a segment gives it one character, or two if the byte is doubled
 segments-begun : (m : Mode) (x : ℕ) (xs : List ℕ) (ss : List Segment)
     → segments_of (x ∷ xs) (record { mode = m; len = 1 } ∷ ss) ≡ cond (is_doubled Gs1 x m) (prepend_mode m (record { mode = m; len = 1 } ∷ segments_of xs ss)) (record { mode = m; len = 1 } ∷ segments_of xs ss)
 unfolding segments_of
@@ -117,6 +120,7 @@ segments-begun m x xs ss =
     let later = segments_of xs ss in
     rw (written-one m x, prepend-self m 1 later) (cond-length (is_doubled Gs1 x m) (character_for Gs1 x m) [] m later)
 
+-- one more byte before segments adds one character to them, or two if the byte is doubled
 segments-prepend : (m : Mode) (x : ℕ) (xs : List ℕ) (segs : List Segment)
     → segments_of (x ∷ xs) (prepend_mode m segs) ≡ cond (is_doubled Gs1 x m) (prepend_mode m (prepend_mode m (segments_of xs segs))) (prepend_mode m (segments_of xs segs))
 unfolding segments_of
@@ -179,6 +183,7 @@ segments-put xs runs segs m b i h l so_far later =
     rw (append_assoc runs one later, so_far (one ++ later), segments-one m (i - b) (drop b xs) later (omega (arith, length-drop b xs)), behind b i xs h)
     (sym (append_assoc segs new (segments_of (drop i xs) later)))
 
+-- if `cs` are the characters of the runs up to byte `b`, those of the run up to byte `i` are appended to `cs`
 pub characters-put : (xs : List ℕ) (runs : List Segment) (cs : List ℕ) (m : Mode) (b i : ℕ) → b ≤ i
     → ((later : List Segment) → characters_of xs (runs ++ later) ≡ cs ++ characters_of (drop b xs) later)
     → (later : List Segment) → characters_of xs ((runs ++ one_segment m (i - b)) ++ later) ≡ (cs ++ written m (take (i - b) (drop b xs))) ++ characters_of (drop i xs) later

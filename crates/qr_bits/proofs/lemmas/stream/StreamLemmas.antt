@@ -15,6 +15,7 @@ use Rattle.qr_bits.proofs.lemmas.{stream.WritingLemmas.three_more, parsing.Parsi
 bit_step : (a d : ℕ) (bs : List Bool) → d < 2 → value_from a ((d == 1) ∷ bs) ≡ value_from (2 * a + d) bs
 bit_step a d bs h = grind arith
 
+-- the digits of `a` and then a field of `w` bits are a number, of which the field is the last `w` digits
 value_from-field : (a w n : ℕ) → value_from a (field w n) ≡ a * 2 ^ w + n % 2 ^ w
 unfolding field
 value_from-field a zero n = omega arith
@@ -26,6 +27,7 @@ value_from-field a (suc w) n =
 value-field : (w n : ℕ) → n < 2 ^ w → value (field w n) ≡ n
 value-field w n h = value_from-field 0 w n ∙ omega (arith, mod-eq_of_lt h)
 
+-- if equally many bits make equal numbers of `a` and `b`, then `a` and `b` are equal, and so are the bits
 value_from-inj : (a b : ℕ) (xs ys : List Bool) → length xs ≡ length ys → value_from a xs ≡ value_from b ys → (a ≡ b) × (xs ≡ ys)
 value_from-inj a b [] [] l e = (e, refl)
 value_from-inj a b [] (y ∷ ys) l e = absurd (omega arith)

@@ -41,6 +41,7 @@ three_more n = search arith
 pub two_more : (n : ℕ) → payload_bits Alphanumeric (2 + n) ≡ 11 + payload_bits Alphanumeric n
 two_more n = omega arith
 
+-- digits take as many bits as `payload_bits` says
 length-digit_bits : (xs : List ℕ) → length (digit_bits xs) ≡ payload_bits Numeric (length xs)
 unfolding digit_bits
 length-digit_bits [] = refl
@@ -60,6 +61,7 @@ in_twos-even test [] h = refl
 in_twos-even test (x ∷ []) h = absurd (false≢true h)
 in_twos-even test (x ∷ y ∷ xs) h = omega (arith, and_parts, in_twos-even test xs (and_parts (test x y) _ h).1)
 
+-- kanji pairs take as many bits as `payload_bits` says
 length-kanji_bits : (xs : List ℕ) → in_twos is_kanji_pair xs ≡ true → length (kanji_bits xs) ≡ payload_bits Kanji (length xs)
 unfolding kanji_bits
 length-kanji_bits [] h = refl
