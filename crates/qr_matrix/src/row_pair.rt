@@ -274,4 +274,13 @@ impl Rows for RowPair {
         let (first, second) = self.parts();
         (counts.0 + first.count(), counts.1 + second.count())
     }
+
+    #[inline(always)]
+    fn add_rare_to(self, counts: (u32, u32)) -> (u32, u32) {
+        let (first, second) = self.parts();
+        (
+            counts.0 + first.rare_count(),
+            counts.1 + second.rare_count(),
+        )
+    }
 }
