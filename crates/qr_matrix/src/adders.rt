@@ -16,8 +16,8 @@ pub(crate) fn added<R: Rows>(a: R, b: R, c: R) -> (R, R)
     (either.xor(c), a.and(b).or(either.and(c)))
 }
 
-// As `Rows::add_to`, for a row of `words` words that mostly is empty, so that one test takes less than the count of several
-// words.
+// As `Rows::add_to`, for a row of `words` words that mostly is empty, so that one test takes less than the count of
+// several words.
 #[inline(always)]
 pub(crate) fn add_rare<R: Rows>(row: R, counts: R::Counts, words: u8) -> R::Counts
     requires { (second : Bool) → R.number counts second ≤ 1000000 }

@@ -127,7 +127,7 @@ share-none s dark r h = count_below-cut s 0 (λ c. is_charged s (λ i. dark i c)
     none : (c : ℕ) → is_charged s (λ i. dark i c) r ≡ false
     none c = all-false _ _ _ (ltb 0 r) (ltb 1 r) (five-past s (λ i. dark i c) r (omega arith)) (five-past s (λ i. dark i c) (r - 1) (omega arith)) (λ k. five-past s (λ i. dark i c) (r - 2) (let o : 1 < r = grind (arith, nat_tests) in omega arith))
 
--- after all rows, the five equal modules that ended in the row before the last are all that is left to count
+-- after all rows, the five equal modules that end in the last row are all that is left to count
 pub share-left : (s : ℕ) (dark : ℕ → ℕ → Bool) (bit : ℕ → Bool) → s ≤ 192 → ((c : ℕ) → bit c ≡ (ltb 4 s && begin_five (joins_down s dark c) (s - 5)))
     → sum_below (s - 3) (row_share s dark) + set_count bit ≡ sum_below s (row_share s dark)
 share-left s dark bit l h =
