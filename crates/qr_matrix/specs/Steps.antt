@@ -3,9 +3,9 @@
 use Rattle.std.specs.Prelude.{◌≡◌, ℕ, ◌+◌, ◌-◌, ◌*◌, ◌%◌, ◌^◌, ◌<◌, ◌≤◌, ◌&&◌, ◌||◌, not, Bool, List, [], ◌∷◌, length, slice_index, slice_index_or, map, nat_lt, if◌then◌else◌}
 use Rattle.std.specs.List.{filter, range_with_len}
 use Rattle.qr_matrix.specs.Grid.{is_same}
-use Rattle.qr_matrix.specs.Sums.{count_below, places_passing}
-use Rattle.qr_matrix.specs.Penalty.{over_lines, run_cost, square_count, window_count}
-use Rattle.qr_matrix.specs.Runs.{begins_five}
+use Rattle.qr_matrix.specs.Sums.{count_below, places_passing, sum_below}
+use Rattle.qr_matrix.specs.Penalty.{is_square_of_two, over_lines, run_cost, square_count, window_count}
+use Rattle.qr_matrix.specs.Runs.{begins_five, joins, place_cost}
 use Rattle.qr_matrix.specs.BitRow.{has, has_bit}
 use Rattle.qr_matrix.specs.declared.dark_runs.Run.{Run}
 
@@ -68,6 +68,36 @@ is_charged s line c = (begins_five s line c || (nat_lt 0 c && begins_five s line
 -- The number of modules of row `r` that are charged for runs in columns
 unfoldable pub row_share : ℕ → (ℕ → ℕ → Bool) → ℕ → ℕ
 row_share s dark r = count_below s (λ c. is_charged s (λ i. dark i c) r)
+
+-- In column `c` of a square, row `r` has the colour of the next one
+abbrev pub joins_down : ℕ → (ℕ → ℕ → Bool) → ℕ → ℕ → Bool
+joins_down s dark c r = nat_lt c s && joins s (λ i. dark i c) r
+
+-- Four in turn of the tests `join` pass, from `r` on: five modules of a column are equal, if `join` says of each whether
+-- it has the colour of the next
+abbrev pub begin_five : (ℕ → Bool) → ℕ → Bool
+begin_five join r = (join r && join (r + 1)) && (join (r + 2) && join (r + 3))
+
+-- Five equal modules begin at module `r`, or at one of the two before it
+abbrev pub is_near_five : (ℕ → Bool) → ℕ → Bool
+is_near_five join r = (begin_five join r || (nat_lt 0 r && begin_five join (r - 1))) || (nat_lt 1 r && begin_five join (r - 2))
+
+-- What is kept of the first `n` comparisons of a column: whether the last one passed, and the last two, and the last four;
+-- and of two and four the same one row before
+pub record IsAbove (join : ℕ → Bool) (n : ℕ) (joined threes earlier_threes fives earlier_fives : Bool) : Type 0 where
+  pub joined_is : joined ≡ (nat_lt 0 n && join (n - 1))
+  pub threes_are : threes ≡ (nat_lt 1 n && (join (n - 2) && join (n - 1)))
+  pub earlier_threes_are : earlier_threes ≡ (nat_lt 2 n && (join (n - 3) && join (n - 2)))
+  pub fives_are : fives ≡ (nat_lt 3 n && begin_five join (n - 4))
+  pub earlier_fives_are : earlier_fives ≡ (nat_lt 4 n && begin_five join (n - 5))
+
+-- What is counted in the first `n` rows: the points for runs in these rows, and in columns those of the rows before the
+-- last three; and the squares of two by two modules
+pub record IsCountedTo (s : ℕ) (dark : ℕ → ℕ → Bool) (n runs squares : ℕ) : Type 0 where
+  pub runs_are : runs ≡ sum_below n (λ r. place_cost s (dark r)) + sum_below (n - 3) (row_share s dark)
+  pub runs_most : runs ≤ 192 * n + 192 * (n - 3)
+  pub squares_are : squares ≡ sum_below n (λ r. count_below s (is_square_of_two s dark r))
+  pub squares_most : squares ≤ 192 * n
 
 -- The bit in row `r` and column `c` of a tile
 unfoldable pub bit_in : List ℕ → ℕ → ℕ → Bool

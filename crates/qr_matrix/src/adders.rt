@@ -16,12 +16,16 @@ pub(crate) fn added<R: Rows>(a: R, b: R, c: R) -> (R, R)
     (either.xor(c), a.and(b).or(either.and(c)))
 }
 
-// As `Rows::add_to`, for a row that mostly is empty, so that one test takes less than the count.
+// As `Rows::add_to`, for a row of `words` words that mostly is empty, so that one test takes less than the count of
+// several words.
 #[inline(always)]
-pub(crate) fn add_rare<R: Rows>(row: R, counts: R::Counts) -> R::Counts
+pub(crate) fn add_rare<R: Rows>(row: R, counts: R::Counts, words: u8) -> R::Counts
     requires { (second : Bool) → R.number counts second ≤ 1000000 }
     ensures { (second : Bool) → R.number result second ≡ R.number counts second + set_count (R.bit row second) }
 {
+    if words == 1 {
+        return row.add_rare_to(counts);
+    }
     if row.is_empty() {
         return counts;
     }

@@ -162,6 +162,18 @@ impl BitRow {
         a[0].count_ones() + a[1].count_ones() + a[2].count_ones()
     }
 
+    /// As `count`, for a row that mostly is empty. The compiler drops the test where it takes more than the count.
+    #[inline(always)]
+    pub(crate) fn rare_count(self) -> u32
+        ensures value { result ≡ size_of self }
+        ensures bound { result ≤ 192 }
+    {
+        if self.is_empty() {
+            return 0;
+        }
+        self.count()
+    }
+
     pub(crate) fn is_empty(self) -> bool
         ensures { result ≡ true → (c : ℕ) → has self c ≡ false }
     {

@@ -62,14 +62,16 @@ impl MatrixPair {
         self.side
     }
 
-    // Replaces row `row` of both squares.
-    fn set_row(&mut self, row: u8, bits: RowPair)
+    // Replaces row `row` of both squares. The words after the first `words` stay empty.
+    #[inline(always)]
+    fn set_row(&mut self, row: usize, bits: RowPair, words: u8)
         requires row_in { row < self.old.first.side }
         requires past { (second : Bool) (c : ℕ) → self.old.first.side ≤ c → has (lane bits second) c ≡ false }
+        requires width { NeedsWords self.old.first.side words }
         ensures { (second : Bool) → one_of self.new second
             ≡ with_row (one_of self.old second) row (has (lane bits second)) }
     {
-        self.rows[usize::from(row)] = bits;
+        self.rows[row].put_words(words, bits);
     }
 
     /// Makes the module in row `row` and column `col` of each square dark if its part of `dark` is true, and light
@@ -100,7 +102,7 @@ impl MatrixPair {
     #[inline(always)]
     fn set_row_masked(
         &mut self,
-        row: u8,
+        row: usize,
         plain: &Matrix,
         within: &Matrix,
         pattern: RowPair,
@@ -114,11 +116,10 @@ impl MatrixPair {
             (λ c. if colour within.now row c && has (lane pattern second) c
             then not (colour plain.now row c) else colour plain.now row c) }
     {
-        let index = usize::from(row);
-        let plain = plain.bit_row_in(index, words);
-        let within = within.bit_row_in(index, words);
+        let plain = plain.bit_row_in(row, words);
+        let within = within.bit_row_in(row, words);
         let inverted = RowPair::of(within, within).and(pattern);
-        self.set_row(row, RowPair::of(plain, plain).xor(inverted));
+        self.set_row(row, RowPair::of(plain, plain).xor(inverted), words);
     }
 
     #[inline(always)]
@@ -142,8 +143,8 @@ impl MatrixPair {
             then not (colour plain.now r c) else colour plain.now r c) else colour (one_of self.old second) r c) }
     {
         let pattern = RowPair::of(BitRow::repeated(patterns.0), BitRow::repeated(patterns.1));
-        let side = self.side();
-        let mut row = first;
+        let side = usize::from(self.side());
+        let mut row = usize::from(first);
         while row < side {
             self.set_row_masked(row, plain, within, pattern, words);
             row += 12;

@@ -74,6 +74,24 @@ impl RowPair {
         }
     }
 
+    // Gives the first `words` words of each row the bits of `bits`.
+    #[inline(always)]
+    pub(crate) fn put_words(&mut self, words: u8, bits: RowPair)
+        requires some { 1 ≤ words }
+        requires three { words ≤ 3 }
+        ensures { (second : Bool) (c : ℕ) → has (lane self.new second) c
+            ≡ (if nat_lt c (64 * words) then has (lane bits second) c else has (lane self.old second) c) }
+    {
+        match words {
+            1 => self.low = bits.low,
+            2 => {
+                self.low = bits.low;
+                self.middle = bits.middle;
+            }
+            _ => *self = bits,
+        }
+    }
+
     #[inline(always)]
     fn parts(self) -> (BitRow, BitRow)
         ensures first { (c : ℕ) → has result.0 c ≡ has (lane self false) c }
@@ -255,5 +273,14 @@ impl Rows for RowPair {
     fn add_to(self, counts: (u32, u32)) -> (u32, u32) {
         let (first, second) = self.parts();
         (counts.0 + first.count(), counts.1 + second.count())
+    }
+
+    #[inline(always)]
+    fn add_rare_to(self, counts: (u32, u32)) -> (u32, u32) {
+        let (first, second) = self.parts();
+        (
+            counts.0 + first.rare_count(),
+            counts.1 + second.rare_count(),
+        )
     }
 }

@@ -66,6 +66,11 @@ pub(crate) trait Rows: Copy {
         ensures value { (second : Bool) → number result second
             ≡ number counts second + set_count (bit self second) }
         ensures bound { (second : Bool) → number result second ≤ number counts second + 192 };
+
+    // As `add_to`, for rows that mostly are empty.
+    fn add_rare_to(self, counts: Self::Counts) -> Self::Counts
+        requires { (second : Bool) → number counts second ≤ 1000000 }
+        ensures { (second : Bool) → number result second ≡ number counts second + set_count (bit self second) };
 }
 
 pub(crate) trait Squares {
@@ -163,6 +168,11 @@ impl Rows for BitRow {
     #[inline(always)]
     fn add_to(self, counts: u32) -> u32 {
         counts + self.count()
+    }
+
+    #[inline(always)]
+    fn add_rare_to(self, counts: u32) -> u32 {
+        counts + self.rare_count()
     }
 }
 

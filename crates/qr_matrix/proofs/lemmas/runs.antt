@@ -6,3 +6,5 @@ pub mod ChargeLemmas
 pub mod ColumnLemmas
 -- The cost of the maximal runs of a row or column is the cost that is counted module by module.
 pub mod RunLemmas
+-- What is kept of the rows above tells where five equal modules of a column are.
+pub mod AboveLemmas

@@ -39,7 +39,7 @@ sum_below-swap zero m f = sym (sum_below-zero m)
 sum_below-swap (suc n) m f = let a = sum_below-swap n m f in let b = sum_below-add m (f n) (λ c. sum_below n (λ r. f r c)) in omega arith
 
 -- if f k is 0 for each k from s on, then the sum of f below d + s is the sum of f below s
-sum_below-cut : (s d : ℕ) (f : ℕ → ℕ) → ((k : ℕ) → s ≤ k → f k ≡ 0) → sum_below (d + s) f ≡ sum_below s f
+pub sum_below-cut : (s d : ℕ) (f : ℕ → ℕ) → ((k : ℕ) → s ≤ k → f k ≡ 0) → sum_below (d + s) f ≡ sum_below s f
 sum_below-cut s zero f e = ap (λ z. sum_below z f) (plain s)
   where
     plain : (s : ℕ) → 0 + s ≡ s

@@ -364,3 +364,43 @@ three-words a b d s pa pb pd c = elim (cases_lt c 192) [
   | inl k ↦ in-front (has (lane (a ∷ b ∷ d ∷ []) s) c) 192 c k
   | inr k ↦ (let e = high-bit a b d s pa pb c (omega arith) ∙ beyond (word_of d s) (word-small d s pd) (c - 128) (omega arith) in e ∙ beyond-front (has (lane (a ∷ b ∷ d ∷ []) s) c) 192 c k)
 ]
+
+-- the words a, b and d of a row, and what is put over the first one, two or three
+module _ (a b d x y z : List ℕ) (s : Bool) (pa : IsPair a) (pb : IsPair b) (px : IsPair x) (py : IsPair y) (c : ℕ) where
+  first-of : (p q : Bool) (n : ℕ) → c < n → p ≡ cond (ltb c n) p q
+  first-of p q n l = let t : ltb c n ≡ true = grind (arith, nat_tests) in sym (ap (λ z. cond z p q) t)
+
+  second-of : (p q : Bool) (n : ℕ) → n ≤ c → q ≡ cond (ltb c n) p q
+  second-of p q n l = let t : ltb c n ≡ false = grind (arith, nat_tests) in sym (ap (λ z. cond z p q) t)
+
+  abbrev new : Bool
+  new = has (lane (x ∷ y ∷ z ∷ []) s) c
+
+  abbrev old : Bool
+  old = has (lane (a ∷ b ∷ d ∷ []) s) c
+
+  pub over-one : has (lane (x ∷ b ∷ d ∷ []) s) c ≡ cond (ltb c 64) (has (lane (x ∷ y ∷ z ∷ []) s) c) (has (lane (a ∷ b ∷ d ∷ []) s) c)
+  over-one = elim (cases_lt c 64) [
+    | inl k ↦ low-bit x b d s px pb c k ∙ (sym (low-bit x y z s px py c k) ∙ first-of new old 64 k)
+    | inr k ↦ elim (cases_lt c 128) [
+      | inl n ↦ middle-bit x b d s px pb c k n ∙ (sym (middle-bit a b d s pa pb c k n) ∙ second-of new old 64 k)
+      | inr n ↦ high-bit x b d s px pb c n ∙ (sym (high-bit a b d s pa pb c n) ∙ second-of new old 64 k)
+    ]
+  ]
+
+  pub over-two : has (lane (x ∷ y ∷ d ∷ []) s) c ≡ cond (ltb c 128) (has (lane (x ∷ y ∷ z ∷ []) s) c) (has (lane (a ∷ b ∷ d ∷ []) s) c)
+  over-two = elim (cases_lt c 128) [
+    | inl n ↦ same (cases_lt c 64) n ∙ first-of new old 128 n
+    | inr n ↦ high-bit x y d s px py c n ∙ (sym (high-bit a b d s pa pb c n) ∙ second-of new old 128 n)
+  ]
+    where
+      same : (c < 64) ⊎ (64 ≤ c) → c < 128 → has (lane (x ∷ y ∷ d ∷ []) s) c ≡ has (lane (x ∷ y ∷ z ∷ []) s) c
+      same (inl k) n = low-bit x y d s px py c k ∙ sym (low-bit x y z s px py c k)
+      same (inr k) n = middle-bit x y d s px py c k n ∙ sym (middle-bit x y z s px py c k n)
+
+  pub over-three : IsPair d → IsPair z → has (lane (x ∷ y ∷ z ∷ []) s) c ≡ cond (ltb c 192) (has (lane (x ∷ y ∷ z ∷ []) s) c) (has (lane (a ∷ b ∷ d ∷ []) s) c)
+  over-three pd pz = elim (cases_lt c 192) [
+    | inl n ↦ first-of new old 192 n
+    | inr n ↦ (high-bit x y z s px py c (omega arith) ∙ beyond (word_of z s) (word-small z s pz) (c - 128) (omega arith))
+        ∙ sym (high-bit a b d s pa pb c (omega arith) ∙ beyond (word_of d s) (word-small d s pd) (c - 128) (omega arith)) ∙ second-of new old 192 n
+  ]

@@ -30,7 +30,7 @@ pub guarded : (s c : ℕ) (b : Bool) → (s ≤ c → b ≡ false) → b ≡ (lt
 guarded s c b h = search (arith, nat_tests, past)
 
 -- four tests that are each guarded by u are the same as the guard u together with the four tests
-guarded-five : (u a b d e : Bool) → (((u && a) && (u && b)) && ((u && d) && (u && e))) ≡ (u && ((a && b) && (d && e)))
+pub guarded-five : (u a b d e : Bool) → (((u && a) && (u && b)) && ((u && d) && (u && e))) ≡ (u && ((a && b) && (d && e)))
 guarded-five u a b d e = grind (arith, nat_tests)
 
 -- a bit that is set where four places in turn of a column are joined is set where five equal ones begin
@@ -39,7 +39,7 @@ unfolding begins_five
 five-down-bit s line c r x y z p q m n ex ey ez ep eq em en = search (arith, guarded-five)
 
 -- the guard u of three tests, of which the last two have the guards t and w too, is the guard of their disjunction
-guarded-three : (u t w f g h : Bool) → (((u && f) || (t && (u && g))) || (w && (u && h))) ≡ (u && ((f || (t && g)) || (w && h)))
+pub guarded-three : (u t w f g h : Bool) → (((u && f) || (t && (u && g))) || (w && (u && h))) ≡ (u && ((f || (t && g)) || (w && h)))
 guarded-three u t w f g h = grind (arith, nat_tests)
 
 -- as many numbers below 192 pass a test that is guarded by `below s` as numbers below s pass it

@@ -20,8 +20,8 @@ returns c = λ s.
     let g = one_of c.args.self.now s in
     let row = c.args.row in
     c.set_row.ensures s ∙ with_row-same g row (has (lane c.xor.result s)) _ (λ k l.
-    let p = both c.of-2.result c.bit_row_in-plain.result s c.of-2.ensures.first c.of-2.ensures.second k ∙ (c.bit_row_in-plain.ensures.colours k ∙ ap (λ z. colour c.args.plain.now z k) c.from-index.ensures) in
-    let w = both c.of.result c.bit_row_in-within.result s c.of.ensures.first c.of.ensures.second k ∙ (c.bit_row_in-within.ensures.colours k ∙ ap (λ z. colour c.args.within.now z k) c.from-index.ensures) in
+    let p = both c.of-2.result c.bit_row_in-plain.result s c.of-2.ensures.first c.of-2.ensures.second k ∙ c.bit_row_in-plain.ensures.colours k in
+    let w = both c.of.result c.bit_row_in-within.result s c.of.ensures.first c.of.ensures.second k ∙ c.bit_row_in-within.ensures.colours k in
     masked-one (has (lane c.xor.result s) k) (has (lane c.of-2.result s) k) (has (lane c.and-inverted.result s) k) (colour c.args.plain.now row k) (colour c.args.within.now row k && has (lane c.args.pattern s) k) (c.xor.ensures s k) p (c.and-inverted.ensures s k ∙ ap (λ z. z && has (lane c.args.pattern s) k) w))
   where
     masked-one : (d p x y m : Bool) → d ≡ not (is_same p x) → p ≡ y → x ≡ m → d ≡ cond m (not y) y

@@ -5,14 +5,14 @@ use Rattle.qr_matrix.proofs.matrix_pair.MatrixPair.set_rows_masked_in.Goals as g
 
 pub loop-row-init : goal.loop-row-init
 loop-row-init c = record {
-  turn = omega arith;
+  turn = omega (arith, c.from-row.ensures);
   so_far = λ s.
       let f = λ (r k : ℕ). cond (colour c.args.within.now r k && has_bit (cond s c.args.patterns.1 c.args.patterns.0) (k % 6)) (not (colour c.args.plain.now r k)) (colour c.args.plain.now r k) in
-      c.requires.squares s ∙ square-same _ _ _ (λ r k l m. sym (ap (λ z. cond z (f r k) (colour (one_of c.args.self.now s) r k)) (none-passed c.args.first r c.requires.first_in)));
+      c.requires.squares s ∙ square-same _ _ _ (λ r k l m. sym (ap (λ z. cond z (f r k) (colour (one_of c.args.self.now s) r k)) (ap (λ n. is-passed c.args.first n r) c.from-row.ensures ∙ none-passed c.args.first r c.requires.first_in)));
 }
 
 pub set_row_masked-requires-clause-row_in : goal.set_row_masked-requires-clause-row_in
-set_row_masked-requires-clause-row_in c = let e = ap (λ (g : Grid). g.side) (c.loop-row.invariant.so_far false) in omega (arith, c.side-side.ensures.first, c.loop-row-test.true)
+set_row_masked-requires-clause-row_in c = let e = ap (λ (g : Grid). g.side) (c.loop-row.invariant.so_far false) in omega (arith, c.from-side.ensures, c.side.ensures.first, c.loop-row-test.true)
 
 pub set_row_masked-requires-clause-plain_side : goal.set_row_masked-requires-clause-plain_side
 set_row_masked-requires-clause-plain_side c = c.requires.plain_side ∙ sym (ap (λ (g : Grid). g.side) (c.loop-row.invariant.so_far false))
@@ -44,7 +44,7 @@ loop-row-preserved c =
           c.set_row_masked.ensures s ∙ (ap (λ g. with_row g row line) (i.so_far s) ∙ square-same n _ _ (λ r k l m.
           ap (λ z. cond (eqb r row) (line k) z) (colour-square n before r k l m)
           ∙ passed-step c.args.first row r (line k) (f r k) (old r k) i.turn (λ e.
-          let b = each s c.of-pattern.result c.repeated.result c.repeated-2.result c.args.patterns.0 c.args.patterns.1 k (c.of-pattern.ensures.first k) (c.of-pattern.ensures.second k) (c.repeated.ensures k (omega (arith, c.side-side.ensures.first, c.side-side.ensures.most))) (c.repeated-2.ensures k (omega (arith, c.side-side.ensures.first, c.side-side.ensures.most))) in
+          let b = each s c.of-pattern.result c.repeated.result c.repeated-2.result c.args.patterns.0 c.args.patterns.1 k (c.of-pattern.ensures.first k) (c.of-pattern.ensures.second k) (c.repeated.ensures k (omega (arith, c.side.ensures.first, c.side.ensures.most))) (c.repeated-2.ensures k (omega (arith, c.side.ensures.first, c.side.ensures.most))) in
           ap (λ z. cond (colour c.args.within.now row k && z) (not (colour c.args.plain.now row k)) (colour c.args.plain.now row k)) b ∙ ap (λ z. f z k) (sym e))));
     }
 
@@ -53,4 +53,4 @@ returns c = λ s.
     let n = c.args.self.now.first.side in
     let f = λ (r k : ℕ). cond (colour c.args.within.now r k && has_bit (cond s c.args.patterns.1 c.args.patterns.0) (k % 6)) (not (colour c.args.plain.now r k)) (colour c.args.plain.now r k) in
     c.loop-row.invariant.so_far s ∙ square-same n _ _ (λ r k l m.
-    ap (λ z. cond z (f r k) (colour (one_of c.args.self.now s) r k)) (all-passed c.args.first c.loop-row.row r (omega (arith, c.side-side.ensures.first, c.loop-row-test.false))))
+    ap (λ z. cond z (f r k) (colour (one_of c.args.self.now s) r k)) (all-passed c.args.first c.loop-row.row r (omega (arith, c.from-side.ensures, c.side.ensures.first, c.loop-row-test.false))))
