@@ -1,7 +1,7 @@
 //! Tests of `==`, by which two values differ if one of their fields does, and of `clone`, which returns an equal value.
 
 use qr_bits::{BitFault, Header, Mode, ParseFault, Rule, Segment};
-use qr_layout::{Level, Module, Role, Strip, Version};
+use qr_layout::{Level, Place, Role, Strip, Version};
 use qr_parsing::DrawingFault;
 use qr_symbol::{EncodeFault, ReadFault};
 use qrencode_cli::{DrawFault, Drawing, Faults, ReadCounts, Trouble, WriteCounts};
@@ -17,9 +17,9 @@ fn of_the_layout(rt: HostRuntime) -> Result<(), Fail> {
     let role = Role::FormatBit(3);
     assert!(rt; role == role && role != Role::VersionBit(3) && role != Role::FormatBit(4));
     assert_eq!(rt; role.clone()?, role);
-    let place = Module { row: 1, col: 2 };
+    let place = Place { row: 1, col: 2 };
     assert!(rt;
-        place == place && place != Module { row: 1, col: 3 } && place != Module { row: 0, col: 2 }
+        place == place && place != Place { row: 1, col: 3 } && place != Place { row: 0, col: 2 }
     );
     assert_eq!(rt; place.clone()?, place);
     let blocks = first.blocks(Level::L);

@@ -1,7 +1,7 @@
 //! Tests of versions, blocks, format and version information, and of what each module is for.
 
 use qr_layout::{
-    Blocks, Level, Module, Role, Version, alignment_centres, cell, fixed_rectangles, format_word,
+    Blocks, Level, Place, Role, Version, alignment_centres, fixed_rectangles, format_word, role_at,
 };
 use std::test::Fail;
 
@@ -144,7 +144,7 @@ fn centres_without_the_corners(rt: HostRuntime) -> Result<(), Fail> {
     let places = alignment_centres(version);
     assert!(rt; places.len() == centres.len(), "six patterns");
     for (place, (row, col)) in places.iter().zip(centres) {
-        assert_eq!(rt; *place, Module { row, col });
+        assert_eq!(rt; *place, Place { row, col });
     }
     Ok(())
 }
@@ -164,7 +164,7 @@ fn role_at(number: u8, row: u8, col: u8) -> Option<Role> {
     let version = Version::new(number)?;
     let side = version.side();
     if row < side && col < side {
-        Some(cell(version, row, col))
+        Some(role_at(version, row, col))
     } else {
         None
     }

@@ -1,20 +1,20 @@
 //! Tests of the order in which codewords fill the encoding region.
 
-use qr_layout::laws::{default_module, first_version, nth_place};
-use qr_layout::{Module, Strip, Version, all_strips, region_len, walk, walk_after};
+use qr_layout::laws::{default_place, first_version, nth_place};
+use qr_layout::{Place, Strip, Version, all_strips, region_len, walk, walk_after};
 use std::test::Fail;
 
-fn place((row, col): (u8, u8)) -> Module {
-    Module { row, col }
+fn at((row, col): (u8, u8)) -> Place {
+    Place { row, col }
 }
 
 #[test]
 fn walk_of_version_1(rt: HostRuntime) -> Result<(), Fail> {
     let mut steps = walk(Version::FIRST);
     for begin in [(20, 20), (20, 19), (19, 20)] {
-        assert_eq!(rt; steps.next(), Some(place(begin)));
+        assert_eq!(rt; steps.next(), Some(at(begin)));
     }
-    assert_eq!(rt; steps.last(), Some(place((12, 0))));
+    assert_eq!(rt; steps.last(), Some(at((12, 0))));
     Ok(())
 }
 
@@ -47,9 +47,9 @@ fn walks_resumed(rt: HostRuntime) -> Result<(), Fail> {
         ),
     ] {
         let version = Version::new(number).ok_or("no such version")?;
-        let mut steps = walk_after(version, place(after)).ok_or("not in the region")?;
+        let mut steps = walk_after(version, at(after)).ok_or("not in the region")?;
         for next in then {
-            assert_eq!(rt; steps.next(), Some(place(next)), "{name}");
+            assert_eq!(rt; steps.next(), Some(at(next)), "{name}");
         }
     }
     Ok(())
@@ -58,14 +58,14 @@ fn walks_resumed(rt: HostRuntime) -> Result<(), Fail> {
 #[test]
 fn walks_that_end_or_do_not_begin(rt: HostRuntime) -> Result<(), Fail> {
     let version = Version::FIRST;
-    let mut end = walk_after(version, place((12, 0))).ok_or("not in the region")?;
+    let mut end = walk_after(version, at((12, 0))).ok_or("not in the region")?;
     assert_eq!(rt; end.next(), None, "after the last module");
     assert!(rt;
-        walk_after(version, place((6, 6))).is_none(),
+        walk_after(version, at((6, 6))).is_none(),
         "a function module"
     );
     assert!(rt;
-        walk_after(version, place((21, 0))).is_none(),
+        walk_after(version, at((21, 0))).is_none(),
         "outside the symbol"
     );
     Ok(())
@@ -98,9 +98,9 @@ fn lengths_of_the_region(rt: HostRuntime) -> Result<(), Fail> {
 #[test]
 fn walk_over_column_6(rt: HostRuntime) -> Result<(), Fail> {
     let version = Version::FIRST;
-    let mut steps = walk_after(version, Module { row: 9, col: 7 }).ok_or("not in the region")?;
+    let mut steps = walk_after(version, Place { row: 9, col: 7 }).ok_or("not in the region")?;
     for (row, col) in [(9, 5), (9, 4), (10, 5)] {
-        assert_eq!(rt; steps.next(), Some(Module { row, col }));
+        assert_eq!(rt; steps.next(), Some(Place { row, col }));
     }
     Ok(())
 }
@@ -126,16 +126,16 @@ fn strips_of_version_1(rt: HostRuntime) -> Result<(), Fail> {
 #[test]
 fn first_values(rt: HostRuntime) {
     assert_eq!(rt; first_version().number(), 1);
-    assert_eq!(rt; default_module(), Module { row: 0, col: 0 });
+    assert_eq!(rt; default_place(), Place { row: 0, col: 0 });
 }
 
 #[test]
 fn places_by_their_numbers(rt: HostRuntime) -> Result<(), Fail> {
     let version = Version::FIRST;
     for (number, want) in [
-        (0, Some(Module { row: 20, col: 20 })),
-        (2, Some(Module { row: 19, col: 20 })),
-        (207, Some(Module { row: 12, col: 0 })),
+        (0, Some(Place { row: 20, col: 20 })),
+        (2, Some(Place { row: 19, col: 20 })),
+        (207, Some(Place { row: 12, col: 0 })),
         (208, None),
     ] {
         assert_eq!(rt; nth_place(version, number), want, "number {number}");

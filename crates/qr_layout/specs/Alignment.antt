@@ -2,7 +2,7 @@
 -- the same numbers as the rows.
 use Rattle.std.specs.Prelude.{ℕ, ◌-◌, Bool, ◌&&◌, ◌||◌, ◌==◌, if◌then◌else◌, List, [], ◌∷◌}
 use Rattle.std.specs.List.{flat_map, slice_index_or}
-use Rattle.qr_layout.specs.declared.region.Module.{Module}
+use Rattle.qr_layout.specs.declared.region.Place.{Place}
 
 -- The rows of centres for each of the versions 1 to 40 (ISO/IEC 18004:2015, Annex E)
 abbrev pub centre_table : List (List ℕ)
@@ -24,5 +24,5 @@ is_corner_pair s a b = (a == 6 && b == 6) || (a == 6 && b == s - 7) || (a == s -
 
 -- The centres for the rows `cs`: all places whose row and column are in `cs`, but for the corners with a finder pattern
 -- (ISO/IEC 18004:2015, 6.3.6)
-abbrev pub alignment_places : ℕ → List ℕ → List Module
+abbrev pub alignment_places : ℕ → List ℕ → List Place
 alignment_places s cs = flat_map (λ a. flat_map (λ b. if is_corner_pair s a b then [] else record { row = a; col = b } ∷ []) cs) cs

@@ -1,5 +1,5 @@
 -- How the codewords of a symbol of version `v` at level `l` are divided into blocks.
-use Rattle.std.specs.Prelude.{◌≡◌, ℕ, ◌≤◌, ◌-◌, ◌+◌, ◌*◌, ◌/◌, ◌%◌, min, List, [], ◌∷◌}
+use Rattle.std.specs.Prelude.{◌≡◌, ℕ, ◌≤◌, ◌-◌, ◌+◌, ◌*◌, ◌/◌, ◌%◌, ◌==◌, if◌then◌else◌, min, List, [], ◌∷◌}
 use Rattle.std.specs.List.{slice_index_or}
 use Rattle.qr_layout.specs.declared.blocks.Blocks.{Blocks}
 use Rattle.qr_layout.specs.declared.level.Level.{Level}
@@ -43,6 +43,22 @@ blocks_of v l = record {
   long = data_codewords_of v l % block_count_of v l;
   ec_len = correction_len_of v l;
 }
+
+-- How many error correction codewords of a block only detect errors, so that fewer damaged blocks are corrected to a
+-- wrong one. The standard calls this misdecode protection (ISO/IEC 18004:2015, 7.5.1, Table 9)
+abbrev pub protection_of : ℕ → Level → ℕ
+protection_of v L = if v == 1 then 3 else (if v == 2 then 2 else (if v == 3 then 1 else 0))
+protection_of v M = if v == 1 then 2 else 0
+protection_of v Q = if v == 1 then 1 else 0
+protection_of v H = if v == 1 then 1 else 0
+
+-- How many error correction codewords of a block correct errors (ISO/IEC 18004:2015, 7.5.1, Table 9)
+abbrev pub spare_of : ℕ → Level → ℕ
+spare_of v l = (blocks_of v l).ec_len - protection_of v l
+
+-- How many misread codewords can be corrected in a block without erased ones (ISO/IEC 18004:2015, 7.5.1, Table 9)
+abbrev pub correctable_of : ℕ → Level → ℕ
+correctable_of v l = spare_of v l / 2
 
 -- The number of codewords of a long block, or of a short one if there is no long block (ISO/IEC 18004:2015, 7.5.1,
 -- Table 9)

@@ -7,6 +7,7 @@ use Rattle.qr_layout.specs.declared.level.Level.TheVariants.{L, M, Q, H}
 use Rattle.qr_layout.specs.declared.role.Role.{Role}
 use Rattle.qr_layout.specs.declared.role.Role.TheVariants.{Fixed, FormatBit, VersionBit, Region}
 use Rattle.qr_layout.specs.Version.{side_of}
+use Rattle.qr_layout.specs.Blocks.{protection_of}
 use Rattle.qr_layout.specs.Alignment.{centres_of}
 
 -- The versions 1 to 40 [own]
@@ -27,19 +28,10 @@ printed_errors M = 4 ∷ 8 ∷ 13 ∷ 9 ∷ 12 ∷ 8 ∷ 9 ∷ 11 ∷ 11 ∷ 13 
 printed_errors Q = 6 ∷ 11 ∷ 9 ∷ 13 ∷ 9 ∷ 12 ∷ 9 ∷ 11 ∷ 10 ∷ 12 ∷ 14 ∷ 13 ∷ 12 ∷ 10 ∷ 15 ∷ 12 ∷ 14 ∷ 14 ∷ 13 ∷ 15 ∷ 14 ∷ 15 ∷ 15 ∷ 15 ∷ 15 ∷ 14 ∷ 15 ∷ 15 ∷ 15 ∷ 15 ∷ 15 ∷ 15 ∷ 15 ∷ 15 ∷ 15 ∷ 15 ∷ 15 ∷ 15 ∷ 15 ∷ 15 ∷ []
 printed_errors H = 8 ∷ 14 ∷ 11 ∷ 8 ∷ 11 ∷ 14 ∷ 13 ∷ 13 ∷ 12 ∷ 14 ∷ 12 ∷ 14 ∷ 11 ∷ 12 ∷ 12 ∷ 15 ∷ 14 ∷ 14 ∷ 13 ∷ 14 ∷ 15 ∷ 12 ∷ 15 ∷ 15 ∷ 15 ∷ 15 ∷ 15 ∷ 15 ∷ 15 ∷ 15 ∷ 15 ∷ 15 ∷ 15 ∷ 15 ∷ 15 ∷ 15 ∷ 15 ∷ 15 ∷ 15 ∷ 15 ∷ []
 
--- How many misdecode protection codewords a block has, from version 1 on; versions after the last number have none.
--- They are error correction codewords that only detect errors, so that a damaged block is less likely read as another
--- message (ISO/IEC 18004:2015, 7.5.1, Table 9)
-abbrev pub printed_protection : Level → List ℕ
-printed_protection L = 3 ∷ 2 ∷ 1 ∷ []
-printed_protection M = 2 ∷ []
-printed_protection Q = 1 ∷ []
-printed_protection H = 1 ∷ []
-
 -- Two error correction codewords for each misread codeword that can be corrected, and the misdecode protection
 -- codewords (ISO/IEC 18004:2015, 7.5.1, Table 9)
 abbrev pub printed_correction : Level → ℕ → ℕ
-printed_correction l v = 2 * slice_index_or (printed_errors l) (v - 1) 0 + slice_index_or (printed_protection l) (v - 1) 0
+printed_correction l v = 2 * slice_index_or (printed_errors l) (v - 1) 0 + protection_of v l
 
 -- With `k` rows of centres, the distance between neighbours from the second row on. It is the least even number that,
 -- taken `k - 1` times, reaches from row 6 to the last row of centres; but in version 32 it is 26 (ISO/IEC 18004:2015,

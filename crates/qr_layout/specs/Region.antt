@@ -3,7 +3,7 @@
 use Rattle.std.specs.Prelude.{◌≡◌, ℕ, ◌-◌, Bool, true, max, not, ◌&&◌, ◌||◌, ◌==◌, nat_lt, nat_le}
 use Rattle.std.specs.Int.{abs_diff}
 use Rattle.std.specs.List.{list_any}
-use Rattle.qr_layout.specs.declared.region.Module.{Module}
+use Rattle.qr_layout.specs.declared.region.Place.{Place}
 use Rattle.qr_layout.specs.Version.{side_of}
 use Rattle.qr_layout.specs.Alignment.{centres_of, alignment_places}
 
@@ -17,13 +17,13 @@ abbrev pub is_timing : ℕ → ℕ → Bool
 is_timing r c = r == 6 || c == 6
 
 -- The place is in the block of version information beside the top right finder pattern (ISO/IEC 18004:2015, 7.10)
-abbrev pub is_version_block : ℕ → ℕ → ℕ → Bool
-is_version_block s r c = nat_lt r 6 && (nat_le (s - 11) c && nat_lt c (s - 8))
+abbrev pub is_version_copy : ℕ → ℕ → ℕ → Bool
+is_version_copy s r c = nat_lt r 6 && (nat_le (s - 11) c && nat_lt c (s - 8))
 
 -- The place is in one of the two blocks of version information, which symbols have from version 7 on (ISO/IEC
 -- 18004:2015, 7.10)
 abbrev pub is_version_information : ℕ → ℕ → ℕ → Bool
-is_version_information v r c = nat_le 7 v && (is_version_block (side_of v) r c || is_version_block (side_of v) c r)
+is_version_information v r c = nat_le 7 v && (is_version_copy (side_of v) r c || is_version_copy (side_of v) c r)
 
 -- The number of the square ring that contains the place: ring 0 is the place (a, b), and ring 1 surrounds it [own]
 abbrev pub ring_of : ℕ → ℕ → ℕ → ℕ → ℕ
@@ -41,5 +41,5 @@ is_in_region v r c =
     && not (is_corner (side_of v) r c || is_timing r c || is_version_information v r c || is_alignment v r c)
 
 -- `is_in_region` as a statement on a module (ISO/IEC 18004:2015, 6.3.7, 7.7.3)
-abbrev pub InRegion : ℕ → Module → Type 0
+abbrev pub InRegion : ℕ → Place → Type 0
 InRegion v m = is_in_region v m.row m.col ≡ true

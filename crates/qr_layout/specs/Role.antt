@@ -2,7 +2,7 @@
 use Rattle.std.specs.Prelude.{ℕ, ◌+◌, ◌-◌, ◌/◌, ◌%◌, min, Bool, true, false, not, ◌&&◌, ◌||◌, nat_lt, ◌==◌, if◌then◌else◌, Option, None, Some}
 use Rattle.std.specs.List.{find, list_any, range_with_len}
 use Rattle.std.specs.Option.{option_map_or}
-use Rattle.qr_layout.specs.declared.region.Module.{Module}
+use Rattle.qr_layout.specs.declared.region.Place.{Place}
 use Rattle.qr_layout.specs.declared.role.Role.{Role}
 use Rattle.qr_layout.specs.declared.role.Role.TheVariants.{Fixed, FormatBit, VersionBit, Region}
 use Rattle.qr_layout.specs.Version.{side_of}
@@ -30,7 +30,7 @@ pattern_colour v r c =
 
 -- The place of bit `i` of the format information in the first copy, beside the top left finder pattern (ISO/IEC
 -- 18004:2015, 7.9.1)
-abbrev pub first_place : ℕ → Module
+abbrev pub first_place : ℕ → Place
 first_place i = record {
   row = if nat_lt i 6 then i else (if i == 6 then 7 else 8);
   col = if nat_lt i 8 then 8 else (if i == 8 then 7 else 14 - i);
@@ -38,7 +38,7 @@ first_place i = record {
 
 -- The place of bit `i` of the format information in the second copy, beside the top right and the bottom left finder
 -- pattern (ISO/IEC 18004:2015, 7.9.1)
-abbrev pub second_place : ℕ → ℕ → Module
+abbrev pub second_place : ℕ → ℕ → Place
 second_place s i = record {
   row = if nat_lt i 8 then 8 else s - 15 + i;
   col = if nat_lt i 8 then s - 1 - i else 8;
@@ -46,15 +46,15 @@ second_place s i = record {
 
 -- The place of bit `i` of the version information in the copy beside the top right finder pattern. In the copy beside
 -- the bottom left one, rows and columns are exchanged (ISO/IEC 18004:2015, 7.10)
-abbrev pub version_place : ℕ → ℕ → Module
+abbrev pub version_place : ℕ → ℕ → Place
 version_place s i = record { row = i / 3; col = s - 11 + i % 3 }
 
 -- Row and column exchanged [own]
-abbrev pub mirror_of : Module → Module
+abbrev pub mirror_of : Place → Place
 mirror_of m = record { row = m.col; col = m.row }
 
 -- Equality of places [own]
-abbrev pub is_at : Module → ℕ → ℕ → Bool
+abbrev pub is_at : Place → ℕ → ℕ → Bool
 is_at m r c = m.row == r && m.col == c
 
 -- The index of the bit of the format information that the module contains (ISO/IEC 18004:2015, 7.9.1)

@@ -1,22 +1,22 @@
 -- The strips of a symbol and their places, of which some are outside the encoding region.
 use Rattle.std.specs.Prelude.{ℕ, ◌+◌, ◌-◌, ◌*◌, ◌%◌, ◌==◌, nat_lt, if◌then◌else◌, List, [], ◌∷◌, ◌++◌}
 use Prim.Native.Nat.{zero, suc}
-use Rattle.qr_layout.specs.declared.region.Module.{Module}
+use Rattle.qr_layout.specs.declared.region.Place.{Place}
 use Rattle.qr_layout.specs.declared.strips.Strip.{Strip}
 
 -- The places of `n` modules in the right column of a strip, in the order in which it is filled, after its first `k`
 -- rows. `s` is the number of modules on a side (ISO/IEC 18004:2015, 7.7.3)
-abbrev pub rows_from : ℕ → Strip → ℕ → ℕ → List Module
+abbrev pub rows_from : ℕ → Strip → ℕ → ℕ → List Place
 rows_from s strip k zero = []
 rows_from s strip k (suc n) = record { row = if strip.upward then s - 1 - k else k; col = strip.right } ∷ rows_from s strip (k + 1) n
 
 -- Each place, and after it the place to its left (ISO/IEC 18004:2015, 7.7.3)
-abbrev pub both_of : List Module → List Module
+abbrev pub both_of : List Place → List Place
 both_of [] = []
 both_of (m ∷ ms) = m ∷ record { row = m.row; col = m.col - 1 } ∷ both_of ms
 
 -- The places of all rows of the strips, one strip after the other (ISO/IEC 18004:2015, 7.7.3)
-abbrev pub places_of : ℕ → List Strip → List Module
+abbrev pub places_of : ℕ → List Strip → List Place
 places_of s [] = []
 places_of s (x ∷ xs) = both_of (rows_from s x 0 s) ++ places_of s xs
 

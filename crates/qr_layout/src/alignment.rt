@@ -8,7 +8,7 @@ ghost use Rattle.qr_layout.specs.Version.{side_of};
 ghost use Rattle.qr_layout.specs.Alignment.{alignment_places, centres_of, is_corner_pair};
 ghost use Rattle.qr_layout.specs.Region.{is_alignment};
 
-use crate::region::Module;
+use crate::region::Place;
 use crate::version::Version;
 use arrayvec::ArrayVec;
 
@@ -57,10 +57,10 @@ static CENTRES: [[u8; 7]; 40] = [
 ];
 
 // The entry of `CENTRES` without the zeros that fill it up.
-fn centre_list(v: Version) -> &'static [u8]
-    ensures { result.now ≡ centres_of v }
+fn centre_list(version: Version) -> &'static [u8]
+    ensures { result.now ≡ centres_of version }
 {
-    let number = v.number();
+    let number = version.number();
     let many = if number == 1 {
         0
     } else {
@@ -126,15 +126,15 @@ fn is_in_pattern(centres: &[u8], side: u8, row: u8, col: u8) -> bool
 }
 
 #[tactic(auto, using(crate::proofs::lemmas::alignment::AlignmentLemmas::alignment_parts))]
-pub(crate) fn is_in_alignment(v: Version, row: u8, col: u8) -> bool
-    ensures { result ≡ is_alignment v row col }
+pub(crate) fn is_in_alignment(version: Version, row: u8, col: u8) -> bool
+    ensures { result ≡ is_alignment version row col }
 {
-    let side = v.side();
-    let centres = centre_list(v);
+    let side = version.side();
+    let centres = centre_list(version);
     is_in_pattern(centres, side, row, col)
 }
 
-fn push_centres(places: &mut ArrayVec<Module, 49>, centres: &[u8], side: u8, row: u8)
+fn push_centres(places: &mut ArrayVec<Place, 49>, centres: &[u8], side: u8, row: u8)
     requires side_in { 21 ≤ side }
     requires room { array_vec_len places.old + length centres.now ≤ 49 }
     ensures items { places.new.items ≡ places.old.items
@@ -143,18 +143,18 @@ fn push_centres(places: &mut ArrayVec<Module, 49>, centres: &[u8], side: u8, row
 {
     for col in centres {
         if !is_corner_pair(side, row, *col) {
-            places.push(Module { row, col: *col });
+            places.push(Place { row, col: *col });
         }
     }
 }
 
-/// Returns the centres of the alignment patterns of version `v`, row by row from the top, and in each row from left to
+/// Returns the centres of the alignment patterns of version `version`, row by row from the top, and in each row from left to
 /// right.
-pub fn alignment_centres(v: Version) -> ArrayVec<Module, 49>
-    ensures { result.items ≡ alignment_places (side_of v) (centres_of v) }
+pub fn alignment_centres(version: Version) -> ArrayVec<Place, 49>
+    ensures { result.items ≡ alignment_places (side_of version) (centres_of version) }
 {
-    let side = v.side();
-    let centres = centre_list(v);
+    let side = version.side();
+    let centres = centre_list(version);
     let mut places = ArrayVec::new();
     for row in centres {
         push_centres(&mut places, centres, side, *row);

@@ -1,7 +1,7 @@
 //! Divides the codewords of a symbol into blocks (ISO/IEC 18004:2015, 7.5.1, Table 9).
 
 ghost use Rattle.std.specs.Prelude.{◌≡◌};
-ghost use Rattle.qr_layout.specs.Blocks.{correction_len_of, block_count_of, data_codewords_of, blocks_of};
+ghost use Rattle.qr_layout.specs.Blocks.{correction_len_of, block_count_of, data_codewords_of, blocks_of, protection_of, spare_of, correctable_of};
 
 use crate::level::Level;
 use crate::version::Version;
@@ -79,6 +79,37 @@ impl Version {
             Level::H => &BLOCK_COUNTS[3],
         };
         counts[usize::from(self.number() - 1)]
+    }
+
+    // How many error correction codewords of a block only detect errors, so that fewer damaged blocks are corrected to a
+    // wrong one. The standard calls this misdecode protection.
+    fn protection(self, level: Level) -> u8
+        ensures { result ≡ protection_of self level }
+    {
+        match (level, self.number()) {
+            (Level::L, 1) => 3,
+            (Level::L, 2) | (Level::M, 1) => 2,
+            (Level::L, 3) | (Level::Q | Level::H, 1) => 1,
+            _ => 0,
+        }
+    }
+
+    /// Returns how many error correction codewords of a block correct errors, from 4 to 30. They are all that the block
+    /// has, but for one to three in some levels of the versions 1 to 3, which only detect errors (ISO/IEC 18004:2015,
+    /// 7.5.1, Table 9).
+    pub fn spare(self, level: Level) -> u8
+        ensures { result ≡ spare_of self level }
+    {
+        self.correction_len(level)
+            .saturating_sub(self.protection(level))
+    }
+
+    /// Returns how many misread codewords of a block can be corrected if no codeword of the block is known to be
+    /// unreadable, from 2 to 15 (ISO/IEC 18004:2015, 7.5.1, Table 9).
+    pub fn correctable(self, level: Level) -> u8
+        ensures { result ≡ correctable_of self level }
+    {
+        self.spare(level) / 2
     }
 
     /// Returns the number of data codewords at a level, from 9 in version 1 at level H to 2,956 in version 40 at level

@@ -3,83 +3,84 @@
 
 ghost use Rattle.std.specs.Prelude.{◌≡◌, ◌<◌, ◌≤◌, ◌-◌, ◌*◌, ◌/◌, ◌⊎◌, ◌↔◌, ◌||◌, not, true, ℕ, List, ◌∷◌, ◌++◌, length, map, slice_get, IsTrue, IfOk};
 ghost use Rattle.std.specs.List.{list_any, range_with_len};
-ghost use Rattle.qr_layout.specs.declared.region.Module.{Module};
+ghost use Rattle.qr_layout.specs.declared.region.Place.{Place};
+ghost use Rattle.qr_layout.specs.declared.level.Level.{Level};
 ghost use Rattle.qr_layout.specs.declared.level.Level.TheVariants.{L, M, Q, H};
 ghost use Rattle.qr_layout.specs.declared.role.Role.TheVariants.{Fixed, FormatBit, VersionBit, Region};
 ghost use Rattle.qr_layout.specs.Version.{side_of, module_count_of};
-ghost use Rattle.qr_layout.specs.Blocks.{correction_len_of, data_codewords_of, blocks_of, longest_of, damage_of, AreWhole};
+ghost use Rattle.qr_layout.specs.Blocks.{correction_len_of, data_codewords_of, blocks_of, longest_of, damage_of, protection_of, spare_of, correctable_of, AreWhole};
 ghost use Rattle.qr_layout.specs.Format.{five_bits, format_word_of, version_word_of, IsFormatWord, IsVersionWord};
 ghost use Rattle.qr_layout.specs.Alignment.{centres_of};
 ghost use Rattle.qr_layout.specs.Region.{is_alignment, is_in_region, InRegion};
 ghost use Rattle.qr_layout.specs.Rectangles.{AreFixed, is_in_rectangle};
 ghost use Rattle.qr_layout.specs.declared.rectangles.Rectangle.{Rectangle};
-ghost use Rattle.qr_layout.specs.Order.{IsOrder, number_of, places_passing};
+ghost use Rattle.qr_layout.specs.Order.{IsOrder, index_of, places_passing};
 ghost use Rattle.qr_layout.specs.Role.{first_place, second_place, version_place, mirror_of, role_of};
-ghost use Rattle.qr_layout.specs.Laws.{all_versions, printed_correction, printed_data, spaced_centres, region_size, row_6, row_8, column_8, alignment_figure, finder_figure, version_figure};
+ghost use Rattle.qr_layout.specs.Laws.{all_versions, printed_correction, printed_data, printed_errors, spaced_centres, region_size, row_6, row_8, column_8, alignment_figure, finder_figure, version_figure};
 
 use crate::blocks::Blocks;
 use crate::level::Level;
 use crate::order::walk;
 use crate::rectangles::Rectangle;
-use crate::region::Module;
+use crate::region::Place;
 use crate::role::Role;
 use crate::strips::Strip;
 use crate::version::Version;
 use std::alloc::AllocError;
 
 /// A version has at most one order of its encoding region.
-pub fn order_is_one(v: Version)
-    ensures { (ms ns : List Module) → IsOrder v ms → IsOrder v ns → ms ≡ ns }
+pub fn order_is_one(version: Version)
+    ensures { (ms ns : List Place) → IsOrder version ms → IsOrder version ns → ms ≡ ns }
 {}
 
 /// The order has a module for each bit of the codewords and for each remainder bit, at most 29,648.
-pub fn order_is_full(v: Version)
-    ensures count { (ms : List Module) → IsOrder v ms → length ms ≡ module_count_of v }
-    ensures most { module_count_of v ≤ 29648 }
+pub fn order_is_full(version: Version)
+    ensures count { (ms : List Place) → IsOrder version ms → length ms ≡ module_count_of version }
+    ensures most { module_count_of version ≤ 29648 }
 {}
 
 /// The encoding region has as many modules as the symbol, less those of the three corners, the timing patterns, the
 /// alignment patterns and the version information. The corners have the finder patterns, separators, format information
 /// and the dark module. Table 1 of the standard gives the same number, as bits of codewords and remainder bits.
-pub fn region_is_counted(v: Version)
-    ensures region { places_passing (side_of v) (is_in_region v) ≡ region_size v }
-    ensures filled { module_count_of v ≡ region_size v }
+pub fn region_is_counted(version: Version)
+    ensures region { places_passing (side_of version) (is_in_region version) ≡ region_size version }
+    ensures filled { module_count_of version ≡ region_size version }
 {}
 
 /// If rectangles meet the contract of `fixed_rectangles`, the encoding region is all modules of the symbol that are in
 /// none of them and in no alignment pattern.
 #[tactic(auto, using(crate::proofs::lemmas::alignment::AlignmentLemmas::region_outside))]
-pub fn region_is_outside(v: Version)
-    ensures { (bs : List Rectangle) → AreFixed v bs → (r c : ℕ) → r < side_of v → c < side_of v → is_in_region v r c
-        ≡ not (list_any (is_in_rectangle r c) bs || is_alignment v r c) }
+pub fn region_is_outside(version: Version)
+    ensures { (bs : List Rectangle) → AreFixed version bs → (r c : ℕ) → r < side_of version → c < side_of version → is_in_region version r c
+        ≡ not (list_any (is_in_rectangle r c) bs || is_alignment version r c) }
 {}
 
 /// The encoding region remains the same if rows and columns are exchanged.
-pub fn region_is_symmetric(v: Version)
-    ensures { (r c : ℕ) → is_in_region v r c ≡ is_in_region v c r }
+pub fn region_is_symmetric(version: Version)
+    ensures { (r c : ℕ) → is_in_region version r c ≡ is_in_region version c r }
 {}
 
-/// `number_of` counts the modules that come before a module in the order.
-pub fn number_counts(v: Version)
-    ensures { (front back : List Module) (m : Module) → IsOrder v (front ++ m ∷ back)
-        → number_of v m ≡ length front }
+/// `index_of` counts the modules that come before a module in the order.
+pub fn index_counts(version: Version)
+    ensures { (front back : List Place) (m : Place) → IsOrder version (front ++ m ∷ back)
+        → index_of version m ≡ length front }
 {}
 
-/// The modules of the encoding region are numbered from 0 without gaps: each number below their count belongs to
-/// exactly one of them.
-pub fn numbers_are_places(v: Version)
-    ensures below { (m : Module) → InRegion v m → number_of v m < module_count_of v }
-    ensures one_place { (m n : Module) → InRegion v m → InRegion v n
-        → number_of v m ≡ number_of v n → m ≡ n }
-    ensures each_number { (n : ℕ) → n < module_count_of v
-        → (m : Module) × InRegion v m × (number_of v m ≡ n) }
+/// The indices of the modules of the encoding region begin with 0 and have no gaps: each index below the number of these
+/// modules is that of exactly one of them.
+pub fn indices_are_places(version: Version)
+    ensures below { (m : Place) → InRegion version m → index_of version m < module_count_of version }
+    ensures one_place { (m n : Place) → InRegion version m → InRegion version n
+        → index_of version m ≡ index_of version n → m ≡ n }
+    ensures each_index { (n : ℕ) → n < module_count_of version
+        → (m : Place) × InRegion version m × (index_of version m ≡ n) }
 {}
 
-/// Returns the module with the index `number` in the order of version `v`, or `None` if the order is shorter.
-pub fn nth_place(v: Version, number: usize) -> Option<Module>
-    ensures { (ms : List Module) → IsOrder v ms → result ≡ slice_get ms number }
+/// Returns the module with the index `index` in the order of version `version`, or `None` if the order is shorter.
+pub fn nth_place(version: Version, index: usize) -> Option<Place>
+    ensures { (ms : List Place) → IsOrder version ms → result ≡ slice_get ms index }
 {
-    walk(v).nth(number)
+    walk(version).nth(index)
 }
 
 /// For the versions 2 to 40, the centres of alignment patterns have the distances that follow from the rule of Annex E;
@@ -108,33 +109,56 @@ pub fn correction_lens_compute()
     ensures h { map (λ v. correction_len_of v H) all_versions ≡ map (printed_correction H) all_versions }
 {}
 
+/// For every version and level, as many misread codewords of a block can be corrected as Table 9 of the standard prints.
+#[tactic(auto, unfolding(crate::specs::Blocks::correction_len_of))]
+pub fn correctable_numbers_compute()
+    ensures l { map (λ v. correctable_of v L) all_versions ≡ printed_errors L }
+    ensures m { map (λ v. correctable_of v M) all_versions ≡ printed_errors M }
+    ensures q { map (λ v. correctable_of v Q) all_versions ≡ printed_errors Q }
+    ensures h { map (λ v. correctable_of v H) all_versions ≡ printed_errors H }
+{}
+
+/// In six pairs of version and level some error correction codewords of a block only detect errors. From version 4 on
+/// all of them correct errors, and in the versions 2 and 3 all of the levels M, Q and H.
+#[tactic(auto, unfolding(crate::specs::Blocks::correction_len_of))]
+pub fn protection_computes()
+    ensures protection_one { protection_of 1 L ≡ 3 × protection_of 1 M ≡ 2 }
+    ensures protection_one_more { protection_of 1 Q ≡ 1 × protection_of 1 H ≡ 1 }
+    ensures protection_more { protection_of 2 L ≡ 2 × protection_of 3 L ≡ 1 }
+    ensures protection { (v : ℕ) (l : Level) → 4 ≤ v → protection_of v l ≡ 0 }
+    ensures protection_two { protection_of 2 M ≡ 0 × protection_of 2 Q ≡ 0 × protection_of 2 H ≡ 0 }
+    ensures protection_three { protection_of 3 M ≡ 0 × protection_of 3 Q ≡ 0 × protection_of 3 H ≡ 0 }
+    ensures spare_one { spare_of 1 L ≡ 4 × spare_of 1 M ≡ 8 × spare_of 1 Q ≡ 12 × spare_of 1 H ≡ 16 }
+    ensures spare_more { spare_of 2 M ≡ 16 × spare_of 3 L ≡ 14 × spare_of 40 H ≡ 30 }
+{}
+
 /// The blocks together contain all data codewords and all error correction codewords of the symbol. Each block has at
 /// least one data codeword and from 1 to 30 error correction codewords.
-pub fn blocks_are_whole(v: Version, level: Level)
-    ensures { AreWhole v level (blocks_of v level) }
+pub fn blocks_are_whole(version: Version, level: Level)
+    ensures { AreWhole version level (blocks_of version level) }
 {}
 
 /// A block has at most 153 codewords in all, as the longest blocks of version 27 at level L have.
 #[tactic(auto, unfolding(crate::specs::Blocks::data_codewords_of, crate::specs::Blocks::block_count_of, crate::specs::Blocks::correction_len_of, crate::specs::Version::total_codewords_of))]
-pub fn blocks_are_short(v: Version, level: Level)
-    ensures most { longest_of (blocks_of v level) ≤ 153 }
+pub fn blocks_are_short(version: Version, level: Level)
+    ensures most { longest_of (blocks_of version level) ≤ 153 }
     ensures reached { longest_of (blocks_of 27 L) ≡ 153 }
 {}
 
 /// Half of a block's error correction codewords, rounded down, are at least 9 % of its codewords at level L, 17 % at M,
 /// 23 % at Q and 30 % at H. By the laws of `qr_field`, what was read determines the block if no more are misread and
 /// none is erased.
-pub fn blocks_stand_damage(v: Version, level: Level)
-    ensures { damage_of level * longest_of (blocks_of v level)
-        ≤ 100 * ((blocks_of v level).ec_len / 2) }
+pub fn blocks_stand_damage(version: Version, level: Level)
+    ensures { damage_of level * longest_of (blocks_of version level)
+        ≤ 100 * ((blocks_of version level).ec_len / 2) }
 {}
 
 /// A symbol has at most 232 data codewords up to version 9, 1,370 up to version 26, and 2,956 in all versions. After
 /// the versions 9 and 26 some character count indicators become longer.
-pub fn data_is_bounded(v: Version, level: Level)
-    ensures small { v ≤ 9 → data_codewords_of v level ≤ 232 }
-    ensures middle { v ≤ 26 → data_codewords_of v level ≤ 1370 }
-    ensures most { data_codewords_of v level ≤ 2956 }
+pub fn data_is_bounded(version: Version, level: Level)
+    ensures small { version ≤ 9 → data_codewords_of version level ≤ 232 }
+    ensures middle { version ≤ 26 → data_codewords_of version level ≤ 1370 }
+    ensures most { data_codewords_of version level ≤ 2956 }
 {}
 
 /// The 15 bits of format information are five data bits, for the level and the mask, and the ten bits of the remainder
@@ -145,8 +169,8 @@ pub fn format_words_are_remainders(level: Level, mask: u8)
 
 /// The 18 bits of version information are six bits for the version, and the twelve bits of the remainder that Annex D
 /// of the standard defines.
-pub fn version_words_are_remainders(v: Version)
-    ensures { IsVersionWord v (version_word_of v) }
+pub fn version_words_are_remainders(version: Version)
+    ensures { IsVersionWord version (version_word_of version) }
 {}
 
 /// The definitions `format_word_of` and `version_word_of` give six words that Annexes C and D of the standard print;
@@ -164,9 +188,9 @@ pub fn words_compute()
 /// In version 1, the modules of row 8, column 8 and row 6 have the roles that the figures of the standard show.
 #[tactic(auto, unfolding(crate::specs::Role::role_of, crate::specs::Role::pattern_colour, crate::specs::Role::is_alignment_light, crate::specs::Role::format_bit_at, crate::specs::Role::version_bit_at, crate::specs::Alignment::centres_of))]
 pub fn roles_compute()
-    ensures across { map (role_of 1 8) (range_with_len 0 21) ≡ row_8 }
-    ensures down { map (λ r. role_of 1 r 8) (range_with_len 0 21) ≡ column_8 }
-    ensures timing { map (role_of 1 6) (range_with_len 0 21) ≡ row_6 }
+    ensures row_8 { map (role_of 1 8) (range_with_len 0 21) ≡ row_8 }
+    ensures column_8 { map (λ r. role_of 1 r 8) (range_with_len 0 21) ≡ column_8 }
+    ensures row_6 { map (role_of 1 6) (range_with_len 0 21) ≡ row_6 }
 {}
 
 /// The modules of a finder pattern in version 1, an alignment pattern in version 2 and the version information in
@@ -180,39 +204,39 @@ pub fn patterns_compute()
 {}
 
 /// Each bit of the format information is at exactly two places, `first_place` and `second_place`.
-pub fn format_bits_have_places(v: Version)
+pub fn format_bits_have_places(version: Version)
     ensures first { (i : ℕ) → i < 15
-        → role_of v (first_place i).row (first_place i).col ≡ FormatBit i }
+        → role_of version (first_place i).row (first_place i).col ≡ FormatBit i }
     ensures second { (i : ℕ) → i < 15
-        → role_of v (second_place (side_of v) i).row (second_place (side_of v) i).col
+        → role_of version (second_place (side_of version) i).row (second_place (side_of version) i).col
         ≡ FormatBit i }
-    ensures no_other { (m : Module) (i : ℕ) → role_of v m.row m.col ≡ FormatBit i
-        → (i < 15) × ((m ≡ first_place i) ⊎ (m ≡ second_place (side_of v) i)) }
+    ensures no_other { (m : Place) (i : ℕ) → role_of version m.row m.col ≡ FormatBit i
+        → (i < 15) × ((m ≡ first_place i) ⊎ (m ≡ second_place (side_of version) i)) }
 {}
 
 /// From version 7 on, each bit of the version information is at exactly two places: `version_place`, and this with row
 /// and column exchanged. Below version 7 no module contains such a bit.
-pub fn version_bits_have_places(v: Version)
-    ensures first { (i : ℕ) → 7 ≤ v → i < 18
-        → role_of v (version_place (side_of v) i).row (version_place (side_of v) i).col
+pub fn version_bits_have_places(version: Version)
+    ensures first { (i : ℕ) → 7 ≤ version → i < 18
+        → role_of version (version_place (side_of version) i).row (version_place (side_of version) i).col
         ≡ VersionBit i }
-    ensures second { (i : ℕ) → 7 ≤ v → i < 18
-        → role_of v (version_place (side_of v) i).col (version_place (side_of v) i).row
+    ensures second { (i : ℕ) → 7 ≤ version → i < 18
+        → role_of version (version_place (side_of version) i).col (version_place (side_of version) i).row
         ≡ VersionBit i }
-    ensures no_other { (m : Module) (i : ℕ) → role_of v m.row m.col ≡ VersionBit i
-        → (7 ≤ v) × (i < 18)
-        × ((m ≡ version_place (side_of v) i) ⊎ (m ≡ mirror_of (version_place (side_of v) i))) }
+    ensures no_other { (m : Place) (i : ℕ) → role_of version m.row m.col ≡ VersionBit i
+        → (7 ≤ version) × (i < 18)
+        × ((m ≡ version_place (side_of version) i) ⊎ (m ≡ mirror_of (version_place (side_of version) i))) }
 {}
 
 /// The dark module, in column 8 beside the bottom left finder pattern, is dark in every symbol.
-pub fn dark_module_is_dark(v: Version)
-    ensures { role_of v (side_of v - 8) 8 ≡ Fixed true }
+pub fn dark_module_is_dark(version: Version)
+    ensures { role_of version (side_of version - 8) 8 ≡ Fixed true }
 {}
 
 /// The encoding region is all modules that have no fixed colour and no bit of format or version information.
-pub fn region_is_the_rest(v: Version)
-    ensures { (r c : ℕ) → r < side_of v → c < side_of v
-        → (role_of v r c ≡ Region) ↔ (is_in_region v r c ≡ true) }
+pub fn region_is_the_rest(version: Version)
+    ensures { (r c : ℕ) → r < side_of version → c < side_of version
+        → (role_of version r c ≡ Region) ↔ (is_in_region version r c ≡ true) }
 {}
 
 /// Returns version 1.
@@ -223,10 +247,10 @@ pub fn first_version() -> Version
 }
 
 /// Returns the default module, in row 0 and column 0.
-pub fn default_module() -> Module
+pub fn default_place() -> Place
     ensures { result ≡ record { row = 0; col = 0 } }
 {
-    Module::default()
+    Place::default()
 }
 
 /// Returns the default rectangle, which contains no module.
@@ -250,8 +274,8 @@ pub fn levels_are_equal(a: Level, b: Level) -> bool
     a == b
 }
 
-/// `==` says whether the two are the same `Module`.
-pub fn modules_are_equal(a: Module, b: Module) -> bool
+/// `==` says whether the two are the same `Place`.
+pub fn places_are_equal(a: Place, b: Place) -> bool
     ensures { IsTrue result ↔ (a ≡ b) }
 {
     a == b
@@ -292,8 +316,8 @@ pub fn level_clones(a: Level) -> Result<Level, AllocError>
     a.clone()
 }
 
-/// A clone of a `Module` is equal to it.
-pub fn module_clones(a: Module) -> Result<Module, AllocError>
+/// A clone of a `Place` is equal to it.
+pub fn place_clones(a: Place) -> Result<Place, AllocError>
     ensures { IfOk result (λ b. b ≡ a) }
 {
     a.clone()

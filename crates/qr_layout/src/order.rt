@@ -7,15 +7,15 @@ ghost use Rattle.std.specs.Iterator.{YieldsFirst, item_count};
 ghost use Rattle.qr_layout.specs.Region.{InRegion};
 ghost use Rattle.qr_layout.specs.Order.{IsOrder, IsOrderAfter};
 ghost use Rattle.qr_layout.specs.Version.{module_count_of, side_of};
-ghost use Rattle.qr_layout.specs.declared.region.Module.{Module};
+ghost use Rattle.qr_layout.specs.declared.region.Place.{Place};
 ghost use Rattle.qr_layout.specs.Steps.Order.{IsCursor, place_of, next_of, cursor_at};
 
-use crate::region::{Module, is_in_region};
+use crate::region::{Place, is_in_region};
 use crate::strips::{column_without_timing, strip_at};
 use crate::version::Version;
 use std::marker::Model;
 
-// A position of the walk. `strips` is the strip's number from the left, from 1 on, and so also how many strips are
+// A cursor of the walk. `strips` is the strip's number from the left, from 1 on, and so also how many strips are
 // left, with this one; at 0 the walk is at its end.
 #[derive(Clone, Copy)]
 struct Cursor {
@@ -25,25 +25,25 @@ struct Cursor {
 }
 
 impl Cursor {
-    fn place(self) -> Module
+    fn place(self) -> Place
         requires strips_left { 0 < self.strips }
         requires strips_in { self.strips ≤ 88 }
         ensures { result ≡ place_of self }
     {
         let right = strip_at(self.strips).right;
         let col = if self.at_left { right - 1 } else { right };
-        Module { row: self.row, col }
+        Place { row: self.row, col }
     }
 
     // After the last row of a strip comes the same row of the next strip.
     #[tactic(auto, unfolding(crate::specs::Steps::Order::next_of))]
-    fn next(self, v: Version) -> Cursor
+    fn next(self, version: Version) -> Cursor
         requires strips_left { 0 < self.strips }
-        requires position { IsCursor v self }
-        ensures { result ≡ next_of (side_of v) self }
+        requires cursor { IsCursor version self }
+        ensures { result ≡ next_of (side_of version) self }
     {
         let upward = strip_at(self.strips).upward;
-        let last = if upward { 0 } else { v.side() - 1 };
+        let last = if upward { 0 } else { version.side() - 1 };
         if !self.at_left {
             Cursor {
                 at_left: true,
@@ -64,15 +64,15 @@ impl Cursor {
         }
     }
 
-    // The result has no meaning if `m` is in column 6.
+    // The result has no meaning if `place` is in column 6.
     #[tactic(auto, unfolding(crate::specs::Steps::Order::cursor_at))]
-    fn at(m: Module) -> Cursor
-        ensures { result ≡ cursor_at m }
+    fn at(place: Place) -> Cursor
+        ensures { result ≡ cursor_at place }
     {
-        let untimed = column_without_timing(m.col);
+        let untimed = column_without_timing(place.col);
         Cursor {
             strips: untimed / 2 + 1,
-            row: m.row,
+            row: place.row,
             at_left: untimed % 2 == 0,
         }
     }
@@ -83,34 +83,34 @@ impl Cursor {
 ///
 /// # Notes
 ///
-/// It stores a version and a position, but no list of modules.
+/// It stores a version and a cursor, but no list of modules.
 #[derive(Drop)]
-pub struct Steps {
+pub struct Places {
     version: Version,
     cursor: Cursor,
 }
 
-impl Model for Steps {
+impl Model for Places {
     ghost use Rattle.std.specs.Prelude.{◌≤◌, List};
-    ghost use Rattle.qr_layout.specs.declared.region.Module.{Module};
+    ghost use Rattle.qr_layout.specs.declared.region.Place.{Place};
     ghost use Rattle.qr_layout.specs.Steps.Order.{to_come, IsCursor};
 
-    ghost Value = { List Module };
+    ghost Value = { List Place };
 
     ghost view = { λ s. to_come s.version s.cursor };
 
     ghost invariant = { λ s. (1 ≤ s.version) × (s.version ≤ 40) × IsCursor s.version s.cursor };
 }
 
-impl Iterator for Steps {
-    type Item = Module;
+impl Iterator for Places {
+    type Item = Place;
 
     ghost next_gives = { YieldsFirst (λ s. s) };
 
     ghost remaining = { item_count (λ s. s) };
 
     #[inline(always)]
-    fn next(&mut self) -> Option<Module> {
+    fn next(&mut self) -> Option<Place> {
         while self.cursor.strips > 0 {
             let here = self.cursor.place();
             self.cursor = self.cursor.next(self.version);
@@ -124,42 +124,42 @@ impl Iterator for Steps {
 
 /// Returns an iterator over the modules of the encoding region, each once, in the order in which they are filled. The
 /// bits of the codewords come first, then the remainder bits.
-pub fn walk(v: Version) -> Steps
-    ensures order { IsOrder v result }
-    ensures count { length result ≡ module_count_of v }
+pub fn walk(version: Version) -> Places
+    ensures order { IsOrder version result }
+    ensures count { length result ≡ module_count_of version }
 {
-    Steps {
-        version: v,
+    Places {
+        version,
         cursor: Cursor {
-            strips: 8 + 2 * v.number(),
-            row: v.side() - 1,
+            strips: 8 + 2 * version.number(),
+            row: version.side() - 1,
             at_left: false,
         },
     }
 }
 
-/// Returns an iterator over the modules that come after `m` in `walk`, or `None` if `m` is outside the encoding region
+/// Returns an iterator over the modules that come after `place` in `walk`, or `None` if `place` is outside the encoding region
 /// or the symbol.
-pub fn walk_after(v: Version, m: Module) -> Option<Steps>
-    ensures given { IsSome result ↔ InRegion v m }
-    ensures rest { IfSome result (IsOrderAfter v m) }
+pub fn walk_after(version: Version, place: Place) -> Option<Places>
+    ensures given { IsSome result ↔ InRegion version place }
+    ensures rest { IfSome result (IsOrderAfter version place) }
 {
-    if !is_in_region(v, m.row, m.col) {
+    if !is_in_region(version, place.row, place.col) {
         return None;
     }
-    let here = Cursor::at(m);
-    let next = here.next(v);
-    Some(Steps {
-        version: v,
+    let here = Cursor::at(place);
+    let next = here.next(version);
+    Some(Places {
+        version,
         cursor: next,
     })
 }
 
 /// Returns the number of modules of the encoding region, from 208 in version 1 to 29,648 in version 40: 8 for each
 /// codeword, and 1 for each remainder bit.
-pub fn region_len(v: Version) -> u32
-    ensures count { result ≡ module_count_of v }
-    ensures length { (ms : List Module) → IsOrder v ms → length ms ≡ result }
+pub fn region_len(version: Version) -> u32
+    ensures count { result ≡ module_count_of version }
+    ensures length { (ms : List Place) → IsOrder version ms → length ms ≡ result }
 {
-    8 * u32::from(v.total_codewords()) + u32::from(v.remainder_bits())
+    8 * u32::from(version.total_codewords()) + u32::from(version.remainder_bits())
 }

@@ -36,17 +36,17 @@ impl Rectangle {
 /// corners, each with a finder pattern, its separator and format information, and row 6 and column 6, with the timing
 /// patterns. From version 7 on there are also the two blocks of version information (ISO/IEC 18004:2015, 6.3.3 to
 /// 6.3.5, 7.9 and 7.10). Some of them overlap.
-pub fn fixed_rectangles(v: Version) -> ArrayVec<Rectangle, 7>
-    ensures { AreFixed v result.items }
+pub fn fixed_rectangles(version: Version) -> ArrayVec<Rectangle, 7>
+    ensures { AreFixed version result.items }
 {
-    let side = v.side();
+    let side = version.side();
     let mut rectangles = ArrayVec::new();
     rectangles.push(Rectangle::new(0..9, 0..9));
     rectangles.push(Rectangle::new(0..9, side - 8..side));
     rectangles.push(Rectangle::new(side - 8..side, 0..9));
     rectangles.push(Rectangle::new(6..7, 0..side));
     rectangles.push(Rectangle::new(0..side, 6..7));
-    let has_version_information = v.number() >= 7;
+    let has_version_information = version.number() >= 7;
     if has_version_information {
         rectangles.push(Rectangle::new(0..6, side - 11..side - 8));
         rectangles.push(Rectangle::new(side - 11..side - 8, 0..6));

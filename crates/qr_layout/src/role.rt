@@ -8,7 +8,7 @@ ghost use Rattle.qr_layout.specs.Region.{ring_of};
 ghost use Rattle.qr_layout.specs.Role.{finder_ring, is_alignment_light, pattern_colour, first_place, second_place, format_bit_at, version_bit_at, role_of};
 
 use crate::alignment::{alignment_centres, is_in_alignment};
-use crate::region::{Module, is_in_version_block};
+use crate::region::{Place, is_in_version_copy};
 use crate::version::Version;
 
 /// What a module contains, which depends only on the version and the place.
@@ -39,20 +39,20 @@ fn finder_ring(side: u8, row: u8, col: u8) -> u8
 }
 
 #[tactic(auto, unfolding(crate::specs::Role::is_alignment_light))]
-fn is_alignment_light(v: Version, row: u8, col: u8) -> bool
-    ensures { result ≡ is_alignment_light v row col }
+fn is_alignment_light(version: Version, row: u8, col: u8) -> bool
+    ensures { result ≡ is_alignment_light version row col }
 {
-    alignment_centres(v)
+    alignment_centres(version)
         .iter()
-        .any(|m| ring(m.row, m.col, row, col) == 1)
+        .any(|centre| ring(centre.row, centre.col, row, col) == 1)
 }
 
 // `None` outside the finder patterns, separators, timing patterns and alignment patterns; `true` is dark.
 #[tactic(auto, unfolding(crate::specs::Role::pattern_colour))]
-fn pattern_colour(v: Version, row: u8, col: u8) -> Option<bool>
-    ensures { result ≡ pattern_colour v row col }
+fn pattern_colour(version: Version, row: u8, col: u8) -> Option<bool>
+    ensures { result ≡ pattern_colour version row col }
 {
-    let ring = finder_ring(v.side(), row, col);
+    let ring = finder_ring(version.side(), row, col);
     if ring < 4 {
         return Some(ring != 2);
     }
@@ -65,15 +65,15 @@ fn pattern_colour(v: Version, row: u8, col: u8) -> Option<bool>
     if col == 6 {
         return Some(row % 2 == 0);
     }
-    if is_in_alignment(v, row, col) {
-        return Some(!is_alignment_light(v, row, col));
+    if is_in_alignment(version, row, col) {
+        return Some(!is_alignment_light(version, row, col));
     }
     None
 }
 
 /// Returns the place of bit `bit` (0 to 14) of the format information in the first copy, beside the top left finder
 /// pattern (ISO/IEC 18004:2015, 7.9.1).
-pub fn format_place(bit: u8) -> Module
+pub fn format_place(bit: u8) -> Place
     requires { bit < 15 }
     ensures place { result ≡ first_place bit }
     ensures row_in { result.row < 21 }
@@ -93,26 +93,26 @@ pub fn format_place(bit: u8) -> Module
     } else {
         14 - bit
     };
-    Module { row, col }
+    Place { row, col }
 }
 
 /// Returns the place of bit `bit` (0 to 14) of the format information in the second copy, beside the top right and the
 /// bottom left finder pattern (ISO/IEC 18004:2015, 7.9.1).
-pub fn second_format_place(v: Version, bit: u8) -> Module
+pub fn second_format_place(version: Version, bit: u8) -> Place
     requires { bit < 15 }
-    ensures place { result ≡ second_place (side_of v) bit }
-    ensures row_in { result.row < side_of v }
-    ensures col_in { result.col < side_of v }
+    ensures place { result ≡ second_place (side_of version) bit }
+    ensures row_in { result.row < side_of version }
+    ensures col_in { result.col < side_of version }
 {
-    let side = v.side();
+    let side = version.side();
     let row = if bit < 8 { 8 } else { side - 15 + bit };
     let col = if bit < 8 { side - 1 - bit } else { 8 };
-    Module { row, col }
+    Place { row, col }
 }
 
 // The index of the bit of the format information that column 8 contains in row `row`.
-#[tactic(auto, using(crate::proofs::lemmas::role::RoleLemmas::format_down))]
-fn format_bit_down(side: u8, row: u8) -> Option<u8>
+#[tactic(auto, using(crate::proofs::lemmas::role::RoleLemmas::format_in_column_8))]
+fn format_bit_in_column_8(side: u8, row: u8) -> Option<u8>
     requires least { 21 ≤ side }
     requires most { side ≤ 177 }
     requires row_in { row < side }
@@ -131,9 +131,9 @@ fn format_bit_down(side: u8, row: u8) -> Option<u8>
     }
 }
 
-// As `format_bit_down`, but for row 8 and column `col`.
-#[tactic(auto, using(crate::proofs::lemmas::role::RoleLemmas::format_across))]
-fn format_bit_across(side: u8, col: u8) -> Option<u8>
+// As `format_bit_in_column_8`, but for row 8 and column `col`.
+#[tactic(auto, using(crate::proofs::lemmas::role::RoleLemmas::format_in_row_8))]
+fn format_bit_in_row_8(side: u8, col: u8) -> Option<u8>
     requires least { 21 ≤ side }
     requires col_in { col < side }
     requires not_both { col ≢ 8 }
@@ -161,9 +161,9 @@ fn format_bit(side: u8, row: u8, col: u8) -> Option<u8>
     ensures { result ≡ format_bit_at side row col }
 {
     if col == 8 {
-        format_bit_down(side, row)
+        format_bit_in_column_8(side, row)
     } else if row == 8 {
-        format_bit_across(side, col)
+        format_bit_in_row_8(side, col)
     } else {
         None
     }
@@ -172,43 +172,43 @@ fn format_bit(side: u8, row: u8, col: u8) -> Option<u8>
 // In the block beside the top right finder pattern, each row has three bits, the lowest first, from bit 0 in row 0 on.
 // In the other block, rows and columns are exchanged.
 #[tactic(auto, using(crate::proofs::lemmas::role::RoleLemmas::version_at))]
-fn version_bit(v: Version, row: u8, col: u8) -> Option<u8>
-    requires row_in { row < side_of v }
-    requires col_in { col < side_of v }
-    ensures { result ≡ version_bit_at v row col }
+fn version_bit(version: Version, row: u8, col: u8) -> Option<u8>
+    requires row_in { row < side_of version }
+    requires col_in { col < side_of version }
+    ensures { result ≡ version_bit_at version row col }
 {
-    if v.number() < 7 {
+    if version.number() < 7 {
         return None;
     }
-    let side = v.side();
-    if is_in_version_block(side, row, col) {
+    let side = version.side();
+    if is_in_version_copy(side, row, col) {
         return Some(3 * row + (col + 11 - side));
     }
-    if is_in_version_block(side, col, row) {
+    if is_in_version_copy(side, col, row) {
         return Some(3 * col + (row + 11 - side));
     }
     None
 }
 
-/// Returns the role of the module in row `row` and column `col`, both counted from 0, in a symbol of version `v`
+/// Returns the role of the module in row `row` and column `col`, both counted from 0, in a symbol of version `version`
 /// (ISO/IEC 18004:2015, 6.3 and 7.7.2).
 #[tactic(auto, unfolding(crate::specs::Role::role_of))]
-pub fn cell(v: Version, row: u8, col: u8) -> Role
-    requires row_in { row < side_of v }
-    requires col_in { col < side_of v }
-    ensures { result ≡ role_of v row col }
+pub fn role_at(version: Version, row: u8, col: u8) -> Role
+    requires row_in { row < side_of version }
+    requires col_in { col < side_of version }
+    ensures { result ≡ role_of version row col }
 {
-    if let Some(dark) = pattern_colour(v, row, col) {
+    if let Some(dark) = pattern_colour(version, row, col) {
         return Role::Fixed(dark);
     }
-    let side = v.side();
+    let side = version.side();
     if row == side - 8 && col == 8 {
         return Role::Fixed(true);
     }
     if let Some(bit) = format_bit(side, row, col) {
         return Role::FormatBit(bit);
     }
-    match version_bit(v, row, col) {
+    match version_bit(version, row, col) {
         Some(bit) => Role::VersionBit(bit),
         None => Role::Region,
     }

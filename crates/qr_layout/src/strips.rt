@@ -80,13 +80,13 @@ impl Iterator for Strips {
     }
 }
 
-/// Returns all strips of a symbol of version `v`, from right to left, in the order in which codewords fill them. Only
+/// Returns all strips of a symbol of version `version`, from right to left, in the order in which codewords fill them. Only
 /// their modules in the encoding region are filled.
-pub fn all_strips(v: Version) -> Strips
-    ensures order { IsOrder v (in_region_of v (places_of (side_of v) result)) }
-    ensures inside { All (λ x. (1 ≤ x.right) × (x.right < side_of v)) result }
+pub fn all_strips(version: Version) -> Strips
+    ensures order { IsOrder version (in_region_of version (places_of (side_of version) result)) }
+    ensures inside { All (λ x. (1 ≤ x.right) × (x.right < side_of version)) result }
 {
     Strips {
-        remaining: 8 + 2 * v.number(),
+        remaining: 8 + 2 * version.number(),
     }
 }

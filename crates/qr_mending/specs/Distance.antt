@@ -7,7 +7,7 @@ use Rattle.qr_symbol.specs.Symbol.{grid_of}
 use Rattle.qr_symbol.specs.Distance.{HeldMessage, blocks_in, held_block}
 use Rattle.qr_mending.specs.declared.format.FormatCopy.{FormatCopy}
 use Rattle.qr_mending.specs.Format.{bit_differences, copy_bit}
-use Rattle.qr_mending.specs.Message.{correctable_of}
+use Rattle.qr_layout.specs.Blocks.{correctable_of}
 
 -- The squares differ in at least seven modules of each copy of the format information (ISO/IEC 18004:2015, 7.9.1, Annex
 -- C)

@@ -2,15 +2,14 @@
 -- the symbol was not read; a codeword with such a module is erased. `b` has the sizes of the blocks, `cw` lists the
 -- interleaved codewords as they were read, and `places` is the order. An erased codeword takes one error correction
 -- codeword, and a misread one two.
-use Rattle.std.specs.Prelude.{◌≡◌, ℕ, ◌+◌, ◌-◌, ◌*◌, ◌/◌, ◌<◌, ◌≤◌, ◌==◌, if◌then◌else◌, Option, None, Some, List, ◌++◌, map, take, drop, length, slice_index}
+use Rattle.std.specs.Prelude.{◌≡◌, ℕ, ◌+◌, ◌*◌, ◌<◌, ◌≤◌, if◌then◌else◌, Option, None, Some, List, ◌++◌, map, take, drop, length, slice_index}
 use Rattle.std.specs.List.{list_any, range_with_len}
 use Rattle.qr_field.specs.Polynomial.{IsCorrection}
 use Rattle.qr_field.specs.Distance.{erasures, errors}
 use Rattle.qr_layout.specs.declared.blocks.Blocks.{Blocks}
 use Rattle.qr_layout.specs.declared.level.Level.{Level}
-use Rattle.qr_layout.specs.declared.level.Level.TheVariants.{L, M, Q, H}
-use Rattle.qr_layout.specs.declared.region.Module.{Module}
-use Rattle.qr_layout.specs.Blocks.{blocks_of}
+use Rattle.qr_layout.specs.declared.region.Place.{Place}
+use Rattle.qr_layout.specs.Blocks.{blocks_of, spare_of}
 use Rattle.qr_layout.specs.Order.{IsOrder}
 use Rattle.qr_layout.specs.Version.{total_codewords_of}
 use Rattle.qr_matrix.specs.Grid.{Grid, colour}
@@ -21,28 +20,12 @@ use Rattle.qr_symbol.specs.Interleaving.{block_count, codeword_count, data_sizes
 abbrev pub received : Blocks → List ℕ → List ℕ → ℕ → List ℕ
 received b d e i = part_of (data_sizes b) d i ++ part_of (correction_sizes b) e i
 
--- How many error correction codewords of a block only detect errors, so that fewer blocks are mended to a wrong one
--- (ISO/IEC 18004:2015, 7.5.1, Table 9)
-abbrev pub protection_of : ℕ → Level → ℕ
-protection_of v L = if v == 1 then 3 else (if v == 2 then 2 else (if v == 3 then 1 else 0))
-protection_of v M = if v == 1 then 2 else 0
-protection_of v Q = if v == 1 then 1 else 0
-protection_of v H = if v == 1 then 1 else 0
-
--- How many error correction codewords of a block correct errors (ISO/IEC 18004:2015, 7.5.1, Table 9)
-abbrev pub spare_of : ℕ → Level → ℕ
-spare_of v l = (blocks_of v l).ec_len - protection_of v l
-
--- How many misread codewords can be corrected in a block without erased ones (ISO/IEC 18004:2015, 7.5.1, Table 9)
-abbrev pub correctable_of : ℕ → Level → ℕ
-correctable_of v l = spare_of v l / 2
-
 -- The eight modules of codeword `k`, counted from 0 (ISO/IEC 18004:2015, 7.7.3)
-abbrev pub modules_of : List Module → ℕ → List Module
+abbrev pub modules_of : List Place → ℕ → List Place
 modules_of places k = take 8 (drop (8 * k) places)
 
 -- What was read of codeword `k`: nothing if one of its modules was not read (ISO/IEC 18004:2015, 7.7.3)
-abbrev pub read_at : Grid → List Module → List ℕ → ℕ → Option ℕ
+abbrev pub read_at : Grid → List Place → List ℕ → ℕ → Option ℕ
 read_at unknown places cw k =
     if list_any (λ m. colour unknown m.row m.col) (modules_of places k) then None else Some (slice_index cw k)
 
@@ -68,7 +51,7 @@ pub record IsMendedBlock (b : Blocks) (spare : ℕ) (read : List (Option ℕ)) (
 -- The codewords of a symbol of version `v` and level `l` can be mended to `message`, and `misread` lists for each block
 -- how many of them are misread (ISO/IEC 18004:2015, 7.5.1, 7.6, 7.7.3)
 pub record IsMendedIn (unknown : Grid) (v : ℕ) (l : Level) (cw message misread : List ℕ) : Type 0 where
-  pub places : List Module
+  pub places : List Place
   pub order : IsOrder v places
   pub indices : List ℕ
   pub checks : List ℕ

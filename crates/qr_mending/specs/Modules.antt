@@ -2,25 +2,25 @@
 use Rattle.std.specs.Prelude.{ℕ, ◌+◌, ◌<◌, ◌≤◌, List}
 use Rattle.std.specs.List.{count_by, sum_by}
 use Rattle.qr_layout.specs.declared.level.Level.{Level}
-use Rattle.qr_layout.specs.declared.region.Module.{Module}
-use Rattle.qr_layout.specs.Blocks.{blocks_of}
+use Rattle.qr_layout.specs.declared.region.Place.{Place}
+use Rattle.qr_layout.specs.Blocks.{blocks_of, correctable_of}
 use Rattle.qr_layout.specs.Order.{IsOrder}
 use Rattle.qr_matrix.specs.Difference.{differs}
 use Rattle.qr_matrix.specs.Grid.{Grid}
 use Rattle.qr_symbol.specs.Distance.{blocks_in}
 use Rattle.qr_mending.specs.declared.format.FormatCopy.TheVariants.{First, Second}
 use Rattle.qr_mending.specs.Format.{bit_differences, copy_bit}
-use Rattle.qr_mending.specs.Message.{modules_of, received, correctable_of, AreIndices}
+use Rattle.qr_mending.specs.Message.{modules_of, received, AreIndices}
 
 -- How many modules of codeword `k` differ (ISO/IEC 18004:2015, 7.7.3)
-abbrev pub codeword_differences : Grid → Grid → List Module → ℕ → ℕ
+abbrev pub codeword_differences : Grid → Grid → List Place → ℕ → ℕ
 codeword_differences g h places k = count_by (λ m. differs g h m.row m.col) (modules_of places k)
 
 -- At most six of the 30 modules of format information differ, and in each block at most as many modules as misread
 -- codewords can be corrected there (ISO/IEC 18004:2015, 7.5.1, 7.9.1)
 pub record DifferInFewModules (v : ℕ) (l : Level) (g h : Grid) : Type 0 where
   pub format : bit_differences 15 (copy_bit First g) (copy_bit First h) + bit_differences 15 (copy_bit Second g) (copy_bit Second h) ≤ 6
-  pub places : List Module
+  pub places : List Place
   pub order : IsOrder v places
   pub indices : List ℕ
   pub checks : List ℕ

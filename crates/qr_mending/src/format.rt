@@ -13,7 +13,7 @@ ghost use Rattle.qr_mending.specs.Steps.Format.{AreBitsOf};
 ghost use Rattle.qr_mending.specs.Mending.{wrong_format_modules};
 
 use crate::scan::Scan;
-use qr_layout::{Level, Module, Version, format_place, format_word, second_format_place};
+use qr_layout::{Level, Place, Version, format_place, format_word, second_format_place};
 
 // The number of modules of one copy.
 const FORMAT_BITS: u8 = 15;
@@ -33,7 +33,7 @@ pub(crate) enum FormatCopy {
 }
 
 impl FormatCopy {
-    fn place(self, version: Version, bit: u8) -> Module
+    fn place(self, version: Version, bit: u8) -> Place
         requires { bit < 15 }
         ensures place { result ≡ copy_place self (side_of version) bit }
         ensures row_in { result.row < side_of version }

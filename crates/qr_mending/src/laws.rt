@@ -29,7 +29,8 @@ ghost use Rattle.qr_mending.specs.Erasures.{read_of, IsMendedWithErasures};
 ghost use Rattle.qr_mending.specs.Distance.{SymbolsLieApart};
 ghost use Rattle.qr_mending.specs.declared.format.FormatCopy.{FormatCopy};
 ghost use Rattle.qr_mending.specs.Format.{bit_differences, copy_cost, copy_place, format_cost, IsNearFormat};
-ghost use Rattle.qr_mending.specs.Message.{protection_of, spare_of, correctable_of, IsMendedIn};
+ghost use Rattle.qr_layout.specs.Blocks.{correctable_of};
+ghost use Rattle.qr_mending.specs.Message.{IsMendedIn};
 ghost use Rattle.qr_mending.specs.Mending.{wrong_format_modules, wrong_modules, HasFormat, HasWrongModules, HoldsDamaged, IsMendedReading, IsUnmended};
 ghost use Rattle.qr_mending.specs.Modules.{DifferInFewModules};
 ghost use Rattle.qr_mending.specs.Series.{AreDamagedSquares, IsUnmendedSeries};
@@ -93,35 +94,11 @@ pub fn near_format_is_one()
         → ((l ≡ k) × (m ≡ n)) ⊎ (((l ≡ j) × (m ≡ i)) ⊎ ((k ≡ j) × (n ≡ i))) }
 {}
 
-/// For seven pairs of version and level, the number of misread codewords that can be corrected in a block agrees with
-/// Table 9 of the standard. For six of them, so does the number of error correction codewords that only detect errors.
-#[tactic(auto, unfolding(qr_layout::specs::Blocks::correction_len_of))]
-pub fn correctable_numbers_compute()
-    ensures one { correctable_of 1 Level.L ≡ 2 × correctable_of 1 Level.M ≡ 4 }
-    ensures one_more { correctable_of 1 Level.Q ≡ 6 × correctable_of 1 Level.H ≡ 8 }
-    ensures two { correctable_of 2 Level.L ≡ 4 }
-    ensures three { correctable_of 3 Level.L ≡ 7 }
-    ensures forty { correctable_of 40 Level.L ≡ 15 }
-    ensures protection_one { protection_of 1 Level.L ≡ 3 × protection_of 1 Level.M ≡ 2 }
-    ensures protection_one_more { protection_of 1 Level.Q ≡ 1 × protection_of 1 Level.H ≡ 1 }
-    ensures protection_more { protection_of 2 Level.L ≡ 2 × protection_of 3 Level.L ≡ 1 }
-{}
-
-/// From version 4 on all error correction codewords correct errors, and in versions 2 and 3 those of the levels M, Q
-/// and H.
-///
 /// In the cost of format information a module that was not read counts once and a misread one twice. As wrong modules
 /// both count once. Each copy is counted once. The example is a light square of which one module of the first copy was
 /// not read; it is compared with level M and mask 0. A level and a mask are near to a copy at a cost of 6, and not at
 /// 7.
-#[tactic(auto, unfolding(qr_layout::specs::Blocks::correction_len_of))]
-pub fn mending_numbers_compute()
-    ensures protection { (v : ℕ) (l : Level) → 4 ≤ v → protection_of v l ≡ 0 }
-    ensures protection_two { protection_of 2 Level.M ≡ 0 × protection_of 2 Level.Q ≡ 0 × protection_of 2 Level.H ≡ 0 }
-    ensures protection_three { protection_of 3 Level.M ≡ 0 × protection_of 3 Level.Q ≡ 0 × protection_of 3 Level.H ≡ 0 }
-    ensures spare_one { spare_of 1 Level.L ≡ 4 × spare_of 1 Level.M ≡ 8 × spare_of 1 Level.Q ≡ 12
-        × spare_of 1 Level.H ≡ 16 }
-    ensures spare_more { spare_of 2 Level.M ≡ 16 × spare_of 3 Level.L ≡ 14 × spare_of 40 Level.H ≡ 30 }
+pub fn format_costs_compute()
     ensures near { (unknown g : Grid) (copy : FormatCopy) (l : Level) (mask : ℕ) → mask < 8
         → copy_cost unknown copy g l mask ≡ 6 → IsNearFormat unknown copy g l mask }
     ensures far { (unknown g : Grid) (copy : FormatCopy) (l : Level) (mask : ℕ)

@@ -21,5 +21,4 @@ mod sums;
 pub use block::mend;
 pub use erasures::mend_with_erasures;
 pub use mending::{Mended, mend_symbol, mend_symbol_with_unknown};
-pub use message::correctable;
 pub use series::mend_series;

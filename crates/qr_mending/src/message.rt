@@ -4,14 +4,14 @@
 ghost use Rattle.std.specs.Prelude.{◌≡◌, ℕ, ◌+◌, ◌*◌, ◌<◌, ◌≤◌, ◌==◌, ◌⊎◌, ◌++◌, ◌∷◌, [], false, not, map, take, drop, List, length, Err, IfOk, IfErr, IfSome, IfNone};
 ghost use Rattle.std.specs.Bool.{OnTrue};
 ghost use Rattle.qr_field.specs.{Distance.{errors}, Polynomial.{IsCorrection}};
-ghost use Rattle.qr_layout.specs.Blocks.{blocks_of};
+ghost use Rattle.qr_layout.specs.Blocks.{blocks_of, spare_of};
 ghost use Rattle.qr_layout.specs.Version.{side_of, total_codewords_of};
 ghost use Rattle.qr_matrix.specs.Grid.{colour};
 ghost use Rattle.qr_symbol.specs.declared.fault.ReadFault.{ReadFault};
 ghost use Rattle.qr_symbol.specs.Interleaving.{block_count, block_len, codeword_count, data_sizes, correction_sizes, IsInterleaved};
 ghost use Rattle.qr_symbol.specs.{Reading.{IsReadUnmasked}, Steps.Interleaving.{IsChecks}};
 ghost use Rattle.qr_mending.specs.Erasures.{read_of, IsMendedWithErasures};
-ghost use Rattle.qr_mending.specs.Message.{received, protection_of, spare_of, correctable_of, AreInBlocks};
+ghost use Rattle.qr_mending.specs.Message.{received, AreInBlocks};
 ghost use Rattle.qr_mending.specs.Steps.Message.{list_of, marks_at, read_by, AreMarksInBlocks, AreMended, AreWhole, HasCorrections, IsMendedMessage};
 
 use crate::block::mend;
@@ -212,35 +212,6 @@ pub(crate) struct MendedBlocks {
     pub changed: Vec<usize>,
 }
 
-// How many error correction codewords of a block only detect errors, so that fewer blocks are mended to a wrong one
-// (ISO/IEC 18004:2015, 7.5.1, Table 9).
-fn protection(version: Version, level: Level) -> u8
-    ensures { result ≡ protection_of version level }
-{
-    match (level, version.number()) {
-        (Level::L, 1) => 3,
-        (Level::L, 2) | (Level::M, 1) => 2,
-        (Level::L, 3) | (Level::Q | Level::H, 1) => 1,
-        _ => 0,
-    }
-}
-
-// How many error correction codewords of a block correct errors.
-fn spare(version: Version, level: Level) -> u8
-    ensures { result ≡ spare_of version level }
-{
-    let count = version.blocks(level).ec_len;
-    count.saturating_sub(protection(version, level))
-}
-
-/// Returns how many misread codewords of a block without erased ones can be corrected, from 2 to 15: half the number of
-/// its error correction codewords, or less for some levels of versions 1 to 3 (ISO/IEC 18004:2015, 7.5.1, Table 9).
-pub fn correctable(version: Version, level: Level) -> u8
-    ensures { result ≡ correctable_of version level }
-{
-    spare(version, level) / 2
-}
-
 // Mends one block after the other, and ends at the first that cannot be mended. `codewords` and `marks` are still
 // interleaved.
 #[tactic(auto, using(crate::proofs::Named::size_facts))]
@@ -263,7 +234,7 @@ pub(crate) fn mend_blocks(
     ensures fault { IfErr result (λ e. (e ≡ ReadFault.Memory) ⊎ (e ≡ ReadFault.Check)) }
 {
     let blocks = version.blocks(level);
-    let spare = usize::from(spare(version, level));
+    let spare = usize::from(version.spare(level));
     let received = in_blocks(alloc, blocks, codewords)?;
     let unread = marks_in_blocks(alloc, blocks, marks)?;
     let divisor = Divisor::new(usize::from(blocks.ec_len));

@@ -3,7 +3,7 @@
 use Rattle.std.specs.Prelude.{◌≡◌, ◌≢◌, ℕ, ◌-◌, ◌*◌, ◌<◌, ◌≤◌, Bool, false, List, ◌++◌, map, take, length, replicate, Option, Result, Ok, Err, None}
 use Rattle.std.specs.List.{All}
 use Rattle.qr_layout.specs.declared.level.Level.{Level}
-use Rattle.qr_layout.specs.declared.region.Module.{Module}
+use Rattle.qr_layout.specs.declared.region.Place.{Place}
 use Rattle.qr_layout.specs.Version.{side_of, total_codewords_of}
 use Rattle.qr_layout.specs.Blocks.{data_codewords_of}
 use Rattle.qr_layout.specs.Format.{format_word_of}
@@ -27,25 +27,25 @@ use Rattle.qr_matrix.specs.BitRow.{has_bit}
 use Rattle.qr_symbol.specs.Interleaving.{IsInterleaved}
 
 -- The colour of module `m` with the mask undone (ISO/IEC 18004:2015, 12)
-abbrev pub unmasked : ℕ → Grid → Module → Bool
+abbrev pub unmasked : ℕ → Grid → Place → Bool
 unmasked mask g m = inverted (inverts mask m.row m.col) (colour g m.row m.col)
 
 -- The unmasked colours of the first `n` of the modules `ms`, where `n` is eight times the number of codewords of the
 -- version; light for each that `ms` lacks (ISO/IEC 18004:2015, 7.7.3, 12)
-abbrev pub read_bits : ℕ → ℕ → Grid → List Module → List Bool
+abbrev pub read_bits : ℕ → ℕ → Grid → List Place → List Bool
 read_bits v mask g ms = map (unmasked mask g) (take (8 * total_codewords_of v) ms) ++ replicate (8 * total_codewords_of v - length ms) false
 
 -- The codewords in the region, read in the standard's order with the mask undone (ISO/IEC 18004:2015, 7.7.3, 12)
 pub record IsRead (v mask : ℕ) (g : Grid) (cw : List ℕ) : Type 0 where
   pub bytes : All (λ x. x < 256) cw
-  pub places : List Module
+  pub places : List Place
   pub order : IsOrder v places
   pub bits : bits_of cw ≡ read_bits v mask g places
 
 -- As `IsRead`, but without undoing a mask (ISO/IEC 18004:2015, 7.7.3)
 pub record IsReadUnmasked (v : ℕ) (g : Grid) (cw : List ℕ) : Type 0 where
   pub bytes : All (λ x. x < 256) cw
-  pub places : List Module
+  pub places : List Place
   pub order : IsOrder v places
   pub bits : bits_of cw ≡ map (λ m. colour g m.row m.col) (take (8 * total_codewords_of v) places)
 

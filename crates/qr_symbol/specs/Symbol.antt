@@ -5,7 +5,7 @@ use Rattle.qr_layout.specs.declared.role.Role.{Role}
 use Rattle.qr_layout.specs.declared.role.Role.TheVariants.{Fixed, FormatBit, VersionBit, Region}
 use Rattle.qr_layout.specs.Version.{side_of}
 use Rattle.qr_layout.specs.Format.{format_word_of, version_word_of}
-use Rattle.qr_layout.specs.Order.{number_of}
+use Rattle.qr_layout.specs.Order.{index_of}
 use Rattle.qr_layout.specs.Role.{role_of}
 use Rattle.qr_bits.specs.Bits.{codeword_bit}
 use Rattle.qr_matrix.specs.BitRow.{has_bit}
@@ -18,7 +18,7 @@ abbrev pub colour_by : ℕ → Level → ℕ → List ℕ → ℕ → ℕ → Ro
 colour_by v l mask cw r c (Fixed dark) = dark
 colour_by v l mask cw r c (FormatBit i) = has_bit (format_word_of l mask) i
 colour_by v l mask cw r c (VersionBit i) = has_bit (version_word_of v) i
-colour_by v l mask cw r c Region = inverted (inverts mask r c) (codeword_bit cw (number_of v (record { row = r; col = c })))
+colour_by v l mask cw r c Region = inverted (inverts mask r c) (codeword_bit cw (index_of v (record { row = r; col = c })))
 
 -- As `colour_by`, with the role that the place has (ISO/IEC 18004:2015, 7.7.2, 7.7.3, 7.8.1, 7.9.1, 7.10)
 unfoldable pub colour_of : ℕ → Level → ℕ → List ℕ → ℕ → ℕ → Bool

@@ -7,7 +7,7 @@ ghost use Rattle.qr_layout.specs.Version.{side_of};
 ghost use Rattle.qr_layout.specs.Alignment.{alignment_places, centres_of};
 ghost use Rattle.qr_layout.specs.Region.{is_alignment, is_corner, is_in_region, is_timing, is_version_information, ring_of};
 ghost use Rattle.qr_layout.specs.Rectangles.{is_in_rectangle};
-ghost use Rattle.qr_layout.specs.Steps.Rectangles.{IsInside, IsWithin};
+ghost use Rattle.qr_layout.specs.Steps.Rectangles.{IsCentreInside, IsInside};
 ghost use Rattle.qr_layout.specs.Role.{finder_ring, is_alignment_light, role_of};
 ghost use Rattle.qr_layout.specs.Format.{version_word_of};
 ghost use Rattle.qr_matrix.specs.Grid.{square, colour, one_of, IsSquare};
@@ -17,7 +17,7 @@ ghost use Rattle.qr_symbol.specs.Steps.Placement.{region_grid};
 
 use crate::words::{is_bit_set, reversed};
 use qr_layout::{
-    Module, Rectangle, Version, alignment_centres, fixed_rectangles, format_place,
+    Place, Rectangle, Version, alignment_centres, fixed_rectangles, format_place,
     second_format_place,
 };
 use qr_matrix::{Matrix, MatrixPair};
@@ -25,7 +25,7 @@ use std::alloc::{AllocError, Global};
 
 fn clear_rectangles(matrix: &mut Matrix, v: Version, rectangles: &[Rectangle])
     requires square { IsSquare (side_of v) matrix.old }
-    requires inside { All (IsWithin (side_of v)) rectangles.now }
+    requires inside { All (IsInside (side_of v)) rectangles.now }
     ensures { IsOver (side_of v) (λ r c. list_any (is_in_rectangle r c) rectangles.now) (λ _ _. false)
         (colour matrix.old) matrix.new }
 {
@@ -42,14 +42,14 @@ fn clear_rectangles(matrix: &mut Matrix, v: Version, rectangles: &[Rectangle])
 
 // Fills the square of the modules that are at most `distance` rows and columns from its centre.
 #[inline]
-fn fill_around(matrix: &mut Matrix, centre: Module, distance: u8, dark: bool)
+fn fill_around(matrix: &mut Matrix, centre: Place, distance: u8, dark: bool)
     requires rows_in { (distance ≤ centre.row) × (centre.row + distance < matrix.old.side) }
     requires columns_in { (distance ≤ centre.col) × (centre.col + distance < matrix.old.side) }
     requires side { matrix.old.side ≤ 177 }
     ensures { IsOver matrix.old.side (λ r c. nat_le (ring_of centre.row centre.col r c) distance) (λ _ _. dark)
         (colour matrix.old) matrix.new }
 {
-    let Module { row, col } = centre;
+    let Place { row, col } = centre;
     matrix.fill(
         row - distance,
         row + distance + 1,
@@ -61,7 +61,7 @@ fn fill_around(matrix: &mut Matrix, centre: Module, distance: u8, dark: bool)
 
 // Draws a finder pattern and its separator, which fill the eight by eight modules from `block` on. The pattern is three
 // squares, one inside the other, of 7, 5 and 3 modules a side.
-fn paint_finder(matrix: &mut Matrix, v: Version, block: Module, centre: Module)
+fn paint_finder(matrix: &mut Matrix, v: Version, block: Place, centre: Place)
     requires square { IsSquare (side_of v) matrix.old }
     requires bottom_in { block.row + 8 ≤ side_of v }
     requires right_in { block.col + 8 ≤ side_of v }
@@ -180,12 +180,12 @@ fn paint_corners(matrix: &mut Matrix, v: Version, format: u32)
     let side = v.side();
     let far = side - 8;
     let last = side - 4;
-    let near = Module { row: 3, col: 3 };
-    let right = Module { row: 3, col: last };
-    let below = Module { row: last, col: 3 };
-    paint_finder(matrix, v, Module { row: 0, col: 0 }, near);
-    paint_finder(matrix, v, Module { row: 0, col: far }, right);
-    paint_finder(matrix, v, Module { row: far, col: 0 }, below);
+    let near = Place { row: 3, col: 3 };
+    let right = Place { row: 3, col: last };
+    let below = Place { row: last, col: 3 };
+    paint_finder(matrix, v, Place { row: 0, col: 0 }, near);
+    paint_finder(matrix, v, Place { row: 0, col: far }, right);
+    paint_finder(matrix, v, Place { row: far, col: 0 }, below);
     matrix.set(8, 6, true);
     matrix.set(6, 8, true);
     matrix.set(far, 8, true);
@@ -236,10 +236,10 @@ fn paint_version(matrix: &mut Matrix, v: Version)
 }
 
 // An alignment pattern has five by five modules (ISO/IEC 18004:2015, 6.3.6).
-fn fill_alignment(matrix: &mut Matrix, v: Version, centres: &[Module], dark: bool)
+fn fill_alignment(matrix: &mut Matrix, v: Version, centres: &[Place], dark: bool)
     requires square { IsSquare (side_of v) matrix.old }
     requires centres { centres.now ≡ alignment_places (side_of v) (centres_of v) }
-    requires inside { All (IsInside (side_of v)) centres.now }
+    requires inside { All (IsCentreInside (side_of v)) centres.now }
     ensures { IsOver (side_of v) (is_alignment v) (λ _ _. dark) (colour matrix.old) matrix.new }
 {
     for centre in centres {
@@ -248,10 +248,10 @@ fn fill_alignment(matrix: &mut Matrix, v: Version, centres: &[Module], dark: boo
 }
 
 // Makes the rings round the centres light; the centres keep their colours.
-fn clear_rings(matrix: &mut Matrix, v: Version, centres: &[Module])
+fn clear_rings(matrix: &mut Matrix, v: Version, centres: &[Place])
     requires square { IsSquare (side_of v) matrix.old }
     requires centres { centres.now ≡ alignment_places (side_of v) (centres_of v) }
-    requires inside { All (IsInside (side_of v)) centres.now }
+    requires inside { All (IsCentreInside (side_of v)) centres.now }
     ensures { IsOver (side_of v) (is_alignment_light v) (λ _ _. false) (colour matrix.old) matrix.new }
 {
     for centre in centres {

@@ -16,7 +16,7 @@ ghost use Rattle.qr_symbol.specs.Steps.Words.{rank_in};
 use crate::mask::inverts;
 use crate::spans::{Columns, Span, Spans, columns_of};
 use crate::words::{bit_at, bits_at, split};
-use qr_layout::{Module, Strip, Version, all_strips, walk};
+use qr_layout::{Place, Strip, Version, all_strips, walk};
 use qr_matrix::{BitRow, Matrix};
 
 #[tactic(auto, using(crate::proofs::Named::strips))]
@@ -163,7 +163,7 @@ pub(crate) fn draw_along_walk(matrix: &mut Matrix, v: Version, codewords: &[u8],
 {
     let mut number = 0;
     for module in walk(v) {
-        let Module { row, col } = module;
+        let Place { row, col } = module;
         let bit = bit_at(codewords, number);
         matrix.set(row, col, bit != inverts(mask, row, col));
         number += 1;

@@ -8,7 +8,7 @@ use Rattle.qr_bits.specs.Parsing.{Content}
 pub use Rattle.qr_matrix.specs.Bytes.{square_of_unknown}
 use Rattle.qr_symbol.specs.declared.fault.ReadFault.{ReadFault}
 use Rattle.qr_mending.specs.Mending.{wrong_format_modules, HasWrongModules, IsMendedReading, IsUnmended}
-use Rattle.qr_mending.specs.Message.{correctable_of}
+use Rattle.qr_layout.specs.Blocks.{correctable_of}
 use Rattle.qrproved.specs.declared.mending.QrprovedMended.{QrprovedMended}
 use Rattle.qrproved.specs.declared.interpretation.QrprovedEci.{QrprovedEci}
 use Rattle.qrproved.specs.Interpretation.{TellsInterpretation}

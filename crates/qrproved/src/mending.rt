@@ -5,7 +5,7 @@ ghost use Rattle.std.specs.List.{All, Any};
 ghost use Rattle.qr_bits.specs.declared.fault.ParseFault.{ParseFault};
 ghost use Rattle.qr_symbol.specs.declared.fault.ReadFault.{ReadFault};
 ghost use Rattle.qr_mending.specs.Mending.{wrong_format_modules, HasWrongModules, IsMendedReading, IsUnmended};
-ghost use Rattle.qr_mending.specs.Message.{correctable_of};
+ghost use Rattle.qr_layout.specs.Blocks.{correctable_of};
 ghost use Rattle.qr_bits.specs.Interpretation.{fnc1_of};
 ghost use Rattle.qrproved.specs.Interpretation.{TellsFnc1};
 ghost use Rattle.qrproved.specs.Modules.{square_of_bytes};
@@ -23,7 +23,7 @@ use qr_mending::laws::{
     changes_are_bounded, mended_readings_are_not_refused, mended_readings_are_one,
     mending_refusals_are_one,
 };
-use qr_mending::{Mended, correctable, mend_symbol_with_unknown};
+use qr_mending::{Mended, mend_symbol_with_unknown};
 use qr_symbol::ReadFault;
 use std::alloc::Global;
 
@@ -138,7 +138,7 @@ fn mended_of(len: usize, mended: &Mended) -> QrprovedMended
         mask: mended.mask,
         wrong_format_modules: mended.wrong_format_modules,
         changed_most: most as u8,
-        changed_allowed: correctable(mended.version, mended.level),
+        changed_allowed: mended.version.correctable(mended.level),
     }
 }
 

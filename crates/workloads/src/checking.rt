@@ -5,7 +5,7 @@ use crate::random::Random;
 use crate::texts::Text;
 use qr_bits::Parsed;
 use qr_layout::walk;
-use qr_mending::{Mended, correctable, mend_symbol, mend_symbol_with_unknown};
+use qr_mending::{Mended, mend_symbol, mend_symbol_with_unknown};
 use qr_symbol::{
     INPUT_MAX, Interpretation, Level, Matrix, ReadFault, Rule, Symbol, Version, encode, read_symbol,
 };
@@ -142,7 +142,7 @@ struct Damaged {
 fn damage(alloc: Global, symbol: &Symbol, random: &mut Random) -> Result<Damaged, AllocError> {
     let sizes = symbol.version.blocks(symbol.level);
     let blocks = usize::from(sizes.short) + usize::from(sizes.long);
-    let codewords = usize::from(correctable(symbol.version, symbol.level)) * blocks;
+    let codewords = usize::from(symbol.version.correctable(symbol.level)) * blocks;
     let across = exchanged(alloc, &symbol.matrix)?;
     let mut squares = Damaged {
         one: exchanged(alloc, &across)?,

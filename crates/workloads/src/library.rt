@@ -10,7 +10,7 @@ use qr_devices::Counted;
 use qr_drawing::{Drawing, draw};
 use qr_layout::walk;
 use qr_matrix::{matrices_of_bytes, matrix_of_bytes, write_square};
-use qr_mending::{correctable, mend_symbol_with_unknown};
+use qr_mending::mend_symbol_with_unknown;
 use qr_symbol::{Level, Symbol, Version, read_symbol};
 use std::alloc::{AllocError, Global};
 
@@ -107,7 +107,7 @@ fn changes(
     let none = Change { bits: 0, rank: 0 };
     let mut changes = vec![in alloc; none; usize::from(version.total_codewords())]?;
     let sizes = version.blocks(level);
-    let bound = correctable(version, level);
+    let bound = version.correctable(level);
     for block in 0..usize::from(sizes.short) + usize::from(sizes.long) {
         let is_long = block >= usize::from(sizes.short);
         let len = usize::from(sizes.short_len) + usize::from(is_long) + usize::from(sizes.ec_len);
@@ -198,7 +198,7 @@ fn damage(
     let side = version.side();
     smudge(&mut buffers.smudged, side, random);
     let changes = changes(alloc, version, level, random)?;
-    let half = correctable(version, level) / 2;
+    let half = version.correctable(level) / 2;
     let mut number = 0usize;
     for module in walk(version) {
         let codeword = number / 8;

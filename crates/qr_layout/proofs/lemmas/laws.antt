@@ -1,2 +1,2 @@
--- The numbers of the places: each number below the count is the number of one place of the region.
-pub mod NumberLemmas
+-- The indices of places in the order: each index below the count is that of one place of the region.
+pub mod IndexLemmas

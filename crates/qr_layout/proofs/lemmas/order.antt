@@ -1,6 +1,6 @@
 -- Lists with the same members: their lengths, and that only one such list is rising.
 pub mod ListLemmas
--- The positions of the walk, and how they rise.
+-- The cursors of the walk, and how they rise.
 pub mod PathLemmas
 -- The modules that the walk visits are the order of the version.
 pub mod WalkLemmas

@@ -1,7 +1,7 @@
--- The positions of the walk through a symbol with `s` modules on a side.
+-- The cursors of the walk through a symbol with `s` modules on a side.
 use Rattle.std.specs.Prelude.{ℕ, ◌+◌, ◌-◌, ◌*◌, ◌/◌, ◌%◌, ◌<◌, ◌≤◌, Bool, true, false, ◌==◌, if◌then◌else◌, List, [], ◌∷◌}
 use Prim.Native.Nat.{zero, suc}
-use Rattle.qr_layout.specs.declared.region.Module.{Module}
+use Rattle.qr_layout.specs.declared.region.Place.{Place}
 use Rattle.qr_layout.specs.declared.order.Cursor.{Cursor}
 use Rattle.qr_layout.specs.Region.{is_in_region}
 use Rattle.qr_layout.specs.Version.{side_of}
@@ -13,45 +13,45 @@ abbrev pub half_of : Bool → ℕ
 half_of at_left = if at_left then 1 else 0
 
 -- The module in the strip's right column, or in the one to the left of it
-abbrev pub place_of : Cursor → Module
+abbrev pub place_of : Cursor → Place
 place_of a = let right = (strip_at a.strips).right in record { row = a.row; col = if a.at_left then right - 1 else right }
 
--- The number of the strip's rows that the walk visits before that of the position `a`
-abbrev pub rank_of : ℕ → Cursor → ℕ
-rank_of s a = if (strip_at a.strips).upward then s - 1 - a.row else a.row
+-- The number of the strip's rows that the walk visits before that of the cursor `a`
+abbrev pub rows_before_of : ℕ → Cursor → ℕ
+rows_before_of s a = if (strip_at a.strips).upward then s - 1 - a.row else a.row
 
--- The number of positions from `a` on, with `a`
+-- The number of cursors from `a` on, with `a`
 unfoldable pub left_of : ℕ → Cursor → ℕ
-left_of s a = a.strips * (2 * s) - (2 * rank_of s a + half_of a.at_left)
+left_of s a = a.strips * (2 * s) - (2 * rows_before_of s a + half_of a.at_left)
 
--- The position after `a`: in a row the left module comes after the right one, then the right one of the strip's next
+-- The cursor after `a`: in a row the left module comes after the right one, then the right one of the strip's next
 -- row. After the strip's last row comes the same row of the next strip
 unfoldable pub next_of : ℕ → Cursor → Cursor
 next_of s a =
     if a.at_left then
-    (if rank_of s a + 1 == s then record { strips = a.strips - 1; row = a.row; at_left = false }
+    (if rows_before_of s a + 1 == s then record { strips = a.strips - 1; row = a.row; at_left = false }
     else record { strips = a.strips; row = if (strip_at a.strips).upward then a.row - 1 else a.row + 1; at_left = false })
     else record { strips = a.strips; row = a.row; at_left = true }
 
--- A position of the walk of version `v`, or its end
+-- A cursor of the walk of version `v`, or its end
 pub record IsCursor (v : ℕ) (a : Cursor) : Type 0 where
   pub strips_in : a.strips ≤ 8 + 2 * v
   pub row_in : a.row < side_of v
 
--- The modules of the encoding region among `n` positions from `a` on
-unfoldable pub places_within : ℕ → ℕ → Cursor → List Module
-places_within v zero a = []
-places_within v (suc n) a =
-    if is_in_region v a.row (place_of a).col then place_of a ∷ places_within v n (next_of (side_of v) a) else places_within v n (next_of (side_of v) a)
+-- The modules of the encoding region among `n` cursors from `a` on
+unfoldable pub places_among : ℕ → ℕ → Cursor → List Place
+places_among v zero a = []
+places_among v (suc n) a =
+    if is_in_region v a.row (place_of a).col then place_of a ∷ places_among v n (next_of (side_of v) a) else places_among v n (next_of (side_of v) a)
 
--- The modules of the encoding region from the position `a` on
-unfoldable pub to_come : ℕ → Cursor → List Module
-to_come v a = places_within v (left_of (side_of v) a) a
+-- The modules of the encoding region from the cursor `a` on
+unfoldable pub to_come : ℕ → Cursor → List Place
+to_come v a = places_among v (left_of (side_of v) a) a
 
 -- The walk of version `v` begins in the bottom right corner
 abbrev pub first_cursor : ℕ → Cursor
 first_cursor v = record { strips = 8 + 2 * v; row = 16 + 4 * v; at_left = false }
 
--- The position at the module `m`, if `m` is not in column 6
-unfoldable pub cursor_at : Module → Cursor
+-- The cursor at the module `m`, if `m` is not in column 6
+unfoldable pub cursor_at : Place → Cursor
 cursor_at m = let c = column_without_timing m.col in record { strips = c / 2 + 1; row = m.row; at_left = c % 2 == 0 }

@@ -1,31 +1,31 @@
 -- The rectangles that the program draws one by one.
 use Rattle.std.specs.Prelude.{ℕ, ◌≤◌, ◌+◌, ◌-◌, nat_lt, if◌then◌else◌, List, [], ◌∷◌, ◌++◌, map}
-use Rattle.qr_layout.specs.declared.region.Module.{Module}
+use Rattle.qr_layout.specs.declared.region.Place.{Place}
 use Rattle.qr_layout.specs.declared.rectangles.Rectangle.{Rectangle}
 use Rattle.qr_layout.specs.Version.{side_of}
 use Rattle.qr_layout.specs.Alignment.{centres_of, alignment_places}
 
 -- The rectangle is inside a symbol with `s` modules on a side, and its bounds are in order
-pub record IsWithin (s : ℕ) (b : Rectangle) : Type 0 where
+pub record IsInside (s : ℕ) (b : Rectangle) : Type 0 where
   pub rows : b.top ≤ b.bottom
   pub bottom : b.bottom ≤ s
   pub columns : b.left ≤ b.right
   pub right : b.right ≤ s
 
 -- The five by five modules around `m` are inside a symbol with `s` modules on a side
-pub record IsInside (s : ℕ) (m : Module) : Type 0 where
+pub record IsCentreInside (s : ℕ) (m : Place) : Type 0 where
   pub row_least : 2 ≤ m.row
   pub row_most : m.row + 3 ≤ s
   pub col_least : 2 ≤ m.col
   pub col_most : m.col + 3 ≤ s
 
 -- The five by five modules of the alignment pattern with the centre `m` (ISO/IEC 18004:2015, 6.3.6)
-abbrev pub square_round : Module → Rectangle
-square_round m = record { top = m.row - 2; bottom = m.row + 3; left = m.col - 2; right = m.col + 3 }
+abbrev pub rectangle_around : Place → Rectangle
+rectangle_around m = record { top = m.row - 2; bottom = m.row + 3; left = m.col - 2; right = m.col + 3 }
 
 -- The alignment patterns for the rows `cs` of centres (ISO/IEC 18004:2015, 6.3.6)
-abbrev pub alignment_squares : ℕ → List ℕ → List Rectangle
-alignment_squares s cs = map square_round (alignment_places s cs)
+abbrev pub alignment_rectangles : ℕ → List ℕ → List Rectangle
+alignment_rectangles s cs = map rectangle_around (alignment_places s cs)
 
 -- The list that `fixed_rectangles` returns for version `v`: the corners, the timing patterns, and from version 7 on the
 -- version information
@@ -40,4 +40,4 @@ fixed_list v =
 
 -- Rectangles that cover all modules of version `v` outside the encoding region (ISO/IEC 18004:2015, 6.3.7, 7.7.3)
 abbrev pub taken_rectangles : ℕ → List Rectangle
-taken_rectangles v = fixed_list v ++ alignment_squares (side_of v) (centres_of v)
+taken_rectangles v = fixed_list v ++ alignment_rectangles (side_of v) (centres_of v)

@@ -1,7 +1,7 @@
 -- Which bits are read from the columns `x` of a strip; exactly the bits of the region are set in the columns `region`.
 use Rattle.std.specs.Prelude.{ℕ, ◌+◌, Bool, if◌then◌else◌, List, [], ◌∷◌, ◌++◌}
 use Prim.Native.Nat.{zero, suc}
-use Rattle.qr_layout.specs.declared.region.Module.{Module}
+use Rattle.qr_layout.specs.declared.region.Place.{Place}
 use Rattle.qr_layout.specs.declared.strips.Strip.{Strip}
 use Rattle.qr_matrix.specs.BitRow.{has}
 use Rattle.qr_matrix.specs.Grid.{Grid, colour}
@@ -23,5 +23,5 @@ bits_in_rows s strip region x k zero = []
 bits_in_rows s strip region x k (suc n) = bits_in_row region x (row_of s strip k) ++ bits_in_rows s strip region x (k + 1) n
 
 -- The colour of module `m` of the symbol, where `g` is its transposed square.
-abbrev pub colour_across : Grid → Module → Bool
+abbrev pub colour_across : Grid → Place → Bool
 colour_across g m = colour g m.col m.row

@@ -10,7 +10,7 @@ use Rattle.qr_layout.specs.declared.level.Level.{Level}
 use Rattle.qr_layout.specs.declared.strips.Strip.{Strip}
 use Rattle.qr_layout.specs.Version.{side_of}
 use Rattle.qr_layout.specs.Format.{format_word_of}
-use Rattle.qr_layout.specs.Order.{number_of}
+use Rattle.qr_layout.specs.Order.{index_of}
 use Rattle.qr_layout.specs.Region.{is_in_region}
 use Rattle.qr_layout.specs.Role.{role_of}
 use Rattle.qr_bits.specs.Bits.{codeword_bit}
@@ -23,12 +23,12 @@ use Rattle.qr_matrix.specs.Penalty.{penalty_of}
 -- In the region the colour of the module's bit, elsewhere `other r c`.
 unfoldable pub placed_colour : ℕ → List ℕ → (ℕ → ℕ → Bool) → ℕ → ℕ → Bool
 placed_colour v cw other r c =
-    if is_in_region v r c then codeword_bit cw (number_of v (record { row = r; col = c })) else other r c
+    if is_in_region v r c then codeword_bit cw (index_of v (record { row = r; col = c })) else other r c
 
 -- As `placed_colour`, but inverted where the mask inverts.
 unfoldable pub walked_colour : ℕ → List ℕ → ℕ → (ℕ → ℕ → Bool) → ℕ → ℕ → Bool
 walked_colour v cw mask other r c =
-    if is_in_region v r c then inverted (inverts mask r c) (codeword_bit cw (number_of v (record { row = r; col = c }))) else other r c
+    if is_in_region v r c then inverted (inverts mask r c) (codeword_bit cw (index_of v (record { row = r; col = c }))) else other r c
 
 -- The number of the next bit after one module: one more than `number` if the module is in the region.
 abbrev pub number_after : Bool → ℕ → ℕ

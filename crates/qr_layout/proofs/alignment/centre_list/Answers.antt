@@ -19,4 +19,4 @@ returns c =
       | then-number-eq1 w ↦ first n i many w.if-number-eq1.true c.from.ensures w.many-is
       | else-number-eq1 w ↦ other n i many w.from-many.result w.if-number-eq1.false l c.from.ensures w.from-many.ensures w.many-is
     ] in
-    centres-agree c.args.v i many (omega arith) (omega arith) e
+    centres-agree c.args.version i many (omega arith) (omega arith) e

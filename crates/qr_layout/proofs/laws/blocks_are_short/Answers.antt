@@ -2,4 +2,4 @@ use Rattle.{std.proofs.Common.arith, qr_layout.proofs.lemmas.blocks.BlockLemmas.
 use Rattle.qr_layout.proofs.laws.blocks_are_short.Goals as goal
 
 pub returns-clause-most : goal.returns-clause-most
-returns-clause-most c = blocks-short c.args.level c.args.v (omega arith) (omega arith)
+returns-clause-most c = blocks-short c.args.level c.args.version (omega arith) (omega arith)

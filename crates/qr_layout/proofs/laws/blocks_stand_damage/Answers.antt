@@ -2,4 +2,4 @@ use Rattle.{std.proofs.Common.arith, qr_layout.proofs.lemmas.blocks.BlockLemmas.
 use Rattle.qr_layout.proofs.laws.blocks_stand_damage.Goals as goal
 
 pub returns : goal.returns
-returns c = damage-stood c.args.level c.args.v (omega arith) (omega arith)
+returns c = damage-stood c.args.level c.args.version (omega arith) (omega arith)

@@ -3,10 +3,10 @@ use Rattle.qr_layout.proofs.lemmas.role.RolePlaceLemmas.{format-first, format-se
 use Rattle.qr_layout.proofs.laws.format_bits_have_places.Goals as goal
 
 pub returns-clause-first : goal.returns-clause-first
-returns-clause-first c = λ i h. format-first c.args.v i (omega arith) (omega arith) h
+returns-clause-first c = λ i h. format-first c.args.version i (omega arith) (omega arith) h
 
 pub returns-clause-second : goal.returns-clause-second
-returns-clause-second c = λ i h. format-second c.args.v i (omega arith) (omega arith) h
+returns-clause-second c = λ i h. format-second c.args.version i (omega arith) (omega arith) h
 
 pub returns-clause-no_other : goal.returns-clause-no_other
-returns-clause-no_other c = format-only c.args.v
+returns-clause-no_other c = format-only c.args.version

@@ -2,4 +2,4 @@ use Rattle.qr_layout.proofs.lemmas.region.SymmetryLemmas.{region-symmetric}
 use Rattle.qr_layout.proofs.laws.region_is_symmetric.Goals as goal
 
 pub returns : goal.returns
-returns c = region-symmetric c.args.v
+returns c = region-symmetric c.args.version

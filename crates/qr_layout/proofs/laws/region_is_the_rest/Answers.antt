@@ -2,4 +2,4 @@ use Rattle.{std.proofs.Common.arith, qr_layout.proofs.lemmas.role.RolePlaceLemma
 use Rattle.qr_layout.proofs.laws.region_is_the_rest.Goals as goal
 
 pub returns : goal.returns
-returns c = λ r s h k. (role-region c.args.v r s (omega arith) h k, region-role c.args.v r s (omega arith) h k)
+returns c = λ r s h k. (role-region c.args.version r s (omega arith) h k, region-role c.args.version r s (omega arith) h k)

@@ -2,4 +2,4 @@ use Rattle.{std.proofs.Common.arith, qr_layout.proofs.lemmas.format.WordLemmas.v
 use Rattle.qr_layout.proofs.laws.version_words_are_remainders.Goals as goal
 
 pub returns : goal.returns
-returns c = version-word-remainder c.args.v (omega arith)
+returns c = version-word-remainder c.args.version (omega arith)

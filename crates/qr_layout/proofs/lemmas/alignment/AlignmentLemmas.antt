@@ -6,8 +6,8 @@ use Rattle.std.proofs.lemmas.{Bool.cases_lt, Bool.and_parts, List.Folds.list_any
 use Rattle.std.specs.List.{All, list_all, list_any, flat_map}
 use Rattle.qr_layout.specs.Region.{is_corner, is_timing, is_version_information, is_alignment, ring_of, is_in_region}
 use Rattle.qr_layout.specs.{declared.rectangles.Rectangle.Rectangle, Rectangles.AreFixed, Rectangles.is_in_rectangle}
-use Rattle.qr_layout.specs.Steps.Rectangles.{IsInside, IsWithin, alignment_squares, fixed_list, square_round, taken_rectangles}
-use Rattle.qr_layout.specs.{declared.region.Module.Module, Version.side_of}
+use Rattle.qr_layout.specs.Steps.Rectangles.{IsCentreInside, IsInside, alignment_rectangles, fixed_list, rectangle_around, taken_rectangles}
+use Rattle.qr_layout.specs.{declared.region.Place.Place, Version.side_of}
 use Rattle.qr_layout.specs.Alignment.{centres_of, is_corner_pair, alignment_places}
 
 -- a test of the items of a flat map goes over the lists that it joins
@@ -32,11 +32,11 @@ list_any-map p f [] = refl
 list_any-map p f (x ∷ xs) = ap (λ b. p (f x) || b) (list_any-map p f xs)
 
 -- a test of a centre, or of none in a corner
-at_centre : (p : Module → Bool) (a b : ℕ) (t : Bool) → list_any p (cond t [] (record { row = a; col = b } ∷ [])) ≡ (not t && p (record { row = a; col = b }))
+at_centre : (p : Place → Bool) (a b : ℕ) (t : Bool) → list_any p (cond t [] (record { row = a; col = b } ∷ [])) ≡ (not t && p (record { row = a; col = b }))
 at_centre p a b t = grind (arith, nat_tests)
 
 -- a test of the alignment patterns' centres goes over their rows and then their columns
-pub any-places : (p : Module → Bool) (s : ℕ) (cs : List ℕ) → list_any p (alignment_places s cs) ≡ list_any (λ a. list_any (λ b. not (is_corner_pair s a b) && p (record { row = a; col = b })) cs) cs
+pub any-places : (p : Place → Bool) (s : ℕ) (cs : List ℕ) → list_any p (alignment_places s cs) ≡ list_any (λ a. list_any (λ b. not (is_corner_pair s a b) && p (record { row = a; col = b })) cs) cs
 any-places p s cs =
     list_any-flat_map p (λ a. flat_map (λ b. cond (is_corner_pair s a b) [] (record { row = a; col = b } ∷ [])) cs) cs ∙
     list_any-same _ _ (λ a.
@@ -59,8 +59,8 @@ square-rings : (a b r c : ℕ) → is_in_rectangle r c (record { top = a - 2; bo
 square-rings a b r c = grind (arith, nat_tests)
 
 -- the squares of the alignment patterns have their rings 0 to 2
-pub alignment-squares : (r c : ℕ) (ms : List Module) → list_any (λ m. is_in_rectangle r c (square_round m)) ms ≡ list_any (λ m. leb (ring_of m.row m.col r c) 2) ms
-alignment-squares r c ms = list_any-same _ _ (λ m. square-rings m.row m.col r c) ms
+pub alignment-rectangles : (r c : ℕ) (ms : List Place) → list_any (λ m. is_in_rectangle r c (rectangle_around m)) ms ≡ list_any (λ m. leb (ring_of m.row m.col r c) 2) ms
+alignment-rectangles r c ms = list_any-same _ _ (λ m. square-rings m.row m.col r c) ms
 
 -- ---- the rectangles that cover all but the alignment patterns
 
@@ -126,8 +126,8 @@ fixed-are v h k = record {
 }
 
 -- such rectangles are inside the symbol
-pub fixed-within : (v : ℕ) (bs : List Rectangle) → AreFixed v bs → All (IsWithin (side_of v)) bs
-fixed-within v bs a = All-weaker (λ b. (b.top ≤ b.bottom) × (b.bottom ≤ side_of v) × (b.left ≤ b.right) × (b.right ≤ side_of v)) (IsWithin (side_of v)) (λ b h. record { rows = h.0; bottom = h.1; columns = h.2; right = h.3 }) bs a.within
+pub fixed-inside : (v : ℕ) (bs : List Rectangle) → AreFixed v bs → All (IsInside (side_of v)) bs
+fixed-inside v bs a = All-weaker (λ b. (b.top ≤ b.bottom) × (b.bottom ≤ side_of v) × (b.left ≤ b.right) × (b.right ≤ side_of v)) (IsInside (side_of v)) (λ b h. record { rows = h.0; bottom = h.1; columns = h.2; right = h.3 }) bs a.within
 
 -- the encoding region inside the square
 pub region-parts : (v r c : ℕ) → r < side_of v → c < side_of v
@@ -150,7 +150,7 @@ region_taken v r c l m h k =
     let p = is_in_rectangle r c in
     let ms = alignment_places s (centres_of v) in
     region_outside v (fixed_list v) (fixed-are v l m) r c h k
-    ∙ ap not (ap (λ b. list_any p (fixed_list v) || b) (sym (list_any-map p square_round ms ∙ alignment-squares r c ms)) ∙ sym (list_any-append p (fixed_list v) (alignment_squares s (centres_of v))))
+    ∙ ap not (ap (λ b. list_any p (fixed_list v) || b) (sym (list_any-map p rectangle_around ms ∙ alignment-rectangles r c ms)) ∙ sym (list_any-append p (fixed_list v) (alignment_rectangles s (centres_of v))))
 
 -- no place below the last row is in the region
 pub region_row_out : (v r c : ℕ) → side_of v ≤ r → false ≡ is_in_region v r c
@@ -194,11 +194,11 @@ region_version v r c h = region_hidden v r c (inr (inr h))
 pub ruleset region_out = (region_row_out, region_col_out, region_corners, region_timing, region_version)
 
 -- the square round a centre is inside a symbol of side s
-abbrev is_inside : ℕ → Module → Bool
+abbrev is_inside : ℕ → Place → Bool
 is_inside s m = leb 2 m.row && leb (m.row + 3) s && leb 2 m.col && leb (m.col + 3) s
 
 -- what the test of such a centre means
-inside-is : (s : ℕ) (m : Module) → is_inside s m ≡ true → IsInside s m
+inside-is : (s : ℕ) (m : Place) → is_inside s m ≡ true → IsCentreInside s m
 inside-is s m h = record { row_least = grind (arith, nat_tests); row_most = grind (arith, nat_tests); col_least = grind (arith, nat_tests); col_most = grind (arith, nat_tests) }
 
 -- the squares of the alignment patterns are inside, in each version, computed
@@ -207,5 +207,5 @@ unfolding centres_of
 all-inside = refl
 
 -- the squares of the alignment patterns are inside the symbol
-pub centres-inside : (v : ℕ) → 1 ≤ v → v ≤ 40 → All (IsInside (side_of v)) (alignment_places (side_of v) (centres_of v))
-centres-inside v h k = all-of (is_inside (side_of v)) (IsInside (side_of v)) (inside-is (side_of v)) _ (below-from 40 1 (λ v. list_all (is_inside (side_of v)) (alignment_places (side_of v) (centres_of v))) all-inside v h (omega arith))
+pub centres-inside : (v : ℕ) → 1 ≤ v → v ≤ 40 → All (IsCentreInside (side_of v)) (alignment_places (side_of v) (centres_of v))
+centres-inside v h k = all-of (is_inside (side_of v)) (IsCentreInside (side_of v)) (inside-is (side_of v)) _ (below-from 40 1 (λ v. list_all (is_inside (side_of v)) (alignment_places (side_of v) (centres_of v))) all-inside v h (omega arith))

@@ -1,9 +1,9 @@
--- The positions of the walk: a step leaves one fewer, and a position with fewer left has a later key. v is a version.
+-- The cursors of the walk: a step leaves one fewer, and a cursor with fewer left has a later key. v is a version.
 use Rattle.std.proofs.Common.{◌≡◌, ℕ, ◌+◌, ◌-◌, ◌*◌, ◌/◌, ◌%◌, ◌<◌, ◌≤◌, Bool, true, cond, eqb, ◌⊎◌, arith}
 use Rattle.std.proofs.{Math.Nat.mul-le-mul_right, lemmas.Bool.Decides.nat_tests}
 use Rattle.qr_layout.specs.{declared.order.Cursor.Cursor, Version.side_of}
 use Rattle.qr_layout.specs.Order.{column_without_timing, Key, strip_of, key_of, is_before}
-use Rattle.qr_layout.specs.Steps.Order.{half_of, place_of, rank_of, left_of, next_of, IsCursor}
+use Rattle.qr_layout.specs.Steps.Order.{half_of, place_of, rows_before_of, left_of, next_of, IsCursor}
 
 -- if p is positive, then w is at most p * w
 pub mul-le_one : (p w : ℕ) → 0 < p → w ≤ p * w
@@ -17,12 +17,12 @@ mul-add_one q p w e = rw e (omega arith)
 mul-pred : (p w : ℕ) → 0 < p → (p - 1) * w + w ≡ p * w
 mul-pred p w h = mul-add_one (p - 1) p w (omega arith)
 
--- the position after position a has one position fewer left than a
+-- the cursor after cursor a has one cursor fewer left than a
 pub next-left : (s : ℕ) (a : Cursor) → 0 < a.strips → a.row < s → left_of s (next_of s a) + 1 ≡ left_of s a
 unfolding left_of next_of
 next-left s a h k = search (arith, mul-le_one, mul-pred, nat_tests)
 
--- the position after position a of the walk is a position of the walk or the end of the walk
+-- the cursor after cursor a of the walk is a cursor of the walk or the end of the walk
 pub next-IsCursor : (v : ℕ) (a : Cursor) → IsCursor v a → 0 < a.strips → IsCursor v (next_of (side_of v) a)
 unfolding next_of
 next-IsCursor v a k h = search (arith, nat_tests)
@@ -31,7 +31,7 @@ next-IsCursor v a k h = search (arith, nat_tests)
 pub half_of-bound : (b : Bool) → half_of b < 2
 half_of-bound b = grind (arith, nat_tests)
 
--- the module at position a has column number 2 * a.strips - 1 - half_of a.at_left when column 6 is left out
+-- the module at cursor a has column number 2 * a.strips - 1 - half_of a.at_left when column 6 is left out
 column-back : (a : Cursor) → 0 < a.strips → column_without_timing (place_of a).col ≡ 2 * a.strips - 1 - half_of a.at_left
 column-back a k = grind (arith, nat_tests)
 
@@ -44,27 +44,27 @@ parity-arith : (v p : ℕ) → p ≤ 8 + 2 * v → eqb ((8 + 2 * v - p) % 2) 0 �
 parity-arith v p m = grind (arith, nat_tests)
 
 -- the column number 2 * p - 1 - half_of b is odd just when half_of b is 0, which is the right half
-side-arith : (p : ℕ) (b : Bool) → 0 < p → cond (eqb ((2 * p - 1 - half_of b) % 2) 1) 0 1 ≡ half_of b
-side-arith p b k = grind (arith, nat_tests)
+half-arith : (p : ℕ) (b : Bool) → 0 < p → cond (eqb ((2 * p - 1 - half_of b) % 2) 1) 0 1 ≡ half_of b
+half-arith p b k = grind (arith, nat_tests)
 
--- the module at position a is in the strip with number 8 + 2 * v - a.strips from the right
+-- the module at cursor a is in the strip with number 8 + 2 * v - a.strips from the right
 key-strip : (v : ℕ) (a : Cursor) → IsCursor v a → 0 < a.strips → strip_of v (place_of a).col ≡ 8 + 2 * v - a.strips
 key-strip v a i k = search (arith, half_of-bound, strip-arith, column-back)
 
--- the key of the module at position a has the strip, the rank and the half of a
-key_of-place : (v : ℕ) (a : Cursor) → IsCursor v a → 0 < a.strips → key_of v (place_of a) ≡ record { strip = 8 + 2 * v - a.strips; rank = rank_of (side_of v) a; side = half_of a.at_left }
+-- the key of the module at cursor a has the strip of a, its rows before it and its half
+key_of-place : (v : ℕ) (a : Cursor) → IsCursor v a → 0 < a.strips → key_of v (place_of a) ≡ record { strip = 8 + 2 * v - a.strips; rows_before = rows_before_of (side_of v) a; column = half_of a.at_left }
 unfolding key_of
-key_of-place v a i k = search (arith, key-strip, column-back, parity-arith, side-arith)
+key_of-place v a i k = search (arith, key-strip, column-back, parity-arith, half-arith)
 
--- the rank of a position a whose row is below s is below s
-pub rank-bound : (s : ℕ) (a : Cursor) → a.row < s → rank_of s a < s
-rank-bound s a k = grind (arith, nat_tests)
+-- fewer than s rows come before a cursor a whose row is below s
+pub rows_before-bound : (s : ℕ) (a : Cursor) → a.row < s → rows_before_of s a < s
+rows_before-bound s a k = grind (arith, nat_tests)
 
 -- if p is below q, then p * w + w is at most q * w
 pub mul-lt : (p q w : ℕ) → p < q → p * w + w ≤ q * w
 mul-lt p q w k = search (arith, mul-le-mul_right)
 
--- of two positions, the one with fewer left is in a later strip, or later in the same strip
+-- of two cursors, the one with fewer left is in a later strip, or later in the same strip
 before-arith : (h p q w x y : ℕ) → p ≤ h → q ≤ h → x < w → y < w → q * w - y < p * w - x → 0 < q → (h - p < h - q) ⊎ ((h - p ≡ h - q) × (x < y))
 before-arith h p q w x y a b c d e f = search (arith, mul-lt)
 
@@ -72,9 +72,9 @@ before-arith h p q w x y a b c d e f = search (arith, mul-lt)
 digits-arith : (x y i j : ℕ) → i < 2 → j < 2 → 2 * x + i < 2 * y + j → (x < y) ⊎ ((x ≡ y) × (i < j))
 digits-arith x y i j a b c = search arith
 
--- keys are ordered by strip, then rank, then side
+-- keys are ordered by strip, then by row, then by column
 abbrev KeysRise : Key → Key → Type 0
-KeysRise a b = (a.strip < b.strip) ⊎ ((a.strip ≡ b.strip) × ((a.rank < b.rank) ⊎ ((a.rank ≡ b.rank) × (a.side < b.side))))
+KeysRise a b = (a.strip < b.strip) ⊎ ((a.strip ≡ b.strip) × ((a.rows_before < b.rows_before) ⊎ ((a.rows_before ≡ b.rows_before) × (a.column < b.column))))
 
 -- if the test `is_before a b` passes, then `KeysRise a b` holds
 pub before-parts : (a b : Key) → is_before a b ≡ true → KeysRise a b
@@ -86,8 +86,8 @@ before-test : (a b : Key) → KeysRise a b → is_before a b ≡ true
 unfolding is_before
 before-test a b h = grind (arith, nat_tests)
 
--- if position b has fewer positions left than position a, then the module at b has a later key than the module at a
+-- if cursor b has fewer cursors left than cursor a, then the module at b has a later key than the module at a
 pub is_before-left : (v : ℕ) (a b : Cursor) → IsCursor v a → IsCursor v b → 0 < a.strips → 0 < b.strips → left_of (side_of v) b < left_of (side_of v) a → is_before (key_of v (place_of a)) (key_of v (place_of b)) ≡ true
 unfolding left_of
 is_before-left v a b i j k l m =
-    search (arith, rank-bound, half_of-bound, key_of-place, before-test, before-arith, digits-arith)
+    search (arith, rows_before-bound, half_of-bound, key_of-place, before-test, before-arith, digits-arith)

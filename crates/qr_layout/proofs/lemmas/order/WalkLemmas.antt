@@ -2,12 +2,12 @@
 use Rattle.std.proofs.Common.{◌≡◌, ℕ, zero, suc, ◌+◌, ◌-◌, ◌*◌, ◌<◌, ◌≤◌, Bool, true, false, cond, List, [], ◌∷◌, ◌++◌, length, get_or, refl, sym, ap, ◌∙◌, subst, inl, inr, arith}
 use Rattle.std.{proofs.Math.Nat.mul-le-mul_right, specs.List.{AllPairs, AllByRecursion, Contains}}
 use Rattle.std.proofs.lemmas.{Bool.cases_lt, Bool.Decides.nat_tests, List.Elements.All-from_recursion}
-use Rattle.qr_layout.specs.declared.{region.Module.Module, order.Cursor.Cursor}
+use Rattle.qr_layout.specs.declared.{region.Place.Place, order.Cursor.Cursor}
 use Rattle.qr_layout.specs.Order.{key_of, is_before, IsOrder, IsOrderAfter}
-use Rattle.qr_layout.specs.Steps.Order.{half_of, place_of, left_of, next_of, IsCursor, places_within, to_come, first_cursor, cursor_at}
+use Rattle.qr_layout.specs.Steps.Order.{half_of, place_of, left_of, next_of, IsCursor, places_among, to_come, first_cursor, cursor_at}
 use Rattle.qr_layout.specs.{Region.is_in_region, Region.InRegion, Version.side_of}
 use Rattle.qr_layout.proofs.lemmas.{order.ListLemmas.Rises, region.RegionLemmas.{row-in, col-in, col-not_timing}}
-use Rattle.qr_layout.proofs.lemmas.order.PathLemmas.{half_of-bound, rank-bound, mul-lt, mul-le_one, next-left, next-IsCursor, is_before-left}
+use Rattle.qr_layout.proofs.lemmas.order.PathLemmas.{half_of-bound, rows_before-bound, mul-lt, mul-le_one, next-left, next-IsCursor, is_before-left}
 
 -- ---- lists
 
@@ -36,14 +36,14 @@ Contains-head x m xs e = (0, omega arith, e)
 Contains-tail : {X : Type 0} (x m : X) (xs : List X) → Contains xs m → Contains (x ∷ xs) m
 Contains-tail x m xs h = (suc h.0, (let l = h.1 in omega arith), h.2)
 
--- ---- positions
+-- ---- cursors
 
--- if position a has n + 1 positions left, then it is in a strip
+-- if cursor a has n + 1 cursors left, then it is in a strip
 pub strips-positive : (s : ℕ) (a : Cursor) (n : ℕ) → left_of s a ≡ suc n → 0 < a.strips
 unfolding left_of
 strips-positive s a n e = search arith
 
--- with w positions in each strip, positions with equally many left are the same
+-- with w cursors in each strip, cursors with equally many left are the same
 same-arith : (p q w x y : ℕ) → x < w → y < w → 0 < p → 0 < q → p * w - x ≡ q * w - y → (p ≡ q) × (x ≡ y)
 same-arith p q w x y a b k l e = search (arith, mul-lt, mul-le_one)
 
@@ -55,44 +55,44 @@ digits-same x y i j a b e = (omega arith, omega arith)
 half_of-same : (a b : Bool) → half_of a ≡ half_of b → a ≡ b
 half_of-same a b e = grind (arith, nat_tests)
 
--- two rows x and y that have the same rank in a strip are the same row
-rank-same : (s x y : ℕ) (u : Bool) → x < s → y < s → cond u (s - 1 - x) x ≡ cond u (s - 1 - y) y → x ≡ y
-rank-same s x y u k l e = grind (arith, nat_tests)
+-- two rows x and y that come after equally many rows of a strip are the same row
+rows_before-same : (s x y : ℕ) (u : Bool) → x < s → y < s → cond u (s - 1 - x) x ≡ cond u (s - 1 - y) y → x ≡ y
+rows_before-same s x y u k l e = grind (arith, nat_tests)
 
--- a position a in a strip has at least one position left, because a itself is counted
+-- a cursor a in a strip has at least one cursor left, because a itself is counted
 left-positive : (v : ℕ) (a : Cursor) → IsCursor v a → 0 < a.strips → 0 < left_of (side_of v) a
 unfolding left_of
-left-positive v a i k = search (arith, mul-le_one, rank-bound, half_of-bound)
+left-positive v a i k = search (arith, mul-le_one, rows_before-bound, half_of-bound)
 
--- two positions a and b with equally many positions left are the same position
+-- two cursors a and b with equally many cursors left are the same cursor
 same-cursor : (v : ℕ) (a b : Cursor) → IsCursor v a → IsCursor v b → 0 < a.strips → 0 < b.strips → left_of (side_of v) a ≡ left_of (side_of v) b → a ≡ b
 unfolding left_of
 same-cursor v a b i j k l e =
-    search (arith, rank-bound, half_of-bound, same-arith, digits-same, rank-same, half_of-same)
+    search (arith, rows_before-bound, half_of-bound, same-arith, digits-same, rows_before-same, half_of-same)
 
--- ---- the walk, n positions at a time
+-- ---- the walk, n cursors at a time
 
--- 0 positions yield no module
-pub places-nil : (v : ℕ) (a : Cursor) → places_within v 0 a ≡ []
-unfolding places_within
+-- 0 cursors yield no module
+pub places-nil : (v : ℕ) (a : Cursor) → places_among v 0 a ≡ []
+unfolding places_among
 places-nil v a = refl
 
--- the region's modules at n + 1 positions from a on are that at a, if it is in the region, and those from the next on
-pub places-suc : (v n : ℕ) (a : Cursor) → places_within v (suc n) a ≡ cond (is_in_region v a.row (place_of a).col) (place_of a ∷ places_within v n (next_of (side_of v) a)) (places_within v n (next_of (side_of v) a))
-unfolding places_within
+-- the region's modules at n + 1 cursors from a on are that at a, if it is in the region, and those from the next on
+pub places-suc : (v n : ℕ) (a : Cursor) → places_among v (suc n) a ≡ cond (is_in_region v a.row (place_of a).col) (place_of a ∷ places_among v n (next_of (side_of v) a)) (places_among v n (next_of (side_of v) a))
+unfolding places_among
 places-suc v n a = refl
 
--- module m is in the encoding region, and it is the module at a position b with at most n positions left
-abbrev Stop : ℕ → ℕ → Module → Type 0
+-- module m is in the encoding region, and it is the module at a cursor b with at most n cursors left
+abbrev Stop : ℕ → ℕ → Place → Type 0
 Stop v n m = (b : Cursor) × IsCursor v b × (0 < b.strips) × (left_of (side_of v) b ≤ n) × (place_of b ≡ m) × InRegion v m
 
 -- what holds for a module that is put in front, and for each module of xs, holds for each of both
-stops-cond : (v n top : ℕ) (a : Cursor) (t : Bool) (xs : List Module) → (t ≡ true → Stop v top (place_of a)) → AllByRecursion (Stop v top) xs → AllByRecursion (Stop v top) (cond t (place_of a ∷ xs) xs)
+stops-cond : (v n top : ℕ) (a : Cursor) (t : Bool) (xs : List Place) → (t ≡ true → Stop v top (place_of a)) → AllByRecursion (Stop v top) xs → AllByRecursion (Stop v top) (cond t (place_of a ∷ xs) xs)
 stops-cond v n top a true xs f h = (f refl, h)
 stops-cond v n top a false xs f h = h
 
--- each module that the walk yields from a position a with n positions left is at a position with at most n positions left
-stops : (v n top : ℕ) (a : Cursor) → IsCursor v a → left_of (side_of v) a ≡ n → n ≤ top → AllByRecursion (Stop v top) (places_within v n a)
+-- each module that the walk yields from a cursor a with n cursors left is at a cursor with at most n cursors left
+stops : (v n top : ℕ) (a : Cursor) → IsCursor v a → left_of (side_of v) a ≡ n → n ≤ top → AllByRecursion (Stop v top) (places_among v n a)
 stops v zero top a i e l = rw places-nil tt
 stops v (suc n) top a i e l =
     let k = strips-positive (side_of v) a n e in
@@ -100,28 +100,28 @@ stops v (suc n) top a i e l =
     search (arith, places-suc, stops-cond, next-IsCursor, stops v n top (next_of (side_of v) a) (next-IsCursor v a i k) (omega arith) (omega arith))
 
 -- a rising list still rises with an item in front that has the relation to each of its items
-rises-cond : (R : Module → Module → Type 0) (x : Module) (t : Bool) (xs : List Module) → AllByRecursion (R x) xs → Rises R xs → Rises R (cond t (x ∷ xs) xs)
+rises-cond : (R : Place → Place → Type 0) (x : Place) (t : Bool) (xs : List Place) → AllByRecursion (R x) xs → Rises R xs → Rises R (cond t (x ∷ xs) xs)
 rises-cond R x true xs h k = (h, k)
 rises-cond R x false xs h k = k
 
--- the modules that the walk yields from a position a with n positions left have rising keys
-rises : (v n : ℕ) (a : Cursor) → IsCursor v a → left_of (side_of v) a ≡ n → Rises (λ m n. is_before (key_of v m) (key_of v n) ≡ true) (places_within v n a)
+-- the modules that the walk yields from a cursor a with n cursors left have rising keys
+rises : (v n : ℕ) (a : Cursor) → IsCursor v a → left_of (side_of v) a ≡ n → Rises (λ m n. is_before (key_of v m) (key_of v n) ≡ true) (places_among v n a)
 rises v zero a i e = rw places-nil tt
 rises v (suc n) a i e =
     let s = side_of v in
     let k = strips-positive s a n e in
     let d = next-left s a k i.row_in in
     let j = next-IsCursor v a i k in
-    let f : (m : Module) → Stop v n m → is_before (key_of v (place_of a)) (key_of v m) ≡ true = λ m w. subst (λ (z : Module). is_before (key_of v (place_of a)) (key_of v z) ≡ true) w.4 (is_before-left v a w.0 i w.1 k w.2 (let l = w.3 in omega arith)) in
+    let f : (m : Place) → Stop v n m → is_before (key_of v (place_of a)) (key_of v m) ≡ true = λ m w. subst (λ (z : Place). is_before (key_of v (place_of a)) (key_of v z) ≡ true) w.4 (is_before-left v a w.0 i w.1 k w.2 (let l = w.3 in omega arith)) in
     rw places-suc (rises-cond (λ m n. is_before (key_of v m) (key_of v n) ≡ true) (place_of a) (is_in_region v a.row (place_of a).col) _ (All-weaker_rec (Stop v n) _ f _ (stops v n n (next_of s a) j (omega arith) (omega arith))) (rises v n (next_of s a) j (omega arith)))
 
 -- if the list xs contains m, then the list xs with x in front, if the test t passes, contains m
-contains-cond : (x m : Module) (t : Bool) (xs : List Module) → Contains xs m → Contains (cond t (x ∷ xs) xs) m
+contains-cond : (x m : Place) (t : Bool) (xs : List Place) → Contains xs m → Contains (cond t (x ∷ xs) xs) m
 contains-cond x m true xs h = Contains-tail x m xs h
 contains-cond x m false xs h = h
 
--- the walk from a on yields the module at each later position, if this module is in the encoding region
-finds : (v n : ℕ) (a b : Cursor) → IsCursor v a → left_of (side_of v) a ≡ n → IsCursor v b → 0 < b.strips → left_of (side_of v) b ≤ n → InRegion v (place_of b) → Contains (places_within v n a) (place_of b)
+-- the walk from a on yields the module at each later cursor, if this module is in the encoding region
+finds : (v n : ℕ) (a b : Cursor) → IsCursor v a → left_of (side_of v) a ≡ n → IsCursor v b → 0 < b.strips → left_of (side_of v) b ≤ n → InRegion v (place_of b) → Contains (places_among v n a) (place_of b)
 finds v zero a b i e j l h t = let p = left-positive v b j l in absurd (omega arith)
 finds v (suc n) a b i e j l h t =
     let s = side_of v in
@@ -132,33 +132,33 @@ finds v (suc n) a b i e j l h t =
       | inr m ↦ search (arith, same-cursor, places-suc, Contains-head)
     ]
 
--- ---- the beginning, and the position of a place
+-- ---- the beginning, and the cursor of a place
 
--- the position at which the walk begins is a position of the walk
+-- the cursor at which the walk begins is a cursor of the walk
 pub start-IsCursor : (v : ℕ) → IsCursor v (first_cursor v)
 start-IsCursor v = record { strips_in = omega arith; row_in = omega arith }
 
--- the position of a module m is in a strip
-pub at-strips : (m : Module) → 0 < (cursor_at m).strips
+-- the cursor of a module m is in a strip
+pub at-strips : (m : Place) → 0 < (cursor_at m).strips
 unfolding cursor_at
 at-strips m = omega arith
 
--- the position of each module m of the square is a position of the walk
-pub at-IsCursor : (v : ℕ) (m : Module) → m.row < side_of v → m.col < side_of v → IsCursor v (cursor_at m)
+-- the cursor of each module m of the square is a cursor of the walk
+pub at-IsCursor : (v : ℕ) (m : Place) → m.row < side_of v → m.col < side_of v → IsCursor v (cursor_at m)
 unfolding cursor_at
 at-IsCursor v m h k = record { strips_in = grind (arith, nat_tests); row_in = h }
 
--- the module at the position of module m is m, unless m is in column 6
-pub at-place : (m : Module) → (m.col ≡ 6 → ⊥) → place_of (cursor_at m) ≡ m
+-- the module at the cursor of module m is m, unless m is in column 6
+pub at-place : (m : Place) → (m.col ≡ 6 → ⊥) → place_of (cursor_at m) ≡ m
 unfolding cursor_at
 at-place m h = grind (arith, nat_tests)
 
--- at the beginning of the walk of version v, both positions of each row of each strip are left
+-- at the beginning of the walk of version v, both cursors of each row of each strip are left
 pub start-left : (v : ℕ) → left_of (side_of v) (first_cursor v) ≡ (8 + 2 * v) * (2 * side_of v)
 unfolding left_of
 start-left v = grind (arith, nat_tests)
 
--- no position b has more positions left than the beginning of the walk
+-- no cursor b has more cursors left than the beginning of the walk
 start-most : (v : ℕ) (b : Cursor) → IsCursor v b → left_of (side_of v) b ≤ left_of (side_of v) (first_cursor v)
 unfolding left_of
 start-most v b j = search (arith, mul-le-mul_right, start-left)
@@ -178,19 +178,19 @@ to_come-start v =
           let b = cursor_at m in
           let e = at-place m (col-not_timing v m h) in
           let j = at-IsCursor v m (row-in v m h) (col-in v m h) in
-          subst (λ (z : Module). Contains (places_within v n (first_cursor v)) z) e (finds v n (first_cursor v) b i refl j (at-strips m) (start-most v b j) (subst (InRegion v) (sym e) h));
+          subst (λ (z : Place). Contains (places_among v n (first_cursor v)) z) e (finds v n (first_cursor v) b i refl j (at-strips m) (start-most v b j) (subst (InRegion v) (sym e) h));
       rising = AllPairs-from_rises _ _ (rises v n (first_cursor v) i refl);
     }
 
--- ---- the walk from a position in the middle
+-- ---- the walk from a cursor in the middle
 
 -- if the list xs ends with ys, then the list xs with x in front, if the test t passes, ends with ys
-reach-cond : (v : ℕ) (x : Module) (t : Bool) (xs ys : List Module) → ((front : List Module) × (xs ≡ front ++ ys)) → (front : List Module) × (cond t (x ∷ xs) xs ≡ front ++ ys)
+reach-cond : (v : ℕ) (x : Place) (t : Bool) (xs ys : List Place) → ((front : List Place) × (xs ≡ front ++ ys)) → (front : List Place) × (cond t (x ∷ xs) xs ≡ front ++ ys)
 reach-cond v x true xs ys w = (x ∷ w.0, ap (λ zs. x ∷ zs) w.1)
 reach-cond v x false xs ys w = w
 
--- the modules that the walk yields from a on end with those from a later position b on
-reaches : (v n : ℕ) (a b : Cursor) → IsCursor v a → left_of (side_of v) a ≡ n → IsCursor v b → 0 < b.strips → left_of (side_of v) b ≤ n → (front : List Module) × (places_within v n a ≡ front ++ places_within v (left_of (side_of v) b) b)
+-- the modules that the walk yields from a on end with those from a later cursor b on
+reaches : (v n : ℕ) (a b : Cursor) → IsCursor v a → left_of (side_of v) a ≡ n → IsCursor v b → 0 < b.strips → left_of (side_of v) b ≤ n → (front : List Place) × (places_among v n a ≡ front ++ places_among v (left_of (side_of v) b) b)
 reaches v zero a b i e j l h = let p = left-positive v b j l in absurd (omega arith)
 reaches v (suc n) a b i e j l h =
     let s = side_of v in
@@ -201,7 +201,7 @@ reaches v (suc n) a b i e j l h =
       | inr m ↦ search (arith, same-cursor)
     ]
 
--- the modules from a on are that at a, if it is in the encoding region, and those from the next position on
+-- the modules from a on are that at a, if it is in the encoding region, and those from the next cursor on
 pub to_come-next : (v : ℕ) (a : Cursor) → IsCursor v a → 0 < a.strips → to_come v a ≡ cond (is_in_region v a.row (place_of a).col) (place_of a ∷ to_come v (next_of (side_of v) a)) (to_come v (next_of (side_of v) a))
 unfolding to_come
 to_come-next v a i k =
@@ -215,8 +215,8 @@ pub to_come-end : (v : ℕ) (a : Cursor) → a.strips ≡ 0 → to_come v a ≡ 
 unfolding to_come left_of
 to_come-end v a e = search (arith, places-nil)
 
--- the modules that the walk yields after the position of module m are the modules that come after m in the order
-pub after : (v : ℕ) (m : Module) → InRegion v m → IsOrderAfter v m (to_come v (next_of (side_of v) (cursor_at m)))
+-- the modules that the walk yields after the cursor of module m are the modules that come after m in the order
+pub after : (v : ℕ) (m : Place) → InRegion v m → IsOrderAfter v m (to_come v (next_of (side_of v) (cursor_at m)))
 unfolding to_come
 after v m h =
     let s = side_of v in
@@ -237,34 +237,34 @@ walk-order v n s e f =
 
 -- ---- one step of the code
 
--- if the code steps from position a to position b, then b is a position of the walk or the end of the walk
+-- if the code steps from cursor a to cursor b, then b is a cursor of the walk or the end of the walk
 pub step-cursor : (v : ℕ) (a b : Cursor) → IsCursor v a → 0 < a.strips → b ≡ next_of (side_of v) a → IsCursor v b
 step-cursor v a b i k f = rw f (next-IsCursor v a i k)
 
--- if the code steps from position a to position b, then b has fewer positions left than a
+-- if the code steps from cursor a to cursor b, then b has fewer cursors left than a
 pub step-left : (v : ℕ) (a b : Cursor) → IsCursor v a → 0 < a.strips → b ≡ next_of (side_of v) a → left_of (side_of v) b < left_of (side_of v) a
 step-left v a b i k f = search (arith, next-left)
 
 -- if the code steps from a, where m is in the region, to b, then the modules from a on are m and those from b on
-pub step-yields : (v : ℕ) (a b : Cursor) (m : Module) (t : Bool) → IsCursor v a → 0 < a.strips → b ≡ next_of (side_of v) a → m ≡ place_of a → t ≡ is_in_region v m.row m.col → t ≡ true → to_come v a ≡ m ∷ to_come v b
+pub step-yields : (v : ℕ) (a b : Cursor) (m : Place) (t : Bool) → IsCursor v a → 0 < a.strips → b ≡ next_of (side_of v) a → m ≡ place_of a → t ≡ is_in_region v m.row m.col → t ≡ true → to_come v a ≡ m ∷ to_come v b
 step-yields v a b m t i k f g h j = search (arith, to_come-next)
 
 -- if the code steps from a, where the module is not in the region, to b, then the modules from a on are those from b on
-pub step-passes : (v : ℕ) (a b : Cursor) (m : Module) (t : Bool) → IsCursor v a → 0 < a.strips → b ≡ next_of (side_of v) a → m ≡ place_of a → t ≡ is_in_region v m.row m.col → t ≡ false → to_come v a ≡ to_come v b
+pub step-passes : (v : ℕ) (a b : Cursor) (m : Place) (t : Bool) → IsCursor v a → 0 < a.strips → b ≡ next_of (side_of v) a → m ≡ place_of a → t ≡ is_in_region v m.row m.col → t ≡ false → to_come v a ≡ to_come v b
 step-passes v a b m t i k f g h j = search (arith, to_come-next)
 
--- if the code resumes the walk after module m at position b, the modules from b on are those after m in the order
-pub after-order : (v : ℕ) (m : Module) (a b : Cursor) (t : Bool) → t ≡ is_in_region v m.row m.col → t ≡ true → a ≡ cursor_at m → b ≡ next_of (side_of v) a → IsOrderAfter v m (to_come v b)
+-- if the code resumes the walk after module m at cursor b, the modules from b on are those after m in the order
+pub after-order : (v : ℕ) (m : Place) (a b : Cursor) (t : Bool) → t ≡ is_in_region v m.row m.col → t ≡ true → a ≡ cursor_at m → b ≡ next_of (side_of v) a → IsOrderAfter v m (to_come v b)
 after-order v m a b t h j f g = rw (g, f) (after v m (sym h ∙ j))
 
--- the position a that the code computes for module m is in a strip
-pub after-strips : (m : Module) (a : Cursor) → a ≡ cursor_at m → 0 < a.strips
+-- the cursor a that the code computes for module m is in a strip
+pub after-strips : (m : Place) (a : Cursor) → a ≡ cursor_at m → 0 < a.strips
 after-strips m a f = rw f (at-strips m)
 
--- the position a that the code computes for a module m of the encoding region is a position of the walk
-pub after-position : (v : ℕ) (m : Module) (a : Cursor) (t : Bool) → t ≡ is_in_region v m.row m.col → t ≡ true → a ≡ cursor_at m → IsCursor v a
-after-position v m a t h j f = rw f (at-IsCursor v m (row-in v m (sym h ∙ j)) (col-in v m (sym h ∙ j)))
+-- the cursor a that the code computes for a module m of the encoding region is a cursor of the walk
+pub after-cursor : (v : ℕ) (m : Place) (a : Cursor) (t : Bool) → t ≡ is_in_region v m.row m.col → t ≡ true → a ≡ cursor_at m → IsCursor v a
+after-cursor v m a t h j f = rw f (at-IsCursor v m (row-in v m (sym h ∙ j)) (col-in v m (sym h ∙ j)))
 
 -- if xs is m followed by ys, then ys is shorter than xs
-pub length-less : (xs ys : List Module) (m : Module) → xs ≡ m ∷ ys → length ys < length xs
+pub length-less : (xs ys : List Place) (m : Place) → xs ≡ m ∷ ys → length ys < length xs
 length-less xs ys m e = rw e (omega arith)

@@ -1,7 +1,7 @@
 -- A module of the encoding region is inside the square, and not in column 6. There are small facts of tests, too.
 use Rattle.std.proofs.Common.{◌≡◌, ℕ, ◌<◌, Bool, true, false, not, ◌&&◌, ◌||◌, ltb, arith}
 use Rattle.std.proofs.lemmas.Bool.{and_parts, Decides.nat_tests}
-use Rattle.qr_layout.specs.{declared.region.Module.Module, Version.side_of}
+use Rattle.qr_layout.specs.{declared.region.Place.Place, Version.side_of}
 use Rattle.qr_layout.specs.Region.{is_corner, is_timing, is_version_information, is_alignment, is_in_region, InRegion}
 
 -- a module of the region is inside the square, and in no part outside the region
@@ -23,11 +23,11 @@ free-of v r c h =
     }
 
 -- the row of a module of the region is inside the square
-pub row-in : (v : ℕ) (m : Module) → InRegion v m → m.row < side_of v
+pub row-in : (v : ℕ) (m : Place) → InRegion v m → m.row < side_of v
 row-in v m h = let e : ltb m.row (side_of v) ≡ true = (free-of v m.row m.col h).row in grind (arith, nat_tests)
 
 -- the column of a module of the region is inside the square
-pub col-in : (v : ℕ) (m : Module) → InRegion v m → m.col < side_of v
+pub col-in : (v : ℕ) (m : Place) → InRegion v m → m.col < side_of v
 col-in v m h = let e : ltb m.col (side_of v) ≡ true = (free-of v m.row m.col h).col in grind (arith, nat_tests)
 
 -- of four tests none of which passes, the second fails
@@ -35,7 +35,7 @@ second-out : (a b d e : Bool) → not (((a || b) || d) || e) ≡ true → b ≡ 
 second-out a b d e h = grind (arith, nat_tests)
 
 -- no module of the region is in column 6
-pub col-not_timing : (v : ℕ) (m : Module) → InRegion v m → m.col ≡ 6 → ⊥
+pub col-not_timing : (v : ℕ) (m : Place) → InRegion v m → m.col ≡ 6 → ⊥
 col-not_timing v m h e =
     let out : is_timing m.row m.col ≡ false = second-out (is_corner (side_of v) m.row m.col) (is_timing m.row m.col) (is_version_information v m.row m.col) (is_alignment v m.row m.col) (free-of v m.row m.col h).free in
     off m.row m.col out e

@@ -2,7 +2,7 @@
 use Rattle.std.proofs.Common.{◌≡◌, ℕ, Bool, false, not, ◌&&◌, ◌||◌, leb, ltb, List, [], ◌∷◌, refl, sym, ap, ◌∙◌, arith}
 use Rattle.std.{proofs.{Math.Bool.{and_comm, or_comm}, lemmas.Bool.Decides.nat_tests}, specs.List.list_any}
 use Rattle.qr_layout.specs.{Alignment.{centres_of, is_corner_pair}, Version.side_of}
-use Rattle.qr_layout.specs.Region.{is_alignment, is_corner, is_in_region, is_timing, is_version_block, is_version_information, ring_of}
+use Rattle.qr_layout.specs.Region.{is_alignment, is_corner, is_in_region, is_timing, is_version_copy, is_version_information, ring_of}
 use Rattle.qr_layout.proofs.lemmas.alignment.AlignmentLemmas.{any-places, list_any-same}
 
 -- no item passes a test that always fails
@@ -48,7 +48,7 @@ timing-symmetric r c = grind (arith, nat_tests)
 
 -- the blocks of version information
 version-symmetric : (v r c : ℕ) → is_version_information v r c ≡ is_version_information v c r
-version-symmetric v r c = cc (or_comm (is_version_block (side_of v) r c) (is_version_block (side_of v) c r))
+version-symmetric v r c = cc (or_comm (is_version_copy (side_of v) r c) (is_version_copy (side_of v) c r))
 
 -- a place is in the encoding region exactly if the place with row and column exchanged is in it
 pub region-symmetric : (v r c : ℕ) → is_in_region v r c ≡ is_in_region v c r

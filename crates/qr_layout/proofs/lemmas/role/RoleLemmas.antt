@@ -2,7 +2,7 @@
 use Rattle.std.proofs.Common.{◌≡◌, ℕ, zero, suc, ◌+◌, ◌-◌, ◌*◌, ◌<◌, ◌≤◌, Bool, true, false, ◌&&◌, ◌||◌, cond, eqb, ltb, leb, None, Some, refl, ap, ◌∙◌, subst, inl, inr, ◌⊎◌, arith}
 use Rattle.std.proofs.lemmas.Bool.{Decides.nat_tests, and_parts, cases_lt, cases_Bool}
 use Rattle.std.specs.List.{find, range_with_len}
-use Rattle.qr_layout.specs.{Version.side_of, Region.is_version_block, Region.is_version_information}
+use Rattle.qr_layout.specs.{Version.side_of, Region.is_version_copy, Region.is_version_information}
 use Rattle.qr_layout.specs.Role.{first_place, second_place, version_place, mirror_of, is_at, format_bit_at, version_bit_at}
 
 -- the only one of n numbers from a on that passes the test is the one that is found
@@ -84,14 +84,14 @@ unfolding format_bit_at
 format-at s r c l = first-one 15 (stands s r c) (bit_here s r c) (λ j b k. stands-here s r c j l b k)
 
 -- column 8
-pub format_down : (s r : ℕ) → 21 ≤ s → r < s → format_bit_at s r 8
+pub format_in_column_8 : (s r : ℕ) → 21 ≤ s → r < s → format_bit_at s r 8
     ≡ cond (ltb r 6) (Some r) (cond (eqb r 6) None (cond (ltb r 9) (Some (r - 1)) (cond (ltb (s - 8) r) (Some (r + 15 - s)) None)))
-format_down s r l h = format-at s r 8 l ∙ grind (arith, nat_tests)
+format_in_column_8 s r l h = format-at s r 8 l ∙ grind (arith, nat_tests)
 
 -- row 8 without column 8
-pub format_across : (s c : ℕ) → 21 ≤ s → c < s → (c ≡ 8 → ⊥) → format_bit_at s 8 c
+pub format_in_row_8 : (s c : ℕ) → 21 ≤ s → c < s → (c ≡ 8 → ⊥) → format_bit_at s 8 c
     ≡ cond (ltb c 6) (Some (14 - c)) (cond (eqb c 6) None (cond (eqb c 7) (Some 8) (cond (leb (s - 8) c) (Some (s - 1 - c)) None)))
-format_across s c l h n = format-at s 8 c l ∙ grind (arith, nat_tests)
+format_in_row_8 s c l h n = format-at s 8 c l ∙ grind (arith, nat_tests)
 
 -- outside row 8 and column 8
 pub format_off : (s r c : ℕ) → 21 ≤ s → (r ≡ 8 → ⊥) → (c ≡ 8 → ⊥) → format_bit_at s r c ≡ None
@@ -111,7 +111,7 @@ version-here : (s r c i : ℕ) → 21 ≤ s → i < 18 → stands_for_version s 
 version-here s r c i l a h = grind (arith, nat_tests)
 
 -- the bit is there exactly in the two blocks
-version-stands : (s r c : ℕ) → 21 ≤ s → (ltb (version_here s r c) 18 && stands_for_version s r c (version_here s r c)) ≡ (is_version_block s r c || is_version_block s c r)
+version-stands : (s r c : ℕ) → 21 ≤ s → (ltb (version_here s r c) 18 && stands_for_version s r c (version_here s r c)) ≡ (is_version_copy s r c || is_version_copy s c r)
 version-stands s r c l = grind (arith, nat_tests)
 
 -- the bit of the version information that a place contains

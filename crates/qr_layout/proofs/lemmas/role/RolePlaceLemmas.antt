@@ -2,14 +2,14 @@
 use Rattle.std.proofs.Common.{◌≡◌, ℕ, ◌+◌, ◌-◌, ◌%◌, ◌<◌, ◌≤◌, max, Bool, true, false, not, ◌&&◌, ◌||◌, cond, eqb, ltb, Option, None, Some, refl, sym, ap, ◌∙◌, inl, inr, ◌⊎◌, arith}
 use Rattle.std.proofs.lemmas.Bool.{Decides.nat_tests, cases_lt, and_parts, eqb-true}
 use Rattle.std.specs.{Int.abs_diff, List.{find, range_with_len}, Option.option_map_or}
-use Rattle.qr_layout.specs.{declared.{region.Module.Module, role.Role.Role}, Version.side_of, Alignment.centres_of}
+use Rattle.qr_layout.specs.{declared.{region.Place.Place, role.Role.Role}, Version.side_of, Alignment.centres_of}
 use Rattle.qr_layout.specs.declared.role.Role.TheVariants.{Fixed, FormatBit, VersionBit, Region}
 use Rattle.qr_layout.specs.Region.{is_alignment, is_corner, is_in_region, is_timing, is_version_information, ring_of}
 use Rattle.qr_layout.specs.Role.{finder_ring, is_alignment_light, pattern_colour, first_place, second_place, version_place, mirror_of, is_at, format_bit_at, version_bit_at, is_dark_module, role_of}
 use Rattle.qr_layout.proofs.lemmas.alignment.TableLemmas.{below, below-at, below-from}
 use Rattle.qr_layout.proofs.lemmas.alignment.AlignmentLemmas.{region_free, region-parts}
 use Rattle.qr_layout.proofs.lemmas.role.RoleSymmetryLemmas.{role-symmetric}
-use Rattle.qr_layout.proofs.lemmas.role.RoleLemmas.{either, first-at, bit_here, stands, format-at, format_down, format_across, version_at}
+use Rattle.qr_layout.proofs.lemmas.role.RoleLemmas.{either, first-at, bit_here, stands, format-at, format_in_column_8, format_in_row_8, version_at}
 
 -- the choice of a role, over what its parts say
 abbrev role_with : Option Bool → Bool → Option ℕ → Option ℕ → Role
@@ -31,26 +31,26 @@ with-version : (a : Option Bool) (t : Bool) (f g : Option ℕ) (i : ℕ) → rol
 with-version a t f g i h = grind (arith, nat_tests)
 
 -- a module at the row and column of another is that one
-at-place : (m n : Module) → is_at n m.row m.col ≡ true → m ≡ n
+at-place : (m n : Place) → is_at n m.row m.col ≡ true → m ≡ n
 at-place m n h =
     let a : m.row ≡ n.row = sym (eqb-true _ _ (and_parts (eqb n.row m.row) _ h).0) in
     let b : m.col ≡ n.col = sym (eqb-true _ _ (and_parts (eqb n.row m.row) _ h).1) in
     λ z. record { row = a z; col = b z }
 
 -- a module at one of two places is one of the two
-either-place : (m n k : Module) → (is_at n m.row m.col || is_at k m.row m.col) ≡ true → (m ≡ n) ⊎ (m ≡ k)
+either-place : (m n k : Place) → (is_at n m.row m.col || is_at k m.row m.col) ≡ true → (m ≡ n) ⊎ (m ≡ k)
 either-place m n k h = elim (either (is_at n m.row m.col) (is_at k m.row m.col) h) [
   | inl e ↦ inl (at-place m n e)
   | inr e ↦ inr (at-place m k e)
 ]
 
 -- a bit of the format information that is found is at one of its two places
-found-format : (s : ℕ) (m : Module) (i : ℕ) → format_bit_at s m.row m.col ≡ Some i → (i < 15) × ((m ≡ first_place i) ⊎ (m ≡ second_place s i))
+found-format : (s : ℕ) (m : Place) (i : ℕ) → format_bit_at s m.row m.col ≡ Some i → (i < 15) × ((m ≡ first_place i) ⊎ (m ≡ second_place s i))
 unfolding format_bit_at
 found-format s m i h = let w = first-at 15 (λ i. is_at (first_place i) m.row m.col || is_at (second_place s i) m.row m.col) i h in (w.0, either-place m (first_place i) (second_place s i) w.1)
 
 -- a bit of the format information is only at its two places
-pub format-only : (v : ℕ) (m : Module) (i : ℕ) → role_of v m.row m.col ≡ FormatBit i → (i < 15) × ((m ≡ first_place i) ⊎ (m ≡ second_place (side_of v) i))
+pub format-only : (v : ℕ) (m : Place) (i : ℕ) → role_of v m.row m.col ≡ FormatBit i → (i < 15) × ((m ≡ first_place i) ⊎ (m ≡ second_place (side_of v) i))
 format-only v m i h = found-format (side_of v) m i (with-format (pattern_colour v m.row m.col) _ _ (version_bit_at v m.row m.col) i (sym (role-with v m.row m.col) ∙ h))
 
 -- if a place has version information, the version is 7 or more
@@ -61,7 +61,7 @@ old-enough v i o h = elim (cases_lt v 7) [
 ]
 
 -- a bit of the version information that is found is at one of its two places
-found-version : (v : ℕ) (m : Module) (i : ℕ) → version_bit_at v m.row m.col ≡ Some i → (7 ≤ v) × (i < 18) × ((m ≡ version_place (side_of v) i) ⊎ (m ≡ mirror_of (version_place (side_of v) i)))
+found-version : (v : ℕ) (m : Place) (i : ℕ) → version_bit_at v m.row m.col ≡ Some i → (7 ≤ v) × (i < 18) × ((m ≡ version_place (side_of v) i) ⊎ (m ≡ mirror_of (version_place (side_of v) i)))
 unfolding version_bit_at
 found-version v m i h =
     let p : ℕ → Bool = λ i. is_at (version_place (side_of v) i) m.row m.col || is_at (mirror_of (version_place (side_of v) i)) m.row m.col in
@@ -70,7 +70,7 @@ found-version v m i h =
     (o.0, w.0, either-place m (version_place (side_of v) i) (mirror_of (version_place (side_of v) i)) w.1)
 
 -- a bit of the version information is only at its two places
-pub version-only : (v : ℕ) (m : Module) (i : ℕ) → role_of v m.row m.col ≡ VersionBit i → (7 ≤ v) × (i < 18) × ((m ≡ version_place (side_of v) i) ⊎ (m ≡ mirror_of (version_place (side_of v) i)))
+pub version-only : (v : ℕ) (m : Place) (i : ℕ) → role_of v m.row m.col ≡ VersionBit i → (7 ≤ v) × (i < 18) × ((m ≡ version_place (side_of v) i) ⊎ (m ≡ mirror_of (version_place (side_of v) i)))
 version-only v m i h = found-version v m i (with-version (pattern_colour v m.row m.col) _ (format_bit_at (side_of v) m.row m.col) _ i (sym (role-with v m.row m.col) ∙ h))
 
 -- whether a role is the other
@@ -82,7 +82,7 @@ is_role Region Region = true
 is_role x y = false
 
 -- the module has the role
-abbrev has_role : ℕ → Module → Role → Bool
+abbrev has_role : ℕ → Place → Role → Bool
 has_role v m x = is_role (role_of v m.row m.col) x
 
 role-same : (x y : Role) → is_role x y ≡ true → x ≡ y
@@ -222,10 +222,10 @@ far-edge s r c l j n h k = grind arith
 
 -- column 8 and row 8 contain bits there, and the dark module
 down-full : (s r : ℕ) → 21 ≤ s → r < s → (r ≡ 6 → ⊥) → is_dark_module s r 8 ≡ false → (r ≤ 8) ⊎ (s - 8 ≤ r) → format_bit_at s r 8 ≡ None → ⊥
-down-full s r l i k d h f = let e = sym (format_down s r l i) ∙ f in grind (arith, nat_tests)
+down-full s r l i k d h f = let e = sym (format_in_column_8 s r l i) ∙ f in grind (arith, nat_tests)
 
 across-full : (s c : ℕ) → 21 ≤ s → c < s → (c ≡ 6 → ⊥) → (c ≡ 8 → ⊥) → (c ≤ 8) ⊎ (s - 8 ≤ c) → format_bit_at s 8 c ≡ None → ⊥
-across-full s c l i k n h f = let e = sym (format_across s c l i n) ∙ f in grind (arith, nat_tests)
+across-full s c l i k n h f = let e = sym (format_in_row_8 s c l i n) ∙ f in grind (arith, nat_tests)
 
 -- a place that is in no pattern, contains no bit and is not the dark module is outside the corners
 corners-free : (s r c : ℕ) → 21 ≤ s → r < s → c < s → 5 ≤ finder_ring s r c → (r ≡ 6 → ⊥) → (c ≡ 6 → ⊥) → is_dark_module s r c ≡ false → format_bit_at s r c ≡ None → is_corner s r c ≡ false

@@ -2,12 +2,12 @@
 use Rattle.std.proofs.{lemmas.Bool.{eqb-true, cases_Bool, Decides.nat_tests}, Math.Bool.{and_comm, or_comm}}
 use Rattle.std.proofs.Common.{◌≡◌, ℕ, ◌-◌, ◌%◌, ◌<◌, ◌≤◌, Bool, true, false, not, ◌&&◌, ◌||◌, cond, eqb, ltb, min, List, [], ◌∷◌, Option, None, Some, refl, sym, ap, ◌∙◌, inl, inr, arith}
 use Rattle.std.specs.{List.find, List.range_with_len, Option.option_map_or}
-use Rattle.qr_layout.specs.{declared.{region.Module.Module, role.Role.Role}, Version.side_of}
+use Rattle.qr_layout.specs.{declared.{region.Place.Place, role.Role.Role}, Version.side_of}
 use Rattle.qr_layout.specs.declared.role.Role.TheVariants.{Fixed, FormatBit, VersionBit, Region}
 use Rattle.qr_layout.specs.Role.{finder_ring, is_alignment_light, pattern_colour, first_place, second_place, version_place, mirror_of, is_at, format_bit_at, version_bit_at, is_dark_module, role_of}
 use Rattle.qr_layout.specs.{Alignment.centres_of, Alignment.is_corner_pair, Region.is_alignment, Region.ring_of}
 use Rattle.qr_layout.proofs.lemmas.alignment.AlignmentLemmas.{any-places, list_any-same}
-use Rattle.qr_layout.proofs.lemmas.role.RoleLemmas.{first-at, format_down, format_across, format_off}
+use Rattle.qr_layout.proofs.lemmas.role.RoleLemmas.{first-at, format_in_column_8, format_in_row_8, format_off}
 use Rattle.qr_layout.proofs.lemmas.region.SymmetryLemmas.{any-pairs, alignment-symmetric}
 
 -- ---- the patterns
@@ -63,7 +63,7 @@ find-same p q e [] = refl
 find-same p q e (x ∷ xs) = ap (λ b. cond b (Some x) (find p xs)) (e x) ∙ ap (λ z. cond (q x) (Some x) z) (find-same p q e xs)
 
 -- a bit of the version information is at two places, which are each other's with row and column exchanged
-two-places : (m : Module) (r c : ℕ) → (is_at m r c || is_at (mirror_of m) r c) ≡ (is_at m c r || is_at (mirror_of m) c r)
+two-places : (m : Place) (r c : ℕ) → (is_at m r c || is_at (mirror_of m) r c) ≡ (is_at m c r || is_at (mirror_of m) c r)
 two-places m r c =
     or_comm (is_at m r c) (is_at (mirror_of m) r c)
     ∙ (ap (λ b. b || is_at m r c) (and_comm (eqb m.col r) (eqb m.row c)) ∙ ap (λ b. is_at m c r || b) (and_comm (eqb m.row r) (eqb m.col c)))
@@ -90,7 +90,7 @@ not-eight n h e = grind (arith, nat_tests)
 eights : (s r : ℕ) → 21 ≤ s → r < s → seven (is_dark_module s r 8) (format_bit_at s r 8) ≡ seven (is_dark_module s 8 r) (format_bit_at s 8 r)
 eights s r l h = elim (cases_Bool (eqb r 8)) [
   | inl a ↦ let e = eqb-true r 8 a in rw e refl
-  | inr a ↦ rw (format_down s r l h, format_across s r l h (not-eight r a)) (simp map-cond (grind (arith, nat_tests)))
+  | inr a ↦ rw (format_in_column_8 s r l h, format_in_row_8 s r l h (not-eight r a)) (simp map-cond (grind (arith, nat_tests)))
 ]
 
 -- a module outside column 8 is not the dark module

@@ -2,14 +2,14 @@
 use Rattle.std.proofs.Common.{◌≡◌, ℕ, zero, suc, ◌+◌, ◌-◌, ◌*◌, ◌<◌, ◌≤◌, false, cond, List, [], ◌∷◌, ◌++◌, refl, sym, ap, ◌∙◌, arith}
 use Rattle.std.proofs.lemmas.{List.Elements.All-from_recursion, Bool.Decides.nat_tests}
 use Rattle.std.specs.List.{All, AllByRecursion}
-use Rattle.qr_layout.specs.declared.{region.Module.Module, order.Cursor.Cursor, strips.Strip.Strip}
-use Rattle.qr_layout.specs.Steps.Order.{place_of, left_of, next_of, places_within, to_come, first_cursor}
+use Rattle.qr_layout.specs.declared.{region.Place.Place, order.Cursor.Cursor, strips.Strip.Strip}
+use Rattle.qr_layout.specs.Steps.Order.{place_of, left_of, next_of, places_among, to_come, first_cursor}
 use Rattle.qr_layout.specs.Strips.{rows_from, both_of, places_of, strip_at, strips_to_come}
 use Rattle.qr_layout.specs.{Region.is_in_region, Version.side_of, Order.IsOrder, Order.in_region_of}
 use Rattle.qr_layout.proofs.lemmas.order.WalkLemmas.{places-nil, places-suc, start-left, to_come-start}
 
--- the right places of n rows of strips, from position a on, in the encoding region or not
-pairs_within : ℕ → ℕ → Cursor → List Module
+-- the right places of n rows of strips, from cursor a on, in the encoding region or not
+pairs_within : ℕ → ℕ → Cursor → List Place
 pairs_within v zero a = []
 pairs_within v (suc n) a = place_of a ∷ pairs_within v n (next_of (side_of v) (next_of (side_of v) a))
 
@@ -23,33 +23,33 @@ pairs-suc : (v n : ℕ) (a : Cursor) → pairs_within v (suc n) a ≡ place_of a
 unfolding pairs_within
 pairs-suc v n a = refl
 
--- if position a is at the right place of a row, then one step leads to the place to the left of it
+-- if cursor a is at the right place of a row, then one step leads to the place to the left of it
 second-place : (s : ℕ) (a : Cursor) → a.at_left ≡ false → place_of (next_of s a) ≡ record { row = a.row; col = (place_of a).col - 1 }
 unfolding next_of
 second-place s a e = rw e refl
 
--- if position a is at the right place of a row, then two steps lead to the right place of a row
+-- if cursor a is at the right place of a row, then two steps lead to the right place of a row
 right-again : (s : ℕ) (a : Cursor) → a.at_left ≡ false → (next_of s (next_of s a)).at_left ≡ false
 unfolding next_of
 right-again s a e = grind (arith, nat_tests)
 
 -- the places of n rows from a on that are in the encoding region are those that 2 * n steps of the walk visit
-kept : (v n : ℕ) (a : Cursor) → a.at_left ≡ false → in_region_of v (both_of (pairs_within v n a)) ≡ places_within v (2 * n) a
+kept : (v n : ℕ) (a : Cursor) → a.at_left ≡ false → in_region_of v (both_of (pairs_within v n a)) ≡ places_among v (2 * n) a
 kept v zero a e = cc (pairs-nil v a, places-nil v a)
 kept v (suc n) a e =
     let s = side_of v in
     let b = next_of s a in
-    let left : Module = record { row = a.row; col = (place_of a).col - 1 } in
+    let left : Place = record { row = a.row; col = (place_of a).col - 1 } in
     let h = kept v n (next_of s b) (right-again s a e) in
     let two : suc (suc (2 * n)) ≡ 2 * suc n = omega arith in
     let q : place_of b ≡ left = second-place s a e in
-    let l : cond (is_in_region v left.row left.col) (left ∷ places_within v (2 * n) (next_of s b)) (places_within v (2 * n) (next_of s b)) ≡ places_within v (suc (2 * n)) b =
-    sym (places-suc v (2 * n) b ∙ ap (λ (m : Module). cond (is_in_region v m.row m.col) (m ∷ places_within v (2 * n) (next_of s b)) (places_within v (2 * n) (next_of s b))) q) in
+    let l : cond (is_in_region v left.row left.col) (left ∷ places_among v (2 * n) (next_of s b)) (places_among v (2 * n) (next_of s b)) ≡ places_among v (suc (2 * n)) b =
+    sym (places-suc v (2 * n) b ∙ ap (λ (m : Place). cond (is_in_region v m.row m.col) (m ∷ places_among v (2 * n) (next_of s b)) (places_among v (2 * n) (next_of s b))) q) in
     cc (pairs-suc v n a, places-suc v (suc (2 * n)) a)
 
 -- ---- row by row, and strip by strip
 
--- the position at the right place of the row of strip p that comes after k other rows of this strip
+-- the cursor at the right place of the row of strip p that comes after k other rows of this strip
 abbrev at_row : ℕ → ℕ → ℕ → Cursor
 at_row s p k = record { strips = p; row = cond (strip_at p).upward (s - 1 - k) k; at_left = false }
 
@@ -77,7 +77,7 @@ rows-then v p k (suc n) m e =
     cc (pairs-suc v (suc n + m) a, next-row s (suc p) k (omega arith), rows-then v p (k + 1) n m (omega arith))
 
 -- the right places of all rows of the strips
-abbrev all_rows : ℕ → List Strip → List Module
+abbrev all_rows : ℕ → List Strip → List Place
 all_rows s [] = []
 all_rows s (x ∷ xs) = rows_from s x 0 s ++ all_rows s xs
 
@@ -90,13 +90,13 @@ rows-all v (suc p) =
     let e : suc p * s ≡ suc n + p * s = times p s (omega arith) in
     let f : suc n ≡ s = omega arith in
     ap (λ z. pairs_within v z (at_row s (suc p) 0)) e ∙ (rows-then v p 0 n (p * s) (omega arith)
-    ∙ (ap (λ z. rows_from s (strip_at (suc p)) 0 z ++ pairs_within v (p * s) (at_row s p 0)) f ∙ ap (λ (z : List Module). rows_from s (strip_at (suc p)) 0 s ++ z) (rows-all v p)))
+    ∙ (ap (λ z. rows_from s (strip_at (suc p)) 0 z ++ pairs_within v (p * s) (at_row s p 0)) f ∙ ap (λ (z : List Place). rows_from s (strip_at (suc p)) 0 s ++ z) (rows-all v p)))
   where
     times : (p s : ℕ) → 0 < s → suc p * s ≡ suc (s - 1) + p * s
     times p s l = omega arith
 
 -- `both_of` of the list xs followed by the list ys is `both_of xs` followed by `both_of ys`
-both-append : (xs ys : List Module) → both_of (xs ++ ys) ≡ both_of xs ++ both_of ys
+both-append : (xs ys : List Place) → both_of (xs ++ ys) ≡ both_of xs ++ both_of ys
 both-append [] ys = refl
 both-append (x ∷ xs) ys = cc (both-append xs ys)
 
@@ -105,7 +105,7 @@ places-both : (s : ℕ) (xs : List Strip) → both_of (all_rows s xs) ≡ places
 places-both s [] = refl
 places-both s (x ∷ xs) = cc (both-append (rows_from s x 0 s) (all_rows s xs), places-both s xs)
 
--- the number of positions left at the beginning of the walk is twice the number of rows of all strips
+-- the number of cursors left at the beginning of the walk is twice the number of rows of all strips
 left-start : (v : ℕ) → 2 * ((8 + 2 * v) * side_of v) ≡ left_of (side_of v) (first_cursor v)
 left-start v = omega (arith, start-left v)
 

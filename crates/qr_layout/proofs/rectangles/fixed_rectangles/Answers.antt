@@ -5,10 +5,10 @@ use Rattle.qr_layout.proofs.rectangles.fixed_rectangles.Goals as goal
 
 pub returns-then-has_version_information : goal.returns-then-has_version_information
 returns-then-has_version_information c =
-    let same : c.push-then-has_version_information-2.new.self.items ≡ fixed_list c.args.v = search rules in
-    subst (AreFixed c.args.v) (sym same) (fixed-are c.args.v (omega arith) (omega arith))
+    let same : c.push-then-has_version_information-2.new.self.items ≡ fixed_list c.args.version = search rules in
+    subst (AreFixed c.args.version) (sym same) (fixed-are c.args.version (omega arith) (omega arith))
 
 pub returns-else-has_version_information : goal.returns-else-has_version_information
 returns-else-has_version_information c =
-    let same : c.push-5.new.self.items ≡ fixed_list c.args.v = search rules in
-    subst (AreFixed c.args.v) (sym same) (fixed-are c.args.v (omega arith) (omega arith))
+    let same : c.push-5.new.self.items ≡ fixed_list c.args.version = search rules in
+    subst (AreFixed c.args.version) (sym same) (fixed-are c.args.version (omega arith) (omega arith))

@@ -5,7 +5,8 @@ use borrow.Author.Tests.{leb-true}
 use Rattle.qr_layout.specs.{declared.level.Level.Level, Blocks.correction_len_of}
 use Rattle.{qr_layout.proofs.Facts.{blocks-sound, every, every-at}, qr_bits.specs.Parsing.Content}
 use Rattle.qr_matrix.{specs.Grid.Grid, proofs.Facts.{&&-left, &&-right}}
-use Rattle.qr_mending.specs.{Message.correctable_of, Mending.IsMendedReading}
+use Rattle.qr_layout.specs.Blocks.{correctable_of}
+use Rattle.qr_mending.specs.{Mending.IsMendedReading}
 
 -- in each version and level, from 2 to 15 codewords may be changed, computed
 correctable-all : every (λ l v. leb 2 (correctable_of v l) && leb (correctable_of v l) 15) ≡ true

@@ -3,11 +3,11 @@ use Rattle.std.proofs.Common.{◌≡◌, ℕ, ◌<◌, ◌≤◌, List, [], ◌+
 use Rattle.std.proofs.lemmas.List.FromFn.{get_or-map-range_with_len, length-map-range_with_len}
 use Rattle.{std.specs.List.{range_with_len, sum_by}, qr_layout.specs.declared.level.Level.Level}
 use Rattle.{qr_field.specs.Distance.{difference, differences}, qr_matrix.specs.{Grid.{Grid, light}, BitRow.has_bit}}
-use Rattle.qr_layout.specs.{Blocks.blocks_of, Format.format_word_of, Version.total_codewords_of}
+use Rattle.qr_layout.specs.{Blocks.{blocks_of, correctable_of}, Format.format_word_of, Version.total_codewords_of}
 use Rattle.qr_symbol.{specs.{Symbol.grid_of, Reading.{IsFormat, IsMessage}}, proofs.Facts.{data-sizes-whole, read-some}}
 use Rattle.qr_symbol.specs.Interleaving.{block_count, codeword_count, data_sizes, part_of}
 use Rattle.qr_mending.specs.declared.format.FormatCopy.TheVariants.{First, Second}
-use Rattle.qr_mending.specs.{Format.copy_bit, Message.{received, correctable_of}, Mending.{HasFormat, HoldsDamaged}}
+use Rattle.qr_mending.specs.{Format.copy_bit, Message.{received}, Mending.{HasFormat, HoldsDamaged}}
 use Rattle.qr_mending.specs.Modules.{codeword_differences, DifferInFewModules}
 use Rattle.qr_mending.proofs.lemmas.{format.FormatLemmas.bits-alike, laws.DistanceLemmas.shown}
 use Rattle.qr_mending.proofs.lemmas.message.MessageLemmas.{in-blocks-one, item, items-in-blocks, received-all, received-map}

@@ -4,7 +4,7 @@ use Rattle.std.proofs.lemmas.List.{Elements.{All-nil, All-cons, All-head, All-ta
 use Rattle.qr_field.proofs.lemmas.laws.DistanceLemmas.{difference-most, difference-same}
 use Rattle.{std.specs.List.{All, count_by, sum_by}, qr_bits.specs.Bits.{bits_of, field}}
 use Rattle.{qr_field.specs.Distance.{difference, differences}, qr_matrix.specs.{Difference.differs, Grid.Grid}}
-use Rattle.qr_layout.specs.{declared.region.Module.Module, Order.IsOrder, Version.total_codewords_of}
+use Rattle.qr_layout.specs.{declared.region.Place.Place, Order.IsOrder, Version.total_codewords_of}
 use Rattle.qr_symbol.{specs.Reading.{unmasked, IsRead}, proofs.Facts.bits-one}
 use Rattle.qr_mending.specs.{Message.modules_of, Modules.codeword_differences}
 use Rattle.qr_mending.proofs.lemmas.message.MarkLemmas.{codeword-read, held-bits, held-many, same-is}
@@ -13,11 +13,11 @@ use Rattle.qr_mending.proofs.lemmas.message.MessageLemmas.{item}
 -- ---- one codeword
 
 -- if no module differs, the same bits are read
-same-bits : (mask : ℕ) (g h : Grid) (ms : List Module) → count_by (λ m. differs g h m.row m.col) ms ≡ 0 →
+same-bits : (mask : ℕ) (g h : Grid) (ms : List Place) → count_by (λ m. differs g h m.row m.col) ms ≡ 0 →
     map (unmasked mask g) ms ≡ map (unmasked mask h) ms
 same-bits mask g h [] e = refl
 same-bits mask g h (m ∷ ms) e =
-    let more = sum_by-cons (λ (m : Module). cond (differs g h m.row m.col) 1 0) m ms in
+    let more = sum_by-cons (λ (m : Place). cond (differs g h m.row m.col) 1 0) m ms in
     search (arith, same-is, same-bits mask g h ms (omega (arith, e, more)))
   where
     no-difference : (b : Bool) → ◌≡◌ {A = ℕ} (cond (not b) 1 0) 0 → b ≡ true
@@ -31,18 +31,18 @@ byte-one a b l m e =
     cc (bits-one (a ∷ []) (b ∷ []) (single a l) (single b m) (ap (λ (z : List Bool). z ++ []) e))
 
 -- a codeword differs only if one of its modules differs
-codeword-near : (mask : ℕ) (g h : Grid) (ms : List Module) (a b : ℕ) → a < 256 → b < 256 →
+codeword-near : (mask : ℕ) (g h : Grid) (ms : List Place) (a b : ℕ) → a < 256 → b < 256 →
     field 8 a ≡ map (unmasked mask g) ms → field 8 b ≡ map (unmasked mask h) ms → difference a b ≤ count_by (λ m. differs g h m.row m.col) ms
 codeword-near mask g h ms a b l m e f = search (arith, difference-most, byte-one, same-bits, difference-same)
 
 -- the bits of codeword j of a square are read from its eight modules
-held-codeword : (v mask : ℕ) (g : Grid) (ms : List Module) (cw : List ℕ) (j : ℕ) → 1 ≤ v → v ≤ 40 →
+held-codeword : (v mask : ℕ) (g : Grid) (ms : List Place) (cw : List ℕ) (j : ℕ) → 1 ≤ v → v ≤ 40 →
     IsOrder v ms → IsRead v mask g cw → j < total_codewords_of v →
     field 8 (get_or cw j 0) ≡ map (unmasked mask g) (modules_of ms j)
 held-codeword v mask g ms cw j p q o h l = search (arith, codeword-read, held-bits, held-many)
 
 -- codeword j of two squares differs only if one of its modules differs
-pub interleaved-near : (v mask : ℕ) (g h : Grid) (ms : List Module) (cs ds : List ℕ) (j : ℕ) → 1 ≤ v →
+pub interleaved-near : (v mask : ℕ) (g h : Grid) (ms : List Place) (cs ds : List ℕ) (j : ℕ) → 1 ≤ v →
     v ≤ 40 → IsOrder v ms → IsRead v mask g cs → IsRead v mask h ds → j < total_codewords_of v →
     difference (get_or cs j 0) (get_or ds j 0) ≤ codeword_differences g h ms j
 interleaved-near v mask g h ms cs ds j p q o a b l =

@@ -6,13 +6,13 @@ use Rattle.std.proofs.lemmas.List.{length-map, length-replicate, length-take, El
 use Rattle.std.specs.{Prelude.Option, List.list_any, List.range_with_len}
 use lib.ListN.{replicate}
 use Rattle.qr_field.specs.{Polynomial.IsCorrection, Distance.differences}
-use Rattle.qr_layout.specs.declared.{blocks.Blocks.Blocks, level.Level.Level, region.Module.Module}
-use Rattle.qr_layout.specs.{Blocks.blocks_of, Version.side_of, Version.total_codewords_of, Region.InRegion}
+use Rattle.qr_layout.specs.declared.{blocks.Blocks.Blocks, level.Level.Level, region.Place.Place}
+use Rattle.qr_layout.specs.{Blocks.{blocks_of, spare_of, correctable_of}, Version.side_of, Version.total_codewords_of, Region.InRegion}
 use Rattle.{qr_layout.proofs.Facts.{col-in, order-length, row-in}, qr_matrix.specs.{BitRow.has_bit, Grid.{Grid, colour, light, rows_of}}}
 use Rattle.qr_bits.{specs.Bits.{bits_of, field}, proofs.Facts.length-bits_of}
 use Rattle.qr_symbol.specs.Interleaving.{block_count, codeword_count, data_sizes, part_of}
 use Rattle.qr_symbol.{specs.Reading.{IsRead, IsReadUnmasked}, proofs.Facts.{map-each, read-some}}
-use Rattle.qr_mending.specs.Message.{modules_of, read_at, received, spare_of, correctable_of, IsMendedBlock, IsMendedIn, AreInBlocks}
+use Rattle.qr_mending.specs.Message.{modules_of, read_at, received, IsMendedBlock, IsMendedIn, AreInBlocks}
 use Rattle.qr_field.proofs.lemmas.laws.DistanceLemmas.{erasures-read, errors-read}
 use Rattle.qr_mending.proofs.lemmas.message.MarkLemmas.{held-many}
 use Rattle.qr_mending.proofs.lemmas.message.MessageLemmas.{in-blocks-one, indices-some, item, items-in-blocks, received-map}
@@ -55,7 +55,7 @@ pub colour-light : (s r c : ℕ) → colour (light s) r c ≡ false
 unfolding colour rows_of
 colour-light s r c = light-rows (range_with_len 0 s) (range_with_len 0 s) r c
 
-colours-light : (s : ℕ) (ms : List Module) → AreLight (map (λ m. colour (light s) m.row m.col) ms)
+colours-light : (s : ℕ) (ms : List Place) → AreLight (map (λ m. colour (light s) m.row m.col) ms)
 colours-light s [] = tt
 colours-light s (m ∷ ms) = (colour-light s m.row m.col, colours-light s ms)
 
@@ -90,8 +90,8 @@ no-marks v u p q e h =
     let w = (read-some v 0 u p q).1 in
     let n = total_codewords_of v in
     let zeros : List ℕ = replicate n 0 in
-    let some : List Module = take (8 * n) w.places in
-    let plain : Module → Bool = λ m. colour (light u.side) m.row m.col in
+    let some : List Place = take (8 * n) w.places in
+    let plain : Place → Bool = λ m. colour (light u.side) m.row m.col in
     let many = order-length v w.places p q w.order in
     record {
       bytes = All-replicate (λ x. x < 256) n 0 (omega arith);
@@ -115,12 +115,12 @@ no-marks v u p q e h =
 
 -- ---- what is read of a symbol of which all modules were read
 
-none-unread : (s : ℕ) (ms : List Module) → list_any (λ m. colour (light s) m.row m.col) ms ≡ false
+none-unread : (s : ℕ) (ms : List Place) → list_any (λ m. colour (light s) m.row m.col) ms ≡ false
 none-unread s [] = refl
 none-unread s (m ∷ ms) = λ i. colour-light s m.row m.col i || none-unread s ms i
 
 -- no codeword is erased
-all-read : (s : ℕ) (places : List Module) (cw ks : List ℕ) →
+all-read : (s : ℕ) (places : List Place) (cw ks : List ℕ) →
     map (read_at (light s) places cw) ks ≡ map (λ x. Some x) (map (item cw) ks)
 all-read s places cw [] = refl
 all-read s places cw (k ∷ ks) =

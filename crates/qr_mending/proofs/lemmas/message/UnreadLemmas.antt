@@ -11,7 +11,8 @@ use Rattle.qr_symbol.proofs.Facts.{len-most, part-grown, part-last, part-len, pa
 use Rattle.qr_field.proofs.{lemmas.laws.DistanceLemmas.unambiguous-known, Facts.correction-one}
 use Rattle.qr_mending.specs.Erasures.{IsMendedWithErasures}
 use Rattle.qr_mending.proofs.lemmas.{block.BlockLemmas.block-corrects, erasures.ErasureLemmas.{length-read, read-unmarked}}
-use Rattle.qr_mending.specs.Message.{read_at, received, spare_of, IsMendedIn, IsMendedBlock, AreInBlocks}
+use Rattle.qr_layout.specs.Blocks.{spare_of}
+use Rattle.qr_mending.specs.Message.{read_at, received, IsMendedIn, IsMendedBlock, AreInBlocks}
 use Rattle.qr_field.specs.Polynomial.{zeros}
 use Rattle.qr_mending.specs.declared.message.{Marks.{Marks}, MarksInBlocks.{MarksInBlocks}}
 use Rattle.qr_mending.specs.declared.message.Marks.TheVariants as interleaved

@@ -1,6 +1,6 @@
 -- The bits of a strip, row by row, are those of the strip's places in the encoding region, in their order.
 use Rattle.qr_layout.specs.{Order.in_region_of, Region.is_in_region, Strips.{both_of, rows_from, places_of}}
-use Rattle.{qr_layout.specs.declared.{region.Module.Module, strips.Strip.Strip}, std.{proofs.lemmas.List.{map-append}}}
+use Rattle.{qr_layout.specs.declared.{region.Place.Place, strips.Strip.Strip}, std.{proofs.lemmas.List.{map-append}}}
 use Rattle.qr_matrix.specs.BitRow.{has}
 use Rattle.qr_matrix.specs.Grid.{Grid, colour}
 use Rattle.qr_symbol.specs.declared.spans.Columns.{Columns}
@@ -50,7 +50,7 @@ pub outside-read : (s : ℕ) (x : Strip) (r y : Columns) (k n : ℕ) (a : Bits)
 outside-read s x r y k n a out xs i = rw (outside-bits s x r y k n out, append-nil) i
 
 -- the bits of a place and of further places
-kept-bit : (t : Bool) (f : Module → Bool) (m : Module) (ms : List Module) → map f (cond t (m ∷ ms) ms) ≡ bit_if t (f m) ++ map f ms
+kept-bit : (t : Bool) (f : Place → Bool) (m : Place) (ms : List Place) → map f (cond t (m ∷ ms) ms) ≡ bit_if t (f m) ++ map f ms
 kept-bit true f m ms = refl
 kept-bit false f m ms = refl
 
@@ -65,7 +65,7 @@ strip-bits v s g x r y k (suc n) l a b c d =
     search (arith, at, append_assoc, kept-bit, strip-bits v s g x r y (k + 1) n (omega arith) a b c d)
 
 -- the bits of one strip more
-pub strip-read : (v s : ℕ) (f : Module → Bool) (xs : List Strip) (x : Strip) (a b : Bits) → HasCollected (map f (in_region_of v (places_of s xs))) a → Appends (map f (in_region_of v (both_of (rows_from s x 0 s)))) a b
+pub strip-read : (v s : ℕ) (f : Place → Bool) (xs : List Strip) (x : Strip) (a b : Bits) → HasCollected (map f (in_region_of v (places_of s xs))) a → Appends (map f (in_region_of v (both_of (rows_from s x 0 s)))) a b
     → HasCollected (map f (in_region_of v (places_of s (xs ++ x ∷ [])))) b
 strip-read v s f xs x a b i q =
     let e : map f (in_region_of v (places_of s (xs ++ x ∷ []))) ≡ map f (in_region_of v (places_of s xs)) ++ map f (in_region_of v (both_of (rows_from s x 0 s))) = search (arith, map-append, kept-append, places-push) in rw e (q _ i)

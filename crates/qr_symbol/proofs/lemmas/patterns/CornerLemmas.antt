@@ -3,7 +3,7 @@ use Rattle.std.proofs.Common.{◌≡◌, ℕ, ◌+◌, ◌-◌, ◌<◌, ◌≤�
 use Rattle.std.proofs.lemmas.Bool.{cases_eq, cases_lt, Decides.nat_tests}
 use Rattle.qr_layout.proofs.Facts.{dark-module, format-first, format-only, format-second}
 use Rattle.qr_layout.specs.{Format.version_word_of, Region.is_corner, Role.role_of, Role.first_place, Role.second_place}
-use Rattle.qr_layout.specs.{Version.side_of, declared.region.Module.Module, declared.role.Role.Role}
+use Rattle.qr_layout.specs.{Version.side_of, declared.region.Place.Place, declared.role.Role.Role}
 use Rattle.qr_layout.specs.declared.role.Role.TheVariants.{Fixed, FormatBit, VersionBit, Region}
 use Rattle.qr_symbol.specs.Steps.Patterns.{fixed_colour, format_or, is_dark_in_six, is_in_block, paint_of}
 use Rattle.qr_symbol.proofs.lemmas.placement.PlacementLemmas.{at, by_test}
@@ -106,8 +106,8 @@ outside-kept v r c format w k h = kept _ (λ i q. far i (format-only v _ i q))
 
     far : (i : ℕ) → (i < 15) × ((at r c ≡ first_place i) ⊎ (at r c ≡ second_place (side_of v) i)) → ⊥
     far i p = elim p.1 [
-      | inl e ↦ first i p.0 (ap (λ (z : Module). z.row) e) (ap (λ (z : Module). z.col) e)
-      | inr e ↦ second i p.0 (ap (λ (z : Module). z.row) e) (ap (λ (z : Module). z.col) e)
+      | inl e ↦ first i p.0 (ap (λ (z : Place). z.row) e) (ap (λ (z : Place). z.col) e)
+      | inr e ↦ second i p.0 (ap (λ (z : Place). z.row) e) (ap (λ (z : Place). z.col) e)
     ]
 
     kept : (q : Role) → ((i : ℕ) → q ≡ FormatBit i → ⊥) → format_or format q w ≡ w

@@ -1,7 +1,7 @@
 -- The format information, drawn bit by bit over a symbol.
 use Rattle.{qr_layout.proofs.Facts.{format-only, format-first, format-second}, std.proofs.lemmas.Bool.{cases_eq, cases_lt, Decides.nat_tests}}
 use Rattle.qr_layout.specs.{Role.role_of, Role.first_place, Role.second_place, Version.side_of}
-use Rattle.qr_layout.specs.declared.{region.Module.Module, role.Role.Role, role.Role.TheVariants.FormatBit}
+use Rattle.qr_layout.specs.declared.{region.Place.Place, role.Role.Role, role.Role.TheVariants.FormatBit}
 use Rattle.qr_matrix.proofs.Facts.{same-place, square-same, colour-painted-here, colour-painted-there, colour-square}
 use Rattle.qr_matrix.specs.{BitRow.has_bit, Grid.Grid, Grid.square, Grid.colour, Grid.painted, Grid.with_row, Grid.IsSquare}
 use Rattle.qr_symbol.specs.Steps.Patterns.{format_bits_or, format_or}
@@ -32,7 +32,7 @@ bit-kept first n format (FormatBit i) other o = search arith
 bit-kept first n format q other o = refl
 
 -- one bit is drawn at its two places
-pub format-step : (v format first i : ℕ) (g0 g : Grid) (a b : Module) (d : Bool) → 1 ≤ v → v ≤ 40
+pub format-step : (v format first i : ℕ) (g0 g : Grid) (a b : Place) (d : Bool) → 1 ≤ v → v ≤ 40
     → first ≤ i → i < 15 → g.side ≡ side_of v → a ≡ first_place i → a.row < side_of v
     → a.col < side_of v → b ≡ second_place (side_of v) i → b.row < side_of v → b.col < side_of v
     → d ≡ has_bit format i → FormatDone v format first i g0 g
@@ -45,7 +45,7 @@ format-step v format first i g0 g a b d k1 k2 k l s ea ar ac eb br bc ed h r c m
     | inl u ↦ search (arith, format-first, colour-painted-here, bit-drawn)
     | inr u ↦ colour-painted-there g _ _ r c d (omega arith) (omega arith) u.0
         ∙ (h r c m n ∙ bit-kept _ i _ _ _ (λ q. elim (format-only v _ i q).1 [
-          | inl f ↦ let e = f ∙ sym ea in u.0 (ap (λ (z : Module). z.row) e, ap (λ (z : Module). z.col) e)
+          | inl f ↦ let e = f ∙ sym ea in u.0 (ap (λ (z : Place). z.row) e, ap (λ (z : Place). z.col) e)
           | inr f ↦ search arith
         ]))
   ]
@@ -95,13 +95,13 @@ down-start v format g r c l m = same (eqb r 8) _ _ (format-start v format 0 g r 
     same false x y e = e
 
 -- a bit is drawn at the one of its places that is not in row 8
-down-step : (v format i : ℕ) (g0 g : Grid) (a : Module) (d : Bool) → g.side ≡ side_of v → a.row ≢ 8 → a.row < side_of v → a.col < side_of v
-    → role_of v a.row a.col ≡ FormatBit i → ((m : Module) → (m ≡ first_place i) ⊎ (m ≡ second_place (side_of v) i) → m.row ≢ 8 → m ≡ a)
+down-step : (v format i : ℕ) (g0 g : Grid) (a : Place) (d : Bool) → g.side ≡ side_of v → a.row ≢ 8 → a.row < side_of v → a.col < side_of v
+    → role_of v a.row a.col ≡ FormatBit i → ((m : Place) → (m ≡ first_place i) ⊎ (m ≡ second_place (side_of v) i) → m.row ≢ 8 → m ≡ a)
     → d ≡ has_bit format i → FormatDown v format i g0 g → FormatDown v format (i + 1) g0 (painted g a.row a.col d)
 down-step v format i g0 g a d s o ar ac q only ed h r c m n = elim (same-place a.row a.col r c) [
   | inl w ↦ (let t : eqb a.row 8 ≡ false = grind (arith, nat_tests) in rw (w.0.0, w.0.1, t) (colour-painted-here _ _ _ d (omega arith) (omega arith) ∙ bit-drawn 0 i format _ _ d (omega arith) q ed))
   | inr w ↦ colour-painted-there _ _ _ r c d (omega arith) (omega arith) w.0 ∙ (h r c m n ∙ but-in-eight r _ _ _ (λ p. bit-kept 0 i format _ _ (λ k.
-      let e = only (record { row = r; col = c }) (format-only v (record { row = r; col = c }) i k).1 p in w.0 (ap (λ (z : Module). z.row) e, ap (λ (z : Module). z.col) e))))
+      let e = only (record { row = r; col = c }) (format-only v (record { row = r; col = c }) i k).1 p in w.0 (ap (λ (z : Place). z.row) e, ap (λ (z : Place). z.col) e))))
 ]
 
 -- the rows of the places of a bit
@@ -118,28 +118,28 @@ second-in-eight : (n i : ℕ) → i < 8 → cond (ltb i 8) 8 (n - 15 + i) ≡ 8
 second-in-eight n i l = grind (arith, nat_tests)
 
 -- the bits before bit 7 have the first of their places outside row 8
-pub first-step : (v format i : ℕ) (g0 g : Grid) (a : Module) (d : Bool) → 1 ≤ v → v ≤ 40 → i < 7 → g.side ≡ side_of v → a ≡ first_place i → a.row < side_of v → a.col < side_of v
+pub first-step : (v format i : ℕ) (g0 g : Grid) (a : Place) (d : Bool) → 1 ≤ v → v ≤ 40 → i < 7 → g.side ≡ side_of v → a ≡ first_place i → a.row < side_of v → a.col < side_of v
     → d ≡ has_bit format i → FormatDown v format i g0 g → FormatDown v format (i + 1) g0 (painted g a.row a.col d)
 first-step v format i g0 g a d k1 k2 l s ea ar ac ed h =
-    down-step v format i g0 g a d s (λ e. first-row i l (ap (λ (z : Module). z.row) (sym ea) ∙ e)) ar ac (rw ea (format-first v i k1 k2 (omega arith))) (λ m o p. elim o [
+    down-step v format i g0 g a d s (λ e. first-row i l (ap (λ (z : Place). z.row) (sym ea) ∙ e)) ar ac (rw ea (format-first v i k1 k2 (omega arith))) (λ m o p. elim o [
       | inl e ↦ e ∙ sym ea
-      | inr e ↦ absurd (p (ap (λ (z : Module). z.row) e ∙ second-in-eight (side_of v) i (omega arith)))
+      | inr e ↦ absurd (p (ap (λ (z : Place). z.row) e ∙ second-in-eight (side_of v) i (omega arith)))
     ]) ed h
 
 -- the bits after bit 7 have the second of their places outside row 8
-pub second-step : (v format i : ℕ) (g0 g : Grid) (a : Module) (d : Bool) → 1 ≤ v → v ≤ 40 → 8 ≤ i → i < 15 → g.side ≡ side_of v → a ≡ second_place (side_of v) i → a.row < side_of v → a.col < side_of v
+pub second-step : (v format i : ℕ) (g0 g : Grid) (a : Place) (d : Bool) → 1 ≤ v → v ≤ 40 → 8 ≤ i → i < 15 → g.side ≡ side_of v → a ≡ second_place (side_of v) i → a.row < side_of v → a.col < side_of v
     → d ≡ has_bit format i → FormatDown v format i g0 g → FormatDown v format (i + 1) g0 (painted g a.row a.col d)
 second-step v format i g0 g a d k1 k2 k l s ea ar ac ed h =
-    down-step v format i g0 g a d s (λ e. second-row (side_of v) i (omega arith) k (ap (λ (z : Module). z.row) (sym ea) ∙ e)) ar ac (rw ea (format-second v i k1 k2 l)) (λ m o p. elim o [
-      | inl e ↦ absurd (p (ap (λ (z : Module). z.row) e ∙ first-in-eight i (omega arith)))
+    down-step v format i g0 g a d s (λ e. second-row (side_of v) i (omega arith) k (ap (λ (z : Place). z.row) (sym ea) ∙ e)) ar ac (rw ea (format-second v i k1 k2 l)) (λ m o p. elim o [
+      | inl e ↦ absurd (p (ap (λ (z : Place). z.row) e ∙ first-in-eight i (omega arith)))
       | inr e ↦ e ∙ sym ea
     ]) ed h
 
 -- bit 7 has both its places in row 8
 pub down-seven : (v format : ℕ) (g0 g : Grid) → FormatDown v format 7 g0 g → FormatDown v format 8 g0 g
 down-seven v format g0 g h r c m n = h r c m n ∙ but-in-eight r _ _ _ (λ o. bit-kept 0 7 format _ _ (λ q. elim (format-only v (record { row = r; col = c }) 7 q).1 [
-  | inl f ↦ o (ap (λ (z : Module). z.row) f)
-  | inr f ↦ o (ap (λ (z : Module). z.row) f)
+  | inl f ↦ o (ap (λ (z : Place). z.row) f)
+  | inr f ↦ o (ap (λ (z : Place). z.row) f)
 ]))
 
 -- all fifteen bits are the format information
@@ -184,8 +184,8 @@ module _ (v : ℕ) (least : 1 ≤ v) (most : v ≤ 40) (c : ℕ) (inside : c < s
   -- all other columns have none there
   in-none : ((c ≡ 6) ⊎ (9 ≤ c)) → c < side_of v - 8 → (i : ℕ) → role_of v 8 c ≡ FormatBit i → ⊥
   in-none o k i q = elim (format-only v (record { row = 8; col = c }) i q).1 [
-    | inl f ↦ not-first i o (ap (λ (z : Module). z.row) f) (ap (λ (z : Module). z.col) f)
-    | inr f ↦ not-second i (ap (λ (z : Module). z.row) f) (ap (λ (z : Module). z.col) f)
+    | inl f ↦ not-first i o (ap (λ (z : Place). z.row) f) (ap (λ (z : Place). z.col) f)
+    | inr f ↦ not-second i (ap (λ (z : Place). z.row) f) (ap (λ (z : Place). z.col) f)
   ]
     where
       not-first : (i : ℕ) → ((c ≡ 6) ⊎ (9 ≤ c)) → 8 ≡ cond (ltb i 6) i (cond (eqb i 6) 7 8) → c ≡ cond (ltb i 8) 8 (cond (eqb i 8) 7 (14 - i)) → ⊥

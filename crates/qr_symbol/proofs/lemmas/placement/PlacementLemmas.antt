@@ -1,10 +1,10 @@
 -- Drawing along the walk: every place that the walk has passed, or never reaches, has its final colour.
 use Rattle.{qr_bits.specs.Bits.codeword_bit, qr_matrix.specs.Grid.{Grid, square, colour, painted, transposed, IsSquare}}
-use Rattle.qr_layout.proofs.Facts.{Mem, order-has, order-mem, order-small, number-at, row-in, col-in, region-role, role-region}
+use Rattle.qr_layout.proofs.Facts.{Mem, order-has, order-mem, order-small, index-at, row-in, col-in, region-role, role-region}
 use Rattle.{qr_layout.specs.Format.{format_word_of, version_word_of}, std.proofs.lemmas.Bool.{cases_eq, false≢true}}
-use Rattle.qr_layout.specs.{Order.{IsOrder, in_region_of, number_of}, Region.is_in_region, Role.role_of}
+use Rattle.qr_layout.specs.{Order.{IsOrder, in_region_of, index_of}, Region.is_in_region, Role.role_of}
 use Rattle.qr_layout.specs.{Strips.{both_of, rows_from}, Version.side_of, declared.level.Level.Level}
-use Rattle.qr_layout.specs.declared.{region.Module.Module, role.Role.{Role, TheVariants.Region}, strips.Strip.Strip}
+use Rattle.qr_layout.specs.declared.{region.Place.Place, role.Role.{Role, TheVariants.Region}, strips.Strip.Strip}
 use Rattle.qr_matrix.proofs.Facts.{same-place, square-same, colour-square, colour-painted-here, colour-painted-there, colour-transposed}
 use Rattle.qr_symbol.proofs.lemmas.placement.KeptPlaceLemmas.{kept-append, kept-in, kept-out}
 use Rattle.qr_symbol.proofs.lemmas.spans.SpanLemmas.{row-small}
@@ -15,11 +15,11 @@ use Rattle.qr_symbol.specs.Steps.Spans.{row_of}
 use Rattle.std.proofs.Common.{◌≡◌, ℕ, zero, suc, ◌+◌, ◌-◌, ◌⊎◌, ◌<◌, ◌≤◌, Bool, true, false, cond, nat_eq, ◌&&◌, List, [], ◌∷◌, ◌++◌, length, length-append, refl, sym, ◌∙◌, ap, inl, inr, subst, append_assoc, append-nil, arith}
 
 -- the module in a row and a column
-abbrev pub at : ℕ → ℕ → Module
+abbrev pub at : ℕ → ℕ → Place
 at r c = record { row = r; col = c }
 
 -- each place of the square that is not in the list has its final colour
-abbrev pub Done : ℕ → (ℕ → ℕ → Bool) → List Module → Grid → Type 0
+abbrev pub Done : ℕ → (ℕ → ℕ → Bool) → List Place → Grid → Type 0
 Done s want rest g = (r c : ℕ) → r < s → c < s → (Mem (at r c) rest → ⊥) → colour g r c ≡ want r c
 
 -- outside the encoding region the colour stays
@@ -28,7 +28,7 @@ unfolding placed_colour
 outside v cw f r c e = rw e refl
 
 -- inside the encoding region the bit with the place's number is placed
-pub inside : (v : ℕ) (cw : List ℕ) (f : ℕ → ℕ → Bool) (r c : ℕ) → is_in_region v r c ≡ true → placed_colour v cw f r c ≡ codeword_bit cw (number_of v (at r c))
+pub inside : (v : ℕ) (cw : List ℕ) (f : ℕ → ℕ → Bool) (r c : ℕ) → is_in_region v r c ≡ true → placed_colour v cw f r c ≡ codeword_bit cw (index_of v (at r c))
 unfolding placed_colour
 inside v cw f r c e = rw e refl
 
@@ -38,7 +38,7 @@ by_test true A f g = f refl
 by_test false A f g = g refl
 
 -- before the walk, each place that is not in the list is outside the region
-pub done-start : (v : ℕ) (want : ℕ → ℕ → Bool) (g : Grid) (ms : List Module) → IsOrder v ms → ((r c : ℕ) → is_in_region v r c ≡ false → colour g r c ≡ want r c) → Done (side_of v) want ms g
+pub done-start : (v : ℕ) (want : ℕ → ℕ → Bool) (g : Grid) (ms : List Place) → IsOrder v ms → ((r c : ℕ) → is_in_region v r c ≡ false → colour g r c ≡ want r c) → Done (side_of v) want ms g
 done-start v want g ms o f r c l m n = f r c (by_test _ _ (λ t. absurd (n (order-has v ms o _ t))) (λ e. e))
 
 -- an item between two lists is a member of the whole list
@@ -47,16 +47,16 @@ Mem-mid x [] back = inl refl
 Mem-mid x (y ∷ ys) back = inr (Mem-mid x ys back)
 
 -- the next module of the walk is in the region, and its number is the number of modules before it
-pub next-number : (v : ℕ) (front later : List Module) (x : Module) (number : ℕ) → IsOrder v (front ++ x ∷ later) → number ≡ length front → (is_in_region v x.row x.col ≡ true) × (number_of v x ≡ number)
-next-number v front later x number o k = (order-mem v _ o x (Mem-mid x _ _), number-at v _ _ x o ∙ sym k)
+pub next-number : (v : ℕ) (front later : List Place) (x : Place) (number : ℕ) → IsOrder v (front ++ x ∷ later) → number ≡ length front → (is_in_region v x.row x.col ≡ true) × (index_of v x ≡ number)
+next-number v front later x number o k = (order-mem v _ o x (Mem-mid x _ _), index-at v _ _ x o ∙ sym k)
 
 -- one module of the walk is drawn
-pub done-step : (s : ℕ) (want : ℕ → ℕ → Bool) (g : Grid) (later : List Module) (x : Module) (d : Bool)
+pub done-step : (s : ℕ) (want : ℕ → ℕ → Bool) (g : Grid) (later : List Place) (x : Place) (d : Bool)
     → g.side ≡ s → d ≡ want x.row x.col → Done s want (x ∷ later) g → Done s want later (painted g x.row x.col d)
 done-step s want g later x d k e h r c l m n = elim (same-place x.row x.col r c) [
   | inl w ↦ rw (w.0.0, w.0.1) (colour-painted-here g _ _ d (omega arith) (omega arith) ∙ e)
   | inr w ↦
-      colour-painted-there g _ _ r c d (omega arith) (omega arith) w.0 ∙ h r c l m (λ q. elim q [ inl e ↦ w.0 (ap (λ (z : Module). z.row) (sym e), ap (λ (z : Module). z.col) (sym e)) | inr q ↦ n q ])
+      colour-painted-there g _ _ r c d (omega arith) (omega arith) w.0 ∙ h r c l m (λ q. elim q [ inl e ↦ w.0 (ap (λ (z : Place). z.row) (sym e), ap (λ (z : Place). z.col) (sym e)) | inr q ↦ n q ])
 ]
 
 -- after the walk, every place has its final colour
@@ -80,15 +80,15 @@ pub painted-square : (s : ℕ) (g : Grid) (row col : ℕ) (d : Bool) → g.side 
 painted-square s g row col d e = square-again g.side (λ r c. cond (nat_eq r row && nat_eq c col) d (colour g r c)) ∙ ap (λ (k : ℕ). square k (colour (painted g row col d))) e
 
 -- the list of all modules, seen at the next module
-pub whole-next : (v : ℕ) (front now later : List Module) (x : Module) → IsOrder v (front ++ now) → now ≡ x ∷ later → IsOrder v (front ++ x ∷ later)
-whole-next v front now later x o e = subst (λ (ms : List Module). IsOrder v (front ++ ms)) e o
+pub whole-next : (v : ℕ) (front now later : List Place) (x : Place) → IsOrder v (front ++ now) → now ≡ x ∷ later → IsOrder v (front ++ x ∷ later)
+whole-next v front now later x o e = subst (λ (ms : List Place). IsOrder v (front ++ ms)) e o
 
 -- the list of all modules, after the next module
-pub whole-push : (v : ℕ) (front later : List Module) (x : Module) → IsOrder v (front ++ x ∷ later) → IsOrder v ((front ++ x ∷ []) ++ later)
+pub whole-push : (v : ℕ) (front later : List Place) (x : Place) → IsOrder v (front ++ x ∷ later) → IsOrder v ((front ++ x ∷ []) ++ later)
 whole-push v front later x o = subst (IsOrder v) (sym (append_assoc front (x ∷ []) later)) o
 
 -- a module of the order is in the square
-pub in-square : (v : ℕ) (front later : List Module) (x : Module) → IsOrder v (front ++ x ∷ later) → (x.row < side_of v) × (x.col < side_of v)
+pub in-square : (v : ℕ) (front later : List Place) (x : Place) → IsOrder v (front ++ x ∷ later) → (x.row < side_of v) × (x.col < side_of v)
 in-square v front later x o = let w = order-mem v _ o x (Mem-mid x _ _) in (row-in v x w, col-in v x w)
 
 -- ---- a symbol that is drawn again with a mask
@@ -127,18 +127,18 @@ masked-all v l mask cw region plain k e f = square-same _ _ _ (λ r c i j.
 -- ---- strips whose modules are drawn
 
 -- after the places in `before`, with those in `later` still to come: the number of the next bit, and the square
-pub record IsPlaced (v : ℕ) (cw : List ℕ) (g0 : Grid) (before later : List Module) (number : ℕ) (g : Grid) : Type 0 where
+pub record IsPlaced (v : ℕ) (cw : List ℕ) (g0 : Grid) (before later : List Place) (number : ℕ) (g : Grid) : Type 0 where
   pub whole : IsOrder v (in_region_of v (before ++ later))
   pub next : number ≡ length (in_region_of v before)
   pub square : IsSquare (side_of v) g
   pub done : Done (side_of v) (placed_colour v cw (colour g0)) (in_region_of v later) g
 
 -- before any place, the number is 0 and the square is unchanged
-pub placed-start : (v : ℕ) (cw : List ℕ) (g : Grid) (ms : List Module) → IsSquare (side_of v) g → IsOrder v (in_region_of v ms) → IsPlaced v cw g [] ms 0 g
+pub placed-start : (v : ℕ) (cw : List ℕ) (g : Grid) (ms : List Place) → IsSquare (side_of v) g → IsOrder v (in_region_of v ms) → IsPlaced v cw g [] ms 0 g
 placed-start v cw g ms s o = record { whole = o; next = refl; square = s; done = done-start v _ g _ o (outside v cw _) }
 
 -- one more place takes one more bit if it is in the region
-count-push : (v : ℕ) (xs : List Module) (m : Module) → length (in_region_of v (xs ++ m ∷ [])) ≡ number_after
+count-push : (v : ℕ) (xs : List Place) (m : Place) → length (in_region_of v (xs ++ m ∷ [])) ≡ number_after
     (is_in_region v m.row m.col) (length (in_region_of v xs))
 count-push v xs m = ap length (kept-append v xs _) ∙ (length-append (in_region_of v xs) _ ∙ told _ _)
   where
@@ -147,9 +147,9 @@ count-push v xs m = ap length (kept-append v xs _) ∙ (length-append (in_region
     told _ n = omega arith
 
 -- the number of a module of the region is the number of those before it
-place-number : (v : ℕ) (before later : List Module) (m : Module) → IsOrder v (in_region_of v (before ++ m ∷
-    later)) → is_in_region v m.row m.col ≡ true → number_of v m ≡ length (in_region_of v before)
-place-number v before later m o t = number-at v _ _ m (rw (kept-append, kept-in v m _ t) at o)
+place-number : (v : ℕ) (before later : List Place) (m : Place) → IsOrder v (in_region_of v (before ++ m ∷
+    later)) → is_in_region v m.row m.col ≡ true → index_of v m ≡ length (in_region_of v before)
+place-number v before later m o t = index-at v _ _ m (rw (kept-append, kept-in v m _ t) at o)
 
 -- the rows of a strip before row j, that row, and those after it
 rows-split : (s : ℕ) (x : Strip) (k j m : ℕ) → both_of (rows_from s x k (j + (m + 1))) ≡ both_of (rows_from s x k j) ++
@@ -159,7 +159,7 @@ rows-split s x k zero m =
     let f : k + 0 ≡ k = omega arith in rw (e, f) refl
 rows-split s x k (suc j) m =
     let e : suc j + (m + 1) ≡ suc (j + (m + 1)) = omega arith in let f : k + suc j ≡ k + 1 + j = omega arith in
-    rw (e, f) (ap (λ (z : List Module). at (row_of s x k) x.right ∷ at (row_of s x k) (x.right - 1) ∷ z) (rows-split s x (k + 1) j m))
+    rw (e, f) (ap (λ (z : List Place). at (row_of s x k) x.right ∷ at (row_of s x k) (x.right - 1) ∷ z) (rows-split s x (k + 1) j m))
 
 -- the places of a strip before row j, that row's, and those after it
 strip-split : (s : ℕ) (x : Strip) (j : ℕ) → j < s → both_of (rows_from s x 0 s) ≡ both_of (rows_from s x 0 j)
@@ -169,7 +169,7 @@ strip-split s x j l =
     let f : 0 + j ≡ j = omega arith in rw (e, f) at (rows-split s x 0 j (s - 1 - j))
 
 -- the number of the next bit after the first rows of a strip
-number-rows : (v : ℕ) (x : Strip) (before : List Module) (j : ℕ)
+number-rows : (v : ℕ) (x : Strip) (before : List Place) (j : ℕ)
     → number_at v x (length (in_region_of v before)) j ≡ length (in_region_of v (before ++ both_of (rows_from (side_of v) x 0 j)))
 number-rows v x before zero = rw append-nil refl
 number-rows v x before (suc j) =
@@ -179,27 +179,27 @@ number-rows v x before (suc j) =
     rw (whole, count-push v _ q, count-push v _ p, ← number-rows v x before j) refl
 
 -- a kept module of a list is its first module, or kept after it
-mem-kept : (v : ℕ) (p m : Module) (ms : List Module) → Mem m (in_region_of v (p ∷ ms))
+mem-kept : (v : ℕ) (p m : Place) (ms : List Place) → Mem m (in_region_of v (p ∷ ms))
     → ((p ≡ m) × (is_in_region v m.row m.col ≡ true)) ⊎ Mem m (in_region_of v ms)
 mem-kept v p m ms q = by_test _ _
-    (λ t. elim (subst (Mem m) (kept-in v p ms t) q) [ inl e ↦ inl (e, ap (λ (z : Module). is_in_region v z.row z.col) (sym e) ∙ t) | inr q ↦ inr q ])
+    (λ t. elim (subst (Mem m) (kept-in v p ms t) q) [ inl e ↦ inl (e, ap (λ (z : Place). is_in_region v z.row z.col) (sym e) ∙ t) | inr q ↦ inr q ])
     (λ t. inr (subst (Mem m) (kept-out v p ms t) q))
 
 -- a kept module of a strip and further places is one of the strip's columns, or one of the further places
-strip-mem : (v s : ℕ) (x : Strip) (k n : ℕ) (m : Module) (later : List Module) → Mem m (in_region_of v (both_of
+strip-mem : (v s : ℕ) (x : Strip) (k n : ℕ) (m : Place) (later : List Place) → Mem m (in_region_of v (both_of
     (rows_from s x k n) ++ later)) → (((m.col ≡ x.right) ⊎ (m.col ≡ x.right - 1)) × (is_in_region v m.row m.col
     ≡ true)) ⊎ Mem m (in_region_of v later)
 strip-mem v s x k zero m later q = inr q
 strip-mem v s x k (suc n) m later q = elim (mem-kept v _ m (at _ _ ∷ both_of (rows_from s x (k + 1) n) ++ later) q) [
-  | inl w ↦ inl (inl (ap (λ (z : Module). z.col) (sym w.0)), w.1)
+  | inl w ↦ inl (inl (ap (λ (z : Place). z.col) (sym w.0)), w.1)
   | inr q ↦ elim (mem-kept v _ m _ q) [
-    | inl w ↦ inl (inr (ap (λ (z : Module). z.col) (sym w.0)), w.1)
+    | inl w ↦ inl (inr (ap (λ (z : Place). z.col) (sym w.0)), w.1)
     | inr q ↦ strip-mem v s x (k + 1) n m _ q
   ]
 ]
 
 -- one more strip is drawn
-pub placed-strip : (v : ℕ) (cw : List ℕ) (g0 a b : Grid) (x : Strip) (before later : List Module) (number next :
+pub placed-strip : (v : ℕ) (cw : List ℕ) (g0 a b : Grid) (x : Strip) (before later : List Place) (number next :
     ℕ) → IsSquare (side_of v) a → IsPlaced v cw g0 before (both_of (rows_from (side_of v) x 0 (side_of v)) ++
     later) number (transposed a) → IsStripDrawn v cw x number a next b → IsPlaced v cw g0 (before ++ both_of
     (rows_from (side_of v) x 0 (side_of v))) later next (transposed b)
@@ -233,11 +233,11 @@ placed-strip v cw g0 a b x before later number next o p d =
     }
 
 -- the number of the next bit is at most the number of all modules of the region
-pub placed-small : (v : ℕ) (cw : List ℕ) (g0 g : Grid) (before later : List Module) (number : ℕ) → 1 ≤ v → v ≤ 40 → IsPlaced v cw g0 before later number g → number ≤ 29648
+pub placed-small : (v : ℕ) (cw : List ℕ) (g0 g : Grid) (before later : List Place) (number : ℕ) → 1 ≤ v → v ≤ 40 → IsPlaced v cw g0 before later number g → number ≤ 29648
 placed-small v cw g0 g before later number k l p =
     let m = order-small v _ k l p.whole in
     omega (arith, ap length (kept-append v before later), length-append (in_region_of v before) (in_region_of v later), p.next)
 
 -- after all places, the square has the placed colours
-pub placed-end : (v : ℕ) (cw : List ℕ) (g0 g : Grid) (before : List Module) (number : ℕ) → IsPlaced v cw g0 before [] number g → g ≡ square (side_of v) (placed_colour v cw (colour g0))
+pub placed-end : (v : ℕ) (cw : List ℕ) (g0 g : Grid) (before : List Place) (number : ℕ) → IsPlaced v cw g0 before [] number g → g ≡ square (side_of v) (placed_colour v cw (colour g0))
 placed-end v cw g0 g before number p = done-end (side_of v) (placed_colour v cw (colour g0)) g p.square p.done

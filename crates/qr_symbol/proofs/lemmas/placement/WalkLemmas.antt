@@ -2,8 +2,8 @@
 use mathlib.Core.Bool.{beq}
 use Rattle.{qr_bits.specs.Bits.codeword_bit, qr_layout.proofs.Facts.{order-small, region-role, role-region}}
 use Rattle.qr_layout.specs.Format.{format_word_of, version_word_of}
-use Rattle.qr_layout.specs.{Order.{IsOrder, number_of}, Region.is_in_region, Role.role_of, Version.side_of}
-use Rattle.qr_layout.specs.declared.{level.Level.Level, region.Module.Module, role.Role.{Role, TheVariants.Region}}
+use Rattle.qr_layout.specs.{Order.{IsOrder, index_of}, Region.is_in_region, Role.role_of, Version.side_of}
+use Rattle.qr_layout.specs.declared.{level.Level.Level, region.Place.Place, role.Role.{Role, TheVariants.Region}}
 use Rattle.qr_matrix.proofs.Facts.{square-same, colour-square}
 use Rattle.qr_matrix.specs.Grid.{Grid, square, colour, light, painted, IsSquare}
 use Rattle.qr_symbol.specs.Symbol.{colour_by, colour_of, grid_of}
@@ -18,28 +18,28 @@ unfolding walked_colour
 walked-outside v cw mask f r c e = rw e refl
 
 -- inside the encoding region the bit with the place's number is placed, inverted if the mask inverts there
-walked-inside : (v : ℕ) (cw : List ℕ) (mask : ℕ) (f : ℕ → ℕ → Bool) (r c : ℕ) → is_in_region v r c ≡ true → walked_colour v cw mask f r c ≡ inverted (inverts mask r c) (codeword_bit cw (number_of v (at r c)))
+walked-inside : (v : ℕ) (cw : List ℕ) (mask : ℕ) (f : ℕ → ℕ → Bool) (r c : ℕ) → is_in_region v r c ≡ true → walked_colour v cw mask f r c ≡ inverted (inverts mask r c) (codeword_bit cw (index_of v (at r c)))
 unfolding walked_colour
 walked-inside v cw mask f r c e = rw e refl
 
 -- the modules of the walk in `front` have been drawn, and those in `later` are still to come
-pub record IsWalked (v : ℕ) (cw : List ℕ) (mask : ℕ) (g0 : Grid) (front later : List Module) (number : ℕ) (g : Grid) : Type 0 where
+pub record IsWalked (v : ℕ) (cw : List ℕ) (mask : ℕ) (g0 : Grid) (front later : List Place) (number : ℕ) (g : Grid) : Type 0 where
   pub whole : IsOrder v (front ++ later)
   pub next : number ≡ length front
   pub square : IsSquare (side_of v) g
   pub done : Done (side_of v) (walked_colour v cw mask (colour g0)) later g
 
 -- at first no module has been drawn
-pub walked-start : (v : ℕ) (cw : List ℕ) (mask : ℕ) (g : Grid) (ms : List Module) → IsSquare (side_of v) g → IsOrder v ms → IsWalked v cw mask g [] ms 0 g
+pub walked-start : (v : ℕ) (cw : List ℕ) (mask : ℕ) (g : Grid) (ms : List Place) → IsSquare (side_of v) g → IsOrder v ms → IsWalked v cw mask g [] ms 0 g
 walked-start v cw mask g ms s o = search (arith, done-start, walked-outside)
 
 -- the next module is in the square
-pub walked-in : (v : ℕ) (cw : List ℕ) (mask : ℕ) (g0 g : Grid) (front now later : List Module) (x : Module) (number : ℕ) → IsWalked v cw mask g0 front now number g → now ≡ x ∷ later → (x.row < g.side) × (x.col < g.side)
+pub walked-in : (v : ℕ) (cw : List ℕ) (mask : ℕ) (g0 g : Grid) (front now later : List Place) (x : Place) (number : ℕ) → IsWalked v cw mask g0 front now number g → now ≡ x ∷ later → (x.row < g.side) × (x.col < g.side)
 walked-in v cw mask g0 g front now later x number w e =
     let l = in-square v _ _ x (whole-next v _ now _ x w.whole e) in search arith
 
 -- one module is drawn
-pub walked-step : (v : ℕ) (cw : List ℕ) (mask : ℕ) (g0 g : Grid) (front now later : List Module) (x : Module)
+pub walked-step : (v : ℕ) (cw : List ℕ) (mask : ℕ) (g0 g : Grid) (front now later : List Place) (x : Place)
     (number : ℕ) (bit turned : Bool) → bit ≡ codeword_bit cw number → turned ≡ inverts mask x.row x.col →
     now ≡ x ∷ later → IsWalked v cw mask g0 front now number g → IsWalked v cw mask g0 (front ++ x ∷ []) later
     (number + 1) (painted g x.row x.col (not (beq bit turned)))
@@ -51,16 +51,16 @@ walked-step v cw mask g0 g front now later x number bit turned b t e w =
       next = cc (length-append _ _);
       square = painted-square (side_of v) g x.row x.col _ s;
       done = done-step _ _ g _ x _ s (d ∙ (ap (λ k. inverted (inverts mask x.row x.col) (codeword_bit cw k)) (sym n.1) ∙ sym (walked-inside v cw mask (colour g0) x.row x.col n.0)))
-          (subst (λ (ms : List Module). Done (side_of v) (walked_colour v cw mask (colour g0)) ms g) e w.done);
+          (subst (λ (ms : List Place). Done (side_of v) (walked_colour v cw mask (colour g0)) ms g) e w.done);
     }
 
 -- the number of the next bit is at most the number of all modules of the region
-pub walked-small : (v : ℕ) (cw : List ℕ) (mask : ℕ) (g0 g : Grid) (front later : List Module) (number : ℕ) → 1 ≤ v → v ≤ 40 → IsWalked v cw mask g0 front later number g → number ≤ 29648
+pub walked-small : (v : ℕ) (cw : List ℕ) (mask : ℕ) (g0 g : Grid) (front later : List Place) (number : ℕ) → 1 ≤ v → v ≤ 40 → IsWalked v cw mask g0 front later number g → number ≤ 29648
 walked-small v cw mask g0 g front later number k l w =
     let m = order-small v _ k l w.whole in search (arith, length-append)
 
 -- after the last module, the square has the walked colours
-pub walked-end : (v : ℕ) (cw : List ℕ) (mask : ℕ) (g0 g : Grid) (front later : List Module) (number : ℕ) → later ≡ [] → IsWalked v cw mask g0 front later number g → g ≡ square (side_of v) (walked_colour v cw mask (colour g0))
+pub walked-end : (v : ℕ) (cw : List ℕ) (mask : ℕ) (g0 g : Grid) (front later : List Place) (number : ℕ) → later ≡ [] → IsWalked v cw mask g0 front later number g → g ≡ square (side_of v) (walked_colour v cw mask (colour g0))
 walked-end v cw mask g0 g front later number e w = search (arith, done-end)
 
 -- a module that is not in the region has the fixed colour of its role

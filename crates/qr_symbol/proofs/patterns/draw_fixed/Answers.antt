@@ -1,5 +1,5 @@
 use Rattle.qr_layout.proofs.Facts.{centres-inside, off-role, region-parts}
-use Rattle.qr_layout.specs.{Format.version_word_of, Region.is_in_region, Steps.Rectangles.IsInside, Version.side_of}
+use Rattle.qr_layout.specs.{Format.version_word_of, Region.is_in_region, Steps.Rectangles.IsCentreInside, Version.side_of}
 use Rattle.{qr_layout.specs.declared.role.Role.TheVariants.{Fixed, Region}, qr_matrix.proofs.Facts.square-same}
 use Rattle.{qr_matrix.specs.Grid.colour, qr_symbol.proofs.lemmas.patterns.PaintLemmas.{fixed-tests, light-inside}}
 use Rattle.qr_symbol.specs.Steps.Patterns.{fixed_colour, paint_of}
@@ -13,14 +13,14 @@ fixed-cond format word e q t = rw t refl
 
 pub fill_alignment-requires : goal.fill_alignment-requires
 fill_alignment-requires c = let e = c.as_slice.ensures.value ∙ c.alignment_centres-centres.ensures in
-    record { square = c.requires; centres = e; inside = All-same (IsInside (side_of c.args.v)) _ _ e (centres-inside c.args.v (omega arith) (omega arith)) }
+    record { square = c.requires; centres = e; inside = All-same (IsCentreInside (side_of c.args.v)) _ _ e (centres-inside c.args.v (omega arith) (omega arith)) }
 
 pub clear_rings-requires : goal.clear_rings-requires
 clear_rings-requires c =
     let e = c.as_slice-2.ensures.value ∙ c.alignment_centres-centres.ensures in record {
       square = c.fill_alignment.ensures.square;
       centres = e;
-      inside = All-same (IsInside (side_of c.args.v)) _ _ e (centres-inside c.args.v (omega arith) (omega arith));
+      inside = All-same (IsCentreInside (side_of c.args.v)) _ _ e (centres-inside c.args.v (omega arith) (omega arith));
     }
 
 pub paint_version-requires : goal.paint_version-requires

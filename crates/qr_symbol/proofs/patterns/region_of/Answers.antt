@@ -1,6 +1,6 @@
-use Rattle.qr_layout.proofs.Facts.{centres-inside, fixed-within, region_outside}
+use Rattle.qr_layout.proofs.Facts.{centres-inside, fixed-inside, region_outside}
 use Rattle.qr_layout.specs.{Alignment.{alignment_places, centres_of}, Rectangles.is_in_rectangle}
-use Rattle.qr_layout.specs.{Region.{is_alignment, is_in_region}, Steps.Rectangles.{IsInside, IsWithin}, Version.side_of}
+use Rattle.qr_layout.specs.{Region.{is_alignment, is_in_region}, Steps.Rectangles.{IsCentreInside, IsInside}, Version.side_of}
 use Rattle.qr_matrix.{proofs.Facts.square-same, specs.Grid.{Grid, colour}}
 use Rattle.qr_symbol.proofs.lemmas.patterns.PaintLemmas.{over-rectangle, region-tests}
 use Rattle.qr_symbol.{proofs.patterns.region_of.Goals.After-fill, specs.Steps.Patterns.IsOver}
@@ -20,7 +20,7 @@ all-dark c = over-rectangle _ 0 _ 0 _ (ap (λ (g : Grid). g.side) c.in_ok-region
 pub clear_rectangles-requires : goal.clear_rectangles-requires
 clear_rectangles-requires c = record {
   square = (all-dark (goal.at.clear_rectangles-requires c).After-fill).square;
-  inside = All-same (IsWithin (side_of c.args.version)) c.as_slice.result.now c.fixed_rectangles.result.items c.as_slice.ensures.value (fixed-within c.args.version c.fixed_rectangles.result.items c.fixed_rectangles.ensures);
+  inside = All-same (IsInside (side_of c.args.version)) c.as_slice.result.now c.fixed_rectangles.result.items c.as_slice.ensures.value (fixed-inside c.args.version c.fixed_rectangles.result.items c.fixed_rectangles.ensures);
 }
 
 pub fill_alignment-requires : goal.fill_alignment-requires
@@ -29,7 +29,7 @@ fill_alignment-requires c =
     let e = c.as_slice-2.ensures.value ∙ c.alignment_centres.ensures in record {
       square = c.clear_rectangles.ensures.square;
       centres = e;
-      inside = All-same (IsInside (side_of v)) c.as_slice-2.result.now (alignment_places (side_of v) (centres_of v)) e (centres-inside v (omega arith) (omega arith));
+      inside = All-same (IsCentreInside (side_of v)) c.as_slice-2.result.now (alignment_places (side_of v) (centres_of v)) e (centres-inside v (omega arith) (omega arith));
     }
 
 pub returns : goal.returns

@@ -2,7 +2,8 @@
 use Rattle.std.proofs.Common.{◌≡◌, ℕ, ◌*◌, ◌<◌, ◌≤◌, List, ◌++◌, drop, length, take, arith}
 use Rattle.std.{proofs.lemmas.List.Elements.All-weaker, specs.List.All}
 use Rattle.{qr_layout.specs.declared.level.Level.Level, qr_bits.specs.Parsing.Content, qr_matrix.specs.Grid.Grid}
-use Rattle.qr_mending.specs.{declared.mending.Mended.Mended, Message.correctable_of}
+use Rattle.qr_layout.specs.Blocks.{correctable_of}
+use Rattle.qr_mending.specs.{declared.mending.Mended.Mended}
 use Rattle.qr_mending.specs.Mending.{wrong_format_modules, HasWrongModules, IsMendedReading}
 use Rattle.qrproved.specs.declared.mending.QrprovedMended.{QrprovedMended}
 use Rattle.qrproved.specs.declared.interpretation.QrprovedEci.{QrprovedEci}

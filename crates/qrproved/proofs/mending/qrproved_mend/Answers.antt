@@ -1,6 +1,7 @@
 use Rattle.std.proofs.Common.{◌≡◌, ℕ, ◌*◌, ◌<◌, ◌∙◌, length, ap, inl, inr, refl, arith, sym}
 use Rattle.{qr_bits.specs.Parsing.Content, qrproved.proofs.mending.qrproved_mend.Goals.{In-Err, In-Ok}}
-use Rattle.qr_mending.specs.{declared.mending.Mended.Mended, Mending.IsMendedReading, Message.correctable_of}
+use Rattle.qr_layout.specs.Blocks.{correctable_of}
+use Rattle.qr_mending.specs.{declared.mending.Mended.Mended, Mending.IsMendedReading}
 use Rattle.qrproved.specs.{Modules.square_of_bytes, Reading.IsSide, Steps.Status.read_status}
 use Rattle.qrproved.specs.Mending.{square_of_unknown, AreModules, HasMoreMendedBytes, IsUnmendedAt}
 use Rattle.qrproved.proofs.lemmas.reading.ReadingLemmas.{TellsFaults, refused, read, side-status, room-status}

@@ -1,10 +1,7 @@
-use Rattle.std.proofs.{Common.{refl, arith}, lemmas.Bool.Decides.nat_tests}
+use Rattle.std.proofs.Common.{refl}
 use Rattle.qr_layout.specs.Format.{format_word_of, word_remainder}
 use Rattle.qr_matrix.specs.{BitRow.has_bit, Grid.colour, Grid.rows_of}
-use Rattle.qr_mending.proofs.laws.mending_numbers_compute.Goals as goal
-
-pub returns-clause-protection : goal.returns-clause-protection
-returns-clause-protection c = λ v l h. grind (arith, nat_tests)
+use Rattle.qr_mending.proofs.laws.format_costs_compute.Goals as goal
 
 pub returns-clause-costs : goal.returns-clause-costs
 unfolding format_word_of word_remainder has_bit colour rows_of
