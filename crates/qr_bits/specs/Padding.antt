@@ -5,13 +5,10 @@ use Rattle.qr_bits.specs.declared.header.Header.{Header}
 use Rattle.qr_bits.specs.declared.interpretation.Interpretation.{Interpretation}
 use Rattle.qr_bits.specs.Bits.{bits_of}
 use Rattle.qr_layout.specs.declared.level.Level.{Level}
+pub use Rattle.qr_layout.specs.Blocks.{capacity_of}
 use Rattle.qr_layout.specs.Blocks.{data_codewords_of}
 use Rattle.qr_bits.specs.Stream.{IsStream}
 use Rattle.qr_bits.specs.Interpretation.{interpretation_bits}
-
--- How many bits the data codewords of version `v` and level `l` have together (ISO/IEC 18004:2015, 7.4.10, Table 7)
-abbrev pub capacity_of : ℕ → Level → ℕ
-capacity_of v l = 8 * data_codewords_of v l
 
 -- How many bits of the capacity are left after a structured append header, of 20 bits, and the ECI header or FNC1 of
 -- the interpretation (ISO/IEC 18004:2015, 7.4.2, 7.4.8.2, 7.4.10, 8.1)

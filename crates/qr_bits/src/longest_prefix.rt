@@ -20,7 +20,6 @@ use crate::fault::BitFault;
 use crate::header::HEADER_BITS;
 use crate::interpretation::{Interpretation, interpretation_bits, is_gs1};
 use crate::modes::{INPUT_MAX, Mode, Rule, count_width, is_kanji_pair, may_use};
-use crate::padding::capacity;
 use crate::run_state::{FirstChoices, NO_BITS, PerState};
 use qr_layout::{Level, Version};
 use std::alloc::Global;
@@ -105,7 +104,7 @@ fn room(version: Version, level: Level, interpretation: Interpretation) -> u64
     ensures value { result ≡ room_of version level interpretation }
     ensures least { 20 ≤ result }
 {
-    capacity(version, level) - HEADER_BITS - interpretation_bits(interpretation)
+    version.capacity(level) - HEADER_BITS - interpretation_bits(interpretation)
 }
 
 // As `longest_by_rows`, for GS1 data. It is not inlined, so that the compiled code of `longest_fit` for other data does

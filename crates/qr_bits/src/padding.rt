@@ -23,19 +23,6 @@ use std::alloc::{AllocError, Global};
 // How many bits the terminator has, unless fewer are left of the capacity (ISO/IEC 18004:2015, 7.4.9).
 const TERMINATOR_BITS: u64 = 4;
 
-// The capacity in bits. It is the least, 72, in version 1 at level H, which has 9 data codewords.
-#[tactic(auto, using(crate::proofs::lemmas::padding::CountLemmas::capacity_least))]
-pub(crate) fn capacity(version: Version, level: Level) -> u64
-    ensures value { result ≡ capacity_of version level }
-    ensures first { 1 ≤ version }
-    ensures last { version ≤ 40 }
-    ensures least { 72 ≤ result }
-{
-    // For the prover: the contract of `number` says that the version is from 1 to 40.
-    let _ = version.number();
-    8 * u64::from(version.data_codewords(level))
-}
-
 /// Returns the data codewords of a symbol of this version and level. They contain the header, if there is one, then the
 /// ECI header or FNC1 of the interpretation, and then `input` in the segments `segs`. As far as the capacity allows, a
 /// terminator, zeros up to the end of a codeword, and pad codewords follow (ISO/IEC 18004:2015, 7.4.9, 7.4.10).
@@ -65,7 +52,7 @@ pub fn codewords(
     ensures too_long { (result ≡ Err BitFault.TooLong)
         ↔ (capacity_of version level < header_bits header + interpretation_bits interpretation + bits version segs.now) }
 {
-    let capacity = capacity(version, level);
+    let capacity = version.capacity(level);
     let used = header_bits(header) + interpretation_bits(interpretation) + bit_len(segs, version);
     if used > capacity {
         return Err(BitFault::TooLong);

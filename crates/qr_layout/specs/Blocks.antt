@@ -34,6 +34,10 @@ block_count_of v l = slice_index_or (block_table l) (v - 1) 0
 unfoldable pub data_codewords_of : ℕ → Level → ℕ
 data_codewords_of v l = total_codewords_of v - block_count_of v l * correction_len_of v l
 
+-- How many bits the data codewords have together (ISO/IEC 18004:2015, 7.4.10, Table 7)
+abbrev pub capacity_of : ℕ → Level → ℕ
+capacity_of v l = 8 * data_codewords_of v l
+
 -- The data codewords are divided evenly among the blocks, and if some remain, each of the last blocks, the long ones,
 -- has one more (ISO/IEC 18004:2015, 7.5.1, Table 9)
 abbrev pub blocks_of : ℕ → Level → Blocks

@@ -1,10 +1,13 @@
 -- The bits of the format information and of the version information. A division reads numbers as polynomials whose
 -- coefficients are bits: the coefficient of x^i is bit i.
-use Rattle.std.specs.Prelude.{◌≡◌, ℕ, ◌+◌, ◌*◌, ◌^◌, ◌<◌, ◌≤◌, List, [], ◌∷◌, bit_xor}
+use Rattle.std.specs.Prelude.{◌≡◌, ℕ, ◌+◌, ◌-◌, ◌*◌, ◌/◌, ◌%◌, ◌^◌, ◌<◌, ◌≤◌, Bool, ◌&&◌, ◌||◌, nat_lt, ◌==◌, if◌then◌else◌, Option, None, List, [], ◌∷◌, bit_xor}
 use Prim.Native.Nat.{zero, suc}
 use Rattle.std.specs.Int.{bit_at}
+use Rattle.std.specs.List.{find, range_with_len}
+use Rattle.qr_layout.specs.declared.region.Place.{Place}
 use Rattle.qr_layout.specs.declared.level.Level.{Level}
 use Rattle.qr_layout.specs.declared.level.Level.TheVariants.{L, M, Q, H}
+use Rattle.qr_layout.specs.Version.{side_of}
 
 -- x^10 + x^8 + x^5 + x^4 + x^2 + x + 1, the generator polynomial of format information (ISO/IEC 18004:2015, Annex C)
 abbrev pub format_generator : ℕ
@@ -74,3 +77,43 @@ pub record IsVersionWord (v word : ℕ) : Type 0 where
   pub rest : ℕ
   pub remainder : IsWordRemainder 12 version_generator (v * 2 ^ 12) rest
   pub word_is : word ≡ v * 2 ^ 12 + rest
+
+-- The place of bit `i` of the format information in the first copy, beside the top left finder pattern (ISO/IEC
+-- 18004:2015, 7.9.1)
+abbrev pub first_place : ℕ → Place
+first_place i = record {
+  row = if nat_lt i 6 then i else (if i == 6 then 7 else 8);
+  col = if nat_lt i 8 then 8 else (if i == 8 then 7 else 14 - i);
+}
+
+-- The place of bit `i` of the format information in the second copy, beside the top right and the bottom left finder
+-- pattern (ISO/IEC 18004:2015, 7.9.1)
+abbrev pub second_place : ℕ → ℕ → Place
+second_place s i = record {
+  row = if nat_lt i 8 then 8 else s - 15 + i;
+  col = if nat_lt i 8 then s - 1 - i else 8;
+}
+
+-- The place of bit `i` of the version information in the copy beside the top right finder pattern. In the copy beside
+-- the bottom left one, rows and columns are exchanged (ISO/IEC 18004:2015, 7.10)
+abbrev pub version_place : ℕ → ℕ → Place
+version_place s i = record { row = i / 3; col = s - 11 + i % 3 }
+
+-- Row and column exchanged [own]
+abbrev pub mirror_of : Place → Place
+mirror_of m = record { row = m.col; col = m.row }
+
+-- Equality of places [own]
+abbrev pub is_at : Place → ℕ → ℕ → Bool
+is_at m r c = m.row == r && m.col == c
+
+-- The index of the bit of the format information that the module contains (ISO/IEC 18004:2015, 7.9.1)
+unfoldable pub format_bit_at : ℕ → ℕ → ℕ → Option ℕ
+format_bit_at s r c = find (λ i. is_at (first_place i) r c || is_at (second_place s i) r c) (range_with_len 0 15)
+
+-- The index of the bit of the version information that the module contains, from version 7 on (ISO/IEC 18004:2015,
+-- 7.10)
+unfoldable pub version_bit_at : ℕ → ℕ → ℕ → Option ℕ
+version_bit_at v r c =
+    if nat_lt v 7 then None else
+    find (λ i. is_at (version_place (side_of v) i) r c || is_at (mirror_of (version_place (side_of v) i)) r c) (range_with_len 0 18)

@@ -1,7 +1,7 @@
 //! Divides the codewords of a symbol into blocks (ISO/IEC 18004:2015, 7.5.1, Table 9).
 
-ghost use Rattle.std.specs.Prelude.{◌≡◌};
-ghost use Rattle.qr_layout.specs.Blocks.{correction_len_of, block_count_of, data_codewords_of, blocks_of, protection_of, spare_of, correctable_of};
+ghost use Rattle.std.specs.Prelude.{◌≡◌, ◌≤◌};
+ghost use Rattle.qr_layout.specs.Blocks.{correction_len_of, block_count_of, data_codewords_of, capacity_of, blocks_of, protection_of, spare_of, correctable_of};
 
 use crate::level::Level;
 use crate::version::Version;
@@ -119,6 +119,17 @@ impl Version {
     {
         self.total_codewords()
             - u16::from(self.block_count(level)) * u16::from(self.correction_len(level))
+    }
+
+    /// Returns the capacity at a level, which is the number of bits of all data codewords: from 72 in version 1 at level H
+    /// to 23,648 in version 40 at level L (ISO/IEC 18004:2015, 7.4.10, Table 7).
+    #[tactic(auto, using(crate::proofs::lemmas::blocks::BlockLemmas::capacity_bounds))]
+    pub fn capacity(self, level: Level) -> u64
+        ensures value { result ≡ capacity_of self level }
+        ensures least { 72 ≤ result }
+        ensures most { result ≤ 23648 }
+    {
+        8 * u64::from(self.data_codewords(level))
     }
 
     /// Returns the sizes of the blocks at a level, among which the data codewords are divided as evenly as possible

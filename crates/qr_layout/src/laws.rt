@@ -15,7 +15,8 @@ ghost use Rattle.qr_layout.specs.Region.{is_alignment, is_in_region, InRegion};
 ghost use Rattle.qr_layout.specs.Rectangles.{AreFixed, is_in_rectangle};
 ghost use Rattle.qr_layout.specs.declared.rectangles.Rectangle.{Rectangle};
 ghost use Rattle.qr_layout.specs.Order.{IsOrder, index_of, places_passing};
-ghost use Rattle.qr_layout.specs.Role.{first_place, second_place, version_place, mirror_of, role_of};
+ghost use Rattle.qr_layout.specs.Role.{role_of};
+ghost use Rattle.qr_layout.specs.Format.{first_place, second_place, version_place, mirror_of};
 ghost use Rattle.qr_layout.specs.Laws.{all_versions, printed_correction, printed_data, printed_errors, spaced_centres, region_size, row_6, row_8, column_8, alignment_figure, finder_figure, version_figure};
 
 use crate::blocks::Blocks;
@@ -186,7 +187,7 @@ pub fn words_compute()
 {}
 
 /// In version 1, the modules of row 8, column 8 and row 6 have the roles that the figures of the standard show.
-#[tactic(auto, unfolding(crate::specs::Role::role_of, crate::specs::Role::pattern_colour, crate::specs::Role::is_alignment_light, crate::specs::Role::format_bit_at, crate::specs::Role::version_bit_at, crate::specs::Alignment::centres_of))]
+#[tactic(auto, unfolding(crate::specs::Role::role_of, crate::specs::Role::pattern_colour, crate::specs::Role::is_alignment_light, crate::specs::Format::format_bit_at, crate::specs::Format::version_bit_at, crate::specs::Alignment::centres_of))]
 pub fn roles_compute()
     ensures row_8 { map (role_of 1 8) (range_with_len 0 21) ≡ row_8 }
     ensures column_8 { map (λ r. role_of 1 r 8) (range_with_len 0 21) ≡ column_8 }
@@ -195,7 +196,7 @@ pub fn roles_compute()
 
 /// The modules of a finder pattern in version 1, an alignment pattern in version 2 and the version information in
 /// version 7 have the roles that the standard's figures show (6.3.3 to 6.3.6 and 7.10).
-#[tactic(auto, unfolding(crate::specs::Role::role_of, crate::specs::Role::pattern_colour, crate::specs::Role::is_alignment_light, crate::specs::Role::format_bit_at, crate::specs::Role::version_bit_at, crate::specs::Alignment::centres_of))]
+#[tactic(auto, unfolding(crate::specs::Role::role_of, crate::specs::Role::pattern_colour, crate::specs::Role::is_alignment_light, crate::specs::Format::format_bit_at, crate::specs::Format::version_bit_at, crate::specs::Alignment::centres_of))]
 pub fn patterns_compute()
     ensures finder { map (λ r. map (role_of 1 r) (range_with_len 0 8)) (range_with_len 0 8) ≡ finder_figure }
     ensures alignment { map (λ r. map (role_of 2 r) (range_with_len 15 7)) (range_with_len 15 7) ≡ alignment_figure }

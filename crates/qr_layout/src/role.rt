@@ -1,14 +1,14 @@
 //! The role of each module (ISO/IEC 18004:2015, 6.3 and 7.7.2). `side` is the number of modules on a side.
 
-ghost use Rattle.std.specs.Prelude.{◌≡◌, ◌≢◌, ◌<◌, ◌≤◌, ◌==◌, ◌&&◌, not};
+ghost use Rattle.std.specs.Prelude.{◌≡◌, ◌<◌, ◌≤◌, ◌==◌, ◌&&◌, not};
 ghost use Rattle.std.specs.List.{list_any};
 ghost use Rattle.qr_layout.specs.Version.{side_of};
 ghost use Rattle.qr_layout.specs.Alignment.{is_corner_pair};
 ghost use Rattle.qr_layout.specs.Region.{ring_of};
-ghost use Rattle.qr_layout.specs.Role.{finder_ring, is_alignment_light, pattern_colour, first_place, second_place, format_bit_at, version_bit_at, role_of};
+ghost use Rattle.qr_layout.specs.Role.{finder_ring, is_alignment_light, pattern_colour, role_of};
 
 use crate::alignment::{alignment_centres, is_in_alignment};
-use crate::region::{Place, is_in_version_copy};
+use crate::format::{format_bit, version_bit};
 use crate::version::Version;
 
 /// What a module contains, which depends only on the version and the place.
@@ -67,125 +67,6 @@ fn pattern_colour(version: Version, row: u8, col: u8) -> Option<bool>
     }
     if is_in_alignment(version, row, col) {
         return Some(!is_alignment_light(version, row, col));
-    }
-    None
-}
-
-/// Returns the place of bit `bit` (0 to 14) of the format information in the first copy, beside the top left finder
-/// pattern (ISO/IEC 18004:2015, 7.9.1).
-pub fn format_place(bit: u8) -> Place
-    requires { bit < 15 }
-    ensures place { result ≡ first_place bit }
-    ensures row_in { result.row < 21 }
-    ensures col_in { result.col < 21 }
-{
-    let row = if bit < 6 {
-        bit
-    } else if bit == 6 {
-        7
-    } else {
-        8
-    };
-    let col = if bit < 8 {
-        8
-    } else if bit == 8 {
-        7
-    } else {
-        14 - bit
-    };
-    Place { row, col }
-}
-
-/// Returns the place of bit `bit` (0 to 14) of the format information in the second copy, beside the top right and the
-/// bottom left finder pattern (ISO/IEC 18004:2015, 7.9.1).
-pub fn second_format_place(version: Version, bit: u8) -> Place
-    requires { bit < 15 }
-    ensures place { result ≡ second_place (side_of version) bit }
-    ensures row_in { result.row < side_of version }
-    ensures col_in { result.col < side_of version }
-{
-    let side = version.side();
-    let row = if bit < 8 { 8 } else { side - 15 + bit };
-    let col = if bit < 8 { side - 1 - bit } else { 8 };
-    Place { row, col }
-}
-
-// The index of the bit of the format information that column 8 contains in row `row`.
-#[tactic(auto, using(crate::proofs::lemmas::role::RoleLemmas::format_in_column_8))]
-fn format_bit_in_column_8(side: u8, row: u8) -> Option<u8>
-    requires least { 21 ≤ side }
-    requires most { side ≤ 177 }
-    requires row_in { row < side }
-    ensures { result ≡ format_bit_at side row 8 }
-{
-    if row < 6 {
-        Some(row)
-    } else if row == 6 {
-        None
-    } else if row < 9 {
-        Some(row - 1)
-    } else if row > side - 8 {
-        Some(row + 15 - side)
-    } else {
-        None
-    }
-}
-
-// As `format_bit_in_column_8`, but for row 8 and column `col`.
-#[tactic(auto, using(crate::proofs::lemmas::role::RoleLemmas::format_in_row_8))]
-fn format_bit_in_row_8(side: u8, col: u8) -> Option<u8>
-    requires least { 21 ≤ side }
-    requires col_in { col < side }
-    requires not_both { col ≢ 8 }
-    ensures { result ≡ format_bit_at side 8 col }
-{
-    if col < 6 {
-        Some(14 - col)
-    } else if col == 6 {
-        None
-    } else if col == 7 {
-        Some(8)
-    } else if col >= side - 8 {
-        Some(side - 1 - col)
-    } else {
-        None
-    }
-}
-
-#[tactic(auto, using(crate::proofs::lemmas::role::RoleLemmas::format_off))]
-fn format_bit(side: u8, row: u8, col: u8) -> Option<u8>
-    requires least { 21 ≤ side }
-    requires most { side ≤ 177 }
-    requires row_in { row < side }
-    requires col_in { col < side }
-    ensures { result ≡ format_bit_at side row col }
-{
-    if col == 8 {
-        format_bit_in_column_8(side, row)
-    } else if row == 8 {
-        format_bit_in_row_8(side, col)
-    } else {
-        None
-    }
-}
-
-// In the block beside the top right finder pattern, each row has three bits, the lowest first, from bit 0 in row 0 on.
-// In the other block, rows and columns are exchanged.
-#[tactic(auto, using(crate::proofs::lemmas::role::RoleLemmas::version_at))]
-fn version_bit(version: Version, row: u8, col: u8) -> Option<u8>
-    requires row_in { row < side_of version }
-    requires col_in { col < side_of version }
-    ensures { result ≡ version_bit_at version row col }
-{
-    if version.number() < 7 {
-        return None;
-    }
-    let side = version.side();
-    if is_in_version_copy(side, row, col) {
-        return Some(3 * row + (col + 11 - side));
-    }
-    if is_in_version_copy(side, col, row) {
-        return Some(3 * col + (row + 11 - side));
     }
     None
 }

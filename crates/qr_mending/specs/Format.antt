@@ -5,7 +5,7 @@ use Prim.Native.Nat.{zero, suc}
 use Rattle.qr_layout.specs.declared.level.Level.{Level}
 use Rattle.qr_layout.specs.Format.{format_word_of}
 use Rattle.qr_layout.specs.declared.region.Place.{Place}
-use Rattle.qr_layout.specs.Role.{first_place, second_place}
+use Rattle.qr_layout.specs.Format.{first_place, second_place}
 use Rattle.qr_matrix.specs.Grid.{Grid, colour, is_same}
 use Rattle.qr_matrix.specs.Sums.{count_below}
 use Rattle.qr_matrix.specs.BitRow.{has_bit}

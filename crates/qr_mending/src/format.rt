@@ -13,10 +13,9 @@ ghost use Rattle.qr_mending.specs.Steps.Format.{AreBitsOf};
 ghost use Rattle.qr_mending.specs.Mending.{wrong_format_modules};
 
 use crate::scan::Scan;
-use qr_layout::{Level, Place, Version, format_place, format_word, second_format_place};
-
-// The number of modules of one copy.
-const FORMAT_BITS: u8 = 15;
+use qr_layout::{
+    FORMAT_BITS, Level, Place, Version, format_place, format_word, second_format_place,
+};
 
 // The number of which the 15 lowest bits are 1, and all others 0.
 const ALL_BITS: u16 = 0x7FFF;
@@ -34,7 +33,7 @@ pub(crate) enum FormatCopy {
 
 impl FormatCopy {
     fn place(self, version: Version, bit: u8) -> Place
-        requires { bit < 15 }
+        requires { bit < FORMAT_BITS }
         ensures place { result ≡ copy_place self (side_of version) bit }
         ensures row_in { result.row < side_of version }
         ensures col_in { result.col < side_of version }
@@ -57,8 +56,8 @@ fn is_bit_set(word: u16, i: u8) -> bool
 
 // How many of the bits of a copy are 1.
 fn count_bits(word: u16) -> u8
-    ensures value { result ≡ count_below 15 (has_bit word) }
-    ensures most { result ≤ 15 }
+    ensures value { result ≡ count_below FORMAT_BITS (has_bit word) }
+    ensures most { result ≤ FORMAT_BITS }
 {
     let mut count = 0u8;
     for i in 0..FORMAT_BITS {
@@ -101,7 +100,7 @@ impl CopyBits {
         ensures unread { (u g : Grid) (copy : FormatCopy) → AreBitsOf u copy g self → result.unread ≡ unread_bits u copy }
         ensures misread { (u g : Grid) (copy : FormatCopy) → AreBitsOf u copy g self
             → result.misread ≡ misread_bits u copy g word }
-        ensures few { (result.unread ≤ 15) × (result.misread ≤ 15) }
+        ensures few { (result.unread ≤ FORMAT_BITS) × (result.misread ≤ FORMAT_BITS) }
     {
         CopyDamage {
             unread: count_bits(self.unread),

@@ -17,7 +17,7 @@ ghost use Rattle.qr_symbol.specs.Steps.Placement.{region_grid};
 
 use crate::words::{is_bit_set, reversed};
 use qr_layout::{
-    Place, Rectangle, Version, alignment_centres, fixed_rectangles, format_place,
+    FORMAT_BITS, Place, Rectangle, Version, alignment_centres, fixed_rectangles, format_place,
     second_format_place,
 };
 use qr_matrix::{Matrix, MatrixPair};
@@ -79,14 +79,11 @@ fn paint_finder(matrix: &mut Matrix, v: Version, block: Place, centre: Place)
     fill_around(matrix, centre, 1, true);
 }
 
-// Five data bits and ten error correction bits (ISO/IEC 18004:2015, 7.9.1).
-pub(crate) const FORMAT_BITS: u8 = 15;
-
 #[inline(always)]
 fn draw_format_bits(matrix: &mut Matrix, v: Version, format: u32, first: u8, end: u8)
     requires square { IsSquare (side_of v) matrix.old }
     requires in_order { first ≤ end }
-    requires end_in { end ≤ 15 }
+    requires end_in { end ≤ FORMAT_BITS }
     ensures { matrix.new ≡ square (side_of v) (λ r c. format_bits_or first end format (role_of v r c) (colour matrix.old r c)) }
 {
     for bit in first..end {
@@ -112,7 +109,7 @@ pub(crate) fn draw_format(matrix: &mut Matrix, v: Version, format: u32)
 // The bits of the format information from bit 14, as bit 0, down to bit 0: in this order row 8 has them from left to right.
 #[inline(always)]
 fn reversed_format(format: u32) -> u64
-    ensures { (k : ℕ) → k < 15 → has_bit result k ≡ has_bit format (14 - k) }
+    ensures { (k : ℕ) → k < FORMAT_BITS → has_bit result k ≡ has_bit format (FORMAT_BITS - 1 - k) }
 {
     reversed(u64::from(format)) >> 49
 }

@@ -15,10 +15,10 @@ use crate::collecting::collect_codewords;
 use crate::fault::ReadFault;
 use crate::interleaving::deinterleave;
 use crate::mask::set_masked;
-use crate::patterns::{FORMAT_BITS, region_of};
+use crate::patterns::region_of;
 use crate::words::is_bit_set;
 use qr_bits::{Parsed, parse};
-use qr_layout::{Level, Version, format_place, format_word};
+use qr_layout::{FORMAT_BITS, Level, Version, format_place, format_word};
 use qr_matrix::Matrix;
 use std::alloc::{AllocError, Global};
 

@@ -128,7 +128,7 @@ fn takes_more(
     }
     !matches!(rule, Rule::BytesOnly)
         && u64::from(least_bits(input)) + interpretation_bits(interpretation)
-            > 8 * u64::from(version.data_codewords(level))
+            > version.capacity(level)
 }
 
 fn plain_symbol(
@@ -151,8 +151,7 @@ fn plain_symbol(
         return Ok(None);
     }
     let segmented = segments(alloc, input, version, rule, interpretation)?;
-    let room = 8 * u64::from(version.data_codewords(level));
-    if needed_bits(&segmented, interpretation, version) > room {
+    if needed_bits(&segmented, interpretation, version) > version.capacity(level) {
         return Ok(None);
     }
     let symbol = symbol_at(alloc, &segmented, None, interpretation, version, level)?;

@@ -68,13 +68,12 @@ pub(crate) fn needed_bits(
     interpretation_bits(interpretation) + bit_len(&segmented.segments, version)
 }
 
-// How many bits all data codewords of this version and level have.
-fn room_in(number: u8, level: Level) -> u64
+fn capacity_at(number: u8, level: Level) -> u64
     requires { (1 ≤ number) × (number ≤ 40) }
     ensures { result ≡ capacity_of number level }
 {
     let version = Version::new(number).unwrap();
-    8 * u64::from(version.data_codewords(level))
+    version.capacity(level)
 }
 
 // The first version of a range, 1, 10 or 27, such that the input fits no version of the ranges before it. Its length or
@@ -94,9 +93,9 @@ fn first_for(input: &[u8], level: Level, rule: Rule, interpretation: Interpretat
         return 1;
     }
     let bits = u64::from(least_bits(input)) + interpretation_bits(interpretation);
-    if bits > room_in(MEDIUM, level) {
+    if bits > capacity_at(MEDIUM, level) {
         27
-    } else if bits > room_in(SMALL, level) {
+    } else if bits > capacity_at(SMALL, level) {
         10
     } else {
         1
@@ -112,7 +111,7 @@ fn first_with_room(level: Level, first: Version, last: u8, bits: u64) -> Option<
 {
     for number in first.number()..=last {
         let version = Version::new(number).unwrap();
-        if bits <= 8 * u64::from(version.data_codewords(level)) {
+        if bits <= version.capacity(level) {
             return Some(version);
         }
     }
@@ -162,7 +161,7 @@ pub(crate) fn highest_with_room(version: Version, level: Level, bits: u64) -> Le
     ensures highest { (m : Level) → level_rank result < level_rank m → capacity_of version m < bits }
 {
     for candidate in [Level::H, Level::Q, Level::M] {
-        if candidate == level || bits <= room_in(version.number(), candidate) {
+        if candidate == level || bits <= version.capacity(candidate) {
             return candidate;
         }
     }

@@ -1,5 +1,3 @@
--- The places of the bits of the format and version information.
-pub mod RoleLemmas
 -- Which places contain the bits of the format and version information.
 pub mod RolePlaceLemmas
 -- The function patterns when rows and columns are exchanged.

@@ -30,7 +30,7 @@ returns-then-used-capacity-clause-too_long c = (λ e. rw (← c.capacity-capacit
 pub put_all-requires-clause-short : goal.put_all-requires-clause-short
 put_all-requires-clause-short c =
     let least = bits_least c.args.version c.args.input.now c.args.segs.now (covers_suits c.args.input.now c.args.segs.now c.requires.covered) in
-    let most = capacity_most c.args.version c.args.level c.capacity-capacity.ensures.first c.capacity-capacity.ensures.last in
+    let most = capacity_most c.args.version c.args.level (omega arith) (omega arith) in
     (room _ _ _ _ _ _ _ _ c.header_bits.ensures.value c.interpretation_bits.ensures.value c.bit_len.ensures c.capacity-capacity.ensures.value c.if-used-capacity.false).3 _ least most
 
 pub returns-clause-ok : goal.returns-clause-ok
@@ -43,7 +43,7 @@ returns-clause-ok c =
     let is : IsStream c.args.version xs segs c.args.header c.args.interpretation ((header_stream c.args.header ++ interpretation_stream c.args.interpretation) ++ segments_stream c.args.version xs segs) = record {
       bytes = All-from_get_or (λ (b : ℕ). b < 256) xs 0 (λ i h. omega (arith, c.type_inv.input i));
       suit = suit;
-      counts = counts_fit c.args.version c.args.level segs k.first k.last left.1;
+      counts = counts_fit c.args.version c.args.level segs (omega arith) (omega arith) left.1;
       header = λ h e. let r = c.requires.in_range h e in (r.0, r.1, c.in_ok-put_all.ensures.1 h e);
       interpretation = c.requires.number;
       whole = refl;

@@ -3,7 +3,7 @@ use Rattle.std.proofs.Common.{◌≡◌, ℕ, ◌+◌, ◌-◌, ◌*◌, ◌/◌
 use Rattle.std.proofs.lemmas.{Bool.Decides.nat_tests, Nat.div-add-mod'}
 use borrow.Author.Tests.{leb-true}
 use Rattle.qr_layout.specs.{declared.level.Level.{Level, TheVariants.{L, M, Q, H}}, Version.total_codewords_of}
-use Rattle.qr_layout.specs.Blocks.{correction_len_of, block_count_of, data_codewords_of, blocks_of, longest_of, damage_of, AreWhole}
+use Rattle.qr_layout.specs.Blocks.{correction_len_of, block_count_of, data_codewords_of, capacity_of, blocks_of, longest_of, damage_of, AreWhole}
 use Rattle.qr_layout.proofs.lemmas.alignment.TableLemmas.{below, below-from}
 
 -- a test at each version
@@ -33,6 +33,7 @@ pub record Laws (l : Level) (v : ℕ) : Type 0 where
   pub some_len : 1 ≤ data_codewords_of v l / block_count_of v l
   pub ec_least : 1 ≤ correction_len_of v l
   pub ec_most : correction_len_of v l ≤ 30
+  pub least : 9 ≤ data_codewords_of v l
   pub most : data_codewords_of v l ≤ 2956
   pub most_middle : v ≤ 26 → data_codewords_of v l ≤ 1370
   pub most_small : v ≤ 9 → data_codewords_of v l ≤ 232
@@ -43,7 +44,7 @@ are_lawful l v =
     leb (block_count_of v l * correction_len_of v l) (total_codewords_of v) && leb 1 (block_count_of v l) && leb (block_count_of v l) 81
     && leb (data_codewords_of v l / block_count_of v l) 122 && leb 1 (data_codewords_of v l / block_count_of v l)
     && leb 1 (correction_len_of v l) && leb (correction_len_of v l) 30
-    && leb (data_codewords_of v l) 2956 && (leb 27 v || leb (data_codewords_of v l) 1370) && (leb 10 v || leb (data_codewords_of v l) 232)
+    && leb 9 (data_codewords_of v l) && leb (data_codewords_of v l) 2956 && (leb 27 v || leb (data_codewords_of v l) 1370) && (leb 10 v || leb (data_codewords_of v l) 232)
 
 all-lawful : every are_lawful ≡ true
 unfolding block_count_of correction_len_of data_codewords_of total_codewords_of
@@ -58,6 +59,7 @@ laws-of l v a b = let h : are_lawful l v ≡ true = every-at are_lawful all-lawf
   some_len = grind (arith, nat_tests);
   ec_least = grind (arith, nat_tests);
   ec_most = grind (arith, nat_tests);
+  least = grind (arith, nat_tests);
   most = grind (arith, nat_tests);
   most_middle = λ k. grind (arith, nat_tests);
   most_small = λ k. grind (arith, nat_tests);
@@ -130,3 +132,7 @@ damage-all = refl
 -- half the error correction codewords are at least the percentage `damage_of` of the longest block
 pub damage-stood : (l : Level) (v : ℕ) → 1 ≤ v → v ≤ 40 → damage_of l * longest_of (blocks_of v l) ≤ 100 * ((blocks_of v l).ec_len / 2)
 damage-stood l v h k = leb-true _ _ (every-at (λ l v. leb (damage_of l * longest_of (blocks_of v l)) (100 * ((blocks_of v l).ec_len / 2))) damage-all l v h k)
+
+-- the bits of all data codewords of a symbol
+pub capacity_bounds : (v : ℕ) (l : Level) → 1 ≤ v → v ≤ 40 → (72 ≤ capacity_of v l) × (capacity_of v l ≤ 23648)
+capacity_bounds v l a b = let h = laws-of l v a b in (omega (arith, h.least), omega (arith, h.most))

@@ -5,11 +5,12 @@ use Rattle.std.specs.{Int.abs_diff, List.{find, range_with_len}, Option.option_m
 use Rattle.qr_layout.specs.{declared.{region.Place.Place, role.Role.Role}, Version.side_of, Alignment.centres_of}
 use Rattle.qr_layout.specs.declared.role.Role.TheVariants.{Fixed, FormatBit, VersionBit, Region}
 use Rattle.qr_layout.specs.Region.{is_alignment, is_corner, is_in_region, is_timing, is_version_information, ring_of}
-use Rattle.qr_layout.specs.Role.{finder_ring, is_alignment_light, pattern_colour, first_place, second_place, version_place, mirror_of, is_at, format_bit_at, version_bit_at, is_dark_module, role_of}
+use Rattle.qr_layout.specs.Role.{finder_ring, is_alignment_light, pattern_colour, is_dark_module, role_of}
+use Rattle.qr_layout.specs.Format.{first_place, second_place, version_place, mirror_of, is_at, format_bit_at, version_bit_at}
 use Rattle.qr_layout.proofs.lemmas.alignment.TableLemmas.{below, below-at, below-from}
 use Rattle.qr_layout.proofs.lemmas.alignment.AlignmentLemmas.{region_free, region-parts}
 use Rattle.qr_layout.proofs.lemmas.role.RoleSymmetryLemmas.{role-symmetric}
-use Rattle.qr_layout.proofs.lemmas.role.RoleLemmas.{either, first-at, bit_here, stands, format-at, format_in_column_8, format_in_row_8, version_at}
+use Rattle.qr_layout.proofs.lemmas.format.BitPlaceLemmas.{either, first-at, bit_here, stands, format-at, format_in_column_8, format_in_row_8, version_at}
 
 -- the choice of a role, over what its parts say
 abbrev role_with : Option Bool → Bool → Option ℕ → Option ℕ → Role

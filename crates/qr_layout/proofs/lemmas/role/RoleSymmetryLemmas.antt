@@ -4,10 +4,11 @@ use Rattle.std.proofs.Common.{◌≡◌, ℕ, ◌-◌, ◌%◌, ◌<◌, ◌≤�
 use Rattle.std.specs.{List.find, List.range_with_len, Option.option_map_or}
 use Rattle.qr_layout.specs.{declared.{region.Place.Place, role.Role.Role}, Version.side_of}
 use Rattle.qr_layout.specs.declared.role.Role.TheVariants.{Fixed, FormatBit, VersionBit, Region}
-use Rattle.qr_layout.specs.Role.{finder_ring, is_alignment_light, pattern_colour, first_place, second_place, version_place, mirror_of, is_at, format_bit_at, version_bit_at, is_dark_module, role_of}
+use Rattle.qr_layout.specs.Role.{finder_ring, is_alignment_light, pattern_colour, is_dark_module, role_of}
+use Rattle.qr_layout.specs.Format.{first_place, second_place, version_place, mirror_of, is_at, format_bit_at, version_bit_at}
 use Rattle.qr_layout.specs.{Alignment.centres_of, Alignment.is_corner_pair, Region.is_alignment, Region.ring_of}
 use Rattle.qr_layout.proofs.lemmas.alignment.AlignmentLemmas.{any-places, list_any-same}
-use Rattle.qr_layout.proofs.lemmas.role.RoleLemmas.{first-at, format_in_column_8, format_in_row_8, format_off}
+use Rattle.qr_layout.proofs.lemmas.format.BitPlaceLemmas.{first-at, format_in_column_8, format_in_row_8, format_off}
 use Rattle.qr_layout.proofs.lemmas.region.SymmetryLemmas.{any-pairs, alignment-symmetric}
 
 -- ---- the patterns

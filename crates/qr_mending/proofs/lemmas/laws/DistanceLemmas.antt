@@ -1,7 +1,7 @@
 -- Two symbols of a version that contain different messages lie far apart.
 use Rattle.std.proofs.Common.{◌≡◌, ℕ, ◌<◌, ◌≤◌, List, subst, inl, inr, arith}
 use Rattle.{std.proofs.lemmas.Bool.Decides.nat_tests, qr_layout.proofs.Facts.format-second}
-use Rattle.qr_layout.specs.{declared.level.Level.Level, Format.format_word_of, Role.second_place}
+use Rattle.qr_layout.specs.{declared.level.Level.Level, Format.format_word_of, Format.second_place}
 use Rattle.qr_matrix.{proofs.Facts.colour-square, specs.BitRow.has_bit}
 use Rattle.qr_symbol.specs.{Symbol.colour_of, Symbol.grid_of, Distance.HeldMessage}
 use Rattle.{qr_symbol.proofs.Facts.{format-read, messages-apart}, qr_mending.specs.Format.{bit_differences, copy_bit}}

@@ -2,7 +2,7 @@
 use Rattle.std.proofs.Common.{◌≡◌, ℕ, ◌+◌, ◌-◌, ◌<◌, ◌≤◌, Bool, true, false, cond, eqb, ◌&&◌, ◌||◌, ◌⊎◌, refl, sym, ◌∙◌, ap, inl, inr, arith}
 use Rattle.std.proofs.lemmas.Bool.{cases_eq, cases_lt, Decides.nat_tests}
 use Rattle.qr_layout.proofs.Facts.{dark-module, format-first, format-only, format-second}
-use Rattle.qr_layout.specs.{Format.version_word_of, Region.is_corner, Role.role_of, Role.first_place, Role.second_place}
+use Rattle.qr_layout.specs.{Format.version_word_of, Region.is_corner, Role.role_of, Format.first_place, Format.second_place}
 use Rattle.qr_layout.specs.{Version.side_of, declared.region.Place.Place, declared.role.Role.Role}
 use Rattle.qr_layout.specs.declared.role.Role.TheVariants.{Fixed, FormatBit, VersionBit, Region}
 use Rattle.qr_symbol.specs.Steps.Patterns.{fixed_colour, format_or, is_dark_in_six, is_in_block, paint_of}

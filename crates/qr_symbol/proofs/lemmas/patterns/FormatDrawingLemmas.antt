@@ -1,6 +1,6 @@
 -- The format information, drawn bit by bit over a symbol.
 use Rattle.{qr_layout.proofs.Facts.{format-only, format-first, format-second}, std.proofs.lemmas.Bool.{cases_eq, cases_lt, Decides.nat_tests}}
-use Rattle.qr_layout.specs.{Role.role_of, Role.first_place, Role.second_place, Version.side_of}
+use Rattle.qr_layout.specs.{Role.role_of, Format.first_place, Format.second_place, Version.side_of}
 use Rattle.qr_layout.specs.declared.{region.Place.Place, role.Role.Role, role.Role.TheVariants.FormatBit}
 use Rattle.qr_matrix.proofs.Facts.{same-place, square-same, colour-painted-here, colour-painted-there, colour-square}
 use Rattle.qr_matrix.specs.{BitRow.has_bit, Grid.Grid, Grid.square, Grid.colour, Grid.painted, Grid.with_row, Grid.IsSquare}

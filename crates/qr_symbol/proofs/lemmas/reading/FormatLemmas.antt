@@ -2,7 +2,7 @@
 use borrow.Author.Tests.{ltb-true}
 use Rattle.{qr_layout.proofs.Facts.{below, below-at, format-first}, std.specs.{Int.bit_at, Prelude.bit_xor}}
 use Rattle.qr_layout.specs.Format.{word_remainder, format_with, five_bits, level_bits, format_word_of}
-use Rattle.qr_layout.specs.{Role.first_place, Version.side_of, declared.level.Level.{Level, TheVariants.{L, M, Q, H}}}
+use Rattle.qr_layout.specs.{Format.first_place, Version.side_of, declared.level.Level.{Level, TheVariants.{L, M, Q, H}}}
 use Rattle.qr_matrix.{proofs.Facts.colour-square, specs.{BitRow.has_bit, Grid.Grid}}
 use Rattle.qr_symbol.specs.{Reading.IsFormat, Symbol.{colour_by, colour_of, grid_of}}
 use Rattle.std.proofs.Common.{◌≡◌, ℕ, ◌/◌, ◌^◌, ◌<◌, ◌≤◌, Bool, true, eqb, ltb, nat_eq, List, refl, sym, ◌∙◌, ap, inl, inr, arith}

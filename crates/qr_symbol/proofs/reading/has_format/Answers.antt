@@ -1,5 +1,5 @@
 use Rattle.std.proofs.Common.{◌≡◌, ◌∙◌, sym, ap, rules}
-use Rattle.{qr_layout.specs.{Role.first_place, declared.region.Place.Place}, qr_matrix.specs.{BitRow.has_bit, Grid.colour}}
+use Rattle.{qr_layout.specs.{Format.first_place, declared.region.Place.Place}, qr_matrix.specs.{BitRow.has_bit, Grid.colour}}
 use borrow.Author.Count.{below_more}
 use Rattle.qr_symbol.proofs.reading.has_format.Goals as goal
 

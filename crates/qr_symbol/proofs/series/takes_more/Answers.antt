@@ -16,6 +16,5 @@ returns-then-not-matches-clause-none c = λ more fits.
       interpretation-most c.args.interpretation,
       c.interpretation_bits.ensures.value,
       c.from.ensures,
-      c.from-then-not-matches.ensures,
-      c.data_codewords.ensures,
+      c.capacity.ensures.value,
     )

@@ -6,8 +6,8 @@ use Rattle.qr_symbol.proofs.version_choice.first_for.Goals as goal
 pub returns-then-input-gt-MEDIUM_BYTES-clause-none : goal.returns-then-input-gt-MEDIUM_BYTES-clause-none
 returns-then-input-gt-MEDIUM_BYTES-clause-none c v a b fit = let few = fit.2 in omega (arith, fitting_medium c.args.interpretation v c.args.level _ _ a (omega arith) (fit.0, fit.1, omega arith))
 
-pub returns-then-bits-room_in-clause-none : goal.returns-then-bits-room_in-clause-none
-returns-then-bits-room_in-clause-none c v a b fit =
+pub returns-then-bits-capacity_at-clause-none : goal.returns-then-bits-capacity_at-clause-none
+returns-then-bits-capacity_at-clause-none c v a b fit =
     let l = c.args.level in
     omega (
       arith,
@@ -17,8 +17,8 @@ returns-then-bits-room_in-clause-none c v a b fit =
       c.least_bits.ensures.least c.args.interpretation v (capacity_of v l - interpretation_bits c.args.interpretation) c.args.rule fit,
     )
 
-pub returns-then-bits-room_in-2-clause-none : goal.returns-then-bits-room_in-2-clause-none
-returns-then-bits-room_in-2-clause-none c v a b fit =
+pub returns-then-bits-capacity_at-2-clause-none : goal.returns-then-bits-capacity_at-2-clause-none
+returns-then-bits-capacity_at-2-clause-none c v a b fit =
     let l = c.args.level in
     omega (
       arith,

@@ -3,7 +3,7 @@ use Rattle.std.proofs.Common.{◌≡◌, ℕ, zero, suc, ◌+◌, ◌-◌, ◌*�
 use Rattle.std.proofs.lemmas.Bool.{Decides.nat_tests, and_parts, cases_lt, cases_Bool}
 use Rattle.std.specs.List.{find, range_with_len}
 use Rattle.qr_layout.specs.{Version.side_of, Region.is_version_copy, Region.is_version_information}
-use Rattle.qr_layout.specs.Role.{first_place, second_place, version_place, mirror_of, is_at, format_bit_at, version_bit_at}
+use Rattle.qr_layout.specs.Format.{first_place, second_place, version_place, mirror_of, is_at, format_bit_at, version_bit_at}
 
 -- the only one of n numbers from a on that passes the test is the one that is found
 found-some : (n a : ℕ) (p : ℕ → Bool) (i : ℕ) → a ≤ i → i < a + n → p i ≡ true → ((j : ℕ) → a ≤ j → j < a + n → p j ≡ true → j ≡ i) → find p (range_with_len a n) ≡ Some i
