@@ -22,7 +22,7 @@ centres_of v = slice_index_or centre_table (v - 1) []
 abbrev pub is_corner_pair : ℕ → ℕ → ℕ → Bool
 is_corner_pair s a b = (a == 6 && b == 6) || (a == 6 && b == s - 7) || (a == s - 7 && b == 6)
 
--- The centres for the rows `cs`: all places whose row and column are in `cs`, but for the corners with a finder pattern
--- (ISO/IEC 18004:2015, 6.3.6)
+-- The centres, if `cs` are the rows of centres: all places whose row and column are in `cs`, but for those in a corner
+-- with a finder pattern (ISO/IEC 18004:2015, 6.3.6)
 abbrev pub alignment_places : ℕ → List ℕ → List Place
 alignment_places s cs = flat_map (λ a. flat_map (λ b. if is_corner_pair s a b then [] else record { row = a; col = b } ∷ []) cs) cs

@@ -6,7 +6,7 @@ use Rattle.qr_layout.specs.declared.level.Level.{Level}
 use Rattle.qr_layout.specs.declared.level.Level.TheVariants.{L, M, Q, H}
 use Rattle.qr_layout.specs.Version.{total_codewords_of}
 
--- How many error correction codewords each block has, for each of the versions 1 to 40 (ISO/IEC 18004:2015, 7.5.1,
+-- The number of error correction codewords in each block, for each of the versions 1 to 40 (ISO/IEC 18004:2015, 7.5.1,
 -- Table 9)
 abbrev pub correction_table : Level → List ℕ
 correction_table L = 7 ∷ 10 ∷ 15 ∷ 20 ∷ 26 ∷ 18 ∷ 20 ∷ 24 ∷ 30 ∷ 18 ∷ 20 ∷ 24 ∷ 26 ∷ 30 ∷ 22 ∷ 24 ∷ 28 ∷ 30 ∷ 28 ∷ 28 ∷ 28 ∷ 28 ∷ 30 ∷ 30 ∷ 26 ∷ 28 ∷ 30 ∷ 30 ∷ 30 ∷ 30 ∷ 30 ∷ 30 ∷ 30 ∷ 30 ∷ 30 ∷ 30 ∷ 30 ∷ 30 ∷ 30 ∷ 30 ∷ []
@@ -21,8 +21,8 @@ block_table M = 1 ∷ 1 ∷ 1 ∷ 2 ∷ 2 ∷ 4 ∷ 4 ∷ 4 ∷ 5 ∷ 5 ∷ 5 �
 block_table Q = 1 ∷ 1 ∷ 2 ∷ 2 ∷ 4 ∷ 4 ∷ 6 ∷ 6 ∷ 8 ∷ 8 ∷ 8 ∷ 10 ∷ 12 ∷ 16 ∷ 12 ∷ 17 ∷ 16 ∷ 18 ∷ 21 ∷ 20 ∷ 23 ∷ 23 ∷ 25 ∷ 27 ∷ 29 ∷ 34 ∷ 34 ∷ 35 ∷ 38 ∷ 40 ∷ 43 ∷ 45 ∷ 48 ∷ 51 ∷ 53 ∷ 56 ∷ 59 ∷ 62 ∷ 65 ∷ 68 ∷ []
 block_table H = 1 ∷ 1 ∷ 2 ∷ 4 ∷ 4 ∷ 4 ∷ 5 ∷ 6 ∷ 8 ∷ 8 ∷ 11 ∷ 11 ∷ 16 ∷ 16 ∷ 18 ∷ 16 ∷ 19 ∷ 21 ∷ 25 ∷ 25 ∷ 25 ∷ 34 ∷ 30 ∷ 32 ∷ 35 ∷ 37 ∷ 40 ∷ 42 ∷ 45 ∷ 48 ∷ 51 ∷ 54 ∷ 57 ∷ 60 ∷ 63 ∷ 66 ∷ 70 ∷ 74 ∷ 77 ∷ 81 ∷ []
 
--- How many error correction codewords a block has: all blocks of a symbol have equally many (ISO/IEC 18004:2015, 7.5.1,
--- Table 9)
+-- The number of error correction codewords in a block. All blocks of a symbol have equally many (ISO/IEC 18004:2015,
+-- 7.5.1, Table 9)
 unfoldable pub correction_len_of : ℕ → Level → ℕ
 correction_len_of v l = slice_index_or (correction_table l) (v - 1) 0
 
@@ -38,8 +38,8 @@ data_codewords_of v l = total_codewords_of v - block_count_of v l * correction_l
 abbrev pub capacity_of : ℕ → Level → ℕ
 capacity_of v l = 8 * data_codewords_of v l
 
--- The data codewords are divided evenly among the blocks, and if some remain, each of the last blocks, the long ones,
--- has one more (ISO/IEC 18004:2015, 7.5.1, Table 9)
+-- The data codewords are divided evenly among the blocks. If some remain, each of the last blocks has one of them:
+-- these are the long blocks (ISO/IEC 18004:2015, 7.5.1, Table 9)
 abbrev pub blocks_of : ℕ → Level → Blocks
 blocks_of v l = record {
   short = block_count_of v l - data_codewords_of v l % block_count_of v l;
@@ -69,16 +69,18 @@ correctable_of v l = spare_of v l / 2
 abbrev pub longest_of : Blocks → ℕ
 longest_of b = b.short_len + min b.long 1 + b.ec_len
 
--- In every version, this percentage of a block's codewords is at most half of its error correction codewords, rounded
--- down. If no more are misread and none is erased, what was read determines the block [own]
+-- A percentage p for each level. In every version, p percent of the codewords of a block are at most half of its error
+-- correction codewords, rounded down. If at most p percent are misread and none is erased, what was read determines the
+-- block [own]
 abbrev pub damage_of : Level → ℕ
 damage_of L = 9
 damage_of M = 17
 damage_of Q = 23
 damage_of H = 30
 
--- Blocks of the sizes `b` together have all data and error correction codewords of the symbol. Some are short, and each
--- has a data codeword and from 1 to 30 error correction codewords (ISO/IEC 18004:2015, 7.5.1)
+-- Blocks of the sizes `b` together have all data and error correction codewords of the symbol. At least one block is
+-- short, and each has at least one data codeword and from 1 to 30 error correction codewords (ISO/IEC 18004:2015,
+-- 7.5.1)
 pub record AreWhole (v : ℕ) (l : Level) (b : Blocks) : Type 0 where
   pub some : 1 ≤ b.short
   pub some_len : 1 ≤ b.short_len

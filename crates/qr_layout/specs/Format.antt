@@ -1,5 +1,6 @@
--- The bits of the format information and of the version information. A division reads numbers as polynomials whose
--- coefficients are bits: the coefficient of x^i is bit i.
+-- The bits of the format information and of the version information, and the places of the modules that contain them.
+-- Bit 0 is the lowest bit. In a division a number stands for the polynomial whose coefficient of x^i is bit i of the
+-- number. `s` is the number of modules on a side, and `v` a version.
 use Rattle.std.specs.Prelude.{◌≡◌, ℕ, ◌+◌, ◌-◌, ◌*◌, ◌/◌, ◌%◌, ◌^◌, ◌<◌, ◌≤◌, Bool, ◌&&◌, ◌||◌, nat_lt, ◌==◌, if◌then◌else◌, Option, None, List, [], ◌∷◌, bit_xor}
 use Prim.Native.Nat.{zero, suc}
 use Rattle.std.specs.Int.{bit_at}
@@ -18,14 +19,14 @@ format_generator = 0x537
 abbrev pub version_generator : ℕ
 version_generator = 0x1F25
 
--- What long division in `k` steps leaves of `x`, which has at most n + k bits, by a divisor of degree `n` (ISO/IEC
--- 18004:2015, Annexes C and D)
+-- The remainder of `x` by a divisor of degree `n`, found by long division in `k` steps, where `x` has at most n + k
+-- bits (ISO/IEC 18004:2015, Annexes C and D)
 unfoldable pub word_remainder : ℕ → ℕ → ℕ → ℕ → ℕ
 word_remainder n divisor zero x = x
 word_remainder n divisor (suc k) x = word_remainder n divisor k (bit_xor x (bit_at x (n + k) * (divisor * 2 ^ k)))
 
--- The `k` bits of `x`, then the `n` bits that a division by a generator polynomial of degree `n` leaves of `x` with `n`
--- zeros after it (ISO/IEC 18004:2015, Annexes C and D)
+-- The `k` bits of `x`, and after them `n` more bits: the remainder of `x`, with `n` zeros after it, in a division by a
+-- generator polynomial of degree `n` (ISO/IEC 18004:2015, Annexes C and D)
 abbrev pub with_remainder : ℕ → ℕ → ℕ → ℕ → ℕ
 with_remainder n generator k x = x * 2 ^ n + word_remainder n generator k (x * 2 ^ n)
 
@@ -53,7 +54,7 @@ format_word_of level mask = format_with (five_bits level mask)
 unfoldable pub version_word_of : ℕ → ℕ
 version_word_of v = with_remainder 12 version_generator 6 v
 
--- The exclusive or of a copy of `divisor` for each `k` in `ks`, shifted left by `k` bits [own]
+-- The exclusive or of shifted copies of `divisor`: one for each `k` in `ks`, shifted left by `k` bits [own]
 abbrev pub sum_of_shifts : ℕ → List ℕ → ℕ
 sum_of_shifts divisor [] = 0
 sum_of_shifts divisor (k ∷ ks) = bit_xor (divisor * 2 ^ k) (sum_of_shifts divisor ks)
@@ -103,16 +104,17 @@ version_place s i = record { row = i / 3; col = s - 11 + i % 3 }
 abbrev pub mirror_of : Place → Place
 mirror_of m = record { row = m.col; col = m.row }
 
--- Equality of places [own]
+-- The place `m` is row `r` and column `c` [own]
 abbrev pub is_at : Place → ℕ → ℕ → Bool
 is_at m r c = m.row == r && m.col == c
 
--- The index of the bit of the format information that the module contains (ISO/IEC 18004:2015, 7.9.1)
+-- The bit of the format information that the module in row `r` and column `c` contains, if any (ISO/IEC 18004:2015,
+-- 7.9.1)
 unfoldable pub format_bit_at : ℕ → ℕ → ℕ → Option ℕ
 format_bit_at s r c = find (λ i. is_at (first_place i) r c || is_at (second_place s i) r c) (range_with_len 0 15)
 
--- The index of the bit of the version information that the module contains, from version 7 on (ISO/IEC 18004:2015,
--- 7.10)
+-- The bit of the version information that the module in row `r` and column `c` contains, if any. Symbols have version
+-- information from version 7 on (ISO/IEC 18004:2015, 7.10)
 unfoldable pub version_bit_at : ℕ → ℕ → ℕ → Option ℕ
 version_bit_at v r c =
     if nat_lt v 7 then None else

@@ -28,14 +28,14 @@ printed_errors M = 4 ∷ 8 ∷ 13 ∷ 9 ∷ 12 ∷ 8 ∷ 9 ∷ 11 ∷ 11 ∷ 13 
 printed_errors Q = 6 ∷ 11 ∷ 9 ∷ 13 ∷ 9 ∷ 12 ∷ 9 ∷ 11 ∷ 10 ∷ 12 ∷ 14 ∷ 13 ∷ 12 ∷ 10 ∷ 15 ∷ 12 ∷ 14 ∷ 14 ∷ 13 ∷ 15 ∷ 14 ∷ 15 ∷ 15 ∷ 15 ∷ 15 ∷ 14 ∷ 15 ∷ 15 ∷ 15 ∷ 15 ∷ 15 ∷ 15 ∷ 15 ∷ 15 ∷ 15 ∷ 15 ∷ 15 ∷ 15 ∷ 15 ∷ 15 ∷ []
 printed_errors H = 8 ∷ 14 ∷ 11 ∷ 8 ∷ 11 ∷ 14 ∷ 13 ∷ 13 ∷ 12 ∷ 14 ∷ 12 ∷ 14 ∷ 11 ∷ 12 ∷ 12 ∷ 15 ∷ 14 ∷ 14 ∷ 13 ∷ 14 ∷ 15 ∷ 12 ∷ 15 ∷ 15 ∷ 15 ∷ 15 ∷ 15 ∷ 15 ∷ 15 ∷ 15 ∷ 15 ∷ 15 ∷ 15 ∷ 15 ∷ 15 ∷ 15 ∷ 15 ∷ 15 ∷ 15 ∷ 15 ∷ []
 
--- Two error correction codewords for each misread codeword that can be corrected, and the misdecode protection
--- codewords (ISO/IEC 18004:2015, 7.5.1, Table 9)
+-- The number of error correction codewords in a block: two for each misread codeword that can be corrected, and those
+-- of the misdecode protection (ISO/IEC 18004:2015, 7.5.1, Table 9)
 abbrev pub printed_correction : Level → ℕ → ℕ
 printed_correction l v = 2 * slice_index_or (printed_errors l) (v - 1) 0 + protection_of v l
 
--- With `k` rows of centres, the distance between neighbours from the second row on. It is the least even number that,
--- taken `k - 1` times, reaches from row 6 to the last row of centres; but in version 32 it is 26 (ISO/IEC 18004:2015,
--- Annex E)
+-- The distance between neighbouring rows of centres from the second row on, if there are `k` rows of centres. It is the
+-- least even number that, multiplied by `k - 1`, is at least the distance from row 6 to the last row of centres. In
+-- version 32 it is 26 (ISO/IEC 18004:2015, Annex E)
 abbrev pub gap_between : ℕ → ℕ → ℕ
 gap_between v k = if v == 32 then 26 else 2 * ((side_of v - 13 + 2 * (k - 1) - 1) / (2 * (k - 1)))
 
@@ -59,7 +59,8 @@ abbrev pub region_size : ℕ → ℕ
 region_size v =
     side_of v ^ 2 - 225 - 2 * (side_of v - 17) - alignment_size (length (centres_of v)) - version_size v
 
--- The roles of a module that is dark, and of one that is light, in every symbol of its version [own]
+-- The role of a module that is dark in every symbol of its version, and that of a module that is light in all of them
+-- [own]
 abbrev always_dark : Role
 always_dark = Fixed true
 

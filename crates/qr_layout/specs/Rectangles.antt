@@ -1,17 +1,19 @@
--- Rectangles that cover, in a symbol of version `v`, everything outside the encoding region but the alignment patterns.
+-- Rectangles that cover all modules of a symbol of version `v` that are outside the encoding region, but for the
+-- alignment patterns.
 use Rattle.std.specs.Prelude.{◌≡◌, ℕ, ◌<◌, ◌≤◌, Bool, ◌&&◌, ◌||◌, nat_lt, nat_le, List}
 use Rattle.std.specs.List.{All, list_any}
 use Rattle.qr_layout.specs.declared.rectangles.Rectangle.{Rectangle}
 use Rattle.qr_layout.specs.Region.{is_corner, is_timing, is_version_information}
 use Rattle.qr_layout.specs.Version.{side_of}
 
--- Row `bottom` and column `right` are the first after the rectangle [own]
+-- The place in row `r` and column `c` is in the rectangle `b`. Row `bottom` and column `right` are the first after it
+-- [own]
 abbrev pub is_in_rectangle : ℕ → ℕ → Rectangle → Bool
 is_in_rectangle r c b = nat_le b.top r && nat_lt r b.bottom && nat_le b.left c && nat_lt c b.right
 
--- The rectangles `bs` are within the symbol. A place of the symbol is in one of them exactly if it is in a corner, on a
+-- The rectangles `bs` are inside the symbol. A place of the symbol is in one of them exactly if it is in a corner, in a
 -- timing pattern or in the version information (ISO/IEC 18004:2015, 6.3.3 to 6.3.5, 7.9, 7.10)
 pub record AreFixed (v : ℕ) (bs : List Rectangle) : Type 0 where
-  pub within : All (λ b. (b.top ≤ b.bottom) × (b.bottom ≤ side_of v) × (b.left ≤ b.right) × (b.right ≤ side_of v)) bs
+  pub inside : All (λ b. (b.top ≤ b.bottom) × (b.bottom ≤ side_of v) × (b.left ≤ b.right) × (b.right ≤ side_of v)) bs
   pub places : (r c : ℕ) → r < side_of v → c < side_of v → list_any (is_in_rectangle r c) bs
       ≡ (is_corner (side_of v) r c || is_timing r c || is_version_information v r c)

@@ -16,20 +16,21 @@ is_corner s r c = nat_le r 8 && (nat_le c 8 || nat_le (s - 8) c) || nat_le (s - 
 abbrev pub is_timing : ℕ → ℕ → Bool
 is_timing r c = r == 6 || c == 6
 
--- The place is in the block of version information beside the top right finder pattern (ISO/IEC 18004:2015, 7.10)
+-- The place is in the copy of the version information beside the top right finder pattern (ISO/IEC 18004:2015, 7.10)
 abbrev pub is_version_copy : ℕ → ℕ → ℕ → Bool
 is_version_copy s r c = nat_lt r 6 && (nat_le (s - 11) c && nat_lt c (s - 8))
 
--- The place is in one of the two blocks of version information, which symbols have from version 7 on (ISO/IEC
+-- The place is in one of the two copies of the version information, which symbols have from version 7 on (ISO/IEC
 -- 18004:2015, 7.10)
 abbrev pub is_version_information : ℕ → ℕ → ℕ → Bool
 is_version_information v r c = nat_le 7 v && (is_version_copy (side_of v) r c || is_version_copy (side_of v) c r)
 
--- The number of the square ring that contains the place: ring 0 is the place (a, b), and ring 1 surrounds it [own]
+-- The number of the square ring around the place (a, b) that contains the place (r, c). Ring 0 is (a, b) itself, ring 1
+-- the eight places around it, and so on [own]
 abbrev pub ring_of : ℕ → ℕ → ℕ → ℕ → ℕ
 ring_of a b r c = max (abs_diff a r) (abs_diff b c)
 
--- The place is in an alignment pattern: its centre, ring 0, or the rings 1 and 2 (ISO/IEC 18004:2015, 6.3.6)
+-- The place is in an alignment pattern: in ring 0, 1 or 2 around one of the centres (ISO/IEC 18004:2015, 6.3.6)
 abbrev pub is_alignment : ℕ → ℕ → ℕ → Bool
 is_alignment v r c = list_any (λ m. nat_le (ring_of m.row m.col r c) 2) (alignment_places (side_of v) (centres_of v))
 
@@ -40,6 +41,6 @@ is_in_region v r c =
     nat_lt r (side_of v) && nat_lt c (side_of v)
     && not (is_corner (side_of v) r c || is_timing r c || is_version_information v r c || is_alignment v r c)
 
--- `is_in_region` as a statement on a module (ISO/IEC 18004:2015, 6.3.7, 7.7.3)
+-- The place `m` is in the encoding region (ISO/IEC 18004:2015, 6.3.7, 7.7.3)
 abbrev pub InRegion : ℕ → Place → Type 0
 InRegion v m = is_in_region v m.row m.col ≡ true

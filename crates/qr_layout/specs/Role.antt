@@ -14,7 +14,8 @@ use Rattle.qr_layout.specs.Region.{is_alignment, ring_of}
 abbrev pub finder_ring : ℕ → ℕ → ℕ → ℕ
 finder_ring s r c = min (ring_of 3 3 r c) (min (ring_of 3 (s - 4) r c) (ring_of (s - 4) 3 r c))
 
--- In an alignment pattern, ring 1 is light; the centre and ring 2 are dark (ISO/IEC 18004:2015, 6.3.6)
+-- The place is in ring 1 around the centre of an alignment pattern. This ring is light, while the centre and ring 2 are
+-- dark (ISO/IEC 18004:2015, 6.3.6)
 unfoldable pub is_alignment_light : ℕ → ℕ → ℕ → Bool
 is_alignment_light v r c = list_any (λ m. ring_of m.row m.col r c == 1) (alignment_places (side_of v) (centres_of v))
 

@@ -1,5 +1,7 @@
-//! The centres of the alignment patterns (ISO/IEC 18004:2015, 6.3.6 and Annex E). Their rows and their columns are the
-//! same numbers, called `centres` below; `side` is the number of modules on a side.
+//! The centres of the alignment patterns (ISO/IEC 18004:2015, 6.3.6 and Annex E). For each version the standard lists
+//! up to seven numbers, which are called `centres` below. Each place whose row and column are both among them is the
+//! centre of an alignment pattern, but for three of these places, which are in the corners with a finder pattern.
+//! `side` is the number of modules on a side.
 
 ghost use Rattle.std.specs.Prelude.{◌≡◌, ◌≤◌, ◌-◌, ◌+◌, ◌&&◌, ◌++◌, ◌∷◌, [], if◌then◌else◌, not, length, nat_le, nat_lt};
 ghost use Rattle.std.specs.List.{list_any, flat_map};
@@ -12,7 +14,8 @@ use crate::region::Place;
 use crate::version::Version;
 use arrayvec::ArrayVec;
 
-// The rows of centres for each of the versions 1 to 40, filled up with zeros (ISO/IEC 18004:2015, Annex E, Table E.1).
+// The rows of centres for each of the versions 1 to 40, which are also the columns. Zeros fill up each entry to seven
+// numbers (ISO/IEC 18004:2015, Annex E, Table E.1).
 static CENTRES: [[u8; 7]; 40] = [
     [0, 0, 0, 0, 0, 0, 0],
     [6, 18, 0, 0, 0, 0, 0],
@@ -61,6 +64,7 @@ fn centre_list(version: Version) -> &'static [u8]
     ensures { result.now ≡ centres_of version }
 {
     let number = version.number();
+    // Versions 2 to 6 have two rows of centres, and each seventh version has one more than the version before it.
     let many = if number == 1 {
         0
     } else {
@@ -70,8 +74,8 @@ fn centre_list(version: Version) -> &'static [u8]
 }
 
 impl Version {
-    /// Returns the rows in which alignment patterns have their centres, in rising order; the columns have the same
-    /// numbers. Version 1 has none.
+    /// Returns the rows in which alignment patterns have their centres, in rising order. The columns of the centres are
+    /// the same numbers. Version 1 has no alignment patterns (ISO/IEC 18004:2015, 6.3.6 and Annex E).
     pub fn centres(self) -> ArrayVec<u8, 7>
         ensures { result.items ≡ centres_of self }
     {
@@ -83,7 +87,8 @@ impl Version {
     }
 }
 
-// An alignment pattern reaches two rows and two columns beyond its centre.
+// Whether a row crosses the alignment patterns whose centres are in row `centre`, or a column those with centres in
+// column `centre`. A pattern reaches two rows and two columns beyond its centre.
 fn is_near(centre: u8, at: u8) -> bool
     ensures { result ≡ (nat_le (centre - 2) at && nat_lt at (centre + 3)) }
 {
@@ -94,7 +99,8 @@ fn is_near(centre: u8, at: u8) -> bool
     }
 }
 
-// Whether row `a` and column `b` of centres meet in a corner with a finder pattern, where no alignment pattern is.
+// Whether row `a` and column `b` of centres meet in one of the three corners with a finder pattern, where no alignment
+// pattern is.
 fn is_corner_pair(side: u8, a: u8, b: u8) -> bool
     requires { 21 ≤ side }
     ensures { result ≡ is_corner_pair side a b }
@@ -114,6 +120,7 @@ fn is_beside(centres: &[u8], side: u8, a: u8, col: u8) -> bool
         .any(|b| is_near(*b, col) && !is_corner_pair(side, a, *b))
 }
 
+// Whether a place is in an alignment pattern of a symbol with these centres.
 fn is_in_pattern(centres: &[u8], side: u8, row: u8, col: u8) -> bool
     requires { 21 ≤ side }
     ensures { result ≡ list_any (λ a. nat_le (a - 2) row && nat_lt row (a + 3)
@@ -134,6 +141,8 @@ pub(crate) fn is_in_alignment(version: Version, row: u8, col: u8) -> bool
     is_in_pattern(centres, side, row, col)
 }
 
+// Appends the centres in one row, from left to right. There are at most 49 in all, since no version has more than seven
+// rows of centres.
 fn push_centres(places: &mut ArrayVec<Place, 49>, centres: &[u8], side: u8, row: u8)
     requires side_in { 21 ≤ side }
     requires room { array_vec_len places.old + length centres.now ≤ 49 }
@@ -148,8 +157,8 @@ fn push_centres(places: &mut ArrayVec<Place, 49>, centres: &[u8], side: u8, row:
     }
 }
 
-/// Returns the centres of the alignment patterns of version `version`, row by row from the top, and in each row from left to
-/// right.
+/// Returns the centres of the alignment patterns of a version, row by row from the top, and in each row from left to
+/// right. Version 1 has none, and version 40 has 46 (ISO/IEC 18004:2015, 6.3.6 and Annex E).
 pub fn alignment_centres(version: Version) -> ArrayVec<Place, 49>
     ensures { result.items ≡ alignment_places (side_of version) (centres_of version) }
 {

@@ -1,4 +1,6 @@
-//! Divides the codewords of a symbol into blocks (ISO/IEC 18004:2015, 7.5.1, Table 9).
+//! How the codewords of a symbol are divided into blocks, each of which has its own error correction codewords (ISO/IEC
+//! 18004:2015, 7.5.1, Table 9). All blocks of a symbol have equally many of these. A block is short or long: a long one
+//! has one data codeword more.
 
 ghost use Rattle.std.specs.Prelude.{◌≡◌, ◌≤◌};
 ghost use Rattle.qr_layout.specs.Blocks.{correction_len_of, block_count_of, data_codewords_of, capacity_of, blocks_of, protection_of, spare_of, correctable_of};
@@ -6,7 +8,8 @@ ghost use Rattle.qr_layout.specs.Blocks.{correction_len_of, block_count_of, data
 use crate::level::Level;
 use crate::version::Version;
 
-// How many error correction codewords each block has, by level (L, M, Q and H) and then by version (1 to 40).
+// How many error correction codewords each block has. A row has the versions 1 to 40 of one level; the rows are those
+// of L, M, Q and H.
 static CORRECTION_LENS: [[u8; 40]; 4] = [
     [
         7, 10, 15, 20, 26, 18, 20, 24, 30, 18, 20, 24, 26, 30, 22, 24, 28, 30, 28, 28, 28, 28, 30,
@@ -26,7 +29,7 @@ static CORRECTION_LENS: [[u8; 40]; 4] = [
     ],
 ];
 
-// In the order of `CORRECTION_LENS`.
+// How many blocks a symbol has. The rows are those of `CORRECTION_LENS`.
 static BLOCK_COUNTS: [[u8; 40]; 4] = [
     [
         1, 1, 1, 1, 1, 2, 2, 2, 2, 4, 4, 4, 4, 4, 6, 6, 6, 6, 7, 8, 8, 9, 9, 10, 12, 12, 12, 13,
@@ -46,13 +49,17 @@ static BLOCK_COUNTS: [[u8; 40]; 4] = [
     ],
 ];
 
-/// The sizes of the blocks: `short` blocks of `short_len` data codewords, then `long` blocks of `short_len + 1`. Every
-/// block has `ec_len` error correction codewords.
+/// How many blocks a symbol has, and how many codewords each of them has. The short blocks come before the long ones
+/// (ISO/IEC 18004:2015, 7.5.1, Table 9).
 #[derive(Clone, Copy, Debug, PartialEq, Eq)]
 pub struct Blocks {
+    /// The number of short blocks, at least 1.
     pub short: u8,
+    /// The number of data codewords in a short block. A long block has one more.
     pub short_len: u8,
+    /// The number of long blocks, which may be 0.
     pub long: u8,
+    /// The number of error correction codewords in each block, short or long, from 7 to 30.
     pub ec_len: u8,
 }
 
@@ -81,8 +88,8 @@ impl Version {
         counts[usize::from(self.number() - 1)]
     }
 
-    // How many error correction codewords of a block only detect errors, so that fewer damaged blocks are corrected to a
-    // wrong one. The standard calls this misdecode protection.
+    // How many error correction codewords of a block only detect errors, so that fewer damaged blocks are corrected to
+    // a wrong one. The standard calls this misdecode protection.
     fn protection(self, level: Level) -> u8
         ensures { result ≡ protection_of self level }
     {
@@ -94,9 +101,9 @@ impl Version {
         }
     }
 
-    /// Returns how many error correction codewords of a block correct errors, from 4 to 30. They are all that the block
-    /// has, but for one to three in some levels of the versions 1 to 3, which only detect errors (ISO/IEC 18004:2015,
-    /// 7.5.1, Table 9).
+    /// Returns how many error correction codewords of a block correct errors, from 4 to 30. From version 4 on these are
+    /// all that the block has. In some levels of the versions 1 to 3 they are one to three fewer, because these only
+    /// detect errors (ISO/IEC 18004:2015, 7.5.1, Table 9).
     pub fn spare(self, level: Level) -> u8
         ensures { result ≡ spare_of self level }
     {
@@ -104,8 +111,9 @@ impl Version {
             .saturating_sub(self.protection(level))
     }
 
-    /// Returns how many misread codewords of a block can be corrected if no codeword of the block is known to be
-    /// unreadable, from 2 to 15 (ISO/IEC 18004:2015, 7.5.1, Table 9).
+    /// Returns how many misread codewords of a block can be corrected, from 2 to 15, if no codeword of the block is
+    /// known to be unreadable. Each takes two of the `spare` error correction codewords (ISO/IEC 18004:2015, 7.5.1,
+    /// Table 9).
     pub fn correctable(self, level: Level) -> u8
         ensures { result ≡ correctable_of self level }
     {
@@ -121,8 +129,8 @@ impl Version {
             - u16::from(self.block_count(level)) * u16::from(self.correction_len(level))
     }
 
-    /// Returns the capacity at a level, which is the number of bits of all data codewords: from 72 in version 1 at level H
-    /// to 23,648 in version 40 at level L (ISO/IEC 18004:2015, 7.4.10, Table 7).
+    /// Returns the capacity at a level, which is the number of bits of all data codewords: from 72 in version 1 at
+    /// level H to 23,648 in version 40 at level L (ISO/IEC 18004:2015, 7.4.10, Table 7).
     #[tactic(auto, using(crate::proofs::lemmas::blocks::BlockLemmas::capacity_bounds))]
     pub fn capacity(self, level: Level) -> u64
         ensures value { result ≡ capacity_of self level }
@@ -132,8 +140,8 @@ impl Version {
         8 * u64::from(self.data_codewords(level))
     }
 
-    /// Returns the sizes of the blocks at a level, among which the data codewords are divided as evenly as possible
-    /// (ISO/IEC 18004:2015, 7.5.1, Table 9).
+    /// Returns the number of blocks at a level and how many codewords each has. The data codewords are divided among
+    /// the blocks as evenly as possible (ISO/IEC 18004:2015, 7.5.1, Table 9).
     pub fn blocks(self, level: Level) -> Blocks
         ensures { result ≡ blocks_of self level }
     {

@@ -3,9 +3,9 @@
 //! bit of the number that `format_word` or `version_word` returns.
 //!
 //! The first copy of the format information goes around the top left finder pattern. Bits 0 to 7 are in column 8, from
-//! row 0 down to row 8, and bits 8 to 14 in row 8, from column 7 to the left. Both pass over row 6 and column 6, where the
-//! timing patterns are. Of the second copy, bits 0 to 7 are in row 8, from the last column to the left, and bits 8 to 14
-//! in the last seven rows of column 8, downward.
+//! row 0 down to row 8, and bits 8 to 14 in row 8, from column 7 to the left. Both pass over row 6 and column 6, where
+//! the timing patterns are. Of the second copy, bits 0 to 7 are in row 8, from the last column to the left, and bits 8
+//! to 14 in the last seven rows of column 8, downward.
 
 ghost use Rattle.std.specs.Prelude.{◌≡◌, ◌≢◌, ◌≤◌, ◌<◌, SomeIff};
 ghost use Rattle.qr_layout.specs.Version.{side_of};
@@ -19,8 +19,8 @@ use crate::version::Version;
 pub const FORMAT_BITS: u8 = 15;
 
 // The format information for each level and mask: five data bits and ten error correction bits, all combined with
-// 101010000010010 by exclusive or (ISO/IEC 18004:2015, Annex C, Table C.1). The index is the two bits of the level, then
-// the three bits of the mask.
+// 101010000010010 by exclusive or (ISO/IEC 18004:2015, Annex C, Table C.1). The index is the two bits of the level,
+// then the three bits of the mask.
 static FORMAT_WORDS: [u16; 32] = [
     0x5412, 0x5125, 0x5E7C, 0x5B4B, 0x45F9, 0x40CE, 0x4F97, 0x4AA0, 0x77C4, 0x72F3, 0x7DAA, 0x789D,
     0x662F, 0x6318, 0x6C41, 0x6976, 0x1689, 0x13BE, 0x1CE7, 0x19D0, 0x0762, 0x0255, 0x0D0C, 0x083B,
@@ -76,8 +76,8 @@ pub fn format_place(bit: u8) -> Place
     Place { row, col }
 }
 
-/// Returns the place of a bit of the format information in the second copy, whose halves are beside the top right and the
-/// bottom left finder pattern. Bits are numbered from 0, the lowest, to 14 (ISO/IEC 18004:2015, 7.9.1).
+/// Returns the place of a bit of the format information in the second copy, whose halves are beside the top right and
+/// the bottom left finder pattern. Bits are numbered from 0, the lowest, to 14 (ISO/IEC 18004:2015, 7.9.1).
 pub fn second_format_place(version: Version, bit: u8) -> Place
     requires { bit < FORMAT_BITS }
     ensures place { result ≡ second_place (side_of version) bit }
@@ -90,7 +90,8 @@ pub fn second_format_place(version: Version, bit: u8) -> Place
     Place { row, col }
 }
 
-// The bit of the format information at a row of column 8, or `None` if there is none.
+// The bit of the format information at a row of column 8, or `None` if there is none. No side is above 177, that of
+// version 40, so the sum of a row and `FORMAT_BITS` fits a byte.
 #[tactic(auto, using(crate::proofs::lemmas::format::BitPlaceLemmas::format_in_column_8))]
 fn format_bit_in_column_8(side: u8, row: u8) -> Option<u8>
     requires least { 21 ≤ side }

@@ -1,5 +1,6 @@
-//! Laws of the layout, of `==` and of clones, and examples that the standard prints. The contract of a function is its
-//! law.
+//! Laws of the layout. The contract of each function is the law; most functions do nothing. The first laws say what
+//! follows from the definitions, others that the definitions have the values that the standard prints. The last ones
+//! are about `==`, clones and default values.
 
 ghost use Rattle.std.specs.Prelude.{◌≡◌, ◌<◌, ◌≤◌, ◌-◌, ◌*◌, ◌/◌, ◌⊎◌, ◌↔◌, ◌||◌, not, true, ℕ, List, ◌∷◌, ◌++◌, length, map, slice_get, IsTrue, IfOk};
 ghost use Rattle.std.specs.List.{list_any, range_with_len};
@@ -29,46 +30,48 @@ use crate::strips::Strip;
 use crate::version::Version;
 use std::alloc::AllocError;
 
-/// A version has at most one order of its encoding region.
+/// The encoding region of a version has at most one order.
 pub fn order_is_one(version: Version)
     ensures { (ms ns : List Place) → IsOrder version ms → IsOrder version ns → ms ≡ ns }
 {}
 
-/// The order has a module for each bit of the codewords and for each remainder bit, at most 29,648.
+/// The order has a module for each bit of the codewords and for each remainder bit. These are at most 29,648, in
+/// version 40.
 pub fn order_is_full(version: Version)
     ensures count { (ms : List Place) → IsOrder version ms → length ms ≡ module_count_of version }
     ensures most { module_count_of version ≤ 29648 }
 {}
 
-/// The encoding region has as many modules as the symbol, less those of the three corners, the timing patterns, the
-/// alignment patterns and the version information. The corners have the finder patterns, separators, format information
-/// and the dark module. Table 1 of the standard gives the same number, as bits of codewords and remainder bits.
+/// The number of modules of the encoding region is that of the symbol, less those of the three corners, the timing
+/// patterns, the alignment patterns and the version information. The corners have the finder patterns, the separators,
+/// the format information and the dark module. By Table 1 of the standard, codewords and remainder bits have as many
+/// bits.
 pub fn region_is_counted(version: Version)
     ensures region { places_passing (side_of version) (is_in_region version) ≡ region_size version }
     ensures filled { module_count_of version ≡ region_size version }
 {}
 
-/// If rectangles meet the contract of `fixed_rectangles`, the encoding region is all modules of the symbol that are in
-/// none of them and in no alignment pattern.
+/// If rectangles meet the contract of `fixed_rectangles`, the encoding region consists of all modules of the symbol
+/// that are in none of these rectangles and in no alignment pattern.
 #[tactic(auto, using(crate::proofs::lemmas::alignment::AlignmentLemmas::region_outside))]
 pub fn region_is_outside(version: Version)
     ensures { (bs : List Rectangle) → AreFixed version bs → (r c : ℕ) → r < side_of version → c < side_of version → is_in_region version r c
         ≡ not (list_any (is_in_rectangle r c) bs || is_alignment version r c) }
 {}
 
-/// The encoding region remains the same if rows and columns are exchanged.
+/// If rows and columns are exchanged, the encoding region stays the same.
 pub fn region_is_symmetric(version: Version)
     ensures { (r c : ℕ) → is_in_region version r c ≡ is_in_region version c r }
 {}
 
-/// `index_of` counts the modules that come before a module in the order.
+/// `index_of` is how many modules come before a module in the order.
 pub fn index_counts(version: Version)
     ensures { (front back : List Place) (m : Place) → IsOrder version (front ++ m ∷ back)
         → index_of version m ≡ length front }
 {}
 
-/// The indices of the modules of the encoding region begin with 0 and have no gaps: each index below the number of these
-/// modules is that of exactly one of them.
+/// The indices of the modules of the encoding region begin with 0 and have no gaps: each index below the number of
+/// these modules is that of exactly one of them.
 pub fn indices_are_places(version: Version)
     ensures below { (m : Place) → InRegion version m → index_of version m < module_count_of version }
     ensures one_place { (m n : Place) → InRegion version m → InRegion version n
@@ -77,15 +80,15 @@ pub fn indices_are_places(version: Version)
         → (m : Place) × InRegion version m × (index_of version m ≡ n) }
 {}
 
-/// Returns the module with the index `index` in the order of version `version`, or `None` if the order is shorter.
+/// Returns the place with this index in the order of a version, or `None` if the order is shorter.
 pub fn nth_place(version: Version, index: usize) -> Option<Place>
     ensures { (ms : List Place) → IsOrder version ms → result ≡ slice_get ms index }
 {
     walk(version).nth(index)
 }
 
-/// For the versions 2 to 40, the centres of alignment patterns have the distances that follow from the rule of Annex E;
-/// version 32 is an exception.
+/// For the versions 2 to 40, the centres of alignment patterns have the distances that follow from a rule. Version 32
+/// is an exception, for which the rule has another distance (`gap_between`).
 #[tactic(auto, unfolding(crate::specs::Alignment::centres_of))]
 pub fn centres_are_spaced()
     ensures { map centres_of (range_with_len 2 39) ≡ map spaced_centres (range_with_len 2 39) }
@@ -100,8 +103,8 @@ pub fn data_codewords_compute()
     ensures h { map (λ v. data_codewords_of v H) all_versions ≡ printed_data H }
 {}
 
-/// A block has two error correction codewords for each misread codeword that can be corrected, and in versions 1 to 3 up
-/// to three more that only detect errors (misdecode protection). Table 9 of the standard prints both numbers.
+/// A block has two error correction codewords for each misread codeword that can be corrected, and in versions 1 to 3
+/// up to three more that only detect errors (misdecode protection). Table 9 of the standard prints both numbers.
 #[tactic(auto, unfolding(crate::specs::Blocks::correction_len_of))]
 pub fn correction_lens_compute()
     ensures l { map (λ v. correction_len_of v L) all_versions ≡ map (printed_correction L) all_versions }
@@ -110,7 +113,8 @@ pub fn correction_lens_compute()
     ensures h { map (λ v. correction_len_of v H) all_versions ≡ map (printed_correction H) all_versions }
 {}
 
-/// For every version and level, as many misread codewords of a block can be corrected as Table 9 of the standard prints.
+/// For every version and level, as many misread codewords of a block can be corrected as Table 9 of the standard
+/// prints.
 #[tactic(auto, unfolding(crate::specs::Blocks::correction_len_of))]
 pub fn correctable_numbers_compute()
     ensures l { map (λ v. correctable_of v L) all_versions ≡ printed_errors L }
@@ -146,36 +150,37 @@ pub fn blocks_are_short(version: Version, level: Level)
     ensures reached { longest_of (blocks_of 27 L) ≡ 153 }
 {}
 
-/// Half of a block's error correction codewords, rounded down, are at least 9 % of its codewords at level L, 17 % at M,
-/// 23 % at Q and 30 % at H. By the laws of `qr_field`, what was read determines the block if no more are misread and
-/// none is erased.
+/// Let t be half of the number of error correction codewords of a block, rounded down. Then t is at least 9 % of all
+/// its codewords at level L, 17 % at M, 23 % at Q and 30 % at H. By the laws of `qr_field`, what was read determines
+/// the block if at most t codewords are misread and none is erased.
 pub fn blocks_stand_damage(version: Version, level: Level)
     ensures { damage_of level * longest_of (blocks_of version level)
         ≤ 100 * ((blocks_of version level).ec_len / 2) }
 {}
 
-/// A symbol has at most 232 data codewords up to version 9, 1,370 up to version 26, and 2,956 in all versions. After
-/// the versions 9 and 26 some character count indicators become longer.
+/// A symbol has at most 232 data codewords up to version 9, at most 1,370 up to version 26, and at most 2,956 in all
+/// versions. From version 10 and from version 27 on some character count indicators have more bits than before.
 pub fn data_is_bounded(version: Version, level: Level)
     ensures small { version ≤ 9 → data_codewords_of version level ≤ 232 }
     ensures middle { version ≤ 26 → data_codewords_of version level ≤ 1370 }
     ensures most { data_codewords_of version level ≤ 2956 }
 {}
 
-/// The 15 bits of format information are five data bits, for the level and the mask, and the ten bits of the remainder
-/// that Annex C of the standard defines. All 15 are combined with 101010000010010 by exclusive or.
+/// The 15 bits of the format information are five data bits, for the level and the mask, and ten error correction bits,
+/// which are the remainder that Annex C of the standard defines. All 15 are combined with 101010000010010 by exclusive
+/// or.
 pub fn format_words_are_remainders(level: Level, mask: u8)
     ensures { mask < 8 → IsFormatWord (five_bits level mask) (format_word_of level mask) }
 {}
 
-/// The 18 bits of version information are six bits for the version, and the twelve bits of the remainder that Annex D
-/// of the standard defines.
+/// The 18 bits of the version information are six bits for the version, and twelve error correction bits, which are the
+/// remainder that Annex D of the standard defines.
 pub fn version_words_are_remainders(version: Version)
     ensures { IsVersionWord version (version_word_of version) }
 {}
 
-/// The definitions `format_word_of` and `version_word_of` give six words that Annexes C and D of the standard print;
-/// two of them are worked out there step by step.
+/// `format_word_of` and `version_word_of` have the values that Annexes C and D of the standard print for six examples.
+/// The standard works out two of these step by step.
 #[tactic(auto, unfolding(crate::specs::Format::format_word_of, crate::specs::Format::version_word_of, crate::specs::Format::word_remainder))]
 pub fn words_compute()
     ensures l { format_word_of L 0 ≡ 0x77C4 }
@@ -186,7 +191,8 @@ pub fn words_compute()
     ensures version_40 { version_word_of 40 ≡ 0x28C69 }
 {}
 
-/// In version 1, the modules of row 8, column 8 and row 6 have the roles that the figures of the standard show.
+/// In version 1, the modules of row 8, column 8 and row 6 have the roles that the standard's figures show (7.9.1 and
+/// 6.3.5).
 #[tactic(auto, unfolding(crate::specs::Role::role_of, crate::specs::Role::pattern_colour, crate::specs::Role::is_alignment_light, crate::specs::Format::format_bit_at, crate::specs::Format::version_bit_at, crate::specs::Alignment::centres_of))]
 pub fn roles_compute()
     ensures row_8 { map (role_of 1 8) (range_with_len 0 21) ≡ row_8 }
@@ -204,7 +210,8 @@ pub fn patterns_compute()
     ensures version_below { map (λ c. map (λ r. role_of 7 r c) (range_with_len 34 3)) (range_with_len 0 6) ≡ version_figure }
 {}
 
-/// Each bit of the format information is at exactly two places, `first_place` and `second_place`.
+/// Each bit of the format information is at exactly two places: one in the first copy (`first_place`), and one in the
+/// second (`second_place`).
 pub fn format_bits_have_places(version: Version)
     ensures first { (i : ℕ) → i < 15
         → role_of version (first_place i).row (first_place i).col ≡ FormatBit i }
@@ -215,8 +222,8 @@ pub fn format_bits_have_places(version: Version)
         → (i < 15) × ((m ≡ first_place i) ⊎ (m ≡ second_place (side_of version) i)) }
 {}
 
-/// From version 7 on, each bit of the version information is at exactly two places: `version_place`, and this with row
-/// and column exchanged. Below version 7 no module contains such a bit.
+/// From version 7 on, each bit of the version information is at exactly two places: `version_place`, and the same with
+/// row and column exchanged. Symbols of the versions 1 to 6 have no such bits.
 pub fn version_bits_have_places(version: Version)
     ensures first { (i : ℕ) → 7 ≤ version → i < 18
         → role_of version (version_place (side_of version) i).row (version_place (side_of version) i).col
@@ -234,7 +241,8 @@ pub fn dark_module_is_dark(version: Version)
     ensures { role_of version (side_of version - 8) 8 ≡ Fixed true }
 {}
 
-/// The encoding region is all modules that have no fixed colour and no bit of format or version information.
+/// The encoding region consists of all modules that have no fixed colour and contain no bit of the format or version
+/// information.
 pub fn region_is_the_rest(version: Version)
     ensures { (r c : ℕ) → r < side_of version → c < side_of version
         → (role_of version r c ≡ Region) ↔ (is_in_region version r c ≡ true) }
@@ -247,14 +255,14 @@ pub fn first_version() -> Version
     Version::FIRST
 }
 
-/// Returns the default module, in row 0 and column 0.
+/// Returns the default place, row 0 and column 0.
 pub fn default_place() -> Place
     ensures { result ≡ record { row = 0; col = 0 } }
 {
     Place::default()
 }
 
-/// Returns the default rectangle, which contains no module.
+/// Returns the default rectangle, which has no rows and no columns.
 pub fn default_rectangle() -> Rectangle
     ensures { result ≡ record { top = 0; bottom = 0; left = 0; right = 0 } }
 {

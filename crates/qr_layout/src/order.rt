@@ -1,6 +1,14 @@
-//! The order in which codewords fill the encoding region (ISO/IEC 18004:2015, 7.7.3), as a walk. It goes through the
-//! strips from right to left, upward in the first, downward in the second, and so on by turns; in each row the right
-//! module comes first. Column 6, a timing pattern, is in no strip (`strip_at`).
+//! The order in which codewords fill the encoding region (ISO/IEC 18004:2015, 7.7.3), as a walk through the symbol. The
+//! walk goes through the strips from right to left: upward in the first, downward in the second, and so on by turns. In
+//! each row of a strip the right module comes before the left one. If a symbol had four rows, the walk would go through
+//! the first two strips thus:
+//!
+//!     10  9   8  7
+//!     12 11   6  5
+//!     14 13   4  3
+//!     16 15   2  1
+//!
+//! It yields the places that are in the encoding region, and passes over the others.
 
 ghost use Rattle.std.specs.Prelude.{◌≡◌, ◌<◌, ◌≤◌, ◌↔◌, IfSome, IsSome, List, length};
 ghost use Rattle.std.specs.Iterator.{YieldsFirst, item_count};
@@ -15,8 +23,9 @@ use crate::strips::{column_without_timing, strip_at};
 use crate::version::Version;
 use std::marker::Model;
 
-// A cursor of the walk. `strips` is the strip's number from the left, from 1 on, and so also how many strips are
-// left, with this one; at 0 the walk is at its end.
+// Where the walk is: at the right or the left module of a row of a strip. `strips` is the number of the strip, counted
+// from 1 at the left. The walk goes from right to left, so this is also how many strips are still to be visited, this
+// one included. If it is 0, the walk is at its end.
 #[derive(Clone, Copy)]
 struct Cursor {
     strips: u8,
@@ -25,6 +34,7 @@ struct Cursor {
 }
 
 impl Cursor {
+    // There are at most 88 strips, in version 40.
     fn place(self) -> Place
         requires strips_left { 0 < self.strips }
         requires strips_in { self.strips ≤ 88 }
@@ -35,7 +45,7 @@ impl Cursor {
         Place { row: self.row, col }
     }
 
-    // After the last row of a strip comes the same row of the next strip.
+    // The cursor at the module that comes next. After the last row of a strip comes the same row of the next strip.
     #[tactic(auto, unfolding(crate::specs::Steps::Order::next_of))]
     fn next(self, version: Version) -> Cursor
         requires strips_left { 0 < self.strips }
@@ -64,7 +74,7 @@ impl Cursor {
         }
     }
 
-    // The result has no meaning if `place` is in column 6.
+    // The cursor at a place. It has no meaning if the place is in column 6, which is in no strip.
     #[tactic(auto, unfolding(crate::specs::Steps::Order::cursor_at))]
     fn at(place: Place) -> Cursor
         ensures { result ≡ cursor_at place }
@@ -78,12 +88,12 @@ impl Cursor {
     }
 }
 
-/// An iterator over the encoding region, in the order in which codewords fill it. Contracts see it as the list of the
-/// modules that are still to come.
+/// An iterator over the places of the encoding region, in the order in which codewords fill it. In contracts it stands
+/// for the list of the places that are still to come.
 ///
 /// # Notes
 ///
-/// It stores a version and a cursor, but no list of modules.
+/// It stores a version and where it is, but no list of places.
 #[derive(Drop)]
 pub struct Places {
     version: Version,
@@ -122,8 +132,8 @@ impl Iterator for Places {
     }
 }
 
-/// Returns an iterator over the modules of the encoding region, each once, in the order in which they are filled. The
-/// bits of the codewords come first, then the remainder bits.
+/// Returns an iterator over all places of the encoding region, each once, in the order in which they are filled. The
+/// places of the codewords come first, and those of the remainder bits last (ISO/IEC 18004:2015, 7.7.3).
 pub fn walk(version: Version) -> Places
     ensures order { IsOrder version result }
     ensures count { length result ≡ module_count_of version }
@@ -138,8 +148,8 @@ pub fn walk(version: Version) -> Places
     }
 }
 
-/// Returns an iterator over the modules that come after `place` in `walk`, or `None` if `place` is outside the encoding region
-/// or the symbol.
+/// Returns an iterator over the places that come after `place` in `walk`, or `None` if `place` is outside the encoding
+/// region or outside the symbol.
 pub fn walk_after(version: Version, place: Place) -> Option<Places>
     ensures given { IsSome result ↔ InRegion version place }
     ensures rest { IfSome result (IsOrderAfter version place) }
@@ -155,8 +165,8 @@ pub fn walk_after(version: Version, place: Place) -> Option<Places>
     })
 }
 
-/// Returns the number of modules of the encoding region, from 208 in version 1 to 29,648 in version 40: 8 for each
-/// codeword, and 1 for each remainder bit.
+/// Returns the number of modules of the encoding region: 8 for each codeword, and 1 for each remainder bit. These are
+/// 208 in version 1, and 29,648 in version 40 (ISO/IEC 18004:2015, 7.1, Table 1).
 pub fn region_len(version: Version) -> u32
     ensures count { result ≡ module_count_of version }
     ensures length { (ms : List Place) → IsOrder version ms → length ms ≡ result }

@@ -1,4 +1,4 @@
-//! Rectangles that cover, with the alignment patterns, all modules outside the encoding region (ISO/IEC 18004:2015,
+//! Rectangles that cover all modules outside the encoding region, but for the alignment patterns (ISO/IEC 18004:2015,
 //! 6.3).
 
 ghost use Rattle.std.specs.Prelude.{◌≡◌};
@@ -8,7 +8,8 @@ use crate::version::Version;
 use arrayvec::ArrayVec;
 use std::ops::Range;
 
-/// A rectangle of modules: the rows `top..bottom` and the columns `left..right`.
+/// A rectangle of modules. It has the rows from `top` on, up to that before `bottom`, and the columns from `left` on,
+/// up to that before `right`.
 #[derive(Clone, Copy, Default)]
 pub struct Rectangle {
     pub top: u8,
@@ -18,8 +19,8 @@ pub struct Rectangle {
 }
 
 impl Rectangle {
-    /// Returns the rectangle with these rows and columns, which are not checked: it may be empty, or outside every
-    /// symbol.
+    /// Returns the rectangle with these rows and columns. They are not checked: the rectangle may be empty, or outside
+    /// every symbol.
     pub fn new(rows: Range<u8>, columns: Range<u8>) -> Rectangle
         ensures { result ≡ record { top = rows.start; bottom = rows.end; left = columns.start; right = columns.end } }
     {
@@ -32,10 +33,10 @@ impl Rectangle {
     }
 }
 
-/// Returns rectangles that, with the alignment patterns, cover all modules outside the encoding region. They are three
-/// corners, each with a finder pattern, its separator and format information, and row 6 and column 6, with the timing
-/// patterns. From version 7 on there are also the two blocks of version information (ISO/IEC 18004:2015, 6.3.3 to
-/// 6.3.5, 7.9 and 7.10). Some of them overlap.
+/// Returns rectangles that cover all modules of a version outside the encoding region, but for the alignment patterns.
+/// Three are the corners with a finder pattern, its separator and modules of the format information. Two are row 6 and
+/// column 6, which have the timing patterns. From version 7 on, two more are the copies of the version information.
+/// Some of the rectangles overlap (ISO/IEC 18004:2015, 6.3.3 to 6.3.5, 7.9 and 7.10).
 pub fn fixed_rectangles(version: Version) -> ArrayVec<Rectangle, 7>
     ensures { AreFixed version result.items }
 {

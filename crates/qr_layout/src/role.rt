@@ -1,4 +1,5 @@
-//! The role of each module (ISO/IEC 18004:2015, 6.3 and 7.7.2). `side` is the number of modules on a side.
+//! The role of each module of a symbol: what it is for (ISO/IEC 18004:2015, 6.3 and 7.7.2). `side` is the number of
+//! modules on a side.
 
 ghost use Rattle.std.specs.Prelude.{◌≡◌, ◌<◌, ◌≤◌, ◌==◌, ◌&&◌, not};
 ghost use Rattle.std.specs.List.{list_any};
@@ -11,25 +12,29 @@ use crate::alignment::{alignment_centres, is_in_alignment};
 use crate::format::{format_bit, version_bit};
 use crate::version::Version;
 
-/// What a module contains, which depends only on the version and the place.
+/// What a module is for. It depends only on the version of the symbol and the place of the module.
 #[derive(Clone, Copy, Debug, PartialEq, Eq)]
 pub enum Role {
-    /// A colour, the same in all symbols of the version; `true` is dark.
+    /// A module of a function pattern, or the dark module. It has this colour in all symbols of the version; `true` is
+    /// dark.
     Fixed(bool),
     /// A bit of the format information, from bit 0, the lowest, to bit 14.
     FormatBit(u8),
     /// A bit of the version information, from bit 0, the lowest, to bit 17.
     VersionBit(u8),
-    /// A bit of a codeword or a remainder bit: the module is in the encoding region.
+    /// A module of the encoding region. It contains a bit of a codeword, or a remainder bit.
     Region,
 }
 
+// The number of the square ring around the place (a, b) that contains the place (row, col). Ring 0 is (a, b) itself,
+// and ring 1 the eight places around it.
 fn ring(a: u8, b: u8, row: u8, col: u8) -> u8
     ensures { result ≡ ring_of a b row col }
 {
     a.abs_diff(row).max(b.abs_diff(col))
 }
 
+// The number of the ring around the nearest centre of a finder pattern.
 fn finder_ring(side: u8, row: u8, col: u8) -> u8
     requires { 21 ≤ side }
     ensures { result ≡ finder_ring side row col }
@@ -38,6 +43,7 @@ fn finder_ring(side: u8, row: u8, col: u8) -> u8
     ring(3, 3, row, col).min(ring(3, far, row, col).min(ring(far, 3, row, col)))
 }
 
+// Whether a place is in a light ring of an alignment pattern.
 #[tactic(auto, unfolding(crate::specs::Role::is_alignment_light))]
 fn is_alignment_light(version: Version, row: u8, col: u8) -> bool
     ensures { result ≡ is_alignment_light version row col }
@@ -47,7 +53,8 @@ fn is_alignment_light(version: Version, row: u8, col: u8) -> bool
         .any(|centre| ring(centre.row, centre.col, row, col) == 1)
 }
 
-// `None` outside the finder patterns, separators, timing patterns and alignment patterns; `true` is dark.
+// The colour of a module in a finder pattern, a separator, a timing pattern or an alignment pattern, or `None` if it is
+// in none of them; `true` is dark. In a finder pattern ring 2 is light, and ring 4 is the separator.
 #[tactic(auto, unfolding(crate::specs::Role::pattern_colour))]
 fn pattern_colour(version: Version, row: u8, col: u8) -> Option<bool>
     ensures { result ≡ pattern_colour version row col }
@@ -71,8 +78,8 @@ fn pattern_colour(version: Version, row: u8, col: u8) -> Option<bool>
     None
 }
 
-/// Returns the role of the module in row `row` and column `col`, both counted from 0, in a symbol of version `version`
-/// (ISO/IEC 18004:2015, 6.3 and 7.7.2).
+/// Returns what the module in this row and column is for in a symbol of this version. Rows are counted from 0 at the
+/// top, and columns from 0 at the left (ISO/IEC 18004:2015, 6.3 and 7.7.2).
 #[tactic(auto, unfolding(crate::specs::Role::role_of))]
 pub fn role_at(version: Version, row: u8, col: u8) -> Role
     requires row_in { row < side_of version }

@@ -1,5 +1,8 @@
-//! The strips of a symbol, numbered from 1 at the left (ISO/IEC 18004:2015, 7.7.3). Column 6, a timing pattern, is in
-//! none.
+//! The strips of a symbol: each is two neighbouring columns that codewords fill together (ISO/IEC 18004:2015, 7.7.3).
+//! They are numbered from 1 at the left. Column 6, which has a timing pattern, is in no strip:
+//!
+//!     column  0 1  2 3  4 5  6  7 8  9 10
+//!     strip    1    2    3       4    5
 
 ghost use Rattle.std.specs.Prelude.{◌≡◌, ◌<◌, ◌≤◌, List};
 ghost use Rattle.std.specs.Iterator.{YieldsFirst, item_count};
@@ -12,30 +15,33 @@ ghost use Rattle.qr_layout.specs.declared.strips.Strip.{Strip};
 use crate::version::Version;
 use std::marker::Model;
 
-/// Two neighbouring columns that are filled together, row by row; in each row the right module comes first.
+/// Two neighbouring columns that codewords fill together, row by row. In each row the right module comes first (ISO/IEC
+/// 18004:2015, 7.7.3).
 #[derive(Clone, Copy, Debug, PartialEq, Eq)]
 pub struct Strip {
-    /// The right column; the left one is `right - 1`.
+    /// The index of the right column. The left one is `right - 1`.
     pub right: u8,
-    /// Whether it is filled from the last row of the symbol to the first.
+    /// Whether codewords fill the strip upward, from the last row of the symbol to the first. Otherwise they fill it
+    /// downward.
     pub upward: bool,
 }
 
+// There are at most 88 strips, in version 40. Those with an even number are filled upward.
 #[inline(always)]
 pub(crate) fn strip_at(number: u8) -> Strip
     requires least { 0 < number }
     requires most { number ≤ 88 }
     ensures { result ≡ strip_at number }
 {
-    // The index of the right column as if column 6, which is skipped, were not counted; after that column the true
-    // index is greater by 1.
+    // The index that the right column has if column 6 is not counted. To the right of column 6 the true index is
+    // greater by 1.
     let untimed = 2 * number - 1;
     let right = if untimed < 6 { untimed } else { untimed + 1 };
     let upward = number % 2 == 0;
     Strip { right, upward }
 }
 
-// The index of a column if column 6 is not counted.
+// The index that a column has if column 6 is not counted.
 #[inline(always)]
 pub(crate) fn column_without_timing(col: u8) -> u8
     ensures { result ≡ column_without_timing col }
@@ -43,11 +49,11 @@ pub(crate) fn column_without_timing(col: u8) -> u8
     if col < 6 { col } else { col - 1 }
 }
 
-/// An iterator over the strips of a symbol, from right to left. Contracts see it as the list of the strips that are
-/// still to come.
+/// An iterator over the strips of a symbol, from right to left. In contracts it stands for the list of the strips that
+/// are still to come.
 #[derive(Drop)]
 pub struct Strips {
-    // How many strips are still to come: also the number of the next one.
+    // How many strips are still to come, which is also the number of the next one.
     remaining: u8,
 }
 
@@ -80,8 +86,8 @@ impl Iterator for Strips {
     }
 }
 
-/// Returns all strips of a symbol of version `version`, from right to left, in the order in which codewords fill them. Only
-/// their modules in the encoding region are filled.
+/// Returns all strips of a version, from right to left, which is the order in which codewords fill them. Of the modules
+/// of a strip, codewords fill those in the encoding region (ISO/IEC 18004:2015, 7.7.3).
 pub fn all_strips(version: Version) -> Strips
     ensures order { IsOrder version (in_region_of version (places_of (side_of version) result)) }
     ensures inside { All (λ x. (1 ≤ x.right) × (x.right < side_of version)) result }

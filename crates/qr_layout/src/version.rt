@@ -1,4 +1,5 @@
-//! The side, the codewords and the remainder bits of the forty versions (ISO/IEC 18004:2015, 6.3.2 and 7.1, Table 1).
+//! The forty versions: how many modules a symbol of each has on a side, how many codewords, and how many remainder bits
+//! (ISO/IEC 18004:2015, 6.3.2 and 7.1, Table 1).
 
 ghost use Rattle.std.specs.Prelude.{◌≡◌, ◌≤◌, SomeIff, ℕ, MatchOption};
 ghost use Rattle.qr_layout.specs.Version.{side_of};
@@ -6,20 +7,21 @@ ghost use Rattle.qr_layout.specs.Version.{total_codewords_of, remainder_bits_of}
 
 use std::marker::Model;
 
-// For the versions 1 to 40.
+// How many codewords a symbol has, for each of the versions 1 to 40.
 static TOTAL_CODEWORDS: [u16; 40] = [
     26, 44, 70, 100, 134, 172, 196, 242, 292, 346, 404, 466, 532, 581, 655, 733, 815, 901, 991,
     1085, 1156, 1258, 1364, 1474, 1588, 1706, 1828, 1921, 2051, 2185, 2323, 2465, 2611, 2761, 2876,
     3034, 3196, 3362, 3532, 3706,
 ];
 
-// In the same order.
+// How many remainder bits a symbol has, for each of the versions 1 to 40.
 static REMAINDER_BITS: [u8; 40] = [
     0, 7, 7, 7, 7, 7, 0, 0, 0, 0, 0, 0, 0, 3, 3, 3, 3, 3, 3, 3, 4, 4, 4, 4, 4, 4, 4, 3, 3, 3, 3, 3,
     3, 3, 0, 0, 0, 0, 0, 0,
 ];
 
-/// A version of QR Code, from 1 to 40, which determines the size of a symbol.
+/// A version of QR Code, from 1 to 40. It determines how many modules a symbol has on a side (ISO/IEC 18004:2015,
+/// 6.3.2).
 #[derive(Clone, Copy, Debug, PartialEq, Eq)]
 pub struct Version {
     number: u8,
@@ -38,7 +40,7 @@ impl Model for Version {
 }
 
 impl Version {
-    /// Version 1, the smallest.
+    /// Version 1, whose symbols are the smallest.
     pub const FIRST: Version = Version { number: 1 };
 
     /// Returns the version with the number `n`, or `None` if `n` is not from 1 to 40.
@@ -52,7 +54,8 @@ impl Version {
         }
     }
 
-    /// Returns the version with `side` modules on a side (21, 25, 29 and so on to 177), or `None` if there is none.
+    /// Returns the version with `side` modules on a side, or `None` if no version has so many. The sides are 21, 25, 29
+    /// and so on up to 177.
     pub fn of_side(side: u8) -> Option<Version>
         ensures { MatchOption result
             ((v : ℕ) → 1 ≤ v → v ≤ 40 → side ≡ side_of v → ⊥)
@@ -73,7 +76,8 @@ impl Version {
         self.number
     }
 
-    /// Returns the number of modules on a side, from 21 to 177.
+    /// Returns the number of modules on a side: 21 in version 1, and 4 more in each version after it, up to 177 in
+    /// version 40 (ISO/IEC 18004:2015, 6.3.2).
     pub fn side(self) -> u8
         ensures value { result ≡ side_of self }
         ensures least { 21 ≤ result }
@@ -82,7 +86,8 @@ impl Version {
         17 + 4 * self.number
     }
 
-    /// Returns the number of codewords, from 26 to 3,706: data and error correction codewords together.
+    /// Returns the number of data and error correction codewords together, from 26 in version 1 to 3,706 in version 40
+    /// (ISO/IEC 18004:2015, 7.1, Table 1).
     #[tactic(auto, unfolding(crate::specs::Version::total_codewords_of))]
     pub fn total_codewords(self) -> u16
         ensures { result ≡ total_codewords_of self }
@@ -91,7 +96,7 @@ impl Version {
     }
 
     /// Returns the number of remainder bits: 0, 3, 4 or 7. They fill the modules of the encoding region that are left
-    /// after all codewords.
+    /// after all codewords (ISO/IEC 18004:2015, 7.1, Table 1).
     #[tactic(auto, unfolding(crate::specs::Version::remainder_bits_of))]
     pub fn remainder_bits(self) -> u8
         ensures { result ≡ remainder_bits_of self }

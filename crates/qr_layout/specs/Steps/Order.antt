@@ -1,4 +1,5 @@
--- The cursors of the walk through a symbol with `s` modules on a side.
+-- The walk through a symbol with `s` modules on a side. It goes from cursor to cursor, and yields the places that are
+-- in the encoding region.
 use Rattle.std.specs.Prelude.{ℕ, ◌+◌, ◌-◌, ◌*◌, ◌/◌, ◌%◌, ◌<◌, ◌≤◌, Bool, true, false, ◌==◌, if◌then◌else◌, List, [], ◌∷◌}
 use Prim.Native.Nat.{zero, suc}
 use Rattle.qr_layout.specs.declared.region.Place.{Place}
@@ -12,15 +13,15 @@ use Rattle.qr_layout.specs.Strips.{strip_at}
 abbrev pub half_of : Bool → ℕ
 half_of at_left = if at_left then 1 else 0
 
--- The module in the strip's right column, or in the one to the left of it
+-- The place at which a cursor is, in the right column of its strip or in the one to the left of it
 abbrev pub place_of : Cursor → Place
 place_of a = let right = (strip_at a.strips).right in record { row = a.row; col = if a.at_left then right - 1 else right }
 
--- The number of the strip's rows that the walk visits before that of the cursor `a`
+-- How many rows of the strip the walk visits before that of the cursor `a`
 abbrev pub rows_before_of : ℕ → Cursor → ℕ
 rows_before_of s a = if (strip_at a.strips).upward then s - 1 - a.row else a.row
 
--- The number of cursors from `a` on, with `a`
+-- How many cursors the walk has from `a` on, `a` included
 unfoldable pub left_of : ℕ → Cursor → ℕ
 left_of s a = a.strips * (2 * s) - (2 * rows_before_of s a + half_of a.at_left)
 
@@ -33,25 +34,25 @@ next_of s a =
     else record { strips = a.strips; row = if (strip_at a.strips).upward then a.row - 1 else a.row + 1; at_left = false })
     else record { strips = a.strips; row = a.row; at_left = true }
 
--- A cursor of the walk of version `v`, or its end
+-- A cursor of the walk of version `v`, or the end of this walk
 pub record IsCursor (v : ℕ) (a : Cursor) : Type 0 where
   pub strips_in : a.strips ≤ 8 + 2 * v
   pub row_in : a.row < side_of v
 
--- The modules of the encoding region among `n` cursors from `a` on
+-- The places in the encoding region among those of `n` cursors from `a` on
 unfoldable pub places_among : ℕ → ℕ → Cursor → List Place
 places_among v zero a = []
 places_among v (suc n) a =
     if is_in_region v a.row (place_of a).col then place_of a ∷ places_among v n (next_of (side_of v) a) else places_among v n (next_of (side_of v) a)
 
--- The modules of the encoding region from the cursor `a` on
+-- The places in the encoding region that the walk visits from the cursor `a` on
 unfoldable pub to_come : ℕ → Cursor → List Place
 to_come v a = places_among v (left_of (side_of v) a) a
 
--- The walk of version `v` begins in the bottom right corner
+-- The cursor at which the walk of version `v` begins, in the bottom right corner
 abbrev pub first_cursor : ℕ → Cursor
 first_cursor v = record { strips = 8 + 2 * v; row = 16 + 4 * v; at_left = false }
 
--- The cursor at the module `m`, if `m` is not in column 6
+-- The cursor at the place `m`, if `m` is not in column 6
 unfoldable pub cursor_at : Place → Cursor
 cursor_at m = let c = column_without_timing m.col in record { strips = c / 2 + 1; row = m.row; at_left = c % 2 == 0 }

@@ -1,18 +1,19 @@
--- The rectangles that the program draws one by one.
+-- The rectangles that the program fills one after the other.
 use Rattle.std.specs.Prelude.{ℕ, ◌≤◌, ◌+◌, ◌-◌, nat_lt, if◌then◌else◌, List, [], ◌∷◌, ◌++◌, map}
 use Rattle.qr_layout.specs.declared.region.Place.{Place}
 use Rattle.qr_layout.specs.declared.rectangles.Rectangle.{Rectangle}
 use Rattle.qr_layout.specs.Version.{side_of}
 use Rattle.qr_layout.specs.Alignment.{centres_of, alignment_places}
 
--- The rectangle is inside a symbol with `s` modules on a side, and its bounds are in order
+-- The rectangle is inside a symbol with `s` modules on a side, and neither `bottom` nor `right` is before its first row
+-- or column
 pub record IsInside (s : ℕ) (b : Rectangle) : Type 0 where
   pub rows : b.top ≤ b.bottom
   pub bottom : b.bottom ≤ s
   pub columns : b.left ≤ b.right
   pub right : b.right ≤ s
 
--- The five by five modules around `m` are inside a symbol with `s` modules on a side
+-- The five by five modules around the place `m` are inside a symbol with `s` modules on a side
 pub record IsCentreInside (s : ℕ) (m : Place) : Type 0 where
   pub row_least : 2 ≤ m.row
   pub row_most : m.row + 3 ≤ s

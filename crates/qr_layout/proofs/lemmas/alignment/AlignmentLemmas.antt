@@ -74,7 +74,7 @@ timing-is : (s r c : ℕ) → r < s → c < s → is_timing r c ≡ list_any (is
     (record { top = 6; bottom = 7; left = 0; right = s } ∷ record { top = 0; bottom = s; left = 6; right = 7 } ∷ [])
 timing-is s r c h k = grind (arith, nat_tests)
 
--- the blocks of version information
+-- the copies of version information
 version-is : (v r c : ℕ) → is_version_information v r c ≡ list_any (is_in_rectangle r c) (cond (ltb v 7) []
     (record { top = 0; bottom = 6; left = side_of v - 11; right = side_of v - 8 } ∷ record { top = side_of v - 11; bottom = side_of v - 8; left = 0; right = 6 } ∷ []))
 version-is v r c = elim (cases_lt v 7) [
@@ -107,27 +107,27 @@ all-of p P f (x ∷ xs) h = All-cons P x xs (f x (and_parts (p x) _ h).0) (all-o
 -- ---- the rectangles are inside the symbol
 
 -- the rectangle is inside a symbol of side s
-abbrev is_within : ℕ → Rectangle → Bool
-is_within s b = leb b.top b.bottom && leb b.bottom s && leb b.left b.right && leb b.right s
+abbrev is_rectangle_inside : ℕ → Rectangle → Bool
+is_rectangle_inside s b = leb b.top b.bottom && leb b.bottom s && leb b.left b.right && leb b.right s
 
 -- what the test of such a rectangle means
-within-is : (s : ℕ) (b : Rectangle) → is_within s b ≡ true → (b.top ≤ b.bottom) × (b.bottom ≤ s) × (b.left ≤ b.right) × (b.right ≤ s)
-within-is s b h = (grind (arith, nat_tests), grind (arith, nat_tests), grind (arith, nat_tests), grind (arith, nat_tests))
+rectangle-inside-is : (s : ℕ) (b : Rectangle) → is_rectangle_inside s b ≡ true → (b.top ≤ b.bottom) × (b.bottom ≤ s) × (b.left ≤ b.right) × (b.right ≤ s)
+rectangle-inside-is s b h = (grind (arith, nat_tests), grind (arith, nat_tests), grind (arith, nat_tests), grind (arith, nat_tests))
 
 -- the rectangles of each version are inside, computed
-all-within : below 40 (λ k. list_all (is_within (side_of (k + 1))) (fixed_list (k + 1))) ≡ true
-all-within = refl
+all-rectangles-inside : below 40 (λ k. list_all (is_rectangle_inside (side_of (k + 1))) (fixed_list (k + 1))) ≡ true
+all-rectangles-inside = refl
 
 -- the rectangles of a version are such as cover all but the alignment patterns
 pub fixed-are : (v : ℕ) → 1 ≤ v → v ≤ 40 → AreFixed v (fixed_list v)
 fixed-are v h k = record {
-  within = all-of (is_within (side_of v)) _ (within-is (side_of v)) (fixed_list v) (below-from 40 1 (λ v. list_all (is_within (side_of v)) (fixed_list v)) all-within v h (omega arith));
+  inside = all-of (is_rectangle_inside (side_of v)) _ (rectangle-inside-is (side_of v)) (fixed_list v) (below-from 40 1 (λ v. list_all (is_rectangle_inside (side_of v)) (fixed_list v)) all-rectangles-inside v h (omega arith));
   places = fixed-places v;
 }
 
 -- such rectangles are inside the symbol
 pub fixed-inside : (v : ℕ) (bs : List Rectangle) → AreFixed v bs → All (IsInside (side_of v)) bs
-fixed-inside v bs a = All-weaker (λ b. (b.top ≤ b.bottom) × (b.bottom ≤ side_of v) × (b.left ≤ b.right) × (b.right ≤ side_of v)) (IsInside (side_of v)) (λ b h. record { rows = h.0; bottom = h.1; columns = h.2; right = h.3 }) bs a.within
+fixed-inside v bs a = All-weaker (λ b. (b.top ≤ b.bottom) × (b.bottom ≤ side_of v) × (b.left ≤ b.right) × (b.right ≤ side_of v)) (IsInside (side_of v)) (λ b h. record { rows = h.0; bottom = h.1; columns = h.2; right = h.3 }) bs a.inside
 
 -- the encoding region inside the square
 pub region-parts : (v r c : ℕ) → r < side_of v → c < side_of v

@@ -110,7 +110,7 @@ version_here s r c = cond (ltb r 6) (3 * r + (c + 11 - s)) (3 * c + (r + 11 - s)
 version-here : (s r c i : ℕ) → 21 ≤ s → i < 18 → stands_for_version s r c i ≡ true → i ≡ version_here s r c
 version-here s r c i l a h = grind (arith, nat_tests)
 
--- the bit is there exactly in the two blocks
+-- the bit is there exactly in the two copies
 version-stands : (s r c : ℕ) → 21 ≤ s → (ltb (version_here s r c) 18 && stands_for_version s r c (version_here s r c)) ≡ (is_version_copy s r c || is_version_copy s c r)
 version-stands s r c l = grind (arith, nat_tests)
 

@@ -46,7 +46,7 @@ corner-symmetric s r c = grind (arith, nat_tests)
 timing-symmetric : (r c : ℕ) → is_timing r c ≡ is_timing c r
 timing-symmetric r c = grind (arith, nat_tests)
 
--- the blocks of version information
+-- the copies of version information
 version-symmetric : (v r c : ℕ) → is_version_information v r c ≡ is_version_information v c r
 version-symmetric v r c = cc (or_comm (is_version_copy (side_of v) r c) (is_version_copy (side_of v) c r))
 

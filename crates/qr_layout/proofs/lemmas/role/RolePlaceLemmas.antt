@@ -290,7 +290,7 @@ corner-no_format s r c l w =
       | inr e ↦ second-in i h.0 w.off_right w.off_below e
     ]
 
--- ---- the timing patterns and the blocks of version information
+-- ---- the timing patterns and the copies of version information
 
 -- a place off row 6 and column 6 is on no timing pattern
 timing-free : (r c : ℕ) → (r ≡ 6 → ⊥) → (c ≡ 6 → ⊥) → is_timing r c ≡ false
@@ -304,11 +304,11 @@ timing-row r c h e = grind (arith, nat_tests)
 timing-column : (r c : ℕ) → is_timing r c ≡ false → c ≡ 6 → ⊥
 timing-column r c h e = grind (arith, nat_tests)
 
--- a place that has no bit of the version information is in no block of it
+-- a place that has no bit of the version information is in no copy of it
 version-free : (v r c : ℕ) → version_bit_at v r c ≡ None → is_version_information v r c ≡ false
 version-free v r c h = truth _ (λ t. let e = rw t at (version_at v r c) in cc)
 
--- a place in no block has no bit of the version information
+-- a place in no copy has no bit of the version information
 free-version : (v r c : ℕ) → is_version_information v r c ≡ false → version_bit_at v r c ≡ None
 free-version v r c h = version_at v r c ∙ rw h refl
 

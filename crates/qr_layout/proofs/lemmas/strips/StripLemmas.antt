@@ -9,18 +9,18 @@ use Rattle.qr_layout.specs.{Region.is_in_region, Version.side_of, Order.IsOrder,
 use Rattle.qr_layout.proofs.lemmas.order.WalkLemmas.{places-nil, places-suc, start-left, to_come-start}
 
 -- the right places of n rows of strips, from cursor a on, in the encoding region or not
-pairs_within : ℕ → ℕ → Cursor → List Place
-pairs_within v zero a = []
-pairs_within v (suc n) a = place_of a ∷ pairs_within v n (next_of (side_of v) (next_of (side_of v) a))
+pairs_among : ℕ → ℕ → Cursor → List Place
+pairs_among v zero a = []
+pairs_among v (suc n) a = place_of a ∷ pairs_among v n (next_of (side_of v) (next_of (side_of v) a))
 
 -- the right places of 0 rows are the empty list
-pairs-nil : (v : ℕ) (a : Cursor) → pairs_within v 0 a ≡ []
-unfolding pairs_within
+pairs-nil : (v : ℕ) (a : Cursor) → pairs_among v 0 a ≡ []
+unfolding pairs_among
 pairs-nil v a = refl
 
 -- the right places of n + 1 rows from a on are the place of a and the right places of n rows from two steps on
-pairs-suc : (v n : ℕ) (a : Cursor) → pairs_within v (suc n) a ≡ place_of a ∷ pairs_within v n (next_of (side_of v) (next_of (side_of v) a))
-unfolding pairs_within
+pairs-suc : (v n : ℕ) (a : Cursor) → pairs_among v (suc n) a ≡ place_of a ∷ pairs_among v n (next_of (side_of v) (next_of (side_of v) a))
+unfolding pairs_among
 pairs-suc v n a = refl
 
 -- if cursor a is at the right place of a row, then one step leads to the place to the left of it
@@ -34,7 +34,7 @@ unfolding next_of
 right-again s a e = grind (arith, nat_tests)
 
 -- the places of n rows from a on that are in the encoding region are those that 2 * n steps of the walk visit
-kept : (v n : ℕ) (a : Cursor) → a.at_left ≡ false → in_region_of v (both_of (pairs_within v n a)) ≡ places_among v (2 * n) a
+kept : (v n : ℕ) (a : Cursor) → a.at_left ≡ false → in_region_of v (both_of (pairs_among v n a)) ≡ places_among v (2 * n) a
 kept v zero a e = cc (pairs-nil v a, places-nil v a)
 kept v (suc n) a e =
     let s = side_of v in
@@ -64,7 +64,7 @@ unfolding next_of
 next-strip s p k e = grind (arith, nat_tests)
 
 -- the right places from row k of a strip on are those of the rows left in it, and then those of the strips after it
-rows-then : (v p k n m : ℕ) → k + suc n ≡ side_of v → pairs_within v (suc n + m) (at_row (side_of v) (suc p) k) ≡ rows_from (side_of v) (strip_at (suc p)) k (suc n) ++ pairs_within v m (at_row (side_of v) p 0)
+rows-then : (v p k n m : ℕ) → k + suc n ≡ side_of v → pairs_among v (suc n + m) (at_row (side_of v) (suc p) k) ≡ rows_from (side_of v) (strip_at (suc p)) k (suc n) ++ pairs_among v m (at_row (side_of v) p 0)
 rows-then v p k zero m e =
     let s = side_of v in
     let a = at_row s (suc p) k in
@@ -82,15 +82,15 @@ all_rows s [] = []
 all_rows s (x ∷ xs) = rows_from s x 0 s ++ all_rows s xs
 
 -- the right places from the first row of strip p on are those of strip p and of the strips to the left of it
-rows-all : (v p : ℕ) → pairs_within v (p * side_of v) (at_row (side_of v) p 0) ≡ all_rows (side_of v) (strips_to_come p)
+rows-all : (v p : ℕ) → pairs_among v (p * side_of v) (at_row (side_of v) p 0) ≡ all_rows (side_of v) (strips_to_come p)
 rows-all v zero = let e : zero * side_of v ≡ 0 = omega arith in cc (pairs-nil v (at_row (side_of v) 0 0))
 rows-all v (suc p) =
     let s = side_of v in
     let n = s - 1 in
     let e : suc p * s ≡ suc n + p * s = times p s (omega arith) in
     let f : suc n ≡ s = omega arith in
-    ap (λ z. pairs_within v z (at_row s (suc p) 0)) e ∙ (rows-then v p 0 n (p * s) (omega arith)
-    ∙ (ap (λ z. rows_from s (strip_at (suc p)) 0 z ++ pairs_within v (p * s) (at_row s p 0)) f ∙ ap (λ (z : List Place). rows_from s (strip_at (suc p)) 0 s ++ z) (rows-all v p)))
+    ap (λ z. pairs_among v z (at_row s (suc p) 0)) e ∙ (rows-then v p 0 n (p * s) (omega arith)
+    ∙ (ap (λ z. rows_from s (strip_at (suc p)) 0 z ++ pairs_among v (p * s) (at_row s p 0)) f ∙ ap (λ (z : List Place). rows_from s (strip_at (suc p)) 0 s ++ z) (rows-all v p)))
   where
     times : (p s : ℕ) → 0 < s → suc p * s ≡ suc (s - 1) + p * s
     times p s l = omega arith
@@ -118,7 +118,7 @@ pub strips-order : (v n : ℕ) → n ≡ v → IsOrder v (in_region_of v (places
 unfolding to_come
 strips-order v n e =
     let h : 8 + 2 * n ≡ 8 + 2 * v = omega arith in
-    let rows : pairs_within v ((8 + 2 * v) * side_of v) (first_cursor v) ≡ all_rows (side_of v) (strips_to_come (8 + 2 * v)) = ap (pairs_within v ((8 + 2 * v) * side_of v)) (sym (start-row v)) ∙ rows-all v (8 + 2 * v) in
+    let rows : pairs_among v ((8 + 2 * v) * side_of v) (first_cursor v) ≡ all_rows (side_of v) (strips_to_come (8 + 2 * v)) = ap (pairs_among v ((8 + 2 * v) * side_of v)) (sym (start-row v)) ∙ rows-all v (8 + 2 * v) in
     rw (h, ← places-both (side_of v) (strips_to_come (8 + 2 * v)), ← rows, kept v ((8 + 2 * v) * side_of v) (first_cursor v) refl, left-start v) (to_come-start v)
 
 -- both columns of strip x are columns of the square
