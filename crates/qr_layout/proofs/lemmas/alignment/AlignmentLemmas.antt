@@ -59,7 +59,7 @@ square-rings : (a b r c : ℕ) → is_in_rectangle r c (record { top = a - 2; bo
 square-rings a b r c = grind (arith, nat_tests)
 
 -- the squares of the alignment patterns have their rings 0 to 2
-pub alignment-rectangles : (r c : ℕ) (ms : List Place) → list_any (λ m. is_in_rectangle r c (rectangle_around m)) ms ≡ list_any (λ m. leb (ring_of m.row m.col r c) 2) ms
+alignment-rectangles : (r c : ℕ) (ms : List Place) → list_any (λ m. is_in_rectangle r c (rectangle_around m)) ms ≡ list_any (λ m. leb (ring_of m.row m.col r c) 2) ms
 alignment-rectangles r c ms = list_any-same _ _ (λ m. square-rings m.row m.col r c) ms
 
 -- ---- the rectangles that cover all but the alignment patterns
