@@ -12,7 +12,7 @@ abbrev pub coefficient : ℕ → List ℕ → ℕ
 coefficient m [] = 0
 coefficient m (c ∷ e) = if m == length e then c else coefficient m e
 
--- The errors, each coefficient of x^m multiplied by the value of `p` at 2^m.
+-- The errors, with each coefficient of x^m multiplied by the value of `p` at 2^m.
 abbrev pub weighted : List ℕ → List ℕ → List ℕ
 weighted p [] = []
 weighted p (c ∷ e) = product c (eval (power (length e)) p) ∷ weighted p e
