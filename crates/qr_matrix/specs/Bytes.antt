@@ -1,4 +1,4 @@
--- The modules of a square as bytes, row by row with `side` rows, without a quiet zone.
+-- The modules of a square as bytes, row by row, without a quiet zone. The square has `side` rows.
 use Rattle.std.specs.Prelude.{ℕ, ◌+◌, ◌*◌, ◌==◌, Bool, not, if◌then◌else◌, List, slice_index_or}
 use Rattle.qr_matrix.specs.Grid.{Grid, square}
 

@@ -27,19 +27,19 @@ set_count bit = count_below 192 bit
 abbrev pub size_of : List ℕ → ℕ
 size_of words = set_count (has words)
 
--- A word for each of two squares
+-- Two words of at most 64 bits, one for each of two squares
 abbrev pub IsPair : List ℕ → Type 0
 IsPair words = (length words ≡ 2) × (slice_index words 0 < 2 ^ 64) × (slice_index words 1 < 2 ^ 64)
 
--- The word of the first square, or of the second
+-- The word of the second square if `second` is true, and that of the first otherwise
 abbrev pub word_of : List ℕ → Bool → ℕ
 word_of words second = slice_index words (if second then 1 else 0)
 
--- The bit row of the first square, or of the second
+-- The bit row of the second square if `second` is true, and that of the first otherwise
 unfoldable pub lane : List (List ℕ) → Bool → List ℕ
 lane pairs second = word_of (slice_index_or pairs 0 []) second ∷ word_of (slice_index_or pairs 1 []) second ∷ word_of (slice_index_or pairs 2 []) second ∷ []
 
--- The bit rows of the first square, or of the second, from the top down
+-- The bit rows of the second square if `second` is true, and those of the first otherwise, from the top down
 abbrev pub lanes : List (List (List ℕ)) → Bool → List (List ℕ)
 lanes rows second = map (λ pairs. lane pairs second) rows
 
@@ -51,11 +51,11 @@ columns_passing p k n = filter p (range_with_len k n)
 abbrev pub set_bits : List ℕ → List ℕ
 set_bits words = columns_passing (has words) 0 192
 
--- Module `c` has another colour than the module before it, which counts as light for module 0
+-- Module `c` has another colour than the module before it; module 0 is compared with a light module
 unfoldable pub is_change : (ℕ → Bool) → ℕ → Bool
 is_change line c = not (is_same (line c) (nat_lt 0 c && line (c - 1)))
 
--- The runs whose starts and ends are the columns of the list, in turn
+-- The runs whose starts and ends are the columns of the list: a start, its end, the next start and so on
 abbrev pub runs_between : List ℕ → List Run
 runs_between (start ∷ end ∷ columns) = record { start = start; end = end } ∷ runs_between columns
 runs_between columns = []
@@ -91,9 +91,9 @@ pub record IsAbove (join : ℕ → Bool) (n : ℕ) (joined threes earlier_threes
   pub fives_are : fives ≡ (nat_lt 3 n && begin_five join (n - 4))
   pub earlier_fives_are : earlier_fives ≡ (nat_lt 4 n && begin_five join (n - 5))
 
--- What is counted when `n` rows are done. `runs` are the points for runs in these rows, and those for runs in columns
--- that the modules of all but the last three of these rows are charged. `squares` are the squares of two by two modules
--- that begin in these rows
+-- What is counted when `n` rows are done. `runs` counts the points for runs in these rows. It also counts the points
+-- for runs in columns that the modules of all but the last three of these rows are charged. `squares` are the squares
+-- of two by two modules that begin in these rows
 pub record IsCountedTo (s : ℕ) (dark : ℕ → ℕ → Bool) (n runs squares : ℕ) : Type 0 where
   pub runs_are : runs ≡ sum_below n (λ r. place_cost s (dark r)) + sum_below (n - 3) (row_share s dark)
   pub runs_most : runs ≤ 192 * n + 192 * (n - 3)
@@ -104,8 +104,8 @@ pub record IsCountedTo (s : ℕ) (dark : ℕ → ℕ → Bool) (n runs squares :
 unfoldable pub bit_in : List ℕ → ℕ → ℕ → Bool
 bit_in words r c = has_bit (slice_index words r) c
 
--- The tile `f` after a stage of its transposition: of each two by two parts of `s` by `s` bits, the upper right and the
--- lower left one are exchanged
+-- The tile `f` after a stage of its transposition. The tile is divided into parts of `s` by `s` bits, and of each two
+-- by two parts the upper right and the lower left one are exchanged
 unfoldable pub exchanged : ℕ → (ℕ → ℕ → Bool) → ℕ → ℕ → Bool
 exchanged s f r c =
     if nat_lt (r % (2 * s)) s

@@ -1,5 +1,5 @@
-//! Adds bit rows column by column, as full adders do. Three rows become two, a sum and a carry, so fewer rows have to
-//! be counted.
+//! Adds bit rows column by column, as full adders do. Three rows become two, a sum and a carry, so the bits of fewer
+//! rows have to be counted.
 
 ghost use Rattle.std.specs.Prelude.{◌≡◌, ℕ, Bool, ◌+◌, ◌*◌, ◌≤◌};
 ghost use Rattle.qr_matrix.specs.Steps.{set_count};

@@ -86,7 +86,7 @@ pub(crate) trait Squares {
         ensures least { 1 ≤ result }
         ensures most { result ≤ 177 };
 
-    // Returns row `row`, so that the compiler sees that the words after the first `words` are 0.
+    // Returns row `row`. The compiler sees that its words after the first `words` are 0.
     fn row_in(&self, row: usize, words: u8) -> Self::Row
         requires row_in { row < size self.now }
         requires width { NeedsWords (size self.now) words }
