@@ -1,8 +1,8 @@
 //! Mends damaged blocks (ISO/IEC 18004:2015, 7.5.1 and Annex B). The codewords of a block are the coefficients of a
 //! polynomial, that of the highest power first. They are a block of the code exactly if the generator polynomial
-//! divides this polynomial. Its syndromes are its values at 2^0, 2^1 and so on, as many as there are error correction
-//! codewords. The remainder of the division by the generator polynomial has the same syndromes, and is shorter. So the
-//! syndromes are computed from the remainder, and only as they are needed.
+//! divides this polynomial. The syndromes of the block are the values of this polynomial at 2^0, 2^1 and so on, as many
+//! as there are error correction codewords. The remainder of the division by the generator polynomial has the same
+//! syndromes, and is shorter. So the syndromes are computed from the remainder, and only as they are needed.
 //!
 //! A candidate for the mended block is computed from the syndromes. It is taken only if it is a block of the code, and
 //! differs in few enough codewords from what was read.

@@ -4,7 +4,7 @@
 //! the root 2^place for each misread or erased codeword.
 //!
 //! The codewords are tried one by one, from the first of the block on, until all roots are found. This is Chien's
-//! search. When a root is found, the locator is divided by the factor of this root. The divided locator still has a
+//! search. When 2^place is found to be a root, the locator is divided by x + 2^place. The divided locator still has a
 //! root for each error that is to come. Now each of its coefficients is multiplied by the syndrome at the same index,
 //! and these products are added up. The errors to come contribute 0 to this sum, so it is the error at this place,
 //! multiplied by the value of the divided locator at 2^place. This is a form of Forney's formula. Last, the error that

@@ -235,8 +235,9 @@ fn spare(version: Version, level: Level) -> u8
     count.saturating_sub(protection(version, level))
 }
 
-/// Returns how many misread codewords of a block without erased ones can be corrected, from 2 to 15: half the number of
-/// its error correction codewords, or less for some levels of versions 1 to 3 (ISO/IEC 18004:2015, 7.5.1, Table 9).
+/// Returns how many misread codewords can be corrected in a block that has no erased ones, from 2 to 15. This is half
+/// the number of error correction codewords of the block, or less for some levels of versions 1 to 3 (ISO/IEC
+/// 18004:2015, 7.5.1, Table 9).
 pub fn correctable(version: Version, level: Level) -> u8
     ensures { result ≡ correctable_of version level }
 {
