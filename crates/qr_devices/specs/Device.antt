@@ -80,7 +80,7 @@ AppendsBeginning old new whole = (prefix : List ℕ) × IsBeginning prefix whole
 abbrev pub is_read_fault : ReadCounts → Bool
 is_read_fault c = nat_lt 0 c.failed || nat_le 1000 c.interrupted
 
--- A write or a flush failed, a write of some bytes moved none, or 1,000 writes were interrupted [own]
+-- A write or a flush failed, a write that offered at least one byte moved none, or 1,000 writes were interrupted [own]
 abbrev pub is_write_fault : WriteCounts → Bool
 is_write_fault c = nat_lt 0 c.failed || (nat_lt 0 c.zeros || nat_le 1000 c.interrupted)
 
