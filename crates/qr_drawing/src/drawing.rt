@@ -64,8 +64,8 @@ pub(crate) fn raster_width(matrix: &Matrix, margin: u8) -> u16
     2 * u16::from(margin) + u16::from(matrix.side())
 }
 
-// Says whether the module in row `y` and column `x` of the raster is dark. Outside the square every module is light,
-// also outside the raster.
+// Says whether the module in row `y` and column `x` of the raster is dark. Every place outside the square is light,
+// also those outside the raster.
 #[tactic(auto, unfolding(crate::specs::Raster::is_dark_at))]
 pub(crate) fn is_dark_at(matrix: &Matrix, margin: u8, y: u16, x: u16) -> bool
     ensures { result ≡ is_dark_at margin matrix.now y x }
@@ -103,7 +103,7 @@ fn put_drawing<S: HasSquare, W: Sink>(
     }
 }
 
-/// Draws 1 to 16 symbols or other squares, all of the same side, each with a light margin of `margin` modules on all
+/// Draws 1 to 16 symbols or other squares, all with the same side, each with a light margin of `margin` modules on all
 /// sides (ISO/IEC 18004:2015, 6.3.8). The texts of several squares follow one after the other. An SVG document shows
 /// all squares, one below the other.
 ///

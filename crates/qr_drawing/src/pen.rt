@@ -23,7 +23,7 @@ pub enum DrawFault {
 
 /// A buffer for the bytes of `piece`, which are not written yet. `interrupted` is the number of writes that were
 /// interrupted so far. The pen contains at most 1,200 bytes. Its buffer is eight bytes larger. For `Piece::push_first`
-/// copies eight bytes even if it appends fewer, and the others may lie beyond the 1,200 bytes.
+/// copies eight bytes even if it appends fewer, and the rest of the eight may lie beyond the 1,200 bytes.
 #[derive(Drop)]
 pub(crate) struct Pen {
     pub(crate) piece: Piece<1208>,

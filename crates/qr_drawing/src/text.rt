@@ -168,8 +168,8 @@ fn ascii_quad(bits: u8) -> &'static [u8; 8]
 }
 
 // Two characters in the style `HalfBlocks`, which show two modules and the two below them. In the index, bits 0 and 1
-// are the upper modules, and bits 2 and 3 the lower. An entry begins with the bytes of the two characters, filled up to
-// eight bytes. The number after it says how many of them are those of the characters: two, four or six.
+// are the upper modules, and bits 2 and 3 the lower. An entry has the bytes of the two characters, filled up to eight
+// bytes with spaces, and a number. The number says how many bytes the two characters have: two, four or six.
 static HALF_BLOCK_PAIRS: [([u8; 8], usize); 16] = [
     (*b"\xE2\x96\x88\xE2\x96\x88  ", 6),
     (*b"\xE2\x96\x84\xE2\x96\x88  ", 6),
