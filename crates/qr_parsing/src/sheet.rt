@@ -14,7 +14,7 @@ use qr_matrix::matrix_of_bytes;
 use qr_symbol::Matrix;
 use std::alloc::{AllocError, Global};
 
-/// The side of the smallest squares that are parsed, which have a column 7.
+/// The side of the smallest squares that are parsed; they still have a column 7.
 pub(crate) const SIDE_MIN: usize = 8;
 
 /// The greatest number of rasters of a drawing.

@@ -58,7 +58,7 @@ fn after_numbers(text: &[u8], count: usize) -> &[u8]
     rest
 }
 
-// Returns the number with this index among the numbers of a text, or 0 if there are fewer.
+// Returns the number with the index `index` among the numbers of a text, or 0 if there are fewer.
 fn number_at(text: &[u8], index: usize) -> usize
     ensures { result ≡ slice_index_or (numbers_in text.now) index 0 }
 {
