@@ -94,8 +94,8 @@ pub(crate) trait Squares {
         ensures past { (second : Bool) (c : ℕ) → size self.now ≤ c → Self.Row.bit result second c ≡ false };
 }
 
-// How many words a row of `side` modules takes. Loops over rows are compiled once for each number of words, and leave
-// out the words that are always empty.
+// Returns how many words a row of `side` modules takes. Loops over rows are compiled once for each number of words, and
+// leave out the words that are always empty.
 pub(crate) fn words_for(side: u8) -> u8
     requires least { 1 ≤ side }
     requires most { side ≤ 177 }
