@@ -16,16 +16,16 @@ counted n = min n (2 ^ 64 - 1)
 abbrev pub no_reads : ReadCounts
 no_reads = record { calls = 0; failed = 0; interrupted = 0; given = 0; ends = 0; past_end = 0 }
 
--- What a read into a buffer of `room` bytes adds by its result: its bytes, an end if it returned none though there was
--- room, an interruption or a failure [own]
+-- What the result of a read into a buffer of `room` bytes adds to the counts: the bytes that were read, an end if there
+-- were none though there was room, an interruption or a failure [own]
 abbrev pub read_returned : ℕ → Result ℕ Trouble → ReadCounts → ReadCounts
 read_returned room (Ok n) c =
     record c { given = counted (c.given + n); ends = if n == 0 && nat_lt 0 room then counted (c.ends + 1) else c.ends }
 read_returned room (Err Interrupted) c = record c { interrupted = counted (c.interrupted + 1) }
 read_returned room (Err Failed) c = record c { failed = counted (c.failed + 1) }
 
--- The counts after a read: the call is counted, also as one past the end if an earlier read reached the end, and then
--- what `read_returned` adds [own]
+-- The counts after a read. The call is counted, and if an earlier read reached the end, also as one past the end. Then
+-- the result is counted, as `read_returned` says [own]
 abbrev pub read_counted : ℕ → Result ℕ Trouble → ReadCounts → ReadCounts
 read_counted room returned c = read_returned room returned (record c {
   calls = counted (c.calls + 1);
@@ -45,16 +45,16 @@ no_writes = record {
   settled = false;
 }
 
--- What a write that offered `len` bytes adds by its result: the accepted bytes, a zero if bytes were offered but none
--- was accepted, an interruption or a failure [own]
+-- What the result of a write that offered `len` bytes adds to the counts: the accepted bytes, a zero if bytes were
+-- offered but none was accepted, an interruption or a failure [own]
 abbrev pub write_returned : ℕ → Result ℕ Trouble → WriteCounts → WriteCounts
 write_returned len (Ok n) c =
     record c { taken = counted (c.taken + n); zeros = if n == 0 && nat_lt 0 len then counted (c.zeros + 1) else c.zeros }
 write_returned len (Err Interrupted) c = record c { interrupted = counted (c.interrupted + 1) }
 write_returned len (Err Failed) c = record c { failed = counted (c.failed + 1) }
 
--- The counts after a write: the call and the longest offer are counted, and what `write_returned` adds; the device is
--- not settled [own]
+-- The counts after a write. The call is counted, and `offered` stays or becomes the longest offer. Then the result is
+-- counted, as `write_returned` says. The device is not settled [own]
 abbrev pub write_counted : ℕ → Result ℕ Trouble → WriteCounts → WriteCounts
 write_counted len returned c =
     write_returned len returned (record c { calls = counted (c.calls + 1); offered = max c.offered len; settled = false })
@@ -80,12 +80,12 @@ AppendsBeginning old new whole = (prefix : List ℕ) × IsBeginning prefix whole
 abbrev pub is_read_fault : ReadCounts → Bool
 is_read_fault c = nat_lt 0 c.failed || nat_le 1000 c.interrupted
 
--- A write or a flush failed, a write of some bytes moved none, or 1,000 writes were interrupted [own]
+-- A write or a flush failed, a write that offered at least one byte moved none, or 1,000 writes were interrupted [own]
 abbrev pub is_write_fault : WriteCounts → Bool
 is_write_fault c = nat_lt 0 c.failed || (nat_lt 0 c.zeros || nat_le 1000 c.interrupted)
 
--- At most one call failed or moved nothing, and at most 1,000 writes were interrupted, as when writing stops at the
--- first fault [own]
+-- At most one call failed or moved nothing, and at most 1,000 writes were interrupted. This is so if writing stops at
+-- the first fault [own]
 pub record IsWrittenWithin (c : WriteCounts) : Type 0 where
   pub faults : c.failed + c.zeros ≤ 1
   pub interrupted : c.interrupted ≤ INTERRUPTIONS_MAX + 1

@@ -13,9 +13,9 @@ bytes_left t = drop t.position t.bytes.items
 abbrev pub bytes_held : Trial → List ℕ
 bytes_held t = t.bytes.items
 
--- What read or write number `call` returns with the faults `m`, if at most `there` bytes can be moved: an interruption,
--- or otherwise a failure, if the faults say so, or else as many bytes as `there` and `at_most` allow, where an
--- `at_most` of 0 counts as 1 [own]
+-- What read or write number `call` returns with the faults `m`, if at most `there` bytes can be moved. It is an
+-- interruption if `call` is below `interruptions`, and otherwise a failure if `call` is at least `fails_from`. In all
+-- other cases as many bytes are moved as `there` and `at_most` allow; an `at_most` of 0 counts as 1 [own]
 abbrev pub moved : Faults → ℕ → ℕ → Result ℕ Trouble
 moved m call there =
     if nat_lt call m.interruptions then Err Interrupted else

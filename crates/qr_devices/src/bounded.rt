@@ -9,7 +9,7 @@ ghost use Rattle.std.specs.declared.io.ErrorKind.{ErrorKind};
 use std::io::{self, Write};
 
 /// A writer that appends to `bytes` until there are `most` bytes in all. A write takes as many bytes as there is room
-/// for, which may be none. It requests no memory for bytes that the capacity of `bytes` has room for.
+/// for, which may be none. A write requests no memory if the capacity of `bytes` has room for what it takes.
 #[derive(Drop)]
 pub struct Bounded {
     pub bytes: Vec<u8>,

@@ -19,7 +19,8 @@ fn trouble_of(error: io::Error) -> Trouble
 }
 
 /// A device that passes its calls on to `inner`, a reader or a writer, and counts them. Contracts know its bytes if
-/// they know those of `inner`. They know the bytes in memory, but not those of a file, a pipe or a terminal.
+/// they know those of `inner`. They know the bytes of a reader or writer in memory, but not those of a file, a pipe or
+/// a terminal.
 #[derive(Drop)]
 pub struct Counted<T> {
     inner: T,

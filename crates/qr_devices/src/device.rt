@@ -9,20 +9,20 @@ ghost use Rattle.qr_devices.specs.Device.{flush_counted, read_counted, write_cou
 ghost use Rattle.qr_devices.specs.declared.device.ReadCounts.{ReadCounts};
 ghost use Rattle.qr_devices.specs.declared.device.WriteCounts.{WriteCounts};
 
-/// How many interrupted calls (EINTR) are tried again at most, while one input is read or one text is written. One more
-/// is a fault.
+/// The greatest number of interrupted calls (EINTR) that are tried again while one input is read or one text is
+/// written. One more interruption is a fault.
 pub const INTERRUPTIONS_MAX: u16 = 999;
 
 /// How a read, a write or a flush fails.
 #[derive(Clone, Copy, Debug, PartialEq, Eq)]
 pub enum Trouble {
-    /// By a signal (EINTR); the call may be tried again.
+    /// It was interrupted by a signal (EINTR); the call may be tried again.
     Interrupted,
-    /// For any other reason; the call is not tried again.
+    /// It failed for any other reason; the call is not tried again.
     Failed,
 }
 
-/// The reads of a device. A count stays at `u64::MAX` once it is there.
+/// The counts of the reads of a device. A count that has reached `u64::MAX` stays there.
 #[derive(Clone, Copy, Debug, PartialEq, Eq)]
 pub struct ReadCounts {
     /// All reads, failed and interrupted ones too.
@@ -35,7 +35,7 @@ pub struct ReadCounts {
     pub given: u64,
     /// Reads that reached the end of the input: they returned 0 though their buffer was not empty.
     pub ends: u64,
-    /// Reads after one that reached the end, also those into an empty buffer.
+    /// Reads after one that reached the end. Reads into an empty buffer count too.
     pub past_end: u64,
 }
 
@@ -71,14 +71,14 @@ impl ReadCounts {
     }
 }
 
-/// The writes and flushes of a device. A count stays at `u64::MAX` once it is there.
+/// The counts of the writes and flushes of a device. A count that has reached `u64::MAX` stays there.
 #[derive(Clone, Copy, Debug, PartialEq, Eq)]
 pub struct WriteCounts {
     /// All writes and flushes, failed and interrupted ones too.
     pub calls: u64,
     /// Writes that failed, and flushes that failed or were interrupted.
     pub failed: u64,
-    /// Interrupted writes, without flushes.
+    /// Interrupted writes. Interrupted flushes are not among them.
     pub interrupted: u64,
     /// Writes that returned 0 though they offered at least one byte.
     pub zeros: u64,

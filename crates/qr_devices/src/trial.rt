@@ -1,4 +1,4 @@
-//! A device over memory, for tests, which can be slow, interrupted, failing or full.
+//! A device in memory, for tests. It can be slow, interrupted, failing or full.
 
 ghost use Rattle.std.specs.Prelude.{◌≡◌, ◌+◌, ◌≤◌, ◌<◌, ◌++◌, [], take, length, Some, IfOk};
 ghost use Rattle.std.specs.Vec.{vec_len, vec_capacity};

@@ -8,7 +8,8 @@ use Rattle.qr_drawing.specs.Svg.{square_at, svg_document}
 use Rattle.qr_drawing.specs.Text.{text_drawing}
 use Rattle.qr_drawing.specs.declared.text.TextStyle.TheVariants.{Plain, Inverse, HalfBlocks}
 
--- All squares have one side, as the symbols of a series do, so that one document can show them below one another [own]
+-- All squares have the same side, as the symbols of a series do, so that one document can show them below one another
+-- [own]
 abbrev pub HaveOneSide : List Grid → Type 0
 HaveOneSide squares = All (λ g. g.side ≡ (square_at squares 0).side) squares
 

@@ -3,8 +3,9 @@ use Rattle.std.specs.Prelude.{◌≡◌, [], ◌∷◌, codes, true, false}
 use Rattle.qr_drawing.specs.Text.{ascii_module, half_blocks, line_count}
 use Rattle.qr_drawing.specs.declared.text.TextStyle.TheVariants.{HalfBlocks}
 
--- The characters of modules, where the lower half block U+2584, the upper U+2580 and the full block U+2588 are three
--- bytes each in UTF-8, and the lines for 29 rows, as version 1 has with a margin of four modules [own]
+-- The characters that show modules. In UTF-8 the lower half block U+2584, the upper half block U+2580 and the full
+-- block U+2588 have three bytes each. A symbol of version 1 with a margin of four modules has 29 rows, which take 15
+-- lines of half blocks [own]
 pub record CharactersOfModules : Type 0 where
   pub dark : ascii_module true ≡ codes "##"
   pub light : ascii_module false ≡ codes "  "

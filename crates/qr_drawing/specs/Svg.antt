@@ -20,7 +20,7 @@ unfoldable pub run_length : ℕ → Grid → ℕ → ℕ → ℕ
 run_length margin g y x = prefix_len (is_dark_at margin g y) (range_with_len x (raster_width margin g - x))
 
 -- A box as commands of an SVG path: from row `y` and column `x` of the document it goes right by `modules` modules,
--- down by one, left, and is closed [own]
+-- down by one, left by `modules` modules, and is closed [own]
 unfoldable pub box_path : ℕ → ℕ → ℕ → List ℕ
 box_path x y modules =
     numbered (codes "M") x ++ numbered (codes " ") y ++ numbered (codes "h") modules ++ numbered (codes "v1h-") modules
@@ -43,8 +43,8 @@ symbol_path top margin g = texts_below (raster_width margin g) (row_path top mar
 abbrev pub square_at : List Grid → ℕ → Grid
 square_at squares k = slice_index_or squares k (light 0)
 
--- The boxes of all symbols; these have one size, so the symbol with the index `k` has `k` times its raster's width as
--- `top` [own]
+-- The boxes of all symbols. All rasters are equally high, so above the raster with the index `k` the document has `k`
+-- times as many rows as a raster has [own]
 unfoldable pub stack_path : ℕ → List Grid → List ℕ
 stack_path margin squares =
     texts_below (length squares) (λ k. symbol_path (k * raster_width margin (square_at squares k)) margin (square_at squares k))

@@ -1,6 +1,6 @@
 //! The types of drawing, the values that can be drawn, and rasters. The raster of a symbol is its modules with a light
-//! margin around them. A margin has at most 255 modules and a symbol 177 on a side, so the numbers of rows and columns
-//! of a raster are below 1,000.
+//! margin around them. A margin has at most 255 modules, and a symbol at most 177 on a side. So a raster has fewer than
+//! 1,000 rows and columns.
 
 ghost use Rattle.std.specs.Prelude.{◌≡◌, ◌≤◌, ◌<◌, ◌+◌, max, is_err, length, map, OnOk, OnErr};
 ghost use Rattle.std.specs.Io.KnownBytes.{Appends};
@@ -64,8 +64,8 @@ pub(crate) fn raster_width(matrix: &Matrix, margin: u8) -> u16
     2 * u16::from(margin) + u16::from(matrix.side())
 }
 
-// Says whether the module in row `y` and column `x` of the raster is dark. All is light around the square, also beyond
-// the raster.
+// Says whether the module in row `y` and column `x` of the raster is dark. Every place outside the square is light,
+// also those outside the raster.
 #[tactic(auto, unfolding(crate::specs::Raster::is_dark_at))]
 pub(crate) fn is_dark_at(matrix: &Matrix, margin: u8, y: u16, x: u16) -> bool
     ensures { result ≡ is_dark_at margin matrix.now y x }
@@ -103,7 +103,7 @@ fn put_drawing<S: HasSquare, W: Sink>(
     }
 }
 
-/// Draws 1 to 16 symbols or other squares, all of the same side, each with a light margin of `margin` modules on all
+/// Draws 1 to 16 symbols or other squares, all with the same side, each with a light margin of `margin` modules on all
 /// sides (ISO/IEC 18004:2015, 6.3.8). The texts of several squares follow one after the other. An SVG document shows
 /// all squares, one below the other.
 ///
@@ -114,8 +114,8 @@ fn put_drawing<S: HasSquare, W: Sink>(
 ///
 /// # Errors
 ///
-/// `Write`, only if a write fails or accepts no byte, or if 1,000 are interrupted; `out` has then accepted a prefix of
-/// the drawing.
+/// `Write`, only if a write fails or accepts no byte, or if 1,000 writes are interrupted; `out` has then accepted a
+/// prefix of the drawing.
 pub fn draw<S: HasSquare, W: Sink>(
     symbols: &[S],
     kind: Drawing,

@@ -22,8 +22,8 @@ pub enum DrawFault {
 }
 
 /// A buffer for the bytes of `piece`, which are not written yet. `interrupted` is the number of writes that were
-/// interrupted so far. The pen contains at most 1,200 bytes. Its room is eight bytes larger, because a copy of eight
-/// bytes may append fewer, and reach beyond the 1,200 with the others (`Piece::push_first`).
+/// interrupted so far. The pen contains at most 1,200 bytes. Its buffer is eight bytes larger. For `Piece::push_first`
+/// copies eight bytes even if it appends fewer, and the rest of the eight may lie beyond the 1,200 bytes.
 #[derive(Drop)]
 pub(crate) struct Pen {
     pub(crate) piece: Piece<1208>,
@@ -91,7 +91,7 @@ impl Pen {
         Ok(())
     }
 
-    /// Makes room for `room` bytes: if there is less, writes all bytes in the pen.
+    /// Makes room for `room` bytes. If there is less room, writes all bytes in the pen.
     #[inline(always)]
     pub(crate) fn reserve<W: Sink>(&mut self, out: &mut W, room: usize) -> Result<(), DrawFault>
         requires { room ≤ 1200 }
@@ -111,8 +111,8 @@ impl Pen {
 ///
 /// # Errors
 ///
-/// `Write`, only if a write fails or accepts no byte, or if 1,000 are interrupted; `out` has then accepted a prefix of
-/// `text`.
+/// `Write`, only if a write fails or accepts no byte, or if 1,000 writes are interrupted; `out` has then accepted a
+/// prefix of `text`.
 pub fn write_text<W: Sink>(text: &[u8], out: &mut W) -> Result<(), DrawFault>
     ensures ok { OnOk result (Appends (W.device out.old).taken (W.device out.new).taken text.now) }
     ensures err { OnErr result (AppendsBeginning (W.device out.old).taken (W.device out.new).taken text.now) }

@@ -5,8 +5,7 @@ ghost use Rattle.std.specs.Prelude.{◌≡◌, ◌≤◌, ◌<◌, ◌+◌, ◌+
 use std::marker::Model;
 
 /// A text of at most `CAP` bytes: the first `len` of `bytes`. The bytes after these mean nothing. So a short text may
-/// be appended by a copy that is longer than the text, and always of the same length. Such a copy takes an instruction
-/// or two.
+/// be appended by copying more bytes than it has, always the same number. Such a copy takes one or two instructions.
 #[derive(Drop)]
 pub(crate) struct Piece<const CAP: usize> {
     bytes: [u8; CAP],
@@ -77,7 +76,7 @@ impl<const CAP: usize> Piece<CAP> {
         self.len = start + bytes.len();
     }
 
-    /// Appends the first `count` bytes of `bytes`, by a copy of all `N`.
+    /// Appends the first `count` bytes of `bytes`, by copying all `N` bytes.
     #[inline(always)]
     pub(crate) fn push_first<const N: usize>(&mut self, bytes: &[u8; N], count: usize)
         requires room { length self.old + N ≤ CAP }
@@ -91,7 +90,7 @@ impl<const CAP: usize> Piece<CAP> {
         self.len = start + count;
     }
 
-    /// Appends `short`, by a copy of all bytes that it could contain.
+    /// Appends `short`, by copying as many bytes as it has room for.
     #[inline(always)]
     pub(crate) fn push_piece<const N: usize>(&mut self, short: &Piece<N>)
         requires { length self.old + N ≤ CAP }

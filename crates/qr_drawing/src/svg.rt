@@ -26,9 +26,10 @@ const HEAD_MAX: usize = 300;
 // The number of bytes after the last box.
 const TAIL: usize = 11;
 
-// `push_digit` and the three functions after it append numbers digit by digit. The row of a box, and its width from ten
-// modules on, are appended by them, because they take fewer instructions than the crate `itoa`. The digits of a column,
-// and all of a smaller width, come from the tables below. `itoa` formats the numbers before the path.
+// `push_digit` and the three functions after it append numbers digit by digit. They append the row of a box, and also
+// its width if it has ten modules or more, because they take fewer instructions than the crate `itoa`. The digits of a
+// column come from the table `TWO_DIGITS`, and smaller widths from the table `SHORT_RUNS`. `itoa` formats the numbers
+// before the path.
 fn push_digit<const CAP: usize>(text: &mut Piece<CAP>, digit: u16)
     requires digit { digit < 10 }
     requires room { length text.old < CAP }
@@ -121,7 +122,8 @@ fn push_column(text: &mut Piece<1208>, x: u16)
     }
 }
 
-// What follows the row of a box around as many modules as the index says. Almost all boxes have fewer than ten.
+// The text after the row of a box. The index is the number of modules in the box, which is below ten in almost all
+// boxes.
 static SHORT_RUNS: [[u8; 8]; 10] = [
     *b"h0v1h-0z",
     *b"h1v1h-1z",
@@ -135,7 +137,7 @@ static SHORT_RUNS: [[u8; 8]; 10] = [
     *b"h9v1h-9z",
 ];
 
-// Appends what follows the row of a box around `modules` modules.
+// Appends the text after the row of a box around `modules` modules.
 #[tactic(auto, unfolding(crate::specs::Svg::numbered, crate::specs::Steps::Svg::width_path))]
 fn push_width(text: &mut Piece<1208>, modules: u16)
     requires modules { modules < 1000 }
@@ -169,8 +171,8 @@ fn push_box(text: &mut Piece<1208>, x: u16, row: &Piece<8>, modules: u16)
     push_width(text, modules);
 }
 
-// Returns row `y` of the document as boxes have it: a space and the number. It is the same in all boxes of this row, so
-// it is made once.
+// Returns the text for row `y` of the document in a box: a space and the number of the row. It is the same in all boxes
+// of this row, so it is made once.
 #[tactic(auto, unfolding(crate::specs::Svg::numbered))]
 fn text_of_row(y: u16) -> Piece<8>
     ensures { result ≡ numbered (codes " ") y }

@@ -2,12 +2,12 @@
 //! shows a module `upper` and the module `lower` below it. In the other styles it is two characters, which show only
 //! the module `upper`.
 //!
-//! Most cells are appended eight or four at a time, by copies from tables: the names have `eight` for eight
-//! neighbouring modules of a row, `quad` for four and `pair` for two. Their modules are the bits of a number. Bit 0 is
-//! the leftmost module, and a bit that is 1 is dark.
+//! Most cells are appended eight or four at a time, by copies from tables. In names, `eight` means eight neighbouring
+//! modules of a row, `quad` four and `pair` two. These modules are the bits of a number. Bit 0 is the leftmost module,
+//! and a bit that is 1 is dark.
 //!
-//! A raster has fewer than 1,000 rows (`drawing.rt`), so a line has a number below 1,000, and the first of the rows
-//! that it shows one below 2,000.
+//! A raster has fewer than 1,000 rows (`drawing.rt` says why). So the number of a line, counted from 0, is below 1,000,
+//! and that of the first row that it shows is below 2,000.
 
 ghost use Rattle.std.specs.Prelude.{◌≡◌, ℕ, ◌≤◌, ◌<◌, ◌+◌, ◌-◌, ◌*◌, ◌/◌, ◌%◌, ◌++◌, ◌∷◌, [], false, length, map, IfSome};
 ghost use Rattle.std.specs.List.{flat_map};
@@ -34,7 +34,7 @@ pub(crate) enum TextStyle {
     HalfBlocks,
 }
 
-// Returns the greatest number of bytes of `count` cells. Fewer than 400 cells of at most three bytes fit the pen.
+// Returns the greatest number of bytes of `count` cells. The pen has room for 399 cells of at most three bytes each.
 fn cells_room(style: TextStyle, count: u16) -> usize
     requires { count < 400 }
     ensures value { result ≡ count * cell_room style }
@@ -168,8 +168,8 @@ fn ascii_quad(bits: u8) -> &'static [u8; 8]
 }
 
 // Two characters in the style `HalfBlocks`, which show two modules and the two below them. In the index, bits 0 and 1
-// are the upper modules, and bits 2 and 3 the lower. The characters have two, four or six bytes. They are the first of
-// the eight bytes of an entry, and the number beside these says how many.
+// are the upper modules, and bits 2 and 3 the lower. An entry has the bytes of the two characters, filled up to eight
+// bytes with spaces, and a number. The number says how many bytes the two characters have: two, four or six.
 static HALF_BLOCK_PAIRS: [([u8; 8], usize); 16] = [
     (*b"\xE2\x96\x88\xE2\x96\x88  ", 6),
     (*b"\xE2\x96\x84\xE2\x96\x88  ", 6),
@@ -189,7 +189,7 @@ static HALF_BLOCK_PAIRS: [([u8; 8], usize); 16] = [
     (*b"        ", 2),
 ];
 
-// Appends two characters, by a copy of eight bytes, however many the characters have.
+// Appends two characters. All eight bytes of the entry are copied, however many bytes the characters have.
 #[inline(always)]
 fn push_half_block_pair(text: &mut Piece<1208>, pair: u8)
     requires small { pair < 16 }
@@ -200,7 +200,8 @@ fn push_half_block_pair(text: &mut Piece<1208>, pair: u8)
     text.push_first(&bytes, count);
 }
 
-// Appends four characters, for the modules of bits 0 to 3 of `upper` and, below them, of `lower`.
+// Appends four characters. Their upper modules are bits 0 to 3 of `upper`, and their lower modules bits 0 to 3 of
+// `lower`.
 #[inline(always)]
 fn push_half_block_quad(text: &mut Piece<1208>, upper: u8, lower: u8)
     requires room { length text.old + 12 ≤ 1200 }
@@ -210,7 +211,7 @@ fn push_half_block_quad(text: &mut Piece<1208>, upper: u8, lower: u8)
     push_half_block_pair(text, upper / 4 % 4 + lower / 4 % 4 * 4);
 }
 
-// Appends the cells of bits 0 to 3 of `upper` and `lower`.
+// Appends four cells, whose modules are bits 0 to 3 of `upper` and `lower`.
 #[inline(always)]
 fn push_quad(text: &mut Piece<1208>, style: TextStyle, upper: u8, lower: u8)
     requires room { length text.old + 4 * cell_room style ≤ 1200 }
@@ -232,7 +233,7 @@ fn ascii_eight(bits: u8) -> [u8; 16]
     text
 }
 
-// As `push_quad`, for all eight bits.
+// Appends eight cells, whose modules are bits 0 to 7 of `upper` and `lower`.
 #[inline(always)]
 fn push_eight(text: &mut Piece<1208>, style: TextStyle, upper: u8, lower: u8)
     requires room { length text.old + 8 * cell_room style ≤ 1200 }
@@ -273,7 +274,7 @@ fn push_light(text: &mut Piece<1208>, style: TextStyle, count: u16)
     }
 }
 
-// Appends `count` cells from column `first` of the raster on, one by one. They are the last columns of the square,
+// Appends `count` cells from column `first` of the raster on, one by one. They show the last columns of the square,
 // which are fewer than four.
 #[inline(always)]
 fn push_cells(
@@ -299,9 +300,9 @@ fn push_cells(
     }
 }
 
-// Appends the cells of row `row` of the raster, without the margin: eight columns at a time, then four if as many are
-// left. It leaves out the columns that then remain. They are fewer than four, and in a symbol one. The label of the
-// loop is for the prover.
+// Appends the cells of row `row` of the raster, without the margin: eight columns at a time, and then four if at least
+// four are left. It leaves out the columns that then remain. They are fewer than four; in a symbol it is one column.
+// The label of the loop is for the prover.
 #[inline(always)]
 fn push_columns(text: &mut Piece<1208>, style: TextStyle, matrix: &Matrix, margin: u8, row: u16)
     requires row_in { row < 2000 }
@@ -395,7 +396,8 @@ fn put_lines<W: Sink>(
     }
 }
 
-// Compiled once for each style, into the calls of `put_lines`, so that no loop has to test the style.
+// Writes all lines of a square. It is inlined into each of its calls in `put_lines`, where the style is a constant, so
+// that no loop has to test the style.
 #[inline(always)]
 fn put_lines_of<W: Sink>(
     pen: &mut Pen,

@@ -11,7 +11,7 @@ bit_row_number words = (slice_index words 2 * 2 ^ 64 + slice_index words 1) * 2 
 unfoldable pub has_bit : ℕ → ℕ → Bool
 has_bit n c = bit_at n c == 1
 
--- As `has_bit`, but for a bit row [own]
+-- Bit `c` of a bit row is 1 [own]
 unfoldable pub has : List ℕ → ℕ → Bool
 has words c = has_bit (bit_row_number words) c
 

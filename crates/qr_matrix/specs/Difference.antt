@@ -3,7 +3,7 @@ use Rattle.std.specs.Prelude.{ℕ, not, Bool}
 use Rattle.qr_matrix.specs.Grid.{Grid, colour, is_same}
 use Rattle.qr_matrix.specs.Sums.{places_passing}
 
--- The colours in row `r` and column `c` are different [own]
+-- The two squares have different colours in row `r` and column `c` [own]
 abbrev pub differs : Grid → Grid → ℕ → ℕ → Bool
 differs g h r c = not (is_same (colour g r c) (colour h r c))
 

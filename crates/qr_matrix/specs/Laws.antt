@@ -1,5 +1,5 @@
--- Squares whose penalties were counted by hand, each as the colour of the module in row `r` and column `c`, and a law of
--- squares whose modules are written as bytes.
+-- Squares whose penalties were counted by hand, and a law of squares whose modules are written as bytes. A square of
+-- the first kind is given by the colour of the module in row `r` and column `c`.
 use Rattle.std.specs.Prelude.{◌≡◌, ℕ, ◌+◌, ◌*◌, ◌<◌, ◌%◌, ◌&&◌, ◌||◌, ◌==◌, nat_le, Bool, true, false, List, slice_index_or}
 use Rattle.qr_matrix.specs.Grid.{Grid, colour}
 use Rattle.qr_matrix.specs.Bytes.{byte_of, square_of_bytes}

@@ -1,5 +1,5 @@
 -- The penalty of a symbol, by which its mask is chosen. `dark r c` is the colour in row `r` and column `c` of a square
--- of side `s`, and `line k` that of module `k` of a row or column.
+-- of side `s`, and `line k` is the colour of module `k` of a row or column.
 use Rattle.std.specs.Prelude.{ℕ, ◌+◌, ◌-◌, ◌*◌, ◌/◌, ◌&&◌, ◌||◌, not, Bool, true, false, nat_lt, nat_le, ◌==◌, if◌then◌else◌, List, [], ◌∷◌, ◌++◌}
 use Rattle.std.specs.Int.{abs_diff}
 use Rattle.qr_matrix.specs.Grid.{is_same}

@@ -4,18 +4,19 @@ use Rattle.std.specs.Prelude.{◌≡◌, ◌≢◌, ◌+◌, ◌-◌, ◌*◌, �
 use Rattle.qr_matrix.specs.Grid.{Grid, colour, is_same}
 use Rattle.qr_matrix.specs.Sums.{count_below}
 
--- The first column after the run that contains column `col`, or the side if this run reaches the edge [own]
+-- The first column after the run that contains column `col` in row `row`, or the side if this run reaches the right
+-- edge [own]
 pub record IsRunEnd (g : Grid) (row col end : ℕ) : Type 0 where
   pub after : col < end
   pub within : end ≤ g.side
   pub same : (c : ℕ) → col ≤ c → c < end → colour g row c ≡ colour g row col
   pub differs : end < g.side → colour g row end ≢ colour g row col
 
--- Two neighbouring modules of one colour, of which `c` is the first [own]
+-- Module `c` is not the last, and has the colour of the next one [own]
 unfoldable pub joins : ℕ → (ℕ → Bool) → ℕ → Bool
 joins s line c = nat_lt (c + 1) s && is_same (line c) (line (c + 1))
 
--- Five modules of one colour, of which `c` is the first [own]
+-- The five modules from `c` on have one colour [own]
 unfoldable pub begins_five : ℕ → (ℕ → Bool) → ℕ → Bool
 begins_five s line c = (joins s line c && joins s line (c + 1)) && (joins s line (c + 2) && joins s line (c + 3))
 

@@ -1,5 +1,5 @@
--- Steps of the code: bit rows, those of two squares side by side, dark runs, the modules that cost a point, what the
--- penalty counts, and tiles, the parts of 64 by 64 modules by which a square is transposed.
+-- Steps of the code: bit rows, the bit rows of two squares side by side, dark runs, the modules that cost a point, what
+-- the penalty counts, and tiles. A square is transposed tile by tile, and a tile is 64 by 64 modules.
 use Rattle.std.specs.Prelude.{◌≡◌, ℕ, ◌+◌, ◌-◌, ◌*◌, ◌%◌, ◌^◌, ◌<◌, ◌≤◌, ◌&&◌, ◌||◌, not, Bool, List, [], ◌∷◌, length, slice_index, slice_index_or, map, nat_lt, if◌then◌else◌}
 use Rattle.std.specs.List.{filter, range_with_len}
 use Rattle.qr_matrix.specs.Grid.{is_same}
@@ -19,7 +19,7 @@ pub record NeedsWords (side words : ℕ) : Type 0 where
   pub most : side ≤ 64 * words
   pub three : words ≤ 3
 
--- The number of columns of a bit row that pass the test
+-- The number of columns of a bit row for which `bit` is true
 unfoldable pub set_count : (ℕ → Bool) → ℕ
 set_count bit = count_below 192 bit
 
@@ -27,19 +27,19 @@ set_count bit = count_below 192 bit
 abbrev pub size_of : List ℕ → ℕ
 size_of words = set_count (has words)
 
--- A word for each of two squares
+-- Two words of at most 64 bits, one for each of two squares
 abbrev pub IsPair : List ℕ → Type 0
 IsPair words = (length words ≡ 2) × (slice_index words 0 < 2 ^ 64) × (slice_index words 1 < 2 ^ 64)
 
--- The word of the first square, or of the second
+-- The word of the second square if `second` is true, and that of the first otherwise
 abbrev pub word_of : List ℕ → Bool → ℕ
 word_of words second = slice_index words (if second then 1 else 0)
 
--- The bit row of the first square, or of the second
+-- The bit row of the second square if `second` is true, and that of the first otherwise
 unfoldable pub lane : List (List ℕ) → Bool → List ℕ
 lane pairs second = word_of (slice_index_or pairs 0 []) second ∷ word_of (slice_index_or pairs 1 []) second ∷ word_of (slice_index_or pairs 2 []) second ∷ []
 
--- The bit rows of the first square, or of the second, from the top down
+-- The bit rows of the second square if `second` is true, and those of the first otherwise, from the top down
 abbrev pub lanes : List (List (List ℕ)) → Bool → List (List ℕ)
 lanes rows second = map (λ pairs. lane pairs second) rows
 
@@ -51,30 +51,29 @@ columns_passing p k n = filter p (range_with_len k n)
 abbrev pub set_bits : List ℕ → List ℕ
 set_bits words = columns_passing (has words) 0 192
 
--- Module `c` has another colour than the module before it, which counts as light for module 0
+-- Module `c` has another colour than the module before it; module 0 is compared with a light module
 unfoldable pub is_change : (ℕ → Bool) → ℕ → Bool
 is_change line c = not (is_same (line c) (nat_lt 0 c && line (c - 1)))
 
--- The runs whose starts and ends are the columns of the list, in turn
+-- The runs whose starts and ends are the columns of the list: a start, its end, the next start and so on
 abbrev pub runs_between : List ℕ → List Run
 runs_between (start ∷ end ∷ columns) = record { start = start; end = end } ∷ runs_between columns
 runs_between columns = []
 
--- Module `c`, or one of the two before it, is the first of five of one colour: a run of five or more is charged for all
--- its modules but the last two
+-- Module `c` is charged a point for runs: it, or one of the two modules before it, is the first of five of one colour.
+-- So all modules of a run of five or more are charged, but for the last two
 unfoldable pub is_charged : ℕ → (ℕ → Bool) → ℕ → Bool
 is_charged s line c = (begins_five s line c || (nat_lt 0 c && begins_five s line (c - 1))) || (nat_lt 1 c && begins_five s line (c - 2))
 
--- The number of modules of row `r` that are charged for runs in columns
+-- The number of modules of row `r` that are charged a point for runs in their columns
 unfoldable pub row_share : ℕ → (ℕ → ℕ → Bool) → ℕ → ℕ
 row_share s dark r = count_below s (λ c. is_charged s (λ i. dark i c) r)
 
--- In column `c` of a square, row `r` has the colour of the next one
+-- In column `c` of a square, the module in row `r` has the colour of the one below it
 abbrev pub joins_down : ℕ → (ℕ → ℕ → Bool) → ℕ → ℕ → Bool
 joins_down s dark c r = nat_lt c s && joins s (λ i. dark i c) r
 
--- Four in turn of the tests `join` pass, from `r` on: five modules of a column are equal, if `join` says of each whether
--- it has the colour of the next
+-- Five equal modules of a column begin in row `r`, if `join k` says that the modules in rows `k` and `k + 1` are equal
 abbrev pub begin_five : (ℕ → Bool) → ℕ → Bool
 begin_five join r = (join r && join (r + 1)) && (join (r + 2) && join (r + 3))
 
@@ -82,8 +81,9 @@ begin_five join r = (join r && join (r + 1)) && (join (r + 2) && join (r + 3))
 abbrev pub is_near_five : (ℕ → Bool) → ℕ → Bool
 is_near_five join r = (begin_five join r || (nat_lt 0 r && begin_five join (r - 1))) || (nat_lt 1 r && begin_five join (r - 2))
 
--- What is kept of the first `n` comparisons of a column: whether the last one passed, and the last two, and the last four;
--- and of two and four the same one row before
+-- What is kept of the first `n` comparisons of a column, each of a module with the one below it: `joined` if the last
+-- one found equal modules, `threes` if the last two did, and `fives` if the last four did. `earlier_threes` and
+-- `earlier_fives` are what `threes` and `fives` were one row before
 pub record IsAbove (join : ℕ → Bool) (n : ℕ) (joined threes earlier_threes fives earlier_fives : Bool) : Type 0 where
   pub joined_is : joined ≡ (nat_lt 0 n && join (n - 1))
   pub threes_are : threes ≡ (nat_lt 1 n && (join (n - 2) && join (n - 1)))
@@ -91,8 +91,9 @@ pub record IsAbove (join : ℕ → Bool) (n : ℕ) (joined threes earlier_threes
   pub fives_are : fives ≡ (nat_lt 3 n && begin_five join (n - 4))
   pub earlier_fives_are : earlier_fives ≡ (nat_lt 4 n && begin_five join (n - 5))
 
--- What is counted in the first `n` rows: the points for runs in these rows, and in columns those of the rows before the
--- last three; and the squares of two by two modules
+-- What is counted when `n` rows are done. `runs` counts the points for runs in these rows. It also counts the points
+-- for runs in columns that the modules of all but the last three of these rows are charged. `squares` are the squares
+-- of two by two modules that begin in these rows
 pub record IsCountedTo (s : ℕ) (dark : ℕ → ℕ → Bool) (n runs squares : ℕ) : Type 0 where
   pub runs_are : runs ≡ sum_below n (λ r. place_cost s (dark r)) + sum_below (n - 3) (row_share s dark)
   pub runs_most : runs ≤ 192 * n + 192 * (n - 3)
@@ -103,8 +104,8 @@ pub record IsCountedTo (s : ℕ) (dark : ℕ → ℕ → Bool) (n runs squares :
 unfoldable pub bit_in : List ℕ → ℕ → ℕ → Bool
 bit_in words r c = has_bit (slice_index words r) c
 
--- The tile `f` after a stage of its transposition: of each two by two parts of `s` by `s` bits, the upper right and the
--- lower left one are exchanged
+-- The tile `f` after a stage of its transposition. The tile is divided into parts of `s` by `s` bits, and of each two
+-- by two parts the upper right and the lower left one are exchanged
 unfoldable pub exchanged : ℕ → (ℕ → ℕ → Bool) → ℕ → ℕ → Bool
 exchanged s f r c =
     if nat_lt (r % (2 * s)) s

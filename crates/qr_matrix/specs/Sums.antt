@@ -7,11 +7,11 @@ abbrev pub sum_below : ℕ → (ℕ → ℕ) → ℕ
 sum_below zero f = 0
 sum_below (suc n) f = f n + sum_below n f
 
--- The number of `k` for which `p k` is true [own]
+-- The number of `k` below `n` for which `p k` is true [own]
 abbrev pub count_below : ℕ → (ℕ → Bool) → ℕ
 count_below n p = sum_below n (λ k. if p k then 1 else 0)
 
--- Every `p k` is true [own]
+-- `p k` is true for every `k` below `n` [own]
 abbrev pub all_below : ℕ → (ℕ → Bool) → Bool
 all_below zero p = true
 all_below (suc n) p = p n && all_below n p

@@ -1,12 +1,13 @@
-//! Adds bit rows column by column, as full adders do, so that one count stands for the bits of several rows.
+//! Adds bit rows column by column, as full adders do. Three rows become two, a sum and a carry, so the bits of fewer
+//! rows have to be counted.
 
 ghost use Rattle.std.specs.Prelude.{◌≡◌, ℕ, Bool, ◌+◌, ◌*◌, ◌≤◌};
 ghost use Rattle.qr_matrix.specs.Steps.{set_count};
 
 use crate::rows::Rows;
 
-// A full adder for each column: the bits of three rows are as many as those of the first returned row and twice those of
-// the second.
+// A full adder for each column: returns a row of sums and a row of carries. A carry stands for two set bits of the
+// three rows.
 #[inline(always)]
 pub(crate) fn added<R: Rows>(a: R, b: R, c: R) -> (R, R)
     ensures { (second : Bool) → set_count (R.bit a second) + set_count (R.bit b second) + set_count (R.bit c second)
@@ -16,8 +17,8 @@ pub(crate) fn added<R: Rows>(a: R, b: R, c: R) -> (R, R)
     (either.xor(c), a.and(b).or(either.and(c)))
 }
 
-// As `Rows::add_to`, for a row of `words` words that mostly is empty, so that one test takes less than the count of
-// several words.
+// As `Rows::add_to`, for a row of `words` words, but faster if most of the rows that are counted have no set bit. With
+// several words, one test for an empty row takes less time than counting.
 #[inline(always)]
 pub(crate) fn add_rare<R: Rows>(row: R, counts: R::Counts, words: u8) -> R::Counts
     requires { (second : Bool) → R.number counts second ≤ 1000000 }

@@ -1,4 +1,5 @@
-//! The rows of a `Matrix`, on which one operation works on 64 modules at a time. A bit that is 1 is called set.
+//! The rows of a `Matrix`, in words of 64 bits, so that one operation works on 64 modules. A bit that is 1 is called
+//! set.
 
 ghost use Rattle.std.specs.Prelude.{◌≡◌, ℕ, List, ◌+◌, ◌-◌, ◌*◌, ◌/◌, ◌%◌, ◌^◌, ◌<◌, ◌≤◌, ◌&&◌, ◌||◌, not, true, false, nat_le, nat_lt, ◌==◌, if◌then◌else◌};
 ghost use Rattle.std.specs.Iterator.{YieldsFirst};
@@ -99,7 +100,8 @@ impl BitRow {
         BitRow([u64::MAX, u64::MAX, low_bits(n - 128)])
     }
 
-    /// As `below`, where only word `words - 1` depends on `n`: with a constant `words` the other two are constants.
+    /// As `below`, for an `n` from `64 * (words - 1)` to `64 * words`. If `words` is a constant, only one word has to
+    /// be computed, as the other two are constants.
     #[inline(always)]
     pub(crate) fn below_in(n: u8, words: u8) -> BitRow
         requires least { 64 * (words - 1) ≤ n }
@@ -132,7 +134,8 @@ impl BitRow {
         self ^ (self & other)
     }
 
-    /// Moves the bits to the left, as a row is drawn: bit 0 is the leftmost.
+    /// Moves each bit `steps` columns to the left. Bit 0 is the leftmost, so the words themselves are shifted to the
+    /// right.
     pub(crate) fn shifted_left(self, steps: u32) -> BitRow
         requires some { 0 < steps }
         requires few { steps < 64 }
@@ -162,7 +165,8 @@ impl BitRow {
         a[0].count_ones() + a[1].count_ones() + a[2].count_ones()
     }
 
-    /// As `count`, for a row that mostly is empty. The compiler drops the test where it takes more than the count.
+    /// As `count`, but faster if most of the rows that are counted have no set bit. Where testing for an empty row
+    /// takes longer than counting, the compiler leaves out the test.
     #[inline(always)]
     pub(crate) fn rare_count(self) -> u32
         ensures value { result ≡ size_of self }
@@ -181,7 +185,7 @@ impl BitRow {
         a[0] | a[1] | a[2] == 0
     }
 
-    /// Returns 192 if no bit is set.
+    /// Returns the index of the first set bit, or 192 if no bit is set.
     pub(crate) fn first(self) -> u8
         ensures most { result ≤ 192 }
         ensures before { (c : ℕ) → c < result → has self c ≡ false }
@@ -212,7 +216,7 @@ impl BitRow {
         Some(index)
     }
 
-    // In each branch the word is known, so that the row of an iterator stays in registers.
+    // Each branch names its word by a constant, so that the row of an iterator can stay in registers.
     #[inline(always)]
     fn clear(&mut self, index: u8)
         requires { index < 192 }
@@ -295,7 +299,8 @@ impl BitRow {
         self.0[number] = word;
     }
 
-    /// Sets bit `index + k` for each bit `k` of `bits` that is 1, and changes no other bit. They are all in one word.
+    /// Sets bit `index + k` for each bit `k` of `bits` that is 1, and changes no other bit. All bits that it sets are
+    /// in the word of bit `index`.
     #[inline(always)]
     pub fn set_bits(&mut self, index: u8, bits: u64)
         requires index_in { index < 192 }
@@ -326,7 +331,7 @@ impl BitRow {
         word >> (index % 64)
     }
 
-    /// Returns how many bits from bit `index` up are set before the first one that is not, or before the word ends.
+    /// Returns the number of set bits from bit `index` up to the first bit that is not set, or to the end of the word.
     #[inline(always)]
     pub fn ones_from(&self, index: u8) -> u8
         requires { index < 192 }
@@ -337,7 +342,8 @@ impl BitRow {
         (self.0[usize::from(index / 64)] >> (index % 64)).trailing_ones() as u8
     }
 
-    /// As `ones_from`, but from bit `index` down.
+    /// Returns the number of set bits from bit `index` down to the first bit that is not set, or to the lowest bit of
+    /// the word.
     #[inline(always)]
     pub fn ones_down_from(&self, index: u8) -> u8
         requires { index < 192 }

@@ -1,9 +1,10 @@
-//! The modules of a square as bytes, row by row. A dark module is written as 1 and a light one as 0; when they are read,
-//! every byte but 0 is dark, and 2 is also a module that is not known.
+//! The modules of a square as bytes, row by row. A dark module is written as 1 and a light one as 0. When bytes are
+//! read, every byte but 0 means a dark module, and 2 means also that the module is not known.
 //!
-//! Eight modules are read or written at once, as one number of 64 bits: no vectors, which WebAssembly does not have. At
-//! the end of a row this goes on in the rows that follow, so the last rows go module by module, as do rows that have
-//! other bytes than 0 and 1.
+//! Eight modules are read or written at once, as one number of 64 bits. This needs no vectors, which the build for
+//! WebAssembly does not have. At the end of a row, bytes of the rows that follow are read or overwritten too. So the
+//! last rows, which have too few bytes after them, are read and written module by module. A row that has other bytes
+//! than 0 and 1 is also read module by module.
 
 ghost use Rattle.std.specs.Prelude.{◌≡◌, ℕ, ◌+◌, ◌*◌, ◌<◌, ◌≤◌, ◌⊎◌, ◌&&◌, ◌==◌, not, false, nat_lt, length, slice_index_or, IfOk, IfSome};
 ghost use Rattle.qr_matrix.specs.Grid.{colour};
@@ -19,14 +20,14 @@ const LIGHT: u8 = 0;
 
 const NOT_KNOWN: u8 = 2;
 
-// The bits that only bytes of more than 1 have.
+// All bits of eight bytes but the lowest of each. If each byte is 0 or 1, these bits are 0.
 const MORE: u64 = 0xFEFE_FEFE_FEFE_FEFE;
 
 // A product with it moves the lowest bit of byte `k` to bit `k` of the highest byte. If each byte is 0 or 1, nothing is
-// carried there.
+// carried into the highest byte.
 const GATHER: u64 = 0x0102_0408_1020_4080;
 
-// The bits of eight bytes, the first lowest, if each is 0 or 1.
+// The bits of the eight bytes from byte `at` on, that of the first byte lowest; `None` if one of them is not 0 or 1.
 #[inline(always)]
 fn eight_bits(bytes: &[u8], at: usize) -> Option<u64>
     requires { at + 8 ≤ length bytes.now }
@@ -50,7 +51,7 @@ fn eight_bits(bytes: &[u8], at: usize) -> Option<u64>
     Some(eight.wrapping_mul(GATHER) >> 56)
 }
 
-// The bits of 64 bytes, if each is 0 or 1.
+// The bits of the 64 bytes from byte `start` on, that of the first byte lowest; `None` if one of them is not 0 or 1.
 fn word_of(bytes: &[u8], start: usize) -> Option<u64>
     requires { start + 64 ≤ length bytes.now }
     ensures { IfSome result (λ word. (k : ℕ) → k < 64
@@ -63,8 +64,8 @@ fn word_of(bytes: &[u8], start: usize) -> Option<u64>
     Some(word)
 }
 
-// The row of `side` modules from byte `start` on, if it and the bytes after it up to whole words are before byte `end`,
-// and each of them is 0 or 1.
+// The row of `side` modules from byte `start` on. It is read 64 bytes at a time, the last time beyond the end of the
+// row. `None` if byte `end` would be read too, or if a byte that is read is not 0 or 1.
 #[inline(always)]
 fn plain_row_of(bytes: &[u8], start: usize, end: usize, side: u8) -> Option<BitRow>
     requires least { 1 ≤ side }
@@ -86,7 +87,8 @@ fn plain_row_of(bytes: &[u8], start: usize, end: usize, side: u8) -> Option<BitR
     Some(row & BitRow::below(side))
 }
 
-// Reads module by module. Not inlined, since few rows need it: WebAssembly is sent over the network.
+// The columns of the row from byte `start` on whose byte is `byte`, read module by module. Not inlined, since few rows
+// need it, and the code for WebAssembly, which is sent over the network, is then shorter.
 #[inline(never)]
 fn modules_of(bytes: &[u8], start: usize, side: u8, byte: u8) -> BitRow
     requires room { start + side ≤ length bytes.now }
@@ -120,7 +122,8 @@ fn rows_of(bytes: &[u8], start: usize, end: usize, side: u8) -> (BitRow, BitRow)
     }
 }
 
-/// Returns the square that `bytes` begins with. Bytes after the square are not read.
+/// Returns the square that `bytes` begins with, row by row: every byte but 0 is a dark module. Bytes after the square
+/// are not read.
 ///
 /// # Errors
 ///
@@ -142,8 +145,8 @@ pub fn matrix_of_bytes(alloc: Global, bytes: &[u8], side: u8) -> Result<Matrix, 
     Ok(matrix)
 }
 
-/// Returns the square that `bytes` begins with, as `matrix_of_bytes` does, and the square in which exactly the modules
-/// that are not known, the bytes 2, are dark.
+/// Returns the square that `bytes` begins with, as `matrix_of_bytes` does, and a second square, in which a module is
+/// dark exactly if its byte is 2, which means that it is not known.
 ///
 /// # Errors
 ///
@@ -175,8 +178,8 @@ pub fn matrices_of_bytes(
 // 1 in each byte; a product with it is eight copies of a byte.
 const ONES: u64 = 0x0101_0101_0101_0101;
 
-// Byte `k` of the result is bit `k`. Of copy `k` of the bits only bit `k` is kept. Unless it is 0, adding 7F carries
-// into the highest bit of its byte.
+// Byte `k` of the result is bit `k` of `bits`. The product has eight copies of `bits`, and of copy `k` only bit `k` is
+// kept. If this bit is 1, adding 7F (hexadecimal) sets the highest bit of the byte.
 #[inline(always)]
 fn eight_bytes(bits: u64) -> [u8; 8]
     requires { bits < 256 }
@@ -187,7 +190,8 @@ fn eight_bytes(bits: u64) -> [u8; 8]
     (carried >> 7 & ONES).to_le_bytes()
 }
 
-// Writes the lowest `count` bits of a word from byte `at` on, and up to seven more.
+// Writes the lowest `count` bits of a word as bytes, from byte `at` on. Eight bytes are written at a time, so up to
+// seven bytes after these change too.
 #[inline(always)]
 fn write_word(word: u64, count: u8, at: usize, bytes: &mut [u8])
     requires most { count ≤ 64 }
@@ -205,7 +209,7 @@ fn write_word(word: u64, count: u8, at: usize, bytes: &mut [u8])
     }
 }
 
-// Writes the words of a row, and up to seven bytes after it.
+// Writes a row as bytes, from byte `start` on. Up to seven bytes after the row change too.
 fn write_words(matrix: &Matrix, row: usize, start: usize, bytes: &mut [u8])
     requires row_in { row < matrix.now.side }
     requires room { start + matrix.now.side + 7 ≤ length bytes.old }
@@ -237,7 +241,7 @@ fn write_modules(matrix: &Matrix, row: u8, start: usize, bytes: &mut [u8])
     }
 }
 
-// Writes a row, and only bytes before byte `end`.
+// Writes a row as bytes, from byte `start` on, and changes no byte from byte `end` on.
 fn write_row(matrix: &Matrix, row: u8, start: usize, end: usize, bytes: &mut [u8])
     requires row_in { row < matrix.now.side }
     requires room { start + matrix.now.side ≤ end }
@@ -254,7 +258,8 @@ fn write_row(matrix: &Matrix, row: u8, start: usize, end: usize, bytes: &mut [u8
     }
 }
 
-/// Writes the modules to `bytes` from byte `start` on. The bytes before and after them stay the same.
+/// Writes the modules to `bytes`, row by row from byte `start` on: 1 for a dark module, and 0 for a light one. The
+/// bytes before and after them stay the same.
 pub fn write_square(matrix: &Matrix, start: usize, bytes: &mut [u8])
     requires { start + matrix.now.side * matrix.now.side ≤ length bytes.old }
     ensures modules { (row col : ℕ) → row < matrix.now.side → col < matrix.now.side

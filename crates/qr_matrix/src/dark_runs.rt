@@ -18,7 +18,7 @@ pub struct Run {
 /// An iterator over the dark runs of a row, from left to right. Contracts see it as the list of the runs that are left.
 #[derive(Drop)]
 pub struct DarkRuns {
-    // The starts and the ends of the runs that are left, in turn.
+    // The columns at which the runs that are left start or end; from left to right, starts and ends take turns.
     changes: BitRow,
 }
 

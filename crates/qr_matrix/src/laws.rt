@@ -15,8 +15,8 @@ use crate::runs::runs_and_squares_of;
 use crate::windows::window_count_of;
 use std::alloc::AllocError;
 
-/// For some squares, the definition of the penalty gives the points that were counted by hand from Table 11; it finds
-/// the ratio 1:1:3:1:1 both before and after four light modules.
+/// For some squares, the definition of the penalty gives the points that were counted by hand from Table 11. It finds
+/// the ratio 1:1:3:1:1 both before four light modules and after them.
 #[tactic(auto, unfolding(crate::specs::Penalty::penalty_of, crate::specs::Penalty::over_lines, crate::specs::Penalty::run_cost, crate::specs::Penalty::is_run, crate::specs::Penalty::window_count, crate::specs::Penalty::is_window, crate::specs::Penalty::square_count, crate::specs::Penalty::is_square_of_two, crate::specs::Sums::places_passing, crate::specs::Penalty::dark_cost))]
 pub fn penalties_compute()
     ensures one { penalty_of 1 all_light ≡ 100 }
@@ -34,22 +34,24 @@ pub fn runs_cost_by_places()
     ensures { (side : ℕ) (line : ℕ → Bool) → run_cost side line ≡ place_cost side line }
 {}
 
-/// Returns the points for the runs in all rows and columns: counted 64 modules at a time, they are as many as counted
-/// run by run.
+/// Returns the points for the runs in all rows and columns. They are counted 64 modules at a time, and are as many as
+/// the definition counts run by run.
 pub fn runs_on_words(m: &Matrix) -> u32
     ensures { result ≡ over_lines m.now.side (colour m.now) (run_cost m.now.side) }
 {
     runs_and_squares_of(m).0
 }
 
-/// Returns the number of two by two squares of one colour: counted 64 modules at a time, it is that of the definition.
+/// Returns the number of two by two squares of one colour. It is counted 64 modules at a time, and is the number that
+/// the definition gives.
 pub fn squares_on_words(m: &Matrix) -> u32
     ensures { result ≡ square_count m.now.side (colour m.now) }
 {
     runs_and_squares_of(m).1
 }
 
-/// Returns the number of windows in all rows and columns: counted 64 modules at a time, it is that of the definition.
+/// Returns the number of windows in all rows and columns. It is counted 64 modules at a time, and is the number that
+/// the definition gives.
 pub fn windows_on_words(m: &Matrix) -> u32
     ensures { result ≡ over_lines m.now.side (colour m.now) (window_count m.now.side) }
 {

@@ -81,7 +81,8 @@ impl Matrix {
         self.rows[usize::from(row)].four(col)
     }
 
-    /// Returns the eight modules of row `row` from column `col` on, as `four` does; those outside the square are light.
+    /// Returns the eight modules of row `row` from column `col` on as a number: the leftmost is the lowest bit, and a
+    /// set bit is dark. Modules outside the square are light.
     #[tactic(auto, using(crate::proofs::Named::row_facts))]
     pub fn eight(&self, row: u8, col: u8) -> u8
         requires row_in { row < self.now.side }
@@ -92,8 +93,8 @@ impl Matrix {
         self.rows[usize::from(row)].eight(col)
     }
 
-    /// Returns the end of the run in row `row` that contains column `col`: the first column after `col` of another
-    /// colour, or the side if there is none.
+    /// Returns the end of the run in row `row` that contains column `col`: the first column after `col` whose module
+    /// has another colour, or the side if there is none.
     pub fn run_end(&self, row: u8, col: u8) -> u8
         requires row_in { row < self.now.side }
         requires col_in { col < self.now.side }
@@ -104,7 +105,8 @@ impl Matrix {
         later.first().min(side)
     }
 
-    // Light surrounds the square: column 0 is a change if it is dark, and column `side` if the last one is.
+    // Returns the columns whose module has another colour than the one to its left. Outside the square every module is
+    // light. So column 0 is returned if its module is dark, and column `side` if the last module is dark.
     #[tactic(auto, unfolding(crate::specs::Steps::is_change))]
     pub(crate) fn changes(&self, row: u8) -> BitRow
         requires { row < self.now.side }
@@ -181,8 +183,8 @@ impl Matrix {
         self.rows[row].put_word(number, word);
     }
 
-    /// Sets row `row` to that of `plain`, and inverts each module that is dark in `within` and whose bit of `pattern`
-    /// is 1. The six bits of `pattern` repeat every six columns, the lowest bit first.
+    /// Copies row `row` of `plain` into this square. The module in column `col` is inverted if this place is dark in
+    /// `within` and bit `col % 6` of `pattern` is 1; bit 0 is the lowest bit.
     #[tactic(auto, using(crate::proofs::Named::replaced_facts))]
     pub fn set_row_masked(&mut self, row: u8, plain: &Matrix, within: &Matrix, pattern: u8)
         requires row_in { row < self.old.side }

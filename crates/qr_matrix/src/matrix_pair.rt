@@ -1,4 +1,4 @@
-//! Two squares of one side, on whose modules one operation works at once.
+//! Two squares with the same side, stored so that one operation works on modules of both.
 
 ghost use Rattle.std.specs.Prelude.{◌≡◌, ℕ, Bool, ◌+◌, ◌-◌, ◌%◌, ◌<◌, ◌≤◌, ◌&&◌, ◌==◌, nat_le, nat_lt, not, true, false, if◌then◌else◌, IfOk};
 ghost use Rattle.qr_matrix.specs.Grid.{colour, light, one_of, painted, square, with_row, IsSquare};
@@ -12,7 +12,7 @@ use crate::rows::{Rows, Squares, words_for};
 use std::alloc::{AllocError, Global};
 use std::marker::Model;
 
-/// Two squares of 1 to 177 modules on a side. Contracts see them as two grids.
+/// Two squares with the same side, of 1 to 177 modules. Contracts see them as two grids.
 #[derive(Drop)]
 pub struct MatrixPair {
     side: u8,
@@ -74,8 +74,8 @@ impl MatrixPair {
         self.rows[row].put_words(words, bits);
     }
 
-    /// Makes the module in row `row` and column `col` of each square dark if its part of `dark` is true, and light
-    /// otherwise.
+    /// Makes the module in row `row` and column `col` of each square dark if the square's part of `dark` is true, and
+    /// light otherwise.
     pub fn set(&mut self, row: u8, col: u8, dark: (bool, bool))
         requires row_in { row < self.old.first.side }
         requires col_in { col < self.old.first.side }
@@ -85,8 +85,8 @@ impl MatrixPair {
         self.rows[usize::from(row)].put(col, dark);
     }
 
-    /// Sets the `count` modules of row `row` from column `col` on: in each square the module in column `col + k` becomes
-    /// dark if bit `k` of its part of `bits` is 1, and light otherwise.
+    /// Sets the `count` modules of row `row` from column `col` on: in each square the module in column `col + k`
+    /// becomes dark if bit `k` of the square's part of `bits` is 1, and light otherwise.
     #[inline(always)]
     pub fn set_columns(&mut self, row: u8, col: u8, count: u8, bits: (u64, u64))
         requires row_in { row < self.old.first.side }
@@ -151,8 +151,8 @@ impl MatrixPair {
         }
     }
 
-    /// Sets every twelfth row from row `first` on, in each square as `Matrix::set_row_masked` does, by its part of
-    /// `patterns`.
+    /// Sets every twelfth row of both squares, from row `first` on. In each square it sets them as
+    /// `Matrix::set_row_masked` does, with the square's part of `patterns`.
     pub fn set_rows_masked(
         &mut self,
         first: u8,

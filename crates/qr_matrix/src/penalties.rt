@@ -19,10 +19,11 @@ const SQUARE_POINTS: u32 = 3;
 
 const WINDOW_POINTS: u32 = 40;
 
-// For each whole 5 % by which the share of dark modules differs from a half.
+// The points for each whole 5 % by which the share of dark modules differs from a half.
 const BALANCE_POINTS: u32 = 10;
 
-// Four rows are added before they are counted, and those that are left are counted one by one.
+// The number of dark modules. Four rows at a time are added before they are counted; up to three rows that are left are
+// counted one by one.
 #[inline(never)]
 fn dark_count<S: Squares, const WORDS: u8>(squares: &S) -> <S::Row as Rows>::Counts
     requires width { NeedsWords (S.size squares.now) WORDS }
@@ -55,7 +56,8 @@ fn dark_count<S: Squares, const WORDS: u8>(squares: &S) -> <S::Row as Rows>::Cou
     total
 }
 
-// Counts in twentieths (5 %) of the modules: `20 * dark / modules` twentieths are dark, and 10 are a half.
+// The points for the share of dark modules, in twentieths (5 %) of all modules: `20 * dark / modules` twentieths are
+// dark, and 10 twentieths are a half.
 fn balance_cost(modules: u32, dark: u32) -> u32
     requires some { 0 < modules }
     requires most { modules ≤ 31329 }

@@ -1,4 +1,4 @@
-//! The bit rows of two squares, side by side in vectors, on which one operation works on 64 modules of each square.
+//! The bit rows of two squares, side by side in vectors, so that one operation works on 64 modules of each square.
 
 ghost use Rattle.std.specs.Prelude.{◌≡◌, ℕ, Bool, List, ◌+◌, ◌-◌, ◌*◌, ◌/◌, ◌%◌, ◌<◌, ◌≤◌, ◌&&◌, ◌||◌, ◌==◌, not, true, false, nat_le, nat_lt, if◌then◌else◌};
 ghost use Rattle.qr_matrix.specs.Grid.{is_same};
@@ -10,8 +10,8 @@ use crate::rows::Rows;
 use std::marker::Model;
 use std::simd::prelude::*;
 
-// A row of each of two squares: two rows of 192 bits in three words of 64 bits, the lowest first. A vector has one word
-// of each row.
+// A row of each of two squares. Each row has 192 bits, in three words of 64 bits. A vector has one word of each row;
+// `low` has the words with the lowest bits.
 #[derive(Clone, Copy)]
 pub(crate) struct RowPair {
     low: u64x2,
@@ -50,7 +50,7 @@ impl RowPair {
         }
     }
 
-    // Keeps the first `words` words of each row.
+    // Keeps the first `words` words of each row, and clears the others.
     #[inline(always)]
     pub(crate) fn in_words(self, words: u8) -> RowPair
         requires some { 1 ≤ words }
@@ -74,7 +74,7 @@ impl RowPair {
         }
     }
 
-    // Gives the first `words` words of each row the bits of `bits`.
+    // Replaces the first `words` words of each row by those of `bits`.
     #[inline(always)]
     pub(crate) fn put_words(&mut self, words: u8, bits: RowPair)
         requires some { 1 ≤ words }
@@ -106,7 +106,7 @@ impl RowPair {
         )
     }
 
-    // Sets bit `index` of each row, or clears it.
+    // Sets bit `index` of each row if the row's part of `dark` is true, and clears it otherwise.
     #[inline(always)]
     pub(crate) fn put(&mut self, index: u8, dark: (bool, bool))
         requires { index < 192 }
@@ -122,7 +122,7 @@ impl RowPair {
         }
     }
 
-    // In word `number` of each row, gives the bits that are set in `mask` the values that they have in `bits`.
+    // In word `number` of each row, replaces the bits at which `mask` has a 1 by those of the row's part of `bits`.
     #[inline(always)]
     fn put_in(&mut self, number: u8, mask: u64, bits: (u64, u64))
         requires { number < 3 }
@@ -137,8 +137,8 @@ impl RowPair {
         }
     }
 
-    // Gives the `count` bits from bit `index` on of each row the values of the lowest bits of its part of `bits`. They may
-    // be in two words.
+    // In each row, replaces the `count` bits from bit `index` on by the lowest bits of the row's part of `bits`. The
+    // bits that are replaced may be in two words.
     #[inline(always)]
     pub(crate) fn put_bits(&mut self, index: u8, count: u8, bits: (u64, u64))
         requires few { count ≤ 64 }
@@ -159,7 +159,7 @@ impl RowPair {
     }
 }
 
-// Sets bit `at` of each word, or clears it.
+// Sets bit `at` of each word if the word's part of `dark` is true, and clears it otherwise.
 #[inline(always)]
 fn with_bit(words: u64x2, at: u8, dark: (bool, bool)) -> u64x2
     requires in_word { at < 64 }
@@ -172,7 +172,7 @@ fn with_bit(words: u64x2, at: u8, dark: (bool, bool)) -> u64x2
     words & u64x2::splat(!(1u64 << at)) | bits
 }
 
-// Gives the bits of each word that are set in `mask` the values that they have in its part of `bits`.
+// Replaces the bits of each word at which `mask` has a 1 by those of the word's part of `bits`.
 #[inline(always)]
 fn with_bits(words: u64x2, mask: u64, bits: (u64, u64)) -> u64x2
     requires { IsPair words }

@@ -1,5 +1,6 @@
-//! What the penalty needs of squares: `Squares` is one square, or two that are worked on at once; `Rows` is a row of
-//! each. `second` says which of two squares is meant; for one square it has no meaning.
+//! What the penalty needs of squares: `Squares` is one square, or two squares on which one operation works at once;
+//! `Rows` is a row of each of them. In contracts `second` says which of the two squares is meant; for one square it has
+//! no meaning.
 
 ghost use Rattle.std.specs.Prelude.{◌≡◌, ℕ, Bool, ◌+◌, ◌-◌, ◌*◌, ◌<◌, ◌≤◌, ◌&&◌, ◌||◌, not, true, false, nat_lt};
 ghost use Rattle.qr_matrix.specs.Grid.{colour, is_same};
@@ -60,14 +61,14 @@ pub(crate) trait Rows: Copy {
         requires { (second : Bool) → number counts second ≤ 1000000 }
         ensures { (second : Bool) → number result second ≡ 2 * number counts second };
 
-    // Adds to `counts` how many bits are set.
+    // Adds to the number of each square in `counts` how many bits are set in its row.
     fn add_to(self, counts: Self::Counts) -> Self::Counts
         requires { (second : Bool) → number counts second ≤ 1000000 }
         ensures value { (second : Bool) → number result second
             ≡ number counts second + set_count (bit self second) }
         ensures bound { (second : Bool) → number result second ≤ number counts second + 192 };
 
-    // As `add_to`, for rows that mostly are empty.
+    // As `add_to`, but faster if most of the rows that are counted have no set bit.
     fn add_rare_to(self, counts: Self::Counts) -> Self::Counts
         requires { (second : Bool) → number counts second ≤ 1000000 }
         ensures { (second : Bool) → number result second ≡ number counts second + set_count (bit self second) };
@@ -85,7 +86,7 @@ pub(crate) trait Squares {
         ensures least { 1 ≤ result }
         ensures most { result ≤ 177 };
 
-    // Returns row `row`, of which the compiler sees that the words after the first `words` are 0.
+    // Returns row `row`. The compiler sees that its words after the first `words` are 0.
     fn row_in(&self, row: usize, words: u8) -> Self::Row
         requires row_in { row < size self.now }
         requires width { NeedsWords (size self.now) words }
@@ -93,8 +94,8 @@ pub(crate) trait Squares {
         ensures past { (second : Bool) (c : ℕ) → size self.now ≤ c → Self.Row.bit result second c ≡ false };
 }
 
-// How many words a row of `side` modules takes. Loops over rows are compiled once for each number, without the empty
-// words.
+// Returns how many words a row of `side` modules takes. Loops over rows are compiled once for each number of words, and
+// leave out the words that are always empty.
 pub(crate) fn words_for(side: u8) -> u8
     requires least { 1 ≤ side }
     requires most { side ≤ 177 }

@@ -4,8 +4,8 @@ ghost use Rattle.std.specs.Prelude.{◌≡◌, ℕ, Bool, ◌+◌, ◌&&◌};
 
 use crate::rows::Rows;
 
-// The columns at which a square begins, if `joins` are those that have the colour of the next column, and `below` those
-// that have the colour of the next row.
+// The columns at which a square begins. `joins` are the columns whose module has the colour of the next module of the
+// row, and `below` those whose module has the colour of the one below it.
 #[inline(always)]
 pub(crate) fn squares_at<R: Rows>(joins: R, below: R) -> R
     ensures { (second : Bool) (c : ℕ) → R.bit result second c

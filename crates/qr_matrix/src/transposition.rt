@@ -4,7 +4,8 @@
 //! upper right part with the lower left. The second does the same in each of the four parts, and so on down to single
 //! bits. In a stage, `steps` is the side of a part, and `mask` has the columns of the left parts.
 //!
-//! Band `band` is the rows from `64 * band` on, at most 64; its tile at `word` begins in column `64 * word`.
+//! A band is up to 64 rows, and has a tile for each word of a row. Band `band` begins at row `64 * band`, and its tile
+//! `word` at column `64 * word`.
 
 ghost use Rattle.std.specs.Prelude.{◌≡◌, ℕ, ◌+◌, ◌-◌, ◌*◌, ◌/◌, ◌%◌, ◌<◌, ◌≤◌, ◌&&◌, ◌==◌, ◌⊎◌, nat_lt, if◌then◌else◌, false, slice_index};
 ghost use Rattle.qr_matrix.specs.Grid.{square, colour, IsSquare};
@@ -13,8 +14,8 @@ ghost use Rattle.qr_matrix.specs.Steps.{bit_in, exchanged};
 
 use crate::matrix::Matrix;
 
-// Exchanges the right parts of `upper` with the left parts of `lower`: inverts, in both, the bits in which these parts
-// differ.
+// Exchanges the right parts of `upper` with the left parts of `lower`. In both words it inverts the bits in which these
+// parts differ.
 #[inline(always)]
 #[tactic(auto, using(crate::proofs::Named::exchange_facts))]
 fn exchange_words(upper: u64, lower: u64, steps: usize, mask: u64) -> (u64, u64)
@@ -90,7 +91,7 @@ fn tile_of(matrix: &Matrix, band: usize, word: usize) -> [u64; 64]
     tile
 }
 
-// Leaves out the rows of the tile that are below the square.
+// Writes a tile into the square. The rows of the tile that are below the square are left out.
 fn set_tile(matrix: &mut Matrix, band: usize, word: usize, tile: &[u64; 64])
     requires whole { IsSquare matrix.old.side matrix.old }
     requires band_in { 64 * band ≤ matrix.old.side }
@@ -107,7 +108,7 @@ fn set_tile(matrix: &mut Matrix, band: usize, word: usize, tile: &[u64; 64])
     }
 }
 
-// Sets the tile at `band` and `word` to the transposed tile of `other` at band `word` and word `band`.
+// Sets tile `word` of band `band` to tile `band` of band `word` of `other`, transposed.
 fn set_transposed_tile(matrix: &mut Matrix, other: &Matrix, band: usize, word: usize)
     requires whole { IsSquare matrix.old.side matrix.old }
     requires sides { other.now.side ≡ matrix.old.side }

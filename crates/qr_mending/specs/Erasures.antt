@@ -12,8 +12,8 @@ read_of (x ∷ xs) [] = Some x ∷ read_of xs []
 read_of (x ∷ xs) (true ∷ erased) = None ∷ read_of xs erased
 read_of (x ∷ xs) (false ∷ erased) = Some x ∷ read_of xs erased
 
--- `read` is mended to a block by at most `spare` of its `n` error correction codewords: an erased codeword takes one, a
--- misread one two, since its index is not known (ISO/IEC 18004:2015, 7.5.1)
+-- What was read is mended to a block by at most `spare` of its `n` error correction codewords. An erased codeword takes
+-- one of them. A misread codeword takes two, since its index is not known (ISO/IEC 18004:2015, 7.5.1)
 pub record IsMendedWithErasures (n spare : ℕ) (read : List (Option ℕ)) (mended : List ℕ) : Type 0 where
   pub block : IsBlock n mended
   pub long : length mended ≡ length read

@@ -1,5 +1,6 @@
 -- How the format information of a damaged symbol is read. `g` is the square of modules as it was read, and `unknown` is
--- dark where a module was not read. Both copies should show `word`, or the word of level `l` and mask `mask`.
+-- dark where a module was not read. In the undamaged symbol both copies show `word`, which is the format information of
+-- level `l` and mask `mask`.
 use Rattle.std.specs.Prelude.{ℕ, ◌+◌, ◌*◌, ◌<◌, ◌≤◌, ◌&&◌, not, Bool, true, false}
 use Prim.Native.Nat.{zero, suc}
 use Rattle.qr_layout.specs.declared.level.Level.{Level}
@@ -30,8 +31,8 @@ unread_bits unknown copy = count_below 15 (copy_bit copy unknown)
 abbrev pub misread_bits : Grid → FormatCopy → Grid → (word : ℕ) → ℕ
 misread_bits unknown copy g word = count_below 15 (λ i. not (copy_bit copy unknown i) && not (is_same (copy_bit copy g i) (has_bit word i)))
 
--- The cost of a copy: 1 for each module that was not read, and 2 for each misread one, since nothing shows that it is
--- misread [own]
+-- The cost of a copy: 1 for each module that was not read, and 2 for each misread one, since nothing shows which
+-- modules are misread [own]
 abbrev pub copy_cost : Grid → FormatCopy → Grid → Level → ℕ → ℕ
 copy_cost unknown copy g l mask = unread_bits unknown copy + 2 * misread_bits unknown copy g (format_word_of l mask)
 
@@ -39,13 +40,13 @@ copy_cost unknown copy g l mask = unread_bits unknown copy + 2 * misread_bits un
 abbrev pub format_cost : Grid → Grid → Level → ℕ → ℕ
 format_cost unknown g l mask = copy_cost unknown First g l mask + copy_cost unknown Second g l mask
 
--- The copy costs at most 6 with the level and the mask, which are near to it then; at most one pair is, since two words
--- of format information differ in at least seven bits (ISO/IEC 18004:2015, 7.9.1, Annex C)
+-- The level and the mask are near to the copy: it costs at most 6 with them. At most one pair is near to a copy, since
+-- the format information of two pairs differs in at least seven bits (ISO/IEC 18004:2015, 7.9.1, Annex C)
 pub record IsNearFormat (unknown : Grid) (copy : FormatCopy) (g : Grid) (l : Level) (mask : ℕ) : Type 0 where
   pub in_range : mask < 8
   pub near : copy_cost unknown copy g l mask ≤ 6
 
--- A difference as a number, so that differences can be added [own]
+-- 1 if two bits differ, and 0 otherwise [own]
 abbrev pub bit_difference : Bool → Bool → ℕ
 bit_difference true true = 0
 bit_difference true false = 1

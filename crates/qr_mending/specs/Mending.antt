@@ -29,7 +29,7 @@ pub record HoldsDamaged (unknown : Grid) (v : ℕ) (l : Level) (mask : ℕ) (g :
   pub held : IsRead v mask g codewords
   pub mended : IsMendedIn unknown v l codewords message changed
 
--- No level and mask near to the copy mends the square (ISO/IEC 18004:2015, 7.5.1, 7.9.1, 12)
+-- No pair of level and mask that is near to the copy mends the square (ISO/IEC 18004:2015, 7.5.1, 7.9.1, 12)
 abbrev pub IsOfNoUse : Grid → FormatCopy → ℕ → Grid → Type 0
 IsOfNoUse unknown copy v g = (l : Level) (mask : ℕ) → IsNearFormat unknown copy g l mask
     → (message changed : List ℕ) → HoldsDamaged unknown v l mask g message changed → ⊥

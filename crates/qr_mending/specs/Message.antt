@@ -15,8 +15,8 @@ use Rattle.qr_layout.specs.Version.{total_codewords_of}
 use Rattle.qr_matrix.specs.Grid.{Grid, colour}
 use Rattle.qr_symbol.specs.Interleaving.{block_count, codeword_count, data_sizes, correction_sizes, part_of, IsGathered}
 
--- Block `i`: its part of `d`, the data codewords of all blocks, and then its part of `e`, their error correction
--- codewords (ISO/IEC 18004:2015, 7.5.1)
+-- Block `i`: its part of `d`, which lists the data codewords of all blocks, and then its part of `e`, which lists their
+-- error correction codewords (ISO/IEC 18004:2015, 7.5.1)
 abbrev pub received : Blocks → List ℕ → List ℕ → ℕ → List ℕ
 received b d e i = part_of (data_sizes b) d i ++ part_of (correction_sizes b) e i
 
@@ -24,7 +24,8 @@ received b d e i = part_of (data_sizes b) d i ++ part_of (correction_sizes b) e 
 abbrev pub modules_of : List Place → ℕ → List Place
 modules_of places k = take 8 (drop (8 * k) places)
 
--- What was read of codeword `k`: nothing if one of its modules was not read (ISO/IEC 18004:2015, 7.7.3)
+-- What was read of codeword `k`: `None` if one of its modules was not read, and its value otherwise (ISO/IEC
+-- 18004:2015, 7.7.3)
 abbrev pub read_at : Grid → List Place → List ℕ → ℕ → Option ℕ
 read_at unknown places cw k =
     if list_any (λ m. colour unknown m.row m.col) (modules_of places k) then None else Some (slice_index cw k)
@@ -35,13 +36,13 @@ pub record AreInBlocks (b : Blocks) (interleaved d e : List ℕ) : Type 0 where
   pub gathered : IsGathered (data_sizes b) interleaved d
   pub rest : IsGathered (correction_sizes b) (drop (codeword_count (data_sizes b)) interleaved) e
 
--- `indices` and `checks` list, block by block, the indices in the final sequence of the data codewords and of the error
--- correction codewords (ISO/IEC 18004:2015, 7.6)
+-- `indices` lists, block by block, the indices that the data codewords have in the final sequence, and `checks` lists
+-- those of the error correction codewords (ISO/IEC 18004:2015, 7.6)
 abbrev pub AreIndices : ℕ → Level → List ℕ → List ℕ → Type 0
 AreIndices v l indices checks = AreInBlocks (blocks_of v l) (range_with_len 0 (total_codewords_of v)) indices checks
 
--- Block `i`, of which `read` was read, can be mended to that of `message`: `misread` of its codewords are misread, and
--- mending takes at most `spare` error correction codewords (ISO/IEC 18004:2015, 7.5.1)
+-- Block `i`, of which `read` was read, can be mended to block `i` of `message`: `misread` of its codewords are misread,
+-- and mending takes at most `spare` error correction codewords (ISO/IEC 18004:2015, 7.5.1)
 pub record IsMendedBlock (b : Blocks) (spare : ℕ) (read : List (Option ℕ)) (message : List ℕ) (misread i : ℕ) : Type 0 where
   pub correction : List ℕ
   pub corrects : IsCorrection (part_of (data_sizes b) message i) b.ec_len correction

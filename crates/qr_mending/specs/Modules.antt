@@ -16,8 +16,8 @@ use Rattle.qr_mending.specs.Message.{modules_of, received, AreIndices}
 abbrev pub codeword_differences : Grid → Grid → List Place → ℕ → ℕ
 codeword_differences g h places k = count_by (λ m. differs g h m.row m.col) (modules_of places k)
 
--- At most six of the 30 modules of format information differ, and in each block at most as many modules as misread
--- codewords can be corrected there (ISO/IEC 18004:2015, 7.5.1, 7.9.1)
+-- At most six of the 30 modules of format information differ. Of each block at most as many modules differ as misread
+-- codewords can be corrected in it (ISO/IEC 18004:2015, 7.5.1, 7.9.1)
 pub record DifferInFewModules (v : ℕ) (l : Level) (g h : Grid) : Type 0 where
   pub format : bit_differences 15 (copy_bit First g) (copy_bit First h) + bit_differences 15 (copy_bit Second g) (copy_bit Second h) ≤ 6
   pub places : List Place

@@ -18,13 +18,14 @@ IsMendedContent g content = (v : ℕ) × (l : Level) × (mask : ℕ) × (changed
 abbrev pub IsMendedSeries : List Grid → List ℕ → Type 0
 IsMendedSeries squares bytes = IsJoinedBy IsMendedContent squares bytes
 
--- The faults for which squares are refused: `Memory` always, that of the first square that cannot be mended and read,
--- and `Series` if all can but do not belong together (ISO/IEC 18004:2015, 8.1 to 8.3, 12)
+-- The faults for which squares are refused. `Memory` is always possible. If some square cannot be mended and read, the
+-- fault is that of the first such square. If all can, but they do not belong together, it is `Series` (ISO/IEC
+-- 18004:2015, 8.1 to 8.3, 12)
 abbrev pub IsUnmendedSeries : List Grid → ReadFault → Type 0
 IsUnmendedSeries squares e = IsUnjoinedBy IsMendedContent (λ g. IsUnmended (light g.side) g) squares e
 
 -- The square `damaged`, of which all modules were read, is a damaged form of `whole`, and the level, the mask and the
--- data codewords of `whole` can be read as they stand (ISO/IEC 18004:2015, 7.5.1, 7.9.1, 12)
+-- data codewords of `whole` can be read without mending (ISO/IEC 18004:2015, 7.5.1, 7.9.1, 12)
 pub record IsDamagedSquare (damaged whole : Grid) : Type 0 where
   pub version : ℕ
   pub level : Level
@@ -36,6 +37,6 @@ pub record IsDamagedSquare (damaged whole : Grid) : Type 0 where
   pub holds : IsMessage version level mask whole message
   pub form : IsDamagedForm (light damaged.side) damaged version level mask message changed
 
--- As `IsDamagedSquare`, for the squares of two lists one by one [own]
+-- Each square of the first list is a damaged form of the square at the same index of the second list [own]
 unfoldable pub AreDamagedSquares : List Grid → List Grid → Type 0
 AreDamagedSquares damaged whole = AllZip IsDamagedSquare damaged whole

@@ -1,14 +1,14 @@
 //! Mends damaged blocks (ISO/IEC 18004:2015, 7.5.1 and Annex B). The codewords of a block are the coefficients of a
 //! polynomial, that of the highest power first. They are a block of the code exactly if the generator polynomial
-//! divides this polynomial. Its syndromes are its values at 2^0, 2^1 and so on, as many as there are error correction
-//! codewords. The remainder of the division by the generator polynomial is shorter, and has the same syndromes, so they
-//! are computed from it, and only as they are needed.
+//! divides this polynomial. The syndromes of the block are the values of this polynomial at 2^0, 2^1 and so on, as many
+//! as there are error correction codewords. The remainder of the division by the generator polynomial has the same
+//! syndromes, and is shorter. So the syndromes are computed from the remainder, and only as they are needed.
 //!
-//! A candidate is computed from the syndromes. It is taken only if it is a block, and differs from the codewords that
-//! were read in few enough of them.
+//! A candidate for the mended block is computed from the syndromes. It is taken only if it is a block of the code, and
+//! differs in few enough codewords from what was read.
 //!
-//! A block has at most 255 codewords, since there are 255 different powers of 2. At most 30 of these are error
-//! correction codewords (Table 9), so at most 15 misread ones can be corrected.
+//! A block has at most 255 codewords, since the field has 255 different powers of 2. At most 30 codewords of a block
+//! are error correction codewords (Table 9), so at most 15 misread codewords can be corrected.
 
 ghost use Rattle.std.specs.Prelude.{◌≡◌, ℕ, ◌*◌, ◌≤◌, List, length, IfSome, IfNone};
 ghost use Rattle.std.specs.Bool.{Decides, OnTrue, OnFalse};
@@ -58,7 +58,8 @@ fn sum(xs: &[u8], ys: &[u8]) -> ArrayVec<u8, 30>
     sum
 }
 
-// The remainder of the codewords, divided by the generator polynomial. Returns `None` if they are a block.
+// Divides the polynomial of the codewords by the generator polynomial, and returns the remainder. Returns `None` if the
+// codewords are a block.
 pub(crate) fn remainder(divisor: &Divisor, codewords: &[u8]) -> Option<ArrayVec<u8, 30>>
     requires { divisor.now ≤ length codewords.now }
     ensures block { IfNone result (IsBlock divisor.now codewords.now) }
@@ -83,8 +84,8 @@ fn is_mended(divisor: &Divisor, t: usize, damaged: &[u8], mended: &[u8]) -> bool
 }
 
 // Mends codewords that are no block. Most damaged blocks have few wrong codewords, and then the first syndromes
-// suffice. So a first candidate is computed as soon as the locator seems to be found, and a second one, if the first is
-// no solution, after all syndromes were taken in.
+// suffice. So a first candidate is computed as soon as the locator seems to be found. If it is no solution, the search
+// takes in the syndromes that are left, and then a second candidate is computed.
 fn mended_block(
     divisor: &Divisor,
     t: usize,

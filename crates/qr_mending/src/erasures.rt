@@ -40,10 +40,11 @@ fn modified_syndromes(polynomial: &[u8], syndromes: &[u8]) -> ArrayVec<u8, 30>
     modified
 }
 
-// The mended block, or if `damaged` cannot be mended, a list that the caller has to refuse. The product of the erasure
-// locator and the error locator has a root for each wrong codeword, erased or misread.
+// Returns the mended block. If `damaged` cannot be mended, returns some list of codewords, which the caller has to
+// refuse. The product of the erasure locator and the error locator has a root for each wrong codeword, erased or
+// misread.
 //
-// It is not inlined, so that its lists are on the stack only while it runs, and not while `mend` does.
+// It is not inlined, so that its lists are on the stack only while it runs, and not while `mend` runs.
 #[inline(never)]
 fn candidate(remainder: &[u8], spare: usize, erased: &[bool], damaged: &[u8]) -> ArrayVec<u8, 255>
     requires most { length remainder.now ≤ 30 }

@@ -3,8 +3,8 @@
 //! polynomial. `syndromes` lists the values of this polynomial at 2^0, 2^1 and so on. The locator is a polynomial with
 //! the root 2^place for each misread or erased codeword.
 //!
-//! Codeword after codeword is looked at, the first of the block first, until all roots are found. This is Chien's
-//! search. When a root is found, the locator is divided by the factor of this root. The divided locator still has a
+//! The codewords are tried one by one, from the first of the block on, until all roots are found. This is Chien's
+//! search. When 2^place is found to be a root, the locator is divided by x + 2^place. The divided locator still has a
 //! root for each error that is to come. Now each of its coefficients is multiplied by the syndrome at the same index,
 //! and these products are added up. The errors to come contribute 0 to this sum, so it is the error at this place,
 //! multiplied by the value of the divided locator at 2^place. This is a form of Forney's formula. Last, the error that
@@ -24,7 +24,7 @@ use arrayvec::ArrayVec;
 use qr_field::{div, exponent_of, mul, power_of};
 
 // Divides a polynomial by x + `root` by Horner's rule, and returns the value of the quotient at `root`. The quotient
-// has a coefficient less, so the last of `terms` becomes 0. The remainder is not computed.
+// has one coefficient less, so the last of `terms` becomes 0. The remainder is not computed.
 #[tactic(auto, using(crate::proofs::Named::division_facts))]
 fn divide(terms: &mut [u8], root: u8) -> u8
     ensures quotient { terms.new ≡ quotient root terms.old }
@@ -42,8 +42,8 @@ fn divide(terms: &mut [u8], root: u8) -> u8
     rest
 }
 
-// Divides `locator` by x + `root` until `root` is no root of it any more, and returns the value that it then has at
-// `root`.
+// Divides `locator` by x + `root` until `root` is no longer a root of `locator`. Returns the value that `locator` then
+// has at `root`.
 fn divide_out(locator: &mut ArrayVec<u8, 31>, root: u8) -> u8
     requires leading { HasLeadingOne locator.old.items }
     requires root { eval root locator.old.items ≡ 0 }
@@ -73,8 +73,8 @@ fn remove(syndromes: &mut [u8], error: u8, place: u8)
     }
 }
 
-// The error of the codeword at `place`, where the locator has a root. `locator` and `syndromes` become those of the
-// errors that are left, all of which are in later codewords.
+// Returns the error of the codeword at `place`, where the locator has a root. Afterwards `locator` and `syndromes` are
+// those of the errors that are left, which are all in later codewords.
 fn error(locator: &mut ArrayVec<u8, 31>, syndromes: &mut ArrayVec<u8, 30>, place: u8) -> u8
     requires leading { HasLeadingOne locator.old.items }
     requires long { array_vec_len locator.old ≤ array_vec_len syndromes.old + 1 }
@@ -117,7 +117,8 @@ fn remove_last(codewords: &mut [u8], root: u8, error: u8, left: usize)
     }
 }
 
-// Adds the errors to the codewords, which removes them, since equal elements of the field add up to 0.
+// Returns the codewords without their errors. Adding an error to its codeword removes it, since equal elements of the
+// field add up to 0.
 //
 // The search ends before the last codeword if it can. Once the locator is 1, no error is left. Once it is x + r, one
 // error is left: its place is the logarithm of r, and its value is the first syndrome. The values of the locator are

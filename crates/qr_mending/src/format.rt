@@ -20,7 +20,8 @@ use qr_layout::{
 // The number of which the 15 lowest bits are 1, and all others 0.
 const ALL_BITS: u16 = 0x7FFF;
 
-// The most that a copy may cost: three misread modules, or six that were not read.
+// The highest cost at which a level and a mask are near to a copy: that of three misread modules, or of six that were
+// not read.
 const COST_MAX: u8 = 6;
 
 #[derive(Clone, Copy)]
@@ -45,7 +46,7 @@ impl FormatCopy {
     }
 }
 
-// Bit 0 is the lowest.
+// Returns whether bit `i` is 1; bit 0 is the lowest.
 #[tactic(auto, unfolding(qr_matrix::specs::BitRow::has_bit))]
 fn is_bit_set(word: u16, i: u8) -> bool
     requires { i < 16 }
@@ -73,8 +74,8 @@ struct CopyDamage {
     misread: u8,
 }
 
-// A copy as two numbers, whose bit i is module i of the copy; bit 0 is the lowest. In `dark` it is 1 if the module is
-// dark, and in `unread` if the module was not read.
+// A copy as two numbers, in which bit i stands for the module that shows bit i of the format information; bit 0 is the
+// lowest. In `dark` a bit is 1 if its module is dark, and in `unread` if its module was not read.
 #[derive(Clone, Copy)]
 pub(crate) struct CopyBits {
     pub(crate) dark: u16,
@@ -95,7 +96,8 @@ impl CopyBits {
         CopyBits { dark, unread }
     }
 
-    // `word` is the format information that the copy should show. A module that was not read does not count as misread.
+    // Counts the wrong modules of the copy, if it should show the format information `word`. A module that was not read
+    // does not count as misread.
     fn damage(self, word: u16) -> CopyDamage
         ensures unread { (u g : Grid) (copy : FormatCopy) → AreBitsOf u copy g self → result.unread ≡ unread_bits u copy }
         ensures misread { (u g : Grid) (copy : FormatCopy) → AreBitsOf u copy g self
@@ -108,7 +110,8 @@ impl CopyBits {
         }
     }
 
-    // The bound is loose, and for the prover: it counts each of the 15 modules as unread and as misread.
+    // The cost of the copy, if it should show the format information `word`. The bound 45 is loose, and only for the
+    // prover: it counts each of the 15 modules as unread and as misread.
     fn cost(self, word: u16) -> u8
         ensures value { (u g : Grid) (copy : FormatCopy) → AreBitsOf u copy g self
             → result ≡ unread_bits u copy + 2 * misread_bits u copy g word }
@@ -119,7 +122,8 @@ impl CopyBits {
     }
 }
 
-// How many modules of a copy were not read or are misread. The bound is as loose as that of `cost`.
+// How many modules of a copy were not read or are misread. The bound 30 also counts each of the 15 modules as unread
+// and as misread.
 fn wrong_bits(scan: &Scan, copy: FormatCopy, word: u16) -> u8
     ensures value { result ≡ unread_bits scan.now.unknown.now copy + misread_bits scan.now.unknown.now copy scan.now.matrix.now word }
     ensures most { result ≤ 30 }
@@ -167,8 +171,9 @@ fn near_mask_of(bits: CopyBits, level: Level) -> Option<u8>
     None
 }
 
-// The first pair of level and mask that is found is the only one. For if two pairs are near to a copy, their words of
-// format information differ in at most six bits, but two such words differ in at least seven.
+// Returns the pair of level and mask that is near to the copy, if there is one. There cannot be two: if two pairs are
+// near to a copy, their format information differs in at most six bits, but that of any two pairs differs in at least
+// seven.
 pub(crate) fn near_format_of(scan: &Scan, copy: FormatCopy) -> Option<(Level, u8)>
     ensures { MatchOption result
         ((l : Level) (mask : ℕ) → IsNearFormat scan.now.unknown.now copy scan.now.matrix.now l mask → ⊥)

@@ -43,8 +43,8 @@ use qr_matrix::Matrix;
 use qr_symbol::ReadFault;
 use std::alloc::Global;
 
-/// A damaged block of at most 255 codewords is mended to at most one block, if the number of misread codewords that are
-/// allowed is at most half the number of its error correction codewords.
+/// A damaged block of at most 255 codewords is mended to at most one block. For this, the number of misread codewords
+/// that mending allows for must be at most half the number of error correction codewords.
 pub fn mended_blocks_are_one()
     ensures { (n t : ℕ) (damaged b c : List ℕ) → length damaged ≤ 255 → 2 * t ≤ n
         → IsMended n t damaged b → IsMended n t damaged c → b ≡ c }
@@ -57,16 +57,16 @@ pub fn blocks_mended_with_erasures_are_one()
         → IsMendedWithErasures n spare read b → IsMendedWithErasures n spare read c → b ≡ c }
 {}
 
-/// Without erased codewords, mending that takes at most `spare` error correction codewords has the same results as
-/// mending of at most `spare` / 2 misread codewords, rounded down.
+/// If no codeword is erased, mending that takes at most `spare` error correction codewords has the same results as
+/// mending at most `spare` / 2 misread codewords, rounded down.
 pub fn blocks_without_erasures_are_mended_alike()
     ensures { (n spare k : ℕ) (damaged mended : List ℕ)
         → IsMendedWithErasures n spare (read_of damaged (replicate k false)) mended ↔ IsMended n (spare / 2) damaged mended }
 {}
 
-/// A block of at most 255 codewords is also a block with fewer error correction codewords, if at least one is left: the
-/// generator polynomial of fewer divides that of more. So where two levels of a version have the same number of blocks,
-/// only the format information says which is meant.
+/// A block of at most 255 codewords is also a block with fewer error correction codewords, as long as there is at least
+/// one: the generator polynomial of the lower degree divides that of the higher degree. So if two levels of a version
+/// have the same number of blocks, only the format information says which level is meant.
 #[tactic(auto, using(crate::proofs::Named::law_facts))]
 pub fn blocks_are_those_of_weaker_levels()
     ensures { (n m : ℕ) (block : List ℕ) → 1 ≤ n → n ≤ m → length block ≤ 255 → IsBlock m block → IsBlock n block }
@@ -84,7 +84,7 @@ pub fn format_words_lie_apart()
 {}
 
 /// At most one pair of level and mask is near to a copy of the format information, that is, the copy costs at most 6
-/// with it. So at most two pairs are near to one of both copies, and mending tries at most two.
+/// with it. So at most two pairs are near to one of the two copies, and mending tries at most two.
 #[tactic(auto, using(crate::proofs::Named::law_facts))]
 pub fn near_format_is_one()
     ensures one { (unknown : Grid) (copy : FormatCopy) (g : Grid) (l k : Level) (m n : ℕ) → IsNearFormat unknown copy g l m
@@ -94,10 +94,10 @@ pub fn near_format_is_one()
         → ((l ≡ k) × (m ≡ n)) ⊎ (((l ≡ j) × (m ≡ i)) ⊎ ((k ≡ j) × (n ≡ i))) }
 {}
 
-/// In the cost of format information a module that was not read counts once and a misread one twice. As wrong modules
-/// both count once. Each copy is counted once. The example is a light square of which one module of the first copy was
-/// not read; it is compared with level M and mask 0. A level and a mask are near to a copy at a cost of 6, and not at
-/// 7.
+/// In the cost of a copy, a module that was not read counts once, and a misread one twice. In the number of wrong
+/// modules each of them counts once. The numbers of both copies are added. The example is a light square, compared with
+/// level M and mask 0; one module of its first copy was not read. A level and a mask are near to a copy at a cost of 6,
+/// and not at 7.
 pub fn format_costs_compute()
     ensures near { (unknown g : Grid) (copy : FormatCopy) (l : Level) (mask : ℕ) → mask < 8
         → copy_cost unknown copy g l mask ≡ 6 → IsNearFormat unknown copy g l mask }
@@ -113,8 +113,8 @@ pub fn format_costs_compute()
         ∷ record { row = 20; col = 8 } ∷ [] }
 {}
 
-/// At one version and level, the codewords of a damaged symbol are mended to at most one message, with one number of
-/// misread codewords for each block.
+/// With one version and one level, the codewords of a damaged symbol are mended to at most one message, with one number
+/// of misread codewords for each block.
 pub fn mended_messages_are_one(version: Version, level: Level)
     ensures { (unknown : Grid) (cw m n x y : List ℕ) → IsMendedIn unknown version level cw m x
         → IsMendedIn unknown version level cw n y
@@ -135,7 +135,7 @@ pub fn wrong_modules_are_one()
         → HasWrongModules unknown g v l m x a → HasWrongModules unknown g w k n y b → a ≡ b }
 {}
 
-/// If every module was read, none is wrong exactly if the square is that of the undamaged symbol.
+/// If every module was read, the number of wrong modules is 0 exactly if the square is the undamaged symbol.
 pub fn sound_squares_are_symbols()
     ensures { (g : Grid) (v : ℕ) (l : Level) (mask : ℕ) (changed : List ℕ) (wrong : ℕ)
         → IsSquare g.side g → (w : HasWrongModules (light g.side) g v l mask changed wrong)
@@ -187,16 +187,16 @@ pub fn mendings_are_refused_exactly(
 }
 
 /// Take two symbols of one version with different data codewords or levels. They differ in at least seven modules of
-/// each copy of the format information, or, in some block of which t codewords can be corrected, in more than 2t
-/// codewords.
+/// each copy of the format information, or they differ in more than 2t codewords of some block, where t is the number
+/// of misread codewords that can be corrected in it.
 #[tactic(auto, using(crate::proofs::Named::distance_facts))]
 pub fn symbols_lie_apart(version: Version)
     ensures { SymbolsLieApart version }
 {}
 
-/// A damaged symbol has to be read with a level and a mask (`HasFormat`) if both copies together cost at most 13 with
-/// them. It also has to be read with a pair that is near to one copy, whatever the other shows, if no other pair that
-/// is near to a copy mends the symbol.
+/// There are two cases in which a damaged symbol has to be read with a certain level and mask (`HasFormat`). In the
+/// first, both copies together cost at most 13 with this pair. In the second, the pair is near to one copy, whatever
+/// the other copy shows, and no other pair that is near to a copy mends the symbol.
 pub fn formats_are_found()
     ensures sure { (unknown : Grid) (v : ℕ) (g : Grid) (l : Level) (mask : ℕ) → mask < 8 → format_cost unknown g l mask ≤ 13
         → HasFormat unknown v g l mask }
@@ -207,9 +207,9 @@ pub fn formats_are_found()
         → HasFormat unknown v g l mask }
 {}
 
-/// A damaged symbol is mended to exactly its input if its blocks can be mended and the format information gives its
-/// level and mask (`formats_are_found`), unless memory is refused. All other modules may have any colour. The numbers
-/// of misread codewords and of wrong modules are exact.
+/// Unless memory is refused, a damaged symbol is mended to exactly its input if its blocks can be mended and the format
+/// information gives its level and mask; `formats_are_found` says when it does. All other modules may have any colour.
+/// The numbers of misread codewords and of wrong modules are exact.
 pub fn damaged_symbols_are_mended(
     alloc: Global,
     damaged: &Matrix,
@@ -229,9 +229,9 @@ pub fn damaged_symbols_are_mended(
     mend_symbol_with_unknown(alloc, damaged, unknown)
 }
 
-/// A symbol is mended to exactly its input, unless memory is refused, if at most six of its 30 modules of format
-/// information are wrong, and in each block at most `correctable` modules. Modules of function patterns, version
-/// information and remainder bits may have any colour.
+/// Unless memory is refused, a symbol is mended to exactly its input if few of its modules are wrong: at most six of
+/// the 30 modules of format information, and at most `correctable` modules of each block. Modules of function patterns,
+/// version information and remainder bits may have any colour.
 pub fn few_wrong_modules_are_mended(alloc: Global, damaged: &Matrix) -> Result<Mended, ReadFault>
     ensures { (smallest : ℕ) (l : Level) (rule : Rule) (i : Interpretation) (x : List ℕ) (v mask : ℕ) (g : Grid)
         → 1 ≤ smallest → MayWrite i x → (s : IsSymbol smallest l rule i x v mask g) → damaged.now.side ≡ g.side → DifferInFewModules v l damaged.now g

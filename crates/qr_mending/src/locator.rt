@@ -5,9 +5,10 @@
 //! the syndrome at index i + k, for each k, and these products are added up. The polynomial solves the equation if this
 //! sum, the discrepancy, is 0. The window of equation i is the list of syndromes from index i on.
 //!
-//! The syndromes are taken in one by one. With each, the window of one more equation has as many items as the
-//! polynomial has coefficients. If the polynomial does not solve this equation, a multiple of an earlier polynomial is
-//! added, and if need be the degree rises. The degree is never higher than the number of misread codewords.
+//! The syndromes are taken in one by one. With each syndrome one more equation can be tested: the one whose window now
+//! has as many items as the polynomial has coefficients. If the polynomial does not solve this equation, a multiple of
+//! an earlier polynomial is added to it, and its degree may rise. The degree is never higher than the number of misread
+//! codewords.
 
 ghost use Rattle.std.specs.Prelude.{◌≡◌, ℕ, ◌+◌, ◌*◌, ◌<◌, ◌≤◌, List, false, length};
 ghost use Rattle.std.specs.Bool.{OnTrue, OnFalse};
@@ -21,8 +22,8 @@ use crate::sums::push_syndromes;
 use arrayvec::ArrayVec;
 use qr_field::div;
 
-// `best` solves all equations for which enough syndromes were taken in. `earlier` was the best before the degree last
-// rose. `discrepancy` is the sum that `earlier` has for the first equation that it does not solve.
+// `best` solves all equations for which enough syndromes were taken in. `earlier` is what `best` was before its degree
+// last rose. `discrepancy` is the sum that `earlier` has for the first equation that it does not solve.
 #[derive(Drop)]
 pub(crate) struct Search {
     pub(crate) best: Polynomial,
@@ -31,7 +32,7 @@ pub(crate) struct Search {
 }
 
 impl Search {
-    // Before the first syndrome.
+    // The search before the first syndrome is taken in.
     fn new() -> Search
         ensures search { (syndromes : List ℕ) → IsSearch 0 syndromes result }
         ensures degree { result.best.degree ≡ 0 }
@@ -44,14 +45,14 @@ impl Search {
         }
     }
 
-    // Takes in syndrome `i`. If the degree would rise above `t`, returns false and changes nothing; then over `t`
+    // Takes in syndrome `i`. If the degree would rise above `t`, returns false and changes nothing; then more than `t`
     // codewords are misread.
     //
     // The new equation has the index `i - degree`. The first equation that `earlier` does not solve has the index
     // `degree - 1`. If a polynomial is multiplied by x^s, its sum for equation j becomes the one that it had for
-    // equation j + s. So a multiplication by a power of x brings the two discrepancies to one equation, where they
-    // cancel. It is `earlier` that is multiplied if its equation comes after the new one, and otherwise `best`, whose
-    // degree then rises.
+    // equation j + s. So a multiplication by a power of x brings the two discrepancies to one equation, where a
+    // multiple of one cancels the other. If the equation of `earlier` is the new one or comes after it, `earlier` is
+    // multiplied. Otherwise `best` is multiplied, and its degree rises.
     fn take_in(&mut self, syndromes: &[u8], i: usize, t: usize) -> bool
         requires search { IsSearch i syndromes.now self.old }
         requires degree { self.old.best.degree ≤ t }
@@ -84,7 +85,7 @@ impl Search {
     }
 }
 
-// If over `t` codewords are misread, the result may be any polynomial.
+// Returns the error locator polynomial. If more than `t` codewords are misread, the result may be another polynomial.
 pub(crate) fn locator(syndromes: &[u8], t: usize) -> Polynomial
     requires small { t ≤ 15 }
     requires long { 2 * t ≤ length syndromes.now }
@@ -101,7 +102,7 @@ pub(crate) fn locator(syndromes: &[u8], t: usize) -> Polynomial
     search.best
 }
 
-// The first syndromes of a block, and the search after `taken` of them.
+// The first syndromes of a block, and the search after it took in `taken` of them.
 #[derive(Drop)]
 pub(crate) struct Progress {
     pub(crate) syndromes: ArrayVec<u8, 30>,
@@ -120,7 +121,7 @@ impl Progress {
         }
     }
 
-    // Computes further syndromes if all that are there were taken in.
+    // Computes further syndromes if the search took in all that were computed.
     fn prepare(&mut self, remainder: &[u8])
         requires few { length remainder.now ≤ 30 }
         requires left { self.old.taken < length remainder.now }
@@ -135,9 +136,9 @@ impl Progress {
         }
     }
 
-    // Takes in further syndromes, up to `2 * t`. If `early`, stops once `best` solves two equations more than its
-    // degree: then it seldom changes any more. If the degree would rise above `t`, returns false; then over `t`
-    // codewords are misread.
+    // Takes in further syndromes, until `2 * t` of them were taken in. If `early` is true, it stops as soon as `best`
+    // solves `degree + 2` equations, since `best` then seldom changes any more. If the degree would rise above `t`,
+    // returns false; then more than `t` codewords are misread.
     pub(crate) fn advance(&mut self, remainder: &[u8], t: usize, early: bool) -> bool
         requires progress { IsProgress t remainder.now self.old }
         requires small { t ≤ 15 }

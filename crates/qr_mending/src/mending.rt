@@ -1,5 +1,5 @@
 //! Mends and reads damaged symbols (ISO/IEC 18004:2015, 7.5.1, 7.9.1 and 12). A codeword is erased if one of its
-//! modules was not read. Its mark, in `marks`, is 0 exactly if it is not erased.
+//! modules was not read. Each codeword has a mark in `marks`, which is 0 exactly if the codeword is not erased.
 //!
 //! The cost of a copy of the format information with a level and a mask is 1 for each of its modules that was not read,
 //! and 2 for each that is misread if the symbol has this level and mask. A level and a mask are near to a copy if this
@@ -27,8 +27,9 @@ use qr_matrix::{Matrix, differences};
 use qr_symbol::{ReadFault, draw_symbol, read_codewords};
 use std::alloc::{AllocError, Global};
 
-// If both copies together cost at most this with a level and a mask, they cost more with every other. For two words of
-// format information differ in at least seven bits, so over both copies two pairs cost at least 28 together.
+// If both copies together cost at most this with one pair of level and mask, they cost more with every other pair. For
+// the format information of two pairs differs in at least seven bits of each copy, and each of these bits adds 2 to the
+// sum of the two costs. So over both copies this sum is at least 28.
 const COST_CERTAIN: u8 = 13;
 
 // A symbol whose blocks were mended: its data codewords and error correction codewords, block after block, and how many
@@ -42,7 +43,8 @@ pub(crate) struct MendedSquare {
     pub(crate) changed: Vec<usize>,
 }
 
-// Returns `None` if `near` is `None`, or if some block cannot be mended with this level and mask.
+// Mends all blocks with the level and the mask `near`. Returns `None` if `near` is `None`, or if some block cannot be
+// mended with this level and mask.
 fn mend_with(
     alloc: Global,
     scan: &Scan,
@@ -95,7 +97,7 @@ fn cost_of(scan: &Scan, mended: &MendedSquare) -> u8
     format_cost(scan, mended.level, mended.mask)
 }
 
-// Whether there is a mended square, and its level and mask cost less than all others.
+// Returns whether there is a mended square, and its level and mask cost so little that every other pair costs more.
 fn is_certain(scan: &Scan, mended: &Option<MendedSquare>) -> bool
     requires { IfSome mended.now (λ m. m.mask < 8) }
     ensures { OnTrue result (MatchOption mended.now ⊥
@@ -107,8 +109,8 @@ fn is_certain(scan: &Scan, mended: &Option<MendedSquare>) -> bool
     }
 }
 
-// The one whose level and mask cost less over both copies, or the first of equals. If there is only one, it is this
-// one.
+// Returns the mended square whose level and mask cost less over both copies, or the first if they cost the same. If
+// there is only one mended square, it is returned.
 fn nearer(
     scan: &Scan,
     first: Option<MendedSquare>,
@@ -133,7 +135,7 @@ fn nearer(
 // Of the pairs of level and mask that are near to a copy and mend the symbol, takes the one with the least cost over
 // both copies. At equal costs it takes the one near to the first copy. The second copy is not tried in two cases: if
 // the pair near to the first copy mends the symbol and costs at most `COST_CERTAIN`, or if the same pair is near to
-// both.
+// both copies.
 fn mend_by_format(alloc: Global, scan: &Scan) -> Result<Option<MendedSquare>, ReadFault>
     ensures mended { IfOk result (IsMendedByEither scan.now.unknown.now scan.now.version scan.now.matrix.now) }
     ensures fault { IfErr result (λ e. e ≡ ReadFault.Memory) }
@@ -152,8 +154,8 @@ fn mend_by_format(alloc: Global, scan: &Scan) -> Result<Option<MendedSquare>, Re
     Ok(nearer(scan, first, second))
 }
 
-// Compares the square with `symbol`, the undamaged symbol. Where a module was not read, `symbol` first gets another
-// colour than the square has, so that the two differ exactly where a module is wrong.
+// Counts the wrong modules by comparing the square with `symbol`, the undamaged symbol. Where a module was not read,
+// `symbol` first gets another colour than the square has, so that the two differ exactly where a module is wrong.
 fn count_wrong(scan: &Scan, mut symbol: Matrix) -> u32
     requires { symbol.side ≡ scan.now.matrix.now.side }
     ensures { result ≡ wrong_modules scan.now.unknown.now scan.now.matrix.now symbol }
@@ -170,7 +172,7 @@ fn count_wrong(scan: &Scan, mut symbol: Matrix) -> u32
     differences(scan.matrix, &symbol)
 }
 
-// Draws the undamaged symbol, whose final sequence is `codewords`, and compares the square with it.
+// Draws the undamaged symbol, whose final sequence is `codewords`, and counts the modules of the square that are wrong.
 fn count_wrong_modules(
     alloc: Global,
     scan: &Scan,
@@ -187,7 +189,7 @@ fn count_wrong_modules(
     Ok(count_wrong(scan, symbol))
 }
 
-// The fault of a symbol that no near pair of level and mask mends.
+// The fault of a symbol that is mended by no pair of level and mask that is near to a copy.
 fn refusal(scan: &Scan) -> ReadFault
     requires sized { IsOfVersion scan.now.matrix.now scan.now.version }
     requires useless { (any : FormatCopy) → IsOfNoUse scan.now.unknown.now any scan.now.version scan.now.matrix.now }
@@ -229,9 +231,9 @@ pub struct Mended {
 /// at most 6; it admits at most one pair. Of the admitted pairs that mend every block, the one with the least such sum
 /// over both copies is taken. Of two with the same sum it is the one that the first copy admits.
 ///
-/// So a symbol is mended to exactly itself if its blocks can be mended and that sum over both copies is at most 13. If
-/// six modules of format information are wrong, whichever they are, the sum is at most 12. Function patterns, version
-/// information and remainder bits have no effect on the content; their wrong modules are counted in
+/// So a damaged symbol becomes exactly the undamaged one if its blocks can be mended and that sum over both copies is
+/// at most 13. If six modules of format information are wrong, whichever they are, the sum is at most 12. Function
+/// patterns, version information and remainder bits have no effect on the content; their wrong modules are counted in
 /// `Mended::wrong_modules`.
 ///
 /// # Errors

@@ -1,5 +1,5 @@
-//! Mends the message of a damaged symbol, its data codewords, block by block (ISO/IEC 18004:2015, 7.5.1, 7.6 and
-//! 7.7.3). A codeword is erased if one of its modules was not read.
+//! Mends the message of a damaged symbol, that is its data codewords, block by block (ISO/IEC 18004:2015, 7.5.1, 7.6
+//! and 7.7.3). A codeword is erased if one of its modules was not read.
 
 ghost use Rattle.std.specs.Prelude.{◌≡◌, ℕ, ◌+◌, ◌*◌, ◌<◌, ◌≤◌, ◌==◌, ◌⊎◌, ◌++◌, ◌∷◌, [], false, not, map, take, drop, List, length, Err, IfOk, IfErr, IfSome, IfNone};
 ghost use Rattle.std.specs.Bool.{OnTrue};
@@ -22,8 +22,9 @@ use qr_matrix::Matrix;
 use qr_symbol::{BlockSizes, ReadFault, read_unmasked};
 use std::alloc::{AllocError, Global};
 
-// A mark for each codeword of a symbol: a byte with a bit for each of its modules, which is 1 if the module was not
-// read. Of most symbols all modules were read, so `AllZero` stands for a list of zeros.
+// A mark for each codeword of a symbol, in the order of the final sequence. A mark is a byte with a bit for each module
+// of its codeword, which is 1 if the module was not read. Usually all modules were read; then no list is made, and
+// `AllZero` stands for a list of zeros.
 #[derive(Drop)]
 pub(crate) enum Marks {
     AllZero,
@@ -42,7 +43,7 @@ fn is_light(square: &Matrix) -> bool
     true
 }
 
-// A module was not read if it is dark in `unknown`.
+// Returns the marks of all codewords. A module was not read if it is dark in `unknown`.
 pub(crate) fn read_marks(
     alloc: Global,
     version: Version,
@@ -61,8 +62,8 @@ pub(crate) fn read_marks(
     Ok(Marks::Each(marks))
 }
 
-// Codewords, or their marks, one block after the other. `data` has those of the data codewords, and `checks` those of
-// the error correction codewords.
+// The codewords of a symbol, or their marks, one block after the other. `data` has the data codewords or their marks,
+// and `checks` the error correction codewords or their marks.
 #[derive(Drop)]
 struct InBlocks {
     data: Vec<u8>,
@@ -79,8 +80,8 @@ fn in_blocks(alloc: Global, blocks: Blocks, interleaved: &[u8]) -> Result<InBloc
     Ok(InBlocks { data, checks })
 }
 
-// The final sequence of mended codewords. Their error correction codewords are known from mending, and are not computed
-// again. The memory of both lists is freed.
+// Returns the final sequence of the mended codewords. The error correction codewords are known from mending, so they
+// are not computed again. The memory of `message` and `corrections` is freed.
 pub(crate) fn interleaved(
     alloc: Global,
     version: Version,
@@ -100,7 +101,7 @@ pub(crate) fn interleaved(
     Ok(interleaved)
 }
 
-// As `Marks`, but one block after the other.
+// As `Marks`, but the marks are in the order of the blocks.
 #[derive(Drop)]
 enum MarksInBlocks {
     AllZero,
@@ -125,7 +126,7 @@ fn marks_in_blocks(
     }
 }
 
-// One block: data codewords, then error correction codewords.
+// One block: its data codewords, then its error correction codewords.
 fn block_of(
     alloc: Global,
     blocks: Blocks,
@@ -147,7 +148,7 @@ fn block_of(
     Ok(codewords)
 }
 
-// Appends, for each mark, true if it is not 0: then its codeword is erased.
+// Appends, for each mark, whether it is not 0, which means that its codeword is erased.
 fn push_erased(erased: &mut Vec<bool>, marks: &[u8]) -> Result<(), AllocError>
     ensures { IfOk result (λ _. erased.new.items ≡ erased.old.items ++ map (λ mark. not (mark == 0)) marks.now) }
 {
@@ -157,7 +158,8 @@ fn push_erased(erased: &mut Vec<bool>, marks: &[u8]) -> Result<(), AllocError>
     Ok(())
 }
 
-// Which codewords of one block are erased; an empty list if all codewords of the symbol were read.
+// Returns, for each codeword of block `block`, whether it is erased. The list is empty if all modules of the symbol
+// were read.
 fn erased_of(
     alloc: Global,
     blocks: Blocks,

@@ -36,7 +36,7 @@ impl Polynomial {
         &self.terms[..self.degree + 1]
     }
 
-    // The sum of the coefficients, each multiplied by the item of `window` at its index.
+    // The sum of the coefficients, each multiplied by the item of `window` at the same index.
     pub(crate) fn discrepancy(&self, window: &[u8]) -> u8
         requires fits { self.now.degree < 16 }
         requires long { self.now.degree < length window.now }

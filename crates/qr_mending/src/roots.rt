@@ -1,4 +1,4 @@
-//! Polynomials with a root for each erased codeword of a block: 2^m, where m is the number of codewords after it.
+//! Polynomials with a root for each erased codeword of a block: 2^m for a codeword that has m codewords after it.
 //! Coefficients begin with that of the lowest power.
 
 ghost use Rattle.std.specs.Prelude.{◌≡◌, ◌+◌, ◌<◌, ◌≤◌, length};
@@ -31,8 +31,8 @@ fn with_root(polynomial: &[u8], root: u8) -> ArrayVec<u8, 31>
     product
 }
 
-// The product of `polynomial` and a factor x + 2^m for each erased codeword. The loop runs backward for the prover. The
-// list has room for `polynomial`, so `try_extend_from_slice` cannot fail.
+// The product of `polynomial` and a factor x + 2^m for each erased codeword that has m codewords after it. The loop
+// runs backward for the prover. The list has room for `polynomial`, so `try_extend_from_slice` cannot fail.
 #[tactic(auto, using(crate::proofs::Named::root_facts))]
 pub(crate) fn with_roots(erased: &[bool], polynomial: &[u8]) -> ArrayVec<u8, 31>
     requires small { length erased.now ≤ 255 }

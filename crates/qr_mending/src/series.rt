@@ -30,7 +30,7 @@ fn mend_all(alloc: Global, damaged: &[Matrix]) -> Result<Vec<Parsed>, ReadFault>
 /// # Errors
 ///
 /// Returns the fault of the first symbol that cannot be mended, whatever the headers are. If all can be mended, returns
-/// `Series` if they are neither one symbol without a header nor a whole series, also if there are none. Returns
+/// `Series` if they are neither one symbol without a header nor a whole series; an empty list is neither. Returns
 /// `Memory` if an allocation is refused.
 ///
 /// # Notes

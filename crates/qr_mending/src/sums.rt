@@ -1,5 +1,5 @@
-//! Values of polynomials, and sums of products, over the field of 256 elements. The syndromes of a block are such
-//! values, and so is what Chien's search looks at. Sixteen of them are computed at once.
+//! Values of polynomials, and sums of products, over the field of 256 elements. The syndromes of a block are values of
+//! a polynomial, and Chien's search looks for values that are 0. Sixteen values are computed at once.
 
 ghost use Rattle.std.specs.Prelude.{◌≡◌, ℕ, ◌+◌, ◌*◌, ◌<◌, ◌≤◌, length, bit_xor, slice_index};
 ghost use Rattle.arrayvec.specs.ArrayVec.{array_vec_len};
@@ -13,8 +13,8 @@ ghost use Rattle.qr_mending.specs.Steps.Values.{sum_at};
 use arrayvec::ArrayVec;
 use qr_field::{doubled, exponent_of, mul, power_of};
 
-// Item 4 * j + d has sixteen products, a byte each, the first in the lowest bits: d times 2 to the powers 0, j, 2 * j
-// and so on up to 15 * j. Here d is 0 to 3, and j is 0 to 30.
+// Item 4 * j + d has sixteen products, one in each byte, the first in the lowest byte. They are the products of d and 2
+// to the powers 0, j, 2 * j and so on up to 15 * j. Here d is 0 to 3, and j is 0 to 30.
 static MULTIPLES: [u128; 124] = [
     0,
     0x01010101_01010101_01010101_01010101,
@@ -171,7 +171,8 @@ pub(crate) fn exponent_sum(i: u8, j: u8) -> u8
 }
 
 // Adds to item k of `sums`, for each k, the product of `element` and 2 to the power k * `step`. The exponent of this
-// product grows by `step` from item to item, so no product waits for the product before it.
+// product grows by `step` from item to item. So each product is looked up by its exponent, and does not wait for the
+// product before it.
 pub(crate) fn add_multiples(sums: &mut [u8], element: u8, step: u8)
     requires some { 1 ≤ element }
     requires small { step < 255 }
@@ -197,8 +198,8 @@ fn times_power(element: u8, i: u8, j: u8) -> u8
     power_of((exponent % 255) as u8)
 }
 
-// The products of `digit` and the powers of 2 to 0, `place`, 2 * `place` and so on up to 15 * `place`, a byte each, the
-// first in the lowest bits.
+// The products of `digit` and 2 to the powers 0, `place`, 2 * `place` and so on up to 15 * `place`, one in each byte,
+// the first in the lowest byte.
 fn multiples(place: u8, digit: u8) -> u128
     requires place { place < 31 }
     requires digit { digit < 4 }
@@ -214,9 +215,9 @@ fn fourfold(elements: u128) -> u128
     doubled(doubled(elements))
 }
 
-// Sixteen sums of products, a byte each. A factor is cut into four digits to the base 4, which have the weights 64, 16,
-// 4 and 1, and the table has the multiples by each digit. The products by digits of one weight are added up by
-// themselves. Only at the end, in `values`, are these four sums multiplied by their weights, and added.
+// Sixteen sums of products, one in each byte. A factor is cut into four digits to the base 4, which have the weights
+// 64, 16, 4 and 1. The table `MULTIPLES` has the products by each digit, and for each weight these products are added
+// up separately. Only at the end, in `values`, are these four sums multiplied by their weights, and added.
 #[derive(Clone, Copy)]
 pub(crate) struct Sums {
     pub(crate) ones: u128,
@@ -233,7 +234,7 @@ impl Sums {
         sixty_fours: 0,
     };
 
-    // Adds to each sum k the product of `factor` and 2 to the power k * `place`.
+    // Adds to sum k, for each k from 0 to 15, the product of `factor` and 2 to the power k * `place`.
     fn add(&mut self, factor: u8, place: u8)
         requires { place < 31 }
         ensures { (k : ℕ) → k < 16 → sum_at k self.new ≡ bit_xor (sum_at k self.old) (product factor (power (k * place))) }

@@ -17,13 +17,15 @@ DrawingsAreOne = (kind other : Drawing) (margin last : ℕ) (squares others : Li
     → IsDrawingOf kind margin squares text → IsDrawingOf other last others text
     → (kind ≡ other) × (margin ≡ last) × (squares ≡ others)
 
--- The symbol of an input has a drawing that is parsed, of each type and with each margin of at most 255 modules [own]
+-- The symbol of an input is drawn as a text that is parsed, for each type of drawing and each margin of at most 255
+-- modules [own]
 abbrev pub SymbolsAreDrawings : Type 0
 SymbolsAreDrawings = (kind : Drawing) (margin smallest : ℕ) (l : Level) (rule : Rule) (i : Interpretation) (x : List ℕ) (v mask : ℕ) (g : Grid)
     → margin ≤ 255 → 1 ≤ smallest → IsSymbol smallest l rule i x v mask g
     → IsDrawingOf kind margin (g ∷ []) (drawn kind margin (g ∷ []))
 
--- The series of an input has a drawing that is parsed, of each type and with each margin of at most 255 modules [own]
+-- The series of an input is drawn as a text that is parsed, for each type of drawing and each margin of at most 255
+-- modules [own]
 abbrev pub SeriesAreDrawings : Type 0
 SeriesAreDrawings = (kind : Drawing) (margin v : ℕ) (l : Level) (rule : Rule) (i : Interpretation) (x : List ℕ) (symbols : List Symbol)
     → margin ≤ 255 → 1 ≤ v → v ≤ 40 → IsSeries v l rule i x symbols

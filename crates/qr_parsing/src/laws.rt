@@ -1,5 +1,5 @@
-//! Laws of parsing. The contract of a function with an empty body is the law. The contracts of the others say what
-//! their code returns.
+//! Laws of parsing. The contract of a function with an empty body is the law. The contract of a function with code says
+//! what this code returns.
 
 ghost use Rattle.std.specs.Prelude.{◌≡◌, ◌↔◌, IfOk, IsTrue};
 ghost use Rattle.qr_parsing.specs.Laws.{DrawingsAreOne, SeriesAreDrawings, SymbolsAreDrawings};

@@ -48,7 +48,7 @@ pub struct Drawn {
     pub kind: Drawing,
     /// The number of light modules on each side of a square.
     pub margin: u8,
-    /// The 1 to 16 squares, all of one side, in the order in which they were drawn.
+    /// The 1 to 16 squares, all with the same side, in the order in which they were drawn.
     pub squares: Vec<Matrix>,
 }
 
@@ -149,8 +149,8 @@ fn all_begin(squares: &[Matrix]) -> bool
     true
 }
 
-// Draws what is shown again, and compares the drawing with `text`. The drawing has room for one byte more than `text`
-// has. If it needs that byte, it is not `text`, and the rest of it, however long, is not drawn.
+// Draws `shown` again, and returns whether this drawing is `text`. The drawing has room for one byte more than `text`
+// has. If it needs that byte, it is not `text`, and the rest of it is not drawn.
 fn is_drawn(alloc: Global, shown: &Drawn, text: &[u8]) -> Result<bool, AllocError>
     requires { CanBeDrawn shown.now.squares.items }
     ensures { IfOk result (λ b. Decides b (text.now ≡ drawn shown.now.kind shown.now.margin shown.now.squares.items)) }
@@ -183,9 +183,9 @@ fn is_drawing_of(alloc: Global, text: &[u8], shown: &Drawn) -> Result<bool, Allo
 /// Returns what the drawing `text` shows.
 ///
 /// It accepts the drawings that `qr_drawing::draw` makes, of each type and with a margin of 0 to 255 modules, if they
-/// show 1 to 16 squares that begin as every symbol does. The squares have one side, of 8 to 177 modules. The module at
-/// the top left of each is dark, and the one in column 7 of row 0 is light (ISO/IEC 18004:2015, 6.3.3, 6.3.4). Such a
-/// drawing is that of one type, one margin and one list of squares only.
+/// show 1 to 16 squares that begin as every symbol does. The squares have the same side, of 8 to 177 modules. The
+/// module at the top left of each square is dark, and the one in column 7 of row 0 is light (ISO/IEC 18004:2015, 6.3.3,
+/// 6.3.4). Such a text is the drawing of only one type, one margin and one list of squares.
 ///
 /// # Errors
 ///

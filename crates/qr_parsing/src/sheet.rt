@@ -1,7 +1,7 @@
-//! Sheets. A sheet is what a text or a document becomes before its modules are read, so that they are read alike in all
-//! types of drawing. Its bytes show the modules of all rasters of a drawing, raster after raster and row by row, and
-//! the index of the byte that shows a module can be computed. `k` is the index of a raster, and `y` and `x` are a row
-//! and a column of it. At most 687 modules are side by side, so rows and columns are below 1,000.
+//! Sheets. A text or a document is made into a sheet before its modules are read, so that all types of drawing are then
+//! read in the same way. The bytes of a sheet show the modules of all rasters of a drawing, raster after raster and row
+//! by row. So the index of the byte that shows a module can be computed. `k` is the index of a raster, and `y` and `x`
+//! are a row and a column of it. At most 687 modules are side by side, so rows and columns are below 1,000.
 
 ghost use Rattle.std.specs.Prelude.{◌≡◌, ℕ, ◌<◌, ◌≤◌, ◌+◌, ◌*◌, ◌⊎◌, false, true, length, slice_index_or, map, IfOk};
 ghost use Rattle.std.specs.List.{range_with_len};
@@ -14,7 +14,7 @@ use qr_matrix::matrix_of_bytes;
 use qr_symbol::Matrix;
 use std::alloc::{AllocError, Global};
 
-/// The side of the smallest squares that are parsed, which have a column 7.
+/// The side of the smallest squares that are parsed; they still have a column 7.
 pub(crate) const SIDE_MIN: usize = 8;
 
 /// The greatest number of rasters of a drawing.
@@ -66,8 +66,7 @@ fn is_dark_byte(kind: Drawing, y: usize, byte: u8) -> bool
     }
 }
 
-// Says whether the sheet shows a dark module. A module is light if the bytes end before it, as those of a drawing that
-// is cut off do.
+// Says whether the sheet shows a dark module. If a drawing is cut off, the modules after its end are light.
 #[tactic(auto, unfolding(crate::specs::Steps::Sheet::is_dark_on))]
 fn is_dark(sheet: &Sheet, k: usize, y: usize, x: usize) -> bool
     requires k_in { k < 16 }
@@ -104,10 +103,11 @@ fn is_sign(signs: (u8, u8), byte: u8) -> bool
     byte == signs.0 || byte == signs.1
 }
 
-// Writes `side` modules of a row into the bytes of `modules` from the index `start` on, and changes no others. The
-// first module is shown by the byte of `bytes` at the index `first`, and each of the others by that `step` bytes
-// further. A byte shows a dark module if it is one of the two signs. Compiled once for each type of drawing, so that
-// `step` and the signs are constants there, and many bytes are compared at once.
+// Writes `side` modules of a row into the bytes of `modules` from the index `start` on, and changes no other byte. The
+// first module is shown by the byte of `bytes` at the index `first`, and each later module by the byte that is `step`
+// bytes after that of the module before it. A byte shows a dark module if it is one of the two signs. The function is
+// compiled once for each type of drawing. There `step` and the signs are constants, so that many bytes are compared at
+// once.
 #[inline(always)]
 fn write_by(
     bytes: &[u8],
@@ -132,7 +132,7 @@ fn write_by(
 }
 
 // Writes row `y` of raster `k`, without the margin, into the bytes of `modules` from the index `start` on, and changes
-// no others.
+// no other byte.
 fn write_row(
     sheet: &Sheet,
     margin: usize,

@@ -12,16 +12,16 @@ use crate::sheet::{COUNT_MAX, SIDE_MIN, WIDTH_MAX};
 use crate::text::position_of;
 use std::alloc::{AllocError, Global};
 
-// The index of the document's width among the numbers. The numbers before it are of the version of XML (1, 0), its
-// encoding (8), the name of SVG (3, 2000), its version (1, 1) and the corner of the document (0, 0). Its height
-// follows.
+// The index of the document's width among the numbers in its text. The numbers before it are in the version of XML (1,
+// 0), the encoding (8), the name of SVG (3, 2000), the version of SVG (1, 1) and the corner of the document (0, 0). The
+// number after the width is the height.
 const WIDTH: usize = 9;
 
-// Each greater number is read as this one, which is in no drawing.
+// Each greater number is read as this one, which occurs in no drawing.
 const NUMBER_MAX: u32 = 99_999;
 
-// Returns the first decimal number in a text that another byte follows, and what follows that byte. The label of the
-// loop is for the prover.
+// Returns the first decimal number in a text, and the text after the byte that follows this number. A number at the
+// very end of the text is not returned. The label of the loop is for the prover.
 #[tactic(auto, unfolding(crate::specs::Steps::Svg::numbers_after))]
 fn next_number(text: &[u8]) -> Option<(u32, &[u8])>
     ensures small { IfSome result (λ s. s.0 ≤ 99999) }
@@ -44,7 +44,7 @@ fn next_number(text: &[u8]) -> Option<(u32, &[u8])>
     None
 }
 
-// Returns what follows the first `count` numbers, or an empty text if there are fewer.
+// Returns the text after the first `count` numbers, or an empty text if there are fewer.
 fn after_numbers(text: &[u8], count: usize) -> &[u8]
     ensures { numbers_in result.now ≡ drop count (numbers_in text.now) }
 {
@@ -58,7 +58,7 @@ fn after_numbers(text: &[u8], count: usize) -> &[u8]
     rest
 }
 
-// Returns the number with this index among the numbers of a text, or 0 if there are fewer.
+// Returns the number with the index `index` among the numbers of a text, or 0 if there are fewer.
 fn number_at(text: &[u8], index: usize) -> usize
     ensures { result ≡ slice_index_or (numbers_in text.now) index 0 }
 {
@@ -101,7 +101,8 @@ pub(crate) fn size_in(text: &[u8]) -> Option<Size>
     })
 }
 
-// Returns the number of at most five digits that begins at an index, and the index after the byte that follows it.
+// Returns the number of at most five digits that begins at index `at`, and the index after the byte that follows the
+// number.
 #[inline(always)]
 fn number_after(text: &[u8], at: usize) -> Option<(u32, usize)>
     requires { at + 6 ≤ length text.now }
@@ -129,8 +130,8 @@ struct DarkBox {
     modules: u32,
 }
 
-// Returns the box that begins at an index, and the index after it. A number is read only if six bytes are left for it,
-// and in a drawing at least as many are.
+// Returns the box that begins at index `at`, and the index after the box. A number is read only if at least six bytes
+// are left. In a drawing that is always so.
 fn box_at(text: &[u8], at: usize) -> Option<(DarkBox, usize)>
     requires { at ≤ length text.now }
     ensures within { IfSome result (λ s. (at < s.1) × (s.1 ≤ length text.now)) }
@@ -184,8 +185,8 @@ fn paint(bytes: &mut [u8], width: usize, height: usize, x: usize, y: usize, modu
 {
     if y < height {
         let end = (x + modules).min(width);
-        // Three of four runs have one module or two. They are written here without the call that fills memory, which
-        // the compiler makes of the loop.
+        // Three of four runs have one or two modules. These modules are written before the loop, because the compiler
+        // makes the loop a call that fills memory.
         if x < end {
             bytes[y * width + x] = 1;
             if x + 1 < end {

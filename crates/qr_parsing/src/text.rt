@@ -9,8 +9,9 @@ use crate::sheet::{SIDE_MIN, Sheet, WIDTH_MAX};
 use qr_drawing::Drawing;
 use std::alloc::{AllocError, Global};
 
-// A UTF8 drawing has the first byte of a block character among so many bytes. Column 7 of its first row is light, so
-// its character is a block, and the seven characters before it have at most three bytes each.
+// A UTF8 drawing has the first byte of a block character among its first 22 bytes. For the module in column 7 of its
+// first row is light, so the character there is a block, and the seven characters before it have at most three bytes
+// each.
 const BLOCK_WITHIN: usize = 22;
 
 // Returns the index of the first byte that is `sign`, or the length if there is none.
@@ -32,8 +33,9 @@ fn has_block(text: &[u8]) -> bool
     position_of(first, 0xE2) < first.len()
 }
 
-/// Returns the only type of drawing that `text` can be. In the ASCII types a module is two bytes, and column 7 of the
-/// first row is light, whether it is in the margin or in the square. So byte 14 says which sign is light.
+/// Returns the only type of drawing that `text` can be. In the ASCII types a module is two bytes, and the module in
+/// column 7 of the first row is light, whether it is in the margin or in the square. So byte 14 says which sign is
+/// light.
 pub(crate) fn kind_in(text: &[u8]) -> Drawing
     ensures { result ≡ kind_in text.now }
 {
@@ -49,8 +51,8 @@ pub(crate) fn kind_in(text: &[u8]) -> Drawing
     Drawing::AsciiInverse
 }
 
-/// Returns the sheet of a text of an ASCII type. Its bytes are the text. Returns `None` only if no drawing is as wide
-/// as this text, or has as many rasters.
+/// Returns the sheet of a text of an ASCII type. The bytes of the sheet are the text itself. Returns `None` only if no
+/// drawing is as wide as this text, or has as many rasters.
 pub(crate) fn ascii_sheet(text: &[u8], kind: Drawing) -> Option<Sheet<'_>>
     requires ascii { (kind ≡ Drawing.Ascii) ⊎ (kind ≡ Drawing.AsciiInverse) }
     requires kind { kind ≡ kind_in text.now }
@@ -70,7 +72,8 @@ pub(crate) fn ascii_sheet(text: &[u8], kind: Drawing) -> Option<Sheet<'_>>
     })
 }
 
-// Writes the bytes of a text except E2 and 96 to the beginning of `cells`, and returns how many they are.
+// Writes all bytes of a text but E2 and 96 (hexadecimal) to the beginning of `cells`, and returns the number of bytes
+// that it wrote.
 fn write_cells(text: &[u8], cells: &mut [u8]) -> usize
     requires { length cells.old ≡ length text.now }
     ensures most { result ≤ length text.now }
@@ -86,7 +89,8 @@ fn write_cells(text: &[u8], cells: &mut [u8]) -> usize
     count
 }
 
-/// Returns a text without the bytes E2 and 96, with which each block character begins. Then each character is one byte.
+/// Returns a text without the bytes E2 and 96 (hexadecimal), with which each block character begins. In the result each
+/// character is one byte.
 pub(crate) fn cells_in(alloc: Global, text: &[u8]) -> Result<Vec<u8>, AllocError>
     ensures { IfOk result (λ cells. cells.items ≡ cells_in text.now) }
 {
@@ -96,7 +100,8 @@ pub(crate) fn cells_in(alloc: Global, text: &[u8]) -> Result<Vec<u8>, AllocError
     Ok(cells)
 }
 
-/// Returns the sheet of a UTF8 text from the bytes that `cells_in` returned for it, or `None` as `ascii_sheet` does.
+/// Returns the sheet of a UTF8 text, whose bytes are those that `cells_in` returned for the text. Returns `None` only
+/// if no drawing is as wide as this text, or has as many rasters.
 pub(crate) fn cell_sheet(cells: &[u8]) -> Option<Sheet<'_>>
     ensures { (text : List ℕ) → kind_in text ≡ Drawing.Utf8 → cells.now ≡ cells_in text
         → MatchOption result (HasNoSheet text) (λ s. IsSheetOf s.kind s.width s.count s.bytes.now text) }

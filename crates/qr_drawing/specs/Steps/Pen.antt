@@ -8,7 +8,7 @@ use Rattle.qr_drawing.specs.declared.pen.Pen.{Pen}
 
 -- The bytes in the pen and then `text` are to be written. If the call succeeded, a prefix of them, perhaps an empty
 -- one, was written, and the pen contains the rest; otherwise a fault of the writer ended the call after a prefix of
--- them
+-- them was written
 abbrev pub Puts : Writer → Writer → Pen → Pen → List ℕ → {T : Type 0} → Result T DrawFault → Type 0
 Puts old new before after text r = MatchResult r
     (λ _. Writes old new before.interrupted after.interrupted (before.piece ++ text) after.piece)

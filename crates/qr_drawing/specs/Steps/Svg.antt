@@ -10,6 +10,6 @@ head width height = declaration ++ opening width height ++ background width heig
 unfoldable pub tail : List ℕ
 tail = codes "\"/>\n" ++ closing
 
--- What follows the row of a box
+-- The text after the row of a box
 unfoldable pub width_path : ℕ → List ℕ
 width_path modules = numbered (codes "h") modules ++ numbered (codes "v1h-") modules ++ codes "z"

@@ -30,16 +30,17 @@ cell_text HalfBlocks upper lower = half_blocks upper lower
 abbrev pub cell_at : TextStyle → ℕ → Grid → ℕ → ℕ → List ℕ
 cell_at style margin g row x = cell_text style (is_dark_at margin g row x) (is_dark_at margin g (row + 1) x)
 
--- The cells of the modules that the bits 0 to `n - 1` of `upper` and `lower` are
+-- The `n` cells whose modules are the bits 0 to `n - 1` of `upper` and `lower`
 abbrev pub bits_text : ℕ → TextStyle → ℕ → ℕ → List ℕ
 bits_text n style upper lower = texts_below n (λ k. cell_text style (has_bit upper k) (has_bit lower k))
 
--- Two characters for four modules: the bits 0 and 1 of `pair`, and below them the bits 2 and 3
+-- Two characters for four modules: the bits 0 and 1 of `pair` are the upper modules, and the bits 2 and 3 the lower
+-- ones
 abbrev pub pair_text : ℕ → List ℕ
 pair_text pair = texts_below 2 (λ k. half_blocks (has_bit pair k) (has_bit pair (2 + k)))
 
--- The bits 0 to 7 are the modules of row `row` of the raster from column `col` of the square on, as far as they are in
--- the square
+-- The bits 0 to 7 show eight modules of row `row` of the raster, from column `col` of the square on. Bits for columns
+-- outside the square may be 0 or 1
 abbrev pub AreDark : ℕ → Grid → ℕ → ℕ → ℕ → Type 0
 AreDark margin g row col bits = (k : ℕ) → k < 8 → col + k < g.side → has_bit bits k ≡ is_dark_at margin g row (margin + (col + k))
 

@@ -19,8 +19,8 @@ pub record Sends (old new : Writer) (text held : List ℕ) : Type 0 where
   pub many : old.counts.taken < 2 ^ 64 → new.counts.taken ≡ counted (old.counts.taken + length sent)
 
 -- The writer accepted a prefix of `text`, and `held`, which is the rest, is in the pen. No write offered more than
--- 1,200 bytes, and there was no flush. If there was no fault before, and `tried` interrupted writes, there is none
--- afterwards, and `tries` interrupted writes
+-- 1,200 bytes, and there was no flush. If the counts showed no fault and `tried` interrupted writes before, they show
+-- no fault and `tries` interrupted writes afterwards
 pub record Writes (old new : Writer) (tried tries : ℕ) (text held : List ℕ) : Type 0 where
   pub sends : Sends old new text held
   pub well : IsWell old.counts tried → IsWell new.counts tries

@@ -12,13 +12,13 @@ abbrev pub coefficient : ℕ → List ℕ → ℕ
 coefficient m [] = 0
 coefficient m (c ∷ e) = if m == length e then c else coefficient m e
 
--- The errors, each coefficient of x^m multiplied by the value of `p` at 2^m.
+-- The errors, with each coefficient of x^m multiplied by the value of `p` at 2^m.
 abbrev pub weighted : List ℕ → List ℕ → List ℕ
 weighted p [] = []
 weighted p (c ∷ e) = product c (eval (power (length e)) p) ∷ weighted p e
 
--- The polynomial `p` locates at most 255 errors: it is 0 at 2^m if the coefficient of x^m of the error polynomial is
--- not 0.
+-- The polynomial `p` locates the errors, which are at most 255: it is 0 at 2^m if the coefficient of x^m of the error
+-- polynomial is not 0.
 pub record IsLocated (p e : List ℕ) : Type 0 where
   pub bytes : All IsByte e
   pub most : length e ≤ 255

@@ -13,22 +13,25 @@ use Rattle.qr_mending.specs.Steps.Message.{HasCorrections}
 abbrev pub HoldsNone : Grid → ℕ → Level → ℕ → Grid → Type 0
 HoldsNone unknown v l mask g = (message changed : List ℕ) → HoldsDamaged unknown v l mask g message changed → ⊥
 
--- `m` has the mended blocks of the square, by its own level and mask.
+-- `m` has the blocks of the square as they are mended with the level and the mask of `m`.
 pub record IsMendedSquare (unknown : Grid) (v : ℕ) (g : Grid) (m : MendedSquare) : Type 0 where
   pub held : HoldsDamaged unknown v m.level m.mask g m.message.items m.changed.items
   pub corrections : HasCorrections v m.level m.message.items m.corrections.items
 
--- The square is mended with the level and the mask `near`, if there are any and all its blocks can be mended with them.
+-- `o` is the square, mended with the level and the mask `near`. It is `None` if `near` is `None`, or if some block
+-- cannot be mended with this level and mask.
 abbrev pub IsMendedWith : Grid → ℕ → Grid → Option (Level × ℕ) → Option MendedSquare → Type 0
 IsMendedWith unknown v g near o = MatchOption o (IfSome near (λ f. HoldsNone unknown v f.0 f.1 g))
     (λ m. (near ≡ Some (m.level, m.mask)) × IsMendedSquare unknown v g m)
 
--- The square is mended with the level and the mask that are near to the copy, if the copy is of use.
+-- `o` is the square, mended with the level and the mask that are near to the copy. It is `None` if no such pair mends
+-- the square.
 abbrev pub IsMendedBy : Grid → ℕ → Grid → FormatCopy → Option MendedSquare → Type 0
 IsMendedBy unknown v g copy o = MatchOption o (IsOfNoUse unknown copy v g)
     (λ m. IsNearFormat unknown copy g m.level m.mask × IsMendedSquare unknown v g m)
 
--- The square is mended with the level and the mask that have to be used, if a copy is of use.
+-- `o` is the square, mended with the level and the mask by which it has to be read. It is `None` if no pair that is
+-- near to a copy mends the square.
 abbrev pub IsMendedByEither : Grid → ℕ → Grid → Option MendedSquare → Type 0
 IsMendedByEither unknown v g o = MatchOption o ((any : FormatCopy) → IsOfNoUse unknown any v g)
     (λ m. HasFormat unknown v g m.level m.mask × IsMendedSquare unknown v g m)

@@ -1,7 +1,7 @@
--- How the program mends the blocks of a symbol. Each codeword has a mark, a byte with a bit for each of its modules
--- that is 1 if the module was not read; so a mark is 0 exactly if its codeword is not erased. `b` has the sizes of the
--- blocks. `d` and `e` list the data codewords and the error correction codewords as they were read, in the order of the
--- blocks.
+-- How the program mends the blocks of a symbol. Each codeword has a mark, a byte with a bit for each of its modules.
+-- The bit is 1 if the module was not read, so a mark is 0 exactly if its codeword is not erased. `b` has the sizes of
+-- the blocks. `d` and `e` list the data codewords and the error correction codewords as they were read, in the order of
+-- the blocks.
 use Rattle.std.specs.Prelude.{◌≡◌, ℕ, ◌<◌, ◌==◌, not, Option, List, [], map, length, slice_index}
 use Rattle.qr_layout.specs.declared.{blocks.Blocks.{Blocks}, level.Level.{Level}}
 use Rattle.qr_layout.specs.Blocks.{blocks_of, data_codewords_of}
@@ -37,13 +37,14 @@ AreWhole b parted.AllZero = Unit {0}
 AreWhole b (parted.Each parts) = (length parts.data.items ≡ codeword_count (data_sizes b))
     × (length parts.checks.items ≡ codeword_count (correction_sizes b))
 
--- The marks of block `i`, or none if all are 0: codewords past the end of their marks count as read
+-- The marks of block `i`. If all marks of the symbol are 0, the list is empty, which means the same, since codewords
+-- past the end of their marks count as read
 abbrev pub marks_at : Blocks → MarksInBlocks → ℕ → List ℕ
 marks_at b parted.AllZero i = []
 marks_at b (parted.Each parts) i = received b parts.data.items parts.checks.items i
 
--- `message` has the data codewords of the first `n` blocks, mended, and item i of `misread` is the number of misread
--- codewords of block i, of which `marks` has the marks
+-- `message` has the mended data codewords of the first `n` blocks. Item i of `misread` is the number of misread
+-- codewords of block i, and `marks i` are the marks of this block
 pub record AreMended (b : Blocks) (spare : ℕ) (d e : List ℕ) (marks : ℕ → List ℕ) (n : ℕ) (message misread : List ℕ) : Type 0 where
   pub long : length message ≡ start_of (data_sizes b) n
   pub many : length misread ≡ n

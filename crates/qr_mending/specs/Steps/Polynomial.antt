@@ -1,6 +1,6 @@
 -- Polynomials with the leading coefficient 1, and the search for the error locator polynomial. A polynomial solves the
--- equation of a list `window` if the sum of its coefficients, each multiplied by the item at its index, is 0; equation
--- j has as its window the syndromes from index j on.
+-- equation of a list `window` if its coefficients, each multiplied by the item of `window` at the same index, add up to
+-- 0. The window of equation j is the list of the syndromes from index j on.
 use Rattle.std.specs.Prelude.{◌≡◌, ℕ, ◌+◌, ◌*◌, ◌<◌, ◌≤◌, List, take, drop, length, slice_index}
 use Rattle.std.specs.List.{All}
 use Rattle.qr_field.specs.Polynomial.{IsByte}
@@ -29,7 +29,7 @@ pub record IsBest (i : ℕ) (s : List ℕ) (p : Polynomial) : Type 0 where
   pub solved : (j : ℕ) → j + p.degree < i → discrepancy_of p (drop j s) ≡ 0
 
 -- The search after the first `i` of the syndromes `s`. Of the equations with an index below the degree of `best`,
--- `earlier` solves all but the last, and `discrepancy` is its sum for the last.
+-- `earlier` solves all but the last, for which it has the sum `discrepancy`.
 pub record IsSearch (i : ℕ) (s : List ℕ) (search : Search) : Type 0 where
   pub best : IsBest i s search.best
   pub bytes : All IsByte (all_of search.earlier)
@@ -38,8 +38,8 @@ pub record IsSearch (i : ℕ) (s : List ℕ) (search : Search) : Type 0 where
   pub before : (j : ℕ) → j + 1 < search.best.degree → discrepancy_of search.earlier (drop j s) ≡ 0
   pub last : (j : ℕ) → j + 1 ≡ search.best.degree → discrepancy_of search.earlier (drop j s) ≡ search.discrepancy
 
--- The first syndromes of a block with the remainder `r`, of which the search took in `taken`, at most 2`t`; `best` has at
--- most the degree `t`.
+-- The first syndromes of a block with the remainder `r`, and the search for its error locator polynomial. The search
+-- took in `taken` syndromes, at most 2`t`, and the degree of `best` is at most `t`.
 pub record IsProgress (t : ℕ) (r : List ℕ) (progress : Progress) : Type 0 where
   pub values : HasValues progress.syndromes.items r
   pub count : length progress.syndromes.items ≤ length r

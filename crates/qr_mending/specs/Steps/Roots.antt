@@ -15,7 +15,7 @@ rooted [] p = p
 rooted (true ∷ erased) p = times_root (power (length erased)) 0 (rooted erased p)
 rooted (false ∷ erased) p = rooted erased p
 
--- The quotient of `p` by x + `root`, and then a 0, since the quotient has a coefficient less.
+-- The quotient of `p` by x + `root`. It has one coefficient less than `p`, so a 0 is appended.
 abbrev pub quotient : ℕ → List ℕ → List ℕ
 quotient root [] = []
 quotient root (a ∷ p) = eval root p ∷ quotient root p

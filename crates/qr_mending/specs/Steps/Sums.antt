@@ -14,8 +14,8 @@ abbrev pub eval : ℕ → List ℕ → ℕ
 eval x [] = 0
 eval x (a ∷ p) = bit_xor a (product x (eval x p))
 
--- The sum of the items of `p`, each multiplied by a value of the polynomial `e`: the first by that at 2 to the power
--- `i`, the next by that at the next power.
+-- The sum of the items of `p`, where item k, from k = 0 on, is multiplied by the value of the polynomial `e` at 2 to
+-- the power `i` + k.
 abbrev pub blend : List ℕ → ℕ → List ℕ → ℕ
 blend [] i e = 0
 blend (a ∷ p) i e = bit_xor (product a (value_at i e)) (blend p (i + 1) e)
@@ -24,6 +24,6 @@ blend (a ∷ p) i e = bit_xor (product a (value_at i e)) (blend p (i + 1) e)
 pub record HasValues (s e : List ℕ) : Type 0 where
   pub each : (k : ℕ) → k < length s → slice_index s k ≡ value_at k e
 
--- The polynomial `r` has the same values as `e` at the first powers of 2, as many as it has coefficients.
+-- The polynomial `r` has the same values as `e` at the first powers of 2, as many as `r` has coefficients.
 pub record HasSameValues (r e : List ℕ) : Type 0 where
   pub each : (k : ℕ) → k < length r → value_at k r ≡ value_at k e

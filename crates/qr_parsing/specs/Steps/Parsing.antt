@@ -6,7 +6,7 @@ use Rattle.qr_drawing.specs.Drawing.{HaveOneSide}
 use Rattle.qr_drawing.specs.declared.drawing.Drawing.{Drawing}
 use Rattle.qr_parsing.specs.Parsing.{IsDrawingOf}
 
--- 1 to 16 squares of one side, which can be drawn
+-- 1 to 16 squares with the same side, which can be drawn
 pub record CanBeDrawn (squares : List Grid) : Type 0 where
   pub some : 0 < length squares
   pub few : length squares ≤ 16

@@ -1,5 +1,5 @@
--- Sheets: the bytes of the modules of all rasters of a drawing, which are `width` modules wide. `k` is the index of a
--- raster, `y` and `x` are a row and a column of it.
+-- Sheets, whose bytes show the modules of all rasters of a drawing. A raster is `width` modules wide; `k` is its index,
+-- and `y` and `x` are a row and a column of it.
 use Rattle.std.specs.Prelude.{◌≡◌, ℕ, ◌+◌, ◌*◌, ◌/◌, ◌%◌, ◌<◌, ◌==◌, ◌⊎◌, Bool, ◌||◌, if◌then◌else◌, List, drop, length, slice_index_or}
 use Rattle.qr_matrix.specs.Grid.{Grid}
 use Rattle.qr_drawing.specs.Raster.{is_dark_at, raster_width}
@@ -42,14 +42,15 @@ pub record ShowsOn (kind : Drawing) (width count : ℕ) (bytes : List ℕ) (marg
   pub places : (k y x : ℕ) → k < count → y < width → x < width
       → is_dark_on kind width bytes k y x ≡ is_dark_at margin (square_at squares k) y x
 
--- The type of drawing that a text can be: the document begins with `<`, and only UTF8 texts have block characters
+-- The only type of drawing that a text can be. An SVG document begins with `<`, only UTF8 texts have block characters,
+-- and byte 14 of an ASCII text is in a light module
 abbrev pub kind_in : List ℕ → Drawing
 kind_in text =
     if slice_index_or text 0 0 == 60 then Svg else
     (if has_block text then Utf8 else
     (if slice_index_or text 14 0 == 32 then Ascii else AsciiInverse))
 
--- The width of the rasters, if the text is a drawing of this type; that of a document is the number with the index 9
+-- The width of the rasters, if the text is a drawing of this type. In a document it is the number with the index 9
 abbrev pub width_in : Drawing → List ℕ → ℕ
 width_in Ascii text = first_line text / 2
 width_in AsciiInverse text = first_line text / 2
@@ -71,13 +72,14 @@ count_in AsciiInverse text = length text / (width_in AsciiInverse text * (2 * wi
 count_in Utf8 text = length (cells_in text) / ((width_in Utf8 text + 1) / 2 * (width_in Utf8 text + 1))
 count_in Svg text = slice_index_or (numbers_in text) 10 0 / width_in Svg text
 
--- The sheet of a text. If the text is no drawing, its bytes may be any
+-- The sheet of a text. If the text is no drawing, the bytes of the sheet may be any
 pub record IsSheetOf (kind : Drawing) (width count : ℕ) (bytes text : List ℕ) : Type 0 where
   pub kind_is : kind ≡ kind_in text
   pub width_is : width ≡ width_in kind text
   pub count_is : count ≡ count_in kind text
   pub bytes_is : (k : Drawing) (margin : ℕ) (squares : List Grid) → IsDrawingOf k margin squares text → bytes ≡ bytes_in kind text
 
--- If the text were a drawing, it would be narrower or wider than any drawing, or have more rasters
+-- If the text were a drawing, its rasters would be narrower or wider than in any drawing, or there would be more of
+-- them than in any drawing
 abbrev pub HasNoSheet : List ℕ → Type 0
 HasNoSheet text = ((width_in (kind_in text) text < 8) ⊎ (687 < width_in (kind_in text) text)) ⊎ (16 < count_in (kind_in text) text)

@@ -7,8 +7,8 @@ use Rattle.qr_drawing.specs.Svg.{box_path}
 abbrev pub is_digit : ℕ → Bool
 is_digit byte = nat_le 48 byte && nat_lt byte 58
 
--- The decimal numbers in a text, where one above 99,999 counts as 99,999. `inside` says whether there are digits just
--- before the text, which belong to its first number, and `number` is the number that they are
+-- The decimal numbers in a text, where a number above 99,999 counts as 99,999. If `inside` is true, the first number
+-- began before the text, and `number` is the value of its digits there
 unfoldable pub numbers_after : ℕ → Bool → List ℕ → List ℕ
 numbers_after number inside [] = []
 numbers_after number inside (byte ∷ bytes) =
@@ -19,8 +19,8 @@ numbers_after number inside (byte ∷ bytes) =
 abbrev pub numbers_in : List ℕ → List ℕ
 numbers_in text = numbers_after 0 false text
 
--- The numbers are those of boxes, five for each (column, row, width, height and again width), and the place in row `r`
--- and column `c` is in one
+-- The place in row `r` and column `c` is in a box. The numbers are those of all boxes, five for each box: its column,
+-- its row, its width, its height, and its width again
 abbrev pub is_in_boxes : List ℕ → ℕ → ℕ → Bool
 is_in_boxes (x ∷ y ∷ modules ∷ high ∷ back ∷ numbers) r c = (y == r && (nat_le x c && nat_lt c (x + modules))) || is_in_boxes numbers r c
 is_in_boxes numbers r c = false
@@ -29,8 +29,8 @@ is_in_boxes numbers r c = false
 abbrev pub canvas_of : ℕ → ℕ → List ℕ → List ℕ
 canvas_of width height numbers = map (λ i. if is_in_boxes numbers (i / width) (i % width) then 1 else 0) (range_with_len 0 (width * height))
 
--- The decimal number with which a text begins, and what follows the byte after it. `number` is that of the digits just
--- before the text, which belong to it
+-- The decimal number with which a text begins, and the text after the byte that follows the number. If the number began
+-- before the text, `number` is the value of its digits there, and otherwise 0
 unfoldable pub leading : ℕ → List ℕ → ℕ × List ℕ
 leading number [] = (number, [])
 leading number (byte ∷ bytes) = if is_digit byte then leading (number * 10 + (byte - 48)) bytes else (number, bytes)
@@ -40,7 +40,7 @@ abbrev pub path_in : List ℕ → List ℕ
 path_in [] = []
 path_in (byte ∷ bytes) = if byte == 77 then byte ∷ bytes else path_in bytes
 
--- The text is a path of boxes with these numbers, five for each, and no other box follows
+-- The text is a path of boxes with these numbers, five for each box, and no further box follows
 abbrev pub IsPath : List ℕ → List ℕ → Type 0
 IsPath [] text = path_in text ≡ []
 IsPath (x ∷ y ∷ modules ∷ high ∷ back ∷ numbers) text =

@@ -10,7 +10,7 @@ is_cell byte = not (byte == 0xE2 || byte == 0x96)
 abbrev pub has_block : List ℕ → Bool
 has_block text = nat_lt (position_or_len (λ byte. byte == 0xE2) (take 22 text)) (length (take 22 text))
 
--- The text with the last byte of each block character in its place; spaces and newlines are one byte already
+-- The text in which each block character is replaced by its last byte; spaces and newlines are one byte already
 abbrev pub cells_in : List ℕ → List ℕ
 cells_in text = filter is_cell text
 
