@@ -1,8 +1,8 @@
 use Rattle.std.proofs.Common.{◌≡◌, ℕ, suc, ◌+◌, ◌-◌, ◌≤◌, List, [], ◌∷◌, ◌++◌, length, get_or, take, drop, reverse, refl, sym, ap, ◌∙◌, arith}
 use Rattle.std.proofs.{Math.Seq.drop-cons, Math.Nat.le_refl, lemmas.List.{append-nil, drop_all}}
 use Rattle.qr_bits.specs.declared.{segment.Segment.Segment, interpretation.Interpretation.TheVariants.Gs1, run_state.RunState.TheVariants.Start}
-use Rattle.qr_bits.specs.{Segmentation.runs_of, Steps.BestModes.follow_in, Steps.Segmentation.{append_mode, one_segment, written}, Steps.RunState.{state_after, state_on}}
-use Rattle.qr_bits.proofs.lemmas.segmentation.{AssignedLemmas.assignment_from_table, BackLemmas.{other_mode, run_other, run_same, runs_of-push, same_mode}, BytesOnlyLemmas.assignment-length, RunLemmas.{characters_of, characters-put, runs-written, segments_of, segments-put}}
+use Rattle.qr_bits.specs.{Segmentation.runs_of, Steps.BestModes.follow_in, Steps.Segmentation.{append_mode, written_in, one_segment, written}, Steps.RunState.{state_after, state_on}}
+use Rattle.qr_bits.proofs.lemmas.segmentation.{AssignedLemmas.assignment_from_table, BackLemmas.{other_mode, run_other, run_same, runs_of-push, same_mode}, BytesOnlyLemmas.assignment-length, RunLemmas.{characters-put, runs-written, segments_of, segments-put}}
 use Rattle.qr_bits.proofs.lemmas.best_modes.{ChoiceLemmas.{on_in, on_past}, TableLemmas.{led_on_in}}
 use Rattle.qr_bits.proofs.segmentation.least_gs1_segments.Goals as goal
 use Rattle.qr_bits.proofs.segmentation.least_gs1_segments.Goals.{then-eq, else-eq+in_ok-put_run}
@@ -75,7 +75,7 @@ loop-i-preserved c =
     ]
 
 pub returns-clause-ok : goal.returns-clause-ok
-unfolding follow_in segments_of characters_of
+unfolding follow_in segments_of written_in
 returns-clause-ok c =
     let l = c.loop-i in
     let inv = l.invariant in
