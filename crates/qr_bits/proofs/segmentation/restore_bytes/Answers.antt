@@ -1,13 +1,10 @@
-use Rattle.std.proofs.Common.{◌≡◌, ◌+◌, ◌∷◌, [], ℕ, suc, take, drop, get_or, drop-cons, arith, refl}
-use Rattle.std.proofs.lemmas.List.{drop_all}
+use Rattle.std.proofs.Common.{◌≡◌, ◌+◌, ◌∷◌, [], take, drop, get_or, arith, refl}
+use Rattle.std.proofs.lemmas.List.{drop_all, drop_more}
 use Rattle.qr_bits.specs.Steps.Segmentation.{written}
 use Rattle.qr_bits.proofs.lemmas.segment.SegmentLemmas.{past_end}
 use Rattle.qr_bits.proofs.lemmas.segmentation.MarkedLemmas.{IsRestored, restored-marked, restored-copied, restored-all}
 use Rattle.qr_bits.proofs.segmentation.restore_bytes.Goals as goal
 use Rattle.qr_bits.proofs.segmentation.restore_bytes.Goals.{in-Alphanumeric, in-Numeric}
-
-next_suc : (n : ℕ) → n + 1 ≡ suc n
-next_suc n = omega arith
 
 pub loop-segment-preserved : goal.loop-segment-preserved
 loop-segment-preserved c =
@@ -17,7 +14,7 @@ loop-segment-preserved c =
     let i = l.segment-index in
     let s = get_or segs i past_end in
     let later = drop (i + 1) segs in
-    let next : drop i segs ≡ s ∷ later = rw (next_suc i) (drop-cons segs i past_end c.loop-segment-test.true) in
+    let next : drop i segs ≡ s ∷ later = drop_more segs i past_end c.loop-segment-test.true in
     let so_far : IsRestored xs segs l.characters l.begin (s ∷ later) = rw next at l.invariant in
     elim c.match-segment.branch [
       | in-Alphanumeric w ↦ rw (w.characters-is, w.begin-is) (restored-marked xs segs l.characters l.begin _ s later c.requires.single so_far refl w.in-Alphanumeric.is)
