@@ -8,5 +8,7 @@ pub mod DigitsOnlyLemmas
 pub mod InterpretedLemmas
 -- What is written for runs of bytes in GS1 data.
 pub mod RunLemmas
+-- Without `%`, the least segmentation of GS1 data is that of its marked copy.
+pub mod MarkedLemmas
 -- An assignment to bytes is valid exactly if its modes are allowed, one after the other.
 pub mod AssignedLemmas

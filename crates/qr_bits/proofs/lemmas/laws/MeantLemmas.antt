@@ -6,9 +6,9 @@ use Rattle.qr_bits.specs.declared.{modes.Mode.Mode, modes.Rule.Rule, segment.Seg
 use Rattle.qr_bits.specs.declared.modes.Mode.TheVariants.{Numeric, Alphanumeric, Byte, Kanji}
 use Rattle.qr_bits.specs.declared.interpretation.Interpretation.{Interpretation, TheVariants.{Default, Gs1, Eci}}
 use Rattle.qr_bits.specs.Interpretation.{plain, items_in, ecis_in, fnc1_in, fnc1_of, eci_changes, meant, meant_bytes, are_fields, characters_gs1, doubled_gs1, MayWrite}
-use Rattle.qr_bits.specs.{Segmentation.{runs_of, IsLeastSegmentation}, Steps.Segmentation.written, Parsing.content_of}
+use Rattle.qr_bits.specs.{Segmentation.{runs_of, IsLeastSegmentation}, Steps.Segmentation.{written, written_in}, Parsing.content_of}
 use Rattle.qr_bits.proofs.lemmas.segment.CoverLemmas.{covers_suits}
-use Rattle.qr_bits.proofs.lemmas.segmentation.{BackLemmas.sum_by-runs_of, BytesOnlyLemmas.assignment-length, RunLemmas.{characters_of, runs-written, segments_of}}
+use Rattle.qr_bits.proofs.lemmas.segmentation.{BackLemmas.sum_by-runs_of, BytesOnlyLemmas.assignment-length, RunLemmas.{runs-written, segments_of}}
 use Rattle.qr_bits.proofs.lemmas.parsing.FieldLemmas.{fields_again}
 use Rattle.qr_bits.proofs.lemmas.interpretation.{MeaningLemmas.{meant-plain, ecis-plain}, WrittenLemmas.{fields-drop, fields-take}}
 
@@ -36,12 +36,12 @@ drop-front : (xs ys : List ℕ) → drop (length xs) (xs ++ ys) ≡ ys
 drop-front xs ys = drop-append-le (length xs) xs ys (le_refl (length xs)) ∙ ap (λ (r : List ℕ). r ++ ys) (drop_all (length xs) xs (le_refl (length xs)))
 
 -- segments of fields are read back
-segments-meant : (segs : List Segment) (xs : List ℕ) → are_fields xs ≡ true → length xs ≤ sum_by (λ s. s.len) segs → meant_bytes true (plain (segments_of xs segs)) (characters_of xs segs) ≡ xs
-unfolding meant_bytes characters_of segments_of
+segments-meant : (segs : List Segment) (xs : List ℕ) → are_fields xs ≡ true → length xs ≤ sum_by (λ s. s.len) segs → meant_bytes true (plain (segments_of xs segs)) (written_in xs segs) ≡ xs
+unfolding meant_bytes written_in segments_of
 segments-meant [] xs h len = sym (nil_from_length xs (omega arith))
 segments-meant (s ∷ ss) xs h len =
     let own = take s.len xs in
-    let rest = characters_of (drop s.len xs) ss in
+    let rest = written_in (drop s.len xs) ss in
     let later = segments-meant ss (drop s.len xs) (fields-drop s.len xs h) (omega (arith, len, length-drop s.len xs, sum_by-cons (λ (t : Segment). t.len) s ss)) in
     rw (take-front (written s.mode own) rest, drop-front (written s.mode own) rest, meant-written s.mode own (fields-take s.len xs h), later) (take-append-drop s.len xs)
 

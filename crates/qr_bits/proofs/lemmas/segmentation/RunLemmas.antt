@@ -1,13 +1,11 @@
 -- What is written for runs of bytes in GS1 data.
 use Rattle.std.proofs.Common.{◌≡◌, ℕ, zero, ◌+◌, ◌-◌, ◌<◌, ◌≤◌, Bool, true, false, cond, ◌==◌, List, [], ◌∷◌, ◌++◌, length, map, take, drop, append_assoc, length-drop, refl, sym, ap, ◌∙◌, ⊎_elim, arith, suc}
-use Rattle.std.proofs.lemmas.{Bool.{and_parts, cases_Bool, cond_both, eqb-true}, List.{append-nil, drop-drop, drop_all, length-append, length-map, length-take-le, take-append-le, take_all}}
-use Rattle.std.proofs.Math.Seq.{drop-append_seam, take-append_seam}
-use borrow.Rule.Slice.PartMut.{post_of, put_mid}
+use Rattle.std.proofs.lemmas.{Bool.{and_parts, cases_Bool, cond_both, eqb-true}, List.{drop-drop, length-take-le}}
 use Rattle.std.specs.List.{list_all}
 use Rattle.qr_bits.specs.declared.{modes.Mode.Mode, segment.Segment.Segment}
 use Rattle.qr_bits.specs.declared.interpretation.Interpretation.{TheVariants.{Gs1}}
 use Rattle.qr_bits.specs.Interpretation.{escaped, is_doubled, character_for, characters_gs1, doubled_gs1, percent}
-use Rattle.qr_bits.specs.{Segmentation.{rank, prepend_mode, runs_of}, Steps.Segmentation.{is_itself, is_single, marked, one_segment, written}}
+use Rattle.qr_bits.specs.{Segmentation.{rank, prepend_mode, runs_of}, Steps.Segmentation.{written_in, is_itself, is_single, marked, one_segment, written}}
 use Rattle.qr_bits.proofs.lemmas.run_state.BestLemmas.{same_rank}
 
 -- a byte that alphanumeric mode writes as itself
@@ -29,24 +27,7 @@ escaped-marked (x ∷ xs) h =
     let rest : escaped xs ≡ map marked xs = escaped-marked xs parts.1 in
     grind (arith, eqb-true)
 
--- where `xs` were appended to `old` and then marked in place, the marked bytes stand behind `old`
-pub marked-behind : (old xs whole last : List ℕ) (n len : ℕ) → whole ≡ old ++ xs → n ≡ length old → len ≡ length whole → last ≡ map marked (take (length whole - n) (drop n whole))
-    → take len (put_mid n (length whole - n) whole last ++ drop (length (put_mid n (length whole - n) whole last)) whole) ≡ old ++ map marked xs
-marked-behind old xs whole last n len is at all new =
-    let back : drop n whole ≡ xs = rw (is, at) (drop-append_seam old xs) in
-    let front : take n whole ≡ old = rw (is, at) (take-append_seam old xs) in
-    let grown : length whole ≡ length old + length xs = rw is (length-append old xs) in
-    let mid : last ≡ map marked xs = new ∙ rw back (ap (λ (r : List ℕ). map marked r) (take_all (length whole - n) xs (omega (arith, grown, at)))) in
-    let none : post_of n (length whole - n) whole ≡ [] = rw back (drop_all (length whole - n) xs (omega (arith, grown, at))) in
-    let put : put_mid n (length whole - n) whole last ≡ old ++ map marked xs = rw (front, mid, none) (ap (λ (r : List ℕ). old ++ r) (append-nil (map marked xs))) in
-    let long : length (old ++ map marked xs) ≡ length whole = omega (arith, grown, length-append old (map marked xs), length-map xs marked) in
-    rw (put, drop_all (length (old ++ map marked xs)) whole (omega (arith, long))) (take-append-le len (old ++ map marked xs) [] (omega (arith, all, long)) ∙ take_all len (old ++ map marked xs) (omega (arith, all, long)))
-
--- the characters of segments of bytes, and these segments, of which the lengths count characters
-unfoldable pub characters_of : List ℕ → List Segment → List ℕ
-characters_of xs [] = xs
-characters_of xs (s ∷ ss) = written s.mode (take s.len xs) ++ characters_of (drop s.len xs) ss
-
+-- the segments that are written for segments of bytes: their lengths count characters
 unfoldable pub segments_of : List ℕ → List Segment → List Segment
 segments_of xs [] = []
 segments_of xs (s ∷ ss) = record { mode = s.mode; len = length (written s.mode (take s.len xs)) } ∷ segments_of (drop s.len xs) ss
@@ -80,23 +61,23 @@ prepend-self m n ss = grind arith
 
 -- one more byte of the first segment, or before it
 characters-grown : (m : Mode) (x : ℕ) (xs : List ℕ) (n : ℕ) (ss : List Segment)
-    → characters_of (x ∷ xs) (record { mode = m; len = 1 + n } ∷ ss) ≡ cond (is_doubled Gs1 x m) (character_for Gs1 x m ∷ character_for Gs1 x m ∷ characters_of xs (record { mode = m; len = n } ∷ ss)) (character_for Gs1 x m ∷ characters_of xs (record { mode = m; len = n } ∷ ss))
-unfolding characters_of
-characters-grown m x xs n ss = rw (one_suc n, written-more m x (take n xs)) (cond-append (is_doubled Gs1 x m) (character_for Gs1 x m) (written m (take n xs)) (characters_of (drop n xs) ss))
+    → written_in (x ∷ xs) (record { mode = m; len = 1 + n } ∷ ss) ≡ cond (is_doubled Gs1 x m) (character_for Gs1 x m ∷ character_for Gs1 x m ∷ written_in xs (record { mode = m; len = n } ∷ ss)) (character_for Gs1 x m ∷ written_in xs (record { mode = m; len = n } ∷ ss))
+unfolding written_in
+characters-grown m x xs n ss = rw (one_suc n, written-more m x (take n xs)) (cond-append (is_doubled Gs1 x m) (character_for Gs1 x m) (written m (take n xs)) (written_in (drop n xs) ss))
 
 characters-begun : (m : Mode) (x : ℕ) (xs : List ℕ) (ss : List Segment)
-    → characters_of (x ∷ xs) (record { mode = m; len = 1 } ∷ ss) ≡ cond (is_doubled Gs1 x m) (character_for Gs1 x m ∷ character_for Gs1 x m ∷ characters_of xs ss) (character_for Gs1 x m ∷ characters_of xs ss)
-unfolding characters_of
-characters-begun m x xs ss = rw (written-one m x) (cond-append (is_doubled Gs1 x m) (character_for Gs1 x m) [] (characters_of xs ss))
+    → written_in (x ∷ xs) (record { mode = m; len = 1 } ∷ ss) ≡ cond (is_doubled Gs1 x m) (character_for Gs1 x m ∷ character_for Gs1 x m ∷ written_in xs ss) (character_for Gs1 x m ∷ written_in xs ss)
+unfolding written_in
+characters-begun m x xs ss = rw (written-one m x) (cond-append (is_doubled Gs1 x m) (character_for Gs1 x m) [] (written_in xs ss))
 
 -- one more byte before segments adds its character once, or twice if it is doubled
 characters-prepend : (m : Mode) (x : ℕ) (xs : List ℕ) (segs : List Segment)
-    → characters_of (x ∷ xs) (prepend_mode m segs) ≡ cond (is_doubled Gs1 x m) (character_for Gs1 x m ∷ character_for Gs1 x m ∷ characters_of xs segs) (character_for Gs1 x m ∷ characters_of xs segs)
+    → written_in (x ∷ xs) (prepend_mode m segs) ≡ cond (is_doubled Gs1 x m) (character_for Gs1 x m ∷ character_for Gs1 x m ∷ written_in xs segs) (character_for Gs1 x m ∷ written_in xs segs)
 characters-prepend m x xs [] = characters-begun m x xs []
 characters-prepend m x xs (s ∷ ss) =
     let c = character_for Gs1 x m in
-    let rest = characters_of xs (s ∷ ss) in
-    cond_both (rank m == rank s.mode) _ _ (λ (r : List Segment). characters_of (x ∷ xs) r ≡ cond (is_doubled Gs1 x m) (c ∷ c ∷ rest) (c ∷ rest))
+    let rest = written_in xs (s ∷ ss) in
+    cond_both (rank m == rank s.mode) _ _ (λ (r : List Segment). written_in (x ∷ xs) r ≡ cond (is_doubled Gs1 x m) (c ∷ c ∷ rest) (c ∷ rest))
     (λ e. rw (same_rank m s.mode (eqb-true _ _ e)) (characters-grown s.mode x xs s.len ss)) (λ _. characters-begun m x xs (s ∷ ss))
 
 -- one more byte in the first segment adds one character to it, or two if the byte is doubled
@@ -132,8 +113,8 @@ segments-prepend m x xs (s ∷ ss) =
     (cases_Bool (rank m == rank s.mode))
 
 -- the characters and segments of an assignment are those of its runs of bytes
-pub runs-written : (xs : List ℕ) (ms : List Mode) → length xs ≡ length ms → (characters_gs1 xs ms ≡ characters_of xs (runs_of ms)) × (runs_of (doubled_gs1 xs ms) ≡ segments_of xs (runs_of ms))
-unfolding characters_gs1 doubled_gs1 runs_of characters_of segments_of
+pub runs-written : (xs : List ℕ) (ms : List Mode) → length xs ≡ length ms → (characters_gs1 xs ms ≡ written_in xs (runs_of ms)) × (runs_of (doubled_gs1 xs ms) ≡ segments_of xs (runs_of ms))
+unfolding characters_gs1 doubled_gs1 runs_of written_in segments_of
 runs-written [] [] h = (refl, refl)
 runs-written [] (m ∷ ms) h = absurd (omega arith)
 runs-written (x ∷ xs) [] h = absurd (omega arith)
@@ -165,8 +146,8 @@ segments-one m (suc n) xs later h =
     rw (some_segment m (length (written m (take (suc n) xs))) (omega (arith, written-longer m (take (suc n) xs), length-take-le (suc n) xs h))) refl
 
 characters-run : (m : Mode) (n : ℕ) (xs : List ℕ) (later : List Segment)
-    → characters_of xs (one_segment m n ++ later) ≡ written m (take n xs) ++ characters_of (drop n xs) later
-unfolding characters_of
+    → written_in xs (one_segment m n ++ later) ≡ written m (take n xs) ++ written_in (drop n xs) later
+unfolding written_in
 characters-run m zero xs later = rw (written-none m) refl
 characters-run m (suc n) xs later = refl
 
@@ -185,9 +166,9 @@ segments-put xs runs segs m b i h l so_far later =
 
 -- if `cs` are the characters of the runs up to byte `b`, those of the run up to byte `i` are appended to `cs`
 pub characters-put : (xs : List ℕ) (runs : List Segment) (cs : List ℕ) (m : Mode) (b i : ℕ) → b ≤ i
-    → ((later : List Segment) → characters_of xs (runs ++ later) ≡ cs ++ characters_of (drop b xs) later)
-    → (later : List Segment) → characters_of xs ((runs ++ one_segment m (i - b)) ++ later) ≡ (cs ++ written m (take (i - b) (drop b xs))) ++ characters_of (drop i xs) later
+    → ((later : List Segment) → written_in xs (runs ++ later) ≡ cs ++ written_in (drop b xs) later)
+    → (later : List Segment) → written_in xs ((runs ++ one_segment m (i - b)) ++ later) ≡ (cs ++ written m (take (i - b) (drop b xs))) ++ written_in (drop i xs) later
 characters-put xs runs cs m b i h so_far later =
     let one = one_segment m (i - b) in
     rw (append_assoc runs one later, so_far (one ++ later), characters-run m (i - b) (drop b xs) later, behind b i xs h)
-    (sym (append_assoc cs (written m (take (i - b) (drop b xs))) (characters_of (drop i xs) later)))
+    (sym (append_assoc cs (written m (take (i - b) (drop b xs))) (written_in (drop i xs) later)))

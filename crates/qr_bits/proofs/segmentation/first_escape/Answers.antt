@@ -1,11 +1,8 @@
-use Rattle.std.proofs.Common.{◌≡◌, ℕ, suc, ◌+◌, true, [], ◌∷◌, take, drop, get_or, append_assoc, append-nil, sym, ◌∙◌, arith}
-use Rattle.std.proofs.{Math.Seq.drop-cons, lemmas.List.{drop_all, take_all, take_more}}
+use Rattle.std.proofs.Common.{◌≡◌, ◌+◌, true, [], ◌∷◌, take, drop, get_or, append_assoc, append-nil, sym, ◌∙◌, arith}
+use Rattle.std.proofs.{lemmas.List.{drop_all, drop_more, take_all, take_more}}
 use Rattle.qr_bits.specs.{Interpretation.escaped, Steps.Segmentation.is_itself}
 use Rattle.qr_bits.proofs.lemmas.segmentation.RunLemmas.{escaped-itself}
 use Rattle.qr_bits.proofs.segmentation.first_escape.Goals as goal
-
-next_suc : (n : ℕ) → n + 1 ≡ suc n
-next_suc n = omega arith
 
 pub loop-i-preserved : goal.loop-i-preserved
 loop-i-preserved c =
@@ -13,7 +10,7 @@ loop-i-preserved c =
     let i = c.loop-i.i in
     let x = get_or xs i 0 in
     let own : is_itself x ≡ true = search arith in
-    let next : drop i xs ≡ x ∷ drop (i + 1) xs = rw (next_suc i) (drop-cons xs i 0 c.loop-i-test.true) in
+    let next : drop i xs ≡ x ∷ drop (i + 1) xs = drop_more xs i 0 c.loop-i-test.true in
     c.loop-i.invariant ∙ rw (next, escaped-itself x (drop (i + 1) xs) own, take_more xs i 0 c.loop-i-test.true) (sym (append_assoc (take i xs) (x ∷ []) (escaped (drop (i + 1) xs))))
 
 pub returns : goal.returns

@@ -1,14 +1,11 @@
-use Rattle.std.proofs.Common.{◌≡◌, ℕ, suc, ◌+◌, ◌-◌, ◌≤◌, List, [], ◌∷◌, ◌++◌, length, get_or, take, drop, reverse, refl, sym, ap, ◌∙◌, arith}
-use Rattle.std.proofs.{Math.Seq.drop-cons, Math.Nat.le_refl, lemmas.List.{append-nil, drop_all}}
+use Rattle.std.proofs.Common.{◌≡◌, ℕ, ◌+◌, ◌-◌, ◌≤◌, List, [], ◌∷◌, ◌++◌, length, get_or, take, drop, reverse, refl, sym, ap, ◌∙◌, arith}
+use Rattle.std.proofs.{Math.Nat.le_refl, lemmas.List.{append-nil, drop_all, drop_more}}
 use Rattle.qr_bits.specs.declared.{segment.Segment.Segment, interpretation.Interpretation.TheVariants.Gs1, run_state.RunState.TheVariants.Start}
-use Rattle.qr_bits.specs.{Segmentation.runs_of, Steps.BestModes.follow_in, Steps.Segmentation.{append_mode, one_segment, written}, Steps.RunState.{state_after, state_on}}
-use Rattle.qr_bits.proofs.lemmas.segmentation.{AssignedLemmas.assignment_from_table, BackLemmas.{other_mode, run_other, run_same, runs_of-push, same_mode}, BytesOnlyLemmas.assignment-length, RunLemmas.{characters_of, characters-put, runs-written, segments_of, segments-put}}
+use Rattle.qr_bits.specs.{Segmentation.runs_of, Steps.BestModes.follow_in, Steps.Segmentation.{append_mode, written_in, one_segment, written}, Steps.RunState.{state_after, state_on}}
+use Rattle.qr_bits.proofs.lemmas.segmentation.{AssignedLemmas.assignment_from_table, BackLemmas.{other_mode, run_other, run_same, runs_of-push, same_mode}, BytesOnlyLemmas.assignment-length, RunLemmas.{characters-put, runs-written, segments_of, segments-put}}
 use Rattle.qr_bits.proofs.lemmas.best_modes.{ChoiceLemmas.{on_in, on_past}, TableLemmas.{led_on_in}}
 use Rattle.qr_bits.proofs.segmentation.least_gs1_segments.Goals as goal
 use Rattle.qr_bits.proofs.segmentation.least_gs1_segments.Goals.{then-eq, else-eq+in_ok-put_run}
-
-next_suc : (n : ℕ) → n + 1 ≡ suc n
-next_suc n = omega arith
 
 one_more : (b i : ℕ) → b ≤ i → (i + 1) - b ≡ (i - b) + 1
 one_more b i h = omega arith
@@ -40,7 +37,7 @@ loop-i-preserved c =
     let input = c.args.input.now in
     let x = get_or input i 0 in
     let m = c.mode_at-next.result in
-    let next : drop i input ≡ x ∷ drop (i + 1) input = rw (next_suc i) (drop-cons input i 0 c.loop-i-test.true) in
+    let next : drop i input ≡ x ∷ drop (i + 1) input = drop_more input i 0 c.loop-i-test.true in
     let led = led_on_in Gs1 l.state x (drop (i + 1) input) l.table.items c.pop.new.self.items c.unwrap-modes.result inv.modes _ m (rw c.unwrap-modes.ensures at c.pop.ensures.items) c.mode_at-next.ensures (rw next at inv.led) in
     elim c.if-eq.branch [
       | then-eq w ↦
@@ -75,7 +72,7 @@ loop-i-preserved c =
     ]
 
 pub returns-clause-ok : goal.returns-clause-ok
-unfolding follow_in segments_of characters_of
+unfolding follow_in segments_of written_in
 returns-clause-ok c =
     let l = c.loop-i in
     let inv = l.invariant in

@@ -1,6 +1,6 @@
 use Rattle.std.proofs.Common.{◌≡◌, ◌++◌, length}
 use Rattle.qr_bits.specs.Interpretation.{escaped}
-use Rattle.qr_bits.proofs.segmentation.escape_each.Given as goal
+use Rattle.qr_bits.proofs.segmentation.escape.Given as goal
 
 -- what is written, and what the other bytes add
 abbrev pub invariant-loop-len : goal.invariant-loop-len

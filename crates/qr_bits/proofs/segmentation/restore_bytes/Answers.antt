@@ -1,0 +1,31 @@
+use Rattle.std.proofs.Common.{◌≡◌, ◌+◌, ◌∷◌, [], take, drop, get_or, arith, refl}
+use Rattle.std.proofs.lemmas.List.{drop_all, drop_more}
+use Rattle.qr_bits.specs.Steps.Segmentation.{written}
+use Rattle.qr_bits.proofs.lemmas.segment.SegmentLemmas.{past_end}
+use Rattle.qr_bits.proofs.lemmas.segmentation.MarkedLemmas.{IsRestored, restored-marked, restored-copied, restored-all}
+use Rattle.qr_bits.proofs.segmentation.restore_bytes.Goals as goal
+use Rattle.qr_bits.proofs.segmentation.restore_bytes.Goals.{in-Alphanumeric, in-Numeric}
+
+pub loop-segment-preserved : goal.loop-segment-preserved
+loop-segment-preserved c =
+    let l = c.loop-segment in
+    let segs = c.args.segments.now in
+    let xs = c.args.input.now in
+    let i = l.segment-index in
+    let s = get_or segs i past_end in
+    let later = drop (i + 1) segs in
+    let next : drop i segs ≡ s ∷ later = drop_more segs i past_end c.loop-segment-test.true in
+    let so_far : IsRestored xs segs l.characters l.begin (s ∷ later) = rw next at l.invariant in
+    elim c.match-segment.branch [
+      | in-Alphanumeric w ↦ rw (w.characters-is, w.begin-is) (restored-marked xs segs l.characters l.begin _ s later c.requires.single so_far refl w.in-Alphanumeric.is)
+      | in-Numeric w ↦
+          let own : written s.mode (take s.len (drop l.begin xs)) ≡ take s.len (drop l.begin xs) = (let h = w.in-Numeric.is in search arith) in
+          rw (w.characters-is, w.begin-is) (restored-copied xs segs l.characters _ l.begin _ s later so_far refl w.copy_from_slice.ensures.after own)
+    ]
+
+pub returns : goal.returns
+returns c =
+    let segs = c.args.segments.now in
+    let l = c.loop-segment in
+    let none : drop l.segment-index segs ≡ [] = drop_all l.segment-index segs c.loop-segment-test.false in
+    restored-all c.args.input.now segs l.characters l.begin (rw none at l.invariant)
