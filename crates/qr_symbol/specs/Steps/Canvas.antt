@@ -1,5 +1,5 @@
--- What a canvas, the squares from which symbols are made, has outside the region: the same for all symbols of version
--- `v`.
+-- What a canvas has outside the region, which is the same for all symbols of version `v`. A canvas has the squares from
+-- which symbols are made.
 use Rattle.std.specs.Prelude.{◌≡◌, ℕ, ◌<◌, false}
 use Rattle.qr_layout.specs.Version.{side_of}
 use Rattle.qr_layout.specs.Region.{is_in_region}
