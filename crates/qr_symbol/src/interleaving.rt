@@ -246,7 +246,7 @@ fn deinterleave_into(message: &mut [u8], sizes: BlockSizes, codewords: &[u8])
 }
 
 // Returns the data codewords, unless the error correction codewords that were read differ from those that are computed
-// of these data codewords.
+// from these data codewords.
 fn deinterleave_blocks(
     alloc: Global,
     blocks: Blocks,

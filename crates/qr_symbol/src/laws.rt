@@ -109,9 +109,9 @@ pub fn messages_lie_apart(version: Version, level: Level)
 {}
 
 /// At one version and level, the codewords of a damaged symbol belong to at most one list of data codewords, if the
-/// damage is limited. A codeword is misread if its value is wrong, and erased if it is known to be unreadable. The
-/// limit is that in each block, the erased codewords counted once and the misread ones counted twice are no more than
-/// the error correction codewords.
+/// damage is limited. A codeword is misread if its value is wrong, and erased if it is known to be unreadable. In each
+/// block, count an erased codeword once and a misread one twice. The sum has to be at most the number of error
+/// correction codewords of the block.
 pub fn damaged_messages_are_one(version: Version, level: Level)
     ensures { DamagedMessagesAreOne version level }
 {}
@@ -199,8 +199,9 @@ pub fn boosted_symbols_are_one()
     ensures { BoostedSymbolsAreOne }
 {}
 
-/// Take a symbol that `encode_boosted` makes. Given the same input, the level of this symbol, and its version as the
-/// smallest, `encode` makes the same symbol. So the laws of the symbols of `encode` hold of it too.
+/// Take a symbol that `encode_boosted` makes, and give `encode` the same input, rule and interpretation, the level of
+/// this symbol, and its version as the smallest. Then `encode` makes the same symbol. So the laws of the symbols of
+/// `encode` hold of it too.
 pub fn boosted_symbols_are_symbols()
     ensures { (x : List ℕ) (l k : Level) (smallest : ℕ) (rule : Rule) (i : Interpretation) (v mask : ℕ) (g : Grid)
         → IsBoostedSymbol smallest l rule i x v k mask g → IsSymbol v k rule i x v mask g }

@@ -173,8 +173,8 @@ pub(crate) fn draw_both_formats(pair: &mut MatrixPair, v: Version, formats: (u32
     draw_both_across(pair, v, formats);
 }
 
-// Draws three corners: the finder patterns with their separators, and the modules beside them in row 8 and column 8.
-// These are two modules of the timing patterns, the dark module and the format information.
+// Draws the three corners that have a finder pattern: these patterns with their separators, and the modules beside them
+// in row 8 and column 8. The latter are two modules of the timing patterns, the dark module and the format information.
 fn paint_corners(matrix: &mut Matrix, v: Version, format: u32)
     requires { IsSquare (side_of v) matrix.old }
     ensures { IsOver (side_of v) (is_corner (side_of v)) (paint_of v format) (colour matrix.old) matrix.new }

@@ -1,6 +1,7 @@
-//! Draws the codewords into the region in the standard's order (ISO/IEC 18004:2015, 7.7.2 and 7.7.3): `draw_codewords`
-//! strip by strip, `draw_along_walk` module by module. The bits of the codewords are numbered through all codewords.
-//! Bit 0 is the highest of the first codeword, and the number of a bit is the number of its module in the order.
+//! Draws the codewords into the region in the standard's order (ISO/IEC 18004:2015, 7.7.2 and 7.7.3). `draw_codewords`
+//! does so strip by strip, and `draw_along_walk` module by module. The bits of all codewords have one sequence of
+//! numbers: bit 0 is the highest bit of the first codeword. The number of a bit is also the number of its module in the
+//! order.
 //!
 //! `across` is a transposed square, in which the two columns of a strip are rows (`spans.rt`). In `region` exactly the
 //! region is dark; the region is symmetric, so transposing does not change it.

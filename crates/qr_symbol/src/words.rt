@@ -1,6 +1,6 @@
 //! Moves bits within words of 64 bits, reads up to 64 bits of the codewords at once, and collects bits into codewords
-//! (ISO/IEC 18004:2015, 7.7.2 and 7.7.3). Bit 0 of a word is its lowest. The bits of codewords are numbered through all
-//! codewords, and bit 0 is the highest of the first codeword.
+//! (ISO/IEC 18004:2015, 7.7.2 and 7.7.3). Bit 0 of a word is its lowest. The bits of all codewords have one sequence of
+//! numbers: bit 0 is the highest bit of the first codeword.
 
 ghost use Rattle.std.specs.Prelude.{◌≡◌, ℕ, ◌*◌, ◌/◌, ◌%◌, ◌+◌, ◌-◌, ◌<◌, ◌≤◌, ◌&&◌, [], ◌∷◌, ◌++◌, if◌then◌else◌, nat_lt, length, slice_index, IsTrue, Some, IfOk};
 ghost use Rattle.std.specs.List.{All};
