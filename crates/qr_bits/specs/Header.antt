@@ -8,7 +8,7 @@ use Rattle.qr_bits.specs.Bits.{field}
 abbrev pub header_indicator : ℕ
 header_indicator = 3
 
--- How many bits a header takes. If there is none, it is 0 (ISO/IEC 18004:2015, 8.1)
+-- The number of bits of a header, which is 0 if there is none (ISO/IEC 18004:2015, 8.1)
 abbrev pub header_bits : Option Header → ℕ
 header_bits header = option_map_or (λ _. 20) header 0
 
@@ -22,7 +22,7 @@ HeaderFits header = ForSome header (λ h. (h.position < 16) × (h.last < 16) × 
 unfoldable pub header_stream : Option Header → List Bool
 header_stream header = option_map_or (λ h. field 4 header_indicator ++ (field 4 h.position ++ (field 4 h.last ++ field 8 h.parity))) header []
 
--- The parity data: the exclusive or of all bytes of the input. The input is folded before, and cut into parts
--- afterwards (ISO/IEC 18004:2015, 8.3)
+-- The parity data: the exclusive or of all bytes of the whole input. The bytes are taken after folding, and before the
+-- input is cut into parts (ISO/IEC 18004:2015, 8.3)
 abbrev pub parity_of : List ℕ → ℕ
 parity_of bs = fold bit_xor 0 bs

@@ -40,8 +40,8 @@ padded n stream =
     let whole = filled (terminated (8 * n) stream) in
     whole ++ bits_of (pads (n - length whole / 8))
 
--- `cw` are the data codewords of version `v` and level `l`. They contain the optional header `h`, what states the
--- interpretation `i`, and the bytes `xs` in the segments `segs` (ISO/IEC 18004:2015, 7.4.10)
+-- `cw` are the data codewords of version `v` and level `l`. They contain the optional header `h`, the ECI header or
+-- FNC1 of the interpretation `i`, and the bytes `xs` in the segments `segs` (ISO/IEC 18004:2015, 7.4.10)
 pub record IsData (v : ℕ) (l : Level) (xs : List ℕ) (segs : List Segment) (h : Option Header) (i : Interpretation) (cw : List ℕ) : Type 0 where
   pub stream : List Bool
   pub is_stream : IsStream v xs segs h i stream

@@ -63,8 +63,8 @@ unfoldable pub CountsFit : ℕ → List Segment → Type 0
 CountsFit v [] = Unit {0}
 CountsFit v (s ∷ ss) = (character_count s.mode s.len < 2 ^ count_width v s.mode) × CountsFit v ss
 
--- `stream` is the bit stream of a symbol: the optional header `h`, what states the interpretation `i`, and the bytes
--- `xs` in the segments `segs` (ISO/IEC 18004:2015, 7.4.1, 8.1)
+-- `stream` is the bit stream of a symbol: the optional header `h`, the ECI header or FNC1 of the interpretation `i`,
+-- and the bytes `xs` in the segments `segs` (ISO/IEC 18004:2015, 7.4.1, 8.1)
 pub record IsStream (v : ℕ) (xs : List ℕ) (segs : List Segment) (h : Option Header) (i : Interpretation) (stream : List Bool) : Type 0 where
   pub bytes : All (λ b. b < 256) xs
   pub suit : Suits xs segs

@@ -163,9 +163,9 @@ fn choices(
     let no_characters = digits.min(others);
     let start = digits.min(no_digits);
     // `start` is the best of all choices that begin a segment. After a whole group (`Digit3`, `Character2`, `InBytes`,
-    // `WholePair`) it may be compared with the choice that continues the last segment, though one of its choices begins
-    // a segment of the same mode. That choice takes more bits than to continue the segment, and leads to the same
-    // state, so it is never the best.
+    // `WholePair`) a byte continues the segment, or begins one of another mode. There `start` can stand for the latter,
+    // though it also includes a new segment of the same mode. Such a segment takes more bits than to continue, and
+    // leads to the same state, so it is never the best choice.
     let digit2 = next_if(digit, 3, Mode::Numeric, rest.digit2);
     let digit3 = next_if(digit, 3, Mode::Numeric, rest.digit3);
     let digit1 = next_if(digit, 4, Mode::Numeric, rest.digit1);

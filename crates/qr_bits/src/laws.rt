@@ -90,7 +90,7 @@ pub fn least_segmentations_fit()
     ensures { LeastSegmentationsFit }
 {}
 
-/// An input has at most one least segmentation for an interpretation, a version and a rule.
+/// For a given interpretation, version and rule, an input has at most one least segmentation.
 pub fn segmentations_are_one()
     ensures { (i : Interpretation) (v : ℕ) (r : Rule) (xs ys zs : List ℕ) (ss ts : List Segment)
         → IsLeastSegmentation i v r xs ys ss → IsLeastSegmentation i v r xs zs ts → (ys ≡ zs) × (ss ≡ ts) }
@@ -242,9 +242,9 @@ pub fn parse_fault_numbers(fault: ParseFault) -> u8
     fault as u8
 }
 
-/// The values of the two kanji pairs that the standard encodes and of the greatest pair, and the pairs that have these
-/// values (ISO/IEC 18004:2015, 7.4.6). The last two clauses say which pairs of bytes are kanji pairs and which are not,
-/// at both ends of each range.
+/// The values of three kanji pairs, and the pairs that have these values: the two pairs that the standard encodes, and
+/// the greatest pair (ISO/IEC 18004:2015, 7.4.6). The last two clauses say which pairs of bytes are kanji pairs and
+/// which are not, at both ends of each range.
 #[tactic(auto, unfolding(crate::specs::Modes::is_kanji_pair, crate::specs::Modes::kanji_value, crate::specs::Parsing::kanji_pair))]
 pub fn kanji_compute()
     ensures first { kanji_value 0x93 0x5F ≡ 0xD9F }

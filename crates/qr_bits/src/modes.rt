@@ -197,8 +197,8 @@ fn place_of(character: u8) -> Option<usize>
 }
 
 // The number of 13 bits that is written for a kanji pair (ISO/IEC 18004:2015, 7.4.6). The subtraction closes the gap
-// between the two ranges of pairs, and leaves a low byte of at most BC (hexadecimal). So the high byte is multiplied by
-// C0 (hexadecimal), which is enough, instead of 256.
+// between the two ranges of pairs, and leaves a low byte of at most BC (hexadecimal). So it is enough to multiply the
+// high byte by C0 instead of 100 (both hexadecimal).
 #[tactic(auto, unfolding(crate::specs::Modes::kanji_value), using(crate::proofs::lemmas::modes::KanjiLemmas::least_pair))]
 pub(crate) fn kanji_value(high: u8, low: u8) -> u16
     requires { IsTrue (is_kanji_pair high low) }

@@ -1,6 +1,6 @@
-//! How data codewords are parsed: as a structured append header, if there is one, and then items, which are segments,
-//! ECI headers and FNC1 (ISO/IEC 18004:2015, 7.4.1 to 7.4.9, 8, 12). First all items are read, and the characters of
-//! all segments are appended to one list, `out`. Then `interpreted` returns the bytes that these characters stand for.
+//! How data codewords are parsed: as an optional structured append header, and then items. These are segments, ECI
+//! headers and FNC1 (ISO/IEC 18004:2015, 7.4.1 to 7.4.9, 8, 12). First all items are read, and the characters of all
+//! segments are appended to one list, `out`. Then `interpreted` returns the bytes that these characters stand for.
 
 ghost use Rattle.std.specs.Prelude.{Err, IfOk, List, MatchResult, drop, length, take, true, ℕ, ◌%◌, ◌*◌, ◌++◌, ◌+◌, ◌<◌, ◌^◌, ◌≡◌, ◌≤◌};
 ghost use Rattle.qr_bits.specs.Modes.{byte_count, payload_bits};
