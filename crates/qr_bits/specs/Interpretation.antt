@@ -1,6 +1,6 @@
 -- How a symbol says what its bytes mean: by ECI headers and FNC1, which are items like the segments. A segment contains
 -- characters, and these stand for the bytes. The characters are the bytes themselves, except in alphanumeric mode after
--- FNC1.
+-- FNC1. `ms` are the modes of the bytes `xs`.
 use Rattle.std.specs.Prelude.{ℕ, ◌+◌, ◌*◌, ◌/◌, ◌%◌, ◌<◌, Bool, true, false, ◌&&◌, ◌||◌, nat_lt, nat_le, if◌then◌else◌, List, [], ◌∷◌, ◌++◌, map, take, drop, length, ◌==◌, Option, Some, None, IsTrue}
 use Rattle.qr_bits.specs.declared.segment.Segment.{Segment}
 use Rattle.qr_bits.specs.declared.modes.Mode.{Mode}
@@ -30,8 +30,8 @@ fnc1_second_indicator = 9
 abbrev pub is_application_indicator : ℕ → Bool
 is_application_indicator a = nat_lt a 100 || nat_le 165 a && nat_le a 190 || nat_le 197 a && nat_le a 222
 
--- After an ECI header FNC1 is allowed if it was allowed in the place of this header. After any other item it is not
--- allowed (ISO/IEC 18004:2015, 7.4.8.2)
+-- FNC1 may come after an ECI header if it was allowed in the place of this header, and after no other item (ISO/IEC
+-- 18004:2015, 7.4.8.2)
 abbrev pub may_follow : Bool → Item → Bool
 may_follow may (Eci d) = may
 may_follow may _ = false
@@ -81,8 +81,8 @@ percent = 37
 abbrev pub separator : ℕ
 separator = 0x1D
 
--- The bytes that characters of alphanumeric mode stand for after FNC1. The characters are read from the left: `%%`
--- stands for `%`, and any other `%` for the separator (ISO/IEC 18004:2015, 7.4.8.2)
+-- The bytes that characters of alphanumeric mode stand for after FNC1. Read from the left, `%%` is `%`, and any other
+-- `%` is the separator (ISO/IEC 18004:2015, 7.4.8.2)
 unfoldable pub separated : List ℕ → List ℕ
 separated [] = []
 separated (x ∷ []) = if x == percent then separator ∷ [] else x ∷ []
@@ -114,15 +114,14 @@ abbrev pub character_for : Interpretation → ℕ → Mode → ℕ
 character_for written.Gs1 x Alphanumeric = if x == separator then percent else x
 character_for _ x m = x
 
--- The modes of the characters that are written for the bytes `xs` after FNC1 in first position. `ms` are the modes of
--- the bytes. If a byte is written as two characters, its mode is listed twice (ISO/IEC 18004:2015, 7.4.8.2)
+-- The modes of the characters that are written for the bytes after FNC1 in first position. For a byte that becomes two
+-- characters, its mode is listed twice (ISO/IEC 18004:2015, 7.4.8.2)
 unfoldable pub doubled_gs1 : List ℕ → List Mode → List Mode
 doubled_gs1 [] ms = ms
 doubled_gs1 (x ∷ xs) [] = []
 doubled_gs1 (x ∷ xs) (m ∷ ms) = if is_doubled written.Gs1 x m then m ∷ m ∷ doubled_gs1 xs ms else m ∷ doubled_gs1 xs ms
 
--- The characters that are written for the bytes `xs` after FNC1 in first position. `ms` are the modes of the bytes
--- (ISO/IEC 18004:2015, 7.4.8.2)
+-- The characters that are written for the bytes after FNC1 in first position (ISO/IEC 18004:2015, 7.4.8.2)
 unfoldable pub characters_gs1 : List ℕ → List Mode → List ℕ
 characters_gs1 [] ms = []
 characters_gs1 (x ∷ xs) [] = x ∷ xs
@@ -130,15 +129,13 @@ characters_gs1 (x ∷ xs) (m ∷ ms) =
     let c = character_for written.Gs1 x m in
     if is_doubled written.Gs1 x m then c ∷ c ∷ characters_gs1 xs ms else c ∷ characters_gs1 xs ms
 
--- The modes of the characters that are written for the bytes `xs` under the interpretation. `ms` are the modes of the
--- bytes (ISO/IEC 18004:2015, 7.4.8.2)
+-- The modes of the characters that are written for the bytes under an interpretation (ISO/IEC 18004:2015, 7.4.8.2)
 abbrev pub doubled : Interpretation → List ℕ → List Mode → List Mode
 doubled written.Default xs ms = ms
 doubled (written.Eci n) xs ms = ms
 doubled written.Gs1 xs ms = doubled_gs1 xs ms
 
--- The characters that are written for the bytes `xs` under the interpretation. `ms` are the modes of the bytes (ISO/IEC
--- 18004:2015, 7.4.8.2)
+-- The characters that are written for the bytes under an interpretation (ISO/IEC 18004:2015, 7.4.8.2)
 abbrev pub characters_in : Interpretation → List ℕ → List Mode → List ℕ
 characters_in written.Default xs ms = xs
 characters_in (written.Eci n) xs ms = xs
@@ -165,7 +162,7 @@ meant_bytes fnc1 (Eci d ∷ is) xs = meant_bytes fnc1 is xs
 meant_bytes fnc1 (Fnc1First ∷ is) xs = meant_bytes true is xs
 meant_bytes fnc1 (Fnc1Second a ∷ is) xs = meant_bytes true is xs
 
--- The ECI headers among the items, each with the number of bytes of the symbol before it. `n` bytes come before the
+-- The ECI headers among the items, each with the number of bytes of the symbol before it, of which `n` come before the
 -- first item (ISO/IEC 18004:2015, 7.4.2.2)
 unfoldable pub eci_changes : Bool → ℕ → List Item → List ℕ → List EciChange
 eci_changes fnc1 n [] xs = []

@@ -25,8 +25,8 @@ count_width v Alphanumeric = if nat_le v 9 then 9 else (if nat_le v 26 then 11 e
 count_width v Byte = if nat_le v 9 then 8 else 16
 count_width v Kanji = if nat_le v 9 then 8 else (if nat_le v 26 then 10 else 12)
 
--- The number in the character count indicator of a segment of `n` bytes. In kanji mode two bytes are one character
--- (ISO/IEC 18004:2015, 7.4.1)
+-- The number in the character count indicator of a segment of `n` bytes, of which kanji mode counts two as one
+-- character (ISO/IEC 18004:2015, 7.4.1)
 abbrev pub character_count : Mode → ℕ → ℕ
 character_count Kanji n = n / 2
 character_count _ n = n
@@ -81,9 +81,9 @@ suits Alphanumeric xs = list_all is_alphanumeric xs
 suits Byte xs = true
 suits Kanji xs = in_twos is_kanji_pair xs
 
--- How many bits the data of `n` bytes take. Three digits take 10 bits, and two digits or one at the end take 7 or 4.
--- Two characters take 11, and one at the end takes 6. A byte takes 8, and a kanji pair 13. If `n` is odd in kanji mode,
--- which no valid assignment has, the last byte counts as a whole pair (ISO/IEC 18004:2015, 7.4.3 to 7.4.6)
+-- How many bits the data of `n` bytes take: 10 for each three digits, then 7 for two digits at the end, or 4 for one;
+-- 11 for each two characters, then 6 for one at the end; 8 for a byte; 13 for a kanji pair. If `n` is odd in kanji
+-- mode, which no valid assignment has, the last byte counts as a whole pair (ISO/IEC 18004:2015, 7.4.3 to 7.4.6)
 abbrev pub payload_bits : Mode → ℕ → ℕ
 payload_bits Numeric n = 10 * (n / 3) + (if n % 3 == 0 then 0 else (if n % 3 == 1 then 4 else 7))
 payload_bits Alphanumeric n = 11 * (n / 2) + 6 * (n % 2)

@@ -32,8 +32,8 @@ IsResultOf r read = (r ≡ Err Memory) ⊎ (read ≡ r)
 abbrev pub digit : ℕ → ℕ
 digit n = 48 + n % 10
 
--- The next `n` digits. Three digits are read from 10 bits, and two digits or one at the end from 7 or 4 bits. A number
--- that is too large for its digits is a `BadValue` (ISO/IEC 18004:2015, 7.4.3)
+-- The next `n` digits: each three digits are read from 10 bits, then two at the end from 7 bits, or one from 4. A
+-- number that is too large for its digits is a `BadValue` (ISO/IEC 18004:2015, 7.4.3)
 unfoldable pub digits_of : ℕ → List Bool → Result (List ℕ) ParseFault
 digits_of zero bits = Ok []
 digits_of (suc zero) bits =
@@ -50,8 +50,8 @@ digits_of (suc (suc (suc n))) bits =
 unfoldable pub character : ℕ → ℕ
 character n = slice_index_or characters n 0
 
--- The next `n` characters. Two characters are read from 11 bits, and one at the end from 6 bits. The number for two
--- characters is a `BadValue` from 2025 on, and that for one character from 45 on (ISO/IEC 18004:2015, 7.4.4)
+-- The next `n` characters: each two characters are read from 11 bits, then one at the end from 6. A number from 2025 on
+-- for two, or from 45 on for one, is a `BadValue` (ISO/IEC 18004:2015, 7.4.4)
 unfoldable pub characters_of : ℕ → List Bool → Result (List ℕ) ParseFault
 characters_of zero bits = Ok []
 characters_of (suc zero) bits =

@@ -55,7 +55,7 @@ IsNotAfter [] ks = Unit {0}
 IsNotAfter (m ∷ ms) [] = ⊥
 IsNotAfter (m ∷ ms) (k ∷ ks) = (rank m < rank k) ⊎ ((m ≡ k) × IsNotAfter ms ks)
 
--- No valid assignment takes fewer bits than `ms`. Of several valid assignments with as few bits, `ms` is the first in
+-- No valid assignment takes fewer bits than `ms`, and of those that take equally few, `ms` is the first in
 -- lexicographic order [own]
 pub record IsBestAssignment (i : Interpretation) (v : ℕ) (r : Rule) (xs : List ℕ) (ms : List Mode) : Type 0 where
   pub assignment : IsAssignment i r xs ms
@@ -71,9 +71,9 @@ IsLeastSegmentation i v r xs ys segs =
 abbrev pub HasFit : Interpretation → ℕ → Rule → List ℕ → ℕ → Type 0
 HasFit i v r xs n = (ms : List Mode) × IsAssignment i r xs ms × (bits v (runs_of (doubled i xs ms)) ≤ n)
 
--- A lower bound on the bits that a byte takes in any mode, in sixths of a bit. It is 20 for a digit, since three digits
--- take 10 bits. For any other byte up to `Z` it is 33, since two characters take 11 bits. For a byte above `Z`, which
--- only byte mode and kanji mode can write, it is 39 (ISO/IEC 18004:2015, 7.4.3 to 7.4.6)
+-- A lower bound on the bits that a byte takes in any mode, in sixths of a bit. It is 20 for a digit (three digits take
+-- 10 bits), 33 for any other byte up to `Z` (two characters take 11 bits), and 39 for a byte above `Z`, which only byte
+-- mode and kanji mode can write (ISO/IEC 18004:2015, 7.4.3 to 7.4.6)
 abbrev pub least_sixths : ℕ → ℕ
 least_sixths b = if is_digit b then 20 else (if nat_le b 90 then 33 else 39)
 

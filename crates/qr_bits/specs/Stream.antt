@@ -15,7 +15,7 @@ use Rattle.qr_bits.specs.declared.interpretation.Item.{Item}
 use Rattle.qr_bits.specs.declared.interpretation.Item.TheVariants.{Data, Eci, Fnc1First, Fnc1Second}
 use Rattle.qr_bits.specs.Interpretation.{eci_indicator, fnc1_first_indicator, fnc1_second_indicator, interpretation_stream, InterpretationFits, is_application_indicator}
 
--- The bits of digits in numeric mode. Three digits take 10 bits, and two digits or one at the end take 7 or 4 (ISO/IEC
+-- The bits of digits in numeric mode: 10 for each three digits, then 7 for two digits at the end, or 4 for one (ISO/IEC
 -- 18004:2015, 7.4.3)
 unfoldable pub digit_bits : List ℕ → List Bool
 digit_bits [] = []
@@ -23,7 +23,7 @@ digit_bits (a ∷ []) = field 4 (a - 48)
 digit_bits (a ∷ b ∷ []) = field 7 (10 * (a - 48) + (b - 48))
 digit_bits (a ∷ b ∷ c ∷ xs) = field 10 (100 * (a - 48) + 10 * (b - 48) + (c - 48)) ++ digit_bits xs
 
--- The bits of characters in alphanumeric mode. Two characters take 11 bits, and one at the end takes 6 (ISO/IEC
+-- The bits of characters in alphanumeric mode: 11 for each two characters, then 6 for one at the end (ISO/IEC
 -- 18004:2015, 7.4.4)
 unfoldable pub character_bits : List ℕ → List Bool
 character_bits [] = []

@@ -34,8 +34,8 @@ pub record IsSymbol (smallest : ℕ) (l : Level) (rule : Rule) (i : Interpretati
   pub version : IsVersion smallest l rule i x v
   pub made : IsSymbolAt v l rule i x None mask g
 
--- The symbol without a header. Its version `v` is the least, from `smallest` on, that `x` fits at level `l`. Its level
--- `k` is the highest at which `x` fits version `v` [own]
+-- The symbol without a header. Its version `v` is the least, from `smallest` on, that `x` fits at level `l`, and its
+-- level `k` is the highest at which `x` fits this version [own]
 pub record IsBoostedSymbol (smallest : ℕ) (l : Level) (rule : Rule) (i : Interpretation) (x : List ℕ) (v : ℕ) (k : Level) (mask : ℕ) (g : Grid) : Type 0 where
   pub version : IsVersion smallest l rule i x v
   pub level : IsHighestLevel v l rule i x k

@@ -1,6 +1,6 @@
 -- The final sequence of codewords: the interleaved data codewords of all blocks, then their interleaved error
--- correction codewords. Before they are interleaved, the blocks come one after the other. `c` are block sizes. Blocks
--- are counted from 0, and so are the codewords in a block.
+-- correction codewords. Without interleaving, one block comes after the other. `c` are block sizes, and both blocks and
+-- the codewords in a block are counted from 0.
 use Rattle.std.specs.Prelude.{◌≡◌, ℕ, ◌+◌, ◌-◌, ◌*◌, ◌<◌, ◌⊎◌, nat_lt, if◌then◌else◌, List, [], ◌++◌, map, take, drop, length, slice_index_or}
 use Rattle.std.specs.List.{All, AllPairs, Contains}
 use Rattle.qr_field.specs.Polynomial.{IsCorrection}
@@ -18,7 +18,7 @@ block_count c = c.short + c.long
 abbrev pub block_len : BlockSizes → ℕ → ℕ
 block_len c i = if nat_lt i c.short then c.short_len else c.short_len + 1
 
--- The number of codewords before block `i`. If `i` is the number of blocks, it is the number of all codewords [own]
+-- The number of codewords before block `i`, or of all codewords if `i` is the number of blocks [own]
 abbrev pub start_of : BlockSizes → ℕ → ℕ
 start_of c i = c.short_len * i + (i - c.short)
 
@@ -30,8 +30,8 @@ codeword_count c = start_of c (block_count c)
 abbrev pub data_sizes : Blocks → BlockSizes
 data_sizes b = record { short = b.short; short_len = b.short_len; long = b.long }
 
--- The sizes of the blocks `b`, counted in error correction codewords. All blocks have equally many of these, so all are
--- counted as short (ISO/IEC 18004:2015, 7.5.1)
+-- The sizes of the blocks `b`, counted in error correction codewords. There are equally many in each, so all blocks are
+-- short (ISO/IEC 18004:2015, 7.5.1)
 abbrev pub correction_sizes : Blocks → BlockSizes
 correction_sizes b = record { short = b.short + b.long; short_len = b.ec_len; long = 0 }
 

@@ -25,7 +25,7 @@ pub record IsVersion (smallest : ℕ) (l : Level) (rule : Rule) (i : Interpretat
 abbrev pub HasNoVersion : ℕ → Level → Rule → Interpretation → List ℕ → Type 0
 HasNoVersion smallest l rule i x = (v : ℕ) → smallest ≤ v → v ≤ 40 → FitsVersion v l rule i x → ⊥
 
--- The rank of a level. Of two levels, the one with the higher rank corrects more errors (ISO/IEC 18004:2015, 7.5.1)
+-- The rank of a level: of two levels, the one with the higher rank corrects more errors (ISO/IEC 18004:2015, 7.5.1)
 abbrev pub level_rank : Level → ℕ
 level_rank L = 0
 level_rank M = 1

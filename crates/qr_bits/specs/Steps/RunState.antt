@@ -25,8 +25,8 @@ state_after _ Byte = InBytes
 state_after HalfPair Kanji = WholePair
 state_after _ Kanji = HalfPair
 
--- The state after one more byte in the mode of the last byte. After `Start` there is no last byte, and the mode is byte
--- mode
+-- The state after one more byte in the mode of the last byte. After `Start`, where there is no last byte, the mode is
+-- byte mode
 unfoldable pub state_on : RunState → RunState
 state_on Start = InBytes
 state_on Digit1 = Digit2
@@ -54,7 +54,8 @@ byte_cost v HalfPair Kanji = 0
 byte_cost v WholePair Kanji = 13
 byte_cost v _ Kanji = 4 + count_width v Kanji + 13
 
--- The test for a kanji pair if bytes are taken from the last to the first. Then the second byte of a pair comes first
+-- The test for a kanji pair if bytes are taken from the last to the first, so that the second byte of a pair comes
+-- before its first
 abbrev pub swapped : (ℕ → ℕ → Bool) → ℕ → ℕ → Bool
 swapped test x y = test y x
 
@@ -71,7 +72,7 @@ may_begin r x pair Alphanumeric = may_use r Alphanumeric && is_alphanumeric x
 may_begin r x pair Byte = may_use r Byte
 may_begin r x pair Kanji = pair
 
--- The byte `x` may have the mode `m` after the state `p`. After half a kanji pair only kanji mode is possible
+-- The byte `x` may have the mode `m` after the state `p`; after half a kanji pair only kanji mode is possible
 unfoldable pub may_take : Rule → RunState → ℕ → Bool → Mode → Bool
 may_take r HalfPair x pair m = rank m == rank Kanji
 may_take r _ x pair m = may_begin r x pair m
@@ -140,9 +141,9 @@ pub record IsChoice (i : Interpretation) (v : ℕ) (r : Rule) (p : RunState) (x 
   pub least : (k : Mode) → IsTrue (may_take_in i r p x pair k) → n ≤ cost_in i v p x k + cost (state_in i p x k)
   pub first : (k : Mode) → IsTrue (may_take_in i r p x pair k) → cost_in i v p x k + cost (state_in i p x k) ≡ n → rank m ≤ rank k
 
--- A choice as one number. A choice is a mode and a number of bits. Of two choices, the one with fewer bits has the
--- smaller number. If both have equally many bits, this is the one with the mode of lower rank. A choice that is not
--- allowed has the greatest number of 32 bits. For inputs of at most `INPUT_MAX` bytes no allowed choice reaches it
+-- A choice, which is a mode and a number of bits, as one number. Fewer bits make it smaller, and so does a mode of
+-- lower rank if the bits are equally many. If the mode is not allowed, it is the greatest number of 32 bits, which no
+-- allowed choice reaches for inputs of at most `INPUT_MAX` bytes
 abbrev pub choice_number : Bool → ℕ → Mode → ℕ
 choice_number may bits m = if may then 4 * bits + rank m else 4294967295
 

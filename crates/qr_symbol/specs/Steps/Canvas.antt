@@ -1,5 +1,4 @@
--- What a canvas has outside the region, which is the same for all symbols of version `v`. A canvas has the squares from
--- which symbols are made.
+-- What the squares of a canvas have outside the region. It is the same for all symbols of version `v`.
 use Rattle.std.specs.Prelude.{◌≡◌, ℕ, ◌<◌, false}
 use Rattle.qr_layout.specs.Version.{side_of}
 use Rattle.qr_layout.specs.Region.{is_in_region}

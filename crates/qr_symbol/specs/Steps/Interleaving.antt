@@ -4,7 +4,7 @@ use Rattle.qr_field.specs.Polynomial.{IsCorrection}
 use Rattle.qr_layout.specs.declared.blocks.Blocks.{Blocks}
 use Rattle.qr_symbol.specs.Interleaving.{start_of, correction_sizes, block_of, part_of}
 
--- `xs` are the error correction codewords of the first `blocks` blocks, one block after the other. `d` are the data
+-- `xs` are the error correction codewords of the first `blocks` blocks, one block after the other, if `d` are the data
 -- codewords of all blocks.
 pub record IsChecks (b : Blocks) (d : List ℕ) (blocks : ℕ) (xs : List ℕ) : Type 0 where
   pub long : length xs ≡ start_of (correction_sizes b) blocks

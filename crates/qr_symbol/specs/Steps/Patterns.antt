@@ -34,7 +34,7 @@ abbrev pub symmetric_format : ℕ
 symmetric_format = 128
 
 -- Module `at` of row 6, or of column 6, is dark; `s` is the side. The seven modules at each end belong to finder
--- patterns, and are dark. Between them the modules with an even index are dark.
+-- patterns, and are dark. Between them, those with an even index are.
 abbrev pub is_dark_in_six : ℕ → ℕ → Bool
 is_dark_in_six s at = nat_lt at 7 || nat_le (s - 7) at || at % 2 == 0
 
