@@ -9,8 +9,8 @@
 //!
 //! In all functions `kanji` says that the rule allows kanji mode, `pair` that the byte may begin a kanji pair, and
 //! `gs1` that the bytes are GS1 data. The functions are inlined in the loops that call them. Where `kanji` is the
-//! constant `false`, the compiler leaves out the tests for pairs. Where `gs1` is the constant `false`, it leaves out
-//! the tests for `%` and the separator.
+//! constant `false`, the compiler leaves out the tests for pairs, and where `gs1` is the constant `false`, those for
+//! `%` and the separator.
 
 ghost use Rattle.std.specs.Prelude.{◌≡◌, ◌+◌, ◌*◌, ◌/◌, ◌%◌, ◌<◌, ◌≤◌, ℕ, Bool, true, false, length, reverse, IfOk, vec_len};
 ghost use Rattle.qr_bits.specs.declared.modes.Mode.{Mode};
@@ -29,7 +29,7 @@ use crate::run_state::{FirstChoices, NO_BITS, PerState, RunState, number};
 use qr_layout::Version;
 use std::alloc::{AllocError, Global};
 
-// Stands for a choice that is not allowed. It is greater than every choice that is allowed.
+// Stands for a choice that is not allowed, and is greater than every choice that is allowed.
 const NO_CHOICE: u32 = u32::MAX;
 
 #[inline(always)]

@@ -1,6 +1,6 @@
 //! The structured append header, with which the data of each symbol of a series begin. It says which symbol of the
-//! series this is, how many symbols there are, and what the parity data of the input are. The parity data are the same
-//! in all symbols (ISO/IEC 18004:2015, 8).
+//! series this is, and how many symbols there are. It also has the parity data of the whole input (ISO/IEC 18004:2015,
+//! 8).
 
 ghost use Rattle.std.specs.Prelude.{◌≡◌, ◌≤◌};
 ghost use Rattle.qr_bits.specs.Header.{header_bits, parity_of};

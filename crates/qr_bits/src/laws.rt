@@ -37,8 +37,8 @@ pub fn streams_are_parsed()
     ensures { StreamsAreParsed }
 {}
 
-/// Data codewords are parsed as the header, interpretation and segments that they were made from. If they have no
-/// interpretation, they are also parsed as the bytes that they were made from.
+/// Data codewords are parsed as the header, interpretation and segments that they were made from, and as the bytes too
+/// if they have no interpretation.
 pub fn data_are_parsed()
     ensures whole { DataAreParsed }
     ensures plain { PlainDataAreParsed }

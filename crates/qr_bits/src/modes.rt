@@ -103,8 +103,8 @@ pub(crate) fn count_width(version: Version, mode: Mode) -> u8
     }
 }
 
-// The number in the character count indicator of a segment of `len` bytes. In kanji mode two bytes are one character
-// (ISO/IEC 18004:2015, 7.4.1).
+// The number in the character count indicator of a segment of `len` bytes, of which kanji mode counts two as one
+// character (ISO/IEC 18004:2015, 7.4.1).
 pub(crate) fn character_count(mode: Mode, len: usize) -> usize
     ensures { result ≡ character_count mode len }
 {

@@ -39,8 +39,8 @@ pub fn products_compute()
     ensures zero { product 0 0xFF ≡ 0 }
 {}
 
-/// The generator polynomial of degree 7 with its coefficients as bytes, and all generator polynomials that Annex A
-/// prints for QR Code. In Annex A each coefficient is printed as a power of 2.
+/// The generator polynomial of degree 7 with bytes as coefficients, and all generator polynomials that Annex A prints
+/// for QR Code, with powers of 2 as coefficients.
 pub fn generators_compute()
     ensures seven { generator_of 7 ≡ 1 ∷ 0x7F ∷ 0x7A ∷ 0x9A ∷ 0xA4 ∷ 0x0B ∷ 0x44 ∷ 0x75 ∷ [] }
     ensures printed { map generator_of lengths_in_use ≡ map (map power) printed_exponents }

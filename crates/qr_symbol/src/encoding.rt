@@ -35,8 +35,7 @@ pub(crate) const SYMBOL_BYTES_MAX: usize = 7089;
 /// Encodes the input as one symbol of the least version, from `smallest` on, that it fits (ISO/IEC 18004:2015, 7.1).
 /// `interpretation` is what the symbol says of its bytes: their ECI, that they are GS1 data, or nothing. The segments
 /// are those of fewest bits in the modes that `rule` allows, and the codewords are those that the standard requires for
-/// these segments. The mask is the one with the least penalty. If several masks have the least penalty, it is the
-/// smallest of them.
+/// these segments. The mask is the one with the least penalty, and of several such masks the smallest.
 ///
 /// Read in the standard's order, unmasked, deinterleaved and parsed, the symbol yields exactly the input and these
 /// segments.

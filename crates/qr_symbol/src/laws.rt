@@ -146,8 +146,8 @@ pub fn contents_are_one()
     ensures { (g : Grid) (p q : Content) → IsReading g p → IsReading g q → p ≡ q }
 {}
 
-/// A square that can be read is refused only for lack of memory. Apart from lack of memory, there is at most one fault
-/// for which a square is refused.
+/// A square that can be read is refused only for lack of memory. For any other square at most one more fault is
+/// possible.
 pub fn refusals_are_one()
     ensures read { (g : Grid) (p : Content) (e : ReadFault) → IsReading g p → IsUnread g e
         → e ≡ ReadFault.Memory }
@@ -169,8 +169,8 @@ pub fn joinings_are_one()
     ensures { (gs : List Grid) (x y : List ℕ) → IsJoined gs x → IsJoined gs y → x ≡ y }
 {}
 
-/// Squares that can be read and joined are refused only for lack of memory. Apart from lack of memory, there is at most
-/// one fault for which a list of squares is refused.
+/// Squares that can be read and joined are refused only for lack of memory. For any other list at most one more fault
+/// is possible.
 pub fn joining_refusals_are_one()
     ensures joined { (gs : List Grid) (x : List ℕ) (e : ReadFault) → IsJoined gs x
         → IsUnjoined gs e → e ≡ ReadFault.Memory }
@@ -193,15 +193,13 @@ pub fn symbols_are_one()
 {}
 
 /// For a given lowest level, rule, interpretation and smallest version, `encode_boosted` can make at most one symbol of
-/// an input. Its version is the least that the input fits at the lowest level, and its level is the highest at which
-/// the input fits this version.
+/// an input. It has the least version that is possible, and in this version the highest level.
 pub fn boosted_symbols_are_one()
     ensures { BoostedSymbolsAreOne }
 {}
 
-/// Take a symbol that `encode_boosted` makes, and give `encode` the same input, rule and interpretation, the level of
-/// this symbol, and its version as the smallest. Then `encode` makes the same symbol. So the laws of the symbols of
-/// `encode` hold of it too.
+/// If `encode` is given the level of a symbol that `encode_boosted` makes, and its version as the smallest, it makes
+/// the same symbol of the same input. So the laws of the symbols of `encode` hold of both.
 pub fn boosted_symbols_are_symbols()
     ensures { (x : List ℕ) (l k : Level) (smallest : ℕ) (rule : Rule) (i : Interpretation) (v mask : ℕ) (g : Grid)
         → IsBoostedSymbol smallest l rule i x v k mask g → IsSymbol v k rule i x v mask g }
