@@ -61,7 +61,7 @@ fn may_begin(rule: Rule, byte: u8, mode: Mode) -> bool
 }
 
 // The choice of a mode for a byte, or `NO_CHOICE` if `may` is false. `first` is the choice with the bits of the byte
-// alone, and `rest` is the best choice for the later bytes. The bits of both are added: `rest / 4 * 4` is `rest`
+// alone, and `rest` is the best choice for the later bytes. The bits of the two are added: `rest / 4 * 4` is `rest`
 // without its mode. 155 is the sum of 135, the greatest choice of a first byte, and 4 times the 5 bits of a second
 // character. The best choices of an input of at most `INPUT_MAX` bytes stay below 40,000,000, so the sum does not
 // overflow.
@@ -163,9 +163,9 @@ fn choices(
     let no_characters = digits.min(others);
     let start = digits.min(no_digits);
     // `start` is the best of all choices that begin a segment. After a whole group (`Digit3`, `Character2`, `InBytes`,
-    // `WholePair`) a byte continues the segment, or begins one of another mode. There `start` can stand for the latter,
-    // though it also includes a new segment of the same mode. Such a segment takes more bits than to continue, and
-    // leads to the same state, so it is never the best choice.
+    // `WholePair`) one of them is needless: to begin a segment of the mode that the last segment has. This takes more
+    // bits than to continue the last segment, and leads to the same state. So it is never the best choice, and `start`
+    // need not leave it out.
     let digit2 = next_if(digit, 3, Mode::Numeric, rest.digit2);
     let digit3 = next_if(digit, 3, Mode::Numeric, rest.digit3);
     let digit1 = next_if(digit, 4, Mode::Numeric, rest.digit1);

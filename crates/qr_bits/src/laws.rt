@@ -1,7 +1,7 @@
 //! Laws of this crate's definitions. A function with an empty body does nothing: its contract is the law. If its name
 //! ends in `compute`, the law has examples that the standard prints, or that were worked out by hand.
 //!
-//! The functions with a body are laws of the public types: which numbers the faults have, that `==` is true exactly of
+//! The functions with a body are laws of the public types: which numbers the faults have, that `==` is true exactly for
 //! equal values, and that a clone is equal to its original.
 
 ghost use Rattle.std.specs.Prelude.{◌≡◌, ◌-◌, ◌/◌, ◌%◌, ℕ, List, [], ◌∷◌, ◌++◌, true, false, length, map, codes, ◌↔◌, IsTrue, IfOk};

@@ -100,7 +100,7 @@ fn longest_by_rows(
 
 // How many bits of the capacity are left after a structured append header and the ECI header or FNC1 of the
 // interpretation (ISO/IEC 18004:2015, 7.4.2, 7.4.8.2, 8.1). At least 20 bits are left: the capacity is at least 72
-// bits, of which the structured append header takes 20, and the other at most 28.
+// bits, the structured append header takes 20 of them, and an ECI header or FNC1 takes at most 28.
 fn room(version: Version, level: Level, interpretation: Interpretation) -> u64
     ensures value { result ≡ room_of version level interpretation }
     ensures least { 20 ≤ result }

@@ -12,8 +12,7 @@ use crate::fault::ParseFault;
 use qr_layout::Version;
 
 /// The greatest length of an input, in bytes. A series has at most 16 symbols of at most 7,089 bytes each, and this
-/// length is one byte more. So an input of this length fits no series, and if an input is longer, its other bytes need
-/// not be read.
+/// length is one byte more. So an input of this length fits no series, and no byte after it need be read.
 pub const INPUT_MAX: usize = 113_425;
 
 /// How the bytes of a segment are written (ISO/IEC 18004:2015, 7.3.3 to 7.3.6).

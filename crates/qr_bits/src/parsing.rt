@@ -21,8 +21,8 @@ use qr_layout::Version;
 use std::alloc::Global;
 use std::marker::Model;
 
-// The number that is written for a group of three, two or one digits, or of two characters or one, is below the limit
-// of this group (ISO/IEC 18004:2015, 7.4.3, 7.4.4).
+// Limits of the numbers that are written for three digits, two digits, one digit, two characters, and one character.
+// Each number is below its limit (ISO/IEC 18004:2015, 7.4.3, 7.4.4).
 const THREE_DIGITS: u16 = 1000;
 
 const TWO_DIGITS: u16 = 100;

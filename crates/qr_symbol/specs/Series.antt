@@ -51,8 +51,8 @@ AreSymbolsFrom v l rule i last parity k (p ∷ ps) (s ∷ ss) =
     IsSymbolOf v l rule i p (Some (record { position = k; last = last; parity = parity })) s
     × AreSymbolsFrom v l rule i last parity (k + 1) ps ss
 
--- `x` does not fit one plain symbol, is cut into at most 16 parts, and `symbols` are those of its parts. Their headers
--- have the number of symbols less 1 and the parity data of `x` [own]
+-- `x` does not fit one plain symbol, is cut into at most 16 parts, and `symbols` are the symbols of these parts. Their
+-- headers have the number of symbols less 1 and the parity data of `x` [own]
 pub record IsSplit (v : ℕ) (l : Level) (rule : Rule) (i : Interpretation) (x : List ℕ) (symbols : List Symbol) : Type 0 where
   pub too_long : FitsVersion v l rule i x → ⊥
   pub parts : List (List ℕ)

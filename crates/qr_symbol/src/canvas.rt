@@ -50,9 +50,9 @@ impl Canvas {
         })
     }
 
-    // Draws the codewords in place of those of the symbol before. They are drawn into the old `plain`, which is used as
-    // a transposed square: outside the region, transposing it would change nothing. The result is transposed again, and
-    // becomes the new `plain`. `across` keeps the square as it was before it was transposed again.
+    // Draws the codewords in place of those of the earlier symbol. They are drawn into the old `plain`, which serves as
+    // the transposed square: outside the region, a symbol and its transposed square are the same. Then this square is
+    // transposed into the new `plain`, and `across` keeps it as it was.
     #[inline(never)]
     pub(crate) fn draw_data(&mut self, across: &mut Matrix, codewords: &[u8])
         requires { IsSquare (side_of self.old.version) across.old }

@@ -1,6 +1,6 @@
-//! Encodes an input as one symbol (ISO/IEC 18004:2015, 7.1): finds its version and segments (`version_choice.rt`),
-//! writes these as data codewords, interleaves them with the error correction codewords, and draws the symbol on a
-//! canvas (`canvas.rt`), the squares from which symbols are made.
+//! Encodes an input as one symbol (ISO/IEC 18004:2015, 7.1). Its version and segments are found first
+//! (`version_choice.rt`). The segments are written as data codewords, which are interleaved with the error correction
+//! codewords. Then the symbol is drawn on a canvas (`canvas.rt`), the squares from which symbols are made.
 
 ghost use Rattle.std.specs.Prelude.{◌≡◌, ◌≢◌, ◌+◌, ◌<◌, ◌≤◌, ◌↔◌, ◌⊎◌, ℕ, List, [], length, Err, IfOk, IfErr, MatchResult};
 ghost use Rattle.std.specs.Option.{ForSome};

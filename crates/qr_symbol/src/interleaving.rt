@@ -110,9 +110,9 @@ impl BlockSizes {
         Ok(gathered)
     }
 
-    /// Interleaves the codewords of all blocks, which come one block after the other, and writes them to `interleaved`:
-    /// the first of each block, then the second of each block, and so on (ISO/IEC 18004:2015, 7.6). `gather` undoes
-    /// this.
+    /// Interleaves the codewords of all blocks and writes them to `interleaved`: the first of each block, then the
+    /// second of each block, and so on (ISO/IEC 18004:2015, 7.6). In `codewords` one block comes after the other.
+    /// `gather` undoes this.
     ///
     /// # Notes
     ///
@@ -202,8 +202,9 @@ fn interleave_blocks(alloc: Global, blocks: Blocks, message: &[u8]) -> Result<Ve
     interleave_both(alloc, blocks, message, &corrections)
 }
 
-/// Returns the final sequence of the data codewords `message`: the first data codeword of each block, then the second,
-/// and so on, and after them the error correction codewords in the same order (ISO/IEC 18004:2015, 7.5.2 and 7.6).
+/// Returns the final sequence of the data codewords `message` (ISO/IEC 18004:2015, 7.5.2 and 7.6). It has the first
+/// data codeword of each block, then the second of each block, and so on. After them come the error correction
+/// codewords in the same order.
 ///
 /// # Errors
 ///

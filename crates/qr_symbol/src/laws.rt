@@ -77,8 +77,8 @@ pub fn plain_and_fast_symbols_are_one(
     Ok((plain, fast))
 }
 
-/// The blocks divide the data codewords without a gap: the first begins at the first data codeword, each other where
-/// the one before it ends, and the last ends at the last data codeword.
+/// The blocks divide the data codewords without a gap. The first block begins at the first data codeword, each other
+/// block begins where the one before it ends, and the last block ends at the last data codeword.
 #[tactic(auto, using(crate::proofs::Named::laws_of_blocks))]
 pub fn blocks_are_cut_exactly(version: Version, level: Level)
     ensures first { start_of (data_sizes (blocks_of version level)) 0 ≡ 0 }
@@ -140,8 +140,8 @@ pub fn format_is_one()
         → (l ≡ k) × (m ≡ n) }
 {}
 
-/// A square is read as at most one content: an optional structured append header, the items (segments, ECI headers and
-/// FNC1), the bytes, and the ECI headers with the number of bytes before each.
+/// A square is read as at most one content. This is an optional structured append header, the items (segments, ECI
+/// headers and FNC1), the bytes, and the ECI headers with the number of bytes before each of them.
 pub fn contents_are_one()
     ensures { (g : Grid) (p q : Content) → IsReading g p → IsReading g q → p ≡ q }
 {}
@@ -199,7 +199,7 @@ pub fn boosted_symbols_are_one()
 {}
 
 /// If `encode` is given the level of a symbol that `encode_boosted` makes, and its version as the smallest, it makes
-/// the same symbol of the same input. So the laws of the symbols of `encode` hold of both.
+/// the same symbol of the same input. So the laws of the symbols of `encode` hold of this symbol too.
 pub fn boosted_symbols_are_symbols()
     ensures { (x : List ℕ) (l k : Level) (smallest : ℕ) (rule : Rule) (i : Interpretation) (v mask : ℕ) (g : Grid)
         → IsBoostedSymbol smallest l rule i x v k mask g → IsSymbol v k rule i x v mask g }

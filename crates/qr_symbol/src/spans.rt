@@ -2,9 +2,9 @@
 //! in the direction in which the strip is filled (ISO/IEC 18004:2015, 7.7.3).
 //!
 //! In the transposed square the two columns of a strip are rows, and one word of 64 bits holds 64 modules of such a
-//! row. The drawing is of a square of four by four modules that are all in the region. It has the number of the bit of
-//! each module. The first strip has columns 3 and 2, and is filled upward. The second strip has columns 1 and 0, and is
-//! filled downward.
+//! row. The drawing is of a square of four by four modules that are all in the region. The numbers in it are those of
+//! the bits of the codewords. The first strip has columns 3 and 2, and is filled upward. The second strip has columns 1
+//! and 0, and is filled downward.
 //!
 //! ```text
 //! symbol            transposed
@@ -43,7 +43,8 @@ pub(crate) fn columns_of(across: &Matrix, right: u8) -> Columns
     }
 }
 
-// The rows of a strip that are in the region with both modules, and those that are in it with neither.
+// `both` are the rows of a strip whose two modules are in the region, and `neither` those whose two modules are outside
+// it.
 #[derive(Clone, Copy)]
 pub(crate) struct RegionRows {
     pub both: BitRow,

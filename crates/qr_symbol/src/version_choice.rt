@@ -120,8 +120,8 @@ fn first_with_room(level: Level, first: Version, last: u8, bits: u64) -> Option<
     None
 }
 
-// Finds the least version, from `smallest` on, that the input fits. Goes through the ranges in turn, and cuts the input
-// into segments once for each. The search ends at the first version that has room for the segments of its range.
+// Finds the least version, from `smallest` on, that the input fits. Goes through the ranges, and cuts the input into
+// segments once for each range. The search ends at the first version that has room for the segments of its range.
 pub(crate) fn least_fit<'a>(
     alloc: Global,
     input: &'a [u8],

@@ -284,9 +284,9 @@ impl Collector {
         }
     }
 
-    // Appends the `count` lowest bits of `bits`, the highest of them first. They come after the bits of `rest`, and
-    // together they are at most 63 bits. These are moved to the top of a word of 64 bits, whose first bytes are then
-    // the next codewords.
+    // Appends the `count` lowest bits of `bits`, the highest of them first. With the bits of `rest`, which come before
+    // them, they are at most 63 bits. All of these are moved to the top of a word of 64 bits, whose first bytes are
+    // then the next codewords.
     #[inline(always)]
     pub(crate) fn push_bits(&mut self, bits: u64, count: u8)
         requires some { 1 ≤ count }

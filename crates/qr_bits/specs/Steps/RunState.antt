@@ -132,8 +132,8 @@ pub record IsBestRest (i : Interpretation) (v : ℕ) (r : Rule) (test : ℕ → 
   pub least : (ks : List Mode) → IsTrue (allowed_in i r test p xs ks) → n ≤ cost_of_all i v p xs ks
   pub first : (ks : List Mode) → IsTrue (allowed_in i r test p xs ks) → cost_of_all i v p xs ks ≡ n → IsNotAfter ms ks
 
--- `m` is the best mode that the byte `x` may have after the state `p`. With it `x` and the later bytes add `n` bits,
--- and with no other such mode fewer. Of several modes with which they add `n` bits, `m` has the lowest rank. The later
+-- `m` is the best mode that the byte `x` may have after the state `p`. With `m`, this byte and the later ones add `n`
+-- bits, and with no other mode fewer. Of several modes with which they add `n` bits, `m` has the lowest rank. The later
 -- bytes add `cost q` bits if the state after `x` is `q`
 pub record IsChoice (i : Interpretation) (v : ℕ) (r : Rule) (p : RunState) (x : ℕ) (pair : Bool) (cost : RunState → ℕ) (m : Mode) (n : ℕ) : Type 0 where
   pub is_allowed : IsTrue (may_take_in i r p x pair m)

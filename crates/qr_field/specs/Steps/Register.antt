@@ -25,8 +25,7 @@ zero_register = record { low = 0; high = 0 }
 abbrev pub divisor_of : ℕ → List ℕ
 divisor_of n = drop 1 (generator_of n)
 
--- There are 16 registers. For each f below `bound`, the one at the index f holds the product of g and the element f *
--- 2^shift
+-- There are 16 registers. For each f below `bound`, register f holds the product of g and the element f * 2^shift
 pub record HasMultiples (g : List ℕ) (shift bound : ℕ) (rows : List Register) : Type 0 where
   pub many : length rows ≡ 16
   pub each : (f : ℕ) → f < bound → value_of (slice_index_or rows f zero_register) ≡ packed (scaled (f * 2 ^ shift) g)

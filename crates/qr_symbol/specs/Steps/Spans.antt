@@ -14,7 +14,7 @@ row_of s x rank = if x.upward then s - 1 - rank else rank
 abbrev pub top_row : ℕ → Strip → ℕ → ℕ → ℕ
 top_row s x k n = if x.upward then s - n - k else k
 
--- In both columns, only bits of rows of the symbol are set.
+-- In the two columns no bit is set from row `s` on, where the symbol ends.
 abbrev pub AreWithin : ℕ → Columns → Type 0
 AreWithin s x = (row : ℕ) → s ≤ row → (has x.right row ≡ false) × (has x.left row ≡ false)
 
@@ -50,7 +50,7 @@ pub record AreSpans (a : Spans) : Type 0 where
   pub some : 1 ≤ a.most
   pub passed : a.passed ≤ a.side
 
--- The iterator goes over the spans of the strip `x`. Those with both modules in the region have at most `limit` rows.
+-- The iterator goes over the spans of the strip `x`. A span `Both` has at most `limit` rows.
 pub record AreSpansOf (s : ℕ) (x : Strip) (columns : Columns) (limit : ℕ) (a : Spans) : Type 0 where
   pub side : a.side ≡ s
   pub strip : a.strip ≡ x
