@@ -59,7 +59,7 @@ is_kanji_pair high low =
     let pair = 256 * high + low in
     (nat_le 0x8140 pair && nat_le pair 0x9FFC || nat_le 0xE040 pair && nat_le pair 0xEBBF) && (nat_le 0x40 low && nat_le low 0xFC)
 
--- The number of bytes is even, and each two of them, taken from the left, pass `test` [own]
+-- The number of bytes is even, and all pairs of them, taken from the left, pass `test` [own]
 abbrev pub in_twos : (ℕ → ℕ → Bool) → List ℕ → Bool
 in_twos test [] = true
 in_twos test (x ∷ []) = false

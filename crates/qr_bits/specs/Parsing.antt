@@ -123,8 +123,8 @@ segment_at v bits =
     Ok (record { mode = m; len = byte_count m n.0 }, p.0, p.1)
 
 -- An ECI designator. Its number has 7 bits after the bit 0, 14 bits after the bits 10, and 21 bits after the bits 110.
--- The fault is `BadValue` if the designator begins with 111, or if the number has more than six digits (ISO/IEC
--- 18004:2015, 7.4.2, Table 4)
+-- The fault is `BadValue` if the designator begins with the bits 111, or if the number has more than six digits
+-- (ISO/IEC 18004:2015, 7.4.2, Table 4)
 unfoldable pub designator_at : List Bool → Result (Designator × List Bool) ParseFault
 designator_at bits =
     leading_number 8 bits >>= λ a.

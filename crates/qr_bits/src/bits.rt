@@ -119,7 +119,7 @@ fn push_bytes(whole: &mut Vec<u8>, width: u8, mut rest: u8, bytes: &[u8]) -> Res
     Ok(rest)
 }
 
-// The byte at `i`, or 0 after the last.
+// The byte at the index `i`, or 0 after the last byte.
 #[inline(always)]
 fn byte_at(bytes: &[u8], i: usize) -> u32
     ensures value { result ≡ slice_index_or bytes.now i 0 }

@@ -154,7 +154,7 @@ fn items(
     Ok((items, characters))
 }
 
-// Whether FNC1 may come after `item`. `may` says whether it was allowed in the place of `item`. Only ECI headers may
+// Whether FNC1 may come after `item`. `may` says whether FNC1 was allowed in the place of `item`. Only ECI headers may
 // come before FNC1 (ISO/IEC 18004:2015, 7.4.8.2).
 fn may_follow(may: bool, item: Item) -> bool
     ensures { result ≡ may_follow may item }

@@ -1,7 +1,7 @@
 //! The division by a generator polynomial, as a shift register does it, one codeword at a time (ISO/IEC 18004:2015,
 //! 7.5.2). Each step shifts the register by one coefficient, and adds a multiple of the polynomial. The factor of this
-//! multiple can be any element. It is the sum of its low four bits and its high four bits, so two tables of 16
-//! multiples each are enough. They are computed once for all blocks.
+//! multiple can be any element. An element is the sum of its low four bits and its high four bits, so two tables of 16
+//! multiples each are enough. The tables are computed once for all blocks.
 
 ghost use Rattle.std.specs.Prelude.{◌≡◌, ◌+◌, ◌<◌, ◌≤◌, ℕ, List, length, slice_index_or, take};
 ghost use Rattle.qr_field.specs.Steps.Register.{HasMultiples, IsHeld, divisor_of, packed, unpacked, value_of};

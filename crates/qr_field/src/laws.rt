@@ -80,7 +80,7 @@ pub fn damage_computes()
     ensures differences { differences (7 ∷ 8 ∷ []) (7 ∷ 9 ∷ 1 ∷ []) ≡ 2 }
 {}
 
-/// Blocks of more than 255 codewords may lie nearer to each other than `blocks_lie_apart` says. The two blocks here
+/// Blocks of more than 255 codewords may differ in fewer codewords than `blocks_lie_apart` says. The two blocks here
 /// have 256 codewords each, two of them for error correction, and differ in only two.
 pub fn longer_blocks_lie_nearer()
     ensures one { IsCorrection (1 ∷ zeros 253) 2 (0 ∷ 1 ∷ []) }

@@ -1,4 +1,4 @@
--- For laws: rows of the masks, worked out by hand, and the number that bits form.
+-- What laws need: the first rows of the masks, which were also worked out by hand, and the number that bits form.
 use Rattle.std.specs.Prelude.{ℕ, ◌-◌, Bool, List, [], ◌∷◌, map}
 use Rattle.std.specs.List.{range_with_len}
 use Rattle.qr_bits.specs.Bits.{value}

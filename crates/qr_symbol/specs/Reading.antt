@@ -31,7 +31,7 @@ abbrev pub unmasked : ℕ → Grid → Module → Bool
 unmasked mask g m = inverted (inverts mask m.row m.col) (colour g m.row m.col)
 
 -- The unmasked colours of the first of the modules `ms`, as many as the codewords of the version have bits. If there
--- are fewer, those that are missing count as light (ISO/IEC 18004:2015, 7.7.3, 12)
+-- are fewer modules, those that are missing count as light (ISO/IEC 18004:2015, 7.7.3, 12)
 abbrev pub read_bits : ℕ → ℕ → Grid → List Module → List Bool
 read_bits v mask g ms = map (unmasked mask g) (take (8 * total_codewords_of v) ms) ++ replicate (8 * total_codewords_of v - length ms) false
 

@@ -142,8 +142,8 @@ impl BlockSizes {
 }
 
 // The error correction codewords of all blocks, one block after the other. A block has at most 30 of them (Table 9).
-// Two blocks are divided at once, which takes little longer than one division. If the number of blocks is odd, the last
-// block is divided alone.
+// Two blocks are taken at once, since two divisions side by side take little longer than one. If the number of blocks
+// is odd, the last block is taken alone.
 fn corrections(alloc: Global, blocks: Blocks, message: &[u8]) -> Result<Vec<u8>, AllocError>
     requires whole { length message.now ≡ codeword_count (data_sizes blocks) }
     requires least { 1 ≤ blocks.ec_len }

@@ -146,8 +146,8 @@ pub fn contents_are_one()
     ensures { (g : Grid) (p q : Content) → IsReading g p → IsReading g q → p ≡ q }
 {}
 
-/// A square that can be read is refused only for lack of memory. For any other square at most one more fault is
-/// possible.
+/// A square that can be read is refused only for lack of memory. For any other square, at most one fault is possible
+/// besides it.
 pub fn refusals_are_one()
     ensures read { (g : Grid) (p : Content) (e : ReadFault) → IsReading g p → IsUnread g e
         → e ≡ ReadFault.Memory }
@@ -169,8 +169,8 @@ pub fn joinings_are_one()
     ensures { (gs : List Grid) (x y : List ℕ) → IsJoined gs x → IsJoined gs y → x ≡ y }
 {}
 
-/// Squares that can be read and joined are refused only for lack of memory. For any other list at most one more fault
-/// is possible.
+/// Squares that can be read and joined are refused only for lack of memory. For any other list, at most one fault is
+/// possible besides it.
 pub fn joining_refusals_are_one()
     ensures joined { (gs : List Grid) (x : List ℕ) (e : ReadFault) → IsJoined gs x
         → IsUnjoined gs e → e ≡ ReadFault.Memory }

@@ -174,7 +174,8 @@ pub(crate) fn draw_both_formats(pair: &mut MatrixPair, v: Version, formats: (u32
 }
 
 // Draws the three corners that have a finder pattern: these patterns with their separators, and the modules beside them
-// in row 8 and column 8. The latter are two modules of the timing patterns, the dark module and the format information.
+// in row 8 and column 8. Those modules are two of the timing patterns, the dark module, and all of the format
+// information.
 fn paint_corners(matrix: &mut Matrix, v: Version, format: u32)
     requires { IsSquare (side_of v) matrix.old }
     ensures { IsOver (side_of v) (is_corner (side_of v)) (paint_of v format) (colour matrix.old) matrix.new }
@@ -195,8 +196,8 @@ fn paint_corners(matrix: &mut Matrix, v: Version, format: u32)
 }
 
 // Whether module `at` of row 6 is dark, counted from 0 at the left. Column 6 has the same colours from top to bottom.
-// The first seven and the last seven modules belong to finder patterns. Between the separators of these is a timing
-// pattern (ISO/IEC 18004:2015, 6.3.5).
+// The first seven and the last seven modules belong to finder patterns, and those next to them to separators. Between
+// the separators is a timing pattern (ISO/IEC 18004:2015, 6.3.5).
 fn is_dark_in_six(side: u8, at: u8) -> bool
     ensures { result ≡ is_dark_in_six side at }
 {

@@ -77,10 +77,10 @@ fn room_in(number: u8, level: Level) -> u64
     8 * u64::from(version.data_codewords(level))
 }
 
-// Returns 1, 10 or 27, the first version of a range, and the input fits no version of the ranges before it. The number
-// of bytes, or a lower bound on the number of bits, shows this without cutting the input into segments. The bound is
-// compared with the capacity of the last version of a range, which is the greatest in the range. If only byte mode is
-// allowed, the bound is not computed, since it would save little time.
+// Returns the first version of a range: 1, 10 or 27. The input fits no version of the ranges before this one. The
+// number of bytes, or a lower bound on the number of bits, shows this without cutting the input into segments. The
+// bound is compared with the capacity of the last version of a range, which is the greatest in the range. If only byte
+// mode is allowed, the bound is not computed, since it would save little time.
 fn first_for(input: &[u8], level: Level, rule: Rule, interpretation: Interpretation) -> u8
     requires { length input.now ≤ INPUT_MAX }
     ensures first { 1 ≤ result }

@@ -131,9 +131,9 @@ fn bits_of_rows(bits: u64, upward: bool, count: u8) -> u64
     }
 }
 
-// Divides the first `2 * count` of `bits` between the right and the left column of `count` rows. In turn, one bit
-// belongs to the right column and the next to the left. In each of the two results the lowest bit is that of the
-// topmost row.
+// Divides the first `2 * count` of `bits` between the right and the left column of `count` rows. Of each two bits, the
+// first belongs to the right column and the second to the left. In each of the two results the lowest bit is that of
+// the topmost row.
 #[inline(always)]
 pub(crate) fn split(bits: u64, upward: bool, count: u8) -> (u64, u64)
     requires some { 1 ≤ count }

@@ -25,8 +25,8 @@ state_after _ Byte = InBytes
 state_after HalfPair Kanji = WholePair
 state_after _ Kanji = HalfPair
 
--- The state after one more byte in the mode of the last byte. After `Start`, where there is no last byte, the mode is
--- byte mode
+-- The state after one more byte in the mode of the last byte. For `Start`, which has no last byte, the mode is byte
+-- mode
 unfoldable pub state_on : RunState → RunState
 state_on Start = InBytes
 state_on Digit1 = Digit2
@@ -77,7 +77,7 @@ unfoldable pub may_take : Rule → RunState → ℕ → Bool → Mode → Bool
 may_take r HalfPair x pair m = rank m == rank Kanji
 may_take r _ x pair m = may_begin r x pair m
 
--- An assignment may end in this state, which is any state but that after half a kanji pair
+-- An assignment may end in this state, which may be any but `HalfPair`
 unfoldable pub may_end : RunState → Bool
 may_end HalfPair = false
 may_end _ = true
@@ -142,8 +142,8 @@ pub record IsChoice (i : Interpretation) (v : ℕ) (r : Rule) (p : RunState) (x 
   pub first : (k : Mode) → IsTrue (may_take_in i r p x pair k) → cost_in i v p x k + cost (state_in i p x k) ≡ n → rank m ≤ rank k
 
 -- A choice, which is a mode and a number of bits, as one number. Fewer bits make it smaller, and so does a mode of
--- lower rank if the bits are equally many. If the mode is not allowed, it is the greatest number of 32 bits, which no
--- allowed choice reaches for inputs of at most `INPUT_MAX` bytes
+-- lower rank if the bits are equally many. If the mode is not allowed, the result is the greatest number of 32 bits,
+-- which no allowed choice reaches for inputs of at most `INPUT_MAX` bytes
 abbrev pub choice_number : Bool → ℕ → Mode → ℕ
 choice_number may bits m = if may then 4 * bits + rank m else 4294967295
 
