@@ -7,7 +7,7 @@ unfoldable pub field : ℕ → ℕ → List Bool
 field zero n = []
 field (suc w) n = (n / 2 ^ w % 2 == 1) ∷ field w n
 
--- The number whose binary digits are those of the number `a`, and then the bits `bs` [own]
+-- The number whose binary digits are those of the number `a`, followed by the bits `bs` [own]
 abbrev pub value_from : ℕ → List Bool → ℕ
 value_from a [] = a
 value_from a (true ∷ bs) = value_from (2 * a + 1) bs
@@ -22,7 +22,7 @@ unfoldable pub bits_of : List ℕ → List Bool
 bits_of [] = []
 bits_of (b ∷ bs) = field 8 b ++ bits_of bs
 
--- Bit `k` of the codewords, counted from 0. The bits after the last codeword are remainder bits, which are 0, so that
+-- Bit `k` of the codewords, counted from 0. The bits after the last codeword are remainder bits. They are 0, so that
 -- their modules are light before the mask is applied (ISO/IEC 18004:2015, 7.7.3)
 abbrev pub codeword_bit : List ℕ → ℕ → Bool
 codeword_bit cw k = slice_index_or cw (k / 8) 0 / 2 ^ (7 - k % 8) % 2 == 1

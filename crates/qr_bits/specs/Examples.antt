@@ -1,5 +1,5 @@
--- Values that the standard prints, or that were worked out by hand. Laws whose names end in `compute` compare what the
--- definitions give with them.
+-- Values that the standard prints, or that were worked out by hand. Laws whose names end in `compute` compare these
+-- values with what the definitions yield.
 use Rattle.std.specs.Prelude.{ℕ, List, [], ◌∷◌, ◌++◌, codes}
 use Rattle.qr_bits.specs.declared.modes.Mode.{Mode}
 use Rattle.qr_bits.specs.declared.modes.Mode.TheVariants.{Numeric, Alphanumeric, Byte, Kanji}
@@ -81,10 +81,11 @@ interpreted = (
     ) ∷ []
 
 -- Codewords that cannot be read in version 1, each with its fault. The first six have a number that is too large: 1000
--- for three digits, 100 for two, 10 for one, 2025 for two characters, 45 for one, and hexadecimal BD in kanji mode. The
--- next three end within the data, the count and the header. One has a mode indicator that is not defined, and one a
--- second header. The last five have half a designator, a designator that begins with 111, the ECI number 1000000, the
--- application indicator 100, and FNC1 after a segment [own]
+-- for three digits, 100 for two digits, 10 for one digit, 2025 for two characters, 45 for one character, and
+-- hexadecimal BD in kanji mode. The next three end within the data, within the character count indicator, and within
+-- the header. One has a mode indicator that is not defined, and one has a second header. The last five have half a
+-- designator, a designator that begins with the bits 111, the ECI number 1000000, the application indicator 100, and
+-- FNC1 after a segment [own]
 abbrev pub unreadable : List (List ℕ × ParseFault)
 unreadable =
     (0x10 ∷ 0x0F ∷ 0xE8 ∷ [], BadValue)

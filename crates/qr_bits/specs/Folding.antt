@@ -4,19 +4,19 @@ use Rattle.qr_bits.specs.declared.modes.Rule.{Rule}
 use Rattle.qr_bits.specs.declared.modes.Rule.TheVariants.{Auto, BytesOnly, WithKanji}
 use Rattle.qr_bits.specs.Modes.{is_kanji_pair}
 
--- The capital of a letter from `a` to `z`; any other byte itself [own]
+-- The capital of a letter from `a` to `z`. Any other byte stays as it is [own]
 abbrev pub capital : ℕ → ℕ
 capital b = if nat_le 97 b && nat_le b 122 then b - 32 else b
 
--- The bytes are read from the left: two that are a kanji pair stay as they are, and any other byte becomes its capital
--- [own]
+-- The bytes are read from first to last. Two bytes that are a kanji pair stay as they are, and any other byte becomes
+-- its capital [own]
 unfoldable pub folded_around_pairs : List ℕ → List ℕ
 folded_around_pairs [] = []
 folded_around_pairs (x ∷ []) = capital x ∷ []
 folded_around_pairs (x ∷ y ∷ xs) =
     if is_kanji_pair x y then x ∷ y ∷ folded_around_pairs xs else capital x ∷ folded_around_pairs (y ∷ xs)
 
--- All letters are folded under `Auto`, none under `BytesOnly`, and those outside kanji pairs under `WithKanji` [own]
+-- Under `Auto` all letters are folded, under `BytesOnly` none, and under `WithKanji` those outside kanji pairs [own]
 abbrev pub folded : Rule → List ℕ → List ℕ
 folded Auto xs = map capital xs
 folded BytesOnly xs = xs

@@ -1,5 +1,6 @@
 -- How a symbol says what its bytes mean: by ECI headers and FNC1, which are items like the segments. A segment contains
--- characters, and these stand for the bytes. They are the bytes themselves, except in alphanumeric mode after FNC1.
+-- characters, and these stand for the bytes. The characters are the bytes themselves, except in alphanumeric mode after
+-- FNC1. `ms` are the modes of the bytes `xs`.
 use Rattle.std.specs.Prelude.{ℕ, ◌+◌, ◌*◌, ◌/◌, ◌%◌, ◌<◌, Bool, true, false, ◌&&◌, ◌||◌, nat_lt, nat_le, if◌then◌else◌, List, [], ◌∷◌, ◌++◌, map, take, drop, length, ◌==◌, Option, Some, None, IsTrue}
 use Rattle.qr_bits.specs.declared.segment.Segment.{Segment}
 use Rattle.qr_bits.specs.declared.modes.Mode.{Mode}
@@ -25,17 +26,17 @@ fnc1_first_indicator = 5
 abbrev pub fnc1_second_indicator : ℕ
 fnc1_second_indicator = 9
 
--- The number is that of two digits, or the ASCII code of a letter plus 100 (ISO/IEC 18004:2015, 7.4.8.3)
+-- The number is below 100, as two digits are, or is the ASCII code of a letter plus 100 (ISO/IEC 18004:2015, 7.4.8.3)
 abbrev pub is_application_indicator : ℕ → Bool
 is_application_indicator a = nat_lt a 100 || nat_le 165 a && nat_le a 190 || nat_le 197 a && nat_le a 222
 
--- FNC1 may stand after an ECI header if it might have stood in the place of this header, and after no other item
--- (ISO/IEC 18004:2015, 7.4.8.2)
+-- FNC1 may come after an ECI header if it was allowed in the place of this header, and after no other item (ISO/IEC
+-- 18004:2015, 7.4.8.2)
 abbrev pub may_follow : Bool → Item → Bool
 may_follow may (Eci d) = may
 may_follow may _ = false
 
--- The items if there are only segments [own]
+-- The segments as items [own]
 abbrev pub plain : List Segment → List Item
 plain segs = map (λ s. Data s) segs
 
@@ -54,14 +55,14 @@ designator n =
     if nat_lt n 128 then field 8 n else
     (if nat_lt n 16384 then field 8 (128 + n / 256) ++ field 8 (n % 256) else field 8 (192 + n / 65536) ++ field 16 (n % 65536))
 
--- The bits that say the interpretation: an ECI header, the mode indicator of FNC1 in first position, or nothing
+-- The bits that state the interpretation: an ECI header, the mode indicator of FNC1 in first position, or nothing
 -- (ISO/IEC 18004:2015, 7.4.2, 7.4.8.2)
 unfoldable pub interpretation_stream : Interpretation → List Bool
 interpretation_stream written.Default = []
 interpretation_stream (written.Eci n) = field 4 eci_indicator ++ designator n
 interpretation_stream written.Gs1 = field 4 fnc1_first_indicator
 
--- How many bits say the interpretation (ISO/IEC 18004:2015, 7.4.2, 7.4.8.2)
+-- How many bits state the interpretation (ISO/IEC 18004:2015, 7.4.2, 7.4.8.2)
 abbrev pub interpretation_bits : Interpretation → ℕ
 interpretation_bits written.Default = 0
 interpretation_bits (written.Eci n) = 4 + 8 * designator_codewords n
@@ -80,8 +81,8 @@ percent = 37
 abbrev pub separator : ℕ
 separator = 0x1D
 
--- The bytes that characters of alphanumeric mode stand for after FNC1: read from the left, `%%` stands for `%`, and any
--- other `%` for the separator (ISO/IEC 18004:2015, 7.4.8.2)
+-- The bytes that characters of alphanumeric mode stand for after FNC1. Read from the left, `%%` is `%`, and any other
+-- `%` is the separator (ISO/IEC 18004:2015, 7.4.8.2)
 unfoldable pub separated : List ℕ → List ℕ
 separated [] = []
 separated (x ∷ []) = if x == percent then separator ∷ [] else x ∷ []
@@ -94,33 +95,33 @@ unfoldable pub escaped : List ℕ → List ℕ
 escaped [] = []
 escaped (x ∷ xs) = if x == percent then percent ∷ percent ∷ escaped xs else (if x == separator then percent ∷ escaped xs else x ∷ escaped xs)
 
--- No separator comes directly before another or before `%`, since alphanumeric mode could not write both in one segment
--- [own]
+-- No separator comes directly before another separator or before `%`. In one segment, alphanumeric mode could not write
+-- two such bytes [own]
 unfoldable pub are_fields : List ℕ → Bool
 are_fields [] = true
 are_fields (x ∷ []) = true
 are_fields (x ∷ y ∷ xs) = (if x == separator then (if y == separator then false else (if y == percent then false else true)) else true) && are_fields (y ∷ xs)
 
--- The byte is written as two characters, as only `%` is in alphanumeric mode after FNC1 (ISO/IEC 18004:2015, 7.4.8.2)
+-- The byte is written as two characters. This is so only for `%` in alphanumeric mode after FNC1 (ISO/IEC 18004:2015,
+-- 7.4.8.2)
 abbrev pub is_doubled : Interpretation → ℕ → Mode → Bool
 is_doubled written.Gs1 x Alphanumeric = x == percent
 is_doubled _ x m = false
 
--- The character that is written for a byte, once or twice: the byte itself, but `%` for the separator in alphanumeric
--- mode after FNC1 (ISO/IEC 18004:2015, 7.4.8.2)
+-- The character that is written for a byte, once or twice. It is the byte itself, except that alphanumeric mode after
+-- FNC1 writes `%` for the separator (ISO/IEC 18004:2015, 7.4.8.2)
 abbrev pub character_for : Interpretation → ℕ → Mode → ℕ
 character_for written.Gs1 x Alphanumeric = if x == separator then percent else x
 character_for _ x m = x
 
--- The modes of the characters that are written for the bytes `xs` of the modes `ms` after FNC1 in first position: the
--- mode of a byte that is written as two characters stands twice (ISO/IEC 18004:2015, 7.4.8.2)
+-- The modes of the characters that are written for the bytes after FNC1 in first position. For a byte that becomes two
+-- characters, its mode is listed twice (ISO/IEC 18004:2015, 7.4.8.2)
 unfoldable pub doubled_gs1 : List ℕ → List Mode → List Mode
 doubled_gs1 [] ms = ms
 doubled_gs1 (x ∷ xs) [] = []
 doubled_gs1 (x ∷ xs) (m ∷ ms) = if is_doubled written.Gs1 x m then m ∷ m ∷ doubled_gs1 xs ms else m ∷ doubled_gs1 xs ms
 
--- The characters that are written for the bytes `xs` of the modes `ms` after FNC1 in first position (ISO/IEC
--- 18004:2015, 7.4.8.2)
+-- The characters that are written for the bytes after FNC1 in first position (ISO/IEC 18004:2015, 7.4.8.2)
 unfoldable pub characters_gs1 : List ℕ → List Mode → List ℕ
 characters_gs1 [] ms = []
 characters_gs1 (x ∷ xs) [] = x ∷ xs
@@ -128,34 +129,32 @@ characters_gs1 (x ∷ xs) (m ∷ ms) =
     let c = character_for written.Gs1 x m in
     if is_doubled written.Gs1 x m then c ∷ c ∷ characters_gs1 xs ms else c ∷ characters_gs1 xs ms
 
--- The modes of the characters that are written for the bytes `xs` of the modes `ms`, under any interpretation (ISO/IEC
--- 18004:2015, 7.4.8.2)
+-- The modes of the characters that are written for the bytes under an interpretation (ISO/IEC 18004:2015, 7.4.8.2)
 abbrev pub doubled : Interpretation → List ℕ → List Mode → List Mode
 doubled written.Default xs ms = ms
 doubled (written.Eci n) xs ms = ms
 doubled written.Gs1 xs ms = doubled_gs1 xs ms
 
--- The characters that are written for the bytes `xs` of the modes `ms`, under any interpretation (ISO/IEC 18004:2015,
--- 7.4.8.2)
+-- The characters that are written for the bytes under an interpretation (ISO/IEC 18004:2015, 7.4.8.2)
 abbrev pub characters_in : Interpretation → List ℕ → List Mode → List ℕ
 characters_in written.Default xs ms = xs
 characters_in (written.Eci n) xs ms = xs
 characters_in written.Gs1 xs ms = characters_gs1 xs ms
 
--- The bytes can be written with this interpretation, which for GS1 data means that they are fields (ISO/IEC 18004:2015,
--- 7.4.8.2)
+-- The bytes can be written with this interpretation. GS1 data can be written if they satisfy `are_fields`, and all
+-- other data can (ISO/IEC 18004:2015, 7.4.8.2)
 abbrev pub MayWrite : Interpretation → List ℕ → Type 0
 MayWrite written.Gs1 xs = IsTrue (are_fields xs)
 MayWrite _ xs = Unit {0}
 
--- The bytes that the characters of a segment stand for, which differ from the characters only in alphanumeric mode
--- after FNC1 (ISO/IEC 18004:2015, 7.4.8.2, 7.4.8.3)
+-- The bytes that the characters of a segment stand for. They differ from the characters only in alphanumeric mode after
+-- FNC1 (ISO/IEC 18004:2015, 7.4.8.2, 7.4.8.3)
 abbrev pub meant : Bool → Mode → List ℕ → List ℕ
 meant true Alphanumeric xs = separated xs
 meant _ _ xs = xs
 
--- The bytes that the items stand for, where each segment takes the next of the characters `xs`, and `fnc1` says whether
--- FNC1 came before the items (ISO/IEC 18004:2015, 7.4.8.2, 7.4.8.3)
+-- The bytes that the items stand for. Each segment takes the next of the characters `xs`, and `fnc1` says whether FNC1
+-- came before the items (ISO/IEC 18004:2015, 7.4.8.2, 7.4.8.3)
 unfoldable pub meant_bytes : Bool → List Item → List ℕ → List ℕ
 meant_bytes fnc1 [] xs = []
 meant_bytes fnc1 (Data s ∷ is) xs = meant fnc1 s.mode (take s.len xs) ++ meant_bytes fnc1 is (drop s.len xs)
@@ -163,7 +162,7 @@ meant_bytes fnc1 (Eci d ∷ is) xs = meant_bytes fnc1 is xs
 meant_bytes fnc1 (Fnc1First ∷ is) xs = meant_bytes true is xs
 meant_bytes fnc1 (Fnc1Second a ∷ is) xs = meant_bytes true is xs
 
--- The ECI headers among the items, each with the number of bytes of the symbol before it; `n` bytes come before the
+-- The ECI headers among the items, each with the number of bytes of the symbol before it, of which `n` come before the
 -- first item (ISO/IEC 18004:2015, 7.4.2.2)
 unfoldable pub eci_changes : Bool → ℕ → List Item → List ℕ → List EciChange
 eci_changes fnc1 n [] xs = []

@@ -19,8 +19,9 @@ use Rattle.qr_bits.specs.declared.interpretation.Interpretation.TheVariants.{Def
 use Rattle.qr_bits.specs.Parsing.{content_of, ends, items_of, parse, plain_content}
 use Rattle.qr_bits.specs.declared.interpretation.Item.{Item}
 
--- Bits are read as segments alone, after a header if there is one, exactly if they begin with the bit stream of these,
--- and then have at most three bits, or the terminator and any bits (ISO/IEC 18004:2015, 7.4.1, 7.4.9, 8.1)
+-- Bits are read as an optional header and segments, and no other items, exactly if they are the bit stream of these and
+-- then an end. An end is at most three bits, or the terminator and any bits after it (ISO/IEC 18004:2015, 7.4.1, 7.4.9,
+-- 8.1)
 abbrev pub StreamsAreParsed : Type 0
 StreamsAreParsed =
     (v : ℕ) (bits : List Bool) (h : Option Header) (segs : List Segment) (xs : List ℕ) →
@@ -28,7 +29,7 @@ StreamsAreParsed =
     ((front : List Bool) × (tail : List Bool) × IsStream v xs segs h Default front × (bits ≡ front ++ tail) × (ends tail ≡ true))
 
 -- Data codewords are read as the content that they were made from: the header, the interpretation, the segments, and
--- the bytes that the characters of these stand for [own]
+-- the bytes that the characters of the segments stand for [own]
 abbrev pub DataAreParsed : Type 0
 DataAreParsed =
     (v : ℕ) (l : Level) (xs : List ℕ) (segs : List Segment) (h : Option Header) (i : Interpretation) (cw : List ℕ) → IsData v l xs segs h i cw →
@@ -41,7 +42,8 @@ PlainDataAreParsed =
     (v : ℕ) (l : Level) (xs : List ℕ) (segs : List Segment) (h : Option Header) (cw : List ℕ) → IsData v l xs segs h Default cw →
     parse v (bits_of cw) ≡ Ok (plain_content h segs xs)
 
--- A bit stream has as many bits as its header, what says its interpretation, and its segments together [own]
+-- A bit stream has as many bits as its header, the ECI header or FNC1 of its interpretation, and its segments together
+-- [own]
 abbrev pub StreamsHaveTheirBits : Type 0
 StreamsHaveTheirBits =
     (v : ℕ) (xs : List ℕ) (segs : List Segment) (h : Option Header) (i : Interpretation) (stream : List Bool) → IsStream v xs segs h i stream →
@@ -53,8 +55,8 @@ DataAreThere =
     (v : ℕ) (l : Level) (xs : List ℕ) (segs : List Segment) (h : Option Header) (i : Interpretation) (stream : List Bool) → IsStream v xs segs h i stream →
     length stream ≤ capacity_of v l → (cw : List ℕ) × IsData v l xs segs h i cw
 
--- A header if there is one, an interpretation and segments of given bytes have at most one list of data codewords in a
--- version at a level [own]
+-- For a given version, level, interpretation, optional header, and segments of given bytes, there is at most one list
+-- of data codewords [own]
 abbrev pub DataAreOne : Type 0
 DataAreOne =
     (v : ℕ) (l : Level) (xs : List ℕ) (segs : List Segment) (h : Option Header) (i : Interpretation) (cw dw : List ℕ) →
@@ -78,8 +80,8 @@ abbrev pub FittingInputsAreShort : Type 0
 FittingInputsAreShort =
     (i : Interpretation) (v : ℕ) (l : Level) (r : Rule) (xs : List ℕ) → 1 ≤ v → v ≤ 40 → HasFit i v r xs (capacity_of v l) → length xs ≤ 7089
 
--- The segments of the least segmentation cover its characters, and take at most n bits exactly if some valid assignment
--- takes at most n [own]
+-- The segments of the least segmentation cover its characters. They take at most n bits exactly if some valid
+-- assignment takes at most n bits [own]
 abbrev pub LeastSegmentationsFit : Type 0
 LeastSegmentationsFit =
     (i : Interpretation) (v : ℕ) (r : Rule) (xs ys : List ℕ) (segs : List Segment) → IsLeastSegmentation i v r xs ys segs →
@@ -104,7 +106,7 @@ abbrev pub BitsAreCodewordBits : Type 0
 BitsAreCodewordBits =
     (cw : List ℕ) (k : ℕ) → k < 8 * length cw → slice_index_or (bits_of cw) k false ≡ codeword_bit cw k
 
--- What alphanumeric mode writes after FNC1 for fields is read as these fields (ISO/IEC 18004:2015, 7.4.8.2)
+-- What alphanumeric mode writes for fields after FNC1 is read as these fields (ISO/IEC 18004:2015, 7.4.8.2)
 abbrev pub FieldsAreRead : Type 0
 FieldsAreRead = (xs : List ℕ) → are_fields xs ≡ true → separated (escaped xs) ≡ xs
 

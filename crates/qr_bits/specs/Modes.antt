@@ -1,4 +1,4 @@
--- The four modes: their indicators, which bytes each can write, and how many bits these take.
+-- The four modes: their indicators, which bytes each mode can write, and how many bits these bytes take.
 use Rattle.std.specs.Prelude.{ℕ, ◌+◌, ◌*◌, ◌/◌, ◌%◌, Bool, true, false, ◌&&◌, ◌||◌, if◌then◌else◌, nat_le, ◌==◌, List, [], ◌∷◌, codes, ◌-◌}
 use Rattle.std.specs.List.{list_all, list_any, position_or_len}
 use Rattle.qr_bits.specs.declared.modes.Mode.{Mode}
@@ -13,7 +13,7 @@ indicator Alphanumeric = 2
 indicator Byte = 4
 indicator Kanji = 8
 
--- The four bits that stand in the place of the next mode indicator if nothing follows (ISO/IEC 18004:2015, 7.4.1, Table
+-- The four bits that come in the place of the next mode indicator if nothing follows (ISO/IEC 18004:2015, 7.4.1, Table
 -- 2)
 abbrev pub terminator : ℕ
 terminator = 0
@@ -25,12 +25,13 @@ count_width v Alphanumeric = if nat_le v 9 then 9 else (if nat_le v 26 then 11 e
 count_width v Byte = if nat_le v 9 then 8 else 16
 count_width v Kanji = if nat_le v 9 then 8 else (if nat_le v 26 then 10 else 12)
 
--- The number in the character count indicator of `n` bytes: a kanji pair is one character (ISO/IEC 18004:2015, 7.4.1)
+-- The number in the character count indicator of a segment of `n` bytes, of which kanji mode counts two as one
+-- character (ISO/IEC 18004:2015, 7.4.1)
 abbrev pub character_count : Mode → ℕ → ℕ
 character_count Kanji n = n / 2
 character_count _ n = n
 
--- How many bytes a segment has whose character count indicator is `n` (ISO/IEC 18004:2015, 7.4.1)
+-- The number of bytes of a segment whose character count indicator is `n` (ISO/IEC 18004:2015, 7.4.1)
 abbrev pub byte_count : Mode → ℕ → ℕ
 byte_count Kanji n = 2 * n
 byte_count _ n = n
@@ -51,38 +52,38 @@ is_alphanumeric b = list_any (λ c. c == b) characters
 unfoldable pub character_value : ℕ → ℕ
 character_value b = position_or_len (λ c. c == b) characters
 
--- The pair, as a number of 16 bits, is from 8140 to 9FFC or from E040 to EBBF (hexadecimal), and its second byte from
--- 40 to FC (ISO/IEC 18004:2015, 7.3.6, 7.4.6; that 7F is accepted is own)
+-- The pair, as a number of 16 bits, is from 8140 to 9FFC or from E040 to EBBF, and its second byte is from 40 to FC,
+-- all hexadecimal (ISO/IEC 18004:2015, 7.3.6, 7.4.6; that 7F is accepted is own)
 unfoldable pub is_kanji_pair : ℕ → ℕ → Bool
 is_kanji_pair high low =
     let pair = 256 * high + low in
     (nat_le 0x8140 pair && nat_le pair 0x9FFC || nat_le 0xE040 pair && nat_le pair 0xEBBF) && (nat_le 0x40 low && nat_le low 0xFC)
 
--- The number of bytes is even, and each pair of them, when they are taken two by two, passes `test` [own]
+-- The number of bytes is even, and all pairs of them, taken from the left, pass `test` [own]
 abbrev pub in_twos : (ℕ → ℕ → Bool) → List ℕ → Bool
 in_twos test [] = true
 in_twos test (x ∷ []) = false
 in_twos test (x ∷ y ∷ xs) = test x y && in_twos test xs
 
--- The number of 13 bits that is written for a kanji pair. 8140 is subtracted from a pair up to 9FFC, and C140 from any
--- other; then C0 times the high byte of the difference is added to its low byte, all hexadecimal (ISO/IEC 18004:2015,
--- 7.4.6)
+-- The number of 13 bits that is written for a kanji pair. From a pair up to 9FFC 8140 is subtracted, and from any other
+-- C140. Then the high byte of the difference is multiplied by C0, and the low byte added; all these numbers are
+-- hexadecimal (ISO/IEC 18004:2015, 7.4.6)
 unfoldable pub kanji_value : ℕ → ℕ → ℕ
 kanji_value high low =
     let pair = 256 * high + low in
     let rest = if nat_le pair 0x9FFC then pair - 0x8140 else pair - 0xC140 in
     0xC0 * (rest / 256) + rest % 256
 
--- The mode can write the bytes: they are characters of it (ISO/IEC 18004:2015, 7.3.3 to 7.3.6)
+-- The mode can write the bytes: all of them are characters of this mode (ISO/IEC 18004:2015, 7.3.3 to 7.3.6)
 abbrev pub suits : Mode → List ℕ → Bool
 suits Numeric xs = list_all is_digit xs
 suits Alphanumeric xs = list_all is_alphanumeric xs
 suits Byte xs = true
 suits Kanji xs = in_twos is_kanji_pair xs
 
--- How many bits the data of `n` bytes take: 10 for three digits, 7 or 4 for two or one at the end; 11 for two
--- characters, 6 for one at the end; 8 for a byte; 13 for a kanji pair. If `n` is odd in kanji mode, which no valid
--- assignment has, the last byte counts as a whole pair (ISO/IEC 18004:2015, 7.4.3 to 7.4.6)
+-- How many bits the data of `n` bytes take: 10 for each three digits, then 7 for two digits at the end, or 4 for one;
+-- 11 for each two characters, then 6 for one at the end; 8 for a byte; 13 for a kanji pair. If `n` is odd in kanji
+-- mode, which no valid assignment has, the last byte counts as a whole pair (ISO/IEC 18004:2015, 7.4.3 to 7.4.6)
 abbrev pub payload_bits : Mode → ℕ → ℕ
 payload_bits Numeric n = 10 * (n / 3) + (if n % 3 == 0 then 0 else (if n % 3 == 1 then 4 else 7))
 payload_bits Alphanumeric n = 11 * (n / 2) + 6 * (n % 2)

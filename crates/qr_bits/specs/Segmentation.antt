@@ -1,7 +1,7 @@
 -- Which segments are chosen for an input. An assignment gives a mode to each byte, and neighbouring bytes with the same
--- mode are one segment. The segment contains the characters that are written for these bytes, which are the bytes
--- themselves, except in GS1 data. An assignment is valid if the rule `r` allows its modes, and the mode of each segment
--- suits its characters.
+-- mode are one segment. The segment contains the characters that are written for these bytes. Except in GS1 data, the
+-- characters are the bytes themselves. An assignment is valid if the rule `r` allows its modes, and the mode of each
+-- segment suits its characters.
 use Rattle.std.specs.Prelude.{◌≡◌, ℕ, ◌+◌, ◌/◌, ◌<◌, ◌≤◌, ◌⊎◌, if◌then◌else◌, ◌==◌, nat_le, List, [], ◌∷◌, length, take, All, IsTrue}
 use Rattle.std.specs.List.{list_all, sum_by}
 use Rattle.qr_bits.specs.declared.modes.Mode.{Mode}
@@ -13,8 +13,8 @@ use Rattle.qr_bits.specs.Stream.{Suits}
 use Rattle.qr_bits.specs.declared.interpretation.Interpretation.{Interpretation}
 use Rattle.qr_bits.specs.Interpretation.{characters_in, doubled}
 
--- How many bits a segment takes in version `v`, with its mode indicator and character count indicator (ISO/IEC
--- 18004:2015, 7.4.1)
+-- How many bits a segment takes in version `v`: its mode indicator, its character count indicator, and its data
+-- (ISO/IEC 18004:2015, 7.4.1)
 abbrev pub segment_bits : ℕ → Segment → ℕ
 segment_bits v s = 4 + count_width v s.mode + payload_bits s.mode s.len
 
@@ -27,15 +27,15 @@ bits v (s ∷ ss) = segment_bits v s + bits v ss
 unfoldable pub Covers : List ℕ → List Segment → Type 0
 Covers xs segs = All (λ s. 0 < s.len) segs × Suits xs segs
 
--- The order of modes, which decides between assignments of equally many bits [own]
+-- The rank of a mode. Ranks decide between assignments that take equally many bits [own]
 abbrev pub rank : Mode → ℕ
 rank Numeric = 0
 rank Alphanumeric = 1
 rank Byte = 2
 rank Kanji = 3
 
--- One byte of mode `m` is put before the segments: it joins the first segment if this has mode `m`, and else begins one
--- [own]
+-- One byte of mode `m` is put before the segments. It joins the first segment if this has mode `m`, and otherwise
+-- begins a new segment [own]
 abbrev pub prepend_mode : Mode → List Segment → List Segment
 prepend_mode m [] = record { mode = m; len = 1 } ∷ []
 prepend_mode m (s ∷ ss) = if rank m == rank s.mode then record { mode = m; len = 1 + s.len } ∷ ss else record { mode = m; len = 1 } ∷ s ∷ ss
@@ -49,13 +49,14 @@ runs_of (m ∷ ms) = prepend_mode m (runs_of ms)
 abbrev pub IsAssignment : Interpretation → Rule → List ℕ → List Mode → Type 0
 IsAssignment i r xs ms = IsTrue (list_all (may_use r) ms) × Covers (characters_in i xs ms) (runs_of (doubled i xs ms))
 
--- In the lexicographic order by the ranks of modes, `ms` does not come after `ks` [own]
+-- In the lexicographic order by the ranks of the modes, `ms` does not come after `ks` [own]
 abbrev pub IsNotAfter : List Mode → List Mode → Type 0
 IsNotAfter [] ks = Unit {0}
 IsNotAfter (m ∷ ms) [] = ⊥
 IsNotAfter (m ∷ ms) (k ∷ ks) = (rank m < rank k) ⊎ ((m ≡ k) × IsNotAfter ms ks)
 
--- Of all valid assignments, `ms` takes the fewest bits, and is the first of those that do [own]
+-- No valid assignment takes fewer bits than `ms`, and of those that take equally few, `ms` is the first in
+-- lexicographic order [own]
 pub record IsBestAssignment (i : Interpretation) (v : ℕ) (r : Rule) (xs : List ℕ) (ms : List Mode) : Type 0 where
   pub assignment : IsAssignment i r xs ms
   pub least : (ks : List Mode) → IsAssignment i r xs ks → bits v (runs_of (doubled i xs ms)) ≤ bits v (runs_of (doubled i xs ks))
@@ -70,9 +71,9 @@ IsLeastSegmentation i v r xs ys segs =
 abbrev pub HasFit : Interpretation → ℕ → Rule → List ℕ → ℕ → Type 0
 HasFit i v r xs n = (ms : List Mode) × IsAssignment i r xs ms × (bits v (runs_of (doubled i xs ms)) ≤ n)
 
--- A lower bound on what a byte takes in any mode, in sixths of a bit. It is 20 for a digit (three take 10 bits), and 33
--- for another byte up to `Z` (two characters take 11). For a byte above, which only byte and kanji mode write, it is 39
--- (ISO/IEC 18004:2015, 7.4.3 to 7.4.6)
+-- A lower bound on the bits that a byte takes in any mode, in sixths of a bit. It is 20 for a digit (three digits take
+-- 10 bits), 33 for any other byte up to `Z` (two characters take 11 bits), and 39 for a byte above `Z`, which only byte
+-- mode and kanji mode can write (ISO/IEC 18004:2015, 7.4.3 to 7.4.6)
 abbrev pub least_sixths : ℕ → ℕ
 least_sixths b = if is_digit b then 20 else (if nat_le b 90 then 33 else 39)
 

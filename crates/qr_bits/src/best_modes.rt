@@ -1,14 +1,16 @@
 //! The best mode of each byte, by dynamic programming: a table is filled from the last byte to the first. In a given
 //! version, how many bits a byte and all later ones take depends only on their modes and on the state before that byte
-//! (`RunState`). So the table has a row for each byte, with the best mode for each state. The best mode is the one for
-//! which the bits that the byte adds, and the fewest that the later bytes can then add, have the least sum.
+//! (`RunState`). So the table has a row for each byte, with the best mode for each state. A mode is judged by the sum
+//! of two numbers: the bits that the byte adds in this mode, and the fewest bits that the later bytes can then add. The
+//! best mode has the least sum.
 //!
-//! A row is a number with two bits for each state, which are the rank of the state's best mode. Modes are compared by
-//! their choices; a choice is a number, which the head of `run_state.rt` defines.
+//! A row is a number with two bits for each state: the rank of the best mode for this state. The code compares modes by
+//! their choices. A choice is a number, and the head of `run_state.rt` says how it is formed.
 //!
 //! In all functions `kanji` says that the rule allows kanji mode, `pair` that the byte may begin a kanji pair, and
 //! `gs1` that the bytes are GS1 data. The functions are inlined in the loops that call them. Where `kanji` is the
-//! constant `false`, the compiler leaves out the tests for pairs, and where `gs1` is, those for `%` and the separator.
+//! constant `false`, the compiler leaves out the tests for pairs, and where `gs1` is the constant `false`, those for
+//! `%` and the separator.
 
 ghost use Rattle.std.specs.Prelude.{◌≡◌, ◌+◌, ◌*◌, ◌/◌, ◌%◌, ◌<◌, ◌≤◌, ℕ, Bool, true, false, length, reverse, IfOk, vec_len};
 ghost use Rattle.qr_bits.specs.declared.modes.Mode.{Mode};
@@ -27,7 +29,7 @@ use crate::run_state::{FirstChoices, NO_BITS, PerState, RunState, number};
 use qr_layout::Version;
 use std::alloc::{AllocError, Global};
 
-// Stands for a choice that is not allowed. It is greater than every choice that is.
+// Stands for a choice that is not allowed, and is greater than every choice that is allowed.
 const NO_CHOICE: u32 = u32::MAX;
 
 #[inline(always)]
@@ -42,8 +44,8 @@ fn ranked(rank: u32) -> Mode
     }
 }
 
-// Whether `byte` may have `mode` if it is not the second byte of a kanji pair. For kanji mode, whose rank is 3, the
-// byte alone does not decide, so the contract leaves it out.
+// Whether `byte` may be written in `mode`, if it is not the second byte of a kanji pair. The contract leaves out kanji
+// mode, whose rank is 3, since there the byte alone does not decide.
 #[tactic(auto, unfolding(crate::specs::Steps::RunState::may_begin))]
 #[inline(always)]
 fn may_begin(rule: Rule, byte: u8, mode: Mode) -> bool
@@ -58,9 +60,9 @@ fn may_begin(rule: Rule, byte: u8, mode: Mode) -> bool
     }
 }
 
-// The choice of a mode for a byte, or `NO_CHOICE` if `may` is false. It is the sum of `first`, the choice of the mode
-// for the byte alone, and the bits of `rest`, the best choice for the later bytes. `rest / 4 * 4` has these bits
-// without the mode. 155 is the sum of 135, the greatest choice of a first byte, and 4 times the 5 bits of a second
+// The choice of a mode for a byte, or `NO_CHOICE` if `may` is false. `first` is the choice with the bits of the byte
+// alone, and `rest` is the best choice for the later bytes. The bits of the two are added: `rest / 4 * 4` is `rest`
+// without its mode. 155 is the sum of 135, the greatest choice of a first byte, and 4 times the 5 bits of a second
 // character. The best choices of an input of at most `INPUT_MAX` bytes stay below 40,000,000, so the sum does not
 // overflow.
 #[inline(always)]
@@ -71,7 +73,7 @@ fn choice_if(may: bool, first: u32, rest: u32) -> u32
     if may { first + rest / 4 * 4 } else { NO_CHOICE }
 }
 
-// As `choice_if`, for a byte that does not begin a segment and adds `bits`.
+// As `choice_if`, for a byte that does not begin a segment and adds `bits` bits.
 #[inline(always)]
 fn next_if(may: bool, bits: u32, mode: Mode, rest: u32) -> u32
     requires { (bits ≤ 33) × (rest < 40000000) }
@@ -80,7 +82,7 @@ fn next_if(may: bool, bits: u32, mode: Mode, rest: u32) -> u32
     choice_if(may, number(bits, mode), rest)
 }
 
-// The row with the modes of these choices, two bits for each. Those of `start` are the lowest.
+// The row with the modes of these choices, two bits for each. The mode for the state `Start` has the lowest two bits.
 #[tactic(auto, using(crate::proofs::lemmas::best_modes::TableLemmas::packed_mode))]
 #[inline(always)]
 fn row_for(numbers: &PerState) -> u32
@@ -104,7 +106,8 @@ struct CharacterChoices {
     next: u32,
 }
 
-// `may` says that the byte may be written in alphanumeric mode, and `doubled` that it is then two characters.
+// The choices of alphanumeric mode for a byte. `may` says that the byte may be written in this mode, and `doubled` that
+// it is then written as two characters.
 #[tactic(auto, unfolding(crate::specs::Steps::RunState::byte_cost, crate::specs::Steps::RunState::state_after))]
 #[inline(always)]
 fn character_choices(
@@ -120,8 +123,8 @@ fn character_choices(
         → AreCharacterChoices i first_choices.now.version r x pair rest.now result }
 {
     if doubled {
-        // One of the two characters adds 6 bits and the other one 5. The choice that begins a segment has the 6
-        // already.
+        // One of the two characters adds 6 bits and the other one 5. `first_choices.alphanumeric` has the 6 bits
+        // already, so only 5 bits are added. In a choice, bits count four times.
         let first = first_choices.alphanumeric + 4 * 5;
         CharacterChoices {
             first: choice_if(may, first, rest.character2),
@@ -137,7 +140,7 @@ fn character_choices(
     }
 }
 
-// The row of a byte, and its best choice for each state before it. `digit` says that the byte may be written in numeric
+// The row of a byte, and the best choice for it in each state. `digit` says that the byte may be written in numeric
 // mode. `characters` are its choices of alphanumeric mode, and `rest` has the best choices of the next byte.
 #[inline(always)]
 fn choices(
@@ -159,10 +162,10 @@ fn choices(
     let no_digits = characters.first.min(others);
     let no_characters = digits.min(others);
     let start = digits.min(no_digits);
-    // After a whole group (`Digit3`, `Character2`, `InBytes`, `WholePair`) it takes more bits to begin a segment of the
-    // same mode than to continue the last one, and both lead to the same state. So to begin one is never the best
-    // choice there. Then `start`, the best of all choices that begin a segment, can stand for those of the other modes
-    // alone.
+    // `start` is the best of all choices that begin a segment. After a whole group (`Digit3`, `Character2`, `InBytes`,
+    // `WholePair`) one of them is needless: to begin a segment of the mode that the last segment has. This takes more
+    // bits than to continue the last segment, and leads to the same state. So it is never the best choice, and `start`
+    // need not leave it out.
     let digit2 = next_if(digit, 3, Mode::Numeric, rest.digit2);
     let digit3 = next_if(digit, 3, Mode::Numeric, rest.digit3);
     let digit1 = next_if(digit, 4, Mode::Numeric, rest.digit1);
@@ -184,7 +187,7 @@ fn choices(
     (row_for(&numbers), numbers)
 }
 
-// Whether alphanumeric mode writes the byte as two characters, as it does with `%` in GS1 data (ISO/IEC 18004:2015,
+// Whether alphanumeric mode writes the byte as two characters. This is so for `%` in GS1 data (ISO/IEC 18004:2015,
 // 7.4.8.2).
 #[inline(always)]
 fn is_doubled(gs1: bool, byte: u8) -> bool
@@ -193,8 +196,8 @@ fn is_doubled(gs1: bool, byte: u8) -> bool
     gs1 && byte == b'%'
 }
 
-// The character that alphanumeric mode writes for a byte. In GS1 data it is `%` for the separator of fields (ISO/IEC
-// 18004:2015, 7.4.8.2).
+// The character that alphanumeric mode writes for a byte. For the separator of fields in GS1 data this is `%`, and
+// otherwise the byte itself (ISO/IEC 18004:2015, 7.4.8.2).
 #[inline(always)]
 fn character_for(gs1: bool, byte: u8) -> u8
     ensures { (i : Interpretation) → gs1 ≡ is_gs1 i → result ≡ character_for i byte Mode.Alphanumeric }
@@ -202,7 +205,7 @@ fn character_for(gs1: bool, byte: u8) -> u8
     if gs1 && byte == SEPARATOR { b'%' } else { byte }
 }
 
-// The row of a byte, and its best choice for each state before it. `rest` has the best choices of the next byte.
+// The row of a byte, and the best choice for it in each state. `rest` has the best choices of the next byte.
 #[inline(always)]
 pub(crate) fn row_of(
     first_choices: &FirstChoices,
@@ -217,7 +220,8 @@ pub(crate) fn row_of(
         → IsRow i first_choices.now.version rule byte pair rest.now result.0 result.1 }
 {
     // `choices` is compiled into each of the places that call it. Where a flag is a constant, the compiler leaves out
-    // the cases that it excludes. A byte that may be written in numeric mode may be written in alphanumeric mode too.
+    // the cases that the constant excludes. A byte that may be written in numeric mode may be written in alphanumeric
+    // mode too.
     let digit = may_begin(rule, byte, Mode::Numeric);
     let doubled = is_doubled(gs1, byte);
     if digit && !pair {
@@ -238,7 +242,7 @@ pub(crate) fn row_of(
     }
 }
 
-// Whether the first two bytes may be written in kanji mode, which the rule has to allow.
+// Whether the rule allows kanji mode and the first two bytes are a kanji pair.
 #[tactic(auto, unfolding(crate::specs::Steps::RunState::begins_with_pair))]
 pub(crate) fn begins_with_pair(rule: Rule, bytes: &[u8]) -> bool
     ensures { result ≡ begins_with_pair rule is_kanji_pair bytes.now }
@@ -249,7 +253,7 @@ pub(crate) fn begins_with_pair(rule: Rule, bytes: &[u8]) -> bool
     }
 }
 
-// As `begins_with_pair`, with a test less where `kanji` is a constant.
+// As `begins_with_pair`. Where `kanji` is a constant, the compiler can leave out a test.
 #[tactic(auto, unfolding(crate::specs::Steps::RunState::begins_with_pair))]
 #[inline(always)]
 fn pair_at(kanji: bool, rule: Rule, bytes: &[u8]) -> bool
@@ -259,7 +263,7 @@ fn pair_at(kanji: bool, rule: Rule, bytes: &[u8]) -> bool
     kanji && begins_with_pair(rule, bytes)
 }
 
-// Returns the table: a row for each byte of `input`. That of the last byte is first, so `pop` takes the rows in the
+// Returns the table: a row for each byte of `input`. The row of the last byte is first, so `pop` takes the rows in the
 // order of the bytes.
 pub(crate) fn best_modes(
     alloc: Global,
@@ -278,8 +282,8 @@ pub(crate) fn best_modes(
     }
 }
 
-// As `best_modes`, for GS1 data, under a rule that allows more than byte mode. Out of line, so that the loop has all
-// registers to itself.
+// As `best_modes`, for GS1 data, under a rule that allows more than byte mode. This function is not inlined, so that
+// its loop has all registers to itself.
 #[inline(never)]
 pub(crate) fn best_gs1_modes(
     alloc: Global,
@@ -298,7 +302,7 @@ pub(crate) fn best_gs1_modes(
     }
 }
 
-// As `best_modes`, and for GS1 data if `gs1` says so.
+// As `best_modes`, but for GS1 data if `gs1` is true.
 #[inline(always)]
 fn best_rows(
     alloc: Global,
@@ -325,7 +329,7 @@ fn best_rows(
     Ok(table)
 }
 
-// The index of the lower of a state's two bits in a row.
+// The index, in a row, of the lower of the two bits of a state.
 #[inline(always)]
 fn shift_of(state: RunState) -> u32
     ensures value { result ≡ shift_of state }
@@ -344,6 +348,7 @@ fn shift_of(state: RunState) -> u32
     }
 }
 
+// The best mode for a state, from the row of a byte.
 #[tactic(auto, unfolding(crate::specs::Steps::BestModes::mode_at))]
 #[inline(always)]
 pub(crate) fn mode_at(row: u32, state: RunState) -> Mode

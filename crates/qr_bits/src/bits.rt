@@ -29,7 +29,7 @@ impl Model for BitWriter {
 }
 
 impl BitWriter {
-    // Returns a writer with room for `len` codewords. Until there are more, no call allocates.
+    // Returns a writer with room for `len` codewords. No call allocates until there are more codewords than this.
     #[tactic(auto, unfolding(crate::specs::Bits::bits_of, crate::specs::Bits::field))]
     pub(crate) fn with_capacity(alloc: Global, len: usize) -> Result<Self, AllocError>
         requires { len < 2 ^ 16 }
@@ -84,8 +84,8 @@ impl BitWriter {
     }
 }
 
-// Appends the lowest `width` bits of `bits` to `whole`, as far as they make whole bytes, and returns how many of them
-// are left. 23 is the sum of 7 bits that were left before, at most, and at most 16 new ones.
+// Appends the lowest `width` bits of `bits` to `whole`, as many as make whole bytes. Returns the number of bits that
+// are left. 23 is the sum of 7, the most bits that were left before, and 16, the most new ones.
 #[tactic(auto, using(crate::proofs::Named::writing_bits))]
 fn push_whole(whole: &mut Vec<u8>, bits: u32, width: u8) -> Result<u8, AllocError>
     requires { width ≤ 23 }
@@ -100,8 +100,8 @@ fn push_whole(whole: &mut Vec<u8>, bits: u32, width: u8) -> Result<u8, AllocErro
     Ok(left)
 }
 
-// Appends the `width` bits of `rest`, and then those of `bytes`, as far as they make whole bytes. Returns the bits that
-// are left as a number. There are again `width` of them, because each byte adds eight.
+// Appends the `width` bits of `rest`, and then those of `bytes`, as many as make whole bytes. Returns the bits that are
+// left, as a number. There are again `width` of them, because each byte adds eight.
 #[tactic(auto, unfolding(crate::specs::Bits::bits_of))]
 fn push_bytes(whole: &mut Vec<u8>, width: u8, mut rest: u8, bytes: &[u8]) -> Result<u8, AllocError>
     requires few { width < 8 }
@@ -119,7 +119,7 @@ fn push_bytes(whole: &mut Vec<u8>, width: u8, mut rest: u8, bytes: &[u8]) -> Res
     Ok(rest)
 }
 
-// The byte at `i`, or 0 after the last.
+// The byte at the index `i`, or 0 after the last byte.
 #[inline(always)]
 fn byte_at(bytes: &[u8], i: usize) -> u32
     ensures value { result ≡ slice_index_or bytes.now i 0 }
@@ -132,8 +132,8 @@ fn byte_at(bytes: &[u8], i: usize) -> u32
     }
 }
 
-// The three bytes from the index `at` on, as a number of 24 bits. It contains any 16 bits that begin in the first of
-// the three. What the contract says of the second and the third byte is for the prover.
+// The three bytes from the index `at` on, as a number of 24 bits. They contain any 16 neighbouring bits that begin in
+// the first byte. What the contract says of the second and the third byte is for the prover.
 #[inline(always)]
 fn three_bytes(bytes: &[u8], at: usize) -> u32
     requires { at ≤ length bytes.now }
@@ -145,8 +145,8 @@ fn three_bytes(bytes: &[u8], at: usize) -> u32
     65536 * byte_at(bytes, at) + 256 * byte_at(bytes, at + 1) + byte_at(bytes, at + 2)
 }
 
-// Appends `count` bytes that are cut out of `bytes` from the bit `at` on. Each consists of the last bits of one byte
-// and the first bits of the next.
+// Appends `count` bytes that are cut out of `bytes` from bit `at` on. Each of them consists of the last bits of one
+// byte and the first bits of the next.
 fn push_bytes_at(out: &mut Vec<u8>, bytes: &[u8], at: usize, count: usize) -> Result<(), AllocError>
     requires { at + 8 * count ≤ 8 * length bytes.now }
     ensures { OnOk result (out.new.items ≡ out.old.items ++ bytes_of count (drop at (bits_of bytes.now))) }
@@ -163,8 +163,8 @@ fn push_bytes_at(out: &mut Vec<u8>, bytes: &[u8], at: usize, count: usize) -> Re
     Ok(())
 }
 
-// Reads bits from codewords, of which no symbol has more than 3,706. In contracts its value is the list of the bits
-// that are not read yet.
+// Reads bits from codewords. No symbol has more than 3,706 codewords. In contracts the value of a reader is the list of
+// the bits that are not read yet.
 #[derive(Drop)]
 pub(crate) struct BitReader<'a> {
     bytes: &'a [u8],
@@ -221,7 +221,8 @@ impl<'a> BitReader<'a> {
         Ok(())
     }
 
-    // Whether nothing more is to be read: the terminator follows, or fewer than four bits (ISO/IEC 18004:2015, 7.4.9).
+    // Whether nothing more is to be read: the terminator follows, or fewer than four bits are left (ISO/IEC 18004:2015,
+    // 7.4.9).
     #[tactic(auto, unfolding(crate::specs::Parsing::ends))]
     pub(crate) fn ends(&self) -> bool
         ensures { result ≡ ends self.now }

@@ -8,8 +8,8 @@ use crate::modes::Rule;
 use std::alloc::{AllocError, Global};
 
 /// Returns `input` with capitals in the place of the letters `a` to `z`, so the number of bytes stays the same. Under
-/// `Rule::WithKanji` kanji pairs stay as they are; they are found from the left. Under `Rule::BytesOnly` all bytes stay
-/// as they are.
+/// `Rule::WithKanji` kanji pairs stay as they are. To find them, the bytes are read from first to last. Under
+/// `Rule::BytesOnly` all bytes stay as they are.
 ///
 /// # Errors
 ///

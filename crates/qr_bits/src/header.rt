@@ -1,11 +1,12 @@
-//! The structured append header, with which the data of each symbol of a series begin. It says which of the symbols
-//! this is, how many there are, and the parity data of the input, which are the same in all of them (ISO/IEC
-//! 18004:2015, 8).
+//! The structured append header, with which the data of each symbol of a series begin. It says which symbol of the
+//! series this is, and how many symbols there are. It also has the parity data of the whole input (ISO/IEC 18004:2015,
+//! 8).
 
 ghost use Rattle.std.specs.Prelude.{◌≡◌, ◌≤◌};
 ghost use Rattle.qr_bits.specs.Header.{header_bits, parity_of};
 
-// The mode indicator, `position` and `last` have 4 bits each, and `parity` has 8 (ISO/IEC 18004:2015, 8.1 to 8.3).
+// The number of bits of a header. The mode indicator, `position` and `last` have 4 bits each, and `parity` has 8
+// (ISO/IEC 18004:2015, 8.1 to 8.3).
 pub(crate) const HEADER_BITS: u64 = 20;
 
 /// The structured append header of a symbol (ISO/IEC 18004:2015, 8.1).

@@ -1,8 +1,8 @@
 //! How a symbol says what its bytes mean: by ECI headers, and by FNC1 in first or second position (ISO/IEC 18004:2015,
-//! 7.4.2, 7.4.8). These and the segments are the items of a symbol.
+//! 7.4.2, 7.4.8). ECI headers, FNC1 and segments are the items of a symbol.
 //!
-//! Segments contain characters, and these stand for the bytes of the symbol. The characters are the bytes themselves
-//! but for one case. In alphanumeric mode after FNC1 `%%` stands for `%`, and any other `%` for the byte 1D
+//! Segments contain characters, and these stand for the bytes of the symbol. With one exception, the characters are the
+//! bytes themselves. In alphanumeric mode after FNC1, `%%` stands for `%`, and any other `%` for the byte 1D
 //! (hexadecimal), which separates fields.
 
 ghost use Rattle.std.specs.Prelude.{IfOk, IsTrue, ◌↔◌, List, OnOk, false, true, if◌then◌else◌, [], ◌∷◌, take, drop, length, ◌==◌, ◌≡◌, ◌≤◌, ◌++◌};
@@ -17,7 +17,7 @@ use std::alloc::{AllocError, Global};
 /// How the bytes of a symbol are to be interpreted.
 #[derive(Clone, Copy, Debug, PartialEq, Eq)]
 pub enum Interpretation {
-    /// The symbol says nothing of it.
+    /// The symbol does not say how its bytes are to be interpreted.
     Default,
     /// All bytes have the ECI (extended channel interpretation) of this number, which is from 0 to 999,999. The number
     /// of UTF-8 is 26 (ISO/IEC 18004:2015, 7.4.2).
@@ -26,8 +26,8 @@ pub enum Interpretation {
     Gs1,
 }
 
-/// Returns how many bits the ECI header or FNC1 takes by which a symbol says this interpretation, and 0 for `Default`,
-/// for which it has neither (ISO/IEC 18004:2015, 7.4.2, 7.4.8.2).
+/// Returns the number of bits of the ECI header or FNC1 by which a symbol states this interpretation. It is 0 for
+/// `Default`, for which a symbol has neither (ISO/IEC 18004:2015, 7.4.2, 7.4.8.2).
 pub fn interpretation_bits(interpretation: Interpretation) -> u64
     ensures value { result ≡ interpretation_bits interpretation }
     ensures most { result ≤ 28 }
@@ -53,8 +53,9 @@ pub(crate) fn is_gs1(interpretation: Interpretation) -> bool
     matches!(interpretation, Interpretation::Gs1)
 }
 
-/// Returns whether `input` can be written with this interpretation. GS1 data cannot if a byte 1D (hexadecimal), which
-/// separates fields, comes directly before another one or before `%`. All other data can (ISO/IEC 18004:2015, 7.4.8.2).
+/// Returns whether `input` can be written with this interpretation (ISO/IEC 18004:2015, 7.4.8.2). GS1 data cannot be
+/// written if a byte 1D (hexadecimal), which separates fields, comes directly before another such byte or before `%`.
+/// All other data can be written.
 pub fn may_write(input: &[u8], interpretation: Interpretation) -> bool
     ensures { IsTrue result ↔ MayWrite interpretation input.now }
 {
@@ -64,9 +65,9 @@ pub fn may_write(input: &[u8], interpretation: Interpretation) -> bool
     }
 }
 
-// Whether no separator comes directly before another or before `%`. One segment in alphanumeric mode cannot contain
-// both: it would write `%%` or `%%%` for them, of which the first two characters are read as `%`. The loop has no early
-// exit, so that the compiled code takes many bytes at once.
+// Whether no separator comes directly before another separator or before `%`. One segment in alphanumeric mode could
+// not contain two such bytes: it would write `%%` or `%%%` for them, and the first two characters would be read as `%`.
+// The loop has no early exit, so that the compiled code takes many bytes at once.
 #[tactic(auto, unfolding(crate::specs::Interpretation::are_fields))]
 #[inline(never)]
 fn are_fields(bytes: &[u8]) -> bool
@@ -154,7 +155,7 @@ pub(crate) fn separate(characters: &[u8], out: &mut Vec<u8>) -> Result<(), Alloc
     Ok(())
 }
 
-// Appends the bytes that the characters of a segment stand for. `fnc1` says whether FNC1 came before.
+// Appends the bytes that the characters of a segment stand for. `fnc1` says whether FNC1 came before the segment.
 fn append_meant(
     fnc1: bool,
     mode: Mode,
@@ -170,7 +171,7 @@ fn append_meant(
     }
 }
 
-// The first `len` characters, or all of them if there are fewer, and those that are left.
+// The first `len` characters, or all of them if there are fewer, and the characters after these.
 fn cut(characters: &[u8], len: usize) -> (&[u8], &[u8])
     ensures front { result.0.now ≡ take len characters.now }
     ensures back { result.1.now ≡ drop len characters.now }
@@ -178,7 +179,7 @@ fn cut(characters: &[u8], len: usize) -> (&[u8], &[u8])
     characters.split_at(len.min(characters.len()))
 }
 
-// Whether all items are segments, and together take all the characters. Then the bytes are these characters.
+// Whether all items are segments, which together take all the characters. Then the bytes are these characters.
 fn is_plain(items: &[Item], characters: &[u8]) -> bool
     ensures bytes { result ≡ true → meant_bytes false items.now characters.now ≡ characters.now }
     ensures ecis { result ≡ true → eci_changes false 0 items.now characters.now ≡ [] }
@@ -200,9 +201,10 @@ pub(crate) struct Meaning {
     pub ecis: Vec<EciChange>,
 }
 
-// Appends what the item stands for to `meaning`; a segment takes the first of `characters`. Returns whether FNC1 comes
-// before the next item, and the characters that are left. The contract compares what all items mean: this one and the
-// later ones, `is`, before the call, and `is` alone after it.
+// Appends what the item stands for to `meaning`. A segment takes the first of `characters`. Returns whether FNC1 comes
+// before the next item, and the characters that are left. The contract says that the call does not change the meaning
+// of all items. This is what `meaning` has, followed by what the items that are left stand for: `item` and the later
+// items `is` before the call, and `is` alone after it.
 #[tactic(auto, unfolding(crate::specs::Interpretation::meant_bytes, crate::specs::Interpretation::eci_changes))]
 fn take_item<'a>(
     item: Item,
@@ -250,8 +252,8 @@ fn meaning_of(alloc: Global, items: &[Item], characters: &[u8]) -> Result<Meanin
     Ok(meaning)
 }
 
-// Returns what the items stand for, where `characters` are those of all segments. If the bytes are these characters, no
-// copy is made.
+// Returns what the items stand for. `characters` are the characters of all segments. If the bytes are the same as the
+// characters, no copy is made.
 pub(crate) fn interpreted(
     alloc: Global,
     items: &[Item],

@@ -1,7 +1,7 @@
 //! Laws of this crate's definitions. A function with an empty body does nothing: its contract is the law. If its name
 //! ends in `compute`, the law has examples that the standard prints, or that were worked out by hand.
 //!
-//! The functions with a body are laws of the public types: which numbers the faults have, that `==` is true exactly of
+//! The functions with a body are laws of the public types: which numbers the faults have, that `==` is true exactly for
 //! equal values, and that a clone is equal to its original.
 
 ghost use Rattle.std.specs.Prelude.{◌≡◌, ◌-◌, ◌/◌, ◌%◌, ℕ, List, [], ◌∷◌, ◌++◌, true, false, length, map, codes, ◌↔◌, IsTrue, IfOk};
@@ -29,16 +29,16 @@ use crate::modes::{INPUT_MAX, Mode, Rule};
 use crate::segment::Segment;
 use std::alloc::AllocError;
 
-/// Bits are parsed as segments alone, after a structured append header if there is one, exactly if they are the bit
-/// stream of these and then an end. An end is fewer than four bits, or the terminator and anything after it. Segments
-/// may be empty, and need not take the fewest bits.
+/// Bits are parsed as an optional structured append header and segments, and no other items, exactly if they are the
+/// bit stream of these and then an end. An end is fewer than four bits, or the terminator and anything after it.
+/// Segments may be empty, and need not take the fewest bits.
 #[tactic(auto, using(crate::proofs::lemmas::parsing::StreamReadingLemmas::parse_plain, crate::proofs::lemmas::parsing::StreamReadingLemmas::parse_takes))]
 pub fn streams_are_parsed()
     ensures { StreamsAreParsed }
 {}
 
-/// Data codewords are parsed as the header, interpretation and segments that they were made from. Without an
-/// interpretation, the bytes are those that they were made from too.
+/// Data codewords are parsed as the header, interpretation and segments that they were made from, and as the bytes too
+/// if they have no interpretation.
 pub fn data_are_parsed()
     ensures whole { DataAreParsed }
     ensures plain { PlainDataAreParsed }
@@ -83,13 +83,14 @@ pub fn fitting_inputs_are_short()
     ensures { FittingInputsAreShort }
 {}
 
-/// The segments of the least segmentation cover its characters, and no valid assignment of modes takes fewer bits.
+/// The segments of the least segmentation cover its characters, and no valid assignment of modes takes fewer bits than
+/// these segments.
 #[tactic(auto, using(crate::proofs::lemmas::segment::SegmentLemmas::least_fits))]
 pub fn least_segmentations_fit()
     ensures { LeastSegmentationsFit }
 {}
 
-/// An input has at most one least segmentation for an interpretation, a version and a rule.
+/// For a given interpretation, version and rule, an input has at most one least segmentation.
 pub fn segmentations_are_one()
     ensures { (i : Interpretation) (v : ℕ) (r : Rule) (xs ys zs : List ℕ) (ss ts : List Segment)
         → IsLeastSegmentation i v r xs ys ss → IsLeastSegmentation i v r xs zs ts → (ys ≡ zs) × (ss ≡ ts) }
@@ -136,8 +137,8 @@ pub fn widths_compute()
         ≡ 8 ∷ 8 ∷ 10 ∷ 10 ∷ 12 ∷ 12 ∷ [] }
 {}
 
-/// The data bits of `01234567` and `AC-42`, which the standard prints, and of `0123`, and the values of the last nine
-/// characters of Table 5 (ISO/IEC 18004:2015, 7.4.3, 7.4.4).
+/// The data bits of `01234567` and `AC-42`, which the standard prints, and those of `0123`. The last clause has the
+/// values of the last nine characters of Table 5 (ISO/IEC 18004:2015, 7.4.3, 7.4.4).
 #[tactic(auto, unfolding(crate::specs::Modes::characters, crate::specs::Stream::digit_bits, crate::specs::Modes::character_value, crate::specs::Stream::character_bits, crate::specs::Bits::field))]
 pub fn payloads_compute()
     ensures digits { digit_bits (codes "01234567") ≡ field 10 12 ++ (field 10 345 ++ field 7 67) }
@@ -159,7 +160,7 @@ pub fn streams_compute()
 {}
 
 /// How codewords are parsed: those of the second symbol in a series of three, and those of five symbols with ECI
-/// headers or FNC1. Sixteen lists of codewords cannot be parsed, each with its fault.
+/// headers or FNC1. The last clause has sixteen lists of codewords that cannot be parsed, each with its fault.
 #[tactic(auto, unfolding(crate::specs::Interpretation::separated, crate::specs::Interpretation::meant_bytes, crate::specs::Interpretation::eci_changes, crate::specs::Parsing::parse, crate::specs::Parsing::first_header, crate::specs::Parsing::begins_header, crate::specs::Parsing::header_at, crate::specs::Parsing::items_of, crate::specs::Parsing::items_at, crate::specs::Parsing::item_at, crate::specs::Parsing::designator_at, crate::specs::Parsing::application_at, crate::specs::Parsing::segment_at, crate::specs::Parsing::leading_number, crate::specs::Parsing::payload_at, crate::specs::Parsing::values_of, crate::specs::Parsing::digits_of, crate::specs::Parsing::characters_of, crate::specs::Parsing::character, crate::specs::Parsing::bytes_of, crate::specs::Parsing::pairs_of, crate::specs::Parsing::kanji_pair, crate::specs::Parsing::mode_of, crate::specs::Parsing::ends, crate::specs::Modes::characters, crate::specs::Bits::field, crate::specs::Bits::bits_of))]
 pub fn parses_compute()
     ensures series { parse 1 (bits_of middle_data)
@@ -170,9 +171,9 @@ pub fn parses_compute()
 {}
 
 /// How three fields of GS1 data are written: alphanumeric mode writes `%` as two characters and the separator as `%`,
-/// and byte mode each byte as itself. What is written stands for these fields (ISO/IEC 18004:2015, 7.4.8.2). The last
-/// clause says which of five inputs are fields: a separator may come after `%`, but neither before it nor before
-/// another one.
+/// and byte mode writes each byte as itself. What is written stands for these fields (ISO/IEC 18004:2015, 7.4.8.2). The
+/// last clause says which of five inputs are fields: a separator may come after `%`, but neither before `%` nor before
+/// another separator.
 #[tactic(auto, unfolding(crate::specs::Interpretation::characters_gs1, crate::specs::Interpretation::doubled_gs1, crate::specs::Segmentation::runs_of, crate::specs::Interpretation::separated, crate::specs::Interpretation::meant_bytes, crate::specs::Interpretation::are_fields))]
 pub fn fields_compute()
     ensures characters { characters_in Interpretation.Gs1 three_fields modes_of_fields
@@ -198,7 +199,7 @@ pub fn parities_compute()
     ensures twice { parity_of (0xA5 ∷ 0xA5 ∷ 0x3C ∷ []) ≡ 0x3C }
 {}
 
-/// `Auto` allows all modes but kanji mode, `BytesOnly` byte mode alone, `WithKanji` all.
+/// `Auto` allows all modes but kanji mode, `BytesOnly` allows byte mode alone, and `WithKanji` allows all four modes.
 pub fn rules_compute()
     ensures auto { map (may_use Rule.Auto) all_modes ≡ true ∷ true ∷ true ∷ false ∷ [] }
     ensures bytes { map (may_use Rule.BytesOnly) all_modes ≡ false ∷ false ∷ true ∷ false ∷ [] }
@@ -215,8 +216,8 @@ pub fn foldings_compute()
         ≡ 0x41 ∷ 0x93 ∷ 0x61 ∷ 0x41 ∷ 0x93 ∷ [] }
 {}
 
-/// The lower bounds on the bits of five inputs. These have the bytes on both sides of `0`, `9` and `Z`, where the bound
-/// for a byte changes.
+/// The lower bounds on the bits of five inputs. The inputs contain the bytes on both sides of `0`, `9` and `Z`, where
+/// the bound for a byte changes.
 #[tactic(auto, unfolding(crate::specs::Segmentation::least_bits))]
 pub fn least_bits_compute()
     ensures { map least_bits (codes "012" ∷ codes "/9:" ∷ codes "AZ" ∷ codes "[z" ∷ codes "1A[" ∷ [])
@@ -241,9 +242,9 @@ pub fn parse_fault_numbers(fault: ParseFault) -> u8
     fault as u8
 }
 
-/// The values of the two kanji pairs that the standard encodes and of the greatest pair, and the pairs that have these
-/// values (ISO/IEC 18004:2015, 7.4.6). The last two clauses say which pairs of bytes are kanji pairs and which are not,
-/// at both ends of each range.
+/// The values of three kanji pairs, and the pairs that have these values: the two pairs that the standard encodes, and
+/// the greatest pair (ISO/IEC 18004:2015, 7.4.6). The last two clauses say which pairs of bytes are kanji pairs and
+/// which are not, at both ends of each range.
 #[tactic(auto, unfolding(crate::specs::Modes::is_kanji_pair, crate::specs::Modes::kanji_value, crate::specs::Parsing::kanji_pair))]
 pub fn kanji_compute()
     ensures first { kanji_value 0x93 0x5F ≡ 0xD9F }

@@ -1,8 +1,8 @@
-//! The longest prefix of an input that fits one symbol of a series. It is found by the best choices of `best_modes.rt`,
-//! as the segments of an input are, but no table is kept.
+//! The longest prefix of an input that fits one symbol of a series. Like the segments of an input, it is found by the
+//! best choices of `best_modes.rt`, but no table is kept.
 //!
-//! `row_of` adds a byte in front of the later ones, while a prefix grows at its end. So each prefix is taken in
-//! reverse, which needs as many bits; the second byte of a kanji pair then comes first.
+//! A prefix grows at its end, but `row_of` puts a byte before those that it has already taken. So each prefix is taken
+//! in reverse order, which needs equally many bits. In this order the second byte of a kanji pair comes first.
 
 ghost use Rattle.std.specs.Prelude.{IsOkAnd, length, reverse, true, ◌+◌, ◌*◌, ◌<◌, ◌≡◌, ◌≤◌};
 ghost use Rattle.qr_bits.specs.declared.modes.Mode.{Mode};
@@ -24,7 +24,7 @@ use crate::run_state::{FirstChoices, NO_BITS, PerState};
 use qr_layout::{Level, Version};
 use std::alloc::Global;
 
-// Whether the last two bytes may be written in kanji mode. `kanji` says whether the rule allows it.
+// Whether the rule allows kanji mode, as `kanji` says, and the last two bytes are a kanji pair.
 #[tactic(auto, using(crate::proofs::lemmas::longest_prefix::MirrorLemmas::ends_at, crate::proofs::lemmas::longest_prefix::MirrorLemmas::ends_short))]
 #[inline(always)]
 fn ends_with_pair(kanji: bool, rule: Rule, bytes: &[u8]) -> bool
@@ -39,7 +39,7 @@ fn ends_with_pair(kanji: bool, rule: Rule, bytes: &[u8]) -> bool
 }
 
 // The most bytes that a segment in byte mode can have in `room` bits (ISO/IEC 18004:2015, 7.4.5). Its two indicators
-// take at most 20.
+// take at most 20 bits.
 fn bytes_in(room: u64, version: Version) -> usize
     requires { 20 ≤ room }
     ensures fits { 4 + count_width version Mode.Byte + 8 * result ≤ room }
@@ -61,11 +61,11 @@ fn fewest(numbers: &PerState) -> u32
     digits.min(characters).min(pairs.min(others))
 }
 
-// The length of the longest prefix of `input` that takes at most `room` bits. After the turn of `input[i]`,
+// The length of the longest prefix of `input` that takes at most `room` bits. When the loop has taken `input[i]`,
 // `rest.start / 4` is the least number of bits of the prefix that ends with this byte. If it is more than `room`, a
 // longer prefix may still fit, because the first byte of a kanji pair may take more bits in byte mode than the pair in
-// kanji mode. The bits of a longer prefix are those that `rest` has for one of the states, and those that its further
-// bytes add. So if `rest` has too many bits for each state, no longer prefix fits.
+// kanji mode. The bits of a longer prefix are those that `rest` has for some state, plus those that the further bytes
+// add. So if `rest` has more than `room` bits for each state, no longer prefix fits.
 //
 // As in `best_modes.rt`, `kanji` says whether the rule allows kanji mode, and `gs1` whether the input is GS1 data.
 #[inline(always)]
@@ -98,8 +98,8 @@ fn longest_by_rows(
 }
 
 // How many bits of the capacity are left after a structured append header and the ECI header or FNC1 of the
-// interpretation (ISO/IEC 18004:2015, 7.4.2, 7.4.8.2, 8.1). The capacity is at least 72 bits, of which these take at
-// most 20 and 28, so 20 are always left.
+// interpretation (ISO/IEC 18004:2015, 7.4.2, 7.4.8.2, 8.1). At least 20 bits are left: the capacity is at least 72
+// bits, the structured append header takes 20 of them, and an ECI header or FNC1 takes at most 28.
 fn room(version: Version, level: Level, interpretation: Interpretation) -> u64
     ensures value { result ≡ room_of version level interpretation }
     ensures least { 20 ≤ result }
@@ -145,7 +145,7 @@ pub fn longest_fit(
 {
     let room = room(version, level, interpretation);
     let most = bytes_in(room, version);
-    // Each rule allows byte mode, so this prefix fits.
+    // Each rule allows byte mode, so the whole input fits.
     if input.len() <= most {
         return Ok(input.len());
     }

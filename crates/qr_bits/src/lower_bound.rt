@@ -1,5 +1,6 @@
-//! A lower bound on the bits of an input, however it is cut into segments. It is computed faster than the segments. If
-//! versions 1 to 9, or 1 to 26, have room for fewer bits than it, the search for a version skips them.
+//! A lower bound on the bits of an input, however it is cut into segments. It takes less time to compute than the
+//! segments. The search for a version skips versions 1 to 9, or 1 to 26, if they have room for fewer bits than the
+//! bound.
 
 ghost use Rattle.std.specs.Prelude.{length, ℕ, ◌/◌, ◌≡◌, ◌≤◌};
 ghost use Rattle.qr_bits.specs.declared.interpretation.Interpretation.{Interpretation};
@@ -8,7 +9,8 @@ ghost use Rattle.qr_bits.specs.Segmentation.{HasFit, least_bits, least_sixths};
 
 use crate::modes::INPUT_MAX;
 
-// A lower bound on what a byte takes in any mode. It is in sixths of a bit, so that it is a whole number for each byte.
+// A lower bound on the bits that a byte takes in any mode. It is in sixths of a bit, so that it is a whole number for
+// each byte.
 fn least_sixths(byte: u8) -> u32
     ensures value { result ≡ least_sixths byte }
     ensures most { result ≤ 39 }

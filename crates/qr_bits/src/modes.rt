@@ -1,7 +1,7 @@
-//! The four modes in which bytes are written: their indicators, the bytes that each can write, and the bits that these
-//! take (ISO/IEC 18004:2015, 7.3, 7.4.1 to 7.4.6). A segment begins with two indicators, and its data follow. The mode
-//! indicator has four bits. The character count indicator says how many characters follow, and its width depends on the
-//! mode and the version.
+//! The four modes in which bytes are written: their indicators, the bytes that each mode can write, and the bits that
+//! these bytes take (ISO/IEC 18004:2015, 7.3, 7.4.1 to 7.4.6). A segment begins with two indicators, and its data
+//! follow. The mode indicator has four bits. The character count indicator says how many characters follow, and its
+//! width depends on the mode and the version.
 
 ghost use Rattle.std.specs.Prelude.{IsTrue, ◌<◌, ◌==◌, ◌^◌, ◌≡◌, ◌≤◌};
 ghost use Rattle.qr_bits.specs.Modes.{character_value, characters, character_count, count_width, in_twos, indicator, is_alphanumeric, is_digit, is_kanji_pair, kanji_value, byte_count, may_use, payload_bits, suits};
@@ -11,8 +11,8 @@ ghost use Rattle.qr_bits.specs.Parsing.{character, mode_of};
 use crate::fault::ParseFault;
 use qr_layout::Version;
 
-/// The greatest length of an input, in bytes. It is one more than a series can contain, which has at most 16 symbols,
-/// of at most 7,089 bytes each. So an input of this length fits no series, and whatever is longer need not be read.
+/// The greatest length of an input, in bytes. A series has at most 16 symbols of at most 7,089 bytes each, and this
+/// length is one byte more. So an input of this length fits no series, and no byte after it need be read.
 pub const INPUT_MAX: usize = 113_425;
 
 /// How the bytes of a segment are written (ISO/IEC 18004:2015, 7.3.3 to 7.3.6).
@@ -40,8 +40,8 @@ pub enum Rule {
     WithKanji,
 }
 
-// The mode indicators (ISO/IEC 18004:2015, 7.4.1, Table 2). Structured append, ECI and FNC1 have one like the modes.
-// The terminator stands where the next mode indicator would be.
+// The mode indicators (ISO/IEC 18004:2015, 7.4.1, Table 2). Structured append, ECI and FNC1 have indicators as modes
+// have them. The terminator comes where the next mode indicator would be.
 pub(crate) const TERMINATOR: u16 = 0b0000;
 
 const NUMERIC: u16 = 0b0001;
@@ -102,8 +102,8 @@ pub(crate) fn count_width(version: Version, mode: Mode) -> u8
     }
 }
 
-// The number in the character count indicator of `len` bytes: a kanji pair is one character (ISO/IEC 18004:2015,
-// 7.4.1).
+// The number in the character count indicator of a segment of `len` bytes, of which kanji mode counts two as one
+// character (ISO/IEC 18004:2015, 7.4.1).
 pub(crate) fn character_count(mode: Mode, len: usize) -> usize
     ensures { result ≡ character_count mode len }
 {
@@ -113,7 +113,8 @@ pub(crate) fn character_count(mode: Mode, len: usize) -> usize
     }
 }
 
-// The reverse of `character_count`. A character count indicator has at most 16 bits.
+// The number of bytes of a segment with `count` characters. The bound on `count` is that of a character count
+// indicator, which has at most 16 bits.
 pub(crate) fn byte_count(mode: Mode, count: usize) -> usize
     requires { count < 2 ^ 16 }
     ensures { result ≡ byte_count mode count }
@@ -124,9 +125,9 @@ pub(crate) fn byte_count(mode: Mode, count: usize) -> usize
     }
 }
 
-// How many bits the data of `len` bytes take, without the indicators (ISO/IEC 18004:2015, 7.4.3 to 7.4.6). A byte that
-// lacks the other one of its kanji pair takes as many as a pair. No caller has more than 2 * INPUT_MAX bytes, which is
-// less than 2^20.
+// How many bits the data of `len` bytes take, without the indicators (ISO/IEC 18004:2015, 7.4.3 to 7.4.6). If `len` is
+// odd in kanji mode, the last byte counts as a whole pair. The bound on `len` is loose: callers have at most 2 *
+// INPUT_MAX bytes, which is less than 2^20.
 pub(crate) fn payload_bits(mode: Mode, len: usize) -> usize
     requires { len < 2 ^ 20 }
     ensures { result ≡ payload_bits mode len }
@@ -194,9 +195,9 @@ fn place_of(character: u8) -> Option<usize>
     CHARACTERS.iter().position(|other| *other == character)
 }
 
-// The number of 13 bits that is written for a kanji pair (ISO/IEC 18004:2015, 7.4.6). The subtraction brings the two
-// ranges of pairs together, and makes the low byte at most BC (hexadecimal). So C0 in place of 100 is a factor that is
-// great enough for the high byte.
+// The number of 13 bits that is written for a kanji pair (ISO/IEC 18004:2015, 7.4.6). The subtraction closes the gap
+// between the two ranges of pairs, and leaves a low byte of at most BC (hexadecimal). So it is enough to multiply the
+// high byte by C0 instead of 100 (both hexadecimal).
 #[tactic(auto, unfolding(crate::specs::Modes::kanji_value), using(crate::proofs::lemmas::modes::KanjiLemmas::least_pair))]
 pub(crate) fn kanji_value(high: u8, low: u8) -> u16
     requires { IsTrue (is_kanji_pair high low) }

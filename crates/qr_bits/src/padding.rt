@@ -28,8 +28,8 @@ const TERMINATOR_BITS: u64 = 4;
 /// terminator, zeros up to the end of a codeword, and pad codewords follow (ISO/IEC 18004:2015, 7.4.9, 7.4.10).
 ///
 /// `input` and `segs` are the characters and the segments that `segments` returns (`Segmented`), or any others for
-/// which `covers` is true. `input` may have up to twice `INPUT_MAX` bytes, because for a byte of GS1 data up to two
-/// characters are written.
+/// which `covers` is true. `input` may have up to twice `INPUT_MAX` bytes, because a byte of GS1 data may be written as
+/// two characters.
 ///
 /// # Errors
 ///
@@ -73,8 +73,9 @@ pub fn codewords(
     Ok(codewords)
 }
 
-// Writes the bit stream, a terminator, for which `left` bits of the capacity are left, and zeros up to the end of a
-// codeword. What the contract says of the parity is for the prover.
+// Writes the bit stream, a terminator, and zeros up to the end of a codeword. `left` is the number of bits that the bit
+// stream leaves of the capacity, so the terminator may not be longer. What the contract says of the parity is for the
+// prover.
 fn put_all(
     writer: &mut BitWriter,
     input: &[u8],
@@ -98,8 +99,8 @@ fn put_all(
     writer.fill()
 }
 
-// Appends pad codewords until there are `len` codewords in all (ISO/IEC 18004:2015, 7.4.10). What the contract says of
-// all codewords, that they are bytes, is for the prover.
+// Appends pad codewords until there are `len` codewords in all (ISO/IEC 18004:2015, 7.4.10). The contract also says
+// that all codewords are bytes, which only the prover needs.
 #[tactic(auto, using(crate::proofs::Named::pad_codewords))]
 fn pad(codewords: &mut Vec<u8>, len: usize) -> Result<(), AllocError>
     ensures { OnOk result ((codewords.new.items ≡ codewords.old.items ++ pads (len - vec_len codewords.old))

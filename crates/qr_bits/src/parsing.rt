@@ -1,6 +1,6 @@
-//! How data codewords are parsed: as a structured append header, if there is one, and then items, which are segments,
-//! ECI headers and FNC1 (ISO/IEC 18004:2015, 7.4.1 to 7.4.9, 8, 12). First all items are read, and the characters of
-//! all segments are appended to one list, `out`. Then `interpreted` returns the bytes that these characters stand for.
+//! How data codewords are parsed: as an optional structured append header, and then items. These are segments, ECI
+//! headers and FNC1 (ISO/IEC 18004:2015, 7.4.1 to 7.4.9, 8, 12). First all items are read, and the characters of all
+//! segments are appended to one list, `out`. Then `interpreted` returns the bytes that these characters stand for.
 
 ghost use Rattle.std.specs.Prelude.{Err, IfOk, List, MatchResult, drop, length, take, true, ℕ, ◌%◌, ◌*◌, ◌++◌, ◌+◌, ◌<◌, ◌^◌, ◌≡◌, ◌≤◌};
 ghost use Rattle.qr_bits.specs.Modes.{byte_count, payload_bits};
@@ -21,8 +21,8 @@ use qr_layout::Version;
 use std::alloc::Global;
 use std::marker::Model;
 
-// The numbers that are written for three, two or one digits, and for two or one characters, are below these limits
-// (ISO/IEC 18004:2015, 7.4.3, 7.4.4).
+// Limits of the numbers that are written for three digits, two digits, one digit, two characters, and one character.
+// Each number is below its limit (ISO/IEC 18004:2015, 7.4.3, 7.4.4).
 const THREE_DIGITS: u16 = 1000;
 
 const TWO_DIGITS: u16 = 100;
@@ -75,18 +75,18 @@ impl Parsed {
     }
 }
 
-/// Parses data codewords up to a terminator, or to where fewer than four bits are left (ISO/IEC 18004:2015, 7.4.9).
-/// What follows may be anything. Segments may be empty, and need not take the fewest bits. There are at most 3,706
-/// codewords, as many as the largest symbol has in all.
+/// Parses data codewords up to a terminator, or to where fewer than four bits are left (ISO/IEC 18004:2015, 7.4.9). The
+/// bits after this may have any values. Segments may be empty, and need not take the fewest bits. There may be at most
+/// 3,706 codewords, as many as the largest symbol has in all.
 ///
 /// # Errors
 ///
 /// Returns the fault of the first header or item that has one. `BadMode` stands for a mode indicator that is not
-/// defined, that of a structured append header after the beginning, or that of FNC1 after a segment or another FNC1.
-/// `Cut` stands for an end within a header, an application indicator, a character count indicator or data. `BadValue`
-/// stands for a number that is too large for its digits or characters, a value that no kanji pair has, or an ECI
-/// designator or application indicator that is not defined. If the data of a segment are cut, the fault is `Cut` even
-/// if a value among them is wrong. Returns `Memory` if memory is refused.
+/// defined or not allowed in its place: a structured append header after the beginning, or FNC1 after a segment or
+/// another FNC1. `Cut` stands for an end within a header, an application indicator, a character count indicator or
+/// data. `BadValue` stands for a number that is too large for its digits or characters, a value that no kanji pair has,
+/// or an ECI designator or application indicator that is not defined. If the data of a segment are cut, the fault is
+/// `Cut` even if a value among them is wrong. Returns `Memory` if memory is refused.
 #[tactic(auto, unfolding(crate::specs::Parsing::parse))]
 pub fn parse(alloc: Global, codewords: &[u8], version: Version) -> Result<Parsed, ParseFault>
     requires { length codewords.now ≤ 3706 }
@@ -132,7 +132,8 @@ fn header(reader: &mut BitReader) -> Result<Header, ParseFault>
     })
 }
 
-// Reads all items, and returns them with the characters of all segments. `may` says whether FNC1 may come next.
+// Reads all items, and returns them with the characters of all segments. The variable `may` says whether FNC1 may come
+// next.
 #[tactic(auto, using(crate::proofs::lemmas::parsing::ParsingLemmas::not_ended))]
 fn items(
     alloc: Global,
@@ -153,7 +154,7 @@ fn items(
     Ok((items, characters))
 }
 
-// Whether FNC1 may come after `item`, where `may` says whether it might have come in its place. Only ECI headers may
+// Whether FNC1 may come after `item`. `may` says whether FNC1 was allowed in the place of `item`. Only ECI headers may
 // come before FNC1 (ISO/IEC 18004:2015, 7.4.8.2).
 fn may_follow(may: bool, item: Item) -> bool
     ensures { result ≡ may_follow may item }
@@ -164,7 +165,7 @@ fn may_follow(may: bool, item: Item) -> bool
     }
 }
 
-// Reads an item. If it is a segment, its characters are appended to `out`.
+// Reads an item. If it is a segment, its characters are appended to `out`. `may` says whether the item may be FNC1.
 #[tactic(auto, unfolding(crate::specs::Parsing::item_at))]
 fn item(
     reader: &mut BitReader,
@@ -206,8 +207,8 @@ fn number(reader: &mut BitReader, width: usize) -> Result<u16, ParseFault>
     Ok(reader.take(width))
 }
 
-// Reads an ECI designator: 7 bits of the number after 0, 14 after 10, or 21 after 110 (ISO/IEC 18004:2015, 7.4.2, Table
-// 4). The mode indicator was already read.
+// Reads an ECI designator, whose mode indicator was already read. Its number has 7 bits after the bit 0, 14 bits after
+// the bits 10, or 21 bits after the bits 110 (ISO/IEC 18004:2015, 7.4.2, Table 4).
 #[tactic(auto, unfolding(crate::specs::Parsing::designator_at))]
 fn designator(reader: &mut BitReader) -> Result<Designator, ParseFault>
     ensures { MatchResult result (λ d. designator_at reader.old ≡ Ok (d, reader.new)) (λ e. designator_at reader.old ≡ Err e) }
@@ -252,7 +253,7 @@ fn application(reader: &mut BitReader) -> Result<u8, ParseFault>
     Ok(indicator as u8)
 }
 
-// Whether the number is that of two digits, or the ASCII code of a letter plus 100 (ISO/IEC 18004:2015, 7.4.8.3).
+// Whether the number is below 100, or is the ASCII code of a letter plus 100 (ISO/IEC 18004:2015, 7.4.8.3).
 fn is_application_indicator(number: u16) -> bool
     ensures { result ≡ is_application_indicator number }
 {
@@ -298,7 +299,7 @@ fn segment_head(reader: &mut BitReader, version: Version) -> Result<(Mode, u16),
     Ok((mode, count))
 }
 
-// Reads the data of a segment of `count` characters. They are complete, as `segment_head` has checked, but a value
+// Reads the data of a segment of `count` characters. The data are complete, as `segment_head` has checked, but a value
 // among them may be wrong.
 #[tactic(auto, unfolding(crate::specs::Parsing::values_of))]
 fn values(
@@ -336,7 +337,8 @@ fn digits(reader: &mut BitReader, count: usize, out: &mut Vec<u8>) -> Result<(),
     last_digits(reader, left, out)
 }
 
-// Reads the digits after the last three: two in seven bits, one in four, or none (ISO/IEC 18004:2015, 7.4.3).
+// Reads the digits after the last group of three: two in seven bits, one in four bits, or none (ISO/IEC 18004:2015,
+// 7.4.3).
 #[tactic(auto, unfolding(crate::specs::Parsing::digits_of))]
 fn last_digits(reader: &mut BitReader, left: usize, out: &mut Vec<u8>) -> Result<(), ParseFault>
     requires few { left < 3 }
@@ -432,7 +434,8 @@ fn kanji(reader: &mut BitReader, count: usize, out: &mut Vec<u8>) -> Result<(), 
     Ok(())
 }
 
-// The kanji pair that has this value, as a number whose high byte is the first of the pair (ISO/IEC 18004:2015, 7.4.6).
+// The kanji pair that has this value, as a number whose high byte is the first byte of the pair (ISO/IEC 18004:2015,
+// 7.4.6).
 #[tactic(auto, unfolding(crate::specs::Parsing::kanji_pair))]
 fn kanji_pair(value: u16) -> u16
     requires { value < 8192 }

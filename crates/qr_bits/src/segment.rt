@@ -1,5 +1,6 @@
-//! Segments: which of them cover an input, and how many bits they take (ISO/IEC 18004:2015, 7.4.1). A segment has a
-//! mode and a number of bytes. It does not say which bytes these are, since each segment takes the next ones.
+//! Segments: whether they cover an input, and how many bits they take (ISO/IEC 18004:2015, 7.4.1). A segment has a mode
+//! and a number of bytes. It does not say which bytes these are, since each segment takes the bytes after those of the
+//! segment before.
 
 ghost use Rattle.std.specs.Prelude.{All, IsTrue, sum_by, ◌*◌, ◌+◌, ◌<◌, ◌↔◌, ◌≡◌, ◌≤◌};
 ghost use Rattle.qr_bits.specs.Segmentation.{Covers, bits, segment_bits};
@@ -7,8 +8,8 @@ ghost use Rattle.qr_bits.specs.Segmentation.{Covers, bits, segment_bits};
 use crate::modes::{INPUT_MAX, Mode, count_width, payload_bits, suits};
 use qr_layout::Version;
 
-/// A mode, and the number of bytes that are written in it. They are the next bytes of the input, or of the characters
-/// that are written for GS1 data (`Segmented`).
+/// A mode, and the number of bytes that are written in it. Segments take the bytes of the input in turn, or the
+/// characters that are written for GS1 data (`Segmented`).
 #[derive(Clone, Copy, Debug, PartialEq, Eq)]
 pub struct Segment {
     pub mode: Mode,
@@ -37,8 +38,8 @@ pub fn covers(input: &[u8], segs: &[Segment]) -> bool
 }
 
 /// Returns how many bits `segs` take in this version: the two indicators of each segment and its data, but nothing that
-/// comes before the segments (ISO/IEC 18004:2015, 7.4.1). Their lengths may add up to twice `INPUT_MAX`, because for a
-/// byte of GS1 data up to two characters are written.
+/// comes before the segments (ISO/IEC 18004:2015, 7.4.1). The lengths of the segments may add up to twice `INPUT_MAX`,
+/// because a byte of GS1 data may be written as two characters.
 pub fn bit_len(segs: &[Segment], version: Version) -> u64
     requires nonempty { All (λ s. 0 < s.len) segs.now }
     requires short { sum_by (λ s. s.len) segs.now ≤ 2 * INPUT_MAX }

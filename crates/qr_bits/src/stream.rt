@@ -22,7 +22,7 @@ use crate::segment::Segment;
 use qr_layout::Version;
 use std::alloc::AllocError;
 
-// Writes the header. What the contract says of the parity, that it is a byte, is for the prover.
+// Writes the header. The contract also says that the parity is a byte, which only the prover needs.
 #[tactic(auto, unfolding(crate::specs::Header::header_stream))]
 pub(crate) fn put_header(writer: &mut BitWriter, header: Option<Header>) -> Result<(), AllocError>
     ensures { OnOk result ((writer.new ≡ writer.old ++ header_stream header) × ForSome header (λ h. h.parity < 256)) }
@@ -54,8 +54,8 @@ pub(crate) fn put_interpretation(
     }
 }
 
-// Writes the number of an ECI in as few codewords as it fits. The first bits of the first codeword say how many these
-// are: 0, 10 or 110 for one, two or three (ISO/IEC 18004:2015, 7.4.2, Table 4).
+// Writes the number of an ECI in as few codewords as possible. The first bits of the first codeword say how many
+// codewords there are: 0 for one, 10 for two, and 110 for three (ISO/IEC 18004:2015, 7.4.2, Table 4).
 #[tactic(auto, unfolding(crate::specs::Interpretation::designator))]
 fn put_designator(writer: &mut BitWriter, number: u32) -> Result<(), AllocError>
     requires { number < 1000000 }
@@ -126,7 +126,8 @@ fn put_payload(writer: &mut BitWriter, mode: Mode, bytes: &[u8]) -> Result<(), A
     }
 }
 
-// Writes three digits in ten bits each time, and two or one at the end in seven or four (ISO/IEC 18004:2015, 7.4.3).
+// Writes each group of three digits in ten bits. Two digits at the end take seven bits, and one digit takes four
+// (ISO/IEC 18004:2015, 7.4.3).
 #[tactic(auto, unfolding(crate::specs::Stream::digit_bits))]
 fn put_digits(writer: &mut BitWriter, digits: &[u8]) -> Result<(), AllocError>
     requires { IsTrue (list_all is_digit digits.now) }
@@ -153,7 +154,7 @@ fn digit_value(digit: u8) -> u16
     u16::from(digit - b'0')
 }
 
-// Writes two characters in eleven bits each time, and one at the end in six (ISO/IEC 18004:2015, 7.4.4).
+// Writes each pair of characters in eleven bits. A single character at the end takes six (ISO/IEC 18004:2015, 7.4.4).
 #[tactic(auto, unfolding(crate::specs::Stream::character_bits))]
 fn put_characters(writer: &mut BitWriter, characters: &[u8]) -> Result<(), AllocError>
     requires { IsTrue (list_all is_alphanumeric characters.now) }

@@ -1,14 +1,14 @@
--- In how many codewords two blocks differ at least, and how much damage still leaves no doubt which block was read. A
--- block is its data codewords `d` and then its `n` error correction codewords `e`. In a list of what was read, `None`
--- stands for a codeword that could not be read.
+-- The least number of codewords in which two blocks differ, and how much damage still leaves no doubt which block was
+-- read. A block is its data codewords `d` and then its `n` error correction codewords `e`. In a list of what was read,
+-- `None` stands for a codeword that could not be read.
 use Rattle.std.specs.Prelude.{◌≡◌, ℕ, ◌+◌, ◌*◌, ◌≤◌, ◌==◌, if◌then◌else◌, Option, None, Some, List, [], ◌∷◌, ◌++◌, length}
 use Rattle.qr_field.specs.Polynomial.{IsCorrection}
 
--- 1 if the codewords at an index differ, and 0 if they are equal [own]
+-- 1 if two codewords differ, and 0 if they are equal [own]
 abbrev pub difference : ℕ → ℕ → ℕ
 difference x y = if x == y then 0 else 1
 
--- At how many indices the lists differ, where each index that only the longer list has counts as one of them [own]
+-- The number of indices at which the lists differ. Each index that only the longer list has is counted too [own]
 abbrev pub differences : List ℕ → List ℕ → ℕ
 differences [] ys = length ys
 differences (x ∷ xs) [] = length (x ∷ xs)
@@ -27,16 +27,16 @@ erasures [] = 0
 erasures (None ∷ rs) = 1 + erasures rs
 erasures (Some x ∷ rs) = erasures rs
 
--- How many codewords of the block `ys` were read with a wrong value; each index that only the longer list has counts as
--- one of them [own]
+-- The number of codewords of the block `ys` that were read with a wrong value. Each index that only the longer list has
+-- is counted too [own]
 abbrev pub errors : List (Option ℕ) → List ℕ → ℕ
 errors [] ys = length ys
 errors (r ∷ rs) [] = length (r ∷ rs)
 errors (None ∷ rs) (y ∷ ys) = errors rs ys
 errors (Some x ∷ rs) (y ∷ ys) = difference x y + errors rs ys
 
--- If k codewords of a block of at most 255 could not be read, at most t were misread, and k + 2t is at most n, then
--- what was read determines the data codewords (ISO/IEC 18004:2015, 7.5.1)
+-- Let a block have at most 255 codewords, of which k could not be read and at most t were misread. If k + 2t is at most
+-- n, then what was read determines the data codewords (ISO/IEC 18004:2015, 7.5.1)
 abbrev pub ErasuresAreUnambiguous : Type 0
 ErasuresAreUnambiguous =
     (n t : ℕ) (d e d' e' : List ℕ) (read : List (Option ℕ)) → IsCorrection d n e → IsCorrection d' n e' →

@@ -1,4 +1,4 @@
--- Numbers as polynomials over bits: the coefficient of x^i is bit i, and the sum of two is their exclusive or.
+-- Numbers as polynomials over bits. The coefficient of x^i is bit i, and the sum of two numbers is their exclusive or.
 use Rattle.std.specs.Prelude.{◌≡◌, ℕ, ◌+◌, ◌*◌, ◌^◌, ◌<◌, ◌≤◌, bit_xor}
 use Prim.Native.Nat.{zero, suc}
 use Rattle.std.specs.Int.{bit_at}
@@ -8,8 +8,8 @@ unfoldable pub carryless : ℕ → ℕ → ℕ → ℕ
 carryless zero a b = 0
 carryless (suc w) a b = bit_xor (bit_at b w * (a * 2 ^ w)) (carryless w a b)
 
--- Dividing x by `divisor`, of degree n, leaves r: it has at most n bits, and its sum with x is a multiple of `divisor`
--- (ISO/IEC 18004:2015, 7.5.2)
+-- r is the remainder of x after division by `divisor`, which has degree n. So r has at most n bits, and the sum of x
+-- and r is a multiple of `divisor` (ISO/IEC 18004:2015, 7.5.2)
 pub record IsRemainder (n divisor x r : ℕ) : Type 0 where
   pub degree_least : 2 ^ n ≤ divisor
   pub degree_most : divisor < 2 ^ (n + 1)
@@ -21,17 +21,17 @@ pub record IsRemainder (n divisor x r : ℕ) : Type 0 where
 abbrev pub prime_modulus : ℕ
 prime_modulus = 0x11D
 
--- The product p of a and b in the field is what division by the prime modulus polynomial leaves of their product as
--- polynomials (ISO/IEC 18004:2015, 7.5.2)
+-- p is the product of a and b in the field: the remainder of their product as polynomials after division by the prime
+-- modulus polynomial (ISO/IEC 18004:2015, 7.5.2)
 abbrev pub IsProduct : ℕ → ℕ → ℕ → Type 0
 IsProduct a b p = IsRemainder 8 prime_modulus (carryless 8 a b) p
 
--- What long division in k steps leaves of x, which has at most n + k bits, by a divisor of degree n (ISO/IEC
--- 18004:2015, 7.5.2)
+-- The remainder of x after division by a divisor of degree n, computed by long division in k steps. x has at most n + k
+-- bits (ISO/IEC 18004:2015, 7.5.2)
 unfoldable pub remainder_of : ℕ → ℕ → ℕ → ℕ → ℕ
 remainder_of n divisor zero x = x
 remainder_of n divisor (suc k) x = remainder_of n divisor k (bit_xor x (bit_at x (n + k) * (divisor * 2 ^ k)))
 
--- For two elements a and b, the one p for which `IsProduct a b p` holds (ISO/IEC 18004:2015, 7.5.2)
+-- The product of two elements a and b: the only p for which `IsProduct a b p` holds (ISO/IEC 18004:2015, 7.5.2)
 unfoldable pub product : ℕ → ℕ → ℕ
 product a b = remainder_of 8 prime_modulus 7 (carryless 8 a b)

@@ -9,7 +9,7 @@ use Rattle.qr_field.specs.Galois.{product}
 abbrev pub IsByte : ℕ → Type 0
 IsByte a = a < 256
 
--- The sum of coefficients at the same index, as if the shorter list went on with zeros [own]
+-- The sums of the coefficients with equal indices, as if zeros followed the shorter list [own]
 abbrev pub plus : List ℕ → List ℕ → List ℕ
 plus [] ys = ys
 plus (x ∷ xs) [] = x ∷ xs
@@ -23,7 +23,8 @@ zeros k = replicate k 0
 abbrev pub scaled : ℕ → List ℕ → List ℕ
 scaled a p = map (product a) p
 
--- The product of two polynomials; if these have m and n + 1 coefficients, it has m + n (ISO/IEC 18004:2015, 7.5.2)
+-- The product of two polynomials. If they have m and n + 1 coefficients, the product has m + n (ISO/IEC 18004:2015,
+-- 7.5.2)
 abbrev pub times : List ℕ → List ℕ → List ℕ
 times [] g = zeros (length g - 1)
 times (a ∷ q) g = plus (scaled a g) (0 ∷ times q g)
@@ -33,7 +34,7 @@ abbrev pub power : ℕ → ℕ
 power zero = 1
 power (suc i) = product 2 (power i)
 
--- The product of x - 2^i for all i below n, the generator polynomial for n error correction codewords (ISO/IEC
+-- The generator polynomial for n error correction codewords: the product of x - 2^i for all i from 0 to n - 1 (ISO/IEC
 -- 18004:2015, Annex A)
 abbrev pub generator_of : ℕ → List ℕ
 generator_of zero = 1 ∷ []

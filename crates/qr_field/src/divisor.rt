@@ -1,7 +1,7 @@
 //! The division by a generator polynomial, as a shift register does it, one codeword at a time (ISO/IEC 18004:2015,
 //! 7.5.2). Each step shifts the register by one coefficient, and adds a multiple of the polynomial. The factor of this
-//! multiple can be any element. It is the sum of its low and of its high four bits, so two tables of 16 multiples each
-//! are enough. They are computed once for all blocks.
+//! multiple can be any element. An element is the sum of its low four bits and its high four bits, so two tables of 16
+//! multiples each are enough. The tables are computed once for all blocks.
 
 ghost use Rattle.std.specs.Prelude.{◌≡◌, ◌+◌, ◌<◌, ◌≤◌, ℕ, List, length, slice_index_or, take};
 ghost use Rattle.qr_field.specs.Steps.Register.{HasMultiples, IsHeld, divisor_of, packed, unpacked, value_of};
@@ -12,13 +12,13 @@ use crate::register::Register;
 use arrayvec::ArrayVec;
 use std::marker::Model;
 
-/// A generator polynomial, with the tables by which any number of blocks are divided by it. In contracts its value is
-/// the number of error correction codewords of a block.
+/// A generator polynomial, with the tables for dividing any number of blocks by it. In contracts its value is the
+/// number of error correction codewords of a block.
 #[derive(Drop)]
 pub struct Divisor {
     count: usize,
-    // At the index f, `low` has the product of f and the coefficients after the leading 1. `high` has there the product
-    // with f shifted left by four bits.
+    // At the index f, `low` has the product of f and the coefficients after the leading 1. At the same index, `high`
+    // has the product of these coefficients and f shifted left by four bits.
     low: [Register; 16],
     high: [Register; 16],
 }
@@ -35,7 +35,8 @@ impl Model for Divisor {
         × HasMultiples (divisor_of d.count) 4 16 d.high };
 }
 
-// Returns the multiples of `by_one` by the elements 0 to 15. Each is a sum of some of those by 1, 2, 4 and 8.
+// Returns the multiples of `by_one` by the elements 0 to 15. Each of them is a sum of some of the multiples by 1, 2, 4
+// and 8.
 fn multiples(by_one: Register) -> [Register; 16]
     ensures { HasMultiples (unpacked 32 (value_of by_one)) 0 16 result }
 {
@@ -83,8 +84,8 @@ impl Divisor {
         self.low[place & 0xF].plus(self.high[place >> 4])
     }
 
-    // Returns the register after one more codeword. The contract calls the data codewords of the block `m`, and says
-    // that if the register held what the first `i` of them leave, it then holds what the first `i + 1` leave.
+    // Returns the register after one more codeword. In the contract `m` are the data codewords of the block. If the
+    // register held the remainder for the first `i` of them, the result holds the remainder for the first `i + 1`.
     #[inline(always)]
     fn step(&self, register: Register, codeword: u8) -> Register
         ensures { (m : List ℕ) (i : ℕ) → i < length m → codeword ≡ slice_index_or m i 0
@@ -97,7 +98,8 @@ impl Divisor {
         register.rest().plus(self.multiple(factor))
     }
 
-    // Ends a division. `register` holds what the first `done` codewords of `message` leave.
+    // Ends a division, and returns its remainder. `register` holds the remainder for the first `done` codewords of
+    // `message`.
     #[inline(always)]
     fn finished(&self, register: Register, message: &[u8], done: usize) -> ArrayVec<u8, 30>
         requires done { done ≤ length message.now }
@@ -126,8 +128,8 @@ impl Divisor {
     ///
     /// # Notes
     ///
-    /// The two divisions take little longer together than one alone. A step of a division has to wait for the step
-    /// before it, but not for those of the other division.
+    /// The two divisions together take little longer than one alone. A step of a division has to wait for the step
+    /// before it, but not for the steps of the other division.
     pub fn corrections(&self, first: &[u8], second: &[u8]) -> (ArrayVec<u8, 30>, ArrayVec<u8, 30>)
         ensures first { IsCorrection first.now self.now result.0.items }
         ensures second { IsCorrection second.now self.now result.1.items }

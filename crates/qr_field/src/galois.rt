@@ -1,14 +1,14 @@
 //! Products and quotients in the field of 256 elements (ISO/IEC 18004:2015, 7.5.2). An element is a byte, read as a
-//! polynomial whose coefficients are its bits, and the sum of two elements is their exclusive or. Elements are
-//! multiplied and divided by their logarithms, which are added or subtracted modulo 255.
+//! polynomial whose coefficients are its bits, and the sum of two elements is their exclusive or. To multiply or divide
+//! two elements, their logarithms are added or subtracted modulo 255.
 
 ghost use Rattle.std.specs.Prelude.{◌≡◌, ◌≤◌, ℕ};
 ghost use Rattle.qr_field.specs.Galois.{IsProduct, product};
 
 use crate::logarithm::{exponent_of, power_of};
 
-/// Returns the product of two elements of the field. It is what division by the prime modulus polynomial leaves of
-/// their product as polynomials over bits (ISO/IEC 18004:2015, 7.5.2).
+/// Returns the product of two elements of the field. It is the remainder when their product as polynomials over bits is
+/// divided by the prime modulus polynomial (ISO/IEC 18004:2015, 7.5.2).
 pub fn mul(a: u8, b: u8) -> u8
     ensures definition { IsProduct a b result }
     ensures only { (p : ℕ) → IsProduct a b p → p ≡ result }

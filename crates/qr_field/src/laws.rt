@@ -16,7 +16,7 @@ pub fn product_is_one()
     ensures only { (a b p q : ℕ) → IsProduct a b p → IsProduct a b q → p ≡ q }
 {}
 
-/// For each n but 0, data codewords have exactly one list of n error correction codewords.
+/// For each n from 1 on, data codewords have exactly one list of n error correction codewords.
 pub fn correction_is_one()
     ensures some { (d : List ℕ) (n : ℕ) → 1 ≤ n → All IsByte d → HasCorrection d n }
     ensures only { (d e f : List ℕ) (n : ℕ) → IsCorrection d n e → IsCorrection d n f → e ≡ f }
@@ -39,8 +39,8 @@ pub fn products_compute()
     ensures zero { product 0 0xFF ≡ 0 }
 {}
 
-/// The generator polynomial of degree 7 in bytes, and all that Annex A prints for QR Code. There each coefficient is
-/// printed as a power of 2.
+/// The generator polynomial of degree 7 with bytes as coefficients, and all generator polynomials that Annex A prints
+/// for QR Code, with powers of 2 as coefficients.
 pub fn generators_compute()
     ensures seven { generator_of 7 ≡ 1 ∷ 0x7F ∷ 0x7A ∷ 0x9A ∷ 0xA4 ∷ 0x0B ∷ 0x44 ∷ 0x75 ∷ [] }
     ensures printed { map generator_of lengths_in_use ≡ map (map power) printed_exponents }
@@ -51,8 +51,8 @@ pub fn correction_computes()
     ensures { IsCorrection worked_data 10 worked_correction }
 {}
 
-/// Two blocks with different data codewords differ in more codewords than each of them has error correction codewords,
-/// if they have equally many data codewords and at most 255 codewords each.
+/// Two blocks with equally many data codewords, but different ones, differ in more codewords than each of them has
+/// error correction codewords. This holds for blocks of at most 255 codewords.
 pub fn blocks_lie_apart()
     ensures { BlocksLieApart }
 {}
@@ -80,7 +80,7 @@ pub fn damage_computes()
     ensures differences { differences (7 ∷ 8 ∷ []) (7 ∷ 9 ∷ 1 ∷ []) ≡ 2 }
 {}
 
-/// Blocks of more than 255 codewords may lie nearer to each other than `blocks_lie_apart` says. The two blocks here
+/// Blocks of more than 255 codewords may differ in fewer codewords than `blocks_lie_apart` says. The two blocks here
 /// have 256 codewords each, two of them for error correction, and differ in only two.
 pub fn longer_blocks_lie_nearer()
     ensures one { IsCorrection (1 ∷ zeros 253) 2 (0 ∷ 1 ∷ []) }

@@ -15,6 +15,7 @@ pub record IsFirstLeast (n : ℕ) (f : ℕ → ℕ) (m : ℕ) : Type 0 where
 abbrev pub mask_penalty : ℕ → Level → List ℕ → ℕ → ℕ
 mask_penalty v l cw mask = penalty_of (side_of v) (colour (grid_of v l mask cw))
 
--- The mask with the least penalty, the smallest of equals (ISO/IEC 18004:2015, 7.8.3; among equals [own])
+-- The mask with the least penalty, and the smallest of these if there are several (ISO/IEC 18004:2015, 7.8.3; among
+-- equals [own])
 abbrev pub IsMask : ℕ → Level → List ℕ → ℕ → Type 0
 IsMask v l cw mask = IsFirstLeast 8 (mask_penalty v l cw) mask

@@ -1,4 +1,5 @@
--- Laws about the distance between symbols of version `v` and level `l`: in how many codewords of a block they differ.
+-- Laws about the distance between symbols of version `v` and level `l`. The distance of two blocks is the number of
+-- codewords in which they differ.
 use Rattle.std.specs.Prelude.{◌≡◌, ℕ, ◌+◌, ◌*◌, ◌<◌, ◌≤◌, Option, List, [], ◌++◌, slice_index_or}
 use Rattle.qr_field.specs.Distance.{differences, erasures, errors}
 use Rattle.qr_layout.specs.declared.level.Level.{Level}
@@ -23,16 +24,16 @@ pub record HeldMessage (v : ℕ) (l : Level) : Type 0 where
 abbrev pub held_block : (v : ℕ) (l : Level) → HeldMessage v l → ℕ → List ℕ
 held_block v l m i = block_of (blocks_of v l) m.message i ++ slice_index_or m.is.interleaved.corrections i []
 
--- Squares with different data codewords differ, in some block, in more codewords than it has error correction codewords
--- [own]
+-- If two squares contain different data codewords, there is a block in which they differ in more codewords than the
+-- block has error correction codewords [own]
 abbrev pub MessagesLieApart : ℕ → Level → Type 0
 MessagesLieApart v l =
     (m n : HeldMessage v l) → (m.message ≡ n.message → ⊥)
     → (i : ℕ) × (i < blocks_in v l) × ((blocks_of v l).ec_len + 1 ≤ differences (held_block v l m i) (held_block v l n i))
 
--- The codewords `read` from the blocks of a damaged symbol belong to one message at most, if for each block the number
--- of erased ones plus twice a bound `t` on the misread ones is at most that of error correction codewords (ISO/IEC
--- 18004:2015, 7.5.1)
+-- Let `t` bound the number of misread codewords in each block. If in each block the number of erased codewords plus
+-- twice `t` is at most the number of error correction codewords, the codewords `read` from a damaged symbol belong to
+-- at most one message (ISO/IEC 18004:2015, 7.5.1)
 abbrev pub DamagedMessagesAreOne : ℕ → Level → Type 0
 DamagedMessagesAreOne v l =
     (m n : HeldMessage v l) (read : ℕ → List (Option ℕ)) (t : ℕ → ℕ)

@@ -15,8 +15,8 @@ use Rattle.qr_symbol.specs.Choice.{IsMask}
 use Rattle.qr_symbol.specs.VersionChoice.{IsHighestLevel, IsVersion}
 
 -- The symbol of version `v` that contains the optional header `h`, the ECI header or FNC1 of the interpretation, and
--- then `x`: the characters in the segments of fewest bits are written as data codewords, and their final sequence is
--- drawn under the mask with the least penalty (ISO/IEC 18004:2015, 7.1, 7.4.2, 7.4.8.2, 8.1)
+-- then `x`. The segments are those of fewest bits. Their characters are written as data codewords, whose final sequence
+-- is drawn under the mask with the least penalty (ISO/IEC 18004:2015, 7.1, 7.4.2, 7.4.8.2, 8.1)
 pub record IsSymbolAt (v : ℕ) (l : Level) (rule : Rule) (i : Interpretation) (x : List ℕ) (h : Option Header) (mask : ℕ) (g : Grid) : Type 0 where
   pub segments : List Segment
   pub characters : List ℕ
@@ -28,13 +28,14 @@ pub record IsSymbolAt (v : ℕ) (l : Level) (rule : Rule) (i : Interpretation) (
   pub best : IsMask v l codewords mask
   pub drawn : g ≡ grid_of v l mask codewords
 
--- The symbol without a header, of the least version `v`, from `smallest` on, that `x` fits (ISO/IEC 18004:2015, 7.1)
+-- The symbol without a header. Its version `v` is the least, from `smallest` on, that `x` fits (ISO/IEC 18004:2015,
+-- 7.1)
 pub record IsSymbol (smallest : ℕ) (l : Level) (rule : Rule) (i : Interpretation) (x : List ℕ) (v mask : ℕ) (g : Grid) : Type 0 where
   pub version : IsVersion smallest l rule i x v
   pub made : IsSymbolAt v l rule i x None mask g
 
--- The symbol without a header, of the least version `v`, from `smallest` on, that `x` fits at level `l`, and of the
--- highest level `k` at which `x` fits this version [own]
+-- The symbol without a header. Its version `v` is the least, from `smallest` on, that `x` fits at level `l`, and its
+-- level `k` is the highest at which `x` fits this version [own]
 pub record IsBoostedSymbol (smallest : ℕ) (l : Level) (rule : Rule) (i : Interpretation) (x : List ℕ) (v : ℕ) (k : Level) (mask : ℕ) (g : Grid) : Type 0 where
   pub version : IsVersion smallest l rule i x v
   pub level : IsHighestLevel v l rule i x k

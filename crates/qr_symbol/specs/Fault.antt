@@ -9,7 +9,7 @@ use Rattle.qr_symbol.specs.declared.fault.EncodeFault.TheVariants as fault
 use Rattle.qr_symbol.specs.declared.fault.ReadFault.{ReadFault}
 use Rattle.qr_symbol.specs.declared.fault.ReadFault.TheVariants as unread
 
--- A fault of `qr_bits` keeps its name among the faults of encoding [own]
+-- The fault of encoding that has the same name as the fault of `qr_bits` [own]
 abbrev pub fault_of : BitFault → EncodeFault
 fault_of bit.Memory = fault.Memory
 fault_of bit.TooLong = fault.TooLong
@@ -23,7 +23,8 @@ read_fault_number unread.Check = 4
 read_fault_number (unread.Segments why) = 5
 read_fault_number unread.Series = 6
 
--- A fault of parsing becomes `Segments`, except for lack of memory [own]
+-- The fault of reading that follows from a fault of parsing: `Memory` from lack of memory, and `Segments` from any
+-- other [own]
 abbrev pub unread_for : ParseFault → ReadFault
 unread_for unparsed.Memory = unread.Memory
 unread_for e = unread.Segments e

@@ -1,6 +1,6 @@
 -- The final sequence of codewords: the interleaved data codewords of all blocks, then their interleaved error
--- correction codewords. Before they are interleaved, the blocks come one after the other. `c` are block sizes. Blocks
--- are counted from 0, and so are the codewords in a block.
+-- correction codewords. Without interleaving, one block comes after the other. `c` are block sizes, and both blocks and
+-- the codewords in a block are counted from 0.
 use Rattle.std.specs.Prelude.{◌≡◌, ℕ, ◌+◌, ◌-◌, ◌*◌, ◌<◌, ◌⊎◌, nat_lt, if◌then◌else◌, List, [], ◌++◌, map, take, drop, length, slice_index_or}
 use Rattle.std.specs.List.{All, AllPairs, Contains}
 use Rattle.qr_field.specs.Polynomial.{IsCorrection}
@@ -13,12 +13,12 @@ use Rattle.qr_symbol.specs.declared.interleaving.BlockSizes.{BlockSizes}
 abbrev pub block_count : BlockSizes → ℕ
 block_count c = c.short + c.long
 
--- The number of codewords in block `i`; long blocks follow the short ones, with one more each (ISO/IEC 18004:2015,
--- 7.5.1, Table 9)
+-- The number of codewords in block `i`. The long blocks come after the short ones, and have one codeword more (ISO/IEC
+-- 18004:2015, 7.5.1, Table 9)
 abbrev pub block_len : BlockSizes → ℕ → ℕ
 block_len c i = if nat_lt i c.short then c.short_len else c.short_len + 1
 
--- The number of codewords before block `i`, or of all if `i` is the number of blocks [own]
+-- The number of codewords before block `i`, or of all codewords if `i` is the number of blocks [own]
 abbrev pub start_of : BlockSizes → ℕ → ℕ
 start_of c i = c.short_len * i + (i - c.short)
 
@@ -30,8 +30,8 @@ codeword_count c = start_of c (block_count c)
 abbrev pub data_sizes : Blocks → BlockSizes
 data_sizes b = record { short = b.short; short_len = b.short_len; long = b.long }
 
--- The sizes of the blocks `b`, counted in error correction codewords: all have equally many, so all count as short
--- (ISO/IEC 18004:2015, 7.5.1)
+-- The sizes of the blocks `b`, counted in error correction codewords. There are equally many in each, so all blocks are
+-- short (ISO/IEC 18004:2015, 7.5.1)
 abbrev pub correction_sizes : Blocks → BlockSizes
 correction_sizes b = record { short = b.short + b.long; short_len = b.ec_len; long = 0 }
 
@@ -41,12 +41,12 @@ pub record Position : Type 0 where
   pub place : ℕ
   pub block : ℕ
 
--- In interleaved order `t` comes before `u`: by their indices in the blocks, and among equal indices by the blocks
--- (ISO/IEC 18004:2015, 7.6)
+-- In interleaved order `t` comes before `u`: its index in its block is smaller, or the indices are equal and its block
+-- comes first (ISO/IEC 18004:2015, 7.6)
 abbrev pub ComesBefore : Position → Position → Type 0
 ComesBefore t u = (t.place < u.place) ⊎ ((t.place ≡ u.place) × (t.block < u.block))
 
--- Some block has a codeword at position `t` [own]
+-- There is a codeword at position `t`: the block exists, and it has a codeword with this index [own]
 abbrev pub IsPosition : BlockSizes → Position → Type 0
 IsPosition c t = (t.block < block_count c) × (t.place < block_len c t.block)
 
@@ -64,11 +64,11 @@ codeword_at c d t = slice_index_or d (start_of c t.block + t.place) 0
 abbrev pub part_of : BlockSizes → List ℕ → ℕ → List ℕ
 part_of c d i = take (block_len c i) (drop (start_of c i) d)
 
--- As `part_of`, for the data codewords of the blocks `b` (ISO/IEC 18004:2015, 7.5.1)
+-- The data codewords of block `i`, if `d` are the data codewords of all blocks `b` (ISO/IEC 18004:2015, 7.5.1)
 abbrev pub block_of : Blocks → List ℕ → ℕ → List ℕ
 block_of b d i = part_of (data_sizes b) d i
 
--- The error correction codeword at position `t`, where `corrections` has a list for each block [own]
+-- The error correction codeword at position `t`. `corrections` has a list for each block [own]
 abbrev pub check_at : List (List ℕ) → Position → ℕ
 check_at corrections t = slice_index_or (slice_index_or corrections t.block []) t.place 0
 
@@ -83,12 +83,13 @@ pub record IsFinalMessage (b : Blocks) (d cw : List ℕ) : Type 0 where
   pub check_order : IsPositionOrder (correction_sizes b) check_positions
   pub whole : cw ≡ map (codeword_at (data_sizes b) d) data_positions ++ map (check_at corrections) check_positions
 
--- As `IsFinalMessage`, with the blocks of version `v` and level `l` (ISO/IEC 18004:2015, 7.5.2, 7.6)
+-- The final sequence of the data codewords `d` in a symbol of version `v` and level `l` (ISO/IEC 18004:2015, 7.5.2,
+-- 7.6)
 abbrev pub IsInterleaved : ℕ → Level → List ℕ → List ℕ → Type 0
 IsInterleaved v l d cw = IsFinalMessage (blocks_of v l) d cw
 
--- `xs` lists, one block after the other, the codewords at the beginning of `interleaved`, as many as the blocks have
--- (ISO/IEC 18004:2015, 7.6)
+-- `interleaved` begins with the codewords of all blocks, interleaved, and `xs` are the same codewords, one block after
+-- the other (ISO/IEC 18004:2015, 7.6)
 pub record IsGathered (c : BlockSizes) (interleaved xs : List ℕ) : Type 0 where
   pub long : length xs ≡ codeword_count c
   pub positions : List Position

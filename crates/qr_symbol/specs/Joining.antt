@@ -22,29 +22,29 @@ AreInterpreted i squares = All (λ g. (c : Content) × IsReading g c × IsInterp
 abbrev pub bytes_of_all : List Content → List ℕ
 bytes_of_all contents = flat_map (λ c. c.bytes) contents
 
--- There is one content alone, and it has no header [own]
+-- There is only one content, and it has no header [own]
 abbrev pub IsPlain : List Content → Type 0
 IsPlain contents = (c : Content) × (contents ≡ c ∷ []) × (c.header ≡ None)
 
--- Each content has a header with its position, counted from `k`, and the numbers `last` and `parity` (ISO/IEC
--- 18004:2015, 8.1 to 8.3)
+-- Each content has a header with the numbers `last` and `parity` and with its position, where the first content has
+-- position `k` (ISO/IEC 18004:2015, 8.1 to 8.3)
 unfoldable pub HaveHeaders : (last parity k : ℕ) → List Content → Type 0
 HaveHeaders last parity k [] = Unit {0}
 HaveHeaders last parity k (c ∷ cs) =
     (c.header ≡ Some (record { position = k; last = last; parity = parity })) × HaveHeaders last parity (k + 1) cs
 
--- The contents of a whole series in order: their headers have the number of contents less 1, and the parity data of all
--- bytes (ISO/IEC 18004:2015, 8.1 to 8.3)
+-- The contents are those of a whole series, in order. Their headers have the positions from 0 on, the number of
+-- contents less 1, and the parity data of all bytes (ISO/IEC 18004:2015, 8.1 to 8.3)
 abbrev pub AreInSeries : List Content → Type 0
 AreInSeries contents =
     (0 < length contents) × HaveHeaders (length contents - 1) (parity_of (bytes_of_all contents)) 0 contents
 
--- What can be joined: one plain content, or those of a whole series [own]
+-- The contents can be joined: they are one plain content, or those of a whole series [own]
 abbrev pub BelongTogether : List Content → Type 0
 BelongTogether contents = IsPlain contents ⊎ AreInSeries contents
 
--- The squares are read as contents that belong together, whose bytes in turn are `bytes` (ISO/IEC 18004:2015, 8.1 to
--- 8.3, 12)
+-- The squares are read as contents that belong together, and `bytes` are the bytes of these contents in turn (ISO/IEC
+-- 18004:2015, 8.1 to 8.3, 12)
 pub record IsJoinedBy (reads : Grid → Content → Type 0) (squares : List Grid) (bytes : List ℕ) : Type 0 where
   pub contents : List Content
   pub read : AreReadBy reads squares contents
@@ -62,18 +62,19 @@ pub record IsNoSeries (reads : Grid → Content → Type 0) (squares : List Grid
   pub read : AreReadBy reads squares contents
   pub apart : BelongTogether contents → ⊥
 
--- Reading and joining may fail with the fault: with `Memory` always, with `Series` if all squares are read but their
--- contents do not belong together, and with any other fault if the first square that cannot be read is refused for it
--- [own]
+-- Reading and joining may fail with the fault. `Memory` is always possible. `Series` is possible if all squares are
+-- read but their contents do not belong together, and any other fault if the first square that cannot be read is
+-- refused for it [own]
 abbrev pub IsUnjoinedBy : (Grid → Content → Type 0) → (Grid → ReadFault → Type 0) → List Grid → ReadFault → Type 0
 IsUnjoinedBy reads refuses squares unread.Memory = Unit {0}
 IsUnjoinedBy reads refuses squares unread.Series = IsNoSeries reads squares
 IsUnjoinedBy reads refuses squares e = IsFirstRefused reads refuses squares e
 
--- As `IsJoinedBy`, without correction of errors (ISO/IEC 18004:2015, 8.1 to 8.3, 12)
+-- The squares are joined to `bytes` after reading them without correction of errors (ISO/IEC 18004:2015, 8.1 to 8.3,
+-- 12)
 abbrev pub IsJoined : List Grid → List ℕ → Type 0
 IsJoined squares bytes = IsJoinedBy IsReading squares bytes
 
--- As `IsUnjoinedBy`, without correction of errors (ISO/IEC 18004:2015, 12)
+-- Reading the squares without correction of errors, and joining, may fail with the fault `e` (ISO/IEC 18004:2015, 12)
 abbrev pub IsUnjoined : List Grid → ReadFault → Type 0
 IsUnjoined squares e = IsUnjoinedBy IsReading IsUnread squares e

@@ -1,15 +1,15 @@
--- For laws: rows of the masks, worked out by hand, and the number that bits form.
+-- What laws need: the first rows of the masks, which were also worked out by hand, and the number that bits form.
 use Rattle.std.specs.Prelude.{ℕ, ◌-◌, Bool, List, [], ◌∷◌, map}
 use Rattle.std.specs.List.{range_with_len}
 use Rattle.qr_bits.specs.Bits.{value}
 use Rattle.qr_symbol.specs.Mask.{inverts}
 
--- The masks of Table 10 (ISO/IEC 18004:2015, 7.8.2)
+-- The numbers of the masks of Table 10 (ISO/IEC 18004:2015, 7.8.2)
 abbrev pub all_masks : List ℕ
 all_masks = range_with_len 0 8
 
--- Rows 0 to 11 of the mask, in columns 0 to 5: six binary digits each, the highest for column 0; a digit is 1 if the
--- module is inverted [own]
+-- Rows 0 to 11 of the mask in columns 0 to 5. Each row is a number of six binary digits, of which the highest is for
+-- column 0. A digit is 1 if the module is inverted [own]
 abbrev pub first_rows : ℕ → List ℕ
 first_rows mask = map (λ r. value (map (inverts mask r) (range_with_len 0 6))) (range_with_len 0 12)
 

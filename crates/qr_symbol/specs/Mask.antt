@@ -14,6 +14,6 @@ inverts mask r c =
     else if mask == 6 then (r * c % 2 + r * c % 3) % 2 == 0
     else ((r + c) % 2 + r * c % 3) % 2 == 0
 
--- The colour `bit`, or the other one if `is_to_be` is true (ISO/IEC 18004:2015, 7.8.2)
+-- The other colour if `is_to_be` is true, and otherwise the colour `bit` itself (ISO/IEC 18004:2015, 7.8.2)
 abbrev pub inverted : Bool → Bool → Bool
 inverted is_to_be bit = if is_to_be then not bit else bit

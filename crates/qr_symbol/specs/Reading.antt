@@ -1,5 +1,5 @@
--- How a square `g` is read as a symbol, of version `v`, level `l` and mask `mask` where these are named. Nothing here
--- uses `grid_of`, by which symbols are drawn.
+-- How a square `g` is read as a symbol. `v` is its version, `l` its level, and `mask` its mask. Nothing here uses
+-- `grid_of`, by which symbols are drawn.
 use Rattle.std.specs.Prelude.{◌≡◌, ◌≢◌, ℕ, ◌-◌, ◌*◌, ◌<◌, ◌≤◌, Bool, false, List, ◌++◌, map, take, length, replicate, Option, Result, Ok, Err, None}
 use Rattle.std.specs.List.{All}
 use Rattle.qr_layout.specs.declared.level.Level.{Level}
@@ -30,8 +30,8 @@ use Rattle.qr_symbol.specs.Interleaving.{IsInterleaved}
 abbrev pub unmasked : ℕ → Grid → Place → Bool
 unmasked mask g m = inverted (inverts mask m.row m.col) (colour g m.row m.col)
 
--- The unmasked colours of the first `n` of the modules `ms`, where `n` is eight times the number of codewords of the
--- version; light for each that `ms` lacks (ISO/IEC 18004:2015, 7.7.3, 12)
+-- The unmasked colours of the first of the modules `ms`, as many as the codewords of the version have bits. If there
+-- are fewer modules, those that are missing count as light (ISO/IEC 18004:2015, 7.7.3, 12)
 abbrev pub read_bits : ℕ → ℕ → Grid → List Place → List Bool
 read_bits v mask g ms = map (unmasked mask g) (take (8 * total_codewords_of v) ms) ++ replicate (8 * total_codewords_of v - length ms) false
 
@@ -60,7 +60,8 @@ pub record IsMessage (v : ℕ) (l : Level) (mask : ℕ) (g : Grid) (d : List ℕ
 abbrev pub format_bit : Grid → ℕ → Bool
 format_bit g i = colour g (first_place i).row (first_place i).col
 
--- All 15 bits beside the top left finder pattern are those of the level and mask (ISO/IEC 18004:2015, 7.9.1, 12)
+-- All 15 bits of the format information beside the top left finder pattern are those of level `l` and mask `mask`
+-- (ISO/IEC 18004:2015, 7.9.1, 12)
 pub record IsFormat (g : Grid) (l : Level) (mask : ℕ) : Type 0 where
   pub in_range : mask < 8
   pub bits : (i : ℕ) → i < 15 → format_bit g i ≡ has_bit (format_word_of l mask) i
@@ -87,8 +88,8 @@ pub record IsParsedAs (g : Grid) (outcome : Result Content ParseFault) : Type 0 
 abbrev pub IsReading : Grid → Content → Type 0
 IsReading g content = IsParsedAs g (Ok content)
 
--- What a symbol of the bytes `x` says under the interpretation `i`: the optional header `h`, the ECI header or FNC1 of
--- the interpretation, then the segments, whose characters stand for the bytes (ISO/IEC 18004:2015, 7.4.2, 7.4.8.2)
+-- The content of a symbol of the bytes `x` with the interpretation `i`: the optional header `h`, the ECI header or FNC1
+-- of the interpretation, then the segments, whose characters stand for the bytes (ISO/IEC 18004:2015, 7.4.2, 7.4.8.2)
 abbrev pub interpreted_content : Interpretation → Option Header → List Segment → List ℕ → Content
 interpreted_content i h segments x = record { header = h; items = items_in i segments; ecis = ecis_in i; bytes = x }
 
@@ -96,15 +97,16 @@ interpreted_content i h segments x = record { header = h; items = items_in i seg
 abbrev pub IsInterpreted : Interpretation → Content → Type 0
 IsInterpreted i c = (c.ecis ≡ ecis_in i) × (fnc1_of c.items ≡ fnc1_in i)
 
--- The square is read as the bytes `x` under the interpretation `i`, in the segments of fewest bits in modes that `rule`
--- allows, without a structured append header (ISO/IEC 18004:2015, 12)
+-- The square is read as the bytes `x` with the interpretation `i`, without a structured append header. The segments
+-- that are read are those of fewest bits in the modes that `rule` allows (ISO/IEC 18004:2015, 12)
 abbrev pub IsReadBack : ℕ → Rule → Interpretation → List ℕ → Grid → Type 0
 IsReadBack v rule i x g = (segments : List Segment) × (characters : List ℕ) × IsLeastSegmentation i v rule x characters segments
     × IsReading g (interpreted_content i None segments x)
 
--- Reading may fail with the fault: always with `Memory`, never with `Series`. Of the others one at most applies: `Side`
--- if no version has this side; else `Format` if the format information belongs to no level and mask; else `Check` if
--- the codewords are no final sequence; else `Segments` if the data codewords cannot be parsed (ISO/IEC 18004:2015, 12)
+-- Reading may fail with the fault. `Memory` is always possible, and `Series` never. Of the other faults at most one
+-- applies: `Side` if no version has this side; otherwise `Format` if the format information belongs to no level and
+-- mask; otherwise `Check` if the codewords are no final sequence; otherwise `Segments` if the data codewords cannot be
+-- parsed (ISO/IEC 18004:2015, 12)
 abbrev pub IsUnread : Grid → ReadFault → Type 0
 IsUnread g unread.Memory = Unit {0}
 IsUnread g unread.Side = (v : ℕ) → IsOfVersion g v → ⊥

@@ -25,23 +25,24 @@ AreParts v l rule i x [] = x ≡ []
 AreParts v l rule i x (p ∷ ps) = (n : ℕ) × (0 < n) × IsLongestFit i v rule x (room_of v l i) n × (p ≡ take n x)
     × AreParts v l rule i (drop n x) ps
 
--- The parts make up `x`, and each fits a symbol with a header, though it may be empty and need not be the longest that
--- does [own]
+-- The parts, one after the other, are `x`, and each fits a symbol with a header. A part may be empty, and need not be
+-- the longest prefix that fits [own]
 abbrev pub FitParts : ℕ → Level → Rule → Interpretation → List ℕ → List (List ℕ) → Type 0
 FitParts v l rule i x parts = (x ≡ concat parts) × All (λ p. HasFit i v rule p (room_of v l i)) parts
 
--- Every cut of `x` into parts that fit has at least `n` parts [own]
+-- In whatever way `x` is cut into parts that fit, there are at least `n` parts [own]
 abbrev pub NeedsParts : ℕ → Level → Rule → Interpretation → List ℕ → ℕ → Type 0
 NeedsParts v l rule i x n = (parts : List (List ℕ)) → FitParts v l rule i x parts → n ≤ length parts
 
--- As `IsSymbolAt`, for a `Symbol`, whose version and level are `v` and `l` (ISO/IEC 18004:2015, 7.1, 8.1)
+-- The symbol `s` has version `v` and level `l`, and its mask and square are those that `IsSymbolAt` requires (ISO/IEC
+-- 18004:2015, 7.1, 8.1)
 pub record IsSymbolOf (v : ℕ) (l : Level) (rule : Rule) (i : Interpretation) (x : List ℕ) (h : Option Header) (s : Symbol) : Type 0 where
   pub version : s.version ≡ v
   pub level : s.level ≡ l
   pub made : IsSymbolAt v l rule i x h s.mask s.matrix
 
--- There are as many symbols as parts, and each contains its part and a header with its position, counted from `k`, and
--- the numbers `last` and `parity` (ISO/IEC 18004:2015, 8.1 to 8.3)
+-- There are as many symbols as parts. Each symbol contains its part, and a header with the numbers `last` and `parity`
+-- and with the position of the symbol, where the first symbol has position `k` (ISO/IEC 18004:2015, 8.1 to 8.3)
 unfoldable pub AreSymbolsFrom : ℕ → Level → Rule → Interpretation → (last parity k : ℕ) → List (List ℕ) → List Symbol → Type 0
 AreSymbolsFrom v l rule i last parity k [] [] = Unit {0}
 AreSymbolsFrom v l rule i last parity k [] (s ∷ ss) = ⊥
@@ -50,8 +51,8 @@ AreSymbolsFrom v l rule i last parity k (p ∷ ps) (s ∷ ss) =
     IsSymbolOf v l rule i p (Some (record { position = k; last = last; parity = parity })) s
     × AreSymbolsFrom v l rule i last parity (k + 1) ps ss
 
--- `x` does not fit one plain symbol, and the symbols are those of its parts, at most 16; their headers have the number
--- of symbols less 1 and the parity data of `x` [own]
+-- `x` does not fit one plain symbol, is cut into at most 16 parts, and `symbols` are the symbols of these parts. Their
+-- headers have the number of symbols less 1 and the parity data of `x` [own]
 pub record IsSplit (v : ℕ) (l : Level) (rule : Rule) (i : Interpretation) (x : List ℕ) (symbols : List Symbol) : Type 0 where
   pub too_long : FitsVersion v l rule i x → ⊥
   pub parts : List (List ℕ)
@@ -59,7 +60,7 @@ pub record IsSplit (v : ℕ) (l : Level) (rule : Rule) (i : Interpretation) (x :
   pub many : length parts ≤ 16
   pub made : AreSymbolsFrom v l rule i (length parts - 1) (parity_of x) 0 parts symbols
 
--- `x` fits one plain symbol, and `symbols` has this one alone [own]
+-- `x` fits one plain symbol, and `symbols` contains only this symbol [own]
 pub record IsPlainSymbol (v : ℕ) (l : Level) (rule : Rule) (i : Interpretation) (x : List ℕ) (symbols : List Symbol) : Type 0 where
   pub fits : FitsVersion v l rule i x
   pub symbol : Symbol

@@ -1,4 +1,4 @@
--- Steps of the program, for contracts of private functions only.
+-- Definitions that only contracts of private functions use.
 pub mod Words
 pub mod Spans
 pub mod Patterns

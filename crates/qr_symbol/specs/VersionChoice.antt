@@ -9,8 +9,8 @@ use Rattle.qr_bits.specs.Segmentation.{HasFit}
 use Rattle.qr_bits.specs.Padding.{capacity_of}
 use Rattle.qr_bits.specs.Interpretation.{interpretation_bits}
 
--- `x` fits a plain symbol of version `v`, which has the whole capacity for its segments, but for the bits of the ECI
--- header or FNC1 of the interpretation (ISO/IEC 18004:2015, 7.4.2, 7.4.8.2, 7.4.10, Table 7)
+-- `x` fits a plain symbol of version `v`. The segments have the whole capacity, less the bits of the ECI header or FNC1
+-- of the interpretation (ISO/IEC 18004:2015, 7.4.2, 7.4.8.2, 7.4.10, Table 7)
 abbrev pub FitsVersion : ℕ → Level → Rule → Interpretation → List ℕ → Type 0
 FitsVersion v l rule i x = HasFit i v rule x (capacity_of v l - interpretation_bits i)
 
@@ -25,7 +25,7 @@ pub record IsVersion (smallest : ℕ) (l : Level) (rule : Rule) (i : Interpretat
 abbrev pub HasNoVersion : ℕ → Level → Rule → Interpretation → List ℕ → Type 0
 HasNoVersion smallest l rule i x = (v : ℕ) → smallest ≤ v → v ≤ 40 → FitsVersion v l rule i x → ⊥
 
--- The order of levels: a higher one corrects more (ISO/IEC 18004:2015, 7.5.1)
+-- The rank of a level: of two levels, the one with the higher rank corrects more errors (ISO/IEC 18004:2015, 7.5.1)
 abbrev pub level_rank : Level → ℕ
 level_rank L = 0
 level_rank M = 1

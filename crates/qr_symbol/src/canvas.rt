@@ -1,6 +1,6 @@
 //! Draws symbols on a canvas, which all symbols of a series share (ISO/IEC 18004:2015, 7.7 and 7.8). Function patterns
-//! and version information are drawn once for a series, and codewords once for each symbol. The mask and the format
-//! information are drawn for each mask that is tried, for two at once, and again for the best.
+//! and version information are drawn once for a series, and codewords once for each symbol. Masks are tried two at a
+//! time, and for each the mask and its format information are drawn. For the best mask they are drawn once more.
 
 ghost use Rattle.std.specs.Prelude.{◌≡◌, Bool, ◌<◌, if◌then◌else◌, IfOk};
 ghost use Rattle.qr_layout.specs.Version.{side_of};
@@ -16,11 +16,12 @@ use qr_matrix::{Matrix, MatrixPair};
 use std::alloc::{AllocError, Global};
 use std::mem;
 
-// The format information in `plain`: only bit 7 is dark. So exchanging rows and columns changes nothing outside the
-// region: the dark module changes places with a module of bit 7.
+// The format information that `plain` has: only bit 7 is dark. With it, exchanging rows and columns changes nothing
+// outside the region. The dark module is exchanged with a module of bit 7, so both have to be dark.
 const SYMMETRIC_FORMAT: u32 = 1 << 7;
 
-/// The squares from which symbols are made; `plain` is a symbol without its mask and format information.
+/// The squares from which symbols are made. In `region` exactly the region is dark. `plain` is a symbol before its mask
+/// and its format information are drawn.
 #[derive(Drop)]
 pub(crate) struct Canvas {
     pub version: Version,
@@ -32,7 +33,7 @@ pub(crate) struct Canvas {
 }
 
 impl Canvas {
-    // No codewords are drawn yet. Allocates once for each square.
+    // Makes a canvas without codewords. Allocates once for each of the two squares.
     #[inline(never)]
     pub(crate) fn new(alloc: Global, version: Version, level: Level) -> Result<Canvas, AllocError>
         ensures version { IfOk result (λ c. c.version ≡ version) }
@@ -49,9 +50,9 @@ impl Canvas {
         })
     }
 
-    // Draws the codewords over those of the symbol before. The old `plain` serves as the transposed square in which
-    // they are drawn, since outside the region both forms are the same; transposed, it is the new `plain`. `across` is
-    // left with the transposed form.
+    // Draws the codewords in place of those of the earlier symbol. They are drawn into the old `plain`, which serves as
+    // the transposed square: outside the region, a symbol and its transposed square are the same. Then this square is
+    // transposed into the new `plain`, and `across` keeps it as it was.
     #[inline(never)]
     pub(crate) fn draw_data(&mut self, across: &mut Matrix, codewords: &[u8])
         requires { IsSquare (side_of self.old.version) across.old }
@@ -67,7 +68,8 @@ impl Canvas {
         self.plain.set_transposed(across);
     }
 
-    // The mask is applied to a copy of all of `plain`, so the format information is drawn after it.
+    // Draws the symbol under `mask` into `matrix`. Applying the mask writes all modules of `matrix`, so the format
+    // information is drawn after it.
     pub(crate) fn draw_masked(&self, matrix: &mut Matrix, mask: u8)
         requires mask_in { mask < 8 }
         requires square { IsSquare (side_of self.now.version) matrix.old }

@@ -19,11 +19,12 @@ use qr_layout::{Strip, Version, all_strips};
 use qr_matrix::Matrix;
 use std::alloc::{AllocError, Global};
 
-// The most rows that are read at once: their 56 bits fit a word beside up to seven that were collected before.
+// The most rows that are read at once. They have 56 bits, and a word of 64 bits has to hold these and up to seven bits
+// that were collected before.
 const ROWS_MAX: u8 = 28;
 
-// Collects `count` rows, `top` and those below it, of which all modules are in the region. The bound on `top` is the
-// number of bits in a bit row.
+// Collects the bits of `count` rows, from row `top` down, whose modules are all in the region. The bound on `top` is
+// the number of bits in a bit row.
 #[inline(always)]
 fn collect_rows(bits: &mut Collector, columns: &Columns, top: u8, count: u8, upward: bool)
     requires top_in { top < 192 }
@@ -39,6 +40,7 @@ fn collect_rows(bits: &mut Collector, columns: &Columns, top: u8, count: u8, upw
     bits.push_bits(joined(right, left, upward, count), 2 * count);
 }
 
+// Collects the bits of a strip from its two columns.
 #[inline(always)]
 fn collect_columns(
     bits: &mut Collector,
@@ -59,7 +61,8 @@ fn collect_columns(
     }
 }
 
-// `collect_columns` is called in two places, so that each direction is compiled for itself.
+// As `collect_columns`, but takes the columns from the squares. `collect_columns` is called in two places, so that the
+// compiler makes separate code for strips that are filled upward and for those that are filled downward.
 fn collect_strip(bits: &mut Collector, across: &Matrix, v: Version, region: &Matrix, strip: Strip)
     requires side { across.now.side ≡ side_of v }
     requires region { region.now ≡ region_grid v }

@@ -1,6 +1,6 @@
-//! Encodes an input as one symbol (ISO/IEC 18004:2015, 7.1): finds its version and segments (`version_choice.rt`),
-//! writes these as data codewords, interleaves them with the error correction codewords, and draws the symbol on a
-//! canvas (`canvas.rt`), the squares from which symbols are made.
+//! Encodes an input as one symbol (ISO/IEC 18004:2015, 7.1). Its version and segments are found first
+//! (`version_choice.rt`). The segments are written as data codewords, which are interleaved with the error correction
+//! codewords. Then the symbol is drawn on a canvas (`canvas.rt`), the squares from which symbols are made.
 
 ghost use Rattle.std.specs.Prelude.{◌≡◌, ◌≢◌, ◌+◌, ◌<◌, ◌≤◌, ◌↔◌, ◌⊎◌, ℕ, List, [], length, Err, IfOk, IfErr, MatchResult};
 ghost use Rattle.std.specs.Option.{ForSome};
@@ -33,18 +33,18 @@ use std::alloc::Global;
 pub(crate) const SYMBOL_BYTES_MAX: usize = 7089;
 
 /// Encodes the input as one symbol of the least version, from `smallest` on, that it fits (ISO/IEC 18004:2015, 7.1).
-/// The symbol says of its bytes what `interpretation` is: their ECI, that they are GS1 data, or nothing. The segments
+/// `interpretation` is what the symbol says of its bytes: their ECI, that they are GS1 data, or nothing. The segments
 /// are those of fewest bits in the modes that `rule` allows, and the codewords are those that the standard requires for
-/// these segments. The mask is the one with the least penalty, the smallest of equals.
+/// these segments. The mask is the one with the least penalty, and of several such masks the smallest.
 ///
 /// Read in the standard's order, unmasked, deinterleaved and parsed, the symbol yields exactly the input and these
 /// segments.
 ///
 /// # Errors
 ///
-/// Returns `Empty` exactly if the input has no byte. Returns `TooLong` if it fits no version from `smallest` on, and
-/// `Memory` if an allocation is refused before this is known or while the symbol is made. For more than 7,089 bytes
-/// `TooLong` is returned before any allocation.
+/// Returns `Empty` exactly if the input has no byte, and `TooLong` if it fits no version from `smallest` on. Returns
+/// `Memory` if an allocation is refused before it is known whether the input fits, or while the symbol is made. For
+/// more than 7,089 bytes `TooLong` is returned before any allocation.
 ///
 /// # Notes
 ///
@@ -142,7 +142,7 @@ fn fit_of<'a>(
     Ok(least_fit(alloc, input, level, smallest, rule, interpretation)?)
 }
 
-// As `symbol_at`, without a structured append header.
+// Makes the symbol of the segments on a canvas of its own, without a structured append header.
 fn fitting_symbol(
     alloc: Global,
     segmented: &Segmented<'_>,
@@ -163,7 +163,7 @@ fn fitting_symbol(
     symbol_at(alloc, segmented, None, interpretation, version, level)
 }
 
-// Makes the symbol of the segments on a canvas of its own. With a header it is a symbol of a series (7.1, 8.1).
+// Makes the symbol of the segments on a canvas of its own. If a header is given, it is a symbol of a series (7.1, 8.1).
 pub(crate) fn symbol_at(
     alloc: Global,
     segmented: &Segmented<'_>,
@@ -221,8 +221,8 @@ fn data_codewords(
     )?)
 }
 
-// The final sequence of the segments (7.4 to 7.6). This function is not inlined, so that the data codewords are freed,
-// and its variables no longer on the stack, when the symbol is drawn.
+// The final sequence of the segments (7.4 to 7.6). This function is not inlined, so that the data codewords are freed
+// and its variables are off the stack before the symbol is drawn.
 #[inline(never)]
 fn final_codewords(
     alloc: Global,
@@ -247,7 +247,7 @@ fn final_codewords(
     Ok(interleave(alloc, version, level, &message)?)
 }
 
-// As `symbol_at`, but on the given canvas, whose version and level the symbol gets.
+// As `symbol_at`, but draws on the given canvas, whose version and level the symbol gets.
 pub(crate) fn symbol_on(
     alloc: Global,
     canvas: &mut Canvas,

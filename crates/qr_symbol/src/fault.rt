@@ -6,9 +6,8 @@ use qr_bits::{BitFault, ParseFault};
 use std::alloc::{AllocError, AllocFailed};
 use thiserror::Error;
 
-/// Why an input is not encoded. `encode` looks for the cause of `Empty`, then for that of `TooLong`; `encode_series`
-/// looks for that of `Empty`, then for that of `TooMany`. Memory may be refused at any step after the check for
-/// `Empty`.
+/// Why an input is not encoded. `encode` checks for `Empty` first, and then for `TooLong`. `encode_series` checks for
+/// `Empty` first, and then for `TooMany`. Memory may be refused at any step after the check for `Empty`.
 #[derive(Clone, Copy, Debug, PartialEq, Eq, Error)]
 pub enum EncodeFault {
     #[error("input is empty")]
@@ -58,22 +57,22 @@ impl From<BitFault> for EncodeFault {
     }
 }
 
-/// Why symbols are not read or mended. For each symbol the causes of `Side`, `Format`, `Check` and `Segments` are
-/// looked for in this order, and the cause of `Series` after all symbols were read. Memory may be refused at several
-/// steps.
+/// Why symbols are not read or mended. Each symbol is checked for `Side`, `Format`, `Check` and `Segments`, in this
+/// order. The check for `Series` comes after all symbols were read. Memory may be refused at several steps.
 #[derive(Clone, Copy, Debug, PartialEq, Eq, Error)]
 pub enum ReadFault {
     #[error("out of memory")]
     Memory,
     #[error("no version has this side")]
     Side,
-    /// In reading, the copy of the format information beside the top left finder pattern belongs to no level and mask.
-    /// In mending, a module of a copy costs 1 if it was not read and 2 if it is misread, and with every level and mask
-    /// each copy costs more than 6.
+    /// In reading, this means that the copy of the format information beside the top left finder pattern belongs to no
+    /// level and mask. In mending, it means that each copy costs more than 6 for every level and mask. A module of a
+    /// copy costs 1 if it was not read, and 2 if it is misread.
     #[error("the format information is damaged")]
     Format,
-    /// In reading, the error correction codewords of some block do not belong to its data codewords. In mending, some
-    /// block has more damage than can be corrected, with each level and mask that the format information admits.
+    /// In reading, this means that the error correction codewords of some block do not belong to its data codewords. In
+    /// mending, it means that for each level and mask that the format information admits, some block has more damage
+    /// than can be corrected.
     #[error("a codeword is damaged")]
     Check,
     /// The data codewords cannot be parsed, for a reason other than `ParseFault::Memory`.

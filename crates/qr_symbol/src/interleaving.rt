@@ -110,15 +110,15 @@ impl BlockSizes {
         Ok(gathered)
     }
 
-    /// Interleaves the codewords of all blocks, which come one block after the other, and writes them to `interleaved`:
-    /// the first of each block, then the second of each block, and so on (ISO/IEC 18004:2015, 7.6). `gather` undoes
-    /// this.
+    /// Interleaves the codewords of all blocks and writes them to `interleaved`: the first of each block, then the
+    /// second of each block, and so on (ISO/IEC 18004:2015, 7.6). In `codewords` one block comes after the other.
+    /// `gather` undoes this.
     ///
     /// # Notes
     ///
-    /// Goes through the codewords block by block. In `interleaved`, codewords that are neighbours in a block are as far
-    /// apart as there are blocks. The last codewords of the long blocks are the exception: they stand at the end, one
-    /// after the other.
+    /// Goes through the codewords block by block. In `interleaved`, the indices of two codewords that are neighbours in
+    /// a block differ by the number of blocks. The last codewords of the long blocks are the exception: they are at the
+    /// end, one after the other.
     pub fn scatter(self, codewords: &[u8], interleaved: &mut [u8])
         requires whole { length codewords.now ≡ codeword_count self }
         requires room { length interleaved.old ≡ codeword_count self }
@@ -142,8 +142,8 @@ impl BlockSizes {
 }
 
 // The error correction codewords of all blocks, one block after the other. A block has at most 30 of them (Table 9).
-// Takes two blocks at a time, since two divisions take little longer than one. If the number of blocks is odd, the last
-// block is taken alone.
+// Two blocks are taken at once, since two divisions side by side take little longer than one. If the number of blocks
+// is odd, the last block is taken alone.
 fn corrections(alloc: Global, blocks: Blocks, message: &[u8]) -> Result<Vec<u8>, AllocError>
     requires whole { length message.now ≡ codeword_count (data_sizes blocks) }
     requires least { 1 ≤ blocks.ec_len }
@@ -168,9 +168,10 @@ fn corrections(alloc: Global, blocks: Blocks, message: &[u8]) -> Result<Vec<u8>,
     Ok(corrections)
 }
 
-// Interleaves the data codewords, and after them the error correction codewords. It is out of line for two reasons.
-// Where LLVM knows how many blocks there can be, it computes the index of each codeword by a multiplication instead of
-// an addition. And out of line its variables are not on the stack while error correction codewords are computed.
+// Interleaves the data codewords, and after them the error correction codewords. This function is not inlined, for two
+// reasons. If it were, LLVM would know how many blocks there can be, and would compute the index of each codeword by a
+// multiplication instead of an addition. And its variables would be on the stack while error correction codewords are
+// computed.
 #[inline(never)]
 fn interleave_both(
     alloc: Global,
@@ -189,7 +190,7 @@ fn interleave_both(
     Ok(interleaved)
 }
 
-// Is inlined, so that it adds nothing to the stack while error correction codewords are computed.
+// This function is inlined, so that it adds nothing to the stack while error correction codewords are computed.
 #[inline(always)]
 fn interleave_blocks(alloc: Global, blocks: Blocks, message: &[u8]) -> Result<Vec<u8>, AllocError>
     requires whole { length message.now ≡ codeword_count (data_sizes blocks) }
@@ -201,8 +202,9 @@ fn interleave_blocks(alloc: Global, blocks: Blocks, message: &[u8]) -> Result<Ve
     interleave_both(alloc, blocks, message, &corrections)
 }
 
-/// Returns the final sequence of the data codewords `message`: the first data codeword of each block, then the second,
-/// and so on, and after them the error correction codewords in the same order (ISO/IEC 18004:2015, 7.5.2 and 7.6).
+/// Returns the final sequence of the data codewords `message` (ISO/IEC 18004:2015, 7.5.2 and 7.6). It has the first
+/// data codeword of each block, then the second of each block, and so on. After them come the error correction
+/// codewords in the same order.
 ///
 /// # Errors
 ///
@@ -221,7 +223,8 @@ pub fn interleave(
     interleave_blocks(alloc, version.blocks(level), message)
 }
 
-// Undoes `scatter`. It is out of line for the first reason that `interleave_both` gives.
+// Undoes `scatter`. This function is not inlined, since LLVM would then compute the index of each codeword by a
+// multiplication instead of an addition.
 #[inline(never)]
 fn deinterleave_into(message: &mut [u8], sizes: BlockSizes, codewords: &[u8])
     requires room { length message.old ≡ codeword_count sizes }
@@ -243,7 +246,8 @@ fn deinterleave_into(message: &mut [u8], sizes: BlockSizes, codewords: &[u8])
     }
 }
 
-// Computes the error correction codewords of the message, and compares them with those that were read.
+// Returns the data codewords, unless the error correction codewords that were read differ from those that are computed
+// from these data codewords.
 fn deinterleave_blocks(
     alloc: Global,
     blocks: Blocks,

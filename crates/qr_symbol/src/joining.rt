@@ -1,5 +1,5 @@
-//! Reads the symbols of a series, and joins their bytes in order (ISO/IEC 18004:2015, 8). The contents are what was
-//! read of each symbol.
+//! Reads the symbols of a series, and joins their bytes in order (ISO/IEC 18004:2015, 8). A content is what was read of
+//! one symbol.
 
 ghost use Rattle.std.specs.Prelude.{◌≡◌, ◌⊎◌, ◌-◌, ◌<◌, length, Some, IfOk, MatchResult};
 ghost use Rattle.std.specs.Bool.{Decides};
@@ -58,7 +58,8 @@ fn has_header(content: &Parsed, position: usize, last: usize, parity: u8) -> boo
     }
 }
 
-// Each header must have the parity data of all bytes, which are `parity` (8.1 to 8.3).
+// Whether the contents are those of a whole series, in order (8.1 to 8.3). `parity` is the parity data of the bytes of
+// all contents, which each header must have.
 fn are_in_series(contents: &[Parsed], parity: u8) -> bool
     ensures { Decides result ((0 < length contents.now)
         × HaveHeaders (length contents.now - 1) parity 0 contents.now) }
@@ -75,14 +76,14 @@ fn are_in_series(contents: &[Parsed], parity: u8) -> bool
     true
 }
 
-/// Joins the bytes of the contents, in order, if they were read from one symbol without a structured append header, or
-/// from a whole series (ISO/IEC 18004:2015, 8). A series is whole if each header has the position of its content,
-/// counted from 0, the number of contents less 1, and the parity data of all bytes.
+/// Joins the bytes of the contents in order. The contents must be those of one symbol without a structured append
+/// header, or those of a whole series (ISO/IEC 18004:2015, 8). A series is whole if the headers have the positions from
+/// 0 on, the number of contents less 1, and the parity data of all bytes.
 ///
 /// # Errors
 ///
-/// Returns `Series` if the contents are those of neither, also if there are none, and `Memory` if an allocation is
-/// refused.
+/// Returns `Series` if the contents are those of neither, or if there are no contents. Returns `Memory` if an
+/// allocation is refused.
 pub fn join(alloc: Global, contents: &[Parsed]) -> Result<Vec<u8>, ReadFault>
     ensures { MatchResult result
         (λ bytes. BelongTogether contents.now × (bytes.items ≡ bytes_of_all contents.now))
@@ -97,13 +98,13 @@ pub fn join(alloc: Global, contents: &[Parsed]) -> Result<Vec<u8>, ReadFault>
     }
 }
 
-/// Reads the symbols and joins their bytes, in order, if they are one symbol without a structured append header, or a
-/// whole series as `join` defines it (ISO/IEC 18004:2015, 8). Only the field `matrix` of a symbol is read.
+/// Reads the symbols, and joins their bytes in order. The symbols must be one symbol without a structured append
+/// header, or a whole series as `join` defines it (ISO/IEC 18004:2015, 8). Only the field `matrix` of a symbol is read.
 ///
 /// # Errors
 ///
-/// Returns the fault of the first symbol that cannot be read. If all can be read, returns `Series` if they are neither
-/// one such symbol nor a whole series, also if there are none. Returns `Memory` if an allocation is refused.
+/// Returns the fault of the first symbol that cannot be read. Returns `Series` if all can be read, but are neither one
+/// such symbol nor a whole series, or if there are no symbols. Returns `Memory` if an allocation is refused.
 pub fn read_series(alloc: Global, symbols: &[Symbol]) -> Result<Vec<u8>, ReadFault>
     ensures { MatchResult result
         (λ bytes. IsJoined (squares_of symbols.now) bytes.items)

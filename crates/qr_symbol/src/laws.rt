@@ -77,8 +77,8 @@ pub fn plain_and_fast_symbols_are_one(
     Ok((plain, fast))
 }
 
-/// The blocks divide the data codewords without a gap: the first begins at the first data codeword, each other where
-/// the one before it ends, and the last ends at the last data codeword.
+/// The blocks divide the data codewords without a gap. The first block begins at the first data codeword, each other
+/// block begins where the one before it ends, and the last block ends at the last data codeword.
 #[tactic(auto, using(crate::proofs::Named::laws_of_blocks))]
 pub fn blocks_are_cut_exactly(version: Version, level: Level)
     ensures first { start_of (data_sizes (blocks_of version level)) 0 ≡ 0 }
@@ -101,17 +101,17 @@ pub fn interleaving_is_one(version: Version, level: Level)
         → IsInterleaved version level d xs → IsInterleaved version level e xs → d ≡ e }
 {}
 
-/// Two squares of one version and level that contain different data codewords differ, in some block, in more codewords
-/// than it has error correction codewords.
+/// Let two squares of one version and level contain different data codewords. Then in some block they differ in more
+/// codewords than the block has error correction codewords.
 #[tactic(auto, using(crate::proofs::Named::laws_of_messages))]
 pub fn messages_lie_apart(version: Version, level: Level)
     ensures { MessagesLieApart version level }
 {}
 
-/// At one version and level, the codewords of a damaged symbol belong to at most one list of data codewords if the
+/// At one version and level, the codewords of a damaged symbol belong to at most one list of data codewords, if the
 /// damage is limited. A codeword is misread if its value is wrong, and erased if it is known to be unreadable. In each
-/// block, the number of erased codewords plus twice that of misread ones has to be at most that of error correction
-/// codewords.
+/// block, count an erased codeword once and a misread one twice. The sum has to be at most the number of error
+/// correction codewords of the block.
 pub fn damaged_messages_are_one(version: Version, level: Level)
     ensures { DamagedMessagesAreOne version level }
 {}
@@ -140,14 +140,14 @@ pub fn format_is_one()
         → (l ≡ k) × (m ≡ n) }
 {}
 
-/// A square is read as at most one content: an optional structured append header, the items (segments, ECI headers and
-/// FNC1), the bytes, and the ECI headers with the number of bytes before each.
+/// A square is read as at most one content. This is an optional structured append header, the items (segments, ECI
+/// headers and FNC1), the bytes, and the ECI headers with the number of bytes before each of them.
 pub fn contents_are_one()
     ensures { (g : Grid) (p q : Content) → IsReading g p → IsReading g q → p ≡ q }
 {}
 
-/// A square that can be read is refused only for lack of memory. Apart from it, there is at most one fault for which a
-/// square is refused.
+/// A square that can be read is refused only for lack of memory. For any other square, at most one fault is possible
+/// besides it.
 pub fn refusals_are_one()
     ensures read { (g : Grid) (p : Content) (e : ReadFault) → IsReading g p → IsUnread g e
         → e ≡ ReadFault.Memory }
@@ -155,8 +155,8 @@ pub fn refusals_are_one()
         → (e ≡ ReadFault.Memory) ⊎ (f ≡ ReadFault.Memory) ⊎ (e ≡ f) }
 {}
 
-/// `read_symbol` returns a fault other than `Memory` exactly if the reasons that `IsUnread` lists for it hold, and no
-/// allocation is refused.
+/// `read_symbol` returns a fault other than `Memory` exactly if no allocation is refused and `IsUnread` holds for the
+/// square and this fault.
 pub fn readings_are_refused_exactly(alloc: Global, matrix: &Matrix) -> Result<Parsed, ReadFault>
     ensures { (e : ReadFault) → e ≢ ReadFault.Memory
         → (result ≡ Err e) ↔ ((result ≢ Err ReadFault.Memory) × IsUnread matrix.now e) }
@@ -164,13 +164,13 @@ pub fn readings_are_refused_exactly(alloc: Global, matrix: &Matrix) -> Result<Pa
     read_symbol(alloc, matrix)
 }
 
-/// Squares are joined to at most one list of bytes.
+/// A list of squares is read and joined as at most one list of bytes.
 pub fn joinings_are_one()
     ensures { (gs : List Grid) (x y : List ℕ) → IsJoined gs x → IsJoined gs y → x ≡ y }
 {}
 
-/// Squares that can be read and joined are refused only for lack of memory. Apart from it, there is at most one fault
-/// for which a list of squares is refused.
+/// Squares that can be read and joined are refused only for lack of memory. For any other list, at most one fault is
+/// possible besides it.
 pub fn joining_refusals_are_one()
     ensures joined { (gs : List Grid) (x : List ℕ) (e : ReadFault) → IsJoined gs x
         → IsUnjoined gs e → e ≡ ReadFault.Memory }
@@ -178,8 +178,8 @@ pub fn joining_refusals_are_one()
         → (e ≡ ReadFault.Memory) ⊎ (f ≡ ReadFault.Memory) ⊎ (e ≡ f) }
 {}
 
-/// `read_series` returns a fault other than `Memory` exactly if the reasons that `IsUnjoined` lists for it hold, and no
-/// allocation is refused.
+/// `read_series` returns a fault other than `Memory` exactly if no allocation is refused and `IsUnjoined` holds for the
+/// squares and this fault.
 pub fn joinings_are_refused_exactly(alloc: Global, symbols: &[Symbol]) -> Result<Vec<u8>, ReadFault>
     ensures { (e : ReadFault) → e ≢ ReadFault.Memory
         → (result ≡ Err e) ↔ ((result ≢ Err ReadFault.Memory) × IsUnjoined (squares_of symbols.now) e) }
@@ -187,19 +187,19 @@ pub fn joinings_are_refused_exactly(alloc: Global, symbols: &[Symbol]) -> Result
     read_series(alloc, symbols)
 }
 
-/// An input has at most one symbol if the level, the rule, the interpretation and the smallest version are given.
+/// For a given level, rule, interpretation and smallest version, an input has at most one symbol.
 pub fn symbols_are_one()
     ensures { SymbolsAreOne }
 {}
 
-/// An input has at most one symbol of the kind that `encode_boosted` makes, of the highest level at which it fits, if
-/// the lowest level, the rule, the interpretation and the smallest version are given.
+/// For a given lowest level, rule, interpretation and smallest version, `encode_boosted` can make at most one symbol of
+/// an input. It has the least version that is possible, and in this version the highest level.
 pub fn boosted_symbols_are_one()
     ensures { BoostedSymbolsAreOne }
 {}
 
-/// A symbol of the kind that `encode_boosted` makes is the one that `encode` makes of the same input if it is given the
-/// level of this symbol, and its version as the smallest. So the laws of the symbols of `encode` hold of it too.
+/// If `encode` is given the level of a symbol that `encode_boosted` makes, and its version as the smallest, it makes
+/// the same symbol of the same input. So the laws of the symbols of `encode` hold of this symbol too.
 pub fn boosted_symbols_are_symbols()
     ensures { (x : List ℕ) (l k : Level) (smallest : ℕ) (rule : Rule) (i : Interpretation) (v mask : ℕ) (g : Grid)
         → IsBoostedSymbol smallest l rule i x v k mask g → IsSymbol v k rule i x v mask g }
@@ -213,15 +213,16 @@ pub fn symbols_are_read(smallest: Version)
         → IsReading g (interpreted_content i None s.made.segments x) }
 {}
 
-/// An input has at most one series if the version, the level, the rule and the interpretation are given.
+/// For a given version, level, rule and interpretation, an input has at most one series.
 pub fn series_are_one()
     ensures { (x : List ℕ) (l : Level) (rule : Rule) (i : Interpretation) (v : ℕ)
         (ss ts : List Symbol) → IsSeries v l rule i x ss → IsSeries v l rule i x ts → ss ≡ ts }
 {}
 
-/// Each part into which an input is cut fits a symbol with a structured append header. Without kanji mode, no cut into
-/// parts that fit has fewer parts. So the series of a nonempty input has the least possible number of symbols, and an
-/// input that has no series cannot be cut into at most 16 parts that fit.
+/// Each part into which `encode_series` cuts an input fits a symbol with a structured append header. The rest of this
+/// law is about rules without kanji mode. No other way to cut the input into parts that fit yields fewer parts. So the
+/// series of a nonempty input has the least possible number of symbols. And an input without a series cannot be cut
+/// into 16 or fewer parts that fit.
 pub fn series_are_shortest()
     ensures fit { (v : ℕ) (l : Level) (rule : Rule) (i : Interpretation) (x : List ℕ)
         (parts : List (List ℕ)) → AreParts v l rule i x parts → FitParts v l rule i x parts }
@@ -264,7 +265,7 @@ pub fn series_are_joined(version: Version)
         → MayWrite i x → IsSeries version l rule i x ss → IsJoined (squares_of ss) x }
 {}
 
-/// Each symbol of the series of an input is read with its interpretation.
+/// Each symbol of the series of an input is read with the interpretation of the input.
 pub fn series_keep_their_interpretation(version: Version)
     ensures { (x : List ℕ) (l : Level) (rule : Rule) (i : Interpretation) (ss : List Symbol)
         → MayWrite i x → IsSeries version l rule i x ss → AreInterpreted i (squares_of ss) }
@@ -281,8 +282,8 @@ pub fn long_inputs_have_none(version: Version)
         → HasNoSeries version l rule i x }
 {}
 
-/// The bits drawn for two examples of the standard are those that it prints, from the highest to the lowest: the format
-/// information of level M with mask 101 (binary), and the version information of version 7.
+/// For two examples of the standard, the bits that are drawn are those that the standard prints, the highest first. The
+/// examples are the format information of level M with mask 101 (binary), and the version information of version 7.
 #[tactic(auto, unfolding(qr_layout::specs::Format::format_word_of, qr_layout::specs::Format::version_word_of, qr_layout::specs::Format::word_remainder, qr_matrix::specs::BitRow::has_bit))]
 pub fn drawn_bits_compute()
     ensures format { (v r c : ℕ) (cw : List ℕ) → bits_down 15 (λ i. colour_by v Level.M 5 cw r c (FormatBit i))

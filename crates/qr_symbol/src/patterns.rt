@@ -1,5 +1,5 @@
 //! Draws the function patterns, the format information and the version information, and the square in which only the
-//! region is dark (ISO/IEC 18004:2015, 6.3, 7.9 and 7.10). `format` is the format information as a number.
+//! region is dark (ISO/IEC 18004:2015, 6.3, 7.9 and 7.10). `format` is the format information as a number of 15 bits.
 
 ghost use Rattle.std.specs.Prelude.{◌≡◌, ℕ, Bool, ◌+◌, ◌-◌, ◌<◌, ◌≤◌, ◌==◌, if◌then◌else◌, nat_le, false, IfOk};
 ghost use Rattle.std.specs.List.{list_any, All};
@@ -40,7 +40,7 @@ fn clear_rectangles(matrix: &mut Matrix, v: Version, rectangles: &[Rectangle])
     }
 }
 
-// Fills the square of the modules that are at most `distance` rows and columns from its centre.
+// Fills the square around `centre`: the modules at most `distance` rows and at most `distance` columns away from it.
 #[inline]
 fn fill_around(matrix: &mut Matrix, centre: Place, distance: u8, dark: bool)
     requires rows_in { (distance ≤ centre.row) × (centre.row + distance < matrix.old.side) }
@@ -59,8 +59,8 @@ fn fill_around(matrix: &mut Matrix, centre: Place, distance: u8, dark: bool)
     );
 }
 
-// Draws a finder pattern and its separator, which fill the eight by eight modules from `block` on. The pattern is three
-// squares, one inside the other, of 7, 5 and 3 modules a side.
+// Draws a finder pattern and its separator. Together they fill eight by eight modules, of which `block` is the top left
+// one. The pattern is three squares, one inside the other, of 7, 5 and 3 modules a side.
 fn paint_finder(matrix: &mut Matrix, v: Version, block: Place, centre: Place)
     requires square { IsSquare (side_of v) matrix.old }
     requires bottom_in { block.row + 8 ≤ side_of v }
@@ -95,8 +95,8 @@ fn draw_format_bits(matrix: &mut Matrix, v: Version, format: u32, first: u8, end
     }
 }
 
-// Of the three parts, the first and the last have the bits of each copy in one row or column, so that the compiled code
-// finds their places without tests.
+// Draws both copies of the format information in three parts. In the first part and in the last, the bits of each copy
+// are in one row or in one column, so the compiled code finds their places without branches.
 pub(crate) fn draw_format(matrix: &mut Matrix, v: Version, format: u32)
     requires { IsSquare (side_of v) matrix.old }
     ensures { matrix.new ≡ square (side_of v) (λ r c. format_or format (role_of v r c) (colour matrix.old r c)) }
@@ -106,7 +106,8 @@ pub(crate) fn draw_format(matrix: &mut Matrix, v: Version, format: u32)
     draw_format_bits(matrix, v, format, 9, FORMAT_BITS);
 }
 
-// The bits of the format information from bit 14, as bit 0, down to bit 0: in this order row 8 has them from left to right.
+// The format information with its 15 bits in reverse order: bit 14 becomes bit 0. In this order row 8 has the bits from
+// left to right.
 #[inline(always)]
 fn reversed_format(format: u32) -> u64
     ensures { (k : ℕ) → k < FORMAT_BITS → has_bit result k ≡ has_bit format (FORMAT_BITS - 1 - k) }
@@ -114,7 +115,7 @@ fn reversed_format(format: u32) -> u64
     reversed(u64::from(format)) >> 49
 }
 
-// Bit `bit` of each format information.
+// Bit `bit` of each of the two numbers.
 #[inline(always)]
 fn both_bits(formats: (u32, u32), bit: u8) -> (bool, bool)
     ensures { (second : Bool) → (if second then result.1 else result.0)
@@ -123,7 +124,7 @@ fn both_bits(formats: (u32, u32), bit: u8) -> (bool, bool)
     (is_bit_set(formats.0, bit), is_bit_set(formats.1, bit))
 }
 
-// Draws the bits that the copies have in column 8, but for row 8.
+// Draws the bits that both copies have in column 8, except those in row 8.
 #[inline(always)]
 fn draw_both_down(pair: &mut MatrixPair, v: Version, formats: (u32, u32))
     requires { (second : Bool) → IsSquare (side_of v) (one_of pair.old second) }
@@ -141,8 +142,8 @@ fn draw_both_down(pair: &mut MatrixPair, v: Version, formats: (u32, u32))
     }
 }
 
-// Draws the bits that the copies have in row 8. The first copy has bits 14 to 9 in columns 0 to 5, and after the timing
-// pattern bits 8 and 7. The second copy has bits 7 to 0 in the last eight columns.
+// Draws the bits that both copies have in row 8. The first copy has bits 14 to 9 in columns 0 to 5, then a module of
+// the timing pattern, and then bits 8 and 7. The second copy has bits 7 to 0 in the last eight columns.
 #[inline(always)]
 fn draw_both_across(pair: &mut MatrixPair, v: Version, formats: (u32, u32))
     requires { (second : Bool) → IsSquare (side_of v) (one_of pair.old second) }
@@ -156,8 +157,8 @@ fn draw_both_across(pair: &mut MatrixPair, v: Version, formats: (u32, u32))
     pair.set_columns(8, v.side() - 8, 8, (first >> 7, second >> 7));
 }
 
-// As `draw_format`, but in two squares, in each format information of its own. A write to a row waits for the write to the
-// same row before it, so the bits in row 8 are written several at a time.
+// As `draw_format`, but draws in two squares, each with a format information of its own. A write to a row waits until
+// the last write to this row is done, so the bits in row 8 are written several at a time.
 pub(crate) fn draw_both_formats(pair: &mut MatrixPair, v: Version, formats: (u32, u32))
     requires { (second : Bool) → IsSquare (side_of v) (one_of pair.old second) }
     ensures { (second : Bool) → one_of pair.new second ≡ square (side_of v)
@@ -168,8 +169,9 @@ pub(crate) fn draw_both_formats(pair: &mut MatrixPair, v: Version, formats: (u32
     draw_both_across(pair, v, formats);
 }
 
-// Draws the three corners: the finder patterns, their separators, and beside them in row 8 and column 8 two modules of
-// the timing patterns, the dark module and the format information.
+// Draws the three corners that have a finder pattern: these patterns with their separators, and the modules beside them
+// in row 8 and column 8. Those modules are two of the timing patterns, the dark module, and all of the format
+// information.
 fn paint_corners(matrix: &mut Matrix, v: Version, format: u32)
     requires { IsSquare (side_of v) matrix.old }
     ensures { IsOver (side_of v) (is_corner (side_of v)) (paint_of v format) (colour matrix.old) matrix.new }
@@ -189,15 +191,16 @@ fn paint_corners(matrix: &mut Matrix, v: Version, format: u32)
     draw_format(matrix, v, format);
 }
 
-// `at` is an index in row 6, or in column 6. The first and last seven modules there belong to finder patterns; between
-// their separators is a timing pattern (ISO/IEC 18004:2015, 6.3.5).
+// Whether module `at` of row 6 is dark, counted from 0 at the left. Column 6 has the same colours from top to bottom.
+// The first seven and the last seven modules belong to finder patterns, and those next to them to separators. Between
+// the separators is a timing pattern (ISO/IEC 18004:2015, 6.3.5).
 fn is_dark_in_six(side: u8, at: u8) -> bool
     ensures { result ≡ is_dark_in_six side at }
 {
     at < 7 || at >= side.saturating_sub(7) || at % 2 == 0
 }
 
-// Draws all of row 6 and column 6, with what finder patterns and separators have there.
+// Draws row 6 and column 6 from end to end, with the modules of finder patterns and separators in them.
 fn paint_timing(matrix: &mut Matrix, v: Version)
     requires { IsSquare (side_of v) matrix.old }
     ensures { (format : ℕ) → IsOver (side_of v) is_timing (paint_of v format) (colour matrix.old) matrix.new }
@@ -210,11 +213,13 @@ fn paint_timing(matrix: &mut Matrix, v: Version)
     }
 }
 
-// Six data bits and twelve error correction bits (ISO/IEC 18004:2015, 7.10).
+// The number of bits of the version information: six data bits and twelve error correction bits (ISO/IEC 18004:2015,
+// 7.10).
 const VERSION_BITS: u8 = 18;
 
-// Draws the version information, from version 7 on: beside the top right finder pattern, and with row and column
-// exchanged beside the bottom left one (ISO/IEC 18004:2015, 7.10).
+// Draws both copies of the version information, which symbols have from version 7 on (ISO/IEC 18004:2015, 7.10). One
+// copy is beside the top right finder pattern. The other is beside the bottom left one, with rows and columns
+// exchanged.
 fn paint_version(matrix: &mut Matrix, v: Version)
     requires { IsSquare (side_of v) matrix.old }
     ensures { (format : ℕ) → IsOver (side_of v) (is_version_information v) (paint_of v format) (colour matrix.old)
@@ -232,7 +237,8 @@ fn paint_version(matrix: &mut Matrix, v: Version)
     }
 }
 
-// An alignment pattern has five by five modules (ISO/IEC 18004:2015, 6.3.6).
+// Gives all modules of the alignment patterns one colour. A pattern has five by five modules (ISO/IEC 18004:2015,
+// 6.3.6).
 fn fill_alignment(matrix: &mut Matrix, v: Version, centres: &[Place], dark: bool)
     requires square { IsSquare (side_of v) matrix.old }
     requires centres { centres.now ≡ alignment_places (side_of v) (centres_of v) }
@@ -244,7 +250,7 @@ fn fill_alignment(matrix: &mut Matrix, v: Version, centres: &[Place], dark: bool
     }
 }
 
-// Makes the rings round the centres light; the centres keep their colours.
+// Makes the eight modules around each centre light, and leaves the centre as it is.
 fn clear_rings(matrix: &mut Matrix, v: Version, centres: &[Place])
     requires square { IsSquare (side_of v) matrix.old }
     requires centres { centres.now ≡ alignment_places (side_of v) (centres_of v) }
@@ -258,6 +264,7 @@ fn clear_rings(matrix: &mut Matrix, v: Version, centres: &[Place])
     }
 }
 
+// Draws all that is outside the region. The region keeps its colours.
 pub(crate) fn draw_fixed(matrix: &mut Matrix, v: Version, format: u32)
     requires { IsSquare (side_of v) matrix.old }
     ensures { matrix.new ≡ square (side_of v) (λ r c. if is_in_region v r c then colour matrix.old r c
@@ -271,7 +278,8 @@ pub(crate) fn draw_fixed(matrix: &mut Matrix, v: Version, format: u32)
     paint_version(matrix, v);
 }
 
-// All modules are dark at first; then those that are not in the region are made light.
+// The square in which exactly the region is dark. First all modules are made dark, and then those outside the region
+// are made light.
 pub(crate) fn region_of(alloc: Global, version: Version) -> Result<Matrix, AllocError>
     ensures { IfOk result (λ m. m ≡ region_grid version) }
 {

@@ -1,6 +1,7 @@
-//! Draws the codewords into the region in the standard's order (ISO/IEC 18004:2015, 7.7.2 and 7.7.3): `draw_codewords`
-//! strip by strip, `draw_along_walk` module by module. The bits of the codewords are numbered through all codewords.
-//! Bit 0 is the highest of the first codeword, and the number of a bit is the number of its module in the order.
+//! Draws the codewords into the region in the standard's order (ISO/IEC 18004:2015, 7.7.2 and 7.7.3). `draw_codewords`
+//! does so strip by strip, and `draw_along_walk` module by module. The bits of all codewords have one sequence of
+//! numbers: bit 0 is the highest bit of the first codeword. The number of a bit is also the number of its module in the
+//! order.
 //!
 //! `across` is a transposed square, in which the two columns of a strip are rows (`spans.rt`). In `region` exactly the
 //! region is dark; the region is symmetric, so transposing does not change it.
@@ -19,6 +20,7 @@ use crate::words::{bit_at, bits_at, split};
 use qr_layout::{Place, Strip, Version, all_strips, walk};
 use qr_matrix::{BitRow, Matrix};
 
+// The columns of a strip, with all modules of the region made light.
 #[tactic(auto, using(crate::proofs::Named::strips))]
 fn with_light_region(columns: Columns, region: &Columns) -> Columns
     ensures right { (row : ℕ) → has result.right row ≡ (has columns.right row && not (has region.now.right row)) }
@@ -33,8 +35,8 @@ fn with_light_region(columns: Columns, region: &Columns) -> Columns
 // The most rows that are drawn at once: a word of 64 bits has two bits for each row.
 const ROWS_MAX: u8 = 32;
 
-// Draws the first of `bits`, which is the highest, into a row of a column. The module is in the region, and light
-// before. A branch on the bit would be costly, since no processor can predict it. The bound on `row` is the number of
+// Draws the first of `bits`, which is the highest, into one module of a column. The module is in the region, and was
+// light before. There is no branch on the bit, since no processor could predict it. The bound on `row` is the number of
 // bits in a bit row.
 #[inline(always)]
 fn draw_module(column: &mut BitRow, row: u8, bits: u64)
@@ -45,8 +47,9 @@ fn draw_module(column: &mut BitRow, row: u8, bits: u64)
     column.set_bits(row, bits >> 63);
 }
 
-// Draws the first of `bits` into `count` rows, `top` and those below it. All their modules are in the region, and light
-// before, so only those whose bits are 1 have to be made dark. The bound on `top` is the number of bits in a bit row.
+// Draws the first `2 * count` of `bits` into `count` rows, from row `top` down. All modules of these rows are in the
+// region and were light before, so only those whose bits are 1 have to be made dark. The bound on `top` is the number
+// of bits in a bit row.
 #[inline(always)]
 fn draw_rows(columns: &mut Columns, top: u8, count: u8, upward: bool, bits: u64)
     requires top_in { top < 192 }
@@ -63,8 +66,8 @@ fn draw_rows(columns: &mut Columns, top: u8, count: u8, upward: bool, bits: u64)
     columns.left.set_bits(top, left);
 }
 
-// Draws the columns of a strip, whose first bit has the number `first`, and returns the number of the bit after the
-// strip. The 3,706 codewords of version 40 have 29,648 bits.
+// Draws the columns of a strip. Its first bit has the number `first`, and the call returns the number of the bit after
+// the strip. The bound on `first` is the number of bits in the 3,706 codewords of version 40.
 #[inline(always)]
 fn draw_columns(
     columns: &mut Columns,
@@ -105,7 +108,8 @@ fn draw_columns(
 }
 
 // As `draw_columns`, but takes the columns from the square `across`, and puts them back. `draw_columns` is called in
-// two places, so that each of the two directions is compiled for itself.
+// two places, so that the compiler makes separate code for strips that are filled upward and for those that are filled
+// downward.
 fn draw_strip(
     across: &mut Matrix,
     v: Version,
@@ -142,7 +146,7 @@ fn draw_strip(
     next
 }
 
-// Draws all codewords into the transposed square. Outside the region its colours stay.
+// Draws all codewords into the transposed square. Outside the region the square keeps its colours.
 pub(crate) fn draw_codewords(across: &mut Matrix, v: Version, region: &Matrix, codewords: &[u8])
     requires square { IsSquare (side_of v) across.old }
     requires region { region.now ≡ region_grid v }
@@ -156,7 +160,8 @@ pub(crate) fn draw_codewords(across: &mut Matrix, v: Version, region: &Matrix, c
     }
 }
 
-// The remainder bits are 0, and the mask is applied to them too.
+// Draws all codewords under a mask, module by module in the order of `walk`. The remainder bits are 0, and the mask is
+// applied to them too.
 pub(crate) fn draw_along_walk(matrix: &mut Matrix, v: Version, codewords: &[u8], mask: u8)
     requires { IsSquare (side_of v) matrix.old }
     ensures { matrix.new ≡ square (side_of v) (walked_colour v codewords.now mask (colour matrix.old)) }

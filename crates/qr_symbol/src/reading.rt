@@ -1,7 +1,7 @@
-//! Reads one symbol (ISO/IEC 18004:2015, 12). The side gives the version, and one copy of the format information the
-//! level and the mask. Then the mask is undone, the codewords are collected from the region and deinterleaved, and the
-//! data codewords are parsed. Errors are not corrected: if a codeword does not belong to the others of its block, the
-//! symbol is refused.
+//! Reads one symbol (ISO/IEC 18004:2015, 12). The side gives the version, and one copy of the format information gives
+//! the level and the mask. Then the mask is undone, the codewords are collected from the region and deinterleaved, and
+//! the data codewords are parsed. Errors are not corrected: a symbol is refused if some codeword does not fit the other
+//! codewords of its block.
 
 ghost use Rattle.std.specs.Prelude.{◌≡◌, ℕ, ◌<◌, ◌≤◌, Err, length, IfOk, MatchOption, MatchResult};
 ghost use Rattle.std.specs.Bool.{Decides};
@@ -22,7 +22,7 @@ use qr_layout::{FORMAT_BITS, Level, Version, format_place, format_word};
 use qr_matrix::Matrix;
 use std::alloc::{AllocError, Global};
 
-// Looks only at the copy beside the top left finder pattern.
+// Whether the copy of the format information beside the top left finder pattern is that of this level and mask.
 fn has_format(matrix: &Matrix, level: Level, mask: u8) -> bool
     requires side { 21 ≤ matrix.now.side }
     requires mask_in { mask < 8 }
@@ -38,6 +38,7 @@ fn has_format(matrix: &Matrix, level: Level, mask: u8) -> bool
     true
 }
 
+// The mask of the format information, if its level is `level`.
 fn mask_of(matrix: &Matrix, level: Level) -> Option<u8>
     requires { 21 ≤ matrix.now.side }
     ensures { MatchOption result
@@ -52,7 +53,8 @@ fn mask_of(matrix: &Matrix, level: Level) -> Option<u8>
     None
 }
 
-// At most one level and mask match, so it does not matter which are tried first.
+// The level and mask of the format information. At most one pair of them matches, so it does not matter which is tried
+// first.
 fn format_of(matrix: &Matrix) -> Option<(Level, u8)>
     requires { 21 ≤ matrix.now.side }
     ensures { MatchOption result
@@ -67,8 +69,8 @@ fn format_of(matrix: &Matrix) -> Option<(Level, u8)>
     None
 }
 
-// Reads a square that has no mask, or of which the mask was undone. Transposes it first: the columns of a strip are
-// then rows, of which a word holds 64 modules.
+// Reads the codewords of a square that has no mask, or whose mask was undone. The square is transposed first. Then the
+// columns of a strip are rows, and a word of 64 bits has 64 modules of such a row.
 fn read_plain(
     alloc: Global,
     version: Version,
@@ -127,7 +129,7 @@ pub fn read_codewords(
     read_plain(alloc, version, &plain, &region)
 }
 
-// Level and mask are those of the format information.
+// Reads the content of a square whose format information has this level and mask.
 fn read_with(
     alloc: Global,
     matrix: &Matrix,
@@ -144,16 +146,16 @@ fn read_with(
     Ok(parse(alloc, &message, version)?)
 }
 
-/// Reads a symbol, without correcting errors (ISO/IEC 18004:2015, 12). The number of rows gives the version; level and
-/// mask are read from the format information beside the top left finder pattern alone. Function patterns, the dark
-/// module, the second copy, the version information and the remainder bits are ignored. Segments may have any of the
-/// four modes.
+/// Reads a symbol, without correcting errors (ISO/IEC 18004:2015, 12). The number of rows gives the version. Level and
+/// mask are read from one copy of the format information, the one beside the top left finder pattern. The other copy,
+/// function patterns, the dark module, the version information and the remainder bits are ignored. Segments may have
+/// any of the four modes.
 ///
 /// # Errors
 ///
-/// The symbol is refused only for these reasons, checked in this order: `Side` if no version has as many rows; `Format`
-/// if the format information belongs to no level and mask; `Check` if the error correction codewords of some block do
-/// not belong to its data codewords; `Segments` if the data codewords cannot be parsed. Returns `Memory` if an
+/// The symbol is refused only for these reasons, checked in this order: `Side` if no version has this number of rows;
+/// `Format` if the format information belongs to no level and mask; `Check` if the error correction codewords of some
+/// block do not belong to its data codewords; `Segments` if the data codewords cannot be parsed. Returns `Memory` if an
 /// allocation is refused, which happens only after `Side` and `Format` are checked.
 pub fn read_symbol(alloc: Global, matrix: &Matrix) -> Result<Parsed, ReadFault>
     ensures read { MatchResult result (IsReading matrix.now) (IsUnread matrix.now) }

@@ -30,18 +30,19 @@ use qr_layout::{Level, Version};
 use std::alloc::Global;
 
 /// Encodes the input as a series of at most 16 symbols of one version and level (ISO/IEC 18004:2015, 8). An input that
-/// fits one symbol without a structured append header is encoded as this one symbol. Any other is cut into parts, each
-/// the longest prefix of the rest that fits a symbol with a header, even if some shorter prefix does not fit.
+/// fits one symbol without a structured append header is encoded as this one symbol. Any other input is cut into parts.
+/// Each part is the longest prefix of the remaining input that fits a symbol with a header, even if some shorter prefix
+/// does not fit.
 ///
-/// The parity data in each header are of the whole input. The symbols, read and joined, yield exactly the input, and
-/// each is read with its interpretation. Without kanji mode the series is the shortest possible: no cut into parts that
-/// fit has fewer parts.
+/// Each header has the parity data of the whole input. The symbols, read and joined, yield exactly the input, and each
+/// symbol is read with the interpretation of the input. Without kanji mode the series is the shortest possible: the
+/// input cannot be cut into fewer parts that fit.
 ///
 /// # Errors
 ///
-/// Returns `Empty` exactly if the input has no byte. Returns `TooMany` if the input would be cut into more than 16
-/// parts, and `Memory` if an allocation is refused before this is known or while symbols are made. Without kanji mode
-/// `TooMany` means that there is no cut at all into at most 16 parts that fit.
+/// Returns `Empty` exactly if the input has no byte, and `TooMany` if the input would be cut into more than 16 parts.
+/// Returns `Memory` if an allocation is refused before the number of parts is known, or while symbols are made. Without
+/// kanji mode, `TooMany` means that the input cannot be cut in any way into 16 or fewer parts that fit.
 ///
 /// # Notes
 ///
@@ -110,8 +111,9 @@ fn series_of(
     )
 }
 
-// Whether a bound already shows that the input does not fit a plain symbol, so that it need not be cut into segments.
-// With byte mode alone only the number of bytes is looked at: there is one segment then, so to cut takes no time.
+// Whether the number of bytes, or a lower bound on the number of bits, shows that the input does not fit a plain
+// symbol. Then it need not be cut into segments. If only byte mode is allowed, the lower bound is not computed: the
+// input then becomes a single segment, so cutting it takes no time.
 fn takes_more(
     input: &[u8],
     version: Version,
@@ -131,6 +133,7 @@ fn takes_more(
             > version.capacity(level)
 }
 
+// The symbol without a structured append header, or `None` if the input does not fit one.
 fn plain_symbol(
     alloc: Global,
     input: &[u8],
@@ -158,6 +161,7 @@ fn plain_symbol(
     Ok(Some(symbol))
 }
 
+// The numbers of bytes of the parts into which the input is cut.
 fn part_lengths(
     alloc: Global,
     input: &[u8],
@@ -186,7 +190,8 @@ fn part_lengths(
     Ok(lengths)
 }
 
-// The length of the next part. No symbol contains more than 7,089 bytes, so only so many of `rest` are looked at.
+// The number of bytes of the next part. No symbol contains more than 7,089 bytes, so only the first 7,089 bytes of
+// `rest` are examined.
 fn prefix_len(
     alloc: Global,
     rest: &[u8],
@@ -207,7 +212,7 @@ fn prefix_len(
 }
 
 // Draws the symbols of all parts on one canvas, so that the function patterns and the region are drawn once (8.1 to
-// 8.3). `lengths` are those of the parts.
+// 8.3). `lengths` are the numbers of bytes of the parts.
 fn symbols_on(
     alloc: Global,
     canvas: &mut Canvas,

@@ -1,9 +1,10 @@
-//! The spans of a strip: rows that are drawn or read at once, in the direction in which the strip is filled (ISO/IEC
-//! 18004:2015, 7.7.3).
+//! The spans of a strip. A span is a group of neighbouring rows that are drawn or read at once. Spans follow each other
+//! in the direction in which the strip is filled (ISO/IEC 18004:2015, 7.7.3).
 //!
-//! The two columns of a strip are rows of the transposed square, of which a word holds 64 modules. Here are the numbers of
-//! the bits in a square of four by four modules that are all in the region. Its first strip has columns 3 and 2, and is
-//! filled upward; its second strip has columns 1 and 0, and is filled downward.
+//! In the transposed square the two columns of a strip are rows, and one word of 64 bits holds 64 modules of such a
+//! row. The drawing is of a square of four by four modules that are all in the region. The numbers in it are those of
+//! the bits of the codewords. The first strip has columns 3 and 2, and is filled upward. The second strip has columns 1
+//! and 0, and is filled downward.
 //!
 //! ```text
 //! symbol            transposed
@@ -42,7 +43,8 @@ pub(crate) fn columns_of(across: &Matrix, right: u8) -> Columns
     }
 }
 
-// The rows of a strip of which both modules are in the region, and those of which none is.
+// `both` are the rows of a strip whose two modules are in the region, and `neither` those whose two modules are outside
+// it.
 #[derive(Clone, Copy)]
 pub(crate) struct RegionRows {
     pub both: BitRow,
@@ -60,7 +62,7 @@ fn region_rows(region: &Columns) -> RegionRows
 
 #[derive(Clone, Copy)]
 pub(crate) enum Span {
-    // Rows of which both modules are in the region: the topmost of them, and how many they are.
+    // Rows of which both modules are in the region: the topmost row, and the number of rows.
     Both { top: u8, count: u8 },
     // A row of which only the right module is in the region.
     Right { row: u8 },
@@ -70,15 +72,15 @@ pub(crate) enum Span {
     Outside,
 }
 
-// An iterator over the spans of a strip. In `region`, the columns of the strip, exactly the region is set. The side is
-// at most 177, that of version 40.
+// An iterator over the spans of a strip. `region` are the columns of the strip, in which exactly the bits of the region
+// are set. The side is at most 177, that of version 40.
 #[derive(Drop)]
 pub(crate) struct Spans {
     region: Columns,
     rows: RegionRows,
     strip: Strip,
     side: u8,
-    // The most rows of a span of which both modules are in the region.
+    // The most rows that a span `Both` may have.
     most: u8,
     // The number of rows in the spans that were already returned.
     passed: u8,
@@ -103,8 +105,8 @@ impl Spans {
         }
     }
 
-    // How many of the next rows are set in `rows`, counted up to the first that is not, or to the end of the word of 64
-    // bits.
+    // The number of rows, from the next row on, that are set in `rows`. Counting ends before the first row that is not
+    // set, at the end of the strip, or at the end of a word of 64 bits.
     #[inline(always)]
     fn rows_set(&self, rows: &BitRow) -> u8
         requires side { self.now.side ≤ 177 }

@@ -1,5 +1,5 @@
-//! Finds the least version that an input fits, its segments there, and the highest level at which it fits this version
-//! (ISO/IEC 18004:2015, 7.1 and 7.4.1).
+//! Finds the least version that an input fits, its segments in this version, and the highest level at which it fits
+//! this version (ISO/IEC 18004:2015, 7.1 and 7.4.1).
 //!
 //! The bits of a segment depend on the version only by the width of the character count indicator, which changes only
 //! after versions 9 and 26. So an input is cut into segments at most once for each of the ranges 1 to 9, 10 to 26 and
@@ -30,18 +30,18 @@ const SMALL: u8 = 9;
 
 const MEDIUM: u8 = 26;
 
-// An upper bound on the bytes of a symbol of versions 1 to 26. No bytes take fewer bits than digits, of which three
-// take ten (7.4.3), and version 26 at level L has 10,960 bits in data codewords.
+// An upper bound on the number of bytes in a symbol of versions 1 to 26. No bytes take fewer bits than digits, and
+// three digits take ten bits (7.4.3). The data codewords of version 26 at level L have 10,960 bits.
 const MEDIUM_BYTES: usize = 3288;
 
-// A version that an input fits, and its segments there.
+// A version that an input fits, and the segments of the input in this version.
 #[derive(Drop)]
 pub(crate) struct Fit<'a> {
     pub version: Version,
     pub segmented: Segmented<'a>,
 }
 
-// The last version of the range of `version` (7.4.1, Table 3).
+// The last version of the range that `version` is in (7.4.1, Table 3).
 fn last_of_width(version: Version) -> u8
     ensures least { version ≤ result }
     ensures most { result ≤ 40 }
@@ -55,7 +55,7 @@ fn last_of_width(version: Version) -> u8
     }
 }
 
-// How many bits the segments take, with the ECI header or FNC1 that says their interpretation.
+// The number of bits that the segments take, with the ECI header or FNC1 of the interpretation.
 pub(crate) fn needed_bits(
     segmented: &Segmented<'_>,
     interpretation: Interpretation,
@@ -68,6 +68,7 @@ pub(crate) fn needed_bits(
     interpretation_bits(interpretation) + bit_len(&segmented.segments, version)
 }
 
+// The capacity of the version with this number, in bits.
 fn capacity_at(number: u8, level: Level) -> u64
     requires { (1 ≤ number) × (number ≤ 40) }
     ensures { result ≡ capacity_of number level }
@@ -76,10 +77,10 @@ fn capacity_at(number: u8, level: Level) -> u64
     version.capacity(level)
 }
 
-// The first version of a range, 1, 10 or 27, such that the input fits no version of the ranges before it. Its length or
-// a lower bound on its bits shows this, without a cut into segments. The bound is compared with the capacity of the
-// last version of a range, which is the greatest there. With byte mode alone the bound on its bits is not computed,
-// since it would save little time.
+// Returns the first version of a range: 1, 10 or 27. The input fits no version of the ranges before this one. The
+// number of bytes, or a lower bound on the number of bits, shows this without cutting the input into segments. The
+// bound is compared with the capacity of the last version of a range, which is the greatest in the range. If only byte
+// mode is allowed, the bound is not computed, since it would save little time.
 fn first_for(input: &[u8], level: Level, rule: Rule, interpretation: Interpretation) -> u8
     requires { length input.now ≤ INPUT_MAX }
     ensures first { 1 ≤ result }
@@ -102,6 +103,7 @@ fn first_for(input: &[u8], level: Level, rule: Rule, interpretation: Interpretat
     }
 }
 
+// The first version, from `first` to `last`, that has room for `bits` bits.
 fn first_with_room(level: Level, first: Version, last: u8, bits: u64) -> Option<Version>
     requires { last ≤ 40 }
     ensures { MatchOption result
@@ -118,8 +120,8 @@ fn first_with_room(level: Level, first: Version, last: u8, bits: u64) -> Option<
     None
 }
 
-// Takes the ranges in turn, cuts the input into segments for each, and ends with the first version that has room for
-// them.
+// Finds the least version, from `smallest` on, that the input fits. Goes through the ranges, and cuts the input into
+// segments once for each range. The search ends at the first version that has room for the segments of its range.
 pub(crate) fn least_fit<'a>(
     alloc: Global,
     input: &'a [u8],
@@ -153,7 +155,7 @@ pub(crate) fn least_fit<'a>(
     }
 }
 
-// The highest level, from `level` on, that has room for the bits.
+// The highest level, from `level` on, at which the version has room for `bits` bits.
 pub(crate) fn highest_with_room(version: Version, level: Level, bits: u64) -> Level
     requires { bits ≤ capacity_of version level }
     ensures least { level_rank level ≤ level_rank result }

@@ -1,6 +1,6 @@
 //! Moves bits within words of 64 bits, reads up to 64 bits of the codewords at once, and collects bits into codewords
-//! (ISO/IEC 18004:2015, 7.7.2 and 7.7.3). Bit 0 of a word is its lowest. The bits of codewords are numbered through all
-//! codewords, and bit 0 is the highest of the first codeword.
+//! (ISO/IEC 18004:2015, 7.7.2 and 7.7.3). Bit 0 of a word is its lowest. The bits of all codewords have one sequence of
+//! numbers: bit 0 is the highest bit of the first codeword.
 
 ghost use Rattle.std.specs.Prelude.{◌≡◌, ℕ, ◌*◌, ◌/◌, ◌%◌, ◌+◌, ◌-◌, ◌<◌, ◌≤◌, ◌&&◌, [], ◌∷◌, ◌++◌, if◌then◌else◌, nat_lt, length, slice_index, IsTrue, Some, IfOk};
 ghost use Rattle.std.specs.List.{All};
@@ -11,7 +11,7 @@ ghost use Rattle.qr_symbol.specs.Steps.Words.{are_halves, are_pairs, partner, ra
 use std::alloc::{AllocError, Global};
 use std::marker::Model;
 
-// A `u32` cannot be shifted by 32 or more.
+// Whether bit `i` of the word is 1. `i` is compared with 32 because a `u32` cannot be shifted by 32 or more.
 #[tactic(auto, unfolding(qr_matrix::specs::BitRow::has_bit), using(crate::proofs::Named::word_bits))]
 pub(crate) fn is_bit_set(word: u32, i: u8) -> bool
     ensures { result ≡ has_bit word i }
@@ -19,8 +19,8 @@ pub(crate) fn is_bit_set(word: u32, i: u8) -> bool
     i < 32 && word >> i & 1 == 1
 }
 
-// In these masks exactly the second quarter of each group is set. The groups have 4, 8, 16, 32 or 64 bits, and quarters
-// are counted from the lowest bit.
+// Each of these masks divides the word into groups of 4, 8, 16, 32 or 64 bits. In each group exactly the second
+// quarter, counted from the lowest bit, is set.
 const OF_4: u64 = 0x2222_2222_2222_2222;
 
 const OF_8: u64 = 0x0C0C_0C0C_0C0C_0C0C;
@@ -31,8 +31,8 @@ const OF_32: u64 = 0x0000_FF00_0000_FF00;
 
 const OF_64: u64 = 0x0000_0000_FFFF_0000;
 
-// Exchanges each bit that is set in `mask` with the bit `steps` above it, which is not in `mask`. If the two differ,
-// both are inverted.
+// Exchanges each bit at a place that is set in `mask` with the bit `steps` places above it. That place is not set in
+// `mask`. Two bits that differ are exchanged by inverting both, and equal ones stay as they are.
 #[inline(always)]
 #[tactic(auto, using(crate::proofs::Named::exchanges))]
 fn exchange_bits(bits: u64, steps: u32, mask: u64) -> u64
@@ -64,7 +64,7 @@ fn unshuffled(bits: u64) -> u64
     exchange_bits(bits, 16, OF_64)
 }
 
-// The inverse of `unshuffled`: the same exchanges in the other order.
+// The inverse of `unshuffled`. It makes the same exchanges in the opposite order.
 #[inline(always)]
 fn shuffled(bits: u64) -> u64
     ensures { (i : ℕ) → i < 64 → has_bit result i ≡ has_bit bits (32 * (i % 2) + i / 2) }
@@ -76,7 +76,8 @@ fn shuffled(bits: u64) -> u64
     exchange_bits(bits, 1, OF_4)
 }
 
-// The 32 lowest bits of both numbers in turn. Bit 0 of the result is that of `even`, and bit 1 is bit 0 of `odd`.
+// Interleaves the 32 lowest bits of both numbers. Bit 0 of the result is bit 0 of `even`, bit 1 is bit 0 of `odd`, and
+// so on.
 #[inline(always)]
 fn interleaved(odd: u64, even: u64) -> u64
     ensures odd { (i : ℕ) → i < 32 → has_bit result (2 * i + 1) ≡ has_bit odd i }
@@ -85,8 +86,8 @@ fn interleaved(odd: u64, even: u64) -> u64
     shuffled(odd << 32 | even & 0xFFFF_FFFF)
 }
 
-// As `exchange_bits`, for a mask by which each bit of the word is exchanged with another: one half of the bits moves
-// down, and the other half up.
+// As `exchange_bits`, but for a mask with which no bit keeps its place: one half of the bits moves down, and the other
+// half moves up.
 #[inline(always)]
 #[tactic(auto, using(crate::proofs::Named::exchanges))]
 fn exchange_all(bits: u64, steps: u32, mask: u64) -> u64
@@ -97,8 +98,8 @@ fn exchange_all(bits: u64, steps: u32, mask: u64) -> u64
     bits >> steps & mask | (bits & mask) << steps
 }
 
-// As `u64::reverse_bits`, which the kit compiles to a loop over the bits. Here LLVM makes one instruction of the last
-// three steps, which reverse the order of bytes.
+// Reverses the order of the 64 bits. `u64::reverse_bits` does the same, but Rattle's kit compiles it to a loop over the
+// bits. Here LLVM makes one instruction of the last three steps, which reverse the order of bytes.
 #[inline(always)]
 pub(crate) fn reversed(bits: u64) -> u64
     ensures { (i : ℕ) → i < 64 → has_bit result i ≡ has_bit bits (63 - i) }
@@ -111,8 +112,9 @@ pub(crate) fn reversed(bits: u64) -> u64
     exchange_all(bits, 32, 0x0000_0000_FFFF_FFFF)
 }
 
-// The first `2 * count` of `bits`, in the order of the rows from the top down: bit 0 belongs to the topmost row. In a
-// strip that is filled upward this row has the last of these bits, and in the other strips the first.
+// Returns the first `2 * count` of `bits`, which are the highest, in the order of the rows from the top down. Bit 0 of
+// the result belongs to the topmost row. This row has the last of these bits in a strip that is filled upward, and the
+// first of them in a strip that is filled downward.
 #[inline(always)]
 fn bits_of_rows(bits: u64, upward: bool, count: u8) -> u64
     requires some { 1 ≤ count }
@@ -129,8 +131,9 @@ fn bits_of_rows(bits: u64, upward: bool, count: u8) -> u64
     }
 }
 
-// Divides the first `2 * count` of `bits` between the right and the left column of `count` rows. They belong to the
-// right and the left column in turn. In each of the two results the lowest bit is that of the topmost row.
+// Divides the first `2 * count` of `bits` between the right and the left column of `count` rows. Of each two bits, the
+// first belongs to the right column and the second to the left. In each of the two results the lowest bit is that of
+// the topmost row.
 #[inline(always)]
 pub(crate) fn split(bits: u64, upward: bool, count: u8) -> (u64, u64)
     requires some { 1 ≤ count }
@@ -150,8 +153,8 @@ pub(crate) fn split(bits: u64, upward: bool, count: u8) -> (u64, u64)
     }
 }
 
-// The inverse of `split`: the bits of `count` rows in the order in which they are filled, the last of them as bit 0. In
-// `right` and `left` the lowest bit is that of the topmost row.
+// The inverse of `split`. Returns the bits of `count` rows in the order in which the rows are filled, with the last bit
+// as bit 0. In `right` and `left` the lowest bit is that of the topmost row.
 #[inline(always)]
 pub(crate) fn joined(right: u64, left: u64, upward: bool, count: u8) -> u64
     requires some { 1 ≤ count }
@@ -168,14 +171,14 @@ pub(crate) fn joined(right: u64, left: u64, upward: bool, count: u8) -> u64
     }
 }
 
-// The codeword at index `place`. Returns 0 after the last, so that the remainder bits are 0 before a mask is applied.
+// The codeword at index `place`, or 0 after the last codeword. So the remainder bits are 0 before a mask is applied.
 fn codeword_at(codewords: &[u8], place: usize) -> u8
     ensures { result ≡ slice_index codewords.now place }
 {
     codewords.get(place).copied().unwrap_or(0)
 }
 
-// The bits of the eight codewords from index `place` on, the first as the highest.
+// The bits of the eight codewords from index `place` on, with the first bit as the highest.
 fn eight_codewords(codewords: &[u8], place: usize) -> u64
     requires { place + 8 ≤ length codewords.now }
     ensures { (k : ℕ) → k < 64 → has_bit result (63 - k) ≡ codeword_bit codewords.now (8 * place + k) }
@@ -187,8 +190,8 @@ fn eight_codewords(codewords: &[u8], place: usize) -> u64
     bits
 }
 
-// As `eight_codewords`, but zeros stand for codewords after the last. The bound on `place` comes from that of
-// `bits_at`.
+// As `eight_codewords`, but with a zero for each codeword after the last. The bound on `place` follows from the bound
+// on `number` in `bits_at`, since a codeword has eight bits.
 #[inline(never)]
 fn last_codewords(codewords: &[u8], place: usize) -> u64
     requires { place ≤ 5000 }
@@ -201,8 +204,9 @@ fn last_codewords(codewords: &[u8], place: usize) -> u64
     bits
 }
 
-// The 64 bits of the codewords from bit `number` on, the first as the highest. They may begin within a codeword, and
-// then lie in nine. The bound on `number` is for the prover, and loose: symbols have at most 29,648 bits in codewords.
+// The 64 bits of the codewords from bit `number` on, with the first as the highest. If they begin within a codeword,
+// they are in nine codewords. The bound on `number` is only for the prover. It is above 29,648, the most bits that the
+// codewords of a symbol have.
 #[inline(always)]
 pub(crate) fn bits_at(codewords: &[u8], number: usize) -> u64
     requires { number ≤ 40000 }
@@ -219,6 +223,7 @@ pub(crate) fn bits_at(codewords: &[u8], number: usize) -> u64
     bits << skipped | ninth >> (8 - skipped)
 }
 
+// Bit `number` of the codewords.
 #[tactic(auto, unfolding(qr_matrix::specs::BitRow::has_bit))]
 pub(crate) fn bit_at(codewords: &[u8], number: usize) -> bool
     ensures { result ≡ codeword_bit codewords.now number }
@@ -227,8 +232,8 @@ pub(crate) fn bit_at(codewords: &[u8], number: usize) -> bool
     is_bit_set(u32::from(codeword), 7 - (number % 8) as u8)
 }
 
-// Collects bits into codewords, of which the highest bit is the first. If an allocation is refused, the collector
-// remembers it until `into_codewords`, so the functions that append bits return no error.
+// Collects bits into codewords. The first bit of a codeword is its highest. If an allocation is refused, the collector
+// remembers this until `into_codewords` returns the error, so the functions that append bits return none.
 #[derive(Drop)]
 pub(crate) struct Collector {
     whole: Vec<u8>,
@@ -243,7 +248,7 @@ impl Model for Collector {
     ghost use Rattle.std.specs.List.{All};
     ghost use Rattle.qr_bits.specs.Bits.{bits_of, field};
 
-    // The bits, if no allocation was refused.
+    // The bits that were collected, or `None` if an allocation was refused.
     ghost Value = { Option (List Bool) };
 
     ghost view = { λ b. if b.is_refused then None else Some (bits_of b.whole.items ++ field b.width b.rest) };
@@ -279,8 +284,9 @@ impl Collector {
         }
     }
 
-    // Appends the `count` lowest bits of `bits`, the highest first. They follow the up to seven bits of `rest`. All of
-    // these, at most 7 + 56, are moved to the top of a word, whose first bytes are then the next codewords.
+    // Appends the `count` lowest bits of `bits`, the highest of them first. With the bits of `rest`, which come before
+    // them, they are at most 63 bits. All of these are moved to the top of a word of 64 bits, whose first bytes are
+    // then the next codewords.
     #[inline(always)]
     pub(crate) fn push_bits(&mut self, bits: u64, count: u8)
         requires some { 1 ≤ count }
@@ -299,7 +305,8 @@ impl Collector {
         self.width = left;
     }
 
-    // Returns the whole codewords. The bits after the last are the remainder bits, at most seven, and are dropped.
+    // Returns the whole codewords. The bits after the last whole codeword are the remainder bits, at most seven, and
+    // are dropped.
     pub(crate) fn into_codewords(self) -> Result<Vec<u8>, AllocError>
         ensures { IfOk result (λ cw. (w : ℕ) × (rest : ℕ) × (w < 8) × All (λ x. x < 256) cw.items
             × (self ≡ Some (bits_of cw.items ++ field w rest))) }

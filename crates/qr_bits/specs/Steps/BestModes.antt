@@ -33,20 +33,20 @@ abbrev pub character_choice : Interpretation → ℕ → Rule → ℕ → Bool �
 character_choice i v r x pair rest p =
     choice_number (may_begin r (character_for i x Alphanumeric) pair Alphanumeric) (cost_in i v p x Alphanumeric + bits_at rest (state_in i p x Alphanumeric)) Alphanumeric
 
--- `c` has the choices of alphanumeric mode for the byte `x`, as numbers: if it begins a segment, and after one or two
--- characters of a group
+-- `c` has the choices of alphanumeric mode for the byte `x`, as numbers: the choice if `x` begins a segment, the one
+-- after the first character of a group, and the one after the second
 abbrev pub AreCharacterChoices : Interpretation → ℕ → Rule → ℕ → Bool → PerState → CharacterChoices → Type 0
 AreCharacterChoices i v r x pair rest c =
     (c.first ≡ character_choice i v r x pair rest Start) × (c.second ≡ character_choice i v r x pair rest Character1) × (c.next ≡ character_choice i v r x pair rest Character2)
 
--- All choices are below a bound that those of inputs of at most `INPUT_MAX` bytes do not reach, and to which the bits
--- of one more byte can be added in 32 bits
+-- All choices are below 40,000,000. The choices of inputs of at most `INPUT_MAX` bytes do not reach this bound, and the
+-- bits of one more byte can be added to it in 32 bits
 abbrev pub IsSmall : PerState → Type 0
 IsSmall n =
     (n.start < 40000000) × (n.digit1 < 40000000) × (n.digit2 < 40000000) × (n.digit3 < 40000000) × (n.character1 < 40000000)
     × (n.character2 < 40000000) × (n.in_bytes < 40000000) × (n.half_pair < 40000000) × (n.whole_pair < 40000000)
 
--- The index of the lower of a state's two bits in a row
+-- The index, in a row, of the lower of the two bits of a state
 abbrev pub shift_of : RunState → ℕ
 shift_of Start = 0
 shift_of Digit1 = 2
@@ -62,22 +62,23 @@ shift_of WholePair = 16
 unfoldable pub mode_at : ℕ → RunState → Mode
 mode_at row p = ranked (row / 2 ^ shift_of p % 4)
 
--- For each state before the byte `x`, `numbers` has the best choice, and `row` its mode
+-- For each state before the byte `x`, `numbers` has the best choice, and `row` has the mode of this choice
 abbrev pub IsRow : Interpretation → ℕ → Rule → ℕ → Bool → PerState → ℕ → PerState → Type 0
 IsRow i v r x pair rest row numbers = (p : RunState) → IsChoice i v r p x pair (bits_at rest) (mode_at row p) (bits_at numbers p)
 
--- The modes that are read from rows, the first for the state `p`: each mode leads to the state for which the next row
--- is read
+-- The modes that are read from the rows. The first row is read for the state `p`, and each mode leads to the state for
+-- which the next row is read
 unfoldable pub follow : RunState → List ℕ → List Mode
 follow p [] = []
 follow p (row ∷ rows) = mode_at row p ∷ follow (state_after p (mode_at row p)) rows
 
--- As `follow`, where the rows are those of the bytes `xs`, each of which is written as one or two characters
+-- As `follow`, but the rows are those of the bytes `xs`, each of which is written as one or two characters
 unfoldable pub follow_in : Interpretation → RunState → List ℕ → List ℕ → List Mode
 follow_in i p [] rows = []
 follow_in i p (x ∷ xs) [] = []
 follow_in i p (x ∷ xs) (row ∷ rows) = mode_at row p ∷ follow_in i (state_in i p x (mode_at row p)) xs rows
 
--- For each state after which some assignment to the bytes `xs` is allowed, `follow_in` reads the best one from the rows
+-- For each state after which some assignment to the bytes `xs` is allowed, `follow_in` reads the best assignment from
+-- the rows
 abbrev pub IsBestTable : Interpretation → ℕ → Rule → (ℕ → ℕ → Bool) → List ℕ → List ℕ → Type 0
 IsBestTable i v r test xs rows = (p : RunState) (ks : List Mode) → IsTrue (allowed_in i r test p xs ks) → (n : ℕ) × IsBestRest i v r test p xs (follow_in i p xs rows) n

@@ -7,16 +7,16 @@ use Rattle.qr_bits.specs.declared.fault.ParseFault.TheVariants.{Memory}
 use Rattle.qr_bits.specs.Modes.{byte_count, payload_bits}
 use Rattle.qr_bits.specs.Parsing.{◌>>=◌, values_of}
 
--- The fault `e`, which the code returns, is the one that the result `read` is, or `Memory`
+-- The code returns the fault `e`, which is `Memory`, or the fault that the result `read` is
 abbrev pub IsFaultOf : {A : Type 0} → ParseFault → Result A ParseFault → Type 0
 IsFaultOf e read = (e ≡ Memory) ⊎ (read ≡ Err e)
 
--- The result `read`, with the bytes `prefix`, which were read before, in front of its bytes
+-- The result `read`, with the bytes `prefix`, which were read earlier, before its own bytes
 abbrev pub prepend_read : List ℕ → Result (List ℕ) ParseFault → Result (List ℕ) ParseFault
 prepend_read prefix read = read >>= λ xs. Ok (prefix ++ xs)
 
--- The code takes the first `width` of `bits`, so that `rest` is left, and appends the bytes that `read` has to `out`,
--- which gives `new`. Or it returns the fault that `read` is, or `Memory`
+-- If the code succeeds, it has taken the first `width` of `bits`, so that `rest` is left, and has appended the bytes of
+-- `read` to `out`, which has become `new`. Otherwise it returns the fault that `read` is, or `Memory`
 abbrev pub IsReadOf : Result (Unit {0}) ParseFault → Result (List ℕ) ParseFault → ℕ → List ℕ → List ℕ → List Bool → List Bool → Type 0
 IsReadOf r read width out new bits rest =
     MatchResult r (λ _. (prepend_read out read ≡ Ok new) × (rest ≡ drop width bits)) (λ e. IsFaultOf e (prepend_read out read))

@@ -1,7 +1,7 @@
--- What the next byte adds to the bits of an input in each mode, after a state `p`, in version `v` and under the rule
--- `r`. A state is the mode of the byte before, and how many bytes of its group (three digits, two characters, one byte,
--- or a kanji pair) have come. Two bytes are a kanji pair if they pass `test`, and `pair` says that a byte `x` may begin
--- one.
+-- What the next byte adds to the bits of an input, in each mode and after each state. A state says which mode the last
+-- byte has, and how many bytes of its group there are so far. A group is three digits, two characters, one byte, or a
+-- kanji pair. `p` is a state, `v` the version, and `r` the rule. Two bytes are a kanji pair if they pass `test`, and
+-- `pair` says that a byte `x` may begin a pair.
 use Rattle.std.specs.Prelude.{◌≡◌, ℕ, ◌+◌, ◌*◌, ◌≤◌, Bool, true, false, ◌&&◌, ◌==◌, if◌then◌else◌, List, [], ◌∷◌, IsTrue}
 use Rattle.qr_bits.specs.declared.modes.Mode.{Mode}
 use Rattle.qr_bits.specs.declared.modes.Mode.TheVariants.{Numeric, Alphanumeric, Byte, Kanji}
@@ -25,7 +25,8 @@ state_after _ Byte = InBytes
 state_after HalfPair Kanji = WholePair
 state_after _ Kanji = HalfPair
 
--- The state after one more byte in the mode of the byte before; after `Start`, where there is none before, in byte mode
+-- The state after one more byte in the mode of the last byte. For `Start`, which has no last byte, the mode is byte
+-- mode
 unfoldable pub state_on : RunState → RunState
 state_on Start = InBytes
 state_on Digit1 = Digit2
@@ -37,8 +38,8 @@ state_on InBytes = InBytes
 state_on HalfPair = WholePair
 state_on WholePair = HalfPair
 
--- The bits that a byte of the mode `m` adds after the state `p`. The first byte of a segment also adds those of the two
--- indicators, and the first byte of a kanji pair adds all bits of the pair
+-- The bits that a byte of the mode `m` adds after the state `p`. The first byte of a segment also adds the bits of the
+-- two indicators, and the first byte of a kanji pair adds all bits of the pair
 unfoldable pub byte_cost : ℕ → RunState → Mode → ℕ
 byte_cost v Digit1 Numeric = 3
 byte_cost v Digit2 Numeric = 3
@@ -53,12 +54,12 @@ byte_cost v HalfPair Kanji = 0
 byte_cost v WholePair Kanji = 13
 byte_cost v _ Kanji = 4 + count_width v Kanji + 13
 
--- The test for a kanji pair where bytes are taken from the last to the first, so that the second byte of a pair comes
--- first
+-- The test for a kanji pair if bytes are taken from the last to the first, so that the second byte of a pair comes
+-- before its first
 abbrev pub swapped : (ℕ → ℕ → Bool) → ℕ → ℕ → Bool
 swapped test x y = test y x
 
--- The first two bytes may be written in kanji mode
+-- The rule allows kanji mode, and the first two bytes are a kanji pair
 unfoldable pub begins_with_pair : Rule → (ℕ → ℕ → Bool) → List ℕ → Bool
 begins_with_pair r test [] = false
 begins_with_pair r test (x ∷ []) = false
@@ -76,19 +77,19 @@ unfoldable pub may_take : Rule → RunState → ℕ → Bool → Mode → Bool
 may_take r HalfPair x pair m = rank m == rank Kanji
 may_take r _ x pair m = may_begin r x pair m
 
--- An assignment does not end after half a pair
+-- An assignment may end in this state, which may be any but `HalfPair`
 unfoldable pub may_end : RunState → Bool
 may_end HalfPair = false
 may_end _ = true
 
--- After the state `p` the bytes may have these modes, one mode for each byte
+-- After the state `p` the bytes may have the given modes, one mode for each byte
 unfoldable pub allowed : Rule → (ℕ → ℕ → Bool) → RunState → List ℕ → List Mode → Bool
 allowed r test p [] [] = may_end p
 allowed r test p [] (m ∷ ms) = false
 allowed r test p (x ∷ xs) [] = false
 allowed r test p (x ∷ xs) (m ∷ ms) = may_take r p x (begins_with_pair r test (x ∷ xs)) m && allowed r test (state_after p m) xs ms
 
--- How many bits are added by bytes of these modes, the first after the state `p`
+-- How many bits are added by bytes of the given modes, if the state before the first of them is `p`
 unfoldable pub cost_of : ℕ → RunState → List Mode → ℕ
 cost_of v p [] = 0
 cost_of v p (m ∷ ms) = byte_cost v p m + cost_of v (state_after p m) ms
@@ -106,11 +107,11 @@ state_in i p x m = if is_doubled i x m then state_after (state_after p m) m else
 abbrev pub cost_in : Interpretation → ℕ → RunState → ℕ → Mode → ℕ
 cost_in i v p x m = if is_doubled i x m then byte_cost v p m + byte_cost v (state_after p m) m else byte_cost v p m
 
--- As `may_take`, where the mode has to suit the character that is written for the byte `x`
+-- As `may_take`, but the mode has to suit the character that is written for the byte `x`
 abbrev pub may_take_in : Interpretation → Rule → RunState → ℕ → Bool → Mode → Bool
 may_take_in i r p x pair m = may_take r p (character_for i x m) pair m
 
--- As `allowed`, where the modes have to suit the characters that are written for the bytes
+-- As `allowed`, but the modes have to suit the characters that are written for the bytes
 unfoldable pub allowed_in : Interpretation → Rule → (ℕ → ℕ → Bool) → RunState → List ℕ → List Mode → Bool
 allowed_in i r test p [] [] = may_end p
 allowed_in i r test p [] (m ∷ ms) = false
@@ -123,25 +124,26 @@ cost_of_all i v p [] ms = cost_of v p ms
 cost_of_all i v p (x ∷ xs) [] = 0
 cost_of_all i v p (x ∷ xs) (m ∷ ms) = cost_in i v p x m + cost_of_all i v (state_in i p x m) xs ms
 
--- Of the assignments to the bytes `xs` that are allowed after the state `p`, `ms` is the first in lexicographic order
--- of those that add the fewest bits, and these are `n`
+-- Of the assignments to the bytes `xs` that are allowed after the state `p`, none adds fewer bits than `ms`, which adds
+-- `n`. Of several that add `n` bits, `ms` is the first in lexicographic order
 pub record IsBestRest (i : Interpretation) (v : ℕ) (r : Rule) (test : ℕ → ℕ → Bool) (p : RunState) (xs : List ℕ) (ms : List Mode) (n : ℕ) : Type 0 where
   pub is_allowed : IsTrue (allowed_in i r test p xs ms)
   pub has_bits : cost_of_all i v p xs ms ≡ n
   pub least : (ks : List Mode) → IsTrue (allowed_in i r test p xs ks) → n ≤ cost_of_all i v p xs ks
   pub first : (ks : List Mode) → IsTrue (allowed_in i r test p xs ks) → cost_of_all i v p xs ks ≡ n → IsNotAfter ms ks
 
--- Of the modes that the byte `x` may have after the state `p`, `m` has the lowest rank of those with which `x` and the
--- later bytes add the fewest bits, and these are `n`. The later bytes add `cost q` bits if the state after `x` is `q`
+-- `m` is the best mode that the byte `x` may have after the state `p`. With `m`, this byte and the later ones add `n`
+-- bits, and with no other mode fewer. Of several modes with which they add `n` bits, `m` has the lowest rank. The later
+-- bytes add `cost q` bits if the state after `x` is `q`
 pub record IsChoice (i : Interpretation) (v : ℕ) (r : Rule) (p : RunState) (x : ℕ) (pair : Bool) (cost : RunState → ℕ) (m : Mode) (n : ℕ) : Type 0 where
   pub is_allowed : IsTrue (may_take_in i r p x pair m)
   pub has_bits : n ≡ cost_in i v p x m + cost (state_in i p x m)
   pub least : (k : Mode) → IsTrue (may_take_in i r p x pair k) → n ≤ cost_in i v p x k + cost (state_in i p x k)
   pub first : (k : Mode) → IsTrue (may_take_in i r p x pair k) → cost_in i v p x k + cost (state_in i p x k) ≡ n → rank m ≤ rank k
 
--- A choice, which is a mode and a number of bits, as one number. If a choice has fewer bits than another, or as many
--- and a mode of lower rank, its number is smaller. A choice that is not allowed has the greatest number of 32 bits. For
--- inputs of at most `INPUT_MAX` bytes no other choice reaches it
+-- A choice, which is a mode and a number of bits, as one number. Fewer bits make it smaller, and so does a mode of
+-- lower rank if the bits are equally many. If the mode is not allowed, the result is the greatest number of 32 bits,
+-- which no allowed choice reaches for inputs of at most `INPUT_MAX` bytes
 abbrev pub choice_number : Bool → ℕ → Mode → ℕ
 choice_number may bits m = if may then 4 * bits + rank m else 4294967295
 

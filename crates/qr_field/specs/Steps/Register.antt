@@ -4,7 +4,7 @@ use Prim.Native.Nat.{zero, suc}
 use Rattle.qr_field.specs.declared.register.Register.{Register}
 use Rattle.qr_field.specs.Polynomial.{scaled, generator_of, IsCorrection}
 
--- Coefficients in one number, eight bits each, the first in the lowest
+-- Coefficients in one number, with eight bits for each. The first is in the lowest bits
 abbrev pub packed : List ℕ → ℕ
 packed [] = 0
 packed (b ∷ bs) = packed bs * 2 ^ 8 + b
@@ -25,12 +25,12 @@ zero_register = record { low = 0; high = 0 }
 abbrev pub divisor_of : ℕ → List ℕ
 divisor_of n = drop 1 (generator_of n)
 
--- Register f of the 16, for each f below `bound`, holds g times f * 2^shift
+-- There are 16 registers. For each f below `bound`, register f holds the product of g and the element f * 2^shift
 pub record HasMultiples (g : List ℕ) (shift bound : ℕ) (rows : List Register) : Type 0 where
   pub many : length rows ≡ 16
   pub each : (f : ℕ) → f < bound → value_of (slice_index_or rows f zero_register) ≡ packed (scaled (f * 2 ^ shift) g)
 
--- The number v is the n error correction codewords of d, packed
+-- The number v holds the n error correction codewords of d, packed
 pub record IsHeld (d : List ℕ) (n v : ℕ) : Type 0 where
   pub items : List ℕ
   pub correction : IsCorrection d n items

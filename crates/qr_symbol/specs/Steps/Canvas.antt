@@ -1,5 +1,4 @@
--- What a canvas, the squares from which symbols are made, has outside the region: the same for all symbols of version
--- `v`.
+-- What the squares of a canvas have outside the region. It is the same for all symbols of version `v`.
 use Rattle.std.specs.Prelude.{◌≡◌, ℕ, ◌<◌, false}
 use Rattle.qr_layout.specs.Version.{side_of}
 use Rattle.qr_layout.specs.Region.{is_in_region}

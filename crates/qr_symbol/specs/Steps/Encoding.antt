@@ -15,7 +15,7 @@ pub record IsFit (smallest : ℕ) (l : Level) (rule : Rule) (i : Interpretation)
   pub version : IsVersion smallest l rule i x v
   pub chosen : IsLeastSegmentation i v rule x characters segments
 
--- The result is a fault exactly if `encode` has to return it.
+-- The result is a fault exactly if `encode` has to return this fault.
 pub record IsRefusedExactly {X : Type 0} (smallest : ℕ) (l : Level) (rule : Rule) (i : Interpretation) (x : List ℕ) (r : Result X EncodeFault) : Type 0 where
   pub empty : (r ≡ Err fault.Empty) ↔ (x ≡ [])
   pub too_long : (r ≡ Err fault.TooLong) ↔ ((r ≢ Err fault.Memory) × HasNoVersion smallest l rule i x)

@@ -1,10 +1,11 @@
--- The list into which the error correction codewords are computed, block after block.
+-- The list to which the error correction codewords of the blocks are appended, one block after the other.
 use Rattle.std.specs.Prelude.{◌≡◌, ℕ, ◌<◌, List, length}
 use Rattle.qr_field.specs.Polynomial.{IsCorrection}
 use Rattle.qr_layout.specs.declared.blocks.Blocks.{Blocks}
 use Rattle.qr_symbol.specs.Interleaving.{start_of, correction_sizes, block_of, part_of}
 
--- The error correction codewords of the first `blocks` blocks, one block after the other, for the data codewords `d`.
+-- `xs` are the error correction codewords of the first `blocks` blocks, one block after the other, if `d` are the data
+-- codewords of all blocks.
 pub record IsChecks (b : Blocks) (d : List ℕ) (blocks : ℕ) (xs : List ℕ) : Type 0 where
   pub long : length xs ≡ start_of (correction_sizes b) blocks
   pub each : (i : ℕ) → i < blocks → IsCorrection (block_of b d i) b.ec_len (part_of (correction_sizes b) xs i)

@@ -8,14 +8,14 @@ use Rattle.qr_layout.specs.Role.{role_of}
 use Rattle.qr_matrix.specs.BitRow.{has_bit}
 use Rattle.qr_matrix.specs.Grid.{Grid, colour, IsSquare}
 
--- The colour by the role of the module; the region counts as light.
+-- The colour of a module by its role. A module of the region counts as light.
 unfoldable pub fixed_colour : ℕ → ℕ → Role → Bool
 fixed_colour format version (Fixed dark) = dark
 fixed_colour format version (FormatBit i) = has_bit format i
 fixed_colour format version (VersionBit i) = has_bit version i
 fixed_colour format version Region = false
 
--- As `fixed_colour`, with the role that the place has in version `v`.
+-- The colour of the module in row `r` and column `c` of version `v`. A module of the region counts as light.
 abbrev pub paint_of : ℕ → ℕ → ℕ → ℕ → Bool
 paint_of v format r c = fixed_colour format (version_word_of v) (role_of v r c)
 
@@ -24,21 +24,21 @@ pub record IsOver (s : ℕ) (test paint other : ℕ → ℕ → Bool) (g : Grid)
   pub square : IsSquare s g
   pub colours : (r c : ℕ) → r < s → c < s → colour g r c ≡ (if test r c then paint r c else other r c)
 
--- The place is in the eight by eight modules from row `top` and column `left` on.
+-- The place is in the eight by eight modules whose top left one is in row `top` and column `left`.
 abbrev pub is_in_block : ℕ → ℕ → ℕ → ℕ → Bool
 is_in_block top left r c = nat_le top r && nat_lt r (top + 8) && nat_le left c && nat_lt c (left + 8)
 
--- The format information in which only bit 7 is 1. The transposed dark module lies on a module of this bit, which is
--- dark too, and all other bits are light, so transposing changes nothing outside the region.
+-- The format information in which only bit 7 is 1. With it, transposing a symbol changes nothing outside the region:
+-- the dark module and a module of bit 7, which is dark too, are exchanged.
 abbrev pub symmetric_format : ℕ
 symmetric_format = 128
 
--- Module `at` of row 6, or of column 6, is dark: the seven at each end belong to finder patterns, and between them
--- those with an even index are dark.
+-- Module `at` of row 6, or of column 6, is dark; `s` is the side. The seven modules at each end belong to finder
+-- patterns, and are dark. Between them, those with an even index are.
 abbrev pub is_dark_in_six : ℕ → ℕ → Bool
 is_dark_in_six s at = nat_lt at 7 || nat_le (s - 7) at || at % 2 == 0
 
--- The colour after the format information was drawn over `other`.
+-- The colour of a module after the format information was drawn. `other` is its colour before.
 unfoldable pub format_or : ℕ → Role → Bool → Bool
 format_or format (Fixed dark) other = other
 format_or format (FormatBit i) other = has_bit format i

@@ -1,9 +1,10 @@
--- The colours after each step of drawing the codewords `cw` in version `v`. Their bits are numbered; bit 0 is the
--- highest of the first codeword.
+-- The colours after each step of drawing the codewords `cw` in version `v`. Their bits are numbered from 0, and bit 0
+-- is the highest bit of the first codeword.
 --
--- `x` is a strip, and `first` the number of its first bit. Its rows are counted in the direction in which it is filled,
--- and `s` is the side. `y` and `region` are its two columns, as rows of a transposed square, and so are `before` and
--- `after` if they are no squares. In `region` exactly the region is set.
+-- `x` is a strip, and `first` the number of its first bit. Its rows are counted from 0 in the direction in which it is
+-- filled. `s` is the side of the symbol. `y` and `region` are the two columns of the strip, as rows of a transposed
+-- square, and in `region` exactly the bits of the region are set. `before` and `after` are two columns too, but in
+-- `IsStripDrawn` they are squares.
 use Rattle.std.specs.Prelude.{◌≡◌, ◌<◌, ◌≤◌, ℕ, ◌+◌, ◌-◌, ◌&&◌, Bool, false, true, if◌then◌else◌, List}
 use Prim.Native.Nat.{zero, suc}
 use Rattle.qr_layout.specs.declared.level.Level.{Level}
@@ -20,12 +21,12 @@ use Rattle.qr_symbol.specs.Mask.{inverts, inverted}
 use Rattle.qr_symbol.specs.Steps.{Patterns.{format_or, paint_of, symmetric_format}, Spans.row_of}
 use Rattle.qr_matrix.specs.Penalty.{penalty_of}
 
--- In the region the colour of the module's bit, elsewhere `other r c`.
+-- The colour of the module's bit in the region, and `other r c` elsewhere.
 unfoldable pub placed_colour : ℕ → List ℕ → (ℕ → ℕ → Bool) → ℕ → ℕ → Bool
 placed_colour v cw other r c =
     if is_in_region v r c then codeword_bit cw (index_of v (record { row = r; col = c })) else other r c
 
--- As `placed_colour`, but inverted where the mask inverts.
+-- As `placed_colour`, but the bit is inverted where the mask inverts.
 unfoldable pub walked_colour : ℕ → List ℕ → ℕ → (ℕ → ℕ → Bool) → ℕ → ℕ → Bool
 walked_colour v cw mask other r c =
     if is_in_region v r c then inverted (inverts mask r c) (codeword_bit cw (index_of v (record { row = r; col = c }))) else other r c
@@ -40,7 +41,7 @@ number_at v x first zero = first
 number_at v x first (suc k) =
     number_after (is_in_region v (row_of (side_of v) x k) (x.right - 1)) (number_after (is_in_region v (row_of (side_of v) x k) x.right) (number_at v x first k))
 
--- From row `k` of the strip on, the region is light in the columns `y`.
+-- In row `k` of the strip and the rows after it, all modules of the region are light in the columns `y`.
 abbrev pub AreLight : ℕ → Strip → ℕ → Columns → Columns → Type 0
 AreLight s x k region y = (rank : ℕ) → k ≤ rank → rank < s
     → ((has region.right (row_of s x rank) && has y.right (row_of s x rank)) ≡ false) × ((has region.left (row_of s x rank) && has y.left (row_of s x rank)) ≡ false)
@@ -54,7 +55,7 @@ abbrev pub AreWhole : ℕ → Strip → ℕ → ℕ → Type 0
 AreWhole v x k n = (j : ℕ) → k ≤ j → j < k + n
     → (is_in_region v (row_of (side_of v) x j) x.right ≡ true) × (is_in_region v (row_of (side_of v) x j) (x.right - 1) ≡ true)
 
--- The columns `x` show where the region is, in the strip whose right column has the index `right`.
+-- The columns `x` of the strip, whose right column has the index `right`, are set exactly in the region.
 abbrev pub IsRegion : ℕ → ℕ → Columns → Type 0
 IsRegion v right x = (row : ℕ) → row < side_of v → (has x.right row ≡ is_in_region v row right) × (has x.left row ≡ is_in_region v row (right - 1))
 
@@ -71,7 +72,8 @@ pub record AreDrawn (v : ℕ) (cw : List ℕ) (x : Strip) (first k n : ℕ) (bef
       → IsRowDrawn v cw x first j (has before.right (row_of (side_of v) x j)) (has before.left (row_of (side_of v) x j)) (has after.right (row_of (side_of v) x j)) (has after.left (row_of (side_of v) x j))
   pub kept : (row : ℕ) → ((j : ℕ) → k ≤ j → j < k + n → row_of (side_of v) x j ≡ row → ⊥) → (has after.right row ≡ has before.right row) × (has after.left row ≡ has before.left row)
 
--- Drawing the strip changes the transposed square `before` to `after`; the bit after it has the number `next`.
+-- Drawing the strip changes the transposed square from `before` to `after`. The bit after the strip has the number
+-- `next`.
 pub record IsStripDrawn (v : ℕ) (cw : List ℕ) (x : Strip) (first : ℕ) (before : Grid) (next : ℕ) (after : Grid) : Type 0 where
   pub number : next ≡ number_at v x first (side_of v)
   pub square : IsSquare (side_of v) after
@@ -79,11 +81,13 @@ pub record IsStripDrawn (v : ℕ) (cw : List ℕ) (x : Strip) (first : ℕ) (bef
       → IsRowDrawn v cw x first j (colour before x.right (row_of (side_of v) x j)) (colour before (x.right - 1) (row_of (side_of v) x j)) (colour after x.right (row_of (side_of v) x j)) (colour after (x.right - 1) (row_of (side_of v) x j))
   pub kept : (row col : ℕ) → row < side_of v → col < side_of v → (col ≡ x.right → ⊥) → (col ≡ x.right - 1 → ⊥) → colour after col row ≡ colour before col row
 
--- The colour after `plain` was masked where `region` is dark, and the format information, a number, was drawn.
+-- The colour after two steps: `plain` was masked where `region` is dark, and then the format information, the number
+-- `format`, was drawn.
 unfoldable pub masked_colour : ℕ → ℕ → ℕ → Grid → Grid → ℕ → ℕ → Bool
 masked_colour v format mask region plain r c = format_or format (role_of v r c) (inverted (colour region r c && inverts mask r c) (colour plain r c))
 
--- The square of these colours, with the format information of level `l` and mask `mask`.
+-- The square with the colours that `masked_colour` defines, and with the format information of level `l` and mask
+-- `mask`.
 abbrev pub masked_grid : ℕ → Level → ℕ → Grid → Grid → Grid
 masked_grid v l mask region plain = square (side_of v) (masked_colour v (format_word_of l mask) mask region plain)
 
@@ -95,6 +99,6 @@ region_grid v = square (side_of v) (is_in_region v)
 abbrev pub plain_grid : ℕ → List ℕ → Grid
 plain_grid v cw = square (side_of v) (placed_colour v cw (paint_of v symmetric_format))
 
--- The penalty of this square.
+-- The penalty of `masked_grid`.
 abbrev pub masked_penalty : ℕ → Level → Grid → Grid → ℕ → ℕ
 masked_penalty v l region plain mask = penalty_of (side_of v) (colour (masked_grid v l mask region plain))

@@ -1,5 +1,6 @@
--- The rows of a strip, and its spans. `s` is the side of the symbol, `x` the strip, and `region` are its columns, in which
--- exactly the bits of the region are set. Rows of a strip are counted in the direction in which it is filled.
+-- The rows of a strip, and its spans. `s` is the side of the symbol, and `x` the strip. `region` are the columns of the
+-- strip, in which exactly the bits of the region are set. Rows of a strip are counted from 0 in the direction in which
+-- it is filled.
 use Rattle.std.specs.Prelude.{◌≡◌, ◌<◌, ◌≤◌, ℕ, ◌+◌, ◌-◌, ◌%◌, ◌&&◌, ◌||◌, false, true, not, if◌then◌else◌, Option, MatchOption}
 use Rattle.qr_layout.specs.declared.strips.Strip.{Strip}
 use Rattle.qr_matrix.specs.BitRow.{has}
@@ -13,7 +14,7 @@ row_of s x rank = if x.upward then s - 1 - rank else rank
 abbrev pub top_row : ℕ → Strip → ℕ → ℕ → ℕ
 top_row s x k n = if x.upward then s - n - k else k
 
--- No bit outside the square is set.
+-- In the two columns no bit is set from row `s` on, where the symbol ends.
 abbrev pub AreWithin : ℕ → Columns → Type 0
 AreWithin s x = (row : ℕ) → s ≤ row → (has x.right row ≡ false) × (has x.left row ≡ false)
 
@@ -27,7 +28,7 @@ abbrev pub AreWholeRows : ℕ → Strip → ℕ → ℕ → Columns → Type 0
 AreWholeRows s x k n region = (j : ℕ) → k ≤ j → j < k + n
     → (has region.right (row_of s x j) ≡ true) × (has region.left (row_of s x j) ≡ true)
 
--- No module of these rows is in the region.
+-- No module of the `n` rows of the strip from row `k` on is in the region.
 abbrev pub AreOutside : ℕ → Strip → ℕ → ℕ → Columns → Type 0
 AreOutside s x k n region = (j : ℕ) → k ≤ j → j < k + n
     → (has region.right (row_of s x j) ≡ false) × (has region.left (row_of s x j) ≡ false)
@@ -42,14 +43,14 @@ IsSpan s x region most k n (Left row) =
     (n ≡ 1) × (row ≡ row_of s x k) × (has region.right row ≡ false) × (has region.left row ≡ true)
 IsSpan s x region most k n Outside = (1 ≤ n) × AreOutside s x k n region
 
--- What holds of an iterator over the spans of a strip.
+-- What always holds of an iterator over the spans of a strip.
 pub record AreSpans (a : Spans) : Type 0 where
   pub rows : AreRegionRows a.region a.rows
   pub side : a.side ≤ 177
   pub some : 1 ≤ a.most
   pub passed : a.passed ≤ a.side
 
--- The iterator is over the spans of this strip.
+-- The iterator goes over the spans of the strip `x`. A span `Both` has at most `limit` rows.
 pub record AreSpansOf (s : ℕ) (x : Strip) (columns : Columns) (limit : ℕ) (a : Spans) : Type 0 where
   pub side : a.side ≡ s
   pub strip : a.strip ≡ x

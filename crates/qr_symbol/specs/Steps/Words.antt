@@ -9,23 +9,24 @@ use Rattle.qr_matrix.specs.{BitRow.has_bit, Grid.is_same, Sums.all_below}
 abbrev pub partner : ℕ → ℕ → ℕ → ℕ
 partner steps mask i = if has_bit mask i then i + steps else if nat_le steps i && has_bit mask (i - steps) then i - steps else i
 
--- No bit of the mask has another one `steps` above it.
+-- No two bits that are set in the mask are `steps` places apart.
 unfoldable pub are_pairs : ℕ → ℕ → Bool
 are_pairs steps mask = all_below 64 (λ i. not (has_bit mask i && has_bit mask (i + steps)))
 
--- Each bit of a word is in the mask, or is `steps` above one that is, and none is both.
+-- Each of the 64 places is set in the mask, or is `steps` above a place that is set, but not both.
 unfoldable pub are_halves : ℕ → ℕ → Bool
 are_halves steps mask = all_below 64 (λ i. not (is_same (has_bit mask i) (nat_le steps i && has_bit mask (i - steps))))
 
--- Of `n` rows of a strip, row `j` from the top has this index in the direction in which the strip is filled.
+-- The index of row `j` among the `n` rows of a strip, counted in the direction in which the strip is filled. `j` is
+-- counted from the top.
 abbrev pub rank_in : ℕ → Bool → ℕ → ℕ
 rank_in n upward j = if upward then n - 1 - j else j
 
--- `bits` has the 64 bits from `number` on, the first as the highest.
+-- `bits` has the 64 bits of the codewords from bit `number` on, with the first as the highest.
 abbrev pub AreNext : List ℕ → ℕ → ℕ → Type 0
 AreNext cw number bits = (k : ℕ) → k < 64 → has_bit bits (63 - k) ≡ codeword_bit cw (number + k)
 
--- The bits of a collector, unless an allocation was refused.
+-- What a collector has collected: its bits, or `None` if an allocation was refused.
 abbrev pub Bits : Type 0
 Bits = Option (List Bool)
 
