@@ -110,6 +110,7 @@ module _ (margin : ℕ) (squares : List Grid) (text : List ℕ) (h : IsDrawingOf
       get_or-map-range_with_len (λ i. cond (is_in_boxes nums (i / w) (i % w)) 1 0) 0 (w * (w * n)) i i 0 within (omega arith)
       ∙ ((λ t. cond (is_in_boxes nums (div-mul-add (k * w + y) w x c t) (mod-mul-add (k * w + y) w x c t)) 1 0) ∙ ap (λ d. cond d 1 0) dark)
 
+  -- the canvas shows the squares with this margin
   shows : ShowsOn Svg wide (length squares) canvas margin squares
   unfolding is_dark_on wide
   shows = record {
@@ -126,6 +127,7 @@ module _ (margin : ℕ) (squares : List Grid) (text : List ℕ) (h : IsDrawingOf
   unfolding head_numbers
   height-is = sym (ap (λ l. get_or l 10 0) numbers)
 
+  -- the number of squares is the height of the document divided by its width
   count-is : length squares ≡ count_in Svg text
   unfolding high
   count-is =

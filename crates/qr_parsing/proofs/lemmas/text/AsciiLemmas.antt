@@ -76,6 +76,7 @@ module _ (kind : Drawing) (hash : Bool → Bool) (ascii : IsAscii kind hash)
       let e : (k * w + y) * (2 * w + 1) + 2 * x ≡ (k * w + y) * (w * 2 + 1) + (x * 2 + 0) = omega arith in
       rw e (cell-at (length squares) w w 2 cell size k y x 0 a b c (omega arith))
 
+  -- the width that is computed from the text is that of a raster
   width-is : wide ≡ width_in kind text
   unfolding whole
   width-is =
@@ -83,6 +84,7 @@ module _ (kind : Drawing) (hash : Bool → Bool) (ascii : IsAscii kind hash)
       let e = ap first_line text-is ∙ cells-newline (length squares) wide wide 2 cell size h.some (omega arith) (without 10 refl refl) in
       omega (arith, e, ascii.width text)
 
+  -- the number of squares that is computed from the text is that of the drawing
   count-is : length squares ≡ count_in kind text
   count-is =
       let w = wide-in in
@@ -94,6 +96,7 @@ module _ (kind : Drawing) (hash : Bool → Bool) (ascii : IsAscii kind hash)
       ∙ ap (λ z. length text / (z * (2 * z + 1))) width-is
       ∙ sym (ascii.count text)
 
+  -- the text shows the squares with this margin
   shows : ShowsOn kind wide (length squares) whole margin squares
   unfolding is_dark_on wide
   shows = record {
@@ -122,6 +125,7 @@ module _ (kind : Drawing) (hash : Bool → Bool) (ascii : IsAscii kind hash)
       ap (λ t. get_or t 14 0) text-is
       ∙ (ap (λ z. get_or whole z 0) (sym e) ∙ at 0 0 7 h.some (omega arith) (omega arith) ∙ ap (λ d. get_or (ascii_module (hash d)) 0 0) (separator-light margin squares kind text h))
 
+  -- the type that is computed from the text is `Ascii` if a space shows a light module, and otherwise `AsciiInverse`
   pub ascii-kind : kind_in text ≡ cond (eqb (get_or (ascii_module (hash false)) 0 0) 32) Ascii AsciiInverse
   ascii-kind =
       let w = wide-in in

@@ -121,6 +121,7 @@ module _ (margin : ℕ) (squares : List Grid) (text : List ℕ) (h : IsDrawingOf
   unfolding whole
   long = cells-length (length squares) ((wide + 1) / 2) wide 1 last size
 
+  -- the width that is computed from the text is that of a raster
   width-is : wide ≡ width_in Utf8 text
   unfolding whole
   width-is =
@@ -128,6 +129,7 @@ module _ (margin : ℕ) (squares : List Grid) (text : List ℕ) (h : IsDrawingOf
       let e = ap first_line cells-are ∙ cells-newline (length squares) ((wide + 1) / 2) wide 1 last size h.some (omega arith) newline in
       omega (arith, e)
 
+  -- the number of squares that is computed from the text is that of the drawing
   count-is : length squares ≡ count_in Utf8 text
   count-is =
       let w = wide-in in
@@ -140,6 +142,7 @@ module _ (margin : ℕ) (squares : List Grid) (text : List ℕ) (h : IsDrawingOf
       ∙ (λ i. sym (ap length cells-are ∙ long) i / sym e i)
       ∙ ap (λ z. length (cells_in text) / ((z + 1) / 2 * (z + 1))) width-is
 
+  -- the last bytes of the cells show the squares with this margin
   shows : ShowsOn Utf8 wide (length squares) whole margin squares
   unfolding is_dark_on wide last
   shows = record {

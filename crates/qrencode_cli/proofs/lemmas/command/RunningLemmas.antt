@@ -35,6 +35,7 @@ module _ (old mid new : Writer) (drawing : List ℕ) (f : Result (Unit {0}) Trou
     ended = rw e refl;
   }
 
+  -- if the flush succeeded, the drawing was written and flushed
   pub draws-whole : is_ok f ≡ true → Draws old new drawing (Ok tt)
   draws-whole is = record {
     ok = rw is at drawn-whole;
@@ -44,6 +45,7 @@ module _ (old mid new : Writer) (drawing : List ℕ) (f : Result (Unit {0}) Trou
     offered = rw e offered;
   }
 
+  -- if the flush failed, the result is a write fault
   pub draws-unflushed : is_ok f ≡ false → Draws old new drawing (Err fault.Write)
   draws-unflushed is = record {
     ok = tt;
