@@ -1,4 +1,5 @@
-"""Symbols of the library and squares with damage, each with what is wanted of it: the same on every machine."""
+"""Symbols of the library, and damaged forms of them. Each comes with the result that mending it should have. They are
+the same on every machine."""
 import random
 
 import squares

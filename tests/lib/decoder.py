@@ -1,5 +1,6 @@
-"""The blocks of error correction (ISO/IEC 18004:2015, 7.5 and Annex A): the field of 256 elements, the error correction
-codewords of a block, and a decoder by Berlekamp and Massey, Chien and Forney. It also takes places that were not read.
+"""Error correction of one block (ISO/IEC 18004:2015, 7.5 and Annex A): the field of 256 elements, the error correction
+codewords of a block, and a decoder by the algorithm of Berlekamp and Massey, Chien's search and Forney's formula.
+Codewords may be marked as not read.
 
 Nothing here is taken from the crates: neither code nor tables. tests/mended checks this file before it uses it."""
 import functools

@@ -1,4 +1,4 @@
-"""Wrong bodies, as the files crates/NAME/*/*.edit have them, and how they go into groups."""
+"""Reads wrong bodies from the files crates/NAME/*/*.edit, and divides them into groups."""
 import os
 import re
 

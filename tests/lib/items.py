@@ -1,5 +1,5 @@
-"""The functions, constants and tables of a crate, as tests/wrong_bodies needs them: the lines of each, its proof's folder,
-and what it may call. Files are read as `rt fmt` lays them out."""
+"""What tests/wrong_bodies has to know of the functions, constants and tables of a crate: the lines of each, its proof's
+folder, and what it may call. Files have to be laid out as `rt fmt` does it."""
 import glob
 import os
 import re

@@ -1,5 +1,5 @@
-"""The kit's compiler as the scripts call it themselves: where it is, the crates of the repository, and the arguments that `rt`
-passes it for a crate."""
+"""What the scripts need when they call the kit's compiler without `rt`: where it is, which crates the repository has,
+and which arguments `rt` passes it for a crate."""
 import functools
 import glob
 import os
@@ -48,8 +48,9 @@ class Repository:
         return os.path.exists(f"{self.rlib(name)}/format")
 
     def is_left_by_ci(self, name):
-        """Returns whether the library is the one that `rt ci` left in the last run of tests/all, and no file of its crate is
-        newer: out/proved_by_ci is as old as the start of that. (A library that `rt check` made has a stamp beside it.)"""
+        """Returns whether the library is the one that `rt ci` left in the last run of tests/all, and no file of its
+        crate is newer. The file out/proved_by_ci has the time at which that `rt ci` began. (A library that `rt check`
+        made has a file `stamp`.)"""
         begun = f"{self.top}/out/proved_by_ci"
         if not self.is_built(name) or not os.path.exists(begun) or os.path.exists(f"{self.folder(name)}/out/rlib/stamp"):
             return False

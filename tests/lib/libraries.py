@@ -1,4 +1,5 @@
-"""The library for C, built by both compilers and called from Python, and the counts of what was checked."""
+"""Builds the library for C by LLVM and by Rattle's own compiler, and calls it from Python. Also counts the checks of a
+script."""
 import ctypes
 import os
 import re

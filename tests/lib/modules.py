@@ -1,4 +1,5 @@
-"""The library as a WebAssembly module in Node, called as tests/lib/libraries.py calls the library for C."""
+"""Calls the library as a WebAssembly module in Node, by the same methods as those by which tests/lib/libraries.py calls
+the library for C."""
 import ctypes
 import json
 import struct

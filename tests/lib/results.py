@@ -1,4 +1,4 @@
-"""What earlier runs of tests/wrong_bodies refused, each with a sum of all that the verdict rests on."""
+"""Keeps the verdicts of earlier runs of tests/wrong_bodies, each with a checksum of all that it depends on."""
 import glob
 import hashlib
 import json

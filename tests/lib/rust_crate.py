@@ -1,4 +1,5 @@
-"""The crate for Cargo, rust/qrproved: its declarations beside those of the header, and its tests over the built library."""
+"""Tests the crate for Cargo, rust/qrproved: compares its declarations with those of the header, and runs its tests with
+the built library."""
 import os
 import re
 import shutil

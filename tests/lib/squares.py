@@ -1,8 +1,9 @@
-"""A model of symbols, apart from the crates (ISO/IEC 18004:2015, 6.3, 7.3 to 7.10): what each module of a square holds, the
-blocks of each version and level, and what a damaged square says. A square is a row of bytes, row by row, 1 for a dark
-module and 0 for a light one; a place is row times side plus column.
+"""A model of symbols that uses nothing of the crates (ISO/IEC 18004:2015, 6.3, 7.3 to 7.10). It says what each module
+of a square is for, which blocks a version and a level have, and what a damaged square contains. A square is here a
+sequence of bytes, row by row, 1 for a dark module and 0 for a light one. A place is a number: the row times the side,
+plus the column.
 
-The tables are typed from the standard. tests/mended checks them before it uses them."""
+The tables were typed from the standard. tests/mended checks them before it uses them."""
 import functools
 import operator
 from typing import NamedTuple, Optional

@@ -1,4 +1,4 @@
-"""What a check of a crate with wrong bodies said of each of them."""
+"""Finds in the output of a check what the prover said of each wrong body."""
 import os
 import re
 
@@ -66,7 +66,8 @@ class Said:
         return self.status == 3 and bool(LIMITS.search(self.output))
 
     def itself(self):
-        """Returns the names of what is refused, and not only since it calls what is."""
+        """Returns the names of the functions that are refused, without those that are refused only because they call
+        another one that is."""
         return [name for name, verdict in self.verdicts.items() if ITSELF.match(verdict)]
 
 
