@@ -96,7 +96,7 @@ fn symbol_of(
 ///
 /// # Errors
 ///
-/// The first of these that applies: `SETTINGS` (a number is out of range, or `rule` is 2 with another ECI than 20,
+/// The first of these that applies: `SETTINGS` (a number is out of range, or `rule` is 2 with an ECI other than 20,
 /// which is Shift JIS), `EMPTY` (`input` has no byte), `FIELDS` (in GS1 data a byte 1D comes directly before another or
 /// before `%`), `TOO_LONG` (the input fits no allowed version) and `ROOM` (`modules` is too short). `MEMORY` if memory
 /// is refused. No symbol holds more than 7,089 bytes. `SETTINGS`, `EMPTY`, `FIELDS`, and `TOO_LONG` for an input of

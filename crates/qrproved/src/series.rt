@@ -112,7 +112,7 @@ mod tests {
     use super::*;
     use std::test::Fail;
 
-    // In byte mode at version 1 and level H, the first of two symbols has five of eight letters.
+    // In byte mode at version 1 and level H, the first of two symbols contains five of the eight letters.
     #[test]
     fn eight_letters_at_1_h(rt: HostRuntime) -> Result<(), Fail> {
         let mut modules = [7u8; 884];

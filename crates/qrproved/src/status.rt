@@ -60,7 +60,8 @@ pub(crate) fn encode_status(fault: EncodeFault) -> u8
     }
 }
 
-// The fault `Series` never occurs here: only reading several symbols at once has it, and no call does that.
+// The fault `Series` never occurs here: only a function that reads several symbols at once returns it, and no call uses
+// that function.
 pub(crate) fn read_status(fault: ReadFault) -> u8
     ensures { result ≡ read_status fault }
 {
