@@ -50,6 +50,6 @@ command = with_rule (with_rule (with_rule (with_rule (with_rule (with_rule (with
 unfoldable pub rows_for : List Text → List Row
 rows_for words = matches_of command words
 
--- The kinds of fault that `clap` finds, none if it accepts the arguments [own]
+-- The kinds of fault that `clap` finds; there is none if it accepts the arguments [own]
 unfoldable pub faults_for : List Text → Kinds
 faults_for words = fault_of command words

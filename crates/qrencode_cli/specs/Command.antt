@@ -106,8 +106,8 @@ AllRead old new given = Consumes old.remaining new.remaining given
     × (old.counts ≡ no_reads → new.counts.given ≡ length given)
     × (old.counts ≡ no_reads → (new.counts.ends ≡ 1) ⊎ (length given ≡ INPUT_MAX))
 
--- The reader is unchanged if the run need not read it; otherwise it was read to its end or `INPUT_MAX` bytes, or a read
--- fault or lack of memory ended the run [own]
+-- The reader is unchanged if the run need not read it. Otherwise it was read to its end or to `INPUT_MAX` bytes, or a
+-- read fault or lack of memory ended the run [own]
 pub record InputConsumed {T : Type 0} (words : List Text) (old new : Reader) (given : List ℕ) (outcome : Result T Fault) : Type 0 where
   pub unread : (ReadsInput words → ⊥) → new ≡ old
   pub read : ReadsInput words → AllRead old new given ⊎ IsErrOf outcome fault.Read ⊎ IsErrOf outcome fault.Memory

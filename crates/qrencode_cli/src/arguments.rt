@@ -15,8 +15,8 @@ use clap::error::{Error, ErrorKind};
 use clap::{Arg, ArgAction, ArgMatches, Command};
 use std::alloc::{AllocError, Global};
 
-// An option: its name in the code, its letter, and what the help text shows of it, the name of its value and a line
-// about the option.
+// An option: its name in the code and its letter. The help text shows `value`, the name of the option's value, and
+// `help`, a line about the option.
 #[derive(Clone, Copy)]
 struct OptionText<'a> {
     id: &'a str,

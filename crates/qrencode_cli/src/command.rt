@@ -126,7 +126,7 @@ fn run_to_result<R: Source, W: Sink>(
 /// counted separately.
 ///
 /// An input is refused as too long only if its shortest encoding is too long for every allowed version. With `-S` it is
-/// refused for too many symbols only if it does not fit one and is cut into more than 16 parts.
+/// refused for too many symbols only if it does not fit one symbol and would be cut into more than 16 parts.
 ///
 /// A run that reads `input` reads it to its end or to 113,425 bytes, unless a read fault or lack of memory ends the
 /// run. It makes at most 114,424 reads: one for each byte, and 999 more. It makes no read after one that reached the
@@ -134,8 +134,9 @@ fn run_to_result<R: Source, W: Sink>(
 /// flush failed. After any fault `err` has taken at most as many bytes as the line has. No write of the drawing offers
 /// more than 1,200 bytes.
 ///
-/// What is said of bytes holds for devices whose bytes a contract can know. What is said of calls, faults and numbers
-/// of bytes holds for files, pipes and terminals too, if the counts of the device are 0 before the run.
+/// What is said here of the bytes themselves holds for devices whose bytes a contract can know. What is said of calls,
+/// faults and numbers of bytes also holds for files, pipes and terminals. It holds if the counts of the device are 0
+/// before the run.
 ///
 /// # Notes
 ///
