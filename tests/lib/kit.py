@@ -29,7 +29,8 @@ class Repository:
         return f"{self.folder(name)}/out/rlib/{name}.rlib"
 
     def below(self, name):
-        """Returns the repository's libraries that a crate uses, each once, after those that it uses."""
+        """Returns the libraries of the repository that a crate uses, each once. A library comes after those that it
+        uses itself."""
         return list(dict.fromkeys(it for used in self.uses[name] if used in self.uses for it in [*self.below(used), used]))
 
     def files(self, name):
@@ -38,8 +39,8 @@ class Repository:
         return sorted(it for it in files if os.path.isfile(it))
 
     def is_old(self, name, made):
-        """Returns whether one of the files that were built of a crate is missing, or older than a source of the crate or of one
-        that it uses. (A proof is no source: another one makes no other program.)"""
+        """Returns whether one of the files that are built from a crate is missing, or older than a source of the crate
+        or of a crate that it uses. (A proof is no source here, since the program does not depend on it.)"""
         files = [it for used in [name, *self.below(name)] for it in self.files(used) if "/proofs/" not in it]
         newest = max(map(os.path.getmtime, files))
         return not all(os.path.exists(it) and os.path.getmtime(it) >= newest for it in made)
