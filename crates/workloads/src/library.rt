@@ -284,8 +284,8 @@ fn add_mending(
 
 /// Takes symbols of versions 1 to 13, and every sixteenth time a full one of version 20 to 40. Each symbol is encoded,
 /// written as bytes, drawn as SVG and as UTF8, and read. Then it is mended four times: with one wrong codeword in each
-/// block, with half as many as can be mended, with as many as can be mended, and with a smudge. Each of these steps
-/// begins with the modules as bytes, as a call of the library does.
+/// block, with half as many as can be mended, with as many as can be mended, and with a smudge. Drawing, reading and
+/// mending begin with the modules as bytes, as the calls of the library do.
 pub fn library(
     alloc: Global,
     count: u64,
