@@ -52,8 +52,8 @@ def doc_above(lines, i):
 
 
 def read_functions(crate, path, functions):
-    """Adds a file's functions, and its types with ghost members: what their contracts cite, and what of it stands outside of
-    `requires` ("keeps")."""
+    """Adds a file's functions, and its types with ghost members. For each it adds what the contract cites, and what of
+    that is cited outside of `requires` ("keeps")."""
     text = path.read_text("utf-8").split("#[cfg(test)]")[0]
     names, lines, owner, of_trait, ghost = imported(text), text.split("\n"), None, False, {}
 
@@ -111,7 +111,7 @@ def read_key_words(definitions):
 
 
 def section_order(where):
-    """Returns what sections are sorted by: clauses by their numbers, then annexes by their letters."""
+    """Returns the key by which sections are sorted: clauses by their numbers, and then annexes by their letters."""
     clause, annex = re.match(r"[\d.]+", where), re.match(r"Annex(?:es)? (\w)", where)
     return ([int(n) for n in clause.group(0).split(".")] if clause else [99, ord(annex.group(1))], where)
 

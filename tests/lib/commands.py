@@ -1,4 +1,4 @@
-"""Commands of the program with inputs, the same on every machine: 200, with the types of drawing in turn."""
+"""200 commands of the program with their inputs, the same on every machine. The types of drawing take turns."""
 import hashlib
 
 COMMANDS = 200
@@ -34,7 +34,7 @@ def words_of(kind, level, margin, version, is_series, options):
 
 
 def command(k):
-    """Returns the words and the input of a command, of which some are faults."""
+    """Returns the arguments and the input of a command. Some of the commands are faults."""
     words = words_of(*settings(k))
     if k % 40 == 39:
         words += [["-t", "PNG"], ["-h"], ["-v", "41"], ["--", "-v"], ["a", "b"]][k // 40]

@@ -1,4 +1,5 @@
-"""Symbols of the library and squares with damage, each with what is wanted of it: the same on every machine."""
+"""Symbols of the library, and damaged forms of them. Each comes with the result that mending it should have. They are
+the same on every machine."""
 import random
 
 import squares
@@ -17,7 +18,7 @@ class Numbers:
         return int(self.random() * bound)
 
     def some(self, items, count):
-        """Returns so many of the items, each once."""
+        """Returns `count` of the items, each at most once."""
         items = list(items)
         for i in range(count):
             k = i + self.below(len(items) - i)
@@ -101,7 +102,7 @@ def far_word(numbers):
 
 
 def to_word(square, version, copy, word):
-    """Returns the modules that make a copy of the format information that word."""
+    """Returns the modules that have to be inverted so that a copy of the format information is this word."""
     return [place for i, place in enumerate(layout(version).formats[copy]) if square[place] != word >> i & 1]
 
 
@@ -123,12 +124,13 @@ class Case:
                         "remainder bits": at.remainder}
 
     def damaged(self, places, wrong_format_modules, changed_most):
-        """Returns the square with these modules inverted, and what is wanted of it."""
+        """Returns the square with these modules inverted, and the result that mending it should have."""
         return inverted(self.square, places), {**self.wanted, "wrong_modules": len(places),
                                                "wrong_format_modules": wrong_format_modules, "changed_most": changed_most}
 
     def codewords_wrong(self, *more):
-        """Returns modules that make as many codewords of each block wrong as can be mended; of the first, so many more."""
+        """Returns modules that make as many codewords of each block wrong as can be mended. In the first blocks as many
+        more are wrong as `more` lists."""
         blocks = [self.bound] * self.block_count
         for k, others in enumerate(more):
             blocks[k] += others
@@ -138,13 +140,15 @@ class Case:
         return self.damaged(self.codewords_wrong() + self.numbers.some(self.first, 3), 3, self.bound)
 
     def without_first_copy(self):
-        """The first copy is near to no word; three modules of the second are wrong, and all function patterns and the like."""
+        """The first copy is near to no format information, and three modules of the second are wrong. All function
+        patterns, version information and remainder bits are wrong too."""
         lost = to_word(self.square, self.version, 0, far_word(self.numbers))
         others = sum(self.outside.values(), [])
         return self.damaged(self.codewords_wrong() + lost + self.numbers.some(self.second, 3) + others, len(lost) + 3, self.bound)
 
     def by_a_wrong_first_copy(self):
-        """The first copy is near to a wrong word. If the blocks can be mended under that too, the decoder says what is wanted."""
+        """The first copy is near to the format information of another level or mask. If the blocks can be mended with
+        these too, the model says what is wanted."""
         codewords = self.codewords_wrong()
         level, mask = self.level, self.mask
         while (level, mask) == (self.level, self.mask):
@@ -159,8 +163,8 @@ class Case:
         return square, wanted
 
     def torn(self):
-        """A corner is torn off: its modules are not known, as many as can be mended. It has modules of one copy of the format
-        information at most, or modules of both that cost at most 13."""
+        """A corner is torn off, as large as can be mended: its modules are not known. It has modules of at most one
+        copy of the format information, or modules of both that cost at most 13."""
         at, last = layout(self.version), self.side - 1
         blocks = squares.blocks(self.version, self.level)
         block_of = {i: block for block, listed in enumerate(blocks) for i in listed}
@@ -177,8 +181,9 @@ class Case:
         return unread(self.square, places), {**self.wanted, "wrong_modules": len(places), "wrong_format_modules": of_format}
 
     def toward_another_level(self, copy):
-        """Nothing is wrong but the modules of a copy that make it near to the word of another level, with the same mask: of as
-        many blocks, if there is one, and then a weaker level mends them too. At most six modules are wrong in all."""
+        """Only modules of the format information are wrong, at most six. They make one copy near to the format
+        information of another level with the same mask. If there is a level with the same number of blocks, it is
+        taken: if it is weaker, the blocks can be mended with it too."""
         alike = [level for level in LEVELS if level != self.level
                  and squares.BLOCKS[level][self.version - 1] == self.block_count] or [it for it in LEVELS if it != self.level]
         word = format_word(self.level, self.mask) ^ format_word(self.numbers.one(alike), self.mask)
@@ -191,22 +196,24 @@ class Case:
         return self.damaged(self.codewords_wrong() + self.numbers.some(self.first + self.second, 6), 6, self.bound)
 
     def format_not_known(self):
-        """Of both copies k modules are not known and t others are wrong, with k + 2t = 13; codewords are wrong to the bound."""
+        """In both copies together k modules are not known and t others are wrong, with k + 2t = 13. As many codewords
+        are wrong as can be mended."""
         wrong = self.numbers.below(7)
         places = self.numbers.some(self.first + self.second, 13 - wrong)
         square, wanted = self.damaged(self.codewords_wrong() + places[:wrong], 13 - wrong, self.bound)
         return unread(square, places[wrong:]), {**wanted, "wrong_modules": wanted["wrong_modules"] + 13 - 2 * wrong}
 
     def one_more(self):
-        """One more codeword of a block is wrong: what the decoder says is wanted."""
+        """One more codeword of a block is wrong than can be mended. The model says what is wanted."""
         more = [0] * self.block_count
         more[self.numbers.below(self.block_count)] = 1
         square = inverted(self.square, self.codewords_wrong(*more) + self.numbers.some(self.first, 3))
         return square, reading(square, self.version)
 
     def nearer_to_another(self):
-        """One more codeword of a block is wrong, such that as many as can be mended make it another message. There is none
-        if codewords are kept so that no block is mended to another one, or if their number is odd."""
+        """One more codeword of a block is wrong than can be mended, and as many other changes as can be mended make it
+        another message. There is no such damage if some codewords are kept for detection, or if the number of error
+        correction codewords is odd."""
         n = squares.correction_len(self.version, self.level)
         if 2 * self.bound != n:
             return None
@@ -231,8 +238,8 @@ class Case:
         return square, wanted
 
     def not_known(self, more=0):
-        """In each block some codewords have modules that are not known, and others are wrong: as many as can be mended. In the
-        first block, so many more are not known."""
+        """In each block some codewords have modules that are not known, and others are wrong, as many as can be mended.
+        In the first block `more` codewords more have modules that are not known."""
         region, wrong, unknown, most = layout(self.version).region, {}, [], 0
         for k, block in enumerate(squares.blocks(self.version, self.level)):
             count = self.numbers.below(self.bound + 1)
@@ -245,7 +252,8 @@ class Case:
         return unread(square, unknown), {**wanted, "wrong_modules": wanted["wrong_modules"] + len(unknown)}
 
     def one_more_not_known(self):
-        """One more codeword of the first block has modules that are not known: what the decoder says is wanted."""
+        """One more codeword of the first block has modules that are not known than can be mended. The model says what
+        is wanted."""
         square, _ = self.not_known(1)
         return square, reading(square, self.version)
 

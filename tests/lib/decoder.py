@@ -1,5 +1,6 @@
-"""The blocks of error correction (ISO/IEC 18004:2015, 7.5 and Annex A): the field of 256 elements, the error correction
-codewords of a block, and a decoder by Berlekamp and Massey, Chien and Forney. It also takes places that were not read.
+"""Error correction of one block (ISO/IEC 18004:2015, 7.5 and Annex A): the field of 256 elements, the error correction
+codewords of a block, and a decoder by the algorithm of Berlekamp and Massey, Chien's search and Forney's formula.
+Codewords may be marked as not read.
 
 Nothing here is taken from the crates: neither code nor tables. tests/mended checks this file before it uses it."""
 import functools
@@ -60,7 +61,7 @@ def generator(n):
 
 @functools.lru_cache(None)
 def multiples(n):
-    """Returns the product of each element with the generator but for its highest power, each as one number."""
+    """Returns the product of each element with the generator without its highest power. Each product is one number."""
     return [int.from_bytes(bytes(generator(n)[1:]).translate(TIMES[a]), "big") for a in range(256)]
 
 
@@ -75,7 +76,8 @@ def correction(data, n):
 
 
 def syndromes(block, n):
-    """Returns the values of a block at 2^0 to 2^(n - 1): all are 0 exactly if its codewords fit together."""
+    """Returns the values of a block's polynomial at 2^0 to 2^(n - 1). All are 0 exactly if the block is one of the
+    code."""
     result = []
     for i in range(n):
         times, at = TIMES[POWERS[i]], 0
@@ -110,9 +112,9 @@ def locator(found, unread):
 
 
 def mended(block, n, spent, unread=()):
-    """Returns the one block whose codewords fit together and which differs from `block` in the places `unread`, and in so
-    many other places that twice these and the places that are not read are at most `spent`; or None. `spent` is at most n,
-    the number of error correction codewords."""
+    """Returns the block of the code that differs from `block` only in the places `unread` and in few other places, or
+    None. Twice the number of the other places, plus the number of unread places, is at most `spent`, so there is at
+    most one such block. `spent` is at most n, the number of error correction codewords."""
     found = syndromes(block, n)
     if len(unread) > spent:
         return None

@@ -1,8 +1,9 @@
-/* Parses drawings by the library, for tests/library: drawings WHAT COUNT
+/* Lets the library parse drawings, for tests/library: drawings WHAT COUNT
  *
- * whole: drawings of symbols of all versions, levels and types, with margins from 0 to 100, and of series of up to 16 symbols; each
- * shows the squares that were drawn. changed: drawings with one to four changes; each is refused, or it is the drawing of exactly what
- * is returned, since that is drawn again. Prints how many there were, or the first that is otherwise. */
+ * WHAT is `whole` or `changed`. `whole` draws symbols of all versions, levels and types, with margins from 0 to 100,
+ * and series of up to 16 symbols. Parsing has to find the squares that were drawn. `changed` makes one to four changes
+ * in each drawing. The text has to be refused, or has to be the drawing of what is returned, which is drawn again to
+ * see that. Prints how many drawings there were, or the first that fails. */
 #include "qrproved.h"
 #include <stdio.h>
 #include <stdlib.h>

@@ -1,4 +1,4 @@
-"""Wrong bodies, as the files crates/NAME/*/*.edit have them, and how they go into groups."""
+"""Reads wrong bodies from the files crates/NAME/*/*.edit, and divides them into groups."""
 import os
 import re
 
@@ -9,7 +9,8 @@ MOST = 40
 
 
 class Edit:
-    """A wrong body of a crate: the functions that it touches, and whether it changes more than bodies (`is_wide`)."""
+    """A wrong body of a crate. It knows which functions it touches, and whether it changes more than bodies
+    (`is_wide`)."""
 
     def __init__(self, items, file):
         self.items, self.name = items, os.path.basename(file)[:-len(".edit")]
@@ -88,20 +89,21 @@ class Edit:
 
 
 def clash(one, other):
-    """Returns whether two wrong bodies touch one function. A caller may go with what it calls: it is proved over that contract,
-    and the prover says of a callee that it is not proved."""
+    """Returns whether two wrong bodies touch the same function. A function and one that it calls may be changed in one
+    group: the caller is proved with the contract of the other, and the prover says which of them is not proved."""
     return not set(one.touched).isdisjoint(other.touched)
 
 
 def clash_or_call(one, other):
-    """Returns whether two wrong bodies touch one function, or one touches what a function of the other may call."""
+    """Returns whether two wrong bodies touch the same function, or one touches what a function of the other may
+    call."""
     return clash(one, other) or any(
         it in mine.items.reach(that) for mine, its in ((one, other), (other, one)) for that in mine.touched for it in its.touched)
 
 
 def groups_of(edits, apart=clash):
-    """Returns wrong bodies in few groups without two that are to be apart, made from those that clash with most, and those that
-    go alone."""
+    """Returns few groups of wrong bodies, and those that are tried alone. No two of a group may clash. Those that clash
+    with most others are put into groups first."""
     alone = [it for it in edits if it.is_wide or not it.touched]
     left = [it for it in edits if it not in alone]
     clashes = {it: sum(apart(it, other) for other in left if other is not it) for it in left}

@@ -1,4 +1,5 @@
-"""The glue of ports/, linked with calls of it (tests/lib/ports_calls.c), and glue of which some line is wrong."""
+"""Links the C files of ports/, the glue, with a program that calls them (tests/lib/ports_calls.c). Does the same with
+glue that has one wrong line."""
 import glob
 import subprocess
 

@@ -1,5 +1,5 @@
-"""The functions, constants and tables of a crate, as tests/wrong_bodies needs them: the lines of each, its proof's folder,
-and what it may call. Files are read as `rt fmt` lays them out."""
+"""What tests/wrong_bodies has to know of the functions, constants and tables of a crate: the lines of each, its proof's
+folder, and what it may call. Files have to be laid out as `rt fmt` does it."""
 import glob
 import os
 import re
@@ -13,7 +13,8 @@ WORD = re.compile(r"((?:\b\w+(?:::<[^>]*>)?::)|\.)?\b([A-Za-z_]\w*)\b")
 
 
 class Item:
-    """A function, a constant or a table: its lines from `first` to `last`, and `head`, the line before its body."""
+    """A function, a constant or a table. Its lines are those from `first` to `last`, and `head` is the line before its
+    body."""
 
     def __init__(self, kind, name, path, lines, owner, trait, text):
         self.is_function, self.name, self.path, self.owner, self.trait = kind == "fn", name, path, owner, trait
@@ -22,7 +23,8 @@ class Item:
         self.add_module(path[len("src/"):-len(".rt")])
 
     def add_module(self, module):
-        """Adds a module that the prover may name it by: a method is in the module of its type or in that of its own file."""
+        """Adds a module in which the prover may say that the item is: a method may be in the module of its type, or in
+        that of its own file."""
         parts = ("" if module in ("lib", "main") else module, (self.owner or "") + (self.trait or ""), self.name)
         self.modules = list(dict.fromkeys([*self.modules, module]))
         self.places = list(dict.fromkeys([*self.places, "/".join(it for it in parts if it)]))
@@ -93,8 +95,8 @@ class Items:
         self.reached = {}
 
     def named_by(self, item):
-        """Returns what the body of an item may call or name, or its proof cites: a method is that of each type that has one of
-        its name."""
+        """Returns what the body of an item may call or name, or what its proof cites. A method that is called may be
+        the one of each type that has a method of this name."""
         body, found = item.body(), []
         for before, word in WORD.findall(body):
             of = before.rstrip(":").split("::")[0]
@@ -107,7 +109,7 @@ class Items:
         return [it for it in dict.fromkeys(found) if it is not item]
 
     def reach(self, item):
-        """Returns all that an item may call or name, through others too, and the item."""
+        """Returns the item and all that it may call or name, also through others."""
         if item not in self.reached:
             seen, left = set(), [item]
             while left:
@@ -128,13 +130,14 @@ class Items:
         return os.path.dirname(path)[len("proofs/"):] in self.places
 
     def is_in_lemmas(self, name):
-        """Returns whether a definition or a lemma names this, so that a change of it bears on more than bodies."""
+        """Returns whether a definition or a lemma names this item, so that a change of the item affects more than
+        bodies."""
         texts = [*self.texts["specs"].items(), *(it for it in self.texts["proofs"].items() if not self.is_of_function(it[0]))]
         return any(re.search(rf"\b{name}\b", text) for _, text in texts)
 
 
 def is_meant(named, user, before, of):
-    """Returns whether a word with what stands before it may mean the item of that name."""
+    """Returns whether a word, with what comes before it, may mean the item of this name."""
     if before == ".":
         return named.owner is not None and named.is_function
     if of == "Self":

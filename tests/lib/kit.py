@@ -1,5 +1,5 @@
-"""The kit's compiler as the scripts call it themselves: where it is, the crates of the repository, and the arguments that `rt`
-passes it for a crate."""
+"""What the scripts need when they call the kit's compiler without `rt`: where it is, which crates the repository has,
+and which arguments `rt` passes it for a crate."""
 import functools
 import glob
 import os
@@ -29,7 +29,8 @@ class Repository:
         return f"{self.folder(name)}/out/rlib/{name}.rlib"
 
     def below(self, name):
-        """Returns the repository's libraries that a crate uses, each once, after those that it uses."""
+        """Returns the libraries of the repository that a crate uses, each once. A library comes after those that it
+        uses itself."""
         return list(dict.fromkeys(it for used in self.uses[name] if used in self.uses for it in [*self.below(used), used]))
 
     def files(self, name):
@@ -38,8 +39,8 @@ class Repository:
         return sorted(it for it in files if os.path.isfile(it))
 
     def is_old(self, name, made):
-        """Returns whether one of the files that were built of a crate is missing, or older than a source of the crate or of one
-        that it uses. (A proof is no source: another one makes no other program.)"""
+        """Returns whether one of the files that are built from a crate is missing, or older than a source of the crate
+        or of a crate that it uses. (A proof is no source here, since the program does not depend on it.)"""
         files = [it for used in [name, *self.below(name)] for it in self.files(used) if "/proofs/" not in it]
         newest = max(map(os.path.getmtime, files))
         return not all(os.path.exists(it) and os.path.getmtime(it) >= newest for it in made)
@@ -48,8 +49,9 @@ class Repository:
         return os.path.exists(f"{self.rlib(name)}/format")
 
     def is_left_by_ci(self, name):
-        """Returns whether the library is the one that `rt ci` left in the last run of tests/all, and no file of its crate is
-        newer: out/proved_by_ci is as old as the start of that. (A library that `rt check` made has a stamp beside it.)"""
+        """Returns whether the library is the one that `rt ci` left in the last run of tests/all, and no file of its
+        crate is newer. The file out/proved_by_ci has the time at which that `rt ci` began. (A library that `rt check`
+        made has a file `stamp`.)"""
         begun = f"{self.top}/out/proved_by_ci"
         if not self.is_built(name) or not os.path.exists(begun) or os.path.exists(f"{self.folder(name)}/out/rlib/stamp"):
             return False

@@ -1,4 +1,5 @@
-"""The library for C, built by both compilers and called from Python, and the counts of what was checked."""
+"""Builds the library for C by LLVM and by Rattle's own compiler, and calls it from Python. Also counts the checks of a
+script."""
 import ctypes
 import os
 import re
@@ -48,7 +49,8 @@ def is_newer():
 
 
 def built(name, room):
-    """Builds the library by a compiler, copies it into a folder of `room`, and returns the folder; or None."""
+    """Builds the library by a compiler, copies it into a folder of `room`, and returns the folder, or None if building
+    fails."""
     out = f"{room}/{'llvm' if name == 'LLVM' else 'rattle'}"
     made = subprocess.run(["make", "-s", "-C", TOP, "lib", *BUILDS[name]], capture_output=True, timeout=LONG)
     check(f"{name}: make lib", (made.returncode, made.stderr[-300:] if made.returncode else b""), (0, b""))
@@ -145,13 +147,14 @@ class Library:
         return status or ([bytes(self.modules[k * area:(k + 1) * area]) for k in range(series.count)], series.side)
 
     def drawn(self, modules, side, count, drawing, margin, text, room):
-        """Draws into a buffer. Returns the status and the length that was told."""
+        """Draws into a buffer. Returns the status and the length that the call reports."""
         written = ctypes.c_size_t(MARK)
         status = self.library.qrproved_draw(modules, len(modules), side, count, drawing, margin, text, room, ctypes.byref(written))
         return STATUSES[status], written.value
 
     def drawing(self, squares, side, drawing, margin):
-        """Returns the drawing of squares; or why a call left no room for it, or wrote where it should not."""
+        """Returns the drawing of squares. If a call reports a wrong length, or writes where it should not, returns what
+        was wrong."""
         asked = b"".join(squares), side, len(squares), drawing, margin
         status, needed = self.drawn(*asked, None, 0)
         if status != "ROOM":
@@ -164,8 +167,8 @@ class Library:
         return bytes(text[:needed])
 
     def parsed(self, text):
-        """Returns the squares, their side, the number of the type and the margin; or the name of the status, and what the call
-        should have left as it was."""
+        """Returns the squares, their side, the number of the type and the margin. If the status is not 0, returns its
+        name, and says so if the call changed the struct."""
         drawn = Drawn(*[MARK] * 4)
         status = self.library.qrproved_parse_drawing(text, len(text), self.modules, len(self.modules), ctypes.byref(drawn))
         if status:
@@ -175,7 +178,8 @@ class Library:
         return [modules[k * area:(k + 1) * area] for k in range(drawn.count)], drawn.side, drawn.drawing, drawn.margin
 
     def told_ecis(self, count):
-        """Returns the ECI headers that a call wrote, each as the bytes before it and its number; or what it wrote too much."""
+        """Returns the ECI headers that a call wrote, each as the number of bytes before it and its own number. If the
+        call wrote past them, returns a text that says so."""
         others = bytes(self.ecis)[count * ctypes.sizeof(Eci):]
         return [(it.begin, it.number) for it in self.ecis[:count]] if others.count(MARK) == len(others) else "other ECI headers changed"
 
@@ -188,8 +192,8 @@ class Library:
         return status or (bytes(self.bytes[:content.len]), content, self.told_ecis(content.eci_count))
 
     def mended(self, modules, side, room=7089):
-        """Returns the fields of the struct and the bytes; or the name of the status, and what the call should have left
-        as it was."""
+        """Returns the fields of the struct and the bytes. If the status is not 0, returns its name, and says so if the
+        call changed a buffer or the struct."""
         mended = Mended()
         ctypes.memset(self.bytes, MARK, len(self.bytes))
         ctypes.memset(self.ecis, MARK, ctypes.sizeof(self.ecis))
@@ -205,9 +209,10 @@ class Library:
 
 
 def no_drawings(library):
-    """Returns texts that look like drawings and are none, each with the number of modules that it states, if it states any: drawings
-    of each type with a change, one of half blocks whose characters are shorter, the path of a document without what comes before
-    it, and a path on the largest canvas. Drawn again, that of half blocks and the path alone are longer."""
+    """Returns texts that look like drawings and are none, each with the number of modules that it states, or 0. They
+    are drawings of each type with a change, one of half blocks whose characters are shorter, the path of a document
+    without what comes before it, and a path on the largest canvas. If the text of half blocks or the path alone were
+    drawn again, the drawing would be longer than the text."""
     squares, side = library.encoded((b"7" * 7089, 40, "L", 0))
     *texts, document = (library.drawing(squares * 16, side, drawing, MARGIN) for drawing in range(4))
     width, path = side + 2 * MARGIN, document[document.index(b"M"):]

@@ -1,8 +1,9 @@
 /* Calls the library for tests/library: library_calls WHAT
  *
- * encode, encode_series, read, mend, draw, parse_drawing: one call, of which a growth of memory may be refused; says what came of it
- * edges: lengths of 0, and buffers that are just large enough; symbols with ECI headers and of GS1
- * threads: eight threads, each with the answers of one thread */
+ * WHAT is `encode`, `encode_series`, `read`, `mend`, `draw` or `parse_drawing` for one such call, in which a growth of
+ * memory may be refused. Then the program prints what came of the call. `edges` calls with lengths of 0, with buffers
+ * that are just large enough, and with symbols that have ECI headers or GS1 data. `threads` makes calls in eight
+ * threads, whose results have to be those of one thread. */
 #include "labels.h"
 #include "qrproved.h"
 #include <pthread.h>

@@ -1,4 +1,5 @@
-"""The library as a WebAssembly module in Node, called as tests/lib/libraries.py calls the library for C."""
+"""Calls the library as a WebAssembly module in Node, by the same methods as those by which tests/lib/libraries.py calls
+the library for C."""
 import ctypes
 import json
 import struct
@@ -23,8 +24,8 @@ def bytes_of(given, length):
 
 
 class Remote:
-    """The module's calls. With `left`, the engine lets a call have that many bytes and no more: for a module whose memory has a
-    maximum of `pages`."""
+    """The module's calls. If `left` is given, the engine gives a call at most that many bytes. The module's memory then
+    needs a maximum of `pages`."""
 
     def __init__(self, path, pages=None):
         words = ["node", f"{TOP}/tests/lib/wasm_calls.mjs", path, *([str(pages)] if pages else [])]

@@ -1,7 +1,7 @@
 /* Calls the glue of ports/ as compiled Rattle does, for tests/ports and tests/aarch64: ports_calls WORD..
  *
- * Each alignment that Rattle asks for, from 1 to 16, with each size that is a multiple of it; blocks that grow and shrink;
- * a block that malloc refuses; the words of this program; errno. */
+ * It tries each alignment that Rattle asks for, from 1 to 16, with sizes that are multiples of it. It tries blocks that
+ * grow and shrink, a block that malloc refuses, the arguments of this program, and errno. */
 #include <stdint.h>
 #include <stdio.h>
 #include <stdlib.h>

@@ -1,5 +1,5 @@
-"""The program that `make install` installs: it is built by ./qrencode for every x86-64 processor, beside the builds of `rt ci`.
-The variable PROGRAM names another one."""
+"""The path of the program that `make install` installs. ./qrencode builds it for every x86-64 processor; `rt ci` makes
+builds of its own. The environment variable PROGRAM can name another program."""
 import os
 
 TOP = os.path.dirname(os.path.dirname(os.path.dirname(os.path.realpath(__file__))))

@@ -1,4 +1,4 @@
-"""What earlier runs of tests/wrong_bodies refused, each with a sum of all that the verdict rests on."""
+"""Keeps the verdicts of earlier runs of tests/wrong_bodies, each with a checksum of all that it depends on."""
 import glob
 import hashlib
 import json
@@ -9,7 +9,8 @@ from kit import KIT
 
 
 def kit_sum(scripts):
-    """Returns a sum of these scripts and of the kit: its name, and the size and time of each file that a check reads."""
+    """Returns a checksum of these scripts and of the kit: of its name, and of the size and time of each file that a
+    check reads."""
     made = hashlib.sha256()
     for file in (*scripts, f"{KIT}/KIT-ID", *sorted(glob.glob(f"{KIT}/rlibs/*/format"))):
         with open(file, "rb") as it:
@@ -24,8 +25,9 @@ def kit_sum(scripts):
 
 
 def ground_of(repository, kit, name):
-    """Returns a sum of all that a verdict on a crate rests on but for the wrong body: the kit, the crate's line in crates.txt and
-    its files, and the libraries below it as they are built (the file `format` of such a library holds a sum of its files)."""
+    """Returns a checksum of all that a verdict on a crate depends on, without the wrong body. This is the kit, the
+    crate's line in crates.txt, its files, and the libraries below it as they are built. (The file `format` of such a
+    library holds a checksum of its files.)"""
     made = hashlib.sha256(repr((kit, name, repository.uses[name], name in repository.static)).encode())
     for file in [*repository.files(name), *(f"{repository.rlib(it)}/format" for it in repository.below(name))]:
         with open(file, "rb") as it:
@@ -49,7 +51,7 @@ class Results:
             pass
 
     def known(self, crate, edit, ground):
-        """Returns the verdict of an earlier run and its reason, if nothing that it rests on has changed."""
+        """Returns the verdict of an earlier run and its reason, if nothing that it depends on has changed."""
         found = self.found.get(f"{crate}/{edit.name}")
         return tuple(found[1:3]) if isinstance(found, list) and len(found) == 3 and found[0] == sum_of(ground, edit) else None
 

@@ -1,4 +1,5 @@
-"""The crate for Cargo, rust/qrproved: its declarations beside those of the header, and its tests over the built library."""
+"""Tests the crate for Cargo, rust/qrproved: compares its declarations with those of the header, and runs its tests with
+the built library."""
 import os
 import re
 import shutil
@@ -38,7 +39,7 @@ def declared():
 
 
 def of_rust_header(header):
-    """Compares the crate's declarations with those of the header, of which it does not use qrproved_version."""
+    """Compares the crate's declarations with those of the header. The crate does not declare qrproved_version."""
     calls, structs = declared()
     check("rust: the calls are the header's", calls, {name: it for name, it in header[0].items() if name != "qrproved_version"})
     check("rust: the structs are the header's", structs, header[1])
@@ -55,7 +56,7 @@ def tested(room, env):
 
 
 def of_rust(shared, room):
-    """Builds and tests the crate with the archive, and with the shared library as it is installed; and without a library, where
+    """Builds and tests the crate with the archive, and with the shared library as it is installed. Without a library
     the build has to fail."""
     if not shutil.which("cargo"):
         counts["skipped"] += CASES

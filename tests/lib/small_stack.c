@@ -1,9 +1,11 @@
 /* Makes calls of the library in threads with the smallest stack that glibc gives, for tests/library: small_stack WHAT
  *
- * WHAT is a call, which is then the first of the process, in which the loader also looks up the names that it uses; standard input
- * has the modules that it reads, mends or draws, or the drawing that it parses. Or it is `all`: every call in all versions, levels
- * and rules, on symbols sound and damaged, up to damage that is refused; encoding and reading with an ECI and of GS1 data, and with
- * boost; and reading and mending on other programs' symbols with ECI headers and of GS1. A thread whose stack is too small ends the process by a signal. */
+ * WHAT is the name of one call, or `all`. One call is then the first of the process, in which the loader also looks up
+ * the names that the call uses. Standard input has the modules that it reads, mends or draws, or the drawing that it
+ * parses. `all` makes every call in all versions, levels and rules. It reads and mends sound and damaged symbols, up to
+ * damage that is refused. It encodes and reads with an ECI, with GS1 data and with boost. It also reads and mends
+ * symbols of other programs that have ECI headers or GS1 data. If the stack of a thread is too small, a signal ends the
+ * process. */
 #include "labels.h"
 #include "qrproved.h"
 #include <pthread.h>

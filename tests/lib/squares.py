@@ -1,8 +1,9 @@
-"""A model of symbols, apart from the crates (ISO/IEC 18004:2015, 6.3, 7.3 to 7.10): what each module of a square holds, the
-blocks of each version and level, and what a damaged square says. A square is a row of bytes, row by row, 1 for a dark
-module and 0 for a light one; a place is row times side plus column.
+"""A model of symbols that uses nothing of the crates (ISO/IEC 18004:2015, 6.3, 7.3 to 7.10). It says what each module
+of a square is for, which blocks a version and a level have, and what a damaged square contains. A square is here a
+sequence of bytes, row by row, 1 for a dark module and 0 for a light one. A place is a number: the row times the side,
+plus the column.
 
-The tables are typed from the standard. tests/mended checks them before it uses them."""
+The tables were typed from the standard. tests/mended checks them before it uses them."""
 import functools
 import operator
 from typing import NamedTuple, Optional
@@ -61,7 +62,8 @@ CHARACTERS = b"0123456789ABCDEFGHIJKLMNOPQRSTUVWXYZ $%*+-./:"
 
 
 def bits_below(word, divisor):
-    """Returns the word with the remainder of its division by `divisor`, over bits, in as many low bits as that has."""
+    """Returns the word, and in its low bits the remainder of its division by `divisor`, as polynomials over the field
+    of two elements."""
     width = divisor.bit_length() - 1
     remainder = word << width
     while remainder.bit_length() > width:
@@ -125,7 +127,8 @@ class Layout:
         return colours
 
     def zigzag(self):
-        """Yields all places but those of the timing column, strip by strip of two columns, from the right, up and down."""
+        """Yields all places but those of column 6, strip by strip from the right. A strip has two columns. The strips
+        are read upwards and downwards in turn."""
         up = True
         for right in [*range(self.side - 1, 6, -2), 5, 3, 1]:
             for row in range(self.side - 1, -1, -1) if up else range(self.side):
@@ -183,7 +186,8 @@ def square_of(version, level, mask, codewords):
 
 @functools.lru_cache(None)
 def blocks(version, level):
-    """Returns for each block which codewords it has, in order, by their number in the symbol (7.6)."""
+    """Returns for each block the codewords that it has, in order. A codeword is its index in the final sequence
+    (7.6)."""
     count, n = BLOCKS[level][version - 1], CORRECTION[level][version - 1]
     short, longer = divmod(layout(version).total - count * n, count)
     tags = sorted((at, block) for block in range(count) for at in range(short + (block >= count - longer)))
@@ -196,17 +200,18 @@ def correction_len(version, level):
 
 
 def spendable(version, level):
-    """Returns how many error correction codewords of a block may be spent: two for a wrong codeword."""
+    """Returns how many error correction codewords of a block may be spent for correction. A misread codeword takes two,
+    and an erased one takes one."""
     return correction_len(version, level) - PROTECTION.get((version, level), 0)
 
 
 def allowed(version, level):
-    """Returns how many codewords of a block may be wrong."""
+    """Returns how many codewords of a block may be misread."""
     return spendable(version, level) // 2
 
 
 def interleaved(version, level, data):
-    """Returns all codewords of a symbol, of its data codewords."""
+    """Returns the final sequence of the symbol with these data codewords."""
     n, start = correction_len(version, level), 0
     result = bytearray(layout(version).total)
     for block in blocks(version, level):
@@ -381,20 +386,21 @@ def format_cost(given, version, level, mask):
 
 
 def formats_near(given, version):
-    """Returns the levels and masks that are near to a copy, with a cost of at most 6: the least cost of both copies first."""
+    """Returns the levels and masks for which one copy costs at most 6. They are sorted by the cost of both copies, the
+    least first."""
     costs = {(level, mask): format_cost(given, version, level, mask) for level in LEVELS for mask in range(8)}
     near = [it for copy in (0, 1) for it in costs if costs[it][copy] <= 6]
     return sorted(dict.fromkeys(near), key=lambda it: sum(costs[it]))
 
 
 def erased_in(square, version):
-    """Returns the numbers of the codewords that have a module that is not known: its byte is 2."""
+    """Returns the indices of the codewords that have a module that is not known, whose byte is 2."""
     return {k // 8 for k, place in enumerate(layout(version).region) if square[place] == 2}
 
 
 def mended_codewords(square, version, level, mask, erased=frozenset()):
-    """Returns the codewords of a square with each block mended, and how many were wrong in each without the erased ones; or
-    None."""
+    """Returns the codewords of a square with each block mended, and how many codewords of each block were misread,
+    without the erased ones. Returns None if a block cannot be mended."""
     received = codewords_of(square, version, mask)
     result, changed = bytearray(received), []
     for block in blocks(version, level):
@@ -420,8 +426,8 @@ def differences(a, b):
 
 
 def reading(given, version):
-    """Returns what a damaged square says, in the words of the library's struct; or the name of the status. A module is 0, 1, or
-    2 if it is not known."""
+    """Returns what a damaged square says, in the fields of the library's struct, or the name of the status. A module is
+    0, 1, or 2 if it is not known."""
     erased, square = erased_in(given, version), bytes(min(module, 1) for module in given)
     near = formats_near(given, version)
     if not near:

@@ -1,21 +1,22 @@
-"""What a check of a crate with wrong bodies said of each of them."""
+"""Finds in the output of a check what the prover said of each wrong body."""
 import os
 import re
 
-# Said where a proof rests on something that is not proved, and so nothing of the function itself.
+# What the prover says if a proof depends on something that is not proved. It shows nothing about the function itself.
 RESTS = re.compile(r"was not admitted|which was rejected|is not proved\b.*\bcalls|waits for|wait for a callee")
-# Said where a proof names what a change took away, which says nothing of the contract.
+# What the prover says if a proof names what a change took away. It shows nothing about the contract.
 NAMES = re.compile(r"(?:\./)?(?:proofs|specs)/\S+: error: (?:`[^`]*`|\([^)]*\)|[^`.;(])*?\b(?:has no field `|has no `|is not in scope)")
-# Said where a stored proof is of a goal that a change gave another name, as it does with a changed condition. The goal that came
-# in its place has no stored proof, so that it is not proved says nothing either, unless the prover knows that it is false.
+# What the prover says if a stored proof is of a goal that has another name after the change, as after a changed
+# condition. The goal that came in its place has no stored proof. That this goal is not proved shows nothing either,
+# unless the prover knows that it is false.
 RENAMED = re.compile(r"\S+: error: `[^`]*`: `goal\.[^`]*`: module `[^`]*` has no `")
 IS_FALSE = "allow values at which this goal is false"
-# Said where a goal is refused, or a proof cannot be read.
+# What the prover says if a goal is refused, or a proof cannot be read.
 REFUSES = re.compile(r"(?:\./)?(?:proofs|specs)/\S+:\d+:\d+: error|note: \S+?:\d+:\d+: (?:it is not proved that|`search` found no proof)")
-# A verdict on a function that is not only of what it calls.
+# A verdict on a function that is about the function itself, and not only about what it calls.
 ITSELF = re.compile(r"not proved$|not proved; (?!it (calls|waits))|no proof: (?!it calls)|could not tell")
 VERDICT = re.compile(r"(fn|impl|struct|enum|trait|law|const|static) (\S+): (.*)")
-# Limits of the prover's own, which it meets wherever it checks the same.
+# Limits that the prover sets itself, so that it meets them on each machine that checks the same.
 LIMITS = re.compile(r"antt ran out of (stack|the (steps|memory) that)|(outgrew the memory limit|stopped at the step limit) \(")
 
 
@@ -66,7 +67,8 @@ class Said:
         return self.status == 3 and bool(LIMITS.search(self.output))
 
     def itself(self):
-        """Returns the names of what is refused, and not only since it calls what is."""
+        """Returns the names of the functions that are refused, without those that are refused only because they call
+        another one that is."""
         return [name for name, verdict in self.verdicts.items() if ITSELF.match(verdict)]
 
 

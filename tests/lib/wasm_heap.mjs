@@ -1,6 +1,7 @@
 /**
- * Tries the heap of ports/wasm/heap.c, linked alone: node wasm_heap.mjs MODULE. Prints 'heap: as wanted', or the first fault.
- * Blocks are taken, grown and freed at random as compiled Rattle does, each filled with its own bytes; then the engine refuses.
+ * Tries the heap of ports/wasm/heap.c, linked alone: node wasm_heap.mjs MODULE. Prints 'heap: as wanted', or the first
+ * fault. Blocks are taken, grown and freed at random, as compiled Rattle does it. Each is filled with bytes of its own.
+ * At last the engine refuses more memory.
  */
 import fs from 'node:fs';
 import { limited } from './wasm_memory.mjs';

@@ -1,4 +1,4 @@
-//! Trials of `parse_drawing`, with drawings of a square of eight modules on a side, without a margin.
+//! Trials of `parse_drawing`. The drawings show one square of eight rows without a margin.
 
 use crate::answer::Answer;
 use qr_drawing::Drawing;

@@ -17,7 +17,7 @@ use std::alloc::{AllocError, Global};
 use std::env;
 use std::process::ExitCode;
 
-// The trials, those of a crate after those of the crates that it uses.
+// The names of the trials. The trials of a crate come after those of the crates that it uses.
 static NAMES: [&str; 35] = [
     "Matrix::new",
     "matrix_of_bytes",
@@ -98,7 +98,7 @@ fn trial(alloc: Global, name: &str) -> Result<Answer, AllocError> {
     }
 }
 
-// Runs a trial, and says whether the line with its result could be printed.
+// Runs a trial, and prints the line with its result. Says whether the line could be printed.
 fn tell(rt: &HostRuntime, name: &str) -> bool {
     let text = match trial(rt.alloc(), name) {
         Ok(answer) => answer.text(),

@@ -21,7 +21,8 @@ static SENT: [u8; 26] = [
     0xC4, 0x23, 0x27, 0x77, 0xEB, 0xD7, 0xE7, 0xE2, 0x5D, 0x17,
 ];
 
-// A dark module and a light one; below them one that is not known and a dark one.
+// A square of two rows. The first row has a dark module and a light one, and the second has one that is not known and a
+// dark one.
 static BYTES: [u8; 4] = [1, 0, 2, 1];
 
 static LETTERS: [u8; 8] = *b"ABCDEFGH";
@@ -115,7 +116,7 @@ pub fn deinterleaved(alloc: Global) -> Result<Answer, AllocError> {
     Ok(answer.given(sent.as_slice() == SENT.as_slice()))
 }
 
-// Three blocks of 8, 8 and 9 codewords, whose interleaving is the first 25 codewords of `SENT`.
+// Three blocks of 8, 8 and 9 codewords. Interleaved, they are the first 25 codewords of `SENT`.
 static GATHERED: [u8; 25] = [
     0x20, 0x78, 0xDC, 0x40, 0xEC, 0x11, 0x27, 0xD7, 0x5B, 0xD1, 0x4D, 0xEC, 0x11, 0xC4, 0x77, 0xE7,
     0x0B, 0x72, 0x43, 0x11, 0xEC, 0x23, 0xEB, 0xE2, 0x5D,

@@ -53,7 +53,8 @@ fn interrupted_too_often(rt: HostRuntime) -> Result<(), Fail> {
     Ok(())
 }
 
-// The reader returns a byte in a call, and fails at the first, the second or the third, which would reach the end.
+// The reader returns one byte in each call, and fails at its first, second or third call. The third call would reach
+// the end.
 #[test]
 fn readers_fail_in_turn(rt: HostRuntime) -> Result<(), Fail> {
     for call in 0..3u64 {
@@ -77,8 +78,8 @@ fn readers_fail_in_turn(rt: HostRuntime) -> Result<(), Fail> {
     Ok(())
 }
 
-// The writer takes at most 100 bytes in a call, and from call `call` on it fails or takes none. If the drawing needs at
-// most `call` writes, the command succeeds.
+// The writer takes at most 100 bytes in a call. From call `call` on, counted from 0, it fails or takes no byte. If the
+// drawing needs at most `call` writes, the command succeeds.
 #[test]
 fn writers_fail_in_turn(rt: HostRuntime) -> Result<(), Fail> {
     let want = drawing(rt.alloc())?;

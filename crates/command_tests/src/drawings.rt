@@ -27,7 +27,7 @@ fn symbol(alloc: Global) -> Result<Symbol, Fail>
     Ok(build_masked(alloc, version, Level::M, &CODEWORDS, 0)?)
 }
 
-// Draws the symbol of `symbol`.
+// Draws the symbol that `symbol` returns.
 fn one(alloc: Global, kind: Drawing, margin: u8) -> Result<Trial, Fail> {
     let symbols = [symbol(alloc)?];
     let mut out = Trial::writer(alloc, 8000, Faults::NONE)?;
@@ -149,8 +149,8 @@ fn svg_of_two_symbols(rt: HostRuntime) -> Result<(), Fail> {
     Ok(())
 }
 
-// Two runs of the first row are the dark ones of finder patterns, and the other is the light one after the first. For
-// each of them `run_end` returns the column after its last module.
+// The first row begins with the dark run of a finder pattern and a light run, and ends with the dark run of another
+// finder pattern. For each of these three runs `run_end` returns the column after its last module.
 #[test]
 fn runs_of_the_first_row(rt: HostRuntime) -> Result<(), Fail> {
     let symbol = symbol(rt.alloc())?;
@@ -201,8 +201,8 @@ fn by_words(rt: HostRuntime) -> Result<(), Fail> {
     Ok(())
 }
 
-// In trial `call` the writer takes at most 100 bytes in a call, and fails from call `call` on. In the last trial the
-// drawing needs fewer calls, so it succeeds. The writer has always accepted a prefix of the drawing.
+// In trial `call` the writer takes at most 100 bytes in a call, and fails from call `call` on, counted from 0. In the
+// last trial the drawing needs fewer calls, so it succeeds. The writer has always accepted a prefix of the drawing.
 #[test]
 fn writers_fail_in_turn(rt: HostRuntime) -> Result<(), Fail> {
     let symbols = [symbol(rt.alloc())?];
@@ -252,7 +252,8 @@ fn chessboard(alloc: Global) -> Result<Matrix, Fail> {
 }
 
 // Returns the sizes of the writes by which the chessboard is drawn. A writer that fails from call `call` on has
-// accepted what the calls before wrote, so one more such call shows the size of one more write.
+// accepted what the calls before it wrote. So the size of one write is the difference between what two such writers
+// accept, whose numbers `call` follow each other.
 fn sizes_of_writes(alloc: Global, kind: Drawing, margin: u8) -> Result<Vec<usize>, Fail> {
     let symbols = [chessboard(alloc)?];
     let mut sizes = Vec::new(alloc);
@@ -275,13 +276,13 @@ fn sizes_of_writes(alloc: Global, kind: Drawing, margin: u8) -> Result<Vec<usize
 }
 
 // A drawing is made in parts. Before each part the pen is written if it might have no room for the part among its 1,200
-// bytes. A line of text has three parts. The first is the left margin. The second is the columns of the symbol, without
-// the last ones if these are fewer than four. The third is those last columns, the right margin and the newline. A cell
+// bytes. A line of text has three parts. The first is the left margin. The second is the columns of the symbol, in
+// groups of four. The third is the columns that are left, at most three, with the right margin and the newline. A cell
 // has two bytes in ASCII, and at most three in UTF-8. An SVG document has a part of at most 300 bytes, then one of at
 // most 32 for each dark run, and then one of 11.
 //
-// A script computed the sizes from these rules. At some of these margins it computes other sizes if the pen is written
-// before a part that would just fit, or if the 32 is 31 or 33.
+// A script computed the sizes from these rules. If the pen were written before a part that would just fit, or if the 32
+// were 31 or 33, the script would compute other sizes at some of these margins.
 #[test]
 fn sizes_of_single_writes(rt: HostRuntime) -> Result<(), Fail> {
     let ascii = [

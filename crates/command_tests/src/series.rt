@@ -32,7 +32,7 @@ fn of_version_1_h(rt: HostRuntime) -> Result<(), Fail> {
     Ok(())
 }
 
-// The largest series in byte mode has 16 symbols 40-L of 2,951 bytes; one byte more is refused.
+// The largest series in byte mode has 16 symbols at 40-L with 2,951 bytes each. One byte more is refused.
 #[test]
 fn of_version_40_l(rt: HostRuntime) -> Result<(), Fail> {
     let letters = vec![in rt.alloc(); b'a'; 47_217]?;

@@ -234,7 +234,7 @@ fn contents(rt: HostRuntime) -> Result<(), Fail> {
 }
 
 // Says whether the data codewords mean these bytes and these ECI headers, each with the number of bytes before it. A
-// symbol of version 40 has 3,706 codewords, and no symbol has more.
+// symbol of version 40 has 3,706 codewords in all, and no symbol has more.
 fn means(
     rt: &HostRuntime,
     codewords: &[u8],

@@ -19,7 +19,7 @@ fn fields(rt: HostRuntime) {
     assert!(rt; may_write(b"\x1D\x1D%", Interpretation::Eci(26)), "an ECI");
 }
 
-// Says whether the input as GS1 data has these segments at version 1, and these characters in them.
+// Says whether the input, taken as GS1 data, has these segments at version 1, with these characters in them.
 fn is_cut(
     rt: &HostRuntime,
     input: &[u8],

@@ -164,7 +164,8 @@ fn runs_over_the_border_of_words(rt: HostRuntime) -> Result<(), Fail> {
     Ok(())
 }
 
-// Only the listed modules of two squares are dark, in which a row takes three words of 64 bits.
+// Only the listed modules of the two squares are dark. The squares have a side of 177, so a row takes three words of 64
+// bits.
 #[test]
 fn differences_are_counted(rt: HostRuntime) -> Result<(), Fail> {
     let rows = [
@@ -195,12 +196,12 @@ fn differences_are_counted(rt: HostRuntime) -> Result<(), Fail> {
     Ok(())
 }
 
-// The least side, sides of 16 and of 128 modules or nearly so many, and sides of versions, of which 65 is one more than
-// a word of 64 bits.
+// The least side, 16 and the sides next to it, 128, and the sides of four versions. One of these is 65, one module more
+// than a word of 64 bits holds.
 static SIDES: [u8; 9] = [1, 15, 16, 17, 21, 33, 65, 128, 177];
 
-// Returns in turn the byte of a dark module, which may be any number from 3 on, of a light one, and of one that is not
-// known.
+// Returns the byte of the module with the index `place`. In turn, a module is dark (any number from 3 on), light (0)
+// and not known (2).
 fn byte_at(place: usize) -> u8 {
     match place % 3 {
         0 => (place % 251) as u8 + 3,

@@ -8,7 +8,7 @@ enum Pattern {
     Light,
     Dark,
     Chequered,
-    // A window whose four light modules come last, in the first row, from this column on.
+    // A window in the first row, which begins at this column. Its four light modules come last.
     WindowFrom(u8),
 }
 

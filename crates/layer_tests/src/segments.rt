@@ -194,7 +194,7 @@ fn kanji(rt: HostRuntime) -> Result<(), Fail> {
 }
 
 // The numbers were worked out by hand. Three digits take at least 10 bits, two other bytes up to `Z` at least 11, and
-// two greater ones at least 13. The sum is rounded down.
+// two bytes greater than `Z` at least 13. The sum is rounded down.
 #[test]
 fn least_bits_of_inputs(rt: HostRuntime) -> Result<(), Fail> {
     let rows = [

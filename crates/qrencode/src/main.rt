@@ -28,7 +28,8 @@ fn command<R: Source, W: Sink, E: Sink>(
     ExitCode::from(run(alloc, words, input, out, err))
 }
 
-// If memory for the arguments is refused, or an argument is not valid UTF-8, it writes nothing and exits with status 1.
+// If memory for the arguments is refused, or an argument is not valid UTF-8, the program writes nothing and exits with
+// status 1.
 fn main(rt: HostRuntime) -> ExitCode {
     let words: Vec<String> = match env::args(&rt) {
         Ok(args) => match args.collect(rt.alloc()) {

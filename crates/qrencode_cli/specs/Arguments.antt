@@ -1,6 +1,6 @@
--- The command's arguments as rules of the crate `clap`, and what `clap` finds in a command line. `id` is the name by
--- which the code knows an option or the string, and `letter` is the number of an option's letter as a character.
--- `words` is the command line, which begins with the program's name.
+-- The command's arguments as rules of the crate `clap`, and what `clap` finds in a command line. `id` is the name of an
+-- option, or of the string, in the code. `letter` is the code point of an option's letter. `words` is the command line,
+-- which begins with the program's name.
 use Rattle.std.specs.Prelude.{ℕ, true, List, codes, Some, pos, slice_index, ℤ}
 use Rattle.clap.specs.Words.{Kinds, fault_of}
 use Rattle.clap.specs.Walk.{Row, Rule, Text}
@@ -28,7 +28,7 @@ positional_rule id = record (new_rule id) { value_names = 1 }
 abbrev pub flag_rule : Text → ℕ → Rule
 flag_rule id letter = record (new_rule id) { short = Some letter; action = Some SetTrue }
 
--- The letter of an option, from a text of this one character [own]
+-- The code point of an option's letter, from a text of this one letter [own]
 abbrev pub letter_of : Text → ℕ
 letter_of text = slice_index text 0
 
@@ -50,6 +50,6 @@ command = with_rule (with_rule (with_rule (with_rule (with_rule (with_rule (with
 unfoldable pub rows_for : List Text → List Row
 rows_for words = matches_of command words
 
--- The kinds of fault that `clap` finds, none if it accepts the arguments [own]
+-- The kinds of fault that `clap` finds; there is none if it accepts the arguments [own]
 unfoldable pub faults_for : List Text → Kinds
 faults_for words = fault_of command words

@@ -1,7 +1,8 @@
 -- What a run of the command draws, and what it does to its reader, standard output and standard error. `words` are the
 -- arguments, of which the first is the program's name, `s` the settings, and `given` the bytes that the reader
--- returned. A device is `old` (`in0`, `out0`, `err0`) before the run, and `new` (`in1`, `out1`, `err1`) after it; what
--- is said of its counts holds if they were 0 before.
+-- returned. A device is `old` before the run and `new` after it; in definitions of all three devices it is `in0`,
+-- `out0` or `err0` before, and `in1`, `out1` or `err1` after. What is said of a device's counts holds if they were 0
+-- before the run.
 use Rattle.std.specs.Prelude.{◌≡◌, ◌↔◌, ◌≤◌, ◌<◌, ◌+◌, ◌⊎◌, ℕ, List, [], length, take, max, None, IfErr, IsErrOf, IsTrue, MatchResult, Result, Ok, Err, is_ok, Bool, true, false, if◌then◌else◌}
 use Rattle.std.specs.Option.{option_map_or}
 use Rattle.std.specs.Io.KnownBytes.{Appends, Consumes}
@@ -26,13 +27,13 @@ use Rattle.qr_symbol.specs.declared.fault.EncodeFault.TheVariants as encode
 abbrev pub input_for : SettingsView → List ℕ → List ℕ
 input_for s given = option_map_or (λ text. take INPUT_MAX text) s.string given
 
--- What the symbols contain: the input, with -i folded as the rule of modes says, by which -k leaves kanji pairs
--- unchanged, and -8 all bytes [own]
+-- What the symbols contain: the input, folded if -i is given; with -k, folding leaves kanji pairs unchanged, and with
+-- -8 all bytes [own]
 abbrev pub held : SettingsView → List ℕ → List ℕ
 held s input = if s.fold then folded (rule_for s) input else input
 
--- The settings ask for this drawing of `input`, which is not empty and shorter than `INPUT_MAX`, so that nothing was
--- cut off; the symbols are read and joined as `input` [own]
+-- The settings ask for this drawing of `input`, and its symbols are read and joined as `input`. `input` is not empty,
+-- and it is shorter than `INPUT_MAX`, so nothing was cut off [own]
 pub record IsDrawing (s : SettingsView) (input drawing : List ℕ) : Type 0 where
   pub squares : List Grid
   pub symbols : AreSymbols s input squares
@@ -77,15 +78,15 @@ IsFault words given fault.Memory = Unit {0}
 IsFault words given fault.Write = (drawing : List ℕ) × HasDrawing words given drawing
 IsFault words given refusal = IsRefusal words given refusal
 
--- The writer received the whole drawing and one flush more, and `settled` says whether that flush succeeded [own]
+-- The writer received the whole drawing and was flushed once, and `settled` says whether the flush succeeded [own]
 pub record DrawnWhole (settled : Bool) (old new : Writer) (drawing : List ℕ) : Type 0 where
   pub grows : Appends old.taken new.taken drawing
   pub many : old.counts ≡ no_writes → new.counts.taken ≡ counted (length drawing)
   pub flushed : new.counts.flushes ≡ counted (old.counts.flushes + 1)
   pub ended : new.counts.settled ≡ settled
 
--- The writer received a prefix of the drawing and no flush, or it received all of the drawing and one flush, which
--- failed [own]
+-- The writer received a prefix of the drawing and was not flushed, or it received the whole drawing and was flushed
+-- once, and the flush failed [own]
 abbrev pub DrawnInPart : Writer → Writer → List ℕ → Type 0
 DrawnInPart old new drawing =
     (AppendsBeginning old.taken new.taken drawing × (new.counts.flushes ≡ old.counts.flushes)
@@ -105,14 +106,14 @@ AllRead old new given = Consumes old.remaining new.remaining given
     × (old.counts ≡ no_reads → new.counts.given ≡ length given)
     × (old.counts ≡ no_reads → (new.counts.ends ≡ 1) ⊎ (length given ≡ INPUT_MAX))
 
--- The reader is unchanged if the run need not read it; otherwise it was read to its end or `INPUT_MAX` bytes, or a read
--- fault or lack of memory ended the run [own]
+-- The reader is unchanged if the run need not read it. Otherwise it was read to its end or to `INPUT_MAX` bytes, or a
+-- read fault or lack of memory ended the run [own]
 pub record InputConsumed {T : Type 0} (words : List Text) (old new : Reader) (given : List ℕ) (outcome : Result T Fault) : Type 0 where
   pub unread : (ReadsInput words → ⊥) → new ≡ old
   pub read : ReadsInput words → AllRead old new given ⊎ IsErrOf outcome fault.Read ⊎ IsErrOf outcome fault.Memory
 
--- Standard error received the line, or a prefix of the line if a write failed, and so at most as many bytes as the line
--- has, and no flush [own]
+-- Standard error received the line, or a prefix of the line if a write failed. So it received at most as many bytes as
+-- the line has. It was not flushed [own]
 abbrev pub ErrorHolds : Writer → Writer → List ℕ → Type 0
 ErrorHolds old new line = AppendsBeginning old.taken new.taken line
     × (old.counts ≡ no_writes → new.counts.taken ≤ counted (length line))

@@ -6,7 +6,8 @@ use Rattle.qrencode_cli.specs.declared.fault.Fault.{Fault}
 use Rattle.qrencode_cli.specs.declared.fault.Fault.TheVariants as fault
 use Rattle.qrencode_cli.specs.declared.settings.UsageFault.TheVariants as usage
 
--- The text of `clap` for arguments that it refuses, which may be several lines; one line for any other fault [own]
+-- What is written for this fault: one line, or for arguments that `clap` refuses the text of `clap`, which may have
+-- several lines [own]
 abbrev pub fault_line : Fault → List ℕ
 fault_line (fault.Usage (usage.Words text)) = string_bytes text
 fault_line (fault.Usage usage.Level) = codes "qrencode: unknown level\n"

@@ -9,8 +9,8 @@ use Rattle.qr_devices.specs.declared.device.TheConstants.{INTERRUPTIONS_MAX}
 abbrev pub IsInputOf : Option (List ℕ) → List ℕ → Type 0
 IsInputOf bytes input = IfSome bytes (λ all. input ≡ take INPUT_MAX all)
 
--- There were at most 114,424 reads, none after one that reached the end; they returned at most 113,425 bytes, at most
--- one failed, and at most 1,000 were interrupted [own]
+-- There were at most 114,424 reads, and none after one that reached the end. They returned at most 113,425 bytes; at
+-- most one of them failed, and at most 1,000 were interrupted [own]
 pub record IsReadWithin (c : ReadCounts) : Type 0 where
   pub calls : c.calls ≤ INPUT_MAX + INTERRUPTIONS_MAX
   pub given : c.given ≤ INPUT_MAX

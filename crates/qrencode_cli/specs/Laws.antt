@@ -21,7 +21,7 @@ use Rattle.qrencode_cli.specs.declared.fault.Fault.TheVariants as fault
 use Rattle.qr_symbol.specs.declared.fault.EncodeFault.TheVariants as encode
 use Rattle.qrencode_cli.specs.declared.settings.UsageFault.TheVariants as usage
 
--- The settings of `-t ASCII`, in which all but the type of drawing is default [own]
+-- The settings of `-t ASCII`: the type of drawing is ASCII, and all other settings have their defaults [own]
 abbrev pub by_default : SettingsView
 by_default = record {
   level = L;
@@ -109,7 +109,7 @@ AnswersAreOne = (words : List Text) (given d e : List ℕ) → HasDrawing words 
 abbrev pub RefusalsExcludeDrawings : Type 0
 RefusalsExcludeDrawings = (words : List Text) (given d : List ℕ) (f : Fault) → HasDrawing words given d → IsRefusal words given f → ⊥
 
--- The faults are equal, or both are refusals by `clap`, with whatever texts [own]
+-- The faults are equal, or both are refusals by `clap`, whose texts may differ [own]
 abbrev pub AreAlike : Fault → Fault → Type 0
 AreAlike (fault.Usage (usage.Words text)) (fault.Usage (usage.Words other)) = Unit {0}
 AreAlike r q = r ≡ q
@@ -118,8 +118,8 @@ AreAlike r q = r ≡ q
 abbrev pub RefusalsAreOne : Type 0
 RefusalsAreOne = (words : List Text) (given : List ℕ) (r q : Fault) → IsRefusal words given r → IsRefusal words given q → AreAlike r q
 
--- `drawing` is a drawing of the squares that the settings ask for, and of nothing else: whatever type, margin and
--- squares have this drawing, they are these. The squares are read and joined as the input [own]
+-- `drawing` is a drawing of the squares that the settings ask for, and no other type, margin or list of squares has
+-- this drawing. The squares are read and joined as the input [own]
 pub record ShowsInput (s : SettingsView) (input drawing : List ℕ) : Type 0 where
   pub squares : List Grid
   pub symbols : AreSymbols s input squares
@@ -128,7 +128,7 @@ pub record ShowsInput (s : SettingsView) (input drawing : List ℕ) : Type 0 whe
   pub only : (kind : Drawing) (margin : ℕ) (others : List Grid) → IsDrawingOf kind margin others drawing
       → (kind ≡ s.kind) × (margin ≡ s.margin) × (others ≡ squares)
 
--- A run whose status is 0 wrote a drawing from which its input can be read, without anything else [own]
+-- A run whose status is 0 wrote a drawing, and this drawing alone suffices to read the input [own]
 abbrev pub OutputsReadBack : Type 0
 OutputsReadBack = (words : List Text) (in0 in1 : Reader) (out0 out1 err0 err1 : Writer)
     → RunsTo words in0 in1 out0 out1 err0 err1 0
@@ -141,8 +141,8 @@ pub record RulesOfModes : Type 0 where
   pub kanji : (s : SettingsView) → s.bytes_only ≡ false → s.kanji ≡ true → rule_for s ≡ WithKanji
   pub neither : (s : SettingsView) → s.bytes_only ≡ false → s.kanji ≡ false → rule_for s ≡ Auto
 
--- With -i the input is folded as the rule of modes says, where with -k a kanji pair stays unchanged even if its second
--- byte is the code of a small letter; without -i it stays as it is [own]
+-- With -i the input is folded as the rule of modes says, and without -i it stays as it is; with -i and -k a kanji pair
+-- stays unchanged even if its second byte is the code of a small letter [own]
 pub record FoldingFollowsTheRule : Type 0 where
   pub folds : (s : SettingsView) (input : List ℕ) → s.fold ≡ true → held s input ≡ folded (rule_for s) input
   pub keeps : (s : SettingsView) (input : List ℕ) → s.fold ≡ false → held s input ≡ input

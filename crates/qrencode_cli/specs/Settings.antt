@@ -69,8 +69,8 @@ version_at o = let n = number_or 0 o in if nat_le 1 n && nat_le n 40 then Some n
 abbrev pub flag_at : Option Text → Bool
 flag_at o = option_map_or (λ t. bytes_eq t (codes "true")) o false
 
--- The settings, of which level and type of drawing were found before; without -m the margin is 4 modules, which is the
--- quiet zone (ISO/IEC 18004:2015, 6.3.8)
+-- The settings that `rows` ask for; the level and the type of drawing are those that were already found in `rows`.
+-- Without -m the margin is 4 modules, which is the quiet zone (ISO/IEC 18004:2015, 6.3.8)
 abbrev pub settings_with : List Row → Level → Drawing → SettingsView
 settings_with rows level kind = record {
   level = level;
@@ -88,8 +88,8 @@ settings_with rows level kind = record {
 abbrev pub checked_series : SettingsView → Result SettingsView Reason
 checked_series s = if s.structured && is_none s.smallest then Err needs_version else Ok s
 
--- The settings, or the first reason to refuse them: the level (L without -l), then the type, then the version of a
--- series [own]
+-- The settings, or the first reason to refuse them; the level (L without -l) is checked first, then the type, and then
+-- the version of a series [own]
 abbrev pub settings_of : List Row → Result SettingsView Reason
 settings_of rows =
     option_map_or (λ l. option_map_or (λ kind. checked_series (settings_with rows l kind))
@@ -109,8 +109,8 @@ IsUsageFault o usage.Kind = o ≡ Err unknown_type
 IsUsageFault o usage.NeedsVersion = o ≡ Err needs_version
 IsUsageFault o usage.Memory = Unit {0}
 
--- The number of the fault: the reasons are numbered in the order in which they are checked, and lack of memory is 5
--- [own]
+-- The number of the fault: the reasons are numbered from 1 in the order in which they are checked, and lack of memory
+-- has the number 5 [own]
 abbrev pub usage_fault_number : UsageFault → ℕ
 usage_fault_number (usage.Words text) = 1
 usage_fault_number usage.Level = 2

@@ -13,7 +13,8 @@ use Rattle.qrencode_cli.specs.Settings.{SettingsView, rule_for}
 abbrev pub smallest_of : SettingsView → ℕ
 smallest_of s = unwrap_or s.smallest 1
 
--- The squares of the symbols of `input`: those of its series, or of its one symbol, as the settings ask [own]
+-- `squares` are the squares of the symbols of `input`: of its series if the settings ask for a series, and otherwise of
+-- its one symbol [own]
 abbrev pub AreSymbols : SettingsView → List ℕ → List Grid → Type 0
 AreSymbols s input squares =
     ((s.structured ≡ true) × (symbols : List Symbol)

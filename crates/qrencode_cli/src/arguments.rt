@@ -15,7 +15,8 @@ use clap::error::{Error, ErrorKind};
 use clap::{Arg, ArgAction, ArgMatches, Command};
 use std::alloc::{AllocError, Global};
 
-// An option: its name in the code, its letter, and for the help text the name of its value and a line about the option.
+// An option: its name in the code and its letter. The help text shows `value`, the name of the option's value, and
+// `help`, a line about the option.
 #[derive(Clone, Copy)]
 struct OptionText<'a> {
     id: &'a str,
@@ -143,7 +144,7 @@ fn command_line<'a>(alloc: Global) -> Result<Command<'a>, AllocError>
         ))
 }
 
-// Returns the fault of arguments that `clap` refuses by `error`.
+// Returns the fault of a run whose arguments `clap` refused with `error`.
 fn refusal(alloc: Global, error: &Error) -> UsageFault
     ensures { (o : Result SettingsView Reason) → ((kind_of error.now ≡ OutOfMemory → ⊥) → o ≡ Err refused_by_clap) → IsUsageFault o result }
 {
@@ -160,8 +161,8 @@ fn refusal(alloc: Global, error: &Error) -> UsageFault
 ///
 /// # Errors
 ///
-/// `Words`, with the text of `clap`, if `clap` refuses the arguments. A request for help counts as refused, and its
-/// text is the help. `Memory` if memory is refused.
+/// `Words` if `clap` refuses the arguments; it contains the text of `clap`. A request for help is refused too, and the
+/// text is then the help. `Memory` if memory is refused.
 pub(crate) fn matches<'a>(alloc: Global, words: &'a [String]) -> Result<ArgMatches<'a>, UsageFault>
     ensures taken { IfOk result (λ m. faults_for (map string_bytes words.entry.now) ≡ []) }
     ensures rows { IfOk result (λ m. rows_of (found_of m) ≡ rows_for (map string_bytes words.entry.now)) }

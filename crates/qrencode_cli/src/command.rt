@@ -1,6 +1,7 @@
 //! A run of the command. It reads its settings from the arguments, gets its input, makes all symbols, and writes their
-//! drawing. If one of these steps fails, it writes the line of the fault. A drawing job is what the first three steps
-//! make and the last one draws: `job_for` gets the input, `make_job` folds it, and `job_of` makes the symbols.
+//! drawing. If one of these steps fails, it writes the line of the fault. The first three steps make a drawing job: the
+//! symbols and how they are drawn. `job_for` reads the settings and gets the input, `make_job` folds the input, and
+//! `job_of` makes the symbols. `write_drawing` is the last step.
 
 ghost use Rattle.std.specs.Prelude.{◌≤◌, MatchResult, length, map};
 ghost use Rattle.std.specs.String.{string_bytes};
@@ -60,8 +61,8 @@ fn make_job(alloc: Global, input: &[u8], settings: &Settings) -> Result<DrawingJ
     job_of(alloc, input, settings)
 }
 
-// Makes the drawing job that the arguments ask for. A string among them is cut after `INPUT_MAX` bytes, which are more
-// than any symbols hold.
+// Makes the drawing job that the arguments ask for. If the input is a string among the arguments, it is cut after
+// `INPUT_MAX` bytes. No symbol or series holds so many.
 fn job_for<R: Source>(alloc: Global, words: &[String], input: &mut R) -> Result<DrawingJob, Fault>
     ensures { Prepares (map string_bytes words.now) (R.device input.old) (R.device input.new) result }
 {
@@ -89,7 +90,7 @@ fn write_drawing<W: Sink>(job: &DrawingJob, out: &mut W) -> Result<(), Fault>
     Ok(())
 }
 
-// As `run`, but returns a fault instead of writing its line.
+// Does what `run` does, but returns a fault where `run` writes its line.
 fn run_to_result<R: Source, W: Sink>(
     alloc: Global,
     words: &[String],
@@ -107,10 +108,10 @@ fn run_to_result<R: Source, W: Sink>(
 /// Runs the command: reads the input that the arguments `words` ask for, and writes its drawing to `out`, or the line
 /// of a fault to `err`. Returns the exit status, 0 or 1. The first of `words` is the program's name.
 ///
-/// The input is the string among the arguments, or else all bytes of `input`. Of either, at most the first 113,425
-/// bytes are taken, which are one more than the most that 16 symbols can hold. `-8` encodes them in byte mode alone.
-/// Without `-8`, `-k` allows kanji mode. `-i` folds small letters to capitals. With `-k` it leaves kanji pairs
-/// unchanged, and with `-8` it leaves all bytes unchanged.
+/// The input is the string among the arguments, or else all bytes of `input`. Only its first 113,425 bytes are taken,
+/// one more than 16 symbols can hold. `-8` encodes them in byte mode alone. Without `-8`, `-k` allows kanji mode. `-i`
+/// folds small letters to capitals. With `-k` it leaves kanji pairs unchanged, and with `-8` it leaves all bytes
+/// unchanged.
 ///
 /// A run that returns 0 has written the whole drawing to `out`, flushed it once after that, and written nothing to
 /// `err`. Reading the drawn symbols yields the whole input, folded if `-i` is given.
@@ -121,19 +122,21 @@ fn run_to_result<R: Source, W: Sink>(
 ///
 /// A read fault is reported exactly if a read failed or 1,000 reads were interrupted. A write fault is reported exactly
 /// if a write of the drawing or the flush failed, a write took no byte, or 1,000 writes were interrupted. Until then
-/// interrupted reads and writes are tried again. They are counted apart for the input, the drawing and the line.
+/// interrupted reads and writes are tried again. The interruptions of the input, of the drawing and of the line are
+/// counted separately.
 ///
 /// An input is refused as too long only if its shortest encoding is too long for every allowed version. With `-S` it is
-/// refused for too many symbols only if it does not fit one and is cut into more than 16 parts.
+/// refused for too many symbols only if it does not fit one symbol and would be cut into more than 16 parts.
 ///
 /// A run that reads `input` reads it to its end or to 113,425 bytes, unless a read fault or lack of memory ends the
-/// run. It makes at most 114,424 reads, one for each byte and 999 more, and none after one that reached the end. After
-/// a write fault `out` has taken at most as many bytes as the drawing has, and just as many if only the flush failed.
-/// After any fault `err` has taken at most as many bytes as the line has. No write of the drawing offers more than
-/// 1,200 bytes.
+/// run. It makes at most 114,424 reads: one for each byte, and 999 more. It makes no read after one that reached the
+/// end. After a write fault `out` has taken at most as many bytes as the drawing has, and exactly as many if only the
+/// flush failed. After any fault `err` has taken at most as many bytes as the line has. No write of the drawing offers
+/// more than 1,200 bytes.
 ///
-/// What is said of bytes holds for devices whose bytes a contract can know. What is said of calls, faults and numbers
-/// of bytes holds for files, pipes and terminals too, if the counts of the device are 0 before the run.
+/// What is said here of the bytes themselves holds for devices whose bytes a contract can know. What is said of calls,
+/// faults and numbers of bytes also holds for files, pipes and terminals. It holds if the counts of the device are 0
+/// before the run.
 ///
 /// # Notes
 ///

@@ -8,8 +8,8 @@ use qr_drawing::DrawFault;
 use qr_symbol::EncodeFault;
 use std::alloc::{AllocError, AllocFailed};
 
-/// Why a run failed. Lack of memory is always `Memory`, also while arguments are read or an input is encoded. The
-/// variants `Memory` of the two other types are turned into it.
+/// Why a run failed. Lack of memory is always the variant `Memory`: the conversions turn `UsageFault::Memory` and
+/// `EncodeFault::Memory` into it.
 #[derive(Drop)]
 pub(crate) enum Fault {
     Usage(UsageFault),

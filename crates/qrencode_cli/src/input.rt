@@ -1,4 +1,4 @@
-//! Reads the input to its end, or to `INPUT_MAX` bytes, which are more than any symbols hold.
+//! Reads the input to its end, or to `INPUT_MAX` bytes, which are more than 16 symbols can hold.
 
 ghost use Rattle.std.specs.Prelude.{MatchResult};
 ghost use Rattle.qrencode_cli.specs.Steps.Command.{HasRead, StopsReading};

@@ -40,10 +40,10 @@ pub fn folding_follows_the_rule()
     ensures { FoldingFollowsTheRule }
 {}
 
-/// A run that returns 0 wrote a drawing from which its input can be read, without anything else. No other type, margin
-/// or list of squares has this drawing: its type and margin are those of the settings, and its squares are the symbols
-/// of the input. Read and joined, these symbols yield the input, folded if `-i` is given. `parse_drawing` of
-/// `qr_parsing` returns the squares.
+/// A run that returns 0 wrote a drawing, and this drawing alone suffices to read the input. No other type, margin or
+/// list of squares has this drawing: its type and margin are those of the settings, and its squares are the symbols of
+/// the input. Read and joined, these symbols yield the input, folded if `-i` is given. `parse_drawing` of `qr_parsing`
+/// returns the squares.
 pub fn outputs_read_back()
     ensures { OutputsReadBack }
 {}
@@ -53,8 +53,8 @@ pub fn statuses_are_two()
     ensures { StatusesAreTwo }
 {}
 
-/// Each fault has the line that `LinesOfFaults` lists, except arguments that `clap` refuses. Their line is the text of
-/// `clap`.
+/// Each fault but the refusal of arguments by `clap` has the line that `LinesOfFaults` lists. The line of such a
+/// refusal is the text of `clap`.
 pub fn lines_of_faults()
     ensures { LinesOfFaults }
 {}

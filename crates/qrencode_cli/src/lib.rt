@@ -1,5 +1,5 @@
-//! The command `qrencode`: `run` reads the arguments and the input, and draws the symbols. Whoever calls it also finds
-//! here the devices of `qr_devices`, and `draw` of `qr_drawing` with its types.
+//! The command `qrencode`: `run` reads the arguments and the input, and draws the symbols. For its callers the crate
+//! also exports the devices of `qr_devices`, and `draw` of `qr_drawing` with its types.
 #![tactic(auto)]
 
 mod arguments;

@@ -83,7 +83,7 @@ impl Settings {
 /// Why `options` refuses arguments.
 #[derive(Debug, Drop, Error)]
 pub enum UsageFault {
-    /// `clap` refuses the arguments, or they ask for help: the text of `clap`.
+    /// `clap` refuses the arguments, or they ask for help. The string is the text of `clap`.
     #[error("{0}")]
     Words(String),
     /// The level is not L, M, Q or H.
@@ -199,12 +199,12 @@ fn number_in(matches: &ArgMatches<'_>, id: &str, otherwise: u8) -> u8
     match matches.try_get_one::<u8>(id) {
         Ok(Some(number)) => number,
         Ok(None) => otherwise,
-        // `clap` accepts `-0` as a number in the range, but it does not parse as a `u8`.
+        // `clap` accepts `-0` as a number in the range, but `-0` does not parse as a `u8`.
         Err(_) => 0,
     }
 }
 
-// Returns the version of `-v`, or `None` without `-v` and for 0.
+// Returns the version of `-v`, or `None` if `-v` is missing or 0.
 fn version_in(matches: &ArgMatches<'_>) -> Option<Version>
     ensures { result ≡ version_at (one_of (codes "version") (rows_of (found_of matches.now))) }
 {
@@ -250,7 +250,7 @@ fn settings_in(alloc: Global, matches: &ArgMatches<'_>) -> Result<Settings, Usag
 }
 
 /// Returns the settings that the arguments `words` mean. The first of `words` is the program's name. `clap` decides
-/// which options and numbers are valid. Levels and types are looked up here.
+/// which options and numbers are valid, and this function which levels and types are.
 ///
 /// # Errors
 ///

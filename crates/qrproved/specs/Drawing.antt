@@ -1,5 +1,5 @@
--- What `qrproved_draw` writes, and when it refuses a buffer as too short. `count` squares of `side` rows are drawn,
--- whose modules are a byte each, one square after the other.
+-- What `qrproved_draw` writes, and when it refuses a buffer as too short. It draws `count` squares of `side` rows. Each
+-- module is a byte, and the squares come one after the other.
 use Rattle.std.specs.Prelude.{◌≡◌, ℕ, zero, suc, ◌*◌, ◌<◌, ◌≤◌, ◌==◌, ◌++◌, if◌then◌else◌, List, [], ◌∷◌, drop, length}
 use Rattle.qr_matrix.specs.Grid.{Grid}
 use Rattle.qr_drawing.specs.declared.drawing.Drawing.{Drawing}
@@ -11,7 +11,7 @@ use Rattle.qrproved.specs.Modules.{square_of_bytes}
 abbrev pub drawing_of : ℕ → Drawing
 drawing_of n = if n == 0 then Ascii else (if n == 1 then AsciiInverse else (if n == 2 then Utf8 else Svg))
 
--- The numbers are in range: at most the side of version 40, the number of symbols of the largest series, and the
+-- The numbers are in range; 177 is the side of version 40, 16 the number of symbols of the longest series, and 100 the
 -- greatest margin of the command [own]
 abbrev pub AreDrawingSettings : (side count drawing margin : ℕ) → Type 0
 AreDrawingSettings side count drawing margin =

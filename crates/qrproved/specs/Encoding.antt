@@ -23,8 +23,8 @@ pub record IsWritten (x : List ℕ) (version level rule interpretation boost : �
   pub side : s.side ≡ square.side
   pub holds : HoldsSquares s.side (square ∷ []) before after
 
--- The symbol of the least version, from `version` on, that the input fits has more modules than `buffer` has bytes
--- [own]
+-- `buffer` has fewer bytes than the input's symbol has modules; this symbol has the least version that the input fits,
+-- from `version` on [own]
 pub record HasNoRoom (x : List ℕ) (version level rule interpretation : ℕ) (buffer : List ℕ) : Type 0 where
   pub least : ℕ
   pub fits : IsVersion version (level_of level) (rule_of rule) (interpretation_of interpretation) x least

@@ -1,4 +1,5 @@
--- What the calls that read tell of how bytes are to be interpreted: `ecis` are the ECI headers of a content.
+-- How `qrproved_read` and `qrproved_mend` report the interpretation of the bytes that they read. `ecis` are the ECI
+-- headers of a content.
 use Rattle.std.specs.Prelude.{◌≡◌, ℕ, List, ◌++◌, map, take, drop, length, Option, None, Some}
 use Rattle.qr_bits.specs.declared.interpretation.EciChange.{EciChange}
 use Rattle.qr_bits.specs.declared.interpretation.Fnc1.{Fnc1}
@@ -7,22 +8,23 @@ use Rattle.qr_bits.specs.Interpretation.{fnc1_of}
 use Rattle.qr_bits.specs.Parsing.{Content}
 use Rattle.qrproved.specs.declared.interpretation.QrprovedEci.{QrprovedEci}
 
--- An ECI header as a caller is told it: its number, and how many bytes come before it (ISO/IEC 18004:2015, 7.4.2.2)
+-- An ECI header as a caller receives it: its number, and how many bytes come before it (ISO/IEC 18004:2015, 7.4.2.2)
 abbrev pub told_eci : EciChange → QrprovedEci
 told_eci e = record { begin = e.begin; number = e.number }
 
--- The buffer begins with the ECI headers, or if it is too short with the first of them, and is otherwise as before [own]
+-- The buffer begins with the ECI headers, or with the first ones if it is too short for all, and the rest of it is
+-- unchanged [own]
 abbrev pub HoldsEcis : List EciChange → List QrprovedEci → List QrprovedEci → Type 0
 HoldsEcis ecis before after = after ≡ take (length before) (map told_eci ecis) ++ drop (length ecis) before
 
--- The two numbers are 0 and 0 without FNC1, 1 and 0 for its first position, and 2 and the application indicator for the
--- second (ISO/IEC 18004:2015, 7.4.8)
+-- The two numbers are 0 and 0 without FNC1, 1 and 0 for FNC1 in first position, and 2 and the application indicator for
+-- FNC1 in second position (ISO/IEC 18004:2015, 7.4.8)
 abbrev pub TellsFnc1 : Option Fnc1 → (fnc1 application : ℕ) → Type 0
 TellsFnc1 None fnc1 application = (fnc1 ≡ 0) × (application ≡ 0)
 TellsFnc1 (Some First) fnc1 application = (fnc1 ≡ 1) × (application ≡ 0)
 TellsFnc1 (Some (Second a)) fnc1 application = (fnc1 ≡ 2) × (application ≡ a)
 
--- The buffer and the three numbers tell the ECI headers and the FNC1 of the content [own]
+-- The buffer and the three numbers report the ECI headers and the FNC1 of the content [own]
 pub record TellsInterpretation (content : Content) (before after : List QrprovedEci) (eci_count fnc1 application : ℕ) : Type 0 where
   pub ecis : HoldsEcis content.ecis before after
   pub count : eci_count ≡ length content.ecis

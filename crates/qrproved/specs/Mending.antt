@@ -1,6 +1,6 @@
 -- What `qrproved_mend` writes for a damaged symbol, and when it writes nothing. The square has `side` rows, and
 -- `modules` begins with its modules, row by row; the byte 2 is a module that is not known. `changed` lists for each
--- block how many codewords were corrected, without those with a module that is not known.
+-- block how many codewords were corrected; a codeword with a module that is not known is not counted.
 use Rattle.std.specs.Prelude.{◌≡◌, ℕ, ◌*◌, ◌<◌, ◌≤◌, List, ◌++◌, drop, length, take}
 use Rattle.std.specs.List.{All, Any, Contains}
 use Rattle.qr_layout.specs.declared.level.Level.{Level}
@@ -31,8 +31,9 @@ pub record IsGreatest (xs : List ℕ) (n : ℕ) : Type 0 where
   pub one : Contains xs n
   pub most : All (λ x. x ≤ n) xs
 
--- `m` counts the wrong modules of the square and of the format information, the most codewords corrected in a block,
--- and the most misread ones that can be corrected (ISO/IEC 18004:2015, 7.5.1, 7.9.1)
+-- `m` has the numbers of wrong modules in the square and in the format information, the greatest number of codewords
+-- corrected in one block, and the number of misread codewords that can be corrected in a block (ISO/IEC 18004:2015,
+-- 7.5.1, 7.9.1)
 pub record TellsDamage (m : QrprovedMended) (changed : List ℕ) (side : ℕ) (modules : List ℕ) : Type 0 where
   pub whole : HasWrongModules (square_of_unknown side modules) (square_of_bytes side modules) m.version (level_of m.level) m.mask changed m.wrong_modules
   pub format : m.wrong_format_modules ≡ wrong_format_modules (square_of_unknown side modules) (square_of_bytes side modules) (level_of m.level) m.mask
@@ -40,7 +41,8 @@ pub record TellsDamage (m : QrprovedMended) (changed : List ℕ) (side : ℕ) (m
   pub allowed : m.changed_allowed ≡ correctable_of m.version (level_of m.level)
 
 -- The square is mended and read: the bytes and the ECI headers of its content were written to the beginning of their
--- buffers, and `m` has their numbers, the version, level, mask, header, FNC1 and damage [own]
+-- buffers, and `m` has the numbers of these bytes and headers, and the version, level, mask, structured append header,
+-- FNC1 and damage [own]
 pub record IsGivenMended (modules : List ℕ) (side : ℕ) (before after : List ℕ) (ecis_before ecis_after : List QrprovedEci) (m : QrprovedMended) : Type 0 where
   pub all_modules : AreModules modules side
   pub content : Content
@@ -54,7 +56,7 @@ pub record IsGivenMended (modules : List ℕ) (side : ℕ) (before after : List 
   pub interpretation : TellsInterpretation content ecis_before ecis_after m.eci_count m.fnc1 m.application
   pub damage : TellsDamage m changed side modules
 
--- The square is mended and read as more bytes than `buffer` has [own]
+-- Mending and reading the square yields more bytes than `buffer` has [own]
 abbrev pub HasMoreMendedBytes : List ℕ → ℕ → List ℕ → Type 0
 HasMoreMendedBytes modules side buffer = AreModules modules side × HasMoreBytesBy (λ content.
     (v : ℕ) × (l : Level) × (mask : ℕ) × (changed : List ℕ)

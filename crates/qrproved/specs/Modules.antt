@@ -1,5 +1,5 @@
--- The modules of squares as bytes: one square after the other, each row by row with `side` rows. `before` and `after`
--- are a buffer before and after the call.
+-- The modules of squares as bytes: one square after the other, and each square row by row. A square has `side` rows.
+-- `before` and `after` are a buffer before and after the call.
 use Rattle.std.specs.Prelude.{◌≡◌, ℕ, ◌+◌, ◌*◌, ◌<◌, ◌≤◌, List, length, slice_index_or}
 use Rattle.qr_matrix.specs.Grid.{Grid, colour, light}
 pub use Rattle.qr_matrix.specs.Bytes.{byte_of, square_of_bytes}

@@ -18,7 +18,7 @@ pub record IsGivenDrawing (text : List ℕ) (before after : List ℕ) (d : Qrpro
   pub side : d.side ≡ (square_at squares 0).side
   pub holds : HoldsSquares d.side squares before after
 
--- The text is the drawing of squares that have more modules together than `buffer` has bytes [own]
+-- The text is the drawing of squares that together have more modules than `buffer` has bytes [own]
 pub record HasMoreModules (text buffer : List ℕ) : Type 0 where
   pub kind : Drawing
   pub margin : ℕ

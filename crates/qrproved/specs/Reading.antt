@@ -15,14 +15,14 @@ use Rattle.qrproved.specs.Modules.{square_of_bytes}
 abbrev pub IsSide : ℕ → Type 0
 IsSide side = (v : ℕ) × (1 ≤ v) × (v ≤ 40) × (side ≡ side_of v)
 
--- The four numbers describe the optional header: 1 and its numbers, or 0 four times if there is none
+-- The four numbers are 1 and the three numbers of the structured append header, or four times 0 if there is no header
 -- (ISO/IEC 18004:2015, 8.1 to 8.3)
 abbrev pub TellsHeader : Option Header → (has_header position last parity : ℕ) → Type 0
 TellsHeader None has_header position last parity = (has_header ≡ 0) × (position ≡ 0) × (last ≡ 0) × (parity ≡ 0)
 TellsHeader (Some h) has_header position last parity = (has_header ≡ 1) × (position ≡ h.position) × (last ≡ h.last) × (parity ≡ h.parity)
 
 -- The square is read: the bytes and the ECI headers of its content were written to the beginning of their buffers, and
--- `c` has their numbers, the version, the header and the FNC1 [own]
+-- `c` has the numbers of these bytes and headers, and the version, structured append header and FNC1 [own]
 pub record IsGiven (modules : List ℕ) (side : ℕ) (before after : List ℕ) (ecis_before ecis_after : List QrprovedEci) (c : QrprovedContent) : Type 0 where
   pub whole : side * side ≤ length modules
   pub content : Content
@@ -38,7 +38,7 @@ pub record IsGiven (modules : List ℕ) (side : ℕ) (before after : List ℕ) (
 abbrev pub HasMoreBytesBy : (Content → Type 0) → List ℕ → Type 0
 HasMoreBytesBy reads buffer = (content : Content) × reads content × (length buffer < length content.bytes)
 
--- The square is read as more bytes than `buffer` has [own]
+-- Reading the square yields more bytes than `buffer` has [own]
 abbrev pub HasMoreBytes : List ℕ → ℕ → List ℕ → Type 0
 HasMoreBytes modules side buffer =
     (side * side ≤ length modules) × HasMoreBytesBy (IsReading (square_of_bytes side modules)) buffer

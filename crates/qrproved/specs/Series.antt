@@ -12,7 +12,8 @@ use Rattle.qrproved.specs.Modules.{HoldsSquares}
 
 -- The numbers are allowed, the modules of the input's series were written to the buffer, and `t` has its number of
 -- symbols and their side. The symbols are read and joined as the input, each with its interpretation. Without kanji
--- mode, if the input is cut into parts that fit, each with a header, there are at least as many parts as symbols [own]
+-- mode the symbols are as few as possible: if the input is cut into parts, each of which fits with a header, there are
+-- at least as many parts as symbols [own]
 pub record IsWrittenSeries (x : List ℕ) (version level rule interpretation : ℕ) (before after : List ℕ) (t : QrprovedSeries) : Type 0 where
   pub settings : AreSettings version level rule interpretation
   pub symbols : List Symbol

@@ -20,13 +20,14 @@ rule_of n = if n == 0 then rule.Auto else (if n == 1 then rule.BytesOnly else ru
 abbrev pub interpretation_of : ℕ → Interpretation
 interpretation_of n = if nat_lt n 1000000 then Eci n else (if n == 1000000 then Default else Gs1)
 
--- Kanji mode may be allowed with this interpretation: not with an ECI other than 20, which is Shift JIS, because two
--- bytes that are not one character could then look like a kanji pair, and readers take such pairs for Shift JIS [own]
+-- Kanji mode may be allowed with this interpretation: it has no ECI, or ECI 20, which is Shift JIS. Under another ECI
+-- two bytes that are not one character could look like a kanji pair, and readers take each kanji pair for Shift JIS
+-- [own]
 abbrev pub MayAllowKanji : Interpretation → Type 0
 MayAllowKanji (Eci n) = n ≡ 20
 MayAllowKanji _ = Unit {0}
 
--- The numbers are in range, and kanji mode is not allowed with another ECI than that of Shift JIS; 0 is no version
+-- The numbers are in range, and kanji mode is allowed only without an ECI or with that of Shift JIS; 0 is no version
 -- here, although the command accepts it [own]
 pub record AreSettings (version level rule interpretation : ℕ) : Type 0 where
   pub first : 1 ≤ version

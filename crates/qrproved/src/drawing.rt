@@ -63,7 +63,7 @@ fn squares_of(alloc: Global, modules: &[u8], side: u8, count: u8) -> Result<Vec<
 }
 
 // Draws the squares into memory. Each fault of `draw` is then lack of memory, because the writer fails only if its
-// `Vec` cannot grow, and otherwise accepts all bytes. The writer has the type that it has in `parse_drawing`, so the
+// `Vec` cannot grow, and otherwise accepts all bytes. The writer has the same type as in `parse_drawing`, so that the
 // library contains the code of `draw` only once.
 fn drawn(alloc: Global, modules: &[u8], asked: DrawingSettings) -> Result<Vec<u8>, AllocError>
     requires least { 1 ≤ asked.side }
@@ -146,7 +146,7 @@ mod tests {
     use super::*;
     use std::test::Fail;
 
-    // A square of two rows, and the one of opposite colours.
+    // A square of two rows, and after it the same square with the colours exchanged.
     static SQUARES: [u8; 8] = [1, 0, 0, 200, 0, 1, 1, 0];
 
     #[test]

@@ -18,7 +18,7 @@ use qr_symbol::laws::long_inputs_have_none;
 use qr_symbol::{EncodeFault, Symbol, encode, encode_boosted};
 use std::alloc::Global;
 
-/// What `qrproved_encode` tells about a symbol, besides its modules.
+/// The numbers of a symbol, which `qrproved_encode` returns with the symbol's modules.
 #[repr(C)]
 #[derive(Clone, Copy)]
 pub struct QrprovedSymbol {
@@ -32,8 +32,8 @@ pub struct QrprovedSymbol {
     pub mask: u8,
 }
 
-// Makes the symbol that the settings ask for. With `boost` it gets the highest level at which the input fits its
-// version.
+// Makes the symbol that the settings ask for. With `boost` the symbol gets the highest level at which the input fits
+// the symbol's version.
 fn symbol_of(
     alloc: Global,
     input: &[u8],
@@ -81,25 +81,26 @@ fn symbol_of(
     )
 }
 
-/// Encodes `input` as one symbol of the least version, from `version` on, that it fits, and writes the symbol's modules
-/// to `modules` (ISO/IEC 18004:2015, 7.1). The module in a row and a column is the byte with the index `row * side +
-/// column`, which is 1 if it is dark and 0 if it is light.
+/// Encodes `input` as one symbol, and writes the symbol's modules to `modules` (ISO/IEC 18004:2015, 7.1). The version
+/// is the least that the input fits, from `version` on. The byte with the index `row * side + column` is 1 if the
+/// module in this row and column is dark, and 0 if it is light. Rows and columns are counted from 0.
 ///
 /// `version` is 1 to 40, and `level` is 0 to 3 for L, M, Q and H. `rule` is 0 for all modes but kanji mode, 1 for byte
-/// mode alone, and 2 for all modes. `interpretation` is the number of an ECI, 0 to 999,999, or 1,000,000 for none, or
-/// 1,000,001 for GS1 data, in which the byte 1D (hexadecimal) separates fields. If `boost` is 1, the symbol gets the
-/// highest level, from `level` on, at which the input fits its version. If `boost` is 0, it gets `level`.
+/// mode alone, and 2 for all modes. `interpretation` is 0 to 999,999 for the ECI with this number, 1,000,000 for no
+/// interpretation, and 1,000,001 for GS1 data. In GS1 data the byte 1D (hexadecimal) separates fields. If `boost` is 1,
+/// the symbol gets the highest level, from `level` on, at which the input fits its version. If `boost` is 0, it gets
+/// `level`.
 ///
-/// On status 0 the buffer begins with exactly the modules of the symbol, which is read as the input with its
-/// interpretation, and `symbol` has its version, side, level and mask.
+/// On status 0 the buffer begins with exactly the modules of the symbol, and `symbol` has its version, side, level and
+/// mask. Reading the symbol yields the input with its interpretation.
 ///
 /// # Errors
 ///
-/// The first of these that applies: `SETTINGS` (a number is out of range, or `rule` is 2 with another ECI than 20,
+/// The first of these that applies: `SETTINGS` (a number is out of range, or `rule` is 2 with an ECI other than 20,
 /// which is Shift JIS), `EMPTY` (`input` has no byte), `FIELDS` (in GS1 data a byte 1D comes directly before another or
 /// before `%`), `TOO_LONG` (the input fits no allowed version) and `ROOM` (`modules` is too short). `MEMORY` if memory
-/// is refused. `SETTINGS`, `EMPTY`, `FIELDS`, and `TOO_LONG` for more than 7,089 bytes, which is the most that a symbol
-/// holds, are found before memory is requested.
+/// is refused. No symbol holds more than 7,089 bytes. `SETTINGS`, `EMPTY`, `FIELDS`, and `TOO_LONG` for an input of
+/// more than 7,089 bytes are found before memory is requested.
 #[unsafe(no_mangle)]
 pub extern "C" fn qrproved_encode(
     alloc: Global,
@@ -195,7 +196,7 @@ mod tests {
         0b111111101110101010111,
     ];
 
-    // No interpretation.
+    // The number that stands for no interpretation.
     const NONE: u32 = 1_000_000;
 
     fn nothing() -> QrprovedSymbol {

@@ -5,11 +5,11 @@ ghost use Rattle.qrproved.specs.Interpretation.{HoldsEcis, TellsFnc1, told_eci};
 
 use qr_bits::{EciChange, Fnc1};
 
-/// An ECI header of a symbol that was read: from a byte of the content on, the bytes have this ECI.
+/// An ECI header of a symbol that was read. The bytes of the content have this ECI from `begin` to the next header.
 #[repr(C)]
 #[derive(Clone, Copy)]
 pub struct QrprovedEci {
-    /// How many bytes of the content come before.
+    /// How many bytes of the content come before the header.
     pub begin: usize,
     /// The number of the ECI, 0 to 999,999: 26 is UTF-8.
     pub number: u32,
@@ -24,7 +24,7 @@ fn told_eci(change: EciChange) -> QrprovedEci
     }
 }
 
-/// Writes the ECI headers to the start of the buffer, or as many as it has room for.
+/// Writes the ECI headers to the start of the buffer. If it is too short for all, only the first ones are written.
 pub(crate) fn write_ecis(changes: &[EciChange], out: &mut [QrprovedEci])
     ensures { HoldsEcis changes.now out.old out.new }
 {
@@ -34,7 +34,8 @@ pub(crate) fn write_ecis(changes: &[EciChange], out: &mut [QrprovedEci])
     }
 }
 
-/// Returns 0 and 0 without FNC1, 1 and 0 for its first position, and 2 and the application indicator for the second.
+/// Returns 0 and 0 without FNC1, 1 and 0 for FNC1 in first position, and 2 and the application indicator for FNC1 in
+/// second position.
 pub(crate) fn fnc1_numbers(fnc1: Option<Fnc1>) -> (u8, u8)
     ensures { TellsFnc1 fnc1 result.0 result.1 }
 {

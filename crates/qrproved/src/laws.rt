@@ -43,11 +43,11 @@ pub fn statuses()
     ensures fields { FIELDS ≡ 12 }
 {}
 
-/// What numbers mean in calls. As a level, 0 to 3 are L, M, Q and H. As a rule, 0 to 2 are `Auto`, `BytesOnly` and
-/// `WithKanji`. As an interpretation, 0 to 999,999 are ECIs, 1,000,000 is none, and 1,000,001 is GS1 data. As a
-/// drawing, 0 to 3 are ASCII, ASCIIi, UTF8 and SVG. A module is written as 1 if it is dark and as 0 if it is light, and
-/// in `qrproved_mend` it is 2 if it is not known. A drawing is made of 1 to 16 squares of 1 to 177 rows, with a margin
-/// of 0 to 100 modules.
+/// Numbers have these meanings in calls. As a level, 0 to 3 are L, M, Q and H. As a rule, 0 to 2 are `Auto`,
+/// `BytesOnly` and `WithKanji`. As an interpretation, 0 to 999,999 are ECIs, 1,000,000 is none, and 1,000,001 is GS1
+/// data. As a drawing, 0 to 3 are ASCII, ASCIIi, UTF8 and SVG. A module is written as 1 if it is dark and as 0 if it is
+/// light, and in `qrproved_mend` it is 2 if it is not known. A drawing is made of 1 to 16 squares of 1 to 177 rows,
+/// with a margin of 0 to 100 modules.
 #[tactic(auto, unfolding(qr_matrix::specs::Grid::rows_of, qr_matrix::specs::Grid::colour))]
 pub fn numbers()
     ensures levels { map level_of (0 ∷ 1 ∷ 2 ∷ 3 ∷ []) ≡ Level.L ∷ Level.M ∷ Level.Q ∷ Level.H ∷ [] }

@@ -7,9 +7,9 @@
 //! buffer is longer than the result, the bytes after the result stay as they are. On each status but 0 the buffer and
 //! the struct are unchanged. There is one exception: if a buffer is too short, `qrproved_draw` still sets `written`.
 //!
-//! If a call cannot do what it is asked for, it returns the status of the first cause that applies, in the order of its
-//! comment. If memory is refused, it returns `MEMORY`. The comment also names the causes that are found before memory
-//! is requested. These are reported even if memory would be refused.
+//! If a call cannot do what it is asked for, it returns the status of the first cause that applies, in the order in
+//! which its comment lists the causes. If memory is refused, it returns `MEMORY`. The comment also names the causes
+//! that are found before memory is requested. These are reported even if memory would be refused.
 #![tactic(auto)]
 
 mod drawing;

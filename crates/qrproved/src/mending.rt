@@ -27,7 +27,8 @@ use qr_mending::{Mended, mend_symbol_with_unknown};
 use qr_symbol::ReadFault;
 use std::alloc::Global;
 
-/// What was read from a damaged symbol, besides its bytes, and its damage.
+/// The numbers that `qrproved_mend` returns with the bytes and ECI headers of a damaged symbol. They describe the
+/// symbol and its damage.
 #[repr(C)]
 #[derive(Clone, Copy)]
 pub struct QrprovedMended {
@@ -35,12 +36,13 @@ pub struct QrprovedMended {
     pub len: usize,
     /// How many ECI headers the symbol has.
     pub eci_count: usize,
-    /// The number of wrong modules of the whole square, unknown ones too: 0 exactly if it is the undamaged symbol and
-    /// all its modules are known.
+    /// How many modules of the whole square are misread or not known. This is 0 exactly if all modules are known and
+    /// the square is the undamaged symbol.
     pub wrong_modules: u32,
     /// The version, 1 to 40.
     pub version: u8,
-    /// 1 for a symbol of a series, which has a structured append header; otherwise 0, and so are the next three fields.
+    /// 1 if the symbol has a structured append header, as each symbol of a series has. Otherwise 0, and then the next
+    /// three fields are 0 too.
     pub has_header: u8,
     /// The position in the series, 0 to 15.
     pub position: u8,
@@ -48,7 +50,7 @@ pub struct QrprovedMended {
     pub last: u8,
     /// The parity data of the whole input of the series.
     pub parity: u8,
-    /// 0 without FNC1, 1 for its first position, of GS1 data, 2 for its second.
+    /// 0 without FNC1, 1 for FNC1 in first position, which means GS1 data, and 2 for FNC1 in second position.
     pub fnc1: u8,
     /// The application indicator after FNC1 in second position, and otherwise 0.
     pub application: u8,
@@ -56,18 +58,19 @@ pub struct QrprovedMended {
     pub level: u8,
     /// The mask, 0 to 7.
     pub mask: u8,
-    /// How many of the 30 modules of format information are wrong, unknown ones too.
+    /// How many of the 30 modules of format information are misread or not known.
     pub wrong_format_modules: u8,
-    /// The most codewords that were corrected in one block; those with a module that is not known do not count.
+    /// The greatest number of codewords that were corrected in one block. A codeword with a module that is not known is
+    /// not counted.
     pub changed_most: u8,
-    /// The most misread codewords that can be corrected in a block of which all modules are known, 2 to 15.
+    /// How many misread codewords can be corrected in a block if all its modules are known, 2 to 15.
     pub changed_allowed: u8,
 }
 
 const NOT_KNOWN: u8 = 2;
 
-// Says whether no byte is more than 2. The loop does not end at the first byte that is, so that many bytes are compared
-// at once.
+// Says whether each byte is at most 2. The loop goes on after a greater byte, so that the compiled code can compare
+// many bytes at once.
 fn are_modules(modules: &[u8]) -> bool
     ensures { MatchBool result (All (λ b. b ≤ 2) modules.now) (Any (λ b. 2 < b) modules.now) }
 {
@@ -144,19 +147,19 @@ fn mended_of(len: usize, mended: &Mended) -> QrprovedMended
 
 /// Reads the damaged symbol that `modules` begins with, and corrects its errors (ISO/IEC 18004:2015, 7.5.1, 7.9.1 and
 /// 12). The symbol has `side` rows, and its modules stand in the order in which `qrproved_encode` writes them. A module
-/// is 0 if it is light, 1 if it is dark, and 2 if it is not known. A codeword with a module that is not known takes
-/// half as much error correction as a misread one. The bytes that the symbol contains are written to `bytes`, and as
-/// many of its ECI headers as there is room for to `ecis`.
+/// is 0 if it is light, 1 if it is dark, and 2 if it is not known. Two codewords with modules that are not known take
+/// as much error correction as one misread codeword. The bytes that the symbol contains are written to `bytes`, and its
+/// ECI headers to `ecis`. If `ecis` is too short for all headers, only the first ones are written.
 ///
-/// On status 0 the square is a damaged form of a symbol, `bytes` and `ecis` begin with the bytes and the ECI headers of
-/// this symbol, and `mended` describes the symbol and its damage.
+/// On status 0 the square is a symbol with damage that can be mended. `bytes` and `ecis` begin with the bytes and the
+/// ECI headers of this symbol, and `mended` describes the symbol and its damage.
 ///
 /// # Errors
 ///
 /// The first of these that applies: `SIDE` (no version has this side), `ROOM` (`modules` is too short), `SETTINGS` (a
 /// module is more than 2), `FORMAT` (the format information is damaged too much), `CHECK` (a block is damaged too
 /// much), `SEGMENTS` (the data codewords cannot be parsed) and `ROOM` (`bytes` is too short). `MEMORY` if memory is
-/// refused. The first three are found before memory is requested.
+/// refused. `SIDE`, the first `ROOM` and `SETTINGS` are found before memory is requested.
 #[unsafe(no_mangle)]
 pub extern "C" fn qrproved_mend(
     alloc: Global,

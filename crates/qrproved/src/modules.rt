@@ -15,8 +15,8 @@ pub(crate) fn area(side: u8) -> usize
     usize::from(side) * usize::from(side)
 }
 
-// Calls `qr_matrix::write_square`. It is not inlined, because the stack that it needs would then be taken by its caller
-// already while it encodes.
+// Calls `qr_matrix::write_square`. This function is not inlined: otherwise its caller would take the stack that it
+// needs from the start, and so also while it encodes.
 #[inline(never)]
 pub(crate) fn write_square(matrix: &Matrix, start: usize, bytes: &mut [u8])
     requires { start + matrix.now.side * matrix.now.side ≤ length bytes.old }

@@ -12,7 +12,7 @@ use qr_parsing::laws::drawings_are_one;
 use qr_parsing::parse_drawing;
 use std::alloc::Global;
 
-/// What a drawing shows, besides the modules.
+/// The numbers that `qrproved_parse_drawing` returns with the modules of a drawing.
 #[repr(C)]
 #[derive(Clone, Copy)]
 pub struct QrprovedDrawn {
@@ -39,11 +39,12 @@ fn number_of(drawing: Drawing) -> u8
 }
 
 /// Parses the drawing `text`, and writes the modules of its squares to `modules`, one square after the other and row by
-/// row: 1 for a dark module, and 0 for a light one. It accepts exactly the drawings, as `qrproved_draw` and the command
-/// make them, of 1 to 16 squares of one side that begin as every symbol does, with a margin of 0 to 255 modules.
-/// Whether such a square is a symbol, `qrproved_read` finds out.
+/// row: 1 for a dark module, and 0 for a light one. It accepts exactly the drawings of 1 to 16 squares with a margin of
+/// 0 to 255 modules, as `qrproved_draw` and the command make them. All squares have one side, and each begins as every
+/// symbol does: the module in row 0 and column 0 is dark, and the one in row 0 and column 7 is light. `qrproved_read`
+/// finds out whether such a square is a symbol.
 ///
-/// On status 0 the text is the drawing of these squares, of this type and with this margin, and of nothing else.
+/// On status 0 the text is the drawing of these squares with this type and this margin, and of nothing else.
 ///
 /// # Errors
 ///

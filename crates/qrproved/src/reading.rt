@@ -19,7 +19,7 @@ use qr_symbol::laws::{contents_are_one, refusals_are_one};
 use qr_symbol::read_symbol;
 use std::alloc::Global;
 
-/// What was read from a symbol, besides its bytes.
+/// The numbers that `qrproved_read` returns with the bytes and ECI headers of a symbol.
 #[repr(C)]
 #[derive(Clone, Copy)]
 pub struct QrprovedContent {
@@ -29,7 +29,8 @@ pub struct QrprovedContent {
     pub eci_count: usize,
     /// The version, 1 to 40.
     pub version: u8,
-    /// 1 for a symbol of a series, which has a structured append header; otherwise 0, and so are the next three fields.
+    /// 1 if the symbol has a structured append header, as each symbol of a series has. Otherwise 0, and then the next
+    /// three fields are 0 too.
     pub has_header: u8,
     /// The position in the series, 0 to 15.
     pub position: u8,
@@ -37,7 +38,7 @@ pub struct QrprovedContent {
     pub last: u8,
     /// The parity data of the whole input of the series.
     pub parity: u8,
-    /// 0 without FNC1, 1 for its first position, of GS1 data, 2 for its second.
+    /// 0 without FNC1, 1 for FNC1 in first position, which means GS1 data, and 2 for FNC1 in second position.
     pub fnc1: u8,
     /// The application indicator after FNC1 in second position, and otherwise 0.
     pub application: u8,
@@ -79,12 +80,12 @@ pub(crate) fn content_of(len: usize, version: Version, parsed: &Parsed) -> Qrpro
 
 /// Reads the symbol that `modules` begins with, and corrects no error (ISO/IEC 18004:2015, 12). The symbol has `side`
 /// rows, and its modules stand in the order in which `qrproved_encode` writes them. A module is light if it is 0, and
-/// otherwise dark. The bytes that the symbol contains are written to `bytes`, and as many of its ECI headers as there
-/// is room for to `ecis`.
+/// otherwise dark. The bytes that the symbol contains are written to `bytes`, and its ECI headers to `ecis`. If `ecis`
+/// is too short for all headers, only the first ones are written.
 ///
-/// On status 0 the bytes and ECI headers, and what `content` says, are those of a symbol with the same codewords and
-/// the same first copy of the format information. Nothing is promised of the other modules: the function patterns, the
-/// dark module, the second copy, the version information and the remainder bits.
+/// On status 0 the bytes, the ECI headers and the numbers in `content` are those of a symbol with the same codewords
+/// and the same first copy of the format information. Nothing is promised of the other modules: the function patterns,
+/// the dark module, the second copy of the format information, the version information and the remainder bits.
 ///
 /// # Errors
 ///

@@ -14,7 +14,7 @@ use qr_symbol::encode_series;
 use qr_symbol::laws::{long_inputs_have_none, series_are_one, series_have_one_side};
 use std::alloc::Global;
 
-/// What `qrproved_encode_series` tells about the symbols, besides their modules.
+/// The numbers of a series, which `qrproved_encode_series` returns with the modules of the symbols.
 #[repr(C)]
 #[derive(Clone, Copy)]
 pub struct QrprovedSeries {
@@ -24,21 +24,21 @@ pub struct QrprovedSeries {
     pub side: u8,
 }
 
-/// Encodes `input` as a series of symbols of the version `version`, or as one plain symbol if it fits one, and writes
-/// the modules to `modules`, one symbol after the other (ISO/IEC 18004:2015, 8). The module in a row and a column of
-/// symbol `number`, counted from 0, is the byte with the index `(number * side + row) * side + column`, which is 1 if
-/// it is dark and 0 if it is light. `level`, `rule` and `interpretation` mean what they mean in `qrproved_encode`, and
-/// each symbol has the interpretation.
+/// Encodes `input` as a series of symbols of the version `version`, or as one plain symbol if it fits one (ISO/IEC
+/// 18004:2015, 8). The modules are written to `modules`, one symbol after the other. The byte with the index `(number *
+/// side + row) * side + column` is 1 if the module in this row and column of symbol `number` is dark, and 0 if it is
+/// light. Symbols, rows and columns are counted from 0. `level`, `rule` and `interpretation` mean what they mean in
+/// `qrproved_encode`. Each symbol has the interpretation.
 ///
-/// On status 0 the buffer begins with exactly the modules of the symbols, which are read and joined as the input, each
-/// with its interpretation, and `series` has their number and side. Without kanji mode, no series of this version has
-/// fewer symbols.
+/// On status 0 the buffer begins with exactly the modules of the symbols, and `series` has their number and side.
+/// Reading and joining the symbols yields the input, and each symbol is read with the interpretation. Without kanji
+/// mode, no series of this version has fewer symbols.
 ///
 /// # Errors
 ///
 /// The first of these that applies: `SETTINGS`, `EMPTY` and `FIELDS` as in `qrproved_encode`, `TOO_MANY` (the input
 /// takes more than 16 symbols) and `ROOM` (`modules` is too short). `MEMORY` if memory is refused. `SETTINGS`, `EMPTY`,
-/// `FIELDS`, and `TOO_MANY` for more than 113,425 bytes, are found before memory is requested.
+/// `FIELDS`, and `TOO_MANY` for an input of more than 113,425 bytes are found before memory is requested.
 #[unsafe(no_mangle)]
 pub extern "C" fn qrproved_encode_series(
     alloc: Global,
@@ -112,7 +112,7 @@ mod tests {
     use super::*;
     use std::test::Fail;
 
-    // In byte mode at version 1 and level H, the first of two symbols has five of eight letters.
+    // In byte mode at version 1 and level H, the first of two symbols contains five of the eight letters.
     #[test]
     fn eight_letters_at_1_h(rt: HostRuntime) -> Result<(), Fail> {
         let mut modules = [7u8; 884];

@@ -17,7 +17,7 @@ pub(crate) struct Settings {
     pub interpretation: Interpretation,
 }
 
-// The numbers of no interpretation and of GS1 data. They follow those of the ECIs.
+// The numbers that stand for no interpretation and for GS1 data. They come after the numbers of the ECIs.
 const DEFAULT: u32 = 1_000_000;
 
 const GS1: u32 = 1_000_001;

@@ -21,8 +21,8 @@ pub(crate) const TOO_MANY: u8 = 3;
 /// Memory was refused.
 pub(crate) const MEMORY: u8 = 4;
 
-/// A number is out of range, kanji mode is allowed with another ECI than that of Shift JIS, or in `qrproved_mend` a
-/// module is more than 2.
+/// A number is out of range, or kanji mode is allowed with an ECI that is not the one of Shift JIS. In `qrproved_mend`:
+/// a module is more than 2.
 pub(crate) const SETTINGS: u8 = 5;
 
 /// A buffer is too short.
@@ -31,8 +31,9 @@ pub(crate) const ROOM: u8 = 6;
 /// No version has this side.
 pub(crate) const SIDE: u8 = 7;
 
-/// The format information belongs to no level and mask. In `qrproved_mend`: for each level and mask, each copy has more
-/// than three wrong modules, where a module that is not known counts half.
+/// The format information belongs to no level and mask. In `qrproved_mend`: whatever level and mask are tried, each
+/// copy of the format information has more than three misread modules. Two modules that are not known count as one
+/// misread module.
 pub(crate) const FORMAT: u8 = 8;
 
 /// A block does not match its error correction codewords. In `qrproved_mend`: a block is damaged too much.
@@ -41,7 +42,8 @@ pub(crate) const CHECK: u8 = 9;
 /// The data codewords cannot be parsed.
 pub(crate) const SEGMENTS: u8 = 10;
 
-/// The text is no drawing of squares that begin as symbols do.
+/// The text is no drawing of squares that begin as symbols do: with a dark module in row 0 and column 0, and a light
+/// one in row 0 and column 7.
 pub(crate) const NO_DRAWING: u8 = 11;
 
 /// The input is no GS1 data: a separator of fields comes directly before another or before `%`.
@@ -58,7 +60,8 @@ pub(crate) fn encode_status(fault: EncodeFault) -> u8
     }
 }
 
-// The fault `Series` never occurs here: it is one of reading several symbols, which no call does.
+// The fault `Series` never occurs here: only a function that reads several symbols at once returns it, and no call uses
+// that function.
 pub(crate) fn read_status(fault: ReadFault) -> u8
     ensures { result ≡ read_status fault }
 {

@@ -60,7 +60,8 @@ fn versions(rt: HostRuntime) -> Result<(), Fail> {
     Ok(())
 }
 
-// Each row has an input, the lowest level that is allowed, and the version and the level that it gets (Table 7).
+// Each row has an input, the lowest level that is allowed, and the version and the level that the symbol gets (Table
+// 7).
 #[test]
 fn highest_levels(rt: HostRuntime) -> Result<(), Fail> {
     let digits = [b'7'; 7089];
@@ -249,8 +250,8 @@ fn four_blocks_of_two_lengths(rt: HostRuntime) -> Result<(), Fail> {
     Ok(())
 }
 
-// `build` and `build_masked` make the same symbols. Among these versions are some with no, three, four and seven
-// remainder bits, and those from 7 on have version information.
+// `build` and `build_masked` make the same symbols. These versions have no, three, four or seven remainder bits, and
+// those from 7 on have version information.
 #[test]
 fn plain_and_fast_symbols(rt: HostRuntime) -> Result<(), Fail> {
     for number in [1, 2, 7, 14, 21, 40] {

@@ -3,8 +3,9 @@ use qr_field::Divisor;
 use qr_mending::{mend, mend_with_erasures};
 use std::process::Abort;
 
-// Mends the block of `01234567` at 1-M with this damage, of which at most `t` codewords may be corrected. Returns how
-// many were, or `None` if the block cannot be mended.
+// Mends the block of `01234567` at 1-M. `damage` has the index of each misread codeword, counted from 0, and the value
+// that was read. At most `t` codewords may be corrected. Returns how many were corrected, or `None` if the block cannot
+// be mended.
 fn mended_count(rt: &impl Abort, t: usize, damage: &[(usize, u8)]) -> Option<usize> {
     let mut damaged = EIGHT_DIGITS;
     for (place, codeword) in damage {
@@ -24,7 +25,7 @@ fn mended_count(rt: &impl Abort, t: usize, damage: &[(usize, u8)]) -> Option<usi
     None
 }
 
-// The results are those of an independent decoder, by the algorithm of Berlekamp and Massey.
+// The results are those of an independent decoder, which uses the algorithm of Berlekamp and Massey.
 #[test]
 fn block_of_eight_digits_damaged(rt: HostRuntime) {
     let five = [(0, 0x41u8), (3, 0), (7, 0x22), (20, 1), (25, 0)];
@@ -44,9 +45,9 @@ fn block_of_eight_digits_damaged(rt: HostRuntime) {
     }
 }
 
-// Mends the same block with the codewords in `unread` marked as erased and those in `misread` changed. Returns how many
-// codewords were corrected that were not erased, or `None` if the block cannot be mended. It can be mended if the
-// number of erased codewords and twice the number of misread ones add up to at most `spare`.
+// Mends the same block after other damage: the codewords in `unread` are marked as erased, and those in `misread` are
+// misread. Returns how many codewords were corrected that were not erased, or `None` if the block cannot be mended. It
+// can be mended if the number of erased codewords and twice the number of misread ones add up to at most `spare`.
 fn mended_with_erasures(
     rt: &impl Abort,
     spare: usize,
@@ -77,8 +78,8 @@ fn mended_with_erasures(
     None
 }
 
-// The results are those of another program, which tried each set of positions as those of the errors, and solved the
-// linear equations for the codewords there.
+// The results are those of another program. It tried each set of positions at which the errors could be, and solved the
+// linear equations for the codewords at these positions.
 #[test]
 fn block_of_eight_digits_with_erasures(rt: HostRuntime) {
     let unread = [

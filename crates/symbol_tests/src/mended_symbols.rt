@@ -8,8 +8,8 @@ use qr_mending::{mend_series, mend_symbol, mend_symbol_with_unknown};
 use qr_symbol::{ReadFault, build_masked, encode_series};
 use std::test::Fail;
 
-// Mends the symbol of `01234567` at 1-M with these modules inverted. Returns how many codewords were misread, how many
-// modules of the format information are wrong, and how many of the whole square.
+// Mends the symbol of `01234567` at 1-M with these modules inverted. Returns the number of misread codewords, the
+// number of wrong modules in the format information, and the number of wrong modules in the whole square.
 fn mend_inverted(
     rt: &HostRuntime,
     modules: &[(u8, u8)],
@@ -83,7 +83,7 @@ fn eight_digits_damaged(rt: HostRuntime) -> Result<(), Fail> {
     Ok(())
 }
 
-// At 1-M, modules of nine different codewords.
+// Modules of nine different codewords at 1-M.
 static CODEWORDS: [(u8, u8); 9] = [
     (20, 20),
     (16, 20),

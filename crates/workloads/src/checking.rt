@@ -13,7 +13,7 @@ use std::alloc::{AllocError, Global};
 
 pub static LEVELS: [Level; 4] = [Level::L, Level::M, Level::Q, Level::H];
 
-// Returns the symbol of the text, or `None` if it fits none.
+// Returns the symbol of the text, or `None` if the text fits no version from `smallest` on.
 pub fn symbol_of(
     alloc: Global,
     text: &Text,
@@ -136,9 +136,8 @@ struct Damaged {
     beyond: Matrix,
 }
 
-// Damages the first codewords in the symbol. Interleaving takes one codeword of each block in turn, at least as long as
-// no block has ended. So the first codewords, as many as there are blocks, are one of each block, and the next as many
-// are again one of each.
+// Damages the first codewords of the final sequence. Interleaving takes one codeword of each block in turn. So if there
+// are n blocks, the first n codewords are one of each block, and so are the next n, as long as no block has ended.
 fn damage(alloc: Global, symbol: &Symbol, random: &mut Random) -> Result<Damaged, AllocError> {
     let sizes = symbol.version.blocks(symbol.level);
     let blocks = usize::from(sizes.short) + usize::from(sizes.long);
@@ -173,8 +172,8 @@ fn damage(alloc: Global, symbol: &Symbol, random: &mut Random) -> Result<Damaged
     Ok(squares)
 }
 
-// Returns the modules that a smudge has made unknown, as the dark ones of a square. The smudge is as wide and as high
-// as a seventh of the side.
+// Returns a square whose dark modules are those that a smudge has made unknown. The smudge is as wide and as high as a
+// seventh of the side.
 fn smudge(alloc: Global, symbol: &Symbol, random: &mut Random) -> Result<Matrix, AllocError> {
     let side = symbol.version.side();
     let mut unknown = Matrix::new(alloc, side)?;
@@ -193,9 +192,9 @@ fn smudge(alloc: Global, symbol: &Symbol, random: &mut Random) -> Result<Matrix,
     Ok(unknown)
 }
 
-/// Mends symbols of versions 2 to 13, and every sixteenth time one of version 40 at level H. Each is mended in five
-/// states: sound, with a wrong codeword in each block, with as many as can be mended, smudged, and with one more than
-/// can be mended.
+/// Mends symbols of versions 2 to 13, and every sixteenth time one of version 40 at level H. Each symbol is mended in
+/// five states: sound, with one wrong codeword in each block, with as many wrong codewords as can be mended, with a
+/// smudge, and with one wrong codeword more than can be mended.
 pub fn mend(alloc: Global, count: u64, seed: u64, digest: &mut Digest) -> Result<(), AllocError> {
     let mut random = Random::new(seed);
     for turn in 0..count {

@@ -1,7 +1,7 @@
 //! A number that depends on all results of a job.
 
-/// It changes with each byte and each number that is added, and with their order. Eight bytes are added at once, so
-/// that the digest takes little of a job's time.
+/// The digest depends on each byte and each number that was added, and on their order. Eight bytes are added at once,
+/// so that the digest takes little of a job's time.
 #[derive(Clone, Copy, Drop)]
 pub struct Digest {
     state: u64,

@@ -1,4 +1,4 @@
-//! The job of those who call the library, in which a module is a byte: symbols are encoded, drawn, read and mended.
+//! The job of programs that call the library: symbols are encoded, drawn, read and mended, and each module is a byte.
 
 ghost use Rattle.std.specs.Prelude.{◌≡◌, ◌*◌, ◌≤◌};
 
@@ -67,18 +67,19 @@ fn large_symbol(
     symbol_of(alloc, &text, level, version)
 }
 
-// What becomes of a codeword.
+// How a codeword changes.
 #[derive(Clone, Copy)]
 struct Change {
     // The bits that are inverted; 0 if the codeword stays as it is.
     bits: u8,
-    // 1 for the codeword of its block that was drawn by lot first, 2 for the second, and so on; 0 if it was not drawn.
+    // The codewords of a block that change are drawn by lot. This is 1 for the first that was drawn, 2 for the second,
+    // and so on, and 0 for a codeword that was not drawn.
     rank: u8,
 }
 
-// Returns the index in the final sequence of codeword `at` of a block. The sequence has the first data codeword of each
-// block, then the second of each, and so on, and then the error correction codewords in the same way. Long blocks have
-// one data codeword more.
+// Returns the index in the final sequence of the codeword that has the index `at` in its block. The sequence has the
+// first data codeword of each block, then the second of each, and so on, and then the error correction codewords in the
+// same way. Long blocks have one data codeword more.
 fn index_of(version: Version, level: Level, block: usize, at: usize) -> usize {
     let sizes = version.blocks(level);
     let (short, short_len) = (usize::from(sizes.short), usize::from(sizes.short_len));
@@ -96,8 +97,7 @@ fn index_of(version: Version, level: Level, block: usize, at: usize) -> usize {
     data.saturating_add(before).saturating_add(block)
 }
 
-// Returns what becomes of each codeword of the final sequence, if in each block as many are wrong as can be mended.
-// These are drawn by lot among all codewords of the block.
+// Returns how each codeword of the final sequence changes. In each block as many codewords change as can be mended.
 fn changes(
     alloc: Global,
     version: Version,
@@ -112,7 +112,7 @@ fn changes(
         let is_long = block >= usize::from(sizes.short);
         let len = usize::from(sizes.short_len) + usize::from(is_long) + usize::from(sizes.ec_len);
         let mut rank = 1u8;
-        // If a codeword was drawn before, another is drawn. As many as 1,000 tries are never needed.
+        // If a codeword was drawn before, another is drawn in its place. 1,000 tries are always enough.
         for _ in 0..1000 {
             if rank > bound {
                 break;
@@ -282,10 +282,10 @@ fn add_mending(
     Ok(())
 }
 
-/// Takes symbols of versions 1 to 13, and every sixteenth time one of version 20 to 40 that is full. Each is encoded,
-/// written as bytes, drawn as SVG and as UTF8, and read. It is mended with one wrong codeword in each block, with half
-/// as many as can be mended, with as many as can be mended, and with a smudge. Each call begins with bytes and ends
-/// with bytes.
+/// Takes symbols of versions 1 to 13, and every sixteenth time a full one of version 20 to 40. Each symbol is encoded,
+/// written as bytes, drawn as SVG and as UTF8, and read. Then it is mended four times: with one wrong codeword in each
+/// block, with half as many as can be mended, with as many as can be mended, and with a smudge. Drawing, reading and
+/// mending begin with the modules as bytes, as the calls of the library do.
 pub fn library(
     alloc: Global,
     count: u64,

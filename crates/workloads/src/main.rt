@@ -1,7 +1,7 @@
 //! A program that does the jobs that users wait for, on inputs that it makes from a seed. Its arguments are the name of
 //! a job, how many inputs the job takes, and the seed. With the name `all` it does each job, with as many inputs. It
-//! prints a line for each job, with a digest of all results of the job. `bench/run` measures how long it takes. Where a
-//! sum can never be so large, `saturating_add` and `saturating_mul` are for the prover.
+//! prints a line for each job, with a digest of all results of the job. `bench/run` measures how long it takes.
+//! `saturating_add` and `saturating_mul` are for the prover where a result can never be too large for its type.
 #![tactic(auto)]
 
 mod checking;
@@ -26,7 +26,7 @@ static NAMES: [&str; 7] = [
     "library",
 ];
 
-// Does a job. Returns `None` if there is none of this name.
+// Does a job. Returns `None` if no job has this name.
 fn job(
     alloc: Global,
     name: &str,

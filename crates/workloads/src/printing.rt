@@ -52,7 +52,7 @@ fn add_run(
 }
 
 /// Draws labels of versions 1 to 13, most of them as SVG. They contain links, serial numbers, trade item numbers,
-/// networks and contacts, at the levels M and Q.
+/// passwords of networks, and contacts, at the levels M and Q.
 pub fn labels(alloc: Global, count: u64, seed: u64, digest: &mut Digest) -> Result<(), AllocError> {
     let mut random = Random::new(seed);
     for turn in 0..count {
@@ -71,7 +71,7 @@ pub fn labels(alloc: Global, count: u64, seed: u64, digest: &mut Digest) -> Resu
     Ok(())
 }
 
-// Makes a text of one of five kinds, which takes a version from 18 to 40.
+// Makes a text of one of five kinds, so long that it takes a version from 18 to 40.
 fn large_text(
     alloc: Global,
     random: &mut Random,
@@ -157,9 +157,9 @@ pub fn series(alloc: Global, count: u64, seed: u64, digest: &mut Digest) -> Resu
     Ok(())
 }
 
-/// Takes awkward inputs: some whose parts are as long as a segment of their own just pays, kanji pairs that begin after
-/// an odd number of bytes, inputs with one byte more than a range of versions holds, series of version 1, and inputs
-/// that would take more than 16 symbols.
+/// Takes awkward inputs. Some consist of runs for which a segment of their own saves few bits or none. Some have kanji
+/// pairs that begin after an odd number of bytes. Some have one byte more than version 9 or 26 holds, some are series
+/// of version 1, and some would take more than 16 symbols.
 pub fn awkward(
     alloc: Global,
     count: u64,

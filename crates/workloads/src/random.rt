@@ -37,7 +37,7 @@ impl Random {
         least + self.below(most - least)
     }
 
-    /// As `between`, for bytes.
+    /// Does for bytes what `between` does.
     pub fn byte_between(&mut self, least: u8, most: u8) -> u8 {
         if most <= least {
             return least;

@@ -19,7 +19,7 @@ static WORDS: [&str; 24] = [
     "Thanks",
 ];
 
-// Words with bytes above 7F, in UTF-8.
+// Words with bytes above 7F (hexadecimal), in UTF-8.
 static FOREIGN: [&str; 16] = [
     "Grüße",
     "für",
@@ -73,7 +73,7 @@ impl Text {
         Ok(())
     }
 
-    /// A link with a token, of 40 to 90 bytes.
+    /// A link of 46 to 85 bytes, with a token and a number in it.
     pub fn put_link(&mut self, random: &mut Random) -> Result<(), AllocError> {
         self.put("https://www.example.org/t/")?;
         let count = random.between(14, 54);
@@ -91,7 +91,7 @@ impl Text {
         self.put_of(random, &DIGITS, count)
     }
 
-    /// A Global Trade Item Number of 14 digits, or one with a batch and a date, of 34 bytes.
+    /// A Global Trade Item Number of 14 digits. In about half of the cases 20 digits follow it, for a date and a batch.
     pub fn put_gtin(&mut self, random: &mut Random) -> Result<(), AllocError> {
         self.put_of(random, &DIGITS, 14)?;
         if random.below(2) == 0 {
@@ -101,7 +101,7 @@ impl Text {
         self.put_of(random, &DIGITS, 18)
     }
 
-    /// What a telephone needs to join a wireless network, of 100 to 140 bytes.
+    /// What a telephone needs to join a wireless network: its name and password, in 98 to 136 bytes.
     pub fn put_network(&mut self, random: &mut Random) -> Result<(), AllocError> {
         self.put("WIFI:T:WPA;S:")?;
         let count = random.between(20, 30);
@@ -112,7 +112,7 @@ impl Text {
         self.put(";;")
     }
 
-    /// A contact (vCard), of 120 to 220 bytes.
+    /// A contact (vCard) of about 120 to 220 bytes.
     pub fn put_contact(&mut self, random: &mut Random) -> Result<(), AllocError> {
         self.put("BEGIN:VCARD\nVERSION:3.0\nFN:")?;
         let count = random.between(10, 30);
@@ -141,7 +141,7 @@ impl Text {
         Ok(())
     }
 
-    /// At least `count` bytes of words, most of which have bytes above 7F (hexadecimal).
+    /// At least `count` bytes of words. Each word has bytes above 7F (hexadecimal).
     pub fn put_foreign(&mut self, random: &mut Random, count: usize) -> Result<(), AllocError> {
         let end = self.bytes.len().saturating_add(count);
         for _ in 0..count {
@@ -181,7 +181,8 @@ impl Text {
         self.put_of(random, &DIGITS, count)
     }
 
-    /// `count` pairs of bytes, which are Kana and Kanji in Shift JIS. Some begin after an odd number of bytes.
+    /// About `count` pairs of bytes, which are kana and kanji in Shift JIS. Some pairs are replaced by three letters,
+    /// so that others begin after an odd number of bytes.
     pub fn put_pairs(&mut self, random: &mut Random, count: usize) -> Result<(), AllocError> {
         for _ in 0..count {
             let kind = random.below(16);
@@ -198,8 +199,8 @@ impl Text {
         Ok(())
     }
 
-    /// Runs of digits, of capitals and of small letters, until the text has at least `count` bytes. The runs are so
-    /// long that a segment of its own just pays for a run, or just does not.
+    /// Runs of digits, of capitals and of small letters, until the text has at least `count` bytes. A segment of its
+    /// own saves few bits or none for such a run.
     pub fn put_runs(&mut self, random: &mut Random, count: usize) -> Result<(), AllocError> {
         for _ in 0..count {
             if self.bytes.len() >= count {

@@ -1,5 +1,5 @@
--- What each step of a run can return. `words` are the arguments, `s` the settings, and a device is `old` (`in0`,
--- `out0`) before the step and `new` (`in1`, `out1`) after it.
+-- What each step of a run can return. `words` are the arguments, and `s` the settings. A device is `old` before the
+-- step and `new` after it; in `Attempts` it is `in0` or `out0` before, and `in1` or `out1` after.
 use Rattle.std.specs.Prelude.{◌≡◌, ◌<◌, ◌≤◌, ◌↔◌, ◌⊎◌, ℕ, List, [], false, length, max, IfErr, IsErrOf, IsTrue, OnOk, Result, Ok, Err, MatchResult, true}
 use Rattle.clap.specs.Walk.{Text}
 use Rattle.qrencode_cli.specs.Command.{AllRead, DrawnInPart, DrawnWhole, HasDrawing, InputConsumed, IsDrawing, IsFault}
@@ -36,8 +36,9 @@ pub record StopsReading (old new : Reader) (f : Fault) : Type 0 where
 abbrev pub drawing_of_job : DrawingJob → List ℕ
 drawing_of_job job = drawn job.kind job.margin (squares_of job.symbols.items)
 
--- The settings ask for these symbols of `input`, which is not empty and shorter than `INPUT_MAX`, so that nothing was
--- cut off. The symbols are read and joined as `input`, and can be drawn, since they are at most 16 and of one size
+-- The settings ask for these symbols of `input`, and the symbols are read and joined as `input`. `input` is not empty,
+-- and it is shorter than `INPUT_MAX`, so nothing was cut off. The symbols can be drawn, since there are 1 to 16, all
+-- with one side
 pub record AreDrawnFor (s : SettingsView) (input : List ℕ) (symbols : List Symbol) : Type 0 where
   pub asked : AreSymbols s input (squares_of symbols)
   pub joined : IsJoined (squares_of symbols) input
@@ -87,8 +88,8 @@ pub record Draws (old new : Writer) (drawing : List ℕ) (result : Result (Unit 
   pub within : old.counts ≡ no_writes → IsWrittenWithin new.counts
   pub offered : new.counts.offered ≤ max old.counts.offered WRITE_MAX
 
--- A run can have this result, before the line of a fault is written: a drawing job was made, and writing its drawing
--- had the result; or making it failed, and nothing was written
+-- A run can have this result before the line of a fault is written. Either a drawing job was made, and writing its
+-- drawing had this result; or making the job failed with this result, and nothing was written
 abbrev pub Attempts : List Text → Reader → Reader → Writer → Writer → Result (Unit {0}) Fault → Type 0
 Attempts words in0 in1 out0 out1 result =
     ((job : DrawingJob) × Prepares words in0 in1 (Ok job) × Draws out0 out1 (drawing_of_job job) result)

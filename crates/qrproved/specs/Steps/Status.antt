@@ -14,7 +14,7 @@ encode_status fault.TooLong = 2
 encode_status fault.TooMany = 3
 encode_status fault.Memory = 4
 
--- The status for a square that is not read; `Series` is a fault of reading several symbols, which no call does
+-- The status for a square that is not read. `Series` is a fault of reading several symbols at once, which no call does
 abbrev pub read_status : ReadFault → ℕ
 read_status unread.Memory = 4
 read_status unread.Side = 7

@@ -42,7 +42,7 @@ within-after v w len tries (Err Failed) e h =
     let f = h.failed in let z = h.zeros in let t = h.tried in let few = h.few in
     rw e (record { faults = rw (f, z) (omega arith); interrupted = rw t (omega arith) })
 
--- the writes of n bytes, and of some more
+-- if the first `at` bytes were written, and then n more, the first `at` + n bytes were written
 pub sends_more : (a b c : Writer) (bytes : List ℕ) (at len n i j k : ℕ) → Writes a b i j (take at bytes) [] →
     n ≤ length (take len (drop at bytes)) → length (take len (drop at bytes)) ≤ 1200 → (n ≡ 0 → ⊥) →
     j ≡ k → Appends b.taken c.taken (take n (take len (drop at bytes))) →
@@ -64,7 +64,7 @@ sends_more a b c bytes at len n i j k p le short some same q e =
     } in
     rw (take-add at n bytes, ← take-offered n len (drop at bytes) le) (writes_on a b c i j k [] [] [] (take at bytes) (take n buf) p one)
 
--- a write was interrupted, and is tried again
+-- after an interrupted write the same text was written, with one interruption more
 pub sends_again : (a b c : Writer) (text : List ℕ) (len i j : ℕ) → Writes a b i j text [] → len ≤ 1200 →
     j + 1 < 1000 → Keeps b.taken c.taken → c.counts ≡ write_counted len (Err Interrupted) b.counts →
     Writes a c i (j + 1) text []
@@ -82,7 +82,7 @@ sends_again a b c text len i j p short few q e =
     } in
     rw (← append-nil text) (writes_on a b c i j (j + 1) [] [] [] text [] p one)
 
--- a write took nothing and was the last
+-- if the last write took no byte and is a fault, the writer failed in the text
 refused : (a b c : Writer) (text : List ℕ) (at len i j : ℕ) (r : Result ℕ Trouble) → Writes a b i j (take at text) [] → len ≤ 1200
     → Keeps b.taken c.taken → c.counts ≡ write_counted len r b.counts → (b.counts.taken < 2 ^ 64 → c.counts.taken ≤ counted b.counts.taken)
     → (IsWell b.counts j → is_write_fault c.counts ≡ true) → Stops a c i text
@@ -98,20 +98,20 @@ refused a b c text at len i j r p short q e most fault =
     let whole = writes_stop a b c i j [] [] (take at text) (drop at text) p one in
     rw take-append-drop at whole
 
--- the write took no byte of a text that was not empty
+-- if the write took no byte of a text that was not empty, the writer failed in the text
 pub refused-zero : (a b c : Writer) (text buf : List ℕ) (at n i j : ℕ) → n ≡ 0 → Writes a b i j (take at text) [] → 0 < length buf → length buf ≤ 1200
     → Appends b.taken c.taken (take n buf) → c.counts ≡ write_counted (length buf) (Ok n) b.counts → Stops a c i text
 refused-zero a b c text buf at n i j none p some short q e =
     refused a b c text at (length buf) i j (Ok n) p short (nothing_more b.taken c.taken buf n none q) e (λ fits. rw e (omega arith))
     (λ h. let f = h.failed in let z = h.zeros in rw (e, none, f, z) (grind (arith, nat_tests)))
 
--- the write failed
+-- if the write failed, the writer failed in the text
 pub refused-failed : (a b c : Writer) (text : List ℕ) (at len i j : ℕ) → Writes a b i j (take at text) [] →
     len ≤ 1200 → Keeps b.taken c.taken → c.counts ≡ write_counted len (Err Failed) b.counts → Stops a c i text
 refused-failed a b c text at len i j p short q e =
     refused a b c text at len i j (Err Failed) p short q e (λ fits. rw e (omega arith)) (λ h. let f = h.failed in rw (e, f) refl)
 
--- the write was interrupted for the 1,000th time
+-- if the write was interrupted for the 1,000th time, the writer failed in the text
 pub refused-tried : (a b c : Writer) (text : List ℕ) (at len i j : ℕ) → j ≡ 999 → Writes a b i j (take at text) [] → len ≤ 1200
     → Keeps b.taken c.taken → c.counts ≡ write_counted len (Err Interrupted) b.counts → Stops a c i text
 refused-tried a b c text at len i j last p short q e =

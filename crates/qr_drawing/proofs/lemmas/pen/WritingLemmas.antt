@@ -17,7 +17,7 @@ most-on a b c s h l k y t e f g fits m n = let small : b < 2 ^ 64 = omega arith 
 most-before : (a c x t y : ℕ) → t ≡ x + y → c ≤ counted (a + x) → c ≤ counted (a + t)
 most-before a c x t y e m = omega arith
 
--- one part after another was sent
+-- if one part was sent and then another, the two together were sent
 Sends-trans : (a b c : Writer) (h0 h1 h2 x y : List ℕ)
     → Sends a b (h0 ++ x) h1 → Sends b c (h1 ++ y) h2 → Sends a c (h0 ++ (x ++ y)) h2
 Sends-trans a b c h0 h1 h2 x y p q = record {
@@ -36,7 +36,7 @@ Sends-stops a b c h0 h1 x y p (t, (rest, f), q) = (
   Appends-trans a.taken b.taken c.taken p.sent t p.grows q,
 )
 
--- one part after another was written
+-- if one part was written and then another, the two together were written
 pub writes_on : (a b c : Writer) (i j k : ℕ) (h0 h1 h2 x y : List ℕ)
     → Writes a b i j (h0 ++ x) h1 → Writes b c j k (h1 ++ y) h2 → Writes a c i k (h0 ++ (x ++ y)) h2
 writes_on a b c i j k h0 h1 h2 x y p q = record {
@@ -46,7 +46,7 @@ writes_on a b c i j k h0 h1 h2 x y p q = record {
   flushes = q.flushes ∙ p.flushes;
 }
 
--- one part was written, and the writer failed in the next
+-- if one part was written and the writer failed in the next, it failed in the two together
 pub writes_stop : (a b c : Writer) (i j : ℕ) (h0 h1 x y : List ℕ)
     → Writes a b i j (h0 ++ x) h1 → Stops b c j (h1 ++ y) → Stops a c i (h0 ++ (x ++ y))
 writes_stop a b c i j h0 h1 x y p q = record {
@@ -79,7 +79,7 @@ stops_before a b i x y p = record {
 pub stops_first : (a b : Writer) (i : ℕ) (h x y : List ℕ) → Stops a b i (h ++ x) → Stops a b i (h ++ (x ++ y))
 stops_first a b i h x y p = subst (λ l. Stops a b i l) (append_assoc h x y) (stops_before a b i (h ++ x) y p)
 
--- nothing was written
+-- if nothing was written, the text that is held is unchanged
 pub writes_none : (a : Writer) (i : ℕ) (h : List ℕ) → Writes a a i i (h ++ []) h
 writes_none a i h = record {
   sends = record {
@@ -93,7 +93,7 @@ writes_none a i h = record {
   flushes = refl;
 }
 
--- a text was added to what is held, after some of that was written
+-- if a text is appended to what is held, it is also appended to the whole text
 pub formed : (a b : Writer) (i j : ℕ) (h0 h1 h2 x : List ℕ) → Writes a b i j h0 h1 → h2 ≡ h1 ++ x → Writes a b i j (h0 ++ x) h2
 formed a b i j h0 h1 h2 x p e = record {
   sends = record {
@@ -111,7 +111,7 @@ formed a b i j h0 h1 h2 x p e = record {
 pub stops_between : (a b c : Writer) (i j : ℕ) (h0 h1 x y : List ℕ) → Writes a b i j (h0 ++ x) h1 → Stops b c j h1 → Stops a c i (h0 ++ (x ++ y))
 stops_between a b c i j h0 h1 x y p q = writes_stop a b c i j h0 h1 x y p (stops_before b c j h1 y q)
 
--- what was held of a text was written, or the writer failed in it
+-- after what was held of a text is sent, the whole text was written, or the writer failed in it
 pub emptied : (a b c : Writer) (i : ℕ) (before after : Pen) (text : List ℕ) (r : Result (Unit {0}) DrawFault) → Writes a b i before.interrupted text before.piece
     → Reserves b c before after r → OnOk r (after.piece ≡ [])
     → MatchResult r (λ _. Writes a c i after.interrupted text []) (λ _. Stops a c i text)
@@ -120,7 +120,7 @@ emptied a b c i before after text (Ok t) p q e =
 emptied a b c i before after text (Err f) p q e =
     let w = writes_stop a b c i before.interrupted [] before.piece text [] p (rw append-nil q) in rw append-nil at w
 
--- what the calls promise that write a text whole
+-- a call that writes a text whole promises this
 abbrev pub Written : Writer → Writer → List ℕ → {T : Type 0} → Result T DrawFault → Type 0
 Written old new text r = record {
   ok : OnOk r (Appends old.taken new.taken text);
@@ -133,7 +133,8 @@ Written old new text r = record {
   flushes : new.counts.flushes ≡ old.counts.flushes;
 }
 
--- a text that was written, or in which the writer failed, with no interrupted writes before
+-- if a text was written, or the writer failed in it, and no write was interrupted before, the promise of such a call
+-- holds
 pub written : {T : Type 0} (a b : Writer) (tries : ℕ) (text : List ℕ) (r : Result T DrawFault)
     → MatchResult r (λ _. Writes a b 0 tries text []) (λ _. Stops a b 0 text) → Written a b text r
 written a b tries text (Ok t) p = search rules

@@ -3,7 +3,7 @@ use Rattle.std.proofs.Common.{◌≡◌, ◌≤◌, ◌+◌, ◌++◌, ◌∙◌
 use Rattle.std.proofs.{Math.Seq.take-append-add, lemmas.List.length-take-le, lemmas.List.take-append-le}
 use borrow.Rule.Slice.PartMut.{post_of, put_mid}
 
--- the first n bytes of xs and the first k of those that were copied to place n
+-- after ys were copied to place n, the first n + k bytes are the first n bytes of xs and the first k of ys
 pub copied : (n m k : ℕ) (xs ys : List ℕ) → n ≤ length xs → k ≤ length ys → take (n + k) (put_mid n m xs ys) ≡ take n xs ++ take k ys
 copied n m k xs ys fits some =
     let rest = ys ++ post_of n m xs in

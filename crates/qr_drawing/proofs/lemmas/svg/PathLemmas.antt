@@ -59,7 +59,7 @@ run_path-first top margin y x g dark light =
     let e : begins_run margin g y x ≡ true = rw dark (grind (arith, nat_tests)) in
     rw e refl
 
--- how many numbers from x on pass a test, up to the first that does not
+-- if d numbers from x on pass a test and the next does not, the longest prefix that passes has the length d
 prefix_len-range : (p : ℕ → Bool) (x d n : ℕ) → d ≤ n → ((k : ℕ) → x ≤ k → k < x + d → p k ≡ true) → (d < n → p (x + d) ≡ false)
     → prefix_len p (range_with_len x n) ≡ d
 prefix_len-range p x zero zero le pass stop = refl
@@ -86,7 +86,7 @@ box-is top margin row x y modules run ex ey em = λ i. box_path (ex i) (ey i) (e
 
 -- in this module, `run` is the first of the runs of row `row` of a symbol from column `col` on
 module _ (top margin row col : ℕ) (g : Grid) (run : Run) (runs : List Run) (row_in : row < g.side) (are : AreRunsFrom g row col (run ∷ runs)) where
-  -- where the run is
+  -- the run begins at column `col` or later, is not empty, and ends in the row
   at : (col ≤ run.start) × (run.start < run.end) × (run.end ≤ g.side)
   at = run-in g row col run runs are
 
@@ -200,7 +200,7 @@ symbol_ends top margin row g e =
     rw e (texts_below-same (margin + g.side) (raster_width margin g) (row_path top margin g) (omega arith)
     (λ k a b. row_path-light top margin k g (λ x. is_dark_at_below margin k x g a)))
 
--- the square of the symbol at k
+-- the square with the index k is that of the symbol with the index k
 pub square_at-item : {T : Type 0} (grid : T → Grid) (xs : List T) (k : ℕ) (x : T) → k < length xs → x ≡ get_or xs k x → square_at (map grid xs) k ≡ grid x
 square_at-item grid xs k x lt is = get_or-map grid xs k x (light 0) lt ∙ ap grid (sym is)
 
@@ -220,7 +220,7 @@ texts-of-symbols grid text xs k e =
     texts-of-items text (map grid xs) (light 0)
     ∙ ap (λ m. texts_below m (λ n. text (square_at (map grid xs) n))) (length-map xs grid ∙ sym e)
 
--- the paths of a list of k symbols
+-- the paths of all symbols are the paths of the first k, if k is their number
 pub stack_ends : {T : Type 0} (grid : T → Grid) (margin k : ℕ) (xs : List T) → k ≡ length xs → stack_path margin (map grid xs)
     ≡ texts_below k (λ n. symbol_path (n * raster_width margin (square_at (map grid xs) n)) margin (square_at (map grid xs) n))
 unfolding stack_path
@@ -228,7 +228,7 @@ stack_ends grid margin k xs e =
     let n : length (map grid xs) ≡ k = length-map xs grid ∙ sym e in
     ap (λ m. texts_below m (λ n. symbol_path (n * raster_width margin (square_at (map grid xs) n)) margin (square_at (map grid xs) n))) n
 
--- the paths of the symbol at k
+-- the path of the symbol with the index k is the path at its top
 pub stack_at : {T : Type 0} (grid : T → Grid) (margin k top : ℕ) (xs : List T) (x : T) → HaveOneSide (map grid xs) → k < length xs → x ≡ get_or xs k x
     → top ≡ k * raster_width margin (square_at (map grid xs) 0)
     → symbol_path (k * raster_width margin (square_at (map grid xs) k)) margin (square_at (map grid xs) k) ≡ symbol_path top margin (grid x)
@@ -240,7 +240,7 @@ stack_at grid margin k top xs x one lt is e =
 next-multiple : (k w : ℕ) → k * w + w ≡ (k + 1) * w
 next-multiple k w = let e : k + 1 ≡ suc k = omega arith in rw e (sym (suc-mul k w))
 
--- the top of the next symbol
+-- the top of the next symbol is the top of this one and its height
 pub next_top : {T : Type 0} (grid : T → Grid) (margin k top width : ℕ) (xs : List T) (x : T) → HaveOneSide (map grid xs) → k < length xs → x ≡ get_or xs k x
     → top ≡ k * raster_width margin (square_at (map grid xs) 0) → width ≡ raster_width margin (grid x)
     → top + width ≡ (k + 1) * raster_width margin (square_at (map grid xs) 0)
@@ -248,7 +248,7 @@ next_top grid margin k top width xs x one lt is e f =
     let w = f ∙ one_width grid margin k xs x one lt is in
     rw (e, w) (next-multiple k (raster_width margin (square_at (map grid xs) 0)))
 
--- the seven pieces of a document, grouped as in the definition and as they are written
+-- a document is the same if its seven pieces are grouped as in the definition and as they are written
 pieces : (a b c d e f g : List ℕ) → a ++ b ++ c ++ (d ++ e ++ f) ++ g ≡ ((a ++ b ++ c ++ d) ++ e) ++ (f ++ g)
 pieces a b c d e f g = simp append_assoc
 
@@ -257,7 +257,7 @@ lines_of : ℕ → ℕ → ℕ → List Grid → List ℕ
 lines_of width height margin squares =
     declaration ++ opening width height ++ background width height ++ foreground margin squares ++ closing
 
--- the parts of the document
+-- a document is its head, the path of all symbols, and its tail
 pub document-parts : {T : Type 0} (grid : T → Grid) (margin width height : ℕ) (xs : List T) (x : T) →
     0 < length xs → width ≡ raster_width margin (grid (get_or xs 0 x)) → height ≡ width * length xs →
     svg_document margin (map grid xs) ≡ (head width height ++ stack_path margin (map grid xs)) ++ tail

@@ -17,25 +17,25 @@ none-set : all_below 8 (λ k. is_same (has_bit 0 k) false) ≡ true
 unfolding has_bit
 none-set = refl
 
--- four light cells
+-- four cells of modules that are bits of 0 are four light cells
 pub light-quad : (style : TextStyle) → bits_text 4 style 0 0 ≡ texts_below 4 (λ _. cell_text style false false)
 light-quad style =
     let light : (k : ℕ) → k < 8 → has_bit 0 k ≡ false = λ k lt. same-same (has_bit 0 k) false (below-at 8 (λ k. is_same (has_bit 0 k) false) none-set k lt) in
     texts_below-alike 4 (λ k. cell_text style (has_bit 0 k) (has_bit 0 k)) (λ _. cell_text style false false)
     (λ k lt. λ i. cell_text style (light k (omega arith) i) (light k (omega arith) i))
 
--- eight places of a row of the raster that shows no row of the square
+-- if a row of the raster is light, the number 0 has the bits of eight of its modules
 pub dark_none : (margin : ℕ) (g : Grid) (y col : ℕ) → ((x : ℕ) → is_dark_at margin g y x ≡ false) → AreDark margin g y col 0
 dark_none margin g y col h k lt inside =
     same-same (has_bit 0 k) false (below-at 8 (λ k. is_same (has_bit 0 k) false) none-set k lt) ∙ sym (h (margin + (col + k)))
 
--- eight places of a row of the raster that shows a row of the square
+-- the bits of eight modules of the square are those of eight places of the raster
 pub dark_eight : (margin : ℕ) (g : Grid) (y row col bits : ℕ) → margin + row ≡ y → row < g.side
     → ((k : ℕ) → k < 8 → has_bit bits k ≡ colour g row (col + k)) → AreDark margin g y col bits
 dark_eight margin g y row col bits e inside h k lt col_in =
     h k lt ∙ sym (ap (λ r. is_dark_at margin g r (margin + (col + k))) (sym e) ∙ is_dark_at_inside margin row (col + k) g inside col_in)
 
--- n cells of columns of the square that are added to the cells before them
+-- if n cells are added to the cells of `col` columns, the result is the cells of `col` + n columns
 pub added-cells : (style : TextStyle) (margin : ℕ) (g : Grid) (row col n upper lower : ℕ) (h t u : List ℕ) →
     n ≤ 8 → col + n ≤ g.side → AreDark margin g row col upper → AreDark margin g (row + 1) col lower →
     t ≡ h ++ texts_below col (λ i. cell_at style margin g row (margin + i)) →
@@ -55,7 +55,7 @@ bits-split n d style upper lower =
     ∙ ap (λ l. bits_text n style upper lower ++ l) (texts_below-alike d (λ k. cell_text style (has_bit upper (n + k)) (has_bit lower (n + k)))
     (λ k. cell_text style (has_bit (upper / 2 ^ n) k) (has_bit (lower / 2 ^ n) k)) (λ k lt. λ i. cell_text style (up upper k i) (up lower k i)))
 
--- eight cells that are added as four and four
+-- if four cells are added and then four more, eight cells are added
 pub eight_quads : (h t u : List ℕ) (style : TextStyle) (upper lower : ℕ) → t ≡ h ++ bits_text 4 style upper lower
     → u ≡ t ++ bits_text 4 style (upper / 16) (lower / 16) → u ≡ h ++ bits_text 8 style upper lower
 eight_quads h t u style upper lower p q =
@@ -71,17 +71,17 @@ all-quads : all_below 16 (λ b. pointwise nat_eq (get_or ASCII_QUADS b []) (bits
 unfolding has_bit texts_below
 all-quads = refl
 
--- a text of the table
+-- a text of the table is that of its four modules
 pub quad-at : (b : ℕ) → b < 16 → get_or ASCII_QUADS b [] ≡ bits_text 4 Plain b 0
 quad-at b lt = same_text _ _ (sym (below-at 16 (λ b. pointwise nat_eq (get_or ASCII_QUADS b []) (bits_text 4 Plain b 0)) all-quads b lt))
 
--- four modules by the four lowest bits
+-- the four lowest bits suffice for four modules of a plain text
 pub quad_plain : (upper lower : ℕ) → bits_text 4 Plain (upper % 16) 0 ≡ bits_text 4 Plain upper lower
 quad_plain upper lower =
     texts_below-alike 4 (λ k. cell_text Plain (has_bit (upper % 16) k) (has_bit 0 k)) (λ k. cell_text Plain (has_bit upper k) (has_bit lower k))
     (λ k lt. ap (λ b. cell_text Plain b false) (low-bits 4 upper k lt))
 
--- 16 bytes of which each eight are the text of four modules are the text of eight modules
+-- the texts of four modules and of the next four, one after the other, are the text of eight modules
 pub eight-joined : (bits : ℕ) (a b : List ℕ) → length a ≡ 8 → a ≡ bits_text 4 Plain (bits % 16) 0 → b ≡ bits_text 4 Plain (bits / 16) 0
     → put_mid 8 8 (a ++ 32 ∷ 32 ∷ 32 ∷ 32 ∷ 32 ∷ 32 ∷ 32 ∷ 32 ∷ []) b ≡ bits_text 8 Plain bits 0
 eight-joined bits a b l p q =
@@ -100,7 +100,7 @@ all-others = refl
 other-bit : (b k : ℕ) → b < 16 → k < 4 → has_bit (15 - b) k ≡ not (has_bit b k)
 other-bit b k l m = same-same (has_bit (15 - b) k) (not (has_bit b k)) (below-at 4 (λ k. is_same (has_bit (15 - b) k) (not (has_bit b k))) (below-at 16 (λ b. all_below 4 (λ k. is_same (has_bit (15 - b) k) (not (has_bit b k)))) all-others b l) k m)
 
--- four modules of an inverse text
+-- four modules of an inverse text are written as the opposite modules of a plain text
 pub quad_inverse : (upper lower : ℕ) → bits_text 4 Plain (15 - upper % 16) 0 ≡ bits_text 4 Inverse upper lower
 quad_inverse upper lower =
     texts_below-alike 4 (λ k. cell_text Plain (has_bit (15 - upper % 16) k) (has_bit 0 k)) (λ k. cell_text Inverse (has_bit upper k) (has_bit lower k))
@@ -132,12 +132,12 @@ all-pair-texts : all_below 16 (λ p. pointwise nat_eq (take (get_or HALF_BLOCK_P
 unfolding has_bit texts_below
 all-pair-texts = refl
 
--- a text of that table
+-- a text of the table of pairs is that of its modules
 pub pair-at : (p : ℕ) → p < 16 → take (get_or HALF_BLOCK_PAIRS p ([], 0)).1 (get_or HALF_BLOCK_PAIRS p ([], 0)).0 ≡ pair_text p
 pair-at p lt =
     same_text _ _ (sym (below-at 16 (λ p. pointwise nat_eq (take (get_or HALF_BLOCK_PAIRS p ([], 0)).1 (get_or HALF_BLOCK_PAIRS p ([], 0)).0) (pair_text p)) all-pair-texts p lt))
 
--- two modules and the two below them as two characters of half blocks
+-- two modules and the two below them are two characters of half blocks
 half-pair : (upper lower : ℕ) → pair_text (upper % 4 + lower % 4 * 4) ≡ bits_text 2 HalfBlocks upper lower
 half-pair upper lower =
     let a = upper % 4 in
@@ -150,7 +150,7 @@ half-pair upper lower =
     texts_below-alike 2 (λ k. half_blocks (has_bit (a + b * 4) k) (has_bit (a + b * 4) (2 + k))) (λ k. cell_text HalfBlocks (has_bit upper k) (has_bit lower k))
     (λ k lt. λ i. half_blocks (up k lt i) (down k lt i))
 
--- four characters of half blocks that are added as two and two
+-- if two characters of half blocks are added and then two more, four characters are added
 pub half_block_pairs : (h t u : List ℕ) (upper lower : ℕ) → t ≡ h ++ pair_text (upper % 4 + lower % 4 * 4)
     → u ≡ t ++ pair_text (upper / 4 % 4 + lower / 4 % 4 * 4) → u ≡ h ++ bits_text 4 HalfBlocks upper lower
 half_block_pairs h t u upper lower p q =
@@ -199,11 +199,11 @@ pub room-cells : (style : TextStyle) (margin : ℕ) (g : Grid) (row first done n
 room-cells style margin g row first done n count h t e le fits =
     room-left h t done n count (cell_room style) 1200 (λ i. cell_at style margin g row (first + i)) (λ k. cell-length style _ _) e le fits
 
--- a cell of a line
+-- the cell in column x of a line is the cell of the definition
 cell-of : (style : TextStyle) (margin : ℕ) (g : Grid) (y x : ℕ) → cell_of style margin g y x ≡ cell_at style margin g (top_row style y) x
 cell-of style margin g y x = grind arith
 
--- the cells of columns that are light
+-- the cells of columns that are light are light cells
 light-cells : (style : TextStyle) (margin : ℕ) (g : Grid) (row first n : ℕ) →
     ((y k : ℕ) → k < n → is_dark_at margin g y (first + k) ≡ false) →
     texts_below n (λ i. cell_at style margin g row (first + i)) ≡ texts_below n (λ _. cell_text style false false)
@@ -211,7 +211,7 @@ light-cells style margin g row first n light =
     texts_below-alike n (λ i. cell_at style margin g row (first + i)) (λ _. cell_text style false false)
     (λ k lt. λ i. cell_text style (light row k lt i) (light (row + 1) k lt i))
 
--- a line: the margin, the square's columns by fours, the remaining ones, the margin and a newline
+-- a line is the margin, the square's columns in groups of four, the columns that are left, the margin and a newline
 pub line-parts : (style : TextStyle) (margin : ℕ) (g : Grid) (y : ℕ) → cells_of_line style margin g y ++ 10 ∷ []
     ≡ (texts_below margin (λ _. cell_text style false false)
     ++ texts_below (g.side / 4 * 4) (λ i. cell_at style margin g (top_row style y) (margin + i)))

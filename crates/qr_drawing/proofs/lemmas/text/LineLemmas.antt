@@ -75,7 +75,7 @@ texts_below-length (suc n) b text most =
     let l = ap (λ l. length l) (texts_below-suc n text) ∙ length-append (texts_below n text) (text n) in
     omega (arith, l, most n, texts_below-length n b text most, suc-mul n b)
 
--- the texts of the first n items of a list
+-- the texts of the first n items of a list are the texts of n places
 texts-of-first : {A : Type 0} (text : A → List ℕ) (xs : List A) (d : A) (n : ℕ) → n ≤ length xs
     → flat_map text (take n xs) ≡ texts_below n (λ k. text (get_or xs k d))
 unfolding texts_below
@@ -91,7 +91,7 @@ texts-of-first text xs d (suc n) le =
       texts_below-suc n (λ k. text (get_or xs k d)),
     )
 
--- the texts of a list's items, place by place
+-- the texts of all items of a list are the texts of as many places
 pub texts-of-items : {A : Type 0} (text : A → List ℕ) (xs : List A) (d : A) → flat_map text xs ≡ texts_below (length xs) (λ k. text (get_or xs k d))
 texts-of-items text xs d = cc (
   take_all (length xs) xs (omega arith),
@@ -126,7 +126,7 @@ pub no-texts : (text : ℕ → List ℕ) → texts_below 0 text ≡ []
 unfolding texts_below
 no-texts text = refl
 
--- the text of place m was written, and the texts from there to n are empty
+-- if the text of place m is written, and the texts from there to n are empty, the texts of n places are written
 pub put_next : (a b c : Writer) (i j k m n : ℕ) (h0 h1 h2 piece : List ℕ) (text : ℕ → List ℕ) →
     text m ≡ piece → texts_below n text ≡ texts_below (m + 1) text →
     Writes a b i j (h0 ++ texts_below m text) h1 → Writes b c j k (h1 ++ piece) h2 →
@@ -134,7 +134,7 @@ pub put_next : (a b c : Writer) (i j k m n : ℕ) (h0 h1 h2 piece : List ℕ) (t
 put_next a b c i j k m n h0 h1 h2 piece text here same p q =
     rw (same, texts_below-more m text) (writes_on a b c i j k h0 h1 h2 (texts_below m text) (text m) p (rw here q))
 
--- the writer failed in the text of place m of n
+-- if the writer failed in the text of place m of n, it failed in the texts of n places
 pub put_stops : (a b c : Writer) (i j m n : ℕ) (h0 h1 piece : List ℕ) (text : ℕ → List ℕ) →
     text m ≡ piece → m < n → Writes a b i j (h0 ++ texts_below m text) h1 → Stops b c j (h1 ++ piece) →
     Stops a c i (h0 ++ texts_below n text)

@@ -1,7 +1,7 @@
 use Rattle.std.proofs.Common.{◌≡◌, ◌++◌, List, ℕ, append_assoc}
 use Rattle.qr_drawing.proofs.text.push_rest.Goals as goal
 
--- three parts that were added one after another
+-- if three parts are added one after the other, all three together are added
 parts : (h t u v a b c : List ℕ) → t ≡ h ++ a → u ≡ t ++ b → v ≡ u ++ c → v ≡ h ++ (a ++ (b ++ c))
 parts h t u v a b c p q r = cc (append_assoc (h ++ a) b c, append_assoc h a (b ++ c))
 

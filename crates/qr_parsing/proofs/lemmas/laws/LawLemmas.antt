@@ -32,12 +32,12 @@ corner : (v mask : ℕ) (l : Level) (cw : List ℕ) → 1 ≤ v → colour_of v 
 unfolding colour_of role_of pattern_colour
 corner v mask l cw some = let e : finder_ring (side_of v) 0 0 ≡ 3 = omega arith in rw e refl
 
--- column 7 is in its separator
+-- the module in row 0 and column 7 is light, since it is in the separator of the finder pattern
 separator : (v mask : ℕ) (l : Level) (cw : List ℕ) → 1 ≤ v → colour_of v l mask cw 0 7 ≡ false
 unfolding colour_of role_of pattern_colour
 separator v mask l cw some = let e : finder_ring (side_of v) 0 7 ≡ 4 = omega arith in rw e refl
 
--- the square that codewords make
+-- the square that codewords make begins as a symbol
 begins : (v mask : ℕ) (l : Level) (cw : List ℕ) → 1 ≤ v → v ≤ 40 → BeginsAsSymbol (grid_of v l mask cw)
 begins v mask l cw some most = record {
   least = omega arith;
@@ -47,11 +47,11 @@ begins v mask l cw some most = record {
   separator = colour-square (side_of v) (colour_of v l mask cw) 0 7 (omega arith) (omega arith) ∙ separator v mask l cw some;
 }
 
--- that of a symbol of an input
+-- the square of a symbol of an input begins as a symbol
 begins-symbol : (v : ℕ) (l : Level) (rule : Rule) (how : Interpretation) (x : List ℕ) (h : Option Header) (mask : ℕ) (g : Grid) → 1 ≤ v → v ≤ 40 → IsSymbolAt v l rule how x h mask g → BeginsAsSymbol g
 begins-symbol v l rule how x h mask g some most made = subst BeginsAsSymbol (sym made.drawn) (begins v mask l made.codewords some most)
 
--- the squares of the symbols of parts
+-- the squares of the symbols of parts begin as symbols
 begin-parts : (v : ℕ) (l : Level) (rule : Rule) (how : Interpretation) (last parity k : ℕ) (ps : List (List ℕ)) (ss : List Symbol) → 1 ≤ v → v ≤ 40 → AreSymbolsFrom v l rule how last parity k ps ss → All BeginsAsSymbol (squares_of ss)
 unfolding AreSymbolsFrom
 begin-parts v l rule how last parity k [] [] some most h = All-nil BeginsAsSymbol
@@ -60,18 +60,18 @@ begin-parts v l rule how last parity k (p ∷ ps) [] some most h = absurd h
 begin-parts v l rule how last parity k (p ∷ ps) (s ∷ ss) some most h =
     All-cons BeginsAsSymbol s.matrix (squares_of ss) (begins-symbol v l rule how p _ s.mask s.matrix some most h.0.made) (begin-parts v l rule how last parity (k + 1) ps ss some most h.1)
 
--- the squares of a series
+-- the squares of a series begin as symbols
 begin-series : (v : ℕ) (l : Level) (rule : Rule) (how : Interpretation) (x : List ℕ) (ss : List Symbol) → 1 ≤ v → v ≤ 40 → IsSeries v l rule how x ss → All BeginsAsSymbol (squares_of ss)
 begin-series v l rule how x ss some most (inl h) =
     let P : List Symbol → Type 0 = λ ts. All BeginsAsSymbol (squares_of ts) in
     subst P (sym h.alone) (All-cons BeginsAsSymbol h.symbol.matrix [] (begins-symbol v l rule how x None h.symbol.mask h.symbol.matrix some most h.made.made) (All-nil BeginsAsSymbol))
 begin-series v l rule how x ss some most (inr h) = begin-parts v l rule how _ _ 0 h.parts ss some most h.made
 
--- squares that all have this side
+-- squares that all have the side `side` are of one side
 one-side : (side : ℕ) (squares : List Grid) → 0 < length squares → All (λ g. g.side ≡ side) squares → HaveOneSide squares
 one-side side squares some all k d lt = all k d lt ∙ sym (all 0 (light 0) some)
 
--- the drawings of a symbol
+-- the drawing of a symbol can be parsed, whatever its type and with each margin up to 255
 pub symbol-drawing : (kind : Drawing) (margin smallest : ℕ) (l : Level) (rule : Rule) (how : Interpretation) (x : List ℕ) (v mask : ℕ) (g : Grid)
     → margin ≤ 255 → 1 ≤ smallest → IsSymbol smallest l rule how x v mask g → IsDrawingOf kind margin (g ∷ []) (drawn kind margin (g ∷ []))
 symbol-drawing kind margin smallest l rule how x v mask g m some h =
@@ -86,7 +86,7 @@ symbol-drawing kind margin smallest l rule how x v mask g m some h =
       is_drawn = refl;
     }
 
--- those of a series
+-- the drawing of a series can be parsed, whatever its type and with each margin up to 255
 pub series-drawing : (kind : Drawing) (margin v : ℕ) (l : Level) (rule : Rule) (how : Interpretation) (x : List ℕ) (symbols : List Symbol)
     → margin ≤ 255 → 1 ≤ v → v ≤ 40 → IsSeries v l rule how x symbols → IsDrawingOf kind margin (squares_of symbols) (drawn kind margin (squares_of symbols))
 series-drawing kind margin v l rule how x symbols m some most h =

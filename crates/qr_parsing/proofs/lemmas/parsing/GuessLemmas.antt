@@ -10,7 +10,7 @@ use Rattle.qr_parsing.specs.{Parsing.{IsDrawingOf, IsNoDrawing}, Steps.Parsing.C
 use Rattle.qr_parsing.proofs.lemmas.{sheet.SheetLemmas.{begins-at, corner-dark, diagonal-light, shows-by, square-on}, svg.DocumentLemmas.{svg-kind, svg-sheet}}
 use Rattle.qr_parsing.proofs.lemmas.text.{AsciiLemmas.{inverse-kind, inverse-sheet, plain-kind, plain-sheet}, HalfBlockLemmas.{block-kind, block-sheet}}
 
--- the type of drawing that a text can be
+-- the type that is computed from a drawing is its type
 pub kind-shown : (kind : Drawing) (margin : ℕ) (squares : List Grid) (text : List ℕ) → IsDrawingOf kind margin squares text → kind_in text ≡ kind
 kind-shown Ascii margin squares text h = plain-kind margin squares text h
 kind-shown AsciiInverse margin squares text h = inverse-kind margin squares text h
@@ -25,26 +25,26 @@ sheet-shown AsciiInverse margin squares text h = inverse-sheet margin squares te
 sheet-shown Utf8 margin squares text h = block-sheet margin squares text h
 sheet-shown Svg margin squares text h = svg-sheet margin squares text h
 
--- a text that is too narrow or too wide
+-- a text that would be narrower or wider than any drawing has no sheet
 pub too-wide : (text : List ℕ) (kind : Drawing) (width : ℕ) → kind_in text ≡ kind → width ≡ width_in kind text → (width < 8) ⊎ (687 < width) → HasNoSheet text
 too-wide text kind width e f h =
     let P : Drawing → Type 0 = λ k. ((width_in k text < 8) ⊎ (687 < width_in k text)) ⊎ (16 < count_in k text) in
     let Q : ℕ → Type 0 = λ w. (w < 8) ⊎ (687 < w) in
     subst P (sym e) (inl (subst Q f h))
 
--- a document of too many
+-- a text that would have more than 16 rasters has no sheet
 pub too-high : (text : List ℕ) (kind : Drawing) (count : ℕ) → kind_in text ≡ kind → count ≡ count_in kind text → 16 < count → HasNoSheet text
 too-high text kind count e f h =
     let P : Drawing → Type 0 = λ k. ((width_in k text < 8) ⊎ (687 < width_in k text)) ⊎ (16 < count_in k text) in
     subst P (sym e) (inr (omega arith))
 
--- the number of squares in half blocks
+-- the number of squares in half blocks is computed as in the definition
 pub block-count : (len lines width : ℕ) (bytes text : List ℕ) → len ≡ length bytes → lines ≡ (width + 1) / 2 → width ≡ width_in Utf8 text → bytes ≡ cells_in text
     → len / (lines * (width + 1)) ≡ count_in Utf8 text
 block-count len lines width bytes text e f g h =
     (λ i. (e ∙ ap length h) i / (f i * (width + 1))) ∙ ap (λ w. length (cells_in text) / ((w + 1) / 2 * (w + 1))) g
 
--- it is no drawing
+-- a text without a sheet is no drawing
 pub none-wide : (text : List ℕ) → HasNoSheet text → IsNoDrawing text
 none-wide text wide kind margin squares h =
     let b = begins-at squares 0 h.begin h.some in
@@ -59,7 +59,7 @@ none-wide text wide kind margin squares h =
       | inr many ↦ omega arith
     ]
 
--- what the code guessed
+-- a drawing of the type k, with the margin m and the squares s, is what the code guessed
 pub record Guessed (kind : Drawing) (width count : ℕ) (bytes : List ℕ) (margin : ℕ) (k : Drawing) (m : ℕ) (s : List Grid) : Type 0 where
   pub kind_is : k ≡ kind
   pub margin_is : m ≡ margin

@@ -23,7 +23,8 @@ byte-dark false n e = rw e refl
 
 -- ---- rows by types of drawing
 
--- in this type a row is read by these steps and signs
+-- in this type of drawing the bytes of a row of modules are `step` bytes apart, and `signs` are the two bytes that a
+-- dark module can have
 pub record ReadsBy (kind : Drawing) (step y : ℕ) (signs : ℕ × ℕ) : Type 0 where
   pub steps : (w k m x : ℕ) → place_of kind w k y (m + x) ≡ place_of kind w k y m + step * x
   pub dark : (b : ℕ) → is_sign signs b ≡ is_dark_byte kind y b
@@ -49,11 +50,11 @@ module _ (kind : Drawing) (step y : ℕ) (signs : ℕ × ℕ) (reads : ReadsBy k
   place-is : (x : ℕ) → first + step * x ≡ place_of kind w k y (m + x)
   place-is x = ap (λ n. n + step * x) is ∙ sym (reads.steps w k m x)
 
-  -- its modules have bytes
+  -- each module of the row has a byte
   pub row-inside : (count side : ℕ) → HasPlaces kind w count bytes → k < count → y < w → m + side ≤ w → (i : ℕ) → i < side → first + step * i < length bytes
   row-inside count side whole a b c i l = let p = whole k y (m + i) a b (omega arith) in omega (arith, place-is i)
 
-  -- they have the colours of the sheet
+  -- the modules that are read have the colours of the sheet
   pub row-dark : (side start : ℕ) (modules : List ℕ) → ((c : ℕ) → c < side → get_or modules (start + c) 0 ≡ byte_of (is_sign signs (get_or bytes (first + step * c) 0)))
       → (c : ℕ) → c < side → get_or modules (start + c) 0 ≡ byte_of (is_dark_on kind w bytes k y (m + c))
   unfolding is_dark_on

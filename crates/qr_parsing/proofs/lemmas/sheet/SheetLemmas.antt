@@ -25,11 +25,11 @@ one-width margin k squares one lt =
 
 -- in this module, `text` is a drawing
 module _ (kind : Drawing) (margin : ℕ) (squares : List Grid) (text : List ℕ) (h : IsDrawingOf kind margin squares text) where
-  -- how wide the raster of the first square is
+  -- the raster of the first square is 8 to 687 modules wide
   pub raster-wide : (8 ≤ raster_width margin (square_at squares 0)) × (raster_width margin (square_at squares 0) ≤ 687)
   raster-wide = let f = begins-at squares 0 h.begin h.some in let m = h.margin_in in (omega (arith, f.least), omega (arith, f.most))
 
-  -- the module after the margin on its diagonal is dark
+  -- the first module of the diagonal after the margin is dark
   pub corner-at : is_dark_at margin (square_at squares 0) margin margin ≡ true
   corner-at =
       let f = begins-at squares 0 h.begin h.some in
@@ -45,7 +45,7 @@ separator-light zero squares kind text h =
     is_dark_at_inside 0 0 7 (square_at squares 0) (omega (arith, b.least)) (omega (arith, b.least)) ∙ b.separator
 separator-light (suc margin) squares kind text h = is_dark_at_above (suc margin) 0 7 (square_at squares 0) (omega arith)
 
--- a sheet by its parts
+-- a sheet also shows the squares if its width, number of rasters and bytes are replaced by equal ones
 pub shows-by : (kind : Drawing) (w v n m : ℕ) (a b : List ℕ) (margin : ℕ) (squares : List Grid) → w ≡ v → n ≡ m → a ≡ b
     → ShowsOn kind w n a margin squares → ShowsOn kind v m b margin squares
 shows-by kind w v n m a b margin squares e f g h =
@@ -58,7 +58,7 @@ shows-by kind w v n m a b margin squares e f g h =
 module _ (kind : Drawing) (width count : ℕ) (bytes : List ℕ) (margin : ℕ) (squares : List Grid)
     (some : 0 < length squares) (one : HaveOneSide squares) (begin : All BeginsAsSymbol squares)
     (shows : ShowsOn kind width count bytes margin squares) where
-  -- the module after the margin on the diagonal is dark
+  -- the first module of the diagonal after the margin is dark
   pub corner-dark : is_dark_on kind width bytes 0 margin margin ≡ true
   corner-dark =
       let f = begins-at squares 0 begin some in
@@ -68,7 +68,7 @@ module _ (kind : Drawing) (width count : ℕ) (bytes : List ℕ) (margin : ℕ) 
       shows.places 0 margin margin (omega arith) (omega (arith, f.least)) (omega (arith, f.least))
       ∙ (ap (λ z. is_dark_at margin (square_at squares 0) z z) (sym e) ∙ (is_dark_at_inside margin 0 0 (square_at squares 0) (omega (arith, f.least)) (omega (arith, f.least)) ∙ f.corner))
 
-  -- those before it are light
+  -- the modules of the diagonal in the margin are light
   pub diagonal-light : (i : ℕ) → i < margin → is_dark_on kind width bytes 0 i i ≡ false
   diagonal-light i lt =
       let f = begins-at squares 0 begin some in
@@ -76,7 +76,7 @@ module _ (kind : Drawing) (width count : ℕ) (bytes : List ℕ) (margin : ℕ) 
       let n = shows.count_is in
       shows.places 0 i i (omega arith) (omega arith) (omega arith) ∙ is_dark_at_above margin i i (square_at squares 0) lt
 
-  -- each square by the sheet
+  -- each square consists of the modules that the sheet has for it
   pub square-on : (k : ℕ) → k < length squares → square_at squares k ≡ square (width - 2 * margin) (λ r c. is_dark_on kind width bytes k (margin + r) (margin + c))
   square-on k lt =
       let g = square_at squares k in

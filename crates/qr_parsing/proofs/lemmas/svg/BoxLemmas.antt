@@ -13,7 +13,7 @@ use Rattle.qr_parsing.proofs.lemmas.svg.NumberLemmas.{any-false, any-true, any_b
 
 -- ---- runs
 
--- from x on more than d numbers pass
+-- if more than d numbers from x on pass a test, the longest prefix that passes is longer than d
 prefix-more : (p : ℕ → Bool) (x d n : ℕ) → d < n → ((k : ℕ) → x ≤ k → k ≤ x + d → p k ≡ true) → d < prefix_len p (range_with_len x n)
 prefix-more p x d zero lt pass = absurd (omega arith)
 prefix-more p x zero (suc n) lt pass = rw (pass x (omega arith) (omega arith)) (omega arith)
@@ -85,11 +85,11 @@ run-short margin g y x =
 
 -- ---- the boxes of all rasters, which are `width` wide
 
--- the place (r, c) is in the box that begins here
+-- the place (r, c) of the document is in the box that begins at this place of the raster k
 hits : (width margin r c k : ℕ) → Grid → ℕ → ℕ → Bool
 hits width margin r c k g y x = begins_run margin g y x && (eqb (k * width + y) r && (leb x c && ltb c (x + run_length margin g y x)))
 
--- the numbers of the box that begins here, or none
+-- the numbers of the box that begins at this place, or no number if none begins there
 run_numbers : (top margin : ℕ) → Grid → ℕ → ℕ → List ℕ
 run_numbers top margin g y x = cond (begins_run margin g y x) (box_numbers x (top + y) (run_length margin g y x)) []
 
@@ -97,7 +97,7 @@ run_numbers top margin g y x = cond (begins_run margin g y x) (box_numbers x (to
 pub all_numbers : ℕ → List Grid → List ℕ
 all_numbers margin squares = texts_below (length squares) (λ k. texts_below (raster_width margin (square_at squares k)) (λ y. texts_below (raster_width margin (square_at squares k)) (run_numbers (k * raster_width margin (square_at squares k)) margin (square_at squares k) y)))
 
--- reading the box that begins here
+-- the numbers of a path that begins with the box at this place are the box's numbers, and then those of the rest
 run-read : (top margin : ℕ) (g : Grid) (y x : ℕ) (rest : List ℕ) → top + y ≤ 99999 → x ≤ 99999 → raster_width margin g ≤ 99999
     → numbers_after 0 false (run_path top margin g y x ++ rest) ≡ run_numbers top margin g y x ++ numbers_after 0 false rest
 unfolding run_path run_numbers
@@ -106,7 +106,7 @@ run-read top margin g y x rest a b w =
     elim (begins_run margin g y x) as (λ d. numbers_after 0 false (cond d (box_path x (top + y) (run_length margin g y x)) [] ++ rest) ≡ cond d (box_numbers x (top + y) (run_length margin g y x)) [] ++ numbers_after 0 false rest)
     [ true ↦ box-read x (top + y) (run_length margin g y x) rest b a (omega arith) | false ↦ refl ]
 
--- the numbers of the path
+-- the numbers that are read from the path are the numbers of all boxes
 pub stack-read : (margin : ℕ) (squares : List Grid) (rest : List ℕ) → ((k : ℕ) → k < length squares → raster_width margin (square_at squares k) ≤ 687) → length squares ≤ 16
     → numbers_after 0 false (stack_path margin squares ++ rest) ≡ all_numbers margin squares ++ numbers_after 0 false rest
 unfolding stack_path symbol_path row_path all_numbers
@@ -123,7 +123,7 @@ stack-read margin squares rest wide few =
     small : (k w : ℕ) → k ≤ 16 → w ≤ 687 → k * w ≤ 16 * 687
     small k w a b = grind arith
 
--- the box that begins here, before a path
+-- if the box that begins at this place is put before a path, the result is a path
 run-path : (top margin : ℕ) (g : Grid) (y x : ℕ) (numbers bytes : List ℕ) → top + y ≤ 99999 → x ≤ 687 → raster_width margin g ≤ 687 → IsPath numbers bytes
     → IsPath (run_numbers top margin g y x ++ numbers) (run_path top margin g y x ++ bytes)
 unfolding run_path run_numbers box_numbers
@@ -132,7 +132,7 @@ run-path top margin g y x numbers bytes a b w path =
     elim (begins_run margin g y x) as (λ d. IsPath (cond d (x ∷ (top + y) ∷ run_length margin g y x ∷ 1 ∷ run_length margin g y x ∷ []) [] ++ numbers) (cond d (box_path x (top + y) (run_length margin g y x)) [] ++ bytes))
     [ true ↦ (bytes, omega arith, a, omega arith, refl, path) | false ↦ path ]
 
--- the path of all boxes
+-- the boxes of all squares, one after the other, are a path
 pub stack-is-path : (margin : ℕ) (squares : List Grid) (bytes : List ℕ) → ((k : ℕ) → k < length squares → raster_width margin (square_at squares k) ≤ 687) → length squares ≤ 16
     → IsPath [] bytes → IsPath (all_numbers margin squares) (stack_path margin squares ++ bytes)
 unfolding stack_path symbol_path row_path all_numbers
@@ -150,7 +150,7 @@ stack-is-path margin squares bytes wide few path =
     small : (k w : ℕ) → k ≤ 16 → w ≤ 687 → k * w ≤ 16 * 687
     small k w a b = grind arith
 
--- the places in the box that begins here
+-- a place is in the box that begins here, or in one of the rest, exactly if `hits` says so or the rest has it
 run-boxes : (width margin r c k : ℕ) (g : Grid) (y x : ℕ) (rest : List ℕ) → is_in_boxes (run_numbers (k * width) margin g y x ++ rest) r c ≡ (hits width margin r c k g y x || is_in_boxes rest r c)
 unfolding run_numbers hits box_numbers
 run-boxes width margin r c k g y x rest = elim (begins_run margin g y x) as (λ d. is_in_boxes (cond d (box_numbers x (k * width + y) (run_length margin g y x)) [] ++ rest) r c ≡ ((d && (eqb (k * width + y) r && (leb x c && ltb c (x + run_length margin g y x)))) || is_in_boxes rest r c))
@@ -160,7 +160,7 @@ run-boxes width margin r c k g y x rest = elim (begins_run margin g y x) as (λ 
 any_hits : (margin : ℕ) → List Grid → ℕ → ℕ → Bool
 any_hits margin squares r c = any_below (length squares) (λ k. any_below (raster_width margin (square_at squares k)) (λ y. any_below (raster_width margin (square_at squares k)) (hits (raster_width margin (square_at squares k)) margin r c k (square_at squares k) y)))
 
--- the places in all boxes
+-- a place is in one of all boxes exactly if some box has it
 all-boxes : (margin : ℕ) (squares : List Grid) (r c : ℕ) → is_in_boxes (all_numbers margin squares) r c ≡ any_hits margin squares r c
 unfolding all_numbers any_hits
 all-boxes margin squares r c =

@@ -6,11 +6,11 @@ use Rattle.std.proofs.Math.Seq.{take-append_seam}
 use Rattle.qr_parsing.specs.Steps.Svg.{canvas_of, is_in_boxes}
 use Rattle.qr_parsing.proofs.lemmas.text.PlaceLemmas.{place-in}
 
--- a place by its row and column
+-- an index is its row times the width, and its column
 pub split-place : (i w : ℕ) → 0 < w → i / w * w + i % w ≡ i
 split-place i w some = omega arith
 
--- a byte that is painted
+-- the byte that is painted is 1, as the box up to this column demands
 painted-same : (w y x col : ℕ) (bytes old : List ℕ) → col < w → x ≤ col → y * w + col < length bytes
     → get_or (set bytes (y * w + col) 1) (y * w + col) 0 ≡ cond (eqb ((y * w + col) / w) y && (leb x ((y * w + col) % w) && ltb ((y * w + col) % w) (col + 1))) 1 (get_or old (y * w + col) 0)
 painted-same w y x col bytes old lt le fits =
@@ -19,14 +19,14 @@ painted-same w y x col bytes old lt le fits =
     let test : (eqb y y && (leb x col && ltb col (col + 1))) ≡ true = grind (arith, nat_tests) in
     get_or-set_same bytes (y * w + col) 1 0 fits ∙ sym (rw (a, b, test) refl)
 
--- whether a place other than the painted one is in the box
+-- one column more makes no difference to whether another place is in the box
 same-test : (w y x col i : ℕ) → 0 < w → i ≢ y * w + col → (eqb (i / w) y && (leb x (i % w) && ltb (i % w) (col + 1))) ≡ (eqb (i / w) y && (leb x (i % w) && ltb (i % w) col))
 same-test w y x col i some other =
     let e = split-place i w some in
     let out : i / w ≡ y → i % w ≡ col → ⊥ = λ f g. other (sym e ∙ (λ t. f t * w + g t)) in
     grind (arith, nat_tests, out)
 
--- one module more is painted
+-- if the box is painted up to a column, and one module more is painted, the box is painted up to the next column
 pub painted : (w h y x col : ℕ) (bytes old : List ℕ) → 0 < w → col < w → x ≤ col → y * w + col < length bytes
     → ((i : ℕ) → i < length bytes → get_or bytes i 0 ≡ cond (eqb (i / w) y && (leb x (i % w) && ltb (i % w) col)) 1 (get_or old i 0))
     → (i : ℕ) → i < length bytes → get_or (set bytes (y * w + col) 1) i 0 ≡ cond (eqb (i / w) y && (leb x (i % w) && ltb (i % w) (col + 1))) 1 (get_or old i 0)
@@ -43,7 +43,7 @@ painted w h y x col bytes old some lt le fits before i in_i = elim (cases_lt i (
     other : i ≢ y * w + col → get_or (set bytes (y * w + col) 1) i 0 ≡ cond (eqb (i / w) y && (leb x (i % w) && ltb (i % w) (col + 1))) 1 (get_or old i 0)
     other ne = rw (same-test w y x col i some ne) (get_or-set_other bytes (y * w + col) i 1 0 ne ∙ before i in_i)
 
--- the first two modules are painted
+-- if the first two modules of a box are painted, the box is painted up to its third column
 pub painted-two : (w h y x : ℕ) (old : List ℕ) → length old ≡ w * h → 0 < w → y < h → x + 1 < w
     → (i : ℕ) → i < length old → get_or (set (set old (y * w + x) 1) (y * w + (x + 1)) 1) i 0 ≡ cond (eqb (i / w) y && (leb x (i % w) && ltb (i % w) (x + 2))) 1 (get_or old i 0)
 painted-two w h y x old area some in_y in_x i in_i =
@@ -58,7 +58,7 @@ painted-two w h y x old area some in_y in_x i in_i =
     none : (i : ℕ) → get_or old i 0 ≡ cond (eqb (i / w) y && (leb x (i % w) && ltb (i % w) x)) 1 (get_or old i 0)
     none i = let f : (eqb (i / w) y && (leb x (i % w) && ltb (i % w) x)) ≡ false = grind (arith, nat_tests) in rw f refl
 
--- one box more is painted
+-- if one box more is painted, what is left to paint is the boxes after it
 pub painted-box : (x y n high back : ℕ) (more : List ℕ) (r c old byte new : ℕ) (all : Bool)
     → cond all 1 old ≡ cond (is_in_boxes (x ∷ y ∷ n ∷ high ∷ back ∷ more) r c) 1 byte
     → new ≡ cond (eqb r y && (leb x c && ltb c (x + n))) 1 byte
@@ -77,7 +77,7 @@ painted-box x y n high back more r c old byte new all e f = e ∙ (swap ∙ sym 
     swap : cond ((eqb y r && (leb x c && ltb c (x + n))) || is_in_boxes more r c) 1 byte ≡ cond (is_in_boxes more r c) 1 (cond (eqb r y && (leb x c && ltb c (x + n))) 1 byte)
     swap = rw turned (either (eqb r y && (leb x c && ltb c (x + n))) (is_in_boxes more r c))
 
--- the whole canvas
+-- if each byte is painted as the boxes say, the bytes are the canvas of the definition
 pub canvas-is : (w h n : ℕ) (bytes new numbers : List ℕ) → bytes ≡ replicate (w * h) 0 → n ≡ w * h → length new ≡ w * h
     → ((i : ℕ) → i < length bytes → get_or new i 0 ≡ cond (is_in_boxes numbers (i / w) (i % w)) 1 (get_or bytes i 0))
     → take n (new ++ drop (length new) bytes) ≡ canvas_of w h numbers
@@ -89,7 +89,7 @@ canvas-is w h n bytes new numbers e f g painted =
     let none : get_or bytes i 0 ≡ 0 = ap (λ l. get_or l i 0) e ∙ get_or-replicate (w * h) i 0 0 lt in
     painted i (omega arith) ∙ ap (λ z. cond (is_in_boxes numbers (i / w) (i % w)) 1 z) none))
 
--- the bytes of whole rasters are on the canvas
+-- the byte of each module of a whole raster is on the canvas
 pub canvas-inside : (w high count k y x : ℕ) → 8 ≤ w → count ≡ high / w → k < count → y < w → x < w → (k * w + y) * w + x < w * high
 canvas-inside w high count k y x wide e a b c =
     let all : count * w ≤ high = omega (arith, ap (λ n. n * w) e) in

@@ -12,7 +12,7 @@ use Rattle.qr_parsing.proofs.lemmas.{sheet.SheetLemmas.{one-width, raster-wide, 
 head_numbers : ℕ → ℕ → List ℕ → List ℕ
 head_numbers w h rest = 1 ∷ 0 ∷ 8 ∷ 3 ∷ 2000 ∷ 1 ∷ 1 ∷ 0 ∷ 0 ∷ w ∷ h ∷ 0 ∷ 0 ∷ w ∷ h ∷ 0 ∷ rest
 
--- a document by its parts
+-- a document consists of these parts, between which its numbers stand
 document-split : (w h : ℕ) (path : List ℕ) →
     declaration ++ opening w h ++ background w h ++ (codes "<path fill=\"#000000\" d=\"" ++ path ++ codes "\"/>\n") ++ closing
     ≡ (codes "<?xml version=\"1.0\" encoding=\"UTF-8\"?>\n" ++ codes "<svg xmlns=\"http://www.w3.org/2000/svg\" version=\"1.1\" viewBox=\"0 0 ") ++ (decimal w ++ (codes " " ++ (decimal h
@@ -27,7 +27,7 @@ document-split w h path =
         ≡ (a ++ b) ++ (w ++ (c ++ (h ++ ((d ++ e) ++ (w ++ (f ++ (h ++ ((i ++ j) ++ (path ++ (k ++ l))))))))))
     regroup a b w c h d e f i j path k l = simp append_assoc
 
--- the numbers of a document
+-- the numbers of a document are those before the boxes, and then those of the boxes
 document-read : (w h : ℕ) (path numbers : List ℕ) → w ≤ 99999 → h ≤ 99999
     → ((rest : List ℕ) → numbers_after 0 false (path ++ rest) ≡ numbers ++ numbers_after 0 false rest)
     → numbers_in (declaration ++ opening w h ++ background w h ++ (codes "<path fill=\"#000000\" d=\"" ++ path ++ codes "\"/>\n") ++ closing) ≡ head_numbers w h numbers
@@ -72,7 +72,7 @@ module _ (margin : ℕ) (squares : List Grid) (text : List ℕ) (h : IsDrawingOf
   unfolding wide
   wide-in = raster-wide Svg margin squares text h
 
-  -- the numbers in the document
+  -- the numbers in the document are those of the definition, with the numbers of all boxes
   numbers : numbers_in text ≡ head_numbers wide high (all_numbers margin squares)
   unfolding wide high svg_document foreground
   numbers =
@@ -94,7 +94,7 @@ module _ (margin : ℕ) (squares : List Grid) (text : List ℕ) (h : IsDrawingOf
   unfolding wide
   same k lt = one-width margin k squares h.one_side lt
 
-  -- the byte of a module
+  -- the byte of a module on the canvas is 1 if it is dark, and 0 if it is light
   at : (k y x : ℕ) → k < length squares → y < wide → x < wide
       → get_or canvas ((k * wide + y) * wide + x) 0 ≡ cond (is_dark_at margin (square_at squares k) y x) 1 0
   unfolding canvas high
@@ -110,6 +110,7 @@ module _ (margin : ℕ) (squares : List Grid) (text : List ℕ) (h : IsDrawingOf
       get_or-map-range_with_len (λ i. cond (is_in_boxes nums (i / w) (i % w)) 1 0) 0 (w * (w * n)) i i 0 within (omega arith)
       ∙ ((λ t. cond (is_in_boxes nums (div-mul-add (k * w + y) w x c t) (mod-mul-add (k * w + y) w x c t)) 1 0) ∙ ap (λ d. cond d 1 0) dark)
 
+  -- the canvas shows the squares with this margin
   shows : ShowsOn Svg wide (length squares) canvas margin squares
   unfolding is_dark_on wide
   shows = record {
@@ -126,6 +127,7 @@ module _ (margin : ℕ) (squares : List Grid) (text : List ℕ) (h : IsDrawingOf
   unfolding head_numbers
   height-is = sym (ap (λ l. get_or l 10 0) numbers)
 
+  -- the number of squares is the height of the document divided by its width
   count-is : length squares ≡ count_in Svg text
   unfolding high
   count-is =
@@ -140,7 +142,7 @@ module _ (margin : ℕ) (squares : List Grid) (text : List ℕ) (h : IsDrawingOf
   pub svg-sheet : ShowsOn Svg (width_in Svg text) (count_in Svg text) (bytes_in Svg text) margin squares
   svg-sheet = shows-by Svg wide (width_in Svg text) (length squares) (count_in Svg text) canvas (bytes_in Svg text) margin squares width-is count-is bytes-are shows
 
-  -- its path
+  -- the path of the document has the numbers from the index 16 on
   pub svg-path : IsPath (drop 16 (numbers_in text)) (path_in text)
   unfolding head_numbers wide high svg_document foreground
   svg-path =

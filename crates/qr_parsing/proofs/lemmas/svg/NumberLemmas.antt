@@ -8,7 +8,7 @@ use Rattle.qr_drawing.proofs.Facts.{no-texts}
 use Rattle.qr_parsing.specs.Steps.Svg.{is_digit, is_in_boxes, leading, numbers_after}
 use Rattle.qr_parsing.proofs.lemmas.text.PlaceLemmas.{texts-first}
 
--- one more digit
+-- one more digit is read as ten times the number before it, plus the digit
 digit-read : (m d : ℕ) (inside : Bool) (rest : List ℕ) → d < 10 → m * 10 + d ≤ 99999 → numbers_after m inside ((48 + d) ∷ rest) ≡ numbers_after (m * 10 + d) true rest
 unfolding numbers_after
 digit-read m d inside rest lt le =
@@ -16,7 +16,7 @@ digit-read m d inside rest lt le =
     let f : min (m * 10 + (48 + d - 48)) 99999 ≡ m * 10 + d = omega arith in
     rw (e, f) refl
 
--- the digits of a number
+-- the digits of a number are read as this number
 decimal-read : (f n : ℕ) (rest : List ℕ) → n < f → n ≤ 99999 → numbers_after 0 false (decimal n ++ rest) ≡ numbers_after n true rest
 decimal-read zero n rest lt le = absurd (omega arith)
 decimal-read (suc f) n rest lt le = elim (cases_lt n 10) [
@@ -31,7 +31,7 @@ decimal-read (suc f) n rest lt le = elim (cases_lt n 10) [
       ∙ (digit-read (n / 10) (n % 10) true rest (omega arith) (omega arith) ∙ ap (λ z. numbers_after z true rest) e)))
 ]
 
--- a number, and a byte after it that is no digit
+-- a number is read whole if a byte that is no digit comes after it
 pub number-read : (n b : ℕ) (rest : List ℕ) → n ≤ 99999 → is_digit b ≡ false → numbers_after 0 false (decimal n ++ (b ∷ rest)) ≡ n ∷ numbers_after 0 false rest
 unfolding numbers_after
 number-read n b rest le e = decimal-read (suc n) n (b ∷ rest) (omega arith) le ∙ rw e refl
@@ -40,7 +40,7 @@ number-read n b rest le e = decimal-read (suc n) n (b ∷ rest) (omega arith) le
 unfoldable pub box_numbers : ℕ → ℕ → ℕ → List ℕ
 box_numbers x y n = x ∷ y ∷ n ∷ 1 ∷ n ∷ []
 
--- a box by its parts, and what follows
+-- a box consists of these letters and numbers, and what follows comes after them
 pub box-split : (x y n : ℕ) (rest : List ℕ) → box_path x y n ++ rest
     ≡ 77 ∷ (decimal x ++ (32 ∷ (decimal y ++ (104 ∷ (decimal n ++ (118 ∷ 49 ∷ 104 ∷ 45 ∷ (decimal n ++ (122 ∷ rest))))))))
 unfolding box_path numbered
@@ -49,7 +49,7 @@ box-split x y n rest = regroup (codes "M") (decimal x) (codes " ") (decimal y) (
     regroup : (a b c d e f g h i rest : List ℕ) → ((a ++ b) ++ (c ++ d) ++ (e ++ f) ++ (g ++ h) ++ i) ++ rest ≡ a ++ (b ++ (c ++ (d ++ (e ++ (f ++ (g ++ (h ++ (i ++ rest))))))))
     regroup a b c d e f g h i rest = simp append_assoc
 
--- the numbers of a box
+-- the numbers that are read from a box are its five numbers
 pub box-read : (x y n : ℕ) (rest : List ℕ) → x ≤ 99999 → y ≤ 99999 → n ≤ 99999
     → numbers_after 0 false (box_path x y n ++ rest) ≡ box_numbers x y n ++ numbers_after 0 false rest
 unfolding box_numbers numbers_after
@@ -60,7 +60,7 @@ box-read x y n rest a b c =
     ∙ ap (λ l. y ∷ l) (number-read n 118 (49 ∷ 104 ∷ 45 ∷ (decimal n ++ (122 ∷ rest))) c refl
     ∙ ap (λ l. n ∷ l) (ap (λ l. 1 ∷ l) (number-read n 122 rest c refl)))))
 
--- the numbers of texts, if those of each are known
+-- if the numbers of each text are known, those of all texts are these, one after the other
 pub texts-read : (n : ℕ) (f g : ℕ → List ℕ) → ((k : ℕ) → k < n → (rest : List ℕ) → numbers_after 0 false (f k ++ rest) ≡ g k ++ numbers_after 0 false rest)
     → (rest : List ℕ) → numbers_after 0 false (texts_below n f ++ rest) ≡ texts_below n g ++ numbers_after 0 false rest
 texts-read zero f g h rest = ap (λ t. numbers_after 0 false (t ++ rest)) (no-texts f) ∙ ap (λ t. t ++ numbers_after 0 false rest) (sym (no-texts g))
@@ -75,7 +75,7 @@ texts-read (suc n) f g h rest =
 
 -- ---- numbers and boxes that a text begins with
 
--- one more digit
+-- one more digit at the beginning is read as ten times the number before it, plus the digit
 leading-digit : (m d : ℕ) (rest : List ℕ) → d < 10 → leading m ((48 + d) ∷ rest) ≡ leading (m * 10 + d) rest
 unfolding leading
 leading-digit m d rest lt =
@@ -83,7 +83,7 @@ leading-digit m d rest lt =
     let f : m * 10 + (48 + d - 48) ≡ m * 10 + d = omega arith in
     rw (e, f) refl
 
--- the digits of a number
+-- the digits of a number at the beginning are read as this number
 leading-decimal : (f n : ℕ) (rest : List ℕ) → n < f → n ≤ 99999 → leading 0 (decimal n ++ rest) ≡ leading n rest
 leading-decimal zero n rest lt le = absurd (omega arith)
 leading-decimal (suc f) n rest lt le = elim (cases_lt n 10) [
@@ -98,7 +98,7 @@ leading-decimal (suc f) n rest lt le = elim (cases_lt n 10) [
       ∙ (leading-digit (n / 10) (n % 10) rest (omega arith) ∙ ap (λ z. leading z rest) e)))
 ]
 
--- a number, and a byte after it that is no digit
+-- a number at the beginning is read whole if a byte that is no digit comes after it
 pub leading-read : (n b : ℕ) (rest : List ℕ) → n ≤ 99999 → is_digit b ≡ false → leading 0 (decimal n ++ (b ∷ rest)) ≡ (n, rest)
 unfolding leading
 leading-read n b rest le e = leading-decimal (suc n) n (b ∷ rest) (omega arith) le ∙ rw e refl
@@ -121,12 +121,12 @@ pub leading-stop : (m b : ℕ) (bytes : List ℕ) → is_digit b ≡ false → l
 unfolding leading
 leading-stop m b bytes e = rw e refl
 
--- a digit does not
+-- a digit continues a number
 pub leading-more : (m b : ℕ) (bytes : List ℕ) → is_digit b ≡ true → leading m (b ∷ bytes) ≡ leading (m * 10 + (b - 48)) bytes
 unfolding leading
 leading-more m b bytes e = rw e refl
 
--- what follows a number is shorter
+-- what follows a number is shorter than the text, unless the text is empty
 pub leading-shorter : (m : ℕ) (bytes : List ℕ) → length (leading m bytes).1 ≤ length bytes - 1
 unfolding leading
 leading-shorter m [] = omega arith
@@ -134,15 +134,15 @@ leading-shorter m (b ∷ bytes) =
     let h = leading-shorter (m * 10 + (b - 48)) bytes in
     elim (is_digit b) as (λ d. length (cond d (leading (m * 10 + (b - 48)) bytes) (m, bytes)).1 ≤ suc (length bytes) - 1) [ true ↦ omega arith | false ↦ omega arith ]
 
--- the bytes from an index on
+-- the bytes from an index on are the byte at this index, and the bytes from the next index on
 pub drop-one : (bytes : List ℕ) (j : ℕ) → j < length bytes → drop j bytes ≡ get_or bytes j 0 ∷ drop (j + 1) bytes
 drop-one bytes j lt = rw add-one (drop-cons bytes j 0 lt)
 
--- a number with one digit more
+-- a number with one more digit is below ten times the bound
 pub one-digit-more : (n d i : ℕ) → n < 10 ^ i → d < 10 → n * 10 + d < 10 ^ (i + 1)
 one-digit-more n d i lt small = let e : 10 ^ (i + 1) ≡ 10 ^ i * 10 = rw add-one (pow-suc 10 i) in omega (arith, e)
 
--- numbers of one digit, of two and of three
+-- the text of a number of one digit has one byte; the next two lemmas are for two and for three digits
 pub digits-one : (n : ℕ) → n < 10 → length (decimal n) ≡ 1
 digits-one n lt = ap length (decimal_digit n lt)
 
@@ -163,20 +163,21 @@ unfoldable pub any_below : ℕ → (ℕ → Bool) → Bool
 any_below zero p = false
 any_below (suc n) p = p 0 || any_below n (λ k. p (suc k))
 
--- a number that passes
+-- if some number below n passes, `any_below` is true
 pub any-true : (n k : ℕ) (p : ℕ → Bool) → k < n → p k ≡ true → any_below n p ≡ true
 unfolding any_below
 any-true zero k p lt e = absurd (omega arith)
 any-true (suc n) zero p lt e = rw e refl
 any-true (suc n) (suc k) p lt e = let h = any-true n k (λ k. p (suc k)) (omega arith) e in rw h (grind (arith, nat_tests))
 
--- no number passes
+-- if no number below n passes, `any_below` is false
 pub any-false : (n : ℕ) (p : ℕ → Bool) → ((k : ℕ) → k < n → p k ≡ false) → any_below n p ≡ false
 unfolding any_below
 any-false zero p h = refl
 any-false (suc n) p h = rw (h 0 (omega arith)) (any-false n (λ k. p (suc k)) (λ k lt. h (suc k) (omega arith)))
 
--- the places in the boxes of texts of numbers
+-- if it is known of each text whether a place is in its boxes, the place is in the boxes of all texts if it is in those
+-- of one
 pub texts-boxes : (r c n : ℕ) (g : ℕ → List ℕ) (p : ℕ → Bool) → ((k : ℕ) → k < n → (rest : List ℕ) → is_in_boxes (g k ++ rest) r c ≡ (p k || is_in_boxes rest r c))
     → (rest : List ℕ) → is_in_boxes (texts_below n g ++ rest) r c ≡ (any_below n p || is_in_boxes rest r c)
 unfolding any_below

@@ -31,7 +31,7 @@ pub column-long : (y n : ℕ) (rest : List ℕ) → n ≤ 999 → 6 ≤ length (
 unfolding after_column
 column-long y n rest le = omega (arith, length-append (decimal y) (104 ∷ after_row n rest), row-long n rest le)
 
--- the first box of a path
+-- the path begins with this box, and then comes a path of the rest
 pub record FirstBox (numbers bytes : List ℕ) : Type 0 where
   pub x : ℕ
   pub y : ℕ
@@ -47,7 +47,7 @@ pub record FirstBox (numbers bytes : List ℕ) : Type 0 where
   pub bytes_are : bytes ≡ 77 ∷ (decimal x ++ (32 ∷ after_column y modules rest))
   pub path : IsPath more rest
 
--- a path that begins with `M` has one
+-- a path that begins with `M` begins with a box
 pub first-box : (numbers bytes : List ℕ) → IsPath numbers bytes → 0 < length bytes → get_or bytes 0 0 ≡ 77 → FirstBox numbers bytes
 unfolding after_column after_row after_modules
 first-box [] [] h some m = absurd (omega arith)
@@ -75,7 +75,7 @@ first-box (x ∷ y ∷ []) bytes h some m = absurd h
 first-box (x ∷ y ∷ n ∷ []) bytes h some m = absurd h
 first-box (x ∷ y ∷ n ∷ high ∷ []) bytes h some m = absurd h
 
--- another path has no box
+-- a path that is too short for a box, or does not begin with `M`, has no box
 pub no-box : (numbers bytes : List ℕ) → IsPath numbers bytes → (length bytes < 7) ⊎ (get_or bytes 0 0 ≢ 77) → numbers ≡ []
 unfolding after_column after_row after_modules
 no-box [] bytes h none = refl
@@ -88,7 +88,7 @@ no-box (x ∷ y ∷ []) bytes h none = absurd h
 no-box (x ∷ y ∷ n ∷ []) bytes h none = absurd h
 no-box (x ∷ y ∷ n ∷ high ∷ []) bytes h none = absurd h
 
--- the path of a text by its index
+-- the path of a text begins at its first `M`
 pub path-start : (text : List ℕ) → drop (position_or_len (λ byte. eqb byte 77) text) text ≡ path_in text
 path-start [] = refl
 path-start (b ∷ bytes) =
@@ -98,11 +98,11 @@ path-start (b ∷ bytes) =
       | false ↦ let e : 1 + position_or_len (λ byte. eqb byte 77) bytes ≡ suc (position_or_len (λ byte. eqb byte 77) bytes) = omega arith in ap (λ n. drop n (b ∷ bytes)) e ∙ h
     ]
 
--- the path of a text is behind a digit
+-- the path of a text does not begin at a digit
 digit-passed : (d : ℕ) (rest : List ℕ) → d < 10 → path_in ((48 + d) ∷ rest) ≡ path_in rest
 digit-passed d rest lt = let e : eqb (48 + d) 77 ≡ false = grind (arith, nat_tests) in rw e refl
 
--- and behind a number
+-- the path of a text does not begin in a number
 pub decimal-passed : (f n : ℕ) (rest : List ℕ) → n < f → n ≤ 99999 → path_in (decimal n ++ rest) ≡ path_in rest
 decimal-passed zero n rest lt le = absurd (omega arith)
 decimal-passed (suc f) n rest lt le = elim (cases_lt n 10) [
@@ -113,7 +113,7 @@ decimal-passed (suc f) n rest lt le = elim (cases_lt n 10) [
       ∙ (decimal-passed f (n / 10) ((48 + n % 10) ∷ rest) (omega arith) (omega arith) ∙ digit-passed (n % 10) rest (omega arith)))
 ]
 
--- a path is from its `M` on
+-- a path is its own part from the first `M` on
 pub path-from : (numbers bytes : List ℕ) → IsPath numbers bytes → IsPath numbers (path_in bytes)
 path-from [] bytes h = ap path_in h
 path-from (x ∷ y ∷ n ∷ high ∷ back ∷ more) bytes h =
@@ -125,7 +125,7 @@ path-from (x ∷ y ∷ []) bytes h = absurd h
 path-from (x ∷ y ∷ n ∷ []) bytes h = absurd h
 path-from (x ∷ y ∷ n ∷ high ∷ []) bytes h = absurd h
 
--- the paths of texts, if those of each are known
+-- if each text put before a path yields a path, so do all texts, one after the other
 pub texts-path : (n : ℕ) (f g : ℕ → List ℕ) → ((k : ℕ) → k < n → (numbers bytes : List ℕ) → IsPath numbers bytes → IsPath (g k ++ numbers) (f k ++ bytes))
     → (numbers bytes : List ℕ) → IsPath numbers bytes → IsPath (texts_below n g ++ numbers) (texts_below n f ++ bytes)
 texts-path zero f g h numbers bytes path =
@@ -140,11 +140,11 @@ texts-path (suc n) f g h numbers bytes path =
     let d : texts_below (suc n) f ++ bytes ≡ f 0 ++ (more ++ bytes) = ap (λ t. t ++ bytes) (texts-first n f) ∙ append_assoc (f 0) more bytes in
     subst (λ a. IsPath a (texts_below (suc n) f ++ bytes)) (sym e) (subst (IsPath (g 0 ++ (others ++ numbers))) (sym d) all)
 
--- what follows the `M`
+-- what follows the `M` begins one byte after it
 pub after-m : (text rest : List ℕ) (at : ℕ) → drop at text ≡ 77 ∷ rest → drop (at + 1) text ≡ rest
 after-m text rest at e = sym (drop-drop 1 at text) ∙ ap (drop 1) e
 
--- what follows the box
+-- what follows the box begins after the digits of its width and four more bytes
 pub after-box : (text rest : List ℕ) (at n back : ℕ) → drop at text ≡ after_modules n rest → back ≡ 4 + length (decimal n) → drop (at + back) text ≡ rest
 unfolding after_modules
 after-box text rest at n back e f =

@@ -10,7 +10,7 @@ use Rattle.qr_parsing.specs.{Parsing.IsDrawingOf, Steps.Sheet.{ShowsOn, bytes_in
 use Rattle.qr_parsing.proofs.lemmas.sheet.SheetLemmas.{raster-wide, separator-light, shows-by}
 use Rattle.qr_parsing.proofs.lemmas.text.PlaceLemmas.{cell-at, cells-length, cells-newline, cells-without, cells_text, position-none, squares-text}
 
--- both characters of a module are one
+-- a module is two characters
 module-size : (b : Bool) → length (ascii_module b) ≡ 2
 module-size true = refl
 module-size false = refl
@@ -67,7 +67,7 @@ module _ (kind : Drawing) (hash : Bool → Bool) (ascii : IsAscii kind hash)
   unfolding whole
   long = cells-length (length squares) wide wide 2 cell size
 
-  -- the first byte of a module
+  -- the first byte of a module in the text is the first of the two characters that show it
   at : (k y x : ℕ) → k < length squares → y < wide → x < wide
       → get_or whole ((k * wide + y) * (2 * wide + 1) + 2 * x) 0 ≡ get_or (ascii_module (hash (is_dark_at margin (square_at squares k) y x))) 0 0
   unfolding whole cell
@@ -76,6 +76,7 @@ module _ (kind : Drawing) (hash : Bool → Bool) (ascii : IsAscii kind hash)
       let e : (k * w + y) * (2 * w + 1) + 2 * x ≡ (k * w + y) * (w * 2 + 1) + (x * 2 + 0) = omega arith in
       rw e (cell-at (length squares) w w 2 cell size k y x 0 a b c (omega arith))
 
+  -- the width that is computed from the text is that of a raster
   width-is : wide ≡ width_in kind text
   unfolding whole
   width-is =
@@ -83,6 +84,7 @@ module _ (kind : Drawing) (hash : Bool → Bool) (ascii : IsAscii kind hash)
       let e = ap first_line text-is ∙ cells-newline (length squares) wide wide 2 cell size h.some (omega arith) (without 10 refl refl) in
       omega (arith, e, ascii.width text)
 
+  -- the number of squares that is computed from the text is that of the drawing
   count-is : length squares ≡ count_in kind text
   count-is =
       let w = wide-in in
@@ -94,6 +96,7 @@ module _ (kind : Drawing) (hash : Bool → Bool) (ascii : IsAscii kind hash)
       ∙ ap (λ z. length text / (z * (2 * z + 1))) width-is
       ∙ sym (ascii.count text)
 
+  -- the text shows the squares with this margin
   shows : ShowsOn kind wide (length squares) whole margin squares
   unfolding is_dark_on wide
   shows = record {
@@ -113,7 +116,7 @@ module _ (kind : Drawing) (hash : Bool → Bool) (ascii : IsAscii kind hash)
       let n = ap length text-is in
       ap (λ t. eqb (get_or t i 0) sign) text-is ∙ cells-without sign (length squares) wide wide cell c (without sign a b) i (omega arith)
 
-  -- byte 14 is that of column 7
+  -- the byte with the index 14 is the first of the module in row 0 and column 7, which is light
   fourteen : get_or text 14 0 ≡ get_or (ascii_module (hash false)) 0 0
   fourteen =
       let w = wide-in in
@@ -122,6 +125,7 @@ module _ (kind : Drawing) (hash : Bool → Bool) (ascii : IsAscii kind hash)
       ap (λ t. get_or t 14 0) text-is
       ∙ (ap (λ z. get_or whole z 0) (sym e) ∙ at 0 0 7 h.some (omega arith) (omega arith) ∙ ap (λ d. get_or (ascii_module (hash d)) 0 0) (separator-light margin squares kind text h))
 
+  -- the type that is computed from the text is `Ascii` if a space shows a light module, and otherwise `AsciiInverse`
   pub ascii-kind : kind_in text ≡ cond (eqb (get_or (ascii_module (hash false)) 0 0) 32) Ascii AsciiInverse
   ascii-kind =
       let w = wide-in in
@@ -133,7 +137,7 @@ module _ (kind : Drawing) (hash : Bool → Bool) (ascii : IsAscii kind hash)
       let test : ltb (position_or_len (λ byte. eqb byte 0xE2) begin) (length begin) ≡ false = grind (arith, nat_tests) in
       rw (first, test, fourteen) refl
 
--- `#` is dark
+-- in the type `Ascii` a dark module is shown by `#`
 plain : IsAscii Ascii (λ b. b)
 plain = record {
   place = λ w k y x. refl;
@@ -143,7 +147,7 @@ plain = record {
   read = λ y b. elim b as (λ b. is_dark_byte Ascii y (get_or (ascii_module b) 0 0) ≡ b) [ true ↦ refl | false ↦ refl ];
 }
 
--- `#` is light
+-- in the type `AsciiInverse` a light module is shown by `#`
 inverse : IsAscii AsciiInverse not
 inverse = record {
   place = λ w k y x. refl;

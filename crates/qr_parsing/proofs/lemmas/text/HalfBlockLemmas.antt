@@ -10,14 +10,14 @@ use Rattle.qr_parsing.specs.{Parsing.IsDrawingOf, Steps.Sheet.{ShowsOn, bytes_in
 use Rattle.qr_parsing.proofs.lemmas.sheet.SheetLemmas.{raster-wide, separator-light, shows-by}
 use Rattle.qr_parsing.proofs.lemmas.text.PlaceLemmas.{cell-at, cells-filter, cells-first, cells-length, cells-newline, cells_text, position-below, squares-text}
 
--- one byte of a character stays
+-- of the bytes of a character one is kept, the last
 last-size : (u l : Bool) → length (filter is_cell (half_blocks u l)) ≡ 1
 last-size true true = refl
 last-size true false = refl
 last-size false true = refl
 last-size false false = refl
 
--- it is no newline
+-- the byte that is kept is no newline
 last-newline : (u l : Bool) (j : ℕ) → j < length (filter is_cell (half_blocks u l)) → eqb (get_or (filter is_cell (half_blocks u l)) j 0) 10 ≡ false
 last-newline u l j = none u l j
   where
@@ -31,39 +31,40 @@ last-newline u l j = none u l j
     none false true j = one j 0x80 refl
     none false false j = one j 0x88 refl
 
--- it shows the upper module in even rows, and the lower one in odd rows
+-- the byte that is kept shows the upper module, in an even row
 upper-shown : (u l : Bool) (y : ℕ) → y % 2 ≡ 0 → is_dark_byte Utf8 y (get_or (filter is_cell (half_blocks u l)) 0 0) ≡ u
 upper-shown true true y e = refl
 upper-shown true false y e = rw e refl
 upper-shown false true y e = rw e refl
 upper-shown false false y e = rw e refl
 
+-- the byte that is kept shows the lower module, in an odd row
 lower-shown : (u l : Bool) (y : ℕ) → y % 2 ≡ 1 → is_dark_byte Utf8 y (get_or (filter is_cell (half_blocks u l)) 0 0) ≡ l
 lower-shown true true y e = refl
 lower-shown true false y e = rw e refl
 lower-shown false true y e = rw e refl
 lower-shown false false y e = rw e refl
 
--- a character has three bytes at most
+-- a character has at most three bytes
 most-bytes : (u l : Bool) → length (half_blocks u l) ≤ 3
 most-bytes true true = omega arith
 most-bytes true false = omega arith
 most-bytes false true = omega arith
 most-bytes false false = omega arith
 
--- the first byte of a character
+-- a character has at least one byte
 first-byte : (u l : Bool) → 0 < length (half_blocks u l)
 first-byte true true = omega arith
 first-byte true false = omega arith
 first-byte false true = omega arith
 first-byte false false = omega arith
 
--- that of a light module, above another
+-- if the upper module is light, the first byte of the character is E2
 light-byte : (l : Bool) → get_or (half_blocks false l) 0 0 ≡ 0xE2
 light-byte true = refl
 light-byte false = refl
 
--- that of no character begins a document
+-- no character begins with the byte with which a document begins
 first-other : (u l : Bool) → eqb (get_or (half_blocks u l) 0 0) 60 ≡ false
 first-other true true = refl
 first-other true false = refl
@@ -83,7 +84,7 @@ module _ (margin : ℕ) (squares : List Grid) (text : List ℕ) (h : IsDrawingOf
   block : ℕ → ℕ → ℕ → List ℕ
   block k y x = half_blocks (is_dark_at margin (square_at squares k) (2 * y) x) (is_dark_at margin (square_at squares k) (2 * y + 1) x)
 
-  -- the byte of it that stays
+  -- the byte of this character that is kept
   last : ℕ → ℕ → ℕ → List ℕ
   last k y x = filter is_cell (half_blocks (is_dark_at margin (square_at squares k) (2 * y) x) (is_dark_at margin (square_at squares k) (2 * y + 1) x))
 
@@ -95,7 +96,7 @@ module _ (margin : ℕ) (squares : List Grid) (text : List ℕ) (h : IsDrawingOf
   unfolding last
   newline k y x = last-newline (is_dark_at margin (square_at squares k) (2 * y) x) (is_dark_at margin (square_at squares k) (2 * y + 1) x)
 
-  -- the cells
+  -- the bytes that are kept of all cells
   whole : List ℕ
   whole = cells_text (length squares) ((wide + 1) / 2) wide last
 
@@ -107,7 +108,7 @@ module _ (margin : ℕ) (squares : List Grid) (text : List ℕ) (h : IsDrawingOf
   unfolding whole last block
   cells-are = ap (filter is_cell) text-is ∙ cells-filter is_cell (length squares) ((wide + 1) / 2) wide block refl
 
-  -- the byte of a module
+  -- the byte in which a module is read is the one that is kept of its character
   at : (k y x : ℕ) → k < length squares → y < wide → x < wide
       → get_or whole (place_of Utf8 wide k y x) 0 ≡ get_or (last k (y / 2) x) 0 0
   unfolding whole
@@ -121,6 +122,7 @@ module _ (margin : ℕ) (squares : List Grid) (text : List ℕ) (h : IsDrawingOf
   unfolding whole
   long = cells-length (length squares) ((wide + 1) / 2) wide 1 last size
 
+  -- the width that is computed from the text is that of a raster
   width-is : wide ≡ width_in Utf8 text
   unfolding whole
   width-is =
@@ -128,6 +130,7 @@ module _ (margin : ℕ) (squares : List Grid) (text : List ℕ) (h : IsDrawingOf
       let e = ap first_line cells-are ∙ cells-newline (length squares) ((wide + 1) / 2) wide 1 last size h.some (omega arith) newline in
       omega (arith, e)
 
+  -- the number of squares that is computed from the text is that of the drawing
   count-is : length squares ≡ count_in Utf8 text
   count-is =
       let w = wide-in in
@@ -140,6 +143,7 @@ module _ (margin : ℕ) (squares : List Grid) (text : List ℕ) (h : IsDrawingOf
       ∙ (λ i. sym (ap length cells-are ∙ long) i / sym e i)
       ∙ ap (λ z. length (cells_in text) / ((z + 1) / 2 * (z + 1))) width-is
 
+  -- the last bytes of the cells show the squares with this margin
   shows : ShowsOn Utf8 wide (length squares) whole margin squares
   unfolding is_dark_on wide last
   shows = record {
@@ -161,7 +165,7 @@ module _ (margin : ℕ) (squares : List Grid) (text : List ℕ) (h : IsDrawingOf
   pub block-sheet : ShowsOn Utf8 (width_in Utf8 text) (count_in Utf8 text) (bytes_in Utf8 text) margin squares
   block-sheet = shows-by Utf8 wide (width_in Utf8 text) (length squares) (count_in Utf8 text) whole (cells_in text) margin squares width-is count-is (sym cells-are) shows
 
-  -- a byte of the first line
+  -- the bytes of a character of the first line are in the text, after the characters before it
   in-line : (x j : ℕ) → x < wide → j < length (block 0 0 x)
       → (get_or text (length (texts_below x (block 0 0)) + j) 0 ≡ get_or (block 0 0 x) j 0) × (length (texts_below x (block 0 0)) + j < length text)
   in-line x j a b =
@@ -170,7 +174,7 @@ module _ (margin : ℕ) (squares : List Grid) (text : List ℕ) (h : IsDrawingOf
       let n = ap length text-is in
       (ap (λ t. get_or t (length (texts_below x (block 0 0)) + j) 0) text-is ∙ e.0, omega (arith, e.1))
 
-  -- the character in column 7 begins with E2
+  -- the type that is computed from the text is UTF8, since the character in column 7 begins with E2
   pub block-kind : kind_in text ≡ Utf8
   unfolding block
   block-kind =

@@ -9,19 +9,19 @@ use Rattle.qr_drawing.proofs.Facts.{no-texts, texts_below-alike, texts-of-items}
 use Rattle.qr_parsing.specs.Steps.Text.{first_line}
 use Rattle.qr_parsing.proofs.lemmas.sheet.SheetLemmas.{one-width}
 
--- the texts of later places
+-- the texts from place a + 1 on are the texts of the next places from a on
 shifted : (a n : ℕ) (f : ℕ → List ℕ) → flat_map f (range_with_len (a + 1) n) ≡ flat_map (λ i. f (suc i)) (range_with_len a n)
 shifted a zero f = refl
 shifted a (suc n) f =
     let e : a + 1 ≡ suc a = omega arith in
     cc (shifted (a + 1) n f, ap f e)
 
--- the text of the first place, and those of the others
+-- the texts of n + 1 places are the text of the first, and then those of the others
 pub texts-first : (n : ℕ) (f : ℕ → List ℕ) → texts_below (suc n) f ≡ f 0 ++ texts_below n (λ i. f (suc i))
 unfolding texts_below
 texts-first n f = ap (λ l. f 0 ++ l) (shifted 0 n f)
 
--- texts of one length
+-- n texts of one length are n times as long as one
 pub texts-length : (n len : ℕ) (f : ℕ → List ℕ) → ((k : ℕ) → k < n → length (f k) ≡ len) → length (texts_below n f) ≡ n * len
 texts-length zero len f h = ap length (no-texts f) ∙ omega arith
 texts-length (suc n) len f h =
@@ -29,7 +29,7 @@ texts-length (suc n) len f h =
     let t = texts-length n len (λ i. f (suc i)) (λ k lt. h (suc k) (omega arith)) in
     omega (arith, e, t, h 0 (omega arith), suc-mul n len)
 
--- byte j of the text i, which the texts before it precede
+-- byte j of the text i comes after the texts before it and j bytes of its own
 pub text-after : (n i j : ℕ) (f : ℕ → List ℕ) → i < n → j < length (f i) → get_or (texts_below n f) (length (texts_below i f) + j) 0 ≡ get_or (f i) j 0
 text-after zero i j f lt l = absurd (omega arith)
 text-after (suc n) zero j f lt l =
@@ -41,7 +41,7 @@ text-after (suc n) (suc i) j f lt l =
     rw (e, texts-first n f) (get_or-append-add (f 0) (texts_below n (λ i. f (suc i))) (length rest + j) 0
     ∙ text-after n i j (λ i. f (suc i)) (omega arith) l)
 
--- it is in the text
+-- byte j of the text i is in all texts together
 pub text-inside : (n i j : ℕ) (f : ℕ → List ℕ) → i < n → j < length (f i) → length (texts_below i f) + j < length (texts_below n f)
 text-inside zero i j f lt l = absurd (omega arith)
 text-inside (suc n) zero j f lt l =
@@ -54,14 +54,14 @@ text-inside (suc n) (suc i) j f lt l =
       ap length (texts-first n f) ∙ length-append (f 0) (texts_below n (λ i. f (suc i))),
     )
 
--- such a byte if the texts have one length
+-- if the texts have one length, byte j of the text i has the index i * len + j
 pub text-at : (n len i j : ℕ) (f : ℕ → List ℕ) → ((k : ℕ) → k < n → length (f k) ≡ len) → i < n → j < len
     → get_or (texts_below n f) (i * len + j) 0 ≡ get_or (f i) j 0
 text-at n len i j f h lt l =
     let e : i * len + j ≡ length (texts_below i f) + j = omega (arith, texts-length i len f (λ k less. h k (omega arith))) in
     ap (λ z. get_or (texts_below n f) z 0) e ∙ text-after n i j f lt (omega (arith, h i lt))
 
--- a number that no text has is not in them
+-- a byte that is in none of the texts is not in all of them together
 pub texts-without : (b n : ℕ) (f : ℕ → List ℕ) → ((k j : ℕ) → k < n → j < length (f k) → eqb (get_or (f k) j 0) b ≡ false)
     → (i : ℕ) → i < length (texts_below n f) → eqb (get_or (texts_below n f) i 0) b ≡ false
 texts-without b zero f h i lt = let e = ap length (no-texts f) in absurd (omega (arith, e))
@@ -74,7 +74,7 @@ texts-without b (suc n) f h i lt =
           ∙ texts-without b n (λ i. f (suc i)) (λ k j lt. h (suc k) j (omega arith)) (i - length (f 0)) (omega (arith, e))
     ])
 
--- a filter of texts
+-- filtering all texts together is the same as filtering each
 pub texts-filter : (p : ℕ → Bool) (n : ℕ) (f : ℕ → List ℕ) → filter p (texts_below n f) ≡ texts_below n (λ k. filter p (f k))
 texts-filter p zero f = ap (filter p) (no-texts f) ∙ sym (no-texts (λ k. filter p (f k)))
 texts-filter p (suc n) f =
@@ -85,7 +85,7 @@ texts-filter p (suc n) f =
       texts-filter p n (λ i. f (suc i)),
     )
 
--- the place j of the text i is among those of n texts
+-- byte j of the text i is among the bytes of n texts
 pub place-in : (n len i j : ℕ) → i < n → j < len → i * len + j < n * len
 place-in n len i j lt l = omega (arith, mul-le-mul_right len lt, suc-mul i len)
 
@@ -93,7 +93,7 @@ place-in n len i j lt l = omega (arith, mul-le-mul_right len lt, suc-mul i len)
 unfoldable pub cells_text : (count lines width : ℕ) → (ℕ → ℕ → ℕ → List ℕ) → List ℕ
 cells_text count lines width cell = texts_below count (λ k. texts_below lines (λ y. texts_below width (cell k y) ++ 10 ∷ []))
 
--- the texts of squares of one side, cell by cell
+-- the texts of squares of one side are the text of their cells
 pub squares-text : (lines : ℕ → ℕ) (cell : Grid → ℕ → ℕ → List ℕ) (margin : ℕ) (squares : List Grid) → HaveOneSide squares
     → flat_map (λ g. texts_below (lines (raster_width margin g)) (λ y. texts_below (raster_width margin g) (cell g y) ++ 10 ∷ [])) squares
     ≡ cells_text (length squares) (lines (raster_width margin (square_at squares 0))) (raster_width margin (square_at squares 0)) (λ k. cell (square_at squares k))
@@ -106,20 +106,20 @@ squares-text lines cell margin squares one =
 
 -- in this module, each cell has `size` bytes
 module _ (count lines width size : ℕ) (cell : ℕ → ℕ → ℕ → List ℕ) (sizes : (k y x : ℕ) → length (cell k y x) ≡ size) where
-  -- a line
+  -- a line is as long as its cells and a newline
   line_length : (k y : ℕ) → length (texts_below width (cell k y) ++ 10 ∷ []) ≡ width * size + 1
   line_length k y = length-append (texts_below width (cell k y)) (10 ∷ []) ∙ ap (λ n. n + 1) (texts-length width size (cell k y) (λ x lt. sizes k y x))
 
-  -- a square
+  -- a square is as long as its lines
   square_length : (k : ℕ) → length (texts_below lines (λ y. texts_below width (cell k y) ++ 10 ∷ [])) ≡ lines * (width * size + 1)
   square_length k = texts-length lines (width * size + 1) (λ y. texts_below width (cell k y) ++ 10 ∷ []) (λ y lt. line_length k y)
 
-  -- all
+  -- the whole text is as long as its squares
   pub cells-length : length (cells_text count lines width cell) ≡ count * (lines * (width * size + 1))
   unfolding cells_text
   cells-length = texts-length count (lines * (width * size + 1)) (λ k. texts_below lines (λ y. texts_below width (cell k y) ++ 10 ∷ [])) (λ k lt. square_length k)
 
-  -- byte j of line y of the square k
+  -- this is where byte j of line y of the square k is
   line-at : (k y j : ℕ) → k < count → y < lines → j < width * size + 1
       → get_or (cells_text count lines width cell) ((k * lines + y) * (width * size + 1) + j) 0 ≡ get_or (texts_below width (cell k y) ++ 10 ∷ []) j 0
   unfolding cells_text
@@ -129,7 +129,7 @@ module _ (count lines width size : ℕ) (cell : ℕ → ℕ → ℕ → List ℕ
       rw e (text-at count (lines * step) k (y * step + j) (λ k. texts_below lines (λ y. texts_below width (cell k y) ++ 10 ∷ [])) (λ k lt. square_length k) a (place-in lines step y j b c)
       ∙ text-at lines step y j (λ y. texts_below width (cell k y) ++ 10 ∷ []) (λ y lt. line_length k y) b c)
 
-  -- byte j of the cell x of that line
+  -- this is where byte j of the cell x of line y of the square k is
   pub cell-at : (k y x j : ℕ) → k < count → y < lines → x < width → j < size
       → get_or (cells_text count lines width cell) ((k * lines + y) * (width * size + 1) + (x * size + j)) 0 ≡ get_or (cell k y x) j 0
   cell-at k y x j a b c d =
@@ -139,7 +139,7 @@ module _ (count lines width size : ℕ) (cell : ℕ → ℕ → ℕ → List ℕ
       ∙ (get_or_append_left (texts_below width (cell k y)) (10 ∷ []) 0 (x * size + j) (omega arith)
       ∙ text-at width size x j (cell k y) (λ x lt. sizes k y x) c d)
 
-  -- the first newline is that of the first line
+  -- the first line ends at the first newline
   pub cells-newline : 0 < count → 0 < lines → ((k y x j : ℕ) → j < length (cell k y x) → eqb (get_or (cell k y x) j 0) 10 ≡ false)
       → first_line (cells_text count lines width cell) ≡ width * size
   cells-newline some one none =
@@ -155,7 +155,7 @@ module _ (count lines width size : ℕ) (cell : ℕ → ℕ → ℕ → List ℕ
       (λ lt. rw (at (width * size) (omega arith)) (let e : width * size ≡ length (texts_below width (cell 0 0)) + 0 = omega arith in
       rw (e, get_or-append-add (texts_below width (cell 0 0)) (10 ∷ []) 0 0) refl))
 
--- byte j of the cell x of the first line, whatever the sizes of the cells before it
+-- byte j of the cell x of the first line comes after the cells before it, whatever their sizes
 pub cells-first : (count lines width x j : ℕ) (cell : ℕ → ℕ → ℕ → List ℕ) → 0 < count → 0 < lines → x < width → j < length (cell 0 0 x)
     → (get_or (cells_text count lines width cell) (length (texts_below x (cell 0 0)) + j) 0 ≡ get_or (cell 0 0 x) j 0)
     × (length (texts_below x (cell 0 0)) + j < length (cells_text count lines width cell))
@@ -206,11 +206,11 @@ position-below b i xs lt e = elim (cases_lt (position_or_len (λ byte. eqb byte 
     no : true ≡ false → ⊥
     no f = cc
 
--- a byte that is in no place of a text
+-- if no byte of a text is b, the position of b is the length of the text
 pub position-none : (b : ℕ) (xs : List ℕ) → ((i : ℕ) → i < length xs → eqb (get_or xs i 0) b ≡ false) → position_or_len (λ byte. eqb byte b) xs ≡ length xs
 position-none b xs none = position_or_len_is (λ byte. eqb byte b) xs (length xs) 0 (omega arith) none (λ lt. absurd (omega arith))
 
--- the cells without the bytes that a test leaves out
+-- filtering the text of cells is the same as filtering each cell, if the filter keeps newlines
 pub cells-filter : (p : ℕ → Bool) (count lines width : ℕ) (cell : ℕ → ℕ → ℕ → List ℕ) → p 10 ≡ true
     → filter p (cells_text count lines width cell) ≡ cells_text count lines width (λ k y x. filter p (cell k y x))
 unfolding cells_text
@@ -224,7 +224,7 @@ cells-filter p count lines width cell end =
     kept : filter p (10 ∷ []) ≡ 10 ∷ []
     kept = rw end refl
 
--- the bytes of whole squares are in the cells
+-- the byte of each module of a whole raster is in the text
 pub cell-inside : (len w lines count k y x : ℕ) → lines ≡ (w + 1) / 2 → count ≡ len / (lines * (w + 1)) → 8 ≤ w → k < count → y < w → x < w
     → (k * ((w + 1) / 2) + y / 2) * (w + 1) + x < len
 cell-inside len w lines count k y x e f wide a b c =

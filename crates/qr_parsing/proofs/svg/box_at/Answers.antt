@@ -6,7 +6,7 @@ use Rattle.qr_parsing.proofs.lemmas.svg.PathLemmas.{FirstBox, after-box, after-m
 use Rattle.qr_parsing.proofs.svg.box_at.Goals as goal
 use Rattle.qr_parsing.proofs.svg.box_at.Goals.{then-at-text-via-then-at-text, then-at-text-via-else-at-text+then-text-at-ne77, then-modules-lt10, else-modules-lt10+then-modules-lt100, else-modules-lt10+else-modules-lt100}
 
--- the box at an `M`
+-- at an `M` a path begins with a box
 found : (text numbers : List ℕ) (at : ℕ) → IsPath numbers (drop at text) → at < length text → get_or text at 0 ≡ 77 → FirstBox numbers (drop at text)
 found text numbers at path lt m =
     let e : at + 0 ≡ at = omega arith in

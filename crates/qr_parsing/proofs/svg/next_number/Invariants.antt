@@ -2,7 +2,7 @@ use Rattle.std.proofs.Common.{◌≡◌, ◌≤◌, false, length}
 use Rattle.qr_parsing.specs.Steps.Svg.{numbers_after, numbers_in}
 use Rattle.qr_parsing.proofs.svg.next_number.Given as goal
 
--- the numbers of the bytes to come, after the digits just before them
+-- the numbers of the text are those that are read from the rest, if the digits before the rest are read as `number`
 abbrev pub invariant-bytes : goal.invariant-bytes
 invariant-bytes l = record {
   small : l.number ≤ 99999;

@@ -4,7 +4,7 @@ use Rattle.qr_parsing.specs.Steps.Svg.{leading}
 use Rattle.qr_parsing.proofs.lemmas.svg.NumberLemmas.{digit-by, drop-one, leading-more, leading-read, leading-shorter, leading-stop, no-digit-by, one-digit-more}
 use Rattle.qr_parsing.proofs.svg.number_after.Goals as goal
 
--- how long the text is
+-- from `at` on the text is as long as its number, one byte and the rest
 parts : (text rest : List ℕ) (at n byte : ℕ) → drop at text ≡ decimal n ++ (byte ∷ rest) → length text - at ≡ length (decimal n) + (1 + length rest)
 parts text rest at n byte is = omega (arith, sym (length-drop at text) ∙ (ap length is ∙ length-append (decimal n) (byte ∷ rest)))
 

@@ -2,7 +2,7 @@ use Rattle.std.proofs.Common.{◌≡◌, ℕ, ◌<◌, ◌≤◌, ◌-◌, ◌/�
 use Rattle.qr_parsing.specs.Steps.Svg.{IsPath, is_in_boxes, path_in}
 use Rattle.qr_parsing.proofs.svg.paint_all.Given as goal
 
--- with the boxes to come the canvas has all boxes
+-- if the boxes that are left are painted too, the canvas has all boxes
 abbrev pub invariant-boxes : goal.invariant-boxes
 invariant-boxes l = record {
   within : l.at ≤ length l.text;

@@ -2,7 +2,7 @@ use Rattle.std.proofs.Common.{◌≡◌, ◌≤◌, length, take}
 use Rattle.qr_parsing.specs.Steps.Text.{cells_in}
 use Rattle.qr_parsing.proofs.text.write_cells.Given as goal
 
--- the cells of the bytes before the current one
+-- the cells among the bytes before the current one have been written
 abbrev pub invariant-loop-byte : goal.invariant-loop-byte
 invariant-loop-byte l = record {
   long : length l.cells ≡ length l.fn.cells;

@@ -97,7 +97,7 @@ drawn-for-series s rule input version symbols many least most e same some series
   one_side = one-side (squares_of symbols) (side_of version) (series-side input s.level rule Default version symbols series);
 }
 
--- the reader was not read: it need not be, or lack of memory ended the run
+-- if the reader need not be read, or lack of memory ended the run before, it is correct that the reader is unchanged
 unread : (words : List Text) (in0 : Reader) (r : Result DrawingJob Fault) → (ReadsInput words → r ≡ Err fault.Memory)
     → ((given : List ℕ) → IsJobGiven words given r) → Prepares words in0 in0 r
 unread words in0 r memory answer = let i = any_input in0.remaining in record {
@@ -132,7 +132,7 @@ module _ (words : List Text) (s : SettingsView) (taken : settings_for words ≡ 
   has : {P : SettingsView → Type 0} → P s → HasSettingsWith words P
   has h = record { settings = s; taken = taken; holds = h }
 
-  -- a correct result for the input that is encoded is correct for the command line
+  -- a job that is correct for the bytes that the symbols contain is correct for the command line
   answer-for : (given input : List ℕ) (r : Result DrawingJob Fault) → input_for s given ≡ input
       → IsJobFor s (held s input) r → IsJobGiven words given r
   answer-for given input (Ok p) e h = has (rw e h)
@@ -142,7 +142,7 @@ module _ (words : List Text) (s : SettingsView) (taken : settings_for words ≡ 
   answer-for given input (Err fault.Memory) e h = (tt, tt)
   answer-for given input (Err _) e h = absurd h
 
-  -- the case that the input is the string of the command line
+  -- if the input is the string of the command line, its job is correct for the command line
   pub prepares-string : (in0 : Reader) (text buf : List ℕ) (n : ℕ) (r : Result DrawingJob Fault) →
       s.string ≡ Some text → buf ≡ text → n ≡ min INPUT_MAX (length buf) →
       IsJobFor s (held s (take n buf)) r → Prepares words in0 in0 r
@@ -150,7 +150,7 @@ module _ (words : List Text) (s : SettingsView) (taken : settings_for words ≡ 
       (λ i. let same : Ok i.settings ≡ Ok s = sym i.taken ∙ taken in let none = i.holds in cc)
       (λ given. answer-for given (take n buf) r (input_for-string s text given buf n string is cut) h)
 
-  -- the case that the input is what the reader returned
+  -- if the input is what the reader returned, its job is correct for the command line
   pub prepares-reader : (in0 in1 : Reader) (bytes buf : List ℕ) (r : Result DrawingJob Fault) → s.string ≡ None
       → buf ≡ bytes → HasRead in0 in1 bytes → IsJobFor s (held s buf) r → Prepares words in0 in1 r
   prepares-reader in0 in1 bytes buf r string is done h = record {
@@ -162,7 +162,7 @@ module _ (words : List Text) (s : SettingsView) (taken : settings_for words ≡ 
     within = done.within;
   }
 
-  -- the case that the reader was at fault, or memory for the input was refused
+  -- if the reader failed, or memory for the input was refused, this fault is correct for the command line
   pub prepares-unread : (in0 in1 : Reader) (f : Fault) → s.string ≡ None → StopsReading in0 in1 f → Prepares words in0 in1 (Err f)
   prepares-unread in0 in1 f string stops = let i = any_input in0.remaining in record {
     given = i.0;

@@ -11,13 +11,13 @@ use Rattle.qr_devices.specs.declared.device.{Trouble.Trouble, WriteCounts.WriteC
 use Rattle.qrencode_cli.specs.declared.fault.Fault.TheVariants as fault
 use Rattle.qr_drawing.specs.declared.pen.{DrawFault.DrawFault, TheConstants.WRITE_MAX}
 
--- the writer failed in the drawing
+-- if the writer failed while it received the drawing, the result is a write fault
 pub draws-part : (old new : Writer) (drawing : List ℕ) → AppendsBeginning old.taken new.taken drawing → (old.counts ≡ no_writes → is_write_fault new.counts ≡ true)
     → (old.counts ≡ no_writes → new.counts.taken ≤ counted (length drawing)) → (old.counts ≡ no_writes → IsWrittenWithin new.counts)
     → new.counts.offered ≤ max old.counts.offered WRITE_MAX → new.counts.flushes ≡ old.counts.flushes → Draws old new drawing (Err fault.Write)
 draws-part old new drawing part well most within offered flushes = search arith
 
--- counts without a fault
+-- in counts without a write fault no write failed, and none took no byte
 clean : (c : WriteCounts) → is_write_fault c ≡ false → (c.failed ≡ 0) × (c.zeros ≡ 0)
 clean c well = (grind (arith, nat_tests), grind (arith, nat_tests))
 
@@ -26,7 +26,7 @@ module _ (old mid new : Writer) (drawing : List ℕ) (f : Result (Unit {0}) Trou
     (well : old.counts ≡ no_writes → is_write_fault mid.counts ≡ false) (many : old.counts ≡ no_writes → mid.counts.taken ≡ counted (length drawing))
     (within : old.counts ≡ no_writes → IsWrittenWithin mid.counts) (offered : mid.counts.offered ≤ max old.counts.offered WRITE_MAX)
     (flushes : mid.counts.flushes ≡ old.counts.flushes) (keeps : Keeps mid.taken new.taken) (e : new.counts ≡ flush_counted f mid.counts) where
-  -- whether the flush was well or not
+  -- the writer received the whole drawing, and `f` says whether the flush succeeded
   drawn-whole : DrawnWhole (is_ok f) old new drawing
   drawn-whole = record {
     grows = Appends-kept old.taken mid.taken new.taken drawing all keeps;
@@ -35,6 +35,7 @@ module _ (old mid new : Writer) (drawing : List ℕ) (f : Result (Unit {0}) Trou
     ended = rw e refl;
   }
 
+  -- if the flush succeeded, the drawing was written and flushed
   pub draws-whole : is_ok f ≡ true → Draws old new drawing (Ok tt)
   draws-whole is = record {
     ok = rw is at drawn-whole;
@@ -44,6 +45,7 @@ module _ (old mid new : Writer) (drawing : List ℕ) (f : Result (Unit {0}) Trou
     offered = rw e offered;
   }
 
+  -- if the flush failed, the result is a write fault
   pub draws-unflushed : is_ok f ≡ false → Draws old new drawing (Err fault.Write)
   draws-unflushed is = record {
     ok = tt;
@@ -58,7 +60,7 @@ module _ (old mid new : Writer) (drawing : List ℕ) (f : Result (Unit {0}) Trou
 begins-all : (old new : Option (List ℕ)) (text : List ℕ) → Appends old new text → AppendsBeginning old new text
 begins-all old new text p = (text, ([], append-nil text), p)
 
--- standard error received the line of a fault
+-- if the line of a fault was written, or a prefix of it, standard error holds what it should
 pub tells-fault : (old new : Writer) (f : Fault) (slice : List ℕ) → slice ≡ fault_line f →
     (r : Result (Unit {0}) DrawFault) → OnOk r (Appends old.taken new.taken slice) →
     OnErr r (AppendsBeginning old.taken new.taken slice) →
@@ -69,7 +71,7 @@ pub tells-fault : (old new : Writer) (f : Fault) (slice : List ℕ) → slice �
 tells-fault old new f slice is (Ok t) ok err well many most flushes = search (arith, begins-all)
 tells-fault old new f slice is (Err e) ok err well many most flushes = search arith
 
--- after a drawing was written, or the writer was at fault
+-- after the drawing was written, or the writer failed, standard output holds what it should
 shown : (words : List Text) (given drawing : List ℕ) (out0 out1 : Writer) (r : Result (Unit {0}) Fault)
     → HasDrawing words given drawing → Draws out0 out1 drawing r
     → IfErr r (IsFault words given) × OutputHolds words given out0 out1 r
@@ -82,7 +84,7 @@ shows-nothing : (words : List Text) (given : List ℕ) (out0 out1 : Writer) (f :
 shows-nothing words given out0 out1 fault.Write h e = absurd h
 shows-nothing words given out0 out1 _ h e = e
 
--- a run with this result, which standard error and the exit status show
+-- an attempt with this result is a run, if standard error and the exit status show the result
 pub runs : (words : List Text) (in0 in1 : Reader) (out0 out1 err0 err1 : Writer) (r : Result (Unit {0}) Fault)
     (status : ℕ) → Attempts words in0 in1 out0 out1 r →
     MatchResult r (λ _. err1 ≡ err0) (λ f. ErrorHolds err0 err1 (fault_line f)) →

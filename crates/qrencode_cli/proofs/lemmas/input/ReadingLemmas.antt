@@ -23,7 +23,7 @@ pub record IsReading (old new : Reader) (bytes : List ℕ) (interrupted : ℕ) :
   pub few : interrupted ≤ 999
   pub counted : old.counts ≡ no_reads → IsCounted new.counts (length bytes) interrupted
 
--- bytes that were read are the input if they end it or are `INPUT_MAX`
+-- bytes that were read are the input if the device has no more, or if they are `INPUT_MAX`
 IsInputOf-read : (a b : Option (List ℕ)) (bytes : List ℕ) → Consumes a b bytes → length bytes ≤ INPUT_MAX
     → IsAtEnd b ⊎ (INPUT_MAX ≤ length bytes) → IsInputOf a bytes
 IsInputOf-read None b bytes p low end = tt
@@ -36,7 +36,7 @@ IsInputOf-read (Some x) (Some y) bytes p low (inr high) =
 counted-well : (c : ReadCounts) (len i : ℕ) → len ≤ INPUT_MAX → i ≤ 999 → IsCounted c len i → (is_read_fault c ≡ false) × IsReadWithin c
 counted-well c len i short few k = (rw (k.failed, k.interrupted_is) (grind (arith, nat_tests)), search rules)
 
--- the state before the first read
+-- before the first read there are no bytes and no interruptions
 pub reading-begins : (a : Reader) (bytes : List ℕ) → bytes ≡ [] → IsReading a a bytes 0
 reading-begins a bytes e = search rules
 
@@ -45,7 +45,7 @@ module _ (old a b : Reader) (bytes buf chunk : List ℕ) (n i most room : ℕ) (
     (le : n ≤ length buf) (q : Consumes a.remaining b.remaining (take n buf))
     (e : b.counts ≡ read_counted (length buf) (Ok n) a.counts) (small : length bytes < INPUT_MAX)
     (is : room ≡ min most (INPUT_MAX - length bytes)) (first : length buf ≡ length (take room chunk)) where
-  -- the state after it
+  -- after one more read its bytes stand after those that were read before
   pub reading-more : (rest more : List ℕ) → more ≡ bytes ++ take n (buf ++ rest) → IsReading old b more i
   reading-more rest more m =
       let fits : length bytes + length buf ≤ INPUT_MAX = omega (arith, length-take room chunk) in
@@ -57,27 +57,27 @@ module _ (old a b : Reader) (bytes buf chunk : List ℕ) (n i most room : ℕ) (
         counted = λ z. let k = h.counted z in rw (e, len) (search rules);
       })
 
-  -- memory for its bytes was refused
+  -- if memory for the bytes of this read is refused, reading stops with lack of memory
   pub stops-memory : StopsReading old b fault.Memory
   stops-memory =
       let r = reading-more [] _ refl in
       let w = λ (z : old.counts ≡ no_reads). counted-well _ _ _ r.bounded r.few (r.counted z) in
       record { only = inr refl; read_fault = λ z. (λ bad. cc, λ t. absurd (false≢true (sym (w z).0 ∙ t))); within = λ z. (w z).1 }
 
--- the state after one more interrupted read
+-- one more interrupted read changes only the number of interruptions
 pub reading-again : (old a b : Reader) (bytes : List ℕ) (len i : ℕ) → IsReading old a bytes i →
     (i ≡ 999 → ⊥) → Keeps a.remaining b.remaining →
     b.counts ≡ read_counted len (Err Interrupted) a.counts → IsReading old b bytes (i + 1)
 reading-again old a b bytes len i h ne q e = search rules
 
--- the read failed, or was interrupted for the 1,000th time
+-- if the read failed, or was interrupted for the 1,000th time, reading stops with a read fault
 pub stops-read : (old a b : Reader) (bytes : List ℕ) (len i : ℕ) (t : Trouble) → IsReading old a bytes i
     → length bytes < INPUT_MAX → (t ≡ Failed) ⊎ (i ≡ 999) → b.counts ≡ read_counted len (Err t) a.counts → StopsReading old b fault.Read
 stops-read old a b bytes len i Interrupted h small (inl bad) e = cc
 stops-read old a b bytes len i Interrupted h small (inr last) e = search rules
 stops-read old a b bytes len i Failed h small last e = search rules
 
--- `INPUT_MAX` bytes were read
+-- if `INPUT_MAX` bytes were read, the reader has returned the input
 pub has-read-full : (old a : Reader) (bytes : List ℕ) (i : ℕ) → IsReading old a bytes i → INPUT_MAX ≤ length bytes → HasRead old a bytes
 has-read-full old a bytes i h high = let low = h.bounded in record {
   is_input = IsInputOf-read old.remaining a.remaining bytes h.given h.bounded (inr high);
@@ -87,7 +87,7 @@ has-read-full old a bytes i h high = let low = h.bounded in record {
   within = λ z. (counted-well _ _ _ h.bounded h.few (h.counted z)).1;
 }
 
--- the device was read to its end
+-- if a read reached the end of the device, the reader has returned the input
 pub has-read-end : (old a b : Reader) (bytes buf : List ℕ) (n i : ℕ) → IsReading old a bytes i → n ≡ 0 →
     0 < length buf → length bytes < INPUT_MAX →
     Consumes a.remaining b.remaining (take n buf) × (n ≡ 0 → 0 < length buf → IsAtEnd b.remaining) →

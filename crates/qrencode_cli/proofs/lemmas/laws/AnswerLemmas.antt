@@ -31,7 +31,7 @@ squares-one s input g h (inr (a, v, mask, square, m, e)) (inr (b, w, other, grid
 squares-one s input g h (inl a) (inr b) = let e : true ≡ false = sym a.0 ∙ b.0 in cc
 squares-one s input g h (inr a) (inl b) = let e : true ≡ false = sym b.0 ∙ a.0 in cc
 
--- and so for at most one drawing
+-- so the settings ask for at most one drawing
 drawing-one : (s : SettingsView) (input d e : List ℕ) → IsDrawing s input d → IsDrawing s input e → d ≡ e
 drawing-one s input d e a b = cc (squares-one s input a.squares b.squares a.symbols b.symbols)
 
@@ -49,7 +49,7 @@ not-too-long s input squares (inr (one, version, mask, square, symbol, e)) long 
 not-too-many : (s : SettingsView) (input : List ℕ) (squares : List Grid) → AreSymbols s input squares → IsTooMany s input → ⊥
 not-too-many s input squares x many = grind arith
 
--- a number for why a command line has no settings, or 0 if it has settings
+-- the number of the reason why a command line has no settings, or 0 if it has settings
 class_of : Result SettingsView Reason → ℕ
 class_of (Ok s) = 0
 class_of (Err refused_by_clap) = 1

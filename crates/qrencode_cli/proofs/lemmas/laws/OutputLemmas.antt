@@ -49,7 +49,7 @@ asked-drawing s input squares m least most (inr h) =
     let P : List Grid → Type 0 = λ g. IsDrawingOf s.kind s.margin g (drawn s.kind s.margin g) in
     subst P (sym h.5) (symbol-drawing s.kind s.margin (smallest_of s) s.level (rule_for s) Default input h.1 h.2 h.3 m least h.4)
 
--- the drawing that the settings ask for
+-- the drawing that the settings ask for shows the input, and nothing else
 shows-input : (words : List Text) (s : SettingsView) (input drawing : List ℕ) → settings_for words ≡ Ok s → IsDrawing s input drawing → ShowsInput s input drawing
 shows-input words s input drawing taken h =
     let P : List ℕ → Type 0 = IsDrawingOf s.kind s.margin h.squares in
@@ -63,7 +63,7 @@ shows-input words s input drawing taken h =
       only = λ kind margin others other. one-drawing kind s.kind margin s.margin others h.squares drawing other asked;
     }
 
--- a run whose status is 0 has no fault
+-- a run whose status is 0 has drawn the whole drawing, and this drawing shows the input
 of-outcome : (words : List Text) (in0 in1 : Reader) (out0 out1 err0 err1 : Writer) (outcome : Result (Unit {0}) Fault)
     → Runs words in0 in1 out0 out1 err0 err1 outcome 0
     → (given : List ℕ) × (drawing : List ℕ) × IsInputOf in0.remaining given × DrawnWhole true out0 out1 drawing

@@ -3,23 +3,24 @@ use Rattle.std.proofs.Common.{◌≡◌, ℕ, Option, None, Some, Result, Ok, Er
 use Rattle.{std.specs.Str.Parse.ParsesUnsigned, qrencode_cli.specs.Settings.number_or}
 use Rattle.clap.{specs.{Matches.TriesOne, Walk.Text}, proofs.WalkLemmas.byte_read}
 
+-- in this module, `gives` says which results there can be if a text is parsed as a number of one byte
 module _ {E : Type 0} (gives : Text → Result ℕ E → Type 0)
     (reads : (t : Text) (r : Result ℕ E) → gives t r → ParsesUnsigned 8 10 t r)
     (otherwise : ℕ)
   where
-    -- the case that a number is returned
+    -- if a number is returned, it is the number of the definition
     pub number_some : (o : Option Text) (r : Result (Option ℕ) E) → (o ≡ None → r ≡ Ok None) → ((t : Text) → o ≡ Some t → TriesOne gives t r)
         → (n : ℕ) → r ≡ Ok (Some n) → n ≡ number_or otherwise o
     number_some None r none some n e = let bad : r ≡ Ok None = none refl in cc
     number_some (Some t) r none some n e = byte_read {E = E} t (Ok n) (reads t (Ok n) (rw e at (some t refl)))
 
-    -- the case that the option is not given
+    -- if the option is not given, `otherwise` is the number of the definition
     pub number_none : (o : Option Text) (r : Result (Option ℕ) E) → (o ≡ None → r ≡ Ok None) →
         ((t : Text) → o ≡ Some t → TriesOne gives t r) → r ≡ Ok None → otherwise ≡ number_or otherwise o
     number_none None r none some e = refl
     number_none (Some t) r none some e = absurd (rw e at (some t refl))
 
-    -- the case that the option's text is not a byte
+    -- if the option's text is no number of one byte, 0 is the number of the definition
     pub number_err : (o : Option Text) (r : Result (Option ℕ) E) → (o ≡ None → r ≡ Ok None) →
         ((t : Text) → o ≡ Some t → TriesOne gives t r) → (x : E) → r ≡ Err x → 0 ≡ number_or otherwise o
     number_err None r none some x e = let bad : r ≡ Ok None = none refl in cc

@@ -2,7 +2,7 @@ use Rattle.std.proofs.Common.{◌≡◌, ◌*◌, ◌-◌, ◌≤◌, ◌++◌, 
 use Rattle.qrproved.specs.Drawing.{squares_of_bytes}
 use Rattle.qrproved.proofs.drawing.squares_of.Given as goal
 
--- the squares that have been read, and those that are still to be read
+-- the squares that have been read, followed by those that are still to be read, are all squares
 abbrev pub invariant-loop : goal.invariant-loop
 invariant-loop l = record {
   room : (l.count - l.counter) * (l.side * l.side) ≤ length l.rest;

@@ -4,7 +4,7 @@ use Rattle.std.{proofs.lemmas.List.{append_assoc, Elements.{All-cons, All-nil}},
 use Rattle.{qr_matrix.specs.Grid.Grid, qr_drawing.specs.Drawing.HaveOneSide}
 use Rattle.qrproved.specs.{Drawing.squares_of_bytes, Modules.square_of_bytes}
 
--- one more square is read
+-- after one more square is read, the squares that were read and those that are left are still all squares
 pub one-more : (side left n : ℕ) (read : List Grid) (rest : List ℕ) → left ≡ suc n
     → (read ++ (square_of_bytes side rest ∷ [])) ++ squares_of_bytes side n (drop (side * side) rest)
     ≡ read ++ squares_of_bytes side left rest
@@ -16,7 +16,7 @@ pub no-more : (side left : ℕ) (read : List Grid) (rest : List ℕ) → left �
 unfolding squares_of_bytes
 no-more side left read rest e = rw e (append-nil read)
 
--- the number of squares that are read
+-- the number of squares that are read is `count`
 pub many-squares : (side count : ℕ) (bytes : List ℕ) → length (squares_of_bytes side count bytes) ≡ count
 unfolding squares_of_bytes
 many-squares side zero bytes = refl

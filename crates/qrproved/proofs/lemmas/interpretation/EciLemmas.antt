@@ -6,7 +6,7 @@ use Rattle.std.proofs.lemmas.List.{take_more, get_or-map, length-map, length-tak
 use Rattle.qr_bits.specs.declared.interpretation.EciChange.{EciChange}
 use Rattle.qrproved.specs.{declared.interpretation.QrprovedEci.QrprovedEci, Interpretation.told_eci}
 
--- one more header is written, after those before it
+-- after the header with the index i is written, the buffer begins with the first i + 1 headers
 pub write_next : (changes : List EciChange) (out : List QrprovedEci) (i : ℕ) (d : EciChange) → i < length changes → i < length out
     → set (take i (map told_eci changes) ++ drop i out) i (told_eci (get_or changes i d)) ≡ take (i + 1) (map told_eci changes) ++ drop (i + 1) out
 write_next changes out i d h k =

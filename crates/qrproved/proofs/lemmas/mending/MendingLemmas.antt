@@ -23,15 +23,15 @@ no-other modules side a o = omega arith
 pub few-changes : (x : List ℕ) (t : ℕ) → t ≤ 15 → All (λ n. n ≤ t) x → All (λ n. n ≤ 15) x
 few-changes x t most few = omega (arith, All-weaker)
 
--- the reading, stated with the version, the level and the mask that are in the struct
+-- the reading also holds with the version, the level and the mask that are in the struct
 read-told : (u : Grid) (g : Grid) (v w : ℕ) (l k : Level) (m n : ℕ) (p : Content) (x : List ℕ) → w ≡ v → k ≡ l → n ≡ m → IsMendedReading u g v l m p x → IsMendedReading u g w k n p x
 read-told u g v w l k m n p x ev el em r = search arith
 
--- the wrong modules, stated in the same way
+-- the wrong modules are also those of the version, the level and the mask that are in the struct
 wrong-told : (u : Grid) (g : Grid) (v w : ℕ) (l k : Level) (m n : ℕ) (x : List ℕ) (a b : ℕ) → w ≡ v → k ≡ l → n ≡ m → b ≡ a → HasWrongModules u g v l m x a → HasWrongModules u g w k n x b
 wrong-told u g v w l k m n x a b ev el em e r = search arith
 
--- the struct contains what is read and the damage
+-- if the square is mended and read, and the struct has the numbers of this, the call's promise holds
 pub given-mended : (modules : List ℕ) (side : ℕ) (before put : List ℕ) (ecis_before ecis_after : List QrprovedEci) (m : Mended) (t : QrprovedMended) (len : ℕ)
     → AreModules modules side
     → IsMendedReading (square_of_unknown side modules) (square_of_bytes side modules) m.version m.level m.mask m.parsed m.changed.items
@@ -47,7 +47,7 @@ pub given-mended : (modules : List ℕ) (side : ℕ) (before put : List ℕ) (ec
 given-mended modules side before put ecis_before ecis_after m t len all r format whole long room same elen ewrong ev header small el em eformat most allowed told =
     search (arith, read-told, wrong-told)
 
--- a square that is mended to more bytes than the buffer has
+-- if mending and reading the square yields more bytes than the buffer has, the call's condition for ROOM holds
 pub more-bytes : (modules : List ℕ) (side : ℕ) (buffer : List ℕ) (m : Mended) (len : ℕ) → AreModules modules side
     → IsMendedReading (square_of_unknown side modules) (square_of_bytes side modules) m.version m.level m.mask m.parsed m.changed.items
     → len ≡ length m.parsed.bytes → length buffer < len → HasMoreMendedBytes modules side buffer

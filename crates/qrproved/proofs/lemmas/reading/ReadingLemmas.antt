@@ -5,7 +5,7 @@ use Rattle.qr_symbol.specs.declared.fault.ReadFault.{ReadFault}
 use Rattle.qr_symbol.specs.declared.fault.ReadFault.TheVariants as unread
 use Rattle.qrproved.specs.{Reading.IsSide, Steps.Status.read_status}
 
--- the version that has this side
+-- if a version has `n` rows, it has `side` rows, since both numbers are equal
 pub version-of : (o : Option ℕ) (n side : ℕ) → n ≡ side
     → MatchOption o ((v : ℕ) → 1 ≤ v → v ≤ 40 → n ≡ side_of v → ⊥) (λ v. (1 ≤ v) × (v ≤ 40) × (n ≡ side_of v))
     → MatchOption o (IsSide side → ⊥) (λ v. (1 ≤ v) × (v ≤ 40) × (side ≡ side_of v))
