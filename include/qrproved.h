@@ -1,7 +1,7 @@
 /* QR Code symbols (ISO/IEC 18004:2015, QR Code Model 2): calls that encode an input as a symbol or as a series of symbols,
  * draw symbols as text or as SVG, parse such drawings, read symbols, and mend damaged ones. The calls are proved to meet
- * their contracts, which are in crates/qrproved; docs/LIBRARY.md says what these mean for a caller. tests/library compares
- * this file with the exports of the library.
+ * their contracts, which are in crates/qrproved; docs/LIBRARY.md says what the contracts mean for a caller. tests/library
+ * compares this file with the exports of the library.
  *
  * A module is a byte in a buffer of the caller, in which the modules are row by row, from the top left. The buffer does not
  * contain the quiet zone, which is the four light modules that a drawing needs on each side; qrproved_draw adds a margin of
@@ -9,9 +9,9 @@
  * malloc and realloc, and frees all of it before it returns.
  *
  * At each call the caller has to meet these conditions:
- * - each pointer with a length beside it points to as many bytes as the length says, and `ecis` to as many structs; each
+ * - each pointer with a length beside it points to as many bytes as the length says, or for `ecis` to as many structs; each
  *   other pointer points to a struct or a number; a pointer with the length 0 is not used;
- * - no two of the buffers and the struct overlap;
+ * - no buffer overlaps another buffer or the struct;
  * - during the call nothing else writes to the buffers or the struct, and nothing else reads a buffer or a struct to which
  *   the call writes;
  * - malloc, realloc and free belong to one allocator, which returns memory that is aligned for every type that fits in it,
@@ -38,8 +38,8 @@ extern "C" {
 #define QRPROVED_COUNT_MAX 16      /* symbols in the longest series */
 #define QRPROVED_SERIES_MAX 501264 /* bytes that suffice for the modules of any series or drawing: 16 times 31,329 */
 #define QRPROVED_BYTES_MAX 7089    /* bytes that suffice for the content of any symbol: digits in version 40, level L */
-#define QRPROVED_ECIS_MAX 1970     /* structs that suffice for the ECI headers of any symbol: in version 40, level L, 23,648
-                                    * bits of data, of which each header takes at least 12 */
+#define QRPROVED_ECIS_MAX 1970     /* structs that suffice for the ECI headers of any symbol: version 40, level L has 23,648
+                                    * bits of data, and each header takes at least 12 of them */
 #define QRPROVED_MARGIN_MAX 100    /* the widest light margin on each side of a drawing, in modules */
 
 /* The levels of error correction, by which about 7, 15, 25 or 30 % of a symbol's codewords can be restored. */
@@ -53,13 +53,13 @@ extern "C" {
 #define QRPROVED_RULE_BYTES_ONLY 1 /* the whole input in byte mode */
 #define QRPROVED_RULE_WITH_KANJI 2 /* the modes of AUTO, and kanji mode for pairs of bytes that are Shift JIS characters */
 
-/* What an input is, as the symbol says it: the number of an ECI (Extended Channel Interpretation), from 0 to 999,999, or one
- * of the two numbers after these. Readers give the bytes of a symbol that says nothing as ISO/IEC 8859-1 or as UTF-8, so a
- * text with other characters than those of ASCII is best written as UTF-8 with QRPROVED_ECI_UTF8. */
+/* The interpretation: what the symbol says of its input. It is the number of an ECI (Extended Channel Interpretation), from 0
+ * to 999,999, or one of the two numbers that follow 999,999. If a symbol says nothing, readers take its bytes for ISO/IEC
+ * 8859-1 or for UTF-8. So a text with characters that are not in ASCII is best written as UTF-8 with QRPROVED_ECI_UTF8. */
 #define QRPROVED_ECI_UTF8 26                    /* the input is a text in UTF-8 */
-#define QRPROVED_INTERPRETATION_DEFAULT 1000000 /* the symbol says nothing of it, and takes no bits for it */
-#define QRPROVED_INTERPRETATION_GS1 1000001     /* GS1 data, values with their application identifiers: the symbol has FNC1 in
-                                                 * first position, and the byte 1D (hexadecimal) separates fields */
+#define QRPROVED_INTERPRETATION_DEFAULT 1000000 /* the symbol says nothing of its input, and takes no bits for this */
+#define QRPROVED_INTERPRETATION_GS1 1000001     /* the input is GS1 data, values with their application identifiers: the symbol
+                                                 * has FNC1 in first position, and the byte 1D (hexadecimal) separates fields */
 
 /* The position of FNC1 in a symbol, which says what the content is. After FNC1 in either position the byte 1D (hexadecimal)
  * separates fields. */
@@ -68,35 +68,35 @@ extern "C" {
 #define QRPROVED_FNC1_SECOND 2 /* second position: the content follows the rules of the application that the application
                                 * indicator names */
 
-/* The types of drawings. A drawing of each type is the same as that of the program qrencode. */
+/* The types of drawings. The library draws each type byte for byte as the program qrencode of this project does. */
 #define QRPROVED_ASCII 0  /* text: two # for a dark module, two spaces for a light module */
 #define QRPROVED_ASCIIi 1 /* text: two spaces for a dark module, two # for a light module */
 #define QRPROVED_UTF8 2   /* text: a character shows two modules, one above the other; its filled half is light */
 #define QRPROVED_SVG 3    /* a whole SVG document, in which a module is one unit wide */
 
-/* What each call but qrproved_version returns; beside each call are its exact causes, in the order in which it checks them.
- * On every status but 0 the caller's buffers and struct are unchanged. Later versions may add statuses, and do not change the
- * meaning of these. */
+/* The statuses, of which each call except qrproved_version returns one. The comment at each call has the exact causes of its
+ * statuses, in the order in which the call checks them. On every status but 0 the caller's buffers and struct are unchanged.
+ * Later versions may add statuses, and do not change the meaning of these. */
 #define QRPROVED_DONE 0     /* the result is written */
 #define QRPROVED_EMPTY 1    /* the input has no byte */
 #define QRPROVED_TOO_LONG 2 /* the input fits no version from the smallest allowed version on */
 #define QRPROVED_TOO_MANY 3 /* the input takes more than 16 symbols of the version */
 #define QRPROVED_MEMORY 4   /* malloc or realloc refused memory */
-#define QRPROVED_SETTINGS 5 /* a number is out of its range, kanji mode does not go with the interpretation, or in
-                             * qrproved_mend the byte of a module is more than 2 */
-#define QRPROVED_ROOM 6     /* a buffer is too short, but not that of the ECI headers */
-#define QRPROVED_SIDE 7     /* no version has this side */
+#define QRPROVED_SETTINGS 5 /* a number is out of its range; or the rule allows kanji mode, but the interpretation is an ECI
+                             * other than Shift JIS; or, in qrproved_mend, the byte of a module is more than 2 */
+#define QRPROVED_ROOM 6     /* a buffer other than that of the ECI headers is too short */
+#define QRPROVED_SIDE 7     /* no version has so many modules on a side */
 #define QRPROVED_FORMAT 8   /* the format information belongs to no level and mask, or in qrproved_mend is too damaged */
 #define QRPROVED_CHECK 9    /* a block does not match its error correction codewords, or in qrproved_mend is too damaged */
 #define QRPROVED_SEGMENTS 10 /* the data codewords cannot be parsed */
-#define QRPROVED_NO_DRAWING 11 /* the text is no drawing, or one of squares that do not begin as symbols do */
+#define QRPROVED_NO_DRAWING 11 /* the text is no drawing, or it shows a square that does not begin as symbols do */
 #define QRPROVED_FIELDS 12  /* the input is no GS1 data: a byte 1D (hexadecimal) comes directly before another or before % */
 
 /* The version, the size, the level and the mask of a symbol that was encoded. */
 struct qrproved_symbol {
 	uint8_t version; /* from 1 to 40 */
 	uint8_t side;    /* modules on a side: 17 + 4 * version */
-	uint8_t level;   /* QRPROVED_LEVEL_L to QRPROVED_LEVEL_H: that which was asked for, or with boost a higher one */
+	uint8_t level;   /* QRPROVED_LEVEL_L to QRPROVED_LEVEL_H: the level that was passed, or with boost perhaps a higher one */
 	uint8_t mask;    /* from 0 to 7 */
 };
 
@@ -114,13 +114,13 @@ struct qrproved_eci {
 	uint32_t number; /* from 0 to 999,999: 26 is UTF-8, 20 is Shift JIS, 3 is ISO/IEC 8859-1 */
 };
 
-/* What a symbol that was read contains, besides its bytes and its ECI headers. The header of has_header is the structured
- * append header. */
+/* What a symbol that was read contains, besides its bytes and its ECI headers. */
 struct qrproved_content {
 	size_t len;          /* number of bytes of the content */
-	size_t eci_count;    /* number of ECI headers of the symbol, also of those that were not written for lack of room */
+	size_t eci_count;    /* number of all ECI headers of the symbol, even if some were not written for lack of room */
 	uint8_t version;     /* from 1 to 40 */
-	uint8_t has_header;  /* 1 for a symbol of a series; 0 for a plain symbol, and then the next three fields are 0 */
+	uint8_t has_header;  /* 1 for a symbol of a series, which has a structured append header; 0 for a plain symbol, and then
+	                      * the next three fields are 0 */
 	uint8_t position;    /* position of the symbol in its series, from 0 to 15 */
 	uint8_t last;        /* number of symbols in the series less 1, from 0 to 15 */
 	uint8_t parity;      /* the exclusive or of all bytes of the input of the series */
@@ -129,11 +129,11 @@ struct qrproved_content {
 	                      * letter plus 100; otherwise 0 */
 };
 
-/* What a damaged symbol that was mended contains, besides its bytes and its ECI headers, and the counts of its damage. The
- * fields that qrproved_content has too mean the same. */
+/* What a damaged symbol that was mended contains, besides its bytes and its ECI headers, and the counts of its damage. A field
+ * that qrproved_content also has means the same as there. */
 struct qrproved_mended {
 	size_t len;                   /* number of bytes of the content */
-	size_t eci_count;             /* number of ECI headers of the symbol, also of those that were not written */
+	size_t eci_count;             /* number of all ECI headers of the symbol, even if some were not written */
 	uint32_t wrong_modules;       /* number of modules that are wrong or not known; if 0, the square is the symbol */
 	uint8_t version;              /* from 1 to 40 */
 	uint8_t has_header;           /* 1 for a symbol of a series; 0 for a plain symbol, and then the next three fields are 0 */
@@ -211,15 +211,16 @@ QRPROVED_HOLDS(offsetof(struct qrproved_drawn, count) == 2);
 QRPROVED_HOLDS(offsetof(struct qrproved_drawn, side) == 3);
 #undef QRPROVED_HOLDS
 
-/* The caller has to check the result of a call, and may not pass NULL as the pointer to a struct or to a number. Compilers
- * that know these attributes warn otherwise. */
+/* The caller has to use the result of a call, and may not pass NULL as the pointer to a struct or to a number. Compilers that
+ * know these attributes warn of a call that does not. */
 #if defined(__GNUC__)
 #define QRPROVED_CALL(pointer) __attribute__((warn_unused_result, nonnull(pointer)))
 #else
 #define QRPROVED_CALL(pointer)
 #endif
 
-/* Returns the version of the library that was linked, in the form of QRPROVED_VERSION_NUMBER, which is that of this header. */
+/* Returns the version of the library that was linked, in the form of QRPROVED_VERSION_NUMBER. (The macro is the version of
+ * this header.) */
 uint32_t qrproved_version(void);
 
 /* Encodes the input as a symbol and writes its modules: modules[row * side + column] is 1 if the module in this row and
@@ -230,21 +231,22 @@ uint32_t qrproved_version(void);
  * level    QRPROVED_LEVEL_L to QRPROVED_LEVEL_H
  * rule     QRPROVED_RULE_AUTO to QRPROVED_RULE_WITH_KANJI
  * interpretation  the number of an ECI, QRPROVED_INTERPRETATION_DEFAULT or QRPROVED_INTERPRETATION_GS1. The symbol says it
- *          before its data, in 12, 20 or 28 bits for an ECI below 128, below 16,384 or above, and in 4 bits for GS1 data. The
- *          input is written byte by byte as it is passed; the call does not look whether it is text in this ECI
- * boost    1: the symbol has the highest level, from the level that is passed on, at which the input fits its version, and
- *          the version is that without boost; 0: it has the level that is passed
+ *          before its data. This takes 12 bits for an ECI below 128, 20 bits for one below 16,384, 28 bits for a greater one,
+ *          and 4 bits for GS1 data. The bytes of the input are written as they are passed; the call does not check whether
+ *          they are text in this ECI
+ * boost    0: the symbol has the level that is passed; 1: the symbol has the version that it would have without boost, and the
+ *          highest level, at least the one that is passed, at which the input fits this version
  * modules  the buffer for the modules; QRPROVED_SYMBOL_MAX bytes suffice for any symbol
  *
- * Kanji mode is for pairs of bytes that readers take for Shift JIS. With an ECI but 20, which is Shift JIS, they could be
- * bytes of other characters, so RULE_WITH_KANJI is refused there. GS1 data has a byte 1D (hexadecimal) after each field of
- * variable length, if another field follows; no field is empty, and none begins with %.
+ * Readers take the pairs of bytes in kanji mode for Shift JIS. With another ECI than 20, which is Shift JIS, such pairs could
+ * be bytes of other characters, so QRPROVED_RULE_WITH_KANJI is then refused. GS1 data has a byte 1D (hexadecimal) after each
+ * field of variable length, if another field follows; no field is empty, and none begins with %.
  *
  * Returns the first of these statuses whose cause applies:
- *   SETTINGS  version, level, rule, interpretation or boost is out of its range, or rule is WITH_KANJI and interpretation is
- *             an ECI but 20
+ *   SETTINGS  version, level, rule, interpretation or boost is out of its range; or rule is WITH_KANJI, and interpretation is
+ *             an ECI other than 20
  *   EMPTY     input_len is 0
- *   FIELDS    interpretation is GS1, and a byte 1D (hexadecimal) comes directly before another or before %
+ *   FIELDS    interpretation is GS1, and a byte 1D (hexadecimal) comes directly before another 1D or before %
  *   TOO_LONG  the input fits no version from the smallest allowed version on; more than 7,089 bytes are always TOO_LONG
  *   ROOM      modules_len is less than the number of modules of the symbol
  *   DONE      the call succeeded
@@ -263,12 +265,14 @@ uint8_t qrproved_encode(const uint8_t *input, size_t input_len, uint32_t version
  * version  the version of all symbols, from 1 to 40
  * modules  the buffer for the modules; QRPROVED_SERIES_MAX bytes suffice for any series
  *
- * The other arguments are those of qrproved_encode; each symbol of the series says the interpretation, and an input is cut
- * between any two bytes, even within a character. Returns the first of these statuses whose cause applies:
- *   SETTINGS  version, level, rule or interpretation is out of its range, or rule is WITH_KANJI and interpretation is an ECI
- *             but 20
+ * The other arguments are those of qrproved_encode. Each symbol of the series says the interpretation. The input may be cut
+ * between any two bytes, even within a character.
+ *
+ * Returns the first of these statuses whose cause applies:
+ *   SETTINGS  version, level, rule or interpretation is out of its range; or rule is WITH_KANJI, and interpretation is an ECI
+ *             other than 20
  *   EMPTY     input_len is 0
- *   FIELDS    interpretation is GS1, and a byte 1D (hexadecimal) comes directly before another or before %
+ *   FIELDS    interpretation is GS1, and a byte 1D (hexadecimal) comes directly before another 1D or before %
  *   TOO_MANY  the input takes more than 16 symbols of the version; more than 113,425 bytes are always TOO_MANY
  *   ROOM      modules_len is less than the number of modules of the series
  *   DONE      the call succeeded
@@ -281,24 +285,24 @@ uint8_t qrproved_encode_series(const uint8_t *input, size_t input_len, uint32_t 
 
 /* Reads a symbol. The first buffer contains its modules, in the order in which qrproved_encode writes them. Any byte but 0
  * is a dark module, and bytes after the last module are ignored. The call writes the content of the symbol to the start of
- * the second buffer, and its ECI headers to the start of the third, in their order; it leaves the rest of both unchanged. It
- * corrects no errors: each codeword has to be as it was drawn.
+ * the second buffer, and its ECI headers, in their order, to the start of the third buffer. It leaves the rest of the two
+ * buffers unchanged. It corrects no errors: each codeword has to be as it was drawn.
  *
  * side   number of modules on a side: 21, 25, and so on to 177
  * bytes  the buffer for the content; QRPROVED_BYTES_MAX bytes suffice for any symbol
- * ecis   the buffer for the ECI headers; if the symbol has more than ecis_len, the first of them are written, and the call
- *        still succeeds. QRPROVED_ECIS_MAX structs suffice for any symbol, and hardly any symbol has more than one header
+ * ecis   the buffer for the ECI headers; if the symbol has more than ecis_len headers, only the first ecis_len are written,
+ *        and the call still succeeds. QRPROVED_ECIS_MAX structs suffice for any symbol, and hardly any has more than one header
  *
  * The content is what the characters of the symbol stand for. After FNC1, in alphanumeric mode, % stands for the byte 1D
  * (hexadecimal) and %% for %; in the other modes % is itself.
  *
- * The call reads the first copy of the format information, which is beside the top left finder pattern, and the codewords; it
+ * The call reads the codewords, and the first copy of the format information, which is beside the top left finder pattern. It
  * parses the data codewords up to the terminator. It ignores all other modules: finder, alignment and timing patterns,
  * separators, the dark module, the version information, the second copy of the format information and the remainder bits. So
- * DONE does not mean that a scanner finds the symbol; qrproved_mend looks at every module.
+ * DONE does not mean that a scanner finds the symbol. qrproved_mend looks at every module.
  *
  * Returns the first of these statuses whose cause applies:
- *   SIDE      no version has this side
+ *   SIDE      no version has so many modules on a side
  *   ROOM      modules_len is less than side times side
  *   FORMAT    the first copy of the format information belongs to no level and mask
  *   CHECK     the error correction codewords of a block do not match its data codewords
@@ -321,33 +325,34 @@ uint8_t qrproved_read(const uint8_t *modules, size_t modules_len, uint32_t side,
  * bytes  the buffer for the content; QRPROVED_BYTES_MAX bytes suffice for any symbol
  * ecis   the buffer for the ECI headers, as in qrproved_read
  *
- * The format information is the level and the mask, and a symbol contains two copies of it, of 15 modules each. Beside a
- * level and a mask, a copy costs 1 for each module that is not known and 2 for each other module that is wrong. A level and a
- * mask are tried if a copy costs at most 6, so at most two pairs are. Of those with which every block can be mended, the one
- * beside which both copies together cost less is used; at the same cost, the one of the first copy, which is beside the top
- * left finder pattern. So a symbol whose blocks can be mended is mended to exactly itself if both copies together cost at
- * most 13, as with any six wrong modules; and also if one copy costs at most 6, and no other pair that is tried mends it.
+ * The format information is the level and the mask, and a symbol contains two copies of it, of 15 modules each. The cost of a
+ * copy with a level and a mask is 1 for each module that is not known, and 2 for each other module that does not agree with
+ * this level and mask. A level and a mask are tried if one copy has a cost of at most 6 with them, so at most two levels and
+ * masks are tried. Of those with which every block can be mended, the call takes the level and mask for which the cost of both
+ * copies together is less. If these costs are equal, it takes those of the first copy, which is beside the top left finder
+ * pattern. So a symbol whose blocks can be mended is mended to exactly itself in two cases. In the first, both copies together
+ * have a cost of at most 13 with its level and mask, as with any six wrong modules. In the second, one copy has a cost of at
+ * most 6 with them, and no other level and mask that are tried can mend the blocks.
  *
  * In each block the call mends at most changed_allowed wrong codewords, which is the number that the standard allows. A
  * codeword with a module that is not known counts as half a wrong one: with e such codewords and w other wrong ones, a block
- * can be mended if e + 2w is at most twice changed_allowed. All modules but those of codewords and format information may be
- * wrong, since they contain nothing of the content, but count in wrong_modules.
+ * can be mended if e + 2w is at most twice changed_allowed. All modules outside the codewords and the format information may
+ * be wrong, since they contain nothing of the content; they count in wrong_modules.
  *
  * If wrong_modules is 0, the square is, module by module, the symbol that the standard defines for its data codewords in its
  * version, level and mask. If all modules are known, changed_most divided by changed_allowed is the share of the error
- * correction that is spent, in the block with the most wrong codewords. docs/LIBRARY.md says how labels are checked by these
- * counts, and what they do not say of a print.
+ * correction that is spent, in the block with the most wrong codewords. docs/LIBRARY.md says how to check labels by these
+ * counts, and what the counts do not say of a printed label.
  *
  * Damage beyond these bounds may change a symbol so much that it is within the bounds of another symbol. The call then
  * reads the other symbol, as any reader may.
  *
  * Returns the first of these statuses whose cause applies:
- *   SIDE      no version has this side
+ *   SIDE      no version has so many modules on a side
  *   ROOM      modules_len is less than side times side
  *   SETTINGS  a byte among the first side times side bytes is more than 2
- *   FORMAT    each copy costs more than 6 beside every level and mask
- *   CHECK     with each level and mask beside which a copy costs at most 6, some block has more codewords that are wrong or
- *             not known than can be mended
+ *   FORMAT    each copy has a cost of more than 6 with every level and mask
+ *   CHECK     with each level and mask that are tried, some block has more damage than can be mended
  *   SEGMENTS  the mended data codewords cannot be parsed
  *   ROOM      bytes_len is less than the number of bytes that the symbol contains
  *   DONE      the call succeeded
@@ -367,16 +372,16 @@ uint8_t qrproved_mend(const uint8_t *modules, size_t modules_len, uint32_t side,
  * drawing  QRPROVED_ASCII to QRPROVED_SVG
  * margin   number of light modules on each side of each square, from 0 to QRPROVED_MARGIN_MAX; a scanner needs 4
  * text     the buffer for the drawing; it may be NULL if text_len is 0, to ask only for the length of the drawing
- * written  set to the length of the drawing on DONE, and on ROOM because of text_len; set to 0 on ROOM because of
- *          modules_len; unchanged otherwise
+ * written  on DONE, and on ROOM because of text_len, the call sets it to the length of the drawing; on ROOM because of
+ *          modules_len it sets it to 0; on every other status it is unchanged
  *
  * Returns the first of these statuses whose cause applies:
  *   SETTINGS  side, count, drawing or margin is out of its range
  *   ROOM      modules_len is less than count times side times side
  *   ROOM      text_len is less than the length of the drawing
  *   DONE      the call succeeded
- * If memory is refused, the call returns MEMORY in place of any status after the first ROOM: the drawing is made in memory,
- * and is copied when it is complete.
+ * If memory is refused, the call returns MEMORY in place of any status after the first ROOM. The drawing is made in memory of
+ * the call, and copied to the buffer when it is complete.
  */
 QRPROVED_CALL(9)
 uint8_t qrproved_draw(const uint8_t *modules, size_t modules_len, uint32_t side, uint32_t count, uint32_t drawing,
@@ -387,11 +392,11 @@ uint8_t qrproved_draw(const uint8_t *modules, size_t modules_len, uint32_t side,
  * the last module are unchanged.
  *
  * A text is a drawing if it is, byte for byte, what qrproved_draw and qrencode write for 1 to 16 squares of one side from 8 to
- * 177, with a margin of 0 to 255 modules, although these two refuse a margin above QRPROVED_MARGIN_MAX. Each square has to
- * begin as every symbol does: the module in row 0 and column 0 is dark, and that in column 7 of row 0 is light. A text is the
- * drawing of one type, margin and list of squares only. The call does not say whether a square is a symbol; qrproved_read and
- * qrproved_mend do. Line ends of two bytes, spaces that are lost at line ends or a byte order mark make a drawing a text that
- * is none.
+ * 177. The margin may be from 0 to 255 modules, although qrproved_draw and qrencode refuse one above QRPROVED_MARGIN_MAX. Each
+ * square has to begin as every symbol does: the module in row 0 and column 0 is dark, and the module in row 0 and column 7 is
+ * light. A text is the drawing of one type, margin and list of squares only. The call does not say whether a square is a
+ * symbol; qrproved_read and qrproved_mend do. If a text has line ends of two bytes or a byte order mark, or has lost spaces at
+ * line ends, it is no drawing.
  *
  * text     the drawing; no byte 0 follows it
  * modules  the buffer for the modules; QRPROVED_SERIES_MAX bytes suffice for any drawing
