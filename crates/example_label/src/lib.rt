@@ -12,10 +12,10 @@ ghost use Rattle.example_label.specs.Label.{IsLabel, character_of, line_of_row};
 use qr_symbol::{EncodeFault, INPUT_MAX, Interpretation, Level, Matrix, Rule, Version, encode};
 use std::alloc::{AllocError, Global};
 
-/// Returns the label of `words`, at most 113,425 bytes. The label has a line of text for each row of modules, with `#`
-/// for a dark module and a space for a light one, and then a line with `words`. The symbol has the level `level` and
-/// the least version that `words` fits, from `smallest` on. The label has no quiet zone, so the paper around it has to
-/// be light.
+/// Returns the label of `words`, which may have at most 113,425 bytes. The label has a line of text for each row of
+/// modules, with `#` for a dark module and a space for a light one, and then a line with `words`. The symbol has the
+/// level `level` and the least version that `words` fits, from `smallest` on. The label has no quiet zone, so the paper
+/// around it has to be light.
 ///
 /// # Errors
 ///

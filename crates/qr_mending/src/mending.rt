@@ -28,8 +28,9 @@ use qr_symbol::{ReadFault, draw_symbol, read_codewords};
 use std::alloc::{AllocError, Global};
 
 // If both copies together cost at most this with one pair of level and mask, they cost more with every other pair. For
-// the format information of two pairs differs in at least seven bits of each copy, and each of these bits adds 2 to the
-// sum of the two costs. So over both copies this sum is at least 28.
+// the format information of two pairs differs in at least seven bits of each copy. Take the cost with one pair and the
+// cost with the other. Each of these bits adds 2 to their sum: 2 to one of them if its module was read, and otherwise
+// 1 to each. So over both copies this sum is at least 28.
 const COST_CERTAIN: u8 = 13;
 
 // A symbol whose blocks were mended: its data codewords and error correction codewords, block after block, and how many

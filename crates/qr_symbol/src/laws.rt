@@ -147,7 +147,7 @@ pub fn contents_are_one()
 {}
 
 /// A square that can be read is refused only for lack of memory. For any other square, at most one fault is possible
-/// besides it.
+/// besides lack of memory.
 pub fn refusals_are_one()
     ensures read { (g : Grid) (p : Content) (e : ReadFault) → IsReading g p → IsUnread g e
         → e ≡ ReadFault.Memory }
@@ -170,7 +170,7 @@ pub fn joinings_are_one()
 {}
 
 /// Squares that can be read and joined are refused only for lack of memory. For any other list, at most one fault is
-/// possible besides it.
+/// possible besides lack of memory.
 pub fn joining_refusals_are_one()
     ensures joined { (gs : List Grid) (x : List ℕ) (e : ReadFault) → IsJoined gs x
         → IsUnjoined gs e → e ≡ ReadFault.Memory }

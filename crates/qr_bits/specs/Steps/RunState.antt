@@ -118,7 +118,8 @@ allowed_in i r test p [] (m ∷ ms) = false
 allowed_in i r test p (x ∷ xs) [] = false
 allowed_in i r test p (x ∷ xs) (m ∷ ms) = may_take_in i r p x (begins_with_pair r test (x ∷ xs)) m && allowed_in i r test (state_in i p x m) xs ms
 
--- As `cost_of`, for the characters that are written for the bytes
+-- How many bits are added by the characters that are written for the bytes, if the bytes have the modes of the list and
+-- `p` is the state before the first of them
 unfoldable pub cost_of_all : Interpretation → ℕ → RunState → List ℕ → List Mode → ℕ
 cost_of_all i v p [] ms = cost_of v p ms
 cost_of_all i v p (x ∷ xs) [] = 0

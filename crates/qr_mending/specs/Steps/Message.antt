@@ -18,7 +18,7 @@ use Rattle.qr_mending.specs.Message.{received, AreInBlocks, IsMendedBlock}
 abbrev pub read_by : List ℕ → List ℕ → List (Option ℕ)
 read_by codewords marks = read_of codewords (map (λ mark. not (mark == 0)) marks)
 
--- The `n` marks of a symbol
+-- The marks of the `n` codewords of a symbol, as a list: `n` zeros if every module was read and no list was made
 abbrev pub list_of : ℕ → Marks → List ℕ
 list_of n interleaved.AllZero = zeros n
 list_of n (interleaved.Each marks) = marks.items

@@ -10,7 +10,8 @@ use Rattle.qr_symbol.specs.declared.spans.{Columns.Columns, RegionRows.RegionRow
 abbrev pub row_of : ℕ → Strip → ℕ → ℕ
 row_of s x rank = if x.upward then s - 1 - rank else rank
 
--- The topmost of the `n` rows of the strip from row `k` on.
+-- The row of the symbol that is topmost among `n` rows of the strip. The first of them to be filled has the index `k` in
+-- the strip.
 abbrev pub top_row : ℕ → Strip → ℕ → ℕ → ℕ
 top_row s x k n = if x.upward then s - n - k else k
 
