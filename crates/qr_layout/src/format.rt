@@ -3,9 +3,9 @@
 //! bit of the number that `format_word` or `version_word` returns.
 //!
 //! The first copy of the format information goes around the top left finder pattern. Bits 0 to 7 are in column 8, from
-//! row 0 down to row 8, and bits 8 to 14 in row 8, from column 7 to the left. Both pass over row 6 and column 6, where
-//! the timing patterns are. Of the second copy, bits 0 to 7 are in row 8, from the last column to the left, and bits 8
-//! to 14 in the last seven rows of column 8, downward.
+//! row 0 down to row 8, and bits 8 to 14 in row 8, from column 7 to the left. Bits 0 to 7 leave out row 6, and bits 8
+//! to 14 column 6, where the timing patterns are. Of the second copy, bits 0 to 7 are in row 8, from the last column to
+//! the left, and bits 8 to 14 in the last seven rows of column 8, downward.
 
 ghost use Rattle.std.specs.Prelude.{◌≡◌, ◌≢◌, ◌≤◌, ◌<◌, SomeIff};
 ghost use Rattle.qr_layout.specs.Version.{side_of};

@@ -23,12 +23,12 @@ use crate::strips::{column_without_timing, strip_at};
 use crate::version::Version;
 use std::marker::Model;
 
-// Where the walk is: at the right or the left module of a row of a strip. `strips` is the number of the strip, counted
-// from 1 at the left. The walk goes from right to left, so this is also how many strips are still to be visited, this
-// one included. If it is 0, the walk is at its end.
+// Where the walk is: at the right or the left module of a row of a strip. `strips_left` is how many strips are still to
+// be visited, this one included. The walk goes from right to left, so this is also the number of the strip, counted
+// from 1 at the left. If it is 0, the walk is at its end.
 #[derive(Clone, Copy)]
 struct Cursor {
-    strips: u8,
+    strips_left: u8,
     row: u8,
     at_left: bool,
 }
@@ -36,11 +36,11 @@ struct Cursor {
 impl Cursor {
     // There are at most 88 strips, in version 40.
     fn place(self) -> Place
-        requires strips_left { 0 < self.strips }
-        requires strips_in { self.strips ≤ 88 }
+        requires strips_left { 0 < self.strips_left }
+        requires strips_in { self.strips_left ≤ 88 }
         ensures { result ≡ place_of self }
     {
-        let right = strip_at(self.strips).right;
+        let right = strip_at(self.strips_left).right;
         let col = if self.at_left { right - 1 } else { right };
         Place { row: self.row, col }
     }
@@ -48,11 +48,11 @@ impl Cursor {
     // The cursor at the module that comes next. After the last row of a strip comes the same row of the next strip.
     #[tactic(auto, unfolding(crate::specs::Steps::Order::next_of))]
     fn next(self, version: Version) -> Cursor
-        requires strips_left { 0 < self.strips }
+        requires strips_left { 0 < self.strips_left }
         requires cursor { IsCursor version self }
         ensures { result ≡ next_of (side_of version) self }
     {
-        let upward = strip_at(self.strips).upward;
+        let upward = strip_at(self.strips_left).upward;
         let last = if upward { 0 } else { version.side() - 1 };
         if !self.at_left {
             Cursor {
@@ -61,7 +61,7 @@ impl Cursor {
             }
         } else if self.row == last {
             Cursor {
-                strips: self.strips - 1,
+                strips_left: self.strips_left - 1,
                 at_left: false,
                 ..self
             }
@@ -81,7 +81,7 @@ impl Cursor {
     {
         let untimed = column_without_timing(place.col);
         Cursor {
-            strips: untimed / 2 + 1,
+            strips_left: untimed / 2 + 1,
             row: place.row,
             at_left: untimed % 2 == 0,
         }
@@ -121,7 +121,7 @@ impl Iterator for Places {
 
     #[inline(always)]
     fn next(&mut self) -> Option<Place> {
-        while self.cursor.strips > 0 {
+        while self.cursor.strips_left > 0 {
             let here = self.cursor.place();
             self.cursor = self.cursor.next(self.version);
             if is_in_region(self.version, here.row, here.col) {
@@ -141,7 +141,7 @@ pub fn walk(version: Version) -> Places
     Places {
         version,
         cursor: Cursor {
-            strips: 8 + 2 * version.number(),
+            strips_left: 8 + 2 * version.number(),
             row: version.side() - 1,
             at_left: false,
         },

@@ -27,7 +27,7 @@ const MORE: u64 = 0xFEFE_FEFE_FEFE_FEFE;
 // carried into the highest byte.
 const GATHER: u64 = 0x0102_0408_1020_4080;
 
-// The bits of the eight bytes from byte `at` on, that of the first byte lowest; `None` if one of them is not 0 or 1.
+// The number whose bit k is byte `at + k`, for each k below 8; `None` if one of these bytes is not 0 or 1.
 #[inline(always)]
 fn eight_bits(bytes: &[u8], at: usize) -> Option<u64>
     requires { at + 8 ≤ length bytes.now }
@@ -51,7 +51,7 @@ fn eight_bits(bytes: &[u8], at: usize) -> Option<u64>
     Some(eight.wrapping_mul(GATHER) >> 56)
 }
 
-// The bits of the 64 bytes from byte `start` on, that of the first byte lowest; `None` if one of them is not 0 or 1.
+// The word whose bit k is byte `start + k`, for each k below 64; `None` if one of these bytes is not 0 or 1.
 fn word_of(bytes: &[u8], start: usize) -> Option<u64>
     requires { start + 64 ≤ length bytes.now }
     ensures { IfSome result (λ word. (k : ℕ) → k < 64

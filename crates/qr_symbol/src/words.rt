@@ -171,35 +171,35 @@ pub(crate) fn joined(right: u64, left: u64, upward: bool, count: u8) -> u64
     }
 }
 
-// The codeword at index `place`, or 0 after the last codeword. So the remainder bits are 0 before a mask is applied.
-fn codeword_at(codewords: &[u8], place: usize) -> u8
-    ensures { result ≡ slice_index codewords.now place }
+// The codeword at index `index`, or 0 after the last codeword. So the remainder bits are 0 before a mask is applied.
+fn codeword_at(codewords: &[u8], index: usize) -> u8
+    ensures { result ≡ slice_index codewords.now index }
 {
-    codewords.get(place).copied().unwrap_or(0)
+    codewords.get(index).copied().unwrap_or(0)
 }
 
-// The bits of the eight codewords from index `place` on, with the first bit as the highest.
-fn eight_codewords(codewords: &[u8], place: usize) -> u64
-    requires { place + 8 ≤ length codewords.now }
-    ensures { (k : ℕ) → k < 64 → has_bit result (63 - k) ≡ codeword_bit codewords.now (8 * place + k) }
+// The bits of the eight codewords from index `first` on, with the first bit as the highest.
+fn eight_codewords(codewords: &[u8], first: usize) -> u64
+    requires { first + 8 ≤ length codewords.now }
+    ensures { (k : ℕ) → k < 64 → has_bit result (63 - k) ≡ codeword_bit codewords.now (8 * first + k) }
 {
     let mut bits = 0u64;
     for next in 0..8 {
-        bits = 256 * bits + u64::from(codewords[place + next]);
+        bits = 256 * bits + u64::from(codewords[first + next]);
     }
     bits
 }
 
-// As `eight_codewords`, but with a zero for each codeword after the last. The bound on `place` follows from the bound
+// As `eight_codewords`, but with a zero for each codeword after the last. The bound on `first` follows from the bound
 // on `number` in `bits_at`, since a codeword has eight bits.
 #[inline(never)]
-fn last_codewords(codewords: &[u8], place: usize) -> u64
-    requires { place ≤ 5000 }
-    ensures { (k : ℕ) → k < 64 → has_bit result (63 - k) ≡ codeword_bit codewords.now (8 * place + k) }
+fn last_codewords(codewords: &[u8], first: usize) -> u64
+    requires { first ≤ 5000 }
+    ensures { (k : ℕ) → k < 64 → has_bit result (63 - k) ≡ codeword_bit codewords.now (8 * first + k) }
 {
     let mut bits = 0u64;
     for next in 0..8 {
-        bits = 256 * bits + u64::from(codeword_at(codewords, place + next));
+        bits = 256 * bits + u64::from(codeword_at(codewords, first + next));
     }
     bits
 }
@@ -212,14 +212,14 @@ pub(crate) fn bits_at(codewords: &[u8], number: usize) -> u64
     requires { number ≤ 40000 }
     ensures { AreNext codewords.now number result }
 {
-    let place = number / 8;
+    let first = number / 8;
     let skipped = number % 8;
-    let bits = if place + 8 <= codewords.len() {
-        eight_codewords(codewords, place)
+    let bits = if first + 8 <= codewords.len() {
+        eight_codewords(codewords, first)
     } else {
-        last_codewords(codewords, place)
+        last_codewords(codewords, first)
     };
-    let ninth = u64::from(codeword_at(codewords, place + 8));
+    let ninth = u64::from(codeword_at(codewords, first + 8));
     bits << skipped | ninth >> (8 - skipped)
 }
 

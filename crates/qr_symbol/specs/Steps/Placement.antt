@@ -86,8 +86,8 @@ pub record IsStripDrawn (v : ℕ) (cw : List ℕ) (x : Strip) (first : ℕ) (bef
 unfoldable pub masked_colour : ℕ → ℕ → ℕ → Grid → Grid → ℕ → ℕ → Bool
 masked_colour v format mask region plain r c = format_or format (role_of v r c) (inverted (colour region r c && inverts mask r c) (colour plain r c))
 
--- The square with the colours that `masked_colour` defines, and with the format information of level `l` and mask
--- `mask`.
+-- The square `plain`, masked where `region` is dark, into which the format information of level `l` and mask `mask` was
+-- then drawn.
 abbrev pub masked_grid : ℕ → Level → ℕ → Grid → Grid → Grid
 masked_grid v l mask region plain = square (side_of v) (masked_colour v (format_word_of l mask) mask region plain)
 

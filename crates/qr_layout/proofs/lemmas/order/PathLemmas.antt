@@ -18,12 +18,12 @@ mul-pred : (p w : ℕ) → 0 < p → (p - 1) * w + w ≡ p * w
 mul-pred p w h = mul-add_one (p - 1) p w (omega arith)
 
 -- the cursor after cursor a has one cursor fewer left than a
-pub next-left : (s : ℕ) (a : Cursor) → 0 < a.strips → a.row < s → left_of s (next_of s a) + 1 ≡ left_of s a
+pub next-left : (s : ℕ) (a : Cursor) → 0 < a.strips_left → a.row < s → left_of s (next_of s a) + 1 ≡ left_of s a
 unfolding left_of next_of
 next-left s a h k = search (arith, mul-le_one, mul-pred, nat_tests)
 
 -- the cursor after cursor a of the walk is a cursor of the walk or the end of the walk
-pub next-IsCursor : (v : ℕ) (a : Cursor) → IsCursor v a → 0 < a.strips → IsCursor v (next_of (side_of v) a)
+pub next-IsCursor : (v : ℕ) (a : Cursor) → IsCursor v a → 0 < a.strips_left → IsCursor v (next_of (side_of v) a)
 unfolding next_of
 next-IsCursor v a k h = search (arith, nat_tests)
 
@@ -31,8 +31,8 @@ next-IsCursor v a k h = search (arith, nat_tests)
 pub half_of-bound : (b : Bool) → half_of b < 2
 half_of-bound b = grind (arith, nat_tests)
 
--- the module at cursor a has column number 2 * a.strips - 1 - half_of a.at_left when column 6 is left out
-column-back : (a : Cursor) → 0 < a.strips → column_without_timing (place_of a).col ≡ 2 * a.strips - 1 - half_of a.at_left
+-- the module at cursor a has column number 2 * a.strips_left - 1 - half_of a.at_left when column 6 is left out
+column-back : (a : Cursor) → 0 < a.strips_left → column_without_timing (place_of a).col ≡ 2 * a.strips_left - 1 - half_of a.at_left
 column-back a k = grind (arith, nat_tests)
 
 -- the number of half h of strip p without column 6 is in the strip with number 8 + 2 * v - p from the right
@@ -47,12 +47,12 @@ parity-arith v p m = grind (arith, nat_tests)
 half-arith : (p : ℕ) (b : Bool) → 0 < p → cond (eqb ((2 * p - 1 - half_of b) % 2) 1) 0 1 ≡ half_of b
 half-arith p b k = grind (arith, nat_tests)
 
--- the module at cursor a is in the strip with number 8 + 2 * v - a.strips from the right
-key-strip : (v : ℕ) (a : Cursor) → IsCursor v a → 0 < a.strips → strip_of v (place_of a).col ≡ 8 + 2 * v - a.strips
+-- the module at cursor a is in the strip with number 8 + 2 * v - a.strips_left from the right
+key-strip : (v : ℕ) (a : Cursor) → IsCursor v a → 0 < a.strips_left → strip_of v (place_of a).col ≡ 8 + 2 * v - a.strips_left
 key-strip v a i k = search (arith, half_of-bound, strip-arith, column-back)
 
 -- the key of the module at cursor a has the strip of a, its rows before it and its half
-key_of-place : (v : ℕ) (a : Cursor) → IsCursor v a → 0 < a.strips → key_of v (place_of a) ≡ record { strip = 8 + 2 * v - a.strips; rows_before = rows_before_of (side_of v) a; column = half_of a.at_left }
+key_of-place : (v : ℕ) (a : Cursor) → IsCursor v a → 0 < a.strips_left → key_of v (place_of a) ≡ record { strip = 8 + 2 * v - a.strips_left; rows_before = rows_before_of (side_of v) a; column = half_of a.at_left }
 unfolding key_of
 key_of-place v a i k = search (arith, key-strip, column-back, parity-arith, half-arith)
 
@@ -87,7 +87,7 @@ unfolding is_before
 before-test a b h = grind (arith, nat_tests)
 
 -- if cursor b has fewer cursors left than cursor a, then the module at b has a later key than the module at a
-pub is_before-left : (v : ℕ) (a b : Cursor) → IsCursor v a → IsCursor v b → 0 < a.strips → 0 < b.strips → left_of (side_of v) b < left_of (side_of v) a → is_before (key_of v (place_of a)) (key_of v (place_of b)) ≡ true
+pub is_before-left : (v : ℕ) (a b : Cursor) → IsCursor v a → IsCursor v b → 0 < a.strips_left → 0 < b.strips_left → left_of (side_of v) b < left_of (side_of v) a → is_before (key_of v (place_of a)) (key_of v (place_of b)) ≡ true
 unfolding left_of
 is_before-left v a b i j k l m =
     search (arith, rows_before-bound, half_of-bound, key_of-place, before-test, before-arith, digits-arith)

@@ -39,7 +39,7 @@ Contains-tail x m xs h = (suc h.0, (let l = h.1 in omega arith), h.2)
 -- ---- cursors
 
 -- if cursor a has n + 1 cursors left, then it is in a strip
-pub strips-positive : (s : ℕ) (a : Cursor) (n : ℕ) → left_of s a ≡ suc n → 0 < a.strips
+pub strips-positive : (s : ℕ) (a : Cursor) (n : ℕ) → left_of s a ≡ suc n → 0 < a.strips_left
 unfolding left_of
 strips-positive s a n e = search arith
 
@@ -60,12 +60,12 @@ rows_before-same : (s x y : ℕ) (u : Bool) → x < s → y < s → cond u (s - 
 rows_before-same s x y u k l e = grind (arith, nat_tests)
 
 -- a cursor a in a strip has at least one cursor left, because a itself is counted
-left-positive : (v : ℕ) (a : Cursor) → IsCursor v a → 0 < a.strips → 0 < left_of (side_of v) a
+left-positive : (v : ℕ) (a : Cursor) → IsCursor v a → 0 < a.strips_left → 0 < left_of (side_of v) a
 unfolding left_of
 left-positive v a i k = search (arith, mul-le_one, rows_before-bound, half_of-bound)
 
 -- two cursors a and b with equally many cursors left are the same cursor
-same-cursor : (v : ℕ) (a b : Cursor) → IsCursor v a → IsCursor v b → 0 < a.strips → 0 < b.strips → left_of (side_of v) a ≡ left_of (side_of v) b → a ≡ b
+same-cursor : (v : ℕ) (a b : Cursor) → IsCursor v a → IsCursor v b → 0 < a.strips_left → 0 < b.strips_left → left_of (side_of v) a ≡ left_of (side_of v) b → a ≡ b
 unfolding left_of
 same-cursor v a b i j k l e =
     search (arith, rows_before-bound, half_of-bound, same-arith, digits-same, rows_before-same, half_of-same)
@@ -84,7 +84,7 @@ places-suc v n a = refl
 
 -- module m is in the encoding region, and it is the module at a cursor b with at most n cursors left
 abbrev Stop : ℕ → ℕ → Place → Type 0
-Stop v n m = (b : Cursor) × IsCursor v b × (0 < b.strips) × (left_of (side_of v) b ≤ n) × (place_of b ≡ m) × InRegion v m
+Stop v n m = (b : Cursor) × IsCursor v b × (0 < b.strips_left) × (left_of (side_of v) b ≤ n) × (place_of b ≡ m) × InRegion v m
 
 -- what holds for a module that is put in front, and for each module of xs, holds for each of both
 stops-cond : (v n top : ℕ) (a : Cursor) (t : Bool) (xs : List Place) → (t ≡ true → Stop v top (place_of a)) → AllByRecursion (Stop v top) xs → AllByRecursion (Stop v top) (cond t (place_of a ∷ xs) xs)
@@ -121,7 +121,7 @@ contains-cond x m true xs h = Contains-tail x m xs h
 contains-cond x m false xs h = h
 
 -- the walk from a on yields the module at each later cursor, if this module is in the encoding region
-finds : (v n : ℕ) (a b : Cursor) → IsCursor v a → left_of (side_of v) a ≡ n → IsCursor v b → 0 < b.strips → left_of (side_of v) b ≤ n → InRegion v (place_of b) → Contains (places_among v n a) (place_of b)
+finds : (v n : ℕ) (a b : Cursor) → IsCursor v a → left_of (side_of v) a ≡ n → IsCursor v b → 0 < b.strips_left → left_of (side_of v) b ≤ n → InRegion v (place_of b) → Contains (places_among v n a) (place_of b)
 finds v zero a b i e j l h t = let p = left-positive v b j l in absurd (omega arith)
 finds v (suc n) a b i e j l h t =
     let s = side_of v in
@@ -139,7 +139,7 @@ pub start-IsCursor : (v : ℕ) → IsCursor v (first_cursor v)
 start-IsCursor v = record { strips_in = omega arith; row_in = omega arith }
 
 -- the cursor of a module m is in a strip
-pub at-strips : (m : Place) → 0 < (cursor_at m).strips
+pub at-strips : (m : Place) → 0 < (cursor_at m).strips_left
 unfolding cursor_at
 at-strips m = omega arith
 
@@ -190,7 +190,7 @@ reach-cond v x true xs ys w = (x ∷ w.0, ap (λ zs. x ∷ zs) w.1)
 reach-cond v x false xs ys w = w
 
 -- the modules that the walk yields from a on end with those from a later cursor b on
-reaches : (v n : ℕ) (a b : Cursor) → IsCursor v a → left_of (side_of v) a ≡ n → IsCursor v b → 0 < b.strips → left_of (side_of v) b ≤ n → (front : List Place) × (places_among v n a ≡ front ++ places_among v (left_of (side_of v) b) b)
+reaches : (v n : ℕ) (a b : Cursor) → IsCursor v a → left_of (side_of v) a ≡ n → IsCursor v b → 0 < b.strips_left → left_of (side_of v) b ≤ n → (front : List Place) × (places_among v n a ≡ front ++ places_among v (left_of (side_of v) b) b)
 reaches v zero a b i e j l h = let p = left-positive v b j l in absurd (omega arith)
 reaches v (suc n) a b i e j l h =
     let s = side_of v in
@@ -202,7 +202,7 @@ reaches v (suc n) a b i e j l h =
     ]
 
 -- the modules from a on are that at a, if it is in the encoding region, and those from the next cursor on
-pub to_come-next : (v : ℕ) (a : Cursor) → IsCursor v a → 0 < a.strips → to_come v a ≡ cond (is_in_region v a.row (place_of a).col) (place_of a ∷ to_come v (next_of (side_of v) a)) (to_come v (next_of (side_of v) a))
+pub to_come-next : (v : ℕ) (a : Cursor) → IsCursor v a → 0 < a.strips_left → to_come v a ≡ cond (is_in_region v a.row (place_of a).col) (place_of a ∷ to_come v (next_of (side_of v) a)) (to_come v (next_of (side_of v) a))
 unfolding to_come
 to_come-next v a i k =
     let s = side_of v in
@@ -211,7 +211,7 @@ to_come-next v a i k =
     search (arith, places-suc)
 
 -- past the last strip the walk yields no module
-pub to_come-end : (v : ℕ) (a : Cursor) → a.strips ≡ 0 → to_come v a ≡ []
+pub to_come-end : (v : ℕ) (a : Cursor) → a.strips_left ≡ 0 → to_come v a ≡ []
 unfolding to_come left_of
 to_come-end v a e = search (arith, places-nil)
 
@@ -229,7 +229,7 @@ after v m h =
     record { front = w.0; whole = subst (IsOrder v) (w.1 ∙ ap (λ zs. w.0 ++ zs) f) (to_come-start v) }
 
 -- the modules that the walk of the code yields from the last row of the rightmost strip on are the order of version v
-pub walk-order : (v n s : ℕ) → n ≡ v → s ≡ side_of v → IsOrder v (to_come v (record { strips = 8 + 2 * n; row = s - 1; at_left = false }))
+pub walk-order : (v n s : ℕ) → n ≡ v → s ≡ side_of v → IsOrder v (to_come v (record { strips_left = 8 + 2 * n; row = s - 1; at_left = false }))
 walk-order v n s e f =
     let g : s - 1 ≡ 16 + 4 * v = omega arith in
     let h : 8 + 2 * n ≡ 8 + 2 * v = omega arith in
@@ -238,19 +238,19 @@ walk-order v n s e f =
 -- ---- one step of the code
 
 -- if the code steps from cursor a to cursor b, then b is a cursor of the walk or the end of the walk
-pub step-cursor : (v : ℕ) (a b : Cursor) → IsCursor v a → 0 < a.strips → b ≡ next_of (side_of v) a → IsCursor v b
+pub step-cursor : (v : ℕ) (a b : Cursor) → IsCursor v a → 0 < a.strips_left → b ≡ next_of (side_of v) a → IsCursor v b
 step-cursor v a b i k f = rw f (next-IsCursor v a i k)
 
 -- if the code steps from cursor a to cursor b, then b has fewer cursors left than a
-pub step-left : (v : ℕ) (a b : Cursor) → IsCursor v a → 0 < a.strips → b ≡ next_of (side_of v) a → left_of (side_of v) b < left_of (side_of v) a
+pub step-left : (v : ℕ) (a b : Cursor) → IsCursor v a → 0 < a.strips_left → b ≡ next_of (side_of v) a → left_of (side_of v) b < left_of (side_of v) a
 step-left v a b i k f = search (arith, next-left)
 
 -- if the code steps from a, where m is in the region, to b, then the modules from a on are m and those from b on
-pub step-yields : (v : ℕ) (a b : Cursor) (m : Place) (t : Bool) → IsCursor v a → 0 < a.strips → b ≡ next_of (side_of v) a → m ≡ place_of a → t ≡ is_in_region v m.row m.col → t ≡ true → to_come v a ≡ m ∷ to_come v b
+pub step-yields : (v : ℕ) (a b : Cursor) (m : Place) (t : Bool) → IsCursor v a → 0 < a.strips_left → b ≡ next_of (side_of v) a → m ≡ place_of a → t ≡ is_in_region v m.row m.col → t ≡ true → to_come v a ≡ m ∷ to_come v b
 step-yields v a b m t i k f g h j = search (arith, to_come-next)
 
 -- if the code steps from a, where the module is not in the region, to b, then the modules from a on are those from b on
-pub step-passes : (v : ℕ) (a b : Cursor) (m : Place) (t : Bool) → IsCursor v a → 0 < a.strips → b ≡ next_of (side_of v) a → m ≡ place_of a → t ≡ is_in_region v m.row m.col → t ≡ false → to_come v a ≡ to_come v b
+pub step-passes : (v : ℕ) (a b : Cursor) (m : Place) (t : Bool) → IsCursor v a → 0 < a.strips_left → b ≡ next_of (side_of v) a → m ≡ place_of a → t ≡ is_in_region v m.row m.col → t ≡ false → to_come v a ≡ to_come v b
 step-passes v a b m t i k f g h j = search (arith, to_come-next)
 
 -- if the code resumes the walk after module m at cursor b, the modules from b on are those after m in the order
@@ -258,7 +258,7 @@ pub after-order : (v : ℕ) (m : Place) (a b : Cursor) (t : Bool) → t ≡ is_i
 after-order v m a b t h j f g = rw (g, f) (after v m (sym h ∙ j))
 
 -- the cursor a that the code computes for module m is in a strip
-pub after-strips : (m : Place) (a : Cursor) → a ≡ cursor_at m → 0 < a.strips
+pub after-strips : (m : Place) (a : Cursor) → a ≡ cursor_at m → 0 < a.strips_left
 after-strips m a f = rw f (at-strips m)
 
 -- the cursor a that the code computes for a module m of the encoding region is a cursor of the walk

@@ -51,7 +51,7 @@ kept v (suc n) a e =
 
 -- the cursor at the right place of the row of strip p that comes after k other rows of this strip
 abbrev at_row : ℕ → ℕ → ℕ → Cursor
-at_row s p k = record { strips = p; row = cond (strip_at p).upward (s - 1 - k) k; at_left = false }
+at_row s p k = record { strips_left = p; row = cond (strip_at p).upward (s - 1 - k) k; at_left = false }
 
 -- two steps lead from row k of strip p to row k + 1 of this strip, if there is such a row
 next-row : (s p k : ℕ) → k + 1 < s → next_of s (next_of s (at_row s p k)) ≡ at_row s p (k + 1)

@@ -5,5 +5,5 @@ use Rattle.qr_symbol.proofs.words.last_codewords.Given as goal
 abbrev pub invariant-loop-next : goal.invariant-loop-next
 invariant-loop-next l = record {
   small : l.bits < 2 ^ (8 * l.next);
-  held : (j : ℕ) → j < 8 * l.next → has_bit l.bits (8 * l.next - 1 - j) ≡ codeword_bit l.codewords (8 * l.fn.place + j);
+  held : (j : ℕ) → j < 8 * l.next → has_bit l.bits (8 * l.next - 1 - j) ≡ codeword_bit l.codewords (8 * l.fn.first + j);
 }
