@@ -154,13 +154,13 @@ fn rectangles_of_versions_6_and_7(rt: HostRuntime) -> Result<(), Fail> {
     let sixth = fixed_rectangles(Version::new(6).ok_or("version 6")?);
     assert!(rt; sixth.len() == 5, "no version information");
     let seventh = fixed_rectangles(Version::new(7).ok_or("version 7")?);
-    assert!(rt; seventh.len() == 7, "two blocks of version information");
+    assert!(rt; seventh.len() == 7, "two copies of version information");
     let last = seventh[6];
     assert!(rt; (last.top, last.bottom) == (34, 37) && (last.left, last.right) == (0, 6));
     Ok(())
 }
 
-fn role_at(number: u8, row: u8, col: u8) -> Option<Role> {
+fn role_in(number: u8, row: u8, col: u8) -> Option<Role> {
     let version = Version::new(number)?;
     let side = version.side();
     if row < side && col < side {
@@ -191,7 +191,7 @@ fn function_patterns(rt: HostRuntime) {
         (7, 6, 22, true, "centre on a timing pattern"),
     ] {
         assert_eq!(rt;
-            role_at(number, row, col),
+            role_in(number, row, col),
             Some(Role::Fixed(dark)),
             "{name}"
         );
@@ -213,7 +213,7 @@ fn format_bits(rt: HostRuntime) {
         (14, 8, 8, "below the dark module"),
         (20, 8, 14, "last row"),
     ] {
-        assert_eq!(rt; role_at(1, row, col), Some(Role::FormatBit(bit)), "{name}");
+        assert_eq!(rt; role_in(1, row, col), Some(Role::FormatBit(bit)), "{name}");
     }
 }
 
@@ -230,6 +230,6 @@ fn version_bits_and_codewords(rt: HostRuntime) {
         (1, 20, 20, Role::Region, "bottom right module"),
         (1, 9, 5, Role::Region, "left of the timing pattern"),
     ] {
-        assert_eq!(rt; role_at(number, row, col), Some(want), "{name}");
+        assert_eq!(rt; role_in(number, row, col), Some(want), "{name}");
     }
 }

@@ -89,7 +89,7 @@ fn count_misread(codewords: &[u8], erased: &[bool], mended: &[u8]) -> usize
 ///
 /// An erased codeword takes one error correction codeword, and a misread one takes two. If more than `spare` are
 /// needed, returns `None` and changes nothing. `divisor` determines the number of error correction codewords of the
-/// block. In a symbol, `spare` is twice `correctable`.
+/// block. In a symbol, `spare` is the number that `Version::spare` returns.
 #[tactic(auto, using(crate::proofs::Named::mend_with_erasures_facts))]
 pub fn mend_with_erasures(
     divisor: &Divisor,

@@ -149,7 +149,7 @@ pub fn readings_are_mended_readings()
 {}
 
 /// Mending yields a number of misread codewords for each block, and there is at least one block. None of the numbers is
-/// above `correctable`, which is from 2 to 15 for every version and level.
+/// above `Version::correctable`, which is from 2 to 15 for every version and level.
 pub fn changes_are_bounded()
     ensures some { (unknown : Grid) (g : Grid) (v : ℕ) (l : Level) (m : ℕ) (p : Content) (x : List ℕ)
         → IsMendedReading unknown g v l m p x → 1 ≤ length x }
@@ -230,8 +230,8 @@ pub fn damaged_symbols_are_mended(
 }
 
 /// Unless memory is refused, a symbol is mended to exactly its input if few of its modules are wrong: at most six of
-/// the 30 modules of format information, and at most `correctable` modules of each block. Modules of function patterns,
-/// version information and remainder bits may have any colour.
+/// the 30 modules of format information, and in each block at most as many modules as `Version::correctable` returns.
+/// Modules of function patterns, version information and remainder bits may have any colour.
 pub fn few_wrong_modules_are_mended(alloc: Global, damaged: &Matrix) -> Result<Mended, ReadFault>
     ensures { (smallest : ℕ) (l : Level) (rule : Rule) (i : Interpretation) (x : List ℕ) (v mask : ℕ) (g : Grid)
         → 1 ≤ smallest → MayWrite i x → (s : IsSymbol smallest l rule i x v mask g) → damaged.now.side ≡ g.side → DifferInFewModules v l damaged.now g

@@ -226,11 +226,11 @@ pub struct Mended {
 /// is dark in the square `unknown`, which has the side of `matrix`. A codeword with such a module is called erased, and
 /// any other whose value is wrong is called misread.
 ///
-/// A block is mended if the number of its erased codewords, plus twice that of its misread ones, is at most twice
-/// `correctable`. The level and the mask are found by the two copies of the format information, of 15 modules each. A
-/// copy admits a level and a mask if the number of its modules that were not read, plus twice that of misread ones, is
-/// at most 6; it admits at most one pair. Of the admitted pairs that mend every block, the one with the least such sum
-/// over both copies is taken. Of two with the same sum it is the one that the first copy admits.
+/// A block is mended if the number of its erased codewords, plus twice that of its misread ones, is at most
+/// `Version::spare`. The level and the mask are found by the two copies of the format information, of 15 modules each.
+/// A copy admits a level and a mask if the number of its modules that were not read, plus twice that of misread ones,
+/// is at most 6; it admits at most one pair. Of the admitted pairs that mend every block, the one with the least such
+/// sum over both copies is taken. Of two with the same sum it is the one that the first copy admits.
 ///
 /// So a damaged symbol becomes exactly the undamaged one if its blocks can be mended and that sum over both copies is
 /// at most 13. If six modules of format information are wrong, whichever they are, the sum is at most 12. Function
