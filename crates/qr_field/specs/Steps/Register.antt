@@ -4,7 +4,7 @@ use Prim.Native.Nat.{zero, suc}
 use Rattle.qr_field.specs.declared.register.Register.{Register}
 use Rattle.qr_field.specs.Polynomial.{scaled, generator_of, IsCorrection}
 
--- Coefficients in one number, with eight bits for each. The first is in the lowest bits
+-- The coefficients as one number, with eight bits for each, of which the first has the lowest
 abbrev pub packed : List ℕ → ℕ
 packed [] = 0
 packed (b ∷ bs) = packed bs * 2 ^ 8 + b
