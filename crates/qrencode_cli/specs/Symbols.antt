@@ -8,8 +8,8 @@ use Rattle.qr_symbol.specs.VersionChoice.{HasNoVersion}
 use Rattle.qr_symbol.specs.Series.{HasNoSeries, IsSeries, squares_of}
 use Rattle.qrencode_cli.specs.Settings.{SettingsView, rule_for}
 
--- The smallest version that one symbol may have, and the version of a series: that of -v, or 1 if -v is missing or 0
--- [own]
+-- The smallest version that one symbol may have, which is also the version of a series. It is the version of -v, or 1
+-- if -v is 0 or not given [own]
 abbrev pub smallest_of : SettingsView → ℕ
 smallest_of s = unwrap_or s.smallest 1
 
@@ -26,6 +26,7 @@ AreSymbols s input squares =
 abbrev pub IsTooLong : SettingsView → List ℕ → Type 0
 IsTooLong s input = (s.structured ≡ false) × HasNoVersion (smallest_of s) s.level (rule_for s) Default input
 
--- A series is asked for, and `input` has none of this version and level [own]
+-- A series is asked for, but `input` would be cut into more than 16 parts for the version and level in the settings
+-- [own]
 abbrev pub IsTooMany : SettingsView → List ℕ → Type 0
 IsTooMany s input = (s.structured ≡ true) × HasNoSeries (smallest_of s) s.level (rule_for s) Default input
