@@ -176,7 +176,7 @@ eci_changes fnc1 n (Eci d ∷ is) xs = record { number = d.number; begin = n } �
 eci_changes fnc1 n (Fnc1First ∷ is) xs = eci_changes true n is xs
 eci_changes fnc1 n (Fnc1Second a ∷ is) xs = eci_changes true n is xs
 
--- FNC1, if it is among the items and only ECI headers come before it (ISO/IEC 18004:2015, 7.4.8)
+-- FNC1, if it is among the items and only ECI headers come before it, and otherwise `None` (ISO/IEC 18004:2015, 7.4.8)
 unfoldable pub fnc1_of : List Item → Option Fnc1
 fnc1_of [] = None
 fnc1_of (Data s ∷ is) = None

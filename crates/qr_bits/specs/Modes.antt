@@ -31,7 +31,8 @@ abbrev pub character_count : Mode → ℕ → ℕ
 character_count Kanji n = n / 2
 character_count _ n = n
 
--- The number of bytes of a segment whose character count indicator is `n` (ISO/IEC 18004:2015, 7.4.1)
+-- The number of bytes of a segment in this mode whose character count indicator is `n`. A character of kanji mode is
+-- two bytes (ISO/IEC 18004:2015, 7.4.1)
 abbrev pub byte_count : Mode → ℕ → ℕ
 byte_count Kanji n = 2 * n
 byte_count _ n = n
@@ -44,7 +45,7 @@ is_digit b = nat_le 48 b && nat_le b 57
 unfoldable pub characters : List ℕ
 characters = codes "0123456789ABCDEFGHIJKLMNOPQRSTUVWXYZ $%*+-./:"
 
--- The byte is one of the 45 characters (ISO/IEC 18004:2015, 7.3.4)
+-- The byte is one of the 45 characters of alphanumeric mode (ISO/IEC 18004:2015, 7.3.4)
 unfoldable pub is_alphanumeric : ℕ → Bool
 is_alphanumeric b = list_any (λ c. c == b) characters
 

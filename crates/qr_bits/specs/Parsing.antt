@@ -163,7 +163,7 @@ items_at (suc n) v may bits =
 unfoldable pub items_of : ℕ → Bool → List Bool → Result (List Item × List ℕ) ParseFault
 items_of v may bits = items_at (length bits) v may bits
 
--- The mode indicator of structured append comes next (ISO/IEC 18004:2015, 8.1)
+-- The bits begin with the mode indicator of structured append (ISO/IEC 18004:2015, 8.1)
 unfoldable pub begins_header : List Bool → Bool
 begins_header bits = nat_le 4 (length bits) && value (take 4 bits) == header_indicator
 
