@@ -1,5 +1,5 @@
--- Where the alignment patterns of a symbol with `s` modules on a side have their centres. The columns of centres have
--- the same numbers as the rows.
+-- Where the alignment patterns of a symbol with `s` modules on a side have their centres. The columns that contain
+-- centres have the same numbers as the rows that contain them.
 use Rattle.std.specs.Prelude.{ℕ, ◌-◌, Bool, ◌&&◌, ◌||◌, ◌==◌, if◌then◌else◌, List, [], ◌∷◌}
 use Rattle.std.specs.List.{flat_map, slice_index_or}
 use Rattle.qr_layout.specs.declared.region.Place.{Place}

@@ -30,7 +30,7 @@ word_remainder n divisor (suc k) x = word_remainder n divisor k (bit_xor x (bit_
 abbrev pub with_remainder : ℕ → ℕ → ℕ → ℕ → ℕ
 with_remainder n generator k x = x * 2 ^ n + word_remainder n generator k (x * 2 ^ n)
 
--- The two bits of the level in the format information (ISO/IEC 18004:2015, 7.9.1)
+-- The two bits of the level in the format information, as a number (ISO/IEC 18004:2015, 7.9.1)
 abbrev pub level_bits : Level → ℕ
 level_bits L = 1
 level_bits M = 0

@@ -26,8 +26,8 @@ rows_before_of s a = if (strip_at a.strips_left).upward then s - 1 - a.row else 
 unfoldable pub left_of : ℕ → Cursor → ℕ
 left_of s a = a.strips_left * (2 * s) - (2 * rows_before_of s a + half_of a.at_left)
 
--- The cursor after `a`: in a row the left module comes after the right one. Then the strip's next row follows, or after
--- its last one the same row of the next strip
+-- The cursor after `a`. In a row of the strip the left module comes after the right one. Then comes the right module of
+-- the row that is filled next. After the last row, the walk goes on in the same row of the next strip
 unfoldable pub next_of : ℕ → Cursor → Cursor
 next_of s a =
     if a.at_left then
