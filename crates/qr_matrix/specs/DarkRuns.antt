@@ -1,4 +1,4 @@
--- What `Matrix::dark_runs` yields.
+-- The dark runs of a row, as `Matrix::dark_runs` yields them.
 use Rattle.std.specs.Prelude.{◌≡◌, ◌<◌, ◌≤◌, ◌&&◌, ℕ, nat_le, nat_lt, List}
 use Rattle.std.specs.List.{All, AllPairs, list_any}
 use Rattle.qr_matrix.specs.Grid.{Grid, colour}
