@@ -46,7 +46,7 @@ pub record Position : Type 0 where
 abbrev pub ComesBefore : Position → Position → Type 0
 ComesBefore t u = (t.place < u.place) ⊎ ((t.place ≡ u.place) × (t.block < u.block))
 
--- There is a codeword at position `t`: the block exists, and has a codeword with this index [own]
+-- There is a codeword at position `t`: the block `t.block` exists, and has a codeword with the index `t.place` [own]
 abbrev pub IsPosition : BlockSizes → Position → Type 0
 IsPosition c t = (t.block < block_count c) × (t.place < block_len c t.block)
 

@@ -22,13 +22,13 @@ use Rattle.qr_symbol.specs.Steps.{Patterns.{format_or, paint_of, symmetric_forma
 use Rattle.qr_matrix.specs.Penalty.{penalty_of}
 
 -- The colour of the module in row `r` and column `c` when the codewords have been drawn without a mask. In the region
--- it is the bit of the module, and elsewhere it is `other r c`.
+-- it is the codeword bit that the module contains, and elsewhere it is `other r c`.
 unfoldable pub placed_colour : ℕ → List ℕ → (ℕ → ℕ → Bool) → ℕ → ℕ → Bool
 placed_colour v cw other r c =
     if is_in_region v r c then codeword_bit cw (index_of v (record { row = r; col = c })) else other r c
 
 -- The colour of the module in row `r` and column `c` when the codewords have been drawn under the mask. In the region
--- it is the bit of the module, inverted where the mask inverts, and elsewhere it is `other r c`.
+-- it is the codeword bit that the module contains, inverted where the mask inverts, and elsewhere it is `other r c`.
 unfoldable pub walked_colour : ℕ → List ℕ → ℕ → (ℕ → ℕ → Bool) → ℕ → ℕ → Bool
 walked_colour v cw mask other r c =
     if is_in_region v r c then inverted (inverts mask r c) (codeword_bit cw (index_of v (record { row = r; col = c }))) else other r c

@@ -26,7 +26,8 @@ rank_in n upward j = if upward then n - 1 - j else j
 abbrev pub AreNext : List ℕ → ℕ → ℕ → Type 0
 AreNext cw number bits = (k : ℕ) → k < 64 → has_bit bits (63 - k) ≡ codeword_bit cw (number + k)
 
--- What a collector has collected: its bits, or `None` if an allocation was refused.
+-- The bits in a collector, to which the bits that are read from a symbol are appended. It is `None` if an allocation
+-- was refused.
 abbrev pub Bits : Type 0
 Bits = Option (List Bool)
 
