@@ -30,7 +30,8 @@ pub record HasMultiples (g : List ℕ) (shift bound : ℕ) (rows : List Register
   pub many : length rows ≡ 16
   pub each : (f : ℕ) → f < bound → value_of (slice_index_or rows f zero_register) ≡ packed (scaled (f * 2 ^ shift) g)
 
--- The number v holds the n error correction codewords of d, packed
+-- The number v contains the n error correction codewords of d, with eight bits for each. The first is in the lowest
+-- bits
 pub record IsHeld (d : List ℕ) (n v : ℕ) : Type 0 where
   pub items : List ℕ
   pub correction : IsCorrection d n items
