@@ -92,12 +92,14 @@ pub record IsWrittenWithin (c : WriteCounts) : Type 0 where
   pub faults : c.failed + c.zeros ≤ 1
   pub interrupted : c.interrupted ≤ INTERRUPTIONS_MAX + 1
 
--- What contracts see of a `Source`; `remaining` is `None` if they do not know its bytes [own]
+-- What contracts see of a `Source`. `remaining` are the bytes that it has still to return, or `None` if contracts do
+-- not know them [own]
 pub record Reader : Type 0 where
   pub remaining : Option (List ℕ)
   pub counts : ReadCounts
 
--- What contracts see of a `Sink`; `taken` is `None` if they do not know the accepted bytes [own]
+-- What contracts see of a `Sink`. `taken` are the bytes that it has accepted, or `None` if contracts do not know them
+-- [own]
 pub record Writer : Type 0 where
   pub taken : Option (List ℕ)
   pub counts : WriteCounts
