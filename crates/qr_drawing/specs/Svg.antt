@@ -6,7 +6,7 @@ use Rattle.std.specs.List.{prefix_len, range_with_len}
 use Rattle.qr_matrix.specs.Grid.{Grid, light}
 use Rattle.qr_drawing.specs.Raster.{is_dark_at, raster_width, texts_below}
 
--- A piece of the document that ends with a number, in decimal digits [own]
+-- The characters `text`, followed by the decimal digits of `number` [own]
 unfoldable pub numbered : List ℕ → ℕ → List ℕ
 numbered text number = text ++ decimal number
 

@@ -1,4 +1,5 @@
--- The parts of an SVG document before and after the boxes, and of a box.
+-- The text of an SVG document before the boxes of its path and after them, and the end of the text of a box. A box is a
+-- rectangle that shows a run of dark modules.
 use Rattle.std.specs.Prelude.{ℕ, List, ◌++◌, codes}
 use Rattle.qr_drawing.specs.Svg.{background, closing, declaration, numbered, opening}
 

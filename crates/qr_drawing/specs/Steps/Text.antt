@@ -26,7 +26,8 @@ cell_text Plain upper lower = ascii_module upper
 cell_text Inverse upper lower = ascii_module (not upper)
 cell_text HalfBlocks upper lower = half_blocks upper lower
 
--- The cell whose module `upper` is in row `row` and column `x` of the raster
+-- The cell that shows the module in row `row` and column `x` of the raster, and in the style `HalfBlocks` also the
+-- module below it
 abbrev pub cell_at : TextStyle → ℕ → Grid → ℕ → ℕ → List ℕ
 cell_at style margin g row x = cell_text style (is_dark_at margin g row x) (is_dark_at margin g (row + 1) x)
 
@@ -34,8 +35,8 @@ cell_at style margin g row x = cell_text style (is_dark_at margin g row x) (is_d
 abbrev pub bits_text : ℕ → TextStyle → ℕ → ℕ → List ℕ
 bits_text n style upper lower = texts_below n (λ k. cell_text style (has_bit upper k) (has_bit lower k))
 
--- Two characters for four modules: the bits 0 and 1 of `pair` are the upper modules, and the bits 2 and 3 the lower
--- ones
+-- Two cells of the style `HalfBlocks` for four modules. The bits 0 and 1 of `pair` are the upper modules, and the bits
+-- 2 and 3 the lower ones
 abbrev pub pair_text : ℕ → List ℕ
 pair_text pair = texts_below 2 (λ k. half_blocks (has_bit pair k) (has_bit pair (2 + k)))
 
