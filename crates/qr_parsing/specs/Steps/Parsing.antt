@@ -1,4 +1,4 @@
--- What a text can show, before the drawing is made again.
+-- What is found in a text before it is compared with the drawing that it would have to be.
 use Rattle.std.specs.Prelude.{◌≡◌, ℕ, ◌<◌, ◌≤◌, List, length}
 use Rattle.std.specs.List.{All}
 use Rattle.qr_matrix.specs.Grid.{Grid, IsSquare}

@@ -74,8 +74,8 @@ count_in AsciiInverse text = length text / (width_in AsciiInverse text * (2 * wi
 count_in Utf8 text = length (cells_in text) / ((width_in Utf8 text + 1) / 2 * (width_in Utf8 text + 1))
 count_in Svg text = slice_index_or (numbers_in text) 10 0 / width_in Svg text
 
--- The sheet of the text has this type, this width and count of rasters, and these bytes. If the text is no drawing,
--- they may be any
+-- The sheet of the text has this type, this width and count of rasters, and these bytes. If the text is no drawing, the
+-- bytes may be any
 pub record IsSheetOf (kind : Drawing) (width count : ℕ) (bytes text : List ℕ) : Type 0 where
   pub kind_is : kind ≡ kind_in text
   pub width_is : width ≡ width_in kind text
