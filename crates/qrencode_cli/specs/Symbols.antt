@@ -1,4 +1,4 @@
--- The symbols that the settings `s` ask for, as their squares of modules.
+-- Which symbols the settings `s` ask for. A symbol is given by its square of modules.
 use Rattle.std.specs.Prelude.{◌≡◌, ◌⊎◌, ℕ, true, false, List, [], ◌∷◌, unwrap_or}
 use Rattle.qr_symbol.specs.declared.symbol.Symbol.{Symbol}
 use Rattle.qr_bits.specs.declared.interpretation.Interpretation.TheVariants.{Default}

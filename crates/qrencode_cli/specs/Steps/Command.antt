@@ -1,5 +1,6 @@
--- What each step of a run can return. `words` are the arguments, and `s` the settings. A device is `old` before the
--- step and `new` after it; in `Attempts` it is `in0` or `out0` before, and `in1` or `out1` after.
+-- What each step of a run can return. `words` are the arguments, and `s` the settings. A drawing job has what is needed
+-- for a drawing: its type, its margin and the symbols. A device is `old` before the step and `new` after it; in
+-- `Attempts` it is `in0` or `out0` before, and `in1` or `out1` after.
 use Rattle.std.specs.Prelude.{◌≡◌, ◌<◌, ◌≤◌, ◌↔◌, ◌⊎◌, ℕ, List, [], false, length, max, IfErr, IsErrOf, IsTrue, OnOk, Result, Ok, Err, MatchResult, true}
 use Rattle.clap.specs.Walk.{Text}
 use Rattle.qrencode_cli.specs.Command.{AllRead, DrawnInPart, DrawnWhole, HasDrawing, InputConsumed, IsDrawing, IsFault}
