@@ -1,6 +1,6 @@
--- How the errors `e` of a damaged block are found. They are the differences of its codewords from the right ones, and
--- the coefficients of the error polynomial, that of the highest power first. In a polynomial `p` the coefficient of the
--- lowest power comes first.
+-- How the errors `e` of a damaged block are found. They are the differences of its codewords from the right ones. They
+-- are also the coefficients of the error polynomial, that of the highest power first. A polynomial `p` is listed in the
+-- other order: the coefficient of the lowest power comes first.
 use Rattle.std.specs.Prelude.{◌≡◌, ℕ, ◌<◌, ◌≤◌, ◌==◌, if◌then◌else◌, List, [], ◌∷◌, length}
 use Rattle.std.specs.List.{All}
 use Rattle.qr_field.specs.Galois.{product}
