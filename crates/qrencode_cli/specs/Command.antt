@@ -94,8 +94,8 @@ DrawnInPart old new drawing =
     × (old.counts ≡ no_writes → new.counts.taken ≤ counted (length drawing)))
     ⊎ DrawnWhole false old new drawing
 
--- What standard output received: after success the whole drawing, after a write fault a prefix of it or all of it, and
--- after any other fault nothing [own]
+-- What happened to standard output. After success it received the whole drawing, and after a write fault a prefix of it
+-- or all of it. After any other fault it is unchanged [own]
 abbrev pub OutputHolds : List Text → List ℕ → Writer → Writer → {T : Type 0} → Result T Fault → Type 0
 OutputHolds words given old new (Ok t) = (drawing : List ℕ) × HasDrawing words given drawing × DrawnWhole true old new drawing
 OutputHolds words given old new (Err fault.Write) = (drawing : List ℕ) × HasDrawing words given drawing × DrawnInPart old new drawing

@@ -26,7 +26,7 @@ AreSymbols s input squares =
 abbrev pub IsTooLong : SettingsView → List ℕ → Type 0
 IsTooLong s input = (s.structured ≡ false) × HasNoVersion (smallest_of s) s.level (rule_for s) Default input
 
--- A series is asked for, but `input` would be cut into more than 16 parts for the version and level in the settings
--- [own]
+-- A series is asked for, but `input` does not fit one symbol of the version and level in the settings, and would be cut
+-- into more than 16 parts [own]
 abbrev pub IsTooMany : SettingsView → List ℕ → Type 0
 IsTooMany s input = (s.structured ≡ true) × HasNoSeries (smallest_of s) s.level (rule_for s) Default input
