@@ -15,7 +15,7 @@ use Rattle.qr_bits.specs.declared.fault.ParseFault.TheVariants.{BadMode, Cut, Ba
 abbrev pub all_modes : List Mode
 all_modes = Numeric ∷ Alphanumeric ∷ Byte ∷ Kanji ∷ []
 
--- A list of one segment, of `n` bytes in the mode `m` [own]
+-- A list of one segment, which has `n` bytes in the mode `m` [own]
 abbrev pub one : Mode → ℕ → List Segment
 one m n = record { mode = m; len = n } ∷ []
 
@@ -31,15 +31,16 @@ eleven_characters = 0x20 ∷ 0x5B ∷ 0x0B ∷ 0x78 ∷ 0xD1 ∷ 0x72 ∷ 0xDC �
 abbrev pub two_kanji : List ℕ
 two_kanji = 0x93 ∷ 0x5F ∷ 0xE4 ∷ 0xAA ∷ []
 
--- The data codewords of `two_kanji` in version 1-H, the last three of which are pad codewords [own]
+-- The data codewords in version 1-H of the two kanji characters that the standard encodes, with three pad codewords at
+-- the end [own]
 abbrev pub two_kanji_data : List ℕ
 two_kanji_data = 0x80 ∷ 0x26 ∷ 0xCF ∷ 0xEA ∷ 0xA8 ∷ 0x00 ∷ 0xEC ∷ 0x11 ∷ 0xEC ∷ []
 
--- The header of the second of three symbols [own]
+-- The header of the second of three symbols. Positions are counted from 0 [own]
 abbrev pub middle : Header
 middle = record { position = 1; last = 2; parity = 0x48 }
 
--- The data codewords in version 1-H of the header `middle` and of `FGH` in byte mode [own]
+-- The data codewords in version 1-H of `FGH` in byte mode, after the header of the second of three symbols [own]
 abbrev pub middle_data : List ℕ
 middle_data = 0x31 ∷ 0x24 ∷ 0x84 ∷ 0x03 ∷ 0x46 ∷ 0x47 ∷ 0x48 ∷ 0x00 ∷ 0xEC ∷ []
 

@@ -8,15 +8,16 @@ use Rattle.qr_bits.specs.Modes.{is_kanji_pair}
 abbrev pub capital : ℕ → ℕ
 capital b = if nat_le 97 b && nat_le b 122 then b - 32 else b
 
--- The bytes are read from first to last. Two bytes that are a kanji pair stay as they are, and any other byte becomes
--- its capital [own]
+-- The bytes with capitals in place of small letters, except in kanji pairs, which stay as they are. The bytes are read
+-- from first to last to find the pairs [own]
 unfoldable pub folded_around_pairs : List ℕ → List ℕ
 folded_around_pairs [] = []
 folded_around_pairs (x ∷ []) = capital x ∷ []
 folded_around_pairs (x ∷ y ∷ xs) =
     if is_kanji_pair x y then x ∷ y ∷ folded_around_pairs xs else capital x ∷ folded_around_pairs (y ∷ xs)
 
--- Under `Auto` all letters are folded, under `BytesOnly` none, and under `WithKanji` those outside kanji pairs [own]
+-- The bytes with capitals in place of small letters: under `Auto` in place of all, under `BytesOnly` of none, and under
+-- `WithKanji` of those outside kanji pairs [own]
 abbrev pub folded : Rule → List ℕ → List ℕ
 folded Auto xs = map capital xs
 folded BytesOnly xs = xs

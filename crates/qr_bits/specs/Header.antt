@@ -8,7 +8,7 @@ use Rattle.qr_bits.specs.Bits.{field}
 abbrev pub header_indicator : ℕ
 header_indicator = 3
 
--- The number of bits of a header, which is 0 if there is none (ISO/IEC 18004:2015, 8.1)
+-- The number of bits of a header. Without a header it is 0 (ISO/IEC 18004:2015, 8.1)
 abbrev pub header_bits : Option Header → ℕ
 header_bits header = option_map_or (λ _. 20) header 0
 

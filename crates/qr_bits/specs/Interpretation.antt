@@ -26,17 +26,18 @@ fnc1_first_indicator = 5
 abbrev pub fnc1_second_indicator : ℕ
 fnc1_second_indicator = 9
 
--- The number is below 100, as two digits are, or is the ASCII code of a letter plus 100 (ISO/IEC 18004:2015, 7.4.8.3)
+-- The number `a` is an application indicator: it is below 100, and then stands for two digits, or it is the ASCII code
+-- of a letter plus 100 (ISO/IEC 18004:2015, 7.4.8.3)
 abbrev pub is_application_indicator : ℕ → Bool
 is_application_indicator a = nat_lt a 100 || nat_le 165 a && nat_le a 190 || nat_le 197 a && nat_le a 222
 
--- FNC1 may come after an ECI header if it was allowed in the place of this header, and after no other item (ISO/IEC
--- 18004:2015, 7.4.8.2)
+-- FNC1 may come after this item: the item is an ECI header, and `may`, which says whether FNC1 was allowed in the place
+-- of this header, is true (ISO/IEC 18004:2015, 7.4.8.2)
 abbrev pub may_follow : Bool → Item → Bool
 may_follow may (Eci d) = may
 may_follow may _ = false
 
--- The segments as items [own]
+-- The items of a symbol that has these segments, and neither an ECI header nor FNC1 [own]
 abbrev pub plain : List Segment → List Item
 plain segs = map (λ s. Data s) segs
 
@@ -62,19 +63,21 @@ interpretation_stream written.Default = []
 interpretation_stream (written.Eci n) = field 4 eci_indicator ++ designator n
 interpretation_stream written.Gs1 = field 4 fnc1_first_indicator
 
--- How many bits state the interpretation (ISO/IEC 18004:2015, 7.4.2, 7.4.8.2)
+-- The number of bits that state the interpretation: those of an ECI header, or of the mode indicator of FNC1, or 0
+-- (ISO/IEC 18004:2015, 7.4.2, 7.4.8.2)
 abbrev pub interpretation_bits : Interpretation → ℕ
 interpretation_bits written.Default = 0
 interpretation_bits (written.Eci n) = 4 + 8 * designator_codewords n
 interpretation_bits written.Gs1 = 4
 
--- The items of a symbol that has this interpretation and these segments (ISO/IEC 18004:2015, 7.4.2, 7.4.8.2)
+-- The items of a symbol that has this interpretation and these segments: an ECI header, FNC1 in first position, or
+-- neither, and then the segments (ISO/IEC 18004:2015, 7.4.2, 7.4.8.2)
 abbrev pub items_in : Interpretation → List Segment → List Item
 items_in written.Default segs = plain segs
 items_in (written.Eci n) segs = Eci (record { number = n; codewords = designator_codewords n }) ∷ plain segs
 items_in written.Gs1 segs = Fnc1First ∷ plain segs
 
--- `%`, and the character that separates fields (ISO/IEC 18004:2015, 7.4.8.2)
+-- The ASCII codes of `%` and of the character that separates fields (ISO/IEC 18004:2015, 7.4.8.2)
 abbrev pub percent : ℕ
 percent = 37
 
@@ -95,21 +98,21 @@ unfoldable pub escaped : List ℕ → List ℕ
 escaped [] = []
 escaped (x ∷ xs) = if x == percent then percent ∷ percent ∷ escaped xs else (if x == separator then percent ∷ escaped xs else x ∷ escaped xs)
 
--- No separator comes directly before another separator or before `%`. In one segment, alphanumeric mode could not write
--- two such bytes [own]
+-- The bytes can be written as fields of GS1 data: no separator comes directly before another separator or before `%`.
+-- In one segment, alphanumeric mode could not write two such bytes [own]
 unfoldable pub are_fields : List ℕ → Bool
 are_fields [] = true
 are_fields (x ∷ []) = true
 are_fields (x ∷ y ∷ xs) = (if x == separator then (if y == separator then false else (if y == percent then false else true)) else true) && are_fields (y ∷ xs)
 
--- The byte is written as two characters. This is so only for `%` in alphanumeric mode after FNC1 (ISO/IEC 18004:2015,
--- 7.4.8.2)
+-- The byte `x` is written as two characters in this mode. This is so only for `%` in alphanumeric mode after FNC1
+-- (ISO/IEC 18004:2015, 7.4.8.2)
 abbrev pub is_doubled : Interpretation → ℕ → Mode → Bool
 is_doubled written.Gs1 x Alphanumeric = x == percent
 is_doubled _ x m = false
 
--- The character that is written for a byte, once or twice. It is the byte itself, except that alphanumeric mode after
--- FNC1 writes `%` for the separator (ISO/IEC 18004:2015, 7.4.8.2)
+-- The character that is written for the byte `x` in this mode, once or twice. It is the byte itself, except that
+-- alphanumeric mode after FNC1 writes `%` for the separator (ISO/IEC 18004:2015, 7.4.8.2)
 abbrev pub character_for : Interpretation → ℕ → Mode → ℕ
 character_for written.Gs1 x Alphanumeric = if x == separator then percent else x
 character_for _ x m = x
@@ -129,26 +132,28 @@ characters_gs1 (x ∷ xs) (m ∷ ms) =
     let c = character_for written.Gs1 x m in
     if is_doubled written.Gs1 x m then c ∷ c ∷ characters_gs1 xs ms else c ∷ characters_gs1 xs ms
 
--- The modes of the characters that are written for the bytes under an interpretation (ISO/IEC 18004:2015, 7.4.8.2)
+-- The modes of the characters that are written for the bytes `xs` under an interpretation. For a byte that becomes two
+-- of them, its mode is listed twice (ISO/IEC 18004:2015, 7.4.8.2)
 abbrev pub doubled : Interpretation → List ℕ → List Mode → List Mode
 doubled written.Default xs ms = ms
 doubled (written.Eci n) xs ms = ms
 doubled written.Gs1 xs ms = doubled_gs1 xs ms
 
--- The characters that are written for the bytes under an interpretation (ISO/IEC 18004:2015, 7.4.8.2)
+-- The characters that are written for the bytes `xs`, whose modes are `ms`, under an interpretation (ISO/IEC
+-- 18004:2015, 7.4.8.2)
 abbrev pub characters_in : Interpretation → List ℕ → List Mode → List ℕ
 characters_in written.Default xs ms = xs
 characters_in (written.Eci n) xs ms = xs
 characters_in written.Gs1 xs ms = characters_gs1 xs ms
 
--- The bytes can be written with this interpretation. GS1 data can be written if they satisfy `are_fields`, and all
--- other data can (ISO/IEC 18004:2015, 7.4.8.2)
+-- The bytes `xs` can be written with this interpretation. GS1 data can be written if no separator comes directly before
+-- another separator or before `%`. All other data can be written (ISO/IEC 18004:2015, 7.4.8.2)
 abbrev pub MayWrite : Interpretation → List ℕ → Type 0
 MayWrite written.Gs1 xs = IsTrue (are_fields xs)
 MayWrite _ xs = Unit {0}
 
--- The bytes that the characters of a segment stand for. They differ from the characters only in alphanumeric mode after
--- FNC1 (ISO/IEC 18004:2015, 7.4.8.2, 7.4.8.3)
+-- The bytes that the characters of a segment stand for, if the first argument says whether FNC1 came before the
+-- segment. They differ from the characters only in alphanumeric mode after FNC1 (ISO/IEC 18004:2015, 7.4.8.2, 7.4.8.3)
 abbrev pub meant : Bool → Mode → List ℕ → List ℕ
 meant true Alphanumeric xs = separated xs
 meant _ _ xs = xs
@@ -162,8 +167,8 @@ meant_bytes fnc1 (Eci d ∷ is) xs = meant_bytes fnc1 is xs
 meant_bytes fnc1 (Fnc1First ∷ is) xs = meant_bytes true is xs
 meant_bytes fnc1 (Fnc1Second a ∷ is) xs = meant_bytes true is xs
 
--- The ECI headers among the items, each with the number of bytes of the symbol before it, of which `n` come before the
--- first item (ISO/IEC 18004:2015, 7.4.2.2)
+-- The ECI headers among the items, each with the number of bytes of the symbol before it. Before the first item there
+-- are `n` bytes, and `fnc1` says whether FNC1 came before it (ISO/IEC 18004:2015, 7.4.2.2)
 unfoldable pub eci_changes : Bool → ℕ → List Item → List ℕ → List EciChange
 eci_changes fnc1 n [] xs = []
 eci_changes fnc1 n (Data s ∷ is) xs = eci_changes fnc1 (n + length (meant fnc1 s.mode (take s.len xs))) is (drop s.len xs)
@@ -171,7 +176,7 @@ eci_changes fnc1 n (Eci d ∷ is) xs = record { number = d.number; begin = n } �
 eci_changes fnc1 n (Fnc1First ∷ is) xs = eci_changes true n is xs
 eci_changes fnc1 n (Fnc1Second a ∷ is) xs = eci_changes true n is xs
 
--- FNC1, if it is among the items and only ECI headers come before it (ISO/IEC 18004:2015, 7.4.8)
+-- FNC1, if it is among the items and only ECI headers come before it, and otherwise `None` (ISO/IEC 18004:2015, 7.4.8)
 unfoldable pub fnc1_of : List Item → Option Fnc1
 fnc1_of [] = None
 fnc1_of (Data s ∷ is) = None
@@ -179,12 +184,14 @@ fnc1_of (Eci d ∷ is) = fnc1_of is
 fnc1_of (Fnc1First ∷ is) = Some First
 fnc1_of (Fnc1Second a ∷ is) = Some (Second a)
 
--- The ECI headers that are read from a symbol with this interpretation (ISO/IEC 18004:2015, 7.4.2)
+-- The ECI headers that are read from a symbol with this interpretation: the one of the interpretation, or none (ISO/IEC
+-- 18004:2015, 7.4.2)
 abbrev pub ecis_in : Interpretation → List EciChange
 ecis_in (written.Eci n) = record { number = n; begin = 0 } ∷ []
 ecis_in _ = []
 
--- FNC1 as it is read from a symbol with this interpretation (ISO/IEC 18004:2015, 7.4.8.2)
+-- FNC1 as it is read from a symbol with this interpretation: in first position for GS1 data, and otherwise none
+-- (ISO/IEC 18004:2015, 7.4.8.2)
 abbrev pub fnc1_in : Interpretation → Option Fnc1
 fnc1_in written.Gs1 = Some First
 fnc1_in _ = None

@@ -49,7 +49,7 @@ StreamsHaveTheirBits =
     (v : ℕ) (xs : List ℕ) (segs : List Segment) (h : Option Header) (i : Interpretation) (stream : List Bool) → IsStream v xs segs h i stream →
     length stream ≡ header_bits h + interpretation_bits i + bits v segs
 
--- A bit stream that is not longer than the capacity has data codewords [own]
+-- For a bit stream that is not longer than the capacity there is a list of data codewords [own]
 abbrev pub DataAreThere : Type 0
 DataAreThere =
     (v : ℕ) (l : Level) (xs : List ℕ) (segs : List Segment) (h : Option Header) (i : Interpretation) (stream : List Bool) → IsStream v xs segs h i stream →
@@ -80,38 +80,42 @@ abbrev pub FittingInputsAreShort : Type 0
 FittingInputsAreShort =
     (i : Interpretation) (v : ℕ) (l : Level) (r : Rule) (xs : List ℕ) → 1 ≤ v → v ≤ 40 → HasFit i v r xs (capacity_of v l) → length xs ≤ 7089
 
--- The segments of the least segmentation cover its characters. They take at most n bits exactly if some valid
--- assignment takes at most n bits [own]
+-- Let `segs` be the segments of fewest bits of an input. They cover the characters that are written for the input. They
+-- take at most n bits exactly if some valid assignment takes at most n bits [own]
 abbrev pub LeastSegmentationsFit : Type 0
 LeastSegmentationsFit =
     (i : Interpretation) (v : ℕ) (r : Rule) (xs ys : List ℕ) (segs : List Segment) → IsLeastSegmentation i v r xs ys segs →
     Covers ys segs × ((n : ℕ) → HasFit i v r xs n ↔ (bits v segs ≤ n))
 
--- If an input can be written with an interpretation, the characters of its least segmentation stand for the input, and
--- are read with this interpretation (ISO/IEC 18004:2015, 7.4.2, 7.4.8.2)
+-- If an input can be written with an interpretation, the characters of its segments of fewest bits stand for the input,
+-- and are read with this interpretation (ISO/IEC 18004:2015, 7.4.2, 7.4.8.2)
 abbrev pub SegmentationsMeanTheirInput : Type 0
 SegmentationsMeanTheirInput =
     (i : Interpretation) (v : ℕ) (r : Rule) (xs ys : List ℕ) (segs : List Segment) (h : Option Header) → MayWrite i xs → IsLeastSegmentation i v r xs ys segs →
     (content_of h (items_in i segs) ys ≡ record { header = h; items = items_in i segs; ecis = ecis_in i; bytes = xs })
     × (fnc1_of (items_in i segs) ≡ fnc1_in i)
 
--- Under a rule without kanji mode, a piece of an input needs no more bits than the whole input [own]
+-- Under a rule without kanji mode, a piece of an input takes no more bits than the whole input, if both are written
+-- with fewest bits [own]
 abbrev pub PiecesNeedNoMore : Type 0
 PiecesNeedNoMore =
     (i : Interpretation) (v : ℕ) (r : Rule) (xs ys zs : List ℕ) (n : ℕ) → may_use r Kanji ≡ false →
     HasFit i v r (xs ++ (ys ++ zs)) n → HasFit i v r ys n
 
--- `codeword_bit` numbers the bits of codewords in the order in which `bits_of` lists them (ISO/IEC 18004:2015, 7.7.3)
+-- Bit `k` of the codewords, as `codeword_bit` counts from 0, is the bit with the index `k` in the list of all their
+-- bits (ISO/IEC 18004:2015, 7.7.3)
 abbrev pub BitsAreCodewordBits : Type 0
 BitsAreCodewordBits =
     (cw : List ℕ) (k : ℕ) → k < 8 * length cw → slice_index_or (bits_of cw) k false ≡ codeword_bit cw k
 
--- What alphanumeric mode writes for fields after FNC1 is read as these fields (ISO/IEC 18004:2015, 7.4.8.2)
+-- The characters that alphanumeric mode writes for fields after FNC1 are read as these fields (ISO/IEC 18004:2015,
+-- 7.4.8.2)
 abbrev pub FieldsAreRead : Type 0
 FieldsAreRead = (xs : List ℕ) → are_fields xs ≡ true → separated (escaped xs) ≡ xs
 
--- Bits are read as items exactly if they are the stream of these items, in an order that the standard allows, and then
--- an end (ISO/IEC 18004:2015, 7.4.1, 7.4.2, 7.4.8, 7.4.9)
+-- Bits are read as items exactly if they are the bits of these items, in an order that the standard allows, and then an
+-- end. An end is at most three bits, or the terminator and any bits after it (ISO/IEC 18004:2015, 7.4.1, 7.4.2, 7.4.8,
+-- 7.4.9)
 abbrev pub ItemsAreParsed : Type 0
 ItemsAreParsed = (v : ℕ) (bits : List Bool) (items : List Item) (xs : List ℕ) →
     (items_of v true bits ≡ Ok (items, xs)) ↔

@@ -18,7 +18,7 @@ indicator Kanji = 8
 abbrev pub terminator : ℕ
 terminator = 0
 
--- How many bits a character count indicator has in version `v` (ISO/IEC 18004:2015, 7.4.1, Table 3)
+-- How many bits the character count indicator of this mode has in version `v` (ISO/IEC 18004:2015, 7.4.1, Table 3)
 abbrev pub count_width : ℕ → Mode → ℕ
 count_width v Numeric = if nat_le v 9 then 10 else (if nat_le v 26 then 12 else 14)
 count_width v Alphanumeric = if nat_le v 9 then 9 else (if nat_le v 26 then 11 else 13)
@@ -26,17 +26,18 @@ count_width v Byte = if nat_le v 9 then 8 else 16
 count_width v Kanji = if nat_le v 9 then 8 else (if nat_le v 26 then 10 else 12)
 
 -- The number in the character count indicator of a segment of `n` bytes, of which kanji mode counts two as one
--- character (ISO/IEC 18004:2015, 7.4.1)
+-- character, and any other mode counts each (ISO/IEC 18004:2015, 7.4.1)
 abbrev pub character_count : Mode → ℕ → ℕ
 character_count Kanji n = n / 2
 character_count _ n = n
 
--- The number of bytes of a segment whose character count indicator is `n` (ISO/IEC 18004:2015, 7.4.1)
+-- The number of bytes of a segment in this mode whose character count indicator is `n`. A character of kanji mode is
+-- two bytes (ISO/IEC 18004:2015, 7.4.1)
 abbrev pub byte_count : Mode → ℕ → ℕ
 byte_count Kanji n = 2 * n
 byte_count _ n = n
 
--- An ASCII digit (ISO/IEC 18004:2015, 7.3.3)
+-- The byte is an ASCII digit (ISO/IEC 18004:2015, 7.3.3)
 abbrev pub is_digit : ℕ → Bool
 is_digit b = nat_le 48 b && nat_le b 57
 
@@ -44,7 +45,7 @@ is_digit b = nat_le 48 b && nat_le b 57
 unfoldable pub characters : List ℕ
 characters = codes "0123456789ABCDEFGHIJKLMNOPQRSTUVWXYZ $%*+-./:"
 
--- The byte is one of the 45 characters (ISO/IEC 18004:2015, 7.3.4)
+-- The byte is one of the 45 characters of alphanumeric mode (ISO/IEC 18004:2015, 7.3.4)
 unfoldable pub is_alphanumeric : ℕ → Bool
 is_alphanumeric b = list_any (λ c. c == b) characters
 
@@ -59,7 +60,7 @@ is_kanji_pair high low =
     let pair = 256 * high + low in
     (nat_le 0x8140 pair && nat_le pair 0x9FFC || nat_le 0xE040 pair && nat_le pair 0xEBBF) && (nat_le 0x40 low && nat_le low 0xFC)
 
--- The number of bytes is even, and all pairs of them, taken from the left, pass `test` [own]
+-- The number of bytes is even, and the bytes, taken from the left two by two, are all pairs that pass `test` [own]
 abbrev pub in_twos : (ℕ → ℕ → Bool) → List ℕ → Bool
 in_twos test [] = true
 in_twos test (x ∷ []) = false
@@ -90,7 +91,8 @@ payload_bits Alphanumeric n = 11 * (n / 2) + 6 * (n % 2)
 payload_bits Byte n = 8 * n
 payload_bits Kanji n = 13 * ((n + 1) / 2)
 
--- Every rule allows byte mode, and only `WithKanji` allows kanji mode [own]
+-- The rule allows the mode: every rule allows byte mode, all but `BytesOnly` allow numeric and alphanumeric mode, and
+-- only `WithKanji` allows kanji mode [own]
 abbrev pub may_use : Rule → Mode → Bool
 may_use Auto Kanji = false
 may_use Auto _ = true

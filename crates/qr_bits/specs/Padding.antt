@@ -20,7 +20,7 @@ room_of v l i = capacity_of v l - 20 - interpretation_bits i
 abbrev pub terminated : ℕ → List Bool → List Bool
 terminated capacity stream = stream ++ replicate (min 4 (capacity - length stream)) false
 
--- The stream, followed by zero bits up to the end of its last codeword (ISO/IEC 18004:2015, 7.4.10)
+-- The stream, followed by as many zero bits as its last codeword lacks (ISO/IEC 18004:2015, 7.4.10)
 abbrev pub filled : List Bool → List Bool
 filled stream = stream ++ replicate ((8 - length stream % 8) % 8) false
 

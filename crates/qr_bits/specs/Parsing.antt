@@ -1,6 +1,6 @@
 -- How the bits of data codewords are read. The result is a header, if there is one, items and the characters of their
--- segments, or it is a fault. `bits` are the bits that are not read yet. If the last part of a result is a list of
--- bits, these are the bits that are left.
+-- segments, or it is a fault. `bits` are the bits that have not been read yet. If the last part of a result is a list
+-- of bits, these are the bits that remain.
 use Rattle.std.specs.Prelude.{◌≡◌, ◌⊎◌, ℕ, zero, suc, ◌+◌, ◌-◌, ◌*◌, ◌/◌, ◌%◌, Bool, ◌&&◌, ◌||◌, ◌==◌, nat_lt, nat_le, true, false, if◌then◌else◌, List, [], ◌∷◌, ◌++◌, length, take, drop, Result, Ok, Err, Option, Some, None}
 use Rattle.std.specs.List.{slice_index_or}
 use Rattle.qr_bits.specs.declared.modes.Mode.{Mode}
@@ -24,7 +24,7 @@ abbrev pub ◌>>=◌ : {A B : Type 0} → Result A ParseFault → (A → Result 
 (Ok x) >>= f = f x
 (Err e) >>= f = Err e
 
--- The result of the code is `read`, or the fault `Memory` [own]
+-- The result `r` of the code is the result `read`, or the code has returned the fault `Memory` [own]
 abbrev pub IsResultOf : {A : Type 0} → Result A ParseFault → Result A ParseFault → Type 0
 IsResultOf r read = (r ≡ Err Memory) ⊎ (read ≡ r)
 
@@ -32,8 +32,8 @@ IsResultOf r read = (r ≡ Err Memory) ⊎ (read ≡ r)
 abbrev pub digit : ℕ → ℕ
 digit n = 48 + n % 10
 
--- The next `n` digits: each three digits are read from 10 bits, then two at the end from 7 bits, or one from 4. A
--- number that is too large for its digits is a `BadValue` (ISO/IEC 18004:2015, 7.4.3)
+-- The `n` digits that the bits begin with: each three are read from 10 bits, then two at the end from 7 bits, or one
+-- from 4. A number that is too large for its digits is a `BadValue` (ISO/IEC 18004:2015, 7.4.3)
 unfoldable pub digits_of : ℕ → List Bool → Result (List ℕ) ParseFault
 digits_of zero bits = Ok []
 digits_of (suc zero) bits =
@@ -50,8 +50,8 @@ digits_of (suc (suc (suc n))) bits =
 unfoldable pub character : ℕ → ℕ
 character n = slice_index_or characters n 0
 
--- The next `n` characters: each two characters are read from 11 bits, then one at the end from 6. A number from 2025 on
--- for two, or from 45 on for one, is a `BadValue` (ISO/IEC 18004:2015, 7.4.4)
+-- The `n` characters of alphanumeric mode that the bits begin with: each two are read from 11 bits, then one at the end
+-- from 6. A number from 2025 on for two, or from 45 on for one, is a `BadValue` (ISO/IEC 18004:2015, 7.4.4)
 unfoldable pub characters_of : ℕ → List Bool → Result (List ℕ) ParseFault
 characters_of zero bits = Ok []
 characters_of (suc zero) bits =
@@ -61,7 +61,7 @@ characters_of (suc (suc n)) bits =
     let pair = value (take 11 bits) in
     if nat_lt pair 2025 then (characters_of n (drop 11 bits) >>= λ cs. Ok (character (pair / 45) ∷ character (pair % 45) ∷ cs)) else Err BadValue
 
--- The next `n` bytes, of 8 bits each (ISO/IEC 18004:2015, 7.4.5)
+-- The `n` bytes that the bits begin with, of 8 bits each (ISO/IEC 18004:2015, 7.4.5)
 unfoldable pub bytes_of : ℕ → List Bool → List ℕ
 bytes_of zero bits = []
 bytes_of (suc n) bits = value (take 8 bits) ∷ bytes_of n (drop 8 bits)
@@ -74,8 +74,8 @@ kanji_pair n =
     let rest = 256 * (n / 0xC0) + n % 0xC0 in
     if nat_le (n / 0xC0) 0x1E then rest + 0x8140 else rest + 0xC140
 
--- The bytes of the next `n` kanji pairs, each of which is read from 13 bits. If division of a value by C0 leaves a
--- remainder of more than BC, both hexadecimal, the value is a `BadValue` (ISO/IEC 18004:2015, 7.4.6)
+-- The bytes of the `n` kanji pairs that the bits begin with, each of which is read from 13 bits. If division of a value
+-- by C0 leaves a remainder of more than BC, both hexadecimal, the value is a `BadValue` (ISO/IEC 18004:2015, 7.4.6)
 unfoldable pub pairs_of : ℕ → List Bool → Result (List ℕ) ParseFault
 pairs_of zero bits = Ok []
 pairs_of (suc n) bits =
@@ -83,7 +83,8 @@ pairs_of (suc n) bits =
     let pair = kanji_pair group in
     if nat_le (group % 0xC0) 0xBC then (pairs_of n (drop 13 bits) >>= λ xs. Ok (pair / 256 ∷ pair % 256 ∷ xs)) else Err BadValue
 
--- The bytes that are read from the data of a segment of `n` characters (ISO/IEC 18004:2015, 7.4.3 to 7.4.6)
+-- The bytes that are read from the data of a segment with this mode and `n` characters (ISO/IEC 18004:2015, 7.4.3 to
+-- 7.4.6)
 unfoldable pub values_of : Mode → ℕ → List Bool → Result (List ℕ) ParseFault
 values_of Numeric n bits = digits_of n bits
 values_of Alphanumeric n bits = characters_of n bits
@@ -107,14 +108,14 @@ ends bits = nat_lt (length bits) 4 || value (take 4 bits) == terminator
 unfoldable pub leading_number : ℕ → List Bool → Result (ℕ × List Bool) ParseFault
 leading_number w bits = if nat_lt (length bits) w then Err Cut else Ok (value (take w bits), drop w bits)
 
--- The bytes of a segment of `n` characters in the mode `m`. If the data are not complete, the fault is `Cut`, even if a
--- value among them is wrong (ISO/IEC 18004:2015, 7.4.3 to 7.4.6)
+-- The bytes of a segment with the mode `m` and `n` characters, read from its data. If the data are not complete, the
+-- fault is `Cut`, even if a value among them is wrong (ISO/IEC 18004:2015, 7.4.3 to 7.4.6)
 unfoldable pub payload_at : Mode → ℕ → List Bool → Result (List ℕ × List Bool) ParseFault
 payload_at m n bits =
     if nat_lt (length bits) (payload_bits m (byte_count m n)) then Err Cut else (values_of m n bits >>= λ xs. Ok (xs, drop (payload_bits m (byte_count m n)) bits))
 
--- A segment and its characters. The mode indicator is read first, then the character count indicator, and then the data
--- (ISO/IEC 18004:2015, 7.4.1)
+-- The segment that is read next, and its characters. Its mode indicator is read first, then the character count
+-- indicator, and then the data (ISO/IEC 18004:2015, 7.4.1)
 unfoldable pub segment_at : ℕ → List Bool → Result (Segment × List ℕ × List Bool) ParseFault
 segment_at v bits =
     mode_of (value (take 4 bits)) >>= λ m.
@@ -122,9 +123,9 @@ segment_at v bits =
     payload_at m n.0 n.1 >>= λ p.
     Ok (record { mode = m; len = byte_count m n.0 }, p.0, p.1)
 
--- An ECI designator. Its number has 7 bits after the bit 0, 14 bits after the bits 10, and 21 bits after the bits 110.
--- The fault is `BadValue` if the designator begins with the bits 111, or if the number has more than six digits
--- (ISO/IEC 18004:2015, 7.4.2, Table 4)
+-- The ECI designator that is read next. Its number has 7 bits after the bit 0, 14 bits after the bits 10, and 21 bits
+-- after the bits 110. The fault is `BadValue` if the designator begins with the bits 111, or if the number has more
+-- than six digits (ISO/IEC 18004:2015, 7.4.2, Table 4)
 unfoldable pub designator_at : List Bool → Result (Designator × List Bool) ParseFault
 designator_at bits =
     leading_number 8 bits >>= λ a.
@@ -135,12 +136,13 @@ designator_at bits =
     let number = 65536 * (a.0 - 192) + b.0 in
     if nat_lt number 1000000 then Ok (record { number = number; codewords = 3 }, b.1) else Err BadValue)))
 
--- An application indicator, or the fault `BadValue` if the next 8 bits are not one (ISO/IEC 18004:2015, 7.4.8.3)
+-- The application indicator that is read from the next 8 bits, or the fault `BadValue` if they are no such indicator
+-- (ISO/IEC 18004:2015, 7.4.8.3)
 unfoldable pub application_at : List Bool → Result (ℕ × List Bool) ParseFault
 application_at bits = leading_number 8 bits >>= λ a. if is_application_indicator a.0 then Ok a else Err BadValue
 
--- An item, and its characters if it is a segment. `may` says whether FNC1 may come here (ISO/IEC 18004:2015, 7.4.2,
--- 7.4.8)
+-- The item that is read next, and its characters if it is a segment. `may` says whether FNC1 may come here (ISO/IEC
+-- 18004:2015, 7.4.2, 7.4.8)
 unfoldable pub item_at : ℕ → Bool → List Bool → Result (Item × List ℕ × List Bool) ParseFault
 item_at v may bits =
     let indicator = value (take 4 bits) in
@@ -149,33 +151,35 @@ item_at v may bits =
     (if may && indicator == fnc1_second_indicator then (application_at (drop 4 bits) >>= λ a. Ok (Fnc1Second a.0, [], a.1)) else
     (segment_at v bits >>= λ s. Ok (Data s.0, s.1, s.2))))
 
--- The items up to the end, or the first `n` of them, with the characters of their segments [own]
+-- The items up to the end, but not more than `n`, with the characters of their segments. `may` says whether FNC1 may
+-- come first [own]
 unfoldable pub items_at : ℕ → ℕ → Bool → List Bool → Result (List Item × List ℕ) ParseFault
 items_at zero v may bits = Ok ([], [])
 items_at (suc n) v may bits =
     if ends bits then Ok ([], []) else (item_at v may bits >>= λ i. items_at n v (may_follow may i.0) i.2 >>= λ r. Ok (i.0 ∷ r.0, i.1 ++ r.1))
 
--- All items up to the end, with the characters of their segments. There are no more items than bits, since each item
--- takes at least four bits (ISO/IEC 18004:2015, 7.4.1, 7.4.9)
+-- All items up to the end, with the characters of their segments. `may` says whether FNC1 may come first. There are no
+-- more items than bits, since each item takes at least four bits (ISO/IEC 18004:2015, 7.4.1, 7.4.9)
 unfoldable pub items_of : ℕ → Bool → List Bool → Result (List Item × List ℕ) ParseFault
 items_of v may bits = items_at (length bits) v may bits
 
--- The mode indicator of structured append comes next (ISO/IEC 18004:2015, 8.1)
+-- The bits begin with the mode indicator of structured append (ISO/IEC 18004:2015, 8.1)
 unfoldable pub begins_header : List Bool → Bool
 begins_header bits = nat_le 4 (length bits) && value (take 4 bits) == header_indicator
 
--- A header whose mode indicator was already read, or the fault `Cut` if fewer than 16 bits follow (ISO/IEC 18004:2015,
--- 8.1 to 8.3)
+-- The header whose mode indicator was already read, or the fault `Cut` if fewer than 16 bits remain (ISO/IEC
+-- 18004:2015, 8.1 to 8.3)
 unfoldable pub header_at : List Bool → Result (Header × List Bool) ParseFault
 header_at bits =
     if nat_lt (length bits) 16 then Err Cut
     else Ok (record { position = value (take 4 bits); last = value (take 4 (drop 4 bits)); parity = value (take 8 (drop 8 bits)) }, drop 16 bits)
 
--- The header, if the bits begin with its mode indicator (ISO/IEC 18004:2015, 8.1)
+-- The header if the bits begin with its mode indicator, and otherwise `None` (ISO/IEC 18004:2015, 8.1)
 unfoldable pub first_header : List Bool → Result (Option Header × List Bool) ParseFault
 first_header bits = if begins_header bits then (header_at (drop 4 bits) >>= λ h. Ok (Some h.0, h.1)) else Ok (None, bits)
 
--- The content that is read from data codewords [own]
+-- The content that is read from data codewords: a header if there is one, the items, the ECI headers with the numbers
+-- of bytes before them, and the bytes [own]
 pub record Content : Type 0 where
   pub header : Option Header
   pub items : List Item
@@ -188,12 +192,12 @@ abbrev pub content_of : Option Header → List Item → List ℕ → Content
 content_of h items cs =
     record { header = h; items = items; ecis = eci_changes false 0 items cs; bytes = meant_bytes false items cs }
 
--- The content of segments alone, without ECI header and FNC1 [own]
+-- The content that has the header `h`, the segments `segs`, neither an ECI header nor FNC1, and the bytes `xs` [own]
 abbrev pub plain_content : Option Header → List Segment → List ℕ → Content
 plain_content h segs xs = record { header = h; items = plain segs; ecis = []; bytes = xs }
 
--- The content of data codewords. A header, if there is one, is read first, and then all items (ISO/IEC 18004:2015,
--- 7.4.1, 8.1, 12)
+-- The content of data codewords of version `v`, or a fault. A header, if there is one, is read first, and then all
+-- items (ISO/IEC 18004:2015, 7.4.1, 8.1, 12)
 unfoldable pub parse : ℕ → List Bool → Result Content ParseFault
 parse v bits =
     first_header bits >>= λ h.

@@ -18,16 +18,17 @@ use Rattle.qr_bits.specs.Interpretation.{characters_in, doubled}
 abbrev pub segment_bits : ℕ → Segment → ℕ
 segment_bits v s = 4 + count_width v s.mode + payload_bits s.mode s.len
 
--- How many bits all segments take, without what comes before them (ISO/IEC 18004:2015, 7.4.1)
+-- How many bits all segments take in version `v`, without the bits before them (a header, an ECI header or FNC1)
+-- (ISO/IEC 18004:2015, 7.4.1)
 abbrev pub bits : ℕ → List Segment → ℕ
 bits v [] = 0
 bits v (s ∷ ss) = segment_bits v s + bits v ss
 
--- The segments contain exactly the bytes, each mode suits its bytes, and no segment is empty [own]
+-- The segments contain exactly the bytes `xs`, each mode suits its bytes, and no segment is empty [own]
 unfoldable pub Covers : List ℕ → List Segment → Type 0
 Covers xs segs = All (λ s. 0 < s.len) segs × Suits xs segs
 
--- The rank of a mode. Ranks decide between assignments that take equally many bits [own]
+-- The rank of a mode. If two assignments take equally many bits, ranks decide which one is better [own]
 abbrev pub rank : Mode → ℕ
 rank Numeric = 0
 rank Alphanumeric = 1
@@ -45,29 +46,31 @@ unfoldable pub runs_of : List Mode → List Segment
 runs_of [] = []
 runs_of (m ∷ ms) = prepend_mode m (runs_of ms)
 
--- A valid assignment of modes to the bytes `xs` [own]
+-- `ms` is a valid assignment to the bytes `xs`: the rule `r` allows its modes, and the mode of each segment suits the
+-- characters that are written in it [own]
 abbrev pub IsAssignment : Interpretation → Rule → List ℕ → List Mode → Type 0
 IsAssignment i r xs ms = IsTrue (list_all (may_use r) ms) × Covers (characters_in i xs ms) (runs_of (doubled i xs ms))
 
--- In the lexicographic order by the ranks of the modes, `ms` does not come after `ks` [own]
+-- The assignment `ms` does not come after `ks` in the lexicographic order by the ranks of the modes [own]
 abbrev pub IsNotAfter : List Mode → List Mode → Type 0
 IsNotAfter [] ks = Unit {0}
 IsNotAfter (m ∷ ms) [] = ⊥
 IsNotAfter (m ∷ ms) (k ∷ ks) = (rank m < rank k) ⊎ ((m ≡ k) × IsNotAfter ms ks)
 
--- No valid assignment takes fewer bits than `ms`, and of those that take equally few, `ms` is the first in
--- lexicographic order [own]
+-- `ms` is the best valid assignment to the bytes `xs`. No other takes fewer bits in version `v`, and of those that take
+-- equally few, `ms` is the first in lexicographic order by the ranks of the modes [own]
 pub record IsBestAssignment (i : Interpretation) (v : ℕ) (r : Rule) (xs : List ℕ) (ms : List Mode) : Type 0 where
   pub assignment : IsAssignment i r xs ms
   pub least : (ks : List Mode) → IsAssignment i r xs ks → bits v (runs_of (doubled i xs ms)) ≤ bits v (runs_of (doubled i xs ks))
   pub first : (ks : List Mode) → IsAssignment i r xs ks → bits v (runs_of (doubled i xs ks)) ≡ bits v (runs_of (doubled i xs ms)) → IsNotAfter ms ks
 
--- `segs` are the segments of the best assignment, and `ys` the characters that they contain [own]
+-- `segs` are the segments of fewest bits in version `v` for the bytes `xs`, those of the best valid assignment. `ys`
+-- are the characters that they contain [own]
 abbrev pub IsLeastSegmentation : Interpretation → ℕ → Rule → List ℕ → List ℕ → List Segment → Type 0
 IsLeastSegmentation i v r xs ys segs =
     (ms : List Mode) × IsBestAssignment i v r xs ms × (segs ≡ runs_of (doubled i xs ms)) × (ys ≡ characters_in i xs ms)
 
--- Some valid assignment to the bytes `xs` takes at most `n` bits [own]
+-- Some valid assignment to the bytes `xs` takes at most `n` bits in version `v` [own]
 abbrev pub HasFit : Interpretation → ℕ → Rule → List ℕ → ℕ → Type 0
 HasFit i v r xs n = (ms : List Mode) × IsAssignment i r xs ms × (bits v (runs_of (doubled i xs ms)) ≤ n)
 
@@ -81,7 +84,8 @@ least_sixths b = if is_digit b then 20 else (if nat_le b 90 then 33 else 39)
 unfoldable pub least_bits : List ℕ → ℕ
 least_bits xs = sum_by least_sixths xs / 6
 
--- `n` is the length of the longest prefix of `xs` for which some valid assignment takes at most `room` bits [own]
+-- `n` is the length of the longest prefix of `xs` for which some valid assignment takes at most `room` bits in version
+-- `v` [own]
 pub record IsLongestFit (i : Interpretation) (v : ℕ) (r : Rule) (xs : List ℕ) (room n : ℕ) : Type 0 where
   pub inside : n ≤ length xs
   pub fits : HasFit i v r (take n xs) room

@@ -36,7 +36,7 @@ kanji_bits [] = []
 kanji_bits (a ∷ []) = []
 kanji_bits (a ∷ b ∷ xs) = field 13 (kanji_value a b) ++ kanji_bits xs
 
--- The bits of the data of a segment (ISO/IEC 18004:2015, 7.4.3 to 7.4.6)
+-- The bits of the data of a segment with this mode and the bytes `xs` (ISO/IEC 18004:2015, 7.4.3 to 7.4.6)
 unfoldable pub payload : Mode → List ℕ → List Bool
 payload Numeric xs = digit_bits xs
 payload Alphanumeric xs = character_bits xs
@@ -73,7 +73,8 @@ pub record IsStream (v : ℕ) (xs : List ℕ) (segs : List Segment) (h : Option 
   pub interpretation : InterpretationFits i
   pub whole : stream ≡ (header_stream h ++ interpretation_stream i) ++ segments_stream v xs segs
 
--- The number of an ECI fits the number of codewords that the designator has (ISO/IEC 18004:2015, 7.4.2, Table 4)
+-- The number of the ECI is small enough for the number of codewords that its designator has (ISO/IEC 18004:2015, 7.4.2,
+-- Table 4)
 abbrev pub DesignatorFits : Designator → Type 0
 DesignatorFits d =
     ((d.codewords ≡ 1) × (d.number < 128)) ⊎ (((d.codewords ≡ 2) × (d.number < 16384)) ⊎ ((d.codewords ≡ 3) × (d.number < 1000000)))
@@ -93,8 +94,10 @@ items_stream v xs (Eci d ∷ is) = field 4 eci_indicator ++ (designator_of d.cod
 items_stream v xs (Fnc1First ∷ is) = field 4 fnc1_first_indicator ++ items_stream v xs is
 items_stream v xs (Fnc1Second a ∷ is) = field 4 fnc1_second_indicator ++ (field 8 a ++ items_stream v xs is)
 
--- The segments among the items satisfy `Suits` and `CountsFit`, the number of each ECI fits its designator, and before
--- FNC1 there are only ECI headers. `may` says whether FNC1 is allowed among these items (ISO/IEC 18004:2015, 7.4.8.2)
+-- The items can be written for the bytes `xs`. The segments among them contain exactly these bytes, each mode suits its
+-- bytes, and each number of characters fits its character count indicator. Each designator is long enough for its ECI.
+-- Before FNC1 there are only ECI headers, and `may` says whether FNC1 is allowed among these items (ISO/IEC 18004:2015,
+-- 7.4.8.2)
 unfoldable pub AreItems : ℕ → Bool → List ℕ → List Item → Type 0
 AreItems v may xs [] = xs ≡ []
 AreItems v may xs (Data s ∷ is) =

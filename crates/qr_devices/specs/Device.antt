@@ -8,7 +8,7 @@ use Rattle.qr_devices.specs.declared.device.Trouble.TheVariants.{Interrupted, Fa
 use Rattle.qr_devices.specs.declared.device.ReadCounts.{ReadCounts}
 use Rattle.qr_devices.specs.declared.device.WriteCounts.{WriteCounts}
 
--- A number as a count shows it, at most the greatest `u64` [own]
+-- The number `n` as a count shows it, which is at most 2^64 - 1 [own]
 abbrev pub counted : ℕ → ℕ
 counted n = min n (2 ^ 64 - 1)
 
@@ -16,16 +16,16 @@ counted n = min n (2 ^ 64 - 1)
 abbrev pub no_reads : ReadCounts
 no_reads = record { calls = 0; failed = 0; interrupted = 0; given = 0; ends = 0; past_end = 0 }
 
--- What the result of a read into a buffer of `room` bytes adds to the counts: the bytes that were read, an end if there
--- were none though there was room, an interruption or a failure [own]
+-- The counts when the result of a read into a buffer of `room` bytes is added to the counts `c`: the bytes that it
+-- returned, an interruption, or a failure. An end was reached if there were no bytes although `room` is not 0 [own]
 abbrev pub read_returned : ℕ → Result ℕ Trouble → ReadCounts → ReadCounts
 read_returned room (Ok n) c =
     record c { given = counted (c.given + n); ends = if n == 0 && nat_lt 0 room then counted (c.ends + 1) else c.ends }
 read_returned room (Err Interrupted) c = record c { interrupted = counted (c.interrupted + 1) }
 read_returned room (Err Failed) c = record c { failed = counted (c.failed + 1) }
 
--- The counts after a read. The call is counted, and if an earlier read reached the end, also as one past the end. Then
--- the result is counted, as `read_returned` says [own]
+-- The counts after a read. The call and its result are added to the counts `c`. If an earlier read reached the end,
+-- this read is also counted as one past the end [own]
 abbrev pub read_counted : ℕ → Result ℕ Trouble → ReadCounts → ReadCounts
 read_counted room returned c = read_returned room returned (record c {
   calls = counted (c.calls + 1);
@@ -45,21 +45,22 @@ no_writes = record {
   settled = false;
 }
 
--- What the result of a write that offered `len` bytes adds to the counts: the accepted bytes, a zero if bytes were
--- offered but none was accepted, an interruption or a failure [own]
+-- The counts when the result of a write that offered `len` bytes is added to the counts `c`: the accepted bytes, an
+-- interruption, or a failure. A zero is counted if no byte was accepted although `len` is not 0 [own]
 abbrev pub write_returned : ℕ → Result ℕ Trouble → WriteCounts → WriteCounts
 write_returned len (Ok n) c =
     record c { taken = counted (c.taken + n); zeros = if n == 0 && nat_lt 0 len then counted (c.zeros + 1) else c.zeros }
 write_returned len (Err Interrupted) c = record c { interrupted = counted (c.interrupted + 1) }
 write_returned len (Err Failed) c = record c { failed = counted (c.failed + 1) }
 
--- The counts after a write. The call is counted, and `offered` stays or becomes the longest offer. Then the result is
--- counted, as `write_returned` says. The device is not settled [own]
+-- The counts after a write. The call and its result are added to the counts `c`. `offered` is the greatest number of
+-- bytes that a write has offered so far. The device is not settled [own]
 abbrev pub write_counted : ℕ → Result ℕ Trouble → WriteCounts → WriteCounts
 write_counted len returned c =
     write_returned len returned (record c { calls = counted (c.calls + 1); offered = max c.offered len; settled = false })
 
--- The counts after a flush, which counts as failed if it was interrupted [own]
+-- The counts after a flush, which is counted as failed if it was interrupted. If it succeeded, the device is settled
+-- [own]
 abbrev pub flush_counted : {T : Type 0} → Result T Trouble → WriteCounts → WriteCounts
 flush_counted returned c = record c {
   calls = counted (c.calls + 1);
@@ -72,7 +73,8 @@ flush_counted returned c = record c {
 abbrev pub IsBeginning : List ℕ → List ℕ → Type 0
 IsBeginning prefix whole = (rest : List ℕ) × (prefix ++ rest ≡ whole)
 
--- The bytes that the device accepted, if they are known, grew by a prefix of `whole` [own]
+-- `old` and `new` are the bytes that a device has accepted at first and later. If they are known, they grew by a prefix
+-- of `whole` [own]
 abbrev pub AppendsBeginning : Option (List ℕ) → Option (List ℕ) → List ℕ → Type 0
 AppendsBeginning old new whole = (prefix : List ℕ) × IsBeginning prefix whole × Appends old new prefix
 
@@ -84,18 +86,20 @@ is_read_fault c = nat_lt 0 c.failed || nat_le 1000 c.interrupted
 abbrev pub is_write_fault : WriteCounts → Bool
 is_write_fault c = nat_lt 0 c.failed || (nat_lt 0 c.zeros || nat_le 1000 c.interrupted)
 
--- At most one call failed or moved nothing, and at most 1,000 writes were interrupted. This is so if writing stops at
--- the first fault [own]
+-- At most one call failed or was a write that accepted nothing, and at most 1,000 writes were interrupted. This is so
+-- if writing stops at the first fault [own]
 pub record IsWrittenWithin (c : WriteCounts) : Type 0 where
   pub faults : c.failed + c.zeros ≤ 1
   pub interrupted : c.interrupted ≤ INTERRUPTIONS_MAX + 1
 
--- What contracts see of a `Source`; `remaining` is `None` if they do not know its bytes [own]
+-- What contracts see of a `Source`. `remaining` are the bytes that it has still to return, or `None` if contracts do
+-- not know them [own]
 pub record Reader : Type 0 where
   pub remaining : Option (List ℕ)
   pub counts : ReadCounts
 
--- What contracts see of a `Sink`; `taken` is `None` if they do not know the accepted bytes [own]
+-- What contracts see of a `Sink`. `taken` are the bytes that it has accepted, or `None` if contracts do not know them
+-- [own]
 pub record Writer : Type 0 where
   pub taken : Option (List ℕ)
   pub counts : WriteCounts

@@ -13,14 +13,16 @@ bytes_left t = drop t.position t.bytes.items
 abbrev pub bytes_held : Trial → List ℕ
 bytes_held t = t.bytes.items
 
--- What read or write number `call` returns with the faults `m`, if at most `there` bytes can be moved. It is an
--- interruption if `call` is below `interruptions`, and otherwise a failure if `call` is at least `fails_from`. In all
--- other cases as many bytes are moved as `there` and `at_most` allow; an `at_most` of 0 counts as 1 [own]
+-- What the read or write with the number `call`, counted from 0, returns with the faults `m` if at most `there` bytes
+-- can be moved. It is an interruption if `call` is below `interruptions`, and otherwise a failure if `call` is at least
+-- `fails_from`. In all other cases as many bytes are moved as `there` and `at_most` allow. An `at_most` of 0 counts as
+-- 1 [own]
 abbrev pub moved : Faults → ℕ → ℕ → Result ℕ Trouble
 moved m call there =
     if nat_lt call m.interruptions then Err Interrupted else
     (if nat_le m.fails_from call then Err Failed else Ok (min there (max m.at_most 1)))
 
--- How many bytes the device still has room for: none from write or flush number `stops_from` on [own]
+-- How many bytes the device still has room for. From the write or flush with the number `stops_from` on, counted from
+-- 0, it has room for none [own]
 abbrev pub free_of : Trial → ℕ
 free_of t = if nat_lt t.writes.calls t.faults.stops_from then t.room - length t.bytes.items else 0

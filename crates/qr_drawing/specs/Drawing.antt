@@ -13,8 +13,8 @@ use Rattle.qr_drawing.specs.declared.text.TextStyle.TheVariants.{Plain, Inverse,
 abbrev pub HaveOneSide : List Grid → Type 0
 HaveOneSide squares = All (λ g. g.side ≡ (square_at squares 0).side) squares
 
--- The texts of the symbols one after the other, or one SVG document, with a light margin of `margin` modules around
--- each symbol [own]
+-- The drawing of the squares, with a light margin of `margin` modules around each. It is one text after the other, or
+-- one SVG document for all squares [own]
 abbrev pub drawn : Drawing → ℕ → List Grid → List ℕ
 drawn Ascii margin squares = flat_map (text_drawing Plain margin) squares
 drawn AsciiInverse margin squares = flat_map (text_drawing Inverse margin) squares

@@ -6,7 +6,7 @@ use Rattle.std.specs.List.{prefix_len, range_with_len}
 use Rattle.qr_matrix.specs.Grid.{Grid, light}
 use Rattle.qr_drawing.specs.Raster.{is_dark_at, raster_width, texts_below}
 
--- A piece of the document that ends with a number, in decimal digits [own]
+-- The characters `text`, followed by the decimal digits of `number` [own]
 unfoldable pub numbered : List ℕ → ℕ → List ℕ
 numbered text number = text ++ decimal number
 
@@ -15,7 +15,7 @@ numbered text number = text ++ decimal number
 unfoldable pub begins_run : ℕ → Grid → ℕ → ℕ → Bool
 begins_run margin g y x = is_dark_at margin g y x && (x == 0 || not (is_dark_at margin g y (x - 1)))
 
--- The number of dark modules side by side in row `y` from column `x` on [own]
+-- How many neighbouring modules of row `y` are dark from column `x` on [own]
 unfoldable pub run_length : ℕ → Grid → ℕ → ℕ → ℕ
 run_length margin g y x = prefix_len (is_dark_at margin g y) (range_with_len x (raster_width margin g - x))
 
@@ -31,11 +31,11 @@ unfoldable pub run_path : ℕ → ℕ → Grid → ℕ → ℕ → List ℕ
 run_path top margin g y x =
     if begins_run margin g y x then box_path x (top + y) (run_length margin g y x) else []
 
--- The boxes of row `y`, from left to right [own]
+-- The boxes of the runs of row `y`, from left to right [own]
 unfoldable pub row_path : ℕ → ℕ → Grid → ℕ → List ℕ
 row_path top margin g y = texts_below (raster_width margin g) (run_path top margin g y)
 
--- The boxes of a raster, row by row [own]
+-- The boxes of all runs of a raster, row by row from the top [own]
 unfoldable pub symbol_path : ℕ → ℕ → Grid → List ℕ
 symbol_path top margin g = texts_below (raster_width margin g) (row_path top margin g)
 
@@ -43,8 +43,8 @@ symbol_path top margin g = texts_below (raster_width margin g) (row_path top mar
 abbrev pub square_at : List Grid → ℕ → Grid
 square_at squares k = slice_index_or squares k (light 0)
 
--- The boxes of all symbols. All rasters are equally high, so above the raster with the index `k` the document has `k`
--- times as many rows as a raster has [own]
+-- The boxes of all symbols, whose rasters are below one another. All rasters are equally high. So above the raster with
+-- the index `k`, counted from 0, the document has `k` times as many rows as a raster has [own]
 unfoldable pub stack_path : ℕ → List Grid → List ℕ
 stack_path margin squares =
     texts_below (length squares) (λ k. symbol_path (k * raster_width margin (square_at squares k)) margin (square_at squares k))
@@ -73,7 +73,8 @@ foreground margin squares = codes "<path fill=\"#000000\" d=\"" ++ stack_path ma
 unfoldable pub closing : List ℕ
 closing = codes "</svg>\n"
 
--- The document of symbols of equal size, as wide as the raster of the first, and as high as all rasters together [own]
+-- The SVG document of symbols of equal size, one below the other. It is as wide as one raster, and as high as all
+-- rasters together [own]
 unfoldable pub svg_document : ℕ → List Grid → List ℕ
 svg_document margin squares =
     let width = raster_width margin (square_at squares 0) in

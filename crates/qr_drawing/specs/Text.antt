@@ -5,19 +5,19 @@ use Rattle.qr_drawing.specs.Raster.{is_dark_at, raster_width, texts_below}
 use Rattle.qr_drawing.specs.declared.text.TextStyle.{TextStyle}
 use Rattle.qr_drawing.specs.declared.text.TextStyle.TheVariants.{Plain, Inverse, HalfBlocks}
 
--- Two `#` for a dark module, and two spaces for a light one [own]
+-- The characters of a module: two `#` if it is dark, and two spaces if it is light [own]
 abbrev pub ascii_module : Bool → List ℕ
 ascii_module dark = if dark then 35 ∷ 35 ∷ [] else 32 ∷ 32 ∷ []
 
--- The character in UTF-8 for two modules, one above the other: the space, U+2584, U+2580 or U+2588, whose filled parts
--- are light modules [own]
+-- The character in UTF-8 for the two modules `upper` and `lower`, of which `upper` is above. It is the space, U+2584,
+-- U+2580 or U+2588. The filled parts of these characters are light modules [own]
 abbrev pub half_blocks : Bool → Bool → List ℕ
 half_blocks upper lower =
     if upper then (if lower then 32 ∷ [] else 0xE2 ∷ 0x96 ∷ 0x84 ∷ [])
     else (if lower then 0xE2 ∷ 0x96 ∷ 0x80 ∷ [] else 0xE2 ∷ 0x96 ∷ 0x88 ∷ [])
 
--- The cell with the index `x` in line `y`; in the style `HalfBlocks` it may show a module below the raster, which is
--- light [own]
+-- The cell with the index `x` in line `y`, both counted from 0. In the style `HalfBlocks` it may show a module below
+-- the raster, which is light [own]
 abbrev pub cell_of : TextStyle → ℕ → Grid → ℕ → ℕ → List ℕ
 cell_of Plain margin g y x = ascii_module (is_dark_at margin g y x)
 cell_of Inverse margin g y x = ascii_module (not (is_dark_at margin g y x))
@@ -34,7 +34,7 @@ line_count HalfBlocks rows = (rows + 1) / 2
 abbrev pub cells_of_line : TextStyle → ℕ → Grid → ℕ → List ℕ
 cells_of_line style margin g y = texts_below (raster_width margin g) (cell_of style margin g y)
 
--- All lines from top to bottom, each with a newline at its end [own]
+-- All lines of the drawing from top to bottom, each with a newline at its end [own]
 abbrev pub text_drawing : TextStyle → ℕ → Grid → List ℕ
 text_drawing style margin g =
     texts_below (line_count style (raster_width margin g)) (λ y. cells_of_line style margin g y ++ 10 ∷ [])

@@ -8,7 +8,7 @@ use Rattle.qr_field.specs.Polynomial.{IsCorrection}
 abbrev pub difference : ℕ → ℕ → ℕ
 difference x y = if x == y then 0 else 1
 
--- The number of indices at which the lists differ. Each index that only the longer list has is counted too [own]
+-- The number of indices at which the two lists differ. Each index that only the longer list has is counted too [own]
 abbrev pub differences : List ℕ → List ℕ → ℕ
 differences [] ys = length ys
 differences (x ∷ xs) [] = length (x ∷ xs)

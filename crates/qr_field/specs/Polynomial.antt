@@ -5,26 +5,27 @@ use Rattle.std.specs.List.{All}
 use lib.ListN.{replicate}
 use Rattle.qr_field.specs.Galois.{product}
 
--- An element of the field (ISO/IEC 18004:2015, 7.5.2)
+-- `a` is an element of the field, which is a number below 256 (ISO/IEC 18004:2015, 7.5.2)
 abbrev pub IsByte : ℕ → Type 0
 IsByte a = a < 256
 
--- The sums of the coefficients with equal indices, as if zeros followed the shorter list [own]
+-- The sums of the coefficients of the two lists at equal indices. If one list is shorter, it is taken as if zeros
+-- followed it [own]
 abbrev pub plus : List ℕ → List ℕ → List ℕ
 plus [] ys = ys
 plus (x ∷ xs) [] = x ∷ xs
 plus (x ∷ xs) (y ∷ ys) = bit_xor x y ∷ plus xs ys
 
--- The polynomial 0 with k coefficients [own]
+-- The polynomial 0, written with k coefficients [own]
 abbrev pub zeros : ℕ → List ℕ
 zeros k = replicate k 0
 
--- The product of a polynomial and the element a (ISO/IEC 18004:2015, 7.5.2)
+-- The product of the polynomial `p` and the element `a` of the field (ISO/IEC 18004:2015, 7.5.2)
 abbrev pub scaled : ℕ → List ℕ → List ℕ
 scaled a p = map (product a) p
 
--- The product of two polynomials. If they have m and n + 1 coefficients, the product has m + n (ISO/IEC 18004:2015,
--- 7.5.2)
+-- The product of the polynomials of the two lists. If they have m and n + 1 coefficients, the product has m + n
+-- (ISO/IEC 18004:2015, 7.5.2)
 abbrev pub times : List ℕ → List ℕ → List ℕ
 times [] g = zeros (length g - 1)
 times (a ∷ q) g = plus (scaled a g) (0 ∷ times q g)

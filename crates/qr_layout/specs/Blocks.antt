@@ -21,16 +21,17 @@ block_table M = 1 ∷ 1 ∷ 1 ∷ 2 ∷ 2 ∷ 4 ∷ 4 ∷ 4 ∷ 5 ∷ 5 ∷ 5 �
 block_table Q = 1 ∷ 1 ∷ 2 ∷ 2 ∷ 4 ∷ 4 ∷ 6 ∷ 6 ∷ 8 ∷ 8 ∷ 8 ∷ 10 ∷ 12 ∷ 16 ∷ 12 ∷ 17 ∷ 16 ∷ 18 ∷ 21 ∷ 20 ∷ 23 ∷ 23 ∷ 25 ∷ 27 ∷ 29 ∷ 34 ∷ 34 ∷ 35 ∷ 38 ∷ 40 ∷ 43 ∷ 45 ∷ 48 ∷ 51 ∷ 53 ∷ 56 ∷ 59 ∷ 62 ∷ 65 ∷ 68 ∷ []
 block_table H = 1 ∷ 1 ∷ 2 ∷ 4 ∷ 4 ∷ 4 ∷ 5 ∷ 6 ∷ 8 ∷ 8 ∷ 11 ∷ 11 ∷ 16 ∷ 16 ∷ 18 ∷ 16 ∷ 19 ∷ 21 ∷ 25 ∷ 25 ∷ 25 ∷ 34 ∷ 30 ∷ 32 ∷ 35 ∷ 37 ∷ 40 ∷ 42 ∷ 45 ∷ 48 ∷ 51 ∷ 54 ∷ 57 ∷ 60 ∷ 63 ∷ 66 ∷ 70 ∷ 74 ∷ 77 ∷ 81 ∷ []
 
--- The number of error correction codewords in a block. All blocks of a symbol have equally many (ISO/IEC 18004:2015,
--- 7.5.1, Table 9)
+-- The number of error correction codewords in a block of version `v` at level `l`. All blocks of a symbol have equally
+-- many (ISO/IEC 18004:2015, 7.5.1, Table 9)
 unfoldable pub correction_len_of : ℕ → Level → ℕ
 correction_len_of v l = slice_index_or (correction_table l) (v - 1) 0
 
--- The number of blocks, short and long together (ISO/IEC 18004:2015, 7.5.1, Table 9)
+-- The number of blocks of version `v` at level `l`, short and long together (ISO/IEC 18004:2015, 7.5.1, Table 9)
 unfoldable pub block_count_of : ℕ → Level → ℕ
 block_count_of v l = slice_index_or (block_table l) (v - 1) 0
 
--- The number of data codewords: all that are not error correction codewords (ISO/IEC 18004:2015, 7.4.10, Table 7)
+-- The number of data codewords of version `v` at level `l`: all codewords that are not error correction codewords
+-- (ISO/IEC 18004:2015, 7.4.10, Table 7)
 unfoldable pub data_codewords_of : ℕ → Level → ℕ
 data_codewords_of v l = total_codewords_of v - block_count_of v l * correction_len_of v l
 
@@ -38,8 +39,8 @@ data_codewords_of v l = total_codewords_of v - block_count_of v l * correction_l
 abbrev pub capacity_of : ℕ → Level → ℕ
 capacity_of v l = 8 * data_codewords_of v l
 
--- The data codewords are divided evenly among the blocks. If some remain, each of the last blocks has one of them:
--- these are the long blocks (ISO/IEC 18004:2015, 7.5.1, Table 9)
+-- The block sizes of version `v` at level `l`. The data codewords are divided evenly among the blocks. If some are left
+-- over, each of the last blocks has one of them: these are the long blocks (ISO/IEC 18004:2015, 7.5.1, Table 9)
 abbrev pub blocks_of : ℕ → Level → Blocks
 blocks_of v l = record {
   short = block_count_of v l - data_codewords_of v l % block_count_of v l;
@@ -60,11 +61,12 @@ protection_of v H = if v == 1 then 1 else 0
 abbrev pub spare_of : ℕ → Level → ℕ
 spare_of v l = (blocks_of v l).ec_len - protection_of v l
 
--- How many misread codewords can be corrected in a block without erased ones (ISO/IEC 18004:2015, 7.5.1, Table 9)
+-- How many misread codewords can be corrected in a block if none of its codewords is erased (ISO/IEC 18004:2015, 7.5.1,
+-- Table 9)
 abbrev pub correctable_of : ℕ → Level → ℕ
 correctable_of v l = spare_of v l / 2
 
--- The number of codewords of a long block, or of a short one if there is no long block (ISO/IEC 18004:2015, 7.5.1,
+-- The number of all codewords of a long block, or of a short one if there is no long block (ISO/IEC 18004:2015, 7.5.1,
 -- Table 9)
 abbrev pub longest_of : Blocks → ℕ
 longest_of b = b.short_len + min b.long 1 + b.ec_len
@@ -78,9 +80,9 @@ damage_of M = 17
 damage_of Q = 23
 damage_of H = 30
 
--- Blocks of the sizes `b` together have all data and error correction codewords of the symbol. At least one block is
--- short, and each has at least one data codeword and from 1 to 30 error correction codewords (ISO/IEC 18004:2015,
--- 7.5.1)
+-- Blocks of the sizes `b` have together as many data codewords, and as many error correction codewords, as the symbol.
+-- At least one block is short. Each block has at least one data codeword and from 1 to 30 error correction codewords
+-- (ISO/IEC 18004:2015, 7.5.1)
 pub record AreWhole (v : ℕ) (l : Level) (b : Blocks) : Type 0 where
   pub some : 1 ≤ b.short
   pub some_len : 1 ≤ b.short_len

@@ -25,24 +25,24 @@ unfoldable pub word_remainder : ℕ → ℕ → ℕ → ℕ → ℕ
 word_remainder n divisor zero x = x
 word_remainder n divisor (suc k) x = word_remainder n divisor k (bit_xor x (bit_at x (n + k) * (divisor * 2 ^ k)))
 
--- The `k` bits of `x`, and after them `n` more bits: the remainder of `x`, with `n` zeros after it, in a division by a
--- generator polynomial of degree `n` (ISO/IEC 18004:2015, Annexes C and D)
+-- The `k` bits of `x`, and after them `n` more bits. These are the remainder that division by a generator polynomial of
+-- degree `n` leaves of `x` with `n` zeros after it (ISO/IEC 18004:2015, Annexes C and D)
 abbrev pub with_remainder : ℕ → ℕ → ℕ → ℕ → ℕ
 with_remainder n generator k x = x * 2 ^ n + word_remainder n generator k (x * 2 ^ n)
 
--- The two bits of the level in the format information (ISO/IEC 18004:2015, 7.9.1)
+-- The two bits of the level in the format information, as a number (ISO/IEC 18004:2015, 7.9.1)
 abbrev pub level_bits : Level → ℕ
 level_bits L = 1
 level_bits M = 0
 level_bits Q = 3
 level_bits H = 2
 
--- The two bits of the level, then the three bits of the mask (ISO/IEC 18004:2015, 7.9.1)
+-- The two bits of the level, then the three bits of the mask, as one number (ISO/IEC 18004:2015, 7.9.1)
 abbrev pub five_bits : Level → ℕ → ℕ
 five_bits level mask = 8 * level_bits level + mask
 
--- The 15 bits of format information: `five`, then the ten bits of their remainder, all combined with 101010000010010 by
--- exclusive or (ISO/IEC 18004:2015, 7.9.1 and Annex C)
+-- The 15 bits of format information whose first five bits are `five`. The ten bits of their remainder come after them,
+-- and all 15 are combined with 101010000010010 by exclusive or (ISO/IEC 18004:2015, 7.9.1 and Annex C)
 abbrev pub format_with : ℕ → ℕ
 format_with five = bit_xor (with_remainder 10 format_generator 5 five) 0x5412
 
@@ -50,7 +50,8 @@ format_with five = bit_xor (with_remainder 10 format_generator 5 five) 0x5412
 unfoldable pub format_word_of : Level → ℕ → ℕ
 format_word_of level mask = format_with (five_bits level mask)
 
--- The six bits of the version, then the twelve bits of their remainder (ISO/IEC 18004:2015, 7.10 and Annex D)
+-- The version information: the six bits of the version, then the twelve bits of their remainder (ISO/IEC 18004:2015,
+-- 7.10 and Annex D)
 unfoldable pub version_word_of : ℕ → ℕ
 version_word_of v = with_remainder 12 version_generator 6 v
 
@@ -67,54 +68,57 @@ pub record IsWordRemainder (n divisor x r : ℕ) : Type 0 where
   pub shifts : List ℕ
   pub multiple : bit_xor x r ≡ sum_of_shifts divisor shifts
 
--- As `format_with`, but with a remainder by `IsWordRemainder` (ISO/IEC 18004:2015, Annex C)
+-- `word` is the format information whose first five bits are `five`. The ten bits of their remainder, which
+-- `IsWordRemainder` describes, come after them, and all 15 are combined with 101010000010010 by exclusive or (ISO/IEC
+-- 18004:2015, Annex C)
 pub record IsFormatWord (five word : ℕ) : Type 0 where
   pub rest : ℕ
   pub remainder : IsWordRemainder 10 format_generator (five * 2 ^ 10) rest
   pub word_is : word ≡ bit_xor (five * 2 ^ 10 + rest) 0x5412
 
--- As `version_word_of`, but with a remainder by `IsWordRemainder` (ISO/IEC 18004:2015, Annex D)
+-- `word` is the version information of version `v`: the six bits of the version, then the twelve bits of their
+-- remainder, which `IsWordRemainder` describes (ISO/IEC 18004:2015, Annex D)
 pub record IsVersionWord (v word : ℕ) : Type 0 where
   pub rest : ℕ
   pub remainder : IsWordRemainder 12 version_generator (v * 2 ^ 12) rest
   pub word_is : word ≡ v * 2 ^ 12 + rest
 
--- The place of bit `i` of the format information in the first copy, beside the top left finder pattern (ISO/IEC
--- 18004:2015, 7.9.1)
+-- The place of bit `i` of the format information in the first copy, which is beside the top left finder pattern. Bit 0
+-- is the lowest (ISO/IEC 18004:2015, 7.9.1)
 abbrev pub first_place : ℕ → Place
 first_place i = record {
   row = if nat_lt i 6 then i else (if i == 6 then 7 else 8);
   col = if nat_lt i 8 then 8 else (if i == 8 then 7 else 14 - i);
 }
 
--- The place of bit `i` of the format information in the second copy, beside the top right and the bottom left finder
--- pattern (ISO/IEC 18004:2015, 7.9.1)
+-- The place of bit `i` of the format information in the second copy, which is beside the top right and the bottom left
+-- finder pattern. Bit 0 is the lowest (ISO/IEC 18004:2015, 7.9.1)
 abbrev pub second_place : ℕ → ℕ → Place
 second_place s i = record {
   row = if nat_lt i 8 then 8 else s - 15 + i;
   col = if nat_lt i 8 then s - 1 - i else 8;
 }
 
--- The place of bit `i` of the version information in the copy beside the top right finder pattern. In the copy beside
--- the bottom left one, rows and columns are exchanged (ISO/IEC 18004:2015, 7.10)
+-- The place of bit `i` of the version information in the copy beside the top right finder pattern. Bit 0 is the lowest.
+-- In the copy beside the bottom left finder pattern, rows and columns are exchanged (ISO/IEC 18004:2015, 7.10)
 abbrev pub version_place : ℕ → ℕ → Place
 version_place s i = record { row = i / 3; col = s - 11 + i % 3 }
 
--- Row and column exchanged [own]
+-- The place whose row is the column of `m`, and whose column is the row of `m` [own]
 abbrev pub mirror_of : Place → Place
 mirror_of m = record { row = m.col; col = m.row }
 
--- The place `m` is row `r` and column `c` [own]
+-- The place `m` is in row `r` and column `c` [own]
 abbrev pub is_at : Place → ℕ → ℕ → Bool
 is_at m r c = m.row == r && m.col == c
 
--- The bit of the format information that the module in row `r` and column `c` contains, if any (ISO/IEC 18004:2015,
--- 7.9.1)
+-- Which bit of the format information the module in row `r` and column `c` contains, counted from the lowest, or `None`
+-- if it contains none (ISO/IEC 18004:2015, 7.9.1)
 unfoldable pub format_bit_at : ℕ → ℕ → ℕ → Option ℕ
 format_bit_at s r c = find (λ i. is_at (first_place i) r c || is_at (second_place s i) r c) (range_with_len 0 15)
 
--- The bit of the version information that the module in row `r` and column `c` contains, if any. Symbols have version
--- information from version 7 on (ISO/IEC 18004:2015, 7.10)
+-- Which bit of the version information the module in row `r` and column `c` contains, counted from the lowest. It is
+-- `None` if there is none, as in versions below 7 (ISO/IEC 18004:2015, 7.10)
 unfoldable pub version_bit_at : ℕ → ℕ → ℕ → Option ℕ
 version_bit_at v r c =
     if nat_lt v 7 then None else

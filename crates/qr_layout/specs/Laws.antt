@@ -21,7 +21,8 @@ printed_data M = 16 ∷ 28 ∷ 44 ∷ 64 ∷ 86 ∷ 108 ∷ 124 ∷ 154 ∷ 182 
 printed_data Q = 13 ∷ 22 ∷ 34 ∷ 48 ∷ 62 ∷ 76 ∷ 88 ∷ 110 ∷ 132 ∷ 154 ∷ 180 ∷ 206 ∷ 244 ∷ 261 ∷ 295 ∷ 325 ∷ 367 ∷ 397 ∷ 445 ∷ 485 ∷ 512 ∷ 568 ∷ 614 ∷ 664 ∷ 718 ∷ 754 ∷ 808 ∷ 871 ∷ 911 ∷ 985 ∷ 1033 ∷ 1115 ∷ 1171 ∷ 1231 ∷ 1286 ∷ 1354 ∷ 1426 ∷ 1502 ∷ 1582 ∷ 1666 ∷ []
 printed_data H = 9 ∷ 16 ∷ 26 ∷ 36 ∷ 46 ∷ 60 ∷ 66 ∷ 86 ∷ 100 ∷ 122 ∷ 140 ∷ 158 ∷ 180 ∷ 197 ∷ 223 ∷ 253 ∷ 283 ∷ 313 ∷ 341 ∷ 385 ∷ 406 ∷ 442 ∷ 464 ∷ 514 ∷ 538 ∷ 596 ∷ 628 ∷ 661 ∷ 701 ∷ 745 ∷ 793 ∷ 845 ∷ 901 ∷ 961 ∷ 986 ∷ 1054 ∷ 1096 ∷ 1142 ∷ 1222 ∷ 1276 ∷ []
 
--- How many misread codewords of a block can be corrected, for the versions 1 to 40 (ISO/IEC 18004:2015, 7.5.1, Table 9)
+-- How many misread codewords of a block can be corrected, as the standard prints it for the versions 1 to 40 (ISO/IEC
+-- 18004:2015, 7.5.1, Table 9)
 abbrev pub printed_errors : Level → List ℕ
 printed_errors L = 2 ∷ 4 ∷ 7 ∷ 10 ∷ 13 ∷ 9 ∷ 10 ∷ 12 ∷ 15 ∷ 9 ∷ 10 ∷ 12 ∷ 13 ∷ 15 ∷ 11 ∷ 12 ∷ 14 ∷ 15 ∷ 14 ∷ 14 ∷ 14 ∷ 14 ∷ 15 ∷ 15 ∷ 13 ∷ 14 ∷ 15 ∷ 15 ∷ 15 ∷ 15 ∷ 15 ∷ 15 ∷ 15 ∷ 15 ∷ 15 ∷ 15 ∷ 15 ∷ 15 ∷ 15 ∷ 15 ∷ []
 printed_errors M = 4 ∷ 8 ∷ 13 ∷ 9 ∷ 12 ∷ 8 ∷ 9 ∷ 11 ∷ 11 ∷ 13 ∷ 15 ∷ 11 ∷ 11 ∷ 12 ∷ 12 ∷ 14 ∷ 14 ∷ 13 ∷ 13 ∷ 13 ∷ 13 ∷ 14 ∷ 14 ∷ 14 ∷ 14 ∷ 14 ∷ 14 ∷ 14 ∷ 14 ∷ 14 ∷ 14 ∷ 14 ∷ 14 ∷ 14 ∷ 14 ∷ 14 ∷ 14 ∷ 14 ∷ 14 ∷ 14 ∷ []
@@ -44,8 +45,8 @@ gap_between v k = if v == 32 then 26 else 2 * ((side_of v - 13 + 2 * (k - 1) - 1
 abbrev pub spaced_centres : ℕ → List ℕ
 spaced_centres v = 6 ∷ map (λ i. side_of v - 7 - gap_between v (v / 7 + 2) * (v / 7 - i)) (range_with_len 0 (v / 7 + 1))
 
--- How many modules of alignment patterns are outside the timing patterns, with `k` rows of centres: 25 for each
--- pattern, or 20 if it lies across a timing pattern (ISO/IEC 18004:2015, 6.3.5, 6.3.6)
+-- How many modules of alignment patterns are outside the timing patterns, if there are `k` rows of centres. A pattern
+-- has 25 of them, or 20 if it lies across a timing pattern (ISO/IEC 18004:2015, 6.3.5, 6.3.6)
 abbrev pub alignment_size : ℕ → ℕ
 alignment_size k = if nat_lt k 2 then 0 else 25 * (k ^ 2 - 3) - 10 * (k - 2)
 
@@ -53,14 +54,14 @@ alignment_size k = if nat_lt k 2 then 0 else 25 * (k ^ 2 - 3) - 10 * (k - 2)
 abbrev pub version_size : ℕ → ℕ
 version_size v = if nat_lt v 7 then 0 else 36
 
--- How many modules are outside the three corners (of 81, 72 and 72 modules), the timing patterns between them, the
--- alignment patterns and the version information (ISO/IEC 18004:2015, 6.3.7, 7.7.3)
+-- How many modules the encoding region has. Outside it are the three corners (of 81, 72 and 72 modules), the timing
+-- patterns between them, the alignment patterns and the version information (ISO/IEC 18004:2015, 6.3.7, 7.7.3)
 abbrev pub region_size : ℕ → ℕ
 region_size v =
     side_of v ^ 2 - 225 - 2 * (side_of v - 17) - alignment_size (length (centres_of v)) - version_size v
 
--- The role of a module that is dark in every symbol of its version, and that of a module that is light in all of them
--- [own]
+-- The role of a module that is dark in every symbol of its version, and then the role of a module that is light in all
+-- of them [own]
 abbrev always_dark : Role
 always_dark = Fixed true
 

@@ -6,8 +6,8 @@ use Rattle.qr_layout.specs.declared.rectangles.Rectangle.{Rectangle}
 use Rattle.qr_layout.specs.Region.{is_corner, is_timing, is_version_information}
 use Rattle.qr_layout.specs.Version.{side_of}
 
--- The place in row `r` and column `c` is in the rectangle `b`. Row `bottom` and column `right` are the first after it
--- [own]
+-- The place in row `r` and column `c` is in the rectangle `b`. The row `bottom` and the column `right` are the first
+-- ones outside it [own]
 abbrev pub is_in_rectangle : ℕ → ℕ → Rectangle → Bool
 is_in_rectangle r c b = nat_le b.top r && nat_lt r b.bottom && nat_le b.left c && nat_lt c b.right
 

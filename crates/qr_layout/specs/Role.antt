@@ -9,18 +9,18 @@ use Rattle.qr_layout.specs.Format.{format_bit_at, version_bit_at}
 use Rattle.qr_layout.specs.Alignment.{centres_of, alignment_places}
 use Rattle.qr_layout.specs.Region.{is_alignment, ring_of}
 
--- The number of the place's ring around the nearest centre of a finder pattern. The rings 0, 1 and 3 are dark, ring 2
--- is light, and ring 4 is the separator (ISO/IEC 18004:2015, 6.3.3)
+-- The number of the square ring around the nearest centre of a finder pattern that contains the place, where the centre
+-- is ring 0. The rings 0, 1 and 3 are dark, ring 2 is light, and ring 4 is the separator (ISO/IEC 18004:2015, 6.3.3)
 abbrev pub finder_ring : ℕ → ℕ → ℕ → ℕ
 finder_ring s r c = min (ring_of 3 3 r c) (min (ring_of 3 (s - 4) r c) (ring_of (s - 4) 3 r c))
 
--- The place is in ring 1 around the centre of an alignment pattern. This ring is light, while the centre and ring 2 are
--- dark (ISO/IEC 18004:2015, 6.3.6)
+-- The place is one of the eight around the centre of an alignment pattern. These are light, while the centre and the
+-- outer ring are dark (ISO/IEC 18004:2015, 6.3.6)
 unfoldable pub is_alignment_light : ℕ → ℕ → ℕ → Bool
 is_alignment_light v r c = list_any (λ m. ring_of m.row m.col r c == 1) (alignment_places (side_of v) (centres_of v))
 
--- The colour of a module of a finder pattern, separator, timing pattern or alignment pattern; timing patterns are dark
--- at even indices (ISO/IEC 18004:2015, 6.3.3 to 6.3.6)
+-- The colour of a module of a finder pattern, separator, timing pattern (dark at even indices) or alignment pattern,
+-- and otherwise `None` (ISO/IEC 18004:2015, 6.3.3 to 6.3.6)
 unfoldable pub pattern_colour : ℕ → ℕ → ℕ → Option Bool
 pattern_colour v r c =
     if nat_lt (finder_ring (side_of v) r c) 4 then Some (not (finder_ring (side_of v) r c == 2)) else
@@ -33,8 +33,9 @@ pattern_colour v r c =
 abbrev pub is_dark_module : ℕ → ℕ → ℕ → Bool
 is_dark_module s r c = r == s - 8 && c == 8
 
--- What the module contains: a fixed colour, or a bit of the format or version information; in the encoding region, a
--- bit of a codeword or a remainder bit (ISO/IEC 18004:2015, 6.3 and 7.7.2)
+-- What the module in row `r` and column `c` contains. Outside the encoding region this is a fixed colour, or a bit of
+-- the format or version information. In the region it is a bit of a codeword or a remainder bit (ISO/IEC 18004:2015,
+-- 6.3 and 7.7.2)
 unfoldable pub role_of : ℕ → ℕ → ℕ → Role
 role_of v r c =
     option_map_or Fixed (pattern_colour v r c)

@@ -16,12 +16,13 @@ abbrev pub remainder_table : List ℕ
 remainder_table =
     0 ∷ 7 ∷ 7 ∷ 7 ∷ 7 ∷ 7 ∷ 0 ∷ 0 ∷ 0 ∷ 0 ∷ 0 ∷ 0 ∷ 0 ∷ 3 ∷ 3 ∷ 3 ∷ 3 ∷ 3 ∷ 3 ∷ 3 ∷ 4 ∷ 4 ∷ 4 ∷ 4 ∷ 4 ∷ 4 ∷ 4 ∷ 3 ∷ 3 ∷ 3 ∷ 3 ∷ 3 ∷ 3 ∷ 3 ∷ 0 ∷ 0 ∷ 0 ∷ 0 ∷ 0 ∷ 0 ∷ []
 
--- The number of codewords, data and error correction codewords together (ISO/IEC 18004:2015, 7.1, Table 1)
+-- The number of codewords of version `v`, data and error correction codewords together (ISO/IEC 18004:2015, 7.1, Table
+-- 1)
 unfoldable pub total_codewords_of : ℕ → ℕ
 total_codewords_of v = slice_index_or total_table (v - 1) 0
 
--- The number of remainder bits, which fill the modules that are left after all codewords (ISO/IEC 18004:2015, 7.1,
--- Table 1)
+-- The number of remainder bits of version `v`. They fill the modules that are left after all codewords (ISO/IEC
+-- 18004:2015, 7.1, Table 1)
 unfoldable pub remainder_bits_of : ℕ → ℕ
 remainder_bits_of v = slice_index_or remainder_table (v - 1) 0
 

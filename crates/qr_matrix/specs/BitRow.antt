@@ -7,14 +7,15 @@ use Rattle.std.specs.Int.{bit_at}
 unfoldable pub bit_row_number : List ℕ → ℕ
 bit_row_number words = (slice_index words 2 * 2 ^ 64 + slice_index words 1) * 2 ^ 64 + slice_index words 0
 
--- Bit `c` of the number `n` is 1 [own]
+-- Bit `c` of the number `n` is 1, where bit 0 is the lowest [own]
 unfoldable pub has_bit : ℕ → ℕ → Bool
 has_bit n c = bit_at n c == 1
 
--- Bit `c` of a bit row is 1 [own]
+-- Bit `c` of a bit row is 1, where bit 0 is the lowest bit of the first word [own]
 unfoldable pub has : List ℕ → ℕ → Bool
 has words c = has_bit (bit_row_number words) c
 
--- The module in row `r` and column `c` is dark; below the last row every module is light [own]
+-- The module in row `r` and column `c` is dark, if `rows` are the bit rows of a square. Below the last row every module
+-- is light [own]
 unfoldable pub dark_in : List (List ℕ) → ℕ → ℕ → Bool
 dark_in rows r c = has (slice_index_or rows r []) c

@@ -6,10 +6,12 @@ use Rattle.qr_matrix.specs.Grid.{Grid, square}
 abbrev pub byte_of : Bool → ℕ
 byte_of dark = if dark then 1 else 0
 
--- The square that `bytes` begin with, row by row; every byte but 0 is a dark module [own]
+-- The square of `side` rows whose modules `bytes` begin with, row by row. A byte is 0 for a light module, and any other
+-- byte is a dark one [own]
 abbrev pub square_of_bytes : ℕ → List ℕ → Grid
 square_of_bytes side bytes = square side (λ row col. not (slice_index_or bytes (row * side + col) 0 == 0))
 
--- The square in which a module is dark exactly if its byte is 2, which means that it is not known [own]
+-- A square of `side` rows that shows which modules are not known. A module is dark exactly if its byte is 2, where
+-- `bytes` lists the modules row by row [own]
 abbrev pub square_of_unknown : ℕ → List ℕ → Grid
 square_of_unknown side bytes = square side (λ row col. slice_index_or bytes (row * side + col) 0 == 2)

@@ -5,8 +5,8 @@ use Rattle.std.specs.Int.{abs_diff}
 use Rattle.qr_matrix.specs.Grid.{is_same}
 use Rattle.qr_matrix.specs.Sums.{sum_below, count_below, all_below, places_passing}
 
--- The `k` modules from `a` on are a run: they have one colour, and neither the module before them nor the one after
--- them has it (ISO/IEC 18004:2015, 7.8.3, adjacent modules of the same colour)
+-- The `k` modules of `line` from module `a` on are a run: they have one colour, and neither the module before them nor
+-- the one after them has it (ISO/IEC 18004:2015, 7.8.3, adjacent modules of the same colour)
 unfoldable pub is_run : ℕ → (ℕ → Bool) → ℕ → ℕ → Bool
 is_run s line a k =
     nat_le (a + k) s
@@ -14,17 +14,18 @@ is_run s line a k =
     && (a == 0 || not (is_same (line (a - 1)) (line a)))
     && (a + k == s || not (is_same (line (a + k)) (line a)))
 
--- The points for runs: `k - 2` for each run of `k` modules, if `k` is at least 5 (ISO/IEC 18004:2015, 7.8.3.1, Table
--- 11)
+-- The points for the runs of `line`: `k - 2` for each run of `k` modules, if `k` is at least 5 (ISO/IEC 18004:2015,
+-- 7.8.3.1, Table 11)
 unfoldable pub run_cost : ℕ → (ℕ → Bool) → ℕ
 run_cost s line = sum_below s (λ a. sum_below (s + 1) (λ k. if nat_le 5 k && is_run s line a k then k - 2 else 0))
 
--- From index `c` on, `line` has the colours of the list [own]
+-- From module `c` on, `line` has the colours of the list [own]
 abbrev pub reads : (ℕ → Bool) → ℕ → List Bool → Bool
 reads line c [] = true
 reads line c (b ∷ bs) = is_same (line c) b && reads line (c + 1) bs
 
--- Dark, light, dark, light and dark in the ratio 1:1:3:1:1 (ISO/IEC 18004:2015, 7.8.3.1, Table 11)
+-- The seven modules dark, light, three times dark, light and dark, in the ratio 1:1:3:1:1 (ISO/IEC 18004:2015, 7.8.3.1,
+-- Table 11)
 abbrev pub finder_ratio : List Bool
 finder_ratio = true ∷ false ∷ true ∷ true ∷ true ∷ false ∷ true ∷ []
 
@@ -32,7 +33,8 @@ finder_ratio = true ∷ false ∷ true ∷ true ∷ true ∷ false ∷ true ∷ 
 abbrev pub four_light : List Bool
 four_light = false ∷ false ∷ false ∷ false ∷ []
 
--- A window begins at `c`; its 11 modules are all inside the symbol (ISO/IEC 18004:2015, 7.8.3.1, Table 11)
+-- A window begins at module `c` of `line`: the ratio 1:1:3:1:1, and four light modules before or after it. All of it is
+-- inside the symbol (ISO/IEC 18004:2015, 7.8.3.1, Table 11)
 unfoldable pub is_window : ℕ → (ℕ → Bool) → ℕ → Bool
 is_window s line c =
     nat_le (c + 11) s && (reads line c (finder_ratio ++ four_light) || reads line c (four_light ++ finder_ratio))
@@ -41,8 +43,8 @@ is_window s line c =
 unfoldable pub window_count : ℕ → (ℕ → Bool) → ℕ
 window_count s line = count_below s (is_window s line)
 
--- Two by two modules of one colour, with the top left one in row `r` and column `c` (ISO/IEC 18004:2015, 7.8.3.1, Table
--- 11, block of modules in same colour)
+-- The two by two modules whose top left one is in row `r` and column `c` have one colour (ISO/IEC 18004:2015, 7.8.3.1,
+-- Table 11, block of modules in same colour)
 unfoldable pub is_square_of_two : ℕ → (ℕ → ℕ → Bool) → ℕ → ℕ → Bool
 is_square_of_two s dark r c =
     nat_lt (r + 1) s && nat_lt (c + 1) s
@@ -52,12 +54,12 @@ is_square_of_two s dark r c =
 unfoldable pub square_count : ℕ → (ℕ → ℕ → Bool) → ℕ
 square_count s dark = places_passing s (is_square_of_two s dark)
 
--- The points for the share of dark modules: 10 for each whole twentieth (5 percent) by which it differs from a half
--- (ISO/IEC 18004:2015, 7.8.3.1, Table 11, proportion of dark modules)
+-- The points for the share of dark modules, if `many` of the `s * s` modules are dark: 10 for each whole twentieth (5
+-- percent) by which this share differs from a half (ISO/IEC 18004:2015, 7.8.3.1, Table 11, proportion of dark modules)
 unfoldable pub dark_cost : ℕ → ℕ → ℕ
 dark_cost s many = 10 * (abs_diff (20 * many) (10 * (s * s)) / (s * s))
 
--- The sum of `f` over all rows and all columns [own]
+-- The sum of the values that `f` has for all rows and all columns [own]
 unfoldable pub over_lines : ℕ → (ℕ → ℕ → Bool) → ((ℕ → Bool) → ℕ) → ℕ
 over_lines s dark f = sum_below s (λ r. f (dark r)) + sum_below s (λ c. f (λ r. dark r c))
 

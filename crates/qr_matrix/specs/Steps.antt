@@ -9,7 +9,7 @@ use Rattle.qr_matrix.specs.Runs.{begins_five, joins, place_cost}
 use Rattle.qr_matrix.specs.BitRow.{has, has_bit}
 use Rattle.qr_matrix.specs.declared.dark_runs.Run.{Run}
 
--- Three words of at most 64 bits
+-- `words` are three words of at most 64 bits, as a bit row has them
 abbrev pub AreWords : List ℕ → Type 0
 AreWords words = (length words ≡ 3) × (slice_index words 0 < 2 ^ 64) × (slice_index words 1 < 2 ^ 64) × (slice_index words 2 < 2 ^ 64)
 
@@ -19,39 +19,41 @@ pub record NeedsWords (side words : ℕ) : Type 0 where
   pub most : side ≤ 64 * words
   pub three : words ≤ 3
 
--- The number of columns of a bit row for which `bit` is true
+-- The number of columns of a bit row, from 0 to 191, for which `bit` is true
 unfoldable pub set_count : (ℕ → Bool) → ℕ
 set_count bit = count_below 192 bit
 
--- The number of bits that are 1
+-- The number of bits of a bit row that are 1
 abbrev pub size_of : List ℕ → ℕ
 size_of words = set_count (has words)
 
--- Two words of at most 64 bits, one for each of two squares
+-- `words` are two words of at most 64 bits, one for each of two squares
 abbrev pub IsPair : List ℕ → Type 0
 IsPair words = (length words ≡ 2) × (slice_index words 0 < 2 ^ 64) × (slice_index words 1 < 2 ^ 64)
 
--- The word of the second square if `second` is true, and that of the first otherwise
+-- Of the two words, the one of the second square if `second` is true, and otherwise that of the first
 abbrev pub word_of : List ℕ → Bool → ℕ
 word_of words second = slice_index words (if second then 1 else 0)
 
--- The bit row of the second square if `second` is true, and that of the first otherwise
+-- Of the two bit rows whose words are side by side in `pairs`, the one of the second square if `second` is true, and
+-- otherwise that of the first
 unfoldable pub lane : List (List ℕ) → Bool → List ℕ
 lane pairs second = word_of (slice_index_or pairs 0 []) second ∷ word_of (slice_index_or pairs 1 []) second ∷ word_of (slice_index_or pairs 2 []) second ∷ []
 
--- The bit rows of the second square if `second` is true, and those of the first otherwise, from the top down
+-- The bit rows of the second square if `second` is true, and otherwise those of the first. In `rows` the words of both
+-- squares are side by side, from the top row down
 abbrev pub lanes : List (List (List ℕ)) → Bool → List (List ℕ)
 lanes rows second = map (λ pairs. lane pairs second) rows
 
--- The columns from `k` to `k + n - 1` that pass the test `p`, from left to right
+-- The `n` columns from column `k` on, without those that fail the test `p`, from left to right
 unfoldable pub columns_passing : (ℕ → Bool) → ℕ → ℕ → List ℕ
 columns_passing p k n = filter p (range_with_len k n)
 
--- The indices of the bits that are 1, in increasing order
+-- The indices of the bits of a bit row that are 1, in increasing order
 abbrev pub set_bits : List ℕ → List ℕ
 set_bits words = columns_passing (has words) 0 192
 
--- Module `c` has another colour than the module before it; module 0 is compared with a light module
+-- Module `c` of `line` has another colour than the module before it. Module 0 is compared with a light module
 unfoldable pub is_change : (ℕ → Bool) → ℕ → Bool
 is_change line c = not (is_same (line c) (nat_lt 0 c && line (c - 1)))
 
@@ -60,12 +62,12 @@ abbrev pub runs_between : List ℕ → List Run
 runs_between (start ∷ end ∷ columns) = record { start = start; end = end } ∷ runs_between columns
 runs_between columns = []
 
--- Module `c` is charged a point for runs: it, or one of the two modules before it, is the first of five of one colour.
--- So all modules of a run of five or more are charged, but for the last two
+-- Module `c` of `line` is charged a point for runs: it, or one of the two modules before it, is the first of five of
+-- one colour. In a run of five or more, only the last two are not charged
 unfoldable pub is_charged : ℕ → (ℕ → Bool) → ℕ → Bool
 is_charged s line c = (begins_five s line c || (nat_lt 0 c && begins_five s line (c - 1))) || (nat_lt 1 c && begins_five s line (c - 2))
 
--- The number of modules of row `r` that are charged a point for runs in their columns
+-- The number of modules of row `r` that are charged a point for the runs of their columns
 unfoldable pub row_share : ℕ → (ℕ → ℕ → Bool) → ℕ → ℕ
 row_share s dark r = count_below s (λ c. is_charged s (λ i. dark i c) r)
 
@@ -77,7 +79,8 @@ joins_down s dark c r = nat_lt c s && joins s (λ i. dark i c) r
 abbrev pub begin_five : (ℕ → Bool) → ℕ → Bool
 begin_five join r = (join r && join (r + 1)) && (join (r + 2) && join (r + 3))
 
--- Five equal modules begin at module `r`, or at one of the two before it
+-- Five equal modules of a column begin in row `r`, or in one of the two rows before it, if `join k` says that the
+-- modules in rows `k` and `k + 1` are equal
 abbrev pub is_near_five : (ℕ → Bool) → ℕ → Bool
 is_near_five join r = (begin_five join r || (nat_lt 0 r && begin_five join (r - 1))) || (nat_lt 1 r && begin_five join (r - 2))
 
@@ -91,21 +94,21 @@ pub record IsAbove (join : ℕ → Bool) (n : ℕ) (joined threes earlier_threes
   pub fives_are : fives ≡ (nat_lt 3 n && begin_five join (n - 4))
   pub earlier_fives_are : earlier_fives ≡ (nat_lt 4 n && begin_five join (n - 5))
 
--- What is counted when `n` rows are done. `runs` counts the points for runs in these rows. It also counts the points
--- for runs in columns that the modules of all but the last three of these rows are charged. `squares` are the squares
--- of two by two modules that begin in these rows
+-- What is counted when `n` rows are done. `runs` are the points for the runs of these rows, and those points for runs
+-- of columns that modules of the first `n - 3` rows are charged. `squares` is the number of two by two modules of one
+-- colour whose upper row is one of the `n` rows
 pub record IsCountedTo (s : ℕ) (dark : ℕ → ℕ → Bool) (n runs squares : ℕ) : Type 0 where
   pub runs_are : runs ≡ sum_below n (λ r. place_cost s (dark r)) + sum_below (n - 3) (row_share s dark)
   pub runs_most : runs ≤ 192 * n + 192 * (n - 3)
   pub squares_are : squares ≡ sum_below n (λ r. count_below s (is_square_of_two s dark r))
   pub squares_most : squares ≤ 192 * n
 
--- The bit in row `r` and column `c` of a tile
+-- The bit in row `r` and column `c` of a tile of 64 by 64 modules, where column 0 is the lowest bit of a word
 unfoldable pub bit_in : List ℕ → ℕ → ℕ → Bool
 bit_in words r c = has_bit (slice_index words r) c
 
--- The tile `f` after a stage of its transposition. The tile is divided into parts of `s` by `s` bits, and of each two
--- by two parts the upper right and the lower left one are exchanged
+-- The tile `f` after one step of its transposition. The tile is divided into squares of `s` by `s` bits. Of each two by
+-- two such squares the upper right and the lower left one are exchanged
 unfoldable pub exchanged : ℕ → (ℕ → ℕ → Bool) → ℕ → ℕ → Bool
 exchanged s f r c =
     if nat_lt (r % (2 * s)) s

@@ -16,6 +16,6 @@ abbrev pub all_below : ℕ → (ℕ → Bool) → Bool
 all_below zero p = true
 all_below (suc n) p = p n && all_below n p
 
--- The number of places for which `p` is true [own]
+-- The number of places of a square of side `s` for which `p` is true [own]
 unfoldable pub places_passing : ℕ → (ℕ → ℕ → Bool) → ℕ
 places_passing s p = sum_below s (λ r. count_below s (p r))

@@ -3,15 +3,16 @@ use Rattle.std.specs.Prelude.{◌≡◌, ℕ, ◌≤◌, List, ◌++◌, length}
 use Rattle.qr_field.specs.Polynomial.{IsCorrection}
 use Rattle.qr_field.specs.Distance.{differences}
 
--- Data codewords, followed by their error correction codewords (ISO/IEC 18004:2015, 7.5.1)
+-- `codewords` is a block: data codewords, followed by the `n` error correction codewords that belong to them (ISO/IEC
+-- 18004:2015, 7.5.1)
 pub record IsBlock (n : ℕ) (codewords : List ℕ) : Type 0 where
   pub message : List ℕ
   pub correction : List ℕ
   pub whole : codewords ≡ message ++ correction
   pub corrects : IsCorrection message n correction
 
--- The block that `damaged` is mended to if at most `t` of its codewords are misread, and none is erased (ISO/IEC
--- 18004:2015, 7.5.1)
+-- `mended` is the block, with `n` error correction codewords, to which `damaged` is mended if at most `t` codewords of
+-- `damaged` are misread and none is erased (ISO/IEC 18004:2015, 7.5.1)
 pub record IsMended (n t : ℕ) (damaged mended : List ℕ) : Type 0 where
   pub block : IsBlock n mended
   pub long : length mended ≡ length damaged

@@ -4,16 +4,17 @@ use Rattle.std.specs.Prelude.{◌≡◌, ℕ, ◌+◌, ◌*◌, ◌≤◌, Bool,
 use Rattle.qr_field.specs.Distance.{erasures, errors}
 use Rattle.qr_mending.specs.Block.{IsBlock}
 
--- What was read, where `erased` is true at the index of each erased codeword; codewords past the end of `erased` count
--- as read [own]
+-- The given codewords as they were read: a codeword is `None` if `erased` is true at its index. Where `erased` has no
+-- such index, the codeword was read [own]
 abbrev pub read_of : List ℕ → List Bool → List (Option ℕ)
 read_of [] erased = []
 read_of (x ∷ xs) [] = Some x ∷ read_of xs []
 read_of (x ∷ xs) (true ∷ erased) = None ∷ read_of xs erased
 read_of (x ∷ xs) (false ∷ erased) = Some x ∷ read_of xs erased
 
--- What was read is mended to a block by at most `spare` of its `n` error correction codewords. An erased codeword takes
--- one of them. A misread codeword takes two, since its index is not known (ISO/IEC 18004:2015, 7.5.1)
+-- `read`, which is what was read of a block, is mended to the block `mended` by at most `spare` of its `n` error
+-- correction codewords. An erased codeword takes one of them. A misread codeword takes two, since its index is not
+-- known (ISO/IEC 18004:2015, 7.5.1)
 pub record IsMendedWithErasures (n spare : ℕ) (read : List (Option ℕ)) (mended : List ℕ) : Type 0 where
   pub block : IsBlock n mended
   pub long : length mended ≡ length read

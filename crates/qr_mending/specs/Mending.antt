@@ -22,26 +22,29 @@ use Rattle.qr_mending.specs.declared.format.FormatCopy.TheVariants.{First, Secon
 use Rattle.qr_mending.specs.Format.{format_cost, misread_bits, unread_bits, IsNearFormat}
 use Rattle.qr_mending.specs.Message.{IsMendedIn}
 
--- The blocks of the square can be mended to `message` with this level and mask (ISO/IEC 18004:2015, 7.5.1, 7.6, 7.7.3,
--- 12)
+-- If the square `g` is read at level `l` with the mask `mask` undone, its blocks can be mended to the data codewords
+-- `message`. Item i of `changed` is the number of misread codewords in block i, counted from 0 (ISO/IEC 18004:2015,
+-- 7.5.1, 7.6, 7.7.3, 12)
 pub record HoldsDamaged (unknown : Grid) (v : ℕ) (l : Level) (mask : ℕ) (g : Grid) (message changed : List ℕ) : Type 0 where
   pub codewords : List ℕ
   pub held : IsRead v mask g codewords
   pub mended : IsMendedIn unknown v l codewords message changed
 
--- No pair of level and mask that is near to the copy mends the square (ISO/IEC 18004:2015, 7.5.1, 7.9.1, 12)
+-- If the square is read with a level and a mask that are near to the given copy, not all of its blocks can be mended
+-- (ISO/IEC 18004:2015, 7.5.1, 7.9.1, 12)
 abbrev pub IsOfNoUse : Grid → FormatCopy → ℕ → Grid → Type 0
 IsOfNoUse unknown copy v g = (l : Level) (mask : ℕ) → IsNearFormat unknown copy g l mask
     → (message changed : List ℕ) → HoldsDamaged unknown v l mask g message changed → ⊥
 
--- The rank of a level and mask that are near to a copy: it rises with the cost of both copies, and at equal costs it is
--- lower for the first copy [own]
+-- The rank of a level and a mask that are near to the given copy, if both copies together cost `cost` with them. It
+-- rises with `cost`, and between equals it is lower for the first copy [own]
 abbrev pub rank_of : FormatCopy → ℕ → ℕ
 rank_of First cost = 2 * cost
 rank_of Second cost = 2 * cost + 1
 
--- The level and the mask by which the square has to be read: they are near to a copy, and no pair that is near to a
--- copy and mends the square has a lower rank (ISO/IEC 18004:2015, 7.9.1, 12)
+-- The level `l` and the mask `mask` are those by which the square has to be read. They are near to a copy of the format
+-- information. No level and mask have a lower rank, among those that are near to a copy and with which all blocks can
+-- be mended (ISO/IEC 18004:2015, 7.9.1, 12)
 pub record HasFormat (unknown : Grid) (v : ℕ) (g : Grid) (l : Level) (mask : ℕ) : Type 0 where
   pub copy : FormatCopy
   pub near : IsNearFormat unknown copy g l mask
@@ -49,50 +52,56 @@ pub record HasFormat (unknown : Grid) (v : ℕ) (g : Grid) (l : Level) (mask : �
       → (message changed : List ℕ) → HoldsDamaged unknown v k n g message changed
       → rank_of copy (format_cost unknown g l mask) ≤ rank_of other (format_cost unknown g k n)
 
--- The square has the side of the version, has to be read with this level and mask, and its blocks can be mended to
+-- The square `g` is a damaged form of a symbol of version `v` with the data codewords `message`. It has the side of
+-- this version, it has to be read with the level `l` and the mask `mask`, and then its blocks can be mended to
 -- `message` (ISO/IEC 18004:2015, 7.5.1, 7.9.1, 12)
 pub record IsDamagedForm (unknown g : Grid) (v : ℕ) (l : Level) (mask : ℕ) (message changed : List ℕ) : Type 0 where
   pub sized : IsOfVersion g v
   pub format : HasFormat unknown v g l mask
   pub damaged : HoldsDamaged unknown v l mask g message changed
 
--- The square is mended to data codewords from which parsing yields `outcome` (ISO/IEC 18004:2015, 12)
+-- The square `g` is mended to data codewords from which parsing yields `outcome`, a content or a fault (ISO/IEC
+-- 18004:2015, 12)
 pub record IsMendedAs (unknown g : Grid) (v : ℕ) (l : Level) (mask : ℕ) (outcome : Result Content ParseFault) (changed : List ℕ) : Type 0 where
   pub message : List ℕ
   pub form : IsDamagedForm unknown g v l mask message changed
   pub parsed : parse v (bits_of message) ≡ outcome
 
--- The square is mended and read as `content` (ISO/IEC 18004:2015, 12)
+-- The square `g` is mended, and read as `content` (ISO/IEC 18004:2015, 12)
 abbrev pub IsMendedReading : Grid → Grid → ℕ → Level → ℕ → Content → List ℕ → Type 0
 IsMendedReading unknown g v l mask content changed = IsMendedAs unknown g v l mask (Ok content) changed
 
--- How many of the 15 modules of a copy were not read or are misread (ISO/IEC 18004:2015, 7.9.1)
+-- How many of the 15 modules of a copy were not read or are misread, if the undamaged symbol has the level `l` and the
+-- mask `mask` (ISO/IEC 18004:2015, 7.9.1)
 abbrev pub wrong_bits : Grid → FormatCopy → Grid → Level → ℕ → ℕ
 wrong_bits unknown copy g l mask = unread_bits unknown copy + misread_bits unknown copy g (format_word_of l mask)
 
--- How many of the 30 modules of format information are wrong (ISO/IEC 18004:2015, 7.9.1)
+-- How many of the 30 modules in both copies of the format information were not read or are misread, if the undamaged
+-- symbol has the level `l` and the mask `mask` (ISO/IEC 18004:2015, 7.9.1)
 abbrev pub wrong_format_modules : Grid → Grid → Level → ℕ → ℕ
 wrong_format_modules unknown g l mask = wrong_bits unknown First g l mask + wrong_bits unknown Second g l mask
 
--- How many modules of `g` are wrong, if `h` is the undamaged symbol [own]
+-- How many modules of `g` were not read or have another colour than in the undamaged symbol `h` [own]
 unfoldable pub wrong_modules : Grid → Grid → Grid → ℕ
 wrong_modules unknown g h = places_passing g.side (λ r c. colour unknown r c || differs g h r c)
 
--- The undamaged symbol is that of `message`, and `wrong` counts the wrong modules of the whole square, those of
--- function patterns, version information and remainder bits too (ISO/IEC 18004:2015, 7.5.2, 7.6, 7.7, 7.8)
+-- The undamaged symbol has the data codewords `message`, and `wrong` is the number of modules of `g` that were not read
+-- or have another colour than in this symbol. Modules of function patterns, version information and remainder bits
+-- count too (ISO/IEC 18004:2015, 7.5.2, 7.6, 7.7, 7.8)
 pub record DiffersFromSymbol (unknown g : Grid) (v : ℕ) (l : Level) (mask : ℕ) (message : List ℕ) (wrong : ℕ) : Type 0 where
   pub codewords : List ℕ
   pub interleaved : IsInterleaved v l message codewords
   pub count : wrong ≡ wrong_modules unknown g (grid_of v l mask codewords)
 
--- The square is a damaged form of a symbol, and `wrong` is the number of its wrong modules (ISO/IEC 18004:2015, 7.5.2,
--- 7.6, 7.7, 7.8)
+-- The square `g` is a damaged form of a symbol, and `wrong` is the number of its modules that were not read or have
+-- another colour than in this symbol (ISO/IEC 18004:2015, 7.5.2, 7.6, 7.7, 7.8)
 pub record HasWrongModules (unknown g : Grid) (v : ℕ) (l : Level) (mask : ℕ) (changed : List ℕ) (wrong : ℕ) : Type 0 where
   pub message : List ℕ
   pub form : IsDamagedForm unknown g v l mask message changed
   pub differs : DiffersFromSymbol unknown g v l mask message wrong
 
--- Some level and mask are near to a copy, but no such pair mends the square (ISO/IEC 18004:2015, 7.5.1, 7.9.1, 12)
+-- Some level and mask are near to a copy of the format information, but with no such level and mask can all blocks of
+-- the square be mended (ISO/IEC 18004:2015, 7.5.1, 7.9.1, 12)
 pub record IsBeyondMending (unknown g : Grid) : Type 0 where
   pub version : ℕ
   pub sized : IsOfVersion g version
@@ -102,9 +111,10 @@ pub record IsBeyondMending (unknown g : Grid) : Type 0 where
   pub format : IsNearFormat unknown copy g level mask
   pub useless : (any : FormatCopy) → IsOfNoUse unknown any version g
 
--- The faults for which a square is refused: `Side` if no version has its side, `Format` if no level and mask are near
--- to a copy, `Check` if no such level and mask mend the square, and `Segments` if the mended message cannot be parsed.
--- `Memory` is possible for every square, and `Series` for none (ISO/IEC 18004:2015, 12)
+-- The square `g` may be refused for the given fault. The fault may be `Side` if no version has this side, `Format` if
+-- no level and mask are near to a copy, `Check` if with no such level and mask all blocks can be mended, and `Segments`
+-- if the mended message cannot be parsed. `Memory` is possible for every square, and `Series` for none (ISO/IEC
+-- 18004:2015, 12)
 abbrev pub IsUnmended : Grid → Grid → ReadFault → Type 0
 IsUnmended unknown g unread.Memory = Unit {0}
 IsUnmended unknown g unread.Side = (v : ℕ) → IsOfVersion g v → ⊥

@@ -15,42 +15,44 @@ use Rattle.qr_layout.specs.Version.{total_codewords_of}
 use Rattle.qr_matrix.specs.Grid.{Grid, colour}
 use Rattle.qr_symbol.specs.Interleaving.{block_count, codeword_count, data_sizes, correction_sizes, part_of, IsGathered}
 
--- Block `i`: its part of `d`, which lists the data codewords of all blocks, and then its part of `e`, which lists their
--- error correction codewords (ISO/IEC 18004:2015, 7.5.1)
+-- The codewords of block `i`, counted from 0: its part of `d`, which lists the data codewords of all blocks, and then
+-- its part of `e`, which lists their error correction codewords (ISO/IEC 18004:2015, 7.5.1)
 abbrev pub received : Blocks → List ℕ → List ℕ → ℕ → List ℕ
 received b d e i = part_of (data_sizes b) d i ++ part_of (correction_sizes b) e i
 
--- The eight modules of codeword `k`, counted from 0 (ISO/IEC 18004:2015, 7.7.3)
+-- The eight modules of codeword `k` of the final sequence, counted from 0, if `places` is the order of all modules of
+-- the region (ISO/IEC 18004:2015, 7.7.3)
 abbrev pub modules_of : List Place → ℕ → List Place
 modules_of places k = take 8 (drop (8 * k) places)
 
--- What was read of codeword `k`: `None` if one of its modules was not read, and its value otherwise (ISO/IEC
--- 18004:2015, 7.7.3)
+-- What was read of codeword `k` of the final sequence, counted from 0: `None` if one of its modules was not read, and
+-- its value in `cw` otherwise (ISO/IEC 18004:2015, 7.7.3)
 abbrev pub read_at : Grid → List Place → List ℕ → ℕ → Option ℕ
 read_at unknown places cw k =
     if list_any (λ m. colour unknown m.row m.col) (modules_of places k) then None else Some (slice_index cw k)
 
--- The data codewords `d` and the error correction codewords `e` of an interleaved list, in the order of the blocks
--- (ISO/IEC 18004:2015, 7.5.1, 7.6)
+-- `interleaved` has an item for each codeword of the final sequence. `d` lists the items of the data codewords, block
+-- by block, and `e` those of the error correction codewords (ISO/IEC 18004:2015, 7.5.1, 7.6)
 pub record AreInBlocks (b : Blocks) (interleaved d e : List ℕ) : Type 0 where
   pub gathered : IsGathered (data_sizes b) interleaved d
   pub rest : IsGathered (correction_sizes b) (drop (codeword_count (data_sizes b)) interleaved) e
 
 -- `indices` lists, block by block, the indices that the data codewords have in the final sequence, and `checks` lists
--- those of the error correction codewords (ISO/IEC 18004:2015, 7.6)
+-- the indices of the error correction codewords (ISO/IEC 18004:2015, 7.6)
 abbrev pub AreIndices : ℕ → Level → List ℕ → List ℕ → Type 0
 AreIndices v l indices checks = AreInBlocks (blocks_of v l) (range_with_len 0 (total_codewords_of v)) indices checks
 
--- Block `i`, of which `read` was read, can be mended to block `i` of `message`: `misread` of its codewords are misread,
--- and mending takes at most `spare` error correction codewords (ISO/IEC 18004:2015, 7.5.1)
+-- `read` is what was read of block `i`, counted from 0. It can be mended to block `i` of `message` by at most `spare`
+-- error correction codewords, and `misread` of its codewords are misread (ISO/IEC 18004:2015, 7.5.1)
 pub record IsMendedBlock (b : Blocks) (spare : ℕ) (read : List (Option ℕ)) (message : List ℕ) (misread i : ℕ) : Type 0 where
   pub correction : List ℕ
   pub corrects : IsCorrection (part_of (data_sizes b) message i) b.ec_len correction
   pub near : erasures read + 2 * misread ≤ spare
   pub count : misread ≡ errors read (part_of (data_sizes b) message i ++ correction)
 
--- The codewords of a symbol of version `v` and level `l` can be mended to `message`, and `misread` lists for each block
--- how many of them are misread (ISO/IEC 18004:2015, 7.5.1, 7.6, 7.7.3)
+-- The codewords `cw` of a symbol of version `v` and level `l`, as they were read, can be mended to the data codewords
+-- `message`. Item i of `misread` is the number of misread codewords in block i, counted from 0 (ISO/IEC 18004:2015,
+-- 7.5.1, 7.6, 7.7.3)
 pub record IsMendedIn (unknown : Grid) (v : ℕ) (l : Level) (cw message misread : List ℕ) : Type 0 where
   pub places : List Place
   pub order : IsOrder v places

@@ -12,12 +12,13 @@ use Rattle.qr_mending.specs.declared.format.FormatCopy.TheVariants.{First, Secon
 use Rattle.qr_mending.specs.Format.{bit_differences, copy_bit}
 use Rattle.qr_mending.specs.Message.{modules_of, received, AreIndices}
 
--- How many modules of codeword `k` differ (ISO/IEC 18004:2015, 7.7.3)
+-- In how many of the eight modules of codeword `k` the squares `g` and `h` differ. Codewords are counted from 0 in the
+-- final sequence (ISO/IEC 18004:2015, 7.7.3)
 abbrev pub codeword_differences : Grid → Grid → List Place → ℕ → ℕ
 codeword_differences g h places k = count_by (λ m. differs g h m.row m.col) (modules_of places k)
 
--- At most six of the 30 modules of format information differ. Of each block at most as many modules differ as misread
--- codewords can be corrected in it (ISO/IEC 18004:2015, 7.5.1, 7.9.1)
+-- The squares `g` and `h` differ in at most six of the 30 modules of format information. In each block they differ in
+-- at most as many modules as misread codewords can be corrected in it (ISO/IEC 18004:2015, 7.5.1, 7.9.1)
 pub record DifferInFewModules (v : ℕ) (l : Level) (g h : Grid) : Type 0 where
   pub format : bit_differences 15 (copy_bit First g) (copy_bit First h) + bit_differences 15 (copy_bit Second g) (copy_bit Second h) ≤ 6
   pub places : List Place

@@ -9,23 +9,25 @@ use Rattle.qr_symbol.specs.Reading.{IsFormat, IsMessage, IsOfVersion}
 use Rattle.qr_symbol.specs.Joining.{IsJoinedBy, IsUnjoinedBy}
 use Rattle.qr_mending.specs.Mending.{IsDamagedForm, IsMendedReading, IsUnmended}
 
--- The square, of which all modules were read, is mended and read as `content`, with some version, level and mask
+-- The square `g`, of which all modules were read, is mended with some version, level and mask, and read as `content`
 -- (ISO/IEC 18004:2015, 12)
 abbrev pub IsMendedContent : Grid → Content → Type 0
 IsMendedContent g content = (v : ℕ) × (l : Level) × (mask : ℕ) × (changed : List ℕ) × IsMendedReading (light g.side) g v l mask content changed
 
--- The squares are mended, read and joined to `bytes` (ISO/IEC 18004:2015, 8.1 to 8.3, 12)
+-- The squares can be mended and read. Their contents are one plain content or those of a whole series, and `bytes` are
+-- the bytes of these contents, one content after the other (ISO/IEC 18004:2015, 8.1 to 8.3, 12)
 abbrev pub IsMendedSeries : List Grid → List ℕ → Type 0
 IsMendedSeries squares bytes = IsJoinedBy IsMendedContent squares bytes
 
--- The faults for which squares are refused. `Memory` is always possible. If some square cannot be mended and read, the
--- fault is that of the first such square. If all can, but they do not belong together, it is `Series` (ISO/IEC
--- 18004:2015, 8.1 to 8.3, 12)
+-- Mending the squares, reading them and joining their contents may fail with the fault `e`. `Memory` is always
+-- possible. If some square cannot be mended and read, any other fault is that of the first such square. If all squares
+-- can be mended and read, but their contents do not belong together, the fault is `Series` (ISO/IEC 18004:2015, 8.1 to
+-- 8.3, 12)
 abbrev pub IsUnmendedSeries : List Grid → ReadFault → Type 0
 IsUnmendedSeries squares e = IsUnjoinedBy IsMendedContent (λ g. IsUnmended (light g.side) g) squares e
 
--- The square `damaged`, of which all modules were read, is a damaged form of `whole`, and the level, the mask and the
--- data codewords of `whole` can be read without mending (ISO/IEC 18004:2015, 7.5.1, 7.9.1, 12)
+-- The square `damaged`, of which all modules were read, is a damaged form of the square `whole`. The level, the mask
+-- and the data codewords of `whole` can be read without mending (ISO/IEC 18004:2015, 7.5.1, 7.9.1, 12)
 pub record IsDamagedSquare (damaged whole : Grid) : Type 0 where
   pub version : ℕ
   pub level : Level
@@ -37,6 +39,7 @@ pub record IsDamagedSquare (damaged whole : Grid) : Type 0 where
   pub holds : IsMessage version level mask whole message
   pub form : IsDamagedForm (light damaged.side) damaged version level mask message changed
 
--- Each square of the first list is a damaged form of the square at the same index of the second list [own]
+-- There are as many squares in `damaged` as in `whole`, and each square of `damaged` is a damaged form of the square of
+-- `whole` at the same index [own]
 unfoldable pub AreDamagedSquares : List Grid → List Grid → Type 0
 AreDamagedSquares damaged whole = AllZip IsDamagedSquare damaged whole

@@ -17,15 +17,15 @@ DrawingsAreOne = (kind other : Drawing) (margin last : ℕ) (squares others : Li
     → IsDrawingOf kind margin squares text → IsDrawingOf other last others text
     → (kind ≡ other) × (margin ≡ last) × (squares ≡ others)
 
--- The symbol of an input is drawn as a text that is parsed, for each type of drawing and each margin of at most 255
--- modules [own]
+-- For each type of drawing, and each margin of at most 255 modules, the text that draws the symbol of an input is a
+-- drawing of this symbol, and so it is parsed [own]
 abbrev pub SymbolsAreDrawings : Type 0
 SymbolsAreDrawings = (kind : Drawing) (margin smallest : ℕ) (l : Level) (rule : Rule) (i : Interpretation) (x : List ℕ) (v mask : ℕ) (g : Grid)
     → margin ≤ 255 → 1 ≤ smallest → IsSymbol smallest l rule i x v mask g
     → IsDrawingOf kind margin (g ∷ []) (drawn kind margin (g ∷ []))
 
--- The series of an input is drawn as a text that is parsed, for each type of drawing and each margin of at most 255
--- modules [own]
+-- For each type of drawing, and each margin of at most 255 modules, the text that draws the series of an input is a
+-- drawing of this series, and so it is parsed [own]
 abbrev pub SeriesAreDrawings : Type 0
 SeriesAreDrawings = (kind : Drawing) (margin v : ℕ) (l : Level) (rule : Rule) (i : Interpretation) (x : List ℕ) (symbols : List Symbol)
     → margin ≤ 255 → 1 ≤ v → v ≤ 40 → IsSeries v l rule i x symbols

@@ -25,6 +25,6 @@ pub record IsDrawingOf (kind : Drawing) (margin : ℕ) (squares : List Grid) (te
   pub begin : All BeginsAsSymbol squares
   pub is_drawn : text ≡ drawn kind margin squares
 
--- No type, margin and squares have the drawing `text` [own]
+-- The text is no drawing: no type, margin and squares have it as their drawing [own]
 abbrev pub IsNoDrawing : List ℕ → Type 0
 IsNoDrawing text = (kind : Drawing) (margin : ℕ) (squares : List Grid) → IsDrawingOf kind margin squares text → ⊥

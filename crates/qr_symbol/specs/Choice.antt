@@ -6,16 +6,17 @@ use Rattle.qr_matrix.specs.Grid.{colour}
 use Rattle.qr_symbol.specs.Symbol.{grid_of}
 use Rattle.qr_matrix.specs.Penalty.{penalty_of}
 
--- Of the numbers below `n`, `m` is the first at which `f` is least [own]
+-- `m` is the smallest number below `n` at which `f` has the least of its values for numbers below `n` [own]
 pub record IsFirstLeast (n : ℕ) (f : ℕ → ℕ) (m : ℕ) : Type 0 where
   pub in_range : m < n
   pub least : (k : ℕ) → k < n → (f m < f k) ⊎ ((f m ≡ f k) × (m ≤ k))
 
--- The penalty of the whole symbol under a mask (ISO/IEC 18004:2015, 7.8.3)
+-- The penalty of the whole symbol of version `v` and level `l` that contains the codewords `cw`, under the mask `mask`
+-- (ISO/IEC 18004:2015, 7.8.3)
 abbrev pub mask_penalty : ℕ → Level → List ℕ → ℕ → ℕ
 mask_penalty v l cw mask = penalty_of (side_of v) (colour (grid_of v l mask cw))
 
--- The mask with the least penalty, and the smallest of these if there are several (ISO/IEC 18004:2015, 7.8.3; among
--- equals [own])
+-- `mask` is the mask under which the symbol has the least penalty, and the smallest of these masks if there are several
+-- (ISO/IEC 18004:2015, 7.8.3; among equals [own])
 abbrev pub IsMask : ℕ → Level → List ℕ → ℕ → Type 0
 IsMask v l cw mask = IsFirstLeast 8 (mask_penalty v l cw) mask

@@ -9,12 +9,12 @@ use Rattle.qr_symbol.specs.declared.fault.EncodeFault.TheVariants as fault
 use Rattle.qr_symbol.specs.declared.fault.ReadFault.{ReadFault}
 use Rattle.qr_symbol.specs.declared.fault.ReadFault.TheVariants as unread
 
--- The fault of encoding that has the same name as the fault of `qr_bits` [own]
+-- The fault of encoding that has the same name as the given fault of `qr_bits` [own]
 abbrev pub fault_of : BitFault → EncodeFault
 fault_of bit.Memory = fault.Memory
 fault_of bit.TooLong = fault.TooLong
 
--- The number of a fault of reading; the library for C has other numbers [own]
+-- A number from 1 to 6 for each fault of reading. The library for C has another numbering [own]
 abbrev pub read_fault_number : ReadFault → ℕ
 read_fault_number unread.Memory = 1
 read_fault_number unread.Side = 2

@@ -9,16 +9,16 @@ use Rattle.qr_layout.specs.declared.level.Level.{Level}
 use Rattle.qr_layout.specs.Blocks.{blocks_of}
 use Rattle.qr_symbol.specs.declared.interleaving.BlockSizes.{BlockSizes}
 
--- The number of blocks, short and long [own]
+-- The number of all blocks, short and long [own]
 abbrev pub block_count : BlockSizes → ℕ
 block_count c = c.short + c.long
 
--- The number of codewords in block `i`. The long blocks come after the short ones, and have one codeword more (ISO/IEC
--- 18004:2015, 7.5.1, Table 9)
+-- The number of codewords in block `i`, counted from 0. The long blocks come after the short ones, and have one
+-- codeword more (ISO/IEC 18004:2015, 7.5.1, Table 9)
 abbrev pub block_len : BlockSizes → ℕ → ℕ
 block_len c i = if nat_lt i c.short then c.short_len else c.short_len + 1
 
--- The number of codewords before block `i`, or of all codewords if `i` is the number of blocks [own]
+-- The number of codewords before block `i`, counted from 0, or of all codewords if `i` is the number of blocks [own]
 abbrev pub start_of : BlockSizes → ℕ → ℕ
 start_of c i = c.short_len * i + (i - c.short)
 
@@ -35,44 +35,48 @@ data_sizes b = record { short = b.short; short_len = b.short_len; long = b.long 
 abbrev pub correction_sizes : Blocks → BlockSizes
 correction_sizes b = record { short = b.short + b.long; short_len = b.ec_len; long = 0 }
 
--- The position of a codeword: `place` is its index in its block, and `block` the number of the block (ISO/IEC
--- 18004:2015, 7.6)
+-- The position of a codeword: `block` is the index of its block, and `place` its index in this block. Both are counted
+-- from 0 (ISO/IEC 18004:2015, 7.6)
 pub record Position : Type 0 where
   pub place : ℕ
   pub block : ℕ
 
--- In interleaved order `t` comes before `u`: its index in its block is smaller, or the indices are equal and its block
--- comes first (ISO/IEC 18004:2015, 7.6)
+-- The codeword at position `t` comes before the one at position `u` in interleaved order: its index in its block is
+-- smaller, or the indices are equal and its block comes first (ISO/IEC 18004:2015, 7.6)
 abbrev pub ComesBefore : Position → Position → Type 0
 ComesBefore t u = (t.place < u.place) ⊎ ((t.place ≡ u.place) × (t.block < u.block))
 
--- There is a codeword at position `t`: the block exists, and it has a codeword with this index [own]
+-- There is a codeword at position `t`: the block `t.block` exists, and has a codeword with the index `t.place` [own]
 abbrev pub IsPosition : BlockSizes → Position → Type 0
 IsPosition c t = (t.block < block_count c) × (t.place < block_len c t.block)
 
--- The positions of all codewords, in interleaved order (ISO/IEC 18004:2015, 7.6)
+-- `ts` lists the positions of all codewords, in interleaved order (ISO/IEC 18004:2015, 7.6)
 pub record IsPositionOrder (c : BlockSizes) (ts : List Position) : Type 0 where
   pub in_blocks : All (IsPosition c) ts
   pub complete : (t : Position) → IsPosition c t → Contains ts t
   pub rising : AllPairs ComesBefore ts
 
--- The codeword at position `t`, among the codewords `d` of all blocks [own]
+-- The codeword at position `t`, if `d` lists the codewords of all blocks, one block after the other [own]
 abbrev pub codeword_at : BlockSizes → List ℕ → Position → ℕ
 codeword_at c d t = slice_index_or d (start_of c t.block + t.place) 0
 
--- The codewords of block `i`, among the codewords `d` of all blocks (ISO/IEC 18004:2015, 7.5.1)
+-- The codewords of block `i`, counted from 0, if `d` lists the codewords of all blocks, one block after the other
+-- (ISO/IEC 18004:2015, 7.5.1)
 abbrev pub part_of : BlockSizes → List ℕ → ℕ → List ℕ
 part_of c d i = take (block_len c i) (drop (start_of c i) d)
 
--- The data codewords of block `i`, if `d` are the data codewords of all blocks `b` (ISO/IEC 18004:2015, 7.5.1)
+-- The data codewords of block `i`, counted from 0, if `d` lists the data codewords of all blocks, one block after the
+-- other (ISO/IEC 18004:2015, 7.5.1)
 abbrev pub block_of : Blocks → List ℕ → ℕ → List ℕ
 block_of b d i = part_of (data_sizes b) d i
 
--- The error correction codeword at position `t`. `corrections` has a list for each block [own]
+-- The error correction codeword at position `t`, if item i of `corrections` lists the error correction codewords of
+-- block i [own]
 abbrev pub check_at : List (List ℕ) → Position → ℕ
 check_at corrections t = slice_index_or (slice_index_or corrections t.block []) t.place 0
 
--- The final sequence of the data codewords `d`, divided into the blocks `b` (ISO/IEC 18004:2015, 7.5.2, 7.6)
+-- `cw` is the final sequence of the data codewords `d`, which are divided into the blocks `b` (ISO/IEC 18004:2015,
+-- 7.5.2, 7.6)
 pub record IsFinalMessage (b : Blocks) (d cw : List ℕ) : Type 0 where
   pub data_positions : List Position
   pub data_order : IsPositionOrder (data_sizes b) data_positions
@@ -83,13 +87,13 @@ pub record IsFinalMessage (b : Blocks) (d cw : List ℕ) : Type 0 where
   pub check_order : IsPositionOrder (correction_sizes b) check_positions
   pub whole : cw ≡ map (codeword_at (data_sizes b) d) data_positions ++ map (check_at corrections) check_positions
 
--- The final sequence of the data codewords `d` in a symbol of version `v` and level `l` (ISO/IEC 18004:2015, 7.5.2,
--- 7.6)
+-- `cw` is the final sequence of the data codewords `d` in a symbol of version `v` and level `l` (ISO/IEC 18004:2015,
+-- 7.5.2, 7.6)
 abbrev pub IsInterleaved : ℕ → Level → List ℕ → List ℕ → Type 0
 IsInterleaved v l d cw = IsFinalMessage (blocks_of v l) d cw
 
--- `interleaved` begins with the codewords of all blocks, interleaved, and `xs` are the same codewords, one block after
--- the other (ISO/IEC 18004:2015, 7.6)
+-- `interleaved` begins with the codewords of all blocks in interleaved order. `xs` lists the same codewords, one block
+-- after the other (ISO/IEC 18004:2015, 7.6)
 pub record IsGathered (c : BlockSizes) (interleaved xs : List ℕ) : Type 0 where
   pub long : length xs ≡ codeword_count c
   pub positions : List Position

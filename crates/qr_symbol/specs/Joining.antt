@@ -10,15 +10,17 @@ use Rattle.qr_matrix.specs.Grid.{Grid}
 use Rattle.qr_bits.specs.declared.interpretation.Interpretation.{Interpretation}
 use Rattle.qr_symbol.specs.Reading.{IsInterpreted, IsReading, IsUnread}
 
--- There are as many contents as squares, and each square is read as its content (ISO/IEC 18004:2015, 12)
+-- There are as many contents as squares, and each square is read as the content at the same index (ISO/IEC 18004:2015,
+-- 12)
 unfoldable pub AreReadBy : (Grid → Content → Type 0) → List Grid → List Content → Type 0
 AreReadBy reads squares contents = AllZip reads squares contents
 
--- Each square is read as a content with the interpretation `i` (ISO/IEC 18004:2015, 7.4.2, 7.4.8.2, 12)
+-- Each square can be read without correction of errors, and the content that is read has the interpretation `i`
+-- (ISO/IEC 18004:2015, 7.4.2, 7.4.8.2, 12)
 abbrev pub AreInterpreted : Interpretation → List Grid → Type 0
 AreInterpreted i squares = All (λ g. (c : Content) × IsReading g c × IsInterpreted i c) squares
 
--- The bytes of all contents in turn [own]
+-- The bytes of all contents, one content after the other [own]
 abbrev pub bytes_of_all : List Content → List ℕ
 bytes_of_all contents = flat_map (λ c. c.bytes) contents
 
@@ -26,8 +28,8 @@ bytes_of_all contents = flat_map (λ c. c.bytes) contents
 abbrev pub IsPlain : List Content → Type 0
 IsPlain contents = (c : Content) × (contents ≡ c ∷ []) × (c.header ≡ None)
 
--- Each content has a header with the numbers `last` and `parity` and with its position, where the first content has
--- position `k` (ISO/IEC 18004:2015, 8.1 to 8.3)
+-- Each content has a header with the numbers `last` and `parity`. The header of the first content has the position `k`,
+-- and each further header has a position that is greater by 1 (ISO/IEC 18004:2015, 8.1 to 8.3)
 unfoldable pub HaveHeaders : (last parity k : ℕ) → List Content → Type 0
 HaveHeaders last parity k [] = Unit {0}
 HaveHeaders last parity k (c ∷ cs) =
@@ -43,15 +45,15 @@ AreInSeries contents =
 abbrev pub BelongTogether : List Content → Type 0
 BelongTogether contents = IsPlain contents ⊎ AreInSeries contents
 
--- The squares are read as contents that belong together, and `bytes` are the bytes of these contents in turn (ISO/IEC
--- 18004:2015, 8.1 to 8.3, 12)
+-- The squares are read as contents that belong together, and `bytes` are the bytes of these contents, one content after
+-- the other (ISO/IEC 18004:2015, 8.1 to 8.3, 12)
 pub record IsJoinedBy (reads : Grid → Content → Type 0) (squares : List Grid) (bytes : List ℕ) : Type 0 where
   pub contents : List Content
   pub read : AreReadBy reads squares contents
   pub together : BelongTogether contents
   pub joined : bytes ≡ bytes_of_all contents
 
--- A square is refused for the fault `e`, and every square before it is read (ISO/IEC 18004:2015, 12)
+-- Some square is refused for the fault `e`, and every square before it is read (ISO/IEC 18004:2015, 12)
 unfoldable pub IsFirstRefused : (Grid → Content → Type 0) → (Grid → ReadFault → Type 0) → List Grid → ReadFault → Type 0
 IsFirstRefused reads refuses [] e = ⊥
 IsFirstRefused reads refuses (g ∷ gs) e = refuses g e ⊎ ((c : Content) × reads g c × IsFirstRefused reads refuses gs e)
@@ -62,19 +64,20 @@ pub record IsNoSeries (reads : Grid → Content → Type 0) (squares : List Grid
   pub read : AreReadBy reads squares contents
   pub apart : BelongTogether contents → ⊥
 
--- Reading and joining may fail with the fault. `Memory` is always possible. `Series` is possible if all squares are
--- read but their contents do not belong together, and any other fault if the first square that cannot be read is
--- refused for it [own]
+-- Reading the squares and joining their contents may fail with the given fault. `Memory` is always possible. `Series`
+-- is possible if all squares are read but their contents do not belong together. Any other fault is possible if the
+-- first square that cannot be read is refused for it [own]
 abbrev pub IsUnjoinedBy : (Grid → Content → Type 0) → (Grid → ReadFault → Type 0) → List Grid → ReadFault → Type 0
 IsUnjoinedBy reads refuses squares unread.Memory = Unit {0}
 IsUnjoinedBy reads refuses squares unread.Series = IsNoSeries reads squares
 IsUnjoinedBy reads refuses squares e = IsFirstRefused reads refuses squares e
 
--- The squares are joined to `bytes` after reading them without correction of errors (ISO/IEC 18004:2015, 8.1 to 8.3,
--- 12)
+-- The squares can be read without correction of errors, their contents belong together, and `bytes` are the bytes of
+-- these contents, one content after the other (ISO/IEC 18004:2015, 8.1 to 8.3, 12)
 abbrev pub IsJoined : List Grid → List ℕ → Type 0
 IsJoined squares bytes = IsJoinedBy IsReading squares bytes
 
--- Reading the squares without correction of errors, and joining, may fail with the fault `e` (ISO/IEC 18004:2015, 12)
+-- If the squares are read without correction of errors, reading them or joining their contents may fail with the fault
+-- `e` (ISO/IEC 18004:2015, 12)
 abbrev pub IsUnjoined : List Grid → ReadFault → Type 0
 IsUnjoined squares e = IsUnjoinedBy IsReading IsUnread squares e

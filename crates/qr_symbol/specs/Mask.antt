@@ -1,8 +1,8 @@
 -- The eight masks, numbered from 0.
 use Rattle.std.specs.Prelude.{ℕ, ◌+◌, ◌*◌, ◌/◌, ◌%◌, ◌==◌, Bool, if◌then◌else◌, not}
 
--- The mask inverts a module of the region in row `r` and column `c`; whether this place is in the region is not tested
--- here (ISO/IEC 18004:2015, 7.8.2, Table 10)
+-- The mask with the number `mask` inverts a module of the region in row `r` and column `c`. Whether this place is in
+-- the region is not tested here (ISO/IEC 18004:2015, 7.8.2, Table 10)
 unfoldable pub inverts : ℕ → ℕ → ℕ → Bool
 inverts mask r c =
     if mask == 0 then (r + c) % 2 == 0
@@ -14,6 +14,6 @@ inverts mask r c =
     else if mask == 6 then (r * c % 2 + r * c % 3) % 2 == 0
     else ((r + c) % 2 + r * c % 3) % 2 == 0
 
--- The other colour if `is_to_be` is true, and otherwise the colour `bit` itself (ISO/IEC 18004:2015, 7.8.2)
+-- The colour `bit`, changed to the other colour if `is_to_be` is true (ISO/IEC 18004:2015, 7.8.2)
 abbrev pub inverted : Bool → Bool → Bool
 inverted is_to_be bit = if is_to_be then not bit else bit

@@ -26,37 +26,43 @@ use Rattle.qr_symbol.specs.Mask.{inverts, inverted}
 use Rattle.qr_matrix.specs.BitRow.{has_bit}
 use Rattle.qr_symbol.specs.Interleaving.{IsInterleaved}
 
--- The colour of module `m` with the mask undone (ISO/IEC 18004:2015, 12)
+-- The colour that module `m` had before the mask was applied: its colour in `g`, changed to the other colour if the
+-- mask inverts it (ISO/IEC 18004:2015, 12)
 abbrev pub unmasked : ℕ → Grid → Place → Bool
 unmasked mask g m = inverted (inverts mask m.row m.col) (colour g m.row m.col)
 
--- The unmasked colours of the first of the modules `ms`, as many as the codewords of the version have bits. If there
--- are fewer modules, those that are missing count as light (ISO/IEC 18004:2015, 7.7.3, 12)
+-- The bits of all codewords of version `v`, read from the modules `ms` in turn. Each bit is the colour of a module with
+-- the mask undone, where `true` is dark. Modules after the last codeword are left out. If there are too few modules,
+-- the bits that are missing are `false` (ISO/IEC 18004:2015, 7.7.3, 12)
 abbrev pub read_bits : ℕ → ℕ → Grid → List Place → List Bool
 read_bits v mask g ms = map (unmasked mask g) (take (8 * total_codewords_of v) ms) ++ replicate (8 * total_codewords_of v - length ms) false
 
--- The codewords in the region, read in the standard's order with the mask undone (ISO/IEC 18004:2015, 7.7.3, 12)
+-- `cw` are the codewords in the region of the square `g`, read in the standard's order with the mask undone (ISO/IEC
+-- 18004:2015, 7.7.3, 12)
 pub record IsRead (v mask : ℕ) (g : Grid) (cw : List ℕ) : Type 0 where
   pub bytes : All (λ x. x < 256) cw
   pub places : List Place
   pub order : IsOrder v places
   pub bits : bits_of cw ≡ read_bits v mask g places
 
--- As `IsRead`, but without undoing a mask (ISO/IEC 18004:2015, 7.7.3)
+-- `cw` are the codewords in the region of the square `g`, read in the standard's order. No mask is undone (ISO/IEC
+-- 18004:2015, 7.7.3)
 pub record IsReadUnmasked (v : ℕ) (g : Grid) (cw : List ℕ) : Type 0 where
   pub bytes : All (λ x. x < 256) cw
   pub places : List Place
   pub order : IsOrder v places
   pub bits : bits_of cw ≡ map (λ m. colour g m.row m.col) (take (8 * total_codewords_of v) places)
 
--- The square contains the final sequence of the data codewords `d` (ISO/IEC 18004:2015, 7.6, 12)
+-- The square `g` contains the final sequence of the data codewords `d`, drawn under the mask `mask` (ISO/IEC
+-- 18004:2015, 7.6, 12)
 pub record IsMessage (v : ℕ) (l : Level) (mask : ℕ) (g : Grid) (d : List ℕ) : Type 0 where
   pub codewords : List ℕ
   pub read : IsRead v mask g codewords
   pub many : length d ≡ data_codewords_of v l
   pub interleaved : IsInterleaved v l d codewords
 
--- Bit `i` of the format information beside the top left finder pattern (ISO/IEC 18004:2015, 7.9.1)
+-- Bit `i` of the format information beside the top left finder pattern, where bit 0 is the lowest (ISO/IEC 18004:2015,
+-- 7.9.1)
 abbrev pub format_bit : Grid → ℕ → Bool
 format_bit g i = colour g (first_place i).row (first_place i).col
 
@@ -84,29 +90,32 @@ pub record IsParsedAs (g : Grid) (outcome : Result Content ParseFault) : Type 0 
   pub holds : IsMessage version level mask g message
   pub parsed : parse version (bits_of message) ≡ outcome
 
--- The square is read as the content: parsing yields it, and no fault (ISO/IEC 18004:2015, 12)
+-- The square `g` is read as `content`: its data codewords can be parsed, and `content` is what they mean (ISO/IEC
+-- 18004:2015, 12)
 abbrev pub IsReading : Grid → Content → Type 0
 IsReading g content = IsParsedAs g (Ok content)
 
--- The content of a symbol of the bytes `x` with the interpretation `i`: the optional header `h`, the ECI header or FNC1
--- of the interpretation, then the segments, whose characters stand for the bytes (ISO/IEC 18004:2015, 7.4.2, 7.4.8.2)
+-- What a symbol of the bytes `x` with the interpretation `i` has to be read as: the optional header `h`, the ECI header
+-- or FNC1 of the interpretation, then the segments, and the bytes `x` for which the characters of the segments stand
+-- (ISO/IEC 18004:2015, 7.4.2, 7.4.8.2)
 abbrev pub interpreted_content : Interpretation → Option Header → List Segment → List ℕ → Content
 interpreted_content i h segments x = record { header = h; items = items_in i segments; ecis = ecis_in i; bytes = x }
 
--- The content has the interpretation `i`, and no other (ISO/IEC 18004:2015, 7.4.2, 7.4.8.2)
+-- The ECI headers and FNC1 in the content `c` are those of the interpretation `i`, and no others (ISO/IEC 18004:2015,
+-- 7.4.2, 7.4.8.2)
 abbrev pub IsInterpreted : Interpretation → Content → Type 0
 IsInterpreted i c = (c.ecis ≡ ecis_in i) × (fnc1_of c.items ≡ fnc1_in i)
 
--- The square is read as the bytes `x` with the interpretation `i`, without a structured append header. The segments
+-- The square `g` is read as the bytes `x` with the interpretation `i`, without a structured append header. The segments
 -- that are read are those of fewest bits in the modes that `rule` allows (ISO/IEC 18004:2015, 12)
 abbrev pub IsReadBack : ℕ → Rule → Interpretation → List ℕ → Grid → Type 0
 IsReadBack v rule i x g = (segments : List Segment) × (characters : List ℕ) × IsLeastSegmentation i v rule x characters segments
     × IsReading g (interpreted_content i None segments x)
 
--- Reading may fail with the fault. `Memory` is always possible, and `Series` never. Of the other faults at most one
--- applies: `Side` if no version has this side; otherwise `Format` if the format information belongs to no level and
--- mask; otherwise `Check` if the codewords are no final sequence; otherwise `Segments` if the data codewords cannot be
--- parsed (ISO/IEC 18004:2015, 12)
+-- Reading the square `g` may fail with the given fault. `Memory` is always possible, and `Series` never. Of the other
+-- faults at most one applies: `Side` if no version has this side; otherwise `Format` if the format information belongs
+-- to no level and mask; otherwise `Check` if the codewords are no final sequence; otherwise `Segments` if the data
+-- codewords cannot be parsed (ISO/IEC 18004:2015, 12)
 abbrev pub IsUnread : Grid → ReadFault → Type 0
 IsUnread g unread.Memory = Unit {0}
 IsUnread g unread.Side = (v : ℕ) → IsOfVersion g v → ⊥

@@ -9,12 +9,12 @@ use Rattle.qr_bits.specs.Segmentation.{HasFit}
 use Rattle.qr_bits.specs.Padding.{capacity_of}
 use Rattle.qr_bits.specs.Interpretation.{interpretation_bits}
 
--- `x` fits a plain symbol of version `v`. The segments have the whole capacity, less the bits of the ECI header or FNC1
--- of the interpretation (ISO/IEC 18004:2015, 7.4.2, 7.4.8.2, 7.4.10, Table 7)
+-- `x` fits a plain symbol of version `v`. The segments have room for as many bits as the symbol's capacity, less the
+-- bits of the ECI header or FNC1 of the interpretation (ISO/IEC 18004:2015, 7.4.2, 7.4.8.2, 7.4.10, Table 7)
 abbrev pub FitsVersion : ℕ → Level → Rule → Interpretation → List ℕ → Type 0
 FitsVersion v l rule i x = HasFit i v rule x (capacity_of v l - interpretation_bits i)
 
--- The least version, from `smallest` to 40, that `x` fits (ISO/IEC 18004:2015, 7.1)
+-- `v` is the least version, from `smallest` to 40, that `x` fits (ISO/IEC 18004:2015, 7.1)
 pub record IsVersion (smallest : ℕ) (l : Level) (rule : Rule) (i : Interpretation) (x : List ℕ) (v : ℕ) : Type 0 where
   pub least : smallest ≤ v
   pub most : v ≤ 40
@@ -32,7 +32,7 @@ level_rank M = 1
 level_rank Q = 2
 level_rank H = 3
 
--- Of the levels from `l` on, `k` is the highest at which `x` fits version `v` [own]
+-- `k` is the highest level, from `l` on, at which `x` fits version `v` [own]
 pub record IsHighestLevel (v : ℕ) (l : Level) (rule : Rule) (i : Interpretation) (x : List ℕ) (k : Level) : Type 0 where
   pub least : level_rank l ≤ level_rank k
   pub fits : FitsVersion v k rule i x

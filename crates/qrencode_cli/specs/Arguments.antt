@@ -8,23 +8,23 @@ use Rattle.clap.specs.Simple.{App, matches_of, new_app, new_rule, with_rule}
 use Rattle.clap.specs.declared.builder.action.ArgAction.TheVariants.{SetTrue}
 use Rattle.clap.specs.declared.builder.value_parser.ValueParser.TheVariants as parser
 
--- An option that takes a text, as -l does [own]
+-- The rule of an option that takes a text, such as -l [own]
 abbrev pub text_rule : Text → ℕ → Rule
 text_rule id letter = record (new_rule id) { short = Some letter; value_names = 1 }
 
--- An option that takes a number from 0 to `most`, as -v and -m do [own]
+-- The rule of an option that takes a number from 0 to `most`, such as -v or -m [own]
 abbrev pub number_rule : Text → ℕ → ℤ → Rule
 number_rule id letter most = record (text_rule id letter) { parser = Some (parser.Signed (pos 0) most) }
 
--- An option that takes a text, and without which `clap` refuses the arguments [own]
+-- The rule of an option that takes a text, and without which `clap` refuses the arguments [own]
 abbrev pub required_rule : Text → ℕ → Rule
 required_rule id letter = record (text_rule id letter) { required = true }
 
--- An argument that belongs to no option [own]
+-- The rule of an argument that belongs to no option [own]
 abbrev pub positional_rule : Text → Rule
 positional_rule id = record (new_rule id) { value_names = 1 }
 
--- An option without a value [own]
+-- The rule of an option without a value [own]
 abbrev pub flag_rule : Text → ℕ → Rule
 flag_rule id letter = record (new_rule id) { short = Some letter; action = Some SetTrue }
 
@@ -46,10 +46,10 @@ command = with_rule (with_rule (with_rule (with_rule (with_rule (with_rule (with
     (flag_rule (codes "structured") (letter_of (codes "S"))))
     (positional_rule (codes "string"))
 
--- What `clap` finds: the arguments that are given, with their values [own]
+-- What `clap` finds in the command line `words`: the arguments that are given, with their values [own]
 unfoldable pub rows_for : List Text → List Row
 rows_for words = matches_of command words
 
--- The kinds of fault that `clap` finds; there is none if it accepts the arguments [own]
+-- The kinds of fault that `clap` finds in the command line `words`. There is none if it accepts the arguments [own]
 unfoldable pub faults_for : List Text → Kinds
 faults_for words = fault_of command words

@@ -48,11 +48,12 @@ pub record HasSettingsWith (words : List Text) (P : SettingsView → Type 0) : T
   pub taken : settings_for words ≡ Ok settings
   pub holds : P settings
 
--- The arguments ask for this drawing if the reader returned `given` [own]
+-- `drawing` is what the arguments ask for if the reader returned `given` [own]
 abbrev pub HasDrawing : List Text → List ℕ → List ℕ → Type 0
 HasDrawing words given drawing = HasSettingsWith words (λ s. IsDrawing s (held s (input_for s given)) drawing)
 
--- The arguments are accepted, but their input cannot be drawn, for the reason `why` [own]
+-- The arguments are accepted, but their input cannot be drawn, because the reason `why` holds of the settings and the
+-- input [own]
 abbrev pub HasRefusal : List Text → List ℕ → (SettingsView → List ℕ → Type 0) → Type 0
 HasRefusal words given why = HasSettingsWith words (λ s. why s (held s (input_for s given)))
 
@@ -85,16 +86,16 @@ pub record DrawnWhole (settled : Bool) (old new : Writer) (drawing : List ℕ) :
   pub flushed : new.counts.flushes ≡ counted (old.counts.flushes + 1)
   pub ended : new.counts.settled ≡ settled
 
--- The writer received a prefix of the drawing and was not flushed, or it received the whole drawing and was flushed
--- once, and the flush failed [own]
+-- The writer received a prefix of the drawing and was not flushed, or it received all of it and its one flush failed
+-- [own]
 abbrev pub DrawnInPart : Writer → Writer → List ℕ → Type 0
 DrawnInPart old new drawing =
     (AppendsBeginning old.taken new.taken drawing × (new.counts.flushes ≡ old.counts.flushes)
     × (old.counts ≡ no_writes → new.counts.taken ≤ counted (length drawing)))
     ⊎ DrawnWhole false old new drawing
 
--- After success standard output received the whole drawing, after a write fault the drawing in part, and after any
--- other fault it is unchanged [own]
+-- What happened to standard output. After success it received the whole drawing, and after a write fault a prefix of it
+-- or all of it. After any other fault it is unchanged [own]
 abbrev pub OutputHolds : List Text → List ℕ → Writer → Writer → {T : Type 0} → Result T Fault → Type 0
 OutputHolds words given old new (Ok t) = (drawing : List ℕ) × HasDrawing words given drawing × DrawnWhole true old new drawing
 OutputHolds words given old new (Err fault.Write) = (drawing : List ℕ) × HasDrawing words given drawing × DrawnInPart old new drawing

@@ -35,11 +35,11 @@ by_default = record {
   string = None;
 }
 
--- The arguments, after the program's name, have these settings [own]
+-- The arguments `words`, put after the program's name, have these settings [own]
 abbrev pub IsTaken : List Text → SettingsView → Type 0
 IsTaken words settings = settings_for (codes "qrencode" ∷ words) ≡ Ok settings
 
--- The arguments, after the program's name, are refused for this reason [own]
+-- The arguments `words`, put after the program's name, are refused for this reason [own]
 abbrev pub IsRefused : List Text → Reason → Type 0
 IsRefused words why = settings_for (codes "qrencode" ∷ words) ≡ Err why
 
@@ -109,7 +109,7 @@ AnswersAreOne = (words : List Text) (given d e : List ℕ) → HasDrawing words 
 abbrev pub RefusalsExcludeDrawings : Type 0
 RefusalsExcludeDrawings = (words : List Text) (given d : List ℕ) (f : Fault) → HasDrawing words given d → IsRefusal words given f → ⊥
 
--- The faults are equal, or both are refusals by `clap`, whose texts may differ [own]
+-- The two faults are equal, or both are refusals by `clap`, whose texts may differ [own]
 abbrev pub AreAlike : Fault → Fault → Type 0
 AreAlike (fault.Usage (usage.Words text)) (fault.Usage (usage.Words other)) = Unit {0}
 AreAlike r q = r ≡ q
@@ -154,7 +154,7 @@ abbrev pub StatusesAreTwo : Type 0
 StatusesAreTwo = (words : List Text) (in0 in1 : Reader) (out0 out1 err0 err1 : Writer) (outcome : Result (Unit {0}) Fault) (status : ℕ)
     → Runs words in0 in1 out0 out1 err0 err1 outcome status → MatchResult outcome (λ _. status ≡ 0) (λ _. status ≡ 1)
 
--- The line of each fault, except arguments that `clap` refuses [own]
+-- The line that is written for each fault, except for arguments that `clap` refuses [own]
 pub record LinesOfFaults : Type 0 where
   pub level : fault_line (fault.Usage usage.Level) ≡ codes "qrencode: unknown level\n"
   pub type : fault_line (fault.Usage usage.Kind) ≡ codes "qrencode: unknown type\n"

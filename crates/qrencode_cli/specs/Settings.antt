@@ -35,8 +35,8 @@ pub record SettingsView : Type 0 where
   pub structured : Bool
   pub string : Option Text
 
--- The rule is byte mode alone with -8, all modes with -k and without -8, and all modes but kanji mode without both
--- [own]
+-- The rule that the settings determine. It allows byte mode alone with -8, all modes with -k and without -8, and all
+-- modes but kanji mode without both [own]
 abbrev pub rule_for : SettingsView → Rule
 rule_for s = if s.bytes_only then BytesOnly else (if s.kanji then WithKanji else Auto)
 
@@ -61,7 +61,7 @@ drawing_named t =
 abbrev pub number_or : ℕ → Option Text → ℕ
 number_or otherwise o = option_map_or byte_or_zero o otherwise
 
--- The version of -v; 0 asks for none, as if -v were not given [own]
+-- The version that -v gives. If -v is 0 or not given, there is none [own]
 abbrev pub version_at : Option Text → Option ℕ
 version_at o = let n = number_or 0 o in if nat_le 1 n && nat_le n 40 then Some n else None
 
@@ -84,7 +84,7 @@ settings_with rows level kind = record {
   string = first_of (codes "string") rows;
 }
 
--- The settings, unless they ask for a series without a version [own]
+-- The settings, or the reason `needs_version` if they ask for a series without a version [own]
 abbrev pub checked_series : SettingsView → Result SettingsView Reason
 checked_series s = if s.structured && is_none s.smallest then Err needs_version else Ok s
 

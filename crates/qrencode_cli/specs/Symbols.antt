@@ -1,4 +1,4 @@
--- The symbols that the settings `s` ask for, as their squares of modules.
+-- Which symbols the settings `s` ask for. A symbol is given by its square of modules.
 use Rattle.std.specs.Prelude.{◌≡◌, ◌⊎◌, ℕ, true, false, List, [], ◌∷◌, unwrap_or}
 use Rattle.qr_symbol.specs.declared.symbol.Symbol.{Symbol}
 use Rattle.qr_bits.specs.declared.interpretation.Interpretation.TheVariants.{Default}
@@ -8,8 +8,8 @@ use Rattle.qr_symbol.specs.VersionChoice.{HasNoVersion}
 use Rattle.qr_symbol.specs.Series.{HasNoSeries, IsSeries, squares_of}
 use Rattle.qrencode_cli.specs.Settings.{SettingsView, rule_for}
 
--- The smallest version that one symbol may have, and the version of a series: that of -v, or 1 if -v is missing or 0
--- [own]
+-- The smallest version that one symbol may have, which is also the version of a series. It is the version of -v, or 1
+-- if -v is 0 or not given [own]
 abbrev pub smallest_of : SettingsView → ℕ
 smallest_of s = unwrap_or s.smallest 1
 
@@ -26,6 +26,7 @@ AreSymbols s input squares =
 abbrev pub IsTooLong : SettingsView → List ℕ → Type 0
 IsTooLong s input = (s.structured ≡ false) × HasNoVersion (smallest_of s) s.level (rule_for s) Default input
 
--- A series is asked for, and `input` has none of this version and level [own]
+-- A series is asked for, but `input` does not fit one symbol of the version and level in the settings, and would be cut
+-- into more than 16 parts [own]
 abbrev pub IsTooMany : SettingsView → List ℕ → Type 0
 IsTooMany s input = (s.structured ≡ true) × HasNoSeries (smallest_of s) s.level (rule_for s) Default input

@@ -12,13 +12,13 @@ use Rattle.qrproved.specs.declared.interpretation.QrprovedEci.{QrprovedEci}
 abbrev pub told_eci : EciChange → QrprovedEci
 told_eci e = record { begin = e.begin; number = e.number }
 
--- The buffer begins with the ECI headers, or with the first ones if it is too short for all, and the rest of it is
--- unchanged [own]
+-- `before` and `after` are the buffer before and after the call. Afterwards it begins with the ECI headers, or with the
+-- first of them if it is too short for all. The rest of the buffer is unchanged [own]
 abbrev pub HoldsEcis : List EciChange → List QrprovedEci → List QrprovedEci → Type 0
 HoldsEcis ecis before after = after ≡ take (length before) (map told_eci ecis) ++ drop (length ecis) before
 
--- The two numbers are 0 and 0 without FNC1, 1 and 0 for FNC1 in first position, and 2 and the application indicator for
--- FNC1 in second position (ISO/IEC 18004:2015, 7.4.8)
+-- The numbers `fnc1` and `application` report FNC1. They are 0 and 0 without FNC1, 1 and 0 for FNC1 in first position,
+-- and 2 and the application indicator for FNC1 in second position (ISO/IEC 18004:2015, 7.4.8)
 abbrev pub TellsFnc1 : Option Fnc1 → (fnc1 application : ℕ) → Type 0
 TellsFnc1 None fnc1 application = (fnc1 ≡ 0) × (application ≡ 0)
 TellsFnc1 (Some First) fnc1 application = (fnc1 ≡ 1) × (application ≡ 0)

@@ -31,9 +31,9 @@ pub record IsGreatest (xs : List ℕ) (n : ℕ) : Type 0 where
   pub one : Contains xs n
   pub most : All (λ x. x ≤ n) xs
 
--- `m` has the numbers of wrong modules in the square and in the format information, the greatest number of codewords
--- corrected in one block, and the number of misread codewords that can be corrected in a block (ISO/IEC 18004:2015,
--- 7.5.1, 7.9.1)
+-- `m` tells how damaged the symbol is. It has the number of wrong modules in the square, and of those in the format
+-- information. It also has the greatest number of codewords that were corrected in one block, and the number of misread
+-- codewords that can be corrected in a block (ISO/IEC 18004:2015, 7.5.1, 7.9.1)
 pub record TellsDamage (m : QrprovedMended) (changed : List ℕ) (side : ℕ) (modules : List ℕ) : Type 0 where
   pub whole : HasWrongModules (square_of_unknown side modules) (square_of_bytes side modules) m.version (level_of m.level) m.mask changed m.wrong_modules
   pub format : m.wrong_format_modules ≡ wrong_format_modules (square_of_unknown side modules) (square_of_bytes side modules) (level_of m.level) m.mask

@@ -15,8 +15,8 @@ use Rattle.qrproved.specs.Modules.{square_of_bytes}
 abbrev pub IsSide : ℕ → Type 0
 IsSide side = (v : ℕ) × (1 ≤ v) × (v ≤ 40) × (side ≡ side_of v)
 
--- The four numbers are 1 and the three numbers of the structured append header, or four times 0 if there is no header
--- (ISO/IEC 18004:2015, 8.1 to 8.3)
+-- The four numbers report the structured append header. They are 1 and then the three numbers of the header, or four
+-- times 0 if there is no header (ISO/IEC 18004:2015, 8.1 to 8.3)
 abbrev pub TellsHeader : Option Header → (has_header position last parity : ℕ) → Type 0
 TellsHeader None has_header position last parity = (has_header ≡ 0) × (position ≡ 0) × (last ≡ 0) × (parity ≡ 0)
 TellsHeader (Some h) has_header position last parity = (has_header ≡ 1) × (position ≡ h.position) × (last ≡ h.last) × (parity ≡ h.parity)

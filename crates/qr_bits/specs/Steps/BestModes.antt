@@ -12,7 +12,7 @@ use Rattle.qr_bits.specs.declared.interpretation.Interpretation.{Interpretation}
 use Rattle.qr_bits.specs.Interpretation.{character_for}
 use Rattle.qr_bits.specs.Steps.RunState.{state_after, state_in, cost_in, may_begin, allowed_in, choice_number, ranked, IsBestRest, IsChoice}
 
--- The choice for the state, as a number
+-- The choice that `b` has for the given state. A choice is one number: 4 times its bits, plus the rank of its mode
 unfoldable pub in_state : PerState → RunState → ℕ
 in_state b Start = b.start
 in_state b Digit1 = b.digit1
@@ -24,11 +24,12 @@ in_state b InBytes = b.in_bytes
 in_state b HalfPair = b.half_pair
 in_state b WholePair = b.whole_pair
 
--- The bits of the choice for the state `p`
+-- The number of bits of the choice that `numbers` has for the state `p`
 abbrev pub bits_at : PerState → RunState → ℕ
 bits_at numbers p = in_state numbers p / 4
 
--- The choice of alphanumeric mode for the byte `x` after the state `p`, as a number
+-- The choice of alphanumeric mode for the byte `x` after the state `p`, as a number: 4 times its bits, plus the rank of
+-- the mode
 abbrev pub character_choice : Interpretation → ℕ → Rule → ℕ → Bool → PerState → RunState → ℕ
 character_choice i v r x pair rest p =
     choice_number (may_begin r (character_for i x Alphanumeric) pair Alphanumeric) (cost_in i v p x Alphanumeric + bits_at rest (state_in i p x Alphanumeric)) Alphanumeric
@@ -46,7 +47,7 @@ IsSmall n =
     (n.start < 40000000) × (n.digit1 < 40000000) × (n.digit2 < 40000000) × (n.digit3 < 40000000) × (n.character1 < 40000000)
     × (n.character2 < 40000000) × (n.in_bytes < 40000000) × (n.half_pair < 40000000) × (n.whole_pair < 40000000)
 
--- The index, in a row, of the lower of the two bits of a state
+-- Where a row has the mode for a state: it takes two bits, and this is the index of the lower of them
 abbrev pub shift_of : RunState → ℕ
 shift_of Start = 0
 shift_of Digit1 = 2
@@ -66,19 +67,20 @@ mode_at row p = ranked (row / 2 ^ shift_of p % 4)
 abbrev pub IsRow : Interpretation → ℕ → Rule → ℕ → Bool → PerState → ℕ → PerState → Type 0
 IsRow i v r x pair rest row numbers = (p : RunState) → IsChoice i v r p x pair (bits_at rest) (mode_at row p) (bits_at numbers p)
 
--- The modes that are read from the rows. The first row is read for the state `p`, and each mode leads to the state for
--- which the next row is read
+-- The modes that are read from the rows, one from each row. The first row is read for the state `p`, and each mode
+-- leads to the state for which the next row is read
 unfoldable pub follow : RunState → List ℕ → List Mode
 follow p [] = []
 follow p (row ∷ rows) = mode_at row p ∷ follow (state_after p (mode_at row p)) rows
 
--- As `follow`, but the rows are those of the bytes `xs`, each of which is written as one or two characters
+-- The modes that are read from the rows for the bytes `xs`, one from each row. The first row is read for the state `p`.
+-- The next row is read for the state to which the one or two characters lead that are written for the byte
 unfoldable pub follow_in : Interpretation → RunState → List ℕ → List ℕ → List Mode
 follow_in i p [] rows = []
 follow_in i p (x ∷ xs) [] = []
 follow_in i p (x ∷ xs) (row ∷ rows) = mode_at row p ∷ follow_in i (state_in i p x (mode_at row p)) xs rows
 
--- For each state after which some assignment to the bytes `xs` is allowed, `follow_in` reads the best assignment from
--- the rows
+-- For each state after which some assignment to the bytes `xs` is allowed, the modes that are read from the rows are
+-- the best assignment
 abbrev pub IsBestTable : Interpretation → ℕ → Rule → (ℕ → ℕ → Bool) → List ℕ → List ℕ → Type 0
 IsBestTable i v r test xs rows = (p : RunState) (ks : List Mode) → IsTrue (allowed_in i r test p xs ks) → (n : ℕ) × IsBestRest i v r test p xs (follow_in i p xs rows) n

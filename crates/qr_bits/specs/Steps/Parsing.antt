@@ -7,11 +7,11 @@ use Rattle.qr_bits.specs.declared.fault.ParseFault.TheVariants.{Memory}
 use Rattle.qr_bits.specs.Modes.{byte_count, payload_bits}
 use Rattle.qr_bits.specs.Parsing.{◌>>=◌, values_of}
 
--- The code returns the fault `e`, which is `Memory`, or the fault that the result `read` is
+-- The code has returned the fault `e`. It is `Memory`, or it is the fault that the result `read` is
 abbrev pub IsFaultOf : {A : Type 0} → ParseFault → Result A ParseFault → Type 0
 IsFaultOf e read = (e ≡ Memory) ⊎ (read ≡ Err e)
 
--- The result `read`, with the bytes `prefix`, which were read earlier, before its own bytes
+-- The result `read`, with the bytes `prefix` before its own bytes. These were read earlier
 abbrev pub prepend_read : List ℕ → Result (List ℕ) ParseFault → Result (List ℕ) ParseFault
 prepend_read prefix read = read >>= λ xs. Ok (prefix ++ xs)
 
@@ -21,7 +21,8 @@ abbrev pub IsReadOf : Result (Unit {0}) ParseFault → Result (List ℕ) ParseFa
 IsReadOf r read width out new bits rest =
     MatchResult r (λ _. (prepend_read out read ≡ Ok new) × (rest ≡ drop width bits)) (λ e. IsFaultOf e (prepend_read out read))
 
--- A segment whose mode `m` and number of characters `n` were already read
+-- The segment that is read from the bits after its mode `m` and its number `n` of characters, its characters, and the
+-- bits that remain
 abbrev pub segment_of : Mode → ℕ → List Bool → Result (Segment × List ℕ × List Bool) ParseFault
 segment_of m n bits =
     values_of m n bits >>= λ xs. Ok (record { mode = m; len = byte_count m n }, xs, drop (payload_bits m (byte_count m n)) bits)

@@ -14,7 +14,7 @@ use Rattle.qr_bits.specs.Interpretation.{character_for, is_doubled}
 use Rattle.qr_bits.specs.Modes.{count_width, is_digit, is_alphanumeric, may_use}
 use Rattle.qr_bits.specs.Segmentation.{rank, IsNotAfter}
 
--- The state after one more byte, which has the mode `m`
+-- The state after the state `p` and one more byte, which has the mode `m`
 unfoldable pub state_after : RunState → Mode → RunState
 state_after Digit1 Numeric = Digit2
 state_after Digit2 Numeric = Digit3
@@ -54,30 +54,32 @@ byte_cost v HalfPair Kanji = 0
 byte_cost v WholePair Kanji = 13
 byte_cost v _ Kanji = 4 + count_width v Kanji + 13
 
--- The test for a kanji pair if bytes are taken from the last to the first, so that the second byte of a pair comes
--- before its first
+-- The given test for a kanji pair, with its two arguments exchanged. It is used where bytes are taken from the last to
+-- the first, so that the second byte of a pair comes before its first
 abbrev pub swapped : (ℕ → ℕ → Bool) → ℕ → ℕ → Bool
 swapped test x y = test y x
 
--- The rule allows kanji mode, and the first two bytes are a kanji pair
+-- The rule allows kanji mode, and the first two of the bytes are a kanji pair
 unfoldable pub begins_with_pair : Rule → (ℕ → ℕ → Bool) → List ℕ → Bool
 begins_with_pair r test [] = false
 begins_with_pair r test (x ∷ []) = false
 begins_with_pair r test (x ∷ y ∷ xs) = may_use r Kanji && test x y
 
--- The byte `x` may have the mode if it is not the second byte of a kanji pair
+-- The byte `x`, which is not the second byte of a kanji pair, may have the given mode. In kanji mode it has to be the
+-- first of a pair, as `pair` says
 unfoldable pub may_begin : Rule → ℕ → Bool → Mode → Bool
 may_begin r x pair Numeric = may_use r Numeric && is_digit x
 may_begin r x pair Alphanumeric = may_use r Alphanumeric && is_alphanumeric x
 may_begin r x pair Byte = may_use r Byte
 may_begin r x pair Kanji = pair
 
--- The byte `x` may have the mode `m` after the state `p`; after half a kanji pair only kanji mode is possible
+-- The byte `x` may have the mode `m` after the state `p`. If it is the second byte of a kanji pair, only kanji mode is
+-- possible
 unfoldable pub may_take : Rule → RunState → ℕ → Bool → Mode → Bool
 may_take r HalfPair x pair m = rank m == rank Kanji
 may_take r _ x pair m = may_begin r x pair m
 
--- An assignment may end in this state, which may be any but `HalfPair`
+-- An assignment may end in this state, which is any but the state after the first byte of a kanji pair
 unfoldable pub may_end : RunState → Bool
 may_end HalfPair = false
 may_end _ = true
@@ -99,19 +101,22 @@ abbrev pub is_gs1 : Interpretation → Bool
 is_gs1 written.Gs1 = true
 is_gs1 _ = false
 
--- The state after the one or two characters that are written for the byte `x` in the mode `m`
+-- The state after the state `p` and the one or two characters that are written for the byte `x` in the mode `m`
 abbrev pub state_in : Interpretation → RunState → ℕ → Mode → RunState
 state_in i p x m = if is_doubled i x m then state_after (state_after p m) m else state_after p m
 
--- How many bits the characters that are written for the byte `x` add
+-- How many bits are added after the state `p` by the one or two characters that are written for the byte `x` in the
+-- mode `m`
 abbrev pub cost_in : Interpretation → ℕ → RunState → ℕ → Mode → ℕ
 cost_in i v p x m = if is_doubled i x m then byte_cost v p m + byte_cost v (state_after p m) m else byte_cost v p m
 
--- As `may_take`, but the mode has to suit the character that is written for the byte `x`
+-- The byte `x` may have the mode `m` after the state `p`. The mode has to suit the character that is written for the
+-- byte, which in GS1 data may differ from the byte
 abbrev pub may_take_in : Interpretation → Rule → RunState → ℕ → Bool → Mode → Bool
 may_take_in i r p x pair m = may_take r p (character_for i x m) pair m
 
--- As `allowed`, but the modes have to suit the characters that are written for the bytes
+-- After the state `p` the bytes may have the given modes, one mode for each byte. A mode has to suit the character that
+-- is written for its byte, which in GS1 data may differ from the byte
 unfoldable pub allowed_in : Interpretation → Rule → (ℕ → ℕ → Bool) → RunState → List ℕ → List Mode → Bool
 allowed_in i r test p [] [] = may_end p
 allowed_in i r test p [] (m ∷ ms) = false
@@ -148,6 +153,6 @@ pub record IsChoice (i : Interpretation) (v : ℕ) (r : Rule) (p : RunState) (x 
 abbrev pub choice_number : Bool → ℕ → Mode → ℕ
 choice_number may bits m = if may then 4 * bits + rank m else 4294967295
 
--- The mode that has the rank `n`
+-- The mode that has the rank `n`, from 0 for numeric mode to 3 for kanji mode
 abbrev pub ranked : ℕ → Mode
 ranked n = if n == 0 then Numeric else (if n == 1 then Alphanumeric else (if n == 2 then Byte else Kanji))

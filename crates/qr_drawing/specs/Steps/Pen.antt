@@ -6,15 +6,16 @@ use Rattle.qr_drawing.specs.Steps.Writing.{Stops, Writes}
 use Rattle.qr_drawing.specs.declared.pen.DrawFault.{DrawFault}
 use Rattle.qr_drawing.specs.declared.pen.Pen.{Pen}
 
--- The bytes in the pen and then `text` are to be written. If the call succeeded, a prefix of them, perhaps an empty
--- one, was written, and the pen contains the rest; otherwise a fault of the writer ended the call after a prefix of
--- them was written
+-- The call puts `text` after the bytes in the pen. If it succeeded, a prefix of all these bytes, perhaps an empty one,
+-- was written, and the pen contains the rest. Otherwise a fault of the writer ended the call after a prefix of them was
+-- written
 abbrev pub Puts : Writer → Writer → Pen → Pen → List ℕ → {T : Type 0} → Result T DrawFault → Type 0
 Puts old new before after text r = MatchResult r
     (λ _. Writes old new before.interrupted after.interrupted (before.piece ++ text) after.piece)
     (λ _. Stops old new before.interrupted (before.piece ++ text))
 
--- As `Puts`, without a text: the call only makes room
+-- The call makes room in the pen. If it succeeded, a prefix of the bytes in the pen, perhaps an empty one, was written,
+-- and the pen contains the rest. Otherwise a fault of the writer ended the call after a prefix of them was written
 abbrev pub Reserves : Writer → Writer → Pen → Pen → {T : Type 0} → Result T DrawFault → Type 0
 Reserves old new before after r = MatchResult r
     (λ _. Writes old new before.interrupted after.interrupted before.piece after.piece)

@@ -1,8 +1,9 @@
--- The parts of an SVG document before and after the boxes, and of a box.
+-- The text of an SVG document before the boxes of its path and after them, and the end of the text of a box. A box is a
+-- rectangle that shows a run of dark modules.
 use Rattle.std.specs.Prelude.{ℕ, List, ◌++◌, codes}
 use Rattle.qr_drawing.specs.Svg.{background, closing, declaration, numbered, opening}
 
--- All lines before the path, and the beginning of its line
+-- All lines of the document before the line with the path, and the beginning of this line
 unfoldable pub head : ℕ → ℕ → List ℕ
 head width height = declaration ++ opening width height ++ background width height ++ codes "<path fill=\"#000000\" d=\""
 
@@ -10,6 +11,6 @@ head width height = declaration ++ opening width height ++ background width heig
 unfoldable pub tail : List ℕ
 tail = codes "\"/>\n" ++ closing
 
--- The text after the row of a box
+-- The end of a box in the path, after the row of the box
 unfoldable pub width_path : ℕ → List ℕ
 width_path modules = numbered (codes "h") modules ++ numbered (codes "v1h-") modules ++ codes "z"

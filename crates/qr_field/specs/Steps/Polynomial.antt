@@ -8,7 +8,7 @@ abbrev pub carried : ℕ → List ℕ → ℕ → List ℕ
 carried c [] root = product c root ∷ []
 carried c (x ∷ q) root = bit_xor x (product c root) ∷ carried x q root
 
--- The value of the polynomial p if x is 2 to the power i
+-- The value of the polynomial p at 2 to the power i
 abbrev pub value_at : ℕ → List ℕ → ℕ
 value_at i [] = 0
 value_at i (c ∷ p) = bit_xor (product c (power (i * length p))) (value_at i p)

@@ -4,7 +4,7 @@ use Prim.Native.Nat.{zero, suc}
 use Rattle.qr_field.specs.declared.register.Register.{Register}
 use Rattle.qr_field.specs.Polynomial.{scaled, generator_of, IsCorrection}
 
--- Coefficients in one number, with eight bits for each. The first is in the lowest bits
+-- The coefficients as one number, with eight bits for each, of which the first has the lowest
 abbrev pub packed : List ℕ → ℕ
 packed [] = 0
 packed (b ∷ bs) = packed bs * 2 ^ 8 + b
@@ -30,7 +30,8 @@ pub record HasMultiples (g : List ℕ) (shift bound : ℕ) (rows : List Register
   pub many : length rows ≡ 16
   pub each : (f : ℕ) → f < bound → value_of (slice_index_or rows f zero_register) ≡ packed (scaled (f * 2 ^ shift) g)
 
--- The number v holds the n error correction codewords of d, packed
+-- The number v contains the n error correction codewords of d, with eight bits for each. The first is in the lowest
+-- bits
 pub record IsHeld (d : List ℕ) (n v : ℕ) : Type 0 where
   pub items : List ℕ
   pub correction : IsCorrection d n items

@@ -9,15 +9,16 @@ use Rattle.qr_layout.specs.Version.{side_of}
 use Rattle.qr_layout.specs.Order.{column_without_timing}
 use Rattle.qr_layout.specs.Strips.{strip_at}
 
--- How many modules of the strip's row the walk visits before this one
+-- How many modules of the same row and strip the walk visits before the module at which a cursor is: none before the
+-- right one, and one before the left one
 abbrev pub half_of : Bool → ℕ
 half_of at_left = if at_left then 1 else 0
 
--- The place at which a cursor is, in the right column of its strip or in the one to the left of it
+-- The place at which the cursor `a` is, in the right or in the left column of its strip
 abbrev pub place_of : Cursor → Place
 place_of a = let right = (strip_at a.strips_left).right in record { row = a.row; col = if a.at_left then right - 1 else right }
 
--- How many rows of the strip the walk visits before that of the cursor `a`
+-- How many rows of its strip the walk visits before the row of the cursor `a`
 abbrev pub rows_before_of : ℕ → Cursor → ℕ
 rows_before_of s a = if (strip_at a.strips_left).upward then s - 1 - a.row else a.row
 
@@ -25,8 +26,8 @@ rows_before_of s a = if (strip_at a.strips_left).upward then s - 1 - a.row else 
 unfoldable pub left_of : ℕ → Cursor → ℕ
 left_of s a = a.strips_left * (2 * s) - (2 * rows_before_of s a + half_of a.at_left)
 
--- The cursor after `a`: in a row the left module comes after the right one, then the right one of the strip's next
--- row. After the strip's last row comes the same row of the next strip
+-- The cursor after `a`. In a row of the strip the left module comes after the right one. Then comes the right module of
+-- the row that is filled next. After the last row, the walk goes on in the same row of the next strip
 unfoldable pub next_of : ℕ → Cursor → Cursor
 next_of s a =
     if a.at_left then
@@ -34,12 +35,12 @@ next_of s a =
     else record { strips_left = a.strips_left; row = if (strip_at a.strips_left).upward then a.row - 1 else a.row + 1; at_left = false })
     else record { strips_left = a.strips_left; row = a.row; at_left = true }
 
--- A cursor of the walk of version `v`, or the end of this walk
+-- `a` is a cursor of the walk through version `v`, or the end of this walk
 pub record IsCursor (v : ℕ) (a : Cursor) : Type 0 where
   pub strips_in : a.strips_left ≤ 8 + 2 * v
   pub row_in : a.row < side_of v
 
--- The places in the encoding region among those of `n` cursors from `a` on
+-- The places in the encoding region at which the `n` cursors from `a` on are
 unfoldable pub places_among : ℕ → ℕ → Cursor → List Place
 places_among v zero a = []
 places_among v (suc n) a =
@@ -53,6 +54,6 @@ to_come v a = places_among v (left_of (side_of v) a) a
 abbrev pub first_cursor : ℕ → Cursor
 first_cursor v = record { strips_left = 8 + 2 * v; row = 16 + 4 * v; at_left = false }
 
--- The cursor at the place `m`, if `m` is not in column 6
+-- The cursor that is at the place `m`, if `m` is not in column 6
 unfoldable pub cursor_at : Place → Cursor
 cursor_at m = let c = column_without_timing m.col in record { strips_left = c / 2 + 1; row = m.row; at_left = c % 2 == 0 }

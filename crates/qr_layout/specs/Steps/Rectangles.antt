@@ -5,8 +5,8 @@ use Rattle.qr_layout.specs.declared.rectangles.Rectangle.{Rectangle}
 use Rattle.qr_layout.specs.Version.{side_of}
 use Rattle.qr_layout.specs.Alignment.{centres_of, alignment_places}
 
--- The rectangle is inside a symbol with `s` modules on a side, and neither `bottom` nor `right` is before its first row
--- or column
+-- The rectangle is inside a symbol with `s` modules on a side. The row `bottom` and the column `right`, which are the
+-- first ones outside the rectangle, are not before `top` and `left`
 pub record IsInside (s : ℕ) (b : Rectangle) : Type 0 where
   pub rows : b.top ≤ b.bottom
   pub bottom : b.bottom ≤ s
@@ -20,11 +20,11 @@ pub record IsCentreInside (s : ℕ) (m : Place) : Type 0 where
   pub col_least : 2 ≤ m.col
   pub col_most : m.col + 3 ≤ s
 
--- The five by five modules of the alignment pattern with the centre `m` (ISO/IEC 18004:2015, 6.3.6)
+-- The rectangle of five by five modules that is the alignment pattern with the centre `m` (ISO/IEC 18004:2015, 6.3.6)
 abbrev pub rectangle_around : Place → Rectangle
 rectangle_around m = record { top = m.row - 2; bottom = m.row + 3; left = m.col - 2; right = m.col + 3 }
 
--- The alignment patterns for the rows `cs` of centres (ISO/IEC 18004:2015, 6.3.6)
+-- The rectangles of the alignment patterns, if `cs` lists the rows of their centres (ISO/IEC 18004:2015, 6.3.6)
 abbrev pub alignment_rectangles : ℕ → List ℕ → List Rectangle
 alignment_rectangles s cs = map rectangle_around (alignment_places s cs)
 

@@ -9,29 +9,29 @@ use Rattle.qr_mending.specs.Format.{IsNearFormat}
 use Rattle.qr_mending.specs.Mending.{HasFormat, HoldsDamaged, IsOfNoUse}
 use Rattle.qr_mending.specs.Steps.Message.{HasCorrections}
 
--- With this level and mask not all blocks of the square can be mended.
+-- If the square is read with the level `l` and the mask `mask`, not all of its blocks can be mended.
 abbrev pub HoldsNone : Grid → ℕ → Level → ℕ → Grid → Type 0
 HoldsNone unknown v l mask g = (message changed : List ℕ) → HoldsDamaged unknown v l mask g message changed → ⊥
 
--- `m` has the blocks of the square as they are mended with the level and the mask of `m`.
+-- `m` has a level, a mask, and the blocks of the square as they are mended with this level and mask.
 pub record IsMendedSquare (unknown : Grid) (v : ℕ) (g : Grid) (m : MendedSquare) : Type 0 where
   pub held : HoldsDamaged unknown v m.level m.mask g m.message.items m.changed.items
   pub corrections : HasCorrections v m.level m.message.items m.corrections.items
 
--- `o` is the square, mended with the level and the mask `near`. It is `None` if `near` is `None`, or if some block
--- cannot be mended with this level and mask.
+-- If `near` is a level and a mask with which all blocks of the square can be mended, `o` is the square that is mended
+-- with them. Otherwise `o` is `None`.
 abbrev pub IsMendedWith : Grid → ℕ → Grid → Option (Level × ℕ) → Option MendedSquare → Type 0
 IsMendedWith unknown v g near o = MatchOption o (IfSome near (λ f. HoldsNone unknown v f.0 f.1 g))
     (λ m. (near ≡ Some (m.level, m.mask)) × IsMendedSquare unknown v g m)
 
--- `o` is the square, mended with the level and the mask that are near to the copy. It is `None` if no such pair mends
--- the square.
+-- If all blocks of the square can be mended with a level and a mask that are near to the copy, `o` is the square that
+-- is mended with them. Otherwise `o` is `None`.
 abbrev pub IsMendedBy : Grid → ℕ → Grid → FormatCopy → Option MendedSquare → Type 0
 IsMendedBy unknown v g copy o = MatchOption o (IsOfNoUse unknown copy v g)
     (λ m. IsNearFormat unknown copy g m.level m.mask × IsMendedSquare unknown v g m)
 
--- `o` is the square, mended with the level and the mask by which it has to be read. It is `None` if no pair that is
--- near to a copy mends the square.
+-- `o` is the square, mended with the level and the mask by which it has to be read. It is `None` if with every level
+-- and mask that are near to a copy, some block cannot be mended.
 abbrev pub IsMendedByEither : Grid → ℕ → Grid → Option MendedSquare → Type 0
 IsMendedByEither unknown v g o = MatchOption o ((any : FormatCopy) → IsOfNoUse unknown any v g)
     (λ m. HasFormat unknown v g m.level m.mask × IsMendedSquare unknown v g m)

@@ -14,7 +14,8 @@ use Rattle.qr_mending.specs.declared.message.MarksInBlocks.TheVariants as parted
 use Rattle.qr_mending.specs.Erasures.{read_of}
 use Rattle.qr_mending.specs.Message.{received, AreInBlocks, IsMendedBlock}
 
--- What was read of a block: `None` for a codeword whose mark is not 0
+-- What was read of the given codewords of a block: `None` for a codeword whose mark is not 0, and the codeword itself
+-- otherwise
 abbrev pub read_by : List ℕ → List ℕ → List (Option ℕ)
 read_by codewords marks = read_of codewords (map (λ mark. not (mark == 0)) marks)
 
@@ -23,7 +24,8 @@ abbrev pub list_of : ℕ → Marks → List ℕ
 list_of n interleaved.AllZero = zeros n
 list_of n (interleaved.Each marks) = marks.items
 
--- `parts` has the marks of a symbol in the order of the blocks
+-- `parts` has the same marks of a symbol as the given `Marks`, but in the order of the blocks and not in that of the
+-- final sequence. If one of the two has no list, since every module was read, the other has none either
 abbrev pub AreMarksInBlocks : Blocks → Marks → MarksInBlocks → Type 0
 AreMarksInBlocks b interleaved.AllZero parted.AllZero = Unit {0}
 AreMarksInBlocks b interleaved.AllZero (parted.Each parts) = ⊥
@@ -31,26 +33,28 @@ AreMarksInBlocks b (interleaved.Each marks) parted.AllZero = ⊥
 AreMarksInBlocks b (interleaved.Each marks) (parted.Each parts) =
     AreInBlocks b marks.items parts.data.items parts.checks.items
 
--- There are no marks, or one for each codeword
+-- No list of marks was made, since every module was read, or there is a mark for each codeword
 abbrev pub AreWhole : Blocks → MarksInBlocks → Type 0
 AreWhole b parted.AllZero = Unit {0}
 AreWhole b (parted.Each parts) = (length parts.data.items ≡ codeword_count (data_sizes b))
     × (length parts.checks.items ≡ codeword_count (correction_sizes b))
 
--- The marks of block `i`. If all marks of the symbol are 0, the list is empty, which means the same, since codewords
--- past the end of their marks count as read
+-- The marks of the codewords of block `i`, counted from 0. If all marks of the symbol are 0, the list is empty, which
+-- means the same, since codewords past the end of their marks count as read
 abbrev pub marks_at : Blocks → MarksInBlocks → ℕ → List ℕ
 marks_at b parted.AllZero i = []
 marks_at b (parted.Each parts) i = received b parts.data.items parts.checks.items i
 
--- `message` has the mended data codewords of the first `n` blocks. Item i of `misread` is the number of misread
--- codewords of block i, and `marks i` are the marks of this block
+-- `message` has the mended data codewords of the first `n` blocks, each of which was mended by at most `spare` error
+-- correction codewords. Item i of `misread` is the number of misread codewords of block i, and `marks i` are the marks
+-- of this block
 pub record AreMended (b : Blocks) (spare : ℕ) (d e : List ℕ) (marks : ℕ → List ℕ) (n : ℕ) (message misread : List ℕ) : Type 0 where
   pub long : length message ≡ start_of (data_sizes b) n
   pub many : length misread ≡ n
   pub each : (i : ℕ) → i < n → IsMendedBlock b spare (read_by (received b d e i) (marks i)) message (slice_index misread i) i
 
--- The interleaved codewords `cw` with the marks `marks` can be mended to `message`
+-- The interleaved codewords `cw` with the marks `marks` can be mended to the data codewords `message`. Item i of
+-- `misread` is the number of misread codewords of block i, counted from 0
 pub record IsMendedMessage (b : Blocks) (spare : ℕ) (cw marks message misread : List ℕ) : Type 0 where
   pub codewords : List ℕ
   pub checks : List ℕ
@@ -60,7 +64,8 @@ pub record IsMendedMessage (b : Blocks) (spare : ℕ) (cw marks message misread 
   pub marked : AreInBlocks b marks unread unread_checks
   pub mended : AreMended b spare codewords checks (received b unread unread_checks) (block_count (data_sizes b)) message misread
 
--- `corrections` has the error correction codewords of all blocks of `message`
+-- `corrections` lists the error correction codewords of all blocks, block by block, if `message` lists their data
+-- codewords
 pub record HasCorrections (v : ℕ) (l : Level) (message corrections : List ℕ) : Type 0 where
   pub long : length message ≡ data_codewords_of v l
   pub checks : IsChecks (blocks_of v l) message (block_count (data_sizes (blocks_of v l))) corrections

@@ -9,27 +9,30 @@ use Rattle.qr_mending.specs.declared.locator.Search.{Search}
 use Rattle.qr_mending.specs.declared.locator.Progress.{Progress}
 use Rattle.qr_mending.specs.Steps.Sums.{dot_of, HasValues}
 
--- The coefficients, that of the lowest power first.
+-- The coefficients of `p`, that of the lowest power first.
 abbrev pub all_of : Polynomial → List ℕ
 all_of p = take (p.degree + 1) p.terms
 
--- The leading coefficient is 1.
+-- The leading coefficient of `p` is 1.
 abbrev pub IsMonic : Polynomial → Type 0
 IsMonic p = slice_index p.terms p.degree ≡ 1
 
--- The sum for the equation of `window`.
+-- The sum of the coefficients of `p`, that of the lowest power first, each multiplied by the item of `window` at the
+-- same index. If it is 0, the equation is solved.
 abbrev pub discrepancy_of : Polynomial → List ℕ → ℕ
 discrepancy_of p window = dot_of (all_of p) window
 
 -- `p` has the leading coefficient 1, and solves all equations for which the first `i` of the syndromes `s` are enough.
+-- Equation j says that the products of the coefficients and the syndromes from index j on add up to 0.
 pub record IsBest (i : ℕ) (s : List ℕ) (p : Polynomial) : Type 0 where
   pub bytes : All IsByte (all_of p)
   pub count : length (all_of p) ≡ p.degree + 1
   pub monic : IsMonic p
   pub solved : (j : ℕ) → j + p.degree < i → discrepancy_of p (drop j s) ≡ 0
 
--- The search after the first `i` of the syndromes `s`. Of the equations with an index below the degree of `best`,
--- `earlier` solves all but the last, for which it has the sum `discrepancy`.
+-- The search for the error locator polynomial after the first `i` of the syndromes `s`. The polynomial `best` solves
+-- all equations for which these are enough. Of the equations with an index below its degree, `earlier` solves all but
+-- the last, in which it has the sum `discrepancy`.
 pub record IsSearch (i : ℕ) (s : List ℕ) (search : Search) : Type 0 where
   pub best : IsBest i s search.best
   pub bytes : All IsByte (all_of search.earlier)
@@ -38,8 +41,9 @@ pub record IsSearch (i : ℕ) (s : List ℕ) (search : Search) : Type 0 where
   pub before : (j : ℕ) → j + 1 < search.best.degree → discrepancy_of search.earlier (drop j s) ≡ 0
   pub last : (j : ℕ) → j + 1 ≡ search.best.degree → discrepancy_of search.earlier (drop j s) ≡ search.discrepancy
 
--- The first syndromes of a block with the remainder `r`, and the search for its error locator polynomial. The search
--- took in `taken` syndromes, at most 2`t`, and the degree of `best` is at most `t`.
+-- `progress` has the first syndromes of a block with the remainder `r`, and the search for its error locator
+-- polynomial. The search has taken in `taken` of these syndromes, at most 2`t`, and the degree of the polynomial `best`
+-- that it has found is at most `t`.
 pub record IsProgress (t : ℕ) (r : List ℕ) (progress : Progress) : Type 0 where
   pub values : HasValues progress.syndromes.items r
   pub count : length progress.syndromes.items ≤ length r

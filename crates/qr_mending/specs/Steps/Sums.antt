@@ -3,7 +3,8 @@ use Rattle.std.specs.Prelude.{◌≡◌, ℕ, ◌+◌, ◌<◌, List, [], ◌∷
 use Rattle.qr_field.specs.Galois.{product}
 use Rattle.qr_field.specs.Steps.Polynomial.{value_at}
 
--- The sum of the products of items at equal indices, as far as both lists go.
+-- The sum of the products of items of the two lists at equal indices, in the field of 256 elements. If one list is
+-- longer, its further items do not count.
 abbrev pub dot_of : List ℕ → List ℕ → ℕ
 dot_of [] w = 0
 dot_of (a ∷ p) [] = 0

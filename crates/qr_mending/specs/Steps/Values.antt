@@ -5,11 +5,12 @@ use Rattle.std.specs.Int.{byte_at}
 use Rattle.qr_field.specs.Galois.{product}
 use Rattle.qr_mending.specs.declared.sums.Sums.{Sums}
 
--- The sum in the field of 64 times `a`, 16 times `b`, 4 times `c`, and `d`, by Horner's rule.
+-- The sum of 64 times `a`, 16 times `b`, 4 times `c`, and `d`, in the field of 256 elements. It is computed by Horner's
+-- rule.
 abbrev pub of_digits : ℕ → ℕ → ℕ → ℕ → ℕ
 of_digits a b c d =
     bit_xor (product 2 (product 2 (bit_xor (product 2 (product 2 (bit_xor (product 2 (product 2 a)) b))) c))) d
 
--- Sum k, computed from its parts for the four weights.
+-- Sum k of the sixteen, from k = 0 on, computed from the four sums for the weights 64, 16, 4 and 1 of the digits.
 abbrev pub sum_at : ℕ → Sums → ℕ
 sum_at k s = of_digits (byte_at k s.sixty_fours) (byte_at k s.sixteens) (byte_at k s.fours) (byte_at k s.ones)

@@ -1,4 +1,4 @@
--- What a text can show, before the drawing is made again.
+-- What is found in a text before it is compared with the drawing that it would have to be.
 use Rattle.std.specs.Prelude.{◌≡◌, ℕ, ◌<◌, ◌≤◌, List, length}
 use Rattle.std.specs.List.{All}
 use Rattle.qr_matrix.specs.Grid.{Grid, IsSquare}
@@ -6,14 +6,14 @@ use Rattle.qr_drawing.specs.Drawing.{HaveOneSide}
 use Rattle.qr_drawing.specs.declared.drawing.Drawing.{Drawing}
 use Rattle.qr_parsing.specs.Parsing.{IsDrawingOf}
 
--- 1 to 16 squares with the same side, which can be drawn
+-- The squares can be drawn: there are 1 to 16, all with the same side
 pub record CanBeDrawn (squares : List Grid) : Type 0 where
   pub some : 0 < length squares
   pub few : length squares ≤ 16
   pub one_side : HaveOneSide squares
   pub whole : All (λ g. IsSquare g.side g) squares
 
--- If `text` is a drawing, it is that of this type, this margin and these squares, which can be drawn
+-- If `text` is any drawing, it is the one of this type, this margin and these squares. The squares can be drawn
 pub record IsGuess (kind : Drawing) (margin : ℕ) (squares : List Grid) (text : List ℕ) : Type 0 where
   pub drawable : CanBeDrawn squares
   pub only : (k : Drawing) (m : ℕ) (s : List Grid) → IsDrawingOf k m s text → (k ≡ kind) × (m ≡ margin) × (s ≡ squares)

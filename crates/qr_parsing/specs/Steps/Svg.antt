@@ -15,17 +15,17 @@ numbers_after number inside (byte ∷ bytes) =
     if is_digit byte then numbers_after (min (number * 10 + (byte - 48)) 99999) true bytes
     else (if inside then number ∷ numbers_after 0 false bytes else numbers_after 0 false bytes)
 
--- The decimal numbers in a text, without a number at its very end
+-- The decimal numbers in a text. A number at its very end is left out
 abbrev pub numbers_in : List ℕ → List ℕ
 numbers_in text = numbers_after 0 false text
 
--- The place in row `r` and column `c` is in a box. The numbers are those of all boxes, five for each box: its column,
--- its row, its width, its height, and its width again
+-- The place in row `r` and column `c` is in a box. The list has five numbers for each box: its column, its row, its
+-- width, its height, and its width again
 abbrev pub is_in_boxes : List ℕ → ℕ → ℕ → Bool
 is_in_boxes (x ∷ y ∷ modules ∷ high ∷ back ∷ numbers) r c = (y == r && (nat_le x c && nat_lt c (x + modules))) || is_in_boxes numbers r c
 is_in_boxes numbers r c = false
 
--- A byte for each module of a document, row by row: 1 for those in boxes, 0 for the others
+-- A byte for each module of an SVG document, row by row. It is 1 if the module is in a box, and otherwise 0
 abbrev pub canvas_of : ℕ → ℕ → List ℕ → List ℕ
 canvas_of width height numbers = map (λ i. if is_in_boxes numbers (i / width) (i % width) then 1 else 0) (range_with_len 0 (width * height))
 
@@ -35,7 +35,7 @@ unfoldable pub leading : ℕ → List ℕ → ℕ × List ℕ
 leading number [] = (number, [])
 leading number (byte ∷ bytes) = if is_digit byte then leading (number * 10 + (byte - 48)) bytes else (number, bytes)
 
--- The text from its first `M` on
+-- The text from its first letter `M` on, where a path begins
 abbrev pub path_in : List ℕ → List ℕ
 path_in [] = []
 path_in (byte ∷ bytes) = if byte == 77 then byte ∷ bytes else path_in bytes

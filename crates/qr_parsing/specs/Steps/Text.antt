@@ -6,7 +6,7 @@ use Rattle.std.specs.List.{filter, position_or_len}
 abbrev pub is_cell : ℕ → Bool
 is_cell byte = not (byte == 0xE2 || byte == 0x96)
 
--- One of the first 22 bytes is the first of a block character
+-- Among the first 22 bytes of the text is one with which a block character begins
 abbrev pub has_block : List ℕ → Bool
 has_block text = nat_lt (position_or_len (λ byte. byte == 0xE2) (take 22 text)) (length (take 22 text))
 
@@ -14,6 +14,6 @@ has_block text = nat_lt (position_or_len (λ byte. byte == 0xE2) (take 22 text))
 abbrev pub cells_in : List ℕ → List ℕ
 cells_in text = filter is_cell text
 
--- The number of bytes before the first newline
+-- The number of bytes before the first newline, which is the length of the first line
 abbrev pub first_line : List ℕ → ℕ
 first_line bytes = position_or_len (λ byte. byte == 10) bytes

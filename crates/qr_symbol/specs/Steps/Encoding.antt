@@ -10,12 +10,15 @@ use Rattle.qr_symbol.specs.declared.fault.EncodeFault.{EncodeFault}
 use Rattle.qr_symbol.specs.declared.fault.EncodeFault.TheVariants as fault
 use Rattle.qr_symbol.specs.VersionChoice.{HasNoVersion, IsVersion}
 
--- The least version that `x` fits, and the characters and segments of fewest bits in this version.
+-- `v` is the least version, from `smallest` on, that `x` fits. `characters` and `segments` are those of fewest bits in
+-- this version.
 pub record IsFit (smallest : ℕ) (l : Level) (rule : Rule) (i : Interpretation) (x : List ℕ) (v : ℕ) (characters : List ℕ) (segments : List Segment) : Type 0 where
   pub version : IsVersion smallest l rule i x v
   pub chosen : IsLeastSegmentation i v rule x characters segments
 
--- The result is a fault exactly if `encode` has to return this fault.
+-- The result `r` is `Empty` exactly if `x` is empty. If memory suffices, it is `TooLong` exactly if `x` fits no version
+-- from `smallest` on. In any case it is `TooLong` if `x` has more than 7,089 bytes, which no symbol has room for. The
+-- only other fault is `Memory`.
 pub record IsRefusedExactly {X : Type 0} (smallest : ℕ) (l : Level) (rule : Rule) (i : Interpretation) (x : List ℕ) (r : Result X EncodeFault) : Type 0 where
   pub empty : (r ≡ Err fault.Empty) ↔ (x ≡ [])
   pub too_long : (r ≡ Err fault.TooLong) ↔ ((r ≢ Err fault.Memory) × HasNoVersion smallest l rule i x)

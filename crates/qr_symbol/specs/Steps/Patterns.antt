@@ -8,23 +8,27 @@ use Rattle.qr_layout.specs.Role.{role_of}
 use Rattle.qr_matrix.specs.BitRow.{has_bit}
 use Rattle.qr_matrix.specs.Grid.{Grid, colour, IsSquare}
 
--- The colour of a module by its role. A module of the region counts as light.
+-- The colour of a module that has the given role. A module of format or version information has the colour of its bit
+-- in the number `format` or `version`. A module of the region counts as light.
 unfoldable pub fixed_colour : ℕ → ℕ → Role → Bool
 fixed_colour format version (Fixed dark) = dark
 fixed_colour format version (FormatBit i) = has_bit format i
 fixed_colour format version (VersionBit i) = has_bit version i
 fixed_colour format version Region = false
 
--- The colour of the module in row `r` and column `c` of version `v`. A module of the region counts as light.
+-- The colour of the module in row `r` and column `c` of version `v`, if the format information is the number `format`.
+-- A module of the region counts as light.
 abbrev pub paint_of : ℕ → ℕ → ℕ → ℕ → Bool
 paint_of v format r c = fixed_colour format (version_word_of v) (role_of v r c)
 
--- A square has the colours `paint` at the places that pass the test, and `other` at all other places.
+-- The square `g` has the side `s`. It has the colours `paint` at the places that pass the test, and `other` at all
+-- other places.
 pub record IsOver (s : ℕ) (test paint other : ℕ → ℕ → Bool) (g : Grid) : Type 0 where
   pub square : IsSquare s g
   pub colours : (r c : ℕ) → r < s → c < s → colour g r c ≡ (if test r c then paint r c else other r c)
 
--- The place is in the eight by eight modules whose top left one is in row `top` and column `left`.
+-- The place in row `r` and column `c` is in the square of eight by eight modules whose top left module is in row `top`
+-- and column `left`.
 abbrev pub is_in_block : ℕ → ℕ → ℕ → ℕ → Bool
 is_in_block top left r c = nat_le top r && nat_lt r (top + 8) && nat_le left c && nat_lt c (left + 8)
 
@@ -33,19 +37,21 @@ is_in_block top left r c = nat_le top r && nat_lt r (top + 8) && nat_le left c &
 abbrev pub symmetric_format : ℕ
 symmetric_format = 128
 
--- Module `at` of row 6, or of column 6, is dark; `s` is the side. The seven modules at each end belong to finder
--- patterns, and are dark. Between them, those with an even index are.
+-- The module with the index `at` in row 6, or in column 6, is dark; `s` is the side. The seven modules at each end of
+-- this row or column belong to finder patterns, and are dark. Between them, the modules with an even index are dark.
 abbrev pub is_dark_in_six : ℕ → ℕ → Bool
 is_dark_in_six s at = nat_lt at 7 || nat_le (s - 7) at || at % 2 == 0
 
--- The colour of a module after the format information was drawn. `other` is its colour before.
+-- The colour of a module with the given role after the format information, the number `format`, was drawn. `other` is
+-- its colour before.
 unfoldable pub format_or : ℕ → Role → Bool → Bool
 format_or format (Fixed dark) other = other
 format_or format (FormatBit i) other = has_bit format i
 format_or format (VersionBit i) other = other
 format_or format Region other = other
 
--- As `format_or`, but only bits `first` to `end - 1` are drawn.
+-- The colour of a module with the given role, after bits `first` to `end - 1` of the format information, the number
+-- `format`, were drawn. `other` is its colour before.
 unfoldable pub format_bits_or : ℕ → ℕ → ℕ → Role → Bool → Bool
 format_bits_or first end format (Fixed dark) other = other
 format_bits_or first end format (FormatBit i) other = if nat_le first i && nat_lt i end then has_bit format i else other

@@ -1,8 +1,8 @@
 -- The colours after each step of drawing the codewords `cw` in version `v`. Their bits are numbered from 0, and bit 0
 -- is the highest bit of the first codeword.
 --
--- `x` is a strip, and `first` the number of its first bit. Its rows are counted from 0 in the direction in which it is
--- filled. `s` is the side of the symbol. `y` and `region` are the two columns of the strip, as rows of a transposed
+-- `x` is a strip, and `first` the number of its first bit. Its rows come in the order of filling, which is upward or
+-- downward. `s` is the side of the symbol. `y` and `region` are the two columns of the strip, as rows of a transposed
 -- square, and in `region` exactly the bits of the region are set. `before` and `after` are two columns too, but in
 -- `IsStripDrawn` they are squares.
 use Rattle.std.specs.Prelude.{◌≡◌, ◌<◌, ◌≤◌, ℕ, ◌+◌, ◌-◌, ◌&&◌, Bool, false, true, if◌then◌else◌, List}
@@ -21,59 +21,67 @@ use Rattle.qr_symbol.specs.Mask.{inverts, inverted}
 use Rattle.qr_symbol.specs.Steps.{Patterns.{format_or, paint_of, symmetric_format}, Spans.row_of}
 use Rattle.qr_matrix.specs.Penalty.{penalty_of}
 
--- The colour of the module's bit in the region, and `other r c` elsewhere.
+-- The colour of the module in row `r` and column `c` when the codewords have been drawn without a mask. In the region
+-- it is the codeword bit that the module contains, and elsewhere it is `other r c`.
 unfoldable pub placed_colour : ℕ → List ℕ → (ℕ → ℕ → Bool) → ℕ → ℕ → Bool
 placed_colour v cw other r c =
     if is_in_region v r c then codeword_bit cw (index_of v (record { row = r; col = c })) else other r c
 
--- As `placed_colour`, but the bit is inverted where the mask inverts.
+-- The colour of the module in row `r` and column `c` when the codewords have been drawn under the mask. In the region
+-- it is the codeword bit that the module contains, inverted where the mask inverts, and elsewhere it is `other r c`.
 unfoldable pub walked_colour : ℕ → List ℕ → ℕ → (ℕ → ℕ → Bool) → ℕ → ℕ → Bool
 walked_colour v cw mask other r c =
     if is_in_region v r c then inverted (inverts mask r c) (codeword_bit cw (index_of v (record { row = r; col = c }))) else other r c
 
--- The number of the next bit after one module: one more than `number` if the module is in the region.
+-- The number of the next bit after a module. It is `number`, or one more if the module is in the region and has taken a
+-- bit.
 abbrev pub number_after : Bool → ℕ → ℕ
 number_after is_in number = if is_in then number + 1 else number
 
--- The number of the next bit after the first `k` rows of the strip, whose first bit has the number `first`.
+-- The number of the next bit when the first `k` rows of the strip `x` have been filled. Before the first row it is
+-- `first`.
 abbrev pub number_at : ℕ → Strip → ℕ → ℕ → ℕ
 number_at v x first zero = first
 number_at v x first (suc k) =
     number_after (is_in_region v (row_of (side_of v) x k) (x.right - 1)) (number_after (is_in_region v (row_of (side_of v) x k) x.right) (number_at v x first k))
 
--- In row `k` of the strip and the rows after it, all modules of the region are light in the columns `y`.
+-- After the first `k` rows of the strip, in the order of filling, all modules of the region are light in the columns
+-- `y`.
 abbrev pub AreLight : ℕ → Strip → ℕ → Columns → Columns → Type 0
 AreLight s x k region y = (rank : ℕ) → k ≤ rank → rank < s
     → ((has region.right (row_of s x rank) && has y.right (row_of s x rank)) ≡ false) × ((has region.left (row_of s x rank) && has y.left (row_of s x rank)) ≡ false)
 
--- In the `n` rows of the strip from row `k` on, the columns `y` are light.
+-- After the first `k` rows of the strip, in the order of filling, come `n` rows that are light in the columns `y`.
 abbrev pub AreLightRows : ℕ → Strip → ℕ → ℕ → Columns → Type 0
 AreLightRows s x k n y = (j : ℕ) → k ≤ j → j < k + n → (has y.right (row_of s x j) ≡ false) × (has y.left (row_of s x j) ≡ false)
 
--- All modules of the `n` rows of the strip from row `k` on are in the region.
+-- After the first `k` rows of the strip, in the order of filling, come `n` rows whose modules are all in the region.
 abbrev pub AreWhole : ℕ → Strip → ℕ → ℕ → Type 0
 AreWhole v x k n = (j : ℕ) → k ≤ j → j < k + n
     → (is_in_region v (row_of (side_of v) x j) x.right ≡ true) × (is_in_region v (row_of (side_of v) x j) (x.right - 1) ≡ true)
 
--- The columns `x` of the strip, whose right column has the index `right`, are set exactly in the region.
+-- `right` is the index of a strip's right column in the symbol. In the two columns `x` exactly those bits are set whose
+-- modules are in the region.
 abbrev pub IsRegion : ℕ → ℕ → Columns → Type 0
 IsRegion v right x = (row : ℕ) → row < side_of v → (has x.right row ≡ is_in_region v row right) × (has x.left row ≡ is_in_region v row (right - 1))
 
--- Drawing row `k` of the strip changes the colours of its two modules from `right` and `left` to `right'` and `left'`.
--- A module in the region gets its bit; the first bit of the strip has the number `first`.
+-- Drawing the row that comes after `k` rows of the strip, in the order of filling, changes the colours of its two
+-- modules from `right` and `left` to `right'` and `left'`. A module in the region gets its bit, and another module
+-- keeps its colour. The first bit of the strip has the number `first`.
 abbrev pub IsRowDrawn : ℕ → List ℕ → Strip → ℕ → ℕ → (right left right' left' : Bool) → Type 0
 IsRowDrawn v cw x first k right left right' left' =
     (right' ≡ (if is_in_region v (row_of (side_of v) x k) x.right then codeword_bit cw (number_at v x first k) else right))
     × (left' ≡ (if is_in_region v (row_of (side_of v) x k) (x.right - 1) then codeword_bit cw (number_after (is_in_region v (row_of (side_of v) x k) x.right) (number_at v x first k)) else left))
 
--- Drawing `n` rows of the strip from row `k` on changes its columns from `before` to `after`.
+-- Drawing the `n` rows that come after the first `k` rows of the strip, in the order of filling, changes its two
+-- columns from `before` to `after`.
 pub record AreDrawn (v : ℕ) (cw : List ℕ) (x : Strip) (first k n : ℕ) (before after : Columns) : Type 0 where
   pub drawn : (j : ℕ) → k ≤ j → j < k + n
       → IsRowDrawn v cw x first j (has before.right (row_of (side_of v) x j)) (has before.left (row_of (side_of v) x j)) (has after.right (row_of (side_of v) x j)) (has after.left (row_of (side_of v) x j))
   pub kept : (row : ℕ) → ((j : ℕ) → k ≤ j → j < k + n → row_of (side_of v) x j ≡ row → ⊥) → (has after.right row ≡ has before.right row) × (has after.left row ≡ has before.left row)
 
--- Drawing the strip changes the transposed square from `before` to `after`. The bit after the strip has the number
--- `next`.
+-- Drawing the strip, whose first bit has the number `first`, changes the transposed square from `before` to `after`.
+-- The next bit after it has the number `next`.
 pub record IsStripDrawn (v : ℕ) (cw : List ℕ) (x : Strip) (first : ℕ) (before : Grid) (next : ℕ) (after : Grid) : Type 0 where
   pub number : next ≡ number_at v x first (side_of v)
   pub square : IsSquare (side_of v) after
@@ -81,24 +89,25 @@ pub record IsStripDrawn (v : ℕ) (cw : List ℕ) (x : Strip) (first : ℕ) (bef
       → IsRowDrawn v cw x first j (colour before x.right (row_of (side_of v) x j)) (colour before (x.right - 1) (row_of (side_of v) x j)) (colour after x.right (row_of (side_of v) x j)) (colour after (x.right - 1) (row_of (side_of v) x j))
   pub kept : (row col : ℕ) → row < side_of v → col < side_of v → (col ≡ x.right → ⊥) → (col ≡ x.right - 1 → ⊥) → colour after col row ≡ colour before col row
 
--- The colour after two steps: `plain` was masked where `region` is dark, and then the format information, the number
--- `format`, was drawn.
+-- The colour of the module in row `r` and column `c` when two steps have changed the square `plain`. First the mask was
+-- applied to the modules that are dark in `region`. Then the format information, the number `format`, was drawn.
 unfoldable pub masked_colour : ℕ → ℕ → ℕ → Grid → Grid → ℕ → ℕ → Bool
 masked_colour v format mask region plain r c = format_or format (role_of v r c) (inverted (colour region r c && inverts mask r c) (colour plain r c))
 
--- The square `plain`, masked where `region` is dark, into which the format information of level `l` and mask `mask` was
--- then drawn.
+-- The square `plain` when two steps have changed it. First the mask `mask` was applied to the modules that are dark in
+-- `region`. Then the format information of level `l` and this mask was drawn.
 abbrev pub masked_grid : ℕ → Level → ℕ → Grid → Grid → Grid
 masked_grid v l mask region plain = square (side_of v) (masked_colour v (format_word_of l mask) mask region plain)
 
--- The square in which exactly the region is dark.
+-- A square of version `v` in which exactly the modules of the region are dark.
 abbrev pub region_grid : ℕ → Grid
 region_grid v = square (side_of v) (is_in_region v)
 
--- The symbol before a mask is applied, with only bit 7 of the format information dark.
+-- The symbol that contains the codewords `cw`, before a mask is applied. Of its format information only bit 7 is dark.
 abbrev pub plain_grid : ℕ → List ℕ → Grid
 plain_grid v cw = square (side_of v) (placed_colour v cw (paint_of v symmetric_format))
 
--- The penalty of `masked_grid`.
+-- The penalty of the square `plain` when the mask was applied to the modules that are dark in `region`, and then the
+-- format information of level `l` and this mask was drawn.
 abbrev pub masked_penalty : ℕ → Level → Grid → Grid → ℕ → ℕ
 masked_penalty v l region plain mask = penalty_of (side_of v) (colour (masked_grid v l mask region plain))

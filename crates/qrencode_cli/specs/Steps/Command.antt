@@ -1,5 +1,6 @@
--- What each step of a run can return. `words` are the arguments, and `s` the settings. A device is `old` before the
--- step and `new` after it; in `Attempts` it is `in0` or `out0` before, and `in1` or `out1` after.
+-- What each step of a run can return. `words` are the arguments, and `s` the settings. A drawing job has what is needed
+-- for a drawing: its type, its margin and the symbols. A device is `old` before the step and `new` after it; in
+-- `Attempts` it is `in0` or `out0` before, and `in1` or `out1` after.
 use Rattle.std.specs.Prelude.{◌≡◌, ◌<◌, ◌≤◌, ◌↔◌, ◌⊎◌, ℕ, List, [], false, length, max, IfErr, IsErrOf, IsTrue, OnOk, Result, Ok, Err, MatchResult, true}
 use Rattle.clap.specs.Walk.{Text}
 use Rattle.qrencode_cli.specs.Command.{AllRead, DrawnInPart, DrawnWhole, HasDrawing, InputConsumed, IsDrawing, IsFault}
@@ -32,7 +33,7 @@ pub record StopsReading (old new : Reader) (f : Fault) : Type 0 where
   pub read_fault : old.counts ≡ no_reads → (f ≡ Read) ↔ IsTrue (is_read_fault new.counts)
   pub within : old.counts ≡ no_reads → IsReadWithin new.counts
 
--- The drawing that is written if no write fails
+-- The drawing that a job writes if no write fails
 abbrev pub drawing_of_job : DrawingJob → List ℕ
 drawing_of_job job = drawn job.kind job.margin (squares_of job.symbols.items)
 
@@ -60,7 +61,7 @@ IsInputFault s input _ = ⊥
 abbrev pub IsJobFor : SettingsView → List ℕ → Result DrawingJob Fault → Type 0
 IsJobFor s input result = MatchResult result (λ p. IsDrawing s input (drawing_of_job p)) (IsInputFault s input)
 
--- No byte of the drawing is written before this fault
+-- The fault is one that occurs before any byte of the drawing is written
 abbrev pub IsEarly : Fault → Type 0
 IsEarly Write = ⊥
 IsEarly _ = Unit {0}
