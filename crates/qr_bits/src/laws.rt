@@ -216,8 +216,8 @@ pub fn foldings_compute()
         ≡ 0x41 ∷ 0x93 ∷ 0x61 ∷ 0x41 ∷ 0x93 ∷ [] }
 {}
 
-/// The lower bounds on the bits of five inputs. The inputs contain the bytes on both sides of `0`, `9` and `Z`, where
-/// the bound for a byte changes.
+/// The lower bounds on the bits of five inputs. The inputs contain `/` and `0`, `9` and `:`, and `Z` and `[`. Between
+/// the two bytes of each pair the bound for a byte changes.
 #[tactic(auto, unfolding(crate::specs::Segmentation::least_bits))]
 pub fn least_bits_compute()
     ensures { map least_bits (codes "012" ∷ codes "/9:" ∷ codes "AZ" ∷ codes "[z" ∷ codes "1A[" ∷ [])

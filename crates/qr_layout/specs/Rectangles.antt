@@ -11,8 +11,9 @@ use Rattle.qr_layout.specs.Version.{side_of}
 abbrev pub is_in_rectangle : ℕ → ℕ → Rectangle → Bool
 is_in_rectangle r c b = nat_le b.top r && nat_lt r b.bottom && nat_le b.left c && nat_lt c b.right
 
--- The rectangles `bs` are inside the symbol. A place of the symbol is in one of them exactly if it is in a corner, in a
--- timing pattern or in the version information (ISO/IEC 18004:2015, 6.3.3 to 6.3.5, 7.9, 7.10)
+-- The rectangles `bs` are inside the symbol. A place of the symbol is in one of them exactly if it is in a corner with
+-- a finder pattern (its separator, format information and dark module included), in a timing pattern or in the version
+-- information (ISO/IEC 18004:2015, 6.3.3 to 6.3.5, 7.9, 7.10)
 pub record AreFixed (v : ℕ) (bs : List Rectangle) : Type 0 where
   pub inside : All (λ b. (b.top ≤ b.bottom) × (b.bottom ≤ side_of v) × (b.left ≤ b.right) × (b.right ≤ side_of v)) bs
   pub places : (r c : ℕ) → r < side_of v → c < side_of v → list_any (is_in_rectangle r c) bs

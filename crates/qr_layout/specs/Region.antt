@@ -7,8 +7,8 @@ use Rattle.qr_layout.specs.declared.region.Place.{Place}
 use Rattle.qr_layout.specs.Version.{side_of}
 use Rattle.qr_layout.specs.Alignment.{centres_of, alignment_places}
 
--- The place is in a corner with a finder pattern. Such a corner also has the separator of the pattern and format
--- information, and in the bottom left corner is the dark module (ISO/IEC 18004:2015, 6.3.3, 6.3.4, 7.9)
+-- The place is in a corner with a finder pattern. Such a corner also has format information and the separator of the
+-- pattern, and in the bottom left corner is the dark module (ISO/IEC 18004:2015, 6.3.3, 6.3.4, 7.9)
 abbrev pub is_corner : ℕ → ℕ → ℕ → Bool
 is_corner s r c = nat_le r 8 && (nat_le c 8 || nat_le (s - 8) c) || nat_le (s - 8) r && nat_le c 8
 

@@ -94,9 +94,9 @@ pub record IsAbove (join : ℕ → Bool) (n : ℕ) (joined threes earlier_threes
   pub fives_are : fives ≡ (nat_lt 3 n && begin_five join (n - 4))
   pub earlier_fives_are : earlier_fives ≡ (nat_lt 4 n && begin_five join (n - 5))
 
--- What is counted when `n` rows are done. `runs` are the points for the runs of these rows, and those points for runs
--- of columns that modules of the first `n - 3` rows are charged. `squares` is the number of two by two modules of one
--- colour whose upper row is one of the `n` rows
+-- What is counted when `n` rows are done. `runs` is a sum of points. It has those for the runs in these rows. For the
+-- runs in columns it has one point for each module of the first `n - 3` rows that is charged one (`is_charged`).
+-- `squares` is the number of two by two modules of one colour whose upper row is one of the `n` rows
 pub record IsCountedTo (s : ℕ) (dark : ℕ → ℕ → Bool) (n runs squares : ℕ) : Type 0 where
   pub runs_are : runs ≡ sum_below n (λ r. place_cost s (dark r)) + sum_below (n - 3) (row_share s dark)
   pub runs_most : runs ≤ 192 * n + 192 * (n - 3)

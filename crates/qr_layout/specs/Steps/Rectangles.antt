@@ -1,4 +1,5 @@
--- The rectangles that the program fills one after the other.
+-- Rectangles that cover all modules outside the encoding region. To draw the region, the code makes all modules of a
+-- square dark, and then these rectangles light, one after the other.
 use Rattle.std.specs.Prelude.{ℕ, ◌≤◌, ◌+◌, ◌-◌, nat_lt, if◌then◌else◌, List, [], ◌∷◌, ◌++◌, map}
 use Rattle.qr_layout.specs.declared.region.Place.{Place}
 use Rattle.qr_layout.specs.declared.rectangles.Rectangle.{Rectangle}
