@@ -260,21 +260,21 @@ fn pair_at(kanji: bool, rule: Rule, bytes: &[u8]) -> bool
 }
 
 // Returns the table: a row for each byte of `input`. That of the last byte is first, so `pop` takes the rows in the
-// order of the bytes.
+// order of the bytes. The rule is one that allows more than byte mode.
 pub(crate) fn best_modes(
     alloc: Global,
     input: &[u8],
     version: Version,
     rule: Rule,
 ) -> Result<Vec<u32>, AllocError>
-    requires { length input.now ≤ INPUT_MAX }
+    requires short { length input.now ≤ INPUT_MAX }
+    requires mixed { rule ≡ Rule.BytesOnly → ⊥ }
     ensures { IfOk result (λ t. (vec_len t ≡ length input.now)
         × IsBestTable Interpretation.Default version rule is_kanji_pair input.now (reverse t.items)) }
 {
-    if may_use(rule, Mode::Kanji) {
-        best_rows(alloc, input, version, rule, true, false)
-    } else {
-        best_rows(alloc, input, version, rule, false, false)
+    match rule {
+        Rule::WithKanji => best_rows(alloc, input, version, Rule::WithKanji, true, false),
+        _ => best_rows(alloc, input, version, Rule::Auto, false, false),
     }
 }
 
