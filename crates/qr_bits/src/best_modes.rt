@@ -193,13 +193,17 @@ fn is_doubled(gs1: bool, byte: u8) -> bool
     gs1 && byte == b'%'
 }
 
-// The character that alphanumeric mode writes for a byte. In GS1 data it is `%` for the separator of fields (ISO/IEC
-// 18004:2015, 7.4.8.2).
+// Whether the rule allows alphanumeric mode, and it can write the byte. In GS1 data it writes `%` for the separator of
+// fields (ISO/IEC 18004:2015, 7.4.8.2).
 #[inline(always)]
-fn character_for(gs1: bool, byte: u8) -> u8
-    ensures { (i : Interpretation) → gs1 ≡ is_gs1 i → result ≡ character_for i byte Mode.Alphanumeric }
+fn may_be_character(gs1: bool, rule: Rule, byte: u8) -> bool
+    ensures { (i : Interpretation) (pair : Bool) → gs1 ≡ is_gs1 i
+        → result ≡ may_begin rule (character_for i byte Mode.Alphanumeric) pair Mode.Alphanumeric }
 {
-    if gs1 && byte == SEPARATOR { b'%' } else { byte }
+    if may_begin(rule, byte, Mode::Alphanumeric) {
+        return true;
+    }
+    gs1 && byte == SEPARATOR && may_use(rule, Mode::Alphanumeric)
 }
 
 // The row of a byte, and its best choice for each state before it. `rest` has the best choices of the next byte.
@@ -219,12 +223,12 @@ pub(crate) fn row_of(
     // `choices` is compiled into each of the places that call it. Where a flag is a constant, the compiler leaves out
     // the cases that it excludes. A byte that may be written in numeric mode may be written in alphanumeric mode too.
     let digit = may_begin(rule, byte, Mode::Numeric);
-    let doubled = is_doubled(gs1, byte);
     if digit && !pair {
         let characters = character_choices(first_choices, true, false, rest);
         return choices(first_choices, true, &characters, false, rest);
     }
-    let may = may_begin(rule, character_for(gs1, byte), Mode::Alphanumeric);
+    let doubled = is_doubled(gs1, byte);
+    let may = may_be_character(gs1, rule, byte);
     if pair || doubled {
         let characters = character_choices(first_choices, may, doubled, rest);
         return choices(first_choices, digit, &characters, pair, rest);
