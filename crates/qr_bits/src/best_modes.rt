@@ -193,8 +193,8 @@ fn is_doubled(gs1: bool, byte: u8) -> bool
     gs1 && byte == b'%'
 }
 
-// Whether the rule allows alphanumeric mode, and it can write the byte. In GS1 data it writes `%` for the separator of
-// fields (ISO/IEC 18004:2015, 7.4.8.2).
+// Whether the rule allows alphanumeric mode, and this can write the byte. In GS1 data it writes `%` for the separator
+// of fields (ISO/IEC 18004:2015, 7.4.8.2). That is tested last, since the separator is rare.
 #[inline(always)]
 fn may_be_character(gs1: bool, rule: Rule, byte: u8) -> bool
     ensures { (i : Interpretation) (pair : Bool) → gs1 ≡ is_gs1 i
@@ -264,7 +264,9 @@ fn pair_at(kanji: bool, rule: Rule, bytes: &[u8]) -> bool
 }
 
 // Returns the table: a row for each byte of `input`. That of the last byte is first, so `pop` takes the rows in the
-// order of the bytes. The rule is one that allows more than byte mode.
+// order of the bytes. The rule is one that allows more than byte mode. Out of line, so that the loop has all registers
+// to itself.
+#[inline(never)]
 pub(crate) fn best_modes(
     alloc: Global,
     input: &[u8],
@@ -282,8 +284,7 @@ pub(crate) fn best_modes(
     }
 }
 
-// As `best_modes`, for GS1 data, under a rule that allows more than byte mode. Out of line, so that the loop has all
-// registers to itself.
+// As `best_modes`, for GS1 data.
 #[inline(never)]
 pub(crate) fn best_gs1_modes(
     alloc: Global,

@@ -1,4 +1,4 @@
-use Rattle.std.proofs.Common.{◌≡◌, false, true, sym, ◌∙◌}
+use Rattle.std.proofs.Common.{◌≡◌, false, sym, ◌∙◌}
 use Rattle.std.proofs.lemmas.Bool.{false≢true}
 use Rattle.qr_bits.proofs.lemmas.best_modes.ChoiceLemmas.{digit_written}
 use Rattle.qr_bits.proofs.best_modes.row_of.Goals as goal

@@ -1,12 +1,12 @@
 -- The segments and characters of GS1 data, byte by byte.
-use Rattle.std.proofs.Common.{◌≡◌, ℕ, suc, ◌+◌, ◌*◌, ◌-◌, ◌<◌, ◌≤◌, Bool, true, false, cond, not, ◌==◌, List, [], ◌∷◌, ◌++◌, length, get_or, take, drop, reverse, append_assoc, refl, sym, ap, ◌∙◌, arith}
-use Rattle.std.proofs.lemmas.{Bool.{cases_Bool, cond_both, eqb-true}, List.{append-nil, drop_more, get_or-drop, length-append, length-drop, length-take-le, take_more}}
-use Rattle.qr_bits.specs.declared.{modes.Mode.Mode, segment.Segment.Segment, run_state.RunState.{RunState, TheVariants.Start}}
+use Rattle.std.proofs.Common.{◌≡◌, ℕ, ◌+◌, ◌*◌, ◌-◌, ◌<◌, ◌≤◌, Bool, true, false, cond, List, [], ◌∷◌, ◌++◌, length, get_or, take, drop, reverse, append_assoc, refl, sym, ap, ◌∙◌, arith}
+use Rattle.std.proofs.lemmas.{Bool.{cond_both, eqb-true}, List.{append-nil, drop_more, get_or-drop, length-append, length-drop, length-take-le, take_more}}
+use Rattle.qr_bits.specs.declared.{modes.Mode.Mode, segment.Segment.Segment, run_state.RunState.{RunState}}
 use Rattle.qr_bits.specs.declared.interpretation.Interpretation.{TheVariants.{Gs1}}
 use Rattle.qr_bits.specs.Interpretation.{character_for, characters_gs1, doubled_gs1, is_doubled, percent}
 use Rattle.qr_bits.specs.Segmentation.{runs_of}
 use Rattle.qr_bits.specs.Steps.{BestModes.{follow_in, mode_at}, RunState.{state_after, state_in, state_on}, Segmentation.{append_mode, is_escaped, one_segment}}
-use Rattle.qr_bits.proofs.lemmas.{best_modes.{ChoiceLemmas.{on_after, on_in}, TableLemmas.led_on_in}, interpretation.WrittenLemmas.{characters-append, characters-one, doubled-append, doubled-one}, segmentation.BackLemmas.{run_same, runs_of-push}}
+use Rattle.qr_bits.proofs.lemmas.{best_modes.{ChoiceLemmas.{on_in}, TableLemmas.led_on_in}, interpretation.WrittenLemmas.{characters-append, characters-one, doubled-append, doubled-one}, segmentation.BackLemmas.{run_same, runs_of-push}}
 
 -- of the bytes `xs` the first `i`, whose modes were read, have the segments `found` and one of `n` characters, and their
 -- characters are `chars` and the bytes from `copied` on; `rows` are left of the table

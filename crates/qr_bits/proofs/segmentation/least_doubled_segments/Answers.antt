@@ -1,8 +1,8 @@
-use Rattle.std.proofs.Common.{◌≡◌, ℕ, ◌+◌, ◌*◌, ◌-◌, ◌<◌, ◌≤◌, true, false, cond, List, [], ◌∷◌, ◌++◌, length, get_or, take, drop, reverse, refl, sym, ap, ◌∙◌, arith}
+use Rattle.std.proofs.Common.{◌≡◌, ◌+◌, ◌-◌, ◌<◌, ◌≤◌, cond, [], ◌∷◌, ◌++◌, length, get_or, take, drop, reverse, refl, sym, ap, ◌∙◌, arith}
 use Rattle.std.proofs.{Math.Nat.le_refl, lemmas.{Bool.ne_eqb, List.{append-nil, drop_all, take_all}}}
-use Rattle.qr_bits.specs.declared.{segment.Segment.Segment, interpretation.Interpretation.TheVariants.Gs1, run_state.RunState.TheVariants.Start}
-use Rattle.qr_bits.specs.{Interpretation.{character_for, characters_gs1, doubled_gs1, is_doubled, percent}, Segmentation.runs_of, Steps.BestModes.follow_in, Steps.Segmentation.{append_mode, is_escaped, one_segment}, Steps.RunState.{state_after, state_in, state_on}}
-use Rattle.qr_bits.proofs.lemmas.segmentation.{AssignedLemmas.assignment_from_table, BackLemmas.{other_mode, run_other, run_same, same_mode}, DoubledRunLemmas.{IsWritten, escaped_more, percent_character, plain_character, plain_more, separator_character, written_more}}
+use Rattle.qr_bits.specs.declared.{interpretation.Interpretation.TheVariants.Gs1, run_state.RunState.TheVariants.Start}
+use Rattle.qr_bits.specs.{Interpretation.{character_for, characters_gs1, doubled_gs1, is_doubled, percent}, Segmentation.runs_of, Steps.BestModes.follow_in, Steps.Segmentation.{append_mode, one_segment}, Steps.RunState.{state_after, state_in, state_on}}
+use Rattle.qr_bits.proofs.lemmas.segmentation.{AssignedLemmas.assignment_from_table, BackLemmas.{other_mode, run_other, run_same, same_mode}, DoubledRunLemmas.{escaped_more, percent_character, plain_character, plain_more, separator_character, written_more}}
 use Rattle.qr_bits.proofs.lemmas.best_modes.{ChoiceLemmas.on_after}
 use Rattle.qr_bits.proofs.segmentation.least_doubled_segments.Goals as goal
 use Rattle.qr_bits.proofs.segmentation.least_doubled_segments.Goals.{then-eq, else-eq+in_ok-push_segment, then-is_escaped+in_ok-put_escape+then-input-i-eq37, then-is_escaped+in_ok-put_escape+else-input-i-eq37, else-is_escaped}
@@ -36,48 +36,48 @@ loop-i-preserved c =
     let e = c.if-is_escaped in
     let t = character_for Gs1 x m in
     let run : (f.found.items ++ one_segment m f.len ≡ append_mode (l.found.items ++ one_segment l.mode l.len) m) × (f.mode ≡ m) × (f.state ≡ state_after l.state m) × (0 < f.len) × (f.len ≤ l.len + 1) =
-        elim f.branch [
-          | then-eq w ↦
-              let same : m ≡ l.mode = same_mode m l.mode w.if-eq.ensures in (
-                rw (w.found-is, w.len-is, same) (sym (run_same l.found.items l.mode l.len inv.first)),
-                w.mode-is ∙ sym same,
-                w.state-is ∙ w.state_on-state.ensures ∙ inv.next ∙ ap (state_after l.state) (sym same),
-                omega (arith, w.len-is),
-                omega (arith, w.len-is),
-              )
-          | else-eq+in_ok-push_segment w ↦ (
-              rw (w.found-is, w.len-is, w.in_ok-push_segment.ensures) (sym (run_other l.found.items l.mode m l.len inv.first (other_mode l.mode m w.if-eq.ensures))),
-              w.mode-is,
-              w.state-is ∙ w.next_state-state.ensures,
-              omega (arith, w.len-is),
-              omega (arith, w.len-is),
-            )
-        ] in
+    elim f.branch [
+      | then-eq w ↦
+          let same : m ≡ l.mode = same_mode m l.mode w.if-eq.ensures in (
+            rw (w.found-is, w.len-is, same) (sym (run_same l.found.items l.mode l.len inv.first)),
+            w.mode-is ∙ sym same,
+            w.state-is ∙ w.state_on-state.ensures ∙ inv.next ∙ ap (state_after l.state) (sym same),
+            omega (arith, w.len-is),
+            omega (arith, w.len-is),
+          )
+      | else-eq+in_ok-push_segment w ↦ (
+        rw (w.found-is, w.len-is, w.in_ok-push_segment.ensures) (sym (run_other l.found.items l.mode m l.len inv.first (other_mode l.mode m w.if-eq.ensures))),
+        w.mode-is,
+        w.state-is ∙ w.next_state-state.ensures,
+        omega (arith, w.len-is),
+        omega (arith, w.len-is),
+      )
+    ] in
     let put : (e.len ≡ cond (is_doubled Gs1 x m) (f.len + 1) f.len) × (e.state ≡ state_in Gs1 l.state x m) × (e.copied ≤ i + 1)
-        × (e.characters.items ++ take ((i + 1) - e.copied) (drop e.copied input) ≡ (l.characters.items ++ take (i - l.copied) (drop l.copied input)) ++ cond (is_doubled Gs1 x m) (t ∷ t ∷ []) (t ∷ [])) =
-        elim e.branch [
-          | then-is_escaped+in_ok-put_escape+then-input-i-eq37 w ↦
-              let own = percent_character m x (sym c.is_escaped.ensures ∙ w.if-is_escaped.true) w.if-input-i-eq37.true in (
-                rw own.0 w.len-is,
-                rw own.0 (w.state-is ∙ w.state_on-state-then-input-i-eq37.ensures ∙ rw run.2 (on_after l.state m)),
-                omega (arith, w.copied-is),
-                rw (w.characters-is, w.copied-is, own.0, own.1) (escaped_more input _ i ∙ w.in_ok-put_escape.ensures ∙ rw w.if-input-i-eq37.true refl),
-              )
-          | then-is_escaped+in_ok-put_escape+else-input-i-eq37 w ↦
-              let own = separator_character m x (sym c.is_escaped.ensures ∙ w.if-is_escaped.true) w.if-input-i-eq37.false in (
-                rw own.0 w.len-is,
-                rw own.0 (w.state-is ∙ run.2),
-                omega (arith, w.copied-is),
-                rw (w.characters-is, w.copied-is, own.0, own.1) (escaped_more input _ i ∙ w.in_ok-put_escape.ensures ∙ rw (ne_eqb x percent w.if-input-i-eq37.false) refl),
-              )
-          | else-is_escaped w ↦
-              let own = plain_character m x (sym c.is_escaped.ensures ∙ w.if-is_escaped.false) in (
-                rw own.0 w.len-is,
-                rw own.0 (w.state-is ∙ run.2),
-                omega (arith, w.copied-is, inv.inside),
-                rw (w.characters-is, w.copied-is, own.0, own.1) (plain_more input l.characters.items l.copied i inv.inside c.loop-i-test.true),
-              )
-        ] in
+    × (e.characters.items ++ take ((i + 1) - e.copied) (drop e.copied input) ≡ (l.characters.items ++ take (i - l.copied) (drop l.copied input)) ++ cond (is_doubled Gs1 x m) (t ∷ t ∷ []) (t ∷ [])) =
+    elim e.branch [
+      | then-is_escaped+in_ok-put_escape+then-input-i-eq37 w ↦
+          let own = percent_character m x (sym c.is_escaped.ensures ∙ w.if-is_escaped.true) w.if-input-i-eq37.true in (
+            rw own.0 w.len-is,
+            rw own.0 (w.state-is ∙ w.state_on-state-then-input-i-eq37.ensures ∙ rw run.2 (on_after l.state m)),
+            omega (arith, w.copied-is),
+            rw (w.characters-is, w.copied-is, own.0, own.1) (escaped_more input _ i ∙ w.in_ok-put_escape.ensures ∙ rw w.if-input-i-eq37.true refl),
+          )
+      | then-is_escaped+in_ok-put_escape+else-input-i-eq37 w ↦
+          let own = separator_character m x (sym c.is_escaped.ensures ∙ w.if-is_escaped.true) w.if-input-i-eq37.false in (
+            rw own.0 w.len-is,
+            rw own.0 (w.state-is ∙ run.2),
+            omega (arith, w.copied-is),
+            rw (w.characters-is, w.copied-is, own.0, own.1) (escaped_more input _ i ∙ w.in_ok-put_escape.ensures ∙ rw (ne_eqb x percent w.if-input-i-eq37.false) refl),
+          )
+      | else-is_escaped w ↦
+          let own = plain_character m x (sym c.is_escaped.ensures ∙ w.if-is_escaped.false) in (
+            rw own.0 w.len-is,
+            rw own.0 (w.state-is ∙ run.2),
+            omega (arith, w.copied-is, inv.inside),
+            rw (w.characters-is, w.copied-is, own.0, own.1) (plain_more input l.characters.items l.copied i inv.inside c.loop-i-test.true),
+          )
+    ] in
     record {
       count = let u = c.unwrap-modes.ensures in omega (arith, rw u at c.pop.ensures.len, l.invariant.count);
       written = rw run.1

@@ -1,4 +1,4 @@
-use Rattle.std.proofs.Common.{◌≡◌, ◌+◌, length, reverse, drop, vec_len}
+use Rattle.std.proofs.Common.{◌≡◌, ◌+◌, length, reverse, vec_len}
 use Rattle.qr_bits.specs.declared.{interpretation.Interpretation.TheVariants.Gs1, run_state.RunState.TheVariants.Start}
 use Rattle.qr_bits.specs.Steps.BestModes.{follow_in}
 use Rattle.qr_bits.proofs.lemmas.segmentation.DoubledRunLemmas.{IsWritten}
