@@ -196,13 +196,17 @@ fn is_doubled(gs1: bool, byte: u8) -> bool
     gs1 && byte == b'%'
 }
 
-// The character that alphanumeric mode writes for a byte. For the separator of fields in GS1 data this is `%`, and
-// otherwise the byte itself (ISO/IEC 18004:2015, 7.4.8.2).
+// Whether the rule allows alphanumeric mode, and this mode can write the byte. In GS1 data it writes `%` for the
+// separator of fields (ISO/IEC 18004:2015, 7.4.8.2). The separator is tested last, since it is rare.
 #[inline(always)]
-fn character_for(gs1: bool, byte: u8) -> u8
-    ensures { (i : Interpretation) → gs1 ≡ is_gs1 i → result ≡ character_for i byte Mode.Alphanumeric }
+fn may_be_character(gs1: bool, rule: Rule, byte: u8) -> bool
+    ensures { (i : Interpretation) (pair : Bool) → gs1 ≡ is_gs1 i
+        → result ≡ may_begin rule (character_for i byte Mode.Alphanumeric) pair Mode.Alphanumeric }
 {
-    if gs1 && byte == SEPARATOR { b'%' } else { byte }
+    if may_begin(rule, byte, Mode::Alphanumeric) {
+        return true;
+    }
+    gs1 && byte == SEPARATOR && may_use(rule, Mode::Alphanumeric)
 }
 
 // The row of a byte, and the best choice for it in each state. `rest` has the best choices of the next byte.
@@ -223,12 +227,12 @@ pub(crate) fn row_of(
     // the cases that the constant excludes. A byte that may be written in numeric mode may be written in alphanumeric
     // mode too.
     let digit = may_begin(rule, byte, Mode::Numeric);
-    let doubled = is_doubled(gs1, byte);
     if digit && !pair {
         let characters = character_choices(first_choices, true, false, rest);
         return choices(first_choices, true, &characters, false, rest);
     }
-    let may = may_begin(rule, character_for(gs1, byte), Mode::Alphanumeric);
+    let doubled = is_doubled(gs1, byte);
+    let may = may_be_character(gs1, rule, byte);
     if pair || doubled {
         let characters = character_choices(first_choices, may, doubled, rest);
         return choices(first_choices, digit, &characters, pair, rest);
@@ -264,26 +268,27 @@ fn pair_at(kanji: bool, rule: Rule, bytes: &[u8]) -> bool
 }
 
 // Returns the table: a row for each byte of `input`. The row of the last byte is first, so `pop` takes the rows in the
-// order of the bytes.
+// order of the bytes. The rule is one that allows more than byte mode. This function is not inlined, so that its loop
+// has all registers to itself.
+#[inline(never)]
 pub(crate) fn best_modes(
     alloc: Global,
     input: &[u8],
     version: Version,
     rule: Rule,
 ) -> Result<Vec<u32>, AllocError>
-    requires { length input.now ≤ INPUT_MAX }
+    requires short { length input.now ≤ INPUT_MAX }
+    requires mixed { rule ≡ Rule.BytesOnly → ⊥ }
     ensures { IfOk result (λ t. (vec_len t ≡ length input.now)
         × IsBestTable Interpretation.Default version rule is_kanji_pair input.now (reverse t.items)) }
 {
-    if may_use(rule, Mode::Kanji) {
-        best_rows(alloc, input, version, rule, true, false)
-    } else {
-        best_rows(alloc, input, version, rule, false, false)
+    match rule {
+        Rule::WithKanji => best_rows(alloc, input, version, Rule::WithKanji, true, false),
+        _ => best_rows(alloc, input, version, Rule::Auto, false, false),
     }
 }
 
-// As `best_modes`, for GS1 data, under a rule that allows more than byte mode. This function is not inlined, so that
-// its loop has all registers to itself.
+// Returns the same table as `best_modes` would, but for GS1 data.
 #[inline(never)]
 pub(crate) fn best_gs1_modes(
     alloc: Global,

@@ -8,6 +8,8 @@ pub mod DigitsOnlyLemmas
 pub mod InterpretedLemmas
 -- What is written for runs of bytes in GS1 data.
 pub mod RunLemmas
+-- The segments and characters of GS1 data, byte by byte.
+pub mod DoubledRunLemmas
 -- Without `%`, the least segmentation of GS1 data is that of its marked copy.
 pub mod MarkedLemmas
 -- An assignment to bytes is valid exactly if its modes are allowed, one after the other.

@@ -17,8 +17,7 @@ returns-then-pair c = λ i g.
     let r = c.args.rule in
     let x = c.args.byte in
     let t = c.args.pair in
-    let may = rw (c.character_for.ensures i g) at (c.may_begin-may.ensures t) in
-    c.choices-then-pair.ensures i r x (c.may_begin-digit.ensures t) (c.character_choices-characters-then-pair.ensures i r x t may (c.is_doubled-doubled.ensures i g))
+    c.choices-then-pair.ensures i r x (c.may_begin-digit.ensures t) (c.character_choices-characters-then-pair.ensures i r x t (c.may_be_character-may.ensures i t g) (c.is_doubled-doubled.ensures i g))
 
 pub returns-then-may : goal.returns-then-may
 returns-then-may c = λ i g.
@@ -28,7 +27,7 @@ returns-then-may c = λ i g.
       | else-digit-via-then-digit+else-not-pair w ↦ absurd (false≢true (sym c.if-pair.false ∙ w.if-not-pair.false))
       | else-digit-via-else-digit w ↦ w.if-digit.false
     ] in
-    let may = rw (c.character_for.ensures i g) at (sym c.if-may.true ∙ c.may_begin-may.ensures false) in
+    let may = sym c.if-may.true ∙ c.may_be_character-may.ensures i false g in
     let one = sym c.if-doubled.false ∙ c.is_doubled-doubled.ensures i g in
     rw c.if-pair.false (c.choices-then-may.ensures i r x (sym none ∙ c.may_begin-digit.ensures false) (c.character_choices-characters-then-may.ensures i r x false may one))
 
@@ -40,6 +39,6 @@ returns-else-may c = λ i g.
       | else-digit-via-then-digit+else-not-pair w ↦ absurd (false≢true (sym c.if-pair.false ∙ w.if-not-pair.false))
       | else-digit-via-else-digit w ↦ w.if-digit.false
     ] in
-    let may = rw (c.character_for.ensures i g) at (sym c.if-may.false ∙ c.may_begin-may.ensures false) in
+    let may = sym c.if-may.false ∙ c.may_be_character-may.ensures i false g in
     let one = sym c.if-doubled.false ∙ c.is_doubled-doubled.ensures i g in
     rw c.if-pair.false (c.choices-else-may.ensures i r x (sym none ∙ c.may_begin-digit.ensures false) (c.character_choices-characters-else-may.ensures i r x false may one))

@@ -1,5 +1,5 @@
 -- The best mode for a byte is the one whose number is the least.
-use Rattle.std.proofs.Common.{◌≡◌, ℕ, ◌+◌, ◌*◌, ◌/◌, ◌%◌, ◌<◌, ◌≤◌, Bool, true, false, cond, min, refl, sym, ◌∙◌, ⊎_elim, arith}
+use Rattle.std.proofs.Common.{◌≡◌, ℕ, ◌+◌, ◌*◌, ◌/◌, ◌%◌, ◌<◌, ◌≤◌, Bool, true, false, min, refl, sym, ◌∙◌, ⊎_elim, arith}
 use Rattle.std.proofs.lemmas.Bool.{cases_Bool, cases_lt, cond_both, ne_eqb}
 use Rattle.qr_bits.specs.declared.interpretation.Interpretation.{Interpretation, TheVariants.{Default, Gs1, Eci}}
 use Rattle.qr_bits.specs.Interpretation.{character_for, is_doubled}
@@ -148,7 +148,3 @@ on_after p m = grind arith
 pub on_in : (i : Interpretation) (p : RunState) (x : ℕ) (m : Mode) → state_on (state_in i p x m) ≡ state_after (state_in i p x m) m
 on_in i p x m =
     cond_both (is_doubled i x m) _ _ (λ (q : RunState). state_on q ≡ state_after q m) (λ _. on_after (state_after p m) m) (λ _. on_after p m)
-
--- after the first character of a byte the other one, if there is one, goes on in its mode
-pub on_past : (i : Interpretation) (p q : RunState) (x : ℕ) (m : Mode) → q ≡ state_after p m → cond (is_doubled i x m) (state_on q) q ≡ state_in i p x m
-on_past i p q x m h = rw (h, on_after p m) refl

@@ -1,22 +1,12 @@
 -- What is written for runs of bytes in GS1 data.
-use Rattle.std.proofs.Common.{◌≡◌, ℕ, zero, ◌+◌, ◌-◌, ◌<◌, ◌≤◌, Bool, true, false, cond, ◌==◌, List, [], ◌∷◌, ◌++◌, length, map, take, drop, append_assoc, length-drop, refl, sym, ap, ◌∙◌, ⊎_elim, arith, suc}
-use Rattle.std.proofs.lemmas.{Bool.{and_parts, cases_Bool, cond_both, eqb-true}, List.{drop-drop, length-take-le}}
+use Rattle.std.proofs.Common.{◌≡◌, ℕ, ◌+◌, Bool, true, false, cond, ◌==◌, List, [], ◌∷◌, ◌++◌, length, map, take, drop, refl, sym, ap, ◌∙◌, ⊎_elim, arith, suc}
+use Rattle.std.proofs.lemmas.{Bool.{and_parts, cases_Bool, cond_both, eqb-true}}
 use Rattle.std.specs.List.{list_all}
 use Rattle.qr_bits.specs.declared.{modes.Mode.Mode, segment.Segment.Segment}
 use Rattle.qr_bits.specs.declared.interpretation.Interpretation.{TheVariants.{Gs1}}
-use Rattle.qr_bits.specs.Interpretation.{escaped, is_doubled, character_for, characters_gs1, doubled_gs1, percent}
-use Rattle.qr_bits.specs.{Segmentation.{rank, prepend_mode, runs_of}, Steps.Segmentation.{written_in, is_itself, is_single, marked, one_segment, written}}
+use Rattle.qr_bits.specs.Interpretation.{escaped, is_doubled, character_for, characters_gs1, doubled_gs1}
+use Rattle.qr_bits.specs.{Segmentation.{rank, prepend_mode, runs_of}, Steps.Segmentation.{written_in, is_single, marked, written}}
 use Rattle.qr_bits.proofs.lemmas.run_state.BestLemmas.{same_rank}
-
--- a byte that alphanumeric mode writes as itself
-pub escaped-itself : (x : ℕ) (xs : List ℕ) → is_itself x ≡ true → escaped (x ∷ xs) ≡ x ∷ escaped xs
-unfolding escaped
-escaped-itself x xs h = grind arith
-
--- `%` or the separator
-pub escaped-other : (x : ℕ) (xs : List ℕ) → is_itself x ≡ false → escaped (x ∷ xs) ≡ cond (x == percent) (percent ∷ percent ∷ []) (percent ∷ []) ++ escaped xs
-unfolding escaped
-escaped-other x xs h = grind (arith, eqb-true)
 
 -- without `%` each byte is written as one character
 pub escaped-marked : (xs : List ℕ) → list_all is_single xs ≡ true → escaped xs ≡ map marked xs
@@ -126,49 +116,3 @@ runs-written (x ∷ xs) (m ∷ ms) h =
           (λ (e : is_doubled Gs1 x m ≡ false). rw (e, rest.1) (sym (segments-prepend m x xs (runs_of ms) ∙ rw e refl)))
           (cases_Bool (is_doubled Gs1 x m)),
     )
-
-written-longer : (m : Mode) (xs : List ℕ) → length xs ≤ length (written m xs)
-written-longer m [] = omega arith
-written-longer m (x ∷ xs) =
-    rw (written-more m x xs)
-    (cond_both (is_doubled Gs1 x m) _ _ (λ (r : List ℕ). length (x ∷ xs) ≤ length r) (λ _. omega (arith, written-longer m xs)) (λ _. omega (arith, written-longer m xs)))
-
-some_segment : (m : Mode) (n : ℕ) → 0 < n → one_segment m n ≡ record { mode = m; len = n } ∷ []
-some_segment m zero h = absurd (omega arith)
-some_segment m (suc n) h = refl
-
--- a run before the later ones
-segments-one : (m : Mode) (n : ℕ) (xs : List ℕ) (later : List Segment) → n ≤ length xs
-    → segments_of xs (one_segment m n ++ later) ≡ one_segment m (length (written m (take n xs))) ++ segments_of (drop n xs) later
-unfolding segments_of
-segments-one m zero xs later h = rw (written-none m) refl
-segments-one m (suc n) xs later h =
-    rw (some_segment m (length (written m (take (suc n) xs))) (omega (arith, written-longer m (take (suc n) xs), length-take-le (suc n) xs h))) refl
-
-characters-run : (m : Mode) (n : ℕ) (xs : List ℕ) (later : List Segment)
-    → written_in xs (one_segment m n ++ later) ≡ written m (take n xs) ++ written_in (drop n xs) later
-unfolding written_in
-characters-run m zero xs later = rw (written-none m) refl
-characters-run m (suc n) xs later = refl
-
-behind : (b i : ℕ) (xs : List ℕ) → b ≤ i → drop (i - b) (drop b xs) ≡ drop i xs
-behind b i xs h = let e : b + (i - b) ≡ i = omega arith in rw (drop-drop (i - b) b xs, e) refl
-
--- what is written after a run of the bytes from `b` to `i` too
-pub segments-put : (xs : List ℕ) (runs segs : List Segment) (m : Mode) (b i : ℕ) → b ≤ i → i ≤ length xs
-    → ((later : List Segment) → segments_of xs (runs ++ later) ≡ segs ++ segments_of (drop b xs) later)
-    → (later : List Segment) → segments_of xs ((runs ++ one_segment m (i - b)) ++ later) ≡ (segs ++ one_segment m (length (written m (take (i - b) (drop b xs))))) ++ segments_of (drop i xs) later
-segments-put xs runs segs m b i h l so_far later =
-    let one = one_segment m (i - b) in
-    let new = one_segment m (length (written m (take (i - b) (drop b xs)))) in
-    rw (append_assoc runs one later, so_far (one ++ later), segments-one m (i - b) (drop b xs) later (omega (arith, length-drop b xs)), behind b i xs h)
-    (sym (append_assoc segs new (segments_of (drop i xs) later)))
-
--- if `cs` are the characters of the runs up to byte `b`, those of the run up to byte `i` are appended to `cs`
-pub characters-put : (xs : List ℕ) (runs : List Segment) (cs : List ℕ) (m : Mode) (b i : ℕ) → b ≤ i
-    → ((later : List Segment) → written_in xs (runs ++ later) ≡ cs ++ written_in (drop b xs) later)
-    → (later : List Segment) → written_in xs ((runs ++ one_segment m (i - b)) ++ later) ≡ (cs ++ written m (take (i - b) (drop b xs))) ++ written_in (drop i xs) later
-characters-put xs runs cs m b i h so_far later =
-    let one = one_segment m (i - b) in
-    rw (append_assoc runs one later, so_far (one ++ later), characters-run m (i - b) (drop b xs) later, behind b i xs h)
-    (sym (append_assoc cs (written m (take (i - b) (drop b xs))) (written_in (drop i xs) later)))

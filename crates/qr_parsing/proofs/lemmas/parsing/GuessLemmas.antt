@@ -32,12 +32,6 @@ too-wide text kind width e f h =
     let Q : ℕ → Type 0 = λ w. (w < 8) ⊎ (687 < w) in
     subst P (sym e) (inl (subst Q f h))
 
--- a text that would have more than 16 rasters has no sheet
-pub too-high : (text : List ℕ) (kind : Drawing) (count : ℕ) → kind_in text ≡ kind → count ≡ count_in kind text → 16 < count → HasNoSheet text
-too-high text kind count e f h =
-    let P : Drawing → Type 0 = λ k. ((width_in k text < 8) ⊎ (687 < width_in k text)) ⊎ (16 < count_in k text) in
-    subst P (sym e) (inr (omega arith))
-
 -- the number of squares in half blocks is computed as in the definition
 pub block-count : (len lines width : ℕ) (bytes text : List ℕ) → len ≡ length bytes → lines ≡ (width + 1) / 2 → width ≡ width_in Utf8 text → bytes ≡ cells_in text
     → len / (lines * (width + 1)) ≡ count_in Utf8 text

@@ -12,10 +12,6 @@ pub test-byte : (b : Bool) → bool_byte b ≡ byte_of b
 test-byte true = refl
 test-byte false = refl
 
--- a row is before the rows after it
-pub row-within : (r row side : ℕ) → r < row → r * side + side ≤ row * side
-row-within r row side lt = search (arith, mul-le-mul_right)
-
 -- a byte of a module says its colour
 pub byte-dark : (b : Bool) (n : ℕ) → n ≡ byte_of b → not (eqb n 0) ≡ b
 byte-dark true n e = rw e refl

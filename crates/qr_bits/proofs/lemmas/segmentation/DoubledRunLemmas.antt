@@ -1,0 +1,82 @@
+-- The segments and characters of GS1 data, byte by byte.
+use Rattle.std.proofs.Common.{◌≡◌, ℕ, ◌+◌, ◌*◌, ◌-◌, ◌<◌, ◌≤◌, Bool, true, false, cond, List, [], ◌∷◌, ◌++◌, length, get_or, take, drop, reverse, append_assoc, refl, sym, ap, ◌∙◌, arith}
+use Rattle.std.proofs.lemmas.{Bool.{cond_both, eqb-true}, List.{append-nil, drop_more, get_or-drop, length-append, length-drop, length-take-le, take_more}}
+use Rattle.qr_bits.specs.declared.{modes.Mode.Mode, segment.Segment.Segment, run_state.RunState.{RunState}}
+use Rattle.qr_bits.specs.declared.interpretation.Interpretation.{TheVariants.{Gs1}}
+use Rattle.qr_bits.specs.Interpretation.{character_for, characters_gs1, doubled_gs1, is_doubled, percent}
+use Rattle.qr_bits.specs.Segmentation.{runs_of}
+use Rattle.qr_bits.specs.Steps.{BestModes.{follow_in, mode_at}, RunState.{state_after, state_in, state_on}, Segmentation.{append_mode, is_escaped, one_segment}}
+use Rattle.qr_bits.proofs.lemmas.{best_modes.{ChoiceLemmas.{on_in}, TableLemmas.led_on_in}, interpretation.WrittenLemmas.{characters-append, characters-one, doubled-append, doubled-one}, segmentation.BackLemmas.{run_same, runs_of-push}}
+
+-- of the bytes `xs` the first `i`, whose modes were read, have the segments `found` and one of `n` characters, and their
+-- characters are `chars` and the bytes from `copied` on; `rows` are left of the table
+pub record IsWritten (xs : List ℕ) (all : List Mode) (i : ℕ) (found : List Segment) (m : Mode) (n : ℕ) (p : RunState) (rows : List ℕ) (chars : List ℕ) (copied : ℕ) : Type 0 where
+  pub modes : List Mode
+  pub many : length modes ≡ i
+  pub runs : found ++ one_segment m n ≡ runs_of (doubled_gs1 (take i xs) modes)
+  pub characters : chars ++ take (i - copied) (drop copied xs) ≡ characters_gs1 (take i xs) modes
+  pub led : modes ++ follow_in Gs1 p (drop i xs) (reverse rows) ≡ all
+  pub inside : copied ≤ i
+  pub short : n ≤ 2 * i
+  pub first : n ≡ 0 → found ≡ []
+  pub next : state_on p ≡ state_after p m
+
+-- a byte that the mode writes as itself
+pub plain_character : (m : Mode) (x : ℕ) → is_escaped m x ≡ false → (is_doubled Gs1 x m ≡ false) × (character_for Gs1 x m ≡ x)
+plain_character m x h = grind arith
+
+-- of the other bytes `%` is doubled, and `%` is written for the separator
+pub percent_character : (m : Mode) (x : ℕ) → is_escaped m x ≡ true → x ≡ percent → (is_doubled Gs1 x m ≡ true) × (character_for Gs1 x m ≡ percent)
+percent_character m x h e = grind arith
+
+pub separator_character : (m : Mode) (x : ℕ) → is_escaped m x ≡ true → (x ≡ percent → ⊥) → (is_doubled Gs1 x m ≡ false) × (character_for Gs1 x m ≡ percent)
+separator_character m x h e = grind (arith, eqb-true)
+
+-- one more byte that is written as itself
+pub plain_more : (xs chars : List ℕ) (copied i : ℕ) → copied ≤ i → i < length xs
+    → chars ++ take ((i + 1) - copied) (drop copied xs) ≡ (chars ++ take (i - copied) (drop copied xs)) ++ get_or xs i 0 ∷ []
+plain_more xs chars copied i h l =
+    let n : (i + 1) - copied ≡ (i - copied) + 1 = omega (arith, h) in
+    let at : copied + (i - copied) ≡ i = omega (arith, h) in
+    let one = take_more (drop copied xs) (i - copied) 0 (omega (arith, length-drop copied xs, h, l)) in
+    let same : get_or (drop copied xs) (i - copied) 0 ≡ get_or xs i 0 = get_or-drop copied xs (i - copied) 0 ∙ ap (λ (k : ℕ). get_or xs k 0) at in
+    rw (n, one, same) (sym (append_assoc chars (take (i - copied) (drop copied xs)) (get_or xs i 0 ∷ [])))
+
+-- what is written after byte `i` and before the next is nothing
+pub escaped_more : (xs chars : List ℕ) (i : ℕ) → chars ++ take ((i + 1) - (i + 1)) (drop (i + 1) xs) ≡ chars
+escaped_more xs chars i = let n : (i + 1) - (i + 1) ≡ 0 = omega arith in rw n (append-nil chars)
+
+-- the modes of one more byte, and so its segment, which has one or two characters more
+runs_more : (ds : List Mode) (found : List Segment) (m : Mode) (n : ℕ) (d : Bool) → 0 < n → found ++ one_segment m n ≡ append_mode (runs_of ds) m
+    → found ++ one_segment m (cond d (n + 1) n) ≡ runs_of (ds ++ cond d (m ∷ m ∷ []) (m ∷ []))
+runs_more ds found m n true h e =
+    rw (← append_assoc ds (m ∷ []) (m ∷ []), runs_of-push (ds ++ m ∷ []) m, runs_of-push ds m, ← e) (sym (run_same found m n (λ z. absurd (omega (arith, h, z)))))
+runs_more ds found m n false h e = e ∙ sym (runs_of-push ds m)
+
+-- one more byte, of the mode `w`
+pub written_more : {xs : List ℕ} {all : List Mode} {i : ℕ} {found : List Segment} {m : Mode} {n : ℕ} {p : RunState} {rows chars : List ℕ} {copied : ℕ}
+    (later : List ℕ) (row : ℕ) (w : Mode) (new : List Segment) (k j : ℕ) (q : RunState) (cs : List ℕ) (b : ℕ)
+    → IsWritten xs all i found m n p rows chars copied → i < length xs → rows ≡ later ++ row ∷ [] → w ≡ mode_at row p
+    → new ++ one_segment w k ≡ append_mode (found ++ one_segment m n) w → 0 < k → k ≤ n + 1
+    → j ≡ cond (is_doubled Gs1 (get_or xs i 0) w) (k + 1) k → q ≡ state_in Gs1 p (get_or xs i 0) w
+    → cs ++ take ((i + 1) - b) (drop b xs) ≡ (chars ++ take (i - copied) (drop copied xs)) ++ cond (is_doubled Gs1 (get_or xs i 0) w) (character_for Gs1 (get_or xs i 0) w ∷ character_for Gs1 (get_or xs i 0) w ∷ []) (character_for Gs1 (get_or xs i 0) w ∷ [])
+    → b ≤ i + 1 → IsWritten xs all (i + 1) new w j q later cs b
+written_more {xs} {all} {i} {found} {m} {n} {p} {rows} {chars} {copied} later row w new k j q cs b h inside last is run some few count state characters low =
+    let x = get_or xs i 0 in
+    let next : drop i xs ≡ x ∷ drop (i + 1) xs = drop_more xs i 0 inside in
+    let more : take (i + 1) xs ≡ take i xs ++ x ∷ [] = take_more xs i 0 inside in
+    let len : length (take i xs) ≡ length h.modes = length-take-le i xs (omega (arith, inside)) ∙ sym h.many in
+    let ds = doubled_gs1 (take i xs) h.modes in
+    let modes = doubled-append Gs1 (take i xs) (x ∷ []) h.modes (w ∷ []) len ∙ ap (λ (r : List Mode). ds ++ r) (doubled-one Gs1 x w) in
+    let own = characters-append Gs1 (take i xs) (x ∷ []) h.modes (w ∷ []) len ∙ ap (λ (r : List ℕ). characters_gs1 (take i xs) h.modes ++ r) (characters-one Gs1 x w) in
+    record {
+      modes = h.modes ++ w ∷ [];
+      many = length-append h.modes (w ∷ []) ∙ ap (λ (r : ℕ). r + 1) h.many;
+      runs = rw (count, more, modes) (runs_more ds new w k (is_doubled Gs1 x w) some (run ∙ ap (λ (r : List Segment). append_mode r w) h.runs));
+      characters = characters ∙ rw (more, own, h.characters) refl;
+      led = rw state (led_on_in Gs1 p x (drop (i + 1) xs) rows later row h.modes all w last is (rw next at h.led));
+      inside = low;
+      short = cond_both (is_doubled Gs1 x w) _ _ (λ (r : ℕ). j ≡ r → j ≤ 2 * (i + 1)) (λ _ e. omega (arith, e, few, h.short)) (λ _ e. omega (arith, e, few, h.short)) count;
+      first = cond_both (is_doubled Gs1 x w) _ _ (λ (r : ℕ). j ≡ r → j ≡ 0 → new ≡ []) (λ _ e z. absurd (omega (arith, e, z, some))) (λ _ e z. absurd (omega (arith, e, z, some))) count;
+      next = rw state (on_in Gs1 p x w);
+    }
