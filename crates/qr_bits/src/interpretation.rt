@@ -202,9 +202,9 @@ pub(crate) struct Meaning {
 }
 
 // Appends what the item stands for to `meaning`. A segment takes the first of `characters`. Returns whether FNC1 comes
-// before the next item, and the characters that are left. The contract says that the call does not change the meaning
-// of all items. This is what `meaning` has, followed by what the items that are left stand for: `item` and the later
-// items `is` before the call, and `is` alone after it.
+// before the next item, and the characters that are left. The contract says that the meaning of all items together is
+// the same before and after the call. It is what `meaning` has, followed by what the items that are left stand for:
+// `item` and the later items `is` before the call, and `is` alone after it.
 #[tactic(auto, unfolding(crate::specs::Interpretation::meant_bytes, crate::specs::Interpretation::eci_changes))]
 fn take_item<'a>(
     item: Item,

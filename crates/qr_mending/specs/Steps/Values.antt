@@ -1,5 +1,5 @@
--- Sixteen sums of products. A factor of each product is cut into four digits to the base 4, and for each of the four
--- weights the products by these digits are added up separately.
+-- Sixteen sums of products. One factor of each product is cut into four digits to the base 4, which have the weights
+-- 64, 16, 4 and 1. For each weight, the products of its digits and the other factors are added up separately.
 use Rattle.std.specs.Prelude.{ℕ, bit_xor}
 use Rattle.std.specs.Int.{byte_at}
 use Rattle.qr_field.specs.Galois.{product}

@@ -1,4 +1,5 @@
--- What is found in a text before it is compared with the drawing that it would have to be.
+-- The only drawing that a text can be: its type, margin and squares, as they are found before these squares are drawn
+-- again and compared with the text.
 use Rattle.std.specs.Prelude.{◌≡◌, ℕ, ◌<◌, ◌≤◌, List, length}
 use Rattle.std.specs.List.{All}
 use Rattle.qr_matrix.specs.Grid.{Grid, IsSquare}

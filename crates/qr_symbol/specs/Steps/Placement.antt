@@ -45,8 +45,8 @@ number_at v x first zero = first
 number_at v x first (suc k) =
     number_after (is_in_region v (row_of (side_of v) x k) (x.right - 1)) (number_after (is_in_region v (row_of (side_of v) x k) x.right) (number_at v x first k))
 
--- After the first `k` rows of the strip, in the order of filling, all modules of the region are light in the columns
--- `y`.
+-- In the rows that follow the first `k` rows of the strip, in the order of filling, all modules of the region are light
+-- in the columns `y`.
 abbrev pub AreLight : ℕ → Strip → ℕ → Columns → Columns → Type 0
 AreLight s x k region y = (rank : ℕ) → k ≤ rank → rank < s
     → ((has region.right (row_of s x rank) && has y.right (row_of s x rank)) ≡ false) × ((has region.left (row_of s x rank) && has y.left (row_of s x rank)) ≡ false)
