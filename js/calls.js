@@ -6,6 +6,7 @@ import { OutOfMemoryError, throwFor, tooLong, tooMany } from './errors.js';
 import { base64 } from './module.js';
 
 let library; // what the module exports, from the first call on
+const UTF8 = new TextDecoder();
 
 function code() {
   return Uint8Array.from(atob(base64), (character) => character.charCodeAt(0));
@@ -42,16 +43,20 @@ function take(length) {
   return address;
 }
 
+/** Returns bytes of the memory, which may have grown and so have another buffer than before. */
+function bytesAt(address, length) {
+  return new Uint8Array(library.memory.buffer, address, length);
+}
+
 /** Returns the address of a copy of some bytes. */
 function put(bytes) {
   const address = take(bytes.length);
-  new Uint8Array(library.memory.buffer, address, bytes.length).set(bytes);
+  bytesAt(address, bytes.length).set(bytes);
   return address;
 }
 
-/** Returns a copy of bytes of the memory, which may have grown and so have another buffer than before. */
 function copied(address, length) {
-  return new Uint8Array(library.memory.buffer, address, length).slice();
+  return bytesAt(address, length).slice();
 }
 
 function struct(address, length) {
@@ -79,6 +84,7 @@ const SERIES_MAX = 501264;
 const BYTES_MAX = 7089;
 const ECIS_MAX = 1970, ECI_SIZE = 16;
 const FNC1_FIRST = 1, FNC1_SECOND = 2;
+const MODULE_LIKELY = 8; // more bytes than most drawings have for each module
 const TOO_LONG = 2, TOO_MANY = 3, ROOM = 6, NO_DRAWING = 11; // statuses
 export const DEFAULT = 1000000, GS1 = 1000001; // interpretations; a smaller number is that of an ECI
 
@@ -96,7 +102,7 @@ export function encoded({ data, interpretation }, version, level, rule, boost) {
       BigInt(SYMBOL_MAX), BigInt(told));
     if (status === TOO_LONG) throw tooLong(data.length, level, rule, headerOf(interpretation));
     throwFor(status);
-    const [chosen, side, used, mask] = copied(told, 4);
+    const [chosen, side, used, mask] = bytesAt(told, 4);
     return { version: chosen, side, level: used, mask, modules: copied(to, side * side) };
   });
 }
@@ -108,7 +114,7 @@ export function encodedSeries({ data, interpretation }, version, level, rule) {
       BigInt(SERIES_MAX), BigInt(told));
     if (status === TOO_MANY) throw tooMany(data.length, version, level);
     throwFor(status);
-    const [count, side] = copied(told, 2);
+    const [count, side] = bytesAt(told, 2);
     return { side, squares: Array.from({ length: count }, (_, k) => copied(to + k * side * side, side * side)) };
   });
 }
@@ -120,17 +126,19 @@ function applicationOf(number) {
 
 /** Returns what the structs of reading and of mending share, with the bytes and the ECI headers; `version` is that field's offset. */
 function content(at, bytes, headers, version) {
-  const [has, position, last, parity, fnc1, application] = [1, 2, 3, 4, 5, 6].map((k) => at.getUint8(version + k));
-  const [length, count] = [0, 8].map((offset) => Number(at.getBigUint64(offset, true))), found = struct(headers, count * ECI_SIZE);
-  const ecis = Array.from({ length: count }, (_, k) => (
-    { begin: Number(found.getBigUint64(k * ECI_SIZE, true)), number: found.getUint32(k * ECI_SIZE + 8, true) }));
+  const byte = (k) => at.getUint8(version + k), fnc1 = byte(5);
+  const length = Number(at.getBigUint64(0, true)), count = Number(at.getBigUint64(8, true)), found = struct(headers, count * ECI_SIZE);
+  const ecis = [];
+  for (let k = 0; k < count; k++) {
+    ecis.push({ begin: Number(found.getBigUint64(k * ECI_SIZE, true)), number: found.getUint32(k * ECI_SIZE + 8, true) });
+  }
   return {
     data: copied(bytes, length),
-    version: at.getUint8(version),
-    header: has ? { position, last, parity } : null,
+    version: byte(0),
+    header: byte(1) ? { position: byte(2), last: byte(3), parity: byte(4) } : null,
     ecis,
     gs1: fnc1 === FNC1_FIRST,
-    application: fnc1 === FNC1_SECOND ? applicationOf(application) : null,
+    application: fnc1 === FNC1_SECOND ? applicationOf(byte(6)) : null,
   };
 }
 
@@ -150,7 +158,8 @@ export function mendedOf(modules, side) {
   return run(() => {
     const [at, to, headers] = readBy('qrproved_mend', modules, side, 32);
     const [level, mask, wrongFormatModules, changedMost, changedAllowed] = [27, 28, 29, 30, 31].map((k) => at.getUint8(k));
-    return { ...content(at, to, headers, 20), wrongModules: at.getUint32(16, true), level, mask, wrongFormatModules, changedMost, changedAllowed };
+    const found = content(at, to, headers, 20), wrongModules = at.getUint32(16, true);
+    return { content: found, wrongModules, level, mask, wrongFormatModules, changedMost, changedAllowed };
   });
 }
 
@@ -161,7 +170,7 @@ export function parsedOf(text) {
     const status = call('qrproved_parse_drawing', BigInt(from), BigInt(text.length), BigInt(to), BigInt(SERIES_MAX), BigInt(told));
     if (status === NO_DRAWING) return null;
     throwFor(status);
-    const [drawing, margin, count, side] = copied(told, 4);
+    const [drawing, margin, count, side] = bytesAt(told, 4);
     return { drawing, margin, squares: Array.from({ length: count }, (_, k) => copied(to + k * side * side, side * side)) };
   });
 }
@@ -172,11 +181,14 @@ export function drawn(modules, side, count, drawing, margin) {
     const draw = (text, room) => call('qrproved_draw', BigInt(from), BigInt(modules.length), side, count, drawing, margin, BigInt(text),
       BigInt(room), BigInt(written));
     const length = () => Number(struct(written, 8).getBigUint64(0, true));
-    // The first call only returns the length.
-    const status = draw(0, 0);
-    if (status !== ROOM) throwFor(status);
-    const room = length(), text = take(room);
-    throwFor(draw(text, room));
-    return new TextDecoder().decode(copied(text, room));
+    let room = MODULE_LIKELY * modules.length, text = take(room), status = draw(text, room);
+    if (status === ROOM) {
+      // The call has said how much room the drawing needs.
+      room = length();
+      text = take(room);
+      status = draw(text, room);
+    }
+    throwFor(status);
+    return UTF8.decode(bytesAt(text, length()));
   });
 }

@@ -30,10 +30,12 @@ const MODULE_MIN = 0.25; // mm
 /** Returns each option as it is given, or its default. An option of another name would do nothing, and so is refused. */
 function chosen(given, defaults) {
   if (given === null || typeof given !== 'object') throw new TypeError(`options are an object, as in { ${Object.keys(defaults)[0]}: … }`);
+  const options = { ...defaults };
   for (const name of Object.keys(given)) {
     if (!Object.hasOwn(defaults, name)) throw new TypeError(`there is no option ${name}; there are ${Object.keys(defaults).join(', ')}`);
+    if (given[name] !== undefined) options[name] = given[name];
   }
-  return { ...defaults, ...Object.fromEntries(Object.entries(given).filter(([, value]) => value !== undefined)) };
+  return options;
 }
 
 function whole(name, value, least, most) {
@@ -99,7 +101,9 @@ function inputOf(input, eci, rule) {
   return { data: encodedText(data, number ?? (isKanji ? SHIFT_JIS : UTF_8)), interpretation: number ?? (isMarked ? UTF_8 : DEFAULT) };
 }
 
-const SETTINGS = { level: 'L', version: 1, rule: 'auto', eci: undefined };
+// The options of a series and of a symbol, with their defaults.
+const OF_SERIES = { level: 'L', version: undefined, rule: 'auto', eci: undefined };
+const OF_SYMBOL = { ...OF_SERIES, version: 1, boost: true };
 
 function settings({ level, version, rule }) {
   return [whole('version', version, 1, 40), named('level', level, LEVELS), named('rule', rule, RULES)];
@@ -107,7 +111,11 @@ function settings({ level, version, rule }) {
 
 export class QRSymbol {
   constructor({ version, side, mask, level, modules }) {
-    Object.assign(this, { version, side, mask, level, modules });
+    this.version = version;
+    this.side = side;
+    this.mask = mask;
+    this.level = level;
+    this.modules = modules;
   }
 
   dark(row, column) {
@@ -156,7 +164,12 @@ export class QRSymbol {
 
 export class Content {
   constructor({ data, version, header, ecis, gs1, application }) {
-    Object.assign(this, { data, version, header, ecis, gs1, application });
+    this.data = data;
+    this.version = version;
+    this.header = header;
+    this.ecis = ecis;
+    this.gs1 = gs1;
+    this.application = application;
   }
 
   text() {
@@ -174,8 +187,14 @@ export class Content {
 }
 
 export class Mended {
-  constructor({ data, version, header, ecis, gs1, application, level, ...others }) {
-    Object.assign(this, { content: new Content({ data, version, header, ecis, gs1, application }), level: LEVELS[level], ...others });
+  constructor({ content, level, wrongModules, mask, wrongFormatModules, changedMost, changedAllowed }) {
+    this.content = new Content(content);
+    this.level = LEVELS[level];
+    this.wrongModules = wrongModules;
+    this.mask = mask;
+    this.wrongFormatModules = wrongFormatModules;
+    this.changedMost = changedMost;
+    this.changedAllowed = changedAllowed;
   }
 
   get isSound() {
@@ -188,14 +207,14 @@ export class Mended {
 }
 
 export function encode(input, options = {}) {
-  const asked = chosen(options, { ...SETTINGS, boost: true }), [version, level, rule] = settings(asked);
+  const asked = chosen(options, OF_SYMBOL), [version, level, rule] = settings(asked);
   if (typeof asked.boost !== 'boolean') throw new TypeError(`boost is true or false, and not of type ${typeof asked.boost}`);
-  const { level: used, ...symbol } = encoded(inputOf(input, asked.eci, rule), version, level, rule, asked.boost);
+  const symbol = encoded(inputOf(input, asked.eci, rule), version, level, rule, asked.boost), used = symbol.level;
   return new QRSymbol({ ...symbol, level: LEVELS[used] });
 }
 
 export function encodeSeries(input, options = {}) {
-  const asked = chosen(options, { ...SETTINGS, version: undefined });
+  const asked = chosen(options, OF_SERIES);
   if (asked.version === undefined) throw new TypeError('a series needs the version of its symbols, as in { version: 5 }');
   const [version, level, rule] = settings(asked);
   const { side, squares } = encodedSeries(inputOf(input, asked.eci, rule), version, level, rule);

@@ -74,6 +74,12 @@ test('defaults are those of the command', () => {
   assert.equal(draw(symbol), symbol.text());
 });
 
+test('a drawing of more bytes than most has all of its lines', () => {
+  const symbol = encode('A'), text = draw(symbol, { type: 'ASCII', margin: 100 }), lines = text.split('\n');
+  assert.deepEqual([lines.length, lines[0].length, lines.at(-1)], [222, 442, '']);
+  assert.deepEqual(parseDrawing(text).squares, [symbol.modules]);
+});
+
 test('inputs: strings as UTF-8, bytes as they are', () => {
   const text = 'Zażółć ✓ 🙂';
   assert.equal(read(encode(text)).text(), text);
