@@ -1,5 +1,5 @@
 -- The least version that an input fits, found with the segments of the first version of each range of equal widths.
-use Rattle.qr_bits.proofs.Facts.{capacity_least, fitting_short, least_fits}
+use Rattle.qr_bits.proofs.Facts.{capacity-least, fitting-short, least_fits}
 use Rattle.qr_bits.specs.{Interpretation.interpretation_bits, Modes.count_width, Padding.capacity_of}
 use Rattle.qr_bits.specs.Segmentation.{bits, IsLeastSegmentation}
 use Rattle.qr_bits.specs.declared.interpretation.Interpretation.{Interpretation}
@@ -30,12 +30,12 @@ pub fits-bits : (u v : ℕ) (l : Level) (rule : Rule) (how : Interpretation) (xs
 fits-bits u v l rule how xs ys segs p q same h =
     let same_bits = bits-same v u same segs in
     let fits = (least_fits how v rule xs ys segs (segmentation-same u v rule how xs ys segs (λ m. sym (same m)) h)).1 (capacity_of v l - interpretation_bits how) in
-    let room = capacity_least v l p q in let most = interpretation-most how in
+    let room = capacity-least v l p q in let most = interpretation-most how in
     (λ fit. omega (arith, fits.0 fit), λ few. fits.1 (omega arith))
 
 -- Bytes that fit a version are at most 7,089.
 pub version-short : (v : ℕ) (l : Level) (rule : Rule) (how : Interpretation) (xs : List ℕ) → 1 ≤ v → v ≤ 40 → FitsVersion v l rule how xs → length xs ≤ 7089
-version-short v l rule how xs p q fit = fitting_short how v l rule xs p q (fit.0, fit.1, (let few = fit.2 in omega arith))
+version-short v l rule how xs p q fit = fitting-short how v l rule xs p q (fit.0, fit.1, (let few = fit.2 in omega arith))
 
 -- If the bytes fit no version below u, and their segments fit no version from u to the one before `last`, the bytes fit
 -- none of these versions.
