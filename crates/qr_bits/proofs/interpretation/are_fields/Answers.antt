@@ -8,9 +8,9 @@ short-fields [] h = refl
 short-fields (x ∷ []) h = refl
 short-fields (x ∷ y ∷ xs) h = absurd (omega arith)
 
-alone : (b : Bool) → b ≡ (b && true)
-alone true = refl
-alone false = refl
+and-true : (b : Bool) → b ≡ (b && true)
+and-true true = refl
+and-true false = refl
 
 pub returns : goal.returns
-returns c = alone c.loop-rest.fields ∙ rw (short-fields c.loop-rest.rest.now c.in_default.len_below) at c.loop-rest.invariant
+returns c = and-true c.loop-rest.fields ∙ rw (short-fields c.loop-rest.rest.now c.in_default.len_below) at c.loop-rest.invariant

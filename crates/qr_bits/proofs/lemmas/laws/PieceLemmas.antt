@@ -50,17 +50,17 @@ abbrev CanUse : Rule → List Mode → Type 0
 CanUse r ms = list_all (may_use r) ms ≡ true
 
 -- if modes of `xs ++ ys` are allowed, some modes of `xs` are allowed too, and add no more bits
-front : (i : Interpretation) (v : ℕ) (r : Rule) (p : RunState) (xs ys : List ℕ) (ms : List Mode) → IsPlain r → CanUse r ms →
+piece-first : (i : Interpretation) (v : ℕ) (r : Rule) (p : RunState) (xs ys : List ℕ) (ms : List Mode) → IsPlain r → CanUse r ms →
     may_end p ≡ true → allowed_in i r is_kanji_pair p (xs ++ ys) ms ≡ true →
     (ks : List Mode) × (allowed_in i r is_kanji_pair p xs ks ≡ true) × (cost_of_all i v p xs ks ≤ cost_of_all i v p (xs ++ ys) ms)
 unfolding allowed_in cost_of_all cost_of
-front i v r p [] ys ms n u e h = ([], e, omega arith)
-front i v r p (x ∷ xs) ys [] n u e h = absurd (false≢true h)
-front i v r p (x ∷ xs) ys (m ∷ ms) n u e h =
+piece-first i v r p [] ys ms n u e h = ([], e, omega arith)
+piece-first i v r p (x ∷ xs) ys [] n u e h = absurd (false≢true h)
+piece-first i v r p (x ∷ xs) ys (m ∷ ms) n u e h =
     let use_ = and_parts (may_use r m) (list_all (may_use r) ms) u in
     let low = plain r m n use_.0 in
     let parts = and_parts (may_take_in i r p x (begins_with_pair r is_kanji_pair (x ∷ (xs ++ ys))) m) _ h in
-    let rest = front i v r (state_in i p x m) xs ys ms n use_.1 (in-end i p x m low) parts.1 in (
+    let rest = piece-first i v r (state_in i p x m) xs ys ms n use_.1 (in-end i p x m low) parts.1 in (
       m ∷ rest.0,
       and_from _ _ (rw (take-other r p (character_for i x m) (begins_with_pair r is_kanji_pair (x ∷ xs)) (begins_with_pair r is_kanji_pair (x ∷ (xs ++ ys))) m low) parts.0) rest.1,
       omega (arith, rest.2),
@@ -98,5 +98,5 @@ pub piece-fits : (i : Interpretation) (v : ℕ) (r : Rule) (xs ys zs : List ℕ)
 unfolding may_end
 piece-fits i v r xs ys zs n none fit =
     let b = back i v r xs (ys ++ zs) fit.0 none fit.1.0 (assigned-allowed i r (xs ++ (ys ++ zs)) fit.0 fit.1) in
-    let f = front i v r Start ys zs b.0 none b.1 refl b.2 in
+    let f = piece-first i v r Start ys zs b.0 none b.1 refl b.2 in
     (f.0, allowed-assigned i r ys f.0 f.1, omega (arith, bits-assigned i v ys f.0, f.2, b.3, bits-assigned i v (xs ++ (ys ++ zs)) fit.0, fit.2))

@@ -69,11 +69,11 @@ unfolding cost_of
 one-run v p m n = search (arith, cond_both, begins, run-bits, eq-eqb, state_rank-after)
 
 -- the bits of a byte and of the segments after it are those of the segments with the byte before them
-front : (v : ℕ) (p : RunState) (m : Mode) (segs : List Segment)
+run-first : (v : ℕ) (p : RunState) (m : Mode) (segs : List Segment)
     → byte_cost v p m + rest_bits v (state_after p m) segs ≡ rest_bits v p (prepend_mode m segs)
 unfolding cost_of
-front v p m [] = omega (arith, one-run v p m 0)
-front v p m (s ∷ ss) =
+run-first v p m [] = omega (arith, one-run v p m 0)
+run-first v p m (s ∷ ss) =
     cond_both (rank m == rank s.mode) _ _ (λ (r : List Segment). byte_cost v p m + rest_bits v (state_after p m) (s ∷ ss) ≡ rest_bits v p r)
     (search (arith, same-rank, eqb-true, eq-eqb, state_rank-after, cond-true, one-run)) (λ e.
     let other : goes_on (state_after p m) s.mode ≡ false = rw (state_rank-after p m) e in
@@ -84,7 +84,7 @@ front v p m (s ∷ ss) =
 rest_bits-runs_of : (v : ℕ) (p : RunState) (ms : List Mode) → cost_of v p ms ≡ rest_bits v p (runs_of ms)
 unfolding cost_of runs_of
 rest_bits-runs_of v p [] = refl
-rest_bits-runs_of v p (m ∷ ms) = omega (arith, front, rest_bits-runs_of v (state_after p m) ms)
+rest_bits-runs_of v p (m ∷ ms) = omega (arith, run-first, rest_bits-runs_of v (state_after p m) ms)
 
 -- the number of bits of the runs of an assignment is the sum over its modes
 pub bits-runs_of : (v : ℕ) (ms : List Mode) → bits v (runs_of ms) ≡ cost_of v Start ms

@@ -1,6 +1,6 @@
 -- Lists of segments: their bits, their lengths, and what they cover.
-use Rattle.std.proofs.Common.{◌≡◌, ℕ, ◌+◌, ◌*◌, ◌%◌, ◌<◌, ◌≤◌, ◌↔◌, cond, ◌==◌, List, [], ◌∷◌, length, get_or, take, drop, refl, sym, ap, inl, inr, arith, IsTrue, All}
-use Rattle.std.proofs.lemmas.{Bool.cond_both, Bool.eqb-true, List.length-drop, List.drop_all, List.Sums.sum_by-cons}
+use Rattle.std.proofs.Common.{◌≡◌, ℕ, ◌+◌, ◌*◌, ◌<◌, ◌≤◌, ◌↔◌, List, [], ◌∷◌, length, get_or, take, drop, refl, sym, ap, inl, inr, arith, IsTrue, All}
+use Rattle.std.proofs.lemmas.{List.length-drop, List.drop_all, List.Sums.sum_by-cons}
 use Rattle.std.{proofs.{lemmas.List.Elements.{All-head, All-tail}, Math.Seq.drop-cons}, specs.List.sum_by}
 use Rattle.qr_bits.proofs.lemmas.segment.CoverLemmas.{CoversBy, suits-by, covers-by, by-covers}
 use Rattle.qr_bits.specs.declared.modes.{Mode.Mode, Mode.TheVariants.Numeric, Rule.Rule}

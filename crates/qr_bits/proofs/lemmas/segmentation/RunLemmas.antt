@@ -37,15 +37,15 @@ written-more : (m : Mode) (x : ℕ) (xs : List ℕ)
 unfolding escaped
 written-more m x xs = grind (arith, eqb-true)
 
-written-none : (m : Mode) → written m [] ≡ []
+none-written : (m : Mode) → written m [] ≡ []
 unfolding escaped
-written-none m = grind arith
+none-written m = grind arith
 
 one-suc : (n : ℕ) → 1 + n ≡ suc n
 one-suc n = omega arith
 
 written-one : (m : Mode) (x : ℕ) → written m (x ∷ []) ≡ cond (is_doubled Gs1 x m) (character_for Gs1 x m ∷ character_for Gs1 x m ∷ []) (character_for Gs1 x m ∷ [])
-written-one m x = rw (written-more m x [], written-none m) refl
+written-one m x = rw (written-more m x [], none-written m) refl
 
 cond-append : (b : Bool) (c : ℕ) (ys zs : List ℕ) → cond b (c ∷ c ∷ ys) (c ∷ ys) ++ zs ≡ cond b (c ∷ c ∷ (ys ++ zs)) (c ∷ (ys ++ zs))
 cond-append true c ys zs = refl
@@ -141,18 +141,18 @@ some-segment m (suc n) h = refl
 segments-one : (m : Mode) (n : ℕ) (xs : List ℕ) (later : List Segment) → n ≤ length xs
     → segments_of xs (one_segment m n ++ later) ≡ one_segment m (length (written m (take n xs))) ++ segments_of (drop n xs) later
 unfolding segments_of
-segments-one m zero xs later h = rw (written-none m) refl
+segments-one m zero xs later h = rw (none-written m) refl
 segments-one m (suc n) xs later h =
     rw (some-segment m (length (written m (take (suc n) xs))) (omega (arith, written-longer m (take (suc n) xs), length-take-le (suc n) xs h))) refl
 
 characters-run : (m : Mode) (n : ℕ) (xs : List ℕ) (later : List Segment)
     → written_in xs (one_segment m n ++ later) ≡ written m (take n xs) ++ written_in (drop n xs) later
 unfolding written_in
-characters-run m zero xs later = rw (written-none m) refl
+characters-run m zero xs later = rw (none-written m) refl
 characters-run m (suc n) xs later = refl
 
-behind : (b i : ℕ) (xs : List ℕ) → b ≤ i → drop (i - b) (drop b xs) ≡ drop i xs
-behind b i xs h = let e : b + (i - b) ≡ i = omega arith in rw (drop-drop (i - b) b xs, e) refl
+later-run : (b i : ℕ) (xs : List ℕ) → b ≤ i → drop (i - b) (drop b xs) ≡ drop i xs
+later-run b i xs h = let e : b + (i - b) ≡ i = omega arith in rw (drop-drop (i - b) b xs, e) refl
 
 -- what is written after a run of the bytes from `b` to `i` too
 pub segments-put : (xs : List ℕ) (runs segs : List Segment) (m : Mode) (b i : ℕ) → b ≤ i → i ≤ length xs
@@ -161,7 +161,7 @@ pub segments-put : (xs : List ℕ) (runs segs : List Segment) (m : Mode) (b i : 
 segments-put xs runs segs m b i h l so_far later =
     let one = one_segment m (i - b) in
     let new = one_segment m (length (written m (take (i - b) (drop b xs)))) in
-    rw (append_assoc runs one later, so_far (one ++ later), segments-one m (i - b) (drop b xs) later (omega (arith, length-drop b xs)), behind b i xs h)
+    rw (append_assoc runs one later, so_far (one ++ later), segments-one m (i - b) (drop b xs) later (omega (arith, length-drop b xs)), later-run b i xs h)
     (sym (append_assoc segs new (segments_of (drop i xs) later)))
 
 -- if `cs` are the characters of the runs up to byte `b`, those of the run up to byte `i` are appended to `cs`
@@ -170,5 +170,5 @@ pub characters-put : (xs : List ℕ) (runs : List Segment) (cs : List ℕ) (m : 
     → (later : List Segment) → written_in xs ((runs ++ one_segment m (i - b)) ++ later) ≡ (cs ++ written m (take (i - b) (drop b xs))) ++ written_in (drop i xs) later
 characters-put xs runs cs m b i h so_far later =
     let one = one_segment m (i - b) in
-    rw (append_assoc runs one later, so_far (one ++ later), characters-run m (i - b) (drop b xs) later, behind b i xs h)
+    rw (append_assoc runs one later, so_far (one ++ later), characters-run m (i - b) (drop b xs) later, later-run b i xs h)
     (sym (append_assoc cs (written m (take (i - b) (drop b xs))) (written_in (drop i xs) later)))

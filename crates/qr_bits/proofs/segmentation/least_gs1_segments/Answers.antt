@@ -10,8 +10,8 @@ use Rattle.qr_bits.proofs.segmentation.least_gs1_segments.Goals.{then-eq, else-e
 run-longer : (b i : ℕ) → b ≤ i → (i + 1) - b ≡ (i - b) + 1
 run-longer b i h = omega arith
 
-begun : (i : ℕ) → (i + 1) - i ≡ 1
-begun i = omega arith
+run-begun : (i : ℕ) → (i + 1) - i ≡ 1
+run-begun i = omega arith
 
 pub loop-i-init : goal.loop-i-init
 unfolding runs_of state_on state_after
@@ -62,7 +62,7 @@ loop-i-preserved c =
             inside = omega arith;
             modes = inv.modes ++ m ∷ [];
             runs = inv.runs ++ one_segment l.mode (i - b);
-            whole = rw (begun i) (sym (run-other inv.runs l.mode m (i - b) inv.first (other-mode l.mode m w.if-eq.ensures)) ∙ ap (λ (r : List Segment). append_mode r m) inv.whole ∙ sym (runs_of-push inv.modes m));
+            whole = rw (run-begun i) (sym (run-other inv.runs l.mode m (i - b) inv.first (other-mode l.mode m w.if-eq.ensures)) ∙ ap (λ (r : List Segment). append_mode r m) inv.whole ∙ sym (runs_of-push inv.modes m));
             segments = rw w.in_ok-put_run.ensures.segments (segments-put input inv.runs l.written.segments.items l.mode b i inv.inside (omega (arith, c.loop-i-test.true)) inv.segments);
             characters = rw w.in_ok-put_run.ensures.characters (characters-put input inv.runs l.written.characters.items l.mode b i inv.inside inv.characters);
             led = led;
