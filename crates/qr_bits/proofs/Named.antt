@@ -2,14 +2,14 @@
 use Rattle.std.proofs.{Common.{append-nil, append_assoc}, lemmas.List.{take_all, Sums.sum_by_more}}
 use Rattle.qr_bits.proofs.lemmas.bits.BitLemmas.{bits_of-whole, byte-first, filled-none, filled-some, number-after, power-fits}
 use Rattle.qr_bits.proofs.lemmas.folding.FoldingLemmas.{length-folded}
-use Rattle.qr_bits.proofs.lemmas.{laws.DataLemmas.length-stream, lower_bound.LeastLemmas.least_held}
+use Rattle.qr_bits.proofs.lemmas.{laws.DataLemmas.length-stream, lower_bound.LeastLemmas.least-held}
 use Rattle.qr_bits.proofs.lemmas.padding.PaddingLemmas.{pads-even, pads-none, pads-odd}
 
 pub ruleset writing_bits = (bits_of-whole, byte-first, filled-some, filled-none, number-after, power-fits)
 
 pub ruleset lengths = (length-folded, length-stream)
 
-pub ruleset sums_of_sixths = (take_all, sum_by_more, least_held)
+pub ruleset sums_of_sixths = (take_all, sum_by_more, least-held)
 
 pub ruleset pad_codewords = (append-nil, append_assoc, pads-none, pads-even, pads-odd)
 

@@ -1,6 +1,5 @@
 -- The lemmas that the attributes of functions name.
 use Rattle.qr_matrix.proofs.lemmas.bit_row.PlaceLemmas.{at-step, eight-step, four-step, words-small}
-use Rattle.qr_matrix.proofs.lemmas.{bit_row.SumLemmas.sum_below-more, runs.RowLemmas.size-is}
 use Rattle.qr_matrix.proofs.lemmas.matrix.MatrixLemmas.{dark-replicate, filled-dark, filled-light, light-square, masked-bit, masked-past, row-read, rows-long, with_row-same}
 use Rattle.qr_matrix.proofs.lemmas.transposition.TranspositionLemmas.{lower-word, upper-word, word-put, word-read}
 
@@ -18,6 +17,3 @@ pub ruleset replaced_facts = (with_row-same, filled-dark, filled-light, masked-b
 
 -- exchanging the parts of two words
 pub ruleset exchange_facts = (upper-word, lower-word)
-
--- sums of penalty points and of dark modules
-pub ruleset sum_facts = (sum_below-more, size-is)

@@ -5,13 +5,13 @@ pub use Rattle.qr_symbol.proofs.lemmas.laws.DistanceLemmas.{messages-apart, part
 pub use Rattle.qr_symbol.proofs.lemmas.reading.FormatLemmas.{format-read, level-one, level-small}
 pub use Rattle.qr_symbol.proofs.lemmas.interleaving.OrderLemmas.{gather-some, positions-many}
 pub use Rattle.qr_symbol.proofs.lemmas.joining.JoiningLemmas.{joined-refused, joining-one, readings-next, readings-none, unjoined-next, unjoined-one}
-pub use Rattle.qr_symbol.proofs.lemmas.interleaving.MessageLemmas.{sizes-whole, data-sizes-whole, final-one, final-whole, ok-also, take-front}
+pub use Rattle.qr_symbol.proofs.lemmas.interleaving.MessageLemmas.{sizes-whole, data-sizes-whole, final-one, final-whole, take-front}
 pub use Rattle.qr_symbol.proofs.lemmas.interleaving.RankLemmas.{map-at, position-of, positions-one}
 pub use Rattle.qr_symbol.proofs.lemmas.reading.ReadLemmas.{bits-one, message-one, read-one, read-some}
-pub use Rattle.qr_symbol.proofs.lemmas.reading.RefusalLemmas.{exactly, moved}
+pub use Rattle.qr_symbol.proofs.lemmas.reading.RefusalLemmas.{exactly, moved, FaultsAreOne}
 pub use Rattle.qr_symbol.proofs.lemmas.reading.RoundTripLemmas.{symbol-format, symbol-holds, symbol-parsed}
-pub use Rattle.qr_symbol.proofs.lemmas.series.SeriesLemmas.{long-has-no-series, series-interpreted, series-joined, series-one}
+pub use Rattle.qr_symbol.proofs.lemmas.series.SeriesLemmas.{long-has-no-series, series-joined, series-one}
 pub use Rattle.qr_symbol.proofs.lemmas.series.SizeLemmas.{series-few, series-side, series-some}
-pub use Rattle.qr_symbol.proofs.lemmas.encoding.SymbolLemmas.{boosted-one, symbol-one, version-one}
+pub use Rattle.qr_symbol.proofs.lemmas.encoding.SymbolLemmas.{symbol-one, version-one}
 pub use Rattle.qr_symbol.proofs.lemmas.interleaving.PositionLemmas.{len-most, part-at, part-grown, part-last, part-len, start-most, start-next, start-none, position-in}
 pub use Rattle.qr_symbol.proofs.lemmas.version_choice.FitLemmas.{version-short}

@@ -6,7 +6,7 @@ use Rattle.qr_symbol.proofs.lemmas.{laws.DistanceLemmas.messages-apart}
 use Rattle.qr_symbol.proofs.lemmas.placement.LightLemmas.{cleared}
 use Rattle.qr_symbol.proofs.lemmas.words.BitLemmas.{word-past}
 use Rattle.qr_symbol.proofs.lemmas.words.SplitLemmas.{all-exchanged-bit, exchanged-bit}
-use Rattle.qr_symbol.proofs.lemmas.{placement.PlacementLemmas.square-is, reading.ReadLemmas.read-grid}
+use Rattle.qr_symbol.proofs.lemmas.reading.ReadLemmas.{read-grid}
 use Rattle.qr_symbol.proofs.lemmas.series.{PartExistenceLemmas.parts-there, PartLemmas.part-least}
 
 -- Bits of words and of codewords.
@@ -17,9 +17,6 @@ pub ruleset exchanges = (exchanged-bit, all-exchanged-bit)
 
 -- The columns of a strip.
 pub ruleset strips = (cleared)
-
--- Squares that are drawn.
-pub ruleset squares = (square-is)
 
 -- Messages and their blocks.
 pub ruleset slices = (slice-in)

@@ -1,2 +1,2 @@
--- The rows of a strip, and the spans that they make.
+-- The rows of a strip and their indices.
 pub mod SpanLemmas

@@ -3,7 +3,7 @@ use Rattle.std.proofs.Math.{Seq.drop-length, Seq.drop-cons, Nat.le_refl}
 use Rattle.std.proofs.lemmas.List.{reverse-append, take_all, length-drop}
 use Rattle.qr_bits.specs.{Modes.is_kanji_pair, Steps.RunState.begins_with_pair, Steps.BestModes.IsRow, Steps.BestModes.bits_at}
 use Rattle.qr_bits.specs.{Steps.RunState.is_gs1, declared.interpretation.Interpretation.Interpretation}
-use Rattle.qr_bits.proofs.lemmas.best_modes.TableLemmas.{some_interpretation, best_none, best_more, small_more, small_row, zeros, zeros_small}
+use Rattle.qr_bits.proofs.lemmas.best_modes.TableLemmas.{some-interpretation, best-none, best-more, small-more, small-row, zeros, zeros-small}
 use Rattle.qr_bits.proofs.best_modes.best_rows.Goals as goal
 
 -- n rows are in the table, and k bytes have none yet
@@ -17,12 +17,12 @@ none n l e = omega arith
 pub loop-i-init : goal.loop-i-init
 loop-i-init c = record {
   len = none _ _ c.in_ok-table.ensures.len;
-  small = zeros_small _;
-  best = λ n g. rw (drop-length c.args.input.now, c.in_ok-table.ensures.items) (best_none n c.args.version c.args.rule is_kanji_pair _ zeros);
+  small = zeros-small _;
+  best = λ n g. rw (drop-length c.args.input.now, c.in_ok-table.ensures.items) (best-none n c.args.version c.args.rule is_kanji_pair _ zeros);
 }
 
 pub row_of-modes-requires : goal.row_of-modes-requires
-row_of-modes-requires c = small_row c.loop-i.rest _ ((rows _ _ _ c.loop-i.invariant.len).2 c.requires.short) c.loop-i.invariant.small
+row_of-modes-requires c = small-row c.loop-i.rest _ ((rows _ _ _ c.loop-i.invariant.len).2 c.requires.short) c.loop-i.invariant.small
 
 pub loop-i-preserved : goal.loop-i-preserved
 loop-i-preserved c =
@@ -33,11 +33,11 @@ loop-i-preserved c =
     let w : take (length xs - i) (drop i xs) ≡ drop i xs = take_all _ _ (rw (length-drop i xs) (le_refl (length xs - i))) in
     let chosen : (n : Interpretation) → c.args.gs1 ≡ is_gs1 n → IsRow n c.args.version c.args.rule (get_or xs i 0) (begins_with_pair c.args.rule is_kanji_pair (get_or xs i 0 ∷ drop c.loop-i.i xs)) c.loop-i.rest c.row_of-modes.result.0 c.row_of-modes.result.1 =
     λ n g. rw (c.of-first_choices.ensures, c.pair_at-pair.ensures, w, d) at (c.row_of-modes.ensures n g) in
-    let some = some_interpretation c.args.gs1 in
+    let some = some-interpretation c.args.gs1 in
     record {
       len = rw c.in_ok-push.ensures.len at.2;
-      small = λ p. rw c.in_ok-push.ensures.len (small_more some.0 c.args.version c.args.rule _ _ _ c.loop-i.rest _ _ c.loop-i.invariant.small (chosen some.0 some.1) p);
-      best = λ n g. rw (d, c.in_ok-push.ensures.items, reverse-append c.loop-i.table.items (c.row_of-modes.result.0 ∷ [])) (best_more n c.args.version c.args.rule is_kanji_pair _ _ _ _ _ _ (c.loop-i.invariant.best n g) (chosen n g));
+      small = λ p. rw c.in_ok-push.ensures.len (small-more some.0 c.args.version c.args.rule _ _ _ c.loop-i.rest _ _ c.loop-i.invariant.small (chosen some.0 some.1) p);
+      best = λ n g. rw (d, c.in_ok-push.ensures.items, reverse-append c.loop-i.table.items (c.row_of-modes.result.0 ∷ [])) (best-more n c.args.version c.args.rule is_kanji_pair _ _ _ _ _ _ (c.loop-i.invariant.best n g) (chosen n g));
     }
 
 pub returns : goal.returns

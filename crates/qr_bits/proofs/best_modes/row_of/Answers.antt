@@ -1,6 +1,6 @@
 use Rattle.std.proofs.Common.{◌≡◌, false, sym, ◌∙◌}
 use Rattle.std.proofs.lemmas.Bool.{false≢true}
-use Rattle.qr_bits.proofs.lemmas.best_modes.ChoiceLemmas.{digit_written}
+use Rattle.qr_bits.proofs.lemmas.best_modes.ChoiceLemmas.{digit-written}
 use Rattle.qr_bits.proofs.best_modes.row_of.Goals as goal
 use Rattle.qr_bits.proofs.best_modes.row_of.Goals.{else-digit-via-then-digit+else-not-pair, else-digit-via-else-digit}
 
@@ -9,7 +9,7 @@ returns-then-not-pair c = λ i g.
     let r = c.args.rule in
     let x = c.args.byte in
     let digit = sym (c.may_begin-digit.ensures false) ∙ c.if-digit.true in
-    let own = digit_written i r x false digit in
+    let own = digit-written i r x false digit in
     rw c.if-not-pair.true (c.choices.ensures i r x (sym digit) (c.character_choices-characters.ensures i r x false (sym own.1) (sym own.0)))
 
 pub returns-then-pair : goal.returns-then-pair

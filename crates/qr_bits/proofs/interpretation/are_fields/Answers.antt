@@ -2,15 +2,15 @@ use Rattle.std.proofs.Common.{◌≡◌, ℕ, ◌<◌, Bool, true, false, ◌&&�
 use Rattle.qr_bits.specs.Interpretation.{are_fields}
 use Rattle.qr_bits.proofs.interpretation.are_fields.Goals as goal
 
-short_fields : (xs : List ℕ) → length xs < 2 → are_fields xs ≡ true
+short-fields : (xs : List ℕ) → length xs < 2 → are_fields xs ≡ true
 unfolding are_fields
-short_fields [] h = refl
-short_fields (x ∷ []) h = refl
-short_fields (x ∷ y ∷ xs) h = absurd (omega arith)
+short-fields [] h = refl
+short-fields (x ∷ []) h = refl
+short-fields (x ∷ y ∷ xs) h = absurd (omega arith)
 
-alone : (b : Bool) → b ≡ (b && true)
-alone true = refl
-alone false = refl
+and-true : (b : Bool) → b ≡ (b && true)
+and-true true = refl
+and-true false = refl
 
 pub returns : goal.returns
-returns c = alone c.loop-rest.fields ∙ rw (short_fields c.loop-rest.rest.now c.in_default.len_below) at c.loop-rest.invariant
+returns c = and-true c.loop-rest.fields ∙ rw (short-fields c.loop-rest.rest.now c.in_default.len_below) at c.loop-rest.invariant

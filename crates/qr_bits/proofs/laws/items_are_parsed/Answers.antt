@@ -1,5 +1,5 @@
-use Rattle.qr_bits.proofs.lemmas.parsing.ItemLemmas.{items_said, items_read}
+use Rattle.qr_bits.proofs.lemmas.parsing.ItemLemmas.{items-said, items-read}
 use Rattle.qr_bits.proofs.laws.items_are_parsed.Goals as goal
 
 pub returns : goal.returns
-returns c = λ v bits items xs. (items_said v bits items xs, items_read v bits items xs)
+returns c = λ v bits items xs. (items-said v bits items xs, items-read v bits items xs)

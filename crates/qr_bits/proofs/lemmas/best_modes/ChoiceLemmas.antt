@@ -8,7 +8,7 @@ use Rattle.qr_bits.specs.{declared.modes.Mode.Mode, declared.modes.Rule.Rule, Se
 use Rattle.qr_bits.specs.declared.modes.Mode.TheVariants.{Numeric, Alphanumeric, Byte, Kanji}
 use Rattle.qr_bits.specs.declared.run_state.{PerState.PerState, RunState.{RunState, TheVariants.{Start, Character2, InBytes, HalfPair}}}
 use Rattle.qr_bits.specs.Steps.BestModes.{bits_at, character_choice}
-use Rattle.qr_bits.proofs.lemmas.modes.CharacterLemmas.{digit_character}
+use Rattle.qr_bits.proofs.lemmas.modes.CharacterLemmas.{digit-character}
 use Rattle.qr_bits.specs.Steps.RunState.{state_after, state_in, state_on, byte_cost, cost_in, may_take_in, may_begin, may_take, may_end, choice_number, ranked, IsChoice}
 
 -- the least of the numbers of the four modes
@@ -17,47 +17,47 @@ least_of may cost =
     min (choice_number (may Numeric) (cost Numeric) Numeric)
     (min (choice_number (may Alphanumeric) (cost Alphanumeric) Alphanumeric) (min (choice_number (may Byte) (cost Byte) Byte) (choice_number (may Kanji) (cost Kanji) Kanji)))
 
-least_under : (m : Mode → Bool) (f : Mode → ℕ) (k : Mode) → m k ≡ true → least_of m f ≤ 4 * f k + rank k
-least_under m f k t = grind arith
+least-under : (m : Mode → Bool) (f : Mode → ℕ) (k : Mode) → m k ≡ true → least_of m f ≤ 4 * f k + rank k
+least-under m f k t = grind arith
 
 -- the number is that of a mode that may be used
 abbrev IsTaken : (Mode → Bool) → (Mode → ℕ) → ℕ → Type 0
 IsTaken may cost c = (m : Mode) × (may m ≡ true) × (c ≡ 4 * cost m + rank m)
 
-taken_one : (may : Mode → Bool) (cost : Mode → ℕ) (m : Mode) (t : Bool) → t ≡ may m → choice_number t (cost m) m < 4294967295 → IsTaken may cost (choice_number t (cost m) m)
-taken_one may cost m t e h = grind arith
+taken-one : (may : Mode → Bool) (cost : Mode → ℕ) (m : Mode) (t : Bool) → t ≡ may m → choice_number t (cost m) m < 4294967295 → IsTaken may cost (choice_number t (cost m) m)
+taken-one may cost m t e h = grind arith
 
-taken_min : (may : Mode → Bool) (cost : Mode → ℕ) (a b : ℕ) → (a < 4294967295 → IsTaken may cost a) → (b < 4294967295 → IsTaken may cost b) → min a b < 4294967295 → IsTaken may cost (min a b)
-taken_min may cost a b f g h = ⊎_elim (λ (l : a < b). let e : min a b ≡ a = omega arith in rw e (f (omega arith)))
+taken-min : (may : Mode → Bool) (cost : Mode → ℕ) (a b : ℕ) → (a < 4294967295 → IsTaken may cost a) → (b < 4294967295 → IsTaken may cost b) → min a b < 4294967295 → IsTaken may cost (min a b)
+taken-min may cost a b f g h = ⊎_elim (λ (l : a < b). let e : min a b ≡ a = omega arith in rw e (f (omega arith)))
     (λ (l : b ≤ a). let e : min a b ≡ b = omega arith in rw e (g (omega arith))) (cases_lt a b)
 
-taken_least : (m : Mode → Bool) (f : Mode → ℕ) → least_of m f < 4294967295 → IsTaken m f (least_of m f)
-taken_least m f =
-    taken_min m f _ _ (taken_one m f Numeric _ refl) (search (arith, taken_min, taken_one))
+taken-least : (m : Mode → Bool) (f : Mode → ℕ) → least_of m f < 4294967295 → IsTaken m f (least_of m f)
+taken-least m f =
+    taken-min m f _ _ (taken-one m f Numeric _ refl) (search (arith, taken-min, taken-one))
 
 ranked-number : (c b : ℕ) (m : Mode) → c ≡ 4 * b + rank m → ranked (c % 4) ≡ m
 ranked-number c b m e = grind arith
 
 -- a byte adds at most 33 bits
-pub byte_cost_bound : (v : ℕ) (p : RunState) (m : Mode) → byte_cost v p m ≤ 33
+pub byte_cost-bound : (v : ℕ) (p : RunState) (m : Mode) → byte_cost v p m ≤ 33
 unfolding byte_cost
-byte_cost_bound v p m = grind arith
+byte_cost-bound v p m = grind arith
 
-two_bound : (v : ℕ) (p : RunState) (m : Mode) → rank m ≡ 1 → byte_cost v p m + byte_cost v (state_after p m) m ≤ 33
+two-bound : (v : ℕ) (p : RunState) (m : Mode) → rank m ≡ 1 → byte_cost v p m + byte_cost v (state_after p m) m ≤ 33
 unfolding byte_cost state_after
-two_bound v p m h = grind arith
+two-bound v p m h = grind arith
 
 -- each rule allows byte mode
-pub byte_used : (r : Rule) → may_use r Byte ≡ true
-byte_used r = grind arith
+pub byte-used : (r : Rule) → may_use r Byte ≡ true
+byte-used r = grind arith
 
-rank_below : (m : Mode) → rank m < 4
-rank_below m = grind arith
+rank-below : (m : Mode) → rank m < 4
+rank-below m = grind arith
 
 -- if no half pair is open, the modes that may be used are those that may begin
-pub take_begin : (r : Rule) (p : RunState) (x : ℕ) (pair : Bool) (m : Mode) → may_end p ≡ true → may_take r p x pair m ≡ may_begin r x pair m
+pub take-begin : (r : Rule) (p : RunState) (x : ℕ) (pair : Bool) (m : Mode) → may_end p ≡ true → may_take r p x pair m ≡ may_begin r x pair m
 unfolding may_end may_take
-take_begin r p x pair m e = grind arith
+take-begin r p x pair m e = grind arith
 
 -- a byte in kanji mode is one character
 pub kanji-in : (i : Interpretation) (v : ℕ) (p : RunState) (x : ℕ) → (cost_in i v p x Kanji ≡ byte_cost v p Kanji) × (state_in i p x Kanji ≡ state_after p Kanji)
@@ -69,70 +69,70 @@ unfolding state_after
 byte-in i p x = rw (single-byte i x).0 refl
 
 -- the characters of a byte add at most 33 bits
-pub cost_in_bound : (i : Interpretation) (v : ℕ) (p : RunState) (x : ℕ) (m : Mode) → cost_in i v p x m ≤ 33
+pub cost_in-bound : (i : Interpretation) (v : ℕ) (p : RunState) (x : ℕ) (m : Mode) → cost_in i v p x m ≤ 33
 unfolding byte_cost state_after
-cost_in_bound i v p x m = cond_both (is_doubled i x m) _ _ (λ (n : ℕ). n ≤ 33)
-    (λ e. let one = doubled-rank i x m e in two_bound v p m one)
-    (λ _. byte_cost_bound v p m)
+cost_in-bound i v p x m = cond_both (is_doubled i x m) _ _ (λ (n : ℕ). n ≤ 33)
+    (λ e. let one = doubled-rank i x m e in two-bound v p m one)
+    (λ _. byte_cost-bound v p m)
 
 -- after half a pair, kanji mode is the choice
-pub half_choice : (i : Interpretation) (v : ℕ) (r : Rule) (x : ℕ) (pair : Bool) (cost : RunState → ℕ) (c : ℕ) (m : Mode) → m ≡ ranked (c % 4)
+pub half-choice : (i : Interpretation) (v : ℕ) (r : Rule) (x : ℕ) (pair : Bool) (cost : RunState → ℕ) (c : ℕ) (m : Mode) → m ≡ ranked (c % 4)
     → c ≡ choice_number true (byte_cost v HalfPair Kanji + cost (state_after HalfPair Kanji)) Kanji → IsChoice i v r HalfPair x pair cost m (c / 4)
 unfolding may_take byte_cost state_after
-half_choice i v r x pair cost c m chosen is = rw chosen (search (arith, ranked-number, kanji-in))
+half-choice i v r x pair cost c m chosen is = rw chosen (search (arith, ranked-number, kanji-in))
 
 -- the least number is that of the mode of lowest rank among those that lead to the fewest bits
-pub least_choice : (i : Interpretation) (v : ℕ) (r : Rule) (p : RunState) (x : ℕ) (q : Bool) (cost : RunState → ℕ) (c : ℕ) (n : Mode) → n ≡ ranked (c % 4) → may_end p ≡ true → cost InBytes < 10000000
+pub least-choice : (i : Interpretation) (v : ℕ) (r : Rule) (p : RunState) (x : ℕ) (q : Bool) (cost : RunState → ℕ) (c : ℕ) (n : Mode) → n ≡ ranked (c % 4) → may_end p ≡ true → cost InBytes < 10000000
     → c ≡ least_of (λ k. may_begin r (character_for i x k) q k) (λ k. cost_in i v p x k + cost (state_in i p x k)) → IsChoice i v r p x q cost n (c / 4)
 unfolding may_begin
-least_choice i v r p x q cost c n chosen e small is =
+least-choice i v r p x q cost c n chosen e small is =
     let may : Mode → Bool = λ k. may_begin r (character_for i x k) q k in
     let t : Mode → ℕ = λ k. cost_in i v p x k + cost (state_in i p x k) in
-    let take : (k : Mode) → may_take_in i r p x q k ≡ may k = λ k. take_begin r p (character_for i x k) q k e in
-    let under : (k : Mode) → may_take_in i r p x q k ≡ true → c ≤ 4 * t k + rank k = λ k ok. rw is (least_under may t k (sym (take k) ∙ ok)) in
-    let most : c ≤ 4 * t Byte + rank Byte = under Byte (take Byte ∙ byte_used r) in
+    let take : (k : Mode) → may_take_in i r p x q k ≡ may k = λ k. take-begin r p (character_for i x k) q k e in
+    let under : (k : Mode) → may_take_in i r p x q k ≡ true → c ≤ 4 * t k + rank k = λ k ok. rw is (least-under may t k (sym (take k) ∙ ok)) in
+    let most : c ≤ 4 * t Byte + rank Byte = under Byte (take Byte ∙ byte-used r) in
     let later : cost (state_in i p x Byte) < 10000000 = rw (byte-in i p x) small in
-    let few : c < 4294967295 = omega (arith, most, cost_in_bound i v p x Byte, later) in
-    let taken : IsTaken may t c = rw is (taken_least may t (rw is at few)) in
+    let few : c < 4294967295 = omega (arith, most, cost_in-bound i v p x Byte, later) in
+    let taken : IsTaken may t c = rw is (taken-least may t (rw is at few)) in
     let m = taken.0 in
-    let bits : c / 4 ≡ t m = omega (arith, taken.2, rank_below m) in
-    rw (chosen, ranked-number c (t m) m taken.2) (search (arith, rank_below))
+    let bits : c / 4 ≡ t m = omega (arith, taken.2, rank-below m) in
+    rw (chosen, ranked-number c (t m) m taken.2) (search (arith, rank-below))
 
--- As `least_choice`. What is written for the byte makes a difference in alphanumeric mode alone.
-pub row_choice : (i : Interpretation) (v : ℕ) (r : Rule) (p : RunState) (x : ℕ) (q : Bool) (rest : PerState) (c : ℕ) (n : Mode) → n ≡ ranked (c % 4) → may_end p ≡ true → bits_at rest InBytes < 10000000
+-- As `least-choice`. What is written for the byte makes a difference in alphanumeric mode alone.
+pub row-choice : (i : Interpretation) (v : ℕ) (r : Rule) (p : RunState) (x : ℕ) (q : Bool) (rest : PerState) (c : ℕ) (n : Mode) → n ≡ ranked (c % 4) → may_end p ≡ true → bits_at rest InBytes < 10000000
     → c ≡ min (choice_number (may_begin r x q Numeric) (byte_cost v p Numeric + bits_at rest (state_after p Numeric)) Numeric)
     (min (character_choice i v r x q rest p)
     (min (choice_number (may_begin r x q Byte) (byte_cost v p Byte + bits_at rest (state_after p Byte)) Byte) (choice_number (may_begin r x q Kanji) (byte_cost v p Kanji + bits_at rest (state_after p Kanji)) Kanji)))
     → IsChoice i v r p x q (bits_at rest) n (c / 4)
-row_choice Default v r p x q rest c n chosen e small is = least_choice Default v r p x q (bits_at rest) c n chosen e small is
-row_choice (Eci k) v r p x q rest c n chosen e small is = least_choice (Eci k) v r p x q (bits_at rest) c n chosen e small is
-row_choice Gs1 v r p x q rest c n chosen e small is = least_choice Gs1 v r p x q (bits_at rest) c n chosen e small is
+row-choice Default v r p x q rest c n chosen e small is = least-choice Default v r p x q (bits_at rest) c n chosen e small is
+row-choice (Eci k) v r p x q rest c n chosen e small is = least-choice (Eci k) v r p x q (bits_at rest) c n chosen e small is
+row-choice Gs1 v r p x q rest c n chosen e small is = least-choice Gs1 v r p x q (bits_at rest) c n chosen e small is
 
 -- without the bits of a segment's indicators the number is no larger
-pub number_less : (may : Bool) (m : Mode) (k w n : ℕ) → choice_number may (k + n) m ≤ choice_number may (4 + w + k + n) m
-number_less may m k w n = grind arith
+pub number-less : (may : Bool) (m : Mode) (k w n : ℕ) → choice_number may (k + n) m ≤ choice_number may (4 + w + k + n) m
+number-less may m k w n = grind arith
 
-number_less-two : (may : Bool) (w n : ℕ) → choice_number may (6 + 5 + n) Alphanumeric ≤ choice_number may (4 + w + 6 + 5 + n) Alphanumeric
-number_less-two may w n = grind arith
+number-less-two : (may : Bool) (w n : ℕ) → choice_number may (6 + 5 + n) Alphanumeric ≤ choice_number may (4 + w + 6 + 5 + n) Alphanumeric
+number-less-two may w n = grind arith
 
 -- after a whole pair alphanumeric mode takes no more bits than at the start
-pub character_less : (i : Interpretation) (v : ℕ) (r : Rule) (x : ℕ) (q : Bool) (rest : PerState) → character_choice i v r x q rest Character2 ≤ character_choice i v r x q rest Start
+pub character-less : (i : Interpretation) (v : ℕ) (r : Rule) (x : ℕ) (q : Bool) (rest : PerState) → character_choice i v r x q rest Character2 ≤ character_choice i v r x q rest Start
 unfolding byte_cost state_after
-character_less i v r x q rest = ⊎_elim
-    (λ (e : is_doubled i x Alphanumeric ≡ true). rw e (number_less-two _ _ _))
-    (λ (e : is_doubled i x Alphanumeric ≡ false). rw e (number_less _ Alphanumeric 6 _ _))
+character-less i v r x q rest = ⊎_elim
+    (λ (e : is_doubled i x Alphanumeric ≡ true). rw e (number-less-two _ _ _))
+    (λ (e : is_doubled i x Alphanumeric ≡ false). rw e (number-less _ Alphanumeric 6 _ _))
     (cases_Bool (is_doubled i x Alphanumeric))
 
-no_escape : (r : Rule) (x : ℕ) (q : Bool) → may_begin r x q Numeric ≡ true → (is_doubled Gs1 x Alphanumeric ≡ false) × (character_for Gs1 x Alphanumeric ≡ x)
+no-escape : (r : Rule) (x : ℕ) (q : Bool) → may_begin r x q Numeric ≡ true → (is_doubled Gs1 x Alphanumeric ≡ false) × (character_for Gs1 x Alphanumeric ≡ x)
 unfolding may_begin
-no_escape r x q h = grind (arith, ne_eqb)
+no-escape r x q h = grind (arith, ne_eqb)
 
 -- a digit is one character, and may be written in alphanumeric mode
-pub digit_written : (i : Interpretation) (r : Rule) (x : ℕ) (q : Bool) → may_begin r x q Numeric ≡ true
+pub digit-written : (i : Interpretation) (r : Rule) (x : ℕ) (q : Bool) → may_begin r x q Numeric ≡ true
     → (is_doubled i x Alphanumeric ≡ false) × (may_begin r (character_for i x Alphanumeric) q Alphanumeric ≡ true)
-digit_written Default r x q h = (refl, digit_character r x q h)
-digit_written (Eci k) r x q h = (refl, digit_character r x q h)
-digit_written Gs1 r x q h = let own = no_escape r x q h in (own.0, rw own.1 (digit_character r x q h))
+digit-written Default r x q h = (refl, digit-character r x q h)
+digit-written (Eci k) r x q h = (refl, digit-character r x q h)
+digit-written Gs1 r x q h = let own = no-escape r x q h in (own.0, rw own.1 (digit-character r x q h))
 
 -- a byte in kanji mode begins a pair if no half pair is open
 pub state_after-whole : (p : RunState) → may_end p ≡ true → state_after p Kanji ≡ HalfPair
@@ -140,11 +140,11 @@ unfolding may_end state_after
 state_after-whole p e = grind arith
 
 -- the state after one more byte in the mode of the last one
-pub on_after : (p : RunState) (m : Mode) → state_on (state_after p m) ≡ state_after (state_after p m) m
+pub on-after : (p : RunState) (m : Mode) → state_on (state_after p m) ≡ state_after (state_after p m) m
 unfolding state_on state_after
-on_after p m = grind arith
+on-after p m = grind arith
 
--- as `on_after`, after the characters of a byte
-pub on_in : (i : Interpretation) (p : RunState) (x : ℕ) (m : Mode) → state_on (state_in i p x m) ≡ state_after (state_in i p x m) m
-on_in i p x m =
-    cond_both (is_doubled i x m) _ _ (λ (q : RunState). state_on q ≡ state_after q m) (λ _. on_after (state_after p m) m) (λ _. on_after p m)
+-- as `on-after`, after the characters of a byte
+pub on-in : (i : Interpretation) (p : RunState) (x : ℕ) (m : Mode) → state_on (state_in i p x m) ≡ state_after (state_in i p x m) m
+on-in i p x m =
+    cond_both (is_doubled i x m) _ _ (λ (q : RunState). state_on q ≡ state_after q m) (λ _. on-after (state_after p m) m) (λ _. on-after p m)

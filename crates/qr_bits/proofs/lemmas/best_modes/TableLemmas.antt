@@ -10,70 +10,70 @@ use Rattle.qr_bits.specs.declared.run_state.RunState.TheVariants.{Start, Digit1,
 use Rattle.qr_bits.specs.declared.run_state.PerState.{PerState}
 use Rattle.qr_bits.specs.Steps.RunState.{is_gs1, state_after, state_in, may_take_in, begins_with_pair, may_begin, may_take, may_end, allowed_in, cost_of, cost_of_all, ranked}
 use Rattle.qr_bits.specs.Steps.BestModes.{in_state, bits_at, shift_of, mode_at, follow, follow_in, IsRow, IsSmall}
-use Rattle.qr_bits.proofs.lemmas.run_state.{BestLemmas.BestBelow, BestLemmas.best_step}
+use Rattle.qr_bits.proofs.lemmas.run_state.{BestLemmas.BestBelow, BestLemmas.best-step}
 use Rattle.qr_bits.proofs.lemmas.interpretation.WrittenLemmas.{single-byte}
-use Rattle.qr_bits.proofs.lemmas.best_modes.ChoiceLemmas.{byte_used, byte-in, cost_in_bound, take_begin}
+use Rattle.qr_bits.proofs.lemmas.best_modes.ChoiceLemmas.{byte-used, byte-in, cost_in-bound, take-begin}
 use Rattle.qr_bits.proofs.lemmas.run_state.AssignmentLemmas.{may_end-after}
 
 -- data of GS1 have an interpretation, and other data too
-pub some_interpretation : (g : Bool) → (i : Interpretation) × (g ≡ is_gs1 i)
-some_interpretation true = (Gs1, refl)
-some_interpretation false = (Default, refl)
+pub some-interpretation : (g : Bool) → (i : Interpretation) × (g ≡ is_gs1 i)
+some-interpretation true = (Gs1, refl)
+some-interpretation false = (Default, refl)
 
 -- byte mode for each byte is an allowed rest if no half pair is open
-pub bytes_rest : (i : Interpretation) (r : Rule) (test : ℕ → ℕ → Bool) (p : RunState) (xs : List ℕ) → may_end p ≡ true → allowed_in i r test p xs (replicate (length xs) Byte) ≡ true
+pub bytes-rest : (i : Interpretation) (r : Rule) (test : ℕ → ℕ → Bool) (p : RunState) (xs : List ℕ) → may_end p ≡ true → allowed_in i r test p xs (replicate (length xs) Byte) ≡ true
 unfolding allowed_in may_begin may_end
-bytes_rest i r test p [] e = e
-bytes_rest i r test p (x ∷ xs) e = rw (byte-in i p x) (search (arith, and_from, take_begin, byte_used, bytes_rest i r test InBytes xs refl))
+bytes-rest i r test p [] e = e
+bytes-rest i r test p (x ∷ xs) e = rw (byte-in i p x) (search (arith, and_from, take-begin, byte-used, bytes-rest i r test InBytes xs refl))
 
 -- no half pair is open after a byte that is not in kanji mode
-pub in_end : (i : Interpretation) (p : RunState) (x : ℕ) (m : Mode) → rank m < 3 → may_end (state_in i p x m) ≡ true
-in_end i p x m k =
+pub in-end : (i : Interpretation) (p : RunState) (x : ℕ) (m : Mode) → rank m < 3 → may_end (state_in i p x m) ≡ true
+in-end i p x m k =
     cond_both (is_doubled i x m) _ _ (λ (q : RunState). may_end q ≡ true) (λ _. may_end-after (state_after p m) m k) (λ _. may_end-after p m k)
 
 -- after a mode that the byte `x` may have, some modes of the later bytes are allowed
-rest_after : (i : Interpretation) (r : Rule) (t : ℕ → ℕ → Bool) (p : RunState) (x : ℕ) (xs : List ℕ) (m : Mode) → may_take_in i r p x (begins_with_pair r t (x ∷ xs)) m ≡ true
+rest-after : (i : Interpretation) (r : Rule) (t : ℕ → ℕ → Bool) (p : RunState) (x : ℕ) (xs : List ℕ) (m : Mode) → may_take_in i r p x (begins_with_pair r t (x ∷ xs)) m ≡ true
     → (ks : List Mode) × IsTrue (allowed_in i r t (state_in i p x m) xs ks)
 unfolding may_take may_begin begins_with_pair allowed_in state_after may_end
-rest_after i r t HalfPair x xs Kanji h = (replicate (length xs) Byte, rw (single-byte i x).1 (bytes_rest i r t WholePair xs refl))
-rest_after i r t _ x [] Kanji h = absurd (false≢true h)
-rest_after i r t _ x (y ∷ xs) Kanji h =
-    (Kanji ∷ replicate (length xs) Byte, rw ((single-byte i x).1, (single-byte i y).1) (bytes_rest i r t WholePair xs refl))
-rest_after i r t p x xs m h = (replicate (length xs) Byte, bytes_rest i r t (state_in i p x m) xs (in_end i p x m (lit< tt)))
+rest-after i r t HalfPair x xs Kanji h = (replicate (length xs) Byte, rw (single-byte i x).1 (bytes-rest i r t WholePair xs refl))
+rest-after i r t _ x [] Kanji h = absurd (false≢true h)
+rest-after i r t _ x (y ∷ xs) Kanji h =
+    (Kanji ∷ replicate (length xs) Byte, rw ((single-byte i x).1, (single-byte i y).1) (bytes-rest i r t WholePair xs refl))
+rest-after i r t p x xs m h = (replicate (length xs) Byte, bytes-rest i r t (state_in i p x m) xs (in-end i p x m (lit< tt)))
 
 -- the table without a row
-pub best_none : (i : Interpretation) (v : ℕ) (r : Rule) (test : ℕ → ℕ → Bool) (cost : RunState → ℕ) → ((p : RunState) → cost p ≡ 0) → BestBelow i v r test [] (λ p. follow_in i p [] []) cost
+pub best-none : (i : Interpretation) (v : ℕ) (r : Rule) (test : ℕ → ℕ → Bool) (cost : RunState → ℕ) → ((p : RunState) → cost p ≡ 0) → BestBelow i v r test [] (λ p. follow_in i p [] []) cost
 unfolding follow_in allowed_in cost_of_all cost_of
-best_none i v r test cost zeros p ks h = grind (arith, zeros p)
+best-none i v r test cost zeros p ks h = grind (arith, zeros p)
 
 -- the table with one more row
-pub best_more : (i : Interpretation) (v : ℕ) (r : Rule) (test : ℕ → ℕ → Bool) (x : ℕ) (xs rows : List ℕ) (row : ℕ) (rest numbers : PerState)
+pub best-more : (i : Interpretation) (v : ℕ) (r : Rule) (test : ℕ → ℕ → Bool) (x : ℕ) (xs rows : List ℕ) (row : ℕ) (rest numbers : PerState)
     → BestBelow i v r test xs (λ p. follow_in i p xs rows) (bits_at rest)
     → IsRow i v r x (begins_with_pair r test (x ∷ xs)) rest row numbers
     → BestBelow i v r test (x ∷ xs) (λ p. follow_in i p (x ∷ xs) (row ∷ rows)) (bits_at numbers)
 unfolding follow_in
-best_more i v r test x xs rows row rest numbers below choice p ks h =
-    best_step i v r test p x xs _ (bits_at rest) _ _ below (choice p) (rest_after i r test p x xs (mode_at row p) (choice p).is_allowed)
+best-more i v r test x xs rows row rest numbers below choice p ks h =
+    best-step i v r test p x xs _ (bits_at rest) _ _ below (choice p) (rest-after i r test p x xs (mode_at row p) (choice p).is_allowed)
 
 -- a byte adds at most 33 bits to the bits of a rest
-pub small_more : (i : Interpretation) (v : ℕ) (r : Rule) (x : ℕ) (pair : Bool) (row : ℕ) (rest numbers : PerState) (n : ℕ)
+pub small-more : (i : Interpretation) (v : ℕ) (r : Rule) (x : ℕ) (pair : Bool) (row : ℕ) (rest numbers : PerState) (n : ℕ)
     → ((p : RunState) → bits_at rest p ≤ 33 * n) → IsRow i v r x pair rest row numbers → (p : RunState) → bits_at numbers p ≤ 33 * (n + 1)
-small_more i v r x pair row rest numbers n small choice p =
+small-more i v r x pair row rest numbers n small choice p =
     let c = choice p in
-    omega (arith, c.has_bits, cost_in_bound i v p x (mode_at row p), small (state_in i p x (mode_at row p)))
+    omega (arith, c.has_bits, cost_in-bound i v p x (mode_at row p), small (state_in i p x (mode_at row p)))
 
 -- numbers of at most 33 bits for each byte are small
-pub small_row : (rest : PerState) (n : ℕ) → n ≤ 113425 → ((p : RunState) → bits_at rest p ≤ 33 * n) → IsSmall rest
+pub small-row : (rest : PerState) (n : ℕ) → n ≤ 113425 → ((p : RunState) → bits_at rest p ≤ 33 * n) → IsSmall rest
 unfolding in_state
-small_row rest n few small =
+small-row rest n few small =
     omega (arith, small Start, small Digit1, small Digit2, small Digit3, small Character1, small Character2, small InBytes, small HalfPair, small WholePair)
 
 pub zeros : (p : RunState) → bits_at (record { start = 0; digit1 = 0; digit2 = 0; digit3 = 0; character1 = 0; character2 = 0; in_bytes = 0; half_pair = 0; whole_pair = 0 }) p ≡ 0
 unfolding in_state
 zeros p = grind arith
 
-pub zeros_small : (n : ℕ) (p : RunState) → bits_at (record { start = 0; digit1 = 0; digit2 = 0; digit3 = 0; character1 = 0; character2 = 0; in_bytes = 0; half_pair = 0; whole_pair = 0 }) p ≤ n
-zeros_small n p = omega (arith, zeros p)
+pub zeros-small : (n : ℕ) (p : RunState) → bits_at (record { start = 0; digit1 = 0; digit2 = 0; digit3 = 0; character1 = 0; character2 = 0; in_bytes = 0; half_pair = 0; whole_pair = 0 }) p ≤ n
+zeros-small n p = omega (arith, zeros p)
 
 -- the modes of all numbers as one row: two bits for each state
 abbrev pub packed : PerState → ℕ
@@ -93,13 +93,13 @@ follow-default p (x ∷ xs) [] h = absurd (omega arith)
 follow-default p (x ∷ xs) (row ∷ rows) h = ap (λ (r : List Mode). mode_at row p ∷ r) (follow-default (state_after p (mode_at row p)) xs rows (omega arith))
 
 -- the modes found so far, the mode of one more row, and then the modes of the other rows
-pub led_on : (p : RunState) (items rows : List ℕ) (row : ℕ) (ms all : List Mode) (m : Mode) → items ≡ rows ++ row ∷ [] → m ≡ mode_at row p
+pub led-on : (p : RunState) (items rows : List ℕ) (row : ℕ) (ms all : List Mode) (m : Mode) → items ≡ rows ++ row ∷ [] → m ≡ mode_at row p
     → ms ++ follow p (reverse items) ≡ all → (ms ++ m ∷ []) ++ follow (state_after p m) (reverse rows) ≡ all
 unfolding follow
-led_on p items rows row ms all m last is so_far = search (arith, reverse-append, append_assoc)
+led-on p items rows row ms all m last is so_far = search (arith, reverse-append, append_assoc)
 
--- as `led_on`, where the rows are those of bytes
-pub led_on_in : (i : Interpretation) (p : RunState) (x : ℕ) (xs items rows : List ℕ) (row : ℕ) (ms all : List Mode) (m : Mode) → items ≡ rows ++ row ∷ [] → m ≡ mode_at row p
+-- as `led-on`, where the rows are those of bytes
+pub led-on-in : (i : Interpretation) (p : RunState) (x : ℕ) (xs items rows : List ℕ) (row : ℕ) (ms all : List Mode) (m : Mode) → items ≡ rows ++ row ∷ [] → m ≡ mode_at row p
     → ms ++ follow_in i p (x ∷ xs) (reverse items) ≡ all → (ms ++ m ∷ []) ++ follow_in i (state_in i p x m) xs (reverse rows) ≡ all
 unfolding follow_in
-led_on_in i p x xs items rows row ms all m last is so_far = search (arith, reverse-append, append_assoc)
+led-on-in i p x xs items rows row ms all m last is so_far = search (arith, reverse-append, append_assoc)

@@ -5,7 +5,7 @@ use Rattle.std.proofs.Math.Nat.{mod-lt, div-div-eq-div-mul}
 use Rattle.qr_bits.specs.Parsing.{bytes_of}
 use Rattle.qr_bits.specs.Bits.{field, value, bits_of}
 use Rattle.qr_bits.proofs.lemmas.bits.BitLemmas.{bits_of-append, field-join, field-low, length-bits_of}
-use Rattle.qr_bits.proofs.lemmas.stream.StreamLemmas.{drop-field, read_field}
+use Rattle.qr_bits.proofs.lemmas.stream.StreamLemmas.{drop-field, read-field}
 
 field-split : (a b n : ℕ) → field (a + b) n ≡ field a (n / 2 ^ b) ++ field b n
 unfolding field
@@ -30,9 +30,9 @@ three (a ∷ b ∷ []) = (0 ∷ 0 ∷ [], refl)
 three (a ∷ b ∷ c ∷ bs) = (bs ++ 0 ∷ 0 ∷ 0 ∷ [], refl)
 
 -- the bits of three bytes are those of one number of 24 bits
-three_bytes : (x y z : ℕ) (rest : List ℕ) → y < 256 → z < 256 → bits_of (x ∷ y ∷ z ∷ rest) ≡ field 24 (65536 * x + (256 * y + z)) ++ bits_of rest
+three-bytes : (x y z : ℕ) (rest : List ℕ) → y < 256 → z < 256 → bits_of (x ∷ y ∷ z ∷ rest) ≡ field 24 (65536 * x + (256 * y + z)) ++ bits_of rest
 unfolding bits_of
-three_bytes x y z rest h k =
+three-bytes x y z rest h k =
     let low : 256 * y + z ≡ y * 2 ^ 8 + z = omega arith in
     let all : 65536 * x + (256 * y + z) ≡ x * 2 ^ 16 + (256 * y + z) = omega arith in
     cc (low, all, field-join 8 8 y z k, field-join 8 16 x (256 * y + z) (omega arith), append_assoc (field 8 x) (field 16 (256 * y + z)) (bits_of rest), append_assoc (field 8 y) (field 8 z) (bits_of rest))
@@ -46,13 +46,13 @@ window r w c n rest e =
     cc (ap (λ k. field k n) whole, field-split r (w + c) n, field-split w c n, field-low w m) in
     let at : drop r (field 24 n ++ rest) ≡ field w (m % 2 ^ w) ++ (field c n ++ rest) =
     cc (split, append_assoc (field r (n / 2 ^ (w + c))) (field w (m % 2 ^ w) ++ field c n) rest, append_assoc (field w (m % 2 ^ w)) (field c n) rest, drop-field r (n / 2 ^ (w + c)) (field w (m % 2 ^ w) ++ (field c n ++ rest))) in
-    cc (at, read_field w (m % 2 ^ w) (field c n ++ rest) (mod-lt m (pow_pos w)))
+    cc (at, read-field w (m % 2 ^ w) (field c n ++ rest) (mod-lt m (pow_pos w)))
 
 -- the number of w bits from i on, of which c bits of three bytes are left
-pub value_window : (bs : List ℕ) (i w c n : ℕ) → i + w ≤ 8 * length bs → i % 8 + w + c ≡ 24
+pub value-window : (bs : List ℕ) (i w c n : ℕ) → i + w ≤ 8 * length bs → i % 8 + w + c ≡ 24
     → get_or bs (i / 8 + 1) 0 < 256 → get_or bs (i / 8 + 2) 0 < 256 → n ≡ 65536 * get_or bs (i / 8) 0 + (256 * get_or bs (i / 8 + 1) 0 + get_or bs (i / 8 + 2) 0)
     → value (take w (drop i (bits_of bs))) ≡ n / 2 ^ c % 2 ^ w
-value_window bs i w c n inside e h k is =
+value-window bs i w c n inside e h k is =
     let q = i / 8 in
     let r = i % 8 in
     let xs = drop q bs in
@@ -62,7 +62,7 @@ value_window bs i w c n inside e h k is =
     let same : (get_or xs 0 0 ≡ get_or bs q 0) × (get_or xs 1 0 ≡ get_or bs (q + 1) 0) × (get_or xs 2 0 ≡ get_or bs (q + 2) 0) =
     (rw none at (get_or-drop {A = ℕ} q bs 0 0), get_or-drop q bs 1 0, get_or-drop q bs 2 0) in
     let first : bits_of xs ++ bits_of zeros ≡ field 24 n ++ bits_of t.0 =
-    cc (bits_of-append xs zeros, t.1, three_bytes (get_or xs 0 0) (get_or xs 1 0) (get_or xs 2 0) t.0 (rw same.1 h) (rw same.2 k), same.0, same.1, same.2, is) in
+    cc (bits_of-append xs zeros, t.1, three-bytes (get_or xs 0 0) (get_or xs 1 0) (get_or xs 2 0) t.0 (rw same.1 h) (rw same.2 k), same.0, same.1, same.2, is) in
     let len : length (bits_of xs) ≡ 8 * length bs - 8 * q = omega (arith, length-bits_of xs, length-drop q bs) in
     let split : 8 * q + r ≡ i = omega arith in
     let whole : drop i (bits_of bs) ≡ drop r (bits_of xs) = cc (split, drop-drop r (8 * q) (bits_of bs), bits_of-drop q bs) in
@@ -71,14 +71,14 @@ value_window bs i w c n inside e h k is =
     cc (whole, padded, taken, first, window r w c n (bits_of t.0) e)
 
 -- eight bits lie in two bytes
-pub byte_window : (bs : List ℕ) (i c n : ℕ) → i + 8 ≤ 8 * length bs → i % 8 + c ≡ 8 → get_or bs (i / 8 + 1) 0 < 256 → get_or bs (i / 8 + 2) 0 < 256
+pub byte-window : (bs : List ℕ) (i c n : ℕ) → i + 8 ≤ 8 * length bs → i % 8 + c ≡ 8 → get_or bs (i / 8 + 1) 0 < 256 → get_or bs (i / 8 + 2) 0 < 256
     → n ≡ 256 * get_or bs (i / 8) 0 + get_or bs (i / 8 + 1) 0 → value (take 8 (drop i (bits_of bs))) ≡ n / 2 ^ c % 256
-byte_window bs i c n inside e h k is =
+byte-window bs i c n inside e h k is =
     let last = get_or bs (i / 8 + 2) 0 in
     let m = 256 * n + last in
     let all : m ≡ 65536 * get_or bs (i / 8) 0 + (256 * get_or bs (i / 8 + 1) 0 + last) = omega arith in
     let two : m / 2 ^ 8 ≡ n = omega arith in
-    cc (value_window bs i 8 (8 + c) m inside (omega arith) h k all, pow-add 2 8 c, div-div-eq-div-mul m (2 ^ 8) (2 ^ c), two)
+    cc (value-window bs i 8 (8 + c) m inside (omega arith) h k all, pow-add 2 8 c, div-div-eq-div-mul m (2 ^ 8) (2 ^ c), two)
 
 -- one more byte is read
 pub bytes_of-more : (n : ℕ) (bits : List Bool) → bytes_of (n + 1) bits ≡ bytes_of n bits ++ value (take 8 (drop (8 * n) bits)) ∷ []

@@ -14,19 +14,19 @@ capitals [] = refl
 capitals (x ∷ xs) = cc (uppercase x, capitals xs)
 
 -- a pair stays
-pub folded_pair : (xs : List ℕ) → begins_with_pair WithKanji is_kanji_pair xs ≡ true → folded_around_pairs xs ≡ take 2 xs ++ folded_around_pairs (drop 2 xs)
+pub folded-pair : (xs : List ℕ) → begins_with_pair WithKanji is_kanji_pair xs ≡ true → folded_around_pairs xs ≡ take 2 xs ++ folded_around_pairs (drop 2 xs)
 unfolding folded_around_pairs begins_with_pair
-folded_pair xs h = grind arith
+folded-pair xs h = grind arith
 
 -- if no pair begins here, the first byte becomes its capital
-pub folded_one : (xs : List ℕ) → begins_with_pair WithKanji is_kanji_pair xs ≡ false → 0 < length xs → folded_around_pairs xs ≡ capital (get_or xs 0 0) ∷ folded_around_pairs (drop 1 xs)
+pub folded-one : (xs : List ℕ) → begins_with_pair WithKanji is_kanji_pair xs ≡ false → 0 < length xs → folded_around_pairs xs ≡ capital (get_or xs 0 0) ∷ folded_around_pairs (drop 1 xs)
 unfolding folded_around_pairs begins_with_pair
-folded_one xs h n = grind arith
+folded-one xs h n = grind arith
 
 -- folding no byte gives no byte
-pub folded_none : (xs : List ℕ) → length xs ≡ 0 → folded_around_pairs xs ≡ []
+pub folded-none : (xs : List ℕ) → length xs ≡ 0 → folded_around_pairs xs ≡ []
 unfolding folded_around_pairs
-folded_none xs h = grind arith
+folded-none xs h = grind arith
 
 -- folding around pairs keeps the number of bytes
 pub length-folded_around_pairs : (xs : List ℕ) → length (folded_around_pairs xs) ≡ length xs
@@ -40,10 +40,10 @@ pub length-folded : (r : Rule) (xs : List ℕ) → length (folded r xs) ≡ leng
 length-folded r xs = grind (arith, length-map, length-folded_around_pairs)
 
 -- one more part is folded
-pub more_folded : (p part t n whole : List ℕ) → t ≡ part ++ n → p ++ t ≡ whole → (p ++ part) ++ n ≡ whole
-more_folded p part t n whole e h = cc (append_assoc p part n)
+pub more-folded : (p part t n whole : List ℕ) → t ≡ part ++ n → p ++ t ≡ whole → (p ++ part) ++ n ≡ whole
+more-folded p part t n whole e h = cc (append_assoc p part n)
 
 -- if a pair begins here, there are two bytes
-pub begun_with_pair : (xs : List ℕ) → begins_with_pair WithKanji is_kanji_pair xs ≡ true → 2 ≤ length xs
+pub begun-with-pair : (xs : List ℕ) → begins_with_pair WithKanji is_kanji_pair xs ≡ true → 2 ≤ length xs
 unfolding begins_with_pair
-begun_with_pair xs h = grind arith
+begun-with-pair xs h = grind arith

@@ -19,33 +19,33 @@ unfolding eci_changes
 ecis-plain [] n xs = refl
 ecis-plain (s ∷ ss) n xs = ecis-plain ss (n + length (meant false s.mode (take s.len xs))) (drop s.len xs)
 
-pub plain_meant : (h : Option Header) (segs : List Segment) (xs : List ℕ) → Suits xs segs → content_of h (plain segs) xs ≡ plain_content h segs xs
-plain_meant h segs xs s = rw (meant-plain segs xs s, ecis-plain segs 0 xs) refl
+pub plain-meant : (h : Option Header) (segs : List Segment) (xs : List ℕ) → Suits xs segs → content_of h (plain segs) xs ≡ plain_content h segs xs
+plain-meant h segs xs s = rw (meant-plain segs xs s, ecis-plain segs 0 xs) refl
 
 -- the items from index `i` on, of which the first is `x`
-pub item_next : (items : List Item) (i : ℕ) (d x : Item) → i < length items → get_or items i d ≡ x → drop i items ≡ x ∷ drop (i + 1) items
-item_next items i d x h e = rw (← e) (search (arith, drop-cons))
+pub item-next : (items : List Item) (i : ℕ) (d x : Item) → i < length items → get_or items i d ≡ x → drop i items ≡ x ∷ drop (i + 1) items
+item-next items i d x h e = rw (← e) (search (arith, drop-cons))
 
 -- A segment without FNC1 before it stands for its characters.
-pub bytes_next : (s : Segment) (is : List Item) (xs : List ℕ) → meant_bytes false (Data s ∷ is) xs ≡ take s.len xs ++ meant_bytes false is (drop s.len xs)
+pub bytes-next : (s : Segment) (is : List Item) (xs : List ℕ) → meant_bytes false (Data s ∷ is) xs ≡ take s.len xs ++ meant_bytes false is (drop s.len xs)
 unfolding meant_bytes
-bytes_next s is xs = rw (meant-without s.mode (take s.len xs)) refl
+bytes-next s is xs = rw (meant-without s.mode (take s.len xs)) refl
 
-pub ecis_next : (s : Segment) (n : ℕ) (is : List Item) (xs : List ℕ) → eci_changes false n (Data s ∷ is) xs ≡ eci_changes false (n + length (take s.len xs)) is (drop s.len xs)
+pub ecis-next : (s : Segment) (n : ℕ) (is : List Item) (xs : List ℕ) → eci_changes false n (Data s ∷ is) xs ≡ eci_changes false (n + length (take s.len xs)) is (drop s.len xs)
 unfolding eci_changes
-ecis_next s n is xs = rw (meant-without s.mode (take s.len xs)) refl
+ecis-next s n is xs = rw (meant-without s.mode (take s.len xs)) refl
 
-pub bytes_end : (fnc1 : Bool) (items : List Item) (i : ℕ) (xs : List ℕ) → length items ≤ i → meant_bytes fnc1 (drop i items) xs ≡ []
+pub bytes-end : (fnc1 : Bool) (items : List Item) (i : ℕ) (xs : List ℕ) → length items ≤ i → meant_bytes fnc1 (drop i items) xs ≡ []
 unfolding meant_bytes
-bytes_end fnc1 items i xs h = rw (drop_all i items h) refl
+bytes-end fnc1 items i xs h = rw (drop_all i items h) refl
 
-pub ecis_end : (fnc1 : Bool) (n : ℕ) (items : List Item) (i : ℕ) (xs : List ℕ) → length items ≤ i → eci_changes fnc1 n (drop i items) xs ≡ []
+pub ecis-end : (fnc1 : Bool) (n : ℕ) (items : List Item) (i : ℕ) (xs : List ℕ) → length items ≤ i → eci_changes fnc1 n (drop i items) xs ≡ []
 unfolding eci_changes
-ecis_end fnc1 n items i xs h = rw (drop_all i items h) refl
+ecis-end fnc1 n items i xs h = rw (drop_all i items h) refl
 
 -- The FNC1 among the items from index `i` on, if that item is `x`.
 pub fnc1_next : (items : List Item) (i : ℕ) (d x : Item) → i < length items → get_or items i d ≡ x → fnc1_of (drop i items) ≡ fnc1_of (x ∷ drop (i + 1) items)
-fnc1_next items i d x h e = rw (item_next items i d x h e) refl
+fnc1_next items i d x h e = rw (item-next items i d x h e) refl
 
 pub fnc1_end : (items : List Item) (i : ℕ) → length items ≤ i → fnc1_of (drop i items) ≡ None
 unfolding fnc1_of

@@ -16,12 +16,12 @@ doubled-step (Eci n) x xs m ms = refl
 doubled-step Gs1 x xs m ms = refl
 
 -- one more byte adds its character once, or twice if it is doubled
-pub characters-step : (i : Interpretation) (x : ℕ) (xs : List ℕ) (m : Mode) (ms : List Mode)
+pub characters_in-step : (i : Interpretation) (x : ℕ) (xs : List ℕ) (m : Mode) (ms : List Mode)
     → characters_in i (x ∷ xs) (m ∷ ms) ≡ cond (is_doubled i x m) (character_for i x m ∷ character_for i x m ∷ characters_in i xs ms) (character_for i x m ∷ characters_in i xs ms)
 unfolding characters_gs1
-characters-step Default x xs m ms = refl
-characters-step (Eci n) x xs m ms = refl
-characters-step Gs1 x xs m ms = refl
+characters_in-step Default x xs m ms = refl
+characters_in-step (Eci n) x xs m ms = refl
+characters_in-step Gs1 x xs m ms = refl
 
 -- without a byte there is no character, and without a mode each byte is itself
 pub written-none : (i : Interpretation) (ms : List Mode) → (doubled i [] ms ≡ ms) × (characters_in i [] ms ≡ [])
@@ -46,10 +46,10 @@ single-byte Gs1 x = (refl, refl)
 pub doubled-rank : (i : Interpretation) (x : ℕ) (m : Mode) → is_doubled i x m ≡ true → rank m ≡ 1
 doubled-rank i x m h = grind arith
 
-pub same_character : (i : Interpretation) (x : ℕ) → (character_for i x Byte ≡ x) × (character_for i x Kanji ≡ x)
-same_character Default x = (refl, refl)
-same_character (Eci n) x = (refl, refl)
-same_character Gs1 x = (refl, refl)
+pub same-character : (i : Interpretation) (x : ℕ) → (character_for i x Byte ≡ x) × (character_for i x Kanji ≡ x)
+same-character Default x = (refl, refl)
+same-character (Eci n) x = (refl, refl)
+same-character Gs1 x = (refl, refl)
 
 -- the characters of bytes are those of the first and those of the others, and so are the modes
 pub doubled-append : (i : Interpretation) (xs ys : List ℕ) (ms ks : List Mode) → length xs ≡ length ms → doubled i (xs ++ ys) (ms ++ ks) ≡ doubled i xs ms ++ doubled i ys ks
@@ -67,8 +67,8 @@ characters-append i [] ys [] ks h = rw (written-none i []).1 refl
 characters-append i [] ys (m ∷ ms) ks h = absurd (omega arith)
 characters-append i (x ∷ xs) ys [] ks h = absurd (omega arith)
 characters-append i (x ∷ xs) ys (m ∷ ms) ks h = ⊎_elim
-    (λ (e : is_doubled i x m ≡ true). rw (characters-step i x (xs ++ ys) m (ms ++ ks), characters-step i x xs m ms, e, characters-append i xs ys ms ks (omega arith)) refl)
-    (λ (e : is_doubled i x m ≡ false). rw (characters-step i x (xs ++ ys) m (ms ++ ks), characters-step i x xs m ms, e, characters-append i xs ys ms ks (omega arith)) refl)
+    (λ (e : is_doubled i x m ≡ true). rw (characters_in-step i x (xs ++ ys) m (ms ++ ks), characters_in-step i x xs m ms, e, characters-append i xs ys ms ks (omega arith)) refl)
+    (λ (e : is_doubled i x m ≡ false). rw (characters_in-step i x (xs ++ ys) m (ms ++ ks), characters_in-step i x xs m ms, e, characters-append i xs ys ms ks (omega arith)) refl)
     (cases_Bool (is_doubled i x m))
 
 -- one character, or two
@@ -76,7 +76,7 @@ pub doubled-one : (i : Interpretation) (x : ℕ) (m : Mode) → doubled i (x ∷
 doubled-one i x m = rw (doubled-step i x [] m [], (written-none i []).0) refl
 
 pub characters-one : (i : Interpretation) (x : ℕ) (m : Mode) → characters_in i (x ∷ []) (m ∷ []) ≡ cond (is_doubled i x m) (character_for i x m ∷ character_for i x m ∷ []) (character_for i x m ∷ [])
-characters-one i x m = rw (characters-step i x [] m [], (written-none i []).1) refl
+characters-one i x m = rw (characters_in-step i x [] m [], (written-none i []).1) refl
 
 -- bytes in reverse order are written as their characters in reverse order
 pub doubled-reverse : (i : Interpretation) (xs : List ℕ) (ms : List Mode) → length xs ≡ length ms → doubled i (reverse xs) (reverse ms) ≡ reverse (doubled i xs ms)
@@ -101,8 +101,8 @@ characters-reverse i (x ∷ xs) (m ∷ ms) h =
     let c = character_for i x m in
     let len : length (reverse xs) ≡ length (reverse ms) = rw (length-reverse xs, length-reverse ms) (omega arith) in
     ⊎_elim
-    (λ (e : is_doubled i x m ≡ true). rw (reverse-append (x ∷ []) xs, reverse-append (m ∷ []) ms, characters-append i (reverse xs) (x ∷ []) (reverse ms) (m ∷ []) len, characters-one i x m, characters-step i x xs m ms, e, rest) (sym (reverse-append (c ∷ c ∷ []) (characters_in i xs ms))))
-    (λ (e : is_doubled i x m ≡ false). rw (reverse-append (x ∷ []) xs, reverse-append (m ∷ []) ms, characters-append i (reverse xs) (x ∷ []) (reverse ms) (m ∷ []) len, characters-one i x m, characters-step i x xs m ms, e, rest) (sym (reverse-append (c ∷ []) (characters_in i xs ms))))
+    (λ (e : is_doubled i x m ≡ true). rw (reverse-append (x ∷ []) xs, reverse-append (m ∷ []) ms, characters-append i (reverse xs) (x ∷ []) (reverse ms) (m ∷ []) len, characters-one i x m, characters_in-step i x xs m ms, e, rest) (sym (reverse-append (c ∷ c ∷ []) (characters_in i xs ms))))
+    (λ (e : is_doubled i x m ≡ false). rw (reverse-append (x ∷ []) xs, reverse-append (m ∷ []) ms, characters-append i (reverse xs) (x ∷ []) (reverse ms) (m ∷ []) len, characters-one i x m, characters_in-step i x xs m ms, e, rest) (sym (reverse-append (c ∷ []) (characters_in i xs ms))))
     (cases_Bool (is_doubled i x m))
 
 -- there are as many characters more than bytes as modes of characters more than modes of bytes
@@ -110,8 +110,8 @@ pub length-written : (i : Interpretation) (xs : List ℕ) (ms : List Mode) → l
 length-written i [] ms = rw ((written-none i ms).0, (written-none i ms).1) (omega arith)
 length-written i (x ∷ xs) [] = rw ((unwritten i x xs).0, (unwritten i x xs).1) (omega arith)
 length-written i (x ∷ xs) (m ∷ ms) = ⊎_elim
-    (λ (e : is_doubled i x m ≡ true). rw (doubled-step i x xs m ms, characters-step i x xs m ms, e) (omega (arith, length-written i xs ms)))
-    (λ (e : is_doubled i x m ≡ false). rw (doubled-step i x xs m ms, characters-step i x xs m ms, e) (omega (arith, length-written i xs ms)))
+    (λ (e : is_doubled i x m ≡ true). rw (doubled-step i x xs m ms, characters_in-step i x xs m ms, e) (omega (arith, length-written i xs ms)))
+    (λ (e : is_doubled i x m ≡ false). rw (doubled-step i x xs m ms, characters_in-step i x xs m ms, e) (omega (arith, length-written i xs ms)))
     (cases_Bool (is_doubled i x m))
 
 -- no byte is left out
@@ -119,7 +119,7 @@ pub characters-longer : (i : Interpretation) (xs : List ℕ) (ms : List Mode) �
 characters-longer i [] ms = omega arith
 characters-longer i (x ∷ xs) [] = rw (unwritten i x xs).1 (omega arith)
 characters-longer i (x ∷ xs) (m ∷ ms) =
-    rw (characters-step i x xs m ms)
+    rw (characters_in-step i x xs m ms)
     (cond_both (is_doubled i x m) _ _ (λ (r : List ℕ). length (x ∷ xs) ≤ length r) (λ _. omega (arith, characters-longer i xs ms)) (λ _. omega (arith, characters-longer i xs ms)))
 
 -- each byte is at most two characters
@@ -127,7 +127,7 @@ pub characters-most : (i : Interpretation) (xs : List ℕ) (ms : List Mode) → 
 characters-most i [] ms = rw (written-none i ms).1 (omega arith)
 characters-most i (x ∷ xs) [] = rw (unwritten i x xs).1 (omega arith)
 characters-most i (x ∷ xs) (m ∷ ms) =
-    rw (characters-step i x xs m ms)
+    rw (characters_in-step i x xs m ms)
     (cond_both (is_doubled i x m) _ _ (λ (r : List ℕ). length r ≤ 2 * length (x ∷ xs)) (λ _. omega (arith, characters-most i xs ms)) (λ _. omega (arith, characters-most i xs ms)))
 
 -- the least segmentation has at most twice as many characters as the input has bytes
@@ -142,7 +142,7 @@ pub characters-sixths : (i : Interpretation) (xs : List ℕ) (ms : List Mode) �
 characters-sixths i [] ms = omega arith
 characters-sixths i (x ∷ xs) [] = rw (unwritten i x xs).1 (omega arith)
 characters-sixths i (x ∷ xs) (m ∷ ms) =
-    rw (characters-step i x xs m ms)
+    rw (characters_in-step i x xs m ms)
     (cond_both (is_doubled i x m) _ _ (λ (r : List ℕ). sum_by least_sixths (x ∷ xs) ≤ sum_by least_sixths r)
     (λ _. omega (arith, sum_by-cons, character-sixths i x m, characters-sixths i xs ms)) (λ _. omega (arith, sum_by-cons, character-sixths i x m, characters-sixths i xs ms)))
 
@@ -150,18 +150,18 @@ characters-sixths i (x ∷ xs) (m ∷ ms) =
 abbrev IsItself : Interpretation → Mode → Type 0
 IsItself i m = (x : ℕ) → (is_doubled i x m ≡ false) × (character_for i x m ≡ x)
 
-same_characters : (i : Interpretation) (m : Mode) (xs : List ℕ) (n : ℕ) → IsItself i m → characters_in i xs (replicate n m) ≡ xs
-same_characters i m [] n h = (written-none i (replicate n m)).1
-same_characters i m (x ∷ xs) zero h = (unwritten i x xs).1
-same_characters i m (x ∷ xs) (suc n) h = rw (characters-step i x xs m (replicate n m), (h x).0, (h x).1, same_characters i m xs n h) refl
+same-characters : (i : Interpretation) (m : Mode) (xs : List ℕ) (n : ℕ) → IsItself i m → characters_in i xs (replicate n m) ≡ xs
+same-characters i m [] n h = (written-none i (replicate n m)).1
+same-characters i m (x ∷ xs) zero h = (unwritten i x xs).1
+same-characters i m (x ∷ xs) (suc n) h = rw (characters_in-step i x xs m (replicate n m), (h x).0, (h x).1, same-characters i m xs n h) refl
 
-same_modes : (i : Interpretation) (m : Mode) (xs : List ℕ) (n : ℕ) → IsItself i m → doubled i xs (replicate n m) ≡ replicate n m
-same_modes i m [] n h = (written-none i (replicate n m)).0
-same_modes i m (x ∷ xs) zero h = (unwritten i x xs).0
-same_modes i m (x ∷ xs) (suc n) h = rw (doubled-step i x xs m (replicate n m), (h x).0, same_modes i m xs n h) refl
+same-modes : (i : Interpretation) (m : Mode) (xs : List ℕ) (n : ℕ) → IsItself i m → doubled i xs (replicate n m) ≡ replicate n m
+same-modes i m [] n h = (written-none i (replicate n m)).0
+same-modes i m (x ∷ xs) zero h = (unwritten i x xs).0
+same-modes i m (x ∷ xs) (suc n) h = rw (doubled-step i x xs m (replicate n m), (h x).0, same-modes i m xs n h) refl
 
 itself-bytes : (i : Interpretation) → IsItself i Byte
-itself-bytes i x = ((single-byte i x).0, (same_character i x).0)
+itself-bytes i x = ((single-byte i x).0, (same-character i x).0)
 
 itself-digits : (i : Interpretation) → IsItself i Numeric
 itself-digits Default x = (refl, refl)
@@ -170,16 +170,16 @@ itself-digits Gs1 x = (refl, refl)
 
 -- in byte mode and in numeric mode each byte is itself
 pub characters-bytes : (i : Interpretation) (xs : List ℕ) (n : ℕ) → characters_in i xs (replicate n Byte) ≡ xs
-characters-bytes i xs n = same_characters i Byte xs n (itself-bytes i)
+characters-bytes i xs n = same-characters i Byte xs n (itself-bytes i)
 
 pub doubled-bytes : (i : Interpretation) (xs : List ℕ) (n : ℕ) → doubled i xs (replicate n Byte) ≡ replicate n Byte
-doubled-bytes i xs n = same_modes i Byte xs n (itself-bytes i)
+doubled-bytes i xs n = same-modes i Byte xs n (itself-bytes i)
 
 pub characters-digits : (i : Interpretation) (xs : List ℕ) (n : ℕ) → characters_in i xs (replicate n Numeric) ≡ xs
-characters-digits i xs n = same_characters i Numeric xs n (itself-digits i)
+characters-digits i xs n = same-characters i Numeric xs n (itself-digits i)
 
 pub doubled-digits : (i : Interpretation) (xs : List ℕ) (n : ℕ) → doubled i xs (replicate n Numeric) ≡ replicate n Numeric
-doubled-digits i xs n = same_modes i Numeric xs n (itself-digits i)
+doubled-digits i xs n = same-modes i Numeric xs n (itself-digits i)
 
 fields-tail : (x : ℕ) (xs : List ℕ) → are_fields (x ∷ xs) ≡ true → are_fields xs ≡ true
 unfolding are_fields

@@ -7,11 +7,11 @@ use Rattle.qr_bits.specs.{Bits.bits_of, Segmentation.bits, Header.header_bits, S
 use Rattle.qr_bits.specs.Interpretation.{interpretation_bits, items_in}
 use Rattle.qr_bits.specs.declared.interpretation.Interpretation.{Interpretation}
 use Rattle.qr_bits.specs.declared.interpretation.Interpretation.TheVariants.{Default}
-use Rattle.qr_bits.proofs.lemmas.interpretation.MeaningLemmas.{plain_meant}
+use Rattle.qr_bits.proofs.lemmas.interpretation.MeaningLemmas.{plain-meant}
 use Rattle.qr_bits.specs.Padding.{capacity_of, terminated, filled, pads, padded, IsData}
 use Rattle.qr_bits.proofs.lemmas.{bits.BitLemmas.length-bits_of, padding.PaddingLemmas.{length-header_stream, length-interpretation_stream}}
-use Rattle.qr_bits.proofs.lemmas.parsing.ValueLemmas.{bytes_again, bytes_takes}
-use Rattle.qr_bits.proofs.lemmas.{stream.WritingLemmas.length-segments_stream, parsing.StreamReadingLemmas.parse_again}
+use Rattle.qr_bits.proofs.lemmas.parsing.ValueLemmas.{bytes-again, bytes-takes}
+use Rattle.qr_bits.proofs.lemmas.{stream.WritingLemmas.length-segments_stream, parsing.StreamReadingLemmas.parse-again}
 
 -- The length of a stream is the number of bits of its header and its segments.
 pub length-stream : (v : ℕ) (xs : List ℕ) (segs : List Segment) (h : Option Header) (i : Interpretation) (stream : List Bool) → IsStream v xs segs h i stream → length stream ≡ header_bits h + interpretation_bits i + bits v segs
@@ -28,9 +28,9 @@ unfolding padded
 length-padded n stream h = grind (arith, length-append, length-replicate, bits_of, length-bits_of, length-pads)
 
 -- what is appended to a stream to make data codewords of it is an end
-tail_of : (n : ℕ) (stream : List Bool) → length stream ≤ 8 * n → (tail : List Bool) × (padded n stream ≡ stream ++ tail) × (ends tail ≡ true)
+tail-of : (n : ℕ) (stream : List Bool) → length stream ≤ 8 * n → (tail : List Bool) × (padded n stream ≡ stream ++ tail) × (ends tail ≡ true)
 unfolding padded ends
-tail_of n stream h =
+tail-of n stream h =
     let t = replicate (min 4 (8 * n - length stream)) false in
     let f = replicate ((8 - length (terminated (8 * n) stream) % 8) % 8) false in
     let p = bits_of (pads (n - length (filled (terminated (8 * n) stream)) / 8)) in
@@ -44,35 +44,35 @@ tail_of n stream h =
     )
 
 -- A parse of data codewords returns what they were made of.
-pub data_again : (v : ℕ) (l : Level) (xs : List ℕ) (segs : List Segment) (h : Option Header) (i : Interpretation) (cw : List ℕ) → IsData v l xs segs h i cw
+pub data-again : (v : ℕ) (l : Level) (xs : List ℕ) (segs : List Segment) (h : Option Header) (i : Interpretation) (cw : List ℕ) → IsData v l xs segs h i cw
     → parse v (bits_of cw) ≡ Ok (content_of h (items_in i segs) xs)
-data_again v l xs segs h i cw d =
-    let t = tail_of (data_codewords_of v l) d.stream d.fits in
-    search (arith, parse_again)
+data-again v l xs segs h i cw d =
+    let t = tail-of (data_codewords_of v l) d.stream d.fits in
+    search (arith, parse-again)
 
--- As `data_again`, without an ECI header and FNC1.
-pub data_plain : (v : ℕ) (l : Level) (xs : List ℕ) (segs : List Segment) (h : Option Header) (cw : List ℕ) → IsData v l xs segs h Default cw
+-- As `data-again`, without an ECI header and FNC1.
+pub data-plain : (v : ℕ) (l : Level) (xs : List ℕ) (segs : List Segment) (h : Option Header) (cw : List ℕ) → IsData v l xs segs h Default cw
     → parse v (bits_of cw) ≡ Ok (plain_content h segs xs)
-data_plain v l xs segs h cw d = cc (data_again v l xs segs h Default cw d, plain_meant h segs xs d.is_stream.suit)
+data-plain v l xs segs h cw d = cc (data-again v l xs segs h Default cw d, plain-meant h segs xs d.is_stream.suit)
 
 -- If a stream fits a symbol, there are data codewords.
-pub data_found : (v : ℕ) (l : Level) (xs : List ℕ) (segs : List Segment) (h : Option Header) (i : Interpretation) (stream : List Bool) → IsStream v xs segs h i stream → length stream ≤ capacity_of v l
+pub data-found : (v : ℕ) (l : Level) (xs : List ℕ) (segs : List Segment) (h : Option Header) (i : Interpretation) (stream : List Bool) → IsStream v xs segs h i stream → length stream ≤ capacity_of v l
     → (cw : List ℕ) × IsData v l xs segs h i cw
-data_found v l xs segs h i stream is fits =
+data-found v l xs segs h i stream is fits =
     let n = data_codewords_of v l in
     let all = padded n stream in
     let len = length-padded n stream fits in
-    let w = bytes_takes n all (omega arith) in
+    let w = bytes-takes n all (omega arith) in
     grind (arith, drop_all, bits_of, append-nil)
 
-same_bytes : (xs ys : List ℕ) → All (λ b. b < 256) xs → All (λ b. b < 256) ys → bits_of xs ≡ bits_of ys → xs ≡ ys
-same_bytes xs ys a b e =
+same-bytes : (xs ys : List ℕ) → All (λ b. b < 256) xs → All (λ b. b < 256) ys → bits_of xs ≡ bits_of ys → xs ≡ ys
+same-bytes xs ys a b e =
     let len : length xs ≡ length ys = omega (arith, ap length e, length-bits_of xs, length-bits_of ys) in
-    cc (bytes_again xs [] a, bytes_again ys [] b)
+    cc (bytes-again xs [] a, bytes-again ys [] b)
 
 -- There is only one list of data codewords.
-pub data_one : (v : ℕ) (l : Level) (xs : List ℕ) (segs : List Segment) (h : Option Header) (i : Interpretation) (cw dw : List ℕ) → IsData v l xs segs h i cw → IsData v l xs segs h i dw → cw ≡ dw
-data_one v l xs segs h i cw dw a b = search (arith, same_bytes)
+pub data-one : (v : ℕ) (l : Level) (xs : List ℕ) (segs : List Segment) (h : Option Header) (i : Interpretation) (cw dw : List ℕ) → IsData v l xs segs h i cw → IsData v l xs segs h i dw → cw ≡ dw
+data-one v l xs segs h i cw dw a b = search (arith, same-bytes)
 
 -- there are as many data codewords as the symbol has
 pub length-data : (v : ℕ) (l : Level) (xs : List ℕ) (segs : List Segment) (h : Option Header) (i : Interpretation) (cw : List ℕ) → IsData v l xs segs h i cw → length cw ≡ data_codewords_of v l

@@ -7,7 +7,7 @@ use Rattle.qr_bits.specs.declared.modes.Mode.TheVariants.{Numeric, Alphanumeric,
 use Rattle.qr_bits.specs.declared.interpretation.Interpretation.{Interpretation, TheVariants.{Default, Gs1, Eci}}
 use Rattle.qr_bits.specs.Interpretation.{plain, items_in, ecis_in, fnc1_in, fnc1_of, eci_changes, meant, meant_bytes, are_fields, characters_gs1, doubled_gs1, MayWrite}
 use Rattle.qr_bits.specs.{Segmentation.{runs_of, IsLeastSegmentation}, Steps.Segmentation.{written, written_in}, Parsing.content_of}
-use Rattle.qr_bits.proofs.lemmas.segment.CoverLemmas.{covers_suits}
+use Rattle.qr_bits.proofs.lemmas.segment.CoverLemmas.{covers-suits}
 use Rattle.qr_bits.proofs.lemmas.segmentation.{BackLemmas.sum_by-runs_of, BytesOnlyLemmas.assignment-length, RunLemmas.{runs-written, segments_of}}
 use Rattle.qr_bits.proofs.lemmas.parsing.FieldLemmas.{fields_again}
 use Rattle.qr_bits.proofs.lemmas.interpretation.{MeaningLemmas.{meant-plain, ecis-plain}, WrittenLemmas.{fields-drop, fields-take}}
@@ -51,16 +51,16 @@ gs1-meant xs ms h f =
     rw (w.0, w.1) (segments-meant (runs_of ms) xs f (omega (arith, sum_by-runs_of ms, h)))
 
 -- The characters of the least segmentation stand for the input.
-pub least_meant : (i : Interpretation) (v : ℕ) (r : Rule) (xs ys : List ℕ) (segs : List Segment) (h : Option Header) → MayWrite i xs → IsLeastSegmentation i v r xs ys segs
+pub least-meant : (i : Interpretation) (v : ℕ) (r : Rule) (xs ys : List ℕ) (segs : List Segment) (h : Option Header) → MayWrite i xs → IsLeastSegmentation i v r xs ys segs
     → (content_of h (items_in i segs) ys ≡ record { header = h; items = items_in i segs; ecis = ecis_in i; bytes = xs })
     × (fnc1_of (items_in i segs) ≡ fnc1_in i)
 unfolding meant_bytes eci_changes fnc1_of
-least_meant Default v r xs ys segs h w is =
-    let suits = covers_suits xs _ is.1.assignment.1 in
+least-meant Default v r xs ys segs h w is =
+    let suits = covers-suits xs _ is.1.assignment.1 in
     (rw (is.3, meant-plain segs xs (rw is.2 suits), ecis-plain segs 0 xs) refl, fnc1-plain segs)
-least_meant (Eci n) v r xs ys segs h w is =
-    let suits = covers_suits xs _ is.1.assignment.1 in
+least-meant (Eci n) v r xs ys segs h w is =
+    let suits = covers-suits xs _ is.1.assignment.1 in
     (rw (is.3, meant-plain segs xs (rw is.2 suits), ecis-plain segs 0 xs) refl, fnc1-plain segs)
-least_meant Gs1 v r xs ys segs h w is =
+least-meant Gs1 v r xs ys segs h w is =
     let bytes : meant_bytes true (plain segs) ys ≡ xs = rw (is.2, is.3) (gs1-meant xs is.0 (assignment-length Gs1 r xs is.0 is.1.assignment) w) in
     (rw (bytes, ecis-fnc1 segs 0 ys) refl, refl)

@@ -12,15 +12,15 @@ use Rattle.qr_bits.specs.declared.run_state.RunState.{RunState, TheVariants.Star
 use Rattle.qr_bits.specs.Interpretation.{characters_gs1, doubled_gs1, characters_in, doubled}
 use Rattle.qr_bits.proofs.lemmas.interpretation.WrittenLemmas.{characters-reverse, doubled-reverse}
 use Rattle.qr_bits.proofs.lemmas.run_state.DoubledLemmas.{allowed-length, allowed-written}
-use Rattle.qr_bits.proofs.lemmas.segmentation.AssignedLemmas.{allowed_assigned, assigned_allowed, bits-assigned}
+use Rattle.qr_bits.proofs.lemmas.segmentation.AssignedLemmas.{allowed-assigned, assigned-allowed, bits-assigned}
 use Rattle.qr_bits.specs.{Segmentation.{bits, prepend_mode, runs_of, HasFit}, Modes.{in_twos, is_kanji_pair, may_use}}
 use Rattle.qr_bits.{specs.Steps.Segmentation.append_mode}
 use Rattle.qr_bits.specs.Steps.{RunState.{swapped, begins_with_pair, may_end, may_take_in, allowed_in, cost_of_all, state_in}, BestModes.{bits_at, follow_in, IsRow}}
-use Rattle.qr_bits.proofs.lemmas.segment.CoverLemmas.{by_covers, suits_by, CoversBy}
-use Rattle.qr_bits.proofs.lemmas.run_state.BestLemmas.{BestBelow, same_rank}
+use Rattle.qr_bits.proofs.lemmas.segment.CoverLemmas.{by-covers, suits_by, CoversBy}
+use Rattle.qr_bits.proofs.lemmas.run_state.BestLemmas.{BestBelow, same-rank}
 use Rattle.qr_bits.proofs.lemmas.segmentation.BackLemmas.{runs_of-push, append_mode-last}
-use Rattle.qr_bits.proofs.lemmas.run_state.AssignmentLemmas.{IsAssignmentBy, can_take, is_assignment}
-use Rattle.qr_bits.proofs.lemmas.best_modes.TableLemmas.{bytes_rest, best_more}
+use Rattle.qr_bits.proofs.lemmas.run_state.AssignmentLemmas.{IsAssignmentBy, can-take, is-assignment}
+use Rattle.qr_bits.proofs.lemmas.best_modes.TableLemmas.{bytes-rest, best-more}
 
 list_all-reverse : {X : Type 0} (p : X → Bool) (xs : List X) → list_all p xs ≡ true → list_all p (reverse xs) ≡ true
 list_all-reverse p [] h = refl
@@ -59,7 +59,7 @@ prepend_mode-reverse : (m : Mode) (ss : List Segment) → append_mode (reverse s
 unfolding append_mode
 prepend_mode-reverse m [] = refl
 prepend_mode-reverse m (s ∷ ss) =
-    rw (reverse-append (s ∷ []) ss, append_mode-last (reverse ss) s m) (grind (arith, nat_tests, same_rank, reverse-append (record { mode = m; len = 1 + s.len } ∷ []) ss, reverse-append (record { mode = m; len = 1 } ∷ s ∷ []) ss))
+    rw (reverse-append (s ∷ []) ss, append_mode-last (reverse ss) s m) (grind (arith, nat_tests, same-rank, reverse-append (record { mode = m; len = 1 + s.len } ∷ []) ss, reverse-append (record { mode = m; len = 1 } ∷ s ∷ []) ss))
 
 runs_of-reverse : (ms : List Mode) → runs_of (reverse ms) ≡ reverse (runs_of ms)
 unfolding runs_of
@@ -80,71 +80,71 @@ mirror : (v : ℕ) (t : ℕ → ℕ → Bool) (r : Rule) (xs : List ℕ) (ms : L
 mirror v t r xs ms h = search (arith, list_all-reverse, runs_of-reverse, covers-reverse, bits-reverse)
 
 -- what is allowed for bytes, reversed, is allowed for the reversed bytes, with equally many bits
-mirror_in : (i : Interpretation) (v : ℕ) (t : ℕ → ℕ → Bool) (r : Rule) (xs : List ℕ) (ms : List Mode) → allowed_in i r t Start xs ms ≡ true
+mirror-in : (i : Interpretation) (v : ℕ) (t : ℕ → ℕ → Bool) (r : Rule) (xs : List ℕ) (ms : List Mode) → allowed_in i r t Start xs ms ≡ true
     → (allowed_in i r (swapped t) Start (reverse xs) (reverse ms) ≡ true) × (cost_of_all i v Start (reverse xs) (reverse ms) ≡ cost_of_all i v Start xs ms)
 unfolding may_end
-mirror_in i v t r xs ms h =
+mirror-in i v t r xs ms h =
     let len = allowed-length i r t Start xs ms h in
-    let by = is_assignment t r (characters_in i xs ms) (doubled i xs ms) Start refl (allowed-written i r t Start xs ms ∙ h) in
+    let by = is-assignment t r (characters_in i xs ms) (doubled i xs ms) Start refl (allowed-written i r t Start xs ms ∙ h) in
     let m = mirror v t r (characters_in i xs ms) (doubled i xs ms) by in
     let back = rw (← characters-reverse i xs ms len, ← doubled-reverse i xs ms len) at m.0 in
     let bits_same = rw (← doubled-reverse i xs ms len) at m.1 in (
-      sym (allowed-written i r (swapped t) Start (reverse xs) (reverse ms)) ∙ can_take (swapped t) r (characters_in i (reverse xs) (reverse ms)) (doubled i (reverse xs) (reverse ms)) back Start refl,
+      sym (allowed-written i r (swapped t) Start (reverse xs) (reverse ms)) ∙ can-take (swapped t) r (characters_in i (reverse xs) (reverse ms)) (doubled i (reverse xs) (reverse ms)) back Start refl,
       sym (bits-assigned i v (reverse xs) (reverse ms)) ∙ bits_same ∙ bits-assigned i v xs ms,
     )
 
 -- if the best rest of a reversed prefix has at most n bits, the prefix fits n bits
-pub prefix_fits : (i : Interpretation) (v : ℕ) (r : Rule) (xs : List ℕ) (f : RunState → List Mode) (cost : RunState → ℕ) (n : ℕ) → BestBelow i v r (swapped is_kanji_pair) (reverse xs) f cost → cost Start ≤ n → HasFit i v r xs n
+pub prefix-fits : (i : Interpretation) (v : ℕ) (r : Rule) (xs : List ℕ) (f : RunState → List Mode) (cost : RunState → ℕ) (n : ℕ) → BestBelow i v r (swapped is_kanji_pair) (reverse xs) f cost → cost Start ≤ n → HasFit i v r xs n
 unfolding may_end
-prefix_fits i v r xs f cost n below small =
-    let best = below Start _ (bytes_rest i r (swapped is_kanji_pair) Start (reverse xs) refl) in
-    let back = mirror_in i v (swapped is_kanji_pair) r (reverse xs) (f Start) best.is_allowed in
+prefix-fits i v r xs f cost n below small =
+    let best = below Start _ (bytes-rest i r (swapped is_kanji_pair) Start (reverse xs) refl) in
+    let back = mirror-in i v (swapped is_kanji_pair) r (reverse xs) (f Start) best.is_allowed in
     let again : allowed_in i r is_kanji_pair Start xs (reverse (f Start)) ≡ true = rw (reverse-reverse xs) at back.0 in
     let same : cost_of_all i v Start xs (reverse (f Start)) ≡ cost Start = (rw (reverse-reverse xs) at back.1) ∙ best.has_bits in
-    (reverse (f Start), allowed_assigned i r xs (reverse (f Start)) again, rw (bits-assigned i v xs (reverse (f Start)), same) small)
+    (reverse (f Start), allowed-assigned i r xs (reverse (f Start)) again, rw (bits-assigned i v xs (reverse (f Start)), same) small)
 
 -- if a prefix fits n bits, the best rest of the reversed prefix has at most n bits
-pub prefix_least : (i : Interpretation) (v : ℕ) (r : Rule) (xs : List ℕ) (f : RunState → List Mode) (cost : RunState → ℕ) (n : ℕ) → BestBelow i v r (swapped is_kanji_pair) (reverse xs) f cost → HasFit i v r xs n → cost Start ≤ n
-prefix_least i v r xs f cost n below fit =
-    let back = mirror_in i v is_kanji_pair r xs fit.0 (assigned_allowed i r xs fit.0 fit.1) in
+pub prefix-least : (i : Interpretation) (v : ℕ) (r : Rule) (xs : List ℕ) (f : RunState → List Mode) (cost : RunState → ℕ) (n : ℕ) → BestBelow i v r (swapped is_kanji_pair) (reverse xs) f cost → HasFit i v r xs n → cost Start ≤ n
+prefix-least i v r xs f cost n below fit =
+    let back = mirror-in i v is_kanji_pair r xs fit.0 (assigned-allowed i r xs fit.0 fit.1) in
     omega (arith, (below Start _ back.0).least (reverse fit.0) back.0, back.1, bits-assigned i v xs fit.0, fit.2)
 
 -- what is allowed for the bytes `ys` and then `xs` contains what is allowed for `xs`, which takes no more bits
-later_part : (i : Interpretation) (v : ℕ) (r : Rule) (test : ℕ → ℕ → Bool) (ys xs : List ℕ) (p : RunState) (ks : List Mode) → allowed_in i r test p (ys ++ xs) ks ≡ true
+later-part : (i : Interpretation) (v : ℕ) (r : Rule) (test : ℕ → ℕ → Bool) (ys xs : List ℕ) (p : RunState) (ks : List Mode) → allowed_in i r test p (ys ++ xs) ks ≡ true
     → (q : RunState) × (ms : List Mode) × (allowed_in i r test q xs ms ≡ true) × (cost_of_all i v q xs ms ≤ cost_of_all i v p (ys ++ xs) ks)
 unfolding allowed_in cost_of_all
-later_part i v r test [] xs p ks h = (p, ks, h, le_refl _)
-later_part i v r test (y ∷ ys) xs p [] h = absurd (false≢true h)
-later_part i v r test (y ∷ ys) xs p (k ∷ ks) h =
-    let more = later_part i v r test ys xs (state_in i p y k) ks (and_parts (may_take_in i r p y (begins_with_pair r test (y ∷ ys ++ xs)) k) _ h).1 in
+later-part i v r test [] xs p ks h = (p, ks, h, le_refl _)
+later-part i v r test (y ∷ ys) xs p [] h = absurd (false≢true h)
+later-part i v r test (y ∷ ys) xs p (k ∷ ks) h =
+    let more = later-part i v r test ys xs (state_in i p y k) ks (and_parts (may_take_in i r p y (begins_with_pair r test (y ∷ ys ++ xs)) k) _ h).1 in
     (more.0, more.1, more.2, omega (arith, more.3))
 
 -- if all best rests of a reversed prefix take more than n bits, no prefix at least as long fits n bits
-pub none_longer : (i : Interpretation) (v : ℕ) (r : Rule) (xs : List ℕ) (j k : ℕ) (f : RunState → List Mode) (cost : RunState → ℕ) (n : ℕ) → BestBelow i v r (swapped is_kanji_pair) (reverse (take j xs)) f cost
+pub none-longer : (i : Interpretation) (v : ℕ) (r : Rule) (xs : List ℕ) (j k : ℕ) (f : RunState → List Mode) (cost : RunState → ℕ) (n : ℕ) → BestBelow i v r (swapped is_kanji_pair) (reverse (take j xs)) f cost
     → ((p : RunState) → n < cost p) → j ≤ k → HasFit i v r (take k xs) n → ⊥
-none_longer i v r xs j k f cost n below more l fit =
+none-longer i v r xs j k f cost n below more l fit =
     let ys = drop j (take k xs) in
     let cut : reverse (take k xs) ≡ reverse ys ++ reverse (take j xs) = cc (take-take j k xs l, take-append-drop j (take k xs), reverse-append (take j (take k xs)) ys) in
-    let back = mirror_in i v is_kanji_pair r (take k xs) fit.0 (assigned_allowed i r (take k xs) fit.0 fit.1) in
-    let part = later_part i v r (swapped is_kanji_pair) (reverse ys) (reverse (take j xs)) Start (reverse fit.0) (rw cut at back.0) in
+    let back = mirror-in i v is_kanji_pair r (take k xs) fit.0 (assigned-allowed i r (take k xs) fit.0 fit.1) in
+    let part = later-part i v r (swapped is_kanji_pair) (reverse ys) (reverse (take j xs)) Start (reverse fit.0) (rw cut at back.0) in
     let same : cost_of_all i v Start (reverse ys ++ reverse (take j xs)) (reverse fit.0) ≡ cost_of_all i v Start (take k xs) fit.0 = rw cut at back.1 in
     let least = (below part.0 part.1 part.2).least part.1 part.2 in
     absurd (omega (arith, least, more part.0, part.3, same, fit.2, bits-assigned i v (take k xs) fit.0))
 
 -- an empty input fits any number of bits
-pub empty_fits : (i : Interpretation) (v : ℕ) (r : Rule) (n : ℕ) → HasFit i v r [] n
+pub empty-fits : (i : Interpretation) (v : ℕ) (r : Rule) (n : ℕ) → HasFit i v r [] n
 unfolding CoversBy runs_of characters_gs1 doubled_gs1
-empty_fits Default v r n = ([], (refl, by_covers [] [] refl), omega arith)
-empty_fits (Eci k) v r n = ([], (refl, by_covers [] [] refl), omega arith)
-empty_fits Gs1 v r n = ([], (refl, by_covers [] [] refl), omega arith)
+empty-fits Default v r n = ([], (refl, by-covers [] [] refl), omega arith)
+empty-fits (Eci k) v r n = ([], (refl, by-covers [] [] refl), omega arith)
+empty-fits Gs1 v r n = ([], (refl, by-covers [] [] refl), omega arith)
 
-begins_at : (r : Rule) (test : ℕ → ℕ → Bool) (xs : List ℕ) → 2 ≤ length xs → begins_with_pair r test xs ≡ (may_use r Kanji && test (get_or xs 0 0) (get_or xs 1 0))
+begins-at : (r : Rule) (test : ℕ → ℕ → Bool) (xs : List ℕ) → 2 ≤ length xs → begins_with_pair r test xs ≡ (may_use r Kanji && test (get_or xs 0 0) (get_or xs 1 0))
 unfolding begins_with_pair
-begins_at r test xs h = grind arith
+begins-at r test xs h = grind arith
 
 -- the last two bytes are the first two of the reversed bytes
 pub ends_at : (r : Rule) (xs : List ℕ) → 2 ≤ length xs → begins_with_pair r (swapped is_kanji_pair) (reverse xs) ≡ (may_use r Kanji && is_kanji_pair (get_or xs (length xs - 2) 0) (get_or xs (length xs - 1) 0))
-ends_at r xs h = search (arith, begins_at, length-reverse, get_or-reverse)
+ends_at r xs h = search (arith, begins-at, length-reverse, get_or-reverse)
 
 -- fewer than two bytes do not end in two
 pub ends_short : (r : Rule) (xs : List ℕ) → length xs < 2 → begins_with_pair r (swapped is_kanji_pair) (reverse xs) ≡ false
@@ -152,13 +152,13 @@ unfolding begins_with_pair
 ends_short r xs h = grind (arith, length-reverse)
 
 -- the table for a reversed prefix with one more byte
-pub prefix_more : (i : Interpretation) (v : ℕ) (r : Rule) (xs : List ℕ) (j : ℕ) (pair : Bool) (rows : List ℕ) (row : ℕ) (rest ns : PerState) → j < length xs
+pub prefix-more : (i : Interpretation) (v : ℕ) (r : Rule) (xs : List ℕ) (j : ℕ) (pair : Bool) (rows : List ℕ) (row : ℕ) (rest ns : PerState) → j < length xs
     → pair ≡ begins_with_pair r (swapped is_kanji_pair) (reverse (take (j + 1) xs))
     → BestBelow i v r (swapped is_kanji_pair) (reverse (take j xs)) (λ p. follow_in i p (reverse (take j xs)) rows) (bits_at rest)
     → IsRow i v r (get_or xs j 0) pair rest row ns
     → BestBelow i v r (swapped is_kanji_pair) (reverse (take (j + 1) xs)) (λ p. follow_in i p (reverse (take (j + 1) xs)) (row ∷ rows)) (bits_at ns)
-prefix_more i v r xs j pair rows row rest ns h e below choice =
+prefix-more i v r xs j pair rows row rest ns h e below choice =
     let x = get_or xs j 0 in
     let next : reverse (take (j + 1) xs) ≡ x ∷ reverse (take j xs) = cc (take_more xs j 0 h, reverse-append (take j xs) (x ∷ [])) in
     let flag : pair ≡ begins_with_pair r (swapped is_kanji_pair) (x ∷ reverse (take j xs)) = e ∙ ap (begins_with_pair r (swapped is_kanji_pair)) next in
-    rw next (best_more i v r (swapped is_kanji_pair) x (reverse (take j xs)) rows row rest ns below (subst (λ (b : Bool). IsRow i v r x b rest row ns) flag choice))
+    rw next (best-more i v r (swapped is_kanji_pair) x (reverse (take j xs)) rows row rest ns below (subst (λ (b : Bool). IsRow i v r x b rest row ns) flag choice))

@@ -8,49 +8,49 @@ use Rattle.qr_bits.specs.Interpretation.{characters_in}
 use Rattle.qr_bits.proofs.lemmas.interpretation.WrittenLemmas.{characters-sixths}
 use Rattle.qr_bits.specs.Modes.{is_kanji_pair, is_digit, is_alphanumeric, suits, payload_bits}
 use Rattle.qr_bits.specs.Segmentation.{bits, HasFit, least_sixths, least_bits}
-use Rattle.qr_bits.proofs.lemmas.segment.CoverLemmas.{CoversBy, covers_by}
-use Rattle.qr_bits.proofs.lemmas.{modes.CharacterLemmas.past_z, segment.SegmentLemmas.payload_least}
+use Rattle.qr_bits.proofs.lemmas.segment.CoverLemmas.{CoversBy, covers-by}
+use Rattle.qr_bits.proofs.lemmas.{modes.CharacterLemmas.past_z, segment.SegmentLemmas.payload-least}
 
 most : (digit low : Bool) → cond digit 20 (cond low 33 39) ≤ 39
 most digit low = grind arith
 
-character_most : (b : ℕ) → is_alphanumeric b ≡ true → least_sixths b ≤ 33
-character_most b h = grind (arith, false≢true, past_z, le-leb)
+character-most : (b : ℕ) → is_alphanumeric b ≡ true → least_sixths b ≤ 33
+character-most b h = grind (arith, false≢true, past_z, le-leb)
 
-digit_is : (b : ℕ) → is_digit b ≡ true → least_sixths b ≡ 20
-digit_is b h = ap (λ (d : Bool). cond d 20 (cond (nat_le b 90) 33 39)) h
+digit-is : (b : ℕ) → is_digit b ≡ true → least_sixths b ≡ 20
+digit-is b h = ap (λ (d : Bool). cond d 20 (cond (nat_le b 90) 33 39)) h
 
-bytes_held : (xs : List ℕ) → sum_by least_sixths xs ≤ 39 * length xs
-bytes_held [] = omega arith
-bytes_held (x ∷ xs) = omega (arith, sum_by-cons, most, bytes_held xs)
+bytes-held : (xs : List ℕ) → sum_by least_sixths xs ≤ 39 * length xs
+bytes-held [] = omega arith
+bytes-held (x ∷ xs) = omega (arith, sum_by-cons, most, bytes-held xs)
 
-characters_held : (xs : List ℕ) → list_all is_alphanumeric xs ≡ true → sum_by least_sixths xs ≤ 33 * length xs
-characters_held [] h = omega arith
-characters_held (x ∷ xs) h =
+characters-held : (xs : List ℕ) → list_all is_alphanumeric xs ≡ true → sum_by least_sixths xs ≤ 33 * length xs
+characters-held [] h = omega arith
+characters-held (x ∷ xs) h =
     let both = and_parts (is_alphanumeric x) (list_all is_alphanumeric xs) h in
-    omega (arith, sum_by-cons, character_most, characters_held xs both.1)
+    omega (arith, sum_by-cons, character-most, characters-held xs both.1)
 
-digits_held : (xs : List ℕ) → list_all is_digit xs ≡ true → sum_by least_sixths xs ≤ 20 * length xs
-digits_held [] h = omega arith
-digits_held (x ∷ xs) h =
+digits-held : (xs : List ℕ) → list_all is_digit xs ≡ true → sum_by least_sixths xs ≤ 20 * length xs
+digits-held [] h = omega arith
+digits-held (x ∷ xs) h =
     let both = and_parts (is_digit x) (list_all is_digit xs) h in
-    omega (arith, sum_by-cons, digit_is, digits_held xs both.1)
+    omega (arith, sum_by-cons, digit-is, digits-held xs both.1)
 
-payload_held : (m : Mode) (xs : List ℕ) → IsTrue (suits m xs) → sum_by least_sixths xs ≤ 6 * payload_bits m (length xs)
-payload_held m xs h = grind (arith, digits_held, payload_least, characters_held, bytes_held)
+payload-held : (m : Mode) (xs : List ℕ) → IsTrue (suits m xs) → sum_by least_sixths xs ≤ 6 * payload_bits m (length xs)
+payload-held m xs h = grind (arith, digits-held, payload-least, characters-held, bytes-held)
 
 -- segments that cover bytes take at least the bits that `least_sixths` counts for the bytes
-segments_held : (v : ℕ) (xs : List ℕ) (segs : List Segment) → CoversBy is_kanji_pair xs segs → sum_by least_sixths xs ≤ 6 * bits v segs
+segments-held : (v : ℕ) (xs : List ℕ) (segs : List Segment) → CoversBy is_kanji_pair xs segs → sum_by least_sixths xs ≤ 6 * bits v segs
 unfolding CoversBy
-segments_held v xs [] c = omega (arith, ap (sum_by least_sixths) c)
-segments_held v xs (s ∷ ss) c =
+segments-held v xs [] c = omega (arith, ap (sum_by least_sixths) c)
+segments-held v xs (s ∷ ss) c =
     let many : length (take s.len xs) ≡ s.len = length-take-le s.len xs c.1 in
-    search (arith, payload_held, sum_by-take-drop, segments_held v (drop s.len xs) ss c.3)
+    search (arith, payload-held, sum_by-take-drop, segments-held v (drop s.len xs) ss c.3)
 
 -- If an input fits `room` bits, its lower bound is at most `room`.
-pub least_held : (i : Interpretation) (v : ℕ) (r : Rule) (xs : List ℕ) (room : ℕ) → HasFit i v r xs room → least_bits xs ≤ room
+pub least-held : (i : Interpretation) (v : ℕ) (r : Rule) (xs : List ℕ) (room : ℕ) → HasFit i v r xs room → least_bits xs ≤ room
 unfolding least_bits
-least_held i v r xs room fit =
-    let held = segments_held v (characters_in i xs fit.0) _ (covers_by _ _ fit.1.1) in
+least-held i v r xs room fit =
+    let held = segments-held v (characters_in i xs fit.0) _ (covers-by _ _ fit.1.1) in
     let most = characters-sixths i xs fit.0 in
     omega (arith, held, most, fit.2)

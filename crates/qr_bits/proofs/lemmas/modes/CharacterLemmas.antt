@@ -15,23 +15,23 @@ found p xs h = ⊎_elim (λ (l : position_or_len p xs < length xs). l) (λ (l : 
     (cases_lt (position_or_len p xs) (length xs))
 
 -- a character has a value below 45
-pub character_found : (b : ℕ) → is_alphanumeric b ≡ true → character_value b < 45
+pub character-found : (b : ℕ) → is_alphanumeric b ≡ true → character_value b < 45
 unfolding is_alphanumeric character_value characters
-character_found b h = found (λ c. c == b) characters h
+character-found b h = found (λ c. c == b) characters h
 
 -- the index of one of the 45 characters is its value
-pub character_place : (b : ℕ) → is_alphanumeric b ≡ true → position (λ c. c == b) characters ≡ Some (character_value b)
+pub character-place : (b : ℕ) → is_alphanumeric b ≡ true → position (λ c. c == b) characters ≡ Some (character_value b)
 unfolding is_alphanumeric character_value
-character_place b h = rw (lt-ltb _ _ (found (λ c. c == b) characters h)) refl
+character-place b h = rw (lt-ltb _ _ (found (λ c. c == b) characters h)) refl
 
-pub character_index : (b n : ℕ) → is_alphanumeric b ≡ true → position (λ c. c == b) characters ≡ Some n → (n ≡ character_value b) × (n ≤ 44)
-character_index b n h e =
-    let i : n ≡ character_value b = cc (character_place b h) in (i, omega (arith, character_found b h, i))
+pub character-index : (b n : ℕ) → is_alphanumeric b ≡ true → position (λ c. c == b) characters ≡ Some n → (n ≡ character_value b) × (n ≤ 44)
+character-index b n h e =
+    let i : n ≡ character_value b = cc (character-place b h) in (i, omega (arith, character-found b h, i))
 
 -- a character is the character of its value
-pub character_again : (b : ℕ) → is_alphanumeric b ≡ true → character (character_value b) ≡ b
+pub character-again : (b : ℕ) → is_alphanumeric b ≡ true → character (character_value b) ≡ b
 unfolding is_alphanumeric character_value character
-character_again b h = eqb-true _ _ (passes_at_first (λ c. c == b) characters 0 (found (λ c. c == b) characters h))
+character-again b h = eqb-true _ _ (passes_at_first (λ c. c == b) characters 0 (found (λ c. c == b) characters h))
 
 many : length characters ≡ 45
 unfolding characters
@@ -40,51 +40,51 @@ many = refl
 low : ℕ → Bool
 low i = nat_le (character i) 90
 
-all_low : below 45 low ≡ true
+all-low : below 45 low ≡ true
 unfolding low character characters
-all_low = refl
+all-low = refl
 
 -- a byte after Z is no character
 pub past_z : (b : ℕ) → 90 < b → is_alphanumeric b ≡ false
 unfolding is_alphanumeric low character
 past_z b h =
     list_any_none (λ c. c == b) characters (All-from_get_or (λ x. (x == b) ≡ false) characters 0
-    (λ i k. ne_eqb _ _ (λ e. let l = leb-true _ 90 (below-at 45 low all_low i (omega (arith, many))) in absurd (omega arith))))
+    (λ i k. ne_eqb _ _ (λ e. let l = leb-true _ 90 (below-at 45 low all-low i (omega (arith, many))) in absurd (omega arith))))
 
 differs : ℕ → ℕ → Bool
 differs i k = not (character k == character i)
 
-all_differ : below 45 (λ i. below i (differs i)) ≡ true
+all-differ : below 45 (λ i. below i (differs i)) ≡ true
 unfolding differs character characters
-all_differ = refl
+all-differ = refl
 
 -- the value of the character n is n
-pub character_taken : (n : ℕ) → n < 45 → (is_alphanumeric (character n) ≡ true) × (character_value (character n) ≡ n) × (character n < 256)
+pub character-taken : (n : ℕ) → n < 45 → (is_alphanumeric (character n) ≡ true) × (character_value (character n) ≡ n) × (character n < 256)
 unfolding is_alphanumeric character_value differs low character
-character_taken n h =
+character-taken n h =
     let here : (get_or characters n 0 == character n) ≡ true = eq-eqb (character n) _ refl in
     let inside : n < length characters = omega (arith, many) in (
       list_any_at (λ c. c == character n) characters n 0 inside here,
       position_or_len_is (λ c. c == character n) characters n 0 (omega arith)
-          (λ k l. let d = below-at n (differs n) (below-at 45 (λ i. below i (differs i)) all_differ n h) k l in grind arith)
+          (λ k l. let d = below-at n (differs n) (below-at 45 (λ i. below i (differs i)) all-differ n h) k l in grind arith)
           (λ _. here),
-      omega (arith, leb-true _ 90 (below-at 45 low all_low n h)),
+      omega (arith, leb-true _ 90 (below-at 45 low all-low n h)),
     )
 
-text_used : (r : Rule) → may_use r Numeric ≡ true → may_use r Alphanumeric ≡ true
-text_used r h = grind arith
+text-used : (r : Rule) → may_use r Numeric ≡ true → may_use r Alphanumeric ≡ true
+text-used r h = grind arith
 
-all_digits : below 10 (λ i. is_alphanumeric (48 + i)) ≡ true
+all-digits : below 10 (λ i. is_alphanumeric (48 + i)) ≡ true
 unfolding is_alphanumeric characters
-all_digits = refl
+all-digits = refl
 
 -- a byte that may have numeric mode may have alphanumeric mode
-pub digit_character : (r : Rule) (b : ℕ) (pair : Bool) → may_begin r b pair Numeric ≡ true → may_begin r b pair Alphanumeric ≡ true
+pub digit-character : (r : Rule) (b : ℕ) (pair : Bool) → may_begin r b pair Numeric ≡ true → may_begin r b pair Alphanumeric ≡ true
 unfolding may_begin
-digit_character r b pair h =
+digit-character r b pair h =
     let parts = and_parts (may_use r Numeric) (is_digit b) h in
     let bounds = and_parts (nat_le 48 b) (nat_le b 57) parts.1 in
     let low : 48 ≤ b = leb-true _ _ bounds.0 in
     let high : b ≤ 57 = leb-true _ _ bounds.1 in
     let e : 48 + (b - 48) ≡ b = omega arith in
-    and_from _ _ (text_used r parts.0) (rw e at (below-at 10 (λ i. is_alphanumeric (48 + i)) all_digits (b - 48) (omega arith)))
+    and_from _ _ (text-used r parts.0) (rw e at (below-at 10 (λ i. is_alphanumeric (48 + i)) all-digits (b - 48) (omega arith)))

@@ -31,12 +31,12 @@ unfolding pads
 pads-none n h = grind arith
 
 -- the whole codewords of the stream and its terminator, followed by pad codewords, are the data codewords
-pub is_data : (v : ℕ) (l : Level) (xs : List ℕ) (segs : List Segment) (h : Option Header) (i : Interpretation) (stream : List Bool)
+pub is-data : (v : ℕ) (l : Level) (xs : List ℕ) (segs : List Segment) (h : Option Header) (i : Interpretation) (stream : List Bool)
     (used : ℕ) (whole cw : List ℕ) → IsStream v xs segs h i stream → length stream ≡ used →
     used ≤ capacity_of v l → bits_of whole ≡ filled (stream ++ field (min 4 (capacity_of v l - used)) 0) →
     cw ≡ whole ++ pads (data_codewords_of v l - length whole) → All (λ b. b < 256) cw → IsData v l xs segs h i cw
 unfolding padded
-is_data v l xs segs h i stream used whole cw is len fits filling padding bytes =
+is-data v l xs segs h i stream used whole cw is len fits filling padding bytes =
     search (arith, bits_of, field-zero, length-bits_of, bits_of-append)
 
 -- the length of a header's bits

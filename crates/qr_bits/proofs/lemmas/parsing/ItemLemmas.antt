@@ -9,22 +9,22 @@ use Rattle.qr_bits.specs.declared.fault.ParseFault.TheVariants.{BadValue}
 use Rattle.qr_bits.specs.{Bits.{field, value}, Interpretation.{is_application_indicator, may_follow}}
 use Rattle.qr_bits.specs.Stream.{AreItems, DesignatorFits, designator_of, items_stream}
 use Rattle.qr_bits.specs.Parsing.{leading_number, segment_at, application_at, designator_at, ends, item_at, items_at, items_of}
-use Rattle.qr_bits.proofs.lemmas.stream.StreamLemmas.{drop-field, field_read, read_field}
-use Rattle.qr_bits.proofs.lemmas.parsing.{ParsingLemmas.{bind_ok, guard_ok, same_ok, ended_empty, not_ended, item_shorter, items_end, items_step}, StreamReadingLemmas.{IsSegment, segment_takes, item_again, number_again, number_takes, opens, other_opens}}
+use Rattle.qr_bits.proofs.lemmas.stream.StreamLemmas.{drop-field, field-read, read-field}
+use Rattle.qr_bits.proofs.lemmas.parsing.{ParsingLemmas.{bind-ok, guard-ok, same-ok, ended-empty, not_ended, item-shorter, items-end, items-step}, StreamReadingLemmas.{IsSegment, segment-takes, item-again, number-again, number-takes, opens, other-opens}}
 
 -- a designator is read back in as many codewords
-pub number_back : (d : Designator) (rest : List Bool) → DesignatorFits d → designator_at (designator_of d.codewords d.number ++ rest) ≡ Ok (d, rest)
+pub number-back : (d : Designator) (rest : List Bool) → DesignatorFits d → designator_at (designator_of d.codewords d.number ++ rest) ≡ Ok (d, rest)
 unfolding designator_at designator_of
-number_back d rest h =
+number-back d rest h =
     let n = d.number in
-    ⊎_elim (λ (e : (d.codewords ≡ 1) × (n < 128)). rw (e.0, number_again 8 n rest (omega (arith, e.1)), lt-ltb _ _ e.1) refl)
+    ⊎_elim (λ (e : (d.codewords ≡ 1) × (n < 128)). rw (e.0, number-again 8 n rest (omega (arith, e.1)), lt-ltb _ _ e.1) refl)
     (λ h.
     ⊎_elim (λ (e : (d.codewords ≡ 2) × (n < 16384)).
     let high : 128 + n / 256 < 2 ^ 8 = omega (arith, e.1) in
     let a : nat_lt (128 + n / 256) 128 ≡ false = le-ltb _ _ (omega arith) in
     let b : nat_lt (128 + n / 256) 192 ≡ true = lt-ltb _ _ (omega (arith, e.1)) in
     let whole : 256 * (128 + n / 256 - 128) + n % 256 ≡ n = omega arith in
-    rw (e.0, append_assoc (field 8 (128 + n / 256)) (field 8 (n % 256)) rest, number_again 8 (128 + n / 256) (field 8 (n % 256) ++ rest) high, a, b, number_again 8 (n % 256) rest (omega arith), whole)
+    rw (e.0, append_assoc (field 8 (128 + n / 256)) (field 8 (n % 256)) rest, number-again 8 (128 + n / 256) (field 8 (n % 256) ++ rest) high, a, b, number-again 8 (n % 256) rest (omega arith), whole)
     refl)
     (λ (e : (d.codewords ≡ 3) × (n < 1000000)).
     let high : 192 + n / 65536 < 2 ^ 8 = omega (arith, e.1) in
@@ -33,86 +33,86 @@ number_back d rest h =
     let g : nat_le 224 (192 + n / 65536) ≡ false = lt-leb _ _ (omega (arith, e.1)) in
     let whole : 65536 * (192 + n / 65536 - 192) + n % 65536 ≡ n = omega arith in
     let six : nat_lt n 1000000 ≡ true = lt-ltb _ _ e.1 in
-    rw (e.0, append_assoc (field 8 (192 + n / 65536)) (field 16 (n % 65536)) rest, number_again 8 (192 + n / 65536) (field 16 (n % 65536) ++ rest) high, a, b, g, number_again 16 (n % 65536) rest (omega arith), whole, six)
+    rw (e.0, append_assoc (field 8 (192 + n / 65536)) (field 16 (n % 65536)) rest, number-again 8 (192 + n / 65536) (field 16 (n % 65536) ++ rest) high, a, b, g, number-again 16 (n % 65536) rest (omega arith), whole, six)
     refl)
     h)
     h
 
 eci_back : (v : ℕ) (may : Bool) (d : Designator) (rest : List Bool) → DesignatorFits d → item_at v may (field 4 7 ++ (designator_of d.codewords d.number ++ rest)) ≡ Ok (Eci d, [], rest)
 unfolding item_at
-eci_back v may d rest h = rw (read_field 4 7 (designator_of d.codewords d.number ++ rest) (lit< tt), drop-field 4 7 (designator_of d.codewords d.number ++ rest), number_back d rest h) refl
+eci_back v may d rest h = rw (read-field 4 7 (designator_of d.codewords d.number ++ rest) (lit< tt), drop-field 4 7 (designator_of d.codewords d.number ++ rest), number-back d rest h) refl
 
-first_back : (v : ℕ) (may : Bool) (rest : List Bool) → may ≡ true → item_at v may (field 4 5 ++ rest) ≡ Ok (Fnc1First, [], rest)
+first-back : (v : ℕ) (may : Bool) (rest : List Bool) → may ≡ true → item_at v may (field 4 5 ++ rest) ≡ Ok (Fnc1First, [], rest)
 unfolding item_at
-first_back v may rest h = rw (h, read_field 4 5 rest (lit< tt), drop-field 4 5 rest) refl
+first-back v may rest h = rw (h, read-field 4 5 rest (lit< tt), drop-field 4 5 rest) refl
 
-application_small : (a : ℕ) → is_application_indicator a ≡ true → a < 2 ^ 8
-application_small a h = grind arith
+application-small : (a : ℕ) → is_application_indicator a ≡ true → a < 2 ^ 8
+application-small a h = grind arith
 
-application_back : (a : ℕ) (rest : List Bool) → is_application_indicator a ≡ true → application_at (field 8 a ++ rest) ≡ Ok (a, rest)
+application-back : (a : ℕ) (rest : List Bool) → is_application_indicator a ≡ true → application_at (field 8 a ++ rest) ≡ Ok (a, rest)
 unfolding application_at
-application_back a rest h = rw (number_again 8 a rest (application_small a h), h) refl
+application-back a rest h = rw (number-again 8 a rest (application-small a h), h) refl
 
-second_back : (v : ℕ) (may : Bool) (a : ℕ) (rest : List Bool) → may ≡ true → is_application_indicator a ≡ true → item_at v may (field 4 9 ++ (field 8 a ++ rest)) ≡ Ok (Fnc1Second a, [], rest)
+second-back : (v : ℕ) (may : Bool) (a : ℕ) (rest : List Bool) → may ≡ true → is_application_indicator a ≡ true → item_at v may (field 4 9 ++ (field 8 a ++ rest)) ≡ Ok (Fnc1Second a, [], rest)
 unfolding item_at
-second_back v may a rest h k = rw (h, read_field 4 9 (field 8 a ++ rest) (lit< tt), drop-field 4 9 (field 8 a ++ rest), application_back a rest k) refl
+second-back v may a rest h k = rw (h, read-field 4 9 (field 8 a ++ rest) (lit< tt), drop-field 4 9 (field 8 a ++ rest), application-back a rest k) refl
 
 -- Items that are written are read back.
-pub items_again : (v : ℕ) (may : Bool) (xs : List ℕ) (items : List Item) (tail : List Bool) → All (λ b. b < 256) xs → AreItems v may xs items → ends tail ≡ true
+pub items-again : (v : ℕ) (may : Bool) (xs : List ℕ) (items : List Item) (tail : List Bool) → All (λ b. b < 256) xs → AreItems v may xs items → ends tail ≡ true
     → items_of v may (items_stream v xs items ++ tail) ≡ Ok (items, xs)
 unfolding items_stream AreItems
-items_again v may xs [] tail bytes are end = cc (items_end v may tail end)
-items_again v may xs (Data s ∷ is) tail bytes are end =
+items-again v may xs [] tail bytes are end = cc (items-end v may tail end)
+items-again v may xs (Data s ∷ is) tail bytes are end =
     let part = take s.len xs in
     let len : length part ≡ s.len = length-take-le s.len xs are.0 in
     let halves : All (λ b. b < 256) part × All (λ b. b < 256) (drop s.len xs) = search (arith, All-take, All-drop) in
-    search (arith, append_assoc, item_again, items_step, opens, take-append-drop, items_again v false (drop s.len xs) is tail halves.1 are.3 end)
-items_again v may xs (Eci d ∷ is) tail bytes are end =
+    search (arith, append_assoc, item-again, items-step, opens, take-append-drop, items-again v false (drop s.len xs) is tail halves.1 are.3 end)
+items-again v may xs (Eci d ∷ is) tail bytes are end =
     let rest = items_stream v xs is ++ tail in
     let n = designator_of d.codewords d.number in
-    rw (append_assoc (field 4 7) (n ++ items_stream v xs is) tail, append_assoc n (items_stream v xs is) tail, items_step v may (field 4 7 ++ (n ++ rest)) (other_opens 7 _ (lit< tt) refl), eci_back v may d rest are.0, items_again v may xs is tail bytes are.1 end) refl
-items_again v may xs (Fnc1First ∷ is) tail bytes are end =
+    rw (append_assoc (field 4 7) (n ++ items_stream v xs is) tail, append_assoc n (items_stream v xs is) tail, items-step v may (field 4 7 ++ (n ++ rest)) (other-opens 7 _ (lit< tt) refl), eci_back v may d rest are.0, items-again v may xs is tail bytes are.1 end) refl
+items-again v may xs (Fnc1First ∷ is) tail bytes are end =
     let rest = items_stream v xs is ++ tail in
-    rw (append_assoc (field 4 5) (items_stream v xs is) tail, items_step v may (field 4 5 ++ rest) (other_opens 5 _ (lit< tt) refl), first_back v may rest are.0, items_again v false xs is tail bytes are.1 end) refl
-items_again v may xs (Fnc1Second a ∷ is) tail bytes are end =
+    rw (append_assoc (field 4 5) (items_stream v xs is) tail, items-step v may (field 4 5 ++ rest) (other-opens 5 _ (lit< tt) refl), first-back v may rest are.0, items-again v false xs is tail bytes are.1 end) refl
+items-again v may xs (Fnc1Second a ∷ is) tail bytes are end =
     let rest = items_stream v xs is ++ tail in
-    rw (append_assoc (field 4 9) (field 8 a ++ items_stream v xs is) tail, append_assoc (field 8 a) (items_stream v xs is) tail, items_step v may (field 4 9 ++ (field 8 a ++ rest)) (other_opens 9 _ (lit< tt) refl), second_back v may a rest are.0 are.1, items_again v false xs is tail bytes are.2 end) refl
+    rw (append_assoc (field 4 9) (field 8 a ++ items_stream v xs is) tail, append_assoc (field 8 a) (items_stream v xs is) tail, items-step v may (field 4 9 ++ (field 8 a ++ rest)) (other-opens 9 _ (lit< tt) refl), second-back v may a rest are.0 are.1, items-again v false xs is tail bytes are.2 end) refl
 
 -- what is read is a designator that fits, and then the rest
-designator_takes : (bits : List Bool) (r : Designator × List Bool) → designator_at bits ≡ Ok r → DesignatorFits r.0 × (bits ≡ designator_of r.0.codewords r.0.number ++ r.1)
+designator-takes : (bits : List Bool) (r : Designator × List Bool) → designator_at bits ≡ Ok r → DesignatorFits r.0 × (bits ≡ designator_of r.0.codewords r.0.number ++ r.1)
 unfolding designator_at designator_of
-designator_takes bits r h =
+designator-takes bits r h =
     let P : Designator × List Bool → Type 0 = λ t. DesignatorFits t.0 × (bits ≡ designator_of t.0.codewords t.0.number ++ t.1) in
-    let a = bind_ok (leading_number 8 bits) _ r h in
-    let f = number_takes 8 bits a.0 a.1 in
+    let a = bind-ok (leading_number 8 bits) _ r h in
+    let f = number-takes 8 bits a.0 a.1 in
     ⊎_elim (λ (e : nat_lt a.0.0 128 ≡ true). let k = rw e at a.2 in
-    subst P (same_ok _ _ k) (inl (refl, ltb-true _ _ e), f.1))
+    subst P (same-ok _ _ k) (inl (refl, ltb-true _ _ e), f.1))
     (λ (e : nat_lt a.0.0 128 ≡ false). let k = rw e at a.2 in
     let least = ltb-false _ _ e in
     ⊎_elim (λ (g : nat_lt a.0.0 192 ≡ true). let m = rw g at k in
     let below = ltb-true _ _ g in
-    let b = bind_ok (leading_number 8 a.0.1) _ r m in
-    let l = number_takes 8 a.0.1 b.0 b.1 in
+    let b = bind-ok (leading_number 8 a.0.1) _ r m in
+    let l = number-takes 8 a.0.1 b.0 b.1 in
     let high : 128 + (256 * (a.0.0 - 128) + b.0.0) / 256 ≡ a.0.0 = omega (arith, l.0) in
     let low : (256 * (a.0.0 - 128) + b.0.0) % 256 ≡ b.0.0 = omega (arith, l.0) in
-    subst P (same_ok _ _ b.2) (inr (inl (refl, omega (arith, l.0))), rw (high, low, append_assoc (field 8 a.0.0) (field 8 b.0.0) b.0.1, ← l.1) f.1))
+    subst P (same-ok _ _ b.2) (inr (inl (refl, omega (arith, l.0))), rw (high, low, append_assoc (field 8 a.0.0) (field 8 b.0.0) b.0.1, ← l.1) f.1))
     (λ (g : nat_lt a.0.0 192 ≡ false). let m = rw g at k in
-    let q = guard_ok (nat_le 224 a.0.0) BadValue _ r m in
+    let q = guard-ok (nat_le 224 a.0.0) BadValue _ r m in
     let some = ltb-false _ _ g in
-    let b = bind_ok (leading_number 16 a.0.1) _ r q.1 in
-    let l = number_takes 16 a.0.1 b.0 b.1 in
+    let b = bind-ok (leading_number 16 a.0.1) _ r q.1 in
+    let l = number-takes 16 a.0.1 b.0 b.1 in
     let n = 65536 * (a.0.0 - 192) + b.0.0 in
     let high : 192 + n / 65536 ≡ a.0.0 = omega (arith, l.0) in
     let low : n % 65536 ≡ b.0.0 = omega (arith, l.0) in
     ⊎_elim (λ (o : nat_lt n 1000000 ≡ true). let p = rw o at b.2 in
-    subst P (same_ok _ _ p) (inr (inr (refl, ltb-true _ _ o)), rw (high, low, append_assoc (field 8 a.0.0) (field 16 b.0.0) b.0.1, ← l.1) f.1))
+    subst P (same-ok _ _ p) (inr (inr (refl, ltb-true _ _ o)), rw (high, low, append_assoc (field 8 a.0.0) (field 16 b.0.0) b.0.1, ← l.1) f.1))
     (λ (o : nat_lt n 1000000 ≡ false). let p = rw o at b.2 in grind arith)
     (cases_Bool (nat_lt n 1000000)))
     (cases_Bool (nat_lt a.0.0 192)))
     (cases_Bool (nat_lt a.0.0 128))
 
 indicated : (n : ℕ) (bits : List Bool) → 4 ≤ length bits → (value (take 4 bits) == n) ≡ true → bits ≡ field 4 n ++ drop 4 bits
-indicated n bits four h = cc (eqb-true _ n h, field_read 4 bits four, take-append-drop 4 bits)
+indicated n bits four h = cc (eqb-true _ n h, field-read 4 bits four, take-append-drop 4 bits)
 
 -- an item that was read is its stream, with the rest after it
 abbrev IsItem : ℕ → Bool → List Bool → Item → List ℕ → List Bool → Type 0
@@ -122,39 +122,39 @@ IsItem v may bits Fnc1First ys rest = (may ≡ true) × (ys ≡ []) × (bits ≡
 IsItem v may bits (Fnc1Second a) ys rest = (may ≡ true) × (is_application_indicator a ≡ true) × (ys ≡ []) × (bits ≡ field 4 9 ++ (field 8 a ++ rest))
 
 -- if an application indicator is read, it is a valid one, and its 8 bits are the first
-application_takes : (bits : List Bool) (a : ℕ × List Bool) → application_at bits ≡ Ok a → (is_application_indicator a.0 ≡ true) × (bits ≡ field 8 a.0 ++ a.1)
+application-takes : (bits : List Bool) (a : ℕ × List Bool) → application_at bits ≡ Ok a → (is_application_indicator a.0 ≡ true) × (bits ≡ field 8 a.0 ++ a.1)
 unfolding application_at
-application_takes bits a h =
-    let n = bind_ok (leading_number 8 bits) _ a h in
-    let f = number_takes 8 bits n.0 n.1 in
+application-takes bits a h =
+    let n = bind-ok (leading_number 8 bits) _ a h in
+    let f = number-takes 8 bits n.0 n.1 in
     ⊎_elim (λ (e : is_application_indicator n.0.0 ≡ true). let k = rw e at n.2 in
-    subst (λ (t : ℕ × List Bool). (is_application_indicator t.0 ≡ true) × (bits ≡ field 8 t.0 ++ t.1)) (same_ok _ _ k) (e, f.1))
+    subst (λ (t : ℕ × List Bool). (is_application_indicator t.0 ≡ true) × (bits ≡ field 8 t.0 ++ t.1)) (same-ok _ _ k) (e, f.1))
     (λ (e : is_application_indicator n.0.0 ≡ false). let k = rw e at n.2 in grind arith)
     (cases_Bool (is_application_indicator n.0.0))
 
 -- if an item is read, its stream comes first in the bits that were read
-item_takes : (v : ℕ) (may : Bool) (bits : List Bool) (i : Item × List ℕ × List Bool) → 4 ≤ length bits → item_at v may bits ≡ Ok i → IsItem v may bits i.0 i.1 i.2
+item-takes : (v : ℕ) (may : Bool) (bits : List Bool) (i : Item × List ℕ × List Bool) → 4 ≤ length bits → item_at v may bits ≡ Ok i → IsItem v may bits i.0 i.1 i.2
 unfolding item_at
-item_takes v may bits i four h =
+item-takes v may bits i four h =
     let n = value (take 4 bits) in
     let P : Item × List ℕ × List Bool → Type 0 = λ t. IsItem v may bits t.0 t.1 t.2 in
     ⊎_elim (λ (e : (n == 7) ≡ true). let k = rw e at h in
-    let d = bind_ok (designator_at (drop 4 bits)) _ i k in
-    let f = designator_takes (drop 4 bits) d.0 d.1 in
-    subst P (same_ok _ _ d.2) (f.0, refl, rw (← f.1) (indicated 7 bits four e)))
+    let d = bind-ok (designator_at (drop 4 bits)) _ i k in
+    let f = designator-takes (drop 4 bits) d.0 d.1 in
+    subst P (same-ok _ _ d.2) (f.0, refl, rw (← f.1) (indicated 7 bits four e)))
     (λ (e : (n == 7) ≡ false). let k = rw e at h in
     ⊎_elim (λ (f : (may && n == 5) ≡ true). let m = rw f at k in
     let both = and_parts may (n == 5) f in
-    subst P (same_ok _ _ m) (both.0, refl, indicated 5 bits four both.1))
+    subst P (same-ok _ _ m) (both.0, refl, indicated 5 bits four both.1))
     (λ (f : (may && n == 5) ≡ false). let m = rw f at k in
     ⊎_elim (λ (g : (may && n == 9) ≡ true). let o = rw g at m in
     let both = and_parts may (n == 9) g in
-    let a = bind_ok (application_at (drop 4 bits)) _ i o in
-    let w = application_takes (drop 4 bits) a.0 a.1 in
-    subst P (same_ok _ _ a.2) (both.0, w.0, refl, rw (← w.1) (indicated 9 bits four both.1)))
+    let a = bind-ok (application_at (drop 4 bits)) _ i o in
+    let w = application-takes (drop 4 bits) a.0 a.1 in
+    subst P (same-ok _ _ a.2) (both.0, w.0, refl, rw (← w.1) (indicated 9 bits four both.1)))
     (λ (g : (may && n == 9) ≡ false). let o = rw g at m in
-    let s = bind_ok (segment_at v bits) _ i o in
-    subst P (same_ok _ _ s.2) (segment_takes v bits s.0 four s.1))
+    let s = bind-ok (segment_at v bits) _ i o in
+    subst P (same-ok _ _ s.2) (segment-takes v bits s.0 four s.1))
     (cases_Bool (may && n == 9)))
     (cases_Bool (may && n == 5)))
     (cases_Bool (n == 7))
@@ -167,14 +167,14 @@ pub record IsItems (v : ℕ) (may : Bool) (bits : List Bool) (items : List Item)
   pub whole : bits ≡ items_stream v xs items ++ tail
   pub end : ends tail ≡ true
 
-items_none : (v : ℕ) (may : Bool) (bits : List Bool) → ends bits ≡ true → IsItems v may bits [] []
+items-none : (v : ℕ) (may : Bool) (bits : List Bool) → ends bits ≡ true → IsItems v may bits [] []
 unfolding items_stream AreItems
-items_none v may bits e = search (arith, All-nil)
+items-none v may bits e = search (arith, All-nil)
 
 -- an item and the items that are read after it are items together
-items_more : (v : ℕ) (may : Bool) (bits rest : List Bool) (i : Item) (is : List Item) (ys zs : List ℕ) → IsItem v may bits i ys rest → IsItems v (may_follow may i) rest is zs → IsItems v may bits (i ∷ is) (ys ++ zs)
+items-more : (v : ℕ) (may : Bool) (bits rest : List Bool) (i : Item) (is : List Item) (ys zs : List ℕ) → IsItem v may bits i ys rest → IsItems v (may_follow may i) rest is zs → IsItems v may bits (i ∷ is) (ys ++ zs)
 unfolding items_stream AreItems
-items_more v may bits rest (Data s) is ys zs one others =
+items-more v may bits rest (Data s) is ys zs one others =
     let front : take s.len (ys ++ zs) ≡ ys = rw one.long at (take-append_seam ys zs) in
     let back : drop s.len (ys ++ zs) ≡ zs = rw one.long at (drop-append_seam ys zs) in
     record {
@@ -184,35 +184,35 @@ items_more v may bits rest (Data s) is ys zs one others =
       whole = rw (front, back) (search (arith, append_assoc));
       end = others.end;
     }
-items_more v may bits rest (Eci d) is ys zs one others =
+items-more v may bits rest (Eci d) is ys zs one others =
     subst (λ (t : List ℕ). IsItems v may bits (Eci d ∷ is) (t ++ zs)) (sym one.1) (record { tail = others.tail; bytes = others.bytes; are = (one.0, others.are); whole = search (arith, append_assoc); end = others.end })
-items_more v may bits rest Fnc1First is ys zs one others =
+items-more v may bits rest Fnc1First is ys zs one others =
     subst (λ (t : List ℕ). IsItems v may bits (Fnc1First ∷ is) (t ++ zs)) (sym one.1) (record { tail = others.tail; bytes = others.bytes; are = (one.0, others.are); whole = search (arith, append_assoc); end = others.end })
-items_more v may bits rest (Fnc1Second a) is ys zs one others =
+items-more v may bits rest (Fnc1Second a) is ys zs one others =
     subst (λ (t : List ℕ). IsItems v may bits (Fnc1Second a ∷ is) (t ++ zs)) (sym one.2) (record { tail = others.tail; bytes = others.bytes; are = (one.0, one.1, others.are); whole = search (arith, append_assoc); end = others.end })
 
 -- if items are read from at most `n` bits, these bits are the stream of the items and then an end
-pub items_takes : (n v : ℕ) (may : Bool) (bits : List Bool) (r : List Item × List ℕ) → length bits ≤ n → items_at n v may bits ≡ Ok r → IsItems v may bits r.0 r.1
+pub items-takes : (n v : ℕ) (may : Bool) (bits : List Bool) (r : List Item × List ℕ) → length bits ≤ n → items_at n v may bits ≡ Ok r → IsItems v may bits r.0 r.1
 unfolding items_at
-items_takes zero v may bits r few h = search (arith, same_ok, items_none, ended_empty)
-items_takes (suc n) v may bits r few h = ⊎_elim (search (arith, same_ok, items_none)) (λ (e : ends bits ≡ false).
+items-takes zero v may bits r few h = search (arith, same-ok, items-none, ended-empty)
+items-takes (suc n) v may bits r few h = ⊎_elim (search (arith, same-ok, items-none)) (λ (e : ends bits ≡ false).
     let four = not_ended bits e in
-    let i = bind_ok (item_at v may bits) _ r (rw e at h) in
-    let q = bind_ok (items_at n v (may_follow may i.0.0) i.0.2) _ r i.2 in
-    let less = item_shorter v may bits i.0 four i.1 in
-    subst (λ (t : List Item × List ℕ). IsItems v may bits t.0 t.1) (same_ok _ _ q.2)
-    (items_more v may bits i.0.2 i.0.0 q.0.0 i.0.1 q.0.1 (item_takes v may bits i.0 four i.1) (items_takes n v (may_follow may i.0.0) i.0.2 q.0 (omega arith) q.1)))
+    let i = bind-ok (item_at v may bits) _ r (rw e at h) in
+    let q = bind-ok (items_at n v (may_follow may i.0.0) i.0.2) _ r i.2 in
+    let less = item-shorter v may bits i.0 four i.1 in
+    subst (λ (t : List Item × List ℕ). IsItems v may bits t.0 t.1) (same-ok _ _ q.2)
+    (items-more v may bits i.0.2 i.0.0 q.0.0 i.0.1 q.0.1 (item-takes v may bits i.0 four i.1) (items-takes n v (may_follow may i.0.0) i.0.2 q.0 (omega arith) q.1)))
     (cases_Bool (ends bits))
 
 -- the bits are a stream of these items, and then an end
 abbrev ItemsSay : ℕ → List Bool → List Item → List ℕ → Type 0
 ItemsSay v bits items xs = (tail : List Bool) × All (λ b. b < 256) xs × AreItems v true xs items × (bits ≡ items_stream v xs items ++ tail) × (ends tail ≡ true)
 
-pub items_said : (v : ℕ) (bits : List Bool) (items : List Item) (xs : List ℕ) → items_of v true bits ≡ Ok (items, xs) → ItemsSay v bits items xs
+pub items-said : (v : ℕ) (bits : List Bool) (items : List Item) (xs : List ℕ) → items_of v true bits ≡ Ok (items, xs) → ItemsSay v bits items xs
 unfolding items_of
-items_said v bits items xs h =
-    let is = items_takes (length bits) v true bits (items, xs) (omega arith) h in
+items-said v bits items xs h =
+    let is = items-takes (length bits) v true bits (items, xs) (omega arith) h in
     (is.tail, is.bytes, is.are, is.whole, is.end)
 
-pub items_read : (v : ℕ) (bits : List Bool) (items : List Item) (xs : List ℕ) → ItemsSay v bits items xs → items_of v true bits ≡ Ok (items, xs)
-items_read v bits items xs h = rw h.3 (items_again v true xs items h.0 h.1 h.2 h.4)
+pub items-read : (v : ℕ) (bits : List Bool) (items : List Item) (xs : List ℕ) → ItemsSay v bits items xs → items_of v true bits ≡ Ok (items, xs)
+items-read v bits items xs h = rw h.3 (items-again v true xs items h.0 h.1 h.2 h.4)

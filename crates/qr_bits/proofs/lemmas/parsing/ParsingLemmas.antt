@@ -9,38 +9,38 @@ use Rattle.qr_bits.specs.Parsing.{◌>>=◌, IsResultOf, mode_of, ends, leading_
 use borrow.Author.Tests.{leb-true}
 
 -- if two parsers in turn succeed, the first one succeeds, and the second one succeeds on its result
-pub bind_ok : {A B : Type 0} (r : Result A ParseFault) (f : A → Result B ParseFault) (y : B) → (r >>= f) ≡ Ok y → (x : A) × (r ≡ Ok x) × (f x ≡ Ok y)
-bind_ok r f y h = grind arith
+pub bind-ok : {A B : Type 0} (r : Result A ParseFault) (f : A → Result B ParseFault) (y : B) → (r >>= f) ≡ Ok y → (x : A) × (r ≡ Ok x) × (f x ≡ Ok y)
+bind-ok r f y h = grind arith
 
 -- if a parser after a test succeeds, the test was passed
-pub guard_ok : {A : Type 0} (b : Bool) (e : ParseFault) (r : Result A ParseFault) (y : A) → cond b (Err e) r ≡ Ok y → (b ≡ false) × (r ≡ Ok y)
-guard_ok b e r y h = grind arith
+pub guard-ok : {A : Type 0} (b : Bool) (e : ParseFault) (r : Result A ParseFault) (y : A) → cond b (Err e) r ≡ Ok y → (b ≡ false) × (r ≡ Ok y)
+guard-ok b e r y h = grind arith
 
-number_shorter : (w : ℕ) (bits : List Bool) (n : ℕ × List Bool) → leading_number w bits ≡ Ok n → length n.1 ≤ length bits
+number-shorter : (w : ℕ) (bits : List Bool) (n : ℕ × List Bool) → leading_number w bits ≡ Ok n → length n.1 ≤ length bits
 unfolding leading_number
-number_shorter w bits n h = search (arith, guard_ok, length-drop)
+number-shorter w bits n h = search (arith, guard-ok, length-drop)
 
-payload_shorter : (m : Mode) (n : ℕ) (bits : List Bool) (p : List ℕ × List Bool) → payload_at m n bits ≡ Ok p → length p.1 ≤ length bits
+payload-shorter : (m : Mode) (n : ℕ) (bits : List Bool) (p : List ℕ × List Bool) → payload_at m n bits ≡ Ok p → length p.1 ≤ length bits
 unfolding payload_at
-payload_shorter m n bits p h = search (arith, guard_ok, bind_ok, length-drop)
+payload-shorter m n bits p h = search (arith, guard-ok, bind-ok, length-drop)
 
 -- a result that is no fault
 abbrev pub ok : {A : Type 0} → A → Result A ParseFault
 ok a = Ok a
 
 -- results that are equal contain equal values
-pub same_ok : {A : Type 0} (a b : A) → ok a ≡ ok b → a ≡ b
-same_ok a b h = cc
+pub same-ok : {A : Type 0} (a b : A) → ok a ≡ ok b → a ≡ b
+same-ok a b h = cc
 
 -- a segment has at least the four bits of its indicator
-pub segment_shorter : (v : ℕ) (bits : List Bool) (s : Segment × List ℕ × List Bool) → 4 ≤ length bits → segment_at v bits ≡ Ok s → length s.2 + 4 ≤ length bits
+pub segment-shorter : (v : ℕ) (bits : List Bool) (s : Segment × List ℕ × List Bool) → 4 ≤ length bits → segment_at v bits ≡ Ok s → length s.2 + 4 ≤ length bits
 unfolding segment_at
-segment_shorter v bits s four h =
-    let m = bind_ok (mode_of (value (take 4 bits))) _ s h in
-    let n = bind_ok (leading_number (count_width v m.0) (drop 4 bits)) _ s m.2 in
-    let p = bind_ok (payload_at m.0 n.0.0 n.0.1) _ s n.2 in
-    let e : p.0.1 ≡ s.2 = search (arith, same_ok) in
-    omega (arith, number_shorter _ _ _ n.1, payload_shorter _ _ _ _ p.1, length-drop 4 bits, ap length e)
+segment-shorter v bits s four h =
+    let m = bind-ok (mode_of (value (take 4 bits))) _ s h in
+    let n = bind-ok (leading_number (count_width v m.0) (drop 4 bits)) _ s m.2 in
+    let p = bind-ok (payload_at m.0 n.0.0 n.0.1) _ s n.2 in
+    let e : p.0.1 ≡ s.2 = search (arith, same-ok) in
+    omega (arith, number-shorter _ _ _ n.1, payload-shorter _ _ _ _ p.1, length-drop 4 bits, ap length e)
 
 -- if the data does not end here, there are four bits
 pub not_ended : (bits : List Bool) → ends bits ≡ false → 4 ≤ length bits
@@ -48,62 +48,62 @@ unfolding ends
 not_ended bits h = search (arith, ltb-false, or_parts)
 
 -- an empty list of bits is an end
-pub ended_empty : (bits : List Bool) → length bits ≤ 0 → ends bits ≡ true
+pub ended-empty : (bits : List Bool) → length bits ≤ 0 → ends bits ≡ true
 unfolding ends
-ended_empty bits h = search (arith, or_left, lt-ltb)
+ended-empty bits h = search (arith, or_left, lt-ltb)
 
-short_shorter : (a : ℕ × List Bool) (number : ℕ → ℕ) (n : ℕ) (d : Designator × List Bool) → (leading_number 8 a.1 >>= λ b. Ok (record { number = number b.0; codewords = n }, b.1)) ≡ Ok d → length d.1 ≤ length a.1
-short_shorter a number n d h =
-    let b = bind_ok (leading_number 8 a.1) _ d h in
-    omega (arith, number_shorter _ _ _ b.1, ap (λ (t : Designator × List Bool). length t.1) (same_ok _ _ b.2))
+short-shorter : (a : ℕ × List Bool) (number : ℕ → ℕ) (n : ℕ) (d : Designator × List Bool) → (leading_number 8 a.1 >>= λ b. Ok (record { number = number b.0; codewords = n }, b.1)) ≡ Ok d → length d.1 ≤ length a.1
+short-shorter a number n d h =
+    let b = bind-ok (leading_number 8 a.1) _ d h in
+    omega (arith, number-shorter _ _ _ b.1, ap (λ (t : Designator × List Bool). length t.1) (same-ok _ _ b.2))
 
 -- reading a designator leaves no more bits than there were
-designator_shorter : (bits : List Bool) (d : Designator × List Bool) → designator_at bits ≡ Ok d → length d.1 ≤ length bits
+designator-shorter : (bits : List Bool) (d : Designator × List Bool) → designator_at bits ≡ Ok d → length d.1 ≤ length bits
 unfolding designator_at
-designator_shorter bits d h =
-    let a = bind_ok (leading_number 8 bits) _ d h in
-    let less = number_shorter 8 bits a.0 a.1 in
-    ⊎_elim (λ (e : nat_lt a.0.0 128 ≡ true). let k = rw e at a.2 in omega (arith, less, ap (λ (t : Designator × List Bool). length t.1) (same_ok _ _ k)))
+designator-shorter bits d h =
+    let a = bind-ok (leading_number 8 bits) _ d h in
+    let less = number-shorter 8 bits a.0 a.1 in
+    ⊎_elim (λ (e : nat_lt a.0.0 128 ≡ true). let k = rw e at a.2 in omega (arith, less, ap (λ (t : Designator × List Bool). length t.1) (same-ok _ _ k)))
     (λ (e : nat_lt a.0.0 128 ≡ false). let k = rw e at a.2 in
-    ⊎_elim (λ (f : nat_lt a.0.0 192 ≡ true). let m = rw f at k in omega (arith, less, short_shorter a.0 (λ n. 256 * (a.0.0 - 128) + n) 2 d m))
+    ⊎_elim (λ (f : nat_lt a.0.0 192 ≡ true). let m = rw f at k in omega (arith, less, short-shorter a.0 (λ n. 256 * (a.0.0 - 128) + n) 2 d m))
     (λ (f : nat_lt a.0.0 192 ≡ false). let m = rw f at k in
-    let g = guard_ok (nat_le 224 a.0.0) BadValue _ d m in
-    let b = bind_ok (leading_number 16 a.0.1) _ d g.1 in
-    let last = number_shorter 16 a.0.1 b.0 b.1 in
-    ⊎_elim (λ (o : nat_lt (65536 * (a.0.0 - 192) + b.0.0) 1000000 ≡ true). let p = rw o at b.2 in omega (arith, less, last, ap (λ (t : Designator × List Bool). length t.1) (same_ok _ _ p)))
+    let g = guard-ok (nat_le 224 a.0.0) BadValue _ d m in
+    let b = bind-ok (leading_number 16 a.0.1) _ d g.1 in
+    let last = number-shorter 16 a.0.1 b.0 b.1 in
+    ⊎_elim (λ (o : nat_lt (65536 * (a.0.0 - 192) + b.0.0) 1000000 ≡ true). let p = rw o at b.2 in omega (arith, less, last, ap (λ (t : Designator × List Bool). length t.1) (same-ok _ _ p)))
     (λ (o : nat_lt (65536 * (a.0.0 - 192) + b.0.0) 1000000 ≡ false). let p = rw o at b.2 in grind arith)
     (cases_Bool (nat_lt (65536 * (a.0.0 - 192) + b.0.0) 1000000)))
     (cases_Bool (nat_lt a.0.0 192)))
     (cases_Bool (nat_lt a.0.0 128))
 
 -- reading an application indicator leaves no more bits than there were
-application_shorter : (bits : List Bool) (a : ℕ × List Bool) → application_at bits ≡ Ok a → length a.1 ≤ length bits
+application-shorter : (bits : List Bool) (a : ℕ × List Bool) → application_at bits ≡ Ok a → length a.1 ≤ length bits
 unfolding application_at
-application_shorter bits a h =
-    let n = bind_ok (leading_number 8 bits) _ a h in
-    let less = number_shorter 8 bits n.0 n.1 in
-    ⊎_elim (λ (e : is_application_indicator n.0.0 ≡ true). let k = rw e at n.2 in omega (arith, less, ap (λ (t : ℕ × List Bool). length t.1) (same_ok _ _ k)))
+application-shorter bits a h =
+    let n = bind-ok (leading_number 8 bits) _ a h in
+    let less = number-shorter 8 bits n.0 n.1 in
+    ⊎_elim (λ (e : is_application_indicator n.0.0 ≡ true). let k = rw e at n.2 in omega (arith, less, ap (λ (t : ℕ × List Bool). length t.1) (same-ok _ _ k)))
     (λ (e : is_application_indicator n.0.0 ≡ false). let k = rw e at n.2 in grind arith)
     (cases_Bool (is_application_indicator n.0.0))
 
 -- an item has at least the four bits of its indicator
-pub item_shorter : (v : ℕ) (may : Bool) (bits : List Bool) (i : Item × List ℕ × List Bool) → 4 ≤ length bits → item_at v may bits ≡ Ok i → length i.2 + 4 ≤ length bits
+pub item-shorter : (v : ℕ) (may : Bool) (bits : List Bool) (i : Item × List ℕ × List Bool) → 4 ≤ length bits → item_at v may bits ≡ Ok i → length i.2 + 4 ≤ length bits
 unfolding item_at
-item_shorter v may bits i four h =
+item-shorter v may bits i four h =
     let rest = length-drop 4 bits in
     let n = value (take 4 bits) in
     ⊎_elim (λ (e : (n == 7) ≡ true). let k = rw e at h in
-    let d = bind_ok (designator_at (drop 4 bits)) _ i k in
-    omega (arith, rest, designator_shorter _ _ d.1, ap (λ (t : Item × List ℕ × List Bool). length t.2) (same_ok _ _ d.2)))
+    let d = bind-ok (designator_at (drop 4 bits)) _ i k in
+    omega (arith, rest, designator-shorter _ _ d.1, ap (λ (t : Item × List ℕ × List Bool). length t.2) (same-ok _ _ d.2)))
     (λ (e : (n == 7) ≡ false). let k = rw e at h in
-    ⊎_elim (λ (f : (may && n == 5) ≡ true). let m = rw f at k in omega (arith, rest, ap (λ (t : Item × List ℕ × List Bool). length t.2) (same_ok _ _ m)))
+    ⊎_elim (λ (f : (may && n == 5) ≡ true). let m = rw f at k in omega (arith, rest, ap (λ (t : Item × List ℕ × List Bool). length t.2) (same-ok _ _ m)))
     (λ (f : (may && n == 5) ≡ false). let m = rw f at k in
     ⊎_elim (λ (g : (may && n == 9) ≡ true). let o = rw g at m in
-    let a = bind_ok (application_at (drop 4 bits)) _ i o in
-    omega (arith, rest, application_shorter _ _ a.1, ap (λ (t : Item × List ℕ × List Bool). length t.2) (same_ok _ _ a.2)))
+    let a = bind-ok (application_at (drop 4 bits)) _ i o in
+    omega (arith, rest, application-shorter _ _ a.1, ap (λ (t : Item × List ℕ × List Bool). length t.2) (same-ok _ _ a.2)))
     (λ (g : (may && n == 9) ≡ false). let o = rw g at m in
-    let s = bind_ok (segment_at v bits) _ i o in
-    omega (arith, segment_shorter v bits s.0 four s.1, ap (λ (t : Item × List ℕ × List Bool). length t.2) (same_ok _ _ s.2)))
+    let s = bind-ok (segment_at v bits) _ i o in
+    omega (arith, segment-shorter v bits s.0 four s.1, ap (λ (t : Item × List ℕ × List Bool). length t.2) (same-ok _ _ s.2)))
     (cases_Bool (may && n == 9)))
     (cases_Bool (may && n == 5)))
     (cases_Bool (n == 7))
@@ -112,65 +112,65 @@ item_shorter v may bits i four h =
 abbrev pub step : Bool → Result (Item × List ℕ × List Bool) ParseFault → (Bool → List Bool → Result (List Item × List ℕ) ParseFault) → Result (List Item × List ℕ) ParseFault
 step may read next = read >>= λ i. next (may_follow may i.0) i.2 >>= λ r. Ok (i.0 ∷ r.0, i.1 ++ r.1)
 
-same_rest : (may : Bool) (read : Result (Item × List ℕ × List Bool) ParseFault) (n m v : ℕ)
+same-rest : (may : Bool) (read : Result (Item × List ℕ × List Bool) ParseFault) (n m v : ℕ)
     → ((i : Item × List ℕ × List Bool) → read ≡ Ok i → items_at n v (may_follow may i.0) i.2 ≡ items_at m v (may_follow may i.0) i.2)
     → step may read (items_at n v) ≡ step may read (items_at m v)
-same_rest may read n m v h = grind arith
+same-rest may read n m v h = grind arith
 
 -- two bounds on the number of items give the same result if both are at least the number of bits
 enough : (n m v : ℕ) (may : Bool) (bits : List Bool) → length bits ≤ n → length bits ≤ m → items_at n v may bits ≡ items_at m v may bits
 unfolding items_at
 enough zero zero v may bits h k = refl
-enough zero (suc m) v may bits h k = rw (ended_empty bits h) refl
-enough (suc n) zero v may bits h k = rw (ended_empty bits k) refl
+enough zero (suc m) v may bits h k = rw (ended-empty bits h) refl
+enough (suc n) zero v may bits h k = rw (ended-empty bits k) refl
 enough (suc n) (suc m) v may bits h k = ⊎_elim (λ (e : ends bits ≡ true). rw e refl)
-    (λ (e : ends bits ≡ false). rw e (same_rest may (item_at v may bits) n m v
-    (λ i q. enough n m v (may_follow may i.0) i.2 (omega (arith, item_shorter v may bits i (not_ended bits e) q)) (omega (arith, item_shorter v may bits i (not_ended bits e) q)))))
+    (λ (e : ends bits ≡ false). rw e (same-rest may (item_at v may bits) n m v
+    (λ i q. enough n m v (may_follow may i.0) i.2 (omega (arith, item-shorter v may bits i (not_ended bits e) q)) (omega (arith, item-shorter v may bits i (not_ended bits e) q)))))
     (cases_Bool (ends bits))
 
 -- at an end no item is read
-pub items_end : (v : ℕ) (may : Bool) (bits : List Bool) → ends bits ≡ true → items_of v may bits ≡ Ok ([], [])
+pub items-end : (v : ℕ) (may : Bool) (bits : List Bool) → ends bits ≡ true → items_of v may bits ≡ Ok ([], [])
 unfolding items_of items_at
-items_end v may bits h = search (arith, enough)
+items-end v may bits h = search (arith, enough)
 
 -- if the data does not end here, an item is read and then the rest
-pub items_step : (v : ℕ) (may : Bool) (bits : List Bool) → ends bits ≡ false
+pub items-step : (v : ℕ) (may : Bool) (bits : List Bool) → ends bits ≡ false
     → items_of v may bits ≡ step may (item_at v may bits) (items_of v)
 unfolding items_of items_at
-items_step v may bits h = grind (arith, enough, item_shorter, not_ended)
+items-step v may bits h = grind (arith, enough, item-shorter, not_ended)
 
 -- the result for the rest, with the items and bytes that were read before it
 abbrev pub behind : List Item → List ℕ → Result (List Item × List ℕ) ParseFault → Result (List Item × List ℕ) ParseFault
 behind items xs read = read >>= λ r. Ok (items ++ r.0, xs ++ r.1)
 
-pub behind_none : (read : Result (List Item × List ℕ) ParseFault) → behind [] [] read ≡ read
-behind_none (Ok r) = refl
-behind_none (Err e) = refl
+pub behind-none : (read : Result (List Item × List ℕ) ParseFault) → behind [] [] read ≡ read
+behind-none (Ok r) = refl
+behind-none (Err e) = refl
 
 -- one more item is read
-pub behind_more : (v : ℕ) (may : Bool) (bits rest : List Bool) (items : List Item) (xs ys : List ℕ) (i : Item) → ends bits ≡ false → item_at v may bits ≡ Ok (i, ys, rest)
+pub behind-more : (v : ℕ) (may : Bool) (bits rest : List Bool) (items : List Item) (xs ys : List ℕ) (i : Item) → ends bits ≡ false → item_at v may bits ≡ Ok (i, ys, rest)
     → behind items xs (items_of v may bits) ≡ behind (items ++ i ∷ []) (xs ++ ys) (items_of v (may_follow may i) rest)
-behind_more v may bits rest items xs ys i e h = rw (items_step v may bits e, h) (grind (arith, append_assoc))
+behind-more v may bits rest items xs ys i e h = rw (items-step v may bits e, h) (grind (arith, append_assoc))
 
 -- a fault of the next item is the fault of the whole parse
-pub fault_all : (v : ℕ) (may : Bool) (bits start : List Bool) (items : List Item) (xs : List ℕ) (f : ParseFault) → ends bits ≡ false → IsFaultOf f (item_at v may bits)
+pub fault-all : (v : ℕ) (may : Bool) (bits start : List Bool) (items : List Item) (xs : List ℕ) (f : ParseFault) → ends bits ≡ false → IsFaultOf f (item_at v may bits)
     → behind items xs (items_of v may bits) ≡ items_of v true start → IsFaultOf f (items_of v true start)
-fault_all v may bits start items xs f e h i = grind (arith, items_step v may bits e)
+fault-all v may bits start items xs f e h i = grind (arith, items-step v may bits e)
 
 -- a returned fault other than `Memory` is the fault of the definition
 pub fault-read : {A : Type 0} (e : ParseFault) (read : Result A ParseFault) → (e ≡ Memory → ⊥) → IsResultOf (Err e) read → read ≡ Err e
 fault-read e read other h = grind arith
 
 -- at an end of the data, all items are read
-pub end_all : (v : ℕ) (may : Bool) (bits start : List Bool) (items : List Item) (xs : List ℕ) → ends bits ≡ true
+pub end-all : (v : ℕ) (may : Bool) (bits start : List Bool) (items : List Item) (xs : List ℕ) → ends bits ≡ true
     → behind items xs (items_of v may bits) ≡ items_of v true start → items_of v true start ≡ Ok (items, xs)
-end_all v may bits start items xs e i = search (arith, items_end, append-nil)
+end-all v may bits start items xs e i = search (arith, items-end, append-nil)
 
 -- a header whose bits are all there
-pub header_whole : (bits : List Bool) → 16 ≤ length bits
+pub header-whole : (bits : List Bool) → 16 ≤ length bits
     → header_at bits ≡ Ok (record { position = value (take 4 bits); last = value (take 4 (drop 4 bits)); parity = value (take 8 (drop 8 bits)) }, drop 16 bits)
 unfolding header_at
-header_whole bits h = rw (le-ltb (length bits) 16 h) refl
+header-whole bits h = rw (le-ltb (length bits) 16 h) refl
 
 -- the four bits of a header's indicator are there
 pub begun : (bits : List Bool) → begins_header bits ≡ true → 4 ≤ length bits

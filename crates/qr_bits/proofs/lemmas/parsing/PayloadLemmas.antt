@@ -5,23 +5,23 @@ use Rattle.{std.proofs.Math.Nat.pow-le-pow_right, qr_bits.specs.declared.modes.M
 use Rattle.qr_bits.specs.declared.fault.ParseFault.{ParseFault, TheVariants.BadValue}
 use Rattle.qr_bits.specs.{Bits.value, Modes.payload_bits, Steps.Parsing.IsFaultOf, Steps.Parsing.prepend_read}
 use Rattle.qr_bits.specs.Parsing.{◌>>=◌, digit, digits_of, character, characters_of}
-use Rattle.qr_bits.proofs.lemmas.{bits.BitLemmas.value_below, stream.WritingLemmas.three_more}
+use Rattle.qr_bits.proofs.lemmas.{bits.BitLemmas.value-below, stream.WritingLemmas.three-more}
 
 -- bits make a number below the power of their width
-pub value_take_below : (w : ℕ) (bs : List Bool) → value (take w bs) < 2 ^ w
-value_take_below w bs = search (arith, length-take, value_below, pow-le-pow_right)
+pub value-take-below : (w : ℕ) (bs : List Bool) → value (take w bs) < 2 ^ w
+value-take-below w bs = search (arith, length-take, value-below, pow-le-pow_right)
 
 -- three digits, and the digits after them; or a number that is too large
-pub digits_step : (n m : ℕ) (bs : List Bool) → n ≡ suc (suc (suc m)) → let g = value (take 10 bs) in (10 + payload_bits Numeric m ≡ payload_bits Numeric n)
+pub digits-step : (n m : ℕ) (bs : List Bool) → n ≡ suc (suc (suc m)) → let g = value (take 10 bs) in (10 + payload_bits Numeric m ≡ payload_bits Numeric n)
     × (g < 1000 → digits_of n bs ≡ (digits_of m (drop 10 bs) >>= λ xs. Ok (digit (g / 100) ∷ digit (g / 10) ∷ digit g ∷ xs))) × (1000 ≤ g → digits_of n bs ≡ Err BadValue)
 unfolding digits_of
-digits_step n m bs h = (rw h (search (arith, three_more)), λ l. rw (h, lt-ltb _ 1000 l) refl, λ l. rw (h, le-ltb _ 1000 l) refl)
+digits-step n m bs h = (rw h (search (arith, three-more)), λ l. rw (h, lt-ltb _ 1000 l) refl, λ l. rw (h, le-ltb _ 1000 l) refl)
 
 -- two characters, and the characters after them; or a number that is too large
-pub characters_step : (n m : ℕ) (bs : List Bool) → n ≡ suc (suc m) → let g = value (take 11 bs) in (11 + payload_bits Alphanumeric m ≡ payload_bits Alphanumeric n)
+pub characters-step : (n m : ℕ) (bs : List Bool) → n ≡ suc (suc m) → let g = value (take 11 bs) in (11 + payload_bits Alphanumeric m ≡ payload_bits Alphanumeric n)
     × (g < 2025 → characters_of n bs ≡ (characters_of m (drop 11 bs) >>= λ xs. Ok (character (g / 45) ∷ character (g % 45) ∷ xs))) × (2025 ≤ g → characters_of n bs ≡ Err BadValue)
 unfolding characters_of
-characters_step n m bs h = (omega (arith, h), λ l. rw (h, lt-ltb _ 2025 l) refl, λ l. rw (h, le-ltb _ 2025 l) refl)
+characters-step n m bs h = (omega (arith, h), λ l. rw (h, lt-ltb _ 2025 l) refl, λ l. rw (h, le-ltb _ 2025 l) refl)
 
 -- what was read before, and what `read` reads from the first w bits, make the whole
 pub record IsReading (read : Result (List ℕ) ParseFault) (w : ℕ) (out : List ℕ) (bits : List Bool) (whole : Result (List ℕ) ParseFault) (end : List Bool) : Type 0 where
@@ -29,15 +29,15 @@ pub record IsReading (read : Result (List ℕ) ParseFault) (w : ℕ) (out : List
   pub there : w ≤ length bits
   pub rest : drop w bits ≡ end
 
-after_group : (out new group : List ℕ) (later read : Result (List ℕ) ParseFault) → new ≡ out ++ group → read ≡ (later >>= λ xs. Ok (group ++ xs)) → prepend_read new later ≡ prepend_read out read
-after_group out new group (Ok xs) read o e = rw (o, e) (ap (λ (ys : List ℕ). Ok ys) (append_assoc out group xs))
-after_group out new group (Err f) read o e = rw e refl
+after-group : (out new group : List ℕ) (later read : Result (List ℕ) ParseFault) → new ≡ out ++ group → read ≡ (later >>= λ xs. Ok (group ++ xs)) → prepend_read new later ≡ prepend_read out read
+after-group out new group (Ok xs) read o e = rw (o, e) (ap (λ (ys : List ℕ). Ok ys) (append_assoc out group xs))
+after-group out new group (Err f) read o e = rw e refl
 
 -- a group of k bits is read
-pub group_read : {w m : ℕ} {out new : List ℕ} {bits rest end : List Bool} {read later whole : Result (List ℕ) ParseFault} (k : ℕ) (group : List ℕ) → IsReading read m out bits whole end
+pub group-read : {w m : ℕ} {out new : List ℕ} {bits rest end : List Bool} {read later whole : Result (List ℕ) ParseFault} (k : ℕ) (group : List ℕ) → IsReading read m out bits whole end
     → k + w ≡ m → rest ≡ drop k bits → new ≡ out ++ group → read ≡ (later >>= λ xs. Ok (group ++ xs)) → IsReading later w new rest whole end
-group_read {w = w} {bits = bits} k group h e r o f = record {
-  reads = after_group _ _ group _ _ o f ∙ h.reads;
+group-read {w = w} {bits = bits} k group h e r o f = record {
+  reads = after-group _ _ group _ _ o f ∙ h.reads;
   there = omega (arith, e, h.there, ap length r, length-drop k bits);
   rest = ap (drop w) r ∙ drop-drop w k bits ∙ ap (λ (i : ℕ). drop i bits) e ∙ h.rest;
 }

@@ -13,62 +13,62 @@ use Rattle.qr_bits.specs.Interpretation.{plain, may_follow, meant_bytes, designa
 use Rattle.qr_bits.specs.Modes.{character_count, count_width, byte_count, payload_bits, suits, indicator}
 use Rattle.qr_bits.specs.Stream.{payload, segment_stream, segments_stream, Suits, CountsFit, IsStream}
 use Rattle.qr_bits.specs.Parsing.{values_of, mode_of, ends, leading_number, payload_at, segment_at, designator_at, item_at, items_at, items_of, begins_header, header_at, first_header, content_of, plain_content, parse}
-use Rattle.qr_bits.proofs.lemmas.{bits.BitLemmas.length-field, parsing.PayloadLemmas.value_take_below}
-use Rattle.qr_bits.proofs.lemmas.interpretation.MeaningLemmas.{meant-plain, plain_meant}
-use Rattle.qr_bits.proofs.lemmas.parsing.ParsingLemmas.{bind_ok, guard_ok, same_ok, not_ended, ended_empty, item_shorter, items_end, items_step, header_whole}
-use Rattle.qr_bits.proofs.lemmas.stream.StreamLemmas.{IsWritten, drop-field, read_field, field_read}
-use Rattle.qr_bits.proofs.lemmas.parsing.ValueLemmas.{values_again, values_takes}
+use Rattle.qr_bits.proofs.lemmas.{bits.BitLemmas.length-field, parsing.PayloadLemmas.value-take-below}
+use Rattle.qr_bits.proofs.lemmas.interpretation.MeaningLemmas.{meant-plain, plain-meant}
+use Rattle.qr_bits.proofs.lemmas.parsing.ParsingLemmas.{bind-ok, guard-ok, same-ok, not_ended, ended-empty, item-shorter, items-end, items-step, header-whole}
+use Rattle.qr_bits.proofs.lemmas.stream.StreamLemmas.{IsWritten, drop-field, read-field, field-read}
+use Rattle.qr_bits.proofs.lemmas.parsing.ValueLemmas.{values-again, values-takes}
 use Rattle.qr_bits.proofs.lemmas.stream.WritingLemmas.{in_twos-even, length-payload}
 
-pub number_again : (w n : ℕ) (rest : List Bool) → n < 2 ^ w → leading_number w (field w n ++ rest) ≡ Ok (n, rest)
+pub number-again : (w n : ℕ) (rest : List Bool) → n < 2 ^ w → leading_number w (field w n ++ rest) ≡ Ok (n, rest)
 unfolding leading_number
-number_again w n rest h = search (arith, length-append, length-field, le-ltb, read_field, drop-field)
+number-again w n rest h = search (arith, length-append, length-field, le-ltb, read-field, drop-field)
 
-pub number_takes : (w : ℕ) (bits : List Bool) (n : ℕ × List Bool) → leading_number w bits ≡ Ok n → (n.0 < 2 ^ w) × (bits ≡ field w n.0 ++ n.1)
+pub number-takes : (w : ℕ) (bits : List Bool) (n : ℕ × List Bool) → leading_number w bits ≡ Ok n → (n.0 < 2 ^ w) × (bits ≡ field w n.0 ++ n.1)
 unfolding leading_number
-number_takes w bits n h = search (arith, guard_ok, same_ok, value_take_below, field_read, ltb-false, take-append-drop)
+number-takes w bits n h = search (arith, guard-ok, same-ok, value-take-below, field-read, ltb-false, take-append-drop)
 
-len_again : (m : Mode) (xs : List ℕ) → suits m xs ≡ true → byte_count m (character_count m (length xs)) ≡ length xs
-len_again m xs h = grind (arith, in_twos-even)
+len-again : (m : Mode) (xs : List ℕ) → suits m xs ≡ true → byte_count m (character_count m (length xs)) ≡ length xs
+len-again m xs h = grind (arith, in_twos-even)
 
-payload_again : (m : Mode) (xs : List ℕ) (rest : List Bool) → All (λ b. b < 256) xs → suits m xs ≡ true → payload_at m (character_count m (length xs)) (payload m xs ++ rest) ≡ Ok (xs, rest)
+payload-again : (m : Mode) (xs : List ℕ) (rest : List Bool) → All (λ b. b < 256) xs → suits m xs ≡ true → payload_at m (character_count m (length xs)) (payload m xs ++ rest) ≡ Ok (xs, rest)
 unfolding payload_at
-payload_again m xs rest bytes h =
-    search (arith, len_again, length-payload, length-append, drop-append_seam, le-ltb, values_again)
+payload-again m xs rest bytes h =
+    search (arith, len-again, length-payload, length-append, drop-append_seam, le-ltb, values-again)
 
 -- if the data of a segment are read, they are written as the same bits
-payload_takes : (m : Mode) (n : ℕ) (bits : List Bool) (p : List ℕ × List Bool) → payload_at m n bits ≡ Ok p → IsWritten m n bits p.0 × (p.1 ≡ drop (payload_bits m (byte_count m n)) bits)
+payload-takes : (m : Mode) (n : ℕ) (bits : List Bool) (p : List ℕ × List Bool) → payload_at m n bits ≡ Ok p → IsWritten m n bits p.0 × (p.1 ≡ drop (payload_bits m (byte_count m n)) bits)
 unfolding payload_at
-payload_takes m n bits p h =
-    let g = guard_ok _ _ _ p h in
-    let b = bind_ok (values_of m n bits) _ p g.1 in
+payload-takes m n bits p h =
+    let g = guard-ok _ _ _ p h in
+    let b = bind-ok (values_of m n bits) _ p g.1 in
     let P : List ℕ × List Bool → Type 0 = λ t. IsWritten m n bits t.0 × (t.1 ≡ drop (payload_bits m (byte_count m n)) bits) in
-    subst P (same_ok (b.0, drop (payload_bits m (byte_count m n)) bits) p b.2) (values_takes m n b.0 bits (ltb-false _ _ g.0) b.1, refl)
+    subst P (same-ok (b.0, drop (payload_bits m (byte_count m n)) bits) p b.2) (values-takes m n b.0 bits (ltb-false _ _ g.0) b.1, refl)
 
-mode_again : (m : Mode) → mode_of (indicator m) ≡ Ok m
+mode-again : (m : Mode) → mode_of (indicator m) ≡ Ok m
 unfolding mode_of
-mode_again m = grind arith
+mode-again m = grind arith
 
-mode_takes : (n : ℕ) (m : Mode) → mode_of n ≡ Ok m → n ≡ indicator m
+mode-takes : (n : ℕ) (m : Mode) → mode_of n ≡ Ok m → n ≡ indicator m
 unfolding mode_of
-mode_takes n m h = grind (arith, eqb-true, same_ok)
+mode-takes n m h = grind (arith, eqb-true, same-ok)
 
-indicator_most : (m : Mode) → indicator m < 2 ^ 4
-indicator_most m = grind arith
+indicator-most : (m : Mode) → indicator m < 2 ^ 4
+indicator-most m = grind arith
 
 -- the stream of a segment begins with its mode indicator, of four bits
-first_four : (v : ℕ) (m : Mode) (xs : List ℕ) (rest : List Bool) → (value (take 4 (segment_stream v m xs ++ rest)) ≡ indicator m) × (4 ≤ length (segment_stream v m xs ++ rest))
+first-four : (v : ℕ) (m : Mode) (xs : List ℕ) (rest : List Bool) → (value (take 4 (segment_stream v m xs ++ rest)) ≡ indicator m) × (4 ≤ length (segment_stream v m xs ++ rest))
 unfolding segment_stream
-first_four v m xs rest =
+first-four v m xs rest =
     let behind = field (count_width v m) (character_count m (length xs)) ++ payload m xs in
     rw (append_assoc (field 4 (indicator m)) behind rest)
-    (read_field 4 (indicator m) (behind ++ rest) (indicator_most m), omega (arith, length-append (field 4 (indicator m)) (behind ++ rest), length-field 4 (indicator m)))
+    (read-field 4 (indicator m) (behind ++ rest) (indicator-most m), omega (arith, length-append (field 4 (indicator m)) (behind ++ rest), length-field 4 (indicator m)))
 
-segment_again : (v : ℕ) (m : Mode) (xs : List ℕ) (rest : List Bool) → All (λ b. b < 256) xs → suits m xs ≡ true → character_count m (length xs) < 2 ^ count_width v m
+segment-again : (v : ℕ) (m : Mode) (xs : List ℕ) (rest : List Bool) → All (λ b. b < 256) xs → suits m xs ≡ true → character_count m (length xs) < 2 ^ count_width v m
     → segment_at v (segment_stream v m xs ++ rest) ≡ Ok (record { mode = m; len = length xs }, xs, rest)
 unfolding segment_at segment_stream
-segment_again v m xs rest bytes suited fits =
-    search (arith, append_assoc, read_field, indicator_most, mode_again, drop-field, number_again, payload_again, len_again)
+segment-again v m xs rest bytes suited fits =
+    search (arith, append_assoc, read-field, indicator-most, mode-again, drop-field, number-again, payload-again, len-again)
 
 -- a segment that was read is the stream of these bytes, with the rest after it
 pub record IsSegment (v : ℕ) (bits : List Bool) (s : Segment) (xs : List ℕ) (rest : List Bool) : Type 0 where
@@ -79,55 +79,55 @@ pub record IsSegment (v : ℕ) (bits : List Bool) (s : Segment) (xs : List ℕ) 
   pub whole : bits ≡ segment_stream v s.mode xs ++ rest
 
 -- if the indicators and the data of a segment were read, the segment was read
-segment_from : (v : ℕ) (m : Mode) (bits : List Bool) (n : ℕ × List Bool) (p : List ℕ × List Bool) → 4 ≤ length bits → value (take 4 bits) ≡ indicator m
+segment-from : (v : ℕ) (m : Mode) (bits : List Bool) (n : ℕ × List Bool) (p : List ℕ × List Bool) → 4 ≤ length bits → value (take 4 bits) ≡ indicator m
     → (n.0 < 2 ^ count_width v m) × (drop 4 bits ≡ field (count_width v m) n.0 ++ n.1) → IsWritten m n.0 n.1 p.0 × (p.1 ≡ drop (payload_bits m (byte_count m n.0)) n.1)
     → IsSegment v bits (record { mode = m; len = byte_count m n.0 }) p.0 p.1
 unfolding segment_stream
-segment_from v m bits n p four e number said =
+segment-from v m bits n p four e number said =
     let w = said.0 in
     let count = field (count_width v m) n.0 in
     let b : n.1 ≡ payload m p.0 ++ p.1 = cc in
     let tail : drop 4 bits ≡ count ++ (payload m p.0 ++ p.1) = number.1 ∙ ap (λ (t : List Bool). count ++ t) b in
-    let head : take 4 bits ≡ field 4 (indicator m) = sym (field_read 4 bits four) ∙ ap (field 4) e in
+    let head : take 4 bits ≡ field 4 (indicator m) = sym (field-read 4 bits four) ∙ ap (field 4) e in
     grind (arith, append_assoc, take-append-drop)
 
 -- if a segment is read, its stream comes first in the bits that were read
-pub segment_takes : (v : ℕ) (bits : List Bool) (s : Segment × List ℕ × List Bool) → 4 ≤ length bits → segment_at v bits ≡ Ok s → IsSegment v bits s.0 s.1 s.2
+pub segment-takes : (v : ℕ) (bits : List Bool) (s : Segment × List ℕ × List Bool) → 4 ≤ length bits → segment_at v bits ≡ Ok s → IsSegment v bits s.0 s.1 s.2
 unfolding segment_at segment_stream
-segment_takes v bits s four h =
-    let m = bind_ok (mode_of (value (take 4 bits))) _ s h in
-    let n = bind_ok (leading_number (count_width v m.0) (drop 4 bits)) _ s m.2 in
-    let p = bind_ok (payload_at m.0 n.0.0 n.0.1) _ s n.2 in
-    subst (λ (t : Segment × List ℕ × List Bool). IsSegment v bits t.0 t.1 t.2) (same_ok _ _ p.2)
-    (segment_from v m.0 bits n.0 p.0 four (mode_takes _ _ m.1) (number_takes _ _ _ n.1) (payload_takes _ _ _ _ p.1))
+segment-takes v bits s four h =
+    let m = bind-ok (mode_of (value (take 4 bits))) _ s h in
+    let n = bind-ok (leading_number (count_width v m.0) (drop 4 bits)) _ s m.2 in
+    let p = bind-ok (payload_at m.0 n.0.0 n.0.1) _ s n.2 in
+    subst (λ (t : Segment × List ℕ × List Bool). IsSegment v bits t.0 t.1 t.2) (same-ok _ _ p.2)
+    (segment-from v m.0 bits n.0 p.0 four (mode-takes _ _ m.1) (number-takes _ _ _ n.1) (payload-takes _ _ _ _ p.1))
 
 pub opens : (v : ℕ) (m : Mode) (xs : List ℕ) (rest : List Bool) → ends (segment_stream v m xs ++ rest) ≡ false
 unfolding ends
-opens v m xs rest = grind (arith, first_four, le-ltb)
+opens v m xs rest = grind (arith, first-four, le-ltb)
 
 -- the indicator of a mode is that of no other item
-item_segment : (v : ℕ) (may : Bool) (bits : List Bool) (s : Segment × List ℕ × List Bool) → segment_at v bits ≡ Ok s → item_at v may bits ≡ Ok (Data s.0, s.1, s.2)
+item-segment : (v : ℕ) (may : Bool) (bits : List Bool) (s : Segment × List ℕ × List Bool) → segment_at v bits ≡ Ok s → item_at v may bits ≡ Ok (Data s.0, s.1, s.2)
 unfolding item_at segment_at mode_of
-item_segment v may bits s h = grind (arith, eqb-true)
+item-segment v may bits s h = grind (arith, eqb-true)
 
-item_is_segment : (v : ℕ) (may : Bool) (bits rest : List Bool) (s : Segment) (xs : List ℕ) → item_at v may bits ≡ Ok (Data s, xs, rest) → segment_at v bits ≡ Ok (s, xs, rest)
+item-is-segment : (v : ℕ) (may : Bool) (bits rest : List Bool) (s : Segment) (xs : List ℕ) → item_at v may bits ≡ Ok (Data s, xs, rest) → segment_at v bits ≡ Ok (s, xs, rest)
 unfolding item_at
-item_is_segment v may bits rest s xs h = grind arith
+item-is-segment v may bits rest s xs h = grind arith
 
-pub item_again : (v : ℕ) (may : Bool) (m : Mode) (xs : List ℕ) (rest : List Bool) → All (λ b. b < 256) xs → suits m xs ≡ true → character_count m (length xs) < 2 ^ count_width v m
+pub item-again : (v : ℕ) (may : Bool) (m : Mode) (xs : List ℕ) (rest : List Bool) → All (λ b. b < 256) xs → suits m xs ≡ true → character_count m (length xs) < 2 ^ count_width v m
     → item_at v may (segment_stream v m xs ++ rest) ≡ Ok (Data (record { mode = m; len = length xs }), xs, rest)
-item_again v may m xs rest bytes suited fits = item_segment v may _ _ (segment_again v m xs rest bytes suited fits)
+item-again v may m xs rest bytes suited fits = item-segment v may _ _ (segment-again v m xs rest bytes suited fits)
 
 -- the stream of segments and an end after it are read as these segments
-segments_again : (v : ℕ) (may : Bool) (xs : List ℕ) (segs : List Segment) (tail : List Bool) → All (λ b. b < 256) xs → Suits xs segs → CountsFit v segs → ends tail ≡ true
+segments-again : (v : ℕ) (may : Bool) (xs : List ℕ) (segs : List Segment) (tail : List Bool) → All (λ b. b < 256) xs → Suits xs segs → CountsFit v segs → ends tail ≡ true
     → items_of v may (segments_stream v xs segs ++ tail) ≡ Ok (plain segs, xs)
 unfolding segments_stream Suits CountsFit
-segments_again v may xs [] tail bytes suit fits end = cc (items_end v may tail end)
-segments_again v may xs (s ∷ ss) tail bytes suit fits end =
+segments-again v may xs [] tail bytes suit fits end = cc (items-end v may tail end)
+segments-again v may xs (s ∷ ss) tail bytes suit fits end =
     let part = take s.len xs in
     let len : length part ≡ s.len = length-take-le s.len xs suit.0 in
     let halves : All (λ b. b < 256) part × All (λ b. b < 256) (drop s.len xs) = search (arith, All-take, All-drop) in
-    search (arith, append_assoc, item_again, items_step, opens, take-append-drop, segments_again v false (drop s.len xs) ss tail halves.1 suit.2 fits.1 end)
+    search (arith, append_assoc, item-again, items-step, opens, take-append-drop, segments-again v false (drop s.len xs) ss tail halves.1 suit.2 fits.1 end)
 
 -- segments that were read are their stream, and then an end
 pub record IsSegments (v : ℕ) (bits : List Bool) (segs : List Segment) (xs : List ℕ) : Type 0 where
@@ -138,14 +138,14 @@ pub record IsSegments (v : ℕ) (bits : List Bool) (segs : List Segment) (xs : L
   pub whole : bits ≡ segments_stream v xs segs ++ tail
   pub end : ends tail ≡ true
 
-segments_none : (v : ℕ) (bits : List Bool) → ends bits ≡ true → IsSegments v bits [] []
+segments-none : (v : ℕ) (bits : List Bool) → ends bits ≡ true → IsSegments v bits [] []
 unfolding segments_stream Suits CountsFit
-segments_none v bits e = search (arith, All-nil)
+segments-none v bits e = search (arith, All-nil)
 
 -- a segment and the segments that are read after it are segments together
-segments_more : (v : ℕ) (bits rest : List Bool) (s : Segment) (ss : List Segment) (ys zs : List ℕ) → IsSegment v bits s ys rest → IsSegments v rest ss zs → IsSegments v bits (s ∷ ss) (ys ++ zs)
+segments-more : (v : ℕ) (bits rest : List Bool) (s : Segment) (ss : List Segment) (ys zs : List ℕ) → IsSegment v bits s ys rest → IsSegments v rest ss zs → IsSegments v bits (s ∷ ss) (ys ++ zs)
 unfolding segments_stream Suits CountsFit
-segments_more v bits rest s ss ys zs one others =
+segments-more v bits rest s ss ys zs one others =
     let front : take s.len (ys ++ zs) ≡ ys = rw one.long at (take-append_seam ys zs) in
     let back : drop s.len (ys ++ zs) ≡ zs = rw one.long at (drop-append_seam ys zs) in
     record {
@@ -158,33 +158,33 @@ segments_more v bits rest s ss ys zs one others =
     }
 
 -- if segments alone are read from at most `n` bits, these bits are their stream and then an end
-segments_takes : (n v : ℕ) (may : Bool) (bits : List Bool) (segs : List Segment) (xs : List ℕ) → length bits ≤ n → items_at n v may bits ≡ Ok (plain segs, xs) → IsSegments v bits segs xs
+segments-takes : (n v : ℕ) (may : Bool) (bits : List Bool) (segs : List Segment) (xs : List ℕ) → length bits ≤ n → items_at n v may bits ≡ Ok (plain segs, xs) → IsSegments v bits segs xs
 unfolding items_at
-segments_takes zero v may bits [] xs few h = search (arith, same_ok, segments_none, ended_empty)
-segments_takes zero v may bits (s ∷ ss) xs few h = grind arith
-segments_takes (suc n) v may bits [] xs few h = ⊎_elim (search (arith, same_ok, segments_none)) (λ (e : ends bits ≡ false).
-    let i = bind_ok (item_at v may bits) _ (plain [], xs) (rw e at h) in
-    let q = bind_ok (items_at n v (may_follow may i.0.0) i.0.2) _ (plain [], xs) i.2 in
+segments-takes zero v may bits [] xs few h = search (arith, same-ok, segments-none, ended-empty)
+segments-takes zero v may bits (s ∷ ss) xs few h = grind arith
+segments-takes (suc n) v may bits [] xs few h = ⊎_elim (search (arith, same-ok, segments-none)) (λ (e : ends bits ≡ false).
+    let i = bind-ok (item_at v may bits) _ (plain [], xs) (rw e at h) in
+    let q = bind-ok (items_at n v (may_follow may i.0.0) i.0.2) _ (plain [], xs) i.2 in
     grind arith)
     (cases_Bool (ends bits))
-segments_takes (suc n) v may bits (s ∷ ss) xs few h = ⊎_elim (λ (e : ends bits ≡ true). let k = rw e at h in grind arith) (λ (e : ends bits ≡ false).
+segments-takes (suc n) v may bits (s ∷ ss) xs few h = ⊎_elim (λ (e : ends bits ≡ true). let k = rw e at h in grind arith) (λ (e : ends bits ≡ false).
     let four = not_ended bits e in
-    let i = bind_ok (item_at v may bits) _ (plain (s ∷ ss), xs) (rw e at h) in
-    let q = bind_ok (items_at n v (may_follow may i.0.0) i.0.2) _ (plain (s ∷ ss), xs) i.2 in
-    let less = item_shorter v may bits i.0 four i.1 in
+    let i = bind-ok (item_at v may bits) _ (plain (s ∷ ss), xs) (rw e at h) in
+    let q = bind-ok (items_at n v (may_follow may i.0.0) i.0.2) _ (plain (s ∷ ss), xs) i.2 in
+    let less = item-shorter v may bits i.0 four i.1 in
     let first : i.0.0 ≡ Data s = grind arith in
     let rest : q.0.0 ≡ plain ss = grind arith in
     let all : i.0.1 ++ q.0.1 ≡ xs = grind arith in
-    let segment : segment_at v bits ≡ Ok (s, i.0.1, i.0.2) = search (arith, item_is_segment) in
+    let segment : segment_at v bits ≡ Ok (s, i.0.1, i.0.2) = search (arith, item-is-segment) in
     subst (λ (t : List ℕ). IsSegments v bits (s ∷ ss) t) all
-    (segments_more v bits i.0.2 s ss i.0.1 q.0.1 (segment_takes v bits (s, i.0.1, i.0.2) four segment) (segments_takes n v (may_follow may i.0.0) i.0.2 ss q.0.1 (omega arith) (search arith))))
+    (segments-more v bits i.0.2 s ss i.0.1 q.0.1 (segment-takes v bits (s, i.0.1, i.0.2) four segment) (segments-takes n v (may_follow may i.0.0) i.0.2 ss q.0.1 (omega arith) (search arith))))
     (cases_Bool (ends bits))
 
 starts : (rest : List Bool) → begins_header (field 4 header_indicator ++ rest) ≡ true
 unfolding begins_header
 starts rest =
     let there : 4 ≤ length (field 4 header_indicator ++ rest) = search (arith, length-append, length-field) in
-    rw (le-leb 4 (length (field 4 header_indicator ++ rest)) there, read_field 4 header_indicator rest (lit< tt)) refl
+    rw (le-leb 4 (length (field 4 header_indicator ++ rest)) there, read-field 4 header_indicator rest (lit< tt)) refl
 
 -- if bits begin with the mode indicator of a header, they are its four bits and the others
 started : (bits : List Bool) → begins_header bits ≡ true → bits ≡ field 4 header_indicator ++ drop 4 bits
@@ -192,22 +192,22 @@ unfolding begins_header
 started bits h =
     let p = and_parts (nat_le 4 (length bits)) (value (take 4 bits) == 3) h in
     let four : 4 ≤ length bits = leb-true 4 (length bits) p.0 in
-    cc (eqb-true _ 3 p.1, field_read 4 bits four, take-append-drop 4 bits)
+    cc (eqb-true _ 3 p.1, field-read 4 bits four, take-append-drop 4 bits)
 
 -- 16 bits at the beginning are three numbers, of 4, 4 and 8 bits
-header_parts : (bits : List Bool) → 16 ≤ length bits
+header-parts : (bits : List Bool) → 16 ≤ length bits
     → bits ≡ (field 4 (value (take 4 bits)) ++ (field 4 (value (take 4 (drop 4 bits))) ++ field 8 (value (take 8 (drop 8 bits))))) ++ drop 16 bits
-header_parts bits long =
-    let a = field_read 4 bits (omega arith) in
-    let b = field_read 4 (drop 4 bits) (omega (arith, length-drop 4 bits)) in
-    let c = field_read 8 (drop 8 bits) (omega (arith, length-drop 8 bits)) in
+header-parts bits long =
+    let a = field-read 4 bits (omega arith) in
+    let b = field-read 4 (drop 4 bits) (omega (arith, length-drop 4 bits)) in
+    let c = field-read 8 (drop 8 bits) (omega (arith, length-drop 8 bits)) in
     let last = take-append-drop 8 (drop 8 bits) in
     search (arith, drop-drop, take-append-drop, append_assoc)
 
 -- the stream of a header, with any bits after it, is read as this header
-header_again : (h : Header) (rest : List Bool) → HeaderFits (Some h) → first_header (header_stream (Some h) ++ rest) ≡ Ok (Some h, rest)
+header-again : (h : Header) (rest : List Bool) → HeaderFits (Some h) → first_header (header_stream (Some h) ++ rest) ≡ Ok (Some h, rest)
 unfolding first_header header_stream
-header_again h rest all_fit =
+header-again h rest all_fit =
     let fits = all_fit h refl in
     let p = field 4 h.position in
     let l = field 4 h.last in
@@ -219,44 +219,44 @@ header_again h rest all_fit =
     let after_p : drop 4 behind ≡ l ++ (q ++ rest) = drop-field 4 h.position (l ++ (q ++ rest)) in
     let after_l : drop 8 behind ≡ q ++ rest = cc (drop-drop 4 4 behind, drop-field 4 h.last (q ++ rest)) in
     let after_q : drop 16 behind ≡ rest = cc (drop-drop 8 8 behind, drop-field 8 h.parity rest) in
-    let a = read_field 4 h.position (l ++ (q ++ rest)) fits.0 in
-    let b = read_field 4 h.last (q ++ rest) fits.1 in
-    let c = read_field 8 h.parity rest fits.2 in
+    let a = read-field 4 h.position (l ++ (q ++ rest)) fits.0 in
+    let b = read-field 4 h.last (q ++ rest) fits.1 in
+    let c = read-field 8 h.parity rest fits.2 in
     let d = drop-field 4 header_indicator behind in
-    rw (whole, starts behind, d, header_whole behind long, a, after_p, b, after_l, c, after_q) refl
+    rw (whole, starts behind, d, header-whole behind long, a, after_p, b, after_l, c, after_q) refl
 
-none_begins : (v : ℕ) (xs : List ℕ) (segs : List Segment) (tail : List Bool) → ends tail ≡ true → begins_header (segments_stream v xs segs ++ tail) ≡ false
+none-begins : (v : ℕ) (xs : List ℕ) (segs : List Segment) (tail : List Bool) → ends tail ≡ true → begins_header (segments_stream v xs segs ++ tail) ≡ false
 unfolding begins_header segments_stream ends
-none_begins v xs [] tail e = search (arith, lt-leb, eqb-true, le-ltb, le-leb)
-none_begins v xs (s ∷ ss) tail e = grind (arith, first_four, append_assoc, le-leb)
+none-begins v xs [] tail e = search (arith, lt-leb, eqb-true, le-ltb, le-leb)
+none-begins v xs (s ∷ ss) tail e = grind (arith, first-four, append_assoc, le-leb)
 
-first_again : (h : Option Header) (rest : List Bool) → HeaderFits h → begins_header rest ≡ false → first_header (header_stream h ++ rest) ≡ Ok (h, rest)
+first-again : (h : Option Header) (rest : List Bool) → HeaderFits h → begins_header rest ≡ false → first_header (header_stream h ++ rest) ≡ Ok (h, rest)
 unfolding first_header header_stream
-first_again h rest fits e = grind (arith, append_assoc, header_again)
+first-again h rest fits e = grind (arith, append_assoc, header-again)
 
 -- four bits that are no header's indicator
-other_begins : (n : ℕ) (rest : List Bool) → n < 2 ^ 4 → (n == 3) ≡ false → begins_header (field 4 n ++ rest) ≡ false
+other-begins : (n : ℕ) (rest : List Bool) → n < 2 ^ 4 → (n == 3) ≡ false → begins_header (field 4 n ++ rest) ≡ false
 unfolding begins_header
-other_begins n rest few other = grind (arith, read_field 4 n rest few)
+other-begins n rest few other = grind (arith, read-field 4 n rest few)
 
-pub other_opens : (n : ℕ) (rest : List Bool) → n < 2 ^ 4 → (n == 0) ≡ false → ends (field 4 n ++ rest) ≡ false
+pub other-opens : (n : ℕ) (rest : List Bool) → n < 2 ^ 4 → (n == 0) ≡ false → ends (field 4 n ++ rest) ≡ false
 unfolding ends
-other_opens n rest few other = grind (arith, read_field 4 n rest few, length-append (field 4 n) rest, length-field 4 n, le-ltb)
+other-opens n rest few other = grind (arith, read-field 4 n rest few, length-append (field 4 n) rest, length-field 4 n, le-ltb)
 
 -- the stream of an interpretation, segments and an end is not taken for a header
-marked_begins : (v : ℕ) (i : Interpretation) (xs : List ℕ) (segs : List Segment) (tail : List Bool) → ends tail ≡ true
+marked-begins : (v : ℕ) (i : Interpretation) (xs : List ℕ) (segs : List Segment) (tail : List Bool) → ends tail ≡ true
     → begins_header (interpretation_stream i ++ (segments_stream v xs segs ++ tail)) ≡ false
 unfolding interpretation_stream
-marked_begins v written.Default xs segs tail e = none_begins v xs segs tail e
-marked_begins v (written.Eci n) xs segs tail e = rw (append_assoc (field 4 7) (designator n) (segments_stream v xs segs ++ tail)) (other_begins 7 _ (lit< tt) refl)
-marked_begins v written.Gs1 xs segs tail e = other_begins 5 _ (lit< tt) refl
+marked-begins v written.Default xs segs tail e = none-begins v xs segs tail e
+marked-begins v (written.Eci n) xs segs tail e = rw (append_assoc (field 4 7) (designator n) (segments_stream v xs segs ++ tail)) (other-begins 7 _ (lit< tt) refl)
+marked-begins v written.Gs1 xs segs tail e = other-begins 5 _ (lit< tt) refl
 
 -- the shortest designator of a number is read as this number
-designator_again : (n : ℕ) (rest : List Bool) → n < 1000000 → designator_at (designator n ++ rest) ≡ Ok (record { number = n; codewords = designator_codewords n }, rest)
+designator-again : (n : ℕ) (rest : List Bool) → n < 1000000 → designator_at (designator n ++ rest) ≡ Ok (record { number = n; codewords = designator_codewords n }, rest)
 unfolding designator_at designator
-designator_again n rest h = ⊎_elim (λ (e : nat_lt n 128 ≡ true).
+designator-again n rest h = ⊎_elim (λ (e : nat_lt n 128 ≡ true).
     let small = ltb-true n 128 e in
-    rw (e, number_again 8 n rest (omega arith), e) refl)
+    rw (e, number-again 8 n rest (omega arith), e) refl)
     (λ (e : nat_lt n 128 ≡ false).
     let large = ltb-false n 128 e in
     ⊎_elim (λ (f : nat_lt n 16384 ≡ true).
@@ -265,7 +265,7 @@ designator_again n rest h = ⊎_elim (λ (e : nat_lt n 128 ≡ true).
     let a : nat_lt (128 + n / 256) 128 ≡ false = le-ltb _ _ (omega arith) in
     let b : nat_lt (128 + n / 256) 192 ≡ true = lt-ltb _ _ (omega arith) in
     let whole : 256 * (128 + n / 256 - 128) + n % 256 ≡ n = omega arith in
-    rw (e, f, append_assoc (field 8 (128 + n / 256)) (field 8 (n % 256)) rest, number_again 8 (128 + n / 256) (field 8 (n % 256) ++ rest) high, a, b, number_again 8 (n % 256) rest (omega arith), whole) refl)
+    rw (e, f, append_assoc (field 8 (128 + n / 256)) (field 8 (n % 256)) rest, number-again 8 (128 + n / 256) (field 8 (n % 256) ++ rest) high, a, b, number-again 8 (n % 256) rest (omega arith), whole) refl)
     (λ (f : nat_lt n 16384 ≡ false).
     let more = ltb-false n 16384 f in
     let high : 192 + n / 65536 < 2 ^ 8 = omega arith in
@@ -274,65 +274,65 @@ designator_again n rest h = ⊎_elim (λ (e : nat_lt n 128 ≡ true).
     let d : nat_le 224 (192 + n / 65536) ≡ false = lt-leb _ _ (omega arith) in
     let whole : 65536 * (192 + n / 65536 - 192) + n % 65536 ≡ n = omega arith in
     let six : nat_lt n 1000000 ≡ true = lt-ltb _ _ h in
-    rw (e, f, append_assoc (field 8 (192 + n / 65536)) (field 16 (n % 65536)) rest, number_again 8 (192 + n / 65536) (field 16 (n % 65536) ++ rest) high, a, b, d, number_again 16 (n % 65536) rest (omega arith), whole, six) refl)
+    rw (e, f, append_assoc (field 8 (192 + n / 65536)) (field 16 (n % 65536)) rest, number-again 8 (192 + n / 65536) (field 16 (n % 65536) ++ rest) high, a, b, d, number-again 16 (n % 65536) rest (omega arith), whole, six) refl)
     (cases_Bool (nat_lt n 16384)))
     (cases_Bool (nat_lt n 128))
 
-eci_again : (v : ℕ) (may : Bool) (n : ℕ) (rest : List Bool) → n < 1000000
+eci-again : (v : ℕ) (may : Bool) (n : ℕ) (rest : List Bool) → n < 1000000
     → item_at v may (field 4 7 ++ (designator n ++ rest)) ≡ Ok (Eci (record { number = n; codewords = designator_codewords n }), [], rest)
 unfolding item_at
-eci_again v may n rest h = rw (read_field 4 7 (designator n ++ rest) (lit< tt), drop-field 4 7 (designator n ++ rest), designator_again n rest h) refl
+eci-again v may n rest h = rw (read-field 4 7 (designator n ++ rest) (lit< tt), drop-field 4 7 (designator n ++ rest), designator-again n rest h) refl
 
-gs1_again : (v : ℕ) (rest : List Bool) → item_at v true (field 4 5 ++ rest) ≡ Ok (Fnc1First, [], rest)
+gs1-again : (v : ℕ) (rest : List Bool) → item_at v true (field 4 5 ++ rest) ≡ Ok (Fnc1First, [], rest)
 unfolding item_at
-gs1_again v rest = rw (read_field 4 5 rest (lit< tt), drop-field 4 5 rest) refl
+gs1-again v rest = rw (read-field 4 5 rest (lit< tt), drop-field 4 5 rest) refl
 
 -- the stream of an interpretation, segments and an end is read as the items of these
-marked_again : (v : ℕ) (i : Interpretation) (xs : List ℕ) (segs : List Segment) (tail : List Bool) → InterpretationFits i → All (λ b. b < 256) xs → Suits xs segs → CountsFit v segs → ends tail ≡ true
+marked-again : (v : ℕ) (i : Interpretation) (xs : List ℕ) (segs : List Segment) (tail : List Bool) → InterpretationFits i → All (λ b. b < 256) xs → Suits xs segs → CountsFit v segs → ends tail ≡ true
     → items_of v true (interpretation_stream i ++ (segments_stream v xs segs ++ tail)) ≡ Ok (items_in i segs, xs)
 unfolding interpretation_stream
-marked_again v written.Default xs segs tail six bytes suit fits e = segments_again v true xs segs tail bytes suit fits e
-marked_again v (written.Eci n) xs segs tail six bytes suit fits e =
+marked-again v written.Default xs segs tail six bytes suit fits e = segments-again v true xs segs tail bytes suit fits e
+marked-again v (written.Eci n) xs segs tail six bytes suit fits e =
     let rest = segments_stream v xs segs ++ tail in
-    rw (append_assoc (field 4 7) (designator n) rest, items_step v true (field 4 7 ++ (designator n ++ rest)) (other_opens 7 _ (lit< tt) refl), eci_again v true n rest six, segments_again v true xs segs tail bytes suit fits e) refl
-marked_again v written.Gs1 xs segs tail six bytes suit fits e =
+    rw (append_assoc (field 4 7) (designator n) rest, items-step v true (field 4 7 ++ (designator n ++ rest)) (other-opens 7 _ (lit< tt) refl), eci-again v true n rest six, segments-again v true xs segs tail bytes suit fits e) refl
+marked-again v written.Gs1 xs segs tail six bytes suit fits e =
     let rest = segments_stream v xs segs ++ tail in
-    rw (items_step v true (field 4 5 ++ rest) (other_opens 5 _ (lit< tt) refl), gs1_again v rest, segments_again v false xs segs tail bytes suit fits e) refl
+    rw (items-step v true (field 4 5 ++ rest) (other-opens 5 _ (lit< tt) refl), gs1-again v rest, segments-again v false xs segs tail bytes suit fits e) refl
 
-fits_of : (h : Header) → h.position < 16 → h.last < 16 → h.parity < 256 → HeaderFits (Some h)
-fits_of h a b d = search arith
+fits-of : (h : Header) → h.position < 16 → h.last < 16 → h.parity < 256 → HeaderFits (Some h)
+fits-of h a b d = search arith
 
 -- if a header is read after its mode indicator, it is written as the same bits
-header_takes : (bits : List Bool) (r : Header × List Bool) → header_at bits ≡ Ok r → HeaderFits (Some r.0) × (bits ≡ (field 4 r.0.position ++ (field 4 r.0.last ++ field 8 r.0.parity)) ++ r.1)
+header-takes : (bits : List Bool) (r : Header × List Bool) → header_at bits ≡ Ok r → HeaderFits (Some r.0) × (bits ≡ (field 4 r.0.position ++ (field 4 r.0.last ++ field 8 r.0.parity)) ++ r.1)
 unfolding header_at
-header_takes bits r h =
-    let g = guard_ok _ _ _ r h in
+header-takes bits r h =
+    let g = guard-ok _ _ _ r h in
     let long : 16 ≤ length bits = ltb-false _ _ g.0 in
     let P : Header × List Bool → Type 0 = λ t. HeaderFits (Some t.0) × (bits ≡ (field 4 t.0.position ++ (field 4 t.0.last ++ field 8 t.0.parity)) ++ t.1) in
-    subst P (search (arith, same_ok))
-    (fits_of _ (value_take_below 4 bits) (value_take_below 4 (drop 4 bits)) (value_take_below 8 (drop 8 bits)), header_parts bits long)
+    subst P (search (arith, same-ok))
+    (fits-of _ (value-take-below 4 bits) (value-take-below 4 (drop 4 bits)) (value-take-below 8 (drop 8 bits)), header-parts bits long)
 
 -- if a header is read, or none, its stream comes first in the bits that were read
-first_takes : (bits : List Bool) (r : Option Header × List Bool) → first_header bits ≡ Ok r → HeaderFits r.0 × (bits ≡ header_stream r.0 ++ r.1)
+first-takes : (bits : List Bool) (r : Option Header × List Bool) → first_header bits ≡ Ok r → HeaderFits r.0 × (bits ≡ header_stream r.0 ++ r.1)
 unfolding first_header header_stream
-first_takes bits r h = ⊎_elim (λ (e : begins_header bits ≡ true).
-    let q = bind_ok (header_at (drop 4 bits)) _ r (rw e at h) in
-    let w = header_takes (drop 4 bits) q.0 q.1 in
-    search (arith, same_ok, append_assoc, started)) (search (arith, same_ok)) (cases_Bool (begins_header bits))
+first-takes bits r h = ⊎_elim (λ (e : begins_header bits ≡ true).
+    let q = bind-ok (header_at (drop 4 bits)) _ r (rw e at h) in
+    let w = header-takes (drop 4 bits) q.0 q.1 in
+    search (arith, same-ok, append_assoc, started)) (search (arith, same-ok)) (cases_Bool (begins_header bits))
 
 -- A stream followed by an end is parsed into its header, items and bytes.
-pub parse_again : (v : ℕ) (xs : List ℕ) (segs : List Segment) (h : Option Header) (i : Interpretation) (front tail : List Bool) → IsStream v xs segs h i front → ends tail ≡ true
+pub parse-again : (v : ℕ) (xs : List ℕ) (segs : List Segment) (h : Option Header) (i : Interpretation) (front tail : List Bool) → IsStream v xs segs h i front → ends tail ≡ true
     → parse v (front ++ tail) ≡ Ok (content_of h (items_in i segs) xs)
 unfolding parse
-parse_again v xs segs h i front tail is e =
+parse-again v xs segs h i front tail is e =
     let rest = interpretation_stream i ++ (segments_stream v xs segs ++ tail) in
     let whole : front ++ tail ≡ header_stream h ++ rest = rw is.whole (search (arith, append_assoc)) in
-    rw (whole, first_again h rest is.header (marked_begins v i xs segs tail e), marked_again v i xs segs tail is.interpretation is.bytes is.suit is.counts e) refl
+    rw (whole, first-again h rest is.header (marked-begins v i xs segs tail e), marked-again v i xs segs tail is.interpretation is.bytes is.suit is.counts e) refl
 
--- As `parse_again`, without an ECI header and FNC1.
+-- As `parse-again`, without an ECI header and FNC1.
 pub parse_plain : (v : ℕ) (xs : List ℕ) (segs : List Segment) (h : Option Header) (front tail : List Bool) → IsStream v xs segs h written.Default front → ends tail ≡ true
     → parse v (front ++ tail) ≡ Ok (plain_content h segs xs)
-parse_plain v xs segs h front tail is e = cc (parse_again v xs segs h written.Default front tail is e, plain_meant h segs xs is.suit)
+parse_plain v xs segs h front tail is e = cc (parse-again v xs segs h written.Default front tail is e, plain-meant h segs xs is.suit)
 
 -- the bits are the stream of these segments, and then an end
 abbrev Says : ℕ → List Bool → List ℕ → List Segment → Option Header → Type 0
@@ -342,12 +342,12 @@ Says v bits xs segs h = (front : List Bool) × (tail : List Bool) × IsStream v 
 pub parse_takes : (v : ℕ) (bits : List Bool) (h : Option Header) (segs : List Segment) (xs : List ℕ) → parse v bits ≡ Ok (plain_content h segs xs) → Says v bits xs segs h
 unfolding parse items_of interpretation_stream
 parse_takes v bits h segs xs e =
-    let a = bind_ok (first_header bits) _ _ e in
-    let r = bind_ok (items_at (length a.0.1) v true a.0.1) _ _ a.2 in
-    let first = first_takes bits a.0 a.1 in
+    let a = bind-ok (first_header bits) _ _ e in
+    let r = bind-ok (items_at (length a.0.1) v true a.0.1) _ _ a.2 in
+    let first = first-takes bits a.0 a.1 in
     let same : r.0.0 ≡ plain segs = grind arith in
     let header : a.0.0 ≡ h = grind arith in
-    let others = segments_takes (length a.0.1) v true a.0.1 segs r.0.1 (omega arith) (search arith) in
+    let others = segments-takes (length a.0.1) v true a.0.1 segs r.0.1 (omega arith) (search arith) in
     let meant : meant_bytes false r.0.0 r.0.1 ≡ xs = grind arith in
     let bytes : r.0.1 ≡ xs = cc (meant, same, meant-plain segs r.0.1 others.suit) in
-    search (arith, same_ok, append_assoc)
+    search (arith, same-ok, append_assoc)

@@ -7,83 +7,83 @@ use Rattle.qr_bits.specs.{declared.modes.Mode.Mode, Stream.character_bits, Strea
 use Rattle.qr_bits.specs.declared.modes.Mode.TheVariants.{Numeric, Alphanumeric, Byte, Kanji}
 use Rattle.qr_bits.specs.{Bits.value, Bits.bits_of, Parsing.characters_of, Parsing.bytes_of, Parsing.values_of}
 use Rattle.qr_bits.specs.Modes.{character_count, is_alphanumeric, byte_count, payload_bits, suits, character_value}
-use Rattle.qr_bits.proofs.lemmas.{modes.KanjiLemmas.{pairs_again, pairs_takes}, stream.WritingLemmas.two_more}
-use Rattle.qr_bits.proofs.lemmas.modes.CharacterLemmas.{character_found, character_again, character_taken}
-use Rattle.qr_bits.proofs.lemmas.parsing.{PayloadLemmas.value_take_below, ParsingLemmas.bind_ok, ParsingLemmas.same_ok}
-use Rattle.qr_bits.proofs.lemmas.stream.StreamLemmas.{more_written, drop-field, read_field, field_read, digits_again, digits_takes, are_digits, chosen_ok, IsWritten}
+use Rattle.qr_bits.proofs.lemmas.{modes.KanjiLemmas.{pairs-again, pairs-takes}, stream.WritingLemmas.two-more}
+use Rattle.qr_bits.proofs.lemmas.modes.CharacterLemmas.{character-found, character-again, character-taken}
+use Rattle.qr_bits.proofs.lemmas.parsing.{PayloadLemmas.value-take-below, ParsingLemmas.bind-ok, ParsingLemmas.same-ok}
+use Rattle.qr_bits.proofs.lemmas.stream.StreamLemmas.{more-written, drop-field, read-field, field-read, digits-again, digits-takes, are-digits, chosen-ok, IsWritten}
 
 -- the bits of characters of alphanumeric mode are read as these characters
-characters_again : (xs : List ℕ) (rest : List Bool) → list_all is_alphanumeric xs ≡ true → characters_of (length xs) (character_bits xs ++ rest) ≡ Ok xs
+characters-again : (xs : List ℕ) (rest : List Bool) → list_all is_alphanumeric xs ≡ true → characters_of (length xs) (character_bits xs ++ rest) ≡ Ok xs
 unfolding characters_of character_bits
-characters_again [] rest h = refl
-characters_again (a ∷ []) rest h =
+characters-again [] rest h = refl
+characters-again (a ∷ []) rest h =
     let p = (and_parts (is_alphanumeric a) true h).0 in
-    let small = character_found a p in
-    let r = read_field 6 (character_value a) rest (omega (arith, small)) in
-    search (arith, lt-ltb, character_again)
-characters_again (a ∷ b ∷ xs) rest h =
+    let small = character-found a p in
+    let r = read-field 6 (character_value a) rest (omega (arith, small)) in
+    search (arith, lt-ltb, character-again)
+characters-again (a ∷ b ∷ xs) rest h =
     let p = and_parts (is_alphanumeric a) _ h in
     let q = and_parts (is_alphanumeric b) _ p.1 in
-    let sa = character_found a p.0 in
-    let sb = character_found b q.0 in
+    let sa = character-found a p.0 in
+    let sb = character-found b q.0 in
     let g = 45 * character_value a + character_value b in
     let low : g < 2025 = omega (arith, sa, sb) in
     let first : g / 45 ≡ character_value a = omega (arith, sa, sb) in
     let second : g % 45 ≡ character_value b = omega (arith, sa, sb) in
-    let r = read_field 11 g (character_bits xs ++ rest) (omega (arith, low)) in
+    let r = read-field 11 g (character_bits xs ++ rest) (omega (arith, low)) in
     let d = drop-field 11 g (character_bits xs ++ rest) in
-    search (arith, append_assoc, lt-ltb, character_again, characters_again xs rest q.1)
+    search (arith, append_assoc, lt-ltb, character-again, characters-again xs rest q.1)
 
 -- if characters of alphanumeric mode are read, they are written as the same bits
-characters_takes : (n : ℕ) (xs : List ℕ) (bs : List Bool) → payload_bits Alphanumeric n ≤ length bs → characters_of n bs ≡ Ok xs → IsWritten Alphanumeric n bs xs
+characters-takes : (n : ℕ) (xs : List ℕ) (bs : List Bool) → payload_bits Alphanumeric n ≤ length bs → characters_of n bs ≡ Ok xs → IsWritten Alphanumeric n bs xs
 unfolding characters_of character_bits payload
-characters_takes zero xs bs h e = search (arith, same_ok, All-nil)
-characters_takes (suc zero) xs bs h e =
-    let c = chosen_ok _ _ _ xs e in
-    let t = character_taken (value (take 6 bs)) (ltb-true _ _ c.0) in
-    let whole = field_read 6 bs h in
-    subst (IsWritten Alphanumeric 1 bs) (same_ok _ _ c.1) (search (arith, All-cons, All-nil, and_from, take-append-drop))
-characters_takes (suc (suc n)) xs bs h e =
+characters-takes zero xs bs h e = search (arith, same-ok, All-nil)
+characters-takes (suc zero) xs bs h e =
+    let c = chosen-ok _ _ _ xs e in
+    let t = character-taken (value (take 6 bs)) (ltb-true _ _ c.0) in
+    let whole = field-read 6 bs h in
+    subst (IsWritten Alphanumeric 1 bs) (same-ok _ _ c.1) (search (arith, All-cons, All-nil, and_from, take-append-drop))
+characters-takes (suc (suc n)) xs bs h e =
     let g = value (take 11 bs) in
-    let c = chosen_ok _ _ _ xs e in
-    let b = bind_ok (characters_of n (drop 11 bs)) _ xs c.1 in
+    let c = chosen-ok _ _ _ xs e in
+    let b = bind-ok (characters_of n (drop 11 bs)) _ xs c.1 in
     let low : g < 2025 = ltb-true _ _ c.0 in
     let two : suc (suc n) ≡ 2 + n = omega arith in
-    let room : 11 + payload_bits Alphanumeric n ≤ length bs = omega (arith, two_more) in
-    let w = characters_takes n b.0 (drop 11 bs) (omega (arith, length-drop 11 bs)) b.1 in
-    let i = character_taken (g / 45) (omega arith) in
-    let j = character_taken (g % 45) (omega arith) in
+    let room : 11 + payload_bits Alphanumeric n ≤ length bs = omega (arith, two-more) in
+    let w = characters-takes n b.0 (drop 11 bs) (omega (arith, length-drop 11 bs)) b.1 in
+    let i = character-taken (g / 45) (omega arith) in
+    let j = character-taken (g % 45) (omega arith) in
     let back : 45 * (g / 45) + g % 45 ≡ g = omega arith in
-    let whole = more_written 11 (payload_bits Alphanumeric n) bs (character_bits b.0) (omega arith) w.whole in
-    rw two (subst (IsWritten Alphanumeric (2 + n) bs) (same_ok _ _ b.2) (search (arith, All-cons, and_from, two_more)))
+    let whole = more-written 11 (payload_bits Alphanumeric n) bs (character_bits b.0) (omega arith) w.whole in
+    rw two (subst (IsWritten Alphanumeric (2 + n) bs) (same-ok _ _ b.2) (search (arith, All-cons, and_from, two-more)))
 
 -- bytes that are written are read back
-pub bytes_again : (xs : List ℕ) (t : List Bool) → All (λ b. b < 256) xs → bytes_of (length xs) (bits_of xs ++ t) ≡ xs
+pub bytes-again : (xs : List ℕ) (t : List Bool) → All (λ b. b < 256) xs → bytes_of (length xs) (bits_of xs ++ t) ≡ xs
 unfolding bytes_of bits_of
-bytes_again [] t h = refl
-bytes_again (x ∷ xs) t h = search (arith, append_assoc, read_field, drop-field, All-head, All-tail, bytes_again xs t)
+bytes-again [] t h = refl
+bytes-again (x ∷ xs) t h = search (arith, append_assoc, read-field, drop-field, All-head, All-tail, bytes-again xs t)
 
 -- bytes that are read are written as the same bits
-pub bytes_takes : (n : ℕ) (bits : List Bool) → 8 * n ≤ length bits
+pub bytes-takes : (n : ℕ) (bits : List Bool) → 8 * n ≤ length bits
     → (length (bytes_of n bits) ≡ n) × All (λ b. b < 256) (bytes_of n bits) × (bits ≡ bits_of (bytes_of n bits) ++ drop (8 * n) bits)
 unfolding bytes_of bits_of
-bytes_takes zero bits h = (refl, All-nil (λ b. b < 256), refl)
-bytes_takes (suc n) bits h =
-    let rest = bytes_takes n (drop 8 bits) (omega (arith, length-drop 8 bits)) in
+bytes-takes zero bits h = (refl, All-nil (λ b. b < 256), refl)
+bytes-takes (suc n) bits h =
+    let rest = bytes-takes n (drop 8 bits) (omega (arith, length-drop 8 bits)) in
     let more : 8 * suc n ≡ 8 + 8 * n = omega arith in
-    (ap suc rest.0, All-cons (λ b. b < 256) _ _ (value_take_below 8 bits) rest.1, rw more (more_written 8 (8 * n) bits _ (omega arith) rest.2))
+    (ap suc rest.0, All-cons (λ b. b < 256) _ _ (value-take-below 8 bits) rest.1, rw more (more-written 8 (8 * n) bits _ (omega arith) rest.2))
 
 -- Data that is written is read back, whatever follows.
-pub values_again : (m : Mode) (xs : List ℕ) (rest : List Bool) → All (λ b. b < 256) xs → suits m xs ≡ true → values_of m (character_count m (length xs)) (payload m xs ++ rest) ≡ Ok xs
+pub values-again : (m : Mode) (xs : List ℕ) (rest : List Bool) → All (λ b. b < 256) xs → suits m xs ≡ true → values_of m (character_count m (length xs)) (payload m xs ++ rest) ≡ Ok xs
 unfolding values_of payload
-values_again m xs rest bytes h = grind (arith, digits_again, are_digits, characters_again, bytes_again, pairs_again)
+values-again m xs rest bytes h = grind (arith, digits-again, are-digits, characters-again, bytes-again, pairs-again)
 
 -- Data that is read is written as the same bits.
-pub values_takes : (m : Mode) (n : ℕ) (xs : List ℕ) (bits : List Bool) → payload_bits m (byte_count m n) ≤ length bits → values_of m n bits ≡ Ok xs → IsWritten m n bits xs
+pub values-takes : (m : Mode) (n : ℕ) (xs : List ℕ) (bits : List Bool) → payload_bits m (byte_count m n) ≤ length bits → values_of m n bits ≡ Ok xs → IsWritten m n bits xs
 unfolding values_of payload
-values_takes Numeric n xs bits h e = digits_takes n xs bits h e
-values_takes Alphanumeric n xs bits h e = characters_takes n xs bits h e
-values_takes Byte n xs bits h e =
-    let w = bytes_takes n bits h in
-    search (arith, same_ok)
-values_takes Kanji n xs bits h e = pairs_takes n xs bits (omega arith) e
+values-takes Numeric n xs bits h e = digits-takes n xs bits h e
+values-takes Alphanumeric n xs bits h e = characters-takes n xs bits h e
+values-takes Byte n xs bits h e =
+    let w = bytes-takes n bits h in
+    search (arith, same-ok)
+values-takes Kanji n xs bits h e = pairs-takes n xs bits (omega arith) e

@@ -6,8 +6,8 @@ use Rattle.qr_bits.specs.declared.modes.{Mode.Mode, Mode.TheVariants.Kanji, Rule
 use Rattle.qr_bits.specs.{declared.segment.Segment.Segment, Modes.may_use, Segmentation.{rank, prepend_mode, runs_of}}
 use Rattle.qr_bits.specs.declared.run_state.RunState.{RunState, TheVariants.HalfPair, TheVariants.WholePair}
 use Rattle.qr_bits.specs.Steps.RunState.{state_after, begins_with_pair, may_begin, may_take, may_end, allowed}
-use Rattle.qr_bits.proofs.lemmas.{segment.CoverLemmas.{suits_by, CoversBy}, run_state.BestLemmas.same_rank}
-use Rattle.qr_bits.proofs.lemmas.best_modes.ChoiceLemmas.{take_begin, state_after-whole}
+use Rattle.qr_bits.proofs.lemmas.{segment.CoverLemmas.{suits_by, CoversBy}, run_state.BestLemmas.same-rank}
+use Rattle.qr_bits.proofs.lemmas.best_modes.ChoiceLemmas.{take-begin, state_after-whole}
 
 -- a valid assignment, where two bytes are a pair if they pass the test
 abbrev pub IsAssignmentBy : (ℕ → ℕ → Bool) → Rule → List ℕ → List Mode → Type 0
@@ -27,23 +27,23 @@ unfolding runs_of
 Positive-runs_of [] = tt
 Positive-runs_of (m ∷ ms) = Positive-prepend_mode m (runs_of ms) (Positive-runs_of ms)
 
-add_one : (test : ℕ → ℕ → Bool) (m : Mode) (x : ℕ) (xs : List ℕ) (segs : List Segment) → rank m < 3 → suits_by test m (x ∷ []) ≡ true → CoversBy test xs segs → CoversBy test (x ∷ xs) (prepend_mode m segs)
+add-one : (test : ℕ → ℕ → Bool) (m : Mode) (x : ℕ) (xs : List ℕ) (segs : List Segment) → rank m < 3 → suits_by test m (x ∷ []) ≡ true → CoversBy test xs segs → CoversBy test (x ∷ xs) (prepend_mode m segs)
 unfolding CoversBy
-add_one test m x xs segs k h c = grind arith
+add-one test m x xs segs k h c = grind arith
 
-drop_one : (t : ℕ → ℕ → Bool) (m : Mode) (x : ℕ) (xs : List ℕ) (segs : List Segment) → rank m < 3 → Positive segs → CoversBy t (x ∷ xs) (prepend_mode m segs) → (suits_by t m (x ∷ []) ≡ true) × CoversBy t xs segs
+drop-one : (t : ℕ → ℕ → Bool) (m : Mode) (x : ℕ) (xs : List ℕ) (segs : List Segment) → rank m < 3 → Positive segs → CoversBy t (x ∷ xs) (prepend_mode m segs) → (suits_by t m (x ∷ []) ≡ true) × CoversBy t xs segs
 unfolding CoversBy
-drop_one t m x xs segs k p c = grind arith
+drop-one t m x xs segs k p c = grind arith
 
 -- if segments cover bytes and begin with two bytes in kanji mode, these two are a pair, and the segments without them
 -- cover the other bytes
-drop_pair : (test : ℕ → ℕ → Bool) (x y : ℕ) (xs : List ℕ) (segs : List Segment) → Positive segs → CoversBy test (x ∷ y ∷ xs) (prepend_mode Kanji (prepend_mode Kanji segs)) → (test x y ≡ true) × CoversBy test xs segs
+drop-pair : (test : ℕ → ℕ → Bool) (x y : ℕ) (xs : List ℕ) (segs : List Segment) → Positive segs → CoversBy test (x ∷ y ∷ xs) (prepend_mode Kanji (prepend_mode Kanji segs)) → (test x y ≡ true) × CoversBy test xs segs
 unfolding CoversBy
-drop_pair test x y xs [] p c = ((and_parts (test x y) true c.2).0, c.3)
-drop_pair test x y xs (s ∷ ss) p c =
+drop-pair test x y xs [] p c = ((and_parts (test x y) true c.2).0, c.3)
+drop-pair test x y xs (s ∷ ss) p c =
     cond_both (3 == rank s.mode) _ _ (λ (r : List Segment). CoversBy test (x ∷ y ∷ xs) (prepend_mode Kanji r) → (test x y ≡ true) × CoversBy test xs (s ∷ ss))
     (λ e c.
-    let same = same_rank Kanji s.mode (eqb-true _ _ e) in
+    let same = same-rank Kanji s.mode (eqb-true _ _ e) in
     let two : 1 + (1 + s.len) ≡ suc (suc s.len) = omega arith in
     search (arith, and_parts)) (λ e c. ((and_parts (test x y) true c.2).0, c.3)) c
 
@@ -60,50 +60,50 @@ unfolding may_end state_after
 may_end-after p m k = grind arith
 
 -- a mode may begin if the rule allows it and the byte can be written in it
-pub begin_is : (test : ℕ → ℕ → Bool) (r : Rule) (m : Mode) (x : ℕ) (pair : Bool) → rank m < 3 → may_begin r x pair m ≡ (may_use r m && suits_by test m (x ∷ []))
+pub begin-is : (test : ℕ → ℕ → Bool) (r : Rule) (m : Mode) (x : ℕ) (pair : Bool) → rank m < 3 → may_begin r x pair m ≡ (may_use r m && suits_by test m (x ∷ []))
 unfolding may_begin
-begin_is test r m x pair k = grind arith
+begin-is test r m x pair k = grind arith
 
 -- a valid assignment is allowed, from any state in which no half pair is open
 abbrev CanTake : (ℕ → ℕ → Bool) → Rule → List ℕ → List Mode → Type 0
 CanTake test r xs ms = (p : RunState) → may_end p ≡ true → allowed r test p xs ms ≡ true
 
-one_can : (test : ℕ → ℕ → Bool) (r : Rule) (m : Mode) (x : ℕ) (xs : List ℕ) (ms : List Mode) → rank m < 3 → (IsAssignmentBy test r xs ms → CanTake test r xs ms) → IsAssignmentBy test r (x ∷ xs) (m ∷ ms) → CanTake test r (x ∷ xs) (m ∷ ms)
+one-can : (test : ℕ → ℕ → Bool) (r : Rule) (m : Mode) (x : ℕ) (xs : List ℕ) (ms : List Mode) → rank m < 3 → (IsAssignmentBy test r xs ms → CanTake test r xs ms) → IsAssignmentBy test r (x ∷ xs) (m ∷ ms) → CanTake test r (x ∷ xs) (m ∷ ms)
 unfolding allowed runs_of
-one_can test r m x xs ms k rest h p e =
-    search (arith, and_parts, drop_one, Positive-runs_of, and_from, take_begin, begin_is test, may_end-after)
+one-can test r m x xs ms k rest h p e =
+    search (arith, and_parts, drop-one, Positive-runs_of, and_from, take-begin, begin-is test, may_end-after)
 
 -- the modes of a valid assignment can be taken one after the other
-pub can_take : (test : ℕ → ℕ → Bool) (r : Rule) (xs : List ℕ) (ms : List Mode) → IsAssignmentBy test r xs ms → CanTake test r xs ms
+pub can-take : (test : ℕ → ℕ → Bool) (r : Rule) (xs : List ℕ) (ms : List Mode) → IsAssignmentBy test r xs ms → CanTake test r xs ms
 unfolding CoversBy runs_of allowed may_take may_begin begins_with_pair state_after may_end
-can_take test r [] ms h p e = grind arith
-can_take test r (x ∷ xs) [] h p e = cc (h.1)
-can_take test r (x ∷ []) (Kanji ∷ ms) h p e = search (arith, alone, Positive-runs_of)
-can_take test r (x ∷ y ∷ xs) (Kanji ∷ []) h p e = absurd (false≢true h.1.2)
-can_take test r (x ∷ y ∷ xs) (Kanji ∷ Kanji ∷ ms) h p e =
+can-take test r [] ms h p e = grind arith
+can-take test r (x ∷ xs) [] h p e = cc (h.1)
+can-take test r (x ∷ []) (Kanji ∷ ms) h p e = search (arith, alone, Positive-runs_of)
+can-take test r (x ∷ y ∷ xs) (Kanji ∷ []) h p e = absurd (false≢true h.1.2)
+can-take test r (x ∷ y ∷ xs) (Kanji ∷ Kanji ∷ ms) h p e =
     let uses = and_parts (may_use r Kanji) _ h.0 in
     let more = and_parts (may_use r Kanji) (list_all (may_use r) ms) uses.1 in
-    let parts = drop_pair test x y xs (runs_of ms) (Positive-runs_of ms) h.1 in
-    search (arith, and_from, take_begin, state_after-whole, can_take test r xs ms (more.1, parts.1) WholePair refl)
-can_take test r (x ∷ y ∷ xs) (Kanji ∷ m ∷ ms) h p e = search (arith, half)
-can_take test r (x ∷ xs) (m ∷ ms) h p e = one_can test r m x xs ms (lit< tt) (can_take test r xs ms) h p e
+    let parts = drop-pair test x y xs (runs_of ms) (Positive-runs_of ms) h.1 in
+    search (arith, and_from, take-begin, state_after-whole, can-take test r xs ms (more.1, parts.1) WholePair refl)
+can-take test r (x ∷ y ∷ xs) (Kanji ∷ m ∷ ms) h p e = search (arith, half)
+can-take test r (x ∷ xs) (m ∷ ms) h p e = one-can test r m x xs ms (lit< tt) (can-take test r xs ms) h p e
 
-one_is : (test : ℕ → ℕ → Bool) (r : Rule) (m : Mode) (x : ℕ) (xs : List ℕ) (ms : List Mode) (p : RunState) → rank m < 3 → may_end p ≡ true
+one-is : (test : ℕ → ℕ → Bool) (r : Rule) (m : Mode) (x : ℕ) (xs : List ℕ) (ms : List Mode) (p : RunState) → rank m < 3 → may_end p ≡ true
     → (allowed r test (state_after p m) xs ms ≡ true → IsAssignmentBy test r xs ms) → allowed r test p (x ∷ xs) (m ∷ ms) ≡ true → IsAssignmentBy test r (x ∷ xs) (m ∷ ms)
 unfolding allowed runs_of
-one_is test r m x xs ms p k e rest h = search (arith, and_parts, take_begin, begin_is test, and_from, add_one)
+one-is test r m x xs ms p k e rest h = search (arith, and_parts, take-begin, begin-is test, and_from, add-one)
 
 -- What is allowed is a valid assignment.
-pub is_assignment : (test : ℕ → ℕ → Bool) (r : Rule) (xs : List ℕ) (ms : List Mode) (p : RunState) → may_end p ≡ true → allowed r test p xs ms ≡ true → IsAssignmentBy test r xs ms
+pub is-assignment : (test : ℕ → ℕ → Bool) (r : Rule) (xs : List ℕ) (ms : List Mode) (p : RunState) → may_end p ≡ true → allowed r test p xs ms ≡ true → IsAssignmentBy test r xs ms
 unfolding CoversBy runs_of allowed may_take may_begin begins_with_pair state_after may_end
-is_assignment test r [] ms p e h = grind arith
-is_assignment test r (x ∷ xs) [] p e h = absurd (false≢true h)
-is_assignment test r (x ∷ []) (Kanji ∷ ms) p e h = search (arith, false≢true, take_begin, and_parts)
-is_assignment test r (x ∷ y ∷ xs) (Kanji ∷ []) p e h = search (arith, false≢true, and_parts)
-is_assignment test r (x ∷ y ∷ xs) (Kanji ∷ Kanji ∷ ms) p e h =
+is-assignment test r [] ms p e h = grind arith
+is-assignment test r (x ∷ xs) [] p e h = absurd (false≢true h)
+is-assignment test r (x ∷ []) (Kanji ∷ ms) p e h = search (arith, false≢true, take-begin, and_parts)
+is-assignment test r (x ∷ y ∷ xs) (Kanji ∷ []) p e h = search (arith, false≢true, and_parts)
+is-assignment test r (x ∷ y ∷ xs) (Kanji ∷ Kanji ∷ ms) p e h =
     let parts = and_parts (may_take r p x (may_use r Kanji && test x y) Kanji) _ h in
     let second : allowed r test HalfPair (y ∷ xs) (Kanji ∷ ms) ≡ true = rw (state_after-whole p e) at parts.1 in
-    search (arith, take_begin, and_parts, and_from, nat_tests, cond_both, same_rank, eqb-true, is_assignment test r xs ms WholePair refl second)
-is_assignment test r (x ∷ y ∷ xs) (Kanji ∷ m ∷ ms) p e h = search (arith, and_parts, state_after-whole, false≢true)
-is_assignment test r (x ∷ xs) (m ∷ ms) p e h =
-    one_is test r m x xs ms p (lit< tt) e (is_assignment test r xs ms (state_after p m) (may_end-after p m (lit< tt))) h
+    search (arith, take-begin, and_parts, and_from, nat_tests, cond_both, same-rank, eqb-true, is-assignment test r xs ms WholePair refl second)
+is-assignment test r (x ∷ y ∷ xs) (Kanji ∷ m ∷ ms) p e h = search (arith, and_parts, state_after-whole, false≢true)
+is-assignment test r (x ∷ xs) (m ∷ ms) p e h =
+    one-is test r m x xs ms p (lit< tt) e (is-assignment test r xs ms (state_after p m) (may_end-after p m (lit< tt))) h

@@ -8,7 +8,7 @@ use Rattle.qr_bits.specs.declared.modes.Mode.TheVariants.{Numeric, Alphanumeric,
 use Rattle.qr_bits.specs.declared.run_state.RunState.TheVariants.{HalfPair}
 use Rattle.qr_bits.specs.declared.interpretation.Interpretation.{Interpretation}
 use Rattle.qr_bits.specs.Interpretation.{is_doubled, character_for, doubled, characters_in}
-use Rattle.qr_bits.proofs.lemmas.interpretation.WrittenLemmas.{characters-step, doubled-rank, doubled-step, same_character, single-byte, unwritten, written-none}
+use Rattle.qr_bits.proofs.lemmas.interpretation.WrittenLemmas.{characters_in-step, doubled-rank, doubled-step, same-character, single-byte, unwritten, written-none}
 use Rattle.qr_bits.specs.Segmentation.{rank}
 use Rattle.qr_bits.specs.Steps.RunState.{cost_of, state_after, state_in, may_take_in, allowed, allowed_in, cost_of_all, begins_with_pair, may_begin, may_take}
 
@@ -23,70 +23,70 @@ cost-written i v p (x ∷ xs) (m ∷ ms) = ⊎_elim
     (cases_Bool (is_doubled i x m))
 
 -- only kanji mode asks whether a pair begins
-pub take_other : (r : Rule) (p : RunState) (x : ℕ) (q t : Bool) (m : Mode) → rank m < 3 → may_take r p x q m ≡ may_take r p x t m
+pub take-other : (r : Rule) (p : RunState) (x : ℕ) (q t : Bool) (m : Mode) → rank m < 3 → may_take r p x q m ≡ may_take r p x t m
 unfolding may_take may_begin
-take_other r p x q t m h = grind arith
+take-other r p x q t m h = grind arith
 
 -- a character may be written twice
-take_again : (r : Rule) (p : RunState) (x : ℕ) (q t : Bool) (m : Mode) → rank m < 3 → may_take r p x q m ≡ true → may_take r (state_after p m) x t m ≡ true
+take-again : (r : Rule) (p : RunState) (x : ℕ) (q t : Bool) (m : Mode) → rank m < 3 → may_take r p x q m ≡ true → may_take r (state_after p m) x t m ≡ true
 unfolding may_take may_begin state_after
-take_again r p x q t m h e = grind arith
+take-again r p x q t m h e = grind arith
 
 -- what may be taken twice may be taken, and then again
-again_and : (a b c d : Bool) → (a ≡ true → b ≡ true) → c ≡ d → (a && (b && c)) ≡ (a && d)
-again_and a b c d h e = grind arith
+again-and : (a b c d : Bool) → (a ≡ true → b ≡ true) → c ≡ d → (a && (b && c)) ≡ (a && d)
+again-and a b c d h e = grind arith
 
-none_both : (a b c d : Bool) → c ≡ d → d ≡ false → (a && c) ≡ (b && d)
-none_both a b c d e f = grind arith
+none-both : (a b c d : Bool) → c ≡ d → d ≡ false → (a && c) ≡ (b && d)
+none-both a b c d e f = grind arith
 
 -- after half a pair no other mode is possible
-only_kanji : (i : Interpretation) (r : Rule) (test : ℕ → ℕ → Bool) (x : ℕ) (xs : List ℕ) (m : Mode) (ms : List Mode) → rank m < 3 → allowed_in i r test HalfPair (x ∷ xs) (m ∷ ms) ≡ false
+only-kanji : (i : Interpretation) (r : Rule) (test : ℕ → ℕ → Bool) (x : ℕ) (xs : List ℕ) (m : Mode) (ms : List Mode) → rank m < 3 → allowed_in i r test HalfPair (x ∷ xs) (m ∷ ms) ≡ false
 unfolding allowed_in may_take
-only_kanji i r test x xs Numeric ms h = refl
-only_kanji i r test x xs Alphanumeric ms h = refl
-only_kanji i r test x xs Byte ms h = refl
-only_kanji i r test x xs Kanji ms h = absurd (omega arith)
+only-kanji i r test x xs Numeric ms h = refl
+only-kanji i r test x xs Alphanumeric ms h = refl
+only-kanji i r test x xs Byte ms h = refl
+only-kanji i r test x xs Kanji ms h = absurd (omega arith)
 
 -- a byte in kanji mode, whether it is seen to begin a pair or not, if what follows it is the same
-kanji_before : (i : Interpretation) (r : Rule) (test : ℕ → ℕ → Bool) (p : RunState) (x y : ℕ) (ys : List ℕ) (m : Mode) (ms : List Mode) (q t a : Bool) → rank m < 3
+kanji-before : (i : Interpretation) (r : Rule) (test : ℕ → ℕ → Bool) (p : RunState) (x y : ℕ) (ys : List ℕ) (m : Mode) (ms : List Mode) (q t a : Bool) → rank m < 3
     → a ≡ allowed_in i r test (state_after p Kanji) (y ∷ ys) (m ∷ ms)
     → (may_take r p x q Kanji && a) ≡ (may_take r p x t Kanji && allowed_in i r test (state_after p Kanji) (y ∷ ys) (m ∷ ms))
 unfolding may_take state_after
-kanji_before i r test HalfPair x y ys m ms q t a k h = h
-kanji_before i r test p x y ys m ms q t a k h = none_both _ _ _ _ h (only_kanji i r test y ys m ms k)
+kanji-before i r test HalfPair x y ys m ms q t a k h = h
+kanji-before i r test p x y ys m ms q t a k h = none-both _ _ _ _ h (only-kanji i r test y ys m ms k)
 
 -- a byte in kanji mode is allowed before the characters of bytes as it is before the bytes
-kanji_same : (i : Interpretation) (r : Rule) (test : ℕ → ℕ → Bool) (p : RunState) (x : ℕ) (xs : List ℕ) (ms : List Mode)
+kanji-same : (i : Interpretation) (r : Rule) (test : ℕ → ℕ → Bool) (p : RunState) (x : ℕ) (xs : List ℕ) (ms : List Mode)
     → allowed r test (state_after p Kanji) (characters_in i xs ms) (doubled i xs ms) ≡ allowed_in i r test (state_after p Kanji) xs ms
     → (may_take r p x (begins_with_pair r test (x ∷ characters_in i xs ms)) Kanji && allowed r test (state_after p Kanji) (characters_in i xs ms) (doubled i xs ms))
     ≡ (may_take r p x (begins_with_pair r test (x ∷ xs)) Kanji && allowed_in i r test (state_after p Kanji) xs ms)
 unfolding begins_with_pair
-kanji_same i r test p x [] ms h = rw (h, (written-none i ms).1) refl
-kanji_same i r test p x (y ∷ ys) [] h = rw (h, (unwritten i y ys).1) refl
-kanji_same i r test p x (y ∷ ys) (Kanji ∷ ms) h = rw (h, characters-step i y ys Kanji ms, (single-byte i y).1, (same_character i y).1) refl
-kanji_same i r test p x (y ∷ ys) (m ∷ ms) h = kanji_before i r test p x y ys m ms _ _ _ (lit< tt) h
+kanji-same i r test p x [] ms h = rw (h, (written-none i ms).1) refl
+kanji-same i r test p x (y ∷ ys) [] h = rw (h, (unwritten i y ys).1) refl
+kanji-same i r test p x (y ∷ ys) (Kanji ∷ ms) h = rw (h, characters_in-step i y ys Kanji ms, (single-byte i y).1, (same-character i y).1) refl
+kanji-same i r test p x (y ∷ ys) (m ∷ ms) h = kanji-before i r test p x y ys m ms _ _ _ (lit< tt) h
 
 -- a byte that is written once may have a mode exactly if its character may
-step_one : (i : Interpretation) (r : Rule) (test : ℕ → ℕ → Bool) (p : RunState) (x : ℕ) (xs : List ℕ) (m : Mode) (ms : List Mode) → is_doubled i x m ≡ false
+step-one : (i : Interpretation) (r : Rule) (test : ℕ → ℕ → Bool) (p : RunState) (x : ℕ) (xs : List ℕ) (m : Mode) (ms : List Mode) → is_doubled i x m ≡ false
     → allowed r test (state_after p m) (characters_in i xs ms) (doubled i xs ms) ≡ allowed_in i r test (state_after p m) xs ms
     → allowed r test p (character_for i x m ∷ characters_in i xs ms) (m ∷ doubled i xs ms)
     ≡ (may_take_in i r p x (begins_with_pair r test (x ∷ xs)) m && allowed_in i r test (state_after p m) xs ms)
 unfolding allowed
-step_one i r test p x xs Kanji ms e h = rw (same_character i x).1 (kanji_same i r test p x xs ms h)
-step_one i r test p x xs m ms e h = rw (h, take_other r p (character_for i x m) (begins_with_pair r test (character_for i x m ∷ characters_in i xs ms)) (begins_with_pair r test (x ∷ xs)) m (lit< tt)) refl
+step-one i r test p x xs Kanji ms e h = rw (same-character i x).1 (kanji-same i r test p x xs ms h)
+step-one i r test p x xs m ms e h = rw (h, take-other r p (character_for i x m) (begins_with_pair r test (character_for i x m ∷ characters_in i xs ms)) (begins_with_pair r test (x ∷ xs)) m (lit< tt)) refl
 
 -- a byte that is written twice may have a mode exactly if its two characters may
-step_two : (i : Interpretation) (r : Rule) (test : ℕ → ℕ → Bool) (p : RunState) (x : ℕ) (xs : List ℕ) (m : Mode) (ms : List Mode) → rank m < 3
+step-two : (i : Interpretation) (r : Rule) (test : ℕ → ℕ → Bool) (p : RunState) (x : ℕ) (xs : List ℕ) (m : Mode) (ms : List Mode) → rank m < 3
     → allowed r test (state_after (state_after p m) m) (characters_in i xs ms) (doubled i xs ms) ≡ allowed_in i r test (state_after (state_after p m) m) xs ms
     → allowed r test p (character_for i x m ∷ character_for i x m ∷ characters_in i xs ms) (m ∷ m ∷ doubled i xs ms)
     ≡ (may_take_in i r p x (begins_with_pair r test (x ∷ xs)) m && allowed_in i r test (state_after (state_after p m) m) xs ms)
 unfolding allowed
-step_two i r test p x xs m ms k h =
+step-two i r test p x xs m ms k h =
     let c = character_for i x m in
     let q = begins_with_pair r test (c ∷ c ∷ characters_in i xs ms) in
     let t = begins_with_pair r test (c ∷ characters_in i xs ms) in
-    rw (take_other r p c q (begins_with_pair r test (x ∷ xs)) m k)
-    (again_and _ _ _ _ (take_again r p c (begins_with_pair r test (x ∷ xs)) t m k) h)
+    rw (take-other r p c q (begins_with_pair r test (x ∷ xs)) m k)
+    (again-and _ _ _ _ (take-again r p c (begins_with_pair r test (x ∷ xs)) t m k) h)
 
 -- the characters of bytes are allowed exactly if the bytes are
 pub allowed-written : (i : Interpretation) (r : Rule) (test : ℕ → ℕ → Bool) (p : RunState) (xs : List ℕ) (ms : List Mode)
@@ -98,9 +98,9 @@ allowed-written i r test p (x ∷ xs) [] = rw ((unwritten i x xs).0, (unwritten 
 allowed-written i r test p (x ∷ xs) (m ∷ ms) = ⊎_elim
     (λ (e : is_doubled i x m ≡ true).
     let low : rank m < 3 = omega (arith, doubled-rank i x m e) in
-    rw (doubled-step i x xs m ms, characters-step i x xs m ms, e) (step_two i r test p x xs m ms low (allowed-written i r test (state_after (state_after p m) m) xs ms)))
+    rw (doubled-step i x xs m ms, characters_in-step i x xs m ms, e) (step-two i r test p x xs m ms low (allowed-written i r test (state_after (state_after p m) m) xs ms)))
     (λ (e : is_doubled i x m ≡ false).
-    rw (doubled-step i x xs m ms, characters-step i x xs m ms, e) (step_one i r test p x xs m ms e (allowed-written i r test (state_after p m) xs ms)))
+    rw (doubled-step i x xs m ms, characters_in-step i x xs m ms, e) (step-one i r test p x xs m ms e (allowed-written i r test (state_after p m) xs ms)))
     (cases_Bool (is_doubled i x m))
 
 -- the rule allows the modes of the characters exactly if it allows those of the bytes

@@ -25,37 +25,37 @@ pub suits-by : (m : Mode) (xs : List ℕ) → suits m xs ≡ suits_by is_kanji_p
 suits-by m xs = grind arith
 
 -- segments that cover the bytes cover them one after the other
-pub covers_by : (xs : List ℕ) (segs : List Segment) → Covers xs segs → CoversBy is_kanji_pair xs segs
+pub covers-by : (xs : List ℕ) (segs : List Segment) → Covers xs segs → CoversBy is_kanji_pair xs segs
 unfolding Covers CoversBy Suits
-covers_by xs [] h = h.1
-covers_by xs (s ∷ ss) h = search (arith, All-head, All-tail, suits-by, covers_by (drop s.len xs) ss)
+covers-by xs [] h = h.1
+covers-by xs (s ∷ ss) h = search (arith, All-head, All-tail, suits-by, covers-by (drop s.len xs) ss)
 
 -- segments that cover the bytes one after the other cover them
-pub by_covers : (xs : List ℕ) (segs : List Segment) → CoversBy is_kanji_pair xs segs → Covers xs segs
+pub by-covers : (xs : List ℕ) (segs : List Segment) → CoversBy is_kanji_pair xs segs → Covers xs segs
 unfolding Covers CoversBy Suits
-by_covers xs [] h = search (arith, All-nil)
-by_covers xs (s ∷ ss) h = search (arith, All-cons, suits-by, by_covers (drop s.len xs) ss h.3)
+by-covers xs [] h = search (arith, All-nil)
+by-covers xs (s ∷ ss) h = search (arith, All-cons, suits-by, by-covers (drop s.len xs) ss h.3)
 
--- as `CoversBy` with the test for kanji pairs; so other crates see it, as do `in_turn` and `from_turn`
+-- as `CoversBy` with the test for kanji pairs; so other crates see it, as do `in-turn` and `from-turn`
 unfoldable pub CoversInTurn : List ℕ → List Segment → Type 0
 unfolding CoversBy
 CoversInTurn xs segs = CoversBy is_kanji_pair xs segs
 
-pub in_turn : (xs : List ℕ) (segs : List Segment) → Covers xs segs → CoversInTurn xs segs
+pub in-turn : (xs : List ℕ) (segs : List Segment) → Covers xs segs → CoversInTurn xs segs
 unfolding CoversInTurn
-in_turn xs segs h = covers_by xs segs h
+in-turn xs segs h = covers-by xs segs h
 
-pub from_turn : (xs : List ℕ) (segs : List Segment) → CoversInTurn xs segs → Covers xs segs
+pub from-turn : (xs : List ℕ) (segs : List Segment) → CoversInTurn xs segs → Covers xs segs
 unfolding CoversInTurn
-from_turn xs segs h = by_covers xs segs h
+from-turn xs segs h = by-covers xs segs h
 
 -- segments that cover the bytes suit them
-pub covers_suits : (xs : List ℕ) (segs : List Segment) → Covers xs segs → Suits xs segs
+pub covers-suits : (xs : List ℕ) (segs : List Segment) → Covers xs segs → Suits xs segs
 unfolding Covers
-covers_suits xs segs h = h.1
+covers-suits xs segs h = h.1
 
 -- one segment of all bytes covers them if its mode can write them
-pub one_covers : (m : Mode) (xs : List ℕ) → IsTrue (suits m xs) → Covers xs (one_segment m (length xs))
+pub one-covers : (m : Mode) (xs : List ℕ) → IsTrue (suits m xs) → Covers xs (one_segment m (length xs))
 unfolding Covers Suits
-one_covers m [] h = search (arith, All-nil)
-one_covers m (x ∷ xs) h = search (arith, take_all, drop_all, All-nil, All-cons)
+one-covers m [] h = search (arith, All-nil)
+one-covers m (x ∷ xs) h = search (arith, take_all, drop_all, All-nil, All-cons)

@@ -1,25 +1,19 @@
 -- Lists of segments: their bits, their lengths, and what they cover.
-use Rattle.std.proofs.Common.{◌≡◌, ℕ, ◌+◌, ◌*◌, ◌%◌, ◌<◌, ◌≤◌, ◌↔◌, cond, ◌==◌, List, [], ◌∷◌, length, get_or, take, drop, refl, sym, ap, inl, inr, arith, IsTrue, All}
-use Rattle.std.proofs.lemmas.{Bool.cond_both, Bool.eqb-true, List.length-drop, List.drop_all, List.Sums.sum_by-cons}
+use Rattle.std.proofs.Common.{◌≡◌, ℕ, ◌+◌, ◌*◌, ◌<◌, ◌≤◌, ◌↔◌, List, [], ◌∷◌, length, get_or, take, drop, refl, sym, ap, inl, inr, arith, IsTrue, All}
+use Rattle.std.proofs.lemmas.{List.length-drop, List.drop_all, List.Sums.sum_by-cons}
 use Rattle.std.{proofs.{lemmas.List.Elements.{All-head, All-tail}, Math.Seq.drop-cons}, specs.List.sum_by}
-use Rattle.qr_bits.proofs.lemmas.segment.CoverLemmas.{CoversBy, suits-by, covers_by, by_covers}
+use Rattle.qr_bits.proofs.lemmas.segment.CoverLemmas.{CoversBy, suits-by, covers-by, by-covers}
 use Rattle.qr_bits.specs.declared.modes.{Mode.Mode, Mode.TheVariants.Numeric, Rule.Rule}
 use Rattle.qr_bits.specs.{declared.segment.Segment.Segment, Stream.Suits, Modes.{count_width, payload_bits, suits}}
 use Rattle.qr_bits.specs.declared.interpretation.Interpretation.{Interpretation}
 use Rattle.qr_bits.specs.Segmentation.{segment_bits, bits, rank, Covers, IsNotAfter, IsLeastSegmentation, HasFit}
 
 -- a count field has at most 16 bits
-pub count_width_bound : (v : ℕ) (m : Mode) → count_width v m ≤ 16
-count_width_bound v m = grind arith
+pub count_width-bound : (v : ℕ) (m : Mode) → count_width v m ≤ 16
+count_width-bound v m = grind arith
 
-left_over : (n : ℕ) → cond (n % 3 == 0) 0 (cond (n % 3 == 1) 4 7) ≤ 7
-left_over n = grind arith
-
-digits_least : (n : ℕ) → 10 * n ≤ 3 * payload_bits Numeric n
-digits_least n = search (arith, cond_both, eqb-true)
-
-segment_most : (v : ℕ) (s : Segment) → 0 < s.len → segment_bits v s ≤ 35 * s.len
-segment_most v s h = grind (arith, count_width_bound)
+segment-most : (v : ℕ) (s : Segment) → 0 < s.len → segment_bits v s ≤ 35 * s.len
+segment-most v s h = grind (arith, count_width-bound)
 
 -- what stands past the end of a list of segments
 abbrev pub past_end : Segment
@@ -30,52 +24,52 @@ pub bits-drop : (v : ℕ) (segs : List Segment) (i : ℕ) (d : Segment) → i < 
 bits-drop v segs i d h = search (arith, drop-cons)
 
 -- segments that are not empty have no more than 35 bits for each byte
-pub bits_most : (v : ℕ) (segs : List Segment) → All (λ s. 0 < s.len) segs → bits v segs ≤ 35 * sum_by (λ s. s.len) segs
-bits_most v [] h = omega arith
-bits_most v (s ∷ ss) h =
-    omega (arith, segment_most v s (All-head (λ (t : Segment). 0 < t.len) s ss h), bits_most v ss (All-tail (λ (t : Segment). 0 < t.len) s ss h), sum_by-cons (λ (t : Segment). t.len) s ss)
+pub bits-most : (v : ℕ) (segs : List Segment) → All (λ s. 0 < s.len) segs → bits v segs ≤ 35 * sum_by (λ s. s.len) segs
+bits-most v [] h = omega arith
+bits-most v (s ∷ ss) h =
+    omega (arith, segment-most v s (All-head (λ (t : Segment). 0 < t.len) s ss h), bits-most v ss (All-tail (λ (t : Segment). 0 < t.len) s ss h), sum_by-cons (λ (t : Segment). t.len) s ss)
 
-suits_length : (xs : List ℕ) (segs : List Segment) → Suits xs segs → sum_by (λ s. s.len) segs ≡ length xs
+suits-length : (xs : List ℕ) (segs : List Segment) → Suits xs segs → sum_by (λ s. s.len) segs ≡ length xs
 unfolding Suits
-suits_length xs [] h = ap length (sym h)
-suits_length xs (s ∷ ss) h = omega (arith, sum_by-cons (λ (t : Segment). t.len) s ss, suits_length (drop s.len xs) ss h.2, length-drop s.len xs, h.0)
+suits-length xs [] h = ap length (sym h)
+suits-length xs (s ∷ ss) h = omega (arith, sum_by-cons (λ (t : Segment). t.len) s ss, suits-length (drop s.len xs) ss h.2, length-drop s.len xs, h.0)
 
 -- if segments cover the bytes, no segment is empty, and their lengths add up to the number of bytes
-pub covers_all : (xs : List ℕ) (segs : List Segment) → Covers xs segs → All (λ s. 0 < s.len) segs × (sum_by (λ s. s.len) segs ≡ length xs)
+pub covers-all : (xs : List ℕ) (segs : List Segment) → Covers xs segs → All (λ s. 0 < s.len) segs × (sum_by (λ s. s.len) segs ≡ length xs)
 unfolding Covers
-covers_all xs segs h = (h.0, suits_length xs segs h.1)
+covers-all xs segs h = (h.0, suits-length xs segs h.1)
 
 -- if the segments from index i on cover the bytes, the first writes its part, and the others cover the other bytes
-pub covers_next : (xs : List ℕ) (segs : List Segment) (i : ℕ) (d : Segment) → i < length segs → Covers xs (drop i segs)
+pub covers-next : (xs : List ℕ) (segs : List Segment) (i : ℕ) (d : Segment) → i < length segs → Covers xs (drop i segs)
     → (0 < (get_or segs i d).len) × ((get_or segs i d).len ≤ length xs) × IsTrue (suits (get_or segs i d).mode (take (get_or segs i d).len xs)) × Covers (drop (get_or segs i d).len xs) (drop (i + 1) segs)
 unfolding CoversBy
-covers_next xs segs i d h c = search (arith, drop-cons, covers_by, by_covers, suits-by)
+covers-next xs segs i d h c = search (arith, drop-cons, covers-by, by-covers, suits-by)
 
 -- a segment that writes its part, and others that cover the other bytes, together cover all bytes
-pub next_covers : (xs : List ℕ) (segs : List Segment) (i : ℕ) (d : Segment) → i < length segs
+pub next-covers : (xs : List ℕ) (segs : List Segment) (i : ℕ) (d : Segment) → i < length segs
     → 0 < (get_or segs i d).len → (get_or segs i d).len ≤ length xs → IsTrue (suits (get_or segs i d).mode (take (get_or segs i d).len xs)) → Covers (drop (get_or segs i d).len xs) (drop (i + 1) segs)
     → Covers xs (drop i segs)
 unfolding CoversBy
-next_covers xs segs i d h a b c e = search (arith, by_covers, drop-cons, covers_by, suits-by)
+next-covers xs segs i d h a b c e = search (arith, by-covers, drop-cons, covers-by, suits-by)
 
 -- if no segment is left, exactly the empty list of bytes is covered
-pub covers_end : (xs : List ℕ) (segs : List Segment) (i : ℕ) → length segs ≤ i → (Covers xs (drop i segs) → xs ≡ []) × (xs ≡ [] → Covers xs (drop i segs))
+pub covers-end : (xs : List ℕ) (segs : List Segment) (i : ℕ) → length segs ≤ i → (Covers xs (drop i segs) → xs ≡ []) × (xs ≡ [] → Covers xs (drop i segs))
 unfolding CoversBy
-covers_end xs segs i h = search (arith, drop_all, covers_by, by_covers)
+covers-end xs segs i h = search (arith, drop_all, covers-by, by-covers)
 
 -- three bytes have at least ten bits as data
-pub payload_least : (m : Mode) (n : ℕ) → 10 * n ≤ 3 * payload_bits m n
-payload_least m n = grind arith
+pub payload-least : (m : Mode) (n : ℕ) → 10 * n ≤ 3 * payload_bits m n
+payload-least m n = grind arith
 
 -- a segment has at least its indicator, its count, and ten bits for three bytes
-pub segment_least : (v : ℕ) (s : Segment) → 10 * s.len + 3 * (4 + count_width v s.mode) ≤ 3 * segment_bits v s
-segment_least v s = omega (arith, payload_least s.mode s.len)
+pub segment-least : (v : ℕ) (s : Segment) → 10 * s.len + 3 * (4 + count_width v s.mode) ≤ 3 * segment_bits v s
+segment-least v s = omega (arith, payload-least s.mode s.len)
 
 -- segments have at least ten bits for three bytes
-pub bits_least : (v : ℕ) (xs : List ℕ) (ts : List Segment) → Suits xs ts → 10 * length xs ≤ 3 * bits v ts
+pub bits-least : (v : ℕ) (xs : List ℕ) (ts : List Segment) → Suits xs ts → 10 * length xs ≤ 3 * bits v ts
 unfolding Suits
-bits_least v xs [] h = omega (arith, ap length h)
-bits_least v xs (s ∷ ss) h = omega (arith, segment_least v s, bits_least v (drop s.len xs) ss h.2, length-drop s.len xs, h.0)
+bits-least v xs [] h = omega (arith, ap length h)
+bits-least v xs (s ∷ ss) h = omega (arith, segment-least v s, bits-least v (drop s.len xs) ss h.2, length-drop s.len xs, h.0)
 
 -- The segments of the least segmentation cover its characters, and fit exactly if some valid assignment fits.
 pub least_fits : (i : Interpretation) (v : ℕ) (r : Rule) (xs ys : List ℕ) (segs : List Segment) → IsLeastSegmentation i v r xs ys segs

@@ -6,38 +6,38 @@ use Rattle.qr_bits.specs.Interpretation.{characters_in, doubled}
 use Rattle.qr_bits.specs.Modes.{is_kanji_pair, may_use}
 use Rattle.qr_bits.specs.Segmentation.{bits, runs_of, IsAssignment, IsBestAssignment}
 use Rattle.qr_bits.specs.Steps.{RunState.{allowed_in, cost_of_all, may_end}, BestModes.{follow_in, IsBestTable}}
-use Rattle.qr_bits.proofs.lemmas.segment.CoverLemmas.{covers_by, by_covers}
+use Rattle.qr_bits.proofs.lemmas.segment.CoverLemmas.{covers-by, by-covers}
 use Rattle.qr_bits.proofs.lemmas.run_state.{CostLemmas.bits-runs_of, DoubledLemmas.{allowed-written, cost-written, list_all-doubled}}
-use Rattle.qr_bits.proofs.lemmas.run_state.AssignmentLemmas.{can_take, is_assignment}
-use Rattle.qr_bits.proofs.lemmas.best_modes.TableLemmas.{bytes_rest}
+use Rattle.qr_bits.proofs.lemmas.run_state.AssignmentLemmas.{can-take, is-assignment}
+use Rattle.qr_bits.proofs.lemmas.best_modes.TableLemmas.{bytes-rest}
 
 -- the bits of an assignment are those that its bytes add
 pub bits-assigned : (i : Interpretation) (v : ℕ) (xs : List ℕ) (ms : List Mode) → bits v (runs_of (doubled i xs ms)) ≡ cost_of_all i v Start xs ms
 bits-assigned i v xs ms = bits-runs_of v (doubled i xs ms) ∙ cost-written i v Start xs ms
 
 -- the modes of a valid assignment are allowed
-pub assigned_allowed : (i : Interpretation) (r : Rule) (xs : List ℕ) (ms : List Mode) → IsAssignment i r xs ms → allowed_in i r is_kanji_pair Start xs ms ≡ true
+pub assigned-allowed : (i : Interpretation) (r : Rule) (xs : List ℕ) (ms : List Mode) → IsAssignment i r xs ms → allowed_in i r is_kanji_pair Start xs ms ≡ true
 unfolding may_end
-assigned_allowed i r xs ms h =
+assigned-allowed i r xs ms h =
     sym (allowed-written i r is_kanji_pair Start xs ms)
-    ∙ can_take is_kanji_pair r (characters_in i xs ms) (doubled i xs ms) (list_all-doubled i (may_use r) xs ms ∙ h.0, covers_by _ _ h.1) Start refl
+    ∙ can-take is_kanji_pair r (characters_in i xs ms) (doubled i xs ms) (list_all-doubled i (may_use r) xs ms ∙ h.0, covers-by _ _ h.1) Start refl
 
 -- modes that are allowed are a valid assignment
-pub allowed_assigned : (i : Interpretation) (r : Rule) (xs : List ℕ) (ms : List Mode) → allowed_in i r is_kanji_pair Start xs ms ≡ true → IsAssignment i r xs ms
+pub allowed-assigned : (i : Interpretation) (r : Rule) (xs : List ℕ) (ms : List Mode) → allowed_in i r is_kanji_pair Start xs ms ≡ true → IsAssignment i r xs ms
 unfolding may_end
-allowed_assigned i r xs ms h =
-    let is = is_assignment is_kanji_pair r (characters_in i xs ms) (doubled i xs ms) Start refl (allowed-written i r is_kanji_pair Start xs ms ∙ h) in
-    (sym (list_all-doubled i (may_use r) xs ms) ∙ is.0, by_covers _ _ is.1)
+allowed-assigned i r xs ms h =
+    let is = is-assignment is_kanji_pair r (characters_in i xs ms) (doubled i xs ms) Start refl (allowed-written i r is_kanji_pair Start xs ms ∙ h) in
+    (sym (list_all-doubled i (may_use r) xs ms) ∙ is.0, by-covers _ _ is.1)
 
 -- the modes to which a table leads are the best assignment
-pub assignment_from_table : (i : Interpretation) (v : ℕ) (r : Rule) (xs : List ℕ) (rows : List ℕ) → IsBestTable i v r is_kanji_pair xs rows → IsBestAssignment i v r xs (follow_in i Start xs rows)
+pub assignment-from-table : (i : Interpretation) (v : ℕ) (r : Rule) (xs : List ℕ) (rows : List ℕ) → IsBestTable i v r is_kanji_pair xs rows → IsBestAssignment i v r xs (follow_in i Start xs rows)
 unfolding may_end
-assignment_from_table i v r xs rows table =
-    let some = table Start (replicate (length xs) Byte) (bytes_rest i r is_kanji_pair Start xs refl) in
+assignment-from-table i v r xs rows table =
+    let some = table Start (replicate (length xs) Byte) (bytes-rest i r is_kanji_pair Start xs refl) in
     let ms = follow_in i Start xs rows in
     let best = some.1 in
     record {
-      assignment = allowed_assigned i r xs ms best.is_allowed;
-      least = λ ks h. rw (bits-assigned i v xs ms, bits-assigned i v xs ks, best.has_bits) (best.least ks (assigned_allowed i r xs ks h));
-      first = λ ks h e. best.first ks (assigned_allowed i r xs ks h) (sym (bits-assigned i v xs ks) ∙ e ∙ bits-assigned i v xs ms ∙ best.has_bits);
+      assignment = allowed-assigned i r xs ms best.is_allowed;
+      least = λ ks h. rw (bits-assigned i v xs ms, bits-assigned i v xs ks, best.has_bits) (best.least ks (assigned-allowed i r xs ks h));
+      first = λ ks h e. best.first ks (assigned-allowed i r xs ks h) (sym (bits-assigned i v xs ks) ∙ e ∙ bits-assigned i v xs ms ∙ best.has_bits);
     }

@@ -6,17 +6,17 @@ use Rattle.qr_bits.specs.{declared.modes.Rule.Rule, declared.segment.Segment.Seg
 use Rattle.qr_bits.specs.{Segmentation.{rank, prepend_mode, runs_of}, Steps.Segmentation.{one_segment, append_mode}}
 use Rattle.qr_bits.specs.{declared.run_state.RunState.RunState, Steps.RunState.state_after, Steps.RunState.state_on, Steps.BestModes.follow, Steps.BestModes.mode_at}
 use denote.Enum.Bare.{sameb, same_true}
-use Rattle.qr_bits.proofs.lemmas.{run_state.BestLemmas.same_rank, best_modes.ChoiceLemmas.on_after, best_modes.TableLemmas.led_on}
+use Rattle.qr_bits.proofs.lemmas.{run_state.BestLemmas.same-rank, best_modes.ChoiceLemmas.on-after, best_modes.TableLemmas.led-on}
 
-both_ends : (k : Mode) (segs : List Segment) (m : Mode) → prepend_mode k (append_mode segs m) ≡ append_mode (prepend_mode k segs) m
+both-ends : (k : Mode) (segs : List Segment) (m : Mode) → prepend_mode k (append_mode segs m) ≡ append_mode (prepend_mode k segs) m
 unfolding append_mode
-both_ends k segs m = grind arith
+both-ends k segs m = grind arith
 
 -- the runs of modes with one more mode after them
 pub runs_of-push : (ms : List Mode) (m : Mode) → runs_of (ms ++ m ∷ []) ≡ append_mode (runs_of ms) m
 unfolding runs_of append_mode
 runs_of-push [] m = refl
-runs_of-push (k ∷ ms) m = cc (runs_of-push ms m, both_ends k (runs_of ms) m)
+runs_of-push (k ∷ ms) m = cc (runs_of-push ms m, both-ends k (runs_of ms) m)
 
 -- a mode added after the last of some segments
 pub append_mode-last : (ss : List Segment) (s : Segment) (m : Mode) → append_mode (ss ++ s ∷ []) m ≡ ss ++ append_mode (s ∷ []) m
@@ -26,17 +26,17 @@ append_mode-last (t ∷ []) s m = refl
 append_mode-last (t ∷ u ∷ ss) s m = cc (append_mode-last (u ∷ ss) s m)
 
 -- one more byte in the same mode: the last segment grows, or is the first one
-pub run_same : (segs : List Segment) (m : Mode) (n : ℕ) → (n ≡ 0 → segs ≡ []) → append_mode (segs ++ one_segment m n) m ≡ segs ++ one_segment m (n + 1)
+pub run-same : (segs : List Segment) (m : Mode) (n : ℕ) → (n ≡ 0 → segs ≡ []) → append_mode (segs ++ one_segment m n) m ≡ segs ++ one_segment m (n + 1)
 unfolding append_mode
-run_same segs m n none = grind (arith, append_mode-last, nat_tests)
+run-same segs m n none = grind (arith, append_mode-last, nat_tests)
 
 -- one more byte in another mode: a new segment begins
-pub run_other : (segs : List Segment) (k m : Mode) (n : ℕ) → (n ≡ 0 → segs ≡ []) → (k ≡ m → ⊥) → append_mode (segs ++ one_segment k n) m ≡ (segs ++ one_segment k n) ++ one_segment m 1
+pub run-other : (segs : List Segment) (k m : Mode) (n : ℕ) → (n ≡ 0 → segs ≡ []) → (k ≡ m → ⊥) → append_mode (segs ++ one_segment k n) m ≡ (segs ++ one_segment k n) ++ one_segment m 1
 unfolding append_mode
-run_other segs k m n none other = grind (arith, append_mode-last, ne_eqb, same_rank, append_assoc)
+run-other segs k m n none other = grind (arith, append_mode-last, ne_eqb, same-rank, append_assoc)
 
-sameb_self : (m : Mode) → sameb the_type m m ≡ true
-sameb_self m = grind arith
+sameb-self : (m : Mode) → sameb the_type m m ≡ true
+sameb-self m = grind arith
 
 -- the modes so far, whose runs were found, the last of them open, and then those to which k rows of the table lead
 pub record IsFound (all : List Mode) (most : ℕ) (found : List Segment) (m : Mode) (n : ℕ) (p : RunState) (rows : List ℕ) (k : ℕ) : Type 0 where
@@ -48,24 +48,24 @@ pub record IsFound (all : List Mode) (most : ℕ) (found : List Segment) (m : Mo
   pub next : state_on p ≡ state_after p m
 
 -- one more row, whose mode goes on with the open run or begins one
-pub found_more : {all : List Mode} {most n k : ℕ} {found : List Segment} {m : Mode} {p : RunState} {items : List ℕ} (rows : List ℕ) (row j i : ℕ) (w : Mode) (new : List Segment)
+pub found-more : {all : List Mode} {most n k : ℕ} {found : List Segment} {m : Mode} {p : RunState} {items : List ℕ} (rows : List ℕ) (row j i : ℕ) (w : Mode) (new : List Segment)
     → IsFound all most found m n p items k → items ≡ rows ++ row ∷ [] → j + 1 ≡ k → w ≡ mode_at row p
     → (i ≡ 0) ⊎ (i ≡ n) → new ++ one_segment w (i + 1) ≡ append_mode (found ++ one_segment m n) w → IsFound all most new w (i + 1) (state_after p w) rows j
-found_more {p = p} rows row j i w new h e l is low f = record {
+found-more {p = p} rows row j i w new h e l is low f = record {
   modes = h.modes ++ w ∷ [];
   runs = f ∙ ap (λ (r : List Segment). append_mode r w) h.runs ∙ sym (runs_of-push h.modes w);
-  led = led_on p _ _ _ h.modes _ w e is h.led;
+  led = led-on p _ _ _ h.modes _ w e is h.led;
   few = omega (arith, h.few, l, low);
   first = λ z. absurd (omega arith);
-  next = on_after p w;
+  next = on-after p w;
 }
 
 -- equal modes by the test, and unequal ones
-pub same_mode : (k m : Mode) → true ≡ sameb the_type k m → k ≡ m
-same_mode k m h = same_true the_type (search rules) k m (sym h)
+pub same-mode : (k m : Mode) → true ≡ sameb the_type k m → k ≡ m
+same-mode k m h = same_true the_type (search rules) k m (sym h)
 
-pub other_mode : (k m : Mode) → false ≡ sameb the_type m k → k ≡ m → ⊥
-other_mode k m h e = false≢true (h ∙ rw e (sameb_self m))
+pub other-mode : (k m : Mode) → false ≡ sameb the_type m k → k ≡ m → ⊥
+other-mode k m h e = false≢true (h ∙ rw e (sameb-self m))
 
 sum_by-prepend_mode : (m : Mode) (segs : List Segment) → sum_by (λ s. s.len) (prepend_mode m segs) ≡ 1 + sum_by (λ s. s.len) segs
 sum_by-prepend_mode m [] = refl
@@ -87,6 +87,6 @@ runs_of-replicate m (suc zero) = refl
 runs_of-replicate m (suc (suc n)) = search (arith, nat_tests, runs_of-replicate m (suc n))
 
 -- if the rule allows a mode, it allows it for each byte
-pub all_used : (r : Rule) (m : Mode) (n : ℕ) → may_use r m ≡ true → list_all (may_use r) (replicate n m) ≡ true
-all_used r m zero u = refl
-all_used r m (suc n) u = search (arith, and_from, all_used r m n u)
+pub all-used : (r : Rule) (m : Mode) (n : ℕ) → may_use r m ≡ true → list_all (may_use r) (replicate n m) ≡ true
+all-used r m zero u = refl
+all-used r m (suc n) u = search (arith, and_from, all-used r m n u)

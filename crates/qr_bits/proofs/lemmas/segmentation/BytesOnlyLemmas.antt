@@ -1,7 +1,7 @@
 -- If only byte mode may be used, there is one valid assignment: byte mode for each byte.
 use Rattle.std.proofs.Common.{◌≡◌, ℕ, ◌+◌, ◌*◌, ◌<◌, ◌≤◌, min, take, ⊎_elim, true, List, [], ◌∷◌, length, replicate, refl, sym, arith, inr}
 use Rattle.std.proofs.Math.Nat.{le_refl}
-use Rattle.qr_bits.proofs.lemmas.best_modes.ChoiceLemmas.{byte_used}
+use Rattle.qr_bits.proofs.lemmas.best_modes.ChoiceLemmas.{byte-used}
 use Rattle.std.{proofs.lemmas.List.take_all, proofs.lemmas.List.length-take-le, proofs.lemmas.Bool.cases_lt, specs.List.list_all}
 use Rattle.qr_bits.specs.declared.modes.{Mode.Mode, Mode.TheVariants.Byte, Rule.Rule, Rule.TheVariants.BytesOnly}
 use Rattle.qr_bits.specs.declared.interpretation.Interpretation.{Interpretation}
@@ -9,71 +9,71 @@ use Rattle.qr_bits.specs.Interpretation.{characters_in, doubled}
 use Rattle.qr_bits.proofs.lemmas.interpretation.WrittenLemmas.{characters-bytes, doubled-bytes, length-written}
 use Rattle.qr_bits.specs.Segmentation.{bits, HasFit, IsAssignment, IsNotAfter, IsLeastSegmentation, IsLongestFit}
 use Rattle.qr_bits.specs.{Modes.may_use, Modes.count_width, Steps.Segmentation.one_segment}
-use Rattle.qr_bits.proofs.lemmas.segment.{CoverLemmas.one_covers, SegmentLemmas.covers_all, SegmentLemmas.least_fits}
-use Rattle.qr_bits.proofs.lemmas.segmentation.BackLemmas.{sum_by-runs_of, runs_of-replicate, all_used}
+use Rattle.qr_bits.proofs.lemmas.segment.{CoverLemmas.one-covers, SegmentLemmas.covers-all, SegmentLemmas.least_fits}
+use Rattle.qr_bits.proofs.lemmas.segmentation.BackLemmas.{sum_by-runs_of, runs_of-replicate, all-used}
 
-only_bytes : (ks : List Mode) → list_all (may_use BytesOnly) ks ≡ true → ks ≡ replicate (length ks) Byte
-only_bytes [] u = refl
-only_bytes (Byte ∷ ks) u = cc (only_bytes ks u)
-only_bytes (_ ∷ ks) u = cc
+only-bytes : (ks : List Mode) → list_all (may_use BytesOnly) ks ≡ true → ks ≡ replicate (length ks) Byte
+only-bytes [] u = refl
+only-bytes (Byte ∷ ks) u = cc (only-bytes ks u)
+only-bytes (_ ∷ ks) u = cc
 
-not_after_self : (ms : List Mode) → IsNotAfter ms ms
-not_after_self [] = tt
-not_after_self (m ∷ ms) = inr (refl, not_after_self ms)
+not-after-self : (ms : List Mode) → IsNotAfter ms ms
+not-after-self [] = tt
+not-after-self (m ∷ ms) = inr (refl, not-after-self ms)
 
 -- an assignment has a mode for each byte
 pub assignment-length : (i : Interpretation) (r : Rule) (xs : List ℕ) (ks : List Mode) → IsAssignment i r xs ks → length ks ≡ length xs
 assignment-length i r xs ks h =
-    omega (arith, length-written i xs ks, (covers_all (characters_in i xs ks) _ h.1).1, sum_by-runs_of (doubled i xs ks))
+    omega (arith, length-written i xs ks, (covers-all (characters_in i xs ks) _ h.1).1, sum_by-runs_of (doubled i xs ks))
 
-one_assignment : (i : Interpretation) (xs : List ℕ) (ks : List Mode) → IsAssignment i BytesOnly xs ks → ks ≡ replicate (length xs) Byte
-one_assignment i xs ks h = rw (← assignment-length i BytesOnly xs ks h) (only_bytes ks h.0)
+one-assignment : (i : Interpretation) (xs : List ℕ) (ks : List Mode) → IsAssignment i BytesOnly xs ks → ks ≡ replicate (length xs) Byte
+one-assignment i xs ks h = rw (← assignment-length i BytesOnly xs ks h) (only-bytes ks h.0)
 
 -- byte mode for each byte is an assignment
-bytes_assigned : (i : Interpretation) (r : Rule) (xs : List ℕ) → IsAssignment i r xs (replicate (length xs) Byte)
-bytes_assigned i r xs =
-    rw (characters-bytes i xs (length xs), doubled-bytes i xs (length xs)) (search (arith, all_used, byte_used, runs_of-replicate, one_covers))
+bytes-assigned : (i : Interpretation) (r : Rule) (xs : List ℕ) → IsAssignment i r xs (replicate (length xs) Byte)
+bytes-assigned i r xs =
+    rw (characters-bytes i xs (length xs), doubled-bytes i xs (length xs)) (search (arith, all-used, byte-used, runs_of-replicate, one-covers))
 
 -- If only byte mode may be used, the one segment of all bytes is the least segmentation.
-pub bytes_least : (i : Interpretation) (v : ℕ) (xs : List ℕ) → IsLeastSegmentation i v BytesOnly xs xs (one_segment Byte (length xs))
-bytes_least i v xs = (
+pub bytes-least : (i : Interpretation) (v : ℕ) (xs : List ℕ) → IsLeastSegmentation i v BytesOnly xs xs (one_segment Byte (length xs))
+bytes-least i v xs = (
   replicate (length xs) Byte,
   record {
-    assignment = bytes_assigned i BytesOnly xs;
-    least = λ ks h. rw (one_assignment i xs ks h) (le_refl _);
-    first = λ ks h _. rw (one_assignment i xs ks h) (not_after_self _);
+    assignment = bytes-assigned i BytesOnly xs;
+    least = λ ks h. rw (one-assignment i xs ks h) (le_refl _);
+    first = λ ks h _. rw (one-assignment i xs ks h) (not-after-self _);
   },
   rw (doubled-bytes i xs (length xs)) (sym (runs_of-replicate Byte (length xs))),
   sym (characters-bytes i xs (length xs)),
 )
 
-bits-most : (v n : ℕ) → bits v (one_segment Byte n) ≤ 4 + count_width v Byte + 8 * n
-bits-most v n = grind arith
+byte-bits-most : (v n : ℕ) → bits v (one_segment Byte n) ≤ 4 + count_width v Byte + 8 * n
+byte-bits-most v n = grind arith
 
 -- The longest prefix that fits as one byte segment is the longest prefix that fits.
-pub bytes_longest : (i : Interpretation) (v : ℕ) (xs : List ℕ) (room n k : ℕ) → n ≡ min (length xs) k → 4 + count_width v Byte + 8 * k ≤ room → room < 4 + count_width v Byte + 8 * (k + 1)
+pub bytes-longest : (i : Interpretation) (v : ℕ) (xs : List ℕ) (room n k : ℕ) → n ≡ min (length xs) k → 4 + count_width v Byte + 8 * k ≤ room → room < 4 + count_width v Byte + 8 * (k + 1)
     → IsLongestFit i v BytesOnly xs room n
-bytes_longest i v xs room n k e fits most =
+bytes-longest i v xs room n k e fits most =
     let inside : n ≤ length xs = omega arith in
     let len = length-take-le n xs inside in
     record {
       inside = inside;
-      fits = ((least_fits i v BytesOnly (take n xs) _ _ (bytes_least i v (take n xs))).1 room).1 (rw len (omega (arith, bits-most v n)));
+      fits = ((least_fits i v BytesOnly (take n xs) _ _ (bytes-least i v (take n xs))).1 room).1 (rw len (omega (arith, byte-bits-most v n)));
       longest = λ j h fit.
           ⊎_elim (λ (none : j < 1). omega arith) (λ (some : 1 ≤ j).
-          let few = ((least_fits i v BytesOnly (take j xs) _ _ (bytes_least i v (take j xs))).1 room).0 fit in
+          let few = ((least_fits i v BytesOnly (take j xs) _ _ (bytes-least i v (take j xs))).1 room).0 fit in
           grind (arith, length-take-le)) (cases_lt j 1);
     }
 
 -- An input fits where it fits in byte mode alone.
-pub bytes_fit : (i : Interpretation) (v : ℕ) (r : Rule) (xs : List ℕ) (room : ℕ) → 4 + count_width v Byte + 8 * length xs ≤ room → HasFit i v r xs room
-bytes_fit i v r xs room few =
-    (replicate (length xs) Byte, bytes_assigned i r xs, rw (doubled-bytes i xs (length xs), runs_of-replicate Byte (length xs)) (omega (arith, bits-most v (length xs))))
+pub bytes-fit : (i : Interpretation) (v : ℕ) (r : Rule) (xs : List ℕ) (room : ℕ) → 4 + count_width v Byte + 8 * length xs ≤ room → HasFit i v r xs room
+bytes-fit i v r xs room few =
+    (replicate (length xs) Byte, bytes-assigned i r xs, rw (doubled-bytes i xs (length xs), runs_of-replicate Byte (length xs)) (omega (arith, byte-bits-most v (length xs))))
 
 -- An input that fits in byte mode alone is its own longest prefix that fits.
-pub whole_longest : (i : Interpretation) (v : ℕ) (r : Rule) (xs : List ℕ) (room : ℕ) → 4 + count_width v Byte + 8 * length xs ≤ room → IsLongestFit i v r xs room (length xs)
-whole_longest i v r xs room few = record {
+pub whole-longest : (i : Interpretation) (v : ℕ) (r : Rule) (xs : List ℕ) (room : ℕ) → 4 + count_width v Byte + 8 * length xs ≤ room → IsLongestFit i v r xs room (length xs)
+whole-longest i v r xs room few = record {
   inside = le_refl (length xs);
-  fits = rw (take_all (length xs) xs (le_refl (length xs))) (bytes_fit i v r xs room few);
+  fits = rw (take_all (length xs) xs (le_refl (length xs))) (bytes-fit i v r xs room few);
   longest = λ k h _. h;
 }

@@ -9,51 +9,51 @@ use Rattle.qr_bits.specs.Interpretation.{characters_in}
 use Rattle.qr_bits.proofs.lemmas.interpretation.WrittenLemmas.{characters-digits, characters-longer, doubled-digits}
 use Rattle.qr_bits.proofs.lemmas.segmentation.BytesOnlyLemmas.{assignment-length}
 use Rattle.qr_bits.specs.Segmentation.{bits, IsNotAfter, IsLeastSegmentation}
-use Rattle.qr_bits.proofs.lemmas.segment.{CoverLemmas.{CoversBy, covers_by, one_covers}}
-use Rattle.qr_bits.proofs.lemmas.segmentation.BackLemmas.{runs_of-replicate, all_used}
+use Rattle.qr_bits.proofs.lemmas.segment.{CoverLemmas.{CoversBy, covers-by, one-covers}}
+use Rattle.qr_bits.proofs.lemmas.segmentation.BackLemmas.{runs_of-replicate, all-used}
 
-digits_bits : (n : ℕ) → payload_bits Numeric n ≡ (10 * n + 2) / 3
-digits_bits n = grind (arith, nat_tests)
+digits-bits : (n : ℕ) → payload_bits Numeric n ≡ (10 * n + 2) / 3
+digits-bits n = grind (arith, nat_tests)
 
-segment_more : (v : ℕ) (m : Mode) (n : ℕ) → 0 < n → 4 + count_width v Numeric + (10 * n + 2) / 3 ≤ 4 + count_width v m + payload_bits m n
-segment_more v m n h = grind (arith, nat_tests)
+segment-more : (v : ℕ) (m : Mode) (n : ℕ) → 0 < n → 4 + count_width v Numeric + (10 * n + 2) / 3 ≤ 4 + count_width v m + payload_bits m n
+segment-more v m n h = grind (arith, nat_tests)
 
 -- any segments take at least as many bits as one segment in numeric mode that has a byte for each of theirs
-segments_more : (v : ℕ) (s : Segment) (ss : List Segment) (xs : List ℕ) → CoversBy is_kanji_pair xs (s ∷ ss) → 4 + count_width v Numeric + (10 * length xs + 2) / 3 ≤ bits v (s ∷ ss)
+segments-more-bits : (v : ℕ) (s : Segment) (ss : List Segment) (xs : List ℕ) → CoversBy is_kanji_pair xs (s ∷ ss) → 4 + count_width v Numeric + (10 * length xs + 2) / 3 ≤ bits v (s ∷ ss)
 unfolding CoversBy
-segments_more v s [] xs c =
+segments-more-bits v s [] xs c =
     let none = ap length c.3 in
-    omega (arith, segment_more v s.mode s.len c.0, length-drop s.len xs, none)
-segments_more v s (t ∷ ts) xs c = omega (arith, segment_more v s.mode s.len c.0, length-drop s.len xs, segments_more v t ts (drop s.len xs) c.3)
+    omega (arith, segment-more v s.mode s.len c.0, length-drop s.len xs, none)
+segments-more-bits v s (t ∷ ts) xs c = omega (arith, segment-more v s.mode s.len c.0, length-drop s.len xs, segments-more-bits v t ts (drop s.len xs) c.3)
 
-digits_fewest : (v : ℕ) (xs : List ℕ) (segs : List Segment) → CoversBy is_kanji_pair xs segs → bits v (one_segment Numeric (length xs)) ≤ bits v segs
+digits-fewest : (v : ℕ) (xs : List ℕ) (segs : List Segment) → CoversBy is_kanji_pair xs segs → bits v (one_segment Numeric (length xs)) ≤ bits v segs
 unfolding CoversBy
-digits_fewest v [] segs c = omega arith
-digits_fewest v (x ∷ xs) [] c = absurd (let e = ap length c in omega arith)
-digits_fewest v (x ∷ xs) (s ∷ ss) c = omega (arith, segments_more v s ss (x ∷ xs) c, digits_bits (length (x ∷ xs)))
+digits-fewest v [] segs c = omega arith
+digits-fewest v (x ∷ xs) [] c = absurd (let e = ap length c in omega arith)
+digits-fewest v (x ∷ xs) (s ∷ ss) c = omega (arith, segments-more-bits v s ss (x ∷ xs) c, digits-bits (length (x ∷ xs)))
 
-digits_first : (n : ℕ) (ks : List Mode) → n ≤ length ks → IsNotAfter (replicate n Numeric) ks
-digits_first zero ks h = tt
-digits_first (suc n) [] h = absurd (omega arith)
-digits_first (suc n) (Numeric ∷ ks) h = inr (refl, digits_first n ks (omega arith))
-digits_first (suc n) (_ ∷ ks) h = inl (lit< tt)
+digits-first : (n : ℕ) (ks : List Mode) → n ≤ length ks → IsNotAfter (replicate n Numeric) ks
+digits-first zero ks h = tt
+digits-first (suc n) [] h = absurd (omega arith)
+digits-first (suc n) (Numeric ∷ ks) h = inr (refl, digits-first n ks (omega arith))
+digits-first (suc n) (_ ∷ ks) h = inl (lit< tt)
 
 one_segment-more : (v k n : ℕ) → k ≤ n → bits v (one_segment Numeric k) ≤ bits v (one_segment Numeric n)
 one_segment-more v zero n h = omega arith
 one_segment-more v (suc k) zero h = absurd (omega arith)
-one_segment-more v (suc k) (suc n) h = omega (arith, digits_bits (suc k), digits_bits (suc n))
+one_segment-more v (suc k) (suc n) h = omega (arith, digits-bits (suc k), digits-bits (suc n))
 
 -- If all bytes are digits, the one segment of all digits is the least segmentation.
-pub digits_least : (i : Interpretation) (v : ℕ) (r : Rule) (xs : List ℕ) → may_use r Numeric ≡ true → IsTrue (suits Numeric xs) → IsLeastSegmentation i v r xs xs (one_segment Numeric (length xs))
-digits_least i v r xs u h =
+pub digits-least : (i : Interpretation) (v : ℕ) (r : Rule) (xs : List ℕ) → may_use r Numeric ≡ true → IsTrue (suits Numeric xs) → IsLeastSegmentation i v r xs xs (one_segment Numeric (length xs))
+digits-least i v r xs u h =
     let written = characters-digits i xs (length xs) in
     let modes = doubled-digits i xs (length xs) in (
       replicate (length xs) Numeric,
       record {
-        assignment = rw (written, modes) (search (arith, all_used, runs_of-replicate, one_covers));
+        assignment = rw (written, modes) (search (arith, all-used, runs_of-replicate, one-covers));
         least = λ ks k. rw (modes, runs_of-replicate Numeric (length xs))
-            (omega (arith, one_segment-more v (length xs) (length (characters_in i xs ks)) (characters-longer i xs ks), digits_fewest v (characters_in i xs ks) _ (covers_by _ _ k.1)));
-        first = λ ks k _. digits_first (length xs) ks (omega (arith, assignment-length i r xs ks k));
+            (omega (arith, one_segment-more v (length xs) (length (characters_in i xs ks)) (characters-longer i xs ks), digits-fewest v (characters_in i xs ks) _ (covers-by _ _ k.1)));
+        first = λ ks k _. digits-first (length xs) ks (omega (arith, assignment-length i r xs ks k));
       },
       rw modes (sym (runs_of-replicate Numeric (length xs))),
       sym written,

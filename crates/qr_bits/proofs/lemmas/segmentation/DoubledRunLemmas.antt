@@ -6,7 +6,7 @@ use Rattle.qr_bits.specs.declared.interpretation.Interpretation.{TheVariants.{Gs
 use Rattle.qr_bits.specs.Interpretation.{character_for, characters_gs1, doubled_gs1, is_doubled, percent}
 use Rattle.qr_bits.specs.Segmentation.{runs_of}
 use Rattle.qr_bits.specs.Steps.{BestModes.{follow_in, mode_at}, RunState.{state_after, state_in, state_on}, Segmentation.{append_mode, is_escaped, one_segment}}
-use Rattle.qr_bits.proofs.lemmas.{best_modes.{ChoiceLemmas.{on_in}, TableLemmas.led_on_in}, interpretation.WrittenLemmas.{characters-append, characters-one, doubled-append, doubled-one}, segmentation.BackLemmas.{run_same, runs_of-push}}
+use Rattle.qr_bits.proofs.lemmas.{best_modes.{ChoiceLemmas.{on-in}, TableLemmas.led-on-in}, interpretation.WrittenLemmas.{characters-append, characters-one, doubled-append, doubled-one}, segmentation.BackLemmas.{run-same, runs_of-push}}
 
 -- of the bytes `xs` the first `i`, whose modes were read, have the segments `found` and one of `n` characters, and their
 -- characters are `chars` and the bytes from `copied` on; `rows` are left of the table
@@ -50,7 +50,7 @@ escaped_more xs chars i = let n : (i + 1) - (i + 1) ≡ 0 = omega arith in rw n 
 runs_more : (ds : List Mode) (found : List Segment) (m : Mode) (n : ℕ) (d : Bool) → 0 < n → found ++ one_segment m n ≡ append_mode (runs_of ds) m
     → found ++ one_segment m (cond d (n + 1) n) ≡ runs_of (ds ++ cond d (m ∷ m ∷ []) (m ∷ []))
 runs_more ds found m n true h e =
-    rw (← append_assoc ds (m ∷ []) (m ∷ []), runs_of-push (ds ++ m ∷ []) m, runs_of-push ds m, ← e) (sym (run_same found m n (λ z. absurd (omega (arith, h, z)))))
+    rw (← append_assoc ds (m ∷ []) (m ∷ []), runs_of-push (ds ++ m ∷ []) m, runs_of-push ds m, ← e) (sym (run-same found m n (λ z. absurd (omega (arith, h, z)))))
 runs_more ds found m n false h e = e ∙ sym (runs_of-push ds m)
 
 -- one more byte, of the mode `w`
@@ -74,9 +74,9 @@ written_more {xs} {all} {i} {found} {m} {n} {p} {rows} {chars} {copied} later ro
       many = length-append h.modes (w ∷ []) ∙ ap (λ (r : ℕ). r + 1) h.many;
       runs = rw (count, more, modes) (runs_more ds new w k (is_doubled Gs1 x w) some (run ∙ ap (λ (r : List Segment). append_mode r w) h.runs));
       characters = characters ∙ rw (more, own, h.characters) refl;
-      led = rw state (led_on_in Gs1 p x (drop (i + 1) xs) rows later row h.modes all w last is (rw next at h.led));
+      led = rw state (led-on-in Gs1 p x (drop (i + 1) xs) rows later row h.modes all w last is (rw next at h.led));
       inside = low;
       short = cond_both (is_doubled Gs1 x w) _ _ (λ (r : ℕ). j ≡ r → j ≤ 2 * (i + 1)) (λ _ e. omega (arith, e, few, h.short)) (λ _ e. omega (arith, e, few, h.short)) count;
       first = cond_both (is_doubled Gs1 x w) _ _ (λ (r : ℕ). j ≡ r → j ≡ 0 → new ≡ []) (λ _ e z. absurd (omega (arith, e, z, some))) (λ _ e z. absurd (omega (arith, e, z, some))) count;
-      next = rw state (on_in Gs1 p x w);
+      next = rw state (on-in Gs1 p x w);
     }

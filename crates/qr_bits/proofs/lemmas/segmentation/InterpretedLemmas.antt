@@ -23,16 +23,16 @@ themselves (x ∷ xs) (m ∷ ms) h =
     let rest = themselves xs ms parts.1 in
     (rw (one.0, rest.0) refl, rw (one.0, one.1, rest.1) refl)
 
-all_themselves : (xs : List ℕ) → not (list_all is_itself xs) ≡ false → list_all is_itself xs ≡ true
-all_themselves xs h = grind arith
+all-themselves : (xs : List ℕ) → not (list_all is_itself xs) ≡ false → list_all is_itself xs ≡ true
+all-themselves xs h = grind arith
 
 -- if each byte is written as itself, the least segmentation is the same as without an interpretation
-pub least_interpreted : (i : Interpretation) (v : ℕ) (r : Rule) (xs : List ℕ) (segs : List Segment) → (is_gs1 i && not (list_all is_itself xs)) ≡ false → IsLeastSegmentation Default v r xs xs segs → IsLeastSegmentation i v r xs xs segs
-least_interpreted Default v r xs segs w h = h
-least_interpreted (Eci n) v r xs segs w h =
+pub least-interpreted : (i : Interpretation) (v : ℕ) (r : Rule) (xs : List ℕ) (segs : List Segment) → (is_gs1 i && not (list_all is_itself xs)) ≡ false → IsLeastSegmentation Default v r xs xs segs → IsLeastSegmentation i v r xs xs segs
+least-interpreted Default v r xs segs w h = h
+least-interpreted (Eci n) v r xs segs w h =
     (h.0, record { assignment = h.1.assignment; least = h.1.least; first = h.1.first }, h.2, h.3)
-least_interpreted Gs1 v r xs segs w h =
-    let all = all_themselves xs w in
+least-interpreted Gs1 v r xs segs w h =
+    let all = all-themselves xs w in
     let own = themselves xs h.0 all in (
       h.0,
       record {

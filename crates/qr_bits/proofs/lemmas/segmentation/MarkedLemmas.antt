@@ -12,7 +12,7 @@ use Rattle.qr_bits.specs.Modes.{is_kanji_pair}
 use Rattle.qr_bits.specs.Segmentation.{IsAssignment, IsLeastSegmentation}
 use Rattle.qr_bits.specs.Steps.RunState.{allowed_in, begins_with_pair, may_begin, may_take, state_after}
 use Rattle.qr_bits.specs.Steps.Segmentation.{written_in, is_single, marked, written}
-use Rattle.qr_bits.proofs.lemmas.segmentation.{AssignedLemmas.{allowed_assigned, assigned_allowed}, BackLemmas.sum_by-runs_of, BytesOnlyLemmas.assignment-length, RunLemmas.{escaped-marked, runs-written}}
+use Rattle.qr_bits.proofs.lemmas.segmentation.{AssignedLemmas.{allowed-assigned, assigned-allowed}, BackLemmas.sum_by-runs_of, BytesOnlyLemmas.assignment-length, RunLemmas.{escaped-marked, runs-written}}
 
 -- a byte other than `%` is one character
 single-one : (x : ℕ) (m : Mode) → is_single x ≡ true → is_doubled Gs1 x m ≡ false
@@ -54,25 +54,25 @@ allowed-marked r p (x ∷ xs) (m ∷ ms) h =
     let parts = and_parts (is_single x) (list_all is_single xs) h in
     rw (single-one x m parts.0, pairs-marked r (x ∷ xs), take-marked r p x (begins_with_pair r is_kanji_pair (x ∷ xs)) m, allowed-marked r (state_after p m) xs ms parts.1) refl
 
-to_marked : (r : Rule) (xs : List ℕ) (ms : List Mode) → list_all is_single xs ≡ true → IsAssignment Gs1 r xs ms → IsAssignment Default r (map marked xs) ms
-to_marked r xs ms h a = allowed_assigned Default r (map marked xs) ms (sym (allowed-marked r Start xs ms h) ∙ assigned_allowed Gs1 r xs ms a)
+to-marked : (r : Rule) (xs : List ℕ) (ms : List Mode) → list_all is_single xs ≡ true → IsAssignment Gs1 r xs ms → IsAssignment Default r (map marked xs) ms
+to-marked r xs ms h a = allowed-assigned Default r (map marked xs) ms (sym (allowed-marked r Start xs ms h) ∙ assigned-allowed Gs1 r xs ms a)
 
-from_marked : (r : Rule) (xs : List ℕ) (ms : List Mode) → list_all is_single xs ≡ true → IsAssignment Default r (map marked xs) ms → IsAssignment Gs1 r xs ms
-from_marked r xs ms h a = allowed_assigned Gs1 r xs ms (allowed-marked r Start xs ms h ∙ assigned_allowed Default r (map marked xs) ms a)
+from-marked : (r : Rule) (xs : List ℕ) (ms : List Mode) → list_all is_single xs ≡ true → IsAssignment Default r (map marked xs) ms → IsAssignment Gs1 r xs ms
+from-marked r xs ms h a = allowed-assigned Gs1 r xs ms (allowed-marked r Start xs ms h ∙ assigned-allowed Default r (map marked xs) ms a)
 
 -- Without `%`, the segments of the marked copy are those of the bytes.
-pub least_marked : (v : ℕ) (r : Rule) (xs : List ℕ) (segs : List Segment) → list_all is_single xs ≡ true
+pub least-marked : (v : ℕ) (r : Rule) (xs : List ℕ) (segs : List Segment) → list_all is_single xs ≡ true
     → IsLeastSegmentation Default v r (map marked xs) (map marked xs) segs → IsLeastSegmentation Gs1 v r xs (written_in xs segs) segs
-least_marked v r xs segs single h =
+least-marked v r xs segs single h =
     let ms = h.0 in
     let own = single-modes xs ms single in
-    let assignment = from_marked r xs ms single h.1.assignment in
+    let assignment = from-marked r xs ms single h.1.assignment in
     let runs = runs-written xs ms (sym (assignment-length Gs1 r xs ms assignment)) in (
       ms,
       record {
         assignment = assignment;
-        least = λ ks k. rw (own, single-modes xs ks single) (h.1.least ks (to_marked r xs ks single k));
-        first = λ ks k e. h.1.first ks (to_marked r xs ks single k) (rw (own, single-modes xs ks single) at e);
+        least = λ ks k. rw (own, single-modes xs ks single) (h.1.least ks (to-marked r xs ks single k));
+        first = λ ks k e. h.1.first ks (to-marked r xs ks single k) (rw (own, single-modes xs ks single) at e);
       },
       rw own h.2,
       rw h.2 (sym runs.0),

@@ -6,7 +6,7 @@ use Rattle.qr_bits.specs.declared.{modes.Mode.Mode, segment.Segment.Segment}
 use Rattle.qr_bits.specs.declared.interpretation.Interpretation.{TheVariants.{Gs1}}
 use Rattle.qr_bits.specs.Interpretation.{escaped, is_doubled, character_for, characters_gs1, doubled_gs1}
 use Rattle.qr_bits.specs.{Segmentation.{rank, prepend_mode, runs_of}, Steps.Segmentation.{written_in, is_single, marked, written}}
-use Rattle.qr_bits.proofs.lemmas.run_state.BestLemmas.{same_rank}
+use Rattle.qr_bits.proofs.lemmas.run_state.BestLemmas.{same-rank}
 
 -- without `%` each byte is written as one character
 pub escaped-marked : (xs : List ℕ) → list_all is_single xs ≡ true → escaped xs ≡ map marked xs
@@ -27,15 +27,15 @@ written-more : (m : Mode) (x : ℕ) (xs : List ℕ)
 unfolding escaped
 written-more m x xs = grind (arith, eqb-true)
 
-written-none : (m : Mode) → written m [] ≡ []
+none-written : (m : Mode) → written m [] ≡ []
 unfolding escaped
-written-none m = grind arith
+none-written m = grind arith
 
-one_suc : (n : ℕ) → 1 + n ≡ suc n
-one_suc n = omega arith
+one-suc : (n : ℕ) → 1 + n ≡ suc n
+one-suc n = omega arith
 
 written-one : (m : Mode) (x : ℕ) → written m (x ∷ []) ≡ cond (is_doubled Gs1 x m) (character_for Gs1 x m ∷ character_for Gs1 x m ∷ []) (character_for Gs1 x m ∷ [])
-written-one m x = rw (written-more m x [], written-none m) refl
+written-one m x = rw (written-more m x [], none-written m) refl
 
 cond-append : (b : Bool) (c : ℕ) (ys zs : List ℕ) → cond b (c ∷ c ∷ ys) (c ∷ ys) ++ zs ≡ cond b (c ∷ c ∷ (ys ++ zs)) (c ∷ (ys ++ zs))
 cond-append true c ys zs = refl
@@ -53,7 +53,7 @@ prepend-self m n ss = grind arith
 characters-grown : (m : Mode) (x : ℕ) (xs : List ℕ) (n : ℕ) (ss : List Segment)
     → written_in (x ∷ xs) (record { mode = m; len = 1 + n } ∷ ss) ≡ cond (is_doubled Gs1 x m) (character_for Gs1 x m ∷ character_for Gs1 x m ∷ written_in xs (record { mode = m; len = n } ∷ ss)) (character_for Gs1 x m ∷ written_in xs (record { mode = m; len = n } ∷ ss))
 unfolding written_in
-characters-grown m x xs n ss = rw (one_suc n, written-more m x (take n xs)) (cond-append (is_doubled Gs1 x m) (character_for Gs1 x m) (written m (take n xs)) (written_in (drop n xs) ss))
+characters-grown m x xs n ss = rw (one-suc n, written-more m x (take n xs)) (cond-append (is_doubled Gs1 x m) (character_for Gs1 x m) (written m (take n xs)) (written_in (drop n xs) ss))
 
 characters-begun : (m : Mode) (x : ℕ) (xs : List ℕ) (ss : List Segment)
     → written_in (x ∷ xs) (record { mode = m; len = 1 } ∷ ss) ≡ cond (is_doubled Gs1 x m) (character_for Gs1 x m ∷ character_for Gs1 x m ∷ written_in xs ss) (character_for Gs1 x m ∷ written_in xs ss)
@@ -68,7 +68,7 @@ characters-prepend m x xs (s ∷ ss) =
     let c = character_for Gs1 x m in
     let rest = written_in xs (s ∷ ss) in
     cond_both (rank m == rank s.mode) _ _ (λ (r : List Segment). written_in (x ∷ xs) r ≡ cond (is_doubled Gs1 x m) (c ∷ c ∷ rest) (c ∷ rest))
-    (λ e. rw (same_rank m s.mode (eqb-true _ _ e)) (characters-grown s.mode x xs s.len ss)) (λ _. characters-begun m x xs (s ∷ ss))
+    (λ e. rw (same-rank m s.mode (eqb-true _ _ e)) (characters-grown s.mode x xs s.len ss)) (λ _. characters-begun m x xs (s ∷ ss))
 
 -- one more byte in the first segment adds one character to it, or two if the byte is doubled
 segments-grown : (m : Mode) (x : ℕ) (xs : List ℕ) (n : ℕ) (ss : List Segment)
@@ -77,7 +77,7 @@ unfolding segments_of
 segments-grown m x xs n ss =
     let l = length (written m (take n xs)) in
     let later = segments_of (drop n xs) ss in
-    rw (one_suc n, written-more m x (take n xs), prepend-self m l later, prepend-self m (1 + l) later) (cond-length (is_doubled Gs1 x m) (character_for Gs1 x m) (written m (take n xs)) m later)
+    rw (one-suc n, written-more m x (take n xs), prepend-self m l later, prepend-self m (1 + l) later) (cond-length (is_doubled Gs1 x m) (character_for Gs1 x m) (written m (take n xs)) m later)
 
 segments-same : (m : Mode) (x : ℕ) (xs : List ℕ) (n : ℕ) (ss : List Segment)
     → segments_of (x ∷ xs) (prepend_mode m (record { mode = m; len = n } ∷ ss)) ≡ cond (is_doubled Gs1 x m) (prepend_mode m (prepend_mode m (segments_of xs (record { mode = m; len = n } ∷ ss)))) (prepend_mode m (segments_of xs (record { mode = m; len = n } ∷ ss)))
@@ -98,7 +98,7 @@ unfolding segments_of
 segments-prepend m x xs [] = segments-begun m x xs []
 segments-prepend m x xs (s ∷ ss) =
     let rest = segments_of xs (s ∷ ss) in ⊎_elim
-    (λ (e : (rank m == rank s.mode) ≡ true). rw (same_rank m s.mode (eqb-true _ _ e)) (segments-same s.mode x xs s.len ss))
+    (λ (e : (rank m == rank s.mode) ≡ true). rw (same-rank m s.mode (eqb-true _ _ e)) (segments-same s.mode x xs s.len ss))
     (λ (e : (rank m == rank s.mode) ≡ false). rw e (segments-begun m x xs (s ∷ ss)))
     (cases_Bool (rank m == rank s.mode))
 

@@ -9,11 +9,11 @@ use borrow.Author.Tests.{leb-true}
 use Rattle.qr_bits.specs.declared.{modes.Mode.Mode, modes.Mode.TheVariants.Numeric, fault.ParseFault.ParseFault}
 use Rattle.qr_bits.specs.{Bits.field, Bits.value_from, Bits.value, Stream.digit_bits, Stream.payload}
 use Rattle.qr_bits.specs.{Modes.{byte_count, payload_bits, suits, is_digit}, Parsing.{digit, digits_of}}
-use Rattle.qr_bits.proofs.lemmas.bits.BitLemmas.{length-field, value_below}
-use Rattle.qr_bits.proofs.lemmas.{stream.WritingLemmas.three_more, parsing.ParsingLemmas.{bind_ok, same_ok}}
+use Rattle.qr_bits.proofs.lemmas.bits.BitLemmas.{length-field, value-below}
+use Rattle.qr_bits.proofs.lemmas.{stream.WritingLemmas.three-more, parsing.ParsingLemmas.{bind-ok, same-ok}}
 
-bit_step : (a d : ℕ) (bs : List Bool) → d < 2 → value_from a ((d == 1) ∷ bs) ≡ value_from (2 * a + d) bs
-bit_step a d bs h = grind arith
+bit-step : (a d : ℕ) (bs : List Bool) → d < 2 → value_from a ((d == 1) ∷ bs) ≡ value_from (2 * a + d) bs
+bit-step a d bs h = grind arith
 
 -- the digits of `a` and then a field of `w` bits are a number, of which the field is the last `w` digits
 value_from-field : (a w n : ℕ) → value_from a (field w n) ≡ a * 2 ^ w + n % 2 ^ w
@@ -22,7 +22,7 @@ value_from-field a zero n = omega arith
 value_from-field a (suc w) n =
     let one : 1 + w ≡ suc w = omega arith in
     let split : n % 2 ^ suc w ≡ n / 2 ^ w % 2 * 2 ^ w + n % 2 ^ w = rw one at (mod-pow-add n 1 w) in
-    bit_step a (n / 2 ^ w % 2) (field w n) (omega arith) ∙ rw (pow-suc 2 w) (omega (arith, value_from-field (2 * a + n / 2 ^ w % 2) w n, rw (pow-suc 2 w) at split))
+    bit-step a (n / 2 ^ w % 2) (field w n) (omega arith) ∙ rw (pow-suc 2 w) (omega (arith, value_from-field (2 * a + n / 2 ^ w % 2) w n, rw (pow-suc 2 w) at split))
 
 value-field : (w n : ℕ) → n < 2 ^ w → value (field w n) ≡ n
 value-field w n h = value_from-field 0 w n ∙ omega (arith, mod-eq_of_lt h)
@@ -39,7 +39,7 @@ value_from-inj a b (false ∷ xs) (false ∷ ys) l e = search (arith, value_from
 
 field-value : (w : ℕ) (bs : List Bool) → length bs ≡ w → field w (value bs) ≡ bs
 field-value w bs h =
-    let s : value bs < 2 ^ w = rw (← h) (value_below bs) in
+    let s : value bs < 2 ^ w = rw (← h) (value-below bs) in
     (value_from-inj 0 0 (field w (value bs)) bs (length-field w (value bs) ∙ sym h) (value-field w (value bs) s)).1
 
 -- these bytes are digits
@@ -55,39 +55,39 @@ pub drop-field : (w n : ℕ) (rest : List Bool) → drop w (field w n ++ rest) �
 drop-field w n rest = cc (drop-append_seam (field w n) rest, length-field w n)
 
 -- the number of the first bits, if they are a field
-pub read_field : (w n : ℕ) (rest : List Bool) → n < 2 ^ w → value (take w (field w n ++ rest)) ≡ n
-read_field w n rest h = ap value (take-field w n rest) ∙ value-field w n h
+pub read-field : (w n : ℕ) (rest : List Bool) → n < 2 ^ w → value (take w (field w n ++ rest)) ≡ n
+read-field w n rest h = ap value (take-field w n rest) ∙ value-field w n h
 
 -- the first bits are the field of their number
-pub field_read : (w : ℕ) (bits : List Bool) → w ≤ length bits → field w (value (take w bits)) ≡ take w bits
-field_read w bits h = field-value w (take w bits) (length-take-le w bits h)
+pub field-read : (w : ℕ) (bits : List Bool) → w ≤ length bits → field w (value (take w bits)) ≡ take w bits
+field-read w bits h = field-value w (take w bits) (length-take-le w bits h)
 
 -- a number that was read before other data, written again, is the bits that were read
-pub more_written : (w k : ℕ) (bs body : List Bool) → w ≤ length bs → drop w bs ≡ body ++ drop k (drop w bs)
+pub more-written : (w k : ℕ) (bs body : List Bool) → w ≤ length bs → drop w bs ≡ body ++ drop k (drop w bs)
     → bs ≡ (field w (value (take w bs)) ++ body) ++ drop (w + k) bs
-more_written w k bs body h e = search (arith, field_read, append_assoc, drop-drop, take-append-drop)
+more-written w k bs body h e = search (arith, field-read, append_assoc, drop-drop, take-append-drop)
 
 -- Digits that are written are read back.
-pub digits_again : (xs : List ℕ) (rest : List Bool) → AreDigits xs → digits_of (length xs) (digit_bits xs ++ rest) ≡ Ok xs
+pub digits-again : (xs : List ℕ) (rest : List Bool) → AreDigits xs → digits_of (length xs) (digit_bits xs ++ rest) ≡ Ok xs
 unfolding digits_of digit_bits
-digits_again [] rest h = refl
-digits_again (a ∷ []) rest h =
-    let r = read_field 4 (a - 48) rest (omega (arith, h.0, h.1)) in
+digits-again [] rest h = refl
+digits-again (a ∷ []) rest h =
+    let r = read-field 4 (a - 48) rest (omega (arith, h.0, h.1)) in
     grind (arith, lt-ltb)
-digits_again (a ∷ b ∷ []) rest h =
+digits-again (a ∷ b ∷ []) rest h =
     let g = 10 * (a - 48) + (b - 48) in
-    let r = read_field 7 g rest (omega (arith, h.0, h.1, h.2.0, h.2.1)) in
+    let r = read-field 7 g rest (omega (arith, h.0, h.1, h.2.0, h.2.1)) in
     grind (arith, lt-ltb)
-digits_again (a ∷ b ∷ c ∷ xs) rest h =
+digits-again (a ∷ b ∷ c ∷ xs) rest h =
     let g = 100 * (a - 48) + 10 * (b - 48) + (c - 48) in
     let three : (digit (g / 100) ≡ a) × (digit (g / 10) ≡ b) × (digit g ≡ c) × (g < 1000) = (omega arith, omega arith, omega arith, omega arith) in
-    let r = read_field 10 g (digit_bits xs ++ rest) (omega (arith, three.3)) in
+    let r = read-field 10 g (digit_bits xs ++ rest) (omega (arith, three.3)) in
     let d = drop-field 10 g (digit_bits xs ++ rest) in
-    search (arith, append_assoc, lt-ltb, digits_again xs rest h.2.2.2)
+    search (arith, append_assoc, lt-ltb, digits-again xs rest h.2.2.2)
 
 -- a conditional between a result and a fault that succeeds is the result
-pub chosen_ok : {A : Type 0} (b : Bool) (r : Result A ParseFault) (f : ParseFault) (y : A) → cond b r (Err f) ≡ Ok y → (b ≡ true) × (r ≡ Ok y)
-chosen_ok b r f y h = grind arith
+pub chosen-ok : {A : Type 0} (b : Bool) (r : Result A ParseFault) (f : ParseFault) (y : A) → cond b r (Err f) ≡ Ok y → (b ≡ true) × (r ≡ Ok y)
+chosen-ok b r f y h = grind arith
 
 -- the digits, characters, bytes or kanji pairs that were read, written again, are the bits that were read
 pub record IsWritten (m : Mode) (n : ℕ) (bits : List Bool) (xs : List ℕ) : Type 0 where
@@ -100,41 +100,41 @@ is_digit-digit : (n : ℕ) → is_digit (digit n) ≡ true
 is_digit-digit n = search (arith, nat_tests)
 
 -- Digits that are read are written as the same bits.
-pub digits_takes : (n : ℕ) (xs : List ℕ) (bs : List Bool) → payload_bits Numeric n ≤ length bs → digits_of n bs ≡ Ok xs → IsWritten Numeric n bs xs
+pub digits-takes : (n : ℕ) (xs : List ℕ) (bs : List Bool) → payload_bits Numeric n ≤ length bs → digits_of n bs ≡ Ok xs → IsWritten Numeric n bs xs
 unfolding digits_of digit_bits payload
-digits_takes zero xs bs h e = search (arith, same_ok, All-nil)
-digits_takes (suc zero) xs bs h e =
+digits-takes zero xs bs h e = search (arith, same-ok, All-nil)
+digits-takes (suc zero) xs bs h e =
     let g = value (take 4 bs) in
-    let c = chosen_ok _ _ _ xs e in
+    let c = chosen-ok _ _ _ xs e in
     let low : g < 10 = ltb-true _ _ c.0 in
     let back : digit g - 48 ≡ g = omega arith in
-    let whole : bs ≡ field 4 (value (take 4 bs)) ++ drop 4 bs = cc (field_read 4 bs h, take-append-drop 4 bs) in
-    subst (IsWritten Numeric 1 bs) (same_ok _ _ c.1) (search (arith, All-cons, All-nil, is_digit-digit))
-digits_takes (suc (suc zero)) xs bs h e =
+    let whole : bs ≡ field 4 (value (take 4 bs)) ++ drop 4 bs = cc (field-read 4 bs h, take-append-drop 4 bs) in
+    subst (IsWritten Numeric 1 bs) (same-ok _ _ c.1) (search (arith, All-cons, All-nil, is_digit-digit))
+digits-takes (suc (suc zero)) xs bs h e =
     let g = value (take 7 bs) in
-    let c = chosen_ok _ _ _ xs e in
+    let c = chosen-ok _ _ _ xs e in
     let low : g < 100 = ltb-true _ _ c.0 in
     let back : 10 * (digit (g / 10) - 48) + (digit g - 48) ≡ g = omega arith in
-    let whole : bs ≡ field 7 (value (take 7 bs)) ++ drop 7 bs = cc (field_read 7 bs h, take-append-drop 7 bs) in
-    subst (IsWritten Numeric 2 bs) (same_ok _ _ c.1) (search (arith, All-cons, All-nil, is_digit-digit))
-digits_takes (suc (suc (suc n))) xs bs h e =
+    let whole : bs ≡ field 7 (value (take 7 bs)) ++ drop 7 bs = cc (field-read 7 bs h, take-append-drop 7 bs) in
+    subst (IsWritten Numeric 2 bs) (same-ok _ _ c.1) (search (arith, All-cons, All-nil, is_digit-digit))
+digits-takes (suc (suc (suc n))) xs bs h e =
     let g = value (take 10 bs) in
-    let c = chosen_ok _ _ _ xs e in
-    let b = bind_ok (digits_of n (drop 10 bs)) _ xs c.1 in
+    let c = chosen-ok _ _ _ xs e in
+    let b = bind-ok (digits_of n (drop 10 bs)) _ xs c.1 in
     let low : g < 1000 = ltb-true _ _ c.0 in
     let three : suc (suc (suc n)) ≡ 3 + n = omega arith in
-    let room : 10 + payload_bits Numeric n ≤ length bs = rw (← three_more n, ← three) h in
-    let w = digits_takes n b.0 (drop 10 bs) (omega (arith, length-drop 10 bs)) b.1 in
+    let room : 10 + payload_bits Numeric n ≤ length bs = rw (← three-more n, ← three) h in
+    let w = digits-takes n b.0 (drop 10 bs) (omega (arith, length-drop 10 bs)) b.1 in
     let back : 100 * (digit (g / 100) - 48) + 10 * (digit (g / 10) - 48) + (digit g - 48) ≡ g = omega arith in
-    let whole = more_written 10 (payload_bits Numeric n) bs (digit_bits b.0) (omega arith) w.whole in
-    rw three (subst (IsWritten Numeric (3 + n) bs) (same_ok _ _ b.2) (record {
+    let whole = more-written 10 (payload_bits Numeric n) bs (digit_bits b.0) (omega arith) w.whole in
+    rw three (subst (IsWritten Numeric (3 + n) bs) (same-ok _ _ b.2) (record {
       long = omega (arith, w.long);
       bytes = search (arith, All-cons);
       suited = search (arith, is_digit-digit);
-      whole = rw (back, three_more n) whole;
+      whole = rw (back, three-more n) whole;
     }))
 
 -- bytes that suit numeric mode are digits
-pub are_digits : (xs : List ℕ) → list_all is_digit xs ≡ true → AreDigits xs
-are_digits [] h = tt
-are_digits (x ∷ xs) h = search (arith, and_parts, leb-true, are_digits xs)
+pub are-digits : (xs : List ℕ) → list_all is_digit xs ≡ true → AreDigits xs
+are-digits [] h = tt
+are-digits (x ∷ xs) h = search (arith, and_parts, leb-true, are-digits xs)

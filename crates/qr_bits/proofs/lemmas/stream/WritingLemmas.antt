@@ -9,37 +9,37 @@ use Rattle.qr_bits.specs.Stream.{kanji_bits, digit_bits, character_bits, payload
 use Rattle.qr_bits.proofs.lemmas.bits.BitLemmas.{length-field, length-bits_of}
 
 -- if all bytes pass a test, the bytes after the first n pass it
-pub all_rest : (p : ℕ → Bool) (xs : List ℕ) (n : ℕ) → list_all p xs ≡ true → list_all p (drop n xs) ≡ true
-all_rest p xs n h = (and_parts _ _ (sym (list_all-append p (take n xs) (drop n xs)) ∙ rw (take-append-drop n xs) h)).1
+pub all-rest : (p : ℕ → Bool) (xs : List ℕ) (n : ℕ) → list_all p xs ≡ true → list_all p (drop n xs) ≡ true
+all-rest p xs n h = (and_parts _ _ (sym (list_all-append p (take n xs) (drop n xs)) ∙ rw (take-append-drop n xs) h)).1
 
 -- three digits, and the digits after them
-pub digits_three : (xs : List ℕ) → 3 ≤ length xs
+pub digits-three : (xs : List ℕ) → 3 ≤ length xs
     → digit_bits xs ≡ field 10 (100 * (get_or xs 0 0 - 48) + 10 * (get_or xs 1 0 - 48) + (get_or xs 2 0 - 48)) ++ digit_bits (drop 3 xs)
 unfolding digit_bits
-digits_three xs h = grind arith
+digits-three xs h = grind arith
 
 -- a pair of characters, and the characters after it
-pub characters_two : (xs : List ℕ) → 2 ≤ length xs
+pub characters-two : (xs : List ℕ) → 2 ≤ length xs
     → character_bits xs ≡ field 11 (45 * character_value (get_or xs 0 0) + character_value (get_or xs 1 0)) ++ character_bits (drop 2 xs)
 unfolding character_bits
-characters_two xs h = grind arith
+characters-two xs h = grind arith
 
 -- a pair, and the pairs after it
-pub kanji_two : (xs : List ℕ) → 2 ≤ length xs → kanji_bits xs ≡ field 13 (kanji_value (get_or xs 0 0) (get_or xs 1 0)) ++ kanji_bits (drop 2 xs)
+pub kanji-two : (xs : List ℕ) → 2 ≤ length xs → kanji_bits xs ≡ field 13 (kanji_value (get_or xs 0 0) (get_or xs 1 0)) ++ kanji_bits (drop 2 xs)
 unfolding kanji_bits
-kanji_two xs h = grind arith
+kanji-two xs h = grind arith
 
 -- bytes pass a test two by two if the first two pass it, and the rest two by two
 pub in_twos-step : (test : ℕ → ℕ → Bool) (xs : List ℕ) → 2 ≤ length xs → in_twos test xs ≡ test (get_or xs 0 0) (get_or xs 1 0) && in_twos test (drop 2 xs)
 in_twos-step test xs n = grind arith
 
 -- three digits more have ten bits more
-pub three_more : (n : ℕ) → payload_bits Numeric (3 + n) ≡ 10 + payload_bits Numeric n
-three_more n = search arith
+pub three-more : (n : ℕ) → payload_bits Numeric (3 + n) ≡ 10 + payload_bits Numeric n
+three-more n = search arith
 
 -- two characters more have eleven bits more
-pub two_more : (n : ℕ) → payload_bits Alphanumeric (2 + n) ≡ 11 + payload_bits Alphanumeric n
-two_more n = omega arith
+pub two-more : (n : ℕ) → payload_bits Alphanumeric (2 + n) ≡ 11 + payload_bits Alphanumeric n
+two-more n = omega arith
 
 -- digits take as many bits as `payload_bits` says
 length-digit_bits : (xs : List ℕ) → length (digit_bits xs) ≡ payload_bits Numeric (length xs)
@@ -47,13 +47,13 @@ unfolding digit_bits
 length-digit_bits [] = refl
 length-digit_bits (a ∷ []) = length-field 4 (a - 48)
 length-digit_bits (a ∷ b ∷ []) = length-field 7 (10 * (a - 48) + (b - 48))
-length-digit_bits (a ∷ b ∷ c ∷ xs) = search (arith, length-append, length-field, three_more, length-digit_bits xs)
+length-digit_bits (a ∷ b ∷ c ∷ xs) = search (arith, length-append, length-field, three-more, length-digit_bits xs)
 
 length-character_bits : (xs : List ℕ) → length (character_bits xs) ≡ payload_bits Alphanumeric (length xs)
 unfolding character_bits
 length-character_bits [] = refl
 length-character_bits (a ∷ []) = length-field 6 (character_value a)
-length-character_bits (a ∷ b ∷ xs) = search (arith, length-append, length-field, two_more, length-character_bits xs)
+length-character_bits (a ∷ b ∷ xs) = search (arith, length-append, length-field, two-more, length-character_bits xs)
 
 -- bytes that pass a test two by two are even in number
 pub in_twos-even : (test : ℕ → ℕ → Bool) (xs : List ℕ) → in_twos test xs ≡ true → 2 * (length xs / 2) ≡ length xs
@@ -86,16 +86,16 @@ length-segments_stream v xs (s ∷ ss) h =
     search (arith, length-segment_stream, length-take-le, length-append, length-segments_stream v (drop s.len xs) ss h.2)
 
 -- the stream of the segments from index i on
-pub stream_next : (v : ℕ) (xs : List ℕ) (segs : List Segment) (i : ℕ) (d : Segment) → i < length segs
+pub stream-next : (v : ℕ) (xs : List ℕ) (segs : List Segment) (i : ℕ) (d : Segment) → i < length segs
     → segments_stream v xs (drop i segs) ≡ segment_stream v (get_or segs i d).mode (take (get_or segs i d).len xs) ++ segments_stream v (drop (get_or segs i d).len xs) (drop (i + 1) segs)
 unfolding segments_stream
-stream_next v xs segs i d h = search (arith, drop-cons)
+stream-next v xs segs i d h = search (arith, drop-cons)
 
 -- the stream of no segment is empty
-pub stream_end : (v : ℕ) (xs : List ℕ) (segs : List Segment) (i : ℕ) → length segs ≤ i → segments_stream v xs (drop i segs) ≡ []
+pub stream-end : (v : ℕ) (xs : List ℕ) (segs : List Segment) (i : ℕ) → length segs ≤ i → segments_stream v xs (drop i segs) ≡ []
 unfolding segments_stream
-stream_end v xs segs i h = rw (drop_all i segs h) refl
+stream-end v xs segs i h = rw (drop_all i segs h) refl
 
 -- one more part is written, and the rest is still to be written
-pub append_next : (p part t whole n : List Bool) → whole ≡ p ++ (part ++ t) → n ≡ p ++ part → n ++ t ≡ whole
-append_next p part t whole n e f = rw f (append_assoc p part t ∙ sym e)
+pub append-next : (p part t whole n : List Bool) → whole ≡ p ++ (part ++ t) → n ≡ p ++ part → n ++ t ≡ whole
+append-next p part t whole n e f = rw f (append_assoc p part t ∙ sym e)

@@ -2,8 +2,8 @@ use Rattle.std.proofs.Common.{◌≡◌, ℕ, ◌+◌, ◌≤◌, ◌<◌, [], �
 use Rattle.std.proofs.{lemmas.Bool.cases_lt, Math.Nat.le_refl}
 use Rattle.qr_bits.specs.{declared.interpretation.Interpretation.Interpretation, Steps.RunState.is_gs1}
 use Rattle.qr_bits.specs.{Modes.is_kanji_pair, Steps.RunState.swapped, Steps.BestModes.in_state, Steps.BestModes.IsRow}
-use Rattle.qr_bits.proofs.lemmas.best_modes.TableLemmas.{some_interpretation, best_none, small_more, small_row, zeros, zeros_small}
-use Rattle.qr_bits.proofs.lemmas.longest_prefix.MirrorLemmas.{empty_fits, none_longer, prefix_more, prefix_fits, prefix_least}
+use Rattle.qr_bits.proofs.lemmas.best_modes.TableLemmas.{some-interpretation, best-none, small-more, small-row, zeros, zeros-small}
+use Rattle.qr_bits.proofs.lemmas.longest_prefix.MirrorLemmas.{empty-fits, none-longer, prefix-more, prefix-fits, prefix-least}
 use Rattle.qr_bits.proofs.longest_prefix.longest_by_rows.Goals as goal
 use Rattle.qr_bits.proofs.longest_prefix.longest_by_rows.Goals.{then-from-room, else-from-room+else-from-room-2}
 
@@ -19,14 +19,14 @@ last i k l h = omega arith
 pub loop-i-init : goal.loop-i-init
 loop-i-init c = record {
   inside = le_refl 0;
-  fits = λ n g. empty_fits n c.args.version c.args.rule _;
+  fits = λ n g. empty-fits n c.args.version c.args.rule _;
   longest = λ n g k h fit. h;
-  small = zeros_small _;
-  best = ([], λ n g. best_none n c.args.version c.args.rule (swapped is_kanji_pair) _ zeros);
+  small = zeros-small _;
+  best = ([], λ n g. best-none n c.args.version c.args.rule (swapped is_kanji_pair) _ zeros);
 }
 
 pub row_of-requires : goal.row_of-requires
-row_of-requires c = small_row _ c.loop-i.i (below _ _ _ c.loop-i-test.true c.requires.short) c.loop-i.invariant.small
+row_of-requires c = small-row _ c.loop-i.i (below _ _ _ c.loop-i-test.true c.requires.short) c.loop-i.invariant.small
 
 pub loop-i-preserved : goal.loop-i-preserved
 unfolding in_state
@@ -37,15 +37,15 @@ loop-i-preserved c =
     let i = c.loop-i.i in
     let inv = c.loop-i.invariant in
     let chosen : (n : Interpretation) → c.args.gs1 ≡ is_gs1 n → IsRow n v r (get_or xs i 0) _ c.loop-i.rest c.row_of.result.0 c.row_of.result.1 = λ n g. rw c.of-first_choices.ensures at (c.row_of.ensures n g) in
-    let some = some_interpretation c.args.gs1 in
-    let small = small_more some.0 v r _ _ _ _ _ _ inv.small (chosen some.0 some.1) in
-    let b : (n : Interpretation) → (g : c.args.gs1 ≡ is_gs1 n) → _ = λ n g. prefix_more n v r xs i _ inv.best.0 _ _ _ c.loop-i-test.true c.ends_with_pair-pair.ensures (inv.best.1 n g) (chosen n g) in
+    let some = some-interpretation c.args.gs1 in
+    let small = small-more some.0 v r _ _ _ _ _ _ inv.small (chosen some.0 some.1) in
+    let b : (n : Interpretation) → (g : c.args.gs1 ≡ is_gs1 n) → _ = λ n g. prefix-more n v r xs i _ inv.best.0 _ _ _ c.loop-i-test.true c.ends_with_pair-pair.ensures (inv.best.1 n g) (chosen n g) in
     let room = c.args.room in
     elim c.if-from-room.branch [
       | then-from-room w ↦
           rw w.longest-is (record {
             inside = le_refl (i + 1);
-            fits = λ n g. prefix_fits n v r (take (i + 1) xs) _ _ room (b n g) (omega (arith, w.if-from-room.true, c.from.ensures));
+            fits = λ n g. prefix-fits n v r (take (i + 1) xs) _ _ room (b n g) (omega (arith, w.if-from-room.true, c.from.ensures));
             longest = λ n g k h _. h;
             small = small;
             best = (c.row_of.result.0 ∷ inv.best.0, b);
@@ -56,7 +56,7 @@ loop-i-preserved c =
             fits = inv.fits;
             longest = λ n g k h fit. ⊎_elim (λ (l : i < k).
                 let e = last i k l h in
-                absurd (omega (arith, prefix_least n v r (take (i + 1) xs) _ _ room (b n g) (rw e at fit), w.if-from-room.false, c.from.ensures)))
+                absurd (omega (arith, prefix-least n v r (take (i + 1) xs) _ _ room (b n g) (rw e at fit), w.if-from-room.false, c.from.ensures)))
                 (λ (l : k ≤ i). inv.longest n g k l fit) (cases_lt i k);
             small = small;
             best = (c.row_of.result.0 ∷ inv.best.0, b);
@@ -80,11 +80,11 @@ returns-then-from-room-2 c = λ n g.
     let i = c.loop-i.i in
     let inv = c.loop-i.invariant in
     let chosen : IsRow n v r (get_or xs i 0) _ c.loop-i.rest c.row_of.result.0 c.row_of.result.1 = rw c.of-first_choices.ensures at (c.row_of.ensures n g) in
-    let b = prefix_more n v r xs i _ inv.best.0 _ _ _ c.loop-i-test.true c.ends_with_pair-pair.ensures (inv.best.1 n g) chosen in
+    let b = prefix-more n v r xs i _ inv.best.0 _ _ _ c.loop-i-test.true c.ends_with_pair-pair.ensures (inv.best.1 n g) chosen in
     record {
       inside = omega (arith, inv.inside, c.loop-i-test.true);
       fits = inv.fits n g;
       longest = λ k h fit. ⊎_elim (λ (l : i < k).
-          absurd (none_longer n v r xs (i + 1) k _ _ c.args.room b (λ p. omega (arith, c.fewest.ensures p, c.if-from-room-2.true, c.from-else-from-room.ensures)) (omega (arith, l)) fit))
+          absurd (none-longer n v r xs (i + 1) k _ _ c.args.room b (λ p. omega (arith, c.fewest.ensures p, c.if-from-room-2.true, c.from-else-from-room.ensures)) (omega (arith, l)) fit))
           (λ (l : k ≤ i). inv.longest n g k l fit) (cases_lt i k);
     }

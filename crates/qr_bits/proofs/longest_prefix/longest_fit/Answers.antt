@@ -1,12 +1,12 @@
-use Rattle.{std.proofs.Common.{arith}, qr_bits.proofs.lemmas.segmentation.{BytesOnlyLemmas.{bytes_longest, whole_longest}}}
+use Rattle.{std.proofs.Common.{arith}, qr_bits.proofs.lemmas.segmentation.{BytesOnlyLemmas.{bytes-longest, whole-longest}}}
 use Rattle.qr_bits.proofs.longest_prefix.longest_fit.Goals as goal
 
 pub returns-then-input-most : goal.returns-then-input-most
 returns-then-input-most c =
     rw (← c.room-room.ensures.value)
-    (whole_longest c.args.interpretation c.args.version c.args.rule c.args.input.now c.room-room.result (omega (arith, c.bytes_in-most.ensures.fits, c.if-input-most.true)))
+    (whole-longest c.args.interpretation c.args.version c.args.rule c.args.input.now c.room-room.result (omega (arith, c.bytes_in-most.ensures.fits, c.if-input-most.true)))
 
 pub returns-in-BytesOnly : goal.returns-in-BytesOnly
 returns-in-BytesOnly c =
     rw (c.in-BytesOnly.is, ← c.room-room.ensures.value)
-    (bytes_longest c.args.interpretation c.args.version c.args.input.now c.room-room.result c.bytes_in-most.result c.bytes_in-most.result (omega (arith, c.if-input-most.false)) c.bytes_in-most.ensures.fits c.bytes_in-most.ensures.most)
+    (bytes-longest c.args.interpretation c.args.version c.args.input.now c.room-room.result c.bytes_in-most.result c.bytes_in-most.result (omega (arith, c.if-input-most.false)) c.bytes_in-most.ensures.fits c.bytes_in-most.ensures.most)

@@ -1,5 +1,5 @@
 use Rattle.std.proofs.{Common.◌∙◌, Common.sum_by, Common.ap, Common.arith, lemmas.List.take_all}
-use Rattle.qr_bits.{specs.Segmentation.{least_sixths, least_bits}, proofs.lemmas.lower_bound.LeastLemmas.least_held}
+use Rattle.qr_bits.{specs.Segmentation.{least_sixths, least_bits}, proofs.lemmas.lower_bound.LeastLemmas.least-held}
 use Rattle.qr_bits.proofs.lower_bound.least_bits.Goals as goal
 
 pub returns-clause-least : goal.returns-clause-least
@@ -7,4 +7,4 @@ unfolding least_bits
 returns-clause-least c i v room r fit =
     let inv = c.loop-byte.invariant in
     let all = inv.so_far ∙ ap (sum_by least_sixths) (take_all c.loop-byte.byte-index c.args.input.now (omega arith)) in
-    omega (arith, all, least_held i v r c.args.input.now room fit)
+    omega (arith, all, least-held i v r c.args.input.now room fit)

@@ -2,10 +2,10 @@ use Rattle.std.proofs.Common.{◌≡◌, ℕ, ◌+◌, ◌*◌, ◌^◌, ◌<◌
 use Rattle.std.proofs.lemmas.List.Elements.{All-from_get_or}
 use Rattle.qr_bits.specs.{Header.header_stream, Stream.segments_stream, Stream.IsStream}
 use Rattle.qr_bits.specs.Interpretation.{interpretation_stream}
-use Rattle.qr_bits.proofs.lemmas.segment.SegmentLemmas.{covers_all, bits_most, bits_least}
-use Rattle.qr_bits.proofs.lemmas.{stream.WritingLemmas.length-segments_stream, segment.CoverLemmas.covers_suits}
-use Rattle.qr_bits.proofs.lemmas.padding.PaddingLemmas.{is_data, length-header_stream, length-interpretation_stream}
-use Rattle.qr_bits.proofs.lemmas.padding.CountLemmas.{capacity_most, counts_fit}
+use Rattle.qr_bits.proofs.lemmas.segment.SegmentLemmas.{covers-all, bits-most, bits-least}
+use Rattle.qr_bits.proofs.lemmas.{stream.WritingLemmas.length-segments_stream, segment.CoverLemmas.covers-suits}
+use Rattle.qr_bits.proofs.lemmas.padding.PaddingLemmas.{is-data, length-header_stream, length-interpretation_stream}
+use Rattle.qr_bits.proofs.lemmas.padding.CountLemmas.{capacity-most, counts_fit}
 use Rattle.qr_bits.proofs.padding.codewords.Goals as goal
 
 -- header and segments have at most as many bits as the data codewords, and the input is short
@@ -14,30 +14,30 @@ room : (h i b k head mark bits most : ℕ) → h ≡ head → i ≡ mark → b �
 room h i b k head mark bits most e j f g l = (omega arith, omega arith, λ o. omega arith, λ n m c. omega arith)
 
 pub bit_len-requires-clause-nonempty : goal.bit_len-requires-clause-nonempty
-bit_len-requires-clause-nonempty c = (covers_all c.args.input.now c.args.segs.now c.requires.covered).0
+bit_len-requires-clause-nonempty c = (covers-all c.args.input.now c.args.segs.now c.requires.covered).0
 
 pub bit_len-requires-clause-short : goal.bit_len-requires-clause-short
-bit_len-requires-clause-short c = rw (covers_all c.args.input.now c.args.segs.now c.requires.covered).1 c.requires.short
+bit_len-requires-clause-short c = rw (covers-all c.args.input.now c.args.segs.now c.requires.covered).1 c.requires.short
 
 pub overflow_add-used-2 : goal.overflow_add-used-2
 overflow_add-used-2 c =
-    let all = covers_all c.args.input.now c.args.segs.now c.requires.covered in
-    omega (arith, all.1, bits_most c.args.version c.args.segs.now all.0, c.requires.short, c.header_bits.ensures.most, c.interpretation_bits.ensures.most, c.bit_len.ensures)
+    let all = covers-all c.args.input.now c.args.segs.now c.requires.covered in
+    omega (arith, all.1, bits-most c.args.version c.args.segs.now all.0, c.requires.short, c.header_bits.ensures.most, c.interpretation_bits.ensures.most, c.bit_len.ensures)
 
 pub returns-then-used-capacity-clause-too_long : goal.returns-then-used-capacity-clause-too_long
 returns-then-used-capacity-clause-too_long c = (λ e. rw (← c.capacity-capacity.ensures.value, ← c.header_bits.ensures.value, ← c.interpretation_bits.ensures.value, ← c.bit_len.ensures) c.if-used-capacity.true, λ h. refl)
 
 pub put_all-requires-clause-short : goal.put_all-requires-clause-short
 put_all-requires-clause-short c =
-    let least = bits_least c.args.version c.args.input.now c.args.segs.now (covers_suits c.args.input.now c.args.segs.now c.requires.covered) in
-    let most = capacity_most c.args.version c.args.level (omega arith) (omega arith) in
+    let least = bits-least c.args.version c.args.input.now c.args.segs.now (covers-suits c.args.input.now c.args.segs.now c.requires.covered) in
+    let most = capacity-most c.args.version c.args.level (omega arith) (omega arith) in
     (room _ _ _ _ _ _ _ _ c.header_bits.ensures.value c.interpretation_bits.ensures.value c.bit_len.ensures c.capacity-capacity.ensures.value c.if-used-capacity.false).3 _ least most
 
 pub returns-clause-ok : goal.returns-clause-ok
 returns-clause-ok c =
     let xs = c.args.input.now in
     let segs = c.args.segs.now in
-    let suit = covers_suits xs segs c.requires.covered in
+    let suit = covers-suits xs segs c.requires.covered in
     let k = c.capacity-capacity.ensures in
     let left = room _ _ _ _ _ _ _ _ c.header_bits.ensures.value c.interpretation_bits.ensures.value c.bit_len.ensures k.value c.if-used-capacity.false in
     let is : IsStream c.args.version xs segs c.args.header c.args.interpretation ((header_stream c.args.header ++ interpretation_stream c.args.interpretation) ++ segments_stream c.args.version xs segs) = record {
@@ -48,7 +48,7 @@ returns-clause-ok c =
       interpretation = c.requires.number;
       whole = refl;
     } in
-    is_data c.args.version c.args.level xs segs c.args.header c.args.interpretation _ (c.header_bits.result + c.interpretation_bits.result + c.bit_len.result) c.into_codewords-codewords.result.items _ is
+    is-data c.args.version c.args.level xs segs c.args.header c.args.interpretation _ (c.header_bits.result + c.interpretation_bits.result + c.bit_len.result) c.into_codewords-codewords.result.items _ is
     (rw (length-append (header_stream c.args.header ++ interpretation_stream c.args.interpretation) (segments_stream c.args.version xs segs), length-append (header_stream c.args.header) (interpretation_stream c.args.interpretation), length-header_stream c.args.header, length-interpretation_stream c.args.interpretation, length-segments_stream c.args.version xs segs suit, c.header_bits.ensures.value, c.interpretation_bits.ensures.value, c.bit_len.ensures) refl)
     left.0
     (rw (c.into_codewords-codewords.ensures, c.in_ok-put_all.ensures.0, c.in_ok-writer.ensures, c.capacity-capacity.ensures.value))

@@ -1,18 +1,18 @@
 use Rattle.std.proofs.{Common.{◌-◌, [], ◌∷◌, refl, arith}, lemmas.Bool.le-ltb}
 use Rattle.qr_bits.specs.{Parsing.characters_of}
-use Rattle.qr_bits.proofs.lemmas.parsing.PayloadLemmas.{characters_step, group_read, fails}
+use Rattle.qr_bits.proofs.lemmas.parsing.PayloadLemmas.{characters-step, group-read, fails}
 use Rattle.qr_bits.proofs.parsing.characters.Goals as goal
 
 pub returns-then-pair-ge-PAIRS : goal.returns-then-pair-ge-PAIRS
 returns-then-pair-ge-PAIRS c =
-    let s = characters_step c.loop-left.left (c.loop-left.left - 2) c.loop-left.reader (omega (arith, c.loop-left-test.true)) in
+    let s = characters-step c.loop-left.left (c.loop-left.left - 2) c.loop-left.reader (omega (arith, c.loop-left-test.true)) in
     fails c.loop-left.invariant (s.2 (rw c.take-pair.ensures.value at c.if-pair-ge-PAIRS.true))
 
 pub loop-left-preserved : goal.loop-left-preserved
 loop-left-preserved c =
     let g = c.take-pair.ensures in
-    let s = characters_step c.loop-left.left (c.loop-left.left - 2) c.loop-left.reader (omega (arith, c.loop-left-test.true)) in
-    group_read 11 (c.character.result ∷ c.character-in-loop-left.result ∷ []) c.loop-left.invariant s.0 g.rest c.in_ok-extend_from_slice.ensures.items
+    let s = characters-step c.loop-left.left (c.loop-left.left - 2) c.loop-left.reader (omega (arith, c.loop-left-test.true)) in
+    group-read 11 (c.character.result ∷ c.character-in-loop-left.result ∷ []) c.loop-left.invariant s.0 g.rest c.in_ok-extend_from_slice.ensures.items
     (rw (c.character.ensures, c.character-in-loop-left.ensures, g.rest, g.value) (s.1 (rw g.value at c.if-pair-ge-PAIRS.false)))
 
 pub returns-then-single-ge-SINGLES : goal.returns-then-single-ge-SINGLES

@@ -1,17 +1,17 @@
 use Rattle.std.proofs.Common.{◌-◌, [], ◌∷◌, arith}
-use Rattle.qr_bits.proofs.lemmas.parsing.PayloadLemmas.{digits_step, group_read, fails}
+use Rattle.qr_bits.proofs.lemmas.parsing.PayloadLemmas.{digits-step, group-read, fails}
 use Rattle.qr_bits.proofs.parsing.digits.Goals as goal
 
 pub returns-then-group-ge-THREE_DIGITS : goal.returns-then-group-ge-THREE_DIGITS
 returns-then-group-ge-THREE_DIGITS c =
-    let s = digits_step c.loop-left.left (c.loop-left.left - 3) c.loop-left.reader (omega (arith, c.loop-left-test.true)) in
+    let s = digits-step c.loop-left.left (c.loop-left.left - 3) c.loop-left.reader (omega (arith, c.loop-left-test.true)) in
     fails c.loop-left.invariant (s.2 (rw c.take-group.ensures.value at c.if-group-ge-THREE_DIGITS.true))
 
 pub loop-left-preserved : goal.loop-left-preserved
 loop-left-preserved c =
     let g = c.take-group.ensures in
-    let s = digits_step c.loop-left.left (c.loop-left.left - 3) c.loop-left.reader (omega (arith, c.loop-left-test.true)) in
-    group_read 10 (c.digit.result ∷ c.digit-in-loop-left.result ∷ c.digit-in-loop-left-2.result ∷ [])
+    let s = digits-step c.loop-left.left (c.loop-left.left - 3) c.loop-left.reader (omega (arith, c.loop-left-test.true)) in
+    group-read 10 (c.digit.result ∷ c.digit-in-loop-left.result ∷ c.digit-in-loop-left-2.result ∷ [])
     c.loop-left.invariant s.0 g.rest c.in_ok-extend_from_slice.ensures.items
     (rw (c.digit.ensures, c.digit-in-loop-left.ensures, c.digit-in-loop-left-2.ensures, g.rest, g.value)
     (s.1 (rw g.value at c.if-group-ge-THREE_DIGITS.false)))

@@ -1,15 +1,15 @@
 use Rattle.std.proofs.Common.{◌-◌, ◌/◌, ◌%◌, [], ◌∷◌, arith}
-use Rattle.qr_bits.proofs.lemmas.{modes.KanjiLemmas.pairs_step, parsing.PayloadLemmas.{group_read, fails}}
+use Rattle.qr_bits.proofs.lemmas.{modes.KanjiLemmas.pairs-step, parsing.PayloadLemmas.{group-read, fails}}
 use Rattle.qr_bits.proofs.parsing.kanji.Goals as goal
 
 pub returns-then-value-gt-LOW_MAX : goal.returns-then-value-gt-LOW_MAX
 returns-then-value-gt-LOW_MAX c =
-    let s = pairs_step c.loop-left.left (c.loop-left.left - 1) c.loop-left.reader (omega (arith, c.loop-left-test.true)) in
+    let s = pairs-step c.loop-left.left (c.loop-left.left - 1) c.loop-left.reader (omega (arith, c.loop-left-test.true)) in
     fails c.loop-left.invariant (s.2 (rw c.take-value.ensures.value at c.if-value-gt-LOW_MAX.true))
 
 pub loop-left-preserved : goal.loop-left-preserved
 loop-left-preserved c =
     let g = c.take-value.ensures in
-    let s = pairs_step c.loop-left.left (c.loop-left.left - 1) c.loop-left.reader (omega (arith, c.loop-left-test.true)) in
-    group_read 13 (c.kanji_pair-pair.result / 256 ∷ c.kanji_pair-pair.result % 256 ∷ []) c.loop-left.invariant s.0 g.rest c.in_ok-extend_from_slice.ensures.items
+    let s = pairs-step c.loop-left.left (c.loop-left.left - 1) c.loop-left.reader (omega (arith, c.loop-left-test.true)) in
+    group-read 13 (c.kanji_pair-pair.result / 256 ∷ c.kanji_pair-pair.result % 256 ∷ []) c.loop-left.invariant s.0 g.rest c.in_ok-extend_from_slice.ensures.items
     (rw (c.kanji_pair-pair.ensures, g.rest, g.value) (s.1 (rw g.value at c.if-value-gt-LOW_MAX.false)))

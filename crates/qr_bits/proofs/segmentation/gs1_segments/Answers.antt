@@ -1,7 +1,7 @@
 use Rattle.std.proofs.Common.{◌≡◌, false, true, not, ◌&&◌, sym, ◌∙◌, refl}
 use Rattle.std.specs.List.{list_all}
 use Rattle.qr_bits.specs.{declared.interpretation.Interpretation.TheVariants.Gs1, Steps.RunState.is_gs1, Steps.Segmentation.is_itself}
-use Rattle.qr_bits.proofs.lemmas.segmentation.InterpretedLemmas.{least_interpreted}
+use Rattle.qr_bits.proofs.lemmas.segmentation.InterpretedLemmas.{least-interpreted}
 use Rattle.qr_bits.proofs.segmentation.gs1_segments.Goals as goal
 
 pub returns-then-writing-clause-ok : goal.returns-then-writing-clause-ok
@@ -9,4 +9,4 @@ returns-then-writing-clause-ok c =
     let xs = c.args.input.now in
     let itself : list_all is_itself xs ≡ true = sym c.writing_of-writing.ensures.itself ∙ c.if-writing.true in
     let own : (is_gs1 Gs1 && not (list_all is_itself xs)) ≡ false = rw itself refl in
-    least_interpreted Gs1 c.args.version c.args.rule xs _ own c.in_ok-least_segments.ensures.ok
+    least-interpreted Gs1 c.args.version c.args.rule xs _ own c.in_ok-least_segments.ensures.ok

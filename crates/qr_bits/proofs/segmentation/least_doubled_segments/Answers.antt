@@ -2,8 +2,8 @@ use Rattle.std.proofs.Common.{◌≡◌, ◌+◌, ◌-◌, ◌<◌, ◌≤◌, c
 use Rattle.std.proofs.{Math.Nat.le_refl, lemmas.{Bool.ne_eqb, List.{append-nil, drop_all, take_all}}}
 use Rattle.qr_bits.specs.declared.{interpretation.Interpretation.TheVariants.Gs1, run_state.RunState.TheVariants.Start}
 use Rattle.qr_bits.specs.{Interpretation.{character_for, characters_gs1, doubled_gs1, is_doubled, percent}, Segmentation.runs_of, Steps.BestModes.follow_in, Steps.Segmentation.{append_mode, one_segment}, Steps.RunState.{state_after, state_in, state_on}}
-use Rattle.qr_bits.proofs.lemmas.segmentation.{AssignedLemmas.assignment_from_table, BackLemmas.{other_mode, run_other, run_same, same_mode}, DoubledRunLemmas.{escaped_more, percent_character, plain_character, plain_more, separator_character, written_more}}
-use Rattle.qr_bits.proofs.lemmas.best_modes.{ChoiceLemmas.on_after}
+use Rattle.qr_bits.proofs.lemmas.segmentation.{AssignedLemmas.assignment-from-table, BackLemmas.{other-mode, run-other, run-same, same-mode}, DoubledRunLemmas.{escaped_more, percent_character, plain_character, plain_more, separator_character, written_more}}
+use Rattle.qr_bits.proofs.lemmas.best_modes.{ChoiceLemmas.on-after}
 use Rattle.qr_bits.proofs.segmentation.least_doubled_segments.Goals as goal
 use Rattle.qr_bits.proofs.segmentation.least_doubled_segments.Goals.{then-eq, else-eq+in_ok-push_segment, then-is_escaped+in_ok-put_escape+then-input-i-eq37, then-is_escaped+in_ok-put_escape+else-input-i-eq37, else-is_escaped}
 
@@ -38,15 +38,15 @@ loop-i-preserved c =
     let run : (f.found.items ++ one_segment m f.len ≡ append_mode (l.found.items ++ one_segment l.mode l.len) m) × (f.mode ≡ m) × (f.state ≡ state_after l.state m) × (0 < f.len) × (f.len ≤ l.len + 1) =
     elim f.branch [
       | then-eq w ↦
-          let same : m ≡ l.mode = same_mode m l.mode w.if-eq.ensures in (
-            rw (w.found-is, w.len-is, same) (sym (run_same l.found.items l.mode l.len inv.first)),
+          let same : m ≡ l.mode = same-mode m l.mode w.if-eq.ensures in (
+            rw (w.found-is, w.len-is, same) (sym (run-same l.found.items l.mode l.len inv.first)),
             w.mode-is ∙ sym same,
             w.state-is ∙ w.state_on-state.ensures ∙ inv.next ∙ ap (state_after l.state) (sym same),
             omega (arith, w.len-is),
             omega (arith, w.len-is),
           )
       | else-eq+in_ok-push_segment w ↦ (
-        rw (w.found-is, w.len-is, w.in_ok-push_segment.ensures) (sym (run_other l.found.items l.mode m l.len inv.first (other_mode l.mode m w.if-eq.ensures))),
+        rw (w.found-is, w.len-is, w.in_ok-push_segment.ensures) (sym (run-other l.found.items l.mode m l.len inv.first (other-mode l.mode m w.if-eq.ensures))),
         w.mode-is,
         w.state-is ∙ w.next_state-state.ensures,
         omega (arith, w.len-is),
@@ -59,7 +59,7 @@ loop-i-preserved c =
       | then-is_escaped+in_ok-put_escape+then-input-i-eq37 w ↦
           let own = percent_character m x (sym c.is_escaped.ensures ∙ w.if-is_escaped.true) w.if-input-i-eq37.true in (
             rw own.0 w.len-is,
-            rw own.0 (w.state-is ∙ w.state_on-state-then-input-i-eq37.ensures ∙ rw run.2 (on_after l.state m)),
+            rw own.0 (w.state-is ∙ w.state_on-state-then-input-i-eq37.ensures ∙ rw run.2 (on-after l.state m)),
             omega (arith, w.copied-is),
             rw (w.characters-is, w.copied-is, own.0, own.1) (escaped_more input _ i ∙ w.in_ok-put_escape.ensures ∙ rw w.if-input-i-eq37.true refl),
           )
@@ -96,7 +96,7 @@ returns-clause-ok c =
     let none : drop (length input) input ≡ [] = drop_all (length input) input (le_refl (length input)) in
     let whole : take l.i input ≡ input = take_all l.i input (omega (arith, end)) in
     let all : inv.modes ≡ follow_in Gs1 Start input rows = sym (append-nil inv.modes) ∙ (rw (end, none) at inv.led) in
-    let best = rw (← all) at (assignment_from_table Gs1 c.args.version c.args.rule input rows c.in_ok-table.ensures.1) in (
+    let best = rw (← all) at (assignment-from-table Gs1 c.args.version c.args.rule input rows c.in_ok-table.ensures.1) in (
       inv.modes,
       best,
       c.in_ok-push_segment-2.ensures ∙ (rw whole at inv.runs),

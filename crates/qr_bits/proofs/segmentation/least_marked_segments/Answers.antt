@@ -3,7 +3,7 @@ use Rattle.std.proofs.lemmas.List.{take_at}
 use Rattle.qr_bits.specs.declared.{interpretation.Interpretation.TheVariants.Default}
 use Rattle.qr_bits.specs.Segmentation.{IsLeastSegmentation}
 use Rattle.qr_bits.specs.Steps.Segmentation.{marked, written_in}
-use Rattle.qr_bits.proofs.lemmas.segmentation.MarkedLemmas.{least_marked, marked-length}
+use Rattle.qr_bits.proofs.lemmas.segmentation.MarkedLemmas.{least-marked, marked-length}
 use Rattle.qr_bits.proofs.segmentation.least_marked_segments.Goals as goal
 
 pub restore_bytes-requires-clause-whole : goal.restore_bytes-requires-clause-whole
@@ -22,4 +22,4 @@ returns-clause-ok c =
     let least : IsLeastSegmentation Default c.args.version c.args.rule (map marked xs) (map marked xs) segs = rw (c.deref.ensures.value ∙ c.in_ok-characters.ensures) at c.in_ok-segments.ensures.ok in
     let is : new ≡ written_in xs segs = rw c.deref-2.ensures.value at c.restore_bytes.ensures in
     let back : take old.len (new ++ drop (length new) old.items) ≡ written_in xs segs = take_at new (drop (length new) old.items) old.len (c.restore_bytes.auto.characters ∙ c.deref_mut.ensures.len ∙ refl) ∙ is in
-    rw back (least_marked c.args.version c.args.rule xs segs c.requires.single least)
+    rw back (least-marked c.args.version c.args.rule xs segs c.requires.single least)

@@ -1,9 +1,9 @@
 use Rattle.std.proofs.{Common.arith, Common.append_assoc, lemmas.List.take_rest}
-use Rattle.qr_bits.proofs.lemmas.stream.WritingLemmas.{all_rest, digits_three}
+use Rattle.qr_bits.proofs.lemmas.stream.WritingLemmas.{all-rest, digits-three}
 use Rattle.qr_bits.proofs.stream.put_digits.Goals as goal
 
 pub loop-rest-preserved : goal.loop-rest-preserved
 loop-rest-preserved c = record {
-  whole = rw (take_rest c.loop-rest.rest.now 3) (search (arith, digits_three, append_assoc));
-  digits = search (arith, take_rest, all_rest);
+  whole = rw (take_rest c.loop-rest.rest.now 3) (search (arith, digits-three, append_assoc));
+  digits = search (arith, take_rest, all-rest);
 }

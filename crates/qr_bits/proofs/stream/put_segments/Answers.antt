@@ -1,26 +1,26 @@
 use Rattle.std.proofs.Common.{append_assoc, arith, append-nil}
-use Rattle.qr_bits.proofs.lemmas.segment.SegmentLemmas.{covers_next, past_end}
-use Rattle.qr_bits.proofs.lemmas.stream.WritingLemmas.{stream_next, stream_end, append_next}
+use Rattle.qr_bits.proofs.lemmas.segment.SegmentLemmas.{covers-next, past_end}
+use Rattle.qr_bits.proofs.lemmas.stream.WritingLemmas.{stream-next, stream-end, append-next}
 use Rattle.qr_bits.proofs.stream.put_segments.Goals as goal
 
 pub split_at-requires : goal.split_at-requires
-split_at-requires c = (covers_next c.loop-segment.rest.now c.args.segs.now c.loop-segment.segment-index past_end c.loop-segment-test.true c.loop-segment.invariant.covered).1
+split_at-requires c = (covers-next c.loop-segment.rest.now c.args.segs.now c.loop-segment.segment-index past_end c.loop-segment-test.true c.loop-segment.invariant.covered).1
 
 pub put_segment-requires-clause-suited : goal.put_segment-requires-clause-suited
 put_segment-requires-clause-suited c =
-    rw c.split_at.ensures.front (covers_next c.loop-segment.rest.now c.args.segs.now c.loop-segment.segment-index past_end c.loop-segment-test.true c.loop-segment.invariant.covered).2
+    rw c.split_at.ensures.front (covers-next c.loop-segment.rest.now c.args.segs.now c.loop-segment.segment-index past_end c.loop-segment-test.true c.loop-segment.invariant.covered).2
 
 pub loop-segment-preserved : goal.loop-segment-preserved
 loop-segment-preserved c =
     let rest = c.loop-segment.rest.now in
     let segs = c.args.segs.now in
     let i = c.loop-segment.segment-index in
-    let next = stream_next c.args.version rest segs i past_end c.loop-segment-test.true in
+    let next = stream-next c.args.version rest segs i past_end c.loop-segment-test.true in
     record {
-      whole = search (arith, append_next, append_assoc);
-      covered = rw c.split_at.ensures.back (covers_next rest segs i past_end c.loop-segment-test.true c.loop-segment.invariant.covered).3;
+      whole = search (arith, append-next, append_assoc);
+      covered = rw c.split_at.ensures.back (covers-next rest segs i past_end c.loop-segment-test.true c.loop-segment.invariant.covered).3;
       short = omega arith;
     }
 
 pub returns : goal.returns
-returns c = search (arith, stream_end, append-nil)
+returns c = search (arith, stream-end, append-nil)

@@ -50,6 +50,7 @@ all-lawful : every are_lawful ≡ true
 unfolding block_count_of correction_len_of data_codewords_of total_codewords_of
 all-lawful = refl
 
+-- the facts hold for each level and version, since their tests do
 pub laws-of : (l : Level) (v : ℕ) → 1 ≤ v → v ≤ 40 → Laws l v
 laws-of l v a b = let h : are_lawful l v ≡ true = every-at are_lawful all-lawful l v a b in record {
   fits = grind (arith, nat_tests);

@@ -36,6 +36,7 @@ free_of s bs = sum_below s (λ r. free_between (filter (is_in_rows r) bs) 0 s)
 
 -- a sum of terms that a second one has too, but for those from l to before r, which it has not
 module _ (f g : ℕ → ℕ) (l r : ℕ) (before : (c : ℕ) → c < l → g c ≡ f c) (none : (c : ℕ) → l ≤ c → c < r → g c ≡ 0) (after : (c : ℕ) → r ≤ c → g c ≡ f c) where
+  -- the sum up to a column from l to r is that of the second one up to l
   sum-inside : (k : ℕ) → l ≤ k → k ≤ r → sum_below k g ≡ sum_below l f
   sum-inside zero h m = let e : l ≡ 0 = omega arith in rw e refl
   sum-inside (suc k) h m = elim (cases_lt k l) [
@@ -43,6 +44,7 @@ module _ (f g : ℕ → ℕ) (l r : ℕ) (before : (c : ℕ) → c < l → g c �
     | inr n ↦ let e = none k n m in let d = sum-inside k n (omega arith) in omega arith
   ]
 
+  -- the sum up to a column from r on lacks the terms of the second one from l to before r
   sum-after : (k : ℕ) → l ≤ r → r ≤ k → sum_below k g + sum_below r f ≡ sum_below l f + sum_below k f
   sum-after zero h m = let e : r ≡ 0 = omega arith in let d : l ≡ 0 = omega arith in rw (e, d) refl
   sum-after (suc k) h m = elim (cases_lt k r) [
@@ -50,13 +52,33 @@ module _ (f g : ℕ → ℕ) (l r : ℕ) (before : (c : ℕ) → c < l → g c �
     | inr n ↦ let e = after k n in let d = sum-after k h n in omega arith
   ]
 
+-- p' columns are free before column c without those from l to before r; with these, p are free before c, pl before l and
+-- pr before r
+record IsWithout (l r pl pr c p p' : ℕ) : Type 0 where
+  pub before : c ≤ l → p' ≡ p
+  pub inside : l ≤ c → c ≤ r → p' ≡ pl
+  pub after : r ≤ c → p' + pr ≡ pl + p
+
+-- a columns are free from lo to before the first of hi and l; p, q and pl are free before lo, hi and l
+record IsLeftPart (lo hi l p q pl a : ℕ) : Type 0 where
+  pub whole : hi ≤ l → a + p ≡ q
+  pub part : lo ≤ l → l ≤ hi → a + p ≡ pl
+  pub none : l ≤ lo → a ≡ 0
+
+-- b columns are free from the last of lo and r to before hi; p, q and pr are free before lo, hi and r
+record IsRightPart (lo hi r p q pr b : ℕ) : Type 0 where
+  pub none : hi ≤ r → b ≡ 0
+  pub part : lo ≤ r → r ≤ hi → b + pr ≡ q
+  pub whole : r ≤ lo → b + p ≡ q
+
 -- what is counted between two columns, from what is counted before and after the rectangle from l to before r
-between-step : (lo hi l r pl pr p q p' q' a b : ℕ) → lo < hi → l ≤ r → (lo ≤ l → p' ≡ p) →
-    (l ≤ lo → lo ≤ r → p' ≡ pl) → (r ≤ lo → p' + pr ≡ pl + p) → (hi ≤ l → q' ≡ q) →
-    (l ≤ hi → hi ≤ r → q' ≡ pl) → (r ≤ hi → q' + pr ≡ pl + q) → (hi ≤ l → a + p ≡ q) →
-    (lo ≤ l → l ≤ hi → a + p ≡ pl) → (l ≤ lo → a ≡ 0) → (hi ≤ r → b ≡ 0) →
-    (lo ≤ r → r ≤ hi → b + pr ≡ q) → (r ≤ lo → b + p ≡ q) → a + b + p' ≡ q'
-between-step lo hi l r pl pr p q p' q' a b u v a1 a2 a3 b1 b2 b3 c1 c2 c3 d1 d2 d3 = grind arith
+between-step : (lo hi l r pl pr p q p' q' a b : ℕ) → lo < hi → l ≤ r → IsWithout l r pl pr lo p p' → IsWithout l r pl pr hi q q'
+    → IsLeftPart lo hi l p q pl a → IsRightPart lo hi r p q pr b → a + b + p' ≡ q'
+between-step lo hi l r pl pr p q p' q' a b u v low high left right =
+    let a1 = low.before in let a2 = low.inside in let a3 = low.after in
+    let b1 = high.before in let b2 = high.inside in let b3 = high.after in
+    let c1 = left.whole in let c2 = left.part in let c3 = left.none in
+    let d1 = right.none in let d2 = right.part in let d3 = right.whole in grind arith
 
 -- columns before and after a rectangle are free if they are without it, and its own are not
 free-before : (b : Rectangle) (bs : List Rectangle) (c : ℕ) → c < b.left → is_free (b ∷ bs) c ≡ is_free bs c
@@ -89,19 +111,20 @@ between-counts (b ∷ bs) lo hi h = elim (cases_lt lo hi) [
       let f = is_free bs in
       let g = is_free (b ∷ bs) in
       let x : leb hi lo ≡ false = grind (arith, nat_tests) in
-      rw (x, free_between) (between-step lo hi l r (sum_below l f) (sum_below r f) (sum_below lo f) (sum_below hi f) (sum_below lo g) (sum_below hi g) (free_between bs lo (min hi l)) (free_between bs (max lo r) hi) n (omega arith)
-      (λ i. sum_below-same lo g f (λ c k. free-before b bs c (omega arith)))
-      (λ i j. sum-inside f g l r (free-before b bs) (free-inside b bs) (free-after b bs) lo i j)
-      (λ i. sum-after f g l r (free-before b bs) (free-inside b bs) (free-after b bs) lo (omega arith) i)
-      (λ i. sum_below-same hi g f (λ c k. free-before b bs c (omega arith)))
-      (λ i j. sum-inside f g l r (free-before b bs) (free-inside b bs) (free-after b bs) hi i j)
-      (λ i. sum-after f g l r (free-before b bs) (free-inside b bs) (free-after b bs) hi (omega arith) i)
-      (λ i. rw (min-eq_left i) (between-counts bs lo hi h))
-      (λ i j. rw (min-eq_right j) (between-counts bs lo l i))
-      (λ i. between-none bs lo (min hi l) (omega arith))
-      (λ i. between-none bs (max lo r) hi (omega arith))
-      (λ i j. rw (max-eq_right i) (between-counts bs r hi j))
-      (λ i. rw (max-eq_left i) (between-counts bs lo hi h)))
+      let without : (c : ℕ) → IsWithout l r (sum_below l f) (sum_below r f) c (sum_below c f) (sum_below c g) = λ c. record {
+        before = λ i. sum_below-same c g f (λ c k. free-before b bs c (omega arith));
+        inside = λ i j. sum-inside f g l r (free-before b bs) (free-inside b bs) (free-after b bs) c i j;
+        after = λ i. sum-after f g l r (free-before b bs) (free-inside b bs) (free-after b bs) c (omega arith) i;
+      } in
+      rw (x, free_between) (between-step lo hi l r (sum_below l f) (sum_below r f) (sum_below lo f) (sum_below hi f) (sum_below lo g) (sum_below hi g) (free_between bs lo (min hi l)) (free_between bs (max lo r) hi) n (omega arith) (without lo) (without hi) (record {
+        whole = λ i. rw (min-eq_left i) (between-counts bs lo hi h);
+        part = λ i j. rw (min-eq_right j) (between-counts bs lo l i);
+        none = λ i. between-none bs lo (min hi l) (omega arith);
+      }) (record {
+        none = λ i. between-none bs (max lo r) hi (omega arith);
+        part = λ i j. rw (max-eq_right i) (between-counts bs r hi j);
+        whole = λ i. rw (max-eq_left i) (between-counts bs lo hi h);
+      }))
 ]
 
 -- a place is in a rectangle by its row and by its column

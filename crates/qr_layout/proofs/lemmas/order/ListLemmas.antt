@@ -94,8 +94,12 @@ pub Rises-of-pairs : {X : Type 0} (R : X → X → Type 0) (xs : List X) → All
 Rises-of-pairs R [] h = tt
 Rises-of-pairs R (x ∷ xs) h = (All-rec (R x) xs (λ k d l. h 0 (suc k) d (omega arith) (omega arith)), Rises-of-pairs R xs (λ i j d k l. h (suc i) (suc j) d (omega arith) (omega arith)))
 
+-- each item of the first list is in the second
+abbrev pub AllIn : {X : Type 0} → List X → List X → Type 0
+AllIn {X} xs ys = (x : X) → Mem x xs → Mem x ys
+
 -- two rising lists with the same items are equal
-pub one_rising : {X : Type 0} (R : X → X → Type 0) → ((x y : X) → R x y → R y x → ⊥) → (xs ys : List X) → Rises R xs → Rises R ys → ((x : X) → Mem x xs → Mem x ys) → ((x : X) → Mem x ys → Mem x xs) → xs ≡ ys
+pub one_rising : {X : Type 0} (R : X → X → Type 0) → ((x y : X) → R x y → R y x → ⊥) → (xs ys : List X) → Rises R xs → Rises R ys → AllIn xs ys → AllIn ys xs → xs ≡ ys
 one_rising R a [] [] r s f g = refl
 one_rising R a [] (y ∷ ys) r s f g = absurd (g y (inl refl))
 one_rising R a (x ∷ xs) [] r s f g = absurd (f x (inl refl))

@@ -8,7 +8,13 @@ loop-row-preserved c =
     let g = c.args.a.now in
     let h = c.args.b.now in
     let r = c.loop-row.row in
-    let e = row-differs g h r c.bitxor.result c.bit_row.result c.bit_row-in-loop-row.result (omega (arith, c.bit_row.ensures.few)) c.bitxor.ensures c.bit_row.ensures.colours c.bit_row-in-loop-row.ensures.colours c.bit_row.ensures.past (λ k l. c.bit_row-in-loop-row.ensures.past k (omega arith)) in
+    let e = row-differs g h r c.bitxor.result c.bit_row.result c.bit_row-in-loop-row.result (omega (arith, c.bit_row.ensures.few)) c.bitxor.ensures (record {
+      colours = c.bit_row.ensures.colours;
+      past = c.bit_row.ensures.past;
+    }) (record {
+      colours = c.bit_row-in-loop-row.ensures.colours;
+      past = λ k l. c.bit_row-in-loop-row.ensures.past k (omega arith);
+    }) in
     record {
       counted = sum_below-more r _ _ _ (λ r. count_below g.side (differs g h r)) c.loop-row.invariant.counted (c.count-total.ensures.value ∙ e) refl;
       small = omega arith;

@@ -34,11 +34,18 @@ both a b e = grind (arith, nat_tests)
 left-fails : (a b : Bool) → (a && b) ≡ false → b ≡ true → a ≡ false
 left-fails a b e f = grind (arith, nat_tests)
 
+-- f is the first place that passes, or 192 if none before passes
+pub record IsFirst (passes : ℕ → Bool) (f : ℕ) : Type 0 where
+  pub before : (c : ℕ) → c < f → passes c ≡ false
+  pub here : f < 192 → passes f ≡ true
+
 -- a run of equal modules from `col` on ends at the first change after `col`, or at the side if there is none
 pub run-end-is : (g : Grid) (row col f end : ℕ) (later : ℕ → Bool) → col < g.side → g.side ≤ 177
     → ((c : ℕ) → c < 192 → later c ≡ (is_change (colour g row) c && not (ltb c (col + 1))))
-    → ((c : ℕ) → c < f → later c ≡ false) → (f < 192 → later f ≡ true) → end ≡ min f g.side → IsRunEnd g row col end
-run-end-is g row col f end later l s is before here e =
+    → IsFirst later f → end ≡ min f g.side → IsRunEnd g row col end
+run-end-is g row col f end later l s is first e =
+    let before = first.before in
+    let here = first.here in
     let stays : (c : ℕ) → col < c → c < end → is_change (colour g row) c ≡ false = search (arith, left-fails) in
     let after : col < end = search arith in
     let same : (c : ℕ) → col ≤ c → c < end → colour g row c ≡ colour g row col =

@@ -21,15 +21,18 @@ same-is a b h = grind (arith, nat_tests)
 differs-past : (x y : Bool) → x ≡ false → y ≡ false → not (is_same x y) ≡ false
 differs-past x y e f = cc
 
+-- the bits of a are the colours of row r of g, and none from s on is set
+pub record HasRow (s : ℕ) (g : Grid) (r : ℕ) (a : List ℕ) : Type 0 where
+  pub colours : (c : ℕ) → has a c ≡ colour g r c
+  pub past : (c : ℕ) → s ≤ c → has a c ≡ false
+
 -- the bits that are set in exactly one of two rows are the places at which the rows differ
-pub row-differs : (g h : Grid) (r : ℕ) (d a b : List ℕ) → g.side ≤ 192 →
-    ((c : ℕ) → has d c ≡ not (is_same (has a c) (has b c))) → ((c : ℕ) → has a c ≡ colour g r c) →
-    ((c : ℕ) → has b c ≡ colour h r c) → ((c : ℕ) → g.side ≤ c → has a c ≡ false) →
-    ((c : ℕ) → g.side ≤ c → has b c ≡ false) → size_of d ≡ count_below g.side (differs g h r)
-row-differs g h r d a b few x p q past beyond =
+pub row-differs : (g h : Grid) (r : ℕ) (d a b : List ℕ) → g.side ≤ 192 → ((c : ℕ) → has d c ≡ not (is_same (has a c) (has b c)))
+    → HasRow g.side g r a → HasRow g.side h r b → size_of d ≡ count_below g.side (differs g h r)
+row-differs g h r d a b few x p q =
     size-is g.side (has d) (differs g h r) few
-    (λ c _. x c ∙ (ap (λ z. not (is_same z (has b c))) (p c) ∙ ap (λ z. not (is_same (colour g r c) z)) (q c)))
-    (λ c k. differs-past (colour g r c) (colour h r c) (sym (p c) ∙ past c k) (sym (q c) ∙ beyond c k))
+    (λ c _. x c ∙ (ap (λ z. not (is_same z (has b c))) (p.colours c) ∙ ap (λ z. not (is_same (colour g r c) z)) (q.colours c)))
+    (λ c k. differs-past (colour g r c) (colour h r c) (sym (p.colours c) ∙ p.past c k) (sym (q.colours c) ∙ q.past c k))
 
 -- if a sum is 0, each term is 0
 term-zero : (n : ℕ) (f : ℕ → ℕ) → sum_below n f ≡ 0 → (k : ℕ) → k < n → f k ≡ 0

@@ -42,8 +42,12 @@ row-of-square s row i rows words g v e l q h w c =
     inside (inl k) = colour-square s (dark_in rows) row c q k
     inside (inr k) = colour-outside s (dark_in rows) row c (inr k) ∙ sym (h row c k)
 
+-- no bit from s on is set in any row
+abbrev pub AreInside : ℕ → List (List ℕ) → Type 0
+AreInside s rows = (r c : ℕ) → s ≤ c → dark_in rows r c ≡ false
+
 -- no bit from s on is set in the bit row that is read
-pub row-past : (s row i : ℕ) (rows : List (List ℕ)) (words : List ℕ) → i ≡ row → row < length rows → ((r c : ℕ) → s ≤ c → dark_in rows r c ≡ false) → words ≡ get_or rows i words → (c : ℕ) → s ≤ c → has words c ≡ false
+pub row-past : (s row i : ℕ) (rows : List (List ℕ)) (words : List ℕ) → i ≡ row → row < length rows → AreInside s rows → words ≡ get_or rows i words → (c : ℕ) → s ≤ c → has words c ≡ false
 unfolding dark_in
 row-past s row i rows words e l h w c k = ap (λ z. has z c) (read-line rows row i words e l w) ∙ h row c k
 
@@ -57,7 +61,7 @@ pub rows-set : (s row col i : ℕ) (rows : List (List ℕ)) (words new : List �
 rows-set s row col i rows words new b e l q h r c = search (arith, get_or_read, dark-set)
 
 -- after one place within the side is set, still no bit from s on is set
-pub inside-set : (s row col : ℕ) (rows new : List (List ℕ)) (b : Bool) → col < s → ((r c : ℕ) → dark_in new r c ≡ cond (eqb r row && eqb c col) b (dark_in rows r c)) → ((r c : ℕ) → s ≤ c → dark_in rows r c ≡ false) → (r c : ℕ) → s ≤ c → dark_in new r c ≡ false
+pub inside-set : (s row col : ℕ) (rows new : List (List ℕ)) (b : Bool) → col < s → ((r c : ℕ) → dark_in new r c ≡ cond (eqb r row && eqb c col) b (dark_in rows r c)) → AreInside s rows → AreInside s new
 inside-set s row col rows new b l h i r c k = search (arith, nat_tests, and-false)
 
 -- after one place is set to b, the square is the old square g with this place painted b
@@ -72,7 +76,7 @@ unfolding dark_in
 line-set rows row i words f l r c = search (arith, nat_tests, get_or-set_same, get_or-set_other)
 
 -- after a bit row is written that has no bit from s on set, still no bit from s on is set in any row
-pub line-inside : (s row : ℕ) (rows new : List (List ℕ)) (words : List ℕ) → ((r c : ℕ) → dark_in new r c ≡ cond (eqb r row) (has words c) (dark_in rows r c)) → ((c : ℕ) → s ≤ c → has words c ≡ false) → ((r c : ℕ) → s ≤ c → dark_in rows r c ≡ false) → (r c : ℕ) → s ≤ c → dark_in new r c ≡ false
+pub line-inside : (s row : ℕ) (rows new : List (List ℕ)) (words : List ℕ) → ((r c : ℕ) → dark_in new r c ≡ cond (eqb r row) (has words c) (dark_in rows r c)) → ((c : ℕ) → s ≤ c → has words c ≡ false) → AreInside s rows → AreInside s new
 line-inside s row rows new words h w i r c k = search arith
 
 -- after a bit row with the colours f is written, the square is the old square with this row replaced by f

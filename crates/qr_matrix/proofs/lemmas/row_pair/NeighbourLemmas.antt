@@ -22,6 +22,7 @@ chosen-pair words m d e p k l =
 chosen : (a b t : Bool) → not (is_same a (not (is_same a b) && t)) ≡ cond t b a
 chosen a b t = grind (arith, nat_tests)
 
+-- bit i is that of d, or e in the second word, if bit i of the mask is set, and stays as it was otherwise
 pub chosen-bits : (words : List ℕ) (m d e : ℕ) → IsPair words → (s : Bool) (i : ℕ)
     → has_bit (word_of (both-chosen words m d e) s) i ≡ cond (has_bit m i) (has_bit (cond s e d) i) (has_bit (word_of words s) i)
 chosen-bits words m d e p s i =

@@ -76,6 +76,7 @@ shifted-word : (f : ℕ → ℕ → ℕ) (a : List ℕ) (k : ℕ) (s : Bool) →
 shifted-word f a k false p = zip-word f a (k ∷ k ∷ []) false p.0 refl
 shifted-word f a k true p = zip-word f a (k ∷ k ∷ []) true p.0 refl
 
+-- two words that are shifted down stay words
 down-pair : (a : List ℕ) (k : ℕ) → IsPair a → IsPair (zip2 down a (k ∷ k ∷ []))
 down-pair a k p = zip-pair down a (k ∷ k ∷ []) p.0 refl (elim [
   | false ↦ (let l = p.1 in small (get_or a 0 0) l)
@@ -136,6 +137,7 @@ count-same words bit h = count_below-same 192 (has words) bit (λ c _. h c)
 abbrev pub written : ℕ → ℕ → ℕ → ℕ
 written n at d = bit_or (bit_and n (2 ^ 64 - 1 - 1 * 2 ^ at % 2 ^ 64)) (d * 2 ^ at % 2 ^ 64)
 
+-- bit `at` of the word is then b, and the other bits stay as they were
 bit-written : (n at i d : ℕ) (b : Bool) → at < 64 → i < 64 → d ≡ bool_byte b → has_bit (written n at d) i ≡ cond (eqb i at) b (has_bit n i)
 unfolding has_bit
 bit-written n at i d b ha hi e = elim (cases_eq i at) [
@@ -166,6 +168,7 @@ both-written words at d e =
     let kept = 2 ^ 64 - 1 - 1 * 2 ^ at % 2 ^ 64 in
     zip2 bit_or (zip2 bit_and words (kept ∷ kept ∷ [])) (d * 2 ^ at % 2 ^ 64 ∷ e * 2 ^ at % 2 ^ 64 ∷ [])
 
+-- each word is written as `written` says, with d in the first and e in the second
 pub written-word : (words : List ℕ) (at d e : ℕ) (s : Bool) → IsPair words → word_of (both-written words at d e) s ≡ written (word_of words s) at (cond s e d)
 written-word words at d e s p =
     let kept = 2 ^ 64 - 1 - 1 * 2 ^ at % 2 ^ 64 in
@@ -177,6 +180,7 @@ written-word words at d e s p =
     ends false = ap (λ z. bit_or z (d * 2 ^ at % 2 ^ 64)) (shifted-word bit_and words (2 ^ 64 - 1 - 1 * 2 ^ at % 2 ^ 64) false p)
     ends true = ap (λ z. bit_or z (e * 2 ^ at % 2 ^ 64)) (shifted-word bit_and words (2 ^ 64 - 1 - 1 * 2 ^ at % 2 ^ 64) true p)
 
+-- two words that are written stay words
 pub written-pair : (words : List ℕ) (at d e : ℕ) → IsPair words → IsPair (both-written words at d e)
 written-pair words at d e p =
     let kept = 2 ^ 64 - 1 - 1 * 2 ^ at % 2 ^ 64 in
@@ -265,6 +269,7 @@ module _ (a b d w : List ℕ) (s x : Bool) (at : ℕ) (pa : IsPair a) (pb : IsPa
 pub or-zero : (x y : ℕ) → bit_or x y ≡ 0 → (x ≡ 0) × (y ≡ 0)
 or-zero x y e = let l = le_or_l x y in let m = le_or_r x y in (omega arith, omega arith)
 
+-- if the disjunction of all words of both rows is 0, no bit is set in either row
 pub no-bits : (a b d : List ℕ) → IsPair a → IsPair b → IsPair d → eqb (bit_or (get_or (zip2 bit_or (zip2 bit_or a b) d) 0 0) (get_or (zip2 bit_or (zip2 bit_or a b) d) 1 0)) 0 ≡ true
     → (s : Bool) (c : ℕ) → has (lane (a ∷ b ∷ d ∷ []) s) c ≡ false
 unfolding has bit_row_number lane
@@ -340,6 +345,7 @@ in-front x n k l = grind (arith, nat_tests)
 beyond-front : (x : Bool) (n k : ℕ) → n ≤ k → false ≡ (x && ltb k n)
 beyond-front x n k l = grind (arith, nat_tests)
 
+-- a row of which only the first word is kept has the bits below 64
 pub one-word : (a b d : List ℕ) (s : Bool) → IsPair a → IsPair b → (c : ℕ) → has (lane (a ∷ nothing-of ∷ nothing-of ∷ []) s) c ≡ (has (lane (a ∷ b ∷ d ∷ []) s) c && ltb c 64)
 one-word a b d s pa pb c = elim (cases_lt c 64) [
   | inl k ↦ low-bit a nothing-of nothing-of s pa nothing-pair c k ∙ (sym (low-bit a b d s pa pb c k) ∙ in-front (has (lane (a ∷ b ∷ d ∷ []) s) c) 64 c k)
@@ -349,6 +355,7 @@ one-word a b d s pa pb c = elim (cases_lt c 64) [
   ]
 ]
 
+-- a row of which only the first two words are kept has the bits below 128
 pub two-words : (a b d : List ℕ) (s : Bool) → IsPair a → IsPair b → (c : ℕ) → has (lane (a ∷ b ∷ nothing-of ∷ []) s) c ≡ (has (lane (a ∷ b ∷ d ∷ []) s) c && ltb c 128)
 two-words a b d s pa pb c = elim (cases_lt c 128) [
   | inl n ↦ same (cases_lt c 64) n ∙ in-front (has (lane (a ∷ b ∷ d ∷ []) s) c) 128 c n
@@ -379,6 +386,7 @@ module _ (a b d x y z : List ℕ) (s : Bool) (pa : IsPair a) (pb : IsPair b) (px
   abbrev old : Bool
   old = has (lane (a ∷ b ∷ d ∷ []) s) c
 
+  -- with the first word of the new row, the bits below 64 are new
   pub over-one : has (lane (x ∷ b ∷ d ∷ []) s) c ≡ cond (ltb c 64) (has (lane (x ∷ y ∷ z ∷ []) s) c) (has (lane (a ∷ b ∷ d ∷ []) s) c)
   over-one = elim (cases_lt c 64) [
     | inl k ↦ low-bit x b d s px pb c k ∙ (sym (low-bit x y z s px py c k) ∙ first-of new old 64 k)
@@ -388,6 +396,7 @@ module _ (a b d x y z : List ℕ) (s : Bool) (pa : IsPair a) (pb : IsPair b) (px
     ]
   ]
 
+  -- with the first two words of the new row, the bits below 128 are new
   pub over-two : has (lane (x ∷ y ∷ d ∷ []) s) c ≡ cond (ltb c 128) (has (lane (x ∷ y ∷ z ∷ []) s) c) (has (lane (a ∷ b ∷ d ∷ []) s) c)
   over-two = elim (cases_lt c 128) [
     | inl n ↦ same (cases_lt c 64) n ∙ first-of new old 128 n
@@ -398,6 +407,7 @@ module _ (a b d x y z : List ℕ) (s : Bool) (pa : IsPair a) (pb : IsPair b) (px
       same (inl k) n = low-bit x y d s px py c k ∙ sym (low-bit x y z s px py c k)
       same (inr k) n = middle-bit x y d s px py c k n ∙ sym (middle-bit x y z s px py c k n)
 
+  -- with all three words of the new row, the bits below 192 are new
   pub over-three : IsPair d → IsPair z → has (lane (x ∷ y ∷ z ∷ []) s) c ≡ cond (ltb c 192) (has (lane (x ∷ y ∷ z ∷ []) s) c) (has (lane (a ∷ b ∷ d ∷ []) s) c)
   over-three pd pz = elim (cases_lt c 192) [
     | inl n ↦ first-of new old 192 n

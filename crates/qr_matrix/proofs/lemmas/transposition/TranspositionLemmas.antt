@@ -10,6 +10,10 @@ use Rattle.qr_matrix.proofs.lemmas.bit_row.PlaceLemmas.{has-place, has_bit-and, 
 use Rattle.qr_matrix.proofs.lemmas.matrix.GridLemmas.{square-same, colour-square}
 use Rattle.qr_matrix.proofs.lemmas.bit_row.RepeatLemmas.{below-at, same-same}
 
+-- f and g agree in the first n rows and 64 columns
+abbrev pub Agree : ℕ → (ℕ → ℕ → Bool) → (ℕ → ℕ → Bool) → Type 0
+Agree n f g = (r c : ℕ) → r < n → c < 64 → f r c ≡ g r c
+
 -- ---- numbers of rows and columns in pairs of parts
 
 -- if x is in the first part of a pair, then x + s is at the same offset in the second part
@@ -85,33 +89,48 @@ exchanged-lower : (s : ℕ) (f : ℕ → ℕ → Bool) (r c : ℕ) → s ≤ r %
 unfolding exchanged
 exchanged-lower s f r c l = search (arith, nat_tests)
 
--- if the upper rows before `row` are exchanged in w, and u is its exchanged word, then writing u exchanges it
-pub upper-more : (s first row : ℕ) (w b : List ℕ) (u v : ℕ) → 1 ≤ s → length w ≡ 64 → first % (2 * s) ≡ 0 → first ≤ row → row < first + s → first + 2 * s ≤ 64
-    → get_or w row 0 ≡ get_or b row 0 → get_or w (row + s) 0 ≡ get_or b (row + s) 0
-    → ((c : ℕ) → c < 64 → has_bit u c ≡ cond (ltb (c % (2 * s)) s) (has_bit (get_or w row 0) c) (has_bit (get_or w (row + s) 0) (c - s)))
-    → ((r c : ℕ) → first ≤ r → r < row → c < 64 → bit_in w r c ≡ exchanged s (bit_in b) r c)
-    → (r c : ℕ) → first ≤ r → r < row + 1 → c < 64 → bit_in (set (set w row u) (row + s) v) r c ≡ exchanged s (bit_in b) r c
-unfolding bit_in
-upper-more s first row w b u v p n f l m k e g h before r c lr mr hc = elim (cases_eq r row) [
-  | inl q ↦
-      let t : r % (2 * s) < s = let d : first + (r - first) ≡ r = omega arith in search (arith, mod-from) in
-      search (arith, two-first, exchanged-upper)
-  | inr q ↦ search (arith, two-other)
-]
+-- the bits of w in the rows from `from` to before `to` are those of b after the exchange
+abbrev pub AreExchanged : ℕ → List ℕ → List ℕ → ℕ → ℕ → Type 0
+AreExchanged s w b from to = (r c : ℕ) → from ≤ r → r < to → c < 64 → bit_in w r c ≡ exchanged s (bit_in b) r c
 
--- if the lower rows before `row + s` are exchanged in w, and v is its exchanged word, then writing v exchanges it
-pub lower-more : (s first row : ℕ) (w b : List ℕ) (u v : ℕ) → 1 ≤ s → length w ≡ 64 → first % (2 * s) ≡ 0 → first ≤ row → row < first + s → first + 2 * s ≤ 64
-    → get_or w row 0 ≡ get_or b row 0 → get_or w (row + s) 0 ≡ get_or b (row + s) 0
-    → ((c : ℕ) → c < 64 → has_bit v c ≡ cond (ltb (c % (2 * s)) s) (has_bit (get_or w row 0) (c + s)) (has_bit (get_or w (row + s) 0) c))
-    → ((r c : ℕ) → first + s ≤ r → r < row + s → c < 64 → bit_in w r c ≡ exchanged s (bit_in b) r c)
-    → (r c : ℕ) → first + s ≤ r → r < row + 1 + s → c < 64 → bit_in (set (set w row u) (row + s) v) r c ≡ exchanged s (bit_in b) r c
-unfolding bit_in
-lower-more s first row w b u v p n f l m k e g h before r c lr mr hc = elim (cases_eq r (row + s)) [
-  | inl q ↦
-      let t : s ≤ r % (2 * s) = let d : first + (r - first) ≡ r = omega arith in search (arith, mod-from) in
-      grind (arith, get_or-set_same, length-set, exchanged-lower)
-  | inr q ↦ search (arith, two-other)
-]
+-- the next rows to be exchanged in w are `row` and `row + s`, which are as in b, in the pair of parts from `first` on
+pub record AreNext (s first row : ℕ) (w b : List ℕ) : Type 0 where
+  pub some : 1 ≤ s
+  pub long : length w ≡ 64
+  pub whole : first % (2 * s) ≡ 0
+  pub begun : first ≤ row
+  pub within : row < first + s
+  pub room : first + 2 * s ≤ 64
+  pub upper : get_or w row 0 ≡ get_or b row 0
+  pub lower : get_or w (row + s) 0 ≡ get_or b (row + s) 0
+
+-- u and v are written as the words of the rows `row` and `row + s` of the tile w, which are the next to be exchanged
+module _ (s first row : ℕ) (w b : List ℕ) (u v : ℕ) (next : AreNext s first row w b) where
+  -- if the upper rows before `row` are exchanged in w, and u is the exchanged word of `row`, this row is exchanged too
+  pub upper-more : ((c : ℕ) → c < 64 → has_bit u c ≡ cond (ltb (c % (2 * s)) s) (has_bit (get_or w row 0) c) (has_bit (get_or w (row + s) 0) (c - s)))
+      → AreExchanged s w b first row → AreExchanged s (set (set w row u) (row + s) v) b first (row + 1)
+  unfolding bit_in
+  upper-more h before r c lr mr hc =
+      let p = next.some in let n = next.long in let f = next.whole in let l = next.begun in let m = next.within in let k = next.room in
+      let e = next.upper in let g = next.lower in elim (cases_eq r row) [
+        | inl q ↦
+            let t : r % (2 * s) < s = let d : first + (r - first) ≡ r = omega arith in search (arith, mod-from) in
+            search (arith, two-first, exchanged-upper)
+        | inr q ↦ search (arith, two-other)
+      ]
+
+  -- if the lower rows before `row + s` are exchanged in w, and v is the exchanged word of `row + s`, this row is exchanged too
+  pub lower-more : ((c : ℕ) → c < 64 → has_bit v c ≡ cond (ltb (c % (2 * s)) s) (has_bit (get_or w row 0) (c + s)) (has_bit (get_or w (row + s) 0) c))
+      → AreExchanged s w b (first + s) (row + s) → AreExchanged s (set (set w row u) (row + s) v) b (first + s) (row + 1 + s)
+  unfolding bit_in
+  lower-more h before r c lr mr hc =
+      let p = next.some in let n = next.long in let f = next.whole in let l = next.begun in let m = next.within in let k = next.room in
+      let e = next.upper in let g = next.lower in elim (cases_eq r (row + s)) [
+        | inl q ↦
+            let t : s ≤ r % (2 * s) = let d : first + (r - first) ≡ r = omega arith in search (arith, mod-from) in
+            grind (arith, get_or-set_same, length-set, exchanged-lower)
+        | inr q ↦ search (arith, two-other)
+      ]
 
 -- ---- one stage
 
@@ -122,11 +141,11 @@ exchanged-same s w b r c e f g = search (arith, exchanged-upper, exchanged-lower
 
 -- if the first k pairs of parts are exchanged in w, and n is w with pair k exchanged, then k + 1 are exchanged in n
 pub group-more : (s k : ℕ) (n w b : List ℕ) → 1 ≤ s
-    → ((r c : ℕ) → 2 * s * k ≤ r → r < 2 * s * k + 2 * s → c < 64 → bit_in n r c ≡ exchanged s (bit_in w) r c)
+    → AreExchanged s n w (2 * s * k) (2 * s * k + 2 * s)
     → ((r : ℕ) → (r < 2 * s * k) ⊎ (2 * s * k + 2 * s ≤ r) → get_or n r 0 ≡ get_or w r 0)
-    → ((r c : ℕ) → r < 2 * s * k → c < 64 → bit_in w r c ≡ exchanged s (bit_in b) r c)
+    → Agree (2 * s * k) (bit_in w) (exchanged s (bit_in b))
     → ((r : ℕ) → 2 * s * k ≤ r → get_or w r 0 ≡ get_or b r 0)
-    → (r c : ℕ) → r < 2 * s * (k + 1) → c < 64 → bit_in n r c ≡ exchanged s (bit_in b) r c
+    → Agree (2 * s * (k + 1)) (bit_in n) (exchanged s (bit_in b))
 unfolding bit_in
 group-more s k n w b p these others before after r c l h = elim (cases_lt r (2 * s * k)) [
   | inl m ↦ ap (λ z. has_bit z c) (others r (inl m)) ∙ before r c m h
@@ -162,9 +181,7 @@ half-high s x p l =
 
 -- from f with parts of 2 * s by 2 * s bits transposed as wholes, the exchange makes f with parts of s by s bits so
 pub stage : (s : ℕ) (f g h : ℕ → ℕ → Bool) → 1 ≤ s → ((x : ℕ) → x < 64 → x % (2 * s) < s → x + s < 64)
-    → ((r c : ℕ) → r < 64 → c < 64 → g r c ≡ mirrored (2 * s) f r c)
-    → ((r c : ℕ) → r < 64 → c < 64 → h r c ≡ exchanged s g r c)
-    → (r c : ℕ) → r < 64 → c < 64 → h r c ≡ mirrored s f r c
+    → Agree 64 g (mirrored (2 * s) f) → Agree 64 h (exchanged s g) → Agree 64 h (mirrored s f)
 stage s f g h p fits before now r c l m = now r c l m ∙ elim (cases_lt (r % (2 * s)) s) [
   | inl a ↦ exchanged-upper s g r c a ∙ elim (cases_lt (c % (2 * s)) s) [
     | inl b ↦
@@ -189,7 +206,7 @@ stage s f g h p fits before now r c l m = now r c l m ∙ elim (cases_lt (r % (2
 ]
 
 -- the only part of 64 by 64 bits, transposed as a whole, is the tile f itself
-pub first-stage : (f : ℕ → ℕ → Bool) (r c : ℕ) → r < 64 → c < 64 → f r c ≡ mirrored 64 f r c
+pub first-stage : (f : ℕ → ℕ → Bool) → Agree 64 f (mirrored 64 f)
 first-stage f r c l m = search arith
 
 -- if the parts are single bits, then f with its parts transposed is the transposed tile f
@@ -258,15 +275,17 @@ word-more k word q = grind (arith, nat_tests)
 pub word-all : (c words s : ℕ) (q : Bool) → c < s → s ≤ 64 * words → (q && ltb (c / 64) words) ≡ q
 word-all c words s q l m = grind (arith, nat_tests)
 
+-- the tile b has the colours of the square g in the rows of band `word` and the columns of word `band`, where there are any
+abbrev pub IsTileOf : ℕ → ℕ → ℕ → List ℕ → Grid → Type 0
+IsTileOf word band s b g = Agree 64 (bit_in b) (λ r c. ltb (64 * word + r) s && colour g (64 * word + r) (64 * band + c))
+
 -- a bit of the transposed tile is the colour of the square with row and column exchanged
-pub tile-bit : (band word r c s : ℕ) (b t : List ℕ) (g : Grid) → ((r c : ℕ) → r < 64 → c < 64 → bit_in t r c ≡ bit_in b c r)
-    → ((r c : ℕ) → r < 64 → c < 64 → bit_in b r c ≡ (ltb (64 * word + r) s && colour g (64 * word + r) (64 * band + c)))
+pub tile-bit : (band word r c s : ℕ) (b t : List ℕ) (g : Grid) → Agree 64 (bit_in t) (λ r c. bit_in b c r) → IsTileOf word band s b g
     → c < s → (eqb (r / 64) band && eqb (c / 64) word) ≡ true → bit_in t (r % 64) (c % 64) ≡ colour g c r
 tile-bit band word r c s b t g turned read l h = search (arith, nat_tests)
 
 -- a bit of the transposed tile that is past the side is not set
-pub tile-past : (band word r c s : ℕ) (b t : List ℕ) (g : Grid) → ((r c : ℕ) → r < 64 → c < 64 → bit_in t r c ≡ bit_in b c r)
-    → ((r c : ℕ) → r < 64 → c < 64 → bit_in b r c ≡ (ltb (64 * word + r) s && colour g (64 * word + r) (64 * band + c)))
+pub tile-past : (band word r c s : ℕ) (b t : List ℕ) (g : Grid) → Agree 64 (bit_in t) (λ r c. bit_in b c r) → IsTileOf word band s b g
     → r < 64 → c < 64 → s ≤ 64 * word + c → bit_in t r c ≡ false
 tile-past band word r c s b t g turned read l m h = search (arith, nat_tests)
 
@@ -278,14 +297,14 @@ zero-at n r x = search (arith, get_or-replicate, get_or_past, length-replicate)
 
 -- if the first `row` words have the colours of the band's rows, and the words after these are 0, the tile is read
 pub tile-read : (band word row s : ℕ) (w : List ℕ) (g : Grid) → 64 * band ≤ s → row ≡ min (s - 64 * band) 64
-    → ((r c : ℕ) → r < row → c < 64 → has_bit (get_or w r 0) c ≡ colour g (64 * band + r) (64 * word + c)) → ((r : ℕ) → row ≤ r → get_or w r 0 ≡ 0)
-    → (r c : ℕ) → r < 64 → c < 64 → bit_in w r c ≡ (ltb (64 * band + r) s && colour g (64 * band + r) (64 * word + c))
+    → Agree row (λ r c. has_bit (get_or w r 0) c) (λ r c. colour g (64 * band + r) (64 * word + c)) → ((r : ℕ) → row ≤ r → get_or w r 0 ≡ 0)
+    → IsTileOf band word s w g
 unfolding bit_in has_bit
 tile-read band word row s w g b e read rest r c l m = search (arith, nat_tests, bit_at-zero)
 
 -- one row more of the tile has its colours
 pub read-more : (row x : ℕ) (w : List ℕ) (f : ℕ → ℕ → Bool) → row < length w → ((c : ℕ) → c < 64 → has_bit x c ≡ f row c)
-    → ((r c : ℕ) → r < row → c < 64 → has_bit (get_or w r 0) c ≡ f r c) → (r c : ℕ) → r < row + 1 → c < 64 → has_bit (get_or (set w row x) r 0) c ≡ f r c
+    → Agree row (λ r c. has_bit (get_or w r 0) c) f → Agree (row + 1) (λ r c. has_bit (get_or (set w row x) r 0) c) f
 read-more row x w f n here before r c l m = search (arith, get_or-set_same, get_or-set_other)
 
 -- bits past the side stay unset if a word is replaced by one that has none set there

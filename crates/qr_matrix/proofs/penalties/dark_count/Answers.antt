@@ -21,6 +21,7 @@ kept f t o a b u x p q l y s e k h i j m = omega arith
 next : (n m : ℕ) (f : ℕ → ℕ) → m ≡ n + 1 → sum_below m f ≡ sum_below n f + f n
 next n m f e = ap (λ z. sum_below z f) e ∙ sym (sum_below-more n _ _ _ f refl refl refl)
 
+-- a sum with the next four terms added is the sum of four terms more
 four-more : (n m x y : ℕ) (f : ℕ → ℕ) → m ≡ n + 4 → x ≡ sum_below n f → y ≡ x + (f n + f (n + 1) + (f (n + 2) + f (n + 3))) → y ≡ sum_below m f
 four-more n m x y f e d h =
     let a = next n (n + 1) f refl in

@@ -8,5 +8,5 @@ pub returns : goal.returns
 returns c =
     let gs = c.args.damaged.now in
     exactly (λ bytes. IsMendedSeries gs bytes.items) (IsUnmendedSeries gs) c.mend_series.result c.mend_series.ensures
-    (λ bytes e. joined-refused IsMendedContent (λ g. IsUnmended (light g.side) g) content-one content-refused gs bytes.items e)
+    (λ bytes e. joined-refused IsMendedContent (λ g. IsUnmended (light g.side) g) content-refused content-one gs bytes.items e)
     (unjoined-one IsMendedContent (λ g. IsUnmended (light g.side) g) content-refused (λ g. unmended-one (light g.side) g) gs)

@@ -15,7 +15,7 @@ strip c up b e read =
     let s = side_of c.args.v in let x = c.args.strip in
     let w = c.columns_of-within in let y = c.columns_of-columns in
     subst (λ z. Appends z c.args.bits.now b)
-    (strip-bits c.args.v s c.args.across.now x w.result y.result 0 s (omega arith) (λ row l. w.ensures.right row ∙ region-across _ _ row _ c.requires.region l c.requires.right_in) (λ row l. w.ensures.left row ∙ region-across _ _ row _ c.requires.region l (omega (arith, c.requires.right_in))) y.ensures.right y.ensures.left)
+    (strip-bits c.args.v s c.args.across.now x w.result y.result (λ row l. w.ensures.right row ∙ region-across _ _ row _ c.requires.region l c.requires.right_in) (λ row l. w.ensures.left row ∙ region-across _ _ row _ c.requires.region l (omega (arith, c.requires.right_in))) y.ensures.right y.ensures.left 0 s (omega arith))
     (subst (λ z. Appends (bits_in_rows s (record { right = x.right; upward = z }) w.result y.result 0 s) c.args.bits.now b) e read)
 
 pub returns-then-upward : goal.returns-then-upward

@@ -1,4 +1,4 @@
-use Rattle.qr_bits.proofs.Facts.{covered_short}
+use Rattle.qr_bits.proofs.Facts.{covered-short}
 use Rattle.qr_bits.specs.declared.fault.BitFault.{BitFault, TheVariants.{Memory, TooLong}}
 use Rattle.qr_symbol.specs.Fault.{fault_of}
 use Rattle.std.specs.Cow.{cow_slice_items}
@@ -14,7 +14,7 @@ of_memory TooLong none = absurd (none refl)
 
 pub codewords-requires-clause-short : goal.codewords-requires-clause-short
 codewords-requires-clause-short c =
-    let short = covered_short c.args.version c.args.level (cow_slice_items c.args.segmented.now.characters) _ (omega arith) (omega arith) c.requires.covered (omega (arith, c.requires.room)) in
+    let short = covered-short c.args.version c.args.level (cow_slice_items c.args.segmented.now.characters) _ (omega arith) (omega arith) c.requires.covered (omega (arith, c.requires.room)) in
     rw c.deref.ensures.value (omega arith)
 
 pub returns-in_err-codewords : goal.returns-in_err-codewords

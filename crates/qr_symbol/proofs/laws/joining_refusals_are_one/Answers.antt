@@ -4,6 +4,6 @@ use Rattle.qr_symbol.proofs.laws.joining_refusals_are_one.Goals as goal
 
 pub returns : goal.returns
 returns c = record {
-  joined = joined-refused _ _ reading-one read-refused;
+  joined = joined-refused _ _ read-refused reading-one;
   one = unjoined-one _ _ read-refused refused-one;
 }

@@ -54,15 +54,15 @@ kept-bit : (t : Bool) (f : Place → Bool) (m : Place) (ms : List Place) → map
 kept-bit true f m ms = refl
 kept-bit false f m ms = refl
 
--- the bits of the rows of a strip are those of its places in the encoding region
-pub strip-bits : (v s : ℕ) (g : Grid) (x : Strip) (r y : Columns) (k n : ℕ) → k + n ≤ s → ((row : ℕ)
-    → row < s → has r.right row ≡ is_in_region v row x.right) → ((row : ℕ) → row < s
-    → has r.left row ≡ is_in_region v row (x.right - 1)) → ((row : ℕ)
-    → has y.right row ≡ colour g x.right row) → ((row : ℕ) → has y.left row ≡ colour g (x.right - 1) row)
-    → bits_in_rows s x r y k n ≡ map (colour_across g) (in_region_of v (both_of (rows_from s x k n)))
-strip-bits v s g x r y k zero l a b c d = refl
-strip-bits v s g x r y k (suc n) l a b c d =
-    search (arith, at, append_assoc, kept-bit, strip-bits v s g x r y (k + 1) n (omega arith) a b c d)
+-- the columns r say which places of a strip are in the encoding region, and the columns y have the colours of the square g, which
+-- is read with row and column exchanged
+module _ (v s : ℕ) (g : Grid) (x : Strip) (r y : Columns)
+    (right_in : (row : ℕ) → row < s → has r.right row ≡ is_in_region v row x.right) (left_in : (row : ℕ) → row < s → has r.left row ≡ is_in_region v row (x.right - 1))
+    (right : (row : ℕ) → has y.right row ≡ colour g x.right row) (left : (row : ℕ) → has y.left row ≡ colour g (x.right - 1) row) where
+  -- the bits of the rows of a strip are those of its places in the encoding region
+  pub strip-bits : (k n : ℕ) → k + n ≤ s → bits_in_rows s x r y k n ≡ map (colour_across g) (in_region_of v (both_of (rows_from s x k n)))
+  strip-bits k zero l = refl
+  strip-bits k (suc n) l = search (arith, at, append_assoc, kept-bit, strip-bits (k + 1) n (omega arith))
 
 -- the bits of one strip more
 pub strip-read : (v s : ℕ) (f : Place → Bool) (xs : List Strip) (x : Strip) (a b : Bits) → HasCollected (map f (in_region_of v (places_of s xs))) a → Appends (map f (in_region_of v (both_of (rows_from s x 0 s)))) a b

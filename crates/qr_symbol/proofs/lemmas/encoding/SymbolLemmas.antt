@@ -1,6 +1,6 @@
 -- An input has only one symbol, since each step of making it has only one result.
 use Rattle.qr_bits.specs.declared.interpretation.Interpretation.{Interpretation}
-use Rattle.qr_bits.proofs.Facts.{data_one, segmentation-one}
+use Rattle.qr_bits.proofs.Facts.{data-one, segmentation-one}
 use Rattle.qr_bits.specs.{Padding.IsData, declared.{header.Header.Header, modes.Rule.Rule, segment.Segment.Segment}}
 use Rattle.{qr_layout.specs.declared.level.Level.Level, qr_matrix.specs.Grid.Grid}
 use Rattle.qr_symbol.{proofs.lemmas.interleaving.MessageLemmas.final-one, specs.Choice.IsFirstLeast}
@@ -26,7 +26,7 @@ symbol-at-one v l rule how xs head m n g h a b =
     let written : IsData v l b.characters b.segments head how a.message = subst (λ (ss : List Segment). IsData v l b.characters ss head how a.message) same.1
     (subst (λ (ys : List ℕ). IsData v l ys a.segments head how a.message) same.0 a.written) in
     let codewords : a.codewords ≡ b.codewords = final-one _ _ _ _
-    (subst (λ (d : List ℕ). IsInterleaved v l d a.codewords) (data_one v l _ _ _ _ _ _ written b.written) a.interleaved) b.interleaved in
+    (subst (λ (d : List ℕ). IsInterleaved v l d a.codewords) (data-one v l _ _ _ _ _ _ written b.written) a.interleaved) b.interleaved in
     search (arith, least-one)
 
 -- An input has at most one symbol.

@@ -2,7 +2,7 @@
 use Rattle.qr_bits.specs.declared.interpretation.Interpretation.{Interpretation}
 use Rattle.qr_bits.specs.Interpretation.{MayWrite, interpretation_bits}
 use Rattle.qr_symbol.proofs.lemmas.version_choice.FitLemmas.{fits-bits, interpretation-most}
-use Rattle.qr_bits.{proofs.Facts.{capacity_least, length-stream, least_fits}, specs.Header.header_bits}
+use Rattle.qr_bits.{proofs.Facts.{capacity-least, length-stream, least_fits}, specs.Header.header_bits}
 use Rattle.qr_bits.specs.{Padding.{IsData, capacity_of, room_of}, Segmentation.{bits, HasFit, IsLeastSegmentation}}
 use Rattle.qr_bits.specs.declared.{header.Header.Header, modes.Rule.Rule, segment.Segment.Segment}
 use Rattle.{qr_layout.specs.declared.level.Level.Level, qr_matrix.specs.Grid.Grid}
@@ -70,7 +70,7 @@ pub behind-header : (v : ℕ) (l : Level) (b : Rule) (how : Interpretation) (x y
     → IsLeastSegmentation how v b x ys segs → HasFit how v b x (room_of v l how)
     → header_bits (Some h) + interpretation_bits how + bits v segs ≤ capacity_of v l
 behind-header v l b how x ys segs h p q chosen fits =
-    omega (arith, capacity_least v l p q, interpretation-most how, ((least_fits how v b x ys segs chosen).1 (room_of v l how)).0 fits)
+    omega (arith, capacity-least v l p q, interpretation-most how, ((least_fits how v b x ys segs chosen).1 (room_of v l how)).0 fits)
 
 -- a fault stays one exactly if it has to be returned
 pub refused-again : {X Y : Type 0} (smallest : ℕ) (l : Level) (b : Rule) (how : Interpretation) (x : List ℕ) (e : EncodeFault) → IsRefusedExactly {X = X} smallest l b how x (Err e) → IsRefusedExactly {X = Y} smallest l b how x (Err e)

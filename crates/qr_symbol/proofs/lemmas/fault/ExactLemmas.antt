@@ -1,5 +1,5 @@
 -- A call is refused for a fault exactly if the fault is there, unless memory is refused.
-use Rattle.qr_bits.{proofs.Facts.empty_fits, specs.{declared.modes.Rule.Rule}}
+use Rattle.qr_bits.{proofs.Facts.empty-fits, specs.{declared.modes.Rule.Rule}}
 use Rattle.qr_bits.specs.declared.interpretation.Interpretation.{Interpretation}
 use Rattle.qr_symbol.proofs.lemmas.version_choice.FitLemmas.{version-short}
 use Rattle.{qr_layout.specs.declared.level.Level.Level}
@@ -41,7 +41,7 @@ too-many-exactly x l b how v (Err e) (inr w) = exactly _ _ _ _ (λ e. cc) (λ _.
 
 -- an empty input fits a version, and is short
 pub empty-has-version : (x : List ℕ) (l : Level) (b : Rule) (how : Interpretation) (smallest : ℕ) → smallest ≤ 40 → x ≡ [] → HasNoVersion smallest l b how x → ⊥
-empty-has-version x l b how smallest most e none = none smallest (omega arith) most (subst (FitsVersion smallest l b how) (sym e) (empty_fits how smallest b _))
+empty-has-version x l b how smallest most e none = none smallest (omega arith) most (subst (FitsVersion smallest l b how) (sym e) (empty-fits how smallest b _))
 
 pub empty-short : (x : List ℕ) → x ≡ [] → 7089 < length x → ⊥
 empty-short x e l = omega (arith, ap length e)
@@ -52,7 +52,7 @@ long-has-no-version x l b how smallest least long v a c fits = let short = versi
 
 -- an empty input has a series
 pub empty-has-series : (x : List ℕ) (l : Level) (b : Rule) (how : Interpretation) (v : ℕ) → x ≡ [] → HasNoSeries v l b how x → ⊥
-empty-has-series x l b how v e none = none.too_long (subst (FitsVersion v l b how) (sym e) (empty_fits how v b _))
+empty-has-series x l b how v e none = none.too_long (subst (FitsVersion v l b how) (sym e) (empty-fits how v b _))
 
 -- `Check` is returned exactly if the codewords are the final sequence of no data codewords, unless memory was refused
 pub check-exactly : (Holds : List ℕ → Type 0) (r : Result (Vec ℕ Global) ReadFault) → MatchResult r (λ d. Holds d.items)

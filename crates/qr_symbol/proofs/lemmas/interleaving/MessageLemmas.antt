@@ -2,7 +2,7 @@
 use Rattle.qr_field.{proofs.Facts.correction-one, specs.Polynomial.IsCorrection}
 use Rattle.qr_layout.{proofs.Facts.{Mem-of-Contains, blocks-sound}, specs.Blocks.{data_codewords_of, blocks_of}}
 use Rattle.qr_layout.specs.{Version.total_codewords_of, declared.{blocks.Blocks.Blocks, level.Level.Level}}
-use Rattle.{qr_symbol.proofs.lemmas.interleaving.OrderLemmas.positions-many, std.specs.Prelude.{Result, Ok, Err, IfOk}}
+use Rattle.qr_symbol.proofs.lemmas.interleaving.OrderLemmas.{positions-many}
 use Rattle.qr_symbol.proofs.lemmas.interleaving.RankLemmas.{positions-one, position-of, map-at}
 use Rattle.qr_symbol.proofs.lemmas.interleaving.{CheckLemmas.both-interleaved, PositionLemmas.part-at}
 use Rattle.qr_symbol.specs.{Steps.Interleaving.IsChecks, declared.interleaving.BlockSizes.BlockSizes}
@@ -72,11 +72,6 @@ sizes-whole v l h k = search (arith, blocks-sound, data-sizes-whole, sizes-even)
 -- a final sequence has as many codewords as the symbol
 pub final-whole : (v : ℕ) (l : Level) (d cw : List ℕ) → 1 ≤ v → v ≤ 40 → IsFinalMessage (blocks_of v l) d cw → length cw ≡ total_codewords_of v
 final-whole v l d cw h k i = final-many (blocks_of v l) d cw i ∙ sizes-whole v l h k
-
--- a fact that holds for the value of a result, with another fact that follows from it
-pub ok-also : {X E : Type 0} (P Q : X → Type 0) (r : Result X E) → IfOk r P → ((x : X) → P x → Q x) → IfOk r Q
-ok-also P Q (Ok x) h f = f x h
-ok-also P Q (Err e) h f = tt
 
 -- ---- one message at most
 

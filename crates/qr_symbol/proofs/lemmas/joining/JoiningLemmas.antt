@@ -1,5 +1,6 @@
 -- Squares are read one by one, and are joined to one list of bytes or refused for one reason.
 use Rattle.{qr_bits.specs.Parsing.Content, qr_matrix.specs.Grid.Grid}
+use Rattle.qr_symbol.proofs.lemmas.reading.RefusalLemmas.{FaultsAreOne, IsOneFault}
 use Rattle.qr_symbol.specs.Joining.{AreReadBy, HaveHeaders, IsFirstRefused, IsJoinedBy, IsNoSeries, IsUnjoined, IsUnjoinedBy, bytes_of_all}
 use Rattle.qr_symbol.specs.{Reading.{IsReading, IsUnread}, Series.squares_of}
 use Rattle.{qr_symbol.specs.declared.{fault.ReadFault.ReadFault, symbol.Symbol.Symbol}, std.specs.Prelude.Some}
@@ -50,25 +51,27 @@ bytes-more cs i c xs l e h = rw (take_more cs i c l, ← e, h) (flat_map_more (�
 
 -- ---- the first fault
 
--- no square is refused because of `Series`
-never-series : (reads : Grid → Content → Type 0) (refuses : Grid → ReadFault → Type 0) → ((g : Grid) → refuses g fault.Series → ⊥) → (gs : List Grid) → IsFirstRefused reads refuses gs fault.Series → ⊥
-unfolding IsFirstRefused
-never-series reads refuses n [] u = u
-never-series reads refuses n (g ∷ gs) (inl u) = n g u
-never-series reads refuses n (g ∷ gs) (inr w) = never-series reads refuses n gs w.2
+-- squares that are read as contents, or refused for faults, of which `Series` is none
+module _ (reads : Grid → Content → Type 0) (refuses : Grid → ReadFault → Type 0) (other : (g : Grid) → refuses g fault.Series → ⊥) where
+  -- no square is refused because of `Series`
+  never-series : (gs : List Grid) → IsFirstRefused reads refuses gs fault.Series → ⊥
+  unfolding IsFirstRefused
+  never-series [] u = u
+  never-series (g ∷ gs) (inl u) = other g u
+  never-series (g ∷ gs) (inr w) = never-series gs w.2
 
--- for the fault of the first square that is not read, the squares are not joined
-unread-unjoined : (reads : Grid → Content → Type 0) (refuses : Grid → ReadFault → Type 0) → ((g : Grid) → refuses g fault.Series → ⊥) → (gs : List Grid) (e : ReadFault) → IsFirstRefused reads refuses gs e → IsUnjoinedBy reads refuses gs e
-unread-unjoined reads refuses n gs fault.Memory u = tt
-unread-unjoined reads refuses n gs fault.Series u = absurd (never-series reads refuses n gs u)
-unread-unjoined reads refuses n gs e u = u
+  -- for the fault of the first square that is not read, the squares are not joined
+  unread-unjoined : (gs : List Grid) (e : ReadFault) → IsFirstRefused reads refuses gs e → IsUnjoinedBy reads refuses gs e
+  unread-unjoined gs fault.Memory u = tt
+  unread-unjoined gs fault.Series u = absurd (never-series gs u)
+  unread-unjoined gs e u = u
 
--- if all squares before one are read and this one is refused for a fault, the squares are not joined because of this
--- fault
-pub unjoined-next : (reads : Grid → Content → Type 0) (refuses : Grid → ReadFault → Type 0) → ((g : Grid) → refuses g fault.Series → ⊥) → (gs : List Grid) (i : ℕ) (g : Grid) (cs : List Content) (e : ReadFault) → i < length gs → g ≡ get_or gs i g → AreReadBy reads (take i gs) cs → refuses g e → IsUnjoinedBy reads refuses gs e
-unjoined-next reads refuses n gs i g cs e l p a u =
-    let around : gs ≡ take i gs ++ g ∷ drop (i + 1) gs = cc (take-append-drop i gs, drop_more gs i g l) in
-    search (arith, unread-unjoined, first-unread)
+  -- if all squares before one are read and this one is refused for a fault, the squares are not joined because of this
+  -- fault
+  pub unjoined-next : (gs : List Grid) (i : ℕ) (g : Grid) (cs : List Content) (e : ReadFault) → i < length gs → g ≡ get_or gs i g → AreReadBy reads (take i gs) cs → refuses g e → IsUnjoinedBy reads refuses gs e
+  unjoined-next gs i g cs e l p a u =
+      let around : gs ≡ take i gs ++ g ∷ drop (i + 1) gs = cc (take-append-drop i gs, drop_more gs i g l) in
+      search (arith, unread-unjoined, first-unread)
 
 -- if all symbols before one are read and this one is refused for a fault, they are not joined because of this fault
 pub unjoined-at : (ss : List Symbol) (i : ℕ) (s : Symbol) (cs : List Content) (e : ReadFault) → i < length ss → s ≡ get_or ss i s → AreReadBy IsReading (squares_of (take i ss)) cs → IsUnread s.matrix e → IsUnjoined (squares_of ss) e
@@ -103,44 +106,45 @@ joining-one reads same gs x y h k = search (arith, readings-one)
 
 -- ---- and are refused for one reason
 
--- if all squares are read, none of them is refused, except for lack of memory
-read-unread : (reads : Grid → Content → Type 0) (refuses : Grid → ReadFault → Type 0) → ((g : Grid) (c : Content) (e : ReadFault) → reads g c → refuses g e → e ≡ fault.Memory) → (gs : List Grid) (cs : List Content) (e : ReadFault) → AreReadBy reads gs cs → IsFirstRefused reads refuses gs e → e ≡ fault.Memory
-unfolding AreReadBy IsFirstRefused
-read-unread reads refuses never (g ∷ gs) (c ∷ cs) e a (inl u) = never g c e a.0 u
-read-unread reads refuses never (g ∷ gs) (c ∷ cs) e a (inr w) = read-unread reads refuses never gs cs e a.1 w.2
-read-unread reads refuses never gs cs e a u = search arith
+-- squares that are read are refused only for lack of memory
+module _ (reads : Grid → Content → Type 0) (refuses : Grid → ReadFault → Type 0) (never : (g : Grid) (c : Content) (e : ReadFault) → reads g c → refuses g e → e ≡ fault.Memory) where
+  -- if all squares are read, none of them is refused, except for lack of memory
+  read-unread : (gs : List Grid) (cs : List Content) (e : ReadFault) → AreReadBy reads gs cs → IsFirstRefused reads refuses gs e → e ≡ fault.Memory
+  unfolding AreReadBy IsFirstRefused
+  read-unread (g ∷ gs) (c ∷ cs) e a (inl u) = never g c e a.0 u
+  read-unread (g ∷ gs) (c ∷ cs) e a (inr w) = read-unread gs cs e a.1 w.2
+  read-unread gs cs e a u = search arith
 
--- two first faults of the same squares are equal, or one of them is lack of memory
-first-one : (reads : Grid → Content → Type 0) (refuses : Grid → ReadFault → Type 0) → ((g : Grid) (c : Content) (e : ReadFault) → reads g c → refuses g e → e ≡ fault.Memory) → ((g : Grid) (e f : ReadFault) → refuses g e → refuses g f → (e ≡ fault.Memory) ⊎ ((f ≡ fault.Memory) ⊎ (e ≡ f))) → (gs : List Grid) (e f : ReadFault) → IsFirstRefused reads refuses gs e → IsFirstRefused reads refuses gs f → (e ≡ fault.Memory) ⊎ ((f ≡ fault.Memory) ⊎ (e ≡ f))
-unfolding IsFirstRefused
-first-one reads refuses never same [] e f u v = absurd u
-first-one reads refuses never same (g ∷ gs) e f (inl u) (inl v) = same g e f u v
-first-one reads refuses never same (g ∷ gs) e f (inl u) (inr z) = inl (never g z.0 e z.1 u)
-first-one reads refuses never same (g ∷ gs) e f (inr w) (inl v) = inr (inl (never g w.0 f w.1 v))
-first-one reads refuses never same (g ∷ gs) e f (inr w) (inr z) = first-one reads refuses never same gs e f w.2 z.2
+  -- two first faults of the same squares are equal, or one of them is lack of memory
+  first-one : ((g : Grid) → FaultsAreOne (refuses g)) → (gs : List Grid) → FaultsAreOne (IsFirstRefused reads refuses gs)
+  unfolding IsFirstRefused
+  first-one same [] e f u v = absurd u
+  first-one same (g ∷ gs) e f (inl u) (inl v) = same g e f u v
+  first-one same (g ∷ gs) e f (inl u) (inr z) = inl (never g z.0 e z.1 u)
+  first-one same (g ∷ gs) e f (inr w) (inl v) = inr (inl (never g w.0 f w.1 v))
+  first-one same (g ∷ gs) e f (inr w) (inr z) = first-one same gs e f w.2 z.2
 
--- a fault for which squares are not joined is lack of memory, the first fault of a square, or `Series`
-abbrev Why : (Grid → Content → Type 0) → (Grid → ReadFault → Type 0) → List Grid → ReadFault → Type 0
-Why reads refuses gs e = (e ≡ fault.Memory) ⊎ (IsFirstRefused reads refuses gs e ⊎ ((e ≡ fault.Series) × IsNoSeries reads gs))
+  -- a fault for which squares are not joined is lack of memory, the first fault of a square, or `Series`
+  abbrev Why : List Grid → ReadFault → Type 0
+  Why gs e = (e ≡ fault.Memory) ⊎ (IsFirstRefused reads refuses gs e ⊎ ((e ≡ fault.Series) × IsNoSeries reads gs))
 
-told : (reads : Grid → Content → Type 0) (refuses : Grid → ReadFault → Type 0) (gs : List Grid) (e : ReadFault)
-    → IsUnjoinedBy reads refuses gs e → Why reads refuses gs e
-told reads refuses gs fault.Memory u = inl refl
-told reads refuses gs fault.Series u = inr (inr (refl, u))
-told reads refuses gs e u = inr (inl u)
+  told : (gs : List Grid) (e : ReadFault) → IsUnjoinedBy reads refuses gs e → Why gs e
+  told gs fault.Memory u = inl refl
+  told gs fault.Series u = inr (inr (refl, u))
+  told gs e u = inr (inl u)
 
--- squares that are joined to bytes are refused only for lack of memory
-pub joined-refused : (reads : Grid → Content → Type 0) (refuses : Grid → ReadFault → Type 0) → ((g : Grid) (c d : Content) → reads g c → reads g d → c ≡ d) → ((g : Grid) (c : Content) (e : ReadFault) → reads g c → refuses g e → e ≡ fault.Memory) → (gs : List Grid) (x : List ℕ) (e : ReadFault) → IsJoinedBy reads gs x → IsUnjoinedBy reads refuses gs e → e ≡ fault.Memory
-joined-refused reads refuses same never gs x e h u = search (arith, told, read-unread, readings-one)
+  -- squares that are joined to bytes are refused only for lack of memory
+  pub joined-refused : ((g : Grid) (c d : Content) → reads g c → reads g d → c ≡ d) → (gs : List Grid) (x : List ℕ) (e : ReadFault) → IsJoinedBy reads gs x → IsUnjoinedBy reads refuses gs e → e ≡ fault.Memory
+  joined-refused same gs x e h u = search (arith, told, read-unread, readings-one)
 
--- two faults of the same squares are equal, or one of them is lack of memory
-pub unjoined-one : (reads : Grid → Content → Type 0) (refuses : Grid → ReadFault → Type 0) → ((g : Grid) (c : Content) (e : ReadFault) → reads g c → refuses g e → e ≡ fault.Memory) → ((g : Grid) (e f : ReadFault) → refuses g e → refuses g f → (e ≡ fault.Memory) ⊎ ((f ≡ fault.Memory) ⊎ (e ≡ f))) → (gs : List Grid) (e f : ReadFault) → IsUnjoinedBy reads refuses gs e → IsUnjoinedBy reads refuses gs f → (e ≡ fault.Memory) ⊎ ((f ≡ fault.Memory) ⊎ (e ≡ f))
-unjoined-one reads refuses never same gs e f u v = by_told (told _ _ gs e u) (told _ _ gs f v)
-  where
-    by_told : Why reads refuses gs e → Why reads refuses gs f → (e ≡ fault.Memory) ⊎ ((f ≡ fault.Memory) ⊎ (e ≡ f))
-    by_told (inl a) q = inl a
-    by_told _ (inl b) = inr (inl b)
-    by_told (inr (inl a)) (inr (inl b)) = first-one _ _ never same gs e f a b
-    by_told (inr (inl a)) (inr (inr b)) = inl (read-unread _ _ never gs _ e b.1.read a)
-    by_told (inr (inr a)) (inr (inl b)) = inr (inl (read-unread _ _ never gs _ f a.1.read b))
-    by_told (inr (inr a)) (inr (inr b)) = inr (inr (a.0 ∙ sym b.0))
+  -- two faults of the same squares are equal, or one of them is lack of memory
+  pub unjoined-one : ((g : Grid) → FaultsAreOne (refuses g)) → (gs : List Grid) → FaultsAreOne (IsUnjoinedBy reads refuses gs)
+  unjoined-one same gs e f u v = by_told (told gs e u) (told gs f v)
+    where
+      by_told : Why gs e → Why gs f → IsOneFault e f
+      by_told (inl a) q = inl a
+      by_told _ (inl b) = inr (inl b)
+      by_told (inr (inl a)) (inr (inl b)) = first-one same gs e f a b
+      by_told (inr (inl a)) (inr (inr b)) = inl (read-unread gs _ e b.1.read a)
+      by_told (inr (inr a)) (inr (inl b)) = inr (inl (read-unread gs _ f a.1.read b))
+      by_told (inr (inr a)) (inr (inr b)) = inr (inr (a.0 ∙ sym b.0))

@@ -74,6 +74,7 @@ column-painted v r format w k1 k2 n l o = elim (cases_lt r 6) [
   ]
 ]
 
+-- the same holds for the places of row 8: but for the timing module, they have bits of the format information
 row-painted : (v c format : ℕ) (w : Bool) → 1 ≤ v → v ≤ 40 → (8 ≤ c → side_of v - 8 ≤ c)
     → c < side_of v → (c ≡ 6 → ⊥) → format_or format (role_of v 8 c) w ≡ paint_of v format 8 c
 row-painted v c format w k1 k2 n l o = elim (cases_lt c 6) [

@@ -31,13 +31,18 @@ unfolding format_bits_or
 bit-kept first n format (FormatBit i) other o = search arith
 bit-kept first n format q other o = refl
 
+-- `at` is the place p, which is in a square of side n
+pub record IsPlaceIn (n : ℕ) (p at : Place) : Type 0 where
+  pub same : at ≡ p
+  pub row : at.row < n
+  pub col : at.col < n
+
 -- one bit is drawn at its two places
 pub format-step : (v format first i : ℕ) (g0 g : Grid) (a b : Place) (d : Bool) → 1 ≤ v → v ≤ 40
-    → first ≤ i → i < 15 → g.side ≡ side_of v → a ≡ first_place i → a.row < side_of v
-    → a.col < side_of v → b ≡ second_place (side_of v) i → b.row < side_of v → b.col < side_of v
+    → first ≤ i → i < 15 → g.side ≡ side_of v → IsPlaceIn (side_of v) (first_place i) a → IsPlaceIn (side_of v) (second_place (side_of v) i) b
     → d ≡ has_bit format i → FormatDone v format first i g0 g
     → FormatDone v format first (i + 1) g0 (painted (painted g a.row a.col d) b.row b.col d)
-format-step v format first i g0 g a b d k1 k2 k l s ea ar ac eb br bc ed h r c m n = elim (same-place b.row b.col r c) [
+format-step v format first i g0 g a b d k1 k2 k l s at bt ed h r c m n = let ea = at.same in let ar = at.row in let ac = at.col in let eb = bt.same in let br = bt.row in let bc = bt.col in elim (same-place b.row b.col r c) [
   | inl w ↦
       let q : role_of v b.row b.col ≡ FormatBit i = rw eb (format-second v i k1 k2 l) in
       rw (w.0.0, w.0.1) (colour-painted-here _ _ _ d (omega arith) (omega arith) ∙ bit-drawn _ i _ _ _ d k q ed)
@@ -94,9 +99,13 @@ down-start v format g r c l m = same (eqb r 8) _ _ (format-start v format 0 g r 
     same true x y e = refl
     same false x y e = e
 
+-- of the places of bit i, only the place `at` is outside row 8
+abbrev IsOnlyOutside : ℕ → ℕ → Place → Type 0
+IsOnlyOutside v i at = (m : Place) → (m ≡ first_place i) ⊎ (m ≡ second_place (side_of v) i) → m.row ≢ 8 → m ≡ at
+
 -- a bit is drawn at the one of its places that is not in row 8
 down-step : (v format i : ℕ) (g0 g : Grid) (a : Place) (d : Bool) → g.side ≡ side_of v → a.row ≢ 8 → a.row < side_of v → a.col < side_of v
-    → role_of v a.row a.col ≡ FormatBit i → ((m : Place) → (m ≡ first_place i) ⊎ (m ≡ second_place (side_of v) i) → m.row ≢ 8 → m ≡ a)
+    → role_of v a.row a.col ≡ FormatBit i → IsOnlyOutside v i a
     → d ≡ has_bit format i → FormatDown v format i g0 g → FormatDown v format (i + 1) g0 (painted g a.row a.col d)
 down-step v format i g0 g a d s o ar ac q only ed h r c m n = elim (same-place a.row a.col r c) [
   | inl w ↦ (let t : eqb a.row 8 ≡ false = grind (arith, nat_tests) in rw (w.0.0, w.0.1, t) (colour-painted-here _ _ _ d (omega arith) (omega arith) ∙ bit-drawn 0 i format _ _ d (omega arith) q ed))
@@ -118,19 +127,19 @@ second-in-eight : (n i : ℕ) → i < 8 → cond (ltb i 8) 8 (n - 15 + i) ≡ 8
 second-in-eight n i l = grind (arith, nat_tests)
 
 -- the bits before bit 7 have the first of their places outside row 8
-pub first-step : (v format i : ℕ) (g0 g : Grid) (a : Place) (d : Bool) → 1 ≤ v → v ≤ 40 → i < 7 → g.side ≡ side_of v → a ≡ first_place i → a.row < side_of v → a.col < side_of v
+pub first-step : (v format i : ℕ) (g0 g : Grid) (a : Place) (d : Bool) → 1 ≤ v → v ≤ 40 → i < 7 → g.side ≡ side_of v → IsPlaceIn (side_of v) (first_place i) a
     → d ≡ has_bit format i → FormatDown v format i g0 g → FormatDown v format (i + 1) g0 (painted g a.row a.col d)
-first-step v format i g0 g a d k1 k2 l s ea ar ac ed h =
-    down-step v format i g0 g a d s (λ e. first-row i l (ap (λ (z : Place). z.row) (sym ea) ∙ e)) ar ac (rw ea (format-first v i k1 k2 (omega arith))) (λ m o p. elim o [
+first-step v format i g0 g a d k1 k2 l s at ed h =
+    let ea = at.same in down-step v format i g0 g a d s (λ e. first-row i l (ap (λ (z : Place). z.row) (sym ea) ∙ e)) at.row at.col (rw ea (format-first v i k1 k2 (omega arith))) (λ m o p. elim o [
       | inl e ↦ e ∙ sym ea
       | inr e ↦ absurd (p (ap (λ (z : Place). z.row) e ∙ second-in-eight (side_of v) i (omega arith)))
     ]) ed h
 
 -- the bits after bit 7 have the second of their places outside row 8
-pub second-step : (v format i : ℕ) (g0 g : Grid) (a : Place) (d : Bool) → 1 ≤ v → v ≤ 40 → 8 ≤ i → i < 15 → g.side ≡ side_of v → a ≡ second_place (side_of v) i → a.row < side_of v → a.col < side_of v
+pub second-step : (v format i : ℕ) (g0 g : Grid) (a : Place) (d : Bool) → 1 ≤ v → v ≤ 40 → 8 ≤ i → i < 15 → g.side ≡ side_of v → IsPlaceIn (side_of v) (second_place (side_of v) i) a
     → d ≡ has_bit format i → FormatDown v format i g0 g → FormatDown v format (i + 1) g0 (painted g a.row a.col d)
-second-step v format i g0 g a d k1 k2 k l s ea ar ac ed h =
-    down-step v format i g0 g a d s (λ e. second-row (side_of v) i (omega arith) k (ap (λ (z : Place). z.row) (sym ea) ∙ e)) ar ac (rw ea (format-second v i k1 k2 l)) (λ m o p. elim o [
+second-step v format i g0 g a d k1 k2 k l s at ed h =
+    let ea = at.same in down-step v format i g0 g a d s (λ e. second-row (side_of v) i (omega arith) k (ap (λ (z : Place). z.row) (sym ea) ∙ e)) at.row at.col (rw ea (format-second v i k1 k2 l)) (λ m o p. elim o [
       | inl e ↦ absurd (p (ap (λ (z : Place). z.row) e ∙ first-in-eight i (omega arith)))
       | inr e ↦ e ∙ sym ea
     ]) ed h
@@ -168,6 +177,12 @@ unfolding format_or
 no-bit format (FormatBit i) y h = absurd (h i refl)
 no-bit format _ y h = refl
 
+-- the words x, y and z have the bits of the format information in row 8: bits 14 to 9, bits 8 and 7, and bits 7 to 0
+pub record AreInRow8 (format x y z : ℕ) : Type 0 where
+  pub first : (k : ℕ) → k < 6 → has_bit x k ≡ has_bit format (14 - k)
+  pub second : (k : ℕ) → k < 2 → has_bit y k ≡ has_bit format (8 - k)
+  pub third : (k : ℕ) → k < 8 → has_bit z k ≡ has_bit format (7 - k)
+
 module _ (v : ℕ) (least : 1 ≤ v) (most : v ≤ 40) (c : ℕ) (inside : c < side_of v) where
   -- the bits that row 8 has in column c
   in-first : (i : ℕ) → 7 ≤ i → i < 15 → cond (ltb i 8) 8 (cond (eqb i 8) 7 (14 - i)) ≡ c → role_of v 8 c ≡ FormatBit i
@@ -195,10 +210,9 @@ module _ (v : ℕ) (least : 1 ≤ v) (most : v ≤ 40) (c : ℕ) (inside : c < s
       not-second i e f = grind (arith, nat_tests)
 
   -- three words that are written into the row are its format information
-  pub across-at : (format far x y z : ℕ) (old : Bool) → far ≡ side_of v - 8
-      → ((k : ℕ) → k < 6 → has_bit x k ≡ has_bit format (14 - k)) → ((k : ℕ) → k < 2 → has_bit y k ≡ has_bit format (8 - k)) → ((k : ℕ) → k < 8 → has_bit z k ≡ has_bit format (7 - k))
+  pub across-at : (format far x y z : ℕ) (old : Bool) → far ≡ side_of v - 8 → AreInRow8 format x y z
       → cond (leb far c && ltb c (far + 8)) (has_bit z (c - far)) (cond (leb 7 c && ltb c 9) (has_bit y (c - 7)) (cond (leb 0 c && ltb c 6) (has_bit x (c - 0)) old)) ≡ format_or format (role_of v 8 c) old
-  across-at format far x y z old ef hx hy hz = by-column (cases_lt c 6) (cases_lt c 7) (cases_lt c 9) (cases_lt c far)
+  across-at format far x y z old ef words = by-column (cases_lt c 6) (cases_lt c 7) (cases_lt c 9) (cases_lt c far)
     where
       by-column : (c < 6) ⊎ (6 ≤ c) → (c < 7) ⊎ (7 ≤ c) → (c < 9) ⊎ (9 ≤ c) → (c < far) ⊎ (far ≤ c)
           → cond (leb far c && ltb c (far + 8)) (has_bit z (c - far)) (cond (leb 7 c && ltb c 9) (has_bit y (c - 7)) (cond (leb 0 c && ltb c 6) (has_bit x (c - 0)) old)) ≡ format_or format (role_of v 8 c) old
@@ -207,7 +221,7 @@ module _ (v : ℕ) (least : 1 ≤ v) (most : v ≤ 40) (c : ℕ) (inside : c < s
           let u : (leb 7 c && ltb c 9) ≡ false = grind (arith, nat_tests) in
           let w : (leb 0 c && ltb c 6) ≡ true = grind (arith, nat_tests) in
           let e : c - 0 ≡ c = omega arith in
-          rw (t, u, w, e) (is-bit format (14 - c) _ _ old (in-first (14 - c) (omega arith) (omega arith) (grind (arith, nat_tests))) (hx c k))
+          rw (t, u, w, e) (is-bit format (14 - c) _ _ old (in-first (14 - c) (omega arith) (omega arith) (grind (arith, nat_tests))) (words.first c k))
       by-column (inr k) (inl l) _ _ =
           let t : (leb far c && ltb c (far + 8)) ≡ false = grind (arith, nat_tests) in
           let u : (leb 7 c && ltb c 9) ≡ false = grind (arith, nat_tests) in
@@ -217,7 +231,7 @@ module _ (v : ℕ) (least : 1 ≤ v) (most : v ≤ 40) (c : ℕ) (inside : c < s
           let t : (leb far c && ltb c (far + 8)) ≡ false = grind (arith, nat_tests) in
           let u : (leb 7 c && ltb c 9) ≡ true = grind (arith, nat_tests) in
           let e : 8 - (c - 7) ≡ 15 - c = omega arith in
-          rw (t, u) (is-bit format (15 - c) _ _ old (in-first (15 - c) (omega arith) (omega arith) (grind (arith, nat_tests))) (hy (c - 7) (omega arith) ∙ ap (has_bit format) e))
+          rw (t, u) (is-bit format (15 - c) _ _ old (in-first (15 - c) (omega arith) (omega arith) (grind (arith, nat_tests))) (words.second (c - 7) (omega arith) ∙ ap (has_bit format) e))
       by-column (inr _) (inr _) (inr k) (inl l) =
           let t : (leb far c && ltb c (far + 8)) ≡ false = grind (arith, nat_tests) in
           let u : (leb 7 c && ltb c 9) ≡ false = grind (arith, nat_tests) in
@@ -226,20 +240,19 @@ module _ (v : ℕ) (least : 1 ≤ v) (most : v ≤ 40) (c : ℕ) (inside : c < s
       by-column (inr _) (inr _) (inr k) (inr l) =
           let t : (leb far c && ltb c (far + 8)) ≡ true = grind (arith, nat_tests) in
           let e : 7 - (c - far) ≡ side_of v - 1 - c = omega arith in
-          rw t (is-bit format (side_of v - 1 - c) _ _ old (in-second (side_of v - 1 - c) (omega arith) (omega arith)) (hz (c - far) (omega arith) ∙ ap (has_bit format) e))
+          rw t (is-bit format (side_of v - 1 - c) _ _ old (in-second (side_of v - 1 - c) (omega arith) (omega arith)) (words.third (c - far) (omega arith) ∙ ap (has_bit format) e))
 
 -- a colour after a row was written
 row-written : (n row : ℕ) (g h : Grid) (line : ℕ → Bool) → g.side ≡ n → h ≡ with_row g row line → (r c : ℕ) → r < n → c < n → colour h r c ≡ cond (eqb r row) (line c) (colour g r c)
 row-written n row g h line s e r c l m = ap (λ (z : Grid). colour z r c) e ∙ colour-square g.side (λ r c. cond (eqb r row) (line c) (colour g r c)) r c (omega arith) (omega arith)
 
 -- three words that are written into row 8 are its format information, and no other row is changed
-pub across-end : (v format far x y z : ℕ) (g0 g1 g2 g3 : Grid) → 1 ≤ v → v ≤ 40 → g0.side ≡ side_of v → far ≡ side_of v - 8
-    → ((k : ℕ) → k < 6 → has_bit x k ≡ has_bit format (14 - k)) → ((k : ℕ) → k < 2 → has_bit y k ≡ has_bit format (8 - k)) → ((k : ℕ) → k < 8 → has_bit z k ≡ has_bit format (7 - k))
+pub across-end : (v format far x y z : ℕ) (g0 g1 g2 g3 : Grid) → 1 ≤ v → v ≤ 40 → g0.side ≡ side_of v → far ≡ side_of v - 8 → AreInRow8 format x y z
     → g1 ≡ with_row g0 8 (λ c. cond (leb 0 c && ltb c 6) (has_bit x (c - 0)) (colour g0 8 c))
     → g2 ≡ with_row g1 8 (λ c. cond (leb 7 c && ltb c 9) (has_bit y (c - 7)) (colour g1 8 c))
     → g3 ≡ with_row g2 8 (λ c. cond (leb far c && ltb c (far + 8)) (has_bit z (c - far)) (colour g2 8 c))
     → g3 ≡ square (side_of v) (λ r c. cond (eqb r 8) (format_or format (role_of v r c) (colour g0 r c)) (colour g0 r c))
-across-end v format far x y z g0 g1 g2 g3 k l s ef hx hy hz e1 e2 e3 =
+across-end v format far x y z g0 g1 g2 g3 k l s ef words e1 e2 e3 =
     let n = side_of v in
     let s1 : g1.side ≡ n = ap (λ (h : Grid). h.side) e1 ∙ s in
     let s2 : g2.side ≡ n = ap (λ (h : Grid). h.side) e2 ∙ s1 in
@@ -250,7 +263,7 @@ across-end v format far x y z g0 g1 g2 g3 k l s ef hx hy hz e1 e2 e3 =
       | inl e ↦ rw e (
           ap (cond (leb far c && ltb c (far + 8)) (has_bit z (c - far))) (row-written n 8 g1 g2 line2 s1 e2 8 c (omega arith) j
           ∙ ap (cond (leb 7 c && ltb c 9) (has_bit y (c - 7))) (row-written n 8 g0 g1 line1 s e1 8 c (omega arith) j))
-          ∙ across-at v k l c j format far x y z (colour g0 8 c) ef hx hy hz)
+          ∙ across-at v k l c j format far x y z (colour g0 8 c) ef words)
       | inr o ↦
           let t : eqb r 8 ≡ false = grind (arith, nat_tests) in
           rw t ((row-written n 8 g1 g2 line2 s1 e2 r c i j ∙ ap (λ q. cond q (line2 c) (colour g1 r c)) t) ∙ (row-written n 8 g0 g1 line1 s e1 r c i j ∙ ap (λ q. cond q (line1 c) (colour g0 r c)) t))

@@ -15,12 +15,17 @@ ring-four : (v r c : ℕ) → finder_ring (side_of v) r c ≡ 4 → role_of v r 
 unfolding role_of pattern_colour
 ring-four v r c e = rw e refl
 
+-- of the places of row 6, or column 6, of a square of side s, those at both ends are in ring 3, and those beside them in ring 4
+record AreRingsOfSix (s at ring : ℕ) : Type 0 where
+  pub near : at < 7 → ring ≡ 3
+  pub far : s - 7 ≤ at → ring ≡ 3
+  pub seven : at ≡ 7 → ring ≡ 4
+  pub eight : at ≡ s - 8 → ring ≡ 4
+
 -- row 6, or column 6: its ends are in ring 3 and ring 4 of finder patterns, and between them is a timing pattern
-six : (v r c at : ℕ) → 21 ≤ side_of v → at < side_of v → (at < 7 → finder_ring (side_of v) r c ≡ 3) →
-    (side_of v - 7 ≤ at → finder_ring (side_of v) r c ≡ 3) → (at ≡ 7 → finder_ring (side_of v) r c ≡ 4)
-    → (at ≡ side_of v - 8 → finder_ring (side_of v) r c ≡ 4) → (7 < at → at < side_of v - 8 → role_of v r
-    c ≡ Fixed (eqb (at % 2) 0)) → role_of v r c ≡ Fixed (is_dark_in_six (side_of v) at)
-six v r c at least inside near far seven eight off = elim (cases_lt at 7) [
+six : (v r c at : ℕ) → 21 ≤ side_of v → at < side_of v → AreRingsOfSix (side_of v) at (finder_ring (side_of v) r c)
+    → (7 < at → at < side_of v - 8 → role_of v r c ≡ Fixed (eqb (at % 2) 0)) → role_of v r c ≡ Fixed (is_dark_in_six (side_of v) at)
+six v r c at least inside rings off = let near = rings.near in let far = rings.far in let seven = rings.seven in let eight = rings.eight in elim (cases_lt at 7) [
   | inl l ↦ search (arith, ring-three)
   | inr l ↦ elim (cases_lt at _) [
     | inr m ↦ ring-three v r c (far m) ∙ ap Fixed (sym (dark-far _ at m))
@@ -60,12 +65,12 @@ column-off v at h k = rw ((five-on _ h).0, (five-on _ h).1, other at k) refl
 -- the roles of the modules of row 6
 row-six : (v at : ℕ) → 1 ≤ v → at < side_of v → role_of v 6 at ≡ Fixed (is_dark_in_six (side_of v) at)
 row-six v at l h =
-    six v 6 at at (omega arith) h (λ k. omega arith) (λ k. omega arith) (λ k. omega arith) (λ k. omega arith) (λ k m. row-off v at (omega arith))
+    six v 6 at at (omega arith) h (record { near = λ k. omega arith; far = λ k. omega arith; seven = λ k. omega arith; eight = λ k. omega arith }) (λ k m. row-off v at (omega arith))
 
 -- the roles of the modules of column 6
 column-six : (v at : ℕ) → 1 ≤ v → at < side_of v → role_of v at 6 ≡ Fixed (is_dark_in_six (side_of v) at)
 column-six v at l h =
-    six v at 6 at (omega arith) h (λ k. omega arith) (λ k. omega arith) (λ k. omega arith) (λ k. omega arith) (λ k m. column-off v at (omega arith) k)
+    six v at 6 at (omega arith) h (record { near = λ k. omega arith; far = λ k. omega arith; seven = λ k. omega arith; eight = λ k. omega arith }) (λ k m. column-off v at (omega arith) k)
 
 -- a module with a fixed colour is painted with this colour
 pub paint-fixed : (v r c format : ℕ) (dark : Bool) → role_of v r c ≡ Fixed dark → paint_of v format r c ≡ dark

@@ -71,33 +71,32 @@ both-drawn {v} {cw} {x} {first} {old} {new} region k n top number bits room few 
       drawn = run-drawn k n bits room few all (light-rows v x k n region old room light whole) (rw (← e) right) (rw (← e) left) (rw (← f) next);
     }
 
--- a row of which only the right module is in the region
-pub right-drawn : {v : ℕ} {cw : List ℕ} {x : Strip} {first : ℕ} {old new : Columns} (region : Columns) (k row number bits : ℕ)
-    → k < side_of v → IsRegion v x.right region → row ≡ row_of (side_of v) x k → has region.right row ≡ true → has region.left row ≡ false
-    → number ≡ number_at v x first k → AreNext cw number bits
-    → ((i : ℕ) → has new.right i ≡ cond (eqb i row) (has_bit bits 63) (has old.right i)) → ((i : ℕ) → has new.left i ≡ has old.left i)
-    → IsSpanDrawn v cw x first k 1 number (number + 1) old new
-right-drawn {v} {cw} {x} {first} {old} {new} region k row number bits room is r t u f next right left =
-    let at = is row (omega (arith, (row-small x (side_of v) k room).0)) in
-    let g : number_at v x first k ≡ number + 0 = omega arith in record {
-      few = omega arith;
-      next = sym (row-number v x first k number 0 1 1 row true false r (sym t ∙ at.0) (sym u ∙ at.1) g refl refl);
-      drawn = row-drawn row number 0 1 bits true false r (sym t ∙ at.0) (sym u ∙ at.1) g refl (omega arith) (omega arith) next right left;
-    }
+-- a row of which only one module is in the region, with the bit of this module
+module _ {v : ℕ} {cw : List ℕ} {x : Strip} {first : ℕ} {old new : Columns} (region : Columns) (k row number bits : ℕ) (room : k < side_of v)
+    (is : IsRegion v x.right region) (r : row ≡ row_of (side_of v) x k) (f : number ≡ number_at v x first k) (next : AreNext cw number bits) where
+  -- the right module is drawn
+  pub right-drawn : has region.right row ≡ true → has region.left row ≡ false
+      → ((i : ℕ) → has new.right i ≡ cond (eqb i row) (has_bit bits 63) (has old.right i)) → ((i : ℕ) → has new.left i ≡ has old.left i)
+      → IsSpanDrawn v cw x first k 1 number (number + 1) old new
+  right-drawn t u right left =
+      let at = is row (omega (arith, (row-small x (side_of v) k room).0)) in
+      let g : number_at v x first k ≡ number + 0 = omega arith in record {
+        few = omega arith;
+        next = sym (row-number v x first k number 0 1 1 row true false r (sym t ∙ at.0) (sym u ∙ at.1) g refl refl);
+        drawn = row-drawn row number 0 1 bits true false r (sym t ∙ at.0) (sym u ∙ at.1) g refl (omega arith) (omega arith) next right left;
+      }
 
--- a row of which only the left module is in the region
-pub left-drawn : {v : ℕ} {cw : List ℕ} {x : Strip} {first : ℕ} {old new : Columns} (region : Columns) (k row number bits : ℕ)
-    → k < side_of v → IsRegion v x.right region → row ≡ row_of (side_of v) x k → has region.right row ≡ false → has region.left row ≡ true
-    → number ≡ number_at v x first k → AreNext cw number bits
-    → ((i : ℕ) → has new.right i ≡ has old.right i) → ((i : ℕ) → has new.left i ≡ cond (eqb i row) (has_bit bits 63) (has old.left i))
-    → IsSpanDrawn v cw x first k 1 number (number + 1) old new
-left-drawn {v} {cw} {x} {first} {old} {new} region k row number bits room is r t u f next right left =
-    let at = is row (omega (arith, (row-small x (side_of v) k room).0)) in
-    let g : number_at v x first k ≡ number + 0 = omega arith in record {
-      few = omega arith;
-      next = sym (row-number v x first k number 0 0 1 row false true r (sym t ∙ at.0) (sym u ∙ at.1) g refl refl);
-      drawn = row-drawn row number 0 0 bits false true r (sym t ∙ at.0) (sym u ∙ at.1) g refl (omega arith) (omega arith) next right left;
-    }
+  -- the left module is drawn
+  pub left-drawn : has region.right row ≡ false → has region.left row ≡ true
+      → ((i : ℕ) → has new.right i ≡ has old.right i) → ((i : ℕ) → has new.left i ≡ cond (eqb i row) (has_bit bits 63) (has old.left i))
+      → IsSpanDrawn v cw x first k 1 number (number + 1) old new
+  left-drawn t u right left =
+      let at = is row (omega (arith, (row-small x (side_of v) k room).0)) in
+      let g : number_at v x first k ≡ number + 0 = omega arith in record {
+        few = omega arith;
+        next = sym (row-number v x first k number 0 0 1 row false true r (sym t ∙ at.0) (sym u ∙ at.1) g refl refl);
+        drawn = row-drawn row number 0 0 bits false true r (sym t ∙ at.0) (sym u ∙ at.1) g refl (omega arith) (omega arith) next right left;
+      }
 
 -- rows of which no module is in the region
 pub outside-drawn : {v : ℕ} {cw : List ℕ} {x : Strip} {first : ℕ} {old : Columns} (region : Columns) (k n number : ℕ)

@@ -1,5 +1,5 @@
 -- What is read from the square of a symbol: the codeword bits, the codewords and the message.
-use Rattle.qr_bits.proofs.Facts.{length-field, length-bits_of, bits_at, bytes_takes}
+use Rattle.qr_bits.proofs.Facts.{length-field, length-bits_of, bits_at, bytes-takes}
 use Rattle.qr_bits.specs.{Bits.{field, bits_of, codeword_bit}, Parsing.bytes_of}
 use Rattle.qr_layout.proofs.Facts.{order-mem, order-length, index-at, only_order, to_come-start, region-role}
 use Rattle.qr_layout.specs.{Blocks.data_codewords_of, Order.IsOrder, Steps.Order.{to_come, first_cursor}}
@@ -86,7 +86,7 @@ read-some v mask g p h =
     let t = total_codewords_of v in let o = to_come-start v in
     let bits = read_bits v mask g (to_come v (first_cursor v)) in
     let many : length bits ≡ 8 * t = search (arith, length-append, length-map, length-take, length-replicate) in
-    let w = bytes_takes t bits (omega arith) in
+    let w = bytes-takes t bits (omega arith) in
     let same = append-front _ _ [] (drop (8 * t) bits) (let l = length-bits_of (bytes_of t bits) in omega arith) (append-nil _ ∙ w.2) in
     search arith
 

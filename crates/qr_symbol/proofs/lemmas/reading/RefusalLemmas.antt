@@ -7,6 +7,14 @@ use Rattle.{qr_symbol.specs.declared.fault.ReadFault.ReadFault, std.specs.Prelud
 use Rattle.std.proofs.Common.{◌≡◌, ℕ, List, refl, inl, inr, sym, ◌⊎◌, arith}
 use Rattle.qr_symbol.specs.declared.fault.ReadFault.TheVariants as fault
 
+-- two faults are equal, or one of them is lack of memory
+abbrev pub IsOneFault : ReadFault → ReadFault → Type 0
+IsOneFault e f = (e ≡ fault.Memory) ⊎ ((f ≡ fault.Memory) ⊎ (e ≡ f))
+
+-- at most one fault besides lack of memory holds
+abbrev pub FaultsAreOne : (ReadFault → Type 0) → Type 0
+FaultsAreOne U = (e f : ReadFault) → U e → U f → IsOneFault e f
+
 -- a square has one version, level and mask, so its message does not depend on how they were found
 pub moved : (g : Grid) (v w : ℕ) (l k : Level) (m n : ℕ) (d : List ℕ) → IsOfVersion g v → IsOfVersion g w → IsFormat g l m → IsFormat g k n → IsMessage v l m g d → (v ≡ w) × IsMessage w k n g d
 moved g v w l k m n d s t f h i = let e = format-one g l k m n f h in search arith
@@ -35,7 +43,7 @@ parse-refused : (g : Grid) (x : ParseFault) (e : ReadFault) → IsParsedAs g (Er
 parse-refused g x e h u = elim (refused g (Err x) h e u) [ inl m ↦ inl m | inr w ↦ (inr (cc)) ]
 
 -- two faults of the same square are equal, or one of them is lack of memory
-pub refused-one : (g : Grid) (e f : ReadFault) → IsUnread g e → IsUnread g f → (e ≡ fault.Memory) ⊎ ((f ≡ fault.Memory) ⊎ (e ≡ f))
+pub refused-one : (g : Grid) → FaultsAreOne (IsUnread g)
 refused-one g fault.Memory f a b = inl refl
 refused-one g fault.Series f a b = absurd a
 refused-one g (fault.Segments x) f a b = inr (parse-refused g x f a.1 b)
@@ -53,8 +61,7 @@ refused-one g e f a b = inr (inr refl)
 -- exactly if it holds, unless memory is refused
 pub exactly : {T : Type 0} (P : T → Type 0) (U : ReadFault → Type 0) (r : Result T ReadFault) → MatchResult r P U
     → ((x : T) (e : ReadFault) → P x → U e → e ≡ fault.Memory)
-    → ((e f : ReadFault) → U e → U f → (e ≡ fault.Memory) ⊎ ((f ≡ fault.Memory) ⊎ (e ≡ f)))
-    → (e : ReadFault) → (e ≡ fault.Memory → ⊥) → (r ≡ Err e) ↔ ((r ≡ Err fault.Memory → ⊥) × U e)
+    → FaultsAreOne U → (e : ReadFault) → (e ≡ fault.Memory → ⊥) → (r ≡ Err e) ↔ ((r ≡ Err fault.Memory → ⊥) × U e)
 exactly P U (Ok x) h none one e other = ((λ k. absurd (cc)), (λ w. absurd (other (none x e h w.1))))
 exactly P U (Err f) h none one e other = (
   (search arith),

@@ -1,7 +1,7 @@
 -- A symbol is read as its input.
 use Rattle.qr_bits.specs.declared.interpretation.Interpretation.{Interpretation}
 use Rattle.qr_bits.specs.Interpretation.{MayWrite}
-use Rattle.qr_bits.{proofs.Facts.{data_again, least_meant, length-data}, specs.{Bits.bits_of, Parsing.{Content, parse}, declared.header.Header.Header}}
+use Rattle.qr_bits.{proofs.Facts.{data-again, least-meant, length-data}, specs.{Bits.bits_of, Parsing.{Content, parse}, declared.header.Header.Header}}
 use Rattle.{qr_bits.specs.declared.modes.Rule.Rule, qr_layout.specs.declared.{blocks.Blocks.Blocks, level.Level.Level}}
 use Rattle.{qr_matrix.specs.Grid.Grid, qr_symbol.proofs.lemmas.interleaving.MessageLemmas.final-whole}
 use Rattle.qr_symbol.proofs.lemmas.reading.FormatLemmas.{format-one, format-read}
@@ -34,7 +34,7 @@ symbol-format v l b how x h mask g p q s = subst (λ (z : Grid). IsFormat z l ma
 -- the data codewords of a symbol are parsed as its bytes, in its segments and after its header, with its interpretation
 pub symbol-parsed : (v : ℕ) (l : Level) (b : Rule) (how : Interpretation) (x : List ℕ) (h : Option Header) (mask : ℕ) (g : Grid) → MayWrite how x
     → (s : IsSymbolAt v l b how x h mask g) → parse v (bits_of s.message) ≡ Ok (interpreted_content how h s.segments x)
-symbol-parsed v l b how x h mask g w s = data_again v l _ _ h how _ s.written ∙ ap (λ (c : Content). Ok c) (least_meant how v b x _ _ h w s.chosen).0
+symbol-parsed v l b how x h mask g w s = data-again v l _ _ h how _ s.written ∙ ap (λ (c : Content). Ok c) (least-meant how v b x _ _ h w s.chosen).0
 
 -- the symbol of an input is read as its bytes, in its segments and after its header, with its interpretation
 pub symbol-read : (v : ℕ) (l : Level) (b : Rule) (how : Interpretation) (x : List ℕ) (h : Option Header) (mask : ℕ) (g : Grid) → 1 ≤ v → v ≤ 40 → MayWrite how x

@@ -1,5 +1,5 @@
 -- Every input has parts: it is decidable whether a prefix fits, so there is a longest one.
-use Rattle.qr_bits.proofs.Facts.{CoversInTurn, assignment-length, empty_fits, from_turn, in_turn}
+use Rattle.qr_bits.proofs.Facts.{CoversInTurn, assignment-length, empty-fits, from-turn, in-turn}
 use Rattle.{qr_bits.specs.Padding.room_of, qr_symbol.{proofs.lemmas.series.PartLemmas.one-fits, specs.Series.AreParts}}
 use Rattle.qr_bits.specs.Segmentation.{bits, runs_of, Covers, IsAssignment, HasFit, IsLongestFit}
 use Rattle.qr_bits.specs.declared.modes.{Mode.{Mode, TheVariants.{Numeric, Alphanumeric, Byte, Kanji}}, Rule.Rule}
@@ -42,7 +42,7 @@ in-turn-or-not xs (s ∷ ss) =
 
 -- it is decided whether segments cover the bytes
 covers-or-not : (xs : List ℕ) (segs : List Segment) → Decided (Covers xs segs)
-covers-or-not xs segs = search (arith, in-turn-or-not, from_turn, in_turn)
+covers-or-not xs segs = search (arith, in-turn-or-not, from-turn, in-turn)
 
 -- some list that begins with this mode has a property, or none with n modes after it has
 abbrev Begun : (List Mode → Type 0) → ℕ → Mode → Type 0
@@ -90,7 +90,7 @@ longest-to how v r xs room zero l none = (
   0,
   record {
     inside = omega arith;
-    fits = empty_fits how v r _;
+    fits = empty-fits how v r _;
     longest = λ j i h. elim (cases_lt 0 j) [ inl p ↦ absurd (none j p i h) | inr p ↦ p ];
   },
 )

@@ -1,6 +1,6 @@
 -- The parts of an input: how long a prefix fits, and the lengths of the parts, which are found one after another.
 use borrow.Author.Tests.{leb-true}
-use Rattle.qr_bits.proofs.Facts.{bytes_fit, fitting_short, piece_fits}
+use Rattle.qr_bits.proofs.Facts.{bytes-fit, fitting-short, piece-fits}
 use Rattle.qr_bits.specs.{Modes.{may_use, count_width}, Padding.{capacity_of, room_of}, Segmentation.{HasFit, IsLongestFit}}
 use Rattle.qr_bits.specs.Interpretation.{interpretation_bits}
 use Rattle.qr_bits.specs.declared.interpretation.Interpretation.{Interpretation, TheVariants.Default}
@@ -27,7 +27,7 @@ five-all = refl
 few-fit : (v : ℕ) (l : Level) (b : Rule) (how : Interpretation) (xs : List ℕ) → 1 ≤ v → v ≤ 40
     → 8 * length xs + interpretation_bits how ≤ 40 → HasFit how v b xs (room_of v l how)
 few-fit v l b how xs p q few =
-    bytes_fit how v b xs (room_of v l how) (omega (arith, leb-true _ _ (every-at (λ l v. leb (4 + count_width v Byte + 40) (capacity_of v l - 20)) five-all l v p q)))
+    bytes-fit how v b xs (room_of v l how) (omega (arith, leb-true _ _ (every-at (λ l v. leb (4 + count_width v Byte + 40) (capacity_of v l - 20)) five-all l v p q)))
 
 -- one byte fits in any case
 pub one-fits : (v : ℕ) (l : Level) (b : Rule) (how : Interpretation) (xs : List ℕ) → 1 ≤ v → v ≤ 40 → length xs ≤ 1 → HasFit how v b xs (room_of v l how)
@@ -55,7 +55,7 @@ part-least v l b x p ps i j h =
 
 -- bytes that fit after a header are at most 7,089
 pub part-short : (v : ℕ) (l : Level) (b : Rule) (how : Interpretation) (xs : List ℕ) → 1 ≤ v → v ≤ 40 → HasFit how v b xs (room_of v l how) → length xs ≤ 7089
-part-short v l b how xs p q fit = fitting_short how v l b xs p q (fit.0, fit.1, (let few = fit.2 in omega arith))
+part-short v l b how xs p q fit = fitting-short how v l b xs p q (fit.0, fit.1, (let few = fit.2 in omega arith))
 
 -- a prefix of a prefix is a prefix of the whole list
 take-less : {X : Type 0} (k m : ℕ) (xs : List X) → k ≤ m → take k (take m xs) ≡ take k xs
@@ -146,7 +146,7 @@ behind-all k xs ys i = ap (λ (n : ℕ). drop n (xs ++ ys)) (omega arith) ∙ dr
 rest-fits : (how : Interpretation) (v : ℕ) (b : Rule) (k : ℕ) (xs : List ℕ) (n : ℕ) → may_use b Kanji ≡ false → HasFit how v b xs n → HasFit how v b (drop k xs) n
 rest-fits how v b k xs n plain fit =
     let whole : xs ≡ take k xs ++ (drop k xs ++ []) = rw (append-nil _) (sym (take-append-drop k xs)) in
-    piece_fits how v b _ _ [] n plain (subst (λ (ys : List ℕ). HasFit how v b ys n) whole fit)
+    piece-fits how v b _ _ [] n plain (subst (λ (ys : List ℕ). HasFit how v b ys n) whole fit)
 
 -- a rest of the bytes can be cut into at most as many parts that fit as all of the bytes
 rest-parts : (v : ℕ) (l : Level) (b : Rule) (how : Interpretation) (k : ℕ) (ps : List (List ℕ)) → may_use b Kanji ≡ false → All (λ p. HasFit how v b p (room_of v l how)) ps

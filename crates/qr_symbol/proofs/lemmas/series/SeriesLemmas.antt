@@ -2,7 +2,7 @@
 use Rattle.qr_bits.specs.declared.interpretation.Interpretation.{Interpretation}
 use Rattle.qr_bits.specs.Interpretation.{MayWrite}
 use Rattle.qr_symbol.proofs.lemmas.version_choice.FitLemmas.{version-short}
-use Rattle.qr_bits.{proofs.Facts.{empty_fits, least_meant, may_write-drop, may_write-take}, specs.{Header.parity_of, Parsing.Content}}
+use Rattle.qr_bits.{proofs.Facts.{empty-fits, least-meant, may_write-drop, may_write-take}, specs.{Header.parity_of, Parsing.Content}}
 use Rattle.{qr_bits.specs.declared.{header.Header.Header, modes.Rule.Rule}, qr_layout.specs.declared.level.Level.Level}
 use Rattle.{qr_matrix.specs.Grid.Grid, qr_symbol.proofs.lemmas.encoding.SymbolLemmas.symbol-at-one}
 use Rattle.qr_symbol.proofs.lemmas.{encoding.SymbolMakingLemmas.symbol-fits, reading.RoundTripLemmas.symbol-read}
@@ -98,7 +98,7 @@ split-joined x l b how v ss i j w h =
   where
     -- what does not fit is not empty
     not-empty : (x : List ℕ) (l : Level) (b : Rule) (how : Interpretation) (v : ℕ) → (FitsVersion v l b how x → ⊥) → 0 < length x
-    not-empty [] l b how v none = absurd (none (empty_fits how v b _))
+    not-empty [] l b how v none = absurd (none (empty-fits how v b _))
     not-empty _ l b how v _ = omega arith
 
 -- a series is joined to its bytes
@@ -116,7 +116,7 @@ HasInterpretation how g = (c : Content) × IsReading g c × IsInterpreted how c
 symbol-interpreted : (v : ℕ) (l : Level) (b : Rule) (how : Interpretation) (x : List ℕ) (h : Option Header) (mask : ℕ) (g : Grid) → 1 ≤ v → v ≤ 40 → MayWrite how x
     → IsSymbolAt v l b how x h mask g → HasInterpretation how g
 symbol-interpreted v l b how x h mask g i j w s =
-    (interpreted_content how h s.segments x, symbol-read v l b how x h mask g i j w s, (refl, (least_meant how v b x s.characters s.segments h w s.chosen).1))
+    (interpreted_content how h s.segments x, symbol-read v l b how x h mask g i j w s, (refl, (least-meant how v b x s.characters s.segments h w s.chosen).1))
 
 -- the symbols of parts are read with the interpretation of the whole
 parts-interpreted : (v : ℕ) (l : Level) (b : Rule) (how : Interpretation) (last parity k : ℕ) (x : List ℕ) (ps : List (List ℕ)) (ss : List Symbol) → 1 ≤ v → v ≤ 40 → MayWrite how x → AreParts v l b how x ps

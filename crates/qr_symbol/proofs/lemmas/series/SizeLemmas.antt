@@ -2,7 +2,7 @@
 use Rattle.std.proofs.Common.{◌≡◌, ℕ, ◌+◌, ◌<◌, ◌≤◌, inl, inr, false, List, [], ◌∷◌, length, refl, sym, subst, arith}
 use Rattle.std.{proofs.lemmas.List.Elements.All-nil, specs.List.All}
 use Rattle.qr_layout.specs.{Version.side_of, declared.level.Level.Level}
-use Rattle.qr_bits.{proofs.Facts.empty_fits, specs.Modes.may_use}
+use Rattle.qr_bits.{proofs.Facts.empty-fits, specs.Modes.may_use}
 use Rattle.qr_bits.specs.declared.interpretation.Interpretation.{Interpretation}
 use Rattle.qr_bits.specs.Interpretation.{MayWrite}
 use Rattle.qr_bits.specs.declared.modes.{Mode.TheVariants.Kanji, Rule.Rule}
@@ -29,7 +29,7 @@ symbols-side v l b how last parity k (p ∷ ps) (s ∷ ss) h = search (arith, sy
 -- bytes that do not fit one symbol have at least one part
 parts-some : (x : List ℕ) (l : Level) (b : Rule) (how : Interpretation) (v : ℕ) (ps : List (List ℕ)) → (FitsVersion v l b how x → ⊥) → AreParts v l b how x ps → 0 < length ps
 unfolding AreParts
-parts-some x l b how v [] long none = absurd (long (subst (λ (y : List ℕ). FitsVersion v l b how y) (sym none) (empty_fits how v b _)))
+parts-some x l b how v [] long none = absurd (long (subst (λ (y : List ℕ). FitsVersion v l b how y) (sym none) (empty-fits how v b _)))
 parts-some x l b how v (p ∷ ps) long h = omega arith
 
 -- a series has at least one symbol

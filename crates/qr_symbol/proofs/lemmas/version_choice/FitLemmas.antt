@@ -1,5 +1,5 @@
 -- The least version that an input fits, found with the segments of the first version of each range of equal widths.
-use Rattle.qr_bits.proofs.Facts.{capacity_least, fitting_short, least_fits}
+use Rattle.qr_bits.proofs.Facts.{capacity-least, fitting-short, least_fits}
 use Rattle.qr_bits.specs.{Interpretation.interpretation_bits, Modes.count_width, Padding.capacity_of}
 use Rattle.qr_bits.specs.Segmentation.{bits, IsLeastSegmentation}
 use Rattle.qr_bits.specs.declared.interpretation.Interpretation.{Interpretation}
@@ -30,21 +30,30 @@ pub fits-bits : (u v : ℕ) (l : Level) (rule : Rule) (how : Interpretation) (xs
 fits-bits u v l rule how xs ys segs p q same h =
     let same_bits = bits-same v u same segs in
     let fits = (least_fits how v rule xs ys segs (segmentation-same u v rule how xs ys segs (λ m. sym (same m)) h)).1 (capacity_of v l - interpretation_bits how) in
-    let room = capacity_least v l p q in let most = interpretation-most how in
+    let room = capacity-least v l p q in let most = interpretation-most how in
     (λ fit. omega (arith, fits.0 fit), λ few. fits.1 (omega arith))
 
 -- Bytes that fit a version are at most 7,089.
 pub version-short : (v : ℕ) (l : Level) (rule : Rule) (how : Interpretation) (xs : List ℕ) → 1 ≤ v → v ≤ 40 → FitsVersion v l rule how xs → length xs ≤ 7089
-version-short v l rule how xs p q fit = fitting_short how v l rule xs p q (fit.0, fit.1, (let few = fit.2 in omega arith))
+version-short v l rule how xs p q fit = fitting-short how v l rule xs p q (fit.0, fit.1, (let few = fit.2 in omega arith))
+
+-- The bytes fit no version from `least` to before `end`.
+abbrev pub FitNone : ℕ → ℕ → Level → Rule → Interpretation → List ℕ → Type 0
+FitNone least end l rule how xs = (v : ℕ) → least ≤ v → v < end → FitsVersion v l rule how xs → ⊥
+
+-- In the versions from u to before `end`, the counts have the widths that they have in version u.
+abbrev pub HaveSameWidths : ℕ → ℕ → Type 0
+HaveSameWidths u end = (v : ℕ) → u ≤ v → v < end → (m : Mode) → count_width v m ≡ count_width u m
+
+-- The versions from u to before `end` have too little room for so many bits.
+abbrev pub LackRoom : ℕ → ℕ → Level → ℕ → Type 0
+LackRoom u end l count = (v : ℕ) → u ≤ v → v < end → capacity_of v l < count
 
 -- If the bytes fit no version below u, and their segments fit no version from u to the one before `last`, the bytes fit
 -- none of these versions.
 pub none-fits : (xs ys : List ℕ) (l : Level) (least : ℕ) (rule : Rule) (how : Interpretation) (u last : ℕ) (segs : List Segment)
-    → 1 ≤ least → last ≤ 41 → ((v : ℕ) → least ≤ v → v < u → FitsVersion v l rule how xs → ⊥)
-    → ((v : ℕ) → u ≤ v → v < last → (m : Mode) → count_width v m ≡ count_width u m)
-    → IsLeastSegmentation how u rule xs ys segs
-    → ((v : ℕ) → u ≤ v → v < last → capacity_of v l < interpretation_bits how + bits u segs)
-    → (v : ℕ) → least ≤ v → v < last → FitsVersion v l rule how xs → ⊥
+    → 1 ≤ least → last ≤ 41 → FitNone least u l rule how xs → HaveSameWidths u last → IsLeastSegmentation how u rule xs ys segs
+    → LackRoom u last l (interpretation_bits how + bits u segs) → FitNone least last l rule how xs
 none-fits xs ys l least rule how u last segs p q below same h full v a b fits = elim (cases_lt v u) [
   | inl i ↦ below v a i fits
   | inr i ↦ omega (arith, full v i b, (fits-bits u v l rule how xs ys segs (omega arith) (omega arith) (same v i b) h).0 fits)
@@ -53,10 +62,8 @@ none-fits xs ys l least rule how u last segs p q below same h full v a b fits = 
 -- If version v also has room for the bits, it is the least version that the bytes fit.
 pub version-found : (xs ys : List ℕ) (l : Level) (least : ℕ) (rule : Rule) (how : Interpretation) (u v : ℕ) (segs : List Segment)
     → 1 ≤ least → least ≤ u → u ≤ v → v ≤ 40
-    → ((w : ℕ) → least ≤ w → w < u → FitsVersion w l rule how xs → ⊥)
-    → ((w : ℕ) → u ≤ w → w ≤ v → (m : Mode) → count_width w m ≡ count_width u m)
-    → IsLeastSegmentation how u rule xs ys segs
-    → ((w : ℕ) → u ≤ w → w < v → capacity_of w l < interpretation_bits how + bits u segs)
+    → FitNone least u l rule how xs → HaveSameWidths u (v + 1) → IsLeastSegmentation how u rule xs ys segs
+    → LackRoom u v l (interpretation_bits how + bits u segs)
     → interpretation_bits how + bits u segs ≤ capacity_of v l → IsVersion least l rule how xs v
 version-found xs ys l least rule how u v segs p a b c below same h full room = record {
   least = omega arith;

@@ -64,18 +64,17 @@ is-below a b e = grind (arith, nat_tests)
 is-number : (a b : ℕ) → eqb a b ≡ true → a ≡ b
 is-number a b e = grind (arith, nat_tests)
 
+-- bit i of the second word is the bit at the place `from i` of the first
+abbrev pub AreMoved : (ℕ → ℕ) → ℕ → ℕ → Type 0
+AreMoved from a b = (i : ℕ) → i < 64 → has_bit b i ≡ has_bit a (from i)
+
 -- the test that a bit, back through five exchanges, comes from places in the word, and in the end from the place `from i`
 is-moved : (p q r s t from : ℕ → ℕ) → ℕ → Bool
 is-moved p q r s t from i = (ltb (t i) 64 && ltb (s (t i)) 64) && ((ltb (r (s (t i))) 64 && ltb (q (r (s (t i)))) 64) && eqb (p (q (r (s (t i))))) (from i))
 
 -- five exchanges bring each bit from this place, if all bits pass the test
 moved-bit : (p q r s t from : ℕ → ℕ) (a b c d e f : ℕ) → all_below 64 (is-moved p q r s t from) ≡ true
-    → ((i : ℕ) → i < 64 → has_bit b i ≡ has_bit a (p i))
-    → ((i : ℕ) → i < 64 → has_bit c i ≡ has_bit b (q i))
-    → ((i : ℕ) → i < 64 → has_bit d i ≡ has_bit c (r i))
-    → ((i : ℕ) → i < 64 → has_bit e i ≡ has_bit d (s i))
-    → ((i : ℕ) → i < 64 → has_bit f i ≡ has_bit e (t i))
-    → (i : ℕ) → i < 64 → has_bit f i ≡ has_bit a (from i)
+    → AreMoved p a b → AreMoved q b c → AreMoved r c d → AreMoved s d e → AreMoved t e f → AreMoved from a f
 unfolding is-moved
 moved-bit p q r s t from a b c d e f all k l m n o i small =
     let test = below-at 64 (is-moved p q r s t from) all i small in
@@ -94,22 +93,12 @@ all-shuffled = refl
 
 -- five exchanges divide the bits between the two halves
 pub unshuffled-bit : (a b c d e f : ℕ)
-    → ((i : ℕ) → i < 64 → has_bit b i ≡ has_bit a (partner 1 0x2222222222222222 i))
-    → ((i : ℕ) → i < 64 → has_bit c i ≡ has_bit b (partner 2 0xC0C0C0C0C0C0C0C i))
-    → ((i : ℕ) → i < 64 → has_bit d i ≡ has_bit c (partner 4 0xF000F000F000F0 i))
-    → ((i : ℕ) → i < 64 → has_bit e i ≡ has_bit d (partner 8 0xFF000000FF00 i))
-    → ((i : ℕ) → i < 64 → has_bit f i ≡ has_bit e (partner 16 0xFFFF0000 i))
-    → (i : ℕ) → i < 64 → has_bit f i ≡ has_bit a (2 * (i % 32) + i / 32)
+    → AreMoved (partner 1 0x2222222222222222) a b → AreMoved (partner 2 0xC0C0C0C0C0C0C0C) b c → AreMoved (partner 4 0xF000F000F000F0) c d → AreMoved (partner 8 0xFF000000FF00) d e → AreMoved (partner 16 0xFFFF0000) e f → AreMoved (λ i. 2 * (i % 32) + i / 32) a f
 unshuffled-bit a b c d e f p q r s t = moved-bit (partner 1 0x2222222222222222) (partner 2 0xC0C0C0C0C0C0C0C) (partner 4 0xF000F000F000F0) (partner 8 0xFF000000FF00) (partner 16 0xFFFF0000) (λ i. 2 * (i % 32) + i / 32) a b c d e f all-unshuffled p q r s t
 
 -- the same exchanges in the opposite order bring them back
 pub shuffled-bit : (a b c d e f : ℕ)
-    → ((i : ℕ) → i < 64 → has_bit b i ≡ has_bit a (partner 16 0xFFFF0000 i))
-    → ((i : ℕ) → i < 64 → has_bit c i ≡ has_bit b (partner 8 0xFF000000FF00 i))
-    → ((i : ℕ) → i < 64 → has_bit d i ≡ has_bit c (partner 4 0xF000F000F000F0 i))
-    → ((i : ℕ) → i < 64 → has_bit e i ≡ has_bit d (partner 2 0xC0C0C0C0C0C0C0C i))
-    → ((i : ℕ) → i < 64 → has_bit f i ≡ has_bit e (partner 1 0x2222222222222222 i))
-    → (i : ℕ) → i < 64 → has_bit f i ≡ has_bit a (32 * (i % 2) + i / 2)
+    → AreMoved (partner 16 0xFFFF0000) a b → AreMoved (partner 8 0xFF000000FF00) b c → AreMoved (partner 4 0xF000F000F000F0) c d → AreMoved (partner 2 0xC0C0C0C0C0C0C0C) d e → AreMoved (partner 1 0x2222222222222222) e f → AreMoved (λ i. 32 * (i % 2) + i / 2) a f
 shuffled-bit a b c d e f p q r s t = moved-bit (partner 16 0xFFFF0000) (partner 8 0xFF000000FF00) (partner 4 0xF000F000F000F0) (partner 2 0xC0C0C0C0C0C0C0C) (partner 1 0x2222222222222222) (λ i. 32 * (i % 2) + i / 2) a b c d e f all-shuffled p q r s t
 
 -- ---- bits in the other order
@@ -165,13 +154,7 @@ all-reversed = refl
 
 -- six exchanges reverse the order of the bits
 pub reversed-bit : (a b c d e f g : ℕ)
-    → ((i : ℕ) → i < 64 → has_bit b i ≡ has_bit a (partner 1 0x5555555555555555 i))
-    → ((i : ℕ) → i < 64 → has_bit c i ≡ has_bit b (partner 2 0x3333333333333333 i))
-    → ((i : ℕ) → i < 64 → has_bit d i ≡ has_bit c (partner 4 0xF0F0F0F0F0F0F0F i))
-    → ((i : ℕ) → i < 64 → has_bit e i ≡ has_bit d (partner 8 0xFF00FF00FF00FF i))
-    → ((i : ℕ) → i < 64 → has_bit f i ≡ has_bit e (partner 16 0xFFFF0000FFFF i))
-    → ((i : ℕ) → i < 64 → has_bit g i ≡ has_bit f (partner 32 0xFFFFFFFF i))
-    → (i : ℕ) → i < 64 → has_bit g i ≡ has_bit a (63 - i)
+    → AreMoved (partner 1 0x5555555555555555) a b → AreMoved (partner 2 0x3333333333333333) b c → AreMoved (partner 4 0xF0F0F0F0F0F0F0F) c d → AreMoved (partner 8 0xFF00FF00FF00FF) d e → AreMoved (partner 16 0xFFFF0000FFFF) e f → AreMoved (partner 32 0xFFFFFFFF) f g → AreMoved (λ i. 63 - i) a g
 unfolding is-reversed
 reversed-bit a b c d e f g p q r s t u i l =
     let test = below-at 64 is-reversed all-reversed i l in

@@ -32,9 +32,11 @@ returns c = λ s.
     let f = cond s c.args.formats.1 c.args.formats.0 in
     let bits : (k : ℕ) → k < 15 → has_bit (cond s b.result a.result) k ≡ has_bit f (14 - k) = λ k l. either s _ _ _ _ k (a.ensures k l) (b.ensures k l) in
     across-end c.args.v f (c.side.result - 8) _ _ _ (one_of c.args.pair.now s) (one_of c.set_columns.new.self s) (one_of c.set_columns-2.new.self s) (one_of c.set_columns-3.new.self s) (omega arith) (omega arith) (ap (λ (h : Grid). h.side) (c.requires s)) (omega arith)
-    (λ k l. bits k (omega arith))
-    (λ k l. shifted s b.result a.result 6 f (8 - k) k (bits (k + 6) (omega arith) ∙ ap (has_bit f) (eight k)))
-    (λ k l. shifted s b.result a.result 7 f (7 - k) k (bits (k + 7) (omega arith) ∙ ap (has_bit f) (seven k)))
+    (record {
+      first = λ k l. bits k (omega arith);
+      second = λ k l. shifted s b.result a.result 6 f (8 - k) k (bits (k + 6) (omega arith) ∙ ap (has_bit f) (eight k));
+      third = λ k l. shifted s b.result a.result 7 f (7 - k) k (bits (k + 7) (omega arith) ∙ ap (has_bit f) (seven k));
+    })
     (c.set_columns.ensures s) (c.set_columns-2.ensures s) (c.set_columns-3.ensures s)
   where
     either : (s : Bool) (x y f h k : ℕ) → has_bit y k ≡ has_bit h (14 - k) → has_bit x k ≡ has_bit f (14 - k) → has_bit (cond s x y) k ≡ has_bit (cond s f h) (14 - k)

@@ -27,7 +27,7 @@ loop-bit-preserved c =
     let side : (s : Bool) → (one_of c.loop-bit.pair s).side ≡ side_of c.args.v = λ s. ap (λ (h : Grid). h.side) (i.square s) in
     record {
       square = λ s. rw (c.set.ensures s) (painted-square _ _ _ _ (d s) (side s));
-      done = λ s. rw (c.set.ensures s) (first-step _ _ _ _ (one_of c.loop-bit.pair s) _ (d s) (omega arith) (omega arith) c.loop-bit-test.true (side s) a.ensures.place (omega arith) (omega arith) (c.both_bits.ensures s) (i.done s));
+      done = λ s. rw (c.set.ensures s) (first-step _ _ _ _ (one_of c.loop-bit.pair s) _ (d s) (omega arith) (omega arith) c.loop-bit-test.true (side s) (record { same = a.ensures.place; row = omega arith; col = omega arith }) (c.both_bits.ensures s) (i.done s));
     }
 
 pub loop-bit-2-init : goal.loop-bit-2-init
@@ -43,7 +43,7 @@ loop-bit-2-preserved c =
     let side : (s : Bool) → (one_of c.loop-bit-2.pair s).side ≡ side_of c.args.v = λ s. ap (λ (h : Grid). h.side) (i.square s) in
     record {
       square = λ s. rw (c.set-in-loop-bit-2.ensures s) (painted-square _ _ _ _ (d s) (side s));
-      done = λ s. rw (c.set-in-loop-bit-2.ensures s) (second-step _ _ _ _ (one_of c.loop-bit-2.pair s) _ (d s) (omega arith) (omega arith) (omega arith) c.loop-bit-2-test.true (side s) a.ensures.place (omega arith) (omega arith) (c.both_bits-in-loop-bit-2.ensures s) (i.done s));
+      done = λ s. rw (c.set-in-loop-bit-2.ensures s) (second-step _ _ _ _ (one_of c.loop-bit-2.pair s) _ (d s) (omega arith) (omega arith) (omega arith) c.loop-bit-2-test.true (side s) (record { same = a.ensures.place; row = omega arith; col = omega arith }) (c.both_bits-in-loop-bit-2.ensures s) (i.done s));
     }
 
 pub returns : goal.returns

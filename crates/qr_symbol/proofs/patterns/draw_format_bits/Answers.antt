@@ -15,7 +15,7 @@ loop-bit-preserved c =
     let e = c.set-in-loop-bit.ensures ∙ ap (λ (h : Grid). painted h b.result.row b.result.col d) c.set.ensures in
     record {
       square = rw e (painted-square _ _ _ _ d s);
-      done = rw e (format-step _ _ _ _ _ g _ _ d (omega arith) (omega arith) (omega arith) (omega arith) s a.ensures.place (omega arith) (omega arith) b.ensures.place (omega arith) (omega arith) c.is_bit_set-dark.ensures i.done);
+      done = rw e (format-step _ _ _ _ _ g _ _ d (omega arith) (omega arith) (omega arith) (omega arith) s (record { same = a.ensures.place; row = omega arith; col = omega arith }) (record { same = b.ensures.place; row = omega arith; col = omega arith }) c.is_bit_set-dark.ensures i.done);
     }
 
 pub returns : goal.returns

@@ -23,7 +23,7 @@ loop-span-preserved-in-Right c =
       can_next = next;
       is_finite = tt;
       strip = same;
-      drawn = span-added _ end room i.drawn (right-drawn c.args.region.now _ c.in-Right.row _ _ (omega (arith, end, room)) c.requires.region is.2.1 is.2.2 is.2.3 i.drawn.next c.bits_at.ensures c.draw_module.ensures (λ j. refl));
+      drawn = span-added _ end room i.drawn (right-drawn c.args.region.now _ c.in-Right.row _ _ (omega (arith, end, room)) c.requires.region is.2.1 i.drawn.next c.bits_at.ensures is.2.2 is.2.3 c.draw_module.ensures (λ j. refl));
     }
 
 pub loop-span-preserved-in-Left : goal.loop-span-preserved-in-Left
@@ -35,7 +35,7 @@ loop-span-preserved-in-Left c =
       can_next = next;
       is_finite = tt;
       strip = same;
-      drawn = span-added _ end room i.drawn (left-drawn c.args.region.now _ c.in-Left.row _ _ (omega (arith, end, room)) c.requires.region is.2.1 is.2.2 is.2.3 i.drawn.next c.bits_at-in-Left.ensures (λ j. refl) c.draw_module-in-Left.ensures);
+      drawn = span-added _ end room i.drawn (left-drawn c.args.region.now _ c.in-Left.row _ _ (omega (arith, end, room)) c.requires.region is.2.1 i.drawn.next c.bits_at-in-Left.ensures is.2.2 is.2.3 (λ j. refl) c.draw_module-in-Left.ensures);
     }
 
 pub loop-span-preserved : goal.loop-span-preserved

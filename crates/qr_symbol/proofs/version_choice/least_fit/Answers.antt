@@ -1,10 +1,9 @@
-use Rattle.std.proofs.Common.{◌≡◌, ◌≤◌, ◌<◌, ℕ, Option, inl, inr, sym, subst, ◌+◌, arith}
+use Rattle.std.proofs.Common.{◌≡◌, ◌≤◌, Option, inl, inr, sym, subst, ◌+◌, arith}
 use Rattle.{std.{proofs.lemmas.Bool.cases_lt, specs.Option.SomeIff}, qr_layout.specs.declared.version.Version.Version}
 use Rattle.qr_bits.{proofs.Facts.{least-most, least_fits}}
-use Rattle.qr_symbol.proofs.lemmas.version_choice.FitLemmas.{segmentation-same, version-found, none-fits}
+use Rattle.qr_symbol.proofs.lemmas.version_choice.FitLemmas.{FitNone, segmentation-same, version-found, none-fits}
 use Rattle.qr_symbol.proofs.version_choice.least_fit.Goals as goal
 use Rattle.qr_symbol.proofs.version_choice.least_fit.Goals.{In-Some-new}
-use Rattle.qr_symbol.specs.VersionChoice.{FitsVersion}
 
 pub loop-segmented-init : goal.loop-segmented-init
 loop-segmented-init c =
@@ -42,7 +41,7 @@ returns-in-None-clause-too_long c =
     (elim (cases_lt v (last + 1)) [ inl i ↦ i | inr i ↦ absurd (c.in-None.ensures (omega arith, omega arith)) ])
 
 -- the input fits no version before the next range
-none : (c : In-Some-new) → (v : ℕ) → c.args.smallest ≤ v → v < c.in-Some-new.next → FitsVersion v c.args.level c.args.rule c.args.interpretation c.args.input.now → ⊥
+none : (c : In-Some-new) → FitNone c.args.smallest c.in-Some-new.next c.args.level c.args.rule c.args.interpretation c.args.input.now
 none c v a b =
     none-fits c.args.input.now _ c.args.level c.args.smallest c.args.rule c.args.interpretation c.loop-segmented.first (c.last_of_width-last.result + 1) _ (omega arith) (omega arith) c.loop-segmented.invariant.none
     (λ w i j. c.last_of_width-last.ensures.same w i (omega arith)) c.in_ok-segmented.ensures.ok

@@ -6,7 +6,7 @@ use borrow.Author.Tests.{leb-true}
 use Rattle.clap.specs.{Words.first_of, Words.one_of, Walk.Row, Walk.Text}
 use Rattle.{qr_layout.specs.declared.level.Level.Level, qr_drawing.specs.declared.drawing.Drawing.Drawing}
 use Rattle.qr_layout.specs.declared.level.Level.TheVariants as level
-use Rattle.{qr_bits.proofs.Facts.empty_fits, qr_matrix.specs.Grid.Grid}
+use Rattle.{qr_bits.proofs.Facts.empty-fits, qr_matrix.specs.Grid.Grid}
 use Rattle.qr_symbol.{specs.VersionChoice.FitsVersion, proofs.Facts.{series-one, symbol-one}}
 use Rattle.qrencode_cli.specs.Command.{HasRefusal, IsDrawing, IsRefusal, held, input_for}
 use Rattle.qrencode_cli.specs.Laws.{AnswersAreOne, RefusalsAreOne, RefusalsExcludeDrawings}
@@ -125,12 +125,12 @@ smallest-most words s e =
 -- an empty input fits each version, so it is never too long
 empty-not-long : (words : List Text) (s : SettingsView) (input : List ℕ) → settings_for words ≡ Ok s → input ≡ [] → IsTooLong s input → ⊥
 empty-not-long words s input taken none long =
-    long.1 (smallest_of s) (omega arith) (smallest-most words s taken) (subst (λ (x : List ℕ). FitsVersion (smallest_of s) s.level (rule_for s) Default x) (sym none) (empty_fits Default (smallest_of s) (rule_for s) _))
+    long.1 (smallest_of s) (omega arith) (smallest-most words s taken) (subst (λ (x : List ℕ). FitsVersion (smallest_of s) s.level (rule_for s) Default x) (sym none) (empty-fits Default (smallest_of s) (rule_for s) _))
 
 -- so an empty input is never too long for a series
 empty-not-many : (s : SettingsView) (input : List ℕ) → input ≡ [] → IsTooMany s input → ⊥
 empty-not-many s input none many =
-    many.1.too_long (subst (λ (x : List ℕ). FitsVersion (smallest_of s) s.level (rule_for s) Default x) (sym none) (empty_fits Default (smallest_of s) (rule_for s) _))
+    many.1.too_long (subst (λ (x : List ℕ). FitsVersion (smallest_of s) s.level (rule_for s) Default x) (sym none) (empty-fits Default (smallest_of s) (rule_for s) _))
 
 -- settings do not ask for both one symbol and a series
 long-not-many : (s : SettingsView) (x y : List ℕ) → IsTooLong s x → IsTooMany s y → ⊥

@@ -1,5 +1,5 @@
 -- What the struct of a mended square contains.
-use Rattle.std.proofs.Common.{◌≡◌, ℕ, ◌*◌, ◌<◌, ◌≤◌, List, ◌++◌, drop, length, take, arith}
+use Rattle.std.proofs.Common.{◌≡◌, ℕ, ◌*◌, ◌<◌, ◌≤◌, List, ◌++◌, ◌∙◌, drop, length, take, arith}
 use Rattle.std.{proofs.lemmas.List.Elements.All-weaker, specs.List.All}
 use Rattle.{qr_layout.specs.declared.level.Level.Level, qr_bits.specs.Parsing.Content, qr_matrix.specs.Grid.Grid}
 use Rattle.qr_layout.specs.Blocks.{correctable_of}
@@ -31,21 +31,50 @@ read-told u g v w l k m n p x ev el em r = search arith
 wrong-told : (u : Grid) (g : Grid) (v w : ℕ) (l k : Level) (m n : ℕ) (x : List ℕ) (a b : ℕ) → w ≡ v → k ≡ l → n ≡ m → b ≡ a → HasWrongModules u g v l m x a → HasWrongModules u g w k n x b
 wrong-told u g v w l k m n x a b ev el em e r = search arith
 
+-- the square is mended and read as m says
+pub record IsMendedAs (modules : List ℕ) (side : ℕ) (m : Mended) : Type 0 where
+  pub all : AreModules modules side
+  pub read : IsMendedReading (square_of_unknown side modules) (square_of_bytes side modules) m.version m.level m.mask m.parsed m.changed.items
+  pub format : m.wrong_format_modules ≡ wrong_format_modules (square_of_unknown side modules) (square_of_bytes side modules) m.level m.mask
+  pub whole : HasWrongModules (square_of_unknown side modules) (square_of_bytes side modules) m.version m.level m.mask m.changed.items m.wrong_modules
+
+-- the struct t has the numbers of m
+pub record TellsMended (m : Mended) (t : QrprovedMended) : Type 0 where
+  pub wrong_modules : t.wrong_modules ≡ m.wrong_modules
+  pub version : t.version ≡ m.version
+  pub header : TellsHeader m.parsed.header t.has_header t.position t.last t.parity
+  pub number : t.level < 4
+  pub level : level_of t.level ≡ m.level
+  pub mask : t.mask ≡ m.mask
+  pub wrong_format_modules : t.wrong_format_modules ≡ m.wrong_format_modules
+  pub most : IsGreatest m.changed.items t.changed_most
+  pub allowed : t.changed_allowed ≡ correctable_of m.version m.level
+
 -- if the square is mended and read, and the struct has the numbers of this, the call's promise holds
 pub given-mended : (modules : List ℕ) (side : ℕ) (before put : List ℕ) (ecis_before ecis_after : List QrprovedEci) (m : Mended) (t : QrprovedMended) (len : ℕ)
-    → AreModules modules side
-    → IsMendedReading (square_of_unknown side modules) (square_of_bytes side modules) m.version m.level m.mask m.parsed m.changed.items
-    → m.wrong_format_modules ≡ wrong_format_modules (square_of_unknown side modules) (square_of_bytes side modules) m.level m.mask
-    → HasWrongModules (square_of_unknown side modules) (square_of_bytes side modules) m.version m.level m.mask m.changed.items m.wrong_modules
-    → len ≡ length m.parsed.bytes → len ≤ length before → put ≡ m.parsed.bytes
-    → t.len ≡ len → t.wrong_modules ≡ m.wrong_modules → t.version ≡ m.version
-    → TellsHeader m.parsed.header t.has_header t.position t.last t.parity
-    → t.level < 4 → level_of t.level ≡ m.level → t.mask ≡ m.mask → t.wrong_format_modules ≡ m.wrong_format_modules
-    → IsGreatest m.changed.items t.changed_most → t.changed_allowed ≡ correctable_of m.version m.level
+    → IsMendedAs modules side m → len ≡ length m.parsed.bytes → len ≤ length before → put ≡ m.parsed.bytes → t.len ≡ len → TellsMended m t
     → TellsInterpretation m.parsed ecis_before ecis_after t.eci_count t.fnc1 t.application
     → IsGivenMended modules side before (put ++ drop len before) ecis_before ecis_after t
-given-mended modules side before put ecis_before ecis_after m t len all r format whole long room same elen ewrong ev header small el em eformat most allowed told =
-    search (arith, read-told, wrong-told)
+given-mended modules side before put ecis_before ecis_after m t len is long room same elen tells told =
+    let reading = read-told _ _ _ _ _ _ _ _ _ _ tells.version tells.level tells.mask is.read in
+    let wrong = wrong-told _ _ _ _ _ _ _ _ _ _ _ tells.version tells.level tells.mask tells.wrong_modules is.whole in record {
+      all_modules = is.all;
+      content = m.parsed;
+      changed = m.changed.items;
+      level = tells.number;
+      read = reading;
+      room = omega arith;
+      holds = cc;
+      len = elen ∙ long;
+      header = tells.header;
+      interpretation = told;
+      damage = record {
+        whole = wrong;
+        format = rw (tells.level, tells.mask) (tells.wrong_format_modules ∙ is.format);
+        most = tells.most;
+        allowed = rw (tells.version, tells.level) tells.allowed;
+      };
+    }
 
 -- if mending and reading the square yields more bytes than the buffer has, the call's condition for ROOM holds
 pub more-bytes : (modules : List ℕ) (side : ℕ) (buffer : List ℕ) (m : Mended) (len : ℕ) → AreModules modules side

@@ -1,7 +1,7 @@
 -- What the statuses mean for a square that is refused, and for one that is read. `At f`: the square has the fault f.
 use Rattle.std.proofs.Common.{◌≡◌, ◌≢◌, ◌↔◌, ◌⊎◌, ℕ, ◌<◌, ◌≤◌, Option, None, Some, MatchOption, sym, ◌∙◌, ap, subst, inl, inr, arith}
 use Rattle.{qr_bits.specs.declared.fault.ParseFault.ParseFault, qr_layout.specs.Version.side_of}
-use Rattle.qr_symbol.specs.declared.fault.ReadFault.{ReadFault}
+use Rattle.qr_symbol.{proofs.Facts.{FaultsAreOne}, specs.declared.fault.ReadFault.{ReadFault}}
 use Rattle.qr_symbol.specs.declared.fault.ReadFault.TheVariants as unread
 use Rattle.qrproved.specs.{Reading.IsSide, Steps.Status.read_status}
 
@@ -11,10 +11,6 @@ pub version-of : (o : Option ℕ) (n side : ℕ) → n ≡ side
     → MatchOption o (IsSide side → ⊥) (λ v. (1 ≤ v) × (v ≤ 40) × (side ≡ side_of v))
 version-of None n side e none = λ w. none w.0 w.1 w.2 (e ∙ w.3)
 version-of (Some v) n side e is = (is.0, is.1, sym e ∙ is.2)
-
--- a square has at most one fault besides lack of memory
-abbrev pub FaultsAreOne : (ReadFault → Type 0) → Type 0
-FaultsAreOne At = (e f : ReadFault) → At e → At f → (e ≡ unread.Memory) ⊎ (f ≡ unread.Memory) ⊎ (e ≡ f)
 
 -- the fault of each status
 record HasStatus (f : ReadFault) (status : ℕ) : Type 0 where

@@ -106,9 +106,22 @@ returns-else-bytes-len-clause-done c =
     let t = c.mended_of.ensures in
     let same-ecis = ap (λ (z : Mended). z.parsed.ecis) c.found.view_is in
     λ _. given-mended c.args.modules.now c.args.side c.args.bytes.now c.copy_from_slice.new.self c.args.ecis.now c.write_ecis.new.out m c.mended_of.result
-    c.len-len.result (modules a) (found a) (rw same at c.in-Ok.ensures.format) (rw same at c.in-Ok.ensures.modules) long
-    c.if-bytes-len.false put t.len t.wrong_modules t.version t.header t.number t.level t.mask t.wrong_format_modules
-    t.most t.allowed (record {
+    c.len-len.result (record {
+      all = modules a;
+      read = found a;
+      format = rw same at c.in-Ok.ensures.format;
+      whole = rw same at c.in-Ok.ensures.modules;
+    }) long c.if-bytes-len.false put t.len (record {
+      wrong_modules = t.wrong_modules;
+      version = t.version;
+      header = t.header;
+      number = t.number;
+      level = t.level;
+      mask = t.mask;
+      wrong_format_modules = t.wrong_format_modules;
+      most = t.most;
+      allowed = t.allowed;
+    }) (record {
       ecis = search arith;
       count = t.count;
       position = t.position;
