@@ -5,7 +5,7 @@ pub use Rattle.qr_symbol.proofs.lemmas.laws.DistanceLemmas.{messages-apart, part
 pub use Rattle.qr_symbol.proofs.lemmas.reading.FormatLemmas.{format-read, level-one, level-small}
 pub use Rattle.qr_symbol.proofs.lemmas.interleaving.OrderLemmas.{gather-some, positions-many}
 pub use Rattle.qr_symbol.proofs.lemmas.joining.JoiningLemmas.{joined-refused, joining-one, readings-next, readings-none, unjoined-next, unjoined-one}
-pub use Rattle.qr_symbol.proofs.lemmas.interleaving.MessageLemmas.{sizes-whole, data-sizes-whole, final-one, final-whole, ok-also, take-front}
+pub use Rattle.qr_symbol.proofs.lemmas.interleaving.MessageLemmas.{sizes-whole, data-sizes-whole, final-one, final-whole, take-front}
 pub use Rattle.qr_symbol.proofs.lemmas.interleaving.RankLemmas.{map-at, position-of, positions-one}
 pub use Rattle.qr_symbol.proofs.lemmas.reading.ReadLemmas.{bits-one, message-one, read-one, read-some}
 pub use Rattle.qr_symbol.proofs.lemmas.reading.RefusalLemmas.{exactly, moved}

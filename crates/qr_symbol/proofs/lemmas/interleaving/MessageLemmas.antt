@@ -73,11 +73,6 @@ sizes-whole v l h k = search (arith, blocks-sound, data-sizes-whole, sizes-even)
 pub final-whole : (v : ℕ) (l : Level) (d cw : List ℕ) → 1 ≤ v → v ≤ 40 → IsFinalMessage (blocks_of v l) d cw → length cw ≡ total_codewords_of v
 final-whole v l d cw h k i = final-many (blocks_of v l) d cw i ∙ sizes-whole v l h k
 
--- a fact that holds for the value of a result, with another fact that follows from it
-pub ok-also : {X E : Type 0} (P Q : X → Type 0) (r : Result X E) → IfOk r P → ((x : X) → P x → Q x) → IfOk r Q
-ok-also P Q (Ok x) h f = f x h
-ok-also P Q (Err e) h f = tt
-
 -- ---- one message at most
 
 -- the prefix of two joined lists that has the length of the first list is the first list
