@@ -1,10 +1,10 @@
 -- Steps of the code: bit rows, the bit rows of two squares side by side, dark runs, the modules that cost a point, what
 -- the penalty counts, and tiles. A square is transposed tile by tile, and a tile is 64 by 64 modules.
-use Rattle.std.specs.Prelude.{◌≡◌, ℕ, ◌+◌, ◌-◌, ◌*◌, ◌%◌, ◌^◌, ◌<◌, ◌≤◌, ◌&&◌, ◌||◌, not, Bool, List, [], ◌∷◌, length, slice_index, slice_index_or, map, nat_lt, if◌then◌else◌}
+use Rattle.std.specs.Prelude.{◌≡◌, ℕ, ◌+◌, ◌-◌, ◌*◌, ◌%◌, ◌^◌, ◌<◌, ◌≤◌, ◌&&◌, ◌||◌, not, Bool, List, [], ◌∷◌, length, slice_index, slice_index_or, map, nat_le, nat_lt, if◌then◌else◌}
 use Rattle.std.specs.List.{filter, range_with_len}
 use Rattle.qr_matrix.specs.Grid.{is_same}
 use Rattle.qr_matrix.specs.Sums.{count_below, places_passing, sum_below}
-use Rattle.qr_matrix.specs.Penalty.{is_square_of_two, over_lines, run_cost, square_count, window_count}
+use Rattle.qr_matrix.specs.Penalty.{finder_ratio, four_light, is_square_of_two, over_lines, reads, run_cost, square_count, window_count}
 use Rattle.qr_matrix.specs.Runs.{begins_five, joins, place_cost}
 use Rattle.qr_matrix.specs.BitRow.{has, has_bit}
 use Rattle.qr_matrix.specs.declared.dark_runs.Run.{Run}
@@ -102,6 +102,23 @@ pub record IsCountedTo (s : ℕ) (dark : ℕ → ℕ → Bool) (n runs squares :
   pub runs_most : runs ≤ 192 * n + 192 * (n - 3)
   pub squares_are : squares ≡ sum_below n (λ r. count_below s (is_square_of_two s dark r))
   pub squares_most : squares ≤ 192 * n
+
+-- A window begins at module `r` with the ratio, before four light modules
+abbrev pub is_before_light : ℕ → (ℕ → Bool) → ℕ → Bool
+is_before_light s line r = nat_le (r + 11) s && (reads line r finder_ratio && reads line (r + 7) four_light)
+
+-- A window begins at module `r` with four light modules, and the ratio is after them
+abbrev pub is_after_light : ℕ → (ℕ → Bool) → ℕ → Bool
+is_after_light s line r = nat_le (r + 11) s && (reads line r four_light && reads line (r + 4) finder_ratio)
+
+-- A window of a column is found in row `r`: it begins there with the ratio, or three rows above with four light modules
+unfoldable pub is_found : ℕ → (ℕ → Bool) → ℕ → Bool
+is_found s line r = is_before_light s line r || (nat_lt 2 r && is_after_light s line (r - 3))
+
+-- The number of windows in the first `n` rows, and of those of columns that are found in these rows
+pub record AreWindowsTo (s : ℕ) (dark : ℕ → ℕ → Bool) (n windows : ℕ) : Type 0 where
+  pub windows_are : windows ≡ sum_below n (λ r. window_count s (dark r)) + sum_below n (λ r. count_below s (λ c. is_found s (λ i. dark i c) r))
+  pub windows_most : windows ≤ 384 * n
 
 -- The bit in row `r` and column `c` of a tile of 64 by 64 modules, where column 0 is the lowest bit of a word
 unfoldable pub bit_in : List ℕ → ℕ → ℕ → Bool

@@ -7,14 +7,14 @@ ghost use Rattle.qr_matrix.specs.Steps.{set_count};
 use crate::rows::Rows;
 
 // A full adder for each column: returns a row of sums and a row of carries. A carry stands for two set bits of the
-// three rows.
+// three rows. In a column the carry is the bit of `a`, unless both others differ from it.
 #[inline(always)]
 pub(crate) fn added<R: Rows>(a: R, b: R, c: R) -> (R, R)
     ensures { (second : Bool) → set_count (R.bit a second) + set_count (R.bit b second) + set_count (R.bit c second)
         ≡ set_count (R.bit result.0 second) + 2 * set_count (R.bit result.1 second) }
 {
     let either = a.xor(b);
-    (either.xor(c), a.and(b).or(either.and(c)))
+    (either.xor(c), either.and(a.xor(c)).xor(a))
 }
 
 // As `Rows::add_to`, for a row of `words` words, but faster if most of the rows that are counted have no set bit. With

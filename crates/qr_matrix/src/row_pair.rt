@@ -270,6 +270,11 @@ impl Rows for RowPair {
     }
 
     #[inline(always)]
+    fn plus(counts: (u32, u32), others: (u32, u32)) -> (u32, u32) {
+        (counts.0 + others.0, counts.1 + others.1)
+    }
+
+    #[inline(always)]
     fn add_to(self, counts: (u32, u32)) -> (u32, u32) {
         let (first, second) = self.parts();
         (counts.0 + first.count(), counts.1 + second.count())

@@ -61,6 +61,11 @@ pub(crate) trait Rows: Copy {
         requires { (second : Bool) → number counts second ≤ 1000000 }
         ensures { (second : Bool) → number result second ≡ 2 * number counts second };
 
+    fn plus(counts: Self::Counts, others: Self::Counts) -> Self::Counts
+        requires first { (second : Bool) → number counts second ≤ 1000000 }
+        requires others { (second : Bool) → number others second ≤ 1000000 }
+        ensures { (second : Bool) → number result second ≡ number counts second + number others second };
+
     // Adds to the number of each square in `counts` how many bits are set in its row.
     fn add_to(self, counts: Self::Counts) -> Self::Counts
         requires { (second : Bool) → number counts second ≤ 1000000 }
@@ -164,6 +169,11 @@ impl Rows for BitRow {
     #[inline(always)]
     fn doubled(counts: u32) -> u32 {
         2 * counts
+    }
+
+    #[inline(always)]
+    fn plus(counts: u32, others: u32) -> u32 {
+        counts + others
     }
 
     #[inline(always)]

@@ -1,15 +1,15 @@
 -- The bits of rows that are added column by column.
-use Rattle.std.proofs.Common.{◌≡◌, ℕ, zero, suc, ◌+◌, ◌*◌, ◌≤◌, Bool, false, not, ◌&&◌, ◌||◌, cond, refl, arith}
+use Rattle.std.proofs.Common.{◌≡◌, ℕ, zero, suc, ◌+◌, ◌*◌, ◌≤◌, Bool, false, not, ◌&&◌, cond, refl, arith}
 use Rattle.std.proofs.lemmas.Bool.Decides.{nat_tests}
 use Rattle.qr_matrix.specs.{Grid.is_same, Steps.set_count, Sums.count_below}
 use Rattle.qr_matrix.proofs.lemmas.bit_row.SumLemmas.{count_below-cut}
 
 -- the sum of three bits, by its two digits
-digits : (a b d s t : Bool) → s ≡ not (is_same (not (is_same a b)) d) → t ≡ ((a && b) || (not (is_same a b) && d)) → cond a 1 0 + cond b 1 0 + cond d 1 0 ≡ cond s 1 0 + 2 * cond t 1 0
+digits : (a b d s t : Bool) → s ≡ not (is_same (not (is_same a b)) d) → t ≡ not (is_same (not (is_same a b) && not (is_same a d)) a) → cond a 1 0 + cond b 1 0 + cond d 1 0 ≡ cond s 1 0 + 2 * cond t 1 0
 digits a b d s t e f = grind (arith, nat_tests)
 
 -- if s and t are the two digits of the sum of a, b and d in each column, they have as many bits
-pub sum-digits : (a b d s t : ℕ → Bool) → ((c : ℕ) → s c ≡ not (is_same (not (is_same (a c) (b c))) (d c))) → ((c : ℕ) → t c ≡ ((a c && b c) || (not (is_same (a c) (b c)) && d c)))
+pub sum-digits : (a b d s t : ℕ → Bool) → ((c : ℕ) → s c ≡ not (is_same (not (is_same (a c) (b c))) (d c))) → ((c : ℕ) → t c ≡ not (is_same (not (is_same (a c) (b c)) && not (is_same (a c) (d c))) (a c)))
     → set_count a + set_count b + set_count d ≡ set_count s + 2 * set_count t
 unfolding set_count
 sum-digits a b d s t hs ht = below 192

@@ -1,7 +1,7 @@
 -- Bit operations on neighbouring rows compute the tests of all columns at once.
-use Rattle.std.proofs.Common.{◌≡◌, ℕ, ◌+◌, ◌-◌, ◌<◌, ◌≤◌, [], ◌∷◌, eqb, ltb, Bool, true, false, not, ◌&&◌, ◌||◌, cond, ap, ◌∙◌, arith}
+use Rattle.std.proofs.Common.{◌≡◌, ℕ, ◌+◌, ◌<◌, ◌≤◌, [], ◌∷◌, eqb, ltb, Bool, true, false, not, ◌&&◌, ◌||◌, cond, ap, ◌∙◌, arith}
 use Rattle.std.proofs.lemmas.{Bool.Decides.nat_tests, Nat.Bits.bit_at-zero}
-use Rattle.qr_matrix.specs.{BitRow.{has, has_bit, bit_row_number}, Runs.{joins, begins_five, place_cost}}
+use Rattle.qr_matrix.specs.{BitRow.{has, has_bit, bit_row_number}, Runs.{joins, place_cost}}
 use Rattle.qr_matrix.specs.{Steps.{is_charged, row_share, set_count}, Grid.is_same, Sums.{count_below, sum_below}}
 use Rattle.qr_matrix.proofs.lemmas.bit_row.SumLemmas.{count_below-same, count_below-cut, sum_below-same, sum_below-swap}
 use Rattle.qr_matrix.proofs.lemmas.runs.{RowLemmas.joins-past, ChargeLemmas.charged-cost}
@@ -33,11 +33,6 @@ guarded s c b h = search (arith, nat_tests, past)
 pub guarded-five : (u a b d e : Bool) → (((u && a) && (u && b)) && ((u && d) && (u && e))) ≡ (u && ((a && b) && (d && e)))
 guarded-five u a b d e = grind (arith, nat_tests)
 
--- a bit that is set where four places in turn of a column are joined is set where five equal ones begin
-pub five-down-bit : (s : ℕ) (line : ℕ → Bool) (c r : ℕ) (x y z p q m n : Bool) → x ≡ (y && z) → y ≡ (p && q) → z ≡ (m && n) → p ≡ (ltb c s && joins s line r) → q ≡ (ltb c s && joins s line (r + 1)) → m ≡ (ltb c s && joins s line (r + 2)) → n ≡ (ltb c s && joins s line (r + 3)) → x ≡ (ltb c s && begins_five s line r)
-unfolding begins_five
-five-down-bit s line c r x y z p q m n ex ey ez ep eq em en = search (arith, guarded-five)
-
 -- the guard u of three tests, of which the last two have the guards t and w too, is the guard of their disjunction
 pub guarded-three : (u t w f g h : Bool) → (((u && f) || (t && (u && g))) || (w && (u && h))) ≡ (u && ((f || (t && g)) || (w && h)))
 guarded-three u t w f g h = grind (arith, nat_tests)
@@ -52,13 +47,6 @@ guarded-count s t p l h =
 pub guarded-size : (s : ℕ) (bit p : ℕ → Bool) → s ≤ 192 → ((c : ℕ) → bit c ≡ (ltb c s && p c)) → set_count bit ≡ count_below s p
 unfolding set_count
 guarded-size s bit p l h = guarded-count s bit p l h
-
--- the bits where five of one colour begin in row r or the two above it are the row's share in the cost of all columns
-pub share-of : (s : ℕ) (dark : ℕ → ℕ → Bool) (r : ℕ) (t f a b : ℕ → Bool) → s ≤ 192 → ((c : ℕ) → t c ≡ ((f c || a c) || b c))
-    → ((c : ℕ) → f c ≡ (ltb c s && begins_five s (λ i. dark i c) r)) → ((c : ℕ) → a c ≡ (ltb 0 r && (ltb c s && begins_five s (λ i. dark i c) (r - 1))))
-    → ((c : ℕ) → b c ≡ (ltb 1 r && (ltb c s && begins_five s (λ i. dark i c) (r - 2)))) → set_count t ≡ row_share s dark r
-unfolding row_share is_charged
-share-of s dark r t f a b l ht hf ha hb = search (arith, guarded-size, guarded-three)
 
 -- the shares of all rows sum to the costs of all columns
 pub shares-are-columns : (s : ℕ) (dark : ℕ → ℕ → Bool) → sum_below s (row_share s dark) ≡ sum_below s (λ c. place_cost s (λ r. dark r c))

@@ -1,10 +1,14 @@
 -- Bit operations on a bit row compute the tests of a row. A module is joined if the module after it has its colour.
 use Rattle.std.proofs.Common.{◌≡◌, ℕ, ◌+◌, ◌-◌, ◌<◌, ◌≤◌, ltb, Bool, false, not, ◌&&◌, arith}
 use Rattle.std.proofs.lemmas.Bool.Decides.{nat_tests}
-use Rattle.qr_matrix.specs.{Steps.set_count, Grid.is_same, Sums.count_below, Runs.joins, Runs.begins_five}
+use Rattle.qr_matrix.specs.{Steps.{set_count, NeedsWords}, Grid.is_same, Sums.count_below, Runs.joins, Runs.begins_five}
 use Rattle.qr_matrix.proofs.lemmas.bit_row.{SumLemmas.count_below-cut, BoolLemmas.{and-false, false-and, not-not}}
 
 -- ---- the number of set bits
+
+-- a row of a side that takes so many words has at most 192 modules
+pub side-most : (s w : ℕ) → NeedsWords s w → s ≤ 192
+side-most s w h = omega (arith, h.most, h.three)
 
 -- a bit row whose bits pass a test that nothing from s on passes has as many set bits as numbers below s pass it
 pub size-is : (s : ℕ) (bit q : ℕ → Bool) → s ≤ 192 → ((c : ℕ) → c < 192 → bit c ≡ q c) → ((c : ℕ) → s ≤ c → q c ≡ false) → set_count bit ≡ count_below s q

@@ -1,20 +1,31 @@
 -- Bit operations on two rows compute the test of a square of two by two modules.
-use Rattle.std.proofs.Common.{◌≡◌, ℕ, ◌+◌, ◌≤◌, ltb, Bool, true, false, ◌&&◌, refl, ap, ◌∙◌, arith}
-use Rattle.std.proofs.lemmas.Bool.Decides.{nat_tests}
+use Rattle.std.proofs.Common.{◌≡◌, ℕ, ◌+◌, ◌<◌, ◌≤◌, ltb, Bool, true, false, ◌&&◌, inl, inr, refl, ap, ◌∙◌, arith}
+use Rattle.std.proofs.lemmas.Bool.{cases_lt, Decides.nat_tests}
 use Rattle.qr_matrix.specs.{Steps.set_count, Grid.is_same, Sums.count_below, Penalty.is_square_of_two}
 use Rattle.qr_matrix.{specs.Runs.joins, proofs.lemmas.{runs.RowLemmas.size-is, bit_row.BoolLemmas.and-false}}
 
--- four modules p, q, m and n are equal exactly if p is joined to q in its row, and p to m and q to n in their columns
-square-bools : (t u w p q m n : Bool) → (t ≡ true → u ≡ true) → (((t && is_same p q) && (u && (w && is_same p m))) && (t && (w && is_same q n))) ≡ ((((w && t) && is_same p q) && is_same p m) && is_same p n)
+-- four modules p, q, m and n are equal exactly if p is joined to q and m to n in their rows, and p to m in its column
+square-bools : (t u w p q m n : Bool) → (t ≡ true → u ≡ true) → (((t && is_same p q) && (t && is_same m n)) && (u && (w && is_same p m))) ≡ ((((w && t) && is_same p q) && is_same p m) && is_same p n)
 square-bools t u w p q m n f = grind (arith, nat_tests)
 
--- a bit that is set where a join in row r and joins in columns c and c + 1 begin is set where a square of two begins
-pub square-bit : (s : ℕ) (dark : ℕ → ℕ → Bool) (r c : ℕ) (x a d e : Bool) → x ≡ ((a && d) && e) → a ≡ joins s (dark r) c → d ≡ (ltb c s && joins s (λ i. dark i c) r) → e ≡ (ltb (c + 1) s && joins s (λ i. dark i (c + 1)) r) → x ≡ is_square_of_two s dark r c
+-- without a row below there is no square
+square-end : (t a b d : Bool) (u w x y z : Bool) → w ≡ false → (t && (u && (w && a))) ≡ ((((w && b) && x) && y) && z)
+square-end t a b d u w x y z e = grind (arith, nat_tests)
+
+-- a bit that is set where joins in row r, in the next row and in column c begin is set where a square of two begins
+pub square-bit : (s : ℕ) (dark : ℕ → ℕ → Bool) (r c : ℕ) (x a n d : Bool) → x ≡ ((a && n) && d) → a ≡ joins s (dark r) c → (r + 1 < s → n ≡ joins s (dark (r + 1)) c) → d ≡ (ltb c s && joins s (λ i. dark i c) r) → x ≡ is_square_of_two s dark r c
 unfolding is_square_of_two joins
-square-bit s dark r c x a d e ex ea ed ee =
-    let t : ltb (c + 1) s ≡ true → ltb c s ≡ true = λ k. grind (arith, nat_tests) in
-    let f = square-bools (ltb (c + 1) s) (ltb c s) (ltb (r + 1) s) (dark r c) (dark r (c + 1)) (dark (r + 1) c) (dark (r + 1) (c + 1)) t in
-    cc
+square-bit s dark r c x a n d ex ea en ed = elim (cases_lt (r + 1) s) [
+  | inl l ↦
+      let t : ltb (c + 1) s ≡ true → ltb c s ≡ true = λ k. grind (arith, nat_tests) in
+      let f = square-bools (ltb (c + 1) s) (ltb c s) (ltb (r + 1) s) (dark r c) (dark r (c + 1)) (dark (r + 1) c) (dark (r + 1) (c + 1)) t in
+      let e = en l in
+      cc
+  | inr l ↦
+      let w : ltb (r + 1) s ≡ false = grind (arith, nat_tests) in
+      let f = square-end (a && n) (is_same (dark r c) (dark (r + 1) c)) (ltb (c + 1) s) n (ltb c s) (ltb (r + 1) s) (is_same (dark r c) (dark r (c + 1))) (is_same (dark r c) (dark (r + 1) c)) (is_same (dark r c) (dark (r + 1) (c + 1))) w in
+      cc
+]
 
 -- no square of two by two modules begins in a column from the side on
 square-past : (s : ℕ) (dark : ℕ → ℕ → Bool) (r c : ℕ) → s ≤ c → is_square_of_two s dark r c ≡ false

@@ -1,9 +1,10 @@
 -- The windows of rows and columns, found and counted on bit rows.
-use Rattle.std.proofs.Common.{◌≡◌, ℕ, ◌+◌, ◌<◌, ◌≤◌, ltb, leb, Bool, true, false, not, ◌&&◌, ◌||◌, cond, sym, ap, ◌∙◌, arith}
-use Rattle.{std.proofs.lemmas.Bool.Decides.nat_tests, qr_matrix.proofs.lemmas.bit_row.BoolLemmas.{and-false, false-and}}
-use Rattle.qr_matrix.specs.{Steps.set_count, Sums.count_below, Sums.sum_below}
+use Rattle.std.proofs.Common.{◌≡◌, ℕ, zero, suc, ◌+◌, ◌-◌, ◌<◌, ◌≤◌, ltb, leb, Bool, true, false, not, ◌&&◌, ◌||◌, cond, inl, inr, refl, sym, ap, ◌∙◌, arith}
+use Rattle.{std.proofs.lemmas.Bool.{cases_lt, Decides.nat_tests}, qr_matrix.proofs.lemmas.bit_row.BoolLemmas.{and-false, false-and}}
+use Rattle.qr_matrix.specs.{Grid.is_same, Steps.{is_after_light, is_before_light, is_found, set_count, AreWindowsTo}, Sums.count_below, Sums.sum_below}
 use Rattle.qr_matrix.specs.Penalty.{finder_ratio, four_light, reads, is_window, window_count}
-use Rattle.qr_matrix.proofs.lemmas.{bit_row.SumLemmas.{sum_below-swap}, runs.RowLemmas.size-is, runs.ColumnLemmas.guarded-size, windows.ReadingLemmas.window-is}
+use Rattle.qr_matrix.proofs.lemmas.{adders.AdderLemmas.set_count-most, bit_row.SumLemmas.{count_below-cut, sum_below-add, sum_below-more, sum_below-same, sum_below-swap}}
+use Rattle.qr_matrix.proofs.lemmas.{runs.RowLemmas.size-is, runs.ColumnLemmas.guarded-size, windows.ReadingLemmas.window-is}
 
 -- in a row, the tests of the ratio before and after four light modules find the windows
 pub window-bit : (s : ℕ) (line core four : ℕ → Bool) (c : ℕ) → ((m : ℕ) → core m ≡ (leb (m + 7) s && reads line m finder_ratio))
@@ -32,29 +33,172 @@ pub windows-row : (s : ℕ) (line : ℕ → Bool) (bit : ℕ → Bool) → s ≤
 unfolding window_count
 windows-row s line bit l h = size-is s bit (is_window s line) l (λ c k. h c) (λ c k. window-past s line c k)
 
--- if eleven rows are left, the ratio before and after four light modules in a column is a window
-pub window-down-bit : (s : ℕ) (line : ℕ → Bool) (r : ℕ) (u : Bool) → r + 11 ≤ s
-    → (((u && reads line r finder_ratio) && not (not (reads line (r + 7) four_light))) || ((u && reads line (r + 4) finder_ratio) && not (not (reads line r four_light))))
-    ≡ (u && is_window s line r)
-window-down-bit s line r u h =
-    let t : leb (r + 11) s ≡ true = grind (arith, nat_tests) in
-    common u (reads line r finder_ratio) (reads line (r + 7) four_light) (reads line (r + 4) finder_ratio) (reads line r four_light)
-    ∙ ap (λ z. u && (z && ((reads line r finder_ratio && reads line (r + 7) four_light) || (reads line r four_light && reads line (r + 4) finder_ratio)))) (sym t)
-    ∙ ap (λ z. u && z) (sym (window-is s line r))
+-- ---- windows of columns
+
+-- the ratio before four light modules is a window, if eleven rows are left
+pub before-bit : (s : ℕ) (line : ℕ → Bool) (r : ℕ) (u : Bool) → r + 11 ≤ s
+    → ((u && reads line r finder_ratio) && not (not (reads line (r + 7) four_light))) ≡ (u && is_before_light s line r)
+before-bit s line r u h =
+    common u (leb (r + 11) s) (reads line r finder_ratio) (reads line (r + 7) four_light) (grind (arith, nat_tests))
   where
-    common : (u a b d e : Bool) → (((u && a) && not (not b)) || ((u && d) && not (not e))) ≡ (u && ((a && b) || (e && d)))
-    common u a b d e = grind (arith, nat_tests)
+    common : (u t a b : Bool) → t ≡ true → ((u && a) && not (not b)) ≡ (u && (t && (a && b)))
+    common u t a b e = grind (arith, nat_tests)
 
--- if at most ten rows are left, no window of a column begins
-pub window-down-none : (s : ℕ) (line : ℕ → Bool) (c r : ℕ) (x : Bool) → s < r + 11 → x ≡ false → x ≡ (ltb c s && is_window s line r)
-unfolding is_window
-window-down-none s line c r x h e = e ∙ sym (and-false (ltb c s) _ (false-and (leb (r + 11) s) _ (grind (arith, nat_tests))))
+-- the ratio after four light modules is a window that is found in the last row of these, if seven rows are left after it
+pub after-bit : (s : ℕ) (line : ℕ → Bool) (r : ℕ) (u : Bool) → 3 ≤ r → r + 8 ≤ s
+    → ((u && reads line (r + 1) finder_ratio) && not (not (reads line (r - 3) four_light))) ≡ (u && (ltb 2 r && is_after_light s line (r - 3)))
+after-bit s line r u l h =
+    let e : r + 1 ≡ r - 3 + 4 = omega arith in
+    ap (λ z. (u && reads line z finder_ratio) && not (not (reads line (r - 3) four_light))) e
+    ∙ common u (ltb 2 r) (leb (r - 3 + 11) s) (reads line (r - 3 + 4) finder_ratio) (reads line (r - 3) four_light) (grind (arith, nat_tests)) (let k : r - 3 + 11 ≤ s = omega arith in grind (arith, nat_tests))
+  where
+    common : (u v t a b : Bool) → v ≡ true → t ≡ true → ((u && a) && not (not b)) ≡ (u && (v && (t && (b && a))))
+    common u v t a b d e = grind (arith, nat_tests)
 
--- a bit row with a bit set just where a window of a column begins in row r has as many set bits as windows begin there
-pub windows-down-row : (s : ℕ) (dark : ℕ → ℕ → Bool) (r : ℕ) (bit : ℕ → Bool) → s ≤ 192 → ((c : ℕ) → bit c ≡ (ltb c s && is_window s (λ i. dark i c) r)) → set_count bit ≡ count_below s (λ c. is_window s (λ i. dark i c) r)
-windows-down-row s dark r bit l h = guarded-size s bit (λ c. is_window s (λ i. dark i c) r) l h
+-- the windows that are found in row r, if the bits of two tests of column c tell where those of the first kind and those
+-- of the second kind are
+pub found-bit : (s : ℕ) (line : ℕ → Bool) (r : ℕ) (u x y : Bool) → x ≡ (u && is_before_light s line r) → y ≡ (u && (ltb 2 r && is_after_light s line (r - 3))) → (x || y) ≡ (u && is_found s line r)
+unfolding is_found
+found-bit s line r u x y e f = common u (is_before_light s line r) (ltb 2 r && is_after_light s line (r - 3)) x y e f
+  where
+    common : (u a b x y : Bool) → x ≡ (u && a) → y ≡ (u && b) → (x || y) ≡ (u && (a || b))
+    common u a b x y e f = grind (arith, nat_tests)
 
--- the windows of columns, counted row by row, are those counted column by column
-pub windows-are-columns : (s : ℕ) (dark : ℕ → ℕ → Bool) → sum_below s (λ r. count_below s (λ c. is_window s (λ i. dark i c) r)) ≡ sum_below s (λ c. window_count s (λ r. dark r c))
+-- in the first three rows no window is found that begins with light modules
+pub found-top : (s : ℕ) (line : ℕ → Bool) (r : ℕ) (u x : Bool) → r < 3 → x ≡ (u && is_before_light s line r) → x ≡ (u && is_found s line r)
+unfolding is_found
+found-top s line r u x h e = common u (is_before_light s line r) (ltb 2 r) (is_after_light s line (r - 3)) x (grind (arith, nat_tests)) e
+  where
+    common : (u a v b x : Bool) → v ≡ false → x ≡ (u && a) → x ≡ (u && (a || (v && b)))
+    common u a v b x e f = grind (arith, nat_tests)
+
+-- in the last ten rows no window is found that begins with the ratio
+pub found-bottom : (s : ℕ) (line : ℕ → Bool) (r : ℕ) (u x : Bool) → s < r + 11 → x ≡ (u && (ltb 2 r && is_after_light s line (r - 3))) → x ≡ (u && is_found s line r)
+unfolding is_found
+found-bottom s line r u x h e = common u (leb (r + 11) s) (reads line r finder_ratio && reads line (r + 7) four_light) (ltb 2 r && is_after_light s line (r - 3)) x (grind (arith, nat_tests)) e
+  where
+    common : (u v a b x : Bool) → v ≡ false → x ≡ (u && b) → x ≡ (u && ((v && a) || b))
+    common u v a b x e f = grind (arith, nat_tests)
+
+-- nor is one found in the last seven rows, or in the first three of these ten
+pub found-none : (s : ℕ) (line : ℕ → Bool) (r : ℕ) (u x : Bool) → s < r + 11 → (3 ≤ r → s < r + 8) → x ≡ false → x ≡ (u && is_found s line r)
+found-none s line r u x h k e = found-bottom s line r u x h (e ∙ sym (and-false u _ (elim (cases_lt 2 r) [
+  | inl l ↦ (let n : s < r - 3 + 11 = let m = k (omega arith) in omega arith in and-false (ltb 2 r) _ (false-and (leb (r - 3 + 11) s) _ (grind (arith, nat_tests))))
+  | inr l ↦ false-and (ltb 2 r) _ (grind (arith, nat_tests))
+])))
+
+-- a bit row with a bit set just where a window is found in row r has as many set bits as windows are found there
+pub found-row : (s : ℕ) (dark : ℕ → ℕ → Bool) (r : ℕ) (bit : ℕ → Bool) → s ≤ 192 → ((c : ℕ) → bit c ≡ (ltb c s && is_found s (λ i. dark i c) r)) → set_count bit ≡ count_below s (λ c. is_found s (λ i. dark i c) r)
+found-row s dark r bit l h = guarded-size s bit (λ c. is_found s (λ i. dark i c) r) l h
+
+-- the ratio begins with a dark module
+dark-first : (s : ℕ) (line : ℕ → Bool) (r : ℕ) → is_before_light s line r ≡ true → line r ≡ true
+dark-first s line r h = first (leb (r + 11) s) (line r) _ (reads line (r + 7) four_light) h
+  where
+    first : (t x a b : Bool) → (t && ((is_same x true && a) && b)) ≡ true → x ≡ true
+    first t x a b h = grind (arith, nat_tests)
+
+-- the first module of four light ones is light
+light-first : (s : ℕ) (line : ℕ → Bool) (r : ℕ) → is_after_light s line r ≡ true → line r ≡ false
+light-first s line r h = first (leb (r + 11) s) (line r) _ (reads line (r + 4) finder_ratio) h
+  where
+    first : (t x a b : Bool) → (t && ((is_same x false && a) && b)) ≡ true → x ≡ false
+    first t x a b h = grind (arith, nat_tests)
+
+-- the last module of four light ones is light
+light-last : (s : ℕ) (line : ℕ → Bool) (r : ℕ) → 3 ≤ r → is_after_light s line (r - 3) ≡ true → line r ≡ false
+light-last s line r l h =
+    let e : r - 3 + 1 + 1 + 1 ≡ r = omega arith in
+    sym (ap line e) ∙ last (leb (r - 3 + 11) s) (is_same (line (r - 3)) false) (is_same (line (r - 3 + 1)) false) (is_same (line (r - 3 + 1 + 1)) false) (line (r - 3 + 1 + 1 + 1)) (reads line (r - 3 + 4) finder_ratio) h
+  where
+    last : (t a b d x y : Bool) → (t && ((a && (b && (d && (is_same x false && true)))) && y)) ≡ true → x ≡ false
+    last t a b d x y h = grind (arith, nat_tests)
+
+-- two tests that exclude each other
+either : (p q x : Bool) → (p ≡ true → x ≡ true) → (q ≡ true → x ≡ false) → cond (p || q) 1 0 ≡ cond p 1 0 + cond q 1 0
+either p q x h k = grind (arith, nat_tests)
+
+-- one more number that passes a test after the first three
+later-more : (n : ℕ) (p : ℕ → Bool) → count_below (n + 1 - 3) p ≡ count_below (n - 3) p + cond (ltb 2 n && p (n - 3)) 1 0
+later-more n p = elim (cases_lt 2 n) [
+  | inl k ↦
+      let t : ltb 2 n ≡ true = grind (arith, nat_tests) in
+      let e : n + 1 - 3 ≡ n - 3 + 1 = omega arith in
+      ap (λ z. count_below z p) e ∙ sym (sum_below-more (n - 3) _ _ _ (λ k. cond (p k) 1 0) refl refl refl)
+      ∙ ap (λ z. count_below (n - 3) p + cond (z && p (n - 3)) 1 0) (sym t)
+  | inr k ↦
+      let t : ltb 2 n ≡ false = grind (arith, nat_tests) in
+      let e : n + 1 - 3 ≡ n - 3 = omega arith in
+      ap (λ z. count_below z p) e ∙ plain (count_below (n - 3) p) (cond (ltb 2 n && p (n - 3)) 1 0) (ap (λ z. cond (z && p (n - 3)) 1 0) t)
+]
+  where
+    plain : (a x : ℕ) → x ≡ 0 → a ≡ a + x
+    plain a x e = omega arith
+
+-- the windows that are found in the first n rows of a column are those of the first kind that begin there, and those of
+-- the second kind that begin before the last three of these rows
+found-below : (s : ℕ) (line : ℕ → Bool) (n : ℕ) → count_below n (is_found s line) ≡ count_below n (is_before_light s line) + count_below (n - 3) (is_after_light s line)
+unfolding is_found
+found-below s line zero = refl
+found-below s line (suc n) =
+    let rest = found-below s line n in
+    let one = either (is_before_light s line n) (ltb 2 n && is_after_light s line (n - 3)) (line n) (dark-first s line n) light in
+    let more = later-more n (is_after_light s line) in
+    let e : n + 1 ≡ suc n = omega arith in
+    let same = ap (λ z. count_below (z - 3) (is_after_light s line)) e in
+    omega arith
+  where
+    both : (a b : Bool) → (a && b) ≡ true → (a ≡ true) × (b ≡ true)
+    both a b h = (grind (arith, nat_tests), grind (arith, nat_tests))
+
+    light : (ltb 2 n && is_after_light s line (n - 3)) ≡ true → line n ≡ false
+    light h =
+        let k = both (ltb 2 n) (is_after_light s line (n - 3)) h in
+        let l : ltb 2 n ≡ true = k.0 in
+        let m : 2 < n = grind (arith, nat_tests) in
+        light-last s line n (omega arith) k.1
+
+-- in a whole column all its windows are found
+found-all : (s : ℕ) (line : ℕ → Bool) → count_below s (is_found s line) ≡ window_count s line
 unfolding window_count
-windows-are-columns s dark = sum_below-swap s s (λ r c. cond (is_window s (λ i. dark i c) r) 1 0)
+found-all s line =
+    let cut = count_below-cut s (s - 3) (is_after_light s line) (is_after_light s line) (omega arith) (λ c _. refl) (λ c h. false-and (leb (c + 11) s) _ (past c h)) in
+    let kinds = sum_below-same s (λ c. cond (is_window s line c) 1 0) (λ c. cond (is_before_light s line c) 1 0 + cond (is_after_light s line c) 1 0) (λ c _. kind c) in
+    let sum = sum_below-add s (λ c. cond (is_before_light s line c) 1 0) (λ c. cond (is_after_light s line c) 1 0) in
+    let found = found-below s line s in
+    omega arith
+  where
+    past : (c : ℕ) → s - 3 ≤ c → leb (c + 11) s ≡ false
+    past c h = let k : s < c + 11 = omega arith in grind (arith, nat_tests)
+
+    common : (t a b d e : Bool) → (t && ((a && b) || (d && e))) ≡ ((t && (a && b)) || (t && (d && e)))
+    common t a b d e = grind (arith, nat_tests)
+
+    kind : (c : ℕ) → cond (is_window s line c) 1 0 ≡ cond (is_before_light s line c) 1 0 + cond (is_after_light s line c) 1 0
+    kind c =
+        ap (λ z. cond z 1 0) (window-is s line c ∙ common (leb (c + 11) s) (reads line c finder_ratio) (reads line (c + 7) four_light) (reads line c four_light) (reads line (c + 4) finder_ratio))
+        ∙ either (is_before_light s line c) (is_after_light s line c) (line c) (dark-first s line c) (light-first s line c)
+
+-- the windows of columns that are found row by row are those counted column by column
+pub found-are-columns : (s : ℕ) (dark : ℕ → ℕ → Bool) → sum_below s (λ r. count_below s (λ c. is_found s (λ i. dark i c) r)) ≡ sum_below s (λ c. window_count s (λ r. dark r c))
+found-are-columns s dark =
+    sum_below-swap s s (λ r c. cond (is_found s (λ i. dark i c) r) 1 0)
+    ∙ sum_below-same s (λ c. count_below s (is_found s (λ i. dark i c))) (λ c. window_count s (λ r. dark r c)) (λ c _. found-all s (λ r. dark r c))
+
+-- before the first row
+pub windows-none : (s : ℕ) (dark : ℕ → ℕ → Bool) (k : ℕ) → k ≡ 0 → AreWindowsTo s dark 0 k
+windows-none s dark k e = record { windows_are = e; windows_most = omega arith }
+
+-- what is counted after one more row
+pub windows-next : (s : ℕ) (dark : ℕ → ℕ → Bool) (n windows : ℕ) (across upright : ℕ → Bool) (more : ℕ) → s ≤ 192 → AreWindowsTo s dark n windows
+    → ((c : ℕ) → across c ≡ is_window s (dark n) c) → ((c : ℕ) → upright c ≡ (ltb c s && is_found s (λ i. dark i c) n))
+    → more ≡ windows + (set_count across + set_count upright) → AreWindowsTo s dark (n + 1) more
+windows-next s dark n windows across upright more l h ha hu e =
+    let a = windows-row s (dark n) across l ha in
+    let u = found-row s dark n upright l hu in
+    let f = sum_below-more n _ _ _ (λ r. window_count s (dark r)) refl refl refl in
+    let g = sum_below-more n _ _ _ (λ r. count_below s (λ c. is_found s (λ i. dark i c) r)) refl refl refl in
+    record {
+      windows_are = let d = h.windows_are in omega arith;
+      windows_most = let d = h.windows_most in let i = set_count-most across in let j = set_count-most upright in omega arith;
+    }

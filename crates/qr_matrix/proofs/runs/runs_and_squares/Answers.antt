@@ -1,16 +1,12 @@
-use Rattle.std.proofs.Common.{◌≡◌, ℕ, ◌+◌, ◌-◌, ◌*◌, ◌≤◌, Bool, ltb, ◌&&◌, arith, ap, sym, ◌∙◌}
+use Rattle.std.proofs.Common.{◌≡◌, ℕ, ◌+◌, ◌-◌, ◌*◌, Bool, ltb, ◌&&◌, arith, ap, sym, ◌∙◌}
 use Rattle.qr_matrix.specs.{Runs.place_cost, Steps.{begin_five, joins_down, row_share, set_count}}
 use Rattle.qr_matrix.specs.Sums.{count_below, places_passing, sum_below}
 use Rattle.qr_matrix.specs.Penalty.{is_square_of_two, over_lines, run_cost, square_count}
 use Rattle.qr_matrix.proofs.lemmas.{adders.AdderLemmas.{set_count-most}, bit_row.SumLemmas.{sum_below-same}}
-use Rattle.qr_matrix.proofs.lemmas.runs.{AboveLemmas.{counted-next, share-left, share-next}, ChargeLemmas.row_cost, RunLemmas.runs-by-places}
+use Rattle.qr_matrix.proofs.lemmas.runs.{AboveLemmas.{counted-next, share-left, share-next}, ChargeLemmas.row_cost, RowLemmas.side-most, RunLemmas.runs-by-places}
 use Rattle.qr_matrix.proofs.lemmas.squares.SquareLemmas.{square-bit, squares-row}
 use Rattle.qr_matrix.proofs.lemmas.runs.ColumnLemmas.{shares-are-columns}
 use Rattle.qr_matrix.proofs.runs.runs_and_squares.Goals as goal
-
--- a side of so many words
-fits : (s w : ℕ) → s ≤ 64 * w → w ≤ 3 → s ≤ 192
-fits s w h k = omega arith
 
 -- what a full adder keeps: `a` and `u` are added to `o` ones and `t` twos
 kept : (t o a u s e k : ℕ) → a + u + o ≡ s + 2 * e → k ≡ t + e → 2 * k + s ≡ (2 * t + o) + (a + u)
@@ -23,7 +19,7 @@ loop-row-preserved g c =
     let d = g.S.Squares.dark m in
     let bit = g.S.Row.Rows.bit in
     let number = g.S.Row.Rows.number in
-    let few = fits s g.row.WORDS c.requires.width.most c.requires.width.three in
+    let few = side-most s g.row.WORDS c.requires.width in
     let l = c.loop-row in
     let i = l.invariant in
     let r = l.row in
@@ -31,7 +27,7 @@ loop-row-preserved g c =
     let across = λ (b : Bool). set_count (bit c.costing.result b) in
     let points = λ (b : Bool). row_cost s (d b r) (bit joins.result b) (bit c.fours.result b) (bit c.costing.result b) few (joins.ensures b) (c.fours.ensures b) (c.costing.ensures b) in
     let share = λ (b : Bool). share-next s (d b) r (bit upright.result.0 b) few (λ k. upright.ensures.upright b k r (joins_down s (d b) k) (i.above b k) (down.ensures b k)) in
-    let four = λ (b : Bool). squares-row s (d b) r (bit c.squares_at.result b) few (λ k. square-bit s (d b) r k (bit c.squares_at.result b k) (bit joins.result b k) (bit down.result b k) (bit down.result b (k + 1)) (c.squares_at.ensures b k) (joins.ensures b k) (down.ensures b k) (down.ensures b (k + 1))) in
+    let four = λ (b : Bool). squares-row s (d b) r (bit c.squares_at.result b) few (λ k. square-bit s (d b) r k (bit c.squares_at.result b k) (bit joins.result b k) (bit c.joined_below-next_joins.result b k) (bit down.result b k) (c.squares_at.ensures b k) (joins.ensures b k) (λ l. c.joined_below-next_joins.ensures l b k) (down.ensures b k)) in
     record {
       above = λ b k. upright.ensures.above b k r (joins_down s (d b) k) (i.above b k) (down.ensures b k);
       counted = λ b. counted-next s (d b) r _ _ (across b) (set_count (bit upright.result.0 b)) (set_count (bit c.squares_at.result b)) _ _ (i.counted b) (points b) (share b) (four b) (set_count-most (bit c.costing.result b)) (set_count-most (bit upright.result.0 b)) (set_count-most (bit c.squares_at.result b))
@@ -53,7 +49,7 @@ returns-clause-runs g c = λ b.
     let s = g.S.Squares.size m in
     let d = g.S.Squares.dark m b in
     let bit = g.S.Row.Rows.bit in
-    let few = fits s g.row.WORDS c.requires.width.most c.requires.width.three in
+    let few = side-most s g.row.WORDS c.requires.width in
     let l = c.loop-row in
     let n : l.row ≡ s = omega (arith, c.side-side.ensures.value) in
     let left = bit l.above.earlier_fives b in

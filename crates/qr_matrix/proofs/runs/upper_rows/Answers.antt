@@ -1,7 +1,7 @@
-use Rattle.std.proofs.Common.{◌≡◌, ℕ, ◌+◌, ◌*◌, ◌≤◌, Bool, arith, refl, subst}
-use Rattle.qr_matrix.specs.{Steps.{joins_down, set_count, IsAbove, IsCountedTo}}
+use Rattle.std.proofs.Common.{◌≡◌, ℕ, ◌+◌, ◌*◌, Bool, arith, refl, subst}
+use Rattle.qr_matrix.specs.{Runs.joins, Steps.{joins_down, set_count, IsAbove, IsCountedTo}}
 use Rattle.qr_matrix.proofs.lemmas.{adders.AdderLemmas.{none-of, set_count-most}, squares.SquareLemmas.{square-bit, squares-row}}
-use Rattle.qr_matrix.proofs.lemmas.runs.{AboveLemmas.{counted-next, none-above, share-next}, ChargeLemmas.row_cost}
+use Rattle.qr_matrix.proofs.lemmas.runs.{AboveLemmas.{counted-next, none-above, share-next}, ChargeLemmas.row_cost, RowLemmas.side-most}
 use Rattle.qr_matrix.proofs.runs.upper_rows.Goals as goal
 
 -- nothing is counted yet
@@ -14,13 +14,10 @@ loop-step-init g c =
     let none = c.empty-none.ensures in
     let rest = λ (b : Bool). none-of (bit c.empty-none.result b) (none b) in
     record {
+      first_is = c.joined-first.ensures;
       above = λ b k. none-above _ _ _ _ _ _ (none b k) (none b k) (none b k) (none b k) (none b k);
       counted = λ b. let e = c.zeros-in_fours.ensures b in let f = c.zeros-pairs.ensures b in let h = rest b in record { runs_are = omega arith; runs_most = omega arith; squares_are = omega arith; squares_most = omega arith };
     }
-
--- a side of so many words
-fits : (s w : ℕ) → s ≤ 64 * w → w ≤ 3 → s ≤ 192
-fits s w h k = omega arith
 
 -- what three full adders keep of the points of two rows: `a` and `u`, and `x` and `y`
 kept : (f t o a u s p x y n q z k m : ℕ) → a + u + o ≡ s + 2 * p → x + y + s ≡ n + 2 * q → p + q + t ≡ z + 2 * k → m ≡ f + k → 2 * (2 * m + z) + n ≡ 2 * (2 * f + t) + o + (a + u) + (x + y)
@@ -33,6 +30,12 @@ paired f o a u s p m d e = omega arith
 two_more : (n : ℕ) → 2 * n + 1 + 1 ≡ 2 * (n + 1)
 two_more n = omega arith
 
+two_after : (n : ℕ) → 2 * n + 2 ≡ 2 * (n + 1)
+two_after n = omega arith
+
+one_more : (r : ℕ) → r + 2 ≡ r + 1 + 1
+one_more r = omega arith
+
 pub loop-step-preserved : goal.loop-step-preserved
 loop-step-preserved g c =
     let m = c.args.squares.now in
@@ -40,31 +43,33 @@ loop-step-preserved g c =
     let d = g.S.Squares.dark m in
     let bit = g.S.Row.Rows.bit in
     let number = g.S.Row.Rows.number in
-    let few = fits s g.row.WORDS c.requires.width.most c.requires.width.three in
+    let few = side-most s g.row.WORDS c.requires.width in
     let i = c.loop-step.invariant in
     let l = c.loop-step in
     let n = l.step in
     let r = 2 * n in
-    let first = c.joined-first in let second = c.joined-second in
+    let second = c.joined-second in let third = c.joined-third in
     let down = c.joined_in_column-down in let further = c.joined_in_column-further in
     let upright = c.next_row-upright in let lower = c.next_row-lower in
     let across = λ (b : Bool). set_count (bit c.costing.result b) in
     let across2 = λ (b : Bool). set_count (bit c.costing-in-loop-step.result b) in
     let between = λ (b : Bool) (k : ℕ). upright.ensures.above b k r (joins_down s (d b) k) (i.above b k) (down.ensures b k) in
-    let points = λ (b : Bool). row_cost s (d b r) (bit first.result b) (bit c.fours.result b) (bit c.costing.result b) few (first.ensures b) (c.fours.ensures b) (c.costing.ensures b) in
+    let points = λ (b : Bool). row_cost s (d b r) (bit l.first b) (bit c.fours.result b) (bit c.costing.result b) few (i.first_is b) (c.fours.ensures b) (c.costing.ensures b) in
     let points2 = λ (b : Bool). row_cost s (d b (r + 1)) (bit second.result b) (bit c.fours-in-loop-step.result b) (bit c.costing-in-loop-step.result b) few (second.ensures b) (c.fours-in-loop-step.ensures b) (c.costing-in-loop-step.ensures b) in
     let share = λ (b : Bool). share-next s (d b) r (bit upright.result.0 b) few (λ k. upright.ensures.upright b k r (joins_down s (d b) k) (i.above b k) (down.ensures b k)) in
     let share2 = λ (b : Bool). share-next s (d b) (r + 1) (bit lower.result.0 b) few (λ k. lower.ensures.upright b k (r + 1) (joins_down s (d b) k) (between b k) (further.ensures b k)) in
-    let four = λ (b : Bool). squares-row s (d b) r (bit c.squares_at.result b) few (λ k. square-bit s (d b) r k (bit c.squares_at.result b k) (bit first.result b k) (bit down.result b k) (bit down.result b (k + 1)) (c.squares_at.ensures b k) (first.ensures b k) (down.ensures b k) (down.ensures b (k + 1))) in
-    let four2 = λ (b : Bool). squares-row s (d b) (r + 1) (bit c.squares_at-in-loop-step.result b) few (λ k. square-bit s (d b) (r + 1) k (bit c.squares_at-in-loop-step.result b k) (bit second.result b k) (bit further.result b k) (bit further.result b (k + 1)) (c.squares_at-in-loop-step.ensures b k) (second.ensures b k) (further.ensures b k) (further.ensures b (k + 1))) in
-    let upper = λ (b : Bool). counted-next s (d b) r _ _ (across b) (set_count (bit upright.result.0 b)) (set_count (bit c.squares_at.result b)) _ _ (i.counted b) (points b) (share b) (four b) (set_count-most (bit c.costing.result b)) (set_count-most (bit upright.result.0 b)) (set_count-most (bit c.squares_at.result b)) refl refl in
+    let below = λ (b : Bool) (k : ℕ). subst (λ z. bit third.result b k ≡ joins s (d b z) k) (one_more r) (third.ensures b k) in
+    let four = λ (b : Bool). squares-row s (d b) r (bit c.squares_at-upper.result b) few (λ k. square-bit s (d b) r k (bit c.squares_at-upper.result b k) (bit l.first b k) (bit second.result b k) (bit down.result b k) (c.squares_at-upper.ensures b k) (i.first_is b k) (λ _. second.ensures b k) (down.ensures b k)) in
+    let four2 = λ (b : Bool). squares-row s (d b) (r + 1) (bit c.squares_at.result b) few (λ k. square-bit s (d b) (r + 1) k (bit c.squares_at.result b k) (bit second.result b k) (bit third.result b k) (bit further.result b k) (c.squares_at.ensures b k) (second.ensures b k) (λ _. below b k) (further.ensures b k)) in
+    let upper = λ (b : Bool). counted-next s (d b) r _ _ (across b) (set_count (bit upright.result.0 b)) (set_count (bit c.squares_at-upper.result b)) _ _ (i.counted b) (points b) (share b) (four b) (set_count-most (bit c.costing.result b)) (set_count-most (bit upright.result.0 b)) (set_count-most (bit c.squares_at-upper.result b)) refl refl in
     record {
+      first_is = λ b k. subst (λ z. bit third.result b k ≡ joins s (d b z) k) (two_after n) (third.ensures b k);
       above = λ b k. subst (λ z. IsAbove (joins_down s (d b) k) z (bit lower.result.1.joined b k) (bit lower.result.1.threes b k) (bit lower.result.1.earlier_threes b k) (bit lower.result.1.fives b k) (bit lower.result.1.earlier_fives b k)) (two_more n)
           (lower.ensures.above b k (r + 1) (joins_down s (d b) k) (between b k) (further.ensures b k));
       counted = λ b. subst (λ z. IsCountedTo s (d b) z (2 * (2 * number c.add_to-in_fours.result b + set_count (bit c.added-rest-in-loop-step.result.0 b)) + set_count (bit c.added-digit.result.0 b)) (2 * number c.add_to-pairs.result b + set_count (bit c.added-rest.result.0 b))) (two_more n)
-          (counted-next s (d b) (r + 1) _ _ (across2 b) (set_count (bit lower.result.0 b)) (set_count (bit c.squares_at-in-loop-step.result b)) _ _ (upper b) (points2 b) (share2 b) (four2 b) (set_count-most (bit c.costing-in-loop-step.result b)) (set_count-most (bit lower.result.0 b)) (set_count-most (bit c.squares_at-in-loop-step.result b))
+          (counted-next s (d b) (r + 1) _ _ (across2 b) (set_count (bit lower.result.0 b)) (set_count (bit c.squares_at.result b)) _ _ (upper b) (points2 b) (share2 b) (four2 b) (set_count-most (bit c.costing-in-loop-step.result b)) (set_count-most (bit lower.result.0 b)) (set_count-most (bit c.squares_at.result b))
           (kept (number l.in_fours b) (set_count (bit l.twos b)) (set_count (bit l.ones b)) (across b) (set_count (bit upright.result.0 b)) _ _ (across2 b) (set_count (bit lower.result.0 b)) _ _ _ _ _ (c.added-sum.ensures b) (c.added-digit.ensures b) (c.added-rest-in-loop-step.ensures b) (c.add_to-in_fours.ensures.value b))
-          (paired (number l.pairs b) (set_count (bit l.odd b)) (set_count (bit c.squares_at.result b)) (set_count (bit c.squares_at-in-loop-step.result b)) _ _ _ (c.added-rest.ensures b) (c.add_to-pairs.ensures.value b)));
+          (paired (number l.pairs b) (set_count (bit l.odd b)) (set_count (bit c.squares_at-upper.result b)) (set_count (bit c.squares_at.result b)) _ _ _ (c.added-rest.ensures b) (c.add_to-pairs.ensures.value b)));
     }
 
 pub returns-clause-above : goal.returns-clause-above
